@@ -5,7 +5,7 @@ ghost use Rattle.arena.specs.declared.limits.Mode.TheVariants.{Tree};
 use self::Told::{Answered, Began, Made};
 use crate::same::same;
 use arena::{Kind, Mode, PassNo};
-use report::write_outcome;
+use program::run_at;
 use runner::{Alternate, Freeze, Gate, GateName, Hold, Open, run};
 use script::{Metered, Script, read_script};
 use std::alloc::Global;
@@ -288,11 +288,18 @@ fn misses<G: Gate>(gate: &G, told: &[Told]) -> bool {
     gate.missed()
 }
 
-/// A call that waits for what does not come has waited in vain after so many looks.
-const IN_VAIN: [(GateName, &[Told], bool); 5] = [
-    (GateName::Hold, &[], false),
+/// A get of each of three clients.
+const THREE: &str = "limits,3,20,20,3\n0,get,1,,\n1,get,2,,\n2,get,3,,\nend,3,,,\n";
+
+/// A call of these that waits for what does not come has waited in vain after so many looks.
+const IN_VAIN: [(GateName, &[Told], bool); 8] = [
+    (GateName::Hold, &[Began(1, 0), Began(2, 0)], false),
     (GateName::Hold, &[Began(0, 0)], true),
     (GateName::Alternate, &[Began(1, 0)], true),
+    // client 2 waits for client 1, and client 0's next call for client 2
+    (GateName::Alternate, &[Began(2, 0)], true),
+    (GateName::Alternate, &[Answered(0, 0), Began(2, 0)], true),
+    (GateName::Alternate, &[Answered(1, 0), Began(0, 1)], true),
     // a freeze of client 0's first call waits, and no other step
     (
         GateName::Freeze,
@@ -300,6 +307,7 @@ const IN_VAIN: [(GateName, &[Told], bool); 5] = [
             Began(0, 0),
             Made(0, 0, Kind::Fill),
             Made(1, 0, Kind::Freeze),
+            Made(2, 0, Kind::Freeze),
             Made(0, 1, Kind::Freeze),
         ],
         false,
@@ -310,6 +318,7 @@ const IN_VAIN: [(GateName, &[Told], bool); 5] = [
             Began(0, 0),
             Made(0, 0, Kind::Fill),
             Made(1, 0, Kind::Freeze),
+            Made(2, 0, Kind::Freeze),
             Made(0, 1, Kind::Freeze),
             Made(0, 0, Kind::Freeze),
         ],
@@ -329,7 +338,7 @@ fn misses_soon(script: &Script, name: GateName, told: &[Told]) -> bool {
 
 #[test]
 fn what_does_not_come_is_missed(rt: HostRuntime) -> Result<(), Fail> {
-    let script = script_of(rt.alloc(), TWO)?;
+    let script = script_of(rt.alloc(), THREE)?;
     for (place, (name, told, missed)) in IN_VAIN.iter().enumerate() {
         let found = misses_soon(&script, *name, told);
         same(&rt, (place, found), (place, *missed));
@@ -337,21 +346,11 @@ fn what_does_not_come_is_missed(rt: HostRuntime) -> Result<(), Fail> {
     Ok(())
 }
 
-#[test]
-fn every_call_goes_once_one_has_waited_in_vain(rt: HostRuntime) -> Result<(), Fail> {
-    let script = script_of(rt.alloc(), TWO)?;
-    let gate = Alternate::with_looks(&script, 3);
-    same(&rt, misses(&gate, &[Began(1, 0)]), true);
-    leaves(&rt, rt.alloc(), &script, &gate, &[])?;
-    same(&rt, gate.missed(), true);
-    Ok(())
-}
-
 /// Two gets of client 0; client 1 has no call.
 const ONE: &str = "limits,2,20,20,3\n0,get,1,,\n0,get,1,,\nend,2,,,\n";
 
 /// What is answered is waited for no more, and a client that has no such call is not waited for.
-const NO_WAIT: [(&str, GateName, &[Told]); 7] = [
+const NO_WAIT: [(&str, GateName, &[Told]); 9] = [
     (ONE, GateName::Hold, &[Began(0, 0)]),
     (ONE, GateName::Freeze, &[Made(0, 0, Kind::Freeze)]),
     (ONE, GateName::Alternate, &[Began(0, 1), Began(1, 5)]),
@@ -366,6 +365,8 @@ const NO_WAIT: [(&str, GateName, &[Told]); 7] = [
         GateName::Alternate,
         &[Began(0, 0), Answered(0, 0), Began(1, 0)],
     ),
+    (THREE, GateName::Alternate, &[Answered(1, 0), Began(2, 0)]),
+    (THREE, GateName::Alternate, &[Answered(2, 0), Began(0, 1)]),
     (TWO, GateName::Open, &[Began(0, 0)]),
 ];
 
@@ -389,12 +390,21 @@ fn what_is_answered_is_not_waited_for(rt: HostRuntime) -> Result<(), Fail> {
     Ok(())
 }
 
-/// The outcome of no call, whose gate was missed.
+/// Behind the gate's row, that of a run of `TWO`.
+const OUTCOME_OF_TWO: &str = "reply,0,0,none\nreply,1,0,none\nend,2,0,\n";
+
+/// Once a call has waited in vain every call goes, and the outcome tells it.
 #[test]
 fn a_missed_gate_is_told(rt: HostRuntime) -> Result<(), Fail> {
-    let mut out = Metered::new(Vec::new(rt.alloc()));
-    write_outcome(rt.alloc(), true, &[], &[], &mut out)?;
-    let text = "outcome,1,,\ngate,missed,,\nend,0,0,\n";
-    same(&rt, out.inner.as_slice(), text.as_bytes());
+    let script = script_of(rt.alloc(), TWO)?;
+    let met = Alternate::new(&script);
+    let missed = Alternate::with_looks(&script, 3);
+    same(&rt, misses(&missed, &[Began(1, 0)]), true);
+    for (gate, row) in [(&met, "gate,met,,"), (&missed, "gate,missed,,")] {
+        let mut out = Metered::new(Vec::new(rt.alloc()));
+        run_at(&rt, rt.alloc(), &script, gate, &mut out)?;
+        let text = format!(in rt.alloc(); "outcome,1,,\n{row}\n{OUTCOME_OF_TWO}")?;
+        same(&rt, out.inner.as_slice(), text.as_bytes());
+    }
     Ok(())
 }

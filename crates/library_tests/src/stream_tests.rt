@@ -1,12 +1,12 @@
 //! Reports that are written turn by turn, to writers that fail.
-ghost use Rattle.std.specs.Prelude.{◌≡◌, ◌<◌};
+ghost use Rattle.std.specs.Prelude.{◌≡◌, ◌<◌, Some};
 ghost use Rattle.player.specs.Core.{passes_of};
 
 use arena::{Mode, PassNo};
-use player::Lines;
 use report::{Stream, StreamFault};
 use script::{Script, ScriptFault, read_script};
 use std::alloc::Global;
+use std::io;
 use std::io::Write;
 use std::process::Abort;
 use std::test::Fail;
@@ -135,18 +135,40 @@ const REPORT_OF_UNLINKED: &str = "\
     reply,0,4,37,37,,unlinked n1\n\
     end,37,5,1,,,\n";
 
+/// Fails where a `FailAt` does, but once: from then on it takes all.
+#[derive(Drop)]
+struct FailOnce<W> {
+    inner: FailAt<W>,
+}
+
+impl<W: Write> Write for FailOnce<W> {
+    ghost contents = { λ f. W.contents f.inner.inner };
+
+    fn write(&mut self, buf: &[u8]) -> io::Result<usize> {
+        let taken = self.inner.write(buf);
+        if taken.is_err() {
+            self.inner.left = usize::MAX;
+        }
+        taken
+    }
+
+    fn flush(&mut self) -> io::Result<()> {
+        self.inner.flush()
+    }
+}
+
 /// One turn.
 fn turn<W: Write>(
     rt: &impl Abort,
     stream: &mut Stream,
     client: PassNo,
     to: &mut Metered<W>,
-) -> Result<Lines, StreamFault>
+) -> Result<(), StreamFault>
     requires { client.0 < passes_of stream.old.core }
     ensures { passes_of stream.new.core ≡ passes_of stream.old.core }
 {
     assert!(rt; stream.steps() < u64::MAX);
-    stream.step(client, to)
+    stream.turn(client, to)
 }
 
 /// The turns of a client until it has no call left. After a fault no more is written.
@@ -154,7 +176,7 @@ fn finish(
     rt: &impl Abort,
     stream: &mut Stream,
     client: PassNo,
-    to: &mut Metered<FailAt<Vec<u8>>>,
+    to: &mut Metered<FailOnce<Vec<u8>>>,
 ) -> Result<(), StreamFault>
     requires { client.0 < passes_of stream.old.core }
     ensures { passes_of stream.new.core ≡ passes_of stream.old.core }
@@ -164,8 +186,7 @@ fn finish(
             break;
         }
         if let Err(fault) = turn(rt, stream, client, to) {
-            // It would take more bytes from here on, and gets none.
-            to.inner.left = usize::MAX;
+            // It takes more bytes from here on, and gets none.
             let again = turn(rt, stream, client, to).err();
             assert_eq!(rt; again, Some(StreamFault::Ended));
             return Err(fault);
@@ -179,7 +200,7 @@ fn write(
     rt: &impl Abort,
     alloc: Global,
     script: &Script,
-    to: &mut Metered<FailAt<Vec<u8>>>,
+    to: &mut Metered<FailOnce<Vec<u8>>>,
 ) -> Result<(), StreamFault> {
     let mut stream = Stream::new(alloc, script, to)?;
     for client in 0..script.layout.passes {
@@ -191,7 +212,7 @@ fn write(
     stream.end(to)
 }
 
-/// A writer fails at each byte of the report in turn.
+/// A writer fails once, at each byte of the report in turn: what stands there is a beginning.
 fn fails_at_each_byte(
     rt: &impl Abort,
     alloc: Global,
@@ -201,11 +222,12 @@ fn fails_at_each_byte(
     let script = read_script(alloc, mode, &mut Metered::new(texts.0.as_bytes()))?;
     let whole = texts.1.as_bytes();
     for bytes in 0..=whole.len() {
-        let mut to = Metered::new(FailAt::new(Vec::new(alloc), bytes));
+        let inner = FailAt::new(Vec::new(alloc), bytes);
+        let mut to = Metered::new(FailOnce { inner });
         let fault = write(rt, alloc, &script, &mut to).err();
         let due = (bytes < whole.len()).then_some(StreamFault::Write);
         assert_eq!(rt; fault, due, "after {bytes} bytes");
-        assert_eq!(rt; to.inner.inner.as_slice(), &whole[..bytes]);
+        assert_eq!(rt; to.inner.inner.inner.as_slice(), &whole[..bytes]);
     }
     Ok(())
 }
@@ -234,6 +256,56 @@ fn a_stream_whose_turn_was_not_written_has_ended(rt: HostRuntime) -> Result<(), 
     assert_eq!(rt; second, Some(StreamFault::Ended));
     let beginning = "report,2,tree,,,,\nlimits,1,10,10,3,,\ncall,0,0,get,0,,\n";
     assert_eq!(rt; to.inner.inner.as_slice(), beginning.as_bytes());
+    Ok(())
+}
+
+/// Keeps how much was written as it was flushed last.
+#[derive(Drop)]
+struct Flushed {
+    written: Vec<u8>,
+    flushed: usize,
+}
+
+impl Write for Flushed {
+    ghost contents = { λ f. Some f.written.items };
+
+    fn write(&mut self, buf: &[u8]) -> io::Result<usize> {
+        self.written.write(buf)
+    }
+
+    fn flush(&mut self) -> io::Result<()> {
+        self.flushed = self.written.len();
+        Ok(())
+    }
+}
+
+/// So many bytes were written, and all of them are flushed.
+fn are_flushed(rt: &impl Abort, to: &Metered<FailAt<Flushed>>, bytes: usize) {
+    let Flushed { written, flushed } = &to.inner.inner;
+    assert_eq!(rt; (written.len(), *flushed), (bytes, bytes));
+}
+
+/// The counts are those of the first 3, 4, 5, 7 and 8 rows of `REPORT_OF_GET`.
+#[test]
+fn each_call_flushes_what_it_has_written(rt: HostRuntime) -> Result<(), Fail> {
+    let script = read_script(rt.alloc(), Mode::Tree, &mut Metered::new(GET.as_bytes()))?;
+    assert!(rt; script.layout.passes > 0);
+    let written = Vec::new(rt.alloc());
+    let inner = Flushed {
+        written,
+        flushed: 0,
+    };
+    let mut to = Metered::new(FailAt::new(inner, usize::MAX));
+    let mut stream = Stream::new(rt.alloc(), &script, &mut to)?;
+    are_flushed(&rt, &to, 54);
+    turn(&rt, &mut stream, PassNo(0), &mut to)?;
+    are_flushed(&rt, &to, 83);
+    turn(&rt, &mut stream, PassNo(0), &mut to)?;
+    are_flushed(&rt, &to, 110);
+    turn(&rt, &mut stream, PassNo(0), &mut to)?;
+    are_flushed(&rt, &to, 162);
+    stream.end(&mut to)?;
+    are_flushed(&rt, &to, 175);
     Ok(())
 }
 

@@ -11,4 +11,4 @@ mod threaded;
 pub use audited::audit_over;
 pub use fault::Fault;
 pub use play::play_over;
-pub use threaded::run_over;
+pub use threaded::{run_at, run_over};

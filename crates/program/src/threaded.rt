@@ -83,8 +83,9 @@ fn run_gated<R: Threads + Wait + Sync, S: Read, O: Write>(
     }
 }
 
-/// Runs a script with this gate.
-fn run_at<R: Threads + Wait + Sync, G: Gate, O: Write>(
+/// Runs a script of the tree with a thread for each client and this gate, and prints the outcome to
+/// `out`.
+pub fn run_at<R: Threads + Wait + Sync, G: Gate, O: Write>(
     rt: &R,
     alloc: Global,
     script: &Script,
