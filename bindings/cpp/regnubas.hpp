@@ -1,0 +1,281 @@
+// The dictionary of regnubas.h in C++17: passes that leave by themselves, optionals, and a range-for
+// over the pairs between two keys. Header only; calls mean what regnubas.h says of them.
+//
+// A call that is refused has changed nothing. It throws `regnubas::refused`, which says why; the call
+// with `try_` before its name answers a `regnubas::result` in place of that.
+#ifndef REGNUBAS_HPP
+#define REGNUBAS_HPP
+
+#include "regnubas.h"
+
+#include <algorithm>
+#include <array>
+#include <cstddef>
+#include <cstdint>
+#include <iterator>
+#include <limits>
+#include <optional>
+#include <stdexcept>
+#include <string>
+#include <utility>
+#include <vector>
+
+namespace regnubas {
+
+using key = std::uint64_t;
+
+// A number of 128 bits: low + 2^64 * high. One of 64 bits converts to it.
+struct value {
+    std::uint64_t low = 0;
+    std::uint64_t high = 0;
+
+    constexpr value() = default;
+    constexpr value(std::uint64_t low, std::uint64_t high = 0) : low(low), high(high) {}
+};
+
+constexpr bool operator==(value one, value other) { return one.low == other.low && one.high == other.high; }
+constexpr bool operator!=(value one, value other) { return !(one == other); }
+
+using pair = std::pair<key, value>;
+
+// Why a call is refused.
+enum class status : std::uint32_t {
+    contended = REGNUBAS_CONTENDED, // other passes were in the way in each try: ask again
+    full = REGNUBAS_FULL,           // too little is left of the pass's share, which never grows
+    no_memory = REGNUBAS_NO_MEMORY, // an allocation was refused
+    limits = REGNUBAS_LIMITS,       // a number is out of its range
+    no_pass = REGNUBAS_NO_PASS,     // the pass was moved from, has left or was closed
+    shared = REGNUBAS_SHARED        // other passes have not left
+};
+
+inline const char *text_of(status why) {
+    switch (why) {
+    case status::contended: return "contended";
+    case status::full: return "full";
+    case status::no_memory: return "no memory";
+    case status::limits: return "limits out of range";
+    case status::no_pass: return "no pass";
+    case status::shared: return "shared";
+    }
+    return "unknown";
+}
+
+class refused : public std::runtime_error {
+public:
+    explicit refused(status why) : std::runtime_error(std::string("regnubas: ") + text_of(why)), why_(why) {}
+    status why() const noexcept { return why_; }
+
+private:
+    status why_;
+};
+
+// What a call tells, or why it was refused.
+template <typename T> class result {
+public:
+    result(T told) : told_(std::move(told)) {}
+    result(status why) : why_(why) {}
+
+    explicit operator bool() const noexcept { return told_.has_value(); }
+    status why() const noexcept { return why_; } // where it was refused
+
+    // What it tells; throws `refused` where it tells nothing.
+    T get() && {
+        if (!told_) throw refused(why_);
+        return std::move(*told_);
+    }
+    const T &operator*() const noexcept { return *told_; }
+
+private:
+    std::optional<T> told_;
+    status why_ = status::no_pass;
+};
+
+// Asks until other passes are not in the way: `again([&] { return pass.try_insert(5, 50); })`.
+template <typename Call> auto again(Call call) -> decltype(call()) {
+    for (;;) {
+        auto told = call();
+        if (told || told.why() != status::contended) return told;
+    }
+}
+
+class between;
+
+// What a thread needs to make calls; one call at a time. It leaves when it is destroyed.
+class alignas(64) pass {
+public:
+    pass() = default;
+    pass(pass &&other) noexcept : raw_(std::exchange(other.raw_, {})), room_(other.room_) {}
+    pass &operator=(pass &&other) noexcept {
+        if (this != &other) {
+            leave();
+            raw_ = std::exchange(other.raw_, {});
+            room_ = other.room_;
+        }
+        return *this;
+    }
+    ~pass() { leave(); }
+
+    // A dictionary with so many passes, 1 to 32, each of which may take what `each` says.
+    static result<std::vector<pass>> try_make(std::size_t count, regnubas_limits each) {
+        std::vector<regnubas_pass> raw(count);
+        const std::uint32_t told = regnubas_make(each, raw.data(), count);
+        if (told != REGNUBAS_NONE) return static_cast<status>(told);
+        std::vector<pass> passes(count);
+        for (std::size_t i = 0; i < count; i++) {
+            passes[i].raw_ = raw[i];
+            passes[i].room_ = count * each.nodes;
+        }
+        return passes;
+    }
+    static std::vector<pass> make(std::size_t count, regnubas_limits each) { return try_make(count, each).get(); }
+
+    // The value of a key.
+    std::optional<value> get(key k) {
+        return value_of(regnubas_get(&raw_, k)).get();
+    }
+    bool contains(key k) { return get(k).has_value(); }
+
+    // Sets a key; the value that it had.
+    result<std::optional<value>> try_insert(key k, value v) { return value_of(regnubas_insert(&raw_, k, raw_of(v))); }
+    std::optional<value> insert(key k, value v) { return try_insert(k, v).get(); }
+
+    // Takes a key away; the value that it had.
+    result<std::optional<value>> try_erase(key k) { return value_of(regnubas_delete(&raw_, k)); }
+    std::optional<value> erase(key k) { return try_erase(k).get(); }
+
+    // Sets a key where it has the expected value; the value that it had: it was set where that is the
+    // expected one.
+    result<std::optional<value>> try_replace_if(key k, value expected, value v) {
+        return value_of(regnubas_replace_if(&raw_, k, raw_of(expected), raw_of(v)));
+    }
+    std::optional<value> replace_if(key k, value expected, value v) { return try_replace_if(k, expected, v).get(); }
+
+    // Takes the pair with the least key away.
+    result<std::optional<pair>> try_pop_first() {
+        regnubas_pair found = {};
+        return pair_of(regnubas_pop_first(&raw_, &found), found);
+    }
+    std::optional<pair> pop_first() { return try_pop_first().get(); }
+
+    // The pair with the least key above this one.
+    result<std::optional<pair>> try_successor(key k) {
+        regnubas_pair found = {};
+        return pair_of(regnubas_successor(&raw_, k, &found), found);
+    }
+    std::optional<pair> successor(key k) { return try_successor(k).get(); }
+
+    // The first pairs by rising key from `low` to `high`, both with them, all of one moment; 64 at
+    // the most.
+    result<std::vector<pair>> try_range(key low, key high, std::size_t most = 64) {
+        std::array<regnubas_pair, 64> found;
+        const regnubas_count told = regnubas_range(&raw_, low, high, found.data(), std::min(most, found.size()));
+        if (told.status != REGNUBAS_SOME) return static_cast<status>(told.status);
+        return pairs_of(found.data(), told.pairs);
+    }
+    std::vector<pair> range(key low, key high, std::size_t most = 64) { return try_range(low, high, most).get(); }
+
+    // All pairs from `low` to `high`, both with them, for a range-for: each 64 of one moment.
+    inline between items(key low = 0, key high = std::numeric_limits<key>::max());
+
+    // What is left of the share; zeros where there is no pass.
+    regnubas_share left() { return regnubas_left(&raw_); }
+
+    // Gives the pass up. With the last pass the dictionary is freed.
+    void leave() noexcept { regnubas_leave(&raw_); }
+
+    // Ends the dictionary, once all other passes have left; its pairs by rising key.
+    result<std::vector<pair>> try_close() {
+        std::vector<regnubas_pair> found(room_);
+        const regnubas_count told = regnubas_close(&raw_, found.data(), found.size());
+        if (told.status != REGNUBAS_SOME) return static_cast<status>(told.status);
+        return pairs_of(found.data(), told.pairs);
+    }
+    std::vector<pair> close() { return try_close().get(); }
+
+private:
+    regnubas_pass raw_ = {};
+    std::size_t room_ = 0; // for all pairs that the dictionary can have
+
+    static regnubas_value raw_of(value v) { return {v.low, v.high}; }
+
+    static pair pair_in(const regnubas_pair &p) { return {p.key, {p.value.low, p.value.high}}; }
+
+    static result<std::optional<value>> value_of(regnubas_answer told) {
+        if (told.status == REGNUBAS_NONE) return std::optional<value>();
+        if (told.status == REGNUBAS_SOME) return std::optional<value>({told.value.low, told.value.high});
+        return static_cast<status>(told.status);
+    }
+
+    static result<std::optional<pair>> pair_of(std::uint32_t told, const regnubas_pair &found) {
+        if (told == REGNUBAS_NONE) return std::optional<pair>();
+        if (told == REGNUBAS_SOME) return std::optional<pair>(pair_in(found));
+        return static_cast<status>(told);
+    }
+
+    static std::vector<pair> pairs_of(const regnubas_pair *found, std::uint64_t count) {
+        std::vector<pair> pairs;
+        pairs.reserve(count);
+        std::transform(found, found + count, std::back_inserter(pairs), pair_in);
+        return pairs;
+    }
+};
+
+// The pairs from one key to another, read 64 at a time as they are asked for. It is gone through
+// once; a chunk that is refused because others are in the way is asked for again.
+class between {
+public:
+    between(pass &from, key low, key high) : from_(&from), next_(low), high_(high), more_(low <= high) { read(); }
+
+    class iterator {
+    public:
+        using iterator_category = std::input_iterator_tag;
+        using value_type = pair;
+        using difference_type = std::ptrdiff_t;
+        using pointer = const pair *;
+        using reference = const pair &;
+
+        explicit iterator(between *in = nullptr) : in_(in) {}
+        reference operator*() const { return in_->chunk_[in_->at_]; }
+        pointer operator->() const { return &**this; }
+        iterator &operator++() {
+            in_->step();
+            return *this;
+        }
+        void operator++(int) { ++*this; }
+        bool operator==(const iterator &other) const { return over() == other.over(); }
+        bool operator!=(const iterator &other) const { return !(*this == other); }
+
+    private:
+        between *in_;
+        bool over() const { return !in_ || in_->at_ == in_->chunk_.size(); }
+    };
+
+    iterator begin() { return iterator(this); }
+    iterator end() { return iterator(); }
+
+private:
+    pass *from_;
+    key next_, high_;
+    bool more_;
+    std::vector<pair> chunk_;
+    std::size_t at_ = 0;
+
+    void step() {
+        if (++at_ == chunk_.size()) read();
+    }
+
+    void read() {
+        chunk_.clear();
+        at_ = 0;
+        if (!more_) return;
+        chunk_ = again([&] { return from_->try_range(next_, high_); }).get();
+        more_ = chunk_.size() == 64 && chunk_.back().first < high_;
+        if (more_) next_ = chunk_.back().first + 1;
+    }
+};
+
+inline between pass::items(key low, key high) { return between(*this, low, high); }
+
+} // namespace regnubas
+
+#endif

@@ -1,0 +1,98 @@
+// What regnubas.hpp makes of each answer, and four threads over one dictionary. `test` says what was
+// tried, and ends with status 0.
+#include "regnubas.hpp"
+
+#include <cstdio>
+#include <cstdlib>
+#include <map>
+#include <thread>
+
+#define CHECK(what) \
+    do { if (!(what)) { std::fprintf(stderr, "%s:%d: %s\n", __FILE__, __LINE__, #what); std::abort(); } } while (0)
+
+namespace {
+
+using regnubas::again;
+using regnubas::pass;
+using regnubas::refused;
+using regnubas::status;
+using regnubas::value;
+
+constexpr regnubas_limits LIMITS = {3000, 3000, 100};
+
+template <typename Call> status why(Call call) {
+    try {
+        call();
+    } catch (const refused &fault) {
+        return fault.why();
+    }
+    std::abort();
+}
+
+void each_call_answers() {
+    auto passes = pass::make(2, LIMITS);
+    pass &one = passes[0], &other = passes[1];
+    CHECK(!one.insert(5, 50) && one.insert(5, {51, 7}) == value(50));
+    CHECK(other.get(5) == value(51, 7) && other.contains(5) && !other.contains(6) && !other.get(6));
+    CHECK(other.replace_if(5, 50, 52) == value(51, 7) && one.replace_if(5, {51, 7}, 52) == value(51, 7));
+    CHECK(!one.replace_if(6, 0, 1) && one.get(5) == value(52));
+    CHECK(!one.insert(9, 90) && one.successor(5)->first == 9 && !one.successor(9));
+    CHECK((one.range(0, 9) == std::vector<regnubas::pair>{{5, 52}, {9, 90}}) && one.range(0, 9, 1).size() == 1);
+    CHECK(one.range(9, 0).empty());
+    CHECK(one.pop_first()->first == 5 && one.erase(9) == value(90) && !one.erase(9) && !one.pop_first());
+    CHECK(one.left().nodes < LIMITS.nodes && other.left().scx < LIMITS.scx);
+}
+
+void refusals_are_told() {
+    auto passes = pass::make(2, {3, 1, 1});
+    CHECK(why([] { pass::make(0, LIMITS); }) == status::limits && pass::try_make(33, LIMITS).why() == status::limits);
+    CHECK(!passes[0].insert(1, 1) && passes[0].try_insert(2, 2).why() == status::full);
+    CHECK(why([&] { passes[0].insert(2, 2); }) == status::full);
+    CHECK(passes[0].try_close().why() == status::shared);
+    pass moved = std::move(passes[1]);
+    CHECK(why([&] { passes[1].get(1); }) == status::no_pass && moved.get(1) == value(1));
+    moved = std::move(passes[0]); // the one that it was has left
+    CHECK((moved.close() == std::vector<regnubas::pair>{{1, 1}}) && moved.try_close().why() == status::no_pass);
+    CHECK(moved.left().nodes == 0);
+}
+
+void pairs_are_gone_through() {
+    auto passes = pass::make(1, LIMITS);
+    std::map<regnubas::key, value> kept;
+    for (regnubas::key k = 0; k < 500; k += 1 + k % 7) {
+        passes[0].insert(~k, k);
+        kept[~k] = k;
+    }
+    for (auto [low, high] : {std::pair<regnubas::key, regnubas::key>{0, ~0ull}, {~400ull, ~0ull}, {~300ull, ~100ull}, {5, 4}, {0, 9}}) {
+        std::map<regnubas::key, value> seen, wanted;
+        for (const auto &[key, found] : passes[0].items(low, high)) CHECK(seen.emplace(key, found).second);
+        for (const auto &[key, found] : kept) if (low <= key && key <= high) wanted.emplace(key, found);
+        CHECK(seen == wanted);
+    }
+}
+
+void threads_share_it() {
+    constexpr std::uint64_t THREADS = 4, KEYS = 700;
+    auto passes = pass::make(THREADS, LIMITS);
+    std::vector<std::thread> threads;
+    for (std::uint64_t t = 0; t < THREADS; t++)
+        threads.emplace_back([&own = passes[t], t] {
+            for (std::uint64_t i = 0; i < KEYS; i++) {
+                CHECK(!*again([&] { return own.try_insert((i * 7919) % KEYS * THREADS + t, {i, t}); }));
+                if (i % 100 == 0) for (const auto &[key, found] : own.items()) CHECK(key % THREADS == found.high);
+            }
+        });
+    for (auto &thread : threads) thread.join();
+    for (std::uint64_t t = 1; t < THREADS; t++) passes[t].leave();
+    CHECK(passes[0].close().size() == THREADS * KEYS);
+}
+
+} // namespace
+
+int main() {
+    each_call_answers();
+    refusals_are_told();
+    pairs_are_gone_through();
+    threads_share_it();
+    std::puts("each call, each refusal, ranges, four threads");
+}
