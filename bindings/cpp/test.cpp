@@ -40,7 +40,7 @@ void each_call_answers() {
     CHECK((one.range(0, 9) == std::vector<regnubas::pair>{{5, 52}, {9, 90}}) && one.range(0, 9, 1).size() == 1);
     CHECK(one.range(9, 0).empty());
     CHECK(one.pop_first()->first == 5 && one.erase(9) == value(90) && !one.erase(9) && !one.pop_first());
-    CHECK(one.left().nodes < LIMITS.nodes && other.left().scx < LIMITS.scx);
+    CHECK(one.left().nodes < LIMITS.nodes && other.left().scx == LIMITS.scx); // the other has only read
 }
 
 void refusals_are_told() {
