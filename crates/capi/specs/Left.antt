@@ -1,21 +1,25 @@
 -- What is left in a dictionary when it is closed.
 use Rattle.std.specs.Prelude.{◌≡◌, ℕ, List, map}
 use Rattle.arena.specs.History.{History, value, Extends}
+use Rattle.arena.specs.Log.{log}
 use Rattle.arena.specs.Machines.{IsRun}
 use Rattle.dict.specs.Typed.{TypedAllows}
 use Rattle.dict.specs.Words.{IsNumber, IsWideNumber}
 use Rattle.ordered_map.specs.Replies.{word_pair}
 use Rattle.ordered_map.specs.Spelled.{Spells}
-use Rattle.forest.specs.Passes.{PassView, run_of}
+use Rattle.forest.specs.Passes.{PassView, done_of, run_of}
+use Rattle.forest.specs.Shares.{entries_of}
 use Rattle.capi.specs.declared.client.Client.{Client}
 use Rattle.capi.specs.declared.client.Closing.{Closing}
 use Rattle.capi.specs.declared.client.Closing.TheVariants.{Pairs, NoMemory, Shared}
 
--- the pairs are those of the map at the end of a lawful run, which goes on from what the pass knew
+-- the pairs are those of the map at the end of a lawful run, which goes on from what the pass knew;
+-- the pass itself has entered nothing more: what has come since is other passes'
 pub record AreLeft (p : PassView) (pairs : List (ℕ × ℕ)) : Type 0 where
   pub run : History
   pub sound : IsRun (TypedAllows IsNumber IsWideNumber) p.layout run
   pub goes_on : Extends run (run_of p)
+  pub done : entries_of p.number (log p.layout run) ≡ done_of p
   pub spelled : Spells p.layout (value run) (map (word_pair (λ k. k) (λ v. v)) pairs)
 
 -- how a client may close: the pairs are left; or it is as it was

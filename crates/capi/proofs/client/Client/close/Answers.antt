@@ -1,13 +1,15 @@
-use Rattle.std.proofs.Common.{ℕ, List, [], ◌∷◌, map, sym, subst}
+use Rattle.std.proofs.Common.{◌≡◌, ℕ, List, [], ◌∷◌, map, sym, subst}
 use Rattle.arena.specs.declared.layout.Layout.{Layout}
 use Rattle.arena.specs.History.{History, value, Extends}
+use Rattle.arena.specs.Log.{log}
 use Rattle.arena.specs.Machines.{IsRun}
 use Rattle.arena.specs.PlainWords.{Contents}
 use Rattle.dict.specs.Typed.{TypedAllows}
 use Rattle.dict.specs.Words.{IsNumber, IsWideNumber}
 use Rattle.ordered_map.specs.Replies.{word_pair}
 use Rattle.ordered_map.specs.Spelled.{Spells}
-use Rattle.forest.specs.Passes.{Ground, PassView, IsOf, IsClosed, run_of}
+use Rattle.forest.specs.Passes.{Ground, PassView, IsOf, IsClosed, done_of, run_of}
+use Rattle.forest.specs.Shares.{entries_of}
 use Rattle.forest.specs.TableRule.{history_of}
 use Rattle.capi.specs.Left.{AreLeft}
 use Rattle.capi.proofs.client.Client.close.Goals as goal
@@ -22,6 +24,7 @@ module _ (f : Ground) (p : PassView) (of : IsOf f p) (words : Contents) (closed 
     run = run;
     sound = subst (λ (l : Layout). IsRun (TypedAllows IsNumber IsWideNumber) l run) (sym of.1) closed.sound;
     goes_on = subst (λ (l : Layout). Extends (history_of l.mode closed.rows) (run_of p)) of.1 closed.begun.0;
+    done = subst (λ (l : Layout). entries_of p.number (log p.layout (history_of l.mode closed.rows)) ≡ done_of p) of.1 closed.begun.1;
     spelled = subst (λ (l : Layout). Spells l (value run) (map (word_pair (λ k. k) (λ v. v)) pairs)) (sym of.1) spelled;
   }
 
