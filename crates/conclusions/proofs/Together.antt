@@ -13,7 +13,7 @@ use Rattle.regnubas.specs.Dictionary.{IsChange, IsReading}
 use Rattle.regnubas.specs.Passes.{PassView, IsLaterView, run_of, done_of}
 use Rattle.regnubas.specs.Shares.{entries_of}
 use Rattle.regnubas.specs.Types.{Layout, Tree, Pair}
-use Rattle.regnubas.specs.Versions.{IsQuiet, VersionLaws}
+use Rattle.regnubas.specs.Versions.{EntersNothing, VersionLaws}
 
 -- a moment of a moment is one
 back : (h m g : History) → Extends h m → Extends m g → Extends h g
@@ -24,6 +24,13 @@ back (r ⊳ h) m g (inr e) f = inr (back h m g e f)
 self : (h : History) → Extends h h
 self (Start mode) = refl
 self (r ⊳ h) = inl refl
+
+-- a pass is later than itself, and than what it is later than
+pub same_view : (p : PassView) → IsLaterView p p
+same_view p = record { table = refl; layout = refl; number = refl; run = self (run_of p) }
+
+pub later_view : (p q r : PassView) → IsLaterView p q → IsLaterView q r → IsLaterView p r
+later_view p q r x y = record { table = y.table ∙ x.table; layout = y.layout ∙ x.layout; number = y.number ∙ x.number; run = back (run_of r) (run_of q) (run_of p) y.run x.run }
 
 -- the value that a reply tells
 told_value : MapReply → Option ℕ → Option ℕ
@@ -45,7 +52,7 @@ module _ (lay : Layout) where
   done_is p c e f = ap (λ l. entries_of p.number (log l (run_of p))) e ∙ ap (λ n. entries_of n (log lay (run_of p))) f
 
   -- a pass that has done no more has entered nothing
-  quiet_since : (old new : PassView) (c : ℕ) → old.layout ≡ lay → new.layout ≡ lay → old.number ≡ c → new.number ≡ c → done_of new ≡ done_of old → IsQuiet lay c (run_of new) (run_of old)
+  quiet_since : (old new : PassView) (c : ℕ) → old.layout ≡ lay → new.layout ≡ lay → old.number ≡ c → new.number ≡ c → done_of new ≡ done_of old → EntersNothing lay c (run_of new) (run_of old)
   quiet_since old new c e f n m same = sym (done_is new c f m) ∙ same ∙ done_is old c e n
 
   -- what a pass knows is a run of the tree
@@ -59,15 +66,15 @@ module _ (lay : Layout) where
     abbrev set_at : History
     set_at = c.row ⊳ c.before
 
-    pub found_there : (h moment : History) → IsTreeRun lay h → Extends h moment → Extends moment set_at → ((d : ℕ) → d < lay.passes → IsQuiet lay d moment set_at) → (m : List Pair) → Spells lay (value moment) m → get k m ≡ Some v
+    pub found_there : (h moment : History) → IsTreeRun lay h → Extends h moment → Extends moment set_at → ((d : ℕ) → d < lay.passes → EntersNothing lay d moment set_at) → (m : List Pair) → Spells lay (value moment) m → get k m ≡ Some v
     found_there h moment run e f quiet m s =
         let was : Spells lay (value set_at) (insert k v c.map) = subst (λ (x : Layout). Spells x (value set_at) (insert k v c.map)) at c.is in
         ap (get k) (laws.stays lay h moment set_at run e f quiet (insert k v c.map) m was s) ∙ inserted k v c.map
 
     -- the pass itself has made no other entry in the call
-    pub quiet_call : Lawful lay (run_of new) → IsLaterView old new → IsQuiet lay new.number (run_of new) set_at
+    pub quiet_call : Lawful lay (run_of new) → IsLaterView old new → EntersNothing lay new.number (run_of new) set_at
     quiet_call l view =
-        subst (λ (x : Layout). IsQuiet x new.number (run_of new) set_at) at (laws.newest old new (Edit (Insert k v)) told (Insert k v) (subst (λ (x : Layout). Lawful x (run_of new)) (sym at) l) view c)
+        subst (λ (x : Layout). EntersNothing x new.number (run_of new) set_at) at (laws.newest old new (Edit (Insert k v)) told (Insert k v) (subst (λ (x : Layout). Lawful x (run_of new)) (sym at) l) view c)
 
   -- what a get tells of the map that it has read
   read_told : (k : ℕ) (m : List Pair) (found : Option ℕ) → reply (Get k) m ≡ OneValue found → found ≡ get k m
@@ -83,9 +90,9 @@ module _ (lay : Layout) where
       let read = r.read in
       let n = c.row ⊳ c.before in
       let here : Extends read.moment n = back read.moment (run_of mid) n read.since c.within in
-      let quiet : IsQuiet lay mid.number (run_of new) n = quiet_since mid new mid.number em en refl next.number r.done ∙ quiet_call laws inserted old mid k v told c em lm view in
-      let so : IsQuiet lay mid.number read.moment n = laws.earlier lay mid.number (run_of new) read.moment n run.1.lawful read.within here quiet in
-      let all : (d : ℕ) → d < lay.passes → IsQuiet lay d read.moment n = λ d i. let same : mid.number ≡ d = omega (arith, one, few, i) in subst (λ x. IsQuiet lay x read.moment n) same so in
+      let quiet : EntersNothing lay mid.number (run_of new) n = quiet_since mid new mid.number em en refl next.number r.done ∙ quiet_call laws inserted old mid k v told c em lm view in
+      let so : EntersNothing lay mid.number read.moment n = laws.earlier lay mid.number (run_of new) read.moment n run.1.lawful read.within here quiet in
+      let all : (d : ℕ) → d < lay.passes → EntersNothing lay d read.moment n = λ d i. let same : mid.number ≡ d = omega (arith, one, few, i) in subst (λ x. EntersNothing lay x read.moment n) same so in
       read_told k read.map found read.gives
       ∙ found_there laws inserted old mid k v told c em (run_of new) read.moment run read.within here all read.map (subst (λ (x : Layout). Spells x (value read.moment) read.map) en read.spelled)
 
@@ -107,14 +114,14 @@ module _ (lay : Layout) where
       let in_a : Extends (run_of a4) m = back (run_of a4) (run_of b4) m last in_b in
       let here : Extends m n = back m (run_of a2) n (back m (run_of b2) (run_of a2) read.since between) c.within in
       let older : Extends n (run_of b1) = back n c.before (run_of b1) (inr (self c.before)) (back c.before (run_of a1) (run_of b1) c.since met) in
-      let a : IsQuiet lay a2.number m n = laws.earlier lay a2.number (run_of a4) m n la4 in_a here (quiet_since a2 a4 a2.number ea2 ea4 refl sa da ∙ quiet_call laws inserted a1 a2 k v told c ea2 la view) in
-      let rest : IsQuiet lay b1.number (run_of b4) (run_of b1) = quiet_since b1 b4 b1.number eb1 eb4 refl sb db in
-      let behind : IsQuiet lay b1.number (run_of b4) n = laws.later lay b1.number (run_of b4) n (run_of b1) run.1.lawful (back (run_of b4) m n in_b here) older rest in
-      let b : IsQuiet lay b1.number m n = laws.earlier lay b1.number (run_of b4) m n run.1.lawful in_b here behind in
-      let all : (d : ℕ) → d < lay.passes → IsQuiet lay d m n = λ d i. each d i two na nb apart m n a b (ℕ_discrete a2.number d) in
+      let a : EntersNothing lay a2.number m n = laws.earlier lay a2.number (run_of a4) m n la4 in_a here (quiet_since a2 a4 a2.number ea2 ea4 refl sa da ∙ quiet_call laws inserted a1 a2 k v told c ea2 la view) in
+      let rest : EntersNothing lay b1.number (run_of b4) (run_of b1) = quiet_since b1 b4 b1.number eb1 eb4 refl sb db in
+      let behind : EntersNothing lay b1.number (run_of b4) n = laws.later lay b1.number (run_of b4) n (run_of b1) run.1.lawful (back (run_of b4) m n in_b here) older rest in
+      let b : EntersNothing lay b1.number m n = laws.earlier lay b1.number (run_of b4) m n run.1.lawful in_b here behind in
+      let all : (d : ℕ) → d < lay.passes → EntersNothing lay d m n = λ d i. each d i two na nb apart m n a b (ℕ_discrete a2.number d) in
       read_told k read.map found read.gives
       ∙ found_there laws inserted a1 a2 k v told c ea2 (run_of b4) m run in_b here all read.map (subst (λ (x : Layout). Spells x (value m) read.map) eb3 read.spelled)
     where
-      each : (d : ℕ) → d < lay.passes → lay.passes ≡ 2 → a2.number < lay.passes → b1.number < lay.passes → a2.number ≢ b1.number → (m n : History) → IsQuiet lay a2.number m n → IsQuiet lay b1.number m n → Dec (a2.number ≡ d) → IsQuiet lay d m n
-      each d i two na nb apart m n a b (yes e) = subst (λ x. IsQuiet lay x m n) e a
-      each d i two na nb apart m n a b (no x) = let e : b1.number ≡ d = omega (arith, two, i, na, nb, apart, x) in subst (λ x. IsQuiet lay x m n) e b
+      each : (d : ℕ) → d < lay.passes → lay.passes ≡ 2 → a2.number < lay.passes → b1.number < lay.passes → a2.number ≢ b1.number → (m n : History) → EntersNothing lay a2.number m n → EntersNothing lay b1.number m n → Dec (a2.number ≡ d) → EntersNothing lay d m n
+      each d i two na nb apart m n a b (yes e) = subst (λ x. EntersNothing lay x m n) e a
+      each d i two na nb apart m n a b (no x) = let e : b1.number ≡ d = omega (arith, two, i, na, nb, apart, x) in subst (λ x. EntersNothing lay x m n) e b

@@ -1,8 +1,9 @@
 //! What callers of a dictionary can conclude of several calls from the clauses of these calls alone.
 #![tactic(auto)]
 
-ghost use Rattle.std.specs.Prelude.{◌≡◌, Some, IfOk};
+ghost use Rattle.std.specs.Prelude.{◌≡◌, Some, IfOk, OnOk};
 ghost use Rattle.regnubas.specs.Passes.{IsOf};
+ghost use Rattle.conclusions.specs.Together.{HasRead, HasSet};
 
 use regnubas::{Dict, Forest, Pass, UpdateFault, map_laws_hold, version_laws_hold};
 
@@ -18,7 +19,9 @@ pub fn set_then_get(
 ) -> Result<Option<u64>, UpdateFault>
     requires of { IsOf map.now pass.old }
     requires one { map.now.layout.passes ≡ 1 }
-    ensures { IfOk result (λ found. found ≡ Some value) }
+    ensures set { OnOk result (HasSet pass.old pass.new key value) }
+    ensures read { OnOk result (HasRead pass.old pass.new key value) }
+    ensures found { IfOk result (λ found. found ≡ Some value) }
 {
     version_laws_hold::<u64, u64>();
     map_laws_hold();
@@ -27,9 +30,9 @@ pub fn set_then_get(
     Ok(map.get(pass, &key))
 }
 
-/// Of two passes, the only ones, one sets a key, and the other finds what it has set. They meet before
-/// it, so that what the other had done is known to be older, between the two calls, and at the end,
-/// so that nothing else has come between.
+/// Of two passes, the only ones, one sets a key, and the other finds the value. They meet before, so
+/// that what the other had done is known to be older; between the two calls, so that the get comes
+/// later; and at the end, so that nothing else is known to have come between.
 pub fn set_for_another(
     map: &Forest<Numbers>,
     one: &mut Pass<Numbers>,
@@ -40,7 +43,9 @@ pub fn set_for_another(
     requires one { IsOf map.now one.old }
     requires other { IsOf map.now other.old }
     requires two { map.now.layout.passes ≡ 2 }
-    ensures { IfOk result (λ found. found ≡ Some value) }
+    ensures set { OnOk result (HasSet one.old one.new key value) }
+    ensures read { OnOk result (HasRead other.old other.new key value) }
+    ensures found { IfOk result (λ found. found ≡ Some value) }
 {
     version_laws_hold::<u64, u64>();
     map_laws_hold();

@@ -14,7 +14,7 @@ use Rattle.ordered_map.proofs.Lemmas.{log_edits, one_spelling, spells_log}
 use Rattle.forest.specs.Dictionary.{IsChange}
 use Rattle.forest.specs.Passes.{PassView, IsLaterView, run_of}
 use Rattle.forest.specs.Shares.{entries_of}
-use Rattle.regnubas.specs.Versions.{IsQuiet}
+use Rattle.regnubas.specs.Versions.{EntersNothing}
 
 -- Entries of one pass among others
 
@@ -68,11 +68,11 @@ quiet_both es fs gs x y same =
     let no_x : x.more ≡ [] = nothing_more x.more fs (long ∙ omega arith) in
     (y.is ∙ ap (λ more. more ++ gs) no_y, x.is ∙ ap (λ more. more ++ fs) no_x)
 
-pub quiet_earlier : (lay : Layout) (c : ℕ) (h moment before : History) → Lawful lay h → Extends h moment → Extends moment before → IsQuiet lay c h before → IsQuiet lay c moment before
+pub quiet_earlier : (lay : Layout) (c : ℕ) (h moment before : History) → Lawful lay h → Extends h moment → Extends moment before → EntersNothing lay c h before → EntersNothing lay c moment before
 quiet_earlier lay c h moment before l e f q =
     (quiet_both _ _ _ (entries_grow lay c h moment l e) (entries_grow lay c moment before (lawful_since lay h moment l e) f) q).0
 
-pub quiet_later : (lay : Layout) (c : ℕ) (h moment before : History) → Lawful lay h → Extends h moment → Extends moment before → IsQuiet lay c h before → IsQuiet lay c h moment
+pub quiet_later : (lay : Layout) (c : ℕ) (h moment before : History) → Lawful lay h → Extends h moment → Extends moment before → EntersNothing lay c h before → EntersNothing lay c h moment
 quiet_later lay c h moment before l e f q =
     (quiet_both _ _ _ (entries_grow lay c h moment l e) (entries_grow lay c moment before (lawful_since lay h moment l e) f) q).1
 
@@ -87,7 +87,7 @@ newest_of entry now at before start x is y done =
     let none : x.more ≡ [] = nothing_more x.more at (ap length (sym x.is) ∙ omega arith) in
     x.is ∙ ap (λ more. more ++ at) none
 
-pub newest : (old new : PassView) (call : MapCall) (told : MapReply) (edit : MapEdit) → Lawful new.layout (run_of new) → IsLaterView old new → (c : IsChange old new call told edit) → IsQuiet new.layout new.number (run_of new) (c.row ⊳ c.before)
+pub newest : (old new : PassView) (call : MapCall) (told : MapReply) (edit : MapEdit) → Lawful new.layout (run_of new) → IsLaterView old new → (c : IsChange old new call told edit) → EntersNothing new.layout new.number (run_of new) (c.row ⊳ c.before)
 newest old new call told edit l view c =
     newest_of c.entry _ _ (entries_of new.number (log new.layout c.before)) (entries_of new.number (log new.layout (run_of old)))
     (entries_grow new.layout new.number (run_of new) (c.row ⊳ c.before) l c.within)
@@ -131,14 +131,14 @@ nobody n [] b none = refl
 nobody n (e ∷ es) b none = absurd (let l = ap length (sym (own_entry e.owner e es refl) ∙ none e.owner b.0) in omega arith)
 
 -- where no pass has entered anything the log is as it was
-log_stays : (lay : Layout) (h before : History) → Lawful lay h → Extends h before → ((c : ℕ) → c < lay.passes → IsQuiet lay c h before) → log lay h ≡ log lay before
+log_stays : (lay : Layout) (h before : History) → Lawful lay h → Extends h before → ((c : ℕ) → c < lay.passes → EntersNothing lay c h before) → log lay h ≡ log lay before
 log_stays lay h before l e quiet =
     let x = log_grows lay h before l e in
     let none : (c : ℕ) → c < lay.passes → entries_of c x.more ≡ [] =
     λ c i. nothing_more (entries_of c x.more) (entries_of c (log lay before)) (ap length (sym (entries_append c x.more (log lay before)) ∙ ap (entries_of c) (sym x.is) ∙ quiet c i)) in
     x.is ∙ ap (λ more. more ++ log lay before) (nobody lay.passes x.more (below_front lay.passes x.more (log lay before) (subst (AreBelow lay.passes) x.is (owners_below lay h l))) none)
 
-pub version_stays : (lay : Layout) (h moment before : History) → IsTreeRun lay h → Extends h moment → Extends moment before → ((c : ℕ) → c < lay.passes → IsQuiet lay c moment before) → (m n : List Pair) → Spells lay (value before) m → Spells lay (value moment) n → n ≡ m
+pub version_stays : (lay : Layout) (h moment before : History) → IsTreeRun lay h → Extends h moment → Extends moment before → ((c : ℕ) → c < lay.passes → EntersNothing lay c moment before) → (m n : List Pair) → Spells lay (value before) m → Spells lay (value moment) n → n ≡ m
 version_stays lay h moment before run e f quiet m n sm sn =
     let found = log_edits lay h run in
     let same = log_stays lay moment before (lawful_since lay h moment run.1.lawful e) f quiet in

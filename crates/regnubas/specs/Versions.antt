@@ -16,22 +16,22 @@ use Rattle.forest.specs.Passes.{PassView, IsLaterView, run_of}
 use Rattle.forest.specs.Shares.{entries_of}
 
 -- from the one moment to the later one pass c has made no entry
-abbrev pub IsQuiet : Layout → ℕ → History → History → Type 0
-IsQuiet lay c later before = entries_of c (log lay later) ≡ entries_of c (log lay before)
+abbrev pub EntersNothing : Layout → ℕ → History → History → Type 0
+EntersNothing lay c later before = entries_of c (log lay later) ≡ entries_of c (log lay before)
 
 -- what a caller may conclude of a dictionary, whose calls say of a run what it allows
 pub record VersionLaws (allows : Layout → History → ℕ → Type 0) : Type 0 where
   -- its run is one of the tree, of which `laws_hold` speaks
   pub runs : (lay : Layout) (h : History) → lay.mode ≡ Tree → IsRun allows lay h → IsTreeRun lay h
-  -- a call that has changed the map has made no other entry
+  -- a call that has changed the map has made no entry behind its own
   pub newest : (old new : PassView) (call : MapCall) (told : MapReply) (edit : MapEdit) → Lawful new.layout (run_of new) → IsLaterView old new
-      → (c : IsChange old new call told edit) → IsQuiet new.layout new.number (run_of new) (c.row ⊳ c.before)
-  -- who has made no entry between two moments has made none before one that lies between them, nor
-  -- behind it
+      → (c : IsChange old new call told edit) → EntersNothing new.layout new.number (run_of new) (c.row ⊳ c.before)
+  -- a pass that has made no entry between two moments has made none from the first to a moment between
+  -- them, nor from there to the second
   pub earlier : (lay : Layout) (c : ℕ) (h moment before : History) → Lawful lay h → Extends h moment → Extends moment before
-      → IsQuiet lay c h before → IsQuiet lay c moment before
+      → EntersNothing lay c h before → EntersNothing lay c moment before
   pub later : (lay : Layout) (c : ℕ) (h moment before : History) → Lawful lay h → Extends h moment → Extends moment before
-      → IsQuiet lay c h before → IsQuiet lay c h moment
-  -- between two moments of a run at which no pass has made an entry the map stays
+      → EntersNothing lay c h before → EntersNothing lay c h moment
+  -- where no pass has made an entry between two moments of a run, the map is the same at both
   pub stays : (lay : Layout) (h moment before : History) → IsTreeRun lay h → Extends h moment → Extends moment before
-      → ((c : ℕ) → c < lay.passes → IsQuiet lay c moment before) → (m n : List Pair) → Spells lay (value before) m → Spells lay (value moment) n → n ≡ m
+      → ((c : ℕ) → c < lay.passes → EntersNothing lay c moment before) → (m n : List Pair) → Spells lay (value before) m → Spells lay (value moment) n → n ≡ m

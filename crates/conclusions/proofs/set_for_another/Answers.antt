@@ -1,10 +1,12 @@
-use Rattle.std.proofs.Common.{ap, refl, sym, ◌∙◌}
+use Rattle.std.proofs.Common.{◌≡◌, Some, ap, refl, sym, subst, ◌∙◌}
+use Rattle.regnubas.specs.Dictionary.{IsReading}
+use Rattle.regnubas.specs.OrderedMap.{Get, OneValue}
 use Rattle.regnubas.specs.Types.{Layout}
-use Rattle.conclusions.proofs.Together.{is_pass, two_passes, same_value}
+use Rattle.conclusions.proofs.Together.{is_pass, later_view, same_value, two_passes}
 use Rattle.conclusions.proofs.set_for_another.Goals as goal
 
-pub returns : goal.returns
-returns c =
+pub returns-clause-found : goal.returns-clause-found
+returns-clause-found c =
     let lay = c.args.map.now.layout in
     let first = c.meet.ensures in
     let made = c.in_ok-insert.ensures in
@@ -28,3 +30,22 @@ returns c =
     (third.look.0.takes_nothing.done ∙ second.look.0.takes_nothing.done)
     (third.look.1.takes_nothing.done ∙ got.says.done ∙ second.look.1.takes_nothing.done)
     c.args.key c.args.value _ _ made.says got.says)
+
+pub returns-clause-set : goal.returns-clause-set
+returns-clause-set c = record {
+  began = c.meet.new.one;
+  ended = c.insert.new.pass;
+  from = c.meet.ensures.look.0.goes_on.later;
+  told = _;
+  set = c.in_ok-insert.ensures.says;
+  to = later_view c.insert.new.pass c.meet-2.new.one c.meet-3.new.one c.meet-2.ensures.look.0.goes_on.later c.meet-3.ensures.look.0.goes_on.later;
+}
+
+pub returns-clause-read : goal.returns-clause-read
+returns-clause-read c = record {
+  began = c.meet-2.new.other;
+  ended = c.get-found.new.pass;
+  from = later_view c.args.other.now c.meet.new.other c.meet-2.new.other c.meet.ensures.look.1.goes_on.later c.meet-2.ensures.look.1.goes_on.later;
+  read = subst (λ found. IsReading c.meet-2.new.other c.get-found.new.pass (Get c.args.key) (OneValue found)) (ap _ (returns-clause-found c)) c.get-found.ensures.says;
+  to = c.meet-3.ensures.look.1.goes_on.later;
+}
