@@ -2,8 +2,9 @@
  * bits, its values of 128.
  *
  * Each function is proved to do what is said of it here, for every caller that keeps four rules,
- * which no compiler checks. Only tested is what is said of memory that is taken or freed, of SHARED,
- * and of what other passes had put in when they left. The rules:
+ * which no compiler checks. Only tested: what is said of memory that is taken, refused or freed; that
+ * SHARED is answered only where others share; that what other passes had put in when they left is
+ * told. The rules:
  *
  *  1. A pass is zeroed before its first use and then written by this library alone; it may move in
  *     memory, and once it has moved its old bytes are not passed again.
@@ -36,7 +37,7 @@ typedef struct regnubas_pass {
 
 /* What each pass may take in the life of the dictionary. */
 typedef struct regnubas_limits {
-    uint32_t nodes; /* 0 to 32768: a change takes 1 in a try; the first key, or a key more in a
+    uint32_t nodes; /* 0 to 32768: a change takes 1 in a try; the first key, or a new one in a
                      * full leaf, 3 */
     uint32_t scx;   /* 0 to 32768: a change takes 1 in a try */
     uint32_t tries; /* 1 to 1000: of a call */
@@ -118,7 +119,7 @@ void regnubas_leave(regnubas_pass *pass);
 
 /* Ends the dictionary, once all other passes have left, and writes its first pairs, `count` at the
  * most; room for passes * nodes is room for all. What other passes had put in before they left is
- * among them, where no call has taken it out. SOME with the number of all its pairs; SHARED:
+ * among them, where no later call has changed it. SOME with the number of all its pairs; SHARED:
  * the pass is as it was; NO_MEMORY: the dictionary is gone. */
 regnubas_count regnubas_close(regnubas_pass *pass, regnubas_pair *pairs, size_t count);
 

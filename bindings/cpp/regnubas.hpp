@@ -1,8 +1,10 @@
 // The dictionary of regnubas.h in C++17: passes that leave by themselves, optionals, and a range-for
 // over the pairs between two keys. Header only; calls mean what regnubas.h says of them.
 //
-// A call that is refused has changed nothing. It throws `regnubas::refused`, which says why; the call
-// with `try_` before its name answers a `regnubas::result` in place of that.
+// A call that is refused has changed nothing, but a `close` for want of memory ends the dictionary. It
+// throws `regnubas::refused`, which says why; the call with `try_` before its name answers a
+// `regnubas::result` in place of that. Where C++ itself has no memory, any call that answers a vector
+// throws `std::bad_alloc`.
 #ifndef REGNUBAS_HPP
 #define REGNUBAS_HPP
 
@@ -12,7 +14,6 @@
 #include <array>
 #include <cstddef>
 #include <cstdint>
-#include <iterator>
 #include <limits>
 #include <optional>
 #include <stdexcept>
@@ -44,7 +45,7 @@ enum class status : std::uint32_t {
     full = REGNUBAS_FULL,           // too little is left of the pass's share, which never grows
     no_memory = REGNUBAS_NO_MEMORY, // an allocation was refused
     limits = REGNUBAS_LIMITS,       // a number is out of its range
-    no_pass = REGNUBAS_NO_PASS,     // the pass was moved from, has left or was closed
+    no_pass = REGNUBAS_NO_PASS,     // the pass is empty, was moved from, has left or was closed
     shared = REGNUBAS_SHARED        // other passes have not left
 };
 
@@ -117,15 +118,16 @@ public:
 
     // A dictionary with so many passes, 1 to 32, each of which may take what `each` says.
     static result<std::vector<pass>> try_make(std::size_t count, regnubas_limits each) {
-        std::vector<regnubas_pass> raw(count);
+        if (count == 0 || count > 32) return status::limits;
+        std::vector<pass> passes(count);
+        std::array<regnubas_pass, 32> raw = {};
         const std::uint32_t told = regnubas_make(each, raw.data(), count);
         if (told != REGNUBAS_NONE) return static_cast<status>(told);
-        std::vector<pass> passes(count);
         for (std::size_t i = 0; i < count; i++) {
             passes[i].raw_ = raw[i];
             passes[i].room_ = count * each.nodes;
         }
-        return passes;
+        return result<std::vector<pass>>(std::move(passes));
     }
     static std::vector<pass> make(std::size_t count, regnubas_limits each) { return try_make(count, each).get(); }
 
@@ -167,10 +169,10 @@ public:
     // The first pairs by rising key from `low` to `high`, both with them, all of one moment; 64 at
     // the most.
     result<std::vector<pair>> try_range(key low, key high, std::size_t most = 64) {
-        std::array<regnubas_pair, 64> found;
+        std::array<regnubas_pair, 64> found = {};
         const regnubas_count told = regnubas_range(&raw_, low, high, found.data(), std::min(most, found.size()));
         if (told.status != REGNUBAS_SOME) return static_cast<status>(told.status);
-        return pairs_of(found.data(), told.pairs);
+        return pairs_of(std::vector<pair>(told.pairs), found.data());
     }
     std::vector<pair> range(key low, key high, std::size_t most = 64) { return try_range(low, high, most).get(); }
 
@@ -185,10 +187,12 @@ public:
 
     // Ends the dictionary, once all other passes have left; its pairs by rising key.
     result<std::vector<pair>> try_close() {
-        std::vector<regnubas_pair> found(room_);
+        std::vector<regnubas_pair> found(std::max<std::size_t>(room_, 1));
+        std::vector<pair> pairs(found.size()); // before the dictionary is gone
         const regnubas_count told = regnubas_close(&raw_, found.data(), found.size());
         if (told.status != REGNUBAS_SOME) return static_cast<status>(told.status);
-        return pairs_of(found.data(), told.pairs);
+        pairs.resize(told.pairs);
+        return pairs_of(std::move(pairs), found.data());
     }
     std::vector<pair> close() { return try_close().get(); }
 
@@ -212,36 +216,31 @@ private:
         return static_cast<status>(told);
     }
 
-    static std::vector<pair> pairs_of(const regnubas_pair *found, std::uint64_t count) {
-        std::vector<pair> pairs;
-        pairs.reserve(count);
-        std::transform(found, found + count, std::back_inserter(pairs), pair_in);
-        return pairs;
+    // These pairs, as many as there are places.
+    static result<std::vector<pair>> pairs_of(std::vector<pair> places, const regnubas_pair *found) {
+        std::transform(found, found + places.size(), places.begin(), pair_in);
+        return result<std::vector<pair>>(std::move(places));
     }
 };
 
-// The pairs from one key to another, read 64 at a time as they are asked for. It is gone through
-// once; a chunk that is refused because others are in the way is asked for again.
+// The pairs from one key to another, read 64 at a time, the first at once. It is gone through once,
+// and neither it nor the pass moves meanwhile; a chunk that is refused because others are in the way
+// is asked for again.
 class between {
 public:
     between(pass &from, key low, key high) : from_(&from), next_(low), high_(high), more_(low <= high) { read(); }
+    between(const between &) = delete;
+    between &operator=(const between &) = delete;
 
     class iterator {
     public:
-        using iterator_category = std::input_iterator_tag;
-        using value_type = pair;
-        using difference_type = std::ptrdiff_t;
-        using pointer = const pair *;
-        using reference = const pair &;
-
         explicit iterator(between *in = nullptr) : in_(in) {}
-        reference operator*() const { return in_->chunk_[in_->at_]; }
-        pointer operator->() const { return &**this; }
+        const pair &operator*() const { return in_->chunk_[in_->at_]; }
+        const pair *operator->() const { return &**this; }
         iterator &operator++() {
             in_->step();
             return *this;
         }
-        void operator++(int) { ++*this; }
         bool operator==(const iterator &other) const { return over() == other.over(); }
         bool operator!=(const iterator &other) const { return !(*this == other); }
 

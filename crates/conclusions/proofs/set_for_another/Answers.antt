@@ -1,4 +1,5 @@
 use Rattle.std.proofs.Common.{◌≡◌, Some, ap, refl, sym, subst, ◌∙◌}
+use Rattle.std.specs.Option.{option_map}
 use Rattle.regnubas.specs.Dictionary.{IsReading}
 use Rattle.regnubas.specs.OrderedMap.{Get, OneValue}
 use Rattle.regnubas.specs.Types.{Layout}
@@ -46,6 +47,6 @@ returns-clause-read c = record {
   began = c.meet-2.new.other;
   ended = c.get-found.new.pass;
   from = later_view c.args.other.now c.meet.new.other c.meet-2.new.other c.meet.ensures.look.1.goes_on.later c.meet-2.ensures.look.1.goes_on.later;
-  read = subst (λ found. IsReading c.meet-2.new.other c.get-found.new.pass (Get c.args.key) (OneValue found)) (ap _ (returns-clause-found c)) c.get-found.ensures.says;
+  read = subst (λ found. IsReading c.meet-2.new.other c.get-found.new.pass (Get c.args.key) (OneValue found)) (ap (option_map (λ v. v)) (returns-clause-found c)) c.get-found.ensures.says;
   to = c.meet-3.ensures.look.1.goes_on.later;
 }

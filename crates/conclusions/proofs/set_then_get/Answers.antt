@@ -1,4 +1,5 @@
 use Rattle.std.proofs.Common.{◌≡◌, Some, ap, refl, sym, subst, ◌∙◌}
+use Rattle.std.specs.Option.{option_map}
 use Rattle.regnubas.specs.Dictionary.{IsReading}
 use Rattle.regnubas.specs.OrderedMap.{Get, OneValue}
 use Rattle.regnubas.specs.Types.{Layout}
@@ -32,6 +33,6 @@ returns-clause-read c = record {
   began = c.insert.new.pass;
   ended = c.get.new.pass;
   from = c.in_ok-insert.ensures.goes_on.later;
-  read = subst (λ found. IsReading c.insert.new.pass c.get.new.pass (Get c.args.key) (OneValue found)) (ap _ (returns-clause-found c)) c.get.ensures.says;
+  read = subst (λ found. IsReading c.insert.new.pass c.get.new.pass (Get c.args.key) (OneValue found)) (ap (option_map (λ v. v)) (returns-clause-found c)) c.get.ensures.says;
   to = same_view c.get.new.pass;
 }
