@@ -1,10 +1,9 @@
 //! Scripts, schedules and reports as texts, and the records of their runs.
-use crate::check::check;
 use arena::Mode;
 use audit::audit;
 use player::play_by;
 use record::Record;
-use report::{read_record, write_record};
+use report::read_record;
 use script::{read_schedule, read_script};
 use std::alloc::Global;
 use std::test::Fail;
@@ -27,19 +26,7 @@ pub(crate) fn record_of(alloc: Global, report: &str) -> Result<Record, Fail> {
     Ok(read_record(alloc, &mut Metered::new(report.as_bytes()))?)
 }
 
-/// The report of a record.
-pub(crate) fn report_of(alloc: Global, record: &Record) -> Result<String, Fail> {
-    let mut to = Metered::new(Vec::new(alloc));
-    write_record(alloc, record, &mut to)?;
-    Ok(String::from_utf8(to.inner).map_err(|_| "no text")?)
-}
-
-/// Whether a record is lawful, and passes the check too, which knows calls on the tree alone.
+/// Whether the audit accepts a record, which it does of lawful ones alone.
 pub(crate) fn is_right(alloc: Global, record: &Record) -> bool {
-    audit(alloc, record).is_ok() && passes(alloc, record)
-}
-
-/// Whether a record on the tree passes the check.
-pub(crate) fn passes(alloc: Global, record: &Record) -> bool {
-    record.script.layout.mode == Mode::Records || check(alloc, record).is_ok()
+    audit(alloc, record).is_ok()
 }

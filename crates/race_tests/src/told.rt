@@ -1,5 +1,5 @@
 //! What the replies of records tell, each as a bit.
-use crate::call::MapCall;
+use crate::call::call_of;
 use arena::{NodeNo, NodeWord, SettledPart, Word};
 use ordered_map::{Reply, Request};
 use record::{Answer, Finished, Line, Record, Row};
@@ -59,16 +59,22 @@ fn outcome(reply: &Reply<u64, u128>) -> u64 {
 }
 
 fn told_on_tree(record: &Record, reply: &Finished, outcome: u64) -> u64 {
-    match MapCall::of(&record.script, reply.client, reply.call) {
-        Some(MapCall(Request::Delete { .. })) => outcome,
-        Some(MapCall(Request::PopFirst)) => outcome << 4,
-        Some(call @ MapCall(Request::ReplaceIf { .. })) if call.enters(&reply.answer) => {
-            outcome << 8
-        }
-        Some(MapCall(Request::ReplaceIf { .. })) => outcome << 12,
-        Some(MapCall(Request::Successor { .. })) => outcome << 16,
-        Some(MapCall(Request::Range { .. })) => outcome << 20 | told_by_range(record, reply),
+    match call_of(&record.script, reply.client, reply.call) {
+        Some(Request::Delete { .. }) => outcome,
+        Some(Request::PopFirst) => outcome << 4,
+        Some(Request::ReplaceIf { expected, .. }) if has_found(reply, expected) => outcome << 8,
+        Some(Request::ReplaceIf { .. }) => outcome << 12,
+        Some(Request::Successor { .. }) => outcome << 16,
+        Some(Request::Range { .. }) => outcome << 20 | told_by_range(record, reply),
         _ => outcome << 24,
+    }
+}
+
+/// Whether a replacement has found the value that it expects.
+fn has_found(reply: &Finished, expected: u128) -> bool {
+    match &reply.answer {
+        Answer::Map(Reply::Value(Some(value))) => *value == expected,
+        _ => false,
     }
 }
 
