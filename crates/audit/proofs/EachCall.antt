@@ -1,90 +1,79 @@
--- What is shown of each call of the map by itself, with an arm for each: when its answer is right and
--- where it took place, and what an entry of it does. The other proofs of this crate speak of any call.
-use Rattle.std.proofs.Common.{◌≡◌, ℕ, ◌⊎◌, inl, inr, Bool, true, false, cond, List, [], ◌∷◌, is_some, Option, Some, None, refl, sym, ◌∙◌, ap, subst, arith, eq-eqb, ne_eqb}
+-- What is shown of each call of the map by itself, with an arm for edits and one for each read: when
+-- its answer is right and where it took place, and what an entry of it does. The other proofs of this
+-- crate speak of any call.
+use Rattle.std.proofs.Common.{◌≡◌, ℕ, ◌-◌, ◌<◌, ◌≤◌, ◌⊎◌, inr, Bool, true, false, cond, List, [], ◌∷◌, Option, Some, None, option_map, refl, sym, ◌∙◌, ap, subst, arith, eq-eqb, ne_eqb}
+use native.Mathlib.Decide.{ℕ_discrete}
 use Rattle.arena.specs.declared.layout.Layout.{Layout}
 use Rattle.arena.specs.declared.fault.Resource.{Resource}
 use Rattle.arena.specs.declared.number.NodeNo.{NodeNo}
 use Rattle.arena.specs.declared.number.ScxNo.{ScxNo}
+use Rattle.arena.specs.declared.step.Row.{Row as StepRow}
 use Rattle.arena.specs.History.{History, ◌⊳◌, value}
-use Rattle.arena.proofs.Lemmas.{ends_trans, ends_self}
-use Rattle.ordered_map.specs.OrderedMap.{MapCall, Edit, Insert, Delete, PopFirst, ReplaceIf, Get, Successor, Range, MapReply, OneValue, OnePair, first_pair, get, is_value, pair, pair_or_none, reply, MapEdit, AllAbove, IsRising, delete, edited, edit_key, edit_of, changes_map}
-use Rattle.ordered_map.specs.Paths.{IsAnswerAt}
+use Rattle.arena.specs.Lawful.{IsWin}
+use Rattle.arena.specs.Log.{Entry as Entered}
+use Rattle.arena.proofs.Lemmas.{ends_self}
+use Rattle.ordered_map.specs.CallRules.{need, nodes_at, nodes_there}
+use Rattle.ordered_map.specs.OrderedMap.{MapCall, Edit, Get, Successor, Range, MapReply, OneValue, MapEdit, Delete, AllAbove, IsRising, applies, changes_map, delete, edit_by, edit_key, edit_of, edit_to, edited, first_pair, get, leaves, pair, pair_or_none, reply}
+use Rattle.ordered_map.specs.Requests.{edit_in, map_request}
+use Rattle.ordered_map.specs.Runs.{IsTreeRun, Makes}
+use Rattle.ordered_map.specs.Spelled.{Spells}
+use Rattle.ordered_map.specs.TreeShape.{edit_leaf}
+use Rattle.ordered_map.specs.TreeWords.{said}
 use Rattle.ordered_map.specs.declared.pair.Pair.{Pair}
-use Rattle.script.specs.declared.call.Call.{Call}
-use Rattle.script.specs.declared.command.Command.{Command}
 use Rattle.ordered_map.specs.declared.reply.Reply.TheVariants.{Value, Pair as PairOf, Pairs, Contended, NoMemory, Full as FullOf}
 use Rattle.ordered_map.specs.declared.request.Request.{Request}
-use Rattle.ordered_map.specs.declared.request.Request.TheVariants.{Insert as InsertOf, Delete as DeleteOf, PopFirst as PopOf, ReplaceIf as ReplaceOf, Get as GetOf, Successor as SuccessorOf, Range as RangeOf}
+use Rattle.ordered_map.specs.declared.rule.Goal.{Goal}
+use Rattle.ordered_map.specs.declared.rule.Goal.TheVariants.{Key, Least}
+use Rattle.ordered_map.specs.declared.rule.Rule.{Rule}
+use Rattle.ordered_map.proofs.Lemmas.{makes_since, one_spelling, win_first, win_makes}
+use Rattle.script.specs.declared.call.Call.{Call}
+use Rattle.script.specs.declared.command.Command.{Command}
 use Rattle.script.specs.declared.command.Command.TheVariants.{Map}
 use Rattle.record.specs.declared.record.Line.{Line}
 use Rattle.record.specs.declared.record.Finished.{Finished}
 use Rattle.record.specs.declared.record.Answer.{Answer}
 use Rattle.record.specs.declared.record.Answer.TheVariants.{Map as MapAnswer}
 use Rattle.record.specs.Answers.{HasItsEntry, HasLostAllTries}
-use Rattle.record.specs.CommandRules.{IsRight, enters, MayAnswerAtOnce}
-use Rattle.record.specs.Edits.{HadAtKey, HadFirst}
+use Rattle.record.specs.CommandRules.{enters}
 use Rattle.record.specs.Linked.{linked}
-use Rattle.record.specs.MapRecord.{map_call, map_at, reply_told}
-use Rattle.record.specs.Placed.{IsPlacedChange, IsPlacedChangeOrReading, IsPlacedReading, IsPlacedOnMap}
+use Rattle.record.specs.MapRecord.{map_at, map_call, reply_told}
+use Rattle.record.specs.Placed.{IsPlacedChangeOrReading, IsPlacedOnMap}
 use Rattle.record.specs.Replies.{IsFitting}
-use Rattle.record.specs.Rules.Delete.{DeleteIsRight}
-use Rattle.record.specs.Rules.Get.{GetIsRight}
-use Rattle.record.specs.Rules.Map.{RepliesAfterStep, IsMapEntry}
-use Rattle.record.specs.Rules.PopFirst.{PopIsRight, has_popped, IsPopEntry}
-use Rattle.record.specs.Rules.ReplaceIf.{ReplaceIsRight, ReplaceTold, IsReplaceEntry}
-use Rattle.record.specs.Rules.Range.{RangeAtOnce, RangeIsRight}
-use Rattle.record.specs.Rules.Successor.{SuccessorAtOnce, SuccessorIsRight}
+use Rattle.record.specs.Rules.Edit.{EditIsRight, EditTells, HasChangedOrReplied}
+use Rattle.ordered_map.specs.Requests.{tells_change}
+use Rattle.record.specs.Rules.Map.{IsMapEntry, RepliesAfterStep, own_rules}
+use Rattle.record.specs.Shares.{HasTooFewToTry}
 use Rattle.record.specs.Turns.{history, start, won}
 use Rattle.record.proofs.Lemmas.{value_told}
 use Rattle.moments.specs.declared.places.Change.{Change}
-use Rattle.moments.specs.Entries.{HadWithin}
 use Rattle.moments.proofs.Lemmas.{ordered_placed}
-use Rattle.audit.specs.Asked.{IsAsked, IsTooFewFor, IsTooFewToTake, NeededSomething, IsToldBefore, IsValueAt, IsReadAt}
-use Rattle.audit.specs.declared.client.Client.{Client}
-use native.Mathlib.Decide.{ℕ_discrete}
-use Rattle.arena.specs.declared.step.Row.{Row as StepRow}
-use Rattle.arena.specs.Lawful.{IsWin}
-use Rattle.arena.specs.Log.{Entry as Entered}
-use Rattle.ordered_map.proofs.Lemmas.{makes_since, one_spelling, win_first, win_makes}
-use Rattle.ordered_map.specs.Requests.{map_request}
-use Rattle.ordered_map.specs.Runs.{IsTreeRun, Makes}
-use Rattle.ordered_map.specs.Spelled.{Spells}
-use Rattle.ordered_map.specs.TreeShape.{edit_leaf}
-use Rattle.ordered_map.specs.TreeWords.{said}
-use Rattle.moments.specs.Changed.{edit_on, edited_key}
+use Rattle.audit.specs.Asked.{IsAsked, IsReadAt, NeededSomething, NeededWithin}
 use Rattle.audit.specs.Edits.{IsEditBy, IsFirstLeaf, Suits}
-use Rattle.audit.proofs.MapAnswers.{IsAnswered, either_fits, neither, had_within, first_within, is_change, value_reading, value_had}
+use Rattle.audit.specs.declared.client.Client.{Client}
+use Rattle.audit.proofs.MapAnswers.{IsAnswered, either_fits, is_change, neither, spelled_within}
+use Rattle.audit.proofs.TurnMoments.{HasSpelled, answer_by, replied_by, to_change_by}
 
--- Answers that say that an update of the call has won
+-- Edits
 
--- such an answer is right, and tells a change
-record TellsChange (request : Request ℕ ℕ) (answer : Answer) : Type 0 where
-  told : MapReply
-  is : reply_told answer ≡ Some told
-  changes : changes_map (map_request request) told ≡ true
-  right : (lay : Layout) (tries c : ℕ) (now start : History) (kept : ℕ → Option History) → IsRight lay tries c now start kept (Map request) answer
+-- a call with this goal and this rule is that edit
+pub edit_is : (call : MapCall) (goal : Goal) (rule : Rule) → edit_in call ≡ Some (goal, rule) → call ≡ Edit goal rule
+edit_is (Edit own by) goal rule e =
+    let one : Some own ≡ Some goal = ap (option_map (λ (p : Goal × Rule). p.0)) e in
+    let two : Some by ≡ Some rule = ap (option_map (λ (p : Goal × Rule). p.1)) e in
+    let same : own ≡ goal = cc in
+    ap (λ (g : Goal). Edit g by) same ∙ ap (Edit goal) (let r : by ≡ rule = cc in r)
+edit_is call goal rule e = absurd (let z : None ≡ Some (goal, rule) = e in cc)
 
-is_true : {A : Type 0} → false ≡ true → A
-is_true e = absurd (cc)
+-- at a key with a value to which its rule applies it needs as many nodes as there
+pub need_at : (call : MapCall) (goal : Goal) (rule : Rule) (key : ℕ) (m : List Pair) (found : Option ℕ) → edit_in call ≡ Some (goal, rule) → goal ≡ Key key → get key m ≡ found → applies rule found ≡ true → need call m ≡ nodes_at found
+need_at call goal rule key m found is at had does = ap (λ (k : MapCall). need k m) (edit_is call goal rule is ∙ ap (λ (g : Goal). Edit g rule) at) ∙ ap (λ (o : Option ℕ). nodes_there rule (Some (key, o))) had ∙ ap (λ (b : Bool). cond b (nodes_at found) 0) does
 
-tells_change : (request : Request ℕ ℕ) (answer : Answer) → enters (Map request) answer ≡ true → TellsChange request answer
-tells_change (InsertOf key put) (MapAnswer (Value old)) e = record { told = OneValue old; is = value_told old; changes = refl; right = λ lay tries c now start kept. tt }
-tells_change (DeleteOf key) (MapAnswer (Value (Some old))) e = record { told = OneValue (Some old); is = refl; changes = refl; right = λ lay tries c now start kept. tt }
-tells_change PopOf (MapAnswer (PairOf (Some p))) e = record { told = OnePair (pair p.0 p.1); is = refl; changes = refl; right = λ lay tries c now start kept. tt }
-tells_change (ReplaceOf key expected put) (MapAnswer (Value told)) e = record {
-  told = OneValue told;
-  is = value_told told;
-  changes = ap (λ (b : Bool). is_some (cond b (Some (Insert key put)) None)) e;
-  right = λ lay tries c now start kept. subst (λ (b : Bool). ReplaceTold b lay now start key told) (sym e) tt;
-}
-tells_change request answer e = is_true e
+-- so it needed something
+pub needed_any : (calls : List Call) (lines : List Line) (r : Finished) (call : MapCall) (nodes : ℕ) → 0 < nodes → NeededWithin calls lines call nodes r → NeededSomething calls lines call r
+needed_any calls lines r (Edit goal rule) nodes some x = (nodes, some, x)
+needed_any calls lines r call nodes some x = tt
 
--- the answer that tells this of a key
-abbrev of_value : Option ℕ → Answer
-of_value v = MapAnswer (Value v)
-
-some_call : (a b : MapCall) → Some a ≡ Some b → a ≡ b
-some_call a b q = cc
+-- Entries
 
 -- where an update of the call has won, its answer says so
 won_so : (b : Bool) (turn : ℕ) → HasItsEntry b (Some turn) → b ≡ true
@@ -96,250 +85,186 @@ unwon_so : (b : Bool) → HasItsEntry b None → b ≡ false
 unwon_so false x = refl
 unwon_so true x = absurd x
 
--- a refusal says of no update that it has won
+-- an answer says of no update that it has won
+unwon_by : (has : Option ℕ) → HasItsEntry false has → has ≡ None
+unwon_by None x = refl
+unwon_by (Some turn) x = absurd x
+
+-- a refusal does not
 pub refused_unwon : (command : Command) (call : MapCall) (answer : Answer) (has : Option ℕ) → map_call (Some command) ≡ Some call → reply_told answer ≡ None → HasItsEntry (enters command answer) has → has ≡ None
-refused_unwon (Map request) call answer None of_map none x = refl
-refused_unwon (Map request) call answer (Some turn) of_map none x =
-    let y = tells_change request answer (won_so (enters (Map request) answer) turn x) in
-    absurd (let z : None ≡ Some y.told = sym none ∙ y.is in cc)
+refused_unwon (Map request) call answer has of_map none x = unwon_by has (subst (λ (o : Option MapReply). HasItsEntry (tells_change (map_request request) o) has) none x)
 refused_unwon command call answer has of_map none x = absurd (let z : None ≡ Some call = of_map in cc)
 
--- What is told of a key
+-- Answers
 
-some_key : (a b : ℕ) → Some a ≡ Some b → a ≡ b
-some_key a b e = cc
+-- the call may give this answer, in place of a first step or after one
+abbrev pub Fits : MapCall → Answer → Type 0
+Fits call answer = (own_rules call).IsAtOnce answer ⊎ RepliesAfterStep call answer
 
--- a call that names the key which it may change tells what that has
-pub names_key : (call : MapCall) (key : ℕ) (m : List Pair) → edited_key (Some call) ≡ Some key → reply call m ≡ OneValue (get key m)
-names_key (Edit e) key m is = ap (λ (k : ℕ). OneValue (get k m)) (some_key (edit_key e) key is)
-names_key (ReplaceIf own expected put) key m is = ap (λ (k : ℕ). OneValue (get k m)) (some_key own key is)
-names_key PopFirst key m is = absurd (let z : None ≡ Some key = is in cc)
-names_key (Get own) key m is = absurd (let z : None ≡ Some key = is in cc)
-names_key (Successor own) key m is = absurd (let z : None ≡ Some key = is in cc)
-names_key (Range low high most) key m is = absurd (let z : None ≡ Some key = is in cc)
+module _ (lay : Layout) (tries c : ℕ) (now start : History) (kept : ℕ → Option History) where
+  -- the answer to a call is right
+  abbrev pub RightOf : MapCall → Answer → Type 0
+  RightOf call = (own_rules call).IsRight lay tries c now start kept
 
--- Readings and refusals that fit
+  -- an edit that tells something has changed it, or found it
+  edit_right : (call : MapCall) (told : MapReply) (answer : Answer) → reply_told answer ≡ Some told → HasChangedOrReplied (changes_map call told) lay now start call told → EditIsRight call lay tries c now start kept answer
+  edit_right call told (MapAnswer (Value v)) e had = subst (EditTells call lay now start) (sym e) had
+  edit_right call told (MapAnswer (PairOf p)) e had = subst (EditTells call lay now start) (sym e) had
+  edit_right call told (MapAnswer (Pairs ps)) e had = subst (EditTells call lay now start) (sym e) had
+  edit_right call told answer e had = absurd (let z : None ≡ Some told = e in cc)
 
--- an answer that tells something of an ordered read is right
-successor_right : (lay : Layout) (tries c key : ℕ) (now start : History) (kept : ℕ → Option History) (told : MapReply) (answer : Answer) → reply_told answer ≡ Some told → SuccessorAtOnce answer ⊎ RepliesAfterStep (Successor key) answer → SuccessorIsRight lay tries c now start kept answer
-successor_right lay tries c key now start kept told (MapAnswer (PairOf p)) e fits = tt
-successor_right lay tries c key now start kept told (MapAnswer (Value v)) e fits = neither fits
-successor_right lay tries c key now start kept told (MapAnswer (Pairs ps)) e fits = neither fits
-successor_right lay tries c key now start kept told answer e fits = absurd (let z : None ≡ Some told = e in cc)
+  -- a call whose answer says that it has changed the map
+  change_right : (call : MapCall) (told : MapReply) (answer : Answer) → reply_told answer ≡ Some told → changes_map call told ≡ true → RightOf call answer
+  change_right (Edit goal rule) told answer e changes = edit_right (Edit goal rule) told answer e (subst (λ (b : Bool). HasChangedOrReplied b lay now start (Edit goal rule) told) (sym changes) tt)
+  change_right call told answer e changes = absurd (let z : false ≡ true = changes in cc)
 
-range_right : (lay : Layout) (tries c low high most : ℕ) (now start : History) (kept : ℕ → Option History) (told : MapReply) (answer : Answer) → reply_told answer ≡ Some told → RangeAtOnce low high most answer ⊎ RepliesAfterStep (Range low high most) answer → RangeIsRight lay tries c now start kept answer
-range_right lay tries c low high most now start kept told (MapAnswer (Pairs ps)) e fits = tt
-range_right lay tries c low high most now start kept told (MapAnswer (Value v)) e fits = neither fits
-range_right lay tries c low high most now start kept told (MapAnswer (PairOf p)) e fits = neither fits
-range_right lay tries c low high most now start kept told answer e fits = absurd (let z : None ≡ Some told = e in cc)
+  get_right : (key : ℕ) (m : List Pair) (answer : Answer) → reply_told answer ≡ Some (OneValue (get key m)) → Fits (Get key) answer → HasSpelled lay now start m → RightOf (Get key) answer
+  get_right key m (MapAnswer (Value v)) e fits y = answer_by lay now start m y key v (let z : Some (OneValue v) ≡ Some (OneValue (get key m)) = sym (value_told v) ∙ e in cc)
+  get_right key m (MapAnswer (PairOf p)) e fits y = neither fits
+  get_right key m (MapAnswer (Pairs ps)) e fits y = neither fits
+  get_right key m answer e fits y = absurd (let z : None ≡ Some (OneValue (get key m)) = e in cc)
 
--- a refusal for want of memory that fits is right
-pub no_memory_right : (lay : Layout) (tries c : ℕ) (now start : History) (kept : ℕ → Option History) (lines : List Line) (command : Command) (call : MapCall) → map_call (Some command) ≡ Some call → IsFitting lines command (MapAnswer NoMemory) → IsRight lay tries c now start kept command (MapAnswer NoMemory)
-no_memory_right lay tries c now start kept lines (Map (SuccessorOf key)) call of_map fits = tt
-no_memory_right lay tries c now start kept lines (Map (RangeOf low high most)) call of_map fits = tt
-no_memory_right lay tries c now start kept lines (Map (InsertOf key value)) call of_map fits = neither (either_fits lines (Map (InsertOf key value)) (MapAnswer NoMemory) fits)
-no_memory_right lay tries c now start kept lines (Map (DeleteOf key)) call of_map fits = neither (either_fits lines (Map (DeleteOf key)) (MapAnswer NoMemory) fits)
-no_memory_right lay tries c now start kept lines (Map PopOf) call of_map fits = neither (either_fits lines (Map PopOf) (MapAnswer NoMemory) fits)
-no_memory_right lay tries c now start kept lines (Map (ReplaceOf key expected value)) call of_map fits = neither (either_fits lines (Map (ReplaceOf key expected value)) (MapAnswer NoMemory) fits)
-no_memory_right lay tries c now start kept lines (Map (GetOf key)) call of_map fits = neither (either_fits lines (Map (GetOf key)) (MapAnswer NoMemory) fits)
-no_memory_right lay tries c now start kept lines command call of_map fits = absurd (let z : None ≡ Some call = of_map in cc)
+  successor_right : (key : ℕ) (told : MapReply) (answer : Answer) → reply_told answer ≡ Some told → Fits (Successor key) answer → RightOf (Successor key) answer
+  successor_right key told (MapAnswer (PairOf p)) e fits = tt
+  successor_right key told (MapAnswer (Value v)) e fits = neither fits
+  successor_right key told (MapAnswer (Pairs ps)) e fits = neither fits
+  successor_right key told answer e fits = absurd (let z : None ≡ Some told = e in cc)
 
-module _ (calls : List Call) (lines : List Line) (r : Finished) where
-  -- a replacement has changed the map if it tells the value that it expects
-  abbrev IsPlacedReplacement : ℕ → ℕ → ℕ → Bool → Type 0
-  IsPlacedReplacement key expected value b = IsPlacedChangeOrReading (is_some (cond b (Some (Insert key value)) None)) calls lines (ReplaceIf key expected value) r
+  range_right : (low high most : ℕ) (told : MapReply) (answer : Answer) → reply_told answer ≡ Some told → Fits (Range low high most) answer → RightOf (Range low high most) answer
+  range_right low high most told (MapAnswer (Pairs ps)) e fits = tt
+  range_right low high most told (MapAnswer (Value v)) e fits = neither fits
+  range_right low high most told (MapAnswer (PairOf p)) e fits = neither fits
+  range_right low high most told answer e fits = absurd (let z : None ≡ Some told = e in cc)
 
-  kept_placed : (key expected value : ℕ) (told : Option ℕ) → is_value expected told ≡ false → IsPlacedReading calls lines (ReplaceIf key expected value) r → IsPlacedOnMap (reply_told (of_value told)) calls lines (ReplaceIf key expected value) r
-  kept_placed key expected value (Some told) e x = subst (IsPlacedReplacement key expected value) (sym e) x
-  kept_placed key expected value None e x = x
+  -- a call that tells what the words said, and that it has changed nothing
+  read_right : (call : MapCall) (m : List Pair) (answer : Answer) → reply_told answer ≡ Some (reply call m) → changes_map call (reply call m) ≡ false → Fits call answer → (((own_rules call).IsAtOnce answer → ⊥) → HasSpelled lay now start m) → RightOf call answer
+  read_right (Edit goal rule) m answer e unchanged fits there =
+      let call : MapCall = Edit goal rule in
+      edit_right call (reply call m) answer e (subst (λ (b : Bool). HasChangedOrReplied b lay now start call (reply call m)) (sym unchanged) (replied_by lay now start m (there (λ z. z)) call (reply call m) refl))
+  read_right (Get key) m answer e unchanged fits there = get_right key m answer e fits (there (λ z. z))
+  read_right (Successor key) m answer e unchanged fits there = successor_right key (reply (Successor key) m) answer e fits
+  read_right (Range low high most) m answer e unchanged fits there = range_right low high most (reply (Range low high most) m) answer e fits
 
--- what a pop tells that has taken out nothing
-pop_read : (told : MapReply) (answer : Answer) → reply_told answer ≡ Some told → ⊥ ⊎ RepliesAfterStep PopFirst answer → has_popped answer ≡ false → told ≡ OneValue None
-pop_read told (MapAnswer (PairOf None)) e fits n = let z : Some (OneValue None) ≡ Some told = e in cc
-pop_read told (MapAnswer (PairOf (Some p))) e fits n = absurd (let z : true ≡ false = n in cc)
-pop_read told (MapAnswer (Value v)) e fits n = neither fits
-pop_read told (MapAnswer (Pairs ps)) e fits n = neither fits
-pop_read told answer e fits n = absurd (let z : None ≡ Some told = e in cc)
+  -- a refusal for want of memory
+  pub memory_right : (call : MapCall) → Fits call (MapAnswer NoMemory) → RightOf call (MapAnswer NoMemory)
+  memory_right (Edit (Key key) rule) fits = neither fits
+  memory_right (Edit Least rule) fits = neither fits
+  memory_right (Get key) fits = neither fits
+  memory_right (Successor key) fits = tt
+  memory_right (Range low high most) fits = tt
 
--- is right, if the map had no pair
-pop_read_right : (lay : Layout) (tries c : ℕ) (now start : History) (kept : ℕ → Option History) (told : MapReply) (answer : Answer) → reply_told answer ≡ Some told → ⊥ ⊎ RepliesAfterStep PopFirst answer → HadFirst lay now start None → PopIsRight lay tries c now start kept answer
-pop_read_right lay tries c now start kept told (MapAnswer (PairOf None)) e fits had = had
-pop_read_right lay tries c now start kept told (MapAnswer (PairOf (Some p))) e fits had = tt
-pop_read_right lay tries c now start kept told (MapAnswer (Value v)) e fits had = neither fits
-pop_read_right lay tries c now start kept told (MapAnswer (Pairs ps)) e fits had = neither fits
-pop_read_right lay tries c now start kept told answer e fits had = absurd (let z : None ≡ Some told = e in cc)
+module _ (lay : Layout) (tries : ℕ) (calls : List Call) (lines : List Line) (changed : List Change) (client : Client) (request : Request ℕ ℕ) (r : Finished) (x : IsAsked lay tries calls lines changed client (Map request) r) where
+  abbrev now : History
+  now = history lay.mode lines
 
-no_pair : (o : Option Pair) → pair_or_none o ≡ OneValue None → o ≡ None
-no_pair None e = refl
-no_pair (Some p) e = absurd (cc)
+  abbrev begun : History
+  begun = start lay.mode lines r.client.0
 
-module _ (lay : Layout) (tries : ℕ) (calls : List Call) (lines : List Line) (changed : List Change) (client : Client) (command : Command) (r : Finished) (x : IsAsked lay tries calls lines changed client command r) where
-  abbrev RightIs : Command → Answer → Type 0
-  RightIs k answer = IsRight lay tries r.client.0 (history lay.mode lines) (start lay.mode lines r.client.0) (linked calls lay.mode lines r.client.0) k answer
+  abbrev RightBy : MapCall → Answer → Type 0
+  RightBy call = RightOf lay tries r.client.0 now begun (linked calls lay.mode lines r.client.0) call
 
-  had_at : (MayAnswerAtOnce command r.answer → ⊥) → (key : ℕ) (value : Option ℕ) → HadWithin calls lines key value r.begin r.end → HadAtKey lay (history lay.mode lines) (start lay.mode lines r.client.0) key value
-  had_at never key value h = had_within lay tries calls lines changed client command r x never key value h
+  -- the words spelled the map after each turn of a call that answers at no idle one
+  spelled_by : (call : MapCall) → map_request request ≡ call → ((own_rules call).IsAtOnce r.answer → ⊥) → (m : ℕ) → r.begin ≤ m → m ≤ r.end → HasSpelled lay now begun (map_at calls lines m)
+  spelled_by call is never = spelled_within lay tries calls lines changed client (Map request) r x (λ may. never (subst (λ (k : MapCall). (own_rules k).IsAtOnce r.answer) is may))
+
+  contended_by : (call : MapCall) (node : NodeNo) (scx : ScxNo) → map_request request ≡ call → Fits call (MapAnswer (Contended node scx)) → HasLostAllTries lay tries r.client.0 now begun node.0 scx.0 → NeededSomething calls lines call r → RightBy call (MapAnswer (Contended node scx))
+  contended_by (Edit goal rule) node scx is fits lost (nodes, some, (m, from, to, needs)) = (nodes, to_change_by lay now begun (map_at calls lines m) (spelled_by (Edit goal rule) is (λ z. z) m from to) (Edit goal rule) nodes some needs, lost)
+  contended_by (Get key) node scx is fits lost needed = neither fits
+  contended_by (Successor key) node scx is fits lost needed = lost
+  contended_by (Range low high most) node scx is fits lost needed = lost
 
   -- one that fits is right where all tries were lost, and the call needed something
-  pub contended_right : (request : Request ℕ ℕ) (node : NodeNo) (scx : ScxNo) → command ≡ Map request → r.answer ≡ MapAnswer (Contended node scx) → HasLostAllTries lay tries r.client.0 (history lay.mode lines) (start lay.mode lines r.client.0) node.0 scx.0 → NeededSomething calls lines request r → IsRight lay tries r.client.0 (history lay.mode lines) (start lay.mode lines r.client.0) (linked calls lay.mode lines r.client.0) (Map request) (MapAnswer (Contended node scx))
-  contended_right (InsertOf key value) node scx is answers lost needed = lost
-  contended_right (DeleteOf key) node scx is answers lost needed = (needed.0, had_at (λ may. subst (λ (k : Command). MayAnswerAtOnce k r.answer) is may) key (Some needed.0) needed.1, lost)
-  contended_right PopOf node scx is answers lost needed = let had = needed.1 in (needed.0, first_within lay tries calls lines changed client command r x (Some needed.0) had.0 (λ may. subst (λ (k : Command). MayAnswerAtOnce k r.answer) is may) had.1 had.2 had.3, lost)
-  contended_right (ReplaceOf key expected value) node scx is answers lost needed = (had_at (λ may. subst (λ (k : Command). MayAnswerAtOnce k r.answer) is may) key (Some expected) needed, lost)
-  contended_right (SuccessorOf key) node scx is answers lost needed = lost
-  contended_right (RangeOf low high most) node scx is answers lost needed = lost
-  contended_right (GetOf key) node scx is answers lost needed = neither (either_fits lines (Map (GetOf key)) (MapAnswer (Contended node scx)) (subst (λ (k : Command). IsFitting lines k (MapAnswer (Contended node scx))) is (subst (IsFitting lines command) answers x.fits)))
+  pub contended_right : (node : NodeNo) (scx : ScxNo) → r.answer ≡ MapAnswer (Contended node scx) → HasLostAllTries lay tries r.client.0 now begun node.0 scx.0 → NeededSomething calls lines (map_request request) r → RightBy (map_request request) (MapAnswer (Contended node scx))
+  contended_right node scx answers lost needed = contended_by (map_request request) node scx refl (either_fits lines (Map request) (MapAnswer (Contended node scx)) (subst (IsFitting lines (Map request)) answers x.fits)) lost needed
 
-  -- a share that has too little for what the map had
+  full_by : (call : MapCall) (nodes : ℕ) (what : Resource) (left : ℕ) → map_request request ≡ call → 0 < nodes → NeededWithin calls lines call nodes r → HasTooFewToTry lay r.client.0 now begun nodes what left → RightBy call (MapAnswer (FullOf record { what = what; left = left }))
+  full_by (Edit goal rule) nodes what left is some (m, from, to, needs) few = (nodes, to_change_by lay now begun (map_at calls lines m) (spelled_by (Edit goal rule) is (λ z. z) m from to) (Edit goal rule) nodes some needs, few)
+  full_by call nodes what left is some (m, from, to, needs) few = absurd (let none : 0 ≡ nodes = needs in omega (none, some, arith))
 
-  pub right_full_insert : (key value : ℕ) (old : Option ℕ) (what : Resource) (left : ℕ) → command ≡ Map (InsertOf key value) → ((MayAnswerAtOnce command r.answer → ⊥) → IsTooFewFor lay lines r key old what left) → RightIs command (MapAnswer (FullOf record { what = what; left = left }))
-  right_full_insert key value old what left is few =
-      let y = few (λ may. subst (λ (k : Command). MayAnswerAtOnce k r.answer) is may) in
-      subst (λ (k : Command). RightIs k (MapAnswer (FullOf record { what = what; left = left }))) (sym is) (old, y.0, y.1)
+  -- one of a share that has too little for what the call needed
+  pub full_right : (nodes : ℕ) (what : Resource) (left : ℕ) → 0 < nodes → NeededWithin calls lines (map_request request) nodes r → HasTooFewToTry lay r.client.0 now begun nodes what left → RightBy (map_request request) (MapAnswer (FullOf record { what = what; left = left }))
+  full_right nodes what left = full_by (map_request request) nodes what left refl
 
-  pub right_full_old_insert : (key value : ℕ) (what : Resource) (left : ℕ) → command ≡ Map (InsertOf key value) → ((MayAnswerAtOnce command r.answer → ⊥) → (v : ℕ) × IsTooFewFor lay lines r key (Some v) what left) → RightIs command (MapAnswer (FullOf record { what = what; left = left }))
-  right_full_old_insert key value what left is few =
-      let y = few (λ may. subst (λ (k : Command). MayAnswerAtOnce k r.answer) is may) in
-      subst (λ (k : Command). RightIs k (MapAnswer (FullOf record { what = what; left = left }))) (sym is) (Some y.0, y.1.0, y.1.1)
-
-  pub right_full_delete : (key : ℕ) (what : Resource) (left : ℕ) → command ≡ Map (DeleteOf key) → ((MayAnswerAtOnce command r.answer → ⊥) → (v : ℕ) × IsTooFewFor lay lines r key (Some v) what left) → RightIs command (MapAnswer (FullOf record { what = what; left = left }))
-  right_full_delete key what left is few =
-      let y = few (λ may. subst (λ (k : Command). MayAnswerAtOnce k r.answer) is may) in
-      subst (λ (k : Command). RightIs k (MapAnswer (FullOf record { what = what; left = left }))) (sym is) (y.0, y.1.0, y.1.1)
-
-  pub right_full_pop : (what : Resource) (left : ℕ) → command ≡ Map PopOf → ((MayAnswerAtOnce command r.answer → ⊥) → (first : Pair) × IsTooFewToTake lay lines r first what left) → RightIs command (MapAnswer (FullOf record { what = what; left = left }))
-  right_full_pop what left is few =
-      let y = few (λ may. subst (λ (k : Command). MayAnswerAtOnce k r.answer) is may) in
-      subst (λ (k : Command). RightIs k (MapAnswer (FullOf record { what = what; left = left }))) (sym is) (y.0, y.1.0, y.1.1)
-
-  pub right_full_replace : (key expected value : ℕ) (what : Resource) (left : ℕ) → command ≡ Map (ReplaceOf key expected value) → ((MayAnswerAtOnce command r.answer → ⊥) → IsTooFewFor lay lines r key (Some expected) what left) → RightIs command (MapAnswer (FullOf record { what = what; left = left }))
-  right_full_replace key expected value what left is few =
-      let y = few (λ may. subst (λ (k : Command). MayAnswerAtOnce k r.answer) is may) in
-      subst (λ (k : Command). RightIs k (MapAnswer (FullOf record { what = what; left = left }))) (sym is) y
-
-module _ (lay : Layout) (tries : ℕ) (calls : List Call) (lines : List Line) (changed : List Change) (client : Client) (r : Finished) where
   -- a call whose update has won
-  pub change_answered : (command : Command) (turn : ℕ) → IsAsked lay tries calls lines changed client command r → client.won ≡ Some turn → r.moment ≡ Some turn → IsToldBefore calls lines command r.answer turn → IsAnswered lay tries calls lines r command
-  change_answered (Map request) turn x has moment t =
+  pub change_answered : (turn : ℕ) → client.won ≡ Some turn → r.moment ≡ Some turn → reply_told r.answer ≡ Some (reply (map_request request) (map_at calls lines (turn - 1))) → IsAnswered lay tries calls lines r (Map request)
+  change_answered turn has moment told =
+      let call : MapCall = map_request request in
+      let gives : MapReply = reply call (map_at calls lines (turn - 1)) in
       let it_won : won lay lines r.client.0 ≡ Some turn = sym x.has_won ∙ has in
-      let y = tells_change request r.answer (won_so (enters (Map request) r.answer) turn (subst (HasItsEntry (enters (Map request) r.answer)) it_won x.entry)) in
-      let same : t.call ≡ map_request request = some_call t.call (map_request request) (sym t.is) in
-      let change : IsPlacedChange calls lines (map_request request) r = subst (λ (m : MapCall). IsPlacedChange calls lines m r) same (is_change lay tries calls lines changed client (Map request) r x turn t.call it_won moment t.told) in
+      let changes : changes_map call gives ≡ true = won_so (changes_map call gives) turn (subst (λ (o : Option MapReply). HasItsEntry (tells_change call o) (Some turn)) told (subst (HasItsEntry (tells_change call (reply_told r.answer))) it_won x.entry)) in
       record {
-        right = y.right lay tries r.client.0 (history lay.mode lines) (start lay.mode lines r.client.0) (linked calls lay.mode lines r.client.0);
-        placed = subst (λ (o : Option MapReply). IsPlacedOnMap o calls lines (map_request request) r) (sym y.is) (subst (λ (b : Bool). IsPlacedChangeOrReading b calls lines (map_request request) r) (sym y.changes) change);
+        right = change_right lay tries r.client.0 now begun (linked calls lay.mode lines r.client.0) call gives r.answer told changes;
+        placed = subst (λ (o : Option MapReply). IsPlacedOnMap o calls lines call r) (sym told) (subst (λ (b : Bool). IsPlacedChangeOrReading b calls lines call r) (sym changes) (is_change lay tries calls lines changed client (Map request) r x turn call it_won moment told));
       }
-  change_answered command turn x has moment t = absurd (let z : None ≡ Some t.call = t.is in cc)
 
-  -- a get
-  get_answered : (key : ℕ) → IsAsked lay tries calls lines changed client (Map (GetOf key)) r → won lay lines r.client.0 ≡ None → IsValueAt calls lines key r → IsAnswered lay tries calls lines r (Map (GetOf key))
-  get_answered key x none v =
-      let had = value_had lay tries calls lines changed client (Map (GetOf key)) r x key (λ e. e) v in
-      let at = had.3 in
-      let answer : IsAnswerAt lay (history lay.mode lines) (start lay.mode lines r.client.0) key v.told = record { moment = at.moment; within = at.within; since = ends_trans at.moment (had.0 ⊳ had.1) (start lay.mode lines r.client.0) at.since (inr had.2); map = at.map; spelled = at.spelled; gives = at.gives } in
+  -- one that has only read
+  pub read_answered : client.won ≡ None → IsReadAt calls lines (map_request request) r → IsAnswered lay tries calls lines r (Map request)
+  read_answered has a =
+      let call : MapCall = map_request request in
+      let m : List Pair = map_at calls lines a.turn in
+      let told : reply_told r.answer ≡ Some (reply call m) = a.greatest.holds in
+      let none : won lay lines r.client.0 ≡ None = sym x.has_won ∙ has in
+      let unchanged : changes_map call (reply call m) ≡ false = unwon_so (changes_map call (reply call m)) (subst (λ (o : Option MapReply). HasItsEntry (tells_change call o) None) told (subst (HasItsEntry (tells_change call (reply_told r.answer))) none x.entry)) in
       record {
-        right = subst (λ (a : Answer). GetIsRight key lay r.client.0 (history lay.mode lines) (start lay.mode lines r.client.0) (linked calls lay.mode lines r.client.0) a) (sym v.answers) answer;
-        placed = subst (λ (a : Answer). IsPlacedOnMap (reply_told a) calls lines (Get key) r) (sym v.answers) (value_reading lay tries calls lines changed client (Map (GetOf key)) r x key (Get key) (λ m. refl) none v);
+        right = read_right lay tries r.client.0 now begun (linked calls lay.mode lines r.client.0) call m r.answer told unchanged (either_fits lines (Map request) r.answer x.fits) (λ never. spelled_by call refl never a.turn a.greatest.from a.greatest.to);
+        placed = subst (λ (o : Option MapReply). IsPlacedOnMap o calls lines call r) (sym told) (subst (λ (b : Bool). IsPlacedChangeOrReading b calls lines call r) (sym unchanged) (ordered_placed lay tries calls lines r call a.turn x.in_order none x.number a.moment a.greatest));
       }
 
-  -- a delete that finds nothing
-  absent_answered : (key : ℕ) (told : Option ℕ) (v : IsValueAt calls lines key r) → v.told ≡ told → IsAsked lay tries calls lines changed client (Map (DeleteOf key)) r → won lay lines r.client.0 ≡ None → IsAnswered lay tries calls lines r (Map (DeleteOf key))
-  absent_answered key (Some old) v some x none =
-      let answers : r.answer ≡ MapAnswer (Value (Some old)) = v.answers ∙ ap of_value some in
-      absurd (let z : HasItsEntry true None = rw (answers, none) at x.entry in z)
-  absent_answered key None v nothing x none =
-      let answers : r.answer ≡ MapAnswer (Value None) = v.answers ∙ ap of_value nothing in
-      let had = value_had lay tries calls lines changed client (Map (DeleteOf key)) r x key (λ e. e) v in
-      record {
-        right = subst (λ (a : Answer). DeleteIsRight key lay tries r.client.0 (history lay.mode lines) (start lay.mode lines r.client.0) (linked calls lay.mode lines r.client.0) a) (sym answers) (subst (λ (o : Option ℕ). HadAtKey lay (history lay.mode lines) (start lay.mode lines r.client.0) key o) nothing had);
-        placed = subst (λ (a : Answer). IsPlacedOnMap (reply_told a) calls lines (Edit (Delete key)) r) (sym answers) (value_reading lay tries calls lines changed client (Map (DeleteOf key)) r x key (Edit (Delete key)) (λ m. refl) none v);
-      }
+-- What an entry does
 
-  -- a replacement that finds another value, or none
-  pub kept_answered : (command : Command) (key expected value : ℕ) → command ≡ Map (ReplaceOf key expected value) → IsAsked lay tries calls lines changed client command r → won lay lines r.client.0 ≡ None → IsValueAt calls lines key r → IsAnswered lay tries calls lines r command
-  kept_answered command key expected value e y none v = subst (λ k. IsAnswered lay tries calls lines r k) (sym e) answered
-    where
-      own : Command
-      own = Map (ReplaceOf key expected value)
+-- the first pair of a map is what it has at that key
+first_had : (m : List Pair) (key v : ℕ) (found : Option ℕ) → first_pair m ≡ Some (pair key v) → get key m ≡ found → found ≡ Some v
+first_had [] key v found first is = absurd (let none : None ≡ Some (pair key v) = first in cc)
+first_had (p ∷ ps) key v found first is =
+    let same : p ≡ pair key v = cc in
+    sym is ∙ subst (λ (q : Pair). get key (q ∷ ps) ≡ Some v) (sym same) (ap (λ (b : Bool). cond b (Some v) (get key ps)) (eq-eqb key key refl))
 
-      call : MapCall
-      call = ReplaceIf key expected value
+-- a rule makes its edit where it applies
+applied : (rule : Rule) (key : ℕ) (found : Option ℕ) → applies rule found ≡ true → edit_by rule key found ≡ Some (edit_to key (leaves rule))
+applied rule key found is = ap (λ (b : Bool). cond b (Some (edit_to key (leaves rule))) None) is
 
-      x : IsAsked lay tries calls lines changed client own r
-      x = subst (λ k. IsAsked lay tries calls lines changed client k r) e y
+-- and no other one
+made_by : (rule : Rule) (key : ℕ) (found : Option ℕ) (edit : MapEdit) → edit_by rule key found ≡ Some edit → edit ≡ edit_to key (leaves rule)
+made_by rule key found edit = go (applies rule found)
+  where
+    go : (b : Bool) → cond b (Some (edit_to key (leaves rule))) None ≡ Some edit → edit ≡ edit_to key (leaves rule)
+    go true e = let same : edit_to key (leaves rule) ≡ edit = cc in sym same
+    go false e = absurd (let none : None ≡ Some edit = e in cc)
 
-      other : is_value expected v.told ≡ false
-      other = unwon_so (is_value expected v.told) (let z : HasItsEntry (is_value expected v.told) None = rw (v.answers, none) at x.entry in z)
-
-      had : HadAtKey lay (history lay.mode lines) (start lay.mode lines r.client.0) key v.told
-      had = value_had lay tries calls lines changed client own r x key (λ z. z) v
-
-      answered : IsAnswered lay tries calls lines r own
-      answered = record {
-        right = subst (λ (a : Answer). ReplaceIsRight key expected lay tries r.client.0 (history lay.mode lines) (start lay.mode lines r.client.0) (linked calls lay.mode lines r.client.0) a) (sym v.answers) (subst (λ (b : Bool). ReplaceTold b lay (history lay.mode lines) (start lay.mode lines r.client.0) key v.told) (sym other) had);
-        placed = subst (λ (a : Answer). IsPlacedOnMap (reply_told a) calls lines call r) (sym v.answers) (kept_placed calls lines r key expected value v.told other (value_reading lay tries calls lines changed client own r x key call (λ m. refl) none v));
-      }
-
-  -- either of them
-  pub value_answered : (command : Command) (key : ℕ) → (command ≡ Map (GetOf key)) ⊎ (command ≡ Map (DeleteOf key)) → IsAsked lay tries calls lines changed client command r → won lay lines r.client.0 ≡ None → IsValueAt calls lines key r → IsAnswered lay tries calls lines r command
-  value_answered command key (inl e) x none v = subst (λ k. IsAnswered lay tries calls lines r k) (sym e) (get_answered key (subst (λ k. IsAsked lay tries calls lines changed client k r) e x) none v)
-  value_answered command key (inr e) x none v = subst (λ k. IsAnswered lay tries calls lines r k) (sym e) (absent_answered key v.told v refl (subst (λ k. IsAsked lay tries calls lines changed client k r) e x) none)
-
-  -- an ordered read
-  pub read_answered : (command : Command) → IsAsked lay tries calls lines changed client command r → won lay lines r.client.0 ≡ None → IsReadAt calls lines command r → IsAnswered lay tries calls lines r command
-  read_answered (Map (SuccessorOf key)) x none a =
-      let same : Successor key ≡ a.call = (let z : Some (Successor key) ≡ Some a.call = a.is in cc) in
-      let reading = subst (λ (m : MapCall). IsPlacedReading calls lines m r) (sym same) (ordered_placed lay tries calls lines r a.call a.turn x.in_order none x.number a.moment a.greatest) in
-      record {
-        right = successor_right lay tries r.client.0 key (history lay.mode lines) (start lay.mode lines r.client.0) (linked calls lay.mode lines r.client.0) (reply a.call (map_at calls lines a.turn)) r.answer a.greatest.holds (either_fits lines (Map (SuccessorOf key)) r.answer x.fits);
-        placed = subst (λ (t : Option MapReply). IsPlacedOnMap t calls lines (Successor key) r) (sym a.greatest.holds) reading;
-      }
-  read_answered (Map (RangeOf low high most)) x none a =
-      let same : Range low high most ≡ a.call = (let z : Some (Range low high most) ≡ Some a.call = a.is in cc) in
-      let reading = subst (λ (m : MapCall). IsPlacedReading calls lines m r) (sym same) (ordered_placed lay tries calls lines r a.call a.turn x.in_order none x.number a.moment a.greatest) in
-      record {
-        right = range_right lay tries r.client.0 low high most (history lay.mode lines) (start lay.mode lines r.client.0) (linked calls lay.mode lines r.client.0) (reply a.call (map_at calls lines a.turn)) r.answer a.greatest.holds (either_fits lines (Map (RangeOf low high most)) r.answer x.fits);
-        placed = subst (λ (t : Option MapReply). IsPlacedOnMap t calls lines (Range low high most) r) (sym a.greatest.holds) reading;
-      }
-  read_answered (Map PopOf) x none a =
-      let same : PopFirst ≡ a.call = (let z : Some PopFirst ≡ Some a.call = a.is in cc) in
-      let m = map_at calls lines a.turn in
-      let fits = either_fits lines (Map PopOf) r.answer x.fits in
-      let unpopped = unwon_so (has_popped r.answer) (subst (HasItsEntry (has_popped r.answer)) none x.entry) in
-      let told : reply a.call m ≡ OneValue None = pop_read (reply a.call m) r.answer a.greatest.holds fits unpopped in
-      let empty : first_pair m ≡ None = no_pair (first_pair m) (subst (λ (k : MapCall). reply k m ≡ OneValue None) (sym same) told) in
-      let had = first_within lay tries calls lines changed client (Map PopOf) r x None a.turn (λ z. z) a.greatest.from a.greatest.to empty in
-      let reading = subst (λ (k : MapCall). IsPlacedReading calls lines k r) (sym same) (ordered_placed lay tries calls lines r a.call a.turn x.in_order none x.number a.moment a.greatest) in
-      record {
-        right = pop_read_right lay tries r.client.0 (history lay.mode lines) (start lay.mode lines r.client.0) (linked calls lay.mode lines r.client.0) (reply a.call m) r.answer a.greatest.holds fits had;
-        placed = subst (λ (t : Option MapReply). IsPlacedOnMap t calls lines PopFirst r) (sym (a.greatest.holds ∙ ap (λ (t : MapReply). Some t) told)) reading;
-      }
-  read_answered command x none a = absurd a.ordered
-
--- Entries
+key_left : (key : ℕ) (left : Option ℕ) → edit_key (edit_to key left) ≡ key
+key_left key None = refl
+key_left key (Some v) = refl
 
 -- an entry of it is one that a call with its command makes
 module _ (lay : Layout) (h : History) (row : StepRow) (e : Entered) (run : IsTreeRun lay (row ⊳ h)) (won : IsWin h row e.scx) where
-  pop_entry : (key : ℕ) → Makes lay h e.scx (Delete key) → IsFirstLeaf h (edit_leaf h e.scx (Delete key)) key → IsPopEntry lay h e.scx
-  pop_entry key x first =
-      (pair key first.first.0, x, λ map spells. win_first lay h row e.scx (Delete key) run won x (first.path.0, first.path.1, first.path.3) first.leaf map spells ∙ first.first.1)
-
-  replace_entry : (key expected put : ℕ) → Makes lay h e.scx (Insert key put) → said (value h) key (edit_leaf h e.scx (Insert key put)) ≡ Some expected → IsReplaceEntry key expected put lay h e.scx
-  replace_entry key expected put x says =
-      let edit : MapEdit = Insert key put in
+  -- at a key
+  made_at : (key : ℕ) (rule : Rule) (edit : MapEdit) → Makes lay h e.scx edit → edit ≡ edit_to key (leaves rule) → applies rule (said (value h) (edit_key edit) (edit_leaf h e.scx edit)) ≡ true → (map : List Pair) → Spells lay (value h) map → edit_of (Edit (Key key) rule) (reply (Edit (Key key) rule) map) ≡ Some edit
+  made_at key rule edit x is suits map spells =
       let at = win_makes lay (row ⊳ h) h row e.scx edit run (ends_self (row ⊳ h)) won (makes_since lay (row ⊳ h) h e.scx edit (inr (ends_self h)) x) in
-      (x, λ map spells. at.replies map spells ∙ says)
+      let own : edit_key edit ≡ key = ap edit_key is ∙ key_left key (leaves rule) in
+      let found : get key map ≡ said (value h) (edit_key edit) (edit_leaf h e.scx edit) = ap (λ (k : ℕ). get k map) (sym own) ∙ at.replies map spells in
+      applied rule key (get key map) (ap (applies rule) found ∙ suits) ∙ ap Some (sym is)
+
+  -- or of the first pair
+  made_first : (key : ℕ) (rule : Rule) → Makes lay h e.scx (Delete key) → leaves rule ≡ None → applies rule (said (value h) key (edit_leaf h e.scx (Delete key))) ≡ true → IsFirstLeaf h (edit_leaf h e.scx (Delete key)) key → (map : List Pair) → Spells lay (value h) map → edit_of (Edit Least rule) (reply (Edit Least rule) map) ≡ Some (Delete key)
+  made_first key rule x left suits first map spells =
+      let at = win_makes lay (row ⊳ h) h row e.scx (Delete key) run (ends_self (row ⊳ h)) won (makes_since lay (row ⊳ h) h e.scx (Delete key) (inr (ends_self h)) x) in
+      let is : first_pair map ≡ Some (pair key first.first.0) = win_first lay h row e.scx (Delete key) run won x (first.path.0, first.path.1, first.path.3) first.leaf map spells ∙ first.first.1 in
+      let found : said (value h) key (edit_leaf h e.scx (Delete key)) ≡ Some first.first.0 = first_had map key first.first.0 (said (value h) key (edit_leaf h e.scx (Delete key))) is (at.replies map spells) in
+      ap (λ (o : Option Pair). edit_of (Edit Least rule) (pair_or_none o)) is ∙ applied rule key (Some first.first.0) (ap (applies rule) (sym found) ∙ suits) ∙ ap (λ (o : Option ℕ). Some (edit_to key o)) left
 
   pub entry_makes : (call : MapCall) (edit : MapEdit) → Makes lay h e.scx edit → IsEditBy (Some call) edit → Suits (Some call) h e.scx edit → IsMapEntry call lay h e
-  entry_makes (Edit own) edit x is suited = subst (λ d. Makes lay h e.scx d) (sym is) x
-  entry_makes PopFirst edit x is suited = pop_entry is.0 (subst (λ d. Makes lay h e.scx d) is.1 x) (subst (λ d. IsFirstLeaf h (edit_leaf h e.scx d) (edit_key d)) is.1 suited)
-  entry_makes (ReplaceIf key expected put) edit x is suited = replace_entry key expected put (subst (λ d. Makes lay h e.scx d) is x) (subst (λ d. said (value h) key (edit_leaf h e.scx d) ≡ Some expected) is suited)
+  entry_makes (Edit (Key key) rule) edit x is suited = record { edit = edit; makes = x; of_map = made_at key rule edit x is suited.0 }
+  entry_makes (Edit Least rule) edit x (key, is, left) suited =
+      let own : Makes lay h e.scx (Delete key) = subst (Makes lay h e.scx) is x in
+      let both : Suits (Some (Edit Least rule)) h e.scx (Delete key) = subst (Suits (Some (Edit Least rule)) h e.scx) is suited in
+      record { edit = Delete key; makes = own; of_map = made_first key rule own left both.0 both.1 }
   entry_makes call edit x is suited = absurd is
 
--- an edit that leaves what a pop leaves takes out the same key
-popped_key : (k : ℕ) (m : List Pair) (first : Pair) → IsRising m → first_pair m ≡ Some first → delete k m ≡ delete first.key m → k ≡ first.key
-popped_key k [] first rising is same = absurd (let none : None ≡ Some first = is in cc)
-popped_key k (p ∷ ps) first rising is same = go (ℕ_discrete k p.key)
+-- an edit that leaves what is left without the first pair takes out the same key
+taken_key : (k : ℕ) (m : List Pair) (first : Pair) → IsRising m → first_pair m ≡ Some first → delete k m ≡ delete first.key m → k ≡ first.key
+taken_key k [] first rising is same = absurd (let none : None ≡ Some first = is in cc)
+taken_key k (p ∷ ps) first rising is same = go (ℕ_discrete k p.key)
   where
     first_is : p ≡ first
     first_is = let e : Some p ≡ Some first = is in cc
@@ -356,16 +281,20 @@ popped_key k (p ∷ ps) first rising is same = go (ℕ_discrete k p.key)
 
 -- an entry of it is of the edit that it makes of the map which the words spell just before
 module _ (lay : Layout) (h : History) (row : StepRow) (e : Entered) (m : List Pair) (run : IsTreeRun lay (row ⊳ h)) (won : IsWin h row e.scx) (spells : Spells lay (value h) m) where
-  leaves : (edit : MapEdit) → Makes lay h e.scx edit → Spells lay (value (row ⊳ h)) (edited edit m)
-  leaves edit x = (win_makes lay (row ⊳ h) h row e.scx edit run (ends_self (row ⊳ h)) won (makes_since lay (row ⊳ h) h e.scx edit (inr (ends_self h)) x)).changes m spells
+  left_by : (edit : MapEdit) → Makes lay h e.scx edit → Spells lay (value (row ⊳ h)) (edited edit m)
+  left_by edit x = (win_makes lay (row ⊳ h) h row e.scx edit run (ends_self (row ⊳ h)) won (makes_since lay (row ⊳ h) h e.scx edit (inr (ends_self h)) x)).changes m spells
 
-  pub makes_on : (call : MapCall) (edit : MapEdit) → IsEditBy (Some call) edit → Makes lay h e.scx edit → IsMapEntry call lay h e → edit_on call m ≡ Some edit
-  makes_on (Edit own) edit by own_makes x = ap Some by
-  makes_on PopFirst edit (key, by) own_makes (first, makes, says) =
-      let taken : Spells lay (value (row ⊳ h)) (delete key m) = subst (λ (d : MapEdit). Spells lay (value (row ⊳ h)) (edited d m)) by (leaves edit own_makes) in
-      let same : delete key m ≡ delete first.key m = one_spelling lay (value (row ⊳ h)) (delete key m) (delete first.key m) taken (leaves (Delete first.key) makes) in
-      let key_is : key ≡ first.key = popped_key key m first spells.rising (says m spells) same in
-      ap (λ (o : Option Pair). edit_of PopFirst (pair_or_none o)) (says m spells) ∙ ap (λ (k : ℕ). Some (Delete k)) (sym key_is) ∙ ap Some (sym by)
-  makes_on (ReplaceIf key expected put) edit by own_makes x =
-      ap (λ (o : Option ℕ). edit_of (ReplaceIf key expected put) (OneValue o)) (x.1 m spells) ∙ ap (λ (c : Bool). cond c (Some (Insert key put)) None) (eq-eqb expected expected refl) ∙ ap Some (sym by)
-  makes_on call edit by own_makes x = absurd x
+  -- of the first pair there is one key that it can take out
+  taken_by : (key : ℕ) (rule : Rule) (edit : MapEdit) → Makes lay h e.scx (Delete key) → leaves rule ≡ None → Makes lay h e.scx edit → (first : Option Pair) → first_pair m ≡ first → edit_of (Edit Least rule) (pair_or_none first) ≡ Some edit → edit ≡ Delete key
+  taken_by key rule edit x left makes None is e' = absurd (let none : None ≡ Some edit = e' in cc)
+  taken_by key rule edit x left makes (Some p) is e' =
+      let own : edit ≡ Delete p.key = made_by rule p.key (Some p.value) edit e' ∙ ap (edit_to p.key) left in
+      let same : delete key m ≡ delete p.key m = one_spelling lay (value (row ⊳ h)) (delete key m) (delete p.key m) (left_by (Delete key) x) (left_by (Delete p.key) (subst (Makes lay h e.scx) own makes)) in
+      own ∙ ap Delete (sym (taken_key key m p spells.rising is same))
+
+  pub makes_on : (call : MapCall) (edit : MapEdit) → IsEditBy (Some call) edit → Makes lay h e.scx edit → IsMapEntry call lay h e → edit_of call (reply call m) ≡ Some edit
+  makes_on (Edit (Key key) rule) edit by own x = x.of_map m spells ∙ ap Some (made_by rule key (get key m) x.edit (x.of_map m spells) ∙ sym by)
+  makes_on (Edit Least rule) edit (key, by, left) own x =
+      let same : x.edit ≡ Delete key = taken_by key rule x.edit (subst (Makes lay h e.scx) by own) left x.makes (first_pair m) refl (x.of_map m spells) in
+      x.of_map m spells ∙ ap Some (same ∙ sym by)
+  makes_on call edit by own x = absurd x

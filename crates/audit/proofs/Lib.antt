@@ -4,7 +4,6 @@ mod Fitting
 mod RisingLevels
 mod TreeLines
 mod MapLines
-mod FirstPairs
 mod RowMoments
 mod LeftShares
 mod CountedTries

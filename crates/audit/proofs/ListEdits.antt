@@ -15,14 +15,14 @@ use Rattle.arena.specs.History.{History, value}
 use Rattle.arena.specs.ScxRecords.{plan, member, new, old}
 use Rattle.arena.specs.Words.{node, child}
 use Rattle.ordered_map.specs.declared.pair.Pair.{Pair}
-use Rattle.ordered_map.specs.OrderedMap.{MapEdit, Insert, Delete, AllAbove, AllBelow, AllFrom, pair, edit_key, edited, first_pair}
+use Rattle.ordered_map.specs.OrderedMap.{MapEdit, Insert, Delete, AllAbove, AllBelow, AllFrom, pair, edit_key, edit_to, edited, first_pair}
 use Rattle.ordered_map.specs.Holding.{slot_behind, pair_in, held_from, held_behind, held_pairs, IsWellCounted}
 use Rattle.ordered_map.specs.TreeWords.{class, is_leaf, level, rank, leaf_items, leaf_pairs, said, toward}
 use Rattle.ordered_map.specs.Edits.{IsAlike, IsLowLeaf, IsLastLeaf, IsSplitBy, IsLeafEdit}
 use Rattle.ordered_map.specs.TreeShape.{EditsLeaf, leaf_plan}
 use Rattle.ordered_map.proofs.Lemmas.{edited_local, held_next, held_count, counted_few, low_items, high_items, low_pairs, high_pairs}
 use Rattle.record.specs.MapRecord.{number_pairs}
-use Rattle.audit.specs.Edits.{AreToward, IsInFront, edit_to, key_in}
+use Rattle.audit.specs.Edits.{AreToward, IsInFront, key_in}
 
 -- The place of an edit
 

@@ -1,11 +1,12 @@
 -- What is remembered of a call that is refused makes its answer right.
-use Rattle.std.proofs.Common.{◌≡◌, ℕ, List, Option, Some, IsSome, refl, sym, subst, None}
+use Rattle.std.proofs.Common.{◌≡◌, ℕ, ◌<◌, List, Option, Some, IsSome, refl, sym, subst, None}
 use Rattle.arena.specs.declared.layout.Layout.{Layout}
+use Rattle.arena.specs.declared.fault.Resource.{Resource}
 use Rattle.arena.specs.declared.number.NodeNo.{NodeNo}
 use Rattle.arena.specs.declared.number.ScxNo.{ScxNo}
 use Rattle.script.specs.declared.call.Call.{Call}
 use Rattle.script.specs.declared.command.Command.{Command}
-use Rattle.ordered_map.specs.declared.reply.Reply.TheVariants.{Contended, NoMemory}
+use Rattle.ordered_map.specs.declared.reply.Reply.TheVariants.{Contended, NoMemory, Full as FullOf}
 use Rattle.ordered_map.specs.declared.request.Request.{Request}
 use Rattle.script.specs.declared.command.Command.TheVariants.{Map}
 use Rattle.record.specs.declared.record.Line.{Line}
@@ -16,33 +17,41 @@ use Rattle.record.specs.Answers.{HasLostAllTries}
 use Rattle.record.specs.CommandRules.{IsRight, IsPlaced}
 use Rattle.record.specs.Linked.{linked}
 use Rattle.record.specs.Replies.{IsFitting}
+use Rattle.record.specs.Shares.{HasTooFewToTry}
 use Rattle.record.specs.Turns.{history, begin, start, won}
 use Rattle.moments.specs.declared.places.Change.{Change}
-use Rattle.audit.specs.Asked.{IsAsked, NeededSomething}
+use Rattle.audit.specs.Asked.{IsAsked, NeededSomething, NeededWithin}
 use Rattle.audit.specs.declared.client.Client.{Client}
 use Rattle.ordered_map.specs.OrderedMap.{MapCall, MapReply}
 use Rattle.record.specs.MapRecord.{map_call, reply_told, written_log, entries_of_call}
 use Rattle.record.specs.Placed.{IsRefused, IsPlacedOnMap}
 use Rattle.record.proofs.Lemmas.{entries_none}
 use Rattle.ordered_map.specs.Requests.{map_request}
-use Rattle.audit.proofs.EachCall.{contended_right, no_memory_right, refused_unwon}
+use Rattle.audit.proofs.EachCall.{contended_right, full_right, memory_right, refused_unwon}
+use Rattle.audit.proofs.MapAnswers.{either_fits}
 
-module _ (lay : Layout) (tries : ℕ) (calls : List Call) (lines : List Line) (changed : List Change) (client : Client) (command : Command) (r : Finished) (x : IsAsked lay tries calls lines changed client command r) where
-  abbrev RightIs : Command → Answer → Type 0
-  RightIs k answer = IsRight lay tries r.client.0 (history lay.mode lines) (start lay.mode lines r.client.0) (linked calls lay.mode lines r.client.0) k answer
-
+module _ (lay : Layout) (tries : ℕ) (calls : List Call) (lines : List Line) (changed : List Change) (client : Client) (request : Request ℕ ℕ) (r : Finished) (x : IsAsked lay tries calls lines changed client (Map request) r) where
   begun_now : IsSome (begin lines client.pass.0)
   begun_now = subst (λ (n : ℕ). IsSome (begin lines n)) (sym x.pass) (rw x.begun refl)
 
-  pub right_contended : (request : Request ℕ ℕ) (node : NodeNo) (scx : ScxNo) → command ≡ Map request → r.answer ≡ MapAnswer (Contended node scx) → (IsSome (begin lines client.pass.0) → HasLostAllTries lay tries client.pass.0 (history lay.mode lines) (start lay.mode lines client.pass.0) node.0 scx.0) → NeededSomething calls lines request r → RightIs (Map request) r.answer
-  right_contended request node scx is answers lost needed =
+  abbrev RightIs : Answer → Type 0
+  RightIs = IsRight lay tries r.client.0 (history lay.mode lines) (start lay.mode lines r.client.0) (linked calls lay.mode lines r.client.0) (Map request)
+
+  pub right_contended : (node : NodeNo) (scx : ScxNo) → r.answer ≡ MapAnswer (Contended node scx) → (IsSome (begin lines client.pass.0) → HasLostAllTries lay tries client.pass.0 (history lay.mode lines) (start lay.mode lines client.pass.0) node.0 scx.0) → NeededSomething calls lines (map_request request) r → RightIs r.answer
+  right_contended node scx answers lost needed =
       let own = subst (λ (n : ℕ). HasLostAllTries lay tries n (history lay.mode lines) (start lay.mode lines n) node.0 scx.0) x.pass (lost begun_now) in
-      subst (RightIs (Map request)) (sym answers) (contended_right lay tries calls lines changed client command r x request node scx is answers own needed)
+      subst RightIs (sym answers) (contended_right lay tries calls lines changed client request r x node scx answers own needed)
 
-  pub right_no_memory : r.answer ≡ MapAnswer NoMemory → RightIs command r.answer
-  right_no_memory answers = subst (RightIs command) (sym answers) (no_memory_right lay tries r.client.0 (history lay.mode lines) (start lay.mode lines r.client.0) (linked calls lay.mode lines r.client.0) lines command x.of_map.0 x.of_map.1 (subst (IsFitting lines command) answers x.fits))
+  pub right_full : (nodes : ℕ) (what : Resource) (left : ℕ) → 0 < nodes → NeededWithin calls lines (map_request request) nodes r → (IsSome (begin lines client.pass.0) → HasTooFewToTry lay client.pass.0 (history lay.mode lines) (start lay.mode lines client.pass.0) nodes what left) → RightIs (MapAnswer (FullOf record { what = what; left = left }))
+  right_full nodes what left some needed few =
+      let own = subst (λ (n : ℕ). HasTooFewToTry lay n (history lay.mode lines) (start lay.mode lines n) nodes what left) x.pass (few begun_now) in
+      full_right lay tries calls lines changed client request r x nodes what left some needed own
 
-  -- and is placed nowhere
+  pub right_no_memory : r.answer ≡ MapAnswer NoMemory → RightIs r.answer
+  right_no_memory answers = subst RightIs (sym answers) (memory_right lay tries r.client.0 (history lay.mode lines) (start lay.mode lines r.client.0) (linked calls lay.mode lines r.client.0) (map_request request) (either_fits lines (Map request) (MapAnswer NoMemory) (subst (IsFitting lines (Map request)) answers x.fits)))
+
+module _ (lay : Layout) (tries : ℕ) (calls : List Call) (lines : List Line) (changed : List Change) (client : Client) (command : Command) (r : Finished) (x : IsAsked lay tries calls lines changed client command r) where
+  -- it is placed nowhere
   is_refused : reply_told r.answer ≡ None → r.moment ≡ None → IsRefused lines r
   is_refused none nowhere = record {
     none = subst (λ (n : ℕ). entries_of_call r.client.0 n (written_log lines) ≡ 0) (sym x.number) (entries_none lay tries calls lines x.in_order r.client.0 (refused_unwon command x.of_map.0 r.answer (won lay lines r.client.0) x.of_map.1 none x.entry));

@@ -17,7 +17,7 @@ use Rattle.script.specs.declared.call.Call.{Call}
 use Rattle.script.specs.declared.command.Command.{Command}
 use Rattle.script.specs.declared.command.Command.TheVariants.{Map}
 use Rattle.ordered_map.specs.FillOrder.{HasRisingLevels}
-use Rattle.ordered_map.specs.OrderedMap.{MapCall, MapEdit, edit_key, value_left}
+use Rattle.ordered_map.specs.OrderedMap.{MapCall, MapEdit, edit_key, edit_to, value_left}
 use Rattle.ordered_map.specs.Requests.{map_request}
 use Rattle.ordered_map.specs.Runs.{IsTreeRun, Makes}
 use Rattle.ordered_map.specs.Spelled.{Spells}
@@ -37,7 +37,7 @@ use Rattle.record.proofs.Lemmas.{AreMapCalls}
 use Rattle.moments.specs.declared.places.Change.{Change}
 use Rattle.moments.specs.Entries.{IsChangeBy, IsChangeByEdit, IsChangeOf}
 use Rattle.moments.proofs.Lemmas.{spelled}
-use Rattle.audit.specs.Edits.{IsEditBy, IsSuited, Suits, MayMakeEdit, HasBegunWith, AreRememberedEdits, edit_begun, edit_to}
+use Rattle.audit.specs.Edits.{IsEditBy, IsSuited, Suits, MayMakeEdit, HasBegunWith, AreRememberedEdits, edit_begun}
 use Rattle.audit.specs.declared.edits.Begun.{Begun}
 use Rattle.audit.specs.Trees.{IsTreeSoFar}
 use Rattle.audit.proofs.EachCall.{entry_makes, makes_on}

@@ -6,9 +6,11 @@ use Rattle.arena.specs.declared.limits.Mode.{Mode}
 use Rattle.arena.specs.declared.layout.Layout.{Layout}
 use Rattle.arena.specs.declared.step.Row.{Row as StepRow}
 use Rattle.arena.specs.History.{History, ◌⊳◌, value, Extends}
-use Rattle.arena.proofs.Lemmas.{ends_self}
+use Rattle.arena.proofs.Lemmas.{ends_self, ends_trans}
 use Rattle.ordered_map.specs.declared.pair.Pair.{Pair}
-use Rattle.ordered_map.specs.OrderedMap.{first_pair, get}
+use Rattle.ordered_map.specs.CallRules.{need}
+use Rattle.ordered_map.specs.OrderedMap.{MapCall, MapReply, get, reply}
+use Rattle.ordered_map.specs.Paths.{IsAnswerAt}
 use Rattle.ordered_map.specs.Spelled.{Spells}
 use Rattle.script.specs.declared.call.Call.{Call}
 use Rattle.script.specs.declared.command.Command.{Command}
@@ -20,11 +22,12 @@ use Rattle.record.specs.declared.record.Entry.{Entry}
 use Rattle.record.specs.declared.record.Finished.{Finished}
 use Rattle.record.specs.Turns.{client_of, number_of, history, turns, last_client, begin, start, entry_owed}
 use Rattle.record.specs.Commands.{next_command}
-use Rattle.record.specs.Edits.{HadAtKey, HadFirst}
 use Rattle.record.specs.MapRecord.{written_log, entries_until, map_of, map_at}
 use Rattle.record.specs.SpelledMap.{AreSpelled, IsSpelledAfter}
 use Rattle.record.specs.LawfulRun.{AreLines}
+use Rattle.record.specs.Replied.{HasReplied}
 use Rattle.record.specs.Replies.{IsReplyOwed}
+use Rattle.record.specs.Rules.Edit.{HadToChange}
 use Rattle.record.proofs.Lemmas.{begin_within, log_step, turn_number}
 use Rattle.moments.proofs.Lemmas.{map_now}
 
@@ -198,14 +201,18 @@ module _ (lay : Layout) (tries : ℕ) (calls : List Call) (c : ℕ) (command : C
   have_spelled (Log entry ∷ ReplyLine reply ∷ lines) a x owed idle first m is e from to = absurd a.1
   have_spelled (Log entry ∷ []) a x owed idle first m is e from to = absurd a.1
 
-  -- so what the map has at a key after a turn of the call, the words said there
-  pub had_at_key : (lines : List Line) (first m key : ℕ) (answer : Option ℕ) → AreLines lay tries calls lines → AreSpelled lay calls lines → entry_owed lay lines ≡ None → (next_command calls lines c ≡ Some command → IsNotIdle lines c) → next_command calls lines c ≡ Some command → begin lines c ≡ Some first → first ≤ m → m ≤ turns lines → get key (map_at calls lines m) ≡ answer → HadAtKey lay (history lay.mode lines) (start lay.mode lines c) key answer
-  had_at_key lines first m key answer a x owed idle is e from to gives =
-      let y = have_spelled lines a x owed idle first m is e from to in
-      (y.row, y.before, y.since, record { moment = y.moment; within = y.within; since = y.behind; map = map_at calls lines m; spelled = y.spelled; gives = gives })
+-- What was said of such a map
 
-  -- and the pair that is its first, or that there is none
-  pub had_first : (lines : List Line) (first m : ℕ) (answer : Option Pair) → AreLines lay tries calls lines → AreSpelled lay calls lines → entry_owed lay lines ≡ None → (next_command calls lines c ≡ Some command → IsNotIdle lines c) → next_command calls lines c ≡ Some command → begin lines c ≡ Some first → first ≤ m → m ≤ turns lines → first_pair (map_at calls lines m) ≡ answer → HadFirst lay (history lay.mode lines) (start lay.mode lines c) answer
-  had_first lines first m answer a x owed idle is e from to gives =
-      let y = have_spelled lines a x owed idle first m is e from to in
-      (y.row, y.before, y.since, record { moment = y.moment; within = y.within; since = y.behind; map = map_at calls lines m; spelled = y.spelled; is = gives })
+module _ (lay : Layout) (now start : History) (m : List Pair) (y : HasSpelled lay now start m) where
+  -- the map replied what it replies
+  pub replied_by : (call : MapCall) (told : MapReply) → reply call m ≡ told → HasReplied lay now start call told
+  replied_by call told is = record { row = y.row; before = y.before; since = y.since; moment = y.moment; behind = y.behind; within = y.within; map = m; spelled = y.spelled; replies = is }
+
+  -- there was something to change, if the call needs something on it
+  pub to_change_by : (call : MapCall) (nodes : ℕ) → 0 < nodes → need call m ≡ nodes → HadToChange lay now start call nodes
+  unfolding replied_by
+  to_change_by call nodes some needs = record { told = reply call m; replied = replied_by call (reply call m) refl; needs = needs; some = some }
+
+  -- and a key had what it has
+  pub answer_by : (key : ℕ) (value : Option ℕ) → get key m ≡ value → IsAnswerAt lay now start key value
+  answer_by key value gives = record { moment = y.moment; within = y.within; since = ends_trans y.moment (y.row ⊳ y.before) start y.behind (inr y.since); map = m; spelled = y.spelled; gives = gives }

@@ -1,15 +1,17 @@
 -- Which edit of the map an SCX-record makes, and for which call.
-use Rattle.std.specs.Prelude.{◌≡◌, ◌≢◌, ℕ, ◌^◌, ◌<◌, true, List, [], ◌∷◌, Option, Some, None, option_map, slice_get}
+use Rattle.std.specs.Prelude.{◌≡◌, ◌≢◌, ℕ, ◌^◌, ◌<◌, true, List, [], ◌∷◌, Option, Some, None, IsTrue, option_map, slice_get}
 use Rattle.arena.specs.declared.layout.Layout.{Layout}
 use Rattle.arena.specs.declared.step.Row.{Row}
 use Rattle.arena.specs.declared.word.Side.{Side}
 use Rattle.arena.specs.declared.word.Word.{Word}
 use Rattle.arena.specs.History.{History, ◌⊳◌, value, Extends}
 use Rattle.arena.specs.Shape.{IsBegin}
-use Rattle.ordered_map.specs.OrderedMap.{MapCall, MapEdit, Edit, Insert, Delete, PopFirst, ReplaceIf, edit_key, first_pair, pair}
+use Rattle.ordered_map.specs.OrderedMap.{MapCall, MapEdit, Edit, Insert, Delete, applies, edit_key, edit_to, first_pair, leaves, pair}
 use Rattle.ordered_map.specs.Paths.{Passed}
 use Rattle.ordered_map.specs.TreeShape.{MayEdit, edit_leaf}
 use Rattle.ordered_map.specs.declared.pair.Pair.{Pair}
+use Rattle.ordered_map.specs.declared.rule.Goal.{Goal}
+use Rattle.ordered_map.specs.declared.rule.Goal.TheVariants.{Key, Least}
 use Rattle.ordered_map.specs.TreeWords.{is_leaf, leaf_pairs, said, toward}
 use Rattle.record.specs.MapRecord.{map_call}
 use Rattle.judge.specs.declared.judge.Judge.{Judge}
@@ -19,11 +21,6 @@ use Rattle.audit.specs.declared.edits.Begun.{Begun}
 -- what each word is after the rows that the judge has seen
 abbrev pub word_now : Judge → Word → ℕ
 word_now judge = value (seen_history judge)
-
--- the edit that leaves this value to the key
-abbrev pub edit_to : ℕ → Option ℕ → MapEdit
-edit_to key None = Delete key
-edit_to key (Some value) = Insert key value
 
 -- the edit that is remembered
 abbrev pub edit_begun : Begun → MapEdit
@@ -44,11 +41,10 @@ abbrev pub AreToward : (Word → ℕ) → ℕ → Side → List Pair → Type 0
 AreToward f n side [] = Unit {0}
 AreToward f n side (p ∷ ps) = (p.key < 2 ^ 64) × (toward f n p.key ≡ side) × AreToward f n side ps
 
--- the call may make this edit: a pop takes out some key, a replacement gives its key its value
+-- the call may make this edit: at its key; or, of the first pair, one that takes out some key
 abbrev pub IsEditBy : Option MapCall → MapEdit → Type 0
-IsEditBy (Some (Edit own)) edit = own ≡ edit
-IsEditBy (Some PopFirst) edit = (key : ℕ) × (edit ≡ Delete key)
-IsEditBy (Some (ReplaceIf key expected put)) edit = edit ≡ Insert key put
+IsEditBy (Some (Edit (Key key) rule)) edit = edit ≡ edit_to key (leaves rule)
+IsEditBy (Some (Edit Least rule)) edit = (key : ℕ) × (edit ≡ Delete key) × (leaves rule ≡ None)
 IsEditBy _ edit = ⊥
 
 -- n is the first leaf of the tree, and this is its first key
@@ -57,11 +53,14 @@ pub record IsFirstLeaf (h : History) (n key : ℕ) : Type 0 where
   pub leaf : is_leaf (value h) n ≡ true
   pub first : (v : ℕ) × (first_pair (leaf_pairs (value h) n) ≡ Some (pair key v))
 
--- the leaf that the SCX-record covers for its edit suits the call: that of a pop is the first one,
--- that of a replacement says the value that the call expects
+-- it is where a call with this goal goes
+abbrev pub IsLeafFor : Goal → History → ℕ → ℕ → Type 0
+IsLeafFor (Key k) h n key = Unit {0}
+IsLeafFor Least h n key = IsFirstLeaf h n key
+
+-- the leaf that the SCX-record covers for its edit suits the call, which changes what that says
 abbrev pub Suits : Option MapCall → History → ℕ → MapEdit → Type 0
-Suits (Some PopFirst) h s edit = IsFirstLeaf h (edit_leaf h s edit) (edit_key edit)
-Suits (Some (ReplaceIf key expected put)) h s edit = said (value h) key (edit_leaf h s edit) ≡ Some expected
+Suits (Some (Edit goal rule)) h s edit = IsTrue (applies rule (said (value h) (edit_key edit) (edit_leaf h s edit))) × IsLeafFor goal h (edit_leaf h s edit) (edit_key edit)
 Suits _ h s edit = Unit {0}
 
 -- so does that of an SCX-record that has begun, as it is remembered

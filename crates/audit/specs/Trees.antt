@@ -14,10 +14,9 @@ use Rattle.moments.specs.declared.places.Change.{Change}
 use Rattle.moments.specs.declared.places.Places.{Places}
 use Rattle.moments.specs.Places.{changes}
 use Rattle.moments.specs.Entries.{AreEntries}
-use Rattle.audit.specs.Edits.{AreRememberedEdits, IsEditBy, IsSuited, edit_begun}
+use Rattle.audit.specs.Edits.{AreRememberedEdits, IsSuited}
 use Rattle.arena.specs.History.{History}
 use Rattle.record.specs.Commands.{next_command}
-use Rattle.record.specs.MapRecord.{map_call}
 use Rattle.script.specs.declared.command.Command.{Command}
 use Rattle.audit.specs.declared.edits.Begun.{Begun}
 
@@ -48,10 +47,9 @@ pub record HasChangedBy (calls : List Call) (lines : List Line) (entry : Entry) 
   pub by : IsChangeBegun calls lines entry edits change
   pub added : after ≡ change ∷ before
 
--- the SCX-record has begun for a call with this command, as it is remembered, and suits it now if
--- its edit is one of that call
+-- the SCX-record has begun for a call with this command, as it is remembered, and suits it now
 pub record IsReadyFor (edits : List (Option Begun)) (h : History) (s : ℕ) (command : Command) : Type 0 where
   pub begun : Begun
   pub known : slice_get edits s ≡ Some (Some begun)
   pub own : begun.command ≡ command
-  pub suited : IsEditBy (map_call (Some begun.command)) (edit_begun begun) → IsSuited h s begun
+  pub suited : IsSuited h s begun

@@ -5,9 +5,8 @@ ghost use Rattle.record.specs.CommandRules.{rules};
 ghost use Rattle.script.specs.declared.command.Command.TheVariants.{Map as MapCommand};
 ghost use Rattle.record.specs.declared.record.Answer.TheVariants.{Map as MapAnswer};
 ghost use Rattle.record.specs.Rules.Llx.{LlxAfterStep};
-ghost use Rattle.ordered_map.specs.CallRules.{IsFormOfEdit, IsFormOfPop, IsFormOfRange, IsFormOfSuccessor, TakesNothing, form_of};
+ghost use Rattle.ordered_map.specs.CallRules.{IsFormOfRange, IsFormOfSuccessor, TakesNothing, form_of};
 ghost use Rattle.record.specs.Rules.Range.{RangeAtOnce};
-ghost use Rattle.record.specs.Rules.ReplaceIf.{has_replaced};
 ghost use Rattle.record.specs.Rules.Set.{SetAfterStep};
 
 use arena::{Kind, Limits};
@@ -50,15 +49,22 @@ pub(crate) fn most_steps(command: &Command, limits: &Limits, taken: u64) -> u64
         Command::Scx(_) => 40,
         Command::Vlx { cells } => cells.as_slice().len() as u64,
         Command::Set { field: _, value: _ } => 104,
-        Command::Map(Request::Insert { key: _, value: _ }) => edit_steps(tries, levels, 207),
-        Command::Map(Request::Delete { key: _ }) => edit_steps(tries, levels, 328),
-        Command::Map(Request::PopFirst) => edit_steps(tries, levels, 328),
-        Command::Map(Request::ReplaceIf { .. }) => edit_steps(tries, levels, 207),
-        Command::Map(Request::Get { key: _ }) => levels.saturating_mul(3).saturating_add(5),
-        Command::Map(Request::Successor { key: _ }) => tries.saturating_mul(levels.saturating_mul(
-            137,
-        )),
-        Command::Map(Request::Range { most, .. }) => range_steps(tries, levels, *most),
+        Command::Map(request) => most_map_steps(request, tries, levels),
+    }
+}
+
+/// How many steps a call of the map may make at most, in so many tries.
+fn most_map_steps(request: &Request<u64, u128>, tries: u64, levels: u64) -> u64
+    ensures { (all : ℕ) → levels ≤ 2 + all → result ≤ command_steps (MapCommand request.now) tries all }
+{
+    if let Some((_, rule)) = request.edit() {
+        return edit_steps(tries, levels, rule.steps_behind());
+    }
+    match request {
+        Request::Get { key: _ } => levels.saturating_mul(3).saturating_add(5),
+        Request::Successor { key: _ } => tries.saturating_mul(levels.saturating_mul(137)),
+        Request::Range { most, .. } => range_steps(tries, levels, *most),
+        _ => 0,
     }
 }
 
@@ -134,13 +140,14 @@ pub(crate) fn may_answer_after_step(command: &Command, answer: &Answer) -> bool
 fn may_reply_after_step(request: &Request<u64, u128>, reply: &Reply<u64, u128>) -> bool
     ensures { IsTrue result → MayAnswerAfterStep (MapCommand request.now) (MapAnswer reply.now) }
 {
+    if let Some((goal, _)) = request.edit() {
+        return goal.may_reply(reply);
+    }
     match request {
-        Request::Insert { key: _, value: _ } | Request::Delete { key: _ } => is_of_edit(reply),
-        Request::PopFirst => is_of_pop(reply),
-        Request::ReplaceIf { .. } => is_of_edit(reply),
         Request::Get { key: _ } => matches!(reply, Reply::Value(_)),
         Request::Successor { key: _ } => is_of_successor(reply),
         Request::Range { .. } => is_of_range(reply),
+        _ => false,
     }
 }
 
@@ -159,24 +166,6 @@ fn is_of_set(answer: &Answer) -> bool
     match answer {
         Answer::Finalized | Answer::Fail { .. } | Answer::Full { .. } => true,
         Answer::Done | Answer::Lost { .. } => true,
-        _ => false,
-    }
-}
-
-fn is_of_edit(reply: &Reply<u64, u128>) -> bool
-    ensures { IsTrue result → IsFormOfEdit (form_of reply.now) }
-{
-    match reply {
-        Reply::Value(_) | Reply::Contended { .. } | Reply::Full(_) => true,
-        _ => false,
-    }
-}
-
-fn is_of_pop(reply: &Reply<u64, u128>) -> bool
-    ensures { IsTrue result → IsFormOfPop (form_of reply.now) }
-{
-    match reply {
-        Reply::Pair(_) | Reply::Contended { .. } | Reply::Full(_) => true,
         _ => false,
     }
 }
@@ -206,32 +195,9 @@ pub(crate) fn enters(command: &Command, answer: &Answer) -> bool
     match command {
         Command::Scx(_) | Command::Set { .. } => matches!(answer, Answer::Done),
         Command::Map(request) => match answer {
-            Answer::Map(reply) => has_changed(request, reply),
+            Answer::Map(reply) => request.changes(reply),
             _ => false,
         },
-        _ => false,
-    }
-}
-
-/// Whether a reply says that an edit of the call is in the log.
-fn has_changed(request: &Request<u64, u128>, reply: &Reply<u64, u128>) -> bool
-    ensures { result ≡ enters (MapCommand request.now) (MapAnswer reply.now) }
-{
-    match request {
-        Request::Insert { .. } => matches!(reply, Reply::Value(_)),
-        Request::Delete { .. } => matches!(reply, Reply::Value(Some(_))),
-        Request::PopFirst => matches!(reply, Reply::Pair(Some(_))),
-        Request::ReplaceIf { expected, .. } => tells(reply, *expected),
-        _ => false,
-    }
-}
-
-/// Whether a reply tells this value.
-fn tells(reply: &Reply<u64, u128>, value: u128) -> bool
-    ensures { result ≡ has_replaced value (MapAnswer reply.now) }
-{
-    match reply {
-        Reply::Value(Some(told)) => *told == value,
         _ => false,
     }
 }
@@ -242,10 +208,10 @@ pub(crate) fn nodes_each(command: &Command) -> u32
 {
     match command {
         Command::Scx(_) | Command::Set { .. } => 1,
-        Command::Map(Request::Insert { .. }) => 3,
-        Command::Map(Request::Delete { .. }) => 1,
-        Command::Map(Request::PopFirst) => 1,
-        Command::Map(Request::ReplaceIf { .. }) => 1,
+        Command::Map(request) => match request.edit() {
+            Some((_, rule)) => rule.nodes_in_try(),
+            None => 0,
+        },
         _ => 0,
     }
 }
@@ -256,8 +222,7 @@ pub(crate) fn most_scx(command: &Command, limits: &Limits) -> u32
 {
     match command {
         Command::Scx(_) | Command::Set { .. } => 1,
-        Command::Map(Request::Insert { .. }) | Command::Map(Request::Delete { .. }) => limits.tries,
-        Command::Map(Request::PopFirst) | Command::Map(Request::ReplaceIf { .. }) => limits.tries,
+        Command::Map(request) if request.edit().is_some() => limits.tries,
         _ => 0,
     }
 }

@@ -12,7 +12,7 @@ ghost use Rattle.ordered_map.specs.Paths.{Passed};
 ghost use Rattle.ordered_map.specs.Runs.{IsTreeRun};
 ghost use Rattle.ordered_map.specs.TreeShape.{EditsLeaf, TakesLeafOut, IsEdit, leaf_plan, join_plan, leaf_place as leaf_place_of, sibling_place as sibling_place_of, edit_leaf};
 ghost use Rattle.ordered_map.specs.TreeWords.{class, is_leaf, level, leaf_pairs, said, toward as toward_of};
-ghost use Rattle.ordered_map.specs.OrderedMap.{edit_key, edited, first_pair, pair};
+ghost use Rattle.ordered_map.specs.OrderedMap.{Edit, edit_key, edited, first_pair, pair};
 ghost use Rattle.record.specs.MapRecord.{map_call, number_pairs};
 ghost use Rattle.audit.specs.Edits.{AreToward, IsEditBy, IsFirstLeaf, IsInFront, IsSuited, MayMakeEdit, edit_begun, key_in, word_now};
 ghost use Rattle.judge.specs.Histories.{seen_history};
@@ -23,7 +23,7 @@ use crate::leaves::{
 };
 use arena::{NodeNo, NodeWord, Plan, ScxNo, ScxWord, SettledPart, Side, Word};
 use judge::Judge;
-use ordered_map::Request;
+use ordered_map::{Goal, Rule};
 use script::Command;
 
 /// An SCX-record that has begun: it makes an edit, which leaves this value to this key, for a call
@@ -36,14 +36,16 @@ pub(crate) struct Begun {
 }
 
 /// The edit that an SCX-record is about to make for a call: below a fork on the search path of its
-/// key, and of a leaf that suits the call, unless it is a pop's that can win no more.
+/// key, and of a leaf that suits the call, unless it is to take the first pair out and can win no
+/// more.
 pub(crate) fn begun_for(judge: &Judge, scx: u64, command: &Command) -> Option<Begun>
     requires { IsTreeRun judge.now.layout (seen_history judge.now) }
     ensures command { IfSome result (λ begun. begun.command ≡ command.now) }
     ensures edit { IfSome result (MayMakeEdit judge.now.layout (seen_history judge.now) scx) }
 {
-    let begun = edit_for(judge, scx, command)?;
-    let is_late = matches!(command, Command::Map(Request::PopFirst)) && !is_as_seen(judge, scx, 1);
+    let (goal, rule) = edit_in(command)?;
+    let begun = edit_for(judge, scx, command, goal, rule)?;
+    let is_late = matches!(goal, Goal::Least) && !is_as_seen(judge, scx, 1);
     if is_edit(judge, scx, &begun)
         && is_fork_on_path(judge, begun.key, member(judge, scx, 0))
         && (is_late || suits(judge, scx, &begun))
@@ -54,59 +56,57 @@ pub(crate) fn begun_for(judge: &Judge, scx: u64, command: &Command) -> Option<Be
     }
 }
 
-/// The edit that a call with this command is to make by an SCX-record: a pop takes out the first key
-/// of its leaf.
-fn edit_for(judge: &Judge, scx: u64, command: &Command) -> Option<Begun>
-    ensures command { IfSome result (λ begun. begun.command ≡ command.now) }
-    ensures own { IfSome result (λ begun. IsEditBy (map_call (Some command.now)) (edit_begun begun)) }
-    ensures small { IfSome result (λ begun. begun.key < 2 ^ 64) }
+/// Where a command goes and by which rule, if it is an edit.
+fn edit_in(command: &Command) -> Option<(Goal, Rule)>
+    ensures { IfSome result (λ edit. map_call (Some command.now) ≡ Some (Edit edit.0 edit.1)) }
 {
-    match *command {
-        Command::Map(Request::Insert { key, value }) => Some(leaving(command, key, Some(value))),
-        Command::Map(Request::Delete { key }) => Some(leaving(command, key, None)),
-        Command::Map(Request::PopFirst) => {
-            Some(leaving(command, key_of(judge, popped_leaf(judge, scx)), None))
-        }
-        Command::Map(Request::ReplaceIf { key, value, .. }) => {
-            Some(leaving(command, key, Some(value)))
-        }
+    match command {
+        Command::Map(request) => request.edit(),
         _ => None,
     }
 }
 
-/// The leaf out of which a pop may take the first key by an SCX-record: of two nodes the second, of
+/// The edit that a call with this command is to make by an SCX-record: of the first pair, which it
+/// may only take out, the key is the first one of its leaf.
+fn edit_for(judge: &Judge, scx: u64, command: &Command, goal: Goal, rule: Rule) -> Option<Begun>
+    requires { map_call (Some command.now) ≡ Some (Edit goal rule) }
+    ensures command { IfSome result (λ begun. begun.command ≡ command.now) }
+    ensures own { IfSome result (λ begun. IsEditBy (map_call (Some command.now)) (edit_begun begun)) }
+    ensures small { IfSome result (λ begun. begun.key < 2 ^ 64) }
+{
+    let key = match goal {
+        Goal::Key(key) => key,
+        Goal::Least if rule.leaves().is_none() => key_of(judge, taken_leaf(judge, scx)),
+        Goal::Least => return None,
+    };
+    Some(Begun {
+        command: *command,
+        key,
+        value: rule.leaves(),
+    })
+}
+
+/// The leaf out of which the first key may be taken by an SCX-record: of two nodes the second, of
 /// four the left child, which is the third.
-fn popped_leaf(judge: &Judge, scx: u64) -> u64 {
+fn taken_leaf(judge: &Judge, scx: u64) -> u64 {
     let place = if covers_two(judge, scx) { 1 } else { 2 };
     member(judge, scx, place)
 }
 
-fn leaving(command: &Command, key: u64, value: Option<u128>) -> Begun
-    ensures { result ≡ record { command = command.now; key = key; value = value } }
-{
-    Begun {
-        command: *command,
-        key,
-        value,
-    }
-}
-
-/// Whether the leaf that an SCX-record covers for its edit suits the call that it has begun for: a
-/// pop takes out the first key of the first leaf, a replacement finds the value that it expects.
+/// Whether the leaf that an SCX-record covers for its edit suits the call that it has begun for: the
+/// call changes what that says of the key, and, of the first pair, it is the tree's first leaf.
 pub(crate) fn suits(judge: &Judge, scx: u64, begun: &Begun) -> bool
     requires { IsTreeRun judge.now.layout (seen_history judge.now) }
-    ensures { IsTrue result → IsEditBy (map_call (Some begun.now.command)) (edit_begun begun.now) → IsSuited (seen_history judge.now) scx begun.now }
+    ensures { IsTrue result → IsSuited (seen_history judge.now) scx begun.now }
 {
+    let Some((goal, rule)) = edit_in(&begun.command) else {
+        return false;
+    };
     let leaf = edit_leaf(judge, scx, begun);
-    match begun.command {
-        Command::Map(Request::PopFirst) => is_first_leaf(judge, leaf, begun.key),
-        Command::Map(Request::ReplaceIf { key, expected, .. }) => {
-            head(judge, leaf).leaf
-                && is_readable(judge, leaf)
-                && said(judge, leaf, key) == Some(expected)
-        }
-        _ => true,
-    }
+    head(judge, leaf).leaf
+        && is_readable(judge, leaf)
+        && rule.applies(said(judge, leaf, begun.key))
+        && (matches!(goal, Goal::Key(_)) || is_first_leaf(judge, leaf, begun.key))
 }
 
 /// The leaf where the key of an SCX-record's edit stands, or would: the second of two nodes, or one
@@ -127,15 +127,14 @@ fn covers_two(judge: &Judge, scx: u64) -> bool
     Plan(scx_word(judge, scx, ScxWord::Plan)).count() == 2
 }
 
-/// Whether a node is the first leaf of the tree, and this is its first key.
-fn is_first_leaf(judge: &Judge, node: u64, key: u64) -> bool
-    requires { IsTreeRun judge.now.layout (seen_history judge.now) }
-    ensures { IsTrue result → IsFirstLeaf (seen_history judge.now) node key }
+/// Whether a leaf is the first one of the tree, and this is its first key.
+fn is_first_leaf(judge: &Judge, leaf: u64, key: u64) -> bool
+    requires tree { IsTreeRun judge.now.layout (seen_history judge.now) }
+    requires leaf { is_leaf (word_now judge.now) leaf ≡ true }
+    requires readable { class (word_now judge.now) leaf ≡ 0 → IsWellCounted (word_now judge.now) leaf }
+    ensures { IsTrue result → IsFirstLeaf (seen_history judge.now) leaf key }
 {
-    head(judge, node).leaf
-        && is_readable(judge, node)
-        && is_first_key(judge, node, key)
-        && is_on_path(judge, 0, node)
+    is_first_key(judge, leaf, key) && is_on_path(judge, 0, leaf)
 }
 
 /// Whether this is the first key that a leaf gives the map.

@@ -12,7 +12,8 @@ pub enum AuditFault {
     /// An allocation was refused. Nothing is known of the record.
     #[error("no memory")]
     NoMemory,
-    /// The first row of the record's report that is not as the rows before it ask, counted from 1.
+    /// The first row of the record's report that is not as the rows before it ask, counted from 1
+    /// (that just this row is at fault is tested).
     #[error("not lawful: row {row}")]
     NotLawful { row: u64 },
 }

@@ -1,31 +1,30 @@
 //! Calls of the map: where they took place, and what they told there.
-ghost use Rattle.std.specs.Prelude.{◌≡◌, ℕ, suc, ◌<◌, ◌≤◌, List, Some, None, IsTrue};
+ghost use Rattle.std.specs.Prelude.{◌≡◌, ℕ, suc, ◌-◌, ◌<◌, ◌≤◌, List, Some, None, IsTrue};
 ghost use Rattle.arena.specs.declared.layout.Layout.{Layout};
-ghost use Rattle.ordered_map.specs.OrderedMap.{OneValue, get};
+ghost use Rattle.ordered_map.specs.OrderedMap.{OneValue, get, reply as reply_of};
 ghost use Rattle.ordered_map.specs.Replies.{number_reply};
+ghost use Rattle.ordered_map.specs.Requests.{map_request};
 ghost use Rattle.script.specs.declared.call.Call.{Call as CallOf};
-ghost use Rattle.script.specs.declared.command.Command.{Command as CommandOf};
 ghost use Rattle.script.specs.declared.command.Command.TheVariants.{Map as MapCommand};
 ghost use Rattle.ordered_map.specs.declared.reply.Reply.TheVariants.{Full as FullShare};
 ghost use Rattle.record.specs.declared.record.Answer.TheVariants.{Map as MapAnswer};
 ghost use Rattle.record.specs.declared.record.Line.{Line};
-ghost use Rattle.record.specs.CommandRules.{IsRight, IsPlaced, MayAnswerAtOnce};
+ghost use Rattle.record.specs.CommandRules.{IsRight, IsPlaced};
 ghost use Rattle.record.specs.Linked.{linked};
 ghost use Rattle.record.specs.MapRecord.{map_at, reply_told};
-ghost use Rattle.record.specs.Turns.{history, start, won};
+ghost use Rattle.record.specs.Turns.{history, start};
 ghost use Rattle.moments.specs.Entries.{AreEntries, HadFirstWithin, HadWithin};
 ghost use Rattle.ordered_map.specs.declared.pair.Pair.{Pair as PairOf};
-ghost use Rattle.moments.specs.Ordered.{FallFrom};
+ghost use Rattle.moments.specs.Ordered.{FallFrom, IsOrderedRead};
 ghost use Rattle.moments.specs.Places.{changes};
-ghost use Rattle.audit.specs.Asked.{IsAsked, IsToldAt, IsToldBefore, IsValueAt, IsReadAt, IsTooFewFor, IsTooFewToTake, NeededSomething};
+ghost use Rattle.audit.specs.Asked.{IsAsked, IsValueAt, IsReadAt, NeededSomething, NeededWithin, IsToldByPairs};
 ghost use Rattle.audit.specs.Remembered.{AreRemembered};
-ghost use Rattle.audit.specs.declared.client.Client.{Client as ClientOf};
 
 use crate::client::Client;
 use crate::steps::Steps;
 use arena::Resource;
-use moments::{Places, edited, pairs_told};
-use ordered_map::{Reply, Request};
+use moments::{Places, pairs_told};
+use ordered_map::{Goal, Reply, Request};
 use record::{Answer, Finished};
 use script::Command;
 
@@ -83,12 +82,12 @@ fn is_placed(
         IsPlaced lay calls lines reply.now (MapCommand request.now) }
 {
     match client.won {
-        Some(turn) => { reply.moment == Some(turn) && had_before(places, request, told, turn) }
+        Some(turn) => reply.moment == Some(turn) && had_before(places, request, told, turn),
         None => is_read(places, request, told, reply),
     }
 }
 
-/// Whether a reply tells what the map replied to an edit just before a turn.
+/// Whether a reply tells what the map replied to a call just before a turn.
 fn had_before(
     places: &Places,
     request: &Request<u64, u128>,
@@ -96,14 +95,24 @@ fn had_before(
     turn: u64,
 ) -> bool
     ensures { (calls : List CallOf) (lines : List Line) → AreEntries calls lines (changes places.now) → IsTrue result →
-        IsToldBefore calls lines (MapCommand request.now) (MapAnswer told.now) turn }
+        number_reply told.now ≡ Some (reply_of (map_request request.now) (map_at calls lines (turn - 1))) }
 {
     let before = turn.saturating_sub(1);
-    match edited(Command::Map(*request), None) {
-        Some((key, _)) => tells_of(places, key, told, before),
-        // It names no key, as a pop.
+    match told_key(request) {
+        Some(key) => tells_of(places, key, told, before),
         None => tells_at(places, request, told, before),
     }
+}
+
+/// The key whose value a call tells, if it tells that of one key.
+fn told_key(request: &Request<u64, u128>) -> Option<u64>
+    ensures { (key : ℕ) → result ≡ Some key → (m : List PairOf) → reply_of (map_request request.now) m ≡ OneValue (get key m) }
+{
+    if let Request::Get { key } = request {
+        return Some(*key);
+    }
+    let (goal, _) = request.edit()?;
+    goal.key(None)
 }
 
 /// Whether a reply tells what a key has after a turn.
@@ -126,20 +135,13 @@ fn is_read(
     reply: &Finished,
 ) -> bool
     requires { reply.now.answer ≡ MapAnswer told.now }
-    ensures right { (lay : Layout) (tries : ℕ) (calls : List CallOf) (lines : List Line) (client : ClientOf) →
-        IsAsked lay tries calls lines (changes places.now) client (MapCommand request.now) reply.now →
-        won lay lines reply.now.client.0 ≡ None → IsTrue result →
-        IsRight lay tries reply.now.client.0 (history lay.mode lines) (start lay.mode lines reply.now.client.0)
-        (linked calls lay.mode lines reply.now.client.0) (MapCommand request.now) reply.now.answer }
-    ensures placed { (lay : Layout) (tries : ℕ) (calls : List CallOf) (lines : List Line) (client : ClientOf) →
-        IsAsked lay tries calls lines (changes places.now) client (MapCommand request.now) reply.now →
-        won lay lines reply.now.client.0 ≡ None → IsTrue result → IsPlaced lay calls lines reply.now (MapCommand request.now) }
+    ensures { (calls : List CallOf) (lines : List Line) → AreEntries calls lines (changes places.now) →
+        FallFrom (suc reply.now.end) (changes places.now) → reply.now.begin ≤ reply.now.end → IsTrue result →
+        IsReadAt calls lines (map_request request.now) reply.now }
 {
-    match request {
-        Request::Get { key } => is_read_of(places, *key, told, reply),
-        Request::Delete { key } => is_read_of(places, *key, told, reply),
-        Request::ReplaceIf { key, .. } => is_read_of(places, *key, told, reply),
-        _ => is_read_at(places, request, told, reply),
+    match told_key(request) {
+        Some(key) => is_read_of(places, key, told, reply),
+        None => is_read_at(places, request, told, reply),
     }
 }
 
@@ -176,29 +178,38 @@ fn is_read_at(
     requires { reply.now.answer ≡ MapAnswer told.now }
     ensures { (calls : List CallOf) (lines : List Line) → AreEntries calls lines (changes places.now) →
         FallFrom (suc reply.now.end) (changes places.now) → reply.now.begin ≤ reply.now.end → IsTrue result →
-        IsReadAt calls lines (MapCommand request.now) reply.now }
+        IsReadAt calls lines (map_request request.now) reply.now }
 {
     let command = Command::Map(*request);
     let turn = places.greatest_of(&command, told, reply.begin, reply.end);
     reply.moment == Some(turn) && tells_at(places, request, told, turn)
 }
 
-/// Whether an ordered read, or a pop, tells what the map replies to it after a turn.
+/// Whether an ordered read, or an edit of the first pair, tells what the map replies to it after a
+/// turn.
 fn tells_at(
     places: &Places,
     request: &Request<u64, u128>,
     told: &Reply<u64, u128>,
     turn: u64,
 ) -> bool
-    ensures { (calls : List CallOf) (lines : List Line) → AreEntries calls lines (changes places.now) → IsTrue result →
-        IsToldAt calls lines (MapCommand request.now) told.now turn }
+    ensures ordered { IsTrue result → IsOrderedRead (MapCommand request.now) }
+    ensures told { (calls : List CallOf) (lines : List Line) → AreEntries calls lines (changes places.now) → IsTrue result →
+        number_reply told.now ≡ Some (reply_of (map_request request.now) (map_at calls lines turn)) }
 {
     let command = Command::Map(*request);
-    let pairs = pairs_told(told);
+    tells_pairs(request, told) && places.tells(&command, pairs_told(told), turn)
+}
+
+/// Whether a reply has the form of those to the call, which tells pairs by rising key.
+fn tells_pairs(request: &Request<u64, u128>, told: &Reply<u64, u128>) -> bool
+    ensures ordered { IsTrue result → IsOrderedRead (MapCommand request.now) }
+    ensures form { IsTrue result → IsToldByPairs (map_request request.now) told.now }
+{
     match (request, told) {
-        (Request::PopFirst, Reply::Pair(_)) => places.tells(&command, pairs, turn),
-        (Request::Successor { key: _ }, Reply::Pair(_)) => places.tells(&command, pairs, turn),
-        (Request::Range { .. }, Reply::Pairs(_)) => places.tells(&command, pairs, turn),
+        (Request::Range { .. }, Reply::Pairs(_)) => true,
+        (Request::Successor { key: _ }, Reply::Pair(_)) => true,
+        (_, Reply::Pair(_)) => matches!(request.edit(), Some((Goal::Least, _))),
         _ => false,
     }
 }
@@ -236,23 +247,19 @@ fn is_refused(
     }
 }
 
-/// Whether the map had what an edit needs after some turn of a call: the key of a delete, a pair for
-/// a pop, the value that a replacement expects. An insert always has something to do.
+/// Whether an edit found something to change after some turn of its call; a read needs nothing.
 fn needed_something(places: &Places, request: &Request<u64, u128>, reply: &Finished) -> bool
     ensures { (calls : List CallOf) (lines : List Line) → AreEntries calls lines (changes places.now) → IsTrue result →
-        NeededSomething calls lines request.now reply.now }
+        NeededSomething calls lines (map_request request.now) reply.now }
 {
-    match request {
-        Request::Delete { key } => had_some(places, *key, reply),
-        Request::PopFirst => had_pair(places, reply),
-        Request::ReplaceIf { key, expected, .. } => had(places, *key, Some(*expected), reply),
-        _ => true,
+    if request.edit().is_none() {
+        return true;
     }
+    needed_three(places, request, reply) || needed_one(places, request, reply)
 }
 
-/// Whether the share of a client has too little for its edit: of three nodes where the key had no
-/// value after some turn of the call; of one where it had one, as a delete finds, or the one that a
-/// replacement expects; or where the map had a pair, for a pop.
+/// Whether the share of a client has too little for what its edit needed after some turn of its
+/// call.
 fn is_full(
     steps: &Steps,
     places: &Places,
@@ -269,93 +276,38 @@ fn is_full(
         (linked calls lay.mode lines reply.now.client.0) (MapCommand request.now)
         (MapAnswer (FullShare record { what = full.0; left = full.1 })) }
 {
-    match request {
-        Request::Insert { key, value: _ } => {
-            is_full_for_new(steps, places, client, *key, reply, full)
-                || is_full_for_old(steps, places, client, *key, reply, full)
-        }
-        Request::Delete { key } => is_full_for_old(steps, places, client, *key, reply, full),
-        Request::PopFirst => is_full_for_pair(steps, places, client, reply, full),
-        Request::ReplaceIf { key, expected, .. } => {
-            let pair = (*key, *expected);
-            is_full_for_value(steps, places, client, pair, reply, full)
-        }
+    if steps.has_too_few_to_try(client.pass, 1, full) && needed_one(places, request, reply) {
+        return true;
+    }
+    steps.has_too_few_to_try(client.pass, 3, full) && needed_three(places, request, reply)
+}
+
+/// Whether after some turn of a call its edit needed three nodes: its key had no value, in whose
+/// place it puts one.
+fn needed_three(places: &Places, request: &Request<u64, u128>, reply: &Finished) -> bool
+    ensures { (calls : List CallOf) (lines : List Line) → AreEntries calls lines (changes places.now) → IsTrue result →
+        NeededWithin calls lines (map_request request.now) 3 reply.now }
+{
+    match request.edit() {
+        Some((Goal::Key(key), rule)) => rule.applies(None) && had(places, key, None, reply),
         _ => false,
     }
 }
 
-/// Whether a key had no value after some turn of a call, and the share has too little for a new
-/// one.
-fn is_full_for_new(
-    steps: &Steps,
-    places: &Places,
-    client: &Client,
-    key: u64,
-    reply: &Finished,
-    full: (Resource, u32),
-) -> bool
-    requires { client.now.pass.0 < steps.now.judge.layout.passes }
-    ensures { (lay : Layout) (tries : ℕ) (calls : List CallOf) (lines : List Line) (command : CommandOf) →
-        IsAsked lay tries calls lines (changes places.now) client.now command reply.now → AreRemembered lay calls lines steps.now →
-        (MayAnswerAtOnce command reply.now.answer → ⊥) → IsTrue result → IsTooFewFor lay lines reply.now key None full.0 full.1 }
+/// Whether after some turn of a call its edit needed one node: it found a value in whose place it
+/// changes something.
+fn needed_one(places: &Places, request: &Request<u64, u128>, reply: &Finished) -> bool
+    ensures { (calls : List CallOf) (lines : List Line) → AreEntries calls lines (changes places.now) → IsTrue result →
+        NeededWithin calls lines (map_request request.now) 1 reply.now }
 {
-    steps.has_too_few_to_try(client.pass, 3, full) && had(places, key, None, reply)
-}
-
-/// Whether a key had a value after some turn of a call, and the share has too little for another
-/// one or none.
-fn is_full_for_old(
-    steps: &Steps,
-    places: &Places,
-    client: &Client,
-    key: u64,
-    reply: &Finished,
-    full: (Resource, u32),
-) -> bool
-    requires { client.now.pass.0 < steps.now.judge.layout.passes }
-    ensures { (lay : Layout) (tries : ℕ) (calls : List CallOf) (lines : List Line) (command : CommandOf) →
-        IsAsked lay tries calls lines (changes places.now) client.now command reply.now → AreRemembered lay calls lines steps.now →
-        (MayAnswerAtOnce command reply.now.answer → ⊥) → IsTrue result → (v : ℕ) ×
-        IsTooFewFor lay lines reply.now key (Some v) full.0 full.1 }
-{
-    steps.has_too_few_to_try(client.pass, 1, full) && had_some(places, key, reply)
-}
-
-/// Whether a key had this value after some turn of a call, and the share has too little for another
-/// one.
-fn is_full_for_value(
-    steps: &Steps,
-    places: &Places,
-    client: &Client,
-    pair: (u64, u128),
-    reply: &Finished,
-    full: (Resource, u32),
-) -> bool
-    requires { client.now.pass.0 < steps.now.judge.layout.passes }
-    ensures { (lay : Layout) (tries : ℕ) (calls : List CallOf) (lines : List Line) (command : CommandOf) →
-        IsAsked lay tries calls lines (changes places.now) client.now command reply.now → AreRemembered lay calls lines steps.now →
-        (MayAnswerAtOnce command reply.now.answer → ⊥) → IsTrue result →
-        IsTooFewFor lay lines reply.now pair.0 (Some pair.1) full.0 full.1 }
-{
-    steps.has_too_few_to_try(client.pass, 1, full) && had(places, pair.0, Some(pair.1), reply)
-}
-
-/// Whether the map had a pair, whatever it was, after some turn of a call, and the share has too
-/// little for a pop.
-fn is_full_for_pair(
-    steps: &Steps,
-    places: &Places,
-    client: &Client,
-    reply: &Finished,
-    full: (Resource, u32),
-) -> bool
-    requires { client.now.pass.0 < steps.now.judge.layout.passes }
-    ensures { (lay : Layout) (tries : ℕ) (calls : List CallOf) (lines : List Line) (command : CommandOf) →
-        IsAsked lay tries calls lines (changes places.now) client.now command reply.now → AreRemembered lay calls lines steps.now →
-        (MayAnswerAtOnce command reply.now.answer → ⊥) → IsTrue result → (first : PairOf) ×
-        IsTooFewToTake lay lines reply.now first full.0 full.1 }
-{
-    steps.has_too_few_to_try(client.pass, 1, full) && had_pair(places, reply)
+    let Some((goal, rule)) = request.edit() else {
+        return false;
+    };
+    match (goal, rule.expects()) {
+        (Goal::Key(key), Some(value)) => had(places, key, Some(value), reply),
+        (Goal::Key(key), None) => rule.applies_to_all() && had_some(places, key, reply),
+        (Goal::Least, _) => rule.applies_to_all() && had_pair(places, reply),
+    }
 }
 
 /// Whether the map had a pair after some turn of a call.

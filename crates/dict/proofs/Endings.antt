@@ -10,7 +10,7 @@ use Rattle.order.specs.Known.{HasReplied, ReadAnswers}
 use Rattle.order.specs.declared.refused.Refused.{Refused}
 use Rattle.order.specs.declared.refused.Refused.TheVariants as refused
 use Rattle.order.specs.declared.run.ReadRun.{ReadRun}
-use Rattle.ordered_map.specs.OrderedMap.{MapCall, MapEdit, Get, OneValue, edit_key, get, pair, pair_or_none, reply}
+use Rattle.ordered_map.specs.OrderedMap.{MapCall, MapEdit, Get, OneValue, edit_key, get, pair, pair_or_none, reply, goal_told}
 use Rattle.ordered_map.specs.Runs.{IsTreeRun}
 use Rattle.ordered_map.specs.Spelled.{Spells}
 use Rattle.ordered_map.specs.declared.pair.Pair.{Pair}
@@ -20,8 +20,8 @@ use Rattle.template.specs.FoundLeaf.{asked_key, HasFoundGoal}
 use Rattle.template.specs.Tries.{tries_since, HasTriedAtMost, HasTriedAllBut}
 use Rattle.template.proofs.Lemmas.{tried_few}
 use Rattle.template.specs.declared.walk.Found.{Found}
-use Rattle.template.specs.declared.walk.Goal.{Goal}
-use Rattle.template.specs.declared.walk.Goal.TheVariants.{Key as ToKey, Least}
+use Rattle.ordered_map.specs.declared.rule.Goal.{Goal}
+use Rattle.ordered_map.specs.declared.rule.Goal.TheVariants.{Key as ToKey, Least}
 use Rattle.tree.specs.Get.Known.{GetAnswers}
 use Rattle.tree.specs.declared.get.GetRun.{GetRun}
 use Rattle.edits.specs.Known.{RestsWith, HasLostEveryTry, HasMade, IsDoneAt, IsUpdateAnswer, ToldFirst}
@@ -36,7 +36,7 @@ use Rattle.edits.specs.declared.update.Updated.{Updated}
 use Rattle.edits.specs.declared.update.Updated.TheVariants.{Done, Contended, Full}
 use Rattle.ordered_map.specs.CallRules.{most_nodes}
 use Rattle.dict.specs.Calls.{most_tries, HasSpent, IsSmallCall}
-use Rattle.dict.specs.Goals.{goal_told, leaf_told}
+use Rattle.dict.specs.Goals.{leaf_told}
 use Rattle.dict.specs.Inner.{EditKind, ReadKind}
 use Rattle.dict.specs.Known.{HasRested, HasSpentSo}
 use Rattle.dict.specs.Says.{WordSays, IsRefusal, HasLost, HasMadeEdit, HasNeeded, HasReadMap, HasTold, HasToldBy, TellsOfMap}

@@ -27,7 +27,7 @@ use Rattle.dict.proofs.Endings.{edit_says, get_says, read_says, read_spent, edit
 
 module _ (tries : ℕ) (c : Call) where
   -- an edit that goes on is the same
-  pub edit_goes : (k : EditKind) (is : IsEditKind k) (old now : UpdateRun k.E UpdateAt) → Goes (Update k old) tries c → now.edit ≡ old.edit → now.call ≡ old.call → now.limit ≡ old.limit → Spends k.means.most_nodes old.share now.share (node_tries old old.at) (node_tries now now.at) (scx_tries old old.at) (scx_tries now now.at) → Goes (Update k now) tries c
+  pub edit_goes : (k : EditKind) (is : IsEditKind k) (old now : UpdateRun k.E UpdateAt) → Goes (Update k old) tries c → now.edit ≡ old.edit → now.call ≡ old.call → now.limit ≡ old.limit → Spends (k.means.most_nodes old.edit) old.share now.share (node_tries old old.at) (node_tries now now.at) (scx_tries old old.at) (scx_tries now now.at) → Goes (Update k now) tries c
   edit_goes k is old now goes edit call limit spends = record {
     mode = goes.mode;
     small = rw edit goes.small;
@@ -39,7 +39,7 @@ module _ (tries : ℕ) (c : Call) where
 -- Their answers
 
 module _ (tries : ℕ) (c : Call) (h : History) where
-  pub edit_ends : (k : EditKind) (is : IsEditKind k) (old now : UpdateRun k.E UpdateAt) (a : Updated) → IsRun TreeAllows c.layout h → Goes (Update k old) tries c → now.edit ≡ old.edit → now.call ≡ old.call → now.limit ≡ old.limit → Spends k.means.most_nodes old.share now.share (node_tries old old.at) now.tries (scx_tries old old.at) now.tries → UpdateAnswers k.means now c h a → InnerAnswers tries (Update k now) c h (edit_reply (k.means.goal now.edit) a)
+  pub edit_ends : (k : EditKind) (is : IsEditKind k) (old now : UpdateRun k.E UpdateAt) (a : Updated) → IsRun TreeAllows c.layout h → Goes (Update k old) tries c → now.edit ≡ old.edit → now.call ≡ old.call → now.limit ≡ old.limit → Spends (k.means.most_nodes old.edit) old.share now.share (node_tries old old.at) now.tries (scx_tries old old.at) now.tries → UpdateAnswers k.means now c h a → InnerAnswers tries (Update k now) c h (edit_reply (k.means.goal now.edit) a)
   edit_ends k is old now a run goes edit call limit spends x = record {
     rests = x.0;
     spent = edit_spent c h (k.call now.edit) tries now.tries now.share (is.edits now.edit)

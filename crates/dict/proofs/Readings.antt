@@ -10,7 +10,7 @@ use Rattle.arena.specs.Machines.{Call}
 use Rattle.arena.specs.Share.{Remaining}
 use Rattle.arena.proofs.Lemmas.{ends_self, ends_trans}
 use Rattle.order.specs.Replies.{IsReplyAt}
-use Rattle.ordered_map.specs.OrderedMap.{MapCall, Get, MapReply, OneValue, reply}
+use Rattle.ordered_map.specs.OrderedMap.{MapCall, Get, MapReply, OneValue, reply, goal_told}
 use Rattle.ordered_map.specs.Paths.{IsAnswerAt}
 use Rattle.ordered_map.specs.Runs.{IsTreeRun}
 use Rattle.ordered_map.specs.Spelled.{Spells}
@@ -19,7 +19,7 @@ use Rattle.ordered_map.proofs.Lemmas.{run_spells}
 use Rattle.template.specs.FoundLeaf.{path_key, HasFoundGoal}
 use Rattle.template.specs.Trails.{IsOwnMoment}
 use Rattle.template.specs.declared.walk.Found.{Found}
-use Rattle.template.specs.declared.walk.Goal.{Goal}
+use Rattle.ordered_map.specs.declared.rule.Goal.{Goal}
 use Rattle.template.proofs.Lemmas.{own_since}
 use Rattle.edits.specs.Known.{IsShort, IsUntouched}
 use Rattle.edits.specs.Laws.Entered.{none_quiet}
@@ -28,7 +28,7 @@ use Rattle.edits.specs.Tries.{HasEnteredNone, HasOnlyLooked}
 use Rattle.edits.specs.declared.edit.Need.{Need}
 use Rattle.ordered_map.specs.CallRules.{most_nodes, need}
 use Rattle.dict.specs.Calls.{AsksForPairs}
-use Rattle.dict.specs.Goals.{goal_told, leaf_told}
+use Rattle.dict.specs.Goals.{leaf_told}
 use Rattle.dict.specs.Known.{HasRested}
 use Rattle.dict.specs.Laws.Found.{found_tells}
 use Rattle.dict.specs.Says.{HasMadeRow, HasNeeded, HasReadMap, HasTooLittle, HasRunOut}

@@ -5,7 +5,8 @@ use Rattle.arena.specs.History.{History}
 use Rattle.arena.specs.Machines.{Call}
 use Rattle.arena.specs.Share.{Remaining}
 use Rattle.ordered_map.specs.CallRules.{most_nodes, most_scx}
-use Rattle.ordered_map.specs.OrderedMap.{MapCall, Edit, ReplaceIf, Get, Range, edit_key}
+use Rattle.ordered_map.specs.OrderedMap.{MapCall, Edit, Get, Range}
+use Rattle.ordered_map.specs.declared.rule.Goal.TheVariants.{Key}
 use Rattle.template.specs.Tries.{tries_since, HasTriedAtMost}
 use Rattle.edits.specs.Known.{RestsWith}
 use Rattle.dict.specs.declared.run.MapRun.{MapRun}
@@ -45,10 +46,9 @@ tries_behind m = inner_tries (inner m)
 abbrev pub KeepsTriesButOne : MapRun → MapRun → Type 0
 KeepsTriesButOne old now = (tries_behind now ≤ tries_behind old) × (tries_behind old ≤ tries_behind now + 1)
 
--- the key of a call that may edit it is one of a word
+-- the key of a call that may edit it, if it names one, is one of a word
 abbrev pub IsSmallCall : MapCall → Type 0
-IsSmallCall (Edit e) = edit_key e < 2 ^ 64
-IsSmallCall (ReplaceIf k e v) = k < 2 ^ 64
+IsSmallCall (Edit (Key k) rule) = k < 2 ^ 64
 IsSmallCall _ = Unit {0}
 
 -- What a call may try and take

@@ -10,16 +10,19 @@ use Rattle.order.specs.declared.range.Range.{Range}
 use Rattle.order.specs.declared.run.ReadRun.{ReadRun}
 use Rattle.order.specs.declared.successor.Successor.{Successor}
 use Rattle.ordered_map.specs.declared.pair.Pair.{Pair}
-use Rattle.ordered_map.specs.OrderedMap.{MapCall, Edit, Insert, Delete, PopFirst, ReplaceIf}
-use Rattle.tree.specs.Delete.Means.{delete_means}
-use Rattle.tree.specs.Insert.Means.{insert_means}
-use Rattle.tree.specs.PopFirst.Means.{pop_means}
-use Rattle.tree.specs.ReplaceIf.Means.{replace_means}
-use Rattle.tree.specs.declared.delete.Delete.{Delete as Deleted}
+use Rattle.ordered_map.specs.OrderedMap.{MapCall, Edit}
+use Rattle.ordered_map.specs.declared.rule.Goal.{Goal}
+use Rattle.ordered_map.specs.declared.rule.Goal.TheVariants as goals
+use Rattle.ordered_map.specs.declared.rule.Rule.{Rule}
+use Rattle.ordered_map.specs.declared.rule.Rule.TheVariants as rules
+use Rattle.tree.specs.KeyEdit.Means.{key_means}
+use Rattle.tree.specs.declared.key_edit.KeyEdit.{KeyEdit}
+use Rattle.tree.specs.declared.rule.AtKey.{AtKey}
+use Rattle.tree.specs.declared.rule.AtLeast.{AtLeast}
+use Rattle.tree.specs.declared.rule.PutRule.{PutRule}
+use Rattle.tree.specs.declared.rule.SwapRule.{SwapRule}
+use Rattle.tree.specs.declared.rule.TakeRule.{TakeRule}
 use Rattle.tree.specs.declared.get.GetRun.{GetRun}
-use Rattle.tree.specs.declared.insert.Insert.{Insert as Inserted}
-use Rattle.tree.specs.declared.pop_first.PopFirst.{PopFirst as Popped}
-use Rattle.tree.specs.declared.replace_if.ReplaceIf.{ReplaceIf as Replaced}
 use Rattle.edits.specs.Edits.{EditMeaning}
 use Rattle.edits.specs.declared.update.UpdateAt.{UpdateAt}
 use Rattle.edits.specs.declared.update.UpdateRun.{UpdateRun}
@@ -33,18 +36,25 @@ pub record EditKind : Type 1 where
   pub means : EditMeaning E
   pub call : E → MapCall
 
--- those of the four calls that may edit
-abbrev pub insert_kind : EditKind
-insert_kind = record { E = Inserted; means = insert_means; call = λ e. Edit (Insert e.key e.value) }
+-- that of an edit of the tree, of which `goal` and `rule` are the goal and the rule as values
+abbrev pub key_kind : {G R : Type 0} → (G → Goal) → (R → Rule) → EditKind
+key_kind {G} {R} goal rule = record { E = KeyEdit G R; means = key_means goal rule; call = λ e. Edit (goal e.goal) (rule e.rule) }
 
-abbrev pub delete_kind : EditKind
-delete_kind = record { E = Deleted; means = delete_means; call = λ e. Edit (Delete e.key) }
+-- those of the goals and rules that calls have
+abbrev pub at_key : AtKey → Goal
+at_key g = goals.Key g.0
 
-abbrev pub pop_kind : EditKind
-pop_kind = record { E = Popped; means = pop_means; call = λ e. PopFirst }
+abbrev pub at_least : AtLeast → Goal
+at_least g = goals.Least
 
-abbrev pub replace_kind : EditKind
-replace_kind = record { E = Replaced; means = replace_means; call = λ e. ReplaceIf e.key e.expected e.value }
+abbrev pub put : PutRule → Rule
+put r = rules.Put r.0
+
+abbrev pub take : TakeRule → Rule
+take r = rules.Take
+
+abbrev pub swap : SwapRule → Rule
+swap r = rules.Swap r.expected r.value
 
 -- a kind of ordered read: what it says to its machine, and what its answers are in words
 pub record ReadKind : Type 1 where
@@ -68,10 +78,10 @@ pub data InnerRun : Type 1 where
 
 -- The one match from the machine of a call to what runs inside.
 abbrev pub inner : MapRun → InnerRun
-inner (runs.Insert m) = Update insert_kind m
-inner (runs.Delete m) = Update delete_kind m
-inner (runs.PopFirst m) = Update pop_kind m
-inner (runs.ReplaceIf m) = Update replace_kind m
+inner (runs.Insert m) = Update (key_kind at_key put) m
+inner (runs.Delete m) = Update (key_kind at_key take) m
+inner (runs.PopFirst m) = Update (key_kind at_least take) m
+inner (runs.ReplaceIf m) = Update (key_kind at_key swap) m
 inner (runs.Get m share) = Get m share
 inner (runs.Successor m share) = Read successor_kind m share
 inner (runs.Range m share) = Read range_kind m share

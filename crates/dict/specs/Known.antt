@@ -9,7 +9,7 @@ use Rattle.order.specs.Known.{ReadIsReady, ReadWaits}
 use Rattle.order.specs.declared.run.ReadAt.TheVariants.{Start as ReadStart}
 use Rattle.prims.specs.Laws.Idle.{IsQuietSince}
 use Rattle.ordered_map.specs.Runs.{IsTreeRun}
-use Rattle.template.specs.declared.walk.Goal.TheVariants.{Key as ToKey}
+use Rattle.ordered_map.specs.declared.rule.Goal.TheVariants.{Key as ToKey}
 use Rattle.template.specs.declared.walk.WalkAt.TheVariants.{Start as WalkStart}
 use Rattle.tree.specs.Get.Known.{GetIsReady, GetWaits}
 use Rattle.edits.specs.Known.{RestsWith, UpdateIsReady, UpdateWaits}

@@ -4,7 +4,9 @@ use Rattle.std.specs.Prelude.{◌≡◌, ℕ, List, [], ◌∷◌, Option, Some,
 use Rattle.arena.specs.declared.layout.Layout.{Layout}
 use Rattle.arena.specs.declared.limits.Mode.TheVariants.{Tree as TreeMode}
 use Rattle.arena.specs.History.{History, value}
-use Rattle.ordered_map.specs.OrderedMap.{MapEdit, Insert, Delete, MapCall, Edit, ReplaceIf, MapReply, OneValue, OnePair, ManyPairs}
+use Rattle.ordered_map.specs.OrderedMap.{MapEdit, Insert, Delete, MapCall, Edit, MapReply, OneValue, OnePair, ManyPairs, leaves}
+use Rattle.ordered_map.specs.declared.rule.Goal.{Goal}
+use Rattle.ordered_map.specs.declared.rule.Goal.TheVariants.{Key, Least}
 use Rattle.ordered_map.specs.Spelled.{Spells}
 use Rattle.ordered_map.specs.TreeShape.{MayEdit}
 use Rattle.ordered_map.specs.declared.pair.Pair.{Pair}
@@ -16,13 +18,6 @@ abbrev pub IsTypedEdit : (ℕ → Type 0) → (ℕ → Type 0) → MapEdit → T
 IsTypedEdit keys values (Insert k v) = keys k × values v
 IsTypedEdit keys values (Delete k) = keys k
 
--- the edit that a call names, if it names one, is of such words; a replacement names the insert
--- that it may make
-abbrev pub IsTypedCall : (ℕ → Type 0) → (ℕ → Type 0) → MapCall → Type 0
-IsTypedCall keys values (Edit e) = IsTypedEdit keys values e
-IsTypedCall keys values (ReplaceIf k e v) = keys k × values v
-IsTypedCall keys values _ = Unit {0}
-
 -- all pairs are of such keys and values
 abbrev pub AreTyped : (ℕ → Type 0) → (ℕ → Type 0) → List Pair → Type 0
 AreTyped keys values [] = Unit {0}
@@ -32,6 +27,16 @@ AreTyped keys values (p ∷ ps) = keys p.key × values p.value × AreTyped keys 
 abbrev pub IsTypedValue : (ℕ → Type 0) → Option ℕ → Type 0
 IsTypedValue values None = Unit {0}
 IsTypedValue values (Some v) = values v
+
+-- the key to which an edit goes, if it names one, is such a key, and what it leaves, if it leaves a
+-- value, such a value
+abbrev pub IsTypedGoal : (ℕ → Type 0) → Goal → Type 0
+IsTypedGoal keys (Key k) = keys k
+IsTypedGoal keys Least = Unit {0}
+
+abbrev pub IsTypedCall : (ℕ → Type 0) → (ℕ → Type 0) → MapCall → Type 0
+IsTypedCall keys values (Edit goal rule) = IsTypedGoal keys goal × IsTypedValue values (leaves rule)
+IsTypedCall keys values _ = Unit {0}
 
 -- a reply of such keys and values
 abbrev pub IsTypedReply : (ℕ → Type 0) → (ℕ → Type 0) → MapReply → Type 0

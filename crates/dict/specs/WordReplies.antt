@@ -11,8 +11,8 @@ use Rattle.order.specs.declared.refused.Refused.TheVariants as refused
 use Rattle.ordered_map.specs.CallRules.{Form}
 use Rattle.ordered_map.specs.OrderedMap.{MapReply, OneValue, ManyPairs, pair, pair_or_none}
 use Rattle.ordered_map.specs.declared.pair.Pair.{Pair as PairOf}
-use Rattle.template.specs.declared.walk.Goal.{Goal}
-use Rattle.template.specs.declared.walk.Goal.TheVariants.{Key as ToKey, Least}
+use Rattle.ordered_map.specs.declared.rule.Goal.{Goal}
+use Rattle.ordered_map.specs.declared.rule.Goal.TheVariants.{Key as ToKey, Least}
 use Rattle.edits.specs.declared.update.Updated.{Updated}
 use Rattle.edits.specs.declared.update.Updated.TheVariants as updated
 

@@ -1,14 +1,15 @@
 //! Edits that calls of the map make.
-ghost use Rattle.ordered_map.specs.OrderedMap.{MapCall, Edit as EditOf, PopFirst as PopOf, ReplaceIf as ReplaceOf, Insert as PutEdit, Delete as TakeEdit};
+ghost use Rattle.ordered_map.specs.OrderedMap.{MapCall, Edit as EditOf};
 ghost use Rattle.edits.specs.declared.update.UpdateAt.{UpdateAt as Place};
 ghost use Rattle.edits.specs.declared.update.UpdateRun.{UpdateRun};
 ghost use Rattle.dict.specs.Around.{IsAround};
-ghost use Rattle.dict.specs.Laws.Kinds.{IsEditKind, around_insert, around_delete, around_pop, around_replace, delete_is, insert_is, pop_is, replace_is};
+ghost use Rattle.dict.specs.Inner.{at_key, at_least, put, swap, take};
+ghost use Rattle.dict.specs.Laws.Kinds.{IsEditKind, around_insert, around_delete, around_pop, around_replace, key_is};
 ghost use Rattle.dict.specs.declared.run.MapRun.{MapRun};
 ghost use Rattle.dict.specs.declared.run.MapRun.TheVariants as runs;
 
 use edits::Edit;
-use tree::{Delete, Insert, PopFirst, ReplaceIf};
+use tree::{AtKey, AtLeast, KeyEdit, PutRule, SwapRule, TakeRule};
 
 /// An edit of the tree that a call of the map makes.
 pub trait EditCall: Edit + Copy {
@@ -25,42 +26,42 @@ pub trait EditCall: Edit + Copy {
     ghost is_around: { IsAround record { E = Self; means = Self.means; call = call } around };
 }
 
-impl EditCall for Insert {
-    ghost call = { λ e. EditOf (PutEdit e.key e.value) };
+impl EditCall for KeyEdit<AtKey, PutRule> {
+    ghost call = { λ e. EditOf (at_key e.goal) (put e.rule) };
 
     ghost around = { λ m. runs.Insert m };
 
-    ghost is_kind = { insert_is };
+    ghost is_kind = { key_is at_key put };
 
     ghost is_around = { around_insert };
 }
 
-impl EditCall for Delete {
-    ghost call = { λ e. EditOf (TakeEdit e.key) };
+impl EditCall for KeyEdit<AtKey, TakeRule> {
+    ghost call = { λ e. EditOf (at_key e.goal) (take e.rule) };
 
     ghost around = { λ m. runs.Delete m };
 
-    ghost is_kind = { delete_is };
+    ghost is_kind = { key_is at_key take };
 
     ghost is_around = { around_delete };
 }
 
-impl EditCall for PopFirst {
-    ghost call = { λ e. PopOf };
+impl EditCall for KeyEdit<AtLeast, TakeRule> {
+    ghost call = { λ e. EditOf (at_least e.goal) (take e.rule) };
 
     ghost around = { λ m. runs.PopFirst m };
 
-    ghost is_kind = { pop_is };
+    ghost is_kind = { key_is at_least take };
 
     ghost is_around = { around_pop };
 }
 
-impl EditCall for ReplaceIf {
-    ghost call = { λ e. ReplaceOf e.key e.expected e.value };
+impl EditCall for KeyEdit<AtKey, SwapRule> {
+    ghost call = { λ e. EditOf (at_key e.goal) (swap e.rule) };
 
     ghost around = { λ m. runs.ReplaceIf m };
 
-    ghost is_kind = { replace_is };
+    ghost is_kind = { key_is at_key swap };
 
     ghost is_around = { around_replace };
 }

@@ -32,7 +32,7 @@ impl Name8 {
         })
     }
 
-    /// The name of this word, if it is one's: then it is the word of a text that `new` takes.
+    /// The name of this word, if it is a name's: the word of a text that `new` takes.
     pub(crate) fn of_word(word: u64) -> Option<Name8>
         ensures some { IfSome result (λ n. n.word ≡ word) }
         ensures text { IfSome result (λ n. (bs : List ℕ) × IsName bs × (n.word ≡ name_word bs)) }

@@ -21,18 +21,18 @@ use order::{Range, RangeRun, Successor, SuccessorRun};
 use ordered_map::{Reply, Request};
 use std::alloc::Global;
 use tree::{
-    Delete, DeleteRun, GetRun, Insert, InsertRun, PopFirst, PopFirstRun, ReplaceIf, ReplaceIfRun,
-    Tree,
+    AtKey, AtLeast, GetRun, KeyEditRun, PutRule, SwapRule, TakeRule, Tree, delete, insert,
+    pop_first, replace_if,
 };
 
 /// A call that has begun. It has its pass's share until it has answered, of which a read takes
 /// nothing.
 #[derive(Debug, Drop)]
 pub enum MapRun {
-    Insert(InsertRun),
-    Delete(DeleteRun),
-    PopFirst(PopFirstRun),
-    ReplaceIf(ReplaceIfRun),
+    Insert(KeyEditRun<AtKey, PutRule>),
+    Delete(KeyEditRun<AtKey, TakeRule>),
+    PopFirst(KeyEditRun<AtLeast, TakeRule>),
+    ReplaceIf(KeyEditRun<AtKey, SwapRule>),
     Get { run: GetRun, share: Share },
     Successor { run: SuccessorRun, share: Share },
     Range { run: RangeRun, share: Share },
@@ -57,12 +57,10 @@ impl MapRun {
     {
         match (request, alloc) {
             (Request::Insert { key, value }, _) => {
-                MapRun::Insert(Insert { key, value }.run(share, tries, call))
+                MapRun::Insert(insert(key, value).run(share, tries, call))
             }
-            (Request::Delete { key }, _) => {
-                MapRun::Delete(Delete { key }.run(share, tries, call))
-            }
-            (Request::PopFirst, _) => MapRun::PopFirst(PopFirst.run(share, tries, call)),
+            (Request::Delete { key }, _) => MapRun::Delete(delete(key).run(share, tries, call)),
+            (Request::PopFirst, _) => MapRun::PopFirst(pop_first().run(share, tries, call)),
             (
                 Request::ReplaceIf {
                     key,
@@ -70,14 +68,7 @@ impl MapRun {
                     value,
                 },
                 _,
-            ) => {
-                let edit = ReplaceIf {
-                    key,
-                    expected,
-                    value,
-                };
-                MapRun::ReplaceIf(edit.run(share, tries, call))
-            }
+            ) => MapRun::ReplaceIf(replace_if(key, expected, value).run(share, tries, call)),
             (Request::Get { key }, _) => MapRun::Get {
                 run: GetRun::new(key),
                 share,

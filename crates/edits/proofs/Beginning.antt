@@ -168,8 +168,8 @@ pub few_snaps : {E : Type 0} (e : EditMeaning E) (ed : E) (f : Found) (snaps : L
 few_snaps e ed f [] bounds seen = omega arith
 few_snaps e ed f (s ∷ snaps) bounds seen = go
   where
-    last : length (take (length snaps) (s ∷ snaps)) < e.most_looks
+    last : length (take (length snaps) (s ∷ snaps)) < e.most_looks ed
     last = bounds.few_looks ed f (take (length snaps) (s ∷ snaps)) _ (seen (length snaps) (omega arith))
 
     go : suc (length snaps) ≤ 4
-    go = let i = last in let j = bounds.small in let k = length-take-le (length snaps) (s ∷ snaps) (omega arith) in omega (arith, i, j, k)
+    go = let i = last in let j = bounds.small ed in let k = length-take-le (length snaps) (s ∷ snaps) (omega arith) in omega (arith, i, j, k)

@@ -20,7 +20,7 @@ use Rattle.prims.specs.declared.snap.Snap.{Snap}
 use Rattle.ordered_map.specs.Runs.{IsTreeRun}
 use Rattle.template.specs.Blame.{IsContended}
 use Rattle.template.specs.declared.walk.Found.{Found}
-use Rattle.template.specs.declared.walk.Goal.{Goal}
+use Rattle.ordered_map.specs.declared.rule.Goal.{Goal}
 use Rattle.template.proofs.Lemmas.{changed_contended, failed_contended, finalized_contended}
 use Rattle.edits.specs.declared.edit.Look.TheVariants.{At, Differs}
 use Rattle.edits.specs.declared.edit.Need.TheVariants.{Nothing}

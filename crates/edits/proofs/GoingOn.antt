@@ -39,7 +39,7 @@ module _ {E : Type 0} (e : EditMeaning E) {A : Type 0} (m : UpdateRun E A) (now 
     pub fill_goes_on : (c : Call) (b h : History) → IsTry c b h m.limit m.tries → CanFill e m (begun_at c b) h f nth part → UpdateTurn e c h now turn
     fill_goes_on c b h try x = rw (place, is) (b, try, tt, fills_word e m f nth part _ _ _ (begun_at c b) h x refl refl refl)
 
-    pub fill_nearer : (nodes bound : ℕ) → m.tries * try_left e nodes + (fills_left e m f nth part + 39) < bound → IsNearer e now nodes turn bound
+    pub fill_nearer : (nodes bound : ℕ) → m.tries * try_left e m.edit nodes + (fills_left e m f nth part + 39) < bound → IsNearer e now nodes turn bound
     fill_nearer nodes bound i = rw (place, is) i
 
     pub fill_spends : IsSpending e turn m.share now m.tries (m.tries + 1)
@@ -75,10 +75,17 @@ pub joined_spends : (most : ℕ) (old mid now : Remaining) (nodes nodes_then scx
 joined_spends most old mid now nodes nodes_then scx scx_then tries x y = (let a = x.0 in let b = y.0 in omega (arith, a, b), let a = x.1 in let b = y.1 in omega (arith, a, b), let a = x.2 in let b = y.2 in omega (arith, a, b))
 
 -- what is taken before counts for one try more
-pub taken_before : {E : Type 0} (e : EditMeaning E) (old mid : Remaining) {A : Type 0} (m : UpdateRun E A) (f : Found) (next : Next) (nodes scx : ℕ) → old.nodes ≤ mid.nodes + e.most_nodes → mid.scx ≡ old.scx → HasSpentForNext e mid m f (Ok next) nodes scx → HasSpentForNext e old m f (Ok next) (nodes + 1) scx
-taken_before e old mid m f next nodes scx i same x = (omega (arith, i, x.0), omega (arith, same, x.1), let y = rw same at x.2 in omega (arith, i, y))
+more_before : (most : ℕ) (old mid now : Remaining) (nodes nodes_then scx scx_then : ℕ) → old.nodes ≤ mid.nodes + most → mid.scx ≡ old.scx → Spends most mid now nodes nodes_then scx scx_then → Spends most old now (nodes + 1) nodes_then scx scx_then
+more_before most old mid now nodes nodes_then scx scx_then i same x = (let a = x.0 in omega (arith, i, a), let a = x.1 in omega (arith, same, a), let y = rw same at x.2 in omega (arith, i, y))
+
+pub taken_before : {E : Type 0} (e : EditMeaning E) (old mid : Remaining) {A : Type 0} (m : UpdateRun E A) (f : Found) (next : Next) (nodes scx : ℕ) → old.nodes ≤ mid.nodes + e.most_nodes m.edit → mid.scx ≡ old.scx → HasSpentForNext e mid m f (Ok next) nodes scx → HasSpentForNext e old m f (Ok next) (nodes + 1) scx
+taken_before e old mid m f (Look n) nodes scx i same x = more_before (e.most_nodes m.edit) old mid m.share nodes _ scx _ i same x
+taken_before e old mid m f (Wait n b s) nodes scx i same x = more_before (e.most_nodes m.edit) old mid m.share nodes _ scx _ i same x
+taken_before e old mid m f (Read n part) nodes scx i same x = more_before (e.most_nodes m.edit) old mid m.share nodes _ scx _ i same x
+taken_before e old mid m f (FillNext nth) nodes scx i same x = more_before (e.most_nodes m.edit) old mid m.share nodes _ scx _ i same x
+taken_before e old mid m f (Change s) nodes scx i same x = more_before (e.most_nodes m.edit) old mid m.share nodes _ scx _ i same x
 
 -- what is spent up to the end of a try, and behind it
-pub spends_on : {E : Type 0} (e : EditMeaning E) (turn : Turn Updated) (old mid : Remaining) (m : UpdateRun E UpdateAt) (nodes scx tries : ℕ) → Spends e.most_nodes old mid nodes tries scx tries → IsSpending e turn mid m tries tries → IsSpending e turn old m nodes scx
-spends_on e (Ask s) old mid m nodes scx tries x y = joined_spends e.most_nodes old mid m.share nodes (node_tries m m.at) scx (scx_tries m m.at) tries x y
-spends_on e (Done u) old mid m nodes scx tries x y = joined_spends e.most_nodes old mid m.share nodes m.tries scx m.tries tries x y
+pub spends_on : {E : Type 0} (e : EditMeaning E) (turn : Turn Updated) (old mid : Remaining) (m : UpdateRun E UpdateAt) (nodes scx tries : ℕ) → Spends (e.most_nodes m.edit) old mid nodes tries scx tries → IsSpending e turn mid m tries tries → IsSpending e turn old m nodes scx
+spends_on e (Ask s) old mid m nodes scx tries x y = joined_spends (e.most_nodes m.edit) old mid m.share nodes (node_tries m m.at) scx (scx_tries m m.at) tries x y
+spends_on e (Done u) old mid m nodes scx tries x y = joined_spends (e.most_nodes m.edit) old mid m.share nodes m.tries scx m.tries tries x y

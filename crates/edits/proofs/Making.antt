@@ -27,8 +27,8 @@ use Rattle.template.proofs.Lemmas.{found_told, tracked_makes}
 use Rattle.arena.specs.Words.{node, first_key}
 use Rattle.template.specs.FoundLeaf.{path_key, asked_key, HasFoundGoal}
 use Rattle.template.specs.declared.walk.Found.{Found}
-use Rattle.template.specs.declared.walk.Goal.{Goal}
-use Rattle.template.specs.declared.walk.Goal.TheVariants.{Key as ToKey, Least}
+use Rattle.ordered_map.specs.declared.rule.Goal.{Goal}
+use Rattle.ordered_map.specs.declared.rule.Goal.TheVariants.{Key as ToKey, Least}
 use Rattle.edits.specs.declared.update.UpdateRun.{UpdateRun}
 use Rattle.edits.specs.Edits.{EditMeaning}
 use Rattle.edits.specs.Sound.{IsAtFound}

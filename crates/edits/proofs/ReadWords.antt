@@ -444,11 +444,11 @@ module _ {E : Type 0} (e : EditMeaning E) where
 
   -- which takes nothing of the share
   pub told_spends : {A : Type 0} (m : UpdateRun E A) (f : Found) (n : NodeNo) (part next : SettledPart) (v : ℕ) → HasSpentForNext e m.share (told m part v) f (Ok (ReadNext n next)) m.tries (m.tries + 1)
-  told_spends m f n part next v = (no_more _, no_more _, as_many e.most_nodes m.share.nodes m.share.scx m.tries)
+  told_spends m f n part next v = (no_more _, no_more _, as_many (e.most_nodes m.edit) m.share.nodes m.share.scx m.tries)
 
   -- and leaves fewer words
-  pub told_nearer : {A : Type 0} (m : UpdateRun E A) (f : Found) (n : NodeNo) (part next : SettledPart) (v nodes : ℕ) → next_read m.read ≡ Some part → next_read (read_with m.read part v) ≡ Some next → ComesNearer e (told m part v) f (Ok (ReadNext n next)) nodes (m.tries * try_left e nodes + (reads_left m.read - 1 + e.most_fills + 39))
-  told_nearer m f n part next v nodes is_part is_next = to_next_read (m.tries * try_left e nodes) (reads_left (read_with m.read part v)) (reads_left m.read) e.most_fills (some_left _ _ (reads_fewer (read_with m.read part v) 0 next is_next)) (reads_fewer m.read v part is_part)
+  pub told_nearer : {A : Type 0} (m : UpdateRun E A) (f : Found) (n : NodeNo) (part next : SettledPart) (v nodes : ℕ) → next_read m.read ≡ Some part → next_read (read_with m.read part v) ≡ Some next → ComesNearer e (told m part v) f (Ok (ReadNext n next)) nodes (m.tries * try_left e m.edit nodes + (reads_left m.read - 1 + e.most_fills m.edit + 39))
+  told_nearer m f n part next v nodes is_part is_next = to_next_read (m.tries * try_left e m.edit nodes) (reads_left (read_with m.read part v)) (reads_left m.read) (e.most_fills m.edit) (some_left _ _ (reads_fewer (read_with m.read part v) 0 next is_next)) (reads_fewer m.read v part is_part)
 
 -- At the end
 

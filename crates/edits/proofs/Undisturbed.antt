@@ -28,7 +28,7 @@ use Rattle.ordered_map.proofs.Lemmas.{log_edits, one_spelling, spells_log, walk_
 use Rattle.template.proofs.Lemmas.{found_first, own_since}
 use Rattle.template.specs.FoundLeaf.{HasFoundGoal, HasFoundLeaf, first_told}
 use Rattle.template.specs.declared.walk.Found.{Found}
-use Rattle.template.specs.declared.walk.Goal.TheVariants.{Least}
+use Rattle.ordered_map.specs.declared.rule.Goal.TheVariants.{Least}
 use Rattle.template.specs.Blame.{IsContended}
 use Rattle.edits.specs.Known.{HasMade, ToldFirst}
 use Rattle.edits.specs.Tries.{HasEnteredNone}

@@ -7,7 +7,7 @@ use Rattle.arena.proofs.Lemmas.{ends_trans}
 use Rattle.template.specs.FoundLeaf.{HasFoundGoal, path_key}
 use Rattle.template.specs.Trails.{IsOwnMoment, WasPassed, HasTurned}
 use Rattle.template.specs.declared.walk.Found.{Found}
-use Rattle.template.specs.declared.walk.Goal.{Goal}
+use Rattle.ordered_map.specs.declared.rule.Goal.{Goal}
 
 module _ (c : Call) (b : History) (since : Extends b c.start) where
   own_wider : (h : History) → IsOwnMoment (begun_at c b) h → IsOwnMoment c h

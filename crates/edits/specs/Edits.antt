@@ -5,7 +5,7 @@ use Rattle.arena.specs.declared.word.Side.{Side}
 use Rattle.prims.specs.declared.snap.Snap.{Snap}
 use Rattle.ordered_map.specs.OrderedMap.{MapEdit}
 use Rattle.template.specs.declared.walk.Found.{Found}
-use Rattle.template.specs.declared.walk.Goal.{Goal}
+use Rattle.ordered_map.specs.declared.rule.Goal.{Goal}
 use Rattle.edits.specs.declared.edit.Look.{Look}
 use Rattle.edits.specs.declared.edit.Look.TheVariants.{At}
 use Rattle.edits.specs.declared.edit.Need.{Need}
@@ -25,27 +25,27 @@ pub record EditMeaning (E : Type 0) : Type 0 where
   -- how many fresh nodes it needs for the leaf that was found
   pub needs : E → Found → Need
   -- at most so many, whatever leaf is found
-  pub most_nodes : ℕ
+  pub most_nodes : E → ℕ
   -- on which side of the node that it looks at first is the field that it changes
   pub side : E → Found → Side
   -- what it looks at next, with these snapshots
   pub looks : E → Found → List Snap → Look
   -- at most so many nodes
-  pub most_looks : ℕ
+  pub most_looks : E → ℕ
   -- the node of which it reads settled words, if it reads any, and what is known of that before
   pub reads : E → Found → List Snap → Option (NodeNo × Reading)
   -- at most so many words
-  pub most_reads : ℕ
+  pub most_reads : E → ℕ
   -- what the fresh node of this place is to hold, once that is read
   pub pieces : E → Found → List Snap → Nodes → Reading → Nth → Piece
   -- at most so many fills
-  pub most_fills : ℕ
+  pub most_fills : E → ℕ
 
 -- the bounds of an edit are right
 pub record EditBounds {E : Type 0} (m : EditMeaning E) : Type 0 where
-  pub few_looks : (e : E) (f : Found) (snaps : List Snap) (n : NodeNo) → m.looks e f snaps ≡ At n → length snaps < m.most_looks
-  pub small : m.most_looks ≤ 4
-  pub few_nodes : (e : E) (f : Found) → many_nodes (m.needs e f) ≤ m.most_nodes
-  pub some_nodes : 0 < m.most_nodes
-  pub few_reads : (e : E) (f : Found) (snaps : List Snap) (x : NodeNo × Reading) → m.reads e f snaps ≡ Some x → reads_left x.1 ≤ m.most_reads
-  pub few_fills : (e : E) (f : Found) (snaps : List Snap) (ns : Nodes) (read : Reading) → all_fills (m.needs e f) (m.pieces e f snaps ns read) ≤ m.most_fills
+  pub few_looks : (e : E) (f : Found) (snaps : List Snap) (n : NodeNo) → m.looks e f snaps ≡ At n → length snaps < m.most_looks e
+  pub small : (e : E) → m.most_looks e ≤ 4
+  pub few_nodes : (e : E) (f : Found) → many_nodes (m.needs e f) ≤ m.most_nodes e
+  pub some_nodes : (e : E) → 0 < m.most_nodes e
+  pub few_reads : (e : E) (f : Found) (snaps : List Snap) (x : NodeNo × Reading) → m.reads e f snaps ≡ Some x → reads_left x.1 ≤ m.most_reads e
+  pub few_fills : (e : E) (f : Found) (snaps : List Snap) (ns : Nodes) (read : Reading) → all_fills (m.needs e f) (m.pieces e f snaps ns read) ≤ m.most_fills e

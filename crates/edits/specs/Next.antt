@@ -95,14 +95,14 @@ module _ {E : Type 0} (e : EditMeaning E) where
   -- fewer than n steps are left then; where it ends, at most as many in the tries behind it
   abbrev pub ComesNearer : {A : Type 0} → UpdateRun E A → Found → Result Next Stop → ℕ → ℕ → Type 0
   ComesNearer m f (Ok next) nodes n = update_left e (placed m f next) nodes < n
-  ComesNearer m f (Err stop) nodes n = m.tries * try_left e nodes ≤ n
+  ComesNearer m f (Err stop) nodes n = m.tries * try_left e m.edit nodes ≤ n
 
   -- so much is taken of the share, where so many tries might take of it
   abbrev pub HasSpentForNext : {A : Type 0} → Remaining → UpdateRun E A → Found → Result Next Stop → ℕ → ℕ → Type 0
   HasSpentForNext old m f (Ok next) nodes scx = IsSpending e (Ask (next_step m f next)) old (placed m f next) nodes scx
-  HasSpentForNext old m f (Err stop) nodes scx = Spends e.most_nodes old m.share nodes m.tries scx m.tries
+  HasSpentForNext old m f (Err stop) nodes scx = Spends (e.most_nodes m.edit) old m.share nodes m.tries scx m.tries
 
   -- so many steps are left then
   abbrev pub left_then : {A : Type 0} → UpdateRun E A → Found → Result Next Stop → ℕ → ℕ
   left_then m f (Ok next) nodes = suc (update_left e (placed m f next) nodes)
-  left_then m f (Err stop) nodes = m.tries * try_left e nodes
+  left_then m f (Err stop) nodes = m.tries * try_left e m.edit nodes

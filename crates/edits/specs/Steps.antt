@@ -20,14 +20,14 @@ use Rattle.edits.specs.Pieces.{fills_after, fills_behind}
 use Rattle.edits.specs.Readings.{next_read, reads_left}
 
 -- how many loads and fills are made at most in a try
-abbrev pub most_works : {E : Type 0} → EditMeaning E → ℕ
-most_works e = e.most_reads + e.most_fills
+abbrev pub most_works : {E : Type 0} → EditMeaning E → E → ℕ
+most_works m e = m.most_reads e + m.most_fills e
 
 -- how many steps a try may ask for, where no more nodes than these are taken: the walk three for
 -- each of them and for two more, and five at its leaf, each LLX 64, the loads and fills theirs, and
 -- the SCX 39
-abbrev pub try_left : {E : Type 0} → EditMeaning E → ℕ → ℕ
-try_left e nodes = 3 * (2 + nodes) + 5 + (64 * e.most_looks + most_works e + 39)
+abbrev pub try_left : {E : Type 0} → EditMeaning E → E → ℕ → ℕ
+try_left m e nodes = 3 * (2 + nodes) + 5 + (64 * m.most_looks e + most_works m e + 39)
 
 -- what the fresh nodes are to hold
 abbrev pub pieces_now : {E A : Type 0} → EditMeaning E → UpdateRun E A → Found → Nth → Piece
@@ -39,16 +39,16 @@ fills_left e m f nth part = fills_behind (pieces_now e m f nth) part + fills_aft
 
 -- how many steps are left in this try, at this place
 abbrev pub phase_left : {E A : Type 0} → EditMeaning E → UpdateRun E A → ℕ → UpdateAt → ℕ
-phase_left e m nodes Start = try_left e nodes
-phase_left e m nodes (Walk walk) = walk_left walk.at nodes + (64 * e.most_looks + most_works e + 39)
-phase_left e m nodes (Look f llx) = llx_left llx.at + 64 * (e.most_looks - 1 - length m.snaps.items) + most_works e + 39
-phase_left e m nodes (Read f n part) = reads_left m.read - 1 + e.most_fills + 39
+phase_left e m nodes Start = try_left e m.edit nodes
+phase_left e m nodes (Walk walk) = walk_left walk.at nodes + (64 * e.most_looks m.edit + most_works e m.edit + 39)
+phase_left e m nodes (Look f llx) = llx_left llx.at + 64 * (e.most_looks m.edit - 1 - length m.snaps.items) + most_works e m.edit + 39
+phase_left e m nodes (Read f n part) = reads_left m.read - 1 + e.most_fills m.edit + 39
 phase_left e m nodes (Fill f nth part) = fills_left e m f nth part + 39
 phase_left e m nodes (Scx f scx) = scx_left scx.at
 
 -- how many steps are left, where no more nodes than these are taken
 abbrev pub update_left : {E : Type 0} → EditMeaning E → UpdateRun E UpdateAt → ℕ → ℕ
-update_left e m nodes = m.tries * try_left e nodes + phase_left e m nodes m.at
+update_left e m nodes = m.tries * try_left e m.edit nodes + phase_left e m nodes m.at
 
 -- where the run asks for a step, fewer than n are left then
 abbrev pub IsNearer : {E : Type 0} → EditMeaning E → UpdateRun E UpdateAt → ℕ → Turn Updated → ℕ → Type 0
@@ -96,4 +96,4 @@ Spends most old now nodes nodes_then scx scx_then =
 -- so much is taken of the share, where so many tries might take of it; behind an answer those
 -- that are left still may
 abbrev pub IsSpending : {E : Type 0} → EditMeaning E → Turn Updated → Remaining → UpdateRun E UpdateAt → ℕ → ℕ → Type 0
-IsSpending e turn old m nodes scx = MatchTurn turn (λ _. Spends e.most_nodes old m.share nodes (node_tries m m.at) scx (scx_tries m m.at)) (λ _. Spends e.most_nodes old m.share nodes m.tries scx m.tries)
+IsSpending e turn old m nodes scx = MatchTurn turn (λ _. Spends (e.most_nodes m.edit) old m.share nodes (node_tries m m.at) scx (scx_tries m m.at)) (λ _. Spends (e.most_nodes m.edit) old m.share nodes m.tries scx m.tries)

@@ -10,7 +10,7 @@ ghost use Rattle.ordered_map.specs.Runs.{IsTreeRun};
 ghost use Rattle.ordered_map.specs.Spelled.{Spells};
 ghost use Rattle.template.specs.FoundLeaf.{HasFoundGoal, HasFoundLeaf, first_told};
 ghost use Rattle.template.specs.declared.walk.Found.{Found};
-ghost use Rattle.template.specs.declared.walk.Goal.TheVariants.{Least};
+ghost use Rattle.ordered_map.specs.declared.rule.Goal.TheVariants.{Least};
 ghost use Rattle.template.specs.Blame.{IsContended};
 ghost use Rattle.edits.specs.Known.{HasMade, ToldFirst};
 ghost use Rattle.edits.specs.Tries.{HasEnteredNone};

@@ -190,7 +190,8 @@ impl<E: Edit + Drop> UpdateRun<E, UpdateAt> {
             → MayTry c h h self.old.limit self.old.tries → IsUntouched c h self.old.share → UpdateTurn E.means c h self.new result }
         ensures begins { MatchTurn result (λ _. Unit {0}) (λ _. ⊥) }
         ensures same { IsSameUpdate self.old self.new }
-        ensures nearer { (nodes : ℕ) → IsNearer E.means self.new nodes result (self.old.tries * try_left E.means nodes + try_left E.means nodes) }
+        ensures nearer { (nodes : ℕ) → IsNearer E.means self.new nodes result
+            (self.old.tries * try_left E.means self.old.edit nodes + try_left E.means self.old.edit nodes) }
         ensures spends { IsSpending E.means result self.old.share self.new (self.old.tries + 1) (self.old.tries + 1) }
         ensures tries { self.new.tries ≡ self.old.tries }
     {
@@ -212,7 +213,7 @@ impl<E: Edit + Drop> UpdateRun<E, UpdateAt> {
             → HasLostTry E.means self.old.edit c h self.old.limit self.old.tries node.0 scx.0 → UpdateTurn E.means c h self.new result }
         ensures same { IsSameUpdate self.old self.new }
         ensures gives_up { MatchTurn result (λ _. Unit {0}) (λ _. self.old.tries ≡ 0) }
-        ensures nearer { (nodes : ℕ) → IsNearer E.means self.new nodes result (self.old.tries * try_left E.means nodes) }
+        ensures nearer { (nodes : ℕ) → IsNearer E.means self.new nodes result (self.old.tries * try_left E.means self.old.edit nodes) }
         ensures spends { IsSpending E.means result self.old.share self.new self.old.tries self.old.tries }
         ensures tries { (self.old.tries ≤ self.new.tries + 1) × (self.new.tries ≤ self.old.tries) }
     {
@@ -232,8 +233,8 @@ impl<E: Edit + Drop> UpdateRun<E, UpdateAt> {
         ensures same { IsSameUpdate self.old self.new }
         ensures nearer { (nodes : ℕ) → WalkFits walk got nodes
             → IsNearer E.means self.new nodes result
-            (self.old.tries * try_left E.means nodes +
-            (walk_left walk.at nodes + (64 * E.means.most_looks + most_works E.means + 39))) }
+            (self.old.tries * try_left E.means self.old.edit nodes +
+            (walk_left walk.at nodes + (64 * E.means.most_looks self.old.edit + most_works E.means self.old.edit + 39))) }
         ensures spends { IsSpending E.means result self.old.share self.new (self.old.tries + 1) (self.old.tries + 1) }
         ensures tries { (self.old.tries ≤ self.new.tries + 1) × (self.new.tries ≤ self.old.tries) }
     {
@@ -256,8 +257,8 @@ impl<E: Edit + Drop> UpdateRun<E, UpdateAt> {
             → LlxIsReady TreeAllows llx (begun_at (begun_at c b) begin) h got → UpdateTurn E.means c h self.new result }
         ensures same { IsSameUpdate self.old self.new }
         ensures nearer { (nodes : ℕ) → IsNearer E.means self.new nodes result
-            (self.old.tries * try_left E.means nodes +
-            (llx_left llx.at + 64 * (E.means.most_looks - 1 - length self.old.snaps.items) + most_works E.means + 39)) }
+            (self.old.tries * try_left E.means self.old.edit nodes +
+            (llx_left llx.at + 64 * (E.means.most_looks self.old.edit - 1 - length self.old.snaps.items) + most_works E.means self.old.edit + 39)) }
         ensures spends { IsSpending E.means result self.old.share self.new (self.old.tries + 1) (self.old.tries + 1) }
         ensures tries { (self.old.tries ≤ self.new.tries + 1) × (self.new.tries ≤ self.old.tries) }
     {
@@ -297,7 +298,7 @@ impl<E: Edit + Drop> UpdateRun<E, UpdateAt> {
             → IsFilledUpTo E.means self.old (begun_at c b) h found nth part → UpdateTurn E.means c h self.new result }
         ensures same { IsSameUpdate self.old self.new }
         ensures nearer { (nodes : ℕ) → IsNearer E.means self.new nodes result
-            (self.old.tries * try_left E.means nodes + (fills_left E.means self.old found nth part + 39)) }
+            (self.old.tries * try_left E.means self.old.edit nodes + (fills_left E.means self.old found nth part + 39)) }
         ensures spends { 0 < self.old.share.scx → IsSpending E.means result self.old.share self.new self.old.tries (self.old.tries + 1) }
         ensures tries { (self.old.tries ≤ self.new.tries + 1) × (self.new.tries ≤ self.old.tries) }
     {
@@ -425,7 +426,7 @@ impl<E: Edit + Drop> UpdateRun<E, UpdateAt> {
         ensures turn { (c : Call) (h : History) → IsRun TreeAllows c.layout h → MayStop E.means c h self.old found.now stop
             → UpdateTurn E.means c h self.new result }
         ensures same { IsSameUpdate self.old self.new }
-        ensures nearer { (nodes : ℕ) → IsNearer E.means self.new nodes result (self.old.tries * try_left E.means nodes) }
+        ensures nearer { (nodes : ℕ) → IsNearer E.means self.new nodes result (self.old.tries * try_left E.means self.old.edit nodes) }
         ensures spends { IsSpending E.means result self.old.share self.new self.old.tries self.old.tries }
         ensures tries { (self.old.tries ≤ self.new.tries + 1) × (self.new.tries ≤ self.old.tries) }
     {
@@ -442,7 +443,7 @@ impl<E: Edit + Drop> UpdateRun<E, UpdateAt> {
             → Scxs E.means self.old (begun_at c b) h found scx begin
             → ScxIsReady TreeAllows scx (begun_at (begun_at c b) begin) h got → UpdateTurn E.means c h self.new result }
         ensures same { IsSameUpdate self.old self.new }
-        ensures nearer { (nodes : ℕ) → IsNearer E.means self.new nodes result (self.old.tries * try_left E.means nodes + scx_left scx.at) }
+        ensures nearer { (nodes : ℕ) → IsNearer E.means self.new nodes result (self.old.tries * try_left E.means self.old.edit nodes + scx_left scx.at) }
         ensures spends { IsSpending E.means result self.old.share self.new self.old.tries self.old.tries }
         ensures tries { (self.old.tries ≤ self.new.tries + 1) × (self.new.tries ≤ self.old.tries) }
     {

@@ -105,7 +105,7 @@ impl<E: Edit + Drop, A: Drop> UpdateRun<E, A> {
             → UpdateGoesOn E.means c h self.new found.now result }
         ensures same { IsSameUpdate self.old self.new }
         ensures nearer { (nodes : ℕ) → ComesNearer E.means self.new found.now result nodes
-            (self.old.tries * try_left E.means nodes + (64 * E.means.most_looks + most_works E.means + 39)) }
+            (self.old.tries * try_left E.means self.old.edit nodes + (64 * E.means.most_looks self.old.edit + most_works E.means self.old.edit + 39)) }
         ensures spends { HasSpentForNext E.means self.old.share self.new found.now result (self.old.tries + 1) (self.old.tries + 1) }
         ensures tries { self.new.tries ≡ self.old.tries }
     {
@@ -127,8 +127,8 @@ impl<E: Edit + Drop, A: Drop> UpdateRun<E, A> {
             → CanLook E.means self.old (begun_at c b) h found.now → UpdateGoesOn E.means c h self.new found.now result }
         ensures same { IsSameUpdate self.old self.new }
         ensures nearer { (nodes : ℕ) → ComesNearer E.means self.new found.now result nodes
-            (self.old.tries * try_left E.means nodes +
-            (64 * (E.means.most_looks - length self.old.snaps.items) + most_works E.means + 39)) }
+            (self.old.tries * try_left E.means self.old.edit nodes +
+            (64 * (E.means.most_looks self.old.edit - length self.old.snaps.items) + most_works E.means self.old.edit + 39)) }
         ensures spends { HasSpentForNext E.means self.old.share self.new found.now result (self.old.tries + 1) (self.old.tries + 1) }
         ensures tries { self.new.tries ≡ self.old.tries }
     {
@@ -149,8 +149,8 @@ impl<E: Edit + Drop, A: Drop> UpdateRun<E, A> {
             → UpdateGoesOn E.means c h self.new found.now result }
         ensures same { IsSameUpdate self.old self.new }
         ensures nearer { (nodes : ℕ) → ComesNearer E.means self.new found.now result nodes
-            (self.old.tries * try_left E.means nodes +
-            (64 * (E.means.most_looks - 1 - length self.old.snaps.items) + most_works E.means + 39)) }
+            (self.old.tries * try_left E.means self.old.edit nodes +
+            (64 * (E.means.most_looks self.old.edit - 1 - length self.old.snaps.items) + most_works E.means self.old.edit + 39)) }
         ensures spends { HasSpentForNext E.means self.old.share self.new found.now result (self.old.tries + 1) (self.old.tries + 1) }
         ensures tries { self.new.tries ≡ self.old.tries }
     {
@@ -167,7 +167,7 @@ impl<E: Edit + Drop, A: Drop> UpdateRun<E, A> {
             → UpdateGoesOn E.means c h self.new found.now (Ok result) }
         ensures same { IsSameUpdate self.old self.new }
         ensures nearer { (nodes : ℕ) → ComesNearer E.means self.new found.now (Ok result) nodes
-            (self.old.tries * try_left E.means nodes + (most_works E.means + 39)) }
+            (self.old.tries * try_left E.means self.old.edit nodes + (most_works E.means self.old.edit + 39)) }
         ensures spends { HasSpentForNext E.means self.old.share self.new found.now (Ok result) (self.old.tries + 1) (self.old.tries + 1) }
         ensures tries { self.new.tries ≡ self.old.tries }
     {
@@ -188,7 +188,7 @@ impl<E: Edit + Drop, A: Drop> UpdateRun<E, A> {
             → UpdateGoesOn E.means c h self.new found.now (Ok result) }
         ensures same { IsSameUpdate self.old self.new }
         ensures nearer { (nodes : ℕ) → ComesNearer E.means self.new found.now (Ok result) nodes
-            (self.old.tries * try_left E.means nodes + (most_works E.means + 39)) }
+            (self.old.tries * try_left E.means self.old.edit nodes + (most_works E.means self.old.edit + 39)) }
         ensures spends { HasSpentForNext E.means self.old.share self.new found.now (Ok result) (self.old.tries + 1) (self.old.tries + 1) }
         ensures tries { self.new.tries ≡ self.old.tries }
     {
@@ -211,7 +211,7 @@ impl<E: Edit + Drop, A: Drop> UpdateRun<E, A> {
             → UpdateGoesOn E.means c h self.new found.now (Ok result) }
         ensures same { IsSameUpdate self.old self.new }
         ensures nearer { (nodes : ℕ) → ComesNearer E.means self.new found.now (Ok result) nodes
-            (self.old.tries * try_left E.means nodes + (most_works E.means + 39)) }
+            (self.old.tries * try_left E.means self.old.edit nodes + (most_works E.means self.old.edit + 39)) }
         ensures spends { E.means.needs self.old.edit found.now ≡ Need.Three
             → HasSpentForNext E.means self.old.share self.new found.now (Ok result) (self.old.tries + 1) (self.old.tries + 1) }
         ensures tries { self.new.tries ≡ self.old.tries }
@@ -249,7 +249,7 @@ impl<E: Edit + Drop, A: Drop> UpdateRun<E, A> {
             → CanWork E.means self.old (begun_at c b) h found.now → UpdateGoesOn E.means c h self.new found.now (Ok result) }
         ensures same { IsSameUpdate self.old self.new }
         ensures nearer { (nodes : ℕ) → ComesNearer E.means self.new found.now (Ok result) nodes
-            (self.old.tries * try_left E.means nodes + (most_works E.means + 39)) }
+            (self.old.tries * try_left E.means self.old.edit nodes + (most_works E.means self.old.edit + 39)) }
         ensures spends { HasSpentForNext E.means self.old.share self.new found.now (Ok result) self.old.tries (self.old.tries + 1) }
         ensures tries { self.new.tries ≡ self.old.tries }
     {
@@ -268,7 +268,7 @@ impl<E: Edit + Drop, A: Drop> UpdateRun<E, A> {
         ensures turn { (c : Call) (b h : History) → IsRun TreeAllows c.layout h → IsTry c b h self.now.limit self.now.tries
             → CanRead E.means self.now (begun_at c b) h found.now node → UpdateGoesOn E.means c h self.now found.now (Ok result) }
         ensures nearer { (nodes : ℕ) → ComesNearer E.means self.now found.now (Ok result) nodes
-            (self.now.tries * try_left E.means nodes + (reads_left self.now.read + E.means.most_fills + 39)) }
+            (self.now.tries * try_left E.means self.now.edit nodes + (reads_left self.now.read + E.means.most_fills self.now.edit + 39)) }
         ensures spends { HasSpentForNext E.means self.now.share self.now found.now (Ok result) self.now.tries (self.now.tries + 1) }
     {
         match self.read.next() {
@@ -286,7 +286,7 @@ impl<E: Edit + Drop, A: Drop> UpdateRun<E, A> {
         ensures same { IsSameUpdate self.old self.new }
         ensures nearer { (nodes : ℕ) → next_read self.old.read ≡ Some part
             → ComesNearer E.means self.new found.now (Ok result) nodes
-            (self.old.tries * try_left E.means nodes + (reads_left self.old.read - 1 + E.means.most_fills + 39)) }
+            (self.old.tries * try_left E.means self.old.edit nodes + (reads_left self.old.read - 1 + E.means.most_fills self.old.edit + 39)) }
         ensures spends { HasSpentForNext E.means self.old.share self.new found.now (Ok result) self.old.tries (self.old.tries + 1) }
         ensures tries { self.new.tries ≡ self.old.tries }
     {
@@ -313,7 +313,8 @@ impl<E: Edit + Drop, A: Drop> UpdateRun<E, A> {
         ensures same { IsSameUpdate self.old self.new }
         ensures nearer { (nodes : ℕ) → next_read (half_told self.old slot key low).read ≡ Some (SettledPart.High slot)
             → ComesNearer E.means self.new found.now (Ok result) nodes
-            (self.old.tries * try_left E.means nodes + (reads_left (half_told self.old slot key low).read - 1 + E.means.most_fills + 39)) }
+            (self.old.tries * try_left E.means self.old.edit nodes +
+            (reads_left (half_told self.old slot key low).read - 1 + E.means.most_fills self.old.edit + 39)) }
         ensures spends { HasSpentForNext E.means self.old.share self.new found.now (Ok result) self.old.tries (self.old.tries + 1) }
         ensures tries { self.new.tries ≡ self.old.tries }
         ensures at_pair { is_at_pair self.new.read ≡ true }
@@ -335,7 +336,7 @@ impl<E: Edit + Drop, A: Drop> UpdateRun<E, A> {
             → part_behind (pieces_now E.means self.old found.now nth) part ≡ None → UpdateGoesOn E.means c h self.new found.now result }
         ensures same { IsSameUpdate self.old self.new }
         ensures nearer { (nodes : ℕ) → ComesNearer E.means self.new found.now result nodes
-            (self.old.tries * try_left E.means nodes +
+            (self.old.tries * try_left E.means self.old.edit nodes +
             (fills_after (E.means.needs self.old.edit found.now) (pieces_now E.means self.old found.now) nth + 39)) }
         ensures spends { 0 < self.old.share.scx → HasSpentForNext E.means self.old.share self.new found.now result self.old.tries (self.old.tries + 1) }
         ensures tries { self.new.tries ≡ self.old.tries }
@@ -352,7 +353,7 @@ impl<E: Edit + Drop, A: Drop> UpdateRun<E, A> {
         ensures turn { (c : Call) (b h : History) → IsRun TreeAllows c.layout h → IsTry c b h self.old.limit self.old.tries
             → CanScx E.means self.old (begun_at c b) h found.now → UpdateGoesOn E.means c h self.new found.now result }
         ensures same { IsSameUpdate self.old self.new }
-        ensures nearer { (nodes : ℕ) → ComesNearer E.means self.new found.now result nodes (self.old.tries * try_left E.means nodes + 39) }
+        ensures nearer { (nodes : ℕ) → ComesNearer E.means self.new found.now result nodes (self.old.tries * try_left E.means self.old.edit nodes + 39) }
         ensures spends { 0 < self.old.share.scx → HasSpentForNext E.means self.old.share self.new found.now result self.old.tries (self.old.tries + 1) }
         ensures tries { self.new.tries ≡ self.old.tries }
     {

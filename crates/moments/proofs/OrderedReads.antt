@@ -3,7 +3,7 @@ use Rattle.std.proofs.Common.{◌≡◌, ℕ, suc, ◌≤◌, inl, inr, Bool, tr
 use Rattle.std.specs.List.{filter}
 use Rattle.std.proofs.lemmas.Bool.{cases_lt}
 use Rattle.ordered_map.specs.declared.pair.Pair.{Pair}
-use Rattle.ordered_map.specs.OrderedMap.{MapCall, PopFirst, Successor, Range, MapReply, ManyPairs, pair_or_none, first_pair, successor, between, range, reply, get, IsRising}
+use Rattle.ordered_map.specs.OrderedMap.{MapCall, call_pop_first, Successor, Range, MapReply, ManyPairs, pair_or_none, first_pair, successor, between, range, reply, get, IsRising}
 use Rattle.script.specs.declared.call.Call.{Call}
 use Rattle.script.specs.declared.command.Command.{Command}
 use Rattle.script.specs.declared.command.Command.TheVariants.{Map}
@@ -53,7 +53,7 @@ first_taken (p ∷ ps) = refl
 -- the reply to an ordered read tells just its pairs
 pub reply_tells : (command : Command) (call : MapCall) (m : List Pair) → IsOrderedRead command → map_call (Some command) ≡ Some call → pairs_in (Some (reply call m)) ≡ pairs_read command m
 reply_tells (Map PopOf) call m ordered is =
-    let same : PopFirst ≡ call = cc in
+    let same : call_pop_first ≡ call = cc in
     ap (λ (c : MapCall). pairs_in (Some (reply c m))) (sym same) ∙ one_pair m ∙ ap (take 1) (filter_all m)
 reply_tells (Map (SuccessorOf k)) call m ordered is =
     let same : Successor k ≡ call = cc in
@@ -66,7 +66,7 @@ reply_tells command call m ordered is = absurd ordered
 -- and maps of which it tells the same pairs have the same reply
 pub same_reply : (command : Command) (call : MapCall) (m n : List Pair) → IsOrderedRead command → map_call (Some command) ≡ Some call → pairs_read command m ≡ pairs_read command n → reply call m ≡ reply call n
 same_reply (Map PopOf) call m n ordered is same =
-    let this : PopFirst ≡ call = cc in
+    let this : call_pop_first ≡ call = cc in
     let first : first_pair m ≡ first_pair n = first_taken m ∙ ap (λ ps. first_pair (take 1 ps)) (filter_all m) ∙ ap first_pair same ∙ sym (first_taken n ∙ ap (λ ps. first_pair (take 1 ps)) (filter_all n)) in
     subst (λ (c : MapCall). reply c m ≡ reply c n) this (ap pair_or_none first)
 same_reply (Map (SuccessorOf k)) call m n ordered is same =

@@ -5,14 +5,14 @@ use Rattle.std.specs.Prelude.{IfNone}
 use Rattle.std.proofs.lemmas.Bool.{cases_lt, lt-leb, and_right}
 use Rattle.arena.specs.declared.layout.Layout.{Layout}
 use Rattle.arena.specs.declared.step.Kind.{Kind}
-use Rattle.arena.specs.History.{History}
 use Rattle.ordered_map.specs.declared.pair.Pair.{Pair}
-use Rattle.ordered_map.specs.OrderedMap.{MapCall, Edit, Delete, PopFirst, ReplaceIf, OneValue, ManyPairs, Get, Range, get, between, pair_or_none, reply}
+use Rattle.ordered_map.specs.OrderedMap.{MapCall, OneValue, ManyPairs, Get, Range, get, between, reply}
 use Rattle.ordered_map.specs.Paths.{IsAnswerAt}
 use Rattle.ordered_map.specs.CallRules.{TakesNothing}
 use Rattle.script.specs.declared.call.Call.{Call}
+use Rattle.script.specs.declared.command.Command.{Command}
 use Rattle.script.specs.declared.command.Command.TheVariants.{Map}
-use Rattle.ordered_map.specs.declared.request.Request.TheVariants.{Delete as DeleteOf, PopFirst as PopOf, ReplaceIf as ReplaceOf, Get as GetOf}
+use Rattle.ordered_map.specs.declared.request.Request.TheVariants.{Get as GetOf}
 use Rattle.ordered_map.specs.declared.reply.Reply.TheVariants.{Value}
 use Rattle.record.specs.declared.record.Line.{Line}
 use Rattle.record.specs.declared.record.Finished.{Finished}
@@ -20,14 +20,13 @@ use Rattle.record.specs.declared.record.Answer.TheVariants.{Map as MapAnswer}
 use Rattle.record.specs.Turns.{history, turns, answered, begin, start, won, entry_owed, is_update}
 use Rattle.record.specs.Commands.{next_command}
 use Rattle.record.specs.CommandRules.{MayMake}
-use Rattle.record.specs.Edits.{HadAtKey, HadFirst}
 use Rattle.record.specs.MapRecord.{reply_told, map_at, written_log, entries_of_call}
 use Rattle.record.specs.Placed.{IsGreatestTurn, IsPlacedReading}
 use Rattle.record.specs.SpelledMap.{AreSpelled}
 use Rattle.record.specs.LawfulRun.{AreLines}
 use Rattle.record.proofs.Lemmas.{entries_none, value_told}
-use Rattle.moments.specs.Replied.{HasReplied}
-use Rattle.moments.proofs.Turns.{IsAnsweredIn, IsRepliedIn, answer_turn, had_turn, replied_turn}
+use Rattle.record.specs.Replied.{HasReplied}
+use Rattle.moments.proofs.Turns.{IsAnsweredIn, IsRepliedIn, answer_turn, replied_turn}
 
 -- what is found for the call
 pub record IsFoundFor (calls : List Call) (lines : List Line) (key : ℕ) (answer : Option ℕ) (first last : ℕ) (moment : Option ℕ) : Type 0 where
@@ -75,45 +74,21 @@ get_turn lay tries calls lines c key answer first a x owed is e at = answer_turn
 pub get_placed : (lay : Layout) (tries : ℕ) (calls : List Call) (lines : List Line) (r : Finished) (key : ℕ) (answer : Option ℕ) → AreLines lay tries calls lines → AreSpelled lay calls lines → entry_owed lay lines ≡ None → next_command calls lines r.client.0 ≡ Some (Map (GetOf key)) → won lay lines r.client.0 ≡ None → r.call ≡ answered lines r.client.0 → begin lines r.client.0 ≡ Some r.begin → r.end ≡ turns lines → r.answer ≡ MapAnswer (Value answer) → IsAnswerAt lay (history lay.mode lines) (start lay.mode lines r.client.0) key answer → IsFoundFor calls lines key answer r.begin r.end r.moment → IsPlacedReading calls lines (Get key) r
 get_placed lay tries calls lines r key answer a x owed is unwon number e end told at found = reading_placed lay tries calls lines r (Get key) key answer (λ m. refl) a unwon number end told (get_turn lay tries calls lines r.client.0 key answer r.begin a x owed is e at) found
 
--- A delete of a key that the map lacks
+-- An edit of a key that tells its value and has changed nothing
 
--- some turn of one that has told none is one after which the map lacks the key
-pub absent_turn : (lay : Layout) (tries : ℕ) (calls : List Call) (lines : List Line) (c key : ℕ) (first : ℕ) → AreLines lay tries calls lines → AreSpelled lay calls lines → entry_owed lay lines ≡ None → next_command calls lines c ≡ Some (Map (DeleteOf key)) → begin lines c ≡ Some first → HadAtKey lay (history lay.mode lines) (start lay.mode lines c) key None → IsAnsweredIn calls lines key None first
-absent_turn lay tries calls lines c key first a x owed is e had = had_turn lay tries calls c (Map (DeleteOf key)) lines key None first a x owed is e had
+-- what the map has replied to it is what the map has at the key after some turn of it
+pub value_turn : (lay : Layout) (tries : ℕ) (calls : List Call) (lines : List Line) (c : ℕ) (command : Command) (call : MapCall) (key : ℕ) (answer : Option ℕ) (first : ℕ) → ((m : List Pair) → reply call m ≡ OneValue (get key m)) → AreLines lay tries calls lines → AreSpelled lay calls lines → entry_owed lay lines ≡ None → next_command calls lines c ≡ Some command → begin lines c ≡ Some first → HasReplied lay (history lay.mode lines) (start lay.mode lines c) call (OneValue answer) → IsAnsweredIn calls lines key answer first
+value_turn lay tries calls lines c command call key answer first says a x owed is e had = (turn.0, turn.1, turn.2, gives)
+  where
+    turn : IsRepliedIn calls lines call (OneValue answer) first
+    turn = replied_turn lay tries calls c command lines call (OneValue answer) first a x owed is e had
 
--- so one that stands there is a reading too
-pub absent_placed : (lay : Layout) (tries : ℕ) (calls : List Call) (lines : List Line) (r : Finished) (key : ℕ) → AreLines lay tries calls lines → AreSpelled lay calls lines → entry_owed lay lines ≡ None → next_command calls lines r.client.0 ≡ Some (Map (DeleteOf key)) → won lay lines r.client.0 ≡ None → r.call ≡ answered lines r.client.0 → begin lines r.client.0 ≡ Some r.begin → r.end ≡ turns lines → r.answer ≡ MapAnswer (Value None) → HadAtKey lay (history lay.mode lines) (start lay.mode lines r.client.0) key None → IsFoundFor calls lines key None r.begin r.end r.moment → IsPlacedReading calls lines (Edit (Delete key)) r
-absent_placed lay tries calls lines r key a x owed is unwon number e end told had found = reading_placed lay tries calls lines r (Edit (Delete key)) key None (λ m. refl) a unwon number end told (absent_turn lay tries calls lines r.client.0 key r.begin a x owed is e had) found
-
--- A replacement that tells another value than it expects, or none
-
--- some turn of one is one after which the map has at the key what it has told
-pub kept_turn : (lay : Layout) (tries : ℕ) (calls : List Call) (lines : List Line) (c key expected value : ℕ) (told : Option ℕ) (first : ℕ) → AreLines lay tries calls lines → AreSpelled lay calls lines → entry_owed lay lines ≡ None → next_command calls lines c ≡ Some (Map (ReplaceOf key expected value)) → begin lines c ≡ Some first → HadAtKey lay (history lay.mode lines) (start lay.mode lines c) key told → IsAnsweredIn calls lines key told first
-kept_turn lay tries calls lines c key expected value told first a x owed is e had = had_turn lay tries calls c (Map (ReplaceOf key expected value)) lines key told first a x owed is e had
+    gives : get key (map_at calls lines turn.0) ≡ answer
+    gives = let same : OneValue (get key (map_at calls lines turn.0)) ≡ OneValue answer = sym (says (map_at calls lines turn.0)) ∙ turn.3 in cc
 
 -- so one that stands there is a reading too
-pub kept_placed : (lay : Layout) (tries : ℕ) (calls : List Call) (lines : List Line) (r : Finished) (key expected value : ℕ) (told : Option ℕ) → AreLines lay tries calls lines → AreSpelled lay calls lines → entry_owed lay lines ≡ None → next_command calls lines r.client.0 ≡ Some (Map (ReplaceOf key expected value)) → won lay lines r.client.0 ≡ None → r.call ≡ answered lines r.client.0 → begin lines r.client.0 ≡ Some r.begin → r.end ≡ turns lines → r.answer ≡ MapAnswer (Value told) → HadAtKey lay (history lay.mode lines) (start lay.mode lines r.client.0) key told → IsFoundFor calls lines key told r.begin r.end r.moment → IsPlacedReading calls lines (ReplaceIf key expected value) r
-kept_placed lay tries calls lines r key expected value told a x owed is unwon number e end says had found = reading_placed lay tries calls lines r (ReplaceIf key expected value) key told (λ m. refl) a unwon number end says (kept_turn lay tries calls lines r.client.0 key expected value told r.begin a x owed is e had) found
-
--- A pop that tells none
-
--- what it has found is what it replies
-pub pop_replied : (lay : Layout) (now start : History) (first : Option Pair) → HadFirst lay now start first → HasReplied lay now start PopFirst (pair_or_none first)
-pop_replied lay now start first (row, before, since, at) = record {
-  row = row;
-  before = before;
-  since = since;
-  moment = at.moment;
-  behind = at.since;
-  within = at.within;
-  map = at.map;
-  spelled = at.spelled;
-  replies = ap pair_or_none at.is;
-}
-
--- some turn of one is one after which the map has no pair
-pub empty_turn : (lay : Layout) (tries : ℕ) (calls : List Call) (lines : List Line) (c first : ℕ) → AreLines lay tries calls lines → AreSpelled lay calls lines → entry_owed lay lines ≡ None → next_command calls lines c ≡ Some (Map PopOf) → begin lines c ≡ Some first → HadFirst lay (history lay.mode lines) (start lay.mode lines c) None → IsRepliedIn calls lines PopFirst (OneValue None) first
-empty_turn lay tries calls lines c first a x owed is e had = replied_turn lay tries calls c (Map PopOf) lines PopFirst (OneValue None) first a x owed is e (pop_replied lay (history lay.mode lines) (start lay.mode lines c) None had)
+pub value_placed : (lay : Layout) (tries : ℕ) (calls : List Call) (lines : List Line) (r : Finished) (command : Command) (call : MapCall) (key : ℕ) (answer : Option ℕ) → ((m : List Pair) → reply call m ≡ OneValue (get key m)) → AreLines lay tries calls lines → AreSpelled lay calls lines → entry_owed lay lines ≡ None → next_command calls lines r.client.0 ≡ Some command → won lay lines r.client.0 ≡ None → r.call ≡ answered lines r.client.0 → begin lines r.client.0 ≡ Some r.begin → r.end ≡ turns lines → r.answer ≡ MapAnswer (Value answer) → HasReplied lay (history lay.mode lines) (start lay.mode lines r.client.0) call (OneValue answer) → IsFoundFor calls lines key answer r.begin r.end r.moment → IsPlacedReading calls lines call r
+value_placed lay tries calls lines r command call key answer says a x owed is unwon number e end told had found = reading_placed lay tries calls lines r call key answer says a unwon number end told (value_turn lay tries calls lines r.client.0 command call key answer r.begin says a x owed is e had) found
 
 -- An ordered read
 

@@ -1,6 +1,6 @@
 -- The words spell the map so far after every step of a run of calls of the map.
 use Rattle.std.proofs.Common.{◌≡◌, ℕ, suc, inr, true, false, eqb, List, [], ◌∷◌, Option, Some, None, slice_get, refl, sym, ◌∙◌, ap, subst}
-use Rattle.std.proofs.lemmas.Bool.{eq-eqb, ne_eqb}
+use Rattle.std.proofs.lemmas.Bool.{ne_eqb}
 use Rattle.arena.specs.declared.limits.Mode.TheVariants.{Tree}
 use Rattle.arena.specs.declared.layout.Layout.{Layout}
 use Rattle.arena.specs.declared.step.Row.{Row as StepRow}
@@ -11,11 +11,11 @@ use Rattle.arena.specs.ScxRecords.{field}
 use Rattle.arena.proofs.Lemmas.{ends_self}
 use Rattle.histories.proofs.Lemmas.{Logs, facts_before, logs, same, update_changes, wins}
 use Rattle.ordered_map.specs.declared.pair.Pair.{Pair}
-use Rattle.ordered_map.specs.OrderedMap.{MapCall, MapEdit, Insert, Delete, Edit, PopFirst, ReplaceIf, after_edit, delete, edited, first_pair, get, insert, pop_edit, replace_if, without_first}
+use Rattle.ordered_map.specs.OrderedMap.{MapCall, MapEdit, Edit, after, after_edit, edited}
 use Rattle.ordered_map.specs.FillOrder.{AreFilledInOrder}
 use Rattle.ordered_map.specs.Runs.{IsTreeRun, Makes}
 use Rattle.ordered_map.specs.Spelled.{Spells}
-use Rattle.ordered_map.proofs.Lemmas.{makes_since, opening_spells, popped, quiet_spells, rising_levels, run_since, win_makes}
+use Rattle.ordered_map.proofs.Lemmas.{makes_since, opening_spells, quiet_spells, rising_levels, run_since, win_makes}
 use Rattle.script.specs.declared.call.Call.{Call}
 use Rattle.script.specs.declared.command.Command.{Command}
 use Rattle.script.specs.declared.command.Command.TheVariants.{Llx, Scx, Vlx, Set, Map}
@@ -47,14 +47,6 @@ no_entry lay lines n row l e = go (logs lay (history lay.mode lines) row l)
         let none : entry_at lay (history lay.mode lines) (suc (entries lines)) n (field (history lay.mode lines) u) ≡ None = rw (kind, differs, w.update.word) at e in
         absurd (cc)
 
--- a pop leaves the map without the key that its entry takes out
-popped_first : (ps : List Pair) (first : Pair) → first_pair ps ≡ Some first → without_first ps ≡ delete first.key ps
-popped_first ps first is = popped ps ∙ ap (λ (o : Option Pair). after_edit (pop_edit o) ps) is
-
--- and a replacement of the expected value the map with the new one
-replaced_value : (key expected put : ℕ) (ps : List Pair) → get key ps ≡ Some expected → replace_if key expected put ps ≡ insert key put ps
-replaced_value key expected put ps is = rw (is, eq-eqb expected expected refl) refl
-
 module _ (lay : Layout) (tries : ℕ) (calls : List Call) (mode : lay.mode ≡ Tree) (all : AreMapCalls calls) where
   run_before : (h : History) (row : StepRow) → IsTreeRun lay (row ⊳ h) → IsTreeRun lay h
   run_before h row g = run_since lay (row ⊳ h) h g (inr (ends_self h))
@@ -76,9 +68,9 @@ module _ (lay : Layout) (tries : ℕ) (calls : List Call) (mode : lay.mode ≡ T
       other command is none = let y = all e.client.0 _ command is in let d : None ≡ Some y.0 = sym none ∙ y.1 in cc
 
       by_call : (call : MapCall) → map_call_of calls e.client.0 e.call ≡ Some call → IsMapEntry call lay (history lay.mode lines) x.entered → Spells lay (value (row ⊳ history lay.mode lines)) (after_maybe (map_call_of calls e.client.0 e.call) ps)
-      by_call (Edit edit) is does = rw is (edits edit does)
-      by_call PopFirst is does = rw (is, popped_first ps does.0 (does.2 ps s)) (edits (Delete does.0.key) does.1)
-      by_call (ReplaceIf key expected put) is does = rw (is, replaced_value key expected put ps (does.1 ps s)) (edits (Insert key put) does.0)
+      by_call (Edit goal rule) is does =
+          let left : Spells lay (value (row ⊳ history lay.mode lines)) (after (Edit goal rule) ps) = subst (λ (o : Option MapEdit). Spells lay (value (row ⊳ history lay.mode lines)) (after_edit o ps)) (sym (does.of_map ps s)) (edits does.edit does.makes) in
+          rw is left
       by_call call is does = absurd does
 
       go : (command : Command) → next_command calls lines e.client.0 ≡ Some command → IsEntryFor lay e.client.0 (history lay.mode lines) (start lay.mode lines e.client.0) (linked calls lay.mode lines e.client.0) x.entered command → Spells lay (value (row ⊳ history lay.mode lines)) (after_maybe (map_call_of calls e.client.0 e.call) ps)

@@ -24,14 +24,13 @@ use Rattle.record.specs.declared.record.Finished.{Finished}
 use Rattle.record.specs.Turns.{client_of, history, turns, begin, start, entry_at, entry_of, entry_owed, entries, is_update}
 use Rattle.record.specs.Commands.{next_command}
 use Rattle.record.specs.CommandRules.{MayMake}
-use Rattle.record.specs.Edits.{HadAtKey}
 use Rattle.record.specs.MapRecord.{map_call_of, written_log, entries_until, map_of, map_at}
 use Rattle.record.specs.SpelledMap.{AreSpelled, IsSpelledAfter}
 use Rattle.record.specs.LawfulRun.{AreLines}
 use Rattle.record.proofs.Lemmas.{start_unbegun, begin_within, log_step}
 use Rattle.moments.specs.declared.places.Change.{Change}
 use Rattle.moments.specs.Entries.{IsChangeBy, AreUpTo, IsChangeOf}
-use Rattle.moments.specs.Replied.{HasReplied}
+use Rattle.record.specs.Replied.{HasReplied}
 use Rattle.moments.proofs.Values.{until_all}
 
 -- The map after the newest turn
@@ -204,14 +203,7 @@ module _ (lay : Layout) (tries : ℕ) (calls : List Call) (c : ℕ) (command : C
   pub answer_turn : (lines : List Line) (key : ℕ) (answer : Option ℕ) (first : ℕ) → ((kind : Kind) → MayMake command kind → is_update kind ≡ false) → AreLines lay tries calls lines → AreSpelled lay calls lines → entry_owed lay lines ≡ None → next_command calls lines c ≡ Some command → begin lines c ≡ Some first → IsAnswerAt lay (history lay.mode lines) (start lay.mode lines c) key answer → IsAnsweredIn calls lines key answer first
   answer_turn lines key answer first reads a x owed is e at = turn_since lines key answer first a x owed is e at (at.since, λ same. reads)
 
-  -- and of one that has found it behind a row of its own time
-  pub had_turn : (lines : List Line) (key : ℕ) (answer : Option ℕ) (first : ℕ) → AreLines lay tries calls lines → AreSpelled lay calls lines → entry_owed lay lines ≡ None → next_command calls lines c ≡ Some command → begin lines c ≡ Some first → HadAtKey lay (history lay.mode lines) (start lay.mode lines c) key answer → IsAnsweredIn calls lines key answer first
-  had_turn lines key answer first a x owed is e (row, before, since, at) = turn_since lines key answer first a x owed is e whole (whole.since, λ same. absurd (never_behind before row (ends_trans before (start lay.mode lines c) (row ⊳ before) since (subst (λ (h : History). Extends h (row ⊳ before)) same at.since))))
-    where
-      whole : IsAnswerAt lay (history lay.mode lines) (start lay.mode lines c) key answer
-      whole = record { moment = at.moment; within = at.within; since = ends_trans at.moment (row ⊳ before) (start lay.mode lines c) at.since (inr since); map = at.map; spelled = at.spelled; gives = at.gives }
-
-  -- so there is a turn of an ordered read after which the map replies what it has told
+  -- and one of any call after which the map replies what it has replied behind a row of the call's time
   pub replied_turn : (lines : List Line) (call : MapCall) (told : MapReply) (first : ℕ) → AreLines lay tries calls lines → AreSpelled lay calls lines → entry_owed lay lines ≡ None → next_command calls lines c ≡ Some command → begin lines c ≡ Some first → HasReplied lay (history lay.mode lines) (start lay.mode lines c) call told → IsRepliedIn calls lines call told first
   replied_turn lines call told first a x owed is e h =
       let since = ends_trans h.moment (h.row ⊳ h.before) (start lay.mode lines c) h.behind (inr h.since) in

@@ -3,24 +3,18 @@ use Rattle.std.proofs.Common.{◌≡◌, ℕ, ◌≤◌, Bool, true, false, cond
 use Rattle.std.specs.Prelude.{leb}
 use Rattle.std.proofs.lemmas.Bool.{leb-true, le-leb}
 use Rattle.ordered_map.specs.declared.pair.Pair.{Pair}
-use Rattle.ordered_map.specs.OrderedMap.{MapCall, MapEdit, Edit, after, after_edit, edit_key, edit_of, get, reply, IsRising}
-use Rattle.ordered_map.proofs.Lemmas.{after_is, edit_gives, edited_rises}
+use Rattle.ordered_map.specs.OrderedMap.{MapCall, MapEdit, after_edit, edit_key, edit_of, get, reply, IsRising}
+use Rattle.ordered_map.proofs.Lemmas.{edit_gives, edited_rises}
 use Rattle.script.specs.declared.call.Call.{Call}
 use Rattle.record.specs.declared.record.Entry.{Entry}
 use Rattle.record.specs.MapRecord.{map_call_of, after_maybe, entries_until, map_of}
 use Rattle.moments.specs.declared.places.Change.{Change}
-use Rattle.moments.specs.Changed.{edit_on}
 use Rattle.moments.specs.Entries.{IsChangeByEdit, IsChangeBy, AreUpTo, IsChangeOf, AreChangesOf}
 
 -- the value of the key after turn m: that of its newest change up to then
 abbrev pub value_at : ℕ → ℕ → List Change → Option ℕ
 value_at key m [] = None
 value_at key m (c ∷ cs) = cond (leb c.turn m) (cond (eqb key c.key) c.value (value_at key m cs)) (value_at key m cs)
-
--- a call leaves what the edit leaves that its entry makes
-pub left_by : (call : MapCall) (m : List Pair) → after call m ≡ after_edit (edit_on call m) m
-left_by (Edit e) m = refl
-left_by call m = after_is call m (edit_of call (reply call m)) refl
 
 -- the change of an edit changes the value of its key alone
 edit_changes : (made : Option MapEdit) (c : Change) (m : List Pair) → IsChangeByEdit made c → IsRising m → IsRising (after_edit made m) × ((key : ℕ) → get key (after_edit made m) ≡ cond (eqb key c.key) c.value (get key m))
@@ -29,8 +23,7 @@ edit_changes None c m x rising = absurd x
 
 -- and so does that of a call
 change_gives : (call : Option MapCall) (c : Change) (m : List Pair) → IsChangeBy call m c → IsRising m → IsRising (after_maybe call m) × ((key : ℕ) → get key (after_maybe call m) ≡ cond (eqb key c.key) c.value (get key m))
-change_gives (Some call) c m x rising =
-    subst (λ (ps : List Pair). IsRising ps × ((key : ℕ) → get key ps ≡ cond (eqb key c.key) c.value (get key m))) (sym (left_by call m)) (edit_changes (edit_on call m) c m x rising)
+change_gives (Some call) c m x rising = edit_changes (edit_of call (reply call m)) c m x rising
 change_gives None c m x rising = absurd x
 
 -- entries up to a turn are all there at any later one

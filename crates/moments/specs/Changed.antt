@@ -1,28 +1,19 @@
 -- Which key of the map a command may change, and which edit of it an entry makes.
-use Rattle.std.specs.Prelude.{ℕ, List, Option, Some, None}
-use Rattle.ordered_map.specs.declared.pair.Pair.{Pair}
-use Rattle.ordered_map.specs.OrderedMap.{MapCall, MapEdit, Insert, Delete, Edit, PopFirst, ReplaceIf, edit_key, edit_of, reply}
+use Rattle.std.specs.Prelude.{ℕ, Option, Some, None, option_map}
+use Rattle.ordered_map.specs.OrderedMap.{MapCall, MapEdit, Edit, edit_to, goal_key, leaves}
 use Rattle.script.specs.declared.command.Command.{Command}
 use Rattle.record.specs.MapRecord.{map_call}
 
--- the key that this call may change, if it names it; which one a pop takes out it does not say
+-- the key that this call may change, if it names it; one that takes the first pair does not
 abbrev pub edited_key : Option MapCall → Option ℕ
-edited_key (Some (Edit edit)) = Some (edit_key edit)
-edited_key (Some (ReplaceIf key expected value)) = Some key
+edited_key (Some (Edit goal rule)) = goal_key goal None
 edited_key _ = None
 
 -- the key that a command may change, if it names it
 abbrev pub changed_key : Command → Option ℕ
 changed_key command = edited_key (map_call (Some command))
 
--- the edit that an entry of this call makes, where `taken` is the key that a pop has taken out
+-- the edit that an entry of this call makes, where `least` is the least key of the map, if it has one
 abbrev pub entered_edit : Option MapCall → Option ℕ → Option MapEdit
-entered_edit (Some (Edit edit)) taken = Some edit
-entered_edit (Some PopFirst) (Some taken) = Some (Delete taken)
-entered_edit (Some (ReplaceIf key expected value)) taken = Some (Insert key value)
-entered_edit _ taken = None
-
--- the edit that an entry of this call makes of the map m
-abbrev pub edit_on : MapCall → List Pair → Option MapEdit
-edit_on (Edit edit) m = Some edit
-edit_on call m = edit_of call (reply call m)
+entered_edit (Some (Edit goal rule)) least = option_map (λ key. edit_to key (leaves rule)) (goal_key goal least)
+entered_edit _ least = None

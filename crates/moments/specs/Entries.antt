@@ -2,12 +2,11 @@
 -- the newest first.
 use Rattle.std.specs.Prelude.{◌≡◌, ℕ, ◌≤◌, List, [], ◌∷◌, Option, Some, None}
 use Rattle.ordered_map.specs.declared.pair.Pair.{Pair}
-use Rattle.ordered_map.specs.OrderedMap.{MapCall, MapEdit, edit_key, first_pair, get, value_left}
+use Rattle.ordered_map.specs.OrderedMap.{MapCall, MapEdit, edit_key, edit_of, first_pair, get, reply, value_left}
 use Rattle.script.specs.declared.call.Call.{Call}
 use Rattle.record.specs.declared.record.Line.{Line}
 use Rattle.record.specs.declared.record.Entry.{Entry}
 use Rattle.record.specs.MapRecord.{map_call_of, written_log, map_of, map_at}
-use Rattle.moments.specs.Changed.{edit_on}
 use Rattle.moments.specs.declared.places.Change.{Change}
 
 -- the change is that of this edit
@@ -17,7 +16,7 @@ IsChangeByEdit None change = ⊥
 
 -- the change is that of an entry of this call, just before which the map was m
 abbrev pub IsChangeBy : Option MapCall → List Pair → Change → Type 0
-IsChangeBy (Some call) m change = IsChangeByEdit (edit_on call m) change
+IsChangeBy (Some call) m change = IsChangeByEdit (edit_of call (reply call m)) change
 IsChangeBy None m change = ⊥
 
 -- the entries are of turns up to this one

@@ -3,4 +3,3 @@ pub mod Changed
 pub mod Places
 pub mod Entries
 pub mod Ordered
-pub mod Replied

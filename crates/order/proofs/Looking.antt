@@ -26,7 +26,7 @@ use Rattle.ordered_map.specs.TreeWords.{is_leaf, level, rank}
 use Rattle.ordered_map.proofs.Lemmas.{passed_unmarked, path_not_final, root_head, run_since, run_spells, stood_settled, walk_first, was_passed, settled_leaf, settled_toward}
 use Rattle.template.specs.FoundLeaf.{HasFoundGoal, HasFoundLeaf}
 use Rattle.template.specs.declared.walk.Found.{Found}
-use Rattle.template.specs.declared.walk.Goal.TheVariants.{Key as ToKey}
+use Rattle.ordered_map.specs.declared.rule.Goal.TheVariants.{Key as ToKey}
 use Rattle.template.proofs.Lemmas.{own_since, opened_if_stood}
 use Rattle.order.specs.Found.{GoesTo, IsReading, IsThere, Looks, Stands, WalksTo}
 use Rattle.order.specs.Known.{HasTurnedLeft, IsLastTurn, Validates}

@@ -32,7 +32,7 @@ use Rattle.template.specs.Trails.{IsOwnMoment}
 use Rattle.template.specs.Walk.Known.{WalkKnows, WalkIsReady, WalkWaits, WalkAnswers}
 use Rattle.template.specs.Walk.Places.{IsPastRoot}
 use Rattle.template.specs.declared.walk.Found.{Found}
-use Rattle.template.specs.declared.walk.Goal.TheVariants.{Key as ToKey}
+use Rattle.ordered_map.specs.declared.rule.Goal.TheVariants.{Key as ToKey}
 use Rattle.template.specs.declared.walk.WalkAt.{WalkAt}
 use Rattle.template.specs.declared.walk.WalkAt.TheVariants.{Start as WalkStart, Root as WalkRoot, Head as AtHead, Key as AtKey, Child, More as AtMore, Pair as AtPair, Value as AtValue, High as AtHigh}
 use Rattle.template.specs.declared.walk.WalkRun.{WalkRun}

@@ -22,7 +22,7 @@ use Rattle.template.specs.Blame.{IsContended, HasLostTriesTo}
 use Rattle.template.specs.Trails.{IsOwnMoment, WasPassed}
 use Rattle.template.specs.Tries.{HasTriedAtMost}
 use Rattle.template.specs.Walk.Known.{WalkIsReady, WalkWaits}
-use Rattle.template.specs.declared.walk.Goal.TheVariants.{Key as ToKey}
+use Rattle.ordered_map.specs.declared.rule.Goal.TheVariants.{Key as ToKey}
 use Rattle.template.specs.declared.walk.WalkAt.{WalkAt}
 use Rattle.template.specs.declared.walk.WalkAt.TheVariants as walks
 use Rattle.template.specs.declared.walk.WalkRun.{WalkRun}

@@ -1,12 +1,12 @@
 -- The calls of a map, told by its values.
-use Rattle.std.proofs.Common.{◌≡◌, ◌≢◌, ℕ, ◌<◌, ◌≤◌, Bool, true, false, cond, ◌&&◌, eqb, leb, ltb, ◌⊎◌, inl, inr, List, [], ◌∷◌, refl, sym, ◌∙◌, ap, subst, arith, lt-ltb, le-ltb, eq-eqb, ne_eqb}
+use Rattle.std.proofs.Common.{◌≡◌, ◌≢◌, ℕ, ◌<◌, ◌≤◌, Bool, true, false, cond, ◌&&◌, eqb, leb, ltb, ◌⊎◌, inl, inr, List, [], ◌∷◌, refl, sym, ◌∙◌, ap, arith, lt-ltb, le-ltb, eq-eqb, ne_eqb}
 use Rattle.std.specs.Prelude.{Option, Some, None}
 use Rattle.std.proofs.lemmas.Bool.{eqb-true, eqb-false}
 use native.Mathlib.Decide.{ℕ_discrete}
 use Rattle.ordered_map.specs.declared.pair.Pair.{Pair}
 use Rattle.ordered_map.proofs.Lists.{above_less}
-use Rattle.ordered_map.specs.OrderedMap.{pair, AllAbove, IsRising, get, insert, delete, first_pair, without_first, is_value, replace_if, successor, between, MapEdit, Insert, Delete, edit_key, edited, value_left, pop_edit, replace_edit, after_edit, MapCall, OneValue, Edit, PopFirst, ReplaceIf, Get, Successor, Range, reply, after, edit_of}
-use Rattle.ordered_map.specs.MapLaws.{IsLeast, IsSuccessor, within}
+use Rattle.ordered_map.specs.OrderedMap.{pair, AllAbove, IsRising, get, insert, delete, first_pair, is_value, successor, between, MapEdit, Insert, Delete, edit_key, edited, value_left, after_edit, MapCall, OneValue, call_delete, call_insert, call_pop_first, call_replace_if, reply, after, edit_of}
+use Rattle.ordered_map.specs.MapLaws.{IsLeast, IsSuccessor, replace_if, within, without_first}
 use Rattle.ordered_map.proofs.Trees.{split_at}
 
 -- a key is below another one, is it, or is above
@@ -218,22 +218,11 @@ between_rises low high (p ∷ ps) r = go (leb low p.key && leb p.key high) (betw
     go true more = (between_above p.key low high ps r.0, more)
     go false more = more
 
--- The least key, and what pops and replacements leave
+-- The least key
 
 pub first_is : (m : List Pair) → IsRising m → IsLeast m (first_pair m)
 first_is [] r = λ j. refl
 first_is (p ∷ ps) r = (rw (at_key p.key) refl, λ j l. below_first j p ps r l)
-
-pub popped : (m : List Pair) → without_first m ≡ after_edit (pop_edit (first_pair m)) m
-popped [] = refl
-popped (p ∷ ps) = rw (at_key p.key) refl
-
-pub replaced : (k e v : ℕ) (m : List Pair) → replace_if k e v m ≡ after_edit (replace_edit k e v (get k m)) m
-replaced k e v m = go (is_value e (get k m))
-  where
-    go : (b : Bool) → cond b (insert k v m) m ≡ after_edit (cond b (Some (Insert k v)) None) m
-    go true = refl
-    go false = refl
 
 -- What an edit leaves
 
@@ -255,24 +244,27 @@ delete_absent k (p ∷ ps) e = go (eqb k p.key) (delete_absent k ps) e
     go true rest x = let y : Some p.value ≡ None = x in cc
     go false rest x = ap (λ qs. p ∷ qs) (rest x)
 
-left_after : (call : MapCall) (m : List Pair) → after call m ≡ after_edit (edit_of call (reply call m)) m
-left_after (Edit (Insert k v)) m = refl
-left_after (Edit (Delete k)) m = go (get k m) refl
+pub after_insert : (k v : ℕ) (m : List Pair) → after (call_insert k v) m ≡ insert k v m
+after_insert k v m = refl
+
+pub after_delete : (k : ℕ) (m : List Pair) → after (call_delete k) m ≡ delete k m
+after_delete k m = go (get k m) refl
   where
-    go : (told : Option ℕ) → get k m ≡ told → delete k m ≡ after_edit (edit_of (Edit (Delete k)) (OneValue told)) m
-    go None e = delete_absent k m e
+    go : (told : Option ℕ) → get k m ≡ told → after_edit (edit_of (call_delete k) (OneValue told)) m ≡ delete k m
+    go None e = sym (delete_absent k m e)
     go (Some v) e = refl
-left_after PopFirst [] = refl
-left_after PopFirst (p ∷ ps) = rw (at_key p.key) refl
-left_after (ReplaceIf k e v) m = go (is_value e (get k m))
+
+pub after_pop : (m : List Pair) → after call_pop_first m ≡ without_first m
+after_pop [] = refl
+after_pop (p ∷ ps) = rw (at_key p.key) refl
+
+pub after_replace : (k e v : ℕ) (m : List Pair) → after (call_replace_if k e v) m ≡ replace_if k e v m
+after_replace k e v m = go (is_value e (get k m))
   where
-    go : (is : Bool) → cond is (insert k v m) m ≡ after_edit (cond is (Some (Insert k v)) None) m
+    go : (is : Bool) → after_edit (cond is (Some (Insert k v)) None) m ≡ cond is (insert k v m) m
     go true = refl
     go false = refl
-left_after (Get k) m = refl
-left_after (Successor k) m = refl
-left_after (Range low high most) m = refl
 
 -- a call leaves what the edit leaves that its reply says it has made; a reading leaves the map
 pub after_is : (call : MapCall) (m : List Pair) (made : Option MapEdit) → edit_of call (reply call m) ≡ made → after call m ≡ after_edit made m
-after_is call m made e = subst (λ (o : Option MapEdit). after call m ≡ after_edit o m) e (left_after call m)
+after_is call m made e = ap (λ (o : Option MapEdit). after_edit o m) e

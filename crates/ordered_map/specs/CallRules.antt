@@ -6,7 +6,10 @@ use Rattle.arena.specs.declared.step.Kind.TheVariants.{Fill, LoadChild, LoadSett
 use Rattle.ordered_map.specs.declared.pair.Pair.{Pair as PairOf}
 use Rattle.ordered_map.specs.declared.reply.Reply.{Reply}
 use Rattle.ordered_map.specs.declared.reply.Reply.TheVariants as replies
-use Rattle.ordered_map.specs.OrderedMap.{MapCall, Edit, Insert, Delete, PopFirst, ReplaceIf, Get, Successor, Range, get, first_pair, is_value}
+use Rattle.ordered_map.specs.OrderedMap.{MapCall, Edit, Get, Successor, Range, applies, goal_told, leaves, spot}
+use Rattle.ordered_map.specs.declared.rule.Goal.{Goal}
+use Rattle.ordered_map.specs.declared.rule.Goal.TheVariants.{Key, Least}
+use Rattle.ordered_map.specs.declared.rule.Rule.{Rule}
 
 -- the form of a reply: a value, a pair or pairs, or a refusal
 pub data Form : Type 0 where
@@ -42,52 +45,44 @@ pub record CallRules : Type 1 where
 
 -- Edits
 
--- an insert makes two leaves and a fork over them, or a leaf in place of another: no more nodes than
--- these it needs, where the key has this value
-abbrev pub insert_nodes : Option ℕ → ℕ
-insert_nodes None = 3
-insert_nodes (Some value) = 1
+-- so many nodes an edit needs, whose rule changes something, at a key that has this value: two leaves
+-- and a fork over them at most, or a leaf in place of another, or a copy of its sibling
+abbrev pub nodes_at : Option ℕ → ℕ
+nodes_at None = 3
+nodes_at (Some value) = 1
 
--- a delete makes a leaf in place of another, or a copy of the leaf's sibling, where it finds its key
-abbrev pub delete_nodes : Option ℕ → ℕ
-delete_nodes None = 0
-delete_nodes (Some value) = 1
+-- by a rule, at a key, if there is one
+abbrev pub nodes_there : Rule → Option (ℕ × Option ℕ) → ℕ
+nodes_there rule None = 0
+nodes_there rule (Some s) = if applies rule s.1 then nodes_at s.1 else 0
 
--- and a pop, where it finds a pair
-abbrev pub pop_nodes : Option PairOf → ℕ
-pop_nodes None = 0
-pop_nodes (Some p) = 1
+-- and so many at most in a try, of one that changes nothing where there is no value
+abbrev pub nodes_in_try : Rule → ℕ
+nodes_in_try rule = if applies rule None then 3 else 1
 
--- a replacement makes a leaf in place of another, where it finds the value that it expects
-abbrev pub replace_nodes : ℕ → Option ℕ → ℕ
-replace_nodes expected told = if is_value expected told then 1 else 0
+-- so many steps at most behind its walk in a try, by the value that it leaves: where it leaves none, a
+-- leaf and the fork over it may go, and the leaf's sibling is copied
+abbrev pub steps_behind : Option ℕ → ℕ
+steps_behind (Some value) = 207
+steps_behind None = 328
 
--- an edit tells what the key had before, or is refused
-abbrev pub IsFormOfEdit : Form → Type 0
-IsFormOfEdit Value = Unit {0}
-IsFormOfEdit Contended = Unit {0}
-IsFormOfEdit Full = Unit {0}
-IsFormOfEdit _ = ⊥
+-- an edit of a key tells a value, or none, or is refused
+abbrev pub IsFormOfValue : Form → Type 0
+IsFormOfValue Value = Unit {0}
+IsFormOfValue Contended = Unit {0}
+IsFormOfValue Full = Unit {0}
+IsFormOfValue _ = ⊥
 
--- a pop tells a pair, or none, or is refused
-abbrev pub IsFormOfPop : Form → Type 0
-IsFormOfPop Pair = Unit {0}
-IsFormOfPop Contended = Unit {0}
-IsFormOfPop Full = Unit {0}
-IsFormOfPop _ = ⊥
+-- one of the least pair tells a pair, or none, or is refused
+abbrev pub IsFormOfPair : Form → Type 0
+IsFormOfPair Pair = Unit {0}
+IsFormOfPair Contended = Unit {0}
+IsFormOfPair Full = Unit {0}
+IsFormOfPair _ = ⊥
 
--- the rules of a call that edits: in a try it makes at most three steps for each level of its walk
--- and so many behind it, and takes at most one SCX-record and so many nodes; so many nodes it needs
--- on a map, and these are the forms of its replies
-abbrev pub edit_rules : ℕ → ℕ → (List PairOf → ℕ) → (Form → Type 0) → CallRules
-edit_rules behind nodes_in_try needs IsForm = record {
-  most_steps = λ tries nodes. tries * (3 * (2 + nodes) + behind);
-  MayMake = λ kind. Unit {0};
-  most_scx = λ tries. tries;
-  most_nodes = nodes_in_try;
-  need = needs;
-  MayReply = IsForm;
-}
+abbrev pub IsFormOfEdit : Goal → Form → Type 0
+IsFormOfEdit (Key k) = IsFormOfValue
+IsFormOfEdit Least = IsFormOfPair
 
 -- Reads
 
@@ -115,14 +110,19 @@ IsFormOfRange NoMemory = Unit {0}
 IsFormOfRange _ = ⊥
 
 -- The one match from calls to their rules. A walk makes at most three steps for each level that the
--- tree may have, two more than nodes are taken, and five more at its leaf; a search with snapshots 67
+-- tree may have, two more than nodes are taken, and five more at its leaf; an edit makes one walk in a
+-- try, and takes at most one SCX-record; a search with snapshots 67
 -- for each level, and a successor makes two of these behind a walk, a range one for each pair that it
 -- may take and for two more.
 abbrev pub call_rules : MapCall → CallRules
-call_rules (Edit (Insert key value)) = edit_rules 207 3 (λ map. insert_nodes (get key map)) IsFormOfEdit
-call_rules (Edit (Delete key)) = edit_rules 328 1 (λ map. delete_nodes (get key map)) IsFormOfEdit
-call_rules PopFirst = edit_rules 328 1 (λ map. pop_nodes (first_pair map)) IsFormOfPop
-call_rules (ReplaceIf key expected value) = edit_rules 207 1 (λ map. replace_nodes expected (get key map)) IsFormOfEdit
+call_rules (Edit goal rule) = record {
+  most_steps = λ tries nodes. tries * (3 * (2 + nodes) + steps_behind (leaves rule));
+  MayMake = λ kind. Unit {0};
+  most_scx = λ tries. tries;
+  most_nodes = nodes_in_try rule;
+  need = λ map. nodes_there rule (spot goal (goal_told goal map));
+  MayReply = IsFormOfEdit goal;
+}
 call_rules (Get key) = record {
   most_steps = λ tries nodes. 3 * (2 + nodes) + 5;
   MayMake = λ kind. (kind ≡ LoadSettled) ⊎ (kind ≡ LoadChild);

@@ -1,6 +1,10 @@
 -- The ordered map from keys to values: what each call replies, and the map that it leaves.
-use Rattle.std.specs.Prelude.{ℕ, ◌<◌, ◌≤◌, Bool, false, if◌then◌else◌, ◌&&◌, ◌==◌, nat_le, nat_lt, List, [], ◌∷◌, take, Option, Some, None, is_some}
+use Rattle.std.specs.Prelude.{ℕ, ◌<◌, ◌≤◌, Bool, true, false, if◌then◌else◌, ◌&&◌, ◌==◌, nat_le, nat_lt, List, [], ◌∷◌, take, Option, Some, None, is_some}
 use Rattle.ordered_map.specs.declared.pair.Pair.{Pair}
+use Rattle.ordered_map.specs.declared.rule.Goal.{Goal}
+use Rattle.ordered_map.specs.declared.rule.Goal.TheVariants.{Key, Least}
+use Rattle.ordered_map.specs.declared.rule.Rule.{Rule}
+use Rattle.ordered_map.specs.declared.rule.Rule.TheVariants.{Put, Take, Swap}
 
 -- A map is the list of its pairs by rising key; the empty list is the empty map.
 
@@ -50,20 +54,10 @@ abbrev pub first_pair : List Pair → Option Pair
 first_pair [] = None
 first_pair (p ∷ ps) = Some p
 
--- the map without that pair: a pop leaves this, and tells the pair
-abbrev pub without_first : List Pair → List Pair
-without_first [] = []
-without_first (p ∷ ps) = ps
-
 -- whether this is the value told
 abbrev pub is_value : ℕ → Option ℕ → Bool
 is_value v None = false
 is_value v (Some told) = told == v
-
--- the map with k at v where k has the value e, and else the map as it is: a replacement leaves
--- this, and tells what k had
-abbrev pub replace_if : ℕ → ℕ → ℕ → List Pair → List Pair
-replace_if k e v m = if is_value e (get k m) then insert k v m else m
 
 -- the pair with the least key above k, if there is one
 abbrev pub successor : ℕ → List Pair → Option Pair
@@ -81,7 +75,7 @@ between low high (p ∷ ps) =
 abbrev pub range : ℕ → ℕ → ℕ → List Pair → List Pair
 range low high most m = take most (between low high m)
 
--- Calls
+-- Edits
 
 -- the edits of a map: each change of it is one
 pub data MapEdit : Type 0 where
@@ -98,35 +92,66 @@ abbrev pub value_left : MapEdit → Option ℕ
 value_left (Insert k v) = Some v
 value_left (Delete k) = None
 
+-- the edit that leaves this value to the key, or none
+abbrev pub edit_to : ℕ → Option ℕ → MapEdit
+edit_to key None = Delete key
+edit_to key (Some value) = Insert key value
+
 -- the map that an edit leaves
 abbrev pub edited : MapEdit → List Pair → List Pair
 edited (Insert k v) m = insert k v m
 edited (Delete k) m = delete k m
-
--- the edit that a pop has made which tells this pair; where it tells none it has made none
-abbrev pub pop_edit : Option Pair → Option MapEdit
-pop_edit None = None
-pop_edit (Some p) = Some (Delete p.key)
-
--- the edit that a replacement of e has made which tells e; where it tells another value, or none, it
--- has made none
-abbrev pub replace_edit : ℕ → ℕ → ℕ → Option ℕ → Option MapEdit
-replace_edit k e v told = if is_value e told then Some (Insert k v) else None
 
 -- the map that is left where an edit is made, or none
 abbrev pub after_edit : Option MapEdit → List Pair → List Pair
 after_edit None m = m
 after_edit (Some e) m = edited e m
 
--- all calls of a map. `ReplaceIf`: this key, where it has this value, is to have that one; `Range`:
--- from this key, to this key, at most so many pairs
+-- whether a rule changes anything where it finds this value, or none: a put always does, a take
+-- where there is one, a swap where it is the value expected
+abbrev pub applies : Rule → Option ℕ → Bool
+applies (Put v) found = true
+applies Take found = is_some found
+applies (Swap e v) found = is_value e found
+
+-- the value that it leaves there, if it leaves one
+abbrev pub leaves : Rule → Option ℕ
+leaves (Put v) = Some v
+leaves Take = None
+leaves (Swap e v) = Some v
+
+-- the edit that a rule makes of a key that has this value, or none, if it makes one
+abbrev pub edit_by : Rule → ℕ → Option ℕ → Option MapEdit
+edit_by rule k found = if applies rule found then Some (edit_to k (leaves rule)) else None
+
+-- Calls
+
+-- All calls of a map. `Edit`: the rule at the goal; `Range`: from this key, to this key, at most so
+-- many pairs.
 pub data MapCall : Type 0 where
-  Edit : MapEdit → MapCall
-  PopFirst : MapCall
-  ReplaceIf : ℕ → ℕ → ℕ → MapCall
+  Edit : Goal → Rule → MapCall
   Get : ℕ → MapCall
   Successor : ℕ → MapCall
   Range : ℕ → ℕ → ℕ → MapCall
+
+-- the edits by their names: a key is to have this value; a key is to have none; the pair with the
+-- least key goes; a key, where it has the value e, is to have v
+abbrev pub call_insert : ℕ → ℕ → MapCall
+call_insert k v = Edit (Key k) (Put v)
+
+abbrev pub call_delete : ℕ → MapCall
+call_delete k = Edit (Key k) Take
+
+abbrev pub call_pop_first : MapCall
+call_pop_first = Edit Least Take
+
+abbrev pub call_replace_if : ℕ → ℕ → ℕ → MapCall
+call_replace_if k e v = Edit (Key k) (Swap e v)
+
+-- the key of a goal, where `least` is the least key of the map, if there is one
+abbrev pub goal_key : Goal → Option ℕ → Option ℕ
+goal_key (Key k) least = Some k
+goal_key Least least = least
 
 -- what a call may reply: a value, or none; a pair; some pairs
 pub data MapReply : Type 0 where
@@ -139,34 +164,40 @@ abbrev pub pair_or_none : Option Pair → MapReply
 pair_or_none (Some p) = OnePair p
 pair_or_none None = OneValue None
 
--- what the call replies on the map m: an edit tells the value that its key has in m, if it has one
+-- what an edit finds at its goal: the value of its key, if it has one, or the pair with the least key
+abbrev pub goal_told : Goal → List Pair → MapReply
+goal_told (Key k) m = OneValue (get k m)
+goal_told Least m = pair_or_none (first_pair m)
+
+-- what the call replies on the map m: an edit tells what it finds
 abbrev pub reply : MapCall → List Pair → MapReply
-reply (Edit e) m = OneValue (get (edit_key e) m)
-reply PopFirst m = pair_or_none (first_pair m)
-reply (ReplaceIf k e v) m = OneValue (get k m)
+reply (Edit goal rule) m = goal_told goal m
 reply (Get k) m = OneValue (get k m)
 reply (Successor k) m = pair_or_none (successor k m)
 reply (Range low high most) m = ManyPairs (range low high most m)
 
--- the map that the call leaves
-abbrev pub after : MapCall → List Pair → List Pair
-after (Edit e) m = edited e m
-after PopFirst m = without_first m
-after (ReplaceIf k e v) m = replace_if k e v m
-after (Get k) m = m
-after (Successor k) m = m
-after (Range low high most) m = m
+-- the key at which an edit with this reply is, and what that has, if it has a value; there is none
+-- where it looks for a pair and tells none
+abbrev pub spot : Goal → MapReply → Option (ℕ × Option ℕ)
+spot (Key k) (OneValue found) = Some (k, found)
+spot Least (OnePair p) = Some (p.key, Some p.value)
+spot _ _ = None
 
--- the edit of the map that a call with this reply has made, if it has made one: an insert always
--- has, a delete where it tells a value, a pop where it tells a pair, a replacement where it tells
--- the value that it was to find; all other calls with a reply are readings
+-- the edit that a rule makes there, if it makes one
+abbrev pub edit_there : Rule → Option (ℕ × Option ℕ) → Option MapEdit
+edit_there rule None = None
+edit_there rule (Some s) = edit_by rule s.0 s.1
+
+-- the edit of the map that a call with this reply has made, if it has made one; all calls but edits
+-- are readings
 abbrev pub edit_of : MapCall → MapReply → Option MapEdit
-edit_of (Edit (Insert k v)) told = Some (Insert k v)
-edit_of (Edit (Delete k)) (OneValue (Some v)) = Some (Delete k)
-edit_of PopFirst (OnePair p) = pop_edit (Some p)
-edit_of (ReplaceIf k e v) (OneValue told) = replace_edit k e v told
-edit_of _ _ = None
+edit_of (Edit goal rule) told = edit_there rule (spot goal told)
+edit_of _ told = None
 
 -- whether a call with this reply has changed the map
 abbrev pub changes_map : MapCall → MapReply → Bool
 changes_map call told = is_some (edit_of call told)
+
+-- the map that the call leaves: that of the edit that it makes, if it makes one
+abbrev pub after : MapCall → List Pair → List Pair
+after call m = after_edit (edit_of call (reply call m)) m

@@ -21,3 +21,8 @@ told_of key value _ = None
 -- what a reply of numbers tells of the map
 abbrev pub number_reply : Reply ℕ ℕ → Option MapReply
 number_reply = told_of (λ n. n) (λ n. n)
+
+-- the value that is told, or that there is none, which no pair tells alike
+abbrev pub one_value : Option MapReply → Option (Option ℕ)
+one_value (Some (OneValue told)) = Some told
+one_value _ = None

@@ -8,13 +8,13 @@ ghost use Rattle.arena.specs.Lawful.{IsWin};
 ghost use Rattle.arena.specs.Log.{log, is_final};
 ghost use Rattle.arena.specs.TakenNodes.{taken_nodes};
 ghost use Rattle.ordered_map.specs.declared.pair.Pair.{Pair};
-ghost use Rattle.ordered_map.specs.OrderedMap.{MapEdit, IsRising, get, insert, delete, edited, first_pair, without_first, replace_if, pop_edit, replace_edit, after_edit, successor, between};
+ghost use Rattle.ordered_map.specs.OrderedMap.{MapEdit, IsRising, get, insert, delete, edited, first_pair, after, call_insert, call_delete, call_pop_first, call_replace_if, successor, between};
 ghost use Rattle.ordered_map.specs.TreeWords.{Tree, Has, is_leaf, level, said, IsBlankAboveKeys};
 ghost use Rattle.ordered_map.specs.Spelled.{IsTree, Spells};
 ghost use Rattle.ordered_map.specs.Paths.{Passed, WasInTree, IsAnswerAt};
 ghost use Rattle.ordered_map.specs.Runs.{IsTreeRun, Makes, IsEditAt};
 ghost use Rattle.ordered_map.specs.Laws.{AreEdits, SpellsLog};
-ghost use Rattle.ordered_map.specs.MapLaws.{IsLeast, IsSuccessor, within};
+ghost use Rattle.ordered_map.specs.MapLaws.{IsLeast, IsSuccessor, replace_if, within, without_first};
 
 /// What every history of the tree keeps in which only edits of the map begin. Of each SCX-record with
 /// an entry some edit may be said that it makes. Whichever is said, be it the only one or not, after
@@ -40,9 +40,10 @@ pub fn laws_hold()
 
 /// What the calls of a map do, told by its values: an edit changes the value of its key alone and
 /// keeps the keys rising; maps of the same values are the same list; the first pair has the least
-/// key, and the successor the least above; between two keys are the pairs of just those keys; a pop
-/// and a replacement leave what the edits leave that they have made, if they have made one. It does
-/// nothing; a caller learns the laws from its contract.
+/// key, and the successor the least above; between two keys are the pairs of just those keys; an
+/// insert leaves the map with its key at its value, a delete the map without its key, a pop the map
+/// without its first pair, a replacement the one or the other as its key has the value expected. It
+/// does nothing; a caller learns the laws from its contract.
 pub fn map_laws_hold()
     ensures inserted { (k v : ℕ) (m : List Pair) → get k (insert k v m) ≡ Some v }
     ensures insert_keeps { (j k v : ℕ) (m : List Pair) → j ≢ k → get j (insert k v m) ≡ get j m }
@@ -51,8 +52,10 @@ pub fn map_laws_hold()
     ensures rising { (e : MapEdit) (m : List Pair) → IsRising m → IsRising (edited e m) }
     ensures same { (m n : List Pair) → IsRising m → IsRising n → ((k : ℕ) → get k m ≡ get k n) → m ≡ n }
     ensures first { (m : List Pair) → IsRising m → IsLeast m (first_pair m) }
-    ensures popped { (m : List Pair) → without_first m ≡ after_edit (pop_edit (first_pair m)) m }
-    ensures replaced { (k e v : ℕ) (m : List Pair) → replace_if k e v m ≡ after_edit (replace_edit k e v (get k m)) m }
+    ensures after_insert { (k v : ℕ) (m : List Pair) → after (call_insert k v) m ≡ insert k v m }
+    ensures after_delete { (k : ℕ) (m : List Pair) → after (call_delete k) m ≡ delete k m }
+    ensures after_pop { (m : List Pair) → after call_pop_first m ≡ without_first m }
+    ensures after_replace { (k e v : ℕ) (m : List Pair) → after (call_replace_if k e v) m ≡ replace_if k e v m }
     ensures successor { (k : ℕ) (m : List Pair) → IsRising m → IsSuccessor k m (successor k m) }
     ensures between { (low high j : ℕ) (m : List Pair) → get j (between low high m) ≡ within low high j (get j m) }
     ensures between_rises { (low high : ℕ) (m : List Pair) → IsRising m → IsRising (between low high m) }

@@ -8,6 +8,7 @@ mod part;
 mod reader;
 mod reply;
 mod request;
+mod rule;
 mod wide;
 
 pub use held::slot_behind;
@@ -16,4 +17,5 @@ pub use pair::Pair;
 pub use reader::spelled;
 pub use reply::Reply;
 pub use request::Request;
+pub use rule::{Goal, Rule};
 pub use wide::{halves, wide_value};

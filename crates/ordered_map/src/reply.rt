@@ -1,4 +1,7 @@
 //! Replies of a dictionary.
+ghost use Rattle.std.specs.Prelude.{◌≡◌};
+ghost use Rattle.ordered_map.specs.Replies.{number_reply, one_value};
+
 use arena::{Full, NodeNo, ScxNo};
 
 /// What a call of a dictionary replies.
@@ -17,4 +20,18 @@ pub enum Reply<K, V> {
     Full(Full),
     /// A growth of what an ordered read keeps was refused.
     NoMemory,
+}
+
+impl Reply<u64, u128> {
+    /// The value that it tells, or that there is none, if it tells one of these: no pair and no
+    /// value are told alike.
+    pub fn value(&self) -> Option<Option<u128>>
+        ensures { result ≡ one_value (number_reply self.now) }
+    {
+        match self {
+            Reply::Value(value) => Some(*value),
+            Reply::Pair(None) => Some(None),
+            _ => None,
+        }
+    }
 }

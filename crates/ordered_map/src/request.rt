@@ -1,4 +1,10 @@
 //! Calls of a dictionary.
+ghost use Rattle.std.specs.Prelude.{◌≡◌};
+ghost use Rattle.ordered_map.specs.Requests.{edit_in, key_told, map_request, tells_change};
+ghost use Rattle.ordered_map.specs.Replies.{number_reply};
+
+use crate::reply::Reply;
+use crate::rule::{Goal, Rule};
 
 /// A call of a dictionary, as one that is held open begins.
 #[derive(Clone, Copy, Debug, PartialEq, Eq)]
@@ -18,4 +24,46 @@ pub enum Request<K, V> {
     /// Takes the first pairs by key of those with keys from `low` to `high`, both with them, at most
     /// so many, 64 at the most.
     Range { low: K, high: K, most: u32 },
+}
+
+impl Request<u64, u128> {
+    /// Where it goes and by which rule, if it is an edit.
+    pub fn edit(&self) -> Option<(Goal, Rule)>
+        ensures { result ≡ edit_in (map_request self.now) }
+    {
+        match *self {
+            Request::Insert { key, value } => Some((Goal::Key(key), Rule::Put(value))),
+            Request::Delete { key } => Some((Goal::Key(key), Rule::Take)),
+            Request::PopFirst => Some((Goal::Least, Rule::Take)),
+            Request::ReplaceIf {
+                key,
+                expected,
+                value,
+            } => Some((Goal::Key(key), Rule::Swap { expected, value })),
+            Request::Get { .. } | Request::Successor { .. } | Request::Range { .. } => None,
+        }
+    }
+
+    /// The key whose value it tells, if it tells one.
+    pub fn key(&self) -> Option<u64>
+        ensures { result ≡ key_told (map_request self.now) }
+    {
+        match *self {
+            Request::Get { key } => Some(key),
+            _ => self.edit()?.0.key(None),
+        }
+    }
+
+    /// Whether this reply to it says that it has changed the map.
+    pub fn changes(&self, reply: &Reply<u64, u128>) -> bool
+        ensures { result ≡ tells_change (map_request self.now) (number_reply reply.now) }
+    {
+        match self.edit() {
+            Some((goal, rule)) => match goal.spot(reply) {
+                Some((_, found)) => rule.applies(found),
+                None => false,
+            },
+            None => false,
+        }
+    }
 }

@@ -14,6 +14,7 @@ use Rattle.arena.specs.declared.word.Side.{Side}
 use Rattle.player.specs.declared.kept.Found.{Found}
 use Rattle.record.specs.Snapshots.{AreLinked}
 use Rattle.player.specs.KeptSnaps.{AllKept, IsFirstUnkept, IsUnspent, kept_of}
+use Rattle.player.proofs.EachCall.{few_pairs}
 use Rattle.player.proofs.Over.{either, taken_nothing, taken_none}
 use Rattle.player.proofs.Ends.{among_none, are_linked}
 use Rattle.player.proofs.Putting.{full_answer}
@@ -118,11 +119,7 @@ pub asks_other : (request : Request ℕ ℕ) → ((low high most : ℕ) → requ
 asks_other (RangeCommand low high most) other = absurd (other low high most refl)
 asks_other request other = tt
 
--- it asks for few pairs, and makes no more steps than its command may
-few_pairs : (request : Request ℕ ℕ) → AsksForFew request → IsFewCall (map_request request)
-few_pairs (RangeCommand low high most) few = few
-few_pairs request few = tt
-
+-- it makes no more steps than its command may
 map_few : (request : Request ℕ ℕ) (tries taken : ℕ) → most_map_steps (map_request request) tries taken ≡ command_steps (Map request) tries taken
 map_few request tries taken = refl
 

@@ -30,12 +30,12 @@ use Rattle.prims.specs.declared.scx.ScxAt.TheVariants.{Start as ScxStart, Help}
 use Rattle.prims.proofs.Lemmas.{llx_fills_not, vlx_fills_not, own_in_hand}
 use Rattle.dict.specs.Calls.{inner_call, inner_share}
 use Rattle.dict.specs.Known.{IsNumbered, WaitsInside}
-use Rattle.dict.specs.Goals.{goal_told, leaf_told}
+use Rattle.dict.specs.Goals.{leaf_told}
 use Rattle.dict.specs.Inner.{InnerRun, Update, Get, Read, inner}
 use Rattle.dict.specs.Laws.Kinds.{IsOfKind}
 use Rattle.order.specs.Laws.Run.{read_fills_not}
 use Rattle.ordered_map.specs.declared.pair.Pair.{Pair}
-use Rattle.ordered_map.specs.OrderedMap.{MapEdit, OneValue, edit_key, edit_of, get, pair_or_none, reply}
+use Rattle.ordered_map.specs.OrderedMap.{MapEdit, OneValue, edit_key, edit_of, get, pair_or_none, reply, goal_told}
 use Rattle.ordered_map.specs.Runs.{IsEditAt, IsTreeRun, Makes}
 use Rattle.ordered_map.specs.Spelled.{Spells}
 use Rattle.ordered_map.specs.TreeShape.{TreeAllows}
@@ -43,8 +43,8 @@ use Rattle.ordered_map.specs.TreeWords.{said}
 use Rattle.ordered_map.proofs.Lemmas.{SameSettled, run_since, settled_said, walk_named, win_makes}
 use Rattle.template.proofs.Lemmas.{walk_fills_not}
 use Rattle.template.specs.FoundLeaf.{asked_key, path_key, HasFoundGoal}
-use Rattle.template.specs.declared.walk.Goal.{Goal}
-use Rattle.template.specs.declared.walk.Goal.TheVariants.{Key as ToKey, Least}
+use Rattle.ordered_map.specs.declared.rule.Goal.{Goal}
+use Rattle.ordered_map.specs.declared.rule.Goal.TheVariants.{Key as ToKey, Least}
 use Rattle.template.specs.Tracked.{Tracks}
 use Rattle.template.specs.declared.walk.Found.{Found}
 use Rattle.tree.proofs.Lemmas.{get_fills_not}

@@ -6,7 +6,7 @@ use Rattle.arena.specs.Share.{Remaining}
 use Rattle.ordered_map.specs.CallRules.{MayReply, form_of}
 use Rattle.dict.specs.Calls.{AsksForPairs}
 use Rattle.dict.specs.DictKnown.{DictRefuses}
-use Rattle.dict.specs.Says.{HasMadeEdit, HasReadMap, HasTold, HasToldBy, TellsOfMap}
+use Rattle.dict.specs.Says.{HasMadeEdit, HasTold, HasToldBy, TellsOfMap}
 use Rattle.ordered_map.specs.OrderedMap.{MapCall, MapEdit, MapReply, OneValue, changes_map, edit_of, reply}
 use Rattle.ordered_map.proofs.Lemmas.{one_spelling}
 use Rattle.ordered_map.specs.Replies.{number_reply}
@@ -24,10 +24,9 @@ use Rattle.record.specs.declared.record.Answer.{Answer}
 use Rattle.record.specs.declared.record.Answer.TheVariants.{Map as MapAnswer}
 use Rattle.script.specs.declared.command.Command.{Command}
 use Rattle.script.specs.declared.command.Command.TheVariants.{Map as MapOf}
-use Rattle.moments.specs.Replied.{HasReplied}
 use Rattle.player.specs.declared.client.Client.{Client}
 use Rattle.player.specs.ClientView.{ClientView, IsOwnWin, IsToldBy, IsToldChange, IsToldOfMap, IsWonSince, Tells, machine_call}
-use Rattle.player.proofs.EachCall.{TookPlace, ByEntry, ByValue, ByReply, Nowhere, HasTakenPlace, TellsSo, answer_right, is_by_entry, took_place}
+use Rattle.player.proofs.EachCall.{TookPlace, ByEntry, ByValue, ByReply, Nowhere, HasTakenPlace, TellsSo, answer_right, is_by_entry, replied, took_place}
 
 -- the answer is one that the command gives, it is right, and an update of the call has won if it
 -- says so
@@ -66,18 +65,11 @@ module _ (v : ClientView) (c : Client) (is_pass : c.pass.0 < v.layout.passes) (w
 
   -- A reading
 
-  -- it has replied so
-  replied : (of : MapCall) (told : MapReply) → AsksForPairs of → HasReadMap call v.past of told → HasReplied v.layout v.past v.start of told
-  replied of told asks x =
-      let read = x.read in
-      let own = read.own asks in
-      record { row = own.row; before = own.before; since = own.since; moment = read.moment; behind = own.within; within = read.within; map = read.map; spelled = read.spelled; replies = read.gives }
-
   -- What is told
 
   -- of a change or of a reading
   told_by : (of : MapCall) (told : MapReply) (e : Option MapEdit) → AsksForPairs of → HasToldBy e call v.past of told → HasItsEntry (is_some e) v.won × IsToldBy (is_some e) v c.pass.0 of told
-  told_by of told None asks x = (entered_none v.won (unwon x.none), inl (replied of told asks x))
+  told_by of told None asks x = (entered_none v.won (unwon x.none), inl (replied v c is_pass of told asks x))
   told_by of told (Some e) asks x = let y = changed of told e x in (entered_some v.won y.0.0 y.0.1, y.1)
 
   tells_so : (of : MapCall) (told : Option MapReply) → AsksForPairs of → TellsOfMap call v.past of told → IsToldOfMap v c.pass.0 of told

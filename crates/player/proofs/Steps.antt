@@ -62,7 +62,7 @@ use Rattle.player.proofs.Views.{own_row, step_sound, hears}
 use Rattle.player.proofs.Middles.{IsOver, get_there, others_step, others_log, so_far_same, step_made, turn_changed, turn_ends, replied}
 use Rattle.player.proofs.MayMakes.{may_make}
 use Rattle.record.proofs.Lemmas.{begin_within, log_step}
-use Rattle.player.proofs.EachCall.{edit_of_key, entered_on}
+use Rattle.player.proofs.EachCall.{edit_of_key}
 use Rattle.player.proofs.Keys.{command_key, some_edit}
 use Rattle.player.proofs.MapCalls.{map_calls, tree_run}
 use Rattle.player.proofs.Winners.{IsEntryOfWin, entry_wins, tells_won, win_enters}
@@ -105,7 +105,7 @@ some_entry a b e = cc
 
 -- it is that of a call whose reply, on the map just before, says that it has made the edit
 changes_so : (of : MapCall) (edit : MapEdit) (turn : ℕ) (map : List Pair) → edit_of of (reply of map) ≡ Some edit → IsChangeBy (Some of) map (change_of turn edit)
-changes_so of edit turn map e = subst (λ (o : Option MapEdit). IsChangeByEdit o (change_of turn edit)) (sym (entered_on of edit map e)) (refl, refl)
+changes_so of edit turn map e = subst (λ (o : Option MapEdit). IsChangeByEdit o (change_of turn edit)) (sym e) (refl, refl)
 
 -- the entries of a record are of turns so far
 up_to : (lay : Layout) (tries : ℕ) (calls : List Call) (lines : List Line) (turn : ℕ) → AreLines lay tries calls lines → turns lines ≤ turn → AreUpTo turn (written_log lines)

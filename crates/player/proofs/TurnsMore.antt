@@ -24,7 +24,8 @@ use Rattle.record.specs.Commands.{commands, next_command}
 use Rattle.record.specs.CommandRules.{command_steps}
 use Rattle.record.specs.LawfulRun.{OwesNothing, AreLines}
 use Rattle.record.specs.Replies.{IsReply}
-use Rattle.player.proofs.EachCall.{few_steps}
+use Rattle.ordered_map.specs.Requests.{map_request}
+use Rattle.player.proofs.EachCall.{few_pairs, few_steps}
 use Rattle.player.proofs.MapCalls.{command_few}
 use Rattle.record.specs.OneClient.{HasCall, AwaitsSteps, AreMadeWhile}
 use Rattle.player.specs.TurnsMore.{AreTurnsWhile, most_of_all, to_go}
@@ -158,7 +159,7 @@ most_few lay tries (Llx cell) taken few i = omega arith
 most_few lay tries (Scx update) taken few i = omega arith
 most_few lay tries (Vlx cells) taken small i = let few = cells.few in grind (arith, length-take)
 most_few lay tries (Set field value) taken few i = omega arith
-most_few lay tries (Map request) taken few i = few_steps lay tries taken i request few
+most_few lay tries (Map request) taken few i = few_steps lay tries taken i (map_request request) (few_pairs request few)
 
 -- so the client of a lawful run has made few since its last reply
 steps_few : (lay : Layout) (tries : ℕ) (calls : List Call) (lines : List Line) (c : ℕ) → Lawful lay (history lay.mode lines) → AreLines lay tries calls lines → steps lines c ≤ most_of_all lay tries

@@ -23,7 +23,7 @@ use Rattle.prims.specs.Snaps.{IsAmong}
 use Rattle.prims.specs.Updates.{update_field_index}
 use Rattle.prims.specs.declared.put.PutRun.{PutRun}
 use Rattle.prims.specs.declared.snap.Snap.{Snap}
-use Rattle.moments.specs.Replied.{HasReplied}
+use Rattle.record.specs.Replied.{HasReplied}
 use Rattle.ordered_map.specs.OrderedMap.{MapCall, MapEdit, MapReply, changes_map, reply}
 use Rattle.ordered_map.specs.Spelled.{Spells}
 use Rattle.ordered_map.specs.declared.pair.Pair.{Pair}

@@ -1,13 +1,11 @@
 -- Where a call took place, by what it has answered.
 use Rattle.std.specs.Prelude.{◌≡◌, ◌≢◌, ℕ, suc, ◌≤◌, Bool, true, false, List, Option, Some, None, IfSome, IfNone}
-use Rattle.ordered_map.specs.OrderedMap.{MapCall, get, is_value, reply as replies_on}
+use Rattle.ordered_map.specs.OrderedMap.{MapCall, MapReply, OneValue, get, reply as replies_on}
+use Rattle.ordered_map.specs.Requests.{key_told, tells_change}
 use Rattle.script.specs.declared.call.Call.{Call}
 use Rattle.script.specs.declared.command.Command.{Command}
-use Rattle.script.specs.declared.command.Command.TheVariants.{Map}
-use Rattle.ordered_map.specs.declared.request.Request.TheVariants.{Insert, Delete, PopFirst, ReplaceIf, Get, Successor, Range}
 use Rattle.ordered_map.specs.Replies.{number_reply}
 use Rattle.ordered_map.specs.declared.reply.Reply.{Reply}
-use Rattle.ordered_map.specs.declared.reply.Reply.TheVariants.{Value, Pair, Pairs}
 use Rattle.record.specs.declared.record.Line.{Line}
 use Rattle.record.specs.declared.record.Answer.{Answer}
 use Rattle.record.specs.declared.record.Answer.TheVariants.{Map as MapAnswer}
@@ -31,58 +29,32 @@ pub record IsOrderedMoment (calls : List Call) (lines : List Line) (changes : Li
   pub within : first ≤ last → FallFrom (suc last) changes → (first ≤ turn) × (turn ≤ last)
   pub greatest : (call : MapCall) (n : ℕ) → AreEntries calls lines changes → FallFrom (suc last) changes → IsOrderedRead command → map_call (Some command) ≡ Some call → first ≤ n → n ≤ last → number_reply reply ≡ Some (replies_on call (map_at calls lines n)) → IsGreatestTurn (λ m. number_reply reply ≡ Some (replies_on call (map_at calls lines m))) first last turn
 
--- whether the reply tells a pair
-abbrev pub is_pair : Reply ℕ ℕ → Bool
-is_pair (Pair (Some p)) = true
-is_pair _ = false
+-- the moment of a call that reads, and has told this by its reply: of its key, or else in order
+abbrev pub IsReadingMoment : List Call → List Line → List Change → Command → Reply ℕ ℕ → Option ℕ → Option MapReply → ℕ → ℕ → Option ℕ → Type 0
+IsReadingMoment calls lines changes command reply (Some key) (Some (OneValue told)) first last moment = IsReadMoment calls lines changes key told first last moment
+IsReadingMoment calls lines changes command reply None (Some told) first last moment = IsOrderedMoment calls lines changes command reply first last moment
+IsReadingMoment calls lines changes command reply key told first last moment = moment ≡ None
 
--- of a call that has changed the map it is the turn of its entry; any other reads
+-- of a call that has changed the map it is the turn of its entry; any other reads, or was refused
 abbrev pub IsWonOrRead : Bool → Type 0 → Option ℕ → Option ℕ → Type 0
 IsWonOrRead true reads won moment = moment ≡ won
 IsWonOrRead false reads won moment = reads
 
--- the moment of a pop: one that tells a pair has changed the map
-abbrev pub IsPopMoment : List Call → List Line → List Change → Reply ℕ ℕ → ℕ → ℕ → Option ℕ → Option ℕ → Type 0
-IsPopMoment calls lines changes reply first last won moment =
-    IsWonOrRead (is_pair reply) (IsOrderedMoment calls lines changes (Map PopFirst) reply first last moment) won moment
+-- the moment of a call of the map with this reply, which this command makes
+abbrev pub IsReplyMoment : List Call → List Line → List Change → Command → MapCall → Reply ℕ ℕ → ℕ → ℕ → Option ℕ → Option ℕ → Type 0
+IsReplyMoment calls lines changes command call reply first last won moment =
+    IsWonOrRead (tells_change call (number_reply reply)) (IsReadingMoment calls lines changes command reply (key_told call) (number_reply reply) first last moment) won moment
 
--- the moment of a replacement that tells this value of its key: one that tells the value expected
--- has changed the map
-abbrev pub IsReplaceMoment : List Call → List Line → List Change → ℕ → ℕ → Option ℕ → ℕ → ℕ → Option ℕ → Option ℕ → Type 0
-IsReplaceMoment calls lines changes key expected told first last won moment =
-    IsWonOrRead (is_value expected told) (IsReadMoment calls lines changes key told first last moment) won moment
+-- of a call that is one of the map, if it is
+abbrev pub IsCallMoment : List Call → List Line → List Change → Command → Option MapCall → Reply ℕ ℕ → ℕ → ℕ → Option ℕ → Option ℕ → Type 0
+IsCallMoment calls lines changes command (Some call) reply first last won moment = IsReplyMoment calls lines changes command call reply first last won moment
+IsCallMoment calls lines changes command None reply first last won moment = moment ≡ None
 
--- the moment of a call that tells a pair, or none, or pairs
-abbrev pub IsPairsMoment : List Call → List Line → List Change → Command → Reply ℕ ℕ → ℕ → ℕ → Option ℕ → Option ℕ → Type 0
-IsPairsMoment calls lines changes (Map PopFirst) reply first last won moment =
-    IsPopMoment calls lines changes reply first last won moment
-IsPairsMoment calls lines changes (Map (Successor key)) reply first last won moment =
-    IsOrderedMoment calls lines changes (Map (Successor key)) reply first last moment
-IsPairsMoment calls lines changes (Map (Range low high most)) reply first last won moment =
-    IsOrderedMoment calls lines changes (Map (Range low high most)) reply first last moment
-IsPairsMoment calls lines changes command reply first last won moment = moment ≡ None
-
--- the moment of a call that tells a value: of an edit the turn of its entry; a get reads, and so do
--- a delete of an absent key and a replacement that finds another value
-abbrev pub IsValueMoment : List Call → List Line → List Change → Command → Option ℕ → ℕ → ℕ → Option ℕ → Option ℕ → Type 0
-IsValueMoment calls lines changes (Map (Insert key value)) told first last won moment = moment ≡ won
-IsValueMoment calls lines changes (Map (Delete key)) (Some old) first last won moment = moment ≡ won
-IsValueMoment calls lines changes (Map (Delete key)) None first last won moment =
-    IsReadMoment calls lines changes key None first last moment
-IsValueMoment calls lines changes (Map (ReplaceIf key expected value)) told first last won moment =
-    IsReplaceMoment calls lines changes key expected told first last won moment
-IsValueMoment calls lines changes (Map (Get key)) told first last won moment =
-    IsReadMoment calls lines changes key told first last moment
-IsValueMoment calls lines changes command told first last won moment = moment ≡ None
-
--- the moment of a call of the map with this reply; a refused one has none
-abbrev pub IsReplyMoment : List Call → List Line → List Change → Command → Reply ℕ ℕ → ℕ → ℕ → Option ℕ → Option ℕ → Type 0
-IsReplyMoment calls lines changes command (Value told) first last won moment = IsValueMoment calls lines changes command told first last won moment
-IsReplyMoment calls lines changes command (Pair found) first last won moment = IsPairsMoment calls lines changes command (Pair found) first last won moment
-IsReplyMoment calls lines changes command (Pairs found) first last won moment = IsPairsMoment calls lines changes command (Pairs found) first last won moment
-IsReplyMoment calls lines changes command reply first last won moment = moment ≡ None
+-- with this answer
+abbrev pub IsAnswerMoment : List Call → List Line → List Change → Command → Option MapCall → Answer → ℕ → ℕ → Option ℕ → Option ℕ → Type 0
+IsAnswerMoment calls lines changes command call (MapAnswer reply) first last won moment = IsCallMoment calls lines changes command call reply first last won moment
+IsAnswerMoment calls lines changes command call answer first last won moment = moment ≡ moment_of answer first last won
 
 -- the moment of a call with this answer
 abbrev pub IsMomentBy : List Call → List Line → List Change → Command → Answer → ℕ → ℕ → Option ℕ → Option ℕ → Type 0
-IsMomentBy calls lines changes command (MapAnswer reply) first last won moment = IsReplyMoment calls lines changes command reply first last won moment
-IsMomentBy calls lines changes command answer first last won moment = moment ≡ moment_of answer first last won
+IsMomentBy calls lines changes command = IsAnswerMoment calls lines changes command (map_call (Some command))

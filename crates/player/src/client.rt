@@ -1,8 +1,6 @@
 //! A client of the player: what it owns and what it is in the middle of.
 ghost use Rattle.std.specs.Prelude.{◌≡◌, Some, ℕ, ◌+◌, ◌<◌, ◌≤◌, length, map, IfOk, MatchBool};
 ghost use Rattle.dict.specs.Calls.{AsksForPairs};
-ghost use Rattle.ordered_map.specs.OrderedMap.{is_value};
-ghost use Rattle.player.specs.Moments.{is_pair};
 ghost use Rattle.player.specs.RunKnown.{IsForNothing};
 ghost use Rattle.ordered_map.specs.Requests.{map_request};
 ghost use Rattle.player.specs.declared.client.Client.{Client};
@@ -73,6 +71,7 @@ impl Client {
     ghost use Rattle.arena.specs.declared.limits.Mode.TheVariants.{Records};
     ghost use Rattle.script.specs.declared.command.Command.TheVariants.{Scx as ScxCommand, Map as MapCommand};
     ghost use Rattle.ordered_map.specs.OrderedMap.{edit_key, value_left};
+    ghost use Rattle.ordered_map.specs.Replies.{number_reply};
     ghost use Rattle.ordered_map.specs.Requests.{AsksForFew};
     ghost use Rattle.std.specs.Option.{option_map};
     ghost use Rattle.arena.specs.History.{History};
@@ -87,8 +86,9 @@ impl Client {
     ghost use Rattle.script.specs.declared.call.Call.{Call as ScriptCall};
     ghost use Rattle.arena.specs.Share.{IsFull, after_taking};
     ghost use Rattle.record.specs.declared.record.Line.{Line};
+    ghost use Rattle.record.specs.declared.record.Answer.TheVariants.{Map as MapAnswer};
     ghost use Rattle.moments.specs.Places.{changes};
-    ghost use Rattle.player.specs.Moments.{IsMomentBy, IsPairsMoment, IsPopMoment, IsReplaceMoment, IsReplyMoment, IsValueMoment};
+    ghost use Rattle.player.specs.Moments.{IsMomentBy, IsReadingMoment};
     ghost use Rattle.player.specs.RunKnown.{share_behind};
     ghost use Rattle.player.specs.Hearing.{HasAnswered};
     ghost use Rattle.player.specs.ClientView.{ClientView, client_view, IsSound, IsAtNextCall, Rests, command_of, Starts, Hears, Answered, HasBeenTold, CanPut, Puts, held, running_edit, BeginsOrRefuses, IsNextAction, IsNextCallUnbegun, IsClient};
@@ -424,111 +424,41 @@ impl Client {
         requires { self.now.begin ≤ turn }
         ensures { (call : ScriptCall) (at : ℕ) (lines : List Line) → self.now.next ≡ Some at →
             slice_get calls.now at ≡ Some call →
-            IsReplyMoment calls.now lines (changes places.now) call.command reply.now self.now.begin turn won result }
-    {
-        match reply {
-            Reply::Value(value) => self.value_moment(calls, turn, *value, won, places),
-            Reply::Pair(_) => self.pairs_moment(calls, turn, reply, won, places),
-            Reply::Pairs(_) => self.pairs_moment(calls, turn, reply, won, places),
-            Reply::Contended { .. } | Reply::Full(_) | Reply::NoMemory => None,
-        }
-    }
-
-    /// The turn at which a reply stands that tells a pair, or none, or pairs.
-    fn pairs_moment(
-        &self,
-        calls: &[Call],
-        turn: u64,
-        reply: &Reply<u64, u128>,
-        won: Option<u64>,
-        places: &Places,
-    ) -> Option<u64>
-        requires { self.now.begin ≤ turn }
-        ensures { (call : ScriptCall) (at : ℕ) (lines : List Line) → self.now.next ≡ Some at → slice_get calls.now at ≡ Some call →
-            IsPairsMoment calls.now lines (changes places.now) call.command reply.now self.now.begin turn won result }
+            IsMomentBy calls.now lines (changes places.now) call.command (MapAnswer reply.now) self.now.begin turn won result }
     {
         let command = self.call(calls)?.command;
-        match command {
-            Command::Map(Request::PopFirst) => self.pop_moment(turn, reply, won, places),
-            Command::Map(Request::Successor { .. }) => {
-                Some(places.greatest_of(&command, reply, self.begin, turn))
-            }
-            Command::Map(Request::Range { .. }) => {
-                Some(places.greatest_of(&command, reply, self.begin, turn))
-            }
-            _ => None,
-        }
-    }
-
-    /// The turn at which a pop stands that has replied so.
-    fn pop_moment(
-        &self,
-        turn: u64,
-        reply: &Reply<u64, u128>,
-        won: Option<u64>,
-        places: &Places,
-    ) -> Option<u64>
-        requires { self.now.begin ≤ turn }
-        ensures { (calls : List ScriptCall) (lines : List Line) → IsPopMoment calls lines (changes places.now) reply.now self.now.begin turn won result }
-    {
-        if is_pair(reply) {
+        let Command::Map(request) = command else {
+            return None;
+        };
+        if request.changes(reply) {
             return won;
         }
-        let pop = Command::Map(Request::PopFirst);
-        Some(places.greatest_of(&pop, reply, self.begin, turn))
+        self.reading_moment(&command, request.key(), turn, reply, places)
     }
 
-    /// The turn at which a reply stands that tells a value.
-    fn value_moment(
+    /// The turn at which a reply stands of a call that has changed nothing: of one that tells the
+    /// value of this key, or, without a key, that reads in order.
+    fn reading_moment(
         &self,
-        calls: &[Call],
+        command: &Command,
+        key: Option<u64>,
         turn: u64,
-        value: Option<u128>,
-        won: Option<u64>,
-        places: &Places,
-    ) -> Option<u64>
-        requires { self.now.begin ≤ turn }
-        ensures { (call : ScriptCall) (at : ℕ) (lines : List Line) → self.now.next ≡ Some at →
-            slice_get calls.now at ≡ Some call →
-            IsValueMoment calls.now lines (changes places.now) call.command value self.now.begin turn won result }
-    {
-        let command = self.call(calls)?.command;
-        match command {
-            Command::Map(Request::Insert { .. }) => won,
-            Command::Map(Request::Delete { key }) => match value {
-                Some(_) => won,
-                None => places.greatest(key, None, self.begin, turn),
-            },
-            Command::Map(
-                Request::ReplaceIf {
-                    key,
-                    expected,
-                    value: _,
-                },
-            ) => self.replace_moment(turn, key, expected, value, won, places),
-            Command::Map(Request::Get { key }) => places.greatest(key, value, self.begin, turn),
-            _ => None,
-        }
-    }
-
-    /// The turn at which a replacement stands that has told this value of the key.
-    fn replace_moment(
-        &self,
-        turn: u64,
-        key: u64,
-        expected: u128,
-        told: Option<u128>,
-        won: Option<u64>,
+        reply: &Reply<u64, u128>,
         places: &Places,
     ) -> Option<u64>
         requires { self.now.begin ≤ turn }
         ensures { (calls : List ScriptCall) (lines : List Line) →
-            IsReplaceMoment calls lines (changes places.now) key expected told self.now.begin turn won result }
+            IsReadingMoment calls lines (changes places.now) command.now reply.now key (number_reply reply.now) self.now.begin turn result }
     {
-        if is_expected(expected, told) {
-            return won;
+        match key {
+            Some(key) => places.greatest(key, reply.value()?, self.begin, turn),
+            None => match reply {
+                Reply::Value(_) => Some(places.greatest_of(command, reply, self.begin, turn)),
+                Reply::Pair(_) => Some(places.greatest_of(command, reply, self.begin, turn)),
+                Reply::Pairs(_) => Some(places.greatest_of(command, reply, self.begin, turn)),
+                Reply::Contended { .. } | Reply::Full(_) | Reply::NoMemory => None,
+            },
         }
-        places.greatest(key, told, self.begin, turn)
     }
 }
 
@@ -545,23 +475,6 @@ fn hear(running: &mut Option<Running>, found: u64) -> Option<Ended>
             Turn::Done(ended) => Some(ended),
         },
         None => None,
-    }
-}
-
-/// Whether a pop that replies so has taken a pair.
-fn is_pair(reply: &Reply<u64, u128>) -> bool
-    ensures { result ≡ is_pair reply.now }
-{
-    matches!(reply, Reply::Pair(Some(_)))
-}
-
-/// Whether a replacement that tells so has found the value that it expects.
-fn is_expected(expected: u128, told: Option<u128>) -> bool
-    ensures { result ≡ is_value expected told }
-{
-    match told {
-        Some(told) => told == expected,
-        None => false,
     }
 }
 

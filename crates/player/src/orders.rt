@@ -2,7 +2,7 @@
 ghost use Rattle.std.specs.Prelude.{◌≡◌, ◌<◌, All, IfOk, OnOk};
 ghost use Rattle.player.specs.Player.{script_view};
 ghost use Rattle.player.specs.TurnsMore.{AreTurnsWhile};
-ghost use Rattle.record.specs.Schedules.{AsksForMore, IsObeyed, IsOrdered, IsRunOf};
+ghost use Rattle.record.specs.Schedules.{AsksForMore, IsObeyed, IsOrdered, IsRunOf, ordered_client};
 ghost use Rattle.script.specs.Orders.{IsOrder};
 ghost use Rattle.script.specs.declared.schedule.Order.{Order};
 
@@ -21,26 +21,28 @@ pub fn play_by(alloc: Global, script: &Script, schedule: &Schedule) -> Result<Re
 {
     let mut player = Player::new(alloc, script)?;
     for order in schedule.orders.iter() {
-        follow(&mut player, *order)?;
+        player.obey(*order)?;
     }
     Ok(player.record())
 }
 
-/// Makes the turns that an order means.
-fn follow(player: &mut Player, order: Order) -> Result<(), NoMemory>
-    requires { IsOrder player.old.script.layout.passes order }
-    ensures script { player.new.script ≡ player.old.script }
-    ensures ordered { OnOk result (IsOrdered player.old.script.calls order player.old.lines player.new.lines) }
-{
-    match order {
-        Order::Step { client, turns } => make_turns(player, client, turns),
-        Order::Call { client } => player.call(client),
-        Order::Until {
-            client,
-            kind,
-            times,
-        } => player.run_until(client, kind, times),
-        Order::Finish { client } => player.finish(client),
+impl Player {
+    /// Makes the turns that an order means. Turns that were made before a refusal stay made.
+    pub fn obey(&mut self, order: Order) -> Result<(), NoMemory>
+        requires { ordered_client order < self.old.script.layout.passes }
+        ensures script { self.new.script ≡ self.old.script }
+        ensures ordered { OnOk result (IsOrdered self.old.script.calls order self.old.lines self.new.lines) }
+    {
+        match order {
+            Order::Step { client, turns } => make_turns(self, client, turns),
+            Order::Call { client } => self.call(client),
+            Order::Until {
+                client,
+                kind,
+                times,
+            } => self.run_until(client, kind, times),
+            Order::Finish { client } => self.finish(client),
+        }
     }
 }
 

@@ -89,7 +89,7 @@ impl Player {
 
     /// Turns of a client until it has one more reply; none if it has no call left. Turns that were
     /// made before a refusal stay made.
-    pub fn call(&mut self, client: PassNo) -> Result<(), NoMemory>
+    pub(crate) fn call(&mut self, client: PassNo) -> Result<(), NoMemory>
         requires { client.0 < self.old.script.layout.passes }
         ensures turns { AreTurnsWhile (AwaitsReply self.old.script.calls client.0 self.old.lines) client.0 self.old self.new }
         ensures replied { OnOk result (HasCall self.old.script.calls client.0 self.old.lines →
@@ -106,7 +106,12 @@ impl Player {
 
     /// Turns of a client until it has made so many more steps of a kind, or has no call left. Turns
     /// that were made before a refusal stay made.
-    pub fn run_until(&mut self, client: PassNo, kind: Kind, times: u32) -> Result<(), NoMemory>
+    pub(crate) fn run_until(
+        &mut self,
+        client: PassNo,
+        kind: Kind,
+        times: u32,
+    ) -> Result<(), NoMemory>
         requires { client.0 < self.old.script.layout.passes }
         ensures turns { AreTurnsWhile (AwaitsSteps self.old.script.calls client.0 kind times self.old.lines) client.0 self.old self.new }
         ensures made { OnOk result ((made self.new.lines client.0 kind ≡ made self.old.lines client.0 kind + times) ⊎
@@ -126,7 +131,7 @@ impl Player {
 
     /// Turns of a client until it has no call left. Turns that were made before a refusal stay
     /// made.
-    pub fn finish(&mut self, client: PassNo) -> Result<(), NoMemory>
+    pub(crate) fn finish(&mut self, client: PassNo) -> Result<(), NoMemory>
         requires { client.0 < self.old.script.layout.passes }
         ensures turns { AreTurnsWhile (HasCall self.old.script.calls client.0) client.0 self.old self.new }
         ensures finished { OnOk result (HasNoCall self.old.script.calls client.0 self.new.lines) }

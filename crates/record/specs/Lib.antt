@@ -3,7 +3,7 @@ pub mod Commands
 pub mod Snapshots
 pub mod Answers
 pub mod Shares
-pub mod Edits
+pub mod Replied
 pub mod MapRecord
 pub mod Placed
 pub mod SpelledMap

@@ -3,10 +3,7 @@ pub mod Llx
 pub mod Scx
 pub mod Vlx
 pub mod Set
-pub mod Insert
-pub mod Delete
-pub mod PopFirst
-pub mod ReplaceIf
+pub mod Edit
 pub mod Get
 pub mod Successor
 pub mod Range
@@ -50,8 +47,7 @@ pub record Rules : Type 1 where
   pub IsPlaced : Layout → List Call → List Line → Finished → Type 0
 
 -- what a record says of one call of the map, and of no other, beside what the call may do whoever
--- makes it (`call_rules`); each as above
+-- makes it (`call_rules`) and what it tells; each as above
 pub record MapRules : Type 1 where
   pub IsAtOnce : Answer → Type 0
-  pub enters : Answer → Bool
   pub IsRight : Layout → ℕ → ℕ → History → History → (ℕ → Option History) → Answer → Type 0

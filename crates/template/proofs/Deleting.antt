@@ -26,7 +26,7 @@ use Rattle.template.specs.Promises.{IsPromised, IsFresh, IsSnapOf, WillTakeOut}
 use Rattle.template.specs.Trails.{HasTurned}
 use Rattle.ordered_map.specs.declared.pair.Pair.{Pair}
 use Rattle.template.specs.declared.walk.Found.{Found}
-use Rattle.template.specs.declared.walk.Goal.TheVariants.{Key as ToKey}
+use Rattle.ordered_map.specs.declared.rule.Goal.TheVariants.{Key as ToKey}
 use Rattle.template.proofs.Promised.{taken_out_promised}
 use Rattle.template.proofs.WalkBounds.{said_low, found_below}
 

@@ -17,8 +17,8 @@ use Rattle.ordered_map.proofs.Lemmas.{run_since, walk_small, walk_before, walk_l
 use Rattle.template.specs.FoundLeaf.{path_key, asked_key, HasFoundGoal, HasFoundLeaf, first_told}
 use Rattle.template.specs.Trails.{WasPassed, HasTurned}
 use Rattle.template.specs.declared.walk.Found.{Found}
-use Rattle.template.specs.declared.walk.Goal.{Goal}
-use Rattle.template.specs.declared.walk.Goal.TheVariants.{Key as ToKey, Least}
+use Rattle.ordered_map.specs.declared.rule.Goal.{Goal}
+use Rattle.ordered_map.specs.declared.rule.Goal.TheVariants.{Key as ToKey, Least}
 
 -- what was passed on the way to the least key was passed on the way to each up to its own
 own_passed : (c : Call) (h : History) (k n : ℕ) → IsTreeRun c.layout h → WasPassed c h 0 n → k ≤ rank (value h) n → WasPassed c h k n

@@ -17,7 +17,7 @@ use Rattle.template.specs.FreshNodes.{IsLeafEditAt}
 use Rattle.template.specs.Promises.{IsPromised, HasFreshEdit}
 use Rattle.template.specs.Trails.{HasTurned}
 use Rattle.template.specs.declared.walk.Found.{Found}
-use Rattle.template.specs.declared.walk.Goal.TheVariants.{Key as ToKey}
+use Rattle.ordered_map.specs.declared.rule.Goal.TheVariants.{Key as ToKey}
 use Rattle.template.proofs.Promised.{leaf_edit_promised}
 use Rattle.template.proofs.WalkBounds.{found_below}
 

@@ -19,7 +19,7 @@ use Rattle.ordered_map.specs.Runs.{IsTreeRun}
 use Rattle.template.specs.FoundLeaf.{HasFoundGoal, asked_key, path_key}
 use Rattle.template.specs.Walk.Known.{asks_key, here, WalkIsTold, WalkWaits, WalkStands}
 use Rattle.template.specs.Walk.Places.{walk_at, walk_from, trail_below, LoadsHead}
-use Rattle.template.specs.declared.walk.Goal.{Goal}
+use Rattle.ordered_map.specs.declared.rule.Goal.{Goal}
 use Rattle.template.specs.declared.walk.Trail.{Trail}
 use Rattle.template.specs.declared.walk.WalkAt.{WalkAt}
 use Rattle.template.specs.declared.walk.WalkAt.TheVariants.{Start, Root, Head, Key, Child, More, Pair, Value, High}

@@ -13,8 +13,8 @@ use Rattle.ordered_map.specs.OrderedMap.{pair}
 use Rattle.ordered_map.specs.TreeWords.{is_leaf, said}
 use Rattle.template.specs.Trails.{OnTrail}
 use Rattle.template.specs.declared.walk.Found.{Found}
-use Rattle.template.specs.declared.walk.Goal.{Goal}
-use Rattle.template.specs.declared.walk.Goal.TheVariants.{Key as ToKey, Least}
+use Rattle.ordered_map.specs.declared.rule.Goal.{Goal}
+use Rattle.ordered_map.specs.declared.rule.Goal.TheVariants.{Key as ToKey, Least}
 
 -- the key on whose path a walk goes: no key is below 0
 abbrev pub path_key : Goal → ℕ

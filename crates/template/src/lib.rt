@@ -4,5 +4,6 @@
 mod shape;
 mod walk;
 
+pub use ordered_map::Goal;
 pub use shape::Tree;
-pub use walk::{Found, Goal, Trail, WalkAt, WalkRun};
+pub use walk::{Found, Trail, WalkAt, WalkRun};

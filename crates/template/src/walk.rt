@@ -5,7 +5,7 @@ use crate::shape::Tree;
 use arena::{
     Access, Head, Kind, Machine, NodeNo, NodeWord, SettledPart, Side, Slot, Step, Turn, Word,
 };
-use ordered_map::{slot_behind, wide_value};
+use ordered_map::{Goal, slot_behind, wide_value};
 
 /// The last nodes of a walk: the node that it has come to, and the two forks above it with the sides
 /// to which it has gone there. A walk that stands at the root has no fork above it, and one that
@@ -64,15 +64,6 @@ pub enum WalkAt {
         key: u64,
         low: u64,
     },
-}
-
-/// To which leaf a walk goes.
-#[derive(Clone, Copy, Debug, PartialEq, Eq)]
-pub enum Goal {
-    /// The leaf where this key stands, or would stand.
-    Key(u64),
-    /// The first leaf, which has the least key if there is one.
-    Least,
 }
 
 /// The leaf at which a walk has ended: its head, and how many pairs it has behind its first, 0 if it is

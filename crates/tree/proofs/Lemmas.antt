@@ -2,7 +2,4 @@
 -- place: no other module of these proofs can be named outside. Declares nothing.
 pub use Rattle.tree.proofs.GetTurns.{get_ready_first, get_loads, get_fills_not, get_says, once_past}
 pub use Rattle.tree.proofs.Fills.{get_in_order}
-pub use Rattle.tree.proofs.InsertFills.{insert_in_order}
-pub use Rattle.tree.proofs.DeleteFills.{delete_in_order}
-pub use Rattle.tree.proofs.Pops.{pop_says, pop_in_order}
-pub use Rattle.tree.proofs.Replaces.{replace_says, replace_in_order}
+pub use Rattle.tree.proofs.KeyEdits.{key_in_order}

@@ -1,7 +1,6 @@
 mod GetTurns
 mod Fills
-mod InsertFills
-mod DeleteFills
-mod Pops
-mod Replaces
+mod PutFills
+mod TakeFills
+mod KeyEdits
 pub mod Lemmas

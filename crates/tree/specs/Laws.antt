@@ -1,7 +1,6 @@
 pub mod Looks
 pub mod LeafLooks
 pub mod PairLists
-pub mod Insert
-pub mod Delete
-pub mod PopFirst
-pub mod ReplaceIf
+pub mod Put
+pub mod Take
+pub mod KeyEdit

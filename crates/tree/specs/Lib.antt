@@ -1,7 +1,6 @@
 pub mod Get
 pub mod LeafEdit
-pub mod Insert
-pub mod Delete
-pub mod PopFirst
-pub mod ReplaceIf
+pub mod Put
+pub mod Take
+pub mod KeyEdit
 pub mod Laws

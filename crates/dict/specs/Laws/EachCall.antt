@@ -3,7 +3,8 @@
 use Rattle.std.proofs.Common.{◌≡◌, ℕ, zero, suc, ◌≤◌, List, [], ◌∷◌, take, Bool, true, false, if◌then◌else◌, ◌==◌, nat_lt, nat_le, ◌&&◌, Option, Some, None, refl, subst, arith}
 use Rattle.ordered_map.specs.CallRules.{MayReply, most_scx}
 use Rattle.ordered_map.specs.CallRules as form
-use Rattle.ordered_map.specs.OrderedMap.{MapEdit, Insert, Delete, insert, delete, edited, edit_key, edit_of, MapCall, Edit, PopFirst, ReplaceIf, Get, Successor, Range, MapReply, OneValue, OnePair, ManyPairs, reply, get, first_pair, is_value, successor, between, pair, pair_or_none}
+use Rattle.ordered_map.specs.OrderedMap.{MapEdit, Insert, Delete, insert, delete, edited, edit_of, edit_to, MapCall, Edit, Get, Successor, Range, MapReply, OneValue, OnePair, ManyPairs, applies, leaves, reply, get, first_pair, successor, between, pair, pair_or_none}
+use Rattle.ordered_map.specs.declared.rule.Goal.TheVariants.{Key, Least}
 use Rattle.ordered_map.specs.declared.pair.Pair.{Pair}
 use Rattle.dict.specs.Calls.{most_tries}
 use Rattle.dict.specs.Says.{KeepsLists}
@@ -62,26 +63,24 @@ module _ (keys values : ℕ → Type 0) where
   first_typed (p ∷ ps) x = (x.0, x.1)
 
   pub reply_typed : (call : MapCall) (m : List Pair) → AreTyped keys values m → IsTypedReply keys values (reply call m)
-  reply_typed (Edit e) m x = get_typed (edit_key e) m x
-  reply_typed PopFirst m x = first_typed m x
-  reply_typed (ReplaceIf k e v) m x = get_typed k m x
+  reply_typed (Edit (Key k) rule) m x = get_typed k m x
+  reply_typed (Edit Least rule) m x = first_typed m x
   reply_typed (Get k) m x = get_typed k m x
   reply_typed (Successor k) m x = successor_typed k m x
   reply_typed (Range low high most) m x = take_typed most (between low high m) (between_typed low high m x)
 
   -- and the edit that a call of such words has made is one, where what it tells is of such words
-  made_typed : (d e : MapEdit) → Some d ≡ Some e → IsTypedEdit keys values d → IsTypedEdit keys values e
-  made_typed d e is x = subst (IsTypedEdit keys values) (let same : d ≡ e = cc in same) x
+  to_typed : (key : ℕ) (left : Option ℕ) → keys key → IsTypedValue values left → IsTypedEdit keys values (edit_to key left)
+  to_typed key None k v = k
+  to_typed key (Some value) k v = (k, v)
 
-  if_replaced : (b : Bool) (k v : ℕ) (e : MapEdit) → (if b then Some (Insert k v) else None) ≡ Some e → keys k × values v → IsTypedEdit keys values e
-  if_replaced true k v e is x = made_typed (Insert k v) e is x
-  if_replaced false k v e is x = absurd (let none : None ≡ Some e = is in cc)
+  if_applies : (b : Bool) (made e : MapEdit) → (if b then Some made else None) ≡ Some e → IsTypedEdit keys values made → IsTypedEdit keys values e
+  if_applies true made e is x = subst (IsTypedEdit keys values) (let same : made ≡ e = cc in same) x
+  if_applies false made e is x = absurd (let none : None ≡ Some e = is in cc)
 
   pub edit_typed : (call : MapCall) (told : MapReply) (e : MapEdit) → edit_of call told ≡ Some e → IsTypedCall keys values call → IsTypedReply keys values told → IsTypedEdit keys values e
-  edit_typed (Edit (Insert k v)) told e is x y = made_typed (Insert k v) e is x
-  edit_typed (Edit (Delete k)) (OneValue (Some v)) e is x y = made_typed (Delete k) e is x
-  edit_typed PopFirst (OnePair p) e is x y = made_typed (Delete p.key) e is y.0
-  edit_typed (ReplaceIf k expected v) (OneValue told) e is x y = if_replaced (is_value expected told) k v e is x
+  edit_typed (Edit (Key k) rule) (OneValue found) e is x y = if_applies (applies rule found) (edit_to k (leaves rule)) e is (to_typed k (leaves rule) x.0 x.1)
+  edit_typed (Edit Least rule) (OnePair p) e is x y = if_applies (applies rule (Some p.value)) (edit_to p.key (leaves rule)) e is (to_typed p.key (leaves rule) y.0 x.1)
   edit_typed call told e is x y = absurd (let none : None ≡ Some e = is in cc)
 
 -- Lists
@@ -93,19 +92,16 @@ one_pair (Some p) ps e = cc
 
 -- a call that tells pairs keeps lists, and has made no edit
 pub tells_lists : (call : MapCall) (m : List Pair) (ps : List Pair) → reply call m ≡ ManyPairs ps → KeepsLists call × (edit_of call (ManyPairs ps) ≡ None)
-tells_lists (Edit e) m ps told = absurd cc
-tells_lists PopFirst m ps told = absurd (one_pair (first_pair m) ps told)
-tells_lists (ReplaceIf k expected v) m ps told = absurd cc
+tells_lists (Edit (Key k) rule) m ps told = absurd cc
+tells_lists (Edit Least rule) m ps told = absurd (one_pair (first_pair m) ps told)
 tells_lists (Get k) m ps told = absurd cc
 tells_lists (Successor k) m ps told = (tt, refl)
 tells_lists (Range low high most) m ps told = (tt, refl)
 
 -- and may be refused memory
 pub may_lack : (call : MapCall) → MayReply call form.Pairs → MayReply call form.NoMemory
-may_lack (Edit (Insert k v)) x = absurd x
-may_lack (Edit (Delete k)) x = absurd x
-may_lack PopFirst x = absurd x
-may_lack (ReplaceIf k e v) x = absurd x
+may_lack (Edit (Key k) rule) x = absurd x
+may_lack (Edit Least rule) x = absurd x
 may_lack (Get k) x = x
 may_lack (Successor k) x = absurd x
 may_lack (Range low high most) x = tt
@@ -114,19 +110,14 @@ may_lack (Range low high most) x = tt
 
 -- the tries that a call has begun take no more SCX-records than all that it may begin
 pub tries_take : (call : MapCall) (begun tries : ℕ) → begun ≤ most_tries call tries → most_scx call begun ≤ most_scx call tries
-tries_take (Edit (Insert k v)) begun tries few = few
-tries_take (Edit (Delete k)) begun tries few = few
-tries_take PopFirst begun tries few = few
-tries_take (ReplaceIf k e v) begun tries few = few
+tries_take (Edit goal rule) begun tries few = few
 tries_take (Get k) begun tries few = omega arith
 tries_take (Successor k) begun tries few = omega arith
 tries_take (Range low high most) begun tries few = omega arith
 
 -- each may begin one try, where it may begin one alone
 pub one_alone : (call : MapCall) → most_tries call 1 ≡ 1
-one_alone (Edit e) = refl
-one_alone PopFirst = refl
-one_alone (ReplaceIf k e v) = refl
+one_alone (Edit goal rule) = refl
 one_alone (Get k) = refl
 one_alone (Successor k) = refl
 one_alone (Range low high most) = refl

@@ -7,8 +7,8 @@ use Rattle.ordered_map.specs.Paths.{IsAnswerAt, IsFirstAt}
 use Rattle.ordered_map.specs.Runs.{IsTreeRun}
 use Rattle.template.specs.FoundLeaf.{path_key, first_told, HasFoundGoal}
 use Rattle.template.specs.declared.walk.Found.{Found}
-use Rattle.template.specs.declared.walk.Goal.{Goal}
-use Rattle.template.specs.declared.walk.Goal.TheVariants.{Key as ToKey, Least}
+use Rattle.ordered_map.specs.declared.rule.Goal.{Goal}
+use Rattle.ordered_map.specs.declared.rule.Goal.TheVariants.{Key as ToKey, Least}
 use Rattle.template.proofs.Lemmas.{found_gives, found_first}
 use Rattle.dict.specs.Goals.{leaf_told, IsGoalToldAt}
 

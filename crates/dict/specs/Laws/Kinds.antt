@@ -11,29 +11,35 @@ use Rattle.arena.specs.Share.{Remaining}
 use Rattle.ordered_map.specs.FillOrder.{AreFilledInOrder, IsFillInOrder}
 use Rattle.order.specs.declared.refused.Refused.{Refused}
 use Rattle.order.specs.declared.refused.Refused.TheVariants as refused
-use Rattle.ordered_map.specs.CallRules.{TakesNothing, insert_nodes, delete_nodes, pop_nodes, replace_nodes, call_rules, most_nodes, most_scx, most_steps, need, MayReply}
-use Rattle.ordered_map.specs.OrderedMap.{MapCall, MapEdit, MapReply, Edit, PopFirst, ReplaceIf, Successor as SuccessorOf, Range as RangeOf, OneValue, OnePair, edit_key, edit_of, first_pair, get, is_value, pair, pair_or_none, reply}
+use Rattle.ordered_map.specs.CallRules.{TakesNothing, nodes_at, nodes_there, steps_behind, call_rules, most_nodes, most_scx, most_steps, need, MayReply}
+use Rattle.ordered_map.specs.OrderedMap.{MapCall, MapReply, Edit, Successor as SuccessorOf, Range as RangeOf, OneValue, applies, edit_of, edit_there, edit_to, goal_told, leaves, pair, pair_or_none, reply, spot}
+use Rattle.ordered_map.specs.declared.rule.Rule.{Rule}
+use Rattle.ordered_map.specs.declared.rule.Rule.TheVariants.{Put, Take, Swap}
 use Rattle.ordered_map.specs.declared.pair.Pair.{Pair}
-use Rattle.template.specs.FoundLeaf.{path_key}
+use Rattle.template.specs.FoundLeaf.{asked_key, path_key}
 use Rattle.template.specs.declared.walk.Found.{Found}
-use Rattle.template.specs.declared.walk.Goal.TheVariants.{Key as ToKey, Least}
-use Rattle.tree.specs.Delete.Means.{delete_need}
-use Rattle.tree.specs.Insert.Means.{has_room, insert_need, need_by}
-use Rattle.tree.proofs.Lemmas.{insert_in_order, delete_in_order, pop_in_order, replace_in_order}
+use Rattle.ordered_map.specs.declared.rule.Goal.{Goal}
+use Rattle.ordered_map.specs.declared.rule.Goal.TheVariants.{Key as ToKey, Least}
+use Rattle.tree.specs.KeyEdit.Means.{key_means, most_fills_leaving, most_looks_leaving, most_reads_leaving, needs_leaving, wants}
+use Rattle.tree.specs.Laws.KeyEdit.{key_laws}
+use Rattle.tree.specs.Put.Means.{has_room, need_by}
+use Rattle.tree.specs.Take.Means.{take_need}
+use Rattle.tree.proofs.Lemmas.{key_in_order}
 use Rattle.edits.specs.Known.{UpdateWaits}
 use Rattle.edits.specs.Pieces.{many_nodes}
 use Rattle.edits.specs.Sound.{IsAtFound}
 use Rattle.edits.specs.Steps.{try_left}
-use Rattle.edits.specs.declared.edit.Need.TheVariants.{Nothing, One}
+use Rattle.edits.specs.declared.edit.Need.{Need}
+use Rattle.edits.specs.declared.edit.Need.TheVariants.{Nothing}
 use Rattle.edits.specs.declared.update.UpdateAt.{UpdateAt}
 use Rattle.edits.specs.declared.update.UpdateRun.{UpdateRun}
 use Rattle.edits.specs.declared.update.Updated.{Updated}
 use Rattle.edits.specs.declared.update.Updated.TheVariants.{Done, Contended, Full}
 use Rattle.dict.specs.Around.{IsAround}
 use Rattle.dict.specs.Calls.{AsksForPairs, IsSmallCall, most_tries}
-use Rattle.dict.specs.Goals.{goal_told, leaf_told}
+use Rattle.dict.specs.Goals.{leaf_told}
 use Rattle.dict.specs.WordReplies.{edit_reply, range_reply, read_reply, successor_reply, told_in, word_form}
-use Rattle.dict.specs.Inner.{EditKind, ReadKind, InnerRun, Update, Get, Read, insert_kind, delete_kind, pop_kind, replace_kind, successor_kind, range_kind, inner}
+use Rattle.dict.specs.Inner.{EditKind, ReadKind, InnerRun, Update, Get, Read, at_key, at_least, inner, key_kind, put, range_kind, successor_kind, swap, take}
 use Rattle.dict.specs.Says.{IsRefusal, KeepsLists}
 use Rattle.dict.specs.declared.run.MapRun.{MapRun}
 use Rattle.dict.specs.declared.run.MapRun.TheVariants as runs
@@ -59,9 +65,9 @@ pub record IsEditKind (k : EditKind) : Type 0 where
   -- what it answers is of a form that its call may reply
   pub form : (e : k.E) (a : Updated) → MayReply (k.call e) (word_form (edit_reply (k.means.goal e) a))
   -- it takes at most as many nodes in a try as its call may
-  pub most : (e : k.E) → k.means.most_nodes ≡ most_nodes (k.call e)
+  pub most : (e : k.E) → k.means.most_nodes e ≡ most_nodes (k.call e)
   -- and makes at most as many steps
-  pub steps : (e : k.E) (tries nodes : ℕ) → tries * try_left k.means nodes ≡ most_steps (k.call e) tries nodes
+  pub steps : (e : k.E) (tries nodes : ℕ) → tries * try_left k.means e nodes ≡ most_steps (k.call e) tries nodes
   -- it needs no more nodes than that on a map that replies what its leaf tells
   pub needs : (e : k.E) (f : Found) (map : List Pair) → reply (k.call e) map ≡ leaf_told (k.means.goal e) f → many_nodes (k.means.needs e f) ≤ need (k.call e) map
   -- it fills its nodes in order
@@ -71,161 +77,115 @@ pub record IsEditKind (k : EditKind) : Type 0 where
   -- and else it makes its edit
   pub changes : (e : k.E) (f : Found) → k.means.needs e f ≢ Nothing → edit_of (k.call e) (leaf_told (k.means.goal e) f) ≡ Some (k.means.edit e f)
 
--- the value in a reply of one
-told_value : MapReply → Option ℕ
-told_value (OneValue told) = told
-told_value _ = None
+-- an edit answers what it has found, or is refused
+edit_form : (goal : Goal) (rule : Rule) (a : Updated) → MayReply (Edit goal rule) (word_form (edit_reply goal a))
+edit_form (ToKey key) rule (Done own told) = tt
+edit_form (ToKey key) rule (Contended node scx) = tt
+edit_form (ToKey key) rule (Full full) = tt
+edit_form Least rule (Done own told) = tt
+edit_form Least rule (Contended node scx) = tt
+edit_form Least rule (Full full) = tt
 
--- replies of the same value
-same_value : (v w : Option ℕ) → OneValue v ≡ OneValue w → v ≡ w
-unfolding told_value
-same_value v w e = ap told_value e
+-- what the leaf says of what a goal finds, where it tells this value of this key
+abbrev told_by : Goal → ℕ → Option ℕ → MapReply
+told_by (ToKey k) key value = OneValue value
+told_by Least key value = pair_or_none (option_map (pair key) value)
 
--- an edit of a key answers a value, or is refused
-value_form : (e : MapEdit) (a : Updated) → MayReply (Edit e) (word_form (edit_reply (ToKey (edit_key e)) a))
-value_form (MapEdit.Insert key value) (Done own told) = tt
-value_form (MapEdit.Insert key value) (Contended node scx) = tt
-value_form (MapEdit.Insert key value) (Full full) = tt
-value_form (MapEdit.Delete key) (Done own told) = tt
-value_form (MapEdit.Delete key) (Contended node scx) = tt
-value_form (MapEdit.Delete key) (Full full) = tt
+-- it makes at most so many steps behind its walk
+steps_by : (left : Option ℕ) (nodes : ℕ) → 3 * (2 + nodes) + 5 + (64 * most_looks_leaving left + (most_reads_leaving left + most_fills_leaving left) + 39) ≡ 3 * (2 + nodes) + steps_behind left
+steps_by None nodes = omega arith
+steps_by (Some v) nodes = omega arith
 
-replace_form : (key expected value : ℕ) (a : Updated) → MayReply (ReplaceIf key expected value) (word_form (edit_reply (ToKey key) a))
-replace_form key expected value (Done own told) = tt
-replace_form key expected value (Contended node scx) = tt
-replace_form key expected value (Full full) = tt
+-- a rule that leaves no value changes something only where there is one
+takes_there : (rule : Rule) → leaves rule ≡ None → applies rule None ≡ true → ⊥
+takes_there (Put v) none there = cc
+takes_there Take none there = cc
+takes_there (Swap e v) none there = cc
 
--- and a pop a pair
-pop_form : (a : Updated) → MayReply PopFirst (word_form (edit_reply Least a))
-pop_form (Done own told) = tt
-pop_form (Contended node scx) = tt
-pop_form (Full full) = tt
+-- At the leaf that was found, which tells this value
+module _ (f : Found) (rule : Rule) where
+  abbrev left : Option ℕ
+  left = leaves rule
 
--- as many are no more
-as_many : (m n : ℕ) → m ≡ n → m ≤ n
-as_many m n e = omega (arith, e)
+  abbrev needed : ℕ → Bool → Need
+  needed key b = cond b (needs_leaving left key f) Nothing
 
--- tries of so many steps
-steps_of : (tries n m : ℕ) → n ≡ m → tries * n ≡ tries * m
-steps_of tries n m e = ap (λ k. tries * k) e
+  -- what it needs at a key is enough for the call
+  many_by : (l : Option ℕ) (key : ℕ) (value : Option ℕ) → f.value ≡ value → many_nodes (needs_leaving l key f) ≤ nodes_at value
+  many_by None key None is = subst (λ (o : Option ℕ). many_nodes (take_need o) ≤ 3) (sym is) (omega arith)
+  many_by None key (Some v) is = subst (λ (o : Option ℕ). many_nodes (take_need o) ≤ 1) (sym is) (omega arith)
+  many_by (Some w) key None is = subst (λ (o : Option ℕ). many_nodes (need_by o (has_room f)) ≤ 3) (sym is) (absent_many (has_room f))
+    where
+      absent_many : (room : Bool) → many_nodes (need_by None room) ≤ 3
+      absent_many true = omega arith
+      absent_many false = omega arith
+  many_by (Some w) key (Some v) is = subst (λ (o : Option ℕ). many_nodes (need_by o (has_room f)) ≤ 1) (sym is) (omega arith)
 
--- an insert always has something to make
-insert_makes : (old : Option ℕ) (room : Bool) → need_by old room ≢ Nothing
-insert_makes None true e = cc
-insert_makes None false e = cc
-insert_makes (Some v) room e = cc
+  many_if : (b : Bool) (key : ℕ) (value : Option ℕ) → f.value ≡ value → many_nodes (needed key b) ≤ cond b (nodes_at value) 0
+  many_if true key value is = many_by left key value is
+  many_if false key value is = omega arith
 
--- and needs no more nodes than the call does: one where a new key has room in its leaf
-insert_many : (old : Option ℕ) (room : Bool) → many_nodes (need_by old room) ≤ insert_nodes old
-insert_many None true = omega arith
-insert_many None false = omega arith
-insert_many (Some v) room = omega arith
+  key_many : (goal : Goal) (value : Option ℕ) → f.value ≡ value → many_nodes (needed (asked_key goal f.key) (wants goal rule value)) ≤ nodes_there rule (spot goal (told_by goal f.key value))
+  key_many (ToKey k) value is = many_if (applies rule value) k value is
+  key_many Least None is = omega arith
+  key_many Least (Some v) is = many_if (applies rule (Some v)) f.key (Some v) is
 
--- an insert is such a kind
-pub insert_is : IsEditKind insert_kind
-insert_is = record {
+  -- it needs nothing only where it changes nothing
+  some_needed : (l : Option ℕ) (key : ℕ) (value : Option ℕ) → f.value ≡ value → (value ≡ None → l ≡ None → ⊥) → needs_leaving l key f ≢ Nothing
+  some_needed None key None is there nothing = there refl refl
+  some_needed None key (Some v) is there nothing = let none : take_need (Some v) ≡ Nothing = ap take_need (sym is) ∙ nothing in cc
+  some_needed (Some w) key value is there nothing = put_needs f.value (has_room f) nothing
+    where
+      put_needs : (old : Option ℕ) (room : Bool) → need_by old room ≢ Nothing
+      put_needs None true e = cc
+      put_needs None false e = cc
+      put_needs (Some v) room e = cc
+
+  absent : (value : Option ℕ) → applies rule value ≡ true → value ≡ None → left ≡ None → ⊥
+  absent value there none takes = takes_there rule takes (subst (λ (o : Option ℕ). applies rule o ≡ true) none there)
+
+  reads_if : (b : Bool) (key : ℕ) (value : Option ℕ) → f.value ≡ value → applies rule value ≡ b → needed key b ≡ Nothing → cond (applies rule value) (Some (edit_to key left)) None ≡ None
+  reads_if true key value is there nothing = absurd (some_needed left key value is (absent value there) nothing)
+  reads_if false key value is there nothing = rw there refl
+
+  key_reads : (goal : Goal) (value : Option ℕ) → f.value ≡ value → needed (asked_key goal f.key) (wants goal rule value) ≡ Nothing → edit_there rule (spot goal (told_by goal f.key value)) ≡ None
+  key_reads (ToKey k) value is nothing = reads_if (applies rule value) k value is refl nothing
+  key_reads Least None is nothing = refl
+  key_reads Least (Some v) is nothing = reads_if (applies rule (Some v)) f.key (Some v) is refl nothing
+
+  -- and something only where it makes its edit
+  makes_if : (b : Bool) (key : ℕ) → needed key b ≢ Nothing → cond b (Some (edit_to key left)) None ≡ Some (edit_to key left)
+  makes_if true key some = refl
+  makes_if false key some = absurd (some refl)
+
+  key_changes : (goal : Goal) (value : Option ℕ) → f.value ≡ value → needed (asked_key goal f.key) (wants goal rule value) ≢ Nothing → edit_there rule (spot goal (told_by goal f.key value)) ≡ Some (edit_to (asked_key goal f.key) left)
+  key_changes (ToKey k) value is some = makes_if (applies rule value) k some
+  key_changes Least None is some = absurd (some refl)
+  key_changes Least (Some v) is some = makes_if (applies rule (Some v)) f.key some
+
+key_small : (goal : Goal) (rule : Rule) → IsSmallCall (Edit goal rule) → path_key goal < 2 ^ 64
+key_small (ToKey k) rule small = small
+key_small Least rule small = omega arith
+
+-- what the map replies to an edit, where the leaf tells that
+same_told : (goal : Goal) (f : Found) → leaf_told goal f ≡ told_by goal f.key f.value
+same_told (ToKey k) f = refl
+same_told Least f = refl
+
+-- an edit is such a kind
+pub key_is : {G R : Type 0} (goal : G → Goal) (rule : R → Rule) → IsEditKind (key_kind goal rule)
+key_is goal rule = record {
   edits = λ e. record { asks = tt; kinds = λ kind. tt; tries = λ tries. refl; scx = λ tries. refl };
-  small = λ e small. small;
+  small = λ e small. key_small (goal e.goal) (rule e.rule) small;
   walks = λ e map. refl;
-  at_found = λ e f. refl;
-  form = λ e a. value_form (MapEdit.Insert e.key e.value) a;
+  at_found = (key_laws goal rule).at_found;
+  form = λ e a. edit_form (goal e.goal) (rule e.rule) a;
   most = λ e. refl;
-  steps = λ e tries nodes. steps_of tries (try_left insert_kind.means nodes) (3 * (2 + nodes) + 207) (omega arith);
-  needs = λ e f map is. subst (λ old. many_nodes (insert_need f) ≤ insert_nodes old) (sym (same_value (get e.key map) f.value is)) (insert_many f.value (has_room f));
-  in_order = λ m c h s filled w. insert_in_order m c h s w;
-  reads = λ e f nothing. absurd (insert_makes f.value (has_room f) nothing);
-  changes = λ e f needed. refl;
-}
-
-delete_many : (old : Option ℕ) → many_nodes (delete_need old) ≡ delete_nodes old
-delete_many None = refl
-delete_many (Some v) = refl
-
--- a delete has something to make where its key has a value
-delete_reads : (key : ℕ) (old : Option ℕ) → delete_need old ≡ Nothing → edit_of (Edit (MapEdit.Delete key)) (OneValue old) ≡ None
-delete_reads key None e = refl
-delete_reads key (Some v) e = absurd (let none : One ≡ Nothing = e in cc)
-
-delete_changes : (key : ℕ) (old : Option ℕ) → delete_need old ≢ Nothing → edit_of (Edit (MapEdit.Delete key)) (OneValue old) ≡ Some (MapEdit.Delete key)
-delete_changes key None d = absurd (d refl)
-delete_changes key (Some v) d = refl
-
--- a delete is such a kind
-pub delete_is : IsEditKind delete_kind
-delete_is = record {
-  edits = λ e. record { asks = tt; kinds = λ kind. tt; tries = λ tries. refl; scx = λ tries. refl };
-  small = λ e small. small;
-  walks = λ e map. refl;
-  at_found = λ e f. refl;
-  form = λ e a. value_form (MapEdit.Delete e.key) a;
-  most = λ e. refl;
-  steps = λ e tries nodes. steps_of tries (try_left delete_kind.means nodes) (3 * (2 + nodes) + 328) (omega arith);
-  needs = λ e f map is. as_many _ _ (delete_many f.value ∙ ap delete_nodes (sym (same_value (get e.key map) f.value is)));
-  in_order = λ m c h s filled w. delete_in_order m c h s filled w;
-  reads = λ e f nothing. delete_reads e.key f.value nothing;
-  changes = λ e f needed. delete_changes e.key f.value needed;
-}
-
--- a pop needs a node where there is a pair
-pop_many : (key : ℕ) (old : Option ℕ) (p : Option Pair) → pair_or_none p ≡ pair_or_none (option_map (pair key) old) → many_nodes (delete_need old) ≡ pop_nodes p
-pop_many key None None e = refl
-pop_many key (Some v) (Some p) e = refl
-pop_many key None (Some p) e = absurd (let z : OnePair p ≡ OneValue None = e in cc)
-pop_many key (Some v) None e = absurd (let z : OneValue None ≡ OnePair (pair key v) = e in cc)
-
--- and there it has something to make
-pop_reads : (key : ℕ) (old : Option ℕ) → delete_need old ≡ Nothing → edit_of PopFirst (pair_or_none (option_map (pair key) old)) ≡ None
-pop_reads key None e = refl
-pop_reads key (Some v) e = absurd (let none : One ≡ Nothing = e in cc)
-
-pop_changes : (key : ℕ) (old : Option ℕ) → delete_need old ≢ Nothing → edit_of PopFirst (pair_or_none (option_map (pair key) old)) ≡ Some (MapEdit.Delete key)
-pop_changes key None d = absurd (d refl)
-pop_changes key (Some v) d = refl
-
--- a pop is such a kind
-pub pop_is : IsEditKind pop_kind
-pop_is = record {
-  edits = λ e. record { asks = tt; kinds = λ kind. tt; tries = λ tries. refl; scx = λ tries. refl };
-  small = λ e small. omega arith;
-  walks = λ e map. refl;
-  at_found = λ e f. refl;
-  form = λ e a. pop_form a;
-  most = λ e. refl;
-  steps = λ e tries nodes. steps_of tries (try_left pop_kind.means nodes) (3 * (2 + nodes) + 328) (omega arith);
-  needs = λ e f map is. as_many _ _ (pop_many f.key f.value (first_pair map) is);
-  in_order = λ m c h s filled w. pop_in_order m c h s filled w;
-  reads = λ e f nothing. pop_reads f.key f.value nothing;
-  changes = λ e f needed. pop_changes f.key f.value needed;
-}
-
--- a replacement needs a node where the key has the value that it expects
-replace_many : (is : Bool) → many_nodes (cond is One Nothing) ≡ cond is 1 0
-replace_many true = refl
-replace_many false = refl
-
--- and there it has something to make
-replace_reads : (is : Bool) (edit : MapEdit) → cond is One Nothing ≡ Nothing → cond is (Some edit) None ≡ None
-replace_reads true edit e = absurd (let none : One ≡ Nothing = e in cc)
-replace_reads false edit e = refl
-
-replace_changes : (is : Bool) (edit : MapEdit) → cond is One Nothing ≢ Nothing → cond is (Some edit) None ≡ Some edit
-replace_changes true edit d = refl
-replace_changes false edit d = absurd (d refl)
-
--- a replacement is such a kind
-pub replace_is : IsEditKind replace_kind
-replace_is = record {
-  edits = λ e. record { asks = tt; kinds = λ kind. tt; tries = λ tries. refl; scx = λ tries. refl };
-  small = λ e small. small;
-  walks = λ e map. refl;
-  at_found = λ e f. refl;
-  form = λ e a. replace_form e.key e.expected e.value a;
-  most = λ e. refl;
-  steps = λ e tries nodes. steps_of tries (try_left replace_kind.means nodes) (3 * (2 + nodes) + 207) (omega arith);
-  needs = λ e f map is. as_many _ _ (replace_many (is_value e.expected f.value) ∙ ap (replace_nodes e.expected) (sym (same_value (get e.key map) f.value is)));
-  in_order = λ m c h s filled w. replace_in_order m c h s w;
-  reads = λ e f nothing. replace_reads (is_value e.expected f.value) (MapEdit.Insert e.key e.value) nothing;
-  changes = λ e f needed. replace_changes (is_value e.expected f.value) (MapEdit.Insert e.key e.value) needed;
+  steps = λ e tries nodes. ap (λ (k : ℕ). tries * k) (steps_by (leaves (rule e.rule)) nodes);
+  needs = λ e f map is. subst (λ (told : MapReply). many_nodes ((key_means goal rule).needs e f) ≤ nodes_there (rule e.rule) (spot (goal e.goal) told)) (sym (is ∙ same_told (goal e.goal) f)) (key_many f (rule e.rule) (goal e.goal) f.value refl);
+  in_order = λ m c h s filled w. key_in_order goal rule m c h s filled w;
+  reads = λ e f nothing. ap (λ (told : MapReply). edit_there (rule e.rule) (spot (goal e.goal) told)) (same_told (goal e.goal) f) ∙ key_reads f (rule e.rule) (goal e.goal) f.value refl nothing;
+  changes = λ e f needed. ap (λ (told : MapReply). edit_there (rule e.rule) (spot (goal e.goal) told)) (same_told (goal e.goal) f) ∙ key_changes f (rule e.rule) (goal e.goal) f.value refl needed;
 }
 
 -- A kind of ordered read is one that a call of the map makes, which only reads.
@@ -301,16 +261,16 @@ IsOfKind (Read k m share) = IsReadKind k
 
 -- each that runs inside is
 pub is_of_kind : (m : MapRun) → IsOfKind (inner m)
-is_of_kind (runs.Insert m) = insert_is
-is_of_kind (runs.Delete m) = delete_is
-is_of_kind (runs.PopFirst m) = pop_is
-is_of_kind (runs.ReplaceIf m) = replace_is
+is_of_kind (runs.Insert m) = key_is at_key put
+is_of_kind (runs.Delete m) = key_is at_key take
+is_of_kind (runs.PopFirst m) = key_is at_least take
+is_of_kind (runs.ReplaceIf m) = key_is at_key swap
 is_of_kind (runs.Get m share) = tt
 is_of_kind (runs.Successor m share) = successor_is
 is_of_kind (runs.Range m share) = range_is
 
 -- the machines of inserts are around their updates
-pub around_insert : IsAround insert_kind (λ m. runs.Insert m)
+pub around_insert : IsAround (key_kind at_key put) (λ m. runs.Insert m)
 around_insert = record {
   is_call = λ m. refl;
   is_share = λ m. refl;
@@ -325,7 +285,7 @@ around_insert = record {
 }
 
 -- of deletes
-pub around_delete : IsAround delete_kind (λ m. runs.Delete m)
+pub around_delete : IsAround (key_kind at_key take) (λ m. runs.Delete m)
 around_delete = record {
   is_call = λ m. refl;
   is_share = λ m. refl;
@@ -340,7 +300,7 @@ around_delete = record {
 }
 
 -- of pops
-pub around_pop : IsAround pop_kind (λ m. runs.PopFirst m)
+pub around_pop : IsAround (key_kind at_least take) (λ m. runs.PopFirst m)
 around_pop = record {
   is_call = λ m. refl;
   is_share = λ m. refl;
@@ -355,7 +315,7 @@ around_pop = record {
 }
 
 -- and of replacements
-pub around_replace : IsAround replace_kind (λ m. runs.ReplaceIf m)
+pub around_replace : IsAround (key_kind at_key swap) (λ m. runs.ReplaceIf m)
 around_replace = record {
   is_call = λ m. refl;
   is_share = λ m. refl;

@@ -18,7 +18,7 @@ use Rattle.ordered_map.proofs.Lemmas.{child_not_final, path_not_final, run_since
 use Rattle.template.specs.Blame.{IsContended, WasNotFinal}
 use Rattle.template.specs.Trails.{HasTurned, WasPassed}
 use Rattle.template.specs.declared.walk.Found.{Found}
-use Rattle.template.specs.declared.walk.Goal.{Goal}
+use Rattle.ordered_map.specs.declared.rule.Goal.{Goal}
 use Rattle.template.proofs.Lemmas.{own_since, turned_lost, way_contended}
 use Rattle.edits.specs.Known.{HasSnappedAfterWalk}
 

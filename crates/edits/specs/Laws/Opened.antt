@@ -10,7 +10,7 @@ use Rattle.ordered_map.proofs.Lemmas.{walk_named, was_passed}
 use Rattle.template.specs.FoundLeaf.{HasFoundGoal, path_key}
 use Rattle.template.specs.Trails.{WasPassed}
 use Rattle.template.specs.declared.walk.Found.{Found}
-use Rattle.template.specs.declared.walk.Goal.{Goal}
+use Rattle.ordered_map.specs.declared.rule.Goal.{Goal}
 use Rattle.template.proofs.Lemmas.{found_below, opened_if_stood}
 
 module _ (goal : Goal) (c : Call) (h : History) (run : IsTreeRun c.layout h) where

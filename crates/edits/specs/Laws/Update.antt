@@ -36,7 +36,7 @@ use Rattle.template.specs.Walk.Laws.{walk_keeps, walk_lawful, walk_made, walk_to
 use Rattle.template.specs.Walk.Places.{IsPastRoot}
 use Rattle.template.proofs.Lemmas.{tracks_by_others, tracks_by_scx, walk_fills_not, others_begin_none, own_begins_none, other_kind_begins_none, other_node_begins_none, llx_begins_none, scx_begins_none, walk_begins_none}
 use Rattle.template.specs.declared.walk.Found.{Found}
-use Rattle.template.specs.declared.walk.Goal.{Goal}
+use Rattle.ordered_map.specs.declared.rule.Goal.{Goal}
 use Rattle.template.specs.declared.walk.WalkAt.{WalkAt}
 use Rattle.template.specs.declared.walk.WalkAt.TheVariants as walks
 use Rattle.template.specs.declared.walk.WalkRun.{WalkRun}

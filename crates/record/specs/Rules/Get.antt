@@ -1,5 +1,5 @@
 -- The rules of `get`.
-use Rattle.std.specs.Prelude.{ℕ, false, Option}
+use Rattle.std.specs.Prelude.{ℕ, Option}
 use Rattle.arena.specs.declared.layout.Layout.{Layout}
 use Rattle.arena.specs.History.{History}
 use Rattle.ordered_map.specs.Paths.{IsAnswerAt}
@@ -18,6 +18,5 @@ GetIsRight key lay c now start linked _ = ⊥
 abbrev pub get_rules : ℕ → MapRules
 get_rules key = record {
   IsAtOnce = λ answer. ⊥;
-  enters = λ answer. false;
   IsRight = λ lay tries. GetIsRight key lay;
 }

@@ -3,19 +3,16 @@ use Rattle.arena.specs.declared.layout.Layout.{Layout}
 use Rattle.arena.specs.History.{History}
 use Rattle.arena.specs.Log.{Entry as Entered}
 use Rattle.ordered_map.specs.CallRules.{MayReply, call_rules, form_of, most_nodes, most_scx, most_steps}
-use Rattle.ordered_map.specs.OrderedMap.{MapCall, Edit, Insert, Delete, PopFirst, ReplaceIf, Get, Successor, Range}
-use Rattle.ordered_map.specs.Runs.{Makes}
+use Rattle.ordered_map.specs.OrderedMap.{MapCall, Edit, Get, Successor, Range}
+use Rattle.ordered_map.specs.Requests.{tells_change}
 use Rattle.record.specs.declared.record.Answer.{Answer}
 use Rattle.record.specs.declared.record.Answer.TheVariants.{Map}
 use Rattle.record.specs.MapRecord.{reply_told}
 use Rattle.record.specs.Placed.{IsPlacedOnMap}
 use Rattle.record.specs.Rules.{Rules, MapRules}
-use Rattle.record.specs.Rules.Delete.{delete_rules}
+use Rattle.record.specs.Rules.Edit.{IsEditEntry, edit_rules}
 use Rattle.record.specs.Rules.Get.{get_rules}
-use Rattle.record.specs.Rules.Insert.{insert_rules}
-use Rattle.record.specs.Rules.PopFirst.{IsPopEntry, pop_rules}
 use Rattle.record.specs.Rules.Range.{range_rules}
-use Rattle.record.specs.Rules.ReplaceIf.{IsReplaceEntry, replace_rules}
 use Rattle.record.specs.Rules.Successor.{successor_rules}
 
 -- after a step it gives a reply of the map, of a form that the call may give
@@ -23,20 +20,14 @@ abbrev pub RepliesAfterStep : MapCall → Answer → Type 0
 RepliesAfterStep call (Map reply) = MayReply call (form_of reply)
 RepliesAfterStep call _ = ⊥
 
--- an entry of an insert or a delete is of an SCX-record that makes it; one of a pop or a replacement
--- is of one that makes the edit which the call makes of the map just before; a read has none
+-- an entry of an edit is of an SCX-record that makes it; a read has none
 abbrev pub IsMapEntry : MapCall → Layout → History → Entered → Type 0
-IsMapEntry (Edit edit) lay before e = Makes lay before e.scx edit
-IsMapEntry PopFirst lay before e = IsPopEntry lay before e.scx
-IsMapEntry (ReplaceIf key expected put) lay before e = IsReplaceEntry key expected put lay before e.scx
+IsMapEntry (Edit goal rule) lay before e = IsEditEntry (Edit goal rule) lay before e.scx
 IsMapEntry _ lay before e = ⊥
 
 -- the one match from calls of the map to what a record says of each
 abbrev pub own_rules : MapCall → MapRules
-own_rules (Edit (Insert key value)) = insert_rules key
-own_rules (Edit (Delete key)) = delete_rules key
-own_rules PopFirst = pop_rules
-own_rules (ReplaceIf key expected value) = replace_rules key expected
+own_rules (Edit goal rule) = edit_rules (Edit goal rule)
 own_rules (Get key) = get_rules key
 own_rules (Successor key) = successor_rules
 own_rules (Range low high most) = range_rules low high most
@@ -51,7 +42,7 @@ map_rules call = record {
   MayMake = (call_rules call).MayMake;
   IsAtOnce = (own_rules call).IsAtOnce;
   IsAfterStep = RepliesAfterStep call;
-  enters = (own_rules call).enters;
+  enters = λ answer. tells_change call (reply_told answer);
   linked_then = λ answer now n old. old;
   IsRight = (own_rules call).IsRight;
   IsEntryFor = λ lay c before start linked e. IsMapEntry call lay before e;

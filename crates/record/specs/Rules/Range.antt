@@ -1,5 +1,5 @@
 -- The rules of `range`.
-use Rattle.std.specs.Prelude.{◌≡◌, ℕ, false, [], Option}
+use Rattle.std.specs.Prelude.{◌≡◌, ℕ, [], Option}
 use Rattle.arena.specs.declared.layout.Layout.{Layout}
 use Rattle.arena.specs.History.{History}
 use Rattle.ordered_map.specs.CallRules.{TakesNothing}
@@ -27,6 +27,5 @@ RangeIsRight lay tries c now start linked _ = ⊥
 abbrev pub range_rules : ℕ → ℕ → ℕ → MapRules
 range_rules low high most = record {
   IsAtOnce = RangeAtOnce low high most;
-  enters = λ answer. false;
   IsRight = RangeIsRight;
 }

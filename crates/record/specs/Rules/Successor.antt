@@ -1,5 +1,5 @@
 -- The rules of `successor`.
-use Rattle.std.specs.Prelude.{ℕ, false, Option}
+use Rattle.std.specs.Prelude.{ℕ, Option}
 use Rattle.arena.specs.declared.layout.Layout.{Layout}
 use Rattle.arena.specs.History.{History}
 use Rattle.ordered_map.specs.declared.reply.Reply.TheVariants.{Pair, Contended, NoMemory}
@@ -25,6 +25,5 @@ SuccessorIsRight lay tries c now start linked _ = ⊥
 abbrev pub successor_rules : MapRules
 successor_rules = record {
   IsAtOnce = SuccessorAtOnce;
-  enters = λ answer. false;
   IsRight = SuccessorIsRight;
 }

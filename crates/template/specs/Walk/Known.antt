@@ -25,8 +25,8 @@ use Rattle.template.specs.FoundLeaf.{path_key, asked_key, HasFoundGoal}
 use Rattle.template.specs.Trails.{OnTrail, IsOwnMoment}
 use Rattle.template.specs.declared.walk.Trail.{Trail}
 use Rattle.template.specs.declared.walk.Found.{Found}
-use Rattle.template.specs.declared.walk.Goal.{Goal}
-use Rattle.template.specs.declared.walk.Goal.TheVariants.{Key as ToKey, Least}
+use Rattle.ordered_map.specs.declared.rule.Goal.{Goal}
+use Rattle.ordered_map.specs.declared.rule.Goal.TheVariants.{Key as ToKey, Least}
 use Rattle.template.specs.declared.walk.WalkRun.{WalkRun}
 use Rattle.template.specs.declared.walk.WalkAt.{WalkAt}
 use Rattle.template.specs.declared.walk.WalkAt.TheVariants.{Start, Root, Head, Key, Child, More, Pair, Value, High}

@@ -34,8 +34,8 @@ use Rattle.template.specs.declared.walk.Trail.{Trail}
 use Rattle.template.specs.declared.walk.WalkRun.{WalkRun}
 use Rattle.template.specs.declared.walk.WalkAt.{WalkAt}
 use Rattle.template.specs.declared.walk.WalkAt.TheVariants.{Start, Root, Head, Key, Child, More, Pair, Value, High}
-use Rattle.template.specs.declared.walk.Goal.{Goal}
-use Rattle.template.specs.declared.walk.Goal.TheVariants.{Key as ToKey, Least}
+use Rattle.ordered_map.specs.declared.rule.Goal.{Goal}
+use Rattle.ordered_map.specs.declared.rule.Goal.TheVariants.{Key as ToKey, Least}
 use Rattle.template.specs.Walk.Known.{WalkStandsAtLeaf, IsSlotFor, WalkKnows, walk_part, walk_kind, walk_step, WalkWaits, WalkIsReady, here}
 use Rattle.template.specs.Walk.Steps.{WalkFitsAt, WalkFits}
 

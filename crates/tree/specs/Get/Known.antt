@@ -10,7 +10,7 @@ use Rattle.ordered_map.specs.Tries.{tries_begun}
 use Rattle.template.specs.Trails.{IsOwnMoment}
 use Rattle.template.specs.Walk.Known.{WalkIsReady, WalkWaits}
 use Rattle.template.specs.Tries.{HasTriedAtMost}
-use Rattle.template.specs.declared.walk.Goal.TheVariants.{Key as ToKey}
+use Rattle.ordered_map.specs.declared.rule.Goal.TheVariants.{Key as ToKey}
 use Rattle.template.specs.declared.walk.WalkAt.{WalkAt}
 use Rattle.template.specs.declared.walk.WalkAt.TheVariants.{Root}
 use Rattle.tree.specs.declared.get.GetRun.{GetRun}

@@ -25,7 +25,7 @@ use Rattle.ordered_map.proofs.Lemmas.{held_count, run_since}
 use Rattle.template.specs.FreshNodes.{IsLeafEditAt}
 use Rattle.template.specs.Trails.{HasTurned}
 use Rattle.template.specs.declared.walk.Found.{Found}
-use Rattle.template.specs.declared.walk.Goal.TheVariants.{Key as ToKey}
+use Rattle.ordered_map.specs.declared.rule.Goal.TheVariants.{Key as ToKey}
 use Rattle.template.specs.Blame.{IsContended, WasNotFinal}
 use Rattle.template.proofs.Lemmas.{found_below, found_holds, leaf_edit_words}
 use Rattle.tree.specs.LeafEdit.{HasLookedBy, leaf_looks, leaf_reads}

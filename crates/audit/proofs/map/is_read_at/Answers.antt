@@ -1,5 +1,6 @@
-use Rattle.std.proofs.Common.{◌≡◌, Some, sym, subst, rules}
+use Rattle.std.proofs.Common.{◌≡◌, Some, refl, sym, subst, rules}
 use Rattle.ordered_map.specs.OrderedMap.{reply}
+use Rattle.ordered_map.specs.Requests.{map_request}
 use Rattle.record.specs.MapRecord.{map_at, reply_told}
 use Rattle.record.specs.Placed.{IsGreatestTurn}
 use Rattle.audit.proofs.map.is_read_at.Goals as goal
@@ -7,14 +8,11 @@ use Rattle.audit.proofs.map.is_read_at.Goals as goal
 pub returns-then-eq : goal.returns-then-eq
 returns-then-eq c calls lines are falls less it =
     let turn = c.greatest_of-turn.result in
-    let x = c.tells_at.ensures calls lines are it in
+    let call = map_request c.args.request.now in
     let moment : c.args.reply.now.moment ≡ Some turn = search rules in
     let within = c.greatest_of-turn.ensures.within less falls in
     record {
-      ordered = x.ordered;
-      call = x.call;
-      is = x.is;
       turn = turn;
       moment = moment;
-      greatest = subst (λ a. IsGreatestTurn (λ n. reply_told a ≡ Some (reply x.call (map_at calls lines n))) c.args.reply.now.begin c.args.reply.now.end turn) (sym c.requires) (c.greatest_of-turn.ensures.greatest calls lines x.call turn are falls x.ordered x.is within.0 within.1 x.replied);
+      greatest = subst (λ a. IsGreatestTurn (λ n. reply_told a ≡ Some (reply call (map_at calls lines n))) c.args.reply.now.begin c.args.reply.now.end turn) (sym c.requires) (c.greatest_of-turn.ensures.greatest calls lines call turn are falls (c.tells_at.ensures.ordered it) refl within.0 within.1 (c.tells_at.ensures.told calls lines are it));
     }

@@ -1,4 +1,4 @@
-use Rattle.ordered_map.proofs.Maps.{inserted, insert_keeps, deleted, delete_keeps, edited_rises, same_values, first_is, popped, replaced, successor_is, between_gives, between_rises}
+use Rattle.ordered_map.proofs.Maps.{inserted, insert_keeps, deleted, delete_keeps, edited_rises, same_values, first_is, after_insert, after_delete, after_pop, after_replace, successor_is, between_gives, between_rises}
 use Rattle.ordered_map.proofs.laws.map_laws_hold.Goals as goal
 
 pub returns-clause-inserted : goal.returns-clause-inserted
@@ -22,11 +22,17 @@ returns-clause-same c = same_values
 pub returns-clause-first : goal.returns-clause-first
 returns-clause-first c = first_is
 
-pub returns-clause-popped : goal.returns-clause-popped
-returns-clause-popped c = popped
+pub returns-clause-after_insert : goal.returns-clause-after_insert
+returns-clause-after_insert c = after_insert
 
-pub returns-clause-replaced : goal.returns-clause-replaced
-returns-clause-replaced c = replaced
+pub returns-clause-after_delete : goal.returns-clause-after_delete
+returns-clause-after_delete c = after_delete
+
+pub returns-clause-after_pop : goal.returns-clause-after_pop
+returns-clause-after_pop c = after_pop
+
+pub returns-clause-after_replace : goal.returns-clause-after_replace
+returns-clause-after_replace c = after_replace
 
 pub returns-clause-successor : goal.returns-clause-successor
 returns-clause-successor c = successor_is

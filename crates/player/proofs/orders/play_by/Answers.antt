@@ -3,7 +3,9 @@ use Rattle.std.proofs.Math.Seq.{drop-cons}
 use Rattle.std.proofs.lemmas.List.{drop_all, reverse-reverse}
 use Rattle.record.specs.LawfulRun.{IsLawfulRun}
 use Rattle.script.specs.declared.schedule.Order.{Order}
-use Rattle.record.specs.Schedules.{AreOrdered}
+use Rattle.script.specs.Orders.{IsOrder}
+use Rattle.script.specs.declared.schedule.Order.TheVariants.{Step, Call as CallOf, Until, Finish}
+use Rattle.record.specs.Schedules.{AreOrdered, ordered_client}
 use Rattle.record.specs.Turns.{clients}
 use Rattle.record.specs.declared.record.Line.{Line}
 use Rattle.player.specs.Player.{ScriptView}
@@ -33,8 +35,20 @@ loop-order-preserved c =
     let calls = c.args.script.now.calls.items in
     let orders = c.args.schedule.now.orders.items in
     let less : c.loop-order.order-index < length orders = rw c.deref-order-items.ensures.value at c.loop-order-test.true in
-    let ordered = rw (x.script, c.deref-order-items.ensures.value) at c.in_ok-follow.ensures.ordered in
+    let ordered = rw (x.script, c.deref-order-items.ensures.value) at c.in_ok-obey.ensures.ordered in
     record {
-      script = c.follow.ensures.script ∙ x.script;
-      ordered = λ newer rest. x.ordered newer (subst (λ (os : List Order). AreOrdered calls os c.loop-order.player.lines newer) (sym (from_here orders c.loop-order.order-index _ less)) (c.follow.new.player.lines, ordered, rest));
+      script = c.obey.ensures.script ∙ x.script;
+      ordered = λ newer rest. x.ordered newer (subst (λ (os : List Order). AreOrdered calls os c.loop-order.player.lines newer) (sym (from_here orders c.loop-order.order-index _ less)) (c.obey.new.self.lines, ordered, rest));
     }
+
+-- the client of an order is one of all
+client_within : (passes : ℕ) (order : Order) → IsOrder passes order → ordered_client order < passes
+client_within passes (Step client turns) is = is.0
+client_within passes (CallOf client) is = is
+client_within passes (Until client kind times) is = is.0
+client_within passes (Finish client) is = is
+
+pub obey-requires : goal.obey-requires
+obey-requires c =
+    let less = rw c.deref-order-items.ensures.value at c.loop-order-test.true in
+    rw (c.loop-order.invariant.script, c.deref-order-items.ensures.value) (client_within _ _ (c.requires c.loop-order.order-index _ less))

@@ -35,6 +35,5 @@ returns-in_ok-hold-in-Map c = λ row n side lawful wins word.
     let mode : mode_of begun.command ≡ Tree = ap mode_of (own ∙ c.in-Map.is) in
     let tree = sym (next_of_mode _ _ (lines_of run) c.args.client.now.pass.0 command run.record.now.script.of_mode c.requires.command) ∙ ap mode_of c.in-Map.is in
     let next = c.requires.command ∙ ap (λ (k : Command). Some k) (sym own) in
-    let suited = ready.suited ((c.requires.map.tree tree).edits c.args.scx.0 begun ready.known).makes.own in
     let there = subst (λ (l : Layout). IsLawful l (seen_history run.steps.judge) row) c.requires.after.layout lawful in
-    map_entry _ run.record.now.script.limits.tries _ run.record.now.script.of_mode _ _ _ c.requires.map _ c.requires.after.seen c.args.client.now.pass.0 c.args.scx.0 row begun there wins next mode ready.known suited command own _ _ _ refl
+    map_entry _ run.record.now.script.limits.tries _ run.record.now.script.of_mode _ _ _ c.requires.map _ c.requires.after.seen c.args.client.now.pass.0 c.args.scx.0 row begun there wins next mode ready.known ready.suited command own _ _ _ refl

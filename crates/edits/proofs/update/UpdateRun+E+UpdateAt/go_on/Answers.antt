@@ -1,3 +1,5 @@
+use Rattle.std.proofs.Common.{sym, subst}
+use Rattle.edits.specs.Steps.{Spends}
 use Rattle.edits.proofs.GoingOn.{goes_on, comes_nearer, has_spent, spends_on}
 use Rattle.edits.proofs.Nearer.{below}
 use Rattle.edits.proofs.update.UpdateRun+E+UpdateAt.go_on.Goals as goal
@@ -18,4 +20,4 @@ pub returns-in-Err-clause-nearer : goal.returns-in-Err-clause-nearer
 returns-in-Err-clause-nearer g c nodes n x = below c.stop.result _ _ n (c.stop.ensures.nearer nodes) (rw c.in-Err.is at x)
 
 pub returns-in-Err-clause-spends : goal.returns-in-Err-clause-spends
-returns-in-Err-clause-spends g c share nodes scx x = spends_on g.E.Edit.means c.stop.result share c.args.self.now.share c.stop.new.self nodes scx _ (rw c.in-Err.is at x) c.stop.ensures.spends
+returns-in-Err-clause-spends g c share nodes scx x = spends_on g.E.Edit.means c.stop.result share c.args.self.now.share c.stop.new.self nodes scx c.args.self.now.tries (subst (λ ed. Spends (g.E.Edit.means.most_nodes ed) share c.args.self.now.share nodes c.args.self.now.tries scx c.args.self.now.tries) (sym c.stop.ensures.same.0) (rw c.in-Err.is at x)) c.stop.ensures.spends

@@ -39,7 +39,7 @@ returns-in-None-clause-turn g c d b h run try x = absurd (let z = (rw c.in-None.
 pub returns-in-Some-clause-spends : goal.returns-in-Some-clause-spends
 returns-in-Some-clause-spends g c left =
     let taken = rw c.in-Some.is at c.scx.ensures.after_taking in
-    rw taken.2 (omega arith, omega (arith, left), scx_for_nodes g.E.Edit.means.most_nodes c.args.self.now.share.nodes c.args.self.now.share.scx c.args.self.now.tries left)
+    rw taken.2 (omega arith, omega (arith, left), scx_for_nodes (g.E.Edit.means.most_nodes c.args.self.now.edit) c.args.self.now.share.nodes c.args.self.now.share.scx c.args.self.now.tries left)
 
 pub returns-in-None-clause-spends : goal.returns-in-None-clause-spends
 returns-in-None-clause-spends g c left = absurd (let z = (rw c.in-None.is at c.scx.ensures.empty).0 in omega (arith, z, left))

@@ -1,7 +1,0 @@
-use Rattle.std.proofs.Common.{None}
-use Rattle.moments.specs.Places.{changes}
-use Rattle.audit.proofs.MapAnswers.{too_few_for}
-use Rattle.audit.proofs.map.is_full_for_new.Goals as goal
-
-pub returns-then-has_too_few_to_try : goal.returns-then-has_too_few_to_try
-returns-then-has_too_few_to_try c lay tries calls lines command x kept never it = too_few_for lay tries calls lines (changes c.args.places.now) c.args.client.now command c.args.reply.now x never c.args.key None c.args.full.0 c.args.full.1 (c.had.ensures calls lines x.entries it) (λ begun. c.has_too_few_to_try.ensures lay calls lines kept begun c.if-has_too_few_to_try.true)

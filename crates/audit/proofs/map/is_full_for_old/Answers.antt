@@ -1,9 +1,0 @@
-use Rattle.std.proofs.Common.{Some}
-use Rattle.moments.specs.Places.{changes}
-use Rattle.audit.proofs.MapAnswers.{too_few_for}
-use Rattle.audit.proofs.map.is_full_for_old.Goals as goal
-
-pub returns-then-has_too_few_to_try : goal.returns-then-has_too_few_to_try
-returns-then-has_too_few_to_try c lay tries calls lines command x kept never it =
-    let some = c.had_some.ensures calls lines x.entries it in
-    (some.0, too_few_for lay tries calls lines (changes c.args.places.now) c.args.client.now command c.args.reply.now x never c.args.key (Some some.0) c.args.full.0 c.args.full.1 some.1 (λ begun. c.has_too_few_to_try.ensures lay calls lines kept begun c.if-has_too_few_to_try.true))

@@ -1,0 +1,112 @@
+-- In which order an edit fills its nodes: as what it does at its key.
+use Rattle.std.proofs.Common.{◌≡◌, ◌≢◌, ℕ, ◌≤◌, Option, Some, None, subst}
+use Rattle.arena.specs.declared.step.Step.{Step}
+use Rattle.arena.specs.declared.word.NodeWord.{NodeWord}
+use Rattle.arena.specs.History.{History}
+use Rattle.arena.specs.Machines.{Call, row_of}
+use Rattle.ordered_map.specs.FillOrder.{AreFilledInOrder, IsFillInOrder}
+use Rattle.ordered_map.specs.OrderedMap.{leaves}
+use Rattle.ordered_map.specs.declared.rule.Goal.{Goal}
+use Rattle.ordered_map.specs.declared.rule.Rule.{Rule}
+use Rattle.template.specs.declared.walk.Found.{Found}
+use Rattle.tree.specs.declared.key_edit.KeyEdit.{KeyEdit}
+use Rattle.tree.specs.KeyEdit.Means.{key_at, key_means, leaving, part, putting, taking}
+use Rattle.tree.specs.Laws.KeyEdit.{own_looked, same_need}
+use Rattle.tree.specs.Laws.Looks.{some_need}
+use Rattle.tree.specs.Put.Means.{put_means}
+use Rattle.tree.specs.Take.Means.{take_means}
+use Rattle.tree.proofs.Fills.{update_in_order}
+use Rattle.tree.proofs.PutFills.{fill_in_order as put_fill_in_order}
+use Rattle.tree.proofs.TakeFills.{fill_in_order as take_fill_in_order}
+use Rattle.edits.specs.declared.edit.Need.{Need}
+use Rattle.edits.specs.declared.edit.Need.TheVariants.{Nothing}
+use Rattle.edits.specs.declared.edit.Nth.{Nth}
+use Rattle.edits.specs.declared.update.UpdateAt.{UpdateAt}
+use Rattle.edits.specs.declared.update.UpdateRun.{UpdateRun}
+use Rattle.edits.specs.Known.{FillsPiece, IsNeeded, StandInRow, UpdateWaits, piece, piece_fill_step}
+use Rattle.edits.specs.Laws.Hand.{HasFilledTo}
+use Rattle.edits.specs.Pieces.{nth_node, top_of}
+
+-- the same update of another edit
+abbrev of_edit : {E F : Type 0} → F → UpdateRun E UpdateAt → UpdateRun F UpdateAt
+of_edit e m = record { edit = e; share = m.share; snaps = m.snaps; nodes = m.nodes; read = m.read; tries = m.tries; limit = m.limit; call = m.call; at = m.at }
+
+-- what leaves this to a key fills in order
+module _ (m : UpdateRun ℕ UpdateAt) (c : Call) (h : History) (f : Found) (nth : Nth) (word : NodeWord) where
+  abbrev FillsIn : Option ℕ → Type 0
+  FillsIn left = FillsPiece (leaving left) m c h f nth word
+
+  puts : (value : ℕ) → FillsIn (Some value) → FillsPiece put_means (of_edit (putting m.edit value) m) c h f nth word
+  puts value x = record {
+    works = record {
+      run = x.works.run;
+      since = x.works.since;
+      quiet = x.works.quiet;
+      looked = record { small = x.works.looked.small; found = x.works.looked.found; usable = x.works.looked.usable; seen = x.works.looked.seen };
+      enough = x.works.enough;
+      need = x.works.need;
+      in_order = x.works.in_order;
+      some = x.works.some;
+    };
+    full = x.full;
+    hand = record { lowest = x.hand.lowest; highest = x.hand.highest };
+    read = x.read;
+    whole = x.whole;
+    part_is = x.part_is;
+  }
+
+  takes : FillsIn None → FillsPiece take_means (of_edit (taking m.edit) m) c h f nth word
+  takes x = record {
+    works = record {
+      run = x.works.run;
+      since = x.works.since;
+      quiet = x.works.quiet;
+      looked = record { small = x.works.looked.small; found = x.works.looked.found; usable = x.works.looked.usable; seen = x.works.looked.seen };
+      enough = x.works.enough;
+      need = x.works.need;
+      in_order = x.works.in_order;
+      some = x.works.some;
+    };
+    full = x.full;
+    hand = record { lowest = x.hand.lowest; highest = x.hand.highest };
+    read = x.read;
+    whole = x.whole;
+    part_is = x.part_is;
+  }
+
+  leaving_in_order : (left : Option ℕ) → AreFilledInOrder h → FillsIn left → IsFillInOrder h (row_of c (piece_fill_step (leaving left) m f nth word) h)
+  leaving_in_order (Some value) filled x = put_fill_in_order (of_edit (putting m.edit value) m) c h f nth word (puts value x)
+  leaving_in_order None filled x = take_fill_in_order (of_edit (taking m.edit) m) c h f nth word (takes x) filled
+
+module _ {G R : Type 0} (goal : G → Goal) (rule : R → Rule) where
+  -- what it does at its key
+  own_fills : (m : UpdateRun (KeyEdit G R) UpdateAt) (c : Call) (h : History) (f : Found) (nth : Nth) (word : NodeWord) → FillsPiece (key_means goal rule) m c h f nth word → FillsPiece (part goal rule m.edit) (of_edit (key_at goal rule m.edit f) m) c h f nth word
+  own_fills m c h f nth word x = record {
+    works = record {
+      run = x.works.run;
+      since = x.works.since;
+      quiet = x.works.quiet;
+      looked = own_looked goal rule m.edit f needed c h m.snaps.items x.works.run x.works.looked;
+      enough = x.works.enough;
+      need = subst (λ (need : Need). IsNeeded need nth) same x.works.need;
+      in_order = subst (λ (need : Need). StandInRow need m.nodes) same x.works.in_order;
+      some = x.works.some;
+    };
+    full = subst (λ (need : Need). HasFilledTo c.layout h c.pass m.share m.nodes.first.0 (top_of need m.nodes) (nth_node m.nodes nth).0 (piece (key_means goal rule) m f)) same x.full;
+    hand = record { lowest = x.hand.lowest; highest = subst (λ (need : Need). (nth_node m.nodes nth).0 ≤ top_of need m.nodes) same x.hand.highest };
+    read = x.read;
+    whole = x.whole;
+    part_is = x.part_is;
+  }
+    where
+      needed : (key_means goal rule).needs m.edit f ≢ Nothing
+      needed = some_need ((key_means goal rule).needs m.edit f) nth x.works.need
+
+      same : (key_means goal rule).needs m.edit f ≡ (part goal rule m.edit).needs (key_at goal rule m.edit f) f
+      same = same_need goal rule m.edit f needed
+
+  -- whatever step an edit waits for, where nodes were filled in order before
+  pub key_in_order : (m : UpdateRun (KeyEdit G R) UpdateAt) (c : Call) (h : History) (s : Step) → AreFilledInOrder h → UpdateWaits (key_means goal rule) m c h s → IsFillInOrder h (row_of c s h)
+  key_in_order m c h s filled x =
+      update_in_order (key_means goal rule) m c h s
+      (λ d f nth word y. leaving_in_order (of_edit (key_at goal rule m.edit f) m) d h f nth word (leaves (rule m.edit.rule)) filled (own_fills m d h f nth word y)) x

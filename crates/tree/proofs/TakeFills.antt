@@ -1,0 +1,137 @@
+-- A delete fills its copy in order: nothing mentions the copy, and its fields get what the
+-- sibling's held, which has stood in the tree.
+use Rattle.std.proofs.Common.{◌≡◌, ℕ, ◌/◌, ◌%◌, ◌<◌, inl, inr, Bool, true, false, cond, eqb, Option, Some, None, refl, sym, ◌∙◌, ap, subst, arith}
+use Rattle.std.specs.Prelude.{unwrap_or}
+use Rattle.arena.specs.declared.limits.Mode.{Mode}
+use Rattle.arena.specs.declared.word.NodeWord.{NodeWord}
+use Rattle.arena.specs.declared.word.NodeWord.TheVariants.{Settled, Child}
+use Rattle.arena.specs.declared.word.SettledPart.TheVariants.{Head}
+use Rattle.arena.specs.declared.word.Side.{Side}
+use Rattle.arena.specs.declared.step.Step.{Step}
+use Rattle.arena.specs.Fills.{IsInField}
+use Rattle.arena.specs.Heads.{head_of}
+use Rattle.arena.specs.History.{History, value}
+use Rattle.arena.specs.Layout.{opening_nodes}
+use Rattle.arena.specs.Machines.{Call, row_of}
+use Rattle.arena.specs.Words.{node, child}
+use Rattle.histories.proofs.Lemmas.{node_since}
+use Rattle.prims.specs.Laws.Linked.{in_field_named}
+use Rattle.prims.specs.Snap.{child_of}
+use Rattle.prims.specs.declared.snap.Snap.{Snap}
+use Rattle.ordered_map.specs.FillOrder.{HasStoodInField, AreFilledInOrder, IsFillInOrder}
+use Rattle.ordered_map.specs.Paths.{WasInTree}
+use Rattle.ordered_map.specs.TreeShape.{sibling_place}
+use Rattle.ordered_map.specs.TreeWords.{is_leaf}
+use Rattle.ordered_map.proofs.Lemmas.{held_stood}
+use Rattle.template.specs.declared.walk.Found.{Found}
+use Rattle.ordered_map.specs.declared.rule.Goal.TheVariants.{Key as ToKey}
+use Rattle.tree.specs.declared.take.TakeAt.{TakeAt}
+use Rattle.tree.specs.LeafEdit.{HasLookedBy}
+use Rattle.tree.specs.Take.Means.{copied_pairs, copy_with, take_means, take_need, take_piece, has_more, join_looks, sibling_of}
+use Rattle.tree.specs.Laws.Take.Sound.{HasFour, copy_fields, few_places, has_four, looked_join, usable_at}
+use Rattle.tree.proofs.Fills.{piece_is, same_number, same_part, unstood, update_in_order}
+use Rattle.edits.specs.declared.edit.Nodes.{Nodes}
+use Rattle.edits.specs.declared.edit.Nth.{Nth}
+use Rattle.edits.specs.declared.edit.Nth.TheVariants.{First, Second, Third}
+use Rattle.edits.specs.declared.piece.Piece.{Piece}
+use Rattle.edits.specs.declared.piece.Piece.TheVariants.{Leaf, Fork}
+use Rattle.edits.specs.declared.reading.Reading.{Reading}
+use Rattle.edits.specs.declared.update.UpdateAt.{UpdateAt}
+use Rattle.edits.specs.declared.update.UpdateRun.{UpdateRun}
+use Rattle.edits.specs.Known.{HasSnappedAfterWalk, IsNeeded, FillsPiece, MayRead, UpdateWaits, piece_fill_step, piece, top}
+use Rattle.edits.specs.Pieces.{is_filled, nth_node, top_of, word_of}
+use Rattle.edits.specs.Readings.{next_read}
+use Rattle.edits.proofs.Lemmas.{head_read}
+use Rattle.arena.specs.declared.head.Head.{Head as HeadParts}
+use Rattle.ordered_map.specs.OrderedMap.{delete}
+
+-- One fresh node
+
+one_place : (o : Option ℕ) (nth : Nth) → IsNeeded (take_need o) nth → nth ≡ First
+one_place (Some v) First x = refl
+one_place (Some v) Second x = absurd x
+one_place (Some v) Third x = absurd x
+one_place None nth x = absurd x
+
+one_top : (o : Option ℕ) (nth : Nth) (ns : Nodes) → IsNeeded (take_need o) nth → (nth_node ns nth).0 ≡ top_of (take_need o) ns
+one_top (Some v) First ns x = refl
+one_top (Some v) Second ns x = absurd x
+one_top (Some v) Third ns x = absurd x
+one_top None nth ns x = absurd x
+
+-- only a fork has fields
+fork_there : (s : Snap) (head : HeadParts) (read : Reading) (side : Side) → is_filled (copy_with s head read) (Child side) ≡ true → head.leaf ≡ false
+fork_there s head read side p = go head.leaf p
+  where
+    go : (leaf : Bool) → is_filled (cond leaf (Leaf head.level head.class (copied_pairs head.class read)) (Fork head.level head.class (unwrap_or read.key 0) s.left s.right)) (Child side) ≡ true → leaf ≡ false
+    go true q = absurd (let z : false ≡ true = q in cc)
+    go false q = refl
+
+-- so only where the leaf is taken out
+joined : (b : Bool) (level k : ℕ) (read : Reading) (q : Piece) (side : Side) → is_filled (cond b (Leaf level 0 (delete k read.pairs)) q) (Child side) ≡ true → b ≡ false
+joined true level k read q side p = absurd (let z : false ≡ true = p in cc)
+joined false level k read q side p = refl
+
+module _ (m : UpdateRun TakeAt UpdateAt) (c : Call) (h : History) (f : Found) (nth : Nth) (part : NodeWord) (x : FillsPiece take_means m c h f nth part) where
+  -- what the node at hand is to hold
+  abbrev said : Piece
+  said = take_piece m.edit.key f m.snaps.items m.read
+
+  said_is : piece take_means m f (nth_node m.nodes nth).0 ≡ said
+  said_is = piece_is (take_need f.value) m.nodes (λ i. said) nth x.works.need x.works.in_order
+
+  head_ordered : (k : ℕ) → node (nth_node m.nodes nth).0 part ≡ node k (Settled Head) → ¬ HasStoodInField h k
+  head_ordered k e = subst (λ n. ¬ HasStoodInField h n) (sym (one_top f.value nth m.nodes x.works.need) ∙ same_number (nth_node m.nodes nth).0 k part (Settled Head) e) (unstood c.layout h c.pass (top take_means m f) x.works.run.0 (x.full.hand.own (top take_means m f) x.full.some (omega arith)) x.full.hand.unmentioned)
+
+  abbrev sibling : Snap
+  sibling = sibling_of f m.snaps.items
+
+  module _ (t : has_more f ≡ false) where
+    -- the head of the sibling is read
+    head_is : unwrap_or m.read.head (head_of 0) ≡ head_of (value h (node sibling.node.0 (Settled Head)))
+    head_is =
+        let right : MayRead c.layout h sibling.node.0 m.read = rw t at x.read in
+        let whole : next_read m.read ≡ None = x.whole in
+        ap (λ o. unwrap_or o (head_of 0)) (head_read (value h) sibling.node.0 m.read right.is whole)
+
+    -- what a field of the sibling held has stood in the tree
+    field_stood : (side : Side) → AreFilledInOrder h → is_leaf (value h) sibling.node.0 ≡ false → WasInTree h (child_of sibling side).0
+    field_stood side filled fork = subst (WasInTree h) (u.is.linked.fields side u.is.info) (held_stood c.layout h u.moment sibling.node.0 side x.works.run filled u.within (named u.is.linked.in_field) u.is.not_final then)
+      where
+        looked : HasLookedBy join_looks c h m.edit.key f m.snaps.items
+        looked = looked_join m.edit c h f m.snaps.items t x.works.looked
+
+        four : HasFour f m.snaps.items
+        four = has_four m.edit f m.snaps.items (rw t at x.works.enough) looked.seen
+
+        u : HasSnappedAfterWalk c h (ToKey m.edit.key) f sibling
+        u = usable_at m.edit c h f m.snaps.items (sibling_place f.trail.side) (few_places f.trail.side) four looked
+
+        named : IsInField c.layout u.moment sibling.node.0 → HasStoodInField u.moment sibling.node.0
+        named (inl i) = inl (subst (λ (q : Mode). sibling.node.0 < opening_nodes q) x.works.run.0 i)
+        named (inr y) = inr (y.0, y.1, y.3)
+
+        then : is_leaf (value u.moment) sibling.node.0 ≡ false
+        then = ap (λ w. eqb (w / 4 % 2) 1) (sym (node_since c.layout h u.moment sibling.node.0 (Settled Head) x.works.run.1.lawful u.within tt (in_field_named sibling.node.0 u.is.linked.in_field))) ∙ fork
+
+    join_ordered : (side : Side) → AreFilledInOrder h → is_filled (copy_with sibling (unwrap_or m.read.head (head_of 0)) m.read) (Child side) ≡ true → WasInTree h (word_of (copy_with sibling (unwrap_or m.read.head (head_of 0)) m.read) (Child side))
+    join_ordered side filled q =
+        let fork : (unwrap_or m.read.head (head_of 0)).leaf ≡ false = fork_there sibling (unwrap_or m.read.head (head_of 0)) m.read side q in
+        subst (WasInTree h) (copy_fields sibling (unwrap_or m.read.head (head_of 0)) m.read side q) (field_stood side filled (sym (ap (λ (y : HeadParts). y.leaf) head_is) ∙ fork))
+
+  field_ordered : (k : ℕ) (side : Side) → AreFilledInOrder h → node (nth_node m.nodes nth).0 part ≡ child k side → WasInTree h (word_of (piece take_means m f (nth_node m.nodes nth).0) part)
+  field_ordered k side filled e =
+      let p : part ≡ Child side = same_part (nth_node m.nodes nth).0 k part (Child side) e in
+      let q : is_filled said (Child side) ≡ true = subst (λ (a : Piece). is_filled a (Child side) ≡ true) said_is (subst (λ (a : NodeWord). is_filled (piece take_means m f (nth_node m.nodes nth).0) a ≡ true) p x.part_is) in
+      let t : has_more f ≡ false = joined (has_more f) f.head.level m.edit.key m.read (copy_with sibling (unwrap_or m.read.head (head_of 0)) m.read) side q in
+      let copy : said ≡ copy_with sibling (unwrap_or m.read.head (head_of 0)) m.read = rw t refl in
+      let same : word_of (piece take_means m f (nth_node m.nodes nth).0) part ≡ word_of said (Child side) = ap (λ (a : NodeWord). word_of (piece take_means m f (nth_node m.nodes nth).0) a) p ∙ ap (λ (a : Piece). word_of a (Child side)) said_is in
+      subst (WasInTree h) (sym (same ∙ ap (λ (a : Piece). word_of a (Child side)) copy)) (join_ordered t side filled (subst (λ (a : Piece). is_filled a (Child side) ≡ true) copy q))
+
+  -- a fill of its node is in order
+  pub fill_in_order : AreFilledInOrder h → IsFillInOrder h (row_of c (piece_fill_step take_means m f nth part) h)
+  fill_in_order filled = record { head = λ k kind e. inr (head_ordered k e); field = λ k side kind e. inl (field_ordered k side filled e) }
+
+-- whatever step a delete waits for, where nodes were filled in order before
+pub take_in_order : (m : UpdateRun TakeAt UpdateAt) (c : Call) (h : History) (s : Step) → AreFilledInOrder h → UpdateWaits take_means m c h s → IsFillInOrder h (row_of c s h)
+take_in_order m c h s filled x = update_in_order take_means m c h s (λ d f nth part y. fill_in_order m d h f nth part y filled) x

@@ -1,0 +1,683 @@
+-- What a delete looks at, reads and fills, and that it makes the edit.
+use Rattle.std.proofs.Common.{◌≡◌, ◌≢◌, ℕ, zero, suc, ◌+◌, ◌*◌, ◌/◌, ◌%◌, ◌^◌, ◌<◌, ◌≤◌, ◌⊎◌, inl, inr, ⊎_elim, Bool, true, false, ◌==◌, eqb-true, eq-eqb, ne_eqb, lt-ltb, if◌then◌else◌, List, [], ◌∷◌, length, take, Option, Some, None, refl, sym, ◌∙◌, ap, subst, arith, IsTrue}
+use Rattle.std.specs.Prelude.{unwrap_or, IfSome, IsTrue}
+use Rattle.std.proofs.Math.Decide.{dec_lt}
+use Rattle.std.proofs.lemmas.Bool.{ltb-true}
+use Rattle.std.proofs.lemmas.Nat.{mul-le}
+use native.Mathlib.Decide.{ℕ_discrete}
+use Rattle.arena.specs.declared.head.Head.{Head as HeadParts}
+use Rattle.arena.specs.declared.number.NodeNo.{NodeNo}
+use Rattle.arena.specs.declared.number.ScxNo.{ScxNo}
+use Rattle.arena.specs.declared.word.NodeWord.TheVariants.{Settled, Child}
+use Rattle.arena.specs.declared.word.SettledPart.TheVariants.{Head, Key}
+use Rattle.arena.specs.declared.word.Side.{Side}
+use Rattle.arena.specs.declared.word.Side.TheVariants.{Left, Right}
+use Rattle.arena.specs.declared.word.Slot.{Slot}
+use Rattle.arena.specs.declared.word.Slot.TheVariants.{First as FirstSlot}
+use Rattle.arena.specs.Fills.{IsInField}
+use Rattle.arena.specs.Heads.{head_of, head_word}
+use Rattle.arena.specs.History.{History, value, Extends}
+use Rattle.arena.specs.Machines.{Call}
+use Rattle.arena.specs.ScxRecords.{bit, count, member}
+use Rattle.arena.specs.TakenNodes.{taken_nodes}
+use Rattle.arena.specs.Words.{node, child, first_key, first_value}
+use Rattle.arena.proofs.Lemmas.{taken_few}
+use Rattle.histories.specs.Descriptor.{Descriptor}
+use Rattle.prims.specs.Laws.Idle.{IsQuietSince}
+use Rattle.prims.specs.Laws.Linked.{IsLinked, in_field_named, linked_since}
+use Rattle.prims.specs.Llx.Known.{IsOpened}
+use Rattle.prims.specs.Scx.Known.{Job, Says}
+use Rattle.prims.specs.Snap.{child_of, snap_at}
+use Rattle.prims.specs.Snaps.{AreDistinct}
+use Rattle.prims.specs.declared.snap.Snap.{Snap}
+use Rattle.ordered_map.specs.declared.pair.Pair.{Pair}
+use Rattle.ordered_map.specs.OrderedMap.{AllBelow, Delete as TakeEdit, IsRising, delete, pair}
+use Rattle.ordered_map.specs.Holding.{held_pairs, IsWellCounted}
+use Rattle.ordered_map.specs.Paths.{WasInTree}
+use Rattle.ordered_map.specs.Runs.{IsTreeRun}
+use Rattle.ordered_map.specs.TreeShape.{join_plan, edit_leaf, leaf_place, sibling_place}
+use Rattle.ordered_map.specs.TreeWords.{class, is_leaf, level, toward}
+use Rattle.ordered_map.proofs.Lemmas.{counted_few, held_count, held_first, root_head, run_since, settled_toward, stood_blank, stood_counted, stood_depth, stood_settled, was_passed}
+use Rattle.template.specs.FoundLeaf.{HasFoundLeaf}
+use Rattle.template.specs.FreshNodes.{IsJoinAt, HasFreshCopy}
+use Rattle.template.specs.Promises.{IsPromised, IsSnapOf, HasFreshEdit}
+use Rattle.template.specs.Trails.{HasTurned}
+use Rattle.template.specs.declared.walk.Found.{Found}
+use Rattle.ordered_map.specs.declared.rule.Goal.TheVariants.{Key as ToKey}
+use Rattle.template.specs.Blame.{IsContended, WasNotFinal}
+use Rattle.template.proofs.Lemmas.{edit_promised, found_below, found_level, join_promised, said_low, opened_if_stood}
+use Rattle.tree.specs.LeafEdit.{HasLookedBy, leaf_looks, leaf_reads}
+use Rattle.tree.specs.declared.take.TakeAt.{TakeAt}
+use Rattle.tree.specs.Take.Laws.{take_bounds}
+use Rattle.tree.specs.Take.Means.{copied_pairs, copy_with, take_means, take_need, take_looks, take_reads, has_more, join_looks, sibling_of, sibling_copy}
+use Rattle.tree.specs.Laws.Take.Shown.{shown_stood, shown_rises, shown_apart}
+use Rattle.tree.specs.Laws.LeafLooks.{HasBoth, class_is, has_both, held_is, is_leaf_edit, leaf_begins, leaf_covered, leaf_differs, leaf_distinct, leaf_opens, leaf_stood, many, pairs_are}
+use Rattle.tree.specs.Laws.Looks.{same_node, goes_on, not_enough, is_other}
+use Rattle.tree.specs.Laws.PairLists.{delete_least, delete_most}
+use Rattle.edits.specs.declared.edit.Look.TheVariants.{At, Differs, Enough}
+use Rattle.edits.specs.declared.edit.Need.TheVariants.{Nothing}
+use Rattle.edits.specs.declared.edit.Nodes.{Nodes}
+use Rattle.edits.specs.declared.edit.Nth.TheVariants.{First}
+use Rattle.edits.specs.declared.piece.Piece.TheVariants.{Leaf, Fork}
+use Rattle.edits.specs.declared.reading.Reading.{Reading}
+use Rattle.edits.specs.Known.{IsNeeded, HasSnappedAfterWalk, HasLooked, HasFilledAll, HoldsPiece, IsUpdateFor, MayRead}
+use Rattle.edits.specs.Laws.Contended.{passed_not_final, shown_not_final, turned_contended}
+use Rattle.edits.specs.Laws.PieceFills.{HoldsWords, the_same}
+use Rattle.edits.specs.Pairs.{pair_at}
+use Rattle.edits.specs.Pieces.{is_filled, piece_head, plan_over, top_of, word_of}
+use Rattle.edits.specs.Readings.{is_leaf_read, next_read, nothing_read, slot_read}
+use Rattle.edits.specs.Tries.{CoversSnaps}
+use Rattle.edits.specs.Sound.{LooksWell, FillsWell, MakesWell, EditLaws}
+use Rattle.edits.proofs.Lemmas.{IsLeafWith, fork_read, head_is, head_read, leaf_read, leaf_with, unread}
+
+-- the snapshots are of the nodes that the looks name which are to take a leaf out
+abbrev JoinSeen : Found → List Snap → Type 0
+JoinSeen f snaps = (i : ℕ) → i < length snaps → join_looks f (take i snaps) ≡ At (snap_at snaps i).node
+
+-- What it looks at
+
+-- where a delete has something to do, the key has a value
+pub key_there : (o : Option ℕ) → take_need o ≢ Nothing → (old : ℕ) × (o ≡ Some old)
+key_there None d = absurd (d refl)
+key_there (Some v) d = (v, refl)
+
+-- the snapshots are those of the fork above the parent, which still is its child, and of the
+-- parent, of which the leaf still is a child
+seen_grand : (ed : TakeAt) (f : Found) (g : Snap) (snaps : List Snap) → JoinSeen f (g ∷ snaps) → f.trail.grand ≡ g.node
+seen_grand ed f g snaps x = same_node f.trail.grand g.node (x 0 (omega arith))
+
+seen_parent : (ed : TakeAt) (f : Found) (g p : Snap) (snaps : List Snap) → JoinSeen f (g ∷ p ∷ snaps) → IsTrue ((child_of g f.trail.grand_side).0 == f.trail.parent.0) × (f.trail.parent ≡ p.node)
+seen_parent ed f g p snaps x = goes_on ((child_of g f.trail.grand_side).0 == f.trail.parent.0) f.trail.parent g p.node (x 1 (omega arith))
+
+seen_left : (ed : TakeAt) (f : Found) (g p l : Snap) (snaps : List Snap) → JoinSeen f (g ∷ p ∷ l ∷ snaps) → IsTrue ((child_of p f.trail.side).0 == f.trail.node.0) × (p.left ≡ l.node)
+seen_left ed f g p l snaps x = goes_on ((child_of p f.trail.side).0 == f.trail.node.0) p.left p l.node (x 2 (omega arith))
+
+module _ (ed : TakeAt) (c : Call) (h : History) (f : Found) (run : IsTreeRun c.layout h) (needed : take_need f.value ≢ Nothing) where
+  there : (old : ℕ) × (f.value ≡ Some old)
+  there = key_there f.value needed
+
+  grand_turned : (m : History) → IsTreeRun c.layout m → HasFoundLeaf c m ed.key f → HasTurned c m ed.key f.trail.grand.0 f.trail.grand_side f.trail.parent.0
+  grand_turned m r a = a.trail.grand (found_below (ToKey ed.key) c m f r a) (λ z. a.trail.high (found_below (ToKey ed.key) c m f r a) z a.leaf (said_low (value m) ed.key f.trail.node.0 there.0 (sym there.1 ∙ a.says)))
+
+  parent_turned : (m : History) → IsTreeRun c.layout m → HasFoundLeaf c m ed.key f → HasTurned c m ed.key f.trail.parent.0 f.trail.side f.trail.node.0
+  parent_turned m r a = a.trail.parent (found_below (ToKey ed.key) c m f r a)
+
+  -- the call had turned at both as it took their snapshots
+  grand_snap : (s : Snap) (u : HasSnappedAfterWalk c h (ToKey ed.key) f s) → s.node.0 ≡ f.trail.grand.0 → HasTurned c u.moment ed.key s.node.0 f.trail.grand_side f.trail.parent.0
+  grand_snap s u e = subst (λ n. HasTurned c u.moment ed.key n f.trail.grand_side f.trail.parent.0) (sym e) (grand_turned u.moment (run_since c.layout h u.moment run u.within) u.found)
+
+  parent_snap : (s : Snap) (u : HasSnappedAfterWalk c h (ToKey ed.key) f s) → s.node.0 ≡ f.trail.parent.0 → HasTurned c u.moment ed.key s.node.0 f.trail.side f.trail.node.0
+  parent_snap s u e = subst (λ n. HasTurned c u.moment ed.key n f.trail.side f.trail.node.0) (sym e) (parent_turned u.moment (run_since c.layout h u.moment run u.within) u.found)
+
+  -- the children of the parent stood in the tree
+  below_parent : (s : Snap) → HasSnappedAfterWalk c h (ToKey ed.key) f s → s.node.0 ≡ f.trail.parent.0 → (side : Side) → WasInTree h (child_of s side).0
+  below_parent s u e side = shown_stood c h ed.key f s f.trail.side f.trail.node.0 run u (parent_snap s u e) side
+
+  -- and were not final
+  not_final_below : (s : Snap) → HasSnappedAfterWalk c h (ToKey ed.key) f s → s.node.0 ≡ f.trail.parent.0 → (side : Side) → WasNotFinal c h (child_of s side).0
+  not_final_below s u e side = shown_not_final c h ed.key f s f.trail.side side f.trail.node.0 run u (parent_snap s u e)
+
+  same_no : (a b : NodeNo) → a ≡ b → b.0 ≡ a.0
+  same_no a b e = ap (λ (n : NodeNo). n.0) (sym e)
+
+  -- each node at which it looks stood in the tree
+  looks_stood : (snaps : List Snap) (n : NodeNo) → HasLookedBy join_looks c h ed.key f snaps → join_looks f snaps ≡ At n → WasInTree h n.0
+  looks_stood [] n x e = let t = grand_turned h run x.found in subst (λ (k : NodeNo). WasInTree h k.0) (same_node f.trail.grand n e) (was_passed h t.passed.first ed.key f.trail.grand.0 t.passed.passed)
+  looks_stood (g ∷ []) n x e =
+      let t = parent_turned h run x.found in
+      subst (λ (k : NodeNo). WasInTree h k.0) (goes_on ((child_of g f.trail.grand_side).0 == f.trail.parent.0) f.trail.parent g n e).1 (was_passed h t.passed.first ed.key f.trail.parent.0 t.passed.passed)
+  looks_stood (g ∷ p ∷ []) n x e =
+      subst (λ (k : NodeNo). WasInTree h k.0) (goes_on ((child_of p f.trail.side).0 == f.trail.node.0) p.left p n e).1
+      (below_parent p (x.usable 1 (omega arith)) (same_no f.trail.parent p.node (seen_parent ed f g p [] x.seen).1) Left)
+  looks_stood (g ∷ p ∷ l ∷ []) n x e =
+      subst (λ (k : NodeNo). WasInTree h k.0) (same_node p.right n e)
+      (below_parent p (x.usable 1 (omega arith)) (same_no f.trail.parent p.node (seen_parent ed f g p (l ∷ []) x.seen).1) Right)
+  looks_stood (g ∷ p ∷ l ∷ r ∷ snaps) n x e = absurd (let d : Enough ≡ At n = e in cc)
+
+  -- and was not final
+  looks_not_final : (snaps : List Snap) (n : NodeNo) → HasLookedBy join_looks c h ed.key f snaps → join_looks f snaps ≡ At n → WasNotFinal c h n.0
+  looks_not_final [] n x e = subst (λ (k : NodeNo). WasNotFinal c h k.0) (same_node f.trail.grand n e) (passed_not_final c h ed.key f.trail.grand.0 run (grand_turned h run x.found).passed)
+  looks_not_final (g ∷ []) n x e =
+      subst (λ (k : NodeNo). WasNotFinal c h k.0) (goes_on ((child_of g f.trail.grand_side).0 == f.trail.parent.0) f.trail.parent g n e).1
+      (passed_not_final c h ed.key f.trail.parent.0 run (parent_turned h run x.found).passed)
+  looks_not_final (g ∷ p ∷ []) n x e =
+      subst (λ (k : NodeNo). WasNotFinal c h k.0) (goes_on ((child_of p f.trail.side).0 == f.trail.node.0) p.left p n e).1
+      (not_final_below p (x.usable 1 (omega arith)) (same_no f.trail.parent p.node (seen_parent ed f g p [] x.seen).1) Left)
+  looks_not_final (g ∷ p ∷ l ∷ []) n x e =
+      subst (λ (k : NodeNo). WasNotFinal c h k.0) (same_node p.right n e)
+      (not_final_below p (x.usable 1 (omega arith)) (same_no f.trail.parent p.node (seen_parent ed f g p (l ∷ []) x.seen).1) Right)
+  looks_not_final (g ∷ p ∷ l ∷ r ∷ snaps) n x e = absurd (let d : Enough ≡ At n = e in cc)
+
+  other_child : (a b : ℕ) → (a == b) ≡ false → a ≢ b
+  other_child a b e q = let d : false ≡ true = sym e ∙ eq-eqb a b q in cc
+
+  -- where one of the two forks has another child, its last SCX-record was in the way
+  looks_differ : (snaps : List Snap) (n : NodeNo) (s : ScxNo) → HasLookedBy join_looks c h ed.key f snaps → join_looks f snaps ≡ Differs n s → IsQuietSince c.layout c.pass c.start h → IsContended c h n.0 s.0
+  looks_differ [] n s x e quiet = absurd (let d : At f.trail.grand ≡ Differs n s = e in cc)
+  looks_differ (g ∷ []) n s x e quiet =
+      let o = is_other ((child_of g f.trail.grand_side).0 == f.trail.parent.0) f.trail.parent g n s e in
+      let u : HasSnappedAfterWalk c h (ToKey ed.key) f g = x.usable 0 (omega arith) in
+      rw (sym o.1, sym o.2) (turned_contended c h ed.key f g f.trail.grand_side f.trail.parent.0 run quiet u (grand_snap g u (same_no f.trail.grand g.node (seen_grand ed f g [] x.seen))) (other_child (child_of g f.trail.grand_side).0 f.trail.parent.0 o.0))
+  looks_differ (g ∷ p ∷ []) n s x e quiet =
+      let o = is_other ((child_of p f.trail.side).0 == f.trail.node.0) p.left p n s e in
+      let u : HasSnappedAfterWalk c h (ToKey ed.key) f p = x.usable 1 (omega arith) in
+      rw (sym o.1, sym o.2) (turned_contended c h ed.key f p f.trail.side f.trail.node.0 run quiet u (parent_snap p u (same_no f.trail.parent p.node (seen_parent ed f g p [] x.seen).1)) (other_child (child_of p f.trail.side).0 f.trail.node.0 o.0))
+  looks_differ (g ∷ p ∷ l ∷ []) n s x e quiet = absurd (let d : At p.right ≡ Differs n s = e in cc)
+  looks_differ (g ∷ p ∷ l ∷ r ∷ snaps) n s x e quiet = absurd (let d : Enough ≡ Differs n s = e in cc)
+
+-- once it has looked at enough, it has snapshots of the two forks, in whose fields are the parent
+-- and the leaf, and of the children that the parent's shows
+pub record HasFour (f : Found) (snaps : List Snap) : Type 0 where
+  four : length snaps ≡ 4
+  grand : (snap_at snaps 0).node.0 ≡ f.trail.grand.0
+  held : (child_of (snap_at snaps 0) f.trail.grand_side).0 ≡ f.trail.parent.0
+  parent : (snap_at snaps 1).node.0 ≡ f.trail.parent.0
+  child : (child_of (snap_at snaps 1) f.trail.side).0 ≡ f.trail.node.0
+  left : (snap_at snaps 2).node.0 ≡ (snap_at snaps 1).left.0
+  right : (snap_at snaps 3).node.0 ≡ (snap_at snaps 1).right.0
+
+pub has_four : (ed : TakeAt) (f : Found) (snaps : List Snap) → join_looks f snaps ≡ Enough → JoinSeen f snaps → HasFour f snaps
+has_four ed f [] e x = absurd (let d : At f.trail.grand ≡ Enough = e in cc)
+has_four ed f (g ∷ []) e x = absurd (not_enough ((child_of g f.trail.grand_side).0 == f.trail.parent.0) f.trail.parent g e)
+has_four ed f (g ∷ p ∷ []) e x = absurd (not_enough ((child_of p f.trail.side).0 == f.trail.node.0) p.left p e)
+has_four ed f (g ∷ p ∷ l ∷ []) e x = absurd (let d : At p.right ≡ Enough = e in cc)
+has_four ed f (g ∷ p ∷ l ∷ r ∷ []) e x = record {
+  four = refl;
+  grand = same_no_of f.trail.grand g.node (seen_grand ed f g (p ∷ l ∷ r ∷ []) x);
+  held = eqb-true (child_of g f.trail.grand_side).0 f.trail.parent.0 (seen_parent ed f g p (l ∷ r ∷ []) x).0;
+  parent = same_no_of f.trail.parent p.node (seen_parent ed f g p (l ∷ r ∷ []) x).1;
+  child = eqb-true (child_of p f.trail.side).0 f.trail.node.0 (seen_left ed f g p l (r ∷ []) x).0;
+  left = same_no_of p.left l.node (seen_left ed f g p l (r ∷ []) x).1;
+  right = same_no_of p.right r.node (same_node p.right r.node (x 3 (omega arith)));
+}
+  where
+    same_no_of : (a b : NodeNo) → a ≡ b → b.0 ≡ a.0
+    same_no_of a b e = ap (λ (n : NodeNo). n.0) (sym e)
+has_four ed f (g ∷ p ∷ l ∷ r ∷ s ∷ snaps) e x = absurd (let d : Enough ≡ At s.node = x 4 (omega arith) in cc)
+
+pub few_places : (side : Side) → sibling_place side < 4
+few_places Left = omega arith
+few_places Right = omega arith
+
+-- a snapshot that is there may be used
+pub usable_at : (ed : TakeAt) (c : Call) (h : History) (f : Found) (snaps : List Snap) (i : ℕ) → i < 4 → HasFour f snaps → HasLookedBy join_looks c h ed.key f snaps → HasSnappedAfterWalk c h (ToKey ed.key) f (snap_at snaps i)
+usable_at ed c h f snaps i p four x = x.usable i (rw four.four p)
+
+linked_at : (ed : TakeAt) (c : Call) (h : History) (f : Found) (snaps : List Snap) (i : ℕ) → IsTreeRun c.layout h → i < 4 → HasFour f snaps → HasLookedBy join_looks c h ed.key f snaps → IsLinked c.layout h (snap_at snaps i)
+linked_at ed c h f snaps i run p four x = let u = usable_at ed c h f snaps i p four x in linked_since c.layout h u.moment (snap_at snaps i) run.1.lawful u.within u.is.linked
+
+-- the leaf's sibling stood in the tree
+sibling_stood : (ed : TakeAt) (c : Call) (h : History) (f : Found) (snaps : List Snap) → IsTreeRun c.layout h → take_need f.value ≢ Nothing → HasFour f snaps → HasLookedBy join_looks c h ed.key f snaps → WasInTree h (sibling_of f snaps).node.0
+sibling_stood ed c h f snaps run d four x = go f.trail.side
+  where
+    shown : (side : Side) → WasInTree h (child_of (snap_at snaps 1) side).0
+    shown side = below_parent ed c h f run d (snap_at snaps 1) (usable_at ed c h f snaps 1 (omega arith) four x) four.parent side
+
+    go : (side : Side) → WasInTree h (snap_at snaps (sibling_place side)).node.0
+    go Left = subst (WasInTree h) (sym four.right) (shown Right)
+    go Right = subst (WasInTree h) (sym four.left) (shown Left)
+
+-- and is not the root: it is below another node
+sibling_below : (ed : TakeAt) (c : Call) (h : History) (f : Found) (snaps : List Snap) → IsTreeRun c.layout h → take_need f.value ≢ Nothing → HasFour f snaps → HasLookedBy join_looks c h ed.key f snaps → (sibling_of f snaps).node.0 ≢ 0
+sibling_below ed c h f snaps run d four x = go f.trail.side
+  where
+    shown : (side : Side) → (child_of (snap_at snaps 1) side).0 ≢ 0
+    shown side z =
+        let u = usable_at ed c h f snaps 1 (omega arith) four x in
+        let rises = shown_rises c h ed.key f (snap_at snaps 1) f.trail.side f.trail.node.0 run u (parent_snap ed c h f run d (snap_at snaps 1) u four.parent) side in
+        let low : level (value h) (snap_at snaps 1).node.0 < level (value h) 0 = subst (λ n. level (value h) (snap_at snaps 1).node.0 < level (value h) n) z rises in
+        let root = root_head c.layout h run in
+        omega (arith, low, root)
+
+    go : (side : Side) → (snap_at snaps (sibling_place side)).node.0 ≢ 0
+    go Left z = shown Right (sym four.right ∙ z)
+    go Right z = shown Left (sym four.left ∙ z)
+
+-- so it may be read from its head on
+sibling_begins : (ed : TakeAt) (c : Call) (h : History) (f : Found) (snaps : List Snap) → IsTreeRun c.layout h → take_need f.value ≢ Nothing → HasLookedBy join_looks c h ed.key f snaps → join_looks f snaps ≡ Enough → MayRead c.layout h (sibling_of f snaps).node.0 nothing_read
+sibling_begins ed c h f snaps run d x enough =
+    let four : HasFour f snaps = has_four ed f snaps enough x.seen in
+    let o : IsOpened c.layout h (sibling_of f snaps).node.0 = opened_if_stood c.layout h (sibling_of f snaps).node.0 run (sibling_stood ed c h f snaps run d four x) in
+    record { named = in_field_named (sibling_of f snaps).node.0 o.in_field; inside = (sibling_below ed c h f snaps run d four x, o.inside); is = unread (value h) (sibling_of f snaps).node.0 }
+
+-- the levels rise from the fork above to the parent, and from there to its children, which are
+-- apart
+module _ (ed : TakeAt) (c : Call) (h : History) (f : Found) (snaps : List Snap) (run : IsTreeRun c.layout h) (needed : take_need f.value ≢ Nothing) (four : HasFour f snaps) (x : HasLookedBy join_looks c h ed.key f snaps) where
+  abbrev at_place : ℕ → ℕ
+  at_place i = (snap_at snaps i).node.0
+
+  abbrev deep : ℕ → ℕ
+  deep i = level (value h) (at_place i)
+
+  grand_used : HasSnappedAfterWalk c h (ToKey ed.key) f (snap_at snaps 0)
+  grand_used = usable_at ed c h f snaps 0 (omega arith) four x
+
+  parent_used : HasSnappedAfterWalk c h (ToKey ed.key) f (snap_at snaps 1)
+  parent_used = usable_at ed c h f snaps 1 (omega arith) four x
+
+  at_grand : HasTurned c grand_used.moment ed.key (at_place 0) f.trail.grand_side f.trail.parent.0
+  at_grand = grand_snap ed c h f run needed (snap_at snaps 0) grand_used four.grand
+
+  at_parent : HasTurned c parent_used.moment ed.key (at_place 1) f.trail.side f.trail.node.0
+  at_parent = parent_snap ed c h f run needed (snap_at snaps 1) parent_used four.parent
+
+  to_parent : deep 0 < deep 1
+  to_parent = subst (λ n. deep 0 < level (value h) n) (four.held ∙ sym four.parent) (shown_rises c h ed.key f (snap_at snaps 0) f.trail.grand_side f.trail.parent.0 run grand_used at_grand f.trail.grand_side)
+
+  to_left : deep 1 < deep 2
+  to_left = subst (λ n. deep 1 < level (value h) n) (sym four.left) (shown_rises c h ed.key f (snap_at snaps 1) f.trail.side f.trail.node.0 run parent_used at_parent Left)
+
+  to_right : deep 1 < deep 3
+  to_right = subst (λ n. deep 1 < level (value h) n) (sym four.right) (shown_rises c h ed.key f (snap_at snaps 1) f.trail.side f.trail.node.0 run parent_used at_parent Right)
+
+  deeper : (i j : ℕ) → deep i < deep j → at_place i ≢ at_place j
+  deeper i j less e = let same : deep i ≡ deep j = ap (level (value h)) e in absurd (omega (arith, less, same))
+
+  differ : (i j : ℕ) → i < j → j < 4 → at_place i ≢ at_place j
+  differ i zero less few = absurd (omega (arith, less))
+  differ zero (suc zero) less few = deeper 0 1 to_parent
+  differ (suc i) (suc zero) less few = absurd (omega (arith, less))
+  differ zero (suc (suc zero)) less few = deeper 0 2 (omega (arith, to_parent, to_left))
+  differ (suc zero) (suc (suc zero)) less few = deeper 1 2 to_left
+  differ (suc (suc i)) (suc (suc zero)) less few = absurd (omega (arith, less))
+  differ zero (suc (suc (suc zero))) less few = deeper 0 3 (omega (arith, to_parent, to_right))
+  differ (suc zero) (suc (suc (suc zero))) less few = deeper 1 3 to_right
+  differ (suc (suc zero)) (suc (suc (suc zero))) less few = λ e. shown_apart c h ed.key f (snap_at snaps 1) f.trail.side f.trail.node.0 run parent_used at_parent (sym four.left ∙ e ∙ four.right)
+  differ (suc (suc (suc i))) (suc (suc (suc zero))) less few = absurd (omega (arith, less))
+  differ i (suc (suc (suc (suc j)))) less few = absurd (omega (arith, few))
+
+  either : (i j : ℕ) → i ≢ j → (i < j) ⊎ (j < i)
+  either i j d = grind arith
+
+  four_apart : AreDistinct snaps
+  four_apart i j p q d e = ⊎_elim (λ less. differ i j less (rw four.four at q) e) (λ less. differ j i less (rw four.four at p) (sym e)) (either i j d)
+
+-- it covers the leaf at its third or fourth place, on the side of the key
+join_covered : (ed : TakeAt) (c : Call) (h : History) (f : Found) (snaps : List Snap) (k : History) (s : ℕ) → IsTreeRun c.layout h → HasFour f snaps → HasFoundLeaf c h ed.key f → IsTreeRun c.layout k → Extends k h → CoversSnaps k s snaps → edit_leaf k s (TakeEdit ed.key) ≡ f.trail.node.0
+join_covered ed c h f snaps k s run four found later since covers =
+    let many : count k s ≡ 4 = covers.count ∙ four.four in
+    rw (ne_eqb (count k s) 2 (λ two. omega (arith, two, many)))
+    (ap (λ side. member k s (leaf_place side)) side_is ∙ covers.members (leaf_place f.trail.side) (rw four.four (few f.trail.side)) ∙ place f.trail.side four.child)
+  where
+    parent : HasTurned c h ed.key f.trail.parent.0 f.trail.side f.trail.node.0
+    parent = found.trail.parent (found_below (ToKey ed.key) c h f run found)
+
+    stood : WasInTree h f.trail.parent.0
+    stood = was_passed h parent.passed.first ed.key f.trail.parent.0 parent.passed.passed
+
+    is_parent : member k s 1 ≡ f.trail.parent.0
+    is_parent = covers.members 1 (rw four.four (omega arith)) ∙ four.parent
+
+    side_is : toward (value k) (member k s 1) ed.key ≡ f.trail.side
+    side_is = ap (λ n. toward (value k) n ed.key) is_parent ∙ settled_toward (value h) (value k) f.trail.parent.0 ed.key (stood_settled c.layout k h f.trail.parent.0 later since stood) ∙ parent.side_is
+
+    few : (side : Side) → leaf_place side < 4
+    few Left = omega arith
+    few Right = omega arith
+
+    place : (side : Side) → (child_of (snap_at snaps 1) side).0 ≡ f.trail.node.0 → (snap_at snaps (leaf_place side)).node.0 ≡ f.trail.node.0
+    place Left e = four.left ∙ e
+    place Right e = four.right ∙ e
+
+-- In one of two ways
+
+-- where the leaf has more than the pair, it looks as an edit of that leaf does
+pub looked_leaf : (ed : TakeAt) (c : Call) (h : History) (f : Found) (snaps : List Snap) → has_more f ≡ true → HasLooked take_means c h ed f snaps → HasLookedBy leaf_looks c h ed.key f snaps
+looked_leaf ed c h f snaps t x = record { small = x.small; found = x.found; usable = x.usable; seen = λ i p. rw t at (x.seen i p) }
+
+-- and else to take it out
+pub looked_join : (ed : TakeAt) (c : Call) (h : History) (f : Found) (snaps : List Snap) → has_more f ≡ false → HasLooked take_means c h ed f snaps → HasLookedBy join_looks c h ed.key f snaps
+looked_join ed c h f snaps t x = record { small = x.small; found = x.found; usable = x.usable; seen = λ i p. rw t at (x.seen i p) }
+
+-- the leaf of a key that is there is of class 0
+low_there : (k : ℕ) (c : Call) (h : History) (f : Found) → take_need f.value ≢ Nothing → HasFoundLeaf c h k f → f.head.class ≡ 0
+low_there k c h f d a =
+    let there : (old : ℕ) × (f.value ≡ Some old) = key_there f.value d in
+    sym (ap (λ w. w.class) a.head) ∙ said_low (value h) k f.trail.node.0 there.0 (sym there.1 ∙ a.says)
+
+module _ (ed : TakeAt) (c : Call) (h : History) (f : Found) (snaps : List Snap) (run : IsTreeRun c.layout h) (d : take_need f.value ≢ Nothing) (x : HasLooked take_means c h ed f snaps) where
+  take_opens : (n : NodeNo) → (b : Bool) → has_more f ≡ b → (if b then leaf_looks f snaps else join_looks f snaps) ≡ At n → IsOpened c.layout h n.0
+  take_opens n true t at = leaf_opens ed.key c h f snaps run (looked_leaf ed c h f snaps t x) n at
+  take_opens n false t at = opened_if_stood c.layout h n.0 run (looks_stood ed c h f run d snaps n (looked_join ed c h f snaps t x) at)
+
+  take_stood : (n : NodeNo) → (b : Bool) → has_more f ≡ b → (if b then leaf_looks f snaps else join_looks f snaps) ≡ At n → WasNotFinal c h n.0
+  take_stood n true t at = leaf_stood ed.key c h f snaps run (looked_leaf ed c h f snaps t x) n at
+  take_stood n false t at = looks_not_final ed c h f run d snaps n (looked_join ed c h f snaps t x) at
+
+  take_differs : (n : NodeNo) (s : ScxNo) → IsQuietSince c.layout c.pass c.start h → (b : Bool) → has_more f ≡ b → (if b then leaf_looks f snaps else join_looks f snaps) ≡ Differs n s → IsContended c h n.0 s.0
+  take_differs n s quiet true t at = leaf_differs ed.key c h f snaps n s run (looked_leaf ed c h f snaps t x) at quiet
+  take_differs n s quiet false t at = looks_differ ed c h f run d snaps n s (looked_join ed c h f snaps t x) at quiet
+
+  take_reads_well : (b : Bool) → has_more f ≡ b → (if b then leaf_looks f snaps else join_looks f snaps) ≡ Enough → let y : NodeNo × Reading = (if b then leaf_reads f else ((sibling_of f snaps).node, nothing_read)) in MayRead c.layout h y.0.0 y.1
+  take_reads_well true t enough = leaf_begins ed.key c h f snaps run (looked_leaf ed c h f snaps t x) (low_there ed.key c h f d x.found)
+  take_reads_well false t enough = sibling_begins ed c h f snaps run d (looked_join ed c h f snaps t x) enough
+
+  take_distinct : (b : Bool) → has_more f ≡ b → (if b then leaf_looks f snaps else join_looks f snaps) ≡ Enough → AreDistinct snaps
+  take_distinct true t enough = leaf_distinct ed.key c h f snaps run (looked_leaf ed c h f snaps t x) enough
+  take_distinct false t enough = let y = looked_join ed c h f snaps t x in four_apart ed c h f snaps run d (has_four ed f snaps enough y.seen) y
+
+  take_covered : (k : History) (s : ℕ) → IsTreeRun c.layout k → Extends k h → CoversSnaps k s snaps → (b : Bool) → has_more f ≡ b → (if b then leaf_looks f snaps else join_looks f snaps) ≡ Enough → edit_leaf k s (TakeEdit ed.key) ≡ f.trail.node.0
+  take_covered k s later since covers true t enough = leaf_covered (TakeEdit ed.key) f snaps k s (has_both f snaps enough (looked_leaf ed c h f snaps t x).seen) covers
+  take_covered k s later since covers false t enough = join_covered ed c h f snaps k s run (has_four ed f snaps enough (looked_join ed c h f snaps t x).seen) x.found later since covers
+
+-- an LLX may look at its nodes, which were not final, what it reads may be read, and where a fork
+-- has another child its last SCX-record was in the way
+pub take_look : LooksWell take_means
+take_look = record {
+  opens = λ e c h f snaps n run d x at. take_opens e c h f snaps run d x n (has_more f) refl at;
+  stood = λ e c h f snaps n run d x at. take_stood e c h f snaps run d x n (has_more f) refl at;
+  differs = λ e c h f snaps n s run d x at quiet. take_differs e c h f snaps run d x n s quiet (has_more f) refl at;
+  reads = λ e c h f snaps y run d x enough is. subst (λ (z : NodeNo × Reading). MayRead c.layout h z.0.0 z.1) (the_same (take_reads f snaps) y is) (take_reads_well e c h f snaps run d x (has_more f) refl enough);
+}
+
+-- What it fills
+
+-- the fields of a copied fork are those of the snapshot
+pub copy_fields : (s : Snap) (head : HeadParts) (read : Reading) (side : Side) → is_filled (copy_with s head read) (Child side) ≡ true → (child_of s side).0 ≡ word_of (copy_with s head read) (Child side)
+copy_fields s head read side p = go head.leaf side p
+  where
+    go : (leaf : Bool) (side : Side) → is_filled (if leaf then Leaf head.level head.class (copied_pairs head.class read) else Fork head.level head.class (unwrap_or read.key 0) s.left s.right) (Child side) ≡ true
+        → (child_of s side).0 ≡ word_of (if leaf then Leaf head.level head.class (copied_pairs head.class read) else Fork head.level head.class (unwrap_or read.key 0) s.left s.right) (Child side)
+    go true side p = absurd (let z : false ≡ true = p in cc)
+    go false Left p = refl
+    go false Right p = refl
+
+join_fields : (ed : TakeAt) (c : Call) (h : History) (f : Found) (snaps : List Snap) (read : Reading) (side : Side) → IsTreeRun c.layout h → HasLookedBy join_looks c h ed.key f snaps → join_looks f snaps ≡ Enough → is_filled (sibling_copy (sibling_of f snaps) read) (Child side) ≡ true → IsInField c.layout h (word_of (sibling_copy (sibling_of f snaps) read) (Child side))
+join_fields ed c h f snaps read side run x enough p =
+    let s : Snap = sibling_of f snaps in
+    let l : IsLinked c.layout h s = linked_at ed c h f snaps (sibling_place f.trail.side) run (few_places f.trail.side) (has_four ed f snaps enough x.seen) x in
+    subst (IsInField c.layout h) (copy_fields s (unwrap_or read.head (head_of 0)) read side p) (inr (s.node.0, side, in_field_named s.node.0 l.in_field, l.had side))
+
+take_fields : (ed : TakeAt) (c : Call) (h : History) (f : Found) (snaps : List Snap) (read : Reading) (side : Side) → IsTreeRun c.layout h → HasLooked take_means c h ed f snaps → (b : Bool) → has_more f ≡ b → (if b then leaf_looks f snaps else join_looks f snaps) ≡ Enough
+    → is_filled (if b then Leaf f.head.level 0 (delete ed.key read.pairs) else sibling_copy (sibling_of f snaps) read) (Child side) ≡ true → IsInField c.layout h (word_of (if b then Leaf f.head.level 0 (delete ed.key read.pairs) else sibling_copy (sibling_of f snaps) read) (Child side))
+take_fields ed c h f snaps read side run x true t enough p = absurd (let z : false ≡ true = p in cc)
+take_fields ed c h f snaps read side run x false t enough p = join_fields ed c h f snaps read side run (looked_join ed c h f snaps t x) enough p
+
+-- the fields of its copy hold what the sibling's have held
+pub take_fills : FillsWell take_means
+take_fills = record { fields = λ e c h f snaps ns read nth side run x enough n p. inr (take_fields e c h f snaps read side run x (has_more f) refl enough p) }
+
+-- What it makes
+
+-- the word of a head that was read is that word
+bit_back : (b : ℕ) → b < 2 → bit (b == 1) ≡ b
+bit_back b few = go (ℕ_discrete b 1)
+  where
+    go : Dec (b ≡ 1) → bit (b == 1) ≡ b
+    go (yes e) = rw e refl
+    go (no d) = rw (ne_eqb b 1 d) (omega (arith, few, d))
+
+head_back : (w : ℕ) → w / 8 < 2 ^ 61 → piece_head (w / 8) (w / 4 % 2 == 1) (w % 4) ≡ w
+head_back w fits = head_is (w / 8) (w % 4) (w / 4 % 2 == 1) fits (omega arith) ∙ whole
+  where
+    whole : head_word (head_of w) ≡ w
+    whole = let b : bit (w / 4 % 2 == 1) ≡ w / 4 % 2 = bit_back (w / 4 % 2) (omega arith) in omega (arith, b)
+
+-- the plan word of four is that of taking a leaf out
+plan_four : (n : ℕ) (side : Side) → n ≡ 4 → plan_over n side ≡ join_plan side
+plan_four n Left e = rw e refl
+plan_four n Right e = rw e refl
+
+-- what is not read of a key that is 0 is taken to be 0
+blank_key : (o : Option ℕ) (w : ℕ) → IfSome o (λ k. w ≡ k) → w ≡ 0 → unwrap_or o 0 ≡ 0
+blank_key None w is e = refl
+blank_key (Some k) w is e = sym is ∙ e
+
+module _ (ed : TakeAt) (c : Call) (h : History) (f : Found) (snaps : List Snap) (ns : Nodes) (read : Reading) (run : IsTreeRun c.layout h) (needed : take_need f.value ≢ Nothing) (x : HasFilledAll take_means c h ed f snaps ns read) where
+  present : (old : ℕ) × (f.value ≡ Some old)
+  present = key_there f.value needed
+
+  one : IsNeeded (take_need f.value) First
+  one = subst (λ o. IsNeeded (take_need o) First) (sym present.1) tt
+
+  low : f.head.class ≡ 0
+  low = low_there ed.key c h f needed x.looked.found
+
+  top : top_of (take_need f.value) ns ≡ ns.first.0
+  top = ap (λ o. top_of (take_need o) ns) present.1
+
+  -- the pair goes out of its leaf
+  module _ (t : has_more f ≡ true) where
+    looked : HasLookedBy leaf_looks c h ed.key f snaps
+    looked = looked_leaf ed c h f snaps t x.looked
+
+    abbrev old_leaf : ℕ
+    old_leaf = f.trail.node.0
+
+    abbrev old_pairs : List Pair
+    old_pairs = held_pairs (value h) old_leaf
+
+    both : HasBoth f snaps
+    both = has_both f snaps (rw t at x.enough) looked.seen
+
+    read_is : read.pairs ≡ old_pairs
+    read_is = pairs_are ed.key c h f snaps run looked low read (rw t at x.right) x.whole
+
+    held : IsWellCounted (value h) old_leaf × AllBelow (2 ^ 64) old_pairs × IsRising old_pairs
+    held = held_is ed.key c h f snaps run looked low
+
+    -- as many are left as a leaf may hold
+    least : 0 < length (delete ed.key old_pairs)
+    least =
+        let m : length old_pairs ≡ 1 + f.more = many ed.key c h f snaps run looked low in
+        let some : 0 < f.more = ltb-true 0 f.more t in
+        let l = delete_least ed.key old_pairs in
+        omega (arith, m, some, l)
+
+    most : length (delete ed.key old_pairs) ≤ 4
+    most =
+        let m = held_count (value h) old_leaf held.0 in
+        let few = counted_few (value h) old_leaf held.0 in
+        let l = delete_most ed.key old_pairs in
+        omega (arith, m, few, l)
+
+    p : HoldsPiece c h ns.first.0 (Leaf f.head.level 0 (delete ed.key read.pairs))
+    p = rw t at (x.holds First one)
+
+    pairs_left : delete ed.key read.pairs ≡ delete ed.key old_pairs
+    pairs_left = ap (delete ed.key) read_is
+
+    now : IsLeafWith (value h) ns.first.0 f.head.level 0 (delete ed.key read.pairs)
+    now = leaf_with h ns.first.0 f.head.level f.head.level 0 (delete ed.key read.pairs) refl (let a = found_level (ToKey ed.key) c h f run x.looked.found in omega (arith, a)) (omega arith) p.words
+        (subst (λ ps. 0 < length ps) (sym pairs_left) least) (subst (λ ps. length ps ≤ 4) (sym pairs_left) most)
+
+    made : HasFreshEdit c.layout c.pass h (TakeEdit ed.key) old_leaf ns.first.0
+    made = record {
+      fresh = p.fresh;
+      edit = inl record {
+        leaf = x.looked.found.leaf;
+        class = class_is ed.key c h f snaps run looked low;
+        new = record { leaf = now.leaf; class = now.class; counted = now.counted };
+        pairs = now.pairs ∙ pairs_left;
+        deep = now.level ∙ sym (ap (λ w. w.level) x.looked.found.head);
+      };
+      below = λ fork. absurd (let z : true ≡ false = sym now.leaf ∙ fork in cc);
+    }
+
+    leaf_promised : (j : Job) (d : Descriptor) → IsUpdateFor take_means ed f snaps ns j.update → Says d j → IsPromised c.layout c.pass h j.scx.0 d (TakeEdit ed.key)
+    leaf_promised j d is says = edit_promised c h j.scx.0 (TakeEdit ed.key) f d ns.first.0 run x.looked.small x.looked.found
+        (is_leaf_edit f snaps j d ns.first.0 both is.covers (rw t at is.plan) (rw t at is.old) (is.fresh ∙ top) says) made
+        (λ e z. let y : Some present.0 ≡ None = sym present.1 ∙ z in cc)
+
+  -- or the leaf out of the tree
+  module _ (t : has_more f ≡ false) where
+    looked_so : HasLookedBy join_looks c h ed.key f snaps
+    looked_so = looked_join ed c h f snaps t x.looked
+
+    four : HasFour f snaps
+    four = has_four ed f snaps (rw t at x.enough) looked_so.seen
+
+    abbrev sibling : Snap
+    sibling = sibling_of f snaps
+
+    abbrev z_node : ℕ
+    z_node = sibling.node.0
+
+    abbrev n_node : ℕ
+    n_node = ns.first.0
+
+    in_tree : WasInTree h z_node
+    in_tree = sibling_stood ed c h f snaps run needed four looked_so
+
+    alone : f.more ≡ 0
+    alone = go (dec_lt 0 f.more)
+      where
+        go : Dec (0 < f.more) → f.more ≡ 0
+        go (yes l) = absurd (let y : true ≡ false = sym (lt-ltb 0 f.more l) ∙ t in cc)
+        go (no n) = omega (arith, n)
+
+    -- the copy
+    abbrev w : ℕ
+    w = value h (node z_node (Settled Head))
+
+    right : MayRead c.layout h z_node read
+    right = rw t at x.right
+
+    whole : next_read read ≡ None
+    whole = x.whole
+
+    fits : w / 8 < 2 ^ 61
+    fits =
+        let deep : level (value h) z_node < 2 + length (taken_nodes h) = stood_depth c.layout h z_node run in_tree in
+        let few : length (taken_nodes h) ≤ c.layout.passes * c.layout.nodes = taken_few c.layout h run.1.lawful in
+        let most : c.layout.passes * c.layout.nodes ≤ 32 * 32768 = mul-le c.layout.passes c.layout.nodes 32 32768 c.layout.passes_fit c.layout.nodes_fit in
+        omega (arith, deep, few, most)
+
+    is_head : read.head ≡ Some (head_of w)
+    is_head = head_read (value h) z_node read right.is whole
+
+    copied : HoldsPiece c h n_node (copy_with sibling (head_of w) read)
+    copied = subst (λ (o : Option HeadParts). HoldsPiece c h n_node (copy_with sibling (unwrap_or o (head_of 0)) read)) is_head (rw t at (x.holds First one))
+
+    blank : class (value h) z_node ≢ 0 → value h (node z_node first_key) ≡ 0
+    blank high = stood_blank c.layout h z_node run in_tree high
+
+    -- of a leaf
+    module _ (leaf : is_leaf (value h) z_node ≡ true) where
+      abbrev ps : List Pair
+      ps = copied_pairs (w % 4) read
+
+      leaf_words : HoldsWords h n_node (Leaf (w / 8) (w % 4) ps)
+      leaf_words = rw leaf at copied.words
+
+      low_copied : class (value h) z_node ≡ 0 → ps ≡ read.pairs
+      low_copied is_low = rw (eq-eqb (w % 4) 0 is_low) refl
+
+      high_copied : class (value h) z_node ≢ 0 → ps ≡ pair 0 0 ∷ []
+      high_copied high = rw (ne_eqb (w % 4) 0 high) refl
+
+      low_pairs_are : class (value h) z_node ≡ 0 → ps ≡ held_pairs (value h) z_node
+      low_pairs_are is_low = low_copied is_low ∙ leaf_read (value h) z_node read right.is whole is_low leaf
+
+      leaf_copied : class (value h) z_node ≡ 0 → IsLeafWith (value h) n_node (w / 8) (w % 4) ps
+      leaf_copied is_low =
+          let counted = stood_counted c.layout h z_node run in_tree leaf is_low in
+          let m = held_count (value h) z_node counted in
+          let few = counted_few (value h) z_node counted in
+          leaf_with h n_node (w / 8) (w / 8) (w % 4) ps refl fits (omega arith) leaf_words
+          (subst (λ qs. 0 < length qs) (sym (low_pairs_are is_low)) (omega (arith, m))) (subst (λ qs. length qs ≤ 4) (sym (low_pairs_are is_low)) (omega (arith, m, few)))
+
+      leaf_key : Dec (class (value h) z_node ≡ 0) → value h (node n_node first_key) ≡ value h (node z_node first_key)
+      leaf_key (yes is_low) = (leaf_copied is_low).key ∙ ap (λ qs. (pair_at qs 0).key) (low_pairs_are is_low ∙ (held_first (value h) z_node).is)
+      leaf_key (no high) = leaf_words first_key tt ∙ ap (λ qs. (pair_at qs 0).key) (high_copied high) ∙ sym (blank high)
+
+      leaf_copy : HasFreshCopy c.layout c.pass h sibling n_node
+      leaf_copy = record {
+        fresh = copied.fresh;
+        copy = record {
+          same_head = leaf_words (Settled Head) tt ∙ ap (λ b. piece_head (w / 8) b (w % 4)) (sym leaf) ∙ head_back w fits;
+          same_key = leaf_key (ℕ_discrete (class (value h) z_node) 0);
+          same_pairs = λ _ is_low. ((leaf_copied is_low).counted, (leaf_copied is_low).pairs ∙ low_pairs_are is_low);
+        };
+        fields = λ fork side. absurd (let y : true ≡ false = sym leaf ∙ fork in cc);
+        unfilled = λ fork. absurd (let y : true ≡ false = sym leaf ∙ fork in cc);
+      }
+
+    -- or of a fork
+    module _ (fork : is_leaf (value h) z_node ≡ false) where
+      fork_words : HoldsWords h n_node (Fork (w / 8) (w % 4) (unwrap_or read.key 0) sibling.left sibling.right)
+      fork_words = rw fork at copied.words
+
+      at_first : slot_read read ≡ FirstSlot
+      at_first = ap (λ o. unwrap_or o FirstSlot) (right.is.first (ap is_leaf_read is_head ∙ fork))
+
+      fork_key : Dec (class (value h) z_node ≡ 0) → unwrap_or read.key 0 ≡ value h (node z_node first_key)
+      fork_key (yes is_low) = fork_read (value h) z_node read right.is whole is_low fork
+      fork_key (no high) = blank_key read.key (value h (node z_node first_key)) (subst (λ (s : Slot). IfSome read.key (λ k. value h (node z_node (Settled (Key s))) ≡ k)) at_first right.is.key) (blank high) ∙ sym (blank high)
+
+      field_is : (side : Side) → value h (child n_node side) ≡ (child_of sibling side).0
+      field_is Left = fork_words (Child Left) tt
+      field_is Right = fork_words (Child Right) tt
+
+      fork_copy : HasFreshCopy c.layout c.pass h sibling n_node
+      fork_copy = record {
+        fresh = copied.fresh;
+        copy = record {
+          same_head = fork_words (Settled Head) tt ∙ ap (λ b. piece_head (w / 8) b (w % 4)) (sym fork) ∙ head_back w fits;
+          same_key = fork_words first_key tt ∙ fork_key (ℕ_discrete (class (value h) z_node) 0);
+          same_pairs = λ leaf _. absurd (let y : true ≡ false = sym leaf ∙ fork in cc);
+        };
+        fields = λ _ side. field_is side;
+        unfilled = λ _. fork_words first_value tt;
+      }
+
+    copy : HasFreshCopy c.layout c.pass h sibling n_node
+    copy = go (is_leaf (value h) z_node) refl
+      where
+        go : (b : Bool) → is_leaf (value h) z_node ≡ b → HasFreshCopy c.layout c.pass h sibling n_node
+        go true leaf = leaf_copy leaf
+        go false fork = fork_copy fork
+
+    -- the SCX-record
+    module _ (j : Job) (d : Descriptor) (is : IsUpdateFor take_means ed f snaps ns j.update) (says : Says d j) where
+      is_member : (i : ℕ) → i < 4 → d.member i ≡ (snap_at snaps i).node.0
+      is_member i p = says.member i (rw (is.covers, four.four) p) ∙ ap (λ (xs : List Snap). (snap_at xs i).node.0) is.covers
+
+      is_seen : (i : ℕ) → i < 4 → d.seen i ≡ (snap_at snaps i).scx.0
+      is_seen i p = says.seen i (rw (is.covers, four.four) p) ∙ ap (λ (xs : List Snap). (snap_at xs i).scx.0) is.covers
+
+      -- is one that takes the leaf out, which puts the copy into the place of the parent
+      is_join : IsJoinAt f d (snap_at snaps 1) n_node
+      is_join = record {
+        plan = says.plan ∙ (rw t at is.plan) ∙ plan_four (length snaps) f.trail.grand_side four.four;
+        grand = is_member 0 (omega arith) ∙ four.grand;
+        parent = is_member 1 (omega arith) ∙ four.parent;
+        left = is_member 2 (omega arith) ∙ four.left;
+        right = is_member 3 (omega arith) ∙ four.right;
+        old = says.old ∙ ap (λ (m : NodeNo). m.0) (rw t at is.old) ∙ four.held;
+        new = says.new ∙ is.fresh ∙ top;
+      }
+
+      snap_is : (i : ℕ) → i < 4 → IsSnapOf c.layout h d i (snap_at snaps i)
+      snap_is i p = record { linked = linked_at ed c h f snaps i run p four looked_so; node = sym (is_member i p); scx = sym (is_seen i p) }
+
+      join_is_promised : IsPromised c.layout c.pass h j.scx.0 d (TakeEdit ed.key)
+      join_is_promised = join_promised c h j.scx.0 ed.key present.0 f d (snap_at snaps 1) sibling n_node run x.looked.small x.looked.found present.1 alone is_join (snap_is 1 (omega arith)) four.child (snap_is (sibling_place f.trail.side) (few_places f.trail.side)) copy
+
+  take_is_promised : (j : Job) (d : Descriptor) → IsUpdateFor take_means ed f snaps ns j.update → Says d j → IsPromised c.layout c.pass h j.scx.0 d (TakeEdit ed.key)
+  take_is_promised j d is says = go (has_more f) refl
+    where
+      go : (b : Bool) → has_more f ≡ b → IsPromised c.layout c.pass h j.scx.0 d (TakeEdit ed.key)
+      go true t = leaf_promised t j d is says
+      go false t = join_is_promised t j d is says
+
+-- it looks at something first
+looks_first : (f : Found) → take_looks f [] ≢ Enough
+looks_first f = go (has_more f)
+  where
+    go : (b : Bool) → (if b then leaf_looks f [] else join_looks f []) ≢ Enough
+    go true e = let z : At f.trail.parent ≡ Enough = e in cc
+    go false e = let z : At f.trail.grand ≡ Enough = e in cc
+
+-- its nodes are apart, and what it has filled is promised to delete the key
+pub take_makes : MakesWell take_means
+take_makes = record {
+  some = λ e f. looks_first f;
+  distinct = λ e c h f snaps run n x enough. take_distinct e c h f snaps run n x (has_more f) refl enough;
+  leaf = λ e c h f snaps s run n x enough k later since covers. take_covered e c h f snaps run n x k s later since covers (has_more f) refl enough;
+  promised = λ e c h f snaps ns read j d run n x is says. take_is_promised e c h f snaps ns read run n x j d is says;
+}
+
+-- a delete is an edit that an update can make
+pub take_laws : EditLaws take_means
+take_laws = record { at_found = λ e f. refl; bounds = take_bounds; looks = take_look; fills = take_fills; makes = take_makes }

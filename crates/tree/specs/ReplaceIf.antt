@@ -1,3 +1,0 @@
-pub mod Means
-pub mod Laws
-pub mod Known

@@ -1,0 +1,207 @@
+//! Edits of the map: what a rule makes of what it finds at a goal.
+ghost use Rattle.std.specs.Prelude.{◌≡◌};
+ghost use Rattle.edits.specs.Steps.{update_left};
+
+use crate::put::PutAt;
+use crate::rule::{AtKey, AtLeast, EditGoal, EditRule, PutRule, SwapRule, TakeRule};
+use crate::take::TakeAt;
+use arena::{NodeNo, Share, Side};
+use edits::{Edit, Known, Look, Need, Nodes, Nth, Piece, Reading, UpdateAt, UpdateRun};
+use ordered_map::Goal;
+use prims::Snap;
+use template::Found;
+
+/// An edit: this rule at this goal.
+#[derive(Clone, Copy, Debug, PartialEq, Eq)]
+pub struct KeyEdit<G, R> {
+    pub goal: G,
+    pub rule: R,
+}
+
+/// Puts a value at a key.
+#[inline(always)]
+pub fn insert(key: u64, value: u128) -> KeyEdit<AtKey, PutRule>
+    ensures { result ≡ record { goal = record { 0 = key }; rule = record { 0 = value } } }
+{
+    KeyEdit {
+        goal: AtKey(key),
+        rule: PutRule(value),
+    }
+}
+
+/// Takes a key away.
+#[inline(always)]
+pub fn delete(key: u64) -> KeyEdit<AtKey, TakeRule>
+    ensures { result ≡ record { goal = record { 0 = key }; rule = record {} } }
+{
+    KeyEdit {
+        goal: AtKey(key),
+        rule: TakeRule,
+    }
+}
+
+/// Takes the pair with the least key away, if there is one.
+#[inline(always)]
+pub fn pop_first() -> KeyEdit<AtLeast, TakeRule>
+    ensures { result ≡ record { goal = record {}; rule = record {} } }
+{
+    KeyEdit {
+        goal: AtLeast,
+        rule: TakeRule,
+    }
+}
+
+/// Puts a value at a key that has the expected one, be they the same or not.
+#[inline(always)]
+pub fn replace_if(key: u64, expected: u128, value: u128) -> KeyEdit<AtKey, SwapRule>
+    ensures { result ≡ record { goal = record { 0 = key }; rule = record { expected = expected; value = value } } }
+{
+    KeyEdit {
+        goal: AtKey(key),
+        rule: SwapRule { expected, value },
+    }
+}
+
+/// An edit, step by step.
+pub type KeyEditRun<G, R> = UpdateRun<KeyEdit<G, R>, UpdateAt>;
+
+impl<G: EditGoal, R: EditRule> KeyEdit<G, R> {
+    ghost use Rattle.std.specs.Prelude.{◌≡◌, ℕ, ◌+◌, ◌*◌, ◌-◌, ◌<◌};
+    ghost use Rattle.ordered_map.specs.CallRules.{steps_behind};
+    ghost use Rattle.ordered_map.specs.OrderedMap.{edit_key, leaves, value_left};
+    ghost use Rattle.template.specs.FoundLeaf.{asked_key};
+    ghost use Rattle.tree.specs.KeyEdit.Means.{key_means, putting, taking, wants};
+
+    /// An edit with so many tries, in the caller's call of this number; it takes fresh nodes and
+    /// SCX-records out of the share, at most one SCX-record in a try, and one node, or three where
+    /// its rule puts in what was absent. Where `nodes` are taken when it ends, it makes at most
+    /// `tries * (3 * (2 + nodes) + n)` steps, n being 207 if it leaves a value, and else 328.
+    #[inline(always)]
+    pub fn run(self, share: Share, tries: u32, call: u64) -> KeyEditRun<G, R>
+        ensures start { result.at ≡ UpdateAt.Start }
+        ensures edit { result.edit ≡ self }
+        ensures share { result.share ≡ share }
+        ensures call { result.call ≡ call }
+        ensures tries { result.tries ≡ tries - 1 }
+        ensures limit { result.limit ≡ tries }
+        ensures steps { (nodes : ℕ) → 0 < tries → update_left (key_means G.goal R.rule) result nodes
+            ≡ tries * (3 * (2 + nodes) + steps_behind (leaves (R.rule self.rule))) }
+    {
+        UpdateRun::new(self, share, tries, call, UpdateAt::Start)
+    }
+
+    /// The key at which it is, once the walk has found the leaf.
+    #[inline(always)]
+    fn key(&self, found: &Found) -> u64
+        ensures { result ≡ asked_key (G.goal self.now.goal) found.now.key }
+    {
+        match self.goal.goal() {
+            Goal::Key(key) => key,
+            Goal::Least => found.key,
+        }
+    }
+
+    /// The key that it changes there, and the value that it leaves, if it leaves one.
+    pub fn change(&self, found: &Found) -> (u64, Option<u128>)
+        ensures key { result.0 ≡ edit_key ((key_means G.goal R.rule).edit self.now found.now) }
+        ensures left { result.1 ≡ value_left ((key_means G.goal R.rule).edit self.now found.now) }
+    {
+        (self.key(found), self.rule.leaves())
+    }
+
+    /// Whether it changes anything at that leaf.
+    #[inline(always)]
+    fn wants(&self, found: &Found) -> bool
+        ensures { result ≡ wants (G.goal self.now.goal) (R.rule self.now.rule) found.now.value }
+    {
+        match self.goal.goal() {
+            Goal::Key(_) => self.rule.applies(found.value),
+            Goal::Least => found.value.is_some() && self.rule.applies(found.value),
+        }
+    }
+
+    /// What it does there, where it leaves this value.
+    #[inline(always)]
+    fn put(&self, found: &Found, value: u128) -> PutAt
+        ensures { result ≡ putting (asked_key (G.goal self.now.goal) found.now.key) value }
+    {
+        PutAt {
+            key: self.key(found),
+            value,
+        }
+    }
+
+    /// And where it leaves none.
+    #[inline(always)]
+    fn take(&self, found: &Found) -> TakeAt
+        ensures { result ≡ taking (asked_key (G.goal self.now.goal) found.now.key) }
+    {
+        TakeAt {
+            key: self.key(found),
+        }
+    }
+}
+
+impl<G: EditGoal, R: EditRule> Edit for KeyEdit<G, R> {
+    ghost use Rattle.std.specs.Prelude.{◌≡◌};
+    ghost use Rattle.tree.specs.KeyEdit.Means.{key_means};
+    ghost use Rattle.tree.specs.Laws.KeyEdit.{key_laws};
+
+    ghost means = { key_means G.goal R.rule };
+
+    fn goal(&self) -> Goal {
+        self.goal.goal()
+    }
+
+    #[inline(always)]
+    fn need(&self, found: &Found) -> Need {
+        if !self.wants(found) {
+            return Need::Nothing;
+        }
+        match self.rule.leaves() {
+            Some(value) => self.put(found, value).need(found),
+            None => self.take(found).need(found),
+        }
+    }
+
+    #[inline(always)]
+    fn side(&self, found: &Found) -> Side {
+        match self.rule.leaves() {
+            Some(value) => self.put(found, value).side(found),
+            None => self.take(found).side(found),
+        }
+    }
+
+    #[inline(always)]
+    fn look(&self, found: &Found, snaps: &[Snap]) -> Look {
+        match self.rule.leaves() {
+            Some(value) => self.put(found, value).look(found, snaps),
+            None => self.take(found).look(found, snaps),
+        }
+    }
+
+    #[inline(always)]
+    fn reads(&self, found: &Found, snaps: &[Snap]) -> Option<(NodeNo, Known)> {
+        match self.rule.leaves() {
+            Some(value) => self.put(found, value).reads(found, snaps),
+            None => self.take(found).reads(found, snaps),
+        }
+    }
+
+    #[inline(always)]
+    fn piece(
+        &self,
+        found: &Found,
+        snaps: &[Snap],
+        nodes: &Nodes,
+        read: &Reading,
+        nth: Nth,
+    ) -> Piece {
+        match self.rule.leaves() {
+            Some(value) => self.put(found, value).piece(found, snaps, nodes, read, nth),
+            None => self.take(found).piece(found, snaps, nodes, read, nth),
+        }
+    }
+
+    ghost laws = { key_laws G.goal R.rule };
+}
