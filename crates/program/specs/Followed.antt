@@ -33,7 +33,8 @@ pub record HasFollowed (stream : Stream) (old new : Option (List ℕ)) (p : Play
   pub written : HasWritten stream old new later
 
 -- the lines of p and some more, of which this is so, are those of a lawful run; behind the old bytes
--- stands a beginning of its report, or of that with one turn more of some client
+-- stands a beginning of its report, or of that with one turn more of some client, with which they are a
+-- lawful run too
 pub record HasBrokenOff (old new : Option (List ℕ)) (p : PlayerView) (so : List Line → Type 0) : Type 0 where
   pub later : PlayerView
   pub script : later.script ≡ p.script

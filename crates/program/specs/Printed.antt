@@ -30,7 +30,7 @@ pub record HasPrinted (mode : Mode) (script_text schedule_text : List ℕ) (old 
 
 -- of what the two texts say there was the beginning of a run, whose turns are those that the schedule
 -- means, as far as they go; behind the old bytes stands a beginning of its report, or of that with one
--- turn more of some client, in which it is lawful too
+-- turn more of some client, with which they are a lawful run too
 pub record HasPrintedPart (mode : Mode) (script_text schedule_text : List ℕ) (old new : Option (List ℕ)) : Type 0 where
   pub script : Script
   pub schedule : Schedule

@@ -1,5 +1,5 @@
 //! A schedule that is followed turn by turn, while the report is written.
-ghost use Rattle.std.specs.Prelude.{◌≡◌, ◌≢◌, ◌+◌, ◌-◌, ◌^◌, ◌<◌, ◌≤◌, ◌↔◌, ℕ, List, Option, All, IsErrOf, IsTrue, OnErr, OnOk, is_some, min};
+ghost use Rattle.std.specs.Prelude.{◌≡◌, ◌≢◌, ◌+◌, ◌<◌, ◌≤◌, ◌↔◌, ℕ, List, Option, All, IsTrue, OnErr, OnOk, is_some};
 ghost use Rattle.script.specs.Orders.{IsOrder};
 ghost use Rattle.record.specs.Schedules.{AreOrdered, IsOrdered, ordered_client};
 ghost use Rattle.record.specs.Turns.{is_of};
@@ -9,6 +9,7 @@ ghost use Rattle.record.specs.declared.record.Row.{Row};
 ghost use Rattle.player.specs.Core.{IsNextTurn, StandsAt, passes_of, with_lines};
 ghost use Rattle.player.specs.Lines.{turn_lines};
 ghost use Rattle.player.specs.Player.{IsPlayed, PlayerView};
+ghost use Rattle.report.specs.StreamFaults.{CountsStreamFault};
 ghost use Rattle.report.specs.Streams.{HasWritten};
 ghost use Rattle.program.specs.Followed.{AreFollowedSoFar, HasFollowed, HasBrokenOff, IsFollowedSoFar, MayTurn, counting, wanted_of};
 
@@ -33,9 +34,7 @@ pub(crate) fn follow<W: Write>(
         OnErr result (HasBrokenOff start (W.contents to.new.inner) p (AreFollowedSoFar p.script.calls orders.now p.lines)) }
     ensures not_ended { (start : Option (List ℕ)) (p : PlayerView) → HasWritten stream.old start (W.contents to.old.inner) p →
         result ≢ Err StreamFault.Ended }
-    ensures ok { OnOk result (to.new.failures ≡ to.old.failures) }
-    ensures no_memory { IsErrOf result StreamFault.NoMemory → to.new.failures ≡ to.old.failures }
-    ensures write { IsErrOf result StreamFault.Write → to.new.failures ≡ min (to.old.failures + 1) (2 ^ 64 - 1) }
+    ensures failures { CountsStreamFault result to.old.failures to.new.failures }
 {
     for order in orders {
         obey(stream, *order, to)?;
@@ -53,9 +52,7 @@ fn obey<W: Write>(stream: &mut Stream, order: Order, to: &mut Metered<W>) -> Res
         OnErr result (HasBrokenOff start (W.contents to.new.inner) p (IsFollowedSoFar p.script.calls order p.lines)) }
     ensures not_ended { (start : Option (List ℕ)) (p : PlayerView) → HasWritten stream.old start (W.contents to.old.inner) p →
         result ≢ Err StreamFault.Ended }
-    ensures ok { OnOk result (to.new.failures ≡ to.old.failures) }
-    ensures no_memory { IsErrOf result StreamFault.NoMemory → to.new.failures ≡ to.old.failures }
-    ensures write { IsErrOf result StreamFault.Write → to.new.failures ≡ min (to.old.failures + 1) (2 ^ 64 - 1) }
+    ensures failures { CountsStreamFault result to.old.failures to.new.failures }
 {
     let client = client_of(order);
     let mut left = wanted_by(order);

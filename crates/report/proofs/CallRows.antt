@@ -1,9 +1,7 @@
 -- Rows of calls, and their text, in parts.
-use Rattle.std.proofs.Common.{arith, ◌≡◌, List, [], ◌∷◌, ◌++◌, ℕ, ◌+◌, Option, Some, Result, Ok, Err, IfOk, OnOk, rules, refl, sym, ◌∙◌, ap, append_assoc, append-nil, length, length-append, reverse}
+use Rattle.std.proofs.Common.{arith, ◌≡◌, List, [], ◌∷◌, ◌++◌, ◌+◌, refl, sym, ◌∙◌, ap, append_assoc, append-nil, length, length-append, reverse}
 use Rattle.std.proofs.lemmas.Grind.{reverse_onto}
 use Rattle.std.proofs.lemmas.List.{reverse-append, length-reverse}
-use Rattle.std.proofs.KnownBytes.{Appends-kept}
-use Rattle.std.specs.Io.KnownBytes.{Appends, Keeps}
 use Rattle.script.specs.declared.call.Call.{Call}
 use Rattle.texts.specs.Pages.{line_of, rows_text}
 use Rattle.report.specs.Report.{reported_call_row, call_rows}
@@ -34,21 +32,6 @@ calls_before_more earlier done call = ap (λ calls. calls ++ earlier) (reverse-a
 
 pub calls_before_length : (earlier done : List Call) → length (reverse done ++ earlier) ≡ length done + length earlier
 calls_before_length earlier done = length-append (reverse done) earlier ∙ ap (λ n. n + length earlier) (length-reverse done)
-
--- Texts that are made
-
-pub no_call_text : (earlier : List Call) (page : Option (List ℕ)) → page ≡ Some [] → Appends (Some []) page (rows_text 7 (call_rows earlier []))
-unfolding call_rows rows_text
-no_call_text earlier page empty = rw empty refl
-
--- the text that is handed out is the one that was made
-pub made_text : {Text Fault : Type 0} (bytes : Text → List ℕ) (given : Result Text Fault) (page : Option (List ℕ)) (text : List ℕ) → Appends (Some []) page text → IfOk given (λ t. Keeps page (Some (bytes t))) → IfOk given (λ t. bytes t ≡ text)
-made_text bytes (Ok t) page text all kept = Appends-kept (Some []) page (Some (bytes t)) text all kept
-made_text bytes (Err fault) page text all kept = search rules
-
-pub so_on_ok : {T Fault So : Type 0} (given : Result T Fault) → So → OnOk given So
-so_on_ok (Ok t) so = so
-so_on_ok (Err fault) so = search rules
 
 -- nothing is left of no calls
 pub no_call_rows : (earlier calls : List Call) → length calls ≡ 0 → rows_text 7 (call_rows earlier calls) ≡ []

@@ -1,15 +1,32 @@
 -- The rows of an outcome, as they go out.
-use Rattle.std.proofs.Common.{◌≡◌, ℕ, suc, ◌+◌, ◌<◌, ◌≤◌, arith, ◌-◌, ◌^◌, min, List, [], ◌∷◌, ◌++◌, ◌∙◌, ⊎_elim, Option, Some, None, Vec, ap, append-nil, drop, get_or, length, refl, sym}
+use Rattle.std.proofs.Common.{◌≡◌, ℕ, suc, ◌+◌, ◌<◌, ◌≤◌, arith, ◌-◌, ◌^◌, min, Bool, true, false, List, [], ◌∷◌, ◌++◌, ◌∙◌, ⊎_elim, Vec, ap, append-nil, codes, drop, get_or, length, refl, sym}
 use Rattle.std.specs.Global.{Global}
-use Rattle.std.specs.Io.KnownBytes.{Appends, Keeps}
 use Rattle.std.proofs.lemmas.Bool.Decides.{leb_tells}
 use Rattle.std.proofs.lemmas.List.{drop_all}
 use Rattle.std.proofs.Math.Nat.{min-eq_left, min-eq_right}
 use Rattle.std.proofs.Math.Seq.{drop-cons}
 use Rattle.ordered_map.specs.declared.reply.Reply.{Reply}
-use Rattle.report.specs.Outcome.{client_rows, replies_of_all, reply_row, reply_rows}
-use Rattle.report.proofs.Texts.{appended, row_out, rows_after}
+use Rattle.std.specs.Fmt.{digits}
+use Rattle.report.specs.Outcome.{client_rows, gate_row, outcome_title_row, replies_of_all, reply_row, reply_rows}
+use Rattle.report.proofs.Texts.{rows_after, text_behind, two_rows}
 use Rattle.texts.specs.Pages.{line_of, rows_text}
+use Rattle.texts.proofs.Lemmas.{plain_row}
+
+-- the first two rows
+title_line : line_of 4 outcome_title_row ≡ codes "outcome,1,,\n"
+unfolding digits
+title_line = plain_row (codes "outcome") (codes "1") ([] ∷ [] ∷ []) (refl, (refl, (refl, (refl, tt))))
+
+pub missed_line : line_of 4 (gate_row true) ≡ codes "gate,missed,,\n"
+missed_line = plain_row (codes "gate") (codes "missed") ([] ∷ [] ∷ []) (refl, (refl, (refl, (refl, tt))))
+
+pub met_line : line_of 4 (gate_row false) ≡ codes "gate,met,,\n"
+met_line = plain_row (codes "gate") (codes "met") ([] ∷ [] ∷ []) (refl, (refl, (refl, (refl, tt))))
+
+pub opened : (missed : Bool) (gate start mid new : List ℕ) → line_of 4 (gate_row missed) ≡ gate → mid ≡ start ++ codes "outcome,1,,\n" → new ≡ mid ++ gate → new ≡ start ++ rows_text 4 (outcome_title_row ∷ gate_row missed ∷ [])
+opened missed gate start mid new is first next =
+    text_behind start (line_of 4 outcome_title_row) (line_of 4 (gate_row missed)) mid new (next ∙ ap (λ text. mid ++ text) (sym is)) (first ∙ ap (λ text. start ++ text) (sym title_line))
+    ∙ ap (λ text. start ++ text) (sym (two_rows 4 outcome_title_row (gate_row missed)))
 
 -- the replies of a client in two pieces
 pub reply_rows_after : (client call : ℕ) (some more : List (Reply ℕ ℕ)) → reply_rows client call (some ++ more) ≡ reply_rows client call some ++ reply_rows client (call + length some) more
@@ -29,36 +46,11 @@ unfolding reply_rows rows_text
 no_replies client call [] e = refl
 no_replies client call (reply ∷ replies) e = absurd (omega (arith, e))
 
--- what a page has while the replies of a client, from its call `first` on, go out one by one: k of
--- them have gone
-pub record AreMidway (client first : ℕ) (replies : List (Reply ℕ ℕ)) (k : ℕ) (text : Option (List ℕ)) : Type 0 where
-  pub so_far : List ℕ
-  pub is : text ≡ Some so_far
-  pub whole_is : so_far ++ rows_text 4 (reply_rows client (first + k) (drop k replies)) ≡ rows_text 4 (reply_rows client first replies)
-
-pub none_out : (client first : ℕ) (replies : List (Reply ℕ ℕ)) (text : Option (List ℕ)) → text ≡ Some [] → AreMidway client first replies 0 text
-none_out client first replies text e = record { so_far = []; is = e; whole_is = let same : first + 0 ≡ first = omega arith in ap (λ n. rows_text 4 (reply_rows client n replies)) same }
-
--- the next goes out
-pub next_out : (client first : ℕ) (replies : List (Reply ℕ ℕ)) (k : ℕ) (d : Reply ℕ ℕ) (old new : Option (List ℕ)) → k < length replies → Appends old new (line_of 4 (reply_row client (first + k) (get_or replies k d))) → AreMidway client first replies k old → AreMidway client first replies (k + 1) new
-unfolding reply_rows
-next_out client first replies k d old new within more x =
-    let next : k + 1 ≡ suc k = omega arith in
-    let number : first + (k + 1) ≡ suc (first + k) = omega arith in
-    record {
-      so_far = x.so_far ++ line_of 4 (reply_row client (first + k) (get_or replies k d));
-      is = appended old new x.so_far _ x.is more;
-      whole_is = rw (number, next) (row_out 4 x.so_far (reply_row client (first + k) (get_or replies k d)) (reply_rows client (suc (first + k)) (drop (suc k) replies)) _ (rw (drop-cons replies k d within) at x.whole_is));
-    }
-
--- all have gone out
-pub replies_out : (client first : ℕ) (replies : List (Reply ℕ ℕ)) (k : ℕ) (text : Option (List ℕ)) (out : List ℕ) → length replies ≤ k → AreMidway client first replies k text → Keeps text (Some out) → out ≡ rows_text 4 (reply_rows client first replies)
-unfolding rows_text reply_rows
-replies_out client first replies k None out past x keeps = let e = x.is in cc
-replies_out client first replies k (Some text) out past x keeps = keeps ∙ text_is ∙ sym (append-nil x.so_far) ∙ (rw (drop_all k replies past) at x.whole_is)
-  where
-    text_is : text ≡ x.so_far
-    text_is = let e = x.is in cc
+-- with one reply more
+pub reply_text_more : (client first : ℕ) (done : List (Reply ℕ ℕ)) (reply : Reply ℕ ℕ) → rows_text 4 (reply_rows client first (done ++ reply ∷ [])) ≡ rows_text 4 (reply_rows client first done) ++ line_of 4 (reply_row client (first + length done) reply)
+unfolding reply_rows rows_text
+reply_text_more client first done reply =
+    reply_text_after client first (done ++ reply ∷ []) done (reply ∷ []) refl ∙ ap (λ text. rows_text 4 (reply_rows client first done) ++ text) (append-nil (line_of 4 (reply_row client (first + length done) reply)))
 
 -- the replies of the next client, and those of the others
 pub client_text_next : (client k : ℕ) (all : List (Vec (Reply ℕ ℕ) Global)) (d : Vec (Reply ℕ ℕ) Global) → k < length all → rows_text 4 (client_rows client (drop k all)) ≡ rows_text 4 (reply_rows client 0 (get_or all k d).items) ++ rows_text 4 (client_rows (suc client) (drop (suc k) all))

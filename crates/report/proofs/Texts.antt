@@ -1,59 +1,19 @@
 -- How known bytes grow line by line.
-use Rattle.std.proofs.Common.{◌≡◌, ℕ, suc, ◌+◌, ◌<◌, ◌≤◌, arith, IfErr, IsErrAnd, IfNone, IfOk, OnErr, OnOk, Result, Ok, Err, List, [], ◌∷◌, ◌++◌, ◌∙◌, ap, append_assoc, append-nil, drop, get_or, length, map, subst, sym, take, Option, Some, None, refl}
-use Rattle.std.proofs.lemmas.List.{drop_all, length-append, map-append, take-append-le}
-use Rattle.std.proofs.Math.Seq.{drop-cons, take-append-add, take-append_seam}
-use Rattle.std.specs.Io.KnownBytes.{Appends, Keeps}
+use Rattle.std.proofs.Common.{◌≡◌, ℕ, ◌+◌, arith, IfErr, IsErrAnd, IfNone, IfOk, OnErr, OnOk, Result, Ok, Err, List, [], ◌∷◌, ◌++◌, ◌∙◌, ap, append_assoc, append-nil, length, map, subst, sym, take, Option, Some, None, refl}
+use Rattle.std.proofs.lemmas.List.{length-append, map-append, take-append-le}
+use Rattle.std.proofs.Math.Seq.{take-append-add, take-append_seam}
+use Rattle.std.specs.Io.KnownBytes.{Appends}
 use Rattle.std.proofs.KnownBytes.{Appends-trans}
 use Rattle.texts.specs.Pages.{BeginsWith, line_of, rows_text}
 use Rattle.texts.specs.Texts.{IfBad}
 use Rattle.texts.specs.declared.fault.TextFault.{TextFault}
 use Rattle.texts.specs.declared.fault.TextFault.TheVariants.{NoMemory, Read, Bad}
 
--- known bytes are known when more come behind them
-pub appended : (old new : Option (List ℕ)) (known more : List ℕ) → old ≡ Some known → Appends old new more → new ≡ Some (known ++ more)
-appended None new known more e a = cc
-appended (Some old) None known more e a = absurd a
-appended (Some old) (Some new) known more e a = ap (λ bytes. Some bytes) (a ∙ ap (λ bytes. bytes ++ more) known_is)
-  where
-    known_is : old ≡ known
-    known_is = cc
-
--- the first of the rows that are left goes out
-pub row_out : (width : ℕ) (so_far : List ℕ) (row : List (List ℕ)) (rows : List (List (List ℕ))) (whole : List ℕ) → so_far ++ rows_text width (row ∷ rows) ≡ whole → (so_far ++ line_of width row) ++ rows_text width rows ≡ whole
-unfolding rows_text
-row_out width so_far row rows whole e = append_assoc so_far (line_of width row) (rows_text width rows) ∙ e
-
 -- rows after rows
 pub rows_after : (width : ℕ) (rows more : List (List (List ℕ))) → rows_text width (rows ++ more) ≡ rows_text width rows ++ rows_text width more
 unfolding rows_text
 rows_after width [] more = refl
 rows_after width (row ∷ rows) more = ap (λ text. line_of width row ++ text) (rows_after width rows more) ∙ sym (append_assoc (line_of width row) (rows_text width rows) (rows_text width more))
-
--- what a page has while the rows of some things go out one by one: those that are left make the
--- text whole
-pub record IsMidway {A : Type 0} (width : ℕ) (row_of : A → List (List ℕ)) (left : List A) (text : Option (List ℕ)) (whole : List ℕ) : Type 0 where
-  pub so_far : List ℕ
-  pub is : text ≡ Some so_far
-  pub whole_is : so_far ++ rows_text width (map row_of left) ≡ whole
-
--- the row of the next thing goes out
-pub one_out : {A : Type 0} (width : ℕ) (row_of : A → List (List ℕ)) (things : List A) (k : ℕ) (d : A) (old new : Option (List ℕ)) (whole : List ℕ) → k < length things → Appends old new (line_of width (row_of (get_or things k d))) → IsMidway width row_of (drop k things) old whole → IsMidway width row_of (drop (k + 1) things) new whole
-one_out width row_of things k d old new whole within more x =
-    let next : k + 1 ≡ suc k = omega arith in
-    rw next (record {
-      so_far = x.so_far ++ line_of width (row_of (get_or things k d));
-      is = appended old new x.so_far _ x.is more;
-      whole_is = row_out width x.so_far (row_of (get_or things k d)) (map row_of (drop (suc k) things)) whole (rw (drop-cons things k d within) at x.whole_is);
-    })
-
--- all have gone out
-pub all_out : {A : Type 0} (width : ℕ) (row_of : A → List (List ℕ)) (things : List A) (k : ℕ) (text : Option (List ℕ)) (out whole : List ℕ) → length things ≤ k → IsMidway width row_of (drop k things) text whole → Keeps text (Some out) → out ≡ whole
-unfolding rows_text
-all_out width row_of things k None out whole past x keeps = let e = x.is in cc
-all_out width row_of things k (Some text) out whole past x keeps = keeps ∙ text_is ∙ sym (append-nil x.so_far) ∙ (rw (drop_all k things past) at x.whole_is)
-  where
-    text_is : text ≡ x.so_far
-    text_is = let e = x.is in cc
 
 -- what a value says, and what follows from that
 pub if_ok : {T E : Type 0} {P Q : T → Type 0} (r : Result T E) → ((t : T) → P t → Q t) → IfOk r P → IfOk r Q
@@ -142,3 +102,16 @@ pub rows_more : {A : Type 0} (width : ℕ) (row_of : A → List (List ℕ)) (thi
 unfolding rows_text
 rows_more width row_of things thing =
     rows_split width row_of (things ++ thing ∷ []) things (thing ∷ []) refl ∙ ap (λ text. rows_text width (map row_of things) ++ text) (append-nil (line_of width (row_of thing)))
+
+-- one row, and two
+pub one_row : (width : ℕ) (row : List (List ℕ)) → rows_text width (row ∷ []) ≡ line_of width row
+unfolding rows_text
+one_row width row = append-nil (line_of width row)
+
+pub two_rows : (width : ℕ) (row next : List (List ℕ)) → rows_text width (row ∷ next ∷ []) ≡ line_of width row ++ line_of width next
+unfolding rows_text
+two_rows width row next = ap (λ text. line_of width row ++ text) (append-nil (line_of width next))
+
+-- a text behind another that stands behind the start
+pub text_behind : (start text more mid new : List ℕ) → new ≡ mid ++ more → mid ≡ start ++ text → new ≡ start ++ (text ++ more)
+text_behind start text more mid new put before = put ∙ ap (λ t. t ++ more) before ∙ append_assoc start text more

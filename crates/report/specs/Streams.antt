@@ -29,8 +29,8 @@ pub record HasWritten (stream : Stream) (old new : Option (List ℕ)) (p : Playe
   pub totals : AreTotals stream.totals (reverse p.lines)
   pub text : Appends old new (text_so_far p)
 
--- behind the old bytes stands a beginning of the report so far, with one turn more of client i, which
--- is a lawful run with that turn too
+-- behind the old bytes stands a beginning of the report of these turns and one more of client i; with
+-- that turn they are a lawful run
 pub record IsCutAt (old new : Option (List ℕ)) (p : PlayerView) (i : ℕ) : Type 0 where
   pub more : List Line
   pub turn : IsNextTurn p i more

@@ -1,16 +1,16 @@
 //! Answers as text.
-ghost use Rattle.std.specs.Prelude.{◌≡◌, ◌≢◌, ◌≤◌, ◌++◌, IfNone, IfOk, IfSome, OnOk, codes, decimal, length, string_bytes};
+ghost use Rattle.std.specs.Prelude.{◌≡◌, ◌≢◌, ◌++◌, IfNone, IfOk, IfSome, OnOk, codes, string_bytes};
 ghost use Rattle.record.specs.declared.record.Answer.{Answer as AnswerOf};
 ghost use Rattle.report.specs.Answers.{answer_text};
 ghost use Rattle.report.specs.Spellings.{HasNoSpace, IsSpelledAnswer, IsTellingAnswer, TellsPairs};
-ghost use Rattle.texts.specs.Sheets.{IsPlain, sheet_room, sheet_text};
+ghost use Rattle.texts.specs.Sheets.{IsPlain, sheet_text};
 
 use crate::name::{blame_of, node_of};
 use crate::reply::{
-    both_of, first_word_of, full_text, pairs_of, put_full, put_reply, reply_text, telling_reply_of,
+    both_of, first_word_of, pairs_of, put_blame, put_full, put_reply, telling_reply_of,
 };
 use crate::version::Version;
-use arena::{Full, NodeNo, ScxNo};
+use arena::{Full, NodeNo};
 use ordered_map::Reply;
 use record::Answer;
 use std::alloc::{AllocError, Global};
@@ -48,39 +48,13 @@ pub fn put_answer(sheet: &mut Sheet, answer: &Answer) -> Result<(), AllocError>
     Ok(())
 }
 
-/// Puts a name, a node and the SCX-record that was in the way there.
-fn put_blame(sheet: &mut Sheet, name: &str, node: NodeNo, scx: ScxNo)
-    requires room { 64 ≤ sheet_room sheet.old }
-    requires short { length name.now ≤ 22 }
-    requires plain { IsPlain name.now }
-    ensures text { sheet_text sheet.new ≡ sheet_text sheet.old ++ (name.now ++ (decimal node.0 ++ (codes " s" ++ decimal scx.0))) }
-    ensures plain { IsPlain (name.now ++ (decimal node.0 ++ (codes " s" ++ decimal scx.0))) }
-{
-    sheet.put(name);
-    sheet.number(node.0);
-    sheet.put(" s");
-    sheet.number(scx.0);
-}
-
 /// The text of an answer: its name, and what it tells.
 pub fn answer_text(alloc: Global, answer: &Answer) -> Result<String, AllocError>
     ensures { IfOk result (λ text. string_bytes text ≡ answer_text answer.now) }
 {
-    match answer {
-        Answer::Snapshot { left, right } => format!(in alloc; "snap {} {}", left.0, right.0),
-        Answer::Finalized => format!(in alloc; "finalized"),
-        Answer::Fail { node, scx } => format!(in alloc; "fail n{} s{}", node.0, scx.0),
-        Answer::Done => format!(in alloc; "done"),
-        Answer::Lost { node, scx } => format!(in alloc; "lost n{} s{}", node.0, scx.0),
-        Answer::Same => format!(in alloc; "same"),
-        Answer::Changed { node, scx } => format!(in alloc; "changed n{} s{}", node.0, scx.0),
-        Answer::Unlinked { node } => format!(in alloc; "unlinked n{}", node.0),
-        Answer::Full { what, left } => {
-            let (what, left) = (*what, *left);
-            full_text(alloc, &Full { what, left })
-        }
-        Answer::Map(reply) => reply_text(alloc, reply),
-    }
+    let mut sheet = Sheet::new(alloc);
+    put_answer(&mut sheet, answer)?;
+    String::from_str(alloc, sheet.as_str())
 }
 
 /// An answer that a text spells: where two do, that of the map, and of these the one that tells of

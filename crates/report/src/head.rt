@@ -1,67 +1,67 @@
 //! The first rows of a report and its last one.
-ghost use Rattle.std.specs.Prelude.{◌≡◌, [], ◌∷◌, IfOk, OnOk};
-ghost use Rattle.std.specs.Io.KnownBytes.{Appends};
+ghost use Rattle.std.specs.Prelude.{◌≡◌, ◌≤◌, [], ◌∷◌, ◌++◌, OnOk};
 ghost use Rattle.script.specs.Rows.{limits_row};
 ghost use Rattle.report.specs.Report.{counts_row, title_row};
-ghost use Rattle.texts.specs.Pages.{IsReady, line_of, page_row, page_text, rows_text};
+ghost use Rattle.texts.specs.Pages.{line_of, rows_text};
+ghost use Rattle.texts.specs.Sheets.{sheet_room, sheet_text};
 
-use crate::numbers::numbers_line;
-use crate::rows::Page;
+use crate::numbers::put_field;
 use crate::totals::Totals;
 use crate::version::Version;
 use arena::{Limits, Mode};
 use script::Script;
-use std::alloc::{AllocError, Global};
+use std::alloc::AllocError;
+use texts::Sheet;
 
-/// The two lines that say what was run and how large it was.
-pub fn head_text(alloc: Global, script: &Script) -> Result<Vec<u8>, AllocError>
-    ensures { IfOk result (λ text. text.items ≡ rows_text 7 (title_row script.now.layout.mode ∷ limits_row script.now.limits ∷ [])) }
+/// How long one of these rows is at most.
+const LONGEST: usize = 96;
+
+/// Puts the two rows that say what was run and how large it was.
+pub fn put_head(sheet: &mut Sheet, script: &Script) -> Result<(), AllocError>
+    ensures { OnOk result (sheet_text sheet.new ≡ sheet_text sheet.old
+        ++ rows_text 7 (title_row script.now.layout.mode ∷ limits_row script.now.limits ∷ [])) }
 {
-    let mut page = Page::new(alloc);
-    title_line(&mut page, script.layout.mode)?;
-    limits_line(&mut page, &script.limits)?;
-    page.into_text()
+    sheet.make_room(LONGEST)?;
+    put_title(sheet, script.layout.mode);
+    sheet.make_room(LONGEST)?;
+    put_limits(sheet, &script.limits);
+    Ok(())
 }
 
-fn title_line(page: &mut Page, mode: Mode) -> Result<(), AllocError>
-    requires ready { IsReady page.old }
-    requires row { page_row page.old ≡ [] }
-    ensures ready { OnOk result (IsReady page.new) }
-    ensures row { OnOk result (page_row page.new ≡ []) }
-    ensures text { OnOk result (Appends (page_text page.old) (page_text page.new) (line_of 7 (title_row mode))) }
+fn put_title(sheet: &mut Sheet, mode: Mode)
+    requires { 96 ≤ sheet_room sheet.old }
+    ensures { sheet_text sheet.new ≡ sheet_text sheet.old ++ line_of 7 (title_row mode) }
 {
-    let name = match mode {
-        Mode::Tree => "tree",
-        Mode::Records => "records",
-    };
-    page.text("report")?;
-    page.text(Version::Two.name())?;
-    page.text(name)?;
-    page.end_line()
+    sheet.put("report,");
+    sheet.put(Version::Two.name());
+    match mode {
+        Mode::Tree => sheet.put(",tree,,,,\n"),
+        Mode::Records => sheet.put(",records,,,,\n"),
+    }
 }
 
-fn limits_line(page: &mut Page, limits: &Limits) -> Result<(), AllocError>
-    requires ready { IsReady page.old }
-    requires row { page_row page.old ≡ [] }
-    ensures ready { OnOk result (IsReady page.new) }
-    ensures row { OnOk result (page_row page.new ≡ []) }
-    ensures text { OnOk result (Appends (page_text page.old) (page_text page.new) (line_of 7 (limits_row limits.now))) }
+fn put_limits(sheet: &mut Sheet, limits: &Limits)
+    requires { 96 ≤ sheet_room sheet.old }
+    ensures { sheet_text sheet.new ≡ sheet_text sheet.old ++ line_of 7 (limits_row limits.now) }
 {
-    let numbers = [
-        u64::from(limits.passes),
-        u64::from(limits.nodes),
-        u64::from(limits.scx),
-        u64::from(limits.tries),
-    ];
-    numbers_line(page, "limits", &numbers)
+    sheet.put("limits,");
+    put_field(sheet, u64::from(limits.passes));
+    put_field(sheet, u64::from(limits.nodes));
+    put_field(sheet, u64::from(limits.scx));
+    sheet.number(u64::from(limits.tries));
+    sheet.put(",,\n");
 }
 
-/// The line that counts the others by their kind.
-pub fn end_text(alloc: Global, totals: Totals) -> Result<Vec<u8>, AllocError>
-    ensures { IfOk result (λ text. text.items ≡ rows_text 7 (counts_row totals.steps totals.replies totals.entries ∷ [])) }
+/// Puts the row that counts the others by their kind.
+pub fn put_end(sheet: &mut Sheet, totals: Totals) -> Result<(), AllocError>
+    ensures { OnOk result (sheet_text sheet.new ≡ sheet_text sheet.old
+        ++ rows_text 7 (counts_row totals.steps totals.replies totals.entries ∷ [])) }
 {
-    let mut page: Page = Page::new(alloc);
-    let counts = [totals.steps, totals.replies, totals.entries];
-    numbers_line(&mut page, "end", &counts)?;
-    page.into_text()
+    sheet.make_room(LONGEST)?;
+    sheet.put("end,");
+    put_field(sheet, totals.steps);
+    put_field(sheet, totals.replies);
+    sheet.number(totals.entries);
+    sheet.put(",,,\n");
+    Ok(())
 }

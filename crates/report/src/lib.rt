@@ -28,7 +28,6 @@ pub use answer::answer_text;
 pub use fault::ReportFault;
 pub use outcome::write_outcome;
 pub use read::read_record;
-pub use reply::reply_text;
 pub use stream::{Stream, StreamFault};
 pub use texts::WriteFault;
 pub use word::word_text;

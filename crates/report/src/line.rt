@@ -1,5 +1,5 @@
 //! Steps, log entries and replies as rows.
-ghost use Rattle.std.specs.Prelude.{◌≡◌, ◌≤◌, ◌+◌, ◌++◌, OnOk, codes, decimal, map};
+ghost use Rattle.std.specs.Prelude.{◌≡◌, ◌≤◌, ◌++◌, OnOk, codes, map};
 ghost use Rattle.record.specs.declared.record.Line.TheVariants.{Step as StepLine, Log, Reply as ReplyLine};
 ghost use Rattle.record.specs.declared.record.Row.TheVariants.{Step as Made, Idle};
 ghost use Rattle.report.specs.Report.{line_row, moment_text};
@@ -7,6 +7,7 @@ ghost use Rattle.texts.specs.Pages.{line_of, rows_text};
 ghost use Rattle.texts.specs.Sheets.{IsPlain, sheet_room, sheet_text};
 
 use crate::answer::put_answer;
+use crate::numbers::put_field;
 use crate::word::put_word;
 use arena::PassNo;
 use record::{Entry, Finished, Line, Row};
@@ -109,16 +110,4 @@ fn put_moment(sheet: &mut Sheet, moment: Option<u64>)
         Some(turn) => put_field(sheet, turn),
         None => sheet.put(","),
     }
-}
-
-/// Puts the digits of a number and a comma: at most 21 bytes.
-#[inline]
-fn put_field(sheet: &mut Sheet, n: u64)
-    requires { 21 ≤ sheet_room sheet.old }
-    ensures text { sheet_text sheet.new ≡ (sheet_text sheet.old ++ decimal n) ++ codes "," }
-    ensures room { sheet_room sheet.old ≤ sheet_room sheet.new + 21 }
-    ensures plain { IsPlain (decimal n) }
-{
-    sheet.number(n);
-    sheet.put(",");
 }

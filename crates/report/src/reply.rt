@@ -1,5 +1,5 @@
 //! Replies of the map as text.
-ghost use Rattle.std.specs.Prelude.{◌≡◌, ◌≢◌, ◌≤◌, ◌<◌, ◌^◌, ◌++◌, ℕ, List, All, IfNone, IfOk, IfSome, MatchOption, OnOk, codes, decimal, string_bytes};
+ghost use Rattle.std.specs.Prelude.{◌≡◌, ◌≢◌, ◌≤◌, ◌<◌, ◌^◌, ◌++◌, ℕ, List, All, IfNone, IfOk, IfSome, MatchOption, OnOk, codes, decimal, length};
 ghost use Rattle.arena.specs.declared.fault.Resource.{Resource as ResourceOf};
 ghost use Rattle.ordered_map.specs.declared.reply.Reply.{Reply as ReplyOf};
 ghost use Rattle.report.specs.Answers.{both_text, full_text, reply_text, spaced_pairs, rest_text};
@@ -8,7 +8,7 @@ ghost use Rattle.texts.specs.Sheets.{IsPlain, sheet_room, sheet_text};
 
 use crate::name::blame_of;
 use crate::version::Version;
-use arena::{Full, Resource};
+use arena::{Full, NodeNo, Resource, ScxNo};
 use ordered_map::Reply;
 use std::alloc::{AllocError, Global};
 use texts::{Sheet, number_of, small_number_of};
@@ -32,16 +32,25 @@ pub fn put_reply(sheet: &mut Sheet, reply: &Reply<u64, u128>) -> Result<(), Allo
         }
         Reply::Value(None) | Reply::Pair(None) => sheet.put("none"),
         Reply::Pairs(pairs) => put_pairs(sheet, pairs.as_slice())?,
-        Reply::Contended { node, scx } => {
-            sheet.put("contended n");
-            sheet.number(node.0);
-            sheet.put(" s");
-            sheet.number(scx.0);
-        }
+        Reply::Contended { node, scx } => put_blame(sheet, "contended n", *node, *scx),
         Reply::Full(full) => put_full(sheet, full),
         Reply::NoMemory => sheet.put("no memory"),
     }
     Ok(())
+}
+
+/// Puts a name, a node and the SCX-record that was in the way there.
+pub(crate) fn put_blame(sheet: &mut Sheet, name: &str, node: NodeNo, scx: ScxNo)
+    requires room { 64 ≤ sheet_room sheet.old }
+    requires short { length name.now ≤ 22 }
+    requires plain { IsPlain name.now }
+    ensures text { sheet_text sheet.new ≡ sheet_text sheet.old ++ (name.now ++ (decimal node.0 ++ (codes " s" ++ decimal scx.0))) }
+    ensures plain { IsPlain (name.now ++ (decimal node.0 ++ (codes " s" ++ decimal scx.0))) }
+{
+    sheet.put(name);
+    sheet.number(node.0);
+    sheet.put(" s");
+    sheet.number(scx.0);
 }
 
 /// Puts the text of what a share has run out of: at most 31 bytes.
@@ -82,43 +91,6 @@ fn put_pair(sheet: &mut Sheet, key: u64, value: u128) -> Result<(), AllocError>
     sheet.put(" ");
     sheet.wide_number(value);
     Ok(())
-}
-
-/// The text of a reply: its name, and what it tells.
-pub fn reply_text(alloc: Global, reply: &Reply<u64, u128>) -> Result<String, AllocError>
-    ensures { IfOk result (λ text. string_bytes text ≡ reply_text reply.now) }
-{
-    match reply {
-        Reply::Value(Some(value)) => format!(in alloc; "some {value}"),
-        Reply::Pair(Some((key, value))) => format!(in alloc; "pair {key} {value}"),
-        Reply::Value(None) | Reply::Pair(None) => format!(in alloc; "none"),
-        Reply::Pairs(pairs) => pairs_text(alloc, pairs.as_slice()),
-        Reply::Contended { node, scx } => format!(in alloc; "contended n{} s{}", node.0, scx.0),
-        Reply::Full(full) => full_text(alloc, full),
-        Reply::NoMemory => format!(in alloc; "no memory"),
-    }
-}
-
-/// The text of what a share has run out of.
-pub(crate) fn full_text(alloc: Global, full: &Full) -> Result<String, AllocError>
-    ensures { IfOk result (λ text. string_bytes text ≡ full_text full.now.what full.now.left) }
-{
-    match full.what {
-        Resource::Nodes => format!(in alloc; "full nodes {}", full.left),
-        Resource::Scx => format!(in alloc; "full scx {}", full.left),
-    }
-}
-
-/// The text of a reply of many pairs: each is its key and its value.
-fn pairs_text(alloc: Global, pairs: &[(u64, u128)]) -> Result<String, AllocError>
-    ensures { IfOk result (λ text. string_bytes text ≡ codes "pairs" ++ spaced_pairs pairs.now) }
-{
-    let mut text = format!(in alloc; "pairs")?;
-    for (key, value) in pairs {
-        let more = format!(in alloc; " {key} {value}")?;
-        text.push_str(more.as_str())?;
-    }
-    Ok(text)
 }
 
 /// The pairs that are told behind the name of their reply.

@@ -15,9 +15,6 @@ use texts::Rows;
 /// How many fields a row of a report has.
 const WIDTH: usize = 7;
 
-/// Lines of a report on their way out.
-pub(crate) type Page = texts::Page<WIDTH>;
-
 /// Goes on to the next row, or to the place behind the last row, where it answers false.
 pub fn advance<R: Read + Drop>(rows: &mut Rows<R>) -> Result<bool, RowFault>
     ensures number { rows.new.number ≡ min (rows.old.number + 1) (2 ^ 64 - 1) }

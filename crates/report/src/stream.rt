@@ -8,10 +8,10 @@ ghost use Rattle.script.specs.declared.script.Script.{Script};
 ghost use Rattle.player.specs.Core.{IsNextTurn, StandsAt, passes_of, turns_made, with_lines};
 ghost use Rattle.player.specs.Player.{IsPlayed, PlayerView, script_view};
 ghost use Rattle.report.specs.Report.{report_text};
-ghost use Rattle.report.specs.StreamFaults.{stream_fault_of};
+ghost use Rattle.report.specs.StreamFaults.{CountsStreamFault, stream_fault_of};
 ghost use Rattle.report.specs.declared.stream.StreamFault.TheVariants as fault;
 
-use crate::head::{end_text, head_text};
+use crate::head::{put_end, put_head};
 use crate::line::put_lines;
 use crate::totals::Totals;
 use crate::write::write_calls;
@@ -95,19 +95,19 @@ impl Stream {
             record { script = script_view script.now; lines = [] }) }
         ensures beginning { OnErr result (BeginsWith (W.contents to.old.inner) (W.contents to.new.inner)
             (text_so_far record { script = script_view script.now; lines = [] })) }
-        ensures ok { OnOk result (to.new.failures ≡ to.old.failures) }
-        ensures no_memory { IsErrOf result StreamFault.NoMemory → to.new.failures ≡ to.old.failures }
-        ensures write { IsErrOf result StreamFault.Write → to.new.failures ≡ min (to.old.failures + 1) (2 ^ 64 - 1) }
+        ensures failures { CountsStreamFault result to.old.failures to.new.failures }
         ensures not_ended { result ≢ Err StreamFault.Ended }
     {
         let core = Core::new(alloc, script)?;
-        send(head_text(alloc, script)?.as_slice(), to)?;
-        write_calls(alloc, script.calls.as_slice(), to)?;
+        let mut sheet = Sheet::new(alloc);
+        put_head(&mut sheet, script)?;
+        send(sheet.text(), to)?;
+        write_calls(alloc, &mut sheet, script.calls.as_slice(), to)?;
         flush(to)?;
         Ok(Stream {
             core,
             alloc,
-            sheet: Sheet::new(alloc),
+            sheet,
             lines: Lines::new(),
             totals: Totals::none(),
             ended: false,
@@ -139,9 +139,7 @@ impl Stream {
         ensures lawful { (p : PlayerView) → StandsAt self.new.core p → IsPlayed p }
         ensures passes { passes_of self.new.core ≡ passes_of self.old.core }
         ensures counted { OnOk result (turns_made self.new.core ≡ suc (turns_made self.old.core)) }
-        ensures ok { OnOk result (to.new.failures ≡ to.old.failures) }
-        ensures no_memory { IsErrOf result StreamFault.NoMemory → to.new.failures ≡ to.old.failures }
-        ensures write { IsErrOf result StreamFault.Write → to.new.failures ≡ min (to.old.failures + 1) (2 ^ 64 - 1) }
+        ensures failures { CountsStreamFault result to.old.failures to.new.failures }
     {
         if self.ended {
             return Err(StreamFault::Ended);
@@ -166,40 +164,6 @@ impl Stream {
         self.lines.as_slice()
     }
 
-    /// The same, with the lines answered.
-    pub fn step<W: Write>(
-        &mut self,
-        client: PassNo,
-        to: &mut Metered<W>,
-    ) -> Result<Lines, StreamFault>
-        requires client { client.0 < passes_of self.old.core }
-        requires steps { turns_made self.old.core < 2 ^ 64 - 1 }
-        ensures turn { IfOk result (λ more. (p : PlayerView) → StandsAt self.old.core p → IsNextTurn p client.0 more.items) }
-        ensures written { (start : Option (List ℕ)) (p : PlayerView) → HasWritten self.old start (W.contents to.old.inner) p →
-            IfOk result (λ more. HasWritten self.new start (W.contents to.new.inner) (with_lines p more.items)) }
-
-        // A fault before the turn leaves all as it was.
-        ensures refused { (start : Option (List ℕ)) (p : PlayerView) → HasWritten self.old start (W.contents to.old.inner) p →
-            OnErr result (self.new.ended ≡ false → HasWritten self.new start (W.contents to.new.inner) p × to.new ≡ to.old) }
-
-        // One behind it ends the stream.
-        ensures cut { (start : Option (List ℕ)) (p : PlayerView) → HasWritten self.old start (W.contents to.old.inner) p →
-            OnErr result (IsTrue self.new.ended → IsCutAt start (W.contents to.new.inner) p client.0) }
-        ensures failed { IsErrOf result StreamFault.Write → IsTrue self.new.ended }
-        ensures over { IsTrue self.old.ended → (result ≡ Err StreamFault.Ended) × (self.new ≡ self.old) × (to.new ≡ to.old) }
-        ensures why { result ≡ Err StreamFault.Ended → IsTrue self.old.ended }
-
-        ensures lawful { (p : PlayerView) → StandsAt self.new.core p → IsPlayed p }
-        ensures passes { passes_of self.new.core ≡ passes_of self.old.core }
-        ensures counted { OnOk result (turns_made self.new.core ≡ suc (turns_made self.old.core)) }
-        ensures ok { OnOk result (to.new.failures ≡ to.old.failures) }
-        ensures no_memory { IsErrOf result StreamFault.NoMemory → to.new.failures ≡ to.old.failures }
-        ensures write { IsErrOf result StreamFault.Write → to.new.failures ≡ min (to.old.failures + 1) (2 ^ 64 - 1) }
-    {
-        self.turn(client, to)?;
-        Ok(self.lines.take())
-    }
-
     /// Writes the last row, which counts the others. After a fault what went out is a beginning of
     /// the report.
     pub fn end<W: Write>(self, to: &mut Metered<W>) -> Result<(), StreamFault>
@@ -211,16 +175,16 @@ impl Stream {
             OnErr result (BeginsWith start (W.contents to.new.inner) (report_text script (reverse p.lines))) }
         ensures over { IsTrue self.ended → (result ≡ Err StreamFault.Ended) × (to.new ≡ to.old) }
         ensures why { result ≡ Err StreamFault.Ended → IsTrue self.ended }
-        ensures ok { OnOk result (to.new.failures ≡ to.old.failures) }
-        ensures no_memory { IsErrOf result StreamFault.NoMemory → to.new.failures ≡ to.old.failures }
-        ensures write { IsErrOf result StreamFault.Write → to.new.failures ≡ min (to.old.failures + 1) (2 ^ 64 - 1) }
+        ensures failures { CountsStreamFault result to.old.failures to.new.failures }
     {
         let (alloc, totals, ended) = (self.alloc, self.totals, self.ended);
         drop(self);
         if ended {
             return Err(StreamFault::Ended);
         }
-        send(end_text(alloc, totals)?.as_slice(), to)?;
+        let mut sheet = Sheet::new(alloc);
+        put_end(&mut sheet, totals)?;
+        send(sheet.text(), to)?;
         flush(to)?;
         Ok(())
     }

@@ -56,13 +56,10 @@ fn put_scx_part(sheet: &mut Sheet, part: ScxWord)
 pub fn word_text(alloc: Global, word: Word) -> Result<String, AllocError>
     ensures { IfOk result (λ text. string_bytes text ≡ word_text word) }
 {
-    match word {
-        Word::Node(node, part) => format!(in alloc; "n{}.{}", node.0, node_part(part)),
-        Word::Scx(scx, part) => match scx_part(part) {
-            (name, Some(member)) => format!(in alloc; "s{}.{name}{member}", scx.0),
-            (name, None) => format!(in alloc; "s{}.{name}", scx.0),
-        },
-    }
+    let mut sheet = Sheet::new(alloc);
+    sheet.make_room(43)?;
+    put_word(&mut sheet, word);
+    String::from_str(alloc, sheet.as_str())
 }
 
 /// The name of a word within its SCX-record, but for the number of a member that ends it.

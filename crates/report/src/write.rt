@@ -1,12 +1,12 @@
 //! The whole report.
-ghost use Rattle.std.specs.Prelude.{◌≡◌, [], ◌+◌, ◌-◌, ◌^◌, OnOk, OnErr, IsErrOf, map, min};
+ghost use Rattle.std.specs.Prelude.{[], OnOk, OnErr, map};
 ghost use Rattle.std.specs.Io.KnownBytes.{Appends};
 ghost use Rattle.report.specs.Report.{call_rows, line_row, report_text};
-ghost use Rattle.texts.specs.Pages.{BeginsWith, rows_text};
+ghost use Rattle.texts.specs.Pages.{BeginsWith, CountsWriteFault, rows_text};
 
-use crate::call::calls_text;
+use crate::call::put_calls;
 use crate::count::Counts;
-use crate::head::{end_text, head_text};
+use crate::head::{put_end, put_head};
 use crate::line::put_lines;
 use crate::totals::Totals;
 use record::{Line, Record};
@@ -29,52 +29,51 @@ pub fn write_record<W: Write>(
     ensures all { OnOk result (Appends (W.contents to.old.inner) (W.contents to.new.inner) (report_text «record».now.script «record».now.lines.items)) }
     ensures beginning { OnErr result (BeginsWith (W.contents to.old.inner) (W.contents to.new.inner)
         (report_text «record».now.script «record».now.lines.items)) }
-    ensures ok { OnOk result (to.new.failures ≡ to.old.failures) }
-    ensures no_memory { IsErrOf result WriteFault.NoMemory → to.new.failures ≡ to.old.failures }
-    ensures write { IsErrOf result WriteFault.Write → to.new.failures ≡ min (to.old.failures + 1) (2 ^ 64 - 1) }
+    ensures failures { CountsWriteFault result to.old.failures to.new.failures }
 {
     let script = &record.script;
-    send(head_text(alloc, script)?.as_slice(), to)?;
-    write_calls(alloc, script.calls.as_slice(), to)?;
-    write_lines(alloc, record.lines.as_slice(), to)?;
-    let totals = Totals::of(record.lines.as_slice());
-    send(end_text(alloc, totals)?.as_slice(), to)
+    let mut sheet = Sheet::new(alloc);
+    put_head(&mut sheet, script)?;
+    send(sheet.text(), to)?;
+    write_calls(alloc, &mut sheet, script.calls.as_slice(), to)?;
+    write_lines(&mut sheet, record.lines.as_slice(), to)?;
+    sheet.clear();
+    put_end(&mut sheet, Totals::of(record.lines.as_slice()))?;
+    send(sheet.text(), to)
 }
 
-/// Writes the rows of calls.
+/// Writes the rows of calls, over what stands on the sheet.
 pub fn write_calls<W: Write>(
     alloc: Global,
+    sheet: &mut Sheet,
     calls: &[Call],
     to: &mut Metered<W>,
 ) -> Result<(), WriteFault>
     ensures all { OnOk result (Appends (W.contents to.old.inner) (W.contents to.new.inner) (rows_text 7 (call_rows [] calls.now))) }
     ensures beginning { OnErr result (BeginsWith (W.contents to.old.inner) (W.contents to.new.inner) (rows_text 7 (call_rows [] calls.now))) }
-    ensures ok { OnOk result (to.new.failures ≡ to.old.failures) }
-    ensures no_memory { IsErrOf result WriteFault.NoMemory → to.new.failures ≡ to.old.failures }
-    ensures write { IsErrOf result WriteFault.Write → to.new.failures ≡ min (to.old.failures + 1) (2 ^ 64 - 1) }
+    ensures failures { CountsWriteFault result to.old.failures to.new.failures }
 {
     let mut counts = Counts::new(alloc);
     for some in calls.chunks(ROWS) {
-        send(calls_text(alloc, some, &mut counts)?.as_slice(), to)?;
+        sheet.clear();
+        put_calls(alloc, sheet, some, &mut counts)?;
+        send(sheet.text(), to)?;
     }
     Ok(())
 }
 
 fn write_lines<W: Write>(
-    alloc: Global,
+    sheet: &mut Sheet,
     lines: &[Line],
     to: &mut Metered<W>,
 ) -> Result<(), WriteFault>
     ensures all { OnOk result (Appends (W.contents to.old.inner) (W.contents to.new.inner) (rows_text 7 (map line_row lines.now))) }
     ensures beginning { OnErr result (BeginsWith (W.contents to.old.inner) (W.contents to.new.inner) (rows_text 7 (map line_row lines.now))) }
-    ensures ok { OnOk result (to.new.failures ≡ to.old.failures) }
-    ensures no_memory { IsErrOf result WriteFault.NoMemory → to.new.failures ≡ to.old.failures }
-    ensures write { IsErrOf result WriteFault.Write → to.new.failures ≡ min (to.old.failures + 1) (2 ^ 64 - 1) }
+    ensures failures { CountsWriteFault result to.old.failures to.new.failures }
 {
-    let mut sheet = Sheet::new(alloc);
     for some in lines.chunks(ROWS) {
         sheet.clear();
-        put_lines(&mut sheet, some)?;
+        put_lines(sheet, some)?;
         send(sheet.text(), to)?;
     }
     Ok(())

@@ -52,7 +52,7 @@ pub record IsEnteredCall (lay : Layout) (versions : History → List Pair) (old 
 
 -- A reading call has no entry; its reply is that of the version at a moment from its first own row to
 -- its end. A range that takes no pair makes no row, and replies what every map does. A call that may
--- take nodes has only looked in its newest try.
+-- take nodes has filled nothing in its newest try.
 pub record IsReadCall (versions : History → List Pair) (old new : PassView) (call : MapCall) (told : MapReply) : Type 0 where
   pub moment : History
   pub within : Extends (run_of new) moment

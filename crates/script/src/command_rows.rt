@@ -1,10 +1,11 @@
 //! Commands as fields of a row, read and written.
-ghost use Rattle.std.specs.Prelude.{◌≡◌, ◌≢◌, ◌<◌, ◌≤◌, ◌^◌, ◌↔◌, ℕ, [], ◌∷◌, ◌++◌, All, Contains, length, map, decimal, codes, IsSome, IfSome, MatchOption, Option, IfOk, IfErr, string_bytes};
+ghost use Rattle.std.specs.Prelude.{◌≡◌, ◌≢◌, ◌<◌, ◌≤◌, ◌^◌, ◌↔◌, ℕ, [], ◌∷◌, ◌++◌, All, Contains, length, map, decimal, codes, IsSome, IfSome, MatchOption, Option, IfOk, IfErr, OnOk, string_bytes};
 ghost use Rattle.std.specs.Option.{option_map_or};
 ghost use Rattle.arena.specs.declared.word.Side.{Side};
 ghost use Rattle.script.specs.declared.cells.Cells.{Cells};
 ghost use Rattle.script.specs.Calls.{IsNoCommand};
 ghost use Rattle.script.specs.Cells.{cells_of, maybe_cells_of};
+ghost use Rattle.texts.specs.Sheets.{ArePlain, IsPlain};
 ghost use Rattle.script.specs.Commands.{command_row, request_row, mode_of, change_text, numbers_text, side_text, texts, AreCells, AsksForFewPairs, IsCell, IsCommand, IsCommandOf};
 
 use crate::cells::{Cell, Cells};
@@ -245,12 +246,13 @@ pub struct CommandText {
 impl CommandText {
     /// The text of a command. The only error is want of memory.
     pub fn of(alloc: Global, command: &Command) -> Result<CommandText, AllocError>
-        ensures { IfOk result (λ t. t.name.now ∷ string_bytes t.a ∷ string_bytes t.b ∷ string_bytes t.c ∷ [] ≡ command_row command.now) }
+        ensures row { IfOk result (λ t. t.name.now ∷ string_bytes t.a ∷ string_bytes t.b ∷ string_bytes t.c ∷ [] ≡ command_row command.now) }
+        ensures plain { OnOk result (ArePlain (command_row command.now)) }
     {
         match command {
             Command::Llx { cell } => Ok(CommandText {
                 name: "llx",
-                a: format!(in alloc; "{}", cell.node().0)?,
+                a: argument_text(alloc, Some(cell.node().0.into()))?,
                 b: String::new(alloc),
                 c: String::new(alloc),
             }),
@@ -268,9 +270,9 @@ impl CommandText {
             }),
             Command::Set { field, value } => Ok(CommandText {
                 name: "set",
-                a: format!(in alloc; "{}", field.0.node().0)?,
-                b: format!(in alloc; "{}", side_name(field.1))?,
-                c: format!(in alloc; "{value}")?,
+                a: argument_text(alloc, Some(field.0.node().0.into()))?,
+                b: String::from_str(alloc, side_name(field.1))?,
+                c: argument_text(alloc, Some((*value).into()))?,
             }),
             Command::Map(request) => CommandText::of_request(alloc, request),
         }
@@ -278,7 +280,8 @@ impl CommandText {
 
     /// The text of a call of the map. The only error is want of memory.
     fn of_request(alloc: Global, request: &Request<u64, u128>) -> Result<CommandText, AllocError>
-        ensures { IfOk result (λ t. t.name.now ∷ string_bytes t.a ∷ string_bytes t.b ∷ string_bytes t.c ∷ [] ≡ request_row request.now) }
+        ensures row { IfOk result (λ t. t.name.now ∷ string_bytes t.a ∷ string_bytes t.b ∷ string_bytes t.c ∷ [] ≡ request_row request.now) }
+        ensures plain { OnOk result (ArePlain (request_row request.now)) }
     {
         match *request {
             Request::Insert { key, value } => {
@@ -317,8 +320,10 @@ impl CommandText {
         name: &'static str,
         numbers: [Option<u128>; 3],
     ) -> Result<CommandText, AllocError>
-        ensures { IfOk result (λ t. t.name.now ∷ string_bytes t.a ∷ string_bytes t.b ∷ string_bytes t.c ∷ []
+        requires { IsPlain name.now }
+        ensures row { IfOk result (λ t. t.name.now ∷ string_bytes t.a ∷ string_bytes t.b ∷ string_bytes t.c ∷ []
             ≡ name.now ∷ map (λ n. option_map_or decimal n []) numbers) }
+        ensures plain { OnOk result (ArePlain (name.now ∷ map (λ n. option_map_or decimal n []) numbers)) }
     {
         let [a, b, c] = numbers;
         Ok(CommandText {
@@ -332,7 +337,8 @@ impl CommandText {
 
 /// The text of an argument: of none it is empty.
 fn argument_text(alloc: Global, number: Option<u128>) -> Result<String, AllocError>
-    ensures { IfOk result (λ text. string_bytes text ≡ option_map_or decimal number []) }
+    ensures text { IfOk result (λ text. string_bytes text ≡ option_map_or decimal number []) }
+    ensures plain { IsPlain (option_map_or decimal number []) }
 {
     match number {
         Some(number) => format!(in alloc; "{number}"),
@@ -342,7 +348,8 @@ fn argument_text(alloc: Global, number: Option<u128>) -> Result<String, AllocErr
 
 /// The numbers of cells, parted by one space.
 fn cells_text(alloc: Global, cells: &[Cell]) -> Result<String, AllocError>
-    ensures { IfOk result (λ text. string_bytes text ≡ numbers_text cells.now) }
+    ensures text { IfOk result (λ text. string_bytes text ≡ numbers_text cells.now) }
+    ensures plain { OnOk result (IsPlain (numbers_text cells.now)) }
 {
     let mut text = String::new(alloc);
     for (place, cell) in cells.iter().enumerate() {
@@ -356,13 +363,15 @@ fn cells_text(alloc: Global, cells: &[Cell]) -> Result<String, AllocError>
 
 /// A field and the value that goes into it.
 fn change_text(alloc: Global, field: (Cell, Side), value: u64) -> Result<String, AllocError>
-    ensures { IfOk result (λ text. string_bytes text ≡ change_text field value) }
+    ensures text { IfOk result (λ text. string_bytes text ≡ change_text field value) }
+    ensures plain { IsPlain (change_text field value) }
 {
     format!(in alloc; "{} {} {value}", field.0.node().0, side_name(field.1))
 }
 
 fn side_name(side: Side) -> &'static str
-    ensures { result.now ≡ side_text side }
+    ensures name { result.now ≡ side_text side }
+    ensures plain { IsPlain (side_text side) }
 {
     match side {
         Side::Left => "left",

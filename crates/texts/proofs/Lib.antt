@@ -1,5 +1,6 @@
 mod Numbers
 mod DigitCounts
+mod SheetTexts
 mod PlainRows
 mod HaveRead
 mod EndRows

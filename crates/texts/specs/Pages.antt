@@ -1,9 +1,9 @@
 -- Rows of so many fields as text.
-use Rattle.std.specs.Prelude.{ℕ, ◌≡◌, ◌-◌, ◌≤◌, List, [], ◌∷◌, ◌++◌, length, replicate, take, Option, Some, false}
+use Rattle.std.specs.Prelude.{ℕ, ◌≡◌, ◌+◌, ◌-◌, ◌^◌, ◌≤◌, List, [], ◌∷◌, ◌++◌, length, min, replicate, take, Option, Result, IsErrOf, OnOk}
 use Rattle.std.specs.Io.KnownBytes.{Appends}
-use Rattle.csv.specs.Records.{fields_of, partial_of}
-use Rattle.csv.specs.Writing.{default_writer, fields_written, has_written, row_text, text_written, writer_setup}
-use Rattle.texts.specs.declared.page.Page.{Page}
+use Rattle.csv.specs.Writing.{default_writer, row_text}
+use Rattle.texts.specs.declared.fault.WriteFault.{WriteFault}
+use Rattle.texts.specs.declared.fault.WriteFault.TheVariants.{NoMemory, Write}
 
 -- the fields, with as many empty ones after them as make a row of this width
 abbrev pub padded : ℕ → List (List ℕ) → List (List ℕ)
@@ -22,14 +22,13 @@ rows_text width (row ∷ rows) = line_of width row ++ rows_text width rows
 abbrev pub BeginsWith : Option (List ℕ) → Option (List ℕ) → List ℕ → Type 0
 BeginsWith old new text = (n : ℕ) × (n ≤ length text) × Appends old new (take n text)
 
--- the fields that a page has for its next line
-abbrev pub page_row : {WIDTH : ℕ} → Page WIDTH → List (List ℕ)
-page_row p = fields_of p.row
+-- of a call that writes: it counts a failure of the writer where its fault is that a write failed, and
+-- else none; the count ends at the greatest number of 64 bits
+pub record CountsFault {T Fault : Type 0} (memory failed : Fault) (result : Result T Fault) (old new : ℕ) : Type 0 where
+  pub ok : OnOk result (new ≡ old)
+  pub no_memory : IsErrOf result memory → new ≡ old
+  pub write : IsErrOf result failed → new ≡ min (old + 1) (2 ^ 64 - 1)
 
--- the lines of a page
-abbrev pub page_text : {WIDTH : ℕ} → Page WIDTH → Option (List ℕ)
-page_text p = text_written (λ v. Some v.items) p.lines
-
--- no line and no field of the page is begun
-abbrev pub IsReady : {WIDTH : ℕ} → Page WIDTH → Type 0
-IsReady p = (writer_setup p.lines ≡ default_writer) × (fields_written p.lines ≡ 0) × (has_written p.lines ≡ false) × (partial_of p.row ≡ [])
+-- the same, where the faults are those of writing
+abbrev pub CountsWriteFault : {T : Type 0} → Result T WriteFault → ℕ → ℕ → Type 0
+CountsWriteFault result old new = CountsFault NoMemory Write result old new

@@ -1,5 +1,6 @@
 //! Text that is put down in room made before.
-ghost use Rattle.std.specs.Prelude.{◌≡◌, ◌≤◌, ◌+◌, [], ◌++◌, OnOk, decimal, length, vec_len};
+ghost use Rattle.std.specs.Prelude.{◌≡◌, ◌≤◌, ◌+◌, [], ◌++◌, OnOk, decimal, length, take, vec_len};
+ghost use Rattle.std.specs.Str.{IsUtf8};
 
 use crate::digits::digits_in;
 use itoa::{Buffer, write_digits};
@@ -12,6 +13,7 @@ pub struct Sheet {
     bytes: Vec<u8>,
     end: usize,
     ghost within: { end ≤ vec_len bytes },
+    ghost utf8: { ∥ IsUtf8 (take end bytes.items) ∥₁ },
 }
 
 impl Sheet {
@@ -33,6 +35,16 @@ impl Sheet {
         ensures { result.now ≡ sheet_text self.now }
     {
         &self.bytes[..self.end]
+    }
+
+    /// The same as a `str`.
+    pub fn as_str(&self) -> &str
+        ensures { result.now ≡ sheet_text self.now }
+    {
+        match str::from_utf8(self.text()) {
+            Ok(text) => text,
+            Err(_) => unreachable!(),
+        }
     }
 
     /// Takes the text away, and keeps the room.
@@ -78,6 +90,15 @@ impl Sheet {
         let end = self.end + text.len();
         self.bytes[self.end..end].copy_from_slice(text.as_bytes());
         self.end = end;
+    }
+
+    /// The same, with room that is made for it.
+    pub fn push(&mut self, text: &str) -> Result<(), AllocError>
+        ensures { OnOk result (sheet_text self.new ≡ sheet_text self.old ++ text.now) }
+    {
+        self.make_room(text.len())?;
+        self.put(text);
+        Ok(())
     }
 
     /// Puts the digits of a number behind the text that stands.

@@ -9,7 +9,7 @@ loop-order-init g c = record { passes = refl; failures = refl; so_far = λ start
 pub loop-order-preserved : goal.loop-order-preserved
 loop-order-preserved g c = record {
   passes = c.obey.ensures.passes ∙ c.loop-order.invariant.passes;
-  failures = c.in_ok-obey.ensures.ok ∙ c.loop-order.invariant.failures;
+  failures = c.in_ok-obey.ensures.failures.ok ∙ c.loop-order.invariant.failures;
   so_far = λ start p x.
       let y = c.loop-order.invariant.so_far start p x in
       let z = subst (λ left. IsBetweenOrders c.loop-order.stream start (g.W.Write.contents c.loop-order.to.inner) p c.args.orders.now left) (from_here c.args.orders.now c.loop-order.order-index _ c.loop-order-test.true) y in

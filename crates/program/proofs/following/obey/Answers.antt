@@ -22,7 +22,7 @@ loop-order-preserved g c =
     let few = c.loop-order.invariant.few in
     record {
       passes = c.turn.ensures.passes ∙ c.loop-order.invariant.passes;
-      failures = c.in_ok-turn.ensures.ok ∙ c.loop-order.invariant.failures;
+      failures = c.in_ok-turn.ensures.failures.ok ∙ c.loop-order.invariant.failures;
       few = omega (arith, few);
       so_far = λ start p x.
           let u = c.loop-order.invariant.so_far start p x in

@@ -35,14 +35,14 @@ pub returns-in_err-follow-clause-failed : goal.returns-in_err-follow-clause-fail
 returns-in_err-follow-clause-failed g c = λ script schedule out.
     stream_failed c.from_residual-in_err-follow.result c.in_err-follow.field-0.0 _ _ _ _ _ _ _ c.from_residual-in_err-follow.ensures.1
     (λ e. c.in_err-follow.ensures.not_ended _ _ c.in_ok-stream.ensures.begun (ap (λ f. Err f) e))
-    c.in_ok-script.ensures.ok c.in_ok-schedule.ensures.ok c.in_ok-stream.ensures.ok (λ e. c.in_err-follow.ensures.no_memory (ap (λ f. Err f) e)) (λ e. c.in_err-follow.ensures.write (ap (λ f. Err f) e)) out
+    c.in_ok-script.ensures.ok c.in_ok-schedule.ensures.ok c.in_ok-stream.ensures.failures.ok (λ e. c.in_err-follow.ensures.failures.no_memory (ap (λ f. Err f) e)) (λ e. c.in_err-follow.ensures.failures.write (ap (λ f. Err f) e)) out
 
 pub returns-in_err-end-clause-failed : goal.returns-in_err-end-clause-failed
 returns-in_err-end-clause-failed g c = λ script schedule out.
     let went = c.in_ok-follow.ensures.followed _ _ c.in_ok-stream.ensures.begun in
     stream_failed c.from_residual-in_err-end.result c.in_err-end.field-0.0 _ _ _ _ _ _ _ c.from_residual-in_err-end.ensures.1
     (λ e. true≢false (sym (c.in_err-end.ensures.why (ap (λ f. Err f) e)) ∙ went.written.goes_on))
-    c.in_ok-script.ensures.ok c.in_ok-schedule.ensures.ok (c.in_ok-follow.ensures.ok ∙ c.in_ok-stream.ensures.ok) (λ e. c.in_err-end.ensures.no_memory (ap (λ f. Err f) e)) (λ e. c.in_err-end.ensures.write (ap (λ f. Err f) e)) out
+    c.in_ok-script.ensures.ok c.in_ok-schedule.ensures.ok (c.in_ok-follow.ensures.failures.ok ∙ c.in_ok-stream.ensures.failures.ok) (λ e. c.in_err-end.ensures.failures.no_memory (ap (λ f. Err f) e)) (λ e. c.in_err-end.ensures.failures.write (ap (λ f. Err f) e)) out
 
 pub returns-in_err-script-clause-beginning : goal.returns-in_err-script-clause-beginning
 returns-in_err-script-clause-beginning g c said ordered script_tells schedule_tells = on_err c.from_residual.result (inl refl)

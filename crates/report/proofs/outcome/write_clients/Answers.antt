@@ -23,7 +23,7 @@ loop-own-preserved g c =
     let bound : c.loop-own.client + 1 < 2 ^ 64 = let client = x.client in omega (arith, client, within) in
     let client : c.saturating_add-client.result ≡ c.loop-own.client + 1 = counts_all _ _ _ bound c.saturating_add-client.ensures in
     record {
-      failures = c.in_ok-write_replies.ensures.ok ∙ x.failures;
+      failures = c.in_ok-write_replies.ensures.failures.ok ∙ x.failures;
       client = client ∙ ap (λ n. n + 1) x.client;
       gone = x.gone + length own.items;
       all = let before = x.all in let left = rw here at (replies_left k all own within) in rw next (omega (arith, before, left));

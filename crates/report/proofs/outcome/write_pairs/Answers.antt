@@ -1,7 +1,7 @@
 use Rattle.std.proofs.Common.{◌∙◌, map, refl, subst}
 use Rattle.report.specs.Outcome.{pair_row}
 use Rattle.texts.specs.Pages.{rows_text}
-use Rattle.report.proofs.Texts.{IsSent, none_sent, piece_sent, all_sent, so_far_sent, part_sent, rows_split, no_rows, on_err}
+use Rattle.report.proofs.Texts.{chunk_text, IsSent, none_sent, piece_sent, all_sent, so_far_sent, part_sent, rows_split, no_rows, on_err}
 use Rattle.report.proofs.outcome.write_pairs.Goals as goal
 
 pub loop-some-init : goal.loop-some-init
@@ -19,7 +19,7 @@ loop-some-preserved g c =
       failures = c.in_ok-send.ensures.ok ∙ c.loop-some.invariant.failures;
       sent = piece_sent old mid _ some left whole
           (subst (λ text. IsSent old mid text whole) (rows_split 4 pair_row _ c.in-Some.some.now c.next.new.self.rest.now steps.1.0) c.loop-some.invariant.sent)
-          (rw (c.as_slice.ensures.value ∙ c.in_ok-pairs_text.ensures) at c.in_ok-send.ensures.all);
+          (rw (chunk_text _ _ _ _ c.text.ensures c.in_ok-put_pair_rows.ensures c.clear.ensures.text) at c.in_ok-send.ensures.all);
     }
 
 pub returns-clause-all : goal.returns-clause-all
@@ -27,8 +27,8 @@ returns-clause-all g c =
     let steps = c.in-None.ensures.steps in
     all_sent _ _ _ (rw (no_rows 4 pair_row c.loop-some.some-iterator.rest.now steps.1.0) at c.loop-some.invariant.sent)
 
-pub returns-in_err-pairs_text-clause-beginning : goal.returns-in_err-pairs_text-clause-beginning
-returns-in_err-pairs_text-clause-beginning g c = on_err c.from_residual.result (so_far_sent _ _ _ _ c.loop-some.invariant.sent)
+pub returns-in_err-put_pair_rows-clause-beginning : goal.returns-in_err-put_pair_rows-clause-beginning
+returns-in_err-put_pair_rows-clause-beginning g c = on_err c.from_residual.result (so_far_sent _ _ _ _ c.loop-some.invariant.sent)
 
 pub returns-in_err-send-clause-beginning : goal.returns-in_err-send-clause-beginning
 returns-in_err-send-clause-beginning g c =
@@ -41,4 +41,4 @@ returns-in_err-send-clause-beginning g c =
     on_err c.from_residual-in_err-send.result
     (part_sent old mid _ some left whole
     (subst (λ text. IsSent old mid text whole) (rows_split 4 pair_row _ c.in-Some.some.now c.next.new.self.rest.now steps.1.0) c.loop-some.invariant.sent)
-    (rw (c.as_slice.ensures.value ∙ c.in_ok-pairs_text.ensures) at c.in_err-send.ensures.beginning))
+    (rw (chunk_text _ _ _ _ c.text.ensures c.in_ok-put_pair_rows.ensures c.clear.ensures.text) at c.in_err-send.ensures.beginning))

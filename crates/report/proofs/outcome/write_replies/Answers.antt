@@ -3,7 +3,7 @@ use Rattle.ordered_map.specs.declared.reply.Reply.{Reply}
 use Rattle.report.specs.Outcome.{reply_rows}
 use Rattle.texts.specs.Pages.{rows_text}
 use Rattle.report.proofs.Outcomes.{counts_all, no_replies, reply_text_after}
-use Rattle.report.proofs.Texts.{IsSent, all_sent, none_sent, on_err, part_sent, piece_sent, so_far_sent}
+use Rattle.report.proofs.Texts.{chunk_text, IsSent, all_sent, none_sent, on_err, part_sent, piece_sent, so_far_sent}
 use Rattle.report.proofs.outcome.write_replies.Goals as goal
 
 pub loop-some-init : goal.loop-some-init
@@ -32,7 +32,7 @@ loop-some-preserved g c =
       all = omega (arith, x.all, lengths, next);
       sent = rw next (piece_sent old mid _ (rows c.loop-some.call some) (rows (c.loop-some.call + length some) left) (rows 0 c.args.replies.now)
           (subst (λ text. IsSent old mid text (rows 0 c.args.replies.now)) (reply_text_after c.args.client c.loop-some.call _ some left split) x.sent)
-          (rw (c.as_slice.ensures.value ∙ (rw c.in_ok-replies_text.was at (c.replies_text.ensures bound))) at c.in_ok-send.ensures.all));
+          (rw (chunk_text _ _ _ _ c.text.ensures (rw c.in_ok-put_replies.was at (c.put_replies.ensures bound)) c.clear.ensures.text) at c.in_ok-send.ensures.all));
     }
 
 pub returns-clause-all : goal.returns-clause-all
@@ -40,8 +40,8 @@ returns-clause-all g c =
     let x = c.loop-some.invariant in
     all_sent _ _ _ (rw (no_replies c.args.client c.loop-some.call c.loop-some.some-iterator.rest.now c.in-None.ensures.steps.1.0) at x.sent)
 
-pub returns-in_err-replies_text-clause-beginning : goal.returns-in_err-replies_text-clause-beginning
-returns-in_err-replies_text-clause-beginning g c = on_err c.from_residual.result (so_far_sent _ _ _ _ c.loop-some.invariant.sent)
+pub returns-in_err-put_replies-clause-beginning : goal.returns-in_err-put_replies-clause-beginning
+returns-in_err-put_replies-clause-beginning g c = on_err c.from_residual.result (so_far_sent _ _ _ _ c.loop-some.invariant.sent)
 
 pub returns-in_err-send-clause-beginning : goal.returns-in_err-send-clause-beginning
 returns-in_err-send-clause-beginning g c =
@@ -57,4 +57,4 @@ returns-in_err-send-clause-beginning g c =
     on_err c.from_residual-in_err-send.result
     (part_sent old mid _ (rows c.loop-some.call some) (rows (c.loop-some.call + length some) left) (rows 0 c.args.replies.now)
     (subst (λ text. IsSent old mid text (rows 0 c.args.replies.now)) (reply_text_after c.args.client c.loop-some.call _ some left split) x.sent)
-    (rw (c.as_slice.ensures.value ∙ (rw c.in_ok-replies_text.was at (c.replies_text.ensures bound))) at c.in_err-send.ensures.beginning))
+    (rw (chunk_text _ _ _ _ c.text.ensures (rw c.in_ok-put_replies.was at (c.put_replies.ensures bound)) c.clear.ensures.text) at c.in_err-send.ensures.beginning))

@@ -3,7 +3,7 @@ use Rattle.std.proofs.lemmas.List.{length-reverse}
 use Rattle.report.specs.Report.{call_rows}
 use Rattle.texts.specs.Pages.{rows_text}
 use Rattle.report.proofs.CallRows.{call_text_append, no_call_rows}
-use Rattle.report.proofs.Texts.{IsSent, all_sent, none_sent, on_err, part_sent, piece_sent, so_far_sent}
+use Rattle.report.proofs.Texts.{chunk_text, IsSent, all_sent, none_sent, on_err, part_sent, piece_sent, so_far_sent}
 use Rattle.report.proofs.write.write_calls.Goals as goal
 
 pub loop-some-init : goal.loop-some-init
@@ -31,11 +31,11 @@ loop-some-preserved g c =
     record {
       failures = c.in_ok-send.ensures.ok ∙ x.failures;
       earlier = reverse some ++ x.earlier;
-      counted = rw c.in_ok-calls_text.was at (c.calls_text.ensures.counted x.earlier x.counted bound);
+      counted = rw c.in_ok-put_calls.was at (c.put_calls.ensures.counted x.earlier x.counted bound);
       all = rw (length-append (reverse some) x.earlier, length-reverse some) (omega (arith, x.all, lengths));
       sent = piece_sent old mid _ (rows_text 7 (call_rows x.earlier some)) (rows_text 7 (call_rows (reverse some ++ x.earlier) left)) whole
           (subst (λ text. IsSent old mid text whole) (ap (λ calls. rows_text 7 (call_rows x.earlier calls)) split ∙ call_text_append x.earlier some left) x.sent)
-          (rw (c.as_slice.ensures.value ∙ (rw c.in_ok-calls_text.was at (c.calls_text.ensures.rows x.earlier x.counted bound))) at c.in_ok-send.ensures.all);
+          (rw (chunk_text _ _ _ _ c.text.ensures (rw c.in_ok-put_calls.was at (c.put_calls.ensures.rows x.earlier x.counted bound)) c.clear.ensures.text) at c.in_ok-send.ensures.all);
     }
 
 pub returns-clause-all : goal.returns-clause-all
@@ -43,8 +43,8 @@ returns-clause-all g c =
     let x = c.loop-some.invariant in
     all_sent _ _ _ (rw (no_call_rows x.earlier c.loop-some.some-iterator.rest.now c.in-None.ensures.steps.1.0) at x.sent)
 
-pub returns-in_err-calls_text-clause-beginning : goal.returns-in_err-calls_text-clause-beginning
-returns-in_err-calls_text-clause-beginning g c = on_err c.from_residual.result (so_far_sent _ _ _ _ c.loop-some.invariant.sent)
+pub returns-in_err-put_calls-clause-beginning : goal.returns-in_err-put_calls-clause-beginning
+returns-in_err-put_calls-clause-beginning g c = on_err c.from_residual.result (so_far_sent _ _ _ _ c.loop-some.invariant.sent)
 
 pub returns-in_err-send-clause-beginning : goal.returns-in_err-send-clause-beginning
 returns-in_err-send-clause-beginning g c =
@@ -60,4 +60,4 @@ returns-in_err-send-clause-beginning g c =
     on_err c.from_residual-in_err-send.result
     (part_sent old mid _ (rows_text 7 (call_rows x.earlier some)) (rows_text 7 (call_rows (reverse some ++ x.earlier) left)) whole
     (subst (λ text. IsSent old mid text whole) (ap (λ calls. rows_text 7 (call_rows x.earlier calls)) split ∙ call_text_append x.earlier some left) x.sent)
-    (rw (c.as_slice.ensures.value ∙ (rw c.in_ok-calls_text.was at (c.calls_text.ensures.rows x.earlier x.counted bound))) at c.in_err-send.ensures.beginning))
+    (rw (chunk_text _ _ _ _ c.text.ensures (rw c.in_ok-put_calls.was at (c.put_calls.ensures.rows x.earlier x.counted bound)) c.clear.ensures.text) at c.in_err-send.ensures.beginning))
