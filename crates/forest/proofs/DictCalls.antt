@@ -7,7 +7,7 @@ use Rattle.arena.specs.declared.limits.Mode.TheVariants.{Tree}
 use Rattle.arena.specs.History.{History, Extends}
 use Rattle.arena.specs.Share.{Remaining}
 use Rattle.std.specs.Prelude.{Result, Ok, Err, IfOk, IfSome}
-use Rattle.ordered_map.specs.OrderedMap.{MapCall, Edit, Get, PopFirst, Range, ReplaceIf, Successor, MapReply}
+use Rattle.ordered_map.specs.OrderedMap.{MapCall, Edit, Get, Range, Successor, MapReply, call_pop_first}
 use Rattle.ordered_map.specs.Runs.{IsTreeRun}
 use Rattle.prims.specs.Laws.Begun.{taken_since}
 use Rattle.prims.specs.Shares.{IsShare}
@@ -115,9 +115,7 @@ module _ {K V : Type 0} (valid_key : K → Type 0) (key : K → ℕ) (valid_valu
   pub typed_read : (call : MapCall) → KeepsLists call → IsTypedCall keys values call
   typed_read (Successor key) x = tt
   typed_read (Range low high most) x = tt
-  typed_read (Edit e) x = absurd x
-  typed_read PopFirst x = absurd x
-  typed_read (ReplaceIf key expected value) x = absurd x
+  typed_read (Edit goal rule) x = absurd x
   typed_read (Get key) x = absurd x
 
   -- so may the machine of a request
@@ -241,7 +239,7 @@ module _ {K V : Type 0} (key : K → ℕ) (value_word : V → ℕ) (old new : Pa
   update_says tries call (Err (faults.Contended n s)) told refused = refused
   update_says tries call (Err (faults.Full full)) told refused = refused
 
-  pub popped_says : (tries : ℕ) (r : Result (Option (K × V)) UpdateFault) → IsToldOf old new PopFirst (told_of key value_word (popped_reply r)) → IsRefusalOf {K = K} tries old new PopFirst (popped_reply r) → PopSays key value_word tries old new r
+  pub popped_says : (tries : ℕ) (r : Result (Option (K × V)) UpdateFault) → IsToldOf old new call_pop_first (told_of key value_word (popped_reply r)) → IsRefusalOf {K = K} tries old new call_pop_first (popped_reply r) → PopSays key value_word tries old new r
   popped_says tries (Ok p) told refused = told
   popped_says tries (Err (faults.Contended n s)) told refused = refused
   popped_says tries (Err (faults.Full full)) told refused = refused

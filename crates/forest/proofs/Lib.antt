@@ -27,7 +27,9 @@ mod StraightPut
 mod StraightVlx
 mod StraightWalk
 mod StraightReads
+mod StraightReading
 mod StraightUpdate
+mod StraightTries
 mod Took
 mod Versions
 mod DictCalls

@@ -17,7 +17,7 @@ use Rattle.order.specs.declared.refused.Refused.{Refused}
 use Rattle.order.specs.declared.run.ReadAt.TheVariants.{Start as ReadStart}
 use Rattle.order.specs.declared.run.ReadRun.{ReadRun}
 use Rattle.ordered_map.specs.declared.pair.Pair.{Pair}
-use Rattle.ordered_map.specs.OrderedMap.{MapCall, MapReply, OneValue, pair, reply}
+use Rattle.ordered_map.specs.OrderedMap.{MapCall, MapReply, OneValue, pair, reply, goal_told}
 use Rattle.edits.specs.Next.{standing}
 use Rattle.edits.specs.Steps.{node_tries, scx_tries}
 use Rattle.edits.specs.declared.update.UpdateAt.{UpdateAt}
@@ -30,9 +30,8 @@ use Rattle.dict.specs.Words.{IsWordOf}
 use Rattle.dict.specs.declared.dict.DictRun.{DictRun}
 use Rattle.dict.specs.Around.{IsAround}
 use Rattle.dict.specs.Calls.{IsFewCall, IsSmallCall, KeepsTriesButOne, call_in, inner_call, inner_share}
-use Rattle.template.specs.declared.walk.Goal.{Goal}
-use Rattle.template.specs.declared.walk.Goal.TheVariants.{Key as ToKey, Least}
-use Rattle.dict.specs.Goals.{goal_told}
+use Rattle.ordered_map.specs.declared.rule.Goal.{Goal}
+use Rattle.ordered_map.specs.declared.rule.Goal.TheVariants.{Key as ToKey, Least}
 use Rattle.dict.specs.Inner.{EditKind, InnerRun, Read, ReadKind, Update, inner, range_kind, successor_kind}
 use Rattle.dict.specs.Known.{Goes, HasRested, InnerAnswers, IsReadyInside, StandsAtStart, WaitsInside}
 use Rattle.dict.specs.Laws.Kinds.{IsEditKind, IsReadKind, range_is, successor_is}

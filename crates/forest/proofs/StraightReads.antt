@@ -45,7 +45,7 @@ use Rattle.template.specs.Trails.{IsOwnMoment}
 use Rattle.template.specs.FoundLeaf.{HasFoundGoal}
 use Rattle.template.specs.Walk.Places.{walk_from}
 use Rattle.template.specs.declared.walk.Found.{Found}
-use Rattle.template.specs.declared.walk.Goal.TheVariants.{Key as ToKey}
+use Rattle.ordered_map.specs.declared.rule.Goal.TheVariants.{Key as ToKey}
 use Rattle.template.specs.declared.walk.WalkRun.{WalkRun}
 use Rattle.forest.specs.declared.view.SeatedPass.{SeatedPass}
 use Rattle.forest.specs.CallKinds.{Calls}
@@ -64,16 +64,6 @@ use Rattle.forest.proofs.Hosts.{either_turn, told_on}
 pub one_step : (before after left less : ℕ) → after ≡ suc before → less < left → after + suc less ≤ before + suc left
 one_step before after left less one i = omega (arith, one, i)
 
-pub less_left : (left less : ℕ) → less < left → suc less < suc left
-less_left left less i = omega (arith, i)
-
--- and of more steps behind that one
-pub two_steps : (before mid after left less rest : ℕ) → mid ≡ suc before → less < left → after + rest ≤ mid + suc less → after + rest ≤ before + suc left
-two_steps before mid after left less rest one i more = omega (arith, one, i, more)
-
-pub nearer_still : (left less rest : ℕ) → less < left → rest < suc less → rest < suc left
-nearer_still left less rest i j = omega (arith, i, j)
-
 -- and of the last ones
 pub last_steps : (before mid after left less : ℕ) → mid ≡ suc before → less < left → after ≤ mid + suc less → after ≤ before + suc left
 last_steps before mid after left less one i more = omega (arith, one, i, more)
@@ -81,16 +71,6 @@ last_steps before mid after left less one i more = omega (arith, one, i, more)
 module _ {R A : Type 0} (means : ReadMeaning R A) where
   itself : (m : ReadRun R) → IsSameRead means m m
   itself m = (refl, refl, omega arith, omega arith)
-
-  -- so many steps are left, as this comes next
-  pub steps_as : (m : ReadRun R) (next now : ReadNext) (nodes a b : ℕ) → next ≡ now → a ≤ b + suc (read_left means (placed m now) nodes) → a ≤ b + suc (read_left means (placed m next) nodes)
-  steps_as m next now nodes a b e i = subst (λ (k : ReadNext). a ≤ b + suc (read_left means (placed m k) nodes)) (sym e) i
-
-  pub lighter_as : (m : ReadRun R) (next now : ReadNext) (nodes b : ℕ) → next ≡ now → read_left means (placed m next) nodes < b → read_left means (placed m now) nodes < b
-  lighter_as m next now nodes b e i = subst (λ (k : ReadNext). read_left means (placed m k) nodes < b) e i
-
-  pub nearer_as : (m : ReadRun R) (next now : ReadNext) (nodes a : ℕ) → next ≡ now → a < suc (read_left means (placed m now) nodes) → a < suc (read_left means (placed m next) nodes)
-  nearer_as m next now nodes a e i = subst (λ (k : ReadNext). a < suc (read_left means (placed m k) nodes)) (sym e) i
 
 module _ {M R A : Type 0} {o : Calls M} {means : ReadMeaning R A} (r : Reader o means) where
   -- its step has told this

@@ -28,10 +28,10 @@ use Rattle.prims.proofs.Lemmas.{done_at}
 use Rattle.edits.specs.declared.edit.Nth.{Nth}
 use Rattle.edits.specs.declared.edit.Nth.TheVariants.{First}
 use Rattle.edits.specs.declared.piece.Piece.{Piece}
-use Rattle.edits.specs.Pieces.{is_filled, is_leaf_piece, nth_node, part_behind, word_of}
+use Rattle.edits.specs.Pieces.{is_filled, nth_node, part_behind, word_of}
 use Rattle.edits.specs.Readings.{is_at_pair, next_read, read_with}
 use Rattle.edits.specs.Sound.{FillsWell, IsAtFound}
-use Rattle.edits.proofs.Lemmas.{behind_filled, fewer_fills, fills_next, fills_word, high_behind_value, joined_spends, key_behind_value, key_then_value, placed_same, scx_asks, scx_done, told_spends, told_turn, value_behind_key, value_then_high}
+use Rattle.edits.proofs.Lemmas.{behind_filled, fewer_fills, fills_next, fills_word, joined_spends, key_then_value, placed_same, scx_asks, scx_done, told_spends, told_turn, value_then_high}
 use Rattle.forest.specs.declared.straight.scx.Change.{Change}
 use Rattle.forest.specs.StraightScx.{Changer, all_frozen_load, changing_at, scx_fill}
 use Rattle.arena.specs.History.{History, value}
@@ -50,7 +50,7 @@ use Rattle.template.specs.FoundLeaf.{HasFoundGoal}
 use Rattle.template.specs.Walk.Known.{WalkIsTold}
 use Rattle.template.specs.Walk.Places.{walk_from, IsPastRoot}
 use Rattle.template.specs.declared.walk.Found.{Found}
-use Rattle.template.specs.declared.walk.Goal.{Goal}
+use Rattle.ordered_map.specs.declared.rule.Goal.{Goal}
 use Rattle.template.specs.declared.walk.WalkAt.{WalkAt}
 use Rattle.template.specs.declared.walk.WalkAt.TheVariants.{Start as WalkStart, Root as WalkRoot}
 use Rattle.template.specs.declared.walk.WalkRun.{WalkRun}
@@ -201,8 +201,8 @@ module _ {M E : Type 0} {o : Calls M} {e : EditMeaning E} (u : Updater o e) wher
     fewer_then : {old mid now : ℕ} → mid ≡ old → (mid ≤ now + 1) × (now ≤ mid) → (old ≤ now + 1) × (now ≤ old)
     fewer_then {old} {mid} {now} e x = subst (λ (k : ℕ). (k ≤ now + 1) × (now ≤ k)) e x
 
-    gone_behind : (old now : UpdateRun E UpdateAt) (nodes scx : ℕ) → IsSameUpdate m now → (m.tries ≤ now.tries + 1) × (now.tries ≤ m.tries) → Spends e.most_nodes m.share now.share m.tries nodes m.tries scx → m.tries ≡ old.tries → HasUpdateGoneOn e old m m.tries m.tries → HasUpdateGoneOn e old now nodes scx
-    gone_behind old now nodes scx is fewer spent tries x = record { edit = is.0 ∙ x.edit; called = is.1 ∙ x.called; limit = is.2 ∙ x.limit; tries = fewer_then tries fewer; spends = joined_spends e.most_nodes old.share m.share now.share (node_tries old old.at) nodes (scx_tries old old.at) scx m.tries x.spends spent }
+    gone_behind : (old now : UpdateRun E UpdateAt) (nodes scx : ℕ) → IsSameUpdate m now → (m.tries ≤ now.tries + 1) × (now.tries ≤ m.tries) → Spends (e.most_nodes now.edit) m.share now.share m.tries nodes m.tries scx → m.tries ≡ old.tries → HasUpdateGoneOn e old m m.tries m.tries → HasUpdateGoneOn e old now nodes scx
+    gone_behind old now nodes scx is fewer spent tries x = record { edit = is.0 ∙ x.edit; called = is.1 ∙ x.called; limit = is.2 ∙ x.limit; tries = fewer_then tries fewer; spends = joined_spends (e.most_nodes now.edit) old.share m.share now.share (node_tries old old.at) nodes (scx_tries old old.at) scx m.tries (subst (λ ed. Spends (e.most_nodes ed) old.share m.share (node_tries old old.at) m.tries (scx_tries old old.at) m.tries) (sym is.0) x.spends) spent }
 
     -- where its try ends so, it stands as the turn says that it makes of that
     pub stops : (now : UpdateRun E UpdateAt) (stop : Stop) (turn : Turn Updated) → IsSameUpdate m now → (m.tries ≤ now.tries + 1) × (now.tries ≤ m.tries) → IsSpending e turn m.share now m.tries m.tries → ((h : History) → IsRun TreeAllows u.call.layout h → MayStop e u.call h m f stop → UpdateTurn e u.call h now turn) → UpdaterStops u ps m f stop → HostedStands u ps now turn
@@ -533,9 +533,6 @@ walk_steps now old walk left tries rest a b = omega (arith, a, b)
 pub look_steps : (now old left tries looks works : ℕ) → now ≤ old + 7 → left ≤ tries + (looks + works + 39) → now + left ≤ old + suc (tries + (53 + looks + works + 39))
 look_steps now old left tries looks works a b = omega (arith, a, b)
 
-pub look_nearer : (left tries looks works : ℕ) → left ≤ tries + (looks + works + 39) → left < suc (tries + (53 + looks + works + 39))
-look_nearer left tries looks works b = omega (arith, b)
-
 pub both_steps : (now then bound : ℕ) → now ≤ then → then ≤ bound → now ≤ bound
 both_steps now then bound a b = omega (arith, a, b)
 
@@ -549,20 +546,6 @@ pub filled_next : (p : Piece) (part : NodeWord) (next : Option NodeWord) → nex
 filled_next p part None e = tt
 filled_next p part (Some next) e = behind_filled p part next (sym e)
 
--- a pair of which no high half is filled takes two fills, another one three
-pub fewer_by_two : (p : Piece) (slot : Slot) (next : Option NodeWord) → is_leaf_piece p ≡ true → is_filled p (Settled (Key slot)) ≡ true → word_of p (Settled (High slot)) ≡ 0 → next ≡ part_behind p (Settled (High slot)) → suc (suc (fills_then p next)) ≤ fills_then p (Some (Settled (Key slot)))
-fewer_by_two p slot next leaf there zero e =
-    let a = fewer_fills_then p (Settled (Key slot)) (Some (Settled (Value slot))) (value_behind_key p slot leaf there) in
-    let b = fewer_fills_then p (Settled (Value slot)) next (key_behind_value p slot zero ∙ sym e) in
-    omega (arith, a, b)
-
-pub fewer_by_three : (p : Piece) (slot : Slot) (next : Option NodeWord) → is_leaf_piece p ≡ true → is_filled p (Settled (Key slot)) ≡ true → 0 < word_of p (Settled (High slot)) → next ≡ part_behind p (Settled (High slot)) → suc (suc (suc (fills_then p next))) ≤ fills_then p (Some (Settled (Key slot)))
-fewer_by_three p slot next leaf there some e =
-    let a = fewer_fills_then p (Settled (Key slot)) (Some (Settled (Value slot))) (value_behind_key p slot leaf there) in
-    let b = fewer_fills_then p (Settled (Value slot)) (Some (Settled (High slot))) (high_behind_value p slot some) in
-    let d = fewer_fills_then p (Settled (High slot)) next (sym e) in
-    omega (arith, a, b, d)
-
 -- and a step is made for it
 pub fill_steps : (now old left before : ℕ) → now ≡ suc old → left < before → now + left ≤ old + before
 fill_steps now old left before one less = omega (arith, one, less)
@@ -570,9 +553,6 @@ fill_steps now old left before one less = omega (arith, one, less)
 -- the steps of a fresh node are those that were left for it
 pub node_steps : (now old left tries after head : ℕ) → now + 0 ≤ old + suc head → left ≤ tries + (after + 39) → now + left ≤ old + suc (tries + (head + after + 39))
 node_steps now old left tries after head a b = omega (arith, a, b)
-
-pub node_nearer : (left tries after head : ℕ) → left ≤ tries + (after + 39) → left < suc (tries + (head + after + 39))
-node_nearer left tries after head b = omega (arith, b)
 
 -- a load is one of those that were left
 pub read_steps : (now old left tries reads fills : ℕ) → now ≡ suc old → left < tries + (reads - 1 + fills + 39) → now + suc left ≤ old + suc (tries + (reads - 1 + fills + 39))
@@ -582,23 +562,9 @@ read_steps now old left tries reads fills a b = omega (arith, a, b)
 pub pair_steps : (start first second third left more most all : ℕ) → first ≡ suc start → second ≡ suc first → third ≡ suc second → left < more → more < most → most < all → third + suc left ≤ start + suc all
 pair_steps start first second third left more most all a b d i j k = omega (arith, a, b, d, i, j, k)
 
-pub pair_nearer : (left more most all : ℕ) → left < more → more < most → most < all → suc left < suc all
-pair_nearer left more most all i j k = omega (arith, i, j, k)
-
-pub read_nearer : (left tries reads fills : ℕ) → left < tries + (reads - 1 + fills + 39) → suc left < suc (tries + (reads - 1 + fills + 39))
-read_nearer left tries reads fills b = omega (arith, b)
-
 -- what stops a try is handed on as it is
 pub handed_on : (r : Result Next Stop) (stop : Stop) → IsErrAnd r (λ other. other ≡ stop) → r ≡ Err stop
 handed_on r stop x = let y = err_from_is_err_and r x in y.1 ∙ ap (λ s. Err s) y.2
-
-module _ {E : Type 0} (e : EditMeaning E) {A : Type 0} (m : UpdateRun E A) (f : Found) (next same : Result Next Stop) (is : next ≡ same) (nodes : ℕ) where
-  -- what is left of what comes next is left of its equal
-  pub left_as : (now old bound : ℕ) → now ≤ old + left_then e m f same nodes → old + left_then e m f next nodes ≤ bound → now ≤ bound
-  left_as now old bound i j = let k = subst (λ (n : Result Next Stop). old + left_then e m f n nodes ≤ bound) is j in omega (arith, i, k)
-
-  pub fewer_as : (left : ℕ) → left < left_then e m f same nodes → left < left_then e m f next nodes
-  fewer_as left i = subst (λ (n : Result Next Stop). left < left_then e m f n nodes) (sym is) i
 
 -- what is left does not depend on the place of the update
 pub left_standing : {E : Type 0} (e : EditMeaning E) {A : Type 0} (m : UpdateRun E A) (start : UpdateRun E UpdateAt) (f : Found) (next : Result Next Stop) (nodes : ℕ) → start ≡ standing m Start → left_then e start f next nodes ≡ left_then e m f next nodes
@@ -617,7 +583,7 @@ pub left_there : {E : Type 0} (e : EditMeaning E) (m now : UpdateRun E UpdateAt)
 left_there e m now f next turn nodes place asks = rw (place, asks) refl
 
 -- and where its SCX could not freeze a node
-pub left_blocked : {E : Type 0} (e : EditMeaning E) (m now : UpdateRun E UpdateAt) (f : Found) (scx : ScxNo) (help : HelpRun) (turn : Turn Updated) (nodes : ℕ) → now ≡ standing m (Scx f record { scx = scx; call = m.call; update = update_of e m f; at = Help help }) → turn ≡ Ask (all_frozen_load scx) → weight turn (update_left e now nodes) ≡ suc (m.tries * try_left e nodes + scx_left (Help help))
+pub left_blocked : {E : Type 0} (e : EditMeaning E) (m now : UpdateRun E UpdateAt) (f : Found) (scx : ScxNo) (help : HelpRun) (turn : Turn Updated) (nodes : ℕ) → now ≡ standing m (Scx f record { scx = scx; call = m.call; update = update_of e m f; at = Help help }) → turn ≡ Ask (all_frozen_load scx) → weight turn (update_left e now nodes) ≡ suc (m.tries * try_left e m.edit nodes + scx_left (Help help))
 left_blocked e m now f scx help turn nodes place asks = rw (place, asks) refl
 
 -- what is not more than something is not more than what that is not more than

@@ -23,7 +23,7 @@ use Rattle.template.specs.Walk.Known.{WalkIsTold, WalkWaits, asks_key}
 use Rattle.template.specs.Walk.Laws.{walk_told}
 use Rattle.template.specs.Walk.Places.{walk_at, trail_below, IsPastRoot, LoadsHead}
 use Rattle.template.specs.Walk.Steps.{walk_left, WalkFitsAt}
-use Rattle.template.specs.declared.walk.Goal.{Goal}
+use Rattle.ordered_map.specs.declared.rule.Goal.{Goal}
 use Rattle.template.specs.declared.walk.Trail.{Trail}
 use Rattle.template.specs.declared.walk.WalkAt.{WalkAt}
 use Rattle.template.specs.declared.walk.WalkAt.TheVariants.{Start, Root, Head, Key, Child, More, Pair, Value, High}

@@ -10,11 +10,11 @@ use Rattle.arena.specs.Fills.{IsOthersScx}
 use Rattle.arena.specs.History.{History, ◌⊳◌, value, Extends}
 use Rattle.arena.specs.Log.{Entry, log}
 use Rattle.ordered_map.specs.declared.pair.Pair.{Pair as PairOf}
-use Rattle.ordered_map.specs.OrderedMap.{MapCall, PopFirst, Successor, Range, MapReply, OneValue, ManyPairs, pair_or_none, MapEdit, edited, reply, edit_of}
+use Rattle.ordered_map.specs.OrderedMap.{MapCall, call_pop_first, Successor, Range, MapReply, OneValue, ManyPairs, pair_or_none, MapEdit, edited, reply, edit_of}
 use Rattle.ordered_map.specs.Runs.{Makes}
 use Rattle.ordered_map.specs.Spelled.{Spells}
 use Rattle.template.specs.Tries.{tries_since, HasTriedAtMost}
-use Rattle.ordered_map.specs.CallRules.{Form, IsFormOfEdit, MayReply, most_nodes, most_scx, most_steps}
+use Rattle.ordered_map.specs.CallRules.{Form, IsFormOfValue, MayReply, most_nodes, most_scx, most_steps}
 use Rattle.dict.specs.Calls.{most_tries}
 use Rattle.dict.specs.Says.{HasLostSince, HasMadeRow, HasReadSince, HasTooLittleSince, KeepsLists}
 use Rattle.dict.specs.Typed.{TypedAllows}
@@ -152,7 +152,7 @@ popped_reply (Err (updates.Full full)) = Full full
 
 -- the call replies a value, unless it is refused
 abbrev pub RepliesValue : MapCall → Type 0
-RepliesValue call = (form : Form) → MayReply call form → IsFormOfEdit form
+RepliesValue call = (form : Form) → MayReply call form → IsFormOfValue form
 
 -- why an edit has told nothing, which may try so often
 abbrev pub UpdateRefuses : ℕ → PassView → PassView → MapCall → UpdateFault → Type 0
@@ -169,8 +169,8 @@ UpdateSays value_word tries old new call (Err fault) = UpdateRefuses tries old n
 -- what an answer of `pop_first` says: one that tells a pair has changed the map, and else it has
 -- read it
 abbrev pub PopSays : {K V : Type 0} → (K → ℕ) → (V → ℕ) → ℕ → PassView → PassView → Result (Option (K × V)) UpdateFault → Type 0
-PopSays key_word value_word tries old new (Ok told) = IsToldOf old new PopFirst (Some (pair_or_none (option_map (word_pair key_word value_word) told)))
-PopSays key_word value_word tries old new (Err fault) = UpdateRefuses tries old new PopFirst fault
+PopSays key_word value_word tries old new (Ok told) = IsToldOf old new call_pop_first (Some (pair_or_none (option_map (word_pair key_word value_word) told)))
+PopSays key_word value_word tries old new (Err fault) = UpdateRefuses tries old new call_pop_first fault
 
 -- whom they blame
 abbrev pub blamed_by_update : {A : Type 0} → Result A UpdateFault → List ℕ → List ℕ

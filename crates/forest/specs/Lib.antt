@@ -20,6 +20,8 @@ pub mod Inside
 pub mod Hosts
 pub mod TableRule
 pub mod Seats
+pub mod Leads
+pub mod InnerSteps
 pub mod JoinedSeats
 pub mod PassInvariant
 pub mod Dictionary

@@ -1,5 +1,5 @@
 -- Calls that stand at a place of a HELP, of whatever machine helps.
-use Rattle.std.specs.Prelude.{◌≡◌, ℕ, List, Some}
+use Rattle.std.specs.Prelude.{◌≡◌, ◌<◌, ◌+◌, ℕ, Bool, true, false, List, Some}
 use Rattle.arena.specs.declared.layout.Layout.{Layout}
 use Rattle.arena.specs.History.{History}
 use Rattle.arena.specs.Lawful.{Lawful}
@@ -13,8 +13,9 @@ use Rattle.arena.specs.declared.step.Access.TheVariants.{Load, Store}
 use Rattle.arena.specs.declared.step.Kind.TheVariants.{LoadAllFrozen, SetFrozen}
 use Rattle.arena.specs.declared.word.ScxWord.TheVariants.{AllFrozen, Member, Plan}
 use Rattle.arena.specs.MemberIndex.{member_index}
+use Rattle.arena.specs.ScxRecords.{raw_count}
 use Rattle.arena.specs.Words.{scx}
-use Rattle.help.specs.declared.state.HelpAt.TheVariants.{Plan as AtPlan, Member as AtMember, SetFrozen as AtSetFrozen}
+use Rattle.help.specs.declared.state.HelpAt.TheVariants.{Plan as AtPlan, Member as AtMember, SetFrozen as AtSetFrozen, Commit as AtCommit}
 
 -- a HELP in some pass, which is said to wait and to be told in the runs that `inner` allows
 abbrev pub inner_help : (Layout → History → ℕ → Type 0) → Inner HelpRun
@@ -45,6 +46,25 @@ module _ {M : Type 0} {inner : Layout → History → ℕ → Type 0} {o : Calls
   -- to load that flag
   abbrev pub LoadsFlag : Type 0
   LoadsFlag = InnerWaits k ps m record { kind = LoadAllFrozen; word = scx m.scx.0 AllFrozen; access = Load }
+
+module _ {M : Type 0} {inner : Layout → History → ℕ → Type 0} {o : Calls M} (k : Helper inner o) (ps : List SeatedPass) (m : HelpRun) where
+  -- its HELP, under this plan, is behind the freezing of the node of this place, which is frozen or
+  -- not: it goes on to the next node or sets the flag, or loads that
+  pub record IsBehindFreeze (plan : ℕ) (j : MemberIndex) (frozen : Bool) : Type 0 where
+    pub next : frozen ≡ true → (next : MemberIndex) → member_index next ≡ member_index j + 1 → member_index next < raw_count plan → LoadsMember k ps m next
+    pub last : frozen ≡ true → ((member_index j < 3) × (member_index j + 1 < raw_count plan) → ⊥) → SetsFlag k ps m
+    pub blocked : frozen ≡ false → LoadsFlag k ps m
+
+  -- behind that of all nodes
+  pub record IsBehindFreezes (all : Bool) : Type 0 where
+    pub frozen : all ≡ true → SetsFlag k ps m
+    pub blocked : all ≡ false → LoadsFlag k ps m
+
+  -- it has ended: it has committed its SCX-record or not, and then waits to look whether all nodes
+  -- were frozen
+  pub record IsBehindHelp (done : Bool) : Type 0 where
+    pub commits : done ≡ true → (v : ℕ) × InnerIsTold k ps (record m { at = AtCommit }) v
+    pub blocked : done ≡ false → LoadsFlag k ps m
 
 -- the last step of its HELP has told that `allfrozen` is set, and that those of the first p
 -- nodes that are finalized are marked

@@ -1,6 +1,9 @@
 -- Calls of ordered reads, of whatever machine reads: at a place of the machine of the read, or
 -- before what comes next.
-use Rattle.std.specs.Prelude.{ℕ, suc, Bool, List, Result, Ok, Err}
+use Rattle.std.specs.Prelude.{ℕ, suc, ◌+◌, ◌≤◌, Bool, List, Result, Ok, Err}
+use Rattle.atomic_table.specs.declared.shared.Seat.{Seat}
+use Rattle.arena.specs.declared.machine.Machine.{Ghosts as Machine}
+use Rattle.arena.specs.declared.machine.Shape.{Ghosts as Shape}
 use Rattle.arena.specs.declared.number.NodeNo.{NodeNo}
 use Rattle.arena.specs.declared.number.ScxNo.{ScxNo}
 use Rattle.arena.specs.declared.step.Kind.TheVariants.{LoadSettled, LoadState}
@@ -19,10 +22,16 @@ use Rattle.order.specs.declared.refused.Refused.{Refused}
 use Rattle.order.specs.declared.run.ReadAt.TheVariants.{Look, Root}
 use Rattle.order.specs.declared.run.ReadRun.{ReadRun}
 use Rattle.ordered_map.specs.TreeShape.{TreeAllows}
+use Rattle.forest.specs.declared.straight.hand.Hand.{Hand}
+use Rattle.forest.specs.declared.view.SeatView.{SeatView}
 use Rattle.forest.specs.declared.view.SeatedPass.{SeatedPass}
 use Rattle.forest.specs.CallKinds.{Calls}
+use Rattle.forest.specs.Hands.{hand_calls}
 use Rattle.forest.specs.Hosts.{Host, HostedBegins, HostedEnds, HostedWaits, InnerCall}
+use Rattle.forest.specs.Leads.{Leads, steps_made}
+use Rattle.forest.specs.Seats.{StaysAtTable}
 use Rattle.forest.specs.StraightLlx.{llx_at}
+use Rattle.forest.specs.Traces.{shared_nodes}
 
 -- an ordered read that is called inside another call
 abbrev pub inner_read : {R A : Type 0} → ReadMeaning R A → InnerCall (ReadRun R) (Result A Refused)
@@ -79,3 +88,21 @@ module _ {R A : Type 0} (means : ReadMeaning R A) where
   -- where it asks again for that state
   abbrev pub again_left : ReadRun R → Children → ℕ → NodeNo → Bool → ScxNo → ℕ → ℕ
   again_left m children level n marked scx nodes = read_left means (looking_again m children level n marked scx) nodes
+
+module _ {S T M R A B : Type 0} (s : Shape T) (m : Machine M T B) (means : ReadMeaning R A) (hand : Hand S) where
+  -- in a call of the hand, a read has begun what comes next
+  abbrev pub StandsToRead : Seat ℕ SeatView → ReadRun R → ReadNext → Type 0
+  StandsToRead seat run next = (r : Reader (hand_calls s m hand) means) × ReaderWaits r seat.me.0.passes run next
+
+  -- From this seat, where a read goes on so, it comes to that one, where it goes on so: at the same
+  -- table, in any call of the hand, in no more steps than it then has fewer left, which are at
+  -- least so many fewer.
+  pub record ReadGoesOn (fewer : ℕ) (old : Seat ℕ SeatView) (run : ReadRun R) (next : Result ReadNext (Result A Refused)) (new : Seat ℕ SeatView) (now : ReadRun R) (behind : Result ReadNext (Result A Refused)) : Type 0 where
+    pub table : StaysAtTable old new
+    pub to : (r : Reader (hand_calls s m hand) means) → ReaderGoesOn r old.me.0.passes run next → ReaderGoesOn r new.me.0.passes now behind
+    pub nearer : fewer + left_then means (shared_nodes hand.layout.now) now behind ≤ left_then means (shared_nodes hand.layout.now) run next
+    pub steps : steps_made new + left_then means (shared_nodes hand.layout.now) now behind ≤ steps_made old + left_then means (shared_nodes hand.layout.now) run next
+
+  -- from this seat, where a read has begun what comes next, it comes to its end at that one
+  abbrev pub ReadEnds : Seat ℕ SeatView → ReadRun R → ReadNext → Seat ℕ SeatView → ReadRun R → Result A Refused → Type 0
+  ReadEnds old run next new now answer = Leads {K = Reader (hand_calls s m hand) means} old new (left_then means (shared_nodes hand.layout.now) run (Ok next)) (λ r ps. ReaderWaits r ps run next) (λ r ps. ReaderEnds r ps now answer)

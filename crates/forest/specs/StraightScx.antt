@@ -1,5 +1,5 @@
 -- Calls that stand at a place of an SCX, of whatever machine makes one.
-use Rattle.std.specs.Prelude.{◌≡◌, ℕ, List, Some}
+use Rattle.std.specs.Prelude.{◌≡◌, ℕ, Bool, true, false, List, Some}
 use Rattle.arena.specs.declared.layout.Layout.{Layout}
 use Rattle.arena.specs.declared.number.ScxNo.{ScxNo}
 use Rattle.arena.specs.declared.step.Step.{Step}
@@ -10,17 +10,19 @@ use Rattle.arena.specs.declared.word.ScxWord.TheVariants.{AllFrozen, Plan, Membe
 use Rattle.arena.specs.Words.{scx}
 use Rattle.arena.specs.History.{History}
 use Rattle.arena.specs.Machines.{Call, IsRun}
+use Rattle.help.specs.declared.state.HelpAt.TheVariants.{Commit}
+use Rattle.help.specs.declared.state.HelpRun.{HelpRun}
 use Rattle.prims.specs.Scx.Known.{ScxIsReady, ScxWaits}
 use Rattle.prims.specs.declared.scx.ScxAt.{ScxAt}
 use Rattle.prims.specs.declared.scx.ScxRun.{ScxRun}
 use Rattle.prims.specs.declared.snap.Snap.{Snap}
 use Rattle.forest.specs.declared.straight.scx.Change.{Change}
 use Rattle.forest.specs.CallKinds.{Calls}
-use Rattle.forest.specs.Inside.{Inner, Inside, InnerWaits}
+use Rattle.forest.specs.Inside.{Inner, Inside, InnerIsTold, InnerWaits}
 use Rattle.arena.specs.declared.number.MemberIndex.{MemberIndex}
 use Rattle.arena.specs.MemberIndex.{member_index}
 use Rattle.prims.specs.Snap.{snap_at}
-use Rattle.prims.specs.declared.scx.ScxAt.TheVariants.{Plan as AtPlan, Member as AtMember, Seen as AtSeen, Call as AtCall}
+use Rattle.prims.specs.declared.scx.ScxAt.TheVariants.{Plan as AtPlan, Member as AtMember, Seen as AtSeen, Call as AtCall, Help as AtHelp}
 use Rattle.forest.specs.declared.view.SeatedPass.{SeatedPass}
 
 -- the run of SCX over these snapshots that makes this change and stands at a place
@@ -64,3 +66,9 @@ module _ {M : Type 0} {inner : Layout → History → ℕ → Type 0} {o : Calls
   -- for that of the number of its call
   abbrev pub FillsCall : Type 0
   FillsCall = InnerWaits k ps (changing_at snaps change AtCall) (scx_fill change.scx CallWord change.call)
+
+  -- it has ended by this run of HELP: it has committed or not, and then waits to look whether all
+  -- nodes were frozen
+  pub record IsBehindChange (help : HelpRun) (done : Bool) : Type 0 where
+    pub commits : done ≡ true → (v : ℕ) × InnerIsTold k ps (changing_at snaps change (AtHelp (record help { at = Commit }))) v
+    pub blocked : done ≡ false → InnerWaits k ps (changing_at snaps change (AtHelp help)) (all_frozen_load change.scx)

@@ -1,16 +1,20 @@
 -- Calls of updates, of whatever machine updates: at a place of it, or before it has begun.
-use Rattle.std.specs.Prelude.{◌≡◌, ℕ, suc, ◌+◌, ◌-◌, ◌≤◌, List, [], Option, Some, None, Result, Ok, Err}
+use Rattle.std.specs.Prelude.{◌≡◌, ℕ, suc, ◌+◌, ◌-◌, ◌*◌, ◌≤◌, List, [], Option, Some, None, Result, Ok, Err}
+use Rattle.arena.specs.Layout.{node_start}
 use Rattle.arena.specs.declared.word.NodeWord.{NodeWord}
+use Rattle.arena.specs.declared.machine.Machine.{Ghosts as Machine}
+use Rattle.arena.specs.declared.machine.Shape.{Ghosts as Shape}
 use Rattle.arena.specs.History.{History}
 use Rattle.arena.specs.Share.{Remaining}
+use Rattle.atomic_table.specs.declared.shared.Seat.{Seat}
 use Rattle.ordered_map.specs.TreeShape.{TreeAllows}
 use Rattle.edits.specs.Edits.{EditMeaning}
 use Rattle.edits.specs.Known.{UpdateIsReady, UpdateWaits, UpdateAnswers}
 use Rattle.template.specs.declared.walk.Found.{Found}
-use Rattle.edits.specs.Next.{fills, placed, standing, next_step, update_of, MayStop}
-use Rattle.edits.specs.Pieces.{fills_behind, part_behind}
+use Rattle.edits.specs.Next.{fills, left_then, placed, standing, next_step, update_of, MayStop}
+use Rattle.edits.specs.Pieces.{fills_behind, nth_node, part_behind}
 use Rattle.edits.specs.Readings.{nothing_read}
-use Rattle.edits.specs.Steps.{Spends, node_tries, pieces_now, scx_tries}
+use Rattle.edits.specs.Steps.{Spends, node_tries, pieces_now, scx_tries, try_left}
 use Rattle.edits.specs.declared.edit.Nth.{Nth}
 use Rattle.edits.specs.declared.piece.Piece.{Piece}
 use Rattle.edits.specs.declared.update.Next.{Next}
@@ -21,12 +25,18 @@ use Rattle.edits.specs.declared.update.UpdateRun.{UpdateRun}
 use Rattle.edits.specs.declared.update.Updated.{Updated}
 use Rattle.arena.specs.declared.number.ScxNo.{ScxNo}
 use Rattle.help.specs.declared.state.HelpRun.{HelpRun}
+use Rattle.prims.specs.Scx.Steps.{scx_left}
 use Rattle.prims.specs.declared.scx.ScxAt.TheVariants.{Help}
 use Rattle.forest.specs.StraightScx.{all_frozen_load}
+use Rattle.forest.specs.declared.straight.hand.Hand.{Hand}
+use Rattle.forest.specs.declared.view.SeatView.{SeatView}
 use Rattle.forest.specs.declared.view.SeatedPass.{SeatedPass}
 use Rattle.forest.specs.CallKinds.{Calls}
+use Rattle.forest.specs.Hands.{hand_calls}
 use Rattle.forest.specs.Hosts.{Host, HostedBegins, HostedEnds, HostedIsTold, HostedWaits, InnerCall}
-use Rattle.forest.specs.Traces.{Trace, HoldsForCall}
+use Rattle.forest.specs.Leads.{Leads, steps_made}
+use Rattle.forest.specs.Seats.{StaysAtTable}
+use Rattle.forest.specs.Traces.{Trace, HoldsForCall, shared_nodes}
 
 -- The second run is the same update further on, which has given up one try at most. Of the share
 -- no more is taken than may be, where so many tries may still take nodes, and so many an
@@ -36,7 +46,7 @@ pub record HasUpdateGoneOn {E A : Type 0} (e : EditMeaning E) (old : UpdateRun E
   pub called : now.call ≡ old.call
   pub limit : now.limit ≡ old.limit
   pub tries : (old.tries ≤ now.tries + 1) × (now.tries ≤ old.tries)
-  pub spends : Spends e.most_nodes old.share now.share (node_tries old old.at) nodes (scx_tries old old.at) scx
+  pub spends : Spends (e.most_nodes now.edit) old.share now.share (node_tries old old.at) nodes (scx_tries old old.at) scx
 
 -- an update of which nothing is made, in the call of this number
 abbrev pub new_update : {E : Type 0} → E → Remaining → ℕ → ℕ → UpdateRun E (Unit {0})
@@ -119,3 +129,40 @@ module _ {M E : Type 0} {o : Calls M} {e : EditMeaning E} (u : Updater o e) (ps 
   -- its update has answered, wherever it stands, and this is left of its share
   abbrev pub UpdaterLeaves : Updated → Remaining → Type 0
   UpdaterLeaves a share = (m : UpdateRun E (Unit {0})) × (m.share ≡ share) × UpdaterEnds m a
+
+-- the words of the fresh node of this place begin there, and the piece is what the edit says of it
+abbrev pub IsFreshPiece : {E A : Type 0} → EditMeaning E → UpdateRun E A → Found → Nth → ℕ → Piece → Type 0
+IsFreshPiece e m f nth start p = (start ≡ node_start (nth_node m.nodes nth)) × (p ≡ pieces_now e m f nth)
+
+-- so many steps are left to an update whose SCX could not freeze a node, where its HELP stands so
+abbrev pub left_at_block : {E A : Type 0} → EditMeaning E → UpdateRun E A → HelpRun → ℕ → ℕ
+left_at_block e m help nodes = suc (m.tries * try_left e m.edit nodes + scx_left (Help help))
+
+module _ {S T M A E : Type 0} (s : Shape T) (m : Machine M T A) (e : EditMeaning E) (hand : Hand S) (f : Found) where
+  -- in a call of the hand, a try that has found f goes on so
+  abbrev pub StandsToTry : {B : Type 0} → Seat ℕ SeatView → UpdateRun E B → Result Next Stop → Type 0
+  StandsToTry seat run next = (u : Updater (hand_calls s m hand) e) × UpdaterGoesOn u seat.me.0.passes run f next
+
+  -- From this seat, where a try that has found f goes on so, it comes to that one, where it goes on
+  -- so: at the same table, in any call of the hand, in no more steps than it then has fewer left.
+  pub record TryGoesOn {B C : Type 0} (old : Seat ℕ SeatView) (run : UpdateRun E B) (next : Result Next Stop) (new : Seat ℕ SeatView) (now : UpdateRun E C) (behind : Result Next Stop) : Type 0 where
+    pub table : StaysAtTable old new
+    pub to : (u : Updater (hand_calls s m hand) e) → UpdaterGoesOn u old.me.0.passes run f next → UpdaterGoesOn u new.me.0.passes now f behind
+    pub later : steps_made old ≤ steps_made new
+    pub steps : steps_made new + left_then e now f behind (shared_nodes hand.layout.now) ≤ steps_made old + left_then e run f next (shared_nodes hand.layout.now)
+
+  -- from this seat, where it goes on so, the update comes to its end at that one, with this answer
+  abbrev pub TryEnds : {B C : Type 0} → Seat ℕ SeatView → UpdateRun E B → Result Next Stop → Seat ℕ SeatView → UpdateRun E C → Updated → Type 0
+  TryEnds old run next new now answer = Leads {K = Updater (hand_calls s m hand) e} old new (left_then e run f next (shared_nodes hand.layout.now)) (λ u ps. UpdaterGoesOn u ps run f next) (λ u ps. UpdaterEnds u ps now answer)
+
+  -- in a call of the hand, this word of the fresh node of this place is filled next, if one is
+  abbrev pub StandsToFill : {B : Type 0} → Seat ℕ SeatView → UpdateRun E B → Nth → Option NodeWord → Type 0
+  StandsToFill seat run nth next = (u : Updater (hand_calls s m hand) e) × UpdaterFills u seat.me.0.passes run f nth next
+
+  -- From this seat, where one word of the fresh node of this place is filled next, it comes to that
+  -- one, where another is, as `TryGoesOn` says.
+  pub record FillGoesOn {B : Type 0} (run : UpdateRun E B) (nth : Nth) (p : Piece) (old : Seat ℕ SeatView) (next : Option NodeWord) (new : Seat ℕ SeatView) (behind : Option NodeWord) : Type 0 where
+    pub table : StaysAtTable old new
+    pub to : (u : Updater (hand_calls s m hand) e) → UpdaterFills u old.me.0.passes run f nth next → UpdaterFills u new.me.0.passes run f nth behind
+    pub later : steps_made old ≤ steps_made new
+    pub steps : steps_made new + fills_then p behind ≤ steps_made old + fills_then p next

@@ -4,9 +4,9 @@ ghost use Rattle.std.specs.List.{All};
 ghost use Rattle.std.specs.Option.{option_map};
 ghost use Rattle.arena.specs.Limits.{IsAccepted, IsLayoutOf};
 ghost use Rattle.arena.specs.declared.limits.Mode.TheVariants.{Tree};
-ghost use Rattle.ordered_map.specs.OrderedMap.{Edit, Get, Insert as InsertEdit, Delete as DeleteEdit, PopFirst as PopCall, ReplaceIf as ReplaceCall, OneValue, Range, Successor};
+ghost use Rattle.ordered_map.specs.OrderedMap.{Get, OneValue, Range, Successor, call_insert, call_delete, call_pop_first, call_replace_if};
 ghost use Rattle.dict.specs.Calls.{AsksForPairs, IsSmallCall};
-ghost use Rattle.ordered_map.specs.CallRules.{IsFormOfEdit, IsFormOfPop, MayReply, form_of};
+ghost use Rattle.ordered_map.specs.CallRules.{IsFormOfValue, IsFormOfPair, MayReply, form_of};
 ghost use Rattle.dict.specs.Says.{KeepsLists};
 ghost use Rattle.dict.specs.Typed.{IsTypedCall};
 ghost use Rattle.dict.specs.Words.{IsValidPair, IsValidReply, IsWordOf};
@@ -26,12 +26,12 @@ use dict::{Dict, DictRun, EditCall, Reply, Request, WordKey, WordValue, number_o
 use std::alloc::Global;
 use std::mem::replace;
 use template::Goal;
-use tree::{Delete, Insert, PopFirst, ReplaceIf};
+use tree::{delete, insert, pop_first, replace_if};
 
 /// What the caller of an edit of a key gets of its reply.
 #[inline(always)]
 fn told_value<K: WordKey, V: WordValue>(reply: Reply<K, V>) -> Result<Option<V>, UpdateFault>
-    requires form { IsFormOfEdit (form_of reply) }
+    requires form { IsFormOfValue (form_of reply) }
     ensures { reply ≡ update_reply result }
 {
     match reply {
@@ -49,7 +49,7 @@ fn told_value<K: WordKey, V: WordValue>(reply: Reply<K, V>) -> Result<Option<V>,
 /// What the caller of a pop gets of its reply.
 #[inline(always)]
 fn told_pair<K: WordKey, V: WordValue>(reply: Reply<K, V>) -> Result<Option<(K, V)>, UpdateFault>
-    requires form { IsFormOfPop (form_of reply) }
+    requires form { IsFormOfPair (form_of reply) }
     ensures { reply ≡ popped_reply result }
 {
     match reply {
@@ -100,15 +100,15 @@ impl<K: WordKey, V: WordValue> Forest<Dict<K, V>> {
         ensures pass { IsOf self.now pass.new }
         ensures tree { pass.new.layout.mode ≡ Tree }
         ensures goes_on { HasMadeCall K.is_valid K.word_of V.is_valid V.word_of self.now.tries self.now.layout
-            pass.old pass.new (Edit (InsertEdit (K.word_of key) (V.word_of value))) (blamed_by_update result pass.old.blamed) }
-        ensures spends { HasSpentAtMost pass.old pass.new (Edit (InsertEdit (K.word_of key) (V.word_of value))) self.now.tries }
-        ensures says { UpdateSays V.word_of self.now.tries pass.old pass.new (Edit (InsertEdit (K.word_of key) (V.word_of value))) result }
+            pass.old pass.new (call_insert (K.word_of key) (V.word_of value)) (blamed_by_update result pass.old.blamed) }
+        ensures spends { HasSpentAtMost pass.old pass.new (call_insert (K.word_of key) (V.word_of value)) self.now.tries }
+        ensures says { UpdateSays V.word_of self.now.tries pass.old pass.new (call_insert (K.word_of key) (V.word_of value)) result }
         ensures valid { IfOk result (λ old. IfSome old V.is_valid) }
     {
         key.valid();
         value.valid();
         let (key, value) = (key.word(), number_of(&value));
-        self.edit_at_key(pass, Insert { key, value })
+        self.edit_at_key(pass, insert(key, value))
     }
 
     /// Takes a key away, and tells the value that it had just before. It takes at most a node and
@@ -118,14 +118,14 @@ impl<K: WordKey, V: WordValue> Forest<Dict<K, V>> {
         ensures pass { IsOf self.now pass.new }
         ensures tree { pass.new.layout.mode ≡ Tree }
         ensures goes_on { HasMadeCall K.is_valid K.word_of V.is_valid V.word_of self.now.tries self.now.layout
-            pass.old pass.new (Edit (DeleteEdit (K.word_of key.now))) (blamed_by_update result pass.old.blamed) }
-        ensures spends { HasSpentAtMost pass.old pass.new (Edit (DeleteEdit (K.word_of key.now))) self.now.tries }
-        ensures says { UpdateSays V.word_of self.now.tries pass.old pass.new (Edit (DeleteEdit (K.word_of key.now))) result }
+            pass.old pass.new (call_delete (K.word_of key.now)) (blamed_by_update result pass.old.blamed) }
+        ensures spends { HasSpentAtMost pass.old pass.new (call_delete (K.word_of key.now)) self.now.tries }
+        ensures says { UpdateSays V.word_of self.now.tries pass.old pass.new (call_delete (K.word_of key.now)) result }
         ensures valid { IfOk result (λ old. IfSome old V.is_valid) }
     {
         key.valid();
         let key = key.word();
-        self.edit_at_key(pass, Delete { key })
+        self.edit_at_key(pass, delete(key))
     }
 
     /// Takes the pair with the least key away, if there is one, and tells it. It takes at most a node
@@ -135,12 +135,12 @@ impl<K: WordKey, V: WordValue> Forest<Dict<K, V>> {
         ensures pass { IsOf self.now pass.new }
         ensures tree { pass.new.layout.mode ≡ Tree }
         ensures goes_on { HasMadeCall K.is_valid K.word_of V.is_valid V.word_of self.now.tries self.now.layout
-            pass.old pass.new PopCall (blamed_by_update result pass.old.blamed) }
-        ensures spends { HasSpentAtMost pass.old pass.new PopCall self.now.tries }
+            pass.old pass.new call_pop_first (blamed_by_update result pass.old.blamed) }
+        ensures spends { HasSpentAtMost pass.old pass.new call_pop_first self.now.tries }
         ensures says { PopSays K.word_of V.word_of self.now.tries pass.old pass.new result }
         ensures valid { IfOk result (λ pair. IfSome pair (IsValidPair K.is_valid V.is_valid)) }
     {
-        told_pair(self.edit(pass, PopFirst))
+        told_pair(self.edit(pass, pop_first()))
     }
 
     /// Puts a value at a key that has the expected one, and tells the value that the key had just
@@ -157,21 +157,16 @@ impl<K: WordKey, V: WordValue> Forest<Dict<K, V>> {
         ensures pass { IsOf self.now pass.new }
         ensures tree { pass.new.layout.mode ≡ Tree }
         ensures goes_on { HasMadeCall K.is_valid K.word_of V.is_valid V.word_of self.now.tries self.now.layout
-            pass.old pass.new (ReplaceCall (K.word_of key) (V.word_of expected.now) (V.word_of value)) (blamed_by_update result pass.old.blamed) }
-        ensures spends { HasSpentAtMost pass.old pass.new (ReplaceCall (K.word_of key) (V.word_of expected.now) (V.word_of value)) self.now.tries }
+            pass.old pass.new (call_replace_if (K.word_of key) (V.word_of expected.now) (V.word_of value)) (blamed_by_update result pass.old.blamed) }
+        ensures spends { HasSpentAtMost pass.old pass.new (call_replace_if (K.word_of key) (V.word_of expected.now) (V.word_of value)) self.now.tries }
         ensures says { UpdateSays V.word_of self.now.tries pass.old pass.new
-            (ReplaceCall (K.word_of key) (V.word_of expected.now) (V.word_of value)) result }
+            (call_replace_if (K.word_of key) (V.word_of expected.now) (V.word_of value)) result }
         ensures valid { IfOk result (λ old. IfSome old V.is_valid) }
     {
         key.valid();
         value.valid();
         let (key, expected, value) = (key.word(), number_of(expected), number_of(&value));
-        let edit = ReplaceIf {
-            key,
-            expected,
-            value,
-        };
-        self.edit_at_key(pass, edit)
+        self.edit_at_key(pass, replace_if(key, expected, value))
     }
 
     /// The value of a key, if it has one. It takes nothing, and is never refused.

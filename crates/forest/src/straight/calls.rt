@@ -9,9 +9,10 @@ ghost use Rattle.ordered_map.specs.Requests.{as_map_call};
 ghost use Rattle.order.specs.Range.{range_means, range_try_left};
 ghost use Rattle.order.specs.Steps.{read_left};
 ghost use Rattle.order.specs.declared.run.ReadAt.{ReadAt};
+ghost use Rattle.forest.specs.Leads.{steps_made};
 ghost use Rattle.forest.specs.Hands.{IsAt, IsCallOf};
 ghost use Rattle.forest.specs.Seats.{StaysAtTable};
-ghost use Rattle.forest.specs.Traces.{seat_steps, shared_nodes};
+ghost use Rattle.forest.specs.Traces.{shared_nodes};
 ghost use Rattle.forest.specs.StraightCalls.{CallHasEnded, SeatCallBegins};
 
 use crate::straight::hand::Hand;
@@ -41,12 +42,16 @@ pub(crate) fn make<K: WordKey, V: WordValue, E: EditCall>(
     requires tries { 0 < tries }
     requires small { IsSmallCall (E.call edit) }
     requires begins { (c : Call) × IsCallOf hand c
-        × SeatCallBegins K.is_valid K.word_of V.is_valid V.word_of c seat.old.me.0.passes (E.call edit) share tries hand.number }
+        × SeatCallBegins K.is_valid K.word_of V.is_valid V.word_of c
+        seat.old.me.0.passes (E.call edit) share tries hand.number }
     ensures table { StaysAtTable seat.old seat.new }
     ensures ends { (c : Call) → IsCallOf hand.entry c
-        → SeatCallBegins K.is_valid K.word_of V.is_valid V.word_of c seat.old.me.0.passes (E.call edit) share tries hand.entry.number
-        → CallHasEnded K.is_valid K.word_of V.is_valid V.word_of c seat.new.me.0.passes (E.call edit) share tries hand.entry.number result.1 result.0 }
-    ensures steps { seat_steps seat.new.me.0.passes ≤ seat_steps seat.old.me.0.passes + most_steps (E.call edit) tries (shared_nodes hand.entry.layout.now) }
+        → SeatCallBegins K.is_valid K.word_of V.is_valid V.word_of c
+        seat.old.me.0.passes (E.call edit) share tries hand.entry.number
+        → CallHasEnded K.is_valid K.word_of V.is_valid V.word_of c seat.new.me.0.passes
+        (E.call edit) share tries hand.entry.number result.1 result.0 }
+    ensures steps { steps_made seat.new ≤ steps_made seat.old + most_steps (E.call edit) tries
+        (shared_nodes hand.entry.layout.now) }
 {
     let goal = edit.goal();
     let (updated, share) = update::make::<Dict<K, V>, DictRun<K, V>, E>(
@@ -67,7 +72,8 @@ fn range_run(alloc: Global, low: u64, high: u64, most: usize, tries: u32) -> Ran
     ensures snaps { result.snaps.items ≡ [] }
     ensures limit { result.limit ≡ tries }
     ensures tries { result.tries ≡ tries - 1 }
-    ensures bound { (nodes : ℕ) → 0 < tries → read_left range_means result nodes ≤ tries * range_try_left most nodes }
+    ensures bound { (nodes : ℕ) → 0 < tries → read_left range_means result nodes
+        ≤ tries * range_try_left most nodes }
 {
     let mut run = Range::run(alloc, low, high, most, tries);
     let pairs = most.min(64);
@@ -91,14 +97,17 @@ pub(crate) fn read<K: WordKey, V: WordValue>(
     requires tries { 0 < tries }
     requires ordered { KeepsLists (as_map_call K.word_of V.word_of request) }
     requires begins { (c : Call) × (share : Remaining) × IsCallOf hand c
-        × SeatCallBegins K.is_valid K.word_of V.is_valid V.word_of c seat.old.me.0.passes (as_map_call K.word_of V.word_of request) share tries hand.number }
+        × SeatCallBegins K.is_valid K.word_of V.is_valid V.word_of c
+        seat.old.me.0.passes (as_map_call K.word_of V.word_of request) share tries hand.number }
     ensures table { StaysAtTable seat.old seat.new }
     ensures ends { (c : Call) (share : Remaining) → IsCallOf hand.entry c
-        → SeatCallBegins K.is_valid K.word_of V.is_valid V.word_of c seat.old.me.0.passes (as_map_call K.word_of V.word_of request) share tries hand.entry.number
+        → SeatCallBegins K.is_valid K.word_of V.is_valid V.word_of c
+        seat.old.me.0.passes (as_map_call K.word_of V.word_of request) share tries hand.entry.number
         → CallHasEnded K.is_valid K.word_of V.is_valid V.word_of c seat.new.me.0.passes
         (as_map_call K.word_of V.word_of request) share tries hand.entry.number share result }
-    ensures steps { seat_steps seat.new.me.0.passes
-        ≤ seat_steps seat.old.me.0.passes + most_steps (as_map_call K.word_of V.word_of request) tries (shared_nodes hand.entry.layout.now) }
+    ensures steps { steps_made seat.new
+        ≤ steps_made seat.old + most_steps (as_map_call K.word_of V.word_of request) tries
+        (shared_nodes hand.entry.layout.now) }
     ensures nothing { ¬ AsksForPairs (as_map_call K.word_of V.word_of request) → seat.new ≡ seat.old }
 {
     match request {

@@ -1,15 +1,11 @@
 //! What updates fill, of whatever machine updates.
-ghost use Rattle.std.specs.Prelude.{◌≡◌, ◌≤◌, ◌<◌, ◌+◌, suc, true, Ok, Some, IfSome};
+ghost use Rattle.std.specs.Prelude.{◌≡◌, ◌<◌, true, Ok, Some, IfSome};
 ghost use Rattle.arena.specs.declared.word.NodeWord.{NodeWord};
 ghost use Rattle.arena.specs.declared.word.SettledPart.{SettledPart};
-ghost use Rattle.forest.specs.Hands.{IsAt, hand_calls};
-ghost use Rattle.forest.specs.Seats.{StaysAtTable};
-ghost use Rattle.forest.specs.Traces.{seat_steps, shared_nodes};
-ghost use Rattle.forest.specs.StraightUpdate.{Updater, UpdaterFills, UpdaterTries, UpdaterGoesOn, fills_then};
-ghost use Rattle.edits.specs.Next.{left_then};
-ghost use Rattle.arena.specs.Layout.{node_start};
-ghost use Rattle.edits.specs.Pieces.{is_filled, is_leaf_piece, nth_node, part_behind, word_of};
-ghost use Rattle.edits.specs.Steps.{pieces_now};
+ghost use Rattle.forest.specs.Hands.{IsAt};
+ghost use Rattle.forest.specs.Leads.{steps_made};
+ghost use Rattle.forest.specs.StraightUpdate.{FillGoesOn, IsFreshPiece, StandsToFill, StandsToTry, TryGoesOn};
+ghost use Rattle.edits.specs.Pieces.{is_filled, is_leaf_piece, part_behind, word_of};
 ghost use Rattle.edits.specs.declared.update.Next.{Next};
 
 use crate::straight::hand::Hand;
@@ -51,16 +47,13 @@ fn put<S: Shape, M: Machine<S>, E: Edit + Copy>(
     value: u64,
 )
     requires table { IsAt hand seat.old }
-    requires start { node.start ≡ node_start (nth_node run.now.nodes node.nth) }
-    requires said { piece.now ≡ pieces_now E.means run.now found.now node.nth }
+    requires fresh { IsFreshPiece E.means run.now found.now node.nth node.start piece.now }
     requires value { value ≡ word_of piece.now part }
-    requires fills { (u : Updater (hand_calls S.Shape M.Machine hand) E.means)
-        × UpdaterFills u seat.old.me.0.passes run.now found.now node.nth (Some part) }
-    ensures table { StaysAtTable seat.old seat.new }
-    ensures goes_on { (u : Updater (hand_calls S.Shape M.Machine hand.entry) E.means)
-        → UpdaterFills u seat.old.me.0.passes run.now found.now node.nth (Some part)
-        → UpdaterFills u seat.new.me.0.passes run.now found.now node.nth (part_behind piece.now part) }
-    ensures one { seat_steps seat.new.me.0.passes ≡ suc (seat_steps seat.old.me.0.passes) }
+    requires fills { StandsToFill S.Shape M.Machine E.means hand found.now
+        seat.old run.now node.nth (Some part) }
+    ensures goes_on { FillGoesOn S.Shape M.Machine E.means hand.entry found.now
+        run.now node.nth piece.now seat.old (Some part) seat.new (part_behind piece.now part) }
+    ensures moves { steps_made seat.old < steps_made seat.new }
 {
     let (kind, word) = (Kind::Fill, Word::Node(run.nodes.at(node.nth), part));
     let access = Access::Store(value);
@@ -80,17 +73,13 @@ fn fill<S: Shape, M: Machine<S>, E: Edit + Copy>(
     part: NodeWord,
 ) -> Option<NodeWord>
     requires table { IsAt hand seat.old }
-    requires start { node.start ≡ node_start (nth_node run.now.nodes node.nth) }
-    requires said { piece.now ≡ pieces_now E.means run.now found.now node.nth }
-    requires fills { (u : Updater (hand_calls S.Shape M.Machine hand) E.means)
-        × UpdaterFills u seat.old.me.0.passes run.now found.now node.nth (Some part) }
-    ensures table { StaysAtTable seat.old seat.new }
-    ensures goes_on { (u : Updater (hand_calls S.Shape M.Machine hand.entry) E.means)
-        → UpdaterFills u seat.old.me.0.passes run.now found.now node.nth (Some part)
-        → UpdaterFills u seat.new.me.0.passes run.now found.now node.nth result }
-    ensures steps { seat_steps seat.new.me.0.passes + fills_then piece.now result ≤ seat_steps seat.old.me.0.passes + fills_then piece.now (Some part) }
-    ensures fewer { fills_then piece.now result < fills_then piece.now (Some part) }
-    ensures filled { IfSome result (λ next. is_filled piece.now next ≡ true) }
+    requires fresh { IsFreshPiece E.means run.now found.now node.nth node.start piece.now }
+    requires fills { StandsToFill S.Shape M.Machine E.means hand found.now
+        seat.old run.now node.nth (Some part) }
+    ensures goes_on { FillGoesOn S.Shape M.Machine E.means hand.entry found.now
+        run.now node.nth piece.now seat.old (Some part) seat.new result }
+    ensures moves { steps_made seat.old < steps_made seat.new }
+    ensures filled { IfSome result (λ part. is_filled piece.now part ≡ true) }
 {
     let value = piece.word(part);
     put::<S, M, E>(hand, seat, run, found, node, piece, part, value);
@@ -110,19 +99,15 @@ fn fill_pair<S: Shape, M: Machine<S>, E: Edit + Copy>(
     slot: Slot,
 ) -> Option<NodeWord>
     requires table { IsAt hand seat.old }
-    requires start { node.start ≡ node_start (nth_node run.now.nodes node.nth) }
-    requires said { piece.now ≡ pieces_now E.means run.now found.now node.nth }
-    requires fills { (u : Updater (hand_calls S.Shape M.Machine hand) E.means)
-        × UpdaterFills u seat.old.me.0.passes run.now found.now node.nth (Some (NodeWord.Settled (SettledPart.Key slot))) }
+    requires fresh { IsFreshPiece E.means run.now found.now node.nth node.start piece.now }
+    requires fills { StandsToFill S.Shape M.Machine E.means hand found.now
+        seat.old run.now node.nth (Some (NodeWord.Settled (SettledPart.Key slot))) }
     requires leaf { is_leaf_piece piece.now ≡ true }
     requires there { is_filled piece.now (NodeWord.Settled (SettledPart.Key slot)) ≡ true }
-    ensures table { StaysAtTable seat.old seat.new }
-    ensures goes_on { (u : Updater (hand_calls S.Shape M.Machine hand.entry) E.means)
-        → UpdaterFills u seat.old.me.0.passes run.now found.now node.nth (Some (NodeWord.Settled (SettledPart.Key slot)))
-        → UpdaterFills u seat.new.me.0.passes run.now found.now node.nth result }
-    ensures steps { seat_steps seat.new.me.0.passes + fills_then piece.now result
-        ≤ seat_steps seat.old.me.0.passes + fills_then piece.now (Some (NodeWord.Settled (SettledPart.Key slot))) }
-    ensures filled { IfSome result (λ next. is_filled piece.now next ≡ true) }
+    ensures goes_on { FillGoesOn S.Shape M.Machine E.means hand.entry found.now
+        run.now node.nth piece.now seat.old (Some (NodeWord.Settled (SettledPart.Key slot)))
+        seat.new result }
+    ensures filled { IfSome result (λ part. is_filled piece.now part ≡ true) }
 {
     let (key, low, high) = piece.pair_words(slot);
     let part = NodeWord::Settled(SettledPart::Key(slot));
@@ -149,16 +134,12 @@ fn fill_more<S: Shape, M: Machine<S>, E: Edit + Copy>(
     next: Option<NodeWord>,
 ) -> Option<NodeWord>
     requires table { IsAt hand seat.old }
-    requires start { node.start ≡ node_start (nth_node run.now.nodes node.nth) }
-    requires said { piece.now ≡ pieces_now E.means run.now found.now node.nth }
-    requires fills { (u : Updater (hand_calls S.Shape M.Machine hand) E.means)
-        × UpdaterFills u seat.old.me.0.passes run.now found.now node.nth next }
+    requires fresh { IsFreshPiece E.means run.now found.now node.nth node.start piece.now }
+    requires fills { StandsToFill S.Shape M.Machine E.means hand found.now
+        seat.old run.now node.nth next }
     requires there { IfSome next (λ part. is_filled piece.now part ≡ true) }
-    ensures table { StaysAtTable seat.old seat.new }
-    ensures goes_on { (u : Updater (hand_calls S.Shape M.Machine hand.entry) E.means)
-        → UpdaterFills u seat.old.me.0.passes run.now found.now node.nth next
-        → UpdaterFills u seat.new.me.0.passes run.now found.now node.nth result }
-    ensures steps { seat_steps seat.new.me.0.passes + fills_then piece.now result ≤ seat_steps seat.old.me.0.passes + fills_then piece.now next }
+    ensures goes_on { FillGoesOn S.Shape M.Machine E.means hand.entry found.now
+        run.now node.nth piece.now seat.old next seat.new result }
     ensures filled { IfSome result (λ part. is_filled piece.now part ≡ true) }
 {
     match next {
@@ -183,16 +164,12 @@ fn fill_next_pair<S: Shape, M: Machine<S>, E: Edit + Copy>(
     slot: Slot,
 ) -> Option<NodeWord>
     requires table { IsAt hand seat.old }
-    requires start { node.start ≡ node_start (nth_node run.now.nodes node.nth) }
-    requires said { piece.now ≡ pieces_now E.means run.now found.now node.nth }
-    requires fills { (u : Updater (hand_calls S.Shape M.Machine hand) E.means)
-        × UpdaterFills u seat.old.me.0.passes run.now found.now node.nth next }
+    requires fresh { IsFreshPiece E.means run.now found.now node.nth node.start piece.now }
+    requires fills { StandsToFill S.Shape M.Machine E.means hand found.now
+        seat.old run.now node.nth next }
     requires there { IfSome next (λ part. is_filled piece.now part ≡ true) }
-    ensures table { StaysAtTable seat.old seat.new }
-    ensures goes_on { (u : Updater (hand_calls S.Shape M.Machine hand.entry) E.means)
-        → UpdaterFills u seat.old.me.0.passes run.now found.now node.nth next
-        → UpdaterFills u seat.new.me.0.passes run.now found.now node.nth result }
-    ensures steps { seat_steps seat.new.me.0.passes + fills_then piece.now result ≤ seat_steps seat.old.me.0.passes + fills_then piece.now next }
+    ensures goes_on { FillGoesOn S.Shape M.Machine E.means hand.entry found.now
+        run.now node.nth piece.now seat.old next seat.new result }
     ensures filled { IfSome result (λ part. is_filled piece.now part ≡ true) }
 {
     match next {
@@ -215,16 +192,12 @@ fn fill_pairs<S: Shape, M: Machine<S>, E: Edit + Copy>(
     next: Option<NodeWord>,
 ) -> Option<NodeWord>
     requires table { IsAt hand seat.old }
-    requires start { node.start ≡ node_start (nth_node run.now.nodes node.nth) }
-    requires said { piece.now ≡ pieces_now E.means run.now found.now node.nth }
-    requires fills { (u : Updater (hand_calls S.Shape M.Machine hand) E.means)
-        × UpdaterFills u seat.old.me.0.passes run.now found.now node.nth next }
+    requires fresh { IsFreshPiece E.means run.now found.now node.nth node.start piece.now }
+    requires fills { StandsToFill S.Shape M.Machine E.means hand found.now
+        seat.old run.now node.nth next }
     requires there { IfSome next (λ part. is_filled piece.now part ≡ true) }
-    ensures table { StaysAtTable seat.old seat.new }
-    ensures goes_on { (u : Updater (hand_calls S.Shape M.Machine hand.entry) E.means)
-        → UpdaterFills u seat.old.me.0.passes run.now found.now node.nth next
-        → UpdaterFills u seat.new.me.0.passes run.now found.now node.nth result }
-    ensures steps { seat_steps seat.new.me.0.passes + fills_then piece.now result ≤ seat_steps seat.old.me.0.passes + fills_then piece.now next }
+    ensures { FillGoesOn S.Shape M.Machine E.means hand.entry found.now
+        run.now node.nth piece.now seat.old next seat.new result }
 {
     let next = fill_next_pair::<S, M, E>(hand, seat, run, found, node, piece, next, Slot::First);
     let next = fill_next_pair::<S, M, E>(hand, seat, run, found, node, piece, next, Slot::Second);
@@ -242,15 +215,11 @@ pub(crate) fn fill_node<S: Shape, M: Machine<S>, E: Edit + Copy>(
     nth: Nth,
 ) -> Result<Next, Stop>
     requires table { IsAt hand seat.old }
-    requires tries { (u : Updater (hand_calls S.Shape M.Machine hand) E.means) × UpdaterTries u seat.old.me.0.passes run.old found.now (Next.Fill nth) }
-    ensures table { StaysAtTable seat.old seat.new }
-    ensures goes_on { (u : Updater (hand_calls S.Shape M.Machine hand.entry) E.means)
-        → UpdaterTries u seat.old.me.0.passes run.old found.now (Next.Fill nth)
-        → UpdaterGoesOn u seat.new.me.0.passes run.new found.now result }
-    ensures steps { seat_steps seat.new.me.0.passes + left_then E.means run.new found.now result (shared_nodes hand.entry.layout.now)
-        ≤ seat_steps seat.old.me.0.passes + left_then E.means run.old found.now (Ok (Next.Fill nth)) (shared_nodes hand.entry.layout.now) }
-    ensures nearer { left_then E.means run.new found.now result (shared_nodes hand.entry.layout.now)
-        < left_then E.means run.old found.now (Ok (Next.Fill nth)) (shared_nodes hand.entry.layout.now) }
+    requires tries { StandsToTry S.Shape M.Machine E.means hand found.now
+        seat.old run.old (Ok (Next.Fill nth)) }
+    ensures goes_on { TryGoesOn S.Shape M.Machine E.means hand.entry found.now
+        seat.old run.old (Ok (Next.Fill nth)) seat.new run.new result }
+    ensures moves { steps_made seat.old < steps_made seat.new }
 {
     let snaps = run.snaps.as_slice();
     let piece = run.edit.piece(found, snaps, &run.nodes, &run.read, nth);

@@ -1,15 +1,13 @@
 //! HELP, of whatever machine helps: its steps in line.
-ghost use Rattle.std.specs.Prelude.{◌≡◌, ◌≢◌, ◌+◌, ◌≤◌, ◌<◌, ◌⊎◌, ℕ, suc, true, false};
+ghost use Rattle.std.specs.Prelude.{◌≡◌, ◌≢◌, ◌+◌, ◌≤◌, ◌⊎◌, ℕ, suc, true, false};
 ghost use Rattle.arena.specs.Layout.{scx_start};
-ghost use Rattle.arena.specs.ScxRecords.{raw_count};
 ghost use Rattle.arena.specs.MemberIndex.{member_index};
 ghost use Rattle.help.specs.Help.Steps.{help_left};
 ghost use Rattle.help.specs.Help.Known.{settled_load};
-ghost use Rattle.help.specs.declared.state.HelpRun.{HelpRun};
 ghost use Rattle.forest.specs.Hands.{IsAt, hand_calls};
-ghost use Rattle.forest.specs.Seats.{StaysAtTable};
-ghost use Rattle.forest.specs.Traces.{seat_steps};
-ghost use Rattle.forest.specs.StraightHelp.{Helper, HelperMarks, LoadsPlan, LoadsMember, SetsFlag, LoadsFlag};
+ghost use Rattle.forest.specs.InnerSteps.{MakesInside, WaitsInside};
+ghost use Rattle.forest.specs.Leads.{Leads, steps_made};
+ghost use Rattle.forest.specs.StraightHelp.{Helper, HelperMarks, IsBehindFreeze, IsBehindFreezes, IsBehindHelp, LoadsMember, LoadsPlan, SetsFlag, inner_help};
 ghost use Rattle.forest.specs.Inside.{InnerIsTold, InnerWaits};
 
 use crate::straight::hand::Hand;
@@ -33,13 +31,10 @@ fn act<S: Shape, M: Machine<S>, T: Shape>(
     access: Access,
 ) -> u64
     requires table { IsAt hand seat.old }
-    requires waits { (k : Helper T.allows (hand_calls S.Shape M.Machine hand)) × (m : HelpRun)
-        × InnerWaits k seat.old.me.0.passes m record { kind = kind; word = Word.Node node part; access = access } }
-    ensures table { StaysAtTable seat.old seat.new }
-    ensures one { seat_steps seat.new.me.0.passes ≡ suc (seat_steps seat.old.me.0.passes) }
-    ensures told { (k : Helper T.allows (hand_calls S.Shape M.Machine hand.entry)) (m : HelpRun)
-        → InnerWaits k seat.old.me.0.passes m record { kind = kind; word = Word.Node node part; access = access }
-        → InnerIsTold k seat.new.me.0.passes m result }
+    requires waits { WaitsInside (hand_calls S.Shape M.Machine hand) (inner_help T.allows)
+        seat.old record { kind = kind; word = Word.Node node part; access = access } }
+    ensures { MakesInside (hand_calls S.Shape M.Machine hand.entry) (inner_help T.allows)
+        seat.old seat.new record { kind = kind; word = Word.Node node part; access = access } result }
 {
     let start = hand.layout.node_start(node);
     let word = Word::Node(node, part);
@@ -59,13 +54,10 @@ fn act_on<S: Shape, M: Machine<S>, T: Shape>(
 ) -> u64
     requires table { IsAt hand seat.old }
     requires start { start ≡ scx_start hand.layout.now scx }
-    requires waits { (k : Helper T.allows (hand_calls S.Shape M.Machine hand)) × (m : HelpRun)
-        × InnerWaits k seat.old.me.0.passes m record { kind = kind; word = Word.Scx scx part; access = access } }
-    ensures table { StaysAtTable seat.old seat.new }
-    ensures one { seat_steps seat.new.me.0.passes ≡ suc (seat_steps seat.old.me.0.passes) }
-    ensures told { (k : Helper T.allows (hand_calls S.Shape M.Machine hand.entry)) (m : HelpRun)
-        → InnerWaits k seat.old.me.0.passes m record { kind = kind; word = Word.Scx scx part; access = access }
-        → InnerIsTold k seat.new.me.0.passes m result }
+    requires waits { WaitsInside (hand_calls S.Shape M.Machine hand) (inner_help T.allows)
+        seat.old record { kind = kind; word = Word.Scx scx part; access = access } }
+    ensures { MakesInside (hand_calls S.Shape M.Machine hand.entry) (inner_help T.allows)
+        seat.old seat.new record { kind = kind; word = Word.Scx scx part; access = access } result }
 {
     let word = Word::Scx(scx, part);
     step_from::<S, M>(hand, seat, Step { kind, word, access }, start)
@@ -82,13 +74,10 @@ fn read<S: Shape, M: Machine<S>, T: Shape>(
 ) -> u64
     requires table { IsAt hand seat.old }
     requires start { start ≡ scx_start hand.layout.now scx }
-    requires waits { (k : Helper T.allows (hand_calls S.Shape M.Machine hand)) × (m : HelpRun)
-        × InnerWaits k seat.old.me.0.passes m (settled_load scx.0 part) }
-    ensures table { StaysAtTable seat.old seat.new }
-    ensures one { seat_steps seat.new.me.0.passes ≡ suc (seat_steps seat.old.me.0.passes) }
-    ensures told { (k : Helper T.allows (hand_calls S.Shape M.Machine hand.entry)) (m : HelpRun)
-        → InnerWaits k seat.old.me.0.passes m (settled_load scx.0 part)
-        → InnerIsTold k seat.new.me.0.passes m result }
+    requires waits { WaitsInside (hand_calls S.Shape M.Machine hand) (inner_help T.allows)
+        seat.old (settled_load scx.0 part) }
+    ensures { MakesInside (hand_calls S.Shape M.Machine hand.entry) (inner_help T.allows)
+        seat.old seat.new (settled_load scx.0 part) result }
 {
     let (kind, access) = (Kind::LoadSettled, Access::Load);
     act_on::<S, M, T>(hand, seat, scx, start, part, kind, access)
@@ -115,23 +104,14 @@ fn freeze<S: Shape, M: Machine<S>, T: Shape>(
 ) -> bool
     requires table { IsAt hand seat.old }
     requires start { start ≡ scx_start hand.layout.now run.old.scx }
-    requires waits { (k : Helper T.allows (hand_calls S.Shape M.Machine hand)) × LoadsMember k seat.old.me.0.passes run.old j }
-    ensures table { StaysAtTable seat.old seat.new }
-    ensures steps { seat_steps seat.new.me.0.passes ≡ seat_steps seat.old.me.0.passes + 3 }
+    requires waits { (k : Helper T.allows (hand_calls S.Shape M.Machine hand))
+        × LoadsMember k seat.old.me.0.passes run.old j }
+    ensures leads { Leads seat.old seat.new 3
+        (λ (k : Helper T.allows (hand_calls S.Shape M.Machine hand.entry)) ps.
+        LoadsMember k ps run.old j)
+        (λ k ps. IsBehindFreeze k ps run.new run.old.plan.0 j result) }
     ensures left { result ≡ false → help_left run.new.at ≤ 1 }
     ensures same { (run.new.scx ≡ run.old.scx) × (run.new.plan ≡ run.old.plan) }
-    ensures next { result ≡ true → (next : MemberIndex) → member_index next ≡ member_index j + 1
-        → member_index next < raw_count run.old.plan.0
-        → (k : Helper T.allows (hand_calls S.Shape M.Machine hand.entry))
-        → LoadsMember k seat.old.me.0.passes run.old j
-        → LoadsMember k seat.new.me.0.passes run.new next }
-    ensures last { result ≡ true → ((member_index j < 3) × (member_index j + 1 < raw_count run.old.plan.0) → ⊥)
-        → (k : Helper T.allows (hand_calls S.Shape M.Machine hand.entry))
-        → LoadsMember k seat.old.me.0.passes run.old j
-        → SetsFlag k seat.new.me.0.passes run.new }
-    ensures blocked { result ≡ false → (k : Helper T.allows (hand_calls S.Shape M.Machine hand.entry))
-        → LoadsMember k seat.old.me.0.passes run.old j
-        → LoadsFlag k seat.new.me.0.passes run.new }
 {
     let scx = run.scx;
     let number = j.number();
@@ -162,17 +142,14 @@ fn freeze_all<S: Shape, M: Machine<S>, T: Shape>(
 ) -> bool
     requires table { IsAt hand seat.old }
     requires start { start ≡ scx_start hand.layout.now run.old.scx }
-    requires waits { (k : Helper T.allows (hand_calls S.Shape M.Machine hand)) × LoadsMember k seat.old.me.0.passes run.old MemberIndex.First }
-    ensures table { StaysAtTable seat.old seat.new }
-    ensures steps { seat_steps seat.new.me.0.passes ≤ seat_steps seat.old.me.0.passes + 12 }
+    requires waits { (k : Helper T.allows (hand_calls S.Shape M.Machine hand))
+        × LoadsMember k seat.old.me.0.passes run.old MemberIndex.First }
+    ensures leads { Leads seat.old seat.new 12
+        (λ (k : Helper T.allows (hand_calls S.Shape M.Machine hand.entry)) ps.
+        LoadsMember k ps run.old MemberIndex.First)
+        (λ k ps. IsBehindFreezes k ps run.new result) }
     ensures left { result ≡ false → help_left run.new.at ≤ 1 }
     ensures same { (run.new.scx ≡ run.old.scx) × (run.new.plan ≡ run.old.plan) }
-    ensures frozen { result ≡ true → (k : Helper T.allows (hand_calls S.Shape M.Machine hand.entry))
-        → LoadsMember k seat.old.me.0.passes run.old MemberIndex.First
-        → SetsFlag k seat.new.me.0.passes run.new }
-    ensures blocked { result ≡ false → (k : Helper T.allows (hand_calls S.Shape M.Machine hand.entry))
-        → LoadsMember k seat.old.me.0.passes run.old MemberIndex.First
-        → LoadsFlag k seat.new.me.0.passes run.new }
 {
     let plan = run.plan;
     let first = MemberIndex::First;
@@ -206,12 +183,12 @@ fn mark<S: Shape, M: Machine<S>, T: Shape>(
     j: MemberIndex,
 )
     requires table { IsAt hand seat.old }
-    requires marks { (k : Helper T.allows (hand_calls S.Shape M.Machine hand)) × HelperMarks k seat.old.me.0.passes run.now (member_index j) }
-    ensures table { StaysAtTable seat.old seat.new }
-    ensures steps { seat_steps seat.new.me.0.passes ≤ seat_steps seat.old.me.0.passes + 1 }
-    ensures marked { (k : Helper T.allows (hand_calls S.Shape M.Machine hand.entry))
-        → HelperMarks k seat.old.me.0.passes run.now (member_index j)
-        → HelperMarks k seat.new.me.0.passes run.now (member_index j + 1) }
+    requires marks { (k : Helper T.allows (hand_calls S.Shape M.Machine hand))
+        × HelperMarks k seat.old.me.0.passes run.now (member_index j) }
+    ensures { Leads seat.old seat.new 1
+        (λ (k : Helper T.allows (hand_calls S.Shape M.Machine hand.entry)) ps.
+        HelperMarks k ps run.now (member_index j))
+        (λ k ps. HelperMarks k ps run.now (member_index j + 1)) }
 {
     if run.plan.finalizes(j) {
         let node = run.members[j.index()];
@@ -228,12 +205,13 @@ fn mark_all<S: Shape, M: Machine<S>, T: Shape>(
     run: &HelpRun,
 )
     requires table { IsAt hand seat.old }
-    requires marks { (k : Helper T.allows (hand_calls S.Shape M.Machine hand)) × HelperMarks k seat.old.me.0.passes run.now 0 }
-    ensures table { StaysAtTable seat.old seat.new }
-    ensures steps { seat_steps seat.new.me.0.passes ≤ seat_steps seat.old.me.0.passes + 4 }
-    ensures marked { (k : Helper T.allows (hand_calls S.Shape M.Machine hand.entry))
-        → HelperMarks k seat.old.me.0.passes run.now 0
-        → InnerWaits k seat.new.me.0.passes (record run.now { at = HelpAt.New }) (settled_load run.now.scx.0 ScxWord.New) }
+    requires marks { (k : Helper T.allows (hand_calls S.Shape M.Machine hand))
+        × HelperMarks k seat.old.me.0.passes run.now 0 }
+    ensures { Leads seat.old seat.new 4
+        (λ (k : Helper T.allows (hand_calls S.Shape M.Machine hand.entry)) ps.
+        HelperMarks k ps run.now 0)
+        (λ k ps. InnerWaits k ps (record run.now { at = HelpAt.New })
+        (settled_load run.now.scx.0 ScxWord.New)) }
 {
     mark::<S, M, T>(hand, seat, run, MemberIndex::First);
     mark::<S, M, T>(hand, seat, run, MemberIndex::Second);
@@ -253,17 +231,13 @@ pub(crate) fn begin<S: Shape, M: Machine<S>, T: Shape, E>(
 ) -> bool
     requires table { IsAt hand seat.old }
     requires start { start ≡ scx_start hand.layout.now run.old.scx }
-    requires waits { (k : Helper T.allows (hand_calls S.Shape M.Machine hand)) × LoadsPlan k seat.old.me.0.passes run.old }
-    ensures table { StaysAtTable seat.old seat.new }
-    ensures steps { seat_steps seat.new.me.0.passes ≤ seat_steps seat.old.me.0.passes + 13 }
+    requires waits { (k : Helper T.allows (hand_calls S.Shape M.Machine hand))
+        × LoadsPlan k seat.old.me.0.passes run.old }
+    ensures leads { Leads seat.old seat.new 13
+        (λ (k : Helper T.allows (hand_calls S.Shape M.Machine hand.entry)) ps. LoadsPlan k ps run.old)
+        (λ k ps. IsBehindFreezes k ps run.new result) }
     ensures same { run.new.scx ≡ run.old.scx }
     ensures left { result ≡ false → help_left run.new.at ≤ 1 }
-    ensures frozen { result ≡ true → (k : Helper T.allows (hand_calls S.Shape M.Machine hand.entry))
-        → LoadsPlan k seat.old.me.0.passes run.old
-        → SetsFlag k seat.new.me.0.passes run.new }
-    ensures blocked { result ≡ false → (k : Helper T.allows (hand_calls S.Shape M.Machine hand.entry))
-        → LoadsPlan k seat.old.me.0.passes run.old
-        → LoadsFlag k seat.new.me.0.passes run.new }
 {
     let word = read::<S, M, T>(hand, seat, run.scx, start, ScxWord::Plan);
     run.plan = Plan(word);
@@ -281,12 +255,11 @@ pub(crate) fn commit<S: Shape, M: Machine<S>, T: Shape>(
 )
     requires table { IsAt hand seat.old }
     requires start { start ≡ scx_start hand.layout.now run.now.scx }
-    requires waits { (k : Helper T.allows (hand_calls S.Shape M.Machine hand)) × SetsFlag k seat.old.me.0.passes run.now }
-    ensures table { StaysAtTable seat.old seat.new }
-    ensures steps { seat_steps seat.new.me.0.passes ≤ seat_steps seat.old.me.0.passes + 9 }
-    ensures commits { (k : Helper T.allows (hand_calls S.Shape M.Machine hand.entry))
-        → SetsFlag k seat.old.me.0.passes run.now
-        → (v : ℕ) × InnerIsTold k seat.new.me.0.passes (record run.now { at = HelpAt.Commit }) v }
+    requires waits { (k : Helper T.allows (hand_calls S.Shape M.Machine hand))
+        × SetsFlag k seat.old.me.0.passes run.now }
+    ensures { Leads seat.old seat.new 9
+        (λ (k : Helper T.allows (hand_calls S.Shape M.Machine hand.entry)) ps. SetsFlag k ps run.now)
+        (λ k ps. (v : ℕ) × InnerIsTold k ps (record run.now { at = HelpAt.Commit }) v) }
 {
     let (scx, plan) = (run.scx, run.plan);
     let part = ScxWord::AllFrozen;
@@ -315,17 +288,14 @@ pub(crate) fn call<S: Shape, M: Machine<S>, T: Shape>(
 ) -> bool
     requires table { IsAt hand seat.old }
     requires start { start ≡ scx_start hand.layout.now run.old.scx }
-    requires waits { (k : Helper T.allows (hand_calls S.Shape M.Machine hand)) × LoadsPlan k seat.old.me.0.passes run.old }
-    ensures table { StaysAtTable seat.old seat.new }
-    ensures steps { seat_steps seat.new.me.0.passes ≤ seat_steps seat.old.me.0.passes + 22 }
+    requires waits { (k : Helper T.allows (hand_calls S.Shape M.Machine hand))
+        × LoadsPlan k seat.old.me.0.passes run.old }
+    ensures leads { Leads seat.old seat.new 22
+        (λ (k : Helper T.allows (hand_calls S.Shape M.Machine hand.entry)) ps. LoadsPlan k ps run.old)
+        (λ k ps. IsBehindHelp k ps run.new result) }
     ensures same { run.new.scx ≡ run.old.scx }
-    ensures left { result ≡ false → seat_steps seat.new.me.0.passes + suc (help_left run.new.at) ≤ seat_steps seat.old.me.0.passes + 22 }
-    ensures commits { result ≡ true → (k : Helper T.allows (hand_calls S.Shape M.Machine hand.entry))
-        → LoadsPlan k seat.old.me.0.passes run.old
-        → (v : ℕ) × InnerIsTold k seat.new.me.0.passes (record run.new { at = HelpAt.Commit }) v }
-    ensures blocked { result ≡ false → (k : Helper T.allows (hand_calls S.Shape M.Machine hand.entry))
-        → LoadsPlan k seat.old.me.0.passes run.old
-        → LoadsFlag k seat.new.me.0.passes run.new }
+    ensures left { result ≡ false → steps_made seat.new + suc (help_left run.new.at)
+        ≤ steps_made seat.old + 22 }
 {
     if !begin::<S, M, T, ()>(hand, seat, start, run) {
         return false;

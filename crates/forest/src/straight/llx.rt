@@ -1,11 +1,12 @@
 //! LLX, of whatever machine looks at nodes, and as a call of its own.
-ghost use Rattle.std.specs.Prelude.{◌≡◌, ◌≢◌, ◌≤◌, ◌+◌, ◌⊎◌, suc, true, false, IfOk, IfErr};
+ghost use Rattle.std.specs.Prelude.{◌≡◌, ◌≢◌, ◌≤◌, ◌<◌, ◌+◌, ◌⊎◌, suc, true, false, IfOk, IfErr};
 ghost use Rattle.arena.specs.Machines.{Call};
+ghost use Rattle.forest.specs.Leads.{steps_made};
 ghost use Rattle.forest.specs.Inside.{InnerIsTold, InnerWaits};
+ghost use Rattle.forest.specs.InnerSteps.{MakesInside, WaitsInside};
 ghost use Rattle.forest.specs.Hands.{IsAt, IsCallOf, hand_calls};
 ghost use Rattle.forest.specs.Seats.{StaysAtTable};
-ghost use Rattle.forest.specs.Traces.{seat_steps};
-ghost use Rattle.forest.specs.StraightLlx.{SeatLlxBegins, SeatLlxWaits, SeatLlxEnds, Looker, LookerSnaps, LoadsMark, LoadsStateAgain};
+ghost use Rattle.forest.specs.StraightLlx.{SeatLlxBegins, SeatLlxWaits, SeatLlxEnds, Looker, LookerSnaps, LoadsMark, LoadsStateAgain, inner_llx};
 ghost use Rattle.prims.specs.Llx.Steps.{llx_left};
 ghost use Rattle.prims.specs.Llx.Known.{load};
 ghost use Rattle.prims.specs.declared.llx.LlxRun.{LlxRun};
@@ -52,12 +53,10 @@ fn read<S: Shape, M: Machine<S>, T: Shape>(
     word: Word,
 ) -> u64
     requires table { IsAt hand seat.old }
-    requires waits { (k : Looker T.allows (hand_calls S.Shape M.Machine hand)) × (m : LlxRun) × InnerWaits k seat.old.me.0.passes m (load kind word) }
-    ensures table { StaysAtTable seat.old seat.new }
-    ensures one { seat_steps seat.new.me.0.passes ≡ suc (seat_steps seat.old.me.0.passes) }
-    ensures told { (k : Looker T.allows (hand_calls S.Shape M.Machine hand.entry)) (m : LlxRun)
-        → InnerWaits k seat.old.me.0.passes m (load kind word)
-        → InnerIsTold k seat.new.me.0.passes m result }
+    requires waits { WaitsInside (hand_calls S.Shape M.Machine hand) (inner_llx T.allows)
+        seat.old (load kind word) }
+    ensures { MakesInside (hand_calls S.Shape M.Machine hand.entry) (inner_llx T.allows)
+        seat.old seat.new (load kind word) result }
 {
     let access = Access::Load;
     step::<S, M>(hand, seat, Step { kind, word, access })
@@ -72,10 +71,13 @@ pub(crate) fn look<S: Shape, M: Machine<S>, T: Shape>(
     node: NodeNo,
 ) -> Result<Snap, (bool, ScxNo)>
     requires table { IsAt hand seat.old }
-    requires waits { (k : Looker T.allows (hand_calls S.Shape M.Machine hand)) × LoadsMark k seat.old.me.0.passes node }
+    requires waits { (k : Looker T.allows (hand_calls S.Shape M.Machine hand))
+        × LoadsMark k seat.old.me.0.passes node }
     ensures table { StaysAtTable seat.old seat.new }
-    ensures steps { seat_steps seat.new.me.0.passes ≤ seat_steps seat.old.me.0.passes + 7 }
-    ensures snaps { IfOk result (λ snap. (k : Looker T.allows (hand_calls S.Shape M.Machine hand.entry))
+    ensures moves { steps_made seat.old < steps_made seat.new }
+    ensures steps { steps_made seat.new ≤ steps_made seat.old + 7 }
+    ensures snaps { IfOk result (λ snap.
+        (k : Looker T.allows (hand_calls S.Shape M.Machine hand.entry))
         → LoadsMark k seat.old.me.0.passes node
         → LookerSnaps k seat.new.me.0.passes node snap) }
     ensures waits { IfErr result (λ t. (k : Looker T.allows (hand_calls S.Shape M.Machine hand.entry))
@@ -122,12 +124,15 @@ fn hand_over<S: Shape>(
 ) -> Llx
     requires table { IsAt hand seat.old }
     requires waits { (c : Call) × IsCallOf hand c
-        × SeatLlxWaits S.allows c seat.old.me.0.passes node (LlxAt.StateAgain marked scx) (load Kind.LoadState (Word.Scx scx ScxWord.State)) }
+        × SeatLlxWaits S.allows c seat.old.me.0.passes node (LlxAt.StateAgain marked scx)
+        (load Kind.LoadState (Word.Scx scx ScxWord.State)) }
     ensures table { StaysAtTable seat.old seat.new }
     ensures ends { (c : Call) → IsCallOf hand.entry c
-        → SeatLlxWaits S.allows c seat.old.me.0.passes node (LlxAt.StateAgain marked scx) (load Kind.LoadState (Word.Scx scx ScxWord.State))
+        → SeatLlxWaits S.allows c seat.old.me.0.passes node (LlxAt.StateAgain marked scx)
+        (load Kind.LoadState (Word.Scx scx ScxWord.State))
         → SeatLlxEnds S.allows c seat.new.me.0.passes node result }
-    ensures steps { seat_steps seat.new.me.0.passes ≤ seat_steps seat.old.me.0.passes + suc (llx_left (LlxAt.StateAgain marked scx)) }
+    ensures steps { steps_made seat.new ≤ steps_made seat.old + suc
+        (llx_left (LlxAt.StateAgain marked scx)) }
 {
     let at = LlxAt::StateAgain { marked, scx };
     let turn = Turn::Ask(load(Kind::LoadState, Word::Scx(scx, ScxWord::State)));
@@ -139,12 +144,13 @@ fn hand_over<S: Shape>(
 #[inline(always)]
 pub(crate) fn call<S: Shape>(hand: Hand<S>, seat: &mut Seat<u8, SeatView>, node: NodeNo) -> Llx
     requires table { IsAt hand seat.old }
-    requires begins { (c : Call) × IsCallOf hand c × SeatLlxBegins S.allows c seat.old.me.0.passes node }
+    requires begins { (c : Call) × IsCallOf hand c
+        × SeatLlxBegins S.allows c seat.old.me.0.passes node }
     ensures table { StaysAtTable seat.old seat.new }
     ensures ends { (c : Call) → IsCallOf hand.entry c
         → SeatLlxBegins S.allows c seat.old.me.0.passes node
         → SeatLlxEnds S.allows c seat.new.me.0.passes node result }
-    ensures steps { seat_steps seat.new.me.0.passes ≤ seat_steps seat.old.me.0.passes + 64 }
+    ensures steps { steps_made seat.new ≤ steps_made seat.old + 64 }
 {
     match look::<S, LlxRun, S>(hand, seat, node) {
         Ok(snap) => Llx::Snapshot(snap),

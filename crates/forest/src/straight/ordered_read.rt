@@ -1,12 +1,13 @@
 //! Ordered reads, of whatever machine makes one: the first try in line, as long as nothing is in its
 //! way. Where something is, or has come between, the machine of the read goes on from there; until
 //! then its place is left as it was.
-ghost use Rattle.std.specs.Prelude.{◌≡◌, ◌≤◌, ◌<◌, ◌+◌, suc, Ok};
-ghost use Rattle.forest.specs.StraightReads.{Reader, ReaderBegins, ReaderEnds, ReaderGoesOn, ReaderLooksAgain, ReaderRoots, ReaderWaits, again_left, left_then, root_left};
+ghost use Rattle.std.specs.Prelude.{◌≡◌, suc, Ok};
+ghost use Rattle.forest.specs.StraightReads.{ReadEnds, ReadGoesOn, Reader, ReaderBegins, ReaderEnds, ReaderLooksAgain, ReaderRoots, StandsToRead, again_left, root_left};
 ghost use Rattle.forest.specs.Hands.{IsAt, hand_calls};
 ghost use Rattle.forest.specs.Hosts.{Host, HostedEnds, HostedIsTold, HostedWaits, inner_machine};
+ghost use Rattle.forest.specs.Leads.{Leads, steps_made};
 ghost use Rattle.forest.specs.Seats.{StaysAtTable};
-ghost use Rattle.forest.specs.Traces.{seat_steps, shared_nodes};
+ghost use Rattle.forest.specs.Traces.{shared_nodes};
 ghost use Rattle.order.specs.Steps.{read_left};
 ghost use Rattle.order.specs.declared.load.ReadLoad.{ReadLoad};
 ghost use Rattle.order.specs.declared.read.ReadNext.{ReadNext};
@@ -39,11 +40,13 @@ pub(crate) fn read<S: Shape, M: Machine<S>, T: Shape, N: Machine<T>>(
     word: Word,
 ) -> u64
     requires table { IsAt hand seat.old }
-    requires waits { (r : Host (hand_calls S.Shape M.Machine hand) (inner_machine T.Shape N.Machine)) × (m : N)
+    requires waits { (r : Host (hand_calls S.Shape M.Machine hand)
+        (inner_machine T.Shape N.Machine)) × (m : N)
         × HostedWaits r seat.old.me.0.passes m (load Kind.LoadSettled word) }
     ensures table { StaysAtTable seat.old seat.new }
-    ensures one { seat_steps seat.new.me.0.passes ≡ suc (seat_steps seat.old.me.0.passes) }
-    ensures told { (r : Host (hand_calls S.Shape M.Machine hand.entry) (inner_machine T.Shape N.Machine)) (m : N)
+    ensures one { steps_made seat.new ≡ suc (steps_made seat.old) }
+    ensures told { (r : Host (hand_calls S.Shape M.Machine hand.entry)
+        (inner_machine T.Shape N.Machine)) (m : N)
         → HostedWaits r seat.old.me.0.passes m (load Kind.LoadSettled word)
         → HostedIsTold r seat.new.me.0.passes m result }
 {
@@ -62,11 +65,10 @@ pub(crate) fn tell<S: Shape, M: Machine<S>, T: Shape, N: Machine<T>>(
     requires table { IsAt hand seat.old }
     requires told { (r : Host (hand_calls S.Shape M.Machine hand) (inner_machine T.Shape N.Machine))
         × HostedIsTold r seat.old.me.0.passes run.old told }
-    ensures table { StaysAtTable seat.old seat.new }
-    ensures ends { (r : Host (hand_calls S.Shape M.Machine hand.entry) (inner_machine T.Shape N.Machine))
-        → HostedIsTold r seat.old.me.0.passes run.old told
-        → HostedEnds r seat.new.me.0.passes run.new result }
-    ensures steps { seat_steps seat.new.me.0.passes ≤ seat_steps seat.old.me.0.passes + N.left run.old (shared_nodes hand.entry.layout.now) }
+    ensures { Leads seat.old seat.new (N.left run.old (shared_nodes hand.entry.layout.now))
+        (λ (r : Host (hand_calls S.Shape M.Machine hand.entry) (inner_machine T.Shape N.Machine))
+        ps. HostedIsTold r ps run.old told)
+        (λ r ps. HostedEnds r ps run.new result) }
 {
     let turn = run.next(Some(told));
     complete::<S, M, T, N>(hand.words, hand.layout, seat, hand.number, run, turn)
@@ -84,16 +86,10 @@ fn look_on<S: Shape, M: Machine<S>, R: Read + Drop>(
     node: NodeNo,
 ) -> Result<ReadNext, Result<R::Answer, Refused>>
     requires table { IsAt hand seat.old }
-    requires waits { (r : Reader (hand_calls S.Shape M.Machine hand) R.means)
-        × ReaderWaits r seat.old.me.0.passes run.old (ReadNext.Look children level node) }
-    ensures table { StaysAtTable seat.old seat.new }
-    ensures goes_on { (r : Reader (hand_calls S.Shape M.Machine hand.entry) R.means)
-        → ReaderWaits r seat.old.me.0.passes run.old (ReadNext.Look children level node)
-        → ReaderGoesOn r seat.new.me.0.passes run.new result }
-    ensures steps { seat_steps seat.new.me.0.passes + left_then R.means (shared_nodes hand.entry.layout.now) run.new result
-        ≤ seat_steps seat.old.me.0.passes + left_then R.means (shared_nodes hand.entry.layout.now) run.old (Ok (ReadNext.Look children level node)) }
-    ensures nearer { left_then R.means (shared_nodes hand.entry.layout.now) run.new result
-        < left_then R.means (shared_nodes hand.entry.layout.now) run.old (Ok (ReadNext.Look children level node)) }
+    requires waits { StandsToRead S.Shape M.Machine R.means hand
+        seat.old run.old (ReadNext.Look children level node) }
+    ensures { ReadGoesOn S.Shape M.Machine R.means hand.entry 1
+        seat.old run.old (Ok (ReadNext.Look children level node)) seat.new run.new result }
 {
     match look::<S, M, Tree>(hand, seat, node) {
         Ok(snap) => match run.looked(children, level, snap) {
@@ -122,13 +118,13 @@ fn look_again<S: Shape, M: Machine<S>, R: Read + Drop>(
     scx: ScxNo,
 ) -> Result<R::Answer, Refused>
     requires table { IsAt hand seat.old }
-    requires waits { (r : Reader (hand_calls S.Shape M.Machine hand) R.means) × ReaderLooksAgain r seat.old.me.0.passes run.old children level node marked scx }
-    ensures table { StaysAtTable seat.old seat.new }
-    ensures ends { (r : Reader (hand_calls S.Shape M.Machine hand.entry) R.means)
-        → ReaderLooksAgain r seat.old.me.0.passes run.old children level node marked scx
-        → ReaderEnds r seat.new.me.0.passes run.new result }
-    ensures steps { seat_steps seat.new.me.0.passes
-        ≤ seat_steps seat.old.me.0.passes + suc (again_left R.means run.old children level node marked scx (shared_nodes hand.entry.layout.now)) }
+    requires waits { (r : Reader (hand_calls S.Shape M.Machine hand) R.means)
+        × ReaderLooksAgain r seat.old.me.0.passes run.old children level node marked scx }
+    ensures { Leads seat.old seat.new (suc (again_left R.means run.old children level node marked
+        scx (shared_nodes hand.entry.layout.now)))
+        (λ (r : Reader (hand_calls S.Shape M.Machine hand.entry) R.means) ps.
+        ReaderLooksAgain r ps run.old children level node marked scx)
+        (λ r ps. ReaderEnds r ps run.new result) }
 {
     let at = LlxAt::StateAgain { marked, scx };
     let llx = LlxRun { node, at };
@@ -150,13 +146,9 @@ fn validate_on<S: Shape, M: Machine<S>, R: Read + Drop>(
     run: &mut ReadRun<R>,
 ) -> Result<R::Answer, Refused>
     requires table { IsAt hand seat.old }
-    requires waits { (r : Reader (hand_calls S.Shape M.Machine hand) R.means) × ReaderWaits r seat.old.me.0.passes run.old ReadNext.Validate }
-    ensures table { StaysAtTable seat.old seat.new }
-    ensures ends { (r : Reader (hand_calls S.Shape M.Machine hand.entry) R.means)
-        → ReaderWaits r seat.old.me.0.passes run.old ReadNext.Validate
-        → ReaderEnds r seat.new.me.0.passes run.new result }
-    ensures steps { seat_steps seat.new.me.0.passes
-        ≤ seat_steps seat.old.me.0.passes + left_then R.means (shared_nodes hand.entry.layout.now) run.old (Ok ReadNext.Validate) }
+    requires waits { StandsToRead S.Shape M.Machine R.means hand seat.old run.old ReadNext.Validate }
+    ensures { ReadEnds S.Shape M.Machine R.means hand.entry
+        seat.old run.old ReadNext.Validate seat.new run.new result }
 {
     let snaps = run.snaps.as_slice();
     let (asked, told) = validate::<S, M, &[Snap]>(hand, seat, snaps);
@@ -178,15 +170,10 @@ fn load_on<S: Shape, M: Machine<S>, R: Read + Drop, L: KnownLoad<R>>(
     load: &L,
 ) -> Result<ReadNext, Result<R::Answer, Refused>>
     requires table { IsAt hand seat.old }
-    requires waits { (r : Reader (hand_calls S.Shape M.Machine hand) R.means) × ReaderWaits r seat.old.me.0.passes run.old (ReadNext.Load (L.load load.now)) }
-    ensures table { StaysAtTable seat.old seat.new }
-    ensures goes_on { (r : Reader (hand_calls S.Shape M.Machine hand.entry) R.means)
-        → ReaderWaits r seat.old.me.0.passes run.old (ReadNext.Load (L.load load.now))
-        → ReaderGoesOn r seat.new.me.0.passes run.new result }
-    ensures steps { seat_steps seat.new.me.0.passes + left_then R.means (shared_nodes hand.entry.layout.now) run.new result
-        ≤ seat_steps seat.old.me.0.passes + left_then R.means (shared_nodes hand.entry.layout.now) run.old (Ok (ReadNext.Load (L.load load.now))) }
-    ensures nearer { left_then R.means (shared_nodes hand.entry.layout.now) run.new result
-        < left_then R.means (shared_nodes hand.entry.layout.now) run.old (Ok (ReadNext.Load (L.load load.now))) }
+    requires waits { StandsToRead S.Shape M.Machine R.means hand
+        seat.old run.old (ReadNext.Load (L.load load.now)) }
+    ensures { ReadGoesOn S.Shape M.Machine R.means hand.entry 1
+        seat.old run.old (Ok (ReadNext.Load (L.load load.now))) seat.new run.new result }
 {
     let value = read::<S, M, Tree, ReadRun<R>>(hand, seat, load.word());
     match load.found(run, value) {
@@ -205,16 +192,10 @@ fn read_value<S: Shape, M: Machine<S>, R: Read + Drop>(
     key: u64,
 ) -> Result<ReadNext, Result<R::Answer, Refused>>
     requires table { IsAt hand seat.old }
-    requires waits { (r : Reader (hand_calls S.Shape M.Machine hand) R.means)
-        × ReaderWaits r seat.old.me.0.passes run.old (ReadNext.Load (ReadLoad.Value place key)) }
-    ensures table { StaysAtTable seat.old seat.new }
-    ensures goes_on { (r : Reader (hand_calls S.Shape M.Machine hand.entry) R.means)
-        → ReaderWaits r seat.old.me.0.passes run.old (ReadNext.Load (ReadLoad.Value place key))
-        → ReaderGoesOn r seat.new.me.0.passes run.new result }
-    ensures steps { seat_steps seat.new.me.0.passes + left_then R.means (shared_nodes hand.entry.layout.now) run.new result
-        ≤ seat_steps seat.old.me.0.passes + left_then R.means (shared_nodes hand.entry.layout.now) run.old (Ok (ReadNext.Load (ReadLoad.Value place key))) }
-    ensures nearer { left_then R.means (shared_nodes hand.entry.layout.now) run.new result
-        < left_then R.means (shared_nodes hand.entry.layout.now) run.old (Ok (ReadNext.Load (ReadLoad.Value place key))) }
+    requires waits { StandsToRead S.Shape M.Machine R.means hand
+        seat.old run.old (ReadNext.Load (ReadLoad.Value place key)) }
+    ensures { ReadGoesOn S.Shape M.Machine R.means hand.entry 1
+        seat.old run.old (Ok (ReadNext.Load (ReadLoad.Value place key))) seat.new run.new result }
 {
     let next = match load_on::<S, M, R, _>(hand, seat, run, &ValueLoad { place, key }) {
         Ok(next) => next,
@@ -238,16 +219,10 @@ fn read_pair<S: Shape, M: Machine<S>, R: Read + Drop>(
     place: LeafPlace,
 ) -> Result<ReadNext, Result<R::Answer, Refused>>
     requires table { IsAt hand seat.old }
-    requires waits { (r : Reader (hand_calls S.Shape M.Machine hand) R.means)
-        × ReaderWaits r seat.old.me.0.passes run.old (ReadNext.Load (ReadLoad.Pair place)) }
-    ensures table { StaysAtTable seat.old seat.new }
-    ensures goes_on { (r : Reader (hand_calls S.Shape M.Machine hand.entry) R.means)
-        → ReaderWaits r seat.old.me.0.passes run.old (ReadNext.Load (ReadLoad.Pair place))
-        → ReaderGoesOn r seat.new.me.0.passes run.new result }
-    ensures steps { seat_steps seat.new.me.0.passes + left_then R.means (shared_nodes hand.entry.layout.now) run.new result
-        ≤ seat_steps seat.old.me.0.passes + left_then R.means (shared_nodes hand.entry.layout.now) run.old (Ok (ReadNext.Load (ReadLoad.Pair place))) }
-    ensures nearer { left_then R.means (shared_nodes hand.entry.layout.now) run.new result
-        < left_then R.means (shared_nodes hand.entry.layout.now) run.old (Ok (ReadNext.Load (ReadLoad.Pair place))) }
+    requires waits { StandsToRead S.Shape M.Machine R.means hand
+        seat.old run.old (ReadNext.Load (ReadLoad.Pair place)) }
+    ensures { ReadGoesOn S.Shape M.Machine R.means hand.entry 1
+        seat.old run.old (Ok (ReadNext.Load (ReadLoad.Pair place))) seat.new run.new result }
 {
     let next = match load_on::<S, M, R, _>(hand, seat, run, &PairLoad { place }) {
         Ok(next) => next,
@@ -270,16 +245,10 @@ fn read_pairs<S: Shape, M: Machine<S>, R: Read + Drop>(
     first: LeafPlace,
 ) -> Result<ReadNext, Result<R::Answer, Refused>>
     requires table { IsAt hand seat.old }
-    requires waits { (r : Reader (hand_calls S.Shape M.Machine hand) R.means)
-        × ReaderWaits r seat.old.me.0.passes run.old (ReadNext.Load (ReadLoad.Pair first)) }
-    ensures table { StaysAtTable seat.old seat.new }
-    ensures goes_on { (r : Reader (hand_calls S.Shape M.Machine hand.entry) R.means)
-        → ReaderWaits r seat.old.me.0.passes run.old (ReadNext.Load (ReadLoad.Pair first))
-        → ReaderGoesOn r seat.new.me.0.passes run.new result }
-    ensures steps { seat_steps seat.new.me.0.passes + left_then R.means (shared_nodes hand.entry.layout.now) run.new result
-        ≤ seat_steps seat.old.me.0.passes + left_then R.means (shared_nodes hand.entry.layout.now) run.old (Ok (ReadNext.Load (ReadLoad.Pair first))) }
-    ensures nearer { left_then R.means (shared_nodes hand.entry.layout.now) run.new result
-        < left_then R.means (shared_nodes hand.entry.layout.now) run.old (Ok (ReadNext.Load (ReadLoad.Pair first))) }
+    requires waits { StandsToRead S.Shape M.Machine R.means hand
+        seat.old run.old (ReadNext.Load (ReadLoad.Pair first)) }
+    ensures { ReadGoesOn S.Shape M.Machine R.means hand.entry 1
+        seat.old run.old (Ok (ReadNext.Load (ReadLoad.Pair first))) seat.new run.new result }
 {
     let mut place = first;
     loop {
@@ -304,16 +273,10 @@ fn read_node<S: Shape, M: Machine<S>, R: Read + Drop>(
     node: NodeNo,
 ) -> Result<ReadNext, Result<R::Answer, Refused>>
     requires table { IsAt hand seat.old }
-    requires waits { (r : Reader (hand_calls S.Shape M.Machine hand) R.means)
-        × ReaderWaits r seat.old.me.0.passes run.old (ReadNext.Load (ReadLoad.Head above node)) }
-    ensures table { StaysAtTable seat.old seat.new }
-    ensures goes_on { (r : Reader (hand_calls S.Shape M.Machine hand.entry) R.means)
-        → ReaderWaits r seat.old.me.0.passes run.old (ReadNext.Load (ReadLoad.Head above node))
-        → ReaderGoesOn r seat.new.me.0.passes run.new result }
-    ensures steps { seat_steps seat.new.me.0.passes + left_then R.means (shared_nodes hand.entry.layout.now) run.new result
-        ≤ seat_steps seat.old.me.0.passes + left_then R.means (shared_nodes hand.entry.layout.now) run.old (Ok (ReadNext.Load (ReadLoad.Head above node))) }
-    ensures nearer { left_then R.means (shared_nodes hand.entry.layout.now) run.new result
-        < left_then R.means (shared_nodes hand.entry.layout.now) run.old (Ok (ReadNext.Load (ReadLoad.Head above node))) }
+    requires waits { StandsToRead S.Shape M.Machine R.means hand
+        seat.old run.old (ReadNext.Load (ReadLoad.Head above node)) }
+    ensures { ReadGoesOn S.Shape M.Machine R.means hand.entry 1
+        seat.old run.old (Ok (ReadNext.Load (ReadLoad.Head above node))) seat.new run.new result }
 {
     let next = match load_on::<S, M, R, _>(hand, seat, run, &HeadLoad { above, node }) {
         Ok(next) => next,
@@ -339,15 +302,9 @@ fn pairs_next<S: Shape, M: Machine<S>, R: Read + Drop>(
     next: ReadNext,
 ) -> Result<ReadNext, Result<R::Answer, Refused>>
     requires table { IsAt hand seat.old }
-    requires waits { (r : Reader (hand_calls S.Shape M.Machine hand) R.means) × ReaderWaits r seat.old.me.0.passes run.old next }
-    ensures table { StaysAtTable seat.old seat.new }
-    ensures goes_on { (r : Reader (hand_calls S.Shape M.Machine hand.entry) R.means)
-        → ReaderWaits r seat.old.me.0.passes run.old next
-        → ReaderGoesOn r seat.new.me.0.passes run.new result }
-    ensures steps { seat_steps seat.new.me.0.passes + left_then R.means (shared_nodes hand.entry.layout.now) run.new result
-        ≤ seat_steps seat.old.me.0.passes + left_then R.means (shared_nodes hand.entry.layout.now) run.old (Ok next) }
-    ensures no_farther { left_then R.means (shared_nodes hand.entry.layout.now) run.new result
-        ≤ left_then R.means (shared_nodes hand.entry.layout.now) run.old (Ok next) }
+    requires waits { StandsToRead S.Shape M.Machine R.means hand seat.old run.old next }
+    ensures { ReadGoesOn S.Shape M.Machine R.means hand.entry 0
+        seat.old run.old (Ok next) seat.new run.new result }
 {
     match next {
         ReadNext::Load(ReadLoad::Pair { place }) => {
@@ -366,15 +323,9 @@ fn look_next<S: Shape, M: Machine<S>, R: Read + Drop>(
     next: ReadNext,
 ) -> Result<ReadNext, Result<R::Answer, Refused>>
     requires table { IsAt hand seat.old }
-    requires waits { (r : Reader (hand_calls S.Shape M.Machine hand) R.means) × ReaderWaits r seat.old.me.0.passes run.old next }
-    ensures table { StaysAtTable seat.old seat.new }
-    ensures goes_on { (r : Reader (hand_calls S.Shape M.Machine hand.entry) R.means)
-        → ReaderWaits r seat.old.me.0.passes run.old next
-        → ReaderGoesOn r seat.new.me.0.passes run.new result }
-    ensures steps { seat_steps seat.new.me.0.passes + left_then R.means (shared_nodes hand.entry.layout.now) run.new result
-        ≤ seat_steps seat.old.me.0.passes + left_then R.means (shared_nodes hand.entry.layout.now) run.old (Ok next) }
-    ensures no_farther { left_then R.means (shared_nodes hand.entry.layout.now) run.new result
-        ≤ left_then R.means (shared_nodes hand.entry.layout.now) run.old (Ok next) }
+    requires waits { StandsToRead S.Shape M.Machine R.means hand seat.old run.old next }
+    ensures { ReadGoesOn S.Shape M.Machine R.means hand.entry 0
+        seat.old run.old (Ok next) seat.new run.new result }
 {
     match next {
         ReadNext::Look {
@@ -395,15 +346,9 @@ fn visit_on<S: Shape, M: Machine<S>, R: Read + Drop>(
     next: ReadNext,
 ) -> Result<ReadNext, Result<R::Answer, Refused>>
     requires table { IsAt hand seat.old }
-    requires waits { (r : Reader (hand_calls S.Shape M.Machine hand) R.means) × ReaderWaits r seat.old.me.0.passes run.old next }
-    ensures table { StaysAtTable seat.old seat.new }
-    ensures goes_on { (r : Reader (hand_calls S.Shape M.Machine hand.entry) R.means)
-        → ReaderWaits r seat.old.me.0.passes run.old next
-        → ReaderGoesOn r seat.new.me.0.passes run.new result }
-    ensures steps { seat_steps seat.new.me.0.passes + left_then R.means (shared_nodes hand.entry.layout.now) run.new result
-        ≤ seat_steps seat.old.me.0.passes + left_then R.means (shared_nodes hand.entry.layout.now) run.old (Ok next) }
-    ensures nearer { left_then R.means (shared_nodes hand.entry.layout.now) run.new result
-        < left_then R.means (shared_nodes hand.entry.layout.now) run.old (Ok next) }
+    requires waits { StandsToRead S.Shape M.Machine R.means hand seat.old run.old next }
+    ensures { ReadGoesOn S.Shape M.Machine R.means hand.entry 1
+        seat.old run.old (Ok next) seat.new run.new result }
 {
     match next {
         ReadNext::Load(load) => load_on::<S, M, R, ReadLoad>(hand, seat, run, &load),
@@ -426,13 +371,9 @@ fn rest<S: Shape, M: Machine<S>, R: Read + Drop>(
     mut next: ReadNext,
 ) -> Result<R::Answer, Refused>
     requires table { IsAt hand seat.old }
-    requires waits { (r : Reader (hand_calls S.Shape M.Machine hand) R.means) × ReaderWaits r seat.old.me.0.passes run.old next }
-    ensures table { StaysAtTable seat.old seat.new }
-    ensures ends { (r : Reader (hand_calls S.Shape M.Machine hand.entry) R.means)
-        → ReaderWaits r seat.old.me.0.passes run.old next
-        → ReaderEnds r seat.new.me.0.passes run.new result }
-    ensures steps { seat_steps seat.new.me.0.passes
-        ≤ seat_steps seat.old.me.0.passes + left_then R.means (shared_nodes hand.entry.layout.now) run.old (Ok next) }
+    requires waits { StandsToRead S.Shape M.Machine R.means hand seat.old run.old next }
+    ensures { ReadEnds S.Shape M.Machine R.means hand.entry
+        seat.old run.old next seat.new run.new result }
 {
     loop {
         match visit_on::<S, M, R>(hand, seat, run, next) {
@@ -451,13 +392,9 @@ fn go_on<S: Shape, M: Machine<S>, R: Read + Drop>(
     first: ReadNext,
 ) -> Result<R::Answer, Refused>
     requires table { IsAt hand seat.old }
-    requires waits { (r : Reader (hand_calls S.Shape M.Machine hand) R.means) × ReaderWaits r seat.old.me.0.passes run.old first }
-    ensures table { StaysAtTable seat.old seat.new }
-    ensures ends { (r : Reader (hand_calls S.Shape M.Machine hand.entry) R.means)
-        → ReaderWaits r seat.old.me.0.passes run.old first
-        → ReaderEnds r seat.new.me.0.passes run.new result }
-    ensures steps { seat_steps seat.new.me.0.passes
-        ≤ seat_steps seat.old.me.0.passes + left_then R.means (shared_nodes hand.entry.layout.now) run.old (Ok first) }
+    requires waits { StandsToRead S.Shape M.Machine R.means hand seat.old run.old first }
+    ensures { ReadEnds S.Shape M.Machine R.means hand.entry
+        seat.old run.old first seat.new run.new result }
 {
     let mut next = match look_next::<S, M, R>(hand, seat, run, first) {
         Ok(next) => next,
@@ -495,12 +432,13 @@ fn from_root<S: Shape, M: Machine<S>, R: Read + Drop>(
     run: &mut ReadRun<R>,
 ) -> Result<R::Answer, Refused>
     requires table { IsAt hand seat.old }
-    requires waits { (r : Reader (hand_calls S.Shape M.Machine hand) R.means) × ReaderRoots r seat.old.me.0.passes run.old }
-    ensures table { StaysAtTable seat.old seat.new }
-    ensures ends { (r : Reader (hand_calls S.Shape M.Machine hand.entry) R.means)
-        → ReaderRoots r seat.old.me.0.passes run.old
-        → ReaderEnds r seat.new.me.0.passes run.new result }
-    ensures steps { seat_steps seat.new.me.0.passes ≤ seat_steps seat.old.me.0.passes + suc (root_left R.means run.old (shared_nodes hand.entry.layout.now)) }
+    requires waits { (r : Reader (hand_calls S.Shape M.Machine hand) R.means)
+        × ReaderRoots r seat.old.me.0.passes run.old }
+    ensures { Leads seat.old seat.new (suc (root_left R.means run.old
+        (shared_nodes hand.entry.layout.now)))
+        (λ (r : Reader (hand_calls S.Shape M.Machine hand.entry) R.means) ps.
+        ReaderRoots r ps run.old)
+        (λ r ps. ReaderEnds r ps run.new result) }
 {
     let root = NodeNo(0);
     let asked = Word::Node(root, NodeWord::Settled(SettledPart::Head));
@@ -517,12 +455,13 @@ pub(crate) fn call<S: Shape, M: Machine<S>, R: Read + Drop>(
     run: &mut ReadRun<R>,
 ) -> Result<R::Answer, Refused>
     requires table { IsAt hand seat.old }
-    requires begins { (r : Reader (hand_calls S.Shape M.Machine hand) R.means) × ReaderBegins r seat.old.me.0.passes run.old }
-    ensures table { StaysAtTable seat.old seat.new }
-    ensures ends { (r : Reader (hand_calls S.Shape M.Machine hand.entry) R.means)
-        → ReaderBegins r seat.old.me.0.passes run.old
-        → ReaderEnds r seat.new.me.0.passes run.new result }
-    ensures steps { seat_steps seat.new.me.0.passes ≤ seat_steps seat.old.me.0.passes + read_left R.means run.old (shared_nodes hand.entry.layout.now) }
+    requires begins { (r : Reader (hand_calls S.Shape M.Machine hand) R.means)
+        × ReaderBegins r seat.old.me.0.passes run.old }
+    ensures leads { Leads seat.old seat.new (read_left R.means run.old
+        (shared_nodes hand.entry.layout.now))
+        (λ (r : Reader (hand_calls S.Shape M.Machine hand.entry) R.means) ps.
+        ReaderBegins r ps run.old)
+        (λ r ps. ReaderEnds r ps run.new result) }
     ensures nothing { ¬ R.means.asks (R.means.call run.old.read) → seat.new ≡ seat.old }
 {
     match run.start() {

@@ -3,9 +3,9 @@ ghost use Rattle.std.specs.Prelude.{◌≡◌, ◌≤◌, ◌+◌, suc, length};
 ghost use Rattle.arena.specs.Machines.{Call};
 ghost use Rattle.prims.specs.Put.Steps.{put_left};
 ghost use Rattle.prims.specs.declared.put.PutRun.{PutRun};
+ghost use Rattle.forest.specs.Leads.{steps_made};
 ghost use Rattle.forest.specs.Hands.{IsAt, IsCallOf};
 ghost use Rattle.forest.specs.Seats.{StaysAtTable};
-ghost use Rattle.forest.specs.Traces.{seat_steps};
 ghost use Rattle.forest.specs.StraightScx.{scx_fill, all_frozen_load};
 ghost use Rattle.forest.specs.StraightPut.{SeatPutBegins, SeatPutWaits, SeatPutEnds, fresh_put, scx_at, standing_put};
 
@@ -66,11 +66,12 @@ fn fill_value<S: Shape>(hand: Hand<S>, seat: &mut Seat<u8, SeatView>, snaps: &[S
     requires begins { (c : Call) × IsCallOf hand c
         × SeatPutBegins S.allows c seat.old.me.0.passes (fresh_put snaps.now put hand.number) }
     ensures table { StaysAtTable seat.old seat.new }
-    ensures one { seat_steps seat.new.me.0.passes ≡ suc (seat_steps seat.old.me.0.passes) }
+    ensures one { steps_made seat.new ≡ suc (steps_made seat.old) }
     ensures waits { (c : Call) → IsCallOf hand.entry c
         → SeatPutBegins S.allows c seat.old.me.0.passes (fresh_put snaps.now put hand.entry.number)
         → SeatPutWaits S.allows c seat.new.me.0.passes (fresh_put snaps.now put hand.entry.number)
-        (scx_at (fresh_put snaps.now put hand.entry.number) ScxAt.Plan) (scx_fill put.scx ScxWord.Plan put.plan.0) }
+        (scx_at (fresh_put snaps.now put hand.entry.number) ScxAt.Plan)
+        (scx_fill put.scx ScxWord.Plan put.plan.0) }
 {
     let asked = Step {
         kind: Kind::Fill,
@@ -97,13 +98,17 @@ fn complete_blocked<S: Shape>(
     requires table { IsAt hand seat.old }
     requires fits { length snaps.now ≤ 4 }
     requires waits { (c : Call) × (first : PutRun) × IsCallOf hand c
-        × SeatPutWaits S.allows c seat.old.me.0.passes first (standing_put snaps.now put hand.number (ScxAt.Help help.now) PutAt.Scx) (all_frozen_load put.scx) }
+        × SeatPutWaits S.allows c seat.old.me.0.passes first
+        (standing_put snaps.now put hand.number (ScxAt.Help help.now) PutAt.Scx)
+        (all_frozen_load put.scx) }
     ensures table { StaysAtTable seat.old seat.new }
-    ensures steps { seat_steps seat.new.me.0.passes
-        ≤ seat_steps seat.old.me.0.passes + suc (put_left (standing_put snaps.now put hand.entry.number (ScxAt.Help help.now) PutAt.Scx)) }
+    ensures steps { steps_made seat.new
+        ≤ steps_made seat.old + suc (put_left
+        (standing_put snaps.now put hand.entry.number (ScxAt.Help help.now) PutAt.Scx)) }
     ensures ends { (c : Call) (first : PutRun) → IsCallOf hand.entry c
         → SeatPutWaits S.allows c seat.old.me.0.passes first
-        (standing_put snaps.now put hand.entry.number (ScxAt.Help help.now) PutAt.Scx) (all_frozen_load put.scx)
+        (standing_put snaps.now put hand.entry.number (ScxAt.Help help.now) PutAt.Scx)
+        (all_frozen_load put.scx)
         → (m : PutRun) × SeatPutEnds S.allows c seat.new.me.0.passes first m result }
 {
     let (words, copy, number) = (hand.words, *hand.layout, hand.number);
@@ -129,10 +134,11 @@ pub(crate) fn call<S: Shape>(
     requires begins { (c : Call) × IsCallOf hand c
         × SeatPutBegins S.allows c seat.old.me.0.passes (fresh_put snaps.now put hand.number) }
     ensures table { StaysAtTable seat.old seat.new }
-    ensures steps { seat_steps seat.new.me.0.passes ≤ seat_steps seat.old.me.0.passes + 40 }
+    ensures steps { steps_made seat.new ≤ steps_made seat.old + 40 }
     ensures ends { (c : Call) → IsCallOf hand.entry c
         → SeatPutBegins S.allows c seat.old.me.0.passes (fresh_put snaps.now put hand.entry.number)
-        → (m : PutRun) × SeatPutEnds S.allows c seat.new.me.0.passes (fresh_put snaps.now put hand.entry.number) m result }
+        → (m : PutRun) × SeatPutEnds S.allows c seat.new.me.0.passes
+        (fresh_put snaps.now put hand.entry.number) m result }
 {
     fill_value(hand, seat, snaps, put);
     let change = Change {

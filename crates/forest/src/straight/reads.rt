@@ -1,12 +1,10 @@
 //! What updates read of a node, of whatever machine updates.
-ghost use Rattle.std.specs.Prelude.{◌≡◌, ◌≤◌, ◌<◌, ◌+◌, true, Ok};
+ghost use Rattle.std.specs.Prelude.{◌≡◌, ◌<◌, true, Ok};
 ghost use Rattle.arena.specs.declared.word.SettledPart.{SettledPart};
 ghost use Rattle.arena.specs.declared.word.Slot.{Slot};
-ghost use Rattle.forest.specs.Hands.{IsAt, hand_calls};
-ghost use Rattle.forest.specs.Seats.{StaysAtTable};
-ghost use Rattle.forest.specs.Traces.{seat_steps, shared_nodes};
-ghost use Rattle.forest.specs.StraightUpdate.{Updater, UpdaterTries};
-ghost use Rattle.edits.specs.Next.{left_then};
+ghost use Rattle.forest.specs.Hands.{IsAt};
+ghost use Rattle.forest.specs.Leads.{steps_made};
+ghost use Rattle.forest.specs.StraightUpdate.{StandsToTry, TryGoesOn};
 ghost use Rattle.edits.specs.Readings.{is_at_pair};
 ghost use Rattle.edits.specs.declared.update.Next.{Next};
 
@@ -29,16 +27,11 @@ fn read_word<S: Shape, M: Machine<S>, E: Edit + Copy>(
     part: SettledPart,
 ) -> Next
     requires table { IsAt hand seat.old }
-    requires tries { (u : Updater (hand_calls S.Shape M.Machine hand) E.means)
-        × UpdaterTries u seat.old.me.0.passes run.old found.now (Next.Read node part) }
-    ensures table { StaysAtTable seat.old seat.new }
-    ensures goes_on { (u : Updater (hand_calls S.Shape M.Machine hand.entry) E.means)
-        → UpdaterTries u seat.old.me.0.passes run.old found.now (Next.Read node part)
-        → UpdaterTries u seat.new.me.0.passes run.new found.now result }
-    ensures steps { seat_steps seat.new.me.0.passes + left_then E.means run.new found.now (Ok result) (shared_nodes hand.entry.layout.now)
-        ≤ seat_steps seat.old.me.0.passes + left_then E.means run.old found.now (Ok (Next.Read node part)) (shared_nodes hand.entry.layout.now) }
-    ensures nearer { left_then E.means run.new found.now (Ok result) (shared_nodes hand.entry.layout.now)
-        < left_then E.means run.old found.now (Ok (Next.Read node part)) (shared_nodes hand.entry.layout.now) }
+    requires tries { StandsToTry S.Shape M.Machine E.means hand found.now
+        seat.old run.old (Ok (Next.Read node part)) }
+    ensures goes_on { TryGoesOn S.Shape M.Machine E.means hand.entry found.now
+        seat.old run.old (Ok (Next.Read node part)) seat.new run.new (Ok result) }
+    ensures moves { steps_made seat.old < steps_made seat.new }
 {
     let (kind, word) = (Kind::LoadSettled, Word::Node(node, NodeWord::Settled(part)));
     let access = Access::Load;
@@ -58,19 +51,13 @@ fn read_pair<S: Shape, M: Machine<S>, E: Edit + Copy>(
     slot: Slot,
 ) -> Next
     requires table { IsAt hand seat.old }
-    requires tries { (u : Updater (hand_calls S.Shape M.Machine hand) E.means)
-        × UpdaterTries u seat.old.me.0.passes run.old found.now (Next.Read node (SettledPart.Key slot)) }
+    requires tries { StandsToTry S.Shape M.Machine E.means hand found.now
+        seat.old run.old (Ok (Next.Read node (SettledPart.Key slot))) }
     requires pair { is_at_pair run.old.read ≡ true }
-    ensures table { StaysAtTable seat.old seat.new }
     ensures pair { is_at_pair run.new.read ≡ true }
-    ensures goes_on { (u : Updater (hand_calls S.Shape M.Machine hand.entry) E.means)
-        → UpdaterTries u seat.old.me.0.passes run.old found.now (Next.Read node (SettledPart.Key slot))
-        → UpdaterTries u seat.new.me.0.passes run.new found.now result }
-    ensures steps { seat_steps seat.new.me.0.passes + left_then E.means run.new found.now (Ok result) (shared_nodes hand.entry.layout.now)
-        ≤ seat_steps seat.old.me.0.passes
-        + left_then E.means run.old found.now (Ok (Next.Read node (SettledPart.Key slot))) (shared_nodes hand.entry.layout.now) }
-    ensures nearer { left_then E.means run.new found.now (Ok result) (shared_nodes hand.entry.layout.now)
-        < left_then E.means run.old found.now (Ok (Next.Read node (SettledPart.Key slot))) (shared_nodes hand.entry.layout.now) }
+    ensures goes_on { TryGoesOn S.Shape M.Machine E.means hand.entry found.now
+        seat.old run.old (Ok (Next.Read node (SettledPart.Key slot))) seat.new run.new (Ok result) }
+    ensures moves { steps_made seat.old < steps_made seat.new }
 {
     let (kind, access) = (Kind::LoadSettled, Access::Load);
     let word = Word::Node(node, NodeWord::Settled(SettledPart::Key(slot)));
@@ -93,18 +80,11 @@ fn read_next_pair<S: Shape, M: Machine<S>, E: Edit + Copy>(
     slot: Slot,
 ) -> Next
     requires table { IsAt hand seat.old }
-    requires tries { (u : Updater (hand_calls S.Shape M.Machine hand) E.means)
-        × UpdaterTries u seat.old.me.0.passes run.old found.now next }
+    requires tries { StandsToTry S.Shape M.Machine E.means hand found.now seat.old run.old (Ok next) }
     requires pair { is_at_pair run.old.read ≡ true }
-    ensures table { StaysAtTable seat.old seat.new }
     ensures pair { is_at_pair run.new.read ≡ true }
-    ensures goes_on { (u : Updater (hand_calls S.Shape M.Machine hand.entry) E.means)
-        → UpdaterTries u seat.old.me.0.passes run.old found.now next
-        → UpdaterTries u seat.new.me.0.passes run.new found.now result }
-    ensures steps { seat_steps seat.new.me.0.passes + left_then E.means run.new found.now (Ok result) (shared_nodes hand.entry.layout.now)
-        ≤ seat_steps seat.old.me.0.passes + left_then E.means run.old found.now (Ok next) (shared_nodes hand.entry.layout.now) }
-    ensures nearer { left_then E.means run.new found.now (Ok result) (shared_nodes hand.entry.layout.now)
-        ≤ left_then E.means run.old found.now (Ok next) (shared_nodes hand.entry.layout.now) }
+    ensures goes_on { TryGoesOn S.Shape M.Machine E.means hand.entry found.now
+        seat.old run.old (Ok next) seat.new run.new (Ok result) }
 {
     match next {
         Next::Read {
@@ -125,18 +105,13 @@ fn read_pairs<S: Shape, M: Machine<S>, E: Edit + Copy>(
     node: NodeNo,
 ) -> Next
     requires table { IsAt hand seat.old }
-    requires tries { (u : Updater (hand_calls S.Shape M.Machine hand) E.means)
-        × UpdaterTries u seat.old.me.0.passes run.old found.now (Next.Read node (SettledPart.Key Slot.First)) }
+    requires tries { StandsToTry S.Shape M.Machine E.means hand found.now
+        seat.old run.old (Ok (Next.Read node (SettledPart.Key Slot.First))) }
     requires pair { is_at_pair run.old.read ≡ true }
-    ensures table { StaysAtTable seat.old seat.new }
-    ensures goes_on { (u : Updater (hand_calls S.Shape M.Machine hand.entry) E.means)
-        → UpdaterTries u seat.old.me.0.passes run.old found.now (Next.Read node (SettledPart.Key Slot.First))
-        → UpdaterTries u seat.new.me.0.passes run.new found.now result }
-    ensures steps { seat_steps seat.new.me.0.passes + left_then E.means run.new found.now (Ok result) (shared_nodes hand.entry.layout.now)
-        ≤ seat_steps seat.old.me.0.passes
-        + left_then E.means run.old found.now (Ok (Next.Read node (SettledPart.Key Slot.First))) (shared_nodes hand.entry.layout.now) }
-    ensures nearer { left_then E.means run.new found.now (Ok result) (shared_nodes hand.entry.layout.now)
-        < left_then E.means run.old found.now (Ok (Next.Read node (SettledPart.Key Slot.First))) (shared_nodes hand.entry.layout.now) }
+    ensures goes_on { TryGoesOn S.Shape M.Machine E.means hand.entry found.now
+        seat.old run.old (Ok (Next.Read node (SettledPart.Key Slot.First))) seat.new run.new
+        (Ok result) }
+    ensures moves { steps_made seat.old < steps_made seat.new }
 {
     let next = read_pair::<S, M, E>(hand, seat, run, found, node, Slot::First);
     let next = read_next_pair::<S, M, E>(hand, seat, run, found, next, Slot::Second);
@@ -155,16 +130,11 @@ pub(crate) fn read<S: Shape, M: Machine<S>, E: Edit + Copy>(
     part: SettledPart,
 ) -> Next
     requires table { IsAt hand seat.old }
-    requires tries { (u : Updater (hand_calls S.Shape M.Machine hand) E.means)
-        × UpdaterTries u seat.old.me.0.passes run.old found.now (Next.Read node part) }
-    ensures table { StaysAtTable seat.old seat.new }
-    ensures goes_on { (u : Updater (hand_calls S.Shape M.Machine hand.entry) E.means)
-        → UpdaterTries u seat.old.me.0.passes run.old found.now (Next.Read node part)
-        → UpdaterTries u seat.new.me.0.passes run.new found.now result }
-    ensures steps { seat_steps seat.new.me.0.passes + left_then E.means run.new found.now (Ok result) (shared_nodes hand.entry.layout.now)
-        ≤ seat_steps seat.old.me.0.passes + left_then E.means run.old found.now (Ok (Next.Read node part)) (shared_nodes hand.entry.layout.now) }
-    ensures nearer { left_then E.means run.new found.now (Ok result) (shared_nodes hand.entry.layout.now)
-        < left_then E.means run.old found.now (Ok (Next.Read node part)) (shared_nodes hand.entry.layout.now) }
+    requires tries { StandsToTry S.Shape M.Machine E.means hand found.now
+        seat.old run.old (Ok (Next.Read node part)) }
+    ensures goes_on { TryGoesOn S.Shape M.Machine E.means hand.entry found.now
+        seat.old run.old (Ok (Next.Read node part)) seat.new run.new (Ok result) }
+    ensures moves { steps_made seat.old < steps_made seat.new }
 {
     match part {
         SettledPart::Key(Slot::First) if run.read.is_at_pair() => {

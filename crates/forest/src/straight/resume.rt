@@ -1,14 +1,12 @@
 //! Updates that meet something in their way: their machine goes on from there.
-ghost use Rattle.std.specs.Prelude.{◌≡◌, ◌≤◌, ◌<◌, ◌+◌, ◌*◌, suc};
+ghost use Rattle.std.specs.Prelude.{◌≡◌, ◌<◌};
 ghost use Rattle.forest.specs.Hosts.{HostedStands};
 ghost use Rattle.forest.specs.Hands.{IsAt, hand_calls};
-ghost use Rattle.forest.specs.Seats.{StaysAtTable};
-ghost use Rattle.forest.specs.Traces.{seat_steps, shared_nodes, weight};
-ghost use Rattle.forest.specs.StraightUpdate.{Updater, UpdaterEnds, UpdaterGoesOn, UpdaterIsBlocked};
-ghost use Rattle.prims.specs.Scx.Steps.{scx_left};
-ghost use Rattle.prims.specs.declared.scx.ScxAt.{ScxAt};
-ghost use Rattle.edits.specs.Next.{left_then, standing};
-ghost use Rattle.edits.specs.Steps.{try_left, update_left};
+ghost use Rattle.forest.specs.Leads.{Leads};
+ghost use Rattle.forest.specs.Traces.{shared_nodes, weight};
+ghost use Rattle.forest.specs.StraightUpdate.{StandsToTry, TryEnds, Updater, UpdaterEnds, UpdaterIsBlocked, left_at_block};
+ghost use Rattle.edits.specs.Next.{standing};
+ghost use Rattle.edits.specs.Steps.{update_left};
 ghost use Rattle.edits.specs.declared.update.UpdateAt.{UpdateAt as Places};
 
 use crate::straight::hand::Hand;
@@ -41,13 +39,13 @@ fn finish<S: Shape, M: Machine<S>, E: Edit + Copy>(
     mut turn: Turn<Updated>,
 ) -> (Updated, UpdateRun<E, ()>)
     requires table { IsAt hand seat.old }
-    requires stands { (u : Updater (hand_calls S.Shape M.Machine hand) E.means) × HostedStands u seat.old.me.0.passes machine turn }
-    ensures table { StaysAtTable seat.old seat.new }
-    ensures ends { (u : Updater (hand_calls S.Shape M.Machine hand.entry) E.means)
-        → HostedStands u seat.old.me.0.passes machine turn
-        → UpdaterEnds u seat.new.me.0.passes result.1 result.0 }
-    ensures steps { seat_steps seat.new.me.0.passes
-        ≤ seat_steps seat.old.me.0.passes + weight turn (update_left E.means machine (shared_nodes hand.entry.layout.now)) }
+    requires stands { (u : Updater (hand_calls S.Shape M.Machine hand) E.means)
+        × HostedStands u seat.old.me.0.passes machine turn }
+    ensures { Leads seat.old seat.new (weight turn
+        (update_left E.means machine (shared_nodes hand.entry.layout.now)))
+        (λ (u : Updater (hand_calls S.Shape M.Machine hand.entry) E.means) ps.
+        HostedStands u ps machine turn)
+        (λ u ps. UpdaterEnds u ps result.1 result.0) }
 {
     loop {
         match turn {
@@ -73,13 +71,9 @@ fn rest_from_next<S: Shape, M: Machine<S>, E: Edit + Copy>(
     next: Result<Next, Stop>,
 ) -> (Updated, UpdateRun<E, ()>)
     requires table { IsAt hand seat.old }
-    requires goes_on { (u : Updater (hand_calls S.Shape M.Machine hand) E.means) × UpdaterGoesOn u seat.old.me.0.passes machine found next }
-    ensures table { StaysAtTable seat.old seat.new }
-    ensures ends { (u : Updater (hand_calls S.Shape M.Machine hand.entry) E.means)
-        → UpdaterGoesOn u seat.old.me.0.passes machine found next
-        → UpdaterEnds u seat.new.me.0.passes result.1 result.0 }
-    ensures steps { seat_steps seat.new.me.0.passes
-        ≤ seat_steps seat.old.me.0.passes + left_then E.means machine found next (shared_nodes hand.entry.layout.now) }
+    requires goes_on { StandsToTry S.Shape M.Machine E.means hand found seat.old machine next }
+    ensures { TryEnds S.Shape M.Machine E.means hand.entry found
+        seat.old machine next seat.new result.1 result.0 }
 {
     match next {
         Ok(next) => {
@@ -104,13 +98,9 @@ pub(crate) fn from_next<S: Shape, M: Machine<S>, E: Edit + Copy>(
     next: Result<Next, Stop>,
 ) -> Updated
     requires table { IsAt hand seat.old }
-    requires goes_on { (u : Updater (hand_calls S.Shape M.Machine hand) E.means) × UpdaterGoesOn u seat.old.me.0.passes run.old found.now next }
-    ensures table { StaysAtTable seat.old seat.new }
-    ensures ends { (u : Updater (hand_calls S.Shape M.Machine hand.entry) E.means)
-        → UpdaterGoesOn u seat.old.me.0.passes run.old found.now next
-        → UpdaterEnds u seat.new.me.0.passes run.new result }
-    ensures steps { seat_steps seat.new.me.0.passes
-        ≤ seat_steps seat.old.me.0.passes + left_then E.means run.old found.now next (shared_nodes hand.entry.layout.now) }
+    requires goes_on { StandsToTry S.Shape M.Machine E.means hand found.now seat.old run.old next }
+    ensures { TryEnds S.Shape M.Machine E.means hand.entry found.now
+        seat.old run.old next seat.new run.new result }
 {
     let machine = take_up(run, hand.layout);
     let (updated, rest) = rest_from_next::<S, M, E>(hand, seat, machine, anew(found), next);
@@ -132,12 +122,11 @@ fn rest_from_block<S: Shape, M: Machine<S>, E: Edit + Copy>(
     requires table { IsAt hand seat.old }
     requires blocked { (u : Updater (hand_calls S.Shape M.Machine hand) E.means)
         × UpdaterIsBlocked u seat.old.me.0.passes machine found scx help }
-    ensures table { StaysAtTable seat.old seat.new }
-    ensures ends { (u : Updater (hand_calls S.Shape M.Machine hand.entry) E.means)
-        → UpdaterIsBlocked u seat.old.me.0.passes machine found scx help
-        → UpdaterEnds u seat.new.me.0.passes result.1 result.0 }
-    ensures steps { seat_steps seat.new.me.0.passes
-        ≤ seat_steps seat.old.me.0.passes + suc (machine.tries * try_left E.means (shared_nodes hand.entry.layout.now) + scx_left (ScxAt.Help help)) }
+    ensures { Leads seat.old seat.new (left_at_block E.means machine help
+        (shared_nodes hand.entry.layout.now))
+        (λ (u : Updater (hand_calls S.Shape M.Machine hand.entry) E.means) ps.
+        UpdaterIsBlocked u ps machine found scx help)
+        (λ u ps. UpdaterEnds u ps result.1 result.0) }
 {
     let turn = machine.block(found, scx, help);
     finish::<S, M, E>(hand, seat, machine, turn)
@@ -156,12 +145,11 @@ pub(crate) fn from_block<S: Shape, M: Machine<S>, E: Edit + Copy>(
     requires table { IsAt hand seat.old }
     requires blocked { (u : Updater (hand_calls S.Shape M.Machine hand) E.means)
         × UpdaterIsBlocked u seat.old.me.0.passes run.old found.now scx help.now }
-    ensures table { StaysAtTable seat.old seat.new }
-    ensures ends { (u : Updater (hand_calls S.Shape M.Machine hand.entry) E.means)
-        → UpdaterIsBlocked u seat.old.me.0.passes run.old found.now scx help.now
-        → UpdaterEnds u seat.new.me.0.passes run.new result }
-    ensures steps { seat_steps seat.new.me.0.passes
-        ≤ seat_steps seat.old.me.0.passes + suc (run.old.tries * try_left E.means (shared_nodes hand.entry.layout.now) + scx_left (ScxAt.Help help.now)) }
+    ensures { Leads seat.old seat.new (left_at_block E.means run.old help.now
+        (shared_nodes hand.entry.layout.now))
+        (λ (u : Updater (hand_calls S.Shape M.Machine hand.entry) E.means) ps.
+        UpdaterIsBlocked u ps run.old found.now scx help.now)
+        (λ u ps. UpdaterEnds u ps run.new result) }
 {
     let machine = take_up(run, hand.layout);
     let (updated, rest) = rest_from_block::<S, M, E>(hand, seat, machine, anew(found), scx, *help);

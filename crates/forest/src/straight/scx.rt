@@ -3,9 +3,10 @@ ghost use Rattle.std.specs.Prelude.{◌≡◌, ◌≤◌, ◌<◌, ◌+◌, ℕ,
 ghost use Rattle.arena.specs.Layout.{scx_start};
 ghost use Rattle.arena.specs.MemberIndex.{member_index};
 ghost use Rattle.forest.specs.Hands.{IsAt, hand_calls};
+ghost use Rattle.forest.specs.InnerSteps.{MakesInside, WaitsInside};
+ghost use Rattle.forest.specs.Leads.{Leads, steps_made};
 ghost use Rattle.forest.specs.Seats.{StaysAtTable};
-ghost use Rattle.forest.specs.Traces.{seat_steps};
-ghost use Rattle.forest.specs.StraightScx.{Changer, changing_at, scx_fill, all_frozen_load, FillsPlan, FillsMember, FillsSeen, FillsCall};
+ghost use Rattle.forest.specs.StraightScx.{Changer, changing_at, inner_scx, scx_fill, FillsPlan, FillsMember, FillsSeen, FillsCall, IsBehindChange};
 ghost use Rattle.forest.specs.Inside.{InnerIsTold, InnerWaits};
 ghost use Rattle.help.specs.Help.Steps.{help_left};
 ghost use Rattle.help.specs.declared.state.HelpRun.{HelpRun};
@@ -44,13 +45,10 @@ fn fill<S: Shape, M: Machine<S>, T: Shape>(
 ) -> u64
     requires table { IsAt hand seat.old }
     requires start { start ≡ scx_start hand.layout.now scx }
-    requires waits { (k : Changer T.allows (hand_calls S.Shape M.Machine hand)) × (m : ScxRun)
-        × InnerWaits k seat.old.me.0.passes m (scx_fill scx part value) }
-    ensures table { StaysAtTable seat.old seat.new }
-    ensures one { seat_steps seat.new.me.0.passes ≡ suc (seat_steps seat.old.me.0.passes) }
-    ensures told { (k : Changer T.allows (hand_calls S.Shape M.Machine hand.entry)) (m : ScxRun)
-        → InnerWaits k seat.old.me.0.passes m (scx_fill scx part value)
-        → InnerIsTold k seat.new.me.0.passes m result }
+    requires waits { WaitsInside (hand_calls S.Shape M.Machine hand) (inner_scx T.allows)
+        seat.old (scx_fill scx part value) }
+    ensures { MakesInside (hand_calls S.Shape M.Machine hand.entry) (inner_scx T.allows)
+        seat.old seat.new (scx_fill scx part value) result }
 {
     let (kind, word) = (Kind::Fill, Word::Scx(scx, part));
     let access = Access::Store(value);
@@ -69,11 +67,14 @@ fn fill_member<S: Shape, M: Machine<S>, T: Shape, L: SnapList>(
 ) -> Option<MemberIndex>
     requires table { IsAt hand seat.old }
     requires start { start ≡ scx_start hand.layout.now change.scx }
-    requires waits { (k : Changer T.allows (hand_calls S.Shape M.Machine hand)) × FillsMember k seat.old.me.0.passes (L.list snaps.now) change j }
+    requires waits { (k : Changer T.allows (hand_calls S.Shape M.Machine hand))
+        × FillsMember k seat.old.me.0.passes (L.list snaps.now) change j }
     ensures table { StaysAtTable seat.old seat.new }
-    ensures one { seat_steps seat.new.me.0.passes ≡ suc (seat_steps seat.old.me.0.passes) }
-    ensures behind { IfSome result (λ next. (member_index next ≡ member_index j + 1) × (member_index next < 4)) }
-    ensures next { IfSome result (λ next. (k : Changer T.allows (hand_calls S.Shape M.Machine hand.entry))
+    ensures one { steps_made seat.new ≡ suc (steps_made seat.old) }
+    ensures behind { IfSome result (λ next. (member_index next ≡ member_index j + 1)
+        × (member_index next < 4)) }
+    ensures next { IfSome result (λ next.
+        (k : Changer T.allows (hand_calls S.Shape M.Machine hand.entry))
         → FillsMember k seat.old.me.0.passes (L.list snaps.now) change j
         → FillsMember k seat.new.me.0.passes (L.list snaps.now) change next) }
     ensures last { IfNone result ((k : Changer T.allows (hand_calls S.Shape M.Machine hand.entry))
@@ -99,11 +100,10 @@ fn fill_members<S: Shape, M: Machine<S>, T: Shape, L: SnapList>(
     requires start { start ≡ scx_start hand.layout.now change.scx }
     requires waits { (k : Changer T.allows (hand_calls S.Shape M.Machine hand))
         × FillsMember k seat.old.me.0.passes (L.list snaps.now) change MemberIndex.First }
-    ensures table { StaysAtTable seat.old seat.new }
-    ensures steps { seat_steps seat.new.me.0.passes ≤ seat_steps seat.old.me.0.passes + 4 }
-    ensures waits { (k : Changer T.allows (hand_calls S.Shape M.Machine hand.entry))
-        → FillsMember k seat.old.me.0.passes (L.list snaps.now) change MemberIndex.First
-        → FillsSeen k seat.new.me.0.passes (L.list snaps.now) change MemberIndex.First }
+    ensures { Leads seat.old seat.new 4
+        (λ (k : Changer T.allows (hand_calls S.Shape M.Machine hand.entry)) ps.
+        FillsMember k ps (L.list snaps.now) change MemberIndex.First)
+        (λ k ps. FillsSeen k ps (L.list snaps.now) change MemberIndex.First) }
 {
     let first = MemberIndex::First;
     let Some(second) = fill_member::<S, M, T, L>(hand, seat, snaps, change, start, first) else {
@@ -130,11 +130,14 @@ fn fill_seen<S: Shape, M: Machine<S>, T: Shape, L: SnapList>(
 ) -> Option<MemberIndex>
     requires table { IsAt hand seat.old }
     requires start { start ≡ scx_start hand.layout.now change.scx }
-    requires waits { (k : Changer T.allows (hand_calls S.Shape M.Machine hand)) × FillsSeen k seat.old.me.0.passes (L.list snaps.now) change j }
+    requires waits { (k : Changer T.allows (hand_calls S.Shape M.Machine hand))
+        × FillsSeen k seat.old.me.0.passes (L.list snaps.now) change j }
     ensures table { StaysAtTable seat.old seat.new }
-    ensures one { seat_steps seat.new.me.0.passes ≡ suc (seat_steps seat.old.me.0.passes) }
-    ensures behind { IfSome result (λ next. (member_index next ≡ member_index j + 1) × (member_index next < 4)) }
-    ensures next { IfSome result (λ next. (k : Changer T.allows (hand_calls S.Shape M.Machine hand.entry))
+    ensures one { steps_made seat.new ≡ suc (steps_made seat.old) }
+    ensures behind { IfSome result (λ next. (member_index next ≡ member_index j + 1)
+        × (member_index next < 4)) }
+    ensures next { IfSome result (λ next.
+        (k : Changer T.allows (hand_calls S.Shape M.Machine hand.entry))
         → FillsSeen k seat.old.me.0.passes (L.list snaps.now) change j
         → FillsSeen k seat.new.me.0.passes (L.list snaps.now) change next) }
     ensures last { IfNone result ((k : Changer T.allows (hand_calls S.Shape M.Machine hand.entry))
@@ -160,11 +163,10 @@ fn fill_infos<S: Shape, M: Machine<S>, T: Shape, L: SnapList>(
     requires start { start ≡ scx_start hand.layout.now change.scx }
     requires waits { (k : Changer T.allows (hand_calls S.Shape M.Machine hand))
         × FillsSeen k seat.old.me.0.passes (L.list snaps.now) change MemberIndex.First }
-    ensures table { StaysAtTable seat.old seat.new }
-    ensures steps { seat_steps seat.new.me.0.passes ≤ seat_steps seat.old.me.0.passes + 4 }
-    ensures waits { (k : Changer T.allows (hand_calls S.Shape M.Machine hand.entry))
-        → FillsSeen k seat.old.me.0.passes (L.list snaps.now) change MemberIndex.First
-        → FillsCall k seat.new.me.0.passes (L.list snaps.now) change }
+    ensures { Leads seat.old seat.new 4
+        (λ (k : Changer T.allows (hand_calls S.Shape M.Machine hand.entry)) ps.
+        FillsSeen k ps (L.list snaps.now) change MemberIndex.First)
+        (λ k ps. FillsCall k ps (L.list snaps.now) change) }
 {
     let first = MemberIndex::First;
     let Some(second) = fill_seen::<S, M, T, L>(hand, seat, snaps, change, start, first) else {
@@ -190,12 +192,12 @@ pub(crate) fn fill_all<S: Shape, M: Machine<S>, T: Shape, L: SnapList>(
 ) -> u64
     requires table { IsAt hand seat.old }
     requires start { start ≡ scx_start hand.layout.now change.scx }
-    requires waits { (k : Changer T.allows (hand_calls S.Shape M.Machine hand)) × FillsPlan k seat.old.me.0.passes (L.list snaps.now) change }
-    ensures table { StaysAtTable seat.old seat.new }
-    ensures steps { seat_steps seat.new.me.0.passes ≤ seat_steps seat.old.me.0.passes + 12 }
-    ensures told { (k : Changer T.allows (hand_calls S.Shape M.Machine hand.entry))
-        → FillsPlan k seat.old.me.0.passes (L.list snaps.now) change
-        → InnerIsTold k seat.new.me.0.passes (changing_at (L.list snaps.now) change ScxAt.Call) result }
+    requires waits { (k : Changer T.allows (hand_calls S.Shape M.Machine hand))
+        × FillsPlan k seat.old.me.0.passes (L.list snaps.now) change }
+    ensures { Leads seat.old seat.new 12
+        (λ (k : Changer T.allows (hand_calls S.Shape M.Machine hand.entry)) ps.
+        FillsPlan k ps (L.list snaps.now) change)
+        (λ k ps. InnerIsTold k ps (changing_at (L.list snaps.now) change ScxAt.Call) result) }
 {
     let scx = change.scx;
     fill::<S, M, T>(hand, seat, scx, start, ScxWord::Plan, change.plan.0);
@@ -218,17 +220,15 @@ pub(crate) fn call<S: Shape, M: Machine<S>, T: Shape, L: SnapList>(
     help: &mut HelpRun,
 ) -> bool
     requires table { IsAt hand seat.old }
-    requires waits { (k : Changer T.allows (hand_calls S.Shape M.Machine hand)) × FillsPlan k seat.old.me.0.passes (L.list snaps.now) change }
+    requires waits { (k : Changer T.allows (hand_calls S.Shape M.Machine hand))
+        × FillsPlan k seat.old.me.0.passes (L.list snaps.now) change }
     requires begins { (help.old.scx ≡ change.scx) × (help.old.at ≡ HelpAt.Start) }
-    ensures table { StaysAtTable seat.old seat.new }
-    ensures steps { seat_steps seat.new.me.0.passes ≤ seat_steps seat.old.me.0.passes + 34 }
-    ensures left { result ≡ false → seat_steps seat.new.me.0.passes + suc (help_left help.new.at) ≤ seat_steps seat.old.me.0.passes + 34 }
-    ensures commits { result ≡ true → (k : Changer T.allows (hand_calls S.Shape M.Machine hand.entry))
-        → FillsPlan k seat.old.me.0.passes (L.list snaps.now) change
-        → (v : ℕ) × InnerIsTold k seat.new.me.0.passes (changing_at (L.list snaps.now) change (ScxAt.Help (record help.new { at = HelpAt.Commit }))) v }
-    ensures blocked { result ≡ false → (k : Changer T.allows (hand_calls S.Shape M.Machine hand.entry))
-        → FillsPlan k seat.old.me.0.passes (L.list snaps.now) change
-        → InnerWaits k seat.new.me.0.passes (changing_at (L.list snaps.now) change (ScxAt.Help help.new)) (all_frozen_load change.scx) }
+    ensures leads { Leads seat.old seat.new 34
+        (λ (k : Changer T.allows (hand_calls S.Shape M.Machine hand.entry)) ps.
+        FillsPlan k ps (L.list snaps.now) change)
+        (λ k ps. IsBehindChange k ps (L.list snaps.now) change help.new result) }
+    ensures left { result ≡ false → steps_made seat.new + suc (help_left help.new.at)
+        ≤ steps_made seat.old + 34 }
 {
     let layout = *hand.layout;
     let hand = Hand {

@@ -2,11 +2,12 @@
 ghost use Rattle.std.specs.Prelude.{◌≡◌, suc, [], ◌∷◌};
 ghost use Rattle.arena.specs.Layout.{start_of};
 ghost use Rattle.arena.specs.Machines.{Call};
+ghost use Rattle.forest.specs.Leads.{steps_made};
 ghost use Rattle.forest.specs.declared.view.SeatedPass.{SeatedPass};
 ghost use Rattle.forest.specs.Opened.{IsStepBehind};
 ghost use Rattle.forest.specs.Hands.{IsAt, IsCallOf};
 ghost use Rattle.forest.specs.Seats.{StaysAtTable};
-ghost use Rattle.forest.specs.Traces.{Waits, Told, known_of, seat_steps};
+ghost use Rattle.forest.specs.Traces.{Waits, Told, known_of};
 
 use crate::rule::Asked;
 use crate::straight::hand::Hand;
@@ -32,9 +33,10 @@ pub(crate) fn step_from<S: Shape, M: Machine<S>>(
     ensures told { (c : Call) (first m : M) → IsCallOf hand.entry c
         → Waits S.allows M.waits M.same c seat.old.me.0.passes first m step
         → Told S.allows M.waits M.same c seat.new.me.0.passes first M.ready m result }
-    ensures one { seat_steps seat.new.me.0.passes ≡ suc (seat_steps seat.old.me.0.passes) }
+    ensures one { steps_made seat.new ≡ suc (steps_made seat.old) }
     ensures row { (p : SeatedPass) × (seat.old.me.0.passes ≡ p ∷ [])
-        × IsStepBehind p.known (known_of seat.new.me.0.passes) p.number.0 hand.entry.number step.kind }
+        × IsStepBehind p.known (known_of seat.new.me.0.passes) p.number.0 hand.entry.number
+        step.kind }
 {
     let at = hand.layout.place_from(start, step.word);
     let asked = Asked {
@@ -58,9 +60,10 @@ pub(crate) fn step<S: Shape, M: Machine<S>>(
     ensures told { (c : Call) (first m : M) → IsCallOf hand.entry c
         → Waits S.allows M.waits M.same c seat.old.me.0.passes first m step
         → Told S.allows M.waits M.same c seat.new.me.0.passes first M.ready m result }
-    ensures one { seat_steps seat.new.me.0.passes ≡ suc (seat_steps seat.old.me.0.passes) }
+    ensures one { steps_made seat.new ≡ suc (steps_made seat.old) }
     ensures row { (p : SeatedPass) × (seat.old.me.0.passes ≡ p ∷ [])
-        × IsStepBehind p.known (known_of seat.new.me.0.passes) p.number.0 hand.entry.number step.kind }
+        × IsStepBehind p.known (known_of seat.new.me.0.passes) p.number.0 hand.entry.number
+        step.kind }
 {
     let start = hand.layout.start_of(step.word);
     step_from::<S, M>(hand, seat, step, start)

@@ -1,10 +1,10 @@
 //! Updates, of whatever machine updates.
-ghost use Rattle.std.specs.Prelude.{◌≡◌, ◌≤◌, ◌<◌, ◌+◌, suc, Ok};
+ghost use Rattle.std.specs.Prelude.{◌<◌, Ok};
 ghost use Rattle.forest.specs.Hands.{IsAt, hand_calls};
-ghost use Rattle.forest.specs.Seats.{StaysAtTable};
-ghost use Rattle.forest.specs.Traces.{seat_steps, shared_nodes};
-ghost use Rattle.forest.specs.StraightUpdate.{Updater, UpdaterBegins, UpdaterEnds, UpdaterLeaves, UpdaterTries, UpdaterGoesOn, new_update};
-ghost use Rattle.edits.specs.Next.{standing, left_then};
+ghost use Rattle.forest.specs.Leads.{Leads, steps_made};
+ghost use Rattle.forest.specs.Traces.{shared_nodes};
+ghost use Rattle.forest.specs.StraightUpdate.{StandsToTry, TryEnds, TryGoesOn, Updater, UpdaterBegins, UpdaterEnds, UpdaterLeaves, new_update};
+ghost use Rattle.edits.specs.Next.{standing};
 ghost use Rattle.edits.specs.Steps.{update_left};
 ghost use Rattle.edits.specs.declared.update.Next.{Next};
 ghost use Rattle.edits.specs.declared.update.UpdateAt.{UpdateAt};
@@ -39,13 +39,11 @@ pub(crate) fn make<S: Shape, M: Machine<S>, E: Edit + Copy>(
     requires table { IsAt hand seat.old }
     requires begins { (u : Updater (hand_calls S.Shape M.Machine hand) E.means)
         × UpdaterBegins u seat.old.me.0.passes (new_update edit share tries hand.number) }
-    ensures table { StaysAtTable seat.old seat.new }
-    ensures ends { (u : Updater (hand_calls S.Shape M.Machine hand.entry) E.means)
-        → UpdaterBegins u seat.old.me.0.passes (new_update edit share tries hand.entry.number)
-        → UpdaterLeaves u seat.new.me.0.passes result.0 result.1 }
-    ensures steps { seat_steps seat.new.me.0.passes
-        ≤ seat_steps seat.old.me.0.passes
-        + update_left E.means (standing (new_update edit share tries hand.entry.number) UpdateAt.Start) (shared_nodes hand.entry.layout.now) }
+    ensures { let new = new_update edit share tries hand.entry.number in
+        Leads seat.old seat.new (update_left E.means (standing new UpdateAt.Start)
+        (shared_nodes hand.entry.layout.now))
+        (λ (u : Updater (hand_calls S.Shape M.Machine hand.entry) E.means) ps. UpdaterBegins u ps new)
+        (λ u ps. UpdaterLeaves u ps result.0 result.1) }
 {
     let mut run = UpdateRun {
         edit,
@@ -71,13 +69,13 @@ fn call<S: Shape, M: Machine<S>, E: Edit + Copy>(
     run: &mut UpdateRun<E, ()>,
 ) -> Updated
     requires table { IsAt hand seat.old }
-    requires begins { (u : Updater (hand_calls S.Shape M.Machine hand) E.means) × UpdaterBegins u seat.old.me.0.passes run.old }
-    ensures table { StaysAtTable seat.old seat.new }
-    ensures ends { (u : Updater (hand_calls S.Shape M.Machine hand.entry) E.means)
-        → UpdaterBegins u seat.old.me.0.passes run.old
-        → UpdaterEnds u seat.new.me.0.passes run.new result }
-    ensures steps { seat_steps seat.new.me.0.passes
-        ≤ seat_steps seat.old.me.0.passes + update_left E.means (standing run.old UpdateAt.Start) (shared_nodes hand.entry.layout.now) }
+    requires begins { (u : Updater (hand_calls S.Shape M.Machine hand) E.means)
+        × UpdaterBegins u seat.old.me.0.passes run.old }
+    ensures { Leads seat.old seat.new (update_left E.means (standing run.old UpdateAt.Start)
+        (shared_nodes hand.entry.layout.now))
+        (λ (u : Updater (hand_calls S.Shape M.Machine hand.entry) E.means) ps.
+        UpdaterBegins u ps run.old)
+        (λ u ps. UpdaterEnds u ps run.new result) }
 {
     let goal = run.edit.goal();
     let found = anew(&walk::call::<S, M>(hand, seat, goal).0);
@@ -95,13 +93,9 @@ fn try_on<S: Shape, M: Machine<S>, E: Edit + Copy>(
     next: Result<Next, Stop>,
 ) -> Updated
     requires table { IsAt hand seat.old }
-    requires goes_on { (u : Updater (hand_calls S.Shape M.Machine hand) E.means) × UpdaterGoesOn u seat.old.me.0.passes run.old found.now next }
-    ensures table { StaysAtTable seat.old seat.new }
-    ensures ends { (u : Updater (hand_calls S.Shape M.Machine hand.entry) E.means)
-        → UpdaterGoesOn u seat.old.me.0.passes run.old found.now next
-        → UpdaterEnds u seat.new.me.0.passes run.new result }
-    ensures steps { seat_steps seat.new.me.0.passes
-        ≤ seat_steps seat.old.me.0.passes + left_then E.means run.old found.now next (shared_nodes hand.entry.layout.now) }
+    requires goes_on { StandsToTry S.Shape M.Machine E.means hand found.now seat.old run.old next }
+    ensures { TryEnds S.Shape M.Machine E.means hand.entry found.now
+        seat.old run.old next seat.new run.new result }
 {
     let looked = look_on::<S, M, E>(hand, seat, run, found, next);
     let loaded = read_on::<S, M, E>(hand, seat, run, found, looked);
@@ -129,13 +123,9 @@ fn look_on<S: Shape, M: Machine<S>, E: Edit + Copy>(
     next: Result<Next, Stop>,
 ) -> Result<Next, Stop>
     requires table { IsAt hand seat.old }
-    requires goes_on { (u : Updater (hand_calls S.Shape M.Machine hand) E.means) × UpdaterGoesOn u seat.old.me.0.passes run.old found.now next }
-    ensures table { StaysAtTable seat.old seat.new }
-    ensures goes_on { (u : Updater (hand_calls S.Shape M.Machine hand.entry) E.means)
-        → UpdaterGoesOn u seat.old.me.0.passes run.old found.now next
-        → UpdaterGoesOn u seat.new.me.0.passes run.new found.now result }
-    ensures steps { seat_steps seat.new.me.0.passes + left_then E.means run.new found.now result (shared_nodes hand.entry.layout.now)
-        ≤ seat_steps seat.old.me.0.passes + left_then E.means run.old found.now next (shared_nodes hand.entry.layout.now) }
+    requires goes_on { StandsToTry S.Shape M.Machine E.means hand found.now seat.old run.old next }
+    ensures { TryGoesOn S.Shape M.Machine E.means hand.entry found.now
+        seat.old run.old next seat.new run.new result }
 {
     let mut now = next?;
     while let Next::Look(node) = now {
@@ -154,13 +144,9 @@ fn read_on<S: Shape, M: Machine<S>, E: Edit + Copy>(
     next: Result<Next, Stop>,
 ) -> Result<Next, Stop>
     requires table { IsAt hand seat.old }
-    requires goes_on { (u : Updater (hand_calls S.Shape M.Machine hand) E.means) × UpdaterGoesOn u seat.old.me.0.passes run.old found.now next }
-    ensures table { StaysAtTable seat.old seat.new }
-    ensures goes_on { (u : Updater (hand_calls S.Shape M.Machine hand.entry) E.means)
-        → UpdaterGoesOn u seat.old.me.0.passes run.old found.now next
-        → UpdaterGoesOn u seat.new.me.0.passes run.new found.now result }
-    ensures steps { seat_steps seat.new.me.0.passes + left_then E.means run.new found.now result (shared_nodes hand.entry.layout.now)
-        ≤ seat_steps seat.old.me.0.passes + left_then E.means run.old found.now next (shared_nodes hand.entry.layout.now) }
+    requires goes_on { StandsToTry S.Shape M.Machine E.means hand found.now seat.old run.old next }
+    ensures { TryGoesOn S.Shape M.Machine E.means hand.entry found.now
+        seat.old run.old next seat.new run.new result }
 {
     let mut now = next?;
     while let Next::Read { node, part } = now {
@@ -179,13 +165,9 @@ fn fill_on<S: Shape, M: Machine<S>, E: Edit + Copy>(
     next: Result<Next, Stop>,
 ) -> Result<Next, Stop>
     requires table { IsAt hand seat.old }
-    requires goes_on { (u : Updater (hand_calls S.Shape M.Machine hand) E.means) × UpdaterGoesOn u seat.old.me.0.passes run.old found.now next }
-    ensures table { StaysAtTable seat.old seat.new }
-    ensures goes_on { (u : Updater (hand_calls S.Shape M.Machine hand.entry) E.means)
-        → UpdaterGoesOn u seat.old.me.0.passes run.old found.now next
-        → UpdaterGoesOn u seat.new.me.0.passes run.new found.now result }
-    ensures steps { seat_steps seat.new.me.0.passes + left_then E.means run.new found.now result (shared_nodes hand.entry.layout.now)
-        ≤ seat_steps seat.old.me.0.passes + left_then E.means run.old found.now next (shared_nodes hand.entry.layout.now) }
+    requires goes_on { StandsToTry S.Shape M.Machine E.means hand found.now seat.old run.old next }
+    ensures { TryGoesOn S.Shape M.Machine E.means hand.entry found.now
+        seat.old run.old next seat.new run.new result }
 {
     let mut now = next?;
     while let Next::Fill(nth) = now {
@@ -204,16 +186,11 @@ fn look_at<S: Shape, M: Machine<S>, E: Edit + Copy>(
     node: NodeNo,
 ) -> Result<Next, Stop>
     requires table { IsAt hand seat.old }
-    requires tries { (u : Updater (hand_calls S.Shape M.Machine hand) E.means)
-        × UpdaterTries u seat.old.me.0.passes run.old found.now (Next.Look node) }
-    ensures table { StaysAtTable seat.old seat.new }
-    ensures goes_on { (u : Updater (hand_calls S.Shape M.Machine hand.entry) E.means)
-        → UpdaterTries u seat.old.me.0.passes run.old found.now (Next.Look node)
-        → UpdaterGoesOn u seat.new.me.0.passes run.new found.now result }
-    ensures steps { seat_steps seat.new.me.0.passes + left_then E.means run.new found.now result (shared_nodes hand.entry.layout.now)
-        ≤ seat_steps seat.old.me.0.passes + left_then E.means run.old found.now (Ok (Next.Look node)) (shared_nodes hand.entry.layout.now) }
-    ensures nearer { left_then E.means run.new found.now result (shared_nodes hand.entry.layout.now)
-        < left_then E.means run.old found.now (Ok (Next.Look node)) (shared_nodes hand.entry.layout.now) }
+    requires tries { StandsToTry S.Shape M.Machine E.means hand found.now
+        seat.old run.old (Ok (Next.Look node)) }
+    ensures goes_on { TryGoesOn S.Shape M.Machine E.means hand.entry found.now
+        seat.old run.old (Ok (Next.Look node)) seat.new run.new result }
+    ensures moves { steps_made seat.old < steps_made seat.new }
 {
     match look::<S, M, Tree>(hand, seat, node) {
         Ok(snap) => run.looked(found, snap),
@@ -232,14 +209,10 @@ fn change<S: Shape, M: Machine<S>, E: Edit + Copy>(
     scx: ScxNo,
 ) -> Updated
     requires table { IsAt hand seat.old }
-    requires tries { (u : Updater (hand_calls S.Shape M.Machine hand) E.means)
-        × UpdaterTries u seat.old.me.0.passes run.old found.now (Next.Change scx) }
-    ensures table { StaysAtTable seat.old seat.new }
-    ensures ends { (u : Updater (hand_calls S.Shape M.Machine hand.entry) E.means)
-        → UpdaterTries u seat.old.me.0.passes run.old found.now (Next.Change scx)
-        → UpdaterEnds u seat.new.me.0.passes run.new result }
-    ensures steps { seat_steps seat.new.me.0.passes
-        ≤ seat_steps seat.old.me.0.passes + left_then E.means run.old found.now (Ok (Next.Change scx)) (shared_nodes hand.entry.layout.now) }
+    requires tries { StandsToTry S.Shape M.Machine E.means hand found.now
+        seat.old run.old (Ok (Next.Change scx)) }
+    ensures { TryEnds S.Shape M.Machine E.means hand.entry found.now
+        seat.old run.old (Ok (Next.Change scx)) seat.new run.new result }
 {
     let copy = *hand.layout;
     let own = Hand {

@@ -1,10 +1,10 @@
 //! VLX, of whatever machine validates snapshots, and as a call of its own.
 ghost use Rattle.std.specs.Prelude.{◌≡◌, ◌≤◌, ◌<◌, ◌+◌, ℕ, suc, length};
 ghost use Rattle.arena.specs.Machines.{Call};
+ghost use Rattle.forest.specs.Leads.{steps_made};
 ghost use Rattle.forest.specs.Inside.{InnerIsTold};
 ghost use Rattle.forest.specs.Hands.{IsAt, IsCallOf, hand_calls};
 ghost use Rattle.forest.specs.Seats.{StaysAtTable};
-ghost use Rattle.forest.specs.Traces.{seat_steps};
 ghost use Rattle.prims.specs.Snap.{snap_at};
 ghost use Rattle.forest.specs.StraightVlx.{LoadsFirstInfo, Validator, SeatVlxBegins, SeatVlxEnds};
 
@@ -26,15 +26,16 @@ pub(crate) fn validate<S: Shape, M: Machine<S>, L: SnapList + Copy>(
 ) -> (usize, u64)
     requires table { IsAt hand seat.old }
     requires some { 0 < length (L.list snaps) }
-    requires waits { (v : Validator (hand_calls S.Shape M.Machine hand) (L.list snaps)) × LoadsFirstInfo v seat.old.me.0.passes }
+    requires waits { (v : Validator (hand_calls S.Shape M.Machine hand) (L.list snaps))
+        × LoadsFirstInfo v seat.old.me.0.passes }
     ensures table { StaysAtTable seat.old seat.new }
     ensures told { (v : Validator (hand_calls S.Shape M.Machine hand.entry) (L.list snaps))
         → LoadsFirstInfo v seat.old.me.0.passes
         → InnerIsTold v seat.new.me.0.passes result.0 result.1 }
-    ensures some { 0 < result.0 }
-    ensures within { result.0 ≤ length (L.list snaps) }
-    ensures all { (last : ℕ) → suc last ≡ result.0 → (snap_at (L.list snaps) last).scx.0 ≡ result.1 → result.0 ≡ length (L.list snaps) }
-    ensures steps { seat_steps seat.new.me.0.passes ≡ seat_steps seat.old.me.0.passes + result.0 }
+    ensures within { (0 < result.0) × (result.0 ≤ length (L.list snaps)) }
+    ensures all { (last : ℕ) → suc last ≡ result.0 → (snap_at (L.list snaps) last).scx.0 ≡ result.1
+        → result.0 ≡ length (L.list snaps) }
+    ensures steps { steps_made seat.new ≡ steps_made seat.old + result.0 }
 {
     let layout = *hand.layout;
     let hand = Hand {
@@ -68,12 +69,13 @@ pub(crate) fn call<S: Shape, L: SnapList + Copy>(
     snaps: L,
 ) -> Vlx
     requires table { IsAt hand seat.old }
-    requires begins { (c : Call) × IsCallOf hand c × SeatVlxBegins L.list S.allows c seat.old.me.0.passes snaps }
+    requires begins { (c : Call) × IsCallOf hand c
+        × SeatVlxBegins L.list S.allows c seat.old.me.0.passes snaps }
     ensures table { StaysAtTable seat.old seat.new }
     ensures ends { (c : Call) → IsCallOf hand.entry c
         → SeatVlxBegins L.list S.allows c seat.old.me.0.passes snaps
         → SeatVlxEnds L.list S.allows c seat.new.me.0.passes snaps result }
-    ensures steps { seat_steps seat.new.me.0.passes ≤ seat_steps seat.old.me.0.passes + length (L.list snaps) }
+    ensures steps { steps_made seat.new ≤ steps_made seat.old + length (L.list snaps) }
 {
     let (asked, told) = validate::<S, VlxRun<L>, L>(hand, seat, snaps);
     let last = snaps.get(asked - 1);

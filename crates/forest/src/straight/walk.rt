@@ -1,11 +1,12 @@
 //! Walks down the tree, of whatever machine walks.
-ghost use Rattle.std.specs.Prelude.{◌≡◌, ◌≤◌, ◌+◌, ◌*◌, ℕ, suc, true, if◌then◌else◌, nat_lt, IfOk, IfErr};
+ghost use Rattle.std.specs.Prelude.{◌≡◌, ◌≤◌, ◌+◌, ◌*◌, ℕ, suc, true, if◌then◌else◌, nat_lt, IfOk, IfErr, MatchResult};
 ghost use Rattle.arena.specs.Heads.{head_of};
 ghost use Rattle.arena.specs.Layout.{node_start};
 ghost use Rattle.arena.specs.declared.number.NodeNo.{NodeNo};
+ghost use Rattle.forest.specs.Leads.{steps_made};
 ghost use Rattle.forest.specs.Hands.{IsAt, hand_calls};
 ghost use Rattle.forest.specs.Seats.{StaysAtTable};
-ghost use Rattle.forest.specs.Traces.{seat_steps, shared_nodes};
+ghost use Rattle.forest.specs.Traces.{shared_nodes};
 ghost use Rattle.forest.specs.StraightWalk.{Walker, WalkerFinds, WalkerGoesDown, WalkerIsTold, WalkerWaits, WalksFromRoot};
 ghost use Rattle.order.specs.Steps.{last_turn};
 ghost use Rattle.prims.specs.Llx.Known.{load};
@@ -36,11 +37,13 @@ fn read<S: Shape, M: Machine<S>>(
 ) -> u64
     requires table { IsAt hand seat.old }
     requires start { start ≡ node_start node }
-    requires waits { (w : Walker (hand_calls S.Shape M.Machine hand)) × (m : WalkRun) × (turn : NodeNo)
+    requires waits { (w : Walker (hand_calls S.Shape M.Machine hand)) × (m : WalkRun)
+        × (turn : NodeNo)
         × WalkerWaits w seat.old.me.0.passes m turn (load kind (Word.Node node part)) }
     ensures table { StaysAtTable seat.old seat.new }
-    ensures one { seat_steps seat.new.me.0.passes ≡ suc (seat_steps seat.old.me.0.passes) }
-    ensures told { (w : Walker (hand_calls S.Shape M.Machine hand.entry)) (m : WalkRun) (turn : NodeNo)
+    ensures one { steps_made seat.new ≡ suc (steps_made seat.old) }
+    ensures told { (w : Walker (hand_calls S.Shape M.Machine hand.entry)) (m : WalkRun)
+        (turn : NodeNo)
         → WalkerWaits w seat.old.me.0.passes m turn (load kind (Word.Node node part))
         → WalkerIsTold w seat.new.me.0.passes m turn result }
 {
@@ -114,11 +117,13 @@ fn end_with<S: Shape, M: Machine<S>>(
     requires start { start ≡ node_start trail.node }
     requires asked { asked_key goal key ≡ key }
     requires told { (w : Walker (hand_calls S.Shape M.Machine hand)) × (turn : NodeNo)
-        × WalkerIsTold w seat.old.me.0.passes (walk_at goal trail (WalkAt.Pair head more slot)) turn key }
+        × WalkerIsTold w seat.old.me.0.passes (walk_at goal trail (WalkAt.Pair head more slot)) turn
+        key }
     ensures table { StaysAtTable seat.old seat.new }
-    ensures steps { seat_steps seat.new.me.0.passes ≡ seat_steps seat.old.me.0.passes + 2 }
+    ensures steps { steps_made seat.new ≡ steps_made seat.old + 2 }
     ensures finds { (w : Walker (hand_calls S.Shape M.Machine hand.entry)) (turn : NodeNo)
-        → WalkerIsTold w seat.old.me.0.passes (walk_at goal trail (WalkAt.Pair head more slot)) turn key
+        → WalkerIsTold w seat.old.me.0.passes (walk_at goal trail (WalkAt.Pair head more slot)) turn
+        key
         → WalkerFinds w seat.new.me.0.passes goal turn result }
 {
     let kind = Kind::LoadSettled;
@@ -152,7 +157,7 @@ fn end_among<S: Shape, M: Machine<S>>(
     requires told { (w : Walker (hand_calls S.Shape M.Machine hand)) × (turn : NodeNo)
         × WalkerIsTold w seat.old.me.0.passes (walk_at goal trail (WalkAt.More head)) turn more }
     ensures table { StaysAtTable seat.old seat.new }
-    ensures steps { seat_steps seat.new.me.0.passes ≤ seat_steps seat.old.me.0.passes + 6 }
+    ensures steps { steps_made seat.new ≤ steps_made seat.old + 6 }
     ensures finds { (w : Walker (hand_calls S.Shape M.Machine hand.entry)) (turn : NodeNo)
         → WalkerIsTold w seat.old.me.0.passes (walk_at goal trail (WalkAt.More head)) turn more
         → WalkerFinds w seat.new.me.0.passes goal turn result }
@@ -198,7 +203,7 @@ fn end<S: Shape, M: Machine<S>>(
     requires told { (w : Walker (hand_calls S.Shape M.Machine hand)) × (turn : NodeNo)
         × WalkerIsTold w seat.old.me.0.passes (walk_at goal trail at) turn word }
     ensures table { StaysAtTable seat.old seat.new }
-    ensures steps { seat_steps seat.new.me.0.passes ≤ seat_steps seat.old.me.0.passes + 7 }
+    ensures steps { steps_made seat.new ≤ steps_made seat.old + 7 }
     ensures finds { (w : Walker (hand_calls S.Shape M.Machine hand.entry)) (turn : NodeNo)
         → WalkerIsTold w seat.old.me.0.passes (walk_at goal trail at) turn word
         → WalkerFinds w seat.new.me.0.passes goal turn result }
@@ -236,12 +241,14 @@ fn pass<S: Shape, M: Machine<S>>(
     requires told { (w : Walker (hand_calls S.Shape M.Machine hand)) × (turn : NodeNo)
         × WalkerIsTold w seat.old.me.0.passes (walk_at goal trail at) turn word }
     ensures table { StaysAtTable seat.old seat.new }
-    ensures steps { IfOk result (λ _. seat_steps seat.new.me.0.passes ≤ seat_steps seat.old.me.0.passes + 1) }
-    ensures last_steps { IfErr result (λ _. seat_steps seat.new.me.0.passes ≤ seat_steps seat.old.me.0.passes + 7) }
-    ensures down { IfOk result (λ side. (w : Walker (hand_calls S.Shape M.Machine hand.entry)) (turn : NodeNo)
+    ensures steps { MatchResult result (λ _. steps_made seat.new ≤ steps_made seat.old + 1)
+        (λ _. steps_made seat.new ≤ steps_made seat.old + 7) }
+    ensures down { IfOk result (λ side.
+        (w : Walker (hand_calls S.Shape M.Machine hand.entry)) (turn : NodeNo)
         → WalkerIsTold w seat.old.me.0.passes (walk_at goal trail at) turn word
         → WalkerGoesDown w seat.new.me.0.passes goal trail (head_of word).level side turn) }
-    ensures finds { IfErr result (λ found. (w : Walker (hand_calls S.Shape M.Machine hand.entry)) (turn : NodeNo)
+    ensures finds { IfErr result (λ found.
+        (w : Walker (hand_calls S.Shape M.Machine hand.entry)) (turn : NodeNo)
         → WalkerIsTold w seat.old.me.0.passes (walk_at goal trail at) turn word
         → WalkerFinds w seat.new.me.0.passes goal turn found) }
 {
@@ -281,9 +288,11 @@ pub(crate) fn call<S: Shape, M: Machine<S>>(
     goal: Goal,
 ) -> (Found, NodeNo)
     requires table { IsAt hand seat.old }
-    requires waits { (w : Walker (hand_calls S.Shape M.Machine hand)) × WalksFromRoot w seat.old.me.0.passes goal }
+    requires waits { (w : Walker (hand_calls S.Shape M.Machine hand))
+        × WalksFromRoot w seat.old.me.0.passes goal }
     ensures table { StaysAtTable seat.old seat.new }
-    ensures steps { seat_steps seat.new.me.0.passes ≤ seat_steps seat.old.me.0.passes + (3 * (2 + shared_nodes hand.entry.layout.now) + 5) }
+    ensures steps { steps_made seat.new ≤ steps_made seat.old + (3 * (2 + shared_nodes
+        hand.entry.layout.now) + 5) }
     ensures finds { (w : Walker (hand_calls S.Shape M.Machine hand.entry))
         → WalksFromRoot w seat.old.me.0.passes goal
         → WalkerFinds w seat.new.me.0.passes goal result.1 result.0 }

@@ -38,12 +38,12 @@ pub returns-clause-steps : goal.returns-clause-steps
 returns-clause-steps g c =
     let nodes = shared_nodes c.args.hand.layout.now in
     subst (λ n. seat_steps c.make-updated.new.seat.me.0.passes ≤ seat_steps c.args.seat.now.me.0.passes + n) (g.met.E.EditCall.is_kind.steps c.args.edit c.args.tries nodes)
-    (tries_steps _ _ _ c.args.tries (try_left g.E.Edit.means nodes) c.requires.tries refl c.make-updated.ensures.steps)
+    (tries_steps _ _ _ c.args.tries (try_left g.E.Edit.means c.args.edit nodes) c.requires.tries refl c.make-updated.ensures.steps)
 
 pub returns-clause-ends : goal.returns-clause-ends
 returns-clause-ends g c = λ call fits x.
     let k = (goal.at.returns-clause-ends g c).After-goal-goal in
-    let left = c.make-updated.ensures.ends (editor g.K.WordKey.is_valid g.K.WordKey.word_of g.V.WordValue.is_valid g.V.WordValue.word_of (first g k) call c.args.hand.layout.now c.args.hand.number fits.0 fits.1 (kind g) g.met.E.EditCall.is_kind g.E.EditCall.around g.met.E.EditCall.is_around) (may_begin g k call fits.0 fits.1 x) in
+    let left = c.make-updated.ensures.to (editor g.K.WordKey.is_valid g.K.WordKey.word_of g.V.WordValue.is_valid g.V.WordValue.word_of (first g k) call c.args.hand.layout.now c.args.hand.number fits.0 fits.1 (kind g) g.met.E.EditCall.is_kind g.E.EditCall.around g.met.E.EditCall.is_around) (may_begin g k call fits.0 fits.1 x) in
     let last = edit_machine (kind g) g.E.EditCall.around g.met.E.EditCall.is_around c.args.tries left.0 in
     record {
       first = first g k;

@@ -22,7 +22,7 @@ pub returns-in-Successor-clause-ends : goal.returns-in-Successor-clause-ends
 returns-in-Successor-clause-ends g c = λ call share fits x.
     let fresh = searches g (goal.at.returns-in-Successor-clause-ends g c).After-run-run share in
     made_ended g.K.WordKey.is_valid g.K.WordKey.word_of g.V.WordValue.is_valid g.V.WordValue.word_of successors call c.args.hand.layout.now c.args.hand.number fits c.args.tries _ share c.run-run.result fresh _ c.call-told.new.run c.call-told.result c.of_successor.result c.of_successor.ensures
-    (c.call-told.ensures.ends (made_by g.K.WordKey.is_valid g.K.WordKey.word_of g.V.WordValue.is_valid g.V.WordValue.word_of successors call c.args.hand.layout.now c.args.hand.number fits c.args.tries _ share c.run-run.result fresh) (made_begins g.K.WordKey.is_valid g.K.WordKey.word_of g.V.WordValue.is_valid g.V.WordValue.word_of successors call c.args.hand.layout.now c.args.hand.number fits c.args.tries _ share c.run-run.result fresh _ x))
+    (c.call-told.ensures.leads.to (made_by g.K.WordKey.is_valid g.K.WordKey.word_of g.V.WordValue.is_valid g.V.WordValue.word_of successors call c.args.hand.layout.now c.args.hand.number fits c.args.tries _ share c.run-run.result fresh) (made_begins g.K.WordKey.is_valid g.K.WordKey.word_of g.V.WordValue.is_valid g.V.WordValue.word_of successors call c.args.hand.layout.now c.args.hand.number fits c.args.tries _ share c.run-run.result fresh _ x))
 
 -- of which keys a range is
 range_of : (low high most l h m : ℕ) → l ≡ low → h ≡ high → m ≡ most → Range l h m ≡ Range low high most
@@ -43,4 +43,4 @@ pub returns-in-Range-clause-ends : goal.returns-in-Range-clause-ends
 returns-in-Range-clause-ends g c = λ call share fits x.
     let fresh = visits g (goal.at.returns-in-Range-clause-ends g c).After-range_run-run share in
     made_ended g.K.WordKey.is_valid g.K.WordKey.word_of g.V.WordValue.is_valid g.V.WordValue.word_of ranges call c.args.hand.layout.now c.args.hand.number fits c.args.tries _ share c.range_run-run.result fresh _ c.call-told-in-Range.new.run c.call-told-in-Range.result c.of_range.result c.of_range.ensures
-    (c.call-told-in-Range.ensures.ends (made_by g.K.WordKey.is_valid g.K.WordKey.word_of g.V.WordValue.is_valid g.V.WordValue.word_of ranges call c.args.hand.layout.now c.args.hand.number fits c.args.tries _ share c.range_run-run.result fresh) (made_begins g.K.WordKey.is_valid g.K.WordKey.word_of g.V.WordValue.is_valid g.V.WordValue.word_of ranges call c.args.hand.layout.now c.args.hand.number fits c.args.tries _ share c.range_run-run.result fresh _ x))
+    (c.call-told-in-Range.ensures.leads.to (made_by g.K.WordKey.is_valid g.K.WordKey.word_of g.V.WordValue.is_valid g.V.WordValue.word_of ranges call c.args.hand.layout.now c.args.hand.number fits c.args.tries _ share c.range_run-run.result fresh) (made_begins g.K.WordKey.is_valid g.K.WordKey.word_of g.V.WordValue.is_valid g.V.WordValue.word_of ranges call c.args.hand.layout.now c.args.hand.number fits c.args.tries _ share c.range_run-run.result fresh _ x))

@@ -1,4 +1,4 @@
-use Rattle.std.proofs.Common.{Some, subst, sym, ap}
+use Rattle.std.proofs.Common.{Some, subst, sym, ap, arith, refl}
 use Rattle.forest.specs.CallKinds.{calls}
 use Rattle.forest.specs.Hosts.{HostedWaits}
 use Rattle.forest.specs.StraightUpdate.{Updater, UpdaterFills}
@@ -7,18 +7,23 @@ use Rattle.arena.specs.declared.step.Access.TheVariants.{Store}
 use Rattle.arena.specs.declared.step.Kind.TheVariants.{Fill as FillKind}
 use Rattle.arena.specs.declared.word.Word.TheVariants.{Node as NodeOf}
 use Rattle.edits.specs.Pieces.{part_behind}
-use Rattle.forest.proofs.StraightUpdate.{fill_as, fills_on, filling}
+use Rattle.forest.proofs.StraightUpdate.{fewer_fills_then, fill_as, fill_steps, fills_on, filling}
 use Rattle.forest.proofs.straight.fresh_nodes.put.Given.{Over}
 use Rattle.forest.proofs.straight.fresh_nodes.put.Goals.{After-at}
 use Rattle.forest.proofs.straight.fresh_nodes.put.Goals as goal
 
 -- whichever call it is, it waits for the fill of what the piece says
 waits : (g : Over) (c : After-at g) (u : Updater (calls g.S.Shape g.M.Machine c.args.hand.layout.now c.args.hand.number) g.E.Edit.means) → UpdaterFills u c.args.seat.now.me.0.passes c.args.run.now c.args.found.now c.args.node.nth (Some c.args.part) → HostedWaits u c.args.seat.now.me.0.passes (filling u c.args.run.now c.args.found.now c.args.node.nth c.args.part) record { kind = FillKind; word = NodeOf c.at.result c.args.part; access = Store c.args.value }
-waits g c u x = subst (λ (s : Step). HostedWaits u c.args.seat.now.me.0.passes (filling u c.args.run.now c.args.found.now c.args.node.nth c.args.part) s) (fill_as u c.args.run.now c.args.found.now c.args.node.nth c.args.part c.args.piece.now c.at.result c.args.value c.requires.said c.at.ensures c.requires.value) x
+waits g c u x = subst (λ (s : Step). HostedWaits u c.args.seat.now.me.0.passes (filling u c.args.run.now c.args.found.now c.args.node.nth c.args.part) s) (fill_as u c.args.run.now c.args.found.now c.args.node.nth c.args.part c.args.piece.now c.at.result c.args.value c.requires.fresh.1 c.at.ensures c.requires.value) x
 
 pub step_from-requires-clause-waits : goal.step_from-requires-clause-waits
 step_from-requires-clause-waits g c = let r = c.requires.fills in let u = r.0 in (u.call, u.first, u.with_run (filling u c.args.run.now c.args.found.now c.args.node.nth c.args.part), (u.is_layout, u.is_number), waits g (goal.at.step_from-requires-clause-waits g c).After-at u r.1)
 
 pub returns-clause-goes_on : goal.returns-clause-goes_on
-returns-clause-goes_on g c = λ u x. fills_on u _ c.args.run.now c.args.found.now c.args.node.nth c.args.part (part_behind c.args.piece.now c.args.part) c.step_from.result g.met.E.Edit.laws.fills (ap (λ p. part_behind p c.args.part) (sym c.requires.said))
-    (c.step_from.ensures.told u.call u.first (u.with_run (filling u c.args.run.now c.args.found.now c.args.node.nth c.args.part)) (u.is_layout, u.is_number) (waits g (goal.at.returns-clause-goes_on g c).After-at u x))
+returns-clause-goes_on g c = record {
+  table = c.step_from.ensures.table;
+  to = λ u x. fills_on u _ c.args.run.now c.args.found.now c.args.node.nth c.args.part (part_behind c.args.piece.now c.args.part) c.step_from.result g.met.E.Edit.laws.fills (ap (λ p. part_behind p c.args.part) (sym c.requires.fresh.1))
+      (c.step_from.ensures.told u.call u.first (u.with_run (filling u c.args.run.now c.args.found.now c.args.node.nth c.args.part)) (u.is_layout, u.is_number) (waits g (goal.at.returns-clause-goes_on g c).After-at u x));
+  later = (let one = c.step_from.ensures.one in omega (arith, one));
+  steps = fill_steps _ _ _ _ c.step_from.ensures.one (fewer_fills_then c.args.piece.now c.args.part (part_behind c.args.piece.now c.args.part) refl);
+}

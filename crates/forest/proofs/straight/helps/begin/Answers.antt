@@ -1,3 +1,4 @@
+use Rattle.std.proofs.Common.{arith, rules}
 use Rattle.arena.specs.declared.number.MemberIndex.TheVariants.{First}
 use Rattle.arena.specs.declared.word.ScxWord.TheVariants.{Member}
 use Rattle.help.specs.Help.Known.{settled_load}
@@ -20,8 +21,9 @@ read-word-requires-clause-waits g c = let r = c.requires.waits in (r.0, record c
 pub freeze_all-requires-clause-waits : goal.freeze_all-requires-clause-waits
 freeze_all-requires-clause-waits g c = let r = c.requires.waits in (r.0, at_member g (goal.at.freeze_all-requires-clause-waits g c).After-read-word r.0 r.1)
 
-pub returns-clause-frozen : goal.returns-clause-frozen
-returns-clause-frozen g c = λ yes k x. c.freeze_all.ensures.frozen yes k (at_member g (goal.at.returns-clause-frozen g c).After-read-word k x)
-
-pub returns-clause-blocked : goal.returns-clause-blocked
-returns-clause-blocked g c = λ no k x. c.freeze_all.ensures.blocked no k (at_member g (goal.at.returns-clause-blocked g c).After-read-word k x)
+pub returns-clause-leads : goal.returns-clause-leads
+returns-clause-leads g c = record {
+  table = search rules;
+  to = λ k x. c.freeze_all.ensures.leads.to k (at_member g (goal.at.returns-clause-leads g c).After-read-word k x);
+  steps = (let one = c.read-word.ensures.one in let more = c.freeze_all.ensures.leads.steps in omega (arith, one, more));
+}

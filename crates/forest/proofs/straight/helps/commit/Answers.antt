@@ -1,3 +1,4 @@
+use Rattle.std.proofs.Common.{arith, rules}
 use Rattle.arena.specs.ScxRecords.{field_index_of, side_of}
 use Rattle.arena.specs.Words.{child, state}
 use Rattle.arena.specs.declared.step.Access.TheVariants.{Store, Exchange}
@@ -18,7 +19,7 @@ at_marks : (g : Over) (c : After-act_on g) (k : Helper g.T.Shape.allows (calls g
 at_marks g c k x = no_marks k _ c.args.run.now c.act_on.result (c.act_on.ensures.told k (record c.args.run.now { at = AtSetFrozen }) x)
 
 at_new : (g : Over) (c : After-mark_all g) (k : Helper g.T.Shape.allows (calls g.S.Shape g.M.Machine c.args.hand.layout.now c.args.hand.number)) → SetsFlag k c.args.seat.now.me.0.passes c.args.run.now → InnerWaits k c.mark_all.new.seat.me.0.passes (record c.args.run.now { at = AtNew }) (settled_load c.args.run.now.scx.0 New)
-at_new g c k x = c.mark_all.ensures.marked k (at_marks g (goal.at.mark_all-requires-clause-marks g c.before).After-act_on k x)
+at_new g c k x = c.mark_all.ensures.to k (at_marks g (goal.at.mark_all-requires-clause-marks g c.before).After-act_on k x)
 
 at_old : (g : Over) (c : After-read-new g) (k : Helper g.T.Shape.allows (calls g.S.Shape g.M.Machine c.args.hand.layout.now c.args.hand.number)) → SetsFlag k c.args.seat.now.me.0.passes c.args.run.now → InnerWaits k c.read-new.new.seat.me.0.passes (record c.args.run.now { at = AtOld c.read-new.result }) (settled_load c.args.run.now.scx.0 Old)
 at_old g c k x = to_old k _ c.args.run.now c.read-new.result (c.read-new.ensures.told k (record c.args.run.now { at = AtNew }) (at_new g (goal.at.read-new-requires-clause-waits g c.before).After-mark_all k x))
@@ -47,5 +48,9 @@ act-requires-clause-waits g c = let r = c.requires.waits in (r.0, record c.args.
 pub act_on-requires-2-clause-waits : goal.act_on-requires-2-clause-waits
 act_on-requires-2-clause-waits g c = let r = c.requires.waits in (r.0, record c.args.run.now { at = AtCommit }, at_commit g (goal.at.act_on-requires-2-clause-waits g c).After-act r.0 (at_update g (goal.at.act_on-requires-2-clause-waits g c).After-read-old r.0 r.1))
 
-pub returns-clause-commits : goal.returns-clause-commits
-returns-clause-commits g c = λ k x. (c.act_on-2.result, c.act_on-2.ensures.told k (record c.args.run.now { at = AtCommit }) (at_commit g (goal.at.returns-clause-commits g c).After-act k (at_update g (goal.at.returns-clause-commits g c).After-read-old k x)))
+pub returns : goal.returns
+returns g c = record {
+  table = search rules;
+  to = λ k x. (c.act_on-2.result, c.act_on-2.ensures.told k (record c.args.run.now { at = AtCommit }) (at_commit g (goal.at.returns g c).After-act k (at_update g (goal.at.returns g c).After-read-old k x)));
+  steps = (let a = c.act_on.ensures.one in let b = c.mark_all.ensures.steps in let d = c.read-new.ensures.one in let e = c.read-old.ensures.one in let f = c.act.ensures.one in let h = c.act_on-2.ensures.one in omega (arith, a, b, d, e, f, h));
+}

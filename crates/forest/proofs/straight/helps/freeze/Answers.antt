@@ -1,4 +1,4 @@
-use Rattle.std.proofs.Common.{◌≡◌, ℕ, ap, arith, subst}
+use Rattle.std.proofs.Common.{◌≡◌, ℕ, ap, arith, rules, subst}
 use Rattle.std.proofs.lemmas.List.{get_or-set_same}
 use Rattle.arena.specs.declared.number.NodeNo.{NodeNo}
 use Rattle.std.specs.Prelude.{slice_set}
@@ -47,13 +47,26 @@ read-seen-requires-clause-waits g c = let r = c.requires.waits in (
 pub act-found-requires-clause-waits : goal.act-found-requires-clause-waits
 act-found-requires-clause-waits g c = let r = c.requires.waits in (r.0, record (with_node c.args.run.now (member_index c.args.j) c.read.result) { at = AtFreeze c.args.j c.read-seen.result }, at_freeze g (goal.at.act-found-requires-clause-waits g c).After-read-seen r.0 r.1)
 
-pub returns-then-not-is_frozen-clause-blocked : goal.returns-then-not-is_frozen-clause-blocked
-returns-then-not-is_frozen-clause-blocked g c = λ no k x.
-    let other = c.is_frozen.ensures.other c.if-not-is_frozen.true in
-    rw c.index.ensures.value (to_all_frozen k _ (with_node c.args.run.now (member_index c.args.j) c.read.result) c.args.j c.read-seen.result c.act-found.result other.0 other.1 (found g (goal.at.returns-then-not-is_frozen-clause-blocked g c).After-act-found k x))
+pub returns-then-not-is_frozen-clause-leads : goal.returns-then-not-is_frozen-clause-leads
+returns-then-not-is_frozen-clause-leads g c = record {
+  table = search rules;
+  to = λ k x. record {
+    next = λ yes. cc;
+    last = λ yes. cc;
+    blocked = λ no.
+        let other = c.is_frozen.ensures.other c.if-not-is_frozen.true in
+        rw c.index.ensures.value (to_all_frozen k _ (with_node c.args.run.now (member_index c.args.j) c.read.result) c.args.j c.read-seen.result c.act-found.result other.0 other.1 (found g (goal.at.returns-then-not-is_frozen-clause-leads g c).After-act-found k x));
+  };
+  steps = (let a = c.read.ensures.one in let b = c.read-seen.ensures.one in let d = c.act-found.ensures.one in omega (arith, a, b, d));
+}
 
-pub returns-clause-next : goal.returns-clause-next
-returns-clause-next g c = λ yes next is within k x. rw c.index.ensures.value (to_next k _ (with_node c.args.run.now (member_index c.args.j) c.read.result) c.args.j next c.read-seen.result c.act-found.result (c.is_frozen.ensures.frozen c.if-not-is_frozen.false) (omega (arith, is)) within (found g (goal.at.returns-clause-next g c).After-act-found k x))
-
-pub returns-clause-last : goal.returns-clause-last
-returns-clause-last g c = λ yes none k x. rw c.index.ensures.value (to_set_frozen k _ (with_node c.args.run.now (member_index c.args.j) c.read.result) c.args.j c.read-seen.result c.act-found.result (c.is_frozen.ensures.frozen c.if-not-is_frozen.false) (λ y. none (y.0, let w = y.1 in omega (arith, w))) (found g (goal.at.returns-clause-last g c).After-act-found k x))
+pub returns-clause-leads : goal.returns-clause-leads
+returns-clause-leads g c = let won = c.is_frozen.ensures.frozen c.if-not-is_frozen.false in record {
+  table = search rules;
+  to = λ k x. record {
+    next = λ yes next is within. rw c.index.ensures.value (to_next k _ (with_node c.args.run.now (member_index c.args.j) c.read.result) c.args.j next c.read-seen.result c.act-found.result won (omega (arith, is)) within (found g (goal.at.returns-clause-leads g c).After-act-found k x));
+    last = λ yes none. rw c.index.ensures.value (to_set_frozen k _ (with_node c.args.run.now (member_index c.args.j) c.read.result) c.args.j c.read-seen.result c.act-found.result won (λ y. none (y.0, let w = y.1 in omega (arith, w))) (found g (goal.at.returns-clause-leads g c).After-act-found k x));
+    blocked = λ no. cc;
+  };
+  steps = (let a = c.read.ensures.one in let b = c.read-seen.ensures.one in let d = c.act-found.ensures.one in omega (arith, a, b, d));
+}

@@ -1,3 +1,4 @@
+use Rattle.std.proofs.Common.{◌∙◌, arith, refl}
 use Rattle.forest.proofs.StraightReads.{ends_at_once, root_in_try, roots, walk_in_try, walk_looks, walker, walks}
 use Rattle.forest.proofs.straight.ordered_read.call.Goals as goal
 
@@ -7,11 +8,12 @@ call-requires-clause-waits g c = let b = c.requires.begins in (walker b.0 c.star
 pub go_on-requires-clause-waits : goal.go_on-requires-clause-waits
 go_on-requires-clause-waits g c = let b = c.requires.begins in (b.0, walk_looks b.0 c.start.new.self c.in-Walk.key c.in-Walk.ensures.begins _ c.call.result.0 c.call.result.1 (c.call.ensures.finds (walker b.0 c.start.new.self c.in-Walk.key c.in-Walk.ensures.begins) (walks b.0 c.start.new.self c.in-Walk.key c.in-Walk.ensures.begins _ c.args.run.now c.start.ensures.same c.start.ensures.tries c.start.ensures.empty b.1)))
 
-pub returns-in-Walk-clause-ends : goal.returns-in-Walk-clause-ends
-returns-in-Walk-clause-ends g c = λ r x. c.go_on.ensures.ends r (walk_looks r c.start.new.self c.in-Walk.key c.in-Walk.ensures.begins _ c.call.result.0 c.call.result.1 (c.call.ensures.finds (walker r c.start.new.self c.in-Walk.key c.in-Walk.ensures.begins) (walks r c.start.new.self c.in-Walk.key c.in-Walk.ensures.begins _ c.args.run.now c.start.ensures.same c.start.ensures.tries c.start.ensures.empty x)))
-
-pub returns-in-Walk-clause-steps : goal.returns-in-Walk-clause-steps
-returns-in-Walk-clause-steps g c = let b = c.requires.begins in walk_in_try g.R.Read.means c.args.run.now c.start.new.self c.start.ensures.same c.start.ensures.tries c.start.ensures.empty (b.0.tells c.args.run.now _ _ b.1.so.0).1 _ _ _ c.call.result.1 c.in-Walk.key _ (c.in-Walk.ensures.nearer _) c.call.ensures.steps c.go_on.ensures.steps
+pub returns-in-Walk-clause-leads : goal.returns-in-Walk-clause-leads
+returns-in-Walk-clause-leads g c = record {
+  table = (c.go_on.ensures.table.0 ∙ c.call.ensures.table.0, c.go_on.ensures.table.1 ∙ c.call.ensures.table.1);
+  to = λ r x. c.go_on.ensures.to r (walk_looks r c.start.new.self c.in-Walk.key c.in-Walk.ensures.begins _ c.call.result.0 c.call.result.1 (c.call.ensures.finds (walker r c.start.new.self c.in-Walk.key c.in-Walk.ensures.begins) (walks r c.start.new.self c.in-Walk.key c.in-Walk.ensures.begins _ c.args.run.now c.start.ensures.same c.start.ensures.tries c.start.ensures.empty x)));
+  steps = (let b = c.requires.begins in walk_in_try g.R.Read.means c.args.run.now c.start.new.self c.start.ensures.same c.start.ensures.tries c.start.ensures.empty (b.0.tells c.args.run.now _ _ b.1.so.0).1 _ _ _ c.call.result.1 c.in-Walk.key _ (c.in-Walk.ensures.nearer _) c.call.ensures.steps c.go_on.ensures.steps);
+}
 
 pub returns-in-Walk-clause-nothing : goal.returns-in-Walk-clause-nothing
 returns-in-Walk-clause-nothing g c = λ none. absurd (none (rw c.start.ensures.same.0 at c.in-Walk.ensures.begins.asks))
@@ -19,14 +21,19 @@ returns-in-Walk-clause-nothing g c = λ none. absurd (none (rw c.start.ensures.s
 pub from_root-requires-clause-waits : goal.from_root-requires-clause-waits
 from_root-requires-clause-waits g c = let b = c.requires.begins in (b.0, roots b.0 _ c.args.run.now c.start.new.self c.start.ensures.same c.start.ensures.tries c.start.ensures.empty c.in-Root.ensures.begins b.1)
 
-pub returns-in-Root-clause-ends : goal.returns-in-Root-clause-ends
-returns-in-Root-clause-ends g c = λ r x. c.from_root.ensures.ends r (roots r _ c.args.run.now c.start.new.self c.start.ensures.same c.start.ensures.tries c.start.ensures.empty c.in-Root.ensures.begins x)
-
-pub returns-in-Root-clause-steps : goal.returns-in-Root-clause-steps
-returns-in-Root-clause-steps g c = let b = c.requires.begins in root_in_try g.R.Read.means c.args.run.now c.start.new.self c.start.ensures.same c.start.ensures.tries c.start.ensures.empty (b.0.tells c.args.run.now _ _ b.1.so.0).1 _ _ _ (c.in-Root.ensures.nearer _) c.from_root.ensures.steps
+pub returns-in-Root-clause-leads : goal.returns-in-Root-clause-leads
+returns-in-Root-clause-leads g c = record {
+  table = c.from_root.ensures.table;
+  to = λ r x. c.from_root.ensures.to r (roots r _ c.args.run.now c.start.new.self c.start.ensures.same c.start.ensures.tries c.start.ensures.empty c.in-Root.ensures.begins x);
+  steps = (let b = c.requires.begins in root_in_try g.R.Read.means c.args.run.now c.start.new.self c.start.ensures.same c.start.ensures.tries c.start.ensures.empty (b.0.tells c.args.run.now _ _ b.1.so.0).1 _ _ _ (c.in-Root.ensures.nearer _) c.from_root.ensures.steps);
+}
 
 pub returns-in-Root-clause-nothing : goal.returns-in-Root-clause-nothing
 returns-in-Root-clause-nothing g c = λ none. absurd (none (rw c.start.ensures.same.0 at c.in-Root.ensures.begins.asks))
 
-pub returns-in-Answer-clause-ends : goal.returns-in-Answer-clause-ends
-returns-in-Answer-clause-ends g c = λ r x. ends_at_once r _ c.args.run.now c.start.new.self c.start.ensures.same c.in-Answer.answer c.in-Answer.ensures.begins x
+pub returns-in-Answer-clause-leads : goal.returns-in-Answer-clause-leads
+returns-in-Answer-clause-leads g c = record {
+  table = (refl, refl);
+  to = λ r x. ends_at_once r _ c.args.run.now c.start.new.self c.start.ensures.same c.in-Answer.answer c.in-Answer.ensures.begins x;
+  steps = omega arith;
+}

@@ -1,4 +1,4 @@
-use Rattle.std.proofs.Common.{ℕ, ◌+◌, ◌-◌, ◌*◌, ◌<◌, length, subst, arith}
+use Rattle.std.proofs.Common.{◌∙◌, ℕ, ◌+◌, ◌-◌, ◌*◌, ◌<◌, length, subst, arith}
 use Rattle.order.specs.Places.{RunComesNearer, placed}
 use Rattle.order.specs.Steps.{read_left, tries_left}
 use Rattle.order.proofs.Lemmas.{placed_nearer}
@@ -11,14 +11,6 @@ use Rattle.forest.proofs.straight.ordered_read.look_on.Goals as goal
 pub look-requires-clause-waits : goal.look-requires-clause-waits
 look-requires-clause-waits g c = let w = c.requires.waits in (looker w.0 c.args.run.now c.args.children c.args.level, begins_look w.0 c.args.run.now c.args.children c.args.level _ c.args.node w.1)
 
-pub returns-in-Ok-looked-clause-goes_on : goal.returns-in-Ok-looked-clause-goes_on
-returns-in-Ok-looked-clause-goes_on g c = λ r x. looks_on r c.args.run.now c.args.children c.args.level _ c.looked.new.self c.args.node c.in-Ok.snap c.in-Ok-looked.next c.looked.ensures.tries c.looked.ensures.same (rw c.in-Ok-looked.is at c.looked.ensures.goes_on)
-    (c.in-Ok.ensures.snaps (looker r c.args.run.now c.args.children c.args.level) (begins_look r c.args.run.now c.args.children c.args.level _ c.args.node x))
-
-pub returns-in-Err-looked-clause-goes_on : goal.returns-in-Err-looked-clause-goes_on
-returns-in-Err-looked-clause-goes_on g c = λ r x. looks_last r c.args.run.now c.args.children c.args.level _ c.looked.new.self c.args.node c.in-Ok.snap c.in-Err-looked.refused c.looked.ensures.same (rw c.in-Err-looked.is at c.looked.ensures.goes_on)
-    (c.in-Ok.ensures.snaps (looker r c.args.run.now c.args.children c.args.level) (begins_look r c.args.run.now c.args.children c.args.level _ c.args.node x))
-
 -- with its snapshot it has fewer steps left in this try
 lighter : (g : Over) (c : In-Ok-looked g) → read_left g.R.Read.means (placed c.looked.new.self c.in-Ok-looked.next) (shared_nodes c.args.hand.layout.now) < tries_left g.R.Read.means c.args.run.now (shared_nodes c.args.hand.layout.now) + (length c.args.run.now.snaps.items + 1 + 67 * (1 + shared_nodes c.args.hand.layout.now - c.args.level) + g.R.Read.means.behind c.args.run.now.read (shared_nodes c.args.hand.layout.now))
 lighter g c =
@@ -30,14 +22,31 @@ lighter g c =
     subst (λ (t : ℕ). read_left g.R.Read.means (placed c.looked.new.self c.in-Ok-looked.next) nodes < t * g.R.Read.means.try_left (g.R.Read.means.call c.args.run.now.read) nodes + most) c.looked.ensures.tries
     (subst (λ k. read_left g.R.Read.means (placed c.looked.new.self c.in-Ok-looked.next) nodes < c.looked.new.self.tries * g.R.Read.means.try_left k nodes + most) c.looked.ensures.same.0 (placed_nearer g.R.Read.means c.looked.new.self c.in-Ok-looked.next nodes most (omega arith) near))
 
-pub returns-in-Ok-looked-clause-steps : goal.returns-in-Ok-looked-clause-steps
-returns-in-Ok-looked-clause-steps g c = let n = lighter g (goal.at.returns-in-Ok-looked-clause-steps g c).In-Ok-looked in let few = c.look.ensures.steps in omega (arith, n, few)
+pub returns-in-Ok-looked : goal.returns-in-Ok-looked
+returns-in-Ok-looked g c = let n = lighter g (goal.at.returns-in-Ok-looked g c).In-Ok-looked in record {
+  table = c.look.ensures.table;
+  to = λ r x. looks_on r c.args.run.now c.args.children c.args.level _ c.looked.new.self c.args.node c.in-Ok.snap c.in-Ok-looked.next c.looked.ensures.tries c.looked.ensures.same (rw c.in-Ok-looked.is at c.looked.ensures.goes_on)
+      (c.in-Ok.ensures.snaps (looker r c.args.run.now c.args.children c.args.level) (begins_look r c.args.run.now c.args.children c.args.level _ c.args.node x));
+  nearer = omega (arith, n);
+  steps = (let few = c.look.ensures.steps in omega (arith, n, few));
+}
 
-pub returns-in-Ok-looked-clause-nearer : goal.returns-in-Ok-looked-clause-nearer
-returns-in-Ok-looked-clause-nearer g c = let n = lighter g (goal.at.returns-in-Ok-looked-clause-nearer g c).In-Ok-looked in omega (arith, n)
+pub returns-in-Err-looked : goal.returns-in-Err-looked
+returns-in-Err-looked g c = record {
+  table = c.look.ensures.table;
+  to = λ r x. looks_last r c.args.run.now c.args.children c.args.level _ c.looked.new.self c.args.node c.in-Ok.snap c.in-Err-looked.refused c.looked.ensures.same (rw c.in-Err-looked.is at c.looked.ensures.goes_on)
+      (c.in-Ok.ensures.snaps (looker r c.args.run.now c.args.children c.args.level) (begins_look r c.args.run.now c.args.children c.args.level _ c.args.node x));
+  nearer = omega arith;
+  steps = (let few = c.look.ensures.steps in omega (arith, few));
+}
 
 pub look_again-told-requires-clause-waits : goal.look_again-told-requires-clause-waits
 look_again-told-requires-clause-waits g c = let w = c.requires.waits in (w.0, looks_again w.0 c.args.run.now c.args.children c.args.level _ c.args.node c.in-Err.marked c.in-Err.scx (c.in-Err.ensures.waits (looker w.0 c.args.run.now c.args.children c.args.level) (begins_look w.0 c.args.run.now c.args.children c.args.level _ c.args.node w.1)))
 
-pub returns-in-Err-clause-goes_on : goal.returns-in-Err-clause-goes_on
-returns-in-Err-clause-goes_on g c = λ r x. c.look_again-told.ensures.ends r (looks_again r c.args.run.now c.args.children c.args.level _ c.args.node c.in-Err.marked c.in-Err.scx (c.in-Err.ensures.waits (looker r c.args.run.now c.args.children c.args.level) (begins_look r c.args.run.now c.args.children c.args.level _ c.args.node x)))
+pub returns-in-Err : goal.returns-in-Err
+returns-in-Err g c = record {
+  table = (c.look_again-told.ensures.table.0 ∙ c.look.ensures.table.0, c.look_again-told.ensures.table.1 ∙ c.look.ensures.table.1);
+  to = λ r x. c.look_again-told.ensures.to r (looks_again r c.args.run.now c.args.children c.args.level _ c.args.node c.in-Err.marked c.in-Err.scx (c.in-Err.ensures.waits (looker r c.args.run.now c.args.children c.args.level) (begins_look r c.args.run.now c.args.children c.args.level _ c.args.node x)));
+  nearer = omega arith;
+  steps = (let few = c.look.ensures.steps in let rest = c.look_again-told.ensures.steps in omega (arith, few, rest));
+}

@@ -1,29 +1,16 @@
-use Rattle.std.proofs.Common.{◌∙◌, ap, arith}
-use Rattle.order.specs.declared.load.ReadLoad.TheVariants.{Value}
+use Rattle.std.proofs.Common.{◌∙◌, ap}
 use Rattle.order.specs.declared.read.ReadNext.TheVariants.{Load}
-use Rattle.forest.proofs.StraightReads.{nearer_as, steps_as}
+use Rattle.forest.proofs.StraightReading.{reads_from, reads_on}
 use Rattle.forest.proofs.straight.ordered_read.read_pair.Goals as goal
 
 pub load_on-requires-clause-waits : goal.load_on-requires-clause-waits
 load_on-requires-clause-waits g c = c.requires.waits
 
 pub read_value-requires-clause-waits : goal.read_value-requires-clause-waits
-read_value-requires-clause-waits g c = let w = c.requires.waits in (w.0, rw (c.in-Load-Value.is ∙ ap Load (rw c.in-Load-Value.is at c.in-Load-Value.field-0-is)) at (c.in-Ok.ensures.goes_on w.0 w.1))
+read_value-requires-clause-waits g c = let w = c.requires.waits in (w.0, rw (c.in-Load-Value.is ∙ ap Load (rw c.in-Load-Value.is at c.in-Load-Value.field-0-is)) at (c.in-Ok.ensures.to w.0 w.1))
 
-pub returns-in-Load-Value-clause-goes_on : goal.returns-in-Load-Value-clause-goes_on
-returns-in-Load-Value-clause-goes_on g c = λ r x. c.read_value.ensures.goes_on r (rw (c.in-Load-Value.is ∙ ap Load (rw c.in-Load-Value.is at c.in-Load-Value.field-0-is)) at (c.in-Ok.ensures.goes_on r x))
+pub returns-in-Load-Value : goal.returns-in-Load-Value
+returns-in-Load-Value g c = reads_on c.in-Ok.ensures (reads_from (c.in-Load-Value.is ∙ ap Load (rw c.in-Load-Value.is at c.in-Load-Value.field-0-is)) c.read_value.ensures)
 
-pub returns-in-Load-Value-clause-steps : goal.returns-in-Load-Value-clause-steps
-returns-in-Load-Value-clause-steps g c = let a = c.in-Ok.ensures.steps in let b = steps_as g.R.Read.means c.load_on.new.run _ (Load (Value c.in-Load-Value.place c.in-Load-Value.key)) _ _ _ (c.in-Load-Value.is ∙ ap Load (rw c.in-Load-Value.is at c.in-Load-Value.field-0-is)) c.read_value.ensures.steps in omega (arith, a, b)
-
-pub returns-in-Load-Value-clause-nearer : goal.returns-in-Load-Value-clause-nearer
-returns-in-Load-Value-clause-nearer g c = let a = c.in-Ok.ensures.nearer in let b = nearer_as g.R.Read.means c.load_on.new.run _ (Load (Value c.in-Load-Value.place c.in-Load-Value.key)) _ _ (c.in-Load-Value.is ∙ ap Load (rw c.in-Load-Value.is at c.in-Load-Value.field-0-is)) c.read_value.ensures.nearer in omega (arith, a, b)
-
-pub returns-in_default-clause-goes_on : goal.returns-in_default-clause-goes_on
-returns-in_default-clause-goes_on g c = λ r x. c.in-Ok.ensures.goes_on r x
-
-pub returns-in_default-clause-steps : goal.returns-in_default-clause-steps
-returns-in_default-clause-steps g c = c.in-Ok.ensures.steps
-
-pub returns-in_default-clause-nearer : goal.returns-in_default-clause-nearer
-returns-in_default-clause-nearer g c = c.in-Ok.ensures.nearer
+pub returns-in_default : goal.returns-in_default
+returns-in_default g c = c.in-Ok.ensures

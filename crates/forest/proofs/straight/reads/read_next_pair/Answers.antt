@@ -16,4 +16,4 @@ pub read_pair-requires-clause-tries : goal.read_pair-requires-clause-tries
 read_pair-requires-clause-tries g c = let r = c.requires.tries in let key = is_key g (goal.at.read_pair-requires-clause-tries g c).In-Read-default-Key in (r.0, rw key (rw key at r.1))
 
 pub returns-in-Read-default-Key-clause-goes_on : goal.returns-in-Read-default-Key-clause-goes_on
-returns-in-Read-default-Key-clause-goes_on g c = λ u x. let key = is_key g (goal.at.returns-in-Read-default-Key-clause-goes_on g c).In-Read-default-Key in c.read_pair.ensures.goes_on u (rw key (rw key at x))
+returns-in-Read-default-Key-clause-goes_on g c = let key = is_key g (goal.at.returns-in-Read-default-Key-clause-goes_on g c).In-Read-default-Key in rw key (rw key at c.read_pair.ensures.goes_on)

@@ -34,5 +34,9 @@ loop-turn-preserved g c = record {
 pub loop-turn-smaller : goal.loop-turn-smaller
 loop-turn-smaller g c = rw c.in-Ask.is (let w = weighs c.step-turn.result _ _ (nearer g c) in omega (arith, w))
 
-pub returns-in-Done-clause-ends : goal.returns-in-Done-clause-ends
-returns-in-Done-clause-ends g c = λ u x. ends_nowhere u _ c.loop-turn.machine _ c.stand.result c.in-Done.updated c.stand.ensures (rw c.in-Done.is at c.loop-turn.invariant.stands u x)
+pub returns-in-Done : goal.returns-in-Done
+returns-in-Done g c = record {
+  table = c.loop-turn.invariant.here;
+  to = λ u x. ends_nowhere u _ c.loop-turn.machine _ c.stand.result c.in-Done.updated c.stand.ensures (rw c.in-Done.is at c.loop-turn.invariant.stands u x);
+  steps = (let steps = c.loop-turn.invariant.steps in omega (arith, steps));
+}

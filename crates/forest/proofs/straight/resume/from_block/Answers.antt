@@ -17,8 +17,9 @@ take_up-machine-requires g c = record { some = has_passes c.requires.blocked.0 }
 pub rest_from_block-updated-requires-clause-blocked : goal.rest_from_block-updated-requires-clause-blocked
 rest_from_block-updated-requires-clause-blocked g c = let r = c.requires.blocked in (r.0, blocked g (goal.at.rest_from_block-updated-requires-clause-blocked g c).After-anew r.0 r.1)
 
-pub returns-clause-ends : goal.returns-clause-ends
-returns-clause-ends g c = λ u x. c.rest_from_block-updated.ensures.ends u (blocked g (goal.at.returns-clause-ends g c).After-anew u x)
-
-pub returns-clause-steps : goal.returns-clause-steps
-returns-clause-steps g c = let s = rw c.take_up-machine.ensures at c.rest_from_block-updated.ensures.steps in omega (arith, s)
+pub returns : goal.returns
+returns g c = record {
+  table = c.rest_from_block-updated.ensures.table;
+  to = λ u x. c.rest_from_block-updated.ensures.to u (blocked g (goal.at.returns g c).After-anew u x);
+  steps = (let s = rw c.take_up-machine.ensures at c.rest_from_block-updated.ensures.steps in omega (arith, s));
+}

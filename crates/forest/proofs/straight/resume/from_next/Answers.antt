@@ -18,8 +18,9 @@ take_up-machine-requires g c = record { some = has_passes c.requires.goes_on.0 }
 pub rest_from_next-updated-requires-clause-goes_on : goal.rest_from_next-updated-requires-clause-goes_on
 rest_from_next-updated-requires-clause-goes_on g c = let r = c.requires.goes_on in (r.0, goes_on g (goal.at.rest_from_next-updated-requires-clause-goes_on g c).After-anew r.0 r.1)
 
-pub returns-clause-ends : goal.returns-clause-ends
-returns-clause-ends g c = λ u x. c.rest_from_next-updated.ensures.ends u (goes_on g (goal.at.returns-clause-ends g c).After-anew u x)
-
-pub returns-clause-steps : goal.returns-clause-steps
-returns-clause-steps g c = let s = rw c.anew.ensures at c.rest_from_next-updated.ensures.steps in let w = left_standing g.E.Edit.means c.args.run.now c.take_up-machine.result c.args.found.now c.args.next (shared_nodes c.args.hand.layout.now) c.take_up-machine.ensures in omega (arith, s, w)
+pub returns : goal.returns
+returns g c = record {
+  table = c.rest_from_next-updated.ensures.table;
+  to = λ u x. c.rest_from_next-updated.ensures.to u (goes_on g (goal.at.returns g c).After-anew u x);
+  steps = (let s = rw c.anew.ensures at c.rest_from_next-updated.ensures.steps in let w = left_standing g.E.Edit.means c.args.run.now c.take_up-machine.result c.args.found.now c.args.next (shared_nodes c.args.hand.layout.now) c.take_up-machine.ensures in omega (arith, s, w));
+}

@@ -6,8 +6,9 @@ use Rattle.forest.proofs.straight.resume.rest_from_block.Goals as goal
 pub finish-requires-clause-stands : goal.finish-requires-clause-stands
 finish-requires-clause-stands g c = let r = c.requires.blocked in (r.0, blocks_there r.0 _ c.args.machine c.block-turn.new.self c.args.found c.args.scx c.args.help c.block-turn.result c.block-turn.ensures.place c.block-turn.ensures.asks r.1)
 
-pub returns-clause-ends : goal.returns-clause-ends
-returns-clause-ends g c = λ u x. c.finish.ensures.ends u (blocks_there u _ c.args.machine c.block-turn.new.self c.args.found c.args.scx c.args.help c.block-turn.result c.block-turn.ensures.place c.block-turn.ensures.asks x)
-
-pub returns-clause-steps : goal.returns-clause-steps
-returns-clause-steps g c = let w = left_blocked g.E.Edit.means c.args.machine c.block-turn.new.self c.args.found c.args.scx c.args.help c.block-turn.result (shared_nodes c.args.hand.layout.now) c.block-turn.ensures.place c.block-turn.ensures.asks in let s = c.finish.ensures.steps in omega (arith, w, s)
+pub returns : goal.returns
+returns g c = record {
+  table = c.finish.ensures.table;
+  to = λ u x. c.finish.ensures.to u (blocks_there u _ c.args.machine c.block-turn.new.self c.args.found c.args.scx c.args.help c.block-turn.result c.block-turn.ensures.place c.block-turn.ensures.asks x);
+  steps = (let w = left_blocked g.E.Edit.means c.args.machine c.block-turn.new.self c.args.found c.args.scx c.args.help c.block-turn.result (shared_nodes c.args.hand.layout.now) c.block-turn.ensures.place c.block-turn.ensures.asks in let s = c.finish.ensures.steps in omega (arith, w, s));
+}

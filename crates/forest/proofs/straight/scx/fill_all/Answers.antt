@@ -1,3 +1,4 @@
+use Rattle.std.proofs.Common.{arith, rules}
 use Rattle.arena.specs.declared.number.MemberIndex.TheVariants.{First}
 use Rattle.arena.specs.declared.word.ScxWord.TheVariants.{New, Old, Member, Seen, Call as CallWord}
 use Rattle.prims.specs.Snap.{snap_at}
@@ -21,10 +22,10 @@ at_member : (g : Over) (c : After-fill-3 g) (k : Changer g.T.Shape.allows (calls
 at_member g c k x = to_member k (g.L.SnapList.list c.args.snaps.now) c.args.change _ c.fill-3.result (c.fill-3.ensures.told k (changing_at (g.L.SnapList.list c.args.snaps.now) c.args.change AtOld) (at_old g (goal.at.fill-requires-3-clause-waits g c.before).After-fill-2 k x))
 
 at_seen : (g : Over) (c : After-fill_members g) (k : Changer g.T.Shape.allows (calls g.S.Shape g.M.Machine c.args.hand.layout.now c.args.hand.number)) → FillsPlan k c.args.seat.now.me.0.passes (g.L.SnapList.list c.args.snaps.now) c.args.change → InnerWaits k c.fill_members.new.seat.me.0.passes (changing_at (g.L.SnapList.list c.args.snaps.now) c.args.change (AtSeen First)) (scx_fill c.args.change.scx (Seen 0) (snap_at (g.L.SnapList.list c.args.snaps.now) 0).scx.0)
-at_seen g c k x = c.fill_members.ensures.waits k (at_member g (goal.at.fill_members-requires-clause-waits g c.before).After-fill-3 k x)
+at_seen g c k x = c.fill_members.ensures.to k (at_member g (goal.at.fill_members-requires-clause-waits g c.before).After-fill-3 k x)
 
 at_call : (g : Over) (c : After-fill_infos g) (k : Changer g.T.Shape.allows (calls g.S.Shape g.M.Machine c.args.hand.layout.now c.args.hand.number)) → FillsPlan k c.args.seat.now.me.0.passes (g.L.SnapList.list c.args.snaps.now) c.args.change → InnerWaits k c.fill_infos.new.seat.me.0.passes (changing_at (g.L.SnapList.list c.args.snaps.now) c.args.change AtCall) (scx_fill c.args.change.scx CallWord c.args.change.call)
-at_call g c k x = c.fill_infos.ensures.waits k (at_seen g (goal.at.fill_infos-requires-clause-waits g c.before).After-fill_members k x)
+at_call g c k x = c.fill_infos.ensures.to k (at_seen g (goal.at.fill_infos-requires-clause-waits g c.before).After-fill_members k x)
 
 pub fill-requires-clause-waits : goal.fill-requires-clause-waits
 fill-requires-clause-waits g c = let r = c.requires.waits in (r.0, (changing_at (g.L.SnapList.list c.args.snaps.now) c.args.change AtPlan), r.1)
@@ -44,5 +45,9 @@ fill_infos-requires-clause-waits g c = let r = c.requires.waits in (r.0, at_seen
 pub fill-requires-4-clause-waits : goal.fill-requires-4-clause-waits
 fill-requires-4-clause-waits g c = let r = c.requires.waits in (r.0, (changing_at (g.L.SnapList.list c.args.snaps.now) c.args.change AtCall), at_call g (goal.at.fill-requires-4-clause-waits g c).After-fill_infos r.0 r.1)
 
-pub returns-clause-told : goal.returns-clause-told
-returns-clause-told g c = λ k x. c.fill-4.ensures.told k (changing_at (g.L.SnapList.list c.args.snaps.now) c.args.change AtCall) (at_call g (goal.at.returns-clause-told g c).After-fill_infos k x)
+pub returns : goal.returns
+returns g c = record {
+  table = search rules;
+  to = λ k x. c.fill-4.ensures.told k (changing_at (g.L.SnapList.list c.args.snaps.now) c.args.change AtCall) (at_call g (goal.at.returns g c).After-fill_infos k x);
+  steps = (let a = c.fill.ensures.one in let b = c.fill-2.ensures.one in let d = c.fill-3.ensures.one in let e = c.fill_members.ensures.steps in let f = c.fill_infos.ensures.steps in let h = c.fill-4.ensures.one in omega (arith, a, b, d, e, f, h));
+}

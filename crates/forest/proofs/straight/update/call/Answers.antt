@@ -1,4 +1,4 @@
-use Rattle.std.proofs.Common.{subst, sym}
+use Rattle.std.proofs.Common.{subst, sym, rules}
 use Rattle.template.specs.declared.walk.Found.{Found}
 use Rattle.forest.specs.StraightWalk.{WalkerFinds}
 use Rattle.forest.specs.StraightUpdate.{Updater, UpdaterBegins, UpdaterGoesOn}
@@ -26,9 +26,9 @@ call-requires-clause-waits g c = let r = c.requires.begins in (
 pub try_on-requires-clause-goes_on : goal.try_on-requires-clause-goes_on
 try_on-requires-clause-goes_on g c = let r = c.requires.begins in (r.0, goes_on g (goal.at.try_on-requires-clause-goes_on g c).After-test_share-next r.0 r.1)
 
-pub returns-clause-ends : goal.returns-clause-ends
-returns-clause-ends g c = λ u x. c.try_on.ensures.ends u (goes_on g (goal.at.returns-clause-ends g c).After-test_share-next u x)
-
-pub returns-clause-steps : goal.returns-clause-steps
-returns-clause-steps g c =
-    both_steps _ _ _ c.try_on.ensures.steps (walk_steps _ _ _ _ _ _ c.call.ensures.steps (weighs_next g.E.Edit.means c.test_share-next.new.self c.anew-found.result c.test_share-next.result _ _ (c.test_share-next.ensures.nearer (shared_nodes c.args.hand.layout.now))))
+pub returns : goal.returns
+returns g c = record {
+  table = search rules;
+  to = λ u x. c.try_on.ensures.to u (goes_on g (goal.at.returns g c).After-test_share-next u x);
+  steps = both_steps _ _ _ c.try_on.ensures.steps (walk_steps _ _ _ _ _ _ c.call.ensures.steps (weighs_next g.E.Edit.means c.test_share-next.new.self c.anew-found.result c.test_share-next.result _ _ (c.test_share-next.ensures.nearer (shared_nodes c.args.hand.layout.now))));
+}

@@ -1,4 +1,4 @@
-use Rattle.std.proofs.Common.{◌≡◌, sym, subst}
+use Rattle.std.proofs.Common.{◌≡◌, sym, subst, rules}
 use Rattle.edits.specs.declared.update.UpdateRun.{UpdateRun}
 use Rattle.forest.specs.StraightUpdate.{UpdaterBegins, new_update}
 use Rattle.forest.proofs.straight.update.make.Given.{Over}
@@ -19,6 +19,9 @@ is_new g c i = record { edit = c.args.edit; share = c.args.share; snaps = record
 pub call-updated-requires-clause-begins : goal.call-updated-requires-clause-begins
 call-updated-requires-clause-begins g c = let r = c.requires.begins in let b = (goal.at.call-updated-requires-clause-begins g c).After-saturating_sub in (r.0, subst (λ (m : UpdateRun g.row.E.Denot (Unit {0})). UpdaterBegins r.0 c.args.seat.now.me.0.passes m) (sym (is_new g b)) r.1)
 
-pub returns-clause-ends : goal.returns-clause-ends
-returns-clause-ends g c = λ u x. let b = (goal.at.returns-clause-ends g c).After-saturating_sub in
-    (c.call-updated.new.run, sym c.into_share.ensures, c.call-updated.ensures.ends u (subst (λ (m : UpdateRun g.row.E.Denot (Unit {0})). UpdaterBegins u c.args.seat.now.me.0.passes m) (sym (is_new g b)) x))
+pub returns : goal.returns
+returns g c = let b = (goal.at.returns g c).After-saturating_sub in record {
+  table = c.call-updated.ensures.table;
+  to = λ u x. (c.call-updated.new.run, sym c.into_share.ensures, c.call-updated.ensures.to u (subst (λ (m : UpdateRun g.row.E.Denot (Unit {0})). UpdaterBegins u c.args.seat.now.me.0.passes m) (sym (is_new g b)) x));
+  steps = search rules;
+}

@@ -48,7 +48,7 @@ pass-requires-clause-told g c = let r = c.requires.waits in (r.0, c.loop-side.tu
 pub returns-in-Err-clause-steps : goal.returns-in-Err-clause-steps
 returns-in-Err-clause-steps g c =
     let few = some_left c.loop-side.at c.read-word.result (shared_nodes c.args.hand.layout.now) c.loop-side.invariant.place (head_fits g (goal.at.returns-in-Err-clause-steps g c).After-read-word) in
-    let one = c.read-word.ensures.one in let last = c.in-Err.ensures.last_steps in let old = c.loop-side.invariant.steps in
+    let one = c.read-word.ensures.one in let last = c.in-Err.ensures.steps in let old = c.loop-side.invariant.steps in
     omega (arith, few, one, last, old)
 
 pub returns-in-Err-clause-finds : goal.returns-in-Err-clause-finds
