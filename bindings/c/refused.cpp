@@ -40,8 +40,8 @@ extern "C" void rattle_dealloc(void *p) {
     std::free(p);
 }
 
-// Whether all was done.
-static bool story() {
+// Whether all was done. All passes end it, or the last of them.
+static bool story(bool by_all) {
     asked = 0;
     regnubas_pass passes[3] = {};
     uint32_t made = regnubas_make({300, 100, 2}, passes, 3);
@@ -71,24 +71,34 @@ static bool story() {
         else
             CHECK(count.status == REGNUBAS_SOME && count.pairs == (90 - k < 64 ? 90 - k : 64) && pairs[0].key == 2 * k);
     }
-    regnubas_leave(&passes[0]);
-    regnubas_leave(&passes[1]);
+    if (!by_all) {
+        regnubas_leave(&passes[0]);
+        regnubas_leave(&passes[1]);
+    }
     regnubas_pair pairs[100] = {};
-    regnubas_count closed = regnubas_close(&passes[2], pairs, 100);
+    regnubas_count closed = by_all ? regnubas_end(passes, 3, pairs, 100) : regnubas_close(&passes[2], pairs, 100);
     if (closed.status == REGNUBAS_NO_MEMORY)
         all = false;
     else
         CHECK(closed.status == REGNUBAS_SOME && closed.pairs == 90 && pairs[89].value.low == 89);
-    CHECK(passes[2].at == nullptr && blocks == 0);
+    for (regnubas_pass &pass : passes) CHECK(pass.at == nullptr);
+    CHECK(blocks == 0);
     return all;
 }
 
-int main() {
-    CHECK(story());
+static void refuse_each(bool by_all) {
+    refuse = 0;
+    onwards = false;
+    CHECK(story(by_all));
     long count = asked, without = 0;
-    for (refuse = 1; refuse <= count; refuse++) without += story();
+    for (refuse = 1; refuse <= count; refuse++) without += story(by_all);
     onwards = true;
-    for (refuse = 1; refuse <= count; refuse++) CHECK(!story());
+    for (refuse = 1; refuse <= count; refuse++) CHECK(!story(by_all));
     std::printf("ok: %ld allocations, each refused in turn; %ld of them could be done without\n", count, without);
+}
+
+int main() {
+    refuse_each(false);
+    refuse_each(true);
     return 0;
 }

@@ -1,10 +1,10 @@
 /* An ordered dictionary that many threads read and change without locks. Its keys are numbers of 64
  * bits, its values of 128.
  *
- * Each function is proved to do what is said of it here, for every caller that keeps four rules,
- * which no compiler checks. Only tested: what is said of memory that is taken, refused or freed; that
- * SHARED is answered only where others share; that what other passes had put in when they left is
- * told. The rules:
+ * Each function is proved to do what is said of it here, for every caller that keeps five rules,
+ * which no compiler checks. Only tested: what is said of memory that is taken, refused or freed; of
+ * regnubas_close, that it answers SHARED only where others share, and that it tells what other passes
+ * had put in when they left. regnubas_end is proved in both. The rules:
  *
  *  1. A pass is zeroed before its first use and then written by this library alone; it may move in
  *     memory, and once it has moved its old bytes are not passed again.
@@ -14,6 +14,7 @@
  *     nothing else reads or writes during the call; none is null, even where its count is 0.
  *  4. malloc, realloc and free are one allocator, which aligns to 16 bytes; no call comes from a
  *     signal handler, or in the child of a fork of a process with threads.
+ *  5. The passes that regnubas_end is given are of one dictionary.
  *
  * Calls on different passes may overlap as they like: each takes effect at one moment between its
  * begin and its end. A call on a pass that is empty, was left or was closed answers
@@ -77,7 +78,7 @@ enum {
     REGNUBAS_NO_MEMORY = 4, /* not done: an allocation was refused */
     REGNUBAS_LIMITS = 5,    /* not made: a number is out of its range */
     REGNUBAS_NO_PASS = 6,   /* not done: there is no pass here */
-    REGNUBAS_SHARED = 7     /* not closed: other passes have not left */
+    REGNUBAS_SHARED = 7     /* not closed: other passes have not left; not ended: some are missing */
 };
 
 /* Makes a dictionary with `count` passes, 1 to 32: as many threads may work at a time. NONE; or
@@ -122,6 +123,16 @@ void regnubas_leave(regnubas_pass *pass);
  * among them, where no later call has changed it. SOME with the number of all its pairs; SHARED:
  * the pass is as it was; NO_MEMORY: the dictionary is gone. */
 regnubas_count regnubas_close(regnubas_pass *pass, regnubas_pair *pairs, size_t count);
+
+/* Ends a dictionary by all its passes at once, in any order, and writes its first pairs, `count` at
+ * the most. They are those of its map after all that each of these passes was answered: what one of
+ * them has put in is among them, where no later call has changed it, and the end itself changes
+ * nothing. SOME with the number of all its pairs, and the passes are empty. NO_PASS: one is empty, or
+ * there is none; SHARED: the dictionary was made with more passes than these (where others have left,
+ * see regnubas_close): the passes are as they were. NO_MEMORY: the dictionary is gone, and the passes
+ * are empty. */
+regnubas_count regnubas_end(regnubas_pass *passes, size_t passes_count, regnubas_pair *pairs,
+                            size_t count);
 
 #ifdef __cplusplus
 }

@@ -113,7 +113,20 @@ std::vector<regnubas_pair> close_all(regnubas_pass *passes) {
     return pairs;
 }
 
-void keys_and_counter() {
+// All passes end it at once.
+std::vector<regnubas_pair> end_all(regnubas_pass *passes) {
+    std::vector<regnubas_pair> pairs(THREADS * KEYS + 1);
+    CHECK(is(regnubas_end(passes, THREADS - 1, pairs.data(), pairs.size()), REGNUBAS_SHARED, 0));
+    std::swap(passes[0], passes[THREADS - 1]); // in any order
+    regnubas_count count = regnubas_end(passes, THREADS, pairs.data(), pairs.size());
+    CHECK(count.status == REGNUBAS_SOME && count.pairs <= pairs.size());
+    for (uint64_t t = 0; t < THREADS; t++) CHECK(passes[t].at == nullptr);
+    CHECK(is(regnubas_end(passes, THREADS, pairs.data(), pairs.size()), REGNUBAS_NO_PASS, 0));
+    pairs.resize(count.pairs);
+    return pairs;
+}
+
+template <typename End> void keys_and_counter(End end) {
     regnubas_pass passes[THREADS] = {};
     CHECK(regnubas_make({32768, 32768, 1}, passes, THREADS) == REGNUBAS_NONE);
     CHECK(is(regnubas_insert(&passes[0], COUNTER, START), REGNUBAS_NONE, ZERO));
@@ -122,7 +135,7 @@ void keys_and_counter() {
         take_keys(pass, number);
         count_up(pass);
     });
-    std::vector<regnubas_pair> pairs = close_all(passes);
+    std::vector<regnubas_pair> pairs = end(passes);
     size_t n = 0;
     for (uint64_t i = 0; i < KEYS; i++)
         for (uint64_t t = 0; t < THREADS && i % 3 != 0; t++, n++)
@@ -155,6 +168,8 @@ void refusals() {
     CHECK(regnubas_successor(&none, 1, &pair) == REGNUBAS_NO_PASS);
     CHECK(is(regnubas_range(&none, 1, 1, &pair, 1), REGNUBAS_NO_PASS, 0));
     CHECK(is(regnubas_close(&none, &pair, 1), REGNUBAS_NO_PASS, 0));
+    CHECK(is(regnubas_end(&none, 1, &pair, 1), REGNUBAS_NO_PASS, 0));
+    CHECK(is(regnubas_end(&none, 0, &pair, 1), REGNUBAS_NO_PASS, 0));
     regnubas_leave(&none);
     regnubas_share share = regnubas_left(&none);
     CHECK(share.nodes == 0 && share.scx == 0 && has(pair, 1, {2, 3}));
@@ -189,6 +204,8 @@ void shares() {
     passes[1].at = nullptr;
     CHECK(is(regnubas_get(&moved, 0), REGNUBAS_SOME, {6, 0}));
     regnubas_leave(&moved);
+    CHECK(is(regnubas_end(passes, 2, &pair, 1), REGNUBAS_NO_PASS, 0));
+    CHECK(is(regnubas_end(passes, 1, &pair, 1), REGNUBAS_SHARED, 0)); // the other has left
     CHECK(is(regnubas_close(&passes[0], &pair, 1), REGNUBAS_SOME, 2) && has(pair, 0, {6, 0}));
     CHECK(passes[0].at == nullptr);
 }
@@ -230,7 +247,8 @@ int main(int argc, char **argv) {
     both_words();
     two_dictionaries();
     for (int rounds = argc > 1 ? std::atoi(argv[1]) : 1; rounds > 0; rounds--) {
-        keys_and_counter();
+        keys_and_counter(close_all);
+        keys_and_counter(end_all);
         queue();
     }
     std::puts("ok");

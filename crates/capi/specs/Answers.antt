@@ -6,7 +6,7 @@ use Rattle.std.specs.Option.{option_map}
 use Rattle.arena.specs.Limits.{IsAccepted}
 use Rattle.arena.specs.declared.limits.Limits.{Limits}
 use Rattle.ordered_map.specs.Holding.{wide_value}
-use Rattle.ordered_map.specs.OrderedMap.{MapCall, PopFirst, Get, Successor, Range, OneValue}
+use Rattle.ordered_map.specs.OrderedMap.{MapCall, call_pop_first, Get, Successor, Range, OneValue}
 use Rattle.forest.specs.declared.fault.OrderFault.{OrderFault}
 use Rattle.forest.specs.declared.fault.OrderFault.TheVariants as reads
 use Rattle.forest.specs.declared.fault.UpdateFault.{UpdateFault}
@@ -119,7 +119,7 @@ EditSays call old new a = (told : Result (Option ℕ) UpdateFault) × IsUpdateAn
 
 -- what `pop_first` says, which leaves the pair that it has taken in this room
 abbrev pub TakenSays : Pair → Client → Client → ℕ → Type 0
-TakenSays room old new status = (told : Result (Option (ℕ × ℕ)) UpdateFault) × IsFoundAnswer update_status told room status × HasClientCalled old new PopFirst (blamed_by_update told old.pass.blamed) × PopSays (λ k. k) (λ v. v) (arc_value old.forest).tries old.pass new.pass told
+TakenSays room old new status = (told : Result (Option (ℕ × ℕ)) UpdateFault) × IsFoundAnswer update_status told room status × HasClientCalled old new call_pop_first (blamed_by_update told old.pass.blamed) × PopSays (λ k. k) (λ v. v) (arc_value old.forest).tries old.pass new.pass told
 
 -- what `successor` says
 abbrev pub NextSays : ℕ → Pair → Client → Client → ℕ → Type 0

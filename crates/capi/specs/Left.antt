@@ -1,14 +1,18 @@
 -- What is left in a dictionary when it is closed.
 use Rattle.std.specs.Prelude.{◌≡◌, ℕ, List, map}
+use Rattle.std.specs.List.{All}
+use Rattle.arena.specs.declared.layout.Layout.{Layout}
 use Rattle.arena.specs.History.{History, value, Extends}
 use Rattle.arena.specs.Log.{log}
 use Rattle.arena.specs.Machines.{IsRun}
+use Rattle.arena.specs.PlainWords.{Contents}
 use Rattle.dict.specs.Typed.{TypedAllows}
 use Rattle.dict.specs.Words.{IsNumber, IsWideNumber}
 use Rattle.ordered_map.specs.Replies.{word_pair}
 use Rattle.ordered_map.specs.Spelled.{Spells}
-use Rattle.forest.specs.Passes.{PassView, done_of, run_of}
+use Rattle.forest.specs.Passes.{PassView, AreAllBack, IsClosed, done_of, run_of}
 use Rattle.forest.specs.Shares.{entries_of}
+use Rattle.forest.specs.TableRule.{history_of}
 use Rattle.capi.specs.declared.client.Client.{Client}
 use Rattle.capi.specs.declared.client.Closing.{Closing}
 use Rattle.capi.specs.declared.client.Closing.TheVariants.{Pairs, NoMemory, Shared}
@@ -21,6 +25,16 @@ pub record AreLeft (p : PassView) (pairs : List (ℕ × ℕ)) : Type 0 where
   pub goes_on : Extends run (run_of p)
   pub done : entries_of p.number (log p.layout run) ≡ done_of p
   pub spelled : Spells p.layout (value run) (map (word_pair (λ k. k) (λ v. v)) pairs)
+
+-- These are all passes of a dictionary of this layout, and the pairs are those of the map at the
+-- end of one lawful run, which goes on from what each of the passes knew (`begun` of `closed`): it
+-- has entered nothing more, and its only step there is a look at the table.
+pub record AreLeftByAll (lay : Layout) (passes : List PassView) (pairs : List (ℕ × ℕ)) : Type 0 where
+  pub layouts : All (λ p. p.layout ≡ lay) passes
+  pub all : AreAllBack lay passes
+  pub words : Contents
+  pub closed : IsClosed (TypedAllows IsNumber IsWideNumber) lay passes words
+  pub spelled : Spells lay (value (history_of lay.mode closed.rows)) (map (word_pair (λ k. k) (λ v. v)) pairs)
 
 -- how a client may close: the pairs are left; or it is as it was
 abbrev pub IsClosing : Client → Closing → Type 0

@@ -1,7 +1,7 @@
 //! What a handle leads to: a pass of a dictionary, and a part in its forest.
 ghost use Rattle.std.specs.Prelude.{◌≡◌, ◌≤◌, IfOk, length, min, vec_len};
 ghost use Rattle.std.specs.Arc.{arc_value};
-ghost use Rattle.ordered_map.specs.OrderedMap.{Edit, Insert, Delete, PopFirst, ReplaceIf, Get, Successor, Range, OneValue};
+ghost use Rattle.ordered_map.specs.OrderedMap.{call_insert, call_delete, call_pop_first, call_replace_if, Get, Successor, Range, OneValue};
 ghost use Rattle.forest.specs.Passes.{IsOf};
 ghost use Rattle.forest.specs.Dictionary.{IsReading, UpdateSays, PopSays, SuccessorSays, RangeSays, blamed_by_update, blamed_by_read};
 
@@ -18,7 +18,10 @@ pub type Numbers = Dict<u64, u128>;
 pub struct Client {
     pub(crate) forest: Arc<Forest<Numbers>>,
     pub(crate) pass: Pass<Numbers>,
+    /// How many passes the forest has.
+    pub(crate) all: u32,
     ghost of: { IsOf (arc_value forest) pass },
+    ghost counted: { all ≡ (arc_value forest).layout.passes },
 }
 
 impl Client {
@@ -36,8 +39,8 @@ impl Client {
     /// Sets a key to a value.
     pub fn insert(&mut self, key: u64, value: u128) -> Result<Option<u128>, UpdateFault>
         ensures same { self.new.forest ≡ self.old.forest }
-        ensures called { HasClientCalled self.old self.new (Edit (Insert key value)) (blamed_by_update result self.old.pass.blamed) }
-        ensures says { UpdateSays (λ v. v) (arc_value self.old.forest).tries self.old.pass self.new.pass (Edit (Insert key value)) result }
+        ensures called { HasClientCalled self.old self.new (call_insert key value) (blamed_by_update result self.old.pass.blamed) }
+        ensures says { UpdateSays (λ v. v) (arc_value self.old.forest).tries self.old.pass self.new.pass (call_insert key value) result }
     {
         self.forest.insert(&mut self.pass, key, value)
     }
@@ -45,8 +48,8 @@ impl Client {
     /// Takes a key away.
     pub fn delete(&mut self, key: u64) -> Result<Option<u128>, UpdateFault>
         ensures same { self.new.forest ≡ self.old.forest }
-        ensures called { HasClientCalled self.old self.new (Edit (Delete key)) (blamed_by_update result self.old.pass.blamed) }
-        ensures says { UpdateSays (λ v. v) (arc_value self.old.forest).tries self.old.pass self.new.pass (Edit (Delete key)) result }
+        ensures called { HasClientCalled self.old self.new (call_delete key) (blamed_by_update result self.old.pass.blamed) }
+        ensures says { UpdateSays (λ v. v) (arc_value self.old.forest).tries self.old.pass self.new.pass (call_delete key) result }
     {
         self.forest.delete(&mut self.pass, &key)
     }
@@ -54,7 +57,7 @@ impl Client {
     /// Takes the pair with the least key away.
     pub fn pop_first(&mut self) -> Result<Option<(u64, u128)>, UpdateFault>
         ensures same { self.new.forest ≡ self.old.forest }
-        ensures called { HasClientCalled self.old self.new PopFirst (blamed_by_update result self.old.pass.blamed) }
+        ensures called { HasClientCalled self.old self.new call_pop_first (blamed_by_update result self.old.pass.blamed) }
         ensures says { PopSays (λ k. k) (λ v. v) (arc_value self.old.forest).tries self.old.pass self.new.pass result }
     {
         self.forest.pop_first(&mut self.pass)
@@ -68,8 +71,8 @@ impl Client {
         value: u128,
     ) -> Result<Option<u128>, UpdateFault>
         ensures same { self.new.forest ≡ self.old.forest }
-        ensures called { HasClientCalled self.old self.new (ReplaceIf key expected value) (blamed_by_update result self.old.pass.blamed) }
-        ensures says { UpdateSays (λ v. v) (arc_value self.old.forest).tries self.old.pass self.new.pass (ReplaceIf key expected value) result }
+        ensures called { HasClientCalled self.old self.new (call_replace_if key expected value) (blamed_by_update result self.old.pass.blamed) }
+        ensures says { UpdateSays (λ v. v) (arc_value self.old.forest).tries self.old.pass self.new.pass (call_replace_if key expected value) result }
     {
         self.forest
             .replace_if(&mut self.pass, key, &expected, value)
@@ -136,13 +139,13 @@ impl Client {
     pub fn close(self, alloc: Global) -> Closing
         ensures { IsClosing self result }
     {
-        let Client { forest, pass } = self;
+        let Client { forest, pass, all } = self;
         match Arc::try_unwrap(forest) {
             Ok(forest) => match forest.end(pass).pairs(alloc) {
                 Ok(pairs) => Closing::Pairs(pairs),
                 Err(NoMemory) => Closing::NoMemory,
             },
-            Err(forest) => Closing::Shared(Client { forest, pass }),
+            Err(forest) => Closing::Shared(Client { forest, pass, all }),
         }
     }
 

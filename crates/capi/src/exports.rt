@@ -1,4 +1,4 @@
-//! The functions that C calls. Their contracts hold for a caller that keeps four rules, which no
+//! The functions that C calls. Their contracts hold for a caller that keeps five rules, which no
 //! compiler checks:
 //!
 //! 1. A pass is zeroed before its first use and then written by this library alone; it may move in
@@ -9,8 +9,10 @@
 //!    nothing else reads or writes during the call; none is null, even where its count is 0.
 //! 4. `malloc`, `realloc` and `free` are one allocator, which aligns to 16 bytes; no call comes
 //!    from a signal handler, or in the child of a fork of a process with threads.
+//! 5. The passes that `regnubas_end` is given are of one dictionary (`AreOfOne`).
 ghost use Rattle.std.specs.Prelude.{◌≡◌, None, length, min};
-ghost use Rattle.ordered_map.specs.OrderedMap.{Edit, Insert, Delete, ReplaceIf};
+ghost use Rattle.ordered_map.specs.OrderedMap.{call_insert, call_delete, call_replace_if};
+ghost use Rattle.capi.specs.Ends.{AreOfOne, EndSays, held_in};
 ghost use Rattle.capi.specs.Answers.{number, bare, no_count, CallSays, GetSays, EditSays, TakenSays, NextSays, BetweenSays, LeftSays, CloseSays, MakeSays};
 
 use crate::answer::{
@@ -18,6 +20,7 @@ use crate::answer::{
     status_of_edit, status_of_read, tell_pair,
 };
 use crate::client::Closing;
+use crate::end::{all_of, end};
 use crate::handle::Place;
 use crate::open::open;
 use regnubas::{Limits, NewFault};
@@ -63,7 +66,7 @@ pub extern "C" fn regnubas_get(alloc: Global, pass: &mut Place, key: u64) -> Ans
 /// Sets a key to a value, and tells the value that it had.
 #[unsafe(no_mangle)]
 pub extern "C" fn regnubas_insert(alloc: Global, pass: &mut Place, key: u64, value: Value) -> Answer
-    ensures { CallSays (bare 6) (EditSays (Edit (Insert key (number value)))) pass.old.handle.value pass.new.handle.value result }
+    ensures { CallSays (bare 6) (EditSays (call_insert key (number value))) pass.old.handle.value pass.new.handle.value result }
 {
     let Some(mut client) = pass.handle.take(alloc) else {
         return Answer::bare(NO_PASS);
@@ -76,7 +79,7 @@ pub extern "C" fn regnubas_insert(alloc: Global, pass: &mut Place, key: u64, val
 /// Takes a key away, and tells the value that it had.
 #[unsafe(no_mangle)]
 pub extern "C" fn regnubas_delete(alloc: Global, pass: &mut Place, key: u64) -> Answer
-    ensures { CallSays (bare 6) (EditSays (Edit (Delete key))) pass.old.handle.value pass.new.handle.value result }
+    ensures { CallSays (bare 6) (EditSays (call_delete key)) pass.old.handle.value pass.new.handle.value result }
 {
     let Some(mut client) = pass.handle.take(alloc) else {
         return Answer::bare(NO_PASS);
@@ -111,7 +114,7 @@ pub extern "C" fn regnubas_replace_if(
     expected: Value,
     value: Value,
 ) -> Answer
-    ensures { CallSays (bare 6) (EditSays (ReplaceIf key (number expected) (number value))) pass.old.handle.value pass.new.handle.value result }
+    ensures { CallSays (bare 6) (EditSays (call_replace_if key (number expected) (number value))) pass.old.handle.value pass.new.handle.value result }
 {
     let Some(mut client) = pass.handle.take(alloc) else {
         return Answer::bare(NO_PASS);
@@ -207,5 +210,24 @@ pub extern "C" fn regnubas_close(alloc: Global, pass: &mut Place, room: &mut [Pa
             }
             Err(_) => Count::none(NO_MEMORY),
         },
+    }
+}
+
+/// Ends the dictionary by all its passes at once, and leaves its first pairs in `room`. It answers
+/// how many there are in all.
+#[unsafe(no_mangle)]
+pub extern "C" fn regnubas_end(alloc: Global, passes: &mut [Place], room: &mut [Pair]) -> Count
+    requires { AreOfOne (held_in passes.old) }
+    ensures { EndSays (held_in passes.old) (held_in passes.new) room.new result }
+{
+    let Some(all) = all_of(alloc, passes) else {
+        return Count::none(NO_PASS);
+    };
+    if passes.len() < all as usize {
+        return Count::none(SHARED);
+    }
+    match end(alloc, passes) {
+        Some(pairs) => Count::of_pairs(pairs, room),
+        None => Count::none(NO_MEMORY),
     }
 }

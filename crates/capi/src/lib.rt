@@ -4,6 +4,7 @@
 
 mod answer;
 mod client;
+mod end;
 mod exports;
 mod handle;
 mod loose;

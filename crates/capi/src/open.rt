@@ -23,7 +23,7 @@ pub(crate) fn open(alloc: Global, limits: Limits) -> Result<Vec<Place>, NewFault
         Ok(opened) => opened,
         Err(fault) => return Err(fault),
     };
-    match hand_out(alloc, forest, passes) {
+    match hand_out(alloc, forest, passes, limits.passes) {
         Ok(places) => Ok(places),
         Err(NoMemory) => Err(NewFault::NoMemory),
     }
@@ -34,8 +34,10 @@ fn hand_out(
     alloc: Global,
     forest: Forest<Numbers>,
     passes: Vec<Pass<Numbers>>,
+    all: u32,
 ) -> Result<Vec<Place>, NoMemory>
-    requires { All (IsOf forest) passes.items }
+    requires passes { All (IsOf forest) passes.items }
+    requires all { all ≡ forest.layout.passes }
     ensures count { IfOk result (λ places. vec_len places ≡ vec_len passes) }
     ensures of_forest { IfOk result (λ places. All (λ p. IsHeldOf forest p.handle.value) places.items) }
     ensures held { IfOk result (λ places. map pass_at places.items ≡ map Some passes.items) }
@@ -43,7 +45,7 @@ fn hand_out(
     let forest = Arc::new(alloc, forest)?;
     let mut places = Vec::new(alloc);
     for pass in passes {
-        places.push(Place::of(hand(alloc, &forest, pass)?))?;
+        places.push(Place::of(hand(alloc, &forest, pass, all)?))?;
     }
     Ok(places)
 }
@@ -53,14 +55,17 @@ fn hand(
     alloc: Global,
     forest: &Arc<Forest<Numbers>>,
     pass: Pass<Numbers>,
+    all: u32,
 ) -> Result<Handle, NoMemory>
-    requires { IsOf (arc_value forest.now) pass }
+    requires pass { IsOf (arc_value forest.now) pass }
+    requires all { all ≡ (arc_value forest.now).layout.passes }
     ensures of_forest { IfOk result (λ h. IsHeldOf (arc_value forest.now) h.value) }
     ensures held { IfOk result (λ h. option_map (λ c. c.pass) h.value ≡ Some pass) }
 {
     let client = Client {
         forest: Arc::try_clone(forest)?,
         pass,
+        all,
     };
     Ok(Handle::holding(Box::new(alloc, client)?))
 }

@@ -1,7 +1,10 @@
 //! The functions that C calls, called from here.
+ghost use Rattle.std.specs.Prelude.{IsTrue};
+ghost use Rattle.capi.specs.Ends.{AreOfOne, held_in};
+
 use crate::answer::{Answer, Count, NO_PASS, NONE, Pair, PassLimits, SHARED, SOME, Value};
 use crate::exports::{
-    regnubas_close, regnubas_get, regnubas_insert, regnubas_leave, regnubas_make,
+    regnubas_close, regnubas_end, regnubas_get, regnubas_insert, regnubas_leave, regnubas_make,
     regnubas_pop_first, regnubas_replace_if,
 };
 use crate::handle::{Handle, Place};
@@ -63,5 +66,43 @@ fn the_last_pass_closes(rt: HostRuntime) -> Result<(), Fail> {
     let closed = regnubas_close(alloc, &mut first, &mut room);
     assert_eq!(rt; counted(closed), (SOME, 1));
     assert_eq!(rt; words(room[0]), (9, 8, 4));
+    Ok(())
+}
+
+/// Makes a dictionary of these passes.
+fn made(alloc: Global, passes: &mut [Place]) -> bool
+    ensures { IsTrue result → AreOfOne (held_in passes.new) }
+{
+    regnubas_make(alloc, EACH, passes) == NONE
+}
+
+/// One of the passes puts a new key in.
+fn put_by(alloc: Global, passes: &mut [Place], at: usize, key: u64, value: Value) -> bool
+    requires { AreOfOne (held_in passes.old) }
+    ensures { AreOfOne (held_in passes.new) }
+{
+    if at >= passes.len() {
+        return false;
+    }
+    regnubas_insert(alloc, &mut passes[at], key, value).status == NONE
+}
+
+#[test]
+fn all_passes_end_it(rt: HostRuntime) -> Result<(), Fail> {
+    let alloc = rt.alloc();
+    let mut passes = [nowhere(alloc), nowhere(alloc)];
+    let mut room = [Pair {
+        key: 0,
+        value: OTHER,
+    }; 4];
+    assert!(rt; made(alloc, &mut passes));
+    assert!(rt; put_by(alloc, &mut passes, 1, 7, WIDE));
+    assert!(rt; put_by(alloc, &mut passes, 0, 9, OTHER));
+    let ended = regnubas_end(alloc, &mut passes, &mut room);
+    assert_eq!(rt; counted(ended), (SOME, 2));
+    assert_eq!(rt; words(room[0]), (7, 8, 3));
+    assert_eq!(rt; words(room[1]), (9, 8, 4));
+    let [mut first, _second] = passes;
+    assert_eq!(rt; told(regnubas_get(alloc, &mut first, 7)), (NO_PASS, 0, 0));
     Ok(())
 }

@@ -6,7 +6,7 @@ use Rattle.regnubas.specs.History.{History, Start, ◌⊳◌, value, Extends}
 use Rattle.regnubas.specs.Lawful.{Lawful}
 use Rattle.regnubas.specs.Log.{log}
 use Rattle.regnubas.specs.Machines.{IsRun}
-use Rattle.regnubas.specs.OrderedMap.{Edit, Get, Insert, MapReply, OneValue, get, insert, reply}
+use Rattle.regnubas.specs.OrderedMap.{Get, Insert, MapReply, OneValue, call_insert, get, insert, reply}
 use Rattle.regnubas.specs.Runs.{IsTreeRun}
 use Rattle.regnubas.specs.Spelled.{Spells}
 use Rattle.regnubas.specs.Dictionary.{IsChange, IsReading}
@@ -61,7 +61,7 @@ module _ (lay : Layout) where
 
   -- A change by which k has the value v. At a moment behind it, up to which no pass has made another
   -- entry, k still has it.
-  module _ {allows : Layout → History → ℕ → Type 0} (laws : VersionLaws allows) (inserted : (k v : ℕ) (m : List Pair) → get k (insert k v m) ≡ Some v) (old new : PassView) (k v : ℕ) (told : MapReply) (c : IsChange old new (Edit (Insert k v)) told (Insert k v)) (at : new.layout ≡ lay) where
+  module _ {allows : Layout → History → ℕ → Type 0} (laws : VersionLaws allows) (inserted : (k v : ℕ) (m : List Pair) → get k (insert k v m) ≡ Some v) (old new : PassView) (k v : ℕ) (told : MapReply) (c : IsChange old new (call_insert k v) told (Insert k v)) (at : new.layout ≡ lay) where
     -- the moment just behind it
     abbrev set_at : History
     set_at = c.row ⊳ c.before
@@ -74,7 +74,7 @@ module _ (lay : Layout) where
     -- the pass itself has made no other entry in the call
     pub quiet_call : Lawful lay (run_of new) → IsLaterView old new → EntersNothing lay new.number (run_of new) set_at
     quiet_call l view =
-        subst (λ (x : Layout). EntersNothing x new.number (run_of new) set_at) at (laws.newest old new (Edit (Insert k v)) told (Insert k v) (subst (λ (x : Layout). Lawful x (run_of new)) (sym at) l) view c)
+        subst (λ (x : Layout). EntersNothing x new.number (run_of new) set_at) at (laws.newest old new (call_insert k v) told (Insert k v) (subst (λ (x : Layout). Lawful x (run_of new)) (sym at) l) view c)
 
   -- what a get tells of the map that it has read
   read_told : (k : ℕ) (m : List Pair) (found : Option ℕ) → reply (Get k) m ≡ OneValue found → found ≡ get k m
@@ -83,7 +83,7 @@ module _ (lay : Layout) where
 
   pub one_pass : {allows : Layout → History → ℕ → Type 0} → VersionLaws allows → ((k v : ℕ) (m : List Pair) → get k (insert k v m) ≡ Some v) → lay.passes ≡ 1 → lay.mode ≡ Tree → (old mid new : PassView) → mid.layout ≡ lay → new.layout ≡ lay → mid.number < lay.passes
       → IsLaterView old mid → IsLaterView mid new → IsRun allows mid.layout (run_of mid) → IsRun allows new.layout (run_of new) → (k v : ℕ) (told : MapReply) (found : Option ℕ)
-      → IsChange old mid (Edit (Insert k v)) told (Insert k v) → IsReading mid new (Get k) (OneValue found) → found ≡ Some v
+      → IsChange old mid (call_insert k v) told (Insert k v) → IsReading mid new (Get k) (OneValue found) → found ≡ Some v
   one_pass laws inserted one tree old mid new em en few view next rm rn k v told found c r =
       let lm : Lawful lay (run_of mid) = subst (λ (x : Layout). Lawful x (run_of mid)) em rm.lawful in
       let run : IsTreeRun lay (run_of new) = tree_run laws tree new en rn in
@@ -102,7 +102,7 @@ module _ (lay : Layout) where
       → IsLaterView a1 a2 → IsRun allows a2.layout (run_of a2) → IsRun allows a4.layout (run_of a4) → IsRun allows b4.layout (run_of b4)
       → Extends (run_of a1) (run_of b1) → Extends (run_of b2) (run_of a2) → Extends (run_of b4) (run_of b3) → Extends (run_of a4) (run_of b4)
       → done_of a4 ≡ done_of a2 → done_of b4 ≡ done_of b1 → (k v : ℕ) (told : MapReply) (found : Option ℕ)
-      → IsChange a1 a2 (Edit (Insert k v)) told (Insert k v) → IsReading b2 b3 (Get k) (OneValue found) → found ≡ Some v
+      → IsChange a1 a2 (call_insert k v) told (Insert k v) → IsReading b2 b3 (Get k) (OneValue found) → found ≡ Some v
   two_passes laws inserted two tree a1 a2 a4 b1 b2 b3 b4 ea2 ea4 eb1 eb3 eb4 na nb apart sa sb view ra2 ra4 rb4 met between end last da db k v told found c r =
       let la : Lawful lay (run_of a2) = subst (λ (x : Layout). Lawful x (run_of a2)) ea2 ra2.lawful in
       let la4 : Lawful lay (run_of a4) = subst (λ (x : Layout). Lawful x (run_of a4)) ea4 ra4.lawful in

@@ -1,7 +1,7 @@
 -- What a pass has done by the end of several calls.
 use Rattle.std.specs.Prelude.{ℕ, Option, Some}
 use Rattle.regnubas.specs.Dictionary.{IsChange, IsReading}
-use Rattle.regnubas.specs.OrderedMap.{Edit, Get, Insert, OneValue}
+use Rattle.regnubas.specs.OrderedMap.{Get, Insert, OneValue, call_insert}
 use Rattle.regnubas.specs.Passes.{PassView, IsLaterView}
 
 -- one of the pass's calls has set k to v
@@ -10,11 +10,11 @@ pub record HasSet (old new : PassView) (k v : ℕ) : Type 0 where
   pub ended : PassView
   pub from : IsLaterView old began
   pub told : Option ℕ
-  pub set : IsChange began ended (Edit (Insert k v)) (OneValue told) (Insert k v)
+  pub set : IsChange began ended (call_insert k v) (OneValue told) (Insert k v)
   pub to : IsLaterView ended new
 
 -- one of its calls has read that k has v
-pub record HasRead (old new : PassView) (k v : ℕ) : Type 0 where
+pub record HasReadValue (old new : PassView) (k v : ℕ) : Type 0 where
   pub began : PassView
   pub ended : PassView
   pub from : IsLaterView old began

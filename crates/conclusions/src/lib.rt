@@ -3,7 +3,7 @@
 
 ghost use Rattle.std.specs.Prelude.{◌≡◌, Some, IfOk, OnOk};
 ghost use Rattle.regnubas.specs.Passes.{IsOf};
-ghost use Rattle.conclusions.specs.Together.{HasRead, HasSet};
+ghost use Rattle.conclusions.specs.Together.{HasReadValue, HasSet};
 
 use regnubas::{Dict, Forest, Pass, UpdateFault, map_laws_hold, version_laws_hold};
 
@@ -20,7 +20,7 @@ pub fn set_then_get(
     requires of { IsOf map.now pass.old }
     requires one { map.now.layout.passes ≡ 1 }
     ensures set { OnOk result (HasSet pass.old pass.new key value) }
-    ensures read { OnOk result (HasRead pass.old pass.new key value) }
+    ensures read { OnOk result (HasReadValue pass.old pass.new key value) }
     ensures found { IfOk result (λ found. found ≡ Some value) }
 {
     version_laws_hold::<u64, u64>();
@@ -44,7 +44,7 @@ pub fn set_for_another(
     requires other { IsOf map.now other.old }
     requires two { map.now.layout.passes ≡ 2 }
     ensures set { OnOk result (HasSet one.old one.new key value) }
-    ensures read { OnOk result (HasRead other.old other.new key value) }
+    ensures read { OnOk result (HasReadValue other.old other.new key value) }
     ensures found { IfOk result (λ found. found ≡ Some value) }
 {
     version_laws_hold::<u64, u64>();

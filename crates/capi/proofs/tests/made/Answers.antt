@@ -1,0 +1,26 @@
+use Rattle.std.proofs.Common.{◌≡◌, ◌==◌, ◌⊎◌, ℕ, Option, Some, None, true, List, inl, inr, subst}
+use Rattle.std.proofs.lemmas.Bool.{false≢true}
+use Rattle.std.proofs.lemmas.List.Elements.{All-map, All-weaker}
+use Rattle.forest.specs.Passes.{Ground}
+use Rattle.capi.specs.declared.answer.PassLimits.{PassLimits}
+use Rattle.capi.specs.declared.client.Client.{Client}
+use Rattle.capi.specs.declared.handle.Place.{Place}
+use Rattle.capi.specs.Answers.{MakeSays}
+use Rattle.capi.specs.Ends.{AreOfOne, IsIn, held_in}
+use Rattle.capi.specs.Made.{IsHeldOf}
+use Rattle.capi.proofs.Ends.{held_is_in, value_of}
+use Rattle.capi.proofs.tests.made.Goals as goal
+
+refused : (X : Type 0) (status : ℕ) → ((status ≡ 5) × X) ⊎ (status ≡ 4) → (status == 0) ≡ true → ⊥
+refused X status (inl limits) done = false≢true (subst (λ (n : ℕ). (n == 0) ≡ true) limits.0 done)
+refused X status (inr memory) done = false≢true (subst (λ (n : ℕ). (n == 0) ≡ true) memory done)
+
+are_of_one : (each : PassLimits) (before after : List Place) (status : ℕ) → MakeSays each before after status → (status == 0) ≡ true → AreOfOne (held_in after)
+are_of_one each before after status (inl made) done = record {
+  forest = made.1.forest;
+  of_forest = All-map (IsIn made.1.forest) value_of after (All-weaker (λ (p : Place). IsHeldOf made.1.forest p.handle.value) (λ (p : Place). IsIn made.1.forest p.handle.value) (λ p. held_is_in made.1.forest p.handle.value) after made.1.of_forest);
+}
+are_of_one each before after status (inr not_made) done = absurd (refused _ status not_made.why done)
+
+pub returns : goal.returns
+returns c = are_of_one _ c.args.passes.now c.regnubas_make.new.passes c.regnubas_make.result c.regnubas_make.ensures

@@ -1,0 +1,141 @@
+//! A dictionary is ended by all its passes at once.
+ghost use Rattle.std.specs.Prelude.{◌≡◌, Some, IfSome, IfNone, IfOk, map, vec_len};
+ghost use Rattle.std.specs.Arc.{arc_value};
+ghost use Rattle.std.specs.List.{All};
+ghost use Rattle.forest.specs.Passes.{Ground, IsOf};
+ghost use Rattle.capi.specs.Left.{AreLeftByAll};
+ghost use Rattle.capi.specs.Made.{IsHeldOf};
+ghost use Rattle.capi.specs.Ends.{AreHeld, AreOfOne, HaveEndedWith, IsEmpty, IsIn, held_in, pass_in};
+
+use crate::client::{Client, Numbers};
+use crate::handle::{Handle, Place};
+use regnubas::{Forest, NoMemory, Pass};
+use std::alloc::Global;
+use std::sync::Arc;
+
+/// How many passes the dictionary has of these handles, if each of them holds one.
+pub(crate) fn all_of(alloc: Global, passes: &mut [Place]) -> Option<u32>
+    ensures same { held_in passes.new ≡ held_in passes.old }
+    ensures none { IfNone result (¬ AreHeld (held_in passes.old)) }
+    ensures held { IfSome result (λ n. AreHeld (held_in passes.old)) }
+    ensures some { (f : Ground) → All (IsIn f) (held_in passes.old)
+        → IfSome result (λ n. (n ≡ f.layout.passes) × All (IsHeldOf f) (held_in passes.old)) }
+{
+    let mut all = None;
+    for place in passes.iter_mut() {
+        let Some(told) = place.handle.all(alloc) else {
+            return None;
+        };
+        all = Some(told);
+    }
+    all
+}
+
+/// Ends the dictionary whose passes these handles hold, and answers its pairs. It is gone where they
+/// are not all there, or an allocation was refused.
+pub(crate) fn end(alloc: Global, passes: &mut [Place]) -> Option<Vec<(u64, u128)>>
+    requires { AreOfOne (held_in passes.old) }
+    ensures empty { All IsEmpty (held_in passes.new) }
+    ensures left { IfSome result (λ pairs. HaveEndedWith (held_in passes.old) pairs.items) }
+{
+    let places = take_out(alloc, passes)?;
+    let (forest, passes) = gather(alloc, places)?;
+    end_by_all(alloc, forest, passes)
+}
+
+/// Takes all handles out, and leaves empty ones.
+fn take_out(alloc: Global, passes: &mut [Place]) -> Option<Vec<Place>>
+    ensures empty { All IsEmpty (held_in passes.new) }
+    ensures took { IfSome result (λ places. places.items ≡ passes.old) }
+{
+    match none_held(alloc, passes.len()) {
+        Ok(mut places) => {
+            passes.swap_with_slice(&mut places);
+            Some(places)
+        }
+        Err(NoMemory) => {
+            leave_all(alloc, passes);
+            None
+        }
+    }
+}
+
+/// So many handles that hold nothing.
+fn none_held(alloc: Global, count: usize) -> Result<Vec<Place>, NoMemory>
+    ensures len { IfOk result (λ places. vec_len places ≡ count) }
+    ensures empty { IfOk result (λ places. All IsEmpty (held_in places.items)) }
+{
+    let mut places = Vec::new(alloc);
+    for _number in 0..count {
+        places.push(Place::of(Handle::empty(alloc)))?;
+    }
+    Ok(places)
+}
+
+/// All passes leave.
+fn leave_all(alloc: Global, passes: &mut [Place])
+    ensures { All IsEmpty (held_in passes.new) }
+{
+    for place in passes.iter_mut() {
+        drop(place.handle.take(alloc));
+    }
+}
+
+/// The passes that these handles hold, and their forest, which nobody else shares.
+fn gather(alloc: Global, places: Vec<Place>) -> Option<(Forest<Numbers>, Vec<Pass<Numbers>>)>
+    requires { AreOfOne (held_in places.items) }
+    ensures of { IfSome result (λ r. All (IsOf r.0) r.1.items) }
+    ensures are { IfSome result (λ r. map pass_in (held_in places.items) ≡ map Some r.1.items) }
+{
+    let (owner, passes) = take_apart(alloc, places)?;
+    match Arc::try_unwrap(owner?) {
+        Ok(forest) => Some((forest, passes)),
+        Err(_) => None,
+    }
+}
+
+/// The passes that these handles hold, and the last one's owner of the forest.
+fn take_apart(
+    alloc: Global,
+    places: Vec<Place>,
+) -> Option<(Option<Arc<Forest<Numbers>>>, Vec<Pass<Numbers>>)>
+    ensures are { IfSome result (λ r. map pass_in (held_in places.items) ≡ map Some r.1.items) }
+    ensures owner { IfSome result (λ r. (f : Ground) → All (IsIn f) (held_in places.items) → IfSome r.0 (λ a. arc_value a ≡ f)) }
+{
+    let mut passes = Vec::new(alloc);
+    let mut owner = None;
+    for place in places {
+        let Place { handle, unused: _ } = place;
+        let Some(client) = handle.into_box() else {
+            return None;
+        };
+        let Client {
+            forest,
+            pass,
+            all: _,
+        } = Box::into_inner(client);
+        let Ok(()) = passes.push(pass) else {
+            return None;
+        };
+        owner = Some(forest);
+    }
+    Some((owner, passes))
+}
+
+/// Ends a forest by its passes, if all are there, and answers its pairs.
+fn end_by_all(
+    alloc: Global,
+    forest: Forest<Numbers>,
+    passes: Vec<Pass<Numbers>>,
+) -> Option<Vec<(u64, u128)>>
+    requires { All (IsOf forest) passes.items }
+    ensures { IfSome result (λ pairs. AreLeftByAll forest.layout passes.items pairs.items) }
+{
+    if !forest.all_back(&passes) {
+        return None;
+    }
+    match forest.close(passes).pairs(alloc) {
+        Ok(pairs) => Some(pairs),
+        Err(NoMemory) => None,
+    }
+}
