@@ -19,7 +19,7 @@ use Rattle.order.specs.declared.run.ReadRun.{ReadRun}
 use Rattle.ordered_map.specs.declared.pair.Pair.{Pair}
 use Rattle.ordered_map.specs.OrderedMap.{MapCall, MapReply, OneValue, pair, reply, goal_told}
 use Rattle.edits.specs.Next.{standing}
-use Rattle.edits.specs.Steps.{node_tries, scx_tries}
+use Rattle.edits.specs.Steps.{Spends, node_tries, scx_tries}
 use Rattle.edits.specs.declared.update.UpdateAt.{UpdateAt}
 use Rattle.edits.specs.declared.update.UpdateAt.TheVariants.{Start}
 use Rattle.edits.specs.declared.update.UpdateRun.{UpdateRun}
@@ -124,8 +124,12 @@ module _ {K V : Type 0} (valid_key : K → Type 0) (key : K → ℕ) (valid_valu
       same_call : (old now : UpdateRun k.E UpdateAt) → now.edit ≡ old.edit → call_in (around now) ≡ call_in (around old)
       same_call old now e = is.is_call now ∙ ap k.call e ∙ sym (is.is_call old)
 
+      -- what it has taken of its share, by the edit as it began
+      spends_so : (old now : UpdateRun k.E UpdateAt) (nodes scx : ℕ) → HasUpdateGoneOn k.means old now nodes scx → Spends (k.means.most_nodes old.edit) old.share now.share (node_tries old old.at) nodes (scx_tries old old.at) scx
+      spends_so old now nodes scx on = subst (λ (e : k.E). Spends (k.means.most_nodes e) old.share now.share (node_tries old old.at) nodes (scx_tries old old.at) scx) on.edit on.spends
+
       goes : (old now : UpdateRun k.E UpdateAt) → HasUpdateGoneOn k.means old now (node_tries now now.at) (scx_tries now now.at) → Goes (inner (around old)) machine.tries c → Goes (inner (around now)) machine.tries c
-      goes old now on x = is.goes now machine.tries c (edit_goes machine.tries c k kind old now (is.goes_inside old machine.tries c x) on.edit on.called on.limit on.spends)
+      goes old now on x = is.goes now machine.tries c (edit_goes machine.tries c k kind old now (is.goes_inside old machine.tries c x) on.edit on.called on.limit (spends_so old now (node_tries now now.at) (scx_tries now now.at) on))
 
       fewer : (old now : UpdateRun k.E UpdateAt) → (old.tries ≤ now.tries + 1) × (now.tries ≤ old.tries) → KeepsTriesButOne (around old) (around now)
       fewer old now x = rw (is.is_behind old, is.is_behind now) (x.1, x.0)
@@ -163,7 +167,7 @@ module _ {K V : Type 0} (valid_key : K → Type 0) (key : K → ℕ) (valid_valu
             is = x.is;
             sound = x.sound;
             so = (
-              (went.mode, is.answers (standing m Start) machine.tries c _ (edit_reply goal a) (subst (λ (w : Goal). InnerAnswers machine.tries (Update k (standing m Start)) c (history_of c.layout.mode x.known) (edit_reply w a)) walk (edit_ends machine.tries c _ k kind y.old (standing m Start) a (typed_run keys values c.layout _ x.sound) went y.goes.edit y.goes.called y.goes.limit y.goes.spends y.answers))),
+              (went.mode, is.answers (standing m Start) machine.tries c _ (edit_reply goal a) (subst (λ (w : Goal). InnerAnswers machine.tries (Update k (standing m Start)) c (history_of c.layout.mode x.known) (edit_reply w a)) walk (edit_ends machine.tries c _ k kind y.old (standing m Start) a (typed_run keys values c.layout _ x.sound) went y.goes.edit y.goes.called y.goes.limit (spends_so y.old (standing m Start) m.tries m.tries y.goes) y.answers))),
               goes_on (editing y.old) (same_call y.old (standing m Start) y.goes.edit, refl, fewer y.old (standing m Start) y.goes.tries) y.course,
             );
           }
