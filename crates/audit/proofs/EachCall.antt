@@ -1,7 +1,7 @@
 -- What is shown of each call of the map by itself, with an arm for edits and one for each read: when
 -- its answer is right and where it took place, and what an entry of it does. The other proofs of this
 -- crate speak of any call.
-use Rattle.std.proofs.Common.{◌≡◌, ℕ, ◌-◌, ◌<◌, ◌≤◌, ◌⊎◌, inr, Bool, true, false, cond, List, [], ◌∷◌, Option, Some, None, option_map, refl, sym, ◌∙◌, ap, subst, arith, eq-eqb, ne_eqb}
+use Rattle.std.proofs.Common.{◌≡◌, ℕ, ◌-◌, ◌<◌, ◌≤◌, ◌⊎◌, inr, Bool, true, false, cond, List, [], ◌∷◌, Option, Some, None, option_map, unwrap_or, refl, sym, ◌∙◌, ap, subst, arith, eq-eqb, ne_eqb}
 use native.Mathlib.Decide.{ℕ_discrete}
 use Rattle.arena.specs.declared.layout.Layout.{Layout}
 use Rattle.arena.specs.declared.fault.Resource.{Resource}
@@ -13,7 +13,10 @@ use Rattle.arena.specs.Lawful.{IsWin}
 use Rattle.arena.specs.Log.{Entry as Entered}
 use Rattle.arena.proofs.Lemmas.{ends_self}
 use Rattle.ordered_map.specs.CallRules.{need, nodes_at, nodes_there}
-use Rattle.ordered_map.specs.OrderedMap.{MapCall, Edit, Get, Successor, Range, MapReply, OneValue, MapEdit, Delete, AllAbove, IsRising, applies, changes_map, delete, edit_by, edit_key, edit_of, edit_to, edited, first_pair, get, leaves, pair, pair_or_none, reply}
+use Rattle.arena.specs.declared.word.Side.{Side}
+use Rattle.arena.specs.declared.word.Side.TheVariants.{Left, Right}
+use Rattle.ordered_map.specs.MapLaws.{IsEndmost}
+use Rattle.ordered_map.specs.OrderedMap.{MapCall, Edit, Get, Successor, Range, MapReply, OneValue, MapEdit, Delete, IsRising, applies, changes_map, delete, edit_by, edit_key, edit_of, edit_to, edited, end_pair, first_pair, last_pair, spot, get, leaves, pair, pair_or_none, reply}
 use Rattle.ordered_map.specs.Requests.{edit_in, map_request}
 use Rattle.ordered_map.specs.Runs.{IsTreeRun, Makes}
 use Rattle.ordered_map.specs.Spelled.{Spells}
@@ -23,9 +26,9 @@ use Rattle.ordered_map.specs.declared.pair.Pair.{Pair}
 use Rattle.ordered_map.specs.declared.reply.Reply.TheVariants.{Value, Pair as PairOf, Pairs, Contended, NoMemory, Full as FullOf}
 use Rattle.ordered_map.specs.declared.request.Request.{Request}
 use Rattle.ordered_map.specs.declared.rule.Goal.{Goal}
-use Rattle.ordered_map.specs.declared.rule.Goal.TheVariants.{Key, Least}
+use Rattle.ordered_map.specs.declared.rule.Goal.TheVariants.{Key, End}
 use Rattle.ordered_map.specs.declared.rule.Rule.{Rule}
-use Rattle.ordered_map.proofs.Lemmas.{makes_since, one_spelling, win_first, win_makes}
+use Rattle.ordered_map.proofs.Lemmas.{deleted, delete_keeps, end_had, end_is, makes_since, one_spelling, win_end, win_makes}
 use Rattle.script.specs.declared.call.Call.{Call}
 use Rattle.script.specs.declared.command.Command.{Command}
 use Rattle.script.specs.declared.command.Command.TheVariants.{Map}
@@ -48,7 +51,7 @@ use Rattle.record.proofs.Lemmas.{value_told}
 use Rattle.moments.specs.declared.places.Change.{Change}
 use Rattle.moments.proofs.Lemmas.{ordered_placed}
 use Rattle.audit.specs.Asked.{IsAsked, IsReadAt, NeededSomething, NeededWithin}
-use Rattle.audit.specs.Edits.{IsEditBy, IsFirstLeaf, Suits}
+use Rattle.audit.specs.Edits.{IsEditBy, IsEndLeaf, Suits}
 use Rattle.audit.specs.declared.client.Client.{Client}
 use Rattle.audit.proofs.MapAnswers.{IsAnswered, either_fits, is_change, neither, spelled_within}
 use Rattle.audit.proofs.TurnMoments.{HasSpelled, answer_by, replied_by, to_change_by}
@@ -67,6 +70,20 @@ edit_is call goal rule e = absurd (let z : None ≡ Some (goal, rule) = e in cc)
 -- at a key with a value to which its rule applies it needs as many nodes as there
 pub need_at : (call : MapCall) (goal : Goal) (rule : Rule) (key : ℕ) (m : List Pair) (found : Option ℕ) → edit_in call ≡ Some (goal, rule) → goal ≡ Key key → get key m ≡ found → applies rule found ≡ true → need call m ≡ nodes_at found
 need_at call goal rule key m found is at had does = ap (λ (k : MapCall). need k m) (edit_is call goal rule is ∙ ap (λ (g : Goal). Edit g rule) at) ∙ ap (λ (o : Option ℕ). nodes_there rule (Some (key, o))) had ∙ ap (λ (b : Bool). cond b (nodes_at found) 0) does
+
+-- where a map has a pair there is one at each end
+end_some : (side : Side) (m : List Pair) (p : Pair) → first_pair m ≡ Some p → (q : Pair) × (end_pair side m ≡ Some q)
+end_some Left m p is = (p, is)
+end_some Right [] p is = absurd (let none : None ≡ Some p = is in cc)
+end_some Right (q ∷ qs) p is = (unwrap_or (last_pair qs) q, refl)
+
+-- so an edit at an end that changes any value needs one node
+pub need_end : (call : MapCall) (goal : Goal) (rule : Rule) (side : Side) (m : List Pair) (p : Pair) → edit_in call ≡ Some (goal, rule) → goal ≡ End side → first_pair m ≡ Some p → ((v : ℕ) → applies rule (Some v) ≡ true) → need call m ≡ 1
+need_end call goal rule side m p is at has does =
+    let there : (q : Pair) × (end_pair side m ≡ Some q) = end_some side m p has in
+    ap (λ (k : MapCall). need k m) (edit_is call goal rule is ∙ ap (λ (g : Goal). Edit g rule) at)
+    ∙ ap (λ (o : Option Pair). nodes_there rule (spot (End side) (pair_or_none o))) there.1
+    ∙ ap (λ (b : Bool). cond b (nodes_at (Some there.0.value)) 0) (does there.0.value)
 
 -- so it needed something
 pub needed_any : (calls : List Call) (lines : List Line) (r : Finished) (call : MapCall) (nodes : ℕ) → 0 < nodes → NeededWithin calls lines call nodes r → NeededSomething calls lines call r
@@ -148,7 +165,7 @@ module _ (lay : Layout) (tries c : ℕ) (now start : History) (kept : ℕ → Op
   -- a refusal for want of memory
   pub memory_right : (call : MapCall) → Fits call (MapAnswer NoMemory) → RightOf call (MapAnswer NoMemory)
   memory_right (Edit (Key key) rule) fits = neither fits
-  memory_right (Edit Least rule) fits = neither fits
+  memory_right (Edit (End side) rule) fits = neither fits
   memory_right (Get key) fits = neither fits
   memory_right (Successor key) fits = tt
   memory_right (Range low high most) fits = tt
@@ -212,12 +229,9 @@ module _ (lay : Layout) (tries : ℕ) (calls : List Call) (lines : List Line) (c
 
 -- What an entry does
 
--- the first pair of a map is what it has at that key
-first_had : (m : List Pair) (key v : ℕ) (found : Option ℕ) → first_pair m ≡ Some (pair key v) → get key m ≡ found → found ≡ Some v
-first_had [] key v found first is = absurd (let none : None ≡ Some (pair key v) = first in cc)
-first_had (p ∷ ps) key v found first is =
-    let same : p ≡ pair key v = cc in
-    sym is ∙ subst (λ (q : Pair). get key (q ∷ ps) ≡ Some v) (sym same) (ap (λ (b : Bool). cond b (Some v) (get key ps)) (eq-eqb key key refl))
+-- the pair at an end of a map is what it has at that key
+end_found : (side : Side) (m : List Pair) (key v : ℕ) (found : Option ℕ) → IsRising m → end_pair side m ≡ Some (pair key v) → get key m ≡ found → found ≡ Some v
+end_found side m key v found rises there is = sym is ∙ (subst (IsEndmost side m) there (end_is side m rises)).0
 
 -- a rule makes its edit where it applies
 applied : (rule : Rule) (key : ℕ) (found : Option ℕ) → applies rule found ≡ true → edit_by rule key found ≡ Some (edit_to key (leaves rule))
@@ -245,56 +259,48 @@ module _ (lay : Layout) (h : History) (row : StepRow) (e : Entered) (run : IsTre
       let found : get key map ≡ said (value h) (edit_key edit) (edit_leaf h e.scx edit) = ap (λ (k : ℕ). get k map) (sym own) ∙ at.replies map spells in
       applied rule key (get key map) (ap (applies rule) found ∙ suits) ∙ ap Some (sym is)
 
-  -- or of the first pair
-  made_first : (key : ℕ) (rule : Rule) → Makes lay h e.scx (Delete key) → leaves rule ≡ None → applies rule (said (value h) key (edit_leaf h e.scx (Delete key))) ≡ true → IsFirstLeaf h (edit_leaf h e.scx (Delete key)) key → (map : List Pair) → Spells lay (value h) map → edit_of (Edit Least rule) (reply (Edit Least rule) map) ≡ Some (Delete key)
-  made_first key rule x left suits first map spells =
+  -- or of the pair at an end
+  made_end : (side : Side) (key : ℕ) (rule : Rule) → Makes lay h e.scx (Delete key) → leaves rule ≡ None → applies rule (said (value h) key (edit_leaf h e.scx (Delete key))) ≡ true → IsEndLeaf side h (edit_leaf h e.scx (Delete key)) key → (map : List Pair) → Spells lay (value h) map → edit_of (Edit (End side) rule) (reply (Edit (End side) rule) map) ≡ Some (Delete key)
+  made_end side key rule x left suits last map spells =
       let at = win_makes lay (row ⊳ h) h row e.scx (Delete key) run (ends_self (row ⊳ h)) won (makes_since lay (row ⊳ h) h e.scx (Delete key) (inr (ends_self h)) x) in
-      let is : first_pair map ≡ Some (pair key first.first.0) = win_first lay h row e.scx (Delete key) run won x (first.path.0, first.path.1, first.path.3) first.leaf map spells ∙ first.first.1 in
-      let found : said (value h) key (edit_leaf h e.scx (Delete key)) ≡ Some first.first.0 = first_had map key first.first.0 (said (value h) key (edit_leaf h e.scx (Delete key))) is (at.replies map spells) in
-      ap (λ (o : Option Pair). edit_of (Edit Least rule) (pair_or_none o)) is ∙ applied rule key (Some first.first.0) (ap (applies rule) (sym found) ∙ suits) ∙ ap (λ (o : Option ℕ). Some (edit_to key o)) left
+      let is : end_pair side map ≡ Some (pair key last.there.0) = win_end side lay h row e.scx (Delete key) run won x (last.path.0, last.path.1, last.path.3) last.leaf map spells ∙ last.there.1 in
+      let found : said (value h) key (edit_leaf h e.scx (Delete key)) ≡ Some last.there.0 = end_found side map key last.there.0 (said (value h) key (edit_leaf h e.scx (Delete key))) spells.rising is (at.replies map spells) in
+      ap (λ (o : Option Pair). edit_of (Edit (End side) rule) (pair_or_none o)) is ∙ applied rule key (Some last.there.0) (ap (applies rule) (sym found) ∙ suits) ∙ ap (λ (o : Option ℕ). Some (edit_to key o)) left
 
   pub entry_makes : (call : MapCall) (edit : MapEdit) → Makes lay h e.scx edit → IsEditBy (Some call) edit → Suits (Some call) h e.scx edit → IsMapEntry call lay h e
   entry_makes (Edit (Key key) rule) edit x is suited = record { edit = edit; makes = x; of_map = made_at key rule edit x is suited.0 }
-  entry_makes (Edit Least rule) edit x (key, is, left) suited =
+  entry_makes (Edit (End side) rule) edit x (key, is, left) suited =
       let own : Makes lay h e.scx (Delete key) = subst (Makes lay h e.scx) is x in
-      let both : Suits (Some (Edit Least rule)) h e.scx (Delete key) = subst (Suits (Some (Edit Least rule)) h e.scx) is suited in
-      record { edit = Delete key; makes = own; of_map = made_first key rule own left both.0 both.1 }
+      let both : Suits (Some (Edit (End side) rule)) h e.scx (Delete key) = subst (Suits (Some (Edit (End side) rule)) h e.scx) is suited in
+      record { edit = Delete key; makes = own; of_map = made_end side key rule own left both.0 both.1 }
   entry_makes call edit x is suited = absurd is
 
--- an edit that leaves what is left without the first pair takes out the same key
-taken_key : (k : ℕ) (m : List Pair) (first : Pair) → IsRising m → first_pair m ≡ Some first → delete k m ≡ delete first.key m → k ≡ first.key
-taken_key k [] first rising is same = absurd (let none : None ≡ Some first = is in cc)
-taken_key k (p ∷ ps) first rising is same = go (ℕ_discrete k p.key)
+-- a delete that leaves what is left without a key of the map takes out the same key
+taken_key : (k key : ℕ) (m : List Pair) → IsRising m → (v : ℕ) × (get key m ≡ Some v) → delete k m ≡ delete key m → k ≡ key
+taken_key k key m rising had same = go (ℕ_discrete k key)
   where
-    first_is : p ≡ first
-    first_is = let e : Some p ≡ Some first = is in cc
-
-    left : delete first.key (p ∷ ps) ≡ ps
-    left = subst (λ (q : Pair). delete q.key (p ∷ ps) ≡ ps) first_is (ap (λ b. cond b ps (p ∷ delete p.key ps)) (eq-eqb p.key p.key refl))
-
-    go : Dec (k ≡ p.key) → k ≡ first.key
-    go (yes q) = q ∙ ap (λ (r : Pair). r.key) first_is
+    go : Dec (k ≡ key) → k ≡ key
+    go (yes q) = q
     go (no q) =
-        let all : p ∷ delete k ps ≡ ps = sym (ap (λ b. cond b ps (p ∷ delete k ps)) (ne_eqb k p.key q)) ∙ same ∙ left in
-        let above : AllAbove p.key (p ∷ delete k ps) = subst (AllAbove p.key) (sym all) rising.0 in
-        absurd (let i = above.0 in omega (arith, i))
+        let kept : Some had.0 ≡ None = sym had.1 ∙ sym (delete_keeps key k m (λ e. q (sym e))) ∙ ap (get key) same ∙ deleted key m rising in
+        absurd cc
 
 -- an entry of it is of the edit that it makes of the map which the words spell just before
 module _ (lay : Layout) (h : History) (row : StepRow) (e : Entered) (m : List Pair) (run : IsTreeRun lay (row ⊳ h)) (won : IsWin h row e.scx) (spells : Spells lay (value h) m) where
   left_by : (edit : MapEdit) → Makes lay h e.scx edit → Spells lay (value (row ⊳ h)) (edited edit m)
   left_by edit x = (win_makes lay (row ⊳ h) h row e.scx edit run (ends_self (row ⊳ h)) won (makes_since lay (row ⊳ h) h e.scx edit (inr (ends_self h)) x)).changes m spells
 
-  -- of the first pair there is one key that it can take out
-  taken_by : (key : ℕ) (rule : Rule) (edit : MapEdit) → Makes lay h e.scx (Delete key) → leaves rule ≡ None → Makes lay h e.scx edit → (first : Option Pair) → first_pair m ≡ first → edit_of (Edit Least rule) (pair_or_none first) ≡ Some edit → edit ≡ Delete key
-  taken_by key rule edit x left makes None is e' = absurd (let none : None ≡ Some edit = e' in cc)
-  taken_by key rule edit x left makes (Some p) is e' =
+  -- of the pair at an end there is one key that it can take out
+  taken_by : (side : Side) (key : ℕ) (rule : Rule) (edit : MapEdit) → Makes lay h e.scx (Delete key) → leaves rule ≡ None → Makes lay h e.scx edit → (there : Option Pair) → end_pair side m ≡ there → edit_of (Edit (End side) rule) (pair_or_none there) ≡ Some edit → edit ≡ Delete key
+  taken_by side key rule edit x left makes None is e' = absurd (let none : None ≡ Some edit = e' in cc)
+  taken_by side key rule edit x left makes (Some p) is e' =
       let own : edit ≡ Delete p.key = made_by rule p.key (Some p.value) edit e' ∙ ap (edit_to p.key) left in
       let same : delete key m ≡ delete p.key m = one_spelling lay (value (row ⊳ h)) (delete key m) (delete p.key m) (left_by (Delete key) x) (left_by (Delete p.key) (subst (Makes lay h e.scx) own makes)) in
-      own ∙ ap Delete (sym (taken_key key m p spells.rising is same))
+      own ∙ ap Delete (sym (taken_key key p.key m spells.rising (end_had side m p is) same))
 
   pub makes_on : (call : MapCall) (edit : MapEdit) → IsEditBy (Some call) edit → Makes lay h e.scx edit → IsMapEntry call lay h e → edit_of call (reply call m) ≡ Some edit
   makes_on (Edit (Key key) rule) edit by own x = x.of_map m spells ∙ ap Some (made_by rule key (get key m) x.edit (x.of_map m spells) ∙ sym by)
-  makes_on (Edit Least rule) edit (key, by, left) own x =
-      let same : x.edit ≡ Delete key = taken_by key rule x.edit (subst (Makes lay h e.scx) by own) left x.makes (first_pair m) refl (x.of_map m spells) in
+  makes_on (Edit (End side) rule) edit (key, by, left) own x =
+      let same : x.edit ≡ Delete key = taken_by side key rule x.edit (subst (Makes lay h e.scx) by own) left x.makes (end_pair side m) refl (x.of_map m spells) in
       x.of_map m spells ∙ ap Some (same ∙ sym by)
   makes_on call edit by own x = absurd x

@@ -1,5 +1,5 @@
 -- Edits that are asked of lists of pairs: where one is made, and what leaves that hold them show.
-use Rattle.std.proofs.Common.{◌≡◌, ◌≢◌, ℕ, zero, suc, ◌+◌, ◌*◌, ◌^◌, ◌<◌, ◌≤◌, Bool, true, false, cond, ◌&&◌, eqb, ltb, ◌⊎◌, inl, inr, List, [], ◌∷◌, ◌++◌, Option, Some, None, insert as put_in, length, remove, refl, sym, ◌∙◌, ap, subst, arith, append-nil, append_assoc, lt-ltb, le-ltb, eq-eqb, ne_eqb}
+use Rattle.std.proofs.Common.{◌≡◌, ◌≢◌, ℕ, zero, suc, ◌+◌, ◌-◌, ◌*◌, ◌^◌, ◌<◌, ◌≤◌, Bool, true, false, cond, ◌&&◌, eqb, ltb, ◌⊎◌, inl, inr, List, [], ◌∷◌, ◌++◌, Option, Some, None, insert as put_in, length, remove, unwrap_or, refl, sym, ◌∙◌, ap, subst, arith, append-nil, append_assoc, lt-ltb, le-ltb, eq-eqb, ne_eqb}
 use Rattle.std.specs.Cmp.Lexicographic.{pointwise}
 use Rattle.std.proofs.lemmas.Bool.{and_parts, eqb-true, ltb-true, ltb-false}
 use Rattle.std.proofs.lemmas.List.{map-append, length-append}
@@ -15,14 +15,14 @@ use Rattle.arena.specs.History.{History, value}
 use Rattle.arena.specs.ScxRecords.{plan, member, new, old}
 use Rattle.arena.specs.Words.{node, child}
 use Rattle.ordered_map.specs.declared.pair.Pair.{Pair}
-use Rattle.ordered_map.specs.OrderedMap.{MapEdit, Insert, Delete, AllAbove, AllBelow, AllFrom, pair, edit_key, edit_to, edited, first_pair}
+use Rattle.ordered_map.specs.OrderedMap.{MapEdit, Insert, Delete, AllAbove, AllBelow, AllFrom, pair, edit_key, edit_to, edited, first_pair, last_pair}
 use Rattle.ordered_map.specs.Holding.{slot_behind, pair_in, held_from, held_behind, held_pairs, IsWellCounted}
 use Rattle.ordered_map.specs.TreeWords.{class, is_leaf, level, rank, leaf_items, leaf_pairs, said, toward}
-use Rattle.ordered_map.specs.Edits.{IsAlike, IsLowLeaf, IsLastLeaf, IsSplitBy, IsLeafEdit}
+use Rattle.ordered_map.specs.Edits.{IsLowLeaf, IsLastLeaf, IsSplitBy, IsLeafEdit}
 use Rattle.ordered_map.specs.TreeShape.{EditsLeaf, leaf_plan}
 use Rattle.ordered_map.proofs.Lemmas.{edited_local, held_next, held_count, counted_few, low_items, high_items, low_pairs, high_pairs}
 use Rattle.record.specs.MapRecord.{number_pairs}
-use Rattle.audit.specs.Edits.{AreToward, IsInFront, key_in}
+use Rattle.audit.specs.Edits.{AreToward, IsAlike, IsInFront, key_in}
 
 -- The place of an edit
 
@@ -104,6 +104,14 @@ made key value ps qs at s stops (inr x) = ap (λ (rest : List (ℕ × ℕ)). num
 pub first_at : (ps : List (ℕ × ℕ)) (key : ℕ) → key_in ps 0 ≡ Some key → (v : ℕ) × (first_pair (number_pairs ps) ≡ Some (pair key v))
 first_at [] key e = absurd (let z : None ≡ Some key = e in cc)
 first_at (p ∷ ps) key e = let same : Some p.0 ≡ Some key = e in let is : p.0 ≡ key = cc in (p.1, ap (λ (k : ℕ). Some (pair k p.1)) is)
+
+-- the last pair
+pub last_at : (ps : List (ℕ × ℕ)) (key : ℕ) → key_in ps (length ps - 1) ≡ Some key → (v : ℕ) × (last_pair (number_pairs ps) ≡ Some (pair key v))
+last_at [] key e = absurd (let z : None ≡ Some key = e in cc)
+last_at (p ∷ []) key e = first_at (p ∷ []) key e
+last_at (p ∷ q ∷ ps) key e =
+    let x : (v : ℕ) × (last_pair (number_pairs (q ∷ ps)) ≡ Some (pair key v)) = last_at (q ∷ ps) key (subst (λ (n : ℕ). key_in (p ∷ q ∷ ps) n ≡ Some key) (let z : length (p ∷ q ∷ ps) - 1 ≡ suc (length (q ∷ ps) - 1) = omega arith in z) e) in
+    (x.0, ap (λ o. Some (unwrap_or o (number_pair p))) x.1)
 
 -- the key of an edit, whatever it leaves to that
 pub key_of_edit : (key : ℕ) (value : Option ℕ) → edit_key (edit_to key value) ≡ key
@@ -236,7 +244,8 @@ module _ (f : Word → ℕ) where
     items = split_items (edit_to key value) l x y (rw (key_of_edit key value) small) s.first.class s.last s.pairs;
     before = subst (AllBelow (rank f c)) (sym (low_both x s.first.class)) (toward_left c (leaf_pairs f x) s.before);
     behind = last_behind c y s.between s.behind;
-    above = λ d. record { class = s.between.class ∙ s.last.same_class; key = s.between.key ∙ s.last.key (λ z. d (s.between.class ∙ z)) };
+    same_class = s.between.class ∙ s.last.same_class;
+    key = λ d. s.between.key ∙ s.last.key (λ z. d (s.between.class ∙ z));
     deep = s.deep;
     low = s.low;
     high = s.high;

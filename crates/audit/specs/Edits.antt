@@ -4,15 +4,16 @@ use Rattle.arena.specs.declared.layout.Layout.{Layout}
 use Rattle.arena.specs.declared.step.Row.{Row}
 use Rattle.arena.specs.declared.word.Side.{Side}
 use Rattle.arena.specs.declared.word.Word.{Word}
+use Rattle.arena.specs.Words.{node, first_key}
 use Rattle.arena.specs.History.{History, ◌⊳◌, value, Extends}
 use Rattle.arena.specs.Shape.{IsBegin}
-use Rattle.ordered_map.specs.OrderedMap.{MapCall, MapEdit, Edit, Insert, Delete, applies, edit_key, edit_to, first_pair, leaves, pair}
-use Rattle.ordered_map.specs.Paths.{Passed}
+use Rattle.ordered_map.specs.OrderedMap.{MapCall, MapEdit, Edit, Insert, Delete, applies, edit_key, edit_to, end_pair, leaves, pair}
+use Rattle.ordered_map.specs.Paths.{Passed, end_key}
 use Rattle.ordered_map.specs.TreeShape.{MayEdit, edit_leaf}
 use Rattle.ordered_map.specs.declared.pair.Pair.{Pair}
 use Rattle.ordered_map.specs.declared.rule.Goal.{Goal}
-use Rattle.ordered_map.specs.declared.rule.Goal.TheVariants.{Key, Least}
-use Rattle.ordered_map.specs.TreeWords.{is_leaf, leaf_pairs, said, toward}
+use Rattle.ordered_map.specs.declared.rule.Goal.TheVariants.{Key, End}
+use Rattle.ordered_map.specs.TreeWords.{class, is_leaf, leaf_pairs, said, toward}
 use Rattle.record.specs.MapRecord.{map_call}
 use Rattle.judge.specs.declared.judge.Judge.{Judge}
 use Rattle.judge.specs.Histories.{seen_history}
@@ -36,27 +37,32 @@ IsInFront e None = ⊥
 IsInFront (Insert k v) (Some key) = key < k
 IsInFront (Delete k) (Some key) = key ≢ k
 
+-- n has the class and the key of m
+pub record IsAlike (f : Word → ℕ) (n m : ℕ) : Type 0 where
+  pub class : class f n ≡ class f m
+  pub key : f (node n first_key) ≡ f (node m first_key)
+
 -- the keys of these pairs are words, and all stand on this side of the fork n
 abbrev pub AreToward : (Word → ℕ) → ℕ → Side → List Pair → Type 0
 AreToward f n side [] = Unit {0}
 AreToward f n side (p ∷ ps) = (p.key < 2 ^ 64) × (toward f n p.key ≡ side) × AreToward f n side ps
 
--- the call may make this edit: at its key; or, of the first pair, one that takes out some key
+-- the call may make this edit: at its key; or, of the pair at an end, one that takes out some key
 abbrev pub IsEditBy : Option MapCall → MapEdit → Type 0
 IsEditBy (Some (Edit (Key key) rule)) edit = edit ≡ edit_to key (leaves rule)
-IsEditBy (Some (Edit Least rule)) edit = (key : ℕ) × (edit ≡ Delete key) × (leaves rule ≡ None)
+IsEditBy (Some (Edit (End side) rule)) edit = (key : ℕ) × (edit ≡ Delete key) × (leaves rule ≡ None)
 IsEditBy _ edit = ⊥
 
--- n is the first leaf of the tree, and this is its first key
-pub record IsFirstLeaf (h : History) (n key : ℕ) : Type 0 where
-  pub path : Passed h h 0 n
+-- n is the leaf at this end of the tree, and this is its key there
+pub record IsEndLeaf (side : Side) (h : History) (n key : ℕ) : Type 0 where
+  pub path : Passed h h (end_key side) n
   pub leaf : is_leaf (value h) n ≡ true
-  pub first : (v : ℕ) × (first_pair (leaf_pairs (value h) n) ≡ Some (pair key v))
+  pub there : (v : ℕ) × (end_pair side (leaf_pairs (value h) n) ≡ Some (pair key v))
 
 -- it is where a call with this goal goes
 abbrev pub IsLeafFor : Goal → History → ℕ → ℕ → Type 0
 IsLeafFor (Key k) h n key = Unit {0}
-IsLeafFor Least h n key = IsFirstLeaf h n key
+IsLeafFor (End side) h n key = IsEndLeaf side h n key
 
 -- the leaf that the SCX-record covers for its edit suits the call, which changes what that says
 abbrev pub Suits : Option MapCall → History → ℕ → MapEdit → Type 0

@@ -6,15 +6,15 @@ ghost use Rattle.arena.specs.Fills.{IsNamed};
 ghost use Rattle.arena.specs.Words.{child as child_of, info, scx as scx_of};
 ghost use Rattle.arena.specs.declared.word.Side.{Side as SideOf};
 ghost use Rattle.arena.specs.declared.word.Side.TheVariants.{Left, Right};
-ghost use Rattle.ordered_map.specs.Edits.{IsAlike, IsLastLeaf, IsSwapBy, IsSplitBy, IsJoinBy, IsCopyOf, HasFieldsOf};
+ghost use Rattle.ordered_map.specs.Edits.{IsLastLeaf, IsSwapBy, IsSplitBy, IsJoinBy, IsCopyOf, HasFieldsOf};
 ghost use Rattle.ordered_map.specs.Holding.{held_pairs, IsWellCounted};
 ghost use Rattle.ordered_map.specs.Paths.{Passed};
 ghost use Rattle.ordered_map.specs.Runs.{IsTreeRun};
 ghost use Rattle.ordered_map.specs.TreeShape.{EditsLeaf, TakesLeafOut, IsEdit, leaf_plan, join_plan, leaf_place as leaf_place_of, sibling_place as sibling_place_of, edit_leaf};
 ghost use Rattle.ordered_map.specs.TreeWords.{class, is_leaf, level, leaf_pairs, said, toward as toward_of};
-ghost use Rattle.ordered_map.specs.OrderedMap.{Edit, edit_key, edited, first_pair, pair};
+ghost use Rattle.ordered_map.specs.OrderedMap.{Edit, edit_key, edited, first_pair, last_pair, pair};
 ghost use Rattle.record.specs.MapRecord.{map_call, number_pairs};
-ghost use Rattle.audit.specs.Edits.{AreToward, IsEditBy, IsFirstLeaf, IsInFront, IsSuited, MayMakeEdit, edit_begun, key_in, word_now};
+ghost use Rattle.audit.specs.Edits.{AreToward, IsAlike, IsEditBy, IsInFront, IsLeafFor, IsSuited, MayMakeEdit, edit_begun, key_in, word_now};
 ghost use Rattle.judge.specs.Histories.{seen_history};
 
 use crate::leaves::{
@@ -23,7 +23,7 @@ use crate::leaves::{
 };
 use arena::{NodeNo, NodeWord, Plan, ScxNo, ScxWord, SettledPart, Side, Word};
 use judge::Judge;
-use ordered_map::{Goal, Rule};
+use ordered_map::{Goal, Rule, end_slot};
 use script::Command;
 
 /// An SCX-record that has begun: it makes an edit, which leaves this value to this key, for a call
@@ -36,8 +36,8 @@ pub(crate) struct Begun {
 }
 
 /// The edit that an SCX-record is about to make for a call: below a fork on the search path of its
-/// key, and of a leaf that suits the call, unless it is to take the first pair out and can win no
-/// more.
+/// key, and of a leaf that suits the call, unless it is to take the pair at an end out and can win
+/// no more.
 pub(crate) fn begun_for(judge: &Judge, scx: u64, command: &Command) -> Option<Begun>
     requires { IsTreeRun judge.now.layout (seen_history judge.now) }
     ensures command { IfSome result (λ begun. begun.command ≡ command.now) }
@@ -45,7 +45,7 @@ pub(crate) fn begun_for(judge: &Judge, scx: u64, command: &Command) -> Option<Be
 {
     let (goal, rule) = edit_in(command)?;
     let begun = edit_for(judge, scx, command, goal, rule)?;
-    let is_late = matches!(goal, Goal::Least) && !is_as_seen(judge, scx, 1);
+    let is_late = matches!(goal, Goal::End(_)) && !is_as_seen(judge, scx, 1);
     if is_edit(judge, scx, &begun)
         && is_fork_on_path(judge, begun.key, member(judge, scx, 0))
         && (is_late || suits(judge, scx, &begun))
@@ -66,8 +66,8 @@ fn edit_in(command: &Command) -> Option<(Goal, Rule)>
     }
 }
 
-/// The edit that a call with this command is to make by an SCX-record: of the first pair, which it
-/// may only take out, the key is the first one of its leaf.
+/// The edit that a call with this command is to make by an SCX-record: of the pair at an end, which it
+/// may only take out, the key is the one at that end of its leaf.
 fn edit_for(judge: &Judge, scx: u64, command: &Command, goal: Goal, rule: Rule) -> Option<Begun>
     requires { map_call (Some command.now) ≡ Some (Edit goal rule) }
     ensures command { IfSome result (λ begun. begun.command ≡ command.now) }
@@ -76,8 +76,8 @@ fn edit_for(judge: &Judge, scx: u64, command: &Command, goal: Goal, rule: Rule) 
 {
     let key = match goal {
         Goal::Key(key) => key,
-        Goal::Least if rule.leaves().is_none() => key_of(judge, taken_leaf(judge, scx)),
-        Goal::Least => return None,
+        Goal::End(side) if rule.leaves().is_none() => end_key(judge, scx, side),
+        Goal::End(_) => return None,
     };
     Some(Begun {
         command: *command,
@@ -86,15 +86,30 @@ fn edit_for(judge: &Judge, scx: u64, command: &Command, goal: Goal, rule: Rule) 
     })
 }
 
-/// The leaf out of which the first key may be taken by an SCX-record: of two nodes the second, of
-/// four the left child, which is the third.
-fn taken_leaf(judge: &Judge, scx: u64) -> u64 {
-    let place = if covers_two(judge, scx) { 1 } else { 2 };
-    member(judge, scx, place)
+/// The leaf out of which the key at an end may be taken by an SCX-record: of two nodes the second, of
+/// four the child on that side, unless this is above all keys.
+fn taken_leaf(judge: &Judge, scx: u64, side: Side) -> u64 {
+    let right = member(judge, scx, 3);
+    if covers_two(judge, scx) {
+        member(judge, scx, 1)
+    } else if side == Side::Right && head(judge, right).class == 0 {
+        right
+    } else {
+        member(judge, scx, 2)
+    }
+}
+
+/// The key at this end of the leaf out of which an SCX-record may take it.
+fn end_key(judge: &Judge, scx: u64, side: Side) -> u64
+    ensures { result < 2 ^ 64 }
+{
+    let leaf = taken_leaf(judge, scx, side);
+    let slot = end_slot(side, settled(judge, leaf, SettledPart::More));
+    settled(judge, leaf, SettledPart::Key(slot))
 }
 
 /// Whether the leaf that an SCX-record covers for its edit suits the call that it has begun for: the
-/// call changes what that says of the key, and, of the first pair, it is the tree's first leaf.
+/// call changes what that says of the key, and, of the pair at an end, it is the tree's leaf there.
 pub(crate) fn suits(judge: &Judge, scx: u64, begun: &Begun) -> bool
     requires { IsTreeRun judge.now.layout (seen_history judge.now) }
     ensures { IsTrue result → IsSuited (seen_history judge.now) scx begun.now }
@@ -106,7 +121,22 @@ pub(crate) fn suits(judge: &Judge, scx: u64, begun: &Begun) -> bool
     head(judge, leaf).leaf
         && is_readable(judge, leaf)
         && rule.applies(said(judge, leaf, begun.key))
-        && (matches!(goal, Goal::Key(_)) || is_first_leaf(judge, leaf, begun.key))
+        && is_leaf_for(judge, goal, leaf, begun.key)
+}
+
+/// Whether a leaf is where an edit with this goal goes.
+fn is_leaf_for(judge: &Judge, goal: Goal, leaf: u64, key: u64) -> bool
+    requires tree { IsTreeRun judge.now.layout (seen_history judge.now) }
+    requires leaf { is_leaf (word_now judge.now) leaf ≡ true }
+    requires readable { class (word_now judge.now) leaf ≡ 0 → IsWellCounted (word_now judge.now) leaf }
+    ensures { IsTrue result → IsLeafFor goal (seen_history judge.now) leaf key }
+{
+    match goal {
+        Goal::Key(_) => true,
+        Goal::End(Side::Left) => is_first_key(judge, leaf, key) && is_on_path(judge, 0, leaf),
+        Goal::End(Side::Right) => is_last_key(judge, leaf, key)
+            && is_on_path(judge, u64::MAX, leaf),
+    }
 }
 
 /// The leaf where the key of an SCX-record's edit stands, or would: the second of two nodes, or one
@@ -127,16 +157,6 @@ fn covers_two(judge: &Judge, scx: u64) -> bool
     Plan(scx_word(judge, scx, ScxWord::Plan)).count() == 2
 }
 
-/// Whether a leaf is the first one of the tree, and this is its first key.
-fn is_first_leaf(judge: &Judge, leaf: u64, key: u64) -> bool
-    requires tree { IsTreeRun judge.now.layout (seen_history judge.now) }
-    requires leaf { is_leaf (word_now judge.now) leaf ≡ true }
-    requires readable { class (word_now judge.now) leaf ≡ 0 → IsWellCounted (word_now judge.now) leaf }
-    ensures { IsTrue result → IsFirstLeaf (seen_history judge.now) leaf key }
-{
-    is_first_key(judge, leaf, key) && is_on_path(judge, 0, leaf)
-}
-
 /// Whether this is the first key that a leaf gives the map.
 fn is_first_key(judge: &Judge, leaf: u64, key: u64) -> bool
     requires readable { class (word_now judge.now) leaf ≡ 0 → IsWellCounted (word_now judge.now) leaf }
@@ -144,6 +164,15 @@ fn is_first_key(judge: &Judge, leaf: u64, key: u64) -> bool
 {
     let pairs = given(judge, leaf);
     key_in(pairs.as_slice(), 0) == Some(key)
+}
+
+/// Whether this is the last key that a leaf gives the map.
+fn is_last_key(judge: &Judge, leaf: u64, key: u64) -> bool
+    requires readable { class (word_now judge.now) leaf ≡ 0 → IsWellCounted (word_now judge.now) leaf }
+    ensures { IsTrue result → (v : ℕ) × (last_pair (leaf_pairs (word_now judge.now) leaf) ≡ Some (pair key v)) }
+{
+    let pairs = given(judge, leaf);
+    key_in(pairs.as_slice(), pairs.len().saturating_sub(1)) == Some(key)
 }
 
 /// What the edit of an SCX-record makes of the pairs of a leaf.

@@ -209,7 +209,7 @@ fn tells_pairs(request: &Request<u64, u128>, told: &Reply<u64, u128>) -> bool
     match (request, told) {
         (Request::Range { .. }, Reply::Pairs(_)) => true,
         (Request::Successor { key: _ }, Reply::Pair(_)) => true,
-        (_, Reply::Pair(_)) => matches!(request.edit(), Some((Goal::Least, _))),
+        (_, Reply::Pair(_)) => matches!(request.edit(), Some((Goal::End(_), _))),
         _ => false,
     }
 }
@@ -306,7 +306,7 @@ fn needed_one(places: &Places, request: &Request<u64, u128>, reply: &Finished) -
     match (goal, rule.expects()) {
         (Goal::Key(key), Some(value)) => had(places, key, Some(value), reply),
         (Goal::Key(key), None) => rule.applies_to_all() && had_some(places, key, reply),
-        (Goal::Least, _) => rule.applies_to_all() && had_pair(places, reply),
+        (Goal::End(_), _) => rule.applies_to_all() && had_pair(places, reply),
     }
 }
 

@@ -4,7 +4,7 @@ use Rattle.arena.specs.History.{History}
 use Rattle.arena.specs.Machines.{Call}
 use Rattle.ordered_map.specs.CallRules.{call_rules}
 use Rattle.order.specs.Laws.Run.{read_asks, read_fills_not}
-use Rattle.tree.proofs.Lemmas.{get_loads}
+use Rattle.template.proofs.Lemmas.{walk_loads}
 use Rattle.dict.specs.Calls.{AsksForPairs, inner_call}
 use Rattle.dict.specs.Known.{WaitsInside}
 use Rattle.dict.specs.Inner.{InnerRun}
@@ -13,12 +13,12 @@ use Rattle.dict.specs.Laws.Kinds.{IsOfKind}
 
 -- a call that waits for a step asks for pairs, if it is a range
 pub asks_inside : (m : InnerRun) → IsOfKind m → (c : Call) (h : History) (s : Step) → WaitsInside m c h s → AsksForPairs (inner_call m)
-asks_inside (runs.Update k m) kind c h s w = (kind.edits m.edit).asks
-asks_inside (runs.Get m share) kind c h s w = tt
+asks_inside (runs.Update m) kind c h s w = tt
+asks_inside (runs.Get key walk share) kind c h s w = tt
 asks_inside (runs.Read k m share) kind c h s w = kind.asks m.read (read_asks k.means m c h s w.0)
 
 -- the step that a call waits for is of one of its kinds
 pub kind_inside : (m : InnerRun) → IsOfKind m → (c : Call) (h : History) (s : Step) → WaitsInside m c h s → (call_rules (inner_call m)).MayMake s.kind
-kind_inside (runs.Update k m) kind c h s w = (kind.edits m.edit).kinds s.kind
-kind_inside (runs.Get m share) kind c h s w = (get_loads m c h s w.0).0
+kind_inside (runs.Update m) kind c h s w = tt
+kind_inside (runs.Get key walk share) kind c h s w = (walk_loads walk c h s w.0.0).0
 kind_inside (runs.Read k m share) kind c h s w = kind.kinds m.read s.kind (read_asks k.means m c h s w.0) (read_fills_not k.means m c h s w.0)

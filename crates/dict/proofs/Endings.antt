@@ -1,5 +1,5 @@
 -- What the answers of the machines inside say of the call, in words.
-use Rattle.std.proofs.Common.{◌≡◌, ◌≢◌, ℕ, ◌+◌, ◌-◌, ◌*◌, ◌<◌, ◌≤◌, inl, inr, List, Option, Result, Ok, Err, refl, sym, ◌∙◌, ap, subst, arith}
+use Rattle.std.proofs.Common.{◌≡◌, ◌≢◌, ℕ, ◌+◌, ◌-◌, ◌*◌, ◌^◌, ◌<◌, ◌≤◌, inl, inr, List, Option, Result, Ok, Err, refl, sym, ◌∙◌, ap, subst, arith}
 use Rattle.std.proofs.Math.Nat.{mul-add, mul-le-mul_left}
 use Rattle.std.specs.Option.{option_map}
 use Rattle.arena.specs.History.{History, ◌⊳◌, value, Extends}
@@ -10,21 +10,22 @@ use Rattle.order.specs.Known.{HasReplied, ReadAnswers}
 use Rattle.order.specs.declared.refused.Refused.{Refused}
 use Rattle.order.specs.declared.refused.Refused.TheVariants as refused
 use Rattle.order.specs.declared.run.ReadRun.{ReadRun}
-use Rattle.ordered_map.specs.OrderedMap.{MapCall, MapEdit, Get, OneValue, edit_key, get, pair, pair_or_none, reply, goal_told}
+use Rattle.ordered_map.specs.OrderedMap.{MapCall, MapEdit, Edit, Get, OneValue, edit_key, get, pair, pair_or_none, reply, goal_told}
 use Rattle.ordered_map.specs.Runs.{IsTreeRun}
 use Rattle.ordered_map.specs.Spelled.{Spells}
 use Rattle.ordered_map.specs.declared.pair.Pair.{Pair}
 use Rattle.ordered_map.proofs.Lemmas.{run_since, run_spells}
 use Rattle.template.specs.Blame.{IsContended, HasLostTriesTo}
 use Rattle.template.specs.FoundLeaf.{asked_key, HasFoundGoal}
-use Rattle.template.specs.Tries.{tries_since, HasTriedAtMost, HasTriedAllBut}
+use Rattle.template.specs.Tries.{HasTriedAtMost, HasTriedAllBut}
 use Rattle.template.proofs.Lemmas.{tried_few}
 use Rattle.template.specs.declared.walk.Found.{Found}
 use Rattle.ordered_map.specs.declared.rule.Goal.{Goal}
-use Rattle.ordered_map.specs.declared.rule.Goal.TheVariants.{Key as ToKey, Least}
-use Rattle.tree.specs.Get.Known.{GetAnswers}
-use Rattle.tree.specs.declared.get.GetRun.{GetRun}
-use Rattle.edits.specs.Known.{RestsWith, HasLostEveryTry, HasMade, IsDoneAt, IsUpdateAnswer, ToldFirst}
+use Rattle.ordered_map.specs.declared.rule.Goal.TheVariants.{Key as ToKey, End}
+use Rattle.ordered_map.specs.declared.rule.Rule.{Rule}
+use Rattle.tree.specs.declared.key_edit.KeyEdit.{KeyEdit}
+use Rattle.edits.specs.Edits.{says}
+use Rattle.edits.specs.Known.{RestsWith, HasLostEveryTry, HasMade, IsDoneAt, IsUpdateAnswer, ToldEnd}
 use Rattle.edits.specs.Pieces.{many_nodes}
 use Rattle.edits.specs.Steps.{Spends}
 use Rattle.edits.specs.Tries.{HasEnteredNone, HasOnlyLooked}
@@ -34,15 +35,15 @@ use Rattle.edits.specs.declared.update.UpdateAt.{UpdateAt}
 use Rattle.edits.specs.declared.update.UpdateRun.{UpdateRun}
 use Rattle.edits.specs.declared.update.Updated.{Updated}
 use Rattle.edits.specs.declared.update.Updated.TheVariants.{Done, Contended, Full}
-use Rattle.ordered_map.specs.CallRules.{most_nodes}
+use Rattle.ordered_map.specs.CallRules.{most_nodes, nodes_in_try}
 use Rattle.dict.specs.Calls.{most_tries, HasSpent, IsSmallCall}
 use Rattle.dict.specs.Goals.{leaf_told}
-use Rattle.dict.specs.Inner.{EditKind, ReadKind}
+use Rattle.dict.specs.Inner.{ReadKind, edit_means}
 use Rattle.dict.specs.Known.{HasRested, HasSpentSo}
 use Rattle.dict.specs.Says.{WordSays, IsRefusal, HasLost, HasMadeEdit, HasNeeded, HasReadMap, HasTold, HasToldBy, TellsOfMap}
-use Rattle.dict.specs.Laws.Kinds.{IsEditing, IsEditKind, IsReadKind}
+use Rattle.dict.specs.Laws.Kinds.{IsReadKind, edit_at_found, edit_changes, edit_needs, edit_reads, edit_small}
 use Rattle.dict.specs.WordReplies.{WordReply, goal_reply, edit_reply, read_reply, told_in}
-use Rattle.dict.proofs.Readings.{NeededAs, none_entered, answer_read, reply_read, always_read, leaf_read, leaf_needed, ran_out}
+use Rattle.dict.proofs.Readings.{NeededAs, none_entered, reply_read, always_read, leaf_read, leaf_needed, ran_out}
 
 -- what needs something needs some nodes
 needs_some : (want : Need) → want ≢ Nothing → 0 < many_nodes want
@@ -52,12 +53,12 @@ needs_some Three d = omega arith
 
 module _ (tries : ℕ) (c : Call) (h : History) where
   -- just before an edit is made its leaf tells what the map replies
-  made_told : (goal : Goal) (e : MapEdit) (number : ℕ) (f : Found) → edit_key e ≡ asked_key goal f.key → (x : HasMade e c h number f.value) → ToldFirst goal c.layout x.before f → (map : List Pair) → Spells c.layout (value x.before) map → goal_told goal map ≡ leaf_told goal f
+  made_told : (goal : Goal) (e : MapEdit) (number : ℕ) (f : Found) → edit_key e ≡ asked_key goal f.key → (x : HasMade e c h number f.value) → ToldEnd goal c.layout x.before f → (map : List Pair) → Spells c.layout (value x.before) map → goal_told goal map ≡ leaf_told goal f
   made_told (ToKey k) e number f at x first map s = ap OneValue (ap (λ q. get q map) (sym at) ∙ x.told map s)
-  made_told Least e number f at x first map s = ap pair_or_none (first map s)
+  made_told (End side) e number f at x first map s = ap pair_or_none (first map s)
 
   -- so does the call that it serves
-  made_edit : (call : MapCall) (goal : Goal) (e : MapEdit) (f : Found) → ((map : List Pair) → reply call map ≡ goal_told goal map) → edit_key e ≡ asked_key goal f.key → IsTreeRun c.layout h → (x : HasMade e c h c.number f.value) → ToldFirst goal c.layout x.before f → HasMadeEdit c h call (leaf_told goal f) e
+  made_edit : (call : MapCall) (goal : Goal) (e : MapEdit) (f : Found) → ((map : List Pair) → reply call map ≡ goal_told goal map) → edit_key e ≡ asked_key goal f.key → IsTreeRun c.layout h → (x : HasMade e c h c.number f.value) → ToldEnd goal c.layout x.before f → HasMadeEdit c h call (leaf_told goal f) e
   made_edit call goal e f walks at run x first =
       let within : Extends h x.before = ends_trans h (x.row ⊳ x.before) x.before x.within (inr (ends_self x.before)) in
       let map : (m : List Pair) × Spells c.layout (value x.before) m = run_spells c.layout x.before (run_since c.layout h x.before run within) in
@@ -66,12 +67,12 @@ module _ (tries : ℕ) (c : Call) (h : History) where
   -- what a leaf of this key and this value tells is what the update replies that is done there
   done_says : (goal : Goal) (call : MapCall) (f : Found) (key : ℕ) (old : Option ℕ) → f.key ≡ key → f.value ≡ old → HasTold c h call (leaf_told goal f) → TellsOfMap c h call (told_in (goal_reply goal key old))
   done_says (ToKey k) call f key old is_key is_value x = subst (λ v. HasTold c h call (OneValue v)) is_value x
-  done_says Least call f key old is_key is_value x = subst (λ p. HasTold c h call (pair_or_none p)) (λ i. option_map (pair (is_key i)) (is_value i)) x
+  done_says (End side) call f key old is_key is_value x = subst (λ p. HasTold c h call (pair_or_none p)) (λ i. option_map (pair (is_key i)) (is_value i)) x
 
   -- and is no refusal
   done_refuses : (goal : Goal) (call : MapCall) (share : Remaining) (key : ℕ) (old : Option ℕ) → IsRefusal c h call share tries (goal_reply goal key old)
   done_refuses (ToKey k) call share key old = tt
-  done_refuses Least call share key old = tt
+  done_refuses (End side) call share key old = tt
 
   -- where it has so many tries, so many are lost
   lost : {limit n s : ℕ} → limit ≡ tries → HasLostTriesTo c.pass h c.start limit n s → HasLostTriesTo c.pass h c.start tries n s
@@ -84,31 +85,31 @@ module _ (tries : ℕ) (c : Call) (h : History) where
     none = none;
   }
 
-  module _ (k : EditKind) (is : IsEditKind k) (m : UpdateRun k.E UpdateAt) (run : IsTreeRun c.layout h) (small : IsSmallCall (k.call m.edit)) where
+  module _ (m : UpdateRun (KeyEdit Goal Rule) UpdateAt) (run : IsTreeRun c.layout h) (small : IsSmallCall (Edit m.edit.goal m.edit.rule)) where
     abbrev call : MapCall
-    call = k.call m.edit
+    call = Edit m.edit.goal m.edit.rule
 
     abbrev goal : Goal
-    goal = k.means.goal m.edit
+    goal = m.edit.goal
 
     -- the leaf that it has found tells what the map replied
     edit_read : (f : Found) → HasFoundGoal goal c h f → HasEnteredNone c.layout c.pass h c.start → HasOnlyLooked c.pass h c.start → HasReadMap c h call (leaf_told goal f)
-    edit_read f found none only_looked = leaf_read c h call goal f (is.walks m.edit) (is.small m.edit small) run found none only_looked
+    edit_read f found none only_looked = leaf_read c h call goal f (λ map. refl) (edit_small m.edit.goal m.edit.rule small) run found none (λ some. only_looked)
 
     -- an edit that is done has changed the map, or has read it
-    edit_done : (f : Found) → m.call ≡ c.number → IsDoneAt k.means m.edit m.call c h f → HasTold c h call (leaf_told goal f)
-    edit_done f number (inl x) = subst (λ made. HasToldBy made c h call (leaf_told goal f)) (sym (is.reads m.edit f x.needless)) (edit_read f x.has_found x.none x.only_looked)
+    edit_done : (f : Found) → m.call ≡ c.number → IsDoneAt (says edit_means m.edit) m.call c h f → HasTold c h call (leaf_told goal f)
+    edit_done f number (inl x) = subst (λ made. HasToldBy made c h call (leaf_told goal f)) (sym (edit_reads m.edit f x.needless)) (edit_read f x.has_found x.none x.only_looked)
     edit_done f number (inr x) =
-        let edit : MapEdit = k.means.edit m.edit f in
-        let made : (made : HasMade edit c h c.number f.value) × ToldFirst goal c.layout made.before f = subst (λ n. (made : HasMade edit c h n f.value) × ToldFirst goal c.layout made.before f) number (x.0, x.2) in
-        subst (λ made. HasToldBy made c h call (leaf_told goal f)) (sym (is.changes m.edit f x.1.needed)) (made_edit call goal edit f (is.walks m.edit) (is.at_found m.edit f) run made.0 made.1)
+        let edit : MapEdit = edit_means.edit m.edit f in
+        let made : (made : HasMade edit c h c.number f.value) × ToldEnd goal c.layout made.before f = subst (λ n. (made : HasMade edit c h n f.value) × ToldEnd goal c.layout made.before f) number (x.0, x.2) in
+        subst (λ made. HasToldBy made c h call (leaf_told goal f)) (sym (edit_changes m.edit f x.1.needed)) (made_edit call goal edit f (λ map. refl) (edit_at_found m.edit f) run made.0 made.1)
 
     -- what it needs at a leaf that it has found, the map needs at a moment of the call
-    edit_needed : (then : Call) (moment : History) → IsTreeRun then.layout moment → (f : Found) → HasFoundGoal goal then moment f → k.means.needs m.edit f ≢ Nothing → NeededAs then.layout then.pass moment then.start call (k.means.needs m.edit f)
-    edit_needed then moment so f found needed = leaf_needed then moment call goal f (k.means.needs m.edit f) (is.walks m.edit) (is.small m.edit small) so found (λ map e. is.needs m.edit f map e) (needs_some (k.means.needs m.edit f) needed)
+    edit_needed : (then : Call) (moment : History) → IsTreeRun then.layout moment → (f : Found) → HasFoundGoal goal then moment f → edit_means.needs m.edit f ≢ Nothing → NeededAs then.layout then.pass moment then.start call (edit_means.needs m.edit f)
+    edit_needed then moment so f found needed = leaf_needed then moment call goal f (edit_means.needs m.edit f) (λ map. refl) (edit_small m.edit.goal m.edit.rule small) so found (edit_needs m.edit f) (needs_some (edit_means.needs m.edit f) needed)
 
     -- one that has lost all its tries had something to do in the newest
-    edit_lost : (n s : ℕ) → m.limit ≡ tries → HasLostEveryTry k.means m.edit c h m.limit n s → HasLost c h call tries n s
+    edit_lost : (n s : ℕ) → m.limit ≡ tries → HasLostEveryTry (says edit_means m.edit) c h m.limit n s → HasLost c h call tries n s
     edit_lost n s limit x = subst (λ t. HasLost c h call t n s) limit record { lost = record { others = x.way.others; all = x.all; over_or_new = x.way.over_or_new; needed = λ some. needed }; none = x.none }
       where
         begin : History
@@ -120,17 +121,17 @@ module _ (tries : ℕ) (c : Call) (h : History) where
         needed : HasNeeded c.layout c.pass h begin call
         needed = let y = (edit_needed (begun_at c begin) moment (run_since c.layout h moment run x.needed.within) x.found x.needed.has_found x.needed.needed).needed in record { moment = y.moment; within = ends_trans h moment y.moment x.needed.within y.within; since = y.since; own = y.own; map = y.map; spelled = y.spelled; some = y.some }
 
-    pub edit_says : (a : Updated) → m.call ≡ c.number → m.limit ≡ tries → IsUpdateAnswer k.means m c h a → WordSays c h call m.share tries (edit_reply goal a)
+    pub edit_says : (a : Updated) → m.call ≡ c.number → m.limit ≡ tries → IsUpdateAnswer edit_means m c h a → WordSays c h call m.share tries (edit_reply goal a)
     edit_says (Done key old) number limit x = (done_says goal call x.found key old x.is_key x.is_value (edit_done x.found number x.is_done), done_refuses goal call m.share key old)
     edit_says (Contended node scx) number limit x = (tt, edit_lost node.0 scx.0 limit x.1)
     edit_says (Full full) number limit x = (
       tt,
-      ran_out c h call (k.means.needs m.edit x.found) m.share full x.only_looked (edit_needed (begun_at c x.only_looked.begin) h run x.found x.has_found x.needed) x.short x.first x.none,
+      ran_out c h call (edit_means.needs m.edit x.found) m.share full x.only_looked (edit_needed (begun_at c x.only_looked.begin) h run x.found x.has_found x.needed) x.short x.first x.none,
     )
 
-  -- a get has read what it tells
-  pub get_says : (m : GetRun) (share : Remaining) (a : Option ℕ) → HasRested c h share → GetAnswers m c h a → WordSays c h (Get m.key) share tries (WordReply.Value a)
-  get_says m share a x y = (answer_read c h y.0.first m.key a y.0.own y.0.right y.0.none, tt)
+  -- a get has read what its leaf tells
+  pub get_says : (key : ℕ) (share : Remaining) (f : Found) → key < 2 ^ 64 → HasRested c h share → HasFoundGoal (ToKey key) c h f → WordSays c h (Get key) share tries (WordReply.Value f.value)
+  get_says key share f small x found = (leaf_read c h (Get key) (ToKey key) f (λ map. refl) small x.run found (none_entered c h share x) (λ some. absurd (omega (arith, some))), tt)
 
   -- so has an ordered read, or it tells what every map replies
   module _ (k : ReadKind) (is : IsReadKind k) (m : ReadRun k.R) (share : Remaining) (x : HasRested c h share) (limit : m.limit ≡ tries) where
@@ -173,12 +174,12 @@ by_begun most old now begun first left limit all s =
     omega (arith, s, more, parts)
 
 -- and once it has answered, with so many tries left
-pub edit_spent : (c : Call) (h : History) (call : MapCall) (tries left : ℕ) (share : Remaining) → IsEditing call → HasSpentSo c (most_nodes call) share tries left left → HasTriedAllBut c h tries left → HasSpent c h call tries share
-edit_spent c h call tries left share is x tried = record {
-  tried = subst (HasTriedAtMost c.layout c.pass h c.start) (sym (is.tries tries)) (tried_few c h tries left tried);
+pub edit_spent : (c : Call) (h : History) (goal : Goal) (rule : Rule) (tries left : ℕ) (share : Remaining) → HasSpentSo c (nodes_in_try rule) share tries left left → HasTriedAllBut c h tries left → HasSpent c h (Edit goal rule) tries share
+edit_spent c h goal rule tries left share x tried = record {
+  tried = tried_few c h tries left tried;
   left = x.left;
   first = x.first;
-  nodes = by_begun (most_nodes call) x.left.nodes share.nodes _ _ left tries tried.all x.spends.0;
-  scx = rw (is.scx (tries_since c.pass h c.start)) (let all = tried.all in let s = x.spends.1 in omega (arith, all, s));
+  nodes = by_begun (nodes_in_try rule) x.left.nodes share.nodes _ _ left tries tried.all x.spends.0;
+  scx = let all = tried.all in let s = x.spends.1 in omega (arith, all, s);
   each = let s = x.spends.2 in omega (arith, s);
 }

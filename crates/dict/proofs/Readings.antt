@@ -1,6 +1,6 @@
 -- What a reply of the map comes from: the moment of a read, the leaf that an edit has found, the
 -- edit that it has made.
-use Rattle.std.proofs.Common.{◌≡◌, ℕ, ◌^◌, ◌<◌, ◌≤◌, List, Option, ◌∙◌, ap, subst, arith}
+use Rattle.std.proofs.Common.{◌≡◌, ℕ, ◌^◌, ◌<◌, ◌≤◌, List, ◌∙◌, subst, arith}
 use Rattle.arena.specs.declared.fault.Full.{Full as FullOf}
 use Rattle.arena.specs.declared.fault.Resource.{Resource}
 use Rattle.arena.specs.declared.fault.Resource.TheVariants.{Nodes, Scx as ScxRecords}
@@ -10,8 +10,7 @@ use Rattle.arena.specs.Machines.{Call}
 use Rattle.arena.specs.Share.{Remaining}
 use Rattle.arena.proofs.Lemmas.{ends_self, ends_trans}
 use Rattle.order.specs.Replies.{IsReplyAt}
-use Rattle.ordered_map.specs.OrderedMap.{MapCall, Get, MapReply, OneValue, reply, goal_told}
-use Rattle.ordered_map.specs.Paths.{IsAnswerAt}
+use Rattle.ordered_map.specs.OrderedMap.{MapCall, MapReply, reply, goal_told}
 use Rattle.ordered_map.specs.Runs.{IsTreeRun}
 use Rattle.ordered_map.specs.Spelled.{Spells}
 use Rattle.ordered_map.specs.declared.pair.Pair.{Pair}
@@ -48,23 +47,7 @@ module _ (c : Call) (h : History) where
   behind_own : (moment first : History) → IsOwnMoment c first → Extends moment first → HasMadeRow c.pass c.start moment
   behind_own moment first own since = record { row = own.row; before = own.before; within = subst (Extends moment) own.is since; since = own.since; of_pass = own.own }
 
-  -- what was the answer at a moment behind an own one was read in the call
-  pub answer_read : (first : History) (key : ℕ) (answer : Option ℕ) → IsOwnMoment c first → IsAnswerAt c.layout h first key answer → HasEnteredNone c.layout c.pass h c.start → HasReadMap c h (Get key) (OneValue answer)
-  answer_read first key answer own x none = record {
-    read = record {
-      moment = x.moment;
-      within = x.within;
-      since = ends_trans x.moment first c.start x.since (own_since c first own);
-      own = λ _. behind_own x.moment first own x.since;
-      map = x.map;
-      spelled = x.spelled;
-      gives = ap OneValue x.gives;
-      only_looked = λ some. absurd (omega (arith, some));
-    };
-    none = none;
-  }
-
-  -- so was what an ordered read has replied
+  -- what an ordered read has replied was read in the call
   pub reply_read : (call : MapCall) (told : MapReply) → most_nodes call ≡ 0 → IsReplyAt c h call told → HasEnteredNone c.layout c.pass h c.start → HasReadMap c h call told
   reply_read call told reads x none = record {
     read = record {
@@ -87,7 +70,7 @@ module _ (c : Call) (h : History) where
       record { read = record { moment = h; within = ends_self h; since = since; own = λ asks. absurd (asks_not asks); map = map.0; spelled = map.1; gives = gives map.0; only_looked = λ some. absurd (omega (arith, some, reads)) }; none = none }
 
   -- the leaf that was found tells what the map replied at a moment of the call
-  pub leaf_read : (call : MapCall) (goal : Goal) (f : Found) → ((map : List Pair) → reply call map ≡ goal_told goal map) → path_key goal < 2 ^ 64 → IsTreeRun c.layout h → HasFoundGoal goal c h f → HasEnteredNone c.layout c.pass h c.start → HasOnlyLooked c.pass h c.start → HasReadMap c h call (leaf_told goal f)
+  pub leaf_read : (call : MapCall) (goal : Goal) (f : Found) → ((map : List Pair) → reply call map ≡ goal_told goal map) → path_key goal < 2 ^ 64 → IsTreeRun c.layout h → HasFoundGoal goal c h f → HasEnteredNone c.layout c.pass h c.start → (0 < most_nodes call → HasOnlyLooked c.pass h c.start) → HasReadMap c h call (leaf_told goal f)
   leaf_read call goal f walks small run found none only_looked =
       let first = found.trail.node.first in
       let own = found.trail.node.own in
@@ -101,7 +84,7 @@ module _ (c : Call) (h : History) where
           map = x.map;
           spelled = x.spelled;
           gives = walks x.map ∙ x.gives;
-          only_looked = λ some. only_looked;
+          only_looked = only_looked;
         };
         none = none;
       }

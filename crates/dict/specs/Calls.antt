@@ -6,16 +6,23 @@ use Rattle.arena.specs.Machines.{Call}
 use Rattle.arena.specs.Share.{Remaining}
 use Rattle.ordered_map.specs.CallRules.{most_nodes, most_scx}
 use Rattle.ordered_map.specs.OrderedMap.{MapCall, Edit, Get, Range}
+use Rattle.ordered_map.specs.declared.rule.Goal.{Goal}
 use Rattle.ordered_map.specs.declared.rule.Goal.TheVariants.{Key}
+use Rattle.ordered_map.specs.declared.rule.Rule.{Rule}
+use Rattle.tree.specs.declared.key_edit.KeyEdit.{KeyEdit}
 use Rattle.template.specs.Tries.{tries_since, HasTriedAtMost}
 use Rattle.edits.specs.Known.{RestsWith}
 use Rattle.dict.specs.declared.run.MapRun.{MapRun}
-use Rattle.dict.specs.Inner.{InnerRun, Update, Get as GetRun, Read as OrderedRead, inner}
+use Rattle.dict.specs.Inner.{InnerRun, Update, Get as GetWalk, Read as OrderedRead, inner}
+
+-- what an edit is of, where `goal` and `rule` give its goal and its rule as values
+abbrev pub edit_call : {G R : Type 0} → (G → Goal) → (R → Rule) → KeyEdit G R → MapCall
+edit_call goal rule e = Edit (goal e.goal) (rule e.rule)
 
 -- what a call is of whose inner machine this is
 abbrev pub inner_call : InnerRun → MapCall
-inner_call (Update k m) = k.call m.edit
-inner_call (GetRun m share) = Get m.key
+inner_call (Update m) = Edit m.edit.goal m.edit.rule
+inner_call (GetWalk key walk share) = Get key
 inner_call (OrderedRead k m share) = k.means.call m.read
 
 -- what it is a call of
@@ -24,8 +31,8 @@ call_in m = inner_call (inner m)
 
 -- what is left of the share of a call with this inner machine
 abbrev pub inner_share : InnerRun → Remaining
-inner_share (Update k m) = m.share
-inner_share (GetRun m share) = share
+inner_share (Update m) = m.share
+inner_share (GetWalk key walk share) = share
 inner_share (OrderedRead k m share) = share
 
 -- what is left of its share
@@ -34,8 +41,8 @@ share_of m = inner_share (inner m)
 
 -- how many tries are left behind this one to a call with this inner machine; a get has one alone
 abbrev pub inner_tries : InnerRun → ℕ
-inner_tries (Update k m) = m.tries
-inner_tries (GetRun m share) = 0
+inner_tries (Update m) = m.tries
+inner_tries (GetWalk key walk share) = 0
 inner_tries (OrderedRead k m share) = m.tries
 
 -- so many to the machine

@@ -5,15 +5,15 @@ use Rattle.arena.specs.History.{History, value, Extends}
 use Rattle.ordered_map.specs.OrderedMap.{MapReply, OneValue, goal_told, pair_or_none}
 use Rattle.ordered_map.specs.Spelled.{Spells}
 use Rattle.ordered_map.specs.declared.pair.Pair.{Pair}
-use Rattle.template.specs.FoundLeaf.{first_told}
+use Rattle.template.specs.FoundLeaf.{end_told}
 use Rattle.template.specs.declared.walk.Found.{Found}
 use Rattle.ordered_map.specs.declared.rule.Goal.{Goal}
-use Rattle.ordered_map.specs.declared.rule.Goal.TheVariants.{Key as ToKey, Least}
+use Rattle.ordered_map.specs.declared.rule.Goal.TheVariants.{Key as ToKey, End}
 
 -- what the leaf that was found says that the goal finds in the map
 abbrev pub leaf_told : Goal → Found → MapReply
 leaf_told (ToKey k) f = OneValue f.value
-leaf_told Least f = pair_or_none (first_told f)
+leaf_told (End side) f = pair_or_none (end_told f)
 
 -- at a moment of the history that is not before `start` the words spell a map that replies this
 pub record IsGoalToldAt (lay : Layout) (h start : History) (goal : Goal) (told : MapReply) : Type 0 where

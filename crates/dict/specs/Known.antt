@@ -1,5 +1,5 @@
 -- When the machine of a call of the map may go on, what it waits for, and what its answer says.
-use Rattle.std.specs.Prelude.{◌≡◌, ℕ, ◌+◌, ◌^◌, ◌<◌, Option, []}
+use Rattle.std.specs.Prelude.{◌≡◌, ℕ, suc, ◌+◌, ◌^◌, ◌<◌, ◌≤◌, Option, Some, None, []}
 use Rattle.arena.specs.declared.limits.Mode.TheVariants.{Tree as TreeMode}
 use Rattle.arena.specs.declared.step.Step.{Step}
 use Rattle.arena.specs.History.{History, Extends}
@@ -10,16 +10,19 @@ use Rattle.order.specs.declared.run.ReadAt.TheVariants.{Start as ReadStart}
 use Rattle.prims.specs.Laws.Idle.{IsQuietSince}
 use Rattle.ordered_map.specs.Runs.{IsTreeRun}
 use Rattle.ordered_map.specs.declared.rule.Goal.TheVariants.{Key as ToKey}
-use Rattle.template.specs.declared.walk.WalkAt.TheVariants.{Start as WalkStart}
-use Rattle.tree.specs.Get.Known.{GetIsReady, GetWaits}
+use Rattle.template.specs.declared.walk.WalkAt.{WalkAt}
+use Rattle.template.specs.declared.walk.WalkAt.TheVariants.{Start as WalkStart, Root}
+use Rattle.ordered_map.specs.Tries.{tries_begun}
+use Rattle.template.specs.Walk.Known.{WalkIsReady, WalkWaits}
 use Rattle.edits.specs.Known.{RestsWith, UpdateIsReady, UpdateWaits}
 use Rattle.edits.specs.Steps.{node_tries, scx_tries, Spends}
 use Rattle.edits.specs.declared.update.UpdateAt.TheVariants.{Start as UpdateStart}
 use Rattle.dict.specs.Calls.{call_in, inner_call, inner_share, AsksForPairs, IsFewCall, IsSmallCall, HasSpent}
-use Rattle.ordered_map.specs.CallRules.{MayReply, most_nodes}
+use Rattle.ordered_map.specs.CallRules.{MayReply, nodes_in_try}
 use Rattle.dict.specs.Says.{WordSays}
 use Rattle.dict.specs.declared.run.MapRun.{MapRun}
-use Rattle.dict.specs.Inner.{InnerRun, Update, Get, Read, inner}
+use Rattle.ordered_map.specs.OrderedMap.{Edit}
+use Rattle.dict.specs.Inner.{InnerRun, Update, Get, Read, edit_means, inner}
 use Rattle.dict.specs.WordReplies.{WordReply, word_form}
 
 -- A read rests all the way: its share is untouched, all its pass's SCX-records are finished, and
@@ -39,19 +42,19 @@ pub record HasSpentSo (c : Call) (most : ℕ) (share : Remaining) (tries nodes s
 
 -- what is gone of the share of a call with so many tries: of a read nothing
 abbrev pub HasSpentIn : InnerRun → ℕ → Call → Type 0
-HasSpentIn (Update k m) tries c = HasSpentSo c (most_nodes (k.call m.edit)) m.share tries (node_tries m m.at) (scx_tries m m.at)
-HasSpentIn (Get m share) tries c = RestsWith c c.start share
+HasSpentIn (Update m) tries c = HasSpentSo c (nodes_in_try m.edit.rule) m.share tries (node_tries m m.at) (scx_tries m m.at)
+HasSpentIn (Get key walk share) tries c = RestsWith c c.start share
 HasSpentIn (Read k m share) tries c = RestsWith c c.start share
 
 -- an edit knows the number of its call, which goes into its entry
 abbrev pub IsNumbered : InnerRun → ℕ → Type 0
-IsNumbered (Update k m) number = m.call ≡ number
+IsNumbered (Update m) number = m.call ≡ number
 IsNumbered m number = Unit {0}
 
 -- an edit or an ordered read may try so often
 abbrev pub HasTries : InnerRun → ℕ → Type 0
-HasTries (Update k m) tries = m.limit ≡ tries
-HasTries (Get m share) tries = Unit {0}
+HasTries (Update m) tries = m.limit ≡ tries
+HasTries (Get key walk share) tries = Unit {0}
 HasTries (Read k m share) tries = m.limit ≡ tries
 
 -- what holds of the machine inside all the way of its call, which has so many tries
@@ -62,16 +65,26 @@ pub record Goes (m : InnerRun) (tries : ℕ) (c : Call) : Type 0 where
   pub limit : HasTries m tries
   pub spent : HasSpentIn m tries c
 
+-- a get begins one try at most, and none before it was told anything: its pass has begun so many by
+-- now, and had so many as the call began
+abbrev pub HasTriedOnce : Option ℕ → ℕ → ℕ → Type 0
+HasTriedOnce None now then = now ≡ then
+HasTriedOnce (Some v) now then = now ≤ suc then
+
+-- nor while it waits for the root's head
+abbrev pub HasTriedOnceAt : WalkAt → ℕ → ℕ → Type 0
+HasTriedOnceAt at now then = (now ≤ suc then) × (at ≡ Root → now ≡ then)
+
 -- the machine inside may be called with this
 abbrev pub IsReadyInside : InnerRun → Call → History → Option ℕ → Type 0
-IsReadyInside (Update k m) c h got = UpdateIsReady k.means m c h got
-IsReadyInside (Get m share) c h got = GetIsReady m c h got × HasRested c h share
+IsReadyInside (Update m) c h got = UpdateIsReady edit_means m c h got
+IsReadyInside (Get key walk share) c h got = (WalkIsReady walk c h got × (walk.goal ≡ ToKey key) × HasTriedOnce got (tries_begun c.pass h) (tries_begun c.pass c.start)) × HasRested c h share
 IsReadyInside (Read k m share) c h got = ReadIsReady k.means m c h got × HasRested c h share
 
 -- the machine inside waits for this step
 abbrev pub WaitsInside : InnerRun → Call → History → Step → Type 0
-WaitsInside (Update k m) c h s = UpdateWaits k.means m c h s
-WaitsInside (Get m share) c h s = GetWaits m c h s × HasRested c h share
+WaitsInside (Update m) c h s = UpdateWaits edit_means m c h s
+WaitsInside (Get key walk share) c h s = (WalkWaits walk c h s × (walk.goal ≡ ToKey key) × HasTriedOnceAt walk.at (tries_begun c.pass h) (tries_begun c.pass c.start)) × HasRested c h share
 WaitsInside (Read k m share) c h s = ReadWaits k.means m c h s × HasRested c h share
 
 -- the machine may be called with this
@@ -102,8 +115,8 @@ AsksFirst m = AsksForPairs (call_in m)
 
 -- the machine inside stands at its start, with so many tries in all, in the call of this number
 abbrev pub StandsAtStart : InnerRun → ℕ → ℕ → Type 0
-StandsAtStart (Update k m) tries call = (m.at ≡ UpdateStart) × (m.tries + 1 ≡ tries) × (m.call ≡ call) × IsSmallCall (k.call m.edit) × (m.limit ≡ tries)
-StandsAtStart (Get m share) tries call = (m.walk.at ≡ WalkStart) × (m.walk.trail.node.0 ≡ 0) × (m.walk.goal ≡ ToKey m.key) × (m.key < 2 ^ 64)
+StandsAtStart (Update m) tries call = (m.at ≡ UpdateStart) × (m.tries + 1 ≡ tries) × (m.call ≡ call) × IsSmallCall (Edit m.edit.goal m.edit.rule) × (m.limit ≡ tries)
+StandsAtStart (Get key walk share) tries call = (walk.at ≡ WalkStart) × (walk.trail.node.0 ≡ 0) × (walk.goal ≡ ToKey key) × (key < 2 ^ 64)
 StandsAtStart (Read k m share) tries call = (m.at ≡ ReadStart) × (m.tries + 1 ≡ tries) × (m.snaps.items ≡ []) × (IsFewCall (k.means.call m.read) → k.means.suits (k.means.call m.read)) × (m.limit ≡ tries)
 
 -- so does the machine

@@ -6,7 +6,6 @@ pub mod Inner
 pub mod Calls
 pub mod Says
 pub mod Known
-pub mod Around
 pub mod Steps
 pub mod Typed
 pub mod Translated

@@ -3,15 +3,15 @@ use Rattle.std.specs.Prelude.{ℕ, ◌<◌, Option}
 use Rattle.arena.specs.Machines.{MatchTurn}
 use Rattle.arena.specs.declared.machine.Turn.{Turn}
 use Rattle.order.specs.Steps.{ReadFits, read_left}
-use Rattle.tree.specs.Get.Steps.{get_left, GetFits}
+use Rattle.template.specs.Walk.Steps.{walk_left, WalkFits}
 use Rattle.edits.specs.Steps.{update_left, UpdateFits}
 use Rattle.dict.specs.declared.run.MapRun.{MapRun}
-use Rattle.dict.specs.Inner.{InnerRun, Update, Get, Read, inner}
+use Rattle.dict.specs.Inner.{InnerRun, Update, Get, Read, edit_means, inner}
 
 -- how many steps the inner machine may still ask for, where no more nodes than these are taken
 abbrev pub inner_left : InnerRun → ℕ → ℕ
-inner_left (Update k m) nodes = update_left k.means m nodes
-inner_left (Get m share) nodes = get_left m nodes
+inner_left (Update m) nodes = update_left edit_means m nodes
+inner_left (Get key walk share) nodes = walk_left walk.at nodes
 inner_left (Read k m share) nodes = read_left k.means m nodes
 
 -- so many the machine
@@ -20,8 +20,8 @@ map_left m nodes = inner_left (inner m) nodes
 
 -- what the inner machine is told fits so many taken nodes
 abbrev pub InnerFits : InnerRun → Option ℕ → ℕ → Type 0
-InnerFits (Update k m) got nodes = UpdateFits m got nodes
-InnerFits (Get m share) got nodes = GetFits m got nodes
+InnerFits (Update m) got nodes = UpdateFits m got nodes
+InnerFits (Get key walk share) got nodes = WalkFits walk got nodes
 InnerFits (Read k m share) got nodes = ReadFits k.means m got nodes
 
 -- so what the machine is told

@@ -6,7 +6,7 @@ use Rattle.arena.specs.declared.limits.Mode.TheVariants.{Tree as TreeMode}
 use Rattle.arena.specs.History.{History, value}
 use Rattle.ordered_map.specs.OrderedMap.{MapEdit, Insert, Delete, MapCall, Edit, MapReply, OneValue, OnePair, ManyPairs, leaves}
 use Rattle.ordered_map.specs.declared.rule.Goal.{Goal}
-use Rattle.ordered_map.specs.declared.rule.Goal.TheVariants.{Key, Least}
+use Rattle.ordered_map.specs.declared.rule.Goal.TheVariants.{Key, End}
 use Rattle.ordered_map.specs.Spelled.{Spells}
 use Rattle.ordered_map.specs.TreeShape.{MayEdit}
 use Rattle.ordered_map.specs.declared.pair.Pair.{Pair}
@@ -32,7 +32,7 @@ IsTypedValue values (Some v) = values v
 -- value, such a value
 abbrev pub IsTypedGoal : (ℕ → Type 0) → Goal → Type 0
 IsTypedGoal keys (Key k) = keys k
-IsTypedGoal keys Least = Unit {0}
+IsTypedGoal keys (End side) = Unit {0}
 
 abbrev pub IsTypedCall : (ℕ → Type 0) → (ℕ → Type 0) → MapCall → Type 0
 IsTypedCall keys values (Edit goal rule) = IsTypedGoal keys goal × IsTypedValue values (leaves rule)

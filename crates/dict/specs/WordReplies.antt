@@ -12,7 +12,7 @@ use Rattle.ordered_map.specs.CallRules.{Form}
 use Rattle.ordered_map.specs.OrderedMap.{MapReply, OneValue, ManyPairs, pair, pair_or_none}
 use Rattle.ordered_map.specs.declared.pair.Pair.{Pair as PairOf}
 use Rattle.ordered_map.specs.declared.rule.Goal.{Goal}
-use Rattle.ordered_map.specs.declared.rule.Goal.TheVariants.{Key as ToKey, Least}
+use Rattle.ordered_map.specs.declared.rule.Goal.TheVariants.{Key as ToKey, End}
 use Rattle.edits.specs.declared.update.Updated.{Updated}
 use Rattle.edits.specs.declared.update.Updated.TheVariants as updated
 
@@ -44,10 +44,10 @@ word_form (Full full) = Form.Full
 word_form NoMemory = Form.NoMemory
 
 -- what the leaf tells at which an update is done: to an edit of a key the value that this had, to a
--- pop the pair
+-- take at an end the pair
 abbrev pub goal_reply : Goal → ℕ → Option ℕ → WordReply
 goal_reply (ToKey k) key value = Value value
-goal_reply Least key value = Pair (option_map (pair key) value)
+goal_reply (End side) key value = Pair (option_map (pair key) value)
 
 -- what an edit replies that walks there
 abbrev pub edit_reply : Goal → Updated → WordReply

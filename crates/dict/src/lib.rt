@@ -4,7 +4,6 @@
 
 mod alone;
 mod dict;
-mod edit_call;
 mod key;
 mod name;
 mod name_key;
@@ -16,7 +15,6 @@ mod value;
 
 pub use alone::alone_holds;
 pub use dict::DictRun;
-pub use edit_call::EditCall;
 pub use key::WordKey;
 pub use name::Name8;
 pub use ordered_map::{Reply, Request};

@@ -16,26 +16,31 @@ use crate::key::WordKey;
 use crate::told::{of_range, of_successor, of_update, of_value};
 use crate::value::WordValue;
 use arena::{Machine, Share, Turn};
-use edits::{Edit, Updated};
+use edits::Updated;
 use order::{Range, RangeRun, Successor, SuccessorRun};
-use ordered_map::{Reply, Request};
+use ordered_map::{Goal, Reply, Request, Rule};
 use std::alloc::Global;
-use tree::{
-    AtKey, AtLeast, GetRun, KeyEditRun, PutRule, SwapRule, TakeRule, Tree, delete, insert,
-    pop_first, replace_if,
-};
+use template::{Tree, WalkRun};
+use tree::{KeyEdit, KeyEditRun};
 
 /// A call that has begun. It has its pass's share until it has answered, of which a read takes
 /// nothing.
 #[derive(Debug, Drop)]
 pub enum MapRun {
-    Insert(KeyEditRun<AtKey, PutRule>),
-    Delete(KeyEditRun<AtKey, TakeRule>),
-    PopFirst(KeyEditRun<AtLeast, TakeRule>),
-    ReplaceIf(KeyEditRun<AtKey, SwapRule>),
-    Get { run: GetRun, share: Share },
-    Successor { run: SuccessorRun, share: Share },
-    Range { run: RangeRun, share: Share },
+    Edit(KeyEditRun<Goal, Rule>),
+    Get {
+        key: u64,
+        walk: WalkRun,
+        share: Share,
+    },
+    Successor {
+        run: SuccessorRun,
+        share: Share,
+    },
+    Range {
+        run: RangeRun,
+        share: Share,
+    },
 }
 
 impl MapRun {
@@ -55,33 +60,24 @@ impl MapRun {
         ensures fresh { 0 < tries → IsUnbegun result tries call }
         ensures steps { (nodes : ℕ) → 0 < tries → map_left result nodes ≤ most_steps (call_in result) tries nodes }
     {
-        match (request, alloc) {
-            (Request::Insert { key, value }, _) => {
-                MapRun::Insert(insert(key, value).run(share, tries, call))
+        match (request.edit(), request, alloc) {
+            (Some((goal, rule)), _, _) => {
+                MapRun::Edit(KeyEdit { goal, rule }.run(share, tries, call))
             }
-            (Request::Delete { key }, _) => MapRun::Delete(delete(key).run(share, tries, call)),
-            (Request::PopFirst, _) => MapRun::PopFirst(pop_first().run(share, tries, call)),
-            (
-                Request::ReplaceIf {
-                    key,
-                    expected,
-                    value,
-                },
-                _,
-            ) => MapRun::ReplaceIf(replace_if(key, expected, value).run(share, tries, call)),
-            (Request::Get { key }, _) => MapRun::Get {
-                run: GetRun::new(key),
+            (_, Request::Get { key }, _) => MapRun::Get {
+                key,
+                walk: WalkRun::new(Goal::Key(key)),
                 share,
             },
-            (Request::Successor { key }, Some(alloc)) => MapRun::Successor {
+            (_, Request::Successor { key }, Some(alloc)) => MapRun::Successor {
                 run: Successor::run(alloc, key, tries),
                 share,
             },
-            (Request::Range { low, high, most }, Some(alloc)) => MapRun::Range {
+            (_, Request::Range { low, high, most }, Some(alloc)) => MapRun::Range {
                 run: Range::run(alloc, low, high, most as usize, tries),
                 share,
             },
-            (Request::Successor { .. } | Request::Range { .. }, None) => unreachable!(),
+            _ => unreachable!(),
         }
     }
 
@@ -97,25 +93,17 @@ impl MapRun {
         ensures nearer { (nodes : ℕ) → MapFits self.old got nodes → HasComeNearer self.old self.new nodes result }
     {
         match self {
-            MapRun::Insert(run) => match run.step(got) {
+            MapRun::Edit(run) => match run.step(got) {
                 Turn::Ask(step) => Turn::Ask(step),
-                Turn::Done(updated) => Turn::Done(of_edit(&run.edit, updated)),
+                Turn::Done(updated) => Turn::Done(of_edit(run.edit.goal, updated)),
             },
-            MapRun::Delete(run) => match run.step(got) {
+            MapRun::Get {
+                key: _,
+                walk,
+                share: _,
+            } => match Machine::<Tree>::next(walk, got) {
                 Turn::Ask(step) => Turn::Ask(step),
-                Turn::Done(updated) => Turn::Done(of_edit(&run.edit, updated)),
-            },
-            MapRun::PopFirst(run) => match run.step(got) {
-                Turn::Ask(step) => Turn::Ask(step),
-                Turn::Done(updated) => Turn::Done(of_edit(&run.edit, updated)),
-            },
-            MapRun::ReplaceIf(run) => match run.step(got) {
-                Turn::Ask(step) => Turn::Ask(step),
-                Turn::Done(updated) => Turn::Done(of_edit(&run.edit, updated)),
-            },
-            MapRun::Get { run, share: _ } => match Machine::<Tree>::next(run, got) {
-                Turn::Ask(step) => Turn::Ask(step),
-                Turn::Done(value) => Turn::Done(of_value(value)),
+                Turn::Done(found) => Turn::Done(of_value(found.value)),
             },
             MapRun::Successor { run, share: _ } => match run.step(got) {
                 Turn::Ask(step) => Turn::Ask(step),
@@ -134,11 +122,12 @@ impl MapRun {
         ensures { result ≡ share_of self }
     {
         match self {
-            MapRun::Insert(run) => run.into_share(),
-            MapRun::Delete(run) => run.into_share(),
-            MapRun::PopFirst(run) => run.into_share(),
-            MapRun::ReplaceIf(run) => run.into_share(),
-            MapRun::Get { run: _, share } => share,
+            MapRun::Edit(run) => run.into_share(),
+            MapRun::Get {
+                key: _,
+                walk: _,
+                share,
+            } => share,
             MapRun::Successor { run, share } => {
                 drop(run);
                 share
@@ -154,8 +143,8 @@ impl MapRun {
 /// What an edit replies of what its update has answered. Out of line, so that a machine does not
 /// pay for its locals at each step.
 #[inline(never)]
-fn of_edit<K: WordKey, V: WordValue, E: Edit>(edit: &E, updated: Updated) -> Reply<K, V>
-    ensures { IsReplyOf K.is_valid K.word_of V.is_valid V.word_of (edit_reply (E.means.goal edit.now) updated) result }
+fn of_edit<K: WordKey, V: WordValue>(goal: Goal, updated: Updated) -> Reply<K, V>
+    ensures { IsReplyOf K.is_valid K.word_of V.is_valid V.word_of (edit_reply goal updated) result }
 {
-    of_update(edit.goal(), updated)
+    of_update(goal, updated)
 }

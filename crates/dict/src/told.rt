@@ -27,7 +27,7 @@ fn of_leaf<K: WordKey, V: WordValue>(goal: Goal, key: u64, value: Option<u128>) 
 {
     match goal {
         Goal::Key(_) => of_value(value),
-        Goal::Least => Reply::Pair(pair_of(value.map(|value| Pair { key, value }))),
+        Goal::End(_) => Reply::Pair(pair_of(value.map(|value| Pair { key, value }))),
     }
 }
 

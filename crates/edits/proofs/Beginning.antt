@@ -96,7 +96,7 @@ abbrev less_an_scx : Remaining → Remaining
 less_an_scx left = record left { next_scx = suc left.next_scx; scx = left.scx - 1 }
 
 module _ {E : Type 0} (e : EditMeaning E) {A : Type 0} (m : UpdateRun E A) (run after : ScxRun) (f : Found) (c : Call) (h : History) (sound : MakesWell e) (few : length m.snaps.items ≤ 4) (x : CanScx e m c h f)
-    (is : IsUpdateFor e m.edit f m.snaps.items m.nodes run.update) (at : run.at ≡ ScxStart) (is_scx : run.scx.0 ≡ m.share.next_scx) (same_scx : after.scx ≡ run.scx) (same_update : after.update ≡ run.update) (same_call : after.call ≡ run.call) (is_call : after.call ≡ m.call) where
+    (is : IsUpdateFor (e.side m.edit f) (e.needs m.edit f) m.snaps.items m.nodes run.update) (at : run.at ≡ ScxStart) (is_scx : run.scx.0 ≡ m.share.next_scx) (same_scx : after.scx ≡ run.scx) (same_update : after.update ≡ run.update) (same_call : after.call ≡ run.call) (is_call : after.call ≡ m.call) where
   over : IsUpdateOver run.update
   over = covers_all run.update m.snaps.items (e.side m.edit f) (some_snaps (e.looks m.edit f) m.snaps.items (sound.some m.edit f) x.all.enough) few
       (sound.distinct m.edit c h f m.snaps.items x.run x.need x.all.looked x.all.enough) is.covers is.plan is.old
@@ -164,7 +164,7 @@ module _ {E : Type 0} (e : EditMeaning E) {A : Type 0} (m : UpdateRun E A) (run 
       (first_waits turn step asked (w scx_ready))
 
 -- an edit looks at few nodes
-pub few_snaps : {E : Type 0} (e : EditMeaning E) (ed : E) (f : Found) (snaps : List Snap) → EditBounds e → AreSeen e ed f snaps → length snaps ≤ 4
+pub few_snaps : {E : Type 0} (e : EditMeaning E) (ed : E) (f : Found) (snaps : List Snap) → EditBounds e → AreSeen (e.looks ed) f snaps → length snaps ≤ 4
 few_snaps e ed f [] bounds seen = omega arith
 few_snaps e ed f (s ∷ snaps) bounds seen = go
   where

@@ -7,5 +7,5 @@ pub use Rattle.edits.proofs.ReadWords.{piece_is, head_read, leaf_read, fork_read
 pub use Rattle.edits.proofs.PairFills.{behind_filled, value_behind_key, high_behind_value, key_behind_value}
 pub use Rattle.edits.proofs.FilledNodes.{IsLeafWith, IsForkWith, head_is, leaf_with, fork_with}
 pub use Rattle.edits.proofs.PairPlaces.{take_whole}
-pub use Rattle.edits.proofs.Making.{told_first}
+pub use Rattle.edits.proofs.Making.{told_end}
 pub use Rattle.edits.proofs.Turns.{fills_word, scx_asks, scx_done}

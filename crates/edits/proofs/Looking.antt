@@ -67,7 +67,7 @@ take_all [] = refl
 take_all (s ∷ snaps) = ap (λ xs. s ∷ xs) (take_all snaps)
 
 -- and it is of the node that the edit has named
-pub seen_one_more : {E : Type 0} (e : EditMeaning E) (ed : E) (f : Found) (snaps : List Snap) (s : Snap) → e.looks ed f snaps ≡ At s.node → AreSeen e ed f snaps → AreSeen e ed f (snaps ++ s ∷ [])
+pub seen_one_more : {E : Type 0} (e : EditMeaning E) (ed : E) (f : Found) (snaps : List Snap) (s : Snap) → e.looks ed f snaps ≡ At s.node → AreSeen (e.looks ed) f snaps → AreSeen (e.looks ed) f (snaps ++ s ∷ [])
 seen_one_more e ed f snaps s named x i p = go (at_end snaps s i p)
   where
     go : ((i < length snaps) × (snap_at (snaps ++ s ∷ []) i ≡ snap_at snaps i)) ⊎ ((i ≡ length snaps) × (snap_at (snaps ++ s ∷ []) i ≡ s)) → e.looks ed f (take i (snaps ++ s ∷ [])) ≡ At (snap_at (snaps ++ s ∷ []) i).node

@@ -2,6 +2,7 @@
 use Rattle.std.proofs.Common.{◌≡◌, ℕ, zero, suc, ◌+◌, ◌<◌, true, inr, List, [], ◌∷◌, length, get_or, refl, sym, ◌∙◌, ap, subst, arith}
 use Rattle.arena.specs.declared.number.ScxNo.{ScxNo}
 use Rattle.arena.specs.declared.step.Row.{Row}
+use Rattle.arena.specs.declared.word.Word.{Word}
 use Rattle.arena.specs.Fills.{IsOwnScx}
 use Rattle.arena.specs.History.{History, ◌⊳◌, value, Extends}
 use Rattle.arena.specs.Lawful.{Lawful, HasWon, IsWin}
@@ -18,21 +19,20 @@ use Rattle.prims.specs.declared.update.Update.{Update}
 use Rattle.ordered_map.specs.OrderedMap.{edit_key, get}
 use Rattle.ordered_map.specs.Spelled.{Spells}
 use Rattle.ordered_map.specs.declared.pair.Pair.{Pair}
-use Rattle.ordered_map.specs.Paths.{WasOnPath}
+use Rattle.ordered_map.specs.Paths.{WasOnPath, end_key}
 use Rattle.ordered_map.specs.Runs.{IsTreeRun, Makes, IsEditAt}
 use Rattle.ordered_map.specs.TreeShape.{edit_leaf}
-use Rattle.ordered_map.specs.TreeWords.{first_said, is_leaf, said}
-use Rattle.ordered_map.proofs.Lemmas.{SameSettled, run_since, settled_said, settled_first, settled_leaf, walk_named, win_first, win_makes, wins_of}
+use Rattle.ordered_map.specs.TreeWords.{end_said, is_leaf, said}
+use Rattle.ordered_map.proofs.Lemmas.{SameSettled, run_since, settled_said, settled_end, settled_leaf, walk_named, win_end, win_makes, wins_of}
 use Rattle.template.proofs.Lemmas.{found_told, tracked_makes}
-use Rattle.arena.specs.Words.{node, first_key}
-use Rattle.template.specs.FoundLeaf.{path_key, asked_key, HasFoundGoal}
+use Rattle.template.specs.FoundLeaf.{path_key, asked_key, asked_in, HasFoundGoal}
 use Rattle.template.specs.declared.walk.Found.{Found}
 use Rattle.ordered_map.specs.declared.rule.Goal.{Goal}
-use Rattle.ordered_map.specs.declared.rule.Goal.TheVariants.{Key as ToKey, Least}
+use Rattle.ordered_map.specs.declared.rule.Goal.TheVariants.{Key as ToKey, End}
 use Rattle.edits.specs.declared.update.UpdateRun.{UpdateRun}
 use Rattle.edits.specs.Edits.{EditMeaning}
 use Rattle.edits.specs.Sound.{IsAtFound}
-use Rattle.edits.specs.Known.{CoversLeaf, Scxs, HasMade, ToldFirst}
+use Rattle.edits.specs.Known.{CoversLeaf, Scxs, HasMade, ToldEnd}
 use Rattle.edits.specs.Laws.Entered.{only_joined}
 use Rattle.edits.specs.Tries.{HasEnteredOnly, IsTry, CoversSnaps}
 
@@ -58,9 +58,9 @@ members_many h s j (suc n) [] e = absurd (let z : member h s j ∷ members_from 
 members_many h s j (suc n) (t ∷ snaps) e = ap suc (members_many h s (suc j) n snaps (ap rest e))
 
 -- what is asked of the key that was asked for is that key
-asked_twice : (goal : Goal) (first : ℕ) → asked_key goal (asked_key goal first) ≡ asked_key goal first
-asked_twice (ToKey k) first = refl
-asked_twice Least first = refl
+asked_again : (goal : Goal) (f : Word → ℕ) (n : ℕ) → asked_key goal (asked_in goal f n) ≡ asked_in goal f n
+asked_again (ToKey k) f n = refl
+asked_again (End side) f n = refl
 
 newest : List Entry → Entry → Entry
 newest [] e = e
@@ -108,23 +108,23 @@ module _ {E : Type 0} (e : EditMeaning E) (ed : E) (c : Call) (f : Found) (begin
   leaf_told : IsAtFound e → IsEditAt c.layout before row s (e.edit ed f) → (map : List Pair) → Spells c.layout (value before) map → get (edit_key (e.edit ed f)) map ≡ f.value
   leaf_told at_found edits map spells =
       let k : ℕ = edit_key (e.edit ed f) in
-      edits.replies map spells ∙ ap (said (value before) k) leaf ∙ settled_said (value begin) (value before) k f.trail.node.0 settled ∙ ap (λ q. said (value begin) q f.trail.node.0) (at_found ed f ∙ ap (asked_key (e.goal ed)) (sym found.key) ∙ asked_twice (e.goal ed) (value begin (node f.trail.node.0 first_key))) ∙ sym found.says
+      edits.replies map spells ∙ ap (said (value before) k) leaf ∙ settled_said (value begin) (value before) k f.trail.node.0 settled ∙ ap (λ q. said (value begin) q f.trail.node.0) (at_found ed f ∙ ap (asked_key (e.goal ed)) (sym found.key) ∙ asked_again (e.goal ed) (value begin) f.trail.node.0) ∙ sym found.says
 
-  -- and if the walk went to the least key, its first pair
-  first_at : (goal : Goal) → HasFoundGoal goal c begin f → ToldFirst goal c.layout before f
-  first_at (ToKey key) x = tt
-  first_at Least x = λ map spells.
-      win_first c.layout before row s (e.edit ed f) now won makes was is_leaf_then map spells
-      ∙ ap (first_said (value before)) leaf ∙ settled_first (value begin) (value before) f.trail.node.0 settled ∙ found_told c begin f begun x
+  -- and if the walk went to an end, the pair there
+  end_at : (goal : Goal) → HasFoundGoal goal c begin f → ToldEnd goal c.layout before f
+  end_at (ToKey key) x = tt
+  end_at (End side) x = λ map spells.
+      win_end side c.layout before row s (e.edit ed f) now won makes was is_leaf_then map spells
+      ∙ ap (end_said side (value before)) leaf ∙ settled_end side (value begin) (value before) f.trail.node.0 settled ∙ found_told side c begin f begun x
     where
-      was : WasOnPath before 0 (edit_leaf before s (e.edit ed f))
-      was = let p = x.trail.node.passed in subst (WasOnPath before 0) (sym leaf) (p.0, ends_trans before begin p.0 since p.1, p.3)
+      was : WasOnPath before (end_key side) (edit_leaf before s (e.edit ed f))
+      was = let p = x.trail.node.passed in subst (WasOnPath before (end_key side)) (sym leaf) (p.0, ends_trans before begin p.0 since p.1, p.3)
 
       is_leaf_then : is_leaf (value before) (edit_leaf before s (e.edit ed f)) ≡ true
       is_leaf_then = ap (is_leaf (value before)) leaf ∙ settled_leaf (value begin) (value before) f.trail.node.0 settled ∙ found.leaf
 
-  pub told_first : ToldFirst (e.goal ed) c.layout before f
-  told_first = first_at (e.goal ed) found
+  pub told_end : ToldEnd (e.goal ed) c.layout before f
+  told_end = end_at (e.goal ed) found
 
 module _ {E : Type 0} (e : EditMeaning E) (at_found : IsAtFound e) {A : Type 0} (m : UpdateRun E A) (scx after : ScxRun) (f : Found) (c : Call) (b begin h : History) (try : IsTry c b h m.limit m.tries) (x : Scxs e m (begun_at c b) h f scx begin)
     (same_scx : after.scx ≡ scx.scx) (same_update : after.update ≡ scx.update) (same_call : after.call ≡ scx.call) (done : IsDone (begun_at c begin) h after) where
@@ -174,7 +174,7 @@ module _ {E : Type 0} (e : EditMeaning E) (at_found : IsAtFound e) {A : Type 0} 
     call = same_call ∙ x.call;
   }
 
-  -- and, if the walk went to the least key, which pair was its first
-  pub made_at_leaf : (made : HasMade (e.edit m.edit f) c h m.call f.value) × ToldFirst (e.goal m.edit) c.layout made.before f
+  -- and, if the walk went to an end, which pair was there
+  pub made_at_leaf : (made : HasMade (e.edit m.edit f) c h m.call f.value) × ToldEnd (e.goal m.edit) c.layout made.before f
   unfolding has_made
-  made_at_leaf = (has_made, told_first e m.edit (begun_at c b) f begin before row after.scx.0 scx.update.snaps now y.since y.wins edits.makes x.found covers_leaf covers_snaps)
+  made_at_leaf = (has_made, told_end e m.edit (begun_at c b) f begin before row after.scx.0 scx.update.snaps now y.since y.wins edits.makes x.found covers_leaf covers_snaps)

@@ -363,9 +363,9 @@ module _ {E : Type 0} (e : EditMeaning E) where
   pub reads_word : {A : Type 0} (m : UpdateRun E A) (c : Call) (h : History) (f : Found) (n : NodeNo) (part : SettledPart) → CanRead e m c h f n → next_read m.read ≡ Some part → TryWaits e (standing m (Read f n part)) c h record { kind = LoadSettled; word = NodeOf n (Settled part); access = LoadAccess }
   reads_word m c h f n part x next = (
     record {
-      works = record { run = x.work.works.run; since = x.work.works.since; quiet = x.work.works.quiet; looked = x.work.works.looked; enough = x.work.works.enough; need = x.work.works.need; in_order = x.work.works.in_order; some = x.work.works.some };
+      works = x.work.works;
       full = x.work.full;
-      hand = record { lowest = x.work.hand.lowest; highest = x.work.hand.highest };
+      hand = x.work.hand;
       blank = x.work.blank;
       from = x.from;
       is = x.is;

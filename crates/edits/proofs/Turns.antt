@@ -48,9 +48,9 @@ use Rattle.edits.specs.declared.update.UpdateRun.{UpdateRun}
 use Rattle.template.specs.Blame.{IsContended}
 use Rattle.template.specs.Tries.{HasTriedAllBut}
 use Rattle.edits.specs.Next.{standing}
-use Rattle.edits.specs.Edits.{EditMeaning}
+use Rattle.edits.specs.Edits.{EditMeaning, says}
 use Rattle.edits.specs.Sound.{IsAtFound}
-use Rattle.edits.specs.Known.{RestsWith, AreUsable, CoversLeaf, MayBeginTry, Walks, CanLook, CanFill, Scxs, IsUntouched, HasLostTry, HasLostEveryTry, TryWaits, UpdateWaits, UpdateAnswers, HasMade, ToldFirst, done_at}
+use Rattle.edits.specs.Known.{RestsWith, AreUsable, CoversLeaf, MayBeginTry, Walks, CanLook, CanFill, Scxs, IsUntouched, HasLostTry, HasLostEveryTry, TryWaits, UpdateWaits, UpdateAnswers, HasMade, ToldEnd, done_at}
 use Rattle.edits.specs.Laws.Entered.{none_filled_yet, none_joined, none_lost, none_quiet}
 use Rattle.edits.specs.Laws.Kept.{idle_rests}
 use Rattle.edits.specs.Laws.Trying.{past_root}
@@ -82,10 +82,6 @@ rests_again c h left m l share next over real finished = record {
     less s i = grind arith
 
 module _ {E : Type 0} (e : EditMeaning E) where
-  -- a try less, and the same share
-  pub begins_again : {A : Type 0} (m now : UpdateRun E A) (c : Call) (h : History) → now.edit ≡ m.edit → now.share ≡ m.share → MayBeginTry e m c h → MayBeginTry e now c h
-  begins_again m now c h ed share b = record { run = b.run; small = rw ed b.small; since = b.since; rests = rw share b.rests }
-
   -- its walk begins with the root's head, and a try with it
   pub begins_walk : {A : Type 0} (m : UpdateRun E A) (walk : WalkRun) (c : Call) (h : History) → MayBeginTry e m c h → MayTry c h h m.limit m.tries → IsUntouched c h m.share → walk.goal ≡ e.goal m.edit → walk.trail.node.0 ≡ 0 → UpdateWaits e (standing m (Walk (record walk { at = Root }))) c h (load LoadSettled (node 0 (Settled HeadWord)))
   begins_walk m walk c h b try first is root = (
@@ -135,14 +131,7 @@ module _ {E : Type 0} (e : EditMeaning E) where
 
   pub fills_word : {A : Type 0} (m : UpdateRun E A) (f : Found) (nth : Nth) (part : NodeWord) (p : Piece) (n : NodeNo) (v : ℕ) (c : Call) (h : History) → CanFill e m c h f nth part → p ≡ e.pieces m.edit f m.snaps.items m.nodes m.read nth → n ≡ nth_node m.nodes nth → v ≡ word_of p part → TryWaits e (standing m (Fill f nth part)) c h record { kind = FillKind; word = NodeOf n part; access = Store v }
   fills_word m f nth part p n v c h x is_p is_n is_v = (
-    record {
-      works = record { run = x.fills.works.run; since = x.fills.works.since; quiet = x.fills.works.quiet; looked = x.fills.works.looked; enough = x.fills.works.enough; need = x.fills.works.need; in_order = x.fills.works.in_order; some = x.fills.works.some };
-      full = x.fills.full;
-      hand = record { lowest = x.fills.hand.lowest; highest = x.fills.hand.highest };
-      read = x.fills.read;
-      whole = x.fills.whole;
-      part_is = x.fills.part_is;
-    },
+    x.fills,
     x.may,
     x.words,
     (λ i. record { kind = FillKind; word = NodeOf (is_n i) part; access = Store ((is_v ∙ ap (λ q. word_of q part) (is_p ∙ sym x.same)) i) }),
@@ -204,7 +193,7 @@ module _ {E : Type 0} (e : EditMeaning E) where
       is_done : IsDone (begun_at c begin) h after
       is_done = rw done at w
 
-      made : (made : HasMade (e.edit m.edit f) c h m.call f.value) × ToldFirst (e.goal m.edit) c.layout made.before f
+      made : (made : HasMade (e.edit m.edit f) c h m.call f.value) × ToldEnd (e.goal m.edit) c.layout made.before f
       made = made_at_leaf e laws m scx after f c b begin h try x is_scx is_update is_call is_done
 
       finished : value h (state scx.scx.0) ≢ 0
@@ -266,7 +255,7 @@ module _ {E : Type 0} (e : EditMeaning E) where
   next_may m c h n s some b x = record { since = b.since; none = x.none; next = next_again c x.begin h m.limit m.tries x.try.newest n s x.way (m.tries - 1) some refl }
 
   -- and if none is left, all are lost to it
-  pub all_lost : {A : Type 0} (m : UpdateRun E A) (c : Call) (h : History) (n s : ℕ) → m.tries ≡ 0 → HasLostTry e m.edit c h m.limit m.tries n s → HasLostEveryTry e m.edit c h m.limit n s
+  pub all_lost : {A : Type 0} (m : UpdateRun E A) (c : Call) (h : History) (n s : ℕ) → m.tries ≡ 0 → HasLostTry e m.edit c h m.limit m.tries n s → HasLostEveryTry (says e m.edit) c h m.limit n s
   all_lost m c h n s none x = record {
     way = lost_way m c h n s x;
     none = x.none;

@@ -3,6 +3,7 @@ use Rattle.std.proofs.Common.{◌≡◌, ◌≢◌, ℕ, ◌^◌, ◌<◌, inl, 
 use native.Mathlib.Decide.{ℕ_discrete}
 use Rattle.arena.specs.declared.layout.Layout.{Layout}
 use Rattle.arena.specs.declared.step.Row.{Row}
+use Rattle.arena.specs.declared.word.Side.{Side}
 use Rattle.arena.specs.Blame.{IsInProgress}
 use Rattle.arena.specs.Fills.{IsOwnScx, IsOthersScx}
 use Rattle.arena.specs.History.{History, Start, ◌⊳◌, value, Extends}
@@ -16,21 +17,21 @@ use Rattle.histories.specs.Descriptor.{descriptor}
 use Rattle.histories.proofs.Lemmas.{Facts, IsOwned, Logs, facts, facts_before, lawful_since, lawful_tail, logs, same, update_changes, update_is_first, wins, won_since}
 use Rattle.prims.specs.Laws.Idle.{out_by_others}
 use Rattle.prims.proofs.Lemmas.{wins_in_progress}
-use Rattle.ordered_map.specs.Paths.{IsAnswerAt, IsFirstAt}
+use Rattle.ordered_map.specs.Paths.{IsAnswerAt, IsEndAt}
 use Rattle.ordered_map.specs.TreeWords.{said}
-use Rattle.ordered_map.specs.OrderedMap.{MapEdit, edited, first_pair, get}
+use Rattle.ordered_map.specs.OrderedMap.{MapEdit, edited, end_pair, get}
 use Rattle.ordered_map.specs.Runs.{IsTreeRun}
 use Rattle.ordered_map.specs.Spelled.{Spells}
 use Rattle.ordered_map.specs.declared.pair.Pair.{Pair}
 use Rattle.ordered_map.specs.Laws.{AreEdits}
 use Rattle.ordered_map.specs.Runs.{map_of_log}
 use Rattle.ordered_map.proofs.Lemmas.{log_edits, one_spelling, spells_log, walk_answers, wins_of}
-use Rattle.template.proofs.Lemmas.{found_first, own_since}
-use Rattle.template.specs.FoundLeaf.{HasFoundGoal, HasFoundLeaf, first_told}
+use Rattle.template.proofs.Lemmas.{found_end, own_since}
+use Rattle.template.specs.FoundLeaf.{HasFoundGoal, HasFoundLeaf, end_told}
 use Rattle.template.specs.declared.walk.Found.{Found}
-use Rattle.ordered_map.specs.declared.rule.Goal.TheVariants.{Least}
+use Rattle.ordered_map.specs.declared.rule.Goal.TheVariants.{End}
 use Rattle.template.specs.Blame.{IsContended}
-use Rattle.edits.specs.Known.{HasMade, ToldFirst}
+use Rattle.edits.specs.Known.{HasMade, ToldEnd}
 use Rattle.edits.specs.Tries.{HasEnteredNone}
 
 -- no update wins in h behind the moment `start`
@@ -113,12 +114,12 @@ module _ (c : Call) (h : History) (run : IsTreeRun c.layout h) (alone : IsUndist
       answer : IsAnswerAt c.layout h c.start key (said (value h) key f.trail.node.0)
       answer = record { moment = then.moment; within = then.within; since = ends_trans then.moment first c.start then.since (own_since c first found.trail.node.own); map = then.map; spelled = then.spelled; gives = then.gives }
 
-  -- on its way to the least key it has found the first pair of the map
-  pub alone_found_first : (f : Found) (map : List Pair) → HasFoundGoal Least c h f → HasEnteredNone c.layout c.pass h c.start → Spells c.layout (value c.start) map → first_pair map ≡ first_told f
-  alone_found_first f map found none spells =
-      let x : IsFirstAt c.layout h found.trail.node.first (first_told f) = found_first c h f run found in
+  -- on its way to an end it has found the pair there
+  pub alone_found_end : (side : Side) (f : Found) (map : List Pair) → HasFoundGoal (End side) c h f → HasEnteredNone c.layout c.pass h c.start → Spells c.layout (value c.start) map → end_pair side map ≡ end_told f
+  alone_found_end side f map found none spells =
+      let x : IsEndAt side c.layout h found.trail.node.first (end_told f) = found_end side c h f run found in
       let since : Extends x.moment c.start = ends_trans x.moment found.trail.node.first c.start x.since (own_since c found.trail.node.first found.trail.node.own) in
-      ap first_pair (one_spelling c.layout (value x.moment) map x.map (alone_keeps x.moment map x.within since none spells) x.spelled) ∙ x.is
+      ap (end_pair side) (one_spelling c.layout (value x.moment) map x.map (alone_keeps x.moment map x.within since none spells) x.spelled) ∙ x.is
 
   -- what it has made it has made of the map that was there
   module _ (edit : MapEdit) (number : ℕ) (old : Option ℕ) (map : List Pair) (x : HasMade edit c h number old) (spells : Spells c.layout (value c.start) map) where
@@ -156,8 +157,8 @@ module _ (c : Call) (h : History) (run : IsTreeRun c.layout h) (alone : IsUndist
     before_spells : Spells c.layout (value x.before) map
     before_spells = spells_still c.layout h x.before c.start map run before_in x.since (log_still c.layout x.before c.start (lawful_tail c.layout x.before x.row here) x.since before_it) spells
 
-    pub alone_made_first : (f : Found) → ToldFirst Least c.layout x.before f → first_pair map ≡ first_told f
-    alone_made_first f told = told map before_spells
+    pub alone_made_end : (side : Side) (f : Found) → ToldEnd (End side) c.layout x.before f → end_pair side map ≡ end_told f
+    alone_made_end side f told = told map before_spells
 
     pub alone_made : Spells c.layout (value x.before) map × Spells c.layout (value h) (edited edit map)
     alone_made = (

@@ -41,6 +41,26 @@ pub record EditMeaning (E : Type 0) : Type 0 where
   -- at most so many fills
   pub most_fills : E → ℕ
 
+-- what an edit says that says what another one does: `of` is the other one
+abbrev pub through : {E F : Type 0} → EditMeaning E → (F → E) → EditMeaning F
+through m of = record {
+  goal = λ e. m.goal (of e);
+  edit = λ e f. m.edit (of e) f;
+  needs = λ e f. m.needs (of e) f;
+  most_nodes = λ e. m.most_nodes (of e);
+  side = λ e f. m.side (of e) f;
+  looks = λ e f snaps. m.looks (of e) f snaps;
+  most_looks = λ e. m.most_looks (of e);
+  reads = λ e f snaps. m.reads (of e) f snaps;
+  most_reads = λ e. m.most_reads (of e);
+  pieces = λ e f snaps ns read nth. m.pieces (of e) f snaps ns read nth;
+  most_fills = λ e. m.most_fills (of e);
+}
+
+-- what an edit says at its own value
+abbrev pub says : {E : Type 0} → EditMeaning E → E → EditMeaning (Unit {0})
+says m e = through m (λ none. e)
+
 -- the bounds of an edit are right
 pub record EditBounds {E : Type 0} (m : EditMeaning E) : Type 0 where
   pub few_looks : (e : E) (f : Found) (snaps : List Snap) (n : NodeNo) → m.looks e f snaps ≡ At n → length snaps < m.most_looks e

@@ -11,6 +11,7 @@ use Rattle.arena.specs.declared.step.Kind.TheVariants.{LoadSettled}
 use Rattle.arena.specs.declared.word.NodeWord.{NodeWord}
 use Rattle.arena.specs.declared.word.NodeWord.TheVariants.{Settled}
 use Rattle.arena.specs.declared.word.SettledPart.{SettledPart}
+use Rattle.arena.specs.declared.word.Side.{Side}
 use Rattle.arena.specs.declared.number.NodeNo.{NodeNo}
 use Rattle.arena.specs.Fills.{IsNamed, IsOwnNode, IsOwnScx, IsTakenNode}
 use Rattle.arena.specs.History.{History, ◌⊳◌, value, Extends}
@@ -31,18 +32,19 @@ use Rattle.prims.specs.declared.llx.LlxRun.{LlxRun}
 use Rattle.prims.specs.declared.scx.ScxRun.{ScxRun}
 use Rattle.prims.specs.declared.snap.Snap.{Snap}
 use Rattle.prims.specs.declared.update.Update.{Update}
-use Rattle.ordered_map.specs.OrderedMap.{MapEdit, edit_key, first_pair, get}
+use Rattle.ordered_map.specs.OrderedMap.{MapEdit, edit_key, end_pair, get}
 use Rattle.ordered_map.specs.Runs.{IsTreeRun, IsEditAt}
 use Rattle.ordered_map.specs.Spelled.{Spells}
 use Rattle.ordered_map.specs.TreeShape.{TreeAllows, edit_leaf}
 use Rattle.ordered_map.specs.declared.pair.Pair.{Pair}
-use Rattle.template.specs.FoundLeaf.{path_key, first_told, HasFoundGoal}
+use Rattle.template.specs.FoundLeaf.{path_key, end_told, HasFoundGoal}
 use Rattle.template.specs.Promises.{IsFresh}
 use Rattle.template.specs.Tracked.{Tracks}
 use Rattle.template.specs.Walk.Known.{WalkIsReady, WalkWaits}
 use Rattle.template.specs.declared.walk.Found.{Found}
 use Rattle.ordered_map.specs.declared.rule.Goal.{Goal}
-use Rattle.ordered_map.specs.declared.rule.Goal.TheVariants.{Key as ToKey, Least}
+use Rattle.ordered_map.specs.declared.rule.Goal.TheVariants.{Key as ToKey, End}
+use Rattle.edits.specs.declared.edit.Look.{Look as LookOf}
 use Rattle.edits.specs.declared.edit.Look.TheVariants.{At, Enough}
 use Rattle.edits.specs.declared.edit.Need.{Need}
 use Rattle.edits.specs.declared.edit.Need.TheVariants.{Nothing, One, Three}
@@ -58,7 +60,7 @@ use Rattle.edits.specs.declared.update.UpdateAt.TheVariants.{Start, Walk, Look, 
 use Rattle.edits.specs.declared.update.UpdateRun.{UpdateRun}
 use Rattle.template.specs.Blame.{IsContended, HasLostTriesTo}
 use Rattle.template.specs.Tries.{HasTriedAllBut}
-use Rattle.edits.specs.Edits.{EditMeaning}
+use Rattle.edits.specs.Edits.{EditMeaning, says}
 use Rattle.edits.specs.Laws.Hand.{HasFilledTo, IsForField, FieldMay}
 use Rattle.edits.specs.Laws.NodeFills.{node_fill}
 use Rattle.edits.specs.Laws.PieceFills.{IsUnfilled, HoldsWords, HoldsBefore, HoldsUpTo}
@@ -178,44 +180,40 @@ pub record HasMade (edit : MapEdit) (c : Call) (h : History) (number : ℕ) (old
   pub owner : entry.owner ≡ c.pass
   pub call : entry.call ≡ number
 
--- a walk to the least key told the first pair of the map of this moment
-abbrev pub ToldFirst : Goal → Layout → History → Found → Type 0
-ToldFirst (ToKey k) lay moment f = Unit {0}
-ToldFirst Least lay moment f = (map : List Pair) → Spells lay (value moment) map → first_pair map ≡ first_told f
+-- a walk to an end told the pair at that end of the map of this moment
+abbrev pub ToldEnd : Goal → Layout → History → Found → Type 0
+ToldEnd (ToKey k) lay moment f = Unit {0}
+ToldEnd (End side) lay moment f = (map : List Pair) → Spells lay (value moment) map → end_pair side map ≡ end_told f
 
 -- what an update answers that is done at this leaf
 abbrev pub done_at : Found → Updated
 done_at f = Done f.key f.value
 
+-- each snapshot is of the node that an edit's looks name behind those before it
+abbrev pub AreSeen : (Found → List Snap → LookOf) → Found → List Snap → Type 0
+AreSeen looks f snaps = (i : ℕ) → i < length snaps → looks f (take i snaps) ≡ At (snap_at snaps i).node
+
+-- what is known of the leaf, to which the edit's walk was to go, and of the snapshots
+pub record HasLookedBy (looks : Found → List Snap → LookOf) (c : Call) (h : History) (goal : Goal) (f : Found) (snaps : List Snap) : Type 0 where
+  pub small : path_key goal < 2 ^ 64
+  pub found : HasFoundGoal goal c h f
+  pub usable : AreUsable c h goal f snaps
+  pub seen : AreSeen looks f snaps
+
+-- the update covers all that was looked at, finalizes all but the first, and puts the last fresh node
+-- into the field of that on this side
+pub record IsUpdateFor (side : Side) (need : Need) (snaps : List Snap) (ns : Nodes) (u : Update) : Type 0 where
+  pub covers : u.snaps ≡ snaps
+  pub plan : u.plan.0 ≡ plan_over (length snaps) side
+  pub old : u.old ≡ child_of (snap_at snaps 0) side
+  pub fresh : u.fresh.0 ≡ top_of need ns
+
+-- this fresh node is one of those up to the last
+pub record IsInHand (ns : Nodes) (last : ℕ) (nth : Nth) : Type 0 where
+  pub lowest : ns.first.0 ≤ (nth_node ns nth).0
+  pub highest : (nth_node ns nth).0 ≤ last
+
 module _ {E : Type 0} (e : EditMeaning E) where
-  -- each snapshot is of the node that the edit has named behind those before it
-  abbrev pub AreSeen : E → Found → List Snap → Type 0
-  AreSeen ed f snaps = (i : ℕ) → i < length snaps → e.looks ed f (take i snaps) ≡ At (snap_at snaps i).node
-
-  -- what is known of the leaf and of the snapshots
-  pub record HasLooked (c : Call) (h : History) (ed : E) (f : Found) (snaps : List Snap) : Type 0 where
-    pub small : path_key (e.goal ed) < 2 ^ 64
-    pub found : HasFoundGoal (e.goal ed) c h f
-    pub usable : AreUsable c h (e.goal ed) f snaps
-    pub seen : AreSeen ed f snaps
-
-  -- all is looked at, all is read, and its fresh nodes hold what they are to
-  pub record HasFilledAll (c : Call) (h : History) (ed : E) (f : Found) (snaps : List Snap) (ns : Nodes) (read : Reading) : Type 0 where
-    pub looked : HasLooked c h ed f snaps
-    pub enough : e.looks ed f snaps ≡ Enough
-    pub in_order : StandInRow (e.needs ed f) ns
-    pub right : MayReadAt c.layout h (e.reads ed f snaps) read
-    pub whole : IsReadWhole (e.reads ed f snaps) read
-    pub holds : (i : Nth) → IsNeeded (e.needs ed f) i → HoldsPiece c h (nth_node ns i).0 (e.pieces ed f snaps ns read i)
-
-  -- the update covers all that was looked at, finalizes all but the first, and puts the last fresh
-  -- node into a field of that
-  pub record IsUpdateFor (ed : E) (f : Found) (snaps : List Snap) (ns : Nodes) (u : Update) : Type 0 where
-    pub covers : u.snaps ≡ snaps
-    pub plan : u.plan.0 ≡ plan_over (length snaps) (e.side ed f)
-    pub old : u.old ≡ child_of (snap_at snaps 0) (e.side ed f)
-    pub fresh : u.fresh.0 ≡ top_of (e.needs ed f) ns
-
   -- whatever the SCX-record s makes of these snapshots later, the leaf of the edit is the one that
   -- was found
   abbrev pub CoversLeaf : E → Found → Call → History → ℕ → List Snap → Type 0
@@ -229,25 +227,9 @@ module _ {E : Type 0} (e : EditMeaning E) where
   abbrev pub top : {A : Type 0} → UpdateRun E A → Found → ℕ
   top m f = top_of (e.needs m.edit f) m.nodes
 
-  -- all is looked at, and this fresh node is needed
-  pub record WorksAtNode {A : Type 0} (m : UpdateRun E A) (c : Call) (h : History) (f : Found) (nth : Nth) : Type 0 where
-    pub run : IsTreeRun c.layout h
-    pub since : Extends h c.start
-    pub quiet : IsQuietSince c.layout c.pass c.start h
-    pub looked : HasLooked c h m.edit f m.snaps.items
-    pub enough : e.looks m.edit f m.snaps.items ≡ Enough
-    pub need : IsNeeded (e.needs m.edit f) nth
-    pub in_order : StandInRow (e.needs m.edit f) m.nodes
-    pub some : 0 < m.share.scx
-
   -- those before it are full
   abbrev pub AreFull : {A : Type 0} → UpdateRun E A → Call → History → Found → Nth → Type 0
   AreFull m c h f nth = HasFilledTo c.layout h c.pass m.share m.nodes.first.0 (top m f) (nth_node m.nodes nth).0 (piece m f)
-
-  -- this one is one of them
-  pub record IsInHand {A : Type 0} (m : UpdateRun E A) (f : Found) (nth : Nth) : Type 0 where
-    pub lowest : m.nodes.first.0 ≤ (nth_node m.nodes nth).0
-    pub highest : (nth_node m.nodes nth).0 ≤ top m f
 
   -- nothing of it is filled
   abbrev pub IsBlankHere : {A : Type 0} → UpdateRun E A → History → Nth → Type 0
@@ -261,79 +243,195 @@ module _ {E : Type 0} (e : EditMeaning E) where
   abbrev pub HasRead : {A : Type 0} → UpdateRun E A → Call → History → Found → Type 0
   HasRead m c h f = MayReadAt c.layout h (e.reads m.edit f m.snaps.items) m.read
 
-  -- What it waits for
+-- What is known of an edit and of its update. It goes by what the edit says at its own value and by
+-- what the update has, and not by the edit's type: so it is the same of two that say the same.
+module _ (e : EditMeaning (Unit {0})) where
+  -- all is looked at, all is read, and its fresh nodes hold what they are to
+  pub record HasFilledAs (c : Call) (h : History) (f : Found) (snaps : List Snap) (ns : Nodes) (read : Reading) : Type 0 where
+    pub looked : HasLookedBy (e.looks tt) c h (e.goal tt) f snaps
+    pub enough : e.looks tt f snaps ≡ Enough
+    pub in_order : StandInRow (e.needs tt f) ns
+    pub right : MayReadAt c.layout h (e.reads tt f snaps) read
+    pub whole : IsReadWhole (e.reads tt f snaps) read
+    pub holds : (i : Nth) → IsNeeded (e.needs tt f) i → HoldsPiece c h (nth_node ns i).0 (e.pieces tt f snaps ns read i)
 
-  -- a step of an LLX, which has begun at a moment of the call
-  pub record Looks {A : Type 0} (m : UpdateRun E A) (c : Call) (h : History) (f : Found) (llx : LlxRun) (begin : History) : Type 0 where
-    pub run : IsTreeRun c.layout h
-    pub looked : HasLooked c h m.edit f m.snaps.items
-    pub rests : RestsWith c h m.share
-    pub room : HasNodesFor (e.needs m.edit f) m.share
-    pub named : e.looks m.edit f m.snaps.items ≡ At llx.node
-    pub now : Extends h c.start
-    pub quiet : IsQuietSince c.layout c.pass c.start h
-    pub since : Extends begin c.start
+  module _ (m : UpdateRun (Unit {0}) (Unit {0})) where
+    -- all is looked at, and this fresh node is needed
+    pub record WorksAs (c : Call) (h : History) (f : Found) (nth : Nth) : Type 0 where
+      pub run : IsTreeRun c.layout h
+      pub since : Extends h c.start
+      pub quiet : IsQuietSince c.layout c.pass c.start h
+      pub looked : HasLookedBy (e.looks tt) c h (e.goal tt) f m.snaps.items
+      pub enough : e.looks tt f m.snaps.items ≡ Enough
+      pub need : IsNeeded (e.needs tt f) nth
+      pub in_order : StandInRow (e.needs tt f) m.nodes
+      pub some : 0 < m.share.scx
 
-  -- the load of a word of the node that is read
-  pub record Reads {A : Type 0} (m : UpdateRun E A) (c : Call) (h : History) (f : Found) (node : NodeNo) (part : SettledPart) : Type 0 where
-    pub works : WorksAtNode m c h f First
-    pub full : AreFull m c h f First
-    pub hand : IsInHand m f First
-    pub blank : IsBlankHere m h First
-    pub from : Reading
-    pub is : e.reads m.edit f m.snaps.items ≡ Some (node, from)
-    pub read : MayRead c.layout h node.0 m.read
-    pub next : next_read m.read ≡ Some part
+    -- a step of an LLX, which has begun at a moment of the call
+    pub record LooksAs (c : Call) (h : History) (f : Found) (llx : LlxRun) (begin : History) : Type 0 where
+      pub run : IsTreeRun c.layout h
+      pub looked : HasLookedBy (e.looks tt) c h (e.goal tt) f m.snaps.items
+      pub rests : RestsWith c h m.share
+      pub room : HasNodesFor (e.needs tt f) m.share
+      pub named : e.looks tt f m.snaps.items ≡ At llx.node
+      pub now : Extends h c.start
+      pub quiet : IsQuietSince c.layout c.pass c.start h
+      pub since : Extends begin c.start
 
-  -- the fill of a word of it, with what the piece says
-  pub record FillsPiece {A : Type 0} (m : UpdateRun E A) (c : Call) (h : History) (f : Found) (nth : Nth) (part : NodeWord) : Type 0 where
-    pub works : WorksAtNode m c h f nth
-    pub full : AreFull m c h f nth
-    pub hand : IsInHand m f nth
-    pub read : HasRead m c h f
-    pub whole : IsReadWhole (e.reads m.edit f m.snaps.items) m.read
-    pub part_is : is_filled (piece_here m f nth) part ≡ true
+    -- the load of a word of the node that is read
+    pub record ReadsAs (c : Call) (h : History) (f : Found) (node : NodeNo) (part : SettledPart) : Type 0 where
+      pub works : WorksAs c h f First
+      pub full : AreFull e m c h f First
+      pub hand : IsInHand m.nodes (top e m f) First
+      pub blank : IsBlankHere e m h First
+      pub from : Reading
+      pub is : e.reads tt f m.snaps.items ≡ Some (node, from)
+      pub read : MayRead c.layout h node.0 m.read
+      pub next : next_read m.read ≡ Some part
+
+    -- the fill of a word of it, with what the piece says
+    pub record FillsAs (c : Call) (h : History) (f : Found) (nth : Nth) (part : NodeWord) : Type 0 where
+      pub works : WorksAs c h f nth
+      pub full : AreFull e m c h f nth
+      pub hand : IsInHand m.nodes (top e m f) nth
+      pub read : HasRead e m c h f
+      pub whole : IsReadWhole (e.reads tt f m.snaps.items) m.read
+      pub part_is : is_filled (piece_here e m f nth) part ≡ true
+
+    -- a step of its SCX, which has the fresh nodes and an SCX-record in hand
+    pub record ScxsAs (c : Call) (h : History) (f : Found) (scx : ScxRun) (begin : History) : Type 0 where
+      pub run : IsTreeRun c.layout h
+      pub small : path_key (e.goal tt) < 2 ^ 64
+      pub now : Extends h c.start
+      pub since : Extends begin c.start
+      pub share : IsShare c.layout h c.pass m.share m.share.next_node scx.scx.0
+      pub next_node : m.share.next_node ≡ suc scx.update.fresh.0
+      pub next_scx : m.share.next_scx ≡ suc scx.scx.0
+      pub call : scx.call ≡ m.call
+      pub own : IsOwnNode c.layout c.pass scx.update.fresh.0
+      pub own_scx : IsOwnScx c.layout c.pass scx.scx.0
+      pub over : AreFinished c.layout c.pass scx.scx.0 h
+      -- it makes the edit, if it makes any, and no other of the pass has won since the try began
+      pub tracks : Tracks c.layout c.pass h (job_of scx) (e.edit tt f)
+      pub only : HasEnteredOnly c.layout c.pass scx.scx.0 h c.start
+      -- as it began the leaf was found, at which there is something to make, the snapshots could be
+      -- used, and it covers that leaf
+      pub found : HasFoundGoal (e.goal tt) c begin f
+      pub need : e.needs tt f ≢ Nothing
+      pub usable : AreUsable c begin (e.goal tt) f scx.update.snaps
+      pub quiet : IsQuietSince c.layout c.pass c.start begin
+      pub leaf : CoversLeaf e tt f c begin scx.scx.0 scx.update.snaps
+
+    -- the walk goes where the edit's is to go, the pass is at rest, and has filled nothing since the
+    -- walk's begin
+    pub record WalksAs (c : Call) (h : History) (goal : Goal) : Type 0 where
+      pub small : path_key (e.goal tt) < 2 ^ 64
+      pub rests : RestsWith c h m.share
+      pub quiet : IsQuietSince c.layout c.pass c.start h
+      pub none_filled : HasFilledNone c.pass h c.start
+      pub same : goal ≡ e.goal tt
+
+    -- it may begin a try
+    pub record BeginsAs (c : Call) (h : History) : Type 0 where
+      pub run : IsTreeRun c.layout h
+      pub small : path_key (e.goal tt) < 2 ^ 64
+      pub since : Extends h c.start
+      pub rests : RestsWith c h m.share
+
+  -- What it answers
+
+  -- there was nothing to make at the leaf that it tells, which it has found; the pass has entered
+  -- nothing, and has only looked in its newest try
+  pub record HasNothingToMake (c : Call) (h : History) (found : Found) : Type 0 where
+    pub has_found : HasFoundGoal (e.goal tt) c h found
+    pub needless : e.needs tt found ≡ Nothing
+    pub none : HasEnteredNone c.layout c.pass h c.start
+    pub only_looked : HasOnlyLooked c.pass h c.start
+
+  -- The share has too little left for the edit at the leaf that was found in the newest try, in
+  -- which the pass has only looked. Nothing of the share was taken since the call began, or another
+  -- pass was in the way. The pass has entered nothing.
+  pub record IsFullFor (left : Remaining) (c : Call) (h : History) (full : Full) : Type 0 where
+    pub only_looked : HasOnlyLooked c.pass h c.start
+    pub found : Found
+    pub has_found : HasFoundGoal (e.goal tt) (begun_at c only_looked.begin) h found
+    pub needed : e.needs tt found ≢ Nothing
+    pub short : IsShort (e.needs tt found) left full.what full.left
+    pub first : IsUntouched c h left
+    pub none : HasEnteredNone c.layout c.pass h c.start
+
+  -- at a moment of the call it had found this leaf, at which there was something to make
+  pub record WasNeeded (c : Call) (h : History) (found : Found) : Type 0 where
+    pub moment : History
+    pub within : Extends h moment
+    pub has_found : HasFoundGoal (e.goal tt) c moment found
+    pub needed : e.needs tt found ≢ Nothing
+
+  -- All tries of the call, so many, were lost, the newest to the SCX-record s over the node n; in
+  -- it the call has found a leaf at which there was something to make. The pass has entered
+  -- nothing.
+  pub record HasLostEveryTry (c : Call) (h : History) (limit n s : ℕ) : Type 0 where
+    pub way : IsContended c h n s
+    pub none : HasEnteredNone c.layout c.pass h c.start
+    pub all : HasLostTriesTo c.pass h c.start limit n s
+    pub found : Found
+    pub needed : WasNeeded (begun_at c all.lost.begin) h found
+
+  -- There was nothing to make at this leaf, or the edit is made there. Where the walk goes to an end,
+  -- the leaf tells the pair at that end of the map just before the entry.
+  abbrev pub IsDoneAt : ℕ → Call → History → Found → Type 0
+  IsDoneAt number c h found = HasNothingToMake c h found
+      ⊎ ((made : HasMade (e.edit tt found) c h number found.value) × WasNeeded c h found × ToldEnd (e.goal tt) c.layout made.before found)
+
+  -- so it is at a leaf of this key, which had this value
+  pub record IsDoneWith (number : ℕ) (c : Call) (h : History) (key : ℕ) (value : Option ℕ) : Type 0 where
+    pub found : Found
+    pub is_key : found.key ≡ key
+    pub is_value : found.value ≡ value
+    pub is_done : IsDoneAt number c h found
+
+-- Of an edit of some type
+
+-- what an update has, whatever the type of its edit is, and wherever it stands
+abbrev pub bare : {E A : Type 0} → UpdateRun E A → UpdateRun (Unit {0}) (Unit {0})
+bare m = record { edit = tt; share = m.share; snaps = m.snaps; nodes = m.nodes; read = m.read; tries = 0; limit = 0; call = m.call; at = tt }
+
+module _ {E : Type 0} (e : EditMeaning E) where
+  -- each of these is known of it, or of its update, as it is above of one that says the same
+  abbrev pub HasLooked : Call → History → E → Found → List Snap → Type 0
+  HasLooked c h ed f snaps = HasLookedBy (e.looks ed) c h (e.goal ed) f snaps
+
+  abbrev pub HasFilledAll : Call → History → E → Found → List Snap → Nodes → Reading → Type 0
+  HasFilledAll c h ed f snaps ns read = HasFilledAs (says e ed) c h f snaps ns read
+
+  abbrev pub WorksAtNode : {A : Type 0} → UpdateRun E A → Call → History → Found → Nth → Type 0
+  WorksAtNode m c h f nth = WorksAs (says e m.edit) (bare m) c h f nth
+
+  abbrev pub Looks : {A : Type 0} → UpdateRun E A → Call → History → Found → LlxRun → History → Type 0
+  Looks m c h f llx begin = LooksAs (says e m.edit) (bare m) c h f llx begin
+
+  abbrev pub Reads : {A : Type 0} → UpdateRun E A → Call → History → Found → NodeNo → SettledPart → Type 0
+  Reads m c h f node part = ReadsAs (says e m.edit) (bare m) c h f node part
+
+  abbrev pub FillsPiece : {A : Type 0} → UpdateRun E A → Call → History → Found → Nth → NodeWord → Type 0
+  FillsPiece m c h f nth part = FillsAs (says e m.edit) (bare m) c h f nth part
+
+  abbrev pub Scxs : {A : Type 0} → UpdateRun E A → Call → History → Found → ScxRun → History → Type 0
+  Scxs m c h f scx begin = ScxsAs (says e m.edit) (bare m) c h f scx begin
+
+  abbrev pub Walks : {A : Type 0} → UpdateRun E A → Call → History → Goal → Type 0
+  Walks m c h goal = WalksAs (says e m.edit) (bare m) c h goal
+
+  abbrev pub MayBeginTry : {A : Type 0} → UpdateRun E A → Call → History → Type 0
+  MayBeginTry m c h = BeginsAs (says e m.edit) (bare m) c h
 
   -- that word is filled, as those before it
   abbrev pub IsFilledUpTo : {A : Type 0} → UpdateRun E A → Call → History → Found → Nth → NodeWord → Type 0
-  IsFilledUpTo m c h f nth part = FillsPiece m c h f nth part × HoldsUpTo h (nth_node m.nodes nth).0 (piece_here m f nth) part × IsTakenNode h (nth_node m.nodes nth).0
-
-  -- a step of its SCX, which has the fresh nodes and an SCX-record in hand
-  pub record Scxs {A : Type 0} (m : UpdateRun E A) (c : Call) (h : History) (f : Found) (scx : ScxRun) (begin : History) : Type 0 where
-    pub run : IsTreeRun c.layout h
-    pub small : path_key (e.goal m.edit) < 2 ^ 64
-    pub now : Extends h c.start
-    pub since : Extends begin c.start
-    pub share : IsShare c.layout h c.pass m.share m.share.next_node scx.scx.0
-    pub next_node : m.share.next_node ≡ suc scx.update.fresh.0
-    pub next_scx : m.share.next_scx ≡ suc scx.scx.0
-    pub call : scx.call ≡ m.call
-    pub own : IsOwnNode c.layout c.pass scx.update.fresh.0
-    pub own_scx : IsOwnScx c.layout c.pass scx.scx.0
-    pub over : AreFinished c.layout c.pass scx.scx.0 h
-    -- it makes the edit, if it makes any, and no other of the pass has won since the try began
-    pub tracks : Tracks c.layout c.pass h (job_of scx) (e.edit m.edit f)
-    pub only : HasEnteredOnly c.layout c.pass scx.scx.0 h c.start
-    -- as it began the leaf was found, at which there is something to make, the snapshots could be
-    -- used, and it covers that leaf
-    pub found : HasFoundGoal (e.goal m.edit) c begin f
-    pub need : e.needs m.edit f ≢ Nothing
-    pub usable : AreUsable c begin (e.goal m.edit) f scx.update.snaps
-    pub quiet : IsQuietSince c.layout c.pass c.start begin
-    pub leaf : CoversLeaf m.edit f c begin scx.scx.0 scx.update.snaps
-
-  -- the walk goes where the edit's is to go, the pass is at rest, and has filled nothing since the
-  -- walk's begin
-  pub record Walks {A : Type 0} (m : UpdateRun E A) (c : Call) (h : History) (goal : Goal) : Type 0 where
-    pub small : path_key (e.goal m.edit) < 2 ^ 64
-    pub rests : RestsWith c h m.share
-    pub quiet : IsQuietSince c.layout c.pass c.start h
-    pub none_filled : HasFilledNone c.pass h c.start
-    pub same : goal ≡ e.goal m.edit
+  IsFilledUpTo m c h f nth part = FillsPiece m c h f nth part × HoldsUpTo h (nth_node m.nodes nth).0 (piece_here e m f nth) part × IsTakenNode h (nth_node m.nodes nth).0
 
   -- the word that is filled
   abbrev pub piece_fill_step : {A : Type 0} → UpdateRun E A → Found → Nth → NodeWord → Step
-  piece_fill_step m f nth part = node_fill (nth_node m.nodes nth).0 part (word_of (piece m f (nth_node m.nodes nth).0) part)
+  piece_fill_step m f nth part = node_fill (nth_node m.nodes nth).0 part (word_of (piece e m f (nth_node m.nodes nth).0) part)
 
   -- what holds while it waits for this step at this place
   abbrev pub UpdateWaitsAt : {A : Type 0} → UpdateRun E A → Call → History → Step → UpdateAt → Type 0
@@ -341,7 +439,7 @@ module _ {E : Type 0} (e : EditMeaning E) where
   UpdateWaitsAt m c h s (Walk walk) = Walks m c h walk.goal × WalkWaits walk c h s
   UpdateWaitsAt m c h s (Look f llx) = (begin : History) × Looks m c h f llx begin × LlxWaits TreeAllows llx (begun_at c begin) h s
   UpdateWaitsAt m c h s (Read f n part) = Reads m c h f n part × (s ≡ load LoadSettled (node n.0 (Settled part)))
-  UpdateWaitsAt m c h s (Fill f nth part) = FillsPiece m c h f nth part × FieldMay part (IsForField c.layout h m.nodes.first.0 (top m f) (word_of (piece m f (nth_node m.nodes nth).0) part)) × HoldsBefore h (nth_node m.nodes nth).0 (piece_here m f nth) part × (s ≡ piece_fill_step m f nth part)
+  UpdateWaitsAt m c h s (Fill f nth part) = FillsPiece m c h f nth part × FieldMay part (IsForField c.layout h m.nodes.first.0 (top e m f) (word_of (piece e m f (nth_node m.nodes nth).0) part)) × HoldsBefore h (nth_node m.nodes nth).0 (piece_here e m f nth) part × (s ≡ piece_fill_step m f nth part)
   UpdateWaitsAt m c h s (Scx f scx) = (begin : History) × Scxs m c h f scx begin × ScxWaits TreeAllows scx (begun_at c begin) h s
 
   -- what holds once the step of this place has told v
@@ -352,13 +450,6 @@ module _ {E : Type 0} (e : EditMeaning E) where
   UpdateIsToldAt m c h v (Read f n part) = Reads m c h f n part × (value h (node n.0 (Settled part)) ≡ v)
   UpdateIsToldAt m c h v (Fill f nth part) = IsFilledUpTo m c h f nth part
   UpdateIsToldAt m c h v (Scx f scx) = (begin : History) × Scxs m c h f scx begin × ScxIsReady TreeAllows scx (begun_at c begin) h (Some v)
-
-  -- it may begin a try
-  pub record MayBeginTry {A : Type 0} (m : UpdateRun E A) (c : Call) (h : History) : Type 0 where
-    pub run : IsTreeRun c.layout h
-    pub small : path_key (e.goal m.edit) < 2 ^ 64
-    pub since : Extends h c.start
-    pub rests : RestsWith c h m.share
 
   -- while it walks in its first try nothing of its share is taken
   abbrev pub FirstOrLost : {A : Type 0} → UpdateRun E A → Call → History → UpdateAt → Type 0
@@ -396,9 +487,9 @@ module _ {E : Type 0} (e : EditMeaning E) where
   -- it may begin to read, or to fill its fresh nodes: it has taken them
   pub record CanWork {A : Type 0} (m : UpdateRun E A) (c : Call) (h : History) (f : Found) : Type 0 where
     pub works : WorksAtNode m c h f First
-    pub full : AreFull m c h f First
-    pub hand : IsInHand m f First
-    pub blank : IsBlankHere m h First
+    pub full : AreFull e m c h f First
+    pub hand : IsInHand m.nodes (top e m f) First
+    pub blank : IsBlankHere e m h First
 
   -- it may go on to read this node
   pub record CanRead {A : Type 0} (m : UpdateRun E A) (c : Call) (h : History) (f : Found) (node : NodeNo) : Type 0 where
@@ -410,18 +501,18 @@ module _ {E : Type 0} (e : EditMeaning E) where
   -- it may fill the fresh node of this place, from its head on
   pub record CanFillNode {A : Type 0} (m : UpdateRun E A) (c : Call) (h : History) (f : Found) (nth : Nth) : Type 0 where
     pub works : WorksAtNode m c h f nth
-    pub full : AreFull m c h f nth
-    pub hand : IsInHand m f nth
-    pub blank : IsBlankHere m h nth
-    pub read : HasRead m c h f
+    pub full : AreFull e m c h f nth
+    pub hand : IsInHand m.nodes (top e m f) nth
+    pub blank : IsBlankHere e m h nth
+    pub read : HasRead e m c h f
     pub whole : IsReadWhole (e.reads m.edit f m.snaps.items) m.read
 
   -- it may fill this word of that node
   pub record CanFill {A : Type 0} (m : UpdateRun E A) (c : Call) (h : History) (f : Found) (nth : Nth) (part : NodeWord) : Type 0 where
     pub fills : FillsPiece m c h f nth part
-    pub same : piece_here m f nth ≡ e.pieces m.edit f m.snaps.items m.nodes m.read nth
-    pub may : FieldMay part (IsForField c.layout h m.nodes.first.0 (top m f) (word_of (piece_here m f nth) part))
-    pub words : HoldsBefore h (nth_node m.nodes nth).0 (piece_here m f nth) part
+    pub same : piece_here e m f nth ≡ e.pieces m.edit f m.snaps.items m.nodes m.read nth
+    pub may : FieldMay part (IsForField c.layout h m.nodes.first.0 (top e m f) (word_of (piece_here e m f nth) part))
+    pub words : HoldsBefore h (nth_node m.nodes nth).0 (piece_here e m f nth) part
 
   -- it may begin its SCX: all its fresh nodes are full
   pub record CanScx {A : Type 0} (m : UpdateRun E A) (c : Call) (h : History) (f : Found) : Type 0 where
@@ -431,36 +522,9 @@ module _ {E : Type 0} (e : EditMeaning E) where
     pub need : e.needs m.edit f ≢ Nothing
     pub some : 0 < m.share.scx
     pub all : HasFilledAll c h m.edit f m.snaps.items m.nodes m.read
-    pub full : HasFilledTo c.layout h c.pass m.share m.nodes.first.0 (top m f) (suc (top m f)) (piece m f)
+    pub full : HasFilledTo c.layout h c.pass m.share m.nodes.first.0 (top e m f) (suc (top e m f)) (piece e m f)
 
   -- What it answers
-
-  -- there was nothing to make at the leaf that it tells, which it has found; the pass has entered
-  -- nothing, and has only looked in its newest try
-  pub record HasNothingToMake (ed : E) (c : Call) (h : History) (found : Found) : Type 0 where
-    pub has_found : HasFoundGoal (e.goal ed) c h found
-    pub needless : e.needs ed found ≡ Nothing
-    pub none : HasEnteredNone c.layout c.pass h c.start
-    pub only_looked : HasOnlyLooked c.pass h c.start
-
-  -- The share has too little left for the edit at the leaf that was found in the newest try, in
-  -- which the pass has only looked. Nothing of the share was taken since the call began, or another
-  -- pass was in the way. The pass has entered nothing.
-  pub record IsFullFor {A : Type 0} (m : UpdateRun E A) (c : Call) (h : History) (full : Full) : Type 0 where
-    pub only_looked : HasOnlyLooked c.pass h c.start
-    pub found : Found
-    pub has_found : HasFoundGoal (e.goal m.edit) (begun_at c only_looked.begin) h found
-    pub needed : e.needs m.edit found ≢ Nothing
-    pub short : IsShort (e.needs m.edit found) m.share full.what full.left
-    pub first : IsUntouched c h m.share
-    pub none : HasEnteredNone c.layout c.pass h c.start
-
-  -- at a moment of the call it had found this leaf, at which there was something to make
-  pub record WasNeeded (ed : E) (c : Call) (h : History) (found : Found) : Type 0 where
-    pub moment : History
-    pub within : Extends h moment
-    pub has_found : HasFoundGoal (e.goal ed) c moment found
-    pub needed : e.needs ed found ≢ Nothing
 
   -- The try that began at the moment `begin` is lost: in it the SCX-record s was in the way over
   -- the node n, and in it the call has found a leaf at which there was something to make. The pass
@@ -471,36 +535,13 @@ module _ {E : Type 0} (e : EditMeaning E) where
     pub way : IsContended (begun_at c begin) now n s
     pub none : HasEnteredNone c.layout c.pass now c.start
     pub found : Found
-    pub needed : WasNeeded ed (begun_at c begin) now found
-
-  -- All tries of the call, so many, were lost, the newest to the SCX-record s over the node n; in
-  -- it the call has found a leaf at which there was something to make. The pass has entered
-  -- nothing.
-  pub record HasLostEveryTry (ed : E) (c : Call) (h : History) (limit n s : ℕ) : Type 0 where
-    pub way : IsContended c h n s
-    pub none : HasEnteredNone c.layout c.pass h c.start
-    pub all : HasLostTriesTo c.pass h c.start limit n s
-    pub found : Found
-    pub needed : WasNeeded ed (begun_at c all.lost.begin) h found
-
-  -- There was nothing to make at this leaf, or the edit is made there. Where the walk goes to the
-  -- least key, the leaf tells the first pair of the map just before the entry.
-  abbrev pub IsDoneAt : E → ℕ → Call → History → Found → Type 0
-  IsDoneAt ed number c h found = HasNothingToMake ed c h found
-      ⊎ ((made : HasMade (e.edit ed found) c h number found.value) × WasNeeded ed c h found × ToldFirst (e.goal ed) c.layout made.before found)
-
-  -- so it is at a leaf of this key, which had this value
-  pub record IsDoneWith (ed : E) (number : ℕ) (c : Call) (h : History) (key : ℕ) (value : Option ℕ) : Type 0 where
-    pub found : Found
-    pub is_key : found.key ≡ key
-    pub is_value : found.value ≡ value
-    pub is_done : IsDoneAt ed number c h found
+    pub needed : WasNeeded (says e ed) (begun_at c begin) now found
 
   -- what its answer says
   abbrev pub IsUpdateAnswer : {A : Type 0} → UpdateRun E A → Call → History → Updated → Type 0
-  IsUpdateAnswer m c h (Done key value) = IsDoneWith m.edit m.call c h key value
-  IsUpdateAnswer m c h (FullAnswer full) = IsFullFor m c h full
-  IsUpdateAnswer m c h (Contended node scx) = (m.tries ≡ 0) × HasLostEveryTry m.edit c h m.limit node.0 scx.0
+  IsUpdateAnswer m c h (Done key value) = IsDoneWith (says e m.edit) m.call c h key value
+  IsUpdateAnswer m c h (FullAnswer full) = IsFullFor (says e m.edit) m.share c h full
+  IsUpdateAnswer m c h (Contended node scx) = (m.tries ≡ 0) × HasLostEveryTry (says e m.edit) c h m.limit node.0 scx.0
 
   -- and behind it the pass is at rest, with what is left of the share, and has begun all tries but
   -- those that are left, each only as needed

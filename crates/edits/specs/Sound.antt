@@ -50,7 +50,7 @@ pub record MakesWell {E : Type 0} (m : EditMeaning E) : Type 0 where
   pub distinct : (e : E) (c : Call) (h : History) (f : Found) (snaps : List Snap) → IsTreeRun c.layout h → m.needs e f ≢ Nothing → HasLooked m c h e f snaps → m.looks e f snaps ≡ Enough → AreDistinct snaps
   -- and its leaf is the one that was found
   pub leaf : (e : E) (c : Call) (h : History) (f : Found) (snaps : List Snap) (s : ℕ) → IsTreeRun c.layout h → m.needs e f ≢ Nothing → HasLooked m c h e f snaps → m.looks e f snaps ≡ Enough → CoversLeaf m e f c h s snaps
-  pub promised : (e : E) (c : Call) (h : History) (f : Found) (snaps : List Snap) (ns : Nodes) (read : Reading) (j : Job) (d : Descriptor) → IsTreeRun c.layout h → m.needs e f ≢ Nothing → HasFilledAll m c h e f snaps ns read → IsUpdateFor m e f snaps ns j.update → Says d j → IsPromised c.layout c.pass h j.scx.0 d (m.edit e f)
+  pub promised : (e : E) (c : Call) (h : History) (f : Found) (snaps : List Snap) (ns : Nodes) (read : Reading) (j : Job) (d : Descriptor) → IsTreeRun c.layout h → m.needs e f ≢ Nothing → HasFilledAll m c h e f snaps ns read → IsUpdateFor (m.side e f) (m.needs e f) snaps ns j.update → Says d j → IsPromised c.layout c.pass h j.scx.0 d (m.edit e f)
 
 -- its edit is of the key of which the leaf that was found tells the value
 abbrev pub IsAtFound : {E : Type 0} → EditMeaning E → Type 0

@@ -1,18 +1,19 @@
 //! What a call has that no other disturbs.
 ghost use Rattle.std.specs.Prelude.{◌≡◌, ℕ, ◌^◌, ◌<◌, List, Option};
+ghost use Rattle.arena.specs.declared.word.Side.{Side};
 ghost use Rattle.arena.specs.History.{History, value, Extends};
 ghost use Rattle.arena.specs.Machines.{Call};
 ghost use Rattle.arena.specs.Undisturbed.{IsUndisturbed};
 ghost use Rattle.ordered_map.specs.declared.pair.Pair.{Pair};
-ghost use Rattle.ordered_map.specs.OrderedMap.{MapEdit, edited, first_pair, get};
+ghost use Rattle.ordered_map.specs.OrderedMap.{MapEdit, edited, end_pair, get};
 ghost use Rattle.ordered_map.specs.Paths.{IsAnswerAt};
 ghost use Rattle.ordered_map.specs.Runs.{IsTreeRun};
 ghost use Rattle.ordered_map.specs.Spelled.{Spells};
-ghost use Rattle.template.specs.FoundLeaf.{HasFoundGoal, HasFoundLeaf, first_told};
+ghost use Rattle.template.specs.FoundLeaf.{HasFoundGoal, HasFoundLeaf, end_told};
 ghost use Rattle.template.specs.declared.walk.Found.{Found};
-ghost use Rattle.ordered_map.specs.declared.rule.Goal.TheVariants.{Least};
+ghost use Rattle.ordered_map.specs.declared.rule.Goal.TheVariants.{End};
 ghost use Rattle.template.specs.Blame.{IsContended};
-ghost use Rattle.edits.specs.Known.{HasMade, ToldFirst};
+ghost use Rattle.edits.specs.Known.{HasMade, ToldEnd};
 ghost use Rattle.edits.specs.Tries.{HasEnteredNone};
 
 /// What an update's answers say of a call by itself: nothing was in progress as it began, and no
@@ -20,7 +21,7 @@ ghost use Rattle.edits.specs.Tries.{HasEnteredNone};
 /// map that was there as it began, which was there just before it, and leaves the map that its edit
 /// leaves. Where it has made nothing, the leaf that it has found tells what the map has, and the
 /// map stays; what a reading tells of the map at a moment of its call it tells of that map. On its
-/// way to the least key it tells the first pair of that map, made or not. With one pass no call is
+/// way to an end it tells the pair at that end of that map, made or not. With one pass no call is
 /// ever contended. It does nothing; a caller learns the laws from its contract.
 pub fn alone_holds()
     ensures made { (c : Call) (h : History) (edit : MapEdit) (number : ℕ) (old : Option ℕ) (map : List Pair)
@@ -29,12 +30,12 @@ pub fn alone_holds()
     ensures found { (c : Call) (h : History) (k : ℕ) (f : Found) (map : List Pair) → k < 2 ^ 64 → IsTreeRun c.layout h
         → IsUndisturbed c h → HasFoundLeaf c h k f → HasEnteredNone c.layout c.pass h c.start
         → Spells c.layout (value c.start) map → f.value ≡ get k map }
-    ensures made_first { (c : Call) (h : History) (edit : MapEdit) (number : ℕ) (old : Option ℕ) (f : Found) (map : List Pair)
-        → IsTreeRun c.layout h → IsUndisturbed c h → (made : HasMade edit c h number old)
-        → ToldFirst Least c.layout made.before f → Spells c.layout (value c.start) map → first_pair map ≡ first_told f }
-    ensures found_first { (c : Call) (h : History) (f : Found) (map : List Pair) → IsTreeRun c.layout h → IsUndisturbed c h
-        → HasFoundGoal Least c h f → HasEnteredNone c.layout c.pass h c.start → Spells c.layout (value c.start) map
-        → first_pair map ≡ first_told f }
+    ensures made_end { (side : Side) (c : Call) (h : History) (edit : MapEdit) (number : ℕ) (old : Option ℕ) (f : Found)
+        (map : List Pair) → IsTreeRun c.layout h → IsUndisturbed c h → (made : HasMade edit c h number old)
+        → ToldEnd (End side) c.layout made.before f → Spells c.layout (value c.start) map → end_pair side map ≡ end_told f }
+    ensures found_end { (side : Side) (c : Call) (h : History) (f : Found) (map : List Pair) → IsTreeRun c.layout h
+        → IsUndisturbed c h → HasFoundGoal (End side) c h f → HasEnteredNone c.layout c.pass h c.start
+        → Spells c.layout (value c.start) map → end_pair side map ≡ end_told f }
     ensures read { (c : Call) (h : History) (k : ℕ) (told : Option ℕ) (map : List Pair) → IsTreeRun c.layout h
         → IsUndisturbed c h → IsAnswerAt c.layout h c.start k told → HasEnteredNone c.layout c.pass h c.start
         → Spells c.layout (value c.start) map → told ≡ get k map }

@@ -24,7 +24,6 @@ use Rattle.dict.proofs.Lemmas.{was_contended}
 use Rattle.dict.specs.Says.{KeepsLists, TellsOfMap}
 use Rattle.dict.specs.Typed.{IsTypedCall, TypedAllows}
 use Rattle.dict.specs.Laws.TypedMaps.{typed_run}
-use Rattle.dict.specs.Laws.Kinds.{IsEditing}
 use Rattle.dict.specs.Words.{IsWordOf, IsValidPair, IsValidReply}
 use Rattle.ordered_map.specs.Replies.{told_of}
 use Rattle.ordered_map.specs.Requests.{AsksForFew, as_map_call}
@@ -77,11 +76,6 @@ module _ (lay : Layout) (c : ℕ) (h start : History) (a b : Remaining) (e : Ext
 pub few_of : {K V : Type 0} (key : K → ℕ) (value_word : V → ℕ) (request : Request K V) (call : MapCall) → call ≡ as_map_call key value_word request → AsksForFew request → IsFewCall call
 few_of key value_word (requests.Range low high most) call e few = subst IsFewCall (sym e) few
 few_of key value_word request call e few = subst IsFewCall (sym e) tt
-
--- and so is each call that may edit: it is no range
-pub few_edit : (call : MapCall) → IsEditing call → IsFewCall call
-few_edit (Range low high most) x = absurd (let none : 0 ≡ 1 = x.scx 1 in omega (arith, none))
-few_edit call x = tt
 
 -- What a call leaves
 

@@ -1,7 +1,7 @@
 -- Whole calls of a dictionary whose updates are straight.
 use Rattle.std.specs.Global.{Global}
 use Rattle.std.specs.Prelude.{Result, Vec}
-use Rattle.std.proofs.Common.{◌≡◌, ℕ, zero, suc, ◌+◌, ◌*◌, ◌-◌, ◌<◌, ◌≤◌, List, [], ◌∷◌, Bool, true, false, ◌==◌, if◌then◌else◌, Option, None, Some, refl, sym, subst, ap, arith, ◌∙◌, eq-eqb, eqb-true}
+use Rattle.std.proofs.Common.{◌≡◌, ℕ, zero, suc, ◌+◌, ◌*◌, ◌-◌, ◌<◌, ◌≤◌, List, [], Option, None, refl, sym, subst, ap, arith, ◌∙◌}
 use Rattle.arena.specs.declared.layout.Layout.{Layout}
 use Rattle.arena.specs.declared.step.Step.{Step}
 use Rattle.arena.specs.History.{History}
@@ -16,10 +16,12 @@ use Rattle.order.specs.declared.range.Range.{Range as RangeRead}
 use Rattle.order.specs.declared.refused.Refused.{Refused}
 use Rattle.order.specs.declared.run.ReadAt.TheVariants.{Start as ReadStart}
 use Rattle.order.specs.declared.run.ReadRun.{ReadRun}
+use Rattle.arena.specs.declared.word.Side.{Side}
+use Rattle.arena.specs.declared.word.Side.TheVariants.{Left, Right}
 use Rattle.ordered_map.specs.declared.pair.Pair.{Pair}
-use Rattle.ordered_map.specs.OrderedMap.{MapCall, MapReply, OneValue, pair, reply, goal_told}
+use Rattle.ordered_map.specs.OrderedMap.{MapCall, OnePair}
 use Rattle.edits.specs.Next.{standing}
-use Rattle.edits.specs.Steps.{Spends, node_tries, scx_tries}
+use Rattle.edits.specs.Steps.{node_tries, scx_tries}
 use Rattle.edits.specs.declared.update.UpdateAt.{UpdateAt}
 use Rattle.edits.specs.declared.update.UpdateAt.TheVariants.{Start}
 use Rattle.edits.specs.declared.update.UpdateRun.{UpdateRun}
@@ -28,15 +30,17 @@ use Rattle.dict.specs.Typed.{IsTypedCall}
 use Rattle.dict.specs.Laws.TypedMaps.{typed_run}
 use Rattle.dict.specs.Words.{IsWordOf}
 use Rattle.dict.specs.declared.dict.DictRun.{DictRun}
-use Rattle.dict.specs.Around.{IsAround}
-use Rattle.dict.specs.Calls.{IsFewCall, IsSmallCall, KeepsTriesButOne, call_in, inner_call, inner_share}
+use Rattle.dict.specs.Calls.{IsFewCall, IsSmallCall, call_in, edit_call, inner_call, inner_share}
 use Rattle.ordered_map.specs.declared.rule.Goal.{Goal}
-use Rattle.ordered_map.specs.declared.rule.Goal.TheVariants.{Key as ToKey, Least}
-use Rattle.dict.specs.Inner.{EditKind, InnerRun, Read, ReadKind, Update, inner, range_kind, successor_kind}
+use Rattle.ordered_map.specs.declared.rule.Rule.{Rule}
+use Rattle.tree.specs.KeyEdit.Means.{key_means}
+use Rattle.tree.specs.declared.key_edit.KeyEdit.{KeyEdit}
+use Rattle.dict.specs.Inner.{InnerRun, Read, ReadKind, Update, by_values, inner, range_kind, successor_kind}
+use Rattle.ordered_map.specs.declared.rule.Goal.TheVariants.{End}
 use Rattle.dict.specs.Known.{Goes, HasRested, InnerAnswers, IsReadyInside, StandsAtStart, WaitsInside}
-use Rattle.dict.specs.Laws.Kinds.{IsEditKind, IsReadKind, range_is, successor_is}
+use Rattle.dict.specs.Laws.Kinds.{IsReadKind, range_is, successor_is}
 use Rattle.dict.specs.declared.run.MapRun.{MapRun}
-use Rattle.dict.specs.declared.run.MapRun.TheVariants.{Successor, Range}
+use Rattle.dict.specs.declared.run.MapRun.TheVariants.{Edit, Successor, Range}
 use Rattle.dict.specs.Translated.{IsReplyOf}
 use Rattle.dict.specs.WordReplies.{WordReply, edit_reply, read_reply}
 use Rattle.ordered_map.specs.declared.reply.Reply.{Reply}
@@ -62,29 +66,6 @@ successors = record { kind = successor_kind; is = successor_is; around = λ m sh
 
 abbrev pub ranges : DictRead
 ranges = record { kind = range_kind; is = range_is; around = λ m share. Range m share; inside = λ m share. refl }
-
--- Goals that are told the same of each map are the same: one of a key is told of a map of that key
--- alone what no other is.
-
-is_one : MapReply → Type 0
-is_one (OneValue (Some v)) = Unit {0}
-is_one _ = ⊥
-
-same_key : (j k : ℕ) (b : Bool) → (j == k) ≡ b → is_one (OneValue (if b then Some 0 else None)) → k ≡ j
-unfolding is_one
-same_key j k true e x = sym (eqb-true j k e)
-same_key j k false e x = absurd x
-
-same_goal : (a b : Goal) → ((map : List Pair) → goal_told a map ≡ goal_told b map) → a ≡ b
-unfolding is_one
-same_goal (ToKey k) (ToKey j) e = ap (λ n. ToKey n) (same_key j k (j == k) refl (subst is_one (e (pair k 0 ∷ [])) (rw (eq-eqb k k refl) tt)))
-same_goal (ToKey k) Least e = absurd (subst is_one (e (pair k 0 ∷ [])) (rw (eq-eqb k k refl) tt))
-same_goal Least (ToKey j) e = absurd (subst is_one (sym (e (pair j 0 ∷ []))) (rw (eq-eqb j j refl) tt))
-same_goal Least Least e = refl
-
--- edits of the same call walk to the same goal
-goal_of : (k : EditKind) → IsEditKind k → (a b : k.E) → k.call a ≡ k.call b → k.means.goal a ≡ k.means.goal b
-goal_of k kind a b e = same_goal _ _ (λ map. sym (kind.walks a map) ∙ ap (λ call. reply call map) e ∙ kind.walks b map)
 
 module _ {K V : Type 0} (valid_key : K → Type 0) (key : K → ℕ) (valid_value : V → Type 0) (value_word : V → ℕ) where
   abbrev allows : Layout → History → ℕ → Type 0
@@ -116,25 +97,25 @@ module _ {K V : Type 0} (valid_key : K → Type 0) (key : K → ℕ) (valid_valu
   module _ (machine : DictRun K V) (c : Call) (layout : Layout) (number : ℕ) (is_layout : c.layout ≡ layout) (is_number : c.number ≡ number) where
     -- Edits
 
-    module _ (k : EditKind) (kind : IsEditKind k) (around : UpdateRun k.E UpdateAt → MapRun) (is : IsAround k around) where
-      abbrev pub editing : UpdateRun k.E UpdateAt → DictRun K V
-      editing m = record machine { run = around m }
+    -- `goal` and `rule` give an edit's goal and rule as values, which its machine has
+    module _ {G R : Type 0} (goal : G → Goal) (rule : R → Rule) where
+      abbrev valued : UpdateRun (KeyEdit G R) UpdateAt → UpdateRun (KeyEdit Goal Rule) UpdateAt
+      valued = by_values goal rule
 
-      -- it stays of the same call
-      same_call : (old now : UpdateRun k.E UpdateAt) → now.edit ≡ old.edit → call_in (around now) ≡ call_in (around old)
-      same_call old now e = is.is_call now ∙ ap k.call e ∙ sym (is.is_call old)
+      abbrev pub editing : UpdateRun (KeyEdit G R) UpdateAt → DictRun K V
+      editing m = record machine { run = Edit (valued m) }
 
-      -- what it has taken of its share, by the edit as it began
-      spends_so : (old now : UpdateRun k.E UpdateAt) (nodes scx : ℕ) → HasUpdateGoneOn k.means old now nodes scx → Spends (k.means.most_nodes old.edit) old.share now.share (node_tries old old.at) nodes (scx_tries old old.at) scx
-      spends_so old now nodes scx on = subst (λ (e : k.E). Spends (k.means.most_nodes e) old.share now.share (node_tries old old.at) nodes (scx_tries old old.at) scx) on.edit on.spends
+      -- it stays of the same edit, and so of the same call
+      same_edit : (old now : UpdateRun (KeyEdit G R) UpdateAt) → now.edit ≡ old.edit → (valued now).edit ≡ (valued old).edit
+      same_edit old now e = ap (λ (d : KeyEdit G R). let v : KeyEdit Goal Rule = record { goal = goal d.goal; rule = rule d.rule } in v) e
 
-      goes : (old now : UpdateRun k.E UpdateAt) → HasUpdateGoneOn k.means old now (node_tries now now.at) (scx_tries now now.at) → Goes (inner (around old)) machine.tries c → Goes (inner (around now)) machine.tries c
-      goes old now on x = is.goes now machine.tries c (edit_goes machine.tries c k kind old now (is.goes_inside old machine.tries c x) on.edit on.called on.limit (spends_so old now (node_tries now now.at) (scx_tries now now.at) on))
+      same_call : (old now : UpdateRun (KeyEdit G R) UpdateAt) → now.edit ≡ old.edit → edit_call goal rule now.edit ≡ edit_call goal rule old.edit
+      same_call old now e = ap (edit_call goal rule) e
 
-      fewer : (old now : UpdateRun k.E UpdateAt) → (old.tries ≤ now.tries + 1) × (now.tries ≤ old.tries) → KeepsTriesButOne (around old) (around now)
-      fewer old now x = rw (is.is_behind old, is.is_behind now) (x.1, x.0)
+      goes : (old now : UpdateRun (KeyEdit G R) UpdateAt) → HasUpdateGoneOn (key_means goal rule) old now (node_tries now now.at) (scx_tries now now.at) → Goes (Update (valued old)) machine.tries c → Goes (Update (valued now)) machine.tries c
+      goes old now on x = edit_goes machine.tries c (valued old) (valued now) x (same_edit old now on.edit) on.called on.limit on.spends
 
-      pub editor : Updater (dict_calls layout number) k.means
+      pub editor : Updater (dict_calls layout number) (key_means goal rule)
       editor = record {
         call = c;
         is_layout = is_layout;
@@ -142,33 +123,36 @@ module _ {K V : Type 0} (valid_key : K → Type 0) (key : K → ℕ) (valid_valu
         runs = λ h run. typed_run keys values c.layout h run;
         first = machine;
         with_run = editing;
-        opens = λ m h s x. is.waits_inside m c h s x.1.1;
-        tells = λ m h got x. is.ready m c h got x.1.1;
-        turns = λ old now h got s on x w. (subst (IsTypedCall keys values) (sym (same_call old now on.edit)) x.0, (goes old now on x.1.0, is.waits now c h s w));
-        stays = λ old now on. (same_call old now on.edit, refl, fewer old now on.tries);
+        opens = λ m h s x. x.1.1;
+        tells = λ m h got x. x.1.1;
+        turns = λ old now h got s on x w. (subst (IsTypedCall keys values) (sym (same_call old now on.edit)) x.0, (goes old now on x.1.0, w));
+        stays = λ old now on. (same_call old now on.edit, refl, (on.tries.1, on.tries.0));
       }
 
-      pub edit_begins : (ps : List SeatedPass) {A : Type 0} (m : UpdateRun k.E A) → machine.run ≡ around (standing m Start) → SeatDictBegins valid_key key valid_value value_word c ps machine → UpdaterBegins editor ps m
+      pub edit_begins : (ps : List SeatedPass) {A : Type 0} (m : UpdateRun (KeyEdit G R) A) → machine.run ≡ Edit (valued (standing m Start)) → SeatDictBegins valid_key key valid_value value_word c ps machine → UpdaterBegins editor ps m
       unfolding editor
       edit_begins ps m same x = record { known = x.known; is = x.is; sound = x.sound; so = (subst (λ r. ready (record machine { run = r }) c (history_of c.layout.mode x.known) None) same x.so.1, begins (λ i. record machine { run = sym same i }) (sym x.so.0)) }
 
-      -- the call stays of the edit with which it began, and so it has walked to where that walks
-      same_walk : (h : History) (old : UpdateRun k.E UpdateAt) (ed : k.E) → call_in machine.run ≡ k.call ed → Trace allows waits same c machine (editing old) h → k.means.goal old.edit ≡ k.means.goal ed
-      same_walk h old ed of course = goal_of k kind old.edit ed (sym (is.is_call old) ∙ course_keeps (λ d. call_in d.run ≡ call_in machine.run) refl (λ before now s e. s.0 ∙ e) (editing old) h course ∙ of)
+      same_goal : (a b : KeyEdit G R) → edit_call goal rule a ≡ edit_call goal rule b → goal a.goal ≡ goal b.goal
+      same_goal a b e = cc
 
-      pub edit_ended : (ps : List SeatedPass) {A : Type 0} (m : UpdateRun k.E A) (a : Updated) (ed : k.E) (goal : Goal) → call_in machine.run ≡ k.call ed → goal ≡ k.means.goal ed → UpdaterEnds editor ps m a → ends c ps machine (editing (standing m Start)) (edit_reply goal a)
+      -- the call stays of the edit with which it began, and so it has walked to where that walks
+      same_walk : (h : History) (old : UpdateRun (KeyEdit G R) UpdateAt) (ed : KeyEdit G R) → call_in machine.run ≡ edit_call goal rule ed → Trace allows waits same c machine (editing old) h → goal old.edit.goal ≡ goal ed.goal
+      same_walk h old ed of course = same_goal old.edit ed (course_keeps (λ d. call_in d.run ≡ call_in machine.run) refl (λ before now s e. s.0 ∙ e) (editing old) h course ∙ of)
+
+      pub edit_ended : (ps : List SeatedPass) {A : Type 0} (m : UpdateRun (KeyEdit G R) A) (a : Updated) (ed : KeyEdit G R) (to : Goal) → call_in machine.run ≡ edit_call goal rule ed → to ≡ goal ed.goal → UpdaterEnds editor ps m a → ends c ps machine (editing (standing m Start)) (edit_reply to a)
       unfolding editor
-      edit_ended ps m a ed goal of to x =
+      edit_ended ps m a ed to of is x =
           let y = x.so in
-          let went : Goes (Update k y.old) machine.tries c = is.goes_inside y.old machine.tries c y.was.1.0 in
-          let walk : k.means.goal m.edit ≡ goal = ap k.means.goal y.goes.edit ∙ same_walk _ y.old ed of y.course ∙ sym to in
+          let went : Goes (Update (valued y.old)) machine.tries c = y.was.1.0 in
+          let walk : goal m.edit.goal ≡ to = ap (λ (e : KeyEdit G R). goal e.goal) y.goes.edit ∙ same_walk _ y.old ed of y.course ∙ sym is in
           record {
             known = x.known;
             is = x.is;
             sound = x.sound;
             so = (
-              (went.mode, is.answers (standing m Start) machine.tries c _ (edit_reply goal a) (subst (λ (w : Goal). InnerAnswers machine.tries (Update k (standing m Start)) c (history_of c.layout.mode x.known) (edit_reply w a)) walk (edit_ends machine.tries c _ k kind y.old (standing m Start) a (typed_run keys values c.layout _ x.sound) went y.goes.edit y.goes.called y.goes.limit (spends_so y.old (standing m Start) m.tries m.tries y.goes) y.answers))),
-              goes_on (editing y.old) (same_call y.old (standing m Start) y.goes.edit, refl, fewer y.old (standing m Start) y.goes.tries) y.course,
+              (went.mode, subst (λ (w : Goal). InnerAnswers machine.tries (Update (valued (standing m Start))) c (history_of c.layout.mode x.known) (edit_reply w a)) walk (edit_ends machine.tries c _ (valued y.old) (valued (standing m Start)) a (typed_run keys values c.layout _ x.sound) went (same_edit y.old (standing m Start) y.goes.edit) y.goes.called y.goes.limit y.goes.spends y.answers)),
+              goes_on (editing y.old) (same_call y.old (standing m Start) y.goes.edit, refl, (y.goes.tries.1, y.goes.tries.0)) y.course,
             );
           }
 
@@ -240,17 +224,17 @@ module _ {K V : Type 0} (valid_key : K → Type 0) (key : K → ℕ) (valid_valu
 all_tries : (left tries : ℕ) → 0 < tries → left ≡ tries - 1 → left + 1 ≡ tries
 all_tries left tries some is = omega (arith, some, is)
 
-module _ {K V A : Type 0} (k : EditKind) (around : UpdateRun k.E UpdateAt → MapRun) (is : IsAround k around) where
+module _ {K V A G R : Type 0} (goal : G → Goal) (rule : R → Rule) where
   -- the machine of an edit
-  abbrev pub edit_machine : ℕ → UpdateRun k.E A → DictRun K V
-  edit_machine tries m = record { run = around (standing m Start); tries = tries; types = record {} }
+  abbrev pub edit_machine : ℕ → UpdateRun (KeyEdit G R) A → DictRun K V
+  edit_machine tries m = record { run = Edit (by_values goal rule (standing m Start)); tries = tries; types = record {} }
 
-  pub edit_fresh : (share : Remaining) (tries number : ℕ) → 0 < tries → (m : UpdateRun k.E A) (ed : k.E) → m.edit ≡ ed → m.share ≡ share → m.call ≡ number → m.tries ≡ tries - 1 → m.limit ≡ tries → IsSmallCall (k.call ed) → IsFreshCall (k.call ed) share tries number (edit_machine tries m)
+  pub edit_fresh : (share : Remaining) (tries number : ℕ) → 0 < tries → (m : UpdateRun (KeyEdit G R) A) (ed : KeyEdit G R) → m.edit ≡ ed → m.share ≡ share → m.call ≡ number → m.tries ≡ tries - 1 → m.limit ≡ tries → IsSmallCall (edit_call goal rule ed) → IsFreshCall (edit_call goal rule ed) share tries number (edit_machine tries m)
   edit_fresh share tries number some m ed is_edit is_share is_call is_tries is_limit small = record {
-    is_call = is.is_call (standing m Start) ∙ ap k.call is_edit;
+    is_call = ap (edit_call goal rule) is_edit;
     has_tries = refl;
-    unbegun = is.unbegun (standing m Start) tries number (refl, all_tries m.tries tries some is_tries, is_call, subst (λ (e : k.E). IsSmallCall (k.call e)) (sym is_edit) small, is_limit);
-    has_share = is.is_share (standing m Start) ∙ is_share;
+    unbegun = (refl, all_tries m.tries tries some is_tries, is_call, subst (λ (e : KeyEdit G R). IsSmallCall (edit_call goal rule e)) (sym is_edit) small, is_limit);
+    has_share = is_share;
   }
 
 module _ {K V : Type 0} (d : DictRead) where

@@ -20,20 +20,16 @@ use Rattle.template.specs.Walk.Known.{WalkIsTold}
 use Rattle.template.specs.Walk.Places.{root_trail, walk_at, walk_from}
 use Rattle.template.specs.declared.walk.Found.{Found}
 use Rattle.ordered_map.specs.declared.rule.Goal.TheVariants.{Key as ToKey}
-use Rattle.template.specs.declared.walk.WalkAt.TheVariants.{Start}
+use Rattle.template.specs.declared.walk.WalkAt.TheVariants.{Root, Start}
 use Rattle.template.specs.declared.walk.WalkRun.{WalkRun}
-use Rattle.template.proofs.Lemmas.{found_gives, tried_one, walk_begins}
-use Rattle.tree.specs.Get.Known.{GetAnswers}
-use Rattle.tree.proofs.Lemmas.{once_past}
-use Rattle.tree.specs.declared.get.GetRun.{GetRun}
-use Rattle.edits.specs.Laws.Entered.{none_quiet}
+use Rattle.template.proofs.Lemmas.{walk_begins}
 use Rattle.dict.specs.DictKnown.{DictIsReady, DictWaits, DictAnswers}
 use Rattle.dict.specs.Typed.{IsTypedValue, TypedAllows}
 use Rattle.dict.specs.Words.{IsWordOf}
 use Rattle.dict.specs.declared.dict.DictRun.{DictRun}
 use Rattle.dict.specs.WordReplies.{WordReply}
 use Rattle.ordered_map.specs.declared.reply.Reply.TheVariants as replies
-use Rattle.dict.proofs.Lemmas.{get_ends, dict_ends}
+use Rattle.dict.proofs.Lemmas.{get_ends, dict_ends, none_tried, once_past}
 use Rattle.forest.specs.declared.pass.Pass.TheInside.{Inside}
 use Rattle.forest.specs.declared.view.SeatedPass.{SeatedPass}
 use Rattle.forest.specs.declared.view.SeatView.{SeatView}
@@ -77,7 +73,7 @@ module _ {K V : Type 0} (valid_key : K → Type 0) (key : K → ℕ) (valid_valu
       first = at (walk_at (ToKey wanted) root_trail Start);
       with_run = λ w. at w.0;
       tells = λ w h v run x. (c, x.1.1.0.0);
-      turns = λ old now h v s goes next run x. (x.0, (record { mode = x.1.0.mode; small = x.1.0.small; number = x.1.0.number; limit = tt; spent = x.1.0.spent }, ((next c x.1.1.0.0, goes.1 ∙ x.1.1.0.1, x.1.1.0.2, once_past now.0.at _ _ goes.0 x.1.1.0.3), x.1.1.1)));
+      turns = λ old now h v s goes next run x. (x.0, (record { mode = x.1.0.mode; small = x.1.0.small; number = x.1.0.number; limit = tt; spent = x.1.0.spent }, ((next c x.1.1.0.0, goes.1 ∙ x.1.1.0.1, once_past now.0.at _ _ goes.0 x.1.1.0.2), x.1.1.1)));
       stays = λ old now goes. (refl, refl, (omega arith, omega arith));
     }
 
@@ -89,7 +85,7 @@ module _ {K V : Type 0} (valid_key : K → Type 0) (key : K → ℕ) (valid_valu
       let first : DictRun K V = getting p.share tries wanted (walk_at (ToKey wanted) root_trail Start) in
       let c : Call = call_of p x (taken_of (pass_view p)) in
       starts allows ready waits same c p.seat.me.0.passes first (getting p.share tries wanted (walk_from (ToKey wanted))) _ (refl, refl, (omega arith, omega arith))
-      (λ h run r. (r.0, (record { mode = r.1.0.mode; small = r.1.0.small; number = r.1.0.number; limit = tt; spent = r.1.0.spent }, ((walk_begins (ToKey wanted) c h r.1.1.0.0.run r.1.1.0.0.small r.1.1.0.0.since, refl, r.1.1.0.2, r.1.1.0.3), r.1.1.1))))
+      (λ h run r. (r.0, (record { mode = r.1.0.mode; small = r.1.0.small; number = r.1.0.number; limit = tt; spent = r.1.0.spent }, ((walk_begins (ToKey wanted) c h r.1.1.0.0.run r.1.1.0.0.small r.1.1.0.0.since, refl, none_tried Root _ _ r.1.1.0.2), r.1.1.1))))
       (dict_starts valid_key key valid_value value_word p x first tt (refl, refl, refl, small) tt refl)
 
   -- the value of its word
@@ -105,16 +101,12 @@ module _ {K V : Type 0} (valid_key : K → Type 0) (key : K → ℕ) (valid_valu
   get_ended share tries wanted number layout c is_layout is_number ps turn f v mode valid same_word x =
       record { known = x.so.known; is = x.so.is; sound = x.so.sound; so = (answers _ x.so.sound x.so.so.0, x.so.so.1) }
     where
-      m : GetRun
-      m = record { key = wanted; walk = x.last }
-
       answers : (h : History) → IsRun allows c.layout h → ready (getting share tries wanted x.last) c h (Some x.told) → DictAnswers valid_key key valid_value value_word (getting share tries wanted x.last) c h (replies.Value v)
       answers h run r =
           let t : WalkIsTold x.last c h x.told = r.1.1.0.0 in
           let found : HasFoundGoal (ToKey wanted) c h f = x.finds c h t in
-          let got : GetAnswers m c h f.value = (record { first = found.trail.node.first; own = found.trail.node.own; right = found_gives c h wanted f t.run (rw x.is_goal at t.small) found; none = none_quiet c.layout c.pass h c.start run.lawful r.1.1.0.2.quiet }, tried_one c.layout c.pass h c.start r.1.1.0.3) in
           dict_ends valid_key key valid_value value_word (getting share tries wanted x.last) c h (WordReply.Value f.value) (replies.Value v) mode run
-          (get_ends tries c h m share f.value r.1.1.1 r.1.0.spent got) record { valid = valid; says = λ typed. same_told f.value v same_word typed; form = inl refl }
+          (get_ends tries c h wanted x.last share f (rw x.is_goal at t.small) r.1.1.1 r.1.0.spent found r.1.1.0.2) record { valid = valid; says = λ typed. same_told f.value v same_word typed; form = inl refl }
 
   -- and so it has ended
   pub get_has_ended : {T : Type 0} (p : Inside T) (x : IsPass allows Tree p) (s : Seat ℕ SeatView) (tries wanted number : ℕ) (layout : Layout) (is_layout : p.layout ≡ layout) (is_number : taken_of (pass_view p) ≡ number) (turn : NodeNo) (f : Found) (v : Option V) → IfSome v valid_value → (IfSome f.value (IsWordOf valid_value value_word) → option_map value_word v ≡ f.value)

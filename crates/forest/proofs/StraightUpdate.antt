@@ -26,7 +26,6 @@ use Rattle.prims.specs.declared.scx.ScxAt.TheVariants.{Plan as AtPlan, Help}
 use Rattle.prims.specs.declared.scx.ScxRun.{ScxRun}
 use Rattle.prims.proofs.Lemmas.{done_at}
 use Rattle.edits.specs.declared.edit.Nth.{Nth}
-use Rattle.edits.specs.declared.edit.Nth.TheVariants.{First}
 use Rattle.edits.specs.declared.piece.Piece.{Piece}
 use Rattle.edits.specs.Pieces.{is_filled, nth_node, part_behind, word_of}
 use Rattle.edits.specs.Readings.{is_at_pair, next_read, read_with}
@@ -56,19 +55,19 @@ use Rattle.template.specs.declared.walk.WalkAt.TheVariants.{Start as WalkStart, 
 use Rattle.template.specs.declared.walk.WalkRun.{WalkRun}
 use Rattle.template.proofs.Lemmas.{own_since, walk_begins}
 use Rattle.edits.specs.Edits.{EditMeaning}
-use Rattle.edits.specs.Known.{MayBeginTry, CanFill, CanLook, IsFilledUpTo, IsUntouched, Looks, Reads, WorksAtNode, IsFullFor, UpdateAnswers, UpdateIsReady, UpdateWaits, UpdateTurn, Walks, done_at as done_with}
+use Rattle.edits.specs.Known.{MayBeginTry, CanFill, CanLook, IsFilledUpTo, IsUntouched, Looks, Reads, UpdateAnswers, UpdateIsReady, UpdateWaits, UpdateTurn, Walks, done_at as done_with}
 use Rattle.edits.specs.Steps.{HasScxForFill, IsSpending, Spends, UpdateFits, node_tries, pieces_now, scx_tries, try_left, update_left}
 use Rattle.edits.specs.Tries.{IsTry, IsTryAt, HasFilledNone}
 use Rattle.edits.specs.Next.{IsSameUpdate, told, placed, standing, next_step, fills, update_of, MayStop, UpdateGoesOn, HasSpentForNext, left_then}
 use Rattle.edits.specs.declared.update.Stop.{Stop}
-use Rattle.edits.specs.declared.update.Stop.TheVariants.{Nothing as NothingStop, Lost as LostStop, Full as FullStop}
-use Rattle.edits.specs.declared.update.Updated.TheVariants.{Done as DoneAnswer, Contended as ContendedAnswer, Full as FullAnswer}
+use Rattle.edits.specs.declared.update.Stop.TheVariants.{Nothing as NothingStop, Full as FullStop}
+use Rattle.edits.specs.declared.update.Updated.TheVariants.{Full as FullAnswer}
 use Rattle.edits.specs.Laws.Entered.{none_filled_yet}
 use Rattle.edits.specs.Laws.Update.{update_scx_left, update_told}
 use Rattle.edits.specs.declared.update.Next.{Next}
 use Rattle.edits.specs.declared.update.Next.TheVariants.{Look as LookNext, Wait as WaitNext, Read as ReadNext, Fill as FillNext, Change as ChangeNext}
 use Rattle.edits.specs.declared.update.UpdateAt.{UpdateAt}
-use Rattle.edits.specs.declared.update.UpdateAt.TheVariants.{Start, Walk, Look, Read, Fill, Scx}
+use Rattle.edits.specs.declared.update.UpdateAt.TheVariants.{Start, Walk, Look, Fill, Scx}
 use Rattle.edits.specs.declared.edit.Look.TheVariants.{At}
 use Rattle.prims.specs.declared.update.Update.{Update}
 use Rattle.arena.specs.declared.number.ScxNo.{ScxNo}
@@ -96,21 +95,6 @@ try_past : (c : Call) (begin now : History) (limit left : ℕ) (at : WalkAt) →
 try_past c begin now limit left WalkStart past x = absurd past
 try_past c begin now limit left WalkRoot past x = absurd past
 try_past c begin now limit left _ past x = x
-
--- An update that stands elsewhere, or nowhere
-
-full_there : {E A B : Type 0} (e : EditMeaning E) (c : Call) (h : History) (m : UpdateRun E A) (at : B) (full : Full) → IsFullFor e m c h full → IsFullFor e (standing m at) c h full
-full_there e c h m at full x = record { found = x.found; has_found = x.has_found; needed = x.needed; short = x.short; first = x.first; none = x.none; only_looked = x.only_looked }
-
-pub answers_there : {E A B : Type 0} (e : EditMeaning E) (c : Call) (h : History) (m : UpdateRun E A) (at : B) (a : Updated) → UpdateAnswers e m c h a → UpdateAnswers e (standing m at) c h a
-answers_there e c h m at (DoneAnswer key value) x = x
-answers_there e c h m at (ContendedAnswer n s) x = x
-answers_there e c h m at (FullAnswer full) x = (x.0, full_there e c h m at full x.1, x.2)
-
-may_stop_there : {E A : Type 0} (e : EditMeaning E) (c : Call) (h : History) (m : UpdateRun E A) (f : Found) (stop : Stop) → MayStop e c h m f stop → MayStop e c h (standing m Start) f stop
-may_stop_there e c h m f NothingStop x = x
-may_stop_there e c h m f (LostStop n s) x = (record { run = x.0.run; small = x.0.small; since = x.0.since; rests = x.0.rests }, x.1)
-may_stop_there e c h m f (FullStop full) x = (x.0, full_there e c h m Start full x.1, x.2)
 
 module _ {M E : Type 0} {o : Calls M} {e : EditMeaning E} (u : Updater o e) where
   -- a call is made by one of the passes
@@ -298,10 +282,10 @@ module _ {M E : Type 0} {o : Calls M} {e : EditMeaning E} (u : Updater o e) wher
 
   -- where the try ends with nothing to make, or with too little left, it has answered so
   pub ends_needless : (ps : List SeatedPass) {A : Type 0} (m : UpdateRun E A) (f : Found) → UpdaterStops u ps m f NothingStop → UpdaterEnds u ps m (done_with f)
-  ends_needless ps m f x = record { known = x.known; is = x.is; sound = x.sound; so = let y = x.so in record { old = y.old; got = y.got; was = y.was; goes = gone_anywhere y.old m Start m.tries y.goes; answers = answers_there e u.call _ m Start (done_with f) y.may; course = y.course } }
+  ends_needless ps m f x = record { known = x.known; is = x.is; sound = x.sound; so = let y = x.so in record { old = y.old; got = y.got; was = y.was; goes = gone_anywhere y.old m Start m.tries y.goes; answers = y.may; course = y.course } }
 
   pub ends_full : (ps : List SeatedPass) {A : Type 0} (m : UpdateRun E A) (f : Found) (full : Full) → UpdaterStops u ps m f (FullStop full) → UpdaterEnds u ps m (FullAnswer full)
-  ends_full ps m f full x = record { known = x.known; is = x.is; sound = x.sound; so = let y = x.so in record { old = y.old; got = y.got; was = y.was; goes = gone_anywhere y.old m Start m.tries y.goes; answers = answers_there e u.call _ m Start (FullAnswer full) y.may; course = y.course } }
+  ends_full ps m f full x = record { known = x.known; is = x.is; sound = x.sound; so = let y = x.so in record { old = y.old; got = y.got; was = y.was; goes = gone_anywhere y.old m Start m.tries y.goes; answers = y.may; course = y.course } }
 
   -- Its machine goes on
 
@@ -315,7 +299,7 @@ module _ {M E : Type 0} {o : Calls M} {e : EditMeaning E} (u : Updater o e) wher
       there (Ok (ReadNext n part)) y = y
       there (Ok (FillNext nth)) y = y
       there (Ok (ChangeNext scx)) y = y
-      there (Err stop) y = record { known = y.known; is = y.is; sound = y.sound; so = let z = y.so in record { old = z.old; got = z.got; was = z.was; goes = gone_anywhere z.old m Start m.tries z.goes; tries = z.tries; may = may_stop_there e u.call _ m f stop z.may; course = z.course } }
+      there (Err stop) y = record { known = y.known; is = y.is; sound = y.sound; so = let z = y.so in record { old = z.old; got = z.got; was = z.was; goes = gone_anywhere z.old m Start m.tries z.goes; tries = z.tries; may = z.may; course = z.course } }
 
   pub blocked_there : (ps : List SeatedPass) {A : Type 0} (m : UpdateRun E A) (start : UpdateRun E UpdateAt) (f : Found) (scx : ScxNo) (help : HelpRun) → start ≡ standing m Start → UpdaterIsBlocked u ps m f scx help → UpdaterIsBlocked u ps start f scx help
   blocked_there ps m start f scx help is x = subst (λ (r : UpdateRun E UpdateAt). UpdaterIsBlocked u ps r f scx help) (sym is) x
@@ -343,7 +327,7 @@ module _ {M E : Type 0} {o : Calls M} {e : EditMeaning E} (u : Updater o e) wher
 
   -- its answer is that of the update that stands nowhere again
   pub ends_nowhere : (ps : List SeatedPass) {B : Type 0} (m : UpdateRun E UpdateAt) (at : B) (now : UpdateRun E B) (a : Updated) → now ≡ standing m at → HostedEnds u ps m a → UpdaterEnds u ps now a
-  ends_nowhere ps m at now a is x = rw is record { known = x.known; is = x.is; sound = x.sound; so = let y = x.so in record { old = y.old; got = y.got; was = y.was; goes = gone_anywhere y.old m Start m.tries y.goes; answers = answers_there e u.call _ m Start a y.answers; course = y.course } }
+  ends_nowhere ps m at now a is x = rw is record { known = x.known; is = x.is; sound = x.sound; so = let y = x.so in record { old = y.old; got = y.got; was = y.was; goes = gone_anywhere y.old m Start m.tries y.goes; answers = y.answers; course = y.course } }
 
   -- Loads and fills
 
@@ -354,36 +338,11 @@ module _ {M E : Type 0} {o : Calls M} {e : EditMeaning E} (u : Updater o e) wher
       reads : Reads e (placed e m f (ReadNext n part)) (begun_at u.call (u.opens (placed e m f (ReadNext n part)) (history_of u.call.layout.mode x.known) (next_step e m f (ReadNext n part)) x.so.0).0) (history_of u.call.layout.mode x.known) f n part
       reads = (u.opens (placed e m f (ReadNext n part)) (history_of u.call.layout.mode x.known) (next_step e m f (ReadNext n part)) x.so.0).3.0
 
-  -- what is known of works does not depend on the place of the update
-  works_anywhere : {A B : Type 0} (m : UpdateRun E A) (at : B) (c : Call) (h : History) (f : Found) (nth : Nth) → WorksAtNode e (standing m at) c h f nth → WorksAtNode e m c h f nth
-  works_anywhere m at c h f nth x = record {
-    run = x.run;
-    since = x.since;
-    quiet = x.quiet;
-    looked = x.looked;
-    enough = x.enough;
-    need = x.need;
-    in_order = x.in_order;
-    some = x.some;
-  }
-
-  reads_anywhere : {A : Type 0} (m : UpdateRun E A) (f : Found) (n : NodeNo) (part : SettledPart) (c : Call) (h : History) → Reads e (placed e m f (ReadNext n part)) c h f n part → Reads e m c h f n part
-  reads_anywhere m f n part c h x = record {
-    works = works_anywhere m (Read f n part) c h f First x.works;
-    full = x.full;
-    hand = record { lowest = x.hand.lowest; highest = x.hand.highest };
-    blank = x.blank;
-    from = x.from;
-    is = x.is;
-    read = x.read;
-    next = x.next;
-  }
-
   -- with what the load has told it goes on as its turn says
   pub reads_on : (ps : List SeatedPass) {A : Type 0} (m now : UpdateRun E A) (f : Found) (n : NodeNo) (part : SettledPart) (v : ℕ) (next : Result Next Stop) → IsSameUpdate m now → now.tries ≡ m.tries → HasSpentForNext e m.share now f next m.tries (m.tries + 1)
       → ((b h : History) → IsRun TreeAllows u.call.layout h → IsTry u.call b h m.limit m.tries → Reads e m (begun_at u.call b) h f n part → value h (node n.0 (Settled part)) ≡ v → UpdateGoesOn e u.call h now f next)
       → HostedIsTold u ps (placed e m f (ReadNext n part)) v → UpdaterGoesOn u ps now f next
-  reads_on ps m now f n part v next is tries spent goes x = goes_behind ps now f (placed e m f (ReadNext n part)) v next is tries spent x (goes y.0 h (u.runs h x.sound) y.1 (reads_anywhere m f n part (begun_at u.call y.0) h y.3.0) y.3.1)
+  reads_on ps m now f n part v next is tries spent goes x = goes_behind ps now f (placed e m f (ReadNext n part)) v next is tries spent x (goes y.0 h (u.runs h x.sound) y.1 y.3.0 y.3.1)
     where
       h : History
       h = history_of u.call.layout.mode x.known
@@ -436,26 +395,11 @@ module _ {M E : Type 0} {o : Calls M} {e : EditMeaning E} (u : Updater o e) wher
   pub fill_as : {A : Type 0} (m : UpdateRun E A) (f : Found) (nth : Nth) (part : NodeWord) (p : Piece) (n : NodeNo) (v : ℕ) → p ≡ pieces_now e m f nth → n ≡ nth_node m.nodes nth → v ≡ word_of p part → fills e m f nth part ≡ record { kind = FillKind; word = NodeOf n part; access = Store v }
   fill_as m f nth part p n v is_p is_n is_v i = record { kind = FillKind; word = NodeOf (sym is_n i) part; access = Store (sym (is_v ∙ ap (λ q. word_of q part) is_p) i) }
 
-  -- what is known of fresh nodes does not depend on the place of the update
-  filled_anywhere : {A : Type 0} (m : UpdateRun E A) (f : Found) (nth : Nth) (part : NodeWord) (c : Call) (h : History) → IsFilledUpTo e (filling m f nth part) c h f nth part → IsFilledUpTo e m c h f nth part
-  filled_anywhere m f nth part c h x = (
-    record {
-      works = works_anywhere m (Fill f nth part) c h f nth x.0.works;
-      full = x.0.full;
-      hand = record { lowest = x.0.hand.lowest; highest = x.0.hand.highest };
-      read = x.0.read;
-      whole = x.0.whole;
-      part_is = x.0.part_is;
-    },
-    x.1,
-    x.2,
-  )
-
   -- behind a node's last fill it goes on as its turn says
   pub fills_end : (ps : List SeatedPass) {A : Type 0} (m now : UpdateRun E A) (f : Found) (nth : Nth) (part : NodeWord) (v : ℕ) (next : Result Next Stop) → IsSameUpdate m now → now.tries ≡ m.tries → (0 < m.share.scx → HasSpentForNext e m.share now f next m.tries (m.tries + 1))
       → ((b h : History) → IsRun TreeAllows u.call.layout h → IsTry u.call b h m.limit m.tries → IsFilledUpTo e m (begun_at u.call b) h f nth part → UpdateGoesOn e u.call h now f next)
       → HostedIsTold u ps (filling m f nth part) v → UpdaterGoesOn u ps now f next
-  fills_end ps m now f nth part v next is tries spent goes x = goes_behind ps now f (filling m f nth part) v next is tries (spent y.3.0.works.some) x (goes y.0 h (u.runs h x.sound) y.1 (filled_anywhere m f nth part (begun_at u.call y.0) h y.3))
+  fills_end ps m now f nth part v next is tries spent goes x = goes_behind ps now f (filling m f nth part) v next is tries (spent y.3.0.works.some) x (goes y.0 h (u.runs h x.sound) y.1 y.3)
     where
       h : History
       h = history_of u.call.layout.mode x.known
@@ -501,7 +445,7 @@ module _ {M E : Type 0} {o : Calls M} {e : EditMeaning E} (u : Updater o e) wher
     known = x.known;
     is = x.is;
     sound = x.sound;
-    so = record { old = here; got = Some v; was = x.so.0; goes = record { edit = refl; called = refl; limit = refl; tries = (omega arith, omega arith); spends = (omega arith, omega arith, omega arith) }; answers = answers_there e u.call _ m Start (done_with f) answers; course = x.so.1 };
+    so = record { old = here; got = Some v; was = x.so.0; goes = record { edit = refl; called = refl; limit = refl; tries = (omega arith, omega arith); spends = (omega arith, omega arith, omega arith) }; answers = answers; course = x.so.1 };
   }
     where
       scx : ScxRun

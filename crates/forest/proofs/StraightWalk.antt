@@ -19,7 +19,7 @@ use Rattle.ordered_map.specs.Holding.{slot_behind, wide_value}
 use Rattle.order.specs.Steps.{last_turn}
 use Rattle.prims.specs.Llx.Known.{load}
 use Rattle.template.specs.FoundLeaf.{asked_key, path_key}
-use Rattle.template.specs.Walk.Known.{WalkIsTold, WalkWaits, asks_key}
+use Rattle.template.specs.Walk.Known.{WalkIsTold, WalkWaits, asks_key, goal_slot, open_side}
 use Rattle.template.specs.Walk.Laws.{walk_told}
 use Rattle.template.specs.Walk.Places.{walk_at, trail_below, IsPastRoot, LoadsHead}
 use Rattle.template.specs.Walk.Steps.{walk_left, WalkFitsAt}
@@ -46,8 +46,8 @@ module _ {M : Type 0} {o : Calls M} (w : Walker o) (ps : List SeatedPass) where
       pub to_key : head.leaf ≡ false → asks_key goal head ≡ true → WalkerIsTold w ps (walk_at goal t p) turn v → WalkerWaits w ps (walk_at goal t (Key head)) turn (load LoadSettled (node t.node.0 first_key))
       to_key fork asks = goes (walk_at goal t p) (walk_at goal t (Key head)) turn v _ tt refl (λ d h x. head_to_key goal t d h p v head at is x fork asks)
 
-      pub to_left : head.leaf ≡ false → asks_key goal head ≡ false → WalkerIsTold w ps (walk_at goal t p) turn v → WalkerWaits w ps (walk_at goal t (Child head.level Left)) t.node (load LoadChild (node t.node.0 (ChildWord Left)))
-      to_left fork asks = goes (walk_at goal t p) (walk_at goal t (Child head.level Left)) turn v _ tt refl (λ d h x. head_to_child goal t d h p v head at is x fork asks)
+      pub to_open : head.leaf ≡ false → asks_key goal head ≡ false → WalkerIsTold w ps (walk_at goal t p) turn v → WalkerWaits w ps (walk_at goal t (Child head.level (open_side goal head))) (last_turn (Child head.level (open_side goal head)) t.node turn) (load LoadChild (node t.node.0 (ChildWord (open_side goal head))))
+      to_open fork asks = goes (walk_at goal t p) (walk_at goal t (Child head.level (open_side goal head))) turn v _ tt refl (λ d h x. head_to_child goal t d h p v head at is x fork asks)
 
       pub to_more : head.leaf ≡ true → head.class ≡ 0 → WalkerIsTold w ps (walk_at goal t p) turn v → WalkerWaits w ps (walk_at goal t (More head)) turn (load LoadSettled (node t.node.0 (Settled MoreWord)))
       to_more leaf low = goes (walk_at goal t p) (walk_at goal t (More head)) turn v _ tt refl (λ d h x. head_to_more goal t d h p v head at is x leaf low)
@@ -58,8 +58,8 @@ module _ {M : Type 0} {o : Calls M} (w : Walker o) (ps : List SeatedPass) where
     pub to_side : (head : HeadParts) (low : ℕ) (side : Side) → side ≡ cond (ltb (path_key goal) low) Left Right → WalkerIsTold w ps (walk_at goal t (Key head)) turn low → WalkerWaits w ps (walk_at goal t (Child head.level side)) (last_turn (Child head.level side) t.node turn) (load LoadChild (node t.node.0 (ChildWord side)))
     to_side head low side is = goes (walk_at goal t (Key head)) (walk_at goal t (Child head.level side)) turn low _ tt refl (λ d h x. key_to_child goal t d h head low side x is)
 
-    pub to_first : (head : HeadParts) (more : ℕ) → WalkerIsTold w ps (walk_at goal t (More head)) turn more → WalkerWaits w ps (walk_at goal t (Pair head more First)) turn (load LoadSettled (node t.node.0 first_key))
-    to_first head more = goes (walk_at goal t (More head)) (walk_at goal t (Pair head more First)) turn more _ tt refl (λ d h x. more_to_pair goal t d h head more x)
+    pub to_first : (head : HeadParts) (more : ℕ) → WalkerIsTold w ps (walk_at goal t (More head)) turn more → WalkerWaits w ps (walk_at goal t (Pair head more (goal_slot goal more))) turn (load LoadSettled (node t.node.0 (Settled (KeyWord (goal_slot goal more)))))
+    to_first head more = goes (walk_at goal t (More head)) (walk_at goal t (Pair head more (goal_slot goal more))) turn more _ tt refl (λ d h x. more_to_pair goal t d h head more x)
 
     module _ (head : HeadParts) (more : ℕ) (slot : Slot) (key : ℕ) where
       pub to_next : asked_key goal key ≢ key → (next : Slot) → slot_behind more slot ≡ Some next → WalkerIsTold w ps (walk_at goal t (Pair head more slot)) turn key → WalkerWaits w ps (walk_at goal t (Pair head more next)) turn (load LoadSettled (node t.node.0 (Settled (KeyWord next))))

@@ -8,4 +8,4 @@ use Rattle.template.specs.declared.walk.WalkRun.{WalkRun}
 -- the machine of a get of the key, whose pass has this share and whose calls try so often, with its
 -- walk there
 abbrev pub getting : {K V : Type 0} → Remaining → ℕ → ℕ → WalkRun → DictRun K V
-getting share tries key walk = record { run = Get record { key = key; walk = walk } share; tries = tries; types = record {} }
+getting share tries key walk = record { run = Get key walk share; tries = tries; types = record {} }

@@ -5,7 +5,7 @@ ghost use Rattle.std.specs.Option.{option_map};
 ghost use Rattle.arena.specs.Limits.{IsAccepted, IsLayoutOf};
 ghost use Rattle.arena.specs.declared.limits.Mode.TheVariants.{Tree};
 ghost use Rattle.ordered_map.specs.OrderedMap.{Get, OneValue, Range, Successor, call_insert, call_delete, call_pop_first, call_replace_if};
-ghost use Rattle.dict.specs.Calls.{AsksForPairs, IsSmallCall};
+ghost use Rattle.dict.specs.Calls.{AsksForPairs, IsSmallCall, edit_call};
 ghost use Rattle.ordered_map.specs.CallRules.{IsFormOfValue, IsFormOfPair, MayReply, form_of};
 ghost use Rattle.dict.specs.Says.{KeepsLists};
 ghost use Rattle.dict.specs.Typed.{IsTypedCall};
@@ -22,11 +22,11 @@ use crate::pass::Pass;
 use crate::straight::hand::Hand;
 use crate::straight::{calls, walk};
 use arena::{Limits, Mode, NoMemory, Share};
-use dict::{Dict, DictRun, EditCall, Reply, Request, WordKey, WordValue, number_of, value_of};
+use dict::{Dict, DictRun, Reply, Request, WordKey, WordValue, number_of, value_of};
 use std::alloc::Global;
 use std::mem::replace;
 use template::Goal;
-use tree::{delete, insert, pop_first, replace_if};
+use tree::{EditGoal, EditRule, KeyEdit, delete, insert, pop_first, replace_if};
 
 /// What the caller of an edit of a key gets of its reply.
 #[inline(always)]
@@ -258,21 +258,21 @@ impl<K: WordKey, V: WordValue> Forest<Dict<K, V>> {
 
     /// Makes an edit of a key.
     #[inline(always)]
-    fn edit_at_key<E: EditCall>(
+    fn edit_at_key<G: EditGoal, R: EditRule>(
         &self,
         pass: &mut Pass<Dict<K, V>>,
-        edit: E,
+        edit: KeyEdit<G, R>,
     ) -> Result<Option<V>, UpdateFault>
         requires pass { IsOf self.now pass.old }
-        requires typed { IsTypedCall (IsWordOf K.is_valid K.word_of) (IsWordOf V.is_valid V.word_of) (E.call edit) }
-        requires small { IsSmallCall (E.call edit) }
-        requires value { RepliesValue (E.call edit) }
+        requires typed { IsTypedCall (IsWordOf K.is_valid K.word_of) (IsWordOf V.is_valid V.word_of) (edit_call G.goal R.rule edit) }
+        requires small { IsSmallCall (edit_call G.goal R.rule edit) }
+        requires value { RepliesValue (edit_call G.goal R.rule edit) }
         ensures pass { IsOf self.now pass.new }
         ensures tree { pass.new.layout.mode ≡ Tree }
         ensures goes_on { HasMadeCall K.is_valid K.word_of V.is_valid V.word_of self.now.tries self.now.layout
-            pass.old pass.new (E.call edit) (blamed_by_update result pass.old.blamed) }
-        ensures spends { HasSpentAtMost pass.old pass.new (E.call edit) self.now.tries }
-        ensures says { UpdateSays V.word_of self.now.tries pass.old pass.new (E.call edit) result }
+            pass.old pass.new (edit_call G.goal R.rule edit) (blamed_by_update result pass.old.blamed) }
+        ensures spends { HasSpentAtMost pass.old pass.new (edit_call G.goal R.rule edit) self.now.tries }
+        ensures says { UpdateSays V.word_of self.now.tries pass.old pass.new (edit_call G.goal R.rule edit) result }
         ensures valid { IfOk result (λ old. IfSome old V.is_valid) }
     {
         told_value(self.edit(pass, edit))
@@ -280,18 +280,22 @@ impl<K: WordKey, V: WordValue> Forest<Dict<K, V>> {
 
     /// Makes an edit.
     #[inline(always)]
-    fn edit<E: EditCall>(&self, pass: &mut Pass<Dict<K, V>>, edit: E) -> Reply<K, V>
+    fn edit<G: EditGoal, R: EditRule>(
+        &self,
+        pass: &mut Pass<Dict<K, V>>,
+        edit: KeyEdit<G, R>,
+    ) -> Reply<K, V>
         requires pass { IsOf self.now pass.old }
-        requires typed { IsTypedCall (IsWordOf K.is_valid K.word_of) (IsWordOf V.is_valid V.word_of) (E.call edit) }
-        requires small { IsSmallCall (E.call edit) }
+        requires typed { IsTypedCall (IsWordOf K.is_valid K.word_of) (IsWordOf V.is_valid V.word_of) (edit_call G.goal R.rule edit) }
+        requires small { IsSmallCall (edit_call G.goal R.rule edit) }
         ensures pass { IsOf self.now pass.new }
         ensures tree { pass.new.layout.mode ≡ Tree }
         ensures goes_on { HasMadeCall K.is_valid K.word_of V.is_valid V.word_of self.now.tries self.now.layout
-            pass.old pass.new (E.call edit) (blamed_by_reply result pass.old.blamed) }
-        ensures spends { HasSpentAtMost pass.old pass.new (E.call edit) self.now.tries }
-        ensures told { IsToldOf pass.old pass.new (E.call edit) (told_of K.word_of V.word_of result) }
-        ensures refused { IsRefusalOf self.now.tries pass.old pass.new (E.call edit) result }
-        ensures form { MayReply (E.call edit) (form_of result) }
+            pass.old pass.new (edit_call G.goal R.rule edit) (blamed_by_reply result pass.old.blamed) }
+        ensures spends { HasSpentAtMost pass.old pass.new (edit_call G.goal R.rule edit) self.now.tries }
+        ensures told { IsToldOf pass.old pass.new (edit_call G.goal R.rule edit) (told_of K.word_of V.word_of result) }
+        ensures refused { IsRefusalOf self.now.tries pass.old pass.new (edit_call G.goal R.rule edit) result }
+        ensures form { MayReply (edit_call G.goal R.rule edit) (form_of result) }
         ensures valid { IsValidReply K.is_valid V.is_valid result }
     {
         let number = pass.taken();

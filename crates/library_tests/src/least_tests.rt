@@ -1,13 +1,13 @@
-//! Walks to the least key, and pops of the first pair.
+//! Walks to an end, and pops of the first pair.
 
 use crate::same::same;
 use arena::NodeWord::{Child, Settled};
 use arena::SettledPart::{Head, High, Key, More, Value};
-use arena::Side::Left;
-use arena::Slot::First;
+use arena::Side::{Left, Right};
+use arena::Slot::{First, Third};
 use arena::{
-    Access, Kind, Limits, Machine, Mode, NodeNo, NodeWord, PassNo, PlainWords, Share, Step, Turn,
-    Word,
+    Access, Kind, Limits, Machine, Mode, NodeNo, NodeWord, PassNo, PlainWords, Share, Side, Step,
+    Turn, Word,
 };
 use edits::{Edit, UpdateAt, UpdateRun, Updated};
 use std::alloc::Global;
@@ -127,12 +127,34 @@ fn load(node: u64, part: NodeWord) -> Step {
     Step { kind, word, access }
 }
 
-#[test]
-fn a_walk_to_the_least_key_loads_no_key_of_a_fork(rt: HostRuntime) -> Result<(), Fail> {
+/// A walk to an end of the tree of five pairs makes these loads, and finds this pair.
+fn walks(
+    rt: &HostRuntime,
+    side: Side,
+    loads: &[(u64, NodeWord)],
+    found: (u64, u128),
+) -> Result<(), Fail> {
     let mut table = opening(rt.alloc())?;
-    five_pairs(&rt, &mut table);
-    // fork 11 has the key 11, over leaf 9 of the keys 5 and 9
-    let loads = [
+    five_pairs(rt, &mut table);
+    let mut walk = WalkRun::new(Goal::End(side));
+    let mut got = None;
+    for (node, part) in loads {
+        let step = load(*node, *part);
+        assert_eq!(rt; Machine::<Tree>::next(&mut walk, got), Turn::Ask(step));
+        got = made(&mut table, step);
+    }
+    let answer = match Machine::<Tree>::next(&mut walk, got) {
+        Turn::Done(found) => Some(Updated::at(&found)),
+        Turn::Ask(_) => None,
+    };
+    same(rt, pair(answer), Some(found));
+    Ok(())
+}
+
+#[test]
+fn a_walk_to_an_end_loads_no_key_of_a_fork(rt: HostRuntime) -> Result<(), Fail> {
+    // fork 11 has the key 11, over leaf 9 of the keys 5 and 9, and leaf 10 of the three others
+    let least = [
         (0, Settled(Head)),
         (0, Child(Left)),
         (5, Settled(Head)),
@@ -145,19 +167,21 @@ fn a_walk_to_the_least_key_loads_no_key_of_a_fork(rt: HostRuntime) -> Result<(),
         (9, Settled(Value(First))),
         (9, Settled(High(First))),
     ];
-    let mut walk = WalkRun::new(Goal::Least);
-    let mut got = None;
-    for (node, part) in &loads {
-        let step = load(*node, *part);
-        assert_eq!(rt; Machine::<Tree>::next(&mut walk, got), Turn::Ask(step));
-        got = made(&mut table, step);
-    }
-    let answer = match Machine::<Tree>::next(&mut walk, got) {
-        Turn::Done(found) => Some(Updated::at(&found)),
-        Turn::Ask(_) => None,
-    };
-    same(&rt, pair(answer), Some((5, FIVE)));
-    Ok(())
+    walks(&rt, Left, &least, (5, FIVE))?;
+    let greatest = [
+        (0, Settled(Head)),
+        (0, Child(Left)),
+        (5, Settled(Head)),
+        (5, Child(Left)),
+        (11, Settled(Head)),
+        (11, Child(Right)),
+        (10, Settled(Head)),
+        (10, Settled(More)),
+        (10, Settled(Key(Third))),
+        (10, Settled(Value(Third))),
+        (10, Settled(High(Third))),
+    ];
+    walks(&rt, Right, &greatest, (15, FIFTEEN))
 }
 
 /// The second and the fifth pop find a leaf of one pair, and so put a copy of its sibling in its

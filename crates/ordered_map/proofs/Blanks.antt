@@ -44,7 +44,7 @@ module _ (f : Word → ℕ) where
   last_blank n l s b d = s.key d ∙ b (λ q. d (s.same_class ∙ q))
 
   fork_blank : (e : MapEdit) (l c x y : ℕ) → IsSplitBy f e l c x y → IsBlankAboveKeys f l → IsBlankAboveKeys f c
-  fork_blank e l c x y s b d = (s.above d).key ∙ b (λ q. d ((s.above d).class ∙ q))
+  fork_blank e l c x y s b d = s.key d ∙ b (λ q. d (s.same_class ∙ q))
 
   copy_blank : (z c : ℕ) → IsCopyOf f c z → IsBlankAboveKeys f z → IsBlankAboveKeys f c
   copy_blank z c s b d = s.same_key ∙ b (λ w. d (ap (λ v. v % 4) s.same_head ∙ w))

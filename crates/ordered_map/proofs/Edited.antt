@@ -46,7 +46,7 @@ join_plan_says p Left e = rw e (refl, refl, refl, refl, refl, refl, refl)
 join_plan_says p Right e = rw e (refl, refl, refl, refl, refl, refl, refl)
 
 weaken : {f g : Word → ℕ} {change : List Pair → List Pair} {Gone Lost Made Born : ℕ → Type 0} {new lo hi : ℕ} {a : Tree} → ((n : ℕ) → Gone n → Lost n) → ((n : ℕ) → Lost n → Gone n) → ((n : ℕ) → Made n → Born n) → Replaced f g change Gone Made new lo hi a → Replaced f g change Lost Born new lo hi a
-weaken to back born x = record { tree = x.tree; shows = x.shows; is = x.is; deep = x.deep; items = x.items; paths = λ j n p. ⊎_elim inl (λ q. inr (to n q)) (x.paths j n p); made = λ n p. ⊎_elim inl (λ q. inr (born n q)) (x.made n p); out = λ n p. x.out n (back n p) }
+weaken to back born x = record { tree = x.tree; shows = x.shows; is = x.is; deep = x.deep; items = x.items; ends = x.ends; low = x.low; paths = λ j n p. ⊎_elim inl (λ q. inr (to n q)) (x.paths j n p); made = λ n p. ⊎_elim inl (λ q. inr (born n q)) (x.made n p); out = λ n p. x.out n (back n p) }
 
 module _ (calls : ℕ → MapEdit) (lay : Layout) (h : History) (r : Row) (u : ℕ) (f : Facts lay h) (z : UpdateWins h r u)
     (o : lay.mode ≡ TreeMode) (l : Lawful lay (r ⊳ h)) (t : TreeFacts calls lay h) where
@@ -394,7 +394,7 @@ module _ (calls : ℕ → MapEdit) (lay : Layout) (h : History) (r : Row) (u : �
       still_marked d e = d (sym (update_keeps_mark f z n) ∙ e)
 
   pub tree_updated : TreeFacts calls lay (r ⊳ h)
-  tree_updated = record { tree = result.tree; is_tree = tree_now; items = items_now; pending = pending_then; one_new = one_new_then; unborn = unborn_then; path = path_then }
+  tree_updated = record { tree = result.tree; is_tree = tree_now; items = items_now; ends_low = result.low t.ends_low; pending = pending_then; one_new = one_new_then; unborn = unborn_then; path = path_then }
 
   -- the node of the field that it changes is in the tree
   pub spot_unmarked : value h (marked (member h u (field_index h u))) ≢ 0 → ⊥

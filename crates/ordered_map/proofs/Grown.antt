@@ -15,7 +15,7 @@ use Rattle.histories.proofs.Lemmas.{Effect, Facts, FreezeWins, effect, facts_bef
 use Rattle.ordered_map.specs.OrderedMap.{MapEdit}
 use Rattle.ordered_map.proofs.Pending.{AllowsGiven}
 use Rattle.ordered_map.proofs.Holding.{high_leaf}
-use Rattle.ordered_map.proofs.Trees.{items, ends}
+use Rattle.ordered_map.proofs.Trees.{items, ends, EndsLow}
 use Rattle.ordered_map.specs.Runs.{map_of_log}
 use Rattle.ordered_map.specs.Spelled.{IsTree}
 use Rattle.ordered_map.specs.TreeWords.{Leaf, Fork}
@@ -39,6 +39,10 @@ opening_tree = record {
   is = refl;
 }
 
+opening_low : EndsLow (value (Start TreeMode)) (Fork 0 (Leaf 1) (Leaf 2))
+unfolding value
+opening_low = (λ z. absurd (cc), tt, tt)
+
 opening_items : (calls : ℕ → MapEdit) (lay : Layout) → items (value (Start TreeMode)) (Fork 0 (Leaf 1) (Leaf 2)) ≡ map_of_log calls (log lay (Start TreeMode)) ++ ends
 unfolding value log
 opening_items calls lay = refl
@@ -52,6 +56,7 @@ tree_at_start calls lay = record {
   tree = Fork 0 (Leaf 1) (Leaf 2);
   is_tree = opening_tree;
   items = opening_items calls lay;
+  ends_low = opening_low;
   pending = λ s n d p w. absurd (opened s n d p);
   one_new = λ s u m n d c p q e. absurd (opened s m d p);
   unborn = λ s n d p w e. absurd (opened s n d p);

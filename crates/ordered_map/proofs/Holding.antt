@@ -6,14 +6,16 @@ use native.Mathlib.Decide.{ℕ_discrete}
 use Rattle.arena.specs.declared.word.NodeWord.{NodeWord}
 use Rattle.arena.specs.declared.word.NodeWord.TheVariants.{Settled}
 use Rattle.arena.specs.declared.word.SettledPart.TheVariants.{Head, More, Key, Value, High}
+use Rattle.arena.specs.declared.word.Side.{Side}
+use Rattle.arena.specs.declared.word.Side.TheVariants.{Left, Right}
 use Rattle.arena.specs.declared.word.Slot.{Slot}
 use Rattle.arena.specs.declared.word.Slot.TheVariants.{First, Second, Third, Fourth}
 use Rattle.arena.specs.declared.word.Word.{Word}
 use Rattle.arena.specs.Lawful.{IsSettled}
 use Rattle.arena.specs.Words.{node, first_key}
 use Rattle.ordered_map.specs.declared.pair.Pair.{Pair}
-use Rattle.ordered_map.specs.OrderedMap.{pair, AllBelow, AllFrom, IsRising}
-use Rattle.ordered_map.specs.Holding.{slots, slots_from, slot_behind, wide_value, pair_in, held_from, held_behind, held_pairs, IsWellCounted}
+use Rattle.ordered_map.specs.OrderedMap.{pair, AllBelow, AllFrom, IsRising, first_pair, last_pair, end_pair}
+use Rattle.ordered_map.specs.Holding.{slots, slots_from, slot_behind, end_slot, wide_value, pair_in, held_from, held_behind, held_pairs, IsWellCounted}
 use Rattle.ordered_map.specs.TreeWords.{class, is_leaf, rank, leaf_pairs, leaf_items, HasItems, IsLeaf}
 use Rattle.ordered_map.proofs.Lists.{from_less, below_more, rising_from}
 
@@ -129,6 +131,18 @@ pub record HeldFirst (f : Word → ℕ) (n : ℕ) : Type 0 where
 
 pub held_first : (f : Word → ℕ) (n : ℕ) → HeldFirst f n
 held_first f n = record { value = (pair_in f n First).value; rest = held_behind f n (slot_behind (more_of f n) First); is = held_next f n First }
+
+-- the pair at an end of it is in the slot there
+pub held_end : (side : Side) (f : Word → ℕ) (n : ℕ) → end_pair side (held_pairs f n) ≡ Some (pair_in f n (end_slot side (f (node n (Settled More)))))
+unfolding held_from
+held_end Left f n = ap first_pair (held_next f n First)
+held_end Right f n = in_slots_end (more_of f n)
+  where
+    in_slots_end : (more : ℕ) → last_pair (map (pair_in f n) (slots more)) ≡ Some (pair_in f n (end_slot Right more))
+    in_slots_end zero = refl
+    in_slots_end (suc zero) = refl
+    in_slots_end (suc (suc zero)) = refl
+    in_slots_end (suc (suc (suc more))) = refl
 
 -- a leaf with no pair behind its first has this one
 pub held_alone : (f : Word → ℕ) (n : ℕ) → f (node n (Settled More)) ≡ 0 → held_pairs f n ≡ pair_in f n First ∷ []

@@ -25,7 +25,7 @@ mod ChangedFields
 mod Taken
 mod TreeRuns
 mod Rising
-mod FirstLeaf
+mod EndLeaf
 mod Reading
 mod LeafLists
 mod Maps

@@ -18,7 +18,7 @@ use Rattle.ordered_map.specs.Edits.{IsSwapBy, IsSplitBy, IsJoinBy, AreBelow, Has
 use Rattle.ordered_map.proofs.Lists.{edited_from, edited_below, from_left, below_right, rising_left, rising_right}
 use Rattle.ordered_map.proofs.Maps.{edited_rises}
 use Rattle.ordered_map.proofs.Holding.{SameSettled, held_first, rank_from, rank_below, same_leaf, same_items, low_items, high_items, key_small}
-use Rattle.ordered_map.proofs.Trees.{items, Replaced, Same, wider, frame, frame_items, frame_path, items_above, items_below, open_between, edited_local, apart, not_below}
+use Rattle.ordered_map.proofs.Trees.{items, last_leaf, has_last, frame_low, Replaced, Same, node_below, wider, frame, frame_items, frame_path, items_above, items_below, open_between, edited_local, apart, not_below}
 
 -- Field words of the node p alone differ between f and g.
 pub record Apart (f g : Word → ℕ) (p : ℕ) : Type 0 where
@@ -37,6 +37,9 @@ apart_leaf f g p e n = ap (λ v. eqb (v / 4 % 2) 1) (e.settled n Head)
 
 apart_level : (f g : Word → ℕ) (p : ℕ) → Apart f g p → (n : ℕ) → level g n ≡ level f n
 apart_level f g p e n = ap (λ v. v / 8) (e.settled n Head)
+
+apart_class : (f g : Word → ℕ) (p : ℕ) → Apart f g p → (n : ℕ) → class g n ≡ class f n
+apart_class f g p e n = ap (λ v. v % 4) (e.settled n Head)
 
 apart_same : (f g : Word → ℕ) (p : ℕ) → Apart f g p → (n : ℕ) → p ≢ n → Same f g n
 apart_same f g p e n d (Settled part) i = e.settled n part
@@ -70,6 +73,8 @@ module _ (f g : Word → ℕ) (p : ℕ) (e : Apart f g p) where
     is = refl;
     deep = let z : level g new ≡ level f new = apart_level f g p e new in let y : level f n ≡ level f l = ap (level f) q in let m = s.deep in omega (arith, z, y, m);
     items = same_items f g new (same new) ∙ items_are;
+    ends = apart_class f g p e new ∙ s.new.class ∙ sym low;
+    low = λ _. tt;
     paths = λ j m h. inr (sym q ∙ h);
     made = λ m h. inr (sym h);
     out = λ m h. (q ∙ h, λ i. ne (h ∙ sym i));
@@ -115,6 +120,8 @@ module _ (f g : Word → ℕ) (p : ℕ) (e : Apart f g p) where
     is = refl;
     deep = let i : level f n ≡ level f l = ap (level f) q in let m = s.deep in omega (arith, lc, i, m);
     items = (λ i. same_items f g x (same x) i ++ same_items f g y (same y) i) ∙ all;
+    ends = y_class ∙ sym (ap (class f) q);
+    low = λ _. (λ z. y_class ∙ sym s.same_class ∙ sym (apart_class f g p e new) ∙ z, tt, tt);
     paths = λ j m h. inr (sym q ∙ h);
     made = λ m h. inr (put m h);
     out = λ m h. (q ∙ h, λ i. not_l m h (put m i));
@@ -128,6 +135,9 @@ module _ (f g : Word → ℕ) (p : ℕ) (e : Apart f g p) where
 
       rc : rank g new ≡ rank f new
       rc = apart_rank f g p e new
+
+      y_class : class g y ≡ class f l
+      y_class = apart_class f g p e y ∙ s.last.same_class
 
       all : leaf_items f x ++ leaf_items f y ≡ edited c (leaf_items f n)
       all = s.items ∙ ap (λ m. edited c (leaf_items f m)) (sym q)
@@ -195,6 +205,8 @@ module _ (f g : Word → ℕ) (p : ℕ) (e : Apart f g p) where
     is = refl;
     deep = let i : level f n ≡ level f c = rw (head, q) refl in let lc : level g c ≡ level f c = apart_level f g p e c in omega (arith, i, lc);
     items = same_items f g c (same c) ∙ items_are;
+    ends = apart_class f g p e c ∙ class_c ∙ sym (ap (class f) q);
+    low = λ _. tt;
     paths = λ j m h. inr (sym q ∙ h);
     made = λ m h. inr (sym h);
     out = λ m h. (q ∙ h, λ i. nc (h ∙ sym i));
@@ -247,6 +259,8 @@ module _ (f g : Word → ℕ) (p : ℕ) (e : Apart f g p) where
     is = refl;
     deep = omega (arith, deep, lc);
     items = λ i. frame_items f g a same_a i ++ frame_items f g b same_b i;
+    ends = last_stays;
+    low = λ w. (λ i. last_stays ∙ w.0 (ap (class f) q ∙ sym class_c ∙ i), frame_low f g a same_a w.1, frame_low f g b same_b w.2);
     paths = paths;
     made = made;
     out = λ m h. (inl (q ∙ h), gone m h);
@@ -259,6 +273,12 @@ module _ (f g : Word → ℕ) (p : ℕ) (e : Apart f g p) where
 
       rc : rank g c ≡ rank f n
       rc = apart_rank f g p e c ∙ (λ i. head i % 4 * 2 ^ 64 + key i) ∙ sym (ap (rank f) q)
+
+      class_c : class g c ≡ class f z
+      class_c = apart_class f g p e c ∙ ap (λ v. v % 4) head
+
+      last_stays : class g (last_leaf b) ≡ class f (last_leaf b)
+      last_stays = apart_class f g p e (last_leaf b)
 
       deep : level f n ≡ level f c
       deep = rw (head, q) refl
@@ -354,6 +374,8 @@ module _ (f g : Word → ℕ) (p : ℕ) (e : Apart f g p) where
                 is = r.is;
                 deep = let v : level f n < level f (root b) = t.0.high in let y = r.deep in omega (arith, v, y);
                 items = r.items ∙ sym (ap (λ (m : Tree). edited k (items f m ++ items f b)) is_a ∙ before ∙ ap (λ xs. xs ++ items f b) none);
+                ends = r.ends;
+                low = λ w. r.low w.2;
                 paths = paths;
                 made = λ m h. ⊎_elim (λ y. inl (inr (inr y))) inr (r.made m h);
                 out = gone;
@@ -379,6 +401,15 @@ module _ (f g : Word → ℕ) (p : ℕ) (e : Apart f g p) where
           leaf_l : IsLeaf f l (rank f n) hi
           leaf_l = rw is_b at t.2
 
+          -- what is on its left is of class 0, as it is
+          last_low : class f (last_leaf a) ≡ 0
+          last_low =
+              let below : rank f (last_leaf a) < rank f n = node_below f a lo (rank f n) (last_leaf a) t.1 (has_last a) in
+              let from : rank f n ≤ rank f l = rank_from f l (rank f n) hi leaf_l.items in
+              let low = s.low in
+              let small = leaf_l.small in
+              omega (arith, below, from, low, small)
+
           finish : Replaced f g (λ xs. xs) (λ n. z ≡ n) (λ n. n ≡ c) c lo (rank f n) a → Replaced f g (edited k) (λ n. (q ≡ n) ⊎ ((l ≡ n) ⊎ (z ≡ n))) (λ n. n ≡ c) c lo hi (Fork n a b)
           finish r =
               let l_from : rank f n ≤ rank f l = rank_from f l (rank f n) hi leaf_l.items in
@@ -389,6 +420,8 @@ module _ (f g : Word → ℕ) (p : ℕ) (e : Apart f g p) where
                 is = r.is;
                 deep = let v : level f n < level f (root a) = t.0.low in let y = r.deep in omega (arith, v, y);
                 items = r.items ∙ sym (ap (λ (m : Tree). edited k (items f a ++ items f m)) is_b ∙ before ∙ ap (λ ys. items f a ++ ys) none ∙ append-nil (items f a));
+                ends = r.ends ∙ last_low ∙ sym s.low ∙ sym (ap (λ (m : Tree). class f (last_leaf m)) is_b);
+                low = λ w. r.low w.1;
                 paths = paths;
                 made = λ m h. ⊎_elim (λ y. inl (inr (inl y))) inr (r.made m h);
                 out = gone;

@@ -1,12 +1,16 @@
 -- The calls of a map, told by its values.
-use Rattle.std.proofs.Common.{◌≡◌, ◌≢◌, ℕ, ◌<◌, ◌≤◌, Bool, true, false, cond, ◌&&◌, eqb, leb, ltb, ◌⊎◌, inl, inr, List, [], ◌∷◌, refl, sym, ◌∙◌, ap, arith, lt-ltb, le-ltb, eq-eqb, ne_eqb}
-use Rattle.std.specs.Prelude.{Option, Some, None}
+use Rattle.std.proofs.Common.{◌≡◌, ◌≢◌, ℕ, ◌<◌, ◌≤◌, Bool, true, false, cond, ◌&&◌, eqb, leb, ltb, ◌⊎◌, inl, inr, List, [], ◌∷◌, ◌++◌, refl, sym, ◌∙◌, ap, arith, lt-ltb, le-ltb, eq-eqb, ne_eqb, subst}
+use Rattle.std.specs.Prelude.{Option, Some, None, is_none, unwrap_or}
+use Rattle.arena.specs.declared.word.Side.{Side}
+use Rattle.arena.specs.declared.word.Side.TheVariants.{Left, Right}
 use Rattle.std.proofs.lemmas.Bool.{eqb-true, eqb-false}
 use native.Mathlib.Decide.{ℕ_discrete}
 use Rattle.ordered_map.specs.declared.pair.Pair.{Pair}
 use Rattle.ordered_map.proofs.Lists.{above_less}
-use Rattle.ordered_map.specs.OrderedMap.{pair, AllAbove, IsRising, get, insert, delete, first_pair, is_value, successor, between, MapEdit, Insert, Delete, edit_key, edited, value_left, after_edit, MapCall, OneValue, call_delete, call_insert, call_pop_first, call_replace_if, reply, after, edit_of}
-use Rattle.ordered_map.specs.MapLaws.{IsLeast, IsSuccessor, replace_if, within, without_first}
+use Rattle.ordered_map.specs.OrderedMap.{pair, AllAbove, IsRising, get, insert, delete, is_value, successor, between, MapEdit, Insert, Delete, edit_key, edited, value_left, after_edit, MapCall, OneValue, call_delete, call_insert, call_pop_first, call_replace_if, call_insert_new, call_delete_if, reply, after, edit_of, AllBelow, last_pair, end_pair, Edit}
+use Rattle.ordered_map.specs.MapLaws.{IsSuccessor, delete_if, insert_new, replace_if, within, without_first, IsEndmost, without_last}
+use Rattle.ordered_map.specs.declared.rule.Goal.TheVariants.{End}
+use Rattle.ordered_map.specs.declared.rule.Rule.TheVariants.{Take}
 use Rattle.ordered_map.proofs.Trees.{split_at}
 
 -- a key is below another one, is it, or is above
@@ -218,11 +222,67 @@ between_rises low high (p ∷ ps) r = go (leb low p.key && leb p.key high) (betw
     go true more = (between_above p.key low high ps r.0, more)
     go false more = more
 
--- The least key
+-- The keys at the ends
 
-pub first_is : (m : List Pair) → IsRising m → IsLeast m (first_pair m)
-first_is [] r = λ j. refl
-first_is (p ∷ ps) r = (rw (at_key p.key) refl, λ j l. below_first j p ps r l)
+-- the last of those behind p, or p, is not below it
+pub last_from : (p : Pair) (ps : List Pair) → AllAbove p.key ps → p.key ≤ (unwrap_or (last_pair ps) p).key
+last_from p [] a = omega arith
+last_from p (q ∷ qs) a = last_above q qs a
+  where
+    last_above : (q : Pair) (qs : List Pair) → AllAbove p.key (q ∷ qs) → p.key ≤ (unwrap_or (last_pair qs) q).key
+    last_above q [] a = let x = a.0 in omega (arith, x)
+    last_above q (r ∷ rs) a = last_above r rs a.1
+
+last_is : (m : List Pair) → IsRising m → IsEndmost Right m (last_pair m)
+last_is [] r = λ j. refl
+last_is (p ∷ []) r = (rw (at_key p.key) refl, λ j l. rw (ne_eqb j p.key (λ e. omega (arith, e, l))) refl)
+last_is (p ∷ q ∷ ps) r =
+    let last : Pair = unwrap_or (last_pair ps) q in
+    let x : IsEndmost Right (q ∷ ps) (Some last) = last_is (q ∷ ps) r.1 in
+    let above : p.key < last.key = (let a = r.0.0 in let b = last_from q ps r.1.0 in omega (arith, a, b)) in
+    (rw (ne_eqb last.key p.key (λ e. omega (arith, e, above))) x.0, λ j l. rw (ne_eqb j p.key (λ e. omega (arith, e, l, above))) (x.1 j l))
+
+pub end_is : (side : Side) (m : List Pair) → IsRising m → IsEndmost side m (end_pair side m)
+end_is Left [] r = λ j. refl
+end_is Left (p ∷ ps) r = (rw (at_key p.key) refl, λ j l. below_first j p ps r l)
+end_is Right m r = last_is m r
+
+-- the pair at an end is of a key of the map
+pub end_had : (side : Side) (m : List Pair) (p : Pair) → end_pair side m ≡ Some p → (v : ℕ) × (get p.key m ≡ Some v)
+end_had side [] p e = absurd (none side e)
+  where
+    none : (s : Side) → end_pair s [] ≡ Some p → ⊥
+    none Left x = cc
+    none Right x = cc
+end_had Left (q ∷ qs) p e = (q.value, rw (eq-eqb p.key q.key (sym (ap (λ o. (unwrap_or o q).key) e))) refl)
+end_had Right (q ∷ qs) p e = go (last_pair qs) refl (ap (λ o. unwrap_or o q) e) (λ r. end_had Right qs r) (eqb p.key q.key) refl
+  where
+    here : (b : Bool) → eqb p.key q.key ≡ b → (v : ℕ) × (get p.key qs ≡ Some v) → (v : ℕ) × (cond b (Some q.value) (get p.key qs) ≡ Some v)
+    here true is x = (q.value, refl)
+    here false is x = x
+
+    go : (o : Option Pair) → last_pair qs ≡ o → unwrap_or (last_pair qs) q ≡ p → ((r : Pair) → last_pair qs ≡ Some r → (v : ℕ) × (get r.key qs ≡ Some v)) → (b : Bool) → eqb p.key q.key ≡ b → (v : ℕ) × (get p.key (q ∷ qs) ≡ Some v)
+    go None is eq rest b at = (q.value, rw (eq-eqb p.key q.key (sym (ap (λ (r : Pair). r.key) (sym (ap (λ o. unwrap_or o q) is) ∙ eq)))) refl)
+    go (Some r) is eq rest b at =
+        let own : r ≡ p = sym (ap (λ o. unwrap_or o q) is) ∙ eq in
+        let x : (v : ℕ) × (get p.key qs ≡ Some v) = subst (λ (s : Pair). (v : ℕ) × (get s.key qs ≡ Some v)) own (rest r is) in
+        subst (λ (c : Bool). (v : ℕ) × (cond c (Some q.value) (get p.key qs) ≡ Some v)) (sym at) (here b at x)
+
+-- it is below what all are below
+pub below_end : (side : Side) (hi : ℕ) (m : List Pair) (p : Pair) → AllBelow hi m → end_pair side m ≡ Some p → p.key < hi
+below_end Left hi [] p a e = absurd (cc)
+below_end Left hi (q ∷ qs) p a e = subst (λ (r : Pair). r.key < hi) (ap (λ o. unwrap_or o q) e) a.0
+below_end Right hi [] p a e = absurd (cc)
+below_end Right hi (q ∷ qs) p a e = go (last_pair qs) refl (ap (λ o. unwrap_or o q) e) (λ r. below_end Right hi qs r a.1)
+  where
+    go : (o : Option Pair) → last_pair qs ≡ o → unwrap_or (last_pair qs) q ≡ p → ((r : Pair) → last_pair qs ≡ Some r → r.key < hi) → p.key < hi
+    go None is eq rest = subst (λ (r : Pair). r.key < hi) (sym (ap (λ o. unwrap_or o q) is) ∙ eq) a.0
+    go (Some r) is eq rest = subst (λ (s : Pair). s.key < hi) (sym (ap (λ o. unwrap_or o q) is) ∙ eq) (rest r is)
+
+-- behind others it is the same
+pub last_join : (xs ys : List Pair) (p : Pair) → last_pair ys ≡ Some p → last_pair (xs ++ ys) ≡ Some p
+last_join [] ys p e = e
+last_join (x ∷ xs) ys p e = ap (λ o. Some (unwrap_or o x)) (last_join xs ys p e)
 
 -- What an edit leaves
 
@@ -258,12 +318,27 @@ pub after_pop : (m : List Pair) → after call_pop_first m ≡ without_first m
 after_pop [] = refl
 after_pop (p ∷ ps) = rw (at_key p.key) refl
 
+pub after_take_last : (m : List Pair) → IsRising m → after (Edit (End Right) Take) m ≡ without_last m
+after_take_last [] r = refl
+after_take_last (p ∷ []) r = rw (at_key p.key) refl
+after_take_last (p ∷ q ∷ ps) r =
+    let last : Pair = unwrap_or (last_pair ps) q in
+    let above : p.key < last.key = (let a = r.0.0 in let b = last_from q ps r.1.0 in omega (arith, a, b)) in
+    rw (ne_eqb last.key p.key (λ e. omega (arith, e, above))) (ap (λ qs. p ∷ qs) (after_take_last (q ∷ ps) r.1))
+
+-- an edit that is made where something is so
+where_so : (edit : MapEdit) (m : List Pair) (so : Bool) → after_edit (cond so (Some edit) None) m ≡ cond so (edited edit m) m
+where_so edit m true = refl
+where_so edit m false = refl
+
 pub after_replace : (k e v : ℕ) (m : List Pair) → after (call_replace_if k e v) m ≡ replace_if k e v m
-after_replace k e v m = go (is_value e (get k m))
-  where
-    go : (is : Bool) → after_edit (cond is (Some (Insert k v)) None) m ≡ cond is (insert k v m) m
-    go true = refl
-    go false = refl
+after_replace k e v m = where_so (Insert k v) m (is_value e (get k m))
+
+pub after_insert_new : (k v : ℕ) (m : List Pair) → after (call_insert_new k v) m ≡ insert_new k v m
+after_insert_new k v m = where_so (Insert k v) m (is_none (get k m))
+
+pub after_delete_if : (k e : ℕ) (m : List Pair) → after (call_delete_if k e) m ≡ delete_if k e m
+after_delete_if k e m = where_so (Delete k) m (is_value e (get k m))
 
 -- a call leaves what the edit leaves that its reply says it has made; a reading leaves the map
 pub after_is : (call : MapCall) (m : List Pair) (made : Option MapEdit) → edit_of call (reply call m) ≡ made → after call m ≡ after_edit made m

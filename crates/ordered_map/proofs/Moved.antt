@@ -6,10 +6,10 @@ use Rattle.arena.specs.declared.word.NodeWord.TheVariants.{Settled}
 use Rattle.arena.specs.declared.word.SettledPart.TheVariants.{Head}
 use Rattle.arena.specs.declared.word.Word.{Word}
 use Rattle.arena.specs.Words.{child, first_key}
-use Rattle.ordered_map.specs.OrderedMap.{AllBelow, AllFrom, MapEdit, edited, first_pair, get}
-use Rattle.ordered_map.specs.TreeWords.{class, is_leaf, level, rank, toward, said, first_said, leaf_items}
+use Rattle.ordered_map.specs.OrderedMap.{AllBelow, AllFrom, MapEdit, edited, end_pair, get}
+use Rattle.ordered_map.specs.TreeWords.{class, is_leaf, level, rank, toward, said, end_said, leaf_items}
 use Rattle.ordered_map.proofs.Holding.{SameSettled, held_same, counted_same, same_items, same_pairs}
-use Rattle.ordered_map.specs.Edits.{IsLowLeaf, IsLastLeaf, IsSwapBy, IsSplitBy, IsCopyOf, IsJoinBy, IsLeafEdit, IsAlike}
+use Rattle.ordered_map.specs.Edits.{IsLowLeaf, IsLastLeaf, IsSwapBy, IsSplitBy, IsCopyOf, IsJoinBy, IsLeafEdit}
 
 pub settled_rank : (b f : Word → ℕ) (n : ℕ) → SameSettled b f n → rank f n ≡ rank b n
 settled_rank b f n e = λ i. e (Settled Head) tt i % 4 * 2 ^ 64 + e first_key tt i
@@ -29,8 +29,8 @@ settled_level b f n e = ap (λ v. v / 8) (e (Settled Head) tt)
 pub settled_said : (b f : Word → ℕ) (k n : ℕ) → SameSettled b f n → said f k n ≡ said b k n
 settled_said b f k n e = ap (get k) (same_pairs b f n e)
 
-pub settled_first : (b f : Word → ℕ) (n : ℕ) → SameSettled b f n → first_said f n ≡ first_said b n
-settled_first b f n e = ap first_pair (same_pairs b f n e)
+pub settled_end : (side : Side) (b f : Word → ℕ) (n : ℕ) → SameSettled b f n → end_said side f n ≡ end_said side b n
+settled_end side b f n e = ap (end_pair side) (same_pairs b f n e)
 
 module _ (b f : Word → ℕ) where
   move_low : (n : ℕ) → SameSettled b f n → IsLowLeaf b n → IsLowLeaf f n
@@ -43,9 +43,6 @@ module _ (b f : Word → ℕ) where
     counted = λ z. counted_same b f n e (s.counted (sym (settled_class b f n e) ∙ z));
     key = λ d. e first_key tt ∙ s.key (λ z. d (settled_class b f n e ∙ z)) ∙ sym (el first_key tt);
   }
-
-  move_alike : (n m : ℕ) → SameSettled b f n → SameSettled b f m → IsAlike b n m → IsAlike f n m
-  move_alike n m e d s = record { class = settled_class b f n e ∙ s.class ∙ sym (settled_class b f m d); key = e first_key tt ∙ s.key ∙ sym (d first_key tt) }
 
   move_swap_by : (e : MapEdit) (l c : ℕ) → SameSettled b f l → SameSettled b f c → IsSwapBy b e l c → IsSwapBy f e l c
   move_swap_by e l c el ec s = record {
@@ -68,7 +65,8 @@ module _ (b f : Word → ℕ) where
     items = (λ i. same_items b f x ex i ++ same_items b f y ey i) ∙ s.items ∙ ap (edited e) (sym (same_items b f l el));
     before = subst (λ r. AllBelow r (leaf_items f x)) (sym (settled_rank b f c ec)) (subst (AllBelow (rank b c)) (sym (same_items b f x ex)) s.before);
     behind = subst (λ r. AllFrom r (leaf_items f y)) (sym (settled_rank b f c ec)) (subst (AllFrom (rank b c)) (sym (same_items b f y ey)) s.behind);
-    above = λ d. move_alike c l ec el (s.above (λ z. d (settled_class b f c ec ∙ z)));
+    same_class = settled_class b f c ec ∙ s.same_class ∙ sym (settled_class b f l el);
+    key = λ d. ec first_key tt ∙ s.key (λ z. d (settled_class b f c ec ∙ z)) ∙ sym (el first_key tt);
     deep = settled_level b f c ec ∙ s.deep ∙ sym (settled_level b f l el);
     low = settled_level b f x ex ∙ s.low ∙ ap (λ v. v + 1) (sym (settled_level b f c ec));
     high = settled_level b f y ey ∙ s.high ∙ ap (λ v. v + 1) (sym (settled_level b f c ec));

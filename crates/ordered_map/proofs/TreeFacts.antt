@@ -22,7 +22,7 @@ use Rattle.histories.specs.Descriptor.{descriptor}
 use Rattle.histories.proofs.Lemmas.{Facts, FreezeWins, Kept, Logs, first_frozen, freeze_descriptor, freeze_distinct, freeze_finds, freeze_held, freeze_is_new, freeze_keeps_field, freeze_keeps_info, freeze_keeps_mark, freeze_keeps_scx, freeze_real, freeze_stores, log_same, logs, node_stays, same, update_is_first, update_won, wins, won_more}
 use Rattle.ordered_map.specs.OrderedMap.{MapEdit}
 use Rattle.ordered_map.proofs.Pending.{AllowsGiven, tree_named, tree_field, Mine, Pending, Holds, pending_kept, pending_freeze}
-use Rattle.ordered_map.proofs.Trees.{items, ends, Same, frame, frame_items, frame_path, same_tree}
+use Rattle.ordered_map.proofs.Trees.{items, ends, EndsLow, Same, frame, frame_items, frame_low, frame_path, same_tree}
 use Rattle.ordered_map.specs.Paths.{IsOnPath}
 use Rattle.ordered_map.specs.Runs.{map_of_log}
 use Rattle.ordered_map.specs.Spelled.{IsTree}
@@ -33,6 +33,7 @@ pub record TreeFacts (calls : ℕ → MapEdit) (lay : Layout) (h : History) : Ty
   pub tree : Tree
   pub is_tree : IsTree (value h) tree
   pub items : items (value h) tree ≡ map_of_log calls (log lay h) ++ ends
+  pub ends_low : EndsLow (value h) tree
   pub pending : (s n : ℕ) → s ≢ 0 → HasHeld h (info n) s → ¬ HasWon h s → Pending calls lay h s
   pub one_new : (s u m n : ℕ) → s ≢ 0 → u ≢ 0 → HasHeld h (info m) s → HasHeld h (info n) u → new h s ≡ new h u → s ≡ u
   pub unborn : (s n : ℕ) → s ≢ 0 → HasHeld h (info n) s → ¬ HasWon h s → is_leaf (value h) (new h s) ≡ false → ¬ Has tree (new h s)
@@ -68,6 +69,9 @@ module _ (calls : ℕ → MapEdit) (lay : Layout) (h : History) (r : Row) (o : l
   items_stay : items (value (r ⊳ h)) t.tree ≡ map_of_log calls (log lay (r ⊳ h)) ++ ends
   items_stay = frame_items (value h) (value (r ⊳ h)) t.tree in_tree ∙ rw same_log t.items
 
+  low_stays : EndsLow (value (r ⊳ h)) t.tree
+  low_stays = frame_low (value h) (value (r ⊳ h)) t.tree in_tree t.ends_low
+
   path_stays : (m : History) (k n : ℕ) → Extends (r ⊳ h) m → IsOnPath m k n → Passes (value (r ⊳ h)) k t.tree n ⊎ (value (r ⊳ h) (marked n) ≢ 0)
   path_stays m k n (inl e) p = inl (path_now (r ⊳ h) t.tree k n tree_stays (rw e at p))
   path_stays m k n (inr e) p = ⊎_elim (λ q. inl (frame_path (value h) (value (r ⊳ h)) k t.tree n in_tree q)) (λ q. inr (marks n q)) (t.path m k n e p)
@@ -78,6 +82,7 @@ tree_kept calls lay h r f o l t k = record {
   tree = t.tree;
   is_tree = tree_stays calls lay h r o l t fields same_log marks;
   items = items_stay calls lay h r o l t fields same_log marks;
+  ends_low = low_stays calls lay h r o l t fields same_log marks;
   path = path_stays calls lay h r o l t fields same_log marks;
   pending = λ s n d p w. pending_kept calls f k s n l d (back n s p) (t.pending s n d (back n s p) (λ x. w (won_more r h s x)));
   one_new = λ s u m n d b p q x. t.one_new s u m n d b (back m s p) (back n u q) (sym (new_same s m d (back m s p)) ∙ x ∙ new_same u n b (back n u q));
@@ -223,6 +228,7 @@ module _ (calls : ℕ → MapEdit) (lay : Layout) (h : History) (r : Row) (u j :
     tree = t.tree;
     is_tree = tree_stays calls lay h r o l t stays no_log marks;
     items = items_stay calls lay h r o l t stays no_log marks;
+    ends_low = low_stays calls lay h r o l t stays no_log marks;
     path = path_stays calls lay h r o l t stays no_log marks;
     pending = pending_now;
     one_new = one_new_now;

@@ -13,7 +13,7 @@ use Rattle.ordered_map.specs.declared.pair.Pair.{Pair}
 use Rattle.ordered_map.specs.OrderedMap.{pair, AllAbove, AllBelow, insert, delete, MapEdit, Insert, Delete, edit_key, edited}
 use Rattle.ordered_map.proofs.Lists.{above_join, below_join, above_from, below_more}
 use Rattle.ordered_map.proofs.Holding.{SameSettled, rank_from, rank_below, wider_leaf, same_leaf, same_items}
-use Rattle.ordered_map.specs.TreeWords.{is_leaf, level, rank, toward, leaf_items, Tree, Leaf, Fork, root, IsForkOver, IsLeaf, Shows, Has, Passes}
+use Rattle.ordered_map.specs.TreeWords.{class, is_leaf, level, rank, toward, leaf_items, Tree, Leaf, Fork, root, IsForkOver, IsLeaf, Shows, Has, Passes}
 
 -- what is proved of the pairs is proved of all items first
 
@@ -92,6 +92,16 @@ overlap f (Fork n a b) lo hi low high s r =
     let y : low < rank f n = open_between f a low (rank f n) r.1 in
     omega (arith, x, y)
 
+-- all nodes of a shown tree are below the upper bound
+pub node_below : (f : Word → ℕ) (t : Tree) (lo hi n : ℕ) → Shows f lo hi t → Has t n → rank f n < hi
+node_below f (Leaf m) lo hi n s e = rw (← e) (rank_below f m lo hi s.items)
+node_below f (Fork m a b) lo hi n s (inl e) = rw (← e) (open_between f b (rank f m) hi s.2)
+node_below f (Fork m a b) lo hi n s (inr (inl q)) =
+    let x : rank f n < rank f m = node_below f a lo (rank f m) n s.1 q in
+    let y : rank f m < hi = open_between f b (rank f m) hi s.2 in
+    omega (arith, x, y)
+node_below f (Fork m a b) lo hi n s (inr (inr q)) = node_below f b (rank f m) hi n s.2 q
+
 -- no node stands on both sides
 pub apart : (f : Word → ℕ) (a b : Tree) (lo m hi p : ℕ) → Shows f lo m a → Shows f m hi b → Has a p → Has b p → ⊥
 apart f a b lo m hi p s r h i = go (part_of f a lo m p s h) (part_of f b m hi p r i)
@@ -165,6 +175,31 @@ passes_has f k (Leaf n) m p = p
 passes_has f k (Fork n a b) m (inl p) = inl p
 passes_has f k (Fork n a b) m (inr (inl p)) = inr (inl (passes_has f k a m p.1))
 passes_has f k (Fork n a b) m (inr (inr p)) = inr (inr (passes_has f k b m p.1))
+
+-- the last leaf of a tree
+abbrev pub last_leaf : Tree → ℕ
+last_leaf (Leaf n) = n
+last_leaf (Fork n a b) = last_leaf b
+
+pub has_last : (t : Tree) → Has t (last_leaf t)
+has_last (Leaf n) = refl
+has_last (Fork n a b) = inr (inr (has_last b))
+
+-- below each fork of class 0 the last leaf is of class 0
+abbrev pub EndsLow : (Word → ℕ) → Tree → Type 0
+EndsLow f (Leaf n) = Unit {0}
+EndsLow f (Fork n a b) = (class f n ≡ 0 → class f (last_leaf b) ≡ 0) × EndsLow f a × EndsLow f b
+
+pub same_class : (f g : Word → ℕ) (n : ℕ) → Same f g n → class g n ≡ class f n
+same_class f g n e = ap (λ v. v % 4) (e (Settled Head) tt)
+
+pub frame_low : (f g : Word → ℕ) (t : Tree) → ((n : ℕ) → Has t n → Same f g n) → EndsLow f t → EndsLow g t
+frame_low f g (Leaf n) e s = tt
+frame_low f g (Fork n a b) e s = (
+  λ z. same_class f g (last_leaf b) (e (last_leaf b) (inr (inr (has_last b)))) ∙ s.0 (sym (same_class f g n (e n (inl refl))) ∙ z),
+  frame_low f g a (λ m h. e m (inr (inl h))) s.1,
+  frame_low f g b (λ m h. e m (inr (inr h))) s.2,
+)
 
 -- a field of a fork of the tree holds the node
 pub record IsBelowFork (f : Word → ℕ) (t : Tree) (n : ℕ) : Type 0 where
@@ -268,6 +303,8 @@ pub record Replaced (f g : Word → ℕ) (change : List Pair → List Pair) (Gon
   pub is : root tree ≡ new
   pub deep : level f (root a) ≤ level g new
   pub items : items g tree ≡ change (items f a)
+  pub ends : class g (last_leaf tree) ≡ class f (last_leaf a)
+  pub low : EndsLow f a → EndsLow g tree
   pub paths : (j n : ℕ) → Passes f j a n → Passes g j tree n ⊎ Gone n
   pub made : (n : ℕ) → Has tree n → Has a n ⊎ Made n
   pub out : (n : ℕ) → Gone n → Has a n × ¬ Has tree n
@@ -298,6 +335,9 @@ module _ (f g : Word → ℕ) (k p old new : ℕ) (change : List Pair → List P
   level_stays : (n : ℕ) → level g n ≡ level f n
   level_stays n = ap (λ v. v / 8) (head_stays n)
 
+  class_stays : (n : ℕ) → class g n ≡ class f n
+  class_stays n = ap (λ v. v % 4) (head_stays n)
+
   -- the subtree on the left of n is replaced, the right one stays
   on_left : (n lo hi : ℕ) (a b : Tree) → k < rank f n → Shows f lo hi (Fork n a b) → ¬ Has b p → (new_a : ℕ) → g (child n Left) ≡ new_a → g (child n Right) ≡ f (child n Right) → Replaced f g change Gone Made new_a lo (rank f n) a → Replaced f g change Gone Made n lo hi (Fork n a b)
   on_left n lo hi a b l s d new_a at right x = record {
@@ -306,6 +346,8 @@ module _ (f g : Word → ℕ) (k p old new : ℕ) (change : List Pair → List P
     is = refl;
     deep = let e : level g n ≡ level f n = level_stays n in omega (arith, e);
     items = (λ i. x.items i ++ frame_items f g b (off_tree b d) i) ∙ sym (local.left (items f a) (items f b) (items_above f b (rank f n) hi k s.2 l));
+    ends = class_stays (last_leaf b);
+    low = λ e. (λ z. class_stays (last_leaf b) ∙ e.0 (sym (class_stays n) ∙ z), x.low e.1, frame_low f g b (off_tree b d) e.2);
     paths = paths;
     made = made;
     out = λ m c. (inr (inl (x.out m c).0), gone m c);
@@ -346,6 +388,8 @@ module _ (f g : Word → ℕ) (k p old new : ℕ) (change : List Pair → List P
     is = refl;
     deep = let e : level g n ≡ level f n = level_stays n in omega (arith, e);
     items = (λ i. frame_items f g a (off_tree a d) i ++ x.items i) ∙ sym (local.right (items f a) (items f b) (items_below f a lo (rank f n) k s.1 l));
+    ends = x.ends;
+    low = λ e. (λ z. x.ends ∙ e.0 (sym (class_stays n) ∙ z), frame_low f g a (off_tree a d) e.1, x.low e.2);
     paths = paths;
     made = made;
     out = λ m c. (inr (inr (x.out m c).0), gone m c);

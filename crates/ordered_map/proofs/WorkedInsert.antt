@@ -280,7 +280,8 @@ may_edit = record {
         items = (λ i. first_held i ++ pair (2 ^ 64) 0 ∷ []) ∙ sym (put_before 7 70 (2 ^ 64) 0 (lit< tt));
         before = subst (AllBelow (2 ^ 64)) (sym (first_held)) (lit< tt, tt);
         behind = (lit≤ tt, tt);
-        above = λ _. record { class = refl; key = refl };
+        same_class = refl;
+        key = λ _. refl;
         deep = refl;
         low = refl;
         high = refl;

@@ -8,7 +8,7 @@ use Rattle.ordered_map.specs.declared.reply.Reply.{Reply}
 use Rattle.ordered_map.specs.declared.reply.Reply.TheVariants as replies
 use Rattle.ordered_map.specs.OrderedMap.{MapCall, Edit, Get, Successor, Range, applies, goal_told, leaves, spot}
 use Rattle.ordered_map.specs.declared.rule.Goal.{Goal}
-use Rattle.ordered_map.specs.declared.rule.Goal.TheVariants.{Key, Least}
+use Rattle.ordered_map.specs.declared.rule.Goal.TheVariants.{Key, End}
 use Rattle.ordered_map.specs.declared.rule.Rule.{Rule}
 
 -- the form of a reply: a value, a pair or pairs, or a refusal
@@ -73,7 +73,7 @@ IsFormOfValue Contended = Unit {0}
 IsFormOfValue Full = Unit {0}
 IsFormOfValue _ = ⊥
 
--- one of the least pair tells a pair, or none, or is refused
+-- one of the pair at an end tells a pair, or none, or is refused
 abbrev pub IsFormOfPair : Form → Type 0
 IsFormOfPair Pair = Unit {0}
 IsFormOfPair Contended = Unit {0}
@@ -82,7 +82,7 @@ IsFormOfPair _ = ⊥
 
 abbrev pub IsFormOfEdit : Goal → Form → Type 0
 IsFormOfEdit (Key k) = IsFormOfValue
-IsFormOfEdit Least = IsFormOfPair
+IsFormOfEdit (End side) = IsFormOfPair
 
 -- Reads
 

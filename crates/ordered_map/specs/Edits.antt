@@ -24,11 +24,6 @@ pub record IsLastLeaf (f : Word → ℕ) (n l : ℕ) : Type 0 where
   pub counted : class f n ≡ 0 → IsWellCounted f n
   pub key : class f n ≢ 0 → f (node n first_key) ≡ f (node l first_key)
 
--- n has the class and the key of m
-pub record IsAlike (f : Word → ℕ) (n m : ℕ) : Type 0 where
-  pub class : class f n ≡ class f m
-  pub key : f (node n first_key) ≡ f (node m first_key)
-
 -- the leaf l is replaced by a leaf c, which holds what the edit makes of its pairs
 pub record IsSwapBy (f : Word → ℕ) (e : MapEdit) (l c : ℕ) : Type 0 where
   pub leaf : is_leaf f l ≡ true
@@ -38,7 +33,7 @@ pub record IsSwapBy (f : Word → ℕ) (e : MapEdit) (l c : ℕ) : Type 0 where
   pub deep : level f c ≡ level f l
 
 -- the leaf l is replaced by a fork c over two leaves, which between them hold what the edit makes of
--- its items; the fork stands between them, and above all keys it is alike to the leaf
+-- its items; the fork stands between them, of the class of the leaf, and above all keys it has its key
 pub record IsSplitBy (f : Word → ℕ) (e : MapEdit) (l c x y : ℕ) : Type 0 where
   pub leaf : is_leaf f l ≡ true
   pub fork : is_leaf f c ≡ false
@@ -50,7 +45,8 @@ pub record IsSplitBy (f : Word → ℕ) (e : MapEdit) (l c x y : ℕ) : Type 0 w
   pub items : leaf_items f x ++ leaf_items f y ≡ edited e (leaf_items f l)
   pub before : AllBelow (rank f c) (leaf_items f x)
   pub behind : AllFrom (rank f c) (leaf_items f y)
-  pub above : class f c ≢ 0 → IsAlike f c l
+  pub same_class : class f c ≡ class f l
+  pub key : class f c ≢ 0 → f (node c first_key) ≡ f (node l first_key)
   pub deep : level f c ≡ level f l
   pub low : level f x ≡ level f c + 1
   pub high : level f y ≡ level f c + 1

@@ -3,6 +3,8 @@
 use Rattle.std.specs.Prelude.{ℕ, zero, suc, ◌+◌, ◌*◌, ◌^◌, ◌<◌, if◌then◌else◌, nat_lt, List, [], ◌∷◌, map, Option, Some, None}
 use Rattle.arena.specs.declared.word.NodeWord.TheVariants.{Settled}
 use Rattle.arena.specs.declared.word.SettledPart.TheVariants.{More, Key, Value, High}
+use Rattle.arena.specs.declared.word.Side.{Side}
+use Rattle.arena.specs.declared.word.Side.TheVariants.{Left, Right}
 use Rattle.arena.specs.declared.word.Slot.{Slot}
 use Rattle.arena.specs.declared.word.Slot.TheVariants.{First, Second, Third, Fourth}
 use Rattle.arena.specs.declared.word.Word.{Word}
@@ -31,6 +33,14 @@ slot_behind more First = if nat_lt 0 more then Some Second else None
 slot_behind more Second = if nat_lt 1 more then Some Third else None
 slot_behind more Third = if nat_lt 2 more then Some Fourth else None
 slot_behind more Fourth = None
+
+-- the slot at this end of a leaf that has so many pairs behind its first
+abbrev pub end_slot : Side → ℕ → Slot
+end_slot Left more = First
+end_slot Right zero = First
+end_slot Right (suc zero) = Second
+end_slot Right (suc (suc zero)) = Third
+end_slot Right (suc (suc (suc more))) = Fourth
 
 -- the value of these two halves
 abbrev pub wide_value : ℕ → ℕ → ℕ

@@ -1,18 +1,25 @@
--- What the laws of the map say of the least key, of the least above another one, of the keys between
--- two, and of what a pop and a replacement leave.
-use Rattle.std.specs.Prelude.{◌≡◌, ℕ, ◌<◌, if◌then◌else◌, ◌&&◌, nat_le, List, [], ◌∷◌, Option, Some, None}
+-- What the laws of the map say of the keys at its ends, of the least above another one, of the keys
+-- between two, and of what a take at an end and the edits leave that go by the value found.
+use Rattle.std.specs.Prelude.{◌≡◌, ℕ, ◌<◌, if◌then◌else◌, ◌&&◌, nat_le, List, [], ◌∷◌, Option, Some, None, is_none}
+use Rattle.arena.specs.declared.word.Side.{Side}
+use Rattle.arena.specs.declared.word.Side.TheVariants.{Left, Right}
 use Rattle.ordered_map.specs.declared.pair.Pair.{Pair}
-use Rattle.ordered_map.specs.OrderedMap.{get, insert, is_value}
+use Rattle.ordered_map.specs.OrderedMap.{delete, get, insert, is_value}
 
 -- a pair of the map with a key above k, below which no key above k has a value; or none has one
 abbrev pub IsSuccessor : ℕ → List Pair → Option Pair → Type 0
 IsSuccessor k m (Some p) = (k < p.key) × (get p.key m ≡ Some p.value) × ((j : ℕ) → k < j → j < p.key → get j m ≡ None)
 IsSuccessor k m None = (j : ℕ) → k < j → get j m ≡ None
 
--- a pair of the map below whose key no key has a value; or none has one
-abbrev pub IsLeast : List Pair → Option Pair → Type 0
-IsLeast m (Some p) = (get p.key m ≡ Some p.value) × ((j : ℕ) → j < p.key → get j m ≡ None)
-IsLeast m None = (j : ℕ) → get j m ≡ None
+-- j is beyond k on this side
+abbrev pub IsBeyond : Side → ℕ → ℕ → Type 0
+IsBeyond Left k j = j < k
+IsBeyond Right k j = k < j
+
+-- a pair of the map beyond whose key, on this side, no key has a value; or none has one
+abbrev pub IsEndmost : Side → List Pair → Option Pair → Type 0
+IsEndmost side m (Some p) = (get p.key m ≡ Some p.value) × ((j : ℕ) → IsBeyond side p.key j → get j m ≡ None)
+IsEndmost side m None = (j : ℕ) → get j m ≡ None
 
 -- this, for a key from `low` to `high`, and nothing for any other
 abbrev pub within : ℕ → ℕ → ℕ → Option ℕ → Option ℕ
@@ -23,6 +30,20 @@ abbrev pub without_first : List Pair → List Pair
 without_first [] = []
 without_first (p ∷ ps) = ps
 
+-- the map without its last pair
+abbrev pub without_last : List Pair → List Pair
+without_last [] = []
+without_last (p ∷ []) = []
+without_last (p ∷ q ∷ ps) = p ∷ without_last (q ∷ ps)
+
 -- the map with k at v where k has the value e, and else the map as it is
 abbrev pub replace_if : ℕ → ℕ → ℕ → List Pair → List Pair
 replace_if k e v m = if is_value e (get k m) then insert k v m else m
+
+-- the map with k at v where k has no value, and else the map as it is
+abbrev pub insert_new : ℕ → ℕ → List Pair → List Pair
+insert_new k v m = if is_none (get k m) then insert k v m else m
+
+-- the map without k where k has the value e, and else the map as it is
+abbrev pub delete_if : ℕ → ℕ → List Pair → List Pair
+delete_if k e m = if is_value e (get k m) then delete k m else m

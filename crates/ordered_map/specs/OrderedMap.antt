@@ -1,10 +1,12 @@
 -- The ordered map from keys to values: what each call replies, and the map that it leaves.
-use Rattle.std.specs.Prelude.{ℕ, ◌<◌, ◌≤◌, Bool, true, false, if◌then◌else◌, ◌&&◌, ◌==◌, nat_le, nat_lt, List, [], ◌∷◌, take, Option, Some, None, is_some}
+use Rattle.std.specs.Prelude.{ℕ, ◌<◌, ◌≤◌, Bool, true, false, if◌then◌else◌, ◌&&◌, ◌==◌, nat_le, nat_lt, List, [], ◌∷◌, take, Option, Some, None, is_none, is_some, unwrap_or}
+use Rattle.arena.specs.declared.word.Side.{Side}
+use Rattle.arena.specs.declared.word.Side.TheVariants.{Left, Right}
 use Rattle.ordered_map.specs.declared.pair.Pair.{Pair}
 use Rattle.ordered_map.specs.declared.rule.Goal.{Goal}
-use Rattle.ordered_map.specs.declared.rule.Goal.TheVariants.{Key, Least}
+use Rattle.ordered_map.specs.declared.rule.Goal.TheVariants.{Key, End}
 use Rattle.ordered_map.specs.declared.rule.Rule.{Rule}
-use Rattle.ordered_map.specs.declared.rule.Rule.TheVariants.{Put, Take, Swap}
+use Rattle.ordered_map.specs.declared.rule.Rule.TheVariants.{Put, Take, Swap, PutNew, TakeIf}
 
 -- A map is the list of its pairs by rising key; the empty list is the empty map.
 
@@ -53,6 +55,16 @@ delete k (p ∷ ps) = if k == p.key then ps else p ∷ delete k ps
 abbrev pub first_pair : List Pair → Option Pair
 first_pair [] = None
 first_pair (p ∷ ps) = Some p
+
+-- the pair with the greatest key, if there is one
+abbrev pub last_pair : List Pair → Option Pair
+last_pair [] = None
+last_pair (p ∷ ps) = Some (unwrap_or (last_pair ps) p)
+
+-- the pair at this end of a map, if there is one: on the left that with the least key
+abbrev pub end_pair : Side → List Pair → Option Pair
+end_pair Left = first_pair
+end_pair Right = last_pair
 
 -- whether this is the value told
 abbrev pub is_value : ℕ → Option ℕ → Bool
@@ -107,18 +119,23 @@ abbrev pub after_edit : Option MapEdit → List Pair → List Pair
 after_edit None m = m
 after_edit (Some e) m = edited e m
 
--- whether a rule changes anything where it finds this value, or none: a put always does, a take
--- where there is one, a swap where it is the value expected
+-- whether a rule changes anything where it finds this value, or none: a put always does, a put of
+-- what is new where there is none, a take where there is one, a swap and a take of one value where it
+-- is the value expected
 abbrev pub applies : Rule → Option ℕ → Bool
 applies (Put v) found = true
 applies Take found = is_some found
 applies (Swap e v) found = is_value e found
+applies (PutNew v) found = is_none found
+applies (TakeIf e) found = is_value e found
 
 -- the value that it leaves there, if it leaves one
 abbrev pub leaves : Rule → Option ℕ
 leaves (Put v) = Some v
 leaves Take = None
 leaves (Swap e v) = Some v
+leaves (PutNew v) = Some v
+leaves (TakeIf e) = None
 
 -- the edit that a rule makes of a key that has this value, or none, if it makes one
 abbrev pub edit_by : Rule → ℕ → Option ℕ → Option MapEdit
@@ -135,7 +152,8 @@ pub data MapCall : Type 0 where
   Range : ℕ → ℕ → ℕ → MapCall
 
 -- the edits by their names: a key is to have this value; a key is to have none; the pair with the
--- least key goes; a key, where it has the value e, is to have v
+-- least key goes; a key, where it has the value e, is to have v; a key, where it has none, is to have
+-- this value; a key, where it has the value e, is to have none
 abbrev pub call_insert : ℕ → ℕ → MapCall
 call_insert k v = Edit (Key k) (Put v)
 
@@ -143,15 +161,21 @@ abbrev pub call_delete : ℕ → MapCall
 call_delete k = Edit (Key k) Take
 
 abbrev pub call_pop_first : MapCall
-call_pop_first = Edit Least Take
+call_pop_first = Edit (End Left) Take
 
 abbrev pub call_replace_if : ℕ → ℕ → ℕ → MapCall
 call_replace_if k e v = Edit (Key k) (Swap e v)
 
--- the key of a goal, where `least` is the least key of the map, if there is one
+abbrev pub call_insert_new : ℕ → ℕ → MapCall
+call_insert_new k v = Edit (Key k) (PutNew v)
+
+abbrev pub call_delete_if : ℕ → ℕ → MapCall
+call_delete_if k e = Edit (Key k) (TakeIf e)
+
+-- the key of a goal, where `at_end` is the key at its end of the map, if there is one
 abbrev pub goal_key : Goal → Option ℕ → Option ℕ
-goal_key (Key k) least = Some k
-goal_key Least least = least
+goal_key (Key k) at_end = Some k
+goal_key (End side) at_end = at_end
 
 -- what a call may reply: a value, or none; a pair; some pairs
 pub data MapReply : Type 0 where
@@ -164,10 +188,10 @@ abbrev pub pair_or_none : Option Pair → MapReply
 pair_or_none (Some p) = OnePair p
 pair_or_none None = OneValue None
 
--- what an edit finds at its goal: the value of its key, if it has one, or the pair with the least key
+-- what an edit finds at its goal: the value of its key, if it has one, or the pair at its end
 abbrev pub goal_told : Goal → List Pair → MapReply
 goal_told (Key k) m = OneValue (get k m)
-goal_told Least m = pair_or_none (first_pair m)
+goal_told (End side) m = pair_or_none (end_pair side m)
 
 -- what the call replies on the map m: an edit tells what it finds
 abbrev pub reply : MapCall → List Pair → MapReply
@@ -180,7 +204,7 @@ reply (Range low high most) m = ManyPairs (range low high most m)
 -- where it looks for a pair and tells none
 abbrev pub spot : Goal → MapReply → Option (ℕ × Option ℕ)
 spot (Key k) (OneValue found) = Some (k, found)
-spot Least (OnePair p) = Some (p.key, Some p.value)
+spot (End side) (OnePair p) = Some (p.key, Some p.value)
 spot _ _ = None
 
 -- the edit that a rule makes there, if it makes one

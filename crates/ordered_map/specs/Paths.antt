@@ -1,10 +1,12 @@
 -- Which nodes a search for a key passes, and which stand in the tree, now or at a moment before;
 -- and what a search may answer.
-use Rattle.std.specs.Prelude.{◌≡◌, ℕ, List, Option}
+use Rattle.std.specs.Prelude.{◌≡◌, ℕ, ◌-◌, ◌^◌, if◌then◌else◌, ◌==◌, List, Option}
+use Rattle.arena.specs.declared.word.Side.{Side}
+use Rattle.arena.specs.declared.word.Side.TheVariants.{Left, Right}
 use Rattle.arena.specs.declared.layout.Layout.{Layout}
 use Rattle.arena.specs.History.{History, value, Extends}
 use Rattle.ordered_map.specs.declared.pair.Pair.{Pair}
-use Rattle.ordered_map.specs.OrderedMap.{get, first_pair}
+use Rattle.ordered_map.specs.OrderedMap.{get, end_pair}
 use Rattle.ordered_map.specs.TreeWords.{Tree, Has, Passes}
 use Rattle.ordered_map.specs.Spelled.{IsTree, Spells}
 
@@ -40,12 +42,21 @@ pub record IsAnswerAt (lay : Layout) (h start : History) (k : ℕ) (answer : Opt
   pub spelled : Spells lay (value moment) map
   pub gives : get k map ≡ answer
 
--- at a moment of the history that is not before `start` the words spell a map whose first pair this
--- is; if there is none, the map is empty
-pub record IsFirstAt (lay : Layout) (h start : History) (answer : Option Pair) : Type 0 where
+-- the key at this end of all keys that may be
+abbrev pub end_key : Side → ℕ
+end_key Left = 0
+end_key Right = 2 ^ 64 - 1
+
+-- to which side the search for it goes at a fork of this class: above all keys to the left
+abbrev pub end_turn : Side → ℕ → Side
+end_turn side class = if class == 0 then side else Left
+
+-- at a moment of the history that is not before `start` the words spell a map at whose end on this
+-- side is this pair; if there is none, the map is empty
+pub record IsEndAt (side : Side) (lay : Layout) (h start : History) (answer : Option Pair) : Type 0 where
   pub moment : History
   pub within : Extends h moment
   pub since : Extends moment start
   pub map : List Pair
   pub spelled : Spells lay (value moment) map
-  pub is : first_pair map ≡ answer
+  pub is : end_pair side map ≡ answer

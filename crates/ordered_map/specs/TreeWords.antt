@@ -7,7 +7,7 @@ use Rattle.arena.specs.declared.word.SettledPart.TheVariants.{Head}
 use Rattle.arena.specs.declared.word.Word.{Word}
 use Rattle.arena.specs.Words.{node, child, first_key}
 use Rattle.ordered_map.specs.declared.pair.Pair.{Pair}
-use Rattle.ordered_map.specs.OrderedMap.{pair, AllBelow, AllFrom, IsRising, first_pair, get}
+use Rattle.ordered_map.specs.OrderedMap.{pair, AllBelow, AllFrom, IsRising, end_pair, get}
 use Rattle.ordered_map.specs.Holding.{held_pairs, IsWellCounted}
 
 -- The settled words of a node; `f` says what each word holds
@@ -48,9 +48,9 @@ leaf_items f n = if class f n == 0 then held_pairs f n else pair (rank f n) 0 �
 abbrev pub said : (Word → ℕ) → ℕ → ℕ → Option ℕ
 said f k n = get k (leaf_pairs f n)
 
--- what the leaf n says of the least key, where it is the first leaf: the first of its pairs
-abbrev pub first_said : (Word → ℕ) → ℕ → Option Pair
-first_said f n = first_pair (leaf_pairs f n)
+-- what the leaf n says of the key at an end, where it is the leaf there: the pair at its own end
+abbrev pub end_said : Side → (Word → ℕ) → ℕ → Option Pair
+end_said side f n = end_pair side (leaf_pairs f n)
 
 -- A tree of nodes, by their numbers
 

@@ -2,12 +2,12 @@
 ghost use Rattle.std.specs.Prelude.{◌≡◌, ◌<◌, ◌++◌, ◌↔◌, IfOk, IsTrue};
 ghost use Rattle.arena.specs.Layout.{all_nodes};
 ghost use Rattle.arena.specs.PlainWords.{word_at};
-ghost use Rattle.ordered_map.specs.Holding.{slot_behind, pair_in, held_from};
+ghost use Rattle.ordered_map.specs.Holding.{slot_behind, end_slot, pair_in, held_from};
 ghost use Rattle.ordered_map.specs.Parts.{AreInOrder, HoldsInOrder};
 
 use crate::pair::Pair;
 use crate::wide::wide_value;
-use arena::{NoMemory, NodeNo, NodeWord, PlainWords, SettledPart, Slot, Word};
+use arena::{NoMemory, NodeNo, NodeWord, PlainWords, SettledPart, Side, Slot, Word};
 
 /// The slot behind this one in a leaf that has so many pairs behind its first, if there is one.
 pub fn slot_behind(more: u64, slot: Slot) -> Option<Slot>
@@ -18,6 +18,19 @@ pub fn slot_behind(more: u64, slot: Slot) -> Option<Slot>
         Slot::Second if more > 1 => Some(Slot::Third),
         Slot::Third if more > 2 => Some(Slot::Fourth),
         _ => None,
+    }
+}
+
+/// The slot at this end of a leaf that has so many pairs behind its first.
+#[inline(always)]
+pub fn end_slot(side: Side, more: u64) -> Slot
+    ensures { result ≡ end_slot side more }
+{
+    match (side, more) {
+        (Side::Left, _) | (_, 0) => Slot::First,
+        (_, 1) => Slot::Second,
+        (_, 2) => Slot::Third,
+        _ => Slot::Fourth,
     }
 }
 

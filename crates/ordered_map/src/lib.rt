@@ -11,7 +11,7 @@ mod request;
 mod rule;
 mod wide;
 
-pub use held::slot_behind;
+pub use held::{end_slot, slot_behind};
 pub use laws::{laws_hold, map_laws_hold};
 pub use pair::Pair;
 pub use reader::spelled;

@@ -5,6 +5,7 @@ ghost use Rattle.ordered_map.specs.Replies.{number_reply};
 
 use crate::reply::Reply;
 use crate::rule::{Goal, Rule};
+use arena::Side;
 
 /// A call of a dictionary, as one that is held open begins.
 #[derive(Clone, Copy, Debug, PartialEq, Eq)]
@@ -34,7 +35,7 @@ impl Request<u64, u128> {
         match *self {
             Request::Insert { key, value } => Some((Goal::Key(key), Rule::Put(value))),
             Request::Delete { key } => Some((Goal::Key(key), Rule::Take)),
-            Request::PopFirst => Some((Goal::Least, Rule::Take)),
+            Request::PopFirst => Some((Goal::End(Side::Left), Rule::Take)),
             Request::ReplaceIf {
                 key,
                 expected,

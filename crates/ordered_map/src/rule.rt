@@ -3,14 +3,16 @@ ghost use Rattle.std.specs.Prelude.{◌≡◌};
 ghost use Rattle.ordered_map.specs.OrderedMap.{applies, goal_key, leaves};
 
 use crate::reply::Reply;
+use arena::Side;
 
 /// Where an edit goes.
 #[derive(Clone, Copy, Debug, PartialEq, Eq)]
 pub enum Goal {
     /// To this key, whether it has a value or not.
     Key(u64),
-    /// To the pair with the least key, if there is one.
-    Least,
+    /// To the pair at this end, if there is one: on the left that with the least key, on the right
+    /// that with the greatest.
+    End(Side),
 }
 
 impl Goal {
@@ -19,13 +21,13 @@ impl Goal {
     ghost use Rattle.ordered_map.specs.OrderedMap.{spot};
     ghost use Rattle.ordered_map.specs.Replies.{number_reply};
 
-    /// The key to which it goes, where this is the least of the map, if there is one.
-    pub fn key(self, least: Option<u64>) -> Option<u64>
-        ensures { result ≡ goal_key self least }
+    /// The key to which it goes, where this is the one at its end of the map, if there is one.
+    pub fn key(self, at_end: Option<u64>) -> Option<u64>
+        ensures { result ≡ goal_key self at_end }
     {
         match self {
             Goal::Key(key) => Some(key),
-            Goal::Least => least,
+            Goal::End(_) => at_end,
         }
     }
 
@@ -34,7 +36,7 @@ impl Goal {
         ensures { IsTrue result → IsFormOfEdit self (form_of reply.now) }
     {
         match (self, reply) {
-            (Goal::Key(_), Reply::Value(_)) | (Goal::Least, Reply::Pair(_)) => true,
+            (Goal::Key(_), Reply::Value(_)) | (Goal::End(_), Reply::Pair(_)) => true,
             (_, Reply::Contended { .. } | Reply::Full(_)) => true,
             _ => false,
         }
@@ -48,7 +50,7 @@ impl Goal {
             (Goal::Key(key), Reply::Value(found)) => Some((key, *found)),
             // That there is no pair tells the same of a key as that it has no value.
             (Goal::Key(key), Reply::Pair(None)) => Some((key, None)),
-            (Goal::Least, Reply::Pair(Some(pair))) => Some((pair.0, Some(pair.1))),
+            (Goal::End(_), Reply::Pair(Some(pair))) => Some((pair.0, Some(pair.1))),
             _ => None,
         }
     }
@@ -63,6 +65,10 @@ pub enum Rule {
     Take,
     /// Puts the value in the place of the expected one.
     Swap { expected: u128, value: u128 },
+    /// Puts this one in where there is none.
+    PutNew(u128),
+    /// Takes this one out.
+    TakeIf(u128),
 }
 
 impl Rule {
@@ -76,7 +82,8 @@ impl Rule {
         match self {
             Rule::Put(_) => true,
             Rule::Take => found.is_some(),
-            Rule::Swap { expected, value: _ } => found == Some(*expected),
+            Rule::PutNew(_) => found.is_none(),
+            Rule::Swap { expected, value: _ } | Rule::TakeIf(expected) => found == Some(*expected),
         }
     }
 
@@ -85,8 +92,10 @@ impl Rule {
         ensures { result ≡ leaves self.now }
     {
         match self {
-            Rule::Put(value) | Rule::Swap { expected: _, value } => Some(*value),
-            Rule::Take => None,
+            Rule::Put(value) | Rule::Swap { expected: _, value } | Rule::PutNew(value) => {
+                Some(*value)
+            }
+            Rule::Take | Rule::TakeIf(_) => None,
         }
     }
 
@@ -96,7 +105,7 @@ impl Rule {
     {
         match self {
             Rule::Put(_) | Rule::Take => true,
-            Rule::Swap { .. } => false,
+            Rule::Swap { .. } | Rule::PutNew(_) | Rule::TakeIf(_) => false,
         }
     }
 
@@ -105,8 +114,8 @@ impl Rule {
         ensures { IfSome result (λ value. applies self.now (Some value) ≡ true) }
     {
         match self {
-            Rule::Put(_) | Rule::Take => None,
-            Rule::Swap { expected, value: _ } => Some(*expected),
+            Rule::Put(_) | Rule::Take | Rule::PutNew(_) => None,
+            Rule::Swap { expected, value: _ } | Rule::TakeIf(expected) => Some(*expected),
         }
     }
 

@@ -6,21 +6,24 @@ use Rattle.std.proofs.Math.Nat.{mul-le-mul, mul-le-mul_left}
 use Rattle.std.specs.Option.{option_map}
 use Rattle.arena.specs.declared.fault.Full.{Full as FullOf}
 use Rattle.arena.specs.declared.layout.Layout.{Layout}
+use Rattle.arena.specs.declared.word.Side.{Side}
+use Rattle.arena.specs.declared.word.Side.TheVariants.{Left}
 use Rattle.arena.specs.History.{History, value, Extends}
 use Rattle.arena.specs.Machines.{Call as MachineCall}
 use Rattle.arena.specs.Share.{Remaining}
 use Rattle.arena.proofs.Lemmas.{ends_trans}
 use Rattle.histories.proofs.Lemmas.{entry_of}
 use Rattle.ordered_map.specs.CallRules.{IsFormOfEdit, MayReply, form_of, most_steps, need, steps_behind}
-use Rattle.ordered_map.specs.OrderedMap.{MapCall, MapEdit, MapReply, OneValue, OnePair, ManyPairs, Edit, Insert, Delete, Get, Successor, Range, applies, changes_map, edit_key, edit_of, edit_to, get, leaves, pair_or_none, reply}
+use Rattle.ordered_map.specs.OrderedMap.{MapCall, MapEdit, MapReply, OneValue, OnePair, ManyPairs, Edit, Insert, Delete, Get, Successor, Range, applies, changes_map, edit_key, edit_of, edit_to, end_pair, get, leaves, pair_or_none, reply}
 use Rattle.ordered_map.specs.declared.rule.Goal.{Goal}
-use Rattle.ordered_map.specs.declared.rule.Goal.TheVariants.{Key, Least}
+use Rattle.ordered_map.specs.declared.rule.Goal.TheVariants.{Key, End}
 use Rattle.ordered_map.specs.declared.rule.Rule.{Rule}
 use Rattle.ordered_map.specs.declared.rule.Rule.TheVariants.{Put, Take, Swap}
 use Rattle.ordered_map.specs.Paths.{IsAnswerAt}
 use Rattle.ordered_map.specs.Replies.{number_reply, word_pair}
 use Rattle.ordered_map.specs.Requests.{AsksForFew, key_told, map_request, tells_change}
 use Rattle.ordered_map.specs.Runs.{Makes}
+use Rattle.ordered_map.proofs.Lemmas.{end_had}
 use Rattle.ordered_map.specs.Spelled.{Spells}
 use Rattle.ordered_map.specs.declared.pair.Pair.{Pair}
 use Rattle.ordered_map.specs.declared.reply.Reply.{Reply}
@@ -40,7 +43,7 @@ use Rattle.record.specs.declared.record.Answer.TheVariants.{Map as MapAnswer}
 use Rattle.record.specs.Answers.{HasLostAllTries}
 use Rattle.record.specs.CommandRules.{IsRight}
 use Rattle.record.specs.MapRecord.{number_pairs, reply_told}
-use Rattle.record.specs.Rules.Map.{IsMapEntry}
+use Rattle.record.specs.Rules.Map.{IsMapEntry, map_rules}
 use Rattle.record.specs.Replied.{HasReplied}
 use Rattle.record.specs.Rules.Edit.{EditIsRight, EditTells, HadToChange, HasChangedOrReplied}
 use Rattle.record.specs.Shares.{HasTooFew, HasTooFewToTry, WasBlocked}
@@ -69,8 +72,13 @@ by_rule false key left edit made = cc
 
 pub edit_of_key : (call : MapCall) (edit : MapEdit) (m : List Pair) → edit_of call (reply call m) ≡ Some edit → IsOfKey call m (edit_key edit)
 edit_of_key (Edit (Key k) rule) edit m made = inl (ap (λ (n : ℕ). Some n) (by_rule (applies rule (get k m)) k (leaves rule) edit made))
-edit_of_key (Edit Least rule) edit [] made = cc
-edit_of_key (Edit Least rule) edit (p ∷ ps) made = inr (p.value, subst (λ (n : ℕ). get n (p ∷ ps) ≡ Some p.value) (by_rule (applies rule (Some p.value)) p.key (leaves rule) edit made) (rw (eq-eqb p.key p.key refl) refl))
+edit_of_key (Edit (End side) rule) edit m made = go (end_pair side m) refl made
+  where
+    go : (o : Option Pair) → end_pair side m ≡ o → edit_of (Edit (End side) rule) (pair_or_none o) ≡ Some edit → IsOfKey (Edit (End side) rule) m (edit_key edit)
+    go None is made = cc
+    go (Some p) is made =
+        let had = end_had side m p is in
+        inr (had.0, subst (λ (n : ℕ). get n m ≡ Some had.0) (by_rule (applies rule (Some p.value)) p.key (leaves rule) edit made) had.1)
 edit_of_key (Get key) edit m made = cc
 edit_of_key (Successor key) edit m made = cc
 edit_of_key (Range low high most) edit m made = cc
@@ -210,15 +218,15 @@ key_place request key rule lay now start given (OneValue value) is right = value
 key_place request key rule lay now start given (OnePair p) is right = absurd (let other = right.replies in cc)
 key_place request key rule lay now start given (ManyPairs ps) is right = absurd (let other = right.replies in cc)
 
--- one of the least pair
-least_place : (request : Request ℕ ℕ) (rule : Rule) (given : Reply ℕ ℕ) (told : MapReply) → number_reply given ≡ Some told → IsOrderedRead (Map request) → HasPlace request (Edit Least rule) (MapAnswer given)
-least_place request rule given (OnePair p) is ordered = go (applies rule (Some p.value)) (is_made (applies rule (Some p.value)) (edit_to p.key (leaves rule)))
+-- one of the pair at an end
+end_place : (side : Side) (request : Request ℕ ℕ) (rule : Rule) (given : Reply ℕ ℕ) (told : MapReply) → number_reply given ≡ Some told → IsOrderedRead (Map request) → HasPlace request (Edit (End side) rule) (MapAnswer given)
+end_place side request rule given (OnePair p) is ordered = go (applies rule (Some p.value)) (is_made (applies rule (Some p.value)) (edit_to p.key (leaves rule)))
   where
-    go : (b : Bool) → changes_map (Edit Least rule) (OnePair p) ≡ b → HasPlace request (Edit Least rule) (MapAnswer given)
-    go true changes = at_entry request (Edit Least rule) given (OnePair p) is changes
-    go false changes = ordered_place request (Edit Least rule) given (OnePair p) is changes refl ordered
-least_place request rule given (OneValue value) is ordered = ordered_place request (Edit Least rule) given (OneValue value) is refl refl ordered
-least_place request rule given (ManyPairs ps) is ordered = ordered_place request (Edit Least rule) given (ManyPairs ps) is refl refl ordered
+    go : (b : Bool) → changes_map (Edit (End side) rule) (OnePair p) ≡ b → HasPlace request (Edit (End side) rule) (MapAnswer given)
+    go true changes = at_entry request (Edit (End side) rule) given (OnePair p) is changes
+    go false changes = ordered_place request (Edit (End side) rule) given (OnePair p) is changes refl ordered
+end_place side request rule given (OneValue value) is ordered = ordered_place request (Edit (End side) rule) given (OneValue value) is refl refl ordered
+end_place side request rule given (ManyPairs ps) is ordered = ordered_place request (Edit (End side) rule) given (ManyPairs ps) is refl refl ordered
 
 -- what is right of an edit that tells this
 told_right : (of : MapCall) (lay : Layout) (tries c : ℕ) (now start : History) (linked : ℕ → Option History) (given : Reply ℕ ℕ) (told : MapReply) → number_reply given ≡ Some told → EditIsRight of lay tries c now start linked (MapAnswer given) → EditTells of lay now start (Some told)
@@ -238,17 +246,17 @@ module _ (lay : Layout) (tries c : ℕ) (now start : History) (linked : ℕ → 
       go None is = no_place request (Edit (Key key) rule) given is
       go (Some told) is = key_place request key rule lay now start given told is (told_right (Edit (Key key) rule) lay tries c now start linked given told is right)
 
-  least_took_place : (request : Request ℕ ℕ) (rule : Rule) (given : Reply ℕ ℕ) → IsOrderedRead (Map request) → HasPlace request (Edit Least rule) (MapAnswer given)
-  least_took_place request rule given ordered = go (number_reply given) refl
+  end_took_place : (side : Side) (request : Request ℕ ℕ) (rule : Rule) (given : Reply ℕ ℕ) → IsOrderedRead (Map request) → HasPlace request (Edit (End side) rule) (MapAnswer given)
+  end_took_place side request rule given ordered = go (number_reply given) refl
     where
-      go : (told : Option MapReply) → number_reply given ≡ told → HasPlace request (Edit Least rule) (MapAnswer given)
-      go None is = no_place request (Edit Least rule) given is
-      go (Some told) is = least_place request rule given told is ordered
+      go : (told : Option MapReply) → number_reply given ≡ told → HasPlace request (Edit (End side) rule) (MapAnswer given)
+      go None is = no_place request (Edit (End side) rule) given is
+      go (Some told) is = end_place side request rule given told is ordered
 
   pub took_place : (request : Request ℕ ℕ) (answer : Answer) → IsRight lay tries c now start linked (Map request) answer → HasTakenPlace request answer
   took_place (InsertOf key put) (MapAnswer given) right = key_took_place (InsertOf key put) key (Put put) given right
   took_place (DeleteOf key) (MapAnswer given) right = key_took_place (DeleteOf key) key Take given right
-  took_place PopFirstOf (MapAnswer given) right = least_took_place PopFirstOf Take given tt
+  took_place PopFirstOf (MapAnswer given) right = end_took_place Left PopFirstOf Take given tt
   took_place (ReplaceIfOf key expected put) (MapAnswer given) right = key_took_place (ReplaceIfOf key expected put) key (Swap expected put) given right
   took_place (GetOf key) (MapAnswer (Value told)) right = value_place (GetOf key) (Get key) key (Value told) told (value_told told) refl (λ m. refl) false refl
   took_place (SuccessorOf key) (MapAnswer (PairOf found)) right = ordered_place (SuccessorOf key) (Successor key) (PairOf found) (pair_or_none (option_map (word_pair (λ n. n) (λ n. n)) found)) refl refl refl tt
@@ -318,7 +326,7 @@ module _ (v : ClientView) (c : Client) (is_pass : c.pass.0 < v.layout.passes) wh
 
     no_lack : (goal : Goal) → IsFormOfEdit goal (form_of {K = ℕ} {V = ℕ} NoMemory) → ⊥
     no_lack (Key k) x = x
-    no_lack Least x = x
+    no_lack (End side) x = x
 
     edit_right : (a : Reply ℕ ℕ) (share : Remaining) → RestsWith call v.past share → MayReply of (form_of a) → TellsOfMap call v.past of (number_reply a) → DictRefuses call v.past of share v.tries a → EditIsRight of v.layout v.tries c.pass.0 v.past v.start v.linked (MapAnswer a)
     edit_right (Value told) share rests form tells why = tells_right (OneValue (option_map (λ n. n) told)) tells
@@ -332,20 +340,14 @@ module _ (v : ClientView) (c : Client) (is_pass : c.pass.0 < v.layout.passes) wh
         (need of short.needed.map, had_to of short.only_looked.begin short.only_looked.since short.needed, too_few of share full rests why)
     edit_right NoMemory share rests form tells why = absurd (no_lack goal form)
 
-  -- that an answer is right
-  abbrev Right : Request ℕ ℕ → Reply ℕ ℕ → Type 0
-  Right r a = IsRight v.layout v.tries c.pass.0 v.past v.start v.linked (Map r) (MapAnswer a)
-
-  pub answer_right : (r : Request ℕ ℕ) (a : Reply ℕ ℕ) (share : Remaining) → RestsWith call v.past share → MayReply (map_request r) (form_of a) → TellsOfMap call v.past (map_request r) (number_reply a) → DictRefuses call v.past (map_request r) share v.tries a → Right r a
-  answer_right (InsertOf key put) a share rests form tells why = edit_right (Key key) (Put put) a share rests form tells why
-  answer_right (DeleteOf key) a share rests form tells why = edit_right (Key key) Take a share rests form tells why
-  answer_right PopFirstOf a share rests form tells why = edit_right Least Take a share rests form tells why
-  answer_right (ReplaceIfOf key expected put) a share rests form tells why = edit_right (Key key) (Swap expected put) a share rests form tells why
-  answer_right (GetOf key) (Value old) share rests form tells why = answer_at key old (subst (TellsOfMap call v.past (Get key)) (value_told old) tells)
-  answer_right (SuccessorOf key) (PairOf found) share rests form tells why = tt
-  answer_right (SuccessorOf key) (Contended node scx) share rests form tells why = lost (Successor key) node.0 scx.0 why
-  answer_right (SuccessorOf key) NoMemory share rests form tells why = tt
-  answer_right (RangeOf low high most) (Pairs found) share rests form tells why = tt
-  answer_right (RangeOf low high most) (Contended node scx) share rests form tells why = lost (Range low high most) node.0 scx.0 why
-  answer_right (RangeOf low high most) NoMemory share rests form tells why = tt
-  answer_right r a share rests form tells why = absurd form
+  -- an answer is right, to each call
+  pub answer_right : (to : MapCall) (a : Reply ℕ ℕ) (share : Remaining) → RestsWith call v.past share → MayReply to (form_of a) → TellsOfMap call v.past to (number_reply a) → DictRefuses call v.past to share v.tries a → (map_rules to).IsRight v.layout v.tries c.pass.0 v.past v.start v.linked (MapAnswer a)
+  answer_right (Edit goal rule) a share rests form tells why = edit_right goal rule a share rests form tells why
+  answer_right (Get key) (Value old) share rests form tells why = answer_at key old (subst (TellsOfMap call v.past (Get key)) (value_told old) tells)
+  answer_right (Successor key) (PairOf found) share rests form tells why = tt
+  answer_right (Successor key) (Contended node scx) share rests form tells why = lost (Successor key) node.0 scx.0 why
+  answer_right (Successor key) NoMemory share rests form tells why = tt
+  answer_right (Range low high most) (Pairs found) share rests form tells why = tt
+  answer_right (Range low high most) (Contended node scx) share rests form tells why = lost (Range low high most) node.0 scx.0 why
+  answer_right (Range low high most) NoMemory share rests form tells why = tt
+  answer_right to a share rests form tells why = absurd form

@@ -6,6 +6,7 @@ use Rattle.arena.specs.declared.step.Row.{Row}
 use Rattle.arena.specs.declared.step.Step.{Step}
 use Rattle.arena.specs.declared.step.Kind.TheVariants.{Fill as FillKind, LoadSettled}
 use Rattle.arena.specs.declared.word.ScxWord.{ScxWord}
+use Rattle.arena.specs.declared.word.Word.{Word}
 use Rattle.arena.specs.declared.word.ScxWord.TheVariants.{Call as CallWord}
 use Rattle.arena.specs.Words.{scx as scx_word, word_after}
 use Rattle.arena.specs.History.{History, ◌⊳◌, value, Extends}
@@ -31,31 +32,30 @@ use Rattle.prims.proofs.Lemmas.{llx_fills_not, vlx_fills_not, own_in_hand}
 use Rattle.dict.specs.Calls.{inner_call, inner_share}
 use Rattle.dict.specs.Known.{IsNumbered, WaitsInside}
 use Rattle.dict.specs.Goals.{leaf_told}
-use Rattle.dict.specs.Inner.{InnerRun, Update, Get, Read, inner}
-use Rattle.dict.specs.Laws.Kinds.{IsOfKind}
+use Rattle.dict.specs.Inner.{InnerRun, Update, Get, Read, edit_means, inner}
+use Rattle.dict.specs.Laws.Kinds.{edit_at_found, edit_changes}
 use Rattle.order.specs.Laws.Run.{read_fills_not}
 use Rattle.ordered_map.specs.declared.pair.Pair.{Pair}
-use Rattle.ordered_map.specs.OrderedMap.{MapEdit, OneValue, edit_key, edit_of, get, pair_or_none, reply, goal_told}
+use Rattle.ordered_map.specs.OrderedMap.{Edit, MapEdit, OneValue, edit_key, edit_of, get, pair_or_none, reply, goal_told}
 use Rattle.ordered_map.specs.Runs.{IsEditAt, IsTreeRun, Makes}
 use Rattle.ordered_map.specs.Spelled.{Spells}
 use Rattle.ordered_map.specs.TreeShape.{TreeAllows}
 use Rattle.ordered_map.specs.TreeWords.{said}
 use Rattle.ordered_map.proofs.Lemmas.{SameSettled, run_since, settled_said, walk_named, win_makes}
 use Rattle.template.proofs.Lemmas.{walk_fills_not}
-use Rattle.template.specs.FoundLeaf.{asked_key, path_key, HasFoundGoal}
+use Rattle.template.specs.FoundLeaf.{asked_in, asked_key, path_key, HasFoundGoal}
 use Rattle.ordered_map.specs.declared.rule.Goal.{Goal}
-use Rattle.ordered_map.specs.declared.rule.Goal.TheVariants.{Key as ToKey, Least}
+use Rattle.ordered_map.specs.declared.rule.Goal.TheVariants.{Key as ToKey, End}
 use Rattle.template.specs.Tracked.{Tracks}
 use Rattle.template.specs.declared.walk.Found.{Found}
-use Rattle.tree.proofs.Lemmas.{get_fills_not}
 use Rattle.edits.specs.Edits.{EditMeaning}
-use Rattle.edits.specs.Known.{CoversLeaf, Scxs, ToldFirst, Tries, UpdateWaitsAt}
+use Rattle.edits.specs.Known.{CoversLeaf, Scxs, ToldEnd, Tries, UpdateWaitsAt}
 use Rattle.edits.specs.Laws.Entered.{only_joined}
 use Rattle.edits.specs.Laws.Kept.{idle_rests}
 use Rattle.edits.specs.Sound.{IsAtFound}
 use Rattle.edits.specs.Tries.{CoversSnaps, HasEnteredOnly}
 use Rattle.edits.specs.declared.edit.Need.TheVariants.{Nothing}
-use Rattle.edits.proofs.Lemmas.{told_first}
+use Rattle.edits.proofs.Lemmas.{told_end}
 use Rattle.edits.specs.declared.update.UpdateAt.{UpdateAt}
 use Rattle.edits.specs.declared.update.UpdateAt.TheVariants.{Start, Walk, Look, Read as ReadWord, Fill, Scx}
 use Rattle.edits.specs.declared.update.UpdateRun.{UpdateRun}
@@ -102,15 +102,15 @@ pub record IsEditHand (m : InnerRun) (call : MachineCall) (h : History) (t : ℕ
   pub gives : (row : Row) → IsTreeRun call.layout (row ⊳ h) → IsWin h row t → (map : List Pair) → Spells call.layout (value h) map → edit_of (inner_call m) (reply (inner_call m) map) ≡ Some edit
 
 -- what is asked of the key that a walk tells is what it was to ask
-asked_still : (goal : Goal) (first key : ℕ) → asked_key goal first ≡ key → asked_key goal key ≡ asked_key goal first
-asked_still (ToKey k) first key e = refl
-asked_still Least first key e = sym e
+asked_still : (goal : Goal) (f : Word → ℕ) (n key : ℕ) → asked_in goal f n ≡ key → asked_key goal key ≡ asked_in goal f n
+asked_still (ToKey k) f n key e = refl
+asked_still (End side) f n key e = sym e
 
 module _ {E : Type 0} (means : EditMeaning E) (m : UpdateRun E UpdateAt) where
   -- where a row makes the update win, the leaf that was found tells what the map has just before
   record TellsAtWin (f : Found) (lay : Layout) (h : History) (t : ℕ) : Type 0 where
     value_is : (row : Row) → IsTreeRun lay (row ⊳ h) → IsWin h row t → (map : List Pair) → Spells lay (value h) map → get (edit_key (means.edit m.edit f)) map ≡ f.value
-    first_is : (row : Row) → IsTreeRun lay (row ⊳ h) → IsWin h row t → ToldFirst (means.goal m.edit) lay h f
+    end_is : (row : Row) → IsTreeRun lay (row ⊳ h) → IsWin h row t → ToldEnd (means.goal m.edit) lay h f
 
   -- what its SCX-record says, which it makes for this leaf
   record IsHandAt (at : UpdateAt) (call : MachineCall) (h : History) (t : ℕ) : Type 0 where
@@ -127,7 +127,7 @@ module _ {E : Type 0} (means : EditMeaning E) (m : UpdateRun E UpdateAt) where
       edits.replies map spells
       ∙ ap (λ (n : ℕ). said (value h) key n) (covers_leaf h then since covers_snaps)
       ∙ settled_said (value begin) (value h) key f.trail.node.0 settled
-      ∙ ap (λ (k : ℕ). said (value begin) k f.trail.node.0) (at_found m.edit f ∙ asked_still (means.goal m.edit) _ f.key found.key)
+      ∙ ap (λ (k : ℕ). said (value begin) k f.trail.node.0) (at_found m.edit f ∙ asked_still (means.goal m.edit) (value begin) f.trail.node.0 f.key found.key)
       ∙ sym found.says
     where
       key : ℕ
@@ -153,7 +153,7 @@ module _ {E : Type 0} (means : EditMeaning E) (m : UpdateRun E UpdateAt) where
     tells_at : (b begin : History) (f : Found) (scx : ScxMachine) → Scxs means m (begun_at call b) h f scx begin → HasFilled (begun_at (begun_at call b) begin) h scx.scx.0 scx.call scx.update → Makes call.layout h scx.scx.0 (means.edit m.edit f) → TellsAtWin f call.layout h scx.scx.0
     tells_at b begin f scx x filled makes = record {
       value_is = λ row now won map spells. leaf_value at_found (begun_at call b) f begin h row scx.scx.0 scx.update.snaps now filled.way.begun.since won makes x.found x.leaf covers map spells;
-      first_is = λ row now won. told_first means m.edit (begun_at call b) f begin h row scx.scx.0 scx.update.snaps now filled.way.begun.since won makes x.found x.leaf covers;
+      end_is = λ row now won. told_end means m.edit (begun_at call b) f begin h row scx.scx.0 scx.update.snaps now filled.way.begun.since won makes x.found x.leaf covers;
     }
       where
         covers : CoversSnaps h scx.scx.0 scx.update.snaps
@@ -193,27 +193,27 @@ module _ {E : Type 0} (means : EditMeaning E) (m : UpdateRun E UpdateAt) where
   update_says_at call h s t v (Scx f scx) w kind word = scx_says TreeAllows (job_of scx) (begun_at call w.0) h scx.at s t v w.2 kind word ∙ w.1.call
 
 -- the map tells a call what the leaf does that it has found, where the leaf's value is that of the
--- key in the map, and of a walk to the first pair where that is the map's
-goal_is : (goal : Goal) (f : Found) (lay : Layout) (h : History) (key : ℕ) (map : List Pair) → key ≡ asked_key goal f.key → get key map ≡ f.value → ToldFirst goal lay h f → Spells lay (value h) map → goal_told goal map ≡ leaf_told goal f
-goal_is (ToKey k) f lay h key map same value_is first_is spells = ap OneValue (subst (λ (n : ℕ). get n map ≡ f.value) same value_is)
-goal_is Least f lay h key map same value_is first_is spells = ap pair_or_none (first_is map spells)
+-- key in the map, and of a walk to an end where the pair there is the map's
+goal_is : (goal : Goal) (f : Found) (lay : Layout) (h : History) (key : ℕ) (map : List Pair) → key ≡ asked_key goal f.key → get key map ≡ f.value → ToldEnd goal lay h f → Spells lay (value h) map → goal_told goal map ≡ leaf_told goal f
+goal_is (ToKey k) f lay h key map same value_is end_is spells = ap OneValue (subst (λ (n : ℕ). get n map ≡ f.value) same value_is)
+goal_is (End side) f lay h key map same value_is end_is spells = ap pair_or_none (end_is map spells)
 
 -- a pass that rests has none in progress
 module _ (call : MachineCall) (h : History) (t : ℕ) (l : Lawful call.layout h) (own : IsOwnScx call.layout call.pass t) (p : IsInProgress h t) (s : Step) where
-  pub map_hand : (m : InnerRun) → IsOfKind m → IsNumbered m call.number → WaitsInside m call h s → IsEditHand m call h t
-  map_hand (Update k m) kind number w =
-      let x = hand_at k.means m kind.at_found call h t l own p w.0 s m.at w.1 w.3 in
+  pub map_hand : (m : InnerRun) → IsNumbered m call.number → WaitsInside m call h s → IsEditHand m call h t
+  map_hand (Update m) number w =
+      let x = hand_at edit_means m edit_at_found call h t l own p w.0 s m.at w.1 w.3 in
       record {
-        edit = k.means.edit m.edit x.found;
+        edit = edit_means.edit m.edit x.found;
         is = x.is;
-        hand = subst (λ (n : ℕ). IsHandOf n (k.means.edit m.edit x.found) call h t) number x.hand;
-        gives = λ row now won map spells. ap (edit_of (k.call m.edit)) (kind.walks m.edit map ∙ goal_is (k.means.goal m.edit) x.found call.layout h (edit_key (k.means.edit m.edit x.found)) map (kind.at_found m.edit x.found) (x.tells.value_is row now won map spells) (x.tells.first_is row now won) spells) ∙ kind.changes m.edit x.found x.needed;
+        hand = subst (λ (n : ℕ). IsHandOf n (edit_means.edit m.edit x.found) call h t) number x.hand;
+        gives = λ row now won map spells. ap (edit_of (Edit m.edit.goal m.edit.rule)) (goal_is m.edit.goal x.found call.layout h (edit_key (edit_means.edit m.edit x.found)) map (edit_at_found m.edit x.found) (x.tells.value_is row now won map spells) (x.tells.first_is row now won) spells) ∙ edit_changes m.edit x.found x.needed;
       }
-  map_hand m kind number w = absurd (idle_rests call h (inner_share m) l w.1.now t own p)
+  map_hand m number w = absurd (idle_rests call h (inner_share m) l w.1.now t own p)
 
 map_says : (m : InnerRun) (call : MachineCall) (h : History) (s : Step) (t v : ℕ) → IsNumbered m call.number → WaitsInside m call h s → s.kind ≡ FillKind → s.word ≡ scx_word t CallWord → word_after s.access v ≡ call.number
-map_says (Update k m) call h s t v number w kind word = update_says_at k.means m (begun_at call w.0) h s t v m.at w.3 kind word ∙ number
-map_says (Get m share) call h s t v number w kind word = absurd (get_fills_not m call h s w.0 kind)
+map_says (Update m) call h s t v number w kind word = update_says_at edit_means m (begun_at call w.0) h s t v m.at w.3 kind word ∙ number
+map_says (Get key walk share) call h s t v number w kind word = absurd (walk_fills_not walk call h s w.0.0 kind)
 map_says (Read k m share) call h s t v number w kind word = absurd (read_fills_not k.means m call h s w.0 kind)
 
 put_says_at : (m : PutRun) (call : MachineCall) (h : History) (s : Step) (t v : ℕ) (at : PutAt) → PutWaitsAt AllowsAll call h m at s → s.kind ≡ FillKind → s.word ≡ scx_word t CallWord → word_after s.access v ≡ m.scx.call

@@ -45,7 +45,6 @@ use Rattle.player.specs.ClientView.{ClientView, IsSound, IsMachineOf, IsMapOf, I
 use Rattle.arena.specs.declared.limits.Mode.TheVariants.{Records, Tree}
 use Rattle.dict.specs.Calls.{call_in}
 use Rattle.dict.specs.Inner.{inner}
-use Rattle.dict.specs.Laws.Kinds.{is_of_kind}
 use Rattle.dict.specs.declared.dict.DictRun.{DictRun}
 use Rattle.ordered_map.specs.Requests.{map_request}
 use Rattle.ordered_map.specs.declared.request.Request.{Request}
@@ -267,7 +266,7 @@ map_waits v c q m s sound w e own p =
     let begun : w.works.start ≡ v.start = subst (λ (k : Run). IsStart k w.works.start v.start) e w.works.begun in
     let call = machine_call v c w.works.is_pass v.start in
     let waits : RunWaits (Map m) call v.past q.step = subst (λ (k : Run). RunWaits k call v.past q.step) e (subst (λ (k : History). RunWaits q.run (machine_call v c w.works.is_pass k) v.past q.step) begun w.waits) in
-    map_hand call v.past s sound.lawful own p q.step (inner m.run) (is_of_kind m.run) waits.1.0.number waits.1.1
+    map_hand call v.past s sound.lawful own p q.step (inner m.run) waits.1.0.number waits.1.1
 
 -- A row makes an update win of this client, which waits for a step: its call is one of the map, and
 -- has an edit in hand; its reply on the map just before says that it makes that.

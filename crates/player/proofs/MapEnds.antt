@@ -106,7 +106,7 @@ module _ (v : ClientView) (c : Client) (is_pass : c.pass.0 < v.layout.passes) (w
 
   pub map_ends : (r : Request ℕ ℕ) (a : Reply ℕ ℕ) (share : Remaining) → AsksForPairs (map_request r) → RestsWith call v.past share → MayReply (map_request r) (form_of a) → TellsOfMap call v.past (map_request r) (number_reply a) → DictRefuses call v.past (map_request r) share v.tries a → IsRightEnd v c.pass.0 (MapOf r) (MapAnswer a)
   map_ends r a share asks rests form tells why =
-      let right = answer_right v c is_pass r a share rests form tells why in
+      let right = answer_right v c is_pass (map_request r) a share rests form tells why in
       record {
         answers = form;
         right = right;

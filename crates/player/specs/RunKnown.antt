@@ -9,7 +9,7 @@ use Rattle.arena.specs.Machines.{Call}
 use Rattle.arena.specs.Share.{Remaining}
 use Rattle.dict.specs.Calls.{call_in, share_of}
 use Rattle.dict.specs.DictKnown.{DictIsReady, DictWaits, DictAnswers}
-use Rattle.dict.specs.Inner.{InnerRun, Update, inner}
+use Rattle.dict.specs.Inner.{InnerRun, Update, edit_means, inner}
 use Rattle.dict.specs.Known.{AsksFirst}
 use Rattle.edits.specs.Edits.{EditMeaning}
 use Rattle.edits.specs.declared.update.UpdateAt.{UpdateAt}
@@ -107,7 +107,7 @@ edit_at means e _ = None
 
 -- what runs inside of a call of the map makes this one
 abbrev pub edit_inside : InnerRun → Option MapEdit
-edit_inside (Update k m) = edit_at k.means m.edit m.at
+edit_inside (Update m) = edit_at edit_means m.edit m.at
 edit_inside _ = None
 
 -- the edit of the map that the machine has in hand, if it has one

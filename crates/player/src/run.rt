@@ -4,10 +4,7 @@ ghost use Rattle.arena.specs.History.{History};
 ghost use Rattle.arena.specs.Machines.{Call, IsRun, MatchTurn};
 ghost use Rattle.arena.specs.TakenNodes.{taken_nodes};
 ghost use Rattle.player.specs.Allowed.{PlayedAllows};
-ghost use Rattle.ordered_map.specs.OrderedMap.{edit_key, value_left};
-ghost use Rattle.std.specs.Option.{option_map};
-ghost use Rattle.tree.specs.KeyEdit.Means.{key_means};
-ghost use Rattle.player.specs.RunKnown.{RunIsReady, RunAsksFirst, RunWaits, RunAnswers, IsSameMachine, edit_at, run_mode};
+ghost use Rattle.player.specs.RunKnown.{RunIsReady, RunAsksFirst, RunWaits, RunAnswers, IsSameMachine, run_mode};
 ghost use Rattle.player.specs.RunSteps.{run_left};
 
 use arena::{Machine, Share, Turn};
@@ -16,7 +13,6 @@ use edits::UpdateAt;
 use ordered_map::Reply;
 use prims::{Cells, Llx, LlxRun, PutRun, Scx, Snaps, Vlx, VlxRun};
 use record::Answer;
-use tree::{EditGoal, EditRule, KeyEditRun};
 
 /// A call that has begun. A `set` is first an LLX and then an SCX.
 #[derive(Debug, Drop)]
@@ -108,10 +104,10 @@ impl Run {
             return None;
         };
         match &run.run {
-            MapRun::Insert(run) => change_in_hand(run),
-            MapRun::Delete(run) => change_in_hand(run),
-            MapRun::PopFirst(run) => change_in_hand(run),
-            MapRun::ReplaceIf(run) => change_in_hand(run),
+            MapRun::Edit(run) => match &run.at {
+                UpdateAt::Scx { found, scx: _ } => Some(run.edit.change(found)),
+                _ => None,
+            },
             _ => None,
         }
     }
@@ -124,15 +120,5 @@ impl Run {
             Run::Map(run) => Some(run.into_share()),
             Run::Llx(_) | Run::Scx(_) | Run::Vlx(_) => None,
         }
-    }
-}
-
-/// The key that an edit changes if its SCX wins, and what it leaves there.
-fn change_in_hand<G: EditGoal, R: EditRule>(run: &KeyEditRun<G, R>) -> Option<(u64, Option<u128>)>
-    ensures { result ≡ option_map (λ e. (edit_key e, value_left e)) (edit_at (key_means G.goal R.rule) run.now.edit run.now.at) }
-{
-    match &run.at {
-        UpdateAt::Scx { found, scx: _ } => Some(run.edit.change(found)),
-        _ => None,
     }
 }

@@ -9,9 +9,9 @@ pub use Rattle.arena.specs.declared.word.Word.{Word}
 pub use Rattle.prims.specs.declared.snap.Snap.{Snap}
 pub use Rattle.ordered_map.specs.declared.pair.Pair.{Pair}
 pub use Rattle.ordered_map.specs.declared.rule.Goal.{Goal}
-pub use Rattle.ordered_map.specs.declared.rule.Goal.TheVariants.{Key, Least}
+pub use Rattle.ordered_map.specs.declared.rule.Goal.TheVariants.{Key, End}
 pub use Rattle.ordered_map.specs.declared.rule.Rule.{Rule}
-pub use Rattle.ordered_map.specs.declared.rule.Rule.TheVariants.{Put, Swap, Take}
+pub use Rattle.ordered_map.specs.declared.rule.Rule.TheVariants.{Put, PutNew, Swap, Take, TakeIf}
 pub use Rattle.forest.specs.declared.fault.NewFault.{NewFault}
 pub use Rattle.forest.specs.declared.fault.OrderFault.{OrderFault}
 pub use Rattle.forest.specs.declared.fault.UpdateFault.{UpdateFault}

@@ -2,7 +2,7 @@ mod WalkTurns
 mod WalkBounds
 mod WalkEdges
 mod Stood
-mod FirstFound
+mod EndFound
 mod Promised
 mod Inserting
 mod Deleting

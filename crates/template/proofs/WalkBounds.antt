@@ -1,5 +1,5 @@
 -- What else is known of walks: they ask for loads alone; how they begin, and what they have found.
-use Rattle.std.proofs.Common.{◌≡◌, ◌≢◌, ℕ, ◌+◌, ◌*◌, ◌^◌, ◌<◌, ◌≤◌, length, arith, true, false, ◌⊎◌, inl, inr, ne_eqb, Option, Some, None, refl, sym, ◌∙◌, ap, subst}
+use Rattle.std.proofs.Common.{◌≡◌, ◌≢◌, ℕ, ◌+◌, ◌*◌, ◌%◌, ◌^◌, ◌<◌, ◌≤◌, length, arith, true, false, cond, eqb, ◌⊎◌, inl, inr, ne_eqb, Option, Some, None, refl, sym, ◌∙◌, ap, subst}
 use native.Mathlib.Decide.{ℕ_discrete}
 use Rattle.std.proofs.lemmas.Nat.{mul-le}
 use Rattle.arena.specs.declared.step.Row.{Row}
@@ -9,7 +9,7 @@ use Rattle.arena.specs.declared.step.Kind.{Kind}
 use Rattle.arena.specs.declared.step.Kind.TheVariants.{Fill, LoadSettled, LoadChild}
 use Rattle.arena.specs.declared.word.Side.{Side}
 use Rattle.arena.specs.declared.word.NodeWord.TheVariants.{Settled}
-use Rattle.arena.specs.declared.word.SettledPart.TheVariants.{Head as HeadWord, More as MoreWord}
+use Rattle.arena.specs.declared.word.SettledPart.TheVariants.{Head as HeadWord, More as MoreWord, Key as KeyWord}
 use Rattle.arena.specs.declared.word.Word.{Word}
 use Rattle.arena.specs.Heads.{head_of}
 use Rattle.arena.specs.Words.{node, info, child, first_key}
@@ -20,7 +20,7 @@ use Rattle.arena.specs.Machines.{IsRun, Call}
 use Rattle.arena.specs.TakenNodes.{taken_nodes}
 use Rattle.arena.proofs.Lemmas.{ends_trans, taken_few, taken_more}
 use Rattle.histories.proofs.Lemmas.{node_stays}
-use Rattle.ordered_map.specs.Holding.{held_pairs, IsWellCounted}
+use Rattle.ordered_map.specs.Holding.{end_slot, held_pairs, IsWellCounted}
 use Rattle.ordered_map.specs.OrderedMap.{AllBelow, IsRising}
 use Rattle.ordered_map.specs.Paths.{IsAnswerAt}
 use Rattle.ordered_map.specs.Runs.{IsTreeRun}
@@ -29,10 +29,11 @@ use Rattle.ordered_map.specs.TreeWords.{class, is_leaf, said}
 use Rattle.ordered_map.proofs.Lemmas.{walk_answers, walk_holds, walk_named, run_since, root_head, passed_blank, blame_field, SameSettled, settled_said, settled_leaf}
 use Rattle.template.specs.declared.walk.Found.{Found}
 use Rattle.ordered_map.specs.declared.rule.Goal.{Goal}
+use Rattle.ordered_map.specs.declared.rule.Goal.TheVariants.{Key as ToKey, End}
 use Rattle.template.specs.declared.walk.WalkRun.{WalkRun}
 use Rattle.template.specs.declared.walk.WalkAt.{WalkAt}
 use Rattle.template.specs.declared.walk.WalkAt.TheVariants.{Start, Root, Head, Key, Child, More, Pair, Value, High}
-use Rattle.template.specs.FoundLeaf.{path_key, asked_key, HasFoundGoal, HasFoundLeaf}
+use Rattle.template.specs.FoundLeaf.{path_key, asked_in, HasFoundGoal, HasFoundLeaf}
 use Rattle.template.specs.Trails.{HasTurned}
 use Rattle.template.specs.Walk.Laws.{trail_more}
 use Rattle.template.specs.Walk.Known.{walk_kind, WalkWaits, WalkIsReady}
@@ -119,6 +120,14 @@ module _ (goal : Goal) (c : Call) (h : History) (f : Found) (run : IsTreeRun c.l
       let most : c.layout.passes * c.layout.nodes ≤ 32 * 32768 = mul-le c.layout.passes c.layout.nodes 32 32768 c.layout.passes_fit c.layout.nodes_fit in
       omega (arith, deep, few, most)
 
+-- what a leaf tells of stays with its settled words
+pub settled_asked : (goal : Goal) (b f : Word → ℕ) (n : ℕ) → SameSettled b f n → asked_in goal f n ≡ asked_in goal b n
+settled_asked (ToKey k) b f n e = refl
+settled_asked (End side) b f n e = λ i. cond (eqb (e (Settled HeadWord) tt i % 4) 0) (key i) 0
+  where
+    key : f (node n (Settled (KeyWord (end_slot side (f (node n (Settled MoreWord))))))) ≡ b (node n (Settled (KeyWord (end_slot side (b (node n (Settled MoreWord)))))))
+    key = e (Settled (KeyWord (end_slot side (f (node n (Settled MoreWord)))))) tt ∙ ap (λ more. b (node n (Settled (KeyWord (end_slot side more))))) (e (Settled MoreWord) tt)
+
 -- what a call has found it has found, whatever row comes
 pub found_more : (c : Call) (h : History) (r : Row) (goal : Goal) (f : Found) → IsTreeRun c.layout h → IsRun TreeAllows c.layout (r ⊳ h) → HasFoundGoal goal c h f → HasFoundGoal goal c (r ⊳ h) f
 found_more c h r goal f run run_now a = record {
@@ -128,12 +137,15 @@ found_more c h r goal f run run_now a = record {
   deep = let deep : f.head.level < 2 + length (taken_nodes h) = a.deep in let more : length (taken_nodes h) ≤ length (taken_nodes (r ⊳ h)) = taken_more h r in omega (arith, deep, more);
   more = λ low. same (Settled MoreWord) tt ∙ a.more low;
   none = a.none;
-  key = ap (asked_key goal) (same first_key tt) ∙ a.key;
-  says = a.says ∙ sym (ap (λ k. said (value (r ⊳ h)) (asked_key goal k) f.trail.node.0) (same first_key tt) ∙ settled_said (value h) (value (r ⊳ h)) (asked_key goal (value h (node f.trail.node.0 first_key))) f.trail.node.0 same);
+  key = asked ∙ a.key;
+  says = a.says ∙ sym (ap (λ k. said (value (r ⊳ h)) k f.trail.node.0) asked ∙ settled_said (value h) (value (r ⊳ h)) (asked_in goal (value h) f.trail.node.0) f.trail.node.0 same);
 }
   where
     same : SameSettled (value h) (value (r ⊳ h)) f.trail.node.0
     same part i = node_stays c.layout h r f.trail.node.0 part run_now.lawful i (walk_named c.layout h a.trail.node.first (path_key goal) f.trail.node.0 run a.trail.node.passed)
+
+    asked : asked_in goal (value (r ⊳ h)) f.trail.node.0 ≡ asked_in goal (value h) f.trail.node.0
+    asked = settled_asked goal (value h) (value (r ⊳ h)) f.trail.node.0 same
 
 -- A field by which the call went down, and that holds another node now: the SCX-record that its
 -- node's info names was in the way of the call.

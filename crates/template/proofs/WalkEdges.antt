@@ -17,14 +17,14 @@ use Rattle.prims.specs.Llx.Known.{load}
 use Rattle.ordered_map.specs.Holding.{slot_behind, wide_value}
 use Rattle.ordered_map.specs.Runs.{IsTreeRun}
 use Rattle.template.specs.FoundLeaf.{HasFoundGoal, asked_key, path_key}
-use Rattle.template.specs.Walk.Known.{asks_key, here, WalkIsTold, WalkWaits, WalkStands}
+use Rattle.template.specs.Walk.Known.{asks_key, open_side, goal_slot, here, WalkIsTold, WalkWaits, WalkStands}
 use Rattle.template.specs.Walk.Places.{walk_at, walk_from, trail_below, LoadsHead}
 use Rattle.ordered_map.specs.declared.rule.Goal.{Goal}
 use Rattle.template.specs.declared.walk.Trail.{Trail}
 use Rattle.template.specs.declared.walk.WalkAt.{WalkAt}
 use Rattle.template.specs.declared.walk.WalkAt.TheVariants.{Start, Root, Head, Key, Child, More, Pair, Value, High}
 use Rattle.template.specs.declared.walk.WalkRun.{WalkRun}
-use Rattle.template.proofs.WalkTurns.{waits_at, ends_above, level_is, fork_is, stands_by, turn_key, turn_more, turn_value, turn_high, asks_value, asks_next, ends_without, turn_down, stands_at_root, asked_low, unasked_left}
+use Rattle.template.proofs.WalkTurns.{waits_at, ends_above, level_is, fork_is, stands_by, turn_key, turn_more, turn_value, turn_high, asks_value, asks_next, ends_without, turn_down, stands_at_root, asked_low, unasked_turn}
 
 -- it begins at the root
 pub walk_begins : (goal : Goal) (d : Call) (h : History) → IsTreeRun d.layout h → path_key goal < 2 ^ 64 → Extends h d.start → WalkWaits (walk_from goal) d h (load LoadSettled (node 0 (Settled HeadWord)))
@@ -62,19 +62,19 @@ module _ (goal : Goal) (t : Trail) (d : Call) (h : History) where
     pub head_to_key : head.leaf ≡ false → asks_key goal head ≡ true → WalkWaits (walk_at goal t (Key head)) d h (load LoadSettled (node t.node.0 first_key))
     head_to_key fork asks = waits_at d h (walk_at goal t p) (walk_at goal t (Key head)) (Ask _) (Key head) _ stood record { stands = refl; asked = refl } (stood.trail, head_is, asked_low goal head asks, fork) refl
 
-    -- it goes left at another fork
-    pub head_to_child : head.leaf ≡ false → asks_key goal head ≡ false → WalkWaits (walk_at goal t (Child head.level Left)) d h (load LoadChild (node t.node.0 (ChildWord Left)))
+    -- another fork it leaves at once
+    pub head_to_child : head.leaf ≡ false → asks_key goal head ≡ false → WalkWaits (walk_at goal t (Child head.level (open_side goal head))) d h (load LoadChild (node t.node.0 (ChildWord (open_side goal head))))
     head_to_child fork asks = let m = walk_at goal t p in
-        waits_at d h m (walk_at goal t (Child head.level Left)) (Ask _) (Child head.level Left) _ stood record { stands = refl; asked = refl }
-        (stood.trail, level_is d h m stood head head_is, fork_is d h m stood head head_is fork, unasked_left d h m head stood head_is asks fork) refl
+        waits_at d h m (walk_at goal t (Child head.level (open_side goal head))) (Ask _) (Child head.level (open_side goal head)) _ stood record { stands = refl; asked = refl }
+        (stood.trail, level_is d h m stood head head_is, fork_is d h m stood head head_is fork, unasked_turn d h m head stood head_is asks fork) refl
 
   -- behind the key of a fork it goes on by that
   pub key_to_child : (head : HeadParts) (low : ℕ) (side : Side) → WalkIsTold (walk_at goal t (Key head)) d h low → side ≡ cond (ltb (path_key goal) low) Left Right → WalkWaits (walk_at goal t (Child head.level side)) d h (load LoadChild (node t.node.0 (ChildWord side)))
   key_to_child head low side w is = turn_key d h (walk_at goal t (Key head)) (walk_at goal t (Child head.level side)) (Ask _) head side low refl w is record { stands = refl; asked = refl }
 
-  -- of a leaf it loads the first key
-  pub more_to_pair : (head : HeadParts) (more : ℕ) → WalkIsTold (walk_at goal t (More head)) d h more → WalkWaits (walk_at goal t (Pair head more First)) d h (load LoadSettled (node t.node.0 first_key))
-  more_to_pair head more w = turn_more d h (walk_at goal t (More head)) (walk_at goal t (Pair head more First)) (Ask _) head more refl w record { stands = refl; asked = refl }
+  -- of a leaf it loads the key in the slot with which it begins
+  pub more_to_pair : (head : HeadParts) (more : ℕ) → WalkIsTold (walk_at goal t (More head)) d h more → WalkWaits (walk_at goal t (Pair head more (goal_slot goal more))) d h (load LoadSettled (node t.node.0 (Settled (KeyWord (goal_slot goal more)))))
+  more_to_pair head more w = turn_more d h (walk_at goal t (More head)) (walk_at goal t (Pair head more (goal_slot goal more))) (Ask _) head more refl w record { stands = refl; asked = refl }
 
   module _ (head : HeadParts) (more : ℕ) (slot : Slot) (key : ℕ) (w : WalkIsTold (walk_at goal t (Pair head more slot)) d h key) where
     abbrev at_slot : WalkRun

@@ -18,22 +18,23 @@ use Rattle.arena.specs.History.{History, value, Extends}
 use Rattle.arena.specs.Machines.{Call, MatchTurn}
 use Rattle.arena.specs.TakenNodes.{taken_nodes}
 use Rattle.arena.proofs.Lemmas.{ends_self}
-use Rattle.ordered_map.proofs.Lemmas.{walk_first, walk_holds, walk_next, walk_left, walk_rises, below_root, passed_blank, passed_depth, low_pairs, from_rises, get_here, get_behind, get_nowhere}
-use Rattle.ordered_map.specs.Holding.{held_pairs, held_from, held_behind, slot_behind, wide_value}
-use Rattle.ordered_map.specs.OrderedMap.{get}
-use Rattle.ordered_map.specs.Paths.{Passed}
+use Rattle.ordered_map.proofs.Lemmas.{walk_first, walk_holds, walk_next, walk_turns, walk_rises, below_root, passed_depth, end_is, held_end, low_pairs, from_rises, get_here, get_behind, get_nowhere}
+use Rattle.ordered_map.specs.Holding.{IsWellCounted, held_pairs, held_from, held_behind, slot_behind, end_slot, pair_in, wide_value}
+use Rattle.ordered_map.specs.OrderedMap.{AllBelow, IsRising, get}
+use Rattle.ordered_map.specs.MapLaws.{IsEndmost}
+use Rattle.ordered_map.specs.Paths.{Passed, end_turn}
 use Rattle.ordered_map.specs.Runs.{IsTreeRun}
 use Rattle.ordered_map.specs.TreeWords.{class, is_leaf, level, rank, toward, said}
 use Rattle.template.specs.Trails.{OnTrail, IsOwnMoment}
 use Rattle.template.specs.declared.walk.Trail.{Trail}
 use Rattle.template.specs.declared.walk.Found.{Found}
 use Rattle.ordered_map.specs.declared.rule.Goal.{Goal}
-use Rattle.ordered_map.specs.declared.rule.Goal.TheVariants.{Key as ToKey, Least}
+use Rattle.ordered_map.specs.declared.rule.Goal.TheVariants.{Key as ToKey, End}
 use Rattle.template.specs.declared.walk.WalkRun.{WalkRun}
 use Rattle.template.specs.declared.walk.WalkAt.{WalkAt}
 use Rattle.template.specs.declared.walk.WalkAt.TheVariants.{Start, Root, Head, Key, Child, More, Pair, Value, High}
-use Rattle.template.specs.FoundLeaf.{path_key, asked_key}
-use Rattle.template.specs.Walk.Known.{asks_key, here, WalkStandsAtLeaf, IsSlotFor, WalkKnows, walk_step, WalkIsReady, WalkIsTold, WalkTurn, WalkAsks, WalkEnds, WalkStands}
+use Rattle.template.specs.FoundLeaf.{path_key, asked_key, asked_in}
+use Rattle.template.specs.Walk.Known.{asks_key, open_side, goal_slot, here, WalkStandsAtLeaf, IsSlotFor, WalkKnows, walk_step, WalkIsReady, WalkIsTold, WalkTurn, WalkAsks, WalkEnds, WalkStands}
 
 pub own_since : (c : Call) (h : History) → IsOwnMoment c h → Extends h c.start
 own_since c h b = subst (λ k. Extends k c.start) (sym b.is) (inr b.since)
@@ -44,7 +45,7 @@ waits_at c h old now turn at step k a known e = rw (a.asked, a.stands) record { 
 
 -- it has ended
 answers_at : (c : Call) (h : History) (old now : WalkRun) (turn : Turn Found) (head : HeadParts) (more key : ℕ) (found : Option ℕ) → WalkStands old c h → WalkEnds old now turn head more key found → is_leaf (value h) old.trail.node.0 ≡ true → head_of (here h old (Settled HeadWord)) ≡ head
-    → (head.class ≡ 0 → here h old (Settled MoreWord) ≡ more) → (head.class ≢ 0 → more ≡ 0) → asked_key old.goal (here h old first_key) ≡ key → found ≡ said (value h) (asked_key old.goal (here h old first_key)) old.trail.node.0 → WalkTurn c h now turn
+    → (head.class ≡ 0 → here h old (Settled MoreWord) ≡ more) → (head.class ≢ 0 → more ≡ 0) → asked_in old.goal (value h) old.trail.node.0 ≡ key → found ≡ said (value h) (asked_in old.goal (value h) old.trail.node.0) old.trail.node.0 → WalkTurn c h now turn
 answers_at c h old now turn head more key found k a leaf e many none d says =
     let deep : head.level < 2 + length (taken_nodes h) = subst (λ w. w.level < 2 + length (taken_nodes h)) e (passed_depth c.layout h k.trail.node.first (path_key old.goal) old.trail.node.0 k.run k.trail.node.passed) in
     rw (a.done, a.stands) record { trail = k.trail; leaf = leaf; head = e; deep = deep; more = many; none = none; key = d; says = says }
@@ -76,9 +77,10 @@ module _ (c : Call) (h : History) (m : WalkRun) (k : WalkStands m c h) (head : H
   pub says_nothing_above : (asked : ℕ) → head.class ≢ 0 → None ≡ said (value h) asked n
   says_nothing_above asked q = rw (ne_eqb (class (value h) n) 0 (λ x. q (sym class_is ∙ x))) refl
 
-  -- a leaf above all keys has the key 0
-  pub blank_above : head.class ≢ 0 → here h m first_key ≡ 0
-  blank_above q = passed_blank c.layout h k.trail.node.first (path_key m.goal) n k.run k.trail.node.passed (λ z. q (sym class_is ∙ z))
+  -- the key of a leaf above all keys counts for 0
+  pub asked_above : (goal : Goal) → head.class ≢ 0 → asked_in goal (value h) n ≡ asked_key goal 0
+  asked_above (ToKey key) q = refl
+  asked_above (End side) q = rw (ne_eqb (class (value h) n) 0 (λ z. q (sym class_is ∙ z))) refl
 
   -- where it goes at a fork of class 0 depends on its key
   pub goes_by_key : head.class ≡ 0 → (key : ℕ) → here h m first_key ≡ key → toward (value h) n (path_key m.goal) ≡ cond (ltb (path_key m.goal) key) Left Right
@@ -89,38 +91,46 @@ module _ (c : Call) (h : History) (m : WalkRun) (k : WalkStands m c h) (head : H
 
 -- it has ended at a leaf above all keys
 pub ends_above : (c : Call) (h : History) (old now : WalkRun) (turn : Turn Found) (parts : HeadParts) → WalkStands old c h → WalkEnds old now turn parts 0 (asked_key old.goal 0) None → head_of (here h old (Settled HeadWord)) ≡ parts → parts.class ≢ 0 → parts.leaf ≡ true → WalkTurn c h now turn
-ends_above c h old now turn parts k a e above leaf = answers_at c h old now turn parts 0 (asked_key old.goal 0) None k a (leaf_is c h old k parts e leaf) e (λ q. absurd (above q)) (λ d. refl) (ap (asked_key old.goal) (blank_above c h old k parts e above)) (says_nothing_above c h old k parts e (asked_key old.goal (here h old first_key)) above)
+ends_above c h old now turn parts k a e above leaf = answers_at c h old now turn parts 0 (asked_key old.goal 0) None k a (leaf_is c h old k parts e leaf) e (λ q. absurd (above q)) (λ d. refl) (asked_above c h old k parts e old.goal above) (says_nothing_above c h old k parts e (asked_in old.goal (value h) old.trail.node.0) above)
 
 -- In a leaf of class 0
 
--- it begins with the first slot
-pub first_slot : (goal : Goal) (f : Word → ℕ) (n : ℕ) → IsSlotFor goal f n First
-first_slot (ToKey k) f n = refl
-first_slot Least f n = refl
+-- it begins with the first slot, or with that at its end
+pub first_slot : (goal : Goal) (f : Word → ℕ) (n more : ℕ) → f (node n (Settled MoreWord)) ≡ more → IsSlotFor goal f n (goal_slot goal more)
+first_slot (ToKey k) f n more e = refl
+first_slot (End side) f n more e = ap (end_slot side) (sym e)
+
+-- the key at an end of a leaf of class 0
+end_asked : (side : Side) (f : Word → ℕ) (n : ℕ) → class f n ≡ 0 → asked_in (End side) f n ≡ f (node n (Settled (KeyWord (end_slot side (f (node n (Settled MoreWord)))))))
+end_asked side f n low = rw (eq-eqb (class f n) 0 low) refl
 
 -- what it tells of is in a slot or behind it
-slot_says : (goal : Goal) (f : Word → ℕ) (n : ℕ) (slot : Slot) → IsSlotFor goal f n slot → get (asked_key goal (f (node n first_key))) (held_pairs f n) ≡ get (asked_key goal (f (node n first_key))) (held_from f n slot)
-slot_says (ToKey k) f n slot at = at
-slot_says Least f n slot at = ap (λ s. get (f (node n first_key)) (held_from f n s)) (sym at)
+slot_says : (goal : Goal) (f : Word → ℕ) (n : ℕ) (slot : Slot) → class f n ≡ 0 → IsRising (held_pairs f n) → IsSlotFor goal f n slot → get (asked_in goal f n) (held_pairs f n) ≡ get (asked_in goal f n) (held_from f n slot)
+slot_says (ToKey k) f n slot low rises at = at
+slot_says (End side) f n slot low rises at =
+    let last : Slot = end_slot side (f (node n (Settled MoreWord))) in
+    let key : ℕ = f (node n (Settled (KeyWord last))) in
+    let whole : get key (held_pairs f n) ≡ Some (pair_in f n last).value = (subst (IsEndmost side (held_pairs f n)) (held_end side f n) (end_is side (held_pairs f n) rises)).0 in
+    ap (λ k. get k (held_pairs f n)) (end_asked side f n low) ∙ whole ∙ sym (get_here f n last key refl) ∙ (λ i. get (sym (end_asked side f n low) i) (held_from f n (sym at i)))
 
 -- the key asked for, in a slot that has it
-slot_asked : (goal : Goal) (f : Word → ℕ) (n : ℕ) (slot : Slot) (key : ℕ) → IsSlotFor goal f n slot → f (node n (Settled (KeyWord slot))) ≡ key → asked_key goal key ≡ key → asked_key goal (f (node n first_key)) ≡ key
-slot_asked (ToKey k) f n slot key at d same = same
-slot_asked Least f n slot key at d same = ap (λ s. f (node n (Settled (KeyWord s)))) (sym at) ∙ d
+slot_asked : (goal : Goal) (f : Word → ℕ) (n : ℕ) (slot : Slot) (key : ℕ) → class f n ≡ 0 → IsSlotFor goal f n slot → f (node n (Settled (KeyWord slot))) ≡ key → asked_key goal key ≡ key → asked_in goal f n ≡ key
+slot_asked (ToKey k) f n slot key low at d same = same
+slot_asked (End side) f n slot key low at d same = end_asked side f n low ∙ ap (λ s. f (node n (Settled (KeyWord s)))) (sym at) ∙ d
 
 -- and where the slot has another
-other_asked : (goal : Goal) (first key : ℕ) → asked_key goal key ≢ key → asked_key goal first ≡ asked_key goal key
-other_asked (ToKey k) first key d = refl
-other_asked Least first key d = absurd (d refl)
+other_asked : (goal : Goal) (f : Word → ℕ) (n key : ℕ) → asked_key goal key ≢ key → asked_in goal f n ≡ asked_key goal key
+other_asked (ToKey k) f n key d = refl
+other_asked (End side) f n key d = absurd (d refl)
 
 -- it is then behind the slot
 slot_next : (goal : Goal) (f : Word → ℕ) (n : ℕ) (slot next : Slot) (key : ℕ) → IsSlotFor goal f n slot → f (node n (Settled (KeyWord slot))) ≡ key → asked_key goal key ≢ key → slot_behind (f (node n (Settled MoreWord))) slot ≡ Some next → IsSlotFor goal f n next
 slot_next (ToKey k) f n slot next key at e d behind = at ∙ get_behind f n slot k (λ z. d (z ∙ e)) ∙ ap (λ o. get k (held_behind f n o)) behind
-slot_next Least f n slot next key at e d behind = absurd (d refl)
+slot_next (End side) f n slot next key at e d behind = absurd (d refl)
 
 module _ (c : Call) (h : History) (m : WalkRun) (k : WalkStands m c h) (parts : HeadParts) (x : WalkStandsAtLeaf c h m.goal m.trail parts) (slot : Slot) (at : IsSlotFor m.goal (value h) m.trail.node.0 slot) (key : ℕ) (d : here h m (Settled (KeyWord slot)) ≡ key) where
   abbrev asked : ℕ
-  asked = asked_key m.goal (here h m first_key)
+  asked = asked_in m.goal (value h) m.trail.node.0
 
   abbrev leaf_no : ℕ
   leaf_no = m.trail.node.0
@@ -128,15 +138,18 @@ module _ (c : Call) (h : History) (m : WalkRun) (k : WalkStands m c h) (parts : 
   class_zero : class (value h) leaf_no ≡ 0
   class_zero = ap (λ w. w.class) x.head ∙ x.low
 
+  holds : IsWellCounted (value h) leaf_no × AllBelow (2 ^ 64) (held_pairs (value h) leaf_no) × IsRising (held_pairs (value h) leaf_no)
+  holds = walk_holds c.layout h k.trail.node.first (path_key m.goal) leaf_no k.run k.trail.node.passed (leaf_is c h m k parts x.head x.leaf) class_zero
+
   says_slot : said (value h) asked leaf_no ≡ get asked (held_from (value h) leaf_no slot)
-  says_slot = ap (get asked) (low_pairs (value h) leaf_no class_zero) ∙ slot_says m.goal (value h) leaf_no slot at
+  says_slot = ap (get asked) (low_pairs (value h) leaf_no class_zero) ∙ slot_says m.goal (value h) leaf_no slot class_zero holds.2 at
 
   -- the value that is in the slot
   says_value : asked_key m.goal key ≡ key → Some (wide_value (here h m (Settled (ValueWord slot))) (here h m (Settled (HighWord slot)))) ≡ said (value h) asked leaf_no
-  says_value same = sym (says_slot ∙ get_here (value h) leaf_no slot asked (slot_asked m.goal (value h) leaf_no slot key at d same ∙ sym d))
+  says_value same = sym (says_slot ∙ get_here (value h) leaf_no slot asked (slot_asked m.goal (value h) leaf_no slot key class_zero at d same ∙ sym d))
 
   unlike : asked_key m.goal key ≢ key → asked ≢ here h m (Settled (KeyWord slot))
-  unlike other e = other (sym (other_asked m.goal (here h m first_key) key other) ∙ e ∙ d)
+  unlike other e = other (sym (other_asked m.goal (value h) leaf_no key other) ∙ e ∙ d)
 
   -- there is none behind the last slot
   says_none_last : asked_key m.goal key ≢ key → slot_behind (here h m (Settled MoreWord)) slot ≡ None → None ≡ said (value h) asked leaf_no
@@ -145,13 +158,12 @@ module _ (c : Call) (h : History) (m : WalkRun) (k : WalkStands m c h) (parts : 
   -- nor where a greater key comes first
   says_none_low : asked_key m.goal key < key → None ≡ said (value h) asked leaf_no
   says_none_low low =
-      let holds = walk_holds c.layout h k.trail.node.first (path_key m.goal) leaf_no k.run k.trail.node.passed (leaf_is c h m k parts x.head x.leaf) class_zero in
-      let same : asked ≡ asked_key m.goal key = other_asked m.goal (here h m first_key) key (λ e. omega (arith, e, low)) in
+      let same : asked ≡ asked_key m.goal key = other_asked m.goal (value h) leaf_no key (λ e. omega (arith, e, low)) in
       let less : asked < here h m (Settled (KeyWord slot)) = omega (arith, same, d, low) in
       sym (says_slot ∙ get_nowhere (value h) leaf_no slot asked (from_rises (value h) leaf_no slot holds.2) less)
 
 -- it has ended at a leaf of class 0
-ends_low : (c : Call) (h : History) (old now : WalkRun) (turn : Turn Found) (parts : HeadParts) (more key : ℕ) (found : Option ℕ) → WalkStands old c h → WalkEnds old now turn parts more key found → WalkStandsAtLeaf c h old.goal old.trail parts → here h old (Settled MoreWord) ≡ more → asked_key old.goal (here h old first_key) ≡ key → found ≡ said (value h) (asked_key old.goal (here h old first_key)) old.trail.node.0 → WalkTurn c h now turn
+ends_low : (c : Call) (h : History) (old now : WalkRun) (turn : Turn Found) (parts : HeadParts) (more key : ℕ) (found : Option ℕ) → WalkStands old c h → WalkEnds old now turn parts more key found → WalkStandsAtLeaf c h old.goal old.trail parts → here h old (Settled MoreWord) ≡ more → asked_in old.goal (value h) old.trail.node.0 ≡ key → found ≡ said (value h) (asked_in old.goal (value h) old.trail.node.0) old.trail.node.0 → WalkTurn c h now turn
 ends_low c h old now turn parts more key found k a x many d says = answers_at c h old now turn parts more key found k a (leaf_is c h old k parts x.head x.leaf) x.head (λ q. many) (λ above. absurd (above x.low)) d says
 
 module _ (c : Call) (h : History) (old now : WalkRun) (turn : Turn Found) (parts : HeadParts) (more : ℕ) (slot : Slot) (key : ℕ) (k : WalkStands old c h) (x : WalkStandsAtLeaf c h old.goal old.trail parts) (many : here h old (Settled MoreWord) ≡ more) (at : IsSlotFor old.goal (value h) old.trail.node.0 slot) (d : here h old (Settled (KeyWord slot)) ≡ key) where
@@ -166,14 +178,14 @@ module _ (c : Call) (h : History) (old now : WalkRun) (turn : Turn Found) (parts
 
   -- it ends where there is none, or where that is not below its own
   pub ends_without : asked_key old.goal key ≢ key → (slot_behind more slot ≡ None) ⊎ (asked_key old.goal key < key) → WalkEnds old now turn parts more (asked_key old.goal key) None → WalkTurn c h now turn
-  ends_without other (inl last) a = ends_low c h old now turn parts more (asked_key old.goal key) None k a x many (other_asked old.goal (here h old first_key) key other)
+  ends_without other (inl last) a = ends_low c h old now turn parts more (asked_key old.goal key) None k a x many (other_asked old.goal (value h) old.trail.node.0 key other)
       (says_none_last c h old k parts x slot at key d other (ap (λ v. slot_behind v slot) many ∙ last))
-  ends_without other (inr low) a = ends_low c h old now turn parts more (asked_key old.goal key) None k a x many (other_asked old.goal (here h old first_key) key other)
+  ends_without other (inr low) a = ends_low c h old now turn parts more (asked_key old.goal key) None k a x many (other_asked old.goal (value h) old.trail.node.0 key other)
       (says_none_low c h old k parts x slot at key d low)
 
   -- and at its key with the value of that
   pub ends_with : asked_key old.goal key ≡ key → (low high : ℕ) → here h old (Settled (ValueWord slot)) ≡ low → here h old (Settled (HighWord slot)) ≡ high → WalkEnds old now turn parts more key (Some (wide_value low high)) → WalkTurn c h now turn
-  ends_with same low high l u a = ends_low c h old now turn parts more key (Some (wide_value low high)) k a x many (slot_asked old.goal (value h) old.trail.node.0 slot key at d same)
+  ends_with same low high l u a = ends_low c h old now turn parts more key (Some (wide_value low high)) k a x many (slot_asked old.goal (value h) old.trail.node.0 slot key (class_zero c h old k parts x slot at key d) at d same)
       ((λ i. Some (wide_value (sym l i) (sym u i))) ∙ says_value c h old k parts x slot at key d same)
 
 -- Which keys it loads
@@ -181,15 +193,15 @@ module _ (c : Call) (h : History) (old now : WalkRun) (turn : Turn Found) (parts
 -- the key of a fork of class 0 alone
 pub asked_low : (goal : Goal) (head : HeadParts) → asks_key goal head ≡ true → head.class ≡ 0
 asked_low (ToKey k) head e = eqb-true head.class 0 e
-asked_low Least head e = absurd (let x : false ≡ true = e in cc)
+asked_low (End side) head e = absurd (let x : false ≡ true = e in cc)
 
--- a fork of which it loads no key it leaves on the left
-pub unasked_left : (c : Call) (h : History) (m : WalkRun) (head : HeadParts) → WalkStands m c h → head_of (here h m (Settled HeadWord)) ≡ head → asks_key m.goal head ≡ false → head.leaf ≡ false → toward (value h) m.trail.node.0 (path_key m.goal) ≡ Left
-unasked_left c h m head k e asks fork = go m.goal refl
+-- where it leaves a fork of which it loads no key
+pub unasked_turn : (c : Call) (h : History) (m : WalkRun) (head : HeadParts) → WalkStands m c h → head_of (here h m (Settled HeadWord)) ≡ head → asks_key m.goal head ≡ false → head.leaf ≡ false → toward (value h) m.trail.node.0 (path_key m.goal) ≡ open_side m.goal head
+unasked_turn c h m head k e asks fork = go m.goal refl
   where
-    go : (goal : Goal) → m.goal ≡ goal → toward (value h) m.trail.node.0 (path_key m.goal) ≡ Left
-    go (ToKey key) is = left_above c h m k head e (λ z. let x : true ≡ false = sym (eq-eqb head.class 0 z) ∙ (rw is at asks) in cc)
-    go Least is = rw is (walk_left c.layout h k.trail.node.first m.trail.node.0 k.run (rw is at k.trail.node.passed) (fork_is c h m k head e fork))
+    go : (goal : Goal) → m.goal ≡ goal → toward (value h) m.trail.node.0 (path_key m.goal) ≡ open_side m.goal head
+    go (ToKey key) is = left_above c h m k head e (λ z. let x : true ≡ false = sym (eq-eqb head.class 0 z) ∙ (rw is at asks) in cc) ∙ sym (ap (λ g. open_side g head) is)
+    go (End side) is = rw is (walk_turns side c.layout h k.trail.node.first m.trail.node.0 k.run (rw is at k.trail.node.passed) (fork_is c h m k head e fork) ∙ ap (end_turn side) (class_is c h m k head e))
 
 -- the root was passed
 pub stands_at_root : (c : Call) (h : History) (m : WalkRun) → IsTreeRun c.layout h → path_key m.goal < 2 ^ 64 → IsOwnMoment c h → m.trail.node.0 ≡ 0 → WalkStands m c h
@@ -260,11 +272,12 @@ turn_key c h old now turn head side found is t by a =
     let k = stands_by old c h found t x.0 in
     waits_at c h old now turn (Child head.level side) (walk_step old (Child head.level side)) k a (x.0, level_is c h old k head x.1, fork_is c h old k head x.1 x.3, goes_by_key c h old k head x.1 x.2 found (rw is at t.told) ∙ sym by) refl
 
--- once it knows how many pairs a leaf has, it waits for the first key
-pub turn_more : (c : Call) (h : History) (old now : WalkRun) (turn : Turn Found) (head : HeadParts) (found : ℕ) → old.at ≡ More head → WalkIsTold old c h found → WalkAsks old now turn (Pair head found First) (walk_step old (Pair head found First)) → WalkTurn c h now turn
+-- once it knows how many pairs a leaf has, it waits for the key with which it begins
+pub turn_more : (c : Call) (h : History) (old now : WalkRun) (turn : Turn Found) (head : HeadParts) (found : ℕ) → old.at ≡ More head → WalkIsTold old c h found → WalkAsks old now turn (Pair head found (goal_slot old.goal found)) (walk_step old (Pair head found (goal_slot old.goal found))) → WalkTurn c h now turn
 turn_more c h old now turn head found is t a =
     let x : WalkStandsAtLeaf c h old.goal old.trail head = subst (WalkKnows c h old) is t.known in
-    waits_at c h old now turn (Pair head found First) (walk_step old (Pair head found First)) (stands_by old c h found t x.trail) a (x, rw is at t.told, first_slot old.goal (value h) old.trail.node.0) refl
+    let many : here h old (Settled MoreWord) ≡ found = rw is at t.told in
+    waits_at c h old now turn (Pair head found (goal_slot old.goal found)) (walk_step old (Pair head found (goal_slot old.goal found))) (stands_by old c h found t x.trail) a (x, many, first_slot old.goal (value h) old.trail.node.0 found many) refl
 
 -- behind the value of a key it waits for the high half of that
 pub turn_value : (c : Call) (h : History) (old now : WalkRun) (turn : Turn Found) (head : HeadParts) (more : ℕ) (slot : Slot) (key found : ℕ) → old.at ≡ Value head more slot key → WalkIsTold old c h found → WalkAsks old now turn (High head more slot key found) (walk_step old (High head more slot key found)) → WalkTurn c h now turn

@@ -5,7 +5,7 @@ use crate::shape::Tree;
 use arena::{
     Access, Head, Kind, Machine, NodeNo, NodeWord, SettledPart, Side, Slot, Step, Turn, Word,
 };
-use ordered_map::{Goal, slot_behind, wide_value};
+use ordered_map::{Goal, end_slot, slot_behind, wide_value};
 
 /// The last nodes of a walk: the node that it has come to, and the two forks above it with the sides
 /// to which it has gone there. A walk that stands at the root has no fork above it, and one that
@@ -68,8 +68,7 @@ pub enum WalkAt {
 
 /// The leaf at which a walk has ended: its head, and how many pairs it has behind its first, 0 if it is
 /// above all keys; the key of which the walk tells what the leaf says, and the value of that, if it has
-/// one. It is the walk's own key, or, of a walk to the least, the first of the leaf, and 0 above all
-/// keys.
+/// one. It is the walk's own key, or, of a walk to an end, the leaf's key there, and 0 above all keys.
 #[derive(Clone, Copy, Debug, PartialEq, Eq)]
 pub struct Found {
     pub trail: Trail,
@@ -79,12 +78,12 @@ pub struct Found {
     pub value: Option<u128>,
 }
 
-/// A walk from the root to the leaf where a key stands, or would stand, or to the first leaf. On its
+/// A walk from the root to the leaf where a key stands, or would stand, or to that at an end. On its
 /// way to a key it loads of each fork the head, the key if that is of class 0, and a field; on its way
-/// to the first leaf the head and the left field. Of the leaf it loads the head, and, if that is of
-/// class 0, how many pairs it has behind its first, the keys by rising order up to the first that is
-/// not below the walk's, and the two words of the value if that key is the walk's; of the first leaf
-/// the first key and its value.
+/// to an end the head and a field, which is the left one above all keys. Of the leaf it loads the head,
+/// and, if that is of class 0, how many pairs it has behind its first, the keys by rising order up to
+/// the first that is not below the walk's, and the two words of the value if that key is the walk's; of
+/// the leaf at an end the key there and its value.
 #[derive(Clone, Copy, Debug, PartialEq, Eq)]
 pub struct WalkRun {
     /// Where it goes.
@@ -106,7 +105,7 @@ impl WalkRun {
     ghost use Rattle.ordered_map.specs.TreeWords.{is_leaf, level, toward};
     ghost use Rattle.template.specs.FoundLeaf.{path_key, asked_key};
     ghost use Rattle.template.specs.Walk.Steps.{walk_left};
-    ghost use Rattle.template.specs.Walk.Known.{asks_key, WalkAsks, WalkEnds, WalkStands, WalkStandsAtLeaf, IsSlotFor, WalkTurn, here};
+    ghost use Rattle.template.specs.Walk.Known.{asks_key, open_side, goal_slot, WalkAsks, WalkEnds, WalkStands, WalkStandsAtLeaf, IsSlotFor, WalkTurn, here};
 
     /// A walk that has not begun. It asks for at most three steps for each node that has been taken
     /// when it ends, and for eleven more.
@@ -180,23 +179,34 @@ impl WalkRun {
     }
 
     /// Whether the walk loads the key of a fork with this head: where it goes at one of class 0 depends
-    /// on its key, unless it always goes left.
+    /// on its key, unless it goes to an end.
     fn asks_key(&self, head: Head) -> bool
         ensures { result ≡ asks_key self.now.goal head }
     {
         match self.goal {
             Goal::Key(_) => head.class == 0,
-            Goal::Least => false,
+            Goal::End(_) => false,
         }
     }
 
-    /// Where the walk goes at a fork of class 0 with this key. At any other fork it goes left.
+    /// Where the walk goes at a fork with this head of which it loads no key.
+    fn open_side(&self, head: Head) -> Side
+        ensures { result ≡ open_side self.now.goal head }
+    {
+        match self.goal {
+            Goal::Key(_) => Side::Left,
+            Goal::End(side) => { if head.class == 0 { side } else { Side::Left } }
+        }
+    }
+
+    /// Where the walk goes at a fork of class 0 with this key.
     fn side(&self, key: u64) -> Side
         ensures { result ≡ (if nat_lt (path_key self.now.goal) key then Side.Left else Side.Right) }
     {
         let wanted = match self.goal {
             Goal::Key(wanted) => wanted,
-            Goal::Least => 0,
+            Goal::End(Side::Left) => 0,
+            Goal::End(Side::Right) => u64::MAX,
         };
         if wanted < key {
             Side::Left
@@ -205,13 +215,23 @@ impl WalkRun {
         }
     }
 
-    /// The key of which the walk tells at a leaf that has this first key.
-    fn asked_key(&self, first: u64) -> u64
-        ensures { result ≡ asked_key self.now.goal first }
+    /// The slot in which the walk begins at a leaf that has so many pairs behind its first.
+    fn first_slot(&self, more: u64) -> Slot
+        ensures { result ≡ goal_slot self.now.goal more }
+    {
+        match self.goal {
+            Goal::Key(_) => Slot::First,
+            Goal::End(side) => end_slot(side, more),
+        }
+    }
+
+    /// The key of which the walk tells at a leaf that has this key in the slot where it stands.
+    fn asked_key(&self, here: u64) -> u64
+        ensures { result ≡ asked_key self.now.goal here }
     {
         match self.goal {
             Goal::Key(wanted) => wanted,
-            Goal::Least => first,
+            Goal::End(_) => here,
         }
     }
 
@@ -227,7 +247,7 @@ impl WalkRun {
         } else if self.asks_key(head) {
             self.load_settled(WalkAt::Key { head }, SettledPart::Key(Slot::First))
         } else {
-            self.load_child(head.level, Side::Left)
+            self.load_child(head.level, self.open_side(head))
         }
     }
 
@@ -324,7 +344,7 @@ impl Machine<Tree> for WalkRun {
             WalkAt::Head { above: _ } => self.read_head(Head::of(found)),
             WalkAt::Key { head } => self.load_child(head.level, self.side(found)),
             WalkAt::Child { level, side } => self.go_down(level, side, found),
-            WalkAt::More { head } => self.load_key(head, found, Slot::First),
+            WalkAt::More { head } => self.load_key(head, found, self.first_slot(found)),
             WalkAt::Pair { head, more, slot } => self.read_pair(head, more, slot, found),
             WalkAt::Value {
                 head,

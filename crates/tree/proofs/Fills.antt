@@ -27,9 +27,6 @@ use Rattle.ordered_map.specs.FillOrder.{HasStoodInField, IsFillInOrder}
 use Rattle.ordered_map.specs.TreeShape.{TreeAllows}
 use Rattle.template.specs.declared.walk.Found.{Found}
 use Rattle.template.proofs.Lemmas.{walk_fills_not}
-use Rattle.tree.specs.declared.get.GetRun.{GetRun}
-use Rattle.tree.specs.Get.Known.{GetWaits}
-use Rattle.tree.proofs.GetTurns.{get_fills_not}
 use Rattle.edits.specs.Edits.{EditMeaning}
 use Rattle.edits.specs.declared.edit.Need.{Need}
 use Rattle.edits.specs.declared.edit.Need.TheVariants.{Nothing, One, Three}
@@ -111,7 +108,3 @@ update_in_order means m c h s fills x = go m.at x.3
     go (Read f n part) w = no_fill c h s (λ k. let e : s.kind ≡ LoadSettled = ap (λ (t : Step). t.kind) w.1 in cc)
     go (Fill f nth part) w = subst (λ (t : Step). IsFillInOrder h (row_of c t h)) (sym w.3) (fills (begun_at c x.0) f nth part w.0)
     go (Scx f run) w = scx_in_order c (begun_at (begun_at c x.0) w.0) h (job_of run) run.at s w.2
-
--- a get fills nothing
-pub get_in_order : (m : GetRun) (c : Call) (h : History) (s : Step) → GetWaits m c h s → IsFillInOrder h (row_of c s h)
-get_in_order m c h s w = no_fill c h s (get_fills_not m c h s w)

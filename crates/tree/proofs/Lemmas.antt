@@ -1,5 +1,3 @@
 -- What the layers above know of the machines of the tree beside their clauses, passed on from one
 -- place: no other module of these proofs can be named outside. Declares nothing.
-pub use Rattle.tree.proofs.GetTurns.{get_ready_first, get_loads, get_fills_not, get_says, once_past}
-pub use Rattle.tree.proofs.Fills.{get_in_order}
 pub use Rattle.tree.proofs.KeyEdits.{key_in_order}

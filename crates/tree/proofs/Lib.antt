@@ -1,4 +1,3 @@
-mod GetTurns
 mod Fills
 mod PutFills
 mod TakeFills

@@ -1,17 +1,12 @@
 -- What an edit of one leaf looks at and reads.
-use Rattle.std.specs.Prelude.{◌≡◌, ℕ, ◌^◌, ◌<◌, ◌==◌, if◌then◌else◌, List, [], ◌∷◌, length, take}
+use Rattle.std.specs.Prelude.{◌==◌, if◌then◌else◌, List, [], ◌∷◌}
 use Rattle.arena.specs.declared.number.NodeNo.{NodeNo}
-use Rattle.arena.specs.History.{History}
-use Rattle.arena.specs.Machines.{Call}
 use Rattle.prims.specs.declared.snap.Snap.{Snap}
-use Rattle.prims.specs.Snap.{child_of, snap_at}
-use Rattle.template.specs.FoundLeaf.{HasFoundLeaf}
+use Rattle.prims.specs.Snap.{child_of}
 use Rattle.template.specs.declared.walk.Found.{Found}
-use Rattle.ordered_map.specs.declared.rule.Goal.TheVariants.{Key as ToKey}
 use Rattle.edits.specs.declared.edit.Look.{Look}
 use Rattle.edits.specs.declared.edit.Look.TheVariants.{At, Differs, Enough}
 use Rattle.edits.specs.declared.reading.Reading.{Reading}
-use Rattle.edits.specs.Known.{AreUsable}
 use Rattle.edits.specs.Readings.{leaf_begun}
 
 -- it looks at the leaf's parent, and then at the leaf if that is still the child
@@ -25,10 +20,3 @@ leaf_looks f (p ∷ l ∷ snaps) = Enough
 -- it reads the leaf, of which the walk has found head and count
 abbrev pub leaf_reads : Found → NodeNo × Reading
 leaf_reads f = (f.trail.node, leaf_begun f.head f.more)
-
--- the snapshots are of the nodes that these looks name, and were taken behind a walk to k
-pub record HasLookedBy (looks : Found → List Snap → Look) (c : Call) (h : History) (k : ℕ) (f : Found) (snaps : List Snap) : Type 0 where
-  pub small : k < 2 ^ 64
-  pub found : HasFoundLeaf c h k f
-  pub usable : AreUsable c h (ToKey k) f snaps
-  pub seen : (i : ℕ) → i < length snaps → looks f (take i snaps) ≡ At (snap_at snaps i).node

@@ -1,4 +1,3 @@
-pub mod Get
 pub mod LeafEdit
 pub mod Put
 pub mod Take

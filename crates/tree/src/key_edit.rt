@@ -3,7 +3,9 @@ ghost use Rattle.std.specs.Prelude.{◌≡◌};
 ghost use Rattle.edits.specs.Steps.{update_left};
 
 use crate::put::PutAt;
-use crate::rule::{AtKey, AtLeast, EditGoal, EditRule, PutRule, SwapRule, TakeRule};
+use crate::rule::{
+    AtKey, AtLeast, EditGoal, EditRule, PutNewRule, PutRule, SwapRule, TakeIfRule, TakeRule,
+};
 use crate::take::TakeAt;
 use arena::{NodeNo, Share, Side};
 use edits::{Edit, Known, Look, Need, Nodes, Nth, Piece, Reading, UpdateAt, UpdateRun};
@@ -62,6 +64,28 @@ pub fn replace_if(key: u64, expected: u128, value: u128) -> KeyEdit<AtKey, SwapR
     }
 }
 
+/// Puts a value at a key that has none.
+#[inline(always)]
+pub fn insert_new(key: u64, value: u128) -> KeyEdit<AtKey, PutNewRule>
+    ensures { result ≡ record { goal = record { 0 = key }; rule = record { 0 = value } } }
+{
+    KeyEdit {
+        goal: AtKey(key),
+        rule: PutNewRule(value),
+    }
+}
+
+/// Takes a key away that has the expected value.
+#[inline(always)]
+pub fn delete_if(key: u64, expected: u128) -> KeyEdit<AtKey, TakeIfRule>
+    ensures { result ≡ record { goal = record { 0 = key }; rule = record { 0 = expected } } }
+{
+    KeyEdit {
+        goal: AtKey(key),
+        rule: TakeIfRule(expected),
+    }
+}
+
 /// An edit, step by step.
 pub type KeyEditRun<G, R> = UpdateRun<KeyEdit<G, R>, UpdateAt>;
 
@@ -97,7 +121,7 @@ impl<G: EditGoal, R: EditRule> KeyEdit<G, R> {
     {
         match self.goal.goal() {
             Goal::Key(key) => key,
-            Goal::Least => found.key,
+            Goal::End(_) => found.key,
         }
     }
 
@@ -116,7 +140,7 @@ impl<G: EditGoal, R: EditRule> KeyEdit<G, R> {
     {
         match self.goal.goal() {
             Goal::Key(_) => self.rule.applies(found.value),
-            Goal::Least => found.value.is_some() && self.rule.applies(found.value),
+            Goal::End(_) => found.value.is_some() && self.rule.applies(found.value),
         }
     }
 

@@ -1,12 +1,14 @@
 //! Goals and rules of edits: as values, and as types, so that one that is known when the program is
 //! built costs nothing.
 ghost use Rattle.std.specs.Prelude.{◌≡◌};
+ghost use Rattle.arena.specs.declared.word.Side.TheVariants.{Left, Right};
 ghost use Rattle.ordered_map.specs.OrderedMap.{applies, leaves};
 ghost use Rattle.ordered_map.specs.declared.rule.Goal.{Goal as GoalOf};
 ghost use Rattle.ordered_map.specs.declared.rule.Goal.TheVariants as goals;
 ghost use Rattle.ordered_map.specs.declared.rule.Rule.{Rule as RuleOf};
 ghost use Rattle.ordered_map.specs.declared.rule.Rule.TheVariants as rules;
 
+use arena::Side;
 use ordered_map::{Goal, Rule};
 
 /// Where an edit goes.
@@ -45,11 +47,24 @@ impl EditGoal for AtKey {
 pub struct AtLeast;
 
 impl EditGoal for AtLeast {
-    ghost goal = { λ g. goals.Least };
+    ghost goal = { λ g. goals.End Left };
 
     #[inline(always)]
     fn goal(&self) -> Goal {
-        Goal::Least
+        Goal::End(Side::Left)
+    }
+}
+
+/// To the pair with the greatest key.
+#[derive(Clone, Copy, Debug, PartialEq, Eq)]
+pub struct AtGreatest;
+
+impl EditGoal for AtGreatest {
+    ghost goal = { λ g. goals.End Right };
+
+    #[inline(always)]
+    fn goal(&self) -> Goal {
+        Goal::End(Side::Right)
     }
 }
 
@@ -133,5 +148,41 @@ impl EditRule for SwapRule {
     #[inline(always)]
     fn leaves(&self) -> Option<u128> {
         Some(self.value)
+    }
+}
+
+/// Puts this value in where there is none.
+#[derive(Clone, Copy, Debug, PartialEq, Eq)]
+pub struct PutNewRule(pub u128);
+
+impl EditRule for PutNewRule {
+    ghost rule = { λ r. rules.PutNew r.0 };
+
+    #[inline(always)]
+    fn applies(&self, found: Option<u128>) -> bool {
+        found.is_none()
+    }
+
+    #[inline(always)]
+    fn leaves(&self) -> Option<u128> {
+        Some(self.0)
+    }
+}
+
+/// Takes this value out.
+#[derive(Clone, Copy, Debug, PartialEq, Eq)]
+pub struct TakeIfRule(pub u128);
+
+impl EditRule for TakeIfRule {
+    ghost rule = { λ r. rules.TakeIf r.0 };
+
+    #[inline(always)]
+    fn applies(&self, found: Option<u128>) -> bool {
+        found == Some(self.0)
+    }
+
+    #[inline(always)]
+    fn leaves(&self) -> Option<u128> {
+        None
     }
 }

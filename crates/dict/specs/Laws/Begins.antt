@@ -8,11 +8,10 @@ use Rattle.order.proofs.Lemmas.{read_ready_first}
 use Rattle.prims.specs.Laws.Idle.{quiet_at_start, idle_if_finished}
 use Rattle.ordered_map.specs.Runs.{IsTreeRun}
 use Rattle.template.specs.FoundLeaf.{path_key}
-use Rattle.template.proofs.Lemmas.{next_first}
-use Rattle.tree.proofs.Lemmas.{get_ready_first}
+use Rattle.template.proofs.Lemmas.{next_first, walk_ready_first}
 use Rattle.edits.specs.Edits.{EditMeaning}
 use Rattle.edits.specs.Known.{RestsWith, UpdateIsReady}
-use Rattle.ordered_map.specs.CallRules.{most_nodes}
+use Rattle.ordered_map.specs.CallRules.{nodes_in_try}
 use Rattle.edits.specs.Laws.Entered.{none_yet}
 use Rattle.edits.specs.Steps.{node_tries, scx_tries}
 use Rattle.edits.specs.declared.update.UpdateAt.TheVariants.{Start}
@@ -25,8 +24,8 @@ use Rattle.dict.specs.Typed.{IsTypedCall, TypedAllows}
 use Rattle.dict.specs.Laws.TypedMaps.{typed_run}
 use Rattle.dict.specs.declared.dict.DictRun.{DictRun}
 use Rattle.dict.specs.declared.run.MapRun.{MapRun}
-use Rattle.dict.specs.Inner.{InnerRun, Update, Get, Read, inner}
-use Rattle.dict.specs.Laws.Kinds.{IsOfKind, is_of_kind}
+use Rattle.dict.specs.Inner.{InnerRun, Update, Get, Read, edit_means, inner}
+use Rattle.dict.specs.Laws.Kinds.{IsOfKind, edit_small, is_of_kind}
 
 module _ (c : Call) (run : IsTreeRun c.layout c.start) where
   -- a read rests
@@ -52,13 +51,13 @@ module _ (c : Call) (run : IsTreeRun c.layout c.start) where
     }
 
   goes : (m : InnerRun) (tries : ℕ) → IsOfKind m → StandsAtStart m tries c.number → RestsWith c c.start (inner_share m) → Goes m tries c
-  goes (Update k m) tries kind x r = record { mode = run.0; small = x.3; number = x.2; limit = x.4; spent = spent k.means m x.0 r (most_nodes (k.call m.edit)) tries x.1 }
-  goes (Get m share) tries kind x r = record { mode = run.0; small = tt; number = tt; limit = tt; spent = r }
+  goes (Update m) tries kind x r = record { mode = run.0; small = x.3; number = x.2; limit = x.4; spent = spent edit_means m x.0 r (nodes_in_try m.edit.rule) tries x.1 }
+  goes (Get key walk share) tries kind x r = record { mode = run.0; small = tt; number = tt; limit = tt; spent = r }
   goes (Read k m share) tries kind x r = record { mode = run.0; small = kind.small m.read; number = tt; limit = x.4; spent = r }
 
   inside : (m : InnerRun) (tries : ℕ) → IsOfKind m → StandsAtStart m tries c.number → IsFewCall (inner_call m) → RestsWith c c.start (inner_share m) → IsReadyInside m c c.start None
-  inside (Update k m) tries kind x few r = update_ready k.means m x.0 r (kind.small m.edit x.3) (x.4 ∙ sym x.1)
-  inside (Get m share) tries kind x few r = (get_ready_first m c run x.3 r.over x.0 x.1 x.2, rests share r)
+  inside (Update m) tries kind x few r = update_ready edit_means m x.0 r (edit_small m.edit.goal m.edit.rule x.3) (x.4 ∙ sym x.1)
+  inside (Get key walk share) tries kind x few r = ((walk_ready_first walk c c.start run (rw x.2 x.3) (ends_self c.start) x.0 x.1, x.2, refl), rests share r)
   inside (Read k m share) tries kind x few r = (read_ready_first k.means m c c.start run refl (x.3 few) r.over x.0 x.2 (let e = x.4 in let f = x.1 in omega (arith, e, f)), rests share r)
 
   -- the machine may be called where the call begins

@@ -1,6 +1,6 @@
 -- The laws of the machine of a call of a dictionary: rows of others leave it waiting, its steps are
 -- lawful and begin edits of typed words alone, and what it is told is so.
-use Rattle.std.proofs.Common.{◌≢◌, ℕ, ◌≤◌, length, Option, Some, ◌∙◌, subst}
+use Rattle.std.proofs.Common.{◌≢◌, ℕ, ◌≤◌, length, Option, Some, subst}
 use Rattle.arena.specs.declared.step.Kind.TheVariants.{Fill}
 use Rattle.arena.specs.declared.step.Row.{Row}
 use Rattle.arena.specs.declared.step.Step.{Step}
@@ -10,9 +10,13 @@ use Rattle.arena.specs.Share.{Remaining}
 use Rattle.arena.specs.TakenNodes.{taken_nodes}
 use Rattle.arena.proofs.Lemmas.{ends_trans}
 use Rattle.order.specs.Laws.Run.{read_fills_not}
+use Rattle.ordered_map.specs.OrderedMap.{Edit}
 use Rattle.ordered_map.specs.TreeShape.{TreeAllows}
+use Rattle.ordered_map.specs.declared.rule.Goal.{Goal}
+use Rattle.ordered_map.specs.declared.rule.Rule.{Rule}
+use Rattle.tree.specs.declared.key_edit.KeyEdit.{KeyEdit}
 use Rattle.template.specs.declared.walk.Found.{Found}
-use Rattle.tree.proofs.Lemmas.{get_fills_not}
+use Rattle.template.proofs.Lemmas.{walk_fills_not}
 use Rattle.edits.specs.declared.edit.Need.TheVariants.{Nothing}
 use Rattle.dict.specs.Calls.{inner_call}
 use Rattle.dict.specs.DictKnown.{DictIsReady, DictWaits}
@@ -26,8 +30,8 @@ use Rattle.dict.specs.Laws.EachCall.{reply_typed, edit_typed}
 use Rattle.dict.specs.Laws.TypedMaps.{typed_run, typed_since, typed_map}
 use Rattle.dict.specs.Laws.TypedSteps.{HasWalkedTo, typed_quiet, typed_update_lawful}
 use Rattle.dict.specs.declared.dict.DictRun.{DictRun}
-use Rattle.dict.specs.Inner.{EditKind, InnerRun, Update, Get, Read, inner}
-use Rattle.dict.specs.Laws.Kinds.{IsEditKind, IsOfKind, is_of_kind}
+use Rattle.dict.specs.Inner.{InnerRun, Update, Get, Read, edit_means, inner}
+use Rattle.dict.specs.Laws.Kinds.{IsOfKind, edit_changes, is_of_kind}
 
 module _ (keys values : ℕ → Type 0) where
   -- a read begins none: its pass is at rest behind its step too
@@ -35,18 +39,18 @@ module _ (keys values : ℕ → Type 0) where
   read_lawful c h s share fills_not run tree x = typed_quiet keys values c.layout h (row_of c s h) run tree (on c h (row_of c s h) share tree fills_not x).now.over
 
   -- what an edit makes at a leaf to which it has walked is of such words
-  edit_found_typed : (k : EditKind) → IsEditKind k → (e : k.E) (c : Call) (h : History) (f : Found) → IsRun (TypedAllows keys values) c.layout h → IsTypedCall keys values (k.call e) → HasWalkedTo k.means e c h f → k.means.needs e f ≢ Nothing → IsTypedEdit keys values (k.means.edit e f)
-  edit_found_typed k is e c h f run typed x needed =
-      let y = found_tells (k.means.goal e) (begun_at c x.begin) x.moment f x.small x.run x.found in
+  edit_found_typed : (e : KeyEdit Goal Rule) (c : Call) (h : History) (f : Found) → IsRun (TypedAllows keys values) c.layout h → IsTypedCall keys values (Edit e.goal e.rule) → HasWalkedTo edit_means e c h f → edit_means.needs e f ≢ Nothing → IsTypedEdit keys values (edit_means.edit e f)
+  edit_found_typed e c h f run typed x needed =
+      let y = found_tells e.goal (begun_at c x.begin) x.moment f x.small x.run x.found in
       let there : IsRun (TypedAllows keys values) c.layout y.moment = typed_since keys values c.layout h y.moment run (ends_trans h x.moment y.moment x.within y.within) in
       let map : AreTyped keys values y.map = typed_map keys values c.layout y.moment x.run.0 there y.map y.spelled in
-      let told : IsTypedReply keys values (leaf_told (k.means.goal e) f) = subst (IsTypedReply keys values) (is.walks e y.map ∙ y.gives) (reply_typed keys values (k.call e) y.map map) in
-      edit_typed keys values (k.call e) (leaf_told (k.means.goal e) f) (k.means.edit e f) (is.changes e f needed) typed told
+      let told : IsTypedReply keys values (leaf_told e.goal f) = subst (IsTypedReply keys values) y.gives (reply_typed keys values (Edit e.goal e.rule) y.map map) in
+      edit_typed keys values (Edit e.goal e.rule) (leaf_told e.goal f) (edit_means.edit e f) (edit_changes e f needed) typed told
 
   -- the step of the machine inside continues a run of the dictionary
   lawful_inside : (m : InnerRun) (c : Call) (h : History) (s : Step) → IsOfKind m → IsRun (TypedAllows keys values) c.layout h → IsRun TreeAllows c.layout (row_of c s h ⊳ h) → IsTypedCall keys values (inner_call m) → WaitsInside m c h s → IsRun (TypedAllows keys values) c.layout (row_of c s h ⊳ h)
-  lawful_inside (Update k m) c h s kind run tree typed w = typed_update_lawful keys values k.means m c h s run (λ f walked needed. edit_found_typed k kind m.edit c h f run typed walked needed) w
-  lawful_inside (Get m share) c h s kind run tree typed w = read_lawful c h s share (get_fills_not m c h s w.0) run tree w.1
+  lawful_inside (Update m) c h s kind run tree typed w = typed_update_lawful keys values edit_means m c h s run (λ f walked needed. edit_found_typed m.edit c h f run typed walked needed) w
+  lawful_inside (Get key walk share) c h s kind run tree typed w = read_lawful c h s share (walk_fills_not walk c h s w.0.0) run tree w.1
   lawful_inside (Read k m share) c h s kind run tree typed w = read_lawful c h s share (read_fills_not k.means m c h s w.0) run tree w.1
 
   module _ {K V : Type 0} where

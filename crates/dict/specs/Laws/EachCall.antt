@@ -1,10 +1,12 @@
 -- What is shown of each call of the map by itself, with an arm for each: what it tells of a map, and
 -- what it may take. The other laws and proofs of this crate, and of those above it, speak of any call.
-use Rattle.std.proofs.Common.{◌≡◌, ℕ, zero, suc, ◌≤◌, List, [], ◌∷◌, take, Bool, true, false, if◌then◌else◌, ◌==◌, nat_lt, nat_le, ◌&&◌, Option, Some, None, refl, subst, arith}
+use Rattle.std.proofs.Common.{◌≡◌, ℕ, zero, suc, ◌≤◌, List, [], ◌∷◌, take, Bool, true, false, if◌then◌else◌, ◌==◌, nat_lt, nat_le, ◌&&◌, Option, Some, None, unwrap_or, refl, subst, arith}
 use Rattle.ordered_map.specs.CallRules.{MayReply, most_scx}
 use Rattle.ordered_map.specs.CallRules as form
-use Rattle.ordered_map.specs.OrderedMap.{MapEdit, Insert, Delete, insert, delete, edited, edit_of, edit_to, MapCall, Edit, Get, Successor, Range, MapReply, OneValue, OnePair, ManyPairs, applies, leaves, reply, get, first_pair, successor, between, pair, pair_or_none}
-use Rattle.ordered_map.specs.declared.rule.Goal.TheVariants.{Key, Least}
+use Rattle.arena.specs.declared.word.Side.{Side}
+use Rattle.arena.specs.declared.word.Side.TheVariants.{Left, Right}
+use Rattle.ordered_map.specs.OrderedMap.{MapEdit, Insert, Delete, insert, delete, edited, edit_of, edit_to, MapCall, Edit, Get, Successor, Range, MapReply, OneValue, OnePair, ManyPairs, applies, leaves, reply, get, last_pair, end_pair, successor, between, pair, pair_or_none}
+use Rattle.ordered_map.specs.declared.rule.Goal.TheVariants.{Key, End}
 use Rattle.ordered_map.specs.declared.pair.Pair.{Pair}
 use Rattle.dict.specs.Calls.{most_tries}
 use Rattle.dict.specs.Says.{KeepsLists}
@@ -58,13 +60,19 @@ module _ (keys values : ℕ → Type 0) where
   take_typed (suc most) [] x = tt
   take_typed (suc most) (p ∷ ps) x = (x.0, x.1, take_typed most ps x.2)
 
-  first_typed : (m : List Pair) → AreTyped keys values m → IsTypedReply keys values (pair_or_none (first_pair m))
-  first_typed [] x = tt
-  first_typed (p ∷ ps) x = (x.0, x.1)
+  last_typed : (p : Pair) (ps : List Pair) → keys p.key → values p.value → AreTyped keys values ps → keys (unwrap_or (last_pair ps) p).key × values (unwrap_or (last_pair ps) p).value
+  last_typed p [] k v x = (k, v)
+  last_typed p (q ∷ qs) k v x = last_typed q qs x.0 x.1 x.2
+
+  end_typed : (side : Side) (m : List Pair) → AreTyped keys values m → IsTypedReply keys values (pair_or_none (end_pair side m))
+  end_typed Left [] x = tt
+  end_typed Left (p ∷ ps) x = (x.0, x.1)
+  end_typed Right [] x = tt
+  end_typed Right (p ∷ ps) x = last_typed p ps x.0 x.1 x.2
 
   pub reply_typed : (call : MapCall) (m : List Pair) → AreTyped keys values m → IsTypedReply keys values (reply call m)
   reply_typed (Edit (Key k) rule) m x = get_typed k m x
-  reply_typed (Edit Least rule) m x = first_typed m x
+  reply_typed (Edit (End side) rule) m x = end_typed side m x
   reply_typed (Get k) m x = get_typed k m x
   reply_typed (Successor k) m x = successor_typed k m x
   reply_typed (Range low high most) m x = take_typed most (between low high m) (between_typed low high m x)
@@ -80,7 +88,7 @@ module _ (keys values : ℕ → Type 0) where
 
   pub edit_typed : (call : MapCall) (told : MapReply) (e : MapEdit) → edit_of call told ≡ Some e → IsTypedCall keys values call → IsTypedReply keys values told → IsTypedEdit keys values e
   edit_typed (Edit (Key k) rule) (OneValue found) e is x y = if_applies (applies rule found) (edit_to k (leaves rule)) e is (to_typed k (leaves rule) x.0 x.1)
-  edit_typed (Edit Least rule) (OnePair p) e is x y = if_applies (applies rule (Some p.value)) (edit_to p.key (leaves rule)) e is (to_typed p.key (leaves rule) y.0 x.1)
+  edit_typed (Edit (End side) rule) (OnePair p) e is x y = if_applies (applies rule (Some p.value)) (edit_to p.key (leaves rule)) e is (to_typed p.key (leaves rule) y.0 x.1)
   edit_typed call told e is x y = absurd (let none : None ≡ Some e = is in cc)
 
 -- Lists
@@ -93,7 +101,7 @@ one_pair (Some p) ps e = cc
 -- a call that tells pairs keeps lists, and has made no edit
 pub tells_lists : (call : MapCall) (m : List Pair) (ps : List Pair) → reply call m ≡ ManyPairs ps → KeepsLists call × (edit_of call (ManyPairs ps) ≡ None)
 tells_lists (Edit (Key k) rule) m ps told = absurd cc
-tells_lists (Edit Least rule) m ps told = absurd (one_pair (first_pair m) ps told)
+tells_lists (Edit (End side) rule) m ps told = absurd (one_pair (end_pair side m) ps told)
 tells_lists (Get k) m ps told = absurd cc
 tells_lists (Successor k) m ps told = (tt, refl)
 tells_lists (Range low high most) m ps told = (tt, refl)
@@ -101,7 +109,7 @@ tells_lists (Range low high most) m ps told = (tt, refl)
 -- and may be refused memory
 pub may_lack : (call : MapCall) → MayReply call form.Pairs → MayReply call form.NoMemory
 may_lack (Edit (Key k) rule) x = absurd x
-may_lack (Edit Least rule) x = absurd x
+may_lack (Edit (End side) rule) x = absurd x
 may_lack (Get k) x = x
 may_lack (Successor k) x = absurd x
 may_lack (Range low high most) x = tt

@@ -3,20 +3,20 @@ use Rattle.std.proofs.Common.{◌^◌, ◌<◌, ap}
 use Rattle.arena.specs.History.{History}
 use Rattle.arena.specs.Machines.{Call}
 use Rattle.ordered_map.specs.OrderedMap.{OneValue, pair_or_none}
-use Rattle.ordered_map.specs.Paths.{IsAnswerAt, IsFirstAt}
+use Rattle.ordered_map.specs.Paths.{IsAnswerAt, IsEndAt}
 use Rattle.ordered_map.specs.Runs.{IsTreeRun}
-use Rattle.template.specs.FoundLeaf.{path_key, first_told, HasFoundGoal}
+use Rattle.template.specs.FoundLeaf.{path_key, end_told, HasFoundGoal}
 use Rattle.template.specs.declared.walk.Found.{Found}
 use Rattle.ordered_map.specs.declared.rule.Goal.{Goal}
-use Rattle.ordered_map.specs.declared.rule.Goal.TheVariants.{Key as ToKey, Least}
-use Rattle.template.proofs.Lemmas.{found_gives, found_first}
+use Rattle.ordered_map.specs.declared.rule.Goal.TheVariants.{Key as ToKey, End}
+use Rattle.template.proofs.Lemmas.{found_gives, found_end}
 use Rattle.dict.specs.Goals.{leaf_told, IsGoalToldAt}
 
--- a walk to a key has found what the map gives of it, one to the least the first pair
+-- a walk to a key has found what the map gives of it, one to an end the pair there
 pub found_tells : (goal : Goal) (c : Call) (h : History) (f : Found) → path_key goal < 2 ^ 64 → IsTreeRun c.layout h → (x : HasFoundGoal goal c h f) → IsGoalToldAt c.layout h x.trail.node.first goal (leaf_told goal f)
 found_tells (ToKey k) c h f small run x =
     let y : IsAnswerAt c.layout h x.trail.node.first k f.value = found_gives c h k f run small x in
     record { moment = y.moment; within = y.within; since = y.since; map = y.map; spelled = y.spelled; gives = ap OneValue y.gives }
-found_tells Least c h f small run x =
-    let y : IsFirstAt c.layout h x.trail.node.first (first_told f) = found_first c h f run x in
+found_tells (End side) c h f small run x =
+    let y : IsEndAt side c.layout h x.trail.node.first (end_told f) = found_end side c h f run x in
     record { moment = y.moment; within = y.within; since = y.since; map = y.map; spelled = y.spelled; gives = ap pair_or_none y.is }

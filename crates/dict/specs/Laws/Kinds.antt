@@ -1,98 +1,59 @@
--- What has to be so of a kind of edit, and that it is so of each that runs inside of a call.
+-- What is so of an edit that runs inside of a call, and of each kind of ordered read.
 use Rattle.std.proofs.Common.{◌≡◌, ◌≢◌, ℕ, ◌+◌, ◌*◌, ◌^◌, ◌<◌, ◌≤◌, Bool, true, false, cond, List, Option, Some, None, Result, Ok, Err, Vec, inl, inr, refl, sym, ap, ◌∙◌, subst, arith}
 use Rattle.std.specs.Global.{Global}
 use Rattle.std.specs.Option.{option_map}
+use Rattle.arena.specs.declared.word.Side.TheVariants.{Left, Right}
 use Rattle.arena.specs.declared.step.Kind.{Kind}
 use Rattle.arena.specs.declared.step.Kind.TheVariants.{Fill}
-use Rattle.arena.specs.declared.step.Step.{Step}
 use Rattle.arena.specs.History.{History}
-use Rattle.arena.specs.Machines.{Call, row_of}
+use Rattle.arena.specs.Machines.{Call}
 use Rattle.arena.specs.Share.{Remaining}
-use Rattle.ordered_map.specs.FillOrder.{AreFilledInOrder, IsFillInOrder}
 use Rattle.order.specs.declared.refused.Refused.{Refused}
 use Rattle.order.specs.declared.refused.Refused.TheVariants as refused
-use Rattle.ordered_map.specs.CallRules.{TakesNothing, nodes_at, nodes_there, steps_behind, call_rules, most_nodes, most_scx, most_steps, need, MayReply}
-use Rattle.ordered_map.specs.OrderedMap.{MapCall, MapReply, Edit, Successor as SuccessorOf, Range as RangeOf, OneValue, applies, edit_of, edit_there, edit_to, goal_told, leaves, pair, pair_or_none, reply, spot}
+use Rattle.ordered_map.specs.CallRules.{TakesNothing, nodes_at, nodes_there, steps_behind, call_rules, most_nodes, most_steps, need, MayReply}
+use Rattle.ordered_map.specs.OrderedMap.{MapCall, MapReply, Edit, Successor as SuccessorOf, Range as RangeOf, OneValue, applies, edit_key, edit_of, edit_there, edit_to, leaves, pair, pair_or_none, reply, spot}
 use Rattle.ordered_map.specs.declared.rule.Rule.{Rule}
-use Rattle.ordered_map.specs.declared.rule.Rule.TheVariants.{Put, Take, Swap}
+use Rattle.ordered_map.specs.declared.rule.Rule.TheVariants.{Put, Take, Swap, PutNew, TakeIf}
 use Rattle.ordered_map.specs.declared.pair.Pair.{Pair}
 use Rattle.template.specs.FoundLeaf.{asked_key, path_key}
 use Rattle.template.specs.declared.walk.Found.{Found}
 use Rattle.ordered_map.specs.declared.rule.Goal.{Goal}
-use Rattle.ordered_map.specs.declared.rule.Goal.TheVariants.{Key as ToKey, Least}
-use Rattle.tree.specs.KeyEdit.Means.{key_means, most_fills_leaving, most_looks_leaving, most_reads_leaving, needs_leaving, wants}
-use Rattle.tree.specs.Laws.KeyEdit.{key_laws}
+use Rattle.ordered_map.specs.declared.rule.Goal.TheVariants.{Key as ToKey, End}
+use Rattle.tree.specs.declared.key_edit.KeyEdit.{KeyEdit}
+use Rattle.tree.specs.KeyEdit.Means.{doing, key_means, wants}
+use Rattle.tree.specs.Laws.KeyEdit.{at_goal}
 use Rattle.tree.specs.Put.Means.{has_room, need_by}
 use Rattle.tree.specs.Take.Means.{take_need}
-use Rattle.tree.proofs.Lemmas.{key_in_order}
-use Rattle.edits.specs.Known.{UpdateWaits}
 use Rattle.edits.specs.Pieces.{many_nodes}
-use Rattle.edits.specs.Sound.{IsAtFound}
 use Rattle.edits.specs.Steps.{try_left}
 use Rattle.edits.specs.declared.edit.Need.{Need}
 use Rattle.edits.specs.declared.edit.Need.TheVariants.{Nothing}
-use Rattle.edits.specs.declared.update.UpdateAt.{UpdateAt}
-use Rattle.edits.specs.declared.update.UpdateRun.{UpdateRun}
 use Rattle.edits.specs.declared.update.Updated.{Updated}
 use Rattle.edits.specs.declared.update.Updated.TheVariants.{Done, Contended, Full}
-use Rattle.dict.specs.Around.{IsAround}
 use Rattle.dict.specs.Calls.{AsksForPairs, IsSmallCall, most_tries}
 use Rattle.dict.specs.Goals.{leaf_told}
 use Rattle.dict.specs.WordReplies.{edit_reply, range_reply, read_reply, successor_reply, told_in, word_form}
-use Rattle.dict.specs.Inner.{EditKind, ReadKind, InnerRun, Update, Get, Read, at_key, at_least, inner, key_kind, put, range_kind, successor_kind, swap, take}
+use Rattle.dict.specs.Inner.{ReadKind, InnerRun, Read, edit_means, inner, range_kind, successor_kind}
 use Rattle.dict.specs.Says.{IsRefusal, KeepsLists}
 use Rattle.dict.specs.declared.run.MapRun.{MapRun}
 use Rattle.dict.specs.declared.run.MapRun.TheVariants as runs
 
--- A call that may edit asks for a step before it answers, and may make steps of all kinds; it may
--- begin all its tries, and takes an SCX-record in each.
-pub record IsEditing (call : MapCall) : Type 0 where
-  pub asks : AsksForPairs call
-  pub kinds : (kind : Kind) → (call_rules call).MayMake kind
-  pub tries : (tries : ℕ) → most_tries call tries ≡ tries
-  pub scx : (tries : ℕ) → most_scx call tries ≡ tries
-
--- A kind of edit is one that a call of the map makes.
-pub record IsEditKind (k : EditKind) : Type 0 where
-  -- its call may edit
-  pub edits : (e : k.E) → IsEditing (k.call e)
-  -- it walks to a key of a word, where its call has one
-  pub small : (e : k.E) → IsSmallCall (k.call e) → path_key (k.means.goal e) < 2 ^ 64
-  -- it walks to where the map tells what the call replies
-  pub walks : (e : k.E) (map : List Pair) → reply (k.call e) map ≡ goal_told (k.means.goal e) map
-  -- and its edit is of the key of which the leaf tells that
-  pub at_found : IsAtFound k.means
-  -- what it answers is of a form that its call may reply
-  pub form : (e : k.E) (a : Updated) → MayReply (k.call e) (word_form (edit_reply (k.means.goal e) a))
-  -- it takes at most as many nodes in a try as its call may
-  pub most : (e : k.E) → k.means.most_nodes e ≡ most_nodes (k.call e)
-  -- and makes at most as many steps
-  pub steps : (e : k.E) (tries nodes : ℕ) → tries * try_left k.means e nodes ≡ most_steps (k.call e) tries nodes
-  -- it needs no more nodes than that on a map that replies what its leaf tells
-  pub needs : (e : k.E) (f : Found) (map : List Pair) → reply (k.call e) map ≡ leaf_told (k.means.goal e) f → many_nodes (k.means.needs e f) ≤ need (k.call e) map
-  -- it fills its nodes in order
-  pub in_order : (m : UpdateRun k.E UpdateAt) (c : Call) (h : History) (s : Step) → AreFilledInOrder h → UpdateWaits k.means m c h s → IsFillInOrder h (row_of c s h)
-  -- where it needs none it is a reading
-  pub reads : (e : k.E) (f : Found) → k.means.needs e f ≡ Nothing → edit_of (k.call e) (leaf_told (k.means.goal e) f) ≡ None
-  -- and else it makes its edit
-  pub changes : (e : k.E) (f : Found) → k.means.needs e f ≢ Nothing → edit_of (k.call e) (leaf_told (k.means.goal e) f) ≡ Some (k.means.edit e f)
-
 -- an edit answers what it has found, or is refused
-edit_form : (goal : Goal) (rule : Rule) (a : Updated) → MayReply (Edit goal rule) (word_form (edit_reply goal a))
+pub edit_form : (goal : Goal) (rule : Rule) (a : Updated) → MayReply (Edit goal rule) (word_form (edit_reply goal a))
 edit_form (ToKey key) rule (Done own told) = tt
 edit_form (ToKey key) rule (Contended node scx) = tt
 edit_form (ToKey key) rule (Full full) = tt
-edit_form Least rule (Done own told) = tt
-edit_form Least rule (Contended node scx) = tt
-edit_form Least rule (Full full) = tt
+edit_form (End side) rule (Done own told) = tt
+edit_form (End side) rule (Contended node scx) = tt
+edit_form (End side) rule (Full full) = tt
 
 -- what the leaf says of what a goal finds, where it tells this value of this key
 abbrev told_by : Goal → ℕ → Option ℕ → MapReply
 told_by (ToKey k) key value = OneValue value
-told_by Least key value = pair_or_none (option_map (pair key) value)
+told_by (End side) key value = pair_or_none (option_map (pair key) value)
 
 -- it makes at most so many steps behind its walk
-steps_by : (left : Option ℕ) (nodes : ℕ) → 3 * (2 + nodes) + 5 + (64 * most_looks_leaving left + (most_reads_leaving left + most_fills_leaving left) + 39) ≡ 3 * (2 + nodes) + steps_behind left
+steps_by : (left : Option ℕ) (nodes : ℕ) → 3 * (2 + nodes) + 5 + (64 * (doing left).most_looks 0 + ((doing left).most_reads 0 + (doing left).most_fills 0) + 39) ≡ 3 * (2 + nodes) + steps_behind left
 steps_by None nodes = omega arith
 steps_by (Some v) nodes = omega arith
 
@@ -101,6 +62,8 @@ takes_there : (rule : Rule) → leaves rule ≡ None → applies rule None ≡ t
 takes_there (Put v) none there = cc
 takes_there Take none there = cc
 takes_there (Swap e v) none there = cc
+takes_there (PutNew v) none there = cc
+takes_there (TakeIf e) none there = cc
 
 -- At the leaf that was found, which tells this value
 module _ (f : Found) (rule : Rule) where
@@ -108,10 +71,10 @@ module _ (f : Found) (rule : Rule) where
   left = leaves rule
 
   abbrev needed : ℕ → Bool → Need
-  needed key b = cond b (needs_leaving left key f) Nothing
+  needed key b = cond b ((doing left).needs key f) Nothing
 
   -- what it needs at a key is enough for the call
-  many_by : (l : Option ℕ) (key : ℕ) (value : Option ℕ) → f.value ≡ value → many_nodes (needs_leaving l key f) ≤ nodes_at value
+  many_by : (l : Option ℕ) (key : ℕ) (value : Option ℕ) → f.value ≡ value → many_nodes ((doing l).needs key f) ≤ nodes_at value
   many_by None key None is = subst (λ (o : Option ℕ). many_nodes (take_need o) ≤ 3) (sym is) (omega arith)
   many_by None key (Some v) is = subst (λ (o : Option ℕ). many_nodes (take_need o) ≤ 1) (sym is) (omega arith)
   many_by (Some w) key None is = subst (λ (o : Option ℕ). many_nodes (need_by o (has_room f)) ≤ 3) (sym is) (absent_many (has_room f))
@@ -127,11 +90,11 @@ module _ (f : Found) (rule : Rule) where
 
   key_many : (goal : Goal) (value : Option ℕ) → f.value ≡ value → many_nodes (needed (asked_key goal f.key) (wants goal rule value)) ≤ nodes_there rule (spot goal (told_by goal f.key value))
   key_many (ToKey k) value is = many_if (applies rule value) k value is
-  key_many Least None is = omega arith
-  key_many Least (Some v) is = many_if (applies rule (Some v)) f.key (Some v) is
+  key_many (End side) None is = omega arith
+  key_many (End side) (Some v) is = many_if (applies rule (Some v)) f.key (Some v) is
 
   -- it needs nothing only where it changes nothing
-  some_needed : (l : Option ℕ) (key : ℕ) (value : Option ℕ) → f.value ≡ value → (value ≡ None → l ≡ None → ⊥) → needs_leaving l key f ≢ Nothing
+  some_needed : (l : Option ℕ) (key : ℕ) (value : Option ℕ) → f.value ≡ value → (value ≡ None → l ≡ None → ⊥) → (doing l).needs key f ≢ Nothing
   some_needed None key None is there nothing = there refl refl
   some_needed None key (Some v) is there nothing = let none : take_need (Some v) ≡ Nothing = ap take_need (sym is) ∙ nothing in cc
   some_needed (Some w) key value is there nothing = put_needs f.value (has_room f) nothing
@@ -150,8 +113,8 @@ module _ (f : Found) (rule : Rule) where
 
   key_reads : (goal : Goal) (value : Option ℕ) → f.value ≡ value → needed (asked_key goal f.key) (wants goal rule value) ≡ Nothing → edit_there rule (spot goal (told_by goal f.key value)) ≡ None
   key_reads (ToKey k) value is nothing = reads_if (applies rule value) k value is refl nothing
-  key_reads Least None is nothing = refl
-  key_reads Least (Some v) is nothing = reads_if (applies rule (Some v)) f.key (Some v) is refl nothing
+  key_reads (End side) None is nothing = refl
+  key_reads (End side) (Some v) is nothing = reads_if (applies rule (Some v)) f.key (Some v) is refl nothing
 
   -- and something only where it makes its edit
   makes_if : (b : Bool) (key : ℕ) → needed key b ≢ Nothing → cond b (Some (edit_to key left)) None ≡ Some (edit_to key left)
@@ -160,33 +123,43 @@ module _ (f : Found) (rule : Rule) where
 
   key_changes : (goal : Goal) (value : Option ℕ) → f.value ≡ value → needed (asked_key goal f.key) (wants goal rule value) ≢ Nothing → edit_there rule (spot goal (told_by goal f.key value)) ≡ Some (edit_to (asked_key goal f.key) left)
   key_changes (ToKey k) value is some = makes_if (applies rule value) k some
-  key_changes Least None is some = absurd (some refl)
-  key_changes Least (Some v) is some = makes_if (applies rule (Some v)) f.key some
+  key_changes (End side) None is some = absurd (some refl)
+  key_changes (End side) (Some v) is some = makes_if (applies rule (Some v)) f.key some
 
-key_small : (goal : Goal) (rule : Rule) → IsSmallCall (Edit goal rule) → path_key goal < 2 ^ 64
-key_small (ToKey k) rule small = small
-key_small Least rule small = omega arith
+-- it walks to a key of a word, where it has one
+pub edit_small : (goal : Goal) (rule : Rule) → IsSmallCall (Edit goal rule) → path_key goal < 2 ^ 64
+edit_small (ToKey k) rule small = small
+edit_small (End Left) rule small = omega arith
+edit_small (End Right) rule small = omega arith
 
 -- what the map replies to an edit, where the leaf tells that
 same_told : (goal : Goal) (f : Found) → leaf_told goal f ≡ told_by goal f.key f.value
 same_told (ToKey k) f = refl
-same_told Least f = refl
+same_told (End side) f = refl
 
--- an edit is such a kind
-pub key_is : {G R : Type 0} (goal : G → Goal) (rule : R → Rule) → IsEditKind (key_kind goal rule)
-key_is goal rule = record {
-  edits = λ e. record { asks = tt; kinds = λ kind. tt; tries = λ tries. refl; scx = λ tries. refl };
-  small = λ e small. key_small (goal e.goal) (rule e.rule) small;
-  walks = λ e map. refl;
-  at_found = (key_laws goal rule).at_found;
-  form = λ e a. edit_form (goal e.goal) (rule e.rule) a;
-  most = λ e. refl;
-  steps = λ e tries nodes. ap (λ (k : ℕ). tries * k) (steps_by (leaves (rule e.rule)) nodes);
-  needs = λ e f map is. subst (λ (told : MapReply). many_nodes ((key_means goal rule).needs e f) ≤ nodes_there (rule e.rule) (spot (goal e.goal) told)) (sym (is ∙ same_told (goal e.goal) f)) (key_many f (rule e.rule) (goal e.goal) f.value refl);
-  in_order = λ m c h s filled w. key_in_order goal rule m c h s filled w;
-  reads = λ e f nothing. ap (λ (told : MapReply). edit_there (rule e.rule) (spot (goal e.goal) told)) (same_told (goal e.goal) f) ∙ key_reads f (rule e.rule) (goal e.goal) f.value refl nothing;
-  changes = λ e f needed. ap (λ (told : MapReply). edit_there (rule e.rule) (spot (goal e.goal) told)) (same_told (goal e.goal) f) ∙ key_changes f (rule e.rule) (goal e.goal) f.value refl needed;
-}
+-- its edit is of the key of which the leaf tells what the call replies
+pub edit_at_found : (e : KeyEdit Goal Rule) (f : Found) → edit_key (edit_means.edit e f) ≡ asked_key e.goal f.key
+edit_at_found e f = at_goal (leaves e.rule) (asked_key e.goal f.key)
+
+-- it makes as many steps as its call may
+pub edit_steps : {G R : Type 0} (goal : G → Goal) (rule : R → Rule) (e : KeyEdit G R) (tries nodes : ℕ) → tries * try_left (key_means goal rule) e nodes ≡ most_steps (Edit (goal e.goal) (rule e.rule)) tries nodes
+edit_steps goal rule e tries nodes = ap (λ (k : ℕ). tries * k) (steps_by (leaves (rule e.rule)) nodes)
+
+module _ (e : KeyEdit Goal Rule) (f : Found) where
+  -- it needs no more nodes than its call may on a map that replies what its leaf tells
+  pub edit_needs : (map : List Pair) → reply (Edit e.goal e.rule) map ≡ leaf_told e.goal f → many_nodes (edit_means.needs e f) ≤ need (Edit e.goal e.rule) map
+  edit_needs map is = subst (λ (told : MapReply). many_nodes (edit_means.needs e f) ≤ nodes_there e.rule (spot e.goal told)) (sym (is ∙ same_told e.goal f)) (key_many f e.rule e.goal f.value refl)
+
+  made_by : edit_of (Edit e.goal e.rule) (leaf_told e.goal f) ≡ edit_there e.rule (spot e.goal (told_by e.goal f.key f.value))
+  made_by = ap (λ (told : MapReply). edit_there e.rule (spot e.goal told)) (same_told e.goal f)
+
+  -- where it needs none it is a reading
+  pub edit_reads : edit_means.needs e f ≡ Nothing → edit_of (Edit e.goal e.rule) (leaf_told e.goal f) ≡ None
+  edit_reads nothing = made_by ∙ key_reads f e.rule e.goal f.value refl nothing
+
+  -- and else it makes its edit
+  pub edit_changes : edit_means.needs e f ≢ Nothing → edit_of (Edit e.goal e.rule) (leaf_told e.goal f) ≡ Some (edit_means.edit e f)
+  edit_changes needed = made_by ∙ key_changes f e.rule e.goal f.value refl needed
 
 -- A kind of ordered read is one that a call of the map makes, which only reads.
 pub record IsReadKind (k : ReadKind) : Type 0 where
@@ -253,78 +226,14 @@ range_is = record {
   refuses = λ c h call share tries a. tt;
 }
 
--- the kind of an update or an ordered read that runs inside is such a one
+-- the kind of an ordered read that runs inside is such a one
 abbrev pub IsOfKind : InnerRun → Type 0
-IsOfKind (Update k m) = IsEditKind k
-IsOfKind (Get m share) = Unit {0}
 IsOfKind (Read k m share) = IsReadKind k
+IsOfKind _ = Unit {0}
 
 -- each that runs inside is
 pub is_of_kind : (m : MapRun) → IsOfKind (inner m)
-is_of_kind (runs.Insert m) = key_is at_key put
-is_of_kind (runs.Delete m) = key_is at_key take
-is_of_kind (runs.PopFirst m) = key_is at_least take
-is_of_kind (runs.ReplaceIf m) = key_is at_key swap
-is_of_kind (runs.Get m share) = tt
+is_of_kind (runs.Edit m) = tt
+is_of_kind (runs.Get key walk share) = tt
 is_of_kind (runs.Successor m share) = successor_is
 is_of_kind (runs.Range m share) = range_is
-
--- the machines of inserts are around their updates
-pub around_insert : IsAround (key_kind at_key put) (λ m. runs.Insert m)
-around_insert = record {
-  is_call = λ m. refl;
-  is_share = λ m. refl;
-  is_behind = λ m. refl;
-  unbegun = λ m tries call x. x;
-  goes_inside = λ m tries c x. x;
-  goes = λ m tries c x. x;
-  ready = λ m c h got x. x;
-  waits_inside = λ m c h s x. x;
-  waits = λ m c h s x. x;
-  answers = λ m tries c h reply x. x;
-}
-
--- of deletes
-pub around_delete : IsAround (key_kind at_key take) (λ m. runs.Delete m)
-around_delete = record {
-  is_call = λ m. refl;
-  is_share = λ m. refl;
-  is_behind = λ m. refl;
-  unbegun = λ m tries call x. x;
-  goes_inside = λ m tries c x. x;
-  goes = λ m tries c x. x;
-  ready = λ m c h got x. x;
-  waits_inside = λ m c h s x. x;
-  waits = λ m c h s x. x;
-  answers = λ m tries c h reply x. x;
-}
-
--- of pops
-pub around_pop : IsAround (key_kind at_least take) (λ m. runs.PopFirst m)
-around_pop = record {
-  is_call = λ m. refl;
-  is_share = λ m. refl;
-  is_behind = λ m. refl;
-  unbegun = λ m tries call x. x;
-  goes_inside = λ m tries c x. x;
-  goes = λ m tries c x. x;
-  ready = λ m c h got x. x;
-  waits_inside = λ m c h s x. x;
-  waits = λ m c h s x. x;
-  answers = λ m tries c h reply x. x;
-}
-
--- and of replacements
-pub around_replace : IsAround (key_kind at_key swap) (λ m. runs.ReplaceIf m)
-around_replace = record {
-  is_call = λ m. refl;
-  is_share = λ m. refl;
-  is_behind = λ m. refl;
-  unbegun = λ m tries call x. x;
-  goes_inside = λ m tries c x. x;
-  goes = λ m tries c x. x;
-  ready = λ m c h got x. x;
-  waits_inside = λ m c h s x. x;
-  waits = λ m c h s x. x;
-  answers = λ m tries c h reply x. x;
-}

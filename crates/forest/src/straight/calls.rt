@@ -2,7 +2,7 @@
 ghost use Rattle.std.specs.Prelude.{◌≡◌, ◌≤◌, ◌<◌, ◌+◌, ◌-◌, ◌*◌, ℕ, []};
 ghost use Rattle.arena.specs.Machines.{Call};
 ghost use Rattle.arena.specs.Share.{Remaining};
-ghost use Rattle.dict.specs.Calls.{AsksForPairs, IsSmallCall};
+ghost use Rattle.dict.specs.Calls.{AsksForPairs, IsSmallCall, edit_call};
 ghost use Rattle.dict.specs.Says.{KeepsLists};
 ghost use Rattle.ordered_map.specs.CallRules.{most_steps};
 ghost use Rattle.ordered_map.specs.Requests.{as_map_call};
@@ -20,41 +20,40 @@ use crate::straight::{ordered_read, update};
 use crate::view::SeatView;
 use arena::Share;
 use atomic_table::Seat;
-use dict::{
-    Dict, DictRun, EditCall, Reply, Request, WordKey, WordValue, of_range, of_successor, of_update,
-};
+use dict::{Dict, DictRun, Reply, Request, WordKey, WordValue, of_range, of_successor, of_update};
 use order::{Range, RangeRun, Successor};
 use std::alloc::Global;
+use tree::{EditGoal, EditRule, KeyEdit};
 
 /// The most forks that there are as a rule from the root to a leaf.
 const DEEP: usize = 32;
 
 /// Makes an edit with so many tries and this share, and tells what is left of that.
 #[inline(always)]
-pub(crate) fn make<K: WordKey, V: WordValue, E: EditCall>(
+pub(crate) fn make<K: WordKey, V: WordValue, G: EditGoal, R: EditRule>(
     hand: Hand<Dict<K, V>>,
     seat: &mut Seat<u8, SeatView>,
     share: Share,
     tries: u32,
-    edit: E,
+    edit: KeyEdit<G, R>,
 ) -> (Reply<K, V>, Share)
     requires table { IsAt hand seat.old }
     requires tries { 0 < tries }
-    requires small { IsSmallCall (E.call edit) }
+    requires small { IsSmallCall (edit_call G.goal R.rule edit) }
     requires begins { (c : Call) × IsCallOf hand c
         × SeatCallBegins K.is_valid K.word_of V.is_valid V.word_of c
-        seat.old.me.0.passes (E.call edit) share tries hand.number }
+        seat.old.me.0.passes (edit_call G.goal R.rule edit) share tries hand.number }
     ensures table { StaysAtTable seat.old seat.new }
     ensures ends { (c : Call) → IsCallOf hand.entry c
         → SeatCallBegins K.is_valid K.word_of V.is_valid V.word_of c
-        seat.old.me.0.passes (E.call edit) share tries hand.entry.number
+        seat.old.me.0.passes (edit_call G.goal R.rule edit) share tries hand.entry.number
         → CallHasEnded K.is_valid K.word_of V.is_valid V.word_of c seat.new.me.0.passes
-        (E.call edit) share tries hand.entry.number result.1 result.0 }
-    ensures steps { steps_made seat.new ≤ steps_made seat.old + most_steps (E.call edit) tries
+        (edit_call G.goal R.rule edit) share tries hand.entry.number result.1 result.0 }
+    ensures steps { steps_made seat.new ≤ steps_made seat.old + most_steps (edit_call G.goal R.rule edit) tries
         (shared_nodes hand.entry.layout.now) }
 {
-    let goal = edit.goal();
-    let (updated, share) = update::make::<Dict<K, V>, DictRun<K, V>, E>(
+    let goal = edit.goal.goal();
+    let (updated, share) = update::make::<Dict<K, V>, DictRun<K, V>, KeyEdit<G, R>>(
         hand, seat, edit, share, tries,
     );
     (of_update(goal, updated), share)

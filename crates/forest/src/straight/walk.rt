@@ -12,7 +12,7 @@ ghost use Rattle.order.specs.Steps.{last_turn};
 ghost use Rattle.prims.specs.Llx.Known.{load};
 ghost use Rattle.template.specs.FoundLeaf.{asked_key, path_key};
 ghost use Rattle.template.specs.declared.walk.WalkRun.{WalkRun};
-ghost use Rattle.template.specs.Walk.Known.{asks_key};
+ghost use Rattle.template.specs.Walk.Known.{asks_key, goal_slot, open_side};
 ghost use Rattle.template.specs.Walk.Places.{walk_at, LoadsHead};
 
 use crate::straight::hand::Hand;
@@ -22,7 +22,7 @@ use arena::{
     Access, Head, Kind, Machine, NodeNo, NodeWord, SettledPart, Shape, Side, Slot, Step, Word,
 };
 use atomic_table::Seat;
-use ordered_map::{slot_behind, wide_value};
+use ordered_map::{end_slot, slot_behind, wide_value};
 use template::{Found, Goal, Trail, WalkAt};
 
 /// Loads a word of a node that begins there.
@@ -59,7 +59,8 @@ fn side_of(goal: Goal, key: u64) -> Side
 {
     let wanted = match goal {
         Goal::Key(wanted) => wanted,
-        Goal::Least => 0,
+        Goal::End(Side::Left) => 0,
+        Goal::End(Side::Right) => u64::MAX,
     };
     if wanted < key {
         Side::Left
@@ -84,7 +85,29 @@ fn asks_key(goal: Goal, word: u64) -> bool
 {
     match goal {
         Goal::Key(_) => word % 4 == 0,
-        Goal::Least => false,
+        Goal::End(_) => false,
+    }
+}
+
+/// On which side of a fork with the head in this word the walk goes on without its key.
+#[inline(always)]
+fn open_side(goal: Goal, word: u64) -> Side
+    ensures { result ≡ open_side goal (head_of word) }
+{
+    match goal {
+        Goal::Key(_) => Side::Left,
+        Goal::End(side) => { if word % 4 == 0 { side } else { Side::Left } }
+    }
+}
+
+/// The slot in which the walk begins at a leaf that has so many pairs behind its first.
+#[inline(always)]
+fn first_slot(goal: Goal, more: u64) -> Slot
+    ensures { result ≡ goal_slot goal more }
+{
+    match goal {
+        Goal::Key(_) => Slot::First,
+        Goal::End(side) => end_slot(side, more),
     }
 }
 
@@ -95,7 +118,7 @@ fn asked_key(goal: Goal, key: u64) -> u64
 {
     match goal {
         Goal::Key(wanted) => wanted,
-        Goal::Least => key,
+        Goal::End(_) => key,
     }
 }
 
@@ -162,7 +185,7 @@ fn end_among<S: Shape, M: Machine<S>>(
         → WalkerIsTold w seat.old.me.0.passes (walk_at goal trail (WalkAt.More head)) turn more
         → WalkerFinds w seat.new.me.0.passes goal turn result }
 {
-    let mut slot = Slot::First;
+    let mut slot = first_slot(goal, more);
     loop {
         let (kind, part) = (Kind::LoadSettled, NodeWord::Settled(SettledPart::Key(slot)));
         let key = read::<S, M>(hand, seat, kind, trail.node, start, part);
@@ -263,7 +286,7 @@ fn pass<S: Shape, M: Machine<S>>(
         let key = read::<S, M>(hand, seat, kind, trail.node, start, part);
         return Ok(side_of(goal, key));
     }
-    Ok(Side::Left)
+    Ok(open_side(goal, word))
 }
 
 /// The last fork where a walk has turned left, which was `turn` before it went on to this side of

@@ -9,6 +9,8 @@ use Rattle.arena.specs.declared.step.Kind.TheVariants.{LoadSettled, LoadChild}
 use Rattle.arena.specs.declared.word.NodeWord.{NodeWord}
 use Rattle.arena.specs.declared.word.NodeWord.TheVariants.{Settled, Child as ChildWord}
 use Rattle.arena.specs.declared.word.SettledPart.TheVariants.{Head as HeadWord, More as MoreWord, Key as KeyWord, Value as ValueWord, High as HighWord}
+use Rattle.arena.specs.declared.word.Side.{Side}
+use Rattle.arena.specs.declared.word.Side.TheVariants.{Left}
 use Rattle.arena.specs.declared.word.Slot.{Slot}
 use Rattle.arena.specs.declared.word.Slot.TheVariants.{First}
 use Rattle.arena.specs.declared.word.Word.{Word}
@@ -17,8 +19,9 @@ use Rattle.arena.specs.Words.{node, first_key}
 use Rattle.arena.specs.History.{History, value, Extends}
 use Rattle.arena.specs.Machines.{Call, MatchTurn}
 use Rattle.prims.specs.Llx.Known.{load}
-use Rattle.ordered_map.specs.Holding.{held_pairs, held_from}
+use Rattle.ordered_map.specs.Holding.{end_slot, held_pairs, held_from}
 use Rattle.ordered_map.specs.OrderedMap.{get}
+use Rattle.ordered_map.specs.Paths.{end_turn}
 use Rattle.ordered_map.specs.Runs.{IsTreeRun}
 use Rattle.ordered_map.specs.TreeWords.{is_leaf, level, toward}
 use Rattle.template.specs.FoundLeaf.{path_key, asked_key, HasFoundGoal}
@@ -26,7 +29,7 @@ use Rattle.template.specs.Trails.{OnTrail, IsOwnMoment}
 use Rattle.template.specs.declared.walk.Trail.{Trail}
 use Rattle.template.specs.declared.walk.Found.{Found}
 use Rattle.ordered_map.specs.declared.rule.Goal.{Goal}
-use Rattle.ordered_map.specs.declared.rule.Goal.TheVariants.{Key as ToKey, Least}
+use Rattle.ordered_map.specs.declared.rule.Goal.TheVariants.{Key as ToKey, End}
 use Rattle.template.specs.declared.walk.WalkRun.{WalkRun}
 use Rattle.template.specs.declared.walk.WalkAt.{WalkAt}
 use Rattle.template.specs.declared.walk.WalkAt.TheVariants.{Start, Root, Head, Key, Child, More, Pair, Value, High}
@@ -35,10 +38,20 @@ use Rattle.template.specs.declared.walk.WalkAt.TheVariants.{Start, Root, Head, K
 abbrev pub here : History → WalkRun → NodeWord → ℕ
 here h m part = value h (node m.trail.node.0 part)
 
--- whether a walk loads the key of a fork with this head: not where it always goes left
+-- whether a walk loads the key of a fork with this head: not on its way to an end
 abbrev pub asks_key : Goal → HeadParts → Bool
 asks_key (ToKey k) head = head.class == 0
-asks_key Least head = false
+asks_key (End side) head = false
+
+-- where a walk goes at a fork with this head of which it loads no key
+abbrev pub open_side : Goal → HeadParts → Side
+open_side (ToKey k) head = Left
+open_side (End side) head = end_turn side head.class
+
+-- the slot in which it begins at a leaf that has so many pairs behind its first
+abbrev pub goal_slot : Goal → ℕ → Slot
+goal_slot (ToKey k) more = First
+goal_slot (End side) more = end_slot side more
 
 -- a walk to this goal that has come by this trail stands at a leaf of class 0 that has this head
 pub record WalkStandsAtLeaf (c : Call) (h : History) (goal : Goal) (t : Trail) (parts : HeadParts) : Type 0 where
@@ -48,10 +61,10 @@ pub record WalkStandsAtLeaf (c : Call) (h : History) (goal : Goal) (t : Trail) (
   pub leaf : parts.leaf ≡ true
 
 -- what a walk to this goal looks for in the leaf n stands in this slot, or behind it, if the leaf has
--- it: it looks for its key, or for the first pair
+-- it: it looks for its key, or for the pair at an end
 abbrev pub IsSlotFor : Goal → (Word → ℕ) → ℕ → Slot → Type 0
 IsSlotFor (ToKey k) f n slot = get k (held_pairs f n) ≡ get k (held_from f n slot)
-IsSlotFor Least f n slot = slot ≡ First
+IsSlotFor (End side) f n slot = slot ≡ end_slot side (f (node n (Settled MoreWord)))
 
 -- what holds while a walk waits at this place
 abbrev pub WalkKnows : Call → History → WalkRun → WalkAt → Type 0

@@ -22,6 +22,7 @@ use Rattle.arena.specs.TakenNodes.{taken_nodes}
 use Rattle.histories.proofs.Lemmas.{node_stays}
 use Rattle.prims.specs.Llx.Known.{load}
 use Rattle.prims.specs.Llx.Laws.{load_lawful, load_told}
+use Rattle.ordered_map.specs.Holding.{end_slot}
 use Rattle.ordered_map.specs.OrderedMap.{get}
 use Rattle.ordered_map.specs.Paths.{Passed}
 use Rattle.ordered_map.specs.Runs.{IsTreeRun}
@@ -35,7 +36,7 @@ use Rattle.template.specs.declared.walk.WalkRun.{WalkRun}
 use Rattle.template.specs.declared.walk.WalkAt.{WalkAt}
 use Rattle.template.specs.declared.walk.WalkAt.TheVariants.{Start, Root, Head, Key, Child, More, Pair, Value, High}
 use Rattle.ordered_map.specs.declared.rule.Goal.{Goal}
-use Rattle.ordered_map.specs.declared.rule.Goal.TheVariants.{Key as ToKey, Least}
+use Rattle.ordered_map.specs.declared.rule.Goal.TheVariants.{Key as ToKey, End}
 use Rattle.template.specs.Walk.Known.{WalkStandsAtLeaf, IsSlotFor, WalkKnows, walk_part, walk_kind, walk_step, WalkWaits, WalkIsReady, here}
 use Rattle.template.specs.Walk.Steps.{WalkFitsAt, WalkFits}
 
@@ -80,7 +81,7 @@ module _ (c : Call) (h : History) (r : Row) (g : IsTreeRun c.layout h) (run : Is
 
   slot_more : (goal : Goal) (n : ℕ) (slot : Slot) → SameSettled (value h) (value (r ⊳ h)) n → IsSlotFor goal (value h) n slot → IsSlotFor goal (value (r ⊳ h)) n slot
   slot_more (ToKey k) n slot same x = ap (get k) (held_same (value h) (value (r ⊳ h)) n same) ∙ x ∙ ap (get k) (sym (same_from (value h) (value (r ⊳ h)) n slot same))
-  slot_more Least n slot same x = x
+  slot_more (End side) n slot same x = x ∙ ap (end_slot side) (sym (same (Settled MoreWord) tt))
 
   -- what a walk knows at its place stays so
   pub walk_known_more : (m : WalkRun) (at : WalkAt) → WalkKnows c h m at → WalkKnows c (r ⊳ h) m at

@@ -4,40 +4,37 @@ use Rattle.std.proofs.Common.{◌≡◌, ℕ, ◌<◌, ◌≤◌, Bool, true, fa
 use Rattle.ordered_map.specs.CallRules.{nodes_in_try}
 use Rattle.ordered_map.specs.OrderedMap.{applies, leaves}
 use Rattle.ordered_map.specs.declared.rule.Goal.{Goal}
-use Rattle.ordered_map.specs.declared.rule.Goal.TheVariants.{Key, Least}
+use Rattle.ordered_map.specs.declared.rule.Goal.TheVariants.{Key, End}
 use Rattle.ordered_map.specs.declared.rule.Rule.{Rule}
 use Rattle.template.specs.FoundLeaf.{asked_key}
 use Rattle.template.specs.declared.walk.Found.{Found}
-use Rattle.tree.specs.KeyEdit.Means.{key_at, key_means, leaving, needs_leaving, part, putting, taking, wants}
+use Rattle.tree.specs.KeyEdit.Means.{doing, key_at, key_means, leaving, part, putting, taking, wants}
 use Rattle.tree.specs.Put.Laws.{put_bounds}
-use Rattle.tree.specs.Put.Means.{has_room, need_by}
+use Rattle.tree.specs.Put.Means.{has_room, need_by, put_means}
 use Rattle.tree.specs.Take.Laws.{take_bounds}
-use Rattle.tree.specs.Take.Means.{take_need}
+use Rattle.tree.specs.Take.Means.{take_means, take_need}
 use Rattle.edits.specs.declared.edit.Need.{Need}
 use Rattle.edits.specs.declared.edit.Need.TheVariants.{Nothing}
 use Rattle.edits.specs.declared.edit.Nth.{Nth}
 use Rattle.edits.specs.declared.piece.Piece.{Piece}
-use Rattle.edits.specs.Edits.{EditBounds}
+use Rattle.edits.specs.Edits.{EditBounds, EditMeaning, through}
 use Rattle.edits.specs.Pieces.{all_fills, many_nodes}
+
+-- what does at each of its keys what another edit does has its bounds: `of` is the other one there
+bounds_through : {E F : Type 0} (m : EditMeaning E) (of : F → E) → EditBounds m → EditBounds (through m of)
+bounds_through m of b = record {
+  few_looks = λ e. b.few_looks (of e);
+  small = λ e. b.small (of e);
+  few_nodes = λ e. b.few_nodes (of e);
+  some_nodes = λ e. b.some_nodes (of e);
+  few_reads = λ e. b.few_reads (of e);
+  few_fills = λ e. b.few_fills (of e);
+}
 
 -- what leaves this to a key
 pub leaving_bounds : (left : Option ℕ) → EditBounds (leaving left)
-leaving_bounds (Some value) = record {
-  few_looks = λ key f snaps n at. put_bounds.few_looks (putting key value) f snaps n at;
-  small = λ key. put_bounds.small (putting key value);
-  few_nodes = λ key f. put_bounds.few_nodes (putting key value) f;
-  some_nodes = λ key. put_bounds.some_nodes (putting key value);
-  few_reads = λ key f snaps x is. put_bounds.few_reads (putting key value) f snaps x is;
-  few_fills = λ key f snaps ns read. put_bounds.few_fills (putting key value) f snaps ns read;
-}
-leaving_bounds None = record {
-  few_looks = λ key f snaps n at. take_bounds.few_looks (taking key) f snaps n at;
-  small = λ key. take_bounds.small (taking key);
-  few_nodes = λ key f. take_bounds.few_nodes (taking key) f;
-  some_nodes = λ key. take_bounds.some_nodes (taking key);
-  few_reads = λ key f snaps x is. take_bounds.few_reads (taking key) f snaps x is;
-  few_fills = λ key f snaps ns read. take_bounds.few_fills (taking key) f snaps ns read;
-}
+leaving_bounds (Some value) = bounds_through put_means (λ key. putting key value) put_bounds
+leaving_bounds None = bounds_through take_means taking take_bounds
 
 -- a try takes some node
 some_nodes : (b : Bool) → 0 < cond b 3 (let one : ℕ = 1 in one)
@@ -45,24 +42,24 @@ some_nodes true = omega arith
 some_nodes false = omega arith
 
 -- where there is a value one is enough
-one_needed : (left : Option ℕ) (key value : ℕ) (f : Found) → f.value ≡ Some value → many_nodes (needs_leaving left key f) ≤ 1
+one_needed : (left : Option ℕ) (key value : ℕ) (f : Found) → f.value ≡ Some value → many_nodes ((doing left).needs key f) ≤ 1
 one_needed None key value f is = subst (λ (o : Option ℕ). many_nodes (take_need o) ≤ 1) (sym is) (omega arith)
 one_needed (Some v) key value f is = subst (λ (o : Option ℕ). many_nodes (need_by o (has_room f)) ≤ 1) (sym is) (omega arith)
 
-few_nodes : (rule : Rule) (left : Option ℕ) (key : ℕ) (f : Found) (value : Option ℕ) → f.value ≡ value → (b : Bool) → (b ≡ true → value ≡ None → applies rule None ≡ true) → many_nodes (cond b (needs_leaving left key f) Nothing) ≤ nodes_in_try rule
+few_nodes : (rule : Rule) (left : Option ℕ) (key : ℕ) (f : Found) (value : Option ℕ) → f.value ≡ value → (b : Bool) → (b ≡ true → value ≡ None → applies rule None ≡ true) → many_nodes (cond b ((doing left).needs key f) Nothing) ≤ nodes_in_try rule
 few_nodes rule left key f value is false absent = omega arith
 few_nodes rule left key f (Some v) is true absent = let few = one_needed left key v f is in let some = some_nodes (applies rule None) in omega (arith, few, some)
-few_nodes rule left key f None is true absent = subst (λ (b : Bool). many_nodes (needs_leaving left key f) ≤ cond b 3 1) (sym (absent refl refl)) (three left)
+few_nodes rule left key f None is true absent = subst (λ (b : Bool). many_nodes ((doing left).needs key f) ≤ cond b 3 1) (sym (absent refl refl)) (three left)
   where
-    three : (left : Option ℕ) → many_nodes (needs_leaving left key f) ≤ 3
+    three : (left : Option ℕ) → many_nodes ((doing left).needs key f) ≤ 3
     three (Some v) = put_bounds.few_nodes (putting key v) f
     three None = let few = take_bounds.few_nodes (taking key) f in omega (arith, few)
 
 -- and where there is none it puts in what was absent
 wants_absent : (goal : Goal) (rule : Rule) (value : Option ℕ) → wants goal rule value ≡ true → value ≡ None → applies rule None ≡ true
 wants_absent (Key k) rule value wanted is = subst (λ (o : Option ℕ). applies rule o ≡ true) is wanted
-wants_absent Least rule None wanted is = cc
-wants_absent Least rule (Some v) wanted is = cc
+wants_absent (End side) rule None wanted is = cc
+wants_absent (End side) rule (Some v) wanted is = cc
 
 -- where it does nothing it fills no more
 fewer_fills : (b : Bool) (need : Need) (pieces : Nth → Piece) (n : ℕ) → all_fills need pieces ≤ n → all_fills (cond b need Nothing) pieces ≤ n

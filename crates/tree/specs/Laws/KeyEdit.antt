@@ -3,7 +3,7 @@
 use Rattle.std.proofs.Common.{◌≡◌, ◌≢◌, ℕ, ◌^◌, ◌<◌, Bool, true, false, cond, List, Option, Some, None, refl, sym, ◌∙◌, ap, subst}
 use Rattle.arena.specs.History.{History, value}
 use Rattle.arena.specs.Machines.{Call}
-use Rattle.arena.specs.Words.{node, first_key}
+use Rattle.arena.specs.declared.word.Side.{Side}
 use Rattle.prims.specs.Snap.{snap_at}
 use Rattle.prims.specs.declared.snap.Snap.{Snap}
 use Rattle.prims.specs.declared.update.Update.{Update}
@@ -11,10 +11,10 @@ use Rattle.ordered_map.specs.OrderedMap.{edit_key, edit_to, leaves, value_left}
 use Rattle.ordered_map.specs.Runs.{IsTreeRun}
 use Rattle.ordered_map.specs.TreeWords.{class}
 use Rattle.ordered_map.specs.declared.rule.Goal.{Goal}
-use Rattle.ordered_map.specs.declared.rule.Goal.TheVariants.{Key, Least}
+use Rattle.ordered_map.specs.declared.rule.Goal.TheVariants.{Key, End}
 use Rattle.ordered_map.specs.declared.rule.Rule.{Rule}
 use Rattle.ordered_map.proofs.Lemmas.{run_since}
-use Rattle.template.specs.FoundLeaf.{HasFoundGoal, asked_key, path_key}
+use Rattle.template.specs.FoundLeaf.{HasFoundGoal, asked_key, asked_in, path_key}
 use Rattle.template.specs.declared.walk.Found.{Found}
 use Rattle.template.proofs.Lemmas.{found_own, found_small, said_low}
 use Rattle.tree.specs.declared.key_edit.KeyEdit.{KeyEdit}
@@ -29,76 +29,28 @@ use Rattle.edits.specs.declared.edit.Need.{Need}
 use Rattle.edits.specs.declared.edit.Need.TheVariants.{Nothing}
 use Rattle.edits.specs.declared.edit.Nodes.{Nodes}
 use Rattle.edits.specs.declared.reading.Reading.{Reading}
-use Rattle.edits.specs.Edits.{EditMeaning}
+use Rattle.edits.specs.Edits.{EditBounds, EditMeaning, through}
 use Rattle.edits.specs.Known.{HasFilledAll, HasLooked, HasSnappedAfterWalk, IsNeeded, IsUpdateFor, StandInRow}
 use Rattle.edits.specs.Pieces.{top_of}
 use Rattle.edits.specs.Sound.{EditLaws, FillsWell, LooksWell, MakesWell}
 
 -- At a key
 
--- an edit that does at each of its keys what another one does has its laws: `of` is the other one
--- there
-module _ {E F : Type 0} (m : EditMeaning E) (of : F → E) where
-  abbrev pub through : EditMeaning F
-  through = record {
-    goal = λ e. m.goal (of e);
-    edit = λ e f. m.edit (of e) f;
-    needs = λ e f. m.needs (of e) f;
-    most_nodes = λ e. m.most_nodes (of e);
-    side = λ e f. m.side (of e) f;
-    looks = λ e f snaps. m.looks (of e) f snaps;
-    most_looks = λ e. m.most_looks (of e);
-    reads = λ e f snaps. m.reads (of e) f snaps;
-    most_reads = λ e. m.most_reads (of e);
-    pieces = λ e f snaps ns read nth. m.pieces (of e) f snaps ns read nth;
-    most_fills = λ e. m.most_fills (of e);
-  }
+-- what does at each of its keys what another edit does has its laws: `of` is the other one there
+module _ {E F : Type 0} (m : EditMeaning E) (of : F → E) (laws : EditLaws m) where
+  looks_through : LooksWell (through m of)
+  looks_through = record { opens = λ e. laws.looks.opens (of e); stood = λ e. laws.looks.stood (of e); differs = λ e. laws.looks.differs (of e); reads = λ e. laws.looks.reads (of e) }
 
-  looked : (c : Call) (h : History) (e : F) (f : Found) (snaps : List Snap) → HasLooked through c h e f snaps → HasLooked m c h (of e) f snaps
-  looked c h e f snaps x = record { small = x.small; found = x.found; usable = x.usable; seen = x.seen }
+  makes_through : MakesWell (through m of)
+  makes_through = record { some = λ e. laws.makes.some (of e); distinct = λ e. laws.makes.distinct (of e); leaf = λ e. laws.makes.leaf (of e); promised = λ e. laws.makes.promised (of e) }
 
-  filled : (c : Call) (h : History) (e : F) (f : Found) (snaps : List Snap) (ns : Nodes) (read : Reading) → HasFilledAll through c h e f snaps ns read → HasFilledAll m c h (of e) f snaps ns read
-  filled c h e f snaps ns read x = record { looked = looked c h e f snaps x.looked; enough = x.enough; in_order = x.in_order; right = x.right; whole = x.whole; holds = x.holds }
-
-  update : (e : F) (f : Found) (snaps : List Snap) (ns : Nodes) (u : Update) → IsUpdateFor through e f snaps ns u → IsUpdateFor m (of e) f snaps ns u
-  update e f snaps ns u x = record { covers = x.covers; plan = x.plan; old = x.old; fresh = x.fresh }
-
-  module _ (laws : EditLaws m) where
-    looks_through : LooksWell through
-    looks_through = record {
-      opens = λ e c h f snaps n run d x at. laws.looks.opens (of e) c h f snaps n run d (looked c h e f snaps x) at;
-      stood = λ e c h f snaps n run d x at. laws.looks.stood (of e) c h f snaps n run d (looked c h e f snaps x) at;
-      differs = λ e c h f snaps n s run d x at quiet. laws.looks.differs (of e) c h f snaps n s run d (looked c h e f snaps x) at quiet;
-      reads = λ e c h f snaps y run d x enough is. laws.looks.reads (of e) c h f snaps y run d (looked c h e f snaps x) enough is;
-    }
-
-    fills_through : FillsWell through
-    fills_through = record { fields = λ e c h f snaps ns read nth side run x enough n p. laws.fills.fields (of e) c h f snaps ns read nth side run (looked c h e f snaps x) enough n p }
-
-    makes_through : MakesWell through
-    makes_through = record {
-      some = λ e f. laws.makes.some (of e) f;
-      distinct = λ e c h f snaps run d x enough. laws.makes.distinct (of e) c h f snaps run d (looked c h e f snaps x) enough;
-      leaf = λ e c h f snaps s run d x enough. laws.makes.leaf (of e) c h f snaps s run d (looked c h e f snaps x) enough;
-      promised = λ e c h f snaps ns read j d run n x is says. laws.makes.promised (of e) c h f snaps ns read j d run n (filled c h e f snaps ns read x) (update e f snaps ns j.update is) says;
-    }
+  laws_through : EditBounds (through m of) → EditLaws (through m of)
+  laws_through bounds = record { at_found = λ e. laws.at_found (of e); bounds = bounds; looks = looks_through; fills = record { fields = λ e. laws.fills.fields (of e) }; makes = makes_through }
 
 -- what leaves this to a key
 pub leaving_laws : (left : Option ℕ) → EditLaws (leaving left)
-leaving_laws (Some value) = record {
-  at_found = λ key f. refl;
-  bounds = leaving_bounds (Some value);
-  looks = looks_through put_means (λ key. putting key value) put_laws;
-  fills = fills_through put_means (λ key. putting key value) put_laws;
-  makes = makes_through put_means (λ key. putting key value) put_laws;
-}
-leaving_laws None = record {
-  at_found = λ key f. refl;
-  bounds = leaving_bounds None;
-  looks = looks_through take_means taking take_laws;
-  fills = fills_through take_means taking take_laws;
-  makes = makes_through take_means taking take_laws;
-}
+leaving_laws (Some value) = laws_through put_means (λ key. putting key value) put_laws (leaving_bounds (Some value))
+leaving_laws None = laws_through take_means taking take_laws (leaving_bounds None)
 
 -- At a goal
 
@@ -111,26 +63,26 @@ pub left_there : (left : Option ℕ) (key : ℕ) → value_left (edit_to key lef
 left_there None key = refl
 left_there (Some value) key = refl
 
--- a rule that changes something at the least pair has found one
-least_there : (rule : Rule) (told : Option ℕ) → wants Least rule told ≡ true → (v : ℕ) × (told ≡ Some v)
-least_there rule None wanted = cc
-least_there rule (Some v) wanted = (v, refl)
+-- a rule that changes something at an end has found a pair
+end_there : (side : Side) (rule : Rule) (told : Option ℕ) → wants (End side) rule told ≡ true → (v : ℕ) × (told ≡ Some v)
+end_there side rule None wanted = cc
+end_there side rule (Some v) wanted = (v, refl)
 
--- so the first leaf has a key
-has_key : (c : Call) (f : Found) (rule : Rule) → wants Least rule f.value ≡ true → (m : History) → HasFoundGoal Least c m f → f.head.class ≡ 0
-has_key c f rule wanted m a =
-    let there : (old : ℕ) × (f.value ≡ Some old) = least_there rule f.value wanted in
-    let low : class (value m) f.trail.node.0 ≡ 0 = said_low (value m) (value m (node f.trail.node.0 first_key)) f.trail.node.0 there.0 (sym there.1 ∙ a.says) in
+-- so the leaf there has a key
+has_key : (side : Side) (c : Call) (f : Found) (rule : Rule) → wants (End side) rule f.value ≡ true → (m : History) → HasFoundGoal (End side) c m f → f.head.class ≡ 0
+has_key side c f rule wanted m a =
+    let there : (old : ℕ) × (f.value ≡ Some old) = end_there side rule f.value wanted in
+    let low : class (value m) f.trail.node.0 ≡ 0 = said_low (value m) (asked_in (End side) (value m) f.trail.node.0) f.trail.node.0 there.0 (sym there.1 ∙ a.says) in
     sym (ap (λ w. w.class) a.head) ∙ low
 
 -- a leaf that was found at a goal is that of its key
 own_found : (goal : Goal) (c : Call) (f : Found) (rule : Rule) → wants goal rule f.value ≡ true → (m : History) → IsTreeRun c.layout m → HasFoundGoal goal c m f → HasFoundGoal (Key (asked_key goal f.key)) c m f
 own_found (Key k) c f rule wanted m run a = a
-own_found Least c f rule wanted m run a = found_own c m f run a (has_key c f rule wanted m a)
+own_found (End side) c f rule wanted m run a = found_own side c m f run a (has_key side c f rule wanted m a)
 
 own_small : (goal : Goal) (c : Call) (f : Found) (h : History) → IsTreeRun c.layout h → path_key goal < 2 ^ 64 → HasFoundGoal goal c h f → asked_key goal f.key < 2 ^ 64
 own_small (Key k) c f h run small found = small
-own_small Least c f h run small found = found_small Least c h f run small found
+own_small (End side) c f h run small found = found_small (End side) c h f run small found
 
 -- what is needed where something is wanted
 abbrev need_if : Bool → Need → Need
@@ -192,7 +144,7 @@ module _ {G R : Type 0} (goal : G → Goal) (rule : R → Rule) where
       holds = λ i n. x.holds i (subst (λ (need : Need). IsNeeded need i) (sym same_need) n);
     }
 
-    own_update : (snaps : List Snap) (ns : Nodes) (u : Update) → IsUpdateFor (key_means goal rule) e f snaps ns u → IsUpdateFor (does e) (at e f) f snaps ns u
+    own_update : (snaps : List Snap) (ns : Nodes) (u : Update) → IsUpdateFor ((key_means goal rule).side e f) ((key_means goal rule).needs e f) snaps ns u → IsUpdateFor ((does e).side (at e f) f) ((does e).needs (at e f) f) snaps ns u
     own_update snaps ns u x = record { covers = x.covers; plan = x.plan; old = x.old; fresh = x.fresh ∙ ap (λ (need : Need). top_of need ns) same_need }
 
   key_looks : LooksWell (key_means goal rule)

@@ -28,11 +28,11 @@ use Rattle.template.specs.declared.walk.Found.{Found}
 use Rattle.ordered_map.specs.declared.rule.Goal.TheVariants.{Key as ToKey}
 use Rattle.template.specs.Blame.{IsContended, WasNotFinal}
 use Rattle.template.proofs.Lemmas.{found_below, found_holds, leaf_edit_words}
-use Rattle.tree.specs.LeafEdit.{HasLookedBy, leaf_looks, leaf_reads}
+use Rattle.tree.specs.LeafEdit.{leaf_looks, leaf_reads}
 use Rattle.tree.specs.Laws.Looks.{same_node, goes_on, not_enough, is_other}
 use Rattle.edits.specs.declared.edit.Look.TheVariants.{At, Differs, Enough}
 use Rattle.edits.specs.declared.reading.Reading.{Reading}
-use Rattle.edits.specs.Known.{HasSnappedAfterWalk, MayRead}
+use Rattle.edits.specs.Known.{HasLookedBy, HasSnappedAfterWalk, MayRead}
 use Rattle.edits.specs.Laws.Contended.{passed_not_final, turned_contended}
 use Rattle.edits.specs.Laws.Opened.{found_named, found_opened, above_opened}
 use Rattle.edits.specs.Pieces.{plan_over}
@@ -48,7 +48,7 @@ looks_at f [] n e = inl (same_node f.trail.parent n e)
 looks_at f (p ∷ []) n e = inr (goes_on ((child_of p f.trail.side).0 == f.trail.node.0) f.trail.node p n e).1
 looks_at f (p ∷ l ∷ snaps) n e = absurd (let d : Enough ≡ At n = e in cc)
 
-module _ (k : ℕ) (c : Call) (h : History) (f : Found) (snaps : List Snap) (run : IsTreeRun c.layout h) (x : HasLookedBy leaf_looks c h k f snaps) where
+module _ (k : ℕ) (c : Call) (h : History) (f : Found) (snaps : List Snap) (run : IsTreeRun c.layout h) (x : HasLookedBy leaf_looks c h (ToKey k) f snaps) where
   pub leaf_opens : (n : NodeNo) → leaf_looks f snaps ≡ At n → IsOpened c.layout h n.0
   leaf_opens n e = go (looks_at f snaps n e)
     where
@@ -65,7 +65,7 @@ module _ (k : ℕ) (c : Call) (h : History) (f : Found) (snaps : List Snap) (run
       go (inr q) = subst (λ (m : NodeNo). WasNotFinal c h m.0) q (passed_not_final c h k f.trail.node.0 run x.found.trail.node)
 
 -- the walk has found the leaf there, and the snapshot came later
-pub leaf_differs : (k : ℕ) (c : Call) (h : History) (f : Found) (snaps : List Snap) (n : NodeNo) (s : ScxNo) → IsTreeRun c.layout h → HasLookedBy leaf_looks c h k f snaps → leaf_looks f snaps ≡ Differs n s → IsQuietSince c.layout c.pass c.start h → IsContended c h n.0 s.0
+pub leaf_differs : (k : ℕ) (c : Call) (h : History) (f : Found) (snaps : List Snap) (n : NodeNo) (s : ScxNo) → IsTreeRun c.layout h → HasLookedBy leaf_looks c h (ToKey k) f snaps → leaf_looks f snaps ≡ Differs n s → IsQuietSince c.layout c.pass c.start h → IsContended c h n.0 s.0
 leaf_differs k c h f [] n s run x e quiet = absurd (let d : At f.trail.parent ≡ Differs n s = e in cc)
 leaf_differs k c h f (p ∷ l ∷ snaps) n s run x e quiet = absurd (let d : Enough ≡ Differs n s = e in cc)
 leaf_differs k c h f (p ∷ []) n s run x e quiet = rw (sym other.1, sym other.2) (turned_contended c h k f p f.trail.side f.trail.node.0 run quiet snapped turned apart)
@@ -115,7 +115,7 @@ leaf_covered e f snaps k s both covers =
     rw (eq-eqb (count k s) 2 two) (covers.members 1 (let few = both.two in omega (arith, few)) ∙ both.leaf)
 
 -- the parent is a fork, and so is not the leaf
-pub leaf_distinct : (k : ℕ) (c : Call) (h : History) (f : Found) (snaps : List Snap) → IsTreeRun c.layout h → HasLookedBy leaf_looks c h k f snaps → leaf_looks f snaps ≡ Enough → AreDistinct snaps
+pub leaf_distinct : (k : ℕ) (c : Call) (h : History) (f : Found) (snaps : List Snap) → IsTreeRun c.layout h → HasLookedBy leaf_looks c h (ToKey k) f snaps → leaf_looks f snaps ≡ Enough → AreDistinct snaps
 leaf_distinct k c h f snaps run x enough i j p q d e = go (two_places i j (rw both.two at p) (rw both.two at q) d)
   where
     both : HasBoth f snaps
@@ -156,7 +156,7 @@ is_leaf_edit f snaps j d n both covers plan old fresh says = leaf_edit_words j d
 
 -- What it reads
 
-module _ (k : ℕ) (c : Call) (h : History) (f : Found) (snaps : List Snap) (run : IsTreeRun c.layout h) (x : HasLookedBy leaf_looks c h k f snaps) (low : f.head.class ≡ 0) where
+module _ (k : ℕ) (c : Call) (h : History) (f : Found) (snaps : List Snap) (run : IsTreeRun c.layout h) (x : HasLookedBy leaf_looks c h (ToKey k) f snaps) (low : f.head.class ≡ 0) where
   abbrev old_leaf : ℕ
   old_leaf = f.trail.node.0
 

@@ -1,5 +1,5 @@
 use Rattle.arena.proofs.Lemmas.{ends_self}
-use Rattle.edits.proofs.Undisturbed.{alone_made, alone_made_first, alone_found, alone_found_first, alone_keeps, alone_reads, never_contended, one_never_contended}
+use Rattle.edits.proofs.Undisturbed.{alone_made, alone_made_end, alone_found, alone_found_end, alone_keeps, alone_reads, never_contended, one_never_contended}
 use Rattle.edits.proofs.alone.alone_holds.Goals as goal
 
 pub returns-clause-made : goal.returns-clause-made
@@ -8,11 +8,11 @@ returns-clause-made f c h edit number old map run alone x spells = alone_made c 
 pub returns-clause-found : goal.returns-clause-found
 returns-clause-found g c h k f map small run alone found none spells = alone_found c h run alone k f map small found none spells
 
-pub returns-clause-made_first : goal.returns-clause-made_first
-returns-clause-made_first g c h edit number old f map run alone made told spells = alone_made_first c h run alone edit number old map made spells f told
+pub returns-clause-made_end : goal.returns-clause-made_end
+returns-clause-made_end g side c h edit number old f map run alone made told spells = alone_made_end c h run alone edit number old map made spells side f told
 
-pub returns-clause-found_first : goal.returns-clause-found_first
-returns-clause-found_first g c h f map run alone found none spells = alone_found_first c h run alone f map found none spells
+pub returns-clause-found_end : goal.returns-clause-found_end
+returns-clause-found_end g side c h f map run alone found none spells = alone_found_end c h run alone side f map found none spells
 
 pub returns-clause-read : goal.returns-clause-read
 returns-clause-read g c h k told map run alone x none spells = alone_reads c h run alone k told map x none spells

@@ -1,4 +1,4 @@
-use Rattle.ordered_map.proofs.Maps.{inserted, insert_keeps, deleted, delete_keeps, edited_rises, same_values, first_is, after_insert, after_delete, after_pop, after_replace, successor_is, between_gives, between_rises}
+use Rattle.ordered_map.proofs.Maps.{inserted, insert_keeps, deleted, delete_keeps, edited_rises, same_values, after_insert, after_delete, after_pop, after_replace, after_insert_new, after_delete_if, successor_is, between_gives, between_rises, end_is, after_take_last}
 use Rattle.ordered_map.proofs.laws.map_laws_hold.Goals as goal
 
 pub returns-clause-inserted : goal.returns-clause-inserted
@@ -19,8 +19,8 @@ returns-clause-rising c = edited_rises
 pub returns-clause-same : goal.returns-clause-same
 returns-clause-same c = same_values
 
-pub returns-clause-first : goal.returns-clause-first
-returns-clause-first c = first_is
+pub returns-clause-ends : goal.returns-clause-ends
+returns-clause-ends c = end_is
 
 pub returns-clause-after_insert : goal.returns-clause-after_insert
 returns-clause-after_insert c = after_insert
@@ -31,8 +31,17 @@ returns-clause-after_delete c = after_delete
 pub returns-clause-after_pop : goal.returns-clause-after_pop
 returns-clause-after_pop c = after_pop
 
+pub returns-clause-after_take_last : goal.returns-clause-after_take_last
+returns-clause-after_take_last c = after_take_last
+
 pub returns-clause-after_replace : goal.returns-clause-after_replace
 returns-clause-after_replace c = after_replace
+
+pub returns-clause-after_insert_new : goal.returns-clause-after_insert_new
+returns-clause-after_insert_new c = after_insert_new
+
+pub returns-clause-after_delete_if : goal.returns-clause-after_delete_if
+returns-clause-after_delete_if c = after_delete_if
 
 pub returns-clause-successor : goal.returns-clause-successor
 returns-clause-successor c = successor_is

@@ -24,7 +24,7 @@ use Rattle.template.specs.Promises.{IsFresh, IsPromised, HasFreshEdit}
 use Rattle.template.specs.declared.walk.Found.{Found}
 use Rattle.ordered_map.specs.declared.rule.Goal.TheVariants.{Key as ToKey}
 use Rattle.template.proofs.Lemmas.{edit_promised, found_blank, found_class, found_level, said_low}
-use Rattle.tree.specs.LeafEdit.{HasLookedBy, leaf_looks, leaf_reads}
+use Rattle.tree.specs.LeafEdit.{leaf_looks, leaf_reads}
 use Rattle.tree.specs.declared.put.PutAt.{PutAt}
 use Rattle.tree.specs.Put.Laws.{put_bounds}
 use Rattle.tree.specs.Put.Means.{put_means, put_need, put_reads, has_room, lower, need_by, pairs_with, pieces_by_need, second_pairs}
@@ -38,7 +38,7 @@ use Rattle.edits.specs.declared.edit.Nth.{Nth}
 use Rattle.edits.specs.declared.edit.Nth.TheVariants.{First, Second, Third}
 use Rattle.edits.specs.declared.piece.Piece.TheVariants.{Leaf}
 use Rattle.edits.specs.declared.reading.Reading.{Reading}
-use Rattle.edits.specs.Known.{ComesBefore, IsNeeded, IsReadWhole, HasLooked, HasFilledAll, HoldsPiece, IsUpdateFor, MayRead, MayReadAt}
+use Rattle.edits.specs.Known.{HasLookedBy, ComesBefore, IsNeeded, IsReadWhole, HasLooked, HasFilledAll, HoldsPiece, IsUpdateFor, MayRead, MayReadAt}
 use Rattle.edits.specs.Laws.PieceFills.{the_same}
 use Rattle.edits.specs.Pairs.{pair_at}
 use Rattle.edits.specs.Pieces.{is_filled, nth_node, word_of, top_of}
@@ -47,23 +47,20 @@ use Rattle.edits.proofs.Lemmas.{IsForkWith, IsLeafWith, fork_with, leaf_with, ta
 
 -- What it looks at, and what it reads
 
-pub looked_of_put : (ed : PutAt) (c : Call) (h : History) (f : Found) (snaps : List Snap) → HasLooked put_means c h ed f snaps → HasLookedBy leaf_looks c h ed.key f snaps
-looked_of_put ed c h f snaps x = record { small = x.small; found = x.found; usable = x.usable; seen = x.seen }
-
 put_reads_well : (ed : PutAt) (c : Call) (h : History) (f : Found) (snaps : List Snap) (y : NodeNo × Reading) → IsTreeRun c.layout h → HasLooked put_means c h ed f snaps → put_reads f ≡ Some y → MayRead c.layout h y.0.0 y.1
 put_reads_well ed c h f snaps y run x e = go (f.head.class == 0) refl e
   where
     go : (b : Bool) → (f.head.class == 0) ≡ b → (if b then Some (leaf_reads f) else None) ≡ Some y → MayRead c.layout h y.0.0 y.1
-    go true t d = subst (λ (z : NodeNo × Reading). MayRead c.layout h z.0.0 z.1) (the_same (leaf_reads f) y d) (leaf_begins ed.key c h f snaps run (looked_of_put ed c h f snaps x) (eqb-true f.head.class 0 t))
+    go true t d = subst (λ (z : NodeNo × Reading). MayRead c.layout h z.0.0 z.1) (the_same (leaf_reads f) y d) (leaf_begins ed.key c h f snaps run x (eqb-true f.head.class 0 t))
     go false t d = absurd (let z : None ≡ Some y = d in cc)
 
 -- an LLX may look at both nodes, which were not final, the leaf may be read, and where the parent
 -- has another child its last SCX-record was in the way
 pub put_look : LooksWell put_means
 put_look = record {
-  opens = λ e c h f snaps n run d x at. leaf_opens e.key c h f snaps run (looked_of_put e c h f snaps x) n at;
-  stood = λ e c h f snaps n run d x at. leaf_stood e.key c h f snaps run (looked_of_put e c h f snaps x) n at;
-  differs = λ e c h f snaps n s run d x at quiet. leaf_differs e.key c h f snaps n s run (looked_of_put e c h f snaps x) at quiet;
+  opens = λ e c h f snaps n run d x at. leaf_opens e.key c h f snaps run x n at;
+  stood = λ e c h f snaps n run d x at. leaf_stood e.key c h f snaps run x n at;
+  differs = λ e c h f snaps n s run d x at quiet. leaf_differs e.key c h f snaps n s run x at quiet;
   reads = λ e c h f snaps y run d x enough is. put_reads_well e c h f snaps y run x is;
 }
 
@@ -87,8 +84,8 @@ lower_is : (deep : ℕ) → deep + 1 < 2 ^ 61 → lower deep ≡ deep + 1
 lower_is deep fits = omega (arith, fits)
 
 module _ (ed : PutAt) (c : Call) (h : History) (f : Found) (snaps : List Snap) (ns : Nodes) (read : Reading) (run : IsTreeRun c.layout h) (x : HasFilledAll put_means c h ed f snaps ns read) where
-  looked : HasLookedBy leaf_looks c h ed.key f snaps
-  looked = looked_of_put ed c h f snaps x.looked
+  looked : HasLookedBy leaf_looks c h (ToKey ed.key) f snaps
+  looked = x.looked
 
   abbrev found : HasFoundLeaf c h ed.key f
   found = x.looked.found
@@ -222,7 +219,8 @@ module _ (ed : PutAt) (c : Call) (h : History) (f : Found) (snaps : List Snap) (
       items = (λ i. (x_items i) ++ (y_items i)) ∙ both_parts all ∙ is ∙ ap (insert ed.key ed.value) (sym (low_items (value h) old_leaf (was low)));
       before = subst (λ n. AllBelow n (leaf_items (value h) x_node)) (sym at_third) (subst (AllBelow (pair_at (drop 2 all) 0).key) (sym x_items) apart.0);
       behind = subst (λ n. AllFrom n (leaf_items (value h) y_node)) (sym at_third) (subst (AllFrom (pair_at (drop 2 all) 0).key) (sym y_items) apart.1);
-      above = λ high. absurd (high (fork.class ∙ low));
+      same_class = fork.class ∙ sym same_class;
+      key = λ high. absurd (high (fork.class ∙ low));
       deep = fork.level ∙ sym level_is;
       low = xs.level ∙ ap (λ m. m + 1) (sym fork.level);
       high = ys.level ∙ ap (λ m. m + 1) (sym fork.level);
@@ -286,7 +284,8 @@ module _ (ed : PutAt) (c : Call) (h : History) (f : Found) (snaps : List Snap) (
       items = (λ i. (x_items i) ++ (y_items i)) ∙ sym (put_before ed.key ed.value (rank (value h) old_leaf) 0 lower_key) ∙ ap (insert ed.key ed.value) (sym (high_items (value h) old_leaf old_high));
       before = subst (AllBelow (rank (value h) fork_node)) (sym x_items) (let a = at_leaf in let b = lower_key in omega (arith, a, b), tt);
       behind = subst (AllFrom (rank (value h) fork_node)) (sym y_items) (let a = at_leaf in omega (arith, a), tt);
-      above = λ _. record { class = fork.class ∙ sym same_class; key = fork_key ∙ sym blank };
+      same_class = fork.class ∙ sym same_class;
+      key = λ _. fork_key ∙ sym blank;
       deep = fork.level ∙ sym level_is;
       low = xs.level ∙ ap (λ m. m + 1) (sym fork.level);
       high = ys.level ∙ ap (λ m. m + 1) (sym fork.level);
@@ -378,7 +377,7 @@ module _ (ed : PutAt) (c : Call) (h : History) (f : Found) (snaps : List Snap) (
       go (yes low) = made_low low f.value refl
       go (no high) = made_high high f.value refl
 
-  put_is_promised : (j : Job) (d : Descriptor) → IsUpdateFor put_means ed f snaps ns j.update → Says d j → IsPromised c.layout c.pass h j.scx.0 d (PutEdit ed.key ed.value)
+  put_is_promised : (j : Job) (d : Descriptor) → IsUpdateFor (put_means.side ed f) (put_means.needs ed f) snaps ns j.update → Says d j → IsPromised c.layout c.pass h j.scx.0 d (PutEdit ed.key ed.value)
   put_is_promised j d is says = edit_promised c h j.scx.0 (PutEdit ed.key ed.value) f d is_made.0 run x.looked.small found
       (is_leaf_edit f snaps j d is_made.0 both is.covers is.plan is.old (is.fresh ∙ is_made.1) says) is_made.2
       (λ e. absurd (let z : Some ed.value ≡ None = e in cc))
@@ -387,7 +386,7 @@ module _ (ed : PutAt) (c : Call) (h : History) (f : Found) (snaps : List Snap) (
 pub put_makes : MakesWell put_means
 put_makes = record {
   some = λ e f d. let z : At f.trail.parent ≡ Enough = d in cc;
-  distinct = λ e c h f snaps run n x enough. leaf_distinct e.key c h f snaps run (looked_of_put e c h f snaps x) enough;
+  distinct = λ e c h f snaps run n x enough. leaf_distinct e.key c h f snaps run x enough;
   leaf = λ e c h f snaps s run n x enough k later since covers. leaf_covered (PutEdit e.key e.value) f snaps k s (has_both f snaps enough x.seen) covers;
   promised = λ e c h f snaps ns read j d run n x is says. put_is_promised e c h f snaps ns read run x j d is says;
 }

@@ -46,7 +46,7 @@ use Rattle.template.specs.declared.walk.Found.{Found}
 use Rattle.ordered_map.specs.declared.rule.Goal.TheVariants.{Key as ToKey}
 use Rattle.template.specs.Blame.{IsContended, WasNotFinal}
 use Rattle.template.proofs.Lemmas.{edit_promised, found_below, found_level, join_promised, said_low, opened_if_stood}
-use Rattle.tree.specs.LeafEdit.{HasLookedBy, leaf_looks, leaf_reads}
+use Rattle.tree.specs.LeafEdit.{leaf_looks, leaf_reads}
 use Rattle.tree.specs.declared.take.TakeAt.{TakeAt}
 use Rattle.tree.specs.Take.Laws.{take_bounds}
 use Rattle.tree.specs.Take.Means.{copied_pairs, copy_with, take_means, take_need, take_looks, take_reads, has_more, join_looks, sibling_of, sibling_copy}
@@ -60,7 +60,7 @@ use Rattle.edits.specs.declared.edit.Nodes.{Nodes}
 use Rattle.edits.specs.declared.edit.Nth.TheVariants.{First}
 use Rattle.edits.specs.declared.piece.Piece.TheVariants.{Leaf, Fork}
 use Rattle.edits.specs.declared.reading.Reading.{Reading}
-use Rattle.edits.specs.Known.{IsNeeded, HasSnappedAfterWalk, HasLooked, HasFilledAll, HoldsPiece, IsUpdateFor, MayRead}
+use Rattle.edits.specs.Known.{HasLookedBy, IsNeeded, HasSnappedAfterWalk, HasLooked, HasFilledAll, HoldsPiece, IsUpdateFor, MayRead}
 use Rattle.edits.specs.Laws.Contended.{passed_not_final, shown_not_final, turned_contended}
 use Rattle.edits.specs.Laws.PieceFills.{HoldsWords, the_same}
 use Rattle.edits.specs.Pairs.{pair_at}
@@ -121,7 +121,7 @@ module _ (ed : TakeAt) (c : Call) (h : History) (f : Found) (run : IsTreeRun c.l
   same_no a b e = ap (λ (n : NodeNo). n.0) (sym e)
 
   -- each node at which it looks stood in the tree
-  looks_stood : (snaps : List Snap) (n : NodeNo) → HasLookedBy join_looks c h ed.key f snaps → join_looks f snaps ≡ At n → WasInTree h n.0
+  looks_stood : (snaps : List Snap) (n : NodeNo) → HasLookedBy join_looks c h (ToKey ed.key) f snaps → join_looks f snaps ≡ At n → WasInTree h n.0
   looks_stood [] n x e = let t = grand_turned h run x.found in subst (λ (k : NodeNo). WasInTree h k.0) (same_node f.trail.grand n e) (was_passed h t.passed.first ed.key f.trail.grand.0 t.passed.passed)
   looks_stood (g ∷ []) n x e =
       let t = parent_turned h run x.found in
@@ -135,7 +135,7 @@ module _ (ed : TakeAt) (c : Call) (h : History) (f : Found) (run : IsTreeRun c.l
   looks_stood (g ∷ p ∷ l ∷ r ∷ snaps) n x e = absurd (let d : Enough ≡ At n = e in cc)
 
   -- and was not final
-  looks_not_final : (snaps : List Snap) (n : NodeNo) → HasLookedBy join_looks c h ed.key f snaps → join_looks f snaps ≡ At n → WasNotFinal c h n.0
+  looks_not_final : (snaps : List Snap) (n : NodeNo) → HasLookedBy join_looks c h (ToKey ed.key) f snaps → join_looks f snaps ≡ At n → WasNotFinal c h n.0
   looks_not_final [] n x e = subst (λ (k : NodeNo). WasNotFinal c h k.0) (same_node f.trail.grand n e) (passed_not_final c h ed.key f.trail.grand.0 run (grand_turned h run x.found).passed)
   looks_not_final (g ∷ []) n x e =
       subst (λ (k : NodeNo). WasNotFinal c h k.0) (goes_on ((child_of g f.trail.grand_side).0 == f.trail.parent.0) f.trail.parent g n e).1
@@ -152,7 +152,7 @@ module _ (ed : TakeAt) (c : Call) (h : History) (f : Found) (run : IsTreeRun c.l
   other_child a b e q = let d : false ≡ true = sym e ∙ eq-eqb a b q in cc
 
   -- where one of the two forks has another child, its last SCX-record was in the way
-  looks_differ : (snaps : List Snap) (n : NodeNo) (s : ScxNo) → HasLookedBy join_looks c h ed.key f snaps → join_looks f snaps ≡ Differs n s → IsQuietSince c.layout c.pass c.start h → IsContended c h n.0 s.0
+  looks_differ : (snaps : List Snap) (n : NodeNo) (s : ScxNo) → HasLookedBy join_looks c h (ToKey ed.key) f snaps → join_looks f snaps ≡ Differs n s → IsQuietSince c.layout c.pass c.start h → IsContended c h n.0 s.0
   looks_differ [] n s x e quiet = absurd (let d : At f.trail.grand ≡ Differs n s = e in cc)
   looks_differ (g ∷ []) n s x e quiet =
       let o = is_other ((child_of g f.trail.grand_side).0 == f.trail.parent.0) f.trail.parent g n s e in
@@ -200,14 +200,14 @@ few_places Left = omega arith
 few_places Right = omega arith
 
 -- a snapshot that is there may be used
-pub usable_at : (ed : TakeAt) (c : Call) (h : History) (f : Found) (snaps : List Snap) (i : ℕ) → i < 4 → HasFour f snaps → HasLookedBy join_looks c h ed.key f snaps → HasSnappedAfterWalk c h (ToKey ed.key) f (snap_at snaps i)
+pub usable_at : (ed : TakeAt) (c : Call) (h : History) (f : Found) (snaps : List Snap) (i : ℕ) → i < 4 → HasFour f snaps → HasLookedBy join_looks c h (ToKey ed.key) f snaps → HasSnappedAfterWalk c h (ToKey ed.key) f (snap_at snaps i)
 usable_at ed c h f snaps i p four x = x.usable i (rw four.four p)
 
-linked_at : (ed : TakeAt) (c : Call) (h : History) (f : Found) (snaps : List Snap) (i : ℕ) → IsTreeRun c.layout h → i < 4 → HasFour f snaps → HasLookedBy join_looks c h ed.key f snaps → IsLinked c.layout h (snap_at snaps i)
+linked_at : (ed : TakeAt) (c : Call) (h : History) (f : Found) (snaps : List Snap) (i : ℕ) → IsTreeRun c.layout h → i < 4 → HasFour f snaps → HasLookedBy join_looks c h (ToKey ed.key) f snaps → IsLinked c.layout h (snap_at snaps i)
 linked_at ed c h f snaps i run p four x = let u = usable_at ed c h f snaps i p four x in linked_since c.layout h u.moment (snap_at snaps i) run.1.lawful u.within u.is.linked
 
 -- the leaf's sibling stood in the tree
-sibling_stood : (ed : TakeAt) (c : Call) (h : History) (f : Found) (snaps : List Snap) → IsTreeRun c.layout h → take_need f.value ≢ Nothing → HasFour f snaps → HasLookedBy join_looks c h ed.key f snaps → WasInTree h (sibling_of f snaps).node.0
+sibling_stood : (ed : TakeAt) (c : Call) (h : History) (f : Found) (snaps : List Snap) → IsTreeRun c.layout h → take_need f.value ≢ Nothing → HasFour f snaps → HasLookedBy join_looks c h (ToKey ed.key) f snaps → WasInTree h (sibling_of f snaps).node.0
 sibling_stood ed c h f snaps run d four x = go f.trail.side
   where
     shown : (side : Side) → WasInTree h (child_of (snap_at snaps 1) side).0
@@ -218,7 +218,7 @@ sibling_stood ed c h f snaps run d four x = go f.trail.side
     go Right = subst (WasInTree h) (sym four.left) (shown Left)
 
 -- and is not the root: it is below another node
-sibling_below : (ed : TakeAt) (c : Call) (h : History) (f : Found) (snaps : List Snap) → IsTreeRun c.layout h → take_need f.value ≢ Nothing → HasFour f snaps → HasLookedBy join_looks c h ed.key f snaps → (sibling_of f snaps).node.0 ≢ 0
+sibling_below : (ed : TakeAt) (c : Call) (h : History) (f : Found) (snaps : List Snap) → IsTreeRun c.layout h → take_need f.value ≢ Nothing → HasFour f snaps → HasLookedBy join_looks c h (ToKey ed.key) f snaps → (sibling_of f snaps).node.0 ≢ 0
 sibling_below ed c h f snaps run d four x = go f.trail.side
   where
     shown : (side : Side) → (child_of (snap_at snaps 1) side).0 ≢ 0
@@ -234,7 +234,7 @@ sibling_below ed c h f snaps run d four x = go f.trail.side
     go Right z = shown Left (sym four.left ∙ z)
 
 -- so it may be read from its head on
-sibling_begins : (ed : TakeAt) (c : Call) (h : History) (f : Found) (snaps : List Snap) → IsTreeRun c.layout h → take_need f.value ≢ Nothing → HasLookedBy join_looks c h ed.key f snaps → join_looks f snaps ≡ Enough → MayRead c.layout h (sibling_of f snaps).node.0 nothing_read
+sibling_begins : (ed : TakeAt) (c : Call) (h : History) (f : Found) (snaps : List Snap) → IsTreeRun c.layout h → take_need f.value ≢ Nothing → HasLookedBy join_looks c h (ToKey ed.key) f snaps → join_looks f snaps ≡ Enough → MayRead c.layout h (sibling_of f snaps).node.0 nothing_read
 sibling_begins ed c h f snaps run d x enough =
     let four : HasFour f snaps = has_four ed f snaps enough x.seen in
     let o : IsOpened c.layout h (sibling_of f snaps).node.0 = opened_if_stood c.layout h (sibling_of f snaps).node.0 run (sibling_stood ed c h f snaps run d four x) in
@@ -242,7 +242,7 @@ sibling_begins ed c h f snaps run d x enough =
 
 -- the levels rise from the fork above to the parent, and from there to its children, which are
 -- apart
-module _ (ed : TakeAt) (c : Call) (h : History) (f : Found) (snaps : List Snap) (run : IsTreeRun c.layout h) (needed : take_need f.value ≢ Nothing) (four : HasFour f snaps) (x : HasLookedBy join_looks c h ed.key f snaps) where
+module _ (ed : TakeAt) (c : Call) (h : History) (f : Found) (snaps : List Snap) (run : IsTreeRun c.layout h) (needed : take_need f.value ≢ Nothing) (four : HasFour f snaps) (x : HasLookedBy join_looks c h (ToKey ed.key) f snaps) where
   abbrev at_place : ℕ → ℕ
   at_place i = (snap_at snaps i).node.0
 
@@ -322,11 +322,11 @@ join_covered ed c h f snaps k s run four found later since covers =
 -- In one of two ways
 
 -- where the leaf has more than the pair, it looks as an edit of that leaf does
-pub looked_leaf : (ed : TakeAt) (c : Call) (h : History) (f : Found) (snaps : List Snap) → has_more f ≡ true → HasLooked take_means c h ed f snaps → HasLookedBy leaf_looks c h ed.key f snaps
+pub looked_leaf : (ed : TakeAt) (c : Call) (h : History) (f : Found) (snaps : List Snap) → has_more f ≡ true → HasLooked take_means c h ed f snaps → HasLookedBy leaf_looks c h (ToKey ed.key) f snaps
 looked_leaf ed c h f snaps t x = record { small = x.small; found = x.found; usable = x.usable; seen = λ i p. rw t at (x.seen i p) }
 
 -- and else to take it out
-pub looked_join : (ed : TakeAt) (c : Call) (h : History) (f : Found) (snaps : List Snap) → has_more f ≡ false → HasLooked take_means c h ed f snaps → HasLookedBy join_looks c h ed.key f snaps
+pub looked_join : (ed : TakeAt) (c : Call) (h : History) (f : Found) (snaps : List Snap) → has_more f ≡ false → HasLooked take_means c h ed f snaps → HasLookedBy join_looks c h (ToKey ed.key) f snaps
 looked_join ed c h f snaps t x = record { small = x.small; found = x.found; usable = x.usable; seen = λ i p. rw t at (x.seen i p) }
 
 -- the leaf of a key that is there is of class 0
@@ -382,7 +382,7 @@ copy_fields s head read side p = go head.leaf side p
     go false Left p = refl
     go false Right p = refl
 
-join_fields : (ed : TakeAt) (c : Call) (h : History) (f : Found) (snaps : List Snap) (read : Reading) (side : Side) → IsTreeRun c.layout h → HasLookedBy join_looks c h ed.key f snaps → join_looks f snaps ≡ Enough → is_filled (sibling_copy (sibling_of f snaps) read) (Child side) ≡ true → IsInField c.layout h (word_of (sibling_copy (sibling_of f snaps) read) (Child side))
+join_fields : (ed : TakeAt) (c : Call) (h : History) (f : Found) (snaps : List Snap) (read : Reading) (side : Side) → IsTreeRun c.layout h → HasLookedBy join_looks c h (ToKey ed.key) f snaps → join_looks f snaps ≡ Enough → is_filled (sibling_copy (sibling_of f snaps) read) (Child side) ≡ true → IsInField c.layout h (word_of (sibling_copy (sibling_of f snaps) read) (Child side))
 join_fields ed c h f snaps read side run x enough p =
     let s : Snap = sibling_of f snaps in
     let l : IsLinked c.layout h s = linked_at ed c h f snaps (sibling_place f.trail.side) run (few_places f.trail.side) (has_four ed f snaps enough x.seen) x in
@@ -438,7 +438,7 @@ module _ (ed : TakeAt) (c : Call) (h : History) (f : Found) (snaps : List Snap) 
 
   -- the pair goes out of its leaf
   module _ (t : has_more f ≡ true) where
-    looked : HasLookedBy leaf_looks c h ed.key f snaps
+    looked : HasLookedBy leaf_looks c h (ToKey ed.key) f snaps
     looked = looked_leaf ed c h f snaps t x.looked
 
     abbrev old_leaf : ℕ
@@ -494,14 +494,14 @@ module _ (ed : TakeAt) (c : Call) (h : History) (f : Found) (snaps : List Snap) 
       below = λ fork. absurd (let z : true ≡ false = sym now.leaf ∙ fork in cc);
     }
 
-    leaf_promised : (j : Job) (d : Descriptor) → IsUpdateFor take_means ed f snaps ns j.update → Says d j → IsPromised c.layout c.pass h j.scx.0 d (TakeEdit ed.key)
+    leaf_promised : (j : Job) (d : Descriptor) → IsUpdateFor (take_means.side ed f) (take_means.needs ed f) snaps ns j.update → Says d j → IsPromised c.layout c.pass h j.scx.0 d (TakeEdit ed.key)
     leaf_promised j d is says = edit_promised c h j.scx.0 (TakeEdit ed.key) f d ns.first.0 run x.looked.small x.looked.found
         (is_leaf_edit f snaps j d ns.first.0 both is.covers (rw t at is.plan) (rw t at is.old) (is.fresh ∙ top) says) made
         (λ e z. let y : Some present.0 ≡ None = sym present.1 ∙ z in cc)
 
   -- or the leaf out of the tree
   module _ (t : has_more f ≡ false) where
-    looked_so : HasLookedBy join_looks c h ed.key f snaps
+    looked_so : HasLookedBy join_looks c h (ToKey ed.key) f snaps
     looked_so = looked_join ed c h f snaps t x.looked
 
     four : HasFour f snaps
@@ -629,7 +629,7 @@ module _ (ed : TakeAt) (c : Call) (h : History) (f : Found) (snaps : List Snap) 
         go false fork = fork_copy fork
 
     -- the SCX-record
-    module _ (j : Job) (d : Descriptor) (is : IsUpdateFor take_means ed f snaps ns j.update) (says : Says d j) where
+    module _ (j : Job) (d : Descriptor) (is : IsUpdateFor (take_means.side ed f) (take_means.needs ed f) snaps ns j.update) (says : Says d j) where
       is_member : (i : ℕ) → i < 4 → d.member i ≡ (snap_at snaps i).node.0
       is_member i p = says.member i (rw (is.covers, four.four) p) ∙ ap (λ (xs : List Snap). (snap_at xs i).node.0) is.covers
 
@@ -654,7 +654,7 @@ module _ (ed : TakeAt) (c : Call) (h : History) (f : Found) (snaps : List Snap) 
       join_is_promised : IsPromised c.layout c.pass h j.scx.0 d (TakeEdit ed.key)
       join_is_promised = join_promised c h j.scx.0 ed.key present.0 f d (snap_at snaps 1) sibling n_node run x.looked.small x.looked.found present.1 alone is_join (snap_is 1 (omega arith)) four.child (snap_is (sibling_place f.trail.side) (few_places f.trail.side)) copy
 
-  take_is_promised : (j : Job) (d : Descriptor) → IsUpdateFor take_means ed f snaps ns j.update → Says d j → IsPromised c.layout c.pass h j.scx.0 d (TakeEdit ed.key)
+  take_is_promised : (j : Job) (d : Descriptor) → IsUpdateFor (take_means.side ed f) (take_means.needs ed f) snaps ns j.update → Says d j → IsPromised c.layout c.pass h j.scx.0 d (TakeEdit ed.key)
   take_is_promised j d is says = go (has_more f) refl
     where
       go : (b : Bool) → has_more f ≡ b → IsPromised c.layout c.pass h j.scx.0 d (TakeEdit ed.key)

@@ -1,6 +1,6 @@
-use Rattle.std.proofs.Common.{◌≡◌, refl, inr}
+use Rattle.std.proofs.Common.{◌≡◌, inr}
 use Rattle.edits.proofs.Nearer.{below, try_less, one_back}
-use Rattle.edits.proofs.Turns.{all_lost, asks_on, begins_again, lost_tried, lost_way, next_may}
+use Rattle.edits.proofs.Turns.{all_lost, asks_on, lost_tried, lost_way, next_may}
 use Rattle.edits.proofs.update.UpdateRun+E+UpdateAt.lost.Goals as goal
 
 pub returns-clause-gives_up : goal.returns-clause-gives_up
@@ -18,7 +18,7 @@ returns-clause-spends g c = rw (one_back c.args.self.now.tries c.if-self-eq0.fal
 pub returns-clause-turn : goal.returns-clause-turn
 returns-clause-turn g c d h run b x =
     let m = c.args.self.now in
-    c.begin_walk.ensures.turn d h run (begins_again g.E.Edit.means m _ d h refl refl b) (next_may g.E.Edit.means m d h c.args.node.0 c.args.scx.0 c.if-self-eq0.false b x) (inr (c.args.node.0, c.args.scx.0, lost_way g.E.Edit.means m d h c.args.node.0 c.args.scx.0 x))
+    c.begin_walk.ensures.turn d h run b (next_may g.E.Edit.means m d h c.args.node.0 c.args.scx.0 c.if-self-eq0.false b x) (inr (c.args.node.0, c.args.scx.0, lost_way g.E.Edit.means m d h c.args.node.0 c.args.scx.0 x))
 
 pub returns-then-self-eq0-clause-turn : goal.returns-then-self-eq0-clause-turn
 returns-then-self-eq0-clause-turn g c d h run b x =

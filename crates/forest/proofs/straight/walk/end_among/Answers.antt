@@ -21,7 +21,7 @@ other : (g : Over) (c : Else-asked-key g) → asked_key c.args.goal c.read-key.r
 other g c = λ z. c.if-asked-key.false (c.asked_key-asked.ensures ∙ z)
 
 pub loop-hand-init : goal.loop-hand-init
-loop-hand-init g c = record { here = (refl, refl); steps = omega arith; waits = λ w turn x. to_first w _ c.args.goal c.args.trail turn c.args.head c.args.more x }
+loop-hand-init g c = record { here = (refl, refl); steps = omega arith; waits = λ w turn x. rw c.first_slot-slot.ensures (to_first w _ c.args.goal c.args.trail turn c.args.head c.args.more x) }
 
 pub read-key-requires-clause-waits : goal.read-key-requires-clause-waits
 read-key-requires-clause-waits g c = let r = c.requires.told in (r.0, walk_at c.args.goal c.args.trail (Pair c.args.head c.args.more c.loop-hand.slot), r.1, c.loop-hand.invariant.waits r.0 r.1 r.2)

@@ -5,7 +5,7 @@ use Rattle.template.specs.Walk.Places.{walk_at}
 use Rattle.template.specs.declared.walk.WalkAt.TheVariants.{Key}
 use Rattle.forest.specs.CallKinds.{calls}
 use Rattle.forest.specs.StraightWalk.{Walker, WalkerIsTold, WalkerWaits}
-use Rattle.forest.proofs.StraightWalk.{to_key, to_left, to_side}
+use Rattle.forest.proofs.StraightWalk.{to_key, to_open, to_side}
 use Rattle.prims.specs.Llx.Known.{load}
 use Rattle.arena.specs.declared.step.Kind.TheVariants.{LoadSettled}
 use Rattle.arena.specs.Words.{node, first_key}
@@ -36,4 +36,4 @@ returns-then-asks_key-clause-down g c = λ w turn x. to_side w _ c.args.goal c.a
     (c.read-key.ensures.told w (walk_at c.args.goal c.args.trail (Key (head_of c.args.word))) turn (waits g (goal.at.returns-then-asks_key-clause-down g c).Then-asks_key w turn x))
 
 pub returns-clause-down : goal.returns-clause-down
-returns-clause-down g c = λ w turn x. to_left w _ c.args.goal c.args.trail turn c.args.at c.args.word (head_of c.args.word) c.requires.place refl (sym c.is_leaf.ensures ∙ c.if-is_leaf.false) (sym c.asks_key.ensures ∙ c.if-asks_key.false) x
+returns-clause-down g c = λ w turn x. rw c.open_side.ensures (to_open w _ c.args.goal c.args.trail turn c.args.at c.args.word (head_of c.args.word) c.requires.place refl (sym c.is_leaf.ensures ∙ c.if-is_leaf.false) (sym c.asks_key.ensures ∙ c.if-asks_key.false) x)

@@ -1,0 +1,379 @@
+-- The leaf at an end of a tree: it stands on the path of the key at that end of all keys that may be.
+-- On the right it is the last of class 0, since a fork of class 0 has no leaf of another class below it.
+use Rattle.std.proofs.Common.{◌≡◌, ◌≢◌, ℕ, ◌^◌, ◌<◌, ◌≤◌, Bool, true, false, cond, eqb, lt-ltb, le-ltb, eq-eqb, ne_eqb, inl, inr, List, [], ◌∷◌, ◌++◌, refl, sym, ◌∙◌, ap, arith, append_assoc, append-nil, subst}
+use Rattle.std.specs.Prelude.{Some, unwrap_or}
+use native.Mathlib.Decide.{ℕ_discrete}
+use Rattle.arena.specs.declared.layout.Layout.{Layout}
+use Rattle.arena.specs.declared.word.Side.{Side}
+use Rattle.arena.specs.declared.word.Side.TheVariants.{Left, Right}
+use Rattle.arena.specs.declared.word.NodeWord.TheVariants.{Settled, Child}
+use Rattle.arena.specs.declared.word.SettledPart.TheVariants.{More, Key}
+use Rattle.arena.specs.declared.word.Word.{Word}
+use Rattle.arena.specs.Words.{node, child, first_key}
+use Rattle.arena.specs.declared.step.Row.{Row}
+use Rattle.arena.specs.History.{History, ◌⊳◌, value}
+use Rattle.arena.specs.Lawful.{IsWin}
+use Rattle.arena.specs.Log.{log, is_final}
+use Rattle.arena.proofs.Lemmas.{ends_self}
+use Rattle.histories.proofs.Lemmas.{node_since, win_not_final}
+use Rattle.ordered_map.specs.declared.pair.Pair.{Pair}
+use Rattle.ordered_map.specs.OrderedMap.{MapEdit, pair, first_pair, last_pair, end_pair, AllBelow, IsRising}
+use Rattle.ordered_map.specs.Holding.{end_slot, held_pairs, pair_in, IsWellCounted}
+use Rattle.ordered_map.specs.Paths.{IsOnPath, Passed, WasInTree, WasOnPath, IsEndAt, end_key, end_turn}
+use Rattle.ordered_map.specs.Runs.{IsTreeRun, Makes}
+use Rattle.ordered_map.specs.Spelled.{IsTree, Spells}
+use Rattle.ordered_map.specs.TreeWords.{Tree, Leaf, Fork, root, IsLeaf, Shows, Has, Passes, class, is_leaf, rank, toward, pairs, leaf_pairs, end_said}
+use Rattle.ordered_map.proofs.Trees.{EndsLow, last_leaf, has_last, open_between, node_below, same_tree, shown_leaf, passes_has, has_root}
+use Rattle.ordered_map.specs.TreeShape.{edit_leaf}
+use Rattle.ordered_map.proofs.Holding.{SameSettled, counted_same, same_leaf, low_items, rank_from, held_first, held_end, low_pairs, high_pairs}
+use Rattle.ordered_map.proofs.Moved.{settled_rank, settled_class, settled_leaf, settled_toward, settled_end}
+use Rattle.ordered_map.proofs.TreeFacts.{path_now, all_named}
+use Rattle.ordered_map.proofs.Grown.{tree_facts}
+use Rattle.ordered_map.proofs.Maps.{below_end, last_from, last_join}
+use Rattle.ordered_map.proofs.Past.{path_named, Latest, latest, path_level}
+use Rattle.ordered_map.proofs.Meanings.{edits_of, grown, run_spells, run_since, wins_of, leaf_covered}
+use Rattle.ordered_map.proofs.TreeRuns.{path_remains, stood_settled}
+
+-- In a tree
+
+-- its forks are above the lower bound
+fork_above : (f : Word → ℕ) (t : Tree) (lo hi n : ℕ) → Shows f lo hi t → Has t n → is_leaf f n ≡ false → lo < rank f n
+fork_above f (Leaf m) lo hi n s e d = absurd (let x : true ≡ false = sym s.leaf ∙ rw (← e) at d in cc)
+fork_above f (Fork m a b) lo hi n s (inl e) d = rw (← e) (open_between f a lo (rank f m) s.1)
+fork_above f (Fork m a b) lo hi n s (inr (inl q)) d = fork_above f a lo (rank f m) n s.1 q d
+fork_above f (Fork m a b) lo hi n s (inr (inr q)) d =
+    let x : rank f m < rank f n = fork_above f b (rank f m) hi n s.2 q d in
+    let y : lo < rank f m = open_between f a lo (rank f m) s.1 in
+    omega (arith, x, y)
+
+-- and all its nodes are at it or above
+node_from : (f : Word → ℕ) (t : Tree) (lo hi n : ℕ) → Shows f lo hi t → Has t n → lo ≤ rank f n
+node_from f (Leaf m) lo hi n s e = rw (← e) (rank_from f m lo hi s.items)
+node_from f (Fork m a b) lo hi n s (inl e) = let x : lo < rank f m = open_between f a lo (rank f m) s.1 in rw (← e) (omega (arith, x))
+node_from f (Fork m a b) lo hi n s (inr (inl q)) = node_from f a lo (rank f m) n s.1 q
+node_from f (Fork m a b) lo hi n s (inr (inr q)) =
+    let x : lo < rank f m = open_between f a lo (rank f m) s.1 in
+    let y : rank f m ≤ rank f n = node_from f b (rank f m) hi n s.2 q in
+    omega (arith, x, y)
+
+-- none is above its last leaf
+node_to_last : (f : Word → ℕ) (t : Tree) (lo hi n : ℕ) → Shows f lo hi t → Has t n → rank f n ≤ rank f (last_leaf t)
+node_to_last f (Leaf m) lo hi n s e = rw (← e) (omega arith)
+node_to_last f (Fork m a b) lo hi n s (inl e) = rw (← e) (node_from f b (rank f m) hi (last_leaf b) s.2 (has_last b))
+node_to_last f (Fork m a b) lo hi n s (inr (inl q)) =
+    let x : rank f n < rank f m = node_below f a lo (rank f m) n s.1 q in
+    let y : rank f m ≤ rank f (last_leaf b) = node_from f b (rank f m) hi (last_leaf b) s.2 (has_last b) in
+    omega (arith, x, y)
+node_to_last f (Fork m a b) lo hi n s (inr (inr q)) = node_to_last f b (rank f m) hi n s.2 q
+
+last_small : (f : Word → ℕ) (t : Tree) (lo hi : ℕ) → Shows f lo hi t → f (node (last_leaf t) first_key) < 2 ^ 64
+last_small f (Leaf m) lo hi s = s.small
+last_small f (Fork m a b) lo hi s = last_small f b (rank f m) hi s.2
+
+-- where that is of class 0 all are below 2 ^ 64
+node_low : (f : Word → ℕ) (t : Tree) (lo hi n : ℕ) → Shows f lo hi t → class f (last_leaf t) ≡ 0 → Has t n → rank f n < 2 ^ 64
+node_low f t lo hi n s low h =
+    let x : rank f n ≤ rank f (last_leaf t) = node_to_last f t lo hi n s h in
+    let y = last_small f t lo hi s in
+    omega (arith, x, y, low)
+
+-- so is each fork of class 0
+fork_low : (f : Word → ℕ) (t : Tree) (lo hi n : ℕ) → Shows f lo hi t → EndsLow f t → Has t n → is_leaf f n ≡ false → class f n ≡ 0 → rank f n < 2 ^ 64
+fork_low f (Leaf m) lo hi n s w e d low = absurd (let x : true ≡ false = sym s.leaf ∙ rw (← e) at d in cc)
+fork_low f (Fork m a b) lo hi n s w (inl e) d low =
+    let z : class f m ≡ 0 = ap (class f) e ∙ low in
+    let x : rank f m ≤ rank f (last_leaf b) = node_from f b (rank f m) hi (last_leaf b) s.2 (has_last b) in
+    let y : rank f (last_leaf b) < 2 ^ 64 = node_low f b (rank f m) hi (last_leaf b) s.2 (w.0 z) (has_last b) in
+    rw (← e) (omega (arith, x, y))
+fork_low f (Fork m a b) lo hi n s w (inr (inl q)) d low = fork_low f a lo (rank f m) n s.1 w.1 q d low
+fork_low f (Fork m a b) lo hi n s w (inr (inr q)) d low = fork_low f b (rank f m) hi n s.2 w.2 q d low
+
+-- how x stands to the fork n that it is below on this side: before it; or not before it, and below
+-- 2 ^ 64 if the fork is
+abbrev pub IsBeside : (Word → ℕ) → Side → ℕ → ℕ → Type 0
+IsBeside f Left n x = rank f x < rank f n
+IsBeside f Right n x = (rank f n ≤ rank f x) × (rank f n < 2 ^ 64 → rank f x < 2 ^ 64)
+
+pub beside_same : (b f : Word → ℕ) (side : Side) (n x : ℕ) → rank f n ≡ rank b n → rank f x ≡ rank b x → IsBeside b side n x → IsBeside f side n x
+beside_same b f Left n x e d y = rw (e, d) y
+beside_same b f Right n x e d y = (rw (e, d) y.0, λ z. rw d (y.1 (rw e at z)))
+
+child_beside : (f : Word → ℕ) (side : Side) (t : Tree) (lo hi n : ℕ) → Shows f lo hi t → EndsLow f t → Has t n → is_leaf f n ≡ false → IsBeside f side n (f (child n side))
+child_beside f side (Leaf m) lo hi n s w e d = absurd (let x : true ≡ false = sym s.leaf ∙ rw (← e) at d in cc)
+child_beside f Left (Fork m a b) lo hi n s w (inl e) d =
+    let q : f (child n Left) ≡ root a = rw (← e) s.0.left in
+    rw (q, ← e) (node_below f a lo (rank f m) (root a) s.1 (has_root a))
+child_beside f Right (Fork m a b) lo hi n s w (inl e) d =
+    subst (λ x. IsBeside f Right n x) (sym q) (subst (λ k. IsBeside f Right k (root b)) e (node_from f b (rank f m) hi (root b) s.2 (has_root b), low))
+  where
+    q : f (child n Right) ≡ root b
+    q = rw (← e) s.0.right
+
+    low : rank f m < 2 ^ 64 → rank f (root b) < 2 ^ 64
+    low x = node_low f b (rank f m) hi (root b) s.2 (w.0 (omega (arith, x))) (has_root b)
+child_beside f side (Fork m a b) lo hi n s w (inr (inl q)) d = child_beside f side a lo (rank f m) n s.1 w.1 q d
+child_beside f side (Fork m a b) lo hi n s w (inr (inr q)) d = child_beside f side b (rank f m) hi n s.2 w.2 q d
+
+same_left : (b : Bool) → Left ≡ cond b Left Left
+same_left true = refl
+same_left false = refl
+
+-- to which side the search for the key at an end goes
+fork_turn : (f : Word → ℕ) (side : Side) (t : Tree) (lo hi n : ℕ) → Shows f lo hi t → EndsLow f t → Has t n → is_leaf f n ≡ false → toward f n (end_key side) ≡ end_turn side (class f n)
+fork_turn f Left t lo hi n s w h d =
+    let x : lo < rank f n = fork_above f t lo hi n s h d in
+    rw (lt-ltb 0 (rank f n) (omega (arith, x))) (same_left (eqb (class f n) 0))
+fork_turn f Right t lo hi n s w h d = go (ℕ_discrete (class f n) 0)
+  where
+    go : Dec (class f n ≡ 0) → toward f n (end_key Right) ≡ end_turn Right (class f n)
+    go (yes low) =
+        let x : rank f n < 2 ^ 64 = fork_low f t lo hi n s w h d low in
+        rw (le-ltb (end_key Right) (rank f n) (omega (arith, x)), eq-eqb (class f n) 0 low) refl
+    go (no high) = rw (lt-ltb (end_key Right) (rank f n) (omega (arith, high)), ne_eqb (class f n) 0 high) refl
+
+-- On the left
+
+-- no search for 0 goes to the right
+never_right : (f : Word → ℕ) (a : Tree) (lo m : ℕ) → Shows f lo (rank f m) a → rank f m ≤ 0 → ⊥
+never_right f a lo m s e = let x : lo < rank f m = open_between f a lo (rank f m) s in omega (arith, x, e)
+
+-- what stands on the path of 0 stands on that of every key up to its own
+first_path : (f : Word → ℕ) (k : ℕ) (t : Tree) (lo hi n : ℕ) → Shows f lo hi t → Passes f 0 t n → k ≤ rank f n → Passes f k t n
+first_path f k (Leaf m) lo hi n s e u = e
+first_path f k (Fork m a b) lo hi n s (inl e) u = inl e
+first_path f k (Fork m a b) lo hi n s (inr (inl q)) u =
+    let x : rank f n < rank f m = node_below f a lo (rank f m) n s.1 (passes_has f 0 a n q.1) in
+    inr (inl (omega (arith, x, u), first_path f k a lo (rank f m) n s.1 q.1 u))
+first_path f k (Fork m a b) lo hi n s (inr (inr q)) u = absurd (never_right f a lo m s.1 q.0)
+
+-- its pairs come first
+leaf_first : (f : Word → ℕ) (t : Tree) (lo hi n : ℕ) → Shows f lo hi t → Passes f 0 t n → is_leaf f n ≡ true → (rest : List Pair) × (pairs f t ≡ leaf_pairs f n ++ rest)
+leaf_first f (Leaf m) lo hi n s e d = ([], ap (leaf_pairs f) e ∙ sym (append-nil (leaf_pairs f n)))
+leaf_first f (Fork m a b) lo hi n s (inl e) d = absurd (let x : true ≡ false = sym d ∙ rw (← e) s.0.fork in cc)
+leaf_first f (Fork m a b) lo hi n s (inr (inl q)) d =
+    let x : (rest : List Pair) × (pairs f a ≡ leaf_pairs f n ++ rest) = leaf_first f a lo (rank f m) n s.1 q.1 d in
+    (x.0 ++ pairs f b, ap (λ ps. ps ++ pairs f b) x.1 ∙ append_assoc (leaf_pairs f n) x.0 (pairs f b))
+leaf_first f (Fork m a b) lo hi n s (inr (inr q)) d = absurd (never_right f a lo m s.1 q.0)
+
+-- above all keys there is no pair
+no_pairs : (f : Word → ℕ) (t : Tree) (lo hi : ℕ) → Shows f lo hi t → 2 ^ 64 ≤ lo → pairs f t ≡ []
+no_pairs f (Leaf m) lo hi s u =
+    let high : class f m ≢ 0 = λ z. let a = s.small in let b : lo ≤ rank f m = rank_from f m lo hi s.items in omega (arith, a, b, z, u) in
+    rw (ne_eqb (class f m) 0 high) refl
+no_pairs f (Fork m a b) lo hi s u =
+    let x : lo < rank f m = open_between f a lo (rank f m) s.1 in
+    let left : pairs f a ≡ [] = no_pairs f a lo (rank f m) s.1 u in
+    let right : pairs f b ≡ [] = no_pairs f b (rank f m) hi s.2 (omega (arith, x, u)) in
+    λ i. left i ++ right i
+
+-- so where the first leaf is above all keys there is none
+none_first : (f : Word → ℕ) (t : Tree) (lo hi n : ℕ) → Shows f lo hi t → Passes f 0 t n → is_leaf f n ≡ true → class f n ≢ 0 → pairs f t ≡ []
+none_first f (Leaf m) lo hi n s e d high = rw (ne_eqb (class f m) 0 (λ z. high (rw (← e) z))) refl
+none_first f (Fork m a b) lo hi n s (inl e) d high = absurd (let x : true ≡ false = sym d ∙ rw (← e) s.0.fork in cc)
+none_first f (Fork m a b) lo hi n s (inr (inl q)) d high =
+    let x : rank f n < rank f m = node_below f a lo (rank f m) n s.1 (passes_has f 0 a n q.1) in
+    let left : pairs f a ≡ [] = none_first f a lo (rank f m) n s.1 q.1 d high in
+    let right : pairs f b ≡ [] = no_pairs f b (rank f m) hi s.2 (omega (arith, x, high)) in
+    λ i. left i ++ right i
+none_first f (Fork m a b) lo hi n s (inr (inr q)) d high = absurd (never_right f a lo m s.1 q.0)
+
+-- the first pair of what the tree holds is what its first leaf says
+pairs_first : (f : Word → ℕ) (t : Tree) (lo hi n : ℕ) → Shows f lo hi t → Passes f 0 t n → is_leaf f n ≡ true → first_pair (pairs f t) ≡ end_said Left f n
+pairs_first f t lo hi n s p d = go (ℕ_discrete (class f n) 0)
+  where
+    go : Dec (class f n ≡ 0) → first_pair (pairs f t) ≡ end_said Left f n
+    go (no high) = ap first_pair (none_first f t lo hi n s p d high ∙ sym (high_pairs f n high))
+    go (yes low) =
+        let x : (rest : List Pair) × (pairs f t ≡ leaf_pairs f n ++ rest) = leaf_first f t lo hi n s p d in
+        let y = held_first f n in
+        let held : leaf_pairs f n ≡ pair (f (node n first_key)) y.value ∷ y.rest = low_pairs f n low ∙ y.is in
+        ap first_pair (x.1 ∙ ap (λ ps. ps ++ x.0) held) ∙ sym (ap first_pair held)
+
+-- On the right
+
+-- the last leaf on the path holds nothing only if all do
+none_last : (f : Word → ℕ) (t : Tree) (lo hi n : ℕ) → Shows f lo hi t → EndsLow f t → Passes f (end_key Right) t n → is_leaf f n ≡ true → class f n ≢ 0 → pairs f t ≡ []
+none_last f (Leaf m) lo hi n s w e d high = rw (ne_eqb (class f m) 0 (λ z. high (rw (← e) z))) refl
+none_last f (Fork m a b) lo hi n s w (inl e) d high = absurd (let x : true ≡ false = sym d ∙ rw (← e) s.0.fork in cc)
+none_last f (Fork m a b) lo hi n s w (inr (inl q)) d high =
+    let over = q.0 in
+    let left : pairs f a ≡ [] = none_last f a lo (rank f m) n s.1 w.1 q.1 d high in
+    let right : pairs f b ≡ [] = no_pairs f b (rank f m) hi s.2 (omega (arith, over)) in
+    λ i. left i ++ right i
+none_last f (Fork m a b) lo hi n s w (inr (inr q)) d high =
+    let below = q.0 in
+    let x : rank f n < 2 ^ 64 = node_low f b (rank f m) hi n s.2 (w.0 (omega (arith, below))) (passes_has f (end_key Right) b n q.1) in
+    absurd (high (omega (arith, x)))
+
+-- its pairs come last
+leaf_last : (f : Word → ℕ) (t : Tree) (lo hi n : ℕ) → Shows f lo hi t → Passes f (end_key Right) t n → is_leaf f n ≡ true → (front : List Pair) × (pairs f t ≡ front ++ leaf_pairs f n)
+leaf_last f (Leaf m) lo hi n s e d = ([], ap (leaf_pairs f) e)
+leaf_last f (Fork m a b) lo hi n s (inl e) d = absurd (let x : true ≡ false = sym d ∙ rw (← e) s.0.fork in cc)
+leaf_last f (Fork m a b) lo hi n s (inr (inl q)) d =
+    let over = q.0 in
+    let right : pairs f b ≡ [] = no_pairs f b (rank f m) hi s.2 (omega (arith, over)) in
+    let x : (front : List Pair) × (pairs f a ≡ front ++ leaf_pairs f n) = leaf_last f a lo (rank f m) n s.1 q.1 d in
+    (x.0, ap (λ ps. pairs f a ++ ps) right ∙ append-nil (pairs f a) ∙ x.1)
+leaf_last f (Fork m a b) lo hi n s (inr (inr q)) d =
+    let x : (front : List Pair) × (pairs f b ≡ front ++ leaf_pairs f n) = leaf_last f b (rank f m) hi n s.2 q.1 d in
+    (pairs f a ++ x.0, ap (λ ps. pairs f a ++ ps) x.1 ∙ sym (append_assoc (pairs f a) x.0 (leaf_pairs f n)))
+
+pairs_last : (f : Word → ℕ) (t : Tree) (lo hi n : ℕ) → Shows f lo hi t → EndsLow f t → Passes f (end_key Right) t n → is_leaf f n ≡ true → last_pair (pairs f t) ≡ end_said Right f n
+pairs_last f t lo hi n s w p d = go (ℕ_discrete (class f n) 0)
+  where
+    go : Dec (class f n ≡ 0) → last_pair (pairs f t) ≡ end_said Right f n
+    go (no high) = ap last_pair (none_last f t lo hi n s w p d high ∙ sym (high_pairs f n high))
+    go (yes low) =
+        let x : (front : List Pair) × (pairs f t ≡ front ++ leaf_pairs f n) = leaf_last f t lo hi n s p d in
+        let held = ap last_pair (low_pairs f n low) ∙ held_end Right f n in
+        ap last_pair x.1 ∙ last_join x.0 (leaf_pairs f n) _ held ∙ sym held
+
+-- what stands on the path of 2 ^ 64 - 1 stands on that of every key from its own on
+last_path : (f : Word → ℕ) (k : ℕ) (t : Tree) (lo hi n : ℕ) → Shows f lo hi t → EndsLow f t → Passes f (end_key Right) t n → k < 2 ^ 64 → (rank f n < 2 ^ 64 → rank f n ≤ k) → Passes f k t n
+last_path f k (Leaf m) lo hi n s w e small u = e
+last_path f k (Fork m a b) lo hi n s w (inl e) small u = inl e
+last_path f k (Fork m a b) lo hi n s w (inr (inl q)) small u =
+    let over = q.0 in
+    inr (inl (omega (arith, over, small), last_path f k a lo (rank f m) n s.1 w.1 q.1 small u))
+last_path f k (Fork m a b) lo hi n s w (inr (inr q)) small u =
+    let below = q.0 in
+    let h : Has b n = passes_has f (end_key Right) b n q.1 in
+    let from : rank f m ≤ rank f n = node_from f b (rank f m) hi n s.2 h in
+    let up : rank f n ≤ k = u (node_low f b (rank f m) hi n s.2 (w.0 (omega (arith, below))) h) in
+    inr (inr (omega (arith, from, up), last_path f k b (rank f m) hi n s.2 w.2 q.1 small u))
+
+-- By side
+
+-- the pair at an end of what the tree holds is what the leaf there says
+pairs_end : (side : Side) (f : Word → ℕ) (t : Tree) (lo hi n : ℕ) → Shows f lo hi t → EndsLow f t → Passes f (end_key side) t n → is_leaf f n ≡ true → end_pair side (pairs f t) ≡ end_said side f n
+pairs_end Left f t lo hi n s w p d = pairs_first f t lo hi n s p d
+pairs_end Right f t lo hi n s w p d = pairs_last f t lo hi n s w p d
+
+-- the key k stands between an end and a node of this rank, or is its own; on the right a node above
+-- all keys has all of them between
+abbrev pub IsUpTo : Side → ℕ → ℕ → Type 0
+IsUpTo Left k r = k ≤ r
+IsUpTo Right k r = (k < 2 ^ 64) × (r < 2 ^ 64 → r ≤ k)
+
+-- the key at the end of a leaf of class 0 is a key of the map, and between that end and the leaf's rank
+pub end_small : (side : Side) (f : Word → ℕ) (n : ℕ) → AllBelow (2 ^ 64) (held_pairs f n) → f (node n (Settled (Key (end_slot side (f (node n (Settled More))))))) < 2 ^ 64
+end_small side f n below = below_end side (2 ^ 64) (held_pairs f n) _ below (held_end side f n)
+
+pub end_up : (side : Side) (f : Word → ℕ) (n : ℕ) → class f n ≡ 0 → IsRising (held_pairs f n) → AllBelow (2 ^ 64) (held_pairs f n) → IsUpTo side (f (node n (Settled (Key (end_slot side (f (node n (Settled More)))))))) (rank f n)
+end_up Left f n low rises below = omega (arith, low)
+end_up Right f n low rises below =
+    let x = held_first f n in
+    let last : Pair = unwrap_or (last_pair x.rest) (pair (f (node n first_key)) x.value) in
+    let is : Some (pair_in f n (end_slot Right (f (node n (Settled More))))) ≡ Some last = sym (held_end Right f n) ∙ ap last_pair x.is in
+    let same : f (node n (Settled (Key (end_slot Right (f (node n (Settled More))))))) ≡ last.key = ap (λ o. (unwrap_or o last).key) is in
+    let up : f (node n first_key) ≤ last.key = last_from (pair (f (node n first_key)) x.value) x.rest (subst IsRising x.is rises).0 in
+    (end_small Right f n below, λ _. omega (arith, low, same, up))
+
+end_path : (side : Side) (f : Word → ℕ) (k : ℕ) (t : Tree) (lo hi n : ℕ) → Shows f lo hi t → EndsLow f t → Passes f (end_key side) t n → IsUpTo side k (rank f n) → Passes f k t n
+end_path Left f k t lo hi n s w p u = first_path f k t lo hi n s p u
+end_path Right f k t lo hi n s w p u = last_path f k t lo hi n s w p u.0 u.1
+
+-- In a run
+
+-- below each fork of class 0 the last leaf is of class 0
+run_low : (lay : Layout) (h : History) (t : Tree) → IsTreeRun lay h → IsTree (value h) t → EndsLow (value h) t
+run_low lay h t g is =
+    let x = tree_facts (edits_of lay h g).edits lay h (grown lay h g) in
+    subst (EndsLow (value h)) (same_tree (value h) x.tree t _ _ _ _ x.is_tree.shows is.shows (x.is_tree.is ∙ sym is.is)) x.ends_low
+
+-- what was passed says what it said
+same_since : (lay : Layout) (h start : History) (k n : ℕ) → IsTreeRun lay h → (p : Passed h start k n) → SameSettled (value p.0) (value h) n
+same_since lay h start k n g p part i = node_since lay h p.0 n part g.1.lawful p.1 i (path_named lay p.0 k n g.0 p.3)
+
+-- how what is on a side of a fork that was passed stands to the fork
+pub walk_beside : (lay : Layout) (h start : History) (k n : ℕ) (side : Side) → IsTreeRun lay h → Passed h start k n → is_leaf (value h) n ≡ false → IsBeside (value h) side n (value h (child n side))
+walk_beside lay h start k n side g p fork =
+    let x : Latest h p.0 k n = latest (edits_of lay h g).edits lay h p.0 k n (grown lay h g) p.1 p.3 in
+    let m : History = x.moment in
+    let at : Passed h m k n = (m, x.within, ends_self m, x.on_path) in
+    let same : SameSettled (value m) (value h) n = same_since lay h m k n g at in
+    let d : is_leaf (value m) n ≡ false = sym (settled_leaf (value m) (value h) n same) ∙ fork in
+    let has = passes_has (value m) k x.on_path.tree n x.on_path.passes in
+    let low : EndsLow (value m) x.on_path.tree = run_low lay m x.on_path.tree (run_since lay h m g x.within) x.on_path.is_tree in
+    let y : IsBeside (value m) side n (value m (child n side)) = child_beside (value m) side x.on_path.tree _ _ n x.on_path.is_tree.shows low has d in
+    let below : Has x.on_path.tree (value m (child n side)) = (path_level (value m) x.on_path.tree _ _ n side x.on_path.is_tree.shows has d).1 in
+    let there : SameSettled (value m) (value h) (value m (child n side)) = λ part i. node_since lay h m (value m (child n side)) part g.1.lawful x.within i (all_named lay m x.on_path.tree _ g.0 x.on_path.is_tree below) in
+    let c : value h (child n side) ≡ value m (child n side) = x.same (Child side) tt in
+    subst (IsBeside (value h) side n) (sym c) (beside_same (value m) (value h) side n (value m (child n side)) (settled_rank (value m) (value h) n same) (settled_rank (value m) (value h) (value m (child n side)) there) y)
+
+-- a leaf that was passed has its items between some bounds
+walk_shown : (lay : Layout) (h start : History) (k n : ℕ) → IsTreeRun lay h → Passed h start k n → is_leaf (value h) n ≡ true → (low high : ℕ) × IsLeaf (value h) n low high
+walk_shown lay h start k n g p leaf =
+    let same : SameSettled (value p.0) (value h) n = same_since lay h start k n g p in
+    let tree = p.3 in
+    let x = shown_leaf (value p.0) tree.tree _ _ n tree.is_tree.shows (passes_has (value p.0) k tree.tree n tree.passes) (sym (settled_leaf (value p.0) (value h) n same) ∙ leaf) in
+    (x.0, x.1, same_leaf (value p.0) (value h) n x.0 x.1 same x.2)
+
+-- so its key is below 2 ^ 64
+pub walk_small : (lay : Layout) (h start : History) (k n : ℕ) → IsTreeRun lay h → Passed h start k n → is_leaf (value h) n ≡ true → value h (node n first_key) < 2 ^ 64
+walk_small lay h start k n g p leaf = (walk_shown lay h start k n g p leaf).2.small
+
+-- and, if it is of class 0, the keys of all its pairs are, and rise; and they are as many as a leaf
+-- may hold
+pub walk_holds : (lay : Layout) (h start : History) (k n : ℕ) → IsTreeRun lay h → Passed h start k n → is_leaf (value h) n ≡ true → class (value h) n ≡ 0 → IsWellCounted (value h) n × AllBelow (2 ^ 64) (held_pairs (value h) n) × IsRising (held_pairs (value h) n)
+walk_holds lay h start k n g p leaf low =
+    let x = walk_shown lay h start k n g p leaf in
+    let y = x.2.items in
+    ((y.keys low).0, (y.keys low).1, subst IsRising (low_items (value h) n low) y.rising)
+
+-- so does each leaf of class 0 that was ever in the tree
+pub stood_counted : (lay : Layout) (h : History) (n : ℕ) → IsTreeRun lay h → WasInTree h n → is_leaf (value h) n ≡ true → class (value h) n ≡ 0 → IsWellCounted (value h) n
+stood_counted lay h n g x leaf low =
+    let then : WasInTree x.moment n = record { moment = x.moment; within = ends_self x.moment; tree = x.tree; is_tree = x.is_tree; has = x.has } in
+    let same : SameSettled (value x.moment) (value h) n = stood_settled lay h x.moment n g x.within then in
+    let shown = shown_leaf (value x.moment) x.tree _ _ n x.is_tree.shows x.has (sym (settled_leaf (value x.moment) (value h) n same) ∙ leaf) in
+    counted_same (value x.moment) (value h) n same (shown.2.items.keys (sym (settled_class (value x.moment) (value h) n same) ∙ low)).0
+
+-- to which side a search for the key at an end goes
+pub walk_turns : (side : Side) (lay : Layout) (h start : History) (n : ℕ) → IsTreeRun lay h → Passed h start (end_key side) n → is_leaf (value h) n ≡ false → toward (value h) n (end_key side) ≡ end_turn side (class (value h) n)
+walk_turns side lay h start n g p fork =
+    let same = same_since lay h start (end_key side) n g p in
+    let tree = p.3 in
+    let low = run_low lay p.0 tree.tree (run_since lay h p.0 g p.1) tree.is_tree in
+    let x : toward (value p.0) n (end_key side) ≡ end_turn side (class (value p.0) n) = fork_turn (value p.0) side tree.tree _ _ n tree.is_tree.shows low (passes_has (value p.0) (end_key side) tree.tree n tree.passes) (sym (settled_leaf (value p.0) (value h) n same) ∙ fork) in
+    settled_toward (value p.0) (value h) n (end_key side) same ∙ x ∙ ap (end_turn side) (sym (settled_class (value p.0) (value h) n same))
+
+-- what it has passed it has passed on its way to each key between
+pub walk_own : (side : Side) (lay : Layout) (h start : History) (k n : ℕ) → IsTreeRun lay h → Passed h start (end_key side) n → IsUpTo side k (rank (value h) n) → Passed h start k n
+walk_own side lay h start k n g p u =
+    let tree = p.3 in
+    let low = run_low lay p.0 tree.tree (run_since lay h p.0 g p.1) tree.is_tree in
+    let up : IsUpTo side k (rank (value p.0) n) = subst (IsUpTo side k) (settled_rank (value p.0) (value h) n (same_since lay h start (end_key side) n g p)) u in
+    (p.0, p.1, p.2, record { tree = tree.tree; is_tree = tree.is_tree; passes = end_path side (value p.0) k tree.tree _ _ n tree.is_tree.shows low tree.passes up })
+
+-- the pair at an end of the map that words spell is what the leaf on the path there says
+spelled_end : (side : Side) (lay : Layout) (h : History) (n : ℕ) (ps : List Pair) → IsTreeRun lay h → Spells lay (value h) ps → IsOnPath h (end_key side) n → is_leaf (value h) n ≡ true → end_pair side ps ≡ end_said side (value h) n
+spelled_end side lay h n ps g s p leaf = ap (end_pair side) (sym s.pairs) ∙ pairs_end side (value h) s.tree _ _ n s.is_tree.shows (run_low lay h s.tree g s.is_tree) (path_now h s.tree (end_key side) n s.is_tree p) leaf
+
+-- the leaf where it ends says which pair was at that end of the map, at a moment since then
+pub walk_end : (side : Side) (lay : Layout) (h start : History) (n : ℕ) → IsTreeRun lay h → Passed h start (end_key side) n → is_leaf (value h) n ≡ true → IsEndAt side lay h start (end_said side (value h) n)
+walk_end side lay h start n g p leaf =
+    let m = p.0 in
+    let same = same_since lay h start (end_key side) n g p in
+    let then_run : IsTreeRun lay m = run_since lay h m g p.1 in
+    let spelled : (ps : List Pair) × Spells lay (value m) ps = run_spells lay m then_run in
+    let then : is_leaf (value m) n ≡ true = sym (settled_leaf (value m) (value h) n same) ∙ leaf in
+    record {
+      moment = m;
+      within = p.1;
+      since = p.2;
+      map = spelled.0;
+      spelled = spelled.1;
+      is = spelled_end side lay m n spelled.0 then_run spelled.1 p.3 then ∙ sym (settled_end side (value m) (value h) n same);
+    }
+
+-- Just before an SCX-record wins whose leaf was on the path to an end, that leaf says which pair is at
+-- that end of the map: it is not final, so it is on that path still.
+pub win_end : (side : Side) (lay : Layout) (h : History) (row : Row) (s : ℕ) (e : MapEdit) → IsTreeRun lay (row ⊳ h) → IsWin h row s → Makes lay h s e → WasOnPath h (end_key side) (edit_leaf h s e) → is_leaf (value h) (edit_leaf h s e) ≡ true → (ps : List Pair) → Spells lay (value h) ps → end_pair side ps ≡ end_said side (value h) (edit_leaf h s e)
+win_end side lay h row s e g won makes was leaf ps spells = spelled_end side lay h (edit_leaf h s e) ps run spells (path_remains lay h (end_key side) (edit_leaf h s e) run was not_final) leaf
+  where
+    run : IsTreeRun lay h
+    run = run_since lay (row ⊳ h) h g (inr (ends_self h))
+
+    not_final : is_final (log lay h) (edit_leaf h s e) ≡ false
+    not_final = win_not_final lay h row s (edit_leaf h s e) g.1.lawful (wins_of lay h row s g.1.lawful won) (leaf_covered lay h s e run.1.lawful makes)

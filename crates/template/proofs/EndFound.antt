@@ -1,0 +1,201 @@
+-- What the walk to an end has found: the leaf on the path of its own key there, and the pair at that
+-- end of the map.
+use Rattle.std.proofs.Common.{Bool, true, false, cond, eqb, ◌≡◌, ◌≢◌, ◌⊎◌, inl, inr, ℕ, ◌-◌, ◌<◌, ◌≤◌, ◌^◌, eq-eqb, ne_eqb, lt-ltb, le-ltb, [], ◌∷◌, refl, sym, ◌∙◌, ap, arith, subst, Some, None}
+use Rattle.std.specs.Option.{option_map}
+use native.Mathlib.Decide.{ℕ_discrete}
+use Rattle.arena.specs.declared.word.NodeWord.TheVariants.{Settled}
+use Rattle.arena.specs.declared.word.SettledPart.TheVariants.{More, Key}
+use Rattle.arena.specs.declared.word.Side.{Side}
+use Rattle.arena.specs.declared.word.Side.TheVariants.{Left, Right}
+use Rattle.arena.specs.declared.word.Slot.{Slot}
+use Rattle.arena.specs.declared.word.Word.{Word}
+use Rattle.arena.specs.Words.{node, child, first_key}
+use Rattle.arena.specs.History.{History, value, Extends}
+use Rattle.arena.specs.Machines.{Call}
+use Rattle.histories.proofs.Lemmas.{node_since}
+use Rattle.ordered_map.specs.Holding.{IsWellCounted, end_slot, held_pairs, pair_in}
+use Rattle.ordered_map.specs.MapLaws.{IsEndmost}
+use Rattle.ordered_map.specs.OrderedMap.{AllBelow, IsRising, pair, get, end_pair}
+use Rattle.ordered_map.specs.Paths.{Passed, IsEndAt, end_key, end_turn}
+use Rattle.ordered_map.specs.Runs.{IsTreeRun}
+use Rattle.ordered_map.specs.TreeWords.{class, is_leaf, rank, toward, said, leaf_pairs, end_said}
+use Rattle.ordered_map.proofs.Lemmas.{IsBeside, IsUpTo, beside_same, run_since, split_at, end_up, end_small, end_is, walk_holds, walk_beside, walk_turns, walk_end, walk_named, walk_next, walk_own, SameSettled, held_end, low_pairs, high_pairs, settled_rank, settled_leaf, settled_toward}
+use Rattle.template.specs.FoundLeaf.{path_key, asked_in, HasFoundGoal, HasFoundLeaf, end_told}
+use Rattle.template.specs.Trails.{WasPassed, HasTurned}
+use Rattle.template.specs.declared.walk.Found.{Found}
+use Rattle.ordered_map.specs.declared.rule.Goal.{Goal}
+use Rattle.ordered_map.specs.declared.rule.Goal.TheVariants.{Key as ToKey, End}
+
+-- the key k stands on the side of a fork of this rank to which the search for the key at the end goes
+abbrev pub IsWithin : Side → ℕ → ℕ → Type 0
+IsWithin Left k r = k < r
+IsWithin Right k r = IsUpTo Right k r
+
+within_up : (end : Side) (k r : ℕ) → IsWithin end k r → IsUpTo end k r
+within_up Left k r x = omega (arith, x)
+within_up Right k r x = x
+
+within_toward : (end : Side) (f : Word → ℕ) (n k : ℕ) → IsWithin end k (rank f n) → toward f n k ≡ toward f n (end_key end)
+within_toward Left f n k x = rw (lt-ltb k (rank f n) x, lt-ltb 0 (rank f n) (omega (arith, x))) refl
+within_toward Right f n k x = go (split_at (rank f n) (2 ^ 64))
+  where
+    go : (rank f n < 2 ^ 64) ⊎ (2 ^ 64 ≤ rank f n) → toward f n k ≡ toward f n (end_key Right)
+    go (inl low) = let up = x.1 low in rw (le-ltb k (rank f n) up, le-ltb (end_key Right) (rank f n) (omega (arith, low))) refl
+    go (inr high) = let small = x.0 in rw (lt-ltb k (rank f n) (omega (arith, small, high)), lt-ltb (end_key Right) (rank f n) (omega (arith, high))) refl
+
+-- what was passed on the way to an end was passed on the way to each key between
+own_passed : (end : Side) (c : Call) (h : History) (k n : ℕ) → IsTreeRun c.layout h → WasPassed c h (end_key end) n → IsUpTo end k (rank (value h) n) → WasPassed c h k n
+own_passed end c h k n run x up = record { first = x.first; own = x.own; passed = walk_own end c.layout h x.first k n run x.passed up }
+
+-- what was passed by a moment says what it said
+passed_same : (c : Call) (h m : History) (k n : ℕ) → IsTreeRun c.layout h → Extends h m → WasPassed c m k n → SameSettled (value m) (value h) n
+passed_same c h m k n run e x part i = node_since c.layout h m n part run.1.lawful e i (walk_named c.layout m x.first k n (run_since c.layout h m run e) x.passed)
+
+module _ (end : Side) (c : Call) (h : History) (n : ℕ) (side : Side) (next : ℕ) (run : IsTreeRun c.layout h) (x : HasTurned c h (end_key end) n side next) where
+  -- to which side a walk to an end has turned
+  turned : side ≡ end_turn end (class (value h) n)
+  turned = sym x.side_is ∙ walk_turns end c.layout h x.passed.first n run x.passed.passed x.fork
+
+  -- and how what it has found there stands to the fork
+  turned_beside : IsBeside (value h) side n next
+  turned_beside =
+      let s = x.shown in
+      let then : IsTreeRun c.layout s.moment = run_since c.layout h s.moment run s.within in
+      let same : SameSettled (value s.moment) (value h) n = passed_same c h s.moment (end_key end) n run s.within s.passed in
+      let fork : is_leaf (value s.moment) n ≡ false = sym (settled_leaf (value s.moment) (value h) n same) ∙ x.fork in
+      let to : toward (value s.moment) n (end_key end) ≡ side = sym (settled_toward (value s.moment) (value h) n (end_key end) same) ∙ x.side_is in
+      let down : WasPassed c s.moment (end_key end) next = record { first = s.passed.first; own = s.passed.own; passed = subst (Passed s.moment s.passed.first (end_key end)) (ap (λ (q : Side). value s.moment (child n q)) to ∙ s.held) (walk_next c.layout s.moment s.passed.first (end_key end) n then s.passed.passed fork) } in
+      let beside : IsBeside (value s.moment) side n (value s.moment (child n side)) = walk_beside c.layout s.moment s.passed.first (end_key end) n side then s.passed.passed fork in
+      beside_same (value s.moment) (value h) side n next (settled_rank (value s.moment) (value h) n same) (settled_rank (value s.moment) (value h) next (passed_same c h s.moment (end_key end) next run s.within down)) (subst (IsBeside (value s.moment) side n) s.held beside)
+
+  -- what is between the end and the node that was found there is on that side of the fork
+  turned_within : (k : ℕ) → IsUpTo end k (rank (value h) next) → IsWithin end k (rank (value h) n)
+  turned_within k up = go end side turned turned_beside up
+    where
+      left : (b : Bool) (q : Side) → q ≡ cond b Left Left → q ≡ Left
+      left true q e = e
+      left false q e = e
+
+      go : (e q : Side) → q ≡ end_turn e (class (value h) n) → IsBeside (value h) q n next → IsUpTo e k (rank (value h) next) → IsWithin e k (rank (value h) n)
+      go Left q is y u =
+          let z : rank (value h) next < rank (value h) n = subst (λ s. IsBeside (value h) s n next) (left (eqb (class (value h) n) 0) q is) y in
+          omega (arith, z, u)
+      go Right q is y u = (
+        u.0,
+        λ low.
+            let zero : class (value h) n ≡ 0 = omega (arith, low) in
+            let z : IsBeside (value h) Right n next = subst (λ s. IsBeside (value h) s n next) (is ∙ ap (λ b. cond b Right Left) (eq-eqb (class (value h) n) 0 zero)) y in
+            let over : rank (value h) n ≤ rank (value h) next = z.0 in
+            let own : rank (value h) next ≤ k = u.1 (z.1 low) in
+            omega (arith, over, own),
+      )
+
+  -- so it is on the way to each key between
+  own_turned : (k : ℕ) → IsWithin end k (rank (value h) n) → HasTurned c h k n side next
+  own_turned k within = record {
+    passed = own_passed end c h k n run x.passed (within_up end k (rank (value h) n) within);
+    fork = x.fork;
+    side_is = within_toward end (value h) n k within ∙ x.side_is;
+    shown =
+        let s = x.shown in
+        let e : rank (value h) n ≡ rank (value s.moment) n = settled_rank (value s.moment) (value h) n (passed_same c h s.moment (end_key end) n run s.within s.passed) in
+        record {
+          moment = s.moment;
+          within = s.within;
+          own = s.own;
+          passed = own_passed end c s.moment k n (run_since c.layout h s.moment run s.within) s.passed (subst (IsUpTo end k) e (within_up end k (rank (value h) n) within));
+          held = s.held;
+        };
+  }
+
+-- of the leaf at an end
+module _ (end : Side) (c : Call) (h : History) (f : Found) (run : IsTreeRun c.layout h) (a : HasFoundGoal (End end) c h f) where
+  abbrev leaf : ℕ
+  leaf = f.trail.node.0
+
+  class_is : class (value h) leaf ≡ f.head.class
+  class_is = ap (λ w. w.class) a.head
+
+  abbrev slot : Slot
+  slot = end_slot end (value h (node leaf (Settled More)))
+
+  holds : f.head.class ≡ 0 → IsWellCounted (value h) leaf × AllBelow (2 ^ 64) (held_pairs (value h) leaf) × IsRising (held_pairs (value h) leaf)
+  holds low = walk_holds c.layout h a.trail.node.first (end_key end) leaf run a.trail.node.passed a.leaf (class_is ∙ low)
+
+  key_low : f.head.class ≡ 0 → value h (node leaf (Settled (Key slot))) ≡ f.key
+  key_low low =
+      let own : asked_in (End end) (value h) leaf ≡ value h (node leaf (Settled (Key slot))) = rw (eq-eqb (class (value h) leaf) 0 (class_is ∙ low)) refl in
+      sym own ∙ a.key
+
+  small_end : f.key < 2 ^ 64
+  small_end = go (ℕ_discrete f.head.class 0)
+    where
+      go : Dec (f.head.class ≡ 0) → f.key < 2 ^ 64
+      go (yes low) = subst (λ k. k < 2 ^ 64) (key_low low) (end_small end (value h) leaf (holds low).1)
+      go (no high) =
+          let zero : asked_in (End end) (value h) leaf ≡ 0 = rw (ne_eqb (class (value h) leaf) 0 (λ z. high (sym class_is ∙ z))) refl in
+          let key = a.key in
+          omega (arith, zero, key)
+
+  -- its key is between the end and its rank
+  own_key : f.head.class ≡ 0 → IsUpTo end f.key (rank (value h) leaf)
+  own_key low = subst (λ k. IsUpTo end k (rank (value h) leaf)) (key_low low) (end_up end (value h) leaf (class_is ∙ low) (holds low).2 (holds low).1)
+
+  -- where the leaf has a key, it is the leaf of that
+  pub found_own : f.head.class ≡ 0 → HasFoundLeaf c h f.key f
+  found_own low = record {
+    trail = record {
+      node = own_passed end c h f.key leaf run a.trail.node (own_key low);
+      parent = λ d. own_turned end c h f.trail.parent.0 f.trail.side leaf run (a.trail.parent d) f.key (at_parent d);
+      grand = λ d p. own_turned end c h f.trail.grand.0 f.trail.grand_side f.trail.parent.0 run (a.trail.grand d p) f.key (at_grand d p);
+      high = a.trail.high;
+    };
+    leaf = a.leaf;
+    head = a.head;
+    deep = a.deep;
+    more = a.more;
+    none = a.none;
+    key = refl;
+    says = a.says ∙ ap (λ k. said (value h) k leaf) a.key;
+  }
+    where
+      at_parent : leaf ≢ 0 → IsWithin end f.key (rank (value h) f.trail.parent.0)
+      at_parent d = turned_within end c h f.trail.parent.0 f.trail.side leaf run (a.trail.parent d) f.key (own_key low)
+
+      at_grand : leaf ≢ 0 → f.trail.parent.0 ≢ 0 → IsWithin end f.key (rank (value h) f.trail.grand.0)
+      at_grand d p = turned_within end c h f.trail.grand.0 f.trail.grand_side f.trail.parent.0 run (a.trail.grand d p) f.key (within_up end f.key (rank (value h) f.trail.parent.0) (at_parent d))
+
+  -- what its words say is what was told of it
+  pub found_told : end_said end (value h) leaf ≡ end_told f
+  found_told = go (ℕ_discrete f.head.class 0)
+    where
+      at_low : f.head.class ≡ 0 → end_said end (value h) leaf ≡ end_told f
+      at_low z =
+          let own = value h (node leaf (Settled (Key slot))) in
+          let held = low_pairs (value h) leaf (class_is ∙ z) in
+          let there : end_pair end (held_pairs (value h) leaf) ≡ Some (pair_in (value h) leaf slot) = held_end end (value h) leaf in
+          let got : get own (held_pairs (value h) leaf) ≡ Some (pair_in (value h) leaf slot).value = (subst (IsEndmost end (held_pairs (value h) leaf)) there (end_is end (held_pairs (value h) leaf) (holds z).2)).0 in
+          let says : f.value ≡ Some (pair_in (value h) leaf slot).value = a.says ∙ ap (λ k. said (value h) k leaf) (a.key ∙ sym (key_low z)) ∙ ap (get own) held ∙ got in
+          ap (end_pair end) held ∙ there ∙ ap (λ k. Some (pair k (pair_in (value h) leaf slot).value)) (key_low z) ∙ sym (ap (option_map (pair f.key)) says)
+
+      empty : (e : Side) → end_pair e [] ≡ None
+      empty Left = refl
+      empty Right = refl
+
+      at_high : f.head.class ≢ 0 → end_said end (value h) leaf ≡ end_told f
+      at_high d =
+          let none : leaf_pairs (value h) leaf ≡ [] = high_pairs (value h) leaf (λ z. d (sym class_is ∙ z)) in
+          ap (end_pair end) none ∙ empty end ∙ sym (ap (option_map (pair f.key)) (a.says ∙ ap (get (asked_in (End end) (value h) leaf)) none))
+
+      go : Dec (f.head.class ≡ 0) → end_said end (value h) leaf ≡ end_told f
+      go (yes z) = at_low z
+      go (no d) = at_high d
+
+  -- so it tells the pair at that end of the map, at a moment of the call
+  pub found_end : IsEndAt end c.layout h a.trail.node.first (end_told f)
+  found_end = subst (IsEndAt end c.layout h a.trail.node.first) found_told (walk_end end c.layout h a.trail.node.first leaf run a.trail.node.passed a.leaf)
+
+-- the key of which it tells is below 2 ^ 64
+pub found_small : (goal : Goal) (c : Call) (h : History) (f : Found) → IsTreeRun c.layout h → path_key goal < 2 ^ 64 → HasFoundGoal goal c h f → f.key < 2 ^ 64
+found_small (ToKey k) c h f run small a = subst (λ n. n < 2 ^ 64) a.key small
+found_small (End end) c h f run small a = small_end end c h f run a
