@@ -1,9 +1,9 @@
 -- The best turn is the greatest after which an ordered read tells what it has told.
-use Rattle.std.proofs.Common.{◌≡◌, ℕ, suc, ◌≤◌, inl, inr, Bool, true, false, cond, ltb, leb, ◌&&◌, List, [], ◌∷◌, take, Option, Some, refl, sym, ◌∙◌, ap, subst, arith}
+use Rattle.std.proofs.Common.{◌≡◌, ℕ, suc, ◌≤◌, inl, inr, Bool, true, false, cond, ltb, leb, ◌&&◌, List, [], ◌∷◌, take, Option, Some, None, ◌↔◌, refl, sym, ◌∙◌, ap, subst, arith}
 use Rattle.std.specs.List.{filter}
 use Rattle.std.proofs.lemmas.Bool.{cases_lt}
 use Rattle.ordered_map.specs.declared.pair.Pair.{Pair}
-use Rattle.ordered_map.specs.OrderedMap.{MapCall, call_pop_first, Successor, Range, MapReply, ManyPairs, pair_or_none, first_pair, successor, between, range, reply, get, IsRising}
+use Rattle.ordered_map.specs.OrderedMap.{MapCall, call_pop_first, Successor, Range, MapReply, OnePair, ManyPairs, pair_or_none, first_pair, successor, between, range, reply, get, IsRising}
 use Rattle.script.specs.declared.call.Call.{Call}
 use Rattle.script.specs.declared.command.Command.{Command}
 use Rattle.script.specs.declared.command.Command.TheVariants.{Map}
@@ -13,7 +13,7 @@ use Rattle.record.specs.MapRecord.{map_call, map_at, written_log}
 use Rattle.record.specs.Placed.{IsGreatestTurn}
 use Rattle.moments.specs.declared.places.Place.{Place}
 use Rattle.moments.specs.Entries.{AreEntries}
-use Rattle.moments.specs.Ordered.{FallFrom, IsOrderedRead, is_unlike, pairs_in, pairs_read}
+use Rattle.moments.specs.Ordered.{FallFrom, IsOrderedRead, Tells, is_unlike, pairs_in, pairs_read}
 use Rattle.moments.proofs.Values.{value_at, value_is, values}
 use Rattle.moments.proofs.Counts.{count_nothing, nothing_counted}
 use Rattle.moments.proofs.Chains.{changes_of}
@@ -46,63 +46,54 @@ one_pair : (ps : List Pair) → pairs_in (Some (pair_or_none (first_pair ps))) �
 one_pair [] = refl
 one_pair (p ∷ ps) = refl
 
-first_taken : (ps : List Pair) → first_pair ps ≡ first_pair (take 1 ps)
-first_taken [] = refl
-first_taken (p ∷ ps) = refl
+-- the reply to an ordered read has just the pairs that it tells
+pub reply_tells : (command : Command) (call : MapCall) (told m : List Pair) → IsOrderedRead command → map_call (Some command) ≡ Some call → IsRising m → Tells command told m ↔ (pairs_in (Some (reply call m)) ≡ told)
+reply_tells command call told m ordered is rises = by_same (reads command ordered is)
+  where
+    by_same : pairs_in (Some (reply call m)) ≡ pairs_read command told m → Tells command told m ↔ (pairs_in (Some (reply call m)) ≡ told)
+    by_same e = (λ x. e ∙ x, λ x. sym e ∙ x)
 
--- the reply to an ordered read tells just its pairs
-pub reply_tells : (command : Command) (call : MapCall) (m : List Pair) → IsOrderedRead command → map_call (Some command) ≡ Some call → pairs_in (Some (reply call m)) ≡ pairs_read command m
-reply_tells (Map PopOf) call m ordered is =
-    let same : call_pop_first ≡ call = cc in
-    ap (λ (c : MapCall). pairs_in (Some (reply c m))) (sym same) ∙ one_pair m ∙ ap (take 1) (filter_all m)
-reply_tells (Map (SuccessorOf k)) call m ordered is =
-    let same : Successor k ≡ call = cc in
-    ap (λ (c : MapCall). pairs_in (Some (reply c m))) (sym same) ∙ ap (λ (o : Option Pair). pairs_in (Some (pair_or_none o))) (successor_first k m) ∙ one_pair (filter (λ (p : Pair). ltb k p.key) m)
-reply_tells (Map (RangeOf low high most)) call m ordered is =
-    let same : Range low high most ≡ call = cc in
-    ap (λ (c : MapCall). pairs_in (Some (reply c m))) (sym same) ∙ ap (take most) (between_all low high m)
-reply_tells command call m ordered is = absurd ordered
+    reads : (read : Command) → IsOrderedRead read → map_call (Some read) ≡ Some call → pairs_in (Some (reply call m)) ≡ pairs_read read told m
+    reads (Map PopOf) o e =
+        let same : call_pop_first ≡ call = cc in
+        ap (λ (c : MapCall). pairs_in (Some (reply c m))) (sym same) ∙ one_pair m ∙ ap (take 1) (filter_all m)
+    reads (Map (SuccessorOf k)) o e =
+        let same : Successor k ≡ call = cc in
+        ap (λ (c : MapCall). pairs_in (Some (reply c m))) (sym same) ∙ ap (λ (f : Option Pair). pairs_in (Some (pair_or_none f))) (successor_first k m) ∙ one_pair (filter (λ (p : Pair). ltb k p.key) m)
+    reads (Map (RangeOf low high most)) o e =
+        let same : Range low high most ≡ call = cc in
+        ap (λ (c : MapCall). pairs_in (Some (reply c m))) (sym same) ∙ ap (take most) (between_all low high m)
+    reads read o e = absurd o
 
--- and maps of which it tells the same pairs have the same reply
-pub same_reply : (command : Command) (call : MapCall) (m n : List Pair) → IsOrderedRead command → map_call (Some command) ≡ Some call → pairs_read command m ≡ pairs_read command n → reply call m ≡ reply call n
-same_reply (Map PopOf) call m n ordered is same =
-    let this : call_pop_first ≡ call = cc in
-    let first : first_pair m ≡ first_pair n = first_taken m ∙ ap (λ ps. first_pair (take 1 ps)) (filter_all m) ∙ ap first_pair same ∙ sym (first_taken n ∙ ap (λ ps. first_pair (take 1 ps)) (filter_all n)) in
-    subst (λ (c : MapCall). reply c m ≡ reply c n) this (ap pair_or_none first)
-same_reply (Map (SuccessorOf k)) call m n ordered is same =
-    let this : Successor k ≡ call = cc in
-    let first : successor k m ≡ successor k n = successor_first k m ∙ first_taken (filter (λ (p : Pair). ltb k p.key) m) ∙ ap first_pair same ∙ sym (first_taken (filter (λ (p : Pair). ltb k p.key) n)) ∙ sym (successor_first k n) in
-    subst (λ (c : MapCall). reply c m ≡ reply c n) this (ap pair_or_none first)
-same_reply (Map (RangeOf low high most)) call m n ordered is same =
-    let this : Range low high most ≡ call = cc in
-    let all : range low high most m ≡ range low high most n = ap (take most) (between_all low high m) ∙ same ∙ sym (ap (take most) (between_all low high n)) in
-    subst (λ (c : MapCall). reply c m ≡ reply c n) this (ap ManyPairs all)
-same_reply command call m n ordered is same = absurd ordered
+-- replies of a pair, or none, that have the same pairs are the same
+same_pairs : (o p : Option Pair) → pairs_in (Some (pair_or_none o)) ≡ pairs_in (Some (pair_or_none p)) → pair_or_none o ≡ pair_or_none p
+same_pairs None None e = refl
+same_pairs (Some x) (Some y) e = let same : x ≡ y = cc in ap OnePair same
+same_pairs None (Some y) e = absurd (let z : [] ≡ y ∷ [] = e in cc)
+same_pairs (Some x) None e = absurd (let z : x ∷ [] ≡ [] = e in cc)
 
--- what is the greatest turn by the pairs is that by the reply
-pub greatest_reply : (command : Command) (call : MapCall) (told : Option MapReply) (calls : List Call) (lines : List Line) (n first last m : ℕ) → IsOrderedRead command → map_call (Some command) ≡ Some call → told ≡ Some (reply call (map_at calls lines n)) → IsGreatestTurn (λ j. pairs_read command (map_at calls lines j) ≡ pairs_in told) first last m → IsGreatestTurn (λ j. told ≡ Some (reply call (map_at calls lines j))) first last m
-greatest_reply command call told calls lines n first last m ordered is says x = record {
-  from = x.from;
-  to = x.to;
-  holds = says ∙ ap (λ (r : MapReply). Some r) (same_reply command call (map_at calls lines n) (map_at calls lines m) ordered is (sym (reply_tells command call (map_at calls lines n) ordered is) ∙ ap pairs_in (sym says) ∙ sym x.holds));
-  none_later = λ j i l e. x.none_later j i l (sym (reply_tells command call (map_at calls lines j) ordered is) ∙ ap pairs_in (sym e));
-}
+-- so are those of an ordered read
+same_reply : (command : Command) (call : MapCall) (m n : List Pair) → IsOrderedRead command → map_call (Some command) ≡ Some call → pairs_in (Some (reply call m)) ≡ pairs_in (Some (reply call n)) → reply call m ≡ reply call n
+same_reply (Map PopOf) call m n ordered is = let same : call_pop_first ≡ call = cc in subst (λ (c : MapCall). pairs_in (Some (reply c m)) ≡ pairs_in (Some (reply c n)) → reply c m ≡ reply c n) same (same_pairs (first_pair m) (first_pair n))
+same_reply (Map (SuccessorOf k)) call m n ordered is = let same : Successor k ≡ call = cc in subst (λ (c : MapCall). pairs_in (Some (reply c m)) ≡ pairs_in (Some (reply c n)) → reply c m ≡ reply c n) same (same_pairs (successor k m) (successor k n))
+same_reply (Map (RangeOf low high most)) call m n ordered is = let same : Range low high most ≡ call = cc in subst (λ (c : MapCall). pairs_in (Some (reply c m)) ≡ pairs_in (Some (reply c n)) → reply c m ≡ reply c n) same (ap ManyPairs)
+same_reply command call m n ordered is = absurd ordered
 
 -- The best turn
 
 module _ (command : Command) (pairs : List Pair) (all : List Place) (calls : List Call) (lines : List Line) (are : AreEntries calls lines (changes_of all)) where
-  map_rises : (m : ℕ) → IsRising (map_at calls lines m)
+  pub map_rises : (m : ℕ) → IsRising (map_at calls lines m)
   map_rises m = (values calls (written_log lines) (changes_of all) m are).0
 
   unlike_now : (j m : ℕ) → is_unlike command pairs j (get j (map_at calls lines m)) ≡ is_unlike command pairs j (value_at j m (changes_of all))
   unlike_now j m = ap (is_unlike command pairs j) (value_is calls (written_log lines) (changes_of all) j m are)
 
   -- where the pairs are told no key is unlike them
-  weightless : (m : ℕ) → pairs_read command (map_at calls lines m) ≡ pairs → weight_at (is_unlike command pairs) (key_bound (changes_of all)) (changes_of all) m ≡ 0
+  weightless : (m : ℕ) → Tells command pairs (map_at calls lines m) → weight_at (is_unlike command pairs) (key_bound (changes_of all)) (changes_of all) m ≡ 0
   weightless m told = count_nothing (key_bound (changes_of all)) (λ j. is_unlike command pairs j (value_at j m (changes_of all))) (λ j. sym (unlike_now j m) ∙ told_like command pairs (map_at calls lines m) (map_rises m) told j)
 
   -- and where no key is they are told, if they are told at all
-  told_there : (n m : ℕ) → pairs_read command (map_at calls lines n) ≡ pairs → weight_at (is_unlike command pairs) (key_bound (changes_of all)) (changes_of all) m ≡ 0 → pairs_read command (map_at calls lines m) ≡ pairs
+  told_there : (n m : ℕ) → Tells command pairs (map_at calls lines n) → weight_at (is_unlike command pairs) (key_bound (changes_of all)) (changes_of all) m ≡ 0 → Tells command pairs (map_at calls lines m)
   told_there n m told none = like_told command pairs (map_at calls lines m) (map_at calls lines n) (map_rises m) (map_rises n) told like
     where
       like : (j : ℕ) → is_unlike command pairs j (get j (map_at calls lines m)) ≡ false
@@ -111,7 +102,7 @@ module _ (command : Command) (pairs : List Pair) (all : List Place) (calls : Lis
         | inr q ↦ unlike_now j m ∙ ap (is_unlike command pairs j) (value_beyond j m (changes_of all) q ∙ sym (value_beyond j n (changes_of all) q)) ∙ sym (unlike_now j n) ∙ told_like command pairs (map_at calls lines n) (map_rises n) told j
       ]
 
-  pub best_told : (first last best more n : ℕ) (rest : List Place) → IsWeighed (is_unlike command pairs) (key_bound (changes_of all)) first last best more all rest → FallFrom (suc first) (changes_of rest) → first ≤ n → n ≤ last → pairs_read command (map_at calls lines n) ≡ pairs → IsGreatestTurn (λ m. pairs_read command (map_at calls lines m) ≡ pairs) first last best
+  pub best_told : (first last best more n : ℕ) (rest : List Place) → IsWeighed (is_unlike command pairs) (key_bound (changes_of all)) first last best more all rest → FallFrom (suc first) (changes_of rest) → first ≤ n → n ≤ last → Tells command pairs (map_at calls lines n) → IsGreatestTurn (λ m. Tells command pairs (map_at calls lines m)) first last best
   best_told first last best more n rest x falls from to told = record {
     from = let f = x.from in let t = x.to in omega (f, t, arith);
     to = x.within;
@@ -125,7 +116,18 @@ module _ (command : Command) (pairs : List Pair) (all : List Place) (calls : Lis
 -- In the words of a reply
 
 -- what is found of the pairs that a reply tells is found of the reply
-pub found_reply : (command : Command) (call : MapCall) (told : Option MapReply) (pairs : List Pair) (calls : List Call) (lines : List Line) (n first last m : ℕ) → IsOrderedRead command → map_call (Some command) ≡ Some call → pairs_in told ≡ pairs → told ≡ Some (reply call (map_at calls lines n)) → (pairs_read command (map_at calls lines n) ≡ pairs → IsGreatestTurn (λ j. pairs_read command (map_at calls lines j) ≡ pairs) first last m) → IsGreatestTurn (λ j. told ≡ Some (reply call (map_at calls lines j))) first last m
-found_reply command call told pairs calls lines n first last m ordered is tells says found =
-    let read = sym (reply_tells command call (map_at calls lines n) ordered is) ∙ ap pairs_in (sym says) ∙ tells in
-    greatest_reply command call told calls lines n first last m ordered is says (subst (λ ps. IsGreatestTurn (λ j. pairs_read command (map_at calls lines j) ≡ ps) first last m) (sym tells) (found read))
+pub found_reply : (command : Command) (call : MapCall) (told : Option MapReply) (calls : List Call) (lines : List Line) (n first last m : ℕ) → ((j : ℕ) → IsRising (map_at calls lines j)) → IsOrderedRead command → map_call (Some command) ≡ Some call → told ≡ Some (reply call (map_at calls lines n)) → (Tells command (pairs_in told) (map_at calls lines n) → IsGreatestTurn (λ j. Tells command (pairs_in told) (map_at calls lines j)) first last m) → IsGreatestTurn (λ j. told ≡ Some (reply call (map_at calls lines j))) first last m
+found_reply command call told calls lines n first last m rises ordered is says found =
+    let x = found (has n says) in
+    record {
+      from = x.from;
+      to = x.to;
+      holds = says ∙ ap (λ (r : MapReply). Some r) (same_reply command call (map_at calls lines n) (map_at calls lines m) ordered is (ap pairs_in (sym says) ∙ sym ((tells m).0 x.holds)));
+      none_later = λ j i l e. x.none_later j i l (has j e);
+    }
+  where
+    tells : (j : ℕ) → Tells command (pairs_in told) (map_at calls lines j) ↔ (pairs_in (Some (reply call (map_at calls lines j))) ≡ pairs_in told)
+    tells j = reply_tells command call (pairs_in told) (map_at calls lines j) ordered is (rises j)
+
+    has : (j : ℕ) → told ≡ Some (reply call (map_at calls lines j)) → Tells command (pairs_in told) (map_at calls lines j)
+    has j e = (tells j).1 (ap pairs_in (sym e))

@@ -108,8 +108,8 @@ held_filter {X} looks value (e ∷ es) = go (looks e.0) refl (value e.0) refl (h
 -- What is told
 
 -- the first pairs that are held of a map, by keys of which it has no others, are those that are told
-pub told_held : {X : Type 0} (command : Command) (es : List (ℕ × X)) (m : List Pair) → IsStrictlySortedBy nat_cmp (keys_of es) → IsRising m → ((j : ℕ) → lookup (is_at (nat_cmp j)) es ≡ None → get j m ≡ None) → take (most_told command) (held (λ j. get j m) (filter (λ e. looks_for command e.0) es)) ≡ pairs_read command m
-told_held {X} command es m sorted rises unknown = ap (take (most_told command)) (held_filter (looks_for command) (λ j. get j m) es) ∙ take_same (most_told command) (filter (λ (p : Pair). looks_for command p.key) (held (λ j. get j m) es)) (filter (λ (p : Pair). looks_for command p.key) m) (filter_rises (looks_for command) (held (λ j. get j m) es) (held_rises (λ j. get j m) es sorted)) (filter_rises (looks_for command) m rises) (λ j t. agree j)
+pub told_held : {X : Type 0} (command : Command) (pairs : List Pair) (es : List (ℕ × X)) (m : List Pair) → IsStrictlySortedBy nat_cmp (keys_of es) → IsRising m → ((j : ℕ) → lookup (is_at (nat_cmp j)) es ≡ None → get j m ≡ None) → take (most_told command) (held (λ j. get j m) (filter (λ e. looks_for command pairs e.0) es)) ≡ pairs_read command pairs m
+told_held {X} command pairs es m sorted rises unknown = ap (take (most_told command)) (held_filter (looks_for command pairs) (λ j. get j m) es) ∙ take_same (most_told command) (filter (λ (p : Pair). looks_for command pairs p.key) (held (λ j. get j m) es)) (filter (λ (p : Pair). looks_for command pairs p.key) m) (filter_rises (looks_for command pairs) (held (λ j. get j m) es) (held_rises (λ j. get j m) es sorted)) (filter_rises (looks_for command pairs) m rises) (λ j t. agree j)
   where
     same : (j : ℕ) → get j (held (λ k. get k m) es) ≡ get j m
     same j = held_get (λ k. get k m) es j ∙ go (lookup (is_at (nat_cmp j)) es) refl
@@ -118,12 +118,12 @@ told_held {X} command es m sorted rises unknown = ap (take (most_told command)) 
         go (Some x) e = refl
         go None e = sym (unknown j e)
 
-    agree : (j : ℕ) → get j (filter (λ (p : Pair). looks_for command p.key) (held (λ k. get k m) es)) ≡ get j (filter (λ (p : Pair). looks_for command p.key) m)
-    agree j = get_filter (looks_for command) j (held (λ k. get k m) es) ∙ ap (λ v. cond (looks_for command j) v None) (same j) ∙ sym (get_filter (looks_for command) j m)
+    agree : (j : ℕ) → get j (filter (λ (p : Pair). looks_for command pairs p.key) (held (λ k. get k m) es)) ≡ get j (filter (λ (p : Pair). looks_for command pairs p.key) m)
+    agree j = get_filter (looks_for command pairs) j (held (λ k. get k m) es) ∙ ap (λ v. cond (looks_for command pairs j) v None) (same j) ∙ sym (get_filter (looks_for command pairs) j m)
 
 -- so of the keys whose newest places are known
-pub told_is : (command : Command) (newest found : List (ℕ × Option ℕ)) (all : List Place) (calls : List Call) (lines : List Line) (turn : ℕ) → AreEntries calls lines (changes_of all) → IsStrictlySortedBy nat_cmp (keys_of newest) → ((key : ℕ) → unwrap_or (lookup (is_at (nat_cmp key)) newest) None ≡ latest key all) → found ≡ filter (λ e. looks_for command e.0) newest → take (most_told command) (held (λ j. get j (map_at calls lines turn)) found) ≡ pairs_read command (map_at calls lines turn)
-told_is command newest found all calls lines turn are sorted newest_are is = ap (λ es. take (most_told command) (held (λ j. get j (map_at calls lines turn)) es)) is ∙ told_held command newest (map_at calls lines turn) sorted (values calls (written_log lines) (changes_of all) turn are).0 unknown
+pub told_is : (command : Command) (pairs : List Pair) (newest found : List (ℕ × Option ℕ)) (all : List Place) (calls : List Call) (lines : List Line) (turn : ℕ) → AreEntries calls lines (changes_of all) → IsStrictlySortedBy nat_cmp (keys_of newest) → ((key : ℕ) → unwrap_or (lookup (is_at (nat_cmp key)) newest) None ≡ latest key all) → found ≡ filter (λ e. looks_for command pairs e.0) newest → take (most_told command) (held (λ j. get j (map_at calls lines turn)) found) ≡ pairs_read command pairs (map_at calls lines turn)
+told_is command pairs newest found all calls lines turn are sorted newest_are is = ap (λ es. take (most_told command) (held (λ j. get j (map_at calls lines turn)) es)) is ∙ told_held command pairs newest (map_at calls lines turn) sorted (values calls (written_log lines) (changes_of all) turn are).0 unknown
   where
     unknown : (j : ℕ) → lookup (is_at (nat_cmp j)) newest ≡ None → get j (map_at calls lines turn) ≡ None
     unknown j e = value_is calls (written_log lines) (changes_of all) j turn are ∙ never j turn all (sym (newest_are j) ∙ ap (λ o. unwrap_or o None) e)
@@ -198,6 +198,6 @@ first_some key value [] is = let y : None ≡ Some value = is in absurd (cc)
 first_some key value (p ∷ ps) is = (p, refl)
 
 -- and one of which a pop would tell no pair has none
-pub first_none : (m : List Pair) → [] ≡ pairs_read (Map PopFirst) m → first_pair m ≡ None
+pub first_none : (m : List Pair) → [] ≡ pairs_read (Map PopFirst) [] m → first_pair m ≡ None
 first_none [] is = refl
 first_none (p ∷ ps) is = absurd (cc)

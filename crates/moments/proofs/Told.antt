@@ -7,7 +7,7 @@ use Rattle.ordered_map.specs.declared.pair.Pair.{Pair}
 use Rattle.ordered_map.specs.OrderedMap.{get, first_pair, AllAbove, IsRising}
 use Rattle.ordered_map.proofs.Lemmas.{get_above}
 use Rattle.script.specs.declared.command.Command.{Command}
-use Rattle.moments.specs.Ordered.{looks_for, most_told, pairs_read, reaches, is_unlike}
+use Rattle.moments.specs.Ordered.{looks_for, most_told, Tells, reaches, is_unlike}
 use Rattle.moments.proofs.Chains.{values_same}
 
 -- Lists of pairs by rising key
@@ -133,39 +133,39 @@ same_option None (Some y) e = absurd (cc)
 same_option (Some x) None e = absurd (cc)
 
 -- of a map of which it tells these pairs no key is unlike them
-pub told_like : (command : Command) (pairs m : List Pair) → IsRising m → pairs_read command m ≡ pairs → (j : ℕ) → is_unlike command pairs j (get j m) ≡ false
-told_like command pairs m r told j = go (looks_for command j) refl (reaches (most_told command) pairs j) refl
+pub told_like : (command : Command) (pairs m : List Pair) → IsRising m → Tells command pairs m → (j : ℕ) → is_unlike command pairs j (get j m) ≡ false
+told_like command pairs m r told j = go (looks_for command pairs j) refl (reaches (most_told command) pairs j) refl
   where
     sought : List Pair
-    sought = filter (λ (p : Pair). looks_for command p.key) m
+    sought = filter (λ (p : Pair). looks_for command pairs p.key) m
 
-    go : (a : Bool) → looks_for command j ≡ a → (b : Bool) → reaches (most_told command) pairs j ≡ b → (a && (b && not (option_eq eqb (get j pairs) (get j m)))) ≡ false
+    go : (a : Bool) → looks_for command pairs j ≡ a → (b : Bool) → reaches (most_told command) pairs j ≡ b → (a && (b && not (option_eq eqb (get j pairs) (get j m)))) ≡ false
     go false e b t = refl
     go true e false t = refl
     go true e true t =
-        let have : get j sought ≡ get j m = get_filter (looks_for command) j m ∙ rw e refl in
-        let gives = take_gives (most_told command) j sought (filter_rises (looks_for command) m r) (ap (λ ps. reaches (most_told command) ps j) told ∙ t) in
+        let have : get j sought ≡ get j m = get_filter (looks_for command pairs) j m ∙ rw e refl in
+        let gives = take_gives (most_told command) j sought (filter_rises (looks_for command pairs) m r) (ap (λ ps. reaches (most_told command) ps j) told ∙ t) in
         rw (same_option (get j pairs) (get j m) (ap (get j) (sym told) ∙ sym gives ∙ have)) refl
 
 -- and of another one of which no key is unlike them it tells these
-pub like_told : (command : Command) (pairs m old : List Pair) → IsRising m → IsRising old → pairs_read command old ≡ pairs → ((j : ℕ) → is_unlike command pairs j (get j m) ≡ false) → pairs_read command m ≡ pairs
-like_told command pairs m old r s told like = take_same (most_told command) sought before (filter_rises (looks_for command) m r) (filter_rises (looks_for command) old s) agree ∙ told
+pub like_told : (command : Command) (pairs m old : List Pair) → IsRising m → IsRising old → Tells command pairs old → ((j : ℕ) → is_unlike command pairs j (get j m) ≡ false) → Tells command pairs m
+like_told command pairs m old r s told like = take_same (most_told command) sought before (filter_rises (looks_for command pairs) m r) (filter_rises (looks_for command pairs) old s) agree ∙ told
   where
     sought : List Pair
-    sought = filter (λ (p : Pair). looks_for command p.key) m
+    sought = filter (λ (p : Pair). looks_for command pairs p.key) m
 
     before : List Pair
-    before = filter (λ (p : Pair). looks_for command p.key) old
+    before = filter (λ (p : Pair). looks_for command pairs p.key) old
 
     agree : (j : ℕ) → reaches (most_told command) (take (most_told command) before) j ≡ true → get j sought ≡ get j before
-    agree j t = get_filter (looks_for command) j m ∙ go (looks_for command j) refl ∙ sym (get_filter (looks_for command) j old)
+    agree j t = get_filter (looks_for command pairs) j m ∙ go (looks_for command pairs j) refl ∙ sym (get_filter (looks_for command pairs) j old)
       where
-        go : (b : Bool) → looks_for command j ≡ b → cond b (get j m) None ≡ cond b (get j old) None
+        go : (b : Bool) → looks_for command pairs j ≡ b → cond b (get j m) None ≡ cond b (get j old) None
         go false e = refl
         go true e =
             let within : reaches (most_told command) pairs j ≡ true = ap (λ ps. reaches (most_told command) ps j) (sym told) ∙ t in
-            let has : get j before ≡ get j old = get_filter (looks_for command) j old ∙ rw e refl in
-            let gives = take_gives (most_told command) j before (filter_rises (looks_for command) old s) t in
+            let has : get j before ≡ get j old = get_filter (looks_for command pairs) j old ∙ rw e refl in
+            let gives = take_gives (most_told command) j before (filter_rises (looks_for command pairs) old s) t in
             let equal : not (option_eq eqb (get j pairs) (get j m)) ≡ false = rw (e, within) at (like j) in
             let same : get j pairs ≡ get j m = values_same (get j pairs) (get j m) (not-false (option_eq eqb (get j pairs) (get j m)) equal) in
             sym same ∙ ap (get j) (sym told) ∙ sym gives ∙ has

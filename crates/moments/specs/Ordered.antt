@@ -17,12 +17,12 @@ IsOrderedRead (Map (Successor key)) = Unit {0}
 IsOrderedRead (Map (Range low high most)) = Unit {0}
 IsOrderedRead _ = ⊥
 
--- whether it looks for this key
-abbrev pub looks_for : Command → ℕ → Bool
-looks_for (Map PopFirst) key = true
-looks_for (Map (Successor above)) key = nat_lt above key
-looks_for (Map (Range low high most)) key = nat_le low key && nat_le key high
-looks_for _ key = false
+-- whether it looks for this key, where it tells these pairs
+abbrev pub looks_for : Command → List Pair → ℕ → Bool
+looks_for (Map PopFirst) told key = true
+looks_for (Map (Successor above)) told key = nat_lt above key
+looks_for (Map (Range low high most)) told key = nat_le low key && nat_le key high
+looks_for _ told key = false
 
 -- how many pairs it tells at most
 abbrev pub most_told : Command → ℕ
@@ -31,9 +31,13 @@ most_told (Map (Successor above)) = 1
 most_told (Map (Range low high most)) = most
 most_told _ = 0
 
--- the pairs that it tells of the map m: the first of those that it looks for
-abbrev pub pairs_read : Command → List Pair → List Pair
-pairs_read command m = take (most_told command) (filter (λ p. looks_for command p.key) m)
+-- the pairs of the map m that it finds, where it tells these: the first of those that it looks for
+abbrev pub pairs_read : Command → List Pair → List Pair → List Pair
+pairs_read command told m = take (most_told command) (filter (λ p. looks_for command told p.key) m)
+
+-- of the map m it tells just these pairs
+abbrev pub Tells : Command → List Pair → List Pair → Type 0
+Tells command told m = pairs_read command told m ≡ told
 
 -- the pairs that a reply tells
 abbrev pub pairs_in : Option MapReply → List Pair
@@ -47,7 +51,7 @@ reaches most pairs key = nat_lt (length pairs) most || list_any (λ p. nat_le ke
 
 -- whether a key of this value is not as these pairs tell
 abbrev pub is_unlike : Command → List Pair → ℕ → Option ℕ → Bool
-is_unlike command pairs key value = looks_for command key && (reaches (most_told command) pairs key && not (option_eq nat_eq (get key pairs) value))
+is_unlike command pairs key value = looks_for command pairs key && (reaches (most_told command) pairs key && not (option_eq nat_eq (get key pairs) value))
 
 -- the turns of the changes fall, the newest being below this one
 abbrev pub FallFrom : ℕ → List Change → Type 0

@@ -35,14 +35,14 @@ pub(crate) fn is_unlike(
 ) -> bool
     ensures { result ≡ is_unlike command.now (number_pairs pairs.now) key value }
 {
-    looks_for(command, key)
+    looks_for(command, pairs, key)
         && reaches(most_told(command), pairs, key)
         && value_in(pairs, key) != value
 }
 
-/// Whether the read looks for this key.
-fn looks_for(command: &Command, key: u64) -> bool
-    ensures { result ≡ looks_for command.now key }
+/// Whether the read looks for this key, where it tells these pairs.
+fn looks_for(command: &Command, pairs: &[(u64, u128)], key: u64) -> bool
+    ensures { result ≡ looks_for command.now (number_pairs pairs.now) key }
 {
     match command {
         Command::Map(Request::PopFirst) => true,
@@ -53,9 +53,9 @@ fn looks_for(command: &Command, key: u64) -> bool
 }
 
 /// Between which keys it looks.
-pub(crate) fn bounds(command: &Command) -> (Bound<u64>, Bound<u64>)
+pub(crate) fn bounds(command: &Command, pairs: &[(u64, u128)]) -> (Bound<u64>, Bound<u64>)
     ensures forward { IsForward (IsLeBy nat_cmp) (IsLtBy nat_cmp) result.0 result.1 }
-    ensures keys { (key : ℕ) → range_contains nat_cmp result.0 result.1 key ≡ looks_for command.now key }
+    ensures keys { (key : ℕ) → range_contains nat_cmp result.0 result.1 key ≡ looks_for command.now (number_pairs pairs.now) key }
 {
     match command {
         Command::Map(Request::PopFirst) => (Bound::Unbounded, Bound::Unbounded),

@@ -46,7 +46,7 @@ impl Places {
     ghost use Rattle.ordered_map.specs.OrderedMap.{MapCall, first_pair, get, reply as replies_on};
     ghost use Rattle.record.specs.MapRecord.{map_call, number_pairs};
     ghost use Rattle.ordered_map.specs.Replies.{number_reply};
-    ghost use Rattle.moments.specs.Ordered.{IsOrderedRead, FallFrom, pairs_read};
+    ghost use Rattle.moments.specs.Ordered.{IsOrderedRead, FallFrom, Tells};
     ghost use Rattle.moments.specs.Links.{newest_value};
     ghost use Rattle.moments.specs.declared.places.Place.{Place};
     ghost use Rattle.moments.specs.Places.{changes, room_for_changes, Knows, HoldsOfKey};
@@ -161,7 +161,7 @@ impl Places {
         ensures none { (calls : List Call) (lines : List Line) → AreEntries calls lines (changes self.now) → result ≡ false →
             (n : ℕ) → first ≤ n → n ≤ last → first_pair (map_at calls lines n) ≡ None }
     {
-        for (key, _) in self.newest.range(bounds(&Command::Map(Request::PopFirst))) {
+        for (key, _) in self.newest.range(bounds(&Command::Map(Request::PopFirst), &[])) {
             if self.had_some(*key, first, last) {
                 return true;
             }
@@ -173,13 +173,13 @@ impl Places {
     /// keys between which the read looks alone, and no further than the read tells.
     pub fn tells(&self, command: &Command, pairs: &[(u64, u128)], turn: u64) -> bool
         ensures told { (calls : List Call) (lines : List Line) → AreEntries calls lines (changes self.now) → IsTrue result →
-            pairs_read command.now (map_at calls lines turn) ≡ number_pairs pairs.now }
+            Tells command.now (number_pairs pairs.now) (map_at calls lines turn) }
         ensures other { (calls : List Call) (lines : List Line) → AreEntries calls lines (changes self.now) → result ≡ false →
-            pairs_read command.now (map_at calls lines turn) ≢ number_pairs pairs.now }
+            ¬ Tells command.now (number_pairs pairs.now) (map_at calls lines turn) }
     {
         let mut untold = most_told(command);
         let mut rest = pairs;
-        for (key, newest) in self.newest.range(bounds(command)) {
+        for (key, newest) in self.newest.range(bounds(command, pairs)) {
             if untold == 0 {
                 return rest.is_empty();
             }
@@ -236,8 +236,8 @@ impl Places {
         ensures within { first ≤ last → FallFrom (suc last) (changes self.now) → (first ≤ result) × (result ≤ last) }
         ensures greatest { (calls : List Call) (lines : List Line) (n : ℕ) → AreEntries calls lines (changes self.now) →
             FallFrom (suc last) (changes self.now) → first ≤ n → n ≤ last →
-            pairs_read command.now (map_at calls lines n) ≡ number_pairs pairs.now → IsGreatestTurn
-            (λ m. pairs_read command.now (map_at calls lines m) ≡ number_pairs pairs.now) first last result }
+            Tells command.now (number_pairs pairs.now) (map_at calls lines n) → IsGreatestTurn
+            (λ m. Tells command.now (number_pairs pairs.now) (map_at calls lines m)) first last result }
     {
         let mut best = last;
         let mut more = 0;

@@ -27,7 +27,7 @@ pub returns-clause-none : goal.returns-clause-none
 returns-clause-none c calls lines a it n i l =
     let pop : Command = Map PopFirst in
     let value = λ (j : ℕ). get j (map_at calls lines n) in
-    let found : c.into_iter-key-iterator.result ≡ filter (λ e. looks_for pop e.0) c.args.self.now.newest.entries = c.into_iter-key-iterator.ensures.into_iter_gives ∙ c.range-key-items.ensures.between tt ∙ (λ i. filter (λ e. c.bounds.ensures.keys e.0 i) c.args.self.now.newest.entries) in
-    let told : take 1 (held value c.into_iter-key-iterator.result) ≡ pairs_read pop (map_at calls lines n) = told_is pop c.args.self.now.newest.entries c.into_iter-key-iterator.result (reverse c.args.self.now.list.items) calls lines n a c.range-key-items.ensures.ordered c.args.self.now.newest_are found in
+    let found : c.into_iter-key-iterator.result ≡ filter (λ e. looks_for pop [] e.0) c.args.self.now.newest.entries = c.into_iter-key-iterator.ensures.into_iter_gives ∙ c.range-key-items.ensures.between tt ∙ (λ i. filter (λ e. c.bounds.ensures.keys e.0 i) c.args.self.now.newest.entries) in
+    let told : take 1 (held value c.into_iter-key-iterator.result) ≡ pairs_read pop [] (map_at calls lines n) = told_is pop [] c.args.self.now.newest.entries c.into_iter-key-iterator.result (reverse c.args.self.now.list.items) calls lines n a c.range-key-items.ensures.ordered c.args.self.now.newest_are found in
     let nothing : held value c.into_iter-key-iterator.result ≡ [] = c.loop-key.invariant calls lines n a i l ∙ ap (held value) c.in-None.ensures.steps.0 in
     first_none (map_at calls lines n) (sym (ap (take 1) nothing) ∙ told)
