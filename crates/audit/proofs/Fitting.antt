@@ -43,7 +43,7 @@ use Rattle.record.specs.Turns.{history, clients, entries, start, entry_at, entry
 use Rattle.audit.specs.Calls.{StandsNext}
 use Rattle.audit.proofs.AfterLines.{idle_clients, log_clients, ended_clients, AreStepped, stepped_clients, unwon_clients, won_clients, get_there}
 use Rattle.judge.specs.Histories.{Judged, seen_history}
-use Rattle.audit.specs.After.{IsAfter, IsSoFar, IsClientAfter, AreClientsAfter, lines_of, layout_of, tries_of, calls_of, is_idle, pass_number}
+use Rattle.audit.specs.After.{IsAfter, IsSoFar, IsClientAfter, AreClientsAfter, lines_of, layout_of, tries_of, calls_of, is_idle, pass_number, IsMapAfter, AreRememberedAfter, Remembers}
 use Rattle.audit.specs.declared.client.Client.{Client}
 use Rattle.audit.specs.declared.run.Run.{Run}
 
@@ -357,3 +357,7 @@ lawful_run run x all lawful settled whole = lawful_lines (layout_of run) (tries_
 
     there : (P : List Line → Type 0) → P (lines_of run) → P (reverse run.record.now.lines.items)
     there P y = subst (λ (l : List Line). P (reverse l)) taken y
+
+-- what a run remembers, where what it remembers of the map goes by what it remembers of turns
+pub remembers_all : (run : Run) (lines : List Line) → IsAfter run lines → (IsAfter run lines → IsMapAfter run lines) → AreRememberedAfter run lines → Remembers run lines
+remembers_all run lines after map remembered = record { after = after; map = map after; remembered = remembered }

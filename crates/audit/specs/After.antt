@@ -1,22 +1,34 @@
 -- What an audit remembers of the lines so far. Lines stand here with the newest first.
-use Rattle.std.specs.Prelude.{◌≡◌, ℕ, Bool, true, false, List, ◌∷◌, length, reverse, take, slice_get, Option, Some, None, drop}
+use Rattle.std.specs.Prelude.{◌≡◌, ℕ, ◌<◌, Bool, true, false, List, ◌∷◌, length, reverse, take, slice_get, Option, Some, None, IfSome, is_some, drop}
 use Rattle.arena.specs.declared.layout.Layout.{Layout}
+use Rattle.arena.specs.declared.limits.Mode.TheVariants.{Tree}
 use Rattle.arena.specs.declared.number.PassNo.{PassNo}
+use Rattle.arena.specs.declared.step.Row.{Row}
+use Rattle.arena.specs.History.{◌⊳◌}
+use Rattle.arena.specs.Shape.{IsBegin}
+use Rattle.ordered_map.specs.FillOrder.{HasRisingLevels}
 use Rattle.script.specs.declared.call.Call.{Call}
+use Rattle.script.specs.declared.command.Command.{Command}
+use Rattle.record.specs.declared.record.Finished.{Finished}
 use Rattle.record.specs.declared.record.Line.{Line}
 use Rattle.record.specs.declared.record.Line.TheVariants.{Step}
 use Rattle.record.specs.declared.record.Entry.{Entry}
 use Rattle.record.specs.declared.record.Row.TheVariants.{Idle}
-use Rattle.record.specs.Turns.{history, turns, entries, last_client, answered, begin, steps, won, entry_owed}
-use Rattle.record.specs.Commands.{commands}
-use Rattle.record.specs.Entries.{IsLog}
-use Rattle.record.specs.LawfulRun.{AreLines}
-use Rattle.record.specs.Replies.{IsReplyOwed}
+use Rattle.record.specs.Turns.{history, turns, entries, last_client, answered, begin, start, steps, won, entry_of, entry_owed}
+use Rattle.record.specs.CommandRules.{enters, HasTakenFew, IsRight}
+use Rattle.record.specs.Commands.{commands, next_command}
+use Rattle.record.specs.Entries.{IsLog, IsWinOf}
+use Rattle.record.specs.LawfulRun.{AreLines, OwesNothing}
+use Rattle.record.specs.Linked.{linked}
+use Rattle.record.specs.Replies.{IsFitting, IsReplyOwed}
+use Rattle.record.specs.Steps.{IsStep}
 use Rattle.audit.specs.Calls.{StandsNext}
+use Rattle.audit.specs.Edits.{MayMakeEdit}
 use Rattle.audit.specs.Remembered.{AreRemembered}
 use Rattle.audit.specs.Trees.{IsMapSoFar}
 use Rattle.judge.specs.Histories.{Judged, seen_history}
 use Rattle.audit.specs.declared.client.Client.{Client}
+use Rattle.audit.specs.declared.edits.Begun.{Begun}
 use Rattle.audit.specs.declared.run.Run.{Run}
 
 -- the lines so far
@@ -84,3 +96,46 @@ IsMapAfter run lines = IsMapSoFar (layout_of run) (calls_of run) run.edits.items
 -- and what it remembers of the steps
 abbrev pub AreRememberedAfter : Run → List Line → Type 0
 AreRememberedAfter run lines = AreRemembered (layout_of run) (calls_of run) lines run.steps
+
+-- What the run remembers is what these lines say: of turns, entries and clients, of the map, and of
+-- the steps.
+pub record Remembers (run : Run) (lines : List Line) : Type 0 where
+  pub after : IsAfter run lines
+  pub map : IsMapAfter run lines
+  pub remembered : AreRememberedAfter run lines
+
+-- The next line may be a turn of this number that makes this step, with which this entry is owed;
+-- `fits` says that the entry is one that its client's call makes.
+pub record IsNextStep (run : Run) (number : ℕ) (row : Row) (owed : Option Entry) (fits : Bool) : Type 0 where
+  -- nothing is owed up to now, and the step fits the lines
+  pub settled : OwesNothing (layout_of run) (calls_of run) (lines_of run)
+  pub step : IsStep (layout_of run) (tries_of run) (calls_of run) (lines_of run) number row
+  -- on the tree levels still rise behind it, and what it begins, if it begins something, makes an edit
+  pub rising : (layout_of run).mode ≡ Tree → HasRisingLevels (seen_history run.steps.judge) → HasRisingLevels (row ⊳ seen_history run.steps.judge)
+  pub edit : (layout_of run).mode ≡ Tree → IsBegin (seen_history run.steps.judge) row row.after → (begun : Begun) × MayMakeEdit (layout_of run) (seen_history run.steps.judge) row.after begun
+  -- the entry is that of the step, and of a client that there is
+  pub is_owed : entry_of (layout_of run) (lines_of run) number row ≡ owed
+  pub client : IfSome owed (λ e. e.client.0 < (layout_of run).passes)
+  pub wins : (e : Entry) → fits ≡ true → owed ≡ Some e → IsWinOf (layout_of run) (calls_of run) (lines_of run) row e
+
+-- nothing but the reply is owed, and it is to the next call of this client, which has this command:
+-- its answer is one that the call may give behind the newest line
+pub record IsReplyToNext (run : Run) (client : Client) (command : Command) (reply : Finished) : Type 0 where
+  pub owed : entry_owed (layout_of run) (lines_of run) ≡ None
+  pub is_client : slice_get run.clients.items client.pass.0 ≡ Some client
+  pub own : client.pass ≡ reply.client
+  pub number : reply.call ≡ client.answered
+  pub begun : client.begun ≡ Some reply.begin
+  pub end : reply.end ≡ run.turn
+  pub fits : IsFitting (lines_of run) command reply.answer
+  -- it tells a change if its client's call has won, and only then
+  pub entry : enters command reply.answer ≡ is_some client.won
+  pub is_next : next_command (calls_of run) (lines_of run) client.pass.0 ≡ Some command
+
+-- the reply is right
+abbrev pub IsRightReply : Run → Finished → Command → Type 0
+IsRightReply run reply command = IsRight (layout_of run) (tries_of run) reply.client.0 (history (layout_of run).mode (lines_of run)) (start (layout_of run).mode (lines_of run) reply.client.0) (linked (calls_of run) (layout_of run).mode (lines_of run) reply.client.0) command reply.answer
+
+-- and its call has taken no more of its pass's share than it may
+abbrev pub TookFew : Run → Finished → Command → Type 0
+TookFew run reply command = HasTakenFew (layout_of run) (tries_of run) reply.client.0 (history (layout_of run).mode (lines_of run)) (start (layout_of run).mode (lines_of run) reply.client.0) command

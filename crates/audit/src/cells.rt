@@ -46,11 +46,14 @@ use script::{Cell, Cells, Command, Update};
 /// Whether an entry of this SCX-record is one that the client's call of cells makes.
 pub(crate) fn is_entry_for(steps: &Steps, client: &Client, command: &Command, scx: ScxNo) -> bool
     requires { client.now.pass.0 < steps.now.judge.layout.passes }
-    ensures { (lay : Layout) (calls : List CallOf) (lines : List Line) → AreRemembered lay calls lines steps.now →
+    ensures { (lay : Layout) (calls : List CallOf) (lines : List Line) →
+        AreRemembered lay calls lines steps.now →
         client.now.begun ≡ begin lines client.now.pass.0 → (row : StepRow) (n : ℕ) (side : SideOf) →
         IsWin (seen_history steps.now.judge) row scx.0 → row.word ≡ child n side → IsTrue result →
-        IsEntryFor lay client.now.pass.0 (seen_history steps.now.judge) (start lay.mode lines client.now.pass.0)
-        (linked calls lay.mode lines client.now.pass.0) (entered lay (seen_history steps.now.judge) scx.0 n side row.after) command.now }
+        IsEntryFor lay client.now.pass.0 (seen_history steps.now.judge)
+        (start lay.mode lines client.now.pass.0)
+        (linked calls lay.mode lines client.now.pass.0)
+        (entered lay (seen_history steps.now.judge) scx.0 n side row.after) command.now }
 {
     match command {
         Command::Scx(update) => is_scx_entry(steps, client, update, scx),
@@ -62,8 +65,10 @@ pub(crate) fn is_entry_for(steps: &Steps, client: &Client, command: &Command, sc
 /// Whether it is one that an SCX with this update makes.
 fn is_scx_entry(steps: &Steps, client: &Client, update: &Update, scx: ScxNo) -> bool
     requires { client.now.pass.0 < steps.now.judge.layout.passes }
-    ensures { (lay : Layout) (calls : List CallOf) (lines : List Line) → AreRemembered lay calls lines steps.now →
-        (row : StepRow) (n : ℕ) (side : SideOf) → IsWin (seen_history steps.now.judge) row scx.0 → row.word ≡ child n side →
+    ensures { (lay : Layout) (calls : List CallOf) (lines : List Line) →
+        AreRemembered lay calls lines steps.now →
+        (row : StepRow) (n : ℕ) (side : SideOf) → IsWin (seen_history steps.now.judge) row scx.0 →
+        row.word ≡ child n side →
         IsTrue result → IsScxEntry update.now lay client.now.pass.0 (seen_history steps.now.judge)
         (start lay.mode lines client.now.pass.0) (linked calls lay.mode lines client.now.pass.0)
         (entered lay (seen_history steps.now.judge) scx.0 n side row.after) }
@@ -84,11 +89,14 @@ fn is_set_entry(
     scx: ScxNo,
 ) -> bool
     requires { client.now.pass.0 < steps.now.judge.layout.passes }
-    ensures { (lay : Layout) (calls : List CallOf) (lines : List Line) → AreRemembered lay calls lines steps.now →
+    ensures { (lay : Layout) (calls : List CallOf) (lines : List Line) →
+        AreRemembered lay calls lines steps.now →
         client.now.begun ≡ begin lines client.now.pass.0 → (row : StepRow) (n : ℕ) (side : SideOf) →
         IsWin (seen_history steps.now.judge) row scx.0 → row.word ≡ child n side → IsTrue result →
-        IsSetEntry field.now value lay client.now.pass.0 (seen_history steps.now.judge) (start lay.mode lines client.now.pass.0)
-        (linked calls lay.mode lines client.now.pass.0) (entered lay (seen_history steps.now.judge) scx.0 n side row.after) }
+        IsSetEntry field.now value lay client.now.pass.0 (seen_history steps.now.judge)
+        (start lay.mode lines client.now.pass.0)
+        (linked calls lay.mode lines client.now.pass.0)
+        (entered lay (seen_history steps.now.judge) scx.0 n side row.after) }
 {
     let (judge, memory) = (&steps.judge, steps.memory(client.pass));
     let cell = Cells::one(field.0);
@@ -145,7 +153,9 @@ fn finalizes(plan: Plan, place: u8) -> bool
 
 /// Whether an SCX-record changes this field.
 fn is_into(judge: &Judge, scx: ScxNo, field: &(Cell, Side)) -> bool
-    ensures node { IsTrue result → member_of (seen_history judge.now) scx.0 (field_index (seen_history judge.now) scx.0) ≡ field.now.0 }
+    ensures node { IsTrue result →
+        member_of (seen_history judge.now) scx.0
+        (field_index (seen_history judge.now) scx.0) ≡ field.now.0 }
     ensures side { IsTrue result → side_of (plan_of (seen_history judge.now) scx.0) ≡ field.now.1 }
 {
     let plan = plan(judge, scx);
@@ -157,7 +167,9 @@ fn is_into(judge: &Judge, scx: ScxNo, field: &(Cell, Side)) -> bool
 /// are 0.
 fn is_fresh(judge: &Judge, pass: PassNo, scx: ScxNo, value: u64) -> bool
     requires { pass.0 < judge.now.layout.passes }
-    ensures { IsTrue result → IsFreshWith judge.now.layout pass.0 (seen_history judge.now) (new_of (seen_history judge.now) scx.0) value }
+    ensures { IsTrue result →
+        IsFreshWith judge.now.layout pass.0 (seen_history judge.now)
+        (new_of (seen_history judge.now) scx.0) value }
 {
     let new = scx_word(judge, scx, ScxWord::New);
     is_own_node(judge.layout(), pass, new)
@@ -172,15 +184,18 @@ fn is_fresh(judge: &Judge, pass: PassNo, scx: ScxNo, value: u64) -> bool
 
 /// Whether a cell is under no entry later than this one, and not final.
 fn is_unchanged(judge: &Judge, cell: NodeNo, entry: u64) -> bool
-    ensures last { IsTrue result → last (log judge.now.layout (seen_history judge.now)) cell.0 ≡ entry }
-    ensures not_final { IsTrue result → is_final (log judge.now.layout (seen_history judge.now)) cell.0 ≡ false }
+    ensures last { IsTrue result →
+        last (log judge.now.layout (seen_history judge.now)) cell.0 ≡ entry }
+    ensures not_final { IsTrue result →
+        is_final (log judge.now.layout (seen_history judge.now)) cell.0 ≡ false }
 {
     judge.last(cell) == entry && !judge.is_final(cell)
 }
 
 /// Whether a cell is as the client's snapshot says.
 fn is_as_snapped(judge: &Judge, memory: &Memory, cell: NodeNo) -> bool
-    ensures { (linked : ℕ → Option History) → AreSnapshotsOf judge.now.layout (seen_history judge.now) memory.now linked → IsTrue result →
+    ensures { (linked : ℕ → Option History) →
+        AreSnapshotsOf judge.now.layout (seen_history judge.now) memory.now linked → IsTrue result →
         IsAsSnapped judge.now.layout (seen_history judge.now) linked cell.0 }
 {
     match memory.snapshot(cell) {
@@ -190,7 +205,8 @@ fn is_as_snapped(judge: &Judge, memory: &Memory, cell: NodeNo) -> bool
 }
 
 fn are_unchanged(judge: &Judge, memory: &Memory, cells: &[Cell]) -> bool
-    ensures { (linked : ℕ → Option History) → AreSnapshotsOf judge.now.layout (seen_history judge.now) memory.now linked → IsTrue result →
+    ensures { (linked : ℕ → Option History) →
+        AreSnapshotsOf judge.now.layout (seen_history judge.now) memory.now linked → IsTrue result →
         AreUnchanged judge.now.layout (seen_history judge.now) linked cells.now }
 {
     for cell in cells {
@@ -214,7 +230,8 @@ fn own_look(memory: &Memory, cell: NodeNo) -> Option<Look>
 /// Whether a cell is as the last look of the call's own LLX has found it.
 fn is_as_looked(judge: &Judge, memory: &Memory, cell: NodeNo) -> bool
     ensures { (c : ℕ) (start : History) (linked : ℕ → Option History) →
-        IsCallSeen judge.now.layout c (seen_history judge.now) start linked memory.now → IsTrue result →
+        IsCallSeen judge.now.layout c
+        (seen_history judge.now) start linked memory.now → IsTrue result →
         IsAsLooked judge.now.layout c (seen_history judge.now) start cell.0 }
 {
     match own_look(memory, cell) {
@@ -225,7 +242,8 @@ fn is_as_looked(judge: &Judge, memory: &Memory, cell: NodeNo) -> bool
 
 /// Of each of the cells of a `vlx`: whether it is as the client's snapshot says.
 pub(crate) fn same_cells(judge: &Judge, memory: &Memory, cells: &[Cell]) -> [bool; 4]
-    ensures { (linked : ℕ → Option History) → AreSnapshotsOf judge.now.layout (seen_history judge.now) memory.now linked →
+    ensures { (linked : ℕ → Option History) →
+        AreSnapshotsOf judge.now.layout (seen_history judge.now) memory.now linked →
         AreSameAt judge.now.layout (seen_history judge.now) linked cells.now result }
 {
     [
@@ -238,8 +256,10 @@ pub(crate) fn same_cells(judge: &Judge, memory: &Memory, cells: &[Cell]) -> [boo
 
 /// Whether the cell at a place is, if there is one.
 fn is_same(judge: &Judge, memory: &Memory, cells: &[Cell], place: usize) -> bool
-    ensures { (linked : ℕ → Option History) → AreSnapshotsOf judge.now.layout (seen_history judge.now) memory.now linked → IsTrue result →
-        (n : ℕ) → slice_get cells.now place ≡ Some n → IsAsSnapped judge.now.layout (seen_history judge.now) linked n }
+    ensures { (linked : ℕ → Option History) →
+        AreSnapshotsOf judge.now.layout (seen_history judge.now) memory.now linked → IsTrue result →
+        (n : ℕ) → slice_get cells.now place ≡ Some n →
+        IsAsSnapped judge.now.layout (seen_history judge.now) linked n }
 {
     match cells.get(place) {
         Some(cell) => is_as_snapped(judge, memory, cell.node()),
@@ -251,12 +271,16 @@ fn is_same(judge: &Judge, memory: &Memory, cells: &[Cell], place: usize) -> bool
 pub(crate) fn is_right(steps: &Steps, client: &Client, command: &Command, reply: &Finished) -> bool
     requires pass { client.now.pass.0 < steps.now.judge.layout.passes }
     requires cells { steps.now.judge.layout.mode ≡ Records }
-    ensures right { (lay : Layout) (tries : ℕ) (calls : List CallOf) (lines : List Line) → AreRemembered lay calls lines steps.now →
-        IsSome (begin lines client.now.pass.0) → next_command calls lines client.now.pass.0 ≡ Some command.now → IsTrue result →
-        IsRight lay tries client.now.pass.0 (history lay.mode lines) (start lay.mode lines client.now.pass.0)
+    ensures right { (lay : Layout) (tries : ℕ) (calls : List CallOf) (lines : List Line) →
+        AreRemembered lay calls lines steps.now →
+        IsSome (begin lines client.now.pass.0) →
+        next_command calls lines client.now.pass.0 ≡ Some command.now → IsTrue result →
+        IsRight lay tries client.now.pass.0 (history lay.mode lines)
+        (start lay.mode lines client.now.pass.0)
         (linked calls lay.mode lines client.now.pass.0) command.now reply.now.answer }
     ensures placed { (lay : Layout) (calls : List CallOf) (lines : List Line) →
-        IsClientAfter lay calls lines reply.now.client.0 client.now → IsTrue result → IsPlaced lay calls lines reply.now command.now }
+        IsClientAfter lay calls lines reply.now.client.0 client.now → IsTrue result →
+        IsPlaced lay calls lines reply.now command.now }
 {
     reply.moment == moment_of(client, reply) && is_true(steps, client.pass, command, &reply.answer)
 }
@@ -278,11 +302,15 @@ fn moment_of(client: &Client, reply: &Finished) -> Option<u64>
 fn is_true(steps: &Steps, pass: PassNo, command: &Command, answer: &Answer) -> bool
     requires pass { pass.0 < steps.now.judge.layout.passes }
     requires cells { steps.now.judge.layout.mode ≡ Records }
-    ensures right { (lay : Layout) (tries : ℕ) (calls : List CallOf) (lines : List Line) → AreRemembered lay calls lines steps.now →
-        IsSome (begin lines pass.0) → next_command calls lines pass.0 ≡ Some command.now → IsTrue result →
-        IsRight lay tries pass.0 (history lay.mode lines) (start lay.mode lines pass.0) (linked calls lay.mode lines pass.0) command.now
+    ensures right { (lay : Layout) (tries : ℕ) (calls : List CallOf) (lines : List Line) →
+        AreRemembered lay calls lines steps.now →
+        IsSome (begin lines pass.0) →
+        next_command calls lines pass.0 ≡ Some command.now → IsTrue result →
+        IsRight lay tries pass.0 (history lay.mode lines) (start lay.mode lines pass.0)
+        (linked calls lay.mode lines pass.0) command.now
         answer.now }
-    ensures placed { (lay : Layout) (calls : List CallOf) (lines : List Line) (reply : Finished) → IsTrue result →
+    ensures placed { (lay : Layout) (calls : List CallOf) (lines : List Line)
+        (reply : Finished) → IsTrue result →
         IsPlacedCell lay lines reply → IsPlaced lay calls lines reply command.now }
 {
     let memory = steps.memory(pass);
@@ -297,9 +325,12 @@ fn is_true(steps: &Steps, pass: PassNo, command: &Command, answer: &Answer) -> b
 
 fn is_true_of_llx(steps: &Steps, pass: PassNo, memory: &Memory, cell: Cell, answer: &Answer) -> bool
     requires { steps.now.judge.layout.mode ≡ Records }
-    ensures { (start : History) (linked : ℕ → Option History) → AreStepsOf steps.now.judge.layout (seen_history steps.now.judge) steps.now →
-        IsCallSeen steps.now.judge.layout pass.0 (seen_history steps.now.judge) start linked memory.now → IsTrue result →
-        LlxIsRight cell steps.now.judge.layout pass.0 (seen_history steps.now.judge) start linked answer.now }
+    ensures { (start : History) (linked : ℕ → Option History) →
+        AreStepsOf steps.now.judge.layout (seen_history steps.now.judge) steps.now →
+        IsCallSeen steps.now.judge.layout pass.0
+        (seen_history steps.now.judge) start linked memory.now → IsTrue result →
+        LlxIsRight cell steps.now.judge.layout pass.0
+        (seen_history steps.now.judge) start linked answer.now }
 {
     match answer {
         Answer::Snapshot { left, right } => is_snapshot(&steps.judge, cell.node(), (*left, *right)),
@@ -313,7 +344,8 @@ fn is_true_of_llx(steps: &Steps, pass: PassNo, memory: &Memory, cell: Cell, answ
 
 /// Whether these are the fields of a cell, which is not final.
 fn is_snapshot(judge: &Judge, cell: NodeNo, fields: (NodeNo, NodeNo)) -> bool
-    ensures { IsTrue result → IsSnapshotAt judge.now.layout (seen_history judge.now) cell.0 fields.0.0 fields.1.0 }
+    ensures { IsTrue result →
+        IsSnapshotAt judge.now.layout (seen_history judge.now) cell.0 fields.0.0 fields.1.0 }
 {
     judge.laws_hold();
     !judge.is_final(cell)
@@ -326,8 +358,10 @@ fn is_snapshot(judge: &Judge, cell: NodeNo, fields: (NodeNo, NodeNo)) -> bool
 /// finished; and the cell was not final at the begin.
 fn has_failed(steps: &Steps, pass: PassNo, memory: &Memory, cell: Cell, scx: ScxNo) -> bool
     requires { steps.now.judge.layout.mode ≡ Records }
-    ensures { (start : History) (linked : ℕ → Option History) → AreStepsOf steps.now.judge.layout (seen_history steps.now.judge) steps.now →
-        IsCallSeen steps.now.judge.layout pass.0 (seen_history steps.now.judge) start linked memory.now → IsTrue result →
+    ensures { (start : History) (linked : ℕ → Option History) →
+        AreStepsOf steps.now.judge.layout (seen_history steps.now.judge) steps.now →
+        IsCallSeen steps.now.judge.layout pass.0
+        (seen_history steps.now.judge) start linked memory.now → IsTrue result →
         HasFailed steps.now.judge.layout pass.0 (seen_history steps.now.judge) start cell scx.0 }
 {
     let blamed = (cell.node(), scx);
@@ -349,7 +383,8 @@ fn has_found(look: Option<Look>, blamed: (NodeNo, ScxNo), after: u64) -> bool
 }
 
 fn had_room(memory: &Memory) -> bool
-    ensures { (lay : Layout) (c : ℕ) (h start : History) (linked : ℕ → Option History) → IsCallSeen lay c h start linked memory.now →
+    ensures { (lay : Layout) (c : ℕ) (h start : History) (linked : ℕ → Option History) →
+        IsCallSeen lay c h start linked memory.now →
         IsTrue result → HasRoom lay c start }
 {
     memory.nodes > 0 && memory.scx > 0
@@ -363,9 +398,12 @@ fn is_true_of_scx(
     answer: &Answer,
 ) -> bool
     requires { pass.0 < steps.now.judge.layout.passes }
-    ensures { (start : History) (linked : ℕ → Option History) → AreStepsOf steps.now.judge.layout (seen_history steps.now.judge) steps.now →
-        IsCallSeen steps.now.judge.layout pass.0 (seen_history steps.now.judge) start linked memory.now → IsTrue result →
-        ScxIsRight update.now steps.now.judge.layout pass.0 (seen_history steps.now.judge) start linked answer.now }
+    ensures { (start : History) (linked : ℕ → Option History) →
+        AreStepsOf steps.now.judge.layout (seen_history steps.now.judge) steps.now →
+        IsCallSeen steps.now.judge.layout pass.0
+        (seen_history steps.now.judge) start linked memory.now → IsTrue result →
+        ScxIsRight update.now steps.now.judge.layout pass.0
+        (seen_history steps.now.judge) start linked answer.now }
 {
     let cells = update.cells();
     match answer {
@@ -390,10 +428,14 @@ fn is_true_of_vlx(
     cells: &Cells,
     answer: &Answer,
 ) -> bool
-    ensures { (start : History) (linked : ℕ → Option History) → AreStepsOf steps.now.judge.layout (seen_history steps.now.judge) steps.now →
-        IsCallSeen steps.now.judge.layout pass.0 (seen_history steps.now.judge) start linked memory.now →
-        AreSameAt steps.now.judge.layout start linked (cells_of cells.now) memory.now.same → IsTrue result →
-        VlxIsRight cells.now steps.now.judge.layout pass.0 (seen_history steps.now.judge) start linked answer.now }
+    ensures { (start : History) (linked : ℕ → Option History) →
+        AreStepsOf steps.now.judge.layout (seen_history steps.now.judge) steps.now →
+        IsCallSeen steps.now.judge.layout pass.0
+        (seen_history steps.now.judge) start linked memory.now →
+        AreSameAt steps.now.judge.layout start linked
+        (cells_of cells.now) memory.now.same → IsTrue result →
+        VlxIsRight cells.now steps.now.judge.layout pass.0
+        (seen_history steps.now.judge) start linked answer.now }
 {
     let cells = cells.as_slice();
     match answer {
@@ -413,8 +455,10 @@ fn is_true_of_set(steps: &Steps, pass: PassNo, memory: &Memory, cell: Cell, answ
     requires cells { steps.now.judge.layout.mode ≡ Records }
     ensures { (start : History) (linked : ℕ → Option History) (side : SideOf) (x : ℕ) →
         AreStepsOf steps.now.judge.layout (seen_history steps.now.judge) steps.now →
-        IsCallSeen steps.now.judge.layout pass.0 (seen_history steps.now.judge) start linked memory.now → IsTrue result →
-        SetIsRight (cell, side) x steps.now.judge.layout pass.0 (seen_history steps.now.judge) start linked answer.now }
+        IsCallSeen steps.now.judge.layout pass.0
+        (seen_history steps.now.judge) start linked memory.now → IsTrue result →
+        SetIsRight (cell, side) x steps.now.judge.layout pass.0
+        (seen_history steps.now.judge) start linked answer.now }
 {
     match answer {
         Answer::Finalized => steps.judge.is_final(cell.node()),
@@ -438,9 +482,11 @@ fn is_true_of_set(steps: &Steps, pass: PassNo, memory: &Memory, cell: Cell, answ
 fn has_just_looked(steps: &Steps, memory: &Memory, cell: NodeNo) -> bool
     ensures look { (c : ℕ) (start : History) (linked : ℕ → Option History) →
         AreStepsOf steps.now.judge.layout (seen_history steps.now.judge) steps.now →
-        IsCallSeen steps.now.judge.layout c (seen_history steps.now.judge) start linked memory.now → IsTrue result →
+        IsCallSeen steps.now.judge.layout c
+        (seen_history steps.now.judge) start linked memory.now → IsTrue result →
         IsLastLook c (seen_history steps.now.judge) start (seen_history steps.now.judge) cell.0 }
-    ensures not_final { IsTrue result → is_final (log steps.now.judge.layout (seen_history steps.now.judge)) cell.0 ≡ false }
+    ensures not_final { IsTrue result →
+        is_final (log steps.now.judge.layout (seen_history steps.now.judge)) cell.0 ≡ false }
 {
     match own_look(memory, cell) {
         Some(look) => look.steps == steps.count && !steps.judge.is_final(cell),
@@ -453,10 +499,14 @@ fn has_just_looked(steps: &Steps, memory: &Memory, cell: NodeNo) -> bool
 /// not final.
 fn has_lost(steps: &Steps, pass: PassNo, memory: &Memory, cell: Cell, scx: ScxNo) -> bool
     requires { steps.now.judge.layout.mode ≡ Records }
-    ensures { (start : History) (linked : ℕ → Option History) → AreStepsOf steps.now.judge.layout (seen_history steps.now.judge) steps.now →
-        IsCallSeen steps.now.judge.layout pass.0 (seen_history steps.now.judge) start linked memory.now → IsTrue result →
-        IsInTheWay steps.now.judge.layout pass.0 (seen_history steps.now.judge) start Freeze (cell ∷ []) cell scx.0 (λ moment.
-        IsLastLook pass.0 (seen_history steps.now.judge) start moment cell × (is_final (log steps.now.judge.layout moment) cell ≡ false)) }
+    ensures { (start : History) (linked : ℕ → Option History) →
+        AreStepsOf steps.now.judge.layout (seen_history steps.now.judge) steps.now →
+        IsCallSeen steps.now.judge.layout pass.0
+        (seen_history steps.now.judge) start linked memory.now → IsTrue result →
+        IsInTheWay steps.now.judge.layout pass.0 (seen_history steps.now.judge) start Freeze
+        (cell ∷ []) cell scx.0 (λ moment.
+        IsLastLook pass.0 (seen_history steps.now.judge) start moment cell
+        × (is_final (log steps.now.judge.layout moment) cell ≡ false)) }
 {
     let blamed = (cell.node(), scx);
     match own_look(memory, blamed.0) {
@@ -481,9 +531,13 @@ fn has_come(
 ) -> bool
     ensures { (kind : KindOf) (start : History) (linked : ℕ → Option History) →
         AreStepsOf steps.now.judge.layout (seen_history steps.now.judge) steps.now →
-        IsCallSeen steps.now.judge.layout pass.0 (seen_history steps.now.judge) start linked memory.now →
-        ((kept : LookOf) → look ≡ Some kept → IsLookOf steps.now.judge.layout (seen_history steps.now.judge) pass.0 kind kept) →
-        IsTrue result → IsInTheWay steps.now.judge.layout pass.0 (seen_history steps.now.judge) start kind cells.now blamed.0.0 blamed.1.0
+        IsCallSeen steps.now.judge.layout pass.0
+        (seen_history steps.now.judge) start linked memory.now →
+        ((kept : LookOf) → look ≡ Some kept →
+        IsLookOf steps.now.judge.layout (seen_history steps.now.judge) pass.0 kind kept) →
+        IsTrue result →
+        IsInTheWay steps.now.judge.layout pass.0
+        (seen_history steps.now.judge) start kind cells.now blamed.0.0 blamed.1.0
         (λ moment. linked blamed.0.0 ≡ Some moment) }
 {
     match memory.snapshot(blamed.0) {
@@ -508,16 +562,19 @@ fn is_among(cells: &[Cell], node: NodeNo) -> bool
 }
 
 fn are_linked(memory: &Memory, cells: &[Cell]) -> bool
-    ensures { (lay : Layout) (h : History) (linked : ℕ → Option History) → AreSnapshotsOf lay h memory.now linked → IsTrue result → AreLinked linked cells.now }
+    ensures { (lay : Layout) (h : History) (linked : ℕ → Option History) →
+        AreSnapshotsOf lay h memory.now linked → IsTrue result → AreLinked linked cells.now }
 {
     first_unlinked(memory, cells).is_none()
 }
 
 /// The first of the cells of which a client keeps no snapshot.
 fn first_unlinked(memory: &Memory, cells: &[Cell]) -> Option<NodeNo>
-    ensures first { (lay : Layout) (h : History) (linked : ℕ → Option History) → AreSnapshotsOf lay h memory.now linked →
+    ensures first { (lay : Layout) (h : History) (linked : ℕ → Option History) →
+        AreSnapshotsOf lay h memory.now linked →
         IfSome result (λ n. IsFirstUnlinked linked cells.now n.0) }
-    ensures none { (lay : Layout) (h : History) (linked : ℕ → Option History) → AreSnapshotsOf lay h memory.now linked →
+    ensures none { (lay : Layout) (h : History) (linked : ℕ → Option History) →
+        AreSnapshotsOf lay h memory.now linked →
         IfNone result (AreLinked linked cells.now) }
 {
     for cell in cells {
@@ -531,7 +588,8 @@ fn first_unlinked(memory: &Memory, cells: &[Cell]) -> Option<NodeNo>
 
 /// Whether all cells of a `vlx` were as their snapshots say as the call began.
 fn are_all_like(same: [bool; 4], cells: &[Cell]) -> bool
-    ensures { (lay : Layout) (at : History) (linked : ℕ → Option History) → AreSameAt lay at linked cells.now same → IsTrue result →
+    ensures { (lay : Layout) (at : History) (linked : ℕ → Option History) →
+        AreSameAt lay at linked cells.now same → IsTrue result →
         AreUnchanged lay at linked cells.now }
 {
     for place in 0..cells.len() {
@@ -550,7 +608,8 @@ fn is_like(same: [bool; 4], place: usize) -> bool
 
 /// Whether all cells before this one were.
 fn is_behind_all_like(same: [bool; 4], cells: &[Cell], node: NodeNo) -> bool
-    ensures { (lay : Layout) (at : History) (linked : ℕ → Option History) → AreSameAt lay at linked cells.now same → IsTrue result →
+    ensures { (lay : Layout) (at : History) (linked : ℕ → Option History) →
+        AreSameAt lay at linked cells.now same → IsTrue result →
         IsBehindAll (IsAsSnapped lay at linked) cells.now node.0 }
 {
     for place in 0..cells.len() {

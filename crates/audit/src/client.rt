@@ -64,7 +64,11 @@ impl Client {
     /// The same, with this turn of its own, in which it has made a step.
     pub(crate) fn stepped(self, number: u64) -> Client
         requires { self.steps + 1 < 2 ^ 64 }
-        ensures { result ≡ record self { begun = Some (unwrap_or self.begun number); steps = self.steps + 1 } }
+        ensures { result ≡ record self {
+          begun = Some
+              (unwrap_or self.begun number);
+          steps = self.steps + 1;
+        } }
     {
         Client {
             steps: self.steps + 1,
@@ -75,7 +79,8 @@ impl Client {
     /// The same, with its call answered.
     pub(crate) fn ended(self, calls: &[Call]) -> Client
         requires { self.answered + 1 < 2 ^ 64 }
-        ensures place { (left : List CommandOf) → StandsNext calls.now self.pass.0 left self.at → StandsNext calls.now self.pass.0 (drop 1 left) result.at }
+        ensures place { (left : List CommandOf) → StandsNext calls.now self.pass.0 left self.at →
+            StandsNext calls.now self.pass.0 (drop 1 left) result.at }
         ensures same { result ≡ record self { at = result.at; answered = self.answered + 1; begun = None; steps = 0; won = None } }
     {
         Client {
@@ -101,7 +106,8 @@ pub(crate) fn note_win(clients: &mut Vec<Client>, number: u64, owed: &Option<Ent
     requires there { IfSome owed.now (λ e. e.client.0 < length clients.old.items) }
     ensures same { length clients.new.items ≡ length clients.old.items }
     ensures none { owed.now ≡ None → clients.new.items ≡ clients.old.items }
-    ensures some { (e : EntryOf) → (c : ClientOf) → owed.now ≡ Some e → slice_get clients.old.items e.client.0 ≡ Some c →
+    ensures some { (e : EntryOf) → (c : ClientOf) → owed.now ≡ Some e →
+        slice_get clients.old.items e.client.0 ≡ Some c →
         clients.new.items ≡ set clients.old.items e.client.0 (record c { won = Some number }) }
 {
     if let Some(entry) = owed {

@@ -55,7 +55,8 @@ pub(crate) fn most_steps(command: &Command, limits: &Limits, taken: u64) -> u64
 
 /// How many steps a call of the map may make at most, in so many tries.
 fn most_map_steps(request: &Request<u64, u128>, tries: u64, levels: u64) -> u64
-    ensures { (all : ℕ) → levels ≤ 2 + all → result ≤ command_steps (MapCommand request.now) tries all }
+    ensures { (all : ℕ) → levels ≤ 2 + all →
+        result ≤ command_steps (MapCommand request.now) tries all }
 {
     if let Some((_, rule)) = request.edit() {
         return edit_steps(tries, levels, rule.steps_behind());

@@ -71,7 +71,8 @@ fn edit_in(command: &Command) -> Option<(Goal, Rule)>
 fn edit_for(judge: &Judge, scx: u64, command: &Command, goal: Goal, rule: Rule) -> Option<Begun>
     requires { map_call (Some command.now) ≡ Some (Edit goal rule) }
     ensures command { IfSome result (λ begun. begun.command ≡ command.now) }
-    ensures own { IfSome result (λ begun. IsEditBy (map_call (Some command.now)) (edit_begun begun)) }
+    ensures own { IfSome result
+        (λ begun. IsEditBy (map_call (Some command.now)) (edit_begun begun)) }
     ensures small { IfSome result (λ begun. begun.key < 2 ^ 64) }
 {
     let key = match goal {
@@ -159,8 +160,10 @@ fn covers_two(judge: &Judge, scx: u64) -> bool
 
 /// Whether this is the first key that a leaf gives the map.
 fn is_first_key(judge: &Judge, leaf: u64, key: u64) -> bool
-    requires readable { class (word_now judge.now) leaf ≡ 0 → IsWellCounted (word_now judge.now) leaf }
-    ensures { IsTrue result → (v : ℕ) × (first_pair (leaf_pairs (word_now judge.now) leaf) ≡ Some (pair key v)) }
+    requires readable { class (word_now judge.now) leaf ≡ 0 →
+        IsWellCounted (word_now judge.now) leaf }
+    ensures { IsTrue result → (v : ℕ)
+        × (first_pair (leaf_pairs (word_now judge.now) leaf) ≡ Some (pair key v)) }
 {
     let pairs = given(judge, leaf);
     key_in(pairs.as_slice(), 0) == Some(key)
@@ -246,7 +249,8 @@ fn child(judge: &Judge, node: u64, side: Side) -> u64
 
 /// Whether the info word of the node at a place is as the SCX-record has seen it.
 fn is_as_seen(judge: &Judge, scx: u64, place: u8) -> bool
-    ensures { IsTrue result ↔ (word_now judge.now (info (member_of (seen_history judge.now) scx place)) ≡ seen_at
+    ensures { IsTrue result ↔ (word_now judge.now
+        (info (member_of (seen_history judge.now) scx place)) ≡ seen_at
         (seen_history judge.now) scx place) }
 {
     let node = member(judge, scx, place);
@@ -267,7 +271,8 @@ fn toward(judge: &Judge, node: u64, key: u64) -> Side
 /// Whether the search for a key passes this fork.
 fn is_fork_on_path(judge: &Judge, key: u64, fork: u64) -> bool
     requires { IsTreeRun judge.now.layout (seen_history judge.now) }
-    ensures path { IsTrue result → Passed (seen_history judge.now) (seen_history judge.now) key fork }
+    ensures path { IsTrue result →
+        Passed (seen_history judge.now) (seen_history judge.now) key fork }
     ensures fork { IsTrue result → is_leaf (word_now judge.now) fork ≡ false }
 {
     is_on_path(judge, key, fork) && !head(judge, fork).leaf
@@ -315,7 +320,8 @@ fn is_edit(judge: &Judge, scx: u64, begun: &Begun) -> bool
 fn edits_leaf(judge: &Judge, scx: u64, begun: &Begun) -> bool
     requires { begun.now.key < 2 ^ 64 }
     ensures edit { IsTrue result → EditsLeaf (seen_history judge.now) scx (edit_begun begun.now) }
-    ensures fresh { IsTrue result → is_leaf (word_now judge.now) (new (seen_history judge.now) scx) ≡ false → (side : SideOf) →
+    ensures fresh { IsTrue result →
+        is_leaf (word_now judge.now) (new (seen_history judge.now) scx) ≡ false → (side : SideOf) →
         IsNamed judge.now.layout (seen_history judge.now)
         (word_now judge.now (child_of (new (seen_history judge.now) scx) side)) → ⊥ }
 {
@@ -333,15 +339,18 @@ fn edits_leaf(judge: &Judge, scx: u64, begun: &Begun) -> bool
 
 /// Whether an edit may be made of a leaf: a delete finds its key there.
 fn may_edit(judge: &Judge, leaf: u64, begun: &Begun) -> bool
-    requires readable { class (word_now judge.now) leaf ≡ 0 → IsWellCounted (word_now judge.now) leaf }
-    ensures { IsTrue result → begun.now.value ≡ None → said (word_now judge.now) begun.now.key leaf ≢ None }
+    requires readable { class (word_now judge.now) leaf ≡ 0 →
+        IsWellCounted (word_now judge.now) leaf }
+    ensures { IsTrue result → begun.now.value ≡ None →
+        said (word_now judge.now) begun.now.key leaf ≢ None }
 {
     begun.value.is_some() || said(judge, leaf, begun.key).is_some()
 }
 
 /// Whether a leaf is replaced by another one, which holds what the edit makes of its pairs.
 fn is_swap(judge: &Judge, leaf: u64, new: u64, begun: &Begun) -> bool
-    requires readable { class (word_now judge.now) leaf ≡ 0 → IsWellCounted (word_now judge.now) leaf }
+    requires readable { class (word_now judge.now) leaf ≡ 0 →
+        IsWellCounted (word_now judge.now) leaf }
     requires leaf { is_leaf (word_now judge.now) leaf ≡ true }
     requires deep { level (word_now judge.now) new ≡ level (word_now judge.now) leaf }
     ensures edit { IsTrue result → IsSwapBy (word_now judge.now) (edit_begun begun.now) leaf new }
@@ -356,12 +365,15 @@ fn is_swap(judge: &Judge, leaf: u64, new: u64, begun: &Begun) -> bool
 /// Whether a leaf is replaced by a fork over two fresh ones, which between them hold what the edit
 /// makes of its pairs, and between which the fork stands.
 fn is_split(judge: &Judge, leaf: u64, fork: u64, begun: &Begun) -> bool
-    requires readable { class (word_now judge.now) leaf ≡ 0 → IsWellCounted (word_now judge.now) leaf }
+    requires readable { class (word_now judge.now) leaf ≡ 0 →
+        IsWellCounted (word_now judge.now) leaf }
     requires leaf { is_leaf (word_now judge.now) leaf ≡ true }
     requires small { begun.now.key < 2 ^ 64 }
     requires deep { level (word_now judge.now) fork ≡ level (word_now judge.now) leaf }
-    ensures edit { IsTrue result → (x y : ℕ) × IsSplitBy (word_now judge.now) (edit_begun begun.now) leaf fork x y }
-    ensures fresh { IsTrue result → (side : SideOf) → IsNamed judge.now.layout (seen_history judge.now)
+    ensures edit { IsTrue result → (x y : ℕ)
+        × IsSplitBy (word_now judge.now) (edit_begun begun.now) leaf fork x y }
+    ensures fresh { IsTrue result → (side : SideOf) →
+        IsNamed judge.now.layout (seen_history judge.now)
         (word_now judge.now (child_of fork side)) → ⊥ }
 {
     let left = child(judge, fork, Side::Left);
@@ -414,7 +426,8 @@ fn are_toward(judge: &Judge, fork: u64, side: Side, pairs: &[(u64, u128)]) -> bo
 
 /// Whether the level of a node is just above that of a fork.
 fn is_one_below(judge: &Judge, node: u64, fork: u64) -> bool
-    ensures { IsTrue result → level (word_now judge.now) node ≡ level (word_now judge.now) fork + 1 }
+    ensures { IsTrue result →
+        level (word_now judge.now) node ≡ level (word_now judge.now) fork + 1 }
 {
     head(judge, fork).level.checked_add(1) == Some(head(judge, node).level)
 }
@@ -463,7 +476,8 @@ fn sibling_place(side: Side) -> u8
 /// first, and puts a copy of the other child into the grandparent's field towards the key.
 fn takes_leaf_out(judge: &Judge, scx: u64, begun: &Begun) -> bool
     ensures { IsTrue result → TakesLeafOut (seen_history judge.now) scx (edit_begun begun.now)
-        (toward_of (word_now judge.now) (member_of (seen_history judge.now) scx 1) (edit_key (edit_begun begun.now))) }
+        (toward_of (word_now judge.now) (member_of (seen_history judge.now) scx 1)
+        (edit_key (edit_begun begun.now))) }
 {
     let plan = join_plan(toward(judge, member(judge, scx, 0), begun.key));
     let side = toward(judge, member(judge, scx, 1), begun.key);
@@ -477,11 +491,15 @@ fn takes_leaf_out(judge: &Judge, scx: u64, begun: &Begun) -> bool
 /// and `new` a copy of the other child.
 fn is_join(judge: &Judge, scx: u64, side: Side, begun: &Begun) -> bool
     ensures edit { IsTrue result → IsJoinBy (word_now judge.now) (edit_begun begun.now)
-        (member_of (seen_history judge.now) scx 1) (member_of (seen_history judge.now) scx (leaf_place_of side))
-        (member_of (seen_history judge.now) scx (sibling_place_of side)) (new (seen_history judge.now) scx) }
+        (member_of (seen_history judge.now) scx 1)
+        (member_of (seen_history judge.now) scx (leaf_place_of side))
+        (member_of (seen_history judge.now) scx (sibling_place_of side))
+        (new (seen_history judge.now) scx) }
     ensures copied { IsTrue result → word_now judge.now
-        (info (member_of (seen_history judge.now) scx (sibling_place_of side))) ≡ seen_at (seen_history judge.now) scx
-        (sibling_place_of side) → HasFieldsOf (word_now judge.now) (new (seen_history judge.now) scx)
+        (info (member_of (seen_history judge.now) scx (sibling_place_of side))) ≡ seen_at
+        (seen_history judge.now) scx
+        (sibling_place_of side) →
+        HasFieldsOf (word_now judge.now) (new (seen_history judge.now) scx)
         (member_of (seen_history judge.now) scx (sibling_place_of side)) }
 {
     let leaf = member(judge, scx, leaf_place(side));
@@ -499,7 +517,8 @@ fn is_join(judge: &Judge, scx: u64, side: Side, begun: &Begun) -> bool
 /// Whether an edit leaves none of the pairs of a leaf of class 0.
 fn is_emptied(judge: &Judge, leaf: u64, begun: &Begun) -> bool
     requires { IsWellCounted (word_now judge.now) leaf }
-    ensures { IsTrue result → edited (edit_begun begun.now) (held_pairs (word_now judge.now) leaf) ≡ [] }
+    ensures { IsTrue result →
+        edited (edit_begun begun.now) (held_pairs (word_now judge.now) leaf) ≡ [] }
 {
     let left = edited(begun, held(judge, leaf));
     left.is_empty()
@@ -507,10 +526,13 @@ fn is_emptied(judge: &Judge, leaf: u64, begun: &Begun) -> bool
 
 /// Whether the parent's fields are the children, where it is as it was seen.
 fn are_below(judge: &Judge, scx: u64) -> bool
-    ensures { IsTrue result → word_now judge.now (info (member_of (seen_history judge.now) scx 1)) ≡ seen_at
-        (seen_history judge.now) scx 1 → (word_now judge.now (child_of (member_of (seen_history judge.now) scx 1) Left) ≡
+    ensures { IsTrue result →
+        word_now judge.now (info (member_of (seen_history judge.now) scx 1)) ≡ seen_at
+        (seen_history judge.now) scx 1 →
+        (word_now judge.now (child_of (member_of (seen_history judge.now) scx 1) Left) ≡
         member_of (seen_history judge.now) scx 2) × (word_now judge.now
-        (child_of (member_of (seen_history judge.now) scx 1) Right) ≡ member_of (seen_history judge.now) scx 3) }
+        (child_of (member_of (seen_history judge.now) scx 1) Right) ≡ member_of
+        (seen_history judge.now) scx 3) }
 {
     let parent = member(judge, scx, 1);
     !is_as_seen(judge, scx, 1)
@@ -532,7 +554,8 @@ fn is_copy(judge: &Judge, one: u64, other: u64, looked_at: bool) -> bool
 }
 
 fn has_fields_of(judge: &Judge, one: u64, other: u64) -> bool
-    ensures { IsTrue result → (side : SideOf) → word_now judge.now (child_of one side) ≡ word_now judge.now (child_of other side) }
+    ensures { IsTrue result → (side : SideOf) →
+        word_now judge.now (child_of one side) ≡ word_now judge.now (child_of other side) }
 {
     child(judge, one, Side::Left) == child(judge, other, Side::Left)
         && child(judge, one, Side::Right) == child(judge, other, Side::Right)

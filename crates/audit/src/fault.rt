@@ -34,7 +34,8 @@ impl Refused {
     /// The fault of a record that is refused at the line of this index, where the line of index 0
     /// stands in row `first` of its report.
     pub(crate) fn at(self, first: u64, line: usize) -> AuditFault
-        ensures { (row : ℕ) → result ≡ AuditFault.NotLawful row → (first ≤ row) × (row ≤ first + line) }
+        ensures { (row : ℕ) → result ≡ AuditFault.NotLawful row → (first ≤ row)
+            × (row ≤ first + line) }
     {
         let back = match self {
             Refused::NoMemory => return AuditFault::NoMemory,

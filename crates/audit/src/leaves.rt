@@ -21,7 +21,8 @@ pub(crate) type Pairs = ArrayVec<(u64, u128), 8>;
 
 /// What a leaf says of a key.
 pub(crate) fn said(judge: &Judge, leaf: u64, key: u64) -> Option<u128>
-    requires readable { class (word_now judge.now) leaf ≡ 0 → IsWellCounted (word_now judge.now) leaf }
+    requires readable { class (word_now judge.now) leaf ≡ 0 →
+        IsWellCounted (word_now judge.now) leaf }
     ensures { result ≡ said (word_now judge.now) key leaf }
 {
     for pair in given(judge, leaf).as_slice() {
@@ -34,7 +35,8 @@ pub(crate) fn said(judge: &Judge, leaf: u64, key: u64) -> Option<u128>
 
 /// What a leaf gives the map.
 pub(crate) fn given(judge: &Judge, leaf: u64) -> Pairs
-    requires readable { class (word_now judge.now) leaf ≡ 0 → IsWellCounted (word_now judge.now) leaf }
+    requires readable { class (word_now judge.now) leaf ≡ 0 →
+        IsWellCounted (word_now judge.now) leaf }
     ensures pairs { number_pairs result.items ≡ leaf_pairs (word_now judge.now) leaf }
     ensures few { length result.items ≤ 4 }
 {
@@ -76,7 +78,8 @@ fn pair_in(judge: &Judge, leaf: u64, slot: Slot) -> (u64, u128)
 
 /// Whether what a leaf gives the map may be read: of class 0, it holds as many pairs as it may hold.
 pub(crate) fn is_readable(judge: &Judge, leaf: u64) -> bool
-    ensures { IsTrue result → class (word_now judge.now) leaf ≡ 0 → IsWellCounted (word_now judge.now) leaf }
+    ensures { IsTrue result → class (word_now judge.now) leaf ≡ 0 →
+        IsWellCounted (word_now judge.now) leaf }
 {
     head(judge, leaf).class != 0 || is_well_counted(judge, leaf)
 }
@@ -98,8 +101,10 @@ pub(crate) fn is_low_leaf(judge: &Judge, node: u64) -> bool
 
 /// Whether a leaf holds what another holds.
 pub(crate) fn is_leaf_copy(judge: &Judge, one: u64, other: u64) -> bool
-    ensures counted { IsTrue result → class (word_now judge.now) one ≡ 0 → IsWellCounted (word_now judge.now) one }
-    ensures pairs { IsTrue result → leaf_pairs (word_now judge.now) one ≡ leaf_pairs (word_now judge.now) other }
+    ensures counted { IsTrue result → class (word_now judge.now) one ≡ 0 →
+        IsWellCounted (word_now judge.now) one }
+    ensures pairs { IsTrue result →
+        leaf_pairs (word_now judge.now) one ≡ leaf_pairs (word_now judge.now) other }
 {
     is_readable(judge, one) && is_readable(judge, other) && given(judge, one) == given(judge, other)
 }

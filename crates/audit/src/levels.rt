@@ -17,7 +17,8 @@ use judge::Judge;
 /// field. The head of a node that a field has held is not filled any more.
 pub(crate) fn do_levels_rise(judge: &Judge, row: &Row) -> bool
     requires { row.now.before ≡ value (seen_history judge.now) row.now.word }
-    ensures { IsTrue result → HasRisingLevels (seen_history judge.now) → HasRisingLevels (row.now ⊳ seen_history judge.now) }
+    ensures { IsTrue result → HasRisingLevels (seen_history judge.now) →
+        HasRisingLevels (row.now ⊳ seen_history judge.now) }
 {
     if row.before == row.after {
         return true;
@@ -44,9 +45,11 @@ fn may_fill(judge: &Judge, node: u64, part: SettledPart) -> bool
 /// Whether a node may be stored into a field of another: levels rise over it and below it.
 fn may_hold(judge: &Judge, node: u64, child: u64) -> bool
     ensures apart { IsTrue result → node ≢ child }
-    ensures over { IsTrue result → HasStoodInField (seen_history judge.now) node → is_leaf (value (seen_history judge.now)) node ≡ false →
+    ensures over { IsTrue result → HasStoodInField (seen_history judge.now) node →
+        is_leaf (value (seen_history judge.now)) node ≡ false →
         level (value (seen_history judge.now)) node < level (value (seen_history judge.now)) child }
-    ensures below { IsTrue result → (side : SideOf) → is_leaf (value (seen_history judge.now)) child ≡ false →
+    ensures below { IsTrue result → (side : SideOf) →
+        is_leaf (value (seen_history judge.now)) child ≡ false →
         level (value (seen_history judge.now)) child < level (value (seen_history judge.now))
         (value (seen_history judge.now) (child_of child side)) }
 {
@@ -62,7 +65,8 @@ fn stands(judge: &Judge, node: u64) -> bool
 
 /// Whether the level of a fork's child is above its own, if a field has ever held the fork.
 fn rises_to(judge: &Judge, fork: u64, child: u64) -> bool
-    ensures { IsTrue result → HasStoodInField (seen_history judge.now) fork → is_leaf (value (seen_history judge.now)) fork ≡ false →
+    ensures { IsTrue result → HasStoodInField (seen_history judge.now) fork →
+        is_leaf (value (seen_history judge.now)) fork ≡ false →
         level (value (seen_history judge.now)) fork < level (value (seen_history judge.now)) child }
 {
     !stands(judge, fork)
@@ -72,7 +76,8 @@ fn rises_to(judge: &Judge, fork: u64, child: u64) -> bool
 
 /// Whether the levels of a node's children are above its own, if it is a fork.
 fn rises(judge: &Judge, node: u64) -> bool
-    ensures { IsTrue result → (side : SideOf) → is_leaf (value (seen_history judge.now)) node ≡ false →
+    ensures { IsTrue result → (side : SideOf) →
+        is_leaf (value (seen_history judge.now)) node ≡ false →
         level (value (seen_history judge.now)) node < level (value (seen_history judge.now))
         (value (seen_history judge.now) (child_of node side)) }
 {
@@ -83,7 +88,8 @@ fn rises(judge: &Judge, node: u64) -> bool
 }
 
 fn child_level(judge: &Judge, node: u64, side: Side) -> u64
-    ensures { result ≡ level (value (seen_history judge.now)) (value (seen_history judge.now) (child_of node side)) }
+    ensures { result ≡ level (value (seen_history judge.now))
+        (value (seen_history judge.now) (child_of node side)) }
 {
     head(
         judge,

@@ -40,11 +40,15 @@ pub(crate) fn is_right(
 ) -> bool
     requires { client.now.pass.0 < steps.now.judge.layout.passes }
     ensures right { (lay : Layout) (calls : List CallOf) (lines : List Line) →
-        IsAsked lay tries calls lines (changes places.now) client.now command.now reply.now → AreRemembered lay calls lines steps.now →
-        IsTrue result → IsRight lay tries reply.now.client.0 (history lay.mode lines) (start lay.mode lines reply.now.client.0)
+        IsAsked lay tries calls lines (changes places.now) client.now command.now reply.now →
+        AreRemembered lay calls lines steps.now →
+        IsTrue result →
+        IsRight lay tries reply.now.client.0 (history lay.mode lines)
+        (start lay.mode lines reply.now.client.0)
         (linked calls lay.mode lines reply.now.client.0) command.now reply.now.answer }
     ensures placed { (lay : Layout) (calls : List CallOf) (lines : List Line) →
-        IsAsked lay tries calls lines (changes places.now) client.now command.now reply.now → IsTrue result →
+        IsAsked lay tries calls lines
+        (changes places.now) client.now command.now reply.now → IsTrue result →
         IsPlaced lay calls lines reply.now command.now }
 {
     let Command::Map(request) = command else {
@@ -74,11 +78,14 @@ fn is_placed(
 ) -> bool
     requires { reply.now.answer ≡ MapAnswer told.now }
     ensures right { (lay : Layout) (tries : ℕ) (calls : List CallOf) (lines : List Line) →
-        IsAsked lay tries calls lines (changes places.now) client.now (MapCommand request.now) reply.now → IsTrue result →
-        IsRight lay tries reply.now.client.0 (history lay.mode lines) (start lay.mode lines reply.now.client.0)
+        IsAsked lay tries calls lines (changes places.now) client.now
+        (MapCommand request.now) reply.now → IsTrue result →
+        IsRight lay tries reply.now.client.0 (history lay.mode lines)
+        (start lay.mode lines reply.now.client.0)
         (linked calls lay.mode lines reply.now.client.0) (MapCommand request.now) reply.now.answer }
     ensures placed { (lay : Layout) (tries : ℕ) (calls : List CallOf) (lines : List Line) →
-        IsAsked lay tries calls lines (changes places.now) client.now (MapCommand request.now) reply.now → IsTrue result →
+        IsAsked lay tries calls lines (changes places.now) client.now
+        (MapCommand request.now) reply.now → IsTrue result →
         IsPlaced lay calls lines reply.now (MapCommand request.now) }
 {
     match client.won {
@@ -94,8 +101,10 @@ fn had_before(
     told: &Reply<u64, u128>,
     turn: u64,
 ) -> bool
-    ensures { (calls : List CallOf) (lines : List Line) → AreEntries calls lines (changes places.now) → IsTrue result →
-        number_reply told.now ≡ Some (reply_of (map_request request.now) (map_at calls lines (turn - 1))) }
+    ensures { (calls : List CallOf) (lines : List Line) →
+        AreEntries calls lines (changes places.now) → IsTrue result →
+        number_reply told.now ≡ Some
+        (reply_of (map_request request.now) (map_at calls lines (turn - 1))) }
 {
     let before = turn.saturating_sub(1);
     match told_key(request) {
@@ -106,7 +115,8 @@ fn had_before(
 
 /// The key whose value a call tells, if it tells that of one key.
 fn told_key(request: &Request<u64, u128>) -> Option<u64>
-    ensures { (key : ℕ) → result ≡ Some key → (m : List PairOf) → reply_of (map_request request.now) m ≡ OneValue (get key m) }
+    ensures { (key : ℕ) → result ≡ Some key → (m : List PairOf) →
+        reply_of (map_request request.now) m ≡ OneValue (get key m) }
 {
     if let Request::Get { key } = request {
         return Some(*key);
@@ -117,7 +127,8 @@ fn told_key(request: &Request<u64, u128>) -> Option<u64>
 
 /// Whether a reply tells what a key has after a turn.
 fn tells_of(places: &Places, key: u64, told: &Reply<u64, u128>, turn: u64) -> bool
-    ensures { (calls : List CallOf) (lines : List Line) → AreEntries calls lines (changes places.now) → IsTrue result →
+    ensures { (calls : List CallOf) (lines : List Line) →
+        AreEntries calls lines (changes places.now) → IsTrue result →
         number_reply told.now ≡ Some (OneValue (get key (map_at calls lines turn))) }
 {
     match told {
@@ -135,8 +146,10 @@ fn is_read(
     reply: &Finished,
 ) -> bool
     requires { reply.now.answer ≡ MapAnswer told.now }
-    ensures { (calls : List CallOf) (lines : List Line) → AreEntries calls lines (changes places.now) →
-        FallFrom (suc reply.now.end) (changes places.now) → reply.now.begin ≤ reply.now.end → IsTrue result →
+    ensures { (calls : List CallOf) (lines : List Line) →
+        AreEntries calls lines (changes places.now) →
+        FallFrom (suc reply.now.end) (changes places.now) →
+        reply.now.begin ≤ reply.now.end → IsTrue result →
         IsReadAt calls lines (map_request request.now) reply.now }
 {
     match told_key(request) {
@@ -149,7 +162,9 @@ fn is_read(
 /// the map had that.
 fn is_read_of(places: &Places, key: u64, told: &Reply<u64, u128>, reply: &Finished) -> bool
     requires { reply.now.answer ≡ MapAnswer told.now }
-    ensures { (calls : List CallOf) (lines : List Line) → AreEntries calls lines (changes places.now) → IsTrue result → IsValueAt calls lines key reply.now }
+    ensures { (calls : List CallOf) (lines : List Line) →
+        AreEntries calls lines (changes places.now) → IsTrue result →
+        IsValueAt calls lines key reply.now }
 {
     let Reply::Value(value) = told else {
         return false;
@@ -161,7 +176,8 @@ fn is_read_of(places: &Places, key: u64, told: &Reply<u64, u128>, reply: &Finish
 
 /// Whether a key has this value after a turn.
 fn has_at(places: &Places, key: u64, value: Option<u128>, turn: u64) -> bool
-    ensures { (calls : List CallOf) (lines : List Line) → AreEntries calls lines (changes places.now) → IsTrue result →
+    ensures { (calls : List CallOf) (lines : List Line) →
+        AreEntries calls lines (changes places.now) → IsTrue result →
         get key (map_at calls lines turn) ≡ value }
 {
     places.greatest(key, value, turn, turn).is_some()
@@ -176,8 +192,10 @@ fn is_read_at(
     reply: &Finished,
 ) -> bool
     requires { reply.now.answer ≡ MapAnswer told.now }
-    ensures { (calls : List CallOf) (lines : List Line) → AreEntries calls lines (changes places.now) →
-        FallFrom (suc reply.now.end) (changes places.now) → reply.now.begin ≤ reply.now.end → IsTrue result →
+    ensures { (calls : List CallOf) (lines : List Line) →
+        AreEntries calls lines (changes places.now) →
+        FallFrom (suc reply.now.end) (changes places.now) →
+        reply.now.begin ≤ reply.now.end → IsTrue result →
         IsReadAt calls lines (map_request request.now) reply.now }
 {
     let command = Command::Map(*request);
@@ -194,8 +212,10 @@ fn tells_at(
     turn: u64,
 ) -> bool
     ensures ordered { IsTrue result → IsOrderedRead (MapCommand request.now) }
-    ensures told { (calls : List CallOf) (lines : List Line) → AreEntries calls lines (changes places.now) → IsTrue result →
-        number_reply told.now ≡ Some (reply_of (map_request request.now) (map_at calls lines turn)) }
+    ensures told { (calls : List CallOf) (lines : List Line) →
+        AreEntries calls lines (changes places.now) → IsTrue result →
+        number_reply told.now ≡ Some
+        (reply_of (map_request request.now) (map_at calls lines turn)) }
 {
     let command = Command::Map(*request);
     tells_pairs(request, told) && places.tells(&command, pairs_told(told), turn)
@@ -227,9 +247,11 @@ fn is_refused(
     requires pass { client.now.pass.0 < steps.now.judge.layout.passes }
     requires answer { reply.now.answer ≡ MapAnswer told.now }
     ensures right { (lay : Layout) (calls : List CallOf) (lines : List Line) →
-        IsAsked lay tries calls lines (changes places.now) client.now (MapCommand request.now) reply.now →
+        IsAsked lay tries calls lines (changes places.now) client.now
+        (MapCommand request.now) reply.now →
         AreRemembered lay calls lines steps.now → IsTrue result →
-        IsRight lay tries reply.now.client.0 (history lay.mode lines) (start lay.mode lines reply.now.client.0)
+        IsRight lay tries reply.now.client.0 (history lay.mode lines)
+        (start lay.mode lines reply.now.client.0)
         (linked calls lay.mode lines reply.now.client.0) (MapCommand request.now) reply.now.answer }
     ensures tells_nothing { IsTrue result → reply_told reply.now.answer ≡ None }
 {
@@ -249,7 +271,8 @@ fn is_refused(
 
 /// Whether an edit found something to change after some turn of its call; a read needs nothing.
 fn needed_something(places: &Places, request: &Request<u64, u128>, reply: &Finished) -> bool
-    ensures { (calls : List CallOf) (lines : List Line) → AreEntries calls lines (changes places.now) → IsTrue result →
+    ensures { (calls : List CallOf) (lines : List Line) →
+        AreEntries calls lines (changes places.now) → IsTrue result →
         NeededSomething calls lines (map_request request.now) reply.now }
 {
     if request.edit().is_none() {
@@ -270,9 +293,11 @@ fn is_full(
 ) -> bool
     requires { client.now.pass.0 < steps.now.judge.layout.passes }
     ensures { (lay : Layout) (tries : ℕ) (calls : List CallOf) (lines : List Line) →
-        IsAsked lay tries calls lines (changes places.now) client.now (MapCommand request.now) reply.now →
+        IsAsked lay tries calls lines (changes places.now) client.now
+        (MapCommand request.now) reply.now →
         AreRemembered lay calls lines steps.now → IsTrue result →
-        IsRight lay tries reply.now.client.0 (history lay.mode lines) (start lay.mode lines reply.now.client.0)
+        IsRight lay tries reply.now.client.0 (history lay.mode lines)
+        (start lay.mode lines reply.now.client.0)
         (linked calls lay.mode lines reply.now.client.0) (MapCommand request.now)
         (MapAnswer (FullShare record { what = full.0; left = full.1 })) }
 {
@@ -285,7 +310,8 @@ fn is_full(
 /// Whether after some turn of a call its edit needed three nodes: its key had no value, in whose
 /// place it puts one.
 fn needed_three(places: &Places, request: &Request<u64, u128>, reply: &Finished) -> bool
-    ensures { (calls : List CallOf) (lines : List Line) → AreEntries calls lines (changes places.now) → IsTrue result →
+    ensures { (calls : List CallOf) (lines : List Line) →
+        AreEntries calls lines (changes places.now) → IsTrue result →
         NeededWithin calls lines (map_request request.now) 3 reply.now }
 {
     match request.edit() {
@@ -297,7 +323,8 @@ fn needed_three(places: &Places, request: &Request<u64, u128>, reply: &Finished)
 /// Whether after some turn of a call its edit needed one node: it found a value in whose place it
 /// changes something.
 fn needed_one(places: &Places, request: &Request<u64, u128>, reply: &Finished) -> bool
-    ensures { (calls : List CallOf) (lines : List Line) → AreEntries calls lines (changes places.now) → IsTrue result →
+    ensures { (calls : List CallOf) (lines : List Line) →
+        AreEntries calls lines (changes places.now) → IsTrue result →
         NeededWithin calls lines (map_request request.now) 1 reply.now }
 {
     let Some((goal, rule)) = request.edit() else {
@@ -312,7 +339,8 @@ fn needed_one(places: &Places, request: &Request<u64, u128>, reply: &Finished) -
 
 /// Whether the map had a pair after some turn of a call.
 fn had_pair(places: &Places, reply: &Finished) -> bool
-    ensures { (calls : List CallOf) (lines : List Line) → AreEntries calls lines (changes places.now) → IsTrue result → (first : PairOf) ×
+    ensures { (calls : List CallOf) (lines : List Line) →
+        AreEntries calls lines (changes places.now) → IsTrue result → (first : PairOf) ×
         HadFirstWithin calls lines (Some first) reply.now.begin reply.now.end }
 {
     reply.begin <= reply.end && places.had_pair(reply.begin, reply.end)
@@ -320,7 +348,8 @@ fn had_pair(places: &Places, reply: &Finished) -> bool
 
 /// Whether a key had a value, whatever it was, after some turn of a call.
 fn had_some(places: &Places, key: u64, reply: &Finished) -> bool
-    ensures { (calls : List CallOf) (lines : List Line) → AreEntries calls lines (changes places.now) → IsTrue result → (v : ℕ) ×
+    ensures { (calls : List CallOf) (lines : List Line) →
+        AreEntries calls lines (changes places.now) → IsTrue result → (v : ℕ) ×
         HadWithin calls lines key (Some v) reply.now.begin reply.now.end }
 {
     reply.begin <= reply.end && places.had_some(key, reply.begin, reply.end)
@@ -328,7 +357,8 @@ fn had_some(places: &Places, key: u64, reply: &Finished) -> bool
 
 /// Whether a key had this value, or none, after some turn of a call.
 fn had(places: &Places, key: u64, value: Option<u128>, reply: &Finished) -> bool
-    ensures { (calls : List CallOf) (lines : List Line) → AreEntries calls lines (changes places.now) → IsTrue result →
+    ensures { (calls : List CallOf) (lines : List Line) →
+        AreEntries calls lines (changes places.now) → IsTrue result →
         HadWithin calls lines key value reply.now.begin reply.now.end }
 {
     reply.begin <= reply.end

@@ -50,7 +50,8 @@ impl Tries {
 
     /// The same behind a step of the client, the last of so many: with one more, if it begins one.
     pub(crate) fn behind(self, row: &Row, steps: u64) -> Tries
-        ensures { self.many + 1 < 2 ^ 64 → result ≡ tried (begins_try row.now.pass.0 row.now) steps self }
+        ensures { self.many + 1 < 2 ^ 64 →
+            result ≡ tried (begins_try row.now.pass.0 row.now) steps self }
     {
         if begins_try(row) {
             Tries {
@@ -98,7 +99,8 @@ impl Memory {
     pub(crate) fn new() -> Memory
         ensures look { result.look ≡ None }
         ensures freeze { result.freeze ≡ None }
-        ensures snapshots { (n : ℕ) (kept : Option SnapshotOf) → slice_get result.snapshots n ≡ Some kept → kept ≡ None }
+        ensures snapshots { (n : ℕ) (kept : Option SnapshotOf) →
+            slice_get result.snapshots n ≡ Some kept → kept ≡ None }
     {
         Memory {
             begun: 0,
@@ -114,8 +116,10 @@ impl Memory {
 
     /// The snapshot that it keeps of a cell.
     pub(crate) fn snapshot(&self, cell: NodeNo) -> Option<Snapshot>
-        ensures some { IfSome result (λ kept. slice_get self.now.snapshots cell.0 ≡ Some (Some kept)) }
-        ensures none { IfNone result (cell.0 < 9 → slice_get self.now.snapshots cell.0 ≡ Some None) }
+        ensures some { IfSome result
+            (λ kept. slice_get self.now.snapshots cell.0 ≡ Some (Some kept)) }
+        ensures none { IfNone result (cell.0 < 9 →
+            slice_get self.now.snapshots cell.0 ≡ Some None) }
     {
         *self.snapshots.as_slice().get(cell.0 as usize)?
     }
@@ -145,8 +149,10 @@ impl Memory {
     /// The same, without the snapshots of these cells.
     pub(crate) fn without(self, cells: &[Cell]) -> Memory
         ensures same { result ≡ record self { snapshots = result.snapshots } }
-        ensures dropped { (n : ℕ) (kept : Option SnapshotOf) → slice_get result.snapshots n ≡ Some kept → has cells.now n ≡ true → kept ≡ None }
-        ensures others { (n : ℕ) → has cells.now n ≡ false → slice_get result.snapshots n ≡ slice_get self.snapshots n }
+        ensures dropped { (n : ℕ) (kept : Option SnapshotOf) →
+            slice_get result.snapshots n ≡ Some kept → has cells.now n ≡ true → kept ≡ None }
+        ensures others { (n : ℕ) → has cells.now n ≡ false →
+            slice_get result.snapshots n ≡ slice_get self.snapshots n }
     {
         let mut memory = self;
         for cell in cells {

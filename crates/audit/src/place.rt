@@ -21,7 +21,8 @@ pub(crate) fn next_call(calls: &[Call], from: usize, pass: PassNo) -> Option<usi
 
 /// Where the call of a client stands that comes behind this one, which is its next.
 pub(crate) fn next_behind(calls: &[Call], at: Option<usize>, pass: PassNo) -> Option<usize>
-    ensures { (left : List Command) → StandsNext calls.now pass.0 left at → StandsNext calls.now pass.0 (drop 1 left) result }
+    ensures { (left : List Command) → StandsNext calls.now pass.0 left at →
+        StandsNext calls.now pass.0 (drop 1 left) result }
 {
     let Some(at) = at else {
         return None;

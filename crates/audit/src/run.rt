@@ -1,6 +1,6 @@
 //! A run, judged line by line.
 ghost use Rattle.std.specs.Prelude.{◌≡◌, ℕ, ◌≤◌, ◌∷◌, [], Some, length, IfOk, OnOk, IsTrue};
-ghost use Rattle.audit.specs.After.{lines_of, IsAfter, IsMapAfter, AreRememberedAfter, AreClientsAfter};
+ghost use Rattle.audit.specs.After.{lines_of, IsAfter, Remembers, AreClientsAfter};
 ghost use Rattle.moments.specs.Places.{changes};
 
 use crate::client::{Client, has_begun, note_win};
@@ -44,7 +44,7 @@ pub(crate) struct Run<'a> {
 }
 
 impl<'a> Run<'a> {
-    ghost use Rattle.std.specs.Prelude.{◌≡◌, ◌≢◌, ℕ, suc, ◌+◌, ◌<◌, ◌∷◌, [], Some, None, true, false, IsTrue, IfOk, IfSome, OnOk, slice_get, vec_len};
+    ghost use Rattle.std.specs.Prelude.{◌≡◌, ℕ, suc, ◌+◌, ◌<◌, ◌∷◌, [], Some, None, true, false, IsTrue, IfOk, IfSome, OnOk, slice_get, vec_len};
     ghost use Rattle.arena.specs.declared.step.Row.{Row as RowOf};
     ghost use Rattle.arena.specs.Lawful.{IsLawful};
     ghost use Rattle.record.specs.declared.record.Line.{Line};
@@ -56,7 +56,7 @@ impl<'a> Run<'a> {
     ghost use Rattle.record.specs.Replies.{IsReply};
     ghost use Rattle.record.specs.LawfulRun.{OwesNothing, IsLawfulRun};
     ghost use Rattle.std.specs.Prelude.{length, reverse};
-    ghost use Rattle.record.specs.Turns.{history, turns, clients, entry_of, entry_owed};
+    ghost use Rattle.record.specs.Turns.{turns, clients, entry_of, entry_owed};
     ghost use Rattle.std.specs.Prelude.{Option};
     ghost use Rattle.arena.specs.declared.word.Side.{Side};
     ghost use Rattle.arena.specs.Lawful.{IsWin};
@@ -65,27 +65,23 @@ impl<'a> Run<'a> {
     ghost use Rattle.arena.specs.declared.limits.Mode.TheVariants.{Tree, Records};
     ghost use Rattle.arena.specs.History.{◌⊳◌, value};
     ghost use Rattle.arena.specs.Shape.{IsBegin};
-    ghost use Rattle.script.specs.declared.command.Command.{Command as CommandOf};
     ghost use Rattle.ordered_map.specs.FillOrder.{HasRisingLevels};
     ghost use Rattle.moments.specs.Places.{changes};
     ghost use Rattle.audit.specs.Trees.{HasChangedBy, IsChangeBegun, IsReadyFor};
     ghost use Rattle.ordered_map.specs.Runs.{IsTreeRun};
     ghost use Rattle.audit.specs.Edits.{MayMakeEdit};
     ghost use Rattle.audit.specs.declared.edits.Begun.{Begun as BegunOf};
-    ghost use Rattle.record.specs.CommandRules.{IsEntryFor, IsRight, IsPlaced, HasTakenFew};
+    ghost use Rattle.record.specs.CommandRules.{IsEntryFor, IsPlaced};
     ghost use Rattle.record.specs.Linked.{linked};
     ghost use Rattle.record.specs.Replies.{IsFitting};
     ghost use Rattle.record.specs.CommandRules.{enters};
-    ghost use Rattle.std.specs.Prelude.{is_some};
     ghost use Rattle.record.specs.Turns.{start};
     ghost use Rattle.judge.specs.Histories.{seen_history};
-    ghost use Rattle.audit.specs.After.{layout_of, tries_of, calls_of, IsClientAfter};
+    ghost use Rattle.audit.specs.After.{layout_of, tries_of, calls_of, IsClientAfter, IsNextStep, IsReplyToNext, IsRightReply, TookFew};
 
     /// A run of no line of a record. The only error is want of memory.
     pub(crate) fn new(alloc: Global, judged: &'a Record) -> Result<Run<'a>, Refused>
-        ensures after { IfOk result (λ run. IsAfter run []) }
-        ensures map { IfOk result (λ run. IsMapAfter run []) }
-        ensures remembered { IfOk result (λ run. AreRememberedAfter run []) }
+        ensures remembers { IfOk result (λ run. Remembers run []) }
         ensures at { IfOk result (λ run. run.at ≡ 0) }
         ensures record { IfOk result (λ run. run.record.now ≡ judged.now) }
     {
@@ -109,7 +105,8 @@ impl<'a> Run<'a> {
     /// No other line has to stand behind the last one.
     pub(crate) fn settled(&self) -> Result<(), Refused>
         requires { IsAfter self.now (lines_of self.now) }
-        ensures { OnOk result (OwesNothing (layout_of self.now) (calls_of self.now) (lines_of self.now)) }
+        ensures { OnOk result
+            (OwesNothing (layout_of self.now) (calls_of self.now) (lines_of self.now)) }
     {
         hold(self.owed.is_none())?;
         self.explain(!self.awaits)?;
@@ -130,11 +127,12 @@ impl<'a> Run<'a> {
 
     /// The lines are those of a lawful run, if no other line has to stand behind the last one.
     pub(crate) fn finish(&self) -> Result<(), Refused>
-        requires after { IsAfter self.now (lines_of self.now) }
-        requires map { IsMapAfter self.now (lines_of self.now) }
+        requires remembers { Remembers self.now (lines_of self.now) }
         requires all { self.now.at ≡ length self.now.record.now.lines.items }
-        ensures { OnOk result (IsLawfulRun (layout_of self.now) (tries_of self.now) (calls_of self.now)
-            (reverse (clients (reverse self.now.record.now.lines.items))) self.now.record.now.lines.items) }
+        ensures { OnOk result
+            (IsLawfulRun (layout_of self.now) (tries_of self.now) (calls_of self.now)
+            (reverse (clients
+            (reverse self.now.record.now.lines.items))) self.now.record.now.lines.items) }
     {
         self.steps.judge.laws_hold();
         self.settled()?;
@@ -162,7 +160,9 @@ impl<'a> Run<'a> {
         ensures here { IfOk result (λ c. slice_get self.now.clients.items pass.0 ≡ Some c) }
         ensures there { IfOk result (λ c. slice_get self.now.clients.items c.pass.0 ≡ Some c) }
         ensures pass { IfOk result (λ c. c.pass ≡ pass) }
-        ensures after { IfOk result (λ c. IsClientAfter (layout_of self.now) (calls_of self.now) (lines_of self.now) pass.0 c) }
+        ensures after { IfOk result
+            (λ c. IsClientAfter (layout_of self.now) (calls_of self.now)
+            (lines_of self.now) pass.0 c) }
     {
         match self.clients.get(pass.0 as usize) {
             Some(client) => Ok(*client),
@@ -172,13 +172,9 @@ impl<'a> Run<'a> {
 
     /// One line more, if it fits those before it.
     pub(crate) fn line(&mut self) -> Result<(), Refused>
-        requires after { IsAfter self.old (lines_of self.old) }
-        requires map { IsMapAfter self.old (lines_of self.old) }
-        requires remembered { AreRememberedAfter self.old (lines_of self.old) }
+        requires remembers { Remembers self.old (lines_of self.old) }
         requires more { self.old.at < vec_len self.old.record.now.lines }
-        ensures after { OnOk result (IsAfter self.new (lines_of self.new)) }
-        ensures map { OnOk result (IsMapAfter self.new (lines_of self.new)) }
-        ensures remembered { OnOk result (AreRememberedAfter self.new (lines_of self.new)) }
+        ensures remembers { OnOk result (Remembers self.new (lines_of self.new)) }
         ensures at { OnOk result (self.new.at ≡ suc self.old.at) }
         ensures record { self.new.record ≡ self.old.record }
     {
@@ -191,12 +187,8 @@ impl<'a> Run<'a> {
 
     /// This line behind those so far, if it fits them.
     fn next_line(&mut self, line: &Line) -> Result<(), Refused>
-        requires after { IsAfter self.old (lines_of self.old) }
-        requires map { IsMapAfter self.old (lines_of self.old) }
-        requires remembered { AreRememberedAfter self.old (lines_of self.old) }
-        ensures after { OnOk result (IsAfter self.new (line.now ∷ lines_of self.old)) }
-        ensures map { OnOk result (IsMapAfter self.new (line.now ∷ lines_of self.old)) }
-        ensures remembered { OnOk result (AreRememberedAfter self.new (line.now ∷ lines_of self.old)) }
+        requires { Remembers self.old (lines_of self.old) }
+        ensures remembers { OnOk result (Remembers self.new (line.now ∷ lines_of self.old)) }
         ensures at { self.new.at ≡ self.old.at }
         ensures record { self.new.record ≡ self.old.record }
     {
@@ -211,7 +203,9 @@ impl<'a> Run<'a> {
     /// A turn fits the lines so far that makes this step.
     fn check_step(&self, number: u64, row: &arena::Row) -> Result<(), Refused>
         requires { IsAfter self.now (lines_of self.now) }
-        ensures { OnOk result (IsStep (layout_of self.now) (tries_of self.now) (calls_of self.now) (lines_of self.now) number row.now) }
+        ensures { OnOk result
+            (IsStep (layout_of self.now) (tries_of self.now) (calls_of self.now)
+            (lines_of self.now) number row.now) }
     {
         let client = self.client(row.pass)?;
         let Some(command) = self.next(&client) else {
@@ -231,7 +225,9 @@ impl<'a> Run<'a> {
     /// A turn fits the lines so far that makes no step.
     fn check_idle(&self, number: u64, pass: PassNo) -> Result<(), Refused>
         requires { IsAfter self.now (lines_of self.now) }
-        ensures { OnOk result (IsIdleTurn (layout_of self.now) (calls_of self.now) (lines_of self.now) number pass.0) }
+        ensures { OnOk result
+            (IsIdleTurn (layout_of self.now) (calls_of self.now)
+            (lines_of self.now) number pass.0) }
     {
         let client = self.client(pass)?;
         hold(self.turn.checked_add(1) == Some(number))?;
@@ -242,12 +238,9 @@ impl<'a> Run<'a> {
 
     /// A turn without a step: of a client with no call left, or the whole of a call.
     fn idle(&mut self, number: u64, pass: PassNo) -> Result<(), Refused>
-        requires after { IsAfter self.old (lines_of self.old) }
-        requires map { IsMapAfter self.old (lines_of self.old) }
-        requires remembered { AreRememberedAfter self.old (lines_of self.old) }
-        ensures after { OnOk result (IsAfter self.new (Line.Step (Row.Idle number pass) ∷ lines_of self.old)) }
-        ensures map { OnOk result (IsMapAfter self.new (Line.Step (Row.Idle number pass) ∷ lines_of self.old)) }
-        ensures remembered { OnOk result (AreRememberedAfter self.new (Line.Step (Row.Idle number pass) ∷ lines_of self.old)) }
+        requires { Remembers self.old (lines_of self.old) }
+        ensures remembers { OnOk result (Remembers self.new
+            (Line.Step (Row.Idle number pass) ∷ lines_of self.old)) }
         ensures at { self.new.at ≡ self.old.at }
         ensures record { self.new.record ≡ self.old.record }
     {
@@ -267,12 +260,9 @@ impl<'a> Run<'a> {
 
     /// A turn that makes a lawful step of a client's next call.
     fn step(&mut self, number: u64, row: &arena::Row) -> Result<(), Refused>
-        requires after { IsAfter self.old (lines_of self.old) }
-        requires map { IsMapAfter self.old (lines_of self.old) }
-        requires remembered { AreRememberedAfter self.old (lines_of self.old) }
-        ensures after { OnOk result (IsAfter self.new (Line.Step (Row.Step number row.now) ∷ lines_of self.old)) }
-        ensures map { OnOk result (IsMapAfter self.new (Line.Step (Row.Step number row.now) ∷ lines_of self.old)) }
-        ensures remembered { OnOk result (AreRememberedAfter self.new (Line.Step (Row.Step number row.now) ∷ lines_of self.old)) }
+        requires { Remembers self.old (lines_of self.old) }
+        ensures remembers { OnOk result (Remembers self.new
+            (Line.Step (Row.Step number row.now) ∷ lines_of self.old)) }
         ensures at { self.new.at ≡ self.old.at }
         ensures record { self.new.record ≡ self.old.record }
     {
@@ -287,10 +277,9 @@ impl<'a> Run<'a> {
 
     /// Whether a step wins with this entry, if there is one.
     fn fits_with(&self, row: &arena::Row, owed: &Option<Entry>) -> bool
-        requires after { IsAfter self.now (lines_of self.now) }
-        requires map { IsMapAfter self.now (lines_of self.now) }
-        requires remembered { AreRememberedAfter self.now (lines_of self.now) }
-        requires lawful { IsLawful self.now.steps.judge.layout (seen_history self.now.steps.judge) row.now }
+        requires remembers { Remembers self.now (lines_of self.now) }
+        requires lawful { IsLawful self.now.steps.judge.layout
+            (seen_history self.now.steps.judge) row.now }
         ensures { (number : ℕ) → (e : EntryOf) → IsTrue result → owed.now ≡ Some e →
             entry_of (layout_of self.now) (lines_of self.now) number row.now ≡ Some e →
             IsWinOf (layout_of self.now) (calls_of self.now) (lines_of self.now) row.now e }
@@ -305,8 +294,10 @@ impl<'a> Run<'a> {
     /// SCX-record that holds the field's node.
     fn owed_by(&self, number: u64, row: &arena::Row) -> Result<Option<Entry>, Refused>
         requires { IsAfter self.now (lines_of self.now) }
-        ensures owed { IfOk result (λ owed. entry_of (layout_of self.now) (lines_of self.now) number row.now ≡ owed) }
-        ensures client { IfOk result (λ owed. IfSome owed (λ e. e.client.0 < (layout_of self.now).passes)) }
+        ensures owed { IfOk result
+            (λ owed. entry_of (layout_of self.now) (lines_of self.now) number row.now ≡ owed) }
+        ensures client { IfOk result
+            (λ owed. IfSome owed (λ e. e.client.0 < (layout_of self.now).passes)) }
     {
         if row.kind != Kind::Update || row.before == row.after {
             return Ok(None);
@@ -333,12 +324,13 @@ impl<'a> Run<'a> {
 
     /// A step wins with this entry: the first one of its client's call that runs.
     fn check_win(&self, row: &arena::Row, entry: &Entry) -> Result<(), Refused>
-        requires after { IsAfter self.now (lines_of self.now) }
-        requires map { IsMapAfter self.now (lines_of self.now) }
-        requires remembered { AreRememberedAfter self.now (lines_of self.now) }
-        requires lawful { IsLawful self.now.steps.judge.layout (seen_history self.now.steps.judge) row.now }
-        ensures { (number : ℕ) → entry_of (layout_of self.now) (lines_of self.now) number row.now ≡ Some entry.now →
-            OnOk result (IsWinOf (layout_of self.now) (calls_of self.now) (lines_of self.now) row.now entry.now) }
+        requires remembers { Remembers self.now (lines_of self.now) }
+        requires lawful { IsLawful self.now.steps.judge.layout
+            (seen_history self.now.steps.judge) row.now }
+        ensures { (number : ℕ) →
+            entry_of (layout_of self.now) (lines_of self.now) number row.now ≡ Some entry.now →
+            OnOk result (IsWinOf (layout_of self.now) (calls_of self.now)
+            (lines_of self.now) row.now entry.now) }
     {
         let client = self.client(entry.client)?;
         let Some(command) = self.next(&client) else {
@@ -354,18 +346,19 @@ impl<'a> Run<'a> {
 
     /// An entry of this SCX-record is one that the client's call makes.
     fn check_entry(&self, client: &Client, command: &Command, scx: ScxNo) -> Result<(), Refused>
-        requires after { IsAfter self.now (lines_of self.now) }
-        requires map { IsMapAfter self.now (lines_of self.now) }
-        requires remembered { AreRememberedAfter self.now (lines_of self.now) }
+        requires remembers { Remembers self.now (lines_of self.now) }
         requires client { slice_get self.now.clients.items client.now.pass.0 ≡ Some client.now }
-        requires command { next_command (calls_of self.now) (lines_of self.now) client.now.pass.0 ≡ Some command.now }
+        requires command { next_command (calls_of self.now)
+            (lines_of self.now) client.now.pass.0 ≡ Some command.now }
         ensures { OnOk result ((row : RowOf) (n : ℕ) (side : Side) →
             IsLawful self.now.steps.judge.layout (seen_history self.now.steps.judge) row →
             IsWin (seen_history self.now.steps.judge) row scx.0 → row.word ≡ child n side →
             IsEntryFor (layout_of self.now) client.now.pass.0 (seen_history self.now.steps.judge)
             (start (layout_of self.now).mode (lines_of self.now) client.now.pass.0)
-            (linked (calls_of self.now) (layout_of self.now).mode (lines_of self.now) client.now.pass.0)
-            (entered (layout_of self.now) (seen_history self.now.steps.judge) scx.0 n side row.after) command.now) }
+            (linked (calls_of self.now) (layout_of self.now).mode
+            (lines_of self.now) client.now.pass.0)
+            (entered (layout_of self.now)
+            (seen_history self.now.steps.judge) scx.0 n side row.after) command.now) }
     {
         match command {
             Command::Map(_) => {
@@ -397,11 +390,12 @@ impl<'a> Run<'a> {
     /// On the tree the SCX-record that a step begins, if it begins one, makes an edit for its client's
     /// call.
     fn check_begun(&self, row: &arena::Row) -> Result<(), Refused>
-        requires after { IsAfter self.now (lines_of self.now) }
-        requires map { IsMapAfter self.now (lines_of self.now) }
+        requires { Remembers self.now (lines_of self.now) }
         ensures { OnOk result ((layout_of self.now).mode ≡ Tree →
             IsBegin (seen_history self.now.steps.judge) row.now row.now.after →
-            (begun : BegunOf) × MayMakeEdit (layout_of self.now) (seen_history self.now.steps.judge) row.now.after begun) }
+            (begun : BegunOf)
+            × MayMakeEdit (layout_of self.now)
+            (seen_history self.now.steps.judge) row.now.after begun) }
     {
         if !self.begins(row) {
             return Ok(());
@@ -416,7 +410,8 @@ impl<'a> Run<'a> {
     fn begins(&self, row: &arena::Row) -> bool
         requires { IsAfter self.now (lines_of self.now) }
         ensures tree { IsTrue result → (layout_of self.now).mode ≡ Tree }
-        ensures begins { IsTrue result → IsBegin (seen_history self.now.steps.judge) row.now row.now.after }
+        ensures begins { IsTrue result →
+            IsBegin (seen_history self.now.steps.judge) row.now row.now.after }
         ensures none { result ≡ false → (layout_of self.now).mode ≡ Tree →
             IsBegin (seen_history self.now.steps.judge) row.now row.now.after → ⊥ }
     {
@@ -426,10 +421,11 @@ impl<'a> Run<'a> {
     /// The SCX-record that a step on the tree begins, if it begins one, with the edit that it makes for
     /// its client's call.
     fn begun_by(&self, row: &arena::Row) -> Option<Begun>
-        requires after { IsAfter self.now (lines_of self.now) }
-        requires map { IsMapAfter self.now (lines_of self.now) }
-        ensures begins { IfSome result (λ begun. IsBegin (seen_history self.now.steps.judge) row.now row.now.after) }
-        ensures edit { IfSome result (MayMakeEdit (layout_of self.now) (seen_history self.now.steps.judge) row.now.after) }
+        requires { Remembers self.now (lines_of self.now) }
+        ensures begins { IfSome result
+            (λ begun. IsBegin (seen_history self.now.steps.judge) row.now row.now.after) }
+        ensures edit { IfSome result
+            (MayMakeEdit (layout_of self.now) (seen_history self.now.steps.judge) row.now.after) }
     {
         if !self.begins(row) {
             return None;
@@ -446,7 +442,8 @@ impl<'a> Run<'a> {
     /// Whether an SCX-record that wins has begun for a call with this command, and suits it.
     fn is_ready(&self, command: &Command, scx: ScxNo) -> bool
         requires { IsTreeRun self.now.steps.judge.layout (seen_history self.now.steps.judge) }
-        ensures { IsTrue result → IsReadyFor self.now.edits.items (seen_history self.now.steps.judge) scx.0 command.now }
+        ensures { IsTrue result →
+            IsReadyFor self.now.edits.items (seen_history self.now.steps.judge) scx.0 command.now }
     {
         match self.begun_of(scx) {
             Some(begun) => is_of(&begun, command) && suits(&self.steps.judge, scx.0, &begun),
@@ -456,7 +453,8 @@ impl<'a> Run<'a> {
 
     /// The SCX-record of this number, if one has begun.
     fn begun_of(&self, scx: ScxNo) -> Option<Begun>
-        ensures { IfSome result (λ begun. slice_get self.now.edits.items scx.0 ≡ Some (Some begun)) }
+        ensures { IfSome result
+            (λ begun. slice_get self.now.edits.items scx.0 ≡ Some (Some begun)) }
     {
         match self.edits.get(scx.0 as usize) {
             Some(begun) => *begun,
@@ -472,24 +470,10 @@ impl<'a> Run<'a> {
         owed: Option<Entry>,
         fits: bool,
     ) -> Result<(), Refused>
-        requires after { IsAfter self.old (lines_of self.old) }
-        requires map { IsMapAfter self.old (lines_of self.old) }
-        requires remembered { AreRememberedAfter self.old (lines_of self.old) }
-        requires rising { (layout_of self.old).mode ≡ Tree →
-            HasRisingLevels (seen_history self.old.steps.judge) →
-            HasRisingLevels (row.now ⊳ seen_history self.old.steps.judge) }
-        requires edit { (layout_of self.old).mode ≡ Tree →
-            IsBegin (seen_history self.old.steps.judge) row.now row.now.after →
-            (begun : BegunOf) × MayMakeEdit (layout_of self.old) (seen_history self.old.steps.judge) row.now.after begun }
-        requires settled { OwesNothing (layout_of self.old) (calls_of self.old) (lines_of self.old) }
-        requires step { IsStep (layout_of self.old) (tries_of self.old) (calls_of self.old) (lines_of self.old) number row.now }
-        requires owed { entry_of (layout_of self.old) (lines_of self.old) number row.now ≡ owed }
-        requires client { IfSome owed (λ e. e.client.0 < (layout_of self.old).passes) }
-        requires fits { (e : EntryOf) → fits ≡ true → owed ≡ Some e →
-            IsWinOf (layout_of self.old) (calls_of self.old) (lines_of self.old) row.now e }
-        ensures after { OnOk result (IsAfter self.new (Line.Step (Row.Step number row.now) ∷ lines_of self.old)) }
-        ensures map { OnOk result (IsMapAfter self.new (Line.Step (Row.Step number row.now) ∷ lines_of self.old)) }
-        ensures remembered { OnOk result (AreRememberedAfter self.new (Line.Step (Row.Step number row.now) ∷ lines_of self.old)) }
+        requires remembers { Remembers self.old (lines_of self.old) }
+        requires next { IsNextStep self.old number row.now owed fits }
+        ensures remembers { OnOk result (Remembers self.new
+            (Line.Step (Row.Step number row.now) ∷ lines_of self.old)) }
         ensures at { self.new.at ≡ self.old.at }
         ensures record { self.new.record ≡ self.old.record }
     {
@@ -513,12 +497,9 @@ impl<'a> Run<'a> {
 
     /// The entry that the step before it asks for.
     fn entry(&mut self, entry: &Entry) -> Result<(), Refused>
-        requires after { IsAfter self.old (lines_of self.old) }
-        requires map { IsMapAfter self.old (lines_of self.old) }
-        requires remembered { AreRememberedAfter self.old (lines_of self.old) }
-        ensures after { OnOk result (IsAfter self.new (Line.Log entry.now ∷ lines_of self.old)) }
-        ensures map { OnOk result (IsMapAfter self.new (Line.Log entry.now ∷ lines_of self.old)) }
-        ensures remembered { OnOk result (AreRememberedAfter self.new (Line.Log entry.now ∷ lines_of self.old)) }
+        requires { Remembers self.old (lines_of self.old) }
+        ensures remembers { OnOk result (Remembers self.new
+            (Line.Log entry.now ∷ lines_of self.old)) }
         ensures at { self.new.at ≡ self.old.at }
         ensures record { self.new.record ≡ self.old.record }
     {
@@ -551,7 +532,8 @@ impl<'a> Run<'a> {
     /// The change of the map that the SCX-record of an entry makes.
     fn change_of(&self, entry: &Entry) -> Result<Change, Refused>
         requires { IsAfter self.now (lines_of self.now) }
-        ensures { IfOk result (IsChangeBegun (calls_of self.now) (lines_of self.now) entry.now self.now.edits.items) }
+        ensures { IfOk result
+            (IsChangeBegun (calls_of self.now) (lines_of self.now) entry.now self.now.edits.items) }
     {
         match self.begun_for_entry(entry) {
             Some(begun) => Ok(Change {
@@ -566,9 +548,11 @@ impl<'a> Run<'a> {
     /// The SCX-record of an entry, if it has begun for the next call of the entry's client.
     fn begun_for_entry(&self, entry: &Entry) -> Option<Begun>
         requires { IsAfter self.now (lines_of self.now) }
-        ensures known { IfSome result (λ begun. slice_get self.now.edits.items entry.now.scx.0 ≡ Some (Some begun)) }
+        ensures known { IfSome result
+            (λ begun. slice_get self.now.edits.items entry.now.scx.0 ≡ Some (Some begun)) }
         ensures own { IfSome result (λ begun.
-            next_command (calls_of self.now) (lines_of self.now) entry.now.client.0 ≡ Some begun.command) }
+            next_command (calls_of self.now)
+            (lines_of self.now) entry.now.client.0 ≡ Some begun.command) }
     {
         let Ok(client) = self.client(entry.client) else {
             return None;
@@ -588,12 +572,9 @@ impl<'a> Run<'a> {
 
     /// The reply to the call whose last turn is the newest one.
     fn reply(&mut self, reply: &Finished) -> Result<(), Refused>
-        requires after { IsAfter self.old (lines_of self.old) }
-        requires map { IsMapAfter self.old (lines_of self.old) }
-        requires remembered { AreRememberedAfter self.old (lines_of self.old) }
-        ensures after { OnOk result (IsAfter self.new (Line.Reply reply.now ∷ lines_of self.old)) }
-        ensures map { OnOk result (IsMapAfter self.new (Line.Reply reply.now ∷ lines_of self.old)) }
-        ensures remembered { OnOk result (AreRememberedAfter self.new (Line.Reply reply.now ∷ lines_of self.old)) }
+        requires { Remembers self.old (lines_of self.old) }
+        ensures remembers { OnOk result (Remembers self.new
+            (Line.Reply reply.now ∷ lines_of self.old)) }
         ensures at { self.new.at ≡ self.old.at }
         ensures record { self.new.record ≡ self.old.record }
     {
@@ -612,14 +593,14 @@ impl<'a> Run<'a> {
 
     /// A reply is that to a client's next call.
     fn check_reply(&self, client: &Client, reply: &Finished) -> Result<(), Refused>
-        requires after { IsAfter self.now (lines_of self.now) }
-        requires map { IsMapAfter self.now (lines_of self.now) }
-        requires remembered { AreRememberedAfter self.now (lines_of self.now) }
+        requires remembers { Remembers self.now (lines_of self.now) }
         requires owed { entry_owed (layout_of self.now) (lines_of self.now) ≡ None }
         requires client { slice_get self.now.clients.items client.now.pass.0 ≡ Some client.now }
         requires own { client.now.pass ≡ reply.now.client }
         requires last { self.now.last ≡ Some reply.now.client }
-        ensures { OnOk result (IsReply (layout_of self.now) (tries_of self.now) (calls_of self.now) (lines_of self.now) reply.now) }
+        ensures { OnOk result
+            (IsReply (layout_of self.now) (tries_of self.now) (calls_of self.now)
+            (lines_of self.now) reply.now) }
     {
         let Some(command) = self.next(client) else {
             return Err(Refused::NotLawful);
@@ -653,26 +634,13 @@ impl<'a> Run<'a> {
         command: &Command,
         reply: &Finished,
     ) -> Result<(), Refused>
-        requires after { IsAfter self.now (lines_of self.now) }
-        requires map { IsMapAfter self.now (lines_of self.now) }
-        requires remembered { AreRememberedAfter self.now (lines_of self.now) }
-        requires owed { entry_owed (layout_of self.now) (lines_of self.now) ≡ None }
-        requires client { slice_get self.now.clients.items client.now.pass.0 ≡ Some client.now }
-        requires own { client.now.pass ≡ reply.now.client }
-        requires number { reply.now.call ≡ client.now.answered }
-        requires begun { client.now.begun ≡ Some reply.now.begin }
-        requires end { reply.now.end ≡ self.now.turn }
-        requires fits { IsFitting (lines_of self.now) command.now reply.now.answer }
-        requires entry { enters command.now reply.now.answer ≡ is_some client.now.won }
-        requires command { next_command (calls_of self.now) (lines_of self.now) client.now.pass.0 ≡ Some command.now }
-        ensures right { OnOk result (IsRight (layout_of self.now) (tries_of self.now) reply.now.client.0
-            (history (layout_of self.now).mode (lines_of self.now))
-            (start (layout_of self.now).mode (lines_of self.now) reply.now.client.0)
-            (linked (calls_of self.now) (layout_of self.now).mode (lines_of self.now) reply.now.client.0) command.now reply.now.answer) }
-        ensures took { OnOk result (HasTakenFew (layout_of self.now) (tries_of self.now) reply.now.client.0
-            (history (layout_of self.now).mode (lines_of self.now))
-            (start (layout_of self.now).mode (lines_of self.now) reply.now.client.0) command.now) }
-        ensures placed { OnOk result (IsPlaced (layout_of self.now) (calls_of self.now) (lines_of self.now) reply.now command.now) }
+        requires remembers { Remembers self.now (lines_of self.now) }
+        requires next { IsReplyToNext self.now client.now command.now reply.now }
+        ensures right { OnOk result (IsRightReply self.now reply.now command.now) }
+        ensures took { OnOk result (TookFew self.now reply.now command.now) }
+        ensures placed { OnOk result
+            (IsPlaced (layout_of self.now) (calls_of self.now) (lines_of self.now)
+            reply.now command.now) }
     {
         let limits = &self.record.script.limits;
         hold(self.steps.has_taken_few(client.pass, command, limits))?;
@@ -689,24 +657,13 @@ impl<'a> Run<'a> {
         command: &Command,
         reply: &Finished,
     ) -> Result<(), Refused>
-        requires after { IsAfter self.now (lines_of self.now) }
-        requires map { IsMapAfter self.now (lines_of self.now) }
-        requires remembered { AreRememberedAfter self.now (lines_of self.now) }
+        requires remembers { Remembers self.now (lines_of self.now) }
         requires mode { (layout_of self.now).mode ≡ Tree }
-        requires owed { entry_owed (layout_of self.now) (lines_of self.now) ≡ None }
-        requires client { slice_get self.now.clients.items client.now.pass.0 ≡ Some client.now }
-        requires own { client.now.pass ≡ reply.now.client }
-        requires number { reply.now.call ≡ client.now.answered }
-        requires begun { client.now.begun ≡ Some reply.now.begin }
-        requires end { reply.now.end ≡ self.now.turn }
-        requires fits { IsFitting (lines_of self.now) command.now reply.now.answer }
-        requires entry { enters command.now reply.now.answer ≡ is_some client.now.won }
-        requires command { next_command (calls_of self.now) (lines_of self.now) client.now.pass.0 ≡ Some command.now }
-        ensures right { OnOk result (IsRight (layout_of self.now) (tries_of self.now) reply.now.client.0
-            (history (layout_of self.now).mode (lines_of self.now))
-            (start (layout_of self.now).mode (lines_of self.now) reply.now.client.0)
-            (linked (calls_of self.now) (layout_of self.now).mode (lines_of self.now) reply.now.client.0) command.now reply.now.answer) }
-        ensures placed { OnOk result (IsPlaced (layout_of self.now) (calls_of self.now) (lines_of self.now) reply.now command.now) }
+        requires next { IsReplyToNext self.now client.now command.now reply.now }
+        ensures right { OnOk result (IsRightReply self.now reply.now command.now) }
+        ensures placed { OnOk result
+            (IsPlaced (layout_of self.now) (calls_of self.now) (lines_of self.now)
+            reply.now command.now) }
     {
         let tries = self.record.script.limits.tries;
         hold(map::is_right(&self.steps, &self.places, client, tries, command, reply))?;
@@ -720,18 +677,13 @@ impl<'a> Run<'a> {
         command: &Command,
         reply: &Finished,
     ) -> Result<(), Refused>
-        requires after { IsAfter self.now (lines_of self.now) }
-        requires remembered { AreRememberedAfter self.now (lines_of self.now) }
+        requires remembers { Remembers self.now (lines_of self.now) }
         requires mode { (layout_of self.now).mode ≡ Records }
-        requires client { slice_get self.now.clients.items client.now.pass.0 ≡ Some client.now }
-        requires own { client.now.pass ≡ reply.now.client }
-        requires begun { client.now.begun ≡ Some reply.now.begin }
-        requires command { next_command (calls_of self.now) (lines_of self.now) client.now.pass.0 ≡ Some command.now }
-        ensures right { OnOk result (IsRight (layout_of self.now) (tries_of self.now) reply.now.client.0
-            (history (layout_of self.now).mode (lines_of self.now))
-            (start (layout_of self.now).mode (lines_of self.now) reply.now.client.0)
-            (linked (calls_of self.now) (layout_of self.now).mode (lines_of self.now) reply.now.client.0) command.now reply.now.answer) }
-        ensures placed { OnOk result (IsPlaced (layout_of self.now) (calls_of self.now) (lines_of self.now) reply.now command.now) }
+        requires next { IsReplyToNext self.now client.now command.now reply.now }
+        ensures right { OnOk result (IsRightReply self.now reply.now command.now) }
+        ensures placed { OnOk result
+            (IsPlaced (layout_of self.now) (calls_of self.now) (lines_of self.now)
+            reply.now command.now) }
     {
         hold(cells::is_right(&self.steps, client, command, reply))?;
         Ok(())
@@ -751,7 +703,8 @@ fn push(places: &mut Places, change: Change) -> Result<(), Refused>
 /// The clients of a script, which have made no turn.
 fn clients(alloc: Global, script: &Script) -> Result<Vec<Client>, NoMemory>
     ensures all { IfOk result (λ v. length v.items ≡ script.now.layout.passes) }
-    ensures clients { IfOk result (λ v. AreClientsAfter script.now.layout script.now.calls.items [] v.items) }
+    ensures clients { IfOk result
+        (λ v. AreClientsAfter script.now.layout script.now.calls.items [] v.items) }
 {
     let mut clients = Vec::new(alloc);
     for number in 0..script.layout.passes {
@@ -762,7 +715,8 @@ fn clients(alloc: Global, script: &Script) -> Result<Vec<Client>, NoMemory>
 
 /// Whether the moment of a reply, if there is one, is within the call.
 fn is_within(reply: &Finished) -> bool
-    ensures { IsTrue result → (m : ℕ) → reply.now.moment ≡ Some m → (reply.now.begin ≤ m) × (m ≤ reply.now.end) }
+    ensures { IsTrue result → (m : ℕ) → reply.now.moment ≡ Some m → (reply.now.begin ≤ m)
+        × (m ≤ reply.now.end) }
 {
     match reply.moment {
         Some(moment) => reply.begin <= moment && moment <= reply.end,

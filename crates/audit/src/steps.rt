@@ -68,7 +68,8 @@ impl Steps {
     pub(crate) fn new(alloc: Global, layout: &Layout) -> Result<Steps, Refused>
         ensures layout { IfOk result (λ s. s.judge.layout ≡ layout.now) }
         ensures start { IfOk result (λ s. seen_history s.judge ≡ Start layout.now.mode) }
-        ensures remembered { (calls : List Call) → IfOk result (λ s. AreRemembered layout.now calls [] s) }
+        ensures remembered { (calls : List Call) →
+            IfOk result (λ s. AreRemembered layout.now calls [] s) }
     {
         Ok(Steps {
             judge: Judge::new(alloc, layout)?,
@@ -93,7 +94,8 @@ impl Steps {
     /// reply.
     pub(crate) fn begin(&mut self, client: &Client, calls: &[Call])
         ensures same { self.new ≡ record self.old { memories = self.new.memories } }
-        ensures remembered { (lay : Layout) (lines : List Line) → AreRemembered lay calls.now lines self.old →
+        ensures remembered { (lay : Layout) (lines : List Line) →
+            AreRemembered lay calls.now lines self.old →
             IsClientAfter lay calls.now lines client.now.pass.0 client.now →
             AreRememberedInCall lay calls.now lines client.now.pass.0 self.new }
     {
@@ -107,11 +109,14 @@ impl Steps {
     fn memory_begun(&self, client: &Client, calls: &[Call]) -> Memory
         ensures same { IfSome (slice_get self.now.memories.items client.now.pass.0) (λ m.
             result ≡ record m { begun = result.begun; nodes = result.nodes; scx = result.scx; tries = result.tries; same = result.same }) }
-        ensures begun { (lay : Layout) (lines : List Line) → AreRemembered lay calls.now lines self.now →
-            IsClientAfter lay calls.now lines client.now.pass.0 client.now → client.now.begun ≡ None →
+        ensures begun { (lay : Layout) (lines : List Line) →
+            AreRemembered lay calls.now lines self.now →
+            IsClientAfter lay calls.now lines client.now.pass.0 client.now →
+            client.now.begun ≡ None →
             client.now.pass.0 < length self.now.memories.items →
             IsBegunWith lay (history lay.mode lines) (start lay.mode lines client.now.pass.0)
-            (linked calls.now lay.mode lines client.now.pass.0) (next_command calls.now lines client.now.pass.0) client.now.pass.0 result }
+            (linked calls.now lay.mode lines client.now.pass.0)
+            (next_command calls.now lines client.now.pass.0) client.now.pass.0 result }
     {
         let memory = self.memory(client.pass);
         Memory {
@@ -128,7 +133,8 @@ impl Steps {
     fn same_of(&self, memory: &Memory, command: Option<Command>) -> [bool; 4]
         ensures { (cells : Cells) (kept : ℕ → Option History) → command ≡ Some (Vlx cells) →
             AreSnapshotsOf self.now.judge.layout (seen_history self.now.judge) memory.now kept →
-            AreSameAt self.now.judge.layout (seen_history self.now.judge) kept (cells_of cells) result }
+            AreSameAt self.now.judge.layout (seen_history self.now.judge) kept
+            (cells_of cells) result }
     {
         match command {
             Some(Command::Vlx { cells }) => same_cells(&self.judge, memory, cells.as_slice()),
@@ -149,7 +155,8 @@ impl Steps {
     pub(crate) fn make(&mut self, row: &Row) -> Result<(), Refused>
         requires { IsLawful self.old.judge.layout (seen_history self.old.judge) row.now }
         ensures layout { self.new.judge.layout ≡ self.old.judge.layout }
-        ensures history { OnOk result (seen_history self.new.judge ≡ row.now ⊳ seen_history self.old.judge) }
+        ensures history { OnOk result
+            (seen_history self.new.judge ≡ row.now ⊳ seen_history self.old.judge) }
         ensures remembered { (lay : Layout) (calls : List Call) (lines : List Line) (number : ℕ) →
             AreRememberedInCall lay calls lines row.now.pass.0 self.old →
             OnOk result (AreRemembered lay calls (Turn (Made number row.now) ∷ lines) self.new) }
@@ -169,7 +176,8 @@ impl Steps {
     fn note_end(&mut self, ends: Option<ScxNo>)
         ensures same { self.new ≡ record self.old { until = self.new.until } }
         ensures many { length self.new.until.items ≡ length self.old.until.items }
-        ensures until { (s rows : ℕ) → slice_get self.new.until.items s ≡ Some rows → (slice_get self.old.until.items s ≡ Some rows) ⊎
+        ensures until { (s rows : ℕ) → slice_get self.new.until.items s ≡ Some rows →
+            (slice_get self.old.until.items s ≡ Some rows) ⊎
             ((rows ≡ self.old.count) × IfSome ends (λ t. t.0 ≡ s) × IsSome ends) }
     {
         if let Some(scx) = ends
@@ -184,8 +192,10 @@ impl Steps {
         ensures same { self.new ≡ record self.old { finals = self.new.finals } }
         ensures many { length self.new.finals.items ≡ length self.old.finals.items }
         ensures none { winner ≡ None → self.new.finals.items ≡ self.old.finals.items }
-        ensures noted { (s : ScxNo) → winner ≡ Some s → (n rows : ℕ) → slice_get self.new.finals.items n ≡ Some rows →
-            IsRememberedFinal self.old.judge.layout (seen_history self.old.judge) s.0 4 self.old.count (slice_get self.old.finals.items n)
+        ensures noted { (s : ScxNo) → winner ≡ Some s → (n rows : ℕ) →
+            slice_get self.new.finals.items n ≡ Some rows →
+            IsRememberedFinal self.old.judge.layout
+            (seen_history self.old.judge) s.0 4 self.old.count (slice_get self.old.finals.items n)
             n rows }
     {
         let Some(scx) = winner else {
@@ -201,7 +211,9 @@ impl Steps {
         ensures same { self.new ≡ record self.old { finals = self.new.finals } }
         ensures many { length self.new.finals.items ≡ length self.old.finals.items }
         ensures noted { (n rows : ℕ) → slice_get self.new.finals.items n ≡ Some rows →
-            IsMadeFinal self.old.judge.layout (seen_history self.old.judge) scx.0 place self.old.count (slice_get self.old.finals.items n)
+            IsMadeFinal self.old.judge.layout
+            (seen_history self.old.judge) scx.0 place self.old.count
+            (slice_get self.old.finals.items n)
             n rows }
     {
         let node = NodeNo(self.judge.get(Word::Scx(scx, ScxWord::Member(place))));
@@ -215,7 +227,8 @@ impl Steps {
 
     /// Whether a node was final after the first so many steps.
     pub(crate) fn was_final(&self, node: NodeNo, after: u64) -> bool
-        ensures { (lay : Layout) (h g : History) → AreStepsOf lay h self.now → IsMomentAt h after g → node.0 < all_nodes lay →
+        ensures { (lay : Layout) (h g : History) → AreStepsOf lay h self.now →
+            IsMomentAt h after g → node.0 < all_nodes lay →
             result ≡ is_final (log lay g) node.0 }
     {
         match self.finals.get(node.0 as usize) {
@@ -240,10 +253,13 @@ impl Steps {
     fn remember(&mut self, row: &Row)
         ensures same { self.new ≡ record self.old { memories = self.new.memories } }
         ensures many { length self.new.memories.items ≡ length self.old.memories.items }
-        ensures others { (c : ℕ) → (c ≡ row.now.pass.0 → ⊥) → slice_get self.new.memories.items c ≡ slice_get self.old.memories.items c }
-        ensures own { (m : Memory) → slice_get self.new.memories.items row.now.pass.0 ≡ Some m → (old : Memory) ×
+        ensures others { (c : ℕ) → (c ≡ row.now.pass.0 → ⊥) →
+            slice_get self.new.memories.items c ≡ slice_get self.old.memories.items c }
+        ensures own { (m : Memory) →
+            slice_get self.new.memories.items row.now.pass.0 ≡ Some m → (old : Memory) ×
             (slice_get self.old.memories.items row.now.pass.0 ≡ Some old) ×
-            IsNoted self.old.judge.layout (seen_history self.old.judge) self.old.count row.now old m }
+            IsNoted self.old.judge.layout
+            (seen_history self.old.judge) self.old.count row.now old m }
     {
         let look = self.look_by(row);
         if let Some(memory) = self.memories.get_mut(row.pass.0 as usize) {
@@ -254,7 +270,9 @@ impl Steps {
 
     /// What a step that was made has found, if it is one at an info word.
     fn look_by(&self, row: &Row) -> Option<Look>
-        ensures { IfSome result (λ look. IsLookBy self.now.judge.layout (seen_history self.now.judge) self.now.count row.now look) }
+        ensures { IfSome result
+            (λ look. IsLookBy self.now.judge.layout
+            (seen_history self.now.judge) self.now.count row.now look) }
     {
         let Word::Node(node, NodeWord::Info) = row.word else {
             return None;
@@ -270,8 +288,10 @@ impl Steps {
     /// Which snapshots a client keeps once its next call is answered so.
     pub(crate) fn keep_behind(&mut self, client: &Client, calls: &[Call], answer: &Answer)
         ensures same { self.new ≡ record self.old { memories = self.new.memories } }
-        ensures remembered { (lay : Layout) (lines : List Line) (reply : Finished) → AreRemembered lay calls.now lines self.old →
-            IsClientAfter lay calls.now lines client.now.pass.0 client.now → reply.client ≡ client.now.pass → reply.answer ≡ answer.now →
+        ensures remembered { (lay : Layout) (lines : List Line) (reply : Finished) →
+            AreRemembered lay calls.now lines self.old →
+            IsClientAfter lay calls.now lines client.now.pass.0 client.now →
+            reply.client ≡ client.now.pass → reply.answer ≡ answer.now →
             AreRemembered lay calls.now (ReplyLine reply ∷ lines) self.new }
     {
         if let Some(command) = client.command(calls) {
@@ -283,8 +303,11 @@ impl Steps {
     /// What is remembered of the client then, if this is its command.
     fn memory_behind(&self, memory: Memory, command: &Command, answer: &Answer) -> Memory
         ensures same { result ≡ record memory { snapshots = result.snapshots } }
-        ensures snapshots { (lay : Layout) (h : History) (kept : ℕ → Option History) → AreStepsOf lay h self.now →
-            AreSnapshotsOf lay h memory kept → AreSnapshotsOf lay h result (λ n. linked_then (Some command.now) answer.now h n (kept n)) }
+        ensures snapshots { (lay : Layout) (h : History) (kept : ℕ → Option History) →
+            AreStepsOf lay h self.now →
+            AreSnapshotsOf lay h memory kept →
+            AreSnapshotsOf lay h result
+            (λ n. linked_then (Some command.now) answer.now h n (kept n)) }
     {
         match command {
             Command::Llx { cell } => memory.with(
@@ -301,7 +324,8 @@ impl Steps {
 
     /// The snapshot that an answer leaves of the cell at which the call's LLX has looked.
     fn snapshot_by(&self, cell: NodeNo, answer: &Answer) -> Option<Snapshot>
-        ensures { (lay : Layout) (h : History) → AreStepsOf lay h self.now → IsSnapshotOf lay h cell.0 result (snapshot_of answer.now h) }
+        ensures { (lay : Layout) (h : History) → AreStepsOf lay h self.now →
+            IsSnapshotOf lay h cell.0 result (snapshot_of answer.now h) }
     {
         match answer {
             Answer::Snapshot { .. } | Answer::Full { .. } => Some(Snapshot {
@@ -314,7 +338,8 @@ impl Steps {
 
     /// How many nodes are left of a pass's share.
     fn nodes_left(&self, pass: PassNo) -> u32
-        ensures { pass.0 < self.now.judge.layout.passes → HasNodesLeft self.now.judge.layout pass.0 (seen_history self.now.judge) result }
+        ensures { pass.0 < self.now.judge.layout.passes →
+            HasNodesLeft self.now.judge.layout pass.0 (seen_history self.now.judge) result }
     {
         let layout = self.judge.layout();
         if pass.0 < layout.passes {
@@ -326,7 +351,8 @@ impl Steps {
 
     /// How many SCX-records are left of a pass's share.
     fn scx_left(&self, pass: PassNo) -> u32
-        ensures { pass.0 < self.now.judge.layout.passes → HasScxLeft self.now.judge.layout pass.0 (seen_history self.now.judge) result }
+        ensures { pass.0 < self.now.judge.layout.passes →
+            HasScxLeft self.now.judge.layout pass.0 (seen_history self.now.judge) result }
     {
         let layout = self.judge.layout();
         if pass.0 < layout.passes {
@@ -338,9 +364,11 @@ impl Steps {
 
     /// Whether the call of a client has taken no more of its share than it may.
     pub(crate) fn has_taken_few(&self, pass: PassNo, command: &Command, limits: &Limits) -> bool
-        ensures { (lay : Layout) (calls : List Call) (lines : List Line) → AreRemembered lay calls lines self.now → pass.0 < lay.passes →
+        ensures { (lay : Layout) (calls : List Call) (lines : List Line) →
+            AreRemembered lay calls lines self.now → pass.0 < lay.passes →
             IsSome (begin lines pass.0) → IsTrue result →
-            HasTakenFew lay limits.now.tries pass.0 (history lay.mode lines) (start lay.mode lines pass.0) command.now }
+            HasTakenFew lay limits.now.tries pass.0 (history lay.mode lines)
+            (start lay.mode lines pass.0) command.now }
     {
         let memory = self.memory(pass);
         let taken = memory.scx.saturating_sub(self.scx_left(pass));
@@ -350,7 +378,8 @@ impl Steps {
 
     /// How many steps there were up to the last one after which an SCX-record was in progress.
     fn last_in_progress(&self, scx: ScxNo) -> u64
-        ensures { (lay : Layout) (h : History) → AreStepsOf lay h self.now → 0 < result → WasRunningAt h result scx.0 }
+        ensures { (lay : Layout) (h : History) → AreStepsOf lay h self.now → 0 < result →
+            WasRunningAt h result scx.0 }
     {
         if self.judge.is_in_progress(scx) {
             return self.count;
@@ -388,7 +417,8 @@ impl Steps {
     /// the first so many.
     pub(crate) fn was_in_the_way(&self, pass: PassNo, blamed: (NodeNo, ScxNo), after: u64) -> bool
         ensures others { IsTrue result → IsOthersScx self.now.judge.layout pass.0 blamed.1.0 }
-        ensures way { (lay : Layout) (h g : History) → AreStepsOf lay h self.now → IsMomentAt h after g → IsTrue result →
+        ensures way { (lay : Layout) (h g : History) → AreStepsOf lay h self.now →
+            IsMomentAt h after g → IsTrue result →
             WasInTheWay h g blamed.0.0 blamed.1.0 }
     {
         self.judge.laws_hold();
@@ -405,9 +435,11 @@ impl Steps {
         blamed: (NodeNo, ScxNo),
     ) -> bool
         requires { pass.0 < self.now.judge.layout.passes }
-        ensures { (lay : Layout) (calls : List Call) (lines : List Line) → AreRemembered lay calls lines self.now →
+        ensures { (lay : Layout) (calls : List Call) (lines : List Line) →
+            AreRemembered lay calls lines self.now →
             IsSome (begin lines pass.0) → IsTrue result →
-            HasLostAllTries lay tries pass.0 (history lay.mode lines) (start lay.mode lines pass.0) blamed.0.0 blamed.1.0 }
+            HasLostAllTries lay tries pass.0 (history lay.mode lines)
+            (start lay.mode lines pass.0) blamed.0.0 blamed.1.0 }
     {
         let of_call = self.memory(pass).tries;
         of_call.are(tries) && self.was_in_the_way(pass, blamed, of_call.before)
@@ -415,7 +447,8 @@ impl Steps {
 
     /// Whether some SCX-record of another pass was in progress after a step behind the first so many.
     fn was_blocked(&self, pass: PassNo, after: u64) -> bool
-        ensures { (lay : Layout) (h g : History) → AreStepsOf lay h self.now → IsMomentAt h after g → IsTrue result → WasBlocked lay pass.0 h g }
+        ensures { (lay : Layout) (h g : History) → AreStepsOf lay h self.now →
+            IsMomentAt h after g → IsTrue result → WasBlocked lay pass.0 h g }
     {
         self.judge.laws_hold();
         for scx in 1..self.judge.layout().all_scx() {
@@ -431,7 +464,9 @@ impl Steps {
     /// needs so many nodes.
     pub(crate) fn has_too_few(&self, pass: PassNo, needed: u32, full: (Resource, u32)) -> bool
         requires { pass.0 < self.now.judge.layout.passes }
-        ensures { IsTrue result → HasTooFew self.now.judge.layout pass.0 (seen_history self.now.judge) needed full.0 full.1 }
+        ensures { IsTrue result →
+            HasTooFew self.now.judge.layout pass.0
+            (seen_history self.now.judge) needed full.0 full.1 }
     {
         is_too_few((self.nodes_left(pass), self.scx_left(pass)), needed, full)
     }
@@ -445,9 +480,11 @@ impl Steps {
         full: (Resource, u32),
     ) -> bool
         requires { pass.0 < self.now.judge.layout.passes }
-        ensures { (lay : Layout) (calls : List Call) (lines : List Line) → AreRemembered lay calls lines self.now →
+        ensures { (lay : Layout) (calls : List Call) (lines : List Line) →
+            AreRemembered lay calls lines self.now →
             IsSome (begin lines pass.0) → IsTrue result →
-            HasTooFewToTry lay pass.0 (history lay.mode lines) (start lay.mode lines pass.0) needed full.0 full.1 }
+            HasTooFewToTry lay pass.0 (history lay.mode lines)
+            (start lay.mode lines pass.0) needed full.0 full.1 }
     {
         let memory = self.memory(pass);
         self.has_too_few(pass, needed, full)
@@ -460,7 +497,8 @@ impl Steps {
 /// is too little for an update that needs so many nodes. No SCX-record may be told wherever a node
 /// is left: how many nodes a new key needs goes by its leaf, of which no answer tells.
 fn is_too_few(share: (u32, u32), needed: u32, full: (Resource, u32)) -> bool
-    ensures { (lay : LayoutOf) (c : ℕ) (h : HistoryOf) → NodesLeft lay c h share.0 → ScxLeft lay c h share.1 → IsTrue result →
+    ensures { (lay : LayoutOf) (c : ℕ) (h : HistoryOf) → NodesLeft lay c h share.0 →
+        ScxLeft lay c h share.1 → IsTrue result →
         TooFew lay c h needed full.0 full.1 }
 {
     match full {

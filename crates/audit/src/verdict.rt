@@ -14,11 +14,13 @@ use std::alloc::Global;
 /// nothing is owed. Otherwise the fault names the first row of the record's report that does not.
 /// Nothing is played again.
 pub fn audit(alloc: Global, record: &Record) -> Result<(), AuditFault>
-    ensures lawful { OnOk result (IsLawfulRun «record».now.script.layout «record».now.script.limits.tries «record».now.script.calls.items
+    ensures lawful { OnOk result
+        (IsLawfulRun «record».now.script.layout «record».now.script.limits.tries «record».now.script.calls.items
         (reverse (clients (reverse «record».now.lines.items))) «record».now.lines.items) }
 
     // No line before the row that a fault names is at fault.
-    ensures fault { (row : ℕ) → result ≡ Err (AuditFault.NotLawful row) → MayBeAtFault «record».now row }
+    ensures fault { (row : ℕ) → result ≡ Err (AuditFault.NotLawful row) →
+        MayBeAtFault «record».now row }
 {
     let first = first_row(&record.script);
     let mut run = match Run::new(alloc, record) {

@@ -6,14 +6,14 @@ use Rattle.std.specs.Option.{option_map}
 use Rattle.arena.specs.Limits.{IsAccepted}
 use Rattle.arena.specs.declared.limits.Limits.{Limits}
 use Rattle.ordered_map.specs.Holding.{wide_value}
-use Rattle.ordered_map.specs.OrderedMap.{MapCall, call_pop_first, Get, Successor, Range, OneValue}
+use Rattle.ordered_map.specs.OrderedMap.{MapCall, call_pop_first, Get, Successor, Range}
+use Rattle.ordered_map.specs.declared.reply.Reply.{Reply}
+use Rattle.ordered_map.specs.declared.reply.Reply.TheVariants as replies
 use Rattle.forest.specs.declared.fault.OrderFault.{OrderFault}
 use Rattle.forest.specs.declared.fault.OrderFault.TheVariants as reads
 use Rattle.forest.specs.declared.fault.UpdateFault.{UpdateFault}
 use Rattle.forest.specs.declared.fault.UpdateFault.TheVariants as updates
-use Rattle.dict.specs.Calls.{AsksForPairs}
-use Rattle.forest.specs.StepKinds.{HasKeptToKinds}
-use Rattle.forest.specs.Dictionary.{HasMadeCall, HasSpentAtMost, IsReading, UpdateSays, PopSays, SuccessorSays, RangeSays, blamed_by_update, blamed_by_read}
+use Rattle.forest.specs.Dictionary.{HasCalled, read_reply, update_reply}
 use Rattle.capi.specs.Left.{AreLeft}
 use Rattle.capi.specs.Made.{AreMade}
 use Rattle.capi.specs.declared.answer.Answer.{Answer}
@@ -89,18 +89,9 @@ IsCountOfRange (Err fault) room a = a ≡ no_count (order_status fault)
 
 -- What a call says of the pass that has made it
 
--- the pass has made this call, and blames these now
-pub record HasClientCalled (old new : Client) (call : MapCall) (blamed : List ℕ) : Type 0 where
-  -- what it knows is lawful, and goes on from what it knew by no more steps of its own than such a
-  -- call takes
-  pub goes_on : HasMadeCall (λ k. k < 2 ^ 64) (λ k. k) (λ v. v < 2 ^ 128) (λ v. v) (arc_value old.forest).tries (arc_value old.forest).layout old.pass new.pass call blamed
-  -- it has begun a try only once all before it were lost to other passes, and of its share no more is
-  -- gone than the tries that it has begun may take
-  pub spends : HasSpentAtMost old.pass new.pass call (arc_value old.forest).tries
-  -- its steps are of the kinds that such a call makes
-  pub kinds : HasKeptToKinds old.pass new.pass call
-  -- a range that asks for no pairs has left the pass as it was
-  pub nothing : ¬ AsksForPairs call → new.pass ≡ old.pass
+-- the pass has made this call, of numbers, and has this reply
+abbrev pub HasClientCalled : Client → Client → MapCall → Reply ℕ ℕ → Type 0
+HasClientCalled old new = HasCalled (λ k. k < 2 ^ 64) (λ k. k) (λ v. v < 2 ^ 128) (λ v. v) (arc_value old.forest) old.pass new.pass
 
 -- what a handle held before and after a call, and what the call answered: with no pass nothing is
 -- done, and it answers this; else the pass, which stays in its forest, has made this call
@@ -111,23 +102,23 @@ CallSays no_pass made (Some old) (Some new) a = (new.forest ≡ old.forest) × m
 
 -- what `get` says
 abbrev pub GetSays : ℕ → Client → Client → Answer → Type 0
-GetSays key old new a = (told : Option ℕ) × IsValueAnswer told a × HasClientCalled old new (Get key) old.pass.blamed × IsReading old.pass new.pass (Get key) (OneValue told)
+GetSays key old new a = (told : Option ℕ) × IsValueAnswer told a × HasClientCalled old new (Get key) (replies.Value told)
 
 -- what an edit of a key says
 abbrev pub EditSays : MapCall → Client → Client → Answer → Type 0
-EditSays call old new a = (told : Result (Option ℕ) UpdateFault) × IsUpdateAnswer told a × HasClientCalled old new call (blamed_by_update told old.pass.blamed) × UpdateSays (λ v. v) (arc_value old.forest).tries old.pass new.pass call told
+EditSays call old new a = (told : Result (Option ℕ) UpdateFault) × IsUpdateAnswer told a × HasClientCalled old new call (update_reply replies.Value told)
 
 -- what `pop_first` says, which leaves the pair that it has taken in this room
 abbrev pub TakenSays : Pair → Client → Client → ℕ → Type 0
-TakenSays room old new status = (told : Result (Option (ℕ × ℕ)) UpdateFault) × IsFoundAnswer update_status told room status × HasClientCalled old new call_pop_first (blamed_by_update told old.pass.blamed) × PopSays (λ k. k) (λ v. v) (arc_value old.forest).tries old.pass new.pass told
+TakenSays room old new status = (told : Result (Option (ℕ × ℕ)) UpdateFault) × IsFoundAnswer update_status told room status × HasClientCalled old new call_pop_first (update_reply replies.Pair told)
 
 -- what `successor` says
 abbrev pub NextSays : ℕ → Pair → Client → Client → ℕ → Type 0
-NextSays key room old new status = (told : Result (Option (ℕ × ℕ)) OrderFault) × IsFoundAnswer order_status told room status × HasClientCalled old new (Successor key) (blamed_by_read told old.pass.blamed) × SuccessorSays (λ k. k) (λ v. v) (arc_value old.forest).tries old.pass new.pass key told
+NextSays key room old new status = (told : Result (Option (ℕ × ℕ)) OrderFault) × IsFoundAnswer order_status told room status × HasClientCalled old new (Successor key) (read_reply replies.Pair told)
 
 -- what `range` says, which may tell so many pairs, and leaves them in this room
 abbrev pub BetweenSays : ℕ → ℕ → ℕ → List Pair → Client → Client → Count → Type 0
-BetweenSays low high most room old new a = (told : Result (Vec (ℕ × ℕ)) OrderFault) × IsCountOfRange told room a × HasClientCalled old new (Range low high most) (blamed_by_read told old.pass.blamed) × RangeSays (λ k. k) (λ v. v) (arc_value old.forest).tries old.pass new.pass low high most told
+BetweenSays low high most room old new a = (told : Result (Vec (ℕ × ℕ)) OrderFault) × IsCountOfRange told room a × HasClientCalled old new (Range low high most) (read_reply replies.Pairs told)
 
 -- what `left` tells
 abbrev pub LeftSays : Option Client → Left → Type 0

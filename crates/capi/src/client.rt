@@ -1,9 +1,10 @@
 //! What a handle leads to: a pass of a dictionary, and a part in its forest.
 ghost use Rattle.std.specs.Prelude.{◌≡◌, ◌≤◌, IfOk, length, min, vec_len};
 ghost use Rattle.std.specs.Arc.{arc_value};
-ghost use Rattle.ordered_map.specs.OrderedMap.{call_insert, call_delete, call_pop_first, call_replace_if, Get, Successor, Range, OneValue};
+ghost use Rattle.ordered_map.specs.OrderedMap.{call_insert, call_delete, call_pop_first, call_replace_if, Get, Successor, Range};
+ghost use Rattle.ordered_map.specs.declared.reply.Reply.TheVariants as replies;
 ghost use Rattle.forest.specs.Passes.{IsOf};
-ghost use Rattle.forest.specs.Dictionary.{IsReading, UpdateSays, PopSays, SuccessorSays, RangeSays, blamed_by_update, blamed_by_read};
+ghost use Rattle.forest.specs.Dictionary.{read_reply, update_reply};
 
 use crate::answer::{Count, Pair};
 use regnubas::{Dict, Forest, NoMemory, OrderFault, Pass, UpdateFault};
@@ -30,8 +31,7 @@ impl Client {
     /// The value of a key.
     pub fn get(&mut self, key: u64) -> Option<u128>
         ensures same { self.new.forest ≡ self.old.forest }
-        ensures called { HasClientCalled self.old self.new (Get key) self.old.pass.blamed }
-        ensures says { IsReading self.old.pass self.new.pass (Get key) (OneValue result) }
+        ensures called { HasClientCalled self.old self.new (Get key) (replies.Value result) }
     {
         self.forest.get(&mut self.pass, &key)
     }
@@ -39,8 +39,8 @@ impl Client {
     /// Sets a key to a value.
     pub fn insert(&mut self, key: u64, value: u128) -> Result<Option<u128>, UpdateFault>
         ensures same { self.new.forest ≡ self.old.forest }
-        ensures called { HasClientCalled self.old self.new (call_insert key value) (blamed_by_update result self.old.pass.blamed) }
-        ensures says { UpdateSays (λ v. v) (arc_value self.old.forest).tries self.old.pass self.new.pass (call_insert key value) result }
+        ensures called { HasClientCalled self.old self.new (call_insert key value)
+            (update_reply replies.Value result) }
     {
         self.forest.insert(&mut self.pass, key, value)
     }
@@ -48,8 +48,8 @@ impl Client {
     /// Takes a key away.
     pub fn delete(&mut self, key: u64) -> Result<Option<u128>, UpdateFault>
         ensures same { self.new.forest ≡ self.old.forest }
-        ensures called { HasClientCalled self.old self.new (call_delete key) (blamed_by_update result self.old.pass.blamed) }
-        ensures says { UpdateSays (λ v. v) (arc_value self.old.forest).tries self.old.pass self.new.pass (call_delete key) result }
+        ensures called { HasClientCalled self.old self.new (call_delete key)
+            (update_reply replies.Value result) }
     {
         self.forest.delete(&mut self.pass, &key)
     }
@@ -57,8 +57,8 @@ impl Client {
     /// Takes the pair with the least key away.
     pub fn pop_first(&mut self) -> Result<Option<(u64, u128)>, UpdateFault>
         ensures same { self.new.forest ≡ self.old.forest }
-        ensures called { HasClientCalled self.old self.new call_pop_first (blamed_by_update result self.old.pass.blamed) }
-        ensures says { PopSays (λ k. k) (λ v. v) (arc_value self.old.forest).tries self.old.pass self.new.pass result }
+        ensures called { HasClientCalled self.old self.new call_pop_first
+            (update_reply replies.Pair result) }
     {
         self.forest.pop_first(&mut self.pass)
     }
@@ -71,8 +71,8 @@ impl Client {
         value: u128,
     ) -> Result<Option<u128>, UpdateFault>
         ensures same { self.new.forest ≡ self.old.forest }
-        ensures called { HasClientCalled self.old self.new (call_replace_if key expected value) (blamed_by_update result self.old.pass.blamed) }
-        ensures says { UpdateSays (λ v. v) (arc_value self.old.forest).tries self.old.pass self.new.pass (call_replace_if key expected value) result }
+        ensures called { HasClientCalled self.old self.new (call_replace_if key expected value)
+            (update_reply replies.Value result) }
     {
         self.forest
             .replace_if(&mut self.pass, key, &expected, value)
@@ -81,8 +81,8 @@ impl Client {
     /// The pair with the least key above this one.
     pub fn successor(&mut self, alloc: Global, key: u64) -> Result<Option<(u64, u128)>, OrderFault>
         ensures same { self.new.forest ≡ self.old.forest }
-        ensures called { HasClientCalled self.old self.new (Successor key) (blamed_by_read result self.old.pass.blamed) }
-        ensures says { SuccessorSays (λ k. k) (λ v. v) (arc_value self.old.forest).tries self.old.pass self.new.pass key result }
+        ensures called { HasClientCalled self.old self.new (Successor key)
+            (read_reply replies.Pair result) }
     {
         self.forest.successor(alloc, &mut self.pass, &key)
     }
@@ -99,8 +99,8 @@ impl Client {
         requires few { most ≤ 64 }
         ensures few { IfOk result (λ pairs. vec_len pairs ≤ most) }
         ensures same { self.new.forest ≡ self.old.forest }
-        ensures called { HasClientCalled self.old self.new (Range low high most) (blamed_by_read result self.old.pass.blamed) }
-        ensures says { RangeSays (λ k. k) (λ v. v) (arc_value self.old.forest).tries self.old.pass self.new.pass low high most result }
+        ensures called { HasClientCalled self.old self.new (Range low high most)
+            (read_reply replies.Pairs result) }
     {
         self.forest.range(alloc, &mut self.pass, &low, &high, most)
     }

@@ -81,11 +81,27 @@ fn in_words<K: WordKey, V: WordValue>(request: Request<K, V>) -> Request<u64, u1
                 value: number_of(&value),
             }
         }
+        Request::InsertNew { key, value } => {
+            key.valid();
+            value.valid();
+            Request::InsertNew {
+                key: key.word(),
+                value: number_of(&value),
+            }
+        }
         Request::Delete { key } => {
             key.valid();
             Request::Delete { key: key.word() }
         }
+        Request::DeleteIf { key, expected } => {
+            key.valid();
+            Request::DeleteIf {
+                key: key.word(),
+                expected: number_of(&expected),
+            }
+        }
         Request::PopFirst => Request::PopFirst,
+        Request::PopLast => Request::PopLast,
         Request::ReplaceIf {
             key,
             expected,

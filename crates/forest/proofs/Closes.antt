@@ -34,7 +34,7 @@ use Rattle.forest.proofs.Advances.{keeps_all, rows_by_others, same_knower}
 use Rattle.prims.proofs.Lemmas.{next_unwon}
 use Rattle.forest.proofs.Calls.{IsQuiet, quiet_start, quiet_other}
 use Rattle.forest.proofs.Blames.{blames_left}
-use Rattle.forest.proofs.Passes.{HasCalled, seated, called_pass, called_nothing}
+use Rattle.forest.proofs.Passes.{HasOnlyLoaded, seated, called_pass, called_nothing}
 use Rattle.forest.proofs.Meets.{look_called, look_looks, look_steps}
 
 -- the element of a list, by either way to read it
@@ -75,7 +75,7 @@ looked_from {allows} {mode} p x s n bare m = (
     are : s.me.0.passes ≡ after_look me (m.others ++ known_of p.seat.me.0.passes) ∷ []
     are = subst (λ (k : SeatedPass). s.me.0.passes ≡ after_look k (m.others ++ k.known) ∷ []) same m.is
 
-    y : HasCalled allows p s 0 (λ h. Extends h (history_of p.layout.mode (m.others ++ known_of p.seat.me.0.passes)))
+    y : HasOnlyLoaded allows p s 0 (λ h. Extends h (history_of p.layout.mode (m.others ++ known_of p.seat.me.0.passes)))
     y = look_called p x s (m.others ++ known_of p.seat.me.0.passes) has_looked are
 
     z : IsPass allows mode (seated p s)

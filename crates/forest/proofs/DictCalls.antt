@@ -6,8 +6,7 @@ use Rattle.arena.specs.declared.layout.Layout.{Layout}
 use Rattle.arena.specs.declared.limits.Mode.TheVariants.{Tree}
 use Rattle.arena.specs.History.{History, Extends}
 use Rattle.arena.specs.Share.{Remaining}
-use Rattle.std.specs.Prelude.{Result, Ok, Err, IfOk, IfSome}
-use Rattle.ordered_map.specs.OrderedMap.{MapCall, Edit, Get, Range, Successor, MapReply, call_pop_first}
+use Rattle.ordered_map.specs.OrderedMap.{MapCall, Edit, Get, Range, Successor, MapReply}
 use Rattle.ordered_map.specs.Runs.{IsTreeRun}
 use Rattle.prims.specs.Laws.Begun.{taken_since}
 use Rattle.prims.specs.Shares.{IsShare}
@@ -16,7 +15,7 @@ use Rattle.edits.specs.Known.{RestsWith}
 use Rattle.dict.specs.Laws.Begins.{dict_begins}
 use Rattle.ordered_map.specs.CallRules.{most_nodes, most_scx}
 use Rattle.template.specs.Tries.{tries_since}
-use Rattle.dict.specs.Calls.{call_in, share_of, IsFewCall}
+use Rattle.dict.specs.Calls.{AsksForPairs, call_in, share_of, IsFewCall}
 use Rattle.dict.specs.DictKnown.{DictIsReady, DictWaits, DictAnswers, DictRefuses}
 use Rattle.dict.specs.Known.{IsUnbegun}
 use Rattle.dict.specs.Laws.OneShare.{one_share}
@@ -24,7 +23,7 @@ use Rattle.dict.proofs.Lemmas.{was_contended}
 use Rattle.dict.specs.Says.{KeepsLists, TellsOfMap}
 use Rattle.dict.specs.Typed.{IsTypedCall, TypedAllows}
 use Rattle.dict.specs.Laws.TypedMaps.{typed_run}
-use Rattle.dict.specs.Words.{IsWordOf, IsValidPair, IsValidReply}
+use Rattle.dict.specs.Words.{IsWordOf}
 use Rattle.ordered_map.specs.Replies.{told_of}
 use Rattle.ordered_map.specs.Requests.{AsksForFew, as_map_call}
 use Rattle.dict.specs.declared.dict.DictRun.{DictRun}
@@ -34,10 +33,8 @@ use Rattle.ordered_map.specs.declared.reply.Reply.{Reply}
 use Rattle.ordered_map.specs.declared.reply.Reply.TheVariants as replies
 use Rattle.forest.specs.declared.view.SeatView.{SeatView}
 use Rattle.forest.specs.declared.pass.Pass.TheInside.{Inside}
-use Rattle.forest.specs.Dictionary.{IsToldOf, IsRefusalOf, HasSpentAtMost, PopSays, UpdateSays, blamed_by_reply, blamed_by_update, popped_reply, update_reply}
+use Rattle.forest.specs.Dictionary.{IsToldOf, IsRefusalOf, HasSpentAtMost, blamed_by_reply}
 use Rattle.forest.specs.StraightCalls.{IsFreshCall, IsSameDictCall, SeatCallBegins}
-use Rattle.forest.specs.declared.fault.UpdateFault.{UpdateFault}
-use Rattle.forest.specs.declared.fault.UpdateFault.TheVariants as faults
 use Rattle.forest.specs.Passes.{PassView, HasBlamed, HasGoneOn, run_of, taken_of}
 use Rattle.forest.specs.PassInvariant.{pass_view, IsPass}
 use Rattle.forest.specs.Shares.{IsBetweenCalls}
@@ -223,36 +220,3 @@ module _ {K V : Type 0} (valid_key : K → Type 0) (key : K → ℕ) (valid_valu
           go (replies.Full f) z = full_says (pass_view p) x.is_pass called refl s.table_id (share_of m.run) (known_of s.me.0.passes) (blamed_by_reply reply p.blamed) tree y.since (call_in m.run) f rests z
           go replies.NoMemory z = (z.0, nothing_says (pass_view p) x.is_pass called refl s.table_id (share_of m.run) (known_of s.me.0.passes) (blamed_by_reply reply p.blamed) tree y.since z.1)
           go (replies.Contended n u) z = lost_says (pass_view p) x.is_pass called refl s.table_id (share_of m.run) (known_of s.me.0.passes) (blamed_by_reply reply p.blamed) tree y.since m.tries (call_in m.run) n.0 u.0 z
-
--- What an edit has answered
-
-module _ {K V : Type 0} (key : K → ℕ) (value_word : V → ℕ) (old new : PassView) where
-  -- what is told of the map, or why nothing is, is what the answer says
-  pub update_says : (tries : ℕ) (call : MapCall) (r : Result (Option V) UpdateFault) → IsToldOf old new call (told_of key value_word (update_reply r)) → IsRefusalOf {K = K} tries old new call (update_reply r) → UpdateSays value_word tries old new call r
-  update_says tries call (Ok v) told refused = told
-  update_says tries call (Err (faults.Contended n s)) told refused = refused
-  update_says tries call (Err (faults.Full full)) told refused = refused
-
-  pub popped_says : (tries : ℕ) (r : Result (Option (K × V)) UpdateFault) → IsToldOf old new call_pop_first (told_of key value_word (popped_reply r)) → IsRefusalOf {K = K} tries old new call_pop_first (popped_reply r) → PopSays key value_word tries old new r
-  popped_says tries (Ok p) told refused = told
-  popped_says tries (Err (faults.Contended n s)) told refused = refused
-  popped_says tries (Err (faults.Full full)) told refused = refused
-
-  pub update_valid : (valid_key : K → Type 0) (valid_value : V → Type 0) (r : Result (Option V) UpdateFault) → IsValidReply valid_key valid_value (update_reply r) → IfOk r (λ v. IfSome v valid_value)
-  update_valid valid_key valid_value (Ok v) x = x
-  update_valid valid_key valid_value (Err f) x = tt
-
-  pub popped_valid : (valid_key : K → Type 0) (valid_value : V → Type 0) (r : Result (Option (K × V)) UpdateFault) → IsValidReply valid_key valid_value (popped_reply r) → IfOk r (λ p. IfSome p (IsValidPair valid_key valid_value))
-  popped_valid valid_key valid_value (Ok p) x = x
-  popped_valid valid_key valid_value (Err f) x = tt
-
--- whom the answer blames, the reply does
-pub blames_same : (K : Type 0) {V : Type 0} (r : Result (Option V) UpdateFault) (blamed : List ℕ) → blamed_by_reply {K = K} (update_reply r) blamed ≡ blamed_by_update r blamed
-blames_same K (Ok v) blamed = refl
-blames_same K (Err (faults.Contended n s)) blamed = refl
-blames_same K (Err (faults.Full full)) blamed = refl
-
-pub popped_blames : {K V : Type 0} (r : Result (Option (K × V)) UpdateFault) (blamed : List ℕ) → blamed_by_reply (popped_reply r) blamed ≡ blamed_by_update r blamed
-popped_blames (Ok p) blamed = refl
-popped_blames (Err (faults.Contended n s)) blamed = refl
-popped_blames (Err (faults.Full full)) blamed = refl

@@ -35,6 +35,7 @@ mod Versions
 mod DictCalls
 mod AloneCalls
 mod StepKinds
+mod WholeCalls
 mod OpenCalls
 mod OpenSteps
 mod OpenBegins

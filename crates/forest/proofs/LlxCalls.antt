@@ -26,7 +26,7 @@ use Rattle.forest.specs.TableRule.{history_of}
 use Rattle.forest.proofs.Called.{course_holds}
 use Rattle.forest.proofs.Calls.{course_keeps}
 use Rattle.forest.proofs.Blames.{blamed_more}
-use Rattle.forest.proofs.Passes.{HasCalled, called_pass, called_goes_on, called_nothing, call_of, seated, called}
+use Rattle.forest.proofs.Passes.{HasOnlyLoaded, called_pass, called_goes_on, called_nothing, call_of, seated, called}
 
 -- a run of a cell that has not begun may begin
 pub llx_begins : {allows : Layout → History → ℕ → Type 0} {T : Type 0} (p : Inside T) (x : IsPass allows Records p) (number : ℕ) (m : LlxRun) → m.at ≡ Start → m.node.0 ≤ 8 → HoldsForCall allows p.seat.me.0.passes (call_of p x number) (λ h. ((call_of p x number).start ≡ h) × LlxIsReady allows m (call_of p x number) h None)
@@ -41,7 +41,7 @@ llx_begins {allows} p x number m start small = record {
 abbrev pub Answered : {allows : Layout → History → ℕ → Type 0} {mode : Mode} {T : Type 0} (p : Inside T) → IsPass allows mode p → ℕ → NodeNo → Llx → History → Type 0
 Answered p x number node a h = (m : LlxRun) × (m.node ≡ node) × LlxAnswers m (call_of p x number) h a
 
-pub llx_called : {allows : Layout → History → ℕ → Type 0} {mode : Mode} {T : Type 0} (p : Inside T) (x : IsPass allows mode p) (number : ℕ) (s : Seat ℕ SeatView) (first m : LlxRun) (node : NodeNo) (a : Llx) → first.node ≡ node → HoldsForCall allows s.me.0.passes (call_of p x number) (λ h. LlxAnswers m (call_of p x number) h a × Trace allows (LlxWaits allows) (λ old now. now.node ≡ old.node) (call_of p x number) first m h) → HasCalled allows p s number (Answered p x number node a)
+pub llx_called : {allows : Layout → History → ℕ → Type 0} {mode : Mode} {T : Type 0} (p : Inside T) (x : IsPass allows mode p) (number : ℕ) (s : Seat ℕ SeatView) (first m : LlxRun) (node : NodeNo) (a : Llx) → first.node ≡ node → HoldsForCall allows s.me.0.passes (call_of p x number) (λ h. LlxAnswers m (call_of p x number) h a × Trace allows (LlxWaits allows) (λ old now. now.node ≡ old.node) (call_of p x number) first m h) → HasOnlyLoaded allows p s number (Answered p x number node a)
 llx_called {allows} p x number s first m node a is y =
     let z = called p x s number (LlxWaits allows) (λ old now. now.node ≡ old.node) first m (λ h. LlxAnswers m (call_of p x number) h a) (λ k h t w. llx_fills_not allows k (call_of p x number) h t w) y in
     record { seat = z.seat; answers = (m, course_keeps (λ (k : LlxRun). k.node ≡ node) is (λ old now e q. e ∙ q) m _ y.so.1, z.answers); goes = z.goes; calls = z.calls }
@@ -51,7 +51,7 @@ module _ {allows : Layout → History → ℕ → Type 0} {mode : Mode} {T : Typ
   abbrev pub heard : List ℕ → Inside T
   heard blamed = record p { seat = s; blamed = blamed }
 
-  pub llx_says : (blamed : List ℕ) (a : Llx) → HasCalled allows p s number (Answered p x number node a) → LlxSays (pass_view p) (pass_view (heard blamed)) node.0 a
+  pub llx_says : (blamed : List ℕ) (a : Llx) → HasOnlyLoaded allows p s number (Answered p x number node a) → LlxSays (pass_view p) (pass_view (heard blamed)) node.0 a
   llx_says blamed (Snapshot snap) y =
       let z : IsSnapshot p.layout (run_of (pass_view (seated p s))) node.0 snap = subst (λ (k : NodeNo). IsSnapshot p.layout (run_of (pass_view (seated p s))) k.0 snap) y.answers.1 y.answers.2.0 in
       let looked = subst (λ (k : NodeNo). HasJustLooked p.number.0 (run_of (pass_view (seated p s))) (run_of (pass_view p)) k.0) y.answers.1 y.answers.2.1 in
@@ -59,17 +59,17 @@ module _ {allows : Layout → History → ℕ → Type 0} {mode : Mode} {T : Typ
   llx_says blamed (Finalized n u) y = rw y.answers.1 at y.answers.2
   llx_says blamed (Fail n u) y = rw y.answers.1 at y.answers.2
 
-  pub llx_finalized : (a : Llx) → HasCalled allows p s number (Answered p x number node a) → is_final (seen_of (pass_view p)) node.0 ≡ true → IsFinalizedAnswer a
+  pub llx_finalized : (a : Llx) → HasOnlyLoaded allows p s number (Answered p x number node a) → is_final (seen_of (pass_view p)) node.0 ≡ true → IsFinalizedAnswer a
   llx_finalized a y final =
       let m = y.answers.0 in
       let z = finalized_at_start m (call_of p x number) _ a y.goes.sound.lawful y.goes.since (subst (λ (k : NodeNo). is_final (seen_of (pass_view p)) k.0 ≡ true) (sym y.answers.1) final) y.answers.2 in
       subst IsFinalizedAnswer (sym z.1) tt
 
   -- it is a pass again
-  pub llx_pass : (a : Llx) (blamed : List ℕ) → blamed ≡ blamed_by a p.blamed → s.me.1 ≡ p.seat.me.1 → HasCalled allows p s number (Answered p x number node a) → IsPass allows mode (heard blamed)
+  pub llx_pass : (a : Llx) (blamed : List ℕ) → blamed ≡ blamed_by a p.blamed → s.me.1 ≡ p.seat.me.1 → HasOnlyLoaded allows p s number (Answered p x number node a) → IsPass allows mode (heard blamed)
   llx_pass a blamed e bare y = subst (λ l. IsPass allows mode (heard l)) (sym e) (go a y)
     where
-      go : (b : Llx) → HasCalled allows p s number (Answered p x number node b) → IsPass allows mode (heard (blamed_by b p.blamed))
+      go : (b : Llx) → HasOnlyLoaded allows p s number (Answered p x number node b) → IsPass allows mode (heard (blamed_by b p.blamed))
       go (Snapshot snap) z = called_pass p x s number _ bare z
       go (Finalized n u) z = called_pass p x s number _ bare z
       go (Fail n u) z =
@@ -85,12 +85,12 @@ module _ {allows : Layout → History → ℕ → Type 0} {mode : Mode} {T : Typ
           }
 
   -- it has gone on, and taken nothing
-  pub llx_goes_on : (a : Llx) (blamed : List ℕ) (left most : ℕ) → blamed ≡ blamed_by a p.blamed → s.table_id ≡ p.seat.table_id → s.me.1 ≡ p.seat.me.1 → HasCalled allows p s number (Answered p x number node a) → seat_steps s.me.0.passes ≤ seat_steps p.seat.me.0.passes + left → left ≤ most → HasGoneOn allows (pass_view p) (pass_view (heard blamed)) number most (blamed_by a p.blamed)
+  pub llx_goes_on : (a : Llx) (blamed : List ℕ) (left most : ℕ) → blamed ≡ blamed_by a p.blamed → s.table_id ≡ p.seat.table_id → s.me.1 ≡ p.seat.me.1 → HasOnlyLoaded allows p s number (Answered p x number node a) → seat_steps s.me.0.passes ≤ seat_steps p.seat.me.0.passes + left → left ≤ most → HasGoneOn allows (pass_view p) (pass_view (heard blamed)) number most (blamed_by a p.blamed)
   llx_goes_on a blamed left most e table bare y few small =
       let z = called_goes_on p x s number _ left most table bare y few small in
       record { later = record { table = table; layout = refl; number = refl; run = z.later.run }; lawful = z.lawful; calls = z.calls; steps = z.steps; blamed_these = e; blames = (llx_pass a blamed e bare y).blamed; rest = z.rest; usable = z.usable }
 
-  pub llx_nothing : (a : Llx) (blamed : List ℕ) → HasCalled allows p s number (Answered p x number node a) → HasTakenNothing (pass_view p) (pass_view (heard blamed))
+  pub llx_nothing : (a : Llx) (blamed : List ℕ) → HasOnlyLoaded allows p s number (Answered p x number node a) → HasTakenNothing (pass_view p) (pass_view (heard blamed))
   llx_nothing a blamed y = let z = called_nothing p s number _ y in record { share = refl; done = z.done; alone = z.alone }
 
   -- it has filled no word

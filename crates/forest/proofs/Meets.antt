@@ -22,7 +22,7 @@ use Rattle.forest.proofs.Advances.{keeps_all, rows_by_others, same_knower}
 use Rattle.forest.proofs.Calls.{IsQuiet, quiet_start, quiet_other, quiet_step}
 use Rattle.forest.proofs.Blames.{blames_left}
 use Rattle.forest.proofs.Called.{own_start, own_more, own_others}
-use Rattle.forest.proofs.Passes.{HasCalled, seated, called_pass, called_nothing, can_use_later}
+use Rattle.forest.proofs.Passes.{HasOnlyLoaded, seated, called_pass, called_nothing, can_use_later}
 
 -- Two looks
 
@@ -70,7 +70,7 @@ module _ {T : Type 0} (p : Inside T) (s : Seat ℕ SeatView) (run : List Row) (b
   look_steps = ap (λ l. rows_of p.number.0 (known_of l)) are ∙ rw (eq-eqb p.number.0 p.number.0 refl) (ap suc (ap (rows_of p.number.0) behind.1 ∙ rows_by_others p.number.0 behind.0 _ behind.2))
 
 -- a pass that has looked knows what it knew, and its look
-pub look_called : {allows : Layout → History → ℕ → Type 0} {mode : Mode} {T : Type 0} (p : Inside T) (x : IsPass allows mode p) (s : Seat ℕ SeatView) (run : List Row) → HasLookedBehind allows (seated_pass p.number.0 p.layout (known_of p.seat.me.0.passes)) run → s.me.0.passes ≡ after_look (seated_pass p.number.0 p.layout (known_of p.seat.me.0.passes)) run ∷ [] → HasCalled allows p s 0 (λ h. Extends h (history_of p.layout.mode run))
+pub look_called : {allows : Layout → History → ℕ → Type 0} {mode : Mode} {T : Type 0} (p : Inside T) (x : IsPass allows mode p) (s : Seat ℕ SeatView) (run : List Row) → HasLookedBehind allows (seated_pass p.number.0 p.layout (known_of p.seat.me.0.passes)) run → s.me.0.passes ≡ after_look (seated_pass p.number.0 p.layout (known_of p.seat.me.0.passes)) run ∷ [] → HasOnlyLoaded allows p s 0 (λ h. Extends h (history_of p.layout.mode run))
 look_called {allows} p x s run y e =
     let mode = p.layout.mode in
     let start = history_of mode (known_of p.seat.me.0.passes) in
@@ -87,7 +87,7 @@ look_called {allows} p x s run y e =
     }
 
 -- so it has looked once
-pub looked_once : {allows : Layout → History → ℕ → Type 0} {mode : Mode} {T : Type 0} (p : Inside T) (x : IsPass allows mode p) (s : Seat ℕ SeatView) (A : History → Type 0) → s.table_id ≡ p.seat.table_id → s.me.1 ≡ p.seat.me.1 → HasCalled allows p s 0 A → steps_of (pass_view (seated p s)) ≡ suc (steps_of (pass_view p)) → HoldsOfOwn IsLook p.number.0 (run_of (pass_view p)) (run_of (pass_view (seated p s))) → HasLookedOnce allows (pass_view p) (pass_view (seated p s))
+pub looked_once : {allows : Layout → History → ℕ → Type 0} {mode : Mode} {T : Type 0} (p : Inside T) (x : IsPass allows mode p) (s : Seat ℕ SeatView) (A : History → Type 0) → s.table_id ≡ p.seat.table_id → s.me.1 ≡ p.seat.me.1 → HasOnlyLoaded allows p s 0 A → steps_of (pass_view (seated p s)) ≡ suc (steps_of (pass_view p)) → HoldsOfOwn IsLook p.number.0 (run_of (pass_view p)) (run_of (pass_view (seated p s))) → HasLookedOnce allows (pass_view p) (pass_view (seated p s))
 looked_once p x s A table bare y one looks = record {
   goes_on = record {
     later = later;
@@ -113,8 +113,8 @@ pub record HaveMet (allows : Layout → History → ℕ → Type 0) {T : Type 0}
   pub early : List Row
   pub late : List Row
   pub apart : p.number.0 ≢ q.number.0
-  pub one : HasCalled allows p s 0 (λ h. Extends h (history_of p.layout.mode late))
-  pub other : HasCalled allows q t 0 (λ h. Extends h (history_of q.layout.mode early))
+  pub one : HasOnlyLoaded allows p s 0 (λ h. Extends h (history_of p.layout.mode late))
+  pub other : HasOnlyLoaded allows q t 0 (λ h. Extends h (history_of q.layout.mode early))
   pub goes_on : Extends (history_of p.layout.mode late) (run_of (pass_view (seated q t)))
   pub knew : Extends (history_of q.layout.mode early) (run_of (pass_view p))
   pub one_step : steps_of (pass_view (seated p s)) ≡ suc (steps_of (pass_view p))

@@ -47,13 +47,13 @@ abbrev pub seated : {T : Type 0} → Inside T → Seat ℕ SeatView → Inside T
 seated p s = record p { seat = s }
 
 -- what the pass has after a call that takes nothing
-pub record HasCalled (allows : Layout → History → ℕ → Type 0) {T : Type 0} (p : Inside T) (s : Seat ℕ SeatView) (number : ℕ) (A : History → Type 0) : Type 0 where
+pub record HasOnlyLoaded (allows : Layout → History → ℕ → Type 0) {T : Type 0} (p : Inside T) (s : Seat ℕ SeatView) (number : ℕ) (A : History → Type 0) : Type 0 where
   pub seat : s.me.0.passes ≡ seated_pass p.number.0 p.layout (known_of s.me.0.passes) ∷ []
   pub answers : A (history_of p.layout.mode (known_of s.me.0.passes))
   pub goes : CarriesOn allows p.layout p.number.0 (history_of p.layout.mode (known_of p.seat.me.0.passes)) (history_of p.layout.mode (known_of s.me.0.passes)) p.share p.share.next_node p.share.next_scx []
   pub calls : AreOfCall p.number.0 number (history_of p.layout.mode (known_of p.seat.me.0.passes)) (history_of p.layout.mode (known_of s.me.0.passes))
 
-pub called : {allows : Layout → History → ℕ → Type 0} {mode : Mode} {T : Type 0} (p : Inside T) (x : IsPass allows mode p) (s : Seat ℕ SeatView) (number : ℕ) {M : Type 0} (waits : M → Call → History → Step → Type 0) (same : M → M → Type 0) (first m : M) (A : History → Type 0) → ((m : M) (h : History) (t : Step) → waits m (call_of p x number) h t → t.kind ≢ Fill) → HoldsForCall allows s.me.0.passes (call_of p x number) (λ h. A h × Trace allows waits same (call_of p x number) first m h) → HasCalled allows p s number A
+pub called : {allows : Layout → History → ℕ → Type 0} {mode : Mode} {T : Type 0} (p : Inside T) (x : IsPass allows mode p) (s : Seat ℕ SeatView) (number : ℕ) {M : Type 0} (waits : M → Call → History → Step → Type 0) (same : M → M → Type 0) (first m : M) (A : History → Type 0) → ((m : M) (h : History) (t : Step) → waits m (call_of p x number) h t → t.kind ≢ Fill) → HoldsForCall allows s.me.0.passes (call_of p x number) (λ h. A h × Trace allows waits same (call_of p x number) first m h) → HasOnlyLoaded allows p s number A
 called {allows} p x s number waits same first m A fills_not y =
     let known : y.known ≡ known_of s.me.0.passes = sym (ap known_of y.is) in
     record {
@@ -64,11 +64,11 @@ called {allows} p x s number waits same first m A fills_not y =
     }
 
 -- it is a pass again
-pub called_pass : {allows : Layout → History → ℕ → Type 0} {mode : Mode} {T : Type 0} (p : Inside T) (x : IsPass allows mode p) (s : Seat ℕ SeatView) (number : ℕ) (A : History → Type 0) → s.me.1 ≡ p.seat.me.1 → HasCalled allows p s number A → IsPass allows mode (seated p s)
+pub called_pass : {allows : Layout → History → ℕ → Type 0} {mode : Mode} {T : Type 0} (p : Inside T) (x : IsPass allows mode p) (s : Seat ℕ SeatView) (number : ℕ) (A : History → Type 0) → s.me.1 ≡ p.seat.me.1 → HasOnlyLoaded allows p s number A → IsPass allows mode (seated p s)
 called_pass p x s number A bare y = record { seat = y.seat; bare = bare ∙ x.bare; is_mode = x.is_mode; is_pass = x.is_pass; sound = y.goes.sound; rest = record { share = y.goes.share; over = y.goes.over }; blamed = blamed_later (pass_view p) (pass_view (seated p s)) refl refl refl y.goes.sound.lawful y.goes.since x.blamed }
 
 -- it has taken nothing
-pub called_nothing : {allows : Layout → History → ℕ → Type 0} {T : Type 0} (p : Inside T) (s : Seat ℕ SeatView) (number : ℕ) (A : History → Type 0) → HasCalled allows p s number A → HasTakenNothing (pass_view p) (pass_view (seated p s))
+pub called_nothing : {allows : Layout → History → ℕ → Type 0} {T : Type 0} (p : Inside T) (s : Seat ℕ SeatView) (number : ℕ) (A : History → Type 0) → HasOnlyLoaded allows p s number A → HasTakenNothing (pass_view p) (pass_view (seated p s))
 called_nothing p s number A y = record {
   share = refl;
   done = y.goes.unwon (λ w. next_unwon p.layout _ p.number.0 p.share _ _ y.goes.sound.lawful y.goes.share w.0 w.1);
@@ -99,7 +99,7 @@ pub steps_are : (c : ℕ) (lay : Layout) (ps : List SeatedPass) → ps ≡ seate
 steps_are c lay ps e = ap seat_steps e
 
 -- and it has gone on
-pub called_goes_on : {allows : Layout → History → ℕ → Type 0} {mode : Mode} {T : Type 0} (p : Inside T) (x : IsPass allows mode p) (s : Seat ℕ SeatView) (number : ℕ) (A : History → Type 0) (left most : ℕ) → s.table_id ≡ p.seat.table_id → s.me.1 ≡ p.seat.me.1 → HasCalled allows p s number A → seat_steps s.me.0.passes ≤ seat_steps p.seat.me.0.passes + left → left ≤ most → HasGoneOn allows (pass_view p) (pass_view (seated p s)) number most p.blamed
+pub called_goes_on : {allows : Layout → History → ℕ → Type 0} {mode : Mode} {T : Type 0} (p : Inside T) (x : IsPass allows mode p) (s : Seat ℕ SeatView) (number : ℕ) (A : History → Type 0) (left most : ℕ) → s.table_id ≡ p.seat.table_id → s.me.1 ≡ p.seat.me.1 → HasOnlyLoaded allows p s number A → seat_steps s.me.0.passes ≤ seat_steps p.seat.me.0.passes + left → left ≤ most → HasGoneOn allows (pass_view p) (pass_view (seated p s)) number most p.blamed
 called_goes_on p x s number A left most table bare y few small = record {
   later = later;
   lawful = y.goes.sound;

@@ -14,7 +14,7 @@ use Rattle.arena.specs.Share.{Remaining}
 use Rattle.arena.specs.Words.{node}
 use Rattle.atomic_table.specs.declared.shared.Seat.{Seat}
 use Rattle.prims.specs.Llx.Known.{load}
-use Rattle.ordered_map.specs.OrderedMap.{Get, OneValue}
+use Rattle.ordered_map.specs.OrderedMap.{OneValue}
 use Rattle.template.specs.FoundLeaf.{HasFoundGoal}
 use Rattle.template.specs.Walk.Known.{WalkIsTold}
 use Rattle.template.specs.Walk.Places.{root_trail, walk_at, walk_from}
@@ -35,16 +35,13 @@ use Rattle.forest.specs.declared.view.SeatedPass.{SeatedPass}
 use Rattle.forest.specs.declared.view.SeatView.{SeatView}
 use Rattle.forest.specs.Passes.{taken_of}
 use Rattle.forest.specs.PassInvariant.{pass_view, IsPass}
-use Rattle.forest.specs.StepKinds.{HasKeptToKinds}
 use Rattle.forest.specs.StraightCalls.{IsSameDictCall}
 use Rattle.forest.specs.StraightGet.{getting}
-use Rattle.forest.specs.StraightWalk.{Walker, WalkerWaits, WalkerFinds}
+use Rattle.forest.specs.StraightWalk.{Walker, WalkerWaits, WalkerFinds, WalksFromRoot}
 use Rattle.forest.specs.Traces.{HoldsForCall, Trace}
-use Rattle.forest.proofs.DictCalls.{Answered, behind, dict_ended, dict_starts}
-use Rattle.forest.proofs.Entered.{HasEnded}
+use Rattle.forest.proofs.DictCalls.{Answered, dict_starts}
 use Rattle.forest.proofs.Passes.{call_of}
 use Rattle.forest.proofs.Places.{starts}
-use Rattle.forest.proofs.StepKinds.{dict_kinds}
 use Rattle.forest.proofs.StraightCalls.{dict_calls}
 
 module _ {K V : Type 0} (valid_key : K → Type 0) (key : K → ℕ) (valid_value : V → Type 0) (value_word : V → ℕ) where
@@ -108,20 +105,11 @@ module _ {K V : Type 0} (valid_key : K → Type 0) (key : K → ℕ) (valid_valu
           dict_ends valid_key key valid_value value_word (getting share tries wanted x.last) c h (WordReply.Value f.value) (replies.Value v) mode run
           (get_ends tries c h wanted x.last share f (rw x.is_goal at t.small) r.1.1.1 r.1.0.spent found r.1.1.0.2) record { valid = valid; says = λ typed. same_told f.value v same_word typed; form = inl refl }
 
-  -- and so it has ended
-  pub get_has_ended : {T : Type 0} (p : Inside T) (x : IsPass allows Tree p) (s : Seat ℕ SeatView) (tries wanted number : ℕ) (layout : Layout) (is_layout : p.layout ≡ layout) (is_number : taken_of (pass_view p) ≡ number) (turn : NodeNo) (f : Found) (v : Option V) → IfSome v valid_value → (IfSome f.value (IsWordOf valid_value value_word) → option_map value_word v ≡ f.value)
-      → (y : WalkerFinds (walker p.share tries wanted (call_of p x (taken_of (pass_view p))) layout number is_layout is_number) s.me.0.passes (ToKey wanted) turn f)
-      → HasEnded allows p s (taken_of (pass_view p)) (Answered valid_key key valid_value value_word p x s (getting p.share tries wanted y.last) (replies.Value v))
-  unfolding walker
-  get_has_ended p x s tries wanted number layout is_layout is_number turn f v valid same_word y =
-      (dict_ended valid_key key valid_value value_word p x s (getting p.share tries wanted y.last) (replies.Value v) (getting p.share tries wanted (walk_at (ToKey wanted) root_trail Start))
-      (get_ended p.share tries wanted number layout (call_of p x (taken_of (pass_view p))) is_layout is_number s.me.0.passes turn f v x.is_mode valid same_word y)).0
-
-  -- and so it has loaded settled words and fields alone
-  pub get_kinds : {T : Type 0} (p : Inside T) (x : IsPass allows Tree p) (s : Seat ℕ SeatView) (tries wanted number : ℕ) (layout : Layout) (is_layout : p.layout ≡ layout) (is_number : taken_of (pass_view p) ≡ number) (turn : NodeNo) (f : Found) (v : Option V) → IfSome v valid_value → (IfSome f.value (IsWordOf valid_value value_word) → option_map value_word v ≡ f.value)
-      → (y : WalkerFinds (walker p.share tries wanted (call_of p x (taken_of (pass_view p))) layout number is_layout is_number) s.me.0.passes (ToKey wanted) turn f)
-      → HasKeptToKinds (pass_view p) (pass_view (behind valid_key key valid_value value_word p x s (getting p.share tries wanted y.last) (replies.Value v))) (Get wanted)
-  unfolding walker
-  get_kinds p x s tries wanted number layout is_layout is_number turn f v valid same_word y =
-      dict_kinds valid_key key valid_value value_word p x s (getting p.share tries wanted y.last) (replies.Value v) (getting p.share tries wanted (walk_at (ToKey wanted) root_trail Start))
-      (get_ended p.share tries wanted number layout (call_of p x (taken_of (pass_view p))) is_layout is_number s.me.0.passes turn f v x.is_mode valid same_word y)
+  -- and so it has ended, where a walk that waits for the head of the root finds that
+  pub get_over : {T : Type 0} (p : Inside T) (x : IsPass allows Tree p) (s : Seat ℕ SeatView) (tries wanted number : ℕ) (layout : Layout) → p.layout ≡ layout → taken_of (pass_view p) ≡ number → wanted < 2 ^ 64 → (turn : NodeNo) (f : Found) (v : Option V) → IfSome v valid_value → (IfSome f.value (IsWordOf valid_value value_word) → option_map value_word v ≡ f.value)
+      → ((w : Walker (dict_calls valid_key key valid_value value_word layout number)) → WalksFromRoot w p.seat.me.0.passes (ToKey wanted) → WalkerFinds w s.me.0.passes (ToKey wanted) turn f)
+      → (last : WalkRun) × HoldsForCall allows s.me.0.passes (call_of p x (taken_of (pass_view p))) (λ h. Answered valid_key key valid_value value_word p x s (getting p.share tries wanted last) (replies.Value v) h × Trace allows waits same (call_of p x (taken_of (pass_view p))) (getting p.share tries wanted (walk_at (ToKey wanted) root_trail Start)) (getting p.share tries wanted last) h)
+  get_over p x s tries wanted number layout is_layout is_number small turn f v valid same_word finds =
+      let c : Call = call_of p x (taken_of (pass_view p)) in
+      let found = finds (walker p.share tries wanted c layout number is_layout is_number) (get_walks p x tries wanted number layout is_layout is_number small) in
+      (found.last, get_ended p.share tries wanted number layout c is_layout is_number s.me.0.passes turn f v x.is_mode valid same_word found)

@@ -25,7 +25,7 @@ use Rattle.forest.specs.StepKinds.{HasLoadedInfosAlone}
 use Rattle.forest.specs.TableRule.{history_of}
 use Rattle.forest.proofs.Called.{course_holds}
 use Rattle.forest.proofs.Calls.{course_keeps}
-use Rattle.forest.proofs.Passes.{HasCalled, call_of, seated, called}
+use Rattle.forest.proofs.Passes.{HasOnlyLoaded, call_of, seated, called}
 
 -- Lists of snapshots
 
@@ -63,7 +63,7 @@ module _ {L : Type 0} (list : L → List Snap) {allows : Layout → History → 
   abbrev pub Looked : L → Vlx → History → Type 0
   Looked snaps a h = VlxAnswers (list snaps) (call_of p x number) h a
 
-  pub vlx_called : (s : Seat ℕ SeatView) (snaps : L) (a : Vlx) → SeatVlxEnds list allows (call_of p x number) s.me.0.passes snaps a → HasCalled allows p s number (Looked snaps a)
+  pub vlx_called : (s : Seat ℕ SeatView) (snaps : L) (a : Vlx) → SeatVlxEnds list allows (call_of p x number) s.me.0.passes snaps a → HasOnlyLoaded allows p s number (Looked snaps a)
   vlx_called s snaps a y =
       let z = called p x s number (waits_over list) AreSameSnaps (vlx_at snaps 0) y.0 (λ h. VlxAnswers (list y.0.snaps) (call_of p x number) h a) (λ k h t w. vlx_fills_not (list k.snaps) k.asked (call_of p x number) h t w) y.1 in
       let is : y.0.snaps ≡ snaps = course_keeps (λ (k : VlxRun L). k.snaps ≡ snaps) refl (λ old now e q. e ∙ q) y.0 _ y.1.so.1 in
@@ -76,6 +76,6 @@ module _ {L : Type 0} (list : L → List Snap) {allows : Layout → History → 
       subst (λ (rows : List Row). HoldsOfOwn (λ r. r.kind ≡ LoadInfo) p.number.0 (run_of (pass_view p)) (history_of p.layout.mode rows)) known
       (course_holds (waits_over list) AreSameSnaps (call_of p x number) (vlx_at snaps 0) (λ r. r.kind ≡ LoadInfo) (λ m. Unit {0}) tt (λ old now is q. tt) (λ k h t q w. ap (λ (step : Step). step.kind) w.asked) y.0 _ y.1.so.1).1
 
-  pub vlx_says : (s : Seat ℕ SeatView) (snaps : L) (a : Vlx) → HasCalled allows p s number (Looked snaps a) → VlxSays (pass_view p) (pass_view (seated p s)) (list snaps) a
+  pub vlx_says : (s : Seat ℕ SeatView) (snaps : L) (a : Vlx) → HasOnlyLoaded allows p s number (Looked snaps a) → VlxSays (pass_view p) (pass_view (seated p s)) (list snaps) a
   vlx_says s snaps Same y = (y.answers.found, y.answers.asked)
   vlx_says s snaps (Changed n u) y = (y.answers.changed, y.answers.before, y.answers.asked)

@@ -1,32 +1,31 @@
 -- What the calls of a dictionary say of the pass that makes them.
-use Rattle.std.specs.Prelude.{◌≡◌, ℕ, ◌+◌, ◌*◌, ◌<◌, ◌≤◌, ◌⊎◌, List, ◌∷◌, Option, Some, None, Result, Ok, Err, Vec, map}
-use Rattle.std.specs.Global.{Global}
-use Rattle.std.specs.Option.{option_map}
+use Rattle.std.specs.Prelude.{◌≡◌, ℕ, ◌+◌, ◌*◌, ◌<◌, ◌≤◌, ◌⊎◌, List, ◌∷◌, Option, Some, None, Result, Ok, Err}
 use Rattle.arena.specs.declared.fault.Full.{Full as FullOf}
-use Rattle.arena.specs.declared.layout.Layout.{Layout}
+use Rattle.arena.specs.declared.limits.Mode.TheVariants.{Tree}
 use Rattle.arena.specs.declared.step.Row.{Row}
 use Rattle.arena.specs.Blame.{WasInTheWay}
 use Rattle.arena.specs.Fills.{IsOthersScx}
 use Rattle.arena.specs.History.{History, ◌⊳◌, value, Extends}
 use Rattle.arena.specs.Log.{Entry, log}
 use Rattle.ordered_map.specs.declared.pair.Pair.{Pair as PairOf}
-use Rattle.ordered_map.specs.OrderedMap.{MapCall, call_pop_first, Successor, Range, MapReply, OneValue, ManyPairs, pair_or_none, MapEdit, edited, reply, edit_of}
+use Rattle.ordered_map.specs.OrderedMap.{MapCall, MapReply, MapEdit, edited, reply, edit_of}
 use Rattle.ordered_map.specs.Runs.{Makes}
 use Rattle.ordered_map.specs.Spelled.{Spells}
 use Rattle.template.specs.Tries.{tries_since, HasTriedAtMost}
-use Rattle.ordered_map.specs.CallRules.{Form, IsFormOfValue, MayReply, most_nodes, most_scx, most_steps}
-use Rattle.dict.specs.Calls.{most_tries}
+use Rattle.ordered_map.specs.CallRules.{Form, IsFormOfValue, MayReply, form_of, most_nodes, most_scx, most_steps}
+use Rattle.ordered_map.specs.Replies.{told_of}
+use Rattle.ordered_map.specs.declared.reply.Reply.{Reply}
+use Rattle.ordered_map.specs.declared.reply.Reply.TheVariants.{Contended, Full, NoMemory}
+use Rattle.dict.specs.Calls.{AsksForPairs, most_tries}
 use Rattle.dict.specs.Says.{HasLostSince, HasMadeRow, HasReadSince, HasTooLittleSince, KeepsLists}
 use Rattle.dict.specs.Typed.{TypedAllows}
-use Rattle.dict.specs.Words.{IsWordOf}
-use Rattle.ordered_map.specs.Replies.{word_pair}
-use Rattle.ordered_map.specs.declared.reply.Reply.{Reply}
-use Rattle.ordered_map.specs.declared.reply.Reply.TheVariants.{Value, Pair, Contended, Full, NoMemory}
+use Rattle.dict.specs.Words.{IsValidReply, IsWordOf}
 use Rattle.forest.specs.declared.fault.OrderFault.{OrderFault}
 use Rattle.forest.specs.declared.fault.OrderFault.TheVariants as reads
 use Rattle.forest.specs.declared.fault.UpdateFault.{UpdateFault}
 use Rattle.forest.specs.declared.fault.UpdateFault.TheVariants as updates
-use Rattle.forest.specs.Passes.{HasGoneOn, PassView, run_of, done_of, taken_of}
+use Rattle.forest.specs.Passes.{Ground, HasGoneOn, IsOf, PassView, run_of, done_of, taken_of}
+use Rattle.forest.specs.StepKinds.{HasKeptToKinds}
 use Rattle.forest.specs.Traces.{shared_nodes}
 
 -- The one history of a dictionary is the log of its run: each entry makes an edit of the map. A
@@ -80,7 +79,9 @@ abbrev pub IsChangeOrReading : Option MapEdit → PassView → PassView → MapC
 IsChangeOrReading (Some edit) old new call told = IsChange old new call told edit
 IsChangeOrReading None old new call told = IsReading old new call told
 
--- what is told of the map, if anything, is of a version of it
+-- What is told of the map, if anything, is of a version of it. An insert has changed the map, and so
+-- have a delete that tells a value, a replacement that tells the value expected and a pop that tells a
+-- pair; other calls have read it.
 abbrev pub IsToldOf : PassView → PassView → MapCall → Option MapReply → Type 0
 IsToldOf old new call (Some told) = IsChangeOrReading (edit_of call told) old new call told
 IsToldOf old new call None = Unit {0}
@@ -125,74 +126,48 @@ pub record HasSpentAtMost (old new : PassView) (call : MapCall) (tries : ℕ) : 
   pub end_nodes : new.share.next_node + new.share.nodes ≡ old.share.next_node + old.share.nodes
   pub end_scx : new.share.next_scx + new.share.scx ≡ old.share.next_scx + old.share.scx
 
--- a call of a dictionary, which may try so often, has brought the pass further: it has made no more
--- steps than such a call makes, and blames these now. `valid` says of a key or a value whether it
--- is one of its type, and the other two give their words.
-abbrev pub HasMadeCall : {K V : Type 0} → (K → Type 0) → (K → ℕ) → (V → Type 0) → (V → ℕ) → ℕ → Layout → PassView → PassView → MapCall → List ℕ → Type 0
-HasMadeCall valid_key key valid_value value_word tries layout old new call blamed = HasGoneOn (TypedAllows (IsWordOf valid_key key) (IsWordOf valid_value value_word)) old new (taken_of old) (most_steps call tries (shared_nodes layout)) blamed
-
 -- the blame list after this reply: `Contended` blames its SCX-record
 abbrev pub blamed_by_reply : {K V : Type 0} → Reply K V → List ℕ → List ℕ
 blamed_by_reply (Contended node scx) blamed = scx.0 ∷ blamed
 blamed_by_reply _ blamed = blamed
 
--- What each call answers
+-- What a whole call says
 
--- the answer of an edit of a key as a reply
-abbrev pub update_reply : {K V : Type 0} → Result (Option V) UpdateFault → Reply K V
-update_reply (Ok old) = Value old
-update_reply (Err (updates.Contended node scx)) = Contended node scx
-update_reply (Err (updates.Full full)) = Full full
+-- The pass, which knew `old` as the call began and knows `new` at its end, has made this call of a
+-- dictionary, and has this reply. `valid` says of a key or a value whether it is one of its type, and
+-- the other two give their words.
+pub record HasCalled {K V : Type 0} (valid_key : K → Type 0) (key : K → ℕ) (valid_value : V → Type 0) (value_word : V → ℕ) (forest : Ground) (old new : PassView) (call : MapCall) (reply : Reply K V) : Type 0 where
+  -- it is of this forest still, whose words spell a map
+  pub pass : IsOf forest new
+  pub tree : new.layout.mode ≡ Tree
+  -- the run that it knows is lawful, and goes on from what it knew by no more steps of its own than
+  -- such a call makes; it blames whom the reply names
+  pub goes_on : HasGoneOn (TypedAllows (IsWordOf valid_key key) (IsWordOf valid_value value_word)) old new (taken_of old) (most_steps call forest.tries (shared_nodes forest.layout)) (blamed_by_reply reply old.blamed)
+  -- it has begun tries only as needed, and spent no more of its share than these may
+  pub spends : HasSpentAtMost old new call forest.tries
+  -- its steps are of the kinds that such a call makes
+  pub kinds : HasKeptToKinds old new call
+  -- what the reply tells of the map is of a version of it, and why it tells nothing is so
+  pub told : IsToldOf old new call (told_of key value_word reply)
+  pub refused : IsRefusalOf forest.tries old new call reply
+  -- the reply is of a form for such a call, and its keys and values are those of their types
+  pub form : MayReply call (form_of reply)
+  pub valid : IsValidReply valid_key valid_value reply
+  -- a range that asks for no pairs has left the pass as it was
+  pub nothing : ¬ AsksForPairs call → new ≡ old
 
--- and that of a pop
-abbrev pub popped_reply : {K V : Type 0} → Result (Option (K × V)) UpdateFault → Reply K V
-popped_reply (Ok pair) = Pair pair
-popped_reply (Err (updates.Contended node scx)) = Contended node scx
-popped_reply (Err (updates.Full full)) = Full full
+-- the answer of an edit as a reply, where this is the reply that tells what it tells
+abbrev pub update_reply : {A K V : Type 0} → (A → Reply K V) → Result A UpdateFault → Reply K V
+update_reply told (Ok answer) = told answer
+update_reply told (Err (updates.Contended node scx)) = Contended node scx
+update_reply told (Err (updates.Full full)) = Full full
+
+-- and that of an ordered read
+abbrev pub read_reply : {A K V : Type 0} → (A → Reply K V) → Result A OrderFault → Reply K V
+read_reply told (Ok answer) = told answer
+read_reply told (Err (reads.Contended node scx)) = Contended node scx
+read_reply told (Err reads.NoMemory) = NoMemory
 
 -- the call replies a value, unless it is refused
 abbrev pub RepliesValue : MapCall → Type 0
 RepliesValue call = (form : Form) → MayReply call form → IsFormOfValue form
-
--- why an edit has told nothing, which may try so often
-abbrev pub UpdateRefuses : ℕ → PassView → PassView → MapCall → UpdateFault → Type 0
-UpdateRefuses tries old new call (updates.Contended node scx) = IsContendedCall tries old new call node.0 scx.0
-UpdateRefuses tries old new call (updates.Full full) = IsFullCall old new call full
-
--- What an answer of `insert`, `delete` or `replace_if` says. An insert has changed the map, and so
--- have a delete that tells a value, and a replacement that tells the value expected; else they have
--- read it.
-abbrev pub UpdateSays : {V : Type 0} → (V → ℕ) → ℕ → PassView → PassView → MapCall → Result (Option V) UpdateFault → Type 0
-UpdateSays value_word tries old new call (Ok told) = IsToldOf old new call (Some (OneValue (option_map value_word told)))
-UpdateSays value_word tries old new call (Err fault) = UpdateRefuses tries old new call fault
-
--- what an answer of `pop_first` says: one that tells a pair has changed the map, and else it has
--- read it
-abbrev pub PopSays : {K V : Type 0} → (K → ℕ) → (V → ℕ) → ℕ → PassView → PassView → Result (Option (K × V)) UpdateFault → Type 0
-PopSays key_word value_word tries old new (Ok told) = IsToldOf old new call_pop_first (Some (pair_or_none (option_map (word_pair key_word value_word) told)))
-PopSays key_word value_word tries old new (Err fault) = UpdateRefuses tries old new call_pop_first fault
-
--- whom they blame
-abbrev pub blamed_by_update : {A : Type 0} → Result A UpdateFault → List ℕ → List ℕ
-blamed_by_update (Err (updates.Contended node scx)) blamed = scx.0 ∷ blamed
-blamed_by_update _ blamed = blamed
-
--- why an ordered read has told nothing, which may try so often
-abbrev pub ReadRefuses : ℕ → PassView → PassView → MapCall → OrderFault → Type 0
-ReadRefuses tries old new call (reads.Contended node scx) = IsContendedCall tries old new call node.0 scx.0
-ReadRefuses tries old new call reads.NoMemory = done_of new ≡ done_of old
-
--- what an answer of `successor` says
-abbrev pub SuccessorSays : {K V : Type 0} → (K → ℕ) → (V → ℕ) → ℕ → PassView → PassView → ℕ → Result (Option (K × V)) OrderFault → Type 0
-SuccessorSays key_word value_word tries old new k (Ok found) = IsReading old new (Successor k) (pair_or_none (option_map (word_pair key_word value_word) found))
-SuccessorSays key_word value_word tries old new k (Err fault) = ReadRefuses tries old new (Successor k) fault
-
--- what an answer of `range` says
-abbrev pub RangeSays : {K V : Type 0} → (K → ℕ) → (V → ℕ) → ℕ → PassView → PassView → ℕ → ℕ → ℕ → Result (Vec (K × V) Global) OrderFault → Type 0
-RangeSays key_word value_word tries old new low high most (Ok found) = IsReading old new (Range low high most) (ManyPairs (map (word_pair key_word value_word) found.items))
-RangeSays key_word value_word tries old new low high most (Err fault) = ReadRefuses tries old new (Range low high most) fault
-
--- whom an ordered read blames
-abbrev pub blamed_by_read : {A : Type 0} → Result A OrderFault → List ℕ → List ℕ
-blamed_by_read (Err (reads.Contended node scx)) blamed = scx.0 ∷ blamed
-blamed_by_read _ blamed = blamed

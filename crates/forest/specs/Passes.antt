@@ -21,6 +21,7 @@ use Rattle.arena.specs.Fills.{IsNamedScx, IsOthersScx, IsOwnNode, IsOwnScx, IsTa
 use Rattle.arena.specs.Blame.{HasFailed}
 use Rattle.arena.specs.Lawful.{IsWin}
 use Rattle.arena.specs.Log.{Entry, log, has, fields}
+use Rattle.prims.specs.Cells.{AllowsAll}
 use Rattle.prims.specs.FoundThere.{HasFoundThere}
 use Rattle.prims.specs.Llx.Known.{IsSnapshot, IsFinalBy, HasJustLooked}
 use Rattle.prims.specs.declared.snap.Snap.{Snap}
@@ -173,6 +174,13 @@ pub record HasGoneOn (allows : Layout → History → ℕ → Type 0) (old new :
   pub rest : IsBetweenCalls new.layout new.number (run_of new) new.share
   -- it may use each snapshot that it could use
   pub usable : (snap : Snap) → CanUse old snap → CanUse new snap
+
+-- a pass of this forest, which is one of cells, has made a call of so many steps at most, and blames
+-- these now
+pub record HasCalledCells (forest : Ground) (old new : PassView) (most : ℕ) (blamed : List ℕ) : Type 0 where
+  pub pass : IsOf forest new
+  pub cells : new.layout.mode ≡ Records
+  pub goes_on : HasGoneOn AllowsAll old new (taken_of old) most blamed
 
 -- the pass has taken nothing of its share, made no entry, and
 -- left each snapshot alone that it had left alone

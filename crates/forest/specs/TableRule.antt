@@ -141,6 +141,13 @@ joined_seat v w = seat_view (v.passes ++ w.passes)
 abbrev pub IsTableOf : TableId → Layout → Layout → Type 0
 IsTableOf id key lay = (id.words ≡ table_size lay) × (key ≡ lay)
 
+-- a word of this layout stands at this place, and no other
+pub record IsPlaceOf (lay : Layout) (word : Word) (at : ℕ) : Type 0 where
+  pub is_word : IsWord lay word
+  pub is_place : at ≡ place lay word
+  pub inside : at < table_size lay
+  pub apart : (other : Word) → IsWord lay other → place lay other ≡ at → other ≡ word
+
 -- a seat of one pass, of this layout
 pub record IsAlone (lay : Layout) (ps : List SeatedPass) : Type 0 where
   pub pass : SeatedPass

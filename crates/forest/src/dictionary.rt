@@ -1,20 +1,16 @@
 //! A dictionary that threads share.
-ghost use Rattle.std.specs.Prelude.{◌≡◌, ◌≤◌, ◌↔◌, Err, IfOk, IfSome, OnOk};
-ghost use Rattle.std.specs.List.{All};
-ghost use Rattle.std.specs.Option.{option_map};
+ghost use Rattle.std.specs.Prelude.{◌≡◌, ◌≤◌, ◌↔◌, Err, IfOk, OnOk};
 ghost use Rattle.arena.specs.Limits.{IsAccepted, IsLayoutOf};
 ghost use Rattle.arena.specs.declared.limits.Mode.TheVariants.{Tree};
-ghost use Rattle.ordered_map.specs.OrderedMap.{Get, OneValue, Range, Successor, call_insert, call_delete, call_pop_first, call_replace_if};
-ghost use Rattle.dict.specs.Calls.{AsksForPairs, IsSmallCall, edit_call};
-ghost use Rattle.ordered_map.specs.CallRules.{IsFormOfValue, IsFormOfPair, MayReply, form_of};
+ghost use Rattle.ordered_map.specs.OrderedMap.{Get, Range, Successor, call_insert, call_delete, call_pop_first, call_replace_if};
+ghost use Rattle.dict.specs.Calls.{IsSmallCall, edit_call};
+ghost use Rattle.ordered_map.specs.CallRules.{IsFormOfValue, IsFormOfPair, form_of};
+ghost use Rattle.ordered_map.specs.Requests.{AsksForFew, as_map_call};
 ghost use Rattle.dict.specs.Says.{KeepsLists};
 ghost use Rattle.dict.specs.Typed.{IsTypedCall};
-ghost use Rattle.dict.specs.Words.{IsValidPair, IsValidReply, IsWordOf};
-ghost use Rattle.ordered_map.specs.Replies.{told_of};
-ghost use Rattle.ordered_map.specs.Requests.{AsksForFew, as_map_call};
-ghost use Rattle.forest.specs.Dictionary.{IsReading, IsToldOf, IsRefusalOf, HasMadeCall, HasSpentAtMost, PopSays, RepliesValue, UpdateSays, SuccessorSays, RangeSays, blamed_by_reply, blamed_by_update, blamed_by_read, popped_reply, update_reply};
+ghost use Rattle.dict.specs.Words.{IsWordOf};
+ghost use Rattle.forest.specs.Dictionary.{HasCalled, RepliesValue, read_reply, update_reply};
 ghost use Rattle.forest.specs.Passes.{IsOf, AreNew};
-ghost use Rattle.forest.specs.StepKinds.{HasKeptToKinds};
 
 use crate::fault::{NewFault, OrderFault, UpdateFault};
 use crate::forest::Forest;
@@ -32,7 +28,7 @@ use tree::{EditGoal, EditRule, KeyEdit, delete, insert, pop_first, replace_if};
 #[inline(always)]
 fn told_value<K: WordKey, V: WordValue>(reply: Reply<K, V>) -> Result<Option<V>, UpdateFault>
     requires form { IsFormOfValue (form_of reply) }
-    ensures { reply ≡ update_reply result }
+    ensures { reply ≡ update_reply Reply.Value result }
 {
     match reply {
         Reply::Value(value) => Ok(value),
@@ -50,7 +46,7 @@ fn told_value<K: WordKey, V: WordValue>(reply: Reply<K, V>) -> Result<Option<V>,
 #[inline(always)]
 fn told_pair<K: WordKey, V: WordValue>(reply: Reply<K, V>) -> Result<Option<(K, V)>, UpdateFault>
     requires form { IsFormOfPair (form_of reply) }
-    ensures { reply ≡ popped_reply result }
+    ensures { reply ≡ update_reply Reply.Pair result }
 {
     match reply {
         Reply::Pair(pair) => Ok(pair),
@@ -97,13 +93,9 @@ impl<K: WordKey, V: WordValue> Forest<Dict<K, V>> {
         value: V,
     ) -> Result<Option<V>, UpdateFault>
         requires pass { IsOf self.now pass.old }
-        ensures pass { IsOf self.now pass.new }
-        ensures tree { pass.new.layout.mode ≡ Tree }
-        ensures goes_on { HasMadeCall K.is_valid K.word_of V.is_valid V.word_of self.now.tries self.now.layout
-            pass.old pass.new (call_insert (K.word_of key) (V.word_of value)) (blamed_by_update result pass.old.blamed) }
-        ensures spends { HasSpentAtMost pass.old pass.new (call_insert (K.word_of key) (V.word_of value)) self.now.tries }
-        ensures says { UpdateSays V.word_of self.now.tries pass.old pass.new (call_insert (K.word_of key) (V.word_of value)) result }
-        ensures valid { IfOk result (λ old. IfSome old V.is_valid) }
+        ensures { HasCalled K.is_valid K.word_of V.is_valid V.word_of self.now
+            pass.old pass.new (call_insert (K.word_of key) (V.word_of value))
+            (update_reply Reply.Value result) }
     {
         key.valid();
         value.valid();
@@ -115,13 +107,8 @@ impl<K: WordKey, V: WordValue> Forest<Dict<K, V>> {
     /// an SCX-record of the pass's share in a try, and no memory.
     pub fn delete(&self, pass: &mut Pass<Dict<K, V>>, key: &K) -> Result<Option<V>, UpdateFault>
         requires pass { IsOf self.now pass.old }
-        ensures pass { IsOf self.now pass.new }
-        ensures tree { pass.new.layout.mode ≡ Tree }
-        ensures goes_on { HasMadeCall K.is_valid K.word_of V.is_valid V.word_of self.now.tries self.now.layout
-            pass.old pass.new (call_delete (K.word_of key.now)) (blamed_by_update result pass.old.blamed) }
-        ensures spends { HasSpentAtMost pass.old pass.new (call_delete (K.word_of key.now)) self.now.tries }
-        ensures says { UpdateSays V.word_of self.now.tries pass.old pass.new (call_delete (K.word_of key.now)) result }
-        ensures valid { IfOk result (λ old. IfSome old V.is_valid) }
+        ensures { HasCalled K.is_valid K.word_of V.is_valid V.word_of self.now
+            pass.old pass.new (call_delete (K.word_of key.now)) (update_reply Reply.Value result) }
     {
         key.valid();
         let key = key.word();
@@ -132,13 +119,8 @@ impl<K: WordKey, V: WordValue> Forest<Dict<K, V>> {
     /// and an SCX-record of the pass's share in a try, and no memory.
     pub fn pop_first(&self, pass: &mut Pass<Dict<K, V>>) -> Result<Option<(K, V)>, UpdateFault>
         requires pass { IsOf self.now pass.old }
-        ensures pass { IsOf self.now pass.new }
-        ensures tree { pass.new.layout.mode ≡ Tree }
-        ensures goes_on { HasMadeCall K.is_valid K.word_of V.is_valid V.word_of self.now.tries self.now.layout
-            pass.old pass.new call_pop_first (blamed_by_update result pass.old.blamed) }
-        ensures spends { HasSpentAtMost pass.old pass.new call_pop_first self.now.tries }
-        ensures says { PopSays K.word_of V.word_of self.now.tries pass.old pass.new result }
-        ensures valid { IfOk result (λ pair. IfSome pair (IsValidPair K.is_valid V.is_valid)) }
+        ensures { HasCalled K.is_valid K.word_of V.is_valid V.word_of self.now
+            pass.old pass.new call_pop_first (update_reply Reply.Pair result) }
     {
         told_pair(self.edit(pass, pop_first()))
     }
@@ -154,14 +136,10 @@ impl<K: WordKey, V: WordValue> Forest<Dict<K, V>> {
         value: V,
     ) -> Result<Option<V>, UpdateFault>
         requires pass { IsOf self.now pass.old }
-        ensures pass { IsOf self.now pass.new }
-        ensures tree { pass.new.layout.mode ≡ Tree }
-        ensures goes_on { HasMadeCall K.is_valid K.word_of V.is_valid V.word_of self.now.tries self.now.layout
-            pass.old pass.new (call_replace_if (K.word_of key) (V.word_of expected.now) (V.word_of value)) (blamed_by_update result pass.old.blamed) }
-        ensures spends { HasSpentAtMost pass.old pass.new (call_replace_if (K.word_of key) (V.word_of expected.now) (V.word_of value)) self.now.tries }
-        ensures says { UpdateSays V.word_of self.now.tries pass.old pass.new
-            (call_replace_if (K.word_of key) (V.word_of expected.now) (V.word_of value)) result }
-        ensures valid { IfOk result (λ old. IfSome old V.is_valid) }
+        ensures { HasCalled K.is_valid K.word_of V.is_valid V.word_of self.now
+            pass.old pass.new
+            (call_replace_if (K.word_of key) (V.word_of expected.now) (V.word_of value))
+            (update_reply Reply.Value result) }
     {
         key.valid();
         value.valid();
@@ -172,14 +150,8 @@ impl<K: WordKey, V: WordValue> Forest<Dict<K, V>> {
     /// The value of a key, if it has one. It takes nothing, and is never refused.
     pub fn get(&self, pass: &mut Pass<Dict<K, V>>, key: &K) -> Option<V>
         requires pass { IsOf self.now pass.old }
-        ensures pass { IsOf self.now pass.new }
-        ensures tree { pass.new.layout.mode ≡ Tree }
-        ensures goes_on { HasMadeCall K.is_valid K.word_of V.is_valid V.word_of self.now.tries self.now.layout
-            pass.old pass.new (Get (K.word_of key.now)) pass.old.blamed }
-        ensures spends { HasSpentAtMost pass.old pass.new (Get (K.word_of key.now)) self.now.tries }
-        ensures says { IsReading pass.old pass.new (Get (K.word_of key.now)) (OneValue (option_map V.word_of result)) }
-        ensures kinds { HasKeptToKinds pass.old pass.new (Get (K.word_of key.now)) }
-        ensures valid { IfSome result V.is_valid }
+        ensures { HasCalled K.is_valid K.word_of V.is_valid V.word_of self.now
+            pass.old pass.new (Get (K.word_of key.now)) (Reply.Value result) }
     {
         key.valid();
         let number = pass.taken();
@@ -203,14 +175,8 @@ impl<K: WordKey, V: WordValue> Forest<Dict<K, V>> {
         key: &K,
     ) -> Result<Option<(K, V)>, OrderFault>
         requires pass { IsOf self.now pass.old }
-        ensures pass { IsOf self.now pass.new }
-        ensures tree { pass.new.layout.mode ≡ Tree }
-        ensures goes_on { HasMadeCall K.is_valid K.word_of V.is_valid V.word_of self.now.tries self.now.layout
-            pass.old pass.new (Successor (K.word_of key.now)) (blamed_by_read result pass.old.blamed) }
-        ensures spends { HasSpentAtMost pass.old pass.new (Successor (K.word_of key.now)) self.now.tries }
-        ensures says { SuccessorSays K.word_of V.word_of self.now.tries pass.old pass.new (K.word_of key.now) result }
-        ensures kinds { HasKeptToKinds pass.old pass.new (Successor (K.word_of key.now)) }
-        ensures valid { IfOk result (λ pair. IfSome pair (IsValidPair K.is_valid V.is_valid)) }
+        ensures { HasCalled K.is_valid K.word_of V.is_valid V.word_of self.now
+            pass.old pass.new (Successor (K.word_of key.now)) (read_reply Reply.Pair result) }
     {
         match self.read(alloc, pass, Request::Successor { key: *key }) {
             Reply::Pair(pair) => Ok(pair),
@@ -237,15 +203,9 @@ impl<K: WordKey, V: WordValue> Forest<Dict<K, V>> {
     ) -> Result<Vec<(K, V)>, OrderFault>
         requires pass { IsOf self.now pass.old }
         requires few { most ≤ 64 }
-        ensures pass { IsOf self.now pass.new }
-        ensures tree { pass.new.layout.mode ≡ Tree }
-        ensures goes_on { HasMadeCall K.is_valid K.word_of V.is_valid V.word_of self.now.tries self.now.layout
-            pass.old pass.new (Range (K.word_of low.now) (K.word_of high.now) most) (blamed_by_read result pass.old.blamed) }
-        ensures spends { HasSpentAtMost pass.old pass.new (Range (K.word_of low.now) (K.word_of high.now) most) self.now.tries }
-        ensures says { RangeSays K.word_of V.word_of self.now.tries pass.old pass.new (K.word_of low.now) (K.word_of high.now) most result }
-        ensures kinds { HasKeptToKinds pass.old pass.new (Range (K.word_of low.now) (K.word_of high.now) most) }
-        ensures nothing { ¬ AsksForPairs (Range (K.word_of low.now) (K.word_of high.now) most) → pass.new ≡ pass.old }
-        ensures valid { IfOk result (λ pairs. All (IsValidPair K.is_valid V.is_valid) pairs.items) }
+        ensures { HasCalled K.is_valid K.word_of V.is_valid V.word_of self.now
+            pass.old pass.new (Range (K.word_of low.now) (K.word_of high.now) most)
+            (read_reply Reply.Pairs result) }
     {
         let (low, high, most) = (*low, *high, most as u32);
         match self.read(alloc, pass, Request::Range { low, high, most }) {
@@ -264,16 +224,12 @@ impl<K: WordKey, V: WordValue> Forest<Dict<K, V>> {
         edit: KeyEdit<G, R>,
     ) -> Result<Option<V>, UpdateFault>
         requires pass { IsOf self.now pass.old }
-        requires typed { IsTypedCall (IsWordOf K.is_valid K.word_of) (IsWordOf V.is_valid V.word_of) (edit_call G.goal R.rule edit) }
+        requires typed { IsTypedCall (IsWordOf K.is_valid K.word_of) (IsWordOf V.is_valid V.word_of)
+            (edit_call G.goal R.rule edit) }
         requires small { IsSmallCall (edit_call G.goal R.rule edit) }
         requires value { RepliesValue (edit_call G.goal R.rule edit) }
-        ensures pass { IsOf self.now pass.new }
-        ensures tree { pass.new.layout.mode ≡ Tree }
-        ensures goes_on { HasMadeCall K.is_valid K.word_of V.is_valid V.word_of self.now.tries self.now.layout
-            pass.old pass.new (edit_call G.goal R.rule edit) (blamed_by_update result pass.old.blamed) }
-        ensures spends { HasSpentAtMost pass.old pass.new (edit_call G.goal R.rule edit) self.now.tries }
-        ensures says { UpdateSays V.word_of self.now.tries pass.old pass.new (edit_call G.goal R.rule edit) result }
-        ensures valid { IfOk result (λ old. IfSome old V.is_valid) }
+        ensures { HasCalled K.is_valid K.word_of V.is_valid V.word_of self.now
+            pass.old pass.new (edit_call G.goal R.rule edit) (update_reply Reply.Value result) }
     {
         told_value(self.edit(pass, edit))
     }
@@ -286,17 +242,11 @@ impl<K: WordKey, V: WordValue> Forest<Dict<K, V>> {
         edit: KeyEdit<G, R>,
     ) -> Reply<K, V>
         requires pass { IsOf self.now pass.old }
-        requires typed { IsTypedCall (IsWordOf K.is_valid K.word_of) (IsWordOf V.is_valid V.word_of) (edit_call G.goal R.rule edit) }
+        requires typed { IsTypedCall (IsWordOf K.is_valid K.word_of) (IsWordOf V.is_valid V.word_of)
+            (edit_call G.goal R.rule edit) }
         requires small { IsSmallCall (edit_call G.goal R.rule edit) }
-        ensures pass { IsOf self.now pass.new }
-        ensures tree { pass.new.layout.mode ≡ Tree }
-        ensures goes_on { HasMadeCall K.is_valid K.word_of V.is_valid V.word_of self.now.tries self.now.layout
-            pass.old pass.new (edit_call G.goal R.rule edit) (blamed_by_reply result pass.old.blamed) }
-        ensures spends { HasSpentAtMost pass.old pass.new (edit_call G.goal R.rule edit) self.now.tries }
-        ensures told { IsToldOf pass.old pass.new (edit_call G.goal R.rule edit) (told_of K.word_of V.word_of result) }
-        ensures refused { IsRefusalOf self.now.tries pass.old pass.new (edit_call G.goal R.rule edit) result }
-        ensures form { MayReply (edit_call G.goal R.rule edit) (form_of result) }
-        ensures valid { IsValidReply K.is_valid V.is_valid result }
+        ensures { HasCalled K.is_valid K.word_of V.is_valid V.word_of self.now
+            pass.old pass.new (edit_call G.goal R.rule edit) result }
     {
         let number = pass.taken();
         let share = replace(&mut pass.share, Share::of(&self.layout, pass.number));
@@ -323,17 +273,8 @@ impl<K: WordKey, V: WordValue> Forest<Dict<K, V>> {
         requires pass { IsOf self.now pass.old }
         requires few { AsksForFew request }
         requires ordered { KeepsLists (as_map_call K.word_of V.word_of request) }
-        ensures pass { IsOf self.now pass.new }
-        ensures tree { pass.new.layout.mode ≡ Tree }
-        ensures goes_on { HasMadeCall K.is_valid K.word_of V.is_valid V.word_of self.now.tries self.now.layout
-            pass.old pass.new (as_map_call K.word_of V.word_of request) (blamed_by_reply result pass.old.blamed) }
-        ensures spends { HasSpentAtMost pass.old pass.new (as_map_call K.word_of V.word_of request) self.now.tries }
-        ensures told { IsToldOf pass.old pass.new (as_map_call K.word_of V.word_of request) (told_of K.word_of V.word_of result) }
-        ensures refused { IsRefusalOf self.now.tries pass.old pass.new (as_map_call K.word_of V.word_of request) result }
-        ensures form { MayReply (as_map_call K.word_of V.word_of request) (form_of result) }
-        ensures kinds { HasKeptToKinds pass.old pass.new (as_map_call K.word_of V.word_of request) }
-        ensures nothing { ¬ AsksForPairs (as_map_call K.word_of V.word_of request) → pass.new ≡ pass.old }
-        ensures valid { IsValidReply K.is_valid V.is_valid result }
+        ensures { HasCalled K.is_valid K.word_of V.is_valid V.word_of self.now
+            pass.old pass.new (as_map_call K.word_of V.word_of request) result }
     {
         let number = pass.taken();
         let hand = Hand {

@@ -2,15 +2,13 @@
 ghost use Rattle.std.specs.Prelude.{◌≡◌, ◌≤◌, ◌+◌, true, false, None};
 ghost use Rattle.arena.specs.Machines.{IsRun};
 ghost use Rattle.dict.specs.Calls.{AsksForPairs};
-ghost use Rattle.ordered_map.specs.CallRules.{MayReply, form_of, most_steps};
+ghost use Rattle.ordered_map.specs.CallRules.{most_steps};
 ghost use Rattle.dict.specs.Typed.{TypedAllows};
-ghost use Rattle.dict.specs.Words.{IsValidReply, IsWordOf};
-ghost use Rattle.ordered_map.specs.Replies.{told_of};
+ghost use Rattle.dict.specs.Words.{IsWordOf};
 ghost use Rattle.ordered_map.specs.Requests.{AsksForFew, as_map_call};
-ghost use Rattle.forest.specs.Dictionary.{IsToldOf, IsRefusalOf, HasMadeCall, HasSpentAtMost, blamed_by_reply};
+ghost use Rattle.forest.specs.Dictionary.{HasCalled};
 ghost use Rattle.forest.specs.Opened.{HasStepped, IsSameOpen, pass_now};
 ghost use Rattle.forest.specs.Passes.{Ground, IsOf, run_of, steps_of};
-ghost use Rattle.forest.specs.StepKinds.{HasKeptToKinds};
 ghost use Rattle.forest.specs.Traces.{shared_nodes};
 
 use crate::blamed::Blamed;
@@ -80,7 +78,8 @@ impl<K: WordKey, V: WordValue> Forest<Dict<K, V>> {
         ensures call { result.call ≡ as_map_call K.word_of V.word_of request }
         ensures tries { result.tries ≡ self.now.tries }
         ensures none { (result.made ≡ 0) × (result.over ≡ false) }
-        ensures left { result.left ≤ most_steps result.call result.tries (shared_nodes self.now.layout) }
+        ensures left { result.left ≤ most_steps result.call result.tries
+            (shared_nodes self.now.layout) }
     {
         let began = Snapshot::of(&pass);
         let call = pass.taken();
@@ -150,15 +149,9 @@ impl<K: WordKey, V: WordValue> OpenCall<K, V> {
         ensures pass { (f : Ground) → IsOf f self.began → IsOf f result.0 }
         ensures known { result.0.known ≡ self.known }
         ensures made { steps_of result.0 ≡ steps_of self.began + self.made }
-        ensures goes_on { HasMadeCall K.is_valid K.word_of V.is_valid V.word_of self.tries self.began.layout
-            self.began result.0 self.call (blamed_by_reply result.1 self.began.blamed) }
-        ensures spends { HasSpentAtMost self.began result.0 self.call self.tries }
-        ensures told { IsToldOf self.began result.0 self.call (told_of K.word_of V.word_of result.1) }
-        ensures refused { IsRefusalOf self.tries self.began result.0 self.call result.1 }
-        ensures form { MayReply self.call (form_of result.1) }
-        ensures kinds { HasKeptToKinds self.began result.0 self.call }
-        ensures nothing { ¬ AsksForPairs self.call → result.0 ≡ self.began }
-        ensures valid { IsValidReply K.is_valid V.is_valid result.1 }
+        ensures called { (f : Ground) → IsOf f self.began → self.tries ≡ f.tries →
+            HasCalled K.is_valid K.word_of V.is_valid V.word_of f
+            self.began result.0 self.call result.1 }
     {
         let OpenCall {
             number,

@@ -4,11 +4,10 @@
 ghost use Rattle.std.specs.Prelude.{◌≡◌, ◌<◌, ◌++◌, [], ◌∷◌, IfOk};
 ghost use Rattle.std.specs.Slots.{IsFull, slots_len, slots_items};
 ghost use Rattle.atomic_table.specs.Table.{Final, Seen};
-ghost use Rattle.arena.specs.Layout.{place, table_size, IsWord};
-ghost use Rattle.arena.specs.declared.word.Word.{Word};
+ghost use Rattle.arena.specs.Layout.{table_size};
 ghost use Rattle.forest.specs.declared.view.SeatedPass.{SeatedPass};
 ghost use Rattle.forest.specs.Seats.{IsSeatAt, StaysAtTable};
-ghost use Rattle.forest.specs.TableRule.{IsTableOf, TableIsLawful, MayStep, Made, Looked, new_passes, rest_of, first_of};
+ghost use Rattle.forest.specs.TableRule.{IsPlaceOf, IsTableOf, TableIsLawful, MayStep, Made, Looked, new_passes, rest_of, first_of};
 
 use crate::rule::{Asked, Both, Deal, Lawful, Looks, Makes, Says};
 use crate::view::SeatView;
@@ -28,10 +27,12 @@ impl<S: Shape> Words<S> {
         alloc: Global,
         layout: &Layout,
     ) -> Result<(Words<S>, Seat<u8, SeatView>), NoMemory>
-        ensures table { IfOk result (λ w. IsTableOf w.0.table.shared.table_id w.0.table.shared.key layout.now
+        ensures table { IfOk result
+            (λ w. IsTableOf w.0.table.shared.table_id w.0.table.shared.key layout.now
             × (w.0.table.shared.table_id.slots ≡ 0)
             × (w.1.table_id ≡ w.0.table.shared.table_id)) }
-        ensures seat { IfOk result (λ w. (w.1.me.0.passes ≡ new_passes layout.now 0 layout.now.passes) × (w.1.me.1 ≡ [])) }
+        ensures seat { IfOk result
+            (λ w. (w.1.me.0.passes ≡ new_passes layout.now 0 layout.now.passes) × (w.1.me.1 ≡ [])) }
     {
         let words = PlainWords::new(alloc, layout)?;
         let (table, seat) = Table::of_words(alloc, words.words(), layout)?;
@@ -47,12 +48,11 @@ impl<S: Shape> Words<S> {
         at: usize,
     ) -> u64
         requires said { said.now ≡ J.said }
-        requires table { (seat.old.table_id ≡ self.now.table.shared.table_id) × (self.now.table.shared.table_id.words ≡ table_size self.now.table.shared.key) }
-        requires word { IsWord self.now.table.shared.key said.now.step.word }
-        requires place { at ≡ place self.now.table.shared.key said.now.step.word }
-        requires inside { at < table_size self.now.table.shared.key }
-        requires apart { (w : Word) → IsWord self.now.table.shared.key w → place self.now.table.shared.key w ≡ at → w ≡ said.now.step.word }
-        requires may { (p : SeatedPass) × (seat.old.me.0.passes ≡ p ∷ []) × MayStep S.allows said.now p }
+        requires table { (seat.old.table_id ≡ self.now.table.shared.table_id)
+            × (self.now.table.shared.table_id.words ≡ table_size self.now.table.shared.key) }
+        requires place { IsPlaceOf self.now.table.shared.key said.now.step.word at }
+        requires may { (p : SeatedPass) × (seat.old.me.0.passes ≡ p ∷ [])
+            × MayStep S.allows said.now p }
         ensures table { StaysAtTable seat.old seat.new }
         ensures made { Made S.allows said.now seat.old.me.0.passes result seat.new.me.0.passes }
     {
@@ -72,7 +72,8 @@ impl<S: Shape> Words<S> {
     /// A look at the table by the first of two passes of a seat, which goes behind the other.
     pub(crate) fn look(&self, layout: &Layout, seat: &mut Seat<u8, SeatView>)
         requires table { IsSeatAt self.now layout.now seat.old }
-        requires two { (p : SeatedPass) × (q : SeatedPass) × (seat.old.me.0.passes ≡ p ∷ q ∷ []) × (p.layout ≡ layout.now) × (p.number.0 < layout.now.passes) }
+        requires two { (p : SeatedPass) × (q : SeatedPass) × (seat.old.me.0.passes ≡ p ∷ q ∷ [])
+            × (p.layout ≡ layout.now) × (p.number.0 < layout.now.passes) }
         ensures table { StaysAtTable seat.old seat.new }
         ensures looked { Looked S.allows seat.old.me.0.passes seat.new.me.0.passes }
     {
@@ -84,9 +85,11 @@ impl<S: Shape> Words<S> {
     /// A seat for the first pass of a seat.
     pub(crate) fn deal(&self, layout: &Layout, seat: &mut Seat<u8, SeatView>) -> Seat<u8, SeatView>
         requires table { IsSeatAt self.now layout.now seat.old }
-        ensures table { (seat.new.table_id ≡ seat.old.table_id) × (result.table_id ≡ seat.old.table_id) }
+        ensures table { (seat.new.table_id ≡ seat.old.table_id)
+            × (result.table_id ≡ seat.old.table_id) }
         ensures bare { (seat.new.me.1 ≡ seat.old.me.1) × (result.me.1 ≡ []) }
-        ensures passes { (seat.new.me.0.passes ≡ rest_of seat.old.me.0.passes) × (result.me.0.passes ≡ first_of seat.old.me.0.passes) }
+        ensures passes { (seat.new.me.0.passes ≡ rest_of seat.old.me.0.passes)
+            × (result.me.0.passes ≡ first_of seat.old.me.0.passes) }
     {
         self.table.shared.split_seat::<Deal>(seat)
     }
@@ -111,9 +114,11 @@ impl<S: Shape> Words<S> {
     /// The words at the end, with what this seat knows of them.
     pub(crate) fn close(self, seat: Seat<u8, SeatView>) -> Closed<u8, Global>
         requires { seat.table_id ≡ self.table.shared.table_id }
-        ensures counts { (slots_len result.words ≡ self.table.shared.table_id.words) × (slots_len result.slots ≡ self.table.shared.table_id.slots) }
+        ensures counts { (slots_len result.words ≡ self.table.shared.table_id.words)
+            × (slots_len result.slots ≡ self.table.shared.table_id.slots) }
         ensures values { IsFull result.words × IsFull result.slots
-            × Final (Seen (TableIsLawful S.allows self.table.shared.key) seat.id seat.me.0) (slots_items result.words) (slots_items result.slots) }
+            × Final (Seen (TableIsLawful S.allows self.table.shared.key) seat.id seat.me.0)
+            (slots_items result.words) (slots_items result.slots) }
     {
         self.table.close_with(seat)
     }

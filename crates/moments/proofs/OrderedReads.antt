@@ -1,13 +1,15 @@
 -- The best turn is the greatest after which an ordered read tells what it has told.
-use Rattle.std.proofs.Common.{◌≡◌, ℕ, suc, ◌≤◌, inl, inr, Bool, true, false, cond, ltb, leb, ◌&&◌, List, [], ◌∷◌, take, Option, Some, None, ◌↔◌, refl, sym, ◌∙◌, ap, subst, arith}
+use Rattle.std.proofs.Common.{◌≡◌, ℕ, suc, ◌<◌, ◌≤◌, inl, inr, ⊎_elim, Bool, true, false, cond, ltb, leb, ◌&&◌, List, [], ◌∷◌, take, Option, Some, None, ◌↔◌, refl, sym, ◌∙◌, ap, subst, arith}
 use Rattle.std.specs.List.{filter}
-use Rattle.std.proofs.lemmas.Bool.{cases_lt}
+use Rattle.std.specs.Prelude.{unwrap_or}
+use Rattle.std.proofs.lemmas.Bool.{cases_lt, le-leb, lt-leb}
+use Rattle.std.proofs.lemmas.Bool.Decides.{leb_tells}
 use Rattle.ordered_map.specs.declared.pair.Pair.{Pair}
-use Rattle.ordered_map.specs.OrderedMap.{MapCall, call_pop_first, Successor, Range, MapReply, OnePair, ManyPairs, pair_or_none, first_pair, successor, between, range, reply, get, IsRising}
+use Rattle.ordered_map.specs.OrderedMap.{MapCall, call_pop_first, call_pop_last, Successor, Range, MapReply, OnePair, ManyPairs, pair_or_none, first_pair, last_pair, AllAbove, successor, between, range, reply, get, IsRising}
 use Rattle.script.specs.declared.call.Call.{Call}
 use Rattle.script.specs.declared.command.Command.{Command}
 use Rattle.script.specs.declared.command.Command.TheVariants.{Map}
-use Rattle.ordered_map.specs.declared.request.Request.TheVariants.{PopFirst as PopOf, Successor as SuccessorOf, Range as RangeOf}
+use Rattle.ordered_map.specs.declared.request.Request.TheVariants.{PopFirst as PopOf, PopLast as PopLastOf, Successor as SuccessorOf, Range as RangeOf}
 use Rattle.record.specs.declared.record.Line.{Line}
 use Rattle.record.specs.MapRecord.{map_call, map_at, written_log}
 use Rattle.record.specs.Placed.{IsGreatestTurn}
@@ -46,8 +48,80 @@ one_pair : (ps : List Pair) → pairs_in (Some (pair_or_none (first_pair ps))) �
 one_pair [] = refl
 one_pair (p ∷ ps) = refl
 
+-- the last pair has the greatest key
+last_above : (k : ℕ) (p : Pair) (m : List Pair) → AllAbove k m → last_pair m ≡ Some p → k < p.key
+last_above k p [] a e = absurd (let z : None ≡ Some p = e in cc)
+last_above k p (q ∷ qs) a e = go (last_pair qs) refl e
+  where
+    go : (last : Option Pair) → last_pair qs ≡ last → Some (unwrap_or last q) ≡ Some p → k < p.key
+    go None none is = let same : q ≡ p = cc in subst (λ (r : Pair). k < r.key) same a.0
+    go (Some r) some is = let same : r ≡ p = cc in last_above k p qs a.1 (some ∙ ap (λ (x : Pair). Some x) same)
+
+-- from a key on there are all the pairs of a map with keys above it
+from_above : (k : ℕ) (m : List Pair) → AllAbove k m → filter (λ (q : Pair). leb k q.key) m ≡ m
+from_above k [] a = refl
+from_above k (q ∷ qs) a = rw (le-leb k q.key (let x = a.0 in omega (x, arith))) (ap (λ ps. q ∷ ps) (from_above k qs a.1))
+
+above_less : (j k : ℕ) (m : List Pair) → j ≤ k → AllAbove k m → AllAbove j m
+above_less j k [] l a = tt
+above_less j k (p ∷ ps) l a = ((let x = a.0 in omega (x, l, arith)), above_less j k ps l a.1)
+
+-- a pair is the last one where it is found alone from its key on
+alone_last : (p : Pair) (m : List Pair) → IsRising m → take 2 (filter (λ (q : Pair). leb p.key q.key) m) ≡ p ∷ [] → last_pair m ≡ Some p
+alone_last p [] r e = absurd (let z : [] ≡ p ∷ [] = e in cc)
+alone_last p (q ∷ qs) r e = ⊎_elim here later (leb_tells p.key q.key)
+  where
+    here : (leb p.key q.key ≡ true) × (p.key ≤ q.key) → last_pair (q ∷ qs) ≡ Some p
+    here t =
+        let all : filter (λ (x : Pair). leb p.key x.key) qs ≡ qs = from_above p.key qs (above_less p.key q.key qs t.1 r.0) in
+        let both : q ∷ take 1 qs ≡ p ∷ [] = ap (λ ps. q ∷ take 1 ps) (sym all) ∙ (rw t.0 at e) in
+        alone qs both
+      where
+        alone : (ps : List Pair) → q ∷ take 1 ps ≡ p ∷ [] → last_pair (q ∷ ps) ≡ Some p
+        alone [] is = let same : q ≡ p = cc in ap (λ (x : Pair). Some x) same
+        alone (x ∷ ps) is = absurd (let z : q ∷ x ∷ [] ≡ p ∷ [] = is in cc)
+
+    later : (leb p.key q.key ≡ false) × (q.key < p.key) → last_pair (q ∷ qs) ≡ Some p
+    later f = ap (λ (o : Option Pair). Some (unwrap_or o q)) (alone_last p qs r.1 (rw f.0 at e))
+
+last_alone : (p : Pair) (m : List Pair) → IsRising m → last_pair m ≡ Some p → take 2 (filter (λ (q : Pair). leb p.key q.key) m) ≡ p ∷ []
+last_alone p [] r e = absurd (let z : None ≡ Some p = e in cc)
+last_alone p (q ∷ []) r e = let same : q ≡ p = cc in rw (le-leb p.key q.key (let k = ap (λ (x : Pair). x.key) same in omega (k, arith))) (ap (λ (x : Pair). x ∷ []) same)
+last_alone p (q ∷ s ∷ ps) r e =
+    let last : last_pair (s ∷ ps) ≡ Some p = e in
+    let low = last_above q.key p (s ∷ ps) r.0 last in
+    rw (lt-leb p.key q.key low) (last_alone p (s ∷ ps) r.1 last)
+
+-- so what tells the last pair tells just that
+last_tells : (told m : List Pair) → IsRising m → Tells (Map PopLastOf) told m ↔ (pairs_in (Some (pair_or_none (last_pair m))) ≡ told)
+last_tells [] [] r = (λ e. refl, λ e. refl)
+last_tells [] (p ∷ ps) r = (λ e. absurd (some e), λ e. absurd (let z : unwrap_or (last_pair ps) p ∷ [] ≡ [] = e in cc))
+  where
+    some : take 2 (filter (λ (q : Pair). true) (p ∷ ps)) ≡ [] → ⊥
+    some e = let z : p ∷ take 1 (filter (λ (q : Pair). true) ps) ≡ [] = e in cc
+last_tells (p ∷ []) m r = (λ e. ap (λ (o : Option Pair). pairs_in (Some (pair_or_none o))) (alone_last p m r e), λ e. last_alone p m r (one (last_pair m) e))
+  where
+    one : (o : Option Pair) → pairs_in (Some (pair_or_none o)) ≡ p ∷ [] → o ≡ Some p
+    one None e = absurd (let z : [] ≡ p ∷ [] = e in cc)
+    one (Some x) e = let same : x ≡ p = cc in ap (λ (y : Pair). Some y) same
+last_tells (p ∷ q ∷ ps) m r = (λ e. absurd (none m e), λ e. absurd (two (last_pair m) e))
+  where
+    nothing : (n : List Pair) → filter (λ (x : Pair). false) n ≡ []
+    nothing [] = refl
+    nothing (x ∷ xs) = nothing xs
+
+    none : (n : List Pair) → take 2 (filter (λ (x : Pair). false) n) ≡ p ∷ q ∷ ps → ⊥
+    none n e = let z : [] ≡ p ∷ q ∷ ps = sym (ap (take 2) (nothing n)) ∙ e in cc
+
+    two : (o : Option Pair) → pairs_in (Some (pair_or_none o)) ≡ p ∷ q ∷ ps → ⊥
+    two None e = let z : [] ≡ p ∷ q ∷ ps = e in cc
+    two (Some x) e = let z : x ∷ [] ≡ p ∷ q ∷ ps = e in cc
+
 -- the reply to an ordered read has just the pairs that it tells
 pub reply_tells : (command : Command) (call : MapCall) (told m : List Pair) → IsOrderedRead command → map_call (Some command) ≡ Some call → IsRising m → Tells command told m ↔ (pairs_in (Some (reply call m)) ≡ told)
+reply_tells (Map PopLastOf) call told m ordered is rises =
+    let same : call_pop_last ≡ call = cc in
+    subst (λ (c : MapCall). Tells (Map PopLastOf) told m ↔ (pairs_in (Some (reply c m)) ≡ told)) same (last_tells told m rises)
 reply_tells command call told m ordered is rises = by_same (reads command ordered is)
   where
     by_same : pairs_in (Some (reply call m)) ≡ pairs_read command told m → Tells command told m ↔ (pairs_in (Some (reply call m)) ≡ told)
@@ -75,6 +149,7 @@ same_pairs (Some x) None e = absurd (let z : x ∷ [] ≡ [] = e in cc)
 -- so are those of an ordered read
 same_reply : (command : Command) (call : MapCall) (m n : List Pair) → IsOrderedRead command → map_call (Some command) ≡ Some call → pairs_in (Some (reply call m)) ≡ pairs_in (Some (reply call n)) → reply call m ≡ reply call n
 same_reply (Map PopOf) call m n ordered is = let same : call_pop_first ≡ call = cc in subst (λ (c : MapCall). pairs_in (Some (reply c m)) ≡ pairs_in (Some (reply c n)) → reply c m ≡ reply c n) same (same_pairs (first_pair m) (first_pair n))
+same_reply (Map PopLastOf) call m n ordered is = let same : call_pop_last ≡ call = cc in subst (λ (c : MapCall). pairs_in (Some (reply c m)) ≡ pairs_in (Some (reply c n)) → reply c m ≡ reply c n) same (same_pairs (last_pair m) (last_pair n))
 same_reply (Map (SuccessorOf k)) call m n ordered is = let same : Successor k ≡ call = cc in subst (λ (c : MapCall). pairs_in (Some (reply c m)) ≡ pairs_in (Some (reply c n)) → reply c m ≡ reply c n) same (same_pairs (successor k m) (successor k n))
 same_reply (Map (RangeOf low high most)) call m n ordered is = let same : Range low high most ≡ call = cc in subst (λ (c : MapCall). pairs_in (Some (reply c m)) ≡ pairs_in (Some (reply c n)) → reply c m ≡ reply c n) same (ap ManyPairs)
 same_reply command call m n ordered is = absurd ordered

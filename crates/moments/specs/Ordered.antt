@@ -1,5 +1,5 @@
 -- Ordered reads: which keys they look for, and what they tell of the map. A pop is one too: it tells
--- the first pair of all, or none.
+-- the first pair of all, or the last, or none.
 use Rattle.std.specs.Prelude.{ℕ, ◌<◌, Bool, false, ◌&&◌, ◌||◌, not, nat_le, nat_lt, ◌⊎◌, ◌≡◌, suc, true, List, [], ◌∷◌, length, take, Option, Some, nat_eq}
 use Rattle.std.specs.Option.{option_eq}
 use Rattle.std.specs.List.{filter, list_any}
@@ -7,26 +7,36 @@ use Rattle.ordered_map.specs.declared.pair.Pair.{Pair}
 use Rattle.ordered_map.specs.OrderedMap.{get, MapReply, OnePair, ManyPairs}
 use Rattle.script.specs.declared.command.Command.{Command}
 use Rattle.script.specs.declared.command.Command.TheVariants.{Map}
-use Rattle.ordered_map.specs.declared.request.Request.TheVariants.{PopFirst, Successor, Range}
+use Rattle.ordered_map.specs.declared.request.Request.TheVariants.{PopFirst, PopLast, Successor, Range}
 use Rattle.moments.specs.declared.places.Change.{Change}
 
 -- it is one
 abbrev pub IsOrderedRead : Command → Type 0
 IsOrderedRead (Map PopFirst) = Unit {0}
+IsOrderedRead (Map PopLast) = Unit {0}
 IsOrderedRead (Map (Successor key)) = Unit {0}
 IsOrderedRead (Map (Range low high most)) = Unit {0}
 IsOrderedRead _ = ⊥
 
+-- whether what tells the last pair, or none, looks for this key: it looks whether there is another
+-- one behind the pair, or any
+abbrev pub is_from : List Pair → ℕ → Bool
+is_from [] key = true
+is_from (p ∷ []) key = nat_le p.key key
+is_from _ key = false
+
 -- whether it looks for this key, where it tells these pairs
 abbrev pub looks_for : Command → List Pair → ℕ → Bool
 looks_for (Map PopFirst) told key = true
+looks_for (Map PopLast) told key = is_from told key
 looks_for (Map (Successor above)) told key = nat_lt above key
 looks_for (Map (Range low high most)) told key = nat_le low key && nat_le key high
 looks_for _ told key = false
 
--- how many pairs it tells at most
+-- how many pairs it finds at most
 abbrev pub most_told : Command → ℕ
 most_told (Map PopFirst) = 1
+most_told (Map PopLast) = 2
 most_told (Map (Successor above)) = 1
 most_told (Map (Range low high most)) = most
 most_told _ = 0

@@ -8,7 +8,7 @@ ghost use Rattle.ordered_map.specs.declared.pair.Pair.{Pair as PairOf};
 ghost use Rattle.ordered_map.specs.OrderedMap.{get};
 ghost use Rattle.ordered_map.specs.Replies.{number_reply};
 ghost use Rattle.record.specs.MapRecord.{number_pairs};
-ghost use Rattle.moments.specs.Ordered.{looks_for, most_told, pairs_in, reaches, is_unlike, IsNextBest};
+ghost use Rattle.moments.specs.Ordered.{is_from, looks_for, most_told, pairs_in, reaches, is_unlike, IsNextBest};
 
 use ordered_map::{Reply, Request};
 use script::Command;
@@ -46,8 +46,20 @@ fn looks_for(command: &Command, pairs: &[(u64, u128)], key: u64) -> bool
 {
     match command {
         Command::Map(Request::PopFirst) => true,
+        Command::Map(Request::PopLast) => is_from(pairs, key),
         Command::Map(Request::Successor { key: above }) => *above < key,
         Command::Map(Request::Range { low, high, most: _ }) => *low <= key && key <= *high,
+        _ => false,
+    }
+}
+
+/// Whether what tells the last pair, or none, looks for this key.
+fn is_from(pairs: &[(u64, u128)], key: u64) -> bool
+    ensures { result ≡ is_from (number_pairs pairs.now) key }
+{
+    match pairs {
+        [] => true,
+        [pair] => pair.0 <= key,
         _ => false,
     }
 }
@@ -59,6 +71,11 @@ pub(crate) fn bounds(command: &Command, pairs: &[(u64, u128)]) -> (Bound<u64>, B
 {
     match command {
         Command::Map(Request::PopFirst) => (Bound::Unbounded, Bound::Unbounded),
+        Command::Map(Request::PopLast) => match pairs {
+            [] => (Bound::Unbounded, Bound::Unbounded),
+            [pair] => (Bound::Included(pair.0), Bound::Unbounded),
+            _ => (Bound::Included(0), Bound::Excluded(0)),
+        },
         Command::Map(Request::Successor { key }) => (Bound::Excluded(*key), Bound::Unbounded),
         Command::Map(Request::Range { low, high, .. }) if *low <= *high => {
             (Bound::Included(*low), Bound::Included(*high))
@@ -67,12 +84,13 @@ pub(crate) fn bounds(command: &Command, pairs: &[(u64, u128)]) -> (Bound<u64>, B
     }
 }
 
-/// How many pairs it tells at most.
+/// How many pairs it finds at most.
 pub(crate) fn most_told(command: &Command) -> usize
     ensures { result ≡ most_told command.now }
 {
     match command {
         Command::Map(Request::PopFirst) => 1,
+        Command::Map(Request::PopLast) => 2,
         Command::Map(Request::Successor { key: _ }) => 1,
         Command::Map(Request::Range { most, .. }) => *most as usize,
         _ => 0,

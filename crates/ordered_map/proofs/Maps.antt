@@ -7,10 +7,8 @@ use Rattle.std.proofs.lemmas.Bool.{eqb-true, eqb-false}
 use native.Mathlib.Decide.{ℕ_discrete}
 use Rattle.ordered_map.specs.declared.pair.Pair.{Pair}
 use Rattle.ordered_map.proofs.Lists.{above_less}
-use Rattle.ordered_map.specs.OrderedMap.{pair, AllAbove, IsRising, get, insert, delete, is_value, successor, between, MapEdit, Insert, Delete, edit_key, edited, value_left, after_edit, MapCall, OneValue, call_delete, call_insert, call_pop_first, call_replace_if, call_insert_new, call_delete_if, reply, after, edit_of, AllBelow, last_pair, end_pair, Edit}
+use Rattle.ordered_map.specs.OrderedMap.{pair, AllAbove, IsRising, get, insert, delete, is_value, successor, between, MapEdit, Insert, Delete, edit_key, edited, value_left, after_edit, MapCall, OneValue, call_delete, call_insert, call_pop_first, call_pop_last, call_replace_if, call_insert_new, call_delete_if, reply, after, edit_of, AllBelow, last_pair, end_pair, Edit}
 use Rattle.ordered_map.specs.MapLaws.{IsSuccessor, delete_if, insert_new, replace_if, within, without_first, IsEndmost, without_last}
-use Rattle.ordered_map.specs.declared.rule.Goal.TheVariants.{End}
-use Rattle.ordered_map.specs.declared.rule.Rule.TheVariants.{Take}
 use Rattle.ordered_map.proofs.Trees.{split_at}
 
 -- a key is below another one, is it, or is above
@@ -318,13 +316,13 @@ pub after_pop : (m : List Pair) → after call_pop_first m ≡ without_first m
 after_pop [] = refl
 after_pop (p ∷ ps) = rw (at_key p.key) refl
 
-pub after_take_last : (m : List Pair) → IsRising m → after (Edit (End Right) Take) m ≡ without_last m
-after_take_last [] r = refl
-after_take_last (p ∷ []) r = rw (at_key p.key) refl
-after_take_last (p ∷ q ∷ ps) r =
+pub after_pop_last : (m : List Pair) → IsRising m → after call_pop_last m ≡ without_last m
+after_pop_last [] r = refl
+after_pop_last (p ∷ []) r = rw (at_key p.key) refl
+after_pop_last (p ∷ q ∷ ps) r =
     let last : Pair = unwrap_or (last_pair ps) q in
     let above : p.key < last.key = (let a = r.0.0 in let b = last_from q ps r.1.0 in omega (arith, a, b)) in
-    rw (ne_eqb last.key p.key (λ e. omega (arith, e, above))) (ap (λ qs. p ∷ qs) (after_take_last (q ∷ ps) r.1))
+    rw (ne_eqb last.key p.key (λ e. omega (arith, e, above))) (ap (λ qs. p ∷ qs) (after_pop_last (q ∷ ps) r.1))
 
 -- an edit that is made where something is so
 where_so : (edit : MapEdit) (m : List Pair) (so : Bool) → after_edit (cond so (Some edit) None) m ≡ cond so (edited edit m) m

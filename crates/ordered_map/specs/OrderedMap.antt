@@ -152,8 +152,8 @@ pub data MapCall : Type 0 where
   Range : ℕ → ℕ → ℕ → MapCall
 
 -- the edits by their names: a key is to have this value; a key is to have none; the pair with the
--- least key goes; a key, where it has the value e, is to have v; a key, where it has none, is to have
--- this value; a key, where it has the value e, is to have none
+-- least key goes, or that with the greatest; a key, where it has the value e, is to have v; a key,
+-- where it has none, is to have this value; a key, where it has the value e, is to have none
 abbrev pub call_insert : ℕ → ℕ → MapCall
 call_insert k v = Edit (Key k) (Put v)
 
@@ -162,6 +162,9 @@ call_delete k = Edit (Key k) Take
 
 abbrev pub call_pop_first : MapCall
 call_pop_first = Edit (End Left) Take
+
+abbrev pub call_pop_last : MapCall
+call_pop_last = Edit (End Right) Take
 
 abbrev pub call_replace_if : ℕ → ℕ → ℕ → MapCall
 call_replace_if k e v = Edit (Key k) (Swap e v)

@@ -3,16 +3,13 @@ ghost use Rattle.std.specs.Prelude.{◌≡◌, ◌≢◌, ℕ, ◌+◌, ◌^◌,
 ghost use Rattle.arena.specs.declared.layout.Layout.{Layout};
 ghost use Rattle.arena.specs.declared.step.Row.{Row};
 ghost use Rattle.arena.specs.declared.word.Side.{Side};
-ghost use Rattle.arena.specs.declared.word.Side.TheVariants.{Right};
 ghost use Rattle.arena.specs.declared.word.Word.{Word};
 ghost use Rattle.arena.specs.History.{History, ◌⊳◌, value, Extends};
 ghost use Rattle.arena.specs.Lawful.{IsWin};
 ghost use Rattle.arena.specs.Log.{log, is_final};
 ghost use Rattle.arena.specs.TakenNodes.{taken_nodes};
 ghost use Rattle.ordered_map.specs.declared.pair.Pair.{Pair};
-ghost use Rattle.ordered_map.specs.OrderedMap.{MapEdit, IsRising, get, insert, delete, edited, after, call_insert, call_delete, call_pop_first, call_replace_if, call_insert_new, call_delete_if, successor, between, Edit, end_pair};
-ghost use Rattle.ordered_map.specs.declared.rule.Goal.TheVariants.{End};
-ghost use Rattle.ordered_map.specs.declared.rule.Rule.TheVariants.{Take};
+ghost use Rattle.ordered_map.specs.OrderedMap.{MapEdit, IsRising, get, insert, delete, edited, after, call_insert, call_delete, call_pop_first, call_pop_last, call_replace_if, call_insert_new, call_delete_if, successor, between, end_pair};
 ghost use Rattle.ordered_map.specs.TreeWords.{Tree, Has, is_leaf, level, said, IsBlankAboveKeys};
 ghost use Rattle.ordered_map.specs.Spelled.{IsTree, Spells};
 ghost use Rattle.ordered_map.specs.Paths.{Passed, WasInTree, IsAnswerAt};
@@ -46,9 +43,8 @@ pub fn laws_hold()
 /// keeps the keys rising; maps of the same values are the same list; the first pair has the least
 /// key, the last the greatest, and the successor the least above; between two keys are the pairs of
 /// just those keys; an insert leaves the map with its key at its value, a delete the map without its
-/// key, a pop the map without its first pair, a take at the right end that without its last; an edit
-/// that goes by the value found, the one or the map as it was. It does nothing; a caller learns the
-/// laws from its contract.
+/// key, a pop the map without its first pair, or its last; an edit that goes by the value found, the
+/// one or the map as it was. It does nothing; a caller learns the laws from its contract.
 pub fn map_laws_hold()
     ensures inserted { (k v : ℕ) (m : List Pair) → get k (insert k v m) ≡ Some v }
     ensures insert_keeps { (j k v : ℕ) (m : List Pair) → j ≢ k → get j (insert k v m) ≡ get j m }
@@ -60,7 +56,7 @@ pub fn map_laws_hold()
     ensures after_insert { (k v : ℕ) (m : List Pair) → after (call_insert k v) m ≡ insert k v m }
     ensures after_delete { (k : ℕ) (m : List Pair) → after (call_delete k) m ≡ delete k m }
     ensures after_pop { (m : List Pair) → after call_pop_first m ≡ without_first m }
-    ensures after_take_last { (m : List Pair) → IsRising m → after (Edit (End Right) Take) m ≡ without_last m }
+    ensures after_pop_last { (m : List Pair) → IsRising m → after call_pop_last m ≡ without_last m }
     ensures after_replace { (k e v : ℕ) (m : List Pair) → after (call_replace_if k e v) m ≡ replace_if k e v m }
     ensures after_insert_new { (k v : ℕ) (m : List Pair) → after (call_insert_new k v) m ≡ insert_new k v m }
     ensures after_delete_if { (k e : ℕ) (m : List Pair) → after (call_delete_if k e) m ≡ delete_if k e m }

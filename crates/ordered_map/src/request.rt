@@ -12,10 +12,16 @@ use arena::Side;
 pub enum Request<K, V> {
     /// Gives a key a value.
     Insert { key: K, value: V },
+    /// Gives a key this value if it has none.
+    InsertNew { key: K, value: V },
     /// Takes a key out.
     Delete { key: K },
+    /// Takes a key out if it has the expected value.
+    DeleteIf { key: K, expected: V },
     /// Takes out the pair with the least key.
     PopFirst,
+    /// Takes out the pair with the greatest key.
+    PopLast,
     /// Gives a key this value if it has the expected one.
     ReplaceIf { key: K, expected: V, value: V },
     /// Looks up a key.
@@ -34,8 +40,11 @@ impl Request<u64, u128> {
     {
         match *self {
             Request::Insert { key, value } => Some((Goal::Key(key), Rule::Put(value))),
+            Request::InsertNew { key, value } => Some((Goal::Key(key), Rule::PutNew(value))),
             Request::Delete { key } => Some((Goal::Key(key), Rule::Take)),
+            Request::DeleteIf { key, expected } => Some((Goal::Key(key), Rule::TakeIf(expected))),
             Request::PopFirst => Some((Goal::End(Side::Left), Rule::Take)),
+            Request::PopLast => Some((Goal::End(Side::Right), Rule::Take)),
             Request::ReplaceIf {
                 key,
                 expected,

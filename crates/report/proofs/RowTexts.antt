@@ -30,7 +30,7 @@ use Rattle.arena.specs.Words.{IsScxWord}
 use Rattle.ordered_map.specs.declared.reply.Reply.{Reply}
 use Rattle.ordered_map.specs.declared.reply.Reply.TheVariants.{Value, Pair, Pairs, Contended, NoMemory, Full as FullShare}
 use Rattle.ordered_map.specs.declared.request.Request.{Request}
-use Rattle.ordered_map.specs.declared.request.Request.TheVariants.{Insert, Delete, PopFirst, ReplaceIf, Get, Successor, Range}
+use Rattle.ordered_map.specs.declared.request.Request.TheVariants.{Insert, InsertNew, Delete, DeleteIf, PopFirst, PopLast, ReplaceIf, Get, Successor, Range}
 use Rattle.script.specs.Commands.{IsCell, IsCommand, IsRequest, change_text, command_row, numbers_text, request_row, side_text, spaced}
 use Rattle.script.specs.Kinds.{kind_text}
 use Rattle.script.specs.Rows.{limits_row}
@@ -258,6 +258,9 @@ request_is_text (Insert key value) fits = four_texts _ _ _ _ (ascii (codes "inse
 request_is_text (Delete key) fits = four_texts _ _ _ _ (ascii (codes "delete") refl) (number key fits) IsUtf8-nil IsUtf8-nil
 request_is_text PopFirst fits = four_texts _ _ _ _ (ascii (codes "pop_first") refl) IsUtf8-nil IsUtf8-nil IsUtf8-nil
 request_is_text (ReplaceIf key expected value) fits = four_texts _ _ _ _ (ascii (codes "replace_if") refl) (number key fits.0) (value_is_text expected fits.1) (value_is_text value fits.2)
+request_is_text PopLast fits = four_texts _ _ _ _ (ascii (codes "pop_last") refl) IsUtf8-nil IsUtf8-nil IsUtf8-nil
+request_is_text (InsertNew key value) fits = four_texts _ _ _ _ (ascii (codes "insert_new") refl) (number key fits.0) (value_is_text value fits.1) IsUtf8-nil
+request_is_text (DeleteIf key expected) fits = four_texts _ _ _ _ (ascii (codes "delete_if") refl) (number key fits.0) (value_is_text expected fits.1) IsUtf8-nil
 request_is_text (Get key) fits = four_texts _ _ _ _ (ascii (codes "get") refl) (number key fits) IsUtf8-nil IsUtf8-nil
 request_is_text (Successor key) fits = four_texts _ _ _ _ (ascii (codes "successor") refl) (number key fits) IsUtf8-nil IsUtf8-nil
 request_is_text (Range low high most) fits = four_texts _ _ _ _ (ascii (codes "range") refl) (number low fits.0) (number high fits.1) (number most (omega (arith, fits.2)))
@@ -301,7 +304,10 @@ call_is_wide client number (Set field value) text = (refl, text)
 call_is_wide client number (Map (Insert key value)) text = (refl, text)
 call_is_wide client number (Map (Delete key)) text = (refl, text)
 call_is_wide client number (Map PopFirst) text = (refl, text)
+call_is_wide client number (Map PopLast) text = (refl, text)
 call_is_wide client number (Map (ReplaceIf key expected value)) text = (refl, text)
+call_is_wide client number (Map (InsertNew key value)) text = (refl, text)
+call_is_wide client number (Map (DeleteIf key expected)) text = (refl, text)
 call_is_wide client number (Map (Get key)) text = (refl, text)
 call_is_wide client number (Map (Successor key)) text = (refl, text)
 call_is_wide client number (Map (Range low high most)) text = (refl, text)

@@ -6,7 +6,7 @@ use Rattle.arena.specs.declared.word.SettledPart.TheVariants.{Head, More, Key, V
 use Rattle.arena.specs.declared.word.Side.TheVariants.{Left, Right}
 use Rattle.arena.specs.declared.word.Slot.{Slot}
 use Rattle.arena.specs.declared.word.Slot.TheVariants.{First, Second, Third, Fourth}
-use Rattle.ordered_map.specs.declared.request.Request.TheVariants.{Insert, ReplaceIf, Range}
+use Rattle.ordered_map.specs.declared.request.Request.TheVariants.{Insert, InsertNew, Delete, DeleteIf, PopFirst, PopLast, ReplaceIf, Range}
 use Rattle.script.specs.Commands.{IsCommand, command_row}
 use Rattle.script.specs.declared.command.Command.{Command}
 use Rattle.script.specs.declared.command.Command.TheVariants.{Map}
@@ -75,7 +75,17 @@ name_letter k row = get_or (get_or row 0 []) k 0
 
 pub same_command : (version : Version) (command other : Command) → IsCommand command → IsCommand other → command_row command ≡ command_row other → HasCommand version other → HasCommand version command
 same_command version (Map (Insert key value)) (Map (Insert k v)) fits small is has = same_value version value v fits.1 small.1 (ap (λ (row : List (List ℕ)). get_or row 2 []) is) has
+same_command version (Map (Insert key value)) (Map (InsertNew k v)) fits small is has = absurd (omega (arith, ap (name_letter 6) is))
 same_command version (Map (Insert key value)) other fits small is has = absurd (omega (arith, ap (name_letter 0) is))
+same_command version (Map (InsertNew key value)) (Map (InsertNew k v)) fits small is has = has
+same_command version (Map (InsertNew key value)) (Map (Insert k v)) fits small is has = absurd (omega (arith, ap (name_letter 6) is))
+same_command version (Map (InsertNew key value)) other fits small is has = absurd (omega (arith, ap (name_letter 0) is))
+same_command version (Map (DeleteIf key expected)) (Map (DeleteIf k e)) fits small is has = has
+same_command version (Map (DeleteIf key expected)) (Map (Delete k)) fits small is has = absurd (omega (arith, ap (name_letter 6) is))
+same_command version (Map (DeleteIf key expected)) other fits small is has = absurd (omega (arith, ap (name_letter 0) is))
+same_command version (Map PopLast) (Map PopLast) fits small is has = has
+same_command version (Map PopLast) (Map PopFirst) fits small is has = absurd (omega (arith, ap (name_letter 4) is))
+same_command version (Map PopLast) other fits small is has = absurd (omega (arith, ap (name_letter 0) is))
 same_command version (Map (ReplaceIf key expected value)) (Map (ReplaceIf k e v)) fits small is has = (
   same_value version expected e fits.1 small.1 (ap (λ (row : List (List ℕ)). get_or row 2 []) is) has.0,
   same_value version value v fits.2 small.2 (ap (λ (row : List (List ℕ)). get_or row 3 []) is) has.1,

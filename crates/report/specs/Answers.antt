@@ -6,7 +6,7 @@ use Rattle.arena.specs.declared.fault.Resource.TheVariants.{Nodes, Scx}
 use Rattle.ordered_map.specs.declared.reply.Reply.{Reply}
 use Rattle.ordered_map.specs.declared.reply.Reply.TheVariants.{Value, Pair, Pairs, Contended, NoMemory, Full as FullShare}
 use Rattle.ordered_map.specs.declared.request.Request.{Request}
-use Rattle.ordered_map.specs.declared.request.Request.TheVariants.{Successor, PopFirst}
+use Rattle.ordered_map.specs.declared.request.Request.TheVariants.{Successor, PopFirst, PopLast}
 use Rattle.script.specs.declared.call.Call.{Call}
 use Rattle.script.specs.declared.command.Command.{Command}
 use Rattle.script.specs.declared.command.Command.TheVariants.{Map as MapCommand}
@@ -72,6 +72,8 @@ reply_to (Successor key) (Value None) = Pair None
 reply_to (Successor key) reply = reply
 reply_to PopFirst (Value None) = Pair None
 reply_to PopFirst reply = reply
+reply_to PopLast (Value None) = Pair None
+reply_to PopLast reply = reply
 reply_to request (Pair None) = Value None
 reply_to request reply = reply
 

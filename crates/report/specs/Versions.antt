@@ -4,7 +4,7 @@ use Rattle.arena.specs.declared.word.NodeWord.{NodeWord}
 use Rattle.arena.specs.declared.word.NodeWord.TheVariants.{Settled}
 use Rattle.arena.specs.declared.word.SettledPart.TheVariants.{High}
 use Rattle.ordered_map.specs.declared.request.Request.{Request}
-use Rattle.ordered_map.specs.declared.request.Request.TheVariants.{Insert, ReplaceIf}
+use Rattle.ordered_map.specs.declared.request.Request.TheVariants.{Insert, InsertNew, DeleteIf, PopLast, ReplaceIf}
 use Rattle.script.specs.declared.command.Command.{Command}
 use Rattle.script.specs.declared.command.Command.TheVariants.{Map}
 use Rattle.report.specs.declared.version.Version.{Version}
@@ -25,10 +25,13 @@ abbrev pub HasPart : Version → NodeWord → Type 0
 HasPart One (Settled (High slot)) = ⊥
 HasPart version part = ⊤
 
--- the call of the map has values of the version
+-- the call of the map is one of the version, and has values of it
 abbrev pub HasRequest : Version → Request ℕ ℕ → Type 0
 HasRequest version (Insert key value) = value < value_limit version
 HasRequest version (ReplaceIf key expected value) = (expected < value_limit version) × (value < value_limit version)
+HasRequest version (InsertNew key value) = version ≡ Two
+HasRequest version (DeleteIf key expected) = version ≡ Two
+HasRequest version PopLast = version ≡ Two
 HasRequest version request = ⊤
 
 -- the command has values of the version

@@ -1,8 +1,6 @@
 -- The calls of a client, one behind the other.
-use Rattle.std.proofs.Common.{◌≡◌, ◌∙◌, ℕ, suc, ◌+◌, ◌<◌, Bool, true, false, cond, eqb, List, [], ◌∷◌, ◌++◌, take, length, get_or, Option, Some, refl, sym, ap, subst, append-nil}
+use Rattle.std.proofs.Common.{◌≡◌, ◌∙◌, ℕ, ◌+◌, ◌<◌, Bool, true, false, cond, eqb, List, [], ◌∷◌, ◌++◌, take, length, get_or, Some, refl, sym, ap, subst, append-nil}
 use Rattle.std.proofs.lemmas.List.{take_more}
-use Rattle.arena.specs.declared.layout.Layout.{Layout}
-use Rattle.arena.specs.History.{Extends}
 use Rattle.arena.proofs.Lemmas.{ends_self, ends_trans}
 use Rattle.ordered_map.specs.OrderedMap.{MapCall}
 use Rattle.ordered_map.specs.declared.reply.Reply.{Reply}
@@ -10,8 +8,8 @@ use Rattle.script.specs.declared.call.Call.{Call}
 use Rattle.script.specs.declared.command.Command.{Command}
 use Rattle.record.specs.Commands.{commands}
 use Rattle.record.specs.MapRecord.{map_call}
-use Rattle.forest.specs.Passes.{PassView, IsLaterView, run_of}
-use Rattle.runner.specs.Calls.{HasCalled, HaveReplies}
+use Rattle.forest.specs.Passes.{Ground, PassView, IsLaterView, run_of}
+use Rattle.runner.specs.Calls.{HasCalledNumbers, HaveReplies}
 
 -- what was known later, of what was known later, is known later
 pub later_self : (p : PassView) → IsLaterView p p
@@ -28,11 +26,11 @@ replies_more P a b d (x ∷ cs) [] command call reply h is p = absurd h
 replies_more P a b d (x ∷ cs) (r ∷ rs) command call reply h is p = (h.0, h.1, h.2, h.3, replies_more P h.1 b d cs rs command call reply h.4 is p)
 
 -- what the pass knew at the end is later than what it knew at the start
-pub replies_later : (tries : ℕ) (old new : PassView) (cs : List Command) (rs : List (Reply ℕ ℕ)) → HaveReplies (HasCalled tries) old cs rs new → IsLaterView old new
-replies_later tries old new [] [] h = subst (IsLaterView old) (sym h) (later_self old)
-replies_later tries old new [] (r ∷ rs) h = absurd h
-replies_later tries old new (c ∷ cs) [] h = absurd h
-replies_later tries old new (c ∷ cs) (r ∷ rs) h = later_again old h.1 new h.3.later (replies_later tries h.1 new cs rs h.4)
+pub replies_later : (f : Ground) (old new : PassView) (cs : List Command) (rs : List (Reply ℕ ℕ)) → HaveReplies (HasCalledNumbers f) old cs rs new → IsLaterView old new
+replies_later f old new [] [] h = subst (IsLaterView old) (sym h) (later_self old)
+replies_later f old new [] (r ∷ rs) h = absurd h
+replies_later f old new (c ∷ cs) [] h = absurd h
+replies_later f old new (c ∷ cs) (r ∷ rs) h = later_again old h.1 new h.3.goes_on.later (replies_later f h.1 new cs rs h.4)
 
 -- The commands of a client among more calls
 

@@ -25,7 +25,7 @@ use Rattle.forest.specs.TableRule.{history_of}
 use Rattle.forest.specs.Passes.{Ground, PassView, AreNew, AreBegun, HoldsOfOwn, IsClosed, IsLook, new_pass, run_of, done_of}
 use Rattle.forest.specs.Shares.{entries_of}
 use Rattle.dict.specs.Words.{IsNumber, IsWideNumber}
-use Rattle.runner.specs.Calls.{NumbersAllow, HasCalled, HaveReplies, HaveWorked}
+use Rattle.runner.specs.Calls.{NumbersAllow, HasCalledNumbers, HaveReplies, HaveWorked}
 use Rattle.runner.specs.Histories.{AreVersions}
 use Rattle.runner.specs.Outcomes.{IsClientOfRun, IsOutcome}
 use Rattle.runner.proofs.Gathered.{WorkedAt, worked_at, worked_count, none_some, some_same}
@@ -74,11 +74,11 @@ module _ (script : Script) (f : Ground) (layout : IsLayoutOf script.limits Tree 
       let number : w.new.number ≡ c = w.worked.number ∙ ap (λ (p : PassView). p.number) old in
       let end : IsBackIn closed.rows w.new = back_at closed.rows news c w.new w.is closed.begun in
       let within : Extends whole (run_of w.new) = subst (λ (l : Layout). Extends (history_of l.mode closed.rows) (run_of w.new)) lay end.within in
-      let replies = subst (λ (p : PassView). HaveReplies (HasCalled f.tries) p (commands script.calls.items p.number) own.items w.new) old w.worked.made in
+      let replies = subst (λ (p : PassView). HaveReplies (HasCalledNumbers f) p (commands script.calls.items p.number) own.items w.new) old w.worked.made in
       record {
         last = w.new;
         is_last = w.is;
-        stand = all_answered f.layout f.tries whole versions are (new_pass f c) w.new (commands script.calls.items c) own.items refl within replies;
+        stand = all_answered f whole versions are (new_pass f c) w.new (commands script.calls.items c) own.items within replies;
         within = within;
         entries = subst (λ (l : Layout). entries_of c (log l (history_of l.mode closed.rows)) ≡ done_of w.new) lay (subst (λ n. entries_of n (log w.new.layout (history_of w.new.layout.mode closed.rows)) ≡ done_of w.new) number end.entries);
         looks = subst (λ (l : Layout). HoldsOfOwn IsLook c (run_of w.new) (history_of l.mode closed.rows)) lay (subst (λ n. HoldsOfOwn IsLook n (run_of w.new) (history_of w.new.layout.mode closed.rows)) number end.looks);

@@ -1,5 +1,5 @@
 -- Where the calls of a client stand in the history of the whole run.
-use Rattle.std.proofs.Common.{◌≡◌, ◌∙◌, ℕ, ◌+◌, ◌≤◌, inr, List, [], ◌∷◌, Option, Some, None, refl, sym, ap, subst}
+use Rattle.std.proofs.Common.{◌≡◌, ◌∙◌, ℕ, inr, List, [], ◌∷◌, Option, Some, None, refl, sym, ap, subst}
 use Rattle.arena.specs.declared.layout.Layout.{Layout}
 use Rattle.arena.specs.History.{History, ◌⊳◌, value, Extends}
 use Rattle.arena.proofs.Lemmas.{ends_self, ends_trans}
@@ -11,17 +11,18 @@ use Rattle.ordered_map.specs.Replies.{told_of}
 use Rattle.ordered_map.specs.declared.reply.Reply.{Reply}
 use Rattle.ordered_map.specs.declared.reply.Reply.TheVariants as replies
 use Rattle.script.specs.declared.command.Command.{Command}
-use Rattle.ordered_map.specs.CallRules.{most_steps}
 use Rattle.edits.specs.Tries.{HasOnlyLooked}
 use Rattle.dict.specs.Says.{HasMadeRow}
 use Rattle.forest.specs.Dictionary.{IsVersion, IsChange, IsChangeOrReading, IsReading, IsRefusalOf, IsToldOf}
-use Rattle.forest.specs.Passes.{PassView, run_of, steps_of}
-use Rattle.forest.specs.Traces.{shared_nodes}
-use Rattle.runner.specs.Calls.{HasCalled, HaveReplies}
+use Rattle.forest.specs.Passes.{Ground, PassView, run_of}
+use Rattle.runner.specs.Calls.{HasCalledNumbers, HaveReplies}
 use Rattle.runner.specs.Histories.{AreVersions, IsEnteredCall, IsReadCall, IsPlacedAs, IsPlacedInRun, IsAnswered}
 use Rattle.runner.proofs.Chains.{replies_later}
 
-module _ (lay : Layout) (tries : ℕ) (run : History) (versions : History → List Pair) (are : AreVersions lay run versions) where
+module _ (forest : Ground) (run : History) (versions : History → List Pair) (are : AreVersions forest.layout run versions) where
+  abbrev lay : Layout
+  lay = forest.layout
+
   module _ (old new : PassView) (layout : new.layout ≡ lay) (same : new.number ≡ old.number) (within : Extends run (run_of new)) where
     -- what the words spell at a moment is the version there
     version_is : (moment : History) (m : List Pair) → Extends (run_of new) moment → IsVersion new moment m → m ≡ versions moment
@@ -67,7 +68,7 @@ module _ (lay : Layout) (tries : ℕ) (run : History) (versions : History → Li
     placed_as None call told e x = read_placed call told x
 
     -- what a reply tells, or that the call has no entry
-    placed : (call : MapCall) (r : Reply ℕ ℕ) → IsToldOf old new call (told_of (λ n. n) (λ n. n) r) → IsRefusalOf tries old new call r → IsPlacedInRun lay versions old new call (told_of (λ n. n) (λ n. n) r)
+    placed : (call : MapCall) (r : Reply ℕ ℕ) → IsToldOf old new call (told_of (λ n. n) (λ n. n) r) → IsRefusalOf forest.tries old new call r → IsPlacedInRun lay versions old new call (told_of (λ n. n) (λ n. n) r)
     placed call (replies.Value v) x y = placed_as (edit_of call _) call _ refl x
     placed call (replies.Pair p) x y = placed_as (edit_of call _) call _ refl x
     placed call (replies.Pairs ps) x y = placed_as (edit_of call _) call _ refl x
@@ -75,33 +76,16 @@ module _ (lay : Layout) (tries : ℕ) (run : History) (versions : History → Li
     placed call (replies.Full f) x y = y.done
     placed call replies.NoMemory x y = y.1
 
-    answered : (call : MapCall) (r : Reply ℕ ℕ) → HasCalled tries old new call r → IsAnswered lay tries run versions old new call r
-    answered call r x = record {
-      within = within;
-      later = x.later;
-      told = placed call r x.told x.refused;
-      refused = x.refused;
-      form = x.form;
-      blames = x.blames;
-      spends = x.spends;
-      steps = subst (λ (l : Layout). steps_of new ≤ steps_of old + most_steps call tries (shared_nodes l)) (sym x.later.layout ∙ layout) x.steps;
-      calls = x.calls;
-      kinds = x.kinds;
-      nothing = x.nothing;
-      rest = x.rest;
-    }
-
   -- so it is for all calls of a client
-  pub all_answered : (old new : PassView) (cs : List Command) (rs : List (Reply ℕ ℕ)) → old.layout ≡ lay → Extends run (run_of new) → HaveReplies (HasCalled tries) old cs rs new → HaveReplies (IsAnswered lay tries run versions) old cs rs new
-  all_answered old new [] [] layout within h = h
-  all_answered old new [] (r ∷ rs) layout within h = absurd h
-  all_answered old new (c ∷ cs) [] layout within h = absurd h
-  all_answered old new (c ∷ cs) (r ∷ rs) layout within h =
-      let more = replies_later tries h.1 new cs rs h.4 in
-      let there : h.1.layout ≡ lay = h.3.later.layout ∙ layout in (
+  pub all_answered : (old new : PassView) (cs : List Command) (rs : List (Reply ℕ ℕ)) → Extends run (run_of new) → HaveReplies (HasCalledNumbers forest) old cs rs new → HaveReplies (IsAnswered forest run versions) old cs rs new
+  all_answered old new [] [] within h = h
+  all_answered old new [] (r ∷ rs) within h = absurd h
+  all_answered old new (c ∷ cs) [] within h = absurd h
+  all_answered old new (c ∷ cs) (r ∷ rs) within h =
+      let there = ends_trans run (run_of new) (run_of h.1) within (replies_later forest h.1 new cs rs h.4).run in (
         h.0,
         h.1,
         h.2,
-        answered old h.1 there h.3.later.number (ends_trans run (run_of new) (run_of h.1) within more.run) h.0 r h.3,
-        all_answered h.1 new cs rs there within h.4,
+        record { within = there; told = placed old h.1 h.3.pass.1 h.3.goes_on.later.number there h.0 r h.3.told h.3.refused; called = h.3 },
+        all_answered h.1 new cs rs within h.4,
       )

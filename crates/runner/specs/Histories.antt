@@ -1,5 +1,5 @@
 -- The one history in which all calls of a run stand.
-use Rattle.std.specs.Prelude.{◌<◌, ◌≡◌, ℕ, ◌+◌, ◌≤◌, List, [], ◌∷◌, Option, Some, None}
+use Rattle.std.specs.Prelude.{◌<◌, ◌≡◌, ℕ, List, [], ◌∷◌, Option, Some, None}
 use Rattle.arena.specs.declared.layout.Layout.{Layout}
 use Rattle.arena.specs.declared.step.Row.{Row}
 use Rattle.arena.specs.History.{History, Start, ◌⊳◌, value, Extends}
@@ -9,16 +9,13 @@ use Rattle.ordered_map.specs.OrderedMap.{MapCall, MapEdit, MapReply, after, repl
 use Rattle.ordered_map.specs.Runs.{Makes}
 use Rattle.ordered_map.specs.Spelled.{Spells}
 use Rattle.dict.specs.Calls.{AsksForPairs}
-use Rattle.ordered_map.specs.CallRules.{MayReply, form_of, most_nodes, most_steps}
+use Rattle.ordered_map.specs.CallRules.{most_nodes}
 use Rattle.edits.specs.Tries.{HasOnlyLooked}
 use Rattle.dict.specs.Says.{HasMadeRow}
 use Rattle.ordered_map.specs.Replies.{told_of}
 use Rattle.ordered_map.specs.declared.reply.Reply.{Reply}
-use Rattle.forest.specs.Dictionary.{IsRefusalOf, HasSpentAtMost, blamed_by_reply}
-use Rattle.forest.specs.Passes.{AreOfCall, PassView, IsLaterView, HasBlamed, run_of, done_of, steps_of, taken_of}
-use Rattle.forest.specs.Shares.{IsBetweenCalls}
-use Rattle.forest.specs.StepKinds.{HasKeptToKinds}
-use Rattle.forest.specs.Traces.{shared_nodes}
+use Rattle.forest.specs.Passes.{Ground, PassView, run_of, done_of, taken_of}
+use Rattle.runner.specs.Calls.{HasCalledNumbers}
 
 -- The history is the log of the run, and each moment of the run has a map, its version, which the
 -- words spell there. It is empty at the start, and a row without an entry leaves it as it is. What an
@@ -72,28 +69,13 @@ abbrev pub IsPlacedInRun : Layout → (History → List Pair) → PassView → P
 IsPlacedInRun lay versions old new call (Some told) = IsPlacedAs (edit_of call told) lay versions old new call told
 IsPlacedInRun lay versions old new call None = done_of new ≡ done_of old
 
--- The call, which may try so often, began where its pass knew `old` and ended where it knew `new`.
--- It stands in the history of this run with this reply.
-pub record IsAnswered (lay : Layout) (tries : ℕ) (run : History) (versions : History → List Pair) (old new : PassView) (call : MapCall) (reply : Reply ℕ ℕ) : Type 0 where
+-- The call began where its pass knew `old` and ended where it knew `new`. It stands in the history of
+-- this run with this reply.
+pub record IsAnswered (forest : Ground) (run : History) (versions : History → List Pair) (old new : PassView) (call : MapCall) (reply : Reply ℕ ℕ) : Type 0 where
   -- its begin and its end are moments of the run, the one not behind the other
   pub within : Extends run (run_of new)
-  pub later : IsLaterView old new
   -- what it tells is right there
-  pub told : IsPlacedInRun lay versions old new call (told_of (λ n. n) (λ n. n) reply)
-  -- and so is why it tells nothing, as the calls of the forest say it
-  pub refused : IsRefusalOf tries old new call reply
-  pub form : MayReply call (form_of reply)
-  -- the pass blames whom the reply names, and nobody more than five times
-  pub blames : (new.blamed ≡ blamed_by_reply reply old.blamed) × HasBlamed new
-  -- it has begun a try only once all before it were lost to other passes, and of its share no more is
-  -- gone than the tries that it has begun may take
-  pub spends : HasSpentAtMost old new call tries
-  -- it has made no more steps than so many tries of the call may make, each in this call of the
-  -- pass and of a kind for such a call
-  pub steps : steps_of new ≤ steps_of old + most_steps call tries (shared_nodes lay)
-  pub calls : AreOfCall new.number (taken_of old) (run_of old) (run_of new)
-  pub kinds : HasKeptToKinds old new call
-  -- a range that asks for no pairs has left the pass as it was
-  pub nothing : ¬ AsksForPairs call → new ≡ old
-  -- what is left of it is what the run has not taken
-  pub rest : IsBetweenCalls new.layout new.number (run_of new) new.share
+  pub told : IsPlacedInRun forest.layout versions old new call (told_of (λ n. n) (λ n. n) reply)
+  -- and all is so that a call of the forest says: why it tells nothing, whom the pass blames, how many
+  -- tries, steps and nodes it has taken, and of which kinds its steps are
+  pub called : HasCalledNumbers forest old new call reply

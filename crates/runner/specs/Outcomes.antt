@@ -23,7 +23,7 @@ use Rattle.runner.specs.Histories.{AreVersions, IsAnswered}
 pub record IsClientOfRun (forest : Ground) (run : History) (versions : History → List Pair) (lasts : List PassView) (c : ℕ) (calls : List Command) (replies : List (Reply ℕ ℕ)) : Type 0 where
   pub last : PassView
   pub is_last : slice_get lasts c ≡ Some last
-  pub stand : HaveReplies (IsAnswered forest.layout forest.tries run versions) (new_pass forest c) calls replies last
+  pub stand : HaveReplies (IsAnswered forest run versions) (new_pass forest c) calls replies last
   pub within : Extends run (run_of last)
   -- its entries in the run are those of its changing calls, and no others
   pub entries : entries_of c (log forest.layout run) ≡ done_of last

@@ -6,7 +6,7 @@ ghost use Rattle.ordered_map.specs.Requests.{AsksForFew, map_request};
 ghost use Rattle.script.specs.Commands.{mode_of};
 ghost use Rattle.forest.specs.Opened.{IsSameOpen};
 ghost use Rattle.forest.specs.Passes.{IsOf};
-ghost use Rattle.runner.specs.Calls.{HasCalled, HasWorked};
+ghost use Rattle.runner.specs.Calls.{HasCalledNumbers, HasWorked};
 
 use crate::gate::Gate;
 use crate::request::request_of;
@@ -61,7 +61,7 @@ fn make_call<G: Gate>(
 ) -> (Pass<Numbers>, Reply<u64, u128>)
     requires pass { IsOf forest.now pass }
     requires few { AsksForFew request }
-    ensures { HasCalled forest.now.tries pass result.0 (map_request request) result.1 }
+    ensures { HasCalledNumbers forest.now pass result.0 (map_request request) result.1 }
 {
     let client = pass.number();
     gate.began(client, number);

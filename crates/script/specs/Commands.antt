@@ -11,7 +11,7 @@ use Rattle.script.specs.Update.{update_cells, update_finalize, update_field, upd
 use Rattle.ordered_map.specs.declared.request.Request.{Request}
 use Rattle.script.specs.declared.command.Command.{Command}
 use Rattle.script.specs.declared.command.Command.TheVariants.{Llx, Scx, Vlx, Set, Map}
-use Rattle.ordered_map.specs.declared.request.Request.TheVariants.{Insert, Delete, PopFirst, ReplaceIf, Get, Successor, Range}
+use Rattle.ordered_map.specs.declared.request.Request.TheVariants.{Insert, InsertNew, Delete, DeleteIf, PopFirst, PopLast, ReplaceIf, Get, Successor, Range}
 
 -- the word for a side
 abbrev pub side_text : Side → List ℕ
@@ -37,7 +37,10 @@ abbrev pub request_row : Request ℕ ℕ → List (List ℕ)
 request_row (Insert key value) = codes "insert" ∷ decimal key ∷ decimal value ∷ [] ∷ []
 request_row (Delete key) = codes "delete" ∷ decimal key ∷ [] ∷ [] ∷ []
 request_row PopFirst = codes "pop_first" ∷ [] ∷ [] ∷ [] ∷ []
+request_row PopLast = codes "pop_last" ∷ [] ∷ [] ∷ [] ∷ []
 request_row (ReplaceIf key expected value) = codes "replace_if" ∷ decimal key ∷ decimal expected ∷ decimal value ∷ []
+request_row (InsertNew key value) = codes "insert_new" ∷ decimal key ∷ decimal value ∷ [] ∷ []
+request_row (DeleteIf key expected) = codes "delete_if" ∷ decimal key ∷ decimal expected ∷ [] ∷ []
 request_row (Get key) = codes "get" ∷ decimal key ∷ [] ∷ [] ∷ []
 request_row (Successor key) = codes "successor" ∷ decimal key ∷ [] ∷ [] ∷ []
 request_row (Range low high most) = codes "range" ∷ decimal low ∷ decimal high ∷ decimal most ∷ []
@@ -79,7 +82,10 @@ abbrev pub IsRequest : Request ℕ ℕ → Type 0
 IsRequest (Insert key value) = (key < 2 ^ 64) × (value < 2 ^ 128)
 IsRequest (Delete key) = key < 2 ^ 64
 IsRequest PopFirst = Unit {0}
+IsRequest PopLast = Unit {0}
 IsRequest (ReplaceIf key expected value) = (key < 2 ^ 64) × (expected < 2 ^ 128) × (value < 2 ^ 128)
+IsRequest (InsertNew key value) = (key < 2 ^ 64) × (value < 2 ^ 128)
+IsRequest (DeleteIf key expected) = (key < 2 ^ 64) × (expected < 2 ^ 128)
 IsRequest (Get key) = key < 2 ^ 64
 IsRequest (Successor key) = key < 2 ^ 64
 IsRequest (Range low high most) = (low < 2 ^ 64) × (high < 2 ^ 64) × (most ≤ 64)

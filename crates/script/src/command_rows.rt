@@ -33,7 +33,10 @@ pub fn command_of(mode: Mode, name: &str, arguments: [&str; 3]) -> Result<Comman
         (Mode::Tree, "insert") => insert_of(arguments),
         (Mode::Tree, "delete") => delete_of(arguments),
         (Mode::Tree, "pop_first") => pop_first_of(arguments),
+        (Mode::Tree, "pop_last") => pop_last_of(arguments),
         (Mode::Tree, "replace_if") => replace_if_of(arguments),
+        (Mode::Tree, "insert_new") => insert_new_of(arguments),
+        (Mode::Tree, "delete_if") => delete_if_of(arguments),
         (Mode::Tree, "get") => get_of(arguments),
         (Mode::Tree, "successor") => successor_of(arguments),
         (Mode::Tree, "range") => range_of(arguments),
@@ -118,6 +121,15 @@ fn pop_first_of(arguments: [&str; 3]) -> Option<Command>
     }
 }
 
+fn pop_last_of(arguments: [&str; 3]) -> Option<Command>
+    ensures { IsCommandOf (codes "pop_last" ∷ texts arguments.entry) result }
+{
+    match arguments {
+        ["", "", ""] => Some(Command::Map(Request::PopLast)),
+        _ => None,
+    }
+}
+
 fn replace_if_of(arguments: [&str; 3]) -> Option<Command>
     ensures { IsCommandOf (codes "replace_if" ∷ texts arguments.entry) result }
 {
@@ -126,6 +138,30 @@ fn replace_if_of(arguments: [&str; 3]) -> Option<Command>
         key: number_of(key)?,
         expected: number_of(expected)?,
         value: number_of(value)?,
+    }))
+}
+
+fn insert_new_of(arguments: [&str; 3]) -> Option<Command>
+    ensures { IsCommandOf (codes "insert_new" ∷ texts arguments.entry) result }
+{
+    let [key, value, ""] = arguments else {
+        return None;
+    };
+    Some(Command::Map(Request::InsertNew {
+        key: number_of(key)?,
+        value: number_of(value)?,
+    }))
+}
+
+fn delete_if_of(arguments: [&str; 3]) -> Option<Command>
+    ensures { IsCommandOf (codes "delete_if" ∷ texts arguments.entry) result }
+{
+    let [key, expected, ""] = arguments else {
+        return None;
+    };
+    Some(Command::Map(Request::DeleteIf {
+        key: number_of(key)?,
+        expected: number_of(expected)?,
     }))
 }
 
@@ -291,6 +327,7 @@ impl CommandText {
                 CommandText::of_numbers(alloc, "delete", [Some(key.into()), None, None])
             }
             Request::PopFirst => CommandText::of_numbers(alloc, "pop_first", [None, None, None]),
+            Request::PopLast => CommandText::of_numbers(alloc, "pop_last", [None, None, None]),
             Request::ReplaceIf {
                 key,
                 expected,
@@ -299,6 +336,14 @@ impl CommandText {
                 alloc,
                 "replace_if",
                 [Some(key.into()), Some(expected), Some(value)],
+            ),
+            Request::InsertNew { key, value } => {
+                CommandText::of_numbers(alloc, "insert_new", [Some(key.into()), Some(value), None])
+            }
+            Request::DeleteIf { key, expected } => CommandText::of_numbers(
+                alloc,
+                "delete_if",
+                [Some(key.into()), Some(expected), None],
             ),
             Request::Get { key } => {
                 CommandText::of_numbers(alloc, "get", [Some(key.into()), None, None])

@@ -4,7 +4,8 @@ ghost use Rattle.edits.specs.Steps.{update_left};
 
 use crate::put::PutAt;
 use crate::rule::{
-    AtKey, AtLeast, EditGoal, EditRule, PutNewRule, PutRule, SwapRule, TakeIfRule, TakeRule,
+    AtGreatest, AtKey, AtLeast, EditGoal, EditRule, PutNewRule, PutRule, SwapRule, TakeIfRule,
+    TakeRule,
 };
 use crate::take::TakeAt;
 use arena::{NodeNo, Share, Side};
@@ -49,6 +50,17 @@ pub fn pop_first() -> KeyEdit<AtLeast, TakeRule>
 {
     KeyEdit {
         goal: AtLeast,
+        rule: TakeRule,
+    }
+}
+
+/// Takes the pair with the greatest key away, if there is one.
+#[inline(always)]
+pub fn pop_last() -> KeyEdit<AtGreatest, TakeRule>
+    ensures { result ≡ record { goal = record {}; rule = record {} } }
+{
+    KeyEdit {
+        goal: AtGreatest,
         rule: TakeRule,
     }
 }

@@ -1,4 +1,4 @@
-use Rattle.std.proofs.Common.{◌≡◌, Some, ap, refl, sym, subst, ◌∙◌}
+use Rattle.std.proofs.Common.{ap, refl, sym, subst, ◌∙◌}
 use Rattle.std.specs.Option.{option_map}
 use Rattle.regnubas.specs.Dictionary.{IsReading}
 use Rattle.regnubas.specs.OrderedMap.{Get, OneValue}
@@ -29,8 +29,8 @@ returns-clause-found c =
     made.goes_on.later made.goes_on.lawful third.look.0.goes_on.lawful third.look.1.goes_on.lawful
     first.know.0 second.know.1 third.look.1.goes_on.later.run third.know.0
     (third.look.0.takes_nothing.done ∙ second.look.0.takes_nothing.done)
-    (third.look.1.takes_nothing.done ∙ got.says.done ∙ second.look.1.takes_nothing.done)
-    c.args.key c.args.value _ _ made.says got.says)
+    (third.look.1.takes_nothing.done ∙ got.told.done ∙ second.look.1.takes_nothing.done)
+    c.args.key c.args.value _ _ made.told got.told)
 
 pub returns-clause-set : goal.returns-clause-set
 returns-clause-set c = record {
@@ -38,7 +38,7 @@ returns-clause-set c = record {
   ended = c.insert.new.pass;
   from = c.meet.ensures.look.0.goes_on.later;
   told = _;
-  set = c.in_ok-insert.ensures.says;
+  set = c.in_ok-insert.ensures.told;
   to = later_view c.insert.new.pass c.meet-2.new.one c.meet-3.new.one c.meet-2.ensures.look.0.goes_on.later c.meet-3.ensures.look.0.goes_on.later;
 }
 
@@ -47,6 +47,6 @@ returns-clause-read c = record {
   began = c.meet-2.new.other;
   ended = c.get-found.new.pass;
   from = later_view c.args.other.now c.meet.new.other c.meet-2.new.other c.meet.ensures.look.1.goes_on.later c.meet-2.ensures.look.1.goes_on.later;
-  read = subst (λ found. IsReading c.meet-2.new.other c.get-found.new.pass (Get c.args.key) (OneValue found)) (ap (option_map (λ v. v)) (returns-clause-found c)) c.get-found.ensures.says;
+  read = subst (λ found. IsReading c.meet-2.new.other c.get-found.new.pass (Get c.args.key) (OneValue found)) (ap (option_map (λ v. v)) (returns-clause-found c)) c.get-found.ensures.told;
   to = c.meet-3.ensures.look.1.goes_on.later;
 }

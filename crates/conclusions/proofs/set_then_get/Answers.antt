@@ -1,9 +1,9 @@
-use Rattle.std.proofs.Common.{◌≡◌, Some, ap, refl, sym, subst, ◌∙◌}
+use Rattle.std.proofs.Common.{ap, refl, sym, subst, ◌∙◌}
 use Rattle.std.specs.Option.{option_map}
 use Rattle.regnubas.specs.Dictionary.{IsReading}
 use Rattle.regnubas.specs.OrderedMap.{Get, OneValue}
 use Rattle.regnubas.specs.Types.{Layout}
-use Rattle.conclusions.proofs.Together.{is_pass, later_view, one_pass, same_value, same_view}
+use Rattle.conclusions.proofs.Together.{is_pass, one_pass, same_value, same_view}
 use Rattle.conclusions.proofs.set_then_get.Goals as goal
 
 pub returns-clause-found : goal.returns-clause-found
@@ -16,7 +16,7 @@ returns-clause-found c =
     (ap (λ (x : Layout). x.mode) (sym made.pass.1) ∙ made.tree)
     c.args.pass.now c.insert.new.pass c.get.new.pass made.pass.1 got.pass.1
     (is_pass lay c.args.pass.now c.insert.new.pass _ made.goes_on.later.number c.requires.of.1 c.number.ensures.is c.number.ensures.inside)
-    made.goes_on.later got.goes_on.later made.goes_on.lawful got.goes_on.lawful c.args.key c.args.value _ _ made.says got.says)
+    made.goes_on.later got.goes_on.later made.goes_on.lawful got.goes_on.lawful c.args.key c.args.value _ _ made.told got.told)
 
 pub returns-clause-set : goal.returns-clause-set
 returns-clause-set c = record {
@@ -24,7 +24,7 @@ returns-clause-set c = record {
   ended = c.insert.new.pass;
   from = same_view c.args.pass.now;
   told = _;
-  set = c.in_ok-insert.ensures.says;
+  set = c.in_ok-insert.ensures.told;
   to = c.get.ensures.goes_on.later;
 }
 
@@ -33,6 +33,6 @@ returns-clause-read c = record {
   began = c.insert.new.pass;
   ended = c.get.new.pass;
   from = c.in_ok-insert.ensures.goes_on.later;
-  read = subst (λ found. IsReading c.insert.new.pass c.get.new.pass (Get c.args.key) (OneValue found)) (ap (option_map (λ v. v)) (returns-clause-found c)) c.get.ensures.says;
+  read = subst (λ found. IsReading c.insert.new.pass c.get.new.pass (Get c.args.key) (OneValue found)) (ap (option_map (λ v. v)) (returns-clause-found c)) c.get.ensures.told;
   to = same_view c.get.new.pass;
 }

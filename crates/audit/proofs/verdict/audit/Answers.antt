@@ -5,7 +5,7 @@ use Rattle.audit.proofs.verdict.audit.Goals as goal
 pub loop-at-init : goal.loop-at-init
 loop-at-init c =
     let run = c.in-Ok.ensures in
-    record { at = run.at; same = run.«record»; after = search rules; map = search rules; remembered = search rules }
+    record { at = run.at; same = run.«record»; remembers = search rules }
 
 pub finish-requires-clause-all : goal.finish-requires-clause-all
 finish-requires-clause-all c =
@@ -29,7 +29,7 @@ returns-in-Err-line-clause-fault c = λ row e.
     let at = c.at-in-Err-line.ensures row (err_same _ _ _ refl e) in
     let from = at.0 in
     let to = at.1 in
-    fault_behind c.loop-at.run c.args.«record».now c.loop-at.at row inv.same inv.at inv.after (omega (arith, first, from)) (omega (arith, more, many, first, to)) (omega (arith, first, to))
+    fault_behind c.loop-at.run c.args.«record».now c.loop-at.at row inv.same inv.at inv.remembers.after (omega (arith, first, from)) (omega (arith, more, many, first, to)) (omega (arith, first, to))
 
 pub returns-in-Err-finish-clause-fault : goal.returns-in-Err-finish-clause-fault
 returns-in-Err-finish-clause-fault c = λ row e.
@@ -41,4 +41,4 @@ returns-in-Err-finish-clause-fault c = λ row e.
     let at = c.at-in-Err-finish.ensures row (err_same _ _ _ refl e) in
     let from = at.0 in
     let to = at.1 in
-    fault_behind c.loop-at.run c.args.«record».now c.loop-at.at row inv.same inv.at inv.after (omega (arith, first, from)) (omega (arith, many, first, to)) (omega (arith, over, end, many, first, to))
+    fault_behind c.loop-at.run c.args.«record».now c.loop-at.at row inv.same inv.at inv.remembers.after (omega (arith, first, from)) (omega (arith, many, first, to)) (omega (arith, over, end, many, first, to))

@@ -1,12 +1,10 @@
 use Rattle.std.proofs.Common.{◌≡◌}
-use Rattle.audit.specs.After.{lines_of, IsAfter, IsMapAfter, AreRememberedAfter}
+use Rattle.audit.specs.After.{lines_of, Remembers}
 use Rattle.audit.proofs.verdict.audit.Given as goal
 
 abbrev pub invariant-loop-at : goal.invariant-loop-at
 invariant-loop-at l = record {
   at : l.run.at ≡ l.at;
   same : l.run.record.now ≡ l.«record»;
-  after : IsAfter l.run (lines_of l.run);
-  map : IsMapAfter l.run (lines_of l.run);
-  remembered : AreRememberedAfter l.run (lines_of l.run);
+  remembers : Remembers l.run (lines_of l.run);
 }

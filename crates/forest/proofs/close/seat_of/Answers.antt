@@ -1,9 +1,12 @@
-use Rattle.std.proofs.Common.{◌++◌}
+use Rattle.std.proofs.Common.{◌++◌, rules}
 use Rattle.forest.specs.TableRule.{seated_pass, history_of}
 use Rattle.forest.specs.Traces.{known_of}
 use Rattle.forest.proofs.Moves.{look_lawful}
 use Rattle.forest.proofs.Closes.{looked_from}
 use Rattle.forest.proofs.close.seat_of.Goals as goal
+
+pub make-requires-clause-place : goal.make-requires-clause-place
+make-requires-clause-place g c = record { is_word = search rules; is_place = search rules; inside = search rules; apart = search rules }
 
 pub make-requires-clause-may : goal.make-requires-clause-may
 make-requires-clause-may g c = let p = c.pass.inside in

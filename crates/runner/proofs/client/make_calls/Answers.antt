@@ -1,5 +1,5 @@
 use Rattle.std.proofs.Common.{◌≡◌, ◌∙◌, true, false, sym, ap, eqb}
-use Rattle.runner.specs.Calls.{HasCalled}
+use Rattle.runner.specs.Calls.{HasCalledNumbers}
 use Rattle.runner.proofs.Chains.{replies_next, replies_skip}
 use Rattle.runner.proofs.client.make_calls.Goals.{then-eq+in_ok-push, else-eq}
 use Rattle.runner.proofs.client.make_calls.Goals as goal
@@ -14,15 +14,15 @@ loop-call-preserved g c =
           let call = w.make_call-back.ensures in
           let same : eqb client c.args.pass.number ≡ true = sym number ∙ w.if-eq.true in
           rw (w.pass-is, w.replies-is, w.in_ok-push.ensures.items) record {
-            of_forest = (call.later.table ∙ inv.of_forest.0, call.later.layout ∙ inv.of_forest.1);
-            number = call.later.number ∙ inv.number;
-            replies = replies_next (HasCalled c.args.forest.now.tries) c.args.calls.now c.loop-call.call-index c.call-item.result c.args.pass.number c.loop-call-test.true c.call-item.is c.args.pass c.loop-call.pass c.loop-call.replies.items inv.replies same w.make_call-back.result.0 _ w.make_call-back.result.1 w.request_of-request.ensures.call call;
+            of_forest = call.pass;
+            number = call.goes_on.later.number ∙ inv.number;
+            replies = replies_next (HasCalledNumbers c.args.forest.now) c.args.calls.now c.loop-call.call-index c.call-item.result c.args.pass.number c.loop-call-test.true c.call-item.is c.args.pass c.loop-call.pass c.loop-call.replies.items inv.replies same w.make_call-back.result.0 _ w.make_call-back.result.1 w.request_of-request.ensures.call call;
           }
       | else-eq w ↦
           let other : eqb client c.args.pass.number ≡ false = sym number ∙ w.if-eq.false in
           rw (w.pass-is, w.replies-is) record {
             of_forest = inv.of_forest;
             number = inv.number;
-            replies = replies_skip (HasCalled c.args.forest.now.tries) c.args.calls.now c.loop-call.call-index c.call-item.result c.args.pass.number c.loop-call-test.true c.call-item.is c.args.pass c.loop-call.pass c.loop-call.replies.items inv.replies other;
+            replies = replies_skip (HasCalledNumbers c.args.forest.now) c.args.calls.now c.loop-call.call-index c.call-item.result c.args.pass.number c.loop-call-test.true c.call-item.is c.args.pass c.loop-call.pass c.loop-call.replies.items inv.replies other;
           }
     ]

@@ -1,9 +1,9 @@
-use Rattle.std.proofs.Common.{◌≡◌, ◌+◌, ◌<◌, List, ◌∷◌, length, reverse, take, vec_len, refl, sym, subst, arith}
+use Rattle.std.proofs.Common.{◌≡◌, ◌+◌, ◌<◌, ◌∷◌, length, reverse, take, vec_len, refl, sym, subst, arith}
 use Rattle.std.specs.Prelude.{slice_index_or}
 use Rattle.std.proofs.lemmas.Option.{slice_get_read}
 use Rattle.record.specs.declared.record.Line.{Line}
 use Rattle.audit.specs.declared.run.Run.{Run}
-use Rattle.audit.specs.After.{IsAfter, IsMapAfter, AreRememberedAfter, lines_of}
+use Rattle.audit.specs.After.{Remembers, lines_of}
 use Rattle.audit.proofs.Fitting.{line_counted}
 use Rattle.audit.proofs.run.Run.line.Goals as goal
 
@@ -13,17 +13,8 @@ one_more old new line same at less is =
     let lines = old.record.now.lines in
     sym (line_counted old new line same at (slice_get_read lines.items (length lines.items) old.at line refl (omega (arith, less, lines.ok.0)) is))
 
-pub returns-clause-after : goal.returns-clause-after
-returns-clause-after c =
+pub returns-clause-remembers : goal.returns-clause-remembers
+returns-clause-remembers c =
     let next = c.in_ok-next_line.ensures in
-    subst (λ (l : List Line). IsAfter c.next_line.new.self l) (one_more c.args.self.now c.next_line.new.self c.index-line.result.now next.record next.at c.requires.more c.index-line.ensures) next.after
-
-pub returns-clause-map : goal.returns-clause-map
-returns-clause-map c =
-    let next = c.in_ok-next_line.ensures in
-    subst (λ (l : List Line). IsMapAfter c.next_line.new.self l) (one_more c.args.self.now c.next_line.new.self c.index-line.result.now next.record next.at c.requires.more c.index-line.ensures) next.map
-
-pub returns-clause-remembered : goal.returns-clause-remembered
-returns-clause-remembered c =
-    let next = c.in_ok-next_line.ensures in
-    subst (λ (l : List Line). AreRememberedAfter c.next_line.new.self l) (one_more c.args.self.now c.next_line.new.self c.index-line.result.now next.record next.at c.requires.more c.index-line.ensures) next.remembered
+    let kept = subst (Remembers c.next_line.new.self) (one_more c.args.self.now c.next_line.new.self c.index-line.result.now next.record next.at c.requires.more c.index-line.ensures) next.remembers in
+    record { after = kept.after; map = kept.map; remembered = kept.remembered }

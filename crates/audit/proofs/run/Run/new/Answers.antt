@@ -3,14 +3,12 @@ use Rattle.audit.proofs.FirstLines.{after_start}
 use Rattle.audit.proofs.MapLines.{map_start}
 use Rattle.audit.proofs.run.Run.new.Goals as goal
 
-pub returns-clause-after : goal.returns-clause-after
-returns-clause-after c = after_start _ _ _ _ _ c.in_ok-new.ensures.layout c.in_ok-new.ensures.start c.in_ok-clients.ensures.all c.in_ok-clients.ensures.clients
-
-pub returns-clause-map : goal.returns-clause-map
-returns-clause-map c =
+pub returns-clause-remembers : goal.returns-clause-remembers
+returns-clause-remembers c =
     let script = c.args.judged.now.script in
     let begun = c.in_ok-vec.ensures.items_if_clones_equal (λ y p. search (rules, p)) in
-    map_start script.layout script.limits.tries script.calls.items c.in_ok-vec.field-0.items c.in_ok-new-2.field-0 c.all_scx.result script.of_mode begun c.in_ok-new-2.ensures.none
-
-pub returns-clause-remembered : goal.returns-clause-remembered
-returns-clause-remembered c = c.in_ok-new.ensures.remembered _
+    record {
+      after = after_start _ _ _ _ _ c.in_ok-new.ensures.layout c.in_ok-new.ensures.start c.in_ok-clients.ensures.all c.in_ok-clients.ensures.clients;
+      map = map_start script.layout script.limits.tries script.calls.items c.in_ok-vec.field-0.items c.in_ok-new-2.field-0 c.all_scx.result script.of_mode begun c.in_ok-new-2.ensures.none;
+      remembered = c.in_ok-new.ensures.remembered _;
+    }

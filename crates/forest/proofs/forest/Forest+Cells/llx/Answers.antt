@@ -2,7 +2,7 @@ use Rattle.std.proofs.Common.{◌≡◌, ◌≤◌, ◌∙◌, arith, ℕ, true,
 use Rattle.arena.specs.Log.{is_final}
 use Rattle.forest.specs.Passes.{PassView, seen_of, taken_of}
 use Rattle.forest.specs.PassInvariant.{pass_view, IsPass}
-use Rattle.forest.proofs.Passes.{HasCalled, layout_of, call_of}
+use Rattle.forest.proofs.Passes.{HasOnlyLoaded, layout_of, call_of}
 use Rattle.forest.proofs.LlxCalls.{Answered, heard, llx_begins, llx_called, llx_goes_on, llx_kinds, llx_nothing, llx_says, llx_finalized, llx_pass}
 use Rattle.arena.specs.declared.limits.Mode.TheVariants.{Records}
 use Rattle.prims.specs.Cells.{AllowsAll}
@@ -31,7 +31,7 @@ ends c = let p = c.pass.inside in let x = c.pass.invariant in
     c.call-answer.ensures.ends (call_of p x (called p)) (layout_of c.pass.view_is c.self.view_is c.requires.pass, ap taken_of c.pass.view_is ∙ sym c.taken-number.ensures) (begins p x c.args.node c.requires.cell)
 
 -- what the call leaves
-ended : (c : goal.After-note) → HasCalled AllowsAll c.pass.inside c.call-answer.new.seat (called c.pass.inside) (Answered c.pass.inside c.pass.invariant (called c.pass.inside) c.args.node c.call-answer.result)
+ended : (c : goal.After-note) → HasOnlyLoaded AllowsAll c.pass.inside c.call-answer.new.seat (called c.pass.inside) (Answered c.pass.inside c.pass.invariant (called c.pass.inside) c.args.node c.call-answer.result)
 ended c = let p = c.pass.inside in let x = c.pass.invariant in
     let y = ends c in
     llx_called p x (called p) c.call-answer.new.seat (llx_at c.args.node LlxStart) y.0 c.args.node c.call-answer.result refl y.1
@@ -39,8 +39,14 @@ ended c = let p = c.pass.inside in let x = c.pass.invariant in
 pub invariant_of-pass : goal.invariant_of-pass
 invariant_of-pass c = llx_pass c.pass.inside c.pass.invariant _ c.call-answer.new.seat c.args.node c.call-answer.result _ c.note.ensures c.call-answer.ensures.table.1 (ended c)
 
-pub returns-clause-goes_on : goal.returns-clause-goes_on
-returns-clause-goes_on c = rw (← c.pass.view_is) (llx_goes_on c.pass.inside c.pass.invariant _ c.call-answer.new.seat c.args.node c.call-answer.result c.note.new.self 64 64 c.note.ensures c.call-answer.ensures.table.0 c.call-answer.ensures.table.1 (ended c) c.call-answer.ensures.steps (omega arith))
+pub returns-clause-called : goal.returns-clause-called
+returns-clause-called c =
+    let of = rw (← c.pass.view_is) at c.requires.pass in
+    record {
+      pass = (c.call-answer.ensures.table.0 ∙ of.0, of.1);
+      cells = c.pass.invariant.is_mode;
+      goes_on = rw (← c.pass.view_is) (llx_goes_on c.pass.inside c.pass.invariant _ c.call-answer.new.seat c.args.node c.call-answer.result c.note.new.self 64 64 c.note.ensures c.call-answer.ensures.table.0 c.call-answer.ensures.table.1 (ended c) c.call-answer.ensures.steps (omega arith));
+    }
 
 pub returns-clause-takes_nothing : goal.returns-clause-takes_nothing
 returns-clause-takes_nothing c = rw (← c.pass.view_is) (llx_nothing c.pass.inside c.pass.invariant _ c.call-answer.new.seat c.args.node c.call-answer.result c.note.new.self (ended c))

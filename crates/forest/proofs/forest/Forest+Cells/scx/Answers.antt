@@ -72,12 +72,22 @@ pub invariant_of-pass-2 : goal.invariant_of-pass-2
 invariant_of-pass-2 c = let some = c.in-Ok.ensures.some in
     rw c.in-Ok.ensures.left (put_pass c.pass.inside c.pass.invariant some.0 some.1 c.args.snaps.now c.args.finalize.now (c.args.field.0.0, c.args.field.1) c.args.value _ c.call.new.seat c.call.result c.call.ensures.table.1 (ended c))
 
-pub returns-clause-goes_on : goal.returns-clause-goes_on
-returns-clause-goes_on c = let some = c.in-Ok.ensures.some in
-    rw (← c.pass.view_is, c.in-Ok.ensures.left) (put_goes_on c.pass.inside c.pass.invariant some.0 some.1 c.args.snaps.now c.args.finalize.now (c.args.field.0.0, c.args.field.1) c.args.value _ c.call.new.seat c.call.result 40 40 c.call.ensures.table.0 c.call.ensures.table.1 (ended c) c.call.ensures.steps (omega arith))
+pub returns-clause-called : goal.returns-clause-called
+returns-clause-called c =
+    let some = c.in-Ok.ensures.some in
+    let of = rw (← c.pass.view_is) at c.requires.pass in
+    record {
+      pass = (c.call.ensures.table.0 ∙ of.0, of.1);
+      cells = c.pass.invariant.is_mode;
+      goes_on = rw (← c.pass.view_is, c.in-Ok.ensures.left) (put_goes_on c.pass.inside c.pass.invariant some.0 some.1 c.args.snaps.now c.args.finalize.now (c.args.field.0.0, c.args.field.1) c.args.value _ c.call.new.seat c.call.result 40 40 c.call.ensures.table.0 c.call.ensures.table.1 (ended c) c.call.ensures.steps (omega arith));
+    }
 
-pub returns-in-Err-clause-goes_on : goal.returns-in-Err-clause-goes_on
-returns-in-Err-clause-goes_on c = rw (← c.pass.view_is, c.in-Err.ensures.full.1) (goes_nowhere c.pass.inside c.pass.invariant _ 40)
+pub returns-in-Err-clause-called : goal.returns-in-Err-clause-called
+returns-in-Err-clause-called c = record {
+  pass = rw (← c.pass.view_is) at c.requires.pass;
+  cells = c.pass.invariant.is_mode;
+  goes_on = rw (← c.pass.view_is, c.in-Err.ensures.full.1) (goes_nowhere c.pass.inside c.pass.invariant _ 40);
+}
 
 pub returns-clause-says : goal.returns-clause-says
 returns-clause-says c = let some = c.in-Ok.ensures.some in

@@ -7,7 +7,7 @@ use Rattle.forest.specs.PassInvariant.{pass_view}
 use Rattle.forest.specs.StepKinds.{HasLoadedInfosAlone}
 use Rattle.forest.specs.StraightVlx.{SeatVlxBegins}
 use Rattle.forest.specs.declared.pass.Pass.TheInside.{Inside}
-use Rattle.forest.proofs.Passes.{HasCalled, layout_of, call_of, seated, called_pass, called_goes_on, called_nothing}
+use Rattle.forest.proofs.Passes.{HasOnlyLoaded, layout_of, call_of, seated, called_pass, called_goes_on, called_nothing}
 use Rattle.forest.proofs.VlxCalls.{Looked, vlx_begins, vlx_called, vlx_kinds, vlx_says}
 use Rattle.forest.proofs.forest.Forest+Cells.vlx.Goals as goal
 
@@ -27,15 +27,21 @@ pub call-requires-clause-begins : goal.call-requires-clause-begins
 call-requires-clause-begins c = (call_of c.pass.inside c.pass.invariant (called c.pass.inside), (layout_of c.pass.view_is c.self.view_is c.requires.pass, ap taken_of c.pass.view_is ∙ sym c.taken-number.ensures), begins c)
 
 -- what the call leaves
-ended : (c : goal.After-call) → HasCalled AllowsAll c.pass.inside c.call.new.seat (called c.pass.inside) (Looked list c.pass.inside c.pass.invariant (called c.pass.inside) c.args.snaps c.call.result)
+ended : (c : goal.After-call) → HasOnlyLoaded AllowsAll c.pass.inside c.call.new.seat (called c.pass.inside) (Looked list c.pass.inside c.pass.invariant (called c.pass.inside) c.args.snaps c.call.result)
 ended c = let p = c.pass.inside in let x = c.pass.invariant in
     vlx_called list p x (called p) c.call.new.seat c.args.snaps c.call.result (c.call.ensures.ends (call_of p x (called p)) (layout_of c.pass.view_is c.self.view_is c.requires.pass, ap taken_of c.pass.view_is ∙ sym c.taken-number.ensures) (begins c.before))
 
 pub invariant_of-pass : goal.invariant_of-pass
 invariant_of-pass c = called_pass c.pass.inside c.pass.invariant c.call.new.seat _ _ c.call.ensures.table.1 (ended c)
 
-pub returns-clause-goes_on : goal.returns-clause-goes_on
-returns-clause-goes_on c = rw (← c.pass.view_is) (called_goes_on c.pass.inside c.pass.invariant c.call.new.seat _ _ _ _ c.call.ensures.table.0 c.call.ensures.table.1 (ended c) c.call.ensures.steps (omega arith))
+pub returns-clause-called : goal.returns-clause-called
+returns-clause-called c =
+    let of = rw (← c.pass.view_is) at c.requires.pass in
+    record {
+      pass = (c.call.ensures.table.0 ∙ of.0, of.1);
+      cells = c.pass.invariant.is_mode;
+      goes_on = rw (← c.pass.view_is) (called_goes_on c.pass.inside c.pass.invariant c.call.new.seat _ _ _ _ c.call.ensures.table.0 c.call.ensures.table.1 (ended c) c.call.ensures.steps (omega arith));
+    }
 
 pub returns-clause-takes_nothing : goal.returns-clause-takes_nothing
 returns-clause-takes_nothing c = rw (← c.pass.view_is) (called_nothing c.pass.inside c.call.new.seat _ _ (ended c))
