@@ -54,7 +54,8 @@ static bool story(bool by_all) {
     for (uint64_t k = 0; k < 90; k++) CHECK(regnubas_insert(&passes[0], 2 * k, {k, ~k}).status == REGNUBAS_NONE);
     CHECK(regnubas_insert(&passes[1], 1, {4, 4}).status == REGNUBAS_NONE);
     CHECK(regnubas_replace_if(&passes[1], 1, {4, 4}, {5, 6}).value.high == 4);
-    CHECK(regnubas_delete(&passes[1], 1).value.high == 6);
+    CHECK(regnubas_insert_new(&passes[1], 1, {7, 7}).value.high == 6);
+    CHECK(regnubas_delete_if(&passes[1], 1, {5, 6}).value.high == 6);
     for (uint64_t k = 0; k < 90; k += 9) CHECK(regnubas_get(&passes[1], 2 * k).value.high == ~k);
     for (uint64_t k = 0; k < 90; k += 9) {
         regnubas_pair pair = {7, {7, 7}};

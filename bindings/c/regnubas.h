@@ -93,15 +93,25 @@ regnubas_answer regnubas_get(regnubas_pass *pass, uint64_t key);
 regnubas_answer regnubas_insert(regnubas_pass *pass, uint64_t key, regnubas_value value);
 regnubas_answer regnubas_delete(regnubas_pass *pass, uint64_t key);
 
+/* Sets a key to a value if it has none. NONE: it has it now; SOME with the value that the key has:
+ * nothing has changed. CONTENDED, FULL: nothing has changed. */
+regnubas_answer regnubas_insert_new(regnubas_pass *pass, uint64_t key, regnubas_value value);
+
+/* Takes a key away where it has the expected value. SOME with the value that the key had just
+ * before: it was taken away where that is the one expected; NONE: the key had no value. CONTENDED,
+ * FULL: nothing has changed. */
+regnubas_answer regnubas_delete_if(regnubas_pass *pass, uint64_t key, regnubas_value expected);
+
 /* Sets a key to a value where it has the expected one. SOME with the value that the key had just
  * before: it was replaced where that is the one expected; NONE: the key had no value. CONTENDED,
  * FULL: nothing has changed. */
 regnubas_answer regnubas_replace_if(regnubas_pass *pass, uint64_t key, regnubas_value expected,
                                     regnubas_value value);
 
-/* Takes the pair with the least key away. SOME: it is at `pair`; NONE: there was none. CONTENDED,
- * FULL: nothing has changed. */
+/* Takes the pair with the least key away; that with the greatest. SOME: it is at `pair`; NONE:
+ * there was none. CONTENDED, FULL: nothing has changed. */
 uint32_t regnubas_pop_first(regnubas_pass *pass, regnubas_pair *pair);
+uint32_t regnubas_pop_last(regnubas_pass *pass, regnubas_pair *pair);
 
 /* SOME: the pair with the least key above this one is at `pair`; NONE: there is none. CONTENDED,
  * NO_MEMORY. */

@@ -1,6 +1,7 @@
 // Four threads on one dictionary, through the header: each sets keys of its own, reads another's and
-// takes a third of its own away, and all count in one key; four empty a queue. Before that each
-// status is met. `threads N` does so N times. Values have bits in both their words.
+// takes a third of its own away, and all count in one key; each key that all four set if it is new
+// has one of them as its setter; two empty a queue from its front and two from its back. Before that
+// each status is met. `threads N` does so N times. Values have bits in both their words.
 #include "regnubas.h"
 
 #include <algorithm>
@@ -81,14 +82,26 @@ void count_up(regnubas_pass *pass) {
     }
 }
 
-void pop_all(regnubas_pass *pass, std::vector<uint64_t> &taken) {
+void pop_all(regnubas_pass *pass, bool last, std::vector<uint64_t> &taken) {
     for (;;) {
         regnubas_pair pair = {};
-        uint32_t status = again([&] { return regnubas_pop_first(pass, &pair); });
+        uint32_t status = again([&] { return last ? regnubas_pop_last(pass, &pair) : regnubas_pop_first(pass, &pair); });
         if (status == REGNUBAS_NONE) return;
-        CHECK(status == REGNUBAS_SOME && has(pair, pair.key, value_of(pair.key)) && (taken.empty() || taken.back() < pair.key));
+        CHECK(status == REGNUBAS_SOME && has(pair, pair.key, value_of(pair.key)));
+        CHECK(taken.empty() || (last ? pair.key < taken.back() : taken.back() < pair.key));
         taken.push_back(pair.key);
     }
+}
+
+// How many of the keys this thread has set first.
+uint64_t win_keys(regnubas_pass *pass, uint64_t number) {
+    uint64_t won = 0;
+    for (uint64_t key = 0; key < KEYS; key++) {
+        regnubas_answer answer = again([&] { return regnubas_insert_new(pass, key, {number, ~key}); });
+        CHECK(answer.status == REGNUBAS_NONE || (answer.status == REGNUBAS_SOME && answer.value.high == ~key));
+        won += answer.status == REGNUBAS_NONE;
+    }
+    return won;
 }
 
 // Each thread works with a pass of its own.
@@ -149,7 +162,7 @@ void queue() {
     CHECK(regnubas_make({32768, 32768, 1}, passes, THREADS) == REGNUBAS_NONE);
     for (uint64_t i = 0; i < KEYS; i++) // in an order that makes a tree and not a list
         CHECK(is(regnubas_insert(&passes[i % THREADS], i * 1009 % KEYS, value_of(i * 1009 % KEYS)), REGNUBAS_NONE, ZERO));
-    in_threads(passes, [&taken](regnubas_pass *pass, uint64_t number) { pop_all(pass, taken[number]); });
+    in_threads(passes, [&taken](regnubas_pass *pass, uint64_t number) { pop_all(pass, number % 2, taken[number]); });
     CHECK(close_all(passes).empty());
     for (std::vector<uint64_t> &keys : taken) all.insert(all.end(), keys.begin(), keys.end());
     std::sort(all.begin(), all.end());
@@ -157,14 +170,27 @@ void queue() {
     for (uint64_t i = 0; i < KEYS; i++) CHECK(all[i] == i);
 }
 
+void one_setter_a_key() {
+    regnubas_pass passes[THREADS] = {};
+    uint64_t won[THREADS] = {}, held[THREADS] = {};
+    CHECK(regnubas_make({32768, 32768, 1}, passes, THREADS) == REGNUBAS_NONE);
+    in_threads(passes, [&won](regnubas_pass *pass, uint64_t number) { won[number] = win_keys(pass, number); });
+    for (uint64_t key = 0; key < KEYS; key++) held[regnubas_get(&passes[0], key).value.low]++;
+    for (uint64_t t = 0; t < THREADS; t++) CHECK(won[t] == held[t]);
+    CHECK(close_all(passes).size() == KEYS);
+}
+
 void refusals() {
     regnubas_pass none = {};
     regnubas_pair pair = {1, {2, 3}};
     CHECK(is(regnubas_get(&none, 1), REGNUBAS_NO_PASS, ZERO));
     CHECK(is(regnubas_insert(&none, 1, {1, 1}), REGNUBAS_NO_PASS, ZERO));
+    CHECK(is(regnubas_insert_new(&none, 1, {1, 1}), REGNUBAS_NO_PASS, ZERO));
     CHECK(is(regnubas_delete(&none, 1), REGNUBAS_NO_PASS, ZERO));
+    CHECK(is(regnubas_delete_if(&none, 1, {1, 1}), REGNUBAS_NO_PASS, ZERO));
     CHECK(is(regnubas_replace_if(&none, 1, {1, 1}, {1, 1}), REGNUBAS_NO_PASS, ZERO));
     CHECK(regnubas_pop_first(&none, &pair) == REGNUBAS_NO_PASS);
+    CHECK(regnubas_pop_last(&none, &pair) == REGNUBAS_NO_PASS);
     CHECK(regnubas_successor(&none, 1, &pair) == REGNUBAS_NO_PASS);
     CHECK(is(regnubas_range(&none, 1, 1, &pair, 1), REGNUBAS_NO_PASS, 0));
     CHECK(is(regnubas_close(&none, &pair, 1), REGNUBAS_NO_PASS, 0));
@@ -194,7 +220,13 @@ void shares() {
     CHECK(is(regnubas_replace_if(&passes[0], 0, {6, 1}, {7, 0}), REGNUBAS_SOME, {6, 0})); // nothing to change
     CHECK(is(regnubas_replace_if(&passes[0], 0, {0, 6}, {7, 0}), REGNUBAS_SOME, {6, 0}));
     CHECK(is(regnubas_replace_if(&passes[0], 1, {5, 0}, {7, 0}), REGNUBAS_NONE, ZERO));
+    CHECK(is(regnubas_insert_new(&passes[0], 3, {6, 0}), REGNUBAS_FULL, ZERO));
+    CHECK(is(regnubas_insert_new(&passes[0], 0, {7, 0}), REGNUBAS_SOME, {6, 0})); // nothing to change
+    CHECK(is(regnubas_delete_if(&passes[0], 0, {6, 0}), REGNUBAS_FULL, ZERO));
+    CHECK(is(regnubas_delete_if(&passes[0], 0, {6, 1}), REGNUBAS_SOME, {6, 0})); // nothing to change
+    CHECK(is(regnubas_delete_if(&passes[0], 1, {6, 0}), REGNUBAS_NONE, ZERO));
     CHECK(regnubas_pop_first(&passes[0], &pair) == REGNUBAS_FULL);
+    CHECK(regnubas_pop_last(&passes[0], &pair) == REGNUBAS_FULL);
     CHECK(is(regnubas_get(&passes[1], UINT64_MAX), REGNUBAS_SOME, {5, UINT64_MAX}));
     regnubas_share share = regnubas_left(&passes[0]);
     CHECK(share.scx == 0);
@@ -235,6 +267,11 @@ void both_words() {
     CHECK(is(regnubas_replace_if(&pass, 5, one, two), REGNUBAS_SOME, one));
     CHECK(is(regnubas_insert(&pass, 5, one), REGNUBAS_SOME, two));
     CHECK(is(regnubas_delete(&pass, 5), REGNUBAS_SOME, one));
+    CHECK(is(regnubas_insert_new(&pass, 5, two), REGNUBAS_NONE, ZERO));
+    CHECK(is(regnubas_insert_new(&pass, 5, one), REGNUBAS_SOME, two));
+    CHECK(is(regnubas_delete_if(&pass, 5, {UINT64_MAX, UINT64_MAX}), REGNUBAS_SOME, two));
+    CHECK(is(regnubas_delete_if(&pass, 5, two), REGNUBAS_SOME, two));
+    CHECK(is(regnubas_delete_if(&pass, 5, two), REGNUBAS_NONE, ZERO));
     regnubas_pair pair = {};
     CHECK(is(regnubas_close(&pass, &pair, 1), REGNUBAS_SOME, 0));
 }
@@ -249,6 +286,7 @@ int main(int argc, char **argv) {
     for (int rounds = argc > 1 ? std::atoi(argv[1]) : 1; rounds > 0; rounds--) {
         keys_and_counter(close_all);
         keys_and_counter(end_all);
+        one_setter_a_key();
         queue();
     }
     std::puts("ok");

@@ -141,9 +141,22 @@ public:
     result<std::optional<value>> try_insert(key k, value v) { return value_of(regnubas_insert(&raw_, k, raw_of(v))); }
     std::optional<value> insert(key k, value v) { return try_insert(k, v).get(); }
 
+    // Sets a key if it has no value; the value that it has otherwise.
+    result<std::optional<value>> try_insert_new(key k, value v) {
+        return value_of(regnubas_insert_new(&raw_, k, raw_of(v)));
+    }
+    std::optional<value> insert_new(key k, value v) { return try_insert_new(k, v).get(); }
+
     // Takes a key away; the value that it had.
     result<std::optional<value>> try_erase(key k) { return value_of(regnubas_delete(&raw_, k)); }
     std::optional<value> erase(key k) { return try_erase(k).get(); }
+
+    // Takes a key away where it has the expected value; the value that it had: it was taken away
+    // where that is the expected one.
+    result<std::optional<value>> try_erase_if(key k, value expected) {
+        return value_of(regnubas_delete_if(&raw_, k, raw_of(expected)));
+    }
+    std::optional<value> erase_if(key k, value expected) { return try_erase_if(k, expected).get(); }
 
     // Sets a key where it has the expected value; the value that it had: it was set where that is the
     // expected one.
@@ -158,6 +171,13 @@ public:
         return pair_of(regnubas_pop_first(&raw_, &found), found);
     }
     std::optional<pair> pop_first() { return try_pop_first().get(); }
+
+    // Takes the pair with the greatest key away.
+    result<std::optional<pair>> try_pop_last() {
+        regnubas_pair found = {};
+        return pair_of(regnubas_pop_last(&raw_, &found), found);
+    }
+    std::optional<pair> pop_last() { return try_pop_last().get(); }
 
     // The pair with the least key above this one.
     result<std::optional<pair>> try_successor(key k) {

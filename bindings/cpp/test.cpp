@@ -36,10 +36,13 @@ void each_call_answers() {
     CHECK(other.get(5) == value(51, 7) && other.contains(5) && !other.contains(6) && !other.get(6));
     CHECK(other.replace_if(5, 50, 52) == value(51, 7) && one.replace_if(5, {51, 7}, 52) == value(51, 7));
     CHECK(!one.replace_if(6, 0, 1) && one.get(5) == value(52));
-    CHECK(!one.insert(9, 90) && one.successor(5)->first == 9 && !one.successor(9));
+    CHECK(!one.insert_new(9, 90) && one.insert_new(9, 91) == value(90));
+    CHECK(one.successor(5)->first == 9 && !one.successor(9));
     CHECK((one.range(0, 9) == std::vector<regnubas::pair>{{5, 52}, {9, 90}}) && one.range(0, 9, 1).size() == 1);
     CHECK(one.range(9, 0).empty());
-    CHECK(one.pop_first()->first == 5 && one.erase(9) == value(90) && !one.erase(9) && !one.pop_first());
+    CHECK(one.erase_if(9, 91) == value(90) && one.erase_if(9, 90) == value(90) && !one.erase_if(9, 90));
+    CHECK(!one.insert(9, 90) && one.pop_last()->first == 9 && !one.insert(9, 90));
+    CHECK(one.pop_first()->first == 5 && one.erase(9) == value(90) && !one.erase(9) && !one.pop_first() && !one.pop_last());
     CHECK(one.left().nodes < LIMITS.nodes && other.left().scx == LIMITS.scx); // the other has only read
 }
 

@@ -81,9 +81,12 @@ def _load():
         ("make", c_uint32, [_Limits, one, c_size_t]),
         ("get", _Answer, [one, word]),
         ("insert", _Answer, [one, word, _Value]),
+        ("insert_new", _Answer, [one, word, _Value]),
         ("delete", _Answer, [one, word]),
+        ("delete_if", _Answer, [one, word, _Value]),
         ("replace_if", _Answer, [one, word, _Value, _Value]),
         ("pop_first", c_uint32, [one, room]),
+        ("pop_last", c_uint32, [one, room]),
         ("successor", c_uint32, [one, word, room]),
         ("range", _Count, [one, word, word, room, c_size_t]),
         ("left", _Share, [one]),
@@ -145,9 +148,18 @@ class Pass:
         """Sets a key to a value, and tells the value that the key had just before, or None."""
         return _told(self._call(_library.regnubas_insert, _word(key), _value(value)))
 
+    def insert_new(self, key, value):
+        """Sets a key to a value if it has none: None; otherwise tells the value that it has."""
+        return _told(self._call(_library.regnubas_insert_new, _word(key), _value(value)))
+
     def delete(self, key):
         """Takes a key away, and tells the value that it had, or None."""
         return _told(self._call(_library.regnubas_delete, _word(key)))
+
+    def delete_if(self, key, expected):
+        """Takes a key away where it has the expected value, and tells the value that it had just
+        before: it was taken away where that is the one expected."""
+        return _told(self._call(_library.regnubas_delete_if, _word(key), _value(expected)))
 
     def replace_if(self, key, expected, value):
         """Sets a key to a value where it has the expected one, and tells the value that it had just
@@ -163,6 +175,10 @@ class Pass:
     def pop_first(self):
         """Takes the pair with the least key away: it, or None."""
         return self._found(_library.regnubas_pop_first)
+
+    def pop_last(self):
+        """Takes the pair with the greatest key away: it, or None."""
+        return self._found(_library.regnubas_pop_last)
 
     def successor(self, key):
         """The pair with the least key above this one, or None."""

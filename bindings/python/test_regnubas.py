@@ -35,7 +35,11 @@ def work(number, one, failures):
             assert again(one.replace_if, key, WIDEST, value_of(key)) == WIDEST
             assert one.get(key) == value_of(key)
         for key in range(number, KEYS * THREADS, THREADS * 3):
-            assert again(one.delete, key) == value_of(key)
+            assert again(one.insert_new, key, 0) == value_of(key)
+            assert again(one.delete_if, key, 0) == value_of(key)
+            assert again(one.delete_if, key, value_of(key)) == value_of(key)
+            assert again(one.insert_new, key, 0) is None
+            assert again(one.delete, key) == 0
             assert one.get(key) is None
             found = again(one.successor, key)
             assert found is None or found[0] > key
@@ -60,14 +64,15 @@ def four_threads_and_a_close():
         refused(regnubas.NoPass, one.get, 1)
     left = [(k, value_of(k)) for k in range(THREADS * KEYS) if (k // THREADS) % 3 != 0]
     assert passes[0].pop_first() == left[0]
-    assert passes[0].close() == left[1:]
+    assert passes[0].pop_last() == left[-1]
+    assert passes[0].close() == left[1:-1]
 
 
 def what_is_refused():
     refused(regnubas.BadLimits, regnubas.make, 33, nodes=1, scx=1, tries=1)
     refused(OverflowError, regnubas.make, 1, nodes=2**32, scx=1, tries=1)
     [one] = regnubas.make(1, nodes=3, scx=1, tries=1)
-    assert one.pop_first() is None and one.left() == (3, 1)
+    assert one.pop_first() is None and one.pop_last() is None and one.left() == (3, 1)
     refused(OverflowError, one.insert, 2**64, 1)
     for value in 2**128, -1:
         refused(OverflowError, one.insert, 1, value)

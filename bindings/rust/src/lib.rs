@@ -94,9 +94,12 @@ extern "C" {
     fn regnubas_make(each: Limits, passes: *mut RawPass, count: usize) -> u32;
     fn regnubas_get(pass: *mut RawPass, key: u64) -> Answer;
     fn regnubas_insert(pass: *mut RawPass, key: u64, value: Value) -> Answer;
+    fn regnubas_insert_new(pass: *mut RawPass, key: u64, value: Value) -> Answer;
     fn regnubas_delete(pass: *mut RawPass, key: u64) -> Answer;
+    fn regnubas_delete_if(pass: *mut RawPass, key: u64, expected: Value) -> Answer;
     fn regnubas_replace_if(pass: *mut RawPass, key: u64, expected: Value, value: Value) -> Answer;
     fn regnubas_pop_first(pass: *mut RawPass, pair: *mut Pair) -> u32;
+    fn regnubas_pop_last(pass: *mut RawPass, pair: *mut Pair) -> u32;
     fn regnubas_successor(pass: *mut RawPass, key: u64, pair: *mut Pair) -> u32;
     fn regnubas_range(pass: *mut RawPass, low: u64, high: u64, pairs: *mut Pair, count: usize) -> Count;
     fn regnubas_left(pass: *mut RawPass) -> Share;
@@ -200,6 +203,17 @@ impl Pass {
         told(unsafe { regnubas_insert(&mut self.raw, key, Value::of(value)) })
     }
 
+    /// Sets a key to a value if it has none, and tells the value that it has otherwise.
+    pub fn insert_new(&mut self, key: u64, value: u128) -> Result<Option<u128>, Fault> {
+        told(unsafe { regnubas_insert_new(&mut self.raw, key, Value::of(value)) })
+    }
+
+    /// Takes a key away where it has the expected value, and tells the value that it had just
+    /// before: it was taken away where that is the one expected.
+    pub fn delete_if(&mut self, key: u64, expected: u128) -> Result<Option<u128>, Fault> {
+        told(unsafe { regnubas_delete_if(&mut self.raw, key, Value::of(expected)) })
+    }
+
     /// Takes a key away, and tells the value that it had.
     pub fn delete(&mut self, key: u64) -> Result<Option<u128>, Fault> {
         told(unsafe { regnubas_delete(&mut self.raw, key) })
@@ -215,6 +229,13 @@ impl Pass {
     pub fn pop_first(&mut self) -> Result<Option<(u64, u128)>, Fault> {
         let mut pair = Pair::default();
         let taken = tells(unsafe { regnubas_pop_first(&mut self.raw, &mut pair) })?;
+        Ok(taken.then(|| pair.told()))
+    }
+
+    /// Takes the pair with the greatest key away.
+    pub fn pop_last(&mut self) -> Result<Option<(u64, u128)>, Fault> {
+        let mut pair = Pair::default();
+        let taken = tells(unsafe { regnubas_pop_last(&mut self.raw, &mut pair) })?;
         Ok(taken.then(|| pair.told()))
     }
 

@@ -32,7 +32,11 @@ fn work(number: u64, mut pass: Pass) -> Pass {
     }
     for i in (0..KEYS).step_by(3) {
         let key = key_of(number, i);
-        assert_eq!(again(|| pass.delete(key)), Ok(Some(value_of(key))));
+        assert_eq!(again(|| pass.insert_new(key, 0)), Ok(Some(value_of(key))));
+        assert_eq!(again(|| pass.delete_if(key, 0)), Ok(Some(value_of(key))));
+        assert_eq!(again(|| pass.delete_if(key, value_of(key))), Ok(Some(value_of(key))));
+        assert_eq!(again(|| pass.insert_new(key, 0)), Ok(None));
+        assert_eq!(again(|| pass.delete(key)), Ok(Some(0)));
         assert_eq!(pass.get(key), None);
         if let Some((next, _)) = again(|| pass.successor(key)).unwrap() {
             assert!(next > key);
@@ -54,9 +58,11 @@ fn four_threads_and_a_close() {
     drop(passes);
     let least = key_of(0, 1);
     assert_eq!(last.pop_first(), Ok(Some((least, value_of(least)))));
-    let Ok(pairs) = last.close() else { panic!("not closed") };
     let keys: Vec<u64> = (0..KEYS).filter(|i| i % 3 != 0).flat_map(|i| (0..THREADS).map(move |t| key_of(t, i))).collect();
-    assert_eq!(pairs, keys[1..].iter().map(|&key| (key, value_of(key))).collect::<Vec<_>>());
+    let greatest = keys[keys.len() - 1];
+    assert_eq!(last.pop_last(), Ok(Some((greatest, value_of(greatest)))));
+    let Ok(pairs) = last.close() else { panic!("not closed") };
+    assert_eq!(pairs, keys[1..keys.len() - 1].iter().map(|&key| (key, value_of(key))).collect::<Vec<_>>());
 }
 
 #[test]
@@ -64,7 +70,7 @@ fn what_is_refused() {
     assert_eq!(make(0, Limits { nodes: 1, scx: 1, tries: 1 }).err(), Some(Fault::Limits));
     assert_eq!(make(33, Limits { nodes: 1, scx: 1, tries: 1 }).err(), Some(Fault::Limits));
     let mut passes = make(1, Limits { nodes: 3, scx: 1, tries: 1 }).unwrap();
-    assert_eq!(passes[0].pop_first(), Ok(None));
+    assert_eq!((passes[0].pop_first(), passes[0].pop_last()), (Ok(None), Ok(None)));
     assert_eq!(passes[0].insert(5, 50), Ok(None));
     assert_eq!(passes[0].delete(5), Err(Fault::Full));
 }

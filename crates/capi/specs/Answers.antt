@@ -6,7 +6,7 @@ use Rattle.std.specs.Option.{option_map}
 use Rattle.arena.specs.Limits.{IsAccepted}
 use Rattle.arena.specs.declared.limits.Limits.{Limits}
 use Rattle.ordered_map.specs.Holding.{wide_value}
-use Rattle.ordered_map.specs.OrderedMap.{MapCall, call_pop_first, Get, Successor, Range}
+use Rattle.ordered_map.specs.OrderedMap.{MapCall, Get, Successor, Range}
 use Rattle.ordered_map.specs.declared.reply.Reply.{Reply}
 use Rattle.ordered_map.specs.declared.reply.Reply.TheVariants as replies
 use Rattle.forest.specs.declared.fault.OrderFault.{OrderFault}
@@ -108,9 +108,9 @@ GetSays key old new a = (told : Option ℕ) × IsValueAnswer told a × HasClient
 abbrev pub EditSays : MapCall → Client → Client → Answer → Type 0
 EditSays call old new a = (told : Result (Option ℕ) UpdateFault) × IsUpdateAnswer told a × HasClientCalled old new call (update_reply replies.Value told)
 
--- what `pop_first` says, which leaves the pair that it has taken in this room
-abbrev pub TakenSays : Pair → Client → Client → ℕ → Type 0
-TakenSays room old new status = (told : Result (Option (ℕ × ℕ)) UpdateFault) × IsFoundAnswer update_status told room status × HasClientCalled old new call_pop_first (update_reply replies.Pair told)
+-- what a pop says, which leaves the pair that it has taken in this room
+abbrev pub TakenSays : MapCall → Pair → Client → Client → ℕ → Type 0
+TakenSays call room old new status = (told : Result (Option (ℕ × ℕ)) UpdateFault) × IsFoundAnswer update_status told room status × HasClientCalled old new call (update_reply replies.Pair told)
 
 -- what `successor` says
 abbrev pub NextSays : ℕ → Pair → Client → Client → ℕ → Type 0

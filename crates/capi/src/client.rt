@@ -1,7 +1,7 @@
 //! What a handle leads to: a pass of a dictionary, and a part in its forest.
 ghost use Rattle.std.specs.Prelude.{◌≡◌, ◌≤◌, IfOk, length, min, vec_len};
 ghost use Rattle.std.specs.Arc.{arc_value};
-ghost use Rattle.ordered_map.specs.OrderedMap.{call_insert, call_delete, call_pop_first, call_replace_if, Get, Successor, Range};
+ghost use Rattle.ordered_map.specs.OrderedMap.{call_insert, call_insert_new, call_delete, call_delete_if, call_pop_first, call_pop_last, call_replace_if, Get, Successor, Range};
 ghost use Rattle.ordered_map.specs.declared.reply.Reply.TheVariants as replies;
 ghost use Rattle.forest.specs.Passes.{IsOf};
 ghost use Rattle.forest.specs.Dictionary.{read_reply, update_reply};
@@ -45,6 +45,15 @@ impl Client {
         self.forest.insert(&mut self.pass, key, value)
     }
 
+    /// Sets a key to a value if it has none.
+    pub fn insert_new(&mut self, key: u64, value: u128) -> Result<Option<u128>, UpdateFault>
+        ensures same { self.new.forest ≡ self.old.forest }
+        ensures called { HasClientCalled self.old self.new (call_insert_new key value)
+            (update_reply replies.Value result) }
+    {
+        self.forest.insert_new(&mut self.pass, key, value)
+    }
+
     /// Takes a key away.
     pub fn delete(&mut self, key: u64) -> Result<Option<u128>, UpdateFault>
         ensures same { self.new.forest ≡ self.old.forest }
@@ -54,6 +63,15 @@ impl Client {
         self.forest.delete(&mut self.pass, &key)
     }
 
+    /// Takes a key away where it has the expected value.
+    pub fn delete_if(&mut self, key: u64, expected: u128) -> Result<Option<u128>, UpdateFault>
+        ensures same { self.new.forest ≡ self.old.forest }
+        ensures called { HasClientCalled self.old self.new (call_delete_if key expected)
+            (update_reply replies.Value result) }
+    {
+        self.forest.delete_if(&mut self.pass, &key, &expected)
+    }
+
     /// Takes the pair with the least key away.
     pub fn pop_first(&mut self) -> Result<Option<(u64, u128)>, UpdateFault>
         ensures same { self.new.forest ≡ self.old.forest }
@@ -61,6 +79,15 @@ impl Client {
             (update_reply replies.Pair result) }
     {
         self.forest.pop_first(&mut self.pass)
+    }
+
+    /// Takes the pair with the greatest key away.
+    pub fn pop_last(&mut self) -> Result<Option<(u64, u128)>, UpdateFault>
+        ensures same { self.new.forest ≡ self.old.forest }
+        ensures called { HasClientCalled self.old self.new call_pop_last
+            (update_reply replies.Pair result) }
+    {
+        self.forest.pop_last(&mut self.pass)
     }
 
     /// Sets a key to a value where it has the expected one.

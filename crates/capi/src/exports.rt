@@ -11,7 +11,7 @@
 //!    from a signal handler, or in the child of a fork of a process with threads.
 //! 5. The passes that `regnubas_end` is given are of one dictionary (`AreOfOne`).
 ghost use Rattle.std.specs.Prelude.{◌≡◌, None, length, min};
-ghost use Rattle.ordered_map.specs.OrderedMap.{call_insert, call_delete, call_replace_if};
+ghost use Rattle.ordered_map.specs.OrderedMap.{call_insert, call_insert_new, call_delete, call_delete_if, call_pop_first, call_pop_last, call_replace_if};
 ghost use Rattle.capi.specs.Ends.{AreOfOne, EndSays, held_in};
 ghost use Rattle.capi.specs.Answers.{number, bare, no_count, CallSays, GetSays, EditSays, TakenSays, NextSays, BetweenSays, LeftSays, CloseSays, MakeSays};
 
@@ -76,6 +76,24 @@ pub extern "C" fn regnubas_insert(alloc: Global, pass: &mut Place, key: u64, val
     answer
 }
 
+/// Sets a key to a value if it has none, and tells the value that it has otherwise.
+#[unsafe(no_mangle)]
+pub extern "C" fn regnubas_insert_new(
+    alloc: Global,
+    pass: &mut Place,
+    key: u64,
+    value: Value,
+) -> Answer
+    ensures { CallSays (bare 6) (EditSays (call_insert_new key (number value))) pass.old.handle.value pass.new.handle.value result }
+{
+    let Some(mut client) = pass.handle.take(alloc) else {
+        return Answer::bare(NO_PASS);
+    };
+    let answer = Answer::of_update(client.insert_new(key, value.number()));
+    pass.handle.put(client);
+    answer
+}
+
 /// Takes a key away, and tells the value that it had.
 #[unsafe(no_mangle)]
 pub extern "C" fn regnubas_delete(alloc: Global, pass: &mut Place, key: u64) -> Answer
@@ -89,15 +107,49 @@ pub extern "C" fn regnubas_delete(alloc: Global, pass: &mut Place, key: u64) -> 
     answer
 }
 
+/// Takes a key away where it has the expected value, and tells the value that it had.
+#[unsafe(no_mangle)]
+pub extern "C" fn regnubas_delete_if(
+    alloc: Global,
+    pass: &mut Place,
+    key: u64,
+    expected: Value,
+) -> Answer
+    ensures { CallSays (bare 6) (EditSays (call_delete_if key (number expected))) pass.old.handle.value pass.new.handle.value result }
+{
+    let Some(mut client) = pass.handle.take(alloc) else {
+        return Answer::bare(NO_PASS);
+    };
+    let answer = Answer::of_update(client.delete_if(key, expected.number()));
+    pass.handle.put(client);
+    answer
+}
+
 /// Takes the pair with the least key away, and leaves it at `pair`.
 #[unsafe(no_mangle)]
 pub extern "C" fn regnubas_pop_first(alloc: Global, pass: &mut Place, pair: &mut Pair) -> u32
-    ensures { CallSays 6 (TakenSays pair.new) pass.old.handle.value pass.new.handle.value result }
+    ensures { CallSays 6 (TakenSays call_pop_first pair.new) pass.old.handle.value pass.new.handle.value result }
 {
     let Some(mut client) = pass.handle.take(alloc) else {
         return NO_PASS;
     };
     let status = match client.pop_first() {
+        Ok(taken) => tell_pair(taken, pair),
+        Err(fault) => status_of_edit(fault),
+    };
+    pass.handle.put(client);
+    status
+}
+
+/// Takes the pair with the greatest key away, and leaves it at `pair`.
+#[unsafe(no_mangle)]
+pub extern "C" fn regnubas_pop_last(alloc: Global, pass: &mut Place, pair: &mut Pair) -> u32
+    ensures { CallSays 6 (TakenSays call_pop_last pair.new) pass.old.handle.value pass.new.handle.value result }
+{
+    let Some(mut client) = pass.handle.take(alloc) else {
+        return NO_PASS;
+    };
+    let status = match client.pop_last() {
         Ok(taken) => tell_pair(taken, pair),
         Err(fault) => status_of_edit(fault),
     };

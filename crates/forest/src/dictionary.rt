@@ -2,7 +2,7 @@
 ghost use Rattle.std.specs.Prelude.{◌≡◌, ◌≤◌, ◌↔◌, Err, IfOk, OnOk};
 ghost use Rattle.arena.specs.Limits.{IsAccepted, IsLayoutOf};
 ghost use Rattle.arena.specs.declared.limits.Mode.TheVariants.{Tree};
-ghost use Rattle.ordered_map.specs.OrderedMap.{Get, Range, Successor, call_insert, call_delete, call_pop_first, call_replace_if};
+ghost use Rattle.ordered_map.specs.OrderedMap.{Get, Range, Successor, call_insert, call_insert_new, call_delete, call_delete_if, call_pop_first, call_pop_last, call_replace_if};
 ghost use Rattle.dict.specs.Calls.{IsSmallCall, edit_call};
 ghost use Rattle.ordered_map.specs.CallRules.{IsFormOfValue, IsFormOfPair, form_of};
 ghost use Rattle.ordered_map.specs.Requests.{AsksForFew, as_map_call};
@@ -22,7 +22,10 @@ use dict::{Dict, DictRun, Reply, Request, WordKey, WordValue, number_of, value_o
 use std::alloc::Global;
 use std::mem::replace;
 use template::Goal;
-use tree::{EditGoal, EditRule, KeyEdit, delete, insert, pop_first, replace_if};
+use tree::{
+    EditGoal, EditRule, KeyEdit, delete, delete_if, insert, insert_new, pop_first, pop_last,
+    replace_if,
+};
 
 /// What the caller of an edit of a key gets of its reply.
 #[inline(always)]
@@ -103,6 +106,26 @@ impl<K: WordKey, V: WordValue> Forest<Dict<K, V>> {
         self.edit_at_key(pass, insert(key, value))
     }
 
+    /// Sets a key to a value if it has none, and tells the value that it has otherwise: then the map
+    /// is as it was. It takes at most three nodes and an SCX-record of the pass's share in a try, and
+    /// no memory.
+    pub fn insert_new(
+        &self,
+        pass: &mut Pass<Dict<K, V>>,
+        key: K,
+        value: V,
+    ) -> Result<Option<V>, UpdateFault>
+        requires pass { IsOf self.now pass.old }
+        ensures { HasCalled K.is_valid K.word_of V.is_valid V.word_of self.now
+            pass.old pass.new (call_insert_new (K.word_of key) (V.word_of value))
+            (update_reply Reply.Value result) }
+    {
+        key.valid();
+        value.valid();
+        let (key, value) = (key.word(), number_of(&value));
+        self.edit_at_key(pass, insert_new(key, value))
+    }
+
     /// Takes a key away, and tells the value that it had just before. It takes at most a node and
     /// an SCX-record of the pass's share in a try, and no memory.
     pub fn delete(&self, pass: &mut Pass<Dict<K, V>>, key: &K) -> Result<Option<V>, UpdateFault>
@@ -115,6 +138,25 @@ impl<K: WordKey, V: WordValue> Forest<Dict<K, V>> {
         self.edit_at_key(pass, delete(key))
     }
 
+    /// Takes a key away that has the expected value, and tells the value that the key had just
+    /// before: the map is changed where that is the one expected. It takes at most a node and an
+    /// SCX-record of the pass's share in a try, and no memory.
+    pub fn delete_if(
+        &self,
+        pass: &mut Pass<Dict<K, V>>,
+        key: &K,
+        expected: &V,
+    ) -> Result<Option<V>, UpdateFault>
+        requires pass { IsOf self.now pass.old }
+        ensures { HasCalled K.is_valid K.word_of V.is_valid V.word_of self.now
+            pass.old pass.new (call_delete_if (K.word_of key.now) (V.word_of expected.now))
+            (update_reply Reply.Value result) }
+    {
+        key.valid();
+        let (key, expected) = (key.word(), number_of(expected));
+        self.edit_at_key(pass, delete_if(key, expected))
+    }
+
     /// Takes the pair with the least key away, if there is one, and tells it. It takes at most a node
     /// and an SCX-record of the pass's share in a try, and no memory.
     pub fn pop_first(&self, pass: &mut Pass<Dict<K, V>>) -> Result<Option<(K, V)>, UpdateFault>
@@ -123,6 +165,16 @@ impl<K: WordKey, V: WordValue> Forest<Dict<K, V>> {
             pass.old pass.new call_pop_first (update_reply Reply.Pair result) }
     {
         told_pair(self.edit(pass, pop_first()))
+    }
+
+    /// Takes the pair with the greatest key away, if there is one, and tells it. It takes at most a
+    /// node and an SCX-record of the pass's share in a try, and no memory.
+    pub fn pop_last(&self, pass: &mut Pass<Dict<K, V>>) -> Result<Option<(K, V)>, UpdateFault>
+        requires pass { IsOf self.now pass.old }
+        ensures { HasCalled K.is_valid K.word_of V.is_valid V.word_of self.now
+            pass.old pass.new call_pop_last (update_reply Reply.Pair result) }
+    {
+        told_pair(self.edit(pass, pop_last()))
     }
 
     /// Puts a value at a key that has the expected one, and tells the value that the key had just
