@@ -1,5 +1,6 @@
 //! What a schedule leaves behind.
 use arena::PassNo;
+use moments::edited;
 use ordered_map::Request;
 use record::{Entry, Line, Record};
 use report::answer_text;
@@ -59,22 +60,16 @@ fn command_of(calls: &[Call], entry: &Entry) -> Option<Command> {
 
 /// Edits the pairs as a command does that has an entry.
 fn edit(pairs: &mut Vec<(u64, u128)>, command: Command) -> Result<(), AllocError> {
-    match command {
-        Command::Map(Request::Insert { key, value }) => put(pairs, key, value)?,
-        Command::Map(Request::ReplaceIf { key, value, .. }) => put(pairs, key, value)?,
-        Command::Map(Request::Delete { key }) => pairs.retain(|pair| pair.0 != key),
-        Command::Map(Request::PopFirst) => {
-            let first = pairs.first().copied();
-            pairs.retain(|pair| Some(*pair) != first);
-        }
-        _ => {}
-    }
-    Ok(())
-}
-
-/// Gives a key a value.
-fn put(pairs: &mut Vec<(u64, u128)>, key: u64, value: u128) -> Result<(), AllocError> {
+    let end = match command {
+        Command::Map(Request::PopLast) => pairs.last(),
+        _ => pairs.first(),
+    };
+    let Some((key, value)) = edited(command, end.map(|pair| pair.0)) else {
+        return Ok(());
+    };
     pairs.retain(|pair| pair.0 != key);
-    pairs.push((key, value))?;
+    if let Some(value) = value {
+        pairs.push((key, value))?;
+    }
     pairs.sort()
 }

@@ -13,7 +13,8 @@ edited_key _ = None
 abbrev pub changed_key : Command → Option ℕ
 changed_key command = edited_key (map_call (Some command))
 
--- the edit that an entry of this call makes, where `least` is the least key of the map, if it has one
+-- the edit that an entry of this call makes, where `at_end` is the key at its end of the
+-- map, if that has one
 abbrev pub entered_edit : Option MapCall → Option ℕ → Option MapEdit
-entered_edit (Some (Edit goal rule)) least = option_map (λ key. edit_to key (leaves rule)) (goal_key goal least)
-entered_edit _ least = None
+entered_edit (Some (Edit goal rule)) at_end = option_map (λ key. edit_to key (leaves rule)) (goal_key goal at_end)
+entered_edit _ at_end = None

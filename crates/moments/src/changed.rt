@@ -17,14 +17,14 @@ pub(crate) fn changed_key(command: Command) -> Option<u64>
 }
 
 /// The key that an entry of a command changes, and what it leaves there, if it is an edit, where
-/// this is the least key of the map, if it has one.
-pub fn edited(command: Command, least: Option<u64>) -> Option<(u64, Option<u128>)>
-    ensures edits { (e : MapEdit) → entered_edit (map_call (Some command)) least ≡ Some e → result ≡ Some (edit_key e, value_left e) }
-    ensures key { IfSome result (λ r. (changed_key command ≡ Some r.0) ⊎ (least ≡ Some r.0)) }
+/// this is the key at its end of the map, if that has one.
+pub fn edited(command: Command, at_end: Option<u64>) -> Option<(u64, Option<u128>)>
+    ensures edits { (e : MapEdit) → entered_edit (map_call (Some command)) at_end ≡ Some e → result ≡ Some (edit_key e, value_left e) }
+    ensures key { IfSome result (λ r. (changed_key command ≡ Some r.0) ⊎ (at_end ≡ Some r.0)) }
 {
     let Command::Map(request) = command else {
         return None;
     };
     let (goal, rule) = request.edit()?;
-    Some((goal.key(least)?, rule.leaves()))
+    Some((goal.key(at_end)?, rule.leaves()))
 }

@@ -1,8 +1,7 @@
 -- What is shown of each call of the map by itself, with an arm for each: which edit it has made, how
 -- many steps it makes, where it took place, and what its answers say. The other proofs of this crate
 -- speak of any call.
-use Rattle.std.proofs.Common.{◌≡◌, ℕ, ◌+◌, ◌*◌, ◌<◌, ◌≤◌, ◌⊎◌, inl, inr, Bool, true, false, cond, eq-eqb, is_some, ◌↔◌, List, [], ◌∷◌, Option, Some, None, refl, sym, ◌∙◌, ap, subst, arith}
-use Rattle.std.proofs.Math.Nat.{mul-le-mul, mul-le-mul_left}
+use Rattle.std.proofs.Common.{◌≡◌, ℕ, ◌+◌, ◌<◌, ◌⊎◌, inl, inr, Bool, true, false, cond, eq-eqb, is_some, ◌↔◌, List, [], ◌∷◌, Option, Some, None, refl, sym, ◌∙◌, ap, subst, arith}
 use Rattle.std.specs.Option.{option_map}
 use Rattle.arena.specs.declared.fault.Full.{Full as FullOf}
 use Rattle.arena.specs.declared.layout.Layout.{Layout}
@@ -13,7 +12,7 @@ use Rattle.arena.specs.Machines.{Call as MachineCall}
 use Rattle.arena.specs.Share.{Remaining}
 use Rattle.arena.proofs.Lemmas.{ends_trans}
 use Rattle.histories.proofs.Lemmas.{entry_of}
-use Rattle.ordered_map.specs.CallRules.{IsFormOfEdit, MayReply, form_of, most_steps, need, steps_behind}
+use Rattle.ordered_map.specs.CallRules.{IsFormOfEdit, MayReply, form_of, need}
 use Rattle.ordered_map.specs.OrderedMap.{MapCall, MapEdit, MapReply, OneValue, OnePair, ManyPairs, Edit, Insert, Delete, Get, Successor, Range, applies, changes_map, edit_key, edit_of, edit_to, end_pair, get, leaves, pair_or_none, reply}
 use Rattle.ordered_map.specs.declared.rule.Goal.{Goal}
 use Rattle.ordered_map.specs.declared.rule.Goal.TheVariants.{Key, End}
@@ -54,7 +53,6 @@ use Rattle.moments.specs.Ordered.{IsOrderedRead}
 use Rattle.player.specs.declared.client.Client.{Client}
 use Rattle.player.specs.ClientView.{ClientView, machine_call}
 use Rattle.player.specs.Moments.{IsAnswerMoment, IsOrderedMoment, IsReadMoment, IsReadingMoment, IsWonOrRead}
-use Rattle.player.specs.TurnsMore.{most_of_all}
 use Rattle.player.proofs.Keys.{some_edit}
 use Rattle.player.proofs.Left.{short_left}
 
@@ -97,24 +95,6 @@ entry_makes lay before s (Range low high most) edit map spells gives makes = abs
 pub few_pairs : (request : Request ℕ ℕ) → AsksForFew request → IsFewCall (map_request request)
 few_pairs (RangeOf low high most) few = few
 few_pairs request few = tt
-
--- no call makes more steps than any may
-module _ (lay : Layout) (tries taken : ℕ) (few : taken ≤ lay.passes * lay.nodes) where
-  -- of those of one try, where they are not more than so many
-  in_tries : (steps : ℕ) → steps ≤ 4422 * (2 + lay.passes * lay.nodes) + 328 → tries * steps ≤ most_of_all lay tries
-  in_tries steps less = let more : tries * steps ≤ tries * (4422 * (2 + lay.passes * lay.nodes) + 328) = mul-le-mul_left tries less in omega (arith, more)
-
-  edit_steps : (left : Option ℕ) → tries * (3 * (2 + taken) + steps_behind left) ≤ most_of_all lay tries
-  edit_steps None = in_tries (3 * (2 + taken) + 328) (omega (arith, few))
-  edit_steps (Some v) = in_tries (3 * (2 + taken) + 207) (omega (arith, few))
-
-  pub few_steps : (call : MapCall) → IsFewCall call → most_steps call tries taken ≤ most_of_all lay tries
-  few_steps (Edit goal rule) asks = edit_steps (leaves rule)
-  few_steps (Get key) asks = omega (arith, few)
-  few_steps (Successor key) asks = in_tries (137 * (2 + taken)) (omega (arith, few))
-  few_steps (Range low high most) asks =
-      let deep : (most + 2) * (67 * (2 + taken)) ≤ 66 * (67 * (2 + lay.passes * lay.nodes)) = mul-le-mul (omega (arith, asks)) (omega (arith, few)) in
-      in_tries ((most + 2) * (67 * (2 + taken))) (omega (arith, deep))
 
 -- Where a call took place
 

@@ -25,7 +25,7 @@ mod Commands
 mod MayMakes
 mod Snapshots
 mod Winners
-mod Plays
-mod TurnsMore
+mod Played
+mod Followed
 mod SameKinds
 pub mod Lemmas

@@ -14,7 +14,7 @@ use Rattle.ordered_map.specs.Runs.{IsTreeRun}
 use Rattle.script.specs.declared.call.Call.{Call}
 use Rattle.script.specs.declared.command.Command.{Command}
 use Rattle.script.specs.declared.command.Command.TheVariants.{Llx as LlxOf, Scx as ScxOf, Vlx as VlxOf, Set as SetOf, Map}
-use Rattle.script.specs.Commands.{AsksForFewPairs, mode_of}
+use Rattle.script.specs.Commands.{mode_of}
 use Rattle.record.specs.Commands.{commands}
 use Rattle.record.specs.MapRecord.{map_call}
 use Rattle.record.proofs.Lemmas.{AreMapCalls}
@@ -39,16 +39,6 @@ command_mode mode (call ∷ calls) c n command all e = go (λ i d. command_mode 
     go : ((i : ℕ) → slice_get (commands calls c) i ≡ Some command → mode_of command ≡ mode) → (b : Bool) (n : ℕ) → slice_get (cond b (call.command ∷ commands calls c) (commands calls c)) n ≡ Some command → mode_of command ≡ mode
     go more false n d = more n d
     go more true zero d = let same : call.command ≡ command = cc in rw (sym same) first
-    go more true (suc n) d = more n d
-
--- each command of a client asks for few pairs, as its call does
-pub command_few : (calls : List Call) (c n : ℕ) (command : Command) → slice_get (commands calls c) n ≡ Some command → AsksForFewPairs command
-command_few [] c n command e = cc
-command_few (call ∷ calls) c n command e = go (λ i d. command_few calls c i command d) (eqb call.client.0 c) n e
-  where
-    go : ((i : ℕ) → slice_get (commands calls c) i ≡ Some command → AsksForFewPairs command) → (b : Bool) (n : ℕ) → slice_get (cond b (call.command ∷ commands calls c) (commands calls c)) n ≡ Some command → AsksForFewPairs command
-    go more false n d = more n d
-    go more true zero d = let same : call.command ≡ command = cc in rw (sym same) call.few
     go more true (suc n) d = more n d
 
 -- a run without its newest row

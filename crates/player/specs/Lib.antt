@@ -5,7 +5,8 @@ pub mod RunKnown
 pub mod Lines
 pub mod Player
 pub mod Place
-pub mod TurnsMore
+pub mod Plays
+pub mod Followed
 pub mod ClientView
 pub mod Hearing
 pub mod BetweenTurns

@@ -34,7 +34,7 @@ impl Interleaving {
     ghost use Rattle.std.specs.Prelude.{◌≡◌, ℕ, suc, ◌+◌, ◌-◌, ◌<◌, ◌≤◌, ◌^◌, List, ◌∷◌, [], Some, is_some, IfOk, IfSome, OnErr, OnOk, slice_get};
     ghost use Rattle.record.specs.declared.record.Line.{Line};
     ghost use Rattle.record.specs.Commands.{next_command};
-    ghost use Rattle.record.specs.Turns.{answered, entry_owed};
+    ghost use Rattle.record.specs.Turns.{entry_owed};
     ghost use Rattle.ordered_map.specs.OrderedMap.{MapEdit, value_left};
     ghost use Rattle.moments.specs.Places.{changes, room_for_changes, Knows};
     ghost use Rattle.ordered_map.specs.OrderedMap.{edit_key};
@@ -220,14 +220,6 @@ impl Interleaving {
             result ≡ is_some (next_command (self.now.script.calls.items) lines client.0) }
     {
         self.clients[client.0 as usize].has_call()
-    }
-
-    /// How many calls of a client are answered.
-    pub(crate) fn answered(&self, client: PassNo) -> u64
-        requires client { client.0 < self.now.script.layout.passes }
-        ensures { (lines : List Line) → IsBetweenTurns self.now lines → result ≡ answered lines client.0 }
-    {
-        self.clients[client.0 as usize].number()
     }
 
     /// The script.

@@ -9,10 +9,14 @@ mod orders;
 mod place;
 mod player;
 mod player_core;
+mod plays;
 mod run;
+mod turned;
 
 pub use lines::Lines;
-pub use orders::play_by;
+pub use orders::{follow, play_by};
 pub use player::{Player, play};
 pub use player_core::Core;
+pub use plays::Plays;
 pub use record::{Answer, Entry, Finished, Line, Record, Row};
+pub use turned::Turned;

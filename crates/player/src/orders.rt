@@ -1,12 +1,18 @@
-//! A script played by a schedule.
-ghost use Rattle.std.specs.Prelude.{◌≡◌, ◌<◌, All, IfOk, OnOk};
-ghost use Rattle.player.specs.Player.{script_view};
-ghost use Rattle.player.specs.TurnsMore.{AreTurnsWhile};
-ghost use Rattle.record.specs.Schedules.{AsksForMore, IsObeyed, IsOrdered, IsRunOf, ordered_client};
+//! Orders that are followed, whatever plays the script.
+ghost use Rattle.std.specs.Prelude.{◌≡◌, ◌+◌, ◌<◌, ◌≤◌, ◌↔◌, List, All, IfErr, IfOk, IsTrue, OnErr, OnOk, is_some};
 ghost use Rattle.script.specs.Orders.{IsOrder};
-ghost use Rattle.script.specs.declared.schedule.Order.{Order};
+ghost use Rattle.script.specs.declared.call.Call.{Call};
+ghost use Rattle.record.specs.Commands.{next_command};
+ghost use Rattle.record.specs.Schedules.{AreOrdered, IsOrdered, IsRunOf, ordered_client};
+ghost use Rattle.record.specs.declared.record.Line.{Line};
+ghost use Rattle.record.specs.declared.record.Row.{Row};
+ghost use Rattle.player.specs.Followed.{AreFollowedSoFar, HasFollowed, IsFollowedSoFar, MayTurn, counting, wanted_of};
+ghost use Rattle.player.specs.Player.{PlayerView, script_view};
+ghost use Rattle.player.specs.Plays.{TellsTurn};
 
 use crate::player::Player;
+use crate::plays::Plays;
+use crate::turned::Turned;
 use arena::{NoMemory, PassNo};
 use record::Record;
 use script::{Order, Schedule, Script};
@@ -20,9 +26,7 @@ pub fn play_by(alloc: Global, script: &Script, schedule: &Schedule) -> Result<Re
     ensures run { IfOk result (λ r. IsRunOf script.now schedule.now r.lines.items) }
 {
     let mut player = Player::new(alloc, script)?;
-    for order in schedule.orders.iter() {
-        player.obey(*order)?;
-    }
+    follow(&mut player, schedule.orders.as_slice(), &mut ())?;
     Ok(player.record())
 }
 
@@ -32,31 +36,90 @@ impl Player {
         requires { ordered_client order < self.old.script.layout.passes }
         ensures script { self.new.script ≡ self.old.script }
         ensures ordered { OnOk result (IsOrdered self.old.script.calls order self.old.lines self.new.lines) }
+        ensures stopped { OnErr result (IsFollowedSoFar self.old.script.calls order self.old.lines self.new.lines) }
     {
-        match order {
-            Order::Step { client, turns } => make_turns(self, client, turns),
-            Order::Call { client } => self.call(client),
-            Order::Until {
-                client,
-                kind,
-                times,
-            } => self.run_until(client, kind, times),
-            Order::Finish { client } => self.finish(client),
-        }
+        obey(self, order, &mut ())
     }
 }
 
-/// Makes so many turns of a client. Turns that were made before a refusal stay made.
-fn make_turns(player: &mut Player, client: PassNo, turns: u32) -> Result<(), NoMemory>
-    requires { client.0 < player.old.script.layout.passes }
-    ensures turns { AreTurnsWhile (AsksForMore player.old.script.calls (Order.Step client turns) player.old.lines) client.0 player.old player.new }
-    ensures all { OnOk result (IsObeyed player.old.script.calls (Order.Step client turns) player.old.lines player.new.lines) }
+/// Makes the turns that the orders mean, one order after another, up to a fault.
+pub fn follow<To, P: Plays<To>>(
+    player: &mut P,
+    orders: &[Order],
+    to: &mut To,
+) -> Result<(), P::Fault>
+    requires { All (IsOrder (P.passes player.old)) orders.now }
+    ensures followed { (start : To) (p : PlayerView) → P.behind start player.old to.old p →
+        OnOk result (HasFollowed p (AreOrdered p.script.calls orders.now p.lines) (P.behind start player.new to.new)) }
+    ensures stopped { (start : To) (p : PlayerView) → P.behind start player.old to.old p →
+        IfErr result (λ fault. HasFollowed p (AreFollowedSoFar p.script.calls orders.now p.lines) (P.broken start player.new to.new fault)) }
 {
-    for _ in 0..turns {
-        // By `?` the kit's checker has no proof here, since a row holds types of a crate below.
-        if let Err(fault) = player.step(client) {
-            return Err(fault);
-        }
+    for order in orders {
+        obey(player, *order, to)?;
     }
     Ok(())
+}
+
+/// Makes the turns that an order means, up to a fault.
+fn obey<To, P: Plays<To>>(player: &mut P, order: Order, to: &mut To) -> Result<(), P::Fault>
+    requires { ordered_client order < P.passes player.old }
+    ensures passes { P.passes player.new ≡ P.passes player.old }
+    ensures obeyed { (start : To) (p : PlayerView) → P.behind start player.old to.old p →
+        OnOk result (HasFollowed p (IsOrdered p.script.calls order p.lines) (P.behind start player.new to.new)) }
+    ensures stopped { (start : To) (p : PlayerView) → P.behind start player.old to.old p →
+        IfErr result (λ fault. HasFollowed p (IsFollowedSoFar p.script.calls order p.lines) (P.broken start player.new to.new fault)) }
+{
+    let client = client_of(order);
+    let mut left = wanted_by(order);
+    while asks(order, left, player.has_call(client)) {
+        left -= counted(order, player.turn(client, to)?);
+    }
+    Ok(())
+}
+
+/// The client whose turns an order asks for.
+fn client_of(order: Order) -> PassNo
+    ensures { result.0 ≡ ordered_client order }
+{
+    match order {
+        Order::Step { client, .. } => client,
+        Order::Call { client } => client,
+        Order::Until { client, .. } => client,
+        Order::Finish { client } => client,
+    }
+}
+
+/// How much has to come until an order is obeyed: turns, replies or steps of a kind. Where its
+/// client has to have no call left, it is 1, and nothing counts.
+fn wanted_by(order: Order) -> u32
+    ensures { result ≡ wanted_of order }
+{
+    match order {
+        Order::Step { turns, .. } => turns,
+        Order::Until { times, .. } => times,
+        Order::Call { .. } | Order::Finish { .. } => 1,
+    }
+}
+
+/// Whether an order of which so much is left asks for a turn.
+fn asks(order: Order, left: u32, has_call: bool) -> bool
+    ensures some { IsTrue result → 0 < left }
+    ensures asks { (calls : List Call) (lines : List Line) → has_call ≡ is_some (next_command calls lines (ordered_client order)) →
+        IsTrue result ↔ ((0 < left) × MayTurn calls order lines) }
+{
+    left > 0 && (has_call || matches!(order, Order::Step { .. }))
+}
+
+/// How much a turn counts.
+fn counted(order: Order, turned: Turned) -> u32
+    ensures few { result ≤ 1 }
+    ensures more { (p later : PlayerView) (row : Row) → TellsTurn p later (ordered_client order) row turned →
+        counting order later.lines ≡ counting order p.lines + result }
+{
+    match order {
+        Order::Step { .. } => 1,
+        Order::Call { .. } => u32::from(turned.ended),
+        Order::Until { kind, .. } => u32::from(turned.kind == Some(kind)),
+        Order::Finish { .. } => 0,
+    }
 }

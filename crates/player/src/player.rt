@@ -3,9 +3,11 @@ ghost use Rattle.std.specs.Prelude.{◌≡◌, ◌<◌, map, IfOk, All};
 ghost use Rattle.record.specs.LawfulRun.{IsLawfulRun};
 ghost use Rattle.player.specs.Player.{script_view};
 
-use crate::lines::{append, row_of};
+use crate::lines::{Lines, append, row_of};
 use crate::player_core::Core;
-use arena::{Kind, NoMemory, PassNo};
+use crate::plays::Plays;
+use crate::turned::Turned;
+use arena::{NoMemory, PassNo};
 use record::{Line, Record, Row};
 use script::Script;
 use std::alloc::Global;
@@ -35,13 +37,11 @@ impl Model for Player {
 }
 
 impl Player {
-    ghost use Rattle.std.specs.Prelude.{◌≡◌, ◌⊎◌, ℕ, suc, ◌+◌, ◌<◌, ◌≤◌, List, [], is_some, IfOk, OnOk, IfErr, reverse};
-    ghost use Rattle.record.specs.Commands.{next_command};
-    ghost use Rattle.record.specs.OneClient.{HasCall, HasNoCall, AwaitsReply, AwaitsSteps};
-    ghost use Rattle.record.specs.Turns.{clients, answered, made};
+    ghost use Rattle.std.specs.Prelude.{◌≡◌, ℕ, ◌-◌, ◌<◌, ◌^◌, List, [], IfOk, IfErr, reverse};
+    ghost use Rattle.record.specs.Turns.{clients, turns};
     ghost use Rattle.record.specs.LawfulRun.{IsLawfulRun};
     ghost use Rattle.player.specs.Player.{script_view, IsPlayed, IsTurnMore};
-    ghost use Rattle.player.specs.TurnsMore.{AreTurnsWhile};
+    ghost use Rattle.player.specs.Plays.{TellsTurn};
 
     /// A player of a copy of the script, with no turn made. The only error is want of memory.
     pub fn new(alloc: Global, script: &Script) -> Result<Player, NoMemory>
@@ -63,84 +63,24 @@ impl Player {
         ensures refused { IfErr result (λ _. self.new ≡ self.old) }
         ensures lawful { IsPlayed self.new }
     {
+        Ok(self.make(client)?.0)
+    }
+
+    /// The same; answers also what the turn tells.
+    fn make(&mut self, client: PassNo) -> Result<(Row, Turned), NoMemory>
+        requires { client.0 < self.old.script.layout.passes }
+        ensures turn { IfOk result (λ made. TellsTurn self.old self.new client.0 made.0 made.1) }
+        ensures refused { IfErr result (λ _. self.new ≡ self.old) }
+        ensures lawful { IsPlayed self.new }
+        ensures few { turns self.old.lines < 2 ^ 64 - 1 }
+    {
         self.lines.reserve(3)?;
-        let turn = self.core.step(client)?;
-        let row = row_of(turn.as_slice());
-        append(&mut self.lines, turn);
-        Ok(row)
-    }
-
-    /// Whether a client has a call left.
-    fn has_call(&self, client: PassNo) -> bool
-        requires { client.0 < self.now.script.layout.passes }
-        ensures is { result ≡ is_some (next_command self.now.script.calls self.now.lines client.0) }
-        ensures lawful { IsPlayed self.now }
-    {
-        self.core.has_call(client)
-    }
-
-    /// How many calls of a client are answered.
-    fn answered(&self, client: PassNo) -> u64
-        requires { client.0 < self.now.script.layout.passes }
-        ensures { result ≡ answered self.now.lines client.0 }
-    {
-        self.core.answered(client)
-    }
-
-    /// Turns of a client until it has one more reply; none if it has no call left. Turns that were
-    /// made before a refusal stay made.
-    pub(crate) fn call(&mut self, client: PassNo) -> Result<(), NoMemory>
-        requires { client.0 < self.old.script.layout.passes }
-        ensures turns { AreTurnsWhile (AwaitsReply self.old.script.calls client.0 self.old.lines) client.0 self.old self.new }
-        ensures replied { OnOk result (HasCall self.old.script.calls client.0 self.old.lines →
-            answered self.new.lines client.0 ≡ suc (answered self.old.lines client.0)) }
-        ensures none { HasNoCall self.old.script.calls client.0 self.old.lines → self.new.lines ≡ self.old.lines }
-        ensures lawful { IsPlayed self.new }
-    {
-        let answered = self.answered(client);
-        while self.has_call(client) && self.answered(client) == answered {
-            self.step(client)?;
-        }
-        Ok(())
-    }
-
-    /// Turns of a client until it has made so many more steps of a kind, or has no call left. Turns
-    /// that were made before a refusal stay made.
-    pub(crate) fn run_until(
-        &mut self,
-        client: PassNo,
-        kind: Kind,
-        times: u32,
-    ) -> Result<(), NoMemory>
-        requires { client.0 < self.old.script.layout.passes }
-        ensures turns { AreTurnsWhile (AwaitsSteps self.old.script.calls client.0 kind times self.old.lines) client.0 self.old self.new }
-        ensures made { OnOk result ((made self.new.lines client.0 kind ≡ made self.old.lines client.0 kind + times) ⊎
-            HasNoCall self.old.script.calls client.0 self.new.lines) }
-        ensures at_most { made self.new.lines client.0 kind ≤ made self.old.lines client.0 kind + times }
-        ensures lawful { IsPlayed self.new }
-    {
-        let mut left = times;
-        while self.has_call(client) && left > 0 {
-            let row = self.step(client)?;
-            if row.kind() == Some(kind) {
-                left -= 1;
-            }
-        }
-        Ok(())
-    }
-
-    /// Turns of a client until it has no call left. Turns that were made before a refusal stay
-    /// made.
-    pub(crate) fn finish(&mut self, client: PassNo) -> Result<(), NoMemory>
-        requires { client.0 < self.old.script.layout.passes }
-        ensures turns { AreTurnsWhile (HasCall self.old.script.calls client.0) client.0 self.old self.new }
-        ensures finished { OnOk result (HasNoCall self.old.script.calls client.0 self.new.lines) }
-        ensures lawful { IsPlayed self.new }
-    {
-        while self.has_call(client) {
-            self.step(client)?;
-        }
-        Ok(())
+        let mut more = Lines::new();
+        self.core.step_into(client, &mut more)?;
+        let row = row_of(more.as_slice());
+        let turned = Turned::of(more.as_slice());
+        append(&mut self.lines, more);
+        Ok((row, turned))
     }
 
     /// The script and the lines of all turns: a lawful run, in which turn i was made by the client
@@ -155,6 +95,30 @@ impl Player {
             script: self.core.into_script(),
             lines: self.lines,
         }
+    }
+}
+
+impl Plays<()> for Player {
+    ghost use Rattle.std.specs.Prelude.{◌≡◌, ◌-◌, ◌^◌};
+    ghost use Rattle.record.specs.Turns.{turns};
+
+    type Fault = NoMemory;
+
+    ghost passes = { λ player. player.script.layout.passes };
+
+    ghost left = { λ player. 2 ^ 64 - 1 - turns player.lines };
+
+    ghost behind = { λ start player to p. player ≡ p };
+
+    ghost broken = { λ start player to fault p. player ≡ p };
+
+    fn has_call(&self, client: PassNo) -> bool {
+        self.core.has_call(client)
+    }
+
+    fn turn(&mut self, client: PassNo, to: &mut ()) -> Result<Turned, NoMemory> {
+        let _ = to;
+        Ok(self.make(client)?.1)
     }
 }
 

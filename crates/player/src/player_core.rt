@@ -34,9 +34,9 @@ impl Model for Core {
 }
 
 impl Core {
-    ghost use Rattle.std.specs.Prelude.{◌≡◌, ◌<◌, ◌-◌, ◌^◌, suc, [], is_some, IfOk, IfErr, OnErr, OnOk};
+    ghost use Rattle.std.specs.Prelude.{◌≡◌, ◌<◌, ◌-◌, ◌^◌, suc, [], is_some, IfOk, OnErr, OnOk};
     ghost use Rattle.record.specs.Commands.{next_command};
-    ghost use Rattle.record.specs.Turns.{answered, turns};
+    ghost use Rattle.record.specs.Turns.{turns};
     ghost use Rattle.player.specs.Core.{StandsAt, IsNextTurn, passes_of, turns_made, with_lines};
     ghost use Rattle.player.specs.Player.{PlayerView, script_view, IsPlayed};
 
@@ -50,25 +50,9 @@ impl Core {
     }
 
     /// One turn of a client: its next atomic step, or a row of kind idle where it has no call left
-    /// or its call answers without a step. Behind whatever lines the core stands, these come next. A
-    /// refusal leaves it where it stood, and the same turn can be asked again.
-    pub fn step(&mut self, client: PassNo) -> Result<Lines, NoMemory>
-        requires client { client.0 < passes_of self.old }
-        requires steps { turns_made self.old < 2 ^ 64 - 1 }
-        ensures turn { IfOk result (λ more. (p : PlayerView) → StandsAt self.old p → IsNextTurn p client.0 more.items) }
-        ensures stands { IfOk result (λ more. (p : PlayerView) → StandsAt self.old p → StandsAt self.new (with_lines p more.items)) }
-        ensures refused { IfErr result (λ _. (p : PlayerView) → StandsAt self.old p → StandsAt self.new p) }
-        ensures lawful { (p : PlayerView) → StandsAt self.new p → IsPlayed p }
-        ensures script { script_view self.new.script ≡ script_view self.old.script }
-        ensures counted { OnOk result (turns_made self.new ≡ suc (turns_made self.old)) }
-    {
-        let mut more = Lines::new();
-        self.step_into(client, &mut more)?;
-        Ok(more)
-    }
-
-    /// The same, with the lines put in place of what stands in `more`, so that who asks for many
-    /// turns has none of them moved.
+    /// or its call answers without a step. Its lines are put in place of what stands in `more`, so
+    /// that who asks for many turns has none of them moved; behind whatever lines the core stands,
+    /// these come next. A refusal leaves it where it stood, and the same turn can be asked again.
     pub fn step_into(&mut self, client: PassNo, more: &mut Lines) -> Result<(), NoMemory>
         requires client { client.0 < passes_of self.old }
         requires steps { turns_made self.old < 2 ^ 64 - 1 }
@@ -97,14 +81,6 @@ impl Core {
         ensures lawful { (p : PlayerView) → StandsAt self.now p → IsPlayed p }
     {
         self.interleaving.has_call(client)
-    }
-
-    /// How many calls of a client are answered.
-    pub(crate) fn answered(&self, client: PassNo) -> u64
-        requires { client.0 < passes_of self.now }
-        ensures { (p : PlayerView) → StandsAt self.now p → result ≡ answered p.lines client.0 }
-    {
-        self.interleaving.answered(client)
     }
 
     /// The script that it plays.

@@ -1,4 +1,3 @@
 pub mod Deserved
 mod Audits
-mod Followed
 mod Beginnings

@@ -14,7 +14,7 @@ use Rattle.record.specs.Schedules.{IsRunOf}
 use Rattle.player.specs.Player.{IsPlayed, PlayerView, script_view}
 use Rattle.report.specs.Report.{report_text}
 use Rattle.report.specs.Streams.{IsCutAt}
-use Rattle.program.specs.Followed.{AreFollowedSoFar}
+use Rattle.player.specs.Followed.{AreFollowedSoFar}
 use Rattle.program.specs.declared.fault.Fault.{Fault}
 use Rattle.program.specs.declared.fault.Fault.TheVariants.{Usage, BadGate, BadScript, BadSchedule, NotLawful, NoMemory, Read, Write}
 

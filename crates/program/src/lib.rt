@@ -4,7 +4,6 @@
 
 mod audited;
 mod fault;
-mod following;
 mod play;
 mod threaded;
 

@@ -5,8 +5,8 @@ ghost use Rattle.program.specs.Status.{CanRise, status_of};
 ghost use Rattle.program.specs.declared.fault.Fault.{Fault};
 
 use crate::fault::Fault;
-use crate::following::follow;
 use arena::Mode;
+use player::follow;
 use report::Stream;
 use script::{read_schedule, read_script};
 use std::alloc::Global;

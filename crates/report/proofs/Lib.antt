@@ -18,3 +18,4 @@ mod RowTexts
 mod RoundTrip
 mod Refused
 mod Outcomes
+pub mod Lemmas

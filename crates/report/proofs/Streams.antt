@@ -1,5 +1,5 @@
 -- How a streamed report grows, turn by turn.
-use Rattle.std.proofs.Common.{◌≡◌, ◌+◌, ◌-◌, ◌^◌, ◌<◌, ◌≤◌, ◌∙◌, ℕ, List, [], ◌∷◌, ◌++◌, Option, Some, None, ap, append_assoc, append-nil, arith, map, refl, reverse, subst, sym, min}
+use Rattle.std.proofs.Common.{◌≡◌, ◌+◌, ◌-◌, ◌^◌, ◌<◌, ◌≤◌, ◌⊎◌, ◌∙◌, inl, inr, ℕ, Bool, true, false, IsTrue, List, [], ◌∷◌, ◌++◌, Option, Some, None, ap, append_assoc, append-nil, arith, map, refl, reverse, subst, sym, min}
 use Rattle.std.proofs.lemmas.List.{map-append, reverse-append, reverse-reverse}
 use Rattle.std.specs.Io.KnownBytes.{Appends, Keeps}
 use Rattle.texts.specs.Pages.{BeginsWith, rows_text}
@@ -15,7 +15,8 @@ use Rattle.player.specs.Core.{IsNextTurn, with_lines}
 use Rattle.player.specs.Lines.{turn_lines}
 use Rattle.player.specs.Player.{PlayerView, ScriptView, script_view}
 use Rattle.report.specs.Report.{call_rows, counts_row, entries_in, line_row, replies_in, report_end_row, report_text, steps_in, title_row}
-use Rattle.report.specs.Streams.{AreTotals, text_so_far}
+use Rattle.report.specs.Streams.{AreTotals, HasWritten, IsCutAt, text_so_far}
+use Rattle.report.specs.declared.stream.Stream.{Stream}
 use Rattle.report.specs.declared.totals.Totals.{Totals}
 use Rattle.report.proofs.Texts.{IsSent, all_sent, none_sent, part_sent, piece_sent, rows_after, so_far_sent}
 
@@ -155,3 +156,11 @@ module _ (first second whole : List ℕ) (is : first ++ second ≡ whole) where
 -- the row of counts that are those of the lines
 pub end_row : (totals : Totals) (lines : List Line) → AreTotals totals lines → rows_text 7 (counts_row totals.steps totals.replies totals.entries ∷ []) ≡ rows_text 7 (report_end_row lines ∷ [])
 end_row totals lines x = rw (x.steps, x.replies, x.entries) refl
+
+-- a turn that did not go out was stopped before its lines, where the stream goes on, or in these
+pub stopped_in : (next : Stream) (old new : Option (List ℕ)) (p : PlayerView) (i : ℕ) → (next.ended ≡ false → HasWritten next old new p) → (IsTrue next.ended → IsCutAt old new p i) → BeginsWith old new (text_so_far p) ⊎ ((i : ℕ) × IsCutAt old new p i)
+stopped_in next old new p i unchanged cut = go next.ended refl
+  where
+    go : (ended : Bool) → next.ended ≡ ended → BeginsWith old new (text_so_far p) ⊎ ((i : ℕ) × IsCutAt old new p i)
+    go false e = inl (all_begins old new (text_so_far p) (unchanged e).text)
+    go true e = inr (i, cut e)

@@ -1,5 +1,5 @@
 -- What a stream has written of its report, and what it stands behind.
-use Rattle.std.specs.Prelude.{◌≡◌, ◌≤◌, ℕ, false, List, [], ◌∷◌, ◌++◌, Option, map, reverse}
+use Rattle.std.specs.Prelude.{◌≡◌, ◌≢◌, ◌+◌, ◌-◌, ◌^◌, ◌≤◌, ◌⊎◌, ℕ, false, List, [], ◌∷◌, ◌++◌, Option, map, min, reverse}
 use Rattle.std.specs.Io.KnownBytes.{Appends}
 use Rattle.texts.specs.Pages.{BeginsWith, rows_text}
 use Rattle.script.specs.Rows.{limits_row}
@@ -8,6 +8,8 @@ use Rattle.player.specs.Core.{IsNextTurn, StandsAt, with_lines}
 use Rattle.player.specs.Player.{IsPlayed, PlayerView}
 use Rattle.report.specs.Report.{call_rows, entries_in, line_row, replies_in, steps_in, title_row}
 use Rattle.report.specs.declared.stream.Stream.{Stream}
+use Rattle.report.specs.declared.stream.StreamFault.{StreamFault}
+use Rattle.report.specs.declared.stream.StreamFault.TheVariants.{NoMemory, Write, Ended}
 use Rattle.report.specs.declared.totals.Totals.{Totals}
 
 -- the text of the report so far: all of its rows but the last, which counts the others
@@ -36,3 +38,13 @@ pub record IsCutAt (old new : Option (List ℕ)) (p : PlayerView) (i : ℕ) : Ty
   pub turn : IsNextTurn p i more
   pub played : IsPlayed (with_lines p more)
   pub text : BeginsWith old new (text_so_far (with_lines p more))
+
+-- a turn was not made, or not written, for this fault: these turns are a lawful run, and behind the old
+-- bytes stands a beginning of its report, or of that with one turn more of some client, with which they
+-- are a lawful run too; a failed write is counted, and nothing else
+pub record HasBrokenOff (old new : Option (List ℕ)) (before after : ℕ) (fault : StreamFault) (p : PlayerView) : Type 0 where
+  pub played : IsPlayed p
+  pub text : BeginsWith old new (text_so_far p) ⊎ ((i : ℕ) × IsCutAt old new p i)
+  pub not_ended : fault ≢ Ended
+  pub no_memory : fault ≡ NoMemory → after ≡ before
+  pub write : fault ≡ Write → after ≡ min (before + 1) (2 ^ 64 - 1)

@@ -16,7 +16,7 @@ use crate::line::put_lines;
 use crate::totals::Totals;
 use crate::write::write_calls;
 use arena::{NoMemory, PassNo};
-use player::{Core, Lines};
+use player::{Core, Lines, Plays, Turned};
 use record::Line;
 use script::Script;
 use std::alloc::{AllocError, Global};
@@ -114,7 +114,7 @@ impl Stream {
         })
     }
 
-    /// One turn of a client, as `Core::step` makes it, and its lines, which are written, and stand in
+    /// One turn of a client, as `Core::step_into` makes it, and its lines, which are written, and stand in
     /// `lines` until the next. Where memory for them is refused before the turn, nothing has changed,
     /// and the same turn can be asked again. Where a write fails, or memory is refused after the turn,
     /// what went out is a beginning of the report, and the stream has ended.
@@ -204,6 +204,33 @@ impl Stream {
             result ≡ is_some (next_command p.script.calls p.lines client.0) }
     {
         self.core.has_call(client)
+    }
+}
+
+impl<W: Write> Plays<Metered<W>> for Stream {
+    ghost use Rattle.report.specs.Streams.{HasBrokenOff, HasWritten};
+
+    type Fault = StreamFault;
+
+    ghost passes = { λ stream. passes_of stream.core };
+
+    ghost left = { λ stream. 2 ^ 64 - 1 - turns_made stream.core };
+
+    ghost behind = { λ start stream to p. HasWritten stream (W.contents start.inner) (W.contents to.inner) p × (to.failures ≡ start.failures) };
+
+    ghost broken = { λ start stream to fault p. HasBrokenOff (W.contents start.inner) (W.contents to.inner) start.failures to.failures fault p };
+
+    fn has_call(&self, client: PassNo) -> bool {
+        self.core.has_call(client)
+    }
+
+    /// There is no memory for more turns than can be counted.
+    fn turn(&mut self, client: PassNo, to: &mut Metered<W>) -> Result<Turned, StreamFault> {
+        if self.steps() == u64::MAX {
+            return Err(StreamFault::NoMemory);
+        }
+        self.turn(client, to)?;
+        Ok(Turned::of(self.lines()))
     }
 }
 

@@ -25,21 +25,48 @@ pub fn command_of(mode: Mode, name: &str, arguments: [&str; 3]) -> Result<Comman
     ensures few { IfOk result AsksForFewPairs }
     ensures cause { IfErr result (IsNoCommand mode name.now (texts arguments.entry)) }
 {
-    let command = match (mode, name) {
-        (Mode::Records, "llx") => llx_of(arguments),
-        (Mode::Records, "scx") => scx_of(arguments),
-        (Mode::Records, "vlx") => vlx_of(arguments),
-        (Mode::Records, "set") => set_of(arguments),
-        (Mode::Tree, "insert") => insert_of(arguments),
-        (Mode::Tree, "delete") => delete_of(arguments),
-        (Mode::Tree, "pop_first") => pop_first_of(arguments),
-        (Mode::Tree, "pop_last") => pop_last_of(arguments),
-        (Mode::Tree, "replace_if") => replace_if_of(arguments),
-        (Mode::Tree, "insert_new") => insert_new_of(arguments),
-        (Mode::Tree, "delete_if") => delete_if_of(arguments),
-        (Mode::Tree, "get") => get_of(arguments),
-        (Mode::Tree, "successor") => successor_of(arguments),
-        (Mode::Tree, "range") => range_of(arguments),
+    match mode {
+        Mode::Records => cells_command_of(name, arguments),
+        Mode::Tree => map_command_of(name, arguments),
+    }
+}
+
+/// The same of the commands on cells.
+fn cells_command_of(name: &str, arguments: [&str; 3]) -> Result<Command, ScriptCause>
+    ensures command { IfOk result (λ command. (mode_of command ≡ Mode.Records) × IsCommand command × (name.now ∷ texts arguments.entry ≡ command_row command)) }
+    ensures few { IfOk result AsksForFewPairs }
+    ensures cause { IfErr result (IsNoCommand Mode.Records name.now (texts arguments.entry)) }
+{
+    let command = match name {
+        "llx" => llx_of(arguments),
+        "scx" => scx_of(arguments),
+        "vlx" => vlx_of(arguments),
+        "set" => set_of(arguments),
+        _ => return Err(ScriptCause::Command),
+    };
+    match command {
+        Some(command) => Ok(command),
+        None => Err(ScriptCause::Argument),
+    }
+}
+
+/// And of the calls of the map.
+fn map_command_of(name: &str, arguments: [&str; 3]) -> Result<Command, ScriptCause>
+    ensures command { IfOk result (λ command. (mode_of command ≡ Mode.Tree) × IsCommand command × (name.now ∷ texts arguments.entry ≡ command_row command)) }
+    ensures few { IfOk result AsksForFewPairs }
+    ensures cause { IfErr result (IsNoCommand Mode.Tree name.now (texts arguments.entry)) }
+{
+    let command = match name {
+        "insert" => insert_of(arguments),
+        "delete" => delete_of(arguments),
+        "pop_first" => pop_first_of(arguments),
+        "pop_last" => pop_last_of(arguments),
+        "replace_if" => replace_if_of(arguments),
+        "insert_new" => insert_new_of(arguments),
+        "delete_if" => delete_if_of(arguments),
+        "get" => get_of(arguments),
+        "successor" => successor_of(arguments),
+        "range" => range_of(arguments),
         _ => return Err(ScriptCause::Command),
     };
     match command {

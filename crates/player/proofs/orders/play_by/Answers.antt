@@ -1,54 +1,31 @@
-use Rattle.std.proofs.Common.{arith, ◌≡◌, ◌+◌, ◌<◌, ℕ, suc, List, ◌∷◌, drop, get_or, length, reverse, refl, sym, ◌∙◌, ap, subst}
-use Rattle.std.proofs.Math.Seq.{drop-cons}
-use Rattle.std.proofs.lemmas.List.{drop_all, reverse-reverse}
-use Rattle.record.specs.LawfulRun.{IsLawfulRun}
-use Rattle.script.specs.declared.schedule.Order.{Order}
+use Rattle.std.proofs.Common.{◌≡◌, All, List, [], ap, refl, reverse, subst, sym, ◌∙◌}
+use Rattle.std.proofs.lemmas.List.{reverse-reverse}
 use Rattle.script.specs.Orders.{IsOrder}
-use Rattle.script.specs.declared.schedule.Order.TheVariants.{Step, Call as CallOf, Until, Finish}
-use Rattle.record.specs.Schedules.{AreOrdered, ordered_client}
-use Rattle.record.specs.Turns.{clients}
 use Rattle.record.specs.declared.record.Line.{Line}
-use Rattle.player.specs.Player.{ScriptView}
+use Rattle.record.specs.Schedules.{AreOrdered, IsRunOf}
+use Rattle.record.specs.Turns.{clients}
+use Rattle.player.specs.Followed.{HasFollowed}
+use Rattle.player.specs.Player.{IsPlayed, PlayerView, ScriptView, script_view}
+use Rattle.player.proofs.Followed.{run_of, so_of_it}
+use Rattle.player.proofs.orders.play_by.Goals.{In_ok-follow}
 use Rattle.player.proofs.orders.play_by.Goals as goal
+
+pub follow-requires : goal.follow-requires
+follow-requires c = rw c.as_slice.ensures.value (subst (λ (s : ScriptView). All (IsOrder s.layout.passes) c.args.schedule.now.orders.items) (sym c.in_ok-player.ensures.script) c.requires)
+
+-- the orders were followed from a new player on
+followed : (c : In_ok-follow) → HasFollowed record { script = script_view c.args.script.now; lines = [] } (AreOrdered c.args.script.now.calls.items c.args.schedule.now.orders.items []) (λ q. c.follow.new.player ≡ q)
+followed c =
+    let new : c.in_ok-player.player ≡ record { script = script_view c.args.script.now; lines = [] } = rw (sym c.in_ok-player.ensures.script, sym c.in_ok-player.ensures.no_turns) refl in
+    rw c.as_slice.ensures.value at (c.in_ok-follow.ensures.followed tt _ new)
+
+pub returns-clause-script : goal.returns-clause-script
+returns-clause-script c = c.record.ensures.script ∙ (so_of_it _ _ _ (followed (goal.at.returns-clause-script c).In_ok-follow)).0
 
 pub returns-clause-run : goal.returns-clause-run
 returns-clause-run c =
-    let x = c.loop-order.invariant in
-    let lines = c.loop-order.player.lines in
-    let told = c.record.result.lines.items in
-    let back : reverse told ≡ lines = ap (λ (l : List Line). reverse l) c.record.ensures.lines ∙ reverse-reverse lines in
-    let rest : AreOrdered c.args.script.now.calls.items (drop c.loop-order.order-index c.args.schedule.now.orders.items) lines lines
-    = rw (drop_all c.loop-order.order-index c.args.schedule.now.orders.items (rw c.deref-order-items.ensures.value at c.loop-order-test.false)) refl in
-    record {
-      ordered = rw back (x.ordered lines rest);
-      lawful = subst (λ (s : ScriptView). IsLawfulRun s.layout s.limits.tries s.calls (reverse (clients (reverse told))) told) x.script
-          (c.record.ensures.lawful (reverse (clients (reverse told))) (rw (back, reverse-reverse (clients lines)) refl));
-    }
-
--- the orders from this one on
-from_here : (orders : List Order) (i : ℕ) (d : Order) → i < length orders → drop i orders ≡ get_or orders i d ∷ drop (i + 1) orders
-from_here orders i d less = let next : suc i ≡ i + 1 = omega arith in drop-cons orders i d less ∙ ap (λ (k : ℕ). get_or orders i d ∷ drop k orders) next
-
-pub loop-order-preserved : goal.loop-order-preserved
-loop-order-preserved c =
-    let x = c.loop-order.invariant in
-    let calls = c.args.script.now.calls.items in
-    let orders = c.args.schedule.now.orders.items in
-    let less : c.loop-order.order-index < length orders = rw c.deref-order-items.ensures.value at c.loop-order-test.true in
-    let ordered = rw (x.script, c.deref-order-items.ensures.value) at c.in_ok-obey.ensures.ordered in
-    record {
-      script = c.obey.ensures.script ∙ x.script;
-      ordered = λ newer rest. x.ordered newer (subst (λ (os : List Order). AreOrdered calls os c.loop-order.player.lines newer) (sym (from_here orders c.loop-order.order-index _ less)) (c.obey.new.self.lines, ordered, rest));
-    }
-
--- the client of an order is one of all
-client_within : (passes : ℕ) (order : Order) → IsOrder passes order → ordered_client order < passes
-client_within passes (Step client turns) is = is.0
-client_within passes (CallOf client) is = is
-client_within passes (Until client kind times) is = is.0
-client_within passes (Finish client) is = is
-
-pub obey-requires : goal.obey-requires
-obey-requires c =
-    let less = rw c.deref-order-items.ensures.value at c.loop-order-test.true in
-    rw (c.loop-order.invariant.script, c.deref-order-items.ensures.value) (client_within _ _ (c.requires c.loop-order.order-index _ less))
+    let x = followed (goal.at.returns-clause-run c).In_ok-follow in
+    let lines = c.follow.new.player.lines in
+    let played : IsPlayed c.follow.new.player = rw c.record.ensures.lines at (c.record.ensures.lawful (reverse (clients lines)) (sym (reverse-reverse (clients lines)))) in
+    subst (λ (l : List Line). IsRunOf c.args.script.now c.args.schedule.now l) (ap (λ (q : PlayerView). reverse q.lines) (sym x.stands) ∙ sym c.record.ensures.lines)
+    (run_of c.args.script.now c.args.schedule.now _ x (subst IsPlayed x.stands played))

@@ -3,7 +3,7 @@ use Rattle.std.proofs.lemmas.List.{take_all}
 use Rattle.arena.specs.declared.number.PassNo.{PassNo}
 use Rattle.record.specs.LawfulRun.{IsLawfulRun}
 use Rattle.player.specs.Player.{ScriptView}
-use Rattle.player.proofs.Plays.{reverse_map_more}
+use Rattle.player.proofs.Played.{reverse_map_more}
 use Rattle.player.proofs.player.play.Goals as goal
 
 pub loop-turn-preserved : goal.loop-turn-preserved

@@ -15,7 +15,7 @@ use Rattle.player.specs.BetweenTurns.{IsEnd, AreWins, ArePlaces, KnowsCounts, Is
 use Rattle.player.specs.declared.client.Client.{Client}
 use Rattle.player.specs.declared.interleaving.Interleaving.{Interleaving}
 use Rattle.player.proofs.Middles.{some_client, get_own, wins_step, wins_reply}
-use Rattle.player.proofs.Plays.{reply_last}
+use Rattle.player.proofs.Played.{reply_last}
 use Rattle.player.proofs.Steps.{IsHeard, asked_word, asked_there, asked_row, asked_changed, asked_so_far, asked_hears, heard_on, heard_end, told_goes, told_ends, between_at, asked_owner, begun_before, remembered, turns_logged, logged_as_owed, few_calls}
 use Rattle.player.proofs.interleaving.Interleaving.make.Goals.{After-get, After-tell}
 use Rattle.player.proofs.interleaving.Interleaving.make.Goals as goal

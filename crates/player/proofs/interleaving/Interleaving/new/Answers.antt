@@ -1,6 +1,6 @@
 use Rattle.std.proofs.Common.{refl}
 use Rattle.script.proofs.Lemmas.{calls_are_of_mode}
-use Rattle.player.proofs.Plays.{opening_between, no_wins}
+use Rattle.player.proofs.Played.{opening_between, no_wins}
 use Rattle.player.proofs.interleaving.Interleaving.new.Goals as goal
 
 pub returns-clause-no_turns : goal.returns-clause-no_turns

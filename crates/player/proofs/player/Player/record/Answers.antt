@@ -1,7 +1,7 @@
 use Rattle.std.proofs.Common.{◌≡◌, reverse, sym, ◌∙◌, ap, subst}
 use Rattle.std.proofs.lemmas.List.{reverse-reverse}
 use Rattle.player.specs.Player.{PlayerView, IsPlayed}
-use Rattle.player.proofs.Plays.{stands_played, asked_run}
+use Rattle.player.proofs.Played.{stands_played, asked_run}
 use Rattle.player.proofs.player.Player.record.Goals as goal
 
 pub returns : goal.returns

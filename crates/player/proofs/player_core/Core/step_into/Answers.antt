@@ -3,7 +3,7 @@ use Rattle.std.specs.Prelude.{OnErr, OnOk}
 use Rattle.player.specs.Core.{IsNextTurn, StandsAt, with_lines}
 use Rattle.player.specs.Player.{PlayerView}
 use Rattle.player.specs.declared.interleaving.Interleaving.{Interleaving}
-use Rattle.player.proofs.Plays.{counts_one, makes_next, stands_behind, stands_played, stands_still, stays_between}
+use Rattle.player.proofs.Played.{counts_one, makes_next, stands_behind, stands_played, stands_still, stays_between}
 use Rattle.player.proofs.player_core.Core.step_into.Goals as goal
 
 pub returns-clause-turn : goal.returns-clause-turn
