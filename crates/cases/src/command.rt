@@ -1,11 +1,12 @@
 //! The commands of the program, one that copies a report, one that draws it, and one that tells the
 //! outcomes of a script.
 use crate::copy::copy_over;
-use crate::drawn::draw_over;
 use crate::ended::Ended;
-use crate::explored::explore_over;
+use crate::explored::outcomes_over;
 use anyhow::{Context, Result, bail};
 use arena::Mode;
+use command_line::{draw_over, exit_status};
+use drawing::Window;
 use program::{audit_over, play_over, run_over};
 use std::io::{Read, Write};
 use std::sync::Wait;
@@ -79,12 +80,17 @@ impl<'a> Command<'a> {
                 )
             }
             Command::Audit => audit_over(alloc, &mut Metered::new(first), &mut out, &mut err),
-            Command::Copy => copy_over(alloc, first, &mut out, &mut err),
-            Command::Picture => draw_over(alloc, first, &mut out, &mut err),
+            Command::Copy => exit_status(copy_over(alloc, first, &mut out), &mut err),
+            Command::Picture => {
+                exit_status(draw_over(alloc, first, Window::ALL, &mut out), &mut err)
+            }
             Command::Outcomes {
                 interruptions,
                 most,
-            } => explore_over(alloc, first, (interruptions, most), &mut out, &mut err),
+            } => exit_status(
+                outcomes_over(alloc, first, interruptions, most, &mut out),
+                &mut err,
+            ),
         };
         let out = out.inner;
         Ended { status, out, err }

@@ -5,21 +5,8 @@ use std::alloc::Global;
 use std::io::{Read, Write};
 use texts::Metered;
 
-/// Reads a report, and writes its record to `out`; a fault goes to `err` as one line. Answers the
-/// status, as the commands of the program do.
-pub(crate) fn copy_over<R: Read, O: Write, E: Write>(
-    alloc: Global,
-    report: &mut R,
-    out: &mut Metered<O>,
-    err: &mut E,
-) -> u8 {
-    match copy(alloc, report, out) {
-        Ok(()) => 0,
-        Err(fault) => fault.print(err),
-    }
-}
-
-fn copy<R: Read, O: Write>(
+/// Reads a report, and writes its record.
+pub(crate) fn copy_over<R: Read, O: Write>(
     alloc: Global,
     report: &mut R,
     out: &mut Metered<O>,

@@ -9,7 +9,6 @@ mod change;
 mod command;
 mod copy;
 mod devices;
-mod drawn;
 mod ended;
 mod expected;
 mod explored;

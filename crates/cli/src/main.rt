@@ -1,10 +1,7 @@
 //! The program: plays a script by a schedule, runs one with threads, or audits a report.
 #![tactic(auto)]
 
-mod words;
-
-use crate::words::words_of;
-use command_line::run_words;
+use command_line::{run_words, words_of};
 use std::process::ExitCode;
 
 fn main(rt: HostRuntime) -> ExitCode {

@@ -1,7 +1,7 @@
-//! The words of the command line.
+//! The words of the program that plays, runs and audits.
+use crate::words::{file, given_to, option};
 use arena::Mode;
-use clap::error::ErrorKind;
-use clap::{Arg, ArgAction, ArgMatches, Command, Error};
+use clap::{ArgMatches, Command, Error};
 use program::Fault;
 use std::alloc::Global;
 use std::convert::AsStr;
@@ -26,34 +26,24 @@ pub(crate) enum Request<'a> {
     },
 }
 
-/// What these words ask for, of which the first is the program's own name. A wish for help is a
-/// fault of usage too.
+/// What these words ask for, of which the first is the program's own name.
 pub(crate) fn read_words<'a, S: AsStr>(
     alloc: Global,
     words: &'a [S],
 ) -> Result<Request<'a>, Fault> {
-    match request_of(alloc, words) {
-        Ok(Some(request)) => Ok(request),
-        Ok(None) => Err(Fault::Usage),
-        Err(error) => match error.kind() {
-            ErrorKind::OutOfMemory => Err(Fault::NoMemory),
-            _ => Err(Fault::Usage),
-        },
-    }
+    let matches = given_to(command(alloc), words)?;
+    request_of(&matches).ok_or(Fault::Usage)
 }
 
-fn request_of<'a, S: AsStr>(alloc: Global, words: &'a [S]) -> Result<Option<Request<'a>>, Error> {
-    let matches = command(alloc)?.try_get_matches_from(words)?;
-    let Some((name, given)) = matches.subcommand() else {
-        return Ok(None);
-    };
-    Ok(match name {
+fn request_of<'a>(matches: &ArgMatches<'a>) -> Option<Request<'a>> {
+    let (name, given) = matches.subcommand()?;
+    match name {
         "play" => play_of(given, Mode::Tree),
         "records" => play_of(given, Mode::Records),
         "run" => run_of(given),
         "audit" => audit_of(given),
         _ => None,
-    })
+    }
 }
 
 fn play_of<'a>(given: &ArgMatches<'a>, mode: Mode) -> Option<Request<'a>> {
@@ -91,11 +81,10 @@ fn command<'a>(alloc: Global) -> Result<Command<'a>, Error> {
 
 /// A command that runs a script.
 fn running<'a>(alloc: Global, name: &'a str) -> Result<Command<'a>, Error> {
-    let gate = Arg::new(alloc, "gate").long("gate").action(ArgAction::Set);
     Ok(
         Command::new(alloc, name)
             .arg(file(alloc, "SCRIPT"))?
-            .arg(gate)?,
+            .arg(option(alloc, "gate"))?,
     )
 }
 
@@ -106,9 +95,4 @@ fn playing<'a>(alloc: Global, name: &'a str) -> Result<Command<'a>, Error> {
             .arg(file(alloc, "SCRIPT"))?
             .arg(file(alloc, "SCHEDULE"))?,
     )
-}
-
-/// The name of a file, which a command needs.
-fn file<'a>(alloc: Global, name: &'a str) -> Arg<'a> {
-    Arg::new(alloc, name).required(true).action(ArgAction::Set)
 }

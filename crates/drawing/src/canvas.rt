@@ -3,7 +3,8 @@
 use crate::parts::Part::{Length, Rounded, Text};
 use crate::parts::{Part, add, joined};
 use crate::style::{SIGNS, STYLE};
-use std::alloc::{AllocError, Global};
+use arena::NoMemory;
+use std::alloc::Global;
 use std::num::nearest_usize_to_f64;
 
 /// How wide a letter is, and a small one.
@@ -21,10 +22,12 @@ pub(crate) struct Spot {
     pub(crate) y: f64,
 }
 
-/// The elements so far, and how far they reach.
+/// The elements so far, and how far they reach. Where memory is refused nothing more is drawn, and
+/// `into_svg` tells it.
 #[derive(Drop)]
 pub(crate) struct Canvas {
     text: String,
+    is_refused: bool,
     pub(crate) right: f64,
     pub(crate) bottom: f64,
 }
@@ -34,6 +37,7 @@ impl Canvas {
     pub(crate) fn new(alloc: Global) -> Canvas {
         Canvas {
             text: String::new(alloc),
+            is_refused: false,
             right: 0.0,
             bottom: 0.0,
         }
@@ -46,52 +50,38 @@ impl Canvas {
     }
 
     /// Puts some parts behind what is drawn.
-    fn add(&mut self, parts: &[Part]) -> Result<(), AllocError> {
-        add(&mut self.text, parts)
+    fn add(&mut self, parts: &[Part]) {
+        if !self.is_refused {
+            self.is_refused = add(&mut self.text, parts).is_err();
+        }
     }
 
     /// Begins an element that stands at a spot, up to its class.
-    fn open(&mut self, element: &str, at: Spot) -> Result<(), AllocError> {
-        self.add(&[Text("<"), Text(element), Text(" x=\""), Length(at.x)])?;
-        self.add(&[Text("\" y=\""), Length(at.y), Text("\" class=\"")])
+    fn open(&mut self, element: &str, at: Spot) {
+        self.add(&[Text("<"), Text(element), Text(" x=\""), Length(at.x)]);
+        self.add(&[Text("\" y=\""), Length(at.y), Text("\" class=\"")]);
     }
 
     /// Words that begin at a spot.
-    pub(crate) fn words<'a>(
-        &mut self,
-        at: Spot,
-        class: &'a str,
-        words: &'a str,
-    ) -> Result<(), AllocError> {
+    pub(crate) fn words<'a>(&mut self, at: Spot, class: &'a str, words: &'a str) {
         self.reach(at.x + width_of(words), at.y);
-        self.open("text", at)?;
-        self.add(&[Text(class), Text("\">"), Text(words), Text("</text>\n")])
+        self.open("text", at);
+        self.add(&[Text(class), Text("\">"), Text(words), Text("</text>\n")]);
     }
 
     /// Words around a spot.
-    pub(crate) fn middle_words(
-        &mut self,
-        at: Spot,
-        class: &[Part],
-        words: &[Part],
-    ) -> Result<(), AllocError> {
+    pub(crate) fn middle_words(&mut self, at: Spot, class: &[Part], words: &[Part]) {
         self.reach(at.x, at.y);
-        self.open("text", at)?;
-        self.add(&[Text("middle ")])?;
-        self.add(class)?;
-        self.add(&[Text("\">")])?;
-        self.add(words)?;
-        self.add(&[Text("</text>\n")])
+        self.open("text", at);
+        self.add(&[Text("middle ")]);
+        self.add(class);
+        self.add(&[Text("\">")]);
+        self.add(words);
+        self.add(&[Text("</text>\n")]);
     }
 
     /// A box with its left upper corner there, which tells this where one points at it.
-    pub(crate) fn rectangle(
-        &mut self,
-        corner: Spot,
-        size: Spot,
-        class: &[Part],
-        told: &[Part],
-    ) -> Result<(), AllocError> {
+    pub(crate) fn rectangle(&mut self, corner: Spot, size: Spot, class: &[Part], told: &[Part]) {
         let Spot { x: wide, y: high } = size;
         self.reach(corner.x + wide, corner.y + high);
         self.add(&[
@@ -99,87 +89,84 @@ impl Canvas {
             Length(corner.x),
             Text("\" y=\""),
             Length(corner.y),
-        ])?;
+        ]);
         self.add(&[
             Text("\" width=\""),
             Length(wide),
             Text("\" height=\""),
             Length(high),
-        ])?;
-        self.add(&[Text("\" rx=\"4\" class=\"")])?;
-        self.add(class)?;
-        self.add(&[Text("\"><title>")])?;
-        self.add(told)?;
-        self.add(&[Text("</title></rect>\n")])
+        ]);
+        self.add(&[Text("\" rx=\"4\" class=\"")]);
+        self.add(class);
+        self.add(&[Text("\"><title>")]);
+        self.add(told);
+        self.add(&[Text("</title></rect>\n")]);
     }
 
     /// A band over the whole width.
-    pub(crate) fn band(&mut self, top: f64, high: f64) -> Result<(), AllocError> {
+    pub(crate) fn band(&mut self, top: f64, high: f64) {
         self.reach(0.0, top + high);
         self.add(&[
             Text("<rect y=\""),
             Length(top),
             Text("\" width=\"100%\" height=\""),
-        ])?;
-        self.add(&[Length(high), Text("\" class=\"lane\"/>\n")])
+        ]);
+        self.add(&[Length(high), Text("\" class=\"lane\"/>\n")]);
     }
 
     /// A line between two spots.
-    pub(crate) fn line(&mut self, from: Spot, to: Spot, class: &[Part]) -> Result<(), AllocError> {
+    pub(crate) fn line(&mut self, from: Spot, to: Spot, class: &[Part]) {
         self.add(&[
             Text("<path d=\"M"),
             Length(from.x),
             Text(" "),
             Length(from.y),
-        ])?;
+        ]);
         self.add(&[
             Text("L"),
             Length(to.x),
             Text(" "),
             Length(to.y),
             Text("\" class=\""),
-        ])?;
-        self.add(class)?;
-        self.add(&[Text("\"/>\n")])
+        ]);
+        self.add(class);
+        self.add(&[Text("\"/>\n")]);
     }
 
     /// A sign around a spot, which tells this where one points at it.
-    pub(crate) fn sign(
-        &mut self,
-        name: &str,
-        at: Spot,
-        class: &[Part],
-        told: &[Part],
-    ) -> Result<(), AllocError> {
+    pub(crate) fn sign(&mut self, name: &str, at: Spot, class: &[Part], told: &[Part]) {
         self.reach(at.x, at.y);
-        self.use_of(name, at, class)?;
-        self.add(&[Text("\"><title>")])?;
-        self.add(told)?;
-        self.add(&[Text("</title></use>\n")])
+        self.use_of(name, at, class);
+        self.add(&[Text("\"><title>")]);
+        self.add(told);
+        self.add(&[Text("</title></use>\n")]);
     }
 
     /// A sign around a spot that tells nothing.
-    pub(crate) fn mark(&mut self, name: &str, at: Spot, class: &str) -> Result<(), AllocError> {
-        self.use_of(name, at, &[Text(class)])?;
-        self.add(&[Text("\"/>\n")])
+    pub(crate) fn mark(&mut self, name: &str, at: Spot, class: &str) {
+        self.use_of(name, at, &[Text(class)]);
+        self.add(&[Text("\"/>\n")]);
     }
 
     /// Begins a sign, up to the end of its class.
-    fn use_of(&mut self, name: &str, at: Spot, class: &[Part]) -> Result<(), AllocError> {
+    fn use_of(&mut self, name: &str, at: Spot, class: &[Part]) {
         self.add(&[
             Text("<use href=\"#"),
             Text(name),
             Text("\" x=\""),
             Length(at.x),
-        ])?;
-        self.add(&[Text("\" y=\""), Length(at.y), Text("\" class=\"")])?;
-        self.add(class)
+        ]);
+        self.add(&[Text("\" y=\""), Length(at.y), Text("\" class=\"")]);
+        self.add(class);
     }
 
     /// The whole picture.
-    pub(crate) fn into_svg(self, alloc: Global) -> Result<String, AllocError> {
+    pub(crate) fn into_svg(self, alloc: Global) -> Result<String, NoMemory> {
+        if self.is_refused {
+            return Err(NoMemory);
+        }
         let (wide, high) = (self.right + MARGIN, self.bottom + MARGIN);
-        joined(
+        Ok(joined(
             alloc,
             &[
                 Text("<svg xmlns=\"http://www.w3.org/2000/svg\" width=\""),
@@ -192,7 +179,7 @@ impl Canvas {
                 Text(self.text.as_str()),
                 Text("</svg>\n"),
             ],
-        )
+        )?)
     }
 }
 

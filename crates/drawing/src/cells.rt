@@ -68,7 +68,7 @@ impl CellRow {
             x: wide.max(width_of(caption) + 30.0),
             y: 70.0,
         });
-        canvas.words(corner, "quiet", caption)?;
+        canvas.words(corner, "quiet", caption);
         let mut x = corner.x;
         for (number, named) in self.named.iter().enumerate() {
             if *named {
@@ -109,7 +109,7 @@ fn draw_cell(
             true => "final",
             false => "node",
         };
-        draw_field(canvas, table, held, class, at)?;
+        draw_field(canvas, table, held, class, at);
     }
     Ok(())
 }
@@ -128,27 +128,23 @@ fn name_cell(
     };
     let finalized = if is_finalized { " final" } else { "" };
     let name = joined(alloc, &[Text("n"), Number(node), Text(finalized)])?;
-    canvas.words(above, "small quiet", name.as_str())
+    canvas.words(above, "small quiet", name.as_str());
+    Ok(())
 }
 
 /// Draws a field: the node that it holds, and what that node holds.
-fn draw_field(
-    canvas: &mut Canvas,
-    table: &NodeTable,
-    held: u64,
-    class: &str,
-    corner: Spot,
-) -> Result<(), AllocError> {
+fn draw_field(canvas: &mut Canvas, table: &NodeTable, held: u64, class: &str, corner: Spot) {
     let value = table.get(held).first().low;
     let told = [Text("node "), Number(held), Text(", value "), Number(value)];
-    canvas.rectangle(corner, Spot { x: WIDE, y: HIGH }, &[Text(class)], &told)?;
+    canvas.rectangle(corner, Spot { x: WIDE, y: HIGH }, &[Text(class)], &told);
     let middle = Spot {
         x: corner.x + WIDE / 2.0,
         y: corner.y + 12.0,
     };
     if held == 0 {
-        return canvas.middle_words(middle, &[Text("small")], &[Number(0)]);
+        canvas.middle_words(middle, &[Text("small")], &[Number(0)]);
+        return;
     }
     let parts = [Text("n"), Number(held), Text(": "), Short(value.into())];
-    canvas.middle_words(middle, &[Text("small")], &parts)
+    canvas.middle_words(middle, &[Text("small")], &parts);
 }

@@ -35,8 +35,15 @@ pub(crate) fn draw_head(
     window: Window,
 ) -> Result<(), AllocError> {
     let title = title_of(alloc, run, window)?;
-    canvas.words(Spot { x: 6.0, y: 20.0 }, "head", title.as_str())?;
+    canvas.words(Spot { x: 6.0, y: 20.0 }, "head", title.as_str());
     canvas.reach(1.5 * width_of(title.as_str()), 0.0);
+    draw_signs(canvas);
+    draw_remarks(canvas);
+    Ok(())
+}
+
+/// Draws the signs, each with what it means.
+fn draw_signs(canvas: &mut Canvas) {
     let mut x = 12.0;
     for (sign, meaning) in SIGNS {
         let class = match sign {
@@ -44,7 +51,7 @@ pub(crate) fn draw_head(
             "fill" => "fill",
             _ => "c0",
         };
-        canvas.mark(sign, Spot { x, y: 38.0 }, class)?;
+        canvas.mark(sign, Spot { x, y: 38.0 }, class);
         canvas.words(
             Spot {
                 x: x + 10.0,
@@ -52,15 +59,17 @@ pub(crate) fn draw_head(
             },
             "quiet",
             meaning,
-        )?;
+        );
         x += width_of(meaning) + 36.0;
     }
+}
+
+fn draw_remarks(canvas: &mut Canvas) {
     let mut y = 55.0;
     for remark in REMARKS {
-        canvas.words(Spot { x: 6.0, y }, "small quiet", remark)?;
+        canvas.words(Spot { x: 6.0, y }, "small quiet", remark);
         y += 11.0;
     }
-    Ok(())
 }
 
 /// What was run, in numbers.
@@ -69,15 +78,9 @@ fn title_of(alloc: Global, run: &ShownRun, window: Window) -> Result<String, All
         Mode::Tree => "tree",
         Mode::Records => "cells",
     };
+    let (clients, calls) = callers_of(run);
     let answered = run.calls.iter().filter(|call| call.is_answered).count();
     let (steps, updates) = (run.turns.len() as u64, run.entries.len() as u64);
-    let calls = run.clients.iter().map(|client| client.calls.len());
-    let calls = calls.fold(0, |all: usize, own| all.saturating_add(own));
-    let clients = run
-        .clients
-        .iter()
-        .filter(|client| !client.calls.is_empty())
-        .count();
     let mut title = joined(
         alloc,
         &[
@@ -102,4 +105,14 @@ fn title_of(alloc: Global, run: &ShownRun, window: Window) -> Result<String, All
         )?;
     }
     Ok(title)
+}
+
+/// How many clients have calls, and how many calls these are.
+fn callers_of(run: &ShownRun) -> (usize, usize) {
+    let (mut clients, mut calls) = (0usize, 0usize);
+    for client in run.clients.iter() {
+        clients = clients.saturating_add(usize::from(!client.calls.is_empty()));
+        calls = calls.saturating_add(client.calls.len());
+    }
+    (clients, calls)
 }

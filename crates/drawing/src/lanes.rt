@@ -92,7 +92,7 @@ impl Lanes {
             top,
             bottom,
         };
-        canvas.band(above + 2.0, bottom + BELOW - above - 2.0)?;
+        canvas.band(above + 2.0, bottom + BELOW - above - 2.0);
         name_lane(alloc, canvas, lane)?;
         for label in labels.iter() {
             if let Some(call) = run.calls.get(label.call) {
@@ -102,19 +102,6 @@ impl Lanes {
         self.lanes.push(lane)?;
         Ok(())
     }
-}
-
-/// Where a call's label begins, and its text.
-fn label_of(
-    alloc: Global,
-    columns: &Columns,
-    call: &ShownCall,
-) -> Result<Option<(f64, String)>, AllocError> {
-    let Some((left, _)) = columns.reach(call.begin, call.end) else {
-        return Ok(None);
-    };
-    let text = shortened(alloc, call.text.as_str())?;
-    Ok(Some((left + 3.0, text)))
 }
 
 /// The labels of a client's calls, and how many rows they need.
@@ -127,13 +114,24 @@ fn labels_of(
     let (mut labels, mut rows) = (Vec::new(alloc), LabelRows::new(alloc));
     for (place, call) in run.calls.iter().enumerate().rev() {
         if call.client == client
-            && let Some((left, text)) = label_of(alloc, columns, call)?
+            && let Some((left, _)) = columns.reach(call.begin, call.end)
         {
-            let row = rows.place(left, left + width_of(text.as_str()))?;
+            let row = row_of(alloc, &mut rows, call, left + 3.0)?;
             labels.push(Label { call: place, row })?;
         }
     }
     Ok((labels, rows.count()))
+}
+
+/// The row of a call's label that begins there.
+fn row_of(
+    alloc: Global,
+    rows: &mut LabelRows,
+    call: &ShownCall,
+    left: f64,
+) -> Result<usize, AllocError> {
+    let text = shortened(alloc, call.text.as_str())?;
+    rows.place(left, left + width_of(text.as_str()))
 }
 
 /// Writes whose lane it is.
@@ -146,12 +144,13 @@ fn name_lane(alloc: Global, canvas: &mut Canvas, lane: Lane) -> Result<(), Alloc
         },
         Spot { x: 8.0, y: BOX },
     );
-    canvas.rectangle(corner, size, &[Text(colour_of(lane.client))], &name)?;
+    canvas.rectangle(corner, size, &[Text(colour_of(lane.client))], &name);
     let at = Spot {
         x: 18.0,
         y: lane.top + 15.0,
     };
-    canvas.words(at, "", joined(alloc, &name)?.as_str())
+    canvas.words(at, "", joined(alloc, &name)?.as_str());
+    Ok(())
 }
 
 /// Draws the box of a call, with its label in this row above it.
@@ -186,19 +185,20 @@ fn draw_call(
             y: BOX,
         },
     );
-    canvas.rectangle(corner, size, &[colour, Text(" call"), open], &told)?;
+    canvas.rectangle(corner, size, &[colour, Text(" call"), open], &told);
     let y = lane.top - 4.0 - ROW * nearest_usize_to_f64(row);
     if row > 0 {
         let x = left + 1.0;
         let (high, low) = (Spot { x, y: y - 8.0 }, Spot { x, y: lane.top });
-        canvas.line(high, low, &[colour, Text(" thin")])?;
+        canvas.line(high, low, &[colour, Text(" thin")]);
     }
     let text = shortened(alloc, call.text.as_str())?;
     canvas.words(
         Spot { x: left + 3.0, y },
         colour_of(call.client),
         text.as_str(),
-    )
+    );
+    Ok(())
 }
 
 /// Draws the turns of a group.
@@ -214,20 +214,16 @@ fn draw_group(
     };
     match group.turn.step {
         None => canvas.sign("idle", at, &[Text("quiet")], &[Text("idle")]),
-        Some(row) if has_sign(row.kind) => draw_sign(alloc, canvas, group, &row, at),
+        Some(row) if has_sign(row.kind) => draw_sign(alloc, canvas, group, &row, at)?,
         Some(row) if group.count > 1 => draw_bar(canvas, group, &row, at),
         Some(row) if row.kind == Kind::Fill => canvas.mark("fill", at, "fill"),
         Some(_) => canvas.mark("load", at, "tick"),
     }
+    Ok(())
 }
 
 /// Draws loads or fills as one bar, with their number below it.
-fn draw_bar(
-    canvas: &mut Canvas,
-    group: &Group,
-    row: &arena::Row,
-    at: Spot,
-) -> Result<(), AllocError> {
+fn draw_bar(canvas: &mut Canvas, group: &Group, row: &arena::Row, at: Spot) {
     let (first, count) = (Number(group.first), Number(group.count));
     let (name, high) = if row.kind == Kind::Fill {
         (" fills", 8.0)
@@ -243,12 +239,12 @@ fn draw_bar(
         },
         Spot { x: wide, y: high },
     );
-    canvas.rectangle(corner, size, &[Text("bar")], &told)?;
+    canvas.rectangle(corner, size, &[Text("bar")], &told);
     let below = Spot {
         x: at.x,
         y: at.y + 20.0,
     };
-    canvas.middle_words(below, &[Text("small quiet")], &[count])
+    canvas.middle_words(below, &[Text("small quiet")], &[count]);
 }
 
 /// Draws a step of an SCX in the colour of the client whose SCX-record it is.
@@ -261,11 +257,11 @@ fn draw_sign(
 ) -> Result<(), AllocError> {
     let owner = group.turn.owner.unwrap_or(row.pass);
     if owner != row.pass {
-        draw_help(canvas, group, owner, at)?;
+        draw_help(canvas, group, owner, at);
     }
     let word = word_text(alloc, row.word)?;
     let name = kind_name(row.kind);
-    draw_step(canvas, group, row, name, word.as_str(), at)?;
+    draw_step(canvas, group, row, name, word.as_str(), at);
     if let Word::Node(node, _) = row.word
         && (row.kind == Kind::Freeze || row.kind == Kind::Mark)
     {
@@ -273,7 +269,7 @@ fn draw_sign(
             x: at.x,
             y: at.y + 20.0,
         };
-        canvas.middle_words(below, &[Text("small quiet")], &[Text("n"), Number(node.0)])?;
+        canvas.middle_words(below, &[Text("small quiet")], &[Text("n"), Number(node.0)]);
     }
     Ok(())
 }
@@ -286,7 +282,7 @@ fn draw_step<'a>(
     kind: &'a str,
     word: &'a str,
     at: Spot,
-) -> Result<(), AllocError> {
+) {
     let owner = group.turn.owner.unwrap_or(row.pass);
     let hollow = Text(if row.before == row.after {
         " hollow"
@@ -305,19 +301,14 @@ fn draw_step<'a>(
         Text(" to "),
         Number(row.after),
     ];
-    canvas.sign(kind, at, &[Text(colour_of(owner)), hollow], &told)
+    canvas.sign(kind, at, &[Text(colour_of(owner)), hollow], &told);
 }
 
 /// Tints the place of a step that helps this client, and writes its number below.
-fn draw_help(
-    canvas: &mut Canvas,
-    group: &Group,
-    owner: PassNo,
-    at: Spot,
-) -> Result<(), AllocError> {
+fn draw_help(canvas: &mut Canvas, group: &Group, owner: PassNo, at: Spot) {
     let colour = colour_of(owner);
     let number = u64::from(owner.0);
-    tint(canvas, group, colour, number, at.y - BOX / 2.0)?;
+    tint(canvas, group, colour, number, at.y - BOX / 2.0);
     let below = Spot {
         x: at.x,
         y: at.y + 29.0,
@@ -326,17 +317,11 @@ fn draw_help(
         below,
         &[Text("small "), Text(colour)],
         &[Text("c"), Number(number)],
-    )
+    );
 }
 
 /// Tints the place of a step that helps the client of this number, from there downwards.
-fn tint(
-    canvas: &mut Canvas,
-    group: &Group,
-    colour: &str,
-    number: u64,
-    top: f64,
-) -> Result<(), AllocError> {
+fn tint(canvas: &mut Canvas, group: &Group, colour: &str, number: u64, top: f64) {
     let corner = Spot {
         x: group.left,
         y: top,
@@ -346,29 +331,28 @@ fn tint(
         y: BOX,
     };
     let told = [Text("helps client "), Number(number)];
-    canvas.rectangle(corner, size, &[Text(colour), Text(" help")], &told)
+    canvas.rectangle(corner, size, &[Text(colour), Text(" help")], &told);
 }
 
 /// Draws the numbers of some turns above all lanes.
-pub(crate) fn draw_numbers(canvas: &mut Canvas, columns: &Columns) -> Result<(), AllocError> {
+pub(crate) fn draw_numbers(canvas: &mut Canvas, columns: &Columns) {
     let (y, mut free) = (canvas.bottom + 10.0, LEFT);
-    canvas.words(Spot { x: 18.0, y }, "small quiet", "turn")?;
+    canvas.words(Spot { x: 18.0, y }, "small quiet", "turn");
     for group in columns.groups.iter() {
         let x = group.middle();
         if group.first != 1 && group.first % 10 != 0 {
             continue;
         }
         let (high, low) = (Spot { x, y: y + 2.0 }, Spot { x, y: y + 5.0 });
-        canvas.line(high, low, &[Text("tick")])?;
+        canvas.line(high, low, &[Text("tick")]);
         if x >= free {
             canvas.middle_words(
                 Spot { x, y },
                 &[Text("small quiet")],
                 &[Number(group.first)],
-            )?;
+            );
             free = x + 36.0;
         }
     }
     canvas.reach(0.0, y + 4.0);
-    Ok(())
 }

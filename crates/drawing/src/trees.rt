@@ -2,6 +2,7 @@
 use crate::canvas::{Canvas, Spot, width_of};
 use crate::flow::Flow;
 use crate::node_table::{NodeTable, ShownNode, ShownPair};
+use crate::parts::Part;
 use crate::parts::Part::{Number, Short, Text, Wide};
 use std::alloc::{AllocError, Global};
 use std::num::nearest_usize_to_f64;
@@ -115,13 +116,13 @@ pub(crate) fn draw_tree(
         x: wide.max(width_of(caption) + 30.0),
         y: tree.deepest + 74.0,
     });
-    canvas.words(corner, "quiet", caption)?;
+    canvas.words(corner, "quiet", caption);
     for (above, below) in tree.edges.iter() {
         canvas.line(
             tree.spot(*above, corner),
             tree.spot(*below, corner),
             &[Text("edge")],
-        )?;
+        );
     }
     let mut nodes = Vec::new(alloc);
     for (place, branch) in tree.branches.iter().enumerate() {
@@ -166,27 +167,32 @@ fn draw_node(
             y: high + high_behind(shown),
         },
     );
-    let mut told = Vec::new(alloc);
-    told.push(Text("n"))?;
-    told.push(Number(node))?;
-    let pairs = shown.pairs_behind().saturating_add(1);
-    for (at, pair) in shown.pairs.iter().take(pairs).enumerate() {
-        told.push(Text(if at == 0 { ": key " } else { "; key " }))?;
-        told.push(Number(pair.key))?;
-        told.push(Text(", value "))?;
-        told.push(Wide(pair.value()))?;
-    }
-    canvas.rectangle(corner, size, &[Text(class)], told.as_slice())?;
-    draw_texts(canvas, shown, at)?;
+    let told = told_of(alloc, shown, node)?;
+    canvas.rectangle(corner, size, &[Text(class)], told.as_slice());
+    draw_texts(canvas, shown, at);
     let above = Spot {
         x: at.x,
         y: corner.y - 2.0,
     };
-    canvas.middle_words(above, &[Text("small quiet")], &[Text("n"), Number(node)])
+    canvas.middle_words(above, &[Text("small quiet")], &[Text("n"), Number(node)]);
+    Ok(())
+}
+
+/// What a node tells where one points at it: its pairs.
+fn told_of(alloc: Global, shown: &ShownNode, node: u64) -> Result<Vec<Part<'static>>, AllocError> {
+    let mut told = Vec::new(alloc);
+    told.extend_from_slice(&[Text("n"), Number(node)])?;
+    let pairs = shown.pairs_behind().saturating_add(1);
+    for (at, pair) in shown.pairs.iter().take(pairs).enumerate() {
+        let before = Text(if at == 0 { ": key " } else { "; key " });
+        let (key, value) = (Number(pair.key), Wide(pair.value()));
+        told.extend_from_slice(&[before, key, Text(", value "), value])?;
+    }
+    Ok(told)
 }
 
 /// Writes what a node holds around a spot: a fork's key, or the pairs of a leaf, or its class.
-fn draw_texts(canvas: &mut Canvas, shown: &ShownNode, at: Spot) -> Result<(), AllocError> {
+fn draw_texts(canvas: &mut Canvas, shown: &ShownNode, at: Spot) {
     let head = shown.head();
     let middle = Spot {
         x: at.x,
@@ -194,11 +200,13 @@ fn draw_texts(canvas: &mut Canvas, shown: &ShownNode, at: Spot) -> Result<(), Al
     };
     if head.class != 0 {
         let class = Number(u64::from(head.class));
-        return canvas.middle_words(middle, &[Text("small")], &[Text("∞"), class]);
+        canvas.middle_words(middle, &[Text("small")], &[Text("∞"), class]);
+        return;
     }
     if !head.leaf {
         let key = Short(shown.first().key.into());
-        return canvas.middle_words(middle, &[Text("small")], &[key]);
+        canvas.middle_words(middle, &[Text("small")], &[key]);
+        return;
     }
     let mut y = at.y;
     for pair in shown
@@ -206,22 +214,21 @@ fn draw_texts(canvas: &mut Canvas, shown: &ShownNode, at: Spot) -> Result<(), Al
         .iter()
         .take(shown.pairs_behind().saturating_add(1))
     {
-        draw_pair(canvas, *pair, Spot { x: at.x, y })?;
+        draw_pair(canvas, *pair, Spot { x: at.x, y });
         y = y + PAIR;
     }
-    Ok(())
 }
 
 /// Writes a pair of a leaf around a spot, the value below the key.
-fn draw_pair(canvas: &mut Canvas, pair: ShownPair, at: Spot) -> Result<(), AllocError> {
+fn draw_pair(canvas: &mut Canvas, pair: ShownPair, at: Spot) {
     let key = Spot {
         x: at.x,
         y: at.y - 2.0,
     };
-    canvas.middle_words(key, &[Text("small")], &[Short(pair.key.into())])?;
+    canvas.middle_words(key, &[Text("small")], &[Short(pair.key.into())]);
     let value = Spot {
         x: at.x,
         y: at.y + 8.0,
     };
-    canvas.middle_words(value, &[Text("small quiet")], &[Short(pair.value())])
+    canvas.middle_words(value, &[Text("small quiet")], &[Short(pair.value())]);
 }

@@ -1,6 +1,7 @@
 //! Outcomes, and how often they came.
 use crate::search::Exploration;
 use crate::stretch::Stretch;
+use arena::NoMemory;
 use std::alloc::{AllocError, Global};
 
 /// How many turns a row of a schedule has at most.
@@ -20,7 +21,7 @@ pub(crate) struct FoundOutcome {
 
 /// All outcomes as csv: of each how many schedules have it, its replies and pairs, and the first of
 /// these schedules.
-pub fn outcomes_text(alloc: Global, found: &Exploration) -> Result<String, AllocError> {
+pub fn outcomes_text(alloc: Global, found: &Exploration) -> Result<String, NoMemory> {
     let mut text = String::new(alloc);
     writeln!(text, "outcomes,1,{},", found.played)?;
     for (place, outcome) in found.outcomes.iter().enumerate() {
@@ -34,12 +35,12 @@ pub fn outcomes_text(alloc: Global, found: &Exploration) -> Result<String, Alloc
 }
 
 /// How many schedules are played and how many are left, as a line; nothing where none is left.
-pub fn left_text(alloc: Global, found: &Exploration) -> Result<String, AllocError> {
+pub fn left_text(alloc: Global, found: &Exploration) -> Result<String, NoMemory> {
     let (played, left) = (found.played, found.left);
     if left == 0 {
         return Ok(String::new(alloc));
     }
-    format!(in alloc; "{played} schedules are played, and {left} that branch off are left\n")
+    Ok(format!(in alloc; "{played} schedules are played, and {left} that branch off are left\n")?)
 }
 
 /// Adds the rows of a schedule.

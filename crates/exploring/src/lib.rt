@@ -2,13 +2,11 @@
 #![tactic(auto)]
 
 mod branches;
-mod fault;
 mod found;
 mod outcome;
 mod playing;
 mod search;
 mod stretch;
 
-pub use fault::ExploreFault;
 pub use found::{left_text, outcomes_text};
 pub use search::{Exploration, explore};

@@ -1,12 +1,11 @@
 //! The search through all schedules.
 use crate::branches::{Branches, calls_of};
-use crate::fault::ExploreFault;
 use crate::found::FoundOutcome;
 use crate::outcome::outcome_text;
 use crate::playing::play_on;
 use crate::stretch::{Begun, branch_off};
-use arena::PassNo;
-use audit::audit;
+use arena::{NoMemory, PassNo};
+use audit::{AuditFault, audit};
 use record::Record;
 use script::Script;
 use std::alloc::{AllocError, Global};
@@ -39,22 +38,29 @@ pub fn explore(
     script: &Script,
     interruptions: u32,
     most: u64,
-) -> Result<Exploration, ExploreFault> {
+) -> Result<Exploration, AuditFault> {
     let mut exploration = Exploration {
         played: 0,
         left: 0,
         outcomes: Vec::new(alloc),
-        now: first_of(alloc, script)?,
+        now: first_of(alloc, script).map_err(no_memory)?,
         later: Vec::new(alloc),
     };
     for _ in 0..most {
         let Some(next) = exploration.next() else {
             return Ok(exploration);
         };
-        exploration.play(alloc, script, &next, interruptions, most)?;
+        let new = exploration.play(alloc, script, &next, interruptions, most);
+        if let Some(record) = new.map_err(no_memory)? {
+            audit(alloc, &record)?;
+        }
     }
     exploration.leave();
     Ok(exploration)
+}
+
+fn no_memory(_refused: NoMemory) -> AuditFault {
+    AuditFault::NoMemory
 }
 
 impl Exploration {
@@ -66,7 +72,8 @@ impl Exploration {
         self.now.pop()
     }
 
-    /// Plays a schedule, and notes its outcome and those that branch off from it.
+    /// Plays a schedule, and notes its outcome and those that branch off from it. Answers the record of
+    /// an outcome that is new.
     fn play(
         &mut self,
         alloc: Global,
@@ -74,7 +81,7 @@ impl Exploration {
         begun: &Begun,
         interruptions: u32,
         most: u64,
-    ) -> Result<(), ExploreFault> {
+    ) -> Result<Option<Record>, NoMemory> {
         let record = play_on(alloc, script, begun)?;
         self.played = self.played.saturating_add(1);
         let mut branches = Branches::of(alloc, &record, begun)?;
@@ -86,7 +93,8 @@ impl Exploration {
                 self.keep_for_later(branch, most)?;
             }
         }
-        self.note(alloc, &record, begun.interruptions, branches)
+        let is_new = self.note(alloc, &record, begun.interruptions, branches)?;
+        Ok(if is_new { Some(record) } else { None })
     }
 
     /// Whether more schedules wait than may be played.
@@ -113,30 +121,29 @@ impl Exploration {
         Ok(())
     }
 
-    /// Notes the outcome of a play.
+    /// Notes the outcome of a play, and answers whether it is new.
     fn note(
         &mut self,
         alloc: Global,
         record: &Record,
         interruptions: u32,
         branches: Branches,
-    ) -> Result<(), ExploreFault> {
+    ) -> Result<bool, NoMemory> {
         let text = outcome_text(alloc, record)?;
         for outcome in self.outcomes.iter_mut() {
             if outcome.text.as_str() == text.as_str() {
                 outcome.schedules = outcome.schedules.saturating_add(1);
-                return Ok(());
+                return Ok(false);
             }
         }
-        audit(alloc, record)?;
         let outcome = FoundOutcome {
             text,
             schedules: 1,
             interruptions,
             first: branches.into_stretches(),
         };
-        self.outcomes.push(outcome).map_err(AllocError::from)?;
-        Ok(())
+        self.outcomes.push(outcome)?;
+        Ok(true)
     }
 
     /// Counts what is left.
@@ -147,7 +154,7 @@ impl Exploration {
 }
 
 /// The schedules that begin with each client that has a call, or one of no turns.
-fn first_of(alloc: Global, script: &Script) -> Result<Vec<Begun>, AllocError> {
+fn first_of(alloc: Global, script: &Script) -> Result<Vec<Begun>, NoMemory> {
     let mut first = Vec::new(alloc);
     let calls = calls_of(alloc, script.calls.as_slice(), script.layout.passes)?;
     for (number, calls) in calls.iter().enumerate().rev() {

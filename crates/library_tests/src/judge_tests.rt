@@ -419,33 +419,21 @@ fn edited(alloc: Global, edit: Edit) -> Result<Vec<Row>, AllocError> {
     Ok(rows)
 }
 
-fn judge_edits(rt: &impl process::Abort, alloc: Global, edits: &[Judged]) -> Result<(), Fail> {
+#[test]
+fn changed_runs_are_judged(rt: HostRuntime) -> Result<(), Fail> {
     let layout = cells()?;
-    for (number, (want, edit)) in edits.iter().enumerate() {
-        let rows = edited(alloc, *edit)?;
-        judged(rt, alloc, &layout, (number, rows.as_slice()), *want)?;
+    for edits in [
+        LOADS.as_slice(),
+        FILLS.as_slice(),
+        FREEZES.as_slice(),
+        ENDS.as_slice(),
+    ] {
+        for (number, (want, edit)) in edits.iter().enumerate() {
+            let rows = edited(rt.alloc(), *edit)?;
+            judged(&rt, rt.alloc(), &layout, (number, rows.as_slice()), *want)?;
+        }
     }
     Ok(())
-}
-
-#[test]
-fn loads_are_judged(rt: HostRuntime) -> Result<(), Fail> {
-    judge_edits(&rt, rt.alloc(), &LOADS)
-}
-
-#[test]
-fn fills_are_judged(rt: HostRuntime) -> Result<(), Fail> {
-    judge_edits(&rt, rt.alloc(), &FILLS)
-}
-
-#[test]
-fn freezes_are_judged(rt: HostRuntime) -> Result<(), Fail> {
-    judge_edits(&rt, rt.alloc(), &FREEZES)
-}
-
-#[test]
-fn ends_are_judged(rt: HostRuntime) -> Result<(), Fail> {
-    judge_edits(&rt, rt.alloc(), &ENDS)
 }
 
 /// What an SCX-record says of one node: its plan, `new`, `old`, the node and what was seen there.
@@ -521,38 +509,6 @@ fn begins_are_judged(rt: HostRuntime) -> Result<(), Fail> {
     Ok(())
 }
 
-/// These rows are lawful, and, where there is one, the row behind them is not.
-fn is_lawful(
-    rt: &impl process::Abort,
-    alloc: Global,
-    layout: &Layout,
-    rows: &[Made],
-    then: &[Made],
-) -> Result<(), Fail> {
-    let mut run = Vec::new(alloc);
-    push_all(&mut run, rows)?;
-    judged(rt, alloc, layout, (0, run.as_slice()), None)?;
-    push_all(&mut run, then)?;
-    let want = if then.is_empty() {
-        None
-    } else {
-        Some(rows.len())
-    };
-    judged(rt, alloc, layout, (1, run.as_slice()), want)
-}
-
-#[test]
-fn a_run_of_cells_is_lawful(rt: HostRuntime) -> Result<(), Fail> {
-    is_lawful(&rt, rt.alloc(), &cells()?, &RUN, &[])
-}
-
-#[test]
-fn an_insert_is_lawful(rt: HostRuntime) -> Result<(), Fail> {
-    // a leaf below the new node is named with it
-    let late = [Fill(0, N(3, VALUE), 50, 51)];
-    is_lawful(&rt, rt.alloc(), &layout(Mode::Tree, 1, 10)?, &INSERT, &late)
-}
-
 /// A client sets cell 1 after so many times before, when its left field holds this.
 fn set_again(number: u32, left: u64) -> [Made; 20] {
     let state = if number == 0 { 2 } else { 1 };
@@ -582,14 +538,21 @@ fn set_again(number: u32, left: u64) -> [Made; 20] {
     ]
 }
 
-/// One client sets cell 1 again and again: 120 times.
+/// One client sets cell 1 again and again: 120 times. And an insert, after which a leaf below the new
+/// node is filled late: it is named with that node.
 #[test]
-fn a_long_run_is_lawful(rt: HostRuntime) -> Result<(), Fail> {
+fn long_runs_and_inserts_are_judged(rt: HostRuntime) -> Result<(), Fail> {
     let mut rows = Vec::new(rt.alloc());
     push_all(&mut rows, &set_again(0, 0))?;
     for number in 1..120 {
         push_all(&mut rows, &set_again(number, u64::from(number) + 8))?;
     }
-    let layout = layout(Mode::Records, 1, 300)?;
-    judged(&rt, rt.alloc(), &layout, (0, rows.as_slice()), None)
+    let cells = layout(Mode::Records, 1, 300)?;
+    judged(&rt, rt.alloc(), &cells, (0, rows.as_slice()), None)?;
+    let mut rows = Vec::new(rt.alloc());
+    push_all(&mut rows, &INSERT)?;
+    push_all(&mut rows, &[Fill(0, N(3, VALUE), 50, 51)])?;
+    let tree = layout(Mode::Tree, 1, 10)?;
+    let late = Some(INSERT.len());
+    judged(&rt, rt.alloc(), &tree, (1, rows.as_slice()), late)
 }

@@ -179,20 +179,7 @@ fn trees_spell_their_pairs(rt: HostRuntime) -> Result<(), Fail> {
     Ok(())
 }
 
-/// These nodes spell nothing once these are changed, one at a time.
-fn each_breaks(
-    rt: &impl Abort,
-    alloc: Global,
-    nodes: &[Node],
-    changed: &[Node],
-) -> Result<(), Fail> {
-    for (place, node) in changed.iter().enumerate() {
-        let table = written(alloc, nodes, &[*node])?;
-        same(rt, (place, count_pairs(alloc, &table)?), (place, None));
-    }
-    Ok(())
-}
-
+/// Nodes of `FOUR_PAIRS` with keys out of order.
 const OUT_OF_ORDER: [Node; 8] = [
     // at the fork's key on its left, below it on its right
     Leaf(5, 3, 0, 2, 10),
@@ -208,11 +195,7 @@ const OUT_OF_ORDER: [Node; 8] = [
     Leaf(11, 3, 0, 9, 0),
 ];
 
-#[test]
-fn keys_out_of_order_spell_nothing(rt: HostRuntime) -> Result<(), Fail> {
-    each_breaks(&rt, rt.alloc(), &FOUR_PAIRS, &OUT_OF_ORDER)
-}
-
+/// Others of it, with levels that do not rise.
 const NOT_RISING: [Node; 8] = [
     Leaf(5, 2, 0, 1, 10),
     Leaf(6, 1, 0, 2, 20),
@@ -224,11 +207,7 @@ const NOT_RISING: [Node; 8] = [
     Leaf(2, 0, 2, 0, 0),
 ];
 
-#[test]
-fn levels_that_do_not_rise_spell_nothing(rt: HostRuntime) -> Result<(), Fail> {
-    each_breaks(&rt, rt.alloc(), &FOUR_PAIRS, &NOT_RISING)
-}
-
+/// Nodes of `ONE_PAIR` that make cycles, or share a node.
 const SHARED: [Node; 10] = [
     Fork(0, 0, 2, 0, (0, 2)),
     Fork(3, 1, 1, 0, (3, 5)),
@@ -243,11 +222,7 @@ const SHARED: [Node; 10] = [
     Fork(0, 0, 2, 0, (2, 2)),
 ];
 
-#[test]
-fn cycles_and_shared_nodes_spell_nothing(rt: HostRuntime) -> Result<(), Fail> {
-    each_breaks(&rt, rt.alloc(), &ONE_PAIR, &SHARED)
-}
-
+/// Others of it, with children outside of the tree.
 const OUTSIDE: [Node; 5] = [
     Fork(3, 1, 1, 0, (15, 5)),
     Fork(3, 1, 1, 0, (4, 15)),
@@ -257,9 +232,27 @@ const OUTSIDE: [Node; 5] = [
     Fork(3, 1, 1, 0, (6, 5)),
 ];
 
+/// Trees, and nodes of which each, changed by itself, has them spell nothing.
+const CHANGED: [(&[Node], &[Node]); 4] = [
+    (&FOUR_PAIRS, &OUT_OF_ORDER),
+    (&FOUR_PAIRS, &NOT_RISING),
+    (&ONE_PAIR, &SHARED),
+    (&ONE_PAIR, &OUTSIDE),
+];
+
 #[test]
-fn nodes_outside_of_the_table_spell_nothing(rt: HostRuntime) -> Result<(), Fail> {
-    each_breaks(&rt, rt.alloc(), &ONE_PAIR, &OUTSIDE)
+fn changed_trees_spell_nothing(rt: HostRuntime) -> Result<(), Fail> {
+    for (nodes, changed) in CHANGED {
+        for (place, node) in changed.iter().enumerate() {
+            let table = written(rt.alloc(), nodes, &[*node])?;
+            same(
+                &rt,
+                (place, count_pairs(rt.alloc(), &table)?),
+                (place, None),
+            );
+        }
+    }
+    Ok(())
 }
 
 /// Trees of other classes, or with another last leaf.
@@ -336,15 +329,6 @@ fn full_leaf(alloc: Global, changed: (SettledPart, u64)) -> Result<PlainWords, F
     Ok(table)
 }
 
-#[test]
-fn a_leaf_spells_as_many_pairs_as_it_says(rt: HostRuntime) -> Result<(), Fail> {
-    for more in 0..FULL_PAIRS.len() {
-        let table = full_leaf(rt.alloc(), (More, more as u64))?;
-        spells(&rt, rt.alloc(), &table, &FULL_PAIRS[..=more])?;
-    }
-    Ok(())
-}
-
 const BROKEN_LEAF: [(SettledPart, u64); 9] = [
     // more pairs than a leaf has room for
     (More, 4),
@@ -360,7 +344,11 @@ const BROKEN_LEAF: [(SettledPart, u64); 9] = [
 ];
 
 #[test]
-fn a_leaf_of_other_words_spells_nothing(rt: HostRuntime) -> Result<(), Fail> {
+fn a_leaf_spells_as_many_pairs_as_it_says(rt: HostRuntime) -> Result<(), Fail> {
+    for more in 0..FULL_PAIRS.len() {
+        let table = full_leaf(rt.alloc(), (More, more as u64))?;
+        spells(&rt, rt.alloc(), &table, &FULL_PAIRS[..=more])?;
+    }
     for (place, changed) in BROKEN_LEAF.iter().enumerate() {
         let table = full_leaf(rt.alloc(), *changed)?;
         let count = count_pairs(rt.alloc(), &table)?;
@@ -409,11 +397,7 @@ fn the_deepest_tree_is_read(rt: HostRuntime) -> Result<(), Fail> {
     write_deep(&mut table);
     let count = count_pairs(rt.alloc(), &table)?;
     same(&rt, count, Some(DEPTH as usize));
-    Ok(())
-}
-
-#[test]
-fn laws_are_learnt(_rt: HostRuntime) -> Result<(), Fail> {
+    // what a caller learns by these takes no step
     laws_hold();
     map_laws_hold();
     Ok(())

@@ -51,11 +51,11 @@ one_pair (p ∷ ps) = refl
 -- the last pair has the greatest key
 last_above : (k : ℕ) (p : Pair) (m : List Pair) → AllAbove k m → last_pair m ≡ Some p → k < p.key
 last_above k p [] a e = absurd (let z : None ≡ Some p = e in cc)
-last_above k p (q ∷ qs) a e = go (last_pair qs) refl e
+last_above k p (q ∷ qs) a e = go (last_pair qs) refl (last_above k p qs a.1) e
   where
-    go : (last : Option Pair) → last_pair qs ≡ last → Some (unwrap_or last q) ≡ Some p → k < p.key
-    go None none is = let same : q ≡ p = cc in subst (λ (r : Pair). k < r.key) same a.0
-    go (Some r) some is = let same : r ≡ p = cc in last_above k p qs a.1 (some ∙ ap (λ (x : Pair). Some x) same)
+    go : (last : Option Pair) → last_pair qs ≡ last → (last_pair qs ≡ Some p → k < p.key) → Some (unwrap_or last q) ≡ Some p → k < p.key
+    go None none later is = let same : q ≡ p = cc in subst (λ (r : Pair). k < r.key) same a.0
+    go (Some r) some later is = let same : r ≡ p = cc in later (some ∙ ap (λ (x : Pair). Some x) same)
 
 -- from a key on there are all the pairs of a map with keys above it
 from_above : (k : ℕ) (m : List Pair) → AllAbove k m → filter (λ (q : Pair). leb k q.key) m ≡ m
@@ -69,7 +69,7 @@ above_less j k (p ∷ ps) l a = ((let x = a.0 in omega (x, l, arith)), above_les
 -- a pair is the last one where it is found alone from its key on
 alone_last : (p : Pair) (m : List Pair) → IsRising m → take 2 (filter (λ (q : Pair). leb p.key q.key) m) ≡ p ∷ [] → last_pair m ≡ Some p
 alone_last p [] r e = absurd (let z : [] ≡ p ∷ [] = e in cc)
-alone_last p (q ∷ qs) r e = ⊎_elim here later (leb_tells p.key q.key)
+alone_last p (q ∷ qs) r e = ⊎_elim here (later (alone_last p qs r.1)) (leb_tells p.key q.key)
   where
     here : (leb p.key q.key ≡ true) × (p.key ≤ q.key) → last_pair (q ∷ qs) ≡ Some p
     here t =
@@ -81,8 +81,8 @@ alone_last p (q ∷ qs) r e = ⊎_elim here later (leb_tells p.key q.key)
         alone [] is = let same : q ≡ p = cc in ap (λ (x : Pair). Some x) same
         alone (x ∷ ps) is = absurd (let z : q ∷ x ∷ [] ≡ p ∷ [] = is in cc)
 
-    later : (leb p.key q.key ≡ false) × (q.key < p.key) → last_pair (q ∷ qs) ≡ Some p
-    later f = ap (λ (o : Option Pair). Some (unwrap_or o q)) (alone_last p qs r.1 (rw f.0 at e))
+    later : (take 2 (filter (λ (x : Pair). leb p.key x.key) qs) ≡ p ∷ [] → last_pair qs ≡ Some p) → (leb p.key q.key ≡ false) × (q.key < p.key) → last_pair (q ∷ qs) ≡ Some p
+    later rest f = ap (λ (o : Option Pair). Some (unwrap_or o q)) (rest (rw f.0 at e))
 
 last_alone : (p : Pair) (m : List Pair) → IsRising m → last_pair m ≡ Some p → take 2 (filter (λ (q : Pair). leb p.key q.key) m) ≡ p ∷ []
 last_alone p [] r e = absurd (let z : None ≡ Some p = e in cc)
@@ -117,27 +117,24 @@ last_tells (p ∷ q ∷ ps) m r = (λ e. absurd (none m e), λ e. absurd (two (l
     two None e = let z : [] ≡ p ∷ q ∷ ps = e in cc
     two (Some x) e = let z : x ∷ [] ≡ p ∷ q ∷ ps = e in cc
 
+by_same : (told m : List Pair) (command : Command) (call : MapCall) → pairs_in (Some (reply call m)) ≡ pairs_read command told m → Tells command told m ↔ (pairs_in (Some (reply call m)) ≡ told)
+by_same told m command call e = (λ x. e ∙ x, λ x. sym e ∙ x)
+
 -- the reply to an ordered read has just the pairs that it tells
 pub reply_tells : (command : Command) (call : MapCall) (told m : List Pair) → IsOrderedRead command → map_call (Some command) ≡ Some call → IsRising m → Tells command told m ↔ (pairs_in (Some (reply call m)) ≡ told)
+reply_tells (Map PopOf) call told m ordered is rises =
+    let same : call_pop_first ≡ call = cc in
+    by_same told m (Map PopOf) call (ap (λ (c : MapCall). pairs_in (Some (reply c m))) (sym same) ∙ one_pair m ∙ ap (take 1) (filter_all m))
 reply_tells (Map PopLastOf) call told m ordered is rises =
     let same : call_pop_last ≡ call = cc in
     subst (λ (c : MapCall). Tells (Map PopLastOf) told m ↔ (pairs_in (Some (reply c m)) ≡ told)) same (last_tells told m rises)
-reply_tells command call told m ordered is rises = by_same (reads command ordered is)
-  where
-    by_same : pairs_in (Some (reply call m)) ≡ pairs_read command told m → Tells command told m ↔ (pairs_in (Some (reply call m)) ≡ told)
-    by_same e = (λ x. e ∙ x, λ x. sym e ∙ x)
-
-    reads : (read : Command) → IsOrderedRead read → map_call (Some read) ≡ Some call → pairs_in (Some (reply call m)) ≡ pairs_read read told m
-    reads (Map PopOf) o e =
-        let same : call_pop_first ≡ call = cc in
-        ap (λ (c : MapCall). pairs_in (Some (reply c m))) (sym same) ∙ one_pair m ∙ ap (take 1) (filter_all m)
-    reads (Map (SuccessorOf k)) o e =
-        let same : Successor k ≡ call = cc in
-        ap (λ (c : MapCall). pairs_in (Some (reply c m))) (sym same) ∙ ap (λ (f : Option Pair). pairs_in (Some (pair_or_none f))) (successor_first k m) ∙ one_pair (filter (λ (p : Pair). ltb k p.key) m)
-    reads (Map (RangeOf low high most)) o e =
-        let same : Range low high most ≡ call = cc in
-        ap (λ (c : MapCall). pairs_in (Some (reply c m))) (sym same) ∙ ap (take most) (between_all low high m)
-    reads read o e = absurd o
+reply_tells (Map (SuccessorOf k)) call told m ordered is rises =
+    let same : Successor k ≡ call = cc in
+    by_same told m (Map (SuccessorOf k)) call (ap (λ (c : MapCall). pairs_in (Some (reply c m))) (sym same) ∙ ap (λ (f : Option Pair). pairs_in (Some (pair_or_none f))) (successor_first k m) ∙ one_pair (filter (λ (p : Pair). ltb k p.key) m))
+reply_tells (Map (RangeOf low high most)) call told m ordered is rises =
+    let same : Range low high most ≡ call = cc in
+    by_same told m (Map (RangeOf low high most)) call (ap (λ (c : MapCall). pairs_in (Some (reply c m))) (sym same) ∙ ap (take most) (between_all low high m))
+reply_tells command call told m ordered is rises = absurd ordered
 
 -- replies of a pair, or none, that have the same pairs are the same
 same_pairs : (o p : Option Pair) → pairs_in (Some (pair_or_none o)) ≡ pairs_in (Some (pair_or_none p)) → pair_or_none o ≡ pair_or_none p

@@ -2,23 +2,14 @@
 //! interruptions.
 #![tactic(auto)]
 
-mod ask;
-mod fault;
-mod words;
-
-use crate::ask::explore_words;
-use std::io::Write;
+use command_line::{explore_words, words_of};
 use std::process::ExitCode;
 
-/// A fault is told in a line on standard error, and by the exit status.
 fn main(rt: HostRuntime) -> ExitCode {
     let mut err = rt.stderr();
-    let status = match explore_words(&rt, &mut rt.stdout(), &mut err) {
-        Ok(()) => 0,
-        Err(fault) => {
-            let _ = writeln!(err, "{fault}");
-            fault.status()
-        }
+    let status = match words_of(&rt) {
+        Ok(words) => explore_words(&rt, words.as_slice(), &mut rt.stdout(), &mut err),
+        Err(fault) => fault.print(&mut err),
     };
     ExitCode::from(status)
 }

@@ -1,22 +1,14 @@
 //! The program `picture`: draws a report as an SVG.
 #![tactic(auto)]
 
-mod ask;
-mod fault;
-mod words;
-
-use crate::ask::draw_words;
-use std::io::Write;
+use command_line::{draw_words, words_of};
 use std::process::ExitCode;
 
-/// A fault is told in a line on standard error, and by the exit status.
 fn main(rt: HostRuntime) -> ExitCode {
-    let status = match draw_words(&rt, &mut rt.stdout()) {
-        Ok(()) => 0,
-        Err(fault) => {
-            let _ = writeln!(rt.stderr(), "{fault}");
-            fault.status()
-        }
+    let mut err = rt.stderr();
+    let status = match words_of(&rt) {
+        Ok(words) => draw_words(&rt, words.as_slice(), &mut rt.stdout(), &mut err),
+        Err(fault) => fault.print(&mut err),
     };
     ExitCode::from(status)
 }

@@ -348,35 +348,40 @@ fn raced<R: Threads + Sync>(
     }
 }
 
+/// So many threads; what they do before and in a race; and how it is to end.
+type Race = (u32, [Work; 2], Left, Option<(usize, u64)>);
+
 /// Nothing is put in before a race.
 const NOTHING: Work = Work::First { keys: 0 };
 
-#[test]
-fn two_threads_put_in_keys_of_their_own(rt: HostRuntime) -> Result<(), Fail> {
-    let ended = raced(&rt, rt.alloc(), 2, [NOTHING, Work::Own])?;
-    ended.is_as(&rt, rt.alloc(), Left::Keys(0, 2000), Some((2000, 1)))
-}
+const RACES: [Race; 5] = [
+    (
+        2,
+        [NOTHING, Work::Own],
+        Left::Keys(0, 2000),
+        Some((2000, 1)),
+    ),
+    (8, [NOTHING, Work::Mixed], Left::Some, Some((4000, 2))),
+    (4, [NOTHING, Work::Window], Left::Keys(980, 20), None),
+    (
+        2,
+        [Work::First { keys: 1000 }, Work::Pop],
+        Left::Keys(0, 0),
+        Some((1000, 1)),
+    ),
+    (
+        8,
+        [Work::First { keys: 1 }, Work::Count],
+        Left::Count(4000),
+        Some((4001, 1)),
+    ),
+];
 
 #[test]
-fn eight_threads_take_out_what_they_put_in(rt: HostRuntime) -> Result<(), Fail> {
-    let ended = raced(&rt, rt.alloc(), 8, [NOTHING, Work::Mixed])?;
-    ended.is_as(&rt, rt.alloc(), Left::Some, Some((4000, 2)))
-}
-
-#[test]
-fn three_threads_see_a_window_move(rt: HostRuntime) -> Result<(), Fail> {
-    let ended = raced(&rt, rt.alloc(), 4, [NOTHING, Work::Window])?;
-    ended.is_as(&rt, rt.alloc(), Left::Keys(980, 20), None)
-}
-
-#[test]
-fn two_threads_take_out_each_pair_once(rt: HostRuntime) -> Result<(), Fail> {
-    let ended = raced(&rt, rt.alloc(), 2, [Work::First { keys: 1000 }, Work::Pop])?;
-    ended.is_as(&rt, rt.alloc(), Left::Keys(0, 0), Some((1000, 1)))
-}
-
-#[test]
-fn eight_threads_count_up(rt: HostRuntime) -> Result<(), Fail> {
-    let ended = raced(&rt, rt.alloc(), 8, [Work::First { keys: 1 }, Work::Count])?;
-    ended.is_as(&rt, rt.alloc(), Left::Count(4000), Some((4001, 1)))
+fn threads_share_a_dictionary(rt: HostRuntime) -> Result<(), Fail> {
+    for (threads, works, left, steps) in RACES {
+        let ended = raced(&rt, rt.alloc(), threads, works)?;
+        ended.is_as(&rt, rt.alloc(), left, steps)?;
+    }
+    Ok(())
 }

@@ -5,7 +5,7 @@ ghost use Rattle.forest.specs.Passes.{IsOf};
 use super::{end, fields, limits, put};
 use crate::same::same;
 use arena::{Limits, NodeNo, ScxNo, Side};
-use forest::{Closed, Forest, Full, NewFault, Pass, Resource};
+use forest::{Closed, Forest, Full, Pass, Resource};
 use prims::{Cells, Llx, Scx, Vlx};
 use std::alloc::{AllocError, Global};
 use std::test::Fail;
@@ -147,17 +147,6 @@ fn a_share_runs_out(rt: HostRuntime) {
         let full = Full { what, left: 0 };
         let refused = second_put(rt.alloc(), limits(1, nodes, scx));
         same(&rt, refused, Some(Err(full)));
-    }
-}
-
-#[test]
-fn limits_out_of_range_are_refused(rt: HostRuntime) {
-    for passes in [0, 33] {
-        let refused = match Forest::<Cells>::new(rt.alloc(), limits(passes, 1, 1)) {
-            Ok(_) => None,
-            Err(fault) => Some(fault),
-        };
-        same(&rt, refused, Some(NewFault::Limits));
     }
 }
 

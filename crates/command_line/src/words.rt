@@ -1,0 +1,71 @@
+//! What all programs share: how they read their words, and how they end.
+ghost use Rattle.std.specs.Prelude.{◌≤◌};
+
+use clap::error::ErrorKind;
+use clap::{Arg, ArgAction, ArgMatches, Command, Error};
+use program::Fault;
+use std::alloc::Global;
+use std::convert::AsStr;
+use std::io::Write;
+use std::rt::Env;
+use std::{env, io};
+use texts::number_of;
+
+/// All words that the program is given, of which the first is its own name.
+pub fn words_of<R: Env + AllocGlobal>(rt: &R) -> Result<Vec<String>, Fault> {
+    match env::args(rt) {
+        Ok(words) => words.collect(rt.alloc()).map_err(|_| Fault::NoMemory),
+        Err(error) if error.kind() == io::ErrorKind::OutOfMemory => Err(Fault::NoMemory),
+        Err(_) => Err(Fault::Usage),
+    }
+}
+
+/// What these words give to a command, of which the first is the program's own name. A wish for help
+/// is a fault of usage too.
+pub(crate) fn given_to<'a, S: AsStr>(
+    command: Result<Command<'a>, Error>,
+    words: &'a [S],
+) -> Result<ArgMatches<'a>, Fault> {
+    match matches_of(command, words) {
+        Ok(given) => Ok(given),
+        Err(error) => match error.kind() {
+            ErrorKind::OutOfMemory => Err(Fault::NoMemory),
+            _ => Err(Fault::Usage),
+        },
+    }
+}
+
+fn matches_of<'a, S: AsStr>(
+    command: Result<Command<'a>, Error>,
+    words: &'a [S],
+) -> Result<ArgMatches<'a>, Error> {
+    command?.try_get_matches_from(words)
+}
+
+/// The name of a file, which a command needs.
+pub(crate) fn file<'a>(alloc: Global, name: &'a str) -> Arg<'a> {
+    Arg::new(alloc, name).required(true).action(ArgAction::Set)
+}
+
+/// What may be given after `--name`.
+pub(crate) fn option<'a>(alloc: Global, name: &'a str) -> Arg<'a> {
+    Arg::new(alloc, name).long(name).action(ArgAction::Set)
+}
+
+/// The number that is given to this option, or this one where the option is left out.
+pub(crate) fn number(given: &ArgMatches<'_>, name: &str, otherwise: u64) -> Option<u64> {
+    match given.get_str(name) {
+        Some(number) => number_of(number),
+        None => Some(otherwise),
+    }
+}
+
+/// The status with which a program ends that has done this; a fault is told in a line.
+pub fn exit_status<E: Write>(done: Result<(), Fault>, err: &mut E) -> u8
+    ensures { result ≤ 4 }
+{
+    match done {
+        Ok(()) => 0,
+        Err(fault) => fault.print(err),
+    }
+}
