@@ -4,4 +4,4 @@ pub use Rattle.moments.proofs.Readings.{IsFoundFor, get_turn, get_placed, value_
 pub use Rattle.moments.proofs.Keys.{knows_told, knows_first}
 pub use Rattle.moments.proofs.Falls.{falls}
 pub use Rattle.moments.proofs.Spelled.{spelled, are_spelled}
-pub use Rattle.moments.proofs.OrderedReads.{reply_tells}
+pub use Rattle.moments.proofs.OrderedReads.{map_rises, reply_tells}

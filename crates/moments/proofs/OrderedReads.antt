@@ -13,6 +13,7 @@ use Rattle.ordered_map.specs.declared.request.Request.TheVariants.{PopFirst as P
 use Rattle.record.specs.declared.record.Line.{Line}
 use Rattle.record.specs.MapRecord.{map_call, map_at, written_log}
 use Rattle.record.specs.Placed.{IsGreatestTurn}
+use Rattle.moments.specs.declared.places.Change.{Change}
 use Rattle.moments.specs.declared.places.Place.{Place}
 use Rattle.moments.specs.Entries.{AreEntries}
 use Rattle.moments.specs.Ordered.{FallFrom, IsOrderedRead, Tells, is_unlike, pairs_in, pairs_read}
@@ -153,25 +154,29 @@ same_reply command call m n ordered is = absurd ordered
 
 -- The best turn
 
+-- the keys of a run's map rise
+pub map_rises : (calls : List Call) (lines : List Line) (changes : List Change) (m : ℕ) → AreEntries calls lines changes → IsRising (map_at calls lines m)
+map_rises calls lines changes m are = (values calls (written_log lines) changes m are).0
+
 module _ (command : Command) (pairs : List Pair) (all : List Place) (calls : List Call) (lines : List Line) (are : AreEntries calls lines (changes_of all)) where
-  pub map_rises : (m : ℕ) → IsRising (map_at calls lines m)
-  map_rises m = (values calls (written_log lines) (changes_of all) m are).0
+  rises : (m : ℕ) → IsRising (map_at calls lines m)
+  rises m = map_rises calls lines (changes_of all) m are
 
   unlike_now : (j m : ℕ) → is_unlike command pairs j (get j (map_at calls lines m)) ≡ is_unlike command pairs j (value_at j m (changes_of all))
   unlike_now j m = ap (is_unlike command pairs j) (value_is calls (written_log lines) (changes_of all) j m are)
 
   -- where the pairs are told no key is unlike them
   weightless : (m : ℕ) → Tells command pairs (map_at calls lines m) → weight_at (is_unlike command pairs) (key_bound (changes_of all)) (changes_of all) m ≡ 0
-  weightless m told = count_nothing (key_bound (changes_of all)) (λ j. is_unlike command pairs j (value_at j m (changes_of all))) (λ j. sym (unlike_now j m) ∙ told_like command pairs (map_at calls lines m) (map_rises m) told j)
+  weightless m told = count_nothing (key_bound (changes_of all)) (λ j. is_unlike command pairs j (value_at j m (changes_of all))) (λ j. sym (unlike_now j m) ∙ told_like command pairs (map_at calls lines m) (rises m) told j)
 
   -- and where no key is they are told, if they are told at all
   told_there : (n m : ℕ) → Tells command pairs (map_at calls lines n) → weight_at (is_unlike command pairs) (key_bound (changes_of all)) (changes_of all) m ≡ 0 → Tells command pairs (map_at calls lines m)
-  told_there n m told none = like_told command pairs (map_at calls lines m) (map_at calls lines n) (map_rises m) (map_rises n) told like
+  told_there n m told none = like_told command pairs (map_at calls lines m) (map_at calls lines n) (rises m) (rises n) told like
     where
       like : (j : ℕ) → is_unlike command pairs j (get j (map_at calls lines m)) ≡ false
       like j = elim (cases_lt j (key_bound (changes_of all))) [
         | inl q ↦ unlike_now j m ∙ nothing_counted (key_bound (changes_of all)) (λ i. is_unlike command pairs i (value_at i m (changes_of all))) none j q
-        | inr q ↦ unlike_now j m ∙ ap (is_unlike command pairs j) (value_beyond j m (changes_of all) q ∙ sym (value_beyond j n (changes_of all) q)) ∙ sym (unlike_now j n) ∙ told_like command pairs (map_at calls lines n) (map_rises n) told j
+        | inr q ↦ unlike_now j m ∙ ap (is_unlike command pairs j) (value_beyond j m (changes_of all) q ∙ sym (value_beyond j n (changes_of all) q)) ∙ sym (unlike_now j n) ∙ told_like command pairs (map_at calls lines n) (rises n) told j
       ]
 
   pub best_told : (first last best more n : ℕ) (rest : List Place) → IsWeighed (is_unlike command pairs) (key_bound (changes_of all)) first last best more all rest → FallFrom (suc first) (changes_of rest) → first ≤ n → n ≤ last → Tells command pairs (map_at calls lines n) → IsGreatestTurn (λ m. Tells command pairs (map_at calls lines m)) first last best

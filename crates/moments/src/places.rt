@@ -161,7 +161,10 @@ impl Places {
         ensures none { (calls : List Call) (lines : List Line) → AreEntries calls lines (changes self.now) → result ≡ false →
             (n : ℕ) → first ≤ n → n ≤ last → first_pair (map_at calls lines n) ≡ None }
     {
-        for (key, _) in self.newest.range(bounds(&Command::Map(Request::PopFirst), &[])) {
+        for (key, _) in self
+            .newest
+            .range(bounds(&Command::Map(Request::PopFirst), &[]))
+        {
             if self.had_some(*key, first, last) {
                 return true;
             }

@@ -6,7 +6,7 @@ use Rattle.std.specs.Option.{option_map}
 use Rattle.arena.specs.declared.fault.Full.{Full as FullOf}
 use Rattle.arena.specs.declared.layout.Layout.{Layout}
 use Rattle.arena.specs.declared.word.Side.{Side}
-use Rattle.arena.specs.declared.word.Side.TheVariants.{Left}
+use Rattle.arena.specs.declared.word.Side.TheVariants.{Left, Right}
 use Rattle.arena.specs.History.{History, value, Extends}
 use Rattle.arena.specs.Machines.{Call as MachineCall}
 use Rattle.arena.specs.Share.{Remaining}
@@ -17,7 +17,7 @@ use Rattle.ordered_map.specs.OrderedMap.{MapCall, MapEdit, MapReply, OneValue, O
 use Rattle.ordered_map.specs.declared.rule.Goal.{Goal}
 use Rattle.ordered_map.specs.declared.rule.Goal.TheVariants.{Key, End}
 use Rattle.ordered_map.specs.declared.rule.Rule.{Rule}
-use Rattle.ordered_map.specs.declared.rule.Rule.TheVariants.{Put, Take, Swap}
+use Rattle.ordered_map.specs.declared.rule.Rule.TheVariants.{Put, Take, Swap, PutNew, TakeIf}
 use Rattle.ordered_map.specs.Paths.{IsAnswerAt}
 use Rattle.ordered_map.specs.Replies.{number_reply, word_pair}
 use Rattle.ordered_map.specs.Requests.{AsksForFew, key_told, map_request, tells_change}
@@ -28,7 +28,7 @@ use Rattle.ordered_map.specs.declared.pair.Pair.{Pair}
 use Rattle.ordered_map.specs.declared.reply.Reply.{Reply}
 use Rattle.ordered_map.specs.declared.reply.Reply.TheVariants.{Value, Pair as PairOf, Pairs, Contended, Full, NoMemory}
 use Rattle.ordered_map.specs.declared.request.Request.{Request}
-use Rattle.ordered_map.specs.declared.request.Request.TheVariants.{Insert as InsertOf, Delete as DeleteOf, PopFirst as PopFirstOf, ReplaceIf as ReplaceIfOf, Get as GetOf, Successor as SuccessorOf, Range as RangeOf}
+use Rattle.ordered_map.specs.declared.request.Request.TheVariants.{Insert as InsertOf, Delete as DeleteOf, PopFirst as PopFirstOf, PopLast as PopLastOf, ReplaceIf as ReplaceIfOf, InsertNew as InsertNewOf, DeleteIf as DeleteIfOf, Get as GetOf, Successor as SuccessorOf, Range as RangeOf}
 use Rattle.edits.specs.Known.{RestsWith, IsUntouched}
 use Rattle.dict.specs.Calls.{AsksForPairs, IsFewCall}
 use Rattle.dict.specs.DictKnown.{DictRefuses}
@@ -237,6 +237,9 @@ module _ (lay : Layout) (tries c : ℕ) (now start : History) (linked : ℕ → 
   took_place (InsertOf key put) (MapAnswer given) right = key_took_place (InsertOf key put) key (Put put) given right
   took_place (DeleteOf key) (MapAnswer given) right = key_took_place (DeleteOf key) key Take given right
   took_place PopFirstOf (MapAnswer given) right = end_took_place Left PopFirstOf Take given tt
+  took_place PopLastOf (MapAnswer given) right = end_took_place Right PopLastOf Take given tt
+  took_place (InsertNewOf key put) (MapAnswer given) right = key_took_place (InsertNewOf key put) key (PutNew put) given right
+  took_place (DeleteIfOf key expected) (MapAnswer given) right = key_took_place (DeleteIfOf key expected) key (TakeIf expected) given right
   took_place (ReplaceIfOf key expected put) (MapAnswer given) right = key_took_place (ReplaceIfOf key expected put) key (Swap expected put) given right
   took_place (GetOf key) (MapAnswer (Value told)) right = value_place (GetOf key) (Get key) key (Value told) told (value_told told) refl (λ m. refl) false refl
   took_place (SuccessorOf key) (MapAnswer (PairOf found)) right = ordered_place (SuccessorOf key) (Successor key) (PairOf found) (pair_or_none (option_map (word_pair (λ n. n) (λ n. n)) found)) refl refl refl tt

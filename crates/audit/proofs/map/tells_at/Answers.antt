@@ -2,7 +2,8 @@ use Rattle.std.proofs.Common.{refl, sym, ◌∙◌}
 use Rattle.ordered_map.specs.Requests.{map_request}
 use Rattle.script.specs.declared.command.Command.TheVariants.{Map as MapCommand}
 use Rattle.record.specs.MapRecord.{map_at}
-use Rattle.moments.proofs.Lemmas.{reply_tells}
+use Rattle.moments.specs.Places.{changes}
+use Rattle.moments.proofs.Lemmas.{map_rises, reply_tells}
 use Rattle.audit.proofs.map.tells_at.Goals as goal
 
 pub returns-then-tells_pairs-clause-told : goal.returns-then-tells_pairs-clause-told
@@ -11,4 +12,5 @@ returns-then-tells_pairs-clause-told c calls lines are it =
     let m = map_at calls lines c.args.turn in
     let form = c.tells_pairs.ensures.form c.if-tells_pairs.true in
     let ordered = c.tells_pairs.ensures.ordered c.if-tells_pairs.true in
-    form m (sym c.pairs_told.ensures ∙ sym (c.tells.ensures.told calls lines are it) ∙ sym (reply_tells (MapCommand request) (map_request request) m ordered refl))
+    let tells = reply_tells (MapCommand request) (map_request request) _ m ordered refl (map_rises calls lines (changes c.args.places.now) c.args.turn are) in
+    form m (sym c.pairs_told.ensures ∙ sym (tells.0 (c.tells.ensures.told calls lines are it)))
