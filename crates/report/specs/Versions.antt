@@ -1,5 +1,5 @@
 -- The versions of a report's format, and what a report of each may tell.
-use Rattle.std.specs.Prelude.{ℕ, ◌<◌, ◌^◌, ⊤, List, codes}
+use Rattle.std.specs.Prelude.{◌≡◌, ℕ, ◌<◌, ◌^◌, ⊤, List, codes}
 use Rattle.arena.specs.declared.word.NodeWord.{NodeWord}
 use Rattle.arena.specs.declared.word.NodeWord.TheVariants.{Settled}
 use Rattle.arena.specs.declared.word.SettledPart.TheVariants.{High}
