@@ -1,6 +1,6 @@
 // The works of `crates/bench` on a tree of 1,000 keys with one thread, through the header and by the
 // same draws, so that the instructions of a round can be set beside those of Rattle's own calls:
-//   cost get|insert|replace|pop|succ|range64 CALLS
+//   cost get|insert|insert_new|delete_if|replace|pop|pop_last|succ|range64 CALLS
 #include "regnubas.h"
 
 #include <cinttypes>
@@ -52,8 +52,11 @@ int main(int argc, char **argv) {
     }
     if (work == "get") rounds(calls, [&](uint64_t key, uint64_t) { tell(regnubas_get(pass, key)); });
     else if (work == "insert") rounds(calls, [&](uint64_t key, uint64_t call) { tell(regnubas_insert(pass, key, value(call))); });
+    else if (work == "insert_new") rounds(calls, [&](uint64_t key, uint64_t call) { tell(regnubas_insert_new(pass, key, value(call))); });
+    else if (work == "delete_if") rounds(calls, [&](uint64_t key, uint64_t) { tell(regnubas_delete_if(pass, key, value(key))); });
     else if (work == "replace") rounds(calls, [&](uint64_t key, uint64_t) { tell(regnubas_replace_if(pass, key, value(key), value(key))); });
     else if (work == "pop") rounds(calls, [&](uint64_t, uint64_t) { tell(regnubas_pop_first(pass, &pair), pair); });
+    else if (work == "pop_last") rounds(calls, [&](uint64_t, uint64_t) { tell(regnubas_pop_last(pass, &pair), pair); });
     else if (work == "succ") rounds(calls, [&](uint64_t key, uint64_t) { tell(regnubas_successor(pass, key, &pair), pair); });
     else if (work == "range64")
         rounds(calls, [&](uint64_t key, uint64_t) {

@@ -1,4 +1,5 @@
-// A dictionary on the tree: get, insert, remove, pop_first, replace_if, successor, range.
+// A dictionary on the tree: get, insert, insert_new, remove, remove_if, pop_first, pop_last, replace_if,
+// successor, range.
 #pragma once
 #include <optional>
 #include <vector>
@@ -112,6 +113,17 @@ public:
         return {End::contended, {}};
     }
 
+    [[gnu::noinline]] Reply<std::optional<Value>> insert_new(Pass& pass, Word key, Value value) const {
+        const Word call = pass.taken();
+        for (Word tried = 0; tried < tries_; tried++) {
+            const Found found = walk(key);
+            if (found.has) return told(found);
+            if (pass.nodes < (found.full() ? 3 : 1) || pass.scx == 0) return {End::full, {}};
+            if (put(pass, found, call, [&] { return grown(pass, found, key, value); })) return told(found);
+        }
+        return {End::contended, {}};
+    }
+
     [[gnu::noinline]] Reply<std::optional<Value>> remove(Pass& pass, Word key) const {
         const Word call = pass.taken();
         for (Word tried = 0; tried < tries_; tried++) {
@@ -123,16 +135,20 @@ public:
         return {End::contended, {}};
     }
 
-    [[gnu::noinline]] Reply<std::optional<Pair>> pop_first(Pass& pass) const {
+    [[gnu::noinline]] Reply<std::optional<Value>> remove_if(Pass& pass, Word key, Value expected) const {
         const Word call = pass.taken();
         for (Word tried = 0; tried < tries_; tried++) {
-            const Found found = walk_left();
-            if (!found.has) return {End::done, std::nullopt};
+            const Found found = walk(key);
+            if (!found.has || found.value != expected) return told(found);
             if (pass.nodes < 1 || pass.scx == 0) return {End::full, {}};
-            if (taken_out(pass, found, call)) return {End::done, Pair{found.key, found.value}};
+            if (taken_out(pass, found, call)) return told(found);
         }
         return {End::contended, {}};
     }
+
+    [[gnu::noinline]] Reply<std::optional<Pair>> pop_first(Pass& pass) const { return pop<LEFT_SIDE>(pass); }
+
+    [[gnu::noinline]] Reply<std::optional<Pair>> pop_last(Pass& pass) const { return pop<RIGHT_SIDE>(pass); }
 
     [[gnu::noinline]] Reply<std::optional<Value>> replace_if(Pass& pass, Word key, Value expected, Value value) const {
         const Word call = pass.taken();
@@ -236,23 +252,42 @@ private:
         if (found.has) found.value = value_at(found.leaf, index);
     }
 
-    // The walk to the leaf of the least key, which reads no key on its way.
-    Found walk_left() const {
+    // The walk to the leaf of the least or of the greatest key, which reads no key on its way.
+    template <Side end>
+    Found walk_to() const {
         Word grand = 0, parent = 0, node = 0;
+        Side grand_side = LEFT_SIDE, side = LEFT_SIDE;
         for (;;) {
             const Head head(at(node, HEAD));
             if (head.leaf()) {
                 const bool has = head.class_() == 0;
                 const Word more = has ? at(node, MORE) : 0;
-                const Word key = has ? key_at(node, 0) : 0;
-                const Value value = has ? value_at(node, 0) : 0;
-                return {grand, parent, node, LEFT_SIDE, LEFT_SIDE, head, more, key, value, has};
+                const Word index = end == LEFT_SIDE ? 0 : more;
+                const Word key = has ? key_at(node, index) : 0;
+                const Value value = has ? value_at(node, index) : 0;
+                return {grand, parent, node, grand_side, side, head, more, key, value, has};
             }
-            const Word child = at(node, LEFT);
+            const Side next = head.class_() == 0 ? end : LEFT_SIDE;
+            const Word child = at(node, LEFT + next);
             grand = parent;
+            grand_side = side;
             parent = node;
+            side = next;
             node = child;
         }
+    }
+
+    // Takes the pair with the least or with the greatest key out.
+    template <Side end>
+    [[gnu::always_inline]] Reply<std::optional<Pair>> pop(Pass& pass) const {
+        const Word call = pass.taken();
+        for (Word tried = 0; tried < tries_; tried++) {
+            const Found found = walk_to<end>();
+            if (!found.has) return {End::done, std::nullopt};
+            if (pass.nodes < 1 || pass.scx == 0) return {End::full, {}};
+            if (taken_out(pass, found, call)) return {End::done, Pair{found.key, found.value}};
+        }
+        return {End::contended, {}};
     }
 
     // Puts a fresh node, which `make` fills, in the place of the leaf. False where the try is lost.

@@ -66,8 +66,11 @@ void make(const Dictionary& map, Pass& pass, const char* row) {
     const Value b = number(second), c = number(third);
     if (word == "get") map.get(a);
     if (word == "insert") map.insert(pass, a, b);
+    if (word == "insert_new") map.insert_new(pass, a, b);
     if (word == "delete") map.remove(pass, a);
+    if (word == "delete_if") map.remove_if(pass, a, b);
     if (word == "pop_first") map.pop_first(pass);
+    if (word == "pop_last") map.pop_last(pass);
     if (word == "replace_if") map.replace_if(pass, a, b, c);
     if (word == "successor") map.successor(a);
     if (word == "range") map.range(a, Word(b), Word(c));

@@ -1,12 +1,14 @@
-// Rounds on a dictionary: `get`, `mix90`, `mix50`, `mix0`, `insert`, `delete`, `pop`, `replace`, `succ`,
-// `range64`.
+// Rounds on a dictionary: `get`, `mix90`, `mix50`, `mix0`, `insert`, `insert_new`, `delete`, `delete_if`,
+// `pop`, `pop_last`, `replace`, `succ`, `range64`.
 #pragma once
 #include "dictionary.hpp"
 #include "tally.hpp"
 
 namespace tree {
 
-enum class Work { get, mix90, mix50, mix0, insert, remove, pop, replace, succ, range64 };
+enum class Work {
+    get, mix90, mix50, mix0, insert, insert_new, remove, remove_if, pop, pop_last, replace, succ, range64
+};
 
 // How many pairs a pass puts into the map before the threads start.
 constexpr Word PAIRS_OF_A_PASS = 10000;
@@ -118,8 +120,11 @@ inline Tally rounds(const Dictionary& map, Work work, Deal deal, Word keys, Word
             case Work::mix50: mix(map, pass, draws, key, call, 50, tally); break;
             case Work::mix0: mix(map, pass, draws, key, call, 0, tally); break;
             case Work::insert: count_value(tally, map.insert(pass, key, call)); break;
+            case Work::insert_new: count_value(tally, map.insert_new(pass, key, call)); break;
             case Work::remove: count_value(tally, map.remove(pass, key)); break;
+            case Work::remove_if: count_value(tally, map.remove_if(pass, key, key)); break;
             case Work::pop: count_pair(tally, map.pop_first(pass)); break;
+            case Work::pop_last: count_pair(tally, map.pop_last(pass)); break;
             case Work::replace: count_value(tally, map.replace_if(pass, key, key, key)); break;
             case Work::succ: count_pair(tally, map.successor(key)); break;
             case Work::range64: list(map, key, tally); break;

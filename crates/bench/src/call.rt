@@ -58,8 +58,11 @@ fn round(
         TreeWork::Get => told(Ok(forest.get(pass, key)), tally),
         TreeWork::Mix { looks } => told(mix(forest, pass, chance, pair, looks), tally),
         TreeWork::Insert => told(forest.insert(pass, pair.0, pair.1), tally),
+        TreeWork::InsertNew => told(forest.insert_new(pass, pair.0, pair.1), tally),
         TreeWork::Delete => told(forest.delete(pass, key), tally),
-        TreeWork::Pop => told(pop(forest, pass), tally),
+        TreeWork::DeleteIf => told(forest.delete_if(pass, key, key), tally),
+        TreeWork::Pop => told(key_and_value(forest.pop_first(pass)), tally),
+        TreeWork::PopLast => told(key_and_value(forest.pop_last(pass)), tally),
         TreeWork::Replace => told(forest.replace_if(pass, pair.0, key, pair.0), tally),
         TreeWork::Successor => told_pair(forest.successor(alloc, pass, key), tally),
         TreeWork::Range => told_pairs(forest.range(alloc, pass, key, &u64::MAX, MOST_PAIRS), tally),
@@ -87,12 +90,11 @@ fn mix(
     }
 }
 
-/// Takes the first pair out, and tells the sum of its key and its value.
-fn pop(forest: &Forest<Numbers>, pass: &mut Pass<Numbers>) -> Result<Option<u64>, UpdateFault>
-    requires { IsOf forest.now pass.old }
-    ensures { IsOf forest.now pass.new }
-{
-    match forest.pop_first(pass) {
+/// The sum of the key and the value of a pair that was taken out.
+fn key_and_value(
+    taken: Result<Option<(u64, u64)>, UpdateFault>,
+) -> Result<Option<u64>, UpdateFault> {
+    match taken {
         Ok(Some((key, value))) => Ok(Some(key.wrapping_add(value))),
         Ok(None) => Ok(None),
         Err(fault) => Err(fault),

@@ -152,7 +152,7 @@ fn round<R: Wait>(
     }
 }
 
-/// A call of one key, or of the first pair.
+/// A call of one key, or of the first or the last pair.
 fn call(
     map: &mut BTreeMap<u64, u64>,
     work: TreeWork,
@@ -163,8 +163,11 @@ fn call(
     match work {
         TreeWork::Mix { looks } => mix(map, chance, pair, looks),
         TreeWork::Insert => Ok(map.insert(key, value)?),
+        TreeWork::InsertNew => insert_new(map, key, value),
         TreeWork::Delete => Ok(map.remove(&key)),
+        TreeWork::DeleteIf => Ok(delete_if(map, key)),
         TreeWork::Pop => Ok(map.pop_first().map(|(key, value)| key.wrapping_add(value))),
+        TreeWork::PopLast => Ok(map.pop_last().map(|(key, value)| key.wrapping_add(value))),
         TreeWork::Replace => Ok(replace(map, key)),
         _ => Ok(map.get(&key).copied()),
     }
@@ -185,6 +188,27 @@ fn mix(
     } else {
         Ok(map.remove(&pair.0))
     }
+}
+
+/// Puts a key in, if it is not there, and tells the value that it has otherwise.
+fn insert_new(
+    map: &mut BTreeMap<u64, u64>,
+    key: u64,
+    value: u64,
+) -> Result<Option<u64>, AllocError> {
+    match map.get(&key).copied() {
+        Some(found) => Ok(Some(found)),
+        None => Ok(map.insert(key, value)?),
+    }
+}
+
+/// Takes a key out, if it has the value of the start, and tells the value that it had.
+fn delete_if(map: &mut BTreeMap<u64, u64>, key: u64) -> Option<u64> {
+    let old = map.get(&key).copied()?;
+    if old == key {
+        let _ = map.remove(&key);
+    }
+    Some(old)
 }
 
 /// Gives a key the value that it has had from the start once more, if it is there.

@@ -46,10 +46,16 @@ pub enum TreeWork {
     Mix { looks: u64 },
     /// It puts the key in.
     Insert,
+    /// It puts the key in, if it is not there.
+    InsertNew,
     /// It takes the key out.
     Delete,
+    /// It takes the key out, if it has the value of the start.
+    DeleteIf,
     /// It takes the first pair out.
     Pop,
+    /// It takes the last pair out.
+    PopLast,
     /// It gives the key the value that it has had from the start once more, if it is there.
     Replace,
     /// It looks for the pair behind the key.
@@ -79,7 +85,7 @@ pub struct Bounds {
 
 impl Work {
     /// Each work once.
-    pub const ALL: [Work; 30] = [
+    pub const ALL: [Work; 36] = [
         Work::Cells(CellWork::Llx),
         Work::Cells(CellWork::Own),
         Work::Cells(CellWork::Two),
@@ -89,8 +95,11 @@ impl Work {
         Work::Tree(TreeWork::Mix { looks: 50 }),
         Work::Tree(TreeWork::Mix { looks: 0 }),
         Work::Tree(TreeWork::Insert),
+        Work::Tree(TreeWork::InsertNew),
         Work::Tree(TreeWork::Delete),
+        Work::Tree(TreeWork::DeleteIf),
         Work::Tree(TreeWork::Pop),
+        Work::Tree(TreeWork::PopLast),
         Work::Tree(TreeWork::Replace),
         Work::Tree(TreeWork::Successor),
         Work::Tree(TreeWork::Range),
@@ -105,8 +114,11 @@ impl Work {
         Work::Locked(TreeWork::Mix { looks: 50 }),
         Work::Locked(TreeWork::Mix { looks: 0 }),
         Work::Locked(TreeWork::Insert),
+        Work::Locked(TreeWork::InsertNew),
         Work::Locked(TreeWork::Delete),
+        Work::Locked(TreeWork::DeleteIf),
         Work::Locked(TreeWork::Pop),
+        Work::Locked(TreeWork::PopLast),
         Work::Locked(TreeWork::Replace),
         Work::Locked(TreeWork::Successor),
         Work::Locked(TreeWork::Range),
@@ -200,8 +212,11 @@ impl TreeWork {
             TreeWork::Mix { looks: 50 } => "mix50",
             TreeWork::Mix { .. } => "mix0",
             TreeWork::Insert => "insert",
+            TreeWork::InsertNew => "insert_new",
             TreeWork::Delete => "delete",
+            TreeWork::DeleteIf => "delete_if",
             TreeWork::Pop => "pop",
+            TreeWork::PopLast => "pop_last",
             TreeWork::Replace => "replace",
             TreeWork::Successor => "succ",
             TreeWork::Range => "range64",
@@ -235,8 +250,10 @@ impl TreeWork {
             TreeWork::Mix { looks: 90 } => (200_000, 100_000),
             TreeWork::Mix { looks: 50 } => (40_000, 20_000),
             TreeWork::Mix { .. } => (20_000, 20_000),
-            TreeWork::Insert => (10_000, 10_000),
-            TreeWork::Delete | TreeWork::Pop => (Limits::MOST_RECORDS, 400),
+            TreeWork::Insert | TreeWork::InsertNew => (10_000, 10_000),
+            TreeWork::Delete | TreeWork::DeleteIf | TreeWork::Pop | TreeWork::PopLast => {
+                (Limits::MOST_RECORDS, 400)
+            }
             TreeWork::Replace => (Limits::MOST_RECORDS, 20_000),
             TreeWork::Successor => (u32::MAX, 20_000),
             TreeWork::Range => (u32::MAX, 2_000),
