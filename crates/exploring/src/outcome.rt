@@ -60,11 +60,11 @@ fn command_of(calls: &[Call], entry: &Entry) -> Option<Command> {
 
 /// Edits the pairs as a command does that has an entry.
 fn edit(pairs: &mut Vec<(u64, u128)>, command: Command) -> Result<(), AllocError> {
-    let end = match command {
-        Command::Map(Request::PopLast) => pairs.last(),
-        _ => pairs.first(),
-    };
-    let Some((key, value)) = edited(command, end.map(|pair| pair.0)) else {
+    let least = pairs.first().map(|pair| pair.0);
+    let greatest = pairs.last().map(|pair| pair.0);
+    let takes_last = matches!(command, Command::Map(Request::PopLast));
+    let at_end = if takes_last { greatest } else { least };
+    let Some((key, value)) = edited(command, at_end) else {
         return Ok(());
     };
     pairs.retain(|pair| pair.0 != key);

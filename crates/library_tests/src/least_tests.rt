@@ -127,32 +127,32 @@ fn load(node: u64, part: NodeWord) -> Step {
     Step { kind, word, access }
 }
 
-/// A walk to an end of the tree of five pairs makes these loads, and finds this pair.
+/// A walk to an end makes these loads, and finds this pair.
 fn walks(
-    rt: &HostRuntime,
+    rt: &impl Abort,
+    table: &mut PlainWords,
     side: Side,
     loads: &[(u64, NodeWord)],
     found: (u64, u128),
-) -> Result<(), Fail> {
-    let mut table = opening(rt.alloc())?;
-    five_pairs(rt, &mut table);
+) {
     let mut walk = WalkRun::new(Goal::End(side));
     let mut got = None;
     for (node, part) in loads {
         let step = load(*node, *part);
         assert_eq!(rt; Machine::<Tree>::next(&mut walk, got), Turn::Ask(step));
-        got = made(&mut table, step);
+        got = made(table, step);
     }
     let answer = match Machine::<Tree>::next(&mut walk, got) {
         Turn::Done(found) => Some(Updated::at(&found)),
         Turn::Ask(_) => None,
     };
     same(rt, pair(answer), Some(found));
-    Ok(())
 }
 
 #[test]
 fn a_walk_to_an_end_loads_no_key_of_a_fork(rt: HostRuntime) -> Result<(), Fail> {
+    let mut table = opening(rt.alloc())?;
+    five_pairs(&rt, &mut table);
     // fork 11 has the key 11, over leaf 9 of the keys 5 and 9, and leaf 10 of the three others
     let least = [
         (0, Settled(Head)),
@@ -167,7 +167,7 @@ fn a_walk_to_an_end_loads_no_key_of_a_fork(rt: HostRuntime) -> Result<(), Fail> 
         (9, Settled(Value(First))),
         (9, Settled(High(First))),
     ];
-    walks(&rt, Left, &least, (5, FIVE))?;
+    walks(&rt, &mut table, Left, &least, (5, FIVE));
     let greatest = [
         (0, Settled(Head)),
         (0, Child(Left)),
@@ -181,7 +181,8 @@ fn a_walk_to_an_end_loads_no_key_of_a_fork(rt: HostRuntime) -> Result<(), Fail> 
         (10, Settled(Value(Third))),
         (10, Settled(High(Third))),
     ];
-    walks(&rt, Right, &greatest, (15, FIFTEEN))
+    walks(&rt, &mut table, Right, &greatest, (15, FIFTEEN));
+    Ok(())
 }
 
 /// The second and the fifth pop find a leaf of one pair, and so put a copy of its sibling in its

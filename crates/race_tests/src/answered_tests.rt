@@ -16,14 +16,15 @@ const FIVE: Before = ("limits,2,60,20,20\n0,insert,5,50,\n", 48);
 
 const FIVE_AND_NINE: Before = ("limits,2,20,20,3\n0,insert,5,50,\n0,insert,9,90,\n", 99);
 
-/// The second of two deletes of a key changes nothing, nor does the second of two replacements of a
-/// value.
-const CALLS: [Calls; 18] = [
+/// The second of two deletes of a key changes nothing, nor does the second of two inserts of a key
+/// that is absent, or of two calls that expect one value.
+const CALLS: [Calls; 22] = [
     (FIVE, "insert,5,51,", "insert,5,52,", 3, 3),
     (FIVE, "insert,5,51,", "insert,3,30,", 3, 3),
     (FIVE, "insert,3,30,", "insert,5,52,", 3, 3),
     (FIVE, "insert,9,90,", "insert,3,30,", 3, 3),
     (FIVE, "insert,9,90,", "insert,7,70,", 3, 3),
+    (FIVE, "insert_new,9,90,", "insert_new,9,91,", 3, 2),
     (FIVE_AND_NINE, "delete,5,,", "delete,5,,", 4, 3),
     (FIVE_AND_NINE, "delete,5,,", "delete,9,,", 4, 4),
     (FIVE_AND_NINE, "delete,9,,", "delete,5,,", 4, 4),
@@ -35,7 +36,10 @@ const CALLS: [Calls; 18] = [
     (FIVE_AND_NINE, "insert,7,70,", "delete,5,,", 4, 4),
     (FIVE_AND_NINE, "insert,7,70,", "delete,9,,", 4, 4),
     (FIVE_AND_NINE, "pop_first,,,", "pop_first,,,", 4, 4),
+    (FIVE_AND_NINE, "pop_first,,,", "pop_last,,,", 4, 4),
     (FIVE_AND_NINE, "pop_first,,,", "replace_if,9,90,91", 4, 4),
+    (FIVE_AND_NINE, "delete_if,5,50,", "replace_if,5,50,51", 4, 3),
+    (FIVE_AND_NINE, "replace_if,5,50,51", "delete_if,5,50,", 4, 3),
     (
         FIVE_AND_NINE,
         "replace_if,5,50,51",

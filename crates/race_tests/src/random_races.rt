@@ -24,7 +24,7 @@ pub(crate) fn random_record(
 }
 
 /// A few calls of so many clients on few keys, under tight limits. Half of the values are one of
-/// two, so that a replacement finds what it expects.
+/// two, so that a call that expects one finds it.
 fn random_script(alloc: Global, random: &mut Random, clients: u64) -> Result<String, AllocError>
     requires { 0 < clients }
 {
@@ -60,14 +60,17 @@ fn random_call(
     let (other, most) = (random.below(keys), random.below(4));
     let (expected, few) = (random.below(2), random.below(2));
     let value = random.among([value, value, expected, few]);
-    match random.below(13) {
+    match random.below(20) {
         0 => format!(in alloc; "{client},get,{key},,\n"),
         1 | 2 => format!(in alloc; "{client},delete,{key},,\n"),
         3 | 4 => format!(in alloc; "{client},successor,{key},,\n"),
         5 => format!(in alloc; "{client},range,{key},{other},{most}\n"),
-        6 => format!(in alloc; "{client},range,0,9,64\n"),
-        7 => format!(in alloc; "{client},pop_first,,,\n"),
-        8 | 9 => format!(in alloc; "{client},replace_if,{key},{few},{value}\n"),
+        6 | 7 => format!(in alloc; "{client},range,0,9,64\n"),
+        8 => format!(in alloc; "{client},pop_first,,,\n"),
+        9 => format!(in alloc; "{client},pop_last,,,\n"),
+        10 | 11 => format!(in alloc; "{client},replace_if,{key},{few},{value}\n"),
+        12 | 13 => format!(in alloc; "{client},delete_if,{key},{few},\n"),
+        14 | 15 => format!(in alloc; "{client},insert_new,{key},{value},\n"),
         _ => format!(in alloc; "{client},insert,{key},{value},\n"),
     }
 }

@@ -109,6 +109,21 @@ end,5,,,
     last: 48 + 74,
 };
 
+/// Both take the only pair out, each from its end.
+const POPS_AT_BOTH_ENDS: Race<'static> = Race {
+    mode: Mode::Tree,
+    script: "\
+limits,2,20,20,2
+0,insert,5,50,
+0,pop_first,,,
+1,pop_last,,,
+end,3,,,
+",
+    before: "",
+    first: 48,
+    last: 48 + 74,
+};
+
 /// Both replace one value, client 1 the one that client 0 brings in too.
 const REPLACEMENTS: Race<'static> = Race {
     mode: Mode::Tree,
@@ -143,13 +158,14 @@ end,6,,,
     last: 7 + 7 + 22 + 5,
 };
 
-const RACES: [Race<'static>; 8] = [
+const RACES: [Race<'static>; 9] = [
     INSERTS,
     TWO_KEYS,
     DELETE_AND_INSERT,
     DELETES,
     READS,
     POPS,
+    POPS_AT_BOTH_ENDS,
     REPLACEMENTS,
     FINALIZED,
 ];

@@ -4,12 +4,13 @@ use arena::{NodeNo, NodeWord, SettledPart, Word};
 use ordered_map::{Reply, Request};
 use record::{Answer, Finished, Line, Record, Row};
 
-/// All that is told on the tree. From below, four bits for deletes, pops, replacements that found
-/// what they expected, others, successors, ranges, and other calls: some, none, contended, full.
-/// Then a range without a step, one of two pairs or more with an update within the call, and such a
-/// one that had lost a try. Ordered reads are never full, and a replacement that is made tells
-/// some.
-pub(crate) const ON_TREE: u64 = 0x7f77_f1ff;
+/// All that is told on the tree. From below, four bits for deletes, pops of the first pair,
+/// replacements that found what they expected, others, successors, ranges, and other calls: some,
+/// none, contended, full. Then a range without a step, one of two pairs or more with an update
+/// within the call, and such a one that had lost a try. Behind them four bits again for pops of the
+/// last pair, inserts where a key is absent, deletes that found what they expected, and others that
+/// expected a value. Ordered reads are never full, and what has found what it expects tells some.
+pub(crate) const ON_TREE: u64 = 0xf1ff_7f77_f1ff;
 
 /// All that is told on cells.
 pub(crate) const ON_CELLS: u64 = 0x1ff;
@@ -62,6 +63,10 @@ fn told_on_tree(record: &Record, reply: &Finished, outcome: u64) -> u64 {
     match call_of(&record.script, reply.client, reply.call) {
         Some(Request::Delete { .. }) => outcome,
         Some(Request::PopFirst) => outcome << 4,
+        Some(Request::PopLast) => outcome << 32,
+        Some(Request::InsertNew { .. }) => outcome << 36,
+        Some(Request::DeleteIf { expected, .. }) if has_found(reply, expected) => outcome << 40,
+        Some(Request::DeleteIf { .. }) => outcome << 44,
         Some(Request::ReplaceIf { expected, .. }) if has_found(reply, expected) => outcome << 8,
         Some(Request::ReplaceIf { .. }) => outcome << 12,
         Some(Request::Successor { .. }) => outcome << 16,
@@ -70,7 +75,7 @@ fn told_on_tree(record: &Record, reply: &Finished, outcome: u64) -> u64 {
     }
 }
 
-/// Whether a replacement has found the value that it expects.
+/// Whether a call has found the value that it expects.
 fn has_found(reply: &Finished, expected: u128) -> bool {
     match &reply.answer {
         Answer::Map(Reply::Value(Some(value))) => *value == expected,

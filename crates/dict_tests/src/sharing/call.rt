@@ -14,8 +14,12 @@ const MOST_PAIRS: u32 = 64;
 #[derive(Clone, Copy, Debug)]
 pub(super) enum Call<K, V> {
     Insert(K, V),
+    InsertNew(K, V),
     Delete(K),
+    /// Of a key: the value that is expected.
+    DeleteIf(K, V),
     PopFirst,
+    PopLast,
     /// Of a key: the value that is expected, and the new one.
     ReplaceIf(K, V, V),
     Get(K),
@@ -31,8 +35,11 @@ impl<K: WordKey, V: WordValue> Call<K, V> {
     {
         match self {
             Call::Insert(key, value) => Request::Insert { key, value },
+            Call::InsertNew(key, value) => Request::InsertNew { key, value },
             Call::Delete(key) => Request::Delete { key },
+            Call::DeleteIf(key, expected) => Request::DeleteIf { key, expected },
             Call::PopFirst => Request::PopFirst,
+            Call::PopLast => Request::PopLast,
             Call::ReplaceIf(key, expected, value) => {
                 Request::ReplaceIf {
                     key,
@@ -60,11 +67,16 @@ impl<K: WordKey, V: WordValue> Call<K, V> {
         ensures { IsOf forest.now pass.new }
     {
         match self {
-            Call::Insert(key, value) => insert(forest, pass, key, value),
-            Call::Delete(key) => delete(forest, pass, key),
-            Call::PopFirst => pop_first(forest, pass),
-            Call::ReplaceIf(key, expected, value) => replace_if(forest, pass, key, expected, value),
-            Call::Get(key) => get(forest, pass, key),
+            Call::Insert(key, value) => value_told(forest.insert(pass, key, value)),
+            Call::InsertNew(key, value) => value_told(forest.insert_new(pass, key, value)),
+            Call::Delete(key) => value_told(forest.delete(pass, &key)),
+            Call::DeleteIf(key, expected) => value_told(forest.delete_if(pass, &key, &expected)),
+            Call::PopFirst => pair_told(forest.pop_first(pass)),
+            Call::PopLast => pair_told(forest.pop_last(pass)),
+            Call::ReplaceIf(key, expected, value) => {
+                value_told(forest.replace_if(pass, key, &expected, value))
+            }
+            Call::Get(key) => Reply::Value(forest.get(pass, &key)),
             Call::Successor(key) => successor(alloc, forest, pass, key),
             Call::Range(low, high, most) => range(alloc, forest, pass, low, high, most),
         }
@@ -79,77 +91,22 @@ pub(super) fn pairs_told<K: WordKey, V: WordValue>(reply: Reply<K, V>) -> Option
     }
 }
 
-fn insert<K: WordKey, V: WordValue>(
-    forest: &Forest<Dict<K, V>>,
-    pass: &mut Pass<Dict<K, V>>,
-    key: K,
-    value: V,
-) -> Reply<K, V>
-    requires { IsOf forest.now pass.old }
-    ensures { IsOf forest.now pass.new }
-{
-    match forest.insert(pass, key, value) {
+/// What an edit of a key has told, as a reply.
+fn value_told<K: WordKey, V: WordValue>(told: Result<Option<V>, UpdateFault>) -> Reply<K, V> {
+    match told {
         Ok(old) => Reply::Value(old),
         Err(UpdateFault::Contended { node, scx }) => Reply::Contended { node, scx },
         Err(UpdateFault::Full(full)) => Reply::Full(full),
     }
 }
 
-fn delete<K: WordKey, V: WordValue>(
-    forest: &Forest<Dict<K, V>>,
-    pass: &mut Pass<Dict<K, V>>,
-    key: K,
-) -> Reply<K, V>
-    requires { IsOf forest.now pass.old }
-    ensures { IsOf forest.now pass.new }
-{
-    match forest.delete(pass, &key) {
-        Ok(old) => Reply::Value(old),
-        Err(UpdateFault::Contended { node, scx }) => Reply::Contended { node, scx },
-        Err(UpdateFault::Full(full)) => Reply::Full(full),
-    }
-}
-
-fn pop_first<K: WordKey, V: WordValue>(
-    forest: &Forest<Dict<K, V>>,
-    pass: &mut Pass<Dict<K, V>>,
-) -> Reply<K, V>
-    requires { IsOf forest.now pass.old }
-    ensures { IsOf forest.now pass.new }
-{
-    match forest.pop_first(pass) {
+/// And what a pop has told.
+fn pair_told<K: WordKey, V: WordValue>(told: Result<Option<(K, V)>, UpdateFault>) -> Reply<K, V> {
+    match told {
         Ok(pair) => Reply::Pair(pair),
         Err(UpdateFault::Contended { node, scx }) => Reply::Contended { node, scx },
         Err(UpdateFault::Full(full)) => Reply::Full(full),
     }
-}
-
-fn replace_if<K: WordKey, V: WordValue>(
-    forest: &Forest<Dict<K, V>>,
-    pass: &mut Pass<Dict<K, V>>,
-    key: K,
-    expected: V,
-    value: V,
-) -> Reply<K, V>
-    requires { IsOf forest.now pass.old }
-    ensures { IsOf forest.now pass.new }
-{
-    match forest.replace_if(pass, key, &expected, value) {
-        Ok(old) => Reply::Value(old),
-        Err(UpdateFault::Contended { node, scx }) => Reply::Contended { node, scx },
-        Err(UpdateFault::Full(full)) => Reply::Full(full),
-    }
-}
-
-fn get<K: WordKey, V: WordValue>(
-    forest: &Forest<Dict<K, V>>,
-    pass: &mut Pass<Dict<K, V>>,
-    key: K,
-) -> Reply<K, V>
-    requires { IsOf forest.now pass.old }
-    ensures { IsOf forest.now pass.new }
-{
-    Reply::Value(forest.get(pass, &key))
 }
 
 fn successor<K: WordKey, V: WordValue>(

@@ -1,5 +1,7 @@
 //! Calls by passes that take turns.
-use super::call::Call::{Delete, Get, Insert, PopFirst, Range, ReplaceIf, Successor};
+use super::call::Call::{
+    Delete, DeleteIf, Get, Insert, InsertNew, PopFirst, PopLast, Range, ReplaceIf, Successor,
+};
 use super::call::meet;
 use super::rows::Says::{Pair, Pairs, Value};
 use super::rows::{Row, make_all};
@@ -63,19 +65,38 @@ fn alone<K: WordKey + Debug, V: WordValue + PartialEq + Debug>(
 }
 
 /// A leaf has room for four pairs: three nodes for the first key, one for each of three more, and
-/// three for the fifth, which makes two leaves and a fork of one.
-const FIVE_KEYS: [Row<'static, u64, u64>; 5] = [
+/// three for the fifth, which makes two leaves and a fork of one. A key that goes takes a node: its
+/// leaf without it, or a copy of the leaf beside it. What finds nothing to do takes nothing.
+const FIVE_KEYS: [Row<'static, u64, u64>; 20] = [
     (Insert(4, 40), Value(None), (17, 19)),
     (Insert(2, 20), Value(None), (16, 18)),
     (Insert(5, 50), Value(None), (15, 17)),
     (Insert(1, 10), Value(None), (14, 16)),
     (Insert(3, 30), Value(None), (11, 15)),
+    (
+        Range(0, 9, 64),
+        Pairs(&[(1, 10), (2, 20), (3, 30), (4, 40), (5, 50)]),
+        (11, 15),
+    ),
+    (InsertNew(3, 31), Value(Some(30)), (11, 15)),
+    (InsertNew(6, 60), Value(None), (10, 14)),
+    (DeleteIf(4, 41), Value(Some(40)), (10, 14)),
+    (DeleteIf(4, 40), Value(Some(40)), (9, 13)),
+    (DeleteIf(4, 40), Value(None), (9, 13)),
+    (PopLast, Pair(Some((6, 60))), (8, 12)),
+    (PopLast, Pair(Some((5, 50))), (7, 11)),
+    (PopFirst, Pair(Some((1, 10))), (6, 10)),
+    (PopLast, Pair(Some((3, 30))), (5, 9)),
+    (PopLast, Pair(Some((2, 20))), (4, 8)),
+    (PopLast, Pair(None), (4, 8)),
+    (PopFirst, Pair(None), (4, 8)),
+    (DeleteIf(2, 20), Value(None), (4, 8)),
+    (InsertNew(7, 70), Value(None), (1, 7)),
 ];
 
 #[test]
-fn a_fifth_key_parts_a_leaf(rt: HostRuntime) -> Result<(), Fail> {
-    let pairs = [(1, 10), (2, 20), (3, 30), (4, 40), (5, 50)];
-    alone(&rt, rt.alloc(), &FIVE_KEYS, &pairs)
+fn five_keys_come_and_go(rt: HostRuntime) -> Result<(), Fail> {
+    alone(&rt, rt.alloc(), &FIVE_KEYS, &[(7, 70)])
 }
 
 /// Beside each other, and different in both words.
@@ -94,7 +115,7 @@ const TWO: u128 = 36893488147419103237;
 const NEXT: u128 = 18446744073709551622;
 
 /// What is expected is told apart from what is there by each of the two words.
-const TWO_WORDS: [Row<'static, u64, u128>; 30] = [
+const TWO_WORDS: [Row<'static, u64, u128>; 35] = [
     (Insert(1, ABOVE), Value(None), (17, 19)),
     (Insert(2, u128::MAX), Value(None), (16, 18)),
     (Get(1), Value(Some(ABOVE)), (16, 18)),
@@ -120,14 +141,19 @@ const TWO_WORDS: [Row<'static, u64, u128>; 30] = [
         Pairs(&[(2, u128::MAX), (3, TWO), (4, NONE)]),
         (10, 12),
     ),
-    (Delete(3), Value(Some(TWO)), (9, 11)),
-    (Delete(4), Value(Some(NONE)), (8, 10)),
+    (DeleteIf(3, ONE), Value(Some(TWO)), (10, 12)),
+    (DeleteIf(3, NONE), Value(Some(TWO)), (10, 12)),
+    (DeleteIf(3, TWO), Value(Some(TWO)), (9, 11)),
+    (DeleteIf(4, ONE), Value(Some(NONE)), (9, 11)),
+    (DeleteIf(4, NONE), Value(Some(NONE)), (8, 10)),
     (PopFirst, Pair(Some((1, BELOW))), (7, 9)),
     (Insert(1, ONE), Value(None), (6, 8)),
+    (InsertNew(1, NEXT), Value(Some(ONE)), (6, 8)),
+    (DeleteIf(1, NEXT), Value(Some(ONE)), (6, 8)),
     (PopFirst, Pair(Some((1, ONE))), (5, 7)),
-    (Insert(1, NONE), Value(None), (4, 6)),
-    (PopFirst, Pair(Some((1, NONE))), (3, 5)),
-    (Insert(3, ONE), Value(None), (2, 4)),
+    (InsertNew(3, TWO), Value(None), (4, 6)),
+    (PopLast, Pair(Some((3, TWO))), (3, 5)),
+    (InsertNew(3, ONE), Value(None), (2, 4)),
     (Insert(4, NONE), Value(None), (1, 3)),
 ];
 

@@ -3,7 +3,9 @@ ghost use Rattle.std.specs.Prelude.{◌≡◌, true, false, IfOk};
 ghost use Rattle.forest.specs.Passes.{IsOf};
 
 use super::call::Call;
-use super::call::Call::{Delete, Get, Insert, PopFirst, Range, ReplaceIf, Successor};
+use super::call::Call::{
+    Delete, DeleteIf, Get, Insert, InsertNew, PopFirst, PopLast, Range, ReplaceIf, Successor,
+};
 use super::rows::Says::{Pair, Pairs, Value};
 use super::rows::{Row, Told, make_all};
 use super::{end_two, opened};
@@ -241,6 +243,37 @@ const POP: Case = Case {
     ..HELPED
 };
 
+/// A greater key comes in just before that of the last pair: it takes that one.
+const POP_LAST: Case = Case {
+    call: PopLast,
+    meanwhile: &[(Insert(9, 90), Value(None), (16, 18))],
+    told: Pair(Some((9, 90))),
+    ..POP
+};
+
+/// The key comes in just before the first freeze of an insert where it is absent: what this has
+/// filled is of no use, and its second try takes nothing.
+const INSERT_NEW: Case = Case {
+    call: InsertNew(5, 50),
+    meanwhile: &[(InsertNew(5, 51), Value(None), (17, 19))],
+    told: Value(Some(51)),
+    kinds: None,
+    left: [(17, 19), (17, 19)],
+    pairs: &[(5, 51)],
+    ..TOO_LATE
+};
+
+/// Another value comes in just before that of a delete of the one expected, which takes one try.
+const DELETE_IF: Case = Case {
+    before: &[(Insert(5, 50), Value(None), (17, 19))],
+    call: DeleteIf(5, 50),
+    meanwhile: &[(ReplaceIf(5, 50, 51), Value(Some(50)), (16, 18))],
+    told: Value(Some(51)),
+    left: [(19, 19), (16, 18)],
+    pairs: &[(5, 51)],
+    ..POP
+};
+
 /// A get has come to the leaf of 5, which the delete takes off: it reads what was.
 const GET: Case = Case {
     before: &[(Insert(5, 50), Value(None), (17, 19))],
@@ -288,9 +321,34 @@ const DELETE: Case = Case {
     ..FROZEN
 };
 
+/// Two of these find nothing to do, and help nobody.
+const DELETES_IF: Case = Case {
+    meanwhile: &[
+        (DeleteIf(7, 71), Value(Some(70)), (17, 19)),
+        (DeleteIf(5, 50), Value(None), (17, 19)),
+        (DeleteIf(7, 70), Value(Some(70)), (16, 18)),
+        (DeleteIf(5, 50), Value(Some(50)), (15, 17)),
+    ],
+    left: [(19, 19), (15, 17)],
+    pairs: &[],
+    ..FROZEN
+};
+
+const SECOND_INSERT_NEW: Case = Case {
+    meanwhile: &[(InsertNew(5, 51), Value(Some(50)), (17, 19))],
+    left: [(19, 19), (17, 19)],
+    ..FROZEN
+};
+
 const SECOND_POP: Case = Case {
     meanwhile: &[(PopFirst, Pair(Some((5, 50))), (16, 18))],
     pairs: &[(7, 70)],
+    ..FROZEN
+};
+
+const SECOND_POP_LAST: Case = Case {
+    meanwhile: &[(PopLast, Pair(Some((7, 70))), (16, 18))],
+    pairs: &[(5, 50)],
     ..FROZEN
 };
 
@@ -334,14 +392,20 @@ fn play(rt: &impl Abort, alloc: Global, case: &Case) -> Result<(), Fail> {
     Ok(())
 }
 
-const CASES: [Case; 10] = [
+const CASES: [Case; 16] = [
     HELPED,
     TOO_LATE,
     POP,
+    POP_LAST,
+    INSERT_NEW,
+    DELETE_IF,
     GET,
     NO_PAIRS,
     DELETE,
+    DELETES_IF,
+    SECOND_INSERT_NEW,
     SECOND_POP,
+    SECOND_POP_LAST,
     REPLACEMENT,
     SUCCESSOR,
     RANGE,

@@ -2,7 +2,7 @@
 ghost use Rattle.std.specs.Prelude.{◌≡◌, false, IfOk};
 ghost use Rattle.forest.specs.Passes.{IsOf};
 
-use super::call::Call::{Delete, Insert, PopFirst, Range, ReplaceIf};
+use super::call::Call::{Delete, DeleteIf, Insert, InsertNew, PopFirst, PopLast, Range, ReplaceIf};
 use super::call::{Call, pairs_told};
 use super::held::{Held, Numbers, held, hold, rest};
 use super::{end_two, opened_with};
@@ -39,24 +39,40 @@ type Plain = [Option<u64>; 8];
 fn make_plain(edit: Edit, values: &mut Plain) -> Option<u64> {
     match edit {
         Insert(key, value) => values.get_mut(key as usize)?.replace(value),
+        InsertNew(key, value) => swap(values, key, None, Some(value)),
         Delete(key) => values.get_mut(key as usize)?.take(),
+        DeleteIf(key, expected) => swap(values, key, Some(expected), None),
         PopFirst => take_first(values),
-        ReplaceIf(key, expected, value) => {
-            let slot = values.get_mut(key as usize)?;
-            let old = *slot;
-            if old == Some(expected) {
-                *slot = Some(value);
-            }
-            old
-        }
+        PopLast => take_last(values),
+        ReplaceIf(key, expected, value) => swap(values, key, Some(expected), Some(value)),
         _ => None,
     }
+}
+
+/// Gives a key this in the place of what is expected, and tells what it had.
+fn swap(values: &mut Plain, key: u64, expected: Option<u64>, new: Option<u64>) -> Option<u64> {
+    let slot = values.get_mut(key as usize)?;
+    let old = *slot;
+    if old == expected {
+        *slot = new;
+    }
+    old
 }
 
 /// Takes the first value there is.
 fn take_first(values: &mut Plain) -> Option<u64> {
     for place in 0..8usize {
         if let Some(value) = values[place].take() {
+            return Some(value);
+        }
+    }
+    None
+}
+
+/// And the last.
+fn take_last(values: &mut Plain) -> Option<u64> {
+    for behind in 0..8usize {
+        if let Some(value) = values[7 - behind].take() {
             return Some(value);
         }
     }
@@ -150,6 +166,26 @@ const DELETES: Race = Race {
 const POPS: Race = Race {
     own: &[Insert(5, 50), PopFirst],
     other: PopFirst,
+    tries: 3,
+};
+
+/// The other takes the last out, which is the same.
+const POPS_AT_BOTH_ENDS: Race = Race {
+    other: PopLast,
+    ..POPS
+};
+
+/// Both put the key in where it is absent, and the first takes it out again.
+const INSERTS_NEW: Race = Race {
+    own: &[InsertNew(5, 50), DeleteIf(5, 50)],
+    other: InsertNew(5, 90),
+    tries: 3,
+};
+
+/// The first takes the key out, the other gives it another value, both if it has the one expected.
+const DELETE_AND_REPLACEMENT: Race = Race {
+    own: &[Insert(5, 50), DeleteIf(5, 50)],
+    other: ReplaceIf(5, 50, 52),
     tries: 3,
 };
 
@@ -377,7 +413,16 @@ fn sweep(rt: &impl Abort, alloc: Global, race: Race) -> Result<usize, Fail> {
 /// With one try some edits are contended, with three none.
 #[test]
 fn a_stopped_edit_is_left_or_goes_on(rt: HostRuntime) -> Result<(), Fail> {
-    for race in [INSERTS, DELETE_AND_INSERT, DELETES, POPS, REPLACEMENTS] {
+    for race in [
+        INSERTS,
+        DELETE_AND_INSERT,
+        DELETES,
+        POPS,
+        POPS_AT_BOTH_ENDS,
+        INSERTS_NEW,
+        DELETE_AND_REPLACEMENT,
+        REPLACEMENTS,
+    ] {
         let contended = sweep(&rt, rt.alloc(), Race { tries: 1, ..race })?;
         assert!(rt; contended > 0, "{race:?}");
         sweep(&rt, rt.alloc(), race)?;

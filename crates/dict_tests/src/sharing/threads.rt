@@ -3,7 +3,9 @@ ghost use Rattle.std.specs.Prelude.{◌≡◌, IfOk, IfSome};
 ghost use Rattle.std.specs.List.{All};
 ghost use Rattle.forest.specs.Passes.{IsOf};
 
-use super::call::Call::{self, Delete, Get, Insert, PopFirst, Range, ReplaceIf};
+use super::call::Call::{
+    self, Delete, DeleteIf, Get, Insert, InsertNew, PopFirst, PopLast, Range, ReplaceIf, Successor,
+};
 use super::call::pairs_told;
 use super::held::Numbers;
 use super::{end, limits};
@@ -23,22 +25,33 @@ const MOST_ASKS: u32 = 1000;
 /// How often a thread counts up.
 const COUNTS: u64 = 500;
 
+/// How many of the ten calls a thread makes.
+const CALLS: u64 = 50;
+
 /// How many keys the window has.
 const WINDOW: u64 = 20;
+
+/// How many threads put in the same keys.
+const RIVALS: u64 = 8;
 
 /// What a thread does in each of its rounds.
 #[derive(Clone, Copy)]
 enum Work {
-    /// It puts in a key that no other thread has.
-    Own,
+    /// It puts in a key that no other of so many threads has.
+    Own { threads: u64 },
+    /// It puts in a key where it is absent, which the others do too, with a value of its own. That
+    /// comes out if it was put in.
+    New,
     /// It puts in or takes out one of a hundred keys.
     Mixed,
     /// The first thread moves a window of keys, and the others look at it.
     Window,
     /// The first thread puts in so many keys.
     First { keys: u64 },
-    /// It takes out the first pair.
+    /// It takes out the first pair, or, where its number is odd, the last.
     Pop,
+    /// It makes one of the ten calls. What this adds to the sum of the pairs comes out.
+    Any,
     /// It adds one to the value of the key 0, until it has done so often enough.
     Count,
 }
@@ -64,7 +77,26 @@ fn is_told(out: Out, want: Option<u64>) -> Out {
     if out? == want { Some(None) } else { None }
 }
 
-/// Makes an edit, again where it was contended.
+/// Makes a call, again where it was contended.
+fn reply_of(
+    alloc: Global,
+    forest: &Forest<Numbers>,
+    pass: &mut Pass<Numbers>,
+    call: Call<u64, u64>,
+) -> Option<Reply<u64, u64>>
+    requires { IsOf forest.now pass.old }
+    ensures { IsOf forest.now pass.new }
+{
+    for _ask in 0..MOST_ASKS {
+        match call.make(alloc, forest, pass) {
+            Reply::Contended { .. } => {}
+            reply => return Some(reply),
+        }
+    }
+    None
+}
+
+/// Makes an edit.
 fn ask(
     alloc: Global,
     forest: &Forest<Numbers>,
@@ -74,13 +106,7 @@ fn ask(
     requires { IsOf forest.now pass.old }
     ensures { IsOf forest.now pass.new }
 {
-    for _ask in 0..MOST_ASKS {
-        match edit.make(alloc, forest, pass) {
-            Reply::Contended { .. } => {}
-            reply => return told(reply),
-        }
-    }
-    None
+    told(reply_of(alloc, forest, pass, edit)?)
 }
 
 /// Adds one to the value of the key 0, and answers what it was. Where another thread has changed it
@@ -141,12 +167,97 @@ fn see_window(alloc: Global, forest: &Forest<Numbers>, pass: &mut Pass<Numbers>)
 
 /// Puts in or takes out a key by turns. No two rounds of all threads put in the same value.
 fn mixed(value: u64) -> Call<u64, u64> {
-    let key = value.wrapping_mul(11_400_714_819_323_198_485) / 65_536 % 100;
+    let key = stirred(value) % 100;
     if value % 2 == 0 {
         Insert(key, value)
     } else {
         Delete(key)
     }
+}
+
+/// Puts in a key where it is absent, with this thread's value of it, which is answered if it was.
+/// If it was not, the key had the value of another thread.
+fn put_new(alloc: Global, forest: &Forest<Numbers>, pass: &mut Pass<Numbers>, key: u64) -> Out
+    requires { IsOf forest.now pass.old }
+    ensures { IsOf forest.now pass.new }
+{
+    let number = u64::from(pass.number().0);
+    let value = key.wrapping_mul(RIVALS).wrapping_add(number);
+    match ask(alloc, forest, pass, InsertNew(key, value))? {
+        None => Some(Some(value)),
+        Some(other) if other / RIVALS == key && other != value => Some(None),
+        Some(_) => None,
+    }
+}
+
+/// One of the ten calls, on one of a hundred keys with two of four values.
+fn any(draw: u64) -> Call<u64, u64> {
+    let (key, value, other) = (draw / 16 % 100, draw / 1600 % 4, draw / 6400 % 4);
+    match draw % 16 {
+        0 => Get(key),
+        1 => Successor(key),
+        2 => Range(key, u64::MAX, 10),
+        3 => PopFirst,
+        4 => PopLast,
+        5 => Delete(key),
+        6 | 7 => DeleteIf(key, value),
+        8 | 9 => ReplaceIf(key, value, other),
+        10..=12 => InsertNew(key, value),
+        _ => Insert(key, value),
+    }
+}
+
+/// What a key with this value, if it has one, is to the sum of the pairs.
+fn weight(key: u64, value: Option<u64>) -> u64 {
+    match value {
+        Some(value) => key.wrapping_mul(1000).wrapping_add(value),
+        None => 0,
+    }
+}
+
+/// The key that a call has changed, if it replies this, with the value that the key had, and the
+/// one that it has now.
+fn changed(
+    call: Call<u64, u64>,
+    reply: &Reply<u64, u64>,
+) -> Option<(u64, Option<u64>, Option<u64>)> {
+    match (call, reply) {
+        (Insert(key, value), Reply::Value(old)) => Some((key, *old, Some(value))),
+        (InsertNew(key, value), Reply::Value(None)) => Some((key, None, Some(value))),
+        (Delete(key), Reply::Value(old)) => Some((key, *old, None)),
+        (DeleteIf(key, expected), Reply::Value(Some(old))) if *old == expected => {
+            Some((key, Some(*old), None))
+        }
+        (ReplaceIf(key, expected, value), Reply::Value(Some(old))) if *old == expected => {
+            Some((key, Some(*old), Some(value)))
+        }
+        (PopFirst | PopLast, Reply::Pair(Some(pair))) => Some((pair.0, Some(pair.1), None)),
+        _ => None,
+    }
+}
+
+/// Makes a call, and answers what it adds to the sum of the pairs.
+fn add_up(
+    alloc: Global,
+    forest: &Forest<Numbers>,
+    pass: &mut Pass<Numbers>,
+    call: Call<u64, u64>,
+) -> Out
+    requires { IsOf forest.now pass.old }
+    ensures { IsOf forest.now pass.new }
+{
+    match reply_of(alloc, forest, pass, call)? {
+        Reply::Full(_) | Reply::NoMemory => None,
+        reply => match changed(call, &reply) {
+            Some((key, old, new)) => Some(Some(weight(key, new).wrapping_sub(weight(key, old)))),
+            None => Some(None),
+        },
+    }
+}
+
+/// A number that hangs on all of this one.
+fn stirred(number: u64) -> u64 {
+    number.wrapping_mul(11_400_714_819_323_198_485) / 65_536
 }
 
 /// A round of a thread.
@@ -161,25 +272,26 @@ fn make_round(
     ensures { IsOf forest.now pass.new }
 {
     let number = u64::from(pass.number().0);
+    // In no order, so that the tree does not grow to one side.
+    let place = round.wrapping_mul(377) % ROUNDS;
+    let value = number.wrapping_mul(ROUNDS).wrapping_add(round);
     match work {
-        // In no order, so that the tree does not grow to one side.
-        Work::Own => {
-            let place = round.wrapping_mul(377) % ROUNDS;
-            let key = (2 * place).wrapping_add(number);
+        Work::Own { threads } => {
+            let key = threads.wrapping_mul(place).wrapping_add(number);
             is_told(ask(alloc, forest, pass, Insert(key, key)), None)
         }
-        Work::Mixed => {
-            let value = number.wrapping_mul(ROUNDS).wrapping_add(round);
-            ask(alloc, forest, pass, mixed(value))
-        }
+        Work::New => put_new(alloc, forest, pass, place),
+        Work::Mixed => ask(alloc, forest, pass, mixed(value)),
         Work::Window if number == 0 => move_window(alloc, forest, pass, round),
         Work::Window => see_window(alloc, forest, pass),
         Work::First { keys } if number == 0 && round < keys => {
-            let key = round.wrapping_mul(377) % keys;
-            is_told(ask(alloc, forest, pass, Insert(key, key)), None)
+            is_told(ask(alloc, forest, pass, Insert(round, round)), None)
         }
         Work::First { .. } => Some(None),
-        Work::Pop => ask(alloc, forest, pass, PopFirst),
+        Work::Pop if number % 2 == 0 => ask(alloc, forest, pass, PopFirst),
+        Work::Pop => ask(alloc, forest, pass, PopLast),
+        Work::Any if round < CALLS => add_up(alloc, forest, pass, any(stirred(value))),
+        Work::Any => Some(None),
         Work::Count if round < COUNTS => count_up(alloc, forest, pass),
         Work::Count => Some(None),
     }
@@ -235,15 +347,8 @@ impl Ended {
             .all(|outs| outs.iter().all(|out| out.is_some()))
     }
 
-    /// Something came out in some round.
-    fn have_come(&self) -> bool {
-        self.outs
-            .iter()
-            .any(|outs| outs.iter().any(|out| matches!(out, Some(Some(_)))))
-    }
-
-    /// The values that came out, and those that are left, in their order.
-    fn values(&self, alloc: Global) -> Result<Vec<u64>, AllocError> {
+    /// The values that came out, in their order.
+    fn come(&self, alloc: Global) -> Result<Vec<u64>, AllocError> {
         let mut values = Vec::new(alloc);
         for outs in &self.outs {
             for out in outs {
@@ -252,6 +357,12 @@ impl Ended {
                 }
             }
         }
+        values.sort_unstable();
+        Ok(values)
+    }
+
+    /// These values and those that are left, in their order.
+    fn with_left(&self, mut values: Vec<u64>) -> Result<Vec<u64>, AllocError> {
         for (_, value) in &self.pairs {
             values.push(*value)?;
         }
@@ -259,40 +370,62 @@ impl Ended {
         Ok(values)
     }
 
-    /// There are so many pairs: these keys one above the other, each with itself.
+    /// These are the values that are left.
+    fn are_left(&self, values: &[u64]) -> bool {
+        let mut both = values.iter().zip(self.pairs.iter());
+        values.len() == self.pairs.len() && both.all(|(value, pair)| *value == pair.1)
+    }
+
+    /// These add up to the sum of the pairs that are left.
+    fn are_sum(&self, values: &[u64]) -> bool {
+        let mut sum = 0u64;
+        for value in values {
+            sum = sum.wrapping_add(*value);
+        }
+        for (key, value) in &self.pairs {
+            sum = sum.wrapping_sub(weight(*key, Some(*value)));
+        }
+        sum == 0
+    }
+
+    /// This came out.
+    fn have_come(&self, alloc: Global, come: Come) -> Result<bool, AllocError> {
+        let values = self.come(alloc)?;
+        match come {
+            Come::Some => Ok(!values.is_empty()),
+            Come::Steps(many, step) => Ok(are_steps(&self.with_left(values)?, (many, step))),
+            Come::Left => Ok(self.are_left(&values)),
+            Come::Sum => Ok(!values.is_empty() && self.are_sum(&values)),
+        }
+    }
+
+    /// There are so many pairs: these keys one above the other.
     fn has_keys(&self, first: u64, many: usize) -> bool {
         let mut pairs = self.pairs.iter().enumerate();
         self.pairs.len() == many
-            && pairs.all(|(place, pair)| {
-                let key = first.wrapping_add(place as u64);
-                *pair == (key, key)
-            })
+            && pairs.all(|(place, pair)| pair.0 == first.wrapping_add(place as u64))
     }
 
     /// These pairs are left.
     fn have_left(&self, left: Left) -> bool {
+        let mut pairs = self.pairs.iter();
         match left {
-            Left::Keys(first, many) => self.has_keys(first, many),
+            Left::Keys(first, many) => {
+                self.has_keys(first, many) && pairs.all(|(key, value)| key == value)
+            }
+            Left::News(many) => {
+                self.has_keys(0, many) && pairs.all(|(key, value)| *key == value / RIVALS)
+            }
             Left::Count(value) => self.pairs.as_slice() == [(0, value)].as_slice(),
             Left::Some => true,
         }
     }
 
-    /// All is right, and these pairs are left. So many values came out or are left, which rise by
-    /// this step from 0 on; if none is said, some came out.
-    fn is_as(
-        &self,
-        rt: &impl Abort,
-        alloc: Global,
-        left: Left,
-        steps: Option<(usize, u64)>,
-    ) -> Result<(), Fail> {
+    /// All is right, these pairs are left, and this came out.
+    fn is_as(&self, rt: &impl Abort, alloc: Global, left: Left, come: Come) -> Result<(), Fail> {
         assert!(rt; self.are_right());
         assert!(rt; self.have_left(left));
-        match steps {
-            Some(steps) => assert!(rt; are_steps(&self.values(alloc)?, steps)),
-            None => assert!(rt; self.have_come()),
-        }
+        assert!(rt; self.have_come(alloc, come)?);
         Ok(())
     }
 }
@@ -302,10 +435,25 @@ impl Ended {
 enum Left {
     /// So many keys from this one on, each with itself.
     Keys(u64, usize),
+    /// So many keys from 0 on, each with the value of one thread.
+    News(usize),
     /// The key 0, with this value.
     Count(u64),
     /// Any.
     Some,
+}
+
+/// What came out.
+#[derive(Clone, Copy)]
+enum Come {
+    /// Some value.
+    Some,
+    /// With what is left so many values, which rise by this step from 0 on.
+    Steps(usize, u64),
+    /// The values that are left, each once.
+    Left,
+    /// Some values, which add up to the sum of the pairs that are left.
+    Sum,
 }
 
 /// Whether these are so many numbers from 0 on, each by this step above the one before.
@@ -337,7 +485,8 @@ fn raced<R: Threads + Sync>(
     threads: u32,
     works: [Work; 2],
 ) -> Result<Ended, Fail> {
-    let Ok((forest, passes)) = Forest::<Numbers>::new(alloc, limits(threads, 20_000, 20_000)) else {
+    let share = if threads <= 8 { 20_000 } else { 2_000 };
+    let Ok((forest, passes)) = Forest::<Numbers>::new(alloc, limits(threads, share, share)) else {
         return Err("no forest".into());
     };
     let (passes, _) = worked(rt, alloc, &forest, works[0], passes)?;
@@ -349,39 +498,47 @@ fn raced<R: Threads + Sync>(
 }
 
 /// So many threads; what they do before and in a race; and how it is to end.
-type Race = (u32, [Work; 2], Left, Option<(usize, u64)>);
+type Race = (u32, [Work; 2], Left, Come);
 
 /// Nothing is put in before a race.
 const NOTHING: Work = Work::First { keys: 0 };
 
-const RACES: [Race; 5] = [
+const RACES: [Race; 7] = [
     (
         2,
-        [NOTHING, Work::Own],
+        [NOTHING, Work::Own { threads: 2 }],
         Left::Keys(0, 2000),
-        Some((2000, 1)),
+        Come::Steps(2000, 1),
     ),
-    (8, [NOTHING, Work::Mixed], Left::Some, Some((4000, 2))),
-    (4, [NOTHING, Work::Window], Left::Keys(980, 20), None),
     (
-        2,
-        [Work::First { keys: 1000 }, Work::Pop],
-        Left::Keys(0, 0),
-        Some((1000, 1)),
+        RIVALS as u32,
+        [NOTHING, Work::New],
+        Left::News(1000),
+        Come::Left,
     ),
+    (8, [NOTHING, Work::Mixed], Left::Some, Come::Steps(4000, 2)),
+    (4, [NOTHING, Work::Window], Left::Keys(980, 20), Come::Some),
+    // Two at each end.
+    (
+        4,
+        [Work::Own { threads: 4 }, Work::Pop],
+        Left::Keys(0, 0),
+        Come::Steps(4000, 1),
+    ),
+    (32, [NOTHING, Work::Any], Left::Some, Come::Sum),
     (
         8,
         [Work::First { keys: 1 }, Work::Count],
         Left::Count(4000),
-        Some((4001, 1)),
+        Come::Steps(4001, 1),
     ),
 ];
 
 #[test]
 fn threads_share_a_dictionary(rt: HostRuntime) -> Result<(), Fail> {
-    for (threads, works, left, steps) in RACES {
+    for (threads, works, left, come) in RACES {
         let ended = raced(&rt, rt.alloc(), threads, works)?;
-        ended.is_as(&rt, rt.alloc(), left, steps)?;
+        ended.is_as(&rt, rt.alloc(), left, come)?;
     }
     Ok(())
 }

@@ -106,3 +106,8 @@ returns-in_err-end-clause-beginning g c said ordered script_tells schedule_tells
       played = inr (stands_played _ went.later went.stands.0.stands);
       text = inl (c.in_err-end.ensures.beginning _ went.later script went.stands.0 (sym went.script));
     })
+
+pub returns-clause-well : goal.returns-clause-well
+returns-clause-well g c =
+    let went = c.in_ok-follow.ensures.followed c.args.out.now (at_first c.in_ok-script.script) (c.in_ok-stream.ensures.begun, c.in_ok-stream.ensures.failures.ok) in
+    (c.in_ok-script.ensures.ok, c.in_ok-schedule.ensures.ok, c.in_ok-end.ensures.failures.ok ∙ went.stands.1)
