@@ -10,14 +10,14 @@ use Rattle.script.specs.declared.call.Call.{Call}
 use Rattle.script.specs.declared.command.Command.{Command}
 use Rattle.record.specs.declared.record.Line.{Line}
 use Rattle.record.specs.declared.record.Line.TheVariants.{Step, Log, Reply as ReplyLine}
-use Rattle.record.specs.declared.record.Row.TheVariants.{Step as Made, Idle}
+use Rattle.record.specs.declared.record.TurnRow.TheVariants.{Step as Made, Idle}
 use Rattle.record.specs.declared.record.Entry.{Entry}
 use Rattle.record.specs.declared.record.Finished.{Finished}
 use Rattle.record.specs.Commands.{commands}
 use Rattle.record.specs.Turns.{answered, begin, steps, won, entry_of}
 use Rattle.audit.specs.Calls.{StandsNext}
 use Rattle.audit.specs.After.{IsClientAfter, AreClientsAfter}
-use Rattle.audit.specs.declared.client.Client.{Client}
+use Rattle.audit.specs.declared.client.ClientState.{ClientState}
 use Rattle.audit.proofs.NextCalls.{next_place}
 
 get_other : {X : Type 0} (xs : List X) (i j : ℕ) (new : X) → j ≢ i → slice_get (set xs i new) j ≡ slice_get xs j
@@ -38,11 +38,11 @@ get_there [] i p = absurd (omega arith)
 get_there (x ∷ xs) zero p = (x, refl)
 get_there (x ∷ xs) (suc i) p = get_there xs i (omega arith)
 
-some_client : (a b : Client) → Some a ≡ Some b → a ≡ b
+some_client : (a b : ClientState) → Some a ≡ Some b → a ≡ b
 some_client a b e = cc
 
 -- what holds of the others and of the client that was changed holds of all
-pub with_one : (P : ℕ → Client → Type 0) (clients : List Client) (i : ℕ) (old new : Client) → slice_get clients i ≡ Some old → P i new → ((j : ℕ) (d : Client) → j ≢ i → slice_get clients j ≡ Some d → P j d) → (j : ℕ) (d : Client) → slice_get (set clients i new) j ≡ Some d → P j d
+pub with_one : (P : ℕ → ClientState → Type 0) (clients : List ClientState) (i : ℕ) (old new : ClientState) → slice_get clients i ≡ Some old → P i new → ((j : ℕ) (d : ClientState) → j ≢ i → slice_get clients j ≡ Some d → P j d) → (j : ℕ) (d : ClientState) → slice_get (set clients i new) j ≡ Some d → P j d
 with_one P clients i old new there own others j d get = go (ℕ_discrete j i)
   where
     go : Dec (j ≡ i) → P j d
@@ -54,7 +54,7 @@ with_one P clients i old new there own others j d get = go (ℕ_discrete j i)
 module _ (lay : Layout) (calls : List Call) (lines : List Line) where
   -- An idle turn
 
-  idle_own : (i number : ℕ) (pass : PassNo) (c : Client) → pass.0 ≡ i → IsClientAfter lay calls lines i c → IsClientAfter lay calls (Step (Idle number pass) ∷ lines) i (record c { begun = Some (unwrap_or c.begun number) })
+  idle_own : (i number : ℕ) (pass : PassNo) (c : ClientState) → pass.0 ≡ i → IsClientAfter lay calls lines i c → IsClientAfter lay calls (Step (Idle number pass) ∷ lines) i (record c { begun = Some (unwrap_or c.begun number) })
   idle_own i number pass c e x = record {
     pass = x.pass;
     place = x.place;
@@ -64,7 +64,7 @@ module _ (lay : Layout) (calls : List Call) (lines : List Line) where
     won = x.won;
   }
 
-  idle_other : (j number : ℕ) (pass : PassNo) (c : Client) → (pass.0 ≡ j → ⊥) → IsClientAfter lay calls lines j c → IsClientAfter lay calls (Step (Idle number pass) ∷ lines) j c
+  idle_other : (j number : ℕ) (pass : PassNo) (c : ClientState) → (pass.0 ≡ j → ⊥) → IsClientAfter lay calls lines j c → IsClientAfter lay calls (Step (Idle number pass) ∷ lines) j c
   idle_other j number pass c d x = record {
     pass = x.pass;
     place = x.place;
@@ -74,12 +74,12 @@ module _ (lay : Layout) (calls : List Call) (lines : List Line) where
     won = x.won;
   }
 
-  pub idle_clients : (number : ℕ) (pass : PassNo) (clients : List Client) (c : Client) → slice_get clients pass.0 ≡ Some c → AreClientsAfter lay calls lines clients → AreClientsAfter lay calls (Step (Idle number pass) ∷ lines) (set clients pass.0 (record c { begun = Some (unwrap_or c.begun number) }))
+  pub idle_clients : (number : ℕ) (pass : PassNo) (clients : List ClientState) (c : ClientState) → slice_get clients pass.0 ≡ Some c → AreClientsAfter lay calls lines clients → AreClientsAfter lay calls (Step (Idle number pass) ∷ lines) (set clients pass.0 (record c { begun = Some (unwrap_or c.begun number) }))
   idle_clients number pass clients c there x = with_one (λ j d. IsClientAfter lay calls (Step (Idle number pass) ∷ lines) j d) clients pass.0 c _ there (idle_own pass.0 number pass c refl (x pass.0 c there)) (λ j d n get. idle_other j number pass d (λ e. n (sym e)) (x j d get))
 
   -- A turn that makes a step: what is remembered of the turns, where the entry is still to come
 
-  pub record IsStepped (number : ℕ) (row : StepRow) (j : ℕ) (c : Client) : Type 0 where
+  pub record IsStepped (number : ℕ) (row : StepRow) (j : ℕ) (c : ClientState) : Type 0 where
     pub pass : c.pass.0 ≡ j
     pub place : StandsNext calls j (drop c.answered (commands calls j)) c.at
     pub answered : c.answered ≡ answered lines j
@@ -87,7 +87,7 @@ module _ (lay : Layout) (calls : List Call) (lines : List Line) where
     pub steps : c.steps ≡ steps (Step (Made number row) ∷ lines) j
     pub won : c.won ≡ won lay lines j
 
-  stepped_own : (number : ℕ) (row : StepRow) (c : Client) → IsClientAfter lay calls lines row.pass.0 c → IsStepped number row row.pass.0 (record c { begun = Some (unwrap_or c.begun number); steps = c.steps + 1 })
+  stepped_own : (number : ℕ) (row : StepRow) (c : ClientState) → IsClientAfter lay calls lines row.pass.0 c → IsStepped number row row.pass.0 (record c { begun = Some (unwrap_or c.begun number); steps = c.steps + 1 })
   stepped_own number row c x = record {
     pass = x.pass;
     place = x.place;
@@ -97,7 +97,7 @@ module _ (lay : Layout) (calls : List Call) (lines : List Line) where
     won = x.won;
   }
 
-  stepped_other : (number : ℕ) (row : StepRow) (j : ℕ) (c : Client) → (row.pass.0 ≡ j → ⊥) → IsClientAfter lay calls lines j c → IsStepped number row j c
+  stepped_other : (number : ℕ) (row : StepRow) (j : ℕ) (c : ClientState) → (row.pass.0 ≡ j → ⊥) → IsClientAfter lay calls lines j c → IsStepped number row j c
   stepped_other number row j c d x = record {
     pass = x.pass;
     place = x.place;
@@ -107,19 +107,19 @@ module _ (lay : Layout) (calls : List Call) (lines : List Line) where
     won = x.won;
   }
 
-  abbrev pub AreStepped : ℕ → StepRow → List Client → Type 0
-  AreStepped number row clients = (j : ℕ) (c : Client) → slice_get clients j ≡ Some c → IsStepped number row j c
+  abbrev pub AreStepped : ℕ → StepRow → List ClientState → Type 0
+  AreStepped number row clients = (j : ℕ) (c : ClientState) → slice_get clients j ≡ Some c → IsStepped number row j c
 
-  pub stepped_clients : (number : ℕ) (row : StepRow) (clients : List Client) (c : Client) → slice_get clients row.pass.0 ≡ Some c → AreClientsAfter lay calls lines clients → AreStepped number row (set clients row.pass.0 (record c { begun = Some (unwrap_or c.begun number); steps = c.steps + 1 }))
+  pub stepped_clients : (number : ℕ) (row : StepRow) (clients : List ClientState) (c : ClientState) → slice_get clients row.pass.0 ≡ Some c → AreClientsAfter lay calls lines clients → AreStepped number row (set clients row.pass.0 (record c { begun = Some (unwrap_or c.begun number); steps = c.steps + 1 }))
   stepped_clients number row clients c there x = with_one (λ j d. IsStepped number row j d) clients row.pass.0 c _ there (stepped_own number row c (x row.pass.0 c there)) (λ j d n get. stepped_other number row j d (λ e. n (sym e)) (x j d get))
 
   -- where it has no entry, that is all
-  pub unwon_clients : (number : ℕ) (row : StepRow) (clients : List Client) → entry_of lay lines number row ≡ None → AreStepped number row clients → AreClientsAfter lay calls (Step (Made number row) ∷ lines) clients
+  pub unwon_clients : (number : ℕ) (row : StepRow) (clients : List ClientState) → entry_of lay lines number row ≡ None → AreStepped number row clients → AreClientsAfter lay calls (Step (Made number row) ∷ lines) clients
   unwon_clients number row clients none x j c get =
       let y = x j c get in
       record { pass = y.pass; place = y.place; answered = y.answered; begun = y.begun; steps = y.steps; won = rw none y.won }
 
-  won_own : (number : ℕ) (row : StepRow) (e : Entry) (c : Client) → entry_of lay lines number row ≡ Some e → IsStepped number row e.client.0 c → IsClientAfter lay calls (Step (Made number row) ∷ lines) e.client.0 (record c { won = Some number })
+  won_own : (number : ℕ) (row : StepRow) (e : Entry) (c : ClientState) → entry_of lay lines number row ≡ Some e → IsStepped number row e.client.0 c → IsClientAfter lay calls (Step (Made number row) ∷ lines) e.client.0 (record c { won = Some number })
   won_own number row e c is y = record {
     pass = y.pass;
     place = y.place;
@@ -129,7 +129,7 @@ module _ (lay : Layout) (calls : List Call) (lines : List Line) where
     won = rw (is, eq-eqb e.client.0 e.client.0 refl) refl;
   }
 
-  won_other : (number : ℕ) (row : StepRow) (e : Entry) (j : ℕ) (c : Client) → entry_of lay lines number row ≡ Some e → (e.client.0 ≡ j → ⊥) → IsStepped number row j c → IsClientAfter lay calls (Step (Made number row) ∷ lines) j c
+  won_other : (number : ℕ) (row : StepRow) (e : Entry) (j : ℕ) (c : ClientState) → entry_of lay lines number row ≡ Some e → (e.client.0 ≡ j → ⊥) → IsStepped number row j c → IsClientAfter lay calls (Step (Made number row) ∷ lines) j c
   won_other number row e j c is d y = record {
     pass = y.pass;
     place = y.place;
@@ -140,17 +140,17 @@ module _ (lay : Layout) (calls : List Call) (lines : List Line) where
   }
 
   -- where it has, its client has won
-  pub won_clients : (number : ℕ) (row : StepRow) (e : Entry) (clients : List Client) (c : Client) → entry_of lay lines number row ≡ Some e → slice_get clients e.client.0 ≡ Some c → AreStepped number row clients → AreClientsAfter lay calls (Step (Made number row) ∷ lines) (set clients e.client.0 (record c { won = Some number }))
+  pub won_clients : (number : ℕ) (row : StepRow) (e : Entry) (clients : List ClientState) (c : ClientState) → entry_of lay lines number row ≡ Some e → slice_get clients e.client.0 ≡ Some c → AreStepped number row clients → AreClientsAfter lay calls (Step (Made number row) ∷ lines) (set clients e.client.0 (record c { won = Some number }))
   won_clients number row e clients c is there x = with_one (λ j d. IsClientAfter lay calls (Step (Made number row) ∷ lines) j d) clients e.client.0 c _ there (won_own number row e c is (x e.client.0 c there)) (λ j d n get. won_other number row e j d is (λ q. n (sym q)) (x j d get))
 
   -- An entry and a reply
 
-  pub log_clients : (e : Entry) (clients : List Client) → AreClientsAfter lay calls lines clients → AreClientsAfter lay calls (Log e ∷ lines) clients
+  pub log_clients : (e : Entry) (clients : List ClientState) → AreClientsAfter lay calls lines clients → AreClientsAfter lay calls (Log e ∷ lines) clients
   log_clients e clients x j c get =
       let y = x j c get in
       record { pass = y.pass; place = y.place; answered = y.answered; begun = y.begun; steps = y.steps; won = y.won }
 
-  ended_own : (r : Finished) (c : Client) (next : Option ℕ) → ((left : List Command) → StandsNext calls c.pass.0 left c.at → StandsNext calls c.pass.0 (drop 1 left) next) → IsClientAfter lay calls lines r.client.0 c → IsClientAfter lay calls (ReplyLine r ∷ lines) r.client.0 (record c { at = next; answered = c.answered + 1; begun = None; steps = 0; won = None })
+  ended_own : (r : Finished) (c : ClientState) (next : Option ℕ) → ((left : List Command) → StandsNext calls c.pass.0 left c.at → StandsNext calls c.pass.0 (drop 1 left) next) → IsClientAfter lay calls lines r.client.0 c → IsClientAfter lay calls (ReplyLine r ∷ lines) r.client.0 (record c { at = next; answered = c.answered + 1; begun = None; steps = 0; won = None })
   ended_own r c next behind x = record {
     pass = x.pass;
     place = subst (λ (n : ℕ). StandsNext calls r.client.0 (drop n (commands calls r.client.0)) next) (sym (add-one c.answered)) (next_place calls r.client.0 c.answered next (subst (λ (k : ℕ). StandsNext calls k (drop 1 (drop c.answered (commands calls r.client.0))) next) x.pass (behind (drop c.answered (commands calls r.client.0)) (subst (λ (k : ℕ). StandsNext calls k (drop c.answered (commands calls r.client.0)) c.at) (sym x.pass) x.place))));
@@ -160,7 +160,7 @@ module _ (lay : Layout) (calls : List Call) (lines : List Line) where
     won = rw (eq-eqb r.client.0 r.client.0 refl) refl;
   }
 
-  ended_other : (r : Finished) (j : ℕ) (c : Client) → (r.client.0 ≡ j → ⊥) → IsClientAfter lay calls lines j c → IsClientAfter lay calls (ReplyLine r ∷ lines) j c
+  ended_other : (r : Finished) (j : ℕ) (c : ClientState) → (r.client.0 ≡ j → ⊥) → IsClientAfter lay calls lines j c → IsClientAfter lay calls (ReplyLine r ∷ lines) j c
   ended_other r j c d x = record {
     pass = x.pass;
     place = x.place;
@@ -170,7 +170,7 @@ module _ (lay : Layout) (calls : List Call) (lines : List Line) where
     won = rw (ne_eqb r.client.0 j d) x.won;
   }
 
-  pub ended_clients : (r : Finished) (clients : List Client) (c : Client) (next : Option ℕ) → slice_get clients r.client.0 ≡ Some c → ((left : List Command) → StandsNext calls c.pass.0 left c.at → StandsNext calls c.pass.0 (drop 1 left) next) → AreClientsAfter lay calls lines clients → AreClientsAfter lay calls (ReplyLine r ∷ lines) (set clients r.client.0 (record c { at = next; answered = c.answered + 1; begun = None; steps = 0; won = None }))
+  pub ended_clients : (r : Finished) (clients : List ClientState) (c : ClientState) (next : Option ℕ) → slice_get clients r.client.0 ≡ Some c → ((left : List Command) → StandsNext calls c.pass.0 left c.at → StandsNext calls c.pass.0 (drop 1 left) next) → AreClientsAfter lay calls lines clients → AreClientsAfter lay calls (ReplyLine r ∷ lines) (set clients r.client.0 (record c { at = next; answered = c.answered + 1; begun = None; steps = 0; won = None }))
   ended_clients r clients c next there behind x = with_one (λ j d. IsClientAfter lay calls (ReplyLine r ∷ lines) j d) clients r.client.0 c _ there (ended_own r c next behind (x r.client.0 c there)) (λ j d n get. ended_other r j d (λ q. n (sym q)) (x j d get))
 
 -- The start
@@ -181,18 +181,18 @@ got_more [] x (suc j) y e = absurd (let z : None ≡ Some y = e in cc)
 got_more (z ∷ xs) x zero y e = inl e
 got_more (z ∷ xs) x (suc j) y e = ⊎_elim (λ q. inl q) (λ q. inr (ap suc q.0, q.1)) (got_more xs x j y e)
 
-pub clients_more : (lay : Layout) (calls : List Call) (xs new : List Client) (n : ℕ) (c : Client) → length xs ≡ n → AreClientsAfter lay calls [] xs → StandsNext calls n (commands (drop 0 calls) n) c.at → c ≡ record { pass = record { 0 = n }; at = c.at; answered = 0; begun = None; steps = 0; won = None } → new ≡ xs ++ c ∷ [] → (length new ≡ n + 1) × AreClientsAfter lay calls [] new
+pub clients_more : (lay : Layout) (calls : List Call) (xs new : List ClientState) (n : ℕ) (c : ClientState) → length xs ≡ n → AreClientsAfter lay calls [] xs → StandsNext calls n (commands (drop 0 calls) n) c.at → c ≡ record { pass = record { 0 = n }; at = c.at; answered = 0; begun = None; steps = 0; won = None } → new ≡ xs ++ c ∷ [] → (length new ≡ n + 1) × AreClientsAfter lay calls [] new
 clients_more lay calls xs new n c many x at is pushed = (
   ap length pushed ∙ length_push xs c ∙ ap (λ (k : ℕ). k + 1) many,
-  λ j d get. ⊎_elim (λ q. x j d q) (λ q. subst (λ (k : Client). IsClientAfter lay calls [] j k) (some_client c d q.1) (subst (λ (k : ℕ). IsClientAfter lay calls [] k c) (sym (q.0 ∙ many)) first)) (got_more xs c j d (subst (λ (l : List Client). slice_get l j ≡ Some d) pushed get)),
+  λ j d get. ⊎_elim (λ q. x j d q) (λ q. subst (λ (k : ClientState). IsClientAfter lay calls [] j k) (some_client c d q.1) (subst (λ (k : ℕ). IsClientAfter lay calls [] k c) (sym (q.0 ∙ many)) first)) (got_more xs c j d (subst (λ (l : List ClientState). slice_get l j ≡ Some d) pushed get)),
 )
   where
     first : IsClientAfter lay calls [] n c
     first = record {
-      pass = ap (λ (k : Client). k.pass.0) is;
-      place = subst (λ (k : ℕ). StandsNext calls n (drop k (commands calls n)) c.at) (sym (ap (λ (k : Client). k.answered) is)) at;
-      answered = ap (λ (k : Client). k.answered) is;
-      begun = ap (λ (k : Client). k.begun) is;
-      steps = ap (λ (k : Client). k.steps) is;
-      won = ap (λ (k : Client). k.won) is;
+      pass = ap (λ (k : ClientState). k.pass.0) is;
+      place = subst (λ (k : ℕ). StandsNext calls n (drop k (commands calls n)) c.at) (sym (ap (λ (k : ClientState). k.answered) is)) at;
+      answered = ap (λ (k : ClientState). k.answered) is;
+      begun = ap (λ (k : ClientState). k.begun) is;
+      steps = ap (λ (k : ClientState). k.steps) is;
+      won = ap (λ (k : ClientState). k.won) is;
     }

@@ -11,11 +11,11 @@ use Rattle.record.specs.CommandRules.{enters, HasTakenFew}
 use Rattle.record.specs.Commands.{next_command}
 use Rattle.record.specs.Replies.{IsFitting}
 use Rattle.record.specs.Turns.{history, answered, begin, start, entry_owed}
-use Rattle.moments.specs.Places.{changes}
+use Rattle.linearization.specs.Places.{changes}
 use Rattle.audit.specs.After.{IsAfter, IsMapAfter, IsClientAfter, lines_of, layout_of, tries_of, calls_of}
 use Rattle.audit.specs.Asked.{IsAsked}
-use Rattle.audit.specs.declared.client.Client.{Client}
-use Rattle.audit.specs.declared.run.Run.{Run}
+use Rattle.audit.specs.declared.client.ClientState.{ClientState}
+use Rattle.audit.specs.declared.run.Replay.{Replay}
 use Rattle.audit.proofs.MapLines.{AreOf, map_calls}
 
 entry_if : (b : Bool) (has : Option ℕ) → b ≡ is_some has → HasItsEntry b has
@@ -24,7 +24,7 @@ entry_if false None e = tt
 entry_if true None e = absurd (cc)
 entry_if false (Some turn) e = absurd (cc)
 
-module _ (run : Run) (client : Client) (command : Command) (r : Finished) (x : IsAfter run (lines_of run)) (there : slice_get run.clients.items client.pass.0 ≡ Some client) (own : client.pass ≡ r.client) where
+module _ (run : Replay) (client : ClientState) (command : Command) (r : Finished) (x : IsAfter run (lines_of run)) (there : slice_get run.clients.items client.pass.0 ≡ Some client) (own : client.pass ≡ r.client) where
   known : IsClientAfter (layout_of run) (calls_of run) (lines_of run) r.client.0 client
   known = subst (λ (p : PassNo). IsClientAfter (layout_of run) (calls_of run) (lines_of run) p.0 client) own (x.clients client.pass.0 client there)
 

@@ -18,7 +18,7 @@ use Rattle.record.specs.Answers.{IsInTheWay}
 use Rattle.record.specs.Snapshots.{IsLastLook, IsFirstUnlinked, AreLinked}
 use Rattle.audit.specs.CellCalls.{IsCallSeen, IsLookAt, IsOwnLook, IsAsLooked}
 use Rattle.audit.specs.Remembered.{row_count, IsMomentAt, IsLookOf, AreSnapshotsOf}
-use Rattle.audit.specs.declared.memory.Look.{Look}
+use Rattle.audit.specs.declared.memory.FoundInfo.{FoundInfo}
 use Rattle.audit.specs.declared.memory.Memory.{Memory}
 use Rattle.audit.specs.declared.memory.Snapshot.{Snapshot}
 use Rattle.audit.proofs.CellLists.{at_place, each_contained}
@@ -61,7 +61,7 @@ module _ (lay : Layout) (h : History) (memory : Memory) (linked : ℕ → Option
 -- Looks and others in the way
 
 module _ (lay : Layout) (c : ℕ) (h start : History) (linked : ℕ → Option History) (memory : Memory) (x : IsCallSeen lay c h start linked memory) where
-  pub as_looked : (n : ℕ) (look : Look) → IsOwnLook memory n look → last (log lay h) n ≡ look.last → is_final (log lay h) n ≡ false → IsAsLooked lay c h start n
+  pub as_looked : (n : ℕ) (look : FoundInfo) → IsOwnLook memory n look → last (log lay h) n ≡ look.last → is_final (log lay h) n ≡ false → IsAsLooked lay c h start n
   as_looked n look o same not_final =
       let y = looked lay h start c memory.begun n look x.started (x.looks look o.is) o.behind o.at in
       record {
@@ -71,12 +71,12 @@ module _ (lay : Layout) (c : ℕ) (h start : History) (linked : ℕ → Option H
         same = record { same = same ∙ y.entry; not_final = not_final };
       }
 
-  pub just_looked : (n : ℕ) (look : Look) → IsOwnLook memory n look → look.steps ≡ row_count h → IsLastLook c h start h n
+  pub just_looked : (n : ℕ) (look : FoundInfo) → IsOwnLook memory n look → look.steps ≡ row_count h → IsLastLook c h start h n
   just_looked n look o all =
       let y = looked lay h start c memory.begun n look x.started (x.looks look o.is) o.behind o.at in
       subst (λ (m : History). IsLastLook c h start m n) (same_moment h y.moment y.at.within (moment_before h y.moment h y.at.within (ends_self h) (let many = y.at.many in omega arith))) y.is_last
 
-  pub has_found : (kind : Kind) (look : Option Look) (n s : ℕ) → ((kept : Look) → look ≡ Some kept → IsLookOf lay h c kind kept) → IsLookAt look n s memory.begun → HasFound c h start kind n s
+  pub has_found : (kind : Kind) (look : Option FoundInfo) (n s : ℕ) → ((kept : FoundInfo) → look ≡ Some kept → IsLookOf lay h c kind kept) → IsLookAt look n s memory.begun → HasFound c h start kind n s
   has_found kind look n s looks l = look_found lay h start c memory.begun x.started kind l.kept (looks l.kept l.is) l.behind n s l.at l.it_found
 
   pub failed : (n s : ℕ) → IsLookAt memory.look n s memory.begun → IsOthersScx lay c s → WasInTheWay h start n s → value h (state s) ≢ 0 → is_final (log lay start) n ≡ false → HasFailed lay c h start n s
@@ -88,7 +88,7 @@ module _ (lay : Layout) (c : ℕ) (h start : History) (linked : ℕ → Option H
     not_final = not_final;
   }
 
-  pub come : (kind : Kind) (look : Option Look) (cells : List ℕ) (n s : ℕ) (kept : Snapshot) → ((l : Look) → look ≡ Some l → IsLookOf lay h c kind l) → slice_get memory.snapshots n ≡ Some (Some kept) → Contains cells n → IsLookAt look n s memory.begun → IsOthersScx lay c s → ((g : History) → IsMomentAt h kept.steps g → WasInTheWay h g n s) → IsInTheWay lay c h start kind cells n s (λ moment. linked n ≡ Some moment)
+  pub come : (kind : Kind) (look : Option FoundInfo) (cells : List ℕ) (n s : ℕ) (kept : Snapshot) → ((l : FoundInfo) → look ≡ Some l → IsLookOf lay h c kind l) → slice_get memory.snapshots n ≡ Some (Some kept) → Contains cells n → IsLookAt look n s memory.begun → IsOthersScx lay c s → ((g : History) → IsMomentAt h kept.steps g → WasInTheWay h g n s) → IsInTheWay lay c h start kind cells n s (λ moment. linked n ≡ Some moment)
   come kind look cells n s kept looks is among l others way =
       let y = kept_snapshot lay h n kept (linked n) (x.snapshots n (Some kept) is) in
       record {
@@ -100,7 +100,7 @@ module _ (lay : Layout) (c : ℕ) (h start : History) (linked : ℕ → Option H
         others = others;
       }
 
-  pub lost : (n s : ℕ) (look : Look) → IsOwnLook memory n look → ((g : History) → IsMomentAt h look.steps g → is_final (log lay g) n ≡ false) → IsLookAt memory.freeze n s memory.begun → IsOthersScx lay c s → ((g : History) → IsMomentAt h look.steps g → WasInTheWay h g n s) → IsInTheWay lay c h start Freeze (n ∷ []) n s (λ moment. IsLastLook c h start moment n × (is_final (log lay moment) n ≡ false))
+  pub lost : (n s : ℕ) (look : FoundInfo) → IsOwnLook memory n look → ((g : History) → IsMomentAt h look.steps g → is_final (log lay g) n ≡ false) → IsLookAt memory.freeze n s memory.begun → IsOthersScx lay c s → ((g : History) → IsMomentAt h look.steps g → WasInTheWay h g n s) → IsInTheWay lay c h start Freeze (n ∷ []) n s (λ moment. IsLastLook c h start moment n × (is_final (log lay moment) n ≡ false))
   lost n s look o not_final l others way =
       let y = looked lay h start c memory.begun n look x.started (x.looks look o.is) o.behind o.at in
       record {

@@ -16,7 +16,7 @@ use Rattle.arena.specs.ScxRecords.{member, plan, new, field_index, side_of}
 use Rattle.arena.specs.Words.{node, child, first_value}
 use Rattle.script.specs.declared.call.Call.{Call}
 use Rattle.script.specs.declared.command.Command.TheVariants.{Vlx}
-use Rattle.script.specs.declared.cells.Cells.{Cells}
+use Rattle.script.specs.declared.cells.CellList.{CellList}
 use Rattle.script.specs.Cells.{cells_of}
 use Rattle.record.specs.declared.record.Line.{Line}
 use Rattle.record.specs.Commands.{next_command}
@@ -90,7 +90,7 @@ module _ (lay : Layout) (calls : List Call) (lines : List Line) (all : Steps) (x
   pub call_seen : (c : ℕ) (memory : Memory) → slice_get all.memories.items c ≡ Some memory → IsSome (begin lines c) → IsCallSeen all.judge.layout c (seen_history all.judge) (start lay.mode lines c) (linked calls lay.mode lines c) memory
   call_seen c memory is begun = subst (λ (l : Layout). IsCallSeen l c (seen_history all.judge) (start lay.mode lines c) (linked calls lay.mode lines c) memory) (sym x.steps.layout) (subst (λ (h : History). IsCallSeen lay c h (start lay.mode lines c) (linked calls lay.mode lines c) memory) (sym x.steps.is_seen) (call_of_lines c memory is begun))
 
-  pub same_seen : (c : ℕ) (memory : Memory) (cells : Cells) → slice_get all.memories.items c ≡ Some memory → IsSome (begin lines c) → next_command calls lines c ≡ Some (Vlx cells) → AreSameAt all.judge.layout (start lay.mode lines c) (linked calls lay.mode lines c) (cells_of cells) memory.same
+  pub same_seen : (c : ℕ) (memory : Memory) (cells : CellList) → slice_get all.memories.items c ≡ Some memory → IsSome (begin lines c) → next_command calls lines c ≡ Some (Vlx cells) → AreSameAt all.judge.layout (start lay.mode lines c) (linked calls lay.mode lines c) (cells_of cells) memory.same
   same_seen c memory cells is begun next = subst (λ (l : Layout). AreSameAt l (start lay.mode lines c) (linked calls lay.mode lines c) (cells_of cells) memory.same) (sym x.steps.layout) (((x.memories c memory is).begins begun).same cells next)
 
   -- and back, of the lines

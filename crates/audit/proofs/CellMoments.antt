@@ -12,13 +12,13 @@ use Rattle.record.specs.Answers.{IsAsSnapped}
 use Rattle.record.specs.Snapshots.{IsLastLook}
 use Rattle.audit.specs.Remembered.{IsMomentAt, IsLookOf, IsSnapshotOf, AreSnapshotsOf}
 use Rattle.audit.proofs.RowMoments.{moment_before}
-use Rattle.audit.specs.declared.memory.Look.{Look}
+use Rattle.audit.specs.declared.memory.FoundInfo.{FoundInfo}
 use Rattle.audit.specs.declared.memory.Memory.{Memory}
 use Rattle.audit.specs.declared.memory.Snapshot.{Snapshot}
 
 -- Looks
 
-module _ (lay : Layout) (h start : History) (c begun : ℕ) (started : IsMomentAt h begun start) (kind : Kind) (look : Look) (x : IsLookOf lay h c kind look) (behind : begun < look.steps) where
+module _ (lay : Layout) (h start : History) (c begun : ℕ) (started : IsMomentAt h begun start) (kind : Kind) (look : FoundInfo) (x : IsLookOf lay h c kind look) (behind : begun < look.steps) where
   -- it was made since the moment
   look_since : Extends x.before start
   look_since = moment_before h x.before start (ends_trans h (x.row ⊳ x.before) x.before x.newest.within (inr (ends_self x.before))) started.within (let many = x.many in let from = started.many in omega arith)
@@ -34,13 +34,13 @@ module _ (lay : Layout) (h start : History) (c begun : ℕ) (started : IsMomentA
   }
 
 -- the last look of an LLX at this node, and the last entry over the node then
-pub record Looked (lay : Layout) (h start : History) (c n : ℕ) (look : Look) : Type 0 where
+pub record Looked (lay : Layout) (h start : History) (c n : ℕ) (look : FoundInfo) : Type 0 where
   pub moment : History
   pub is_last : IsLastLook c h start moment n
   pub at : IsMomentAt h look.steps moment
   pub entry : look.last ≡ last (log lay moment) n
 
-pub looked : (lay : Layout) (h start : History) (c begun n : ℕ) (look : Look) → IsMomentAt h begun start → IsLookOf lay h c LoadInfo look → begun < look.steps → look.node.0 ≡ n → Looked lay h start c n look
+pub looked : (lay : Layout) (h start : History) (c begun n : ℕ) (look : FoundInfo) → IsMomentAt h begun start → IsLookOf lay h c LoadInfo look → begun < look.steps → look.node.0 ≡ n → Looked lay h start c n look
 looked lay h start c begun n look started x behind at = record {
   moment = x.row ⊳ x.before;
   is_last = record {

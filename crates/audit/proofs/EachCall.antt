@@ -48,11 +48,11 @@ use Rattle.record.specs.Rules.Map.{IsMapEntry, RepliesAfterStep, own_rules}
 use Rattle.record.specs.Shares.{HasTooFewToTry}
 use Rattle.record.specs.Turns.{history, start, won}
 use Rattle.record.proofs.Lemmas.{value_told}
-use Rattle.moments.specs.declared.places.Change.{Change}
-use Rattle.moments.proofs.Lemmas.{ordered_placed}
+use Rattle.linearization.specs.declared.places.Change.{Change}
+use Rattle.linearization.proofs.Lemmas.{ordered_placed}
 use Rattle.audit.specs.Asked.{IsAsked, IsReadAt, NeededSomething, NeededWithin}
 use Rattle.audit.specs.Edits.{IsEditBy, IsEndLeaf, Suits}
-use Rattle.audit.specs.declared.client.Client.{Client}
+use Rattle.audit.specs.declared.client.ClientState.{ClientState}
 use Rattle.audit.proofs.MapAnswers.{IsAnswered, either_fits, is_change, neither, spelled_within}
 use Rattle.audit.proofs.TurnMoments.{HasSpelled, answer_by, replied_by, to_change_by}
 
@@ -170,7 +170,7 @@ module _ (lay : Layout) (tries c : ℕ) (now start : History) (kept : ℕ → Op
   memory_right (Successor key) fits = tt
   memory_right (Range low high most) fits = tt
 
-module _ (lay : Layout) (tries : ℕ) (calls : List Call) (lines : List Line) (changed : List Change) (client : Client) (request : Request ℕ ℕ) (r : Finished) (x : IsAsked lay tries calls lines changed client (Map request) r) where
+module _ (lay : Layout) (tries : ℕ) (calls : List Call) (lines : List Line) (changed : List Change) (client : ClientState) (request : Request ℕ ℕ) (r : Finished) (x : IsAsked lay tries calls lines changed client (Map request) r) where
   abbrev now : History
   now = history lay.mode lines
 

@@ -8,7 +8,7 @@ use Rattle.record.specs.declared.record.Record.{Record}
 use Rattle.record.specs.LawfulRun.{AreLines}
 use Rattle.audit.specs.After.{lines_of, IsAfter}
 use Rattle.audit.specs.Faults.{first_row, MayBeAtFault}
-use Rattle.audit.specs.declared.run.Run.{Run}
+use Rattle.audit.specs.declared.run.Replay.{Replay}
 
 -- more of a list goes on from less of it
 take_more_of : (xs : List Line) (i j : ℕ) → i ≤ j → (rest : List Line) × (take j xs ≡ take i xs ++ rest)
@@ -45,7 +45,7 @@ pub fault_before : (r : Record) (row : ℕ) → first_row r ≤ row → row ≤ 
 fault_before r row from less = fault_at r 0 row from (omega (arith, less)) (omega (arith, less)) (none_fit r.script.layout r.script.limits.tries r.script.calls.items)
 
 -- and behind the lines that a run has passed
-pub fault_behind : (run : Run) (r : Record) (at row : ℕ) → run.record.now ≡ r → run.at ≡ at → IsAfter run (lines_of run) → first_row r ≤ row → row ≤ first_row r + length r.lines.items → row ≤ first_row r + at → MayBeAtFault r row
+pub fault_behind : (run : Replay) (r : Record) (at row : ℕ) → run.record.now ≡ r → run.at ≡ at → IsAfter run (lines_of run) → first_row r ≤ row → row ≤ first_row r + length r.lines.items → row ≤ first_row r + at → MayBeAtFault r row
 fault_behind run r at row same is after from within less =
     subst (λ (k : Record). first_row k ≤ row → row ≤ first_row k + length k.lines.items → row ≤ first_row k + at → MayBeAtFault k row) same
     (subst (λ n. first_row run.record.now ≤ row → row ≤ first_row run.record.now + length run.record.now.lines.items → row ≤ first_row run.record.now + n → MayBeAtFault run.record.now row) is (λ first some few. fault_at run.record.now run.at row first some few after.in_order)) from within less

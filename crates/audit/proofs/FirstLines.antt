@@ -6,9 +6,9 @@ use Rattle.script.specs.declared.call.Call.{Call}
 use Rattle.record.specs.LawfulRun.{AreLines}
 use Rattle.judge.specs.Histories.{Judged, seen_history}
 use Rattle.audit.specs.After.{IsSoFar, AreClientsAfter}
-use Rattle.audit.specs.declared.client.Client.{Client}
+use Rattle.audit.specs.declared.client.ClientState.{ClientState}
 
-pub after_start : (lay : Layout) (tries : ℕ) (calls : List Call) (judge : Judged) (clients : List Client) → judge.layout ≡ lay → seen_history judge ≡ Start lay.mode → length clients ≡ lay.passes → AreClientsAfter lay calls [] clients → IsSoFar lay tries calls judge clients 0 0 None None false false false []
+pub after_start : (lay : Layout) (tries : ℕ) (calls : List Call) (judge : Judged) (clients : List ClientState) → judge.layout ≡ lay → seen_history judge ≡ Start lay.mode → length clients ≡ lay.passes → AreClientsAfter lay calls [] clients → IsSoFar lay tries calls judge clients 0 0 None None false false false []
 unfolding AreLines
 after_start lay tries calls judge clients same first many each = record {
   layout = same;

@@ -27,7 +27,7 @@ use Rattle.script.specs.declared.call.Call.{Call}
 use Rattle.script.specs.declared.command.Command.{Command}
 use Rattle.record.specs.declared.record.Line.{Line}
 use Rattle.record.specs.declared.record.Line.TheVariants.{Step, Log, Reply as ReplyLine}
-use Rattle.record.specs.declared.record.Row.TheVariants.{Step as Made, Idle}
+use Rattle.record.specs.declared.record.TurnRow.TheVariants.{Step as Made, Idle}
 use Rattle.record.specs.declared.record.Entry.{Entry}
 use Rattle.record.specs.declared.record.Finished.{Finished}
 use Rattle.record.specs.Commands.{next_command}
@@ -44,8 +44,8 @@ use Rattle.audit.specs.Calls.{StandsNext}
 use Rattle.audit.proofs.AfterLines.{idle_clients, log_clients, ended_clients, AreStepped, stepped_clients, unwon_clients, won_clients, get_there}
 use Rattle.judge.specs.Histories.{Judged, seen_history}
 use Rattle.audit.specs.After.{IsAfter, IsSoFar, IsClientAfter, AreClientsAfter, lines_of, layout_of, tries_of, calls_of, is_idle, pass_number, IsMapAfter, AreRememberedAfter, Remembers}
-use Rattle.audit.specs.declared.client.Client.{Client}
-use Rattle.audit.specs.declared.run.Run.{Run}
+use Rattle.audit.specs.declared.client.ClientState.{ClientState}
+use Rattle.audit.specs.declared.run.Replay.{Replay}
 
 abbrev place_of_some : Option Entry → ℕ
 place_of_some None = 0
@@ -67,7 +67,7 @@ owner_is : (lay : Layout) (s p : ℕ) → first_scx lay p ≤ s → s < first_sc
 owner_is lay s p from below = div-eq_of_lt-le lay.scx (omega arith) (omega arith)
 
 -- what a lawful step of a client's call asks
-pub step_fits : (run : Run) (number : ℕ) (row : StepRow) (client : Client) (command : Command) (most taken : ℕ) → IsAfter run (lines_of run) → client.pass ≡ row.pass → IsClientAfter (layout_of run) (calls_of run) (lines_of run) row.pass.0 client → next_command (calls_of run) (lines_of run) client.pass.0 ≡ Some command → suc run.turn ≡ number → row.call ≡ client.answered → client.steps < most → taken ≡ length (taken_nodes (seen_history run.steps.judge)) → ((all : ℕ) → taken ≤ all → most ≤ command_steps command (tries_of run) all) → MayMake command row.kind → SaysItsCall row → IsLawful run.steps.judge.layout (seen_history run.steps.judge) row → IsStep (layout_of run) (tries_of run) (calls_of run) (lines_of run) number row
+pub step_fits : (run : Replay) (number : ℕ) (row : StepRow) (client : ClientState) (command : Command) (most taken : ℕ) → IsAfter run (lines_of run) → client.pass ≡ row.pass → IsClientAfter (layout_of run) (calls_of run) (lines_of run) row.pass.0 client → next_command (calls_of run) (lines_of run) client.pass.0 ≡ Some command → suc run.turn ≡ number → row.call ≡ client.answered → client.steps < most → taken ≡ length (taken_nodes (seen_history run.steps.judge)) → ((all : ℕ) → taken ≤ all → most ≤ command_steps command (tries_of run) all) → MayMake command row.kind → SaysItsCall row → IsLawful run.steps.judge.layout (seen_history run.steps.judge) row → IsStep (layout_of run) (tries_of run) (calls_of run) (lines_of run) number row
 step_fits run number row client command most taken x pass y is turn call few taken_is most_is may says lawful = record {
   in_turn = sym turn ∙ ap suc x.turn;
   lawful = subst (λ (h : History). IsLawful (layout_of run) h row) x.seen (subst (λ (l : Layout). IsLawful l (seen_history run.steps.judge) row) x.layout lawful);
@@ -80,7 +80,7 @@ step_fits run number row client command most taken x pass y is turn call few tak
 }
 
 -- the entry of an update that changes its field
-pub entry_made : (run : Run) (number place : ℕ) (row : StepRow) (n : NodeNo) (side : Side) (s : ScxNo) (client : PassNo) (call : ℕ) → IsAfter run (lines_of run) → row.kind ≡ Update → (row.before ≡ row.after → ⊥) → row.word ≡ child n.0 side → s.0 ≡ value (seen_history run.steps.judge) (info n.0) → call ≡ value (seen_history run.steps.judge) (scx s.0 CallWord) → first_scx (layout_of run) client.0 ≤ s.0 → s.0 < first_scx (layout_of run) client.0 + (layout_of run).scx → place ≡ suc run.entries → entry_of (layout_of run) (lines_of run) number row ≡ Some record { place = place; step = number; scx = s; client = client; call = call }
+pub entry_made : (run : Replay) (number place : ℕ) (row : StepRow) (n : NodeNo) (side : Side) (s : ScxNo) (client : PassNo) (call : ℕ) → IsAfter run (lines_of run) → row.kind ≡ Update → (row.before ≡ row.after → ⊥) → row.word ≡ child n.0 side → s.0 ≡ value (seen_history run.steps.judge) (info n.0) → call ≡ value (seen_history run.steps.judge) (scx s.0 CallWord) → first_scx (layout_of run) client.0 ≤ s.0 → s.0 < first_scx (layout_of run) client.0 + (layout_of run).scx → place ≡ suc run.entries → entry_of (layout_of run) (lines_of run) number row ≡ Some record { place = place; step = number; scx = s; client = client; call = call }
 entry_made run number place row n side s client call x kind differs word holds calls from below place_is = rw (kind, ne_eqb row.before row.after differs, word) (ap (λ (e : Entry). Some e) same)
   where
     lay : Layout
@@ -105,7 +105,7 @@ entry_made run number place row n side s client call x kind differs word holds c
     same = rw (there, called, placed, owned) refl
 
 -- what is asked of an idle turn
-pub idle_awaits : (run : Run) (number : ℕ) (pass : PassNo) (client : Client) (next : Option Command) (awaits : Bool) → awaits ≡ is_some next → next ≡ next_command (calls_of run) (lines_of run) client.pass.0 → client.pass ≡ pass → awaits ≡ false → IsReplyOwed (calls_of run) (Step (Idle number pass) ∷ lines_of run) → ⊥
+pub idle_awaits : (run : Replay) (number : ℕ) (pass : PassNo) (client : ClientState) (next : Option Command) (awaits : Bool) → awaits ≡ is_some next → next ≡ next_command (calls_of run) (lines_of run) client.pass.0 → client.pass ≡ pass → awaits ≡ false → IsReplyOwed (calls_of run) (Step (Idle number pass) ∷ lines_of run) → ⊥
 idle_awaits run number pass client next awaits told is own none owed = go next refl (sym told ∙ none)
   where
     here : next ≡ Some owed.0
@@ -120,8 +120,8 @@ length_set xs i y = length-set xs i y
 
 -- The lines with one more
 
-module _ (lay : Layout) (tries : ℕ) (calls : List Call) (judge : Judged) (clients : List Client) (turn made : ℕ) (newest : Option PassNo) (due : Option Entry) (fits idle awaits : Bool) (lines : List Line) (x : IsSoFar lay tries calls judge clients turn made newest due fits idle awaits lines) where
-  pub after_idle : (number : ℕ) (pass : PassNo) (client changed : Client) (more : Judged) (fitting owes : Bool) → more ≡ judge → OwesNothing lay calls lines → IsIdleTurn lay calls lines number pass.0 → slice_get clients pass.0 ≡ Some client → (owes ≡ false → IsReplyOwed calls (Step (Idle number pass) ∷ lines) → ⊥) → changed ≡ record client { begun = Some (unwrap_or client.begun number) } → IsSoFar lay tries calls more (set clients pass.0 changed) number made (Some pass) due fitting true owes (Step (Idle number pass) ∷ lines)
+module _ (lay : Layout) (tries : ℕ) (calls : List Call) (judge : Judged) (clients : List ClientState) (turn made : ℕ) (newest : Option PassNo) (due : Option Entry) (fits idle awaits : Bool) (lines : List Line) (x : IsSoFar lay tries calls judge clients turn made newest due fits idle awaits lines) where
+  pub after_idle : (number : ℕ) (pass : PassNo) (client changed : ClientState) (more : Judged) (fitting owes : Bool) → more ≡ judge → OwesNothing lay calls lines → IsIdleTurn lay calls lines number pass.0 → slice_get clients pass.0 ≡ Some client → (owes ≡ false → IsReplyOwed calls (Step (Idle number pass) ∷ lines) → ⊥) → changed ≡ record client { begun = Some (unwrap_or client.begun number) } → IsSoFar lay tries calls more (set clients pass.0 changed) number made (Some pass) due fitting true owes (Step (Idle number pass) ∷ lines)
   unfolding AreLines
   after_idle number pass client changed more fitting owes same settled is there none change = record {
     layout = ap (λ (k : Judged). k.layout) same ∙ x.layout;
@@ -175,7 +175,7 @@ module _ (lay : Layout) (tries : ℕ) (calls : List Call) (judge : Judged) (clie
       placed (ReplyLine d ∷ lines) y = absurd y
 
   -- a step, whose entry is owed
-  pub after_step : (number : ℕ) (row : StepRow) (owed : Option Entry) (fit : Bool) (more : Judged) (all : List Client) → OwesNothing lay calls lines → IsStep lay tries calls lines number row → entry_of lay lines number row ≡ owed → ((e : Entry) → fit ≡ true → owed ≡ Some e → IsWinOf lay calls lines row e) → more.layout ≡ judge.layout → seen_history more ≡ row ⊳ seen_history judge → AreClientsAfter lay calls (Step (Made number row) ∷ lines) all → length all ≡ length clients → IsSoFar lay tries calls more all number made (Some row.pass) owed fit false false (Step (Made number row) ∷ lines)
+  pub after_step : (number : ℕ) (row : StepRow) (owed : Option Entry) (fit : Bool) (more : Judged) (all : List ClientState) → OwesNothing lay calls lines → IsStep lay tries calls lines number row → entry_of lay lines number row ≡ owed → ((e : Entry) → fit ≡ true → owed ≡ Some e → IsWinOf lay calls lines row e) → more.layout ≡ judge.layout → seen_history more ≡ row ⊳ seen_history judge → AreClientsAfter lay calls (Step (Made number row) ∷ lines) all → length all ≡ length clients → IsSoFar lay tries calls more all number made (Some row.pass) owed fit false false (Step (Made number row) ∷ lines)
   unfolding AreLines
   after_step number row owed fit more all settled step is wins same makes each many = record {
     layout = same ∙ x.layout;
@@ -192,7 +192,7 @@ module _ (lay : Layout) (tries : ℕ) (calls : List Call) (judge : Judged) (clie
     clients = each;
   }
 
-  pub after_reply : (reply : Finished) (client changed : Client) (more : Judged) (next : Option ℕ) (fitting : Bool) → more ≡ judge → due ≡ None → IsReply lay tries calls lines reply → slice_get clients reply.client.0 ≡ Some client → ((left : List Command) → StandsNext calls client.pass.0 left client.at → StandsNext calls client.pass.0 (drop 1 left) next) → changed ≡ record client { at = next; answered = client.answered + 1; begun = None; steps = 0; won = None } → IsSoFar lay tries calls more (set clients reply.client.0 changed) turn made newest due fitting false false (ReplyLine reply ∷ lines)
+  pub after_reply : (reply : Finished) (client changed : ClientState) (more : Judged) (next : Option ℕ) (fitting : Bool) → more ≡ judge → due ≡ None → IsReply lay tries calls lines reply → slice_get clients reply.client.0 ≡ Some client → ((left : List Command) → StandsNext calls client.pass.0 left client.at → StandsNext calls client.pass.0 (drop 1 left) next) → changed ≡ record client { at = next; answered = client.answered + 1; begun = None; steps = 0; won = None } → IsSoFar lay tries calls more (set clients reply.client.0 changed) turn made newest due fitting false false (ReplyLine reply ∷ lines)
   unfolding AreLines
   after_reply reply client changed more next fitting same owed is there behind change = record {
     layout = ap (λ (k : Judged). k.layout) same ∙ x.layout;
@@ -232,7 +232,7 @@ entry_there true None e = absurd (let z : true ≡ false = e in cc)
 entry_there false (Some n) e = absurd (let z : false ≡ true = e in cc)
 
 -- what a reply asks
-pub reply_fits : (run : Run) (reply : Finished) (client : Client) (command : Command) → IsAfter run (lines_of run) → slice_get run.clients.items client.pass.0 ≡ Some client → client.pass ≡ reply.client → Some command ≡ next_command (calls_of run) (lines_of run) client.pass.0 → run.last ≡ Some reply.client → reply.call ≡ client.answered → client.begun ≡ Some reply.begin → reply.end ≡ run.turn → IsFitting (lines_of run) command reply.answer → enters command reply.answer ≡ is_some client.won → ((m : ℕ) → reply.moment ≡ Some m → (reply.begin ≤ m) × (m ≤ reply.end))
+pub reply_fits : (run : Replay) (reply : Finished) (client : ClientState) (command : Command) → IsAfter run (lines_of run) → slice_get run.clients.items client.pass.0 ≡ Some client → client.pass ≡ reply.client → Some command ≡ next_command (calls_of run) (lines_of run) client.pass.0 → run.last ≡ Some reply.client → reply.call ≡ client.answered → client.begun ≡ Some reply.begin → reply.end ≡ run.turn → IsFitting (lines_of run) command reply.answer → enters command reply.answer ≡ is_some client.won → ((m : ℕ) → reply.moment ≡ Some m → (reply.begin ≤ m) × (m ≤ reply.end))
     → IsRight (layout_of run) (tries_of run) reply.client.0 (history (layout_of run).mode (lines_of run)) (start (layout_of run).mode (lines_of run) reply.client.0) (linked (calls_of run) (layout_of run).mode (lines_of run) reply.client.0) command reply.answer → HasTakenFew (layout_of run) (tries_of run) reply.client.0 (history (layout_of run).mode (lines_of run)) (start (layout_of run).mode (lines_of run) reply.client.0) command → IsPlaced (layout_of run) (calls_of run) (lines_of run) reply command → IsReply (layout_of run) (tries_of run) (calls_of run) (lines_of run) reply
 reply_fits run reply client command x there own is last call begun end fits enters within right took placed = record {
   client = sym x.last ∙ ap pass_number last;
@@ -253,7 +253,7 @@ reply_fits run reply client command x there own is last call begun end fits ente
     y = subst (λ (p : PassNo). IsClientAfter (layout_of run) (calls_of run) (lines_of run) p.0 client) own (x.clients client.pass.0 client there)
 
 -- each client behind a step and the entry that it asks for
-pub made_clients : (lay : Layout) (calls : List Call) (lines : List Line) (number : ℕ) (row : StepRow) (owed : Option Entry) (clients old new : List Client) (client changed : Client) → entry_of lay lines number row ≡ owed → AreClientsAfter lay calls lines clients → slice_get clients row.pass.0 ≡ Some client → changed ≡ record client { begun = Some (unwrap_or client.begun number); steps = client.steps + 1 } → old ≡ set clients row.pass.0 changed → ((e : Entry) → owed ≡ Some e → e.client.0 < length old) → (owed ≡ None → new ≡ old) → ((e : Entry) (c : Client) → owed ≡ Some e → slice_get old e.client.0 ≡ Some c → new ≡ set old e.client.0 (record c { won = Some number })) → AreClientsAfter lay calls (Step (Made number row) ∷ lines) new
+pub made_clients : (lay : Layout) (calls : List Call) (lines : List Line) (number : ℕ) (row : StepRow) (owed : Option Entry) (clients old new : List ClientState) (client changed : ClientState) → entry_of lay lines number row ≡ owed → AreClientsAfter lay calls lines clients → slice_get clients row.pass.0 ≡ Some client → changed ≡ record client { begun = Some (unwrap_or client.begun number); steps = client.steps + 1 } → old ≡ set clients row.pass.0 changed → ((e : Entry) → owed ≡ Some e → e.client.0 < length old) → (owed ≡ None → new ≡ old) → ((e : Entry) (c : ClientState) → owed ≡ Some e → slice_get old e.client.0 ≡ Some c → new ≡ set old e.client.0 (record c { won = Some number })) → AreClientsAfter lay calls (Step (Made number row) ∷ lines) new
 made_clients lay calls lines number row owed clients old new client changed is x there change put within none some = go owed refl
   where
     stepped : AreStepped lay calls lines number row old
@@ -272,7 +272,7 @@ if_there P None x h e = absurd (let z : None ≡ Some x = e in cc)
 if_there P (Some y) x h e = let same : y ≡ x = cc in subst P same h
 
 -- the entry's client is there still
-pub client_within : (lay : Layout) (clients : List Client) (i : ℕ) (changed : Client) (owed : Option Entry) → length clients ≡ lay.passes → IfSome owed (λ (e : Entry). e.client.0 < lay.passes) → (e : Entry) → owed ≡ Some e → e.client.0 < length (set clients i changed)
+pub client_within : (lay : Layout) (clients : List ClientState) (i : ℕ) (changed : ClientState) (owed : Option Entry) → length clients ≡ lay.passes → IfSome owed (λ (e : Entry). e.client.0 < lay.passes) → (e : Entry) → owed ≡ Some e → e.client.0 < length (set clients i changed)
 client_within lay clients i changed owed all few e is = rw (length-set clients i changed, all) (if_there (λ (e : Entry). e.client.0 < lay.passes) owed e few is)
 
 -- what the entry of a step on a field says
@@ -283,7 +283,7 @@ entry_says lay lines number row entry n side is word = go (is_update row.kind &&
     go false e = absurd (let z : None ≡ Some entry = e in cc)
     go true e = (sym (ap client_of_some e), sym (ap call_of_some e))
 
-win_is : (lay : Layout) (calls : List Call) (lines : List Line) (number : ℕ) (row : StepRow) (entry : Entry) (client : Client) (command : Command) (n : ℕ) (side : Side) → entry_of lay lines number row ≡ Some entry → IsClientAfter lay calls lines entry.client.0 client → next_command calls lines entry.client.0 ≡ Some command → IsWin (history lay.mode lines) row entry.scx.0 → row.word ≡ child n side → log lay (row ⊳ history lay.mode lines) ≡ entered lay (history lay.mode lines) entry.scx.0 n side row.after ∷ log lay (history lay.mode lines) → entry.scx.0 ≡ value (history lay.mode lines) (info n) → client.won ≡ None → entry.call ≡ client.answered → ((row.pass.0 ≡ entry.client.0 → ⊥) → IsSome client.begun)
+win_is : (lay : Layout) (calls : List Call) (lines : List Line) (number : ℕ) (row : StepRow) (entry : Entry) (client : ClientState) (command : Command) (n : ℕ) (side : Side) → entry_of lay lines number row ≡ Some entry → IsClientAfter lay calls lines entry.client.0 client → next_command calls lines entry.client.0 ≡ Some command → IsWin (history lay.mode lines) row entry.scx.0 → row.word ≡ child n side → log lay (row ⊳ history lay.mode lines) ≡ entered lay (history lay.mode lines) entry.scx.0 n side row.after ∷ log lay (history lay.mode lines) → entry.scx.0 ≡ value (history lay.mode lines) (info n) → client.won ≡ None → entry.call ≡ client.answered → ((row.pass.0 ≡ entry.client.0 → ⊥) → IsSome client.begun)
     → IsEntryFor lay entry.client.0 (history lay.mode lines) (start lay.mode lines entry.client.0) (linked calls lay.mode lines entry.client.0) (entered lay (history lay.mode lines) entry.scx.0 n side row.after) command → IsWinOf lay calls lines row entry
 win_is lay calls lines number row entry client command n side is y next wins word logged holds unwon call begun does = record {
   wins = wins;
@@ -304,7 +304,7 @@ win_is lay calls lines number row entry client command n side is y next wins wor
     says = entry_says lay lines number row entry n side is word
 
 -- a winning update with an entry that its client's call makes
-pub win_fits : (run : Run) (number : ℕ) (row : StepRow) (entry : Entry) (client : Client) (command : Command) → IsAfter run (lines_of run) → entry_of (layout_of run) (lines_of run) number row ≡ Some entry → IsClientAfter (layout_of run) (calls_of run) (lines_of run) entry.client.0 client → Some command ≡ next_command (calls_of run) (lines_of run) client.pass.0 → client.pass ≡ entry.client → IsWin (seen_history run.steps.judge) row entry.scx.0 → ((n : ℕ) × (side : Side) × (row.word ≡ child n side) × (log run.steps.judge.layout (row ⊳ seen_history run.steps.judge) ≡ entered run.steps.judge.layout (seen_history run.steps.judge) entry.scx.0 n side row.after ∷ log run.steps.judge.layout (seen_history run.steps.judge))) → ((n : ℕ) (side : Side) → row.word ≡ child n side → entry.scx.0 ≡ value (seen_history run.steps.judge) (info n)) → client.won ≡ None → entry.call ≡ client.answered → ((row.pass.0 ≡ entry.client.0 → ⊥) → IsSome client.begun)
+pub win_fits : (run : Replay) (number : ℕ) (row : StepRow) (entry : Entry) (client : ClientState) (command : Command) → IsAfter run (lines_of run) → entry_of (layout_of run) (lines_of run) number row ≡ Some entry → IsClientAfter (layout_of run) (calls_of run) (lines_of run) entry.client.0 client → Some command ≡ next_command (calls_of run) (lines_of run) client.pass.0 → client.pass ≡ entry.client → IsWin (seen_history run.steps.judge) row entry.scx.0 → ((n : ℕ) × (side : Side) × (row.word ≡ child n side) × (log run.steps.judge.layout (row ⊳ seen_history run.steps.judge) ≡ entered run.steps.judge.layout (seen_history run.steps.judge) entry.scx.0 n side row.after ∷ log run.steps.judge.layout (seen_history run.steps.judge))) → ((n : ℕ) (side : Side) → row.word ≡ child n side → entry.scx.0 ≡ value (seen_history run.steps.judge) (info n)) → client.won ≡ None → entry.call ≡ client.answered → ((row.pass.0 ≡ entry.client.0 → ⊥) → IsSome client.begun)
     → ((n : ℕ) (side : Side) → row.word ≡ child n side → IsEntryFor (layout_of run) client.pass.0 (seen_history run.steps.judge) (start (layout_of run).mode (lines_of run) client.pass.0) (linked (calls_of run) (layout_of run).mode (lines_of run) client.pass.0) (entered (layout_of run) (seen_history run.steps.judge) entry.scx.0 n side row.after) command) → IsWinOf (layout_of run) (calls_of run) (lines_of run) row entry
 win_fits run number row entry client command x is y next own wins logged holds unwon call begun does =
     win_is lay (calls_of run) (lines_of run) number row entry client command n side is y
@@ -325,7 +325,7 @@ win_fits run number row entry client command x is y next own wins logged holds u
 
 -- The first lines
 
-pub one_step : (calls : List Call) (lines : List Line) (run : Run) (new : Run) (line made : Line) → slice_get run.record.now.lines.items run.at ≡ Some line → slice_get run.record.now.lines.items run.at ≡ Some made → IsAfter new (made ∷ lines) → IsAfter new (line ∷ lines)
+pub one_step : (calls : List Call) (lines : List Line) (run : Replay) (new : Replay) (line made : Line) → slice_get run.record.now.lines.items run.at ≡ Some line → slice_get run.record.now.lines.items run.at ≡ Some made → IsAfter new (made ∷ lines) → IsAfter new (line ∷ lines)
 one_step calls lines run new line made a b x = let same : made ≡ line = some_line made line (sym b ∙ a) in subst (λ (l : Line). IsAfter new (l ∷ lines)) same x
 
 -- with the next line counted
@@ -333,7 +333,7 @@ pub line_more : (lines : List Line) (at : ℕ) (line : Line) → slice_get lines
 line_more lines at line is = subst (λ (n : ℕ). reverse (take n lines) ≡ line ∷ reverse (take at lines)) (sym (add-one at)) (one_line_more lines at line (slice_get_within lines at line is) (sym (get_or_from_slice_get lines at line line is)))
 
 -- of a run whose record and count of lines have stayed
-pub line_counted : (old new : Run) (line : Line) → new.record ≡ old.record → new.at ≡ old.at → slice_get old.record.now.lines.items old.at ≡ Some line → reverse (take (new.at + 1) new.record.now.lines.items) ≡ line ∷ lines_of old
+pub line_counted : (old new : Replay) (line : Line) → new.record ≡ old.record → new.at ≡ old.at → slice_get old.record.now.lines.items old.at ≡ Some line → reverse (take (new.at + 1) new.record.now.lines.items) ≡ line ∷ lines_of old
 line_counted old new line same at is = rw (same, at) (line_more old.record.now.lines.items old.at line is)
 
 -- the lines of a lawful run
@@ -349,7 +349,7 @@ lawful_lines lay tries calls lines in_order settled lawful whole = record {
   whole = whole;
 }
 
-pub lawful_run : (run : Run) → IsAfter run (lines_of run) → run.at ≡ length run.record.now.lines.items → Lawful run.steps.judge.layout (seen_history run.steps.judge) → OwesNothing (layout_of run) (calls_of run) (lines_of run) → IsWhole (layout_of run).mode (layout_of run) (calls_of run) (lines_of run) → IsLawfulRun (layout_of run) (tries_of run) (calls_of run) (reverse (clients (reverse run.record.now.lines.items))) run.record.now.lines.items
+pub lawful_run : (run : Replay) → IsAfter run (lines_of run) → run.at ≡ length run.record.now.lines.items → Lawful run.steps.judge.layout (seen_history run.steps.judge) → OwesNothing (layout_of run) (calls_of run) (lines_of run) → IsWhole (layout_of run).mode (layout_of run) (calls_of run) (lines_of run) → IsLawfulRun (layout_of run) (tries_of run) (calls_of run) (reverse (clients (reverse run.record.now.lines.items))) run.record.now.lines.items
 lawful_run run x all lawful settled whole = lawful_lines (layout_of run) (tries_of run) (calls_of run) run.record.now.lines.items (there (λ l. AreLines (layout_of run) (tries_of run) (calls_of run) l) x.in_order) (there (λ l. OwesNothing (layout_of run) (calls_of run) l) settled) (there (λ l. Lawful (layout_of run) (history (layout_of run).mode l)) (subst (λ (h : History). Lawful (layout_of run) h) x.seen (subst (λ (l : Layout). Lawful l (seen_history run.steps.judge)) x.layout lawful))) (there (λ l. IsWhole (layout_of run).mode (layout_of run) (calls_of run) l) whole)
   where
     taken : take run.at run.record.now.lines.items ≡ run.record.now.lines.items
@@ -359,5 +359,5 @@ lawful_run run x all lawful settled whole = lawful_lines (layout_of run) (tries_
     there P y = subst (λ (l : List Line). P (reverse l)) taken y
 
 -- what a run remembers, where what it remembers of the map goes by what it remembers of turns
-pub remembers_all : (run : Run) (lines : List Line) → IsAfter run lines → (IsAfter run lines → IsMapAfter run lines) → AreRememberedAfter run lines → Remembers run lines
+pub remembers_all : (run : Replay) (lines : List Line) → IsAfter run lines → (IsAfter run lines → IsMapAfter run lines) → AreRememberedAfter run lines → Remembers run lines
 remembers_all run lines after map remembered = record { after = after; map = map after; remembered = remembered }

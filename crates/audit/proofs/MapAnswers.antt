@@ -7,7 +7,7 @@ use Rattle.script.specs.declared.call.Call.{Call}
 use Rattle.script.specs.declared.command.Command.{Command}
 use Rattle.record.specs.declared.record.Line.{Line}
 use Rattle.record.specs.declared.record.Line.TheVariants.{Step, Log, Reply as ReplyLine}
-use Rattle.record.specs.declared.record.Row.TheVariants.{Step as Made, Idle}
+use Rattle.record.specs.declared.record.TurnRow.TheVariants.{Step as Made, Idle}
 use Rattle.record.specs.declared.record.Finished.{Finished}
 use Rattle.record.specs.declared.record.Answer.{Answer}
 use Rattle.record.specs.CommandRules.{IsRight, IsPlaced, MayAnswerAtOnce, MayAnswerAfterStep}
@@ -17,11 +17,11 @@ use Rattle.record.specs.Placed.{IsPlacedChange}
 use Rattle.record.specs.Replies.{IsFitting}
 use Rattle.record.specs.Turns.{history, turns, start, won}
 use Rattle.record.proofs.Lemmas.{begin_within, value_told}
-use Rattle.moments.specs.declared.places.Change.{Change}
-use Rattle.moments.specs.Ordered.{FallFrom}
-use Rattle.moments.proofs.Lemmas.{falls}
+use Rattle.linearization.specs.declared.places.Change.{Change}
+use Rattle.linearization.specs.Ordered.{FallFrom}
+use Rattle.linearization.proofs.Lemmas.{falls}
 use Rattle.audit.specs.Asked.{IsAsked, IsReadAt, IsValueAt}
-use Rattle.audit.specs.declared.client.Client.{Client}
+use Rattle.audit.specs.declared.client.ClientState.{ClientState}
 use Rattle.audit.proofs.TurnMoments.{HasSpelled, IsNotIdle, have_spelled}
 use Rattle.audit.proofs.WonEntries.{won_entered}
 
@@ -52,7 +52,7 @@ pub none_by : (o : Option ℕ) → is_some o ≡ false → o ≡ None
 none_by None e = refl
 none_by (Some v) e = absurd (cc)
 
-module _ (lay : Layout) (tries : ℕ) (calls : List Call) (lines : List Line) (changed : List Change) (client : Client) (command : Command) (r : Finished) (x : IsAsked lay tries calls lines changed client command r) where
+module _ (lay : Layout) (tries : ℕ) (calls : List Call) (lines : List Line) (changed : List Change) (client : ClientState) (command : Command) (r : Finished) (x : IsAsked lay tries calls lines changed client command r) where
   -- the call has turns
   pub some_turns : r.begin ≤ r.end
   some_turns = let w = begin_within lay tries calls lines r.client.0 r.begin x.in_order x.begun in let e = x.end in omega (w, e, arith)

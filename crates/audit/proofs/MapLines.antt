@@ -24,7 +24,7 @@ use Rattle.script.specs.declared.command.Command.TheVariants.{Llx as LlxOf, Scx 
 use Rattle.script.specs.Commands.{mode_of}
 use Rattle.record.specs.declared.record.Line.{Line}
 use Rattle.record.specs.declared.record.Line.TheVariants.{Step, Log, Reply as ReplyLine}
-use Rattle.record.specs.declared.record.Row.TheVariants.{Step as Made, Idle}
+use Rattle.record.specs.declared.record.TurnRow.TheVariants.{Step as Made, Idle}
 use Rattle.record.specs.declared.record.Entry.{Entry}
 use Rattle.record.specs.declared.record.Finished.{Finished}
 use Rattle.record.specs.CommandRules.{IsEntryFor}
@@ -35,13 +35,13 @@ use Rattle.record.specs.MapRecord.{map_call, map_call_of, map_of, written_log}
 use Rattle.record.specs.SpelledMap.{AreSpelled, IsSpelledAfter}
 use Rattle.record.specs.Turns.{history, answered, entry_owed}
 use Rattle.record.proofs.Lemmas.{AreMapCalls, lawful_is_legal}
-use Rattle.moments.specs.declared.places.Change.{Change}
-use Rattle.moments.specs.Entries.{IsChangeBy}
-use Rattle.moments.proofs.Lemmas.{are_spelled, change_of_newest}
-use Rattle.moments.specs.declared.places.Places.{Places}
-use Rattle.moments.specs.Places.{changes}
+use Rattle.linearization.specs.declared.places.Change.{Change}
+use Rattle.linearization.specs.Entries.{IsChangeBy}
+use Rattle.linearization.proofs.Lemmas.{are_spelled, change_of_newest}
+use Rattle.linearization.specs.declared.places.Places.{Places}
+use Rattle.linearization.specs.Places.{changes}
 use Rattle.audit.specs.Edits.{IsEditBy, IsSuited, MayMakeEdit, HasBegunWith, AreRememberedEdits, edit_begun}
-use Rattle.audit.specs.declared.edits.Begun.{Begun}
+use Rattle.audit.specs.declared.edits.BegunEdit.{BegunEdit}
 use Rattle.audit.specs.Trees.{IsMapSoFar, IsTreeSoFar, HasChangedBy}
 use Rattle.audit.proofs.TreeLines.{tree_idle, tree_reply, tree_log, tree_step, edits_kept, edits_set, edit_allowed, edit_entry, change_made, begun_before_win}
 
@@ -89,12 +89,12 @@ spelled_now lay calls [] x owed = x
 spelled_now lay calls (line ∷ lines) x owed = x.1 owed
 
 -- the entry of a call, by what its SCX-record does, which has begun for it
-change_by : (lay : Layout) (c : ℕ) (before start : History) (linked : ℕ → Option History) (row : StepRow) (e : Entered) (turn : ℕ) (m : List Pair) (begun : Begun) → IsTreeRun lay (row ⊳ before) → IsWin before row e.scx → HasBegunWith lay before e.scx begun → Spells lay (value before) m → (command : Command) → IsEditBy (map_call (Some command)) (edit_begun begun) → IsEntryFor lay c before start linked e command → IsChangeBy (map_call (Some command)) m record { turn = turn; key = begun.key; value = begun.value }
+change_by : (lay : Layout) (c : ℕ) (before start : History) (linked : ℕ → Option History) (row : StepRow) (e : Entered) (turn : ℕ) (m : List Pair) (begun : BegunEdit) → IsTreeRun lay (row ⊳ before) → IsWin before row e.scx → HasBegunWith lay before e.scx begun → Spells lay (value before) m → (command : Command) → IsEditBy (map_call (Some command)) (edit_begun begun) → IsEntryFor lay c before start linked e command → IsChangeBy (map_call (Some command)) m record { turn = turn; key = begun.key; value = begun.value }
 change_by lay c before start linked row e turn m begun run won b spells (Map request) by x = change_made lay before row e turn m begun run won b spells (map_request request) by x
 change_by lay c before start linked row e turn m begun run won b spells command by x = absurd by
 
 -- the change of an SCX-record that has begun is that of its entry
-change_of : (lay : Layout) (tries : ℕ) (calls : List Call) (lines : List Line) (entry : Entry) (begun : Begun) → lay.mode ≡ Tree → AreLines lay tries calls (Log entry ∷ lines) → AreSpelled lay calls lines → IsRun TreeAllows lay (history lay.mode lines) → HasBegunWith lay (history lay.mode lines) entry.scx.0 begun → next_command calls lines entry.client.0 ≡ Some begun.command → IsChangeBy (map_call_of calls entry.client.0 entry.call) (map_of calls (written_log lines)) record { turn = entry.step; key = begun.key; value = begun.value }
+change_of : (lay : Layout) (tries : ℕ) (calls : List Call) (lines : List Line) (entry : Entry) (begun : BegunEdit) → lay.mode ≡ Tree → AreLines lay tries calls (Log entry ∷ lines) → AreSpelled lay calls lines → IsRun TreeAllows lay (history lay.mode lines) → HasBegunWith lay (history lay.mode lines) entry.scx.0 begun → next_command calls lines entry.client.0 ≡ Some begun.command → IsChangeBy (map_call_of calls entry.client.0 entry.call) (map_of calls (written_log lines)) record { turn = entry.step; key = begun.key; value = begun.value }
 unfolding AreLines AreSpelled
 change_of lay tries calls [] entry begun mode a x run b own = absurd a.1
 change_of lay tries calls (Step (Idle n client) ∷ lines) entry begun mode a x run b own = absurd a.1
@@ -126,7 +126,7 @@ change_of lay tries calls (Step (Made n row) ∷ lines) entry begun mode a x run
     by : IsChangeBy (map_call (Some w.command)) m made
     by = change_by lay entry.client.0 before _ _ row w.entered entry.step m begun (mode, run) (subst (λ (s : ℕ). IsWin before row s) (sym w.same_scx) w.wins) begun_then spells w.command for_it w.does
 
-module _ (lay : Layout) (tries : ℕ) (calls : List Call) (of_mode : AreOf lay.mode calls) (begun : List (Option Begun)) (places : Places) (lines : List Line) (x : IsMapSoFar lay calls begun places lines) where
+module _ (lay : Layout) (tries : ℕ) (calls : List Call) (of_mode : AreOf lay.mode calls) (begun : List (Option BegunEdit)) (places : Places) (lines : List Line) (x : IsMapSoFar lay calls begun places lines) where
   pub map_idle : (number : ℕ) (pass : PassNo) → AreLines lay tries calls (Step (Idle number pass) ∷ lines) → IsMapSoFar lay calls begun places (Step (Idle number pass) ∷ lines)
   map_idle number pass a = record { tree = λ mode. tree_idle lay tries calls mode (map_calls lay.mode calls mode of_mode) begun (changes places) lines (x.tree mode) number pass a }
 
@@ -140,7 +140,7 @@ module _ (lay : Layout) (tries : ℕ) (calls : List Call) (of_mode : AreOf lay.m
       tree : lay.mode ≡ Tree → IsTreeSoFar lay calls begun (changes after) (Log entry ∷ lines)
       tree mode =
           let d = change mode in
-          let one : Begun = d.by.begun in
+          let one : BegunEdit = d.by.begun in
           let t = x.tree mode in
           let made : Change = record { turn = entry.step; key = one.key; value = one.value } in
           let by = change_of lay tries calls lines entry one mode a t.spelled t.run (t.edits entry.scx.0 one d.by.known) d.by.own in
@@ -148,7 +148,7 @@ module _ (lay : Layout) (tries : ℕ) (calls : List Call) (of_mode : AreOf lay.m
           subst (λ (l : List Change). IsTreeSoFar lay calls begun l (Log entry ∷ lines)) (sym added) (tree_log lay tries calls mode (map_calls lay.mode calls mode of_mode) begun (changes places) lines t entry made a (change_of_newest lay tries calls lines entry made a refl by))
 
   -- a step, with the SCX-record that it begins, if it begins one
-  pub map_step : (number : ℕ) (row : StepRow) (h : History) (more : List (Option Begun)) (edit : Option Begun) → h ≡ history lay.mode lines → AreLines lay tries calls (Step (Made number row) ∷ lines) → IsLawful lay (history lay.mode lines) row → (lay.mode ≡ Tree → HasRisingLevels h → HasRisingLevels (row ⊳ h)) → (lay.mode ≡ Tree → IsBegin h row row.after → (b : Begun) × MayMakeEdit lay h row.after b) → IfSome edit (λ b. IsBegin h row row.after) → IfSome edit (MayMakeEdit lay h row.after) → (edit ≡ None → more ≡ begun) → (IsSome edit → more ≡ set begun row.after edit) → IsMapSoFar lay calls more places (Step (Made number row) ∷ lines)
+  pub map_step : (number : ℕ) (row : StepRow) (h : History) (more : List (Option BegunEdit)) (edit : Option BegunEdit) → h ≡ history lay.mode lines → AreLines lay tries calls (Step (Made number row) ∷ lines) → IsLawful lay (history lay.mode lines) row → (lay.mode ≡ Tree → HasRisingLevels h → HasRisingLevels (row ⊳ h)) → (lay.mode ≡ Tree → IsBegin h row row.after → (b : BegunEdit) × MayMakeEdit lay h row.after b) → IfSome edit (λ b. IsBegin h row row.after) → IfSome edit (MayMakeEdit lay h row.after) → (edit ≡ None → more ≡ begun) → (IsSome edit → more ≡ set begun row.after edit) → IsMapSoFar lay calls more places (Step (Made number row) ∷ lines)
   map_step number row h more edit same a lawful rising allowed begins may none some = record { tree = tree }
     where
       now : History
@@ -171,15 +171,15 @@ module _ (lay : Layout) (tries : ℕ) (calls : List Call) (of_mode : AreOf lay.m
           known : AreRememberedEdits lay now begun
           known = (x.tree mode).edits
 
-          go : (o : Option Begun) → edit ≡ o → IfSome o (λ d. IsBegin h row row.after) → IfSome o (MayMakeEdit lay h row.after) → (IsSome o → more ≡ set begun row.after o) → AreRememberedEdits lay (row ⊳ now) more
-          go None e b y p = subst (λ (l : List (Option Begun)). AreRememberedEdits lay (row ⊳ now) l) (sym (none e)) (edits_kept lay now row begun known)
-          go (Some d) e b y p = subst (λ (l : List (Option Begun)). AreRememberedEdits lay (row ⊳ now) l) (sym (p refl)) (edits_set lay now row begun row.after d known (there (λ g. IsBegin g row row.after) b) (there (λ g. MayMakeEdit lay g row.after d) y))
+          go : (o : Option BegunEdit) → edit ≡ o → IfSome o (λ d. IsBegin h row row.after) → IfSome o (MayMakeEdit lay h row.after) → (IsSome o → more ≡ set begun row.after o) → AreRememberedEdits lay (row ⊳ now) more
+          go None e b y p = subst (λ (l : List (Option BegunEdit)). AreRememberedEdits lay (row ⊳ now) l) (sym (none e)) (edits_kept lay now row begun known)
+          go (Some d) e b y p = subst (λ (l : List (Option BegunEdit)). AreRememberedEdits lay (row ⊳ now) l) (sym (p refl)) (edits_set lay now row begun row.after d known (there (λ g. IsBegin g row row.after) b) (there (λ g. MayMakeEdit lay g row.after d) y))
 
       tree : lay.mode ≡ Tree → IsTreeSoFar lay calls more (changes places) (Step (Made number row) ∷ lines)
       tree mode = tree_step lay tries calls mode (map_calls lay.mode calls mode of_mode) begun (changes places) lines (x.tree mode) number row more a lawful (allows mode) (there (λ k. HasRisingLevels (row ⊳ k)) (rising mode (here (λ k. HasRisingLevels k) (x.tree mode).rising))) (edits mode)
 
   -- an entry of an SCX-record that has begun for a client's call is one that the call makes
-  pub map_entry : (h : History) → h ≡ history lay.mode lines → (c s : ℕ) (row : StepRow) (known_by : Begun) → IsLawful lay h row → IsWin h row s → next_command calls lines c ≡ Some known_by.command → mode_of known_by.command ≡ Tree → slice_get begun s ≡ Some (Some known_by) → IsSuited h s known_by → (command : Command) → known_by.command ≡ command → (start : History) (linked : ℕ → Option History) (e : Entered) → e.scx ≡ s → IsEntryFor lay c h start linked e command
+  pub map_entry : (h : History) → h ≡ history lay.mode lines → (c s : ℕ) (row : StepRow) (known_by : BegunEdit) → IsLawful lay h row → IsWin h row s → next_command calls lines c ≡ Some known_by.command → mode_of known_by.command ≡ Tree → slice_get begun s ≡ Some (Some known_by) → IsSuited h s known_by → (command : Command) → known_by.command ≡ command → (start : History) (linked : ℕ → Option History) (e : Entered) → e.scx ≡ s → IsEntryFor lay c h start linked e command
   map_entry h same c s row known_by lawful won is mode known suited command of_command start linked e own =
       let tree = sym (next_of_mode lay.mode calls lines c known_by.command of_mode is) ∙ mode in
       let here = λ (P : History → Type 0) (y : P (history lay.mode lines)). subst P (sym same) y in
@@ -195,13 +195,13 @@ module _ (lay : Layout) (tries : ℕ) (calls : List Call) (of_mode : AreOf lay.m
 
 -- The start
 
-never_begun : (n s : ℕ) (first : Begun) → slice_get (replicate n None) s ≡ Some (Some first) → ⊥
+never_begun : (n s : ℕ) (first : BegunEdit) → slice_get (replicate n None) s ≡ Some (Some first) → ⊥
 never_begun zero s first e = absurd (let z : None ≡ Some (Some first) = e in cc)
 never_begun (suc n) zero first e = let z : Some None ≡ Some (Some first) = e in absurd (cc)
 never_begun (suc n) (suc s) first e = never_begun n s first e
 
 -- of no line nothing is remembered
-pub map_start : (lay : Layout) (tries : ℕ) (calls : List Call) (begun : List (Option Begun)) (places : Places) (n : ℕ) → AreOf lay.mode calls → begun ≡ replicate n None → changes places ≡ [] → IsMapSoFar lay calls begun places []
+pub map_start : (lay : Layout) (tries : ℕ) (calls : List Call) (begun : List (Option BegunEdit)) (places : Places) (n : ℕ) → AreOf lay.mode calls → begun ≡ replicate n None → changes places ≡ [] → IsMapSoFar lay calls begun places []
 unfolding AreLines AreSpelled Lawful Shaped
 map_start lay tries calls begun places n of_mode none unchanged = record { tree = tree }
   where
@@ -210,7 +210,7 @@ map_start lay tries calls begun places n of_mode none unchanged = record { tree 
       run = run;
       rising = spelled.rising;
       spelled = spelled;
-      edits = λ s first e. absurd (never_begun n s first (subst (λ (l : List (Option Begun)). slice_get l s ≡ Some (Some first)) none e));
+      edits = λ s first e. absurd (never_begun n s first (subst (λ (l : List (Option BegunEdit)). slice_get l s ≡ Some (Some first)) none e));
       entries = tt;
     }
       where

@@ -18,7 +18,7 @@ use Rattle.arena.proofs.Lemmas.{ends_self, last_more, last_now, plan_counted, va
 use Rattle.histories.proofs.Lemmas.{is_removed_of}
 use Rattle.script.specs.declared.command.Command.{Command}
 use Rattle.judge.specs.Histories.{seen_history}
-use Rattle.audit.specs.declared.memory.Look.{Look}
+use Rattle.audit.specs.declared.memory.FoundInfo.{FoundInfo}
 use Rattle.audit.specs.declared.memory.Memory.{Memory}
 use Rattle.audit.specs.declared.memory.Snapshot.{Snapshot}
 use Rattle.audit.specs.declared.memory.Tries.{Tries}
@@ -122,7 +122,7 @@ module _ (lay : Layout) (h : History) (r : Row) where
 
   -- What a client has found and keeps
 
-  look_more : (c : ℕ) (kind : Kind) (look : Look) → (r.pass.0 ≡ c → r.kind ≢ kind) → IsLookOf lay h c kind look → IsLookOf lay (r ⊳ h) c kind look
+  look_more : (c : ℕ) (kind : Kind) (look : FoundInfo) → (r.pass.0 ≡ c → r.kind ≢ kind) → IsLookOf lay h c kind look → IsLookOf lay (r ⊳ h) c kind look
   look_more c kind look other x = record {
     row = x.row;
     before = x.before;
@@ -132,7 +132,7 @@ module _ (lay : Layout) (h : History) (r : Row) where
     last_entry = x.last_entry;
   }
 
-  look_now : (c : ℕ) (kind : Kind) (look : Look) → IsLawful lay h r → r.pass.0 ≡ c → r.kind ≡ kind → IsLookBy lay (r ⊳ h) (suc (row_count h)) r look → IsLookOf lay (r ⊳ h) c kind look
+  look_now : (c : ℕ) (kind : Kind) (look : FoundInfo) → IsLawful lay h r → r.pass.0 ≡ c → r.kind ≡ kind → IsLookBy lay (r ⊳ h) (suc (row_count h)) r look → IsLookOf lay (r ⊳ h) c kind look
   look_now c kind look lawful own is x = record {
     row = r;
     before = h;
@@ -165,7 +165,7 @@ module _ (lay : Layout) (h : History) (r : Row) where
     pub kept_own : (begin now : Option ℕ) (old new : Memory) → IsLawful lay h r → suc (row_count h) < 2 ^ 64 → r.pass.0 ≡ c → IsBegunWith lay h start linked next c old → IsKept lay h start linked begin next c old → IsNoted lay (r ⊳ h) (suc (row_count h)) r old new → IsKept lay (r ⊳ h) start linked now next c new
     kept_own begin now old new lawful small own begun x y = subst (λ (m : Memory). IsKept lay (r ⊳ h) start linked now next c m) (sym y.is) (go r.kind refl)
       where
-        others : (kind : Kind) → (r.kind ≡ kind → ⊥) → (look : Look) → IsLookOf lay h c kind look → IsLookOf lay (r ⊳ h) c kind look
+        others : (kind : Kind) → (r.kind ≡ kind → ⊥) → (look : FoundInfo) → IsLookOf lay h c kind look → IsLookOf lay (r ⊳ h) c kind look
         others kind d look z = look_more c kind look (λ own. d) z
 
         room : old.tries.many + 1 < 2 ^ 64

@@ -19,9 +19,9 @@ use Rattle.record.specs.Linked.{linked}
 use Rattle.record.specs.Replies.{IsFitting}
 use Rattle.record.specs.Shares.{HasTooFewToTry}
 use Rattle.record.specs.Turns.{history, begin, start, won}
-use Rattle.moments.specs.declared.places.Change.{Change}
+use Rattle.linearization.specs.declared.places.Change.{Change}
 use Rattle.audit.specs.Asked.{IsAsked, NeededSomething, NeededWithin}
-use Rattle.audit.specs.declared.client.Client.{Client}
+use Rattle.audit.specs.declared.client.ClientState.{ClientState}
 use Rattle.ordered_map.specs.OrderedMap.{MapCall, MapReply}
 use Rattle.record.specs.MapRecord.{map_call, reply_told, written_log, entries_of_call}
 use Rattle.record.specs.Placed.{IsRefused, IsPlacedOnMap}
@@ -30,7 +30,7 @@ use Rattle.ordered_map.specs.Requests.{map_request}
 use Rattle.audit.proofs.EachCall.{contended_right, full_right, memory_right, refused_unwon}
 use Rattle.audit.proofs.MapAnswers.{either_fits}
 
-module _ (lay : Layout) (tries : ℕ) (calls : List Call) (lines : List Line) (changed : List Change) (client : Client) (request : Request ℕ ℕ) (r : Finished) (x : IsAsked lay tries calls lines changed client (Map request) r) where
+module _ (lay : Layout) (tries : ℕ) (calls : List Call) (lines : List Line) (changed : List Change) (client : ClientState) (request : Request ℕ ℕ) (r : Finished) (x : IsAsked lay tries calls lines changed client (Map request) r) where
   begun_now : IsSome (begin lines client.pass.0)
   begun_now = subst (λ (n : ℕ). IsSome (begin lines n)) (sym x.pass) (rw x.begun refl)
 
@@ -50,7 +50,7 @@ module _ (lay : Layout) (tries : ℕ) (calls : List Call) (lines : List Line) (c
   pub right_no_memory : r.answer ≡ MapAnswer NoMemory → RightIs r.answer
   right_no_memory answers = subst RightIs (sym answers) (memory_right lay tries r.client.0 (history lay.mode lines) (start lay.mode lines r.client.0) (linked calls lay.mode lines r.client.0) (map_request request) (either_fits lines (Map request) (MapAnswer NoMemory) (subst (IsFitting lines (Map request)) answers x.fits)))
 
-module _ (lay : Layout) (tries : ℕ) (calls : List Call) (lines : List Line) (changed : List Change) (client : Client) (command : Command) (r : Finished) (x : IsAsked lay tries calls lines changed client command r) where
+module _ (lay : Layout) (tries : ℕ) (calls : List Call) (lines : List Line) (changed : List Change) (client : ClientState) (command : Command) (r : Finished) (x : IsAsked lay tries calls lines changed client command r) where
   -- it is placed nowhere
   is_refused : reply_told r.answer ≡ None → r.moment ≡ None → IsRefused lines r
   is_refused none nowhere = record {
@@ -59,7 +59,7 @@ module _ (lay : Layout) (tries : ℕ) (calls : List Call) (lines : List Line) (c
   }
 
 -- a refusal that has no moment is placed
-pub refused_placed : (lay : Layout) (tries : ℕ) (calls : List Call) (lines : List Line) (changed : List Change) (client : Client) (command : Command) (r : Finished) → IsAsked lay tries calls lines changed client command r → reply_told r.answer ≡ None → r.moment ≡ None → IsPlaced lay calls lines r command
+pub refused_placed : (lay : Layout) (tries : ℕ) (calls : List Call) (lines : List Line) (changed : List Change) (client : ClientState) (command : Command) (r : Finished) → IsAsked lay tries calls lines changed client command r → reply_told r.answer ≡ None → r.moment ≡ None → IsPlaced lay calls lines r command
 refused_placed lay tries calls lines changed client command r x none nowhere = go command x.of_map.1
   where
     there : (call : MapCall) → IsPlacedOnMap (reply_told r.answer) calls lines call r

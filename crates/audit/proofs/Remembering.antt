@@ -15,7 +15,7 @@ use Rattle.arena.specs.Lawful.{IsLawful}
 use Rattle.arena.specs.Log.{entry, log, is_final}
 use Rattle.arena.specs.Words.{child}
 use Rattle.arena.proofs.Lemmas.{ends_self}
-use Rattle.script.specs.declared.cells.Cells.{Cells}
+use Rattle.script.specs.declared.cells.CellList.{CellList}
 use Rattle.script.specs.declared.call.Call.{Call}
 use Rattle.script.specs.declared.command.Command.{Command}
 use Rattle.script.specs.declared.command.Command.TheVariants.{Vlx}
@@ -24,7 +24,7 @@ use Rattle.record.specs.declared.record.Entry.{Entry}
 use Rattle.record.specs.declared.record.Finished.{Finished}
 use Rattle.record.specs.declared.record.Line.{Line}
 use Rattle.record.specs.declared.record.Line.TheVariants.{Step, Log, Reply as ReplyLine}
-use Rattle.record.specs.declared.record.Row.TheVariants.{Step as Made, Idle}
+use Rattle.record.specs.declared.record.TurnRow.TheVariants.{Step as Made, Idle}
 use Rattle.record.specs.CommandRules.{linked_then}
 use Rattle.record.specs.Commands.{commands, next_command}
 use Rattle.record.specs.Linked.{linked}
@@ -32,7 +32,7 @@ use Rattle.record.specs.Shares.{HasNodesLeft, HasScxLeft}
 use Rattle.judge.specs.Histories.{seen_history}
 use Rattle.record.specs.Turns.{history, begin, start, answered}
 use Rattle.record.proofs.Lemmas.{start_unbegun, start_kept}
-use Rattle.audit.specs.declared.client.Client.{Client}
+use Rattle.audit.specs.declared.client.ClientState.{ClientState}
 use Rattle.audit.specs.declared.memory.Memory.{Memory}
 use Rattle.audit.specs.declared.steps.Steps.{Steps}
 use Rattle.audit.specs.After.{IsClientAfter}
@@ -50,7 +50,7 @@ abbrev IsBegunOf : Layout → List Call → List Line → ℕ → Memory → Typ
 IsBegunOf lay calls lines c memory = IsBegunWith lay (history lay.mode lines) (start lay.mode lines c) (linked calls lay.mode lines c) (next_command calls lines c) c memory
 
 -- a call that begins now
-pub begun_with : (lay : Layout) (calls : List Call) (lines : List Line) (c : ℕ) (all : Steps) (memory : Memory) → AreStepsOf lay (history lay.mode lines) all → begin lines c ≡ None → memory.begun ≡ all.count → HasNodesLeft all.judge.layout c (seen_history all.judge) memory.nodes → HasScxLeft all.judge.layout c (seen_history all.judge) memory.scx → memory.tries.many ≡ 0 → ((cells : Cells) → next_command calls lines c ≡ Some (Vlx cells) → AreSameAt all.judge.layout (seen_history all.judge) (linked calls lay.mode lines c) (cells_of cells) memory.same) → IsBegunOf lay calls lines c memory
+pub begun_with : (lay : Layout) (calls : List Call) (lines : List Line) (c : ℕ) (all : Steps) (memory : Memory) → AreStepsOf lay (history lay.mode lines) all → begin lines c ≡ None → memory.begun ≡ all.count → HasNodesLeft all.judge.layout c (seen_history all.judge) memory.nodes → HasScxLeft all.judge.layout c (seen_history all.judge) memory.scx → memory.tries.many ≡ 0 → ((cells : CellList) → next_command calls lines c ≡ Some (Vlx cells) → AreSameAt all.judge.layout (seen_history all.judge) (linked calls lay.mode lines c) (cells_of cells) memory.same) → IsBegunOf lay calls lines c memory
 begun_with lay calls lines c all memory x unbegun count nodes scx none same = record {
   begun = count ∙ x.count ∙ ap row_count (sym moment);
   within = subst (λ (k : History). Extends (history lay.mode lines) k) (sym moment) (ends_self (history lay.mode lines));
@@ -247,7 +247,7 @@ replied_own lay calls lines reply before m y is kept = subst (λ (b : Bool). Rep
     }
 
 -- the command of a client is its next one
-pub next_is : (lay : Layout) (calls : List Call) (lines : List Line) (client : Client) → IsClientAfter lay calls lines client.pass.0 client → next_command calls lines client.pass.0 ≡ command_at calls client.at
+pub next_is : (lay : Layout) (calls : List Call) (lines : List Line) (client : ClientState) → IsClientAfter lay calls lines client.pass.0 client → next_command calls lines client.pass.0 ≡ command_at calls client.at
 next_is lay calls lines client x = ap (λ (n : ℕ). slice_get (commands calls client.pass.0) n) (sym x.answered) ∙ sym (command_next calls client.pass.0 client.answered client.at x.place)
 
 module _ (lay : Layout) (calls : List Call) (lines : List Line) (reply : Finished) (all : Steps) (x : AreRemembered lay calls lines all) where

@@ -16,8 +16,8 @@ use Rattle.script.specs.declared.call.Call.{Call}
 use Rattle.script.specs.declared.command.Command.{Command}
 use Rattle.record.specs.declared.record.Line.{Line}
 use Rattle.record.specs.declared.record.Line.TheVariants.{Step, Log, Reply as ReplyLine}
-use Rattle.record.specs.declared.record.Row.{Row}
-use Rattle.record.specs.declared.record.Row.TheVariants.{Step as Made, Idle}
+use Rattle.record.specs.declared.record.TurnRow.{TurnRow}
+use Rattle.record.specs.declared.record.TurnRow.TheVariants.{Step as Made, Idle}
 use Rattle.record.specs.declared.record.Entry.{Entry}
 use Rattle.record.specs.declared.record.Finished.{Finished}
 use Rattle.record.specs.Turns.{client_of, number_of, history, turns, last_client, begin, start, entry_owed}
@@ -29,7 +29,7 @@ use Rattle.record.specs.Replied.{HasReplied}
 use Rattle.record.specs.Replies.{IsReplyOwed}
 use Rattle.record.specs.Rules.Edit.{HadToChange}
 use Rattle.record.proofs.Lemmas.{begin_within, log_step, turn_number}
-use Rattle.moments.proofs.Lemmas.{map_now}
+use Rattle.linearization.proofs.Lemmas.{map_now}
 
 -- The begin of a call
 
@@ -54,7 +54,7 @@ start_was mode (ReplyLine r ∷ lines) c = go (eqb r.client.0 c) (start_was mode
     go false x = x
 
 -- one that has begun with a turn more has begun at the same moment
-start_stays : (mode : Mode) (lines : List Line) (row : Row) (c first : ℕ) → begin (Step row ∷ lines) c ≡ Some first → start mode (Step row ∷ lines) c ≡ start mode lines c
+start_stays : (mode : Mode) (lines : List Line) (row : TurnRow) (c first : ℕ) → begin (Step row ∷ lines) c ≡ Some first → start mode (Step row ∷ lines) c ≡ start mode lines c
 start_stays mode lines row c first e = go (eqb (client_of row) c) (begin lines c) e
   where
     go : (own : Bool) (began : Option ℕ) → cond own (Some (unwrap_or began (number_of row))) began ≡ Some first → cond (own || is_some began) (start mode lines c) (history mode (Step row ∷ lines)) ≡ start mode lines c
@@ -63,7 +63,7 @@ start_stays mode lines row c first e = go (eqb (client_of row) c) (begin lines c
     go false None d = absurd (cc)
 
 -- and one with a turn before the newest had begun before that
-begun_before : (lines : List Line) (row : Row) (c first m : ℕ) → number_of row ≡ suc (turns lines) → begin (Step row ∷ lines) c ≡ Some first → first ≤ m → m ≤ turns lines → begin lines c ≡ Some first
+begun_before : (lines : List Line) (row : TurnRow) (c first m : ℕ) → number_of row ≡ suc (turns lines) → begin (Step row ∷ lines) c ≡ Some first → first ≤ m → m ≤ turns lines → begin lines c ≡ Some first
 begun_before lines row c first m number e from to = go (eqb (client_of row) c) (begin lines c) e
   where
     go : (own : Bool) (began : Option ℕ) → cond own (Some (unwrap_or began (number_of row))) began ≡ Some first → began ≡ Some first
@@ -72,7 +72,7 @@ begun_before lines row c first m number e from to = go (eqb (client_of row) c) (
     go false began d = d
 
 -- so had one whose client has not made the newest turn
-begun_other : (lines : List Line) (row : Row) (c first : ℕ) → client_of row ≢ c → begin (Step row ∷ lines) c ≡ Some first → begin lines c ≡ Some first
+begun_other : (lines : List Line) (row : TurnRow) (c first : ℕ) → client_of row ≢ c → begin (Step row ∷ lines) c ≡ Some first → begin lines c ≡ Some first
 begun_other lines row c first other e = go (eqb (client_of row) c) refl e
   where
     go : (own : Bool) → eqb (client_of row) c ≡ own → cond own (Some (unwrap_or (begin lines c) (number_of row))) (begin lines c) ≡ Some first → begin lines c ≡ Some first
@@ -170,7 +170,7 @@ module _ (lay : Layout) (tries : ℕ) (calls : List Call) (c : ℕ) (command : C
       ]
 
   -- another client's turn without a row
-  idle_spelled : (lines : List Line) (row : Row) → client_of row ≢ c → history lay.mode (Step row ∷ lines) ≡ history lay.mode lines → AreLines lay tries calls (Step row ∷ lines) → HaveSpelled lines → HaveSpelled (Step row ∷ lines)
+  idle_spelled : (lines : List Line) (row : TurnRow) → client_of row ≢ c → history lay.mode (Step row ∷ lines) ≡ history lay.mode lines → AreLines lay tries calls (Step row ∷ lines) → HaveSpelled lines → HaveSpelled (Step row ∷ lines)
   unfolding AreLines
   idle_spelled lines row other now a before first m is e from to =
       let began = begun_other lines row c first other e in

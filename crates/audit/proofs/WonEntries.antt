@@ -6,14 +6,14 @@ use Rattle.arena.specs.declared.step.Row.{Row as StepRow}
 use Rattle.script.specs.declared.call.Call.{Call}
 use Rattle.record.specs.declared.record.Line.{Line}
 use Rattle.record.specs.declared.record.Line.TheVariants.{Step, Log, Reply as ReplyLine}
-use Rattle.record.specs.declared.record.Row.TheVariants.{Step as Made, Idle}
-use Rattle.record.specs.declared.record.Row.{Row}
+use Rattle.record.specs.declared.record.TurnRow.TheVariants.{Step as Made, Idle}
+use Rattle.record.specs.declared.record.TurnRow.{TurnRow}
 use Rattle.record.specs.declared.record.Entry.{Entry}
 use Rattle.record.specs.Turns.{turns, answered, won, entry_owed}
 use Rattle.record.specs.MapRecord.{written_log, entries_until, entries_of_call, map_of, map_at}
 use Rattle.record.specs.LawfulRun.{AreLines}
 use Rattle.record.proofs.Lemmas.{entries_none, log_step, won_within}
-use Rattle.moments.proofs.Lemmas.{map_now}
+use Rattle.linearization.proofs.Lemmas.{map_now}
 use Rattle.audit.proofs.TurnMoments.{map_before}
 
 -- the entry stands behind its turn, is of the client's call, and its only one; the map before the
@@ -21,7 +21,7 @@ use Rattle.audit.proofs.TurnMoments.{map_before}
 pub record IsEntered (lay : Layout) (calls : List Call) (lines : List Line) (c turn : ℕ) : Type 0 where
   pub entry : Entry
   pub newer : List Line
-  pub row : Row
+  pub row : TurnRow
   pub rest : List Line
   pub is : lines ≡ newer ++ Log entry ∷ Step row ∷ rest
   pub client : entry.client.0 ≡ c

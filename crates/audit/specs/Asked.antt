@@ -22,16 +22,16 @@ use Rattle.record.specs.Placed.{IsGreatestTurn}
 use Rattle.record.specs.Replies.{IsFitting}
 use Rattle.record.specs.SpelledMap.{AreSpelled}
 use Rattle.record.specs.Turns.{turns, answered, begin, won, entry_owed}
-use Rattle.moments.specs.declared.places.Change.{Change}
-use Rattle.moments.specs.Entries.{AreEntries}
-use Rattle.moments.specs.Ordered.{pairs_in}
-use Rattle.audit.specs.declared.client.Client.{Client}
+use Rattle.linearization.specs.declared.places.Change.{Change}
+use Rattle.linearization.specs.Entries.{AreEntries}
+use Rattle.linearization.specs.Ordered.{pairs_in}
+use Rattle.audit.specs.declared.client.ClientState.{ClientState}
 
 -- The lines so far are lawful ones, in which the words spell the map, and the changes are those of
 -- their entries. The reply is one to the client's next call, of this command, which is one of the
 -- map: it names the call, its first turn and its last, and an answer that the call may give behind
 -- the newest line.
-pub record IsAsked (lay : Layout) (tries : ℕ) (calls : List Call) (lines : List Line) (changed : List Change) (client : Client) (command : Command) (r : Finished) : Type 0 where
+pub record IsAsked (lay : Layout) (tries : ℕ) (calls : List Call) (lines : List Line) (changed : List Change) (client : ClientState) (command : Command) (r : Finished) : Type 0 where
   pub in_order : AreLines lay tries calls lines
   pub owed : entry_owed lay lines ≡ None
   pub spelled : AreSpelled lay calls lines

@@ -12,7 +12,7 @@ use Rattle.record.specs.Answers.{IsAsSnapped, IsUnchanged}
 use Rattle.record.specs.Shares.{HasNodesLeft, HasScxLeft}
 use Rattle.record.specs.Snapshots.{IsLastLook}
 use Rattle.audit.specs.Remembered.{IsMomentAt, IsLookOf, AreSnapshotsOf}
-use Rattle.audit.specs.declared.memory.Look.{Look}
+use Rattle.audit.specs.declared.memory.FoundInfo.{FoundInfo}
 use Rattle.audit.specs.declared.memory.Memory.{Memory}
 
 -- of each of the cells that is said to be the same: it is as its snapshot found it
@@ -25,21 +25,21 @@ pub record IsCallSeen (lay : Layout) (c : ℕ) (h start : History) (linked : ℕ
   pub started : IsMomentAt h memory.begun start
   pub nodes : HasNodesLeft lay c start memory.nodes
   pub scx : HasScxLeft lay c start memory.scx
-  pub looks : (look : Look) → memory.look ≡ Some look → IsLookOf lay h c LoadInfo look
-  pub freezes : (look : Look) → memory.freeze ≡ Some look → IsLookOf lay h c Freeze look
+  pub looks : (look : FoundInfo) → memory.look ≡ Some look → IsLookOf lay h c LoadInfo look
+  pub freezes : (look : FoundInfo) → memory.freeze ≡ Some look → IsLookOf lay h c Freeze look
   pub snapshots : AreSnapshotsOf lay h memory linked
 
 -- the last look of a kind was made behind the first so many steps,
 -- at this node, where it found this
-pub record IsLookAt (look : Option Look) (node found after : ℕ) : Type 0 where
-  pub kept : Look
+pub record IsLookAt (look : Option FoundInfo) (node found after : ℕ) : Type 0 where
+  pub kept : FoundInfo
   pub is : look ≡ Some kept
   pub behind : after < kept.steps
   pub at : kept.node.0 ≡ node
   pub it_found : kept.found ≡ found
 
 -- the look of the memory is this one, at this node since the call's begin
-pub record IsOwnLook (memory : Memory) (node : ℕ) (look : Look) : Type 0 where
+pub record IsOwnLook (memory : Memory) (node : ℕ) (look : FoundInfo) : Type 0 where
   pub is : memory.look ≡ Some look
   pub behind : memory.begun < look.steps
   pub at : look.node.0 ≡ node

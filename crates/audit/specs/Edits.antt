@@ -17,14 +17,14 @@ use Rattle.ordered_map.specs.TreeWords.{class, is_leaf, leaf_pairs, said, toward
 use Rattle.record.specs.MapRecord.{map_call}
 use Rattle.judge.specs.declared.judge.Judge.{Judge}
 use Rattle.judge.specs.Histories.{seen_history}
-use Rattle.audit.specs.declared.edits.Begun.{Begun}
+use Rattle.audit.specs.declared.edits.BegunEdit.{BegunEdit}
 
 -- what each word is after the rows that the judge has seen
 abbrev pub word_now : Judge → Word → ℕ
 word_now judge = value (seen_history judge)
 
 -- the edit that is remembered
-abbrev pub edit_begun : Begun → MapEdit
+abbrev pub edit_begun : BegunEdit → MapEdit
 edit_begun begun = edit_to begun.key begun.value
 
 -- the key of the pair at a place, if there is one
@@ -70,16 +70,16 @@ Suits (Some (Edit goal rule)) h s edit = IsTrue (applies rule (said (value h) (e
 Suits _ h s edit = Unit {0}
 
 -- so does that of an SCX-record that has begun, as it is remembered
-abbrev pub IsSuited : History → ℕ → Begun → Type 0
+abbrev pub IsSuited : History → ℕ → BegunEdit → Type 0
 IsSuited h s begun = Suits (map_call (Some begun.command)) h s (edit_begun begun)
 
 -- the SCX-record may make the edit that is remembered, which is one of its call
-pub record MayMakeEdit (lay : Layout) (h : History) (s : ℕ) (begun : Begun) : Type 0 where
+pub record MayMakeEdit (lay : Layout) (h : History) (s : ℕ) (begun : BegunEdit) : Type 0 where
   pub edit : MayEdit lay h s (edit_begun begun)
   pub own : IsEditBy (map_call (Some begun.command)) (edit_begun begun)
 
 -- it has begun with it
-pub record HasBegunWith (lay : Layout) (h : History) (s : ℕ) (begun : Begun) : Type 0 where
+pub record HasBegunWith (lay : Layout) (h : History) (s : ℕ) (begun : BegunEdit) : Type 0 where
   pub row : Row
   pub before : History
   pub within : Extends h (row ⊳ before)
@@ -87,5 +87,5 @@ pub record HasBegunWith (lay : Layout) (h : History) (s : ℕ) (begun : Begun) :
   pub makes : MayMakeEdit lay before s begun
 
 -- of each SCX-record of which one is remembered that is the one with which it has begun
-abbrev pub AreRememberedEdits : Layout → History → List (Option Begun) → Type 0
-AreRememberedEdits lay h edits = (s : ℕ) (begun : Begun) → slice_get edits s ≡ Some (Some begun) → HasBegunWith lay h s begun
+abbrev pub AreRememberedEdits : Layout → History → List (Option BegunEdit) → Type 0
+AreRememberedEdits lay h edits = (s : ℕ) (begun : BegunEdit) → slice_get edits s ≡ Some (Some begun) → HasBegunWith lay h s begun

@@ -13,7 +13,7 @@ use Rattle.arena.specs.Log.{log, last, is_final}
 use Rattle.arena.specs.Words.{info}
 use Rattle.ordered_map.specs.Tries.{tries_begun, IsNewestTry}
 use Rattle.script.specs.declared.call.Call.{Call}
-use Rattle.script.specs.declared.cells.Cells.{Cells}
+use Rattle.script.specs.declared.cells.CellList.{CellList}
 use Rattle.script.specs.declared.command.Command.{Command}
 use Rattle.script.specs.declared.command.Command.TheVariants.{Vlx}
 use Rattle.script.specs.Cells.{cells_of}
@@ -25,7 +25,7 @@ use Rattle.record.specs.Shares.{HasNodesLeft, HasScxLeft}
 use Rattle.record.specs.Turns.{history, begin, start}
 use Rattle.judge.specs.Histories.{seen_history}
 use Rattle.audit.specs.declared.memory.Memory.{Memory}
-use Rattle.audit.specs.declared.memory.Look.{Look}
+use Rattle.audit.specs.declared.memory.FoundInfo.{FoundInfo}
 use Rattle.audit.specs.declared.memory.Snapshot.{Snapshot}
 use Rattle.audit.specs.declared.memory.Tries.{Tries}
 use Rattle.audit.specs.declared.steps.Steps.{Steps}
@@ -60,7 +60,7 @@ pub record AreStepsOf (lay : Layout) (h : History) (steps : Steps) : Type 0 wher
 
 -- the look is the last step of this kind that the pass c has made, with what it has found and the
 -- last entry over the node then
-pub record IsLookOf (lay : Layout) (h : History) (c : ℕ) (kind : Kind) (look : Look) : Type 0 where
+pub record IsLookOf (lay : Layout) (h : History) (c : ℕ) (kind : Kind) (look : FoundInfo) : Type 0 where
   pub row : Row
   pub before : History
   pub newest : IsLastStep c h kind look.node.0 row before
@@ -93,13 +93,13 @@ pub record IsBegunWith (lay : Layout) (h start : History) (linked : ℕ → Opti
   pub scx : HasScxLeft lay c start memory.scx
   pub tries : AreTriesSince h start c memory.tries
   -- of each cell of a `vlx` that is said to be as its snapshot found it
-  pub same : (cells : Cells) → next ≡ Some (Vlx cells) → (place n : ℕ) → slice_get (cells_of cells) place ≡ Some n → slice_get memory.same place ≡ Some true → IsAsSnapped lay start linked n
+  pub same : (cells : CellList) → next ≡ Some (Vlx cells) → (place n : ℕ) → slice_get (cells_of cells) place ≡ Some n → slice_get memory.same place ≡ Some true → IsAsSnapped lay start linked n
 
 -- what is remembered of client c, whose call has begun in turn `begin`, if it has begun
 pub record IsKept (lay : Layout) (h start : History) (linked : ℕ → Option History) (begin : Option ℕ) (next : Option Command) (c : ℕ) (memory : Memory) : Type 0 where
   pub begins : IsSome begin → IsBegunWith lay h start linked next c memory
-  pub looks : (look : Look) → memory.look ≡ Some look → IsLookOf lay h c LoadInfo look
-  pub freezes : (look : Look) → memory.freeze ≡ Some look → IsLookOf lay h c Freeze look
+  pub looks : (look : FoundInfo) → memory.look ≡ Some look → IsLookOf lay h c LoadInfo look
+  pub freezes : (look : FoundInfo) → memory.freeze ≡ Some look → IsLookOf lay h c Freeze look
   pub snapshots : AreSnapshotsOf lay h memory linked
 
 -- what is remembered of client c is what the lines say

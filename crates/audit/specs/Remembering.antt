@@ -9,19 +9,19 @@ use Rattle.arena.specs.Log.{log, last, is_final}
 use Rattle.arena.specs.ScxRecords.{member}
 use Rattle.arena.specs.Words.{info}
 use Rattle.ordered_map.specs.Tries.{begins_try}
-use Rattle.audit.specs.declared.memory.Look.{Look}
+use Rattle.audit.specs.declared.memory.FoundInfo.{FoundInfo}
 use Rattle.audit.specs.declared.memory.Memory.{Memory}
 use Rattle.audit.specs.declared.memory.Tries.{Tries}
 
 -- the look is what the row has found in an info word, as the last of so many rows of h
-pub record IsLookBy (lay : Layout) (h : History) (rows : ℕ) (row : Row) (look : Look) : Type 0 where
+pub record IsLookBy (lay : Layout) (h : History) (rows : ℕ) (row : Row) (look : FoundInfo) : Type 0 where
   pub word : row.word ≡ info look.node.0
   pub many : look.steps ≡ rows
   pub found : look.found ≡ row.before
   pub last_entry : look.last ≡ last (log lay h) look.node.0
 
 -- what is remembered of a client after a step of this kind that has found this in an info word
-abbrev pub noted : Kind → Option Look → Memory → Memory
+abbrev pub noted : Kind → Option FoundInfo → Memory → Memory
 noted LoadInfo look memory = record memory { look = look }
 noted Freeze look memory = record memory { freeze = look }
 noted _ look memory = memory
@@ -35,8 +35,8 @@ tried false rows old = old
 -- it was noted what the row has found,
 -- as the last of so many rows of h, and whether it begins a try
 pub record IsNoted (lay : Layout) (h : History) (rows : ℕ) (row : Row) (old new : Memory) : Type 0 where
-  pub seen : Option Look
-  pub by : (look : Look) → seen ≡ Some look → IsLookBy lay h rows row look
+  pub seen : Option FoundInfo
+  pub by : (look : FoundInfo) → seen ≡ Some look → IsLookBy lay h rows row look
   pub is : new ≡ record (noted row.kind seen old) { tries = new.tries }
   pub tries : old.tries.many + 1 < 2 ^ 64 → new.tries ≡ tried (begins_try row.pass.0 row) rows old.tries
 

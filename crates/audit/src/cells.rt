@@ -15,7 +15,7 @@ ghost use Rattle.script.specs.declared.call.Call.{Call as CallOf};
 ghost use Rattle.record.specs.declared.record.Line.{Line};
 ghost use Rattle.record.specs.declared.record.Finished.{Finished};
 ghost use Rattle.script.specs.Cells.{cells_of};
-ghost use Rattle.audit.specs.declared.memory.Look.{Look as LookOf};
+ghost use Rattle.audit.specs.declared.memory.FoundInfo.{FoundInfo as LookOf};
 ghost use Rattle.arena.specs.declared.step.Kind.{Kind as KindOf};
 ghost use Rattle.record.specs.Answers.{AreUnchanged, HasRoom, IsAsSnapped, IsInTheWay, IsPlacedCell, IsSnapshotAt, moment_of as moment_in};
 ghost use Rattle.record.specs.CommandRules.{IsEntryFor, IsRight, IsPlaced};
@@ -32,19 +32,24 @@ ghost use Rattle.audit.specs.After.{IsClientAfter};
 ghost use Rattle.audit.specs.CellCalls.{AreSameAt, IsCallSeen, IsLookAt, IsOwnLook, IsAsLooked, IsOverCells, IsFreshWith};
 ghost use Rattle.audit.specs.Remembered.{AreStepsOf, AreRemembered, AreSnapshotsOf, IsLookOf};
 
-use crate::client::Client;
+use crate::client::ClientState;
 use crate::leaves::node_word;
-use crate::memory::{Look, Memory};
+use crate::memory::{FoundInfo, Memory};
 use crate::steps::Steps;
 use arena::{
     MemberIndex, NodeNo, NodeWord, PassNo, Plan, ScxNo, ScxWord, SettledPart, Side, Slot, Word,
 };
 use judge::{Judge, is_own_node};
 use record::{Answer, Finished};
-use script::{Cell, Cells, Command, Update};
+use script::{Cell, CellList, CellUpdate, Command};
 
 /// Whether an entry of this SCX-record is one that the client's call of cells makes.
-pub(crate) fn is_entry_for(steps: &Steps, client: &Client, command: &Command, scx: ScxNo) -> bool
+pub(crate) fn is_entry_for(
+    steps: &Steps,
+    client: &ClientState,
+    command: &Command,
+    scx: ScxNo,
+) -> bool
     requires { client.now.pass.0 < steps.now.judge.layout.passes }
     ensures { (lay : Layout) (calls : List CallOf) (lines : List Line) →
         AreRemembered lay calls lines steps.now →
@@ -63,7 +68,7 @@ pub(crate) fn is_entry_for(steps: &Steps, client: &Client, command: &Command, sc
 }
 
 /// Whether it is one that an SCX with this update makes.
-fn is_scx_entry(steps: &Steps, client: &Client, update: &Update, scx: ScxNo) -> bool
+fn is_scx_entry(steps: &Steps, client: &ClientState, update: &CellUpdate, scx: ScxNo) -> bool
     requires { client.now.pass.0 < steps.now.judge.layout.passes }
     ensures { (lay : Layout) (calls : List CallOf) (lines : List Line) →
         AreRemembered lay calls lines steps.now →
@@ -83,7 +88,7 @@ fn is_scx_entry(steps: &Steps, client: &Client, update: &Update, scx: ScxNo) -> 
 /// Whether it is one that a `set` of this field makes.
 fn is_set_entry(
     steps: &Steps,
-    client: &Client,
+    client: &ClientState,
     field: &(Cell, Side),
     value: u64,
     scx: ScxNo,
@@ -99,7 +104,7 @@ fn is_set_entry(
         (entered lay (seen_history steps.now.judge) scx.0 n side row.after) }
 {
     let (judge, memory) = (&steps.judge, steps.memory(client.pass));
-    let cell = Cells::one(field.0);
+    let cell = CellList::one(field.0);
     is_over(judge, scx, cell.as_slice(), &[])
         && is_into(judge, scx, field)
         && is_fresh(judge, client.pass, scx, value)
@@ -218,7 +223,7 @@ fn are_unchanged(judge: &Judge, memory: &Memory, cells: &[Cell]) -> bool
 }
 
 /// The last look of the call's own LLX, if it was at this cell.
-fn own_look(memory: &Memory, cell: NodeNo) -> Option<Look>
+fn own_look(memory: &Memory, cell: NodeNo) -> Option<FoundInfo>
     ensures { IfSome result (λ look. IsOwnLook memory.now cell.0 look) }
 {
     match memory.look {
@@ -268,7 +273,12 @@ fn is_same(judge: &Judge, memory: &Memory, cells: &[Cell], place: usize) -> bool
 }
 
 /// Whether the answer of a call of cells is right, and took place where the reply says.
-pub(crate) fn is_right(steps: &Steps, client: &Client, command: &Command, reply: &Finished) -> bool
+pub(crate) fn is_right(
+    steps: &Steps,
+    client: &ClientState,
+    command: &Command,
+    reply: &Finished,
+) -> bool
     requires pass { client.now.pass.0 < steps.now.judge.layout.passes }
     requires cells { steps.now.judge.layout.mode ≡ Records }
     ensures right { (lay : Layout) (tries : ℕ) (calls : List CallOf) (lines : List Line) →
@@ -287,7 +297,7 @@ pub(crate) fn is_right(steps: &Steps, client: &Client, command: &Command, reply:
 
 /// Where an answered call of cells took place: an LLX that told something in its last turn, a VLX
 /// that found its cells as they were in its first, an SCX that is done in the turn of its entry.
-fn moment_of(client: &Client, reply: &Finished) -> Option<u64>
+fn moment_of(client: &ClientState, reply: &Finished) -> Option<u64>
     ensures { result ≡ moment_in reply.now.answer reply.now.begin reply.now.end client.now.won }
 {
     match &reply.answer {
@@ -373,7 +383,7 @@ fn has_failed(steps: &Steps, pass: PassNo, memory: &Memory, cell: Cell, scx: Scx
 
 /// Whether the last look of a kind was made behind the first so many steps, at a node where it found
 /// an SCX-record.
-fn has_found(look: Option<Look>, blamed: (NodeNo, ScxNo), after: u64) -> bool
+fn has_found(look: Option<FoundInfo>, blamed: (NodeNo, ScxNo), after: u64) -> bool
     ensures { IsTrue result → IsLookAt look blamed.0.0 blamed.1.0 after }
 {
     match look {
@@ -394,7 +404,7 @@ fn is_true_of_scx(
     steps: &Steps,
     pass: PassNo,
     memory: &Memory,
-    update: &Update,
+    update: &CellUpdate,
     answer: &Answer,
 ) -> bool
     requires { pass.0 < steps.now.judge.layout.passes }
@@ -425,7 +435,7 @@ fn is_true_of_vlx(
     steps: &Steps,
     pass: PassNo,
     memory: &Memory,
-    cells: &Cells,
+    cells: &CellList,
     answer: &Answer,
 ) -> bool
     ensures { (start : History) (linked : ℕ → Option History) →
@@ -525,7 +535,7 @@ fn has_come(
     steps: &Steps,
     pass: PassNo,
     memory: &Memory,
-    look: Option<Look>,
+    look: Option<FoundInfo>,
     cells: &[Cell],
     blamed: (NodeNo, ScxNo),
 ) -> bool

@@ -3,7 +3,7 @@ ghost use Rattle.std.specs.Prelude.{◌≡◌, ℕ, List, length, set, slice_get
 ghost use Rattle.script.specs.declared.command.Command.{Command as CommandOf};
 ghost use Rattle.record.specs.Commands.{commands};
 ghost use Rattle.record.specs.declared.record.Entry.{Entry as EntryOf};
-ghost use Rattle.audit.specs.declared.client.Client.{Client as ClientOf};
+ghost use Rattle.audit.specs.declared.client.ClientState.{ClientState as ClientOf};
 ghost use Rattle.audit.specs.Calls.{StandsNext, command_at};
 
 use crate::place::{next_behind, next_call};
@@ -13,7 +13,7 @@ use script::{Call, Command};
 
 /// What the lines so far say of a client.
 #[derive(Clone, Copy)]
-pub(crate) struct Client {
+pub(crate) struct ClientState {
     pub(crate) pass: PassNo,
     /// Where its next call stands in the script, if it has one left.
     pub(crate) at: Option<usize>,
@@ -27,13 +27,13 @@ pub(crate) struct Client {
     pub(crate) won: Option<u64>,
 }
 
-impl Client {
+impl ClientState {
     /// A client that has made no turn.
-    pub(crate) fn new(pass: PassNo, calls: &[Call]) -> Client
+    pub(crate) fn new(pass: PassNo, calls: &[Call]) -> ClientState
         ensures at { StandsNext calls.now pass.0 (commands (drop 0 calls.now) pass.0) result.at }
         ensures new { result ≡ record { pass = pass; at = result.at; answered = 0; begun = None; steps = 0; won = None } }
     {
-        Client {
+        ClientState {
             pass,
             at: next_call(calls, 0, pass),
             answered: 0,
@@ -52,17 +52,17 @@ impl Client {
     }
 
     /// The same, with this turn of its own.
-    pub(crate) fn turned(self, number: u64) -> Client
+    pub(crate) fn turned(self, number: u64) -> ClientState
         ensures { result ≡ record self { begun = Some (unwrap_or self.begun number) } }
     {
-        Client {
+        ClientState {
             begun: Some(self.begun.unwrap_or(number)),
             ..self
         }
     }
 
     /// The same, with this turn of its own, in which it has made a step.
-    pub(crate) fn stepped(self, number: u64) -> Client
+    pub(crate) fn stepped(self, number: u64) -> ClientState
         requires { self.steps + 1 < 2 ^ 64 }
         ensures { result ≡ record self {
           begun = Some
@@ -70,20 +70,20 @@ impl Client {
           steps = self.steps + 1;
         } }
     {
-        Client {
+        ClientState {
             steps: self.steps + 1,
             ..self.turned(number)
         }
     }
 
     /// The same, with its call answered.
-    pub(crate) fn ended(self, calls: &[Call]) -> Client
+    pub(crate) fn ended(self, calls: &[Call]) -> ClientState
         requires { self.answered + 1 < 2 ^ 64 }
         ensures place { (left : List CommandOf) → StandsNext calls.now self.pass.0 left self.at →
             StandsNext calls.now self.pass.0 (drop 1 left) result.at }
         ensures same { result ≡ record self { at = result.at; answered = self.answered + 1; begun = None; steps = 0; won = None } }
     {
-        Client {
+        ClientState {
             at: next_behind(calls, self.at, self.pass),
             answered: self.answered + 1,
             begun: None,
@@ -95,14 +95,14 @@ impl Client {
 }
 
 /// Whether the call of a client has begun, unless this is its own turn.
-pub(crate) fn has_begun(client: &Client, pass: PassNo) -> bool
+pub(crate) fn has_begun(client: &ClientState, pass: PassNo) -> bool
     ensures { IsTrue result → (pass.0 ≡ client.now.pass.0 → ⊥) → IsSome client.now.begun }
 {
     pass == client.pass || client.begun.is_some()
 }
 
 /// An update of a client has won in this turn, if this entry is owed.
-pub(crate) fn note_win(clients: &mut Vec<Client>, number: u64, owed: &Option<Entry>)
+pub(crate) fn note_win(clients: &mut Vec<ClientState>, number: u64, owed: &Option<Entry>)
     requires there { IfSome owed.now (λ e. e.client.0 < length clients.old.items) }
     ensures same { length clients.new.items ≡ length clients.old.items }
     ensures none { owed.now ≡ None → clients.new.items ≡ clients.old.items }
@@ -112,7 +112,7 @@ pub(crate) fn note_win(clients: &mut Vec<Client>, number: u64, owed: &Option<Ent
 {
     if let Some(entry) = owed {
         let client = clients[entry.client.0 as usize];
-        clients[entry.client.0 as usize] = Client {
+        clients[entry.client.0 as usize] = ClientState {
             won: Some(number),
             ..client
         };

@@ -18,8 +18,8 @@ ghost use Rattle.audit.specs.Edits.{AreToward, IsAlike, IsEditBy, IsInFront, IsL
 ghost use Rattle.judge.specs.Histories.{seen_history};
 
 use crate::leaves::{
-    Pairs, given, head, held, is_leaf_copy, is_low_leaf, is_readable, is_well_counted, key_of,
-    node_word, said, settled,
+    Pairs, head, held, is_leaf_copy, is_low_leaf, is_readable, is_well_counted, key_of, node_word,
+    pairs_of_leaf, said, settled,
 };
 use arena::{NodeNo, NodeWord, Plan, ScxNo, ScxWord, SettledPart, Side, Word};
 use judge::Judge;
@@ -29,7 +29,7 @@ use script::Command;
 /// An SCX-record that has begun: it makes an edit, which leaves this value to this key, for a call
 /// with this command.
 #[derive(Clone, Copy)]
-pub(crate) struct Begun {
+pub(crate) struct BegunEdit {
     pub(crate) command: Command,
     pub(crate) key: u64,
     pub(crate) value: Option<u128>,
@@ -38,7 +38,7 @@ pub(crate) struct Begun {
 /// The edit that an SCX-record is about to make for a call: below a fork on the search path of its
 /// key, and of a leaf that suits the call, unless it is to take the pair at an end out and can win
 /// no more.
-pub(crate) fn begun_for(judge: &Judge, scx: u64, command: &Command) -> Option<Begun>
+pub(crate) fn begun_for(judge: &Judge, scx: u64, command: &Command) -> Option<BegunEdit>
     requires { IsTreeRun judge.now.layout (seen_history judge.now) }
     ensures command { IfSome result (λ begun. begun.command ≡ command.now) }
     ensures edit { IfSome result (MayMakeEdit judge.now.layout (seen_history judge.now) scx) }
@@ -48,7 +48,7 @@ pub(crate) fn begun_for(judge: &Judge, scx: u64, command: &Command) -> Option<Be
     let is_late = matches!(goal, Goal::End(_)) && !is_as_seen(judge, scx, 1);
     if is_edit(judge, scx, &begun)
         && is_fork_on_path(judge, begun.key, member(judge, scx, 0))
-        && (is_late || suits(judge, scx, &begun))
+        && (is_late || covers_the_right_leaf(judge, scx, &begun))
     {
         Some(begun)
     } else {
@@ -68,7 +68,7 @@ fn edit_in(command: &Command) -> Option<(Goal, Rule)>
 
 /// The edit that a call with this command is to make by an SCX-record: of the pair at an end, which it
 /// may only take out, the key is the one at that end of its leaf.
-fn edit_for(judge: &Judge, scx: u64, command: &Command, goal: Goal, rule: Rule) -> Option<Begun>
+fn edit_for(judge: &Judge, scx: u64, command: &Command, goal: Goal, rule: Rule) -> Option<BegunEdit>
     requires { map_call (Some command.now) ≡ Some (Edit goal rule) }
     ensures command { IfSome result (λ begun. begun.command ≡ command.now) }
     ensures own { IfSome result
@@ -80,7 +80,7 @@ fn edit_for(judge: &Judge, scx: u64, command: &Command, goal: Goal, rule: Rule) 
         Goal::End(side) if rule.leaves().is_none() => end_key(judge, scx, side),
         Goal::End(_) => return None,
     };
-    Some(Begun {
+    Some(BegunEdit {
         command: *command,
         key,
         value: rule.leaves(),
@@ -111,7 +111,7 @@ fn end_key(judge: &Judge, scx: u64, side: Side) -> u64
 
 /// Whether the leaf that an SCX-record covers for its edit suits the call that it has begun for: the
 /// call changes what that says of the key, and, of the pair at an end, it is the tree's leaf there.
-pub(crate) fn suits(judge: &Judge, scx: u64, begun: &Begun) -> bool
+pub(crate) fn covers_the_right_leaf(judge: &Judge, scx: u64, begun: &BegunEdit) -> bool
     requires { IsTreeRun judge.now.layout (seen_history judge.now) }
     ensures { IsTrue result → IsSuited (seen_history judge.now) scx begun.now }
 {
@@ -142,7 +142,7 @@ fn is_leaf_for(judge: &Judge, goal: Goal, leaf: u64, key: u64) -> bool
 
 /// The leaf where the key of an SCX-record's edit stands, or would: the second of two nodes, or one
 /// of the last two of four.
-fn edit_leaf(judge: &Judge, scx: u64, begun: &Begun) -> u64
+fn edit_leaf(judge: &Judge, scx: u64, begun: &BegunEdit) -> u64
     ensures { result ≡ edit_leaf (seen_history judge.now) scx (edit_begun begun.now) }
 {
     if covers_two(judge, scx) {
@@ -165,7 +165,7 @@ fn is_first_key(judge: &Judge, leaf: u64, key: u64) -> bool
     ensures { IsTrue result → (v : ℕ)
         × (first_pair (leaf_pairs (word_now judge.now) leaf) ≡ Some (pair key v)) }
 {
-    let pairs = given(judge, leaf);
+    let pairs = pairs_of_leaf(judge, leaf);
     key_in(pairs.as_slice(), 0) == Some(key)
 }
 
@@ -174,12 +174,12 @@ fn is_last_key(judge: &Judge, leaf: u64, key: u64) -> bool
     requires readable { class (word_now judge.now) leaf ≡ 0 → IsWellCounted (word_now judge.now) leaf }
     ensures { IsTrue result → (v : ℕ) × (last_pair (leaf_pairs (word_now judge.now) leaf) ≡ Some (pair key v)) }
 {
-    let pairs = given(judge, leaf);
+    let pairs = pairs_of_leaf(judge, leaf);
     key_in(pairs.as_slice(), pairs.len().saturating_sub(1)) == Some(key)
 }
 
 /// What the edit of an SCX-record makes of the pairs of a leaf.
-fn edited(begun: &Begun, mut pairs: Pairs) -> Pairs
+fn edited(begun: &BegunEdit, mut pairs: Pairs) -> Pairs
     requires { length pairs.items ≤ 4 }
     ensures { number_pairs result.items ≡ edited (edit_begun begun.now) (number_pairs pairs.items) }
 {
@@ -209,7 +209,7 @@ fn key_in(pairs: &[(u64, u128)], at: usize) -> Option<u64>
 
 /// Whether a pair of this key, if there is one, stays in front of an edit: of an insert all with
 /// lesser keys do, of a delete all up to its key.
-fn is_in_front(begun: &Begun, key: Option<u64>) -> bool
+fn is_in_front(begun: &BegunEdit, key: Option<u64>) -> bool
     ensures front { IsTrue result → IsInFront (edit_begun begun.now) key }
     ensures some { IsTrue result → IsSome key }
     ensures none { result ≡ false → IsInFront (edit_begun begun.now) key → ⊥ }
@@ -300,7 +300,7 @@ fn are_alike(judge: &Judge, one: u64, other: u64) -> bool
 }
 
 /// Whether an SCX-record makes this edit: it edits a leaf, or takes one out.
-fn is_edit(judge: &Judge, scx: u64, begun: &Begun) -> bool
+fn is_edit(judge: &Judge, scx: u64, begun: &BegunEdit) -> bool
     requires { begun.now.key < 2 ^ 64 }
     ensures edit { IsTrue result → IsEdit (seen_history judge.now) scx (edit_begun begun.now) }
     ensures fresh { IsTrue result → count (seen_history judge.now) scx ≡ 2 →
@@ -317,7 +317,7 @@ fn is_edit(judge: &Judge, scx: u64, begun: &Begun) -> bool
 
 /// Whether an SCX-record covers a parent and a leaf, finalizes the leaf, and puts another leaf or a
 /// fork over two into the parent's field towards the key.
-fn edits_leaf(judge: &Judge, scx: u64, begun: &Begun) -> bool
+fn edits_leaf(judge: &Judge, scx: u64, begun: &BegunEdit) -> bool
     requires { begun.now.key < 2 ^ 64 }
     ensures edit { IsTrue result → EditsLeaf (seen_history judge.now) scx (edit_begun begun.now) }
     ensures fresh { IsTrue result →
@@ -338,7 +338,7 @@ fn edits_leaf(judge: &Judge, scx: u64, begun: &Begun) -> bool
 }
 
 /// Whether an edit may be made of a leaf: a delete finds its key there.
-fn may_edit(judge: &Judge, leaf: u64, begun: &Begun) -> bool
+fn may_edit(judge: &Judge, leaf: u64, begun: &BegunEdit) -> bool
     requires readable { class (word_now judge.now) leaf ≡ 0 →
         IsWellCounted (word_now judge.now) leaf }
     ensures { IsTrue result → begun.now.value ≡ None →
@@ -348,7 +348,7 @@ fn may_edit(judge: &Judge, leaf: u64, begun: &Begun) -> bool
 }
 
 /// Whether a leaf is replaced by another one, which holds what the edit makes of its pairs.
-fn is_swap(judge: &Judge, leaf: u64, new: u64, begun: &Begun) -> bool
+fn is_swap(judge: &Judge, leaf: u64, new: u64, begun: &BegunEdit) -> bool
     requires readable { class (word_now judge.now) leaf ≡ 0 →
         IsWellCounted (word_now judge.now) leaf }
     requires leaf { is_leaf (word_now judge.now) leaf ≡ true }
@@ -359,12 +359,12 @@ fn is_swap(judge: &Judge, leaf: u64, new: u64, begun: &Begun) -> bool
     if head(judge, leaf).class > 0 || !is_low_leaf(judge, new) {
         return false;
     }
-    given(judge, new) == edited(begun, given(judge, leaf))
+    pairs_of_leaf(judge, new) == edited(begun, pairs_of_leaf(judge, leaf))
 }
 
 /// Whether a leaf is replaced by a fork over two fresh ones, which between them hold what the edit
 /// makes of its pairs, and between which the fork stands.
-fn is_split(judge: &Judge, leaf: u64, fork: u64, begun: &Begun) -> bool
+fn is_split(judge: &Judge, leaf: u64, fork: u64, begun: &BegunEdit) -> bool
     requires readable { class (word_now judge.now) leaf ≡ 0 →
         IsWellCounted (word_now judge.now) leaf }
     requires leaf { is_leaf (word_now judge.now) leaf ≡ true }
@@ -389,11 +389,11 @@ fn is_split(judge: &Judge, leaf: u64, fork: u64, begun: &Begun) -> bool
     {
         return false;
     }
-    let low = given(judge, left);
-    let high = given(judge, right);
+    let low = pairs_of_leaf(judge, left);
+    let high = pairs_of_leaf(judge, right);
     are_toward(judge, fork, Side::Left, low.as_slice())
         && are_toward(judge, fork, Side::Right, high.as_slice())
-        && joined(low, &high) == edited(begun, given(judge, leaf))
+        && joined(low, &high) == edited(begun, pairs_of_leaf(judge, leaf))
 }
 
 /// Whether a node is a leaf that may stand last in the place of another: of its class, and, above all
@@ -474,7 +474,7 @@ fn sibling_place(side: Side) -> u8
 
 /// Whether an SCX-record covers a grandparent, a parent and its two children, finalizes all but the
 /// first, and puts a copy of the other child into the grandparent's field towards the key.
-fn takes_leaf_out(judge: &Judge, scx: u64, begun: &Begun) -> bool
+fn takes_leaf_out(judge: &Judge, scx: u64, begun: &BegunEdit) -> bool
     ensures { IsTrue result → TakesLeafOut (seen_history judge.now) scx (edit_begun begun.now)
         (toward_of (word_now judge.now) (member_of (seen_history judge.now) scx 1)
         (edit_key (edit_begun begun.now))) }
@@ -489,7 +489,7 @@ fn takes_leaf_out(judge: &Judge, scx: u64, begun: &Begun) -> bool
 
 /// Whether the parent is a fork, the child on this side a leaf of whose pairs the edit leaves none,
 /// and `new` a copy of the other child.
-fn is_join(judge: &Judge, scx: u64, side: Side, begun: &Begun) -> bool
+fn is_join(judge: &Judge, scx: u64, side: Side, begun: &BegunEdit) -> bool
     ensures edit { IsTrue result → IsJoinBy (word_now judge.now) (edit_begun begun.now)
         (member_of (seen_history judge.now) scx 1)
         (member_of (seen_history judge.now) scx (leaf_place_of side))
@@ -515,7 +515,7 @@ fn is_join(judge: &Judge, scx: u64, side: Side, begun: &Begun) -> bool
 }
 
 /// Whether an edit leaves none of the pairs of a leaf of class 0.
-fn is_emptied(judge: &Judge, leaf: u64, begun: &Begun) -> bool
+fn is_emptied(judge: &Judge, leaf: u64, begun: &BegunEdit) -> bool
     requires { IsWellCounted (word_now judge.now) leaf }
     ensures { IsTrue result →
         edited (edit_begun begun.now) (held_pairs (word_now judge.now) leaf) ≡ [] }
@@ -562,7 +562,7 @@ fn has_fields_of(judge: &Judge, one: u64, other: u64) -> bool
 }
 
 /// Whether an SCX-record has begun for a call with this command.
-pub(crate) fn is_of(begun: &Begun, command: &Command) -> bool
+pub(crate) fn is_begun_for(begun: &BegunEdit, command: &Command) -> bool
     ensures { IsTrue result → begun.now.command ≡ command.now }
 {
     match (begun.command, *command) {
@@ -572,7 +572,7 @@ pub(crate) fn is_of(begun: &Begun, command: &Command) -> bool
 }
 
 /// This SCX-record has begun, if one has.
-pub(crate) fn note_begun(edits: &mut Vec<Option<Begun>>, scx: u64, begun: Option<Begun>)
+pub(crate) fn note_begun(edits: &mut Vec<Option<BegunEdit>>, scx: u64, begun: Option<BegunEdit>)
     ensures none { begun ≡ None → edits.new.items ≡ edits.old.items }
     ensures some { IsSome begun → edits.new.items ≡ set edits.old.items scx begun }
 {

@@ -1,6 +1,6 @@
 //! What an audit finds wrong.
 ghost use Rattle.std.specs.Prelude.{◌≡◌, ◌≤◌, ◌+◌, ℕ, true, OnOk};
-ghost use Rattle.audit.specs.declared.fault.Refused.TheVariants as refused;
+ghost use Rattle.audit.specs.declared.fault.LineFault.TheVariants as refused;
 
 use arena::NoMemory;
 use std::alloc::AllocError;
@@ -20,7 +20,7 @@ pub enum AuditFault {
 
 /// Why a line is refused.
 #[derive(Clone, Copy)]
-pub(crate) enum Refused {
+pub(crate) enum LineFault {
     /// An allocation was refused.
     NoMemory,
     /// The line does not fit those before it.
@@ -30,7 +30,7 @@ pub(crate) enum Refused {
     Unexplained,
 }
 
-impl Refused {
+impl LineFault {
     /// The fault of a record that is refused at the line of this index, where the line of index 0
     /// stands in row `first` of its report.
     pub(crate) fn at(self, first: u64, line: usize) -> AuditFault
@@ -38,9 +38,9 @@ impl Refused {
             × (row ≤ first + line) }
     {
         let back = match self {
-            Refused::NoMemory => return AuditFault::NoMemory,
-            Refused::NotLawful => 0,
-            Refused::Unexplained => 1,
+            LineFault::NoMemory => return AuditFault::NoMemory,
+            LineFault::NotLawful => 0,
+            LineFault::Unexplained => 1,
         };
         AuditFault::NotLawful {
             row: first.saturating_add(line.saturating_sub(back) as u64),
@@ -49,28 +49,28 @@ impl Refused {
 }
 
 /// Refuses a line of which this does not hold.
-pub(crate) fn hold(fits: bool) -> Result<(), Refused>
+pub(crate) fn require(fits: bool) -> Result<(), LineFault>
     ensures { OnOk result (fits ≡ true) }
 {
     if fits {
         Ok(())
     } else {
-        Err(Refused::NotLawful)
+        Err(LineFault::NotLawful)
     }
 }
 
-impl From<NoMemory> for Refused {
+impl From<NoMemory> for LineFault {
     ghost from_gives = { λ _ made. made ≡ refused.NoMemory };
 
-    fn from(_error: NoMemory) -> Refused {
-        Refused::NoMemory
+    fn from(_error: NoMemory) -> LineFault {
+        LineFault::NoMemory
     }
 }
 
-impl From<AllocError> for Refused {
+impl From<AllocError> for LineFault {
     ghost from_gives = { λ _ made. made ≡ refused.NoMemory };
 
-    fn from(_error: AllocError) -> Refused {
-        Refused::NoMemory
+    fn from(_error: AllocError) -> LineFault {
+        LineFault::NoMemory
     }
 }

@@ -25,7 +25,7 @@ pub(crate) fn said(judge: &Judge, leaf: u64, key: u64) -> Option<u128>
         IsWellCounted (word_now judge.now) leaf }
     ensures { result ≡ said (word_now judge.now) key leaf }
 {
-    for pair in given(judge, leaf).as_slice() {
+    for pair in pairs_of_leaf(judge, leaf).as_slice() {
         if key == pair.0 {
             return Some(pair.1);
         }
@@ -34,7 +34,7 @@ pub(crate) fn said(judge: &Judge, leaf: u64, key: u64) -> Option<u128>
 }
 
 /// What a leaf gives the map.
-pub(crate) fn given(judge: &Judge, leaf: u64) -> Pairs
+pub(crate) fn pairs_of_leaf(judge: &Judge, leaf: u64) -> Pairs
     requires readable { class (word_now judge.now) leaf ≡ 0 →
         IsWellCounted (word_now judge.now) leaf }
     ensures pairs { number_pairs result.items ≡ leaf_pairs (word_now judge.now) leaf }
@@ -106,7 +106,9 @@ pub(crate) fn is_leaf_copy(judge: &Judge, one: u64, other: u64) -> bool
     ensures pairs { IsTrue result →
         leaf_pairs (word_now judge.now) one ≡ leaf_pairs (word_now judge.now) other }
 {
-    is_readable(judge, one) && is_readable(judge, other) && given(judge, one) == given(judge, other)
+    is_readable(judge, one)
+        && is_readable(judge, other)
+        && pairs_of_leaf(judge, one) == pairs_of_leaf(judge, other)
 }
 
 /// What a node's head says.

@@ -13,17 +13,17 @@ ghost use Rattle.record.specs.CommandRules.{IsRight, IsPlaced};
 ghost use Rattle.record.specs.Linked.{linked};
 ghost use Rattle.record.specs.MapRecord.{map_at, reply_told};
 ghost use Rattle.record.specs.Turns.{history, start};
-ghost use Rattle.moments.specs.Entries.{AreEntries, HadFirstWithin, HadWithin};
+ghost use Rattle.linearization.specs.Entries.{AreEntries, HadFirstWithin, HadWithin};
 ghost use Rattle.ordered_map.specs.declared.pair.Pair.{Pair as PairOf};
-ghost use Rattle.moments.specs.Ordered.{FallFrom, IsOrderedRead};
-ghost use Rattle.moments.specs.Places.{changes};
+ghost use Rattle.linearization.specs.Ordered.{FallFrom, IsOrderedRead};
+ghost use Rattle.linearization.specs.Places.{changes};
 ghost use Rattle.audit.specs.Asked.{IsAsked, IsValueAt, IsReadAt, NeededSomething, NeededWithin, IsToldByPairs};
 ghost use Rattle.audit.specs.Remembered.{AreRemembered};
 
-use crate::client::Client;
+use crate::client::ClientState;
 use crate::steps::Steps;
 use arena::Resource;
-use moments::{Places, pairs_told};
+use linearization::{Places, pairs_told};
 use ordered_map::{Goal, Reply, Request};
 use record::{Answer, Finished};
 use script::Command;
@@ -33,7 +33,7 @@ use script::Command;
 pub(crate) fn is_right(
     steps: &Steps,
     places: &Places,
-    client: &Client,
+    client: &ClientState,
     tries: u32,
     command: &Command,
     reply: &Finished,
@@ -71,7 +71,7 @@ pub(crate) fn is_right(
 /// it, after which the map gave it.
 fn is_placed(
     places: &Places,
-    client: &Client,
+    client: &ClientState,
     request: &Request<u64, u128>,
     told: &Reply<u64, u128>,
     reply: &Finished,
@@ -171,7 +171,7 @@ fn is_read_of(places: &Places, key: u64, told: &Reply<u64, u128>, reply: &Finish
     };
     reply.moment.is_some()
         && reply.begin <= reply.end
-        && reply.moment == places.greatest(key, *value, reply.begin, reply.end)
+        && reply.moment == places.latest(key, *value, reply.begin, reply.end)
 }
 
 /// Whether a key has this value after a turn.
@@ -180,7 +180,7 @@ fn has_at(places: &Places, key: u64, value: Option<u128>, turn: u64) -> bool
         AreEntries calls lines (changes places.now) → IsTrue result →
         get key (map_at calls lines turn) ≡ value }
 {
-    places.greatest(key, value, turn, turn).is_some()
+    places.latest(key, value, turn, turn).is_some()
 }
 
 /// Whether an ordered read took place in the greatest of its turns after which the map gave its
@@ -199,7 +199,7 @@ fn is_read_at(
         IsReadAt calls lines (map_request request.now) reply.now }
 {
     let command = Command::Map(*request);
-    let turn = places.greatest_of(&command, told, reply.begin, reply.end);
+    let turn = places.latest_reply(&command, told, reply.begin, reply.end);
     reply.moment == Some(turn) && tells_at(places, request, told, turn)
 }
 
@@ -238,7 +238,7 @@ fn tells_pairs(request: &Request<u64, u128>, told: &Reply<u64, u128>) -> bool
 fn is_refused(
     steps: &Steps,
     places: &Places,
-    client: &Client,
+    client: &ClientState,
     tries: u32,
     request: &Request<u64, u128>,
     told: &Reply<u64, u128>,
@@ -286,7 +286,7 @@ fn needed_something(places: &Places, request: &Request<u64, u128>, reply: &Finis
 fn is_full(
     steps: &Steps,
     places: &Places,
-    client: &Client,
+    client: &ClientState,
     request: &Request<u64, u128>,
     reply: &Finished,
     full: (Resource, u32),
@@ -361,8 +361,5 @@ fn had(places: &Places, key: u64, value: Option<u128>, reply: &Finished) -> bool
         AreEntries calls lines (changes places.now) → IsTrue result →
         HadWithin calls lines key value reply.now.begin reply.now.end }
 {
-    reply.begin <= reply.end
-        && places
-            .greatest(key, value, reply.begin, reply.end)
-            .is_some()
+    reply.begin <= reply.end && places.latest(key, value, reply.begin, reply.end).is_some()
 }

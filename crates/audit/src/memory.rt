@@ -19,7 +19,7 @@ pub(crate) struct Snapshot {
 
 /// What a step of a client has found in the info of a node.
 #[derive(Clone, Copy)]
-pub(crate) struct Look {
+pub(crate) struct FoundInfo {
     /// How many steps there were with it.
     pub(crate) steps: u64,
     pub(crate) node: NodeNo,
@@ -87,9 +87,9 @@ pub(crate) struct Memory {
     /// Of each cell of a `vlx`: whether it was as its snapshot says then.
     pub(crate) same: [bool; 4],
     /// Its last load of an info word.
-    pub(crate) look: Option<Look>,
+    pub(crate) look: Option<FoundInfo>,
     /// Its last freezing exchange.
-    pub(crate) freeze: Option<Look>,
+    pub(crate) freeze: Option<FoundInfo>,
     /// The snapshots that it keeps, by the numbers of cells.
     pub(crate) snapshots: [Option<Snapshot>; 9],
 }
@@ -125,7 +125,7 @@ impl Memory {
     }
 
     /// What a step of this kind has found in an info word.
-    pub(crate) fn note(&mut self, kind: Kind, look: Option<Look>)
+    pub(crate) fn note(&mut self, kind: Kind, look: Option<FoundInfo>)
         ensures { self.new ≡ noted kind look self.old }
     {
         match kind {

@@ -1,32 +1,32 @@
 //! A run, judged line by line.
 ghost use Rattle.std.specs.Prelude.{◌≡◌, ℕ, ◌≤◌, ◌∷◌, [], Some, length, IfOk, OnOk, IsTrue};
 ghost use Rattle.audit.specs.After.{lines_of, IsAfter, Remembers, AreClientsAfter};
-ghost use Rattle.moments.specs.Places.{changes};
+ghost use Rattle.linearization.specs.Places.{changes};
 
-use crate::client::{Client, has_begun, note_win};
+use crate::client::{ClientState, has_begun, note_win};
 use crate::commands::{enters, may_answer_after_step, may_answer_at_once, may_make, most_steps};
-use crate::edits::{Begun, begun_for, is_of, note_begun, suits};
-use crate::fault::{Refused, hold};
+use crate::edits::{BegunEdit, begun_for, covers_the_right_leaf, is_begun_for, note_begun};
+use crate::fault::{LineFault, require};
 use crate::levels::do_levels_rise;
 use crate::steps::{Steps, says_its_call};
 use crate::{cells, map};
 use arena::{Kind, Mode, NoMemory, NodeWord, PassNo, ScxNo, ScxWord, Word};
-use moments::{Change, Places};
-use record::{Entry, Finished, Line, Record, Row};
+use linearization::{Change, Places};
+use record::{Entry, Finished, Line, Record, TurnRow};
 use script::{Call, Command, Script};
 use std::alloc::Global;
 
 /// What the lines so far say.
 #[derive(Drop)]
-pub(crate) struct Run<'a> {
+pub(crate) struct Replay<'a> {
     pub(crate) record: &'a Record,
     /// How many lines there were.
     pub(crate) at: usize,
     pub(crate) steps: Steps,
     pub(crate) places: Places,
     /// On the tree, by the numbers of SCX-records: those that have begun.
-    pub(crate) edits: Vec<Option<Begun>>,
-    pub(crate) clients: Vec<Client>,
+    pub(crate) edits: Vec<Option<BegunEdit>>,
+    pub(crate) clients: Vec<ClientState>,
     /// How many turns there were.
     pub(crate) turn: u64,
     /// How many entries there were.
@@ -43,13 +43,13 @@ pub(crate) struct Run<'a> {
     pub(crate) awaits: bool,
 }
 
-impl<'a> Run<'a> {
+impl<'a> Replay<'a> {
     ghost use Rattle.std.specs.Prelude.{◌≡◌, ℕ, suc, ◌+◌, ◌<◌, ◌∷◌, [], Some, None, true, false, IsTrue, IfOk, IfSome, OnOk, slice_get, vec_len};
     ghost use Rattle.arena.specs.declared.step.Row.{Row as RowOf};
     ghost use Rattle.arena.specs.Lawful.{IsLawful};
     ghost use Rattle.record.specs.declared.record.Line.{Line};
     ghost use Rattle.record.specs.declared.record.Entry.{Entry as EntryOf};
-    ghost use Rattle.record.specs.declared.record.Row.{Row};
+    ghost use Rattle.record.specs.declared.record.TurnRow.{TurnRow};
     ghost use Rattle.record.specs.Commands.{next_command};
     ghost use Rattle.record.specs.Steps.{IsStep, IsIdleTurn};
     ghost use Rattle.record.specs.Entries.{IsWinOf};
@@ -66,11 +66,11 @@ impl<'a> Run<'a> {
     ghost use Rattle.arena.specs.History.{◌⊳◌, value};
     ghost use Rattle.arena.specs.Shape.{IsBegin};
     ghost use Rattle.ordered_map.specs.FillOrder.{HasRisingLevels};
-    ghost use Rattle.moments.specs.Places.{changes};
+    ghost use Rattle.linearization.specs.Places.{changes};
     ghost use Rattle.audit.specs.Trees.{HasChangedBy, IsChangeBegun, IsReadyFor};
     ghost use Rattle.ordered_map.specs.Runs.{IsTreeRun};
     ghost use Rattle.audit.specs.Edits.{MayMakeEdit};
-    ghost use Rattle.audit.specs.declared.edits.Begun.{Begun as BegunOf};
+    ghost use Rattle.audit.specs.declared.edits.BegunEdit.{BegunEdit as BegunOf};
     ghost use Rattle.record.specs.CommandRules.{IsEntryFor, IsPlaced};
     ghost use Rattle.record.specs.Linked.{linked};
     ghost use Rattle.record.specs.Replies.{IsFitting};
@@ -80,12 +80,12 @@ impl<'a> Run<'a> {
     ghost use Rattle.audit.specs.After.{layout_of, tries_of, calls_of, IsClientAfter, IsNextStep, IsReplyToNext, IsRightReply, TookFew};
 
     /// A run of no line of a record. The only error is want of memory.
-    pub(crate) fn new(alloc: Global, judged: &'a Record) -> Result<Run<'a>, Refused>
+    pub(crate) fn new(alloc: Global, judged: &'a Record) -> Result<Replay<'a>, LineFault>
         ensures remembers { IfOk result (λ run. Remembers run []) }
         ensures at { IfOk result (λ run. run.at ≡ 0) }
         ensures record { IfOk result (λ run. run.record.now ≡ judged.now) }
     {
-        Ok(Run {
+        Ok(Replay {
             record: judged,
             at: 0,
             steps: Steps::new(alloc, &judged.script.layout)?,
@@ -103,30 +103,30 @@ impl<'a> Run<'a> {
     }
 
     /// No other line has to stand behind the last one.
-    pub(crate) fn settled(&self) -> Result<(), Refused>
+    pub(crate) fn settled(&self) -> Result<(), LineFault>
         requires { IsAfter self.now (lines_of self.now) }
         ensures { OnOk result
             (OwesNothing (layout_of self.now) (calls_of self.now) (lines_of self.now)) }
     {
-        hold(self.owed.is_none())?;
-        self.explain(!self.awaits)?;
+        require(self.owed.is_none())?;
+        self.require_or_blame_idle(!self.awaits)?;
         Ok(())
     }
 
     /// Refuses the next line, of which this does not hold; or, where the next line is to be the reply
     /// that explains the last one, an idle turn, refuses that.
-    fn explain(&self, fits: bool) -> Result<(), Refused>
+    fn require_or_blame_idle(&self, fits: bool) -> Result<(), LineFault>
         ensures { OnOk result (fits ≡ true) }
     {
         match (fits, self.awaits) {
             (true, _) => Ok(()),
-            (false, true) => Err(Refused::Unexplained),
-            (false, false) => Err(Refused::NotLawful),
+            (false, true) => Err(LineFault::Unexplained),
+            (false, false) => Err(LineFault::NotLawful),
         }
     }
 
     /// The lines are those of a lawful run, if no other line has to stand behind the last one.
-    pub(crate) fn finish(&self) -> Result<(), Refused>
+    pub(crate) fn finish(&self) -> Result<(), LineFault>
         requires remembers { Remembers self.now (lines_of self.now) }
         requires all { self.now.at ≡ length self.now.record.now.lines.items }
         ensures { OnOk result
@@ -146,7 +146,7 @@ impl<'a> Run<'a> {
     }
 
     /// The command of the next call of a client, if it has one left.
-    fn next(&self, client: &Client) -> Option<Command>
+    fn next(&self, client: &ClientState) -> Option<Command>
         requires after { IsAfter self.now (lines_of self.now) }
         requires client { slice_get self.now.clients.items client.now.pass.0 ≡ Some client.now }
         ensures { result ≡ next_command (calls_of self.now) (lines_of self.now) client.now.pass.0 }
@@ -155,7 +155,7 @@ impl<'a> Run<'a> {
     }
 
     /// The state of a client, if there is one of this number.
-    fn client(&self, pass: PassNo) -> Result<Client, Refused>
+    fn client(&self, pass: PassNo) -> Result<ClientState, LineFault>
         requires { IsAfter self.now (lines_of self.now) }
         ensures here { IfOk result (λ c. slice_get self.now.clients.items pass.0 ≡ Some c) }
         ensures there { IfOk result (λ c. slice_get self.now.clients.items c.pass.0 ≡ Some c) }
@@ -166,12 +166,12 @@ impl<'a> Run<'a> {
     {
         match self.clients.get(pass.0 as usize) {
             Some(client) => Ok(*client),
-            None => Err(Refused::NotLawful),
+            None => Err(LineFault::NotLawful),
         }
     }
 
     /// One line more, if it fits those before it.
-    pub(crate) fn line(&mut self) -> Result<(), Refused>
+    pub(crate) fn line(&mut self) -> Result<(), LineFault>
         requires remembers { Remembers self.old (lines_of self.old) }
         requires more { self.old.at < vec_len self.old.record.now.lines }
         ensures remembers { OnOk result (Remembers self.new (lines_of self.new)) }
@@ -186,22 +186,22 @@ impl<'a> Run<'a> {
     }
 
     /// This line behind those so far, if it fits them.
-    fn next_line(&mut self, line: &Line) -> Result<(), Refused>
+    fn next_line(&mut self, line: &Line) -> Result<(), LineFault>
         requires { Remembers self.old (lines_of self.old) }
         ensures remembers { OnOk result (Remembers self.new (line.now ∷ lines_of self.old)) }
         ensures at { self.new.at ≡ self.old.at }
         ensures record { self.new.record ≡ self.old.record }
     {
         match line {
-            Line::Step(Row::Step { number, row }) => self.step(*number, row),
-            Line::Step(Row::Idle { number, client }) => self.idle(*number, *client),
+            Line::Step(TurnRow::Step { number, row }) => self.step(*number, row),
+            Line::Step(TurnRow::Idle { number, client }) => self.idle(*number, *client),
             Line::Log(entry) => self.entry(entry),
             Line::Reply(reply) => self.reply(reply),
         }
     }
 
     /// A turn fits the lines so far that makes this step.
-    fn check_step(&self, number: u64, row: &arena::Row) -> Result<(), Refused>
+    fn check_step(&self, number: u64, row: &arena::Row) -> Result<(), LineFault>
         requires { IsAfter self.now (lines_of self.now) }
         ensures { OnOk result
             (IsStep (layout_of self.now) (tries_of self.now) (calls_of self.now)
@@ -209,38 +209,38 @@ impl<'a> Run<'a> {
     {
         let client = self.client(row.pass)?;
         let Some(command) = self.next(&client) else {
-            return Err(Refused::NotLawful);
+            return Err(LineFault::NotLawful);
         };
         let limits = &self.record.script.limits;
         let most = most_steps(&command, limits, u64::from(self.steps.judge.taken()));
-        hold(self.turn.checked_add(1) == Some(number))?;
-        hold(row.call == client.answered)?;
-        hold(client.steps < most)?;
-        hold(may_make(&command, row.kind))?;
-        hold(says_its_call(row))?;
-        hold(self.steps.judge.is_lawful(row))?;
+        require(self.turn.checked_add(1) == Some(number))?;
+        require(row.call == client.answered)?;
+        require(client.steps < most)?;
+        require(may_make(&command, row.kind))?;
+        require(says_its_call(row))?;
+        require(self.steps.judge.is_lawful(row))?;
         Ok(())
     }
 
     /// A turn fits the lines so far that makes no step.
-    fn check_idle(&self, number: u64, pass: PassNo) -> Result<(), Refused>
+    fn check_idle(&self, number: u64, pass: PassNo) -> Result<(), LineFault>
         requires { IsAfter self.now (lines_of self.now) }
         ensures { OnOk result
             (IsIdleTurn (layout_of self.now) (calls_of self.now)
             (lines_of self.now) number pass.0) }
     {
         let client = self.client(pass)?;
-        hold(self.turn.checked_add(1) == Some(number))?;
-        hold(pass.0 < self.record.script.layout.passes)?;
-        hold(client.begun.is_none() || self.next(&client).is_none())?;
+        require(self.turn.checked_add(1) == Some(number))?;
+        require(pass.0 < self.record.script.layout.passes)?;
+        require(client.begun.is_none() || self.next(&client).is_none())?;
         Ok(())
     }
 
     /// A turn without a step: of a client with no call left, or the whole of a call.
-    fn idle(&mut self, number: u64, pass: PassNo) -> Result<(), Refused>
+    fn idle(&mut self, number: u64, pass: PassNo) -> Result<(), LineFault>
         requires { Remembers self.old (lines_of self.old) }
         ensures remembers { OnOk result (Remembers self.new
-            (Line.Step (Row.Idle number pass) ∷ lines_of self.old)) }
+            (Line.Step (TurnRow.Idle number pass) ∷ lines_of self.old)) }
         ensures at { self.new.at ≡ self.old.at }
         ensures record { self.new.record ≡ self.old.record }
     {
@@ -259,10 +259,10 @@ impl<'a> Run<'a> {
     }
 
     /// A turn that makes a lawful step of a client's next call.
-    fn step(&mut self, number: u64, row: &arena::Row) -> Result<(), Refused>
+    fn step(&mut self, number: u64, row: &arena::Row) -> Result<(), LineFault>
         requires { Remembers self.old (lines_of self.old) }
         ensures remembers { OnOk result (Remembers self.new
-            (Line.Step (Row.Step number row.now) ∷ lines_of self.old)) }
+            (Line.Step (TurnRow.Step number row.now) ∷ lines_of self.old)) }
         ensures at { self.new.at ≡ self.old.at }
         ensures record { self.new.record ≡ self.old.record }
     {
@@ -292,7 +292,7 @@ impl<'a> Run<'a> {
 
     /// The entry that a step of this turn asks for, if it is an update which changes its field: of the
     /// SCX-record that holds the field's node.
-    fn owed_by(&self, number: u64, row: &arena::Row) -> Result<Option<Entry>, Refused>
+    fn owed_by(&self, number: u64, row: &arena::Row) -> Result<Option<Entry>, LineFault>
         requires { IsAfter self.now (lines_of self.now) }
         ensures owed { IfOk result
             (λ owed. entry_of (layout_of self.now) (lines_of self.now) number row.now ≡ owed) }
@@ -318,12 +318,12 @@ impl<'a> Run<'a> {
                 client,
                 call,
             })),
-            _ => Err(Refused::NotLawful),
+            _ => Err(LineFault::NotLawful),
         }
     }
 
     /// A step wins with this entry: the first one of its client's call that runs.
-    fn check_win(&self, row: &arena::Row, entry: &Entry) -> Result<(), Refused>
+    fn check_win(&self, row: &arena::Row, entry: &Entry) -> Result<(), LineFault>
         requires remembers { Remembers self.now (lines_of self.now) }
         requires lawful { IsLawful self.now.steps.judge.layout
             (seen_history self.now.steps.judge) row.now }
@@ -334,18 +334,23 @@ impl<'a> Run<'a> {
     {
         let client = self.client(entry.client)?;
         let Some(command) = self.next(&client) else {
-            return Err(Refused::NotLawful);
+            return Err(LineFault::NotLawful);
         };
-        hold(self.steps.judge.winner(row) == Some(entry.scx))?;
-        hold(client.won.is_none())?;
-        hold(entry.call == client.answered)?;
-        hold(has_begun(&client, row.pass))?;
+        require(self.steps.judge.winner(row) == Some(entry.scx))?;
+        require(client.won.is_none())?;
+        require(entry.call == client.answered)?;
+        require(has_begun(&client, row.pass))?;
         self.check_entry(&client, &command, entry.scx)?;
         Ok(())
     }
 
     /// An entry of this SCX-record is one that the client's call makes.
-    fn check_entry(&self, client: &Client, command: &Command, scx: ScxNo) -> Result<(), Refused>
+    fn check_entry(
+        &self,
+        client: &ClientState,
+        command: &Command,
+        scx: ScxNo,
+    ) -> Result<(), LineFault>
         requires remembers { Remembers self.now (lines_of self.now) }
         requires client { slice_get self.now.clients.items client.now.pass.0 ≡ Some client.now }
         requires command { next_command (calls_of self.now)
@@ -362,18 +367,18 @@ impl<'a> Run<'a> {
     {
         match command {
             Command::Map(_) => {
-                hold(self.is_ready(command, scx))?;
+                require(self.is_ready(command, scx))?;
                 Ok(())
             }
             _ => {
-                hold(cells::is_entry_for(&self.steps, client, command, scx))?;
+                require(cells::is_entry_for(&self.steps, client, command, scx))?;
                 Ok(())
             }
         }
     }
 
     /// On the tree levels still rise behind a step.
-    fn check_levels(&self, row: &arena::Row) -> Result<(), Refused>
+    fn check_levels(&self, row: &arena::Row) -> Result<(), LineFault>
         requires after { IsAfter self.now (lines_of self.now) }
         requires found { row.now.before ≡ value (seen_history self.now.steps.judge) row.now.word }
         ensures { OnOk result ((layout_of self.now).mode ≡ Tree →
@@ -383,13 +388,13 @@ impl<'a> Run<'a> {
         if self.record.script.layout.mode != Mode::Tree {
             return Ok(());
         }
-        hold(do_levels_rise(&self.steps.judge, row))?;
+        require(do_levels_rise(&self.steps.judge, row))?;
         Ok(())
     }
 
     /// On the tree the SCX-record that a step begins, if it begins one, makes an edit for its client's
     /// call.
-    fn check_begun(&self, row: &arena::Row) -> Result<(), Refused>
+    fn check_begun(&self, row: &arena::Row) -> Result<(), LineFault>
         requires { Remembers self.now (lines_of self.now) }
         ensures { OnOk result ((layout_of self.now).mode ≡ Tree →
             IsBegin (seen_history self.now.steps.judge) row.now row.now.after →
@@ -402,7 +407,7 @@ impl<'a> Run<'a> {
         }
         match self.begun_by(row) {
             Some(_begun) => Ok(()),
-            None => Err(Refused::NotLawful),
+            None => Err(LineFault::NotLawful),
         }
     }
 
@@ -420,7 +425,7 @@ impl<'a> Run<'a> {
 
     /// The SCX-record that a step on the tree begins, if it begins one, with the edit that it makes for
     /// its client's call.
-    fn begun_by(&self, row: &arena::Row) -> Option<Begun>
+    fn begun_by(&self, row: &arena::Row) -> Option<BegunEdit>
         requires { Remembers self.now (lines_of self.now) }
         ensures begins { IfSome result
             (λ begun. IsBegin (seen_history self.now.steps.judge) row.now row.now.after) }
@@ -446,13 +451,14 @@ impl<'a> Run<'a> {
             IsReadyFor self.now.edits.items (seen_history self.now.steps.judge) scx.0 command.now }
     {
         match self.begun_of(scx) {
-            Some(begun) => is_of(&begun, command) && suits(&self.steps.judge, scx.0, &begun),
+            Some(begun) => is_begun_for(&begun, command)
+                && covers_the_right_leaf(&self.steps.judge, scx.0, &begun),
             None => false,
         }
     }
 
     /// The SCX-record of this number, if one has begun.
-    fn begun_of(&self, scx: ScxNo) -> Option<Begun>
+    fn begun_of(&self, scx: ScxNo) -> Option<BegunEdit>
         ensures { IfSome result
             (λ begun. slice_get self.now.edits.items scx.0 ≡ Some (Some begun)) }
     {
@@ -469,16 +475,16 @@ impl<'a> Run<'a> {
         row: &arena::Row,
         owed: Option<Entry>,
         fits: bool,
-    ) -> Result<(), Refused>
+    ) -> Result<(), LineFault>
         requires remembers { Remembers self.old (lines_of self.old) }
         requires next { IsNextStep self.old number row.now owed fits }
         ensures remembers { OnOk result (Remembers self.new
-            (Line.Step (Row.Step number row.now) ∷ lines_of self.old)) }
+            (Line.Step (TurnRow.Step number row.now) ∷ lines_of self.old)) }
         ensures at { self.new.at ≡ self.old.at }
         ensures record { self.new.record ≡ self.old.record }
     {
         let client = self.client(row.pass)?;
-        hold(client.steps < u64::MAX)?;
+        require(client.steps < u64::MAX)?;
         let begun = self.begun_by(row);
         self.steps
             .begin(&client, self.record.script.calls.as_slice());
@@ -496,15 +502,15 @@ impl<'a> Run<'a> {
     }
 
     /// The entry that the step before it asks for.
-    fn entry(&mut self, entry: &Entry) -> Result<(), Refused>
+    fn entry(&mut self, entry: &Entry) -> Result<(), LineFault>
         requires { Remembers self.old (lines_of self.old) }
         ensures remembers { OnOk result (Remembers self.new
             (Line.Log entry.now ∷ lines_of self.old)) }
         ensures at { self.new.at ≡ self.old.at }
         ensures record { self.new.record ≡ self.old.record }
     {
-        self.explain(self.owed == Some(*entry))?;
-        hold(self.fits)?;
+        self.require_or_blame_idle(self.owed == Some(*entry))?;
+        require(self.fits)?;
         self.change(entry)?;
         self.owed = None;
         self.fits = false;
@@ -515,7 +521,7 @@ impl<'a> Run<'a> {
     }
 
     /// On the tree the map is changed by the SCX-record of an entry.
-    fn change(&mut self, entry: &Entry) -> Result<(), Refused>
+    fn change(&mut self, entry: &Entry) -> Result<(), LineFault>
         requires { IsAfter self.old (lines_of self.old) }
         ensures rest { self.new ≡ record self.old { places = self.new.places } }
         ensures change { OnOk result ((layout_of self.old).mode ≡ Tree →
@@ -530,7 +536,7 @@ impl<'a> Run<'a> {
     }
 
     /// The change of the map that the SCX-record of an entry makes.
-    fn change_of(&self, entry: &Entry) -> Result<Change, Refused>
+    fn change_of(&self, entry: &Entry) -> Result<Change, LineFault>
         requires { IsAfter self.now (lines_of self.now) }
         ensures { IfOk result
             (IsChangeBegun (calls_of self.now) (lines_of self.now) entry.now self.now.edits.items) }
@@ -541,12 +547,12 @@ impl<'a> Run<'a> {
                 key: begun.key,
                 value: begun.value,
             }),
-            None => Err(Refused::NotLawful),
+            None => Err(LineFault::NotLawful),
         }
     }
 
     /// The SCX-record of an entry, if it has begun for the next call of the entry's client.
-    fn begun_for_entry(&self, entry: &Entry) -> Option<Begun>
+    fn begun_for_entry(&self, entry: &Entry) -> Option<BegunEdit>
         requires { IsAfter self.now (lines_of self.now) }
         ensures known { IfSome result
             (λ begun. slice_get self.now.edits.items entry.now.scx.0 ≡ Some (Some begun)) }
@@ -563,7 +569,7 @@ impl<'a> Run<'a> {
         let Some(begun) = self.begun_of(entry.scx) else {
             return None;
         };
-        if is_of(&begun, &command) {
+        if is_begun_for(&begun, &command) {
             Some(begun)
         } else {
             None
@@ -571,19 +577,19 @@ impl<'a> Run<'a> {
     }
 
     /// The reply to the call whose last turn is the newest one.
-    fn reply(&mut self, reply: &Finished) -> Result<(), Refused>
+    fn reply(&mut self, reply: &Finished) -> Result<(), LineFault>
         requires { Remembers self.old (lines_of self.old) }
         ensures remembers { OnOk result (Remembers self.new
             (Line.Reply reply.now ∷ lines_of self.old)) }
         ensures at { self.new.at ≡ self.old.at }
         ensures record { self.new.record ≡ self.old.record }
     {
-        hold(self.owed.is_none())?;
-        self.explain(self.last == Some(reply.client))?;
+        require(self.owed.is_none())?;
+        self.require_or_blame_idle(self.last == Some(reply.client))?;
         let client = self.client(reply.client)?;
         self.check_reply(&client, reply)?;
-        hold(client.answered < u64::MAX)?;
-        self.steps.keep_behind(&client, self.record.script.calls.as_slice(), &reply.answer);
+        require(client.answered < u64::MAX)?;
+        self.steps.keep_after(&client, self.record.script.calls.as_slice(), &reply.answer);
         let after = client.ended(self.calls());
         self.clients[reply.client.0 as usize] = after;
         self.idle = false;
@@ -592,7 +598,7 @@ impl<'a> Run<'a> {
     }
 
     /// A reply is that to a client's next call.
-    fn check_reply(&self, client: &Client, reply: &Finished) -> Result<(), Refused>
+    fn check_reply(&self, client: &ClientState, reply: &Finished) -> Result<(), LineFault>
         requires remembers { Remembers self.now (lines_of self.now) }
         requires owed { entry_owed (layout_of self.now) (lines_of self.now) ≡ None }
         requires client { slice_get self.now.clients.items client.now.pass.0 ≡ Some client.now }
@@ -603,14 +609,14 @@ impl<'a> Run<'a> {
             (lines_of self.now) reply.now) }
     {
         let Some(command) = self.next(client) else {
-            return Err(Refused::NotLawful);
+            return Err(LineFault::NotLawful);
         };
-        hold(reply.call == client.answered)?;
-        hold(client.begun == Some(reply.begin))?;
-        hold(reply.end == self.turn)?;
-        self.explain(self.may_answer(&command, reply))?;
-        hold(enters(&command, &reply.answer) == client.won.is_some())?;
-        hold(is_within(reply))?;
+        require(reply.call == client.answered)?;
+        require(client.begun == Some(reply.begin))?;
+        require(reply.end == self.turn)?;
+        self.require_or_blame_idle(self.may_answer(&command, reply))?;
+        require(enters(&command, &reply.answer) == client.won.is_some())?;
+        require(is_within(reply))?;
         self.check_answer(client, &command, reply)?;
         Ok(())
     }
@@ -630,10 +636,10 @@ impl<'a> Run<'a> {
     /// The answer to a client's call is right, and the call took place where the reply says.
     fn check_answer(
         &self,
-        client: &Client,
+        client: &ClientState,
         command: &Command,
         reply: &Finished,
-    ) -> Result<(), Refused>
+    ) -> Result<(), LineFault>
         requires remembers { Remembers self.now (lines_of self.now) }
         requires next { IsReplyToNext self.now client.now command.now reply.now }
         ensures right { OnOk result (IsRightReply self.now reply.now command.now) }
@@ -643,7 +649,7 @@ impl<'a> Run<'a> {
             reply.now command.now) }
     {
         let limits = &self.record.script.limits;
-        hold(self.steps.has_taken_few(client.pass, command, limits))?;
+        require(self.steps.has_taken_few(client.pass, command, limits))?;
         match self.record.script.layout.mode {
             Mode::Tree => self.check_map_answer(client, command, reply),
             Mode::Records => self.check_cells_answer(client, command, reply),
@@ -653,10 +659,10 @@ impl<'a> Run<'a> {
     /// The same, for a call of the map.
     fn check_map_answer(
         &self,
-        client: &Client,
+        client: &ClientState,
         command: &Command,
         reply: &Finished,
-    ) -> Result<(), Refused>
+    ) -> Result<(), LineFault>
         requires remembers { Remembers self.now (lines_of self.now) }
         requires mode { (layout_of self.now).mode ≡ Tree }
         requires next { IsReplyToNext self.now client.now command.now reply.now }
@@ -666,17 +672,17 @@ impl<'a> Run<'a> {
             reply.now command.now) }
     {
         let tries = self.record.script.limits.tries;
-        hold(map::is_right(&self.steps, &self.places, client, tries, command, reply))?;
+        require(map::is_right(&self.steps, &self.places, client, tries, command, reply))?;
         Ok(())
     }
 
     /// The same, for a call of cells.
     fn check_cells_answer(
         &self,
-        client: &Client,
+        client: &ClientState,
         command: &Command,
         reply: &Finished,
-    ) -> Result<(), Refused>
+    ) -> Result<(), LineFault>
         requires remembers { Remembers self.now (lines_of self.now) }
         requires mode { (layout_of self.now).mode ≡ Records }
         requires next { IsReplyToNext self.now client.now command.now reply.now }
@@ -685,30 +691,30 @@ impl<'a> Run<'a> {
             (IsPlaced (layout_of self.now) (calls_of self.now) (lines_of self.now)
             reply.now command.now) }
     {
-        hold(cells::is_right(&self.steps, client, command, reply))?;
+        require(cells::is_right(&self.steps, client, command, reply))?;
         Ok(())
     }
 }
 
 /// The key of a change gets its value; refused if no call names that key.
-fn push(places: &mut Places, change: Change) -> Result<(), Refused>
+fn push(places: &mut Places, change: Change) -> Result<(), LineFault>
     ensures { OnOk result (changes places.new ≡ change ∷ changes places.old) }
 {
-    hold(places.knows(change.key))?;
+    require(places.knows(change.key))?;
     places.reserve()?;
     places.push(change);
     Ok(())
 }
 
 /// The clients of a script, which have made no turn.
-fn clients(alloc: Global, script: &Script) -> Result<Vec<Client>, NoMemory>
+fn clients(alloc: Global, script: &Script) -> Result<Vec<ClientState>, NoMemory>
     ensures all { IfOk result (λ v. length v.items ≡ script.now.layout.passes) }
     ensures clients { IfOk result
         (λ v. AreClientsAfter script.now.layout script.now.calls.items [] v.items) }
 {
     let mut clients = Vec::new(alloc);
     for number in 0..script.layout.passes {
-        clients.push(Client::new(PassNo(number), script.calls.as_slice()))?;
+        clients.push(ClientState::new(PassNo(number), script.calls.as_slice()))?;
     }
     Ok(clients)
 }

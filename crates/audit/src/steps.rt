@@ -10,10 +10,10 @@ ghost use Rattle.record.specs.Shares.{HasNodesLeft as NodesLeft, HasScxLeft as S
 ghost use Rattle.judge.specs.Histories.{seen_history};
 
 use crate::cells::same_cells;
-use crate::client::Client;
+use crate::client::ClientState;
 use crate::commands::{most_scx, nodes_each};
-use crate::fault::{Refused, hold};
-use crate::memory::{Look, Memory, Snapshot, Tries};
+use crate::fault::{LineFault, require};
+use crate::memory::{FoundInfo, Memory, Snapshot, Tries};
 use arena::{Kind, Layout, Limits, NodeNo, NodeWord, PassNo, Resource, Row, ScxNo, ScxWord, Word};
 use judge::Judge;
 use record::Answer;
@@ -43,13 +43,13 @@ impl Steps {
     ghost use Rattle.arena.specs.History.{History};
     ghost use Rattle.arena.specs.Layout.{all_nodes};
     ghost use Rattle.arena.specs.Log.{log, is_final};
-    ghost use Rattle.script.specs.declared.cells.Cells.{Cells};
+    ghost use Rattle.script.specs.declared.cells.CellList.{CellList};
     ghost use Rattle.script.specs.declared.call.Call.{Call};
     ghost use Rattle.script.specs.declared.command.Command.TheVariants.{Vlx};
     ghost use Rattle.script.specs.Cells.{cells_of};
     ghost use Rattle.record.specs.declared.record.Line.{Line};
     ghost use Rattle.record.specs.declared.record.Line.TheVariants.{Step as Turn, Reply as ReplyLine};
-    ghost use Rattle.record.specs.declared.record.Row.TheVariants.{Step as Made};
+    ghost use Rattle.record.specs.declared.record.TurnRow.TheVariants.{Step as Made};
     ghost use Rattle.record.specs.declared.record.Finished.{Finished};
     ghost use Rattle.record.specs.Answers.{HasLostAllTries};
     ghost use Rattle.record.specs.CommandRules.{HasTakenFew, linked_then};
@@ -65,7 +65,7 @@ impl Steps {
     ghost use Rattle.audit.specs.Remembering.{IsLookBy, IsMadeFinal, IsRememberedFinal, IsNoted};
 
     /// No step yet. The only error is want of memory.
-    pub(crate) fn new(alloc: Global, layout: &Layout) -> Result<Steps, Refused>
+    pub(crate) fn new(alloc: Global, layout: &Layout) -> Result<Steps, LineFault>
         ensures layout { IfOk result (λ s. s.judge.layout ≡ layout.now) }
         ensures start { IfOk result (λ s. seen_history s.judge ≡ Start layout.now.mode) }
         ensures remembered { (calls : List Call) →
@@ -92,7 +92,7 @@ impl Steps {
 
     /// A turn of a client comes next: it is the first of its call, if it has made none since its last
     /// reply.
-    pub(crate) fn begin(&mut self, client: &Client, calls: &[Call])
+    pub(crate) fn begin(&mut self, client: &ClientState, calls: &[Call])
         ensures same { self.new ≡ record self.old { memories = self.new.memories } }
         ensures remembered { (lay : Layout) (lines : List Line) →
             AreRemembered lay calls.now lines self.old →
@@ -106,7 +106,7 @@ impl Steps {
     }
 
     /// What is remembered of a client whose call begins now.
-    fn memory_begun(&self, client: &Client, calls: &[Call]) -> Memory
+    fn memory_begun(&self, client: &ClientState, calls: &[Call]) -> Memory
         ensures same { IfSome (slice_get self.now.memories.items client.now.pass.0) (λ m.
             result ≡ record m { begun = result.begun; nodes = result.nodes; scx = result.scx; tries = result.tries; same = result.same }) }
         ensures begun { (lay : Layout) (lines : List Line) →
@@ -131,7 +131,7 @@ impl Steps {
 
     /// If this command is a `vlx`, of each of its cells: whether it is as the snapshot says.
     fn same_of(&self, memory: &Memory, command: Option<Command>) -> [bool; 4]
-        ensures { (cells : Cells) (kept : ℕ → Option History) → command ≡ Some (Vlx cells) →
+        ensures { (cells : CellList) (kept : ℕ → Option History) → command ≡ Some (Vlx cells) →
             AreSnapshotsOf self.now.judge.layout (seen_history self.now.judge) memory.now kept →
             AreSameAt self.now.judge.layout (seen_history self.now.judge) kept
             (cells_of cells) result }
@@ -152,7 +152,7 @@ impl Steps {
     }
 
     /// Makes a lawful step.
-    pub(crate) fn make(&mut self, row: &Row) -> Result<(), Refused>
+    pub(crate) fn make(&mut self, row: &Row) -> Result<(), LineFault>
         requires { IsLawful self.old.judge.layout (seen_history self.old.judge) row.now }
         ensures layout { self.new.judge.layout ≡ self.old.judge.layout }
         ensures history { OnOk result
@@ -161,7 +161,7 @@ impl Steps {
             AreRememberedInCall lay calls lines row.now.pass.0 self.old →
             OnOk result (AreRemembered lay calls (Turn (Made number row.now) ∷ lines) self.new) }
     {
-        hold(self.count < u64::MAX)?;
+        require(self.count < u64::MAX)?;
         let ends = self.ends(row);
         let winner = self.judge.winner(row);
         self.judge.make(row)?;
@@ -269,7 +269,7 @@ impl Steps {
     }
 
     /// What a step that was made has found, if it is one at an info word.
-    fn look_by(&self, row: &Row) -> Option<Look>
+    fn look_by(&self, row: &Row) -> Option<FoundInfo>
         ensures { IfSome result
             (λ look. IsLookBy self.now.judge.layout
             (seen_history self.now.judge) self.now.count row.now look) }
@@ -277,7 +277,7 @@ impl Steps {
         let Word::Node(node, NodeWord::Info) = row.word else {
             return None;
         };
-        Some(Look {
+        Some(FoundInfo {
             steps: self.count,
             node,
             found: row.before,
@@ -286,7 +286,7 @@ impl Steps {
     }
 
     /// Which snapshots a client keeps once its next call is answered so.
-    pub(crate) fn keep_behind(&mut self, client: &Client, calls: &[Call], answer: &Answer)
+    pub(crate) fn keep_after(&mut self, client: &ClientState, calls: &[Call], answer: &Answer)
         ensures same { self.new ≡ record self.old { memories = self.new.memories } }
         ensures remembered { (lay : Layout) (lines : List Line) (reply : Finished) →
             AreRemembered lay calls.now lines self.old →
@@ -295,13 +295,13 @@ impl Steps {
             AreRemembered lay calls.now (ReplyLine reply ∷ lines) self.new }
     {
         if let Some(command) = client.command(calls) {
-            let memory = self.memory_behind(self.memory(client.pass), &command, answer);
+            let memory = self.memory_after(self.memory(client.pass), &command, answer);
             self.put(client.pass, memory);
         }
     }
 
     /// What is remembered of the client then, if this is its command.
-    fn memory_behind(&self, memory: Memory, command: &Command, answer: &Answer) -> Memory
+    fn memory_after(&self, memory: Memory, command: &Command, answer: &Answer) -> Memory
         ensures same { result ≡ record memory { snapshots = result.snapshots } }
         ensures snapshots { (lay : Layout) (h : History) (kept : ℕ → Option History) →
             AreStepsOf lay h self.now →

@@ -4,8 +4,8 @@ ghost use Rattle.audit.specs.Faults.{MayBeAtFault};
 ghost use Rattle.record.specs.LawfulRun.{IsLawfulRun};
 ghost use Rattle.record.specs.Turns.{clients};
 
-use crate::fault::{AuditFault, Refused};
-use crate::run::Run;
+use crate::fault::{AuditFault, LineFault};
+use crate::run::Replay;
 use record::Record;
 use script::Script;
 use std::alloc::Global;
@@ -23,7 +23,7 @@ pub fn audit(alloc: Global, record: &Record) -> Result<(), AuditFault>
         MayBeAtFault «record».now row }
 {
     let first = first_row(&record.script);
-    let mut run = match Run::new(alloc, record) {
+    let mut run = match Replay::new(alloc, record) {
         Ok(run) => run,
         Err(refused) => return Err(refused.at(first, 0)),
     };

@@ -8,60 +8,60 @@ use Rattle.std.proofs.lemmas.List.Elements.{All-same, All-push, All-pop}
 use Rattle.std.proofs.lemmas.Option.{none-some}
 use Rattle.std.proofs.lemmas.Bool.{false≢true}
 use Rattle.forest.specs.Passes.{Ground, IsOf, PassView}
-use Rattle.capi.specs.declared.client.Client.{Client}
-use Rattle.capi.specs.declared.handle.Place.{Place}
+use Rattle.capi.specs.declared.client.OwnedPass.{OwnedPass}
+use Rattle.capi.specs.declared.handle.HandleSlot.{HandleSlot}
 use Rattle.capi.specs.Ends.{IsIn, held_in, pass_in}
 use Rattle.capi.specs.Handles.{pass_count}
 use Rattle.capi.specs.Made.{IsHeldOf}
 
 -- what a handle holds
-abbrev pub value_of : Place → Option Client
+abbrev pub value_of : HandleSlot → Option OwnedPass
 value_of p = p.handle.value
 
 -- P holds of all that was gone through
-pub all_through : (P : Option Client → Type 0) (xs : List Place) (i : ℕ) → length xs ≤ i → All P (take i (held_in xs)) → All P (held_in xs)
+pub all_through : (P : Option OwnedPass → Type 0) (xs : List HandleSlot) (i : ℕ) → length xs ≤ i → All P (take i (held_in xs)) → All P (held_in xs)
 all_through P xs i end all = All-same P (held_in xs) (take i (held_in xs)) (sym (take_all i (held_in xs) (subst (λ (n : ℕ). n ≤ i) (sym (length-map xs value_of)) end))) all
 
 -- a handle is written over by one of which P holds, too
-pub all_more : (P : Option Client → Type 0) (xs : List Place) (i : ℕ) (new : Place) → i < length xs → All P (take i (held_in xs)) → P new.handle.value → All P (take (i + 1) (held_in (set xs i new)))
+pub all_more : (P : Option OwnedPass → Type 0) (xs : List HandleSlot) (i : ℕ) (new : HandleSlot) → i < length xs → All P (take i (held_in xs)) → P new.handle.value → All P (take (i + 1) (held_in (set xs i new)))
 all_more P xs i new inside before one =
     All-same P (take (i + 1) (held_in (set xs i new))) (take i (held_in xs) ++ new.handle.value ∷ [])
     (ap (take (i + 1)) (map-set value_of xs i new) ∙ take_more_set (held_in xs) i new.handle.value (subst (λ (n : ℕ). i < n) (sym (length-map xs value_of)) inside))
     (All-push P (take i (held_in xs)) new.handle.value before one)
 
-module _ (xs : List Place) (i : ℕ) (old new : Place) (is : old ≡ get_or xs i old) where
+module _ (xs : List HandleSlot) (i : ℕ) (old new : HandleSlot) (is : old ≡ get_or xs i old) where
   -- a handle is written over by one that holds the same
   pub kept : new.handle.value ≡ old.handle.value → held_in (set xs i new) ≡ held_in xs
   kept same = map-set_same value_of xs i new old (same ∙ ap value_of is)
 
   -- what holds of all handles holds of what the one at i holds
-  pub one_of : (P : Option Client → Type 0) → i < length xs → All P (held_in xs) → P old.handle.value
+  pub one_of : (P : Option OwnedPass → Type 0) → i < length xs → All P (held_in xs) → P old.handle.value
   one_of P inside all = subst P (get_or-map value_of xs i old old.handle.value inside ∙ ap value_of (sym is)) (all i old.handle.value (subst (λ (n : ℕ). i < n) (sym (length-map xs value_of)) inside))
 
 -- a handle that tells how many passes there are holds one
-pub told_held : (v : Option Client) (n : ℕ) → Some n ≡ option_map pass_count v → IsSome v
+pub told_held : (v : Option OwnedPass) (n : ℕ) → Some n ≡ option_map pass_count v → IsSome v
 told_held (Some c) n told = refl
 told_held None n told = absurd (none-some n (sym told))
 
 -- one that tells nothing holds none
-pub none_told : (v : Option Client) → None ≡ option_map pass_count v → ¬ IsSome v
+pub none_told : (v : Option OwnedPass) → None ≡ option_map pass_count v → ¬ IsSome v
 none_told None told some = false≢true some
 none_told (Some c) told some = none-some (pass_count c) told
 
 -- the dictionary of the first has so many
-pub told_of : (f : Ground) (v : Option Client) (n : ℕ) → Some n ≡ option_map pass_count v → IsIn f v → IsHeldOf f v × (n ≡ f.layout.passes)
+pub told_of : (f : Ground) (v : Option OwnedPass) (n : ℕ) → Some n ≡ option_map pass_count v → IsIn f v → IsHeldOf f v × (n ≡ f.layout.passes)
 told_of f (Some c) n told in_f = (in_f, some_is (told ∙ ap (λ (g : Ground). Some g.layout.passes) in_f))
   where
     some_is : Some n ≡ Some f.layout.passes → n ≡ f.layout.passes
     some_is e = cc
 told_of f None n told in_f = absurd (none-some n (sym told))
 
-module _ (ys : List Place) (place : Place) (client : Client) (is : Some client ≡ place.handle.value) where
+module _ (ys : List HandleSlot) (place : HandleSlot) (client : OwnedPass) (is : Some client ≡ place.handle.value) where
   -- one handle more, whose pass is listed
   pub listed : (passes : List PassView) → map pass_in (held_in ys) ≡ map Some passes → map pass_in (held_in (ys ++ place ∷ [])) ≡ map Some (passes ++ client.pass ∷ [])
   listed passes are =
       ap (map pass_in) (map-append value_of ys (place ∷ [])) ∙ map-append pass_in (held_in ys) (place.handle.value ∷ [])
-      ∙ ap₂ (λ (l r : List (Option PassView)). l ++ r) are (ap (λ (v : Option Client). pass_in v ∷ []) (sym is)) ∙ sym (map-append Some passes (client.pass ∷ []))
+      ∙ ap₂ (λ (l r : List (Option PassView)). l ++ r) are (ap (λ (v : Option OwnedPass). pass_in v ∷ []) (sym is)) ∙ sym (map-append Some passes (client.pass ∷ []))
 
   -- all of these and that one are of a forest
   pub of_both : (f : Ground) → All (IsIn f) (held_in (ys ++ place ∷ [])) → All (IsIn f) (held_in ys) × (arc_value client.forest ≡ f)
@@ -70,12 +70,12 @@ module _ (ys : List Place) (place : Place) (client : Client) (is : Some client �
       (both.0, subst (IsIn f) (sym is) both.1)
 
 -- a pass of a forest is there
-pub held_is_in : (f : Ground) (v : Option Client) → IsHeldOf f v → IsIn f v
+pub held_is_in : (f : Ground) (v : Option OwnedPass) → IsHeldOf f v → IsIn f v
 held_is_in f (Some c) held = held
 held_is_in f None held = absurd held
 
 -- the pass that a handle of a forest holds is of that forest
-one_is_of : (f : Ground) (v : Option Client) (p : PassView) → pass_in v ≡ Some p → IsIn f v → IsOf f p
+one_is_of : (f : Ground) (v : Option OwnedPass) (p : PassView) → pass_in v ≡ Some p → IsIn f v → IsOf f p
 one_is_of f (Some c) p is in_f = subst (IsOf f) (value_is is) (subst (λ (g : Ground). IsOf g c.pass) in_f c.of)
   where
     value_is : Some c.pass ≡ Some p → c.pass ≡ p
@@ -83,7 +83,7 @@ one_is_of f (Some c) p is in_f = subst (IsOf f) (value_is is) (subst (λ (g : Gr
 one_is_of f None p is in_f = absurd (none-some p is)
 
 -- and so are those of all handles
-pub all_are_of : (f : Ground) (held : List (Option Client)) (passes : List PassView) → map pass_in held ≡ map Some passes → All (IsIn f) held → All (IsOf f) passes
+pub all_are_of : (f : Ground) (held : List (Option OwnedPass)) (passes : List PassView) → map pass_in held ≡ map Some passes → All (IsIn f) held → All (IsOf f) passes
 all_are_of f held passes are in_f k d inside =
     let within : k < length held = subst (λ (n : ℕ). k < n) (sym (length-map passes Some) ∙ ap length (sym are) ∙ length-map held pass_in) inside in
     one_is_of f (get_or held k None) (get_or passes k d)

@@ -16,14 +16,14 @@ use Rattle.forest.specs.declared.fault.UpdateFault.TheVariants as updates
 use Rattle.forest.specs.Dictionary.{HasCalled, read_reply, update_reply}
 use Rattle.capi.specs.Left.{AreLeft}
 use Rattle.capi.specs.Made.{AreMade}
-use Rattle.capi.specs.declared.answer.Answer.{Answer}
+use Rattle.capi.specs.declared.answer.ValueAnswer.{ValueAnswer}
 use Rattle.capi.specs.declared.answer.Count.{Count}
 use Rattle.capi.specs.declared.answer.Left.{Left}
-use Rattle.capi.specs.declared.answer.Pair.{Pair}
+use Rattle.capi.specs.declared.answer.KeyValue.{KeyValue}
 use Rattle.capi.specs.declared.answer.PassLimits.{PassLimits}
 use Rattle.capi.specs.declared.answer.Value.{Value}
-use Rattle.capi.specs.declared.client.Client.{Client}
-use Rattle.capi.specs.declared.handle.Place.{Place}
+use Rattle.capi.specs.declared.client.OwnedPass.{OwnedPass}
+use Rattle.capi.specs.declared.handle.HandleSlot.{HandleSlot}
 
 -- Statuses are numbers here, as C has them: 0 none, 1 some, 2 contended, 3 full, 4 no memory,
 -- 5 limits, 6 no pass, 7 shared.
@@ -33,7 +33,7 @@ abbrev pub number : Value → ℕ
 number v = wide_value v.low v.high
 
 -- an answer with no value
-abbrev pub bare : ℕ → Answer
+abbrev pub bare : ℕ → ValueAnswer
 bare status = record { value = record { low = 0; high = 0 }; status = status }
 
 -- an answer with no number of pairs
@@ -45,7 +45,7 @@ abbrev pub counted : ℕ → Count
 counted n = record { pairs = n; status = 1 }
 
 -- what `get` answers
-abbrev pub IsValueAnswer : Option ℕ → Answer → Type 0
+abbrev pub IsValueAnswer : Option ℕ → ValueAnswer → Type 0
 IsValueAnswer None a = a ≡ bare 0
 IsValueAnswer (Some v) a = (number a.value ≡ v) × (a.status ≡ 1)
 
@@ -60,82 +60,82 @@ order_status (reads.Contended node scx) = 2
 order_status reads.NoMemory = 4
 
 -- what an edit of a key answers
-abbrev pub IsUpdateAnswer : Result (Option ℕ) UpdateFault → Answer → Type 0
+abbrev pub IsUpdateAnswer : Result (Option ℕ) UpdateFault → ValueAnswer → Type 0
 IsUpdateAnswer (Ok old) a = IsValueAnswer old a
 IsUpdateAnswer (Err fault) a = a ≡ bare (update_status fault)
 
 -- the pair that C has
-abbrev pub pair_of : Pair → ℕ × ℕ
+abbrev pub pair_of : KeyValue → ℕ × ℕ
 pair_of p = (p.key, number p.value)
 
 -- what a call that tells a pair leaves in its room, and answers
-abbrev pub IsPairAnswer : Option (ℕ × ℕ) → Pair → ℕ → Type 0
+abbrev pub IsPairAnswer : Option (ℕ × ℕ) → KeyValue → ℕ → Type 0
 IsPairAnswer (Some p) room status = (pair_of room ≡ p) × (status ≡ 1)
 IsPairAnswer None room status = status ≡ 0
 
 -- the same where such a call may be refused
-abbrev pub IsFoundAnswer : {F : Type 0} → (F → ℕ) → Result (Option (ℕ × ℕ)) F → Pair → ℕ → Type 0
+abbrev pub IsFoundAnswer : {F : Type 0} → (F → ℕ) → Result (Option (ℕ × ℕ)) F → KeyValue → ℕ → Type 0
 IsFoundAnswer refusal (Ok found) room status = IsPairAnswer found room status
 IsFoundAnswer refusal (Err fault) room status = status ≡ refusal fault
 
 -- these pairs stand in the first places of the room
-abbrev pub StandIn : List (ℕ × ℕ) → List Pair → Type 0
+abbrev pub StandIn : List (ℕ × ℕ) → List KeyValue → Type 0
 StandIn pairs room = (j : ℕ) (p : ℕ × ℕ) → slice_get pairs j ≡ Some p → option_map pair_of (slice_get room j) ≡ Some p
 
 -- what `range` leaves in its room, and answers
-abbrev pub IsCountOfRange : Result (Vec (ℕ × ℕ)) OrderFault → List Pair → Count → Type 0
+abbrev pub IsCountOfRange : Result (Vec (ℕ × ℕ)) OrderFault → List KeyValue → Count → Type 0
 IsCountOfRange (Ok found) room a = StandIn found.items room × (a ≡ counted (vec_len found))
 IsCountOfRange (Err fault) room a = a ≡ no_count (order_status fault)
 
 -- What a call says of the pass that has made it
 
 -- the pass has made this call, of numbers, and has this reply
-abbrev pub HasClientCalled : Client → Client → MapCall → Reply ℕ ℕ → Type 0
+abbrev pub HasClientCalled : OwnedPass → OwnedPass → MapCall → Reply ℕ ℕ → Type 0
 HasClientCalled old new = HasCalled (λ k. k < 2 ^ 64) (λ k. k) (λ v. v < 2 ^ 128) (λ v. v) (arc_value old.forest) old.pass new.pass
 
 -- what a handle held before and after a call, and what the call answered: with no pass nothing is
 -- done, and it answers this; else the pass, which stays in its forest, has made this call
-abbrev pub CallSays : {A : Type 0} → A → (Client → Client → A → Type 0) → Option Client → Option Client → A → Type 0
+abbrev pub CallSays : {A : Type 0} → A → (OwnedPass → OwnedPass → A → Type 0) → Option OwnedPass → Option OwnedPass → A → Type 0
 CallSays no_pass made None after a = (after ≡ None) × (a ≡ no_pass)
 CallSays no_pass made (Some old) None a = ⊥
 CallSays no_pass made (Some old) (Some new) a = (new.forest ≡ old.forest) × made old new a
 
 -- what `get` says
-abbrev pub GetSays : ℕ → Client → Client → Answer → Type 0
+abbrev pub GetSays : ℕ → OwnedPass → OwnedPass → ValueAnswer → Type 0
 GetSays key old new a = (told : Option ℕ) × IsValueAnswer told a × HasClientCalled old new (Get key) (replies.Value told)
 
 -- what an edit of a key says
-abbrev pub EditSays : MapCall → Client → Client → Answer → Type 0
+abbrev pub EditSays : MapCall → OwnedPass → OwnedPass → ValueAnswer → Type 0
 EditSays call old new a = (told : Result (Option ℕ) UpdateFault) × IsUpdateAnswer told a × HasClientCalled old new call (update_reply replies.Value told)
 
 -- what a pop says, which leaves the pair that it has taken in this room
-abbrev pub TakenSays : MapCall → Pair → Client → Client → ℕ → Type 0
+abbrev pub TakenSays : MapCall → KeyValue → OwnedPass → OwnedPass → ℕ → Type 0
 TakenSays call room old new status = (told : Result (Option (ℕ × ℕ)) UpdateFault) × IsFoundAnswer update_status told room status × HasClientCalled old new call (update_reply replies.Pair told)
 
 -- what `successor` says
-abbrev pub NextSays : ℕ → Pair → Client → Client → ℕ → Type 0
+abbrev pub NextSays : ℕ → KeyValue → OwnedPass → OwnedPass → ℕ → Type 0
 NextSays key room old new status = (told : Result (Option (ℕ × ℕ)) OrderFault) × IsFoundAnswer order_status told room status × HasClientCalled old new (Successor key) (read_reply replies.Pair told)
 
 -- what `range` says, which may tell so many pairs, and leaves them in this room
-abbrev pub BetweenSays : ℕ → ℕ → ℕ → List Pair → Client → Client → Count → Type 0
+abbrev pub BetweenSays : ℕ → ℕ → ℕ → List KeyValue → OwnedPass → OwnedPass → Count → Type 0
 BetweenSays low high most room old new a = (told : Result (Vec (ℕ × ℕ)) OrderFault) × IsCountOfRange told room a × HasClientCalled old new (Range low high most) (read_reply replies.Pairs told)
 
 -- what `left` tells
-abbrev pub LeftSays : Option Client → Left → Type 0
+abbrev pub LeftSays : Option OwnedPass → Left → Type 0
 LeftSays None a = a ≡ record { nodes = 0; scx = 0 }
 LeftSays (Some c) a = a ≡ record { nodes = c.pass.share.nodes; scx = c.pass.share.scx }
 
 -- What `close` and `make` say
 
 -- the pairs that are left stand in the room, as far as they go in
-pub record HasClosed (c : Client) (room : List Pair) (a : Count) : Type 0 where
+pub record HasClosed (c : OwnedPass) (room : List KeyValue) (a : Count) : Type 0 where
   pub pairs : List (ℕ × ℕ)
   pub left : AreLeft c.pass pairs
   pub count : a ≡ counted (length pairs)
   pub put : StandIn (take (length room) pairs) room
 
 -- what `close` answers, and leaves in the handle and in its room
-abbrev pub CloseSays : Option Client → Option Client → List Pair → Count → Type 0
+abbrev pub CloseSays : Option OwnedPass → Option OwnedPass → List KeyValue → Count → Type 0
 CloseSays None after room a = (after ≡ None) × (a ≡ no_count 6)
 CloseSays (Some c) (Some d) room a = (d ≡ c) × (a ≡ no_count 7)
 CloseSays (Some c) None room a = (a ≡ no_count 4) ⊎ HasClosed c room a
@@ -146,10 +146,10 @@ limits_of each passes = record { passes = passes; nodes = each.nodes; scx = each
 
 -- there is no new dictionary, since the limits are out of range or an allocation was refused: the
 -- handles are as they were
-pub record IsNotMade (each : PassLimits) (before after : List Place) (status : ℕ) : Type 0 where
+pub record IsNotMade (each : PassLimits) (before after : List HandleSlot) (status : ℕ) : Type 0 where
   pub same : after ≡ before
   pub why : ((status ≡ 5) × (¬ IsAccepted (limits_of each (length before)))) ⊎ (status ≡ 4)
 
 -- what `make` answers, and what handles hold: those of a new dictionary, or what they held
-abbrev pub MakeSays : PassLimits → List Place → List Place → ℕ → Type 0
+abbrev pub MakeSays : PassLimits → List HandleSlot → List HandleSlot → ℕ → Type 0
 MakeSays each before after status = ((status ≡ 0) × AreMade (limits_of each (length before)) after) ⊎ IsNotMade each before after status

@@ -13,7 +13,7 @@ use Rattle.ordered_map.specs.Spelled.{Spells}
 use Rattle.forest.specs.Passes.{PassView, AreAllBack, IsClosed, done_of, run_of}
 use Rattle.forest.specs.Shares.{entries_of}
 use Rattle.forest.specs.TableRule.{history_of}
-use Rattle.capi.specs.declared.client.Client.{Client}
+use Rattle.capi.specs.declared.client.OwnedPass.{OwnedPass}
 use Rattle.capi.specs.declared.client.Closing.{Closing}
 use Rattle.capi.specs.declared.client.Closing.TheVariants.{Pairs, NoMemory, Shared}
 
@@ -37,7 +37,7 @@ pub record AreLeftByAll (lay : Layout) (passes : List PassView) (pairs : List (�
   pub spelled : Spells lay (value (history_of lay.mode closed.rows)) (map (word_pair (λ k. k) (λ v. v)) pairs)
 
 -- how a client may close: the pairs are left; or it is as it was
-abbrev pub IsClosing : Client → Closing → Type 0
+abbrev pub IsClosing : OwnedPass → Closing → Type 0
 IsClosing c (Pairs pairs) = AreLeft c.pass pairs.items
 IsClosing c NoMemory = Unit {0}
 IsClosing c (Shared d) = d ≡ c

@@ -7,21 +7,21 @@ use Rattle.arena.specs.Limits.{IsAccepted, IsLayoutOf}
 use Rattle.arena.specs.declared.limits.Limits.{Limits}
 use Rattle.arena.specs.declared.limits.Mode.TheVariants.{Tree}
 use Rattle.forest.specs.Passes.{Ground, PassView, AreNew}
-use Rattle.capi.specs.declared.client.Client.{Client}
-use Rattle.capi.specs.declared.handle.Place.{Place}
+use Rattle.capi.specs.declared.client.OwnedPass.{OwnedPass}
+use Rattle.capi.specs.declared.handle.HandleSlot.{HandleSlot}
 
 -- there is a pass, and its forest is this one
-abbrev pub IsHeldOf : Ground → Option Client → Type 0
+abbrev pub IsHeldOf : Ground → Option OwnedPass → Type 0
 IsHeldOf f None = ⊥
 IsHeldOf f (Some c) = arc_value c.forest ≡ f
 
 -- the pass that a handle holds, if there is one
-abbrev pub pass_at : Place → Option PassView
-pass_at place = option_map (λ (c : Client). c.pass) place.handle.value
+abbrev pub pass_at : HandleSlot → Option PassView
+pass_at place = option_map (λ (c : OwnedPass). c.pass) place.handle.value
 
 -- The limits are accepted, and there is one forest of them. The handles hold all its passes, in
 -- order, before their first steps.
-pub record AreMade (limits : Limits) (places : List Place) : Type 0 where
+pub record AreMade (limits : Limits) (places : List HandleSlot) : Type 0 where
   pub accepted : IsAccepted limits
   pub forest : Ground
   pub layout : IsLayoutOf limits Tree forest.layout

@@ -40,7 +40,7 @@ pub struct Value {
 /// A key and its value.
 #[repr(C)]
 #[derive(Clone, Copy)]
-pub struct Pair {
+pub struct KeyValue {
     pub key: u64,
     pub value: Value,
 }
@@ -48,7 +48,7 @@ pub struct Pair {
 /// A status, and the value that goes with it.
 #[repr(C)]
 #[derive(Clone, Copy)]
-pub struct Answer {
+pub struct ValueAnswer {
     pub value: Value,
     pub status: u32,
 }
@@ -116,12 +116,12 @@ pub(crate) fn status_of_read(fault: OrderFault) -> u32
 }
 
 /// What a call answers that tells a pair, and leaves at `room`.
-pub(crate) fn tell_pair(found: Option<(u64, u128)>, room: &mut Pair) -> u32
+pub(crate) fn tell_pair(found: Option<(u64, u128)>, room: &mut KeyValue) -> u32
     ensures { IsPairAnswer found room.new result }
 {
     match found {
         Some((key, value)) => {
-            *room = Pair {
+            *room = KeyValue {
                 key,
                 value: Value::of(value),
             };
@@ -131,37 +131,37 @@ pub(crate) fn tell_pair(found: Option<(u64, u128)>, room: &mut Pair) -> u32
     }
 }
 
-impl Answer {
+impl ValueAnswer {
     /// An answer with no value.
-    pub(crate) fn bare(status: u32) -> Answer
+    pub(crate) fn bare(status: u32) -> ValueAnswer
         ensures { result ≡ bare status }
     {
-        Answer {
+        ValueAnswer {
             value: Value { low: 0, high: 0 },
             status,
         }
     }
 
     /// What `get` answers.
-    pub(crate) fn of_value(value: Option<u128>) -> Answer
+    pub(crate) fn of_value(value: Option<u128>) -> ValueAnswer
         ensures { IsValueAnswer value result }
     {
         match value {
-            Some(value) => Answer {
+            Some(value) => ValueAnswer {
                 value: Value::of(value),
                 status: SOME,
             },
-            None => Answer::bare(NONE),
+            None => ValueAnswer::bare(NONE),
         }
     }
 
     /// What an edit of a key answers.
-    pub(crate) fn of_update(told: Result<Option<u128>, UpdateFault>) -> Answer
+    pub(crate) fn of_update(told: Result<Option<u128>, UpdateFault>) -> ValueAnswer
         ensures { IsUpdateAnswer told result }
     {
         match told {
-            Ok(old) => Answer::of_value(old),
-            Err(fault) => Answer::bare(status_of_edit(fault)),
+            Ok(old) => ValueAnswer::of_value(old),
+            Err(fault) => ValueAnswer::bare(status_of_edit(fault)),
         }
     }
 }
@@ -175,7 +175,10 @@ impl Count {
     }
 
     /// What `range` answers, and leaves in `room`.
-    pub(crate) fn of_range(told: Result<Vec<(u64, u128)>, OrderFault>, room: &mut [Pair]) -> Count
+    pub(crate) fn of_range(
+        told: Result<Vec<(u64, u128)>, OrderFault>,
+        room: &mut [KeyValue],
+    ) -> Count
         requires { IfOk told (λ pairs. vec_len pairs ≤ length room.old) }
         ensures len { length room.new ≡ length room.old }
         ensures says { IsCountOfRange told room.new result }
@@ -193,7 +196,7 @@ impl Count {
     }
 
     /// What `close` answers, and leaves in `room`.
-    pub(crate) fn of_pairs(mut pairs: Vec<(u64, u128)>, room: &mut [Pair]) -> Count
+    pub(crate) fn of_pairs(mut pairs: Vec<(u64, u128)>, room: &mut [KeyValue]) -> Count
         ensures count { result ≡ counted (vec_len pairs) }
         ensures put { StandIn (take (length room.new) pairs.items) room.new }
     {
@@ -208,7 +211,7 @@ impl Count {
 }
 
 /// Writes pairs to the first places.
-fn put(pairs: &Vec<(u64, u128)>, room: &mut [Pair])
+fn put(pairs: &Vec<(u64, u128)>, room: &mut [KeyValue])
     requires { vec_len pairs.now ≤ length room.old }
     ensures len { length room.new ≡ length room.old }
     ensures put { StandIn pairs.now.items room.new }
@@ -217,7 +220,7 @@ fn put(pairs: &Vec<(u64, u128)>, room: &mut [Pair])
     while i < pairs.len() {
         let (key, value) = pairs[i];
         let value = Value::of(value);
-        room[i] = Pair { key, value };
+        room[i] = KeyValue { key, value };
         i += 1;
     }
 }

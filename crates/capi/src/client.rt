@@ -6,7 +6,7 @@ ghost use Rattle.ordered_map.specs.declared.reply.Reply.TheVariants as replies;
 ghost use Rattle.forest.specs.Passes.{IsOf};
 ghost use Rattle.forest.specs.Dictionary.{read_reply, update_reply};
 
-use crate::answer::{Count, Pair};
+use crate::answer::{Count, KeyValue};
 use regnubas::{Dict, Forest, NoMemory, OrderFault, Pass, UpdateFault};
 use std::alloc::Global;
 use std::sync::Arc;
@@ -16,7 +16,7 @@ pub type Numbers = Dict<u64, u128>;
 
 /// A pass, and one owner of its forest.
 #[derive(Drop)]
-pub struct Client {
+pub struct OwnedPass {
     pub(crate) forest: Arc<Forest<Numbers>>,
     pub(crate) pass: Pass<Numbers>,
     /// How many passes the forest has.
@@ -25,7 +25,7 @@ pub struct Client {
     ghost counted: { all ≡ (arc_value forest).layout.passes },
 }
 
-impl Client {
+impl OwnedPass {
     ghost use Rattle.capi.specs.Answers.{HasClientCalled, BetweenSays};
 
     /// The value of a key.
@@ -133,7 +133,7 @@ impl Client {
     }
 
     /// The first pairs from `low` to `high`, as many as there is room for, 64 at the most.
-    pub fn fill(&mut self, alloc: Global, low: u64, high: u64, room: &mut [Pair]) -> Count
+    pub fn fill(&mut self, alloc: Global, low: u64, high: u64, room: &mut [KeyValue]) -> Count
         ensures same { self.new.forest ≡ self.old.forest }
         ensures says { BetweenSays low high (min 64 (length room.old)) room.new self.old self.new result }
     {
@@ -156,23 +156,23 @@ pub enum Closing {
     /// It was the last, and an allocation was refused: the dictionary is gone.
     NoMemory,
     /// Other clients share the forest.
-    Shared(Client),
+    Shared(OwnedPass),
 }
 
-impl Client {
+impl OwnedPass {
     ghost use Rattle.capi.specs.Left.{IsClosing};
 
     /// Ends the forest, if this is its last client.
     pub fn close(self, alloc: Global) -> Closing
         ensures { IsClosing self result }
     {
-        let Client { forest, pass, all } = self;
+        let OwnedPass { forest, pass, all } = self;
         match Arc::try_unwrap(forest) {
             Ok(forest) => match forest.end(pass).pairs(alloc) {
                 Ok(pairs) => Closing::Pairs(pairs),
                 Err(NoMemory) => Closing::NoMemory,
             },
-            Err(forest) => Closing::Shared(Client { forest, pass, all }),
+            Err(forest) => Closing::Shared(OwnedPass { forest, pass, all }),
         }
     }
 

@@ -7,14 +7,14 @@ ghost use Rattle.capi.specs.Left.{AreLeftByAll};
 ghost use Rattle.capi.specs.Made.{IsHeldOf};
 ghost use Rattle.capi.specs.Ends.{AreHeld, AreOfOne, HaveEndedWith, IsEmpty, IsIn, held_in, pass_in};
 
-use crate::client::{Client, Numbers};
-use crate::handle::{Handle, Place};
+use crate::client::{Numbers, OwnedPass};
+use crate::handle::{Handle, HandleSlot};
 use regnubas::{Forest, NoMemory, Pass};
 use std::alloc::Global;
 use std::sync::Arc;
 
 /// How many passes the dictionary has of these handles, if each of them holds one.
-pub(crate) fn all_of(alloc: Global, passes: &mut [Place]) -> Option<u32>
+pub(crate) fn all_of(alloc: Global, passes: &mut [HandleSlot]) -> Option<u32>
     ensures same { held_in passes.new ≡ held_in passes.old }
     ensures none { IfNone result (¬ AreHeld (held_in passes.old)) }
     ensures held { IfSome result (λ n. AreHeld (held_in passes.old)) }
@@ -33,7 +33,7 @@ pub(crate) fn all_of(alloc: Global, passes: &mut [Place]) -> Option<u32>
 
 /// Ends the dictionary whose passes these handles hold, and answers its pairs. It is gone where they
 /// are not all there, or an allocation was refused.
-pub(crate) fn end(alloc: Global, passes: &mut [Place]) -> Option<Vec<(u64, u128)>>
+pub(crate) fn end(alloc: Global, passes: &mut [HandleSlot]) -> Option<Vec<(u64, u128)>>
     requires { AreOfOne (held_in passes.old) }
     ensures empty { All IsEmpty (held_in passes.new) }
     ensures left { IfSome result (λ pairs. HaveEndedWith (held_in passes.old) pairs.items) }
@@ -44,7 +44,7 @@ pub(crate) fn end(alloc: Global, passes: &mut [Place]) -> Option<Vec<(u64, u128)
 }
 
 /// Takes all handles out, and leaves empty ones.
-fn take_out(alloc: Global, passes: &mut [Place]) -> Option<Vec<Place>>
+fn take_out(alloc: Global, passes: &mut [HandleSlot]) -> Option<Vec<HandleSlot>>
     ensures empty { All IsEmpty (held_in passes.new) }
     ensures took { IfSome result (λ places. places.items ≡ passes.old) }
 {
@@ -61,19 +61,19 @@ fn take_out(alloc: Global, passes: &mut [Place]) -> Option<Vec<Place>>
 }
 
 /// So many handles that hold nothing.
-fn none_held(alloc: Global, count: usize) -> Result<Vec<Place>, NoMemory>
+fn none_held(alloc: Global, count: usize) -> Result<Vec<HandleSlot>, NoMemory>
     ensures len { IfOk result (λ places. vec_len places ≡ count) }
     ensures empty { IfOk result (λ places. All IsEmpty (held_in places.items)) }
 {
     let mut places = Vec::new(alloc);
     for _number in 0..count {
-        places.push(Place::of(Handle::empty(alloc)))?;
+        places.push(HandleSlot::of(Handle::empty(alloc)))?;
     }
     Ok(places)
 }
 
 /// All passes leave.
-fn leave_all(alloc: Global, passes: &mut [Place])
+fn leave_all(alloc: Global, passes: &mut [HandleSlot])
     ensures { All IsEmpty (held_in passes.new) }
 {
     for place in passes.iter_mut() {
@@ -82,7 +82,7 @@ fn leave_all(alloc: Global, passes: &mut [Place])
 }
 
 /// The passes that these handles hold, and their forest, which nobody else shares.
-fn gather(alloc: Global, places: Vec<Place>) -> Option<(Forest<Numbers>, Vec<Pass<Numbers>>)>
+fn gather(alloc: Global, places: Vec<HandleSlot>) -> Option<(Forest<Numbers>, Vec<Pass<Numbers>>)>
     requires { AreOfOne (held_in places.items) }
     ensures of { IfSome result (λ r. All (IsOf r.0) r.1.items) }
     ensures are { IfSome result (λ r. map pass_in (held_in places.items) ≡ map Some r.1.items) }
@@ -97,7 +97,7 @@ fn gather(alloc: Global, places: Vec<Place>) -> Option<(Forest<Numbers>, Vec<Pas
 /// The passes that these handles hold, and the last one's owner of the forest.
 fn take_apart(
     alloc: Global,
-    places: Vec<Place>,
+    places: Vec<HandleSlot>,
 ) -> Option<(Option<Arc<Forest<Numbers>>>, Vec<Pass<Numbers>>)>
     ensures are { IfSome result (λ r. map pass_in (held_in places.items) ≡ map Some r.1.items) }
     ensures owner { IfSome result (λ r. (f : Ground) → All (IsIn f) (held_in places.items) → IfSome r.0 (λ a. arc_value a ≡ f)) }
@@ -105,11 +105,11 @@ fn take_apart(
     let mut passes = Vec::new(alloc);
     let mut owner = None;
     for place in places {
-        let Place { handle, unused: _ } = place;
+        let HandleSlot { handle, unused: _ } = place;
         let Some(client) = handle.into_box() else {
             return None;
         };
-        let Client {
+        let OwnedPass {
             forest,
             pass,
             all: _,

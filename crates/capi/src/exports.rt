@@ -16,19 +16,19 @@ ghost use Rattle.capi.specs.Ends.{AreOfOne, EndSays, held_in};
 ghost use Rattle.capi.specs.Answers.{number, bare, no_count, CallSays, GetSays, EditSays, TakenSays, NextSays, BetweenSays, LeftSays, CloseSays, MakeSays};
 
 use crate::answer::{
-    Answer, Count, LIMITS, Left, NO_MEMORY, NO_PASS, NONE, Pair, PassLimits, SHARED, Value,
-    status_of_edit, status_of_read, tell_pair,
+    Count, KeyValue, LIMITS, Left, NO_MEMORY, NO_PASS, NONE, PassLimits, SHARED, Value,
+    ValueAnswer, status_of_edit, status_of_read, tell_pair,
 };
 use crate::client::Closing;
 use crate::end::{all_of, end};
-use crate::handle::Place;
+use crate::handle::HandleSlot;
 use crate::open::open;
 use regnubas::{Limits, NewFault};
 use std::alloc::Global;
 
 /// Makes a dictionary with as many passes as there are handles, one for each.
 #[unsafe(no_mangle)]
-pub extern "C" fn regnubas_make(alloc: Global, each: PassLimits, passes: &mut [Place]) -> u32
+pub extern "C" fn regnubas_make(alloc: Global, each: PassLimits, passes: &mut [HandleSlot]) -> u32
     ensures { MakeSays each passes.old passes.new result }
 {
     if passes.len() > 32 {
@@ -52,26 +52,31 @@ pub extern "C" fn regnubas_make(alloc: Global, each: PassLimits, passes: &mut [P
 
 /// The value of a key.
 #[unsafe(no_mangle)]
-pub extern "C" fn regnubas_get(alloc: Global, pass: &mut Place, key: u64) -> Answer
+pub extern "C" fn regnubas_get(alloc: Global, pass: &mut HandleSlot, key: u64) -> ValueAnswer
     ensures { CallSays (bare 6) (GetSays key) pass.old.handle.value pass.new.handle.value result }
 {
     let Some(mut client) = pass.handle.take(alloc) else {
-        return Answer::bare(NO_PASS);
+        return ValueAnswer::bare(NO_PASS);
     };
-    let answer = Answer::of_value(client.get(key));
+    let answer = ValueAnswer::of_value(client.get(key));
     pass.handle.put(client);
     answer
 }
 
 /// Sets a key to a value, and tells the value that it had.
 #[unsafe(no_mangle)]
-pub extern "C" fn regnubas_insert(alloc: Global, pass: &mut Place, key: u64, value: Value) -> Answer
+pub extern "C" fn regnubas_insert(
+    alloc: Global,
+    pass: &mut HandleSlot,
+    key: u64,
+    value: Value,
+) -> ValueAnswer
     ensures { CallSays (bare 6) (EditSays (call_insert key (number value))) pass.old.handle.value pass.new.handle.value result }
 {
     let Some(mut client) = pass.handle.take(alloc) else {
-        return Answer::bare(NO_PASS);
+        return ValueAnswer::bare(NO_PASS);
     };
-    let answer = Answer::of_update(client.insert(key, value.number()));
+    let answer = ValueAnswer::of_update(client.insert(key, value.number()));
     pass.handle.put(client);
     answer
 }
@@ -80,29 +85,29 @@ pub extern "C" fn regnubas_insert(alloc: Global, pass: &mut Place, key: u64, val
 #[unsafe(no_mangle)]
 pub extern "C" fn regnubas_insert_new(
     alloc: Global,
-    pass: &mut Place,
+    pass: &mut HandleSlot,
     key: u64,
     value: Value,
-) -> Answer
+) -> ValueAnswer
     ensures { CallSays (bare 6) (EditSays (call_insert_new key (number value))) pass.old.handle.value pass.new.handle.value result }
 {
     let Some(mut client) = pass.handle.take(alloc) else {
-        return Answer::bare(NO_PASS);
+        return ValueAnswer::bare(NO_PASS);
     };
-    let answer = Answer::of_update(client.insert_new(key, value.number()));
+    let answer = ValueAnswer::of_update(client.insert_new(key, value.number()));
     pass.handle.put(client);
     answer
 }
 
 /// Takes a key away, and tells the value that it had.
 #[unsafe(no_mangle)]
-pub extern "C" fn regnubas_delete(alloc: Global, pass: &mut Place, key: u64) -> Answer
+pub extern "C" fn regnubas_delete(alloc: Global, pass: &mut HandleSlot, key: u64) -> ValueAnswer
     ensures { CallSays (bare 6) (EditSays (call_delete key)) pass.old.handle.value pass.new.handle.value result }
 {
     let Some(mut client) = pass.handle.take(alloc) else {
-        return Answer::bare(NO_PASS);
+        return ValueAnswer::bare(NO_PASS);
     };
-    let answer = Answer::of_update(client.delete(key));
+    let answer = ValueAnswer::of_update(client.delete(key));
     pass.handle.put(client);
     answer
 }
@@ -111,23 +116,27 @@ pub extern "C" fn regnubas_delete(alloc: Global, pass: &mut Place, key: u64) -> 
 #[unsafe(no_mangle)]
 pub extern "C" fn regnubas_delete_if(
     alloc: Global,
-    pass: &mut Place,
+    pass: &mut HandleSlot,
     key: u64,
     expected: Value,
-) -> Answer
+) -> ValueAnswer
     ensures { CallSays (bare 6) (EditSays (call_delete_if key (number expected))) pass.old.handle.value pass.new.handle.value result }
 {
     let Some(mut client) = pass.handle.take(alloc) else {
-        return Answer::bare(NO_PASS);
+        return ValueAnswer::bare(NO_PASS);
     };
-    let answer = Answer::of_update(client.delete_if(key, expected.number()));
+    let answer = ValueAnswer::of_update(client.delete_if(key, expected.number()));
     pass.handle.put(client);
     answer
 }
 
 /// Takes the pair with the least key away, and leaves it at `pair`.
 #[unsafe(no_mangle)]
-pub extern "C" fn regnubas_pop_first(alloc: Global, pass: &mut Place, pair: &mut Pair) -> u32
+pub extern "C" fn regnubas_pop_first(
+    alloc: Global,
+    pass: &mut HandleSlot,
+    pair: &mut KeyValue,
+) -> u32
     ensures { CallSays 6 (TakenSays call_pop_first pair.new) pass.old.handle.value pass.new.handle.value result }
 {
     let Some(mut client) = pass.handle.take(alloc) else {
@@ -143,7 +152,11 @@ pub extern "C" fn regnubas_pop_first(alloc: Global, pass: &mut Place, pair: &mut
 
 /// Takes the pair with the greatest key away, and leaves it at `pair`.
 #[unsafe(no_mangle)]
-pub extern "C" fn regnubas_pop_last(alloc: Global, pass: &mut Place, pair: &mut Pair) -> u32
+pub extern "C" fn regnubas_pop_last(
+    alloc: Global,
+    pass: &mut HandleSlot,
+    pair: &mut KeyValue,
+) -> u32
     ensures { CallSays 6 (TakenSays call_pop_last pair.new) pass.old.handle.value pass.new.handle.value result }
 {
     let Some(mut client) = pass.handle.take(alloc) else {
@@ -161,18 +174,18 @@ pub extern "C" fn regnubas_pop_last(alloc: Global, pass: &mut Place, pair: &mut 
 #[unsafe(no_mangle)]
 pub extern "C" fn regnubas_replace_if(
     alloc: Global,
-    pass: &mut Place,
+    pass: &mut HandleSlot,
     key: u64,
     expected: Value,
     value: Value,
-) -> Answer
+) -> ValueAnswer
     ensures { CallSays (bare 6) (EditSays (call_replace_if key (number expected) (number value))) pass.old.handle.value pass.new.handle.value result }
 {
     let Some(mut client) = pass.handle.take(alloc) else {
-        return Answer::bare(NO_PASS);
+        return ValueAnswer::bare(NO_PASS);
     };
     let told = client.replace_if(key, expected.number(), value.number());
-    let answer = Answer::of_update(told);
+    let answer = ValueAnswer::of_update(told);
     pass.handle.put(client);
     answer
 }
@@ -181,9 +194,9 @@ pub extern "C" fn regnubas_replace_if(
 #[unsafe(no_mangle)]
 pub extern "C" fn regnubas_successor(
     alloc: Global,
-    pass: &mut Place,
+    pass: &mut HandleSlot,
     key: u64,
-    pair: &mut Pair,
+    pair: &mut KeyValue,
 ) -> u32
     ensures { CallSays 6 (NextSays key pair.new) pass.old.handle.value pass.new.handle.value result }
 {
@@ -202,10 +215,10 @@ pub extern "C" fn regnubas_successor(
 #[unsafe(no_mangle)]
 pub extern "C" fn regnubas_range(
     alloc: Global,
-    pass: &mut Place,
+    pass: &mut HandleSlot,
     low: u64,
     high: u64,
-    room: &mut [Pair],
+    room: &mut [KeyValue],
 ) -> Count
     ensures { CallSays (no_count 6) (BetweenSays low high (min 64 (length room.old)) room.new) pass.old.handle.value pass.new.handle.value result }
 {
@@ -219,7 +232,7 @@ pub extern "C" fn regnubas_range(
 
 /// What is left of the pass's share; nothing where there is no pass.
 #[unsafe(no_mangle)]
-pub extern "C" fn regnubas_left(alloc: Global, pass: &mut Place) -> Left
+pub extern "C" fn regnubas_left(alloc: Global, pass: &mut HandleSlot) -> Left
     ensures same { pass.new.handle.value ≡ pass.old.handle.value }
     ensures left { LeftSays pass.old.handle.value result }
 {
@@ -233,7 +246,7 @@ pub extern "C" fn regnubas_left(alloc: Global, pass: &mut Place) -> Left
 
 /// Gives the pass up. The last to leave frees the dictionary.
 #[unsafe(no_mangle)]
-pub extern "C" fn regnubas_leave(alloc: Global, pass: &mut Place)
+pub extern "C" fn regnubas_leave(alloc: Global, pass: &mut HandleSlot)
     ensures { pass.new.handle.value ≡ None }
 {
     drop(pass.handle.take(alloc));
@@ -242,7 +255,11 @@ pub extern "C" fn regnubas_leave(alloc: Global, pass: &mut Place)
 /// Ends the dictionary by its last pass, and leaves its first pairs in `room`. It answers how many
 /// there are in all.
 #[unsafe(no_mangle)]
-pub extern "C" fn regnubas_close(alloc: Global, pass: &mut Place, room: &mut [Pair]) -> Count
+pub extern "C" fn regnubas_close(
+    alloc: Global,
+    pass: &mut HandleSlot,
+    room: &mut [KeyValue],
+) -> Count
     ensures { CloseSays pass.old.handle.value pass.new.handle.value room.new result }
 {
     let Some(client) = pass.handle.take(alloc) else {
@@ -268,7 +285,11 @@ pub extern "C" fn regnubas_close(alloc: Global, pass: &mut Place, room: &mut [Pa
 /// Ends the dictionary by all its passes at once, and leaves its first pairs in `room`. It answers
 /// how many there are in all.
 #[unsafe(no_mangle)]
-pub extern "C" fn regnubas_end(alloc: Global, passes: &mut [Place], room: &mut [Pair]) -> Count
+pub extern "C" fn regnubas_end(
+    alloc: Global,
+    passes: &mut [HandleSlot],
+    room: &mut [KeyValue],
+) -> Count
     requires { AreOfOne (held_in passes.old) }
     ensures { EndSays (held_in passes.old) (held_in passes.new) room.new result }
 {

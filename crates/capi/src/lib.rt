@@ -12,6 +12,6 @@ mod open;
 #[cfg(test)]
 mod tests;
 
-pub use answer::{Answer, Count, Left, Pair, PassLimits, Value};
-pub use client::{Client, Closing, Numbers};
-pub use handle::{Handle, Place};
+pub use answer::{Count, KeyValue, Left, PassLimits, Value, ValueAnswer};
+pub use client::{Closing, Numbers, OwnedPass};
+pub use handle::{Handle, HandleSlot};

@@ -7,14 +7,14 @@ ghost use Rattle.arena.specs.Limits.{IsAccepted};
 ghost use Rattle.forest.specs.Passes.{IsOf};
 ghost use Rattle.capi.specs.Made.{IsHeldOf, AreMade, pass_at};
 
-use crate::client::{Client, Numbers};
-use crate::handle::{Handle, Place};
+use crate::client::{Numbers, OwnedPass};
+use crate::handle::{Handle, HandleSlot};
 use regnubas::{Forest, Limits, NewFault, NoMemory, Pass};
 use std::alloc::Global;
 use std::sync::Arc;
 
 /// A place for each pass of a new dictionary, with a handle that holds it.
-pub(crate) fn open(alloc: Global, limits: Limits) -> Result<Vec<Place>, NewFault>
+pub(crate) fn open(alloc: Global, limits: Limits) -> Result<Vec<HandleSlot>, NewFault>
     ensures refused { (result ≡ Err NewFault.Limits) ↔ (¬ IsAccepted limits) }
     ensures made { IfOk result (λ places. AreMade limits places.items) }
     ensures count { IfOk result (λ places. vec_len places ≡ limits.passes) }
@@ -35,7 +35,7 @@ fn hand_out(
     forest: Forest<Numbers>,
     passes: Vec<Pass<Numbers>>,
     all: u32,
-) -> Result<Vec<Place>, NoMemory>
+) -> Result<Vec<HandleSlot>, NoMemory>
     requires passes { All (IsOf forest) passes.items }
     requires all { all ≡ forest.layout.passes }
     ensures count { IfOk result (λ places. vec_len places ≡ vec_len passes) }
@@ -45,7 +45,7 @@ fn hand_out(
     let forest = Arc::new(alloc, forest)?;
     let mut places = Vec::new(alloc);
     for pass in passes {
-        places.push(Place::of(hand(alloc, &forest, pass, all)?))?;
+        places.push(HandleSlot::of(hand(alloc, &forest, pass, all)?))?;
     }
     Ok(places)
 }
@@ -62,7 +62,7 @@ fn hand(
     ensures of_forest { IfOk result (λ h. IsHeldOf (arc_value forest.now) h.value) }
     ensures held { IfOk result (λ h. option_map (λ c. c.pass) h.value ≡ Some pass) }
 {
-    let client = Client {
+    let client = OwnedPass {
         forest: Arc::try_clone(forest)?,
         pass,
         all,

@@ -2,9 +2,9 @@
 ghost use Rattle.std.specs.Prelude.{IsTrue};
 ghost use Rattle.capi.specs.Ends.{AreOfOne, held_in};
 
-use crate::answer::{Answer, Count, NO_PASS, NONE, Pair, PassLimits, SOME, Value};
+use crate::answer::{Count, KeyValue, NO_PASS, NONE, PassLimits, SOME, Value, ValueAnswer};
 use crate::exports::{regnubas_end, regnubas_get, regnubas_insert, regnubas_make};
-use crate::handle::{Handle, Place};
+use crate::handle::{Handle, HandleSlot};
 use std::alloc::Global;
 use std::test::Fail;
 
@@ -18,7 +18,7 @@ const WIDE: Value = Value { low: 8, high: 3 };
 
 const OTHER: Value = Value { low: 8, high: 4 };
 
-fn told(answer: Answer) -> (u32, u64, u64) {
+fn told(answer: ValueAnswer) -> (u32, u64, u64) {
     (answer.status, answer.value.low, answer.value.high)
 }
 
@@ -26,23 +26,23 @@ fn counted(count: Count) -> (u32, u64) {
     (count.status, count.pairs)
 }
 
-fn words(pair: Pair) -> (u64, u64, u64) {
+fn words(pair: KeyValue) -> (u64, u64, u64) {
     (pair.key, pair.value.low, pair.value.high)
 }
 
-fn nowhere(alloc: Global) -> Place {
-    Place::of(Handle::empty(alloc))
+fn nowhere(alloc: Global) -> HandleSlot {
+    HandleSlot::of(Handle::empty(alloc))
 }
 
 /// Makes a dictionary of these passes.
-fn made(alloc: Global, passes: &mut [Place]) -> bool
+fn made(alloc: Global, passes: &mut [HandleSlot]) -> bool
     ensures { IsTrue result → AreOfOne (held_in passes.new) }
 {
     regnubas_make(alloc, EACH, passes) == NONE
 }
 
 /// One of the passes puts a new key in.
-fn put_by(alloc: Global, passes: &mut [Place], at: usize, key: u64, value: Value) -> bool
+fn put_by(alloc: Global, passes: &mut [HandleSlot], at: usize, key: u64, value: Value) -> bool
     requires { AreOfOne (held_in passes.old) }
     ensures { AreOfOne (held_in passes.new) }
 {
@@ -56,7 +56,7 @@ fn put_by(alloc: Global, passes: &mut [Place], at: usize, key: u64, value: Value
 fn all_passes_end_it(rt: HostRuntime) -> Result<(), Fail> {
     let alloc = rt.alloc();
     let mut passes = [nowhere(alloc), nowhere(alloc)];
-    let mut room = [Pair {
+    let mut room = [KeyValue {
         key: 0,
         value: OTHER,
     }; 4];

@@ -1,5 +1,5 @@
 //! Cases that have folders.
-use crate::command::Command;
+use crate::command::Action;
 use crate::devices::failing;
 use crate::expected::Expected;
 use crate::finding::Finding;
@@ -13,7 +13,7 @@ use std::thread::Threads;
 /// A command, the folder that has its texts, and the one that has what it is to write.
 #[derive(Clone, Copy)]
 pub(crate) struct Case<'a> {
-    command: Command<'a>,
+    command: Action<'a>,
     folder: &'a str,
     expected: &'a str,
     /// Whether its readers and its writer fail at each place in turn.
@@ -31,7 +31,7 @@ impl<'a> Case<'a> {
         let (given, expected) = line.split_once(" as ").unwrap_or((line, ""));
         let (words, folder) = given.rsplit_once(' ').context(line)?;
         Ok(Case {
-            command: Command::of(words)?,
+            command: Action::of(words)?,
             folder,
             expected: if expected.is_empty() {
                 folder
@@ -56,7 +56,7 @@ impl<'a> Case<'a> {
         }
         match self.command {
             _ if self.fails => Ok(failing(rt, self.command, &texts, ended.out.as_slice())),
-            Command::Play(mode) if ended.status == 0 => {
+            Action::Play(mode) if ended.status == 0 => {
                 replayed(rt, mode, texts.first.as_slice(), ended.out.as_slice())
             }
             _ => Ok(Finding::AsExpected),

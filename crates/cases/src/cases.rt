@@ -1,10 +1,10 @@
 //! All cases, one after another.
 use crate::case::Case;
-use crate::change::Change;
+use crate::change::ReportChange;
 use crate::files::list_of;
 use crate::finding::Finding;
 use crate::refusal::Refusal;
-use crate::words::Words;
+use crate::words::WordsCase;
 use anyhow::{Context, Result};
 use std::rt::Files;
 use std::sync::Wait;
@@ -85,7 +85,7 @@ impl Told {
     ) -> Result<()> {
         for line in list_of(rt, "reports.txt")?.as_str().lines() {
             if !line.starts_with('#') {
-                self.tell(rt, line, Change::of(line)?.find(rt)?)?;
+                self.tell(rt, line, ReportChange::of(line)?.find(rt)?)?;
             }
         }
         Ok(())
@@ -98,7 +98,7 @@ impl Told {
     ) -> Result<()> {
         for line in list_of(rt, "words.txt")?.as_str().lines() {
             if !line.starts_with('#') {
-                self.tell(rt, line, Words::of(line)?.find(rt)?)?;
+                self.tell(rt, line, WordsCase::of(line)?.find(rt)?)?;
             }
         }
         Ok(())

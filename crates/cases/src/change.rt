@@ -1,5 +1,5 @@
 //! Reports with a change.
-use crate::command::Command;
+use crate::command::Action;
 use crate::expected::Expected;
 use crate::files::{file_of, has_file, lines_of};
 use crate::finding::Finding;
@@ -15,18 +15,18 @@ use std::thread::Threads;
 /// is changed; and the changes: what stands there, and what is put in its place the first time that
 /// it stands there.
 #[derive(Clone, Copy)]
-pub(crate) struct Change<'a> {
+pub(crate) struct ReportChange<'a> {
     folder: &'a str,
     row: &'a str,
     changes: &'a str,
 }
 
-impl<'a> Change<'a> {
+impl<'a> ReportChange<'a> {
     /// What a line says, with a `;` between any two of these.
-    pub(crate) fn of(line: &'a str) -> Result<Change<'a>> {
+    pub(crate) fn of(line: &'a str) -> Result<ReportChange<'a>> {
         let (folder, rest) = line.split_once(';').context(line)?;
         let (row, changes) = rest.split_once(';').context(line)?;
-        Ok(Change {
+        Ok(ReportChange {
             folder,
             row,
             changes,
@@ -46,7 +46,7 @@ impl<'a> Change<'a> {
         };
         let row = self.row;
         let fault = format!(in alloc; "not lawful: row {row}\n")?.into_bytes();
-        let ended = texts.over(rt, Command::Audit);
+        let ended = texts.over(rt, Action::Audit);
         Ok(Expected::Fault(fault).compare(alloc, &ended)?)
     }
 }
@@ -59,7 +59,7 @@ fn report_of<R: Files + AllocGlobal + Threads + Wait + Sync>(
     if has_file(rt, folder, "report.csv")? {
         return file_of(rt, folder, "report.csv");
     }
-    let command = Command::Play(Mode::Tree);
+    let command = Action::Play(Mode::Tree);
     Ok(Inputs::of(rt, command, folder)?.over(rt, command).out)
 }
 

@@ -1,7 +1,7 @@
 //! The commands of the program, one that copies a report, one that draws it, and one that tells the
 //! outcomes of a script.
 use crate::copy::copy_over;
-use crate::ended::Ended;
+use crate::ended::ProgramEnd;
 use crate::explored::outcomes_over;
 use anyhow::{Context, Result, bail};
 use arena::Mode;
@@ -15,7 +15,7 @@ use texts::Metered;
 
 /// What is done with one text or two.
 #[derive(Clone, Copy, Debug, PartialEq, Eq)]
-pub(crate) enum Command<'a> {
+pub(crate) enum Action<'a> {
     /// To play a script by a schedule.
     Play(Mode),
     /// To run a script with threads, at the gate of this name.
@@ -30,25 +30,25 @@ pub(crate) enum Command<'a> {
     Outcomes { interruptions: u32, most: u64 },
 }
 
-impl<'a> Command<'a> {
+impl<'a> Action<'a> {
     /// The command that these words ask for.
-    pub(crate) fn of(words: &'a str) -> Result<Command<'a>> {
+    pub(crate) fn of(words: &'a str) -> Result<Action<'a>> {
         match (words, words.split_once(' ')) {
-            ("play", _) => Ok(Command::Play(Mode::Tree)),
-            ("records", _) => Ok(Command::Play(Mode::Records)),
-            ("audit", _) => Ok(Command::Audit),
-            ("copy", _) => Ok(Command::Copy),
-            ("picture", _) => Ok(Command::Picture),
-            (_, Some(("run", gate))) => Ok(Command::Run { gate }),
-            (_, Some(("outcomes", numbers))) => Command::outcomes(numbers),
+            ("play", _) => Ok(Action::Play(Mode::Tree)),
+            ("records", _) => Ok(Action::Play(Mode::Records)),
+            ("audit", _) => Ok(Action::Audit),
+            ("copy", _) => Ok(Action::Copy),
+            ("picture", _) => Ok(Action::Picture),
+            (_, Some(("run", gate))) => Ok(Action::Run { gate }),
+            (_, Some(("outcomes", numbers))) => Action::outcomes(numbers),
             _ => bail!("no command: {words}"),
         }
     }
 
     /// The outcomes by these numbers, of which the second may be left out.
-    fn outcomes(numbers: &str) -> Result<Command<'a>> {
+    fn outcomes(numbers: &str) -> Result<Action<'a>> {
         let (interruptions, most) = numbers.split_once(' ').unwrap_or((numbers, "1000000"));
-        Ok(Command::Outcomes {
+        Ok(Action::Outcomes {
             interruptions: interruptions.parse().ok().context("no number")?,
             most: most.parse().ok().context("no number")?,
         })
@@ -61,15 +61,15 @@ impl<'a> Command<'a> {
         first: &mut S,
         second: &mut T,
         out: O,
-    ) -> Ended<O> {
+    ) -> ProgramEnd<O> {
         let alloc = rt.alloc();
         let (mut out, mut err) = (Metered::new(out), Vec::new(alloc));
         let status = match self {
-            Command::Play(mode) => {
+            Action::Play(mode) => {
                 let (mut script, mut schedule) = (Metered::new(first), Metered::new(second));
                 play_over(alloc, mode, &mut script, &mut schedule, &mut out, &mut err)
             }
-            Command::Run { gate } => {
+            Action::Run { gate } => {
                 run_over(
                     rt,
                     alloc,
@@ -79,12 +79,12 @@ impl<'a> Command<'a> {
                     &mut err,
                 )
             }
-            Command::Audit => audit_over(alloc, &mut Metered::new(first), &mut out, &mut err),
-            Command::Copy => exit_status(copy_over(alloc, first, &mut out), &mut err),
-            Command::Picture => {
+            Action::Audit => audit_over(alloc, &mut Metered::new(first), &mut out, &mut err),
+            Action::Copy => exit_status(copy_over(alloc, first, &mut out), &mut err),
+            Action::Picture => {
                 exit_status(draw_over(alloc, first, Window::ALL, &mut out), &mut err)
             }
-            Command::Outcomes {
+            Action::Outcomes {
                 interruptions,
                 most,
             } => exit_status(
@@ -93,6 +93,6 @@ impl<'a> Command<'a> {
             ),
         };
         let out = out.inner;
-        Ended { status, out, err }
+        ProgramEnd { status, out, err }
     }
 }

@@ -1,6 +1,6 @@
 //! Readers and writers that fail in mid-stream.
-use crate::command::Command;
-use crate::ended::Ended;
+use crate::command::Action;
+use crate::ended::ProgramEnd;
 use crate::finding::Finding;
 use crate::inputs::Inputs;
 use std::sync::Wait;
@@ -10,15 +10,15 @@ use texts::FailAt;
 /// What goes out of a command whose readers and whose writer pass so many bytes.
 fn over<R: Threads + Wait + Sync + AllocGlobal>(
     rt: &R,
-    command: Command<'_>,
+    command: Action<'_>,
     texts: &Inputs,
     (first, second, out): (usize, usize, usize),
-) -> Ended<Vec<u8>> {
+) -> ProgramEnd<Vec<u8>> {
     let mut first = FailAt::new(texts.first.as_slice(), first);
     let mut second = FailAt::new(texts.second.as_slice(), second);
     let out = FailAt::new(Vec::new(rt.alloc()), out);
     let ended = command.over(rt, &mut first, &mut second, out);
-    Ended {
+    ProgramEnd {
         status: ended.status,
         out: ended.out.inner,
         err: ended.err,
@@ -29,7 +29,7 @@ fn over<R: Threads + Wait + Sync + AllocGlobal>(
 /// out is a beginning of its output: none where a read fails.
 pub(crate) fn failing<R: Threads + Wait + Sync + AllocGlobal>(
     rt: &R,
-    command: Command<'_>,
+    command: Action<'_>,
     texts: &Inputs,
     whole: &[u8],
 ) -> Finding {
@@ -47,7 +47,7 @@ pub(crate) fn failing<R: Threads + Wait + Sync + AllocGlobal>(
 /// The least number of bytes of a text after which a failed read is not told as such.
 fn other_read<R: Threads + Wait + Sync + AllocGlobal>(
     rt: &R,
-    command: Command<'_>,
+    command: Action<'_>,
     texts: &Inputs,
 ) -> Option<usize> {
     for bytes in 0..=texts.first.len() {
@@ -55,7 +55,7 @@ fn other_read<R: Threads + Wait + Sync + AllocGlobal>(
             return Some(bytes);
         }
     }
-    if let Command::Play(_) = command {
+    if let Action::Play(_) = command {
         for bytes in 0..=texts.second.len() {
             if !fails_to_read(rt, command, texts, (usize::MAX, bytes)) {
                 return Some(bytes);
@@ -67,7 +67,7 @@ fn other_read<R: Threads + Wait + Sync + AllocGlobal>(
 
 fn fails_to_read<R: Threads + Wait + Sync + AllocGlobal>(
     rt: &R,
-    command: Command<'_>,
+    command: Action<'_>,
     texts: &Inputs,
     (first, second): (usize, usize),
 ) -> bool {
@@ -77,7 +77,7 @@ fn fails_to_read<R: Threads + Wait + Sync + AllocGlobal>(
 
 fn fails_to_write<R: Threads + Wait + Sync + AllocGlobal>(
     rt: &R,
-    command: Command<'_>,
+    command: Action<'_>,
     texts: &Inputs,
     beginning: &[u8],
 ) -> bool {
@@ -89,6 +89,6 @@ fn fails_to_write<R: Threads + Wait + Sync + AllocGlobal>(
     )
 }
 
-fn has_failed(ended: &Ended<Vec<u8>>, fault: &[u8], out: &[u8]) -> bool {
+fn has_failed(ended: &ProgramEnd<Vec<u8>>, fault: &[u8], out: &[u8]) -> bool {
     ended.status == 4 && ended.err.as_slice() == fault && ended.out.as_slice() == out
 }

@@ -2,7 +2,7 @@
 
 /// The status, what went to the output, and what went to standard error.
 #[derive(Debug, Drop)]
-pub(crate) struct Ended<O> {
+pub(crate) struct ProgramEnd<O> {
     pub(crate) status: u8,
     pub(crate) out: O,
     pub(crate) err: Vec<u8>,

@@ -1,6 +1,6 @@
 //! What a case is to end with.
-use crate::command::Command;
-use crate::ended::Ended;
+use crate::command::Action;
+use crate::ended::ProgramEnd;
 use crate::files::{file_of, has_file, text_of};
 use crate::finding::Finding;
 use anyhow::Result;
@@ -24,25 +24,21 @@ impl Expected {
     /// What a folder says.
     pub(crate) fn of<R: Files + AllocGlobal>(
         rt: &R,
-        command: Command<'_>,
+        command: Action<'_>,
         folder: &str,
     ) -> Result<Expected> {
         if has_file(rt, folder, "fault.txt")? {
             return Ok(Expected::Fault(file_of(rt, folder, "fault.txt")?));
         }
         Ok(match command {
-            Command::Play(_) if has_file(rt, folder, "rows.csv")? => {
+            Action::Play(_) if has_file(rt, folder, "rows.csv")? => {
                 Expected::Rows(text_of(rt, folder, "rows.csv")?)
             }
-            Command::Outcomes { .. } => Expected::Rows(text_of(rt, folder, "rows.csv")?),
-            Command::Play(_) | Command::Copy => Expected::Output(file_of(
-                rt,
-                folder,
-                "report.csv",
-            )?),
-            Command::Run { gate: _ } => Expected::Output(file_of(rt, folder, "outcome.csv")?),
-            Command::Picture => Expected::Output(file_of(rt, folder, "picture.svg")?),
-            Command::Audit => Expected::Output(b"lawful\n".to_vec(rt.alloc())?),
+            Action::Outcomes { .. } => Expected::Rows(text_of(rt, folder, "rows.csv")?),
+            Action::Play(_) | Action::Copy => Expected::Output(file_of(rt, folder, "report.csv")?),
+            Action::Run { gate: _ } => Expected::Output(file_of(rt, folder, "outcome.csv")?),
+            Action::Picture => Expected::Output(file_of(rt, folder, "picture.svg")?),
+            Action::Audit => Expected::Output(b"lawful\n".to_vec(rt.alloc())?),
         })
     }
 
@@ -50,7 +46,7 @@ impl Expected {
     pub(crate) fn compare(
         &self,
         alloc: Global,
-        ended: &Ended<Vec<u8>>,
+        ended: &ProgramEnd<Vec<u8>>,
     ) -> Result<Finding, AllocError> {
         if ended.err.as_slice() != self.fault() {
             return Ok(Finding::Fault);

@@ -1,6 +1,6 @@
 //! What a command is given.
-use crate::command::Command;
-use crate::ended::Ended;
+use crate::command::Action;
+use crate::ended::ProgramEnd;
 use crate::files::file_of;
 use anyhow::Result;
 use std::rt::Files;
@@ -19,21 +19,21 @@ impl Inputs {
     /// Those of a folder.
     pub(crate) fn of<R: Files + AllocGlobal>(
         rt: &R,
-        command: Command<'_>,
+        command: Action<'_>,
         folder: &str,
     ) -> Result<Inputs> {
         let none = Vec::new(rt.alloc());
         let (first, second) = match command {
-            Command::Play(_) => {
+            Action::Play(_) => {
                 (
                     file_of(rt, folder, "script.csv")?,
                     file_of(rt, folder, "schedule.csv")?,
                 )
             }
-            Command::Run { .. } | Command::Outcomes { .. } => {
+            Action::Run { .. } | Action::Outcomes { .. } => {
                 (file_of(rt, folder, "script.csv")?, none)
             }
-            Command::Audit | Command::Copy | Command::Picture => (
+            Action::Audit | Action::Copy | Action::Picture => (
                 file_of(rt, folder, "report.csv")?,
                 none,
             ),
@@ -45,8 +45,8 @@ impl Inputs {
     pub(crate) fn over<R: Threads + Wait + Sync + AllocGlobal>(
         &self,
         rt: &R,
-        command: Command<'_>,
-    ) -> Ended<Vec<u8>> {
+        command: Action<'_>,
+    ) -> ProgramEnd<Vec<u8>> {
         let (mut first, mut second) = (self.first.as_slice(), self.second.as_slice());
         command.over(rt, &mut first, &mut second, Vec::new(rt.alloc()))
     }

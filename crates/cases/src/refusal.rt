@@ -1,5 +1,5 @@
 //! Inputs that are refused.
-use crate::command::Command;
+use crate::command::Action;
 use crate::expected::Expected;
 use crate::files::lines_of;
 use crate::finding::Finding;
@@ -11,7 +11,7 @@ use std::thread::Threads;
 /// A command, the fault that it is to tell, and its texts, in which `|` stands for a new line.
 #[derive(Clone, Copy)]
 pub(crate) struct Refusal<'a> {
-    command: Command<'a>,
+    command: Action<'a>,
     fault: &'a str,
     texts: &'a str,
 }
@@ -23,7 +23,7 @@ impl<'a> Refusal<'a> {
         let (words, rest) = line.split_once(';').context(line)?;
         let (fault, texts) = rest.split_once(';').context(line)?;
         Ok(Refusal {
-            command: Command::of(words)?,
+            command: Action::of(words)?,
             fault,
             texts,
         })

@@ -1,13 +1,13 @@
 //! Plays that are made again, turn by turn.
 ghost use Rattle.std.specs.Prelude.{◌<◌, All, IfOk};
 
-use crate::command::Command;
+use crate::command::Action;
 use crate::finding::Finding;
 use crate::inputs::Inputs;
 use anyhow::Result;
 use arena::{Mode, PassNo};
 use player::play;
-use record::{Line, Record, Row};
+use record::{Line, Record, TurnRow};
 use report::{read_record, write_record};
 use script::read_script;
 use std::alloc::{AllocError, Global};
@@ -26,10 +26,10 @@ pub(crate) fn replayed<R: AllocGlobal + Threads + Wait + Sync>(
     let alloc = rt.alloc();
     let (first, second) = (report.to_vec(alloc)?, Vec::new(alloc));
     let given = Inputs { first, second };
-    if given.over(rt, Command::Audit).out.as_slice() != b"lawful\n".as_slice() {
+    if given.over(rt, Action::Audit).out.as_slice() != b"lawful\n".as_slice() {
         return Ok(Finding::Unlawful);
     }
-    if given.over(rt, Command::Copy).out.as_slice() != report {
+    if given.over(rt, Action::Copy).out.as_slice() != report {
         return Ok(Finding::Copy);
     }
     let again = again(alloc, mode, script, report)?;
@@ -68,8 +68,8 @@ fn turns_of(alloc: Global, record: &Record, passes: u32) -> Result<Vec<PassNo>, 
 /// The client of a turn.
 fn client_of(line: &Line) -> Option<PassNo> {
     match line {
-        Line::Step(Row::Step { number: _, row }) => Some(row.pass),
-        Line::Step(Row::Idle { number: _, client }) => Some(*client),
+        Line::Step(TurnRow::Step { number: _, row }) => Some(row.pass),
+        Line::Step(TurnRow::Idle { number: _, client }) => Some(*client),
         _ => None,
     }
 }

@@ -1,5 +1,5 @@
 //! Words of the command line.
-use crate::ended::Ended;
+use crate::ended::ProgramEnd;
 use crate::expected::Expected;
 use crate::files::lines_of;
 use crate::finding::Finding;
@@ -13,18 +13,18 @@ use std::thread::Threads;
 /// The words after the program's name, which one space parts; the fault that it is to tell, if
 /// there is one; and else what it is to print, in which `|` stands for a new line.
 #[derive(Clone, Copy)]
-pub(crate) struct Words<'a> {
+pub(crate) struct WordsCase<'a> {
     words: &'a str,
     fault: &'a str,
     output: &'a str,
 }
 
-impl<'a> Words<'a> {
+impl<'a> WordsCase<'a> {
     /// What a line says, with a `;` between any two of these.
-    pub(crate) fn of(line: &'a str) -> Result<Words<'a>> {
+    pub(crate) fn of(line: &'a str) -> Result<WordsCase<'a>> {
         let (words, rest) = line.split_once(';').context(line)?;
         let (fault, output) = rest.split_once(';').context(line)?;
-        Ok(Words {
+        Ok(WordsCase {
             words,
             fault,
             output,
@@ -40,7 +40,7 @@ impl<'a> Words<'a> {
         let words = with_name(alloc, self.words)?;
         let (mut out, mut err) = (Vec::new(alloc), Vec::new(alloc));
         let status = run_words(rt, words.as_slice(), &mut out, &mut err);
-        let ended = Ended { status, out, err };
+        let ended = ProgramEnd { status, out, err };
         Ok(self.expected(alloc)?.compare(alloc, &ended)?)
     }
 

@@ -8,7 +8,7 @@ use std::convert::AsStr;
 
 /// What the words ask for.
 #[derive(Clone, Copy, Debug, PartialEq, Eq)]
-pub(crate) enum Request<'a> {
+pub(crate) enum Invocation<'a> {
     /// To play the calls of a script: on the tree, or on cells.
     Play {
         mode: Mode,
@@ -30,12 +30,12 @@ pub(crate) enum Request<'a> {
 pub(crate) fn read_words<'a, S: AsStr>(
     alloc: Global,
     words: &'a [S],
-) -> Result<Request<'a>, Fault> {
+) -> Result<Invocation<'a>, Fault> {
     let matches = given_to(command(alloc), words)?;
     request_of(&matches).ok_or(Fault::Usage)
 }
 
-fn request_of<'a>(matches: &ArgMatches<'a>) -> Option<Request<'a>> {
+fn request_of<'a>(matches: &ArgMatches<'a>) -> Option<Invocation<'a>> {
     let (name, given) = matches.subcommand()?;
     match name {
         "play" => play_of(given, Mode::Tree),
@@ -46,23 +46,23 @@ fn request_of<'a>(matches: &ArgMatches<'a>) -> Option<Request<'a>> {
     }
 }
 
-fn play_of<'a>(given: &ArgMatches<'a>, mode: Mode) -> Option<Request<'a>> {
-    Some(Request::Play {
+fn play_of<'a>(given: &ArgMatches<'a>, mode: Mode) -> Option<Invocation<'a>> {
+    Some(Invocation::Play {
         mode,
         script: given.get_str("SCRIPT")?,
         schedule: given.get_str("SCHEDULE")?,
     })
 }
 
-fn run_of<'a>(given: &ArgMatches<'a>) -> Option<Request<'a>> {
-    Some(Request::Run {
+fn run_of<'a>(given: &ArgMatches<'a>) -> Option<Invocation<'a>> {
+    Some(Invocation::Run {
         gate: given.get_str("gate").unwrap_or("open"),
         script: given.get_str("SCRIPT")?,
     })
 }
 
-fn audit_of<'a>(given: &ArgMatches<'a>) -> Option<Request<'a>> {
-    Some(Request::Audit {
+fn audit_of<'a>(given: &ArgMatches<'a>) -> Option<Invocation<'a>> {
+    Some(Invocation::Audit {
         report: given.get_str("REPORT")?,
     })
 }

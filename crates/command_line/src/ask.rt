@@ -1,7 +1,7 @@
 //! What the program does with its words.
 ghost use Rattle.std.specs.Prelude.{◌≤◌};
 
-use crate::args::{Request, read_words};
+use crate::args::{Invocation, read_words};
 use crate::buffered::play_buffered;
 use arena::Mode;
 use program::{Fault, audit_over, run_over};
@@ -24,14 +24,14 @@ pub fn run_words<R: Files + AllocGlobal + Threads + Wait + Sync, O: Write, E: Wr
 {
     match read_words(rt.alloc(), words) {
         Ok(
-            Request::Play {
+            Invocation::Play {
                 mode,
                 script,
                 schedule,
             },
         ) => play_files(rt, mode, script, schedule, out, err),
-        Ok(Request::Run { gate, script }) => run_file(rt, gate, script, out, err),
-        Ok(Request::Audit { report }) => audit_file(rt, report, out, err),
+        Ok(Invocation::Run { gate, script }) => run_file(rt, gate, script, out, err),
+        Ok(Invocation::Audit { report }) => audit_file(rt, report, out, err),
         Err(fault) => fault.print(err),
     }
 }

@@ -1,7 +1,7 @@
 //! The text of a picture, element by element. All that is drawn is made from numbers and names of
 //! this program, so no text has a sign that XML reads otherwise.
-use crate::parts::Part::{Length, Rounded, Text};
-use crate::parts::{Part, add, joined};
+use crate::parts::TextPart::{Length, Rounded, Text};
+use crate::parts::{TextPart, add, joined};
 use crate::style::{SIGNS, STYLE};
 use arena::NoMemory;
 use std::alloc::Global;
@@ -50,7 +50,7 @@ impl Canvas {
     }
 
     /// Puts some parts behind what is drawn.
-    fn add(&mut self, parts: &[Part]) {
+    fn add(&mut self, parts: &[TextPart]) {
         if !self.is_refused {
             self.is_refused = add(&mut self.text, parts).is_err();
         }
@@ -70,7 +70,7 @@ impl Canvas {
     }
 
     /// Words around a spot.
-    pub(crate) fn middle_words(&mut self, at: Spot, class: &[Part], words: &[Part]) {
+    pub(crate) fn middle_words(&mut self, at: Spot, class: &[TextPart], words: &[TextPart]) {
         self.reach(at.x, at.y);
         self.open("text", at);
         self.add(&[Text("middle ")]);
@@ -81,7 +81,13 @@ impl Canvas {
     }
 
     /// A box with its left upper corner there, which tells this where one points at it.
-    pub(crate) fn rectangle(&mut self, corner: Spot, size: Spot, class: &[Part], told: &[Part]) {
+    pub(crate) fn rectangle(
+        &mut self,
+        corner: Spot,
+        size: Spot,
+        class: &[TextPart],
+        told: &[TextPart],
+    ) {
         let Spot { x: wide, y: high } = size;
         self.reach(corner.x + wide, corner.y + high);
         self.add(&[
@@ -115,7 +121,7 @@ impl Canvas {
     }
 
     /// A line between two spots.
-    pub(crate) fn line(&mut self, from: Spot, to: Spot, class: &[Part]) {
+    pub(crate) fn line(&mut self, from: Spot, to: Spot, class: &[TextPart]) {
         self.add(&[
             Text("<path d=\"M"),
             Length(from.x),
@@ -134,7 +140,7 @@ impl Canvas {
     }
 
     /// A sign around a spot, which tells this where one points at it.
-    pub(crate) fn sign(&mut self, name: &str, at: Spot, class: &[Part], told: &[Part]) {
+    pub(crate) fn sign(&mut self, name: &str, at: Spot, class: &[TextPart], told: &[TextPart]) {
         self.reach(at.x, at.y);
         self.use_of(name, at, class);
         self.add(&[Text("\"><title>")]);
@@ -149,7 +155,7 @@ impl Canvas {
     }
 
     /// Begins a sign, up to the end of its class.
-    fn use_of(&mut self, name: &str, at: Spot, class: &[Part]) {
+    fn use_of(&mut self, name: &str, at: Spot, class: &[TextPart]) {
         self.add(&[
             Text("<use href=\"#"),
             Text(name),

@@ -2,7 +2,7 @@
 use crate::canvas::{Canvas, Spot, width_of};
 use crate::flow::Flow;
 use crate::node_table::NodeTable;
-use crate::parts::Part::{Number, Short, Text};
+use crate::parts::TextPart::{Number, Short, Text};
 use crate::parts::joined;
 use arena::{NodeNo, NodeWord, Side, Word};
 use script::{Call, Command};

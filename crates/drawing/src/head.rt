@@ -1,7 +1,7 @@
 //! The first lines of a picture: what was run, and what the signs mean.
 use crate::canvas::{Canvas, Spot, width_of};
 use crate::columns::LEFT;
-use crate::parts::Part::{Number, Text};
+use crate::parts::TextPart::{Number, Text};
 use crate::parts::{add, joined};
 use crate::shown_run::ShownRun;
 use crate::window::Window;

@@ -2,7 +2,7 @@
 use crate::canvas::{Canvas, Spot, width_of};
 use crate::columns::{Columns, Group, LEFT, colour_of};
 use crate::labels::{LabelRows, shortened};
-use crate::parts::Part::{Number, Text};
+use crate::parts::TextPart::{Number, Text};
 use crate::parts::joined;
 use crate::shown_call::ShownCall;
 use crate::shown_run::{ShownRun, ShownTurn, has_sign};

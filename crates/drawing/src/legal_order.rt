@@ -3,7 +3,7 @@ use crate::canvas::{Canvas, Spot, width_of};
 use crate::columns::{Columns, colour_of};
 use crate::labels::{LabelRows, shortened};
 use crate::lanes::{Lane, Lanes};
-use crate::parts::Part::{Number, Text};
+use crate::parts::TextPart::{Number, Text};
 use crate::parts::joined;
 use crate::shown_call::ShownCall;
 use crate::shown_run::{ShownMoment, ShownRun};

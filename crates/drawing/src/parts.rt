@@ -5,7 +5,7 @@ use std::alloc::{AllocError, Global};
 
 /// A part of a text.
 #[derive(Clone, Copy)]
-pub(crate) enum Part<'a> {
+pub(crate) enum TextPart<'a> {
     Text(&'a str),
     Number(u64),
     /// A number of two words.
@@ -19,22 +19,22 @@ pub(crate) enum Part<'a> {
 }
 
 /// Some parts, one after another.
-pub(crate) fn joined(alloc: Global, parts: &[Part]) -> Result<String, AllocError> {
+pub(crate) fn joined(alloc: Global, parts: &[TextPart]) -> Result<String, AllocError> {
     let mut text = String::new(alloc);
     add(&mut text, parts)?;
     Ok(text)
 }
 
 /// Puts some parts behind a text.
-pub(crate) fn add(text: &mut String, parts: &[Part]) -> Result<(), AllocError> {
+pub(crate) fn add(text: &mut String, parts: &[TextPart]) -> Result<(), AllocError> {
     for part in parts {
         match *part {
-            Part::Text(more) => text.push_str(more)?,
-            Part::Number(number) => text.push_str(Buffer::new().format(number))?,
-            Part::Wide(number) => text.push_str(Buffer::new().format(number))?,
-            Part::Short(number) => add_short(text, number)?,
-            Part::Length(length) => write!(text, "{length:.1}")?,
-            Part::Rounded(length) => write!(text, "{length:.0}")?,
+            TextPart::Text(more) => text.push_str(more)?,
+            TextPart::Number(number) => text.push_str(Buffer::new().format(number))?,
+            TextPart::Wide(number) => text.push_str(Buffer::new().format(number))?,
+            TextPart::Short(number) => add_short(text, number)?,
+            TextPart::Length(length) => write!(text, "{length:.1}")?,
+            TextPart::Rounded(length) => write!(text, "{length:.0}")?,
         }
     }
     Ok(())

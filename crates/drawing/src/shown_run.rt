@@ -1,9 +1,9 @@
 //! A run as a picture shows it.
-use crate::parts::Part::Text;
+use crate::parts::TextPart::Text;
 use crate::parts::joined;
 use crate::shown_call::{ShownCall, call_text};
 use arena::{Kind, Layout, PassNo, ScxNo, Word};
-use record::{Entry, Finished, Line, Record, Row};
+use record::{Entry, Finished, Line, Record, TurnRow};
 use report::answer_text;
 use script::Call;
 use std::alloc::{AllocError, Global};
@@ -79,8 +79,8 @@ impl ShownRun {
 
     fn add(&mut self, alloc: Global, line: &Line) -> Result<(), AllocError> {
         match line {
-            Line::Step(Row::Step { number: _, row }) => self.add_step(row),
-            Line::Step(Row::Idle { number: _, client }) => self.add_turn(*client, None, None),
+            Line::Step(TurnRow::Step { number: _, row }) => self.add_step(row),
+            Line::Step(TurnRow::Idle { number: _, client }) => self.add_turn(*client, None, None),
             Line::Log(entry) => self.add_entry(*entry),
             Line::Reply(reply) => self.add_reply(alloc, reply),
         }

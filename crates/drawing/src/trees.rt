@@ -2,8 +2,8 @@
 use crate::canvas::{Canvas, Spot, width_of};
 use crate::flow::Flow;
 use crate::node_table::{NodeTable, ShownNode, ShownPair};
-use crate::parts::Part;
-use crate::parts::Part::{Number, Short, Text, Wide};
+use crate::parts::TextPart;
+use crate::parts::TextPart::{Number, Short, Text, Wide};
 use std::alloc::{AllocError, Global};
 use std::num::nearest_usize_to_f64;
 
@@ -29,16 +29,16 @@ struct Branch {
 
 /// The nodes of a tree from left to right, so that a fork stands between its two sides.
 #[derive(Drop)]
-struct Tree {
+struct TreeDrawing {
     branches: Vec<Branch>,
     /// Which of them hangs below which.
     edges: Vec<(usize, usize)>,
     deepest: f64,
 }
 
-impl Tree {
-    fn of(alloc: Global, table: &NodeTable) -> Result<Tree, AllocError> {
-        let mut tree = Tree {
+impl TreeDrawing {
+    fn of(alloc: Global, table: &NodeTable) -> Result<TreeDrawing, AllocError> {
+        let mut tree = TreeDrawing {
             branches: Vec::new(alloc),
             edges: Vec::new(alloc),
             deepest: 0.0,
@@ -110,7 +110,7 @@ pub(crate) fn draw_tree(
     earlier: &[u64],
     caption: &str,
 ) -> Result<Vec<u64>, AllocError> {
-    let tree = Tree::of(alloc, table)?;
+    let tree = TreeDrawing::of(alloc, table)?;
     let wide = STEP * nearest_usize_to_f64(tree.branches.len()) + 40.0;
     let corner = flow.place(Spot {
         x: wide.max(width_of(caption) + 30.0),
@@ -179,7 +179,11 @@ fn draw_node(
 }
 
 /// What a node tells where one points at it: its pairs.
-fn told_of(alloc: Global, shown: &ShownNode, node: u64) -> Result<Vec<Part<'static>>, AllocError> {
+fn told_of(
+    alloc: Global,
+    shown: &ShownNode,
+    node: u64,
+) -> Result<Vec<TextPart<'static>>, AllocError> {
     let mut told = Vec::new(alloc);
     told.extend_from_slice(&[Text("n"), Number(node)])?;
     let pairs = shown.pairs_behind().saturating_add(1);

@@ -4,7 +4,7 @@ use crate::cells::{CellRow, cells_of};
 use crate::columns::LEFT;
 use crate::flow::Flow;
 use crate::node_table::NodeTable;
-use crate::parts::Part::{Number, Text};
+use crate::parts::TextPart::{Number, Text};
 use crate::parts::joined;
 use crate::shown_run::{ShownRun, ShownTurn};
 use crate::trees::draw_tree;

@@ -1,7 +1,7 @@
 //! Where another client may take a turn.
 use crate::stretch::{Begun, Stretch, add_turn, branch_off, turns_of};
 use arena::PassNo;
-use record::{Line, Record, Row};
+use record::{Line, Record, TurnRow};
 use script::Call;
 use std::alloc::{AllocError, Global};
 
@@ -45,8 +45,8 @@ impl Branches {
 
     fn line(&mut self, alloc: Global, line: &Line) -> Result<(), AllocError> {
         match line {
-            Line::Step(Row::Step { number: _, row }) => self.turn(alloc, row.pass),
-            Line::Step(Row::Idle { number: _, client }) => self.turn(alloc, *client),
+            Line::Step(TurnRow::Step { number: _, row }) => self.turn(alloc, row.pass),
+            Line::Step(TurnRow::Idle { number: _, client }) => self.turn(alloc, *client),
             Line::Log(_) => Ok(()),
             Line::Reply(reply) => {
                 if let Some(calls) = self.calls.get_mut(reply.client.0 as usize) {

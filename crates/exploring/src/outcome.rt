@@ -1,6 +1,6 @@
 //! What a schedule leaves behind.
 use arena::PassNo;
-use moments::edited;
+use linearization::edited;
 use ordered_map::Request;
 use record::{Entry, Line, Record};
 use report::answer_text;

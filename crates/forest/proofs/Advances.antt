@@ -13,7 +13,7 @@ use Rattle.arena.specs.Shape.{Shaped}
 use Rattle.arena.specs.TakenNodes.{taken_nodes}
 use Rattle.arena.proofs.Lemmas.{taken_few}
 use Rattle.histories.proofs.Lemmas.{lawful_row}
-use Rattle.forest.specs.declared.rule.Asked.{Asked}
+use Rattle.forest.specs.declared.rule.CallStep.{CallStep}
 use Rattle.forest.specs.declared.view.SeatedPass.{SeatedPass}
 use Rattle.forest.specs.TableRule.{history_of, past_of, seated_pass, ByOthers, MayStep, Made, row}
 use Rattle.forest.specs.Traces.{HoldsForCall, rows_of, seat_steps, shared_nodes, weight}
@@ -40,7 +40,7 @@ same_knower ps p q a b = ap (first_or p) (sym a ∙ b)
 pub called_so : {allows : Layout → History → ℕ → Type 0} {ps : List SeatedPass} {c : Call} {P Q : History → Type 0} → HoldsForCall allows ps c (λ h. P h × Q h) → HoldsForCall allows ps c P
 called_so x = record { known = x.known; is = x.is; sound = x.sound; so = x.so.0 }
 
-module _ (allows : Layout → History → ℕ → Type 0) (c : Call) (said : Asked) (called : c.number ≡ said.call) where
+module _ (allows : Layout → History → ℕ → Type 0) (c : Call) (said : CallStep) (called : c.number ≡ said.call) where
   -- the row of the step is that of the call
   row_is : (h : History) → row_of c said.step h ≡ row c.pass said h
   row_is h = ap (λ (n : ℕ). row c.pass (record said { call = n }) h) called
@@ -81,7 +81,7 @@ pub rows_by_others : (c : ℕ) (rows known : List Row) → ByOthers c rows → r
 rows_by_others c [] known h = refl
 rows_by_others c (r ∷ rs) known h = rw (ne_eqb r.pass.0 c h.0) (rows_by_others c rs known h.1)
 
-pub one_step : (allows : Layout → History → ℕ → Type 0) (said : Asked) (ps qs : List SeatedPass) (n : ℕ) → Made allows said ps n qs → seat_steps qs ≡ suc (seat_steps ps)
+pub one_step : (allows : Layout → History → ℕ → Type 0) (said : CallStep) (ps qs : List SeatedPass) (n : ℕ) → Made allows said ps n qs → seat_steps qs ≡ suc (seat_steps ps)
 one_step allows said ps qs n m = ap seat_steps m.is ∙ rw (eq-eqb m.pass.number.0 m.pass.number.0 refl) (ap suc (rows_by_others m.pass.number.0 m.others m.pass.known m.by_others ∙ sym (ap seat_steps m.was)))
 
 pub weighs : {A : Type 0} (t : Turn A) (n m : ℕ) → MatchTurn t (λ s. n < m) (λ a. Unit {0}) → weight t n ≤ m

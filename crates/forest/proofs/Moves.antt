@@ -18,7 +18,7 @@ use Rattle.arena.specs.History.{History, ◌⊳◌, value}
 use Rattle.arena.specs.Machines.{IsRun, IsTold}
 use Rattle.histories.proofs.Lemmas.{some_open}
 use Rattle.arena.proofs.Lemmas.{word_same, word_apart, value_at, value_other}
-use Rattle.forest.specs.declared.rule.Asked.{Asked}
+use Rattle.forest.specs.declared.rule.CallStep.{CallStep}
 use Rattle.forest.specs.declared.view.SeatedPass.{SeatedPass}
 use Rattle.forest.specs.declared.view.SeatView.{SeatView}
 use Rattle.forest.specs.TableRule.{history_of, past_of, seated_pass, seat_view, Owns, TableIsLawful, MayStep, Made, Looked, look, row}
@@ -43,7 +43,7 @@ holds_more lay words h r at is inside apart holds w i = go (same_word r.word w) 
     go true e = ap (slice_index (slice_set words at r.after)) (ap (place lay) (sym (word_same r.word w e)) ∙ sym is) ∙ get_or-set_same words at r.after 0 inside ∙ sym (value_at r h w (word_same r.word w e))
     go false e = get_or-set_other words at (place lay w) r.after 0 (λ q. word_apart r.word w e (apart w i q)) ∙ holds w i ∙ sym (value_other r h w e)
 
-module _ (allows : Layout → History → ℕ → Type 0) (lay : Layout) (slots id : ℕ) (me : Me ℕ SeatView) (said : Asked) (at : ℕ) (f told : ℕ → ℕ) (inside : IsWord lay said.step.word) (is : at ≡ place lay said.step.word) (small : at < table_size lay) (apart : (w : Word) → IsWord lay w → place lay w ≡ at → w ≡ said.step.word) (after : (n : ℕ) → f n ≡ word_after said.step.access n) (tells : (n : ℕ) → IsTold said.step.access n (told n)) where
+module _ (allows : Layout → History → ℕ → Type 0) (lay : Layout) (slots id : ℕ) (me : Me ℕ SeatView) (said : CallStep) (at : ℕ) (f told : ℕ → ℕ) (inside : IsWord lay said.step.word) (is : at ≡ place lay said.step.word) (small : at < table_size lay) (apart : (w : Word) → IsWord lay w → place lay w ≡ at → w ≡ said.step.word) (after : (n : ℕ) → f n ≡ word_after said.step.access n) (tells : (n : ℕ) → IsTold said.step.access n (told n)) where
   pub moves : (p : SeatedPass) → me.0.passes ≡ p ∷ [] → MayStep allows said p → Allows (TableIsLawful allows lay) slots id me at f (λ n m. Made allows said me.0.passes (told n) m.0.passes × (m.1 ≡ me.1))
   moves p one may s kept sized seat fits =
       let own : Owns lay kept.run kept.owner id (p ∷ []) = subst (λ ps. Owns lay kept.run kept.owner id ps) one (kept.passes id me.0 seat) in

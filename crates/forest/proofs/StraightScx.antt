@@ -20,7 +20,7 @@ use Rattle.prims.proofs.Lemmas.{turn_plan, turn_new, turn_old, turn_member, turn
 use Rattle.prims.specs.declared.scx.ScxAt.{ScxAt}
 use Rattle.prims.specs.declared.scx.ScxAt.TheVariants.{Plan as AtPlan, New as AtNew, Old as AtOld, Member as AtMember, Seen as AtSeen, Call as AtCall, Help}
 use Rattle.prims.specs.declared.snap.Snap.{Snap}
-use Rattle.forest.specs.declared.straight.scx.Change.{Change}
+use Rattle.forest.specs.declared.straight.scx.ScxTask.{ScxTask}
 use Rattle.forest.specs.declared.view.SeatedPass.{SeatedPass}
 use Rattle.forest.specs.StraightScx.{Changer, inner_scx, changing_at, scx_fill}
 use Rattle.forest.specs.StraightHelp.{Helper, inner_help}
@@ -29,7 +29,7 @@ use Rattle.forest.specs.Inside.{InnerIsTold, InnerWaits}
 use Rattle.forest.proofs.Inside.{Nested, compose, goes_to}
 
 -- where HELP of its own SCX-record stands inside an SCX
-abbrev helps : (inner : Layout → History → ℕ → Type 0) (snaps : List Snap) (change : Change) → Nested (inner_scx inner) (inner_help inner)
+abbrev helps : (inner : Layout → History → ℕ → Type 0) (snaps : List Snap) (change : ScxTask) → Nested (inner_scx inner) (inner_help inner)
 helps inner snaps change = record {
   with_run = λ help. changing_at snaps change (Help help);
   tells = λ m h v d t. ((d.layout, d.pass), (t.0.lawful, t.1.0));
@@ -37,7 +37,7 @@ helps inner snaps change = record {
   stays = λ old now is. (refl, refl, refl);
 }
 
-module _ {M : Type 0} {inner : Layout → History → ℕ → Type 0} {o : Calls M} (k : Changer inner o) (snaps : List Snap) (change : Change) where
+module _ {M : Type 0} {inner : Layout → History → ℕ → Type 0} {o : Calls M} (k : Changer inner o) (snaps : List Snap) (change : ScxTask) where
   -- a machine that makes an SCX helps
   pub helper : Helper inner o
   helper = compose k (helps inner snaps change)

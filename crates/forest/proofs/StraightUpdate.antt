@@ -31,7 +31,7 @@ use Rattle.edits.specs.Pieces.{is_filled, nth_node, part_behind, word_of}
 use Rattle.edits.specs.Readings.{is_at_pair, next_read, read_with}
 use Rattle.edits.specs.Sound.{FillsWell, IsAtFound}
 use Rattle.edits.proofs.Lemmas.{behind_filled, fewer_fills, fills_next, fills_word, joined_spends, key_then_value, placed_same, scx_asks, scx_done, told_spends, told_turn, value_then_high}
-use Rattle.forest.specs.declared.straight.scx.Change.{Change}
+use Rattle.forest.specs.declared.straight.scx.ScxTask.{ScxTask}
 use Rattle.forest.specs.StraightScx.{Changer, all_frozen_load, changing_at, scx_fill}
 use Rattle.arena.specs.History.{History, value}
 use Rattle.arena.specs.Machines.{Call, IsRun, MatchTurn, begun_at}
@@ -439,7 +439,7 @@ module _ {M E : Type 0} {o : Calls M} {e : EditMeaning E} (u : Updater o e) wher
       is = update_is (update_of e m f) snaps plan old fresh is_snaps is_plan is_old is_fresh
 
   -- once that is done it has answered
-  pub changed : (ps : List SeatedPass) {A : Type 0} (m : UpdateRun E A) (f : Found) (snaps : List Snap) (change : Change) (help : HelpRun) (v : ℕ) → IsAtFound e → InnerIsTold (changer m f) ps (changing_at snaps change (Help (record help { at = HelpCommit }))) v → UpdaterEnds u ps m (done_with f)
+  pub changed : (ps : List SeatedPass) {A : Type 0} (m : UpdateRun E A) (f : Found) (snaps : List Snap) (change : ScxTask) (help : HelpRun) (v : ℕ) → IsAtFound e → InnerIsTold (changer m f) ps (changing_at snaps change (Help (record help { at = HelpCommit }))) v → UpdaterEnds u ps m (done_with f)
   unfolding changer
   changed ps m f snaps change help v sound x = record {
     known = x.known;

@@ -12,7 +12,7 @@ use Rattle.prims.specs.declared.scx.ScxAt.{ScxAt}
 use Rattle.prims.specs.declared.scx.ScxAt.TheVariants.{Start as ScxStart}
 use Rattle.prims.specs.declared.put.PutAt.{PutAt}
 use Rattle.prims.specs.declared.snap.Snap.{Snap}
-use Rattle.forest.specs.declared.straight.put.Put.{Put}
+use Rattle.forest.specs.declared.straight.put.PutTask.{PutTask}
 use Rattle.forest.specs.declared.view.SeatedPass.{SeatedPass}
 use Rattle.forest.specs.Traces.{CallBegins, Waits, Told, Ends}
 
@@ -22,11 +22,11 @@ IsSamePut old now = (now.scx.scx ≡ old.scx.scx) × (now.scx.update ≡ old.scx
 
 -- the run over these snapshots of what is to be put, in the
 -- call of this number, that stands at these places
-abbrev pub standing_put : List Snap → Put → ℕ → ScxAt → PutAt → PutRun
+abbrev pub standing_put : List Snap → PutTask → ℕ → ScxAt → PutAt → PutRun
 standing_put snaps put number scx at = record { value = put.value; scx = record { scx = put.scx; call = number; update = record { snaps = snaps; plan = put.plan; old = put.old; fresh = put.fresh }; at = scx }; at = at }
 
 -- the same run at its start
-abbrev pub fresh_put : List Snap → Put → ℕ → PutRun
+abbrev pub fresh_put : List Snap → PutTask → ℕ → PutRun
 fresh_put snaps put number = standing_put snaps put number ScxStart Start
 
 -- a run with its SCX at a place

@@ -16,7 +16,7 @@ use Rattle.prims.specs.Scx.Known.{ScxIsReady, ScxWaits}
 use Rattle.prims.specs.declared.scx.ScxAt.{ScxAt}
 use Rattle.prims.specs.declared.scx.ScxRun.{ScxRun}
 use Rattle.prims.specs.declared.snap.Snap.{Snap}
-use Rattle.forest.specs.declared.straight.scx.Change.{Change}
+use Rattle.forest.specs.declared.straight.scx.ScxTask.{ScxTask}
 use Rattle.forest.specs.CallKinds.{Calls}
 use Rattle.forest.specs.Inside.{Inner, Inside, InnerIsTold, InnerWaits}
 use Rattle.arena.specs.declared.number.MemberIndex.{MemberIndex}
@@ -26,7 +26,7 @@ use Rattle.prims.specs.declared.scx.ScxAt.TheVariants.{Plan as AtPlan, Member as
 use Rattle.forest.specs.declared.view.SeatedPass.{SeatedPass}
 
 -- the run of SCX over these snapshots that makes this change and stands at a place
-abbrev pub changing_at : List Snap → Change → ScxAt → ScxRun
+abbrev pub changing_at : List Snap → ScxTask → ScxAt → ScxRun
 changing_at snaps change at = record { scx = change.scx; call = change.call; update = record { snaps = snaps; plan = change.plan; old = change.old; fresh = change.fresh }; at = at }
 
 -- the fill of this word of the SCX-record with v
@@ -50,7 +50,7 @@ inner_scx inner = record {
 abbrev pub Changer : {M : Type 0} → (Layout → History → ℕ → Type 0) → Calls M → Type 0
 Changer inner o = Inside o (inner_scx inner)
 
-module _ {M : Type 0} {inner : Layout → History → ℕ → Type 0} {o : Calls M} (k : Changer inner o) (ps : List SeatedPass) (snaps : List Snap) (change : Change) where
+module _ {M : Type 0} {inner : Layout → History → ℕ → Type 0} {o : Calls M} (k : Changer inner o) (ps : List SeatedPass) (snaps : List Snap) (change : ScxTask) where
   -- its SCX waits for the fill of its plan
   abbrev pub FillsPlan : Type 0
   FillsPlan = InnerWaits k ps (changing_at snaps change AtPlan) (scx_fill change.scx Plan change.plan.0)

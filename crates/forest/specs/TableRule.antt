@@ -16,7 +16,7 @@ use Rattle.arena.specs.Layout.{place, table_size, IsWord}
 use Rattle.arena.specs.Words.{node, word_after}
 use Rattle.arena.specs.History.{History, Start, ◌⊳◌, value}
 use Rattle.arena.specs.Machines.{IsRun, IsTold}
-use Rattle.forest.specs.declared.rule.Asked.{Asked}
+use Rattle.forest.specs.declared.rule.CallStep.{CallStep}
 use Rattle.forest.specs.declared.view.SeatedPass.{SeatedPass}
 use Rattle.forest.specs.declared.view.SeatView.{SeatView}
 
@@ -70,16 +70,16 @@ abbrev pub past_of : SeatedPass → List Row → History
 past_of p others = history_of p.layout.mode (others ++ p.known)
 
 -- the row that a step of pass c leaves when it is made after the history
-abbrev pub row : ℕ → Asked → History → Row
+abbrev pub row : ℕ → CallStep → History → Row
 row c said h = record { pass = record { 0 = c }; call = said.call; kind = said.step.kind; word = said.step.word; before = value h said.step.word; after = word_after said.step.access (value h said.step.word) }
 
 -- the step may be made after what the pass knows and any rows of others
-abbrev pub MayStep : (Layout → History → ℕ → Type 0) → Asked → SeatedPass → Type 0
+abbrev pub MayStep : (Layout → History → ℕ → Type 0) → CallStep → SeatedPass → Type 0
 MayStep allows said p = (others : List Row) → ByOthers p.number.0 others → IsRun allows p.layout (past_of p others) → IsRun allows p.layout (row p.number.0 said (past_of p others) ⊳ past_of p others)
 
 -- the only pass of a seat has made the step behind rows of others;
 -- it was told n, and knows the run up to its step
-pub record Made (allows : Layout → History → ℕ → Type 0) (said : Asked) (ps : List SeatedPass) (n : ℕ) (qs : List SeatedPass) : Type 0 where
+pub record Made (allows : Layout → History → ℕ → Type 0) (said : CallStep) (ps : List SeatedPass) (n : ℕ) (qs : List SeatedPass) : Type 0 where
   pub pass : SeatedPass
   pub others : List Row
   pub was : ps ≡ pass ∷ []
@@ -90,7 +90,7 @@ pub record Made (allows : Layout → History → ℕ → Type 0) (said : Asked) 
   pub is : qs ≡ seated_pass pass.number.0 pass.layout (row pass.number.0 said (past_of pass others) ∷ (others ++ pass.known)) ∷ []
 
 -- a look at the table: a load of the head of node 0, which is of no call
-abbrev pub look : Asked
+abbrev pub look : CallStep
 look = record { call = 0; step = record { kind = LoadSettled; word = node 0 (Settled Head); access = Load } }
 
 -- the first of two passes of a seat has looked at the table behind a run of which both knew a

@@ -19,7 +19,7 @@ ghost use Rattle.forest.specs.JoinedSeats.{IsFrom, AreIn};
 
 use crate::forest::Forest;
 use crate::pass::Pass;
-use crate::rule::Asked;
+use crate::rule::CallStep;
 use crate::view::SeatView;
 use crate::words::Words;
 use arena::{
@@ -267,7 +267,7 @@ fn seat_of<S: Shape>(words: &Words<S>, layout: &Layout, pass: Pass<S>) -> Seat<u
         word: Word::Node(NodeNo(0), NodeWord::Settled(SettledPart::Head)),
         access: Access::Load,
     };
-    let asked = Asked { call: 0, step };
+    let asked = CallStep { call: 0, step };
     words.make::<Brand>(&mut seat, &asked, layout.place(step.word));
     seat
 }

@@ -19,7 +19,7 @@ impl<S: Shape> TableRule<u8, SeatView, Layout> for Lawful<S> {
 
 /// A step, and the number of the call that makes it.
 #[derive(Clone, Copy)]
-pub struct Asked {
+pub struct CallStep {
     /// The number of the call, 0 where the step is of no call.
     pub call: u64,
     /// The step that is made.
@@ -28,10 +28,10 @@ pub struct Asked {
 
 /// What the maker of a step says of it. Each call of a method of the table picks it.
 pub trait Says {
-    ghost use Rattle.forest.specs.declared.rule.Asked.{Asked};
+    ghost use Rattle.forest.specs.declared.rule.CallStep.{CallStep};
 
     /// The step that its maker says it is.
-    ghost said: { Asked };
+    ghost said: { CallStep };
 }
 
 impl Says for Brand {

@@ -9,7 +9,7 @@ ghost use Rattle.forest.specs.declared.view.SeatedPass.{SeatedPass};
 ghost use Rattle.forest.specs.Seats.{IsSeatAt, StaysAtTable};
 ghost use Rattle.forest.specs.TableRule.{IsPlaceOf, IsTableOf, TableIsLawful, MayStep, Made, Looked, new_passes, rest_of, first_of};
 
-use crate::rule::{Asked, Both, Deal, Lawful, Looks, Makes, Says};
+use crate::rule::{Both, CallStep, Deal, Lawful, Looks, Makes, Says};
 use crate::view::SeatView;
 use arena::{Access, Layout, NoMemory, NodeNo, NodeWord, PlainWords, SettledPart, Shape, Word};
 use atomic_table::{Closed, Seat, Table};
@@ -44,7 +44,7 @@ impl<S: Shape> Words<S> {
     pub(crate) fn make<J: Says>(
         &self,
         seat: &mut Seat<u8, SeatView>,
-        said: &Asked,
+        said: &CallStep,
         at: usize,
     ) -> u64
         requires said { said.now ≡ J.said }

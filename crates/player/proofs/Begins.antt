@@ -11,7 +11,7 @@ use Rattle.script.specs.Cells.{cells_of}
 use Rattle.script.specs.Update.{update_cells, update_finalize, update_field, update_value}
 use Rattle.arena.specs.declared.number.NodeNo.{NodeNo}
 use Rattle.arena.specs.declared.word.Side.{Side}
-use Rattle.player.specs.declared.kept.Found.{Found}
+use Rattle.player.specs.declared.kept.KeptSnapshot.{KeptSnapshot}
 use Rattle.record.specs.Snapshots.{AreLinked}
 use Rattle.player.specs.KeptSnaps.{AllKept, IsFirstUnkept, IsUnspent, kept_of}
 use Rattle.player.proofs.EachCall.{few_pairs}
@@ -36,7 +36,7 @@ use Rattle.ordered_map.specs.declared.request.Request.TheVariants.{Range as Rang
 use Rattle.player.specs.declared.run.Run.{Run}
 use Rattle.player.specs.declared.run.Run.TheVariants.{Llx, Scx, Vlx, Map as MapRun}
 use Rattle.player.specs.declared.client.Client.{Client}
-use Rattle.player.specs.declared.client.Put.{Put}
+use Rattle.player.specs.declared.client.SetField.{SetField}
 use Rattle.record.specs.declared.record.Answer.{Answer}
 use Rattle.record.specs.declared.record.Answer.TheVariants.{Unlinked, Map as MapAnswer}
 use Rattle.record.specs.CommandRules.{command_steps}
@@ -74,17 +74,17 @@ none_late : (won : Option ℕ) (turn begin : ℕ) → won ≡ None → won ≡ S
 none_late won turn begin e d = cc
 
 -- what is kept of no node
-pub nothing_kept : {X : Type 0} {found : Option Found} {f : Found} → found ≡ None → found ≡ Some f → X
+pub nothing_kept : {X : Type 0} {found : Option KeptSnapshot} {f : KeptSnapshot} → found ≡ None → found ≡ Some f → X
 nothing_kept e d = absurd (cc)
 
 -- an LLX from its start, and the SCX that may follow it, make no more steps than their command may
-llx_few : (tries : ℕ) (command : Command) (n : ℕ) (then : Option Put) → IsLlxOf command n then → (taken : ℕ) → llx_left Start + then_left then ≤ command_steps command tries taken
+llx_few : (tries : ℕ) (command : Command) (n : ℕ) (then : Option SetField) → IsLlxOf command n then → (taken : ℕ) → llx_left Start + then_left then ≤ command_steps command tries taken
 llx_few tries (LlxCommand cell) n None f taken = omega arith
 llx_few tries (SetCommand field value) n (Some put) f taken = omega arith
 llx_few tries command n then f taken = absurd f
 
 -- an LLX of a cell
-pub llx_starts : (v : ClientView) (began : Option ℕ) (c : Client) (m : LlxRun) (then : Option Put) (command : Command) → IsSound v → v.layout.mode ≡ Records → Rests v c → IsNextCallUnbegun v began → m.at ≡ Start → m.node.0 ≤ 8 → command_of v c ≡ Some command → IsLlxOf command m.node.0 then → Starts v c (Llx m) then
+pub llx_starts : (v : ClientView) (began : Option ℕ) (c : Client) (m : LlxRun) (then : Option SetField) (command : Command) → IsSound v → v.layout.mode ≡ Records → Rests v c → IsNextCallUnbegun v began → m.at ≡ Start → m.node.0 ≤ 8 → command_of v c ≡ Some command → IsLlxOf command m.node.0 then → Starts v c (Llx m) then
 llx_starts v began c m then command sound mode r u start i is f = record {
   works = record { mode = mode; stands = r.stands; holds = r.holds; newest = tt; command = command; is = is; run_of = (i, f); limit = tt; is_pass = r.stands.is_pass; start = v.past; since = ends_self v.past; begun = sym u.start; moments = λ j p. absurd (omega arith); alone = λ j p. absurd (omega arith); room = tt; took = taken_none v c.pass.0 (no_hand (held c)) u.start; won = u.won; late = λ turn e. none_late v.won turn c.begin u.won e };
   none = r.none;
@@ -174,7 +174,7 @@ map_starts v began c m request sound mode r u few asks made is = record {
     has = ap (λ (o : Option Remaining). unwrap_or o record { next_node = 0; nodes = 0; next_scx = 0; scx = 0 }) (sym made.share)
 
 -- a machine of a command asks for a step first
-pub asks_first : (command : Command) (number : ℕ) (run : Run) (then : Option Put) → IsMachineOf command number run then → RunAsksFirst run
+pub asks_first : (command : Command) (number : ℕ) (run : Run) (then : Option SetField) → IsMachineOf command number run then → RunAsksFirst run
 asks_first command number (Llx m) then of = tt
 asks_first command number (Scx m) then of = tt
 asks_first command number (Vlx m) then of = tt

@@ -18,7 +18,7 @@ use Rattle.player.specs.declared.run.Ended.{Ended}
 use Rattle.player.specs.declared.run.Ended.TheVariants as ended
 use Rattle.player.specs.declared.client.Client.{Client}
 use Rattle.player.specs.declared.client.Running.{Running}
-use Rattle.player.specs.declared.client.Put.{Put}
+use Rattle.player.specs.declared.client.SetField.{SetField}
 use Rattle.record.specs.declared.record.Answer.{Answer}
 use Rattle.record.specs.CommandRules.{command_steps}
 use Rattle.player.specs.RunKnown.{RunWaits, RunAnswers, IsSameMachine, run_mode, share_behind}
@@ -30,7 +30,7 @@ use Rattle.player.specs.Hearing.{HasAnswered, HasHeard}
 record IsKept (left : Remaining) (old now : Run) : Type 0 where
   hand : in_hand left now ≡ in_hand left old
   newest : HasNewest left old → HasNewest left now
-  run_of : (command : Command) (number : ℕ) (then : Option Put) → IsMachineOf command number old then → IsMachineOf command number now then
+  run_of : (command : Command) (number : ℕ) (then : Option SetField) → IsMachineOf command number old then → IsMachineOf command number now then
   begun : (start begin : History) → IsStart old start begin → IsStart now start begin
   snaps : snaps_of now ≡ snaps_of old
   won : (v : ClientView) (c : ℕ) → IsWonBy v c old → IsWonBy v c now
@@ -43,7 +43,7 @@ record IsKept (left : Remaining) (old now : Run) : Type 0 where
 put_same : (a b : PutRun) (number : ℕ) (nodes removed : List ℕ) (field : ℕ × Side) (x : ℕ) → b.scx.update ≡ a.scx.update → b.scx.call ≡ a.scx.call → b.value ≡ a.value → IsPutOf a number nodes removed field x → IsPutOf b number nodes removed field x
 put_same a b number nodes removed field x u k w y = record { called = rw k y.called; covers = rw u y.covers; finalizes = rw u y.finalizes; node = rw u y.node; side = rw u y.side; value = rw w y.value }
 
-scx_same : (command : Command) (number : ℕ) (a b : PutRun) (then : Option Put) → IsSameMachine (Scx a) (Scx b) → IsScxOf command number a then → IsScxOf command number b then
+scx_same : (command : Command) (number : ℕ) (a b : PutRun) (then : Option SetField) → IsSameMachine (Scx a) (Scx b) → IsScxOf command number a then → IsScxOf command number b then
 scx_same (ScxOf update) number a b None x y = put_same a b number _ _ _ _ x.1 x.2 x.3 y
 scx_same (SetOf field value) number a b None x y = put_same a b number _ _ _ _ x.1 x.2 x.3 y
 scx_same (ScxOf update) number a b (Some put) x y = absurd y
@@ -87,7 +87,7 @@ took_so : (v : ClientView) (c : Client) (running : Option Running) (run : Run) �
 took_so v c running (Map m) x = x
 took_so v c running run x = x
 
-works_so : (v : ClientView) (c : Client) (running : Option Running) (old now : Run) (then : Option Put) → IsSameMachine old now → Works v c old then → Works v (record c { running = running }) now then
+works_so : (v : ClientView) (c : Client) (running : Option Running) (old now : Run) (then : Option SetField) → IsSameMachine old now → Works v c old then → Works v (record c { running = running }) now then
 works_so v c running old now then same w =
     let k = is_kept (held c) old now same in
     record {
@@ -112,7 +112,7 @@ works_so v c running old now then same w =
     }
 
 -- a machine that asks for a step waits for it, and has fewer steps left
-pub goes_on : (v : ClientView) (c : Client) (old now : Run) (then : Option Put) (step : Step) (w : Works v c old then) → IsSameMachine old now → RunWaits now (machine_call v c w.is_pass w.start) v.past step → ((taken : ℕ) → length (taken_nodes v.past) ≤ taken → v.steps + left_of old then taken ≤ command_steps w.command v.tries taken) → ((taken : ℕ) → length (taken_nodes v.past) ≤ taken → run_left now taken < run_left old taken) → GoesOn v c (record c { running = Some (record { run = now; then = then; step = step }) })
+pub goes_on : (v : ClientView) (c : Client) (old now : Run) (then : Option SetField) (step : Step) (w : Works v c old then) → IsSameMachine old now → RunWaits now (machine_call v c w.is_pass w.start) v.past step → ((taken : ℕ) → length (taken_nodes v.past) ≤ taken → v.steps + left_of old then taken ≤ command_steps w.command v.tries taken) → ((taken : ℕ) → length (taken_nodes v.past) ≤ taken → run_left now taken < run_left old taken) → GoesOn v c (record c { running = Some (record { run = now; then = then; step = step }) })
 unfolding works_so
 goes_on v c old now then step w same waits few nearer = record {
   same = record { pass = refl; number = refl; next = refl };
@@ -147,7 +147,7 @@ is_itself (Vlx m) = refl
 is_itself (Map m) = (refl, refl)
 
 -- with its share back, the client is the same
-back_so : (v : ClientView) (c : Client) (run : Run) (then : Option Put) → Works v c run then → Works v (record c { share = share_behind run c.share }) run then
+back_so : (v : ClientView) (c : Client) (run : Run) (then : Option SetField) → Works v c run then → Works v (record c { share = share_behind run c.share }) run then
 back_so v c (Map m) then w = record {
   mode = w.mode;
   stands = record { is_pass = w.stands.is_pass; tries = w.stands.tries; number = w.stands.number; place = w.stands.place; kept = w.stands.kept; unkept = w.stands.unkept; dropped = w.stands.dropped; free = w.stands.free };
@@ -175,7 +175,7 @@ is_back : (run : Run) (had : Option Remaining) → share_behind run had ≡ shar
 is_back (Map m) had = refl
 is_back run had = refl
 
-answered_back : (v : ClientView) (c : Client) (run : Run) (then : Option Put) (end : Ended) (w : Works v c run then) → c.running ≡ None → RunAnswers run (machine_call v c w.is_pass w.start) v.past end → ((taken : ℕ) → length (taken_nodes v.past) ≤ taken → v.steps + then_left then ≤ command_steps w.command v.tries taken) → Answered v (record c { share = share_behind run c.share }) run then end
+answered_back : (v : ClientView) (c : Client) (run : Run) (then : Option SetField) (end : Ended) (w : Works v c run then) → c.running ≡ None → RunAnswers run (machine_call v c w.is_pass w.start) v.past end → ((taken : ℕ) → length (taken_nodes v.past) ≤ taken → v.steps + then_left then ≤ command_steps w.command v.tries taken) → Answered v (record c { share = share_behind run c.share }) run then end
 unfolding back_so
 answered_back v c (Map m) then end w none a few = record { works = back_so v c (Map m) then w; none = none; answers = a; back = refl; few = few }
 answered_back v c run then end w none a few = record { works = back_so v c run then w; none = none; answers = a; back = refl; few = few }
@@ -196,7 +196,7 @@ pub told_from : (v : ClientView) (c mid new : Client) (rest : Option Running) (s
 told_from v c mid new rest share answer is x = told_so v c new rest share answer (subst (λ (k : Client). HasBeenTold v k new answer) is x)
 
 -- what a machine has answered tells which machine it was
-pub after_run : (v : ClientView) (c new : Client) (run : Run) (then : Option Put) (end : Ended) (a : LlxAnswer) (answer : Option Answer) → end ≡ ended.Llx a → Answered v c run then end → ((m : LlxRun) → Answered v c (Llx m) then (ended.Llx a) → HasBeenTold v c new answer) → HasBeenTold v c new answer
+pub after_run : (v : ClientView) (c new : Client) (run : Run) (then : Option SetField) (end : Ended) (a : LlxAnswer) (answer : Option Answer) → end ≡ ended.Llx a → Answered v c run then end → ((m : LlxRun) → Answered v c (Llx m) then (ended.Llx a) → HasBeenTold v c new answer) → HasBeenTold v c new answer
 after_run v c new run then end a answer e x f = go run (subst (λ t. Answered v c run then t) e x)
   where
     go : (run : Run) → Answered v c run then (ended.Llx a) → HasBeenTold v c new answer

@@ -47,9 +47,9 @@ use Rattle.record.specs.Replied.{HasReplied}
 use Rattle.record.specs.Rules.Edit.{EditIsRight, EditTells, HadToChange, HasChangedOrReplied}
 use Rattle.record.specs.Shares.{HasTooFew, HasTooFewToTry, WasBlocked}
 use Rattle.record.proofs.Lemmas.{value_told}
-use Rattle.moments.specs.declared.places.Change.{Change}
-use Rattle.moments.specs.Changed.{edited_key}
-use Rattle.moments.specs.Ordered.{IsOrderedRead}
+use Rattle.linearization.specs.declared.places.Change.{Change}
+use Rattle.linearization.specs.Changed.{edited_key}
+use Rattle.linearization.specs.Ordered.{IsOrderedRead}
 use Rattle.player.specs.declared.client.Client.{Client}
 use Rattle.player.specs.ClientView.{ClientView, machine_call}
 use Rattle.player.specs.Moments.{IsAnswerMoment, IsOrderedMoment, IsReadMoment, IsReadingMoment, IsWonOrRead}

@@ -16,8 +16,8 @@ use Rattle.script.specs.declared.call.Call.{Call}
 use Rattle.script.specs.declared.command.Command.{Command}
 use Rattle.record.specs.declared.record.Line.{Line}
 use Rattle.record.specs.declared.record.Line.TheVariants.{Step, Log, Reply as ReplyLine}
-use Rattle.record.specs.declared.record.Row.{Row as Turn}
-use Rattle.record.specs.declared.record.Row.TheVariants.{Step as Made, Idle}
+use Rattle.record.specs.declared.record.TurnRow.{TurnRow as Turn}
+use Rattle.record.specs.declared.record.TurnRow.TheVariants.{Step as Made, Idle}
 use Rattle.record.specs.declared.record.Entry.{Entry}
 use Rattle.record.specs.declared.record.Finished.{Finished}
 use Rattle.record.specs.Answers.{HasItsEntry}
@@ -30,12 +30,12 @@ use Rattle.record.specs.Placed.{IsPlacedChange, IsRefused}
 use Rattle.record.specs.SpelledMap.{AreSpelled}
 use Rattle.record.specs.Turns.{history, turns, answered, begin, start, won, entry_owed, client_of}
 use Rattle.player.specs.Allowed.{PlayedAllows}
-use Rattle.moments.specs.declared.places.Change.{Change}
+use Rattle.linearization.specs.declared.places.Change.{Change}
 use Rattle.player.specs.Moments.{IsMomentBy}
 use Rattle.player.specs.ClientView.{client_view, Tells, IsToldChange}
 use Rattle.record.proofs.Lemmas.{entries_none}
-use Rattle.moments.specs.Entries.{AreEntries}
-use Rattle.moments.proofs.Lemmas.{spelled}
+use Rattle.linearization.specs.Entries.{AreEntries}
+use Rattle.linearization.proofs.Lemmas.{spelled}
 use Rattle.player.proofs.MapCalls.{AreOf, map_calls, run_before, tree_run}
 use Rattle.player.proofs.Winners.{win_enters}
 

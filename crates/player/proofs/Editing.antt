@@ -61,7 +61,7 @@ use Rattle.edits.specs.declared.update.UpdateAt.TheVariants.{Start, Walk, Look, 
 use Rattle.edits.specs.declared.update.UpdateRun.{UpdateRun}
 use Rattle.script.specs.declared.command.Command.{Command}
 use Rattle.script.specs.declared.command.Command.TheVariants.{Scx as ScxOf, Set as SetOf}
-use Rattle.player.specs.declared.client.Put.{Put}
+use Rattle.player.specs.declared.client.SetField.{SetField}
 use Rattle.player.specs.declared.run.Run.{Run}
 use Rattle.player.specs.declared.run.Run.TheVariants.{Llx, Scx as ScxRun, Vlx, Map}
 use Rattle.player.specs.RunKnown.{RunWaits, edit_at, edit_inside}
@@ -221,13 +221,13 @@ put_says_at m call h s t v PutStart w kind word = absurd w
 put_says_at m call h s t v PutFill w kind word = absurd (let z = ap (λ (q : Step). q.word) (sym w.2) ∙ word in cc)
 put_says_at m call h s t v PutScx w kind word = scx_says AllowsAll (job_of m.scx) call h m.scx.at s t v w.1 kind word
 
-put_called : (command : Command) (number : ℕ) (m : PutRun) (then : Option Put) → IsScxOf command number m then → m.scx.call ≡ number
+put_called : (command : Command) (number : ℕ) (m : PutRun) (then : Option SetField) → IsScxOf command number m then → m.scx.call ≡ number
 put_called (ScxOf update) number m None x = x.called
 put_called (SetOf field y) number m None x = x.called
 put_called command number m then x = absurd x
 
 -- a machine that fills the word `call` stores there the number of the client's call
-pub run_says : (command : Command) (run : Run) (then : Option Put) (call : MachineCall) (h : History) (s : Step) (t v : ℕ) → IsMachineOf command call.number run then → RunWaits run call h s → s.kind ≡ FillKind → s.word ≡ scx_word t CallWord → word_after s.access v ≡ call.number
+pub run_says : (command : Command) (run : Run) (then : Option SetField) (call : MachineCall) (h : History) (s : Step) (t v : ℕ) → IsMachineOf command call.number run then → RunWaits run call h s → s.kind ≡ FillKind → s.word ≡ scx_word t CallWord → word_after s.access v ≡ call.number
 run_says command (Llx m) then call h s t v of w kind word = absurd (llx_fills_not AllowsAll m call h s w kind)
 run_says command (Vlx m) then call h s t v of w kind word = absurd (vlx_fills_not m.snaps m.asked call h s w kind)
 run_says command (ScxRun m) then call h s t v of w kind word = put_says_at m call h s t v m.at w kind word ∙ put_called command call.number m then of

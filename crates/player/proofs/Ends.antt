@@ -38,9 +38,9 @@ use Rattle.player.specs.declared.run.Run.TheVariants.{Llx, Scx, Vlx, Map}
 use Rattle.player.specs.declared.run.Ended.{Ended}
 use Rattle.player.specs.declared.run.Ended.TheVariants as ended
 use Rattle.player.specs.declared.client.Client.{Client}
-use Rattle.player.specs.declared.client.Put.{Put}
+use Rattle.player.specs.declared.client.SetField.{SetField}
 use Rattle.player.specs.declared.kept.Kept.{Kept}
-use Rattle.player.specs.declared.kept.Found.{Found}
+use Rattle.player.specs.declared.kept.KeptSnapshot.{KeptSnapshot}
 use Rattle.ordered_map.specs.declared.reply.Reply.{Reply}
 use Rattle.record.specs.declared.record.Answer.{Answer}
 use Rattle.record.specs.declared.record.Answer.TheVariants.{Map as MapAnswer}
@@ -158,7 +158,7 @@ are_linked v c command snaps nodes e f n q =
     subst (λ (m : Option History). IsSome m) (sym (subst (λ (k : ℕ). v.linked k ≡ Some z.0) i.is z.1)) refl
 
 -- what the answer of an SCX says
-scx_outcome : (v : ClientView) (c : Client) (command : Command) (m : PutRun) (then : Option Put) (a : ScxAnswer) (start : History) → Extends start v.start → (is_pass : c.pass.0 < v.layout.passes) → IsScxOf command c.number m then → HaveMoments v c.pass.0 command m.scx.update.snaps → AreLeftAlone v.layout c.pass.0 start m.scx.update.snaps → HasRoom v.layout c.pass.0 v.start → (a ≡ ScxDone → (turn : ℕ) × (v.won ≡ Some turn)) → (a ≢ ScxDone → v.won ≡ None) → HasTakenAtMost v.layout c.pass.0 v.past v.start 1 1 → PutAnswers m (machine_call v c is_pass start) v.past a → IsOutcome v c.pass.0 m.scx.update.snaps command (answer_of (ended.Scx a))
+scx_outcome : (v : ClientView) (c : Client) (command : Command) (m : PutRun) (then : Option SetField) (a : ScxAnswer) (start : History) → Extends start v.start → (is_pass : c.pass.0 < v.layout.passes) → IsScxOf command c.number m then → HaveMoments v c.pass.0 command m.scx.update.snaps → AreLeftAlone v.layout c.pass.0 start m.scx.update.snaps → HasRoom v.layout c.pass.0 v.start → (a ≡ ScxDone → (turn : ℕ) × (v.won ≡ Some turn)) → (a ≢ ScxDone → v.won ≡ None) → HasTakenAtMost v.layout c.pass.0 v.past v.start 1 1 → PutAnswers m (machine_call v c is_pass start) v.past a → IsOutcome v c.pass.0 m.scx.update.snaps command (answer_of (ended.Scx a))
 scx_outcome v c (ScxOf update) m None ScxDone start since is_pass x moments alone room done lost took y = record {
   answers = tt;
   right = room;
@@ -218,10 +218,10 @@ stands_scx v c m linked drops y = record {
 }
   where
     -- what is still kept is not of those snapshots
-    other : (n : ℕ) (found : Found) → kept_of c.kept n ≡ Some found → IsAmong m.scx.update.snaps n → ⊥
+    other : (n : ℕ) (found : KeptSnapshot) → kept_of c.kept n ≡ Some found → IsAmong m.scx.update.snaps n → ⊥
     other n found e z = let none : kept_of c.kept n ≡ None = y.dropped n z in let some : kept_of c.kept n ≡ Some found = e in cc
 
-    kept : (n : ℕ) (found : Found) → kept_of c.kept n ≡ Some found → (moment : History) × (linked n ≡ Some moment) × IsUnspent v.layout c.pass.0 v.past (snap_of n found) moment
+    kept : (n : ℕ) (found : KeptSnapshot) → kept_of c.kept n ≡ Some found → (moment : History) × (linked n ≡ Some moment) × IsUnspent v.layout c.pass.0 v.past (snap_of n found) moment
     kept n found e = let z = y.kept n found e in (z.0, drops.others n (other n found e) ∙ z.1, z.2)
 
     unkept : (n : ℕ) → n ≤ 8 → kept_of c.kept n ≡ None → v.linked n ≡ None → linked n ≡ None
@@ -232,14 +232,14 @@ stands_scx v c m linked drops y = record {
         go false q = drops.others n (λ w. let t : has_snap m.scx.update.snaps n ≡ true = snap_found m.scx.update.snaps n w.at w.within w.is in cc) ∙ z
 
 -- its SCX-record is taken, and finished
-scx_finished : (v : ClientView) (c : Client) (m : PutRun) (then : Option Put) (a : ScxAnswer) → Answered v c (Scx m) then (ended.Scx a) → value v.past (state m.scx.scx.0) ≢ 0
+scx_finished : (v : ClientView) (c : Client) (m : PutRun) (then : Option SetField) (a : ScxAnswer) → Answered v c (Scx m) then (ended.Scx a) → value v.past (state m.scx.scx.0) ≢ 0
 scx_finished v c m then a x = put_finished m (machine_call v c x.works.is_pass x.works.start) v.past a x.answers
 
-scx_taken : (v : ClientView) (c : Client) (m : PutRun) (then : Option Put) (a : ScxAnswer) → IsSound v → Answered v c (Scx m) then (ended.Scx a) → IsTakenScx v.past m.scx.scx.0
+scx_taken : (v : ClientView) (c : Client) (m : PutRun) (then : Option SetField) (a : ScxAnswer) → IsSound v → Answered v c (Scx m) then (ended.Scx a) → IsTakenScx v.past m.scx.scx.0
 scx_taken v c m then a sound x = finished_taken v.layout v.past m.scx.scx.0 sound.lawful x.works.newest.2 (scx_finished v c m then a x)
 
 -- and the client has taken what it had in hand
-holds_scx : (v : ClientView) (c : Client) (m : PutRun) (then : Option Put) (a : ScxAnswer) (linked : ℕ → Option History) → IsSound v → Answered v c (Scx m) then (ended.Scx a) → HoldsShare (record v { linked = linked }) c (no_hand (held c))
+holds_scx : (v : ClientView) (c : Client) (m : PutRun) (then : Option SetField) (a : ScxAnswer) (linked : ℕ → Option History) → IsSound v → Answered v c (Scx m) then (ended.Scx a) → HoldsShare (record v { linked = linked }) c (no_hand (held c))
 holds_scx v c m then a linked sound x = record {
   some = x.works.holds.some;
   share = share_ends v.layout v.past c.pass.0 (held c) m.scx.update.fresh.0 m.scx.scx.0 x.works.newest.0 x.works.newest.1 x.answers.0.taken (scx_taken v c m then a sound x) x.works.holds.share;
@@ -247,7 +247,7 @@ holds_scx v c m then a linked sound x = record {
 }
 
 -- the call of an SCX ends with its answer
-ends_scx : (v : ClientView) (c : Client) (run : Run) (then : Option Put) (a : ScxAnswer) → IsSound v → Answered v c run then (ended.Scx a) → EndsCall v c c (answer_of (ended.Scx a))
+ends_scx : (v : ClientView) (c : Client) (run : Run) (then : Option SetField) (a : ScxAnswer) → IsSound v → Answered v c run then (ended.Scx a) → EndsCall v c c (answer_of (ended.Scx a))
 ends_scx v c (Scx m) then a sound x =
     record {
       same = record { pass = refl; number = refl; next = refl };
@@ -301,7 +301,7 @@ first_changed v c cells snaps node index e moments within is found =
         subst (IsAsSnapped v.layout v.start v.linked) (sym (cell_is snaps i (omega (arith, within)))) (z.moment, z.source, record { same = w.last z.moment z.found; not_final = w.not_final })
 
 -- what the answer of a VLX says: it leaves the snapshots
-vlx_outcome : (v : ClientView) (c : Client) (command : Command) (m : VlxRun (List Snap)) (then : Option Put) (a : VlxAnswer) → IsVlxOf command m.snaps then → HaveMoments v c.pass.0 command m.snaps → AreLeftAlone v.layout c.pass.0 v.start m.snaps → v.won ≡ None → HasTakenAtMost v.layout c.pass.0 v.past v.start 0 0 → (is_pass : c.pass.0 < v.layout.passes) → VlxAnswers m.snaps (machine_call v c is_pass v.start) v.past a → IsOutcome v c.pass.0 [] command (answer_of (ended.Vlx a))
+vlx_outcome : (v : ClientView) (c : Client) (command : Command) (m : VlxRun (List Snap)) (then : Option SetField) (a : VlxAnswer) → IsVlxOf command m.snaps then → HaveMoments v c.pass.0 command m.snaps → AreLeftAlone v.layout c.pass.0 v.start m.snaps → v.won ≡ None → HasTakenAtMost v.layout c.pass.0 v.past v.start 0 0 → (is_pass : c.pass.0 < v.layout.passes) → VlxAnswers m.snaps (machine_call v c is_pass v.start) v.past a → IsOutcome v c.pass.0 [] command (answer_of (ended.Vlx a))
 vlx_outcome v c (VlxOf cells) m None VlxSame x moments alone won took is_pass y = record {
   answers = tt;
   right = λ n q. same n (rw (sym x) at q);
@@ -350,7 +350,7 @@ rests_as v c linked drops x = record {
 holds_as : (v : ClientView) (c : Client) (linked : ℕ → Option History) (hand : Hand) → HoldsShare v c hand → HoldsShare (record v { linked = linked }) c hand
 holds_as v c linked hand x = record { some = x.some; share = x.share; over = x.over }
 
-ends_vlx : (v : ClientView) (c : Client) (run : Run) (then : Option Put) (a : VlxAnswer) → Answered v c run then (ended.Vlx a) → EndsCall v c c (answer_of (ended.Vlx a))
+ends_vlx : (v : ClientView) (c : Client) (run : Run) (then : Option SetField) (a : VlxAnswer) → Answered v c run then (ended.Vlx a) → EndsCall v c c (answer_of (ended.Vlx a))
 ends_vlx v c (Vlx m) then a x =
     let y = subst (λ (k : History). VlxAnswers m.snaps (machine_call v c x.works.is_pass k) v.past a) x.works.begun x.answers in
     let alone = subst (λ (k : History). AreLeftAlone v.layout c.pass.0 k m.snaps) x.works.begun x.works.alone in
@@ -403,7 +403,7 @@ holds_back v c share is_pass back rests = record {
   over = rw back (over_begins v.layout c.pass.0 share.next_scx v.past rests.over);
 }
 
-ends_map : (v : ClientView) (c : Client) (run : Run) (then : Option Put) (a : Reply ℕ ℕ) → Answered v c run then (ended.Map a) → EndsCall v c c (answer_of (ended.Map a))
+ends_map : (v : ClientView) (c : Client) (run : Run) (then : Option SetField) (a : Reply ℕ ℕ) → Answered v c run then (ended.Map a) → EndsCall v c c (answer_of (ended.Map a))
 ends_map v c (Map m) then a x =
     let works = x.works in
     let request = works.run_of.request in
@@ -427,7 +427,7 @@ ends_map v c (Map m) then a x =
 ends_map v c run then a x = absurd x.answers
 
 -- what has ended is the call of a machine other than an LLX
-pub ends_other : (v : ClientView) (c : Client) (run : Run) (then : Option Put) (end : Ended) → ((a : LlxAnswer) → end ≢ ended.Llx a) → IsSound v → Answered v c run then end → EndsCall v c c (answer_of end)
+pub ends_other : (v : ClientView) (c : Client) (run : Run) (then : Option SetField) (end : Ended) → ((a : LlxAnswer) → end ≢ ended.Llx a) → IsSound v → Answered v c run then end → EndsCall v c c (answer_of end)
 ends_other v c run then (ended.Llx a) d sound x = absurd (d a refl)
 ends_other v c run then (ended.Scx a) d sound x = ends_scx v c run then a sound x
 ends_other v c run then (ended.Vlx a) d sound x = ends_vlx v c run then a x
@@ -436,13 +436,13 @@ ends_other v c run then (ended.Map a) d sound x = ends_map v c run then a x
 -- The end of an LLX
 
 -- the node of its answer is the one that it looked at
-answer_node : (v : ClientView) (c : Client) (m : LlxRun) (then : Option Put) (a : LlxAnswer) → Answered v c (Llx m) then (ended.Llx a) → node_of a ≡ m.node.0
+answer_node : (v : ClientView) (c : Client) (m : LlxRun) (then : Option SetField) (a : LlxAnswer) → Answered v c (Llx m) then (ended.Llx a) → node_of a ≡ m.node.0
 answer_node v c m then (LlxSnapshot snap) x = x.answers.0.node
 answer_node v c m then (LlxFinalized node scx) x = x.answers.0
 answer_node v c m then (LlxFail node scx) x = x.answers.0
 
 -- its snapshot may be used from now on, and is unspent
-pub snapshot_unspent : (v : ClientView) (c : Client) (m : LlxRun) (then : Option Put) (snap : Snap) → IsSound v → Answered v c (Llx m) then (ended.Llx (LlxSnapshot snap)) → IsUnspent v.layout c.pass.0 v.past snap v.past
+pub snapshot_unspent : (v : ClientView) (c : Client) (m : LlxRun) (then : Option SetField) (snap : Snap) → IsSound v → Answered v c (Llx m) then (ended.Llx (LlxSnapshot snap)) → IsUnspent v.layout c.pass.0 v.past snap v.past
 snapshot_unspent v c m then snap sound x = record {
   usable = usable_now v.layout v.past m.node.0 snap x.answers.0;
   alone = alone_now v.layout c.pass.0 v.past m.node.0 snap (all_idle v.layout v.past c.pass.0 (held c) _ _ sound.lawful x.works.holds.share x.works.holds.over) x.answers.0;
@@ -455,7 +455,7 @@ moment_then (LlxFinalized node scx) now = None
 moment_then (LlxFail node scx) now = None
 
 -- with its snapshot kept, or dropped, the client rests
-pub rests_kept : (v : ClientView) (c : Client) (kept : Kept) (m : LlxRun) (then : Option Put) (a : LlxAnswer) (linked : ℕ → Option History) → IsSound v → Answered v c (Llx m) then (ended.Llx a) → kept.found ≡ set c.kept.found (node_of a) (found_of a) → ((n : ℕ) → linked n ≡ cond (eqb (node_of a) n) (moment_then a v.past) (v.linked n)) → Rests (record v { linked = linked }) (record c { kept = kept })
+pub rests_kept : (v : ClientView) (c : Client) (kept : Kept) (m : LlxRun) (then : Option SetField) (a : LlxAnswer) (linked : ℕ → Option History) → IsSound v → Answered v c (Llx m) then (ended.Llx a) → kept.found ≡ set c.kept.found (node_of a) (found_of a) → ((n : ℕ) → linked n ≡ cond (eqb (node_of a) n) (moment_then a v.past) (v.linked n)) → Rests (record v { linked = linked }) (record c { kept = kept })
 rests_kept v c kept m then a linked sound x e said = record {
   stands = record {
     is_pass = y.is_pass;
@@ -482,13 +482,13 @@ rests_kept v c kept m then a linked sound x e said = record {
     none (LlxFinalized node scx) d = refl
     none (LlxFail node scx) d = refl
 
-    unspent : (a : LlxAnswer) → Answered v c (Llx m) then (ended.Llx a) → (found : Found) → found_of a ≡ Some found → (k : History) × (moment_then a v.past ≡ Some k) × IsUnspent v.layout c.pass.0 v.past (snap_of (node_of a) found) k
-    unspent (LlxSnapshot snap) z found d = let same : parts snap ≡ found = cc in (v.past, refl, subst (λ (f : Found). IsUnspent v.layout c.pass.0 v.past (snap_of snap.node.0 f) v.past) same (snapshot_unspent v c m then snap sound z))
+    unspent : (a : LlxAnswer) → Answered v c (Llx m) then (ended.Llx a) → (found : KeptSnapshot) → found_of a ≡ Some found → (k : History) × (moment_then a v.past ≡ Some k) × IsUnspent v.layout c.pass.0 v.past (snap_of (node_of a) found) k
+    unspent (LlxSnapshot snap) z found d = let same : parts snap ≡ found = cc in (v.past, refl, subst (λ (f : KeptSnapshot). IsUnspent v.layout c.pass.0 v.past (snap_of snap.node.0 f) v.past) same (snapshot_unspent v c m then snap sound z))
     unspent (LlxFinalized node scx) z found d = cc
     unspent (LlxFail node scx) z found d = cc
 
 -- a failed LLX failed since the call's begin
-failed_since : (v : ClientView) (c : Client) (m : LlxRun) (then : Option Put) (node : NodeNo) (scx : ScxNo) → Answered v c (Llx m) then (ended.Llx (LlxFail node scx)) → (node.0 ≡ m.node.0) × HasFailed v.layout c.pass.0 v.past v.start m.node.0 scx.0
+failed_since : (v : ClientView) (c : Client) (m : LlxRun) (then : Option SetField) (node : NodeNo) (scx : ScxNo) → Answered v c (Llx m) then (ended.Llx (LlxFail node scx)) → (node.0 ≡ m.node.0) × HasFailed v.layout c.pass.0 v.past v.start m.node.0 scx.0
 failed_since v c m then node scx x = (x.answers.0, subst (λ (k : History). HasFailed v.layout c.pass.0 v.past k m.node.0 scx.0) x.works.begun x.answers.1)
 
 -- what an LLX answers that ends a call
@@ -501,7 +501,7 @@ record IsLlxOutcome (v : ClientView) (c : ℕ) (command : Command) (a : LlxAnswe
   said : (n : ℕ) → linked_by v command (answer_of (ended.Llx a)) n ≡ cond (eqb (node_of a) n) (moment_then a v.past) (v.linked n)
 
 -- it ends an `llx`, and a `set` where it is no snapshot
-llx_outcome : (v : ClientView) (c : Client) (command : Command) (m : LlxRun) (then : Option Put) (a : LlxAnswer) → ((then ≡ None) ⊎ ((snap : Snap) → a ≢ LlxSnapshot snap)) → IsLlxOf command m.node.0 then → ((scx nodes : ℕ) → HasTakenAtMost v.layout c.pass.0 v.past v.start scx nodes) → Answered v c (Llx m) then (ended.Llx a) → IsLlxOutcome v c.pass.0 command a
+llx_outcome : (v : ClientView) (c : Client) (command : Command) (m : LlxRun) (then : Option SetField) (a : LlxAnswer) → ((then ≡ None) ⊎ ((snap : Snap) → a ≢ LlxSnapshot snap)) → IsLlxOf command m.node.0 then → ((scx nodes : ℕ) → HasTakenAtMost v.layout c.pass.0 v.past v.start scx nodes) → Answered v c (Llx m) then (ended.Llx a) → IsLlxOutcome v c.pass.0 command a
 llx_outcome v c (LlxOf cell) m None (LlxSnapshot snap) d x took y = record {
   answers = tt;
   entry = refl;
@@ -519,7 +519,7 @@ llx_outcome v c (SetOf field value) m (Some put) (LlxSnapshot snap) (inr d) x to
 llx_outcome v c command m then a d x took y = absurd x
 
 -- its call ends, where no SCX follows
-pub ends_llx : (v : ClientView) (old : Client) (kept : Kept) (m : LlxRun) (then : Option Put) (a : LlxAnswer) → IsSound v → Answered v old (Llx m) then (ended.Llx a) → kept.found ≡ set old.kept.found (node_of a) (found_of a) → ((then ≡ None) ⊎ ((snap : Snap) → a ≢ LlxSnapshot snap)) → EndsCall v old (record old { kept = kept }) (answer_of (ended.Llx a))
+pub ends_llx : (v : ClientView) (old : Client) (kept : Kept) (m : LlxRun) (then : Option SetField) (a : LlxAnswer) → IsSound v → Answered v old (Llx m) then (ended.Llx a) → kept.found ≡ set old.kept.found (node_of a) (found_of a) → ((then ≡ None) ⊎ ((snap : Snap) → a ≢ LlxSnapshot snap)) → EndsCall v old (record old { kept = kept }) (answer_of (ended.Llx a))
 ends_llx v old kept m then a sound x e d =
     let o = llx_outcome v old x.works.command m then a d x.works.run_of.1 (λ scx nodes. taken_nothing v old.pass.0 (held old) scx nodes x.works.holds.share x.works.took) x in
     record {

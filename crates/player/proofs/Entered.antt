@@ -31,7 +31,7 @@ use Rattle.player.specs.declared.run.Run.{Run}
 use Rattle.player.specs.declared.run.Run.TheVariants.{Llx, Scx, Vlx, Map}
 use Rattle.player.specs.declared.client.Client.{Client}
 use Rattle.player.specs.declared.client.Running.{Running}
-use Rattle.player.specs.declared.client.Put.{Put}
+use Rattle.player.specs.declared.client.SetField.{SetField}
 use Rattle.record.specs.Snapshots.{IsLastLook}
 use Rattle.record.specs.Answers.{IsUnchanged, AreUnchanged}
 use Rattle.record.specs.Updates.{IsEntryOver}
@@ -206,7 +206,7 @@ module _ (v : ClientView) (c : Client) (sound : IsSound v) (row : Row) (s : ℕ)
     entry_is : IsMapEntry (call_in m.run) v.layout v.past (entry_of v.layout v.past s)
     entry_is = entry_makes v.layout v.past s (call_in m.run) x.edit spelled.0 spelled.1 hand_gives x.hand.makes
 
-  from_map : (m : DictRun ℕ ℕ) (then : Option Put) (x : Works v c (Map m) then) → IsRun PlayedAllows v.layout (row ⊳ v.past) → IsEditHand (inner m.run) (machine_call v c x.is_pass v.start) v.past s → IsEntryFrom v c row s
+  from_map : (m : DictRun ℕ ℕ) (then : Option SetField) (x : Works v c (Map m) then) → IsRun PlayedAllows v.layout (row ⊳ v.past) → IsEditHand (inner m.run) (machine_call v c x.is_pass v.start) v.past s → IsEntryFrom v c row s
   from_map m then x run h = record {
     first = edit_first h.hand.only x.won;
     number = x.stands.number;
@@ -222,7 +222,7 @@ module _ (v : ClientView) (c : Client) (sound : IsSound v) (row : Row) (s : ℕ)
         (subst (λ (k : MapCall). IsMapEntry k v.layout v.past (entry_of v.layout v.past s)) x.run_of.called (entry_is m x.is_pass x.mode run h));
   }
 
-  from_run : (run : Run) (then : Option Put) (x : Works v c run then) → ((m : PutRun) → run ≡ Scx m → m.scx.scx.0 ≡ s → IsOfPut v c row m x.start x.is_pass) → ((m : DictRun ℕ ℕ) → run ≡ Map m → IsEditHand (inner m.run) (machine_call v c x.is_pass v.start) v.past s) → IsRun PlayedAllows v.layout (row ⊳ v.past) → IsEntryFrom v c row s
+  from_run : (run : Run) (then : Option SetField) (x : Works v c run then) → ((m : PutRun) → run ≡ Scx m → m.scx.scx.0 ≡ s → IsOfPut v c row m x.start x.is_pass) → ((m : DictRun ℕ ℕ) → run ≡ Map m → IsEditHand (inner m.run) (machine_call v c x.is_pass v.start) v.past s) → IsRun PlayedAllows v.layout (row ⊳ v.past) → IsEntryFrom v c row s
   from_run (Scx m) then x f g run =
       let same : s ≡ m.scx.scx.0 = own_in_hand v.layout v.past c.pass.0 s m.scx.scx.0 sound.lawful x.holds.over own in_progress in
       let y = f m refl (sym same) in
@@ -240,16 +240,16 @@ module _ (v : ClientView) (c : Client) (sound : IsSound v) (row : Row) (s : ℕ)
         does = by_then then x.run_of x.moments y;
       }
     where
-      called : (command : Command) (then : Option Put) → IsScxOf command c.number m then → m.scx.call ≡ c.number
+      called : (command : Command) (then : Option SetField) → IsScxOf command c.number m then → m.scx.call ≡ c.number
       called (ScxOf update) None p = p.called
       called (SetOf field y) None p = p.called
       called command then p = absurd p
 
-      by_then : (then : Option Put) → IsScxOf x.command c.number m then → HaveMoments v c.pass.0 x.command m.scx.update.snaps → IsOfPut v c row m x.start x.is_pass → IsEntryFor v.layout c.pass.0 v.past v.start v.linked (update_entry c.pass.0 m.scx) x.command
+      by_then : (then : Option SetField) → IsScxOf x.command c.number m then → HaveMoments v c.pass.0 x.command m.scx.update.snaps → IsOfPut v c row m x.start x.is_pass → IsEntryFor v.layout c.pass.0 v.past v.start v.linked (update_entry c.pass.0 m.scx) x.command
       by_then None p z y = does v c row m x.start x.is_pass y x.command p z
       by_then (Some put) p z y = absurd (none_then x.command put p)
         where
-          none_then : (command : Command) (put : Put) → IsScxOf command c.number m (Some put) → ⊥
+          none_then : (command : Command) (put : SetField) → IsScxOf command c.number m (Some put) → ⊥
           none_then (ScxOf update) put p = p
           none_then command put p = p
   from_run (Llx m) then x f g run = absurd (no_hand_wins x.holds)

@@ -13,7 +13,7 @@ use Rattle.script.specs.declared.schedule.Schedule.{Schedule}
 use Rattle.script.specs.declared.script.Script.{Script}
 use Rattle.record.specs.declared.record.Line.{Line}
 use Rattle.record.specs.declared.record.Line.TheVariants.{Step, Log, Reply}
-use Rattle.record.specs.declared.record.Row.{Row}
+use Rattle.record.specs.declared.record.TurnRow.{TurnRow}
 use Rattle.record.specs.declared.record.Entry.{Entry}
 use Rattle.record.specs.declared.record.Finished.{Finished}
 use Rattle.record.specs.Commands.{next_command}
@@ -32,7 +32,7 @@ use Rattle.player.proofs.Played.{turn_in_front}
 -- One turn
 
 -- where the turns are one more, no turn stands behind the newest, and that is the client's
-only_turn : (behind : List Line) (row : Row) (lines : List Line) (c : ℕ) → clients (behind ++ Step row ∷ lines) ≡ c ∷ clients lines → (clients behind ≡ []) × (client_of row ≡ c)
+only_turn : (behind : List Line) (row : TurnRow) (lines : List Line) (c : ℕ) → clients (behind ++ Step row ∷ lines) ≡ c ∷ clients lines → (clients behind ≡ []) × (client_of row ≡ c)
 only_turn behind row lines c e = only (clients behind) (client_of row) (clients lines) (sym (joined behind) ∙ e)
   where
     joined : (behind : List Line) → clients (behind ++ Step row ∷ lines) ≡ clients behind ++ client_of row ∷ clients lines
@@ -50,7 +50,7 @@ some_line : (newer : List Line) (line : Line) (older : List Line) → newer ++ l
 some_line [] line older e = cc
 some_line (first ∷ newer) line older e = cc
 
-module _ (p q : PlayerView) (c : ℕ) (row : Row) (t : IsTurnMore p q c row) where
+module _ (p q : PlayerView) (c : ℕ) (row : TurnRow) (t : IsTurnMore p q c row) where
   only : (clients t.behind ≡ []) × (client_of row ≡ c)
   only = only_turn t.behind row p.lines c (ap (λ (l : List Line). clients l) (sym t.lines) ∙ t.turns)
 
@@ -93,7 +93,7 @@ module _ (p q : PlayerView) (c : ℕ) (row : Row) (t : IsTurnMore p q c row) whe
 some_same : (a b : ℕ) → Some a ≡ Some b → a ≡ b
 some_same a b e = cc
 
-own_reply : (lay : Layout) (tries : ℕ) (calls : List Call) (row : Row) (entry : Option Entry) (reply : Finished) (lines : List Line) → AreLines lay tries calls (with_turn row entry (Some reply) lines) → reply.client.0 ≡ client_of row
+own_reply : (lay : Layout) (tries : ℕ) (calls : List Call) (row : TurnRow) (entry : Option Entry) (reply : Finished) (lines : List Line) → AreLines lay tries calls (with_turn row entry (Some reply) lines) → reply.client.0 ≡ client_of row
 unfolding AreLines
 own_reply lay tries calls row None reply lines x = some_same reply.client.0 (client_of row) (sym x.1.1.client)
 own_reply lay tries calls row (Some entry) reply lines x = some_same reply.client.0 (client_of row) (sym x.1.1.client)
@@ -111,7 +111,7 @@ replies_more p i more t played = ap (λ (l : List Line). answered l i) are ∙ g
     first_same : (a b : ℕ) (xs : List ℕ) → a ∷ xs ≡ b ∷ xs → a ≡ b
     first_same a b xs e = cc
 
-    turned : (row : Row) (entry : Option Entry) (reply : Option Finished) → clients (with_turn row entry reply p.lines) ≡ client_of row ∷ clients p.lines
+    turned : (row : TurnRow) (entry : Option Entry) (reply : Option Finished) → clients (with_turn row entry reply p.lines) ≡ client_of row ∷ clients p.lines
     turned row None None = refl
     turned row None (Some reply) = refl
     turned row (Some entry) None = refl
@@ -120,7 +120,7 @@ replies_more p i more t played = ap (λ (l : List Line). answered l i) are ∙ g
     own : client_of t.row ≡ i
     own = first_same (client_of t.row) i (clients p.lines) (sym (ap (λ (l : List Line). clients l) are ∙ turned t.row t.entry t.reply) ∙ t.turns)
 
-    go : (row : Row) (entry : Option Entry) (reply : Option Finished) → client_of row ≡ i → AreLines p.script.layout p.script.limits.tries p.script.calls (with_turn row entry reply p.lines) → answered (with_turn row entry reply p.lines) i ≡ answered p.lines i + from_bool (is_some reply)
+    go : (row : TurnRow) (entry : Option Entry) (reply : Option Finished) → client_of row ≡ i → AreLines p.script.layout p.script.limits.tries p.script.calls (with_turn row entry reply p.lines) → answered (with_turn row entry reply p.lines) i ≡ answered p.lines i + from_bool (is_some reply)
     go row None None own x = omega arith
     go row (Some entry) None own x = omega arith
     go row None (Some reply) own x = rw (eq-eqb reply.client.0 i (own_reply p.script.layout p.script.limits.tries p.script.calls row None reply p.lines x ∙ own)) (omega arith)
@@ -192,7 +192,7 @@ module _ (order : Order) (p : PlayerView) where
 
   module _ (such : PlayerView → Type 0) (left : ℕ) (x : HasFollowed p (IsPartDone p.script.calls order p.lines left) such) where
     -- a turn more is made, which counts so much
-    pub one_done : (next : PlayerView → Type 0) (count : ℕ) (q : PlayerView) (row : Row) (turned : Turned) → left ≤ wanted_of order → 0 < left → MayTurn x.later.script.calls order x.later.lines → count ≤ 1 → TellsTurn x.later q (ordered_client order) row turned → counting order q.lines ≡ counting order x.later.lines + count → next q → HasFollowed p (IsPartDone p.script.calls order p.lines (left - count)) next
+    pub one_done : (next : PlayerView → Type 0) (count : ℕ) (q : PlayerView) (row : TurnRow) (turned : Turned) → left ≤ wanted_of order → 0 < left → MayTurn x.later.script.calls order x.later.lines → count ≤ 1 → TellsTurn x.later q (ordered_client order) row turned → counting order q.lines ≡ counting order x.later.lines + count → next q → HasFollowed p (IsPartDone p.script.calls order p.lines (left - count)) next
     one_done next count q row turned few some may one told counts stands =
         let t = told.turn in
         let done = x.asked.so_far in

@@ -5,7 +5,7 @@ use Rattle.ordered_map.specs.OrderedMap.{MapEdit}
 use Rattle.script.specs.declared.call.Call.{Call}
 use Rattle.script.specs.declared.command.Command.{Command}
 use Rattle.record.specs.Commands.{commands}
-use Rattle.moments.specs.Places.{HoldsOfKey}
+use Rattle.linearization.specs.Places.{HoldsOfKey}
 
 pub some_edit : (a b : MapEdit) → Some a ≡ Some b → a ≡ b
 some_edit a b e = cc

@@ -14,13 +14,13 @@ use Rattle.dict.specs.Laws.Kinds.{is_of_kind}
 use Rattle.dict.proofs.Lemmas.{kind_inside}
 use Rattle.player.specs.declared.run.Run.{Run}
 use Rattle.player.specs.declared.run.Run.TheVariants.{Llx, Scx, Vlx, Map}
-use Rattle.player.specs.declared.client.Put.{Put}
+use Rattle.player.specs.declared.client.SetField.{SetField}
 use Rattle.record.specs.CommandRules.{MayMake}
 use Rattle.player.specs.RunKnown.{RunWaits}
 use Rattle.player.specs.ClientView.{IsMachineOf}
 
 -- its machine asks for no other
-pub may_make : (command : Command) (number : ℕ) (run : Run) (then : Option Put) (call : Call) (h : History) (step : Step) → IsMachineOf command number run then → RunWaits run call h step → MayMake command step.kind
+pub may_make : (command : Command) (number : ℕ) (run : Run) (then : Option SetField) (call : Call) (h : History) (step : Step) → IsMachineOf command number run then → RunWaits run call h step → MayMake command step.kind
 may_make (ScxOf update) number run then call h step of w = tt
 may_make (SetOf field value) number run then call h step of w = tt
 may_make command number (Map m) then call h step of w = subst (λ (k : Command). MayMake k step.kind) (sym of.is) (subst (λ (k : MapCall). (call_rules k).MayMake step.kind) of.called (kind_inside (inner m.run) (is_of_kind m.run) call h step w.1.1))

@@ -34,7 +34,7 @@ use Rattle.ordered_map.specs.FillOrder.{AreFilledInOrder, IsFillInOrder}
 use Rattle.script.specs.declared.call.Call.{Call}
 use Rattle.record.specs.declared.record.Line.{Line}
 use Rattle.record.specs.declared.record.Line.TheVariants.{Step, Log, Reply as ReplyLine}
-use Rattle.record.specs.declared.record.Row.TheVariants.{Step as Made, Idle}
+use Rattle.record.specs.declared.record.TurnRow.TheVariants.{Step as Made, Idle}
 use Rattle.record.specs.declared.record.Finished.{Finished}
 use Rattle.record.specs.declared.record.Entry.{Entry}
 use Rattle.ordered_map.specs.declared.reply.Reply.TheVariants.{Pairs, NoMemory}
@@ -49,8 +49,8 @@ use Rattle.record.specs.Commands.{commands, next_command}
 use Rattle.record.specs.Linked.{linked}
 use Rattle.record.specs.Answers.{HasItsEntry}
 use Rattle.player.specs.Moments.{IsMomentBy}
-use Rattle.moments.specs.declared.places.Change.{Change}
-use Rattle.moments.specs.Entries.{AreEntries}
+use Rattle.linearization.specs.declared.places.Change.{Change}
+use Rattle.linearization.specs.Entries.{AreEntries}
 use Rattle.player.proofs.MapCalls.{command_mode}
 use Rattle.player.proofs.Placing.{moment_same, moment_within}
 use Rattle.record.specs.CommandRules.{MayAnswerAtOnce, HasTakenFew, enters, IsRight}
@@ -63,8 +63,8 @@ use Rattle.record.proofs.Lemmas.{some_turn, start_kept, begin_within, won_within
 use Rattle.player.proofs.MapEnds.{entered_none}
 use Rattle.ordered_map.specs.OrderedMap.{ManyPairs}
 use Rattle.script.specs.Commands.{mode_of}
-use Rattle.moments.specs.Ordered.{FallFrom}
-use Rattle.moments.proofs.Lemmas.{falls, nothing_taken}
+use Rattle.linearization.specs.Ordered.{FallFrom}
+use Rattle.linearization.proofs.Lemmas.{falls, nothing_taken}
 
 -- Others
 

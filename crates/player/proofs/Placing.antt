@@ -15,9 +15,9 @@ use Rattle.record.specs.declared.record.Answer.TheVariants.{Snapshot, Finalized,
 use Rattle.record.specs.Answers.{HasItsEntry}
 use Rattle.record.specs.CommandRules.{MayAnswerAfterStep, IsRight, enters}
 use Rattle.record.proofs.Lemmas.{some_turn}
-use Rattle.moments.specs.declared.places.Change.{Change}
-use Rattle.moments.specs.Entries.{AreEntries}
-use Rattle.moments.specs.Ordered.{FallFrom}
+use Rattle.linearization.specs.declared.places.Change.{Change}
+use Rattle.linearization.specs.Entries.{AreEntries}
+use Rattle.linearization.specs.Ordered.{FallFrom}
 use Rattle.player.specs.Moments.{IsMomentBy, IsOrderedMoment, IsReadMoment}
 use Rattle.player.proofs.EachCall.{TookPlace, ByEntry, ByValue, ByReply, Nowhere, HasTakenPlace, IsMomentSo, is_by_entry, took_place}
 

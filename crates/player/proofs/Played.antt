@@ -15,7 +15,7 @@ use Rattle.player.specs.declared.client.Client.{Client}
 use Rattle.player.specs.declared.interleaving.Interleaving.{Interleaving}
 use Rattle.record.specs.declared.record.Line.{Line}
 use Rattle.record.specs.declared.record.Line.TheVariants.{Step, Log, Reply}
-use Rattle.record.specs.declared.record.Row.{Row}
+use Rattle.record.specs.declared.record.TurnRow.{TurnRow}
 use Rattle.record.specs.declared.record.Entry.{Entry}
 use Rattle.record.specs.declared.record.Finished.{Finished}
 use Rattle.record.specs.Turns.{history, clients, turns}
@@ -85,21 +85,21 @@ turns_few (Log entry ∷ lines) = let few = turns_few lines in omega (arith, few
 turns_few (Reply reply ∷ lines) = let few = turns_few lines in omega (arith, few)
 
 -- a turn is one more
-turn_counted : (row : Row) (entry : Option Entry) (reply : Option Finished) (lines : List Line) → turns (with_turn row entry reply lines) ≡ suc (turns lines)
+turn_counted : (row : TurnRow) (entry : Option Entry) (reply : Option Finished) (lines : List Line) → turns (with_turn row entry reply lines) ≡ suc (turns lines)
 turn_counted row None None lines = refl
 turn_counted row None (Some reply) lines = refl
 turn_counted row (Some entry) None lines = refl
 turn_counted row (Some entry) (Some reply) lines = refl
 
 -- a turn's lines come behind the others, the newest in front
-pub turn_in_front : (row : Row) (entry : Option Entry) (reply : Option Finished) (lines : List Line) → reverse (turn_lines row entry reply) ++ lines ≡ with_turn row entry reply lines
+pub turn_in_front : (row : TurnRow) (entry : Option Entry) (reply : Option Finished) (lines : List Line) → reverse (turn_lines row entry reply) ++ lines ≡ with_turn row entry reply lines
 turn_in_front row None None lines = refl
 turn_in_front row None (Some reply) lines = refl
 turn_in_front row (Some entry) None lines = refl
 turn_in_front row (Some entry) (Some reply) lines = refl
 
 -- a reply comes last
-pub reply_last : (row : Row) (entry : Option Entry) (reply : Finished) → turn_lines row entry None ++ Reply reply ∷ [] ≡ turn_lines row entry (Some reply)
+pub reply_last : (row : TurnRow) (entry : Option Entry) (reply : Finished) → turn_lines row entry None ++ Reply reply ∷ [] ≡ turn_lines row entry (Some reply)
 reply_last row None reply = refl
 reply_last row (Some entry) reply = refl
 
@@ -157,7 +157,7 @@ stands_still (Err e) old new i more same stays = λ p x. record { script = same 
 -- One turn more, as a player sees it
 
 -- entry and reply stand behind the row
-turn_behind : (row : Row) (entry : Option Entry) (reply : Option Finished) (lines : List Line) → with_turn row entry reply lines ≡ with_reply reply (with_entry entry []) ++ Step row ∷ lines
+turn_behind : (row : TurnRow) (entry : Option Entry) (reply : Option Finished) (lines : List Line) → with_turn row entry reply lines ≡ with_reply reply (with_entry entry []) ++ Step row ∷ lines
 turn_behind row None None lines = refl
 turn_behind row None (Some reply) lines = refl
 turn_behind row (Some entry) None lines = refl

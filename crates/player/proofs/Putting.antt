@@ -32,7 +32,7 @@ use Rattle.script.specs.declared.command.Command.TheVariants.{Set as SetOf}
 use Rattle.player.specs.declared.run.Run.TheVariants.{Llx, Scx}
 use Rattle.player.specs.declared.run.Ended.TheVariants as ended
 use Rattle.player.specs.declared.client.Client.{Client}
-use Rattle.player.specs.declared.client.Put.{Put}
+use Rattle.player.specs.declared.client.SetField.{SetField}
 use Rattle.player.specs.declared.kept.Kept.{Kept}
 use Rattle.record.specs.declared.record.Answer.{Answer}
 use Rattle.record.specs.declared.record.Answer.TheVariants.{Full}
@@ -77,13 +77,13 @@ single_snap : (snap : Snap) (i : ℕ) → i < length (snap ∷ []) → snap_at (
 single_snap snap i p = rw (let e : i ≡ 0 = omega arith in e) refl
 
 -- its LLX has just loaded the info of the cell
-just_looked : (v : ClientView) (c : Client) (m : LlxRun) (next : Option Put) (snap : Snap) → Answered v c (Llx m) next (ended.Llx (LlxSnapshot snap)) → IsLastLook c.pass.0 v.past v.start v.past snap.node.0
+just_looked : (v : ClientView) (c : Client) (m : LlxRun) (next : Option SetField) (snap : Snap) → Answered v c (Llx m) next (ended.Llx (LlxSnapshot snap)) → IsLastLook c.pass.0 v.past v.start v.past snap.node.0
 just_looked v c m next snap x =
     let y = x.answers.1 in
     record { row = y.row; before = y.before; is = y.is; since = subst (λ (s : History). Extends y.before s) x.works.begun y.since; last = subst (λ (h : History). IsLastStep c.pass.0 h LoadInfo snap.node.0 y.row y.before) (sym y.is) (last_now c.pass.0 y.before LoadInfo snap.node.0 y.row y.own y.kind (rw x.answers.0.node y.word)) }
 
 -- a snapshot that an SCX follows is that of a set, and with it the SCX may begin
-pub can_put : (v : ClientView) (old : Client) (kept : Kept) (m : LlxRun) (put : Put) (snap : Snap) → IsSound v → (x : Answered v old (Llx m) (Some put) (ended.Llx (LlxSnapshot snap))) → kept.found ≡ set old.kept.found (node_of (LlxSnapshot snap)) (found_of (LlxSnapshot snap)) → CanPut v (linked_now v x.works.command) (record old { kept = kept }) (snap ∷ []) [] (snap.node.0, put.side) put.value
+pub can_put : (v : ClientView) (old : Client) (kept : Kept) (m : LlxRun) (put : SetField) (snap : Snap) → IsSound v → (x : Answered v old (Llx m) (Some put) (ended.Llx (LlxSnapshot snap))) → kept.found ≡ set old.kept.found (node_of (LlxSnapshot snap)) (found_of (LlxSnapshot snap)) → CanPut v (linked_now v x.works.command) (record old { kept = kept }) (snap ∷ []) [] (snap.node.0, put.side) put.value
 can_put v old kept m put snap sound x e = go x.works.command x.works.is x.works.run_of.1 x.few
   where
     unspent : IsUnspent v.layout old.pass.0 v.past snap v.past
@@ -114,7 +114,7 @@ can_put v old kept m put snap sound x e = go x.works.command x.works.is x.works.
     go command is f few = absurd f
 
 -- what it answers then
-pub told_put : (v : ClientView) (old new : Client) (kept : Kept) (m : LlxRun) (put : Put) (snap : Snap) (answer : Option Answer) → (x : Answered v old (Llx m) (Some put) (ended.Llx (LlxSnapshot snap))) → Puts v (linked_now v x.works.command) (record old { kept = kept }) new answer → HasBeenTold v old new answer
+pub told_put : (v : ClientView) (old new : Client) (kept : Kept) (m : LlxRun) (put : SetField) (snap : Snap) (answer : Option Answer) → (x : Answered v old (Llx m) (Some put) (ended.Llx (LlxSnapshot snap))) → Puts v (linked_now v x.works.command) (record old { kept = kept }) new answer → HasBeenTold v old new answer
 told_put v old new kept m put snap None x p = record { same = record { pass = p.same.pass; number = p.same.number; next = p.same.next }; begin = p.begin; running = p.running; is = p.is; waits = p.waits }
 told_put v old new kept m put snap (Some answer) x p = go x.works.command x.works.is x.works.run_of.1 p.2
   where
@@ -138,7 +138,7 @@ told_put v old new kept m put snap (Some answer) x p = go x.works.command x.work
     go command is f rests = absurd f
 
 -- the same with what it has answered written out
-pub answered_put : (v : ClientView) (c : Client) (m : LlxRun) (next : Option Put) (put : Put) (a : LlxAnswer) (snap : Snap) → next ≡ Some put → a ≡ LlxSnapshot snap → Answered v c (Llx m) next (ended.Llx a) → Answered v c (Llx m) (Some put) (ended.Llx (LlxSnapshot snap))
+pub answered_put : (v : ClientView) (c : Client) (m : LlxRun) (next : Option SetField) (put : SetField) (a : LlxAnswer) (snap : Snap) → next ≡ Some put → a ≡ LlxSnapshot snap → Answered v c (Llx m) next (ended.Llx a) → Answered v c (Llx m) (Some put) (ended.Llx (LlxSnapshot snap))
 answered_put v c m next put a snap e d x = subst (λ t. Answered v c (Llx m) t (ended.Llx (LlxSnapshot snap))) e (subst (λ t. Answered v c (Llx m) next (ended.Llx t)) d x)
 
 -- An SCX takes the next records of the share

@@ -23,9 +23,9 @@ use Rattle.record.specs.Turns.{history, turns, answered, begin, start, won, entr
 use Rattle.record.specs.Commands.{next_command}
 use Rattle.record.specs.Linked.{linked}
 use Rattle.record.specs.Answers.{moment_of, HasItsEntry}
-use Rattle.moments.specs.declared.places.Change.{Change}
-use Rattle.moments.specs.Entries.{AreEntries}
-use Rattle.moments.specs.Ordered.{FallFrom, IsOrderedRead}
+use Rattle.linearization.specs.declared.places.Change.{Change}
+use Rattle.linearization.specs.Entries.{AreEntries}
+use Rattle.linearization.specs.Ordered.{FallFrom, IsOrderedRead}
 use Rattle.player.specs.Moments.{IsMomentBy, IsOrderedMoment, IsReadMoment}
 use Rattle.player.specs.ClientView.{ClientView, client_view, IsToldBy, IsToldOfMap, IsToldReading, Tells}
 use Rattle.record.specs.CommandRules.{IsRight, IsPlaced, enters}
@@ -35,7 +35,7 @@ use Rattle.record.specs.LawfulRun.{IsWhole}
 use Rattle.record.specs.SpelledMap.{AreSpelled}
 use Rattle.record.proofs.Lemmas.{begin_within, lawful_is_legal}
 use Rattle.player.specs.BetweenTurns.{IsLawfulSoFar}
-use Rattle.moments.proofs.Lemmas.{IsRepliedIn, are_spelled, falls, ordered_placed, replied_turn}
+use Rattle.linearization.proofs.Lemmas.{IsRepliedIn, are_spelled, falls, ordered_placed, replied_turn}
 use Rattle.player.proofs.EachCall.{TookPlace, ByEntry, ByValue, ByReply, Nowhere, HasTakenPlace, IsMomentSo, TellsSo, is_by_entry, took_place}
 use Rattle.player.proofs.MapCalls.{command_mode, map_calls, tree_run}
 use Rattle.player.proofs.EditPlaces.{IsMapReply, changed, refused, unwon_none}

@@ -6,8 +6,8 @@ use Rattle.arena.specs.declared.step.Kind.TheVariants.{Fill, LoadSettled, LoadIn
 use Rattle.arena.specs.contracts.step.Kind.{the_type}
 use denote.Enum.Bare.{sameb}
 use denote.Enum.Declared.{tag_of}
-use Rattle.record.specs.declared.record.Row.{Row}
-use Rattle.record.specs.declared.record.Row.TheVariants.{Step as Made, Idle}
+use Rattle.record.specs.declared.record.TurnRow.{TurnRow}
+use Rattle.record.specs.declared.record.TurnRow.TheVariants.{Step as Made, Idle}
 use Rattle.record.specs.Turns.{kind_place, kind_of, is_of}
 
 -- the place of a kind is the one that it has in its type
@@ -31,9 +31,9 @@ kind_same : (a b : Kind) → sameb the_type a b ≡ eqb (kind_place a) (kind_pla
 kind_same a b = rw (tag_is a, tag_is b) refl
 
 -- what a comparison of a turn's kind with one tells
-pub kind_is : (row : Row) (kind : Kind) (found : Option Kind) (same : Bool) → found ≡ kind_of row → same ≡ option_eq (sameb the_type) found (Some kind) → is_of kind row ≡ same
+pub kind_is : (row : TurnRow) (kind : Kind) (found : Option Kind) (same : Bool) → found ≡ kind_of row → same ≡ option_eq (sameb the_type) found (Some kind) → is_of kind row ≡ same
 kind_is row kind found same f e = go row ∙ sym (rw f at e)
   where
-    go : (row : Row) → is_of kind row ≡ option_eq (sameb the_type) (kind_of row) (Some kind)
+    go : (row : TurnRow) → is_of kind row ≡ option_eq (sameb the_type) (kind_of row) (Some kind)
     go (Made number row) = sym (kind_same row.kind kind)
     go (Idle number client) = refl

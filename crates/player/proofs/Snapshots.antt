@@ -11,7 +11,7 @@ use Rattle.prims.specs.Snap.{snap_at}
 use Rattle.prims.specs.Snaps.{IsAmong}
 use Rattle.prims.specs.declared.snap.Snap.{Snap}
 use Rattle.prims.specs.declared.llx.Llx.{Llx}
-use Rattle.player.specs.declared.kept.Found.{Found}
+use Rattle.player.specs.declared.kept.KeptSnapshot.{KeptSnapshot}
 use Rattle.player.specs.declared.kept.Kept.{Kept}
 use Rattle.player.specs.KeptSnaps.{AreKept, AllKept, IsFirstUnkept, IsUnspent, kept_of, node_of, found_of, parts, snap_of}
 use Rattle.record.specs.Snapshots.{IsFirstUnlinked}
@@ -33,7 +33,7 @@ read_other (z ∷ zs) (suc i) (suc n) y d = read_other zs i n y (λ e. d (ap suc
 -- is said of it
 module _ (old new : Kept) (llx : Llx) (linked linked_after : ℕ → Option History) (moment : Option History) (e : new.found ≡ set old.found (node_of llx) (found_of llx)) (small : node_of llx ≤ 8) (said : (n : ℕ) → linked_after n ≡ cond (eqb (node_of llx) n) moment (linked n)) where
   read : (n : ℕ) → get_or new.found n None ≡ get_or (set old.found (node_of llx) (found_of llx)) n None
-  read n = ap (λ (xs : List (Option Found)). get_or xs n None) e
+  read n = ap (λ (xs : List (Option KeptSnapshot)). get_or xs n None) e
 
   -- what is kept of a node then, and what is said of it
   record IsCell (n : ℕ) : Type 0 where
@@ -52,7 +52,7 @@ module _ (old new : Kept) (llx : Llx) (linked linked_after : ℕ → Option Hist
       go (yes q) = inl record { is = q; kept = read n ∙ rw q (read_there old.found (node_of llx) (found_of llx) (omega (arith, old.nine, small))); says = said n ∙ rw (eq-eqb (node_of llx) n (sym q)) refl }
       go (no d) = inr record { kept = read n ∙ read_other old.found (node_of llx) n (found_of llx) d; says = said n ∙ rw (ne_eqb (node_of llx) n (λ q. d (sym q))) refl }
 
-  pub kept_after : (lay : Layout) (c : ℕ) (h : History) → AreKept lay c h linked old → ((found : Found) → found_of llx ≡ Some found → (k : History) × (moment ≡ Some k) × IsUnspent lay c h (snap_of (node_of llx) found) k) → AreKept lay c h linked_after new
+  pub kept_after : (lay : Layout) (c : ℕ) (h : History) → AreKept lay c h linked old → ((found : KeptSnapshot) → found_of llx ≡ Some found → (k : History) × (moment ≡ Some k) × IsUnspent lay c h (snap_of (node_of llx) found) k) → AreKept lay c h linked_after new
   kept_after lay c h kept unspent n found is = ⊎_elim cell other (kept_then n)
     where
       cell : IsCell n → (k : History) × (linked_after n ≡ Some k) × IsUnspent lay c h (snap_of n found) k
@@ -104,6 +104,6 @@ kept_linked lay c h linked kept snaps those x i below = x (snap_at snaps i).node
 pub first_unlinked : (lay : Layout) (c : ℕ) (h : History) (linked : ℕ → Option History) (kept : Kept) (cells : List ℕ) (node : ℕ) → AreKept lay c h linked kept → ((n : ℕ) → n ≤ 8 → kept_of kept n ≡ None → linked n ≡ None) → IsFirstUnkept kept cells node → IsFirstUnlinked linked cells node
 first_unlinked lay c h linked kept cells node those unkept x = (unkept node x.0 x.1, record { place = x.2.place; is = x.2.is; before = λ i p. some (get_or cells i 0) (kept_of kept (get_or cells i 0)) refl (x.2.before i p) })
   where
-    some : (n : ℕ) (found : Option Found) → kept_of kept n ≡ found → IsSome found → IsSome (linked n)
+    some : (n : ℕ) (found : Option KeptSnapshot) → kept_of kept n ≡ found → IsSome found → IsSome (linked n)
     some n (Some found) e = λ y. let z = those n found e in subst (λ (m : Option History). IsSome m) (sym z.1) refl
     some n None e = λ y. cc

@@ -8,7 +8,7 @@ use Rattle.script.specs.declared.call.Call.{Call}
 use Rattle.script.specs.declared.command.Command.{Command}
 use Rattle.record.specs.declared.record.Line.{Line}
 use Rattle.record.specs.declared.record.Line.TheVariants.{Step, Reply as ReplyLine}
-use Rattle.record.specs.declared.record.Row.TheVariants.{Idle}
+use Rattle.record.specs.declared.record.TurnRow.TheVariants.{Idle}
 use Rattle.record.specs.declared.record.Finished.{Finished as FinishedCall}
 use Rattle.record.specs.declared.record.Answer.{Answer}
 use Rattle.player.specs.declared.client.Client.{Client}
@@ -19,8 +19,8 @@ use Rattle.record.specs.Commands.{commands, next_command}
 use Rattle.record.specs.Turns.{turns, begin, answered}
 use Rattle.player.specs.ClientView.{ClientView, client_view, Rests, Refuses, WaitsForStep, IsClient, IsNextAction, command_of}
 use Rattle.player.specs.BetweenTurns.{IsTurnOf, AreBetweenTurns, IsBetweenTurns, IsStepAsked, IsEnd, ArePlaces}
-use Rattle.moments.specs.declared.places.Change.{Change}
-use Rattle.moments.specs.Places.{changes}
+use Rattle.linearization.specs.declared.places.Change.{Change}
+use Rattle.linearization.specs.Places.{changes}
 use Rattle.player.proofs.Commands.{none_left, next_at}
 use Rattle.player.proofs.Middles.{turn_begins, turn_changed, finished_turn, refused_turn}
 use Rattle.player.proofs.Steps.{few_calls}

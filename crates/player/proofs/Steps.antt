@@ -24,12 +24,12 @@ use Rattle.player.proofs.InOrder.{run_in_order}
 use Rattle.ordered_map.specs.declared.pair.Pair.{Pair}
 use Rattle.ordered_map.specs.OrderedMap.{MapCall, MapEdit, edit_key, edit_of, get, reply, value_left}
 use Rattle.ordered_map.specs.Requests.{map_request}
-use Rattle.moments.specs.declared.places.Change.{Change}
-use Rattle.moments.specs.declared.places.Places.{Places}
-use Rattle.moments.specs.Changed.{changed_key}
-use Rattle.moments.specs.Places.{changes, Knows, HoldsOfKey}
-use Rattle.moments.specs.Entries.{AreEntries, AreUpTo, IsChangeBy, IsChangeByEdit}
-use Rattle.moments.proofs.Lemmas.{knows_told, map_now, spelled}
+use Rattle.linearization.specs.declared.places.Change.{Change}
+use Rattle.linearization.specs.declared.places.Places.{Places}
+use Rattle.linearization.specs.Changed.{changed_key}
+use Rattle.linearization.specs.Places.{changes, Knows, HoldsOfKey}
+use Rattle.linearization.specs.Entries.{AreEntries, AreUpTo, IsChangeBy, IsChangeByEdit}
+use Rattle.linearization.proofs.Lemmas.{knows_told, map_now, spelled}
 use Rattle.record.specs.MapRecord.{map_call, map_call_of, map_of, written_log}
 use Rattle.record.specs.LawfulRun.{AreLines}
 use Rattle.script.specs.declared.command.Command.TheVariants.{Map}
@@ -37,7 +37,7 @@ use Rattle.script.specs.declared.call.Call.{Call}
 use Rattle.script.specs.declared.command.Command.{Command}
 use Rattle.record.specs.declared.record.Line.{Line}
 use Rattle.record.specs.declared.record.Line.TheVariants.{Step, Log, Reply as ReplyLine}
-use Rattle.record.specs.declared.record.Row.TheVariants.{Step as Made, Idle}
+use Rattle.record.specs.declared.record.TurnRow.TheVariants.{Step as Made, Idle}
 use Rattle.record.specs.declared.record.Finished.{Finished}
 use Rattle.record.specs.declared.record.Entry.{Entry}
 use Rattle.record.specs.declared.record.Answer.{Answer}

@@ -26,8 +26,8 @@ use Rattle.player.specs.declared.run.Run.{Run}
 use Rattle.player.specs.declared.run.Run.TheVariants.{Llx, Scx, Vlx, Map}
 use Rattle.player.specs.declared.client.Client.{Client}
 use Rattle.player.specs.declared.client.Running.{Running}
-use Rattle.player.specs.declared.client.Put.{Put}
-use Rattle.player.specs.declared.kept.Found.{Found}
+use Rattle.player.specs.declared.client.SetField.{SetField}
+use Rattle.player.specs.declared.kept.KeptSnapshot.{KeptSnapshot}
 use Rattle.player.specs.KeptSnaps.{IsUnspent, kept_of, snap_of}
 use Rattle.record.specs.Answers.{HasRoom}
 use Rattle.player.specs.RunKnown.{RunWaits, RunIsReady, run_mode}
@@ -102,7 +102,7 @@ unspent_more lay c h r snap moment l none x = record { usable = usable_since lay
 
 -- no SCX-record of the client in progress covers a node of which it keeps a snapshot
 abbrev LeavesKept : ClientView → Client → History → Type 0
-LeavesKept v c h = (n : ℕ) (found : Found) → kept_of c.kept n ≡ Some found → (s : ℕ) → IsOwnScx v.layout c.pass.0 s → IsInProgress h s → ¬ IsMember h s n
+LeavesKept v c h = (n : ℕ) (found : KeptSnapshot) → kept_of c.kept n ≡ Some found → (s : ℕ) → IsOwnScx v.layout c.pass.0 s → IsInProgress h s → ¬ IsMember h s n
 
 -- the one in hand covers nodes of its own snapshots alone
 leaves_hand : (v : ClientView) (c : Client) (h : History) (hand : Hand) → Lawful v.layout h → AreFinished v.layout c.pass.0 hand.scx h → Covers v.layout h c.pass.0 hand → IsClientState v c hand → LeavesKept v c h
@@ -226,7 +226,7 @@ module _ (v : ClientView) (c : Client) (r : Row) (number : ℕ) (start : History
       source_more (MapOf request) n moment y = y
 
   -- an LLX has no snapshots yet, and those of a VLX are kept ones
-  moments_by : (q : Run) (then : Option Put) (command : Command) → start ≡ v.start → ((m : PutRun) → q ≡ Scx m → r.pass.0 ≡ c.pass.0 → r.kind ≢ LoadInfo) → IsMachineOf command c.number q then → HaveMoments v c.pass.0 command (snaps_of q) → HaveMoments (after_row v r start steps won) c.pass.0 command (snaps_of q)
+  moments_by : (q : Run) (then : Option SetField) (command : Command) → start ≡ v.start → ((m : PutRun) → q ≡ Scx m → r.pass.0 ≡ c.pass.0 → r.kind ≢ LoadInfo) → IsMachineOf command c.number q then → HaveMoments v c.pass.0 command (snaps_of q) → HaveMoments (after_row v r start steps won) c.pass.0 command (snaps_of q)
   moments_by (Llx m) then command since looks of x = λ i p. absurd (omega arith)
   moments_by (Scx m) then command since looks of x = moments_more command m.scx.update.snaps since (looks m refl) x
   moments_by (Vlx m) then (VlxOf cells) since looks of x = λ i p. let y = x i p in record { moment = y.moment; found = moment_more v.layout v.past r (snap_at m.snaps i) y.moment y.found; source = y.source }
@@ -253,7 +253,7 @@ module _ (v : ClientView) (c : Client) (r : Row) (number : ℕ) (start : History
   begun_since q start since begun = subst (λ (k : History). Extends v.past k) begun since
 
   -- a machine still runs
-  works_more : (q : Run) (then : Option Put) → start ≡ v.start → c.begin ≤ number → ((m : PutRun) → q ≡ Scx m → r.pass.0 ≡ c.pass.0 → r.kind ≢ LoadInfo) → LeavesHand v c r q → IsClientState (after_row v r start steps won) c (in_hand (held c) q) → Holds (after_row v r start steps won) c q → Works v c q then → Works (after_row v r start steps won) c q then
+  works_more : (q : Run) (then : Option SetField) → start ≡ v.start → c.begin ≤ number → ((m : PutRun) → q ≡ Scx m → r.pass.0 ≡ c.pass.0 → r.kind ≢ LoadInfo) → LeavesHand v c r q → IsClientState (after_row v r start steps won) c (in_hand (held c) q) → Holds (after_row v r start steps won) c q → Works v c q then → Works (after_row v r start steps won) c q then
   works_more q then same i looks leaves stands holds x = record {
     mode = x.mode;
     stands = stands;

@@ -23,7 +23,7 @@ use Rattle.histories.proofs.Lemmas.{Change, Facts, IsFlagged, IsOwned, UpdateWin
 use Rattle.script.specs.declared.call.Call.{Call as CallOf}
 use Rattle.record.specs.declared.record.Line.{Line}
 use Rattle.record.specs.declared.record.Line.TheVariants.{Step}
-use Rattle.record.specs.declared.record.Row.TheVariants.{Step as Made}
+use Rattle.record.specs.declared.record.TurnRow.TheVariants.{Step as Made}
 use Rattle.record.specs.declared.record.Entry.{Entry}
 use Rattle.record.specs.Turns.{history, entries, is_update, entry_at, entry_of, is_entry_of, won}
 use Rattle.player.specs.ClientView.{client_view}

@@ -12,8 +12,8 @@ use Rattle.arena.specs.declared.step.Step.{Step as Ask}
 use Rattle.arena.specs.declared.step.Row.{Row}
 use Rattle.record.specs.declared.record.Line.{Line}
 use Rattle.record.specs.declared.record.Line.TheVariants.{Step}
-use Rattle.record.specs.declared.record.Row.{Row as TurnRow}
-use Rattle.record.specs.declared.record.Row.TheVariants.{Step as Made}
+use Rattle.record.specs.declared.record.TurnRow.{TurnRow}
+use Rattle.record.specs.declared.record.TurnRow.TheVariants.{Step as Made}
 use Rattle.record.specs.declared.record.Finished.{Finished}
 use Rattle.record.specs.declared.record.Answer.{Answer}
 use Rattle.player.specs.declared.client.Running.{Running}
@@ -28,10 +28,10 @@ use Rattle.record.specs.Turns.{history, begin, clients, entries, entry_owed, tur
 use Rattle.ordered_map.specs.OrderedMap.{MapEdit, edit_key, value_left}
 use Rattle.record.specs.declared.record.Entry.{Entry}
 use Rattle.record.specs.MapRecord.{written_log}
-use Rattle.moments.specs.declared.places.Change.{Change}
-use Rattle.moments.specs.declared.places.Places.{Places}
-use Rattle.moments.specs.Places.{changes, Knows, HoldsOfKey}
-use Rattle.moments.specs.Entries.{AreEntries, IsChangeOf}
+use Rattle.linearization.specs.declared.places.Change.{Change}
+use Rattle.linearization.specs.declared.places.Places.{Places}
+use Rattle.linearization.specs.Places.{changes, Knows, HoldsOfKey}
+use Rattle.linearization.specs.Entries.{AreEntries, IsChangeOf}
 use Rattle.player.specs.Moments.{IsMomentBy}
 use Rattle.record.specs.LawfulRun.{AreLines, OwesNothing}
 use Rattle.player.specs.ClientView.{client_edit, client_view, IsClient, WaitsForStep, IsAtNextCall}

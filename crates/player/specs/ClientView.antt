@@ -41,7 +41,7 @@ use Rattle.player.specs.declared.run.Run.{Run}
 use Rattle.player.specs.declared.run.Run.TheVariants.{Llx, Scx, Vlx, Map}
 use Rattle.player.specs.declared.client.Client.{Client}
 use Rattle.player.specs.declared.client.Running.{Running}
-use Rattle.player.specs.declared.client.Put.{Put}
+use Rattle.player.specs.declared.client.SetField.{SetField}
 use Rattle.player.specs.declared.client.NextAction.{NextAction}
 use Rattle.player.specs.declared.client.NextAction.TheVariants.{Finished, Answers, Asks}
 use Rattle.player.specs.declared.run.Ended.{Ended}
@@ -112,7 +112,7 @@ HasNewest left (Scx m) = (left.next_node ≡ suc m.scx.update.fresh.0) × (left.
 HasNewest left _ = Unit {0}
 
 -- an LLX of cell n, with what follows it, is that of the command
-abbrev pub IsLlxOf : Command → ℕ → Option Put → Type 0
+abbrev pub IsLlxOf : Command → ℕ → Option SetField → Type 0
 IsLlxOf (LlxOf cell) n None = n ≡ cell
 IsLlxOf (SetOf field value) n (Some put) = (n ≡ field.0) × (put.side ≡ field.1) × (put.value ≡ value)
 IsLlxOf _ n _ = ⊥
@@ -128,19 +128,19 @@ pub record IsPutOf (m : PutRun) (number : ℕ) (nodes removed : List ℕ) (field
   pub value : m.value ≡ x
 
 -- an SCX of the client's call of this number, with what follows it, is that of the command
-abbrev pub IsScxOf : Command → ℕ → PutRun → Option Put → Type 0
+abbrev pub IsScxOf : Command → ℕ → PutRun → Option SetField → Type 0
 IsScxOf (ScxOf update) number m None = IsPutOf m number (update_cells update) (update_finalize update) (update_field update) (update_value update)
 IsScxOf (SetOf field x) number m None = IsPutOf m number (field.0 ∷ []) [] field x
 IsScxOf _ number m _ = ⊥
 
 -- a VLX over these snapshots, with what follows it, is that of the command
-abbrev pub IsVlxOf : Command → List Snap → Option Put → Type 0
+abbrev pub IsVlxOf : Command → List Snap → Option SetField → Type 0
 IsVlxOf (VlxOf cells) snaps None = nodes_of snaps ≡ cells_of cells
 IsVlxOf _ snaps _ = ⊥
 
 -- the machine of a call of the map, with nothing behind it, is that of the command; it asks for a
 -- step before it answers
-pub record IsMapOf (command : Command) (m : DictRun ℕ ℕ) (then : Option Put) : Type 0 where
+pub record IsMapOf (command : Command) (m : DictRun ℕ ℕ) (then : Option SetField) : Type 0 where
   pub request : Request ℕ ℕ
   pub is : command ≡ MapOf request
   pub called : call_in m.run ≡ map_request request
@@ -148,7 +148,7 @@ pub record IsMapOf (command : Command) (m : DictRun ℕ ℕ) (then : Option Put)
   pub alone : then ≡ None
 
 -- the machine, with what follows it, is that of the command in the client's call of this number
-abbrev pub IsMachineOf : Command → ℕ → Run → Option Put → Type 0
+abbrev pub IsMachineOf : Command → ℕ → Run → Option SetField → Type 0
 IsMachineOf command number (Llx m) then = (m.node.0 ≤ 8) × IsLlxOf command m.node.0 then
 IsMachineOf command number (Scx m) then = IsScxOf command number m then
 IsMachineOf command number (Vlx m) then = IsVlxOf command m.snaps then
@@ -283,7 +283,7 @@ MayTryAll _ tries = Unit {0}
 
 -- a machine runs for the client's next call, over snapshots that
 -- the client had left alone as the machine started
-pub record Works (v : ClientView) (c : Client) (run : Run) (then : Option Put) : Type 0 where
+pub record Works (v : ClientView) (c : Client) (run : Run) (then : Option SetField) : Type 0 where
   pub mode : v.layout.mode ≡ run_mode run
   pub stands : IsClientState v c (in_hand (held c) run)
   pub holds : Holds v c run
@@ -310,14 +310,14 @@ pub record Works (v : ClientView) (c : Client) (run : Run) (then : Option Put) :
 -- taken. A step that the machine waits for counts too.
 
 -- the machine has not asked for a step yet
-pub record Starts (v : ClientView) (c : Client) (run : Run) (then : Option Put) : Type 0 where
+pub record Starts (v : ClientView) (c : Client) (run : Run) (then : Option SetField) : Type 0 where
   pub works : Works v c run then
   pub none : c.running ≡ None
   pub ready : RunIsReady run (machine_call v c works.is_pass works.start) v.past None
   pub few : (taken : ℕ) → length (taken_nodes v.past) ≤ taken → v.steps + left_of run then taken ≤ command_steps works.command v.tries taken
 
 -- the machine has answered
-pub record Answered (v : ClientView) (c : Client) (run : Run) (then : Option Put) (ended : Ended) : Type 0 where
+pub record Answered (v : ClientView) (c : Client) (run : Run) (then : Option SetField) (ended : Ended) : Type 0 where
   pub works : Works v c run then
   pub none : c.running ≡ None
   pub answers : RunAnswers run (machine_call v c works.is_pass works.start) v.past ended

@@ -1,7 +1,7 @@
 -- Where a core stands, and what a turn of it adds.
 use Rattle.std.specs.Prelude.{◌≡◌, ℕ, List, ◌∷◌, ◌++◌, reverse, Option}
 use Rattle.record.specs.declared.record.Line.{Line}
-use Rattle.record.specs.declared.record.Row.{Row}
+use Rattle.record.specs.declared.record.TurnRow.{TurnRow}
 use Rattle.record.specs.declared.record.Entry.{Entry}
 use Rattle.record.specs.declared.record.Finished.{Finished}
 use Rattle.record.specs.Turns.{clients}
@@ -31,7 +31,7 @@ with_lines p more = record { script = p.script; lines = reverse more ++ p.lines 
 -- these lines, the first in front, are one turn of client i behind what is so far: its row, the
 -- entry of the log that it has made, and the reply that it has ended with
 pub record IsNextTurn (p : PlayerView) (i : ℕ) (more : List Line) : Type 0 where
-  pub row : Row
+  pub row : TurnRow
   pub entry : Option Entry
   pub reply : Option Finished
   pub lines : more ≡ turn_lines row entry reply

@@ -9,19 +9,19 @@ use Rattle.prims.specs.declared.snap.Snap.{Snap}
 use Rattle.prims.specs.declared.llx.Llx.{Llx}
 use Rattle.prims.specs.declared.llx.Llx.TheVariants.{Snapshot, Finalized, Fail}
 use Rattle.record.specs.Snapshots.{IsBehindAll}
-use Rattle.player.specs.declared.kept.Found.{Found}
+use Rattle.player.specs.declared.kept.KeptSnapshot.{KeptSnapshot}
 use Rattle.player.specs.declared.kept.Kept.{Kept}
 
 -- what the client keeps of node n: what its last LLX found there, if it keeps that
-abbrev pub kept_of : Kept → ℕ → Option Found
+abbrev pub kept_of : Kept → ℕ → Option KeptSnapshot
 kept_of kept n = slice_index_or kept.found n None
 
 -- the snapshot of node n that found this there
-abbrev pub snap_of : ℕ → Found → Snap
+abbrev pub snap_of : ℕ → KeptSnapshot → Snap
 snap_of n found = record { node = record { 0 = n }; scx = found.scx; left = found.left; right = found.right }
 
 -- what a snapshot has found at its node: the SCX-record and the fields
-abbrev pub parts : Snap → Found
+abbrev pub parts : Snap → KeptSnapshot
 parts snap = record { scx = snap.scx; left = snap.left; right = snap.right }
 
 -- a snapshot of this moment that the client may use, and since which
@@ -32,7 +32,7 @@ pub record IsUnspent (lay : Layout) (c : ℕ) (h : History) (snap : Snap) (momen
 
 -- all snapshots that the client keeps are unspent, and each is of the moment that the lines say
 abbrev pub AreKept : Layout → ℕ → History → (ℕ → Option History) → Kept → Type 0
-AreKept lay c h linked kept = (n : ℕ) (found : Found) → kept_of kept n ≡ Some found → (moment : History) × (linked n ≡ Some moment) × IsUnspent lay c h (snap_of n found) moment
+AreKept lay c h linked kept = (n : ℕ) (found : KeptSnapshot) → kept_of kept n ≡ Some found → (moment : History) × (linked n ≡ Some moment) × IsUnspent lay c h (snap_of n found) moment
 
 -- the node of which an LLX has answered
 abbrev pub node_of : Llx → ℕ
@@ -41,7 +41,7 @@ node_of (Finalized node scx) = node.0
 node_of (Fail node scx) = node.0
 
 -- what an LLX leaves to keep of its node: what its snapshot found, or nothing
-abbrev pub found_of : Llx → Option Found
+abbrev pub found_of : Llx → Option KeptSnapshot
 found_of (Snapshot snap) = Some (parts snap)
 found_of (Finalized node scx) = None
 found_of (Fail node scx) = None

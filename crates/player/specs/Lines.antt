@@ -4,7 +4,7 @@ use Rattle.std.specs.Global.{Global}
 use Rattle.std.specs.Vec.{vec_capacity}
 use Rattle.record.specs.declared.record.Line.{Line}
 use Rattle.record.specs.declared.record.Line.TheVariants.{Step, Log, Reply}
-use Rattle.record.specs.declared.record.Row.{Row}
+use Rattle.record.specs.declared.record.TurnRow.{TurnRow}
 use Rattle.record.specs.declared.record.Entry.{Entry}
 use Rattle.record.specs.declared.record.Finished.{Finished}
 
@@ -25,7 +25,7 @@ entry_line None behind = behind
 entry_line (Some entry) behind = Log entry ∷ behind
 
 -- the lines of a turn: its row, its entry, its reply
-abbrev pub turn_lines : Row → Option Entry → Option Finished → List Line
+abbrev pub turn_lines : TurnRow → Option Entry → Option Finished → List Line
 turn_lines row entry reply = Step row ∷ entry_line entry (reply_line reply)
 
 -- The newest line in front
@@ -41,5 +41,5 @@ with_reply None lines = lines
 with_reply (Some reply) lines = Reply reply ∷ lines
 
 -- the lines with those of one turn more
-abbrev pub with_turn : Row → Option Entry → Option Finished → List Line → List Line
+abbrev pub with_turn : TurnRow → Option Entry → Option Finished → List Line → List Line
 with_turn row entry reply lines = with_reply reply (with_entry entry (Step row ∷ lines))

@@ -12,9 +12,9 @@ use Rattle.record.specs.declared.record.Answer.TheVariants.{Map as MapAnswer}
 use Rattle.record.specs.Answers.{moment_of}
 use Rattle.record.specs.MapRecord.{map_at, map_call}
 use Rattle.record.specs.Placed.{IsGreatestTurn}
-use Rattle.moments.specs.declared.places.Change.{Change}
-use Rattle.moments.specs.Entries.{AreEntries}
-use Rattle.moments.specs.Ordered.{FallFrom, IsOrderedRead}
+use Rattle.linearization.specs.declared.places.Change.{Change}
+use Rattle.linearization.specs.Entries.{AreEntries}
+use Rattle.linearization.specs.Ordered.{FallFrom, IsOrderedRead}
 
 -- the moment of a call that reads: the greatest turn within the call, whoever's, after which the
 -- map has this at the key, where the changes are those of the log

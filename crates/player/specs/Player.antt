@@ -11,7 +11,7 @@ use Rattle.script.specs.declared.script.Script.{Script}
 use Rattle.record.specs.contracts.record.Line as line
 use Rattle.record.specs.declared.record.Line.{Line}
 use Rattle.record.specs.declared.record.Line.TheVariants.{Step}
-use Rattle.record.specs.declared.record.Row.{Row}
+use Rattle.record.specs.declared.record.TurnRow.{TurnRow}
 use Rattle.record.specs.Turns.{clients}
 use Rattle.record.specs.LawfulRun.{IsLawfulRun}
 
@@ -41,7 +41,7 @@ abbrev pub IsPlayed : PlayerView → Type 0
 IsPlayed p = IsLawfulRun p.script.layout p.script.limits.tries p.script.calls (reverse (clients p.lines)) (reverse p.lines)
 
 -- the lines have this one turn of the i-th client more, and the entry and reply behind it
-pub record IsTurnMore (old new : PlayerView) (i : ℕ) (row : Row) : Type 0 where
+pub record IsTurnMore (old new : PlayerView) (i : ℕ) (row : TurnRow) : Type 0 where
   pub script : new.script ≡ old.script
   pub behind : List Line
   pub lines : new.lines ≡ behind ++ Step row ∷ old.lines

@@ -14,7 +14,7 @@ use crate::run::{Ended, Run};
 use arena::{Fresh, Full, Layout, NodeNo, PassNo, Resource, ScxNo, Share, Side, Step, Turn};
 use arrayvec::ArrayVec;
 use dict::DictRun;
-use moments::Places;
+use linearization::Places;
 use ordered_map::{Reply, Request};
 use prims::{Llx, LlxRun, PutRun, ScxRun, Snap, Snaps, Update, VlxRun};
 use record::{Answer, Finished};
@@ -23,7 +23,7 @@ use std::alloc::Global;
 
 /// What a `set` does once its LLX has given a snapshot.
 #[derive(Clone, Copy, Debug, PartialEq, Eq)]
-struct Put {
+struct SetField {
     side: Side,
     value: u64,
 }
@@ -32,7 +32,7 @@ struct Put {
 #[derive(Debug, Drop)]
 struct Running {
     run: Run,
-    then: Option<Put>,
+    then: Option<SetField>,
     step: Step,
 }
 
@@ -87,7 +87,7 @@ impl Client {
     ghost use Rattle.arena.specs.Share.{IsFull, after_taking};
     ghost use Rattle.record.specs.declared.record.Line.{Line};
     ghost use Rattle.record.specs.declared.record.Answer.TheVariants.{Map as MapAnswer};
-    ghost use Rattle.moments.specs.Places.{changes};
+    ghost use Rattle.linearization.specs.Places.{changes};
     ghost use Rattle.player.specs.Moments.{IsMomentBy, IsReadingMoment};
     ghost use Rattle.player.specs.RunKnown.{share_behind};
     ghost use Rattle.player.specs.Hearing.{HasAnswered};
@@ -181,7 +181,7 @@ impl Client {
             Command::Llx { cell } => self.run(Run::Llx(LlxRun::new(cell.node())), None),
             Command::Set { field, value } => {
                 let llx = Run::Llx(LlxRun::new(field.0.node()));
-                let put = Put {
+                let put = SetField {
                     side: field.1,
                     value,
                 };
@@ -272,7 +272,7 @@ impl Client {
     }
 
     /// Runs a machine from its start, which asks for a step first.
-    fn run(&mut self, mut run: Run, then: Option<Put>) -> Option<Answer>
+    fn run(&mut self, mut run: Run, then: Option<SetField>) -> Option<Answer>
         ensures begins { (v : ClientView) → IsSound v → Starts v self.old run then → BeginsOrRefuses v self.old.begin self.old self.new result }
         ensures asks { (v : ClientView) → IsSound v → Starts v self.old run then → result ≡ None }
     {
@@ -322,7 +322,7 @@ impl Client {
     }
 
     /// What follows a machine that has answered: the client's answer, or the SCX of a `set`.
-    fn after(&mut self, ended: Ended, then: Option<Put>) -> Option<Answer>
+    fn after(&mut self, ended: Ended, then: Option<SetField>) -> Option<Answer>
         ensures { (v : ClientView) (run : Run) → IsSound v → Answered v self.old run then ended → HasBeenTold v self.old self.new result }
     {
         match ended {
@@ -331,7 +331,7 @@ impl Client {
         }
     }
 
-    fn after_llx(&mut self, llx: Llx, then: Option<Put>) -> Option<Answer>
+    fn after_llx(&mut self, llx: Llx, then: Option<SetField>) -> Option<Answer>
         ensures { (v : ClientView) (m : LlxRun) → IsSound v → Answered v self.old (LlxOf m) then (LlxEnded llx) → HasBeenTold v self.old self.new result }
     {
         self.kept.keep(llx);
@@ -451,11 +451,11 @@ impl Client {
             IsReadingMoment calls lines (changes places.now) command.now reply.now key (number_reply reply.now) self.now.begin turn result }
     {
         match key {
-            Some(key) => places.greatest(key, reply.value()?, self.begin, turn),
+            Some(key) => places.latest(key, reply.value()?, self.begin, turn),
             None => match reply {
-                Reply::Value(_) => Some(places.greatest_of(command, reply, self.begin, turn)),
-                Reply::Pair(_) => Some(places.greatest_of(command, reply, self.begin, turn)),
-                Reply::Pairs(_) => Some(places.greatest_of(command, reply, self.begin, turn)),
+                Reply::Value(_) => Some(places.latest_reply(command, reply, self.begin, turn)),
+                Reply::Pair(_) => Some(places.latest_reply(command, reply, self.begin, turn)),
+                Reply::Pairs(_) => Some(places.latest_reply(command, reply, self.begin, turn)),
                 Reply::Contended { .. } | Reply::Full(_) | Reply::NoMemory => None,
             },
         }

@@ -6,8 +6,8 @@ ghost use Rattle.player.specs.ClientView.{client_view, Rests};
 use crate::client::{Client, NextAction};
 use crate::lines::{Lines, begin};
 use arena::{Kind, NoMemory, NodeNo, NodeWord, PassNo, PlainWords, ScxNo, ScxWord, Step, Word};
-use moments::{Change, Places};
-use record::{Answer, Entry, Finished, Line, Row};
+use linearization::{Change, Places};
+use record::{Answer, Entry, Finished, Line, TurnRow};
 use script::Script;
 use std::alloc::Global;
 
@@ -36,7 +36,7 @@ impl Interleaving {
     ghost use Rattle.record.specs.Commands.{next_command};
     ghost use Rattle.record.specs.Turns.{entry_owed};
     ghost use Rattle.ordered_map.specs.OrderedMap.{MapEdit, value_left};
-    ghost use Rattle.moments.specs.Places.{changes, room_for_changes, Knows};
+    ghost use Rattle.linearization.specs.Places.{changes, room_for_changes, Knows};
     ghost use Rattle.ordered_map.specs.OrderedMap.{edit_key};
     ghost use Rattle.player.specs.Player.{script_view};
     ghost use Rattle.player.specs.BetweenTurns.{IsBetweenTurns, HasMadeTurn, IsStepAsked, IsMade, IsEntryDue, HasLogged, IsReplied, HasSameClients, HasOtherClients, owners_edit};
@@ -93,13 +93,13 @@ impl Interleaving {
     }
 
     /// Makes a turn without a step.
-    fn idle(&mut self, client: PassNo, number: u64) -> Row
+    fn idle(&mut self, client: PassNo, number: u64) -> TurnRow
         requires { number ≡ suc self.old.turns }
         ensures same { self.new ≡ record self.old { turns = number } }
-        ensures row { result ≡ Row.Idle number client }
+        ensures row { result ≡ TurnRow.Idle number client }
     {
         self.turns = number;
-        Row::Idle { number, client }
+        TurnRow::Idle { number, client }
     }
 
     /// Makes the step that a client has asked for, and puts the lines of its turn.
@@ -122,7 +122,7 @@ impl Interleaving {
         };
         self.turns = number;
         let entry = self.log(number, &row);
-        begin(more, Row::Step { number, row }, entry);
+        begin(more, TurnRow::Step { number, row }, entry);
         match self.clients[client.0 as usize].tell(before) {
             Some(answer) => more.push(Line::Reply(self.reply(client, number, answer))),
             None => {}

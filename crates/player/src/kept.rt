@@ -9,7 +9,7 @@ use script::Cell;
 
 /// What the last LLX of a cell found.
 #[derive(Clone, Copy, Debug, PartialEq, Eq)]
-struct Found {
+struct KeptSnapshot {
     scx: ScxNo,
     left: NodeNo,
     right: NodeNo,
@@ -18,7 +18,7 @@ struct Found {
 /// The last snapshot of each cell, by the cell's number.
 #[derive(Debug, Drop)]
 pub(crate) struct Kept {
-    found: [Option<Found>; 9],
+    found: [Option<KeptSnapshot>; 9],
     ghost nine: { length found ≡ 9 },
 }
 
@@ -43,7 +43,7 @@ impl Kept {
                     left,
                     right,
                 },
-            ) => self.put(node, Some(Found { scx, left, right })),
+            ) => self.put(node, Some(KeptSnapshot { scx, left, right })),
             Llx::Finalized { node, scx: _ } => self.put(node, None),
             Llx::Fail { node, scx: _ } => self.put(node, None),
         }
@@ -59,7 +59,7 @@ impl Kept {
     }
 
     /// Changes what is kept of a node, if it is a cell's.
-    fn put(&mut self, node: NodeNo, found: Option<Found>)
+    fn put(&mut self, node: NodeNo, found: Option<KeptSnapshot>)
         ensures { self.new.found ≡ slice_set self.old.found node.0 found }
     {
         let at = node.0 as usize;
@@ -79,7 +79,7 @@ impl Kept {
         for cell in cells {
             let node = cell.node();
             match self.found[node.0 as usize] {
-                Some(Found { scx, left, right }) => snaps.push(Snap {
+                Some(KeptSnapshot { scx, left, right }) => snaps.push(Snap {
                     node,
                     scx,
                     left,

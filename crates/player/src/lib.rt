@@ -18,5 +18,5 @@ pub use orders::{follow, play_by};
 pub use player::{Player, play};
 pub use player_core::Core;
 pub use plays::Plays;
-pub use record::{Answer, Entry, Finished, Line, Record, Row};
+pub use record::{Answer, Entry, Finished, Line, Record, TurnRow};
 pub use turned::Turned;

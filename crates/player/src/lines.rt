@@ -2,11 +2,11 @@
 ghost use Rattle.std.specs.Prelude.{◌≡◌, ◌<◌, ◌≤◌, ◌++◌, ◌∷◌, List};
 ghost use Rattle.arrayvec.specs.ArrayVec.{array_vec_len};
 ghost use Rattle.record.specs.declared.record.Line.{Line};
-ghost use Rattle.record.specs.declared.record.Row.{Row};
+ghost use Rattle.record.specs.declared.record.TurnRow.{TurnRow};
 ghost use Rattle.player.specs.Lines.{room, turn_lines};
 
 use arrayvec::ArrayVec;
-use record::{Entry, Line, Row};
+use record::{Entry, Line, TurnRow};
 
 /// The lines of one turn, in order: its row, the entry of the log that it has made, if it has made
 /// one, and the reply to the call that it has ended, if it has ended one.
@@ -14,7 +14,7 @@ pub type Lines = ArrayVec<Line, 3>;
 
 /// Puts the row and the entry of a turn in place of what stands there. A reply has room behind them.
 #[inline]
-pub(crate) fn begin(lines: &mut Lines, row: Row, entry: Option<Entry>)
+pub(crate) fn begin(lines: &mut Lines, row: TurnRow, entry: Option<Entry>)
     ensures lines { lines.new.items ≡ turn_lines row entry None }
     ensures room { array_vec_len lines.new < 3 }
 {
@@ -26,9 +26,9 @@ pub(crate) fn begin(lines: &mut Lines, row: Row, entry: Option<Entry>)
 }
 
 /// The row of a turn, which stands in front of its lines.
-pub(crate) fn row_of(turn: &[Line]) -> Row
-    requires { (row : Row) × (behind : List Line) × (turn.now ≡ Line.Step row ∷ behind) }
-    ensures { (row : Row) (behind : List Line) → turn.now ≡ Line.Step row ∷ behind → result ≡ row }
+pub(crate) fn row_of(turn: &[Line]) -> TurnRow
+    requires { (row : TurnRow) × (behind : List Line) × (turn.now ≡ Line.Step row ∷ behind) }
+    ensures { (row : TurnRow) (behind : List Line) → turn.now ≡ Line.Step row ∷ behind → result ≡ row }
 {
     match turn {
         [Line::Step(row), ..] => *row,

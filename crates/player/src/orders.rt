@@ -5,7 +5,7 @@ ghost use Rattle.script.specs.declared.call.Call.{Call};
 ghost use Rattle.record.specs.Commands.{next_command};
 ghost use Rattle.record.specs.Schedules.{AreOrdered, IsOrdered, IsRunOf, ordered_client};
 ghost use Rattle.record.specs.declared.record.Line.{Line};
-ghost use Rattle.record.specs.declared.record.Row.{Row};
+ghost use Rattle.record.specs.declared.record.TurnRow.{TurnRow};
 ghost use Rattle.player.specs.Followed.{AreFollowedSoFar, HasFollowed, IsFollowedSoFar, MayTurn, counting, wanted_of};
 ghost use Rattle.player.specs.Player.{PlayerView, script_view};
 ghost use Rattle.player.specs.Plays.{TellsTurn};
@@ -113,7 +113,7 @@ fn asks(order: Order, left: u32, has_call: bool) -> bool
 /// How much a turn counts.
 fn counted(order: Order, turned: Turned) -> u32
     ensures few { result ≤ 1 }
-    ensures more { (p later : PlayerView) (row : Row) → TellsTurn p later (ordered_client order) row turned →
+    ensures more { (p later : PlayerView) (row : TurnRow) → TellsTurn p later (ordered_client order) row turned →
         counting order later.lines ≡ counting order p.lines + result }
 {
     match order {

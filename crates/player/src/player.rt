@@ -8,7 +8,7 @@ use crate::player_core::Core;
 use crate::plays::Plays;
 use crate::turned::Turned;
 use arena::{NoMemory, PassNo};
-use record::{Line, Record, Row};
+use record::{Line, Record, TurnRow};
 use script::Script;
 use std::alloc::Global;
 use std::fmt;
@@ -57,7 +57,7 @@ impl Player {
     /// One turn of a client: its next atomic step, or a row of kind idle where it has no call left
     /// or its call answers without a step. A refusal leaves all as it was, and the same turn can be
     /// asked again.
-    pub fn step(&mut self, client: PassNo) -> Result<Row, NoMemory>
+    pub fn step(&mut self, client: PassNo) -> Result<TurnRow, NoMemory>
         requires { client.0 < self.old.script.layout.passes }
         ensures turn { IfOk result (λ row. IsTurnMore self.old self.new client.0 row) }
         ensures refused { IfErr result (λ _. self.new ≡ self.old) }
@@ -67,7 +67,7 @@ impl Player {
     }
 
     /// The same; answers also what the turn tells.
-    fn make(&mut self, client: PassNo) -> Result<(Row, Turned), NoMemory>
+    fn make(&mut self, client: PassNo) -> Result<(TurnRow, Turned), NoMemory>
         requires { client.0 < self.old.script.layout.passes }
         ensures turn { IfOk result (λ made. TellsTurn self.old self.new client.0 made.0 made.1) }
         ensures refused { IfErr result (λ _. self.new ≡ self.old) }

@@ -4,7 +4,7 @@ ghost use Rattle.record.specs.Turns.{kind_of as kind_at};
 ghost use Rattle.record.specs.declared.record.Entry.{Entry};
 ghost use Rattle.record.specs.declared.record.Finished.{Finished};
 ghost use Rattle.record.specs.declared.record.Line.{Line};
-ghost use Rattle.record.specs.declared.record.Row.{Row};
+ghost use Rattle.record.specs.declared.record.TurnRow.{TurnRow};
 ghost use Rattle.player.specs.Lines.{turn_lines};
 
 use arena::Kind;
@@ -39,7 +39,7 @@ impl Turned {
 
 /// The kind of the step that a turn has made.
 fn kind_of(lines: &[Line]) -> Option<Kind>
-    ensures { (row : Row) (behind : List Line) → lines.now ≡ Line.Step row ∷ behind → result ≡ kind_at row }
+    ensures { (row : TurnRow) (behind : List Line) → lines.now ≡ Line.Step row ∷ behind → result ≡ kind_at row }
 {
     match lines.first() {
         Some(Line::Step(row)) => row.kind(),
@@ -49,7 +49,7 @@ fn kind_of(lines: &[Line]) -> Option<Kind>
 
 /// Whether a turn has ended a call.
 fn ends_a_call(lines: &[Line]) -> bool
-    ensures { (row : Row) (entry : Option Entry) (reply : Option Finished) →
+    ensures { (row : TurnRow) (entry : Option Entry) (reply : Option Finished) →
         lines.now ≡ turn_lines row entry reply → result ≡ is_some reply }
 {
     matches!(lines.last(), Some(Line::Reply(_)))

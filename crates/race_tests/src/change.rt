@@ -5,7 +5,7 @@ use crate::race::record_of;
 use crate::random::Random;
 use arena::{Kind, NodeNo, NodeWord, PassNo, ScxNo, ScxWord, SettledPart, Side, Slot, Word};
 use ordered_map::Reply;
-use record::{Answer, Entry, Finished, Line, Row};
+use record::{Answer, Entry, Finished, Line, TurnRow};
 use std::alloc::{AllocError, Global};
 use std::test::Fail;
 
@@ -175,31 +175,31 @@ fn other_word(random: &mut Random, word: Word) -> Word {
 }
 
 /// A turn with one thing said otherwise.
-fn other_row(random: &mut Random, row: Row) -> Row {
+fn other_row(random: &mut Random, row: TurnRow) -> TurnRow {
     match (row, random.below(2)) {
-        (Row::Idle { number, client }, 0) => Row::Idle {
+        (TurnRow::Idle { number, client }, 0) => TurnRow::Idle {
             number: other_number(random, number),
             client,
         },
-        (Row::Idle { number, client }, _) => Row::Idle {
+        (TurnRow::Idle { number, client }, _) => TurnRow::Idle {
             number,
             client: PassNo(other_small(random, client.0)),
         },
-        (Row::Step { number, row }, _) => other_step(random, number, row),
+        (TurnRow::Step { number, row }, _) => other_step(random, number, row),
     }
 }
 
-fn other_step(random: &mut Random, number: u64, row: arena::Row) -> Row {
+fn other_step(random: &mut Random, number: u64, row: arena::Row) -> TurnRow {
     let mut row = row;
     match random.below(9) {
         0 => {
-            return Row::Step {
+            return TurnRow::Step {
                 number: other_number(random, number),
                 row,
             };
         }
         1 => {
-            return Row::Idle {
+            return TurnRow::Idle {
                 number,
                 client: row.pass,
             };
@@ -211,7 +211,7 @@ fn other_step(random: &mut Random, number: u64, row: arena::Row) -> Row {
         7 => row.pass = PassNo(other_small(random, row.pass.0)),
         _ => row.after = other_number(random, row.after),
     }
-    Row::Step { number, row }
+    TurnRow::Step { number, row }
 }
 
 fn other_entry(random: &mut Random, entry: Entry) -> Entry {
@@ -331,7 +331,7 @@ fn random_place(random: &mut Random, lines: &[Line]) -> usize {
 /// Whether a line is a step that changes nothing.
 fn is_plain(line: Option<&Line>) -> bool {
     match line {
-        Some(Line::Step(Row::Step { number: _, row })) => row.before == row.after,
+        Some(Line::Step(TurnRow::Step { number: _, row })) => row.before == row.after,
         _ => false,
     }
 }
@@ -351,7 +351,7 @@ fn exchange(lines: &mut Vec<Line>, one: usize, other: usize) {
 /// Leaves a line out, and where it is a turn numbers the later ones anew.
 fn skip(lines: &mut Vec<Line>, at: usize) {
     let out = match lines.get(at) {
-        Some(Line::Step(Row::Step { number, row: _ })) => *number,
+        Some(Line::Step(TurnRow::Step { number, row: _ })) => *number,
         _ => u64::MAX,
     };
     leave_out(lines, at);
@@ -372,8 +372,8 @@ fn anew(turn: u64, out: u64) -> u64 {
 /// Numbers the turns of a line, once this one is left out.
 fn number_anew(line: &mut Line, out: u64) {
     match line {
-        Line::Step(Row::Step { number, row: _ }) => *number = anew(*number, out),
-        Line::Step(Row::Idle { number, client: _ }) => *number = anew(*number, out),
+        Line::Step(TurnRow::Step { number, row: _ }) => *number = anew(*number, out),
+        Line::Step(TurnRow::Idle { number, client: _ }) => *number = anew(*number, out),
         Line::Log(entry) => entry.step = anew(entry.step, out),
         Line::Reply(reply) => {
             reply.begin = anew(reply.begin, out);

@@ -2,7 +2,7 @@
 use crate::call::call_of;
 use arena::{NodeNo, NodeWord, SettledPart, Word};
 use ordered_map::{Reply, Request};
-use record::{Answer, Finished, Line, Record, Row};
+use record::{Answer, Finished, Line, Record, TurnRow};
 
 /// All that is told on the tree. From below, four bits for deletes, pops of the first pair,
 /// replacements that found what they expected, others, successors, ranges, and other calls: some,
@@ -126,7 +126,7 @@ fn tries(record: &Record, reply: &Finished) -> u64 {
 
 fn begins_try(line: &Line, reply: &Finished) -> bool {
     match line {
-        Line::Step(Row::Step { number: _, row }) => {
+        Line::Step(TurnRow::Step { number: _, row }) => {
             let word = Word::Node(NodeNo(0), NodeWord::Settled(SettledPart::Head));
             row.pass == reply.client && row.call == reply.call && row.word == word
         }

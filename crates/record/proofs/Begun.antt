@@ -5,8 +5,8 @@ use Rattle.arena.specs.declared.layout.Layout.{Layout}
 use Rattle.script.specs.declared.call.Call.{Call}
 use Rattle.record.specs.declared.record.Line.{Line}
 use Rattle.record.specs.declared.record.Line.TheVariants.{Step, Log, Reply as ReplyLine}
-use Rattle.record.specs.declared.record.Row.{Row}
-use Rattle.record.specs.declared.record.Row.TheVariants.{Step as Made, Idle}
+use Rattle.record.specs.declared.record.TurnRow.{TurnRow}
+use Rattle.record.specs.declared.record.TurnRow.TheVariants.{Step as Made, Idle}
 use Rattle.record.specs.Turns.{client_of, number_of, history, turns, begin, start, won, entry_of, is_entry_of}
 use Rattle.record.specs.LawfulRun.{AreLines}
 use Rattle.record.specs.Steps.{IsTurn}
@@ -42,7 +42,7 @@ start_kept mode lines c = go (begin lines c) refl
 pub some_turn : (a b : ℕ) → Some a ≡ Some b → a ≡ b
 some_turn a b e = cc
 
-pub turn_number : (lay : Layout) (tries : ℕ) (calls : List Call) (lines : List Line) (row : Row) → IsTurn lay tries calls lines row → number_of row ≡ suc (turns lines)
+pub turn_number : (lay : Layout) (tries : ℕ) (calls : List Call) (lines : List Line) (row : TurnRow) → IsTurn lay tries calls lines row → number_of row ≡ suc (turns lines)
 turn_number lay tries calls lines (Made n row) x = x.in_turn
 turn_number lay tries calls lines (Idle n client) x = x.in_turn
 

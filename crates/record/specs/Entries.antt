@@ -9,7 +9,7 @@ use Rattle.script.specs.declared.call.Call.{Call}
 use Rattle.script.specs.declared.command.Command.{Command}
 use Rattle.record.specs.declared.record.Line.{Line}
 use Rattle.record.specs.declared.record.Line.TheVariants.{Step}
-use Rattle.record.specs.declared.record.Row.TheVariants.{Step as Made}
+use Rattle.record.specs.declared.record.TurnRow.TheVariants.{Step as Made}
 use Rattle.record.specs.declared.record.Entry.{Entry}
 use Rattle.record.specs.Turns.{history, answered, begin, start, won, entry_of}
 use Rattle.record.specs.CommandRules.{IsEntryFor}

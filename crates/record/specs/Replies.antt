@@ -5,7 +5,7 @@ use Rattle.script.specs.declared.call.Call.{Call}
 use Rattle.script.specs.declared.command.Command.{Command}
 use Rattle.record.specs.declared.record.Line.{Line}
 use Rattle.record.specs.declared.record.Line.TheVariants.{Step}
-use Rattle.record.specs.declared.record.Row.TheVariants.{Idle}
+use Rattle.record.specs.declared.record.TurnRow.TheVariants.{Idle}
 use Rattle.record.specs.declared.record.Finished.{Finished}
 use Rattle.record.specs.declared.record.Answer.{Answer}
 use Rattle.record.specs.Turns.{history, turns, last_client, answered, begin, start, won}

@@ -10,8 +10,8 @@ use Rattle.arena.specs.TakenNodes.{taken_nodes}
 use Rattle.script.specs.declared.call.Call.{Call}
 use Rattle.script.specs.declared.command.Command.{Command}
 use Rattle.record.specs.declared.record.Line.{Line}
-use Rattle.record.specs.declared.record.Row.TheVariants.{Step as Made, Idle}
-use Rattle.record.specs.declared.record.Row.{Row}
+use Rattle.record.specs.declared.record.TurnRow.TheVariants.{Step as Made, Idle}
+use Rattle.record.specs.declared.record.TurnRow.{TurnRow}
 use Rattle.record.specs.Turns.{history, turns, answered, begin, steps}
 use Rattle.record.specs.CommandRules.{command_steps, MayMake}
 use Rattle.record.specs.Commands.{next_command}
@@ -39,6 +39,6 @@ pub record IsIdleTurn (lay : Layout) (calls : List Call) (lines : List Line) (nu
   pub idle : (next_command calls lines c ≡ None) ⊎ (begin lines c ≡ None)
 
 -- a turn that fits the lines before it: with a step, or idle
-abbrev pub IsTurn : Layout → ℕ → List Call → List Line → Row → Type 0
+abbrev pub IsTurn : Layout → ℕ → List Call → List Line → TurnRow → Type 0
 IsTurn lay tries calls lines (Made number row) = IsStep lay tries calls lines number row
 IsTurn lay tries calls lines (Idle number client) = IsIdleTurn lay calls lines number client.0

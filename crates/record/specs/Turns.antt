@@ -14,22 +14,22 @@ use Rattle.arena.specs.History.{History, Start, ◌⊳◌, value}
 use Rattle.arena.specs.Log.{owner}
 use Rattle.record.specs.declared.record.Line.{Line}
 use Rattle.record.specs.declared.record.Line.TheVariants.{Step, Log, Reply}
-use Rattle.record.specs.declared.record.Row.{Row}
-use Rattle.record.specs.declared.record.Row.TheVariants.{Step as Made, Idle}
+use Rattle.record.specs.declared.record.TurnRow.{TurnRow}
+use Rattle.record.specs.declared.record.TurnRow.TheVariants.{Step as Made, Idle}
 use Rattle.record.specs.declared.record.Entry.{Entry}
 
 -- the client that made a turn
-abbrev pub client_of : Row → ℕ
+abbrev pub client_of : TurnRow → ℕ
 client_of (Made number row) = row.pass.0
 client_of (Idle number client) = client.0
 
 -- the number of a turn
-abbrev pub number_of : Row → ℕ
+abbrev pub number_of : TurnRow → ℕ
 number_of (Made number row) = number
 number_of (Idle number client) = number
 
 -- the kind of the step of a turn, if it made one
-abbrev pub kind_of : Row → Option Kind
+abbrev pub kind_of : TurnRow → Option Kind
 kind_of (Made number row) = Some row.kind
 kind_of (Idle number client) = None
 
@@ -50,7 +50,7 @@ kind_place Commit = 11
 kind_place Abort = 12
 
 -- whether a turn made a step of this kind
-abbrev pub is_of : Kind → Row → Bool
+abbrev pub is_of : Kind → TurnRow → Bool
 is_of kind (Made number row) = kind_place row.kind == kind_place kind
 is_of kind (Idle number client) = false
 

@@ -3,4 +3,4 @@
 
 mod record;
 
-pub use record::{Answer, Entry, Finished, Line, Record, Row};
+pub use record::{Answer, Entry, Finished, Line, Record, TurnRow};

@@ -14,7 +14,7 @@ pub struct Record {
 #[derive(Clone, Debug, Drop, PartialEq, Eq)]
 pub enum Line {
     /// A turn.
-    Step(Row),
+    Step(TurnRow),
     /// The update that the turn before it has won.
     Log(Entry),
     /// The answer to the call whose last turn stands before it.
@@ -25,7 +25,7 @@ pub enum Line {
 /// no run has.
 impl Default for Line {
     fn default() -> Line {
-        Line::Step(Row::Idle {
+        Line::Step(TurnRow::Idle {
             number: 0,
             client: PassNo(0),
         })
@@ -34,7 +34,7 @@ impl Default for Line {
 
 /// A turn of a client. Turns are numbered from 1.
 #[derive(Clone, Copy, Debug, PartialEq, Eq)]
-pub enum Row {
+pub enum TurnRow {
     /// A turn with an atomic step.
     Step { number: u64, row: arena::Row },
     /// A turn without an atomic step: of a client with no call left, or the whole of a call that
@@ -42,7 +42,7 @@ pub enum Row {
     Idle { number: u64, client: PassNo },
 }
 
-impl Row {
+impl TurnRow {
     ghost use Rattle.std.specs.Prelude.{◌≡◌};
     ghost use Rattle.record.specs.Turns.{kind_of};
 
@@ -51,8 +51,8 @@ impl Row {
         ensures { result ≡ kind_of self.now }
     {
         match self {
-            Row::Step { number: _, row } => Some(row.kind),
-            Row::Idle {
+            TurnRow::Step { number: _, row } => Some(row.kind),
+            TurnRow::Idle {
                 number: _,
                 client: _,
             } => None,

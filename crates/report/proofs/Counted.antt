@@ -6,7 +6,7 @@ use Rattle.report.specs.declared.count.Counts.{Counts}
 use Rattle.report.specs.Report.{calls_by}
 use Rattle.record.specs.declared.record.Line.{Line}
 use Rattle.record.specs.declared.record.Line.TheVariants.{Step, Log, Reply}
-use Rattle.record.specs.declared.record.Row.TheVariants.{Step as Made, Idle}
+use Rattle.record.specs.declared.record.TurnRow.TheVariants.{Step as Made, Idle}
 use Rattle.record.specs.declared.record.Finished.{Finished}
 use Rattle.record.specs.Turns.{answered}
 use Rattle.report.specs.Numbered.{AreNumbered, IsOfNextCall}

@@ -7,8 +7,8 @@ use Rattle.record.specs.declared.record.Entry.{Entry}
 use Rattle.record.specs.declared.record.Finished.{Finished}
 use Rattle.record.specs.declared.record.Line.{Line}
 use Rattle.record.specs.declared.record.Line.TheVariants.{Step, Log, Reply}
-use Rattle.record.specs.declared.record.Row.{Row}
-use Rattle.record.specs.declared.record.Row.TheVariants.{Step as Made, Idle}
+use Rattle.record.specs.declared.record.TurnRow.{TurnRow}
+use Rattle.record.specs.declared.record.TurnRow.TheVariants.{Step as Made, Idle}
 use Rattle.script.specs.Commands.{texts}
 use Rattle.script.specs.Kinds.{kind_text}
 use Rattle.report.specs.Answers.{answer_text}
@@ -48,7 +48,7 @@ module _ (fields : List (Bor (List ℕ))) (long : length fields ≡ 7) where
   finished_are reply is = fields_are fields (codes "reply") (decimal reply.client.0) (decimal reply.call) (decimal reply.begin) (decimal reply.end) (moment_text reply.moment) (answer_text reply.answer) long is
 
   -- only an idle turn says so
-  pub only_idle : (get_or fields 3 blank).now ≡ codes "idle" → ((number client : ℕ) → number < 2 ^ 64 → client < 2 ^ 32 → texts fields ≢ seven (codes "step" ∷ decimal number ∷ decimal client ∷ codes "idle" ∷ [])) → (version : Version) (row : Row) → IsSpelledTurn version row → texts fields ≢ seven (line_row (Step row))
+  pub only_idle : (get_or fields 3 blank).now ≡ codes "idle" → ((number client : ℕ) → number < 2 ^ 64 → client < 2 ^ 32 → texts fields ≢ seven (codes "step" ∷ decimal number ∷ decimal client ∷ codes "idle" ∷ [])) → (version : Version) (row : TurnRow) → IsSpelledTurn version row → texts fields ≢ seven (line_row (Step row))
   only_idle kind none version (Made number row) fits is = kind_is_not_idle row.kind (sym (made_are number row is).three_is ∙ kind)
   only_idle kind none version (Idle number client) fits is = none number client.0 fits.0 fits.1 is
 

@@ -44,7 +44,7 @@ use Rattle.record.specs.declared.record.Answer.{Answer}
 use Rattle.record.specs.declared.record.Answer.TheVariants.{Snapshot, Finalized, Fail, Done, Lost, Same, Changed, Unlinked, Full, Map as MapAnswer}
 use Rattle.record.specs.declared.record.Line.{Line}
 use Rattle.record.specs.declared.record.Line.TheVariants.{Step, Log, Reply as ReplyLine}
-use Rattle.record.specs.declared.record.Row.TheVariants.{Step as Made, Idle}
+use Rattle.record.specs.declared.record.TurnRow.TheVariants.{Step as Made, Idle}
 use Rattle.report.specs.Answers.{answer_text, full_text, reply_text, spaced_pairs}
 use Rattle.report.specs.Report.{call_rows, calls_by, entries_in, line_row, mode_text, moment_text, replies_in, report_end_row, seven, steps_in, title_in}
 use Rattle.report.specs.RowFaults.{AreOfReport}

@@ -9,7 +9,7 @@ use Rattle.record.specs.declared.record.Entry.{Entry}
 use Rattle.record.specs.declared.record.Finished.{Finished}
 use Rattle.record.specs.declared.record.Line.{Line}
 use Rattle.record.specs.declared.record.Line.TheVariants.{Step, Log, Reply}
-use Rattle.record.specs.declared.record.Row.{Row}
+use Rattle.record.specs.declared.record.TurnRow.{TurnRow}
 use Rattle.record.specs.Turns.{turns}
 use Rattle.player.specs.Core.{IsNextTurn, with_lines}
 use Rattle.player.specs.Lines.{turn_lines}
@@ -74,7 +74,7 @@ entries_after (Log entry ∷ xs) ys = let rest = entries_after xs ys in omega (a
 entries_after (Reply reply ∷ xs) ys = entries_after xs ys
 
 -- the lines of a turn are of one, with a reply and an entry at most
-of_turn : (row : Row) (entry : Option Entry) (reply : Option Finished) → let more = turn_lines row entry reply in (steps_in more ≡ 1) × (replies_in more ≤ 1) × (entries_in more ≤ 1)
+of_turn : (row : TurnRow) (entry : Option Entry) (reply : Option Finished) → let more = turn_lines row entry reply in (steps_in more ≡ 1) × (replies_in more ≤ 1) × (entries_in more ≤ 1)
 of_turn row None None = (refl, omega arith, omega arith)
 of_turn row None (Some reply) = (refl, omega arith, omega arith)
 of_turn row (Some entry) None = (refl, omega arith, omega arith)

@@ -11,7 +11,7 @@ use Rattle.script.specs.declared.call.Call.{Call}
 use Rattle.script.specs.declared.script.Script.{Script}
 use Rattle.record.specs.declared.record.Line.{Line}
 use Rattle.record.specs.declared.record.Line.TheVariants.{Step, Log, Reply}
-use Rattle.record.specs.declared.record.Row.TheVariants.{Step as Made, Idle}
+use Rattle.record.specs.declared.record.TurnRow.TheVariants.{Step as Made, Idle}
 use Rattle.report.specs.Answers.{answer_text}
 use Rattle.report.specs.Versions.{version_text}
 use Rattle.report.specs.Words.{word_text}

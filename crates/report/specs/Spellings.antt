@@ -11,8 +11,8 @@ use Rattle.record.specs.declared.record.Entry.{Entry}
 use Rattle.record.specs.declared.record.Finished.{Finished}
 use Rattle.record.specs.declared.record.Line.{Line}
 use Rattle.record.specs.declared.record.Line.TheVariants.{Step, Log, Reply as ReplyLine}
-use Rattle.record.specs.declared.record.Row.{Row}
-use Rattle.record.specs.declared.record.Row.TheVariants.{Step as Made, Idle}
+use Rattle.record.specs.declared.record.TurnRow.{TurnRow}
+use Rattle.record.specs.declared.record.TurnRow.TheVariants.{Step as Made, Idle}
 use Rattle.arena.specs.declared.step.Row.{Row as StepRow}
 use Rattle.report.specs.Versions.{HasCommand, value_limit}
 use Rattle.report.specs.Words.{IsSpelled}
@@ -82,7 +82,7 @@ pub record IsSpelledStep (version : Version) (row : StepRow) : Type 0 where
   pub after : row.after < 2 ^ 64
 
 -- a turn whose numbers fit
-abbrev pub IsSpelledTurn : Version → Row → Type 0
+abbrev pub IsSpelledTurn : Version → TurnRow → Type 0
 IsSpelledTurn version (Made number row) = (number < 2 ^ 64) × IsSpelledStep version row
 IsSpelledTurn version (Idle number client) = (number < 2 ^ 64) × (client.0 < 2 ^ 32)
 

@@ -1,7 +1,7 @@
 //! Steps, log entries and replies as rows.
 ghost use Rattle.std.specs.Prelude.{◌≡◌, ◌≤◌, ◌++◌, OnOk, codes, map};
 ghost use Rattle.record.specs.declared.record.Line.TheVariants.{Step as StepLine, Log, Reply as ReplyLine};
-ghost use Rattle.record.specs.declared.record.Row.TheVariants.{Step as Made, Idle};
+ghost use Rattle.record.specs.declared.record.TurnRow.TheVariants.{Step as Made, Idle};
 ghost use Rattle.report.specs.Report.{line_row, moment_text};
 ghost use Rattle.texts.specs.Pages.{line_of, rows_text};
 ghost use Rattle.texts.specs.Sheets.{IsPlain, sheet_room, sheet_text};
@@ -10,7 +10,7 @@ use crate::answer::put_answer;
 use crate::numbers::put_field;
 use crate::word::put_word;
 use arena::PassNo;
-use record::{Entry, Finished, Line, Row};
+use record::{Entry, Finished, Line, TurnRow};
 use script::kind_name;
 use std::alloc::AllocError;
 use texts::Sheet;
@@ -35,8 +35,8 @@ pub fn put_line(sheet: &mut Sheet, line: &Line) -> Result<(), AllocError>
 {
     sheet.make_room(LONGEST)?;
     match line {
-        Line::Step(Row::Step { number, row }) => put_step(sheet, *number, row),
-        Line::Step(Row::Idle { number, client }) => put_idle(sheet, *number, *client),
+        Line::Step(TurnRow::Step { number, row }) => put_step(sheet, *number, row),
+        Line::Step(TurnRow::Idle { number, client }) => put_idle(sheet, *number, *client),
         Line::Log(entry) => put_entry(sheet, entry),
         Line::Reply(reply) => put_finished(sheet, reply)?,
     }

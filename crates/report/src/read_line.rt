@@ -7,8 +7,8 @@ ghost use Rattle.record.specs.declared.record.Entry.{Entry as EntryOf};
 ghost use Rattle.record.specs.declared.record.Finished.{Finished as FinishedOf};
 ghost use Rattle.record.specs.declared.record.Line.{Line};
 ghost use Rattle.record.specs.declared.record.Line.TheVariants.{Step as StepLine, Log, Reply as ReplyLine};
-ghost use Rattle.record.specs.declared.record.Row.{Row as RowOf};
-ghost use Rattle.record.specs.declared.record.Row.TheVariants.{Step as Made};
+ghost use Rattle.record.specs.declared.record.TurnRow.{TurnRow};
+ghost use Rattle.record.specs.declared.record.TurnRow.TheVariants.{Step as Made};
 ghost use Rattle.report.specs.Counts.{HasCommands, HasCountedReplies, calls_counted};
 ghost use Rattle.report.specs.Numbered.{AreNumbered, IsOfNextCall};
 ghost use Rattle.script.specs.Commands.{texts};
@@ -30,7 +30,7 @@ use crate::name::{client_of, scx_of};
 use crate::rows::{next_row, row_fields};
 use crate::version::Version;
 use crate::word::word_of;
-use record::{Answer, Entry, Finished, Line, Row};
+use record::{Answer, Entry, Finished, Line, TurnRow};
 use script::{Call, kind_of};
 use std::alloc::{AllocError, Global};
 use std::io::Read;
@@ -144,11 +144,11 @@ fn turn_or_entry_of(fields: [&str; 7], version: Version, replies: &Counts) -> Op
     }
 }
 
-fn turn_of(fields: [&str; 7], version: Version, replies: &Counts) -> Option<Row>
+fn turn_of(fields: [&str; 7], version: Version, replies: &Counts) -> Option<TurnRow>
     ensures row { IfSome result (λ row. texts fields.entry ≡ seven (line_row (StepLine row))) }
     ensures call { IfSome result (λ row. IsOfNextCall (calls_counted replies.now) (StepLine row)) }
     ensures spelled { IfSome result (IsSpelledTurn version) }
-    ensures none { IfNone result ((row : RowOf) → IsSpelledTurn version row → texts fields.entry ≢ seven (line_row (StepLine row))) }
+    ensures none { IfNone result ((row : TurnRow) → IsSpelledTurn version row → texts fields.entry ≢ seven (line_row (StepLine row))) }
 {
     match fields[3] {
         "idle" => idle_of(fields),
@@ -156,7 +156,7 @@ fn turn_of(fields: [&str; 7], version: Version, replies: &Counts) -> Option<Row>
     }
 }
 
-fn idle_of(fields: [&str; 7]) -> Option<Row>
+fn idle_of(fields: [&str; 7]) -> Option<TurnRow>
     ensures row { IfSome result (λ row. texts fields.entry ≡ seven (line_row (StepLine row))) }
     ensures call { (calls : ℕ → ℕ) → IfSome result (λ row. IsOfNextCall calls (StepLine row)) }
     ensures spelled { (version : VersionOf) → IfSome result (IsSpelledTurn version) }
@@ -166,13 +166,13 @@ fn idle_of(fields: [&str; 7]) -> Option<Row>
     let ["step", number, client, "idle", "", "", ""] = fields else {
         return None;
     };
-    Some(Row::Idle {
+    Some(TurnRow::Idle {
         number: number_of(number)?,
         client: client_of(client)?,
     })
 }
 
-fn step_of(fields: [&str; 7], version: Version, replies: &Counts) -> Option<Row>
+fn step_of(fields: [&str; 7], version: Version, replies: &Counts) -> Option<TurnRow>
     ensures row { IfSome result (λ row. texts fields.entry ≡ seven (line_row (StepLine row))) }
     ensures call { IfSome result (λ row. IsOfNextCall (calls_counted replies.now) (StepLine row)) }
     ensures spelled { IfSome result (IsSpelledTurn version) }
@@ -192,7 +192,7 @@ fn step_of(fields: [&str; 7], version: Version, replies: &Counts) -> Option<Row>
         before: number_of(before)?,
         after: number_of(after)?,
     };
-    Some(Row::Step { number, row })
+    Some(TurnRow::Step { number, row })
 }
 
 fn entry_of(fields: [&str; 7]) -> Option<Entry>

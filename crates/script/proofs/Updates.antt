@@ -12,10 +12,10 @@ use Rattle.script.specs.Update.{update_cells, update_finalize, update_field, upd
 use Rattle.script.specs.declared.command.Command.{Command}
 use Rattle.script.specs.declared.command.Command.TheVariants.{Scx, Set, Map}
 use Rattle.ordered_map.specs.declared.request.Request.TheVariants.{Successor}
-use Rattle.script.specs.declared.command.Update.{Update}
+use Rattle.script.specs.declared.command.CellUpdate.{CellUpdate}
 
 -- these texts are an update's cells, those finalized, and the change
-pub record SaysUpdate (cells finalize change : List ℕ) (update : Update) : Type 0 where
+pub record SaysUpdate (cells finalize change : List ℕ) (update : CellUpdate) : Type 0 where
   pub are : AreCells (update_cells update)
   pub fits : update_value update < 2 ^ 64
   pub inside : Contains (update_cells update) (update_field update).0
@@ -28,7 +28,7 @@ abbrev letter : ℕ → List (List ℕ) → ℕ
 letter k row = get_or (get_or row 0 []) k 0
 
 -- only a row of an update is a row of an SCX
-pub no_update : (cells finalize change : List ℕ) → ((update : Update) → ¬ (SaysUpdate cells finalize change update)) → (command : Command) → IsCommand command → codes "scx" ∷ cells ∷ finalize ∷ change ∷ [] ≢ command_row command
+pub no_update : (cells finalize change : List ℕ) → ((update : CellUpdate) → ¬ (SaysUpdate cells finalize change update)) → (command : Command) → IsCommand command → codes "scx" ∷ cells ∷ finalize ∷ change ∷ [] ≢ command_row command
 no_update cells finalize change none (Scx update) valid row =
     ∥∥₁_elim update.inside (λ a b. absurd a) (λ (has : Contains (update_cells update) (update_field update).0).
     none update (record { are = valid.0; fits = valid.1; inside = has; cells_is = cc; finalize_is = cc; change_is = cc }))
@@ -50,10 +50,10 @@ part_of_cells (x ∷ part) (y ∷ whole) is all =
     taken_or_left x y part whole (eqb x y) (λ e. search (rules, tests)) (All-head IsCell y whole all)
     (λ taken. part_of_cells part whole taken rest) (λ left. part_of_cells (x ∷ part) whole left rest) is
 
-pub finalized_are_cells : {cells finalize change : List ℕ} (update : Update) → SaysUpdate cells finalize change update → All IsCell (update_finalize update)
+pub finalized_are_cells : {cells finalize change : List ℕ} (update : CellUpdate) → SaysUpdate cells finalize change update → All IsCell (update_finalize update)
 finalized_are_cells update says = part_of_cells (update_finalize update) (update_cells update) update.part says.are.1
 
-pub field_is_of_cell : {cells finalize change : List ℕ} (update : Update) → SaysUpdate cells finalize change update → IsCell (update_field update).0
+pub field_is_of_cell : {cells finalize change : List ℕ} (update : CellUpdate) → SaysUpdate cells finalize change update → IsCell (update_field update).0
 field_is_of_cell update says = All-contains IsCell (update_cells update) (update_field update).0 says.are.1 says.inside
 
 -- the first part of a change's text is its cell's

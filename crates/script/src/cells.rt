@@ -49,7 +49,7 @@ impl Cell {
 
 /// One to four cells that differ, in the order in which a script names them.
 #[derive(Clone, Copy, Debug, PartialEq, Eq)]
-pub struct Cells {
+pub struct CellList {
     list: [Cell; 4],
     count: u8,
     ghost some: { 1 ≤ count },
@@ -57,20 +57,20 @@ pub struct Cells {
     ghost differ: { AllPairs (λ a b. a ≢ b) (take count list) },
 }
 
-impl Cells {
+impl CellList {
     ghost use Rattle.script.specs.Cells.{cells_of};
 
     /// This cell alone.
-    pub fn one(cell: Cell) -> Cells
+    pub fn one(cell: Cell) -> CellList
         ensures { cells_of result ≡ cell ∷ [] }
     {
         let mut list = [Cell::FIRST; 4];
         list[0] = cell;
-        Cells { list, count: 1 }
+        CellList { list, count: 1 }
     }
 
     /// These and one more cell, if there are fewer than four and it is none of them.
-    pub fn with(self, cell: Cell) -> Option<Cells>
+    pub fn with(self, cell: Cell) -> Option<CellList>
         ensures fits { IsSome result ↔ ((length (cells_of self) < 4) × ¬ (Contains (cells_of self) cell)) }
         ensures cells { IfSome result (λ cells. cells_of cells ≡ cells_of self ++ cell ∷ []) }
     {
@@ -79,7 +79,7 @@ impl Cells {
         }
         let mut list = self.list;
         list[self.count as usize] = cell;
-        Some(Cells {
+        Some(CellList {
             list,
             count: self.count + 1,
         })

@@ -3,7 +3,7 @@ ghost use Rattle.std.specs.Prelude.{◌≡◌, ◌≢◌, ◌≤◌, ◌↔◌, 
 ghost use Rattle.script.specs.Part.{is_subsequence};
 ghost use Rattle.script.specs.Cells.{cells_of, maybe_cells_of};
 
-use crate::cells::{Cell, Cells};
+use crate::cells::{Cell, CellList};
 use arena::Side;
 use ordered_map::Request;
 
@@ -13,9 +13,9 @@ pub enum Command {
     /// Takes a snapshot of a cell.
     Llx { cell: Cell },
     /// Puts a fresh cell into a field of one of some cells, and finalizes some of them.
-    Scx(Update),
+    Scx(CellUpdate),
     /// Looks whether these cells are as their snapshots say.
-    Vlx { cells: Cells },
+    Vlx { cells: CellList },
     /// LLX of a cell, then SCX of it alone.
     Set { field: (Cell, Side), value: u64 },
     /// A call of the map, in tree mode.
@@ -25,26 +25,26 @@ pub enum Command {
 /// What an SCX changes: a field of one of its cells gets a fresh cell with this value, and some of
 /// the cells are finalized.
 #[derive(Clone, Copy, Debug, PartialEq, Eq)]
-pub struct Update {
-    cells: Cells,
-    finalize: Option<Cells>,
+pub struct CellUpdate {
+    cells: CellList,
+    finalize: Option<CellList>,
     field: (Cell, Side),
     value: u64,
     ghost part: { IsTrue (is_subsequence (maybe_cells_of finalize) (cells_of cells)) },
     ghost inside: { ∥ Contains (cells_of cells) field.0 ∥₁ },
 }
 
-impl Update {
+impl CellUpdate {
     ghost use Rattle.script.specs.Update.{update_cells, update_finalize, update_field, update_value};
 
     /// An update, if what is to be finalized is a part of the cells in their order, and the field
     /// belongs to one of them.
     pub fn new(
-        cells: Cells,
-        finalize: Option<Cells>,
+        cells: CellList,
+        finalize: Option<CellList>,
         field: (Cell, Side),
         value: u64,
-    ) -> Option<Update>
+    ) -> Option<CellUpdate>
         ensures valid { IsSome result ↔ (IsTrue (is_subsequence (maybe_cells_of finalize) (cells_of cells)) × Contains (cells_of cells) field.0) }
         ensures cells { IfSome result (λ u. update_cells u ≡ cells_of cells) }
         ensures finalize { IfSome result (λ u. update_finalize u ≡ maybe_cells_of finalize) }
@@ -58,7 +58,7 @@ impl Update {
         if !is_subsequence || !cells.as_slice().contains(&field.0) {
             return None;
         }
-        Some(Update {
+        Some(CellUpdate {
             cells,
             finalize,
             field,

@@ -2,14 +2,14 @@
 ghost use Rattle.std.specs.Prelude.{◌≡◌, ◌≢◌, ◌<◌, ◌≤◌, ◌^◌, ◌↔◌, ℕ, [], ◌∷◌, ◌++◌, All, Contains, length, map, decimal, codes, IsSome, IfSome, MatchOption, Option, IfOk, IfErr, OnOk, string_bytes};
 ghost use Rattle.std.specs.Option.{option_map_or};
 ghost use Rattle.arena.specs.declared.word.Side.{Side};
-ghost use Rattle.script.specs.declared.cells.Cells.{Cells};
+ghost use Rattle.script.specs.declared.cells.CellList.{CellList};
 ghost use Rattle.script.specs.Calls.{IsNoCommand};
 ghost use Rattle.script.specs.Cells.{cells_of, maybe_cells_of};
 ghost use Rattle.texts.specs.Sheets.{ArePlain, IsPlain};
 ghost use Rattle.script.specs.Commands.{command_row, request_row, mode_of, change_text, numbers_text, side_text, texts, AreCells, AsksForFewPairs, IsCell, IsCommand, IsCommandOf};
 
-use crate::cells::{Cell, Cells};
-use crate::command::{Command, Update};
+use crate::cells::{Cell, CellList};
+use crate::command::{CellUpdate, Command};
 use crate::fault::ScriptCause;
 use arena::{Mode, Side};
 use itoa::Buffer;
@@ -91,7 +91,7 @@ fn scx_of(arguments: [&str; 3]) -> Option<Command>
 {
     let [cells, finalize, change] = arguments;
     let (field, value) = change_of(change)?;
-    let update = Update::new(cells_of(cells)?, finalize_of(finalize)?, field, value)?;
+    let update = CellUpdate::new(cells_of(cells)?, finalize_of(finalize)?, field, value)?;
     Some(Command::Scx(update))
 }
 
@@ -242,8 +242,8 @@ fn cell_of(text: &str) -> Option<Cell>
 }
 
 /// One to four cells that differ, with one space between two.
-fn cells_of(text: &str) -> Option<Cells>
-    ensures { MatchOption result ((cells : Cells) → AreCells (cells_of cells) → text.now ≢ numbers_text (cells_of cells))
+fn cells_of(text: &str) -> Option<CellList>
+    ensures { MatchOption result ((cells : CellList) → AreCells (cells_of cells) → text.now ≢ numbers_text (cells_of cells))
         (λ cells. AreCells (cells_of cells) × (text.now ≡ numbers_text (cells_of cells))) }
 {
     let mut cells = None;
@@ -254,19 +254,19 @@ fn cells_of(text: &str) -> Option<Cells>
 }
 
 /// These cells, if any, and one that is none of them; four are the most.
-fn one_more(cells: Option<Cells>, cell: Cell) -> Option<Cells>
+fn one_more(cells: Option<CellList>, cell: Cell) -> Option<CellList>
     ensures fits { IsSome result ↔ ((length (maybe_cells_of cells) < 4) × ¬ (Contains (maybe_cells_of cells) cell)) }
     ensures cells { IfSome result (λ more. cells_of more ≡ maybe_cells_of cells ++ cell ∷ []) }
 {
     match cells {
         Some(cells) => cells.with(cell),
-        None => Some(Cells::one(cell)),
+        None => Some(CellList::one(cell)),
     }
 }
 
 /// The cells of an SCX that are finalized, if any.
-fn finalize_of(text: &str) -> Option<Option<Cells>>
-    ensures { MatchOption result ((cells : Option Cells) → All IsCell (maybe_cells_of cells) →
+fn finalize_of(text: &str) -> Option<Option<CellList>>
+    ensures { MatchOption result ((cells : Option CellList) → All IsCell (maybe_cells_of cells) →
         text.now ≢ numbers_text (maybe_cells_of cells))
         (λ cells. All IsCell (maybe_cells_of cells) × (text.now ≡ numbers_text (maybe_cells_of cells))) }
 {

@@ -13,8 +13,8 @@ mod schedule;
 mod script;
 
 pub use call::Call;
-pub use cells::{Cell, Cells};
-pub use command::{Command, Update};
+pub use cells::{Cell, CellList};
+pub use command::{CellUpdate, Command};
 pub use command_rows::{CommandText, command_of};
 pub use fault::{ScheduleCause, ScheduleFault, ScriptCause, ScriptFault};
 pub use kind::{kind_name, kind_of};

@@ -13,7 +13,7 @@ use Rattle.ordered_map.specs.FillOrder.{HasStoodInField, IsFillInOrder}
 use Rattle.ordered_map.specs.TreeWords.{is_leaf}
 use Rattle.template.specs.declared.walk.Found.{Found}
 use Rattle.tree.proofs.Fills.{leaf_head, piece_is, same_number, same_part, unstood, update_in_order}
-use Rattle.tree.specs.declared.put.PutAt.{PutAt}
+use Rattle.tree.specs.declared.put.PutPair.{PutPair}
 use Rattle.tree.specs.Put.Means.{put_means, put_need, put_pieces, lower, pairs_with, pieces_by_need}
 use Rattle.tree.specs.Laws.Put.Sound.{put_fields}
 use Rattle.edits.specs.declared.edit.Need.{Need}
@@ -64,7 +64,7 @@ leaf_second Nothing ps f ns = leaf_head f.head.level 0
 leaf_second One ps f ns = leaf_head f.head.level 0
 leaf_second Three ps f ns = leaf_head (lower f.head.level) f.head.class
 
-module _ (m : UpdateRun PutAt UpdateAt) (c : Call) (h : History) (f : Found) where
+module _ (m : UpdateRun PutPair UpdateAt) (c : Call) (h : History) (f : Found) where
   abbrev said : Nth → Piece
   said nth = put_pieces m.edit.key m.edit.value f m.nodes m.read nth
 
@@ -107,5 +107,5 @@ module _ (m : UpdateRun PutAt UpdateAt) (c : Call) (h : History) (f : Found) whe
   fill_in_order nth part x = record { head = λ k kind e. head_ordered nth part k x e; field = λ k side kind e. inr (field_ordered nth part k side x e) }
 
 -- whatever step an insert waits for
-pub put_in_order : (m : UpdateRun PutAt UpdateAt) (c : Call) (h : History) (s : Step) → UpdateWaits put_means m c h s → IsFillInOrder h (row_of c s h)
+pub put_in_order : (m : UpdateRun PutPair UpdateAt) (c : Call) (h : History) (s : Step) → UpdateWaits put_means m c h s → IsFillInOrder h (row_of c s h)
 put_in_order m c h s x = update_in_order put_means m c h s (λ d f nth part y. fill_in_order m d h f nth part y) x

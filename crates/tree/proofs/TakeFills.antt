@@ -25,7 +25,7 @@ use Rattle.ordered_map.specs.TreeWords.{is_leaf}
 use Rattle.ordered_map.proofs.Lemmas.{held_stood}
 use Rattle.template.specs.declared.walk.Found.{Found}
 use Rattle.ordered_map.specs.declared.rule.Goal.TheVariants.{Key as ToKey}
-use Rattle.tree.specs.declared.take.TakeAt.{TakeAt}
+use Rattle.tree.specs.declared.take.TakePair.{TakePair}
 use Rattle.tree.specs.Take.Means.{copied_pairs, copy_with, take_means, take_need, take_piece, has_more, join_looks, sibling_of}
 use Rattle.tree.specs.Laws.Take.Sound.{HasFour, copy_fields, few_places, has_four, looked_join, usable_at}
 use Rattle.tree.proofs.Fills.{piece_is, same_number, same_part, unstood, update_in_order}
@@ -71,7 +71,7 @@ joined : (b : Bool) (level k : ℕ) (read : Reading) (q : Piece) (side : Side) �
 joined true level k read q side p = absurd (let z : false ≡ true = p in cc)
 joined false level k read q side p = refl
 
-module _ (m : UpdateRun TakeAt UpdateAt) (c : Call) (h : History) (f : Found) (nth : Nth) (part : NodeWord) (x : FillsPiece take_means m c h f nth part) where
+module _ (m : UpdateRun TakePair UpdateAt) (c : Call) (h : History) (f : Found) (nth : Nth) (part : NodeWord) (x : FillsPiece take_means m c h f nth part) where
   -- what the node at hand is to hold
   abbrev said : Piece
   said = take_piece m.edit.key f m.snaps.items m.read
@@ -132,5 +132,5 @@ module _ (m : UpdateRun TakeAt UpdateAt) (c : Call) (h : History) (f : Found) (n
   fill_in_order filled = record { head = λ k kind e. inr (head_ordered k e); field = λ k side kind e. inl (field_ordered k side filled e) }
 
 -- whatever step a delete waits for, where nodes were filled in order before
-pub take_in_order : (m : UpdateRun TakeAt UpdateAt) (c : Call) (h : History) (s : Step) → AreFilledInOrder h → UpdateWaits take_means m c h s → IsFillInOrder h (row_of c s h)
+pub take_in_order : (m : UpdateRun TakePair UpdateAt) (c : Call) (h : History) (s : Step) → AreFilledInOrder h → UpdateWaits take_means m c h s → IsFillInOrder h (row_of c s h)
 take_in_order m c h s filled x = update_in_order take_means m c h s (λ d f nth part y. fill_in_order m d h f nth part y filled) x

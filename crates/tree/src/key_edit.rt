@@ -2,12 +2,12 @@
 ghost use Rattle.std.specs.Prelude.{◌≡◌};
 ghost use Rattle.edits.specs.Steps.{update_left};
 
-use crate::put::PutAt;
+use crate::put::PutPair;
 use crate::rule::{
     AtGreatest, AtKey, AtLeast, EditGoal, EditRule, PutNewRule, PutRule, SwapRule, TakeIfRule,
     TakeRule,
 };
-use crate::take::TakeAt;
+use crate::take::TakePair;
 use arena::{NodeNo, Share, Side};
 use edits::{Edit, Known, Look, Need, Nodes, Nth, Piece, Reading, UpdateAt, UpdateRun};
 use ordered_map::Goal;
@@ -158,10 +158,10 @@ impl<G: EditGoal, R: EditRule> KeyEdit<G, R> {
 
     /// What it does there, where it leaves this value.
     #[inline(always)]
-    fn put(&self, found: &Found, value: u128) -> PutAt
+    fn put(&self, found: &Found, value: u128) -> PutPair
         ensures { result ≡ putting (asked_key (G.goal self.now.goal) found.now.key) value }
     {
-        PutAt {
+        PutPair {
             key: self.key(found),
             value,
         }
@@ -169,10 +169,10 @@ impl<G: EditGoal, R: EditRule> KeyEdit<G, R> {
 
     /// And where it leaves none.
     #[inline(always)]
-    fn take(&self, found: &Found) -> TakeAt
+    fn take(&self, found: &Found) -> TakePair
         ensures { result ≡ taking (asked_key (G.goal self.now.goal) found.now.key) }
     {
-        TakeAt {
+        TakePair {
             key: self.key(found),
         }
     }

@@ -10,12 +10,12 @@ use template::{Found, Goal};
 
 /// Puts a value at a key.
 #[derive(Clone, Copy, Debug, PartialEq, Eq)]
-pub(crate) struct PutAt {
+pub(crate) struct PutPair {
     pub key: u64,
     pub value: u128,
 }
 
-impl PutAt {
+impl PutPair {
     ghost use Rattle.std.specs.Prelude.{◌≡◌};
     ghost use Rattle.tree.specs.Put.Means.{put_means};
     ghost use Rattle.tree.specs.Put.Means.{has_room, pairs_with, second_pairs, split_pieces, fork_over};
@@ -76,9 +76,9 @@ impl PutAt {
             Nth::Second => Piece::Leaf {
                 level: below,
                 class,
-                pairs: PutAt::second(found, pairs),
+                pairs: PutPair::second(found, pairs),
             },
-            Nth::Third => PutAt::fork(found, &PutAt::second(found, pairs), nodes),
+            Nth::Third => PutPair::fork(found, &PutPair::second(found, pairs), nodes),
         }
     }
 
@@ -97,7 +97,7 @@ impl PutAt {
     }
 }
 
-impl Edit for PutAt {
+impl Edit for PutPair {
     ghost use Rattle.std.specs.Prelude.{◌≡◌};
     ghost use Rattle.tree.specs.Put.Means.{put_means};
     ghost use Rattle.tree.specs.Laws.Put.Sound.{put_laws};
@@ -112,7 +112,7 @@ impl Edit for PutAt {
         match found.value {
             Some(_) => Need::One,
             None => {
-                if PutAt::has_room(found) {
+                if PutPair::has_room(found) {
                     Need::One
                 } else {
                     Need::Three
@@ -150,7 +150,7 @@ impl Edit for PutAt {
     ) -> Piece {
         let pairs = self.pairs(found, read);
         match self.need(found) {
-            Need::Three => PutAt::split(found, pairs, nodes, nth),
+            Need::Three => PutPair::split(found, pairs, nodes, nth),
             Need::Nothing | Need::One => Piece::Leaf {
                 level: found.head.level,
                 class: 0,

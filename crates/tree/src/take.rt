@@ -10,11 +10,11 @@ use template::{Found, Goal};
 
 /// Takes a key away.
 #[derive(Clone, Copy, Debug, PartialEq, Eq)]
-pub(crate) struct TakeAt {
+pub(crate) struct TakePair {
     pub key: u64,
 }
 
-impl TakeAt {
+impl TakePair {
     ghost use Rattle.std.specs.Prelude.{◌≡◌};
     ghost use Rattle.prims.specs.Snap.{snap_at};
     ghost use Rattle.ordered_map.specs.TreeShape.{sibling_place};
@@ -58,8 +58,8 @@ impl TakeAt {
         let trail = found.trail;
         match snaps {
             [] => Look::At(trail.grand),
-            [grand] => TakeAt::past(grand, trail.grand_side, trail.parent, trail.parent),
-            [_, parent] => TakeAt::past(parent, trail.side, trail.node, parent.left),
+            [grand] => TakePair::past(grand, trail.grand_side, trail.parent, trail.parent),
+            [_, parent] => TakePair::past(parent, trail.side, trail.node, parent.left),
             [_, parent, _] => Look::At(parent.right),
             _ => Look::Enough,
         }
@@ -87,7 +87,7 @@ impl TakeAt {
             Piece::Leaf {
                 level,
                 class,
-                pairs: TakeAt::copied(class, read),
+                pairs: TakePair::copied(class, read),
             }
         } else {
             Piece::Fork {
@@ -101,7 +101,7 @@ impl TakeAt {
     }
 }
 
-impl Edit for TakeAt {
+impl Edit for TakePair {
     ghost use Rattle.std.specs.Prelude.{◌≡◌};
     ghost use Rattle.tree.specs.Take.Means.{take_means};
     ghost use Rattle.tree.specs.Laws.Take.Sound.{take_laws};
@@ -132,7 +132,7 @@ impl Edit for TakeAt {
         if 0 < found.more {
             leaf::look(found, snaps)
         } else {
-            TakeAt::look_to_join(found, snaps)
+            TakePair::look_to_join(found, snaps)
         }
     }
 
@@ -141,7 +141,7 @@ impl Edit for TakeAt {
         if 0 < found.more {
             Some(leaf::reads(found))
         } else {
-            Some((TakeAt::sibling(found, snaps).node, Known::Nothing))
+            Some((TakePair::sibling(found, snaps).node, Known::Nothing))
         }
     }
 
@@ -162,7 +162,7 @@ impl Edit for TakeAt {
                 pairs: pairs.delete(self.key),
             }
         } else {
-            TakeAt::copy(&TakeAt::sibling(found, snaps), read)
+            TakePair::copy(&TakePair::sibling(found, snaps), read)
         }
     }
 

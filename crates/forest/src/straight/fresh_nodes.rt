@@ -29,7 +29,7 @@ fn is_leaf_piece(piece: &Piece) -> bool
 
 /// A fresh node: which of those of its edit it is, and where its words begin.
 #[derive(Clone, Copy)]
-struct Fresh {
+struct FreshNode {
     nth: Nth,
     start: usize,
 }
@@ -41,7 +41,7 @@ fn put<S: Shape, M: Machine<S>, E: Edit + Copy>(
     seat: &mut Seat<u8, SeatView>,
     run: &UpdateRun<E, ()>,
     found: &Found,
-    node: Fresh,
+    node: FreshNode,
     piece: &Piece,
     part: NodeWord,
     value: u64,
@@ -68,7 +68,7 @@ fn fill<S: Shape, M: Machine<S>, E: Edit + Copy>(
     seat: &mut Seat<u8, SeatView>,
     run: &UpdateRun<E, ()>,
     found: &Found,
-    node: Fresh,
+    node: FreshNode,
     piece: &Piece,
     part: NodeWord,
 ) -> Option<NodeWord>
@@ -94,7 +94,7 @@ fn fill_pair<S: Shape, M: Machine<S>, E: Edit + Copy>(
     seat: &mut Seat<u8, SeatView>,
     run: &UpdateRun<E, ()>,
     found: &Found,
-    node: Fresh,
+    node: FreshNode,
     piece: &Piece,
     slot: Slot,
 ) -> Option<NodeWord>
@@ -129,7 +129,7 @@ fn fill_more<S: Shape, M: Machine<S>, E: Edit + Copy>(
     seat: &mut Seat<u8, SeatView>,
     run: &UpdateRun<E, ()>,
     found: &Found,
-    node: Fresh,
+    node: FreshNode,
     piece: &Piece,
     next: Option<NodeWord>,
 ) -> Option<NodeWord>
@@ -158,7 +158,7 @@ fn fill_next_pair<S: Shape, M: Machine<S>, E: Edit + Copy>(
     seat: &mut Seat<u8, SeatView>,
     run: &UpdateRun<E, ()>,
     found: &Found,
-    node: Fresh,
+    node: FreshNode,
     piece: &Piece,
     next: Option<NodeWord>,
     slot: Slot,
@@ -187,7 +187,7 @@ fn fill_pairs<S: Shape, M: Machine<S>, E: Edit + Copy>(
     seat: &mut Seat<u8, SeatView>,
     run: &UpdateRun<E, ()>,
     found: &Found,
-    node: Fresh,
+    node: FreshNode,
     piece: &Piece,
     next: Option<NodeWord>,
 ) -> Option<NodeWord>
@@ -224,7 +224,7 @@ pub(crate) fn fill_node<S: Shape, M: Machine<S>, E: Edit + Copy>(
     let snaps = run.snaps.as_slice();
     let piece = run.edit.piece(found, snaps, &run.nodes, &run.read, nth);
     let start = hand.layout.node_start(run.nodes.at(nth));
-    let node = Fresh { nth, start };
+    let node = FreshNode { nth, start };
     let head = NodeWord::Settled(SettledPart::Head);
     let next = fill::<S, M, E>(hand, seat, run, found, node, &piece, head);
     let next = fill_more::<S, M, E>(hand, seat, run, found, node, &piece, next);

@@ -11,7 +11,7 @@ ghost use Rattle.forest.specs.StraightPut.{SeatPutBegins, SeatPutWaits, SeatPutE
 
 use crate::steps::complete;
 use crate::straight::hand::Hand;
-use crate::straight::scx::{self, Change};
+use crate::straight::scx::{self, ScxTask};
 use crate::straight::step::step;
 use crate::view::SeatView;
 use arena::{
@@ -25,7 +25,7 @@ use prims::{PutAt, PutRun, Scx, ScxAt, ScxRun, Snap, Snaps, Update};
 /// What an SCX with a fresh cell is to do, beside the snapshots, which stay where the caller has
 /// them.
 #[derive(Clone, Copy)]
-pub(crate) struct Put {
+pub(crate) struct PutTask {
     pub(crate) plan: Plan,
     pub(crate) old: NodeNo,
     pub(crate) fresh: NodeNo,
@@ -35,7 +35,7 @@ pub(crate) struct Put {
 
 /// Its machine, which only says where the call stands.
 #[inline(always)]
-fn machine(snaps: &[Snap], put: Put, number: u64, scx: ScxAt, at: PutAt) -> PutRun
+fn machine(snaps: &[Snap], put: PutTask, number: u64, scx: ScxAt, at: PutAt) -> PutRun
     requires fits { length snaps.now ≤ 4 }
     ensures { result ≡ standing_put snaps.now put number scx at }
 {
@@ -60,7 +60,7 @@ fn machine(snaps: &[Snap], put: Put, number: u64, scx: ScxAt, at: PutAt) -> PutR
 
 /// Fills the value of the fresh cell.
 #[inline(always)]
-fn fill_value<S: Shape>(hand: Hand<S>, seat: &mut Seat<u8, SeatView>, snaps: &[Snap], put: Put)
+fn fill_value<S: Shape>(hand: Hand<S>, seat: &mut Seat<u8, SeatView>, snaps: &[Snap], put: PutTask)
     requires table { IsAt hand seat.old }
     requires fits { length snaps.now ≤ 4 }
     requires begins { (c : Call) × IsCallOf hand c
@@ -92,7 +92,7 @@ fn complete_blocked<S: Shape>(
     hand: Hand<S>,
     seat: &mut Seat<u8, SeatView>,
     snaps: &[Snap],
-    put: Put,
+    put: PutTask,
     help: &HelpRun,
 ) -> Scx
     requires table { IsAt hand seat.old }
@@ -127,7 +127,7 @@ pub(crate) fn call<S: Shape>(
     hand: Hand<S>,
     seat: &mut Seat<u8, SeatView>,
     snaps: &[Snap],
-    put: Put,
+    put: PutTask,
 ) -> Scx
     requires table { IsAt hand seat.old }
     requires fits { length snaps.now ≤ 4 }
@@ -141,7 +141,7 @@ pub(crate) fn call<S: Shape>(
         (fresh_put snaps.now put hand.entry.number) m result }
 {
     fill_value(hand, seat, snaps, put);
-    let change = Change {
+    let change = ScxTask {
         scx: put.scx,
         call: hand.number,
         plan: put.plan,

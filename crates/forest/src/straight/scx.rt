@@ -25,7 +25,7 @@ use prims::SnapList;
 
 /// What an SCX is to do, beside the snapshots, which stay where the caller has them.
 #[derive(Clone, Copy)]
-pub(crate) struct Change {
+pub(crate) struct ScxTask {
     pub(crate) scx: ScxNo,
     pub(crate) call: u64,
     pub(crate) plan: Plan,
@@ -61,7 +61,7 @@ fn fill_member<S: Shape, M: Machine<S>, T: Shape, L: SnapList>(
     hand: Hand<S>,
     seat: &mut Seat<u8, SeatView>,
     snaps: &L,
-    change: Change,
+    change: ScxTask,
     start: usize,
     j: MemberIndex,
 ) -> Option<MemberIndex>
@@ -93,7 +93,7 @@ fn fill_members<S: Shape, M: Machine<S>, T: Shape, L: SnapList>(
     hand: Hand<S>,
     seat: &mut Seat<u8, SeatView>,
     snaps: &L,
-    change: Change,
+    change: ScxTask,
     start: usize,
 )
     requires table { IsAt hand seat.old }
@@ -124,7 +124,7 @@ fn fill_seen<S: Shape, M: Machine<S>, T: Shape, L: SnapList>(
     hand: Hand<S>,
     seat: &mut Seat<u8, SeatView>,
     snaps: &L,
-    change: Change,
+    change: ScxTask,
     start: usize,
     j: MemberIndex,
 ) -> Option<MemberIndex>
@@ -156,7 +156,7 @@ fn fill_infos<S: Shape, M: Machine<S>, T: Shape, L: SnapList>(
     hand: Hand<S>,
     seat: &mut Seat<u8, SeatView>,
     snaps: &L,
-    change: Change,
+    change: ScxTask,
     start: usize,
 )
     requires table { IsAt hand seat.old }
@@ -187,7 +187,7 @@ pub(crate) fn fill_all<S: Shape, M: Machine<S>, T: Shape, L: SnapList>(
     hand: Hand<S>,
     seat: &mut Seat<u8, SeatView>,
     snaps: &L,
-    change: Change,
+    change: ScxTask,
     start: usize,
 ) -> u64
     requires table { IsAt hand seat.old }
@@ -216,7 +216,7 @@ pub(crate) fn call<S: Shape, M: Machine<S>, T: Shape, L: SnapList>(
     hand: Hand<S>,
     seat: &mut Seat<u8, SeatView>,
     snaps: &L,
-    change: Change,
+    change: ScxTask,
     help: &mut HelpRun,
 ) -> bool
     requires table { IsAt hand seat.old }

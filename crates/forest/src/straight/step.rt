@@ -9,7 +9,7 @@ ghost use Rattle.forest.specs.Hands.{IsAt, IsCallOf};
 ghost use Rattle.forest.specs.Seats.{StaysAtTable};
 ghost use Rattle.forest.specs.Traces.{Waits, Told, known_of};
 
-use crate::rule::Asked;
+use crate::rule::CallStep;
 use crate::straight::hand::Hand;
 use crate::view::SeatView;
 use arena::{Machine, Shape, Step};
@@ -39,7 +39,7 @@ pub(crate) fn step_from<S: Shape, M: Machine<S>>(
         step.kind }
 {
     let at = hand.layout.place_from(start, step.word);
-    let asked = Asked {
+    let asked = CallStep {
         call: hand.number,
         step,
     };

@@ -13,7 +13,7 @@ use crate::straight::fresh_nodes::fill_node;
 use crate::straight::hand::Hand;
 use crate::straight::llx::look;
 use crate::straight::reads::read;
-use crate::straight::scx::{self, Change};
+use crate::straight::scx::{self, ScxTask};
 use crate::straight::{helps, resume, walk};
 use crate::view::SeatView;
 use arena::{Machine, NodeNo, ScxNo, Shape, Share};
@@ -220,7 +220,7 @@ fn change<S: Shape, M: Machine<S>, E: Edit + Copy>(
         layout: &copy,
         number: hand.number,
     };
-    let change = Change {
+    let change = ScxTask {
         scx,
         call: run.call,
         plan: run.plan(found),

@@ -7,7 +7,7 @@ use Rattle.arena.specs.Log.{Entry as Entered, has}
 use Rattle.script.specs.Update.{update_cells, update_finalize, update_field, update_value}
 use Rattle.record.specs.declared.record.Answer.{Answer}
 use Rattle.record.specs.declared.record.Answer.TheVariants.{Done, Lost, Unlinked, Full}
-use Rattle.script.specs.declared.command.Update.{Update}
+use Rattle.script.specs.declared.command.CellUpdate.{CellUpdate}
 use Rattle.record.specs.Answers.{AreUnchanged, IsInTheWay, HasRoom, is_done, IsPlacedCell}
 use Rattle.record.specs.Rules.{Rules}
 use Rattle.record.specs.Shares.{HasTooFew}
@@ -33,13 +33,13 @@ has_run (Lost node scx) = true
 has_run _ = false
 
 -- an SCX that has run drops the client's snapshots of its cells
-abbrev pub scx_linked : Update → Answer → History → ℕ → Option History → Option History
+abbrev pub scx_linked : CellUpdate → Answer → History → ℕ → Option History → Option History
 scx_linked update answer now n old =
     if has_run answer && has (update_cells update) n then None
     else old
 
 -- what its answers say; of one that is done, its entry says all the rest
-abbrev pub ScxIsRight : Update → Layout → ℕ → History → History → (ℕ → Option History) → Answer → Type 0
+abbrev pub ScxIsRight : CellUpdate → Layout → ℕ → History → History → (ℕ → Option History) → Answer → Type 0
 -- the first of its cells of which the client keeps no snapshot
 ScxIsRight update lay c now start linked (Unlinked node) = IsFirstUnlinked linked (update_cells update) node.0
 -- all snapshots are there, and the share has none left of this
@@ -51,11 +51,11 @@ ScxIsRight update lay c now start linked _ = ⊥
 
 -- its entry covers and finalizes the cells asked for and sets the field; just before it each of
 -- them was as the client's snapshot found it
-abbrev pub IsScxEntry : Update → Layout → ℕ → History → History → (ℕ → Option History) → Entered → Type 0
+abbrev pub IsScxEntry : CellUpdate → Layout → ℕ → History → History → (ℕ → Option History) → Entered → Type 0
 IsScxEntry update lay c before start linked e = IsEntryOver lay c before e (update_cells update) (update_finalize update) (update_field update) (update_value update) × AreUnchanged lay before linked (update_cells update)
 
 -- at most 40 steps, of any kind; an SCX-record, and a node for it
-abbrev pub scx_rules : Update → Rules
+abbrev pub scx_rules : CellUpdate → Rules
 scx_rules update = record {
   most_steps = λ tries taken. 40;
   most_scx = λ tries. 1;

@@ -9,7 +9,7 @@ use Rattle.record.specs.declared.record.Answer.TheVariants.{Same, Changed, Unlin
 use Rattle.record.specs.Answers.{IsAsSnapped, AreUnchanged, IsInTheWay, IsPlacedCell}
 use Rattle.record.specs.Rules.{Rules}
 use Rattle.record.specs.Snapshots.{AreLinked, IsBehindAll, IsFirstUnlinked}
-use Rattle.script.specs.declared.cells.Cells.{Cells}
+use Rattle.script.specs.declared.cells.CellList.{CellList}
 
 -- a VLX may be refused before its first step
 abbrev pub VlxAtOnce : Answer → Type 0
@@ -27,7 +27,7 @@ abbrev pub vlx_linked : Answer → History → ℕ → Option History → Option
 vlx_linked answer now n old = old
 
 -- what its answers say
-abbrev pub VlxIsRight : Cells → Layout → ℕ → History → History → (ℕ → Option History) → Answer → Type 0
+abbrev pub VlxIsRight : CellList → Layout → ℕ → History → History → (ℕ → Option History) → Answer → Type 0
 -- the first of its cells of which the client keeps no snapshot
 VlxIsRight cells lay c now start linked (Unlinked node) = IsFirstUnlinked linked (cells_of cells) node.0
 -- as the call began, each cell was as the client's snapshot found it
@@ -38,7 +38,7 @@ VlxIsRight cells lay c now start linked (Changed node scx) = AreLinked linked (c
 VlxIsRight cells lay c now start linked _ = ⊥
 
 -- at most one step a cell, each a load of its info; it takes nothing, and puts nothing into the log
-abbrev pub vlx_rules : Cells → Rules
+abbrev pub vlx_rules : CellList → Rules
 vlx_rules cells = record {
   most_steps = λ tries taken. length (cells_of cells);
   most_scx = λ tries. 0;

@@ -8,8 +8,8 @@ use Rattle.ordered_map.specs.declared.rule.Goal.TheVariants.{Key, End}
 use Rattle.ordered_map.specs.declared.rule.Rule.{Rule}
 use Rattle.template.specs.FoundLeaf.{asked_key}
 use Rattle.template.specs.declared.walk.Found.{Found}
-use Rattle.tree.specs.declared.take.TakeAt.{TakeAt}
-use Rattle.tree.specs.declared.put.PutAt.{PutAt}
+use Rattle.tree.specs.declared.take.TakePair.{TakePair}
+use Rattle.tree.specs.declared.put.PutPair.{PutPair}
 use Rattle.tree.specs.declared.key_edit.KeyEdit.{KeyEdit}
 use Rattle.tree.specs.Take.Means.{take_means}
 use Rattle.tree.specs.Put.Means.{put_means}
@@ -19,11 +19,11 @@ use Rattle.edits.specs.Edits.{EditMeaning, through}
 -- At a key
 
 -- what puts this value at the key
-abbrev pub putting : ℕ → ℕ → PutAt
+abbrev pub putting : ℕ → ℕ → PutPair
 putting key value = record { key = key; value = value }
 
 -- what takes the key out
-abbrev pub taking : ℕ → TakeAt
+abbrev pub taking : ℕ → TakePair
 taking key = record { key = key }
 
 -- what leaves this value to a key does what puts it there; what leaves none, what takes the key out

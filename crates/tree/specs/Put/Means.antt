@@ -6,7 +6,7 @@ use Rattle.ordered_map.specs.OrderedMap.{Insert as PutEdit, pair, insert}
 use Rattle.template.specs.declared.walk.Found.{Found}
 use Rattle.ordered_map.specs.declared.rule.Goal.TheVariants.{Key as ToKey}
 use Rattle.tree.specs.LeafEdit.{leaf_looks, leaf_reads}
-use Rattle.tree.specs.declared.put.PutAt.{PutAt}
+use Rattle.tree.specs.declared.put.PutPair.{PutPair}
 use Rattle.edits.specs.declared.edit.Need.{Need}
 use Rattle.edits.specs.declared.edit.Need.TheVariants.{One, Three}
 use Rattle.edits.specs.declared.edit.Nodes.{Nodes}
@@ -65,7 +65,7 @@ abbrev pub put_pieces : ℕ → ℕ → Found → Nodes → Reading → Nth → 
 put_pieces k v f ns read nth = pieces_by_need (put_need f) (pairs_with k v f read) f ns nth
 
 -- the edit that an insert is
-abbrev pub put_means : EditMeaning PutAt
+abbrev pub put_means : EditMeaning PutPair
 put_means = record {
   goal = λ e. ToKey e.key;
   edit = λ e f. PutEdit e.key e.value;

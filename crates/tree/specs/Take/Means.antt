@@ -12,7 +12,7 @@ use Rattle.ordered_map.specs.TreeShape.{sibling_place}
 use Rattle.template.specs.declared.walk.Found.{Found}
 use Rattle.ordered_map.specs.declared.rule.Goal.TheVariants.{Key as ToKey}
 use Rattle.tree.specs.LeafEdit.{leaf_looks, leaf_reads}
-use Rattle.tree.specs.declared.take.TakeAt.{TakeAt}
+use Rattle.tree.specs.declared.take.TakePair.{TakePair}
 use Rattle.edits.specs.declared.edit.Look.{Look}
 use Rattle.edits.specs.declared.edit.Look.TheVariants.{At, Differs, Enough}
 use Rattle.edits.specs.declared.edit.Need.{Need}
@@ -81,7 +81,7 @@ take_piece k f snaps read =
     else sibling_copy (sibling_of f snaps) read
 
 -- the edit that a delete is
-abbrev pub take_means : EditMeaning TakeAt
+abbrev pub take_means : EditMeaning TakePair
 take_means = record {
   goal = λ e. ToKey e.key;
   edit = λ e f. TakeEdit e.key;

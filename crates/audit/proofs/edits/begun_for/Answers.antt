@@ -9,8 +9,8 @@ use Rattle.audit.specs.Edits.{IsEditBy, edit_begun}
 use Rattle.audit.proofs.ListEdits.{key_of_edit}
 use Rattle.audit.proofs.edits.begun_for.Goals as goal
 
-pub returns-then-suits-clause-edit : goal.returns-then-suits-clause-edit
-returns-then-suits-clause-edit c =
+pub returns-then-covers_the_right_leaf-clause-edit : goal.returns-then-covers_the_right_leaf-clause-edit
+returns-then-covers_the_right_leaf-clause-edit c =
     let h = seen_history c.args.judge.now in
     let begun = c.in_ok-begun.begun in
     let key : edit_key (edit_begun begun) ≡ begun.key = key_of_edit begun.key begun.value in

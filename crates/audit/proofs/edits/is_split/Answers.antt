@@ -12,5 +12,5 @@ returns-then-are_toward-2-clause-edit c same =
     let begun = c.args.begun.now in
     let made = ap number_pairs (same_pairs c.joined.result.items c.edited.result.items (search rules)) in
     let pairs : leaf_pairs f c.child-left.result ++ leaf_pairs f c.child-right.result ≡ edited (edit_begun begun) (leaf_pairs f c.args.leaf) =
-    sym (c.joined.ensures ∙ (λ i. c.given-low.ensures.pairs i ++ c.given-high.ensures.pairs i)) ∙ made ∙ c.edited.ensures ∙ ap (edited (edit_begun begun)) c.given.ensures.pairs in
+    sym (c.joined.ensures ∙ (λ i. c.pairs_of_leaf-low.ensures.pairs i ++ c.pairs_of_leaf-high.ensures.pairs i)) ∙ made ∙ c.edited.ensures ∙ ap (edited (edit_begun begun)) c.pairs_of_leaf.ensures.pairs in
     (c.child-left.result, c.child-right.result, split_of f begun.key begun.value c.args.leaf c.args.fork c.child-left.result c.child-right.result c.requires.small (search rules))

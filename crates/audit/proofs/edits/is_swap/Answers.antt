@@ -15,7 +15,7 @@ returns-clause-edit c same =
     let edit = edit_begun c.args.begun.now in
     let low : class f c.args.leaf ≡ 0 = search rules in
     let new : IsLowLeaf f c.args.new = search rules in
-    let made = ap number_pairs (same_pairs c.given.result.items c.edited.result.items (search rules)) in
+    let made = ap number_pairs (same_pairs c.pairs_of_leaf.result.items c.edited.result.items (search rules)) in
     let pairs : held_pairs f c.args.new ≡ edited edit (held_pairs f c.args.leaf) =
-    sym (c.given.ensures.pairs ∙ low_pairs f c.args.new new.class) ∙ made ∙ c.edited.ensures ∙ ap (edited edit) (c.given-2.ensures.pairs ∙ low_pairs f c.args.leaf low) in
+    sym (c.pairs_of_leaf.ensures.pairs ∙ low_pairs f c.args.new new.class) ∙ made ∙ c.edited.ensures ∙ ap (edited edit) (c.pairs_of_leaf-2.ensures.pairs ∙ low_pairs f c.args.leaf low) in
     record { leaf = c.requires.leaf; class = low; new = new; pairs = pairs; deep = c.requires.deep }

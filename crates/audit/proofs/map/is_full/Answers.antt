@@ -1,5 +1,5 @@
 use Rattle.std.proofs.Common.{arith}
-use Rattle.moments.specs.Places.{changes}
+use Rattle.linearization.specs.Places.{changes}
 use Rattle.audit.proofs.Refusals.{right_full}
 use Rattle.audit.proofs.map.is_full.Goals as goal
 

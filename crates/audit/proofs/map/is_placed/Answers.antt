@@ -1,7 +1,7 @@
 use Rattle.std.proofs.Common.{◌≡◌, Some, ◌∙◌, ap, rules}
 use Rattle.script.specs.declared.command.Command.TheVariants.{Map as MapCommand}
 use Rattle.record.specs.MapRecord.{reply_told}
-use Rattle.moments.specs.Places.{changes}
+use Rattle.linearization.specs.Places.{changes}
 use Rattle.audit.proofs.EachCall.{change_answered, read_answered}
 use Rattle.audit.proofs.MapAnswers.{changes_fall, some_turns}
 use Rattle.audit.proofs.map.is_placed.Goals as goal

@@ -4,7 +4,7 @@ use Rattle.record.specs.declared.record.Answer.TheVariants.{Map as MapAnswer}
 use Rattle.record.specs.CommandRules.{IsRight}
 use Rattle.record.specs.Linked.{linked}
 use Rattle.record.specs.Turns.{history, start}
-use Rattle.moments.specs.Places.{changes}
+use Rattle.linearization.specs.Places.{changes}
 use Rattle.audit.proofs.Refusals.{right_contended, right_no_memory}
 use Rattle.audit.proofs.map.is_refused.Goals as goal
 

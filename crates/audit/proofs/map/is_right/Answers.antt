@@ -1,4 +1,4 @@
-use Rattle.moments.specs.Places.{changes}
+use Rattle.linearization.specs.Places.{changes}
 use Rattle.audit.proofs.MapAnswers.{none_by}
 use Rattle.audit.proofs.Refusals.{refused_placed}
 use Rattle.audit.proofs.map.is_right.Goals as goal

@@ -2,8 +2,8 @@ use Rattle.std.proofs.Common.{refl, sym, ◌∙◌}
 use Rattle.ordered_map.specs.Requests.{map_request}
 use Rattle.script.specs.declared.command.Command.TheVariants.{Map as MapCommand}
 use Rattle.record.specs.MapRecord.{map_at}
-use Rattle.moments.specs.Places.{changes}
-use Rattle.moments.proofs.Lemmas.{map_rises, reply_tells}
+use Rattle.linearization.specs.Places.{changes}
+use Rattle.linearization.proofs.Lemmas.{map_rises, reply_tells}
 use Rattle.audit.proofs.map.tells_at.Goals as goal
 
 pub returns-then-tells_pairs-clause-told : goal.returns-then-tells_pairs-clause-told

@@ -1,7 +1,7 @@
 use Rattle.std.proofs.Common.{◌<◌, All, IsSome, length, length-set, get_or, set, arith, ap, sym, ◌∙◌, subst}
 use Rattle.std.specs.Option.{option_map}
 use Rattle.std.proofs.lemmas.List.{length-map}
-use Rattle.capi.specs.declared.handle.Place.{Place}
+use Rattle.capi.specs.declared.handle.HandleSlot.{HandleSlot}
 use Rattle.capi.specs.Handles.{pass_count}
 use Rattle.capi.specs.Ends.{IsIn}
 use Rattle.capi.specs.Made.{IsHeldOf}
@@ -15,17 +15,17 @@ pub returns-in_default-clause-none : goal.returns-in_default-clause-none
 returns-in_default-clause-none c = λ held.
     let inside : c.loop-place.place-index < length c.loop-place.passes = omega (arith, c.loop-place.auto.passes, c.loop-place-test.true) in
     let here = subst (All IsSome) (sym c.loop-place.invariant.same) held.1 in
-    none_told c.place-item.result.handle.value (c.in_default.ensures.all ∙ ap (λ (p : Place). option_map pass_count p.handle.value) (sym c.place-item.is)) (one_of c.loop-place.passes c.loop-place.place-index c.place-item.result c.place-item.result c.place-item.is IsSome inside here)
+    none_told c.place-item.result.handle.value (c.in_default.ensures.all ∙ ap (λ (p : HandleSlot). option_map pass_count p.handle.value) (sym c.place-item.is)) (one_of c.loop-place.passes c.loop-place.place-index c.place-item.result c.place-item.result c.place-item.is IsSome inside here)
 
 pub loop-place-preserved : goal.loop-place-preserved
 loop-place-preserved c =
     let xs = c.loop-place.passes in
     let i = c.loop-place.place-index in
     let old = c.place-item.result in
-    let new : Place = record { handle = c.all.new.self; unused = (get_or xs i old).unused } in
+    let new : HandleSlot = record { handle = c.all.new.self; unused = (get_or xs i old).unused } in
     let inside : i < length xs = omega (arith, c.loop-place.auto.passes, c.loop-place-test.true) in
     let same = c.all.ensures.same ∙ ap value_of (sym c.place-item.is) in
-    let told = c.in-Some.ensures.all ∙ ap (λ (p : Place). option_map pass_count p.handle.value) (sym c.place-item.is) in
+    let told = c.in-Some.ensures.all ∙ ap (λ (p : HandleSlot). option_map pass_count p.handle.value) (sym c.place-item.is) in
     let inv = c.loop-place.invariant in
     let longer : 0 < length (set xs i new) = omega (arith, inside, length-set xs i new) in
     let stays = kept xs i old new c.place-item.is same in

@@ -1,11 +1,11 @@
 use Rattle.std.proofs.Common.{Some, map, sym, ◌∙◌, ap}
-use Rattle.capi.specs.declared.client.Client.{Client}
+use Rattle.capi.specs.declared.client.OwnedPass.{OwnedPass}
 use Rattle.capi.proofs.Ends.{listed, of_both}
 use Rattle.capi.proofs.end.take_apart.Goals as goal
 
 pub loop-place-preserved : goal.loop-place-preserved
 loop-place-preserved c =
-    let client : Client = c.into_inner-forest.result in
+    let client : OwnedPass = c.into_inner-forest.result in
     let is = ap Some c.into_inner-forest.ensures ∙ c.in-Some-into_box.ensures in
     let inv = c.loop-place.invariant in
     record {

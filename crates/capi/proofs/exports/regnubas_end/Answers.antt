@@ -1,7 +1,7 @@
 use Rattle.std.proofs.Common.{List, Option, inl, inr, arith, ap, subst, ◌∙◌}
 use Rattle.std.proofs.lemmas.List.{length-map}
 use Rattle.std.proofs.lemmas.List.Elements.{All-weaker}
-use Rattle.capi.specs.declared.client.Client.{Client}
+use Rattle.capi.specs.declared.client.OwnedPass.{OwnedPass}
 use Rattle.capi.specs.Answers.{counted}
 use Rattle.capi.specs.Ends.{AreEnough, HaveEndedWith, IsIn, held_in}
 use Rattle.capi.specs.Made.{IsHeldOf}
@@ -39,7 +39,7 @@ returns-in-Some-end c = inr (record {
   empty = c.end.ensures.empty;
   told = inr (record {
     pairs = c.in-Some-end.pairs.items;
-    left = subst (λ (held : List (Option Client)). HaveEndedWith held c.in-Some-end.pairs.items) c.all_of.ensures.same c.in-Some-end.ensures.left;
+    left = subst (λ (held : List (Option OwnedPass)). HaveEndedWith held c.in-Some-end.pairs.items) c.all_of.ensures.same c.in-Some-end.ensures.left;
     count = c.of_pairs.ensures.count ∙ ap counted c.in-Some-end.pairs.ok.0;
     put = c.of_pairs.ensures.put;
   });

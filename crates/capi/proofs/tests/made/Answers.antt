@@ -3,8 +3,8 @@ use Rattle.std.proofs.lemmas.Bool.{false≢true}
 use Rattle.std.proofs.lemmas.List.Elements.{All-map, All-weaker}
 use Rattle.forest.specs.Passes.{Ground}
 use Rattle.capi.specs.declared.answer.PassLimits.{PassLimits}
-use Rattle.capi.specs.declared.client.Client.{Client}
-use Rattle.capi.specs.declared.handle.Place.{Place}
+use Rattle.capi.specs.declared.client.OwnedPass.{OwnedPass}
+use Rattle.capi.specs.declared.handle.HandleSlot.{HandleSlot}
 use Rattle.capi.specs.Answers.{MakeSays}
 use Rattle.capi.specs.Ends.{AreOfOne, IsIn, held_in}
 use Rattle.capi.specs.Made.{IsHeldOf}
@@ -15,10 +15,10 @@ refused : (X : Type 0) (status : ℕ) → ((status ≡ 5) × X) ⊎ (status ≡ 
 refused X status (inl limits) done = false≢true (subst (λ (n : ℕ). (n == 0) ≡ true) limits.0 done)
 refused X status (inr memory) done = false≢true (subst (λ (n : ℕ). (n == 0) ≡ true) memory done)
 
-are_of_one : (each : PassLimits) (before after : List Place) (status : ℕ) → MakeSays each before after status → (status == 0) ≡ true → AreOfOne (held_in after)
+are_of_one : (each : PassLimits) (before after : List HandleSlot) (status : ℕ) → MakeSays each before after status → (status == 0) ≡ true → AreOfOne (held_in after)
 are_of_one each before after status (inl made) done = record {
   forest = made.1.forest;
-  of_forest = All-map (IsIn made.1.forest) value_of after (All-weaker (λ (p : Place). IsHeldOf made.1.forest p.handle.value) (λ (p : Place). IsIn made.1.forest p.handle.value) (λ p. held_is_in made.1.forest p.handle.value) after made.1.of_forest);
+  of_forest = All-map (IsIn made.1.forest) value_of after (All-weaker (λ (p : HandleSlot). IsHeldOf made.1.forest p.handle.value) (λ (p : HandleSlot). IsIn made.1.forest p.handle.value) (λ p. held_is_in made.1.forest p.handle.value) after made.1.of_forest);
 }
 are_of_one each before after status (inr not_made) done = absurd (refused _ status not_made.why done)
 

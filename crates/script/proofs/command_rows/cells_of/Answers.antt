@@ -10,7 +10,7 @@ use Rattle.std.proofs.lemmas.Iterator.Consumers.{YieldsList-at, YieldsList-turn,
 use Rattle.std.proofs.lemmas.Iterator.Splits.{YieldsList-from_str_split}
 use Rattle.std.proofs.lemmas.List.{map-append, take-map, get_or-take}
 use Rattle.std.proofs.lemmas.List.Elements.{All-push, All-take}
-use Rattle.script.specs.declared.cells.Cells.{Cells}
+use Rattle.script.specs.declared.cells.CellList.{CellList}
 use Rattle.script.specs.Cells.{cells_of, maybe_cells_of}
 use Rattle.script.specs.Commands.{numbers_text, texts, IsCell, AreCells}
 use Rattle.script.proofs.Spaced.{parts_of, parts_are, part_at, from_parts, same_cells, small}
@@ -23,7 +23,7 @@ first_cells ns text found k read cells all is first so_far =
     (sym so_far ∙ first ∙ ap (λ t. take k (parts_of t)) is ∙ ap (take k) (parts_are ns cells) ∙ take-map decimal k ns)
 
 -- so one more cell of the text has room, and is none of them
-has_room : (cells : Cells) (found : List ℕ) (cell k : ℕ) → k < length (cells_of cells) → found ≡ take k (cells_of cells) → cell ≡ get_or (cells_of cells) k 0 → (length found < 4) × ¬ (Contains found cell)
+has_room : (cells : CellList) (found : List ℕ) (cell k : ℕ) → k < length (cells_of cells) → found ≡ take k (cells_of cells) → cell ≡ get_or (cells_of cells) k 0 → (length found < 4) × ¬ (Contains found cell)
 has_room cells found cell k within first next =
     let short = length-take k (cells_of cells) in
     let few = length-take cells.count cells.list in
@@ -41,7 +41,7 @@ one_more_text found more cell xs x so_far here grown =
     map-append (λ t. t.now) xs (x ∷ []) ∙ ap (λ front. front ++ x.now ∷ []) so_far ∙ ap (λ text. map decimal found ++ text ∷ []) here ∙
     sym (map-append decimal found (cell ∷ [])) ∙ ap (map decimal) (sym grown)
 
-all_read : (cells : Option Cells) (text : List ℕ) → parts_of text ≡ map decimal (maybe_cells_of cells) → All IsCell (maybe_cells_of cells) → MatchOption cells ((others : Cells) → AreCells (cells_of others) → text ≢ numbers_text (cells_of others)) (λ cells. AreCells (cells_of cells) × (text ≡ numbers_text (cells_of cells)))
+all_read : (cells : Option CellList) (text : List ℕ) → parts_of text ≡ map decimal (maybe_cells_of cells) → All IsCell (maybe_cells_of cells) → MatchOption cells ((others : CellList) → AreCells (cells_of others) → text ≢ numbers_text (cells_of others)) (λ cells. AreCells (cells_of cells) × (text ≡ numbers_text (cells_of cells)))
 all_read None text parts all = absurd (omega (arith, (from_parts [] text parts).0))
 all_read (Some cells) text parts all =
     let back = from_parts (cells_of cells) text parts in ((back.0, all), back.1)

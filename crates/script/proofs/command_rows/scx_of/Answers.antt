@@ -4,13 +4,13 @@ use Rattle.script.specs.Cells.{cells_of, maybe_cells_of}
 use Rattle.script.specs.Commands.{command_row, texts, IsCommand}
 use Rattle.script.specs.Update.{update_cells, update_finalize, update_field, update_value}
 use Rattle.script.specs.declared.command.Command.{Command}
-use Rattle.script.specs.declared.command.Update.{Update}
+use Rattle.script.specs.declared.command.CellUpdate.{CellUpdate}
 use Rattle.script.proofs.Spaced.{same_texts}
 use Rattle.script.proofs.Updates.{SaysUpdate, no_update, finalized_are_cells, field_is_of_cell, same_cell, three_texts, same_row}
 use Rattle.script.proofs.command_rows.scx_of.Goals as goal
 
 -- where no update has these texts, no command has this row
-none_says : (arguments : List (Bor (List ℕ))) (d : Bor (List ℕ)) → length arguments ≡ 3 → ((update : Update) → ¬ (SaysUpdate (get_or arguments 0 d).now (get_or arguments 1 d).now (get_or arguments 2 d).now update)) → (command : Command) → IsCommand command → codes "scx" ∷ texts arguments ≢ command_row command
+none_says : (arguments : List (Bor (List ℕ))) (d : Bor (List ℕ)) → length arguments ≡ 3 → ((update : CellUpdate) → ¬ (SaysUpdate (get_or arguments 0 d).now (get_or arguments 1 d).now (get_or arguments 2 d).now update)) → (command : Command) → IsCommand command → codes "scx" ∷ texts arguments ≢ command_row command
 none_says arguments d h none command valid row =
     no_update _ _ _ none command valid (ap (λ rest. codes "scx" ∷ rest) (sym (three_texts arguments d h)) ∙ row)
 

@@ -25,7 +25,7 @@ use Rattle.template.specs.declared.walk.Found.{Found}
 use Rattle.ordered_map.specs.declared.rule.Goal.TheVariants.{Key as ToKey}
 use Rattle.template.proofs.Lemmas.{edit_promised, found_blank, found_class, found_level, said_low}
 use Rattle.tree.specs.LeafEdit.{leaf_looks, leaf_reads}
-use Rattle.tree.specs.declared.put.PutAt.{PutAt}
+use Rattle.tree.specs.declared.put.PutPair.{PutPair}
 use Rattle.tree.specs.Put.Laws.{put_bounds}
 use Rattle.tree.specs.Put.Means.{put_means, put_need, put_reads, has_room, lower, need_by, pairs_with, pieces_by_need, second_pairs}
 use Rattle.tree.specs.Laws.LeafLooks.{HasBoth, class_is, has_both, held_is, is_leaf_edit, leaf_begins, leaf_covered, leaf_differs, leaf_distinct, leaf_opens, leaf_stood, many, pairs_are}
@@ -47,7 +47,7 @@ use Rattle.edits.proofs.Lemmas.{IsForkWith, IsLeafWith, fork_with, leaf_with, ta
 
 -- What it looks at, and what it reads
 
-put_reads_well : (ed : PutAt) (c : Call) (h : History) (f : Found) (snaps : List Snap) (y : NodeNo × Reading) → IsTreeRun c.layout h → HasLooked put_means c h ed f snaps → put_reads f ≡ Some y → MayRead c.layout h y.0.0 y.1
+put_reads_well : (ed : PutPair) (c : Call) (h : History) (f : Found) (snaps : List Snap) (y : NodeNo × Reading) → IsTreeRun c.layout h → HasLooked put_means c h ed f snaps → put_reads f ≡ Some y → MayRead c.layout h y.0.0 y.1
 put_reads_well ed c h f snaps y run x e = go (f.head.class == 0) refl e
   where
     go : (b : Bool) → (f.head.class == 0) ≡ b → (if b then Some (leaf_reads f) else None) ≡ Some y → MayRead c.layout h y.0.0 y.1
@@ -83,7 +83,7 @@ put_fills = record { fields = λ e c h f snaps ns read nth side run x enough n p
 lower_is : (deep : ℕ) → deep + 1 < 2 ^ 61 → lower deep ≡ deep + 1
 lower_is deep fits = omega (arith, fits)
 
-module _ (ed : PutAt) (c : Call) (h : History) (f : Found) (snaps : List Snap) (ns : Nodes) (read : Reading) (run : IsTreeRun c.layout h) (x : HasFilledAll put_means c h ed f snaps ns read) where
+module _ (ed : PutPair) (c : Call) (h : History) (f : Found) (snaps : List Snap) (ns : Nodes) (read : Reading) (run : IsTreeRun c.layout h) (x : HasFilledAll put_means c h ed f snaps ns read) where
   looked : HasLookedBy leaf_looks c h (ToKey ed.key) f snaps
   looked = x.looked
 

@@ -47,7 +47,7 @@ use Rattle.ordered_map.specs.declared.rule.Goal.TheVariants.{Key as ToKey}
 use Rattle.template.specs.Blame.{IsContended, WasNotFinal}
 use Rattle.template.proofs.Lemmas.{edit_promised, found_below, found_level, join_promised, said_low, opened_if_stood}
 use Rattle.tree.specs.LeafEdit.{leaf_looks, leaf_reads}
-use Rattle.tree.specs.declared.take.TakeAt.{TakeAt}
+use Rattle.tree.specs.declared.take.TakePair.{TakePair}
 use Rattle.tree.specs.Take.Laws.{take_bounds}
 use Rattle.tree.specs.Take.Means.{copied_pairs, copy_with, take_means, take_need, take_looks, take_reads, has_more, join_looks, sibling_of, sibling_copy}
 use Rattle.tree.specs.Laws.Take.Shown.{shown_stood, shown_rises, shown_apart}
@@ -83,16 +83,16 @@ key_there (Some v) d = (v, refl)
 
 -- the snapshots are those of the fork above the parent, which still is its child, and of the
 -- parent, of which the leaf still is a child
-seen_grand : (ed : TakeAt) (f : Found) (g : Snap) (snaps : List Snap) → JoinSeen f (g ∷ snaps) → f.trail.grand ≡ g.node
+seen_grand : (ed : TakePair) (f : Found) (g : Snap) (snaps : List Snap) → JoinSeen f (g ∷ snaps) → f.trail.grand ≡ g.node
 seen_grand ed f g snaps x = same_node f.trail.grand g.node (x 0 (omega arith))
 
-seen_parent : (ed : TakeAt) (f : Found) (g p : Snap) (snaps : List Snap) → JoinSeen f (g ∷ p ∷ snaps) → IsTrue ((child_of g f.trail.grand_side).0 == f.trail.parent.0) × (f.trail.parent ≡ p.node)
+seen_parent : (ed : TakePair) (f : Found) (g p : Snap) (snaps : List Snap) → JoinSeen f (g ∷ p ∷ snaps) → IsTrue ((child_of g f.trail.grand_side).0 == f.trail.parent.0) × (f.trail.parent ≡ p.node)
 seen_parent ed f g p snaps x = goes_on ((child_of g f.trail.grand_side).0 == f.trail.parent.0) f.trail.parent g p.node (x 1 (omega arith))
 
-seen_left : (ed : TakeAt) (f : Found) (g p l : Snap) (snaps : List Snap) → JoinSeen f (g ∷ p ∷ l ∷ snaps) → IsTrue ((child_of p f.trail.side).0 == f.trail.node.0) × (p.left ≡ l.node)
+seen_left : (ed : TakePair) (f : Found) (g p l : Snap) (snaps : List Snap) → JoinSeen f (g ∷ p ∷ l ∷ snaps) → IsTrue ((child_of p f.trail.side).0 == f.trail.node.0) × (p.left ≡ l.node)
 seen_left ed f g p l snaps x = goes_on ((child_of p f.trail.side).0 == f.trail.node.0) p.left p l.node (x 2 (omega arith))
 
-module _ (ed : TakeAt) (c : Call) (h : History) (f : Found) (run : IsTreeRun c.layout h) (needed : take_need f.value ≢ Nothing) where
+module _ (ed : TakePair) (c : Call) (h : History) (f : Found) (run : IsTreeRun c.layout h) (needed : take_need f.value ≢ Nothing) where
   there : (old : ℕ) × (f.value ≡ Some old)
   there = key_there f.value needed
 
@@ -176,7 +176,7 @@ pub record HasFour (f : Found) (snaps : List Snap) : Type 0 where
   left : (snap_at snaps 2).node.0 ≡ (snap_at snaps 1).left.0
   right : (snap_at snaps 3).node.0 ≡ (snap_at snaps 1).right.0
 
-pub has_four : (ed : TakeAt) (f : Found) (snaps : List Snap) → join_looks f snaps ≡ Enough → JoinSeen f snaps → HasFour f snaps
+pub has_four : (ed : TakePair) (f : Found) (snaps : List Snap) → join_looks f snaps ≡ Enough → JoinSeen f snaps → HasFour f snaps
 has_four ed f [] e x = absurd (let d : At f.trail.grand ≡ Enough = e in cc)
 has_four ed f (g ∷ []) e x = absurd (not_enough ((child_of g f.trail.grand_side).0 == f.trail.parent.0) f.trail.parent g e)
 has_four ed f (g ∷ p ∷ []) e x = absurd (not_enough ((child_of p f.trail.side).0 == f.trail.node.0) p.left p e)
@@ -200,14 +200,14 @@ few_places Left = omega arith
 few_places Right = omega arith
 
 -- a snapshot that is there may be used
-pub usable_at : (ed : TakeAt) (c : Call) (h : History) (f : Found) (snaps : List Snap) (i : ℕ) → i < 4 → HasFour f snaps → HasLookedBy join_looks c h (ToKey ed.key) f snaps → HasSnappedAfterWalk c h (ToKey ed.key) f (snap_at snaps i)
+pub usable_at : (ed : TakePair) (c : Call) (h : History) (f : Found) (snaps : List Snap) (i : ℕ) → i < 4 → HasFour f snaps → HasLookedBy join_looks c h (ToKey ed.key) f snaps → HasSnappedAfterWalk c h (ToKey ed.key) f (snap_at snaps i)
 usable_at ed c h f snaps i p four x = x.usable i (rw four.four p)
 
-linked_at : (ed : TakeAt) (c : Call) (h : History) (f : Found) (snaps : List Snap) (i : ℕ) → IsTreeRun c.layout h → i < 4 → HasFour f snaps → HasLookedBy join_looks c h (ToKey ed.key) f snaps → IsLinked c.layout h (snap_at snaps i)
+linked_at : (ed : TakePair) (c : Call) (h : History) (f : Found) (snaps : List Snap) (i : ℕ) → IsTreeRun c.layout h → i < 4 → HasFour f snaps → HasLookedBy join_looks c h (ToKey ed.key) f snaps → IsLinked c.layout h (snap_at snaps i)
 linked_at ed c h f snaps i run p four x = let u = usable_at ed c h f snaps i p four x in linked_since c.layout h u.moment (snap_at snaps i) run.1.lawful u.within u.is.linked
 
 -- the leaf's sibling stood in the tree
-sibling_stood : (ed : TakeAt) (c : Call) (h : History) (f : Found) (snaps : List Snap) → IsTreeRun c.layout h → take_need f.value ≢ Nothing → HasFour f snaps → HasLookedBy join_looks c h (ToKey ed.key) f snaps → WasInTree h (sibling_of f snaps).node.0
+sibling_stood : (ed : TakePair) (c : Call) (h : History) (f : Found) (snaps : List Snap) → IsTreeRun c.layout h → take_need f.value ≢ Nothing → HasFour f snaps → HasLookedBy join_looks c h (ToKey ed.key) f snaps → WasInTree h (sibling_of f snaps).node.0
 sibling_stood ed c h f snaps run d four x = go f.trail.side
   where
     shown : (side : Side) → WasInTree h (child_of (snap_at snaps 1) side).0
@@ -218,7 +218,7 @@ sibling_stood ed c h f snaps run d four x = go f.trail.side
     go Right = subst (WasInTree h) (sym four.left) (shown Left)
 
 -- and is not the root: it is below another node
-sibling_below : (ed : TakeAt) (c : Call) (h : History) (f : Found) (snaps : List Snap) → IsTreeRun c.layout h → take_need f.value ≢ Nothing → HasFour f snaps → HasLookedBy join_looks c h (ToKey ed.key) f snaps → (sibling_of f snaps).node.0 ≢ 0
+sibling_below : (ed : TakePair) (c : Call) (h : History) (f : Found) (snaps : List Snap) → IsTreeRun c.layout h → take_need f.value ≢ Nothing → HasFour f snaps → HasLookedBy join_looks c h (ToKey ed.key) f snaps → (sibling_of f snaps).node.0 ≢ 0
 sibling_below ed c h f snaps run d four x = go f.trail.side
   where
     shown : (side : Side) → (child_of (snap_at snaps 1) side).0 ≢ 0
@@ -234,7 +234,7 @@ sibling_below ed c h f snaps run d four x = go f.trail.side
     go Right z = shown Left (sym four.left ∙ z)
 
 -- so it may be read from its head on
-sibling_begins : (ed : TakeAt) (c : Call) (h : History) (f : Found) (snaps : List Snap) → IsTreeRun c.layout h → take_need f.value ≢ Nothing → HasLookedBy join_looks c h (ToKey ed.key) f snaps → join_looks f snaps ≡ Enough → MayRead c.layout h (sibling_of f snaps).node.0 nothing_read
+sibling_begins : (ed : TakePair) (c : Call) (h : History) (f : Found) (snaps : List Snap) → IsTreeRun c.layout h → take_need f.value ≢ Nothing → HasLookedBy join_looks c h (ToKey ed.key) f snaps → join_looks f snaps ≡ Enough → MayRead c.layout h (sibling_of f snaps).node.0 nothing_read
 sibling_begins ed c h f snaps run d x enough =
     let four : HasFour f snaps = has_four ed f snaps enough x.seen in
     let o : IsOpened c.layout h (sibling_of f snaps).node.0 = opened_if_stood c.layout h (sibling_of f snaps).node.0 run (sibling_stood ed c h f snaps run d four x) in
@@ -242,7 +242,7 @@ sibling_begins ed c h f snaps run d x enough =
 
 -- the levels rise from the fork above to the parent, and from there to its children, which are
 -- apart
-module _ (ed : TakeAt) (c : Call) (h : History) (f : Found) (snaps : List Snap) (run : IsTreeRun c.layout h) (needed : take_need f.value ≢ Nothing) (four : HasFour f snaps) (x : HasLookedBy join_looks c h (ToKey ed.key) f snaps) where
+module _ (ed : TakePair) (c : Call) (h : History) (f : Found) (snaps : List Snap) (run : IsTreeRun c.layout h) (needed : take_need f.value ≢ Nothing) (four : HasFour f snaps) (x : HasLookedBy join_looks c h (ToKey ed.key) f snaps) where
   abbrev at_place : ℕ → ℕ
   at_place i = (snap_at snaps i).node.0
 
@@ -293,7 +293,7 @@ module _ (ed : TakeAt) (c : Call) (h : History) (f : Found) (snaps : List Snap) 
   four_apart i j p q d e = ⊎_elim (λ less. differ i j less (rw four.four at q) e) (λ less. differ j i less (rw four.four at p) (sym e)) (either i j d)
 
 -- it covers the leaf at its third or fourth place, on the side of the key
-join_covered : (ed : TakeAt) (c : Call) (h : History) (f : Found) (snaps : List Snap) (k : History) (s : ℕ) → IsTreeRun c.layout h → HasFour f snaps → HasFoundLeaf c h ed.key f → IsTreeRun c.layout k → Extends k h → CoversSnaps k s snaps → edit_leaf k s (TakeEdit ed.key) ≡ f.trail.node.0
+join_covered : (ed : TakePair) (c : Call) (h : History) (f : Found) (snaps : List Snap) (k : History) (s : ℕ) → IsTreeRun c.layout h → HasFour f snaps → HasFoundLeaf c h ed.key f → IsTreeRun c.layout k → Extends k h → CoversSnaps k s snaps → edit_leaf k s (TakeEdit ed.key) ≡ f.trail.node.0
 join_covered ed c h f snaps k s run four found later since covers =
     let many : count k s ≡ 4 = covers.count ∙ four.four in
     rw (ne_eqb (count k s) 2 (λ two. omega (arith, two, many)))
@@ -322,11 +322,11 @@ join_covered ed c h f snaps k s run four found later since covers =
 -- In one of two ways
 
 -- where the leaf has more than the pair, it looks as an edit of that leaf does
-pub looked_leaf : (ed : TakeAt) (c : Call) (h : History) (f : Found) (snaps : List Snap) → has_more f ≡ true → HasLooked take_means c h ed f snaps → HasLookedBy leaf_looks c h (ToKey ed.key) f snaps
+pub looked_leaf : (ed : TakePair) (c : Call) (h : History) (f : Found) (snaps : List Snap) → has_more f ≡ true → HasLooked take_means c h ed f snaps → HasLookedBy leaf_looks c h (ToKey ed.key) f snaps
 looked_leaf ed c h f snaps t x = record { small = x.small; found = x.found; usable = x.usable; seen = λ i p. rw t at (x.seen i p) }
 
 -- and else to take it out
-pub looked_join : (ed : TakeAt) (c : Call) (h : History) (f : Found) (snaps : List Snap) → has_more f ≡ false → HasLooked take_means c h ed f snaps → HasLookedBy join_looks c h (ToKey ed.key) f snaps
+pub looked_join : (ed : TakePair) (c : Call) (h : History) (f : Found) (snaps : List Snap) → has_more f ≡ false → HasLooked take_means c h ed f snaps → HasLookedBy join_looks c h (ToKey ed.key) f snaps
 looked_join ed c h f snaps t x = record { small = x.small; found = x.found; usable = x.usable; seen = λ i p. rw t at (x.seen i p) }
 
 -- the leaf of a key that is there is of class 0
@@ -335,7 +335,7 @@ low_there k c h f d a =
     let there : (old : ℕ) × (f.value ≡ Some old) = key_there f.value d in
     sym (ap (λ w. w.class) a.head) ∙ said_low (value h) k f.trail.node.0 there.0 (sym there.1 ∙ a.says)
 
-module _ (ed : TakeAt) (c : Call) (h : History) (f : Found) (snaps : List Snap) (run : IsTreeRun c.layout h) (d : take_need f.value ≢ Nothing) (x : HasLooked take_means c h ed f snaps) where
+module _ (ed : TakePair) (c : Call) (h : History) (f : Found) (snaps : List Snap) (run : IsTreeRun c.layout h) (d : take_need f.value ≢ Nothing) (x : HasLooked take_means c h ed f snaps) where
   take_opens : (n : NodeNo) → (b : Bool) → has_more f ≡ b → (if b then leaf_looks f snaps else join_looks f snaps) ≡ At n → IsOpened c.layout h n.0
   take_opens n true t at = leaf_opens ed.key c h f snaps run (looked_leaf ed c h f snaps t x) n at
   take_opens n false t at = opened_if_stood c.layout h n.0 run (looks_stood ed c h f run d snaps n (looked_join ed c h f snaps t x) at)
@@ -382,13 +382,13 @@ copy_fields s head read side p = go head.leaf side p
     go false Left p = refl
     go false Right p = refl
 
-join_fields : (ed : TakeAt) (c : Call) (h : History) (f : Found) (snaps : List Snap) (read : Reading) (side : Side) → IsTreeRun c.layout h → HasLookedBy join_looks c h (ToKey ed.key) f snaps → join_looks f snaps ≡ Enough → is_filled (sibling_copy (sibling_of f snaps) read) (Child side) ≡ true → IsInField c.layout h (word_of (sibling_copy (sibling_of f snaps) read) (Child side))
+join_fields : (ed : TakePair) (c : Call) (h : History) (f : Found) (snaps : List Snap) (read : Reading) (side : Side) → IsTreeRun c.layout h → HasLookedBy join_looks c h (ToKey ed.key) f snaps → join_looks f snaps ≡ Enough → is_filled (sibling_copy (sibling_of f snaps) read) (Child side) ≡ true → IsInField c.layout h (word_of (sibling_copy (sibling_of f snaps) read) (Child side))
 join_fields ed c h f snaps read side run x enough p =
     let s : Snap = sibling_of f snaps in
     let l : IsLinked c.layout h s = linked_at ed c h f snaps (sibling_place f.trail.side) run (few_places f.trail.side) (has_four ed f snaps enough x.seen) x in
     subst (IsInField c.layout h) (copy_fields s (unwrap_or read.head (head_of 0)) read side p) (inr (s.node.0, side, in_field_named s.node.0 l.in_field, l.had side))
 
-take_fields : (ed : TakeAt) (c : Call) (h : History) (f : Found) (snaps : List Snap) (read : Reading) (side : Side) → IsTreeRun c.layout h → HasLooked take_means c h ed f snaps → (b : Bool) → has_more f ≡ b → (if b then leaf_looks f snaps else join_looks f snaps) ≡ Enough
+take_fields : (ed : TakePair) (c : Call) (h : History) (f : Found) (snaps : List Snap) (read : Reading) (side : Side) → IsTreeRun c.layout h → HasLooked take_means c h ed f snaps → (b : Bool) → has_more f ≡ b → (if b then leaf_looks f snaps else join_looks f snaps) ≡ Enough
     → is_filled (if b then Leaf f.head.level 0 (delete ed.key read.pairs) else sibling_copy (sibling_of f snaps) read) (Child side) ≡ true → IsInField c.layout h (word_of (if b then Leaf f.head.level 0 (delete ed.key read.pairs) else sibling_copy (sibling_of f snaps) read) (Child side))
 take_fields ed c h f snaps read side run x true t enough p = absurd (let z : false ≡ true = p in cc)
 take_fields ed c h f snaps read side run x false t enough p = join_fields ed c h f snaps read side run (looked_join ed c h f snaps t x) enough p
@@ -423,7 +423,7 @@ blank_key : (o : Option ℕ) (w : ℕ) → IfSome o (λ k. w ≡ k) → w ≡ 0 
 blank_key None w is e = refl
 blank_key (Some k) w is e = sym is ∙ e
 
-module _ (ed : TakeAt) (c : Call) (h : History) (f : Found) (snaps : List Snap) (ns : Nodes) (read : Reading) (run : IsTreeRun c.layout h) (needed : take_need f.value ≢ Nothing) (x : HasFilledAll take_means c h ed f snaps ns read) where
+module _ (ed : TakePair) (c : Call) (h : History) (f : Found) (snaps : List Snap) (ns : Nodes) (read : Reading) (run : IsTreeRun c.layout h) (needed : take_need f.value ≢ Nothing) (x : HasFilledAll take_means c h ed f snaps ns read) where
   present : (old : ℕ) × (f.value ≡ Some old)
   present = key_there f.value needed
 

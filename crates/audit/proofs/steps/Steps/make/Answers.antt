@@ -41,7 +41,7 @@ returns-clause-remembered c lay calls lines number x =
     let wins : IfSome w (λ t. IsWonBy lay h row t) = subst (λ (k : History). IfSome w (λ t. IsWonBy lay k row t)) s.is_seen (subst (λ (l : Layout). IfSome w (λ t. IsWonBy l (seen_history old.judge) row t)) s.layout c.winner-winner.ensures.logged) in
     let unlogged : IfNone w (log lay (row ⊳ h) ≡ log lay h) = subst (λ (k : History). IfNone w (log lay (row ⊳ k) ≡ log lay k)) s.is_seen (subst (λ (l : Layout). IfNone w (log l (row ⊳ seen_history old.judge) ≡ log l (seen_history old.judge))) s.layout c.winner-winner.ensures.unlogged) in
     let running : IfSome c.ends-ends.result (λ t. IsInProgress h t.0) = subst (λ (k : History). IfSome c.ends-ends.result (λ t. IsInProgress k t.0)) s.is_seen c.ends-ends.ensures in
-    made_remembered lay calls lines number row old new x lawful (let few = ltb-true _ _ c.in_ok-hold.ensures in let count = s.count in omega arith)
+    made_remembered lay calls lines number row old new x lawful (let few = ltb-true _ _ c.in_ok-require.ensures in let count = s.count in omega arith)
     record {
       layout = ap (λ (j : Judged). j.layout) new_judge ∙ late_layout;
       is_seen = ap seen_history new_judge ∙ late_seen;

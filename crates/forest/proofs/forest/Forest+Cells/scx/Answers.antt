@@ -4,7 +4,7 @@ use Rattle.forest.specs.Passes.{PassView, CanUse, Each, taken_of}
 use Rattle.forest.specs.PassInvariant.{pass_view}
 use Rattle.forest.specs.Puts.{IsPutOver}
 use Rattle.forest.specs.StraightPut.{fresh_put, SeatPutBegins}
-use Rattle.forest.specs.declared.straight.put.Put.{Put}
+use Rattle.forest.specs.declared.straight.put.PutTask.{PutTask}
 use Rattle.prims.specs.Scx.Known.{IsUpdateOver}
 use Rattle.prims.specs.declared.update.Update.{Update}
 use Rattle.prims.specs.declared.snap.Snap.{Snap}
@@ -21,7 +21,7 @@ pub new-update-requires-clause-among : goal.new-update-requires-clause-among
 new-update-requires-clause-among c = among_at c.args.snaps.now c.args.field.0.0 c.requires.may.2
 
 -- what is to be put
-abbrev put_of : goal.After-call-arg-2-1 → Put
+abbrev put_of : goal.After-call-arg-2-1 → PutTask
 put_of c = let u = c.new-update.result in record { plan = u.plan; old = u.old; fresh = u.fresh; value = c.args.value; scx = c.in-Ok.records.1 }
 
 -- its update, over the caller's snapshots

@@ -10,7 +10,7 @@ use Rattle.forest.specs.Inside.{InnerWaits}
 use Rattle.forest.specs.StraightHelp.{LoadsPlan}
 use Rattle.forest.specs.StraightScx.{all_frozen_load}
 use Rattle.forest.specs.StraightUpdate.{Updater, UpdaterIsBlocked, UpdaterTries}
-use Rattle.forest.specs.declared.straight.scx.Change.{Change as ChangeOf}
+use Rattle.forest.specs.declared.straight.scx.ScxTask.{ScxTask as ChangeOf}
 use Rattle.forest.specs.CallKinds.{calls}
 use Rattle.forest.proofs.Inside.{waits_within}
 use Rattle.forest.proofs.StraightScx.{helper, to_help, help_waits, help_told}

@@ -5,7 +5,7 @@ use Rattle.script.specs.declared.call.Call.{Call}
 use Rattle.script.specs.declared.command.Command.{Command}
 use Rattle.script.specs.declared.command.Command.TheVariants.{Map}
 use Rattle.record.specs.declared.record.Answer.TheVariants.{Map as MapAnswer}
-use Rattle.moments.specs.Places.{changes}
+use Rattle.linearization.specs.Places.{changes}
 use Rattle.player.specs.Moments.{IsMomentBy, IsReadingMoment, IsReplyMoment, IsWonOrRead}
 use Rattle.player.proofs.client.Client.reply_moment.Goals as goal
 

@@ -5,9 +5,9 @@ use Rattle.arena.specs.declared.step.Row.{Row}
 use Rattle.record.specs.declared.record.Line.{Line}
 use Rattle.record.specs.declared.record.Entry.{Entry}
 use Rattle.record.specs.declared.record.Line.TheVariants.{Step, Log, Reply}
-use Rattle.record.specs.declared.record.Row.TheVariants.{Step as Made}
+use Rattle.record.specs.declared.record.TurnRow.TheVariants.{Step as Made}
 use Rattle.record.specs.Turns.{entry_owed}
-use Rattle.moments.specs.Places.{changes}
+use Rattle.linearization.specs.Places.{changes}
 use Rattle.player.specs.Lines.{with_entry}
 use Rattle.player.specs.Player.{ScriptView, script_view}
 use Rattle.player.specs.ClientView.{client_view}

@@ -2,7 +2,7 @@ use Rattle.std.proofs.Common.{ℕ, List, Option, length, subst, slice_get, arith
 use Rattle.std.proofs.lemmas.Option.{get_or_from_slice_get, slice_get_read}
 use Rattle.player.specs.declared.client.Client.{Client}
 use Rattle.script.specs.declared.call.Call.{Call}
-use Rattle.moments.specs.Places.{changes}
+use Rattle.linearization.specs.Places.{changes}
 use Rattle.player.specs.Moments.{IsMomentBy}
 use Rattle.player.proofs.interleaving.Interleaving.reply.Goals as goal
 

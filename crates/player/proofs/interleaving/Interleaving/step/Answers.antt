@@ -3,11 +3,11 @@ use Rattle.arena.specs.declared.number.PassNo.{PassNo}
 use Rattle.script.proofs.Lemmas.{calls_are_of_mode}
 use Rattle.record.specs.declared.record.Line.{Line}
 use Rattle.record.specs.declared.record.Line.TheVariants.{Step, Reply}
-use Rattle.record.specs.declared.record.Row.TheVariants.{Idle}
+use Rattle.record.specs.declared.record.TurnRow.TheVariants.{Idle}
 use Rattle.player.specs.Player.{script_view}
 use Rattle.record.specs.Turns.{turns, begin}
 use Rattle.player.specs.ClientView.{IsNextAction, client_view}
-use Rattle.moments.specs.Places.{changes}
+use Rattle.linearization.specs.Places.{changes}
 use Rattle.player.specs.BetweenTurns.{ArePlaces, IsBetweenTurns}
 use Rattle.player.proofs.Middles.{some_client, get_own, wins_idle, wins_reply}
 use Rattle.player.proofs.Steps.{between_at, places_roomy}

@@ -1,7 +1,0 @@
--- The lemmas of this crate that the layers above may cite.
-pub use Rattle.moments.proofs.Turns.{IsAnsweredIn, map_now, change_of_newest, answer_turn, IsRepliedIn, replied_turn}
-pub use Rattle.moments.proofs.Readings.{IsFoundFor, get_turn, get_placed, value_turn, value_placed, ordered_placed, nothing_taken}
-pub use Rattle.moments.proofs.Keys.{knows_told, knows_first}
-pub use Rattle.moments.proofs.Falls.{falls}
-pub use Rattle.moments.proofs.Spelled.{spelled, are_spelled}
-pub use Rattle.moments.proofs.OrderedReads.{map_rises, reply_tells}

@@ -1,9 +1,0 @@
-use Rattle.std.proofs.Common.{◌≡◌, ◌∷◌, ap, rules}
-use Rattle.ordered_map.specs.Replies.{word_pair}
-use Rattle.record.specs.MapRecord.{number_pairs}
-use Rattle.moments.proofs.ordered.behind.Goals as goal
-
-pub returns-then-first-value-clause-some : goal.returns-then-first-value-clause-some
-returns-then-first-value-clause-some c =
-    let is : c.args.pairs.now ≡ c.in_ok-first.first.now ∷ c.in_ok-first.rest.now = search (rules, c.in_ok-first.ensures) in
-    (word_pair (λ n. n) (λ n. n) c.in_ok-first.first.now, c.if-first-key.true, c.if-first-value.true, ap number_pairs is)

@@ -1,8 +1,0 @@
-use Rattle.std.proofs.Common.{◌≡◌, drop}
-use Rattle.ordered_map.specs.OrderedMap.{get}
-use Rattle.record.specs.MapRecord.{number_pairs}
-use Rattle.moments.proofs.ordered.value_in.Given as goal
-
--- what the pairs that are left have
-abbrev pub invariant-loop-pair : goal.invariant-loop-pair
-invariant-loop-pair l = get l.key (number_pairs l.pairs) ≡ get l.key (number_pairs (drop l.pair-index l.pairs))
