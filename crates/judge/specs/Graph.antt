@@ -92,6 +92,18 @@ pub record IsGraph (g : Graph) : Type 0 where
   pub none_fresh : g.fresh.items ≡ []
   pub room : HasRoomLeft g
 
--- so many links may still be kept without a growth
+-- the links that are kept, and those that were ever made, are the same
+pub record KeepsLinks (old new : Graph) : Type 0 where
+  pub newest : new.newest ≡ old.newest
+  pub links : new.links ≡ old.links
+  pub all : new.all ≡ old.all
+
+-- the graph has one link more, from one of its places to another
+pub record HasOneLinkMore (old new : Graph) (from to : ℕ) : Type 0 where
+  pub graph : IsGraph new
+  pub size : length new.reached.items ≡ length old.reached.items
+  pub all : links_of new ≡ (from, to) ∷ links_of old
+
+-- this many links may still be kept without a growth
 abbrev pub HasSpare : ℕ → Graph → Type 0
 HasSpare k g = vec_len g.links + k ≤ vec_capacity g.links

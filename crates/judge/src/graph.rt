@@ -34,7 +34,7 @@ pub(crate) struct Graph {
 
 impl Graph {
     ghost use Rattle.std.specs.Prelude.{◌≡◌, ◌↔◌, ℕ, ◌+◌, ◌<◌, IsTrue, IfOk, OnOk, true, false, if◌then◌else◌, [], ◌∷◌, ◌++◌, slice_set, vec_len, length};
-    ghost use Rattle.judge.specs.Graph.{IsReached, Spreads, IsGraph, HasRoomLeft, HasSpare, has_flag, count_unset, newest_from, links_of};
+    ghost use Rattle.judge.specs.Graph.{IsReached, Spreads, IsGraph, HasRoomLeft, HasSpare, KeepsLinks, HasOneLinkMore, has_flag, count_unset, newest_from, links_of};
 
     /// So many places, of which the first alone is reached. The only error is want of memory.
     pub(crate) fn new(alloc: Global, size: usize) -> Result<Graph, NoMemory>
@@ -79,9 +79,7 @@ impl Graph {
         requires spare { HasSpare 1 self.old }
         requires from { from < length self.old.reached.items }
         requires to { to < length self.old.reached.items }
-        ensures graph { IsGraph self.new }
-        ensures size { length self.new.reached.items ≡ length self.old.reached.items }
-        ensures all { links_of self.new ≡ (from, to) ∷ links_of self.old }
+        ensures more { HasOneLinkMore self.old self.new from to }
         ensures spare { (k : ℕ) → HasSpare (k + 1) self.old → HasSpare k self.new }
     {
         if self.reached[from] {
@@ -96,9 +94,7 @@ impl Graph {
         requires graph { IsGraph self.old }
         requires from { has_flag self.old.reached.items from ≡ true }
         requires to { to < length self.old.reached.items }
-        ensures graph { IsGraph self.new }
-        ensures size { length self.new.reached.items ≡ length self.old.reached.items }
-        ensures all { links_of self.new ≡ (from, to) ∷ links_of self.old }
+        ensures more { HasOneLinkMore self.old self.new from to }
         ensures links { self.new.links ≡ self.old.links }
     {
         self.reach(to);
@@ -113,9 +109,7 @@ impl Graph {
         requires inside { from < length self.old.reached.items }
         requires to { to < length self.old.reached.items }
         requires spare { HasSpare 1 self.old }
-        ensures graph { IsGraph self.new }
-        ensures size { length self.new.reached.items ≡ length self.old.reached.items }
-        ensures all { links_of self.new ≡ (from, to) ∷ links_of self.old }
+        ensures more { HasOneLinkMore self.old self.new from to }
         ensures spare { (k : ℕ) → HasSpare (k + 1) self.old → HasSpare k self.new }
     {
         let before = self.newest[from];
@@ -147,9 +141,7 @@ impl Graph {
             else self.old.fresh.items ++ at ∷ []) }
         ensures count { vec_len self.new.fresh + count_unset self.new.reached.items ≡ vec_len self.old.fresh + count_unset self.old.reached.items }
         ensures room { HasRoomLeft self.new }
-        ensures newest { self.new.newest ≡ self.old.newest }
-        ensures links { self.new.links ≡ self.old.links }
-        ensures all { self.new.all ≡ self.old.all }
+        ensures keeps { KeepsLinks self.old self.new }
     {
         if !self.reached[at] {
             self.reached[at] = true;
@@ -164,8 +156,7 @@ impl Graph {
         requires room { HasRoomLeft self.old }
         ensures graph { IsGraph self.new }
         ensures size { length self.new.reached.items ≡ length self.old.reached.items }
-        ensures links { self.new.links ≡ self.old.links }
-        ensures all { self.new.all ≡ self.old.all }
+        ensures keeps { KeepsLinks self.old self.new }
     {
         while let Some(from) = self.fresh.pop() {
             self.follow(from);
@@ -181,9 +172,7 @@ impl Graph {
         ensures room { HasRoomLeft self.new }
         ensures count { vec_len self.new.fresh + count_unset self.new.reached.items ≡ vec_len self.old.fresh + count_unset self.old.reached.items }
         ensures size { length self.new.reached.items ≡ length self.old.reached.items }
-        ensures newest { self.new.newest ≡ self.old.newest }
-        ensures links { self.new.links ≡ self.old.links }
-        ensures all { self.new.all ≡ self.old.all }
+        ensures keeps { KeepsLinks self.old self.new }
     {
         let mut at = self.newest[from];
         while let Some(place) = at {

@@ -24,11 +24,11 @@ pub struct Update {
 
 impl Update {
     ghost use Rattle.std.specs.Prelude.{◌≡◌, ℕ, ◌<◌, ◌≤◌, ◌↔◌, true, length};
-    ghost use Rattle.arena.specs.ScxRecords.{plan_finalizes, side_of};
+    ghost use Rattle.arena.specs.ScxRecords.{plan_finalizes};
     ghost use Rattle.prims.specs.Scx.Known.{IsUpdateOver};
     ghost use Rattle.prims.specs.Snap.{snap_at};
     ghost use Rattle.prims.specs.Snaps.{AreDistinct, IsAmong, ListsNode};
-    ghost use Rattle.prims.specs.Updates.{update_field_index};
+    ghost use Rattle.prims.specs.Updates.{ChangesField};
 
     /// An update of 1 to 4 snapshots of different nodes, of which the field's node is one. It
     /// finalizes those that are in `finalize`.
@@ -37,8 +37,7 @@ impl Update {
         requires distinct { AreDistinct snaps.now }
         requires among { IsAmong snaps.now field.0.0 }
         ensures over { IsUpdateOver result }
-        ensures field { (snap_at snaps.now (update_field_index result)).node.0 ≡ field.0.0 }
-        ensures side { side_of result.plan.0 ≡ field.1 }
+        ensures field { ChangesField result snaps.now field }
         ensures removed { (j : ℕ) → j < length snaps.now → (plan_finalizes result.plan.0 j ≡ true) ↔ ListsNode finalize.now (snap_at snaps.now j).node.0 }
         ensures snaps { result.snaps ≡ snaps.now }
         ensures fresh { result.fresh.0 ≡ fresh }

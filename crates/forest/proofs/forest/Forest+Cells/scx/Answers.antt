@@ -37,8 +37,8 @@ is_of c number = let u = c.new-update.ensures in let records = c.in-Ok.ensures.r
   record_is = records.1;
   called = refl;
   removed = u.removed;
-  node_is = u.field;
-  side = u.side;
+  node_is = u.field.node;
+  side = u.field.side;
   is_value = refl;
 }
 

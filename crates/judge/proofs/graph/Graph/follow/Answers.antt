@@ -29,9 +29,9 @@ loop-at-preserved c =
     let inv = c.loop-at.invariant in
     let at = (goal.at.loop-at-preserved c).After-index in
     let e = c.reach.ensures in
-    let newest : c.reach.new.self.newest.items ≡ old.newest.items = rw e.newest refl in
-    let list : c.reach.new.self.links.items ≡ old.links.items = rw e.links refl in
-    let all : links_of c.reach.new.self ≡ links_of old = rw e.all refl in
+    let newest : c.reach.new.self.newest.items ≡ old.newest.items = rw e.keeps.newest refl in
+    let list : c.reach.new.self.links.items ≡ old.links.items = rw e.keeps.links refl in
+    let all : links_of c.reach.new.self ≡ links_of old = rw e.keeps.all refl in
     let visited : IsSpreading c.reach.new.self.reached.items old.newest.items old.links.items c.reach.new.self.fresh.items (links_of old) c.args.from (Some c.in-Some.place) = spread_visit old.reached.items old.newest.items old.links.items old.fresh.items (links_of old) (links_of old) c.args.from c.index.result.now.to (Some c.in-Some.place) c.reach.new.self.reached.items c.reach.new.self.fresh.items (stands at) (adds_none _ _ _) (inside at) (along c.args.from (stands at).origin (leads at)) e.reached e.fresh in
     let set : has_flag c.reach.new.self.reached.items c.index.result.now.to ≡ true = rw e.reached (set_here old.reached.items c.index.result.now.to (inside at)) in
     record {
@@ -39,9 +39,7 @@ loop-at-preserved c =
       room = e.room;
       count = e.count ∙ inv.count;
       size = ap length e.reached ∙ length-set old.reached.items c.index.result.now.to true ∙ inv.size;
-      newest = e.newest ∙ inv.newest;
-      links = e.links ∙ inv.links;
-      all = e.all ∙ inv.all;
+      keeps = record { newest = e.keeps.newest ∙ inv.keeps.newest; links = e.keeps.links ∙ inv.keeps.links; all = e.keeps.all ∙ inv.keeps.all };
     }
 
 pub loop-at-smaller : goal.loop-at-smaller

@@ -1,5 +1,5 @@
 use Rattle.std.proofs.Common.{◌≡◌, ◌+◌, length, vec_len}
-use Rattle.judge.specs.Graph.{Spreads, HasRoomLeft, count_unset}
+use Rattle.judge.specs.Graph.{Spreads, HasRoomLeft, KeepsLinks, count_unset}
 use Rattle.judge.proofs.Chains.{steps_left}
 use Rattle.judge.proofs.graph.Graph.follow.Given as goal
 
@@ -9,9 +9,7 @@ invariant-loop-at l = record {
   room : HasRoomLeft l.self;
   count : vec_len l.self.fresh + count_unset l.self.reached.items ≡ vec_len l.fn.self.fresh + count_unset l.fn.self.reached.items;
   size : length l.self.reached.items ≡ length l.fn.self.reached.items;
-  newest : l.self.newest ≡ l.fn.self.newest;
-  links : l.self.links ≡ l.fn.self.links;
-  all : l.self.all ≡ l.fn.self.all;
+  keeps : KeepsLinks l.fn.self l.self;
 }
 
 abbrev pub decreases-loop-at : goal.decreases-loop-at

@@ -1,5 +1,5 @@
 use Rattle.std.proofs.Common.{◌≡◌, ◌+◌, length, vec_len, None}
-use Rattle.judge.specs.Graph.{Spreads, HasRoomLeft, count_unset}
+use Rattle.judge.specs.Graph.{Spreads, HasRoomLeft, KeepsLinks, count_unset}
 use Rattle.judge.proofs.graph.Graph.spread.Given as goal
 
 abbrev pub invariant-loop-from : goal.invariant-loop-from
@@ -8,8 +8,7 @@ invariant-loop-from l = record {
   spreads : Spreads l.self 0 None;
   room : HasRoomLeft l.self;
   size : length l.self.reached.items ≡ length l.fn.self.reached.items;
-  links : l.self.links ≡ l.fn.self.links;
-  all : l.self.all ≡ l.fn.self.all;
+  keeps : KeepsLinks l.fn.self l.self;
 }
 
 abbrev pub decreases-loop-from : goal.decreases-loop-from

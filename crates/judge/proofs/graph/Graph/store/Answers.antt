@@ -2,12 +2,12 @@ use Rattle.std.proofs.Common.{◌≡◌, ◌<◌, ◌∷◌, [], ◌++◌, lengt
 use Rattle.std.specs.Prelude.{slice_set}
 use Rattle.std.proofs.Math.ListN.{length-set}
 use Rattle.std.proofs.lemmas.List.{get_or_read}
-use Rattle.judge.specs.Graph.{links_of}
+use Rattle.judge.specs.Graph.{IsGraph, links_of}
 use Rattle.judge.proofs.Spreading.{spread_keep}
 use Rattle.judge.proofs.graph.Graph.store.Goals as goal
 
-pub returns-clause-graph : goal.returns-clause-graph
-returns-clause-graph c =
+pub returns-clause-more : goal.returns-clause-more
+returns-clause-more c =
     let old = c.args.self.now in
     let new = c.remember.new.self in
     let g = c.requires.graph in
@@ -20,9 +20,10 @@ returns-clause-graph c =
     let inside : c.args.from < length old.newest.items = omega (g.sizes, c.requires.inside, arith) in
     let before = get_or_read old.newest.items c.args.from c.index-before.result.now inside c.index-before.ensures None in
     let kept = spread_keep old.reached.items old.newest.items old.links.items (links_of old) c.args.from c.args.to g.spread (record { to = c.args.to; before = c.index-before.result.now }) refl before inside c.requires.from c.requires.inside c.requires.to in
-    record {
+    let graph : IsGraph new = record {
       sizes = ap length newest ∙ length-set old.newest.items c.args.from (Some (length old.links.items)) ∙ g.sizes ∙ sym (ap length reached);
       spread = rw (reached, newest, list, f.all) kept;
       none_fresh = rw f.fresh g.none_fresh;
       room = rw (f.fresh, f.reached) g.room;
-    }
+    } in
+    record { graph = graph; size = ap length reached; all = f.all }

@@ -10,12 +10,11 @@ returns-clause-over c =
     _ refl (search rules) c.requires.distinct (search rules)
 
 pub returns-clause-field : goal.returns-clause-field
-returns-clause-field c =
-    ap (λ i. (snap_at c.args.snaps.now i).node.0) (field_is c.args.snaps.now c.args.finalize.now (member_index c.place_of-at.result) c.args.field.1 c.removed.result c.new-2.result.0 c.new-2.ensures c.removed.ensures.four c.requires.fits c.place_of-at.ensures.within c.removed.ensures.bits)
-    ∙ c.place_of-at.ensures.is
-
-pub returns-clause-side : goal.returns-clause-side
-returns-clause-side c = side_is c.args.snaps.now c.args.finalize.now (member_index c.place_of-at.result) c.args.field.1 c.removed.result c.new-2.result.0 c.new-2.ensures c.removed.ensures.four c.requires.fits c.place_of-at.ensures.within c.removed.ensures.bits
+returns-clause-field c = record {
+  node = ap (λ i. (snap_at c.args.snaps.now i).node.0) (field_is c.args.snaps.now c.args.finalize.now (member_index c.place_of-at.result) c.args.field.1 c.removed.result c.new-2.result.0 c.new-2.ensures c.removed.ensures.four c.requires.fits c.place_of-at.ensures.within c.removed.ensures.bits)
+      ∙ c.place_of-at.ensures.is;
+  side = side_is c.args.snaps.now c.args.finalize.now (member_index c.place_of-at.result) c.args.field.1 c.removed.result c.new-2.result.0 c.new-2.ensures c.removed.ensures.four c.requires.fits c.place_of-at.ensures.within c.removed.ensures.bits;
+}
 
 pub returns-clause-removed : goal.returns-clause-removed
 returns-clause-removed c = removes_is c.args.snaps.now c.args.finalize.now (member_index c.place_of-at.result) c.args.field.1 c.removed.result c.new-2.result.0 c.new-2.ensures c.removed.ensures.four c.requires.fits c.place_of-at.ensures.within c.removed.ensures.bits
