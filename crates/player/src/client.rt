@@ -212,7 +212,7 @@ impl Client {
     }
 
     /// Takes the snapshots and the records of an `scx`, if they are there.
-    fn begin_scx(&mut self, update: &script::Update) -> Option<Answer>
+    fn begin_scx(&mut self, update: &script::CellUpdate) -> Option<Answer>
         ensures { (v : ClientView) (began : Option ℕ) → IsSound v → v.layout.mode ≡ Records → Rests v self.old →
             IsNextCallUnbegun v began → command_of v self.old ≡ Some (ScxCommand update.now) →
             BeginsOrRefuses v self.old.begin self.old self.new result }
