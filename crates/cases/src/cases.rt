@@ -4,6 +4,7 @@ use crate::change::ReportChange;
 use crate::files::list_of;
 use crate::finding::Finding;
 use crate::refusal::Refusal;
+use crate::sweep::Sweep;
 use crate::words::WordsCase;
 use anyhow::{Context, Result};
 use std::rt::Files;
@@ -24,6 +25,7 @@ pub(crate) fn all<R: Files + Print + AllocGlobal + Threads + Wait + Sync>(rt: &R
     told.refusals(rt)?;
     told.changes(rt)?;
     told.words(rt)?;
+    told.sweeps(rt)?;
     Ok(told)
 }
 
@@ -99,6 +101,16 @@ impl Told {
         for line in list_of(rt, "words.txt")?.as_str().lines() {
             if !line.starts_with('#') {
                 self.tell(rt, line, WordsCase::of(line)?.find(rt)?)?;
+            }
+        }
+        Ok(())
+    }
+
+    /// Scripts by one schedule after another.
+    fn sweeps<R: Files + Print + AllocGlobal>(&mut self, rt: &R) -> Result<()> {
+        for line in list_of(rt, "sweeps.txt")?.as_str().lines() {
+            if !line.starts_with('#') {
+                self.tell(rt, line, Sweep::of(line)?.find(rt.alloc())?)?;
             }
         }
         Ok(())

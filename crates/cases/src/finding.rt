@@ -22,6 +22,8 @@ pub(crate) enum Finding {
     Read(usize),
     /// Where a write fails after so many bytes, it ends otherwise.
     Write(usize),
+    /// Of a sweep the play with these numbers.
+    Sweep(u64, u64),
 }
 
 impl Display for Finding {
@@ -36,6 +38,7 @@ impl Display for Finding {
             Finding::Turns => write!(f, "its turns have another record"),
             Finding::Read(bytes) => write!(f, "a read that fails after {bytes} bytes"),
             Finding::Write(bytes) => write!(f, "a write that fails after {bytes} bytes"),
+            Finding::Sweep(first, second) => write!(f, "otherwise with {first} and {second}"),
         }
     }
 }

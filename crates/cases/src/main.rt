@@ -1,6 +1,7 @@
 //! Gives the program the cases that lie where this one runs, and tells of each how it ends: a line a
 //! case. `cases.txt` lists those that have folders, `refused.txt` has texts that are refused,
-//! `reports.txt` reports with a change, and `words.txt` words of the command line.
+//! `reports.txt` reports with a change, `words.txt` words of the command line, and `sweeps.txt` scripts
+//! that are played by one schedule after another.
 #![tactic(auto)]
 
 mod case;
@@ -16,6 +17,7 @@ mod files;
 mod finding;
 mod inputs;
 mod refusal;
+mod sweep;
 mod turns;
 mod words;
 
