@@ -1,6 +1,5 @@
 -- What a word holds, and has held, after one more row.
 use Rattle.std.proofs.Common.{◌≡◌, ◌≢◌, ℕ, Bool, true, false, ◌&&◌, eqb, ◌⊎◌, inl, inr, zero, suc, ◌≤◌, arith, refl, sym, ◌∙◌, ap, eq-eqb, ne_eqb, List, [], ◌∷◌, ◌++◌}
-use mathlib.Core.Path.{fun_ext}
 use Rattle.arena.specs.declared.limits.Mode.{Mode}
 use Rattle.arena.specs.declared.limits.Mode.TheVariants.{Tree, Records}
 use Rattle.arena.specs.declared.word.NodeWord.{NodeWord}
@@ -33,9 +32,6 @@ value_quiet r h b a w = go (same_word r.word w) refl
     go : (t : Bool) → same_word r.word w ≡ t → value (r ⊳ h) w ≡ value h w
     go true e = rw e (a ∙ b ∙ ap (value h) (word_same r.word w e))
     go false e = rw e refl
-
-pub value_quiet_all : (r : Row) (h : History) → r.before ≡ value h r.word → r.after ≡ r.before → value (r ⊳ h) ≡ value h
-value_quiet_all r h b a = fun_ext (value_quiet r h b a)
 
 -- What a word has held
 
@@ -172,8 +168,3 @@ rows_after_append h (r ∷ rows) then = rows_after_append (r ⊳ h) rows then
 
 pub rows_after_last : (h : History) (rows : List Row) (r : Row) → rows_after h (rows ++ r ∷ []) ≡ r ⊳ rows_after h rows
 rows_after_last h rows r = rows_after_append h rows (r ∷ [])
-
--- the history before the rows is a moment of the history after them
-pub rows_after_ends : (h : History) (rows : List Row) → Extends (rows_after h rows) h
-rows_after_ends h [] = ends_self h
-rows_after_ends h (r ∷ rows) = ends_trans (rows_after (r ⊳ h) rows) (r ⊳ h) h (rows_after_ends (r ⊳ h) rows) (inr (ends_self h))

@@ -1,7 +1,7 @@
 -- What is shown of each call of the map by itself, with an arm for edits and one for each read: when
 -- its answer is right and where it took place, and what an entry of it does. The other proofs of this
 -- crate speak of any call.
-use Rattle.std.proofs.Common.{◌≡◌, ℕ, ◌-◌, ◌<◌, ◌≤◌, ◌⊎◌, inr, Bool, true, false, cond, List, [], ◌∷◌, Option, Some, None, option_map, unwrap_or, refl, sym, ◌∙◌, ap, subst, arith, eq-eqb, ne_eqb}
+use Rattle.std.proofs.Common.{◌≡◌, ℕ, ◌-◌, ◌<◌, ◌≤◌, ◌⊎◌, inr, Bool, true, false, cond, List, Option, Some, None, option_map, refl, sym, ◌∙◌, ap, subst, arith}
 use native.Mathlib.Decide.{ℕ_discrete}
 use Rattle.arena.specs.declared.layout.Layout.{Layout}
 use Rattle.arena.specs.declared.fault.Resource.{Resource}
@@ -14,9 +14,8 @@ use Rattle.arena.specs.Log.{Entry as Entered}
 use Rattle.arena.proofs.Lemmas.{ends_self}
 use Rattle.ordered_map.specs.CallRules.{need, nodes_at, nodes_there}
 use Rattle.arena.specs.declared.word.Side.{Side}
-use Rattle.arena.specs.declared.word.Side.TheVariants.{Left, Right}
 use Rattle.ordered_map.specs.MapLaws.{IsEndmost}
-use Rattle.ordered_map.specs.OrderedMap.{MapCall, Edit, Get, Successor, Range, MapReply, OneValue, MapEdit, Delete, IsRising, applies, changes_map, delete, edit_by, edit_key, edit_of, edit_to, edited, end_pair, first_pair, last_pair, spot, get, leaves, pair, pair_or_none, reply}
+use Rattle.ordered_map.specs.OrderedMap.{MapCall, Edit, Get, Successor, Range, MapReply, OneValue, MapEdit, Delete, IsRising, applies, changes_map, delete, edit_by, edit_key, edit_of, edit_to, edited, end_pair, get, leaves, pair, pair_or_none, reply}
 use Rattle.ordered_map.specs.Requests.{edit_in, map_request}
 use Rattle.ordered_map.specs.Runs.{IsTreeRun, Makes}
 use Rattle.ordered_map.specs.Spelled.{Spells}
@@ -70,20 +69,6 @@ edit_is call goal rule e = absurd (let z : None ≡ Some (goal, rule) = e in cc)
 -- at a key with a value to which its rule applies it needs as many nodes as there
 pub need_at : (call : MapCall) (goal : Goal) (rule : Rule) (key : ℕ) (m : List Pair) (found : Option ℕ) → edit_in call ≡ Some (goal, rule) → goal ≡ Key key → get key m ≡ found → applies rule found ≡ true → need call m ≡ nodes_at found
 need_at call goal rule key m found is at had does = ap (λ (k : MapCall). need k m) (edit_is call goal rule is ∙ ap (λ (g : Goal). Edit g rule) at) ∙ ap (λ (o : Option ℕ). nodes_there rule (Some (key, o))) had ∙ ap (λ (b : Bool). cond b (nodes_at found) 0) does
-
--- where a map has a pair there is one at each end
-end_some : (side : Side) (m : List Pair) (p : Pair) → first_pair m ≡ Some p → (q : Pair) × (end_pair side m ≡ Some q)
-end_some Left m p is = (p, is)
-end_some Right [] p is = absurd (let none : None ≡ Some p = is in cc)
-end_some Right (q ∷ qs) p is = (unwrap_or (last_pair qs) q, refl)
-
--- so an edit at an end that changes any value needs one node
-pub need_end : (call : MapCall) (goal : Goal) (rule : Rule) (side : Side) (m : List Pair) (p : Pair) → edit_in call ≡ Some (goal, rule) → goal ≡ End side → first_pair m ≡ Some p → ((v : ℕ) → applies rule (Some v) ≡ true) → need call m ≡ 1
-need_end call goal rule side m p is at has does =
-    let there : (q : Pair) × (end_pair side m ≡ Some q) = end_some side m p has in
-    ap (λ (k : MapCall). need k m) (edit_is call goal rule is ∙ ap (λ (g : Goal). Edit g rule) at)
-    ∙ ap (λ (o : Option Pair). nodes_there rule (spot (End side) (pair_or_none o))) there.1
-    ∙ ap (λ (b : Bool). cond b (nodes_at (Some there.0.value)) 0) (does there.0.value)
 
 -- so it needed something
 pub needed_any : (calls : List Call) (lines : List Line) (r : Finished) (call : MapCall) (nodes : ℕ) → 0 < nodes → NeededWithin calls lines call nodes r → NeededSomething calls lines call r

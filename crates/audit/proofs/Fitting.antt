@@ -59,9 +59,6 @@ abbrev call_of_some : Option Entry → ℕ
 call_of_some None = 0
 call_of_some (Some e) = e.call
 
-some_line : (a b : Line) → Some a ≡ Some b → a ≡ b
-some_line a b e = cc
-
 -- the owner of an SCX-record of a share
 owner_is : (lay : Layout) (s p : ℕ) → first_scx lay p ≤ s → s < first_scx lay p + lay.scx → owner lay s ≡ p
 owner_is lay s p from below = div-eq_of_lt-le lay.scx (omega arith) (omega arith)
@@ -324,9 +321,6 @@ win_fits run number row entry client command x is y next own wins logged holds u
     side = logged.1
 
 -- The first lines
-
-pub one_step : (calls : List Call) (lines : List Line) (run : Replay) (new : Replay) (line made : Line) → slice_get run.record.now.lines.items run.at ≡ Some line → slice_get run.record.now.lines.items run.at ≡ Some made → IsAfter new (made ∷ lines) → IsAfter new (line ∷ lines)
-one_step calls lines run new line made a b x = let same : made ≡ line = some_line made line (sym b ∙ a) in subst (λ (l : Line). IsAfter new (l ∷ lines)) same x
 
 -- with the next line counted
 pub line_more : (lines : List Line) (at : ℕ) (line : Line) → slice_get lines at ≡ Some line → reverse (take (at + 1) lines) ≡ line ∷ reverse (take at lines)

@@ -1,27 +1,10 @@
 -- What calls have taken, by what was left of a share before and is left now.
-use Rattle.std.proofs.Common.{◌≡◌, ℕ, ◌+◌, ◌-◌, ◌*◌, ◌<◌, ◌≤◌, ◌↔◌, arith}
+use Rattle.std.proofs.Common.{ℕ, ◌+◌, ◌-◌, ◌*◌, ◌<◌, ◌≤◌, arith}
 use Rattle.arena.specs.declared.layout.Layout.{Layout}
-use Rattle.arena.specs.Fills.{IsOwnNode, IsOwnScx, IsTakenNode, IsTakenScx}
+use Rattle.arena.specs.Fills.{IsOwnScx}
 use Rattle.arena.specs.History.{History}
 use Rattle.arena.specs.Layout.{first_node, first_scx}
 use Rattle.record.specs.Shares.{HasNodesLeft, HasScxLeft, HasTakenAtMost}
-
-module _ (lay : Layout) (c : ℕ) (h : History) where
-  -- what is left of a share of which so many nodes are taken
-  pub nodes_left : (taken left : ℕ) → taken ≤ lay.nodes → left + taken ≡ lay.nodes → ((n : ℕ) → IsOwnNode lay c n → IsTakenNode h n ↔ (n < first_node lay c + taken)) → HasNodesLeft lay c h left
-  nodes_left taken left few all is = record {
-    within = omega arith;
-    taken = λ n own i. (is n own).1 (omega arith);
-    untaken = λ n own i t. let j = (is n own).0 t in absurd (omega arith);
-  }
-
-  -- and so of its SCX-records
-  pub scx_left : (taken left : ℕ) → taken ≤ lay.scx → left + taken ≡ lay.scx → ((s : ℕ) → IsOwnScx lay c s → IsTakenScx h s ↔ (s < first_scx lay c + taken)) → HasScxLeft lay c h left
-  scx_left taken left few all is = record {
-    within = omega arith;
-    taken = λ s own i. (is s own).1 (omega arith);
-    untaken = λ s own i t. let j = (is s own).0 t in absurd (omega arith);
-  }
 
 -- what a call has taken is the difference
 pub taken_few : (lay : Layout) (c : ℕ) (now start : History) (nodes_then nodes scx_then scx most_scx each : ℕ) → HasNodesLeft lay c start nodes_then → HasNodesLeft lay c now nodes → HasScxLeft lay c start scx_then → HasScxLeft lay c now scx → scx_then ≤ scx + most_scx → nodes_then ≤ nodes + each * (scx_then - scx) → HasTakenAtMost lay c now start most_scx each

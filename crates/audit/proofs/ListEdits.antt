@@ -15,7 +15,7 @@ use Rattle.arena.specs.History.{History, value}
 use Rattle.arena.specs.ScxRecords.{plan, member, new, old}
 use Rattle.arena.specs.Words.{node, child}
 use Rattle.ordered_map.specs.declared.pair.Pair.{Pair}
-use Rattle.ordered_map.specs.OrderedMap.{MapEdit, Insert, Delete, AllAbove, AllBelow, AllFrom, pair, edit_key, edit_to, edited, first_pair, last_pair}
+use Rattle.ordered_map.specs.OrderedMap.{MapEdit, AllAbove, AllBelow, AllFrom, pair, edit_key, edit_to, edited, first_pair, last_pair}
 use Rattle.ordered_map.specs.Holding.{slot_behind, pair_in, held_from, held_behind, held_pairs, IsWellCounted}
 use Rattle.ordered_map.specs.TreeWords.{class, is_leaf, level, rank, leaf_items, leaf_pairs, said, toward}
 use Rattle.ordered_map.specs.Edits.{IsLowLeaf, IsLastLeaf, IsSplitBy, IsLeafEdit}
@@ -26,22 +26,11 @@ use Rattle.audit.specs.Edits.{AreToward, IsAlike, IsInFront, key_in}
 
 -- The place of an edit
 
-none_in_front : (e : MapEdit) → IsInFront e None → ⊥
-none_in_front (Insert k v) x = x
-none_in_front (Delete k) x = x
-
 -- the first pairs, so many, stay in front of the edit
 abbrev pub StayInFront : MapEdit → List (ℕ × ℕ) → ℕ → Type 0
 StayInFront e ps zero = Unit {0}
 StayInFront e [] (suc at) = ⊥
 StayInFront e (p ∷ ps) (suc at) = IsInFront e (Some p.0) × StayInFront e ps at
-
--- one more does
-pub one_more : (e : MapEdit) (ps : List (ℕ × ℕ)) (at : ℕ) → StayInFront e ps at → IsInFront e (key_in ps at) → StayInFront e ps (suc at)
-one_more e [] zero s x = absurd (none_in_front e x)
-one_more e (p ∷ ps) zero s x = (x, tt)
-one_more e [] (suc at) s x = absurd s
-one_more e (p ∷ ps) (suc at) s x = (s.0, one_more e ps at s.1 x)
 
 -- with the new pair put in at a place
 abbrev pub with_value : ℕ → Option ℕ → ℕ → List (ℕ × ℕ) → List (ℕ × ℕ)

@@ -1,18 +1,11 @@
 -- Where the commands of a client stand among the calls.
-use Rattle.std.proofs.Common.{◌≡◌, ℕ, zero, suc, ◌<◌, ◌≤◌, List, [], ◌∷◌, length, drop, Option, Some, None, slice_get, get_or, drop-cons, refl, sym, ◌∙◌, ap, subst, eqb, cond, Bool, true, false, arith}
+use Rattle.std.proofs.Common.{◌≡◌, ℕ, zero, suc, ◌<◌, List, [], ◌∷◌, length, drop, Option, Some, None, slice_get, get_or, drop-cons, refl, sym, ◌∙◌, ap, subst, cond, Bool, arith}
 use Rattle.std.proofs.lemmas.Bool.{eq-eqb}
-use Rattle.std.proofs.lemmas.Option.{slice_get_read, slice_get_within}
+use Rattle.std.proofs.lemmas.Option.{slice_get_read}
 use Rattle.script.specs.declared.call.Call.{Call}
 use Rattle.script.specs.declared.command.Command.{Command}
 use Rattle.record.specs.Commands.{commands}
 use Rattle.audit.specs.Calls.{StandsNext, command_of_call, command_at}
-
--- a client has no more commands than there are calls
-pub commands_few : (calls : List Call) (c : ℕ) → length (commands calls c) ≤ length calls
-commands_few [] c = omega arith
-commands_few (call ∷ calls) c =
-    let h = commands_few calls c in
-    elim (eqb call.client.0 c) as (λ b. length (cond b (call.command ∷ commands calls c) (commands calls c)) ≤ suc (length calls)) [ true ↦ omega arith | false ↦ omega arith ]
 
 -- the first of what is left stands there, and the rest is left behind it
 first_left : {X : Type 0} (xs : List X) (n : ℕ) (x : X) (ys : List X) → drop n xs ≡ x ∷ ys → (slice_get xs n ≡ Some x) × (drop (suc n) xs ≡ ys) × (n < length xs)
@@ -35,17 +28,6 @@ next_at calls c number at x = (x.0, x.1, (first_left (commands calls c) number x
 pub none_left : (calls : List Call) (c number : ℕ) → drop number (commands calls c) ≡ [] → slice_get (commands calls c) number ≡ None
 none_left calls c number e = none_there (commands calls c) number e
 
--- a place behind that of the next command is that of the one after it
-pub place_more : (calls : List Call) (c number at : ℕ) → StandsNext calls c (drop number (commands calls c)) (Some at) → (next : Option ℕ) → StandsNext calls c (commands (drop (suc at) calls) c) next → StandsNext calls c (drop (suc number) (commands calls c)) next
-place_more calls c number at x next y = subst (λ (left : List Command). StandsNext calls c left next) (sym (first_left (commands calls c) number x.0.command _ x.2).1) y
-
--- a command that is still to come has a number below that of all calls
-pub number_small : (calls : List Call) (c number at : ℕ) → StandsNext calls c (drop number (commands calls c)) (Some at) → number < length calls
-number_small calls c number at x =
-    let few = commands_few calls c in
-    let below = (first_left (commands calls c) number x.0.command _ x.2).2 in
-    omega arith
-
 -- the call at this place is the next, if it is the client's
 pub call_at : (calls : List Call) (c at : ℕ) (call : Call) (left : List Command) → at < length calls → call ≡ get_or calls at call → call.client.0 ≡ c → left ≡ commands (drop at calls) c → StandsNext calls c left (Some at)
 call_at calls c at call left below is same e = (
@@ -59,19 +41,6 @@ call_at calls c at call left below is same e = (
 pub command_next : (calls : List Call) (c number : ℕ) (at : Option ℕ) → StandsNext calls c (drop number (commands calls c)) at → command_at calls at ≡ slice_get (commands calls c) number
 command_next calls c number None x = sym (none_left calls c number x)
 command_next calls c number (Some at) x = let y = next_at calls c number at x in ap command_of_call y.1 ∙ sym y.2
-
--- behind none stands none
-pub none_behind : (calls : List Call) (c : ℕ) (left : List Command) → StandsNext calls c left None → StandsNext calls c (drop 1 left) None
-none_behind calls c [] x = refl
-none_behind calls c (command ∷ left) x = absurd (let z : command ∷ left ≡ [] = x in cc)
-
--- a place past all calls is none
-pub past_behind : (calls : List Call) (c at : ℕ) (left : List Command) → length calls ≤ at → StandsNext calls c left (Some at) → ⊥
-past_behind calls c at left past x = let i = slice_get_within calls at _ x.1 in omega (i, past, arith)
-
--- behind a call stands the next one of those that are left
-pub some_behind : (calls : List Call) (c at from : ℕ) (next : Option ℕ) (left : List Command) → from ≡ suc at → StandsNext calls c (commands (drop from calls) c) next → StandsNext calls c left (Some at) → StandsNext calls c (drop 1 left) next
-some_behind calls c at from next left is y x = subst (λ (l : List Command). StandsNext calls c (drop 1 l) next) (sym x.2) (subst (λ (n : ℕ). StandsNext calls c (commands (drop n calls) c) next) is y)
 
 drop_one : {X : Type 0} (xs : List X) (n : ℕ) → drop 1 (drop n xs) ≡ drop (suc n) xs
 drop_one [] zero = refl

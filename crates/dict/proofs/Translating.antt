@@ -1,8 +1,8 @@
 -- The pairs of words, one after another.
-use Rattle.std.proofs.Common.{◌≡◌, ℕ, ◌+◌, ◌<◌, List, [], ◌∷◌, ◌++◌, Some, None, length, refl, ◌∙◌}
+use Rattle.std.proofs.Common.{◌≡◌, ℕ, ◌+◌, ◌<◌, List, [], ◌∷◌, ◌++◌, Some, None, length, ◌∙◌}
 use Rattle.std.specs.Prelude.{take, slice_index_or}
 use Rattle.std.proofs.lemmas.List.{take_more, map-append}
-use Rattle.std.proofs.lemmas.List.Elements.{All-push, All-nil}
+use Rattle.std.proofs.lemmas.List.Elements.{All-push}
 use Rattle.ordered_map.specs.declared.pair.Pair.{Pair}
 use Rattle.dict.specs.Translated.{ArePairsOf, IsPairOf}
 use Rattle.dict.specs.Typed.{AreTyped}
@@ -19,10 +19,6 @@ typed_last keys values [] q x = (x.0, x.1)
 typed_last keys values (p ∷ ps) q x = typed_last keys values ps q x.2
 
 module _ {K V : Type 0} (valid_key : K → Type 0) (key : K → ℕ) (valid_value : V → Type 0) (value : V → ℕ) where
-  -- no pairs of no words
-  pub no_pairs : ArePairsOf valid_key key valid_value value [] []
-  no_pairs = record { valid = All-nil (IsValidPair valid_key valid_value); words_are = λ x. refl }
-
   -- one pair more
   pub pair_more : (words : List Pair) (i : ℕ) (d : Pair) (pairs more : List (K × V)) (pair : K × V) → i < length words → ArePairsOf valid_key key valid_value value (take i words) pairs → IsPairOf valid_key key valid_value value (Some (slice_index_or words i d)) (Some pair) → more ≡ pairs ++ pair ∷ [] → ArePairsOf valid_key key valid_value value (take (i + 1) words) more
   pair_more words i d pairs more pair lt x y e = rw (take_more words i d lt, e) record {

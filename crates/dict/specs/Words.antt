@@ -3,8 +3,6 @@
 use Rattle.std.specs.Prelude.{◌≡◌, ℕ, ◌^◌, ◌<◌, List, [], ◌∷◌, All, IfSome}
 use Rattle.ordered_map.specs.Holding.{wide_value}
 use Rattle.ordered_map.specs.declared.pair.Pair.{Pair}
-use Rattle.ordered_map.specs.declared.request.Request.{Request}
-use Rattle.ordered_map.specs.declared.request.Request.TheVariants.{Insert as InsertOf, Delete as DeleteOf, PopFirst as PopFirstOf, PopLast as PopLastOf, ReplaceIf as ReplaceIfOf, InsertNew as InsertNewOf, DeleteIf as DeleteIfOf, Get as GetOf, Successor as SuccessorOf, Range as RangeOf}
 use Rattle.ordered_map.specs.declared.reply.Reply.{Reply}
 use Rattle.ordered_map.specs.declared.reply.Reply.TheVariants.{Value, Pair as PairOf, Pairs}
 
@@ -32,19 +30,6 @@ IsPairWord valid_key key valid_value value p = IsWordOf valid_key key p.key × I
 -- a pair of a key and a value of their types
 abbrev pub IsValidPair : {K V : Type 0} → (K → Type 0) → (V → Type 0) → K × V → Type 0
 IsValidPair valid_key valid_value p = valid_key p.0 × valid_value p.1
-
--- the keys and the values of a request are those of their types
-abbrev pub IsValidRequest : {K V : Type 0} → (K → Type 0) → (V → Type 0) → Request K V → Type 0
-IsValidRequest valid_key valid_value (InsertOf k v) = valid_key k × valid_value v
-IsValidRequest valid_key valid_value (DeleteOf k) = valid_key k
-IsValidRequest valid_key valid_value PopFirstOf = Unit {0}
-IsValidRequest valid_key valid_value PopLastOf = Unit {0}
-IsValidRequest valid_key valid_value (ReplaceIfOf k e v) = valid_key k × valid_value e × valid_value v
-IsValidRequest valid_key valid_value (InsertNewOf k v) = valid_key k × valid_value v
-IsValidRequest valid_key valid_value (DeleteIfOf k e) = valid_key k × valid_value e
-IsValidRequest valid_key valid_value (GetOf k) = valid_key k
-IsValidRequest valid_key valid_value (SuccessorOf k) = valid_key k
-IsValidRequest valid_key valid_value (RangeOf low high most) = valid_key low × valid_key high
 
 -- the keys and the values of a reply are those of their types
 abbrev pub IsValidReply : {K V : Type 0} → (K → Type 0) → (V → Type 0) → Reply K V → Type 0

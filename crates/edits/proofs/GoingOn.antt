@@ -53,13 +53,6 @@ placed_same e m f (Read n part) = (refl, refl, refl)
 placed_same e m f (FillNext nth) = (refl, refl, refl)
 placed_same e m f (Change scx) = (refl, refl, refl)
 
-pub placed_tries : {E : Type 0} (e : EditMeaning E) {A : Type 0} (m : UpdateRun E A) (f : Found) (next : Next) → (placed e m f next).tries ≡ m.tries
-placed_tries e m f (Look n) = refl
-placed_tries e m f (Wait n b scx) = refl
-placed_tries e m f (Read n part) = refl
-placed_tries e m f (FillNext nth) = refl
-placed_tries e m f (Change scx) = refl
-
 -- so much is left, where less is
 pub weighs_next : {E : Type 0} (e : EditMeaning E) {A : Type 0} (m : UpdateRun E A) (f : Found) (next : Result Next Stop) (nodes n : ℕ) → ComesNearer e m f next nodes n → left_then e m f next nodes ≤ n
 weighs_next e m f (Ok next) nodes n x = omega (arith, x)

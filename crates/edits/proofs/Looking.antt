@@ -37,7 +37,7 @@ use Rattle.edits.specs.declared.update.UpdateRun.{UpdateRun}
 use Rattle.edits.specs.Next.{standing}
 use Rattle.edits.specs.Edits.{EditMeaning}
 use Rattle.edits.specs.Known.{RestsWith, MayBeginTry, HasNodesFor, HasSnappedAfterWalk, AreUsable, AreSeen, CanLook, CanWork, Looks, TryWaits, piece}
-use Rattle.edits.specs.Pieces.{less_a_node, many_nodes, top_of}
+use Rattle.edits.specs.Pieces.{less_a_node, top_of}
 use Rattle.edits.specs.Laws.Hand.{HasFilledTo}
 use Rattle.edits.specs.Laws.PieceFills.{IsUnfilled}
 use Rattle.edits.specs.Tries.{IsTry}
@@ -88,12 +88,6 @@ looked_one_more e m now c h f s n ed share items named is met x = record {
 }
 
 -- The first look
-
--- a share that is tested has what is needed
-pub share_has : (need : Need) (left : Remaining) → need ≢ Nothing → many_nodes need ≤ left.nodes → left.scx ≢ 0 → HasNodesFor need left
-share_has Nothing left d few some = absurd (d refl)
-share_has One left d few some = (omega (arith, few), omega (arith, some))
-share_has Three left d few some = (omega (arith, few), omega (arith, some))
 
 -- the walk has found its leaf, and nothing is looked at
 pub may_look : {E : Type 0} (e : EditMeaning E) {A : Type 0} (m now : UpdateRun E A) (c : Call) (h : History) (f : Found) → now.edit ≡ m.edit → now.share ≡ m.share → now.snaps.items ≡ [] → MayBeginTry e m c h → IsQuietSince c.layout c.pass c.start h → HasFoundGoal (e.goal m.edit) c h f → HasNodesFor (e.needs m.edit f) m.share → CanLook e now c h f

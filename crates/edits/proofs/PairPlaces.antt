@@ -8,7 +8,7 @@ use Rattle.ordered_map.specs.declared.pair.Pair.{Pair}
 use Rattle.ordered_map.specs.OrderedMap.{pair, insert, delete}
 use Rattle.edits.specs.declared.pairs.Pairs.TheInside.{Inside}
 use Rattle.edits.specs.Laws.PairPlaces.{listed, placed_pairs}
-use Rattle.edits.specs.Pairs.{pair_at, below, before, has_at, run, moved_on, moved_back, replaced}
+use Rattle.edits.specs.Pairs.{pair_at, below, before, has_at, run, moved_on, moved_back}
 
 -- where places are those of the list that they hold, that has at most five
 pub at_most_five : (s : Inside) → s ≡ placed_pairs (listed s) → length (listed s) ≤ 5
@@ -64,31 +64,6 @@ put_at (a ∷ b ∷ c ∷ d ∷ e ∷ []) few (suc (suc (suc (suc (suc zero)))))
 put_at (a ∷ b ∷ c ∷ d ∷ e ∷ []) few (suc (suc (suc (suc (suc (suc at)))))) i p = absurd (omega (arith, i))
 put_at (a ∷ b ∷ c ∷ d ∷ e ∷ f ∷ ps) few at i p = absurd (omega (arith, few))
 
--- or in the stead of another one
-pub set_at : (ps : List Pair) → length ps ≤ 5 → (at : ℕ) → at < length ps → (p : Pair) → record { first = replaced at 0 (pair_at ps 0) p; second = replaced at 1 (pair_at ps 1) p; third = replaced at 2 (pair_at ps 2) p; fourth = replaced at 3 (pair_at ps 3) p; fifth = replaced at 4 (pair_at ps 4) p; count = length ps } ≡ placed_pairs (slice_set ps at p)
-set_at [] few at i p = absurd (omega (arith, i))
-set_at (a ∷ []) few zero i p = refl
-set_at (a ∷ []) few (suc at) i p = absurd (omega (arith, i))
-set_at (a ∷ b ∷ []) few zero i p = refl
-set_at (a ∷ b ∷ []) few (suc zero) i p = refl
-set_at (a ∷ b ∷ []) few (suc (suc at)) i p = absurd (omega (arith, i))
-set_at (a ∷ b ∷ c ∷ []) few zero i p = refl
-set_at (a ∷ b ∷ c ∷ []) few (suc zero) i p = refl
-set_at (a ∷ b ∷ c ∷ []) few (suc (suc zero)) i p = refl
-set_at (a ∷ b ∷ c ∷ []) few (suc (suc (suc at))) i p = absurd (omega (arith, i))
-set_at (a ∷ b ∷ c ∷ d ∷ []) few zero i p = refl
-set_at (a ∷ b ∷ c ∷ d ∷ []) few (suc zero) i p = refl
-set_at (a ∷ b ∷ c ∷ d ∷ []) few (suc (suc zero)) i p = refl
-set_at (a ∷ b ∷ c ∷ d ∷ []) few (suc (suc (suc zero))) i p = refl
-set_at (a ∷ b ∷ c ∷ d ∷ []) few (suc (suc (suc (suc at)))) i p = absurd (omega (arith, i))
-set_at (a ∷ b ∷ c ∷ d ∷ e ∷ []) few zero i p = refl
-set_at (a ∷ b ∷ c ∷ d ∷ e ∷ []) few (suc zero) i p = refl
-set_at (a ∷ b ∷ c ∷ d ∷ e ∷ []) few (suc (suc zero)) i p = refl
-set_at (a ∷ b ∷ c ∷ d ∷ e ∷ []) few (suc (suc (suc zero))) i p = refl
-set_at (a ∷ b ∷ c ∷ d ∷ e ∷ []) few (suc (suc (suc (suc zero)))) i p = refl
-set_at (a ∷ b ∷ c ∷ d ∷ e ∷ []) few (suc (suc (suc (suc (suc at))))) i p = absurd (omega (arith, i))
-set_at (a ∷ b ∷ c ∷ d ∷ e ∷ f ∷ ps) few at i p = absurd (omega (arith, few))
-
 -- or taken out
 pub out_at : (ps : List Pair) → length ps ≤ 5 → (at : ℕ) → at ≤ length ps → record { first = moved_back at 0 (pair_at ps 0) (pair_at ps 1); second = moved_back at 1 (pair_at ps 1) (pair_at ps 2); third = moved_back at 2 (pair_at ps 2) (pair_at ps 3); fourth = moved_back at 3 (pair_at ps 3) (pair_at ps 4); fifth = moved_back at 4 (pair_at ps 4) (pair 0 0); count = (if nat_lt at (length ps) then length ps - 1 else length ps) } ≡ placed_pairs (remove ps at)
 out_at [] few zero i = refl
@@ -120,29 +95,7 @@ out_at (a ∷ b ∷ c ∷ d ∷ e ∷ []) few (suc (suc (suc (suc (suc zero)))))
 out_at (a ∷ b ∷ c ∷ d ∷ e ∷ []) few (suc (suc (suc (suc (suc (suc at)))))) i = absurd (omega (arith, i))
 out_at (a ∷ b ∷ c ∷ d ∷ e ∷ f ∷ ps) few at i = absurd (omega (arith, few))
 
--- the first two, and what is behind them
-pub two_first : (ps : List Pair) → length ps ≤ 5 → record { first = pair_at ps 0; second = pair_at ps 1; third = pair 0 0; fourth = pair 0 0; fifth = pair 0 0; count = min (length ps) 2 } ≡ placed_pairs (take 2 ps)
-two_first [] few = refl
-two_first (a ∷ []) few = refl
-two_first (a ∷ b ∷ []) few = refl
-two_first (a ∷ b ∷ c ∷ []) few = refl
-two_first (a ∷ b ∷ c ∷ d ∷ []) few = refl
-two_first (a ∷ b ∷ c ∷ d ∷ e ∷ []) few = refl
-two_first (a ∷ b ∷ c ∷ d ∷ e ∷ f ∷ ps) few = absurd (omega (arith, few))
-
-pub two_behind : (ps : List Pair) → length ps ≤ 5 → record { first = pair_at ps 2; second = pair_at ps 3; third = pair_at ps 4; fourth = pair 0 0; fifth = pair 0 0; count = length ps - 2 } ≡ placed_pairs (drop 2 ps)
-two_behind [] few = refl
-two_behind (a ∷ []) few = refl
-two_behind (a ∷ b ∷ []) few = refl
-two_behind (a ∷ b ∷ c ∷ []) few = refl
-two_behind (a ∷ b ∷ c ∷ d ∷ []) few = refl
-two_behind (a ∷ b ∷ c ∷ d ∷ e ∷ []) few = refl
-two_behind (a ∷ b ∷ c ∷ d ∷ e ∷ f ∷ ps) few = absurd (omega (arith, few))
-
 -- The place of a key
-
-same_run : (t : Bool) (n m : ℕ) → n ≡ m → (if t then suc n else 0) ≡ (if t then suc m else 0)
-same_run t n m e = ap (λ k. if t then suc k else 0) e
 
 pub below_is : (k : ℕ) (ps : List Pair) → length ps ≤ 5 → min (run (nat_lt (pair_at ps 0).key k) (nat_lt (pair_at ps 1).key k) (nat_lt (pair_at ps 2).key k) (nat_lt (pair_at ps 3).key k) (nat_lt (pair_at ps 4).key k)) (length ps) ≡ below k ps
 below_is k [] few = go (nat_lt (pair 0 0).key k) (nat_lt (pair 0 0).key k) (nat_lt (pair 0 0).key k) (nat_lt (pair 0 0).key k) (nat_lt (pair 0 0).key k)
@@ -258,22 +211,6 @@ before_is k (a ∷ b ∷ c ∷ d ∷ e ∷ []) few = go (not (a.key == k)) (not 
     go true true true true true = refl
 before_is k (a ∷ b ∷ c ∷ d ∷ e ∷ f ∷ ps) few = absurd (omega (arith, few))
 
-pub below_few : (k : ℕ) (ps : List Pair) → below k ps ≤ length ps
-below_few k [] = omega arith
-below_few k (p ∷ ps) = go (nat_lt p.key k) (below_few k ps)
-  where
-    go : (t : Bool) → below k ps ≤ length ps → (if t then suc (below k ps) else 0) ≤ suc (length ps)
-    go true i = omega (arith, i)
-    go false i = omega arith
-
-pub before_few : (k : ℕ) (ps : List Pair) → before k ps ≤ length ps
-before_few k [] = omega arith
-before_few k (p ∷ ps) = go (not (p.key == k)) (before_few k ps)
-  where
-    go : (t : Bool) → before k ps ≤ length ps → (if t then suc (before k ps) else 0) ≤ suc (length ps)
-    go true i = omega (arith, i)
-    go false i = omega arith
-
 -- an insert puts the pair there, in the stead of one with its key
 abbrev Inserted : ℕ → ℕ → List Pair → Type 0
 Inserted k v ps = insert k v ps ≡ (if has_at k (below k ps) ps then slice_set ps (below k ps) (pair k v) else take (below k ps) ps ++ pair k v ∷ drop (below k ps) ps)
@@ -320,11 +257,6 @@ as_long [] zero p = refl
 as_long [] (suc i) p = refl
 as_long (q ∷ ps) zero p = refl
 as_long (q ∷ ps) (suc i) p = ap suc (as_long ps i p)
-
-pub has_within : (k i : ℕ) (ps : List Pair) → has_at k i ps ≡ true → i < length ps
-has_within k i [] e = absurd (let z : false ≡ true = e in cc)
-has_within k zero (p ∷ ps) e = omega arith
-has_within k (suc i) (p ∷ ps) e = let l = has_within k i ps e in omega (arith, l)
 
 pub has_there : (k i : ℕ) (ps : List Pair) → i < length ps → ((pair_at ps i).key == k) ≡ has_at k i ps
 has_there k i [] l = absurd (omega (arith, l))

@@ -217,10 +217,6 @@ module _ (r : Reading) (v : ℕ) where
       go true false = let a = one_unread r.key in omega (arith, a)
       go false leaf = omega arith
 
-  -- of a leaf of class 0, where so many are left of its pairs
-  abbrev FewerOf : ℕ → Option Head → SettledPart → Type 0
-  FewerOf left o part = left_behind_head (read_with r part v) o < left
-
   behind_fewer : (more : ℕ) (s : Slot) → left_in_pairs (slot_behind more s) None None < 10 - 3 * slot_no s
   behind_fewer more slots.First = go (nat_lt 0 more)
     where

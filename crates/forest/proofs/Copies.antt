@@ -81,9 +81,6 @@ pub record AreCopiedTo (from to : Contents) (n k : ℕ) : Type 0 where
   pub before : AreCopied from to n
   pub here : (number : ℕ) → number < k → Same from to (node n (map_word number))
 
-pub copied_none : (from to : Contents) (n : ℕ) → to.layout ≡ from.layout → AreCopied from to n → AreCopiedTo from to n 0
-copied_none from to n layout before = record { layout = layout; before = before; here = λ number less. absurd (omega (arith, less)) }
-
 -- one word more
 pub copied_word : (from old new : Contents) (n k : ℕ) → n < all_nodes from.layout → AreCopiedTo from old n k → IsChanged old new (node n (map_word k)) (word_at from (node n (map_word k))) → AreCopiedTo from new n (k + 1)
 copied_word from old new n k inside x c = record {
@@ -110,9 +107,6 @@ copied_more from to n k all x m part less i = ⊎_elim
   where
     here : Same from to (node n part)
     here = let p = numbered part i in subst (λ (q : NodeWord). Same from to (node n q)) p.1 (x.here (number_of part) (let few = p.0 in omega (arith, few, all)))
-
-pub none_copied : (from to : Contents) → AreCopied from to 0
-none_copied from to n part less i = absurd (omega arith)
 
 -- What they spell
 

@@ -15,7 +15,7 @@ use Rattle.edits.specs.Known.{RestsWith}
 use Rattle.dict.specs.Laws.Begins.{dict_begins}
 use Rattle.ordered_map.specs.CallRules.{most_nodes, most_scx}
 use Rattle.template.specs.Tries.{tries_since}
-use Rattle.dict.specs.Calls.{AsksForPairs, call_in, share_of, IsFewCall}
+use Rattle.dict.specs.Calls.{call_in, share_of, IsFewCall}
 use Rattle.dict.specs.DictKnown.{DictIsReady, DictWaits, DictAnswers, DictRefuses}
 use Rattle.dict.specs.Known.{IsUnbegun}
 use Rattle.dict.specs.Laws.OneShare.{one_share}

@@ -1,5 +1,5 @@
 -- A call that is held open stays one, step by step.
-use Rattle.std.proofs.Common.{◌≡◌, ◌∙◌, ◌+◌, ◌-◌, ◌<◌, ◌≤◌, ℕ, suc, Bool, true, false, List, refl, sym, subst, arith}
+use Rattle.std.proofs.Common.{◌≡◌, ◌∙◌, ◌+◌, ◌<◌, ◌≤◌, ℕ, suc, Bool, true, false, List, refl, sym, subst, arith}
 use Rattle.atomic_table.specs.declared.shared.Seat.{Seat}
 use Rattle.arena.specs.declared.step.Step.{Step}
 use Rattle.arena.specs.declared.machine.Turn.{Turn}
@@ -75,10 +75,6 @@ module _ {K V : Type 0} (valid_key : K → Type 0) (key : K → ℕ) (valid_valu
           on : (t : Turn (Reply K V)) → DictStands (next_call o.began.value x.pass.is_pass) s.me.0.passes x.first m t → IsRun (TypedAllows (IsWordOf valid_key key) (IsWordOf valid_value value)) o.began.value.layout (history_of o.began.value.layout.mode (known_of s.me.0.passes))
           on (Ask u) z = rw z.is z.sound
           on (Done a) z = rw z.is z.sound
-
-      -- it has made one step more
-      pub one_more : seat_steps s.me.0.passes - steps_of o.began.value ≡ suc (seat_steps o.seat.me.0.passes - steps_of o.began.value)
-      one_more = let z = x.since in omega (arith, one, z)
 
       module _ (nearer : MatchTurn turn (λ _. map_left m.run (shared_nodes o.layout) < map_left o.run.run (shared_nodes o.layout)) (λ _. Unit {0})) where
         few : seat_steps s.me.0.passes + weight turn (map_left m.run (shared_nodes o.layout)) ≤ steps_of o.began.value + most_steps (call_in o.run.run) o.run.tries (shared_nodes o.layout)

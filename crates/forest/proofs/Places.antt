@@ -1,26 +1,18 @@
 -- From place to place of a call.
-use Rattle.std.proofs.Common.{ℕ, List, Option, None, Some, refl, sym}
+use Rattle.std.proofs.Common.{ℕ, List, Option, None, refl, sym}
 use Rattle.arena.specs.declared.layout.Layout.{Layout}
 use Rattle.arena.specs.declared.step.Step.{Step}
 use Rattle.arena.specs.History.{History}
 use Rattle.arena.specs.declared.machine.Turn.{Turn}
 use Rattle.arena.specs.Machines.{Call, IsRun, MatchTurn}
 use Rattle.forest.specs.declared.view.SeatedPass.{SeatedPass}
-use Rattle.forest.specs.Traces.{CallBegins, Waits, Told, Ends, Stands, begins, goes_on}
+use Rattle.forest.specs.Traces.{CallBegins, Waits, Stands, begins, goes_on}
 use Rattle.forest.proofs.Advances.{turn_map}
 
 module _ {M : Type 0} (allows : Layout → History → ℕ → Type 0) (ready : M → Call → History → Option ℕ → Type 0) (waits : M → Call → History → Step → Type 0) (same : M → M → Type 0) (c : Call) (ps : List SeatedPass) (first : M) where
   -- its first turn takes it to a place
   pub starts : (now : M) (step : Step) → same first now → ((h : History) → IsRun allows c.layout h → ready first c h None → waits now c h step) → CallBegins allows ready c ps first → Waits allows waits same c ps first now step
   starts now step is turn x = record { known = x.known; is = x.is; sound = x.sound; so = (turn _ x.sound x.so.1, goes_on first is (begins refl (sym x.so.0))) }
-
-  -- a turn takes it to the next
-  pub goes : (m now : M) (v : ℕ) (step : Step) → same m now → ((h : History) → IsRun allows c.layout h → ready m c h (Some v) → waits now c h step) → Told allows waits same c ps first ready m v → Waits allows waits same c ps first now step
-  goes m now v step is turn x = record { known = x.known; is = x.is; sound = x.sound; so = (turn _ x.sound x.so.0, goes_on m is x.so.1) }
-
-  -- and the last one to its answer
-  pub ends : {A : Type 0} (answers : M → Call → History → A → Type 0) (m now : M) (v : ℕ) (a : A) → same m now → ((h : History) → IsRun allows c.layout h → ready m c h (Some v) → answers now c h a) → Told allows waits same c ps first ready m v → Ends allows waits same c ps first answers now a
-  ends answers m now v a is turn x = record { known = x.known; is = x.is; sound = x.sound; so = (turn _ x.sound x.so.0, goes_on m is x.so.1) }
 
   -- its machine's first turn
   pub stands : {A : Type 0} (now : M) (turn : Turn A) (answers : M → Call → History → A → Type 0) → same first now → ((h : History) → IsRun allows c.layout h → ready first c h None → MatchTurn turn (waits now c h) (answers now c h)) → CallBegins allows ready c ps first → Stands allows waits same c ps first answers now turn

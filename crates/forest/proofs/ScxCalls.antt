@@ -26,17 +26,14 @@ use Rattle.prims.specs.declared.scx.Scx.TheVariants.{Done, Lost}
 use Rattle.prims.specs.declared.scx.ScxAt.TheVariants.{Start as ScxStart}
 use Rattle.prims.specs.declared.put.PutRun.{PutRun}
 use Rattle.prims.specs.declared.put.PutAt.TheVariants.{Start as PutStart}
-use Rattle.arena.specs.Share.{after_taking, IsFull, IsFullOf}
-use Rattle.arena.specs.declared.fault.Full.{Full}
-use Rattle.arena.specs.declared.fault.Resource.{Resource}
-use Rattle.arena.specs.declared.fault.Resource.TheVariants.{Nodes, Scx as ScxRecords}
+use Rattle.arena.specs.Share.{after_taking}
 use Rattle.forest.specs.declared.view.SeatView.{SeatView}
 use Rattle.forest.specs.declared.pass.Pass.TheInside.{Inside}
 use Rattle.forest.specs.TableRule.{history_of, seated_pass}
 use Rattle.forest.specs.Traces.{Trace, HoldsForCall, known_of, seat_steps}
 use Rattle.forest.specs.Shares.{entries_of}
 use Rattle.forest.specs.Puts.{IsPutOver}
-use Rattle.forest.specs.Passes.{AreOfCall, HasGoneOn, IsLaterView, CanUse, HasLeftAlone, Each, ScxSays, IsAllTaken, IsUsedUp, done_of, taken_of}
+use Rattle.forest.specs.Passes.{AreOfCall, HasGoneOn, IsLaterView, CanUse, HasLeftAlone, Each, ScxSays, done_of, taken_of}
 use Rattle.forest.specs.PassInvariant.{pass_view, IsPass}
 use Rattle.forest.proofs.Frames.{CarriesOn}
 use Rattle.forest.proofs.Calls.{HasHand, course_keeps, put_goes, put_rests}
@@ -90,15 +87,6 @@ in_entries c e (x ∷ es) rest q = go (eqb x.owner c) q (in_entries c e es rest)
     go : (t : Bool) → cond t (x ∷ entries_of c es) (entries_of c es) ≡ e ∷ rest → (entries_of c es ≡ e ∷ rest → IsIn e es) → IsIn e (x ∷ es)
     go true p more = subst (λ y. IsIn y (x ∷ es)) (first x e _ _ p) (newest es)
     go false p more = older x es (more p)
-
--- A share that is used up
-
-pub used_up : {T : Type 0} (p : Inside T) (x : IsPass AllowsAll Records p) (f : Full) → IsFull p.share f → IsUsedUp (pass_view p) f
-used_up p x f full = (full, go f.what full)
-  where
-    go : (what : Resource) → IsFullOf p.share what f.left → IsAllTaken (pass_view p) what
-    go Nodes q = λ n own. x.rest.share.taken_nodes n own (let a = own.below in let b = x.rest.share.to_node in let z = q.0 in omega arith)
-    go ScxRecords q = λ s own. x.rest.share.taken_scx s own (let a = own.below in let b = x.rest.share.to_scx in let z = q.1 in omega arith)
 
 -- Calls
 

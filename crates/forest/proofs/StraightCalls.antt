@@ -16,10 +16,8 @@ use Rattle.order.specs.declared.range.Range.{Range as RangeRead}
 use Rattle.order.specs.declared.refused.Refused.{Refused}
 use Rattle.order.specs.declared.run.ReadAt.TheVariants.{Start as ReadStart}
 use Rattle.order.specs.declared.run.ReadRun.{ReadRun}
-use Rattle.arena.specs.declared.word.Side.{Side}
-use Rattle.arena.specs.declared.word.Side.TheVariants.{Left, Right}
 use Rattle.ordered_map.specs.declared.pair.Pair.{Pair}
-use Rattle.ordered_map.specs.OrderedMap.{MapCall, OnePair}
+use Rattle.ordered_map.specs.OrderedMap.{MapCall}
 use Rattle.edits.specs.Next.{standing}
 use Rattle.edits.specs.Steps.{node_tries, scx_tries}
 use Rattle.edits.specs.declared.update.UpdateAt.{UpdateAt}
@@ -36,7 +34,6 @@ use Rattle.ordered_map.specs.declared.rule.Rule.{Rule}
 use Rattle.tree.specs.KeyEdit.Means.{key_means}
 use Rattle.tree.specs.declared.key_edit.KeyEdit.{KeyEdit}
 use Rattle.dict.specs.Inner.{InnerRun, Read, ReadKind, Update, by_values, inner, range_kind, successor_kind}
-use Rattle.ordered_map.specs.declared.rule.Goal.TheVariants.{End}
 use Rattle.dict.specs.Known.{Goes, HasRested, InnerAnswers, IsReadyInside, StandsAtStart, WaitsInside}
 use Rattle.dict.specs.Laws.Kinds.{IsReadKind, range_is, successor_is}
 use Rattle.dict.specs.declared.run.MapRun.{MapRun}

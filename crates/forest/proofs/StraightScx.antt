@@ -113,8 +113,3 @@ module _ (r : Option MemberIndex) (j : MemberIndex) (count : ℕ) (valid : IsSom
       go : (q : Option MemberIndex) → (IsSome q ↔ ((member_index j < 3) × (member_index j + 1 < count))) → IfNone q Q
       go (Some k) v = tt
       go None v = f (λ y. let z = v.1 (y.0, let w = y.1 in omega (arith, w)) in cc)
-
--- behind the fourth there is none
-pub none_behind : (r : Option MemberIndex) (n : ℕ) → IfSome r (λ next. (member_index next ≡ n + 1) × (member_index next < 4)) → n ≡ 3 → (Q : Type 0) → IfNone r Q → Q
-none_behind (Some k) n x is Q q = absurd (let a = x.0 in let b = x.1 in omega (arith, a, b, is))
-none_behind None n x is Q q = q

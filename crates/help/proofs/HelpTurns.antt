@@ -10,7 +10,7 @@ use Rattle.arena.specs.declared.number.MemberIndex.{MemberIndex}
 use Rattle.arena.specs.declared.number.MemberIndex.TheVariants.{First, Second, Third, Fourth}
 use Rattle.arena.specs.declared.step.Access.TheVariants.{Load, Store, Exchange}
 use Rattle.arena.specs.declared.step.Kind.TheVariants.{LoadAllFrozen, Freeze, SetFrozen, Mark, Update, Commit, Abort}
-use Rattle.arena.specs.declared.word.ScxWord.TheVariants.{AllFrozen, Plan, New, Old, Member, Seen}
+use Rattle.arena.specs.declared.word.ScxWord.TheVariants.{AllFrozen, New, Old, Member, Seen}
 use Rattle.arena.specs.MemberIndex.{member_index}
 use Rattle.arena.specs.Words.{scx, info, marked, child, state}
 use Rattle.arena.specs.History.{History, value}
@@ -104,10 +104,6 @@ module _ (allows : Layout → History → ℕ → Type 0) (lay : Layout) (c : �
 
 module _ {allows : Layout → History → ℕ → Type 0} {lay : Layout} {c : ℕ} {h : History} (m : Reading) (l : Lawful lay h) where
   -- The plan
-
-  -- from the start, the run goes on to load the plan
-  pub to_plan : IsServed allows lay c h m.scx → HelpWaitsAt allows lay c h m AtPlan (settled_load m.scx Plan)
-  to_plan x = record { known = x; asked = refl }
 
   -- once it has read the plan, it loads the first `v` word
   pub to_member : (v : ℕ) → HelpIsTold allows lay c h m AtPlan v → HelpWaitsAt allows lay c h (record m { plan = v }) (AtMember First) (settled_load m.scx (Member 0))

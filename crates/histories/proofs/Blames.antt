@@ -1,6 +1,6 @@
 -- Whatever comes between two moments of a node, an SCX-record in progress that covers the node was
 -- in the way.
-use Rattle.std.proofs.Common.{◌≡◌, ◌≢◌, ℕ, Bool, true, false, inl, inr, ⊎_elim, refl, sym, ◌∙◌, ap, subst, arith, ◌||◌}
+use Rattle.std.proofs.Common.{◌≡◌, ◌≢◌, ℕ, Bool, true, false, inl, inr, ⊎_elim, refl, sym, ◌∙◌, ap, subst, arith}
 use native.Mathlib.Decide.{ℕ_discrete}
 use Rattle.arena.specs.declared.layout.Layout.{Layout}
 use Rattle.arena.specs.declared.word.Word.{Word}
@@ -9,23 +9,17 @@ use Rattle.arena.specs.declared.step.Row.{Row}
 use Rattle.arena.specs.Words.{same_word, info, marked, scx, state}
 use Rattle.arena.specs.History.{History, Start, ◌⊳◌, value, HasHeld, Extends}
 use Rattle.arena.specs.ScxRecords.{member}
-use Rattle.arena.specs.Fills.{IsNamedScx}
 use Rattle.arena.specs.Lawful.{Lawful}
-use Rattle.arena.specs.Log.{log, is_final, has}
 use Rattle.arena.specs.Blame.{IsMember, WasInTheWay}
 use Rattle.arena.proofs.Lemmas.{value_apart, value_other, held_at, held_now, held_more, word_same}
 use Rattle.histories.specs.Descriptor.{descriptor}
-use Rattle.histories.specs.Finalizing.{IsRemoved}
 use Rattle.histories.proofs.Changes.{lawful_tail}
 use Rattle.histories.proofs.Facts.{IsCell, Facts, some_is_real}
 use Rattle.histories.proofs.Keeps.{Marks}
 use Rattle.histories.proofs.Freezes.{freeze_in_progress, freeze_keeps_scx, freeze_keeps_info, freeze_keeps_mark, freeze_stores, freeze_real}
-use Rattle.histories.proofs.Updates.{update_in_progress, update_keeps_scx, update_keeps_info, update_keeps_mark, update_flagged}
+use Rattle.histories.proofs.Updates.{update_keeps_info, update_keeps_mark}
 use Rattle.histories.proofs.Always.{Effect, quiet, freeze, update, effect, facts, facts_before}
-use Rattle.histories.proofs.Moments.{descriptor_stays, named_scx_more, sealed}
-use Rattle.histories.proofs.Members.{is_removed_of}
-use Rattle.histories.proofs.Fields.{entry_of, Logs, same, wins, logs}
-use Rattle.histories.proofs.Entries.{removed_stays}
+use Rattle.histories.proofs.Moments.{sealed}
 
 -- what was in the way before a row was so after it
 pub earlier : {h m : History} {n s : ℕ} (r : Row) → WasInTheWay h m n s → WasInTheWay (r ⊳ h) m n s
@@ -107,36 +101,3 @@ blame_mark lay (r ⊳ h) m n l (inr e) z d = go (ℕ_discrete (value h (marked n
         by_effect (quiet k) = ⊎_elim (λ q. absurd (d (q ∙ x))) (marks (k.info n)) (k.mark n)
         by_effect (freeze u j w) = absurd (d (freeze_keeps_mark f w n ∙ x))
         by_effect (update u w) = absurd (d (update_keeps_mark f w n ∙ x))
-
--- the node is final and was not
-pub blame_final : (lay : Layout) (h m : History) (n : ℕ) → Lawful lay h → Extends h m → is_final (log lay m) n ≡ false → is_final (log lay h) n ≡ true → (s : ℕ) × WasInTheWay h m n s
-blame_final lay (Start mode) m n l e z d = let q : is_final (log lay m) n ≡ is_final (log lay (Start mode)) n = ap (λ k. is_final (log lay k) n) e in cc
-blame_final lay (r ⊳ h) m n l (inl e) z d = let q : is_final (log lay m) n ≡ is_final (log lay (r ⊳ h)) n = ap (λ k. is_final (log lay k) n) e in cc
-blame_final lay (r ⊳ h) m n l (inr e) z d = go (logs lay h r l) (blame_final lay h m n (lawful_tail lay h r l) e z)
-  where
-    f : Facts lay h
-    f = facts_before lay h r l
-
-    more_of : (is_final (log lay h) n ≡ true → (s : ℕ) × WasInTheWay h m n s) → is_final (log lay h) n ≡ true → (s : ℕ) × WasInTheWay (r ⊳ h) m n s
-    more_of more q = let y : (s : ℕ) × WasInTheWay h m n s = more q in (y.0, earlier r y.1)
-
-    go : Logs lay h r → (is_final (log lay h) n ≡ true → (s : ℕ) × WasInTheWay h m n s) → (s : ℕ) × WasInTheWay (r ⊳ h) m n s
-    go (same q back) more = more_of more (rw q at d)
-    go (wins u w q) more = split (has (entry_of lay h u).removed n) refl (rw q at d)
-      where
-        split : (t : Bool) → has (entry_of lay h u).removed n ≡ t → t || is_final (log lay h) n ≡ true → (s : ℕ) × WasInTheWay (r ⊳ h) m n s
-        split false x y = more_of more y
-        split true x y =
-            let real : u ≢ 0 = some_is_real f (update_flagged f w).some in
-            let named : IsNamedScx h u = (member h u 0, (update_flagged f w).frozen 0 (update_flagged f w).some) in
-            let c : IsRemoved (r ⊳ h) u n = removed_stays h (r ⊳ h) n u (descriptor_stays lay h r u l real named) (is_removed_of h u n x) in (
-              u,
-              record {
-                row = r;
-                before = h;
-                within = inl refl;
-                since = e;
-                running = record { unfinished = update_keeps_scx f w u State ∙ update_in_progress f w; named = named_scx_more r h u named };
-                covers = record { index = c.index; within = c.within; is = c.is };
-              },
-            )

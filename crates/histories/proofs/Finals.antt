@@ -18,7 +18,7 @@ use Rattle.arena.specs.Blame.{IsMember}
 use Rattle.arena.specs.ScxRecords.{plan, side_of, field_index, member}
 use Rattle.arena.proofs.Lemmas.{node_apart}
 use Rattle.histories.proofs.Freezes.{freeze_keeps_field}
-use Rattle.histories.specs.Finalizing.{IsFinalizing, IsRemoved}
+use Rattle.histories.specs.Finalizing.{IsRemoved}
 use Rattle.histories.specs.Descriptor.{descriptor}
 use Rattle.histories.proofs.Changes.{UpdateWins, lawful_tail}
 use Rattle.histories.proofs.Updates.{update_is_first, update_holds, update_keeps_other}
@@ -41,13 +41,6 @@ finalizer_holds {lay} {h} {n} {s} f x = rw x.removed.is at (f.finalizes s (flag_
 -- so a node has one finalizer
 pub one_finalizer : {lay : Layout} {h : History} {n s u : ℕ} → Facts lay h → IsFinalizedBy h n s → IsFinalizedBy h n u → s ≡ u
 one_finalizer f x y = sym (finalizer_holds f x) ∙ finalizer_holds f y
-
--- an SCX-record whose flag is set holds what it finalizes, so a node has one of them too
-pub finalizing_holds : {lay : Layout} {h : History} {n s : ℕ} → Facts lay h → IsFinalizing h n s → value h (info n) ≡ s
-finalizing_holds {lay} {h} {n} {s} f x = rw x.removed.is at (f.finalizes s (λ e. let y = x.flag in omega arith) x.removed.index x.removed.within x.removed.removed)
-
-pub one_finalizing : {lay : Layout} {h : History} {n s u : ℕ} → Facts lay h → IsFinalizing h n s → IsFinalizing h n u → s ≡ u
-one_finalizing f x y = sym (finalizing_holds f x) ∙ finalizing_holds f y
 
 -- a final node is marked
 pub final_marked : (lay : Layout) (h : History) (n : ℕ) → Lawful lay h → is_final (log lay h) n ≡ true → value h (marked n) ≡ 1
@@ -102,9 +95,6 @@ aborted_unmarked lay h n s l e a = go (ℕ_discrete (value h (marked n)) 0)
     go (yes z) = z
     go (no d) = absurd (let x = (marked_final lay h n s l d e (λ q. omega arith)).committed in omega arith)
 
-pub final_at_rest : (lay : Layout) (h : History) (n s : ℕ) → Lawful lay h → value h (marked n) ≢ 0 → value h (info n) ≡ s → value h (state s) ≢ 0 → is_final (log lay h) n ≡ true
-final_at_rest lay h n s l m e d = by_final lay h n s l (marked_final lay h n s l m e d).by
-
 -- before an update wins, none of its SCX-record's nodes is final
 pub win_not_final : (lay : Layout) (h : History) (r : Row) (u n : ℕ) → Lawful lay (r ⊳ h) → UpdateWins h r u → IsMember h u n → is_final (log lay h) n ≡ false
 win_not_final lay h r u n l w x = go (is_final (log lay h) n) refl
@@ -125,9 +115,6 @@ pub final_stays : (lay : Layout) (h : History) (r : Row) (n : ℕ) → Lawful la
 final_stays lay h r n l e =
     let by : (s : ℕ) × IsFinalizedBy h n s = final_by lay h n (lawful_tail lay h r l) e in
     by_final lay (r ⊳ h) n by.0 l (finalized_by_stays lay h r n by.0 l by.1)
-
-pub final_since : (lay : Layout) (h m : History) (n : ℕ) → Lawful lay h → Extends h m → is_final (log lay m) n ≡ true → is_final (log lay h) n ≡ true
-final_since lay h m n = since (λ k. is_final (log lay k) n ≡ true) lay (λ h r l e. final_stays lay h r n l e) h m
 
 -- no lawful row changes a word of a final node
 pub final_unchanged : (lay : Layout) (h : History) (r : Row) (n : ℕ) (part : NodeWord) → Lawful lay (r ⊳ h) → is_final (log lay h) n ≡ true → value (r ⊳ h) (node n part) ≡ value h (node n part)

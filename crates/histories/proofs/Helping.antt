@@ -7,12 +7,11 @@ use Rattle.arena.specs.declared.word.ScxWord.TheVariants.{AllFrozen}
 use Rattle.arena.specs.declared.step.Row.{Row}
 use Rattle.arena.specs.declared.step.Kind.TheVariants.{Update}
 use Rattle.arena.specs.Words.{info, scx, state}
-use Rattle.arena.specs.History.{History, ◌⊳◌, value, HasHeld, Extends}
+use Rattle.arena.specs.History.{History, ◌⊳◌, value, Extends}
 use Rattle.arena.specs.ScxRecords.{count, member, seen, old, field_index}
-use Rattle.arena.specs.Fills.{IsNamedScx}
 use Rattle.arena.specs.Log.{log, IsEntered}
 use Rattle.arena.specs.Lawful.{IsExchange, IsFrozen, AreFrozen, AllAreFrozen, IsFreeze, IsSetFrozen, IsUpdate, IsAbort, HasWon, Lawful}
-use Rattle.arena.proofs.Lemmas.{value_at, held_more, held_at, held_back}
+use Rattle.arena.proofs.Lemmas.{held_more, held_back}
 use Rattle.histories.specs.Progress.{IsStarted, IsOver, IsStuck}
 use Rattle.histories.specs.Descriptor.{descriptor}
 use Rattle.histories.proofs.Changes.{lawful_tail, lawful_row}
@@ -21,7 +20,7 @@ use Rattle.histories.proofs.Freezes.{first_frozen, freeze_stuck, freeze_is_new, 
 use Rattle.histories.proofs.Updates.{update_won, update_keeps_info, update_held}
 use Rattle.histories.proofs.Always.{Effect, quiet, freeze, update, effect, facts, facts_before}
 use Rattle.histories.proofs.Moments.{descriptor_stays, named_scx_more, state_stays, state_since}
-use Rattle.histories.proofs.Entries.{won_named, entered_won}
+use Rattle.histories.proofs.Entries.{entered_won}
 
 pub started_more : (r : Row) (h : History) (s : ℕ) → IsStarted h s → IsStarted (r ⊳ h) s
 started_more r h s x = record { real = x.real; named = named_scx_more r h s x.named }
@@ -75,14 +74,6 @@ helper_freezes lay h r s j l started i earlier b w x = record {
     first z e =
         let p : IsFrozen h s j = rw z (started_first lay h s l started) in
         (about lay h s l started).gone j i p (rw w at (sym b) ∙ e)
-
--- after a freezing exchange that won, or that found the SCX-record's own number, the node is frozen
-pub frozen_after : (lay : Layout) (h : History) (r : Row) (s j : ℕ) → Lawful lay (r ⊳ h) → IsStarted h s → r.word ≡ info (member h s j) → r.after ≡ s → IsFrozen (r ⊳ h) s j
-frozen_after lay h r s j l started w a =
-    let d = descriptor_stays lay h r s l started.real started.named in
-    let here : HasHeld (r ⊳ h) (info (member h s j)) s = held_at (r ⊳ h) (info (member h s j)) s (value_at r h (info (member h s j)) w ∙ a) in
-    let same : member (r ⊳ h) s j ≡ member h s j = λ i. (d i).member j in
-    rw same here
 
 -- Once a freezing exchange has found neither value
 
@@ -214,7 +205,3 @@ committed_won lay h s l e = go ((facts lay h l).ended s (λ z. omega arith))
 -- an aborted SCX-record has no entry, then or later
 pub aborted_no_entry : (lay : Layout) (h m : History) (s : ℕ) → Lawful lay h → Extends h m → value m (state s) ≡ 2 → ¬ IsEntered (log lay h) s
 aborted_no_entry lay h m s l e a i = aborted_never_won lay h s l (state_since lay h m s l e (λ z. omega arith) ∙ a) (entered_won lay h s l i)
-
--- nor has one that no info word names
-pub free_no_entry : (lay : Layout) (h : History) (s : ℕ) → Lawful lay h → ¬ IsNamedScx h s → ¬ IsEntered (log lay h) s
-free_no_entry lay h s l free i = free (won_named s (facts lay h l) (entered_won lay h s l i))

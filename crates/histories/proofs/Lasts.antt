@@ -15,7 +15,7 @@ use Rattle.histories.proofs.Facts.{Facts}
 use Rattle.histories.proofs.Updates.{update_about, update_flagged, update_in_progress, update_keeps_info, update_won}
 use Rattle.histories.proofs.Always.{facts_before}
 use Rattle.histories.proofs.Moments.{Still, still, named_since, state_since}
-use Rattle.histories.proofs.Members.{is_member, is_removed_of, has_member}
+use Rattle.histories.proofs.Members.{is_member, is_removed_of}
 use Rattle.histories.proofs.Fields.{entry_of, Logs, same, wins, logs}
 
 -- before its update wins, an SCX-record holds each of its nodes
@@ -70,10 +70,6 @@ last_waits lay h r n s l here waits = unless lay h r n l never
 
     never : (u : ℕ) → UpdateWins h r u → ¬ IsMember h u n
     never u w x = let q : u ≡ s = sym (holds_member f w x) ∙ here in waits (rw q at (update_won f w))
-
--- the entry of an update that wins is the last of each of its nodes
-pub last_wins : (lay : Layout) (h : History) (u n : ℕ) (es : List Entry) → IsMember h u n → last (entry_of lay h u ∷ es) n ≡ suc (length es)
-last_wins lay h u n es x = rw (has_member h u n x.index x.within x.is) refl
 
 -- since a moment at which the info of the node named what it still names and what was finished then
 pub last_since : (lay : Layout) (h m : History) (n s : ℕ) → Lawful lay h → Extends h m → IsNamed lay m n → value m (state s) ≢ 0 → value h (info n) ≡ s → Same (log lay h) (log lay m) n

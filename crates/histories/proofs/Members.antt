@@ -25,18 +25,6 @@ among h s j (suc k) n e = ⊎_elim
     (λ b. later h s j k n (among h s (suc j) k n b))
     (or_split _ _ e)
 
-has_among : (h : History) (s j k n i : ℕ) → j ≤ i → i < j + k → member h s i ≡ n → has (members_from h s j k) n ≡ true
-has_among h s j zero n i a b e = absurd (omega arith)
-has_among h s j (suc k) n i a b e = go (grind arith) (λ q. has_among h s (suc j) k n i q (omega arith) e)
-  where
-    go : (i ≡ j) ⊎ (suc j ≤ i) → (suc j ≤ i → has (members_from h s (suc j) k) n ≡ true) → has (members_from h s j (suc k)) n ≡ true
-    go (inl q) more = or_left _ _ (eq-eqb _ _ (rw q at e))
-    go (inr q) more = or_right _ _ (more q)
-
--- the nodes of an entry
-pub has_member : (h : History) (s n j : ℕ) → j < count h s → member h s j ≡ n → has (members_from h s 0 (count h s)) n ≡ true
-has_member h s n j i e = has_among h s 0 (count h s) n j (omega arith) (omega arith) e
-
 -- and no others
 pub is_member : (h : History) (s n : ℕ) → has (members_from h s 0 (count h s)) n ≡ true → IsMember h s n
 is_member h s n e = let x : IsAmong h s 0 (count h s) n = among h s 0 (count h s) n e in record { index = x.index; within = let a = x.below in omega arith; is = x.is }

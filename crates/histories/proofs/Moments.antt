@@ -188,12 +188,6 @@ named_since lay h m n = since (λ k. IsNamed lay k n) lay (λ h r l p. named_mor
 pub state_since : (lay : Layout) (h m : History) (s : ℕ) → Lawful lay h → Extends h m → value m (state s) ≢ 0 → value h (state s) ≡ value m (state s)
 state_since lay h m s l e d = since (λ k. value k (state s) ≡ value m (state s)) lay (λ h r l p. state_stays lay h r s l (λ q. d (sym p ∙ q)) ∙ p) h m l e refl
 
-pub all_frozen_since : (lay : Layout) (h m : History) (s : ℕ) → Lawful lay h → Extends h m → value m (scx s AllFrozen) ≡ 1 → value h (scx s AllFrozen) ≡ 1
-all_frozen_since lay h m s = since (λ k. value k (scx s AllFrozen) ≡ 1) lay (λ h r l. all_frozen_stays lay h r s l) h m
-
-pub marked_since : (lay : Layout) (h m : History) (n : ℕ) → Lawful lay h → Extends h m → value m (marked n) ≡ 1 → value h (marked n) ≡ 1
-marked_since lay h m n = since (λ k. value k (marked n) ≡ 1) lay (λ h r l. marked_stays lay h r n l) h m
-
 pub won_since : (lay : Layout) (h m : History) (s : ℕ) → Lawful lay h → Extends h m → HasWon m s → HasWon h s
 won_since lay h m s = since (λ k. HasWon k s) lay (λ h r l. won_more r h s) h m
 

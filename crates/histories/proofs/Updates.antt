@@ -103,9 +103,6 @@ module _ {lay : Layout} {h : History} {r : Row} {u : ℕ} (f : Facts lay h) (w :
   pub update_keeps_mark : (n : ℕ) → value (r ⊳ h) (marked n) ≡ value h (marked n)
   update_keeps_mark n = value_apart r h (field h u) (marked n) w.update.word (node_word_apart _ n (Child (side_of (plan h u))) Marked refl)
 
-  pub update_stores : value (r ⊳ h) (field h u) ≡ new h u
-  update_stores = value_at r h (field h u) w.update.word ∙ w.stored
-
   pub update_descriptor : (s : ℕ) → descriptor (r ⊳ h) s ≡ descriptor h s
   update_descriptor s = descriptor_same h (r ⊳ h) s (λ c i. update_keeps_scx s c)
 

@@ -11,8 +11,8 @@ use Rattle.arena.specs.declared.step.Row.{Row}
 use Rattle.arena.specs.Layout.{all_scx}
 use Rattle.arena.specs.Words.{node, scx, info}
 use Rattle.arena.specs.History.{History, value}
-use Rattle.arena.specs.Lawful.{Lawful, IsFreeze, IsMark, IsUpdate}
-use Rattle.arena.specs.ScxRecords.{count, count_of, member, seen, old, field_index}
+use Rattle.arena.specs.Lawful.{Lawful, IsMark, IsUpdate}
+use Rattle.arena.specs.ScxRecords.{count, count_of, member, old, field_index}
 use Rattle.histories.proofs.Lemmas.{UpdateWins, facts, update_holds}
 use Rattle.judge.proofs.Spreading.{same_or}
 use Rattle.judge.proofs.Words.{value_outside}
@@ -59,7 +59,3 @@ update_found lay h r s n part l k b e changed u = ⊎_elim
     ap (λ m. value h (info m)) at ∙ update_holds (facts lay h l) w)
     (λ lost. absurd (changed (sym (u.exchange.lost lost))))
     (same_or r.before (old h s))
-
--- a freeze that changes its word is for the one that it stores
-pub freeze_found : (lay : Layout) (h : History) (r : Row) (s j : ℕ) → r.before ≢ r.after → IsFreeze lay h r s j → r.after ≡ s
-freeze_found lay h r s j changed f = ⊎_elim (λ found. f.exchange.won found) (λ lost. absurd (changed (sym (f.exchange.lost lost)))) (same_or r.before (seen h s j))

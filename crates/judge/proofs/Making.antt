@@ -2,10 +2,7 @@
 use Rattle.std.proofs.Common.{◌≡◌, ℕ, ◌+◌, cond, ◌++◌, List, vec_len, true, refl, sym, ◌∙◌, subst}
 use Rattle.std.specs.Prelude.{slice_set}
 use Rattle.arena.specs.declared.layout.Layout.{Layout}
-use Rattle.arena.specs.declared.word.Word.{Word}
-use Rattle.arena.specs.declared.word.Word.TheVariants.{Node, Scx}
 use Rattle.arena.specs.declared.step.Row.{Row}
-use Rattle.arena.specs.Layout.{IsWord}
 use Rattle.arena.specs.History.{History, Start, ◌⊳◌}
 use Rattle.arena.specs.Lawful.{Lawful, IsLawful}
 use Rattle.arena.specs.PlainWords.{IsChanged}
@@ -13,7 +10,7 @@ use Rattle.arena.specs.ScxRecords.{count_of}
 use Rattle.histories.proofs.Lemmas.{lawful_more}
 use Rattle.judge.specs.Histories.{history_of_rows}
 use Rattle.judge.specs.Graph.{links_of}
-use Rattle.judge.specs.Naming.{IsNaming, IsInside, NamingStands, word_links, named_links}
+use Rattle.judge.specs.Naming.{IsNaming, NamingStands, word_links, named_links}
 use Rattle.judge.specs.Uses.{fields_after, users_after}
 use Rattle.judge.specs.Freezing.{frozen_after, FreezingStands}
 use Rattle.judge.specs.Enters.{makes_entry}
@@ -74,10 +71,6 @@ stands_more lay h r old new table s x m =
     }
 
 -- what the steps of the code ask
-
-pub inside_naming : (lay : Layout) (h : History) (w : Word) (n : Naming) → NamingStands lay h n → IsWord lay w → IsInside n w
-inside_naming lay h (Node m part) n s i = rw s.nodes i
-inside_naming lay h (Scx u part) n s i = rw s.scxs i.0
 
 -- where a table and its rows are known by other names
 pub stands_at : (lay : Layout) (rows : List Row) (j : Inside) → j.words.layout ≡ lay → j.past ≡ rows → StandsFor lay (history_of_rows lay.mode rows) j → StandsFor j.words.layout (history_of_rows j.words.layout.mode j.past) j

@@ -1,7 +1,7 @@
 -- A row, and what fields and `new` have held.
 use Rattle.std.proofs.Common.{◌≡◌, ◌≢◌, ◌↔◌, ℕ, zero, suc, ◌+◌, ◌<◌, ◌⊎◌, inl, inr, ⊎_elim, Bool, true, false, not, IsTrue, cond, eqb, List, length, replicate, refl, sym, ◌∙◌, ap, subst, arith, get_or-set_other, get_or-set_same, eq-eqb, ne_eqb}
 use Rattle.std.proofs.Math.ListN.{length-set}
-use Rattle.std.specs.Prelude.{slice_set, slice_index_or}
+use Rattle.std.specs.Prelude.{slice_index_or}
 use Rattle.arena.specs.declared.layout.Layout.{Layout}
 use Rattle.arena.specs.declared.limits.Mode.{Mode}
 use Rattle.arena.specs.declared.limits.Mode.TheVariants.{Tree, Records}
@@ -224,9 +224,3 @@ pub no_users : (size n : ℕ) → users_of (replicate size Nobody) n ≡ Nobody
 no_users zero n = refl
 no_users (suc size) zero = refl
 no_users (suc size) (suc n) = no_users size n
-
-pub flag_next : (flags : List Bool) (k : ℕ) → k < length flags → ((n : ℕ) → slice_index_or flags n false ≡ true ↔ (n < k)) → (n : ℕ) → slice_index_or (slice_set flags k true) n false ≡ true ↔ (n < k + 1)
-flag_next flags k l p n = ⊎_elim
-    (λ e. (λ t. omega (e, arith), λ x. rw e (set_here flags k l)))
-    (λ d. let there = set_there flags k n d in (λ t. let x = (p n).0 (sym there ∙ t) in omega (x, arith), λ x. there ∙ (p n).1 (omega (x, d, arith))))
-    (same_or n k)

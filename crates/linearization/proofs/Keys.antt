@@ -5,8 +5,7 @@ use Rattle.std.proofs.lemmas.Bool.{cases_order, cases_eq}
 use Rattle.std.proofs.lemmas.List.{get_or_default}
 use Rattle.std.specs.Ordering.{nat_cmp}
 use Rattle.std.specs.BTreeMap.{get as get_newest}
-use Rattle.ordered_map.specs.declared.pair.Pair.{Pair}
-use Rattle.ordered_map.specs.OrderedMap.{first_pair, get}
+use Rattle.ordered_map.specs.OrderedMap.{get}
 use Rattle.script.specs.declared.call.Call.{Call}
 use Rattle.record.specs.declared.record.Line.{Line}
 use Rattle.record.specs.MapRecord.{map_at, written_log}
@@ -16,7 +15,6 @@ use Rattle.linearization.specs.Links.{latest}
 use Rattle.linearization.specs.Places.{changes, HoldsOfKey, Knows}
 use Rattle.linearization.specs.declared.places.Places.{Places}
 use Rattle.linearization.proofs.Chains.{never}
-use Rattle.linearization.proofs.Told.{first_has}
 use Rattle.linearization.proofs.Values.{value_is}
 
 wider_key : (P Q : ℕ → Type 0) (key : Option ℕ) → ((k : ℕ) → P k → Q k) → IfSome key P → IfSome key Q
@@ -58,7 +56,3 @@ knows_told p calls lines m key value are has =
     let never_put : latest key (reverse p.list.items) ≡ None = sym (p.newest_are key) ∙ none in
     let y : None ≡ Some value = sym (never key m (reverse p.list.items) never_put) ∙ sym (value_is calls (written_log lines) (changes p) key m are) ∙ has in
     cc)
-
--- so is the first of the map
-pub knows_first : (p : Places) (calls : List Call) (lines : List Line) (m : ℕ) (first : Pair) → AreEntries calls lines (changes p) → first_pair (map_at calls lines m) ≡ Some first → Knows p first.key
-knows_first p calls lines m first are is = knows_told p calls lines m first.key first.value are (first_has (map_at calls lines m) first is)

@@ -1,10 +1,10 @@
 -- What an ordered read tells depends on the values of a few keys: those that it reaches.
-use Rattle.std.proofs.Common.{◌≡◌, ◌≢◌, ℕ, zero, suc, ◌<◌, ◌≤◌, ◌⊎◌, inl, inr, ⊎_elim, Bool, true, false, cond, ◌&&◌, ◌||◌, not, eqb, leb, ltb, List, [], ◌∷◌, length, take, Option, Some, None, refl, sym, ◌∙◌, ap, subst, arith}
+use Rattle.std.proofs.Common.{◌≡◌, ◌≢◌, ℕ, zero, suc, ◌<◌, ◌≤◌, ◌⊎◌, inl, inr, ⊎_elim, Bool, true, false, cond, ◌&&◌, ◌||◌, not, eqb, leb, ltb, List, [], ◌∷◌, length, take, Option, Some, None, refl, sym, ◌∙◌, ap, arith}
 use Rattle.std.specs.Option.{option_eq}
 use Rattle.std.specs.List.{filter}
 use Rattle.std.proofs.lemmas.Bool.{eq-eqb, ne_eqb, le-leb, lt-leb, lt-ltb, le-ltb, cases_order, cases_eq, cases_lt, or_right, or_left, not-false}
 use Rattle.ordered_map.specs.declared.pair.Pair.{Pair}
-use Rattle.ordered_map.specs.OrderedMap.{get, first_pair, AllAbove, IsRising}
+use Rattle.ordered_map.specs.OrderedMap.{get, AllAbove, IsRising}
 use Rattle.ordered_map.proofs.Lemmas.{get_above}
 use Rattle.script.specs.declared.command.Command.{Command}
 use Rattle.linearization.specs.Ordered.{looks_for, most_told, Tells, reaches, is_unlike}
@@ -27,10 +27,6 @@ get_low j k m l a = get_above j m (above_less j k m l a)
 
 get_first : (p : Pair) (ps : List Pair) → get p.key (p ∷ ps) ≡ Some p.value
 get_first p ps = rw (eq-eqb p.key p.key refl) refl
-
-pub first_has : (m : List Pair) (first : Pair) → first_pair m ≡ Some first → get first.key m ≡ Some first.value
-first_has [] first is = let y : None ≡ Some first = is in absurd (cc)
-first_has (p ∷ ps) first is = let same : p ≡ first = (let y : Some p ≡ Some first = is in cc) in subst (λ (q : Pair). get q.key (p ∷ ps) ≡ Some q.value) same (get_first p ps)
 
 get_later : (j : ℕ) (p : Pair) (ps : List Pair) → j ≢ p.key → get j (p ∷ ps) ≡ get j ps
 get_later j p ps ne = rw (ne_eqb j p.key ne) refl

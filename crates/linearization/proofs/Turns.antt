@@ -9,9 +9,8 @@ use Rattle.arena.specs.declared.step.Row.{Row as StepRow}
 use Rattle.arena.specs.History.{History, Start, ◌⊳◌, value, Extends}
 use Rattle.arena.proofs.Lemmas.{ends_self, ends_trans, same_moment}
 use Rattle.ordered_map.specs.declared.pair.Pair.{Pair}
-use Rattle.ordered_map.specs.OrderedMap.{MapCall, MapReply, get, reply}
+use Rattle.ordered_map.specs.OrderedMap.{MapCall, MapReply, reply}
 use Rattle.ordered_map.specs.Spelled.{Spells}
-use Rattle.ordered_map.specs.Paths.{IsAnswerAt}
 use Rattle.ordered_map.proofs.Lemmas.{one_spelling}
 use Rattle.script.specs.declared.call.Call.{Call}
 use Rattle.script.specs.declared.command.Command.{Command}
@@ -97,10 +96,6 @@ after_log calls lines row e first ps s x = record { turn = x.turn; from = x.from
         go : (b : Bool) → leb e.step x.turn ≡ b → cond b (e ∷ entries_until x.turn (written_log lines)) (entries_until x.turn (written_log lines)) ≡ entries_until x.turn (written_log lines)
         go true d = let j = leb-true e.step x.turn d in let i = x.to in absurd (omega (s, i, j, arith))
         go false d = refl
-
--- the map gives this of the key after one of the turns from the turn `first` on
-abbrev pub IsAnsweredIn : List Call → List Line → ℕ → Option ℕ → ℕ → Type 0
-IsAnsweredIn calls lines key answer first = (m : ℕ) × (first ≤ m) × (m ≤ turns lines) × (get key (map_at calls lines m) ≡ answer)
 
 -- the map replies this after one of the turns from the turn `first` on
 abbrev pub IsRepliedIn : List Call → List Line → MapCall → MapReply → ℕ → Type 0
@@ -193,15 +188,6 @@ module _ (lay : Layout) (tries : ℕ) (calls : List Call) (c : ℕ) (command : C
   moments (Log entry ∷ Log entry' ∷ lines) a x owed h ps first is e within since s = absurd a.1
   moments (Log entry ∷ ReplyLine reply ∷ lines) a x owed h ps first is e within since s = absurd a.1
   moments (Log entry ∷ []) a x owed h ps first is e within since s = absurd a.1
-
-  turn_since : (lines : List Line) (key : ℕ) (answer : Option ℕ) (first : ℕ) → AreLines lay tries calls lines → AreSpelled lay calls lines → entry_owed lay lines ≡ None → next_command calls lines c ≡ Some command → begin lines c ≡ Some first → (at : IsAnswerAt lay (history lay.mode lines) (start lay.mode lines c) key answer) → IsMomentSince (start lay.mode lines c) at.moment → IsAnsweredIn calls lines key answer first
-  turn_since lines key answer first a x owed is e at since =
-      let y = moments lines a x owed at.moment at.map first is e at.within since at.spelled in
-      (y.turn, y.from, y.to, ap (get key) (sym y.is) ∙ at.gives)
-
-  -- so there is a turn of a call that makes no update after which the map gives what it has found
-  pub answer_turn : (lines : List Line) (key : ℕ) (answer : Option ℕ) (first : ℕ) → ((kind : Kind) → MayMake command kind → is_update kind ≡ false) → AreLines lay tries calls lines → AreSpelled lay calls lines → entry_owed lay lines ≡ None → next_command calls lines c ≡ Some command → begin lines c ≡ Some first → IsAnswerAt lay (history lay.mode lines) (start lay.mode lines c) key answer → IsAnsweredIn calls lines key answer first
-  answer_turn lines key answer first reads a x owed is e at = turn_since lines key answer first a x owed is e at (at.since, λ same. reads)
 
   -- and one of any call after which the map replies what it has replied behind a row of the call's time
   pub replied_turn : (lines : List Line) (call : MapCall) (told : MapReply) (first : ℕ) → AreLines lay tries calls lines → AreSpelled lay calls lines → entry_owed lay lines ≡ None → next_command calls lines c ≡ Some command → begin lines c ≡ Some first → HasReplied lay (history lay.mode lines) (start lay.mode lines c) call told → IsRepliedIn calls lines call told first

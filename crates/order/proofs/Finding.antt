@@ -24,7 +24,6 @@ use Rattle.order.specs.Next.{MayLoad, MayValidate}
 use Rattle.order.specs.Reads.{HasStood, Whenever}
 use Rattle.order.specs.Successor.{GoesBeyond, IsNextLeaf, IsInLeaf, IsOnRoute, LooksOnRoute, TakesOnRoute, asks_on_route, behind_path, children_below, is_answer, leaf_load, route_below, second_path_left, successor_means}
 use Rattle.order.specs.declared.load.LeafPlace.{LeafPlace}
-use Rattle.order.specs.declared.read.Children.{Children}
 use Rattle.order.specs.declared.read.Children.TheVariants.{Left, Right, Both}
 use Rattle.order.specs.declared.successor.Route.{Route}
 use Rattle.order.specs.declared.successor.Route.TheVariants.{Above, Along, Beyond}
@@ -52,9 +51,6 @@ walks_to r is = record {
 }
 
 -- From a fork
-
-no_child : (P : Type 0) (a b : Children) → a ≢ b → a ≡ b → P
-no_child P a b d e = absurd (d e)
 
 module _ (k : ℕ) (b : History) (n : ℕ) (fork : is_leaf (value b) n ≡ false) (unmarked : value b (marked n) ≡ 0) where
   left_searched : (right : NodeNo) → (route : Route) → value b (child n sides.Right) ≡ right.0 → LooksOnRoute route b k n Both → IsOnRoute (route_below route right) b k (value b (child n sides.Left))
@@ -214,15 +210,6 @@ module _ (r : Successor) (snaps : List Snap) (c : Call) (h : History) (n : NodeN
 -- At the key of a pair
 
 module _ (r : Successor) (snaps : List Snap) (c : Call) (h : History) (p : LeafPlace) (key : ℕ) (x : StandsIn successor_means r snaps c h p) (key_is : place_key h p ≡ key) where
-  -- it is the answer
-  pub takes_pair : is_answer r.route r.key key ≡ true → TakesPair successor_means r snaps c h p key
-  takes_pair is = record { stands = x; key_is = key_is; takes = go r.route is }
-    where
-      go : (route : Route) → is_answer route r.key key ≡ true → TakesOnRoute route r.key key
-      go Above e = ltb-true r.key key e
-      go (Along right) e = ltb-true r.key key e
-      go Beyond e = tt
-
   module _ (not : is_answer r.route r.key key ≡ false) where
     -- or not: then it is on the path of its key
     key_then : (b : History) → IsTreeRun c.layout b → Extends b h → place_key b p ≡ key

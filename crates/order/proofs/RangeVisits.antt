@@ -1,5 +1,5 @@
 -- What a range knows one place further.
-use Rattle.std.proofs.Common.{◌≡◌, ◌≢◌, ℕ, zero, suc, ◌+◌, ◌-◌, ◌*◌, ◌<◌, ◌≤◌, ◌⊎◌, Bool, true, false, ltb, leb, ◌&&◌, List, [], ◌∷◌, ◌++◌, length, reverse, inl, inr, ⊎_elim, refl, sym, ◌∙◌, ap, subst, arith, lt-ltb, le-ltb, min, Some, None, Vec}
+use Rattle.std.proofs.Common.{◌≡◌, ◌≢◌, ℕ, zero, suc, ◌+◌, ◌-◌, ◌*◌, ◌<◌, ◌≤◌, ◌⊎◌, Bool, true, false, ltb, leb, ◌&&◌, List, [], ◌∷◌, ◌++◌, length, reverse, inl, inr, ⊎_elim, refl, sym, ◌∙◌, ap, subst, arith, le-ltb, min, Some, None, Vec}
 use Rattle.std.specs.Prelude.{take}
 use Rattle.std.specs.Global.{Global}
 use Rattle.std.proofs.Math.Nat.{suc-mul, mul-le-mul_right}
@@ -122,9 +122,6 @@ module _ (r : Range) (left right : NodeNo) where
 
 pub lt_of : (a b : ℕ) → ltb a b ≡ true → a < b
 lt_of a b p = ⊎_elim (λ i. i) (λ i. absurd (let f : true ≡ false = sym p ∙ le-ltb a b i in cc)) (split a b)
-
-pub ge_of : (a b : ℕ) → ltb a b ≡ false → b ≤ a
-ge_of a b p = ⊎_elim (λ i. absurd (let f : false ≡ true = sym p ∙ lt-ltb a b i in cc)) (λ i. i) (split a b)
 
 module _ (r : Range) (snaps : List Snap) (c : Call) (h : History) (n : ℕ) (reading : IsReading range_means r snaps c h) (x : Stands range_means r snaps c h n) where
   same_then : (b : History) → IsTreeRun c.layout b → Extends b h → SameSettled (value h) (value b) n

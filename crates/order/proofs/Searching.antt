@@ -1,5 +1,5 @@
 -- How the search for the least key above k goes down a tree.
-use Rattle.std.proofs.Common.{◌≡◌, ◌≢◌, ℕ, ◌^◌, ◌<◌, ◌≤◌, true, false, inl, inr, List, ◌∷◌, refl, sym, ◌∙◌, ap, lt-ltb, le-ltb, subst, Option, Some, None}
+use Rattle.std.proofs.Common.{◌≡◌, ◌≢◌, ℕ, ◌^◌, ◌<◌, ◌≤◌, true, false, inl, inr, List, refl, sym, ◌∙◌, ap, lt-ltb, le-ltb, subst, Option, Some, None}
 use Rattle.arena.specs.declared.layout.Layout.{Layout}
 use Rattle.arena.specs.declared.number.NodeNo.{NodeNo}
 use Rattle.arena.specs.declared.word.Side.TheVariants.{Left, Right}

@@ -4,7 +4,7 @@ use Rattle.std.proofs.Common.{◌≡◌, ℕ, Bool, true, false, ◌||◌, inl, 
 use Rattle.arena.specs.declared.layout.Layout.{Layout}
 use Rattle.arena.specs.declared.step.Row.{Row}
 use Rattle.arena.specs.declared.word.ScxWord.TheVariants.{State}
-use Rattle.arena.specs.History.{History, Start, ◌⊳◌, value, Extends}
+use Rattle.arena.specs.History.{History, Start, ◌⊳◌, Extends}
 use Rattle.arena.specs.ScxRecords.{member, count}
 use Rattle.arena.specs.Fills.{IsNamedScx}
 use Rattle.arena.specs.Lawful.{Lawful}
@@ -12,12 +12,6 @@ use Rattle.arena.specs.Blame.{WasInTheWay}
 use Rattle.arena.specs.Log.{log, has, is_final, finalized_from}
 use Rattle.histories.specs.Finalizing.{IsRemoved}
 use Rattle.histories.proofs.Lemmas.{Facts, IsFinalizedBy, Logs, UpdateWins, by_final, descriptor_stays, earlier, facts, facts_before, final_by, finalized_by_stays, is_removed_of, lawful_tail, logs, named_scx_more, one_finalizer, removed_stays, same, some_is_real, update_flagged, update_in_progress, update_keeps_scx, update_won, wins}
-use Rattle.ordered_map.proofs.Meanings.{edits_of, grown}
-use Rattle.ordered_map.proofs.Trees.{passes_has}
-use Rattle.ordered_map.specs.Paths.{Passed}
-use Rattle.ordered_map.specs.Runs.{IsTreeRun}
-use Rattle.ordered_map.proofs.Grown.{IsGrown, grown_since}
-use Rattle.ordered_map.proofs.Removed.{grown_not_final}
 
 -- at the row at which it becomes final
 module _ (lay : Layout) (h m : History) (r : Row) (n s : ℕ) (l : Lawful lay (r ⊳ h)) (e : Extends h m) (x : IsFinalizedBy (r ⊳ h) n s) where
@@ -67,14 +61,3 @@ pub blame_finalizer : (lay : Layout) (h m : History) (n s : ℕ) → Lawful lay 
 blame_finalizer lay (Start mode) m n s l e z x = absurd (let q : true ≡ false = sym (by_final lay (Start mode) n s l x) ∙ ap (λ k. is_final (log lay k) n) (sym e) ∙ z in cc)
 blame_finalizer lay (r ⊳ h) m n s l (inl e) z x = absurd (let q : true ≡ false = sym (by_final lay (r ⊳ h) n s l x) ∙ ap (λ k. is_final (log lay k) n) (sym e) ∙ z in cc)
 blame_finalizer lay (r ⊳ h) m n s l (inr e) z x = step lay h m r n s l e x (λ u y. blame_finalizer lay h m n u (lawful_tail lay h r l) e z y)
-
-not_true : (b : Bool) → (b ≡ true → ⊥) → b ≡ false
-not_true true d = absurd (d refl)
-not_true false d = refl
-
--- a node that was passed since `start` was in the tree then, and not final
-pub passed_finalized : (lay : Layout) (h start : History) (k n s : ℕ) → IsTreeRun lay h → Passed h start k n → IsFinalizedBy h n s → (m : History) × Extends h m × Extends m start × WasInTheWay h m n s
-passed_finalized lay h start k n s g p x =
-    let calls = (edits_of lay h g).edits in
-    let now : IsGrown calls lay p.0 = grown_since calls lay h p.0 p.1 (grown lay h g) in
-    (p.0, p.1, p.2, blame_finalizer lay h p.0 n s g.1.lawful p.1 (not_true (is_final (log lay p.0) n) (λ e. grown_not_final calls lay p.0 p.3.tree n now p.3.is_tree (passes_has (value p.0) k p.3.tree n p.3.passes) e)) x)

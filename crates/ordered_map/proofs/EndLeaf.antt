@@ -309,10 +309,6 @@ walk_shown lay h start k n g p leaf =
     let x = shown_leaf (value p.0) tree.tree _ _ n tree.is_tree.shows (passes_has (value p.0) k tree.tree n tree.passes) (sym (settled_leaf (value p.0) (value h) n same) ∙ leaf) in
     (x.0, x.1, same_leaf (value p.0) (value h) n x.0 x.1 same x.2)
 
--- so its key is below 2 ^ 64
-pub walk_small : (lay : Layout) (h start : History) (k n : ℕ) → IsTreeRun lay h → Passed h start k n → is_leaf (value h) n ≡ true → value h (node n first_key) < 2 ^ 64
-walk_small lay h start k n g p leaf = (walk_shown lay h start k n g p leaf).2.small
-
 -- and, if it is of class 0, the keys of all its pairs are, and rise; and they are as many as a leaf
 -- may hold
 pub walk_holds : (lay : Layout) (h start : History) (k n : ℕ) → IsTreeRun lay h → Passed h start k n → is_leaf (value h) n ≡ true → class (value h) n ≡ 0 → IsWellCounted (value h) n × AllBelow (2 ^ 64) (held_pairs (value h) n) × IsRising (held_pairs (value h) n)

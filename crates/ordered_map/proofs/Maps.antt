@@ -7,7 +7,7 @@ use Rattle.std.proofs.lemmas.Bool.{eqb-true, eqb-false}
 use native.Mathlib.Decide.{ℕ_discrete}
 use Rattle.ordered_map.specs.declared.pair.Pair.{Pair}
 use Rattle.ordered_map.proofs.Lists.{above_less}
-use Rattle.ordered_map.specs.OrderedMap.{pair, AllAbove, IsRising, get, insert, delete, is_value, successor, between, MapEdit, Insert, Delete, edit_key, edited, value_left, after_edit, MapCall, OneValue, call_delete, call_insert, call_pop_first, call_pop_last, call_replace_if, call_insert_new, call_delete_if, reply, after, edit_of, AllBelow, last_pair, end_pair, Edit}
+use Rattle.ordered_map.specs.OrderedMap.{pair, AllAbove, IsRising, get, insert, delete, is_value, successor, between, MapEdit, Insert, Delete, edit_key, edited, value_left, after_edit, MapCall, OneValue, call_delete, call_insert, call_pop_first, call_pop_last, call_replace_if, call_insert_new, call_delete_if, reply, after, edit_of, AllBelow, last_pair, end_pair}
 use Rattle.ordered_map.specs.MapLaws.{IsSuccessor, delete_if, insert_new, replace_if, within, without_first, IsEndmost, without_last}
 use Rattle.ordered_map.proofs.Trees.{split_at}
 
@@ -76,17 +76,8 @@ insert_rises k v (p ∷ ps) r = go (order k p.key) (insert_rises k v ps r.1)
 
 -- of one pair
 
-pub insert_here : (k v w : ℕ) → insert k v (pair k w ∷ []) ≡ pair k v ∷ []
-insert_here k v w = rw (not_below k k (omega arith), at_key k) refl
-
 pub put_before : (k v r w : ℕ) → k < r → insert k v (pair r w ∷ []) ≡ pair k v ∷ pair r w ∷ []
 put_before k v r w l = rw (lt-ltb k r l) refl
-
-pub put_behind : (k v r w : ℕ) → r < k → insert k v (pair r w ∷ []) ≡ pair r w ∷ pair k v ∷ []
-put_behind k v r w l = rw (not_below k r (omega (arith, l)), ne_eqb k r (λ e. omega (arith, e, l))) refl
-
-pub taken_out : (k w : ℕ) → delete k (pair k w ∷ []) ≡ []
-taken_out k w = rw (at_key k) refl
 
 -- Delete
 

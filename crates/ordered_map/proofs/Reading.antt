@@ -14,12 +14,12 @@ use Rattle.ordered_map.specs.declared.part.Seen.TheVariants.{Leaf as LeafSeen, N
 use Rattle.ordered_map.specs.TreeWords.{class, level, rank, IsLeaf, Tree, Leaf, Fork, root, Shows, Has, leaf_nodes}
 use Rattle.ordered_map.specs.declared.pair.Pair.{Pair}
 use Rattle.ordered_map.specs.Holding.{slot_behind, pair_in, held_from, held_behind}
-use Rattle.ordered_map.specs.OrderedMap.{AllAbove, AllBelow, IsRising}
+use Rattle.ordered_map.specs.OrderedMap.{AllAbove}
 use Rattle.ordered_map.specs.Spelled.{IsTree}
 use Rattle.ordered_map.specs.Parts.{AreInOrder, HoldsInOrder, IsPart, IsFit, IsLeafRoot, IsRoot, IsSplitInto, IsSeen, ShowLeaves, part_size}
 use Rattle.ordered_map.proofs.Trees.{open_between, has_root}
 use Rattle.ordered_map.proofs.Lists.{rising_cons}
-use Rattle.ordered_map.proofs.Holding.{held_next, high_leaf, low_leaf, low_items, rank_from, rank_below}
+use Rattle.ordered_map.proofs.Holding.{held_next, high_leaf, low_leaf, rank_from, rank_below}
 
 -- what stands behind a key: nothing, or pairs in order of which the first is above it
 abbrev OrderedBehind : (Word → ℕ) → ℕ → ℕ → ℕ → Option Slot → Type 0
@@ -62,15 +62,6 @@ seen_high c p l high = seen_leaf c p l (high_leaf (word_at c) p.node p.low p.hig
 
 pub seen_low : (c : Contents) (p : Part) → IsLeafRoot c p → class (word_at c) p.node ≡ 0 → HoldsInOrder c p.node p.high → IsSeen c p LeafSeen
 seen_low c p l low x = seen_leaf c p l (low_leaf (word_at c) p.node p.low p.high l.leaf low x.0 x.1.0 x.1.1 x.1.2 l.fits.1)
-
--- where it holds more than a leaf may hold, or not in order, there is no tree
-pub no_leaf : (c : Contents) (p : Part) → IsLeafRoot c p → class (word_at c) p.node ≡ 0 → ¬ HoldsInOrder c p.node p.high → (t : Tree) → IsPart c p t → ⊥
-no_leaf c p l low none (Leaf n) x =
-    let z : class (word_at c) n ≡ 0 = rw x.is low in
-    let y = x.shows.items in
-    none (subst (λ m. HoldsInOrder c m p.high) x.is
-    ((y.keys z).0, (subst IsRising (low_items (word_at c) n z) y.rising, subst (AllBelow p.high) (low_items (word_at c) n z) y.below, (y.keys z).1)))
-no_leaf c p l low none (Fork n a b) x = absurd (let y : true ≡ false = sym l.leaf ∙ rw (← x.is) x.shows.0.fork in cc)
 
 -- Pairs of a leaf in order
 

@@ -1,7 +1,6 @@
 -- What a leaf says that is read slot by slot: of a key, of the keys above one, and of those between
 -- two. Each slot has its pair, or leaves it to those behind it.
-use Rattle.std.proofs.Common.{◌≡◌, ◌≢◌, ℕ, ◌<◌, ◌≤◌, Bool, true, false, ◌&&◌, cond, leb, List, [], ◌∷◌, refl, ◌∙◌, ap, arith, subst, lt-ltb, le-ltb, eq-eqb, ne_eqb, le-leb, ⊎_elim}
-use Rattle.std.proofs.lemmas.Bool.Decides.{leb_tells}
+use Rattle.std.proofs.Common.{◌≡◌, ◌≢◌, ℕ, ◌<◌, ◌≤◌, List, ◌∷◌, refl, ◌∙◌, ap, arith, subst, lt-ltb, le-ltb, eq-eqb, ne_eqb}
 use Rattle.std.specs.Prelude.{Some, None}
 use Rattle.arena.specs.declared.word.NodeWord.TheVariants.{Settled}
 use Rattle.arena.specs.declared.word.SettledPart.TheVariants.{More, Key}
@@ -9,33 +8,11 @@ use Rattle.arena.specs.declared.word.Slot.{Slot}
 use Rattle.arena.specs.declared.word.Word.{Word}
 use Rattle.arena.specs.Words.{node}
 use Rattle.ordered_map.specs.declared.pair.Pair.{Pair}
-use Rattle.ordered_map.specs.OrderedMap.{AllAbove, IsRising, get, successor, between}
+use Rattle.ordered_map.specs.OrderedMap.{IsRising, get, successor}
 use Rattle.ordered_map.specs.Holding.{slot_behind, pair_in, held_from, held_behind}
 use Rattle.ordered_map.proofs.Holding.{held_next}
 use Rattle.ordered_map.proofs.Lists.{above_less}
 use Rattle.ordered_map.proofs.Maps.{get_above}
-
--- One pair more in front, and what is between two keys
-
-above_leb : (a b : ℕ) → b < a → leb a b ≡ false
-above_leb a b i = ⊎_elim (λ x. absurd (let y = x.1 in omega (arith, y, i))) (λ x. x.0) (leb_tells a b)
-
-kept : (low high : ℕ) (p : Pair) (ps : List Pair) → low ≤ p.key → p.key ≤ high → between low high (p ∷ ps) ≡ p ∷ between low high ps
-kept low high p ps u w = rw (le-leb low p.key u, le-leb p.key high w) refl
-
-left_low : (low high : ℕ) (p : Pair) (ps : List Pair) → p.key < low → between low high (p ∷ ps) ≡ between low high ps
-left_low low high p ps u = rw (above_leb low p.key u) refl
-
-left_high : (low high : ℕ) (p : Pair) (ps : List Pair) → high < p.key → between low high (p ∷ ps) ≡ between low high ps
-left_high low high p ps w = go (leb low p.key)
-  where
-    go : (b : Bool) → cond (b && leb p.key high) (p ∷ between low high ps) (between low high ps) ≡ between low high ps
-    go true = rw (above_leb p.key high w) refl
-    go false = refl
-
-none_between : (low high : ℕ) (ps : List Pair) → AllAbove high ps → between low high ps ≡ []
-none_between low high [] a = refl
-none_between low high (p ∷ ps) a = left_high low high p ps a.0 ∙ none_between low high ps a.1
 
 -- Slot by slot
 
@@ -65,13 +42,3 @@ module _ (f : Word → ℕ) (n : ℕ) (slot : Slot) where
 
   pub successor_behind : (k : ℕ) → f (node n (Settled (Key slot))) ≤ k → successor k (held_from f n slot) ≡ successor k (held_behind f n (slot_behind (f (node n (Settled More))) slot))
   successor_behind k high = ap (successor k) (held_next f n slot) ∙ rw (le-ltb k key_here high) refl
-
-  -- of the keys between two that of the slot is one, or not yet, or no more, and then none behind it is
-  pub between_here : (low high : ℕ) → low ≤ f (node n (Settled (Key slot))) → f (node n (Settled (Key slot))) ≤ high → between low high (held_from f n slot) ≡ pair_in f n slot ∷ between low high (held_behind f n (slot_behind (f (node n (Settled More))) slot))
-  between_here low high u w = ap (between low high) (held_next f n slot) ∙ kept low high (pair_in f n slot) pairs_behind u w
-
-  pub between_behind : (low high : ℕ) → f (node n (Settled (Key slot))) < low → between low high (held_from f n slot) ≡ between low high (held_behind f n (slot_behind (f (node n (Settled More))) slot))
-  between_behind low high u = ap (between low high) (held_next f n slot) ∙ left_low low high (pair_in f n slot) pairs_behind u
-
-  pub between_nowhere : (low high : ℕ) → IsRising (held_from f n slot) → high < f (node n (Settled (Key slot))) → between low high (held_from f n slot) ≡ []
-  between_nowhere low high rises w = ap (between low high) (held_next f n slot) ∙ left_high low high (pair_in f n slot) pairs_behind w ∙ none_between low high pairs_behind (above_less high key_here pairs_behind (omega (arith, w)) (rises_here rises).0)

@@ -89,10 +89,6 @@ path_remains lay h k n g p e = grown_on_path (edits_of lay h g).edits lay h p.0 
 pub passed_unmarked : (lay : Layout) (h start : History) (k n : ℕ) → IsTreeRun lay h → Passed h start k n → value h (marked n) ≡ 0 → IsOnPath h k n
 passed_unmarked lay h start k n g p e = path_remains lay h k n g (p.0, p.1, p.3) (not_final lay h n g.1.lawful e)
 
--- a node that was passed is at most as deep as the log is long, and one
-pub passed_level : (lay : Layout) (h start : History) (k n : ℕ) → IsTreeRun lay h → Passed h start k n → level (value h) n ≤ suc (length (log lay h))
-passed_level lay h start k n g p = grown_level (edits_of lay h g).edits lay h (grown lay h g) n (was_passed h start k n p)
-
 -- the log is no longer than the taken nodes are many
 pub log_short : (lay : Layout) (h : History) → IsTreeRun lay h → length (log lay h) ≤ length (taken_nodes h)
 log_short lay h g = grown_log (edits_of lay h g).edits lay h (grown lay h g)

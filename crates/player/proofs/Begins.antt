@@ -114,11 +114,6 @@ map_refuses v began c (RangeCommand low high most) found r u is nothing none = r
 }
 map_refuses v began c request found r u is nothing none = absurd nothing
 
--- one that is no range asks for what it tells
-pub asks_other : (request : Request ℕ ℕ) → ((low high most : ℕ) → request ≢ RangeCommand low high most) → AsksForPairs (map_request request)
-asks_other (RangeCommand low high most) other = absurd (other low high most refl)
-asks_other request other = tt
-
 -- it makes no more steps than its command may
 map_few : (request : Request ℕ ℕ) (tries taken : ℕ) → most_map_steps (map_request request) tries taken ≡ command_steps (Map request) tries taken
 map_few request tries taken = refl

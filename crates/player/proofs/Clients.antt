@@ -170,11 +170,6 @@ back_so v c (Map m) then w = record {
 }
 back_so v c run then w = w
 
--- the share is back
-is_back : (run : Run) (had : Option Remaining) → share_behind run had ≡ share_behind run (share_behind run had)
-is_back (Map m) had = refl
-is_back run had = refl
-
 answered_back : (v : ClientView) (c : Client) (run : Run) (then : Option SetField) (end : Ended) (w : Works v c run then) → c.running ≡ None → RunAnswers run (machine_call v c w.is_pass w.start) v.past end → ((taken : ℕ) → length (taken_nodes v.past) ≤ taken → v.steps + then_left then ≤ command_steps w.command v.tries taken) → Answered v (record c { share = share_behind run c.share }) run then end
 unfolding back_so
 answered_back v c (Map m) then end w none a few = record { works = back_so v c (Map m) then w; none = none; answers = a; back = refl; few = few }

@@ -1,5 +1,5 @@
 -- What each turn adds while a schedule is followed, and what follows in the end.
-use Rattle.std.proofs.Common.{◌≡◌, ◌≢◌, ℕ, zero, suc, ◌+◌, ◌-◌, ◌<◌, ◌≤◌, ◌⊎◌, inl, inr, Bool, true, false, cond, eq-eqb, List, [], ◌∷◌, ◌++◌, append_assoc, length, length-append, drop, get_or, reverse, Option, Some, None, Result, Ok, Err, IfErr, IsErrAnd, OnErr, OnOk, is_some, refl, sym, true≢false, ◌∙◌, ap, subst, arith}
+use Rattle.std.proofs.Common.{◌≡◌, ◌≢◌, ℕ, zero, suc, ◌+◌, ◌-◌, ◌<◌, ◌≤◌, inl, inr, Bool, true, false, cond, eq-eqb, List, [], ◌∷◌, ◌++◌, append_assoc, length, length-append, drop, get_or, reverse, Option, Some, None, Result, Ok, Err, IfErr, IsErrAnd, OnErr, OnOk, is_some, refl, sym, true≢false, ◌∙◌, ap, subst, arith}
 use Rattle.std.proofs.Math.Seq.{drop-cons}
 use Rattle.std.proofs.lemmas.List.{reverse-reverse}
 use Rattle.std.specs.Int.{from_bool}

@@ -63,8 +63,6 @@ module _ (v : ClientView) (c : Client) (is_pass : c.pass.0 < v.layout.passes) (w
         record { row = made.row; before = made.before; scx = made.scx; win = win; replies = λ m s. subst (λ (k : List PairOf). reply of k ≡ told) (one_spelling v.layout (value made.before) x.map m x.spelled s) x.gives },
       )
 
-  -- A reading
-
   -- What is told
 
   -- of a change or of a reading

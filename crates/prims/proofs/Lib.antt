@@ -1,8 +1,6 @@
 mod FillsNot
 mod LooksNot
-mod IdleRows
 mod LlxAnswers
-mod OnePass
 mod PutRows
 mod UntakenNodes
 mod Blank
@@ -12,7 +10,6 @@ mod Alone
 mod Shares
 mod Usable
 mod Zeros
-mod Changed
 mod Snapshots
 mod Planned
 mod Lists

@@ -1,19 +1,17 @@
 -- What LLX's answers say of other moments, and how a call of it begins.
-use Rattle.std.proofs.Common.{◌≡◌, ℕ, ◌<◌, ◌≤◌, inl, true, false, Option, None, sym, subst, arith}
+use Rattle.std.proofs.Common.{◌≡◌, ℕ, ◌<◌, ◌≤◌, inl, true, false, None, sym, subst, arith}
 use Rattle.arena.specs.declared.limits.Mode.TheVariants.{Records}
 use Rattle.arena.specs.declared.layout.Layout.{Layout}
 use Rattle.arena.specs.declared.number.ScxNo.{ScxNo}
-use Rattle.arena.specs.declared.step.Step.{Step}
 use Rattle.arena.specs.Layout.{opening_nodes}
 use Rattle.arena.specs.History.{History, Extends}
 use Rattle.arena.specs.Lawful.{Lawful}
 use Rattle.arena.specs.Log.{log, is_final}
 use Rattle.arena.specs.Machines.{Call}
 use Rattle.arena.proofs.Lemmas.{ends_self}
-use Rattle.histories.proofs.Lemmas.{lawful_since}
 use Rattle.prims.specs.Laws.Idle.{IsIdle, IsQuietSince, quiet_at_start}
-use Rattle.prims.specs.Laws.InTheWay.{final_since, open_before}
-use Rattle.prims.specs.Llx.Known.{IsOpened, IsSnapshot, IsFinalBy, LlxKnows, LlxWaits, LlxIsReady, LlxAnswers}
+use Rattle.prims.specs.Laws.InTheWay.{open_before}
+use Rattle.prims.specs.Llx.Known.{IsOpened, IsSnapshot, LlxKnows, LlxIsReady, LlxAnswers}
 use Rattle.prims.specs.declared.snap.Snap.{Snap}
 use Rattle.prims.specs.declared.llx.Llx.{Llx}
 use Rattle.prims.specs.declared.llx.Llx.TheVariants.{Snapshot, Finalized, Fail}
@@ -43,13 +41,6 @@ cell_opened lay h n e i = record { in_field = inl early; inside = let a = early 
     early : n < opening_nodes lay.mode
     early = rw e (omega arith)
 
--- while it runs its pass is idle
-pub idle_where_ready : (allows : Layout → History → ℕ → Type 0) (m : LlxRun) (c : Call) (h : History) (got : Option ℕ) → LlxIsReady allows m c h got → IsIdle c.layout c.pass h
-idle_where_ready allows m c h got r = r.quiet h (ends_self h) r.since
-
-pub idle_where_waits : (allows : Layout → History → ℕ → Type 0) (m : LlxRun) (c : Call) (h : History) (step : Step) → LlxWaits allows m c h step → IsIdle c.layout c.pass h
-idle_where_waits allows m c h step w = w.quiet h (ends_self h) w.since
-
 -- What the answers say
 
 -- the node of a snapshot has not been final at any moment
@@ -61,7 +52,3 @@ pub finalized_at_start : (m : LlxRun) (c : Call) (h : History) (a : Llx) → Law
 finalized_at_start m c h (Snapshot snap) l e f x = absurd (let q = snapshot_open c.layout h c.start m.node.0 snap l e x.0 in cc)
 finalized_at_start m c h (Finalized node s) l e f x = (s, λ i. Finalized record { 0 = x.0 i } s)
 finalized_at_start m c h (Fail node s) l e f x = absurd (let q = x.1.not_final in cc)
-
--- once an LLX has answered that a node is finalized, every later one of the node answers so
-pub finalized_for_ever : (m : LlxRun) (c : Call) (h k : History) (a : Llx) (u : ℕ) → IsFinalBy c.layout k m.node.0 u → Lawful c.layout h → Extends h c.start → Extends c.start k → LlxAnswers m c h a → (s : ScxNo) × (a ≡ Finalized m.node s)
-finalized_for_ever m c h k a u x l e f = finalized_at_start m c h a l e (final_since c.layout c.start k m.node.0 (lawful_since c.layout h c.start l e) f x.final)

@@ -27,7 +27,7 @@ use Rattle.prims.specs.declared.llx.Llx.{Llx}
 use Rattle.prims.specs.declared.llx.Llx.TheVariants.{Fail}
 use Rattle.prims.specs.declared.llx.LlxRun.{LlxRun}
 use Rattle.prims.specs.declared.llx.LlxAt.{LlxAt}
-use Rattle.prims.specs.declared.llx.LlxAt.TheVariants.{Start, Marked, Info, State, MarkedAgain, Left as AtLeft, Right as AtRight, InfoAgain, StateAgain, Help, LastInfo, LastState, LastHelp}
+use Rattle.prims.specs.declared.llx.LlxAt.TheVariants.{Start, Marked, Info, State, MarkedAgain, Left as AtLeft, Right as AtRight, InfoAgain, StateAgain, LastInfo, LastState}
 
 -- what a run of LLX knows at the place where it stands, once its step has told what was found
 pub record Knows (allows : Layout → History → ℕ → Type 0) (c : Call) (h : History) (n : ℕ) (at : LlxAt) (found : ℕ) : Type 0 where
@@ -42,16 +42,6 @@ pub record Knows (allows : Layout → History → ℕ → Type 0) (c : Call) (h 
 pub knows : (allows : Layout → History → ℕ → Type 0) (m : LlxRun) (c : Call) (h : History) (got : Option ℕ) (found : ℕ) (at : LlxAt) → m.at ≡ at → (at ≡ Start → ⊥) → found ≡ unwrap_or got 0 → LlxIsReady allows m c h got → Knows allows c h m.node.0 at found
 knows allows m c h None found at is d e r = absurd (d (sym is ∙ r.told))
 knows allows m c h (Some v) found at is d e r = record { opened = r.opened; since = r.since; quiet = r.quiet; known = rw (sym is) r.known; told = rw (e, sym is) r.told.0; behind = r.told.1 }
-
--- what is known where the run helps the SCX-record that it has met
-pub helps : (allows : Layout → History → ℕ → Type 0) (m : LlxRun) (help : HelpRun) (b : Bool) (c : Call) (h : History) (got : Option ℕ) → m.at ≡ Help b help → IsRun allows c.layout h → LlxIsReady allows m c h got → LlxHelps allows c h m.node.0 help got × HasStopped c h m.node.0 b help.scx.0
-helps allows m help b c h None is run r = absurd (let e : Help b help ≡ Start = sym is ∙ r.told in cc)
-helps allows m help b c h (Some v) is run r = (record { run = run; opened = r.opened; since = r.since; quiet = r.quiet; ready = rw is at r.told.0 }, rw is at r.known)
-
--- what is known where the run helps once more before it fails
-pub helps_last : (allows : Layout → History → ℕ → Type 0) (m : LlxRun) (help : HelpRun) (s : ScxNo) (c : Call) (h : History) (got : Option ℕ) → m.at ≡ LastHelp s help → IsRun allows c.layout h → LlxIsReady allows m c h got → LlxHelps allows c h m.node.0 help got × IsToBlame c h m.node.0 s.0 × (help.scx ≡ s)
-helps_last allows m help s c h None is run r = absurd (let e : LastHelp s help ≡ Start = sym is ∙ r.told in cc)
-helps_last allows m help s c h (Some v) is run r = let k : IsToBlame c h m.node.0 s.0 × (help.scx ≡ s) = rw is at r.known in (record { run = run; opened = r.opened; since = r.since; quiet = r.quiet; ready = rw is at r.told.0 }, k.0, k.1)
 
 module _ (allows : Layout → History → ℕ → Type 0) (c : Call) (h : History) (run : IsRun allows c.layout h) where
   -- a run that has asked for a step waits for it

@@ -1,5 +1,5 @@
 -- Faults of a report and of its audit are the program's faults.
-use Rattle.std.proofs.Common.{◌≡◌, ◌∙◌, inl, inr, ap, arith, refl, sym, List, ℕ, Err}
+use Rattle.std.proofs.Common.{◌≡◌, inl, inr, arith, refl, List, ℕ}
 use Rattle.audit.specs.Faults.{MayBeAtFault}
 use Rattle.audit.specs.declared.fault.AuditFault.{AuditFault}
 use Rattle.audit.specs.declared.fault.AuditFault.TheVariants as audit

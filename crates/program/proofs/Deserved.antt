@@ -1,5 +1,5 @@
 -- Faults of the texts are the program's faults.
-use Rattle.std.proofs.Common.{◌≡◌, ◌≢◌, ◌+◌, ◌-◌, ◌^◌, ◌↔◌, ◌⊎◌, ◌∙◌, inl, inr, ⊎_elim, arith, min, refl, List, ℕ, Result, Ok, Err, IfErr, IsErrAnd}
+use Rattle.std.proofs.Common.{◌≡◌, ◌≢◌, ◌+◌, ◌-◌, ◌^◌, ◌↔◌, ◌⊎◌, ◌∙◌, inr, ⊎_elim, arith, min, refl, List, ℕ, Result, Ok, Err, IfErr, IsErrAnd}
 use Rattle.std.specs.Prelude.{OnOk}
 use Rattle.arena.specs.declared.layout.Layout.{Layout}
 use Rattle.arena.specs.declared.limits.Limits.{Limits}

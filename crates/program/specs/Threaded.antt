@@ -1,5 +1,5 @@
 -- What the program prints of a run with threads, and why it refuses one.
-use Rattle.std.specs.Prelude.{◌≡◌, ℕ, Bool, List, Option, Vec, ⊤}
+use Rattle.std.specs.Prelude.{ℕ, Bool, List, Option, Vec, ⊤}
 use Rattle.std.specs.Global.{Global}
 use Rattle.std.specs.Io.KnownBytes.{Appends}
 use Rattle.arena.specs.declared.limits.Mode.TheVariants.{Tree}

@@ -1,6 +1,6 @@
 -- What the walk to an end has found: the leaf on the path of its own key there, and the pair at that
 -- end of the map.
-use Rattle.std.proofs.Common.{Bool, true, false, cond, eqb, ◌≡◌, ◌≢◌, ◌⊎◌, inl, inr, ℕ, ◌-◌, ◌<◌, ◌≤◌, ◌^◌, eq-eqb, ne_eqb, lt-ltb, le-ltb, [], ◌∷◌, refl, sym, ◌∙◌, ap, arith, subst, Some, None}
+use Rattle.std.proofs.Common.{Bool, true, false, cond, eqb, ◌≡◌, ◌≢◌, ◌⊎◌, inl, inr, ℕ, ◌<◌, ◌≤◌, ◌^◌, eq-eqb, ne_eqb, lt-ltb, le-ltb, [], refl, sym, ◌∙◌, ap, arith, subst, Some, None}
 use Rattle.std.specs.Option.{option_map}
 use native.Mathlib.Decide.{ℕ_discrete}
 use Rattle.arena.specs.declared.word.NodeWord.TheVariants.{Settled}
@@ -9,7 +9,7 @@ use Rattle.arena.specs.declared.word.Side.{Side}
 use Rattle.arena.specs.declared.word.Side.TheVariants.{Left, Right}
 use Rattle.arena.specs.declared.word.Slot.{Slot}
 use Rattle.arena.specs.declared.word.Word.{Word}
-use Rattle.arena.specs.Words.{node, child, first_key}
+use Rattle.arena.specs.Words.{node, child}
 use Rattle.arena.specs.History.{History, value, Extends}
 use Rattle.arena.specs.Machines.{Call}
 use Rattle.histories.proofs.Lemmas.{node_since}

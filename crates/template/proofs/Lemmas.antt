@@ -10,5 +10,5 @@ pub use Rattle.template.proofs.Stood.{stood_inside, opened_if_stood}
 pub use Rattle.template.proofs.EndFound.{found_small, found_own, found_told, found_end}
 pub use Rattle.template.proofs.Contending.{changed_contended, contended_later, contended_wider, failed_contended, finalized_contended, way_contended}
 pub use Rattle.template.proofs.WalkEdges.{walk_begins, head_to_key, head_to_more, head_ends, head_to_child, key_to_child, child_to_head, more_to_pair, pair_to_value, pair_to_pair, pair_ends, value_to_high, high_ends}
-pub use Rattle.template.proofs.Tries.{BeginsNoTry, others_begin_none, own_begins, own_begins_none, tries_more, tries_begin, newest_more, newest_now, other_kind_begins_none, scx_word_begins_none, other_node_begins_none, help_begins_none, llx_begins_none, vlx_begins_none, scx_begins_none, walk_begins_none, walk_past_root}
+pub use Rattle.template.proofs.Tries.{BeginsNoTry, others_begin_none, own_begins, own_begins_none, tries_more, tries_begin, newest_more, newest_now, other_kind_begins_none, other_node_begins_none, help_begins_none, llx_begins_none, vlx_begins_none, scx_begins_none, walk_begins_none, walk_past_root}
 pub use Rattle.template.proofs.Needed.{one_row, tried_one, next_more, in_newest_more, in_newest_now, next_first, tried_in, next_again, lost_to, tried_few, alone_once}

@@ -1,5 +1,5 @@
 -- Which steps begin a try, and what a pass's tries are behind one row more.
-use Rattle.std.proofs.Common.{◌≡◌, ◌≢◌, ℕ, suc, ◌<◌, ◌≤◌, Bool, true, false, ◌&&◌, eqb, eq-eqb, ne_eqb, List, length, Some, inl, inr, refl, ◌∙◌, ap, subst, arith}
+use Rattle.std.proofs.Common.{◌≡◌, ◌≢◌, ℕ, suc, ◌<◌, ◌≤◌, Bool, true, false, ◌&&◌, eqb, eq-eqb, ne_eqb, List, length, Some, inl, inr, refl, ◌∙◌, subst, arith}
 use Rattle.arena.specs.declared.layout.Layout.{Layout}
 use Rattle.arena.specs.declared.step.Kind.{Kind}
 use Rattle.arena.specs.declared.step.Kind.TheVariants.{LoadSettled}
@@ -8,8 +8,6 @@ use Rattle.arena.specs.declared.step.Step.{Step}
 use Rattle.arena.specs.declared.word.NodeWord.{NodeWord}
 use Rattle.arena.specs.declared.word.NodeWord.TheVariants.{Settled}
 use Rattle.arena.specs.declared.word.SettledPart.TheVariants.{Head as HeadWord}
-use Rattle.arena.specs.declared.word.ScxWord.{ScxWord}
-use Rattle.arena.specs.declared.word.Word.{Word}
 use Rattle.arena.specs.Words.{node, scx, same_word}
 use Rattle.arena.specs.History.{History, ◌⊳◌, value}
 use Rattle.arena.specs.Machines.{Call, IsRun, row_of}
@@ -94,14 +92,8 @@ no_and_left false = refl
 pub other_kind_begins_none : (s : Step) → s.kind ≢ LoadSettled → BeginsNoTry s
 other_kind_begins_none s d = rw (not_settled s.kind d) refl
 
-pub scx_word_begins_none : (s : Step) (u : ℕ) (part : ScxWord) → s.word ≡ scx u part → BeginsNoTry s
-scx_word_begins_none s u part e = rw e (no_and_left (is_settled_load s.kind))
-
 pub other_node_begins_none : (s : Step) (n : ℕ) (part : NodeWord) → s.word ≡ node n part → n ≢ 0 → BeginsNoTry s
 other_node_begins_none s n part e d = rw (e, ne_eqb n 0 d) (no_and_left (is_settled_load s.kind))
-
-load_kind : (k : Kind) (w : Word) (s : Step) → s ≡ load k w → s.kind ≡ k
-load_kind k w s e = ap (λ (t : Step). t.kind) e
 
 -- HELP
 

@@ -8,7 +8,6 @@ use Rattle.arena.specs.declared.word.Side.TheVariants.{Left, Right}
 use Rattle.arena.specs.declared.word.NodeWord.TheVariants.{Settled, Child as ChildWord}
 use Rattle.arena.specs.declared.word.SettledPart.TheVariants.{Head as HeadWord, More as MoreWord, Key as KeyWord, Value as ValueWord, High as HighWord}
 use Rattle.arena.specs.declared.word.Slot.{Slot}
-use Rattle.arena.specs.declared.word.Slot.TheVariants.{First}
 use Rattle.arena.specs.Heads.{head_of}
 use Rattle.arena.specs.Words.{node, first_key}
 use Rattle.arena.specs.History.{History, Extends}

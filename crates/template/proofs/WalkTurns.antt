@@ -12,7 +12,6 @@ use Rattle.arena.specs.declared.word.SettledPart.TheVariants.{Head as HeadWord, 
 use Rattle.arena.specs.Heads.{head_of}
 use Rattle.arena.specs.Words.{node, child, first_key}
 use Rattle.arena.specs.declared.word.Slot.{Slot}
-use Rattle.arena.specs.declared.word.Slot.TheVariants.{First}
 use Rattle.arena.specs.declared.word.Word.{Word}
 use Rattle.arena.specs.History.{History, value, Extends}
 use Rattle.arena.specs.Machines.{Call, MatchTurn}

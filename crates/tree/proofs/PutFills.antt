@@ -1,6 +1,5 @@
 -- An insert fills its nodes in order: the leaves before the fork over them, which nothing mentions.
 use Rattle.std.proofs.Common.{◌≡◌, ℕ, suc, ◌/◌, ◌%◌, ◌<◌, ◌≤◌, ◌⊎◌, inl, inr, true, false, eqb, List, refl, sym, ◌∙◌, ap, subst, arith}
-use Rattle.arena.specs.declared.step.Step.{Step}
 use Rattle.arena.specs.declared.word.NodeWord.{NodeWord}
 use Rattle.arena.specs.declared.word.NodeWord.TheVariants.{Settled, Child}
 use Rattle.arena.specs.declared.word.SettledPart.TheVariants.{Head}
@@ -12,7 +11,7 @@ use Rattle.ordered_map.specs.declared.pair.Pair.{Pair}
 use Rattle.ordered_map.specs.FillOrder.{HasStoodInField, IsFillInOrder}
 use Rattle.ordered_map.specs.TreeWords.{is_leaf}
 use Rattle.template.specs.declared.walk.Found.{Found}
-use Rattle.tree.proofs.Fills.{leaf_head, piece_is, same_number, same_part, unstood, update_in_order}
+use Rattle.tree.proofs.Fills.{leaf_head, piece_is, same_number, same_part, unstood}
 use Rattle.tree.specs.declared.put.PutPair.{PutPair}
 use Rattle.tree.specs.Put.Means.{put_means, put_need, put_pieces, lower, pairs_with, pieces_by_need}
 use Rattle.tree.specs.Laws.Put.Sound.{put_fields}
@@ -24,7 +23,7 @@ use Rattle.edits.specs.declared.edit.Nth.TheVariants.{First, Second, Third}
 use Rattle.edits.specs.declared.piece.Piece.{Piece}
 use Rattle.edits.specs.declared.update.UpdateAt.{UpdateAt}
 use Rattle.edits.specs.declared.update.UpdateRun.{UpdateRun}
-use Rattle.edits.specs.Known.{ComesBefore, IsNeeded, StandInRow, FillsPiece, UpdateWaits, piece_fill_step, piece, top}
+use Rattle.edits.specs.Known.{ComesBefore, IsNeeded, StandInRow, FillsPiece, piece_fill_step, piece, top}
 use Rattle.edits.specs.Laws.PieceFills.{HoldsWords}
 use Rattle.edits.specs.Pieces.{is_filled, nth_node, top_of, word_of}
 
@@ -105,7 +104,3 @@ module _ (m : UpdateRun PutPair UpdateAt) (c : Call) (h : History) (f : Found) w
   -- a fill of its nodes is in order
   pub fill_in_order : (nth : Nth) (part : NodeWord) → FillsPiece put_means m c h f nth part → IsFillInOrder h (row_of c (piece_fill_step put_means m f nth part) h)
   fill_in_order nth part x = record { head = λ k kind e. head_ordered nth part k x e; field = λ k side kind e. inr (field_ordered nth part k side x e) }
-
--- whatever step an insert waits for
-pub put_in_order : (m : UpdateRun PutPair UpdateAt) (c : Call) (h : History) (s : Step) → UpdateWaits put_means m c h s → IsFillInOrder h (row_of c s h)
-put_in_order m c h s x = update_in_order put_means m c h s (λ d f nth part y. fill_in_order m d h f nth part y) x

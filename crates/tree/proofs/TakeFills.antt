@@ -7,7 +7,6 @@ use Rattle.arena.specs.declared.word.NodeWord.{NodeWord}
 use Rattle.arena.specs.declared.word.NodeWord.TheVariants.{Settled, Child}
 use Rattle.arena.specs.declared.word.SettledPart.TheVariants.{Head}
 use Rattle.arena.specs.declared.word.Side.{Side}
-use Rattle.arena.specs.declared.step.Step.{Step}
 use Rattle.arena.specs.Fills.{IsInField}
 use Rattle.arena.specs.Heads.{head_of}
 use Rattle.arena.specs.History.{History, value}
@@ -28,7 +27,7 @@ use Rattle.ordered_map.specs.declared.rule.Goal.TheVariants.{Key as ToKey}
 use Rattle.tree.specs.declared.take.TakePair.{TakePair}
 use Rattle.tree.specs.Take.Means.{copied_pairs, copy_with, take_means, take_need, take_piece, has_more, join_looks, sibling_of}
 use Rattle.tree.specs.Laws.Take.Sound.{HasFour, copy_fields, few_places, has_four, looked_join, usable_at}
-use Rattle.tree.proofs.Fills.{piece_is, same_number, same_part, unstood, update_in_order}
+use Rattle.tree.proofs.Fills.{piece_is, same_number, same_part, unstood}
 use Rattle.edits.specs.declared.edit.Nodes.{Nodes}
 use Rattle.edits.specs.declared.edit.Nth.{Nth}
 use Rattle.edits.specs.declared.edit.Nth.TheVariants.{First, Second, Third}
@@ -37,7 +36,7 @@ use Rattle.edits.specs.declared.piece.Piece.TheVariants.{Leaf, Fork}
 use Rattle.edits.specs.declared.reading.Reading.{Reading}
 use Rattle.edits.specs.declared.update.UpdateAt.{UpdateAt}
 use Rattle.edits.specs.declared.update.UpdateRun.{UpdateRun}
-use Rattle.edits.specs.Known.{HasLookedBy, HasSnappedAfterWalk, IsNeeded, FillsPiece, MayRead, UpdateWaits, piece_fill_step, piece, top}
+use Rattle.edits.specs.Known.{HasLookedBy, HasSnappedAfterWalk, IsNeeded, FillsPiece, MayRead, piece_fill_step, piece, top}
 use Rattle.edits.specs.Pieces.{is_filled, nth_node, top_of, word_of}
 use Rattle.edits.specs.Readings.{next_read}
 use Rattle.edits.proofs.Lemmas.{head_read}
@@ -45,12 +44,6 @@ use Rattle.arena.specs.declared.head.Head.{Head as HeadParts}
 use Rattle.ordered_map.specs.OrderedMap.{delete}
 
 -- One fresh node
-
-one_place : (o : Option ℕ) (nth : Nth) → IsNeeded (take_need o) nth → nth ≡ First
-one_place (Some v) First x = refl
-one_place (Some v) Second x = absurd x
-one_place (Some v) Third x = absurd x
-one_place None nth x = absurd x
 
 one_top : (o : Option ℕ) (nth : Nth) (ns : Nodes) → IsNeeded (take_need o) nth → (nth_node ns nth).0 ≡ top_of (take_need o) ns
 one_top (Some v) First ns x = refl
@@ -130,7 +123,3 @@ module _ (m : UpdateRun TakePair UpdateAt) (c : Call) (h : History) (f : Found) 
   -- a fill of its node is in order
   pub fill_in_order : AreFilledInOrder h → IsFillInOrder h (row_of c (piece_fill_step take_means m f nth part) h)
   fill_in_order filled = record { head = λ k kind e. inr (head_ordered k e); field = λ k side kind e. inl (field_ordered k side filled e) }
-
--- whatever step a delete waits for, where nodes were filled in order before
-pub take_in_order : (m : UpdateRun TakePair UpdateAt) (c : Call) (h : History) (s : Step) → AreFilledInOrder h → UpdateWaits take_means m c h s → IsFillInOrder h (row_of c s h)
-take_in_order m c h s filled x = update_in_order take_means m c h s (λ d f nth part y. fill_in_order m d h f nth part y filled) x

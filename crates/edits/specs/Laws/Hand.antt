@@ -73,9 +73,6 @@ module _ (lay : Layout) (h : History) (r : Row) (c : ℕ) (left : Remaining) (fi
     (l : Lawful lay (r ⊳ h)) (kind : r.kind ≡ Fill) (word : r.word ≡ node n part) (fill : IsNodeFill part)
     (from : first ≤ n) (to : n ≤ top) (may : FieldMay part (IsForField lay h first top r.after))
     (x : HasFilledTo lay h c left first top n piece) where
-  lay_own : (k : ℕ) → first ≤ k → k ≤ top → IsOwnNode lay c k
-  lay_own = x.hand.own
-
   -- its field gets neither the top one nor one of what is left
   not_got : (k : ℕ) → IsOwnNode lay c k → top ≤ k → IsUnmentioned h k → FieldMay part (r.after ≢ k)
   not_got k own i u = go part may

@@ -1,12 +1,11 @@
 -- Where a search for the least key above k has come to, in the tree that the words show.
-use Rattle.std.specs.Prelude.{◌≡◌, ℕ, ◌^◌, true, List, Option, Some, None}
-use Rattle.arena.specs.declared.layout.Layout.{Layout}
+use Rattle.std.specs.Prelude.{◌≡◌, ℕ, ◌^◌, true, Option, Some, None}
 use Rattle.arena.specs.declared.word.Slot.TheVariants.{First}
 use Rattle.arena.specs.History.{History, value}
 use Rattle.ordered_map.specs.declared.pair.Pair.{Pair}
 use Rattle.ordered_map.specs.Holding.{held_from}
 use Rattle.ordered_map.specs.OrderedMap.{AllBelow, successor}
-use Rattle.ordered_map.specs.Spelled.{IsTree, Spells}
+use Rattle.ordered_map.specs.Spelled.{IsTree}
 use Rattle.ordered_map.specs.TreeWords.{Tree, root, Shows, class, is_leaf}
 use Rattle.ordered_map.proofs.Lemmas.{first_of, search_items}
 use Rattle.order.specs.Found.{more_at}
@@ -57,7 +56,3 @@ pub record IsFirstIn (h : History) (k : ℕ) (p : LeafPlace) : Type 0 where
   pub leaf : is_leaf (value h) p.node.0 ≡ true
   pub low : class (value h) p.node.0 ≡ 0
   pub slot : p.slot ≡ First
-
--- the map that the words spell has this pair as that of the least key above k; or it has none
-abbrev pub IsNextAt : Layout → History → ℕ → Option Pair → Type 0
-IsNextAt lay h k answer = (m : List Pair) → Spells lay (value h) m → successor k m ≡ answer

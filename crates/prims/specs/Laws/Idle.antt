@@ -28,10 +28,6 @@ use Rattle.prims.specs.Moments.{AreFinished}
 abbrev pub IsIdle : Layout → ℕ → History → Type 0
 IsIdle lay c h = (s : ℕ) → IsOwnScx lay c s → ¬ IsInProgress h s
 
--- none of the pass's own SCX-records is in progress, but perhaps s
-abbrev pub IsIdleBut : Layout → ℕ → ℕ → History → Type 0
-IsIdleBut lay c s h = (t : ℕ) → IsOwnScx lay c t → t ≢ s → ¬ IsInProgress h t
-
 -- the pass has been idle at each moment from `start` on
 abbrev pub IsQuietSince : Layout → ℕ → History → History → Type 0
 IsQuietSince lay c start h = (m : History) → Extends h m → Extends m start → IsIdle lay c m

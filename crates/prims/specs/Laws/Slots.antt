@@ -1,5 +1,5 @@
 -- Up to four snapshots in four slots.
-use Rattle.std.proofs.Common.{◌≡◌, ℕ, zero, suc, ◌<◌, ◌≤◌, List, [], ◌∷◌, length, take, refl, sym, ap, arith}
+use Rattle.std.proofs.Common.{◌≡◌, ◌≤◌, List, [], ◌∷◌, length, take, sym, ap, arith}
 use Rattle.std.proofs.lemmas.List.{length-take-le}
 use Rattle.prims.specs.declared.snap.Snap.{Snap}
 use Rattle.prims.specs.declared.snaps.Snaps.TheInside.{Inside}
@@ -8,23 +8,6 @@ use Rattle.prims.specs.Snap.{snap_at}
 -- the four slots of a list of at most four snapshots: those behind the last are blank
 abbrev pub slots_of : List Snap → List Snap
 slots_of snaps = snap_at snaps 0 ∷ snap_at snaps 1 ∷ snap_at snaps 2 ∷ snap_at snaps 3 ∷ []
-
--- the first of the slots, as many as the list has, are the list
-pub slots_hold : (snaps : List Snap) → length snaps ≤ 4 → take (length snaps) (slots_of snaps) ≡ snaps
-slots_hold [] few = refl
-slots_hold (a ∷ []) few = refl
-slots_hold (a ∷ b ∷ []) few = refl
-slots_hold (a ∷ b ∷ c ∷ []) few = refl
-slots_hold (a ∷ b ∷ c ∷ d ∷ []) few = refl
-slots_hold (a ∷ b ∷ c ∷ d ∷ e ∷ more) few = absurd (omega arith)
-
--- each slot has the list's snapshot of that place
-pub slot_is : (snaps : List Snap) (i : ℕ) → i < 4 → snap_at (slots_of snaps) i ≡ snap_at snaps i
-slot_is snaps zero few = refl
-slot_is snaps (suc zero) few = refl
-slot_is snaps (suc (suc zero)) few = refl
-slot_is snaps (suc (suc (suc zero))) few = refl
-slot_is snaps (suc (suc (suc (suc i)))) few = absurd (omega arith)
 
 -- slots with blanks behind the last are those of the list that they hold
 pub slots_back : (s : Inside) → (s.count ≤ 4) × (s.slots ≡ slots_of (take s.count s.slots)) → record { slots = slots_of (take s.count s.slots); count = length (take s.count s.slots) } ≡ s

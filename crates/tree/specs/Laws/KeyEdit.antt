@@ -7,7 +7,7 @@ use Rattle.arena.specs.declared.word.Side.{Side}
 use Rattle.prims.specs.Snap.{snap_at}
 use Rattle.prims.specs.declared.snap.Snap.{Snap}
 use Rattle.prims.specs.declared.update.Update.{Update}
-use Rattle.ordered_map.specs.OrderedMap.{edit_key, edit_to, leaves, value_left}
+use Rattle.ordered_map.specs.OrderedMap.{edit_key, edit_to, leaves}
 use Rattle.ordered_map.specs.Runs.{IsTreeRun}
 use Rattle.ordered_map.specs.TreeWords.{class}
 use Rattle.ordered_map.specs.declared.rule.Goal.{Goal}
@@ -58,10 +58,6 @@ leaving_laws None = laws_through take_means taking take_laws (leaving_bounds Non
 pub at_goal : (left : Option ℕ) (key : ℕ) → edit_key (edit_to key left) ≡ key
 at_goal None key = refl
 at_goal (Some value) key = refl
-
-pub left_there : (left : Option ℕ) (key : ℕ) → value_left (edit_to key left) ≡ left
-left_there None key = refl
-left_there (Some value) key = refl
 
 -- a rule that changes something at an end has found a pair
 end_there : (side : Side) (rule : Rule) (told : Option ℕ) → wants (End side) rule told ≡ true → (v : ℕ) × (told ≡ Some v)

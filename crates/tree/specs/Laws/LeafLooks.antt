@@ -157,9 +157,6 @@ is_leaf_edit f snaps j d n both covers plan old fresh says = leaf_edit_words j d
 -- What it reads
 
 module _ (k : ℕ) (c : Call) (h : History) (f : Found) (snaps : List Snap) (run : IsTreeRun c.layout h) (x : HasLookedBy leaf_looks c h (ToKey k) f snaps) (low : f.head.class ≡ 0) where
-  abbrev old_leaf : ℕ
-  old_leaf = f.trail.node.0
-
   pub class_is : class (value h) f.trail.node.0 ≡ 0
   class_is = ap (λ w. w.class) x.found.head ∙ low
 

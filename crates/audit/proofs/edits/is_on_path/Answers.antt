@@ -1,4 +1,4 @@
-use Rattle.std.proofs.Common.{◌≡◌, ℕ, Bool, true, false, not, sym, ◌∙◌, ap, subst, refl, rules}
+use Rattle.std.proofs.Common.{◌≡◌, ℕ, false, sym, ◌∙◌, ap, subst, rules}
 use Rattle.arena.specs.declared.word.Side.{Side}
 use Rattle.arena.specs.History.{value}
 use Rattle.arena.specs.Words.{child}
@@ -7,10 +7,6 @@ use Rattle.ordered_map.specs.TreeWords.{is_leaf, toward}
 use Rattle.ordered_map.proofs.Lemmas.{walk_first, walk_next}
 use Rattle.judge.specs.Histories.{seen_history}
 use Rattle.audit.proofs.edits.is_on_path.Goals as goal
-
-is_not : (b : Bool) → not b ≡ true → b ≡ false
-is_not false e = refl
-is_not true e = sym e
 
 pub loop-node-init : goal.loop-node-init
 loop-node-init c = walk_first c.args.judge.now.layout (seen_history c.args.judge.now) c.args.key c.requires

@@ -1,4 +1,4 @@
-use Rattle.std.proofs.Common.{◌∙◌, ap, Err, sym}
+use Rattle.std.proofs.Common.{◌∙◌, ap, Err}
 use Rattle.program.specs.Audited.{IsDeservedByReport}
 use Rattle.program.specs.Status.{fault_of_audit, fault_of_report, fault_of_write}
 use Rattle.program.proofs.Audits.{audit_deserves, read_deserves, write_deserves}

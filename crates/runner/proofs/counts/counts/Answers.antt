@@ -1,6 +1,5 @@
-use Rattle.std.proofs.Common.{◌≡◌, ◌≤◌, ◌<◌, ◌+◌, ◌^◌, ℕ, arith, refl, sym, subst, take, length, get_or, length-take, length-set, ◌∙◌}
+use Rattle.std.proofs.Common.{◌≤◌, ◌<◌, ◌+◌, arith, refl, take, length, get_or, length-take, length-set, ◌∙◌}
 use Rattle.std.proofs.lemmas.List.{get_or-replicate}
-use Rattle.runner.specs.Turns.{call_count}
 use Rattle.runner.proofs.Counted.{calls_few, counted, not_counted}
 use Rattle.runner.proofs.counts.counts.Goals.{then-client-lt-CLIENTS, else-client-lt-CLIENTS}
 use Rattle.runner.proofs.counts.counts.Goals as goal

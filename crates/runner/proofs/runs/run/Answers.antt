@@ -1,10 +1,5 @@
-use Rattle.std.proofs.Common.{◌≡◌, ◌∙◌, List, subst}
-use Rattle.std.specs.List.{All}
-use Rattle.std.proofs.lemmas.List.Elements.{All-weaker}
-use Rattle.arena.specs.declared.limits.Mode.TheVariants.{Tree}
+use Rattle.std.proofs.Common.{List, subst}
 use Rattle.script.specs.declared.call.Call.{Call}
-use Rattle.script.specs.Commands.{mode_of}
-use Rattle.forest.proofs.Crowds.{new_are_of}
 use Rattle.runner.specs.Calls.{HaveWorked}
 use Rattle.runner.proofs.Gathered.{worked_of, worked_back}
 use Rattle.runner.proofs.Ends.{outcome}

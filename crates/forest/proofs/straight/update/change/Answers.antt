@@ -16,7 +16,7 @@ use Rattle.forest.proofs.Inside.{waits_within}
 use Rattle.forest.proofs.StraightScx.{helper, to_help, help_waits, help_told}
 use Rattle.forest.proofs.StraightUpdate.{changer, begins_change, changed, is_blocked, update_is}
 use Rattle.forest.proofs.straight.update.change.Given.{Over}
-use Rattle.forest.proofs.straight.update.change.Goals.{After-begin, After-fill_all, Else-begin}
+use Rattle.forest.proofs.straight.update.change.Goals.{After-fill_all, Else-begin}
 use Rattle.forest.proofs.straight.update.change.Goals as goal
 
 -- what its SCX is to do

@@ -1,5 +1,4 @@
-use Rattle.std.proofs.Common.{ℕ, List, subst}
-use Rattle.ordered_map.specs.OrderedMap.{IsRising}
+use Rattle.std.proofs.Common.{List, subst}
 use Rattle.ordered_map.specs.Replies.{number_reply}
 use Rattle.ordered_map.specs.declared.pair.Pair.{Pair}
 use Rattle.record.specs.MapRecord.{map_at}

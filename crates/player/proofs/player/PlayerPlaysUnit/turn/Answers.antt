@@ -1,4 +1,4 @@
-use Rattle.std.proofs.Common.{arith, ap, refl, subst, ◌∙◌}
+use Rattle.std.proofs.Common.{arith, ap, refl, subst}
 use Rattle.player.specs.Player.{PlayerView}
 use Rattle.player.specs.Plays.{TellsTurn}
 use Rattle.player.proofs.Followed.{one_more}

@@ -1,4 +1,4 @@
-use Rattle.std.proofs.Common.{◌+◌, ◌-◌, ◌^◌, ℕ, Err, ap, inl, min, refl, sym, true≢false, ◌∙◌}
+use Rattle.std.proofs.Common.{◌+◌, ◌-◌, ◌^◌, ℕ, Err, ap, inl, min, sym, true≢false, ◌∙◌}
 use Rattle.player.specs.Core.{with_lines}
 use Rattle.player.proofs.Lemmas.{stands_played, told}
 use Rattle.report.proofs.Streams.{all_begins, stopped_in}
