@@ -12,4 +12,3 @@ mod Asked
 mod Making
 mod Judged
 mod Winners
-mod Examples

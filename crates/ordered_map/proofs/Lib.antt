@@ -30,5 +30,4 @@ mod Reading
 mod LeafLists
 mod Maps
 mod SlotReads
-mod WorkedInsert
 pub mod Lemmas
