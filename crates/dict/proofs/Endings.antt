@@ -1,5 +1,5 @@
 -- What the answers of the machines inside say of the call, in words.
-use Rattle.std.proofs.Common.{◌≡◌, ◌≢◌, ℕ, ◌+◌, ◌-◌, ◌*◌, ◌^◌, ◌<◌, ◌≤◌, inl, inr, List, Option, Result, Ok, Err, refl, sym, ◌∙◌, ap, subst, arith}
+use Rattle.std.proofs.Common.{◌≡◌, ℕ, ◌+◌, ◌-◌, ◌*◌, ◌^◌, ◌<◌, ◌≤◌, inl, inr, List, Option, Result, Ok, Err, refl, sym, ◌∙◌, ap, subst, arith}
 use Rattle.std.proofs.Math.Nat.{mul-add, mul-le-mul_left}
 use Rattle.std.specs.Option.{option_map}
 use Rattle.arena.specs.History.{History, ◌⊳◌, value, Extends}
@@ -26,11 +26,8 @@ use Rattle.ordered_map.specs.declared.rule.Rule.{Rule}
 use Rattle.tree.specs.declared.key_edit.KeyEdit.{KeyEdit}
 use Rattle.edits.specs.Edits.{says}
 use Rattle.edits.specs.Known.{RestsWith, HasLostEveryTry, HasMade, IsDoneAt, IsUpdateAnswer, ToldEnd}
-use Rattle.edits.specs.Pieces.{many_nodes}
 use Rattle.edits.specs.Steps.{Spends}
 use Rattle.edits.specs.Tries.{HasEnteredNone, HasOnlyLooked}
-use Rattle.edits.specs.declared.edit.Need.{Need}
-use Rattle.edits.specs.declared.edit.Need.TheVariants.{Nothing, One, Three}
 use Rattle.edits.specs.declared.update.UpdateAt.{UpdateAt}
 use Rattle.edits.specs.declared.update.UpdateRun.{UpdateRun}
 use Rattle.edits.specs.declared.update.Updated.{Updated}
@@ -44,12 +41,6 @@ use Rattle.dict.specs.Says.{WordSays, IsRefusal, HasLost, HasMadeEdit, HasNeeded
 use Rattle.dict.specs.Laws.Kinds.{IsReadKind, edit_at_found, edit_changes, edit_needs, edit_reads, edit_small}
 use Rattle.dict.specs.WordReplies.{WordReply, goal_reply, edit_reply, read_reply, told_in}
 use Rattle.dict.proofs.Readings.{NeededAs, none_entered, reply_read, always_read, leaf_read, leaf_needed, ran_out}
-
--- what needs something needs some nodes
-needs_some : (want : Need) → want ≢ Nothing → 0 < many_nodes want
-needs_some Nothing d = absurd (d refl)
-needs_some One d = omega arith
-needs_some Three d = omega arith
 
 module _ (tries : ℕ) (c : Call) (h : History) where
   -- just before an edit is made its leaf tells what the map replies
@@ -105,8 +96,8 @@ module _ (tries : ℕ) (c : Call) (h : History) where
         subst (λ made. HasToldBy made c h call (leaf_told goal f)) (sym (edit_changes m.edit f x.1.needed)) (made_edit call goal edit f (λ map. refl) (edit_at_found m.edit f) run made.0 made.1)
 
     -- what it needs at a leaf that it has found, the map needs at a moment of the call
-    edit_needed : (then : Call) (moment : History) → IsTreeRun then.layout moment → (f : Found) → HasFoundGoal goal then moment f → edit_means.needs m.edit f ≢ Nothing → NeededAs then.layout then.pass moment then.start call (edit_means.needs m.edit f)
-    edit_needed then moment so f found needed = leaf_needed then moment call goal f (edit_means.needs m.edit f) (λ map. refl) (edit_small m.edit.goal m.edit.rule small) so found (edit_needs m.edit f) (needs_some (edit_means.needs m.edit f) needed)
+    edit_needed : (then : Call) (moment : History) → IsTreeRun then.layout moment → (f : Found) → HasFoundGoal goal then moment f → 0 < (edit_means.work m.edit f).need → NeededAs then.layout then.pass moment then.start call (edit_means.work m.edit f).need
+    edit_needed then moment so f found needed = leaf_needed then moment call goal f (edit_means.work m.edit f).need (λ map. refl) (edit_small m.edit.goal m.edit.rule small) so found (edit_needs m.edit f) needed
 
     -- one that has lost all its tries had something to do in the newest
     edit_lost : (n s : ℕ) → m.limit ≡ tries → HasLostEveryTry (says edit_means m.edit) c h m.limit n s → HasLost c h call tries n s
@@ -126,7 +117,7 @@ module _ (tries : ℕ) (c : Call) (h : History) where
     edit_says (Contended node scx) number limit x = (tt, edit_lost node.0 scx.0 limit x.1)
     edit_says (Full full) number limit x = (
       tt,
-      ran_out c h call (edit_means.needs m.edit x.found) m.share full x.only_looked (edit_needed (begun_at c x.only_looked.begin) h run x.found x.has_found x.needed) x.short x.first x.none,
+      ran_out c h call (edit_means.work m.edit x.found).need m.share full x.only_looked (edit_needed (begun_at c x.only_looked.begin) h run x.found x.has_found x.needed) x.short x.first x.none,
     )
 
   -- a get has read what its leaf tells

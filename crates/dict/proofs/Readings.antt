@@ -22,9 +22,7 @@ use Rattle.ordered_map.specs.declared.rule.Goal.{Goal}
 use Rattle.template.proofs.Lemmas.{own_since}
 use Rattle.edits.specs.Known.{IsShort, IsUntouched}
 use Rattle.edits.specs.Laws.Entered.{none_quiet}
-use Rattle.edits.specs.Pieces.{many_nodes}
 use Rattle.edits.specs.Tries.{HasEnteredNone, HasOnlyLooked}
-use Rattle.edits.specs.declared.edit.Need.{Need}
 use Rattle.ordered_map.specs.CallRules.{most_nodes, need}
 use Rattle.dict.specs.Calls.{AsksForPairs}
 use Rattle.dict.specs.Goals.{leaf_told}
@@ -33,10 +31,10 @@ use Rattle.dict.specs.Laws.Found.{found_tells}
 use Rattle.dict.specs.Says.{HasMadeRow, HasNeeded, HasReadMap, HasTooLittle, HasRunOut}
 
 -- since the moment `begin` the call has needed something, and as many nodes as this or more
-pub record NeededAs (lay : Layout) (pass : ℕ) (now begin : History) (call : MapCall) (want : Need) : Type 0 where
+pub record NeededAs (lay : Layout) (pass : ℕ) (now begin : History) (call : MapCall) (want : ℕ) : Type 0 where
   pub needed : HasNeeded lay pass now begin call
-  pub few : many_nodes want ≤ need call needed.map
-  pub some : 0 < many_nodes want
+  pub few : want ≤ need call needed.map
+  pub some : 0 < want
 
 module _ (c : Call) (h : History) where
   -- a pass at rest has entered nothing
@@ -90,17 +88,17 @@ module _ (c : Call) (h : History) where
       }
 
   -- a share that is too small for the need, which is some, is too small for so many nodes or more
-  short_of : (want : Need) (many : ℕ) (left : Remaining) (what : Resource) (k : ℕ) → many_nodes want ≤ many → 0 < many_nodes want → IsShort want left what k → HasTooLittle many left what k
+  short_of : (want : ℕ) (many : ℕ) (left : Remaining) (what : Resource) (k : ℕ) → want ≤ many → 0 < want → IsShort want left what k → HasTooLittle many left what k
   short_of want many left Nodes k few some x = (let i = x.0 in omega (arith, i, few), x.1)
   short_of want many left ScxRecords k few some x = (let i = x.0 in omega (arith, i, some), x.1, x.2)
 
   -- the leaf that was found tells what an edit needed at a moment of the call, if it needed something
-  pub leaf_needed : (call : MapCall) (goal : Goal) (f : Found) (want : Need) → ((map : List Pair) → reply call map ≡ goal_told goal map) → path_key goal < 2 ^ 64 → IsTreeRun c.layout h → HasFoundGoal goal c h f → ((map : List Pair) → reply call map ≡ leaf_told goal f → many_nodes want ≤ need call map) → 0 < many_nodes want → NeededAs c.layout c.pass h c.start call want
+  pub leaf_needed : (call : MapCall) (goal : Goal) (f : Found) (want : ℕ) → ((map : List Pair) → reply call map ≡ goal_told goal map) → path_key goal < 2 ^ 64 → IsTreeRun c.layout h → HasFoundGoal goal c h f → ((map : List Pair) → reply call map ≡ leaf_told goal f → want ≤ need call map) → 0 < want → NeededAs c.layout c.pass h c.start call want
   leaf_needed call goal f want walks small run found needs some =
       let first = found.trail.node.first in
       let own = found.trail.node.own in
       let x = found_tells goal c h f small run found in
-      let few : many_nodes want ≤ need call x.map = needs x.map (walks x.map ∙ x.gives) in
+      let few : want ≤ need call x.map = needs x.map (walks x.map ∙ x.gives) in
       record {
         needed = record {
           moment = x.moment;
@@ -116,5 +114,5 @@ module _ (c : Call) (h : History) where
       }
 
   -- so the share has run out for an edit that needs it in its newest try
-  pub ran_out : (call : MapCall) (want : Need) (share : Remaining) (full : FullOf) → (only_looked : HasOnlyLooked c.pass h c.start) → NeededAs c.layout c.pass h only_looked.begin call want → IsShort want share full.what full.left → IsUntouched c h share → HasEnteredNone c.layout c.pass h c.start → HasRunOut c h call share full
+  pub ran_out : (call : MapCall) (want : ℕ) (share : Remaining) (full : FullOf) → (only_looked : HasOnlyLooked c.pass h c.start) → NeededAs c.layout c.pass h only_looked.begin call want → IsShort want share full.what full.left → IsUntouched c h share → HasEnteredNone c.layout c.pass h c.start → HasRunOut c h call share full
   ran_out call want share full only_looked x short first none = record { short = record { only_looked = only_looked; needed = x.needed; short = short_of want (need call x.needed.map) share full.what full.left x.few x.some short }; first = first; none = none }

@@ -28,7 +28,7 @@ edit_means = key_means (λ (g : Goal). g) (λ (r : Rule). r)
 
 -- an update whose edit has these values in place of its goal and its rule
 abbrev pub by_values : {G R : Type 0} → (G → Goal) → (R → Rule) → UpdateRun (KeyEdit G R) UpdateAt → UpdateRun (KeyEdit Goal Rule) UpdateAt
-by_values goal rule m = record { edit = record { goal = goal m.edit.goal; rule = rule m.edit.rule }; share = m.share; snaps = m.snaps; nodes = m.nodes; read = m.read; tries = m.tries; limit = m.limit; call = m.call; at = m.at }
+by_values goal rule m = record { edit = record { goal = goal m.edit.goal; rule = rule m.edit.rule }; share = m.share; work = m.work; snaps = m.snaps; nodes = m.nodes; read = m.read; tries = m.tries; limit = m.limit; call = m.call; at = m.at }
 
 -- a kind of ordered read: what it says to its machine, and what its answers are in words
 pub record ReadKind : Type 1 where

@@ -20,7 +20,7 @@ map_left m nodes = inner_left (inner m) nodes
 
 -- what the inner machine is told fits so many taken nodes
 abbrev pub InnerFits : InnerRun → Option ℕ → ℕ → Type 0
-InnerFits (Update m) got nodes = UpdateFits m got nodes
+InnerFits (Update m) got nodes = UpdateFits edit_means m got nodes
 InnerFits (Get key walk share) got nodes = WalkFits walk got nodes
 InnerFits (Read k m share) got nodes = ReadFits k.means m got nodes
 

@@ -1,5 +1,5 @@
 -- Who was in the way of a try that is lost.
-use Rattle.std.proofs.Common.{◌≡◌, ◌≢◌, ℕ, List, inr, subst, sym}
+use Rattle.std.proofs.Common.{◌≡◌, ℕ, ◌<◌, List, inr, subst, sym}
 use Rattle.arena.specs.declared.number.NodeNo.{NodeNo}
 use Rattle.arena.specs.declared.number.ScxNo.{ScxNo}
 use Rattle.arena.specs.declared.step.Kind.TheVariants.{Freeze}
@@ -23,7 +23,6 @@ use Rattle.template.specs.declared.walk.Found.{Found}
 use Rattle.ordered_map.specs.declared.rule.Goal.{Goal}
 use Rattle.template.proofs.Lemmas.{changed_contended, failed_contended, finalized_contended}
 use Rattle.edits.specs.declared.edit.Look.TheVariants.{At, Differs}
-use Rattle.edits.specs.declared.edit.Need.TheVariants.{Nothing}
 use Rattle.edits.specs.Edits.{EditMeaning}
 use Rattle.edits.specs.Known.{HasSnappedAfterWalk, AreUsable, HasLooked}
 use Rattle.edits.specs.Laws.Kept.{snapped_usable}
@@ -42,7 +41,7 @@ lost_contended c begin h goal f m n s l quiet usable x = changed_contended c Fre
     then : Lawful c.layout begin
     then = lawful_since c.layout h begin l (ends_trans h (x.changed.found.row ⊳ x.changed.found.before) begin x.changed.found.last.within (inr x.changed.found.since))
 
-module _ {E : Type 0} (e : EditMeaning E) (looks : LooksWell e) (ed : E) (c : Call) (h : History) (f : Found) (snaps : List Snap) (run : IsTreeRun c.layout h) (needed : e.needs ed f ≢ Nothing) (looked : HasLooked e c h ed f snaps) where
+module _ {E : Type 0} (e : EditMeaning E) (looks : LooksWell e) (ed : E) (c : Call) (h : History) (f : Found) (snaps : List Snap) (run : IsTreeRun c.layout h) (needed : 0 < (e.work ed f).need) (looked : HasLooked e c h ed f snaps) where
   -- an LLX of what the edit looks at, begun in the try, ends without a snapshot
   module _ (llx : LlxRun) (begin : History) (since : Extends begin c.start) (named : e.looks ed f snaps ≡ At llx.node) (n : NodeNo) (s : ScxNo) where
     pub look_failed : LlxAnswers llx (begun_at c begin) h (Fail n s) → IsContended c h n.0 s.0

@@ -1,4 +1,5 @@
 mod PairPlaces
+mod NodePlaces
 mod Nearer
 mod Widened
 mod Undisturbed

@@ -1,19 +1,20 @@
 -- That each turn of an update leaves fewer steps, and takes no more of the share than it may.
-use Rattle.std.proofs.Common.{◌≡◌, ◌≢◌, ℕ, zero, suc, ◌+◌, ◌*◌, ◌-◌, ◌<◌, ◌≤◌, ◌⊎◌, refl, arith, inl, inr, ap, subst, Some, None}
+use Rattle.std.proofs.Common.{◌≡◌, ◌≢◌, ℕ, zero, suc, ◌+◌, ◌*◌, ◌-◌, ◌<◌, ◌≤◌, ◌⊎◌, refl, sym, arith, inl, inr, ap, subst, Some}
 use Rattle.std.specs.Prelude.{Result, Ok, Err, OnOk, OnErr}
 use Rattle.std.proofs.Math.Nat.{suc-mul}
 use Rattle.arena.specs.declared.machine.Turn.{Turn}
 use Rattle.arena.specs.declared.machine.Turn.TheVariants.{Ask, Done}
 use Rattle.arena.specs.Machines.{MatchTurn}
 use Rattle.arena.specs.declared.word.NodeWord.{NodeWord}
-use Rattle.edits.specs.declared.edit.Need.{Need}
-use Rattle.edits.specs.declared.edit.Need.TheVariants.{Nothing, One, Three}
-use Rattle.edits.specs.declared.edit.Nth.{Nth}
-use Rattle.edits.specs.declared.edit.Nth.TheVariants.{First, Second, Third}
 use Rattle.edits.specs.declared.piece.Piece.{Piece}
-use Rattle.edits.specs.Laws.PieceFills.{next_word, the_same}
-use Rattle.edits.specs.Pieces.{nth_behind, part_behind, fills_after, fills_behind, many_fills}
+use Rattle.edits.specs.Laws.PieceFills.{next_word}
+use Rattle.edits.specs.Pieces.{all_fills, part_behind, fills_behind}
+use Rattle.edits.specs.declared.edit.Work.{Work}
+use Rattle.edits.specs.declared.update.UpdateRun.{UpdateRun}
 use Rattle.edits.specs.declared.update.Updated.{Updated}
+use Rattle.template.specs.declared.walk.Found.{Found}
+use Rattle.edits.specs.Edits.{EditBounds, EditMeaning}
+use Rattle.edits.specs.Steps.{HasAsked, pieces_now}
 
 -- what is below a number is below a greater one
 pub below : (turn : Turn Updated) (x a b : ℕ) → MatchTurn turn (λ _. x < a) (λ _. Unit {0}) → a ≤ b → MatchTurn turn (λ _. x < b) (λ _. Unit {0})
@@ -109,17 +110,6 @@ as_many most nodes scx tries = let same : scx + (tries + 1) + tries ≡ scx + tr
 pub some_left : (now left : ℕ) → now < left → 0 < left
 some_left now left i = omega (arith, i)
 
-none_more : (n : ℕ) → n ≡ n + 0
-none_more n = omega arith
-
--- what is left behind a node is left for the next one
-pub after_next : (need : Need) (pieces : Nth → Piece) (nth after : Nth) → nth_behind need nth ≡ Some after → fills_after need pieces nth ≡ many_fills (pieces after) + fills_after need pieces after
-after_next Nothing pieces nth after d = absurd (let z : None ≡ Some after = d in cc)
-after_next One pieces nth after d = absurd (let z : None ≡ Some after = d in cc)
-after_next Three pieces First after d = subst (λ i. many_fills (pieces Second) + many_fills (pieces Third) ≡ many_fills (pieces i) + fills_after Three pieces i) (the_same Second after d) refl
-after_next Three pieces Second after d = subst (λ i. many_fills (pieces Third) ≡ many_fills (pieces i) + fills_after Three pieces i) (the_same Third after d) (none_more (many_fills (pieces Third)))
-after_next Three pieces Third after d = absurd (let z : None ≡ Some after = d in cc)
-
 -- fewer words are filled behind the next
 pub fewer_fills : (p : Piece) (part next : NodeWord) → part_behind p part ≡ Some next → fills_behind p next < fills_behind p part
 fewer_fills p part next e = (next_word p part next e).fewer
@@ -128,3 +118,7 @@ fewer_fills p part next e = (next_word p part next e).fewer
 pub one_or_full : {T E V : Type 0} (r : Result T E) (size : V → ℕ) (old now : V) → OnOk r (size now ≡ size old + 1) → OnErr r (now ≡ old) → OnErr r (size old ≡ 4) → (size now ≡ suc (size old)) ⊎ (4 ≤ size now)
 one_or_full (Ok v) size old now more same full = inl (omega (arith, more))
 one_or_full (Err e) size old now more same full = inr (let x : size now ≡ size old = ap size same in omega (arith, x, full))
+
+-- the fills of its fresh nodes are few enough
+pub few_then : {E : Type 0} (e : EditMeaning E) {A : Type 0} → EditBounds e → (m : UpdateRun E A) (f : Found) → HasAsked e m f → all_fills m.work.need (pieces_now e m f) ≤ e.most_fills m.edit
+few_then e bounds m f asked = subst (λ (w : Work). all_fills w.need (pieces_now e m f) ≤ e.most_fills m.edit) (sym asked) (bounds.few_fills m.edit f m.snaps.items m.nodes m.read)

@@ -1,5 +1,5 @@
 -- What an update waits for while it reads words for its fresh nodes.
-use Rattle.std.proofs.Common.{◌≡◌, ℕ, suc, ◌+◌, ◌-◌, ◌*◌, ◌<◌, ◌≤◌, Bool, true, false, ◌==◌, ◌&&◌, Some, None, Option, [], ◌∷◌, ◌++◌, length, take, eq-eqb, ne_eqb, refl, sym, ◌∙◌, ap, subst, arith, append_assoc, append-nil, length-append}
+use Rattle.std.proofs.Common.{◌≡◌, ℕ, suc, ◌+◌, ◌-◌, ◌*◌, ◌<◌, ◌≤◌, Bool, true, false, ◌==◌, ◌&&◌, Some, None, Option, [], ◌∷◌, ◌++◌, length, take, eq-eqb, refl, sym, ◌∙◌, ap, subst, arith, append_assoc, append-nil, length-append}
 use Rattle.std.specs.Prelude.{if◌then◌else◌, nat_lt, IfSome, is_none, unwrap_or, Ok}
 use Rattle.arena.specs.declared.head.Head.{Head}
 use Rattle.arena.specs.declared.layout.Layout.{Layout}
@@ -22,9 +22,6 @@ use Rattle.ordered_map.specs.Holding.{slot_behind, wide_value, held_from, held_b
 use Rattle.ordered_map.specs.OrderedMap.{pair}
 use Rattle.ordered_map.proofs.Lemmas.{held_next}
 use Rattle.template.specs.declared.walk.Found.{Found}
-use Rattle.edits.specs.declared.edit.Need.{Need}
-use Rattle.edits.specs.declared.edit.Need.TheVariants.{Nothing, One, Three}
-use Rattle.edits.specs.declared.edit.Nodes.{Nodes}
 use Rattle.edits.specs.declared.edit.Nth.{Nth}
 use Rattle.edits.specs.declared.edit.Nth.TheVariants.{First, Second, Third}
 use Rattle.edits.specs.declared.piece.Piece.{Piece}
@@ -36,36 +33,18 @@ use Rattle.edits.specs.Steps.{try_left}
 use Rattle.edits.specs.Tries.{IsTry}
 use Rattle.edits.specs.declared.update.Next.TheVariants.{Read as ReadNext}
 use Rattle.edits.specs.Edits.{EditMeaning}
-use Rattle.edits.specs.Known.{IsNeeded, StandInRow, IsReadWhole, MayReadAt, pieces_by, CanWork, CanRead, CanFill, CanFillNode, Reads, TryWaits, piece}
+use Rattle.edits.specs.Known.{IsReadWhole, MayReadAt, CanWork, CanRead, CanFill, CanFillNode, Reads, TryWaits, piece, top}
 use Rattle.edits.specs.Laws.Hand.{HasFilledTo}
 use Rattle.edits.specs.Laws.PieceFills.{HoldsWords, blank_before, head_filled, the_same}
-use Rattle.edits.specs.Pieces.{nth_node, top_of}
+use Rattle.edits.specs.Pieces.{nth_node}
+use Rattle.edits.specs.declared.edit.Work.{Work}
+use Rattle.edits.proofs.NodePlaces.{piece_is}
 use Rattle.edits.specs.Readings.{IsRead, leaf_begun, nothing_read, if_unread, is_at_pair, is_leaf_read, left_behind_head, left_in_pairs, next_behind_head, next_in_fork, next_in_leaf, next_in_pair, next_read, pair_read, pair_read_with, read_with, reads_left, slot_read}
 use Rattle.edits.specs.Sound.{LooksWell}
 use Rattle.edits.proofs.Nearer.{as_many, no_more, some_left, to_next_read}
 use Rattle.edits.proofs.PairPlaces.{take_whole}
 
 -- Pieces by their numbers
-
-module _ (p : Nth → Piece) (ns : Nodes) where
-  piece_first : pieces_by p ns ns.first.0 ≡ p First
-  piece_first = rw (eq-eqb ns.first.0 ns.first.0 refl) refl
-
-  piece_second : ns.second.0 ≡ suc ns.first.0 → pieces_by p ns ns.second.0 ≡ p Second
-  piece_second e = rw (ne_eqb ns.second.0 ns.first.0 (λ q. omega (arith, e, q)), eq-eqb ns.second.0 ns.second.0 refl) refl
-
-  piece_third : ns.second.0 ≡ suc ns.first.0 → ns.third.0 ≡ suc ns.second.0 → pieces_by p ns ns.third.0 ≡ p Third
-  piece_third e d = rw (ne_eqb ns.third.0 ns.first.0 (λ q. omega (arith, e, d, q)), ne_eqb ns.third.0 ns.second.0 (λ q. omega (arith, d, q))) refl
-
--- the piece of a node that is needed is the one of its place
-pub piece_is : (p : Nth → Piece) (ns : Nodes) (need : Need) (nth : Nth) → IsNeeded need nth → StandInRow need ns → pieces_by p ns (nth_node ns nth).0 ≡ p nth
-piece_is p ns Nothing nth i o = absurd i
-piece_is p ns One First i o = piece_first p ns
-piece_is p ns One Second i o = absurd i
-piece_is p ns One Third i o = absurd i
-piece_is p ns Three First i o = piece_first p ns
-piece_is p ns Three Second i o = piece_second p ns o.0
-piece_is p ns Three Third i o = piece_third p ns o.0 o.1
 
 -- nodes that are full stay so where the pieces are the same
 filled_same : (lay : Layout) (h : History) (c : ℕ) (left : Remaining) (first top n : ℕ) (p q : ℕ → Piece) → ((k : ℕ) → first ≤ k → k < n → p k ≡ q k) → HasFilledTo lay h c left first top n p → HasFilledTo lay h c left first top n q
@@ -374,8 +353,8 @@ module _ {E : Type 0} (e : EditMeaning E) where
   -- what is read does not matter yet for the fresh nodes, since none is full
   pub with_read : {A : Type 0} (m : UpdateRun E A) (c : Call) (h : History) (f : Found) (read : Reading) → CanWork e m c h f → CanWork e (record m { read = read }) c h f
   with_read m c h f read x = record {
-    works = record { run = x.works.run; since = x.works.since; quiet = x.works.quiet; looked = x.works.looked; enough = x.works.enough; need = x.works.need; in_order = x.works.in_order; some = x.works.some };
-    full = filled_same c.layout h c.pass m.share m.nodes.first.0 (top_of (e.needs m.edit f) m.nodes) m.nodes.first.0 (piece e m f) (piece e (record m { read = read }) f) (λ k i j. absurd (omega (arith, i, j))) x.full;
+    works = record { run = x.works.run; since = x.works.since; quiet = x.works.quiet; looked = x.works.looked; enough = x.works.enough; asked = x.works.asked; need = x.works.need; in_order = x.works.in_order; some = x.works.some };
+    full = filled_same c.layout h c.pass m.share m.nodes.first.0 (top m) m.nodes.first.0 (piece e m f) (piece e (record m { read = read }) f) (λ k i j. absurd (omega (arith, i, j))) x.full;
     hand = record { lowest = x.hand.lowest; highest = x.hand.highest };
     blank = x.blank;
   }
@@ -386,13 +365,8 @@ module _ {E : Type 0} (e : EditMeaning E) where
     work = with_read m c h f read x;
     from = read;
     is = is;
-    read = looks.reads m.edit c h f m.snaps.items (n, read) x.works.run (some_need (e.needs m.edit f) x.works.need) x.works.looked x.works.enough is;
+    read = looks.reads m.edit c h f m.snaps.items (n, read) x.works.run (subst (λ (w : Work). 0 < w.need) x.works.asked x.works.need) x.works.looked x.works.enough is;
   }
-    where
-      some_need : (need : Need) → IsNeeded need First → need ≡ Nothing → ⊥
-      some_need Nothing i z = i
-      some_need One i z = let d : One ≡ Nothing = z in cc
-      some_need Three i z = let d : Three ≡ Nothing = z in cc
 
   -- and goes on once the load has told a word
   pub goes_reading : {A : Type 0} (m : UpdateRun E A) (c : Call) (h : History) (f : Found) (n : NodeNo) (part : SettledPart) (v : ℕ) → Reads e m c h f n part → value h (node n.0 (Settled part)) ≡ v → CanRead e (record m { read = read_with m.read part v }) c h f n
@@ -407,7 +381,7 @@ module _ {E : Type 0} (e : EditMeaning E) where
   pub fills_head : {A : Type 0} (m : UpdateRun E A) (c : Call) (h : History) (f : Found) (nth : Nth) → CanFillNode e m c h f nth → CanFill e m c h f nth (Settled HeadPart)
   fills_head m c h f nth x = record {
     fills = record { works = x.works; full = x.full; hand = x.hand; read = x.read; whole = x.whole; part_is = head_filled (piece e m f (nth_node m.nodes nth).0) };
-    same = piece_is (λ i. e.pieces m.edit f m.snaps.items m.nodes m.read i) m.nodes (e.needs m.edit f) nth x.works.need x.works.in_order;
+    same = piece_is (λ i. e.pieces m.edit f m.snaps.items m.nodes m.read i) m.nodes m.work.need nth x.works.need x.works.in_order;
     may = tt;
     words = blank_before h (nth_node m.nodes nth).0 (piece e m f (nth_node m.nodes nth).0) x.blank;
   }

@@ -114,6 +114,7 @@ module _ {E : Type 0} (e : EditMeaning E) where
       run = x.begins.run;
       looked = x.looked;
       rests = x.begins.rests;
+      asked = x.asked;
       room = x.room;
       named = named;
       now = x.begins.since;

@@ -1,19 +1,18 @@
 -- What an edit of the tree says to the machine that makes it.
 use Rattle.std.specs.Prelude.{◌≡◌, ℕ, ◌<◌, ◌≤◌, List, length, Option, Some}
 use Rattle.arena.specs.declared.number.NodeNo.{NodeNo}
-use Rattle.arena.specs.declared.word.Side.{Side}
 use Rattle.prims.specs.declared.snap.Snap.{Snap}
 use Rattle.ordered_map.specs.OrderedMap.{MapEdit}
 use Rattle.template.specs.declared.walk.Found.{Found}
 use Rattle.ordered_map.specs.declared.rule.Goal.{Goal}
 use Rattle.edits.specs.declared.edit.Look.{Look}
 use Rattle.edits.specs.declared.edit.Look.TheVariants.{At}
-use Rattle.edits.specs.declared.edit.Need.{Need}
 use Rattle.edits.specs.declared.edit.Nodes.{Nodes}
 use Rattle.edits.specs.declared.edit.Nth.{Nth}
+use Rattle.edits.specs.declared.edit.Work.{Work}
 use Rattle.edits.specs.declared.piece.Piece.{Piece}
 use Rattle.edits.specs.declared.reading.Reading.{Reading}
-use Rattle.edits.specs.Pieces.{all_fills, many_nodes}
+use Rattle.edits.specs.Pieces.{all_fills}
 use Rattle.edits.specs.Readings.{reads_left}
 
 -- what an edit answers at each of its places
@@ -22,12 +21,10 @@ pub record EditMeaning (E : Type 0) : Type 0 where
   pub goal : E → Goal
   -- the edit of the map that it makes at the leaf that was found
   pub edit : E → Found → MapEdit
-  -- how many fresh nodes it needs for the leaf that was found
-  pub needs : E → Found → Need
-  -- at most so many, whatever leaf is found
+  -- what there is to do at the leaf that was found
+  pub work : E → Found → Work
+  -- it needs at most so many fresh nodes, whatever leaf is found
   pub most_nodes : E → ℕ
-  -- on which side of the node that it looks at first is the field that it changes
-  pub side : E → Found → Side
   -- what it looks at next, with these snapshots
   pub looks : E → Found → List Snap → Look
   -- at most so many nodes
@@ -46,9 +43,8 @@ abbrev pub through : {E F : Type 0} → EditMeaning E → (F → E) → EditMean
 through m of = record {
   goal = λ e. m.goal (of e);
   edit = λ e f. m.edit (of e) f;
-  needs = λ e f. m.needs (of e) f;
+  work = λ e f. m.work (of e) f;
   most_nodes = λ e. m.most_nodes (of e);
-  side = λ e f. m.side (of e) f;
   looks = λ e f snaps. m.looks (of e) f snaps;
   most_looks = λ e. m.most_looks (of e);
   reads = λ e f snaps. m.reads (of e) f snaps;
@@ -65,7 +61,7 @@ says m e = through m (λ none. e)
 pub record EditBounds {E : Type 0} (m : EditMeaning E) : Type 0 where
   pub few_looks : (e : E) (f : Found) (snaps : List Snap) (n : NodeNo) → m.looks e f snaps ≡ At n → length snaps < m.most_looks e
   pub small : (e : E) → m.most_looks e ≤ 4
-  pub few_nodes : (e : E) (f : Found) → many_nodes (m.needs e f) ≤ m.most_nodes e
+  pub few_nodes : (e : E) (f : Found) → (m.work e f).need ≤ m.most_nodes e
   pub some_nodes : (e : E) → 0 < m.most_nodes e
   pub few_reads : (e : E) (f : Found) (snaps : List Snap) (x : NodeNo × Reading) → m.reads e f snaps ≡ Some x → reads_left x.1 ≤ m.most_reads e
-  pub few_fills : (e : E) (f : Found) (snaps : List Snap) (ns : Nodes) (read : Reading) → all_fills (m.needs e f) (m.pieces e f snaps ns read) ≤ m.most_fills e
+  pub few_fills : (e : E) (f : Found) (snaps : List Snap) (ns : Nodes) (read : Reading) → all_fills (m.work e f).need (m.pieces e f snaps ns read) ≤ m.most_fills e

@@ -1,5 +1,5 @@
 -- When an update may go on, and what it waits for.
-use Rattle.std.specs.Prelude.{◌≡◌, ◌≢◌, ℕ, suc, ◌^◌, ◌<◌, ◌≤◌, ◌⊎◌, ◌==◌, if◌then◌else◌, true, List, ◌∷◌, length, take, Option, Some, None}
+use Rattle.std.specs.Prelude.{◌≡◌, ◌≢◌, ℕ, suc, ◌+◌, ◌-◌, ◌^◌, ◌<◌, ◌≤◌, ◌⊎◌, ◌==◌, if◌then◌else◌, min, true, List, ◌∷◌, length, take, Option, Some, None}
 use Rattle.arena.specs.declared.fault.Full.{Full}
 use Rattle.arena.specs.declared.fault.Resource.{Resource}
 use Rattle.arena.specs.declared.fault.Resource.TheVariants.{Nodes as FreshNodes, Scx as ScxRecords}
@@ -11,7 +11,6 @@ use Rattle.arena.specs.declared.step.Kind.TheVariants.{LoadSettled}
 use Rattle.arena.specs.declared.word.NodeWord.{NodeWord}
 use Rattle.arena.specs.declared.word.NodeWord.TheVariants.{Settled}
 use Rattle.arena.specs.declared.word.SettledPart.{SettledPart}
-use Rattle.arena.specs.declared.word.Side.{Side}
 use Rattle.arena.specs.declared.number.NodeNo.{NodeNo}
 use Rattle.arena.specs.Fills.{IsNamed, IsOwnNode, IsOwnScx, IsTakenNode}
 use Rattle.arena.specs.History.{History, ◌⊳◌, value, Extends}
@@ -27,11 +26,10 @@ use Rattle.prims.specs.Llx.Known.{load, IsSnapshot, LlxIsReady, LlxWaits}
 use Rattle.prims.specs.Moments.{AreFinished}
 use Rattle.prims.specs.Scx.Known.{ScxIsReady, ScxWaits, job_of}
 use Rattle.prims.specs.Shares.{IsShare}
-use Rattle.prims.specs.Snap.{child_of, snap_at}
+use Rattle.prims.specs.Snap.{snap_at}
 use Rattle.prims.specs.declared.llx.LlxRun.{LlxRun}
 use Rattle.prims.specs.declared.scx.ScxRun.{ScxRun}
 use Rattle.prims.specs.declared.snap.Snap.{Snap}
-use Rattle.prims.specs.declared.update.Update.{Update}
 use Rattle.ordered_map.specs.OrderedMap.{MapEdit, edit_key, end_pair, get}
 use Rattle.ordered_map.specs.Runs.{IsTreeRun, IsEditAt}
 use Rattle.ordered_map.specs.Spelled.{Spells}
@@ -46,8 +44,6 @@ use Rattle.ordered_map.specs.declared.rule.Goal.{Goal}
 use Rattle.ordered_map.specs.declared.rule.Goal.TheVariants.{Key as ToKey, End}
 use Rattle.edits.specs.declared.edit.Look.{Look as LookOf}
 use Rattle.edits.specs.declared.edit.Look.TheVariants.{At, Enough}
-use Rattle.edits.specs.declared.edit.Need.{Need}
-use Rattle.edits.specs.declared.edit.Need.TheVariants.{Nothing, One, Three}
 use Rattle.edits.specs.declared.edit.Nodes.{Nodes}
 use Rattle.edits.specs.declared.edit.Nth.{Nth}
 use Rattle.edits.specs.declared.edit.Nth.TheVariants.{First, Second, Third}
@@ -64,7 +60,7 @@ use Rattle.edits.specs.Edits.{EditMeaning, says}
 use Rattle.edits.specs.Laws.Hand.{HasFilledTo, IsForField, FieldMay}
 use Rattle.edits.specs.Laws.NodeFills.{node_fill}
 use Rattle.edits.specs.Laws.PieceFills.{IsUnfilled, HoldsWords, HoldsBefore, HoldsUpTo}
-use Rattle.edits.specs.Pieces.{is_filled, many_nodes, nth_node, top_of, plan_over, word_of}
+use Rattle.edits.specs.Pieces.{is_filled, nth_no, nth_node, top_of, word_of}
 use Rattle.edits.specs.Readings.{IsRead, next_read}
 use Rattle.edits.specs.Tries.{HasEnteredOnly, HasEnteredNone, HasFilledNone, HasOnlyLooked, MayTry, IsTry, IsTryAt, CoversSnaps}
 
@@ -83,16 +79,16 @@ pub record RestsWith (c : Call) (h : History) (left : Remaining) : Type 0 where
 abbrev pub IsUntouched : Call → History → Remaining → Type 0
 IsUntouched c h left = RestsWith c c.start left ⊎ ((n : ℕ) × (s : ℕ) × IsContended c h n s)
 
--- the share has as many nodes as are needed, and an SCX-record
-abbrev pub HasNodesFor : Need → Remaining → Type 0
-HasNodesFor One left = (0 < left.nodes) × (0 < left.scx)
-HasNodesFor Three left = (2 < left.nodes) × (0 < left.scx)
-HasNodesFor _ left = ⊥
+-- some nodes are needed, and the share has as many, and an SCX-record
+pub record HasNodesFor (need : ℕ) (left : Remaining) : Type 0 where
+  pub some : 0 < need
+  pub nodes : need ≤ left.nodes
+  pub scx : 0 < left.scx
 
 -- the share has fewer nodes than are needed; or as many, and no SCX-record. So many are left
-abbrev pub IsShort : Need → Remaining → Resource → ℕ → Type 0
-IsShort need left FreshNodes k = (left.nodes < many_nodes need) × (k ≡ left.nodes)
-IsShort need left ScxRecords k = (many_nodes need ≤ left.nodes) × (left.scx ≡ 0) × (k ≡ 0)
+abbrev pub IsShort : ℕ → Remaining → Resource → ℕ → Type 0
+IsShort need left FreshNodes k = (left.nodes < need) × (k ≡ left.nodes)
+IsShort need left ScxRecords k = (need ≤ left.nodes) × (left.scx ≡ 0) × (k ≡ 0)
 
 -- What it has found
 
@@ -130,21 +126,25 @@ IsReadWhole (Some x) read = next_read read ≡ None
 
 -- this fresh node comes before that one
 abbrev pub ComesBefore : Nth → Nth → Type 0
-ComesBefore First Second = Unit {0}
-ComesBefore First Third = Unit {0}
-ComesBefore Second Third = Unit {0}
-ComesBefore _ _ = ⊥
+ComesBefore i nth = nth_no i < nth_no nth
 
 -- this one is needed
-abbrev pub IsNeeded : Need → Nth → Type 0
-IsNeeded One First = Unit {0}
-IsNeeded Three nth = Unit {0}
-IsNeeded _ _ = ⊥
+abbrev pub IsNeeded : ℕ → Nth → Type 0
+IsNeeded need nth = nth_no nth < need
 
--- three nodes stand one behind the other
-abbrev pub StandInRow : Need → Nodes → Type 0
-StandInRow Three ns = (ns.second.0 ≡ suc ns.first.0) × (ns.third.0 ≡ suc ns.second.0)
-StandInRow _ ns = Unit {0}
+-- those that are needed have numbers one after the other
+abbrev pub StandInRow : ℕ → Nodes → Type 0
+StandInRow need ns = (nth : Nth) → IsNeeded need nth → (nth_node ns nth).0 ≡ ns.first.0 + nth_no nth
+
+-- what is left once so many nodes are taken
+abbrev pub without : Remaining → ℕ → Remaining
+without left many = record left { next_node = left.next_node + many; nodes = left.nodes - many }
+
+-- as many as are needed, three at most, were taken out of the share, the next ones
+pub record HasTaken (need : ℕ) (left now : Remaining) (ns : Nodes) : Type 0 where
+  pub first : ns.first.0 ≡ left.next_node
+  pub in_order : StandInRow need ns
+  pub share : now ≡ without left (min need 3)
 
 -- what the edit says of them, by their numbers
 abbrev pub pieces_by : (Nth → Piece) → Nodes → ℕ → Piece
@@ -200,18 +200,14 @@ pub record HasLookedBy (looks : Found → List Snap → LookOf) (c : Call) (h : 
   pub usable : AreUsable c h goal f snaps
   pub seen : AreSeen looks f snaps
 
--- the update covers all that was looked at, finalizes all but the first, and puts the last fresh node
--- into the field of that on this side
-pub record IsUpdateFor (side : Side) (need : Need) (snaps : List Snap) (ns : Nodes) (u : Update) : Type 0 where
-  pub covers : u.snaps ≡ snaps
-  pub plan : u.plan.0 ≡ plan_over (length snaps) side
-  pub old : u.old ≡ child_of (snap_at snaps 0) side
-  pub fresh : u.fresh.0 ≡ top_of need ns
-
 -- this fresh node is one of those up to the last
 pub record IsInHand (ns : Nodes) (last : ℕ) (nth : Nth) : Type 0 where
   pub lowest : ns.first.0 ≤ (nth_node ns nth).0
   pub highest : (nth_node ns nth).0 ≤ last
+
+-- the last fresh node
+abbrev pub top : {E A : Type 0} → UpdateRun E A → ℕ
+top m = top_of m.work.need m.nodes
 
 module _ {E : Type 0} (e : EditMeaning E) where
   -- whatever the SCX-record s makes of these snapshots later, the leaf of the edit is the one that
@@ -223,13 +219,9 @@ module _ {E : Type 0} (e : EditMeaning E) where
   abbrev pub piece : {A : Type 0} → UpdateRun E A → Found → ℕ → Piece
   piece m f n = pieces_by (λ nth. e.pieces m.edit f m.snaps.items m.nodes m.read nth) m.nodes n
 
-  -- the last fresh node
-  abbrev pub top : {A : Type 0} → UpdateRun E A → Found → ℕ
-  top m f = top_of (e.needs m.edit f) m.nodes
-
   -- those before it are full
   abbrev pub AreFull : {A : Type 0} → UpdateRun E A → Call → History → Found → Nth → Type 0
-  AreFull m c h f nth = HasFilledTo c.layout h c.pass m.share m.nodes.first.0 (top m f) (nth_node m.nodes nth).0 (piece m f)
+  AreFull m c h f nth = HasFilledTo c.layout h c.pass m.share m.nodes.first.0 (top m) (nth_node m.nodes nth).0 (piece m f)
 
   -- nothing of it is filled
   abbrev pub IsBlankHere : {A : Type 0} → UpdateRun E A → History → Nth → Type 0
@@ -250,10 +242,10 @@ module _ (e : EditMeaning (Unit {0})) where
   pub record HasFilledAs (c : Call) (h : History) (f : Found) (snaps : List Snap) (ns : Nodes) (read : Reading) : Type 0 where
     pub looked : HasLookedBy (e.looks tt) c h (e.goal tt) f snaps
     pub enough : e.looks tt f snaps ≡ Enough
-    pub in_order : StandInRow (e.needs tt f) ns
+    pub in_order : StandInRow (e.work tt f).need ns
     pub right : MayReadAt c.layout h (e.reads tt f snaps) read
     pub whole : IsReadWhole (e.reads tt f snaps) read
-    pub holds : (i : Nth) → IsNeeded (e.needs tt f) i → HoldsPiece c h (nth_node ns i).0 (e.pieces tt f snaps ns read i)
+    pub holds : (i : Nth) → IsNeeded (e.work tt f).need i → HoldsPiece c h (nth_node ns i).0 (e.pieces tt f snaps ns read i)
 
   module _ (m : UpdateRun (Unit {0}) (Unit {0})) where
     -- all is looked at, and this fresh node is needed
@@ -263,8 +255,9 @@ module _ (e : EditMeaning (Unit {0})) where
       pub quiet : IsQuietSince c.layout c.pass c.start h
       pub looked : HasLookedBy (e.looks tt) c h (e.goal tt) f m.snaps.items
       pub enough : e.looks tt f m.snaps.items ≡ Enough
-      pub need : IsNeeded (e.needs tt f) nth
-      pub in_order : StandInRow (e.needs tt f) m.nodes
+      pub asked : m.work ≡ e.work tt f
+      pub need : IsNeeded m.work.need nth
+      pub in_order : StandInRow m.work.need m.nodes
       pub some : 0 < m.share.scx
 
     -- a step of an LLX, which has begun at a moment of the call
@@ -272,7 +265,8 @@ module _ (e : EditMeaning (Unit {0})) where
       pub run : IsTreeRun c.layout h
       pub looked : HasLookedBy (e.looks tt) c h (e.goal tt) f m.snaps.items
       pub rests : RestsWith c h m.share
-      pub room : HasNodesFor (e.needs tt f) m.share
+      pub asked : m.work ≡ e.work tt f
+      pub room : HasNodesFor m.work.need m.share
       pub named : e.looks tt f m.snaps.items ≡ At llx.node
       pub now : Extends h c.start
       pub quiet : IsQuietSince c.layout c.pass c.start h
@@ -282,7 +276,7 @@ module _ (e : EditMeaning (Unit {0})) where
     pub record ReadsAs (c : Call) (h : History) (f : Found) (node : NodeNo) (part : SettledPart) : Type 0 where
       pub works : WorksAs c h f First
       pub full : AreFull e m c h f First
-      pub hand : IsInHand m.nodes (top e m f) First
+      pub hand : IsInHand m.nodes (top m) First
       pub blank : IsBlankHere e m h First
       pub from : Reading
       pub is : e.reads tt f m.snaps.items ≡ Some (node, from)
@@ -293,7 +287,7 @@ module _ (e : EditMeaning (Unit {0})) where
     pub record FillsAs (c : Call) (h : History) (f : Found) (nth : Nth) (part : NodeWord) : Type 0 where
       pub works : WorksAs c h f nth
       pub full : AreFull e m c h f nth
-      pub hand : IsInHand m.nodes (top e m f) nth
+      pub hand : IsInHand m.nodes (top m) nth
       pub read : HasRead e m c h f
       pub whole : IsReadWhole (e.reads tt f m.snaps.items) m.read
       pub part_is : is_filled (piece_here e m f nth) part ≡ true
@@ -317,7 +311,7 @@ module _ (e : EditMeaning (Unit {0})) where
       -- as it began the leaf was found, at which there is something to make, the snapshots could be
       -- used, and it covers that leaf
       pub found : HasFoundGoal (e.goal tt) c begin f
-      pub need : e.needs tt f ≢ Nothing
+      pub need : 0 < (e.work tt f).need
       pub usable : AreUsable c begin (e.goal tt) f scx.update.snaps
       pub quiet : IsQuietSince c.layout c.pass c.start begin
       pub leaf : CoversLeaf e tt f c begin scx.scx.0 scx.update.snaps
@@ -344,7 +338,7 @@ module _ (e : EditMeaning (Unit {0})) where
   -- nothing, and has only looked in its newest try
   pub record HasNothingToMake (c : Call) (h : History) (found : Found) : Type 0 where
     pub has_found : HasFoundGoal (e.goal tt) c h found
-    pub needless : e.needs tt found ≡ Nothing
+    pub needless : (e.work tt found).need ≡ 0
     pub none : HasEnteredNone c.layout c.pass h c.start
     pub only_looked : HasOnlyLooked c.pass h c.start
 
@@ -355,8 +349,8 @@ module _ (e : EditMeaning (Unit {0})) where
     pub only_looked : HasOnlyLooked c.pass h c.start
     pub found : Found
     pub has_found : HasFoundGoal (e.goal tt) (begun_at c only_looked.begin) h found
-    pub needed : e.needs tt found ≢ Nothing
-    pub short : IsShort (e.needs tt found) left full.what full.left
+    pub needed : 0 < (e.work tt found).need
+    pub short : IsShort (e.work tt found).need left full.what full.left
     pub first : IsUntouched c h left
     pub none : HasEnteredNone c.layout c.pass h c.start
 
@@ -365,7 +359,7 @@ module _ (e : EditMeaning (Unit {0})) where
     pub moment : History
     pub within : Extends h moment
     pub has_found : HasFoundGoal (e.goal tt) c moment found
-    pub needed : e.needs tt found ≢ Nothing
+    pub needed : 0 < (e.work tt found).need
 
   -- All tries of the call, so many, were lost, the newest to the SCX-record s over the node n; in
   -- it the call has found a leaf at which there was something to make. The pass has entered
@@ -394,7 +388,7 @@ module _ (e : EditMeaning (Unit {0})) where
 
 -- what an update has, whatever the type of its edit is, and wherever it stands
 abbrev pub bare : {E A : Type 0} → UpdateRun E A → UpdateRun (Unit {0}) (Unit {0})
-bare m = record { edit = tt; share = m.share; snaps = m.snaps; nodes = m.nodes; read = m.read; tries = 0; limit = 0; call = m.call; at = tt }
+bare m = record { edit = tt; share = m.share; work = m.work; snaps = m.snaps; nodes = m.nodes; read = m.read; tries = 0; limit = 0; call = m.call; at = tt }
 
 module _ {E : Type 0} (e : EditMeaning E) where
   -- each of these is known of it, or of its update, as it is above of one that says the same
@@ -439,7 +433,7 @@ module _ {E : Type 0} (e : EditMeaning E) where
   UpdateWaitsAt m c h s (Walk walk) = Walks m c h walk.goal × WalkWaits walk c h s
   UpdateWaitsAt m c h s (Look f llx) = (begin : History) × Looks m c h f llx begin × LlxWaits TreeAllows llx (begun_at c begin) h s
   UpdateWaitsAt m c h s (Read f n part) = Reads m c h f n part × (s ≡ load LoadSettled (node n.0 (Settled part)))
-  UpdateWaitsAt m c h s (Fill f nth part) = FillsPiece m c h f nth part × FieldMay part (IsForField c.layout h m.nodes.first.0 (top e m f) (word_of (piece e m f (nth_node m.nodes nth).0) part)) × HoldsBefore h (nth_node m.nodes nth).0 (piece_here e m f nth) part × (s ≡ piece_fill_step m f nth part)
+  UpdateWaitsAt m c h s (Fill f nth part) = FillsPiece m c h f nth part × FieldMay part (IsForField c.layout h m.nodes.first.0 (top m) (word_of (piece e m f (nth_node m.nodes nth).0) part)) × HoldsBefore h (nth_node m.nodes nth).0 (piece_here e m f nth) part × (s ≡ piece_fill_step m f nth part)
   UpdateWaitsAt m c h s (Scx f scx) = (begin : History) × Scxs m c h f scx begin × ScxWaits TreeAllows scx (begun_at c begin) h s
 
   -- what holds once the step of this place has told v
@@ -482,13 +476,14 @@ module _ {E : Type 0} (e : EditMeaning E) where
     pub begins : MayBeginTry m c h
     pub quiet : IsQuietSince c.layout c.pass c.start h
     pub looked : HasLooked c h m.edit f m.snaps.items
-    pub room : HasNodesFor (e.needs m.edit f) m.share
+    pub asked : m.work ≡ e.work m.edit f
+    pub room : HasNodesFor m.work.need m.share
 
   -- it may begin to read, or to fill its fresh nodes: it has taken them
   pub record CanWork {A : Type 0} (m : UpdateRun E A) (c : Call) (h : History) (f : Found) : Type 0 where
     pub works : WorksAtNode m c h f First
     pub full : AreFull e m c h f First
-    pub hand : IsInHand m.nodes (top e m f) First
+    pub hand : IsInHand m.nodes (top m) First
     pub blank : IsBlankHere e m h First
 
   -- it may go on to read this node
@@ -502,7 +497,7 @@ module _ {E : Type 0} (e : EditMeaning E) where
   pub record CanFillNode {A : Type 0} (m : UpdateRun E A) (c : Call) (h : History) (f : Found) (nth : Nth) : Type 0 where
     pub works : WorksAtNode m c h f nth
     pub full : AreFull e m c h f nth
-    pub hand : IsInHand m.nodes (top e m f) nth
+    pub hand : IsInHand m.nodes (top m) nth
     pub blank : IsBlankHere e m h nth
     pub read : HasRead e m c h f
     pub whole : IsReadWhole (e.reads m.edit f m.snaps.items) m.read
@@ -511,7 +506,7 @@ module _ {E : Type 0} (e : EditMeaning E) where
   pub record CanFill {A : Type 0} (m : UpdateRun E A) (c : Call) (h : History) (f : Found) (nth : Nth) (part : NodeWord) : Type 0 where
     pub fills : FillsPiece m c h f nth part
     pub same : piece_here e m f nth ≡ e.pieces m.edit f m.snaps.items m.nodes m.read nth
-    pub may : FieldMay part (IsForField c.layout h m.nodes.first.0 (top e m f) (word_of (piece_here e m f nth) part))
+    pub may : FieldMay part (IsForField c.layout h m.nodes.first.0 (top m) (word_of (piece_here e m f nth) part))
     pub words : HoldsBefore h (nth_node m.nodes nth).0 (piece_here e m f nth) part
 
   -- it may begin its SCX: all its fresh nodes are full
@@ -519,10 +514,11 @@ module _ {E : Type 0} (e : EditMeaning E) where
     pub run : IsTreeRun c.layout h
     pub since : Extends h c.start
     pub quiet : IsQuietSince c.layout c.pass c.start h
-    pub need : e.needs m.edit f ≢ Nothing
+    pub asked : m.work ≡ e.work m.edit f
+    pub need : 0 < m.work.need
     pub some : 0 < m.share.scx
     pub all : HasFilledAll c h m.edit f m.snaps.items m.nodes m.read
-    pub full : HasFilledTo c.layout h c.pass m.share m.nodes.first.0 (top e m f) (suc (top e m f)) (piece e m f)
+    pub full : HasFilledTo c.layout h c.pass m.share m.nodes.first.0 (top m) (suc (top m)) (piece e m f)
 
   -- What it answers
 

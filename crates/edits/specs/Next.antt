@@ -1,5 +1,5 @@
 -- What a try of an update does next, before the update stands there.
-use Rattle.std.specs.Prelude.{◌≡◌, ℕ, suc, ◌*◌, ◌<◌, ◌≤◌, length, Result, Ok, Err}
+use Rattle.std.specs.Prelude.{◌≡◌, ℕ, suc, ◌*◌, ◌<◌, ◌≤◌, Result, Ok, Err}
 use Rattle.arena.specs.declared.machine.Turn.TheVariants.{Ask}
 use Rattle.arena.specs.declared.step.Access.TheVariants.{Load as LoadAccess, Store}
 use Rattle.arena.specs.declared.step.Kind.TheVariants.{LoadMarked, LoadState, LoadSettled, Fill as FillKind}
@@ -14,14 +14,13 @@ use Rattle.arena.specs.declared.word.Word.TheVariants.{Node as NodeOf, Scx as Sc
 use Rattle.arena.specs.History.{History}
 use Rattle.arena.specs.Machines.{Call}
 use Rattle.arena.specs.Share.{Remaining}
-use Rattle.prims.specs.Snap.{child_of, snap_at}
 use Rattle.prims.specs.declared.llx.LlxAt.TheVariants.{Marked, StateAgain}
 use Rattle.prims.specs.declared.scx.ScxAt.TheVariants.{Plan as AtPlan}
 use Rattle.prims.specs.declared.update.Update.{Update}
 use Rattle.template.specs.declared.walk.Found.{Found}
 use Rattle.edits.specs.Edits.{EditMeaning}
 use Rattle.edits.specs.Known.{MayBeginTry, HasLostTry, UpdateAnswers, UpdateWaits, done_at}
-use Rattle.edits.specs.Pieces.{nth_node, plan_over, top_of, word_of}
+use Rattle.edits.specs.Pieces.{nth_node, update_for, word_of}
 use Rattle.edits.specs.Readings.{read_with}
 use Rattle.edits.specs.Steps.{IsSpending, Spends, try_left, update_left}
 use Rattle.edits.specs.declared.edit.Nth.{Nth}
@@ -36,7 +35,7 @@ use Rattle.edits.specs.declared.update.Updated.TheVariants.{Full as FullAnswer}
 
 -- the update where it stands at this place, or at none
 abbrev pub standing : {E A B : Type 0} → UpdateRun E A → B → UpdateRun E B
-standing m at = record { edit = m.edit; share = m.share; snaps = m.snaps; nodes = m.nodes; read = m.read; tries = m.tries; limit = m.limit; call = m.call; at = at }
+standing m at = record { edit = m.edit; share = m.share; work = m.work; snaps = m.snaps; nodes = m.nodes; read = m.read; tries = m.tries; limit = m.limit; call = m.call; at = at }
 
 -- it makes the same edit, in the same call, which may try as often
 abbrev pub IsSameUpdate : {E A B : Type 0} → UpdateRun E A → UpdateRun E B → Type 0
@@ -50,17 +49,11 @@ told m part v = record m { read = read_with m.read part v }
 abbrev pub half_told : {E A : Type 0} → UpdateRun E A → Slot → ℕ → ℕ → UpdateRun E A
 half_told m slot key low = told (told m (Key slot) key) (Value slot) low
 
-module _ {E : Type 0} (e : EditMeaning E) where
-  -- The SCX covers all that was looked at and finalizes all but the first, of which a field gets
-  -- the last fresh node.
-  abbrev pub update_of : {A : Type 0} → UpdateRun E A → Found → Update
-  update_of m f = record {
-    snaps = m.snaps.items;
-    plan = record { 0 = plan_over (length m.snaps.items) (e.side m.edit f) };
-    old = child_of (snap_at m.snaps.items 0) (e.side m.edit f);
-    fresh = record { 0 = top_of (e.needs m.edit f) m.nodes };
-  }
+-- what its SCX is to do
+abbrev pub update_of : {E A : Type 0} → UpdateRun E A → Update
+update_of m = update_for m.work m.snaps.items m.nodes
 
+module _ {E : Type 0} (e : EditMeaning E) where
   -- the fill of a word of the fresh node of this place
   abbrev pub fills : {A : Type 0} → UpdateRun E A → Found → Nth → NodeWord → Step
   fills m f nth part = record { kind = FillKind; word = NodeOf (nth_node m.nodes nth) part; access = Store (word_of (e.pieces m.edit f m.snaps.items m.nodes m.read nth) part) }
@@ -71,7 +64,7 @@ module _ {E : Type 0} (e : EditMeaning E) where
   placed m f (Wait n b scx) = standing m (Look f record { node = n; at = StateAgain b scx })
   placed m f (ReadNext n part) = standing m (Read f n part)
   placed m f (FillNext nth) = standing m (Fill f nth (Settled Head))
-  placed m f (Change scx) = standing m (Scx f record { scx = scx; call = m.call; update = update_of m f; at = AtPlan })
+  placed m f (Change scx) = standing m (Scx f record { scx = scx; call = m.call; update = update_of m; at = AtPlan })
 
   -- the step with which it begins
   abbrev pub next_step : {A : Type 0} → UpdateRun E A → Found → Next → Step
@@ -79,7 +72,7 @@ module _ {E : Type 0} (e : EditMeaning E) where
   next_step m f (Wait n b scx) = record { kind = LoadState; word = ScxOf scx StateWord; access = LoadAccess }
   next_step m f (ReadNext n part) = record { kind = LoadSettled; word = NodeOf n (Settled part); access = LoadAccess }
   next_step m f (FillNext nth) = fills m f nth (Settled Head)
-  next_step m f (Change scx) = record { kind = FillKind; word = ScxOf scx PlanWord; access = Store (plan_over (length m.snaps.items) (e.side m.edit f)) }
+  next_step m f (Change scx) = record { kind = FillKind; word = ScxOf scx PlanWord; access = Store m.work.plan.0 }
 
   -- a try may end so: with what its update answers, or lost to another pass
   abbrev pub MayStop : {A : Type 0} → Call → History → UpdateRun E A → Found → Stop → Type 0

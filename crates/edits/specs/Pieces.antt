@@ -1,6 +1,5 @@
 -- What fresh nodes are to hold.
-use Rattle.std.specs.Prelude.{ℕ, suc, ◌+◌, ◌*◌, ◌-◌, ◌/◌, ◌%◌, ◌^◌, min, nat_lt, Bool, true, false, if◌then◌else◌, List, [], ◌∷◌, length, Option, Some, None}
-use Rattle.arena.specs.declared.word.Side.{Side}
+use Rattle.std.specs.Prelude.{ℕ, suc, ◌+◌, ◌*◌, ◌-◌, ◌/◌, ◌%◌, ◌^◌, min, nat_lt, Bool, true, false, if◌then◌else◌, List, length, Option, Some, None}
 use Rattle.arena.specs.declared.number.NodeNo.{NodeNo}
 use Rattle.arena.specs.declared.word.Side.TheVariants.{Left, Right}
 use Rattle.arena.specs.declared.word.NodeWord.{NodeWord}
@@ -9,16 +8,18 @@ use Rattle.arena.specs.declared.word.SettledPart.TheVariants.{Head, More, Key, V
 use Rattle.arena.specs.declared.word.Slot.{Slot}
 use Rattle.arena.specs.declared.word.Slot.TheVariants.{First as FirstSlot}
 use Rattle.arena.specs.Heads.{head_word}
-use Rattle.arena.specs.ScxRecords.{side_no, removed_bits}
+use Rattle.arena.specs.ScxRecords.{field_index_of, side_of}
 use Rattle.arena.specs.Share.{Remaining}
 use Rattle.arena.specs.Words.{slot_no, first_key}
+use Rattle.prims.specs.Snap.{child_of, snap_at}
+use Rattle.prims.specs.declared.snap.Snap.{Snap}
+use Rattle.prims.specs.declared.update.Update.{Update}
 use Rattle.ordered_map.specs.declared.pair.Pair.{Pair}
 use Rattle.ordered_map.specs.Holding.{slot_behind}
-use Rattle.edits.specs.declared.edit.Need.{Need}
-use Rattle.edits.specs.declared.edit.Need.TheVariants.{Nothing, One, Three}
 use Rattle.edits.specs.declared.edit.Nodes.{Nodes}
 use Rattle.edits.specs.declared.edit.Nth.{Nth}
 use Rattle.edits.specs.declared.edit.Nth.TheVariants.{First, Second, Third}
+use Rattle.edits.specs.declared.edit.Work.{Work}
 use Rattle.edits.specs.declared.piece.Piece.{Piece}
 use Rattle.edits.specs.declared.piece.Piece.TheVariants.{Leaf, Fork}
 use Rattle.edits.specs.Pairs.{pair_at}
@@ -129,14 +130,18 @@ fills_behind (Fork level class key l r) _ = 0
 abbrev pub many_fills : Piece → ℕ
 many_fills p = suc (fills_behind p (Settled Head))
 
--- so many in the fresh nodes behind this place, where so many are needed
-abbrev pub fills_after : Need → (Nth → Piece) → Nth → ℕ
-fills_after Three pieces First = many_fills (pieces Second) + many_fills (pieces Third)
-fills_after Three pieces Second = many_fills (pieces Third)
-fills_after _ pieces nth = 0
+-- so many in the third fresh node, where that many are needed
+abbrev pub third_fills : ℕ → (Nth → Piece) → ℕ
+third_fills need pieces = if nat_lt 2 need then many_fills (pieces Third) else 0
+
+-- so many in the fresh nodes after this place
+abbrev pub fills_after : ℕ → (Nth → Piece) → Nth → ℕ
+fills_after need pieces First = if nat_lt 1 need then many_fills (pieces Second) + third_fills need pieces else 0
+fills_after need pieces Second = third_fills need pieces
+fills_after need pieces Third = 0
 
 -- and in all of them
-abbrev pub all_fills : Need → (Nth → Piece) → ℕ
+abbrev pub all_fills : ℕ → (Nth → Piece) → ℕ
 all_fills need pieces = many_fills (pieces First) + fills_after need pieces First
 
 -- the fresh node of this place
@@ -145,31 +150,38 @@ nth_node ns First = ns.first
 nth_node ns Second = ns.second
 nth_node ns Third = ns.third
 
--- the last of so many fresh nodes
-abbrev pub top_of : Need → Nodes → ℕ
-top_of Three ns = ns.third.0
-top_of _ ns = ns.first.0
+-- the last of that many fresh nodes
+abbrev pub top_of : ℕ → Nodes → ℕ
+top_of need ns =
+    if nat_lt 2 need then ns.third.0
+    else (if nat_lt 1 need then ns.second.0 else ns.first.0)
 
 -- what is left of a share once a node is taken
 abbrev pub less_a_node : Remaining → Remaining
 less_a_node left = record left { next_node = left.next_node + 1; nodes = left.nodes - 1 }
 
--- how many fresh nodes are needed
-abbrev pub many_nodes : Need → ℕ
-many_nodes Nothing = 0
-many_nodes One = 1
-many_nodes Three = 3
+-- how many fresh nodes come before this place
+abbrev pub nth_no : Nth → ℕ
+nth_no First = 0
+nth_no Second = 1
+nth_no Third = 2
 
--- the place of the fresh node that is filled behind this one
-abbrev pub nth_behind : Need → Nth → Option Nth
-nth_behind Three First = Some Second
-nth_behind Three Second = Some Third
-nth_behind _ _ = None
+-- the place of the fresh node that is filled after this one
+abbrev pub nth_behind : ℕ → Nth → Option Nth
+nth_behind need First = if nat_lt 1 need then Some Second else None
+nth_behind need Second = if nat_lt 2 need then Some Third else None
+nth_behind need Third = None
 
--- which of so many nodes an update finalizes: all but the first
-abbrev pub all_but_first : ℕ → List Bool
-all_but_first n = false ∷ nat_lt 1 n ∷ nat_lt 2 n ∷ nat_lt 3 n ∷ []
+-- there is nothing to do
+abbrev pub no_work : Work
+no_work = record { need = 0; plan = record { 0 = 0 } }
 
--- the plan word of an update of so many nodes that changes the first one's field on this side
-abbrev pub plan_over : ℕ → Side → ℕ
-plan_over n side = n + 8 * removed_bits (all_but_first n) + 128 * 0 + 512 * side_no side
+-- What the SCX is to do that this work asks for, once these snapshots are taken and these nodes are
+-- full: into the field that the plan names goes the last fresh node.
+abbrev pub update_for : Work → List Snap → Nodes → Update
+update_for w snaps ns = record {
+  snaps = snaps;
+  plan = w.plan;
+  old = child_of (snap_at snaps (field_index_of w.plan.0)) (side_of w.plan.0);
+  fresh = record { 0 = top_of w.need ns };
+}

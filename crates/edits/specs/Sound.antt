@@ -1,5 +1,5 @@
 -- The laws of an edit.
-use Rattle.std.specs.Prelude.{◌≡◌, ◌≢◌, ◌⊎◌, ℕ, true, List, [], Some}
+use Rattle.std.specs.Prelude.{◌≡◌, ◌⊎◌, ℕ, ◌<◌, true, List, Some}
 use Rattle.arena.specs.declared.number.NodeNo.{NodeNo}
 use Rattle.arena.specs.declared.number.ScxNo.{ScxNo}
 use Rattle.arena.specs.declared.word.NodeWord.TheVariants.{Child}
@@ -10,8 +10,7 @@ use Rattle.arena.specs.Machines.{Call}
 use Rattle.histories.specs.Descriptor.{Descriptor}
 use Rattle.prims.specs.Laws.Idle.{IsQuietSince}
 use Rattle.prims.specs.Llx.Known.{IsOpened}
-use Rattle.prims.specs.Scx.Known.{Job, Says}
-use Rattle.prims.specs.Snaps.{AreDistinct}
+use Rattle.prims.specs.Scx.Known.{IsUpdateOver, Job, Says}
 use Rattle.prims.specs.declared.snap.Snap.{Snap}
 use Rattle.ordered_map.specs.OrderedMap.{edit_key}
 use Rattle.ordered_map.specs.Runs.{IsTreeRun}
@@ -20,37 +19,35 @@ use Rattle.template.specs.FoundLeaf.{asked_key}
 use Rattle.template.specs.Promises.{IsPromised}
 use Rattle.template.specs.declared.walk.Found.{Found}
 use Rattle.edits.specs.declared.edit.Look.TheVariants.{At, Differs, Enough}
-use Rattle.edits.specs.declared.edit.Need.TheVariants.{Nothing}
 use Rattle.edits.specs.declared.edit.Nodes.{Nodes}
 use Rattle.edits.specs.declared.edit.Nth.{Nth}
 use Rattle.edits.specs.declared.reading.Reading.{Reading}
 use Rattle.edits.specs.Edits.{EditMeaning, EditBounds}
-use Rattle.edits.specs.Known.{ComesBefore, CoversLeaf, IsNeeded, HasLooked, HasFilledAll, IsUpdateFor, MayRead}
-use Rattle.edits.specs.Pieces.{is_filled, nth_node, word_of}
+use Rattle.edits.specs.Known.{ComesBefore, CoversLeaf, IsNeeded, HasLooked, HasFilledAll, MayRead}
+use Rattle.edits.specs.Pieces.{is_filled, nth_node, update_for, word_of}
 
 -- What an edit looks at an LLX may look at, and was not final at a moment of the call. Where a
 -- snapshot differs from what the walk has found, what the edit names was in the way of a pass that
 -- was idle. What an edit reads every pass may know, it is not the root, and what is known of it
 -- before is right.
 pub record LooksWell {E : Type 0} (m : EditMeaning E) : Type 0 where
-  pub opens : (e : E) (c : Call) (h : History) (f : Found) (snaps : List Snap) (n : NodeNo) → IsTreeRun c.layout h → m.needs e f ≢ Nothing → HasLooked m c h e f snaps → m.looks e f snaps ≡ At n → IsOpened c.layout h n.0
-  pub stood : (e : E) (c : Call) (h : History) (f : Found) (snaps : List Snap) (n : NodeNo) → IsTreeRun c.layout h → m.needs e f ≢ Nothing → HasLooked m c h e f snaps → m.looks e f snaps ≡ At n → WasNotFinal c h n.0
-  pub differs : (e : E) (c : Call) (h : History) (f : Found) (snaps : List Snap) (n : NodeNo) (s : ScxNo) → IsTreeRun c.layout h → m.needs e f ≢ Nothing → HasLooked m c h e f snaps → m.looks e f snaps ≡ Differs n s → IsQuietSince c.layout c.pass c.start h → IsContended c h n.0 s.0
-  pub reads : (e : E) (c : Call) (h : History) (f : Found) (snaps : List Snap) (x : NodeNo × Reading) → IsTreeRun c.layout h → m.needs e f ≢ Nothing → HasLooked m c h e f snaps → m.looks e f snaps ≡ Enough → m.reads e f snaps ≡ Some x → MayRead c.layout h x.0.0 x.1
+  pub opens : (e : E) (c : Call) (h : History) (f : Found) (snaps : List Snap) (n : NodeNo) → IsTreeRun c.layout h → 0 < (m.work e f).need → HasLooked m c h e f snaps → m.looks e f snaps ≡ At n → IsOpened c.layout h n.0
+  pub stood : (e : E) (c : Call) (h : History) (f : Found) (snaps : List Snap) (n : NodeNo) → IsTreeRun c.layout h → 0 < (m.work e f).need → HasLooked m c h e f snaps → m.looks e f snaps ≡ At n → WasNotFinal c h n.0
+  pub differs : (e : E) (c : Call) (h : History) (f : Found) (snaps : List Snap) (n : NodeNo) (s : ScxNo) → IsTreeRun c.layout h → 0 < (m.work e f).need → HasLooked m c h e f snaps → m.looks e f snaps ≡ Differs n s → IsQuietSince c.layout c.pass c.start h → IsContended c h n.0 s.0
+  pub reads : (e : E) (c : Call) (h : History) (f : Found) (snaps : List Snap) (x : NodeNo × Reading) → IsTreeRun c.layout h → 0 < (m.work e f).need → HasLooked m c h e f snaps → m.looks e f snaps ≡ Enough → m.reads e f snaps ≡ Some x → MayRead c.layout h x.0.0 x.1
 
 -- a field of its fresh nodes is to hold a fresh node of a place before, or a node that a field has
 -- held
 pub record FillsWell {E : Type 0} (m : EditMeaning E) : Type 0 where
-  pub fields : (e : E) (c : Call) (h : History) (f : Found) (snaps : List Snap) (ns : Nodes) (read : Reading) (nth : Nth) (side : Side) → IsTreeRun c.layout h → HasLooked m c h e f snaps → m.looks e f snaps ≡ Enough → IsNeeded (m.needs e f) nth → is_filled (m.pieces e f snaps ns read nth) (Child side) ≡ true
+  pub fields : (e : E) (c : Call) (h : History) (f : Found) (snaps : List Snap) (ns : Nodes) (read : Reading) (nth : Nth) (side : Side) → IsTreeRun c.layout h → HasLooked m c h e f snaps → m.looks e f snaps ≡ Enough → IsNeeded (m.work e f).need nth → is_filled (m.pieces e f snaps ns read nth) (Child side) ≡ true
       → ((i : Nth) × ComesBefore i nth × (word_of (m.pieces e f snaps ns read nth) (Child side) ≡ (nth_node ns i).0)) ⊎ IsInField c.layout h (word_of (m.pieces e f snaps ns read nth) (Child side))
 
--- what an edit looks at are nodes apart, one at least, and what it makes of them is its edit
+-- what an edit has to do its plan covers as it was looked at, and what it makes of that is its edit
 pub record MakesWell {E : Type 0} (m : EditMeaning E) : Type 0 where
-  pub some : (e : E) (f : Found) → m.looks e f [] ≢ Enough
-  pub distinct : (e : E) (c : Call) (h : History) (f : Found) (snaps : List Snap) → IsTreeRun c.layout h → m.needs e f ≢ Nothing → HasLooked m c h e f snaps → m.looks e f snaps ≡ Enough → AreDistinct snaps
+  pub over : (e : E) (c : Call) (h : History) (f : Found) (snaps : List Snap) (ns : Nodes) → IsTreeRun c.layout h → 0 < (m.work e f).need → HasLooked m c h e f snaps → m.looks e f snaps ≡ Enough → IsUpdateOver (update_for (m.work e f) snaps ns)
   -- and its leaf is the one that was found
-  pub leaf : (e : E) (c : Call) (h : History) (f : Found) (snaps : List Snap) (s : ℕ) → IsTreeRun c.layout h → m.needs e f ≢ Nothing → HasLooked m c h e f snaps → m.looks e f snaps ≡ Enough → CoversLeaf m e f c h s snaps
-  pub promised : (e : E) (c : Call) (h : History) (f : Found) (snaps : List Snap) (ns : Nodes) (read : Reading) (j : Job) (d : Descriptor) → IsTreeRun c.layout h → m.needs e f ≢ Nothing → HasFilledAll m c h e f snaps ns read → IsUpdateFor (m.side e f) (m.needs e f) snaps ns j.update → Says d j → IsPromised c.layout c.pass h j.scx.0 d (m.edit e f)
+  pub leaf : (e : E) (c : Call) (h : History) (f : Found) (snaps : List Snap) (s : ℕ) → IsTreeRun c.layout h → 0 < (m.work e f).need → HasLooked m c h e f snaps → m.looks e f snaps ≡ Enough → CoversLeaf m e f c h s snaps
+  pub promised : (e : E) (c : Call) (h : History) (f : Found) (snaps : List Snap) (ns : Nodes) (read : Reading) (j : Job) (d : Descriptor) → IsTreeRun c.layout h → 0 < (m.work e f).need → HasFilledAll m c h e f snaps ns read → j.update ≡ update_for (m.work e f) snaps ns → Says d j → IsPromised c.layout c.pass h j.scx.0 d (m.edit e f)
 
 -- its edit is of the key of which the leaf that was found tells the value
 abbrev pub IsAtFound : {E : Type 0} → EditMeaning E → Type 0

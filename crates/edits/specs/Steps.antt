@@ -19,6 +19,10 @@ use Rattle.edits.specs.Edits.{EditMeaning}
 use Rattle.edits.specs.Pieces.{fills_after, fills_behind}
 use Rattle.edits.specs.Readings.{next_read, reads_left}
 
+-- what the run keeps of its edit is what that says of this leaf
+abbrev pub HasAsked : {E A : Type 0} → EditMeaning E → UpdateRun E A → Found → Type 0
+HasAsked e m f = m.work ≡ e.work m.edit f
+
 -- how many loads and fills are made at most in a try
 abbrev pub most_works : {E : Type 0} → EditMeaning E → E → ℕ
 most_works m e = m.most_reads e + m.most_fills e
@@ -35,7 +39,7 @@ pieces_now e m f nth = e.pieces m.edit f m.snaps.items m.nodes m.read nth
 
 -- how many fills are left behind that of this word
 abbrev pub fills_left : {E A : Type 0} → EditMeaning E → UpdateRun E A → Found → Nth → NodeWord → ℕ
-fills_left e m f nth part = fills_behind (pieces_now e m f nth) part + fills_after (e.needs m.edit f) (pieces_now e m f) nth
+fills_left e m f nth part = fills_behind (pieces_now e m f nth) part + fills_after m.work.need (pieces_now e m f) nth
 
 -- how many steps are left in this try, at this place
 abbrev pub phase_left : {E A : Type 0} → EditMeaning E → UpdateRun E A → ℕ → UpdateAt → ℕ
@@ -56,14 +60,15 @@ IsNearer e m nodes turn n = MatchTurn turn (λ _. update_left e m nodes < n) (λ
 
 -- what the run is told at this place fits so many taken nodes, and is of the word that it reads
 -- next
-abbrev pub UpdateFitsAt : {E A : Type 0} → UpdateRun E A → Option ℕ → ℕ → UpdateAt → Type 0
-UpdateFitsAt m got nodes (Walk walk) = WalkFits walk got nodes
-UpdateFitsAt m got nodes (Read f n part) = next_read m.read ≡ Some part
-UpdateFitsAt m got nodes _ = Unit {0}
+abbrev pub UpdateFitsAt : {E A : Type 0} → EditMeaning E → UpdateRun E A → Option ℕ → ℕ → UpdateAt → Type 0
+UpdateFitsAt e m got nodes (Walk walk) = WalkFits walk got nodes
+UpdateFitsAt e m got nodes (Look f llx) = HasAsked e m f
+UpdateFitsAt e m got nodes (Read f n part) = HasAsked e m f × (next_read m.read ≡ Some part)
+UpdateFitsAt e m got nodes _ = Unit {0}
 
 -- what the run is told where it stands fits so many taken nodes
-abbrev pub UpdateFits : {E : Type 0} → UpdateRun E UpdateAt → Option ℕ → ℕ → Type 0
-UpdateFits m got nodes = UpdateFitsAt m got nodes m.at
+abbrev pub UpdateFits : {E : Type 0} → EditMeaning E → UpdateRun E UpdateAt → Option ℕ → ℕ → Type 0
+UpdateFits e m got nodes = UpdateFitsAt e m got nodes m.at
 
 -- What it takes of its share
 
@@ -79,10 +84,12 @@ abbrev pub scx_tries : {E A : Type 0} → UpdateRun E A → UpdateAt → ℕ
 scx_tries m (Scx f scx) = m.tries
 scx_tries m _ = m.tries + 1
 
--- and while it fills a fresh node there is one left
-abbrev pub HasScxForFill : {E A : Type 0} → UpdateRun E A → UpdateAt → Type 0
-HasScxForFill m (Fill f nth part) = 0 < m.share.scx
-HasScxForFill m _ = Unit {0}
+-- before it takes nodes it keeps how many are needed; and while it fills one there is an SCX-record
+-- left
+abbrev pub MaySpend : {E A : Type 0} → EditMeaning E → UpdateRun E A → UpdateAt → Type 0
+MaySpend e m (Look f llx) = HasAsked e m f
+MaySpend e m (Fill f nth part) = 0 < m.share.scx
+MaySpend e m _ = Unit {0}
 
 -- At most so many nodes are taken for each of the tries that might take some and no longer may, and
 -- at most one SCX-record; and at most so many nodes for each SCX-record that is taken, besides

@@ -6,42 +6,30 @@ ghost use Rattle.edits.specs.Sound.{EditLaws};
 
 use crate::piece::Piece;
 use crate::reading::{Known, Reading};
-use arena::{NodeNo, ScxNo, Side};
+use arena::{NodeNo, Plan, ScxNo};
 use prims::Snap;
 use template::{Found, Goal};
 
-/// How many fresh nodes an edit needs, once the walk has found the leaf.
+/// What a try has to do at the leaf that its walk has found.
 #[derive(Clone, Copy, Debug, PartialEq, Eq)]
-pub enum Need {
-    /// None: there is nothing to update.
-    Nothing,
-    One,
-    Three,
+pub struct Work {
+    /// How many fresh nodes it needs, one to three; none where there is nothing to update.
+    pub need: u32,
+    /// Which nodes its SCX covers, which of them it finalizes, and which field it changes.
+    pub plan: Plan,
 }
 
-impl Need {
+impl Work {
     ghost use Rattle.std.specs.Prelude.{◌≡◌};
-    ghost use Rattle.edits.specs.Pieces.{many_nodes, nth_behind};
+    ghost use Rattle.edits.specs.Pieces.{no_work};
 
-    /// How many that are.
-    pub fn many(self) -> u32
-        ensures { result ≡ many_nodes self }
+    /// There is nothing to update.
+    pub fn none() -> Work
+        ensures { result ≡ no_work }
     {
-        match self {
-            Need::Nothing => 0,
-            Need::One => 1,
-            Need::Three => 3,
-        }
-    }
-
-    /// The place behind this one, if so many fresh nodes have one there.
-    pub fn behind(self, nth: Nth) -> Option<Nth>
-        ensures { result ≡ nth_behind self nth }
-    {
-        match (self, nth) {
-            (Need::Three, Nth::First) => Some(Nth::Second),
-            (Need::Three, Nth::Second) => Some(Nth::Third),
-            _ => None,
+        Work {
+            need: 0,
+            plan: Plan(0),
         }
     }
 }
@@ -66,7 +54,24 @@ pub enum Nth {
     Third,
 }
 
-/// The fresh nodes of an edit, in the order in which they were taken. Those behind the last are 0.
+impl Nth {
+    ghost use Rattle.std.specs.Prelude.{◌≡◌};
+    ghost use Rattle.edits.specs.Pieces.{nth_behind};
+
+    /// The place after this one, where that many fresh nodes have one there.
+    pub fn behind(self, need: u32) -> Option<Nth>
+        ensures { result ≡ nth_behind need self }
+    {
+        match self {
+            Nth::First if 1 < need => Some(Nth::Second),
+            Nth::Second if 2 < need => Some(Nth::Third),
+            _ => None,
+        }
+    }
+}
+
+/// The fresh nodes of an edit, in the order in which they were taken; only those that it needs are
+/// meant.
 #[derive(Clone, Copy, Debug, Default, PartialEq, Eq)]
 pub struct Nodes {
     pub first: NodeNo,
@@ -78,13 +83,16 @@ impl Nodes {
     ghost use Rattle.std.specs.Prelude.{◌≡◌};
     ghost use Rattle.edits.specs.Pieces.{nth_node, top_of};
 
-    /// The last of so many.
-    pub fn last(&self, need: Need) -> NodeNo
+    /// The last of that many.
+    pub fn last(&self, need: u32) -> NodeNo
         ensures { result.0 ≡ top_of need self.now }
     {
-        match need {
-            Need::Three => self.third,
-            _ => self.first,
+        if 2 < need {
+            self.third
+        } else if 1 < need {
+            self.second
+        } else {
+            self.first
         }
     }
 
@@ -110,13 +118,9 @@ pub trait Edit {
     fn goal(&self) -> Goal
         ensures { result ≡ means.goal self.now };
 
-    /// How many fresh nodes it needs.
-    fn need(&self, found: &Found) -> Need
-        ensures { result ≡ means.needs self.now found.now };
-
-    /// The side of the field that it changes, which is one of the node that it looks at first.
-    fn side(&self, found: &Found) -> Side
-        ensures { result ≡ means.side self.now found.now };
+    /// What there is to do at this leaf.
+    fn work(&self, found: &Found) -> Work
+        ensures { result ≡ means.work self.now found.now };
 
     /// What it looks at next, once it has these snapshots.
     fn look(&self, found: &Found, snaps: &[Snap]) -> Look

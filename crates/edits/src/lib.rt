@@ -10,7 +10,7 @@ mod update;
 mod work;
 
 pub use alone::alone_holds;
-pub use edit::{Edit, Look, Need, Nodes, Nth};
+pub use edit::{Edit, Look, Nodes, Nth, Work};
 pub use pairs::Pairs;
 pub use piece::Piece;
 pub use reading::{Known, Reading};

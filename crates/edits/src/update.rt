@@ -3,7 +3,8 @@ ghost use Rattle.std.specs.Prelude.{◌≡◌, ℕ, ◌+◌, ◌*◌, ◌-◌, �
 ghost use Rattle.arena.specs.Machines.{MatchTurn};
 ghost use Rattle.edits.specs.Steps.{try_left, most_works, update_left, IsNearer};
 
-use crate::edit::{Edit, Nodes, Nth};
+use crate::edit::{Edit, Nodes, Nth, Work};
+use crate::piece::Piece;
 use crate::reading::Reading;
 use arena::{
     Access, Full, Head, Kind, Machine, NodeNo, NodeWord, ScxNo, ScxWord, SettledPart, Share, Step,
@@ -120,6 +121,8 @@ pub struct UpdateRun<E, A> {
     pub edit: E,
     /// The nodes and SCX-records that it may take.
     pub share: Share,
+    /// What this try has to do at the leaf that it has found.
+    pub work: Work,
     /// What the LLXs of this try have found.
     pub snaps: ArrayVec<Snap, 4>,
     /// The fresh nodes of this try.
@@ -172,14 +175,14 @@ impl<E: Edit + Drop> UpdateRun<E, UpdateAt> {
     ghost use Rattle.std.specs.Prelude.{None, Some, Ok};
     ghost use Rattle.template.specs.Walk.Known.{WalkIsTold};
     ghost use Rattle.edits.specs.Known.{Walks, IsFilledUpTo, UpdateIsReady};
-    ghost use Rattle.edits.specs.Steps.{UpdateFits, fills_left};
+    ghost use Rattle.edits.specs.Steps.{UpdateFits, fills_left, pieces_now};
     ghost use Rattle.arena.specs.History.{History};
     ghost use Rattle.arena.specs.Machines.{Call, IsRun, begun_at};
     ghost use Rattle.prims.specs.Llx.Known.{LlxIsReady};
     ghost use Rattle.prims.specs.Scx.Known.{ScxIsReady};
     ghost use Rattle.ordered_map.specs.TreeShape.{TreeAllows};
     ghost use Rattle.edits.specs.Known.{MayBeginTry, HasLostTry, IsUntouched, Looks, Scxs, UpdateTurn};
-    ghost use Rattle.edits.specs.Steps.{HasScxForFill, IsSpending, node_tries, scx_tries};
+    ghost use Rattle.edits.specs.Steps.{HasAsked, MaySpend, IsSpending, node_tries, scx_tries};
     ghost use Rattle.edits.specs.Next.{IsSameUpdate, placed, next_step, fills, update_of, MayStop, UpdateGoesOn, ComesNearer, HasSpentForNext};
     ghost use Rattle.arena.specs.Share.{Remaining};
     ghost use Rattle.edits.specs.Tries.{MayTry, IsTry};
@@ -256,10 +259,11 @@ impl<E: Edit + Drop> UpdateRun<E, UpdateAt> {
             → Looks E.means self.old (begun_at c b) h found llx begin
             → LlxIsReady TreeAllows llx (begun_at (begun_at c b) begin) h got → UpdateTurn E.means c h self.new result }
         ensures same { IsSameUpdate self.old self.new }
-        ensures nearer { (nodes : ℕ) → IsNearer E.means self.new nodes result
+        ensures nearer { HasAsked E.means self.old found → (nodes : ℕ) → IsNearer E.means self.new nodes result
             (self.old.tries * try_left E.means self.old.edit nodes +
             (llx_left llx.at + 64 * (E.means.most_looks self.old.edit - 1 - length self.old.snaps.items) + most_works E.means self.old.edit + 39)) }
-        ensures spends { IsSpending E.means result self.old.share self.new (self.old.tries + 1) (self.old.tries + 1) }
+        ensures spends { HasAsked E.means self.old found
+            → IsSpending E.means result self.old.share self.new (self.old.tries + 1) (self.old.tries + 1) }
         ensures tries { (self.old.tries ≤ self.new.tries + 1) × (self.new.tries ≤ self.old.tries) }
     {
         match Machine::<Tree>::next(&mut llx, got) {
@@ -276,14 +280,13 @@ impl<E: Edit + Drop> UpdateRun<E, UpdateAt> {
         }
     }
 
-    /// Fills a word of the fresh node of this place.
+    /// Fills a word of the fresh node of this place, which is to hold this piece.
     #[inline(always)]
-    fn fill(&mut self, found: Found, nth: Nth, part: NodeWord) -> Turn<Updated>
+    fn fill(&mut self, found: Found, nth: Nth, part: NodeWord, piece: &Piece) -> Turn<Updated>
+        requires piece { piece.now ≡ pieces_now E.means self.old found nth }
         ensures place { self.new ≡ record self.old { at = UpdateAt.Fill found nth part } }
         ensures asks { result ≡ Turn.Ask (fills E.means self.old found nth part) }
     {
-        let snaps = self.snaps.as_slice();
-        let piece = self.edit.piece(&found, snaps, &self.nodes, &self.read, nth);
         self.at = UpdateAt::Fill { found, nth, part };
         Turn::Ask(Step {
             kind: Kind::Fill,
@@ -302,10 +305,9 @@ impl<E: Edit + Drop> UpdateRun<E, UpdateAt> {
         ensures spends { 0 < self.old.share.scx → IsSpending E.means result self.old.share self.new self.old.tries (self.old.tries + 1) }
         ensures tries { (self.old.tries ≤ self.new.tries + 1) × (self.new.tries ≤ self.old.tries) }
     {
-        let snaps = self.snaps.as_slice();
-        let piece = self.edit.piece(&found, snaps, &self.nodes, &self.read, nth);
+        let piece = self.piece(&found, nth);
         if let Some(next) = piece.behind(part) {
-            return self.fill(found, nth, next);
+            return self.fill(found, nth, next, &piece);
         }
         let next = self.filled(&found, nth);
         self.go_on(found, next)
@@ -320,7 +322,7 @@ impl<E: Edit + Drop> UpdateRun<E, UpdateAt> {
             Next::Look(node) => self.begin_look(found, node),
             Next::Wait { node, marked, scx } => self.begin_wait(found, node, marked, scx),
             Next::Read { node, part } => self.begin_read(found, node, part),
-            Next::Fill(nth) => self.fill(found, nth, NodeWord::Settled(SettledPart::Head)),
+            Next::Fill(nth) => self.begin_fill(found, nth),
             Next::Change(scx) => self.begin_scx(found, scx),
         }
     }
@@ -368,12 +370,21 @@ impl<E: Edit + Drop> UpdateRun<E, UpdateAt> {
         })
     }
 
+    /// Begins the fills of the fresh node of this place.
+    fn begin_fill(&mut self, found: Found, nth: Nth) -> Turn<Updated>
+        ensures place { self.new ≡ placed E.means self.old found (Next.Fill nth) }
+        ensures asks { result ≡ Turn.Ask (next_step E.means self.old found (Next.Fill nth)) }
+    {
+        let piece = self.piece(&found, nth);
+        self.fill(found, nth, NodeWord::Settled(SettledPart::Head), &piece)
+    }
+
     /// Begins the SCX.
     fn begin_scx(&mut self, found: Found, scx: ScxNo) -> Turn<Updated>
         ensures place { self.new ≡ placed E.means self.old found (Next.Change scx) }
         ensures asks { result ≡ Turn.Ask (next_step E.means self.old found (Next.Change scx)) }
     {
-        let run = self.scx_run(&found, scx, ScxAt::Plan);
+        let run = self.scx_run(scx, ScxAt::Plan);
         let plan = run.update.plan;
         self.at = UpdateAt::Scx { found, scx: run };
         Turn::Ask(Step {
@@ -390,13 +401,13 @@ impl<E: Edit + Drop> UpdateRun<E, UpdateAt> {
           at = UpdateAt.Scx found record {
             scx = scx;
             call = self.old.call;
-            update = update_of E.means self.old found;
+            update = update_of self.old;
             at = ScxAt.Help help;
           };
         } }
         ensures asks { result ≡ Turn.Ask record { kind = Kind.LoadAllFrozen; word = Word.Scx scx ScxWord.AllFrozen; access = Access.Load } }
     {
-        let run = self.scx_run(&found, scx, ScxAt::Help { help });
+        let run = self.scx_run(scx, ScxAt::Help { help });
         self.at = UpdateAt::Scx { found, scx: run };
         Turn::Ask(Step {
             kind: Kind::LoadAllFrozen,
@@ -464,8 +475,8 @@ impl<E: Edit + Drop> UpdateRun<E, UpdateAt> {
             → UpdateTurn E.means c h self.new result }
         ensures begins { got ≡ None → (c : Call) (h : History) → UpdateIsReady E.means self.old c h None → MatchTurn result (λ _. Unit {0}) (λ _. ⊥) }
         ensures same { IsSameUpdate self.old self.new }
-        ensures nearer { (nodes : ℕ) → UpdateFits self.old got nodes → IsNearer E.means self.new nodes result (update_left E.means self.old nodes) }
-        ensures spends { HasScxForFill self.old self.old.at
+        ensures nearer { (nodes : ℕ) → UpdateFits E.means self.old got nodes → IsNearer E.means self.new nodes result (update_left E.means self.old nodes) }
+        ensures spends { MaySpend E.means self.old self.old.at
             → IsSpending E.means result self.old.share self.new (node_tries self.old self.old.at) (scx_tries self.old self.old.at) }
         ensures tries { (self.old.tries ≤ self.new.tries + 1) × (self.new.tries ≤ self.old.tries) }
     {
@@ -501,7 +512,7 @@ impl<E: Edit + Drop> Machine<Tree> for UpdateRun<E, UpdateAt> {
 
     ghost left = { update_left E.means };
 
-    ghost fits = { UpdateFits };
+    ghost fits = { UpdateFits E.means };
 
     ghost asks_first = { λ _. Unit {0} };
 

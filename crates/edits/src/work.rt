@@ -1,10 +1,11 @@
 //! The work of an update, wherever it stands.
-ghost use Rattle.edits.specs.Steps.{try_left, most_works, pieces_now};
+ghost use Rattle.edits.specs.Steps.{HasAsked, try_left, most_works, pieces_now};
 
-use crate::edit::{Edit, Look, Need, Nodes, Nth};
+use crate::edit::{Edit, Look, Nodes, Nth, Work};
+use crate::piece::Piece;
 use crate::reading::Reading;
 use crate::update::{Next, Stop, UpdateRun};
-use arena::{Full, MemberIndex, NodeNo, Plan, Resource, ScxNo, SettledPart, Share, Slot};
+use arena::{Full, NodeNo, Resource, ScxNo, SettledPart, Share, Slot};
 use arrayvec::ArrayVec;
 use prims::{ScxAt, ScxRun, Snap, SnapList, Snaps, Update};
 use template::Found;
@@ -13,7 +14,7 @@ impl<E: Edit + Drop, A: Drop> UpdateRun<E, A> {
     ghost use Rattle.std.specs.Prelude.{◌≡◌, ℕ, ◌<◌, ◌≤◌, ◌*◌, ◌+◌, ◌-◌, length};
     ghost use Rattle.std.specs.Prelude.{◌≢◌, IfNone, IfSome, None, Some, Ok, true};
     ghost use Rattle.template.specs.FoundLeaf.{HasFoundGoal};
-    ghost use Rattle.edits.specs.Known.{HasNodesFor, IsShort, IsFilledUpTo, CanScx};
+    ghost use Rattle.edits.specs.Known.{HasNodesFor, HasTaken, IsShort, IsFilledUpTo, CanScx};
     ghost use Rattle.edits.specs.Pieces.{fills_after, part_behind, less_a_node};
     ghost use Rattle.edits.specs.Readings.{is_at_pair, next_read, reads_left};
     ghost use Rattle.arena.specs.History.{History, value};
@@ -42,6 +43,7 @@ impl<E: Edit + Drop, A: Drop> UpdateRun<E, A> {
         UpdateRun {
             edit,
             share,
+            work: Work::none(),
             snaps: ArrayVec::new(),
             nodes: Nodes::default(),
             read: Reading::new(),
@@ -60,6 +62,7 @@ impl<E: Edit + Drop, A: Drop> UpdateRun<E, A> {
         UpdateRun {
             edit: self.edit,
             share: self.share,
+            work: self.work,
             snaps: self.snaps,
             nodes: self.nodes,
             read: self.read,
@@ -78,14 +81,14 @@ impl<E: Edit + Drop, A: Drop> UpdateRun<E, A> {
         self.share
     }
 
-    /// What the share lacks of so many fresh nodes and an SCX-record.
+    /// What the share lacks of the fresh nodes that are needed and an SCX-record.
     #[inline(always)]
-    fn lacks(&self, need: Need) -> Option<Full>
-        ensures enough { need ≢ Need.Nothing → IfNone result (HasNodesFor need self.now.share) }
-        ensures short { IfSome result (λ full. IsShort need self.now.share full.what full.left) }
+    fn lacks(&self) -> Option<Full>
+        ensures enough { 0 < self.now.work.need → IfNone result (HasNodesFor self.now.work.need self.now.share) }
+        ensures short { IfSome result (λ full. IsShort self.now.work.need self.now.share full.what full.left) }
     {
         let (nodes, scx) = self.share.left();
-        if nodes < need.many() {
+        if nodes < self.work.need {
             let what = Resource::Nodes;
             return Some(Full { what, left: nodes });
         }
@@ -109,11 +112,11 @@ impl<E: Edit + Drop, A: Drop> UpdateRun<E, A> {
         ensures spends { HasSpentForNext E.means self.old.share self.new found.now result (self.old.tries + 1) (self.old.tries + 1) }
         ensures tries { self.new.tries ≡ self.old.tries }
     {
-        let need = self.edit.need(found);
-        if need == Need::Nothing {
+        self.work = self.edit.work(found);
+        if self.work.need == 0 {
             return Err(Stop::Nothing);
         }
-        if let Some(full) = self.lacks(need) {
+        if let Some(full) = self.lacks() {
             return Err(Stop::Full(full));
         }
         self.snaps.clear();
@@ -126,10 +129,11 @@ impl<E: Edit + Drop, A: Drop> UpdateRun<E, A> {
         ensures turn { (c : Call) (b h : History) → IsRun TreeAllows c.layout h → IsTry c b h self.old.limit self.old.tries
             → CanLook E.means self.old (begun_at c b) h found.now → UpdateGoesOn E.means c h self.new found.now result }
         ensures same { IsSameUpdate self.old self.new }
-        ensures nearer { (nodes : ℕ) → ComesNearer E.means self.new found.now result nodes
+        ensures nearer { HasAsked E.means self.old found.now → (nodes : ℕ) → ComesNearer E.means self.new found.now result nodes
             (self.old.tries * try_left E.means self.old.edit nodes +
             (64 * (E.means.most_looks self.old.edit - length self.old.snaps.items) + most_works E.means self.old.edit + 39)) }
-        ensures spends { HasSpentForNext E.means self.old.share self.new found.now result (self.old.tries + 1) (self.old.tries + 1) }
+        ensures spends { HasAsked E.means self.old found.now
+            → HasSpentForNext E.means self.old.share self.new found.now result (self.old.tries + 1) (self.old.tries + 1) }
         ensures tries { self.new.tries ≡ self.old.tries }
     {
         match self.edit.look(found, self.snaps.as_slice()) {
@@ -148,10 +152,11 @@ impl<E: Edit + Drop, A: Drop> UpdateRun<E, A> {
             → IsSnapshot c.layout h snap.node.0 snap → HasFoundThere c.pass h b snap.node.0 snap.scx.0
             → UpdateGoesOn E.means c h self.new found.now result }
         ensures same { IsSameUpdate self.old self.new }
-        ensures nearer { (nodes : ℕ) → ComesNearer E.means self.new found.now result nodes
+        ensures nearer { HasAsked E.means self.old found.now → (nodes : ℕ) → ComesNearer E.means self.new found.now result nodes
             (self.old.tries * try_left E.means self.old.edit nodes +
             (64 * (E.means.most_looks self.old.edit - 1 - length self.old.snaps.items) + most_works E.means self.old.edit + 39)) }
-        ensures spends { HasSpentForNext E.means self.old.share self.new found.now result (self.old.tries + 1) (self.old.tries + 1) }
+        ensures spends { HasAsked E.means self.old found.now
+            → HasSpentForNext E.means self.old.share self.new found.now result (self.old.tries + 1) (self.old.tries + 1) }
         ensures tries { self.new.tries ≡ self.old.tries }
     {
         let _fits = self.snaps.try_push(snap);
@@ -166,65 +171,34 @@ impl<E: Edit + Drop, A: Drop> UpdateRun<E, A> {
             → E.means.looks self.old.edit found.now self.old.snaps.items ≡ Look.Enough
             → UpdateGoesOn E.means c h self.new found.now (Ok result) }
         ensures same { IsSameUpdate self.old self.new }
-        ensures nearer { (nodes : ℕ) → ComesNearer E.means self.new found.now (Ok result) nodes
+        ensures nearer { HasAsked E.means self.old found.now → (nodes : ℕ) → ComesNearer E.means self.new found.now (Ok result) nodes
             (self.old.tries * try_left E.means self.old.edit nodes + (most_works E.means self.old.edit + 39)) }
-        ensures spends { HasSpentForNext E.means self.old.share self.new found.now (Ok result) (self.old.tries + 1) (self.old.tries + 1) }
-        ensures tries { self.new.tries ≡ self.old.tries }
-    {
-        if self.edit.need(found) == Need::Three {
-            self.begin_three(found)
-        } else {
-            self.begin_one(found)
-        }
-    }
-
-    /// Takes one fresh node.
-    #[inline(always)]
-    fn begin_one(&mut self, found: &Found) -> Next
-        ensures turn { (c : Call) (b h : History) → IsRun TreeAllows c.layout h → IsTry c b h self.old.limit self.old.tries
-            → CanLook E.means self.old (begun_at c b) h found.now
-            → E.means.looks self.old.edit found.now self.old.snaps.items ≡ Look.Enough
-            → E.means.needs self.old.edit found.now ≡ Need.One
-            → UpdateGoesOn E.means c h self.new found.now (Ok result) }
-        ensures same { IsSameUpdate self.old self.new }
-        ensures nearer { (nodes : ℕ) → ComesNearer E.means self.new found.now (Ok result) nodes
-            (self.old.tries * try_left E.means self.old.edit nodes + (most_works E.means self.old.edit + 39)) }
-        ensures spends { HasSpentForNext E.means self.old.share self.new found.now (Ok result) (self.old.tries + 1) (self.old.tries + 1) }
-        ensures tries { self.new.tries ≡ self.old.tries }
-    {
-        let first = self.take();
-        self.nodes = Nodes {
-            first,
-            second: NodeNo(0),
-            third: NodeNo(0),
-        };
-        self.begin_reading(found)
-    }
-
-    /// Takes three.
-    #[inline(always)]
-    fn begin_three(&mut self, found: &Found) -> Next
-        ensures turn { (c : Call) (b h : History) → IsRun TreeAllows c.layout h → IsTry c b h self.old.limit self.old.tries
-            → CanLook E.means self.old (begun_at c b) h found.now
-            → E.means.looks self.old.edit found.now self.old.snaps.items ≡ Look.Enough
-            → E.means.needs self.old.edit found.now ≡ Need.Three
-            → UpdateGoesOn E.means c h self.new found.now (Ok result) }
-        ensures same { IsSameUpdate self.old self.new }
-        ensures nearer { (nodes : ℕ) → ComesNearer E.means self.new found.now (Ok result) nodes
-            (self.old.tries * try_left E.means self.old.edit nodes + (most_works E.means self.old.edit + 39)) }
-        ensures spends { E.means.needs self.old.edit found.now ≡ Need.Three
+        ensures spends { HasAsked E.means self.old found.now
             → HasSpentForNext E.means self.old.share self.new found.now (Ok result) (self.old.tries + 1) (self.old.tries + 1) }
         ensures tries { self.new.tries ≡ self.old.tries }
     {
-        let first = self.take();
-        let second = self.take();
-        let third = self.take();
-        self.nodes = Nodes {
-            first,
-            second,
-            third,
-        };
+        self.take_nodes();
         self.begin_reading(found)
+    }
+
+    /// Takes as many as are needed.
+    #[inline(always)]
+    fn take_nodes(&mut self)
+        ensures same { self.new ≡ record self.old { share = self.new.share; nodes = self.new.nodes } }
+        ensures spent { ((most : ℕ) → 0 < most → self.old.work.need ≤ most → self.old.share.nodes ≤ self.new.share.nodes + most)
+            × (self.new.share.scx ≡ self.old.share.scx) }
+        ensures taken { HasNodesFor self.old.work.need self.old.share
+            → HasTaken self.old.work.need self.old.share self.new.share self.new.nodes }
+    {
+        self.nodes.first = self.take();
+        if self.work.need < 2 {
+            return;
+        }
+        self.nodes.second = self.take();
+        if self.work.need < 3 {
+            return;
+        }
+        self.nodes.third = self.take();
     }
 
     /// Takes a fresh node.
@@ -248,7 +222,7 @@ impl<E: Edit + Drop, A: Drop> UpdateRun<E, A> {
         ensures turn { (c : Call) (b h : History) → IsRun TreeAllows c.layout h → IsTry c b h self.old.limit self.old.tries
             → CanWork E.means self.old (begun_at c b) h found.now → UpdateGoesOn E.means c h self.new found.now (Ok result) }
         ensures same { IsSameUpdate self.old self.new }
-        ensures nearer { (nodes : ℕ) → ComesNearer E.means self.new found.now (Ok result) nodes
+        ensures nearer { HasAsked E.means self.old found.now → (nodes : ℕ) → ComesNearer E.means self.new found.now (Ok result) nodes
             (self.old.tries * try_left E.means self.old.edit nodes + (most_works E.means self.old.edit + 39)) }
         ensures spends { HasSpentForNext E.means self.old.share self.new found.now (Ok result) self.old.tries (self.old.tries + 1) }
         ensures tries { self.new.tries ≡ self.old.tries }
@@ -267,7 +241,7 @@ impl<E: Edit + Drop, A: Drop> UpdateRun<E, A> {
     fn read_next(&self, found: &Found, node: NodeNo) -> Next
         ensures turn { (c : Call) (b h : History) → IsRun TreeAllows c.layout h → IsTry c b h self.now.limit self.now.tries
             → CanRead E.means self.now (begun_at c b) h found.now node → UpdateGoesOn E.means c h self.now found.now (Ok result) }
-        ensures nearer { (nodes : ℕ) → ComesNearer E.means self.now found.now (Ok result) nodes
+        ensures nearer { HasAsked E.means self.now found.now → (nodes : ℕ) → ComesNearer E.means self.now found.now (Ok result) nodes
             (self.now.tries * try_left E.means self.now.edit nodes + (reads_left self.now.read + E.means.most_fills self.now.edit + 39)) }
         ensures spends { HasSpentForNext E.means self.now.share self.now found.now (Ok result) self.now.tries (self.now.tries + 1) }
     {
@@ -284,7 +258,7 @@ impl<E: Edit + Drop, A: Drop> UpdateRun<E, A> {
             → Reads E.means self.old (begun_at c b) h found.now node part
             → value h (Word.Node node (NodeWord.Settled part)) ≡ told → UpdateGoesOn E.means c h self.new found.now (Ok result) }
         ensures same { IsSameUpdate self.old self.new }
-        ensures nearer { (nodes : ℕ) → next_read self.old.read ≡ Some part
+        ensures nearer { HasAsked E.means self.old found.now → (nodes : ℕ) → next_read self.old.read ≡ Some part
             → ComesNearer E.means self.new found.now (Ok result) nodes
             (self.old.tries * try_left E.means self.old.edit nodes + (reads_left self.old.read - 1 + E.means.most_fills self.old.edit + 39)) }
         ensures spends { HasSpentForNext E.means self.old.share self.new found.now (Ok result) self.old.tries (self.old.tries + 1) }
@@ -311,7 +285,7 @@ impl<E: Edit + Drop, A: Drop> UpdateRun<E, A> {
             → Reads E.means (half_told self.old slot key low) (begun_at c b) h found.now node (SettledPart.High slot)
             → value h (Word.Node node (NodeWord.Settled (SettledPart.High slot))) ≡ high → UpdateGoesOn E.means c h self.new found.now (Ok result) }
         ensures same { IsSameUpdate self.old self.new }
-        ensures nearer { (nodes : ℕ) → next_read (half_told self.old slot key low).read ≡ Some (SettledPart.High slot)
+        ensures nearer { HasAsked E.means self.old found.now → (nodes : ℕ) → next_read (half_told self.old slot key low).read ≡ Some (SettledPart.High slot)
             → ComesNearer E.means self.new found.now (Ok result) nodes
             (self.old.tries * try_left E.means self.old.edit nodes +
             (reads_left (half_told self.old slot key low).read - 1 + E.means.most_fills self.old.edit + 39)) }
@@ -337,11 +311,11 @@ impl<E: Edit + Drop, A: Drop> UpdateRun<E, A> {
         ensures same { IsSameUpdate self.old self.new }
         ensures nearer { (nodes : ℕ) → ComesNearer E.means self.new found.now result nodes
             (self.old.tries * try_left E.means self.old.edit nodes +
-            (fills_after (E.means.needs self.old.edit found.now) (pieces_now E.means self.old found.now) nth + 39)) }
+            (fills_after self.old.work.need (pieces_now E.means self.old found.now) nth + 39)) }
         ensures spends { 0 < self.old.share.scx → HasSpentForNext E.means self.old.share self.new found.now result self.old.tries (self.old.tries + 1) }
         ensures tries { self.new.tries ≡ self.old.tries }
     {
-        match self.edit.need(found).behind(nth) {
+        match nth.behind(self.work.need) {
             Some(after) => Ok(Next::Fill(after)),
             None => self.take_scx(found),
         }
@@ -366,54 +340,53 @@ impl<E: Edit + Drop, A: Drop> UpdateRun<E, A> {
         }
     }
 
-    /// The plan of its SCX, which covers all that was looked at and finalizes all but the first.
+    /// What the fresh node of this place is to hold.
     #[inline(always)]
-    pub fn plan(&self, found: &Found) -> Plan
-        ensures { result ≡ (update_of E.means self.now found.now).plan }
-    {
-        let many = self.snaps.len();
-        let removed = [false, 1 < many, 2 < many, 3 < many];
-        let side = self.edit.side(found);
-        Plan::new(many, removed, MemberIndex::First, side)
-    }
-
-    /// What the field of its SCX holds until then, which is one of the first node.
-    #[inline(always)]
-    pub fn old(&self, found: &Found) -> NodeNo
-        ensures { result ≡ (update_of E.means self.now found.now).old }
+    pub fn piece(&self, found: &Found, nth: Nth) -> Piece
+        ensures { result ≡ pieces_now E.means self.now found.now nth }
     {
         let snaps = self.snaps.as_slice();
-        SnapList::get(&snaps, 0).child(self.edit.side(found))
+        self.edit.piece(found, snaps, &self.nodes, &self.read, nth)
+    }
+
+    /// What the field of its SCX holds until then, as the snapshot of its node shows it.
+    #[inline(always)]
+    pub fn old(&self) -> NodeNo
+        ensures { result ≡ (update_of self.now).old }
+    {
+        let plan = self.work.plan;
+        let snaps = self.snaps.as_slice();
+        SnapList::get(&snaps, plan.at().index()).child(plan.side())
     }
 
     /// What that field gets: the last fresh node.
     #[inline(always)]
-    pub fn fresh(&self, found: &Found) -> NodeNo
-        ensures { result ≡ (update_of E.means self.now found.now).fresh }
+    pub fn fresh(&self) -> NodeNo
+        ensures { result ≡ (update_of self.now).fresh }
     {
-        self.nodes.last(self.edit.need(found))
+        self.nodes.last(self.work.need)
     }
 
     /// What its SCX is to do.
-    fn update(&self, found: &Found) -> Update
-        ensures { result ≡ update_of E.means self.now found.now }
+    fn update(&self) -> Update
+        ensures { result ≡ update_of self.now }
     {
         Update {
             snaps: Snaps::new(self.snaps.as_slice()),
-            plan: self.plan(found),
-            old: self.old(found),
-            fresh: self.fresh(found),
+            plan: self.work.plan,
+            old: self.old(),
+            fresh: self.fresh(),
         }
     }
 
     /// Its SCX with this SCX-record, at this place.
-    pub(crate) fn scx_run(&self, found: &Found, scx: ScxNo, at: ScxAt) -> ScxRun
-        ensures { result ≡ record { scx = scx; call = self.now.call; update = update_of E.means self.now found.now; at = at } }
+    pub(crate) fn scx_run(&self, scx: ScxNo, at: ScxAt) -> ScxRun
+        ensures { result ≡ record { scx = scx; call = self.now.call; update = update_of self.now; at = at } }
     {
         ScxRun {
             scx,
             call: self.call,
-            update: self.update(found),
+            update: self.update(),
             at,
         }
     }

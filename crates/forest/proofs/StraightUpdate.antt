@@ -56,14 +56,14 @@ use Rattle.template.specs.declared.walk.WalkRun.{WalkRun}
 use Rattle.template.proofs.Lemmas.{own_since, walk_begins}
 use Rattle.edits.specs.Edits.{EditMeaning}
 use Rattle.edits.specs.Known.{MayBeginTry, CanFill, CanLook, IsFilledUpTo, IsUntouched, Looks, Reads, UpdateAnswers, UpdateIsReady, UpdateWaits, UpdateTurn, Walks, done_at as done_with}
-use Rattle.edits.specs.Steps.{HasScxForFill, IsSpending, Spends, UpdateFits, node_tries, pieces_now, scx_tries, try_left, update_left}
+use Rattle.edits.specs.Steps.{HasAsked, IsSpending, MaySpend, Spends, UpdateFits, node_tries, pieces_now, scx_tries, try_left, update_left}
 use Rattle.edits.specs.Tries.{IsTry, IsTryAt, HasFilledNone}
 use Rattle.edits.specs.Next.{IsSameUpdate, told, placed, standing, next_step, fills, update_of, MayStop, UpdateGoesOn, HasSpentForNext, left_then}
 use Rattle.edits.specs.declared.update.Stop.{Stop}
 use Rattle.edits.specs.declared.update.Stop.TheVariants.{Nothing as NothingStop, Full as FullStop}
 use Rattle.edits.specs.declared.update.Updated.TheVariants.{Full as FullAnswer}
 use Rattle.edits.specs.Laws.Entered.{none_filled_yet}
-use Rattle.edits.specs.Laws.Update.{update_scx_left, update_told}
+use Rattle.edits.specs.Laws.Update.{update_spends, update_told}
 use Rattle.edits.specs.declared.update.Next.{Next}
 use Rattle.edits.specs.declared.update.Next.TheVariants.{Look as LookNext, Wait as WaitNext, Read as ReadNext, Fill as FillNext, Change as ChangeNext}
 use Rattle.edits.specs.declared.update.UpdateAt.{UpdateAt}
@@ -235,7 +235,7 @@ module _ {M E : Type 0} {o : Calls M} {e : EditMeaning E} (u : Updater o e) wher
           tt,
           (
             y.3.0,
-            record { run = l.run; looked = l.looked; rests = record { share = l.rests.share; over = l.rests.over }; room = l.room; named = l.named ∙ ap At (sym node); now = l.now; quiet = l.quiet; since = l.since },
+            record { run = l.run; looked = l.looked; rests = record { share = l.rests.share; over = l.rests.over }; asked = l.asked; room = l.room; named = l.named ∙ ap At (sym node); now = l.now; quiet = l.quiet; since = l.since },
             turn (begun_at (begun_at u.call y.0) y.3.0) (u.runs h run, y.3.2),
           ),
         );
@@ -247,12 +247,16 @@ module _ {M E : Type 0} {o : Calls M} {e : EditMeaning E} (u : Updater o e) wher
   unfolding looker
   begins_look ps m f node x = x
 
+  -- and it keeps what its edit has been asked
+  pub looks_asked : (ps : List SeatedPass) {A : Type 0} (m : UpdateRun E A) (f : Found) (node : NodeNo) → UpdaterTries u ps m f (LookNext node) → HasAsked e m f
+  looks_asked ps m f node x = (u.opens (placed e m f (LookNext node)) (history_of u.call.layout.mode x.known) (next_step e m f (LookNext node)) x.so.0).3.1.asked
+
   -- with the snapshot it goes on as its turn says
-  pub looks_on : (ps : List SeatedPass) {A : Type 0} (m now : UpdateRun E A) (f : Found) (node : NodeNo) (snap : Snap) (next : Result Next Stop) → IsSameUpdate m now → now.tries ≡ m.tries → HasSpentForNext e m.share now f next (m.tries + 1) (m.tries + 1)
+  pub looks_on : (ps : List SeatedPass) {A : Type 0} (m now : UpdateRun E A) (f : Found) (node : NodeNo) (snap : Snap) (next : Result Next Stop) → IsSameUpdate m now → now.tries ≡ m.tries → (HasAsked e m f → HasSpentForNext e m.share now f next (m.tries + 1) (m.tries + 1))
       → ((b h : History) → IsRun TreeAllows u.call.layout h → IsTry u.call b h m.limit m.tries → CanLook e m (begun_at u.call b) h f → e.looks m.edit f m.snaps.items ≡ At snap.node → IsSnapshot u.call.layout h snap.node.0 snap → HasFoundThere u.call.pass h b snap.node.0 snap.scx.0 → UpdateGoesOn e u.call h now f next)
       → LookerSnaps (looker m f) ps node snap → UpdaterGoesOn u ps now f next
   unfolding looker
-  looks_on ps m now f node snap next is tries spent goes x = goes_behind ps now f (looking m f x.last) x.told next is tries spent x.so (goes y.0 h (u.runs h x.so.sound) y.1 can named snapped met)
+  looks_on ps m now f node snap next is tries spent goes x = goes_behind ps now f (looking m f x.last) x.told next is tries (spent l.asked) x.so (goes y.0 h (u.runs h x.so.sound) y.1 can named snapped met)
     where
       h : History
       h = history_of u.call.layout.mode x.so.known
@@ -264,7 +268,7 @@ module _ {M E : Type 0} {o : Calls M} {e : EditMeaning E} (u : Updater o e) wher
       l = y.3.1
 
       can : CanLook e m (begun_at u.call y.0) h f
-      can = record { begins = record { run = l.run; small = l.looked.small; since = l.now; rests = record { share = l.rests.share; over = l.rests.over } }; quiet = l.quiet; looked = l.looked; room = l.room }
+      can = record { begins = record { run = l.run; small = l.looked.small; since = l.now; rests = record { share = l.rests.share; over = l.rests.over } }; quiet = l.quiet; looked = l.looked; asked = l.asked; room = l.room }
 
       named : e.looks m.edit f m.snaps.items ≡ At snap.node
       named = l.named ∙ ap At (x.is_node ∙ sym x.of_node)
@@ -309,20 +313,20 @@ module _ {M E : Type 0} {o : Calls M} {e : EditMeaning E} (u : Updater o e) wher
   stands_there ps m now f next turn place asks x = rw (place, asks) x
 
   -- so too where its SCX could not freeze a node
-  pub blocks_there : (ps : List SeatedPass) (m now : UpdateRun E UpdateAt) (f : Found) (scx : ScxNo) (help : HelpRun) (turn : Turn Updated) → now ≡ standing m (Scx f record { scx = scx; call = m.call; update = update_of e m f; at = Help help }) → turn ≡ Ask (all_frozen_load scx) → UpdaterIsBlocked u ps m f scx help → HostedStands u ps now turn
+  pub blocks_there : (ps : List SeatedPass) (m now : UpdateRun E UpdateAt) (f : Found) (scx : ScxNo) (help : HelpRun) (turn : Turn Updated) → now ≡ standing m (Scx f record { scx = scx; call = m.call; update = update_of m; at = Help help }) → turn ≡ Ask (all_frozen_load scx) → UpdaterIsBlocked u ps m f scx help → HostedStands u ps now turn
   blocks_there ps m now f scx help turn place asks x = rw (place, asks) x
 
-  -- while it fills a fresh node there is an SCX-record left
-  scx_is_left : (ps : List SeatedPass) (m : UpdateRun E UpdateAt) (v : ℕ) → HostedIsTold u ps m v → HasScxForFill m m.at
-  scx_is_left ps m v x = update_scx_left e m u.call _ (Some v) (u.tells m _ (Some v) x.so.0)
+  -- it may take of its share what it takes next
+  may_spend : (ps : List SeatedPass) (m : UpdateRun E UpdateAt) (v : ℕ) → HostedIsTold u ps m v → MaySpend e m m.at
+  may_spend ps m v x = update_spends e m u.call _ (Some v) (u.tells m _ (Some v) x.so.0)
 
   -- told what its step has found, it has gone on as its turn says
-  pub goes_told : (ps : List SeatedPass) (m now : UpdateRun E UpdateAt) (v : ℕ) (turn : Turn Updated) → IsSameUpdate m now → (m.tries ≤ now.tries + 1) × (now.tries ≤ m.tries) → (HasScxForFill m m.at → IsSpending e turn m.share now (node_tries m m.at) (scx_tries m m.at)) → HostedIsTold u ps m v → MatchTurn turn (λ _. (inner_update e).goes m now) (λ _. (inner_update e).ends m now)
-  goes_told ps m now v (Ask s) is fewer spent x = record { edit = is.0; called = is.1; limit = is.2; tries = fewer; spends = spent (scx_is_left ps m v x) }
-  goes_told ps m now v (Done a) is fewer spent x = record { edit = is.0; called = is.1; limit = is.2; tries = fewer; spends = spent (scx_is_left ps m v x) }
+  pub goes_told : (ps : List SeatedPass) (m now : UpdateRun E UpdateAt) (v : ℕ) (turn : Turn Updated) → IsSameUpdate m now → (m.tries ≤ now.tries + 1) × (now.tries ≤ m.tries) → (MaySpend e m m.at → IsSpending e turn m.share now (node_tries m m.at) (scx_tries m m.at)) → HostedIsTold u ps m v → MatchTurn turn (λ _. (inner_update e).goes m now) (λ _. (inner_update e).ends m now)
+  goes_told ps m now v (Ask s) is fewer spent x = record { edit = is.0; called = is.1; limit = is.2; tries = fewer; spends = spent (may_spend ps m v x) }
+  goes_told ps m now v (Done a) is fewer spent x = record { edit = is.0; called = is.1; limit = is.2; tries = fewer; spends = spent (may_spend ps m v x) }
 
   -- what it is told fits the taken nodes
-  pub told_fits : (ps : List SeatedPass) (m : UpdateRun E UpdateAt) (v : ℕ) → HostedIsTold u ps m v → UpdateFits m (Some v) (shared_nodes o.layout)
+  pub told_fits : (ps : List SeatedPass) (m : UpdateRun E UpdateAt) (v : ℕ) → HostedIsTold u ps m v → UpdateFits e m (Some v) (shared_nodes o.layout)
   told_fits ps m v x = update_told e m u.call _ (Some v) (shared_nodes o.layout) (u.runs _ x.sound) (u.tells m _ (Some v) x.so.0) (few_taken o.allows o.layout u.call _ u.is_layout x.sound)
 
   -- its answer is that of the update that stands nowhere again
@@ -331,9 +335,9 @@ module _ {M E : Type 0} {o : Calls M} {e : EditMeaning E} (u : Updater o e) wher
 
   -- Loads and fills
 
-  -- what it reads is the word that comes next in what is read
-  pub reads_next : (ps : List SeatedPass) {A : Type 0} (m : UpdateRun E A) (f : Found) (n : NodeNo) (part : SettledPart) → UpdaterTries u ps m f (ReadNext n part) → next_read m.read ≡ Some part
-  reads_next ps m f n part x = reads.next
+  -- what it reads is the word that comes next in what is read, and it keeps what its edit was asked
+  pub reads_next : (ps : List SeatedPass) {A : Type 0} (m : UpdateRun E A) (f : Found) (n : NodeNo) (part : SettledPart) → UpdaterTries u ps m f (ReadNext n part) → HasAsked e m f × (next_read m.read ≡ Some part)
+  reads_next ps m f n part x = (reads.works.asked, reads.next)
     where
       reads : Reads e (placed e m f (ReadNext n part)) (begun_at u.call (u.opens (placed e m f (ReadNext n part)) (history_of u.call.layout.mode x.known) (next_step e m f (ReadNext n part)) x.so.0).0) (history_of u.call.layout.mode x.known) f n part
       reads = (u.opens (placed e m f (ReadNext n part)) (history_of u.call.layout.mode x.known) (next_step e m f (ReadNext n part)) x.so.0).3.0
@@ -430,13 +434,13 @@ module _ {M E : Type 0} {o : Calls M} {e : EditMeaning E} (u : Updater o e) wher
   }
 
   -- an update whose try makes its SCX waits for the fill of its plan
-  pub begins_change : (ps : List SeatedPass) {A : Type 0} (m : UpdateRun E A) (f : Found) (scx : ScxNo) (snaps : List Snap) (plan : PlanOf) (old fresh : NodeNo) → snaps ≡ m.snaps.items → plan ≡ (update_of e m f).plan → old ≡ (update_of e m f).old → fresh ≡ (update_of e m f).fresh
+  pub begins_change : (ps : List SeatedPass) {A : Type 0} (m : UpdateRun E A) (f : Found) (scx : ScxNo) (snaps : List Snap) (plan : PlanOf) (old fresh : NodeNo) → snaps ≡ m.snaps.items → plan ≡ (update_of m).plan → old ≡ (update_of m).old → fresh ≡ (update_of m).fresh
       → UpdaterTries u ps m f (ChangeNext scx) → InnerWaits (changer m f) ps (changing_at snaps record { scx = scx; call = m.call; plan = plan; old = old; fresh = fresh } AtPlan) (scx_fill scx Plan plan.0)
   unfolding changer
   begins_change ps m f scx snaps plan old fresh is_snaps is_plan is_old is_fresh y = subst (λ (w : Update). HostedWaits u ps (scxing m f record { scx = scx; call = m.call; update = w; at = AtPlan }) (scx_fill scx Plan w.plan.0)) is y
     where
-      is : update_of e m f ≡ record { snaps = snaps; plan = plan; old = old; fresh = fresh }
-      is = update_is (update_of e m f) snaps plan old fresh is_snaps is_plan is_old is_fresh
+      is : update_of m ≡ record { snaps = snaps; plan = plan; old = old; fresh = fresh }
+      is = update_is (update_of m) snaps plan old fresh is_snaps is_plan is_old is_fresh
 
   -- once that is done it has answered
   pub changed : (ps : List SeatedPass) {A : Type 0} (m : UpdateRun E A) (f : Found) (snaps : List Snap) (change : ScxTask) (help : HelpRun) (v : ℕ) → IsAtFound e → InnerIsTold (changer m f) ps (changing_at snaps change (Help (record help { at = HelpCommit }))) v → UpdaterEnds u ps m (done_with f)
@@ -465,7 +469,7 @@ module _ {M E : Type 0} {o : Calls M} {e : EditMeaning E} (u : Updater o e) wher
           (let k = y.3.2 in done_at (begun_at (begun_at u.call y.0) y.3.0) h scx (record help { at = HelpCommit }) (u.runs h x.sound).lawful k.2 k.1 true (record help { at = HelpCommit }) k.0 refl refl)
 
   -- where a node could not be frozen, it waits to look whether all were
-  pub is_blocked : (ps : List SeatedPass) {A : Type 0} (m : UpdateRun E A) (f : Found) (scx : ScxNo) (help : HelpRun) (run : ScxRun) → run ≡ record { scx = scx; call = m.call; update = update_of e m f; at = Help help } → InnerWaits (changer m f) ps run (all_frozen_load scx) → UpdaterIsBlocked u ps m f scx help
+  pub is_blocked : (ps : List SeatedPass) {A : Type 0} (m : UpdateRun E A) (f : Found) (scx : ScxNo) (help : HelpRun) (run : ScxRun) → run ≡ record { scx = scx; call = m.call; update = update_of m; at = Help help } → InnerWaits (changer m f) ps run (all_frozen_load scx) → UpdaterIsBlocked u ps m f scx help
   unfolding changer
   is_blocked ps m f scx help run is x = subst (λ (r : ScxRun). HostedWaits u ps (scxing m f r) (all_frozen_load scx)) is x
 
@@ -527,7 +531,7 @@ pub left_there : {E : Type 0} (e : EditMeaning E) (m now : UpdateRun E UpdateAt)
 left_there e m now f next turn nodes place asks = rw (place, asks) refl
 
 -- and where its SCX could not freeze a node
-pub left_blocked : {E : Type 0} (e : EditMeaning E) (m now : UpdateRun E UpdateAt) (f : Found) (scx : ScxNo) (help : HelpRun) (turn : Turn Updated) (nodes : ℕ) → now ≡ standing m (Scx f record { scx = scx; call = m.call; update = update_of e m f; at = Help help }) → turn ≡ Ask (all_frozen_load scx) → weight turn (update_left e now nodes) ≡ suc (m.tries * try_left e m.edit nodes + scx_left (Help help))
+pub left_blocked : {E : Type 0} (e : EditMeaning E) (m now : UpdateRun E UpdateAt) (f : Found) (scx : ScxNo) (help : HelpRun) (turn : Turn Updated) (nodes : ℕ) → now ≡ standing m (Scx f record { scx = scx; call = m.call; update = update_of m; at = Help help }) → turn ≡ Ask (all_frozen_load scx) → weight turn (update_left e now nodes) ≡ suc (m.tries * try_left e m.edit nodes + scx_left (Help help))
 left_blocked e m now f scx help turn nodes place asks = rw (place, asks) refl
 
 -- what is not more than something is not more than what that is not more than

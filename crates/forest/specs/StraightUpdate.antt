@@ -12,7 +12,7 @@ use Rattle.edits.specs.Edits.{EditMeaning}
 use Rattle.edits.specs.Known.{UpdateIsReady, UpdateWaits, UpdateAnswers}
 use Rattle.template.specs.declared.walk.Found.{Found}
 use Rattle.edits.specs.Next.{fills, left_then, placed, standing, next_step, update_of, MayStop}
-use Rattle.edits.specs.Pieces.{fills_behind, nth_node, part_behind}
+use Rattle.edits.specs.Pieces.{fills_behind, no_work, nth_node, part_behind}
 use Rattle.edits.specs.Readings.{nothing_read}
 use Rattle.edits.specs.Steps.{Spends, node_tries, pieces_now, scx_tries, try_left}
 use Rattle.edits.specs.declared.edit.Nth.{Nth}
@@ -53,6 +53,7 @@ abbrev pub new_update : {E : Type 0} → E → Remaining → ℕ → ℕ → Upd
 new_update edit share tries call = record {
   edit = edit;
   share = share;
+  work = no_work;
   snaps = record { items = [] };
   nodes = record { first = record { 0 = 0 }; second = record { 0 = 0 }; third = record { 0 = 0 } };
   read = nothing_read;
@@ -124,7 +125,7 @@ module _ {M E : Type 0} {o : Calls M} {e : EditMeaning E} (u : Updater o e) (ps 
 
   -- its SCX could not freeze a node, and waits to look whether all were frozen
   abbrev pub UpdaterIsBlocked : {A : Type 0} → UpdateRun E A → Found → ScxNo → HelpRun → Type 0
-  UpdaterIsBlocked m f scx help = HostedWaits u ps (standing m (Scx f record { scx = scx; call = m.call; update = update_of e m f; at = Help help })) (all_frozen_load scx)
+  UpdaterIsBlocked m f scx help = HostedWaits u ps (standing m (Scx f record { scx = scx; call = m.call; update = update_of m; at = Help help })) (all_frozen_load scx)
 
   -- its update has answered, wherever it stands, and this is left of its share
   abbrev pub UpdaterLeaves : Updated → Remaining → Type 0

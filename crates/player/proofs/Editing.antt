@@ -1,6 +1,6 @@
 -- A call of the map that runs: what its SCX-record in progress says, and the word `call` that it
 -- fills.
-use Rattle.std.proofs.Common.{◌≡◌, ◌≢◌, ℕ, inr, List, Option, Some, None, refl, sym, ◌∙◌, ap, subst, arith}
+use Rattle.std.proofs.Common.{◌≡◌, ℕ, ◌<◌, inr, List, Option, Some, None, refl, sym, ◌∙◌, ap, subst, arith}
 use Rattle.arena.specs.declared.layout.Layout.{Layout}
 use Rattle.arena.specs.declared.step.Row.{Row}
 use Rattle.arena.specs.declared.step.Step.{Step}
@@ -54,7 +54,6 @@ use Rattle.edits.specs.Laws.Entered.{only_joined}
 use Rattle.edits.specs.Laws.Kept.{idle_rests}
 use Rattle.edits.specs.Sound.{IsAtFound}
 use Rattle.edits.specs.Tries.{CoversSnaps, HasEnteredOnly}
-use Rattle.edits.specs.declared.edit.Need.TheVariants.{Nothing}
 use Rattle.edits.proofs.Lemmas.{told_end}
 use Rattle.edits.specs.declared.update.UpdateAt.{UpdateAt}
 use Rattle.edits.specs.declared.update.UpdateAt.TheVariants.{Start, Walk, Look, Read as ReadWord, Fill, Scx}
@@ -116,7 +115,7 @@ module _ {E : Type 0} (means : EditMeaning E) (m : UpdateRun E UpdateAt) where
   record IsHandAt (at : UpdateAt) (call : MachineCall) (h : History) (t : ℕ) : Type 0 where
     found : Found
     is : edit_at means m.edit at ≡ Some (means.edit m.edit found)
-    needed : means.needs m.edit found ≢ Nothing
+    needed : 0 < (means.work m.edit found).need
     hand : IsHandOf m.call (means.edit m.edit found) call h t
     tells : TellsAtWin found call.layout h t
 

@@ -1,6 +1,6 @@
 -- In which order the machines of the tree fill words: what all of them have in common.
-use Rattle.std.proofs.Common.{◌≡◌, ◌≢◌, ℕ, ◌/◌, ◌%◌, ◌<◌, inl, inr, true, eqb, refl, sym, ap, subst, arith}
-use Rattle.std.proofs.lemmas.Bool.{eq-eqb, ne_eqb}
+use Rattle.std.proofs.Common.{◌≡◌, ◌≢◌, ℕ, ◌/◌, ◌%◌, ◌<◌, inl, inr, true, eqb, sym, ap, subst, arith}
+use Rattle.std.proofs.lemmas.Bool.{eq-eqb}
 use Rattle.arena.specs.declared.layout.Layout.{Layout}
 use Rattle.arena.specs.declared.limits.Mode.{Mode}
 use Rattle.arena.specs.declared.limits.Mode.TheVariants.{Tree as TreeMode}
@@ -28,27 +28,12 @@ use Rattle.ordered_map.specs.TreeShape.{TreeAllows}
 use Rattle.template.specs.declared.walk.Found.{Found}
 use Rattle.template.proofs.Lemmas.{walk_fills_not}
 use Rattle.edits.specs.Edits.{EditMeaning}
-use Rattle.edits.specs.declared.edit.Need.{Need}
-use Rattle.edits.specs.declared.edit.Need.TheVariants.{Nothing, One, Three}
-use Rattle.edits.specs.declared.edit.Nodes.{Nodes}
 use Rattle.edits.specs.declared.edit.Nth.{Nth}
-use Rattle.edits.specs.declared.edit.Nth.TheVariants.{First, Second, Third}
-use Rattle.edits.specs.declared.piece.Piece.{Piece}
 use Rattle.edits.specs.declared.update.UpdateAt.{UpdateAt}
 use Rattle.edits.specs.declared.update.UpdateAt.TheVariants.{Start, Walk, Look, Read, Fill, Scx}
 use Rattle.edits.specs.declared.update.UpdateRun.{UpdateRun}
-use Rattle.edits.specs.Known.{IsNeeded, StandInRow, FillsPiece, UpdateWaits, UpdateWaitsAt, piece_fill_step, pieces_by}
-use Rattle.edits.specs.Pieces.{nth_node, piece_head}
-
--- each holds its own piece
-pub piece_is : (need : Need) (ns : Nodes) (p : Nth → Piece) (nth : Nth) → IsNeeded need nth → StandInRow need ns → pieces_by p ns (nth_node ns nth).0 ≡ p nth
-piece_is Nothing ns p nth x o = absurd x
-piece_is One ns p First x o = rw (eq-eqb ns.first.0 ns.first.0 refl) refl
-piece_is One ns p Second x o = absurd x
-piece_is One ns p Third x o = absurd x
-piece_is Three ns p First x o = rw (eq-eqb ns.first.0 ns.first.0 refl) refl
-piece_is Three ns p Second x o = rw (ne_eqb ns.second.0 ns.first.0 (λ e. omega (o.0, e, arith)), eq-eqb ns.second.0 ns.second.0 refl) refl
-piece_is Three ns p Third x o = rw (ne_eqb ns.third.0 ns.first.0 (λ e. omega (o.0, o.1, e, arith)), ne_eqb ns.third.0 ns.second.0 (λ e. omega (o.1, e, arith))) refl
+use Rattle.edits.specs.Known.{FillsPiece, UpdateWaits, UpdateWaitsAt, piece_fill_step}
+use Rattle.edits.specs.Pieces.{piece_head}
 
 -- the head of a leaf says so
 pub leaf_head : (level class : ℕ) → eqb (piece_head level true class / 4 % 2) 1 ≡ true

@@ -1,5 +1,5 @@
 -- In which order an edit fills its nodes: as what it does at its key.
-use Rattle.std.proofs.Common.{◌≡◌, ◌≢◌, ℕ, ◌≤◌, Option, Some, None, subst}
+use Rattle.std.proofs.Common.{ℕ, ◌<◌, Option, Some, None, ◌∙◌, subst, arith}
 use Rattle.arena.specs.declared.step.Step.{Step}
 use Rattle.arena.specs.declared.word.NodeWord.{NodeWord}
 use Rattle.arena.specs.History.{History}
@@ -11,25 +11,21 @@ use Rattle.ordered_map.specs.declared.rule.Rule.{Rule}
 use Rattle.template.specs.declared.walk.Found.{Found}
 use Rattle.tree.specs.declared.key_edit.KeyEdit.{KeyEdit}
 use Rattle.tree.specs.KeyEdit.Means.{key_at, key_means, leaving, part, putting, taking}
-use Rattle.tree.specs.Laws.KeyEdit.{own_looked, same_need}
-use Rattle.tree.specs.Laws.Looks.{some_need}
+use Rattle.tree.specs.Laws.KeyEdit.{own_looked, same_work}
 use Rattle.tree.specs.Put.Means.{put_means}
 use Rattle.tree.specs.Take.Means.{take_means}
 use Rattle.tree.proofs.Fills.{update_in_order}
 use Rattle.tree.proofs.PutFills.{fill_in_order as put_fill_in_order}
 use Rattle.tree.proofs.TakeFills.{fill_in_order as take_fill_in_order}
-use Rattle.edits.specs.declared.edit.Need.{Need}
-use Rattle.edits.specs.declared.edit.Need.TheVariants.{Nothing}
 use Rattle.edits.specs.declared.edit.Nth.{Nth}
+use Rattle.edits.specs.declared.edit.Work.{Work}
 use Rattle.edits.specs.declared.update.UpdateAt.{UpdateAt}
 use Rattle.edits.specs.declared.update.UpdateRun.{UpdateRun}
-use Rattle.edits.specs.Known.{FillsPiece, IsNeeded, StandInRow, UpdateWaits, piece, piece_fill_step}
-use Rattle.edits.specs.Laws.Hand.{HasFilledTo}
-use Rattle.edits.specs.Pieces.{nth_node, top_of}
+use Rattle.edits.specs.Known.{FillsPiece, UpdateWaits, piece_fill_step}
 
 -- the same update of another edit
 abbrev of_edit : {E F : Type 0} → F → UpdateRun E UpdateAt → UpdateRun F UpdateAt
-of_edit e m = record { edit = e; share = m.share; snaps = m.snaps; nodes = m.nodes; read = m.read; tries = m.tries; limit = m.limit; call = m.call; at = m.at }
+of_edit e m = record { edit = e; share = m.share; work = m.work; snaps = m.snaps; nodes = m.nodes; read = m.read; tries = m.tries; limit = m.limit; call = m.call; at = m.at }
 
 -- what leaves this to a key fills in order
 module _ (m : UpdateRun ℕ UpdateAt) (c : Call) (h : History) (f : Found) (nth : Nth) (word : NodeWord) where
@@ -44,6 +40,7 @@ module _ (m : UpdateRun ℕ UpdateAt) (c : Call) (h : History) (f : Found) (nth 
       quiet = x.works.quiet;
       looked = record { small = x.works.looked.small; found = x.works.looked.found; usable = x.works.looked.usable; seen = x.works.looked.seen };
       enough = x.works.enough;
+      asked = x.works.asked;
       need = x.works.need;
       in_order = x.works.in_order;
       some = x.works.some;
@@ -63,6 +60,7 @@ module _ (m : UpdateRun ℕ UpdateAt) (c : Call) (h : History) (f : Found) (nth 
       quiet = x.works.quiet;
       looked = record { small = x.works.looked.small; found = x.works.looked.found; usable = x.works.looked.usable; seen = x.works.looked.seen };
       enough = x.works.enough;
+      asked = x.works.asked;
       need = x.works.need;
       in_order = x.works.in_order;
       some = x.works.some;
@@ -88,22 +86,20 @@ module _ {G R : Type 0} (goal : G → Goal) (rule : R → Rule) where
       quiet = x.works.quiet;
       looked = own_looked goal rule m.edit f needed c h m.snaps.items x.works.run x.works.looked;
       enough = x.works.enough;
-      need = subst (λ (need : Need). IsNeeded need nth) same x.works.need;
-      in_order = subst (λ (need : Need). StandInRow need m.nodes) same x.works.in_order;
+      asked = x.works.asked ∙ same_work goal rule m.edit f needed;
+      need = x.works.need;
+      in_order = x.works.in_order;
       some = x.works.some;
     };
-    full = subst (λ (need : Need). HasFilledTo c.layout h c.pass m.share m.nodes.first.0 (top_of need m.nodes) (nth_node m.nodes nth).0 (piece (key_means goal rule) m f)) same x.full;
-    hand = record { lowest = x.hand.lowest; highest = subst (λ (need : Need). (nth_node m.nodes nth).0 ≤ top_of need m.nodes) same x.hand.highest };
+    full = x.full;
+    hand = record { lowest = x.hand.lowest; highest = x.hand.highest };
     read = x.read;
     whole = x.whole;
     part_is = x.part_is;
   }
     where
-      needed : (key_means goal rule).needs m.edit f ≢ Nothing
-      needed = some_need ((key_means goal rule).needs m.edit f) nth x.works.need
-
-      same : (key_means goal rule).needs m.edit f ≡ (part goal rule m.edit).needs (key_at goal rule m.edit f) f
-      same = same_need goal rule m.edit f needed
+      needed : 0 < ((key_means goal rule).work m.edit f).need
+      needed = subst (λ (w : Work). 0 < w.need) x.works.asked (let n = x.works.need in omega (arith, n))
 
   -- whatever step an edit waits for, where nodes were filled in order before
   pub key_in_order : (m : UpdateRun (KeyEdit G R) UpdateAt) (c : Call) (h : History) (s : Step) → AreFilledInOrder h → UpdateWaits (key_means goal rule) m c h s → IsFillInOrder h (row_of c s h)

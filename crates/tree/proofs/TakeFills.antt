@@ -1,6 +1,6 @@
 -- A delete fills its copy in order: nothing mentions the copy, and its fields get what the
 -- sibling's held, which has stood in the tree.
-use Rattle.std.proofs.Common.{◌≡◌, ℕ, ◌/◌, ◌%◌, ◌<◌, inl, inr, Bool, true, false, cond, eqb, Option, Some, None, refl, sym, ◌∙◌, ap, subst, arith}
+use Rattle.std.proofs.Common.{◌≡◌, ℕ, ◌/◌, ◌%◌, ◌<◌, ◌≤◌, inl, inr, Bool, true, false, le-ltb, cond, eqb, Option, Some, None, refl, sym, ◌∙◌, ap, subst, arith}
 use Rattle.std.specs.Prelude.{unwrap_or}
 use Rattle.arena.specs.declared.limits.Mode.{Mode}
 use Rattle.arena.specs.declared.word.NodeWord.{NodeWord}
@@ -25,11 +25,12 @@ use Rattle.ordered_map.proofs.Lemmas.{held_stood}
 use Rattle.template.specs.declared.walk.Found.{Found}
 use Rattle.ordered_map.specs.declared.rule.Goal.TheVariants.{Key as ToKey}
 use Rattle.tree.specs.declared.take.TakePair.{TakePair}
-use Rattle.tree.specs.Take.Means.{copied_pairs, copy_with, take_means, take_need, take_piece, has_more, join_looks, sibling_of}
+use Rattle.tree.specs.Take.Means.{copied_pairs, copy_with, take_means, take_piece, take_plan, work_by, has_more, join_looks, sibling_of}
 use Rattle.tree.specs.Laws.Take.Sound.{HasFour, copy_fields, few_places, has_four, looked_join, usable_at}
-use Rattle.tree.proofs.Fills.{piece_is, same_number, same_part, unstood}
+use Rattle.tree.proofs.Fills.{same_number, same_part, unstood}
 use Rattle.edits.specs.declared.edit.Nodes.{Nodes}
 use Rattle.edits.specs.declared.edit.Nth.{Nth}
+use Rattle.edits.specs.declared.edit.Work.{Work}
 use Rattle.edits.specs.declared.edit.Nth.TheVariants.{First, Second, Third}
 use Rattle.edits.specs.declared.piece.Piece.{Piece}
 use Rattle.edits.specs.declared.piece.Piece.TheVariants.{Leaf, Fork}
@@ -39,17 +40,20 @@ use Rattle.edits.specs.declared.update.UpdateRun.{UpdateRun}
 use Rattle.edits.specs.Known.{HasLookedBy, HasSnappedAfterWalk, IsNeeded, FillsPiece, MayRead, piece_fill_step, piece, top}
 use Rattle.edits.specs.Pieces.{is_filled, nth_node, top_of, word_of}
 use Rattle.edits.specs.Readings.{next_read}
-use Rattle.edits.proofs.Lemmas.{head_read}
+use Rattle.edits.proofs.Lemmas.{head_read, piece_is}
 use Rattle.arena.specs.declared.head.Head.{Head as HeadParts}
 use Rattle.ordered_map.specs.OrderedMap.{delete}
 
 -- One fresh node
 
-one_top : (o : Option ℕ) (nth : Nth) (ns : Nodes) → IsNeeded (take_need o) nth → (nth_node ns nth).0 ≡ top_of (take_need o) ns
-one_top (Some v) First ns x = refl
-one_top (Some v) Second ns x = absurd x
-one_top (Some v) Third ns x = absurd x
-one_top None nth ns x = absurd x
+one_needed : (o : Option ℕ) (plan : ℕ) → (work_by o plan).need ≤ 1
+one_needed (Some v) plan = omega arith
+one_needed None plan = omega arith
+
+one_top : (need : ℕ) (nth : Nth) (ns : Nodes) → need ≤ 1 → IsNeeded need nth → (nth_node ns nth).0 ≡ top_of need ns
+one_top need First ns few x = rw (le-ltb 2 need (omega (arith, few)), le-ltb 1 need few) refl
+one_top need Second ns few x = absurd (omega (arith, few, x))
+one_top need Third ns few x = absurd (omega (arith, few, x))
 
 -- only a fork has fields
 fork_there : (s : Snap) (head : HeadParts) (read : Reading) (side : Side) → is_filled (copy_with s head read) (Child side) ≡ true → head.leaf ≡ false
@@ -70,10 +74,10 @@ module _ (m : UpdateRun TakePair UpdateAt) (c : Call) (h : History) (f : Found) 
   said = take_piece m.edit.key f m.snaps.items m.read
 
   said_is : piece take_means m f (nth_node m.nodes nth).0 ≡ said
-  said_is = piece_is (take_need f.value) m.nodes (λ i. said) nth x.works.need x.works.in_order
+  said_is = piece_is (λ i. said) m.nodes m.work.need nth x.works.need x.works.in_order
 
   head_ordered : (k : ℕ) → node (nth_node m.nodes nth).0 part ≡ node k (Settled Head) → ¬ HasStoodInField h k
-  head_ordered k e = subst (λ n. ¬ HasStoodInField h n) (sym (one_top f.value nth m.nodes x.works.need) ∙ same_number (nth_node m.nodes nth).0 k part (Settled Head) e) (unstood c.layout h c.pass (top take_means m f) x.works.run.0 (x.full.hand.own (top take_means m f) x.full.some (omega arith)) x.full.hand.unmentioned)
+  head_ordered k e = subst (λ n. ¬ HasStoodInField h n) (sym (one_top m.work.need nth m.nodes (subst (λ (w : Work). w.need ≤ 1) (sym x.works.asked) (one_needed f.value (take_plan f))) x.works.need) ∙ same_number (nth_node m.nodes nth).0 k part (Settled Head) e) (unstood c.layout h c.pass (top m) x.works.run.0 (x.full.hand.own (top m) x.full.some (omega arith)) x.full.hand.unmentioned)
 
   abbrev sibling : Snap
   sibling = sibling_of f m.snaps.items

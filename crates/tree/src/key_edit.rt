@@ -8,8 +8,8 @@ use crate::rule::{
     TakeRule,
 };
 use crate::take::TakePair;
-use arena::{NodeNo, Share, Side};
-use edits::{Edit, Known, Look, Need, Nodes, Nth, Piece, Reading, UpdateAt, UpdateRun};
+use arena::{NodeNo, Share};
+use edits::{Edit, Known, Look, Nodes, Nth, Piece, Reading, UpdateAt, UpdateRun, Work};
 use ordered_map::Goal;
 use prims::Snap;
 use template::Found;
@@ -190,21 +190,13 @@ impl<G: EditGoal, R: EditRule> Edit for KeyEdit<G, R> {
     }
 
     #[inline(always)]
-    fn need(&self, found: &Found) -> Need {
+    fn work(&self, found: &Found) -> Work {
         if !self.wants(found) {
-            return Need::Nothing;
+            return Work::none();
         }
         match self.rule.leaves() {
-            Some(value) => self.put(found, value).need(found),
-            None => self.take(found).need(found),
-        }
-    }
-
-    #[inline(always)]
-    fn side(&self, found: &Found) -> Side {
-        match self.rule.leaves() {
-            Some(value) => self.put(found, value).side(found),
-            None => self.take(found).side(found),
+            Some(value) => self.put(found, value).work(found),
+            None => self.take(found).work(found),
         }
     }
 

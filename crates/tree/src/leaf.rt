@@ -1,12 +1,22 @@
-//! What edits of one leaf look at and read.
+//! What edits of one leaf look at, read and change.
 ghost use Rattle.std.specs.Prelude.{◌≡◌, Some};
 ghost use Rattle.edits.specs.Readings.{known_reads};
+ghost use Rattle.ordered_map.specs.TreeShape.{leaf_plan};
 ghost use Rattle.tree.specs.LeafEdit.{leaf_looks, leaf_reads};
 
-use arena::NodeNo;
+use arena::{MemberIndex, NodeNo, Plan};
 use edits::{Known, Look};
 use prims::Snap;
 use template::Found;
+
+/// It covers the parent and the leaf, finalizes the leaf, and changes the parent's field.
+#[inline(always)]
+pub(crate) fn plan(found: &Found) -> Plan
+    ensures { result.0 ≡ leaf_plan found.now.trail.side }
+{
+    let removed = [false, true, false, false];
+    Plan::new(2, removed, MemberIndex::First, found.trail.side)
+}
 
 /// The leaf's parent, and then the leaf, if that is still the child.
 #[inline(always)]

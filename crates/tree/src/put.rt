@@ -2,8 +2,8 @@
 ghost use Rattle.std.specs.Prelude.{◌≡◌};
 
 use crate::leaf;
-use arena::{NodeNo, Share, Side, Slot};
-use edits::{Edit, Known, Look, Need, Nodes, Nth, Pairs, Piece, Reading, UpdateAt, UpdateRun};
+use arena::{NodeNo, Slot};
+use edits::{Edit, Known, Look, Nodes, Nth, Pairs, Piece, Reading, Work};
 use ordered_map::Pair;
 use prims::Snap;
 use template::{Found, Goal};
@@ -18,7 +18,7 @@ pub(crate) struct PutPair {
 impl PutPair {
     ghost use Rattle.std.specs.Prelude.{◌≡◌};
     ghost use Rattle.tree.specs.Put.Means.{put_means};
-    ghost use Rattle.tree.specs.Put.Means.{has_room, pairs_with, second_pairs, split_pieces, fork_over};
+    ghost use Rattle.tree.specs.Put.Means.{has_room, splits, pairs_with, second_pairs, split_pieces, fork_over};
 
     /// Whether the leaf has room for one pair more.
     fn has_room(found: &Found) -> bool
@@ -28,6 +28,16 @@ impl PutPair {
             found.more < 3
         } else {
             false
+        }
+    }
+
+    /// Whether it takes a leaf more.
+    fn splits(found: &Found) -> bool
+        ensures { result ≡ splits found.now }
+    {
+        match found.value {
+            Some(_) => false,
+            None => !PutPair::has_room(found),
         }
     }
 
@@ -108,21 +118,11 @@ impl Edit for PutPair {
         Goal::Key(self.key)
     }
 
-    fn need(&self, found: &Found) -> Need {
-        match found.value {
-            Some(_) => Need::One,
-            None => {
-                if PutPair::has_room(found) {
-                    Need::One
-                } else {
-                    Need::Three
-                }
-            }
-        }
-    }
-
-    fn side(&self, found: &Found) -> Side {
-        found.trail.side
+    #[inline(always)]
+    fn work(&self, found: &Found) -> Work {
+        let need = if PutPair::splits(found) { 3 } else { 1 };
+        let plan = leaf::plan(found);
+        Work { need, plan }
     }
 
     #[inline(always)]
@@ -149,13 +149,14 @@ impl Edit for PutPair {
         nth: Nth,
     ) -> Piece {
         let pairs = self.pairs(found, read);
-        match self.need(found) {
-            Need::Three => PutPair::split(found, pairs, nodes, nth),
-            Need::Nothing | Need::One => Piece::Leaf {
+        if PutPair::splits(found) {
+            PutPair::split(found, pairs, nodes, nth)
+        } else {
+            Piece::Leaf {
                 level: found.head.level,
                 class: 0,
                 pairs,
-            },
+            }
         }
     }
 

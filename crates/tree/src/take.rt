@@ -2,8 +2,8 @@
 ghost use Rattle.std.specs.Prelude.{◌≡◌};
 
 use crate::leaf;
-use arena::{Head, NodeNo, Share, Side};
-use edits::{Edit, Known, Look, Need, Nodes, Nth, Pairs, Piece, Reading, UpdateAt, UpdateRun};
+use arena::{Head, MemberIndex, NodeNo, Plan, Side};
+use edits::{Edit, Known, Look, Nodes, Nth, Pairs, Piece, Reading, Work};
 use ordered_map::Pair;
 use prims::Snap;
 use template::{Found, Goal};
@@ -19,7 +19,20 @@ impl TakePair {
     ghost use Rattle.prims.specs.Snap.{snap_at};
     ghost use Rattle.ordered_map.specs.TreeShape.{sibling_place};
     ghost use Rattle.tree.specs.Take.Means.{take_means};
-    ghost use Rattle.tree.specs.Take.Means.{past, join_looks, copied_pairs, sibling_copy};
+    ghost use Rattle.tree.specs.Take.Means.{past, join_looks, copied_pairs, sibling_copy, take_plan};
+
+    /// That of an edit of the leaf; or it covers the fork above the parent, the parent and both its
+    /// children, finalizes all but the first, and changes the first one's field.
+    #[inline(always)]
+    fn plan(found: &Found) -> Plan
+        ensures { result.0 ≡ take_plan found.now }
+    {
+        if 0 < found.more {
+            return leaf::plan(found);
+        }
+        let removed = [false, true, true, true];
+        Plan::new(4, removed, MemberIndex::First, found.trail.grand_side)
+    }
 
     /// Looks at the next node, where the snapshot still shows the child that the walk has found.
     fn past(snap: &Snap, side: Side, child: NodeNo, next: NodeNo) -> Look
@@ -112,18 +125,14 @@ impl Edit for TakePair {
         Goal::Key(self.key)
     }
 
-    fn need(&self, found: &Found) -> Need {
+    #[inline(always)]
+    fn work(&self, found: &Found) -> Work {
         match found.value {
-            Some(_) => Need::One,
-            None => Need::Nothing,
-        }
-    }
-
-    fn side(&self, found: &Found) -> Side {
-        if 0 < found.more {
-            found.trail.side
-        } else {
-            found.trail.grand_side
+            Some(_) => Work {
+                need: 1,
+                plan: TakePair::plan(found),
+            },
+            None => Work::none(),
         }
     }
 

@@ -1,6 +1,6 @@
 -- The laws of the machine of a call of a dictionary: rows of others leave it waiting, its steps are
 -- lawful and begin edits of typed words alone, and what it is told is so.
-use Rattle.std.proofs.Common.{◌≢◌, ℕ, ◌≤◌, length, Option, Some, subst}
+use Rattle.std.proofs.Common.{◌≢◌, ℕ, ◌<◌, ◌≤◌, length, Option, Some, subst}
 use Rattle.arena.specs.declared.step.Kind.TheVariants.{Fill}
 use Rattle.arena.specs.declared.step.Row.{Row}
 use Rattle.arena.specs.declared.step.Step.{Step}
@@ -17,7 +17,6 @@ use Rattle.ordered_map.specs.declared.rule.Rule.{Rule}
 use Rattle.tree.specs.declared.key_edit.KeyEdit.{KeyEdit}
 use Rattle.template.specs.declared.walk.Found.{Found}
 use Rattle.template.proofs.Lemmas.{walk_fills_not}
-use Rattle.edits.specs.declared.edit.Need.TheVariants.{Nothing}
 use Rattle.dict.specs.Calls.{inner_call}
 use Rattle.dict.specs.DictKnown.{DictIsReady, DictWaits}
 use Rattle.dict.specs.Goals.{leaf_told}
@@ -39,7 +38,7 @@ module _ (keys values : ℕ → Type 0) where
   read_lawful c h s share fills_not run tree x = typed_quiet keys values c.layout h (row_of c s h) run tree (on c h (row_of c s h) share tree fills_not x).now.over
 
   -- what an edit makes at a leaf to which it has walked is of such words
-  edit_found_typed : (e : KeyEdit Goal Rule) (c : Call) (h : History) (f : Found) → IsRun (TypedAllows keys values) c.layout h → IsTypedCall keys values (Edit e.goal e.rule) → HasWalkedTo edit_means e c h f → edit_means.needs e f ≢ Nothing → IsTypedEdit keys values (edit_means.edit e f)
+  edit_found_typed : (e : KeyEdit Goal Rule) (c : Call) (h : History) (f : Found) → IsRun (TypedAllows keys values) c.layout h → IsTypedCall keys values (Edit e.goal e.rule) → HasWalkedTo edit_means e c h f → 0 < (edit_means.work e f).need → IsTypedEdit keys values (edit_means.edit e f)
   edit_found_typed e c h f run typed x needed =
       let y = found_tells e.goal (begun_at c x.begin) x.moment f x.small x.run x.found in
       let there : IsRun (TypedAllows keys values) c.layout y.moment = typed_since keys values c.layout h y.moment run (ends_trans h x.moment y.moment x.within y.within) in

@@ -22,12 +22,11 @@ use Rattle.ordered_map.specs.declared.rule.Goal.TheVariants.{Key as ToKey, End}
 use Rattle.tree.specs.declared.key_edit.KeyEdit.{KeyEdit}
 use Rattle.tree.specs.KeyEdit.Means.{doing, key_means, wants}
 use Rattle.tree.specs.Laws.KeyEdit.{at_goal}
-use Rattle.tree.specs.Put.Means.{has_room, need_by}
-use Rattle.tree.specs.Take.Means.{take_need}
-use Rattle.edits.specs.Pieces.{many_nodes}
+use Rattle.tree.specs.KeyEdit.Laws.{one_needed, three_needed}
+use Rattle.tree.specs.Put.Means.{put_need, splits}
+use Rattle.tree.specs.Take.Means.{take_plan, work_by}
+use Rattle.edits.specs.Pieces.{no_work}
 use Rattle.edits.specs.Steps.{try_left}
-use Rattle.edits.specs.declared.edit.Need.{Need}
-use Rattle.edits.specs.declared.edit.Need.TheVariants.{Nothing}
 use Rattle.edits.specs.declared.update.Updated.{Updated}
 use Rattle.edits.specs.declared.update.Updated.TheVariants.{Done, Contended, Full}
 use Rattle.dict.specs.Calls.{AsksForPairs, IsSmallCall, most_tries}
@@ -70,60 +69,53 @@ module _ (f : Found) (rule : Rule) where
   abbrev left : Option ℕ
   left = leaves rule
 
-  abbrev needed : ℕ → Bool → Need
-  needed key b = cond b ((doing left).needs key f) Nothing
+  abbrev needed : ℕ → Bool → ℕ
+  needed key b = (cond b ((doing left).work key f) no_work).need
 
   -- what it needs at a key is enough for the call
-  many_by : (l : Option ℕ) (key : ℕ) (value : Option ℕ) → f.value ≡ value → many_nodes ((doing l).needs key f) ≤ nodes_at value
-  many_by None key None is = subst (λ (o : Option ℕ). many_nodes (take_need o) ≤ 3) (sym is) (omega arith)
-  many_by None key (Some v) is = subst (λ (o : Option ℕ). many_nodes (take_need o) ≤ 1) (sym is) (omega arith)
-  many_by (Some w) key None is = subst (λ (o : Option ℕ). many_nodes (need_by o (has_room f)) ≤ 3) (sym is) (absent_many (has_room f))
-    where
-      absent_many : (room : Bool) → many_nodes (need_by None room) ≤ 3
-      absent_many true = omega arith
-      absent_many false = omega arith
-  many_by (Some w) key (Some v) is = subst (λ (o : Option ℕ). many_nodes (need_by o (has_room f)) ≤ 1) (sym is) (omega arith)
+  many_by : (l : Option ℕ) (key : ℕ) (value : Option ℕ) → f.value ≡ value → ((doing l).work key f).need ≤ nodes_at value
+  many_by l key None is = three_needed l key f
+  many_by l key (Some v) is = one_needed l key v f is
 
-  many_if : (b : Bool) (key : ℕ) (value : Option ℕ) → f.value ≡ value → many_nodes (needed key b) ≤ cond b (nodes_at value) 0
+  many_if : (b : Bool) (key : ℕ) (value : Option ℕ) → f.value ≡ value → needed key b ≤ cond b (nodes_at value) 0
   many_if true key value is = many_by left key value is
   many_if false key value is = omega arith
 
-  key_many : (goal : Goal) (value : Option ℕ) → f.value ≡ value → many_nodes (needed (asked_key goal f.key) (wants goal rule value)) ≤ nodes_there rule (spot goal (told_by goal f.key value))
+  key_many : (goal : Goal) (value : Option ℕ) → f.value ≡ value → needed (asked_key goal f.key) (wants goal rule value) ≤ nodes_there rule (spot goal (told_by goal f.key value))
   key_many (ToKey k) value is = many_if (applies rule value) k value is
   key_many (End side) None is = omega arith
   key_many (End side) (Some v) is = many_if (applies rule (Some v)) f.key (Some v) is
 
   -- it needs nothing only where it changes nothing
-  some_needed : (l : Option ℕ) (key : ℕ) (value : Option ℕ) → f.value ≡ value → (value ≡ None → l ≡ None → ⊥) → (doing l).needs key f ≢ Nothing
-  some_needed None key None is there nothing = there refl refl
-  some_needed None key (Some v) is there nothing = let none : take_need (Some v) ≡ Nothing = ap take_need (sym is) ∙ nothing in cc
-  some_needed (Some w) key value is there nothing = put_needs f.value (has_room f) nothing
+  some_needed : (l : Option ℕ) (key : ℕ) (value : Option ℕ) → f.value ≡ value → (value ≡ None → l ≡ None → ⊥) → 0 < ((doing l).work key f).need
+  some_needed None key None is there = absurd (there refl refl)
+  some_needed None key (Some v) is there = subst (λ (o : Option ℕ). 0 < (work_by o (take_plan f)).need) (sym is) (omega arith)
+  some_needed (Some w) key value is there = put_needs (splits f)
     where
-      put_needs : (old : Option ℕ) (room : Bool) → need_by old room ≢ Nothing
-      put_needs None true e = cc
-      put_needs None false e = cc
-      put_needs (Some v) room e = cc
+      put_needs : (split : Bool) → 0 < put_need split
+      put_needs true = omega arith
+      put_needs false = omega arith
 
   absent : (value : Option ℕ) → applies rule value ≡ true → value ≡ None → left ≡ None → ⊥
   absent value there none takes = takes_there rule takes (subst (λ (o : Option ℕ). applies rule o ≡ true) none there)
 
-  reads_if : (b : Bool) (key : ℕ) (value : Option ℕ) → f.value ≡ value → applies rule value ≡ b → needed key b ≡ Nothing → cond (applies rule value) (Some (edit_to key left)) None ≡ None
-  reads_if true key value is there nothing = absurd (some_needed left key value is (absent value there) nothing)
+  reads_if : (b : Bool) (key : ℕ) (value : Option ℕ) → f.value ≡ value → applies rule value ≡ b → needed key b ≡ 0 → cond (applies rule value) (Some (edit_to key left)) None ≡ None
+  reads_if true key value is there nothing = absurd (let some = some_needed left key value is (absent value there) in omega (arith, some, nothing))
   reads_if false key value is there nothing = rw there refl
 
-  key_reads : (goal : Goal) (value : Option ℕ) → f.value ≡ value → needed (asked_key goal f.key) (wants goal rule value) ≡ Nothing → edit_there rule (spot goal (told_by goal f.key value)) ≡ None
+  key_reads : (goal : Goal) (value : Option ℕ) → f.value ≡ value → needed (asked_key goal f.key) (wants goal rule value) ≡ 0 → edit_there rule (spot goal (told_by goal f.key value)) ≡ None
   key_reads (ToKey k) value is nothing = reads_if (applies rule value) k value is refl nothing
   key_reads (End side) None is nothing = refl
   key_reads (End side) (Some v) is nothing = reads_if (applies rule (Some v)) f.key (Some v) is refl nothing
 
   -- and something only where it makes its edit
-  makes_if : (b : Bool) (key : ℕ) → needed key b ≢ Nothing → cond b (Some (edit_to key left)) None ≡ Some (edit_to key left)
+  makes_if : (b : Bool) (key : ℕ) → 0 < needed key b → cond b (Some (edit_to key left)) None ≡ Some (edit_to key left)
   makes_if true key some = refl
-  makes_if false key some = absurd (some refl)
+  makes_if false key some = absurd (omega (arith, some))
 
-  key_changes : (goal : Goal) (value : Option ℕ) → f.value ≡ value → needed (asked_key goal f.key) (wants goal rule value) ≢ Nothing → edit_there rule (spot goal (told_by goal f.key value)) ≡ Some (edit_to (asked_key goal f.key) left)
+  key_changes : (goal : Goal) (value : Option ℕ) → f.value ≡ value → 0 < needed (asked_key goal f.key) (wants goal rule value) → edit_there rule (spot goal (told_by goal f.key value)) ≡ Some (edit_to (asked_key goal f.key) left)
   key_changes (ToKey k) value is some = makes_if (applies rule value) k some
-  key_changes (End side) None is some = absurd (some refl)
+  key_changes (End side) None is some = absurd (omega (arith, some))
   key_changes (End side) (Some v) is some = makes_if (applies rule (Some v)) f.key some
 
 -- it walks to a key of a word, where it has one
@@ -147,18 +139,18 @@ edit_steps goal rule e tries nodes = ap (λ (k : ℕ). tries * k) (steps_by (lea
 
 module _ (e : KeyEdit Goal Rule) (f : Found) where
   -- it needs no more nodes than its call may on a map that replies what its leaf tells
-  pub edit_needs : (map : List Pair) → reply (Edit e.goal e.rule) map ≡ leaf_told e.goal f → many_nodes (edit_means.needs e f) ≤ need (Edit e.goal e.rule) map
-  edit_needs map is = subst (λ (told : MapReply). many_nodes (edit_means.needs e f) ≤ nodes_there e.rule (spot e.goal told)) (sym (is ∙ same_told e.goal f)) (key_many f e.rule e.goal f.value refl)
+  pub edit_needs : (map : List Pair) → reply (Edit e.goal e.rule) map ≡ leaf_told e.goal f → (edit_means.work e f).need ≤ need (Edit e.goal e.rule) map
+  edit_needs map is = subst (λ (told : MapReply). (edit_means.work e f).need ≤ nodes_there e.rule (spot e.goal told)) (sym (is ∙ same_told e.goal f)) (key_many f e.rule e.goal f.value refl)
 
   made_by : edit_of (Edit e.goal e.rule) (leaf_told e.goal f) ≡ edit_there e.rule (spot e.goal (told_by e.goal f.key f.value))
   made_by = ap (λ (told : MapReply). edit_there e.rule (spot e.goal told)) (same_told e.goal f)
 
   -- where it needs none it is a reading
-  pub edit_reads : edit_means.needs e f ≡ Nothing → edit_of (Edit e.goal e.rule) (leaf_told e.goal f) ≡ None
+  pub edit_reads : (edit_means.work e f).need ≡ 0 → edit_of (Edit e.goal e.rule) (leaf_told e.goal f) ≡ None
   edit_reads nothing = made_by ∙ key_reads f e.rule e.goal f.value refl nothing
 
   -- and else it makes its edit
-  pub edit_changes : edit_means.needs e f ≢ Nothing → edit_of (Edit e.goal e.rule) (leaf_told e.goal f) ≡ Some (edit_means.edit e f)
+  pub edit_changes : 0 < (edit_means.work e f).need → edit_of (Edit e.goal e.rule) (leaf_told e.goal f) ≡ Some (edit_means.edit e f)
   edit_changes needed = made_by ∙ key_changes f e.rule e.goal f.value refl needed
 
 -- A kind of ordered read is one that a call of the map makes, which only reads.

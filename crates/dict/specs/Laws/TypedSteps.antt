@@ -29,7 +29,6 @@ use Rattle.template.specs.declared.walk.Found.{Found}
 use Rattle.edits.specs.Edits.{EditMeaning}
 use Rattle.edits.specs.Known.{Scxs, UpdateWaitsAt, UpdateIsToldAt, UpdateWaits}
 use Rattle.edits.specs.Laws.Update.{update_lawful, update_made}
-use Rattle.edits.specs.declared.edit.Need.TheVariants.{Nothing}
 use Rattle.edits.specs.declared.update.UpdateAt.{UpdateAt}
 use Rattle.edits.specs.declared.update.UpdateAt.TheVariants.{Start, Walk, Look, Read, Fill, Scx}
 use Rattle.edits.specs.declared.update.UpdateRun.{UpdateRun}
@@ -108,7 +107,7 @@ module _ (keys values : ℕ → Type 0) where
 
   -- a step of an update continues a run of a typed dictionary, if its edit at each leaf to which it
   -- has walked is of such words
-  module _ {E : Type 0} (e : EditMeaning E) (m : UpdateRun E UpdateAt) (c : Call) (h : History) (s : Step) (run : IsRun (TypedAllows keys values) c.layout h) (typed : (f : Found) → HasWalkedTo e m.edit c h f → e.needs m.edit f ≢ Nothing → IsTypedEdit keys values (e.edit m.edit f)) where
+  module _ {E : Type 0} (e : EditMeaning E) (m : UpdateRun E UpdateAt) (c : Call) (h : History) (s : Step) (run : IsRun (TypedAllows keys values) c.layout h) (typed : (f : Found) → HasWalkedTo e m.edit c h f → 0 < (e.work m.edit f).need → IsTypedEdit keys values (e.edit m.edit f)) where
     -- the SCX in hand makes the edit that it tracks
     in_hand : (b : History) (f : Found) (scx : ScxRun) (begin : History) → HasWalkedTo e m.edit c h f → IsRun TreeAllows c.layout (row_of c s h ⊳ h) → Scxs e m (begun_at c b) (row_of c s h ⊳ h) f scx begin → (t : ℕ) → IsFirst c.layout h (row_of c s h) t → IsBegin h (row_of c s h) t → (d : MapEdit) × Makes c.layout (row_of c s h ⊳ h) t d × IsTypedEdit keys values d
     in_hand b f scx begin walked tree x t first begins = go x.tracks

@@ -111,6 +111,7 @@ module _ {E : Type 0} (e : EditMeaning E) where
     quiet = quiet_more c.layout c.pass c.start h r idle x.quiet;
     looked = looked_more c h r m.edit f m.snaps.items x.run run x.looked;
     enough = x.enough;
+    asked = x.asked;
     need = x.need;
     in_order = x.in_order;
     some = x.some;

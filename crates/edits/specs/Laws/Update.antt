@@ -47,7 +47,7 @@ use Rattle.edits.specs.declared.update.UpdateAt.{UpdateAt}
 use Rattle.edits.specs.declared.update.UpdateAt.TheVariants.{Start, Walk, Look, Read, Fill, Scx}
 use Rattle.edits.specs.declared.update.UpdateRun.{UpdateRun}
 use Rattle.edits.specs.Edits.{EditMeaning}
-use Rattle.edits.specs.Steps.{HasScxForFill, UpdateFitsAt, UpdateFits}
+use Rattle.edits.specs.Steps.{MaySpend, UpdateFitsAt, UpdateFits}
 use Rattle.edits.specs.Pieces.{nth_node, word_of}
 use Rattle.edits.specs.Known.{RestsWith, IsUntouched, AreFull, Looks, Reads, FillsPiece, Scxs, Walks, WorksAtNode, FirstOrLost, Tries, piece_fill_step, UpdateWaitsAt, UpdateIsToldAt, UpdateWaits, UpdateIsReady, piece, piece_here, top}
 use Rattle.edits.specs.Laws.Hand.{HasFilledTo, IsForField, FieldMay, by_others, by_load, blank_by_others, before_by_others, filled_to_more, words_more, taken_now, may_fill}
@@ -82,6 +82,7 @@ module _ {E : Type 0} (e : EditMeaning E) where
     run = (x.run.0, run);
     looked = looked_more e c h r m.edit f m.snaps.items x.run run x.looked;
     rests = rests_by_others c h r m.share run.lawful other x.rests;
+    asked = x.asked;
     room = x.room;
     named = x.named;
     now = inr x.now;
@@ -89,8 +90,8 @@ module _ {E : Type 0} (e : EditMeaning E) where
     since = x.since;
   }
 
-  full_by_others : (m : UpdateRun E UpdateAt) (c : Call) (h : History) (r : Row) (f : Found) (nth : Nth) → IsRun TreeAllows c.layout (r ⊳ h) → r.pass.0 ≢ c.pass → HasFilledTo c.layout h c.pass m.share m.nodes.first.0 (top e m f) (nth_node m.nodes nth).0 (piece e m f) → HasFilledTo c.layout (r ⊳ h) c.pass m.share m.nodes.first.0 (top e m f) (nth_node m.nodes nth).0 (piece e m f)
-  full_by_others m c h r f nth run other x = by_others c.layout h r c.pass m.share m.nodes.first.0 (top e m f) (piece e m f) c.is_pass run.lawful other (nth_node m.nodes nth).0 x
+  full_by_others : (m : UpdateRun E UpdateAt) (c : Call) (h : History) (r : Row) (f : Found) (nth : Nth) → IsRun TreeAllows c.layout (r ⊳ h) → r.pass.0 ≢ c.pass → HasFilledTo c.layout h c.pass m.share m.nodes.first.0 (top m) (nth_node m.nodes nth).0 (piece e m f) → HasFilledTo c.layout (r ⊳ h) c.pass m.share m.nodes.first.0 (top m) (nth_node m.nodes nth).0 (piece e m f)
+  full_by_others m c h r f nth run other x = by_others c.layout h r c.pass m.share m.nodes.first.0 (top m) (piece e m f) c.is_pass run.lawful other (nth_node m.nodes nth).0 x
 
   works_by_others : (m : UpdateRun E UpdateAt) (c : Call) (h : History) (r : Row) (f : Found) (nth : Nth) → IsRun TreeAllows c.layout (r ⊳ h) → r.pass.0 ≢ c.pass → AreFull e m c h f nth → WorksAtNode e m c h f nth → WorksAtNode e m c (r ⊳ h) f nth
   works_by_others m c h r f nth run other full x = works_more e m c h r f nth run (idle_if_finished c (r ⊳ h) run.lawful (full_by_others m c h r f nth run other full).over) x
@@ -126,7 +127,7 @@ module _ {E : Type 0} (e : EditMeaning E) where
       works = works_by_others m c h r f First run other w.0.full w.0.works;
       full = full_by_others m c h r f First run other w.0.full;
       hand = w.0.hand;
-      blank = blank_by_others c.layout h r c.pass m.share m.nodes.first.0 (top e m f) (piece e m f) c.is_pass run.lawful other m.nodes.first.0 w.0.full.hand w.0.hand.lowest w.0.hand.highest w.0.blank;
+      blank = blank_by_others c.layout h r c.pass m.share m.nodes.first.0 (top m) (piece e m f) c.is_pass run.lawful other m.nodes.first.0 w.0.full.hand w.0.hand.lowest w.0.hand.highest w.0.blank;
       from = w.0.from;
       is = w.0.is;
       read = may_read_more c h r n.0 m.read run.lawful w.0.read;
@@ -143,8 +144,8 @@ module _ {E : Type 0} (e : EditMeaning E) where
       whole = w.0.whole;
       part_is = w.0.part_is;
     },
-    field_may_more part _ _ (for_field_more c.layout h r m.nodes.first.0 (top e m f) (word_of (piece_here e m f nth) part)) w.1,
-    before_by_others c.layout h r c.pass m.share m.nodes.first.0 (top e m f) (piece e m f) c.is_pass run.lawful other (nth_node m.nodes nth).0 (piece_here e m f nth) part w.0.full.hand w.0.hand.lowest w.0.hand.highest w.2,
+    field_may_more part _ _ (for_field_more c.layout h r m.nodes.first.0 (top m) (word_of (piece_here e m f nth) part)) w.1,
+    before_by_others c.layout h r c.pass m.share m.nodes.first.0 (top m) (piece e m f) c.is_pass run.lawful other (nth_node m.nodes nth).0 (piece_here e m f nth) part w.0.full.hand w.0.hand.lowest w.0.hand.highest w.2,
     w.3,
   )
   kept_at m c h s r (Scx f scx) run other w = (w.0, scxs_by_others m c h r f scx w.0 run other w.1, scx_keeps TreeAllows scx (begun_at c w.0) h s r run other w.2)
@@ -171,7 +172,7 @@ module _ {E : Type 0} (e : EditMeaning E) where
   lawful_at m c h s (Read f n part) run w = load_lawful TreeAllows c h LoadSettled (node n.0 (Settled part)) s run w.1 record { word = tt; same = refl } (λ q. cc) w.0.read.inside.1
   lawful_at m c h s (Fill f nth part) run w = fill_lawful TreeAllows c h (nth_node m.nodes nth).0 part (word_of (piece e m f (nth_node m.nodes nth).0) part) s run w.3
       (w.0.full.hand.own (nth_node m.nodes nth).0 w.0.hand.lowest w.0.hand.highest)
-      (may_fill c.layout h c.pass m.share m.nodes.first.0 (top e m f) (nth_node m.nodes nth).0 (piece e m f) part (word_of (piece e m f (nth_node m.nodes nth).0) part) (piece_fill (piece e m f (nth_node m.nodes nth).0) part w.0.part_is) w.0.hand.lowest w.0.hand.highest w.1 w.0.full)
+      (may_fill c.layout h c.pass m.share m.nodes.first.0 (top m) (nth_node m.nodes nth).0 (piece e m f) part (word_of (piece e m f (nth_node m.nodes nth).0) part) (piece_fill (piece e m f (nth_node m.nodes nth).0) part w.0.part_is) w.0.hand.lowest w.0.hand.highest w.1 w.0.full)
   lawful_at m c h s (Scx f scx) run w = scx_lawful TreeAllows scx (begun_at c w.0) h s run w.2
 
   -- the step that an update waits for continues the run
@@ -190,6 +191,7 @@ module _ {E : Type 0} (e : EditMeaning E) where
     run = (x.run.0, run);
     looked = looked_more e c h r m.edit f m.snaps.items x.run run x.looked;
     rests = rests_by_step c h r m.share run.lawful no_fill x.rests;
+    asked = x.asked;
     room = x.room;
     named = x.named;
     now = inr x.now;
@@ -213,8 +215,8 @@ module _ {E : Type 0} (e : EditMeaning E) where
       same : (w : Word) → value (row_of c s h ⊳ h) w ≡ value h w
       same = value_quiet (row_of c s h) h refl (rw asked refl)
 
-      full : HasFilledTo c.layout (row_of c s h ⊳ h) c.pass m.share m.nodes.first.0 (top e m f) m.nodes.first.0 (piece e m f)
-      full = by_load c.layout h (row_of c s h) c.pass m.share m.nodes.first.0 (top e m f) m.nodes.first.0 (piece e m f) run.lawful (λ q. let z : LoadSettled ≡ FillKind = sym (ap (λ (t : Step). t.kind) asked) ∙ q in cc) same x.full
+      full : HasFilledTo c.layout (row_of c s h ⊳ h) c.pass m.share m.nodes.first.0 (top m) m.nodes.first.0 (piece e m f)
+      full = by_load c.layout h (row_of c s h) c.pass m.share m.nodes.first.0 (top m) m.nodes.first.0 (piece e m f) run.lawful (λ q. let z : LoadSettled ≡ FillKind = sym (ap (λ (t : Step). t.kind) asked) ∙ q in cc) same x.full
 
   -- a fill of a word of the fresh node of this place
   module _ (m : UpdateRun E UpdateAt) (c : Call) (h : History) (f : Found) (nth : Nth) (part : NodeWord) where
@@ -228,7 +230,7 @@ module _ {E : Type 0} (e : EditMeaning E) where
     r = row_of c (piece_fill_step e m f nth part) h
 
     abbrev May : Type 0
-    May = FieldMay part (IsForField c.layout h m.nodes.first.0 (top e m f) (word_of p part))
+    May = FieldMay part (IsForField c.layout h m.nodes.first.0 (top m) (word_of p part))
 
     abbrev Then : History → Type 0
     Then k = FillsPiece e m c k f nth part × HoldsUpTo k n p part × IsTakenNode k n
@@ -243,12 +245,12 @@ module _ {E : Type 0} (e : EditMeaning E) where
         whole = x.whole;
         part_is = x.part_is;
       },
-      words_more c.layout h r c.pass m.share m.nodes.first.0 (top e m f) n (piece e m f) part run.lawful refl refl (piece_fill p part x.part_is) x.hand.lowest x.hand.highest may x.full p refl words,
-      taken_now c.layout h r c.pass m.share m.nodes.first.0 (top e m f) n (piece e m f) part run.lawful refl refl (piece_fill p part x.part_is) x.hand.lowest x.hand.highest may x.full,
+      words_more c.layout h r c.pass m.share m.nodes.first.0 (top m) n (piece e m f) part run.lawful refl refl (piece_fill p part x.part_is) x.hand.lowest x.hand.highest may x.full p refl words,
+      taken_now c.layout h r c.pass m.share m.nodes.first.0 (top m) n (piece e m f) part run.lawful refl refl (piece_fill p part x.part_is) x.hand.lowest x.hand.highest may x.full,
     )
       where
-        full : HasFilledTo c.layout (r ⊳ h) c.pass m.share m.nodes.first.0 (top e m f) n (piece e m f)
-        full = filled_to_more c.layout h r c.pass m.share m.nodes.first.0 (top e m f) n (piece e m f) part run.lawful refl refl (piece_fill p part x.part_is) x.hand.lowest x.hand.highest may x.full
+        full : HasFilledTo c.layout (r ⊳ h) c.pass m.share m.nodes.first.0 (top m) n (piece e m f)
+        full = filled_to_more c.layout h r c.pass m.share m.nodes.first.0 (top m) n (piece e m f) part run.lawful refl refl (piece_fill p part x.part_is) x.hand.lowest x.hand.highest may x.full
 
     fills_then : (s : Step) → s ≡ piece_fill_step e m f nth part → IsRun TreeAllows c.layout (row_of c s h ⊳ h) → FillsPiece e m c h f nth part → May → HoldsBefore h n p part → Then (row_of c s h ⊳ h)
     fills_then s asked run x may words = rw asked (fills_made (rw asked at run) x may words)
@@ -363,30 +365,30 @@ module _ {E : Type 0} (e : EditMeaning E) where
   pub update_made : (m : UpdateRun E UpdateAt) (c : Call) (h : History) (s : Step) (v : ℕ) → IsRun TreeAllows c.layout (row_of c s h ⊳ h) → IsTold s.access (value h s.word) v → UpdateWaits e m c h s → UpdateIsReady e m c (row_of c s h ⊳ h) (Some v)
   update_made m c h s v run t w = made_at m c w.0 h s v m.at run t w.1 w.2 w.3
 
-  scx_left_at : (m : UpdateRun E UpdateAt) (c : Call) (h : History) (v : ℕ) (at : UpdateAt) → UpdateIsToldAt e m c h v at → HasScxForFill m at
-  scx_left_at m c h v Start x = tt
-  scx_left_at m c h v (Walk walk) x = tt
-  scx_left_at m c h v (Look f llx) x = tt
-  scx_left_at m c h v (Read f n part) x = tt
-  scx_left_at m c h v (Fill f nth part) x = x.0.works.some
-  scx_left_at m c h v (Scx f scx) x = tt
+  spends_at : (m : UpdateRun E UpdateAt) (c : Call) (h : History) (v : ℕ) (at : UpdateAt) → UpdateIsToldAt e m c h v at → MaySpend e m at
+  spends_at m c h v Start x = tt
+  spends_at m c h v (Walk walk) x = tt
+  spends_at m c h v (Look f llx) x = x.1.asked
+  spends_at m c h v (Read f n part) x = tt
+  spends_at m c h v (Fill f nth part) x = x.0.works.some
+  spends_at m c h v (Scx f scx) x = tt
 
-  -- while it fills a fresh node there is an SCX-record left
-  pub update_scx_left : (m : UpdateRun E UpdateAt) (c : Call) (h : History) (got : Option ℕ) → UpdateIsReady e m c h got → HasScxForFill m m.at
-  update_scx_left m c h None x = subst (HasScxForFill m) (sym x.3) tt
-  update_scx_left m c h (Some v) x = scx_left_at m (begun_at c x.0) h v m.at x.3
+  -- it may take of its share what it takes next
+  pub update_spends : (m : UpdateRun E UpdateAt) (c : Call) (h : History) (got : Option ℕ) → UpdateIsReady e m c h got → MaySpend e m m.at
+  update_spends m c h None x = subst (MaySpend e m) (sym x.3) tt
+  update_spends m c h (Some v) x = spends_at m (begun_at c x.0) h v m.at x.3
 
   -- What it is told
 
-  fits_at : (m : UpdateRun E UpdateAt) (c : Call) (h : History) (v nodes : ℕ) (at : UpdateAt) → IsRun TreeAllows c.layout h → UpdateIsToldAt e m c h v at → length (taken_nodes h) ≤ nodes → UpdateFitsAt m (Some v) nodes at
+  fits_at : (m : UpdateRun E UpdateAt) (c : Call) (h : History) (v nodes : ℕ) (at : UpdateAt) → IsRun TreeAllows c.layout h → UpdateIsToldAt e m c h v at → length (taken_nodes h) ≤ nodes → UpdateFitsAt e m (Some v) nodes at
   fits_at m c h v nodes Start run x few = absurd x
   fits_at m c h v nodes (Walk walk) run x few = walk_told walk c h (Some v) nodes run x.1 few
-  fits_at m c h v nodes (Look f llx) run x few = tt
-  fits_at m c h v nodes (Read f n part) run x few = x.0.next
+  fits_at m c h v nodes (Look f llx) run x few = x.1.asked
+  fits_at m c h v nodes (Read f n part) run x few = (x.0.works.asked, x.0.next)
   fits_at m c h v nodes (Fill f nth part) run x few = tt
   fits_at m c h v nodes (Scx f scx) run x few = tt
 
   -- what an update may be told fits the nodes that are taken by then
-  pub update_told : (m : UpdateRun E UpdateAt) (c : Call) (h : History) (got : Option ℕ) (nodes : ℕ) → IsRun TreeAllows c.layout h → UpdateIsReady e m c h got → length (taken_nodes h) ≤ nodes → UpdateFits m got nodes
-  update_told m c h None nodes run x few = subst (λ at. UpdateFitsAt m None nodes at) (sym x.3) tt
+  pub update_told : (m : UpdateRun E UpdateAt) (c : Call) (h : History) (got : Option ℕ) (nodes : ℕ) → IsRun TreeAllows c.layout h → UpdateIsReady e m c h got → length (taken_nodes h) ≤ nodes → UpdateFits e m got nodes
+  update_told m c h None nodes run x few = subst (λ at. UpdateFitsAt e m None nodes at) (sym x.3) tt
   update_told m c h (Some v) nodes run x few = fits_at m (begun_at c x.0) h v nodes m.at run x.3 few

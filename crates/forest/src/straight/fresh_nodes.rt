@@ -221,8 +221,7 @@ pub(crate) fn fill_node<S: Shape, M: Machine<S>, E: Edit + Copy>(
         seat.old run.old (Ok (Next.Fill nth)) seat.new run.new result }
     ensures moves { steps_made seat.old < steps_made seat.new }
 {
-    let snaps = run.snaps.as_slice();
-    let piece = run.edit.piece(found, snaps, &run.nodes, &run.read, nth);
+    let piece = run.piece(found, nth);
     let start = hand.layout.node_start(run.nodes.at(nth));
     let node = FreshNode { nth, start };
     let head = NodeWord::Settled(SettledPart::Head);

@@ -19,7 +19,7 @@ use crate::view::SeatView;
 use arena::{Machine, NodeNo, ScxNo, Shape, Share};
 use arrayvec::ArrayVec;
 use atomic_table::Seat;
-use edits::{Edit, Next, Nodes, Reading, Stop, UpdateRun, Updated, anew};
+use edits::{Edit, Next, Nodes, Reading, Stop, UpdateRun, Updated, Work, anew};
 use help::HelpRun;
 use prims::Snap;
 use template::{Found, Tree};
@@ -48,6 +48,7 @@ pub(crate) fn make<S: Shape, M: Machine<S>, E: Edit + Copy>(
     let mut run = UpdateRun {
         edit,
         share,
+        work: Work::none(),
         snaps: ArrayVec::new(),
         nodes: Nodes::default(),
         read: Reading::new(),
@@ -223,9 +224,9 @@ fn change<S: Shape, M: Machine<S>, E: Edit + Copy>(
     let change = ScxTask {
         scx,
         call: run.call,
-        plan: run.plan(found),
-        old: run.old(found),
-        fresh: run.fresh(found),
+        plan: run.work.plan,
+        old: run.old(),
+        fresh: run.fresh(),
     };
     let snaps = run.snaps.as_slice();
     let mut help = HelpRun::new(scx);

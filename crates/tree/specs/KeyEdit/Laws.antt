@@ -10,15 +10,14 @@ use Rattle.template.specs.FoundLeaf.{asked_key}
 use Rattle.template.specs.declared.walk.Found.{Found}
 use Rattle.tree.specs.KeyEdit.Means.{doing, key_at, key_means, leaving, part, putting, taking, wants}
 use Rattle.tree.specs.Put.Laws.{put_bounds}
-use Rattle.tree.specs.Put.Means.{has_room, need_by, put_means}
+use Rattle.tree.specs.Put.Means.{has_room, put_means, put_need, splits_by}
 use Rattle.tree.specs.Take.Laws.{take_bounds}
-use Rattle.tree.specs.Take.Means.{take_means, take_need}
-use Rattle.edits.specs.declared.edit.Need.{Need}
-use Rattle.edits.specs.declared.edit.Need.TheVariants.{Nothing}
+use Rattle.tree.specs.Take.Means.{take_means}
 use Rattle.edits.specs.declared.edit.Nth.{Nth}
+use Rattle.edits.specs.declared.edit.Work.{Work}
 use Rattle.edits.specs.declared.piece.Piece.{Piece}
 use Rattle.edits.specs.Edits.{EditBounds, EditMeaning, through}
-use Rattle.edits.specs.Pieces.{all_fills, many_nodes}
+use Rattle.edits.specs.Pieces.{all_fills, no_work}
 
 -- what does at each of its keys what another edit does has its bounds: `of` is the other one there
 bounds_through : {E F : Type 0} (m : EditMeaning E) (of : F → E) → EditBounds m → EditBounds (through m of)
@@ -42,18 +41,19 @@ some_nodes true = omega arith
 some_nodes false = omega arith
 
 -- where there is a value one is enough
-one_needed : (left : Option ℕ) (key value : ℕ) (f : Found) → f.value ≡ Some value → many_nodes ((doing left).needs key f) ≤ 1
-one_needed None key value f is = subst (λ (o : Option ℕ). many_nodes (take_need o) ≤ 1) (sym is) (omega arith)
-one_needed (Some v) key value f is = subst (λ (o : Option ℕ). many_nodes (need_by o (has_room f)) ≤ 1) (sym is) (omega arith)
+pub one_needed : (left : Option ℕ) (key value : ℕ) (f : Found) → f.value ≡ Some value → ((doing left).work key f).need ≤ 1
+one_needed None key value f is = take_bounds.few_nodes (taking key) f
+one_needed (Some v) key value f is = subst (λ (o : Option ℕ). put_need (splits_by o (has_room f)) ≤ 1) (sym is) (omega arith)
 
-few_nodes : (rule : Rule) (left : Option ℕ) (key : ℕ) (f : Found) (value : Option ℕ) → f.value ≡ value → (b : Bool) → (b ≡ true → value ≡ None → applies rule None ≡ true) → many_nodes (cond b ((doing left).needs key f) Nothing) ≤ nodes_in_try rule
+-- and three always are
+pub three_needed : (left : Option ℕ) (key : ℕ) (f : Found) → ((doing left).work key f).need ≤ 3
+three_needed (Some v) key f = put_bounds.few_nodes (putting key v) f
+three_needed None key f = let few = take_bounds.few_nodes (taking key) f in omega (arith, few)
+
+few_nodes : (rule : Rule) (left : Option ℕ) (key : ℕ) (f : Found) (value : Option ℕ) → f.value ≡ value → (b : Bool) → (b ≡ true → value ≡ None → applies rule None ≡ true) → (cond b ((doing left).work key f) no_work).need ≤ nodes_in_try rule
 few_nodes rule left key f value is false absent = omega arith
 few_nodes rule left key f (Some v) is true absent = let few = one_needed left key v f is in let some = some_nodes (applies rule None) in omega (arith, few, some)
-few_nodes rule left key f None is true absent = subst (λ (b : Bool). many_nodes ((doing left).needs key f) ≤ cond b 3 1) (sym (absent refl refl)) (three left)
-  where
-    three : (left : Option ℕ) → many_nodes ((doing left).needs key f) ≤ 3
-    three (Some v) = put_bounds.few_nodes (putting key v) f
-    three None = let few = take_bounds.few_nodes (taking key) f in omega (arith, few)
+few_nodes rule left key f None is true absent = subst (λ (b : Bool). ((doing left).work key f).need ≤ cond b 3 1) (sym (absent refl refl)) (three_needed left key f)
 
 -- and where there is none it puts in what was absent
 wants_absent : (goal : Goal) (rule : Rule) (value : Option ℕ) → wants goal rule value ≡ true → value ≡ None → applies rule None ≡ true
@@ -62,9 +62,9 @@ wants_absent (End side) rule None wanted is = cc
 wants_absent (End side) rule (Some v) wanted is = cc
 
 -- where it does nothing it fills no more
-fewer_fills : (b : Bool) (need : Need) (pieces : Nth → Piece) (n : ℕ) → all_fills need pieces ≤ n → all_fills (cond b need Nothing) pieces ≤ n
-fewer_fills true need pieces n few = few
-fewer_fills false need pieces n few = omega (arith, few)
+fewer_fills : (b : Bool) (work : Work) (pieces : Nth → Piece) (n : ℕ) → all_fills work.need pieces ≤ n → all_fills (cond b work no_work).need pieces ≤ n
+fewer_fills true work pieces n few = few
+fewer_fills false work pieces n few = omega (arith, few)
 
 pub key_bounds : {G R : Type 0} (goal : G → Goal) (rule : R → Rule) → EditBounds (key_means goal rule)
 key_bounds goal rule = record {
@@ -73,5 +73,5 @@ key_bounds goal rule = record {
   few_nodes = λ e f. few_nodes (rule e.rule) (leaves (rule e.rule)) (asked_key (goal e.goal) f.key) f f.value refl (wants (goal e.goal) (rule e.rule) f.value) (wants_absent (goal e.goal) (rule e.rule) f.value);
   some_nodes = λ e. some_nodes (applies (rule e.rule) None);
   few_reads = λ e f snaps x is. (leaving_bounds (leaves (rule e.rule))).few_reads (key_at goal rule e f) f snaps x is;
-  few_fills = λ e f snaps ns read. fewer_fills (wants (goal e.goal) (rule e.rule) f.value) ((part goal rule e).needs (key_at goal rule e f) f) ((part goal rule e).pieces (key_at goal rule e f) f snaps ns read) ((part goal rule e).most_fills 0) ((leaving_bounds (leaves (rule e.rule))).few_fills (key_at goal rule e f) f snaps ns read);
+  few_fills = λ e f snaps ns read. fewer_fills (wants (goal e.goal) (rule e.rule) f.value) ((part goal rule e).work (key_at goal rule e f) f) ((part goal rule e).pieces (key_at goal rule e f) f snaps ns read) ((part goal rule e).most_fills 0) ((leaving_bounds (leaves (rule e.rule))).few_fills (key_at goal rule e f) f snaps ns read);
 }

@@ -13,8 +13,8 @@ use Rattle.tree.specs.declared.put.PutPair.{PutPair}
 use Rattle.tree.specs.declared.key_edit.KeyEdit.{KeyEdit}
 use Rattle.tree.specs.Take.Means.{take_means}
 use Rattle.tree.specs.Put.Means.{put_means}
-use Rattle.edits.specs.declared.edit.Need.TheVariants.{Nothing}
 use Rattle.edits.specs.Edits.{EditMeaning, through}
+use Rattle.edits.specs.Pieces.{no_work}
 
 -- At a key
 
@@ -36,9 +36,8 @@ abbrev pub leaving : Option ℕ → EditMeaning ℕ
 leaving left = record {
   goal = λ key. Key key;
   edit = λ key f. edit_to key left;
-  needs = (doing left).needs;
+  work = (doing left).work;
   most_nodes = λ key. (doing left).most_nodes 0;
-  side = (doing left).side;
   looks = (doing left).looks;
   most_looks = λ key. (doing left).most_looks 0;
   reads = (doing left).reads;
@@ -71,9 +70,8 @@ module _ {G R : Type 0} (goal : G → Goal) (rule : R → Rule) where
   key_means = record {
     goal = λ e. goal e.goal;
     edit = λ e f. edit_to (key_at e f) (leaves (rule e.rule));
-    needs = λ e f. if wants (goal e.goal) (rule e.rule) f.value then (part e).needs (key_at e f) f else Nothing;
+    work = λ e f. if wants (goal e.goal) (rule e.rule) f.value then (part e).work (key_at e f) f else no_work;
     most_nodes = λ e. nodes_in_try (rule e.rule);
-    side = λ e f. (part e).side (key_at e f) f;
     looks = λ e f snaps. (part e).looks (key_at e f) f snaps;
     most_looks = λ e. (part e).most_looks 0;
     reads = λ e f snaps. (part e).reads (key_at e f) f snaps;

@@ -1,12 +1,12 @@
 -- What an edit looks at, reads and fills, and that it makes its edit: where it changes anything, it
 -- does at its key what leaves its value there.
-use Rattle.std.proofs.Common.{◌≡◌, ◌≢◌, ℕ, ◌^◌, ◌<◌, Bool, true, false, cond, List, Option, Some, None, refl, sym, ◌∙◌, ap, subst}
+use Rattle.std.proofs.Common.{◌≡◌, ℕ, ◌^◌, ◌<◌, Bool, true, false, cond, List, Option, Some, None, refl, sym, ◌∙◌, ap, subst, arith}
 use Rattle.arena.specs.History.{History, value}
 use Rattle.arena.specs.Machines.{Call}
 use Rattle.arena.specs.declared.word.Side.{Side}
 use Rattle.prims.specs.Snap.{snap_at}
+use Rattle.prims.specs.Scx.Known.{IsUpdateOver}
 use Rattle.prims.specs.declared.snap.Snap.{Snap}
-use Rattle.prims.specs.declared.update.Update.{Update}
 use Rattle.ordered_map.specs.OrderedMap.{edit_key, edit_to, leaves}
 use Rattle.ordered_map.specs.Runs.{IsTreeRun}
 use Rattle.ordered_map.specs.TreeWords.{class}
@@ -20,18 +20,16 @@ use Rattle.template.proofs.Lemmas.{found_own, found_small, said_low}
 use Rattle.tree.specs.declared.key_edit.KeyEdit.{KeyEdit}
 use Rattle.tree.specs.KeyEdit.Laws.{key_bounds, leaving_bounds}
 use Rattle.tree.specs.KeyEdit.Means.{key_at, key_means, leaving, part, putting, taking, wants}
-use Rattle.tree.specs.Laws.Looks.{some_need}
 use Rattle.tree.specs.Laws.Put.Sound.{put_laws}
 use Rattle.tree.specs.Laws.Take.Sound.{take_laws}
 use Rattle.tree.specs.Put.Means.{put_means}
 use Rattle.tree.specs.Take.Means.{take_means}
-use Rattle.edits.specs.declared.edit.Need.{Need}
-use Rattle.edits.specs.declared.edit.Need.TheVariants.{Nothing}
 use Rattle.edits.specs.declared.edit.Nodes.{Nodes}
+use Rattle.edits.specs.declared.edit.Work.{Work}
 use Rattle.edits.specs.declared.reading.Reading.{Reading}
 use Rattle.edits.specs.Edits.{EditBounds, EditMeaning, through}
-use Rattle.edits.specs.Known.{HasFilledAll, HasLooked, HasSnappedAfterWalk, IsNeeded, IsUpdateFor, StandInRow}
-use Rattle.edits.specs.Pieces.{top_of}
+use Rattle.edits.specs.Known.{HasFilledAll, HasLooked, HasSnappedAfterWalk, IsNeeded, StandInRow}
+use Rattle.edits.specs.Pieces.{no_work, update_for}
 use Rattle.edits.specs.Sound.{EditLaws, FillsWell, LooksWell, MakesWell}
 
 -- At a key
@@ -42,7 +40,7 @@ module _ {E F : Type 0} (m : EditMeaning E) (of : F → E) (laws : EditLaws m) w
   looks_through = record { opens = λ e. laws.looks.opens (of e); stood = λ e. laws.looks.stood (of e); differs = λ e. laws.looks.differs (of e); reads = λ e. laws.looks.reads (of e) }
 
   makes_through : MakesWell (through m of)
-  makes_through = record { some = λ e. laws.makes.some (of e); distinct = λ e. laws.makes.distinct (of e); leaf = λ e. laws.makes.leaf (of e); promised = λ e. laws.makes.promised (of e) }
+  makes_through = record { over = λ e. laws.makes.over (of e); leaf = λ e. laws.makes.leaf (of e); promised = λ e. laws.makes.promised (of e) }
 
   laws_through : EditBounds (through m of) → EditLaws (through m of)
   laws_through bounds = record { at_found = λ e. laws.at_found (of e); bounds = bounds; looks = looks_through; fills = record { fields = λ e. laws.fills.fields (of e) }; makes = makes_through }
@@ -80,17 +78,10 @@ own_small : (goal : Goal) (c : Call) (f : Found) (h : History) → IsTreeRun c.l
 own_small (Key k) c f h run small found = small
 own_small (End side) c f h run small found = found_small (End side) c h f run small found
 
--- what is needed where something is wanted
-abbrev need_if : Bool → Need → Need
-need_if b need = cond b need Nothing
-
-is_wanted : (b : Bool) (need : Need) → need_if b need ≢ Nothing → b ≡ true
-is_wanted true need d = refl
-is_wanted false need d = absurd (d refl)
-
-is_need : (b : Bool) (need : Need) → need_if b need ≢ Nothing → need_if b need ≡ need
-is_need true need d = refl
-is_need false need d = absurd (d refl)
+-- what there is to do where something is wanted
+is_wanted : (b : Bool) (work : Work) → 0 < (cond b work no_work).need → b ≡ true
+is_wanted true work some = refl
+is_wanted false work some = absurd (omega (arith, some))
 
 module _ {G R : Type 0} (goal : G → Goal) (rule : R → Rule) where
   abbrev Edit : Type 0
@@ -106,17 +97,17 @@ module _ {G R : Type 0} (goal : G → Goal) (rule : R → Rule) where
   laws_of e = leaving_laws (leaves (rule e.rule))
 
   abbrev IsNeeding : Edit → Found → Type 0
-  IsNeeding e f = (key_means goal rule).needs e f ≢ Nothing
+  IsNeeding e f = 0 < ((key_means goal rule).work e f).need
 
   module _ (e : Edit) (f : Found) (needed : IsNeeding e f) where
     wanted : wants (goal e.goal) (rule e.rule) f.value ≡ true
-    wanted = is_wanted (wants (goal e.goal) (rule e.rule) f.value) ((does e).needs (at e f) f) needed
+    wanted = is_wanted (wants (goal e.goal) (rule e.rule) f.value) ((does e).work (at e f) f) needed
 
-    pub same_need : (key_means goal rule).needs e f ≡ (does e).needs (at e f) f
-    same_need = is_need (wants (goal e.goal) (rule e.rule) f.value) ((does e).needs (at e f) f) needed
+    pub same_work : (key_means goal rule).work e f ≡ (does e).work (at e f) f
+    same_work = ap (λ b. cond b ((does e).work (at e f) f) no_work) wanted
 
-    own_needed : (does e).needs (at e f) f ≢ Nothing
-    own_needed d = needed (same_need ∙ d)
+    own_needed : 0 < ((does e).work (at e f) f).need
+    own_needed = subst (λ (w : Work). 0 < w.need) same_work needed
 
     -- what was looked at serves what it does there
     pub own_looked : (c : Call) (h : History) (snaps : List Snap) → IsTreeRun c.layout h → HasLooked (key_means goal rule) c h e f snaps → HasLooked (does e) c h (at e f) f snaps
@@ -134,14 +125,14 @@ module _ {G R : Type 0} (goal : G → Goal) (rule : R → Rule) where
     own_filled c h snaps ns read run x = record {
       looked = own_looked c h snaps run x.looked;
       enough = x.enough;
-      in_order = subst (λ (need : Need). StandInRow need ns) same_need x.in_order;
+      in_order = subst (λ (w : Work). StandInRow w.need ns) same_work x.in_order;
       right = x.right;
       whole = x.whole;
-      holds = λ i n. x.holds i (subst (λ (need : Need). IsNeeded need i) (sym same_need) n);
+      holds = λ i n. x.holds i (subst (λ (w : Work). IsNeeded w.need i) (sym same_work) n);
     }
 
-    own_update : (snaps : List Snap) (ns : Nodes) (u : Update) → IsUpdateFor ((key_means goal rule).side e f) ((key_means goal rule).needs e f) snaps ns u → IsUpdateFor ((does e).side (at e f) f) ((does e).needs (at e f) f) snaps ns u
-    own_update snaps ns u x = record { covers = x.covers; plan = x.plan; old = x.old; fresh = x.fresh ∙ ap (λ (need : Need). top_of need ns) same_need }
+    own_update : (snaps : List Snap) (ns : Nodes) → update_for ((key_means goal rule).work e f) snaps ns ≡ update_for ((does e).work (at e f) f) snaps ns
+    own_update snaps ns = ap (λ (w : Work). update_for w snaps ns) same_work
 
   key_looks : LooksWell (key_means goal rule)
   key_looks = record {
@@ -154,16 +145,15 @@ module _ {G R : Type 0} (goal : G → Goal) (rule : R → Rule) where
   key_fills : FillsWell (key_means goal rule)
   key_fills = record {
     fields = λ e c h f snaps ns read nth side run x enough n p.
-        let d : IsNeeding e f = some_need ((key_means goal rule).needs e f) nth n in
-        (laws_of e).fills.fields (at e f) c h f snaps ns read nth side run (own_looked e f d c h snaps run x) enough (subst (λ (need : Need). IsNeeded need nth) (same_need e f d) n) p;
+        let d : IsNeeding e f = omega (arith, n) in
+        (laws_of e).fills.fields (at e f) c h f snaps ns read nth side run (own_looked e f d c h snaps run x) enough (subst (λ (w : Work). IsNeeded w.need nth) (same_work e f d) n) p;
   }
 
   key_makes : MakesWell (key_means goal rule)
   key_makes = record {
-    some = λ e f. (laws_of e).makes.some (at e f) f;
-    distinct = λ e c h f snaps run d x enough. (laws_of e).makes.distinct (at e f) c h f snaps run (own_needed e f d) (own_looked e f d c h snaps run x) enough;
+    over = λ e c h f snaps ns run d x enough. subst IsUpdateOver (sym (own_update e f d snaps ns)) ((laws_of e).makes.over (at e f) c h f snaps ns run (own_needed e f d) (own_looked e f d c h snaps run x) enough);
     leaf = λ e c h f snaps s run d x enough. (laws_of e).makes.leaf (at e f) c h f snaps s run (own_needed e f d) (own_looked e f d c h snaps run x) enough;
-    promised = λ e c h f snaps ns read j d run n x is says. (laws_of e).makes.promised (at e f) c h f snaps ns read j d run (own_needed e f n) (own_filled e f n c h snaps ns read run x) (own_update e f n snaps ns j.update is) says;
+    promised = λ e c h f snaps ns read j d run n x is says. (laws_of e).makes.promised (at e f) c h f snaps ns read j d run (own_needed e f n) (own_filled e f n c h snaps ns read run x) (is ∙ own_update e f n snaps ns) says;
   }
 
   -- it is an edit that an update can make

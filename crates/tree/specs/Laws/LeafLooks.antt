@@ -8,14 +8,15 @@ use Rattle.arena.specs.declared.word.Side.{Side}
 use Rattle.arena.specs.declared.word.Side.TheVariants.{Left, Right}
 use Rattle.arena.specs.History.{History, value}
 use Rattle.arena.specs.Machines.{Call}
-use Rattle.arena.specs.ScxRecords.{count}
+use Rattle.arena.specs.ScxRecords.{IsPlan, count, count_of, field_index_of, side_of}
 use Rattle.histories.specs.Descriptor.{Descriptor}
 use Rattle.prims.specs.Laws.Idle.{IsQuietSince}
 use Rattle.prims.specs.Llx.Known.{IsOpened}
-use Rattle.prims.specs.Scx.Known.{Job, Says}
+use Rattle.prims.specs.Scx.Known.{IsUpdateOver, Job, Says}
 use Rattle.prims.specs.Snap.{child_of, snap_at}
 use Rattle.prims.specs.Snaps.{AreDistinct}
 use Rattle.prims.specs.declared.snap.Snap.{Snap}
+use Rattle.prims.specs.declared.update.Update.{Update}
 use Rattle.ordered_map.specs.Holding.{held_pairs, IsWellCounted}
 use Rattle.ordered_map.specs.OrderedMap.{AllBelow, IsRising, MapEdit}
 use Rattle.ordered_map.specs.Runs.{IsTreeRun}
@@ -31,11 +32,13 @@ use Rattle.template.proofs.Lemmas.{found_below, found_holds, leaf_edit_words}
 use Rattle.tree.specs.LeafEdit.{leaf_looks, leaf_reads}
 use Rattle.tree.specs.Laws.Looks.{same_node, goes_on, not_enough, is_other}
 use Rattle.edits.specs.declared.edit.Look.TheVariants.{At, Differs, Enough}
+use Rattle.edits.specs.declared.edit.Nodes.{Nodes}
+use Rattle.edits.specs.declared.edit.Work.{Work}
 use Rattle.edits.specs.declared.reading.Reading.{Reading}
 use Rattle.edits.specs.Known.{HasLookedBy, HasSnappedAfterWalk, MayRead}
 use Rattle.edits.specs.Laws.Contended.{passed_not_final, turned_contended}
 use Rattle.edits.specs.Laws.Opened.{found_named, found_opened, above_opened}
-use Rattle.edits.specs.Pieces.{plan_over}
+use Rattle.edits.specs.Pieces.{top_of, update_for}
 use Rattle.edits.specs.Readings.{next_read}
 use Rattle.edits.specs.Tries.{CoversSnaps}
 use Rattle.edits.proofs.Lemmas.{begun_read, leaf_read}
@@ -115,7 +118,7 @@ leaf_covered e f snaps k s both covers =
     rw (eq-eqb (count k s) 2 two) (covers.members 1 (let few = both.two in omega (arith, few)) ∙ both.leaf)
 
 -- the parent is a fork, and so is not the leaf
-pub leaf_distinct : (k : ℕ) (c : Call) (h : History) (f : Found) (snaps : List Snap) → IsTreeRun c.layout h → HasLookedBy leaf_looks c h (ToKey k) f snaps → leaf_looks f snaps ≡ Enough → AreDistinct snaps
+leaf_distinct : (k : ℕ) (c : Call) (h : History) (f : Found) (snaps : List Snap) → IsTreeRun c.layout h → HasLookedBy leaf_looks c h (ToKey k) f snaps → leaf_looks f snaps ≡ Enough → AreDistinct snaps
 leaf_distinct k c h f snaps run x enough i j p q d e = go (two_places i j (rw both.two at p) (rw both.two at q) d)
   where
     both : HasBoth f snaps
@@ -139,20 +142,41 @@ leaf_distinct k c h f snaps run x enough i j p q d e = go (two_places i j (rw bo
     go (inl z) = apart (sym both.parent ∙ (rw (z.0, z.1) at e) ∙ both.leaf)
     go (inr z) = apart (sym both.parent ∙ sym (rw (z.0, z.1) at e) ∙ both.leaf)
 
--- the plan word of both is that of an edit of a leaf
-plan_both : (n : ℕ) (side : Side) → n ≡ 2 → plan_over n side ≡ leaf_plan side
-plan_both n Left e = rw e refl
-plan_both n Right e = rw e refl
+-- the plan of both is one, of two nodes, which changes a field of the first
+planned : (side : Side) → IsPlan (leaf_plan side)
+planned Left = record { some = omega arith; removed = omega arith; field = omega arith }
+planned Right = record { some = omega arith; removed = omega arith; field = omega arith }
+
+two_planned : (side : Side) → count_of (leaf_plan side) ≡ 2
+two_planned Left = refl
+two_planned Right = refl
+
+-- the field that a plan changes, as the snapshots show it
+abbrev pub field_shown : ℕ → List Snap → ℕ
+field_shown p snaps = (child_of (snap_at snaps (field_index_of p)) (side_of p)).0
+
+shown_first : (side : Side) (snaps : List Snap) → field_shown (leaf_plan side) snaps ≡ (child_of (snap_at snaps 0) side).0
+shown_first Left snaps = refl
+shown_first Right snaps = refl
+
+-- what has that plan covers both
+pub leaf_over : (k : ℕ) (c : Call) (h : History) (f : Found) (snaps : List Snap) (ns : Nodes) (w : Work) → IsTreeRun c.layout h → HasLookedBy leaf_looks c h (ToKey k) f snaps → leaf_looks f snaps ≡ Enough → w.plan.0 ≡ leaf_plan f.trail.side → IsUpdateOver (update_for w snaps ns)
+leaf_over k c h f snaps ns w run x enough is = record {
+  planned = subst IsPlan (sym is) (planned f.trail.side);
+  count = ap count_of is ∙ two_planned f.trail.side ∙ sym (has_both f snaps enough x.seen).two;
+  distinct = leaf_distinct k c h f snaps run x enough;
+  old = refl;
+}
 
 -- its SCX-record puts the last fresh node into the place of the leaf
-pub is_leaf_edit : (f : Found) (snaps : List Snap) (j : Job) (d : Descriptor) (n : ℕ) → HasBoth f snaps → j.update.snaps ≡ snaps → j.update.plan.0 ≡ plan_over (length snaps) f.trail.side → j.update.old ≡ child_of (snap_at snaps 0) f.trail.side → j.update.fresh.0 ≡ n → Says d j → IsLeafEditAt f d n
-is_leaf_edit f snaps j d n both covers plan old fresh says = leaf_edit_words j d f n says
-    (plan ∙ plan_both (length snaps) f.trail.side both.two)
-    (ap length covers ∙ both.two)
-    (ap (λ (xs : List Snap). (snap_at xs 0).node.0) covers ∙ both.parent)
-    (ap (λ (xs : List Snap). (snap_at xs 1).node.0) covers ∙ both.leaf)
-    (ap (λ (m : NodeNo). m.0) old ∙ both.child)
-    fresh
+pub is_leaf_edit : (f : Found) (snaps : List Snap) (ns : Nodes) (w : Work) (j : Job) (d : Descriptor) (n : ℕ) → HasBoth f snaps → w.plan.0 ≡ leaf_plan f.trail.side → j.update ≡ update_for w snaps ns → top_of w.need ns ≡ n → Says d j → IsLeafEditAt f d n
+is_leaf_edit f snaps ns w j d n both plan is top says = leaf_edit_words j d f n says
+    (ap (λ (u : Update). u.plan.0) is ∙ plan)
+    (ap (λ (u : Update). length u.snaps) is ∙ both.two)
+    (ap (λ (u : Update). (snap_at u.snaps 0).node.0) is ∙ both.parent)
+    (ap (λ (u : Update). (snap_at u.snaps 1).node.0) is ∙ both.leaf)
+    (ap (λ (u : Update). u.old.0) is ∙ ap (λ p. field_shown p snaps) plan ∙ shown_first f.trail.side snaps ∙ both.child)
+    (ap (λ (u : Update). u.fresh.0) is ∙ top)
 
 -- What it reads
 

@@ -1,15 +1,11 @@
--- What the edits of the tree have in common: what their looks name, how these go on behind a
--- snapshot, and that what they need is something.
-use Rattle.std.proofs.Common.{◌≡◌, ◌≢◌, Bool, true, false, if◌then◌else◌, refl, ap, subst}
+-- What the edits of the tree have in common: what their looks name, and how these go on behind a
+-- snapshot.
+use Rattle.std.proofs.Common.{◌≡◌, Bool, true, false, if◌then◌else◌, refl, ap}
 use Rattle.arena.specs.declared.number.NodeNo.{NodeNo}
 use Rattle.arena.specs.declared.number.ScxNo.{ScxNo}
 use Rattle.prims.specs.declared.snap.Snap.{Snap}
 use Rattle.edits.specs.declared.edit.Look.{Look}
 use Rattle.edits.specs.declared.edit.Look.TheVariants.{At, Differs, Enough}
-use Rattle.edits.specs.declared.edit.Need.{Need}
-use Rattle.edits.specs.declared.edit.Need.TheVariants.{Nothing}
-use Rattle.edits.specs.declared.edit.Nth.{Nth}
-use Rattle.edits.specs.Known.{IsNeeded}
 
 -- the node of a look
 abbrev pub looked_node : Look → NodeNo
@@ -41,7 +37,3 @@ not_enough false next p e = let d : Differs p.node p.scx ≡ Enough = e in cc
 pub is_other : (b : Bool) (next : NodeNo) (p : Snap) (n : NodeNo) (s : ScxNo) → (if b then At next else Differs p.node p.scx) ≡ Differs n s → (b ≡ false) × (p.node ≡ n) × (p.scx ≡ s)
 is_other true next p n s e = absurd (let d : At next ≡ Differs n s = e in cc)
 is_other false next p n s e = (refl, ap looked_node e, ap scx_of e)
-
--- who needs some fresh node needs something
-pub some_need : (need : Need) (nth : Nth) → IsNeeded need nth → need ≢ Nothing
-some_need need nth x e = subst (λ q. IsNeeded q nth) e x

@@ -1,21 +1,19 @@
 -- The bounds of an insert.
-use Rattle.std.proofs.Common.{◌≡◌, ℕ, ◌+◌, ◌*◌, ◌<◌, ◌≤◌, Bool, true, false, ◌==◌, if◌then◌else◌, List, [], ◌∷◌, length, take, drop, Option, Some, None, subst, arith}
+use Rattle.std.proofs.Common.{◌≡◌, ℕ, ◌+◌, ◌*◌, ◌<◌, ◌≤◌, Bool, true, false, ◌==◌, if◌then◌else◌, List, [], ◌∷◌, length, take, drop, Some, None, subst, arith}
 use Rattle.arena.specs.declared.number.NodeNo.{NodeNo}
 use Rattle.prims.specs.declared.snap.Snap.{Snap}
 use Rattle.ordered_map.specs.declared.pair.Pair.{Pair}
 use Rattle.ordered_map.specs.OrderedMap.{pair, insert}
 use Rattle.template.specs.declared.walk.Found.{Found}
 use Rattle.tree.specs.LeafEdit.{leaf_looks, leaf_reads}
-use Rattle.tree.specs.Put.Means.{put_means, put_need, put_reads, need_by, has_room, lower, pieces_by_need, pairs_with, second_pairs}
+use Rattle.tree.specs.Put.Means.{put_means, put_need, put_reads, splits, lower, pieces_by, pairs_with, second_pairs}
 use Rattle.edits.specs.declared.edit.Look.TheVariants.{At, Enough}
-use Rattle.edits.specs.declared.edit.Need.{Need}
-use Rattle.edits.specs.declared.edit.Need.TheVariants.{Nothing, One, Three}
 use Rattle.edits.specs.declared.edit.Nodes.{Nodes}
 use Rattle.edits.specs.declared.piece.Piece.TheVariants.{Leaf}
 use Rattle.edits.specs.declared.reading.Reading.{Reading}
 use Rattle.edits.specs.Edits.{EditBounds}
 use Rattle.edits.specs.Laws.PieceFills.{the_same}
-use Rattle.edits.specs.Pieces.{all_fills, many_fills, many_nodes}
+use Rattle.edits.specs.Pieces.{all_fills, many_fills}
 use Rattle.edits.specs.Readings.{reads_left}
 use Rattle.edits.proofs.Lemmas.{begun_left}
 
@@ -24,10 +22,9 @@ few_looks f [] n e = omega arith
 few_looks f (p ∷ []) n e = omega arith
 few_looks f (p ∷ l ∷ snaps) n e = absurd (let d : Enough ≡ At n = e in cc)
 
-few_nodes : (o : Option ℕ) (room : Bool) → many_nodes (need_by o room) ≤ 3
-few_nodes (Some v) room = omega arith
-few_nodes None true = omega arith
-few_nodes None false = omega arith
+few_nodes : (split : Bool) → put_need split ≤ 3
+few_nodes true = omega arith
+few_nodes false = omega arith
 
 few_reads : (f : Found) (x : NodeNo × Reading) → put_reads f ≡ Some x → reads_left x.1 ≤ 12
 few_reads f x e = go (f.head.class == 0) e
@@ -63,10 +60,9 @@ second_few k v f read = go (f.head.class == 0)
     go true = rest_few (insert k v read.pairs)
     go false = omega arith
 
-few_fills : (need : Need) (k v : ℕ) (f : Found) (ns : Nodes) (read : Reading) → all_fills need (pieces_by_need need (pairs_with k v f read) f ns) ≤ 23
-few_fills Nothing k v f ns read = let a = any_leaf f.head.level 0 (pairs_with k v f read) in omega (arith, a)
-few_fills One k v f ns read = let a = any_leaf f.head.level 0 (pairs_with k v f read) in omega (arith, a)
-few_fills Three k v f ns read =
+few_fills : (split : Bool) (k v : ℕ) (f : Found) (ns : Nodes) (read : Reading) → all_fills (put_need split) (pieces_by split (pairs_with k v f read) f ns) ≤ 23
+few_fills false k v f ns read = let a = any_leaf f.head.level 0 (pairs_with k v f read) in omega (arith, a)
+few_fills true k v f ns read =
     let a = leaf_fills (lower f.head.level) 0 (take 2 (pairs_with k v f read)) 2 (first_few (pairs_with k v f read)) (omega arith) in
     let b = leaf_fills (lower f.head.level) f.head.class (second_pairs f (pairs_with k v f read)) 3 (second_few k v f read) (omega arith) in
     omega (arith, a, b)
@@ -77,8 +73,8 @@ pub put_bounds : EditBounds put_means
 put_bounds = record {
   few_looks = λ e f snaps n d. few_looks f snaps n d;
   small = omega arith;
-  few_nodes = λ e f. few_nodes f.value (has_room f);
+  few_nodes = λ e f. few_nodes (splits f);
   some_nodes = omega arith;
   few_reads = λ e f snaps x d. few_reads f x d;
-  few_fills = λ e f snaps ns read. few_fills (put_need f) e.key e.value f ns read;
+  few_fills = λ e f snaps ns read. few_fills (splits f) e.key e.value f ns read;
 }

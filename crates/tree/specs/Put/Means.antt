@@ -1,17 +1,17 @@
 -- What an insert needs, looks at, reads and fills.
-use Rattle.std.specs.Prelude.{ℕ, ◌+◌, ◌-◌, ◌^◌, min, nat_lt, ◌==◌, if◌then◌else◌, Bool, false, List, [], ◌∷◌, take, drop, Option, Some, None}
+use Rattle.std.specs.Prelude.{ℕ, ◌+◌, ◌-◌, ◌^◌, min, nat_lt, ◌==◌, if◌then◌else◌, Bool, false, not, List, [], ◌∷◌, take, drop, Option, Some, None}
 use Rattle.arena.specs.declared.number.NodeNo.{NodeNo}
 use Rattle.ordered_map.specs.declared.pair.Pair.{Pair}
 use Rattle.ordered_map.specs.OrderedMap.{Insert as PutEdit, pair, insert}
+use Rattle.ordered_map.specs.TreeShape.{leaf_plan}
 use Rattle.template.specs.declared.walk.Found.{Found}
 use Rattle.ordered_map.specs.declared.rule.Goal.TheVariants.{Key as ToKey}
 use Rattle.tree.specs.LeafEdit.{leaf_looks, leaf_reads}
 use Rattle.tree.specs.declared.put.PutPair.{PutPair}
-use Rattle.edits.specs.declared.edit.Need.{Need}
-use Rattle.edits.specs.declared.edit.Need.TheVariants.{One, Three}
 use Rattle.edits.specs.declared.edit.Nodes.{Nodes}
 use Rattle.edits.specs.declared.edit.Nth.{Nth}
 use Rattle.edits.specs.declared.edit.Nth.TheVariants.{First, Second, Third}
+use Rattle.edits.specs.declared.edit.Work.{Work}
 use Rattle.edits.specs.declared.piece.Piece.{Piece}
 use Rattle.edits.specs.declared.piece.Piece.TheVariants.{Leaf, Fork}
 use Rattle.edits.specs.declared.reading.Reading.{Reading}
@@ -22,13 +22,20 @@ use Rattle.edits.specs.Pairs.{pair_at}
 abbrev pub has_room : Found → Bool
 has_room f = if f.head.class == 0 then nat_lt f.more 3 else false
 
--- a new key takes three nodes where the leaf has no room for it; else one leaf is enough
-abbrev pub need_by : Option ℕ → Bool → Need
-need_by (Some v) room = One
-need_by None room = if room then One else Three
+-- a new key takes a leaf more, where the leaf has no room for it
+abbrev pub splits_by : Option ℕ → Bool → Bool
+splits_by (Some v) room = false
+splits_by None room = not room
 
-abbrev pub put_need : Found → Need
-put_need f = need_by f.value (has_room f)
+abbrev pub splits : Found → Bool
+splits f = splits_by f.value (has_room f)
+
+-- two leaves take three nodes; else one leaf is enough
+abbrev pub put_need : Bool → ℕ
+put_need split = if split then 3 else 1
+
+abbrev pub put_work : Found → Work
+put_work f = record { need = put_need (splits f); plan = record { 0 = leaf_plan f.trail.side } }
 
 -- it reads the pairs of a leaf of class 0
 abbrev pub put_reads : Found → Option (NodeNo × Reading)
@@ -57,21 +64,19 @@ split_pieces ps f ns Second = Leaf (lower f.head.level) f.head.class (second_pai
 split_pieces ps f ns Third = fork_over (second_pairs f ps) f ns
 
 -- those three, or one leaf
-abbrev pub pieces_by_need : Need → List Pair → Found → Nodes → Nth → Piece
-pieces_by_need Three ps f ns nth = split_pieces ps f ns nth
-pieces_by_need _ ps f ns nth = Leaf f.head.level 0 ps
+abbrev pub pieces_by : Bool → List Pair → Found → Nodes → Nth → Piece
+pieces_by split ps f ns nth = if split then split_pieces ps f ns nth else Leaf f.head.level 0 ps
 
 abbrev pub put_pieces : ℕ → ℕ → Found → Nodes → Reading → Nth → Piece
-put_pieces k v f ns read nth = pieces_by_need (put_need f) (pairs_with k v f read) f ns nth
+put_pieces k v f ns read nth = pieces_by (splits f) (pairs_with k v f read) f ns nth
 
 -- the edit that an insert is
 abbrev pub put_means : EditMeaning PutPair
 put_means = record {
   goal = λ e. ToKey e.key;
   edit = λ e f. PutEdit e.key e.value;
-  needs = λ e f. put_need f;
+  work = λ e f. put_work f;
   most_nodes = λ e. 3;
-  side = λ e f. f.trail.side;
   looks = λ e f snaps. leaf_looks f snaps;
   most_looks = λ e. 2;
   reads = λ e f snaps. put_reads f;

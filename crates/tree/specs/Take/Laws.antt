@@ -9,7 +9,7 @@ use Rattle.ordered_map.specs.OrderedMap.{delete}
 use Rattle.template.specs.declared.walk.Found.{Found}
 use Rattle.tree.specs.LeafEdit.{leaf_looks, leaf_reads}
 use Rattle.tree.specs.Put.Laws.{few_looks as few_leaf_looks}
-use Rattle.tree.specs.Take.Means.{take_means, take_need, take_looks, take_reads, take_piece, copied_pairs, copy_with, has_more, join_looks, sibling_of, sibling_copy}
+use Rattle.tree.specs.Take.Means.{take_means, take_looks, take_reads, take_piece, take_plan, work_by, copied_pairs, copy_with, has_more, join_looks, sibling_of, sibling_copy}
 use Rattle.edits.specs.declared.edit.Look.TheVariants.{At, Enough}
 use Rattle.edits.specs.declared.edit.Nth.{Nth}
 use Rattle.edits.specs.declared.piece.Piece.{Piece}
@@ -17,7 +17,7 @@ use Rattle.edits.specs.declared.piece.Piece.TheVariants.{Leaf, Fork}
 use Rattle.edits.specs.declared.reading.Reading.{Reading}
 use Rattle.edits.specs.Edits.{EditBounds}
 use Rattle.edits.specs.Laws.PieceFills.{the_same}
-use Rattle.edits.specs.Pieces.{all_fills, many_fills, many_nodes}
+use Rattle.edits.specs.Pieces.{all_fills, many_fills}
 use Rattle.edits.specs.Readings.{nothing_read, reads_left}
 use Rattle.edits.proofs.Lemmas.{begun_left}
 
@@ -35,9 +35,9 @@ few_looks f snaps n e = go (has_more f) e
     go true d = let l = few_leaf_looks f snaps n d in omega (arith, l)
     go false d = few_join_looks f snaps n d
 
-few_nodes : (o : Option ℕ) → many_nodes (take_need o) ≤ 1
-few_nodes None = omega arith
-few_nodes (Some v) = omega arith
+few_nodes : (o : Option ℕ) (plan : ℕ) → (work_by o plan).need ≤ 1
+few_nodes None plan = omega arith
+few_nodes (Some v) plan = omega arith
 
 few_reads : (f : Found) (snaps : List Snap) (x : NodeNo × Reading) → Some (take_reads f snaps) ≡ Some x → reads_left x.1 ≤ 14
 few_reads f snaps x e = subst (λ (y : NodeNo × Reading). reads_left y.1 ≤ 14) (the_same (take_reads f snaps) x e) (go (has_more f))
@@ -60,9 +60,9 @@ piece_fills k f snaps read = go (has_more f)
     go true = omega arith
     go false = copy_fills (sibling_of f snaps) (unwrap_or read.head (head_of 0)) read
 
-few_fills : (o : Option ℕ) (p : Piece) → many_fills p ≤ 14 → all_fills (take_need o) (λ (nth : Nth). p) ≤ 14
-few_fills None p few = omega (arith, few)
-few_fills (Some v) p few = omega (arith, few)
+few_fills : (o : Option ℕ) (plan : ℕ) (p : Piece) → many_fills p ≤ 14 → all_fills (work_by o plan).need (λ (nth : Nth). p) ≤ 14
+few_fills None plan p few = omega (arith, few)
+few_fills (Some v) plan p few = omega (arith, few)
 
 -- a delete looks at four nodes, takes at most one, reads at most fourteen words and makes at most
 -- fourteen fills
@@ -70,8 +70,8 @@ pub take_bounds : EditBounds take_means
 take_bounds = record {
   few_looks = λ e f snaps n d. few_looks f snaps n d;
   small = omega arith;
-  few_nodes = λ e f. few_nodes f.value;
+  few_nodes = λ e f. few_nodes f.value (take_plan f);
   some_nodes = omega arith;
   few_reads = λ e f snaps x d. few_reads f snaps x d;
-  few_fills = λ e f snaps ns read. few_fills f.value (take_piece e.key f snaps read) (piece_fills e.key f snaps read);
+  few_fills = λ e f snaps ns read. few_fills f.value (take_plan f) (take_piece e.key f snaps read) (piece_fills e.key f snaps read);
 }

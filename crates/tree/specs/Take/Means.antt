@@ -8,25 +8,20 @@ use Rattle.prims.specs.declared.snap.Snap.{Snap}
 use Rattle.prims.specs.Snap.{child_of, snap_at}
 use Rattle.ordered_map.specs.declared.pair.Pair.{Pair}
 use Rattle.ordered_map.specs.OrderedMap.{Delete as TakeEdit, delete, pair}
-use Rattle.ordered_map.specs.TreeShape.{sibling_place}
+use Rattle.ordered_map.specs.TreeShape.{join_plan, leaf_plan, sibling_place}
 use Rattle.template.specs.declared.walk.Found.{Found}
 use Rattle.ordered_map.specs.declared.rule.Goal.TheVariants.{Key as ToKey}
 use Rattle.tree.specs.LeafEdit.{leaf_looks, leaf_reads}
 use Rattle.tree.specs.declared.take.TakePair.{TakePair}
 use Rattle.edits.specs.declared.edit.Look.{Look}
 use Rattle.edits.specs.declared.edit.Look.TheVariants.{At, Differs, Enough}
-use Rattle.edits.specs.declared.edit.Need.{Need}
-use Rattle.edits.specs.declared.edit.Need.TheVariants.{Nothing, One}
+use Rattle.edits.specs.declared.edit.Work.{Work}
 use Rattle.edits.specs.declared.piece.Piece.{Piece}
 use Rattle.edits.specs.declared.piece.Piece.TheVariants.{Leaf, Fork}
 use Rattle.edits.specs.declared.reading.Reading.{Reading}
 use Rattle.edits.specs.Edits.{EditMeaning}
+use Rattle.edits.specs.Pieces.{no_work}
 use Rattle.edits.specs.Readings.{nothing_read}
-
--- a present key takes one node, and of an absent one there is nothing to delete
-abbrev pub take_need : Option ℕ → Need
-take_need None = Nothing
-take_need (Some v) = One
 
 -- it goes on to the next node, where the snapshot still shows the child that was found
 abbrev pub past : Snap → Side → NodeNo → NodeNo → Look
@@ -48,9 +43,17 @@ has_more f = nat_lt 0 f.more
 abbrev pub take_looks : Found → List Snap → Look
 take_looks f snaps = if has_more f then leaf_looks f snaps else join_looks f snaps
 
--- on which side the field is that it changes
-abbrev pub take_side : Found → Side
-take_side f = if has_more f then f.trail.side else f.trail.grand_side
+-- its plan word
+abbrev pub take_plan : Found → ℕ
+take_plan f = if has_more f then leaf_plan f.trail.side else join_plan f.trail.grand_side
+
+-- a present key takes one node, and of an absent one there is nothing to delete
+abbrev pub work_by : Option ℕ → ℕ → Work
+work_by None plan = no_work
+work_by (Some v) plan = record { need = 1; plan = record { 0 = plan } }
+
+abbrev pub take_work : Found → Work
+take_work f = work_by f.value (take_plan f)
 
 -- the snapshot of the leaf's sibling
 abbrev pub sibling_of : Found → List Snap → Snap
@@ -85,9 +88,8 @@ abbrev pub take_means : EditMeaning TakePair
 take_means = record {
   goal = λ e. ToKey e.key;
   edit = λ e f. TakeEdit e.key;
-  needs = λ e f. take_need f.value;
+  work = λ e f. take_work f;
   most_nodes = λ e. 1;
-  side = λ e f. take_side f;
   looks = λ e f snaps. take_looks f snaps;
   most_looks = λ e. 4;
   reads = λ e f snaps. Some (take_reads f snaps);

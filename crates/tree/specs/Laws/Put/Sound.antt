@@ -27,21 +27,18 @@ use Rattle.template.proofs.Lemmas.{edit_promised, found_blank, found_class, foun
 use Rattle.tree.specs.LeafEdit.{leaf_looks, leaf_reads}
 use Rattle.tree.specs.declared.put.PutPair.{PutPair}
 use Rattle.tree.specs.Put.Laws.{put_bounds}
-use Rattle.tree.specs.Put.Means.{put_means, put_need, put_reads, has_room, lower, need_by, pairs_with, pieces_by_need, second_pairs}
-use Rattle.tree.specs.Laws.LeafLooks.{HasBoth, class_is, has_both, held_is, is_leaf_edit, leaf_begins, leaf_covered, leaf_differs, leaf_distinct, leaf_opens, leaf_stood, many, pairs_are}
+use Rattle.tree.specs.Put.Means.{put_means, put_need, put_reads, put_work, has_room, lower, pairs_with, pieces_by, second_pairs, splits, splits_by}
+use Rattle.tree.specs.Laws.LeafLooks.{HasBoth, class_is, has_both, held_is, is_leaf_edit, leaf_begins, leaf_covered, leaf_differs, leaf_opens, leaf_over, leaf_stood, many, pairs_are}
 use Rattle.tree.specs.Laws.PairLists.{both_parts, first_below, first_long, insert_least, insert_most, insert_present, insert_some, parts_apart, rest_long}
-use Rattle.edits.specs.declared.edit.Look.TheVariants.{At, Enough}
-use Rattle.edits.specs.declared.edit.Need.{Need}
-use Rattle.edits.specs.declared.edit.Need.TheVariants.{Nothing, One, Three}
 use Rattle.edits.specs.declared.edit.Nodes.{Nodes}
 use Rattle.edits.specs.declared.edit.Nth.{Nth}
 use Rattle.edits.specs.declared.edit.Nth.TheVariants.{First, Second, Third}
 use Rattle.edits.specs.declared.piece.Piece.TheVariants.{Leaf}
 use Rattle.edits.specs.declared.reading.Reading.{Reading}
-use Rattle.edits.specs.Known.{HasLookedBy, ComesBefore, IsNeeded, IsReadWhole, HasLooked, HasFilledAll, HoldsPiece, IsUpdateFor, MayRead, MayReadAt}
+use Rattle.edits.specs.Known.{HasLookedBy, ComesBefore, IsNeeded, IsReadWhole, HasLooked, HasFilledAll, HoldsPiece, MayRead, MayReadAt}
 use Rattle.edits.specs.Laws.PieceFills.{the_same}
 use Rattle.edits.specs.Pairs.{pair_at}
-use Rattle.edits.specs.Pieces.{is_filled, nth_node, word_of, top_of}
+use Rattle.edits.specs.Pieces.{is_filled, nth_node, word_of, top_of, update_for}
 use Rattle.edits.specs.Sound.{LooksWell, FillsWell, MakesWell, EditLaws}
 use Rattle.edits.proofs.Lemmas.{IsForkWith, IsLeafWith, fork_with, leaf_with, take_whole}
 
@@ -66,17 +63,16 @@ put_look = record {
 
 -- What it fills
 
-pub put_fields : (need : Need) (ps : List Pair) (f : Found) (ns : Nodes) (nth : Nth) (side : Side) → is_filled (pieces_by_need need ps f ns nth) (Child side) ≡ true → (i : Nth) × ComesBefore i nth × (word_of (pieces_by_need need ps f ns nth) (Child side) ≡ (nth_node ns i).0)
-put_fields Nothing ps f ns nth side p = absurd (let z : false ≡ true = p in cc)
-put_fields One ps f ns nth side p = absurd (let z : false ≡ true = p in cc)
-put_fields Three ps f ns First side p = absurd (let z : false ≡ true = p in cc)
-put_fields Three ps f ns Second side p = absurd (let z : false ≡ true = p in cc)
-put_fields Three ps f ns Third Left p = (First, tt, refl)
-put_fields Three ps f ns Third Right p = (Second, tt, refl)
+pub put_fields : (split : Bool) (ps : List Pair) (f : Found) (ns : Nodes) (nth : Nth) (side : Side) → is_filled (pieces_by split ps f ns nth) (Child side) ≡ true → (i : Nth) × ComesBefore i nth × (word_of (pieces_by split ps f ns nth) (Child side) ≡ (nth_node ns i).0)
+put_fields false ps f ns nth side p = absurd (let z : false ≡ true = p in cc)
+put_fields true ps f ns First side p = absurd (let z : false ≡ true = p in cc)
+put_fields true ps f ns Second side p = absurd (let z : false ≡ true = p in cc)
+put_fields true ps f ns Third Left p = (First, omega arith, refl)
+put_fields true ps f ns Third Right p = (Second, omega arith, refl)
 
 -- the fields of its fork hold its leaves
 pub put_fills : FillsWell put_means
-put_fills = record { fields = λ e c h f snaps ns read nth side run x enough n p. inl (put_fields (put_need f) (pairs_with e.key e.value f read) f ns nth side p) }
+put_fills = record { fields = λ e c h f snaps ns read nth side run x enough n p. inl (put_fields (splits f) (pairs_with e.key e.value f read) f ns nth side p) }
 
 -- What it makes
 
@@ -116,8 +112,8 @@ module _ (ed : PutPair) (c : Call) (h : History) (f : Found) (snaps : List Snap)
   abbrev all : List Pair
   all = pairs_with ed.key ed.value f read
 
-  holds : (need : Need) → put_need f ≡ need → (i : Nth) → IsNeeded need i → HoldsPiece c h (nth_node ns i).0 (pieces_by_need need all f ns i)
-  holds need is i n = subst (λ (q : Need). HoldsPiece c h (nth_node ns i).0 (pieces_by_need q all f ns i)) is (x.holds i (subst (λ (q : Need). IsNeeded q i) (sym is) n))
+  holds : (split : Bool) → splits f ≡ split → (i : Nth) → IsNeeded (put_need split) i → HoldsPiece c h (nth_node ns i).0 (pieces_by split all f ns i)
+  holds split is i n = subst (λ (q : Bool). HoldsPiece c h (nth_node ns i).0 (pieces_by q all f ns i)) is (x.holds i (subst (λ (q : Bool). IsNeeded (put_need q) i) (sym is) n))
 
   below : lower f.head.level ≡ f.head.level + 1
   below = lower_is f.head.level fits
@@ -152,8 +148,8 @@ module _ (ed : PutPair) (c : Call) (h : History) (f : Found) (snaps : List Snap)
         ∙ take_whole 5 (insert ed.key ed.value old_pairs) (let a = insert_most ed.key ed.value old_pairs in let b = few_old in let m = many_old in omega (arith, a, b, m))
 
     -- one leaf with the pair
-    one_leaf : put_need f ≡ One → length (insert ed.key ed.value old_pairs) ≤ 4 → Made ns.first.0
-    one_leaf need few = record {
+    one_leaf : splits f ≡ false → length (insert ed.key ed.value old_pairs) ≤ 4 → Made ns.first.0
+    one_leaf whole few = record {
       fresh = p.fresh;
       edit = inl record {
         leaf = found.leaf;
@@ -166,14 +162,14 @@ module _ (ed : PutPair) (c : Call) (h : History) (f : Found) (snaps : List Snap)
     }
       where
         p : HoldsPiece c h ns.first.0 (Leaf f.head.level 0 all)
-        p = holds One need First tt
+        p = holds false whole First (omega arith)
 
         now : IsLeafWith (value h) ns.first.0 f.head.level 0 all
         now = leaf_with h ns.first.0 f.head.level f.head.level 0 all refl (let a = fits in omega (arith, a)) (omega arith) p.words
             (subst (λ ps. 0 < length ps) (sym all_is) (insert_some ed.key ed.value old_pairs)) (subst (λ ps. length ps ≤ 4) (sym all_is) few)
 
   -- three nodes
-  module _ (need : put_need f ≡ Three) where
+  module _ (grows : splits f ≡ true) where
     abbrev x_node : ℕ
     x_node = ns.first.0
 
@@ -187,24 +183,24 @@ module _ (ed : PutPair) (c : Call) (h : History) (f : Found) (snaps : List Snap)
     second = second_pairs f all
 
     fork : IsForkWith (value h) fork_node f.head.level f.head.class (pair_at second 0).key x_node y_node
-    fork = fork_with h fork_node f.head.level f.head.class (pair_at second 0).key ns.first ns.second (let a = fits in omega (arith, a)) small (holds Three need Third tt).words
+    fork = fork_with h fork_node f.head.level f.head.class (pair_at second 0).key ns.first ns.second (let a = fits in omega (arith, a)) small (holds true grows Third (omega arith)).words
 
     x_leaf : 0 < length (take 2 all) → length (take 2 all) ≤ 4 → IsLeafWith (value h) x_node (f.head.level + 1) 0 (take 2 all)
-    x_leaf some few = leaf_with h x_node (lower f.head.level) (f.head.level + 1) 0 (take 2 all) below fits (omega arith) (holds Three need First tt).words some few
+    x_leaf some few = leaf_with h x_node (lower f.head.level) (f.head.level + 1) 0 (take 2 all) below fits (omega arith) (holds true grows First (omega arith)).words some few
 
     y_leaf : 0 < length second → length second ≤ 4 → IsLeafWith (value h) y_node (f.head.level + 1) f.head.class second
-    y_leaf some few = leaf_with h y_node (lower f.head.level) (f.head.level + 1) f.head.class second below fits small (holds Three need Second tt).words some few
+    y_leaf some few = leaf_with h y_node (lower f.head.level) (f.head.level + 1) f.head.class second below fits small (holds true grows Second (omega arith)).words some few
 
     made : IsSplitBy (value h) (PutEdit ed.key ed.value) old_leaf fork_node x_node y_node → Made fork_node
     made split = record {
-      fresh = (holds Three need Third tt).fresh;
+      fresh = (holds true grows Third (omega arith)).fresh;
       edit = inr (x_node, y_node, split);
       below = λ is_fork side. under side;
     }
       where
         under : (side : Side) → IsFresh c.layout c.pass h (value h (child fork_node side))
-        under Left = subst (IsFresh c.layout c.pass h) (sym fork.left) (holds Three need First tt).fresh
-        under Right = subst (IsFresh c.layout c.pass h) (sym fork.right) (holds Three need Second tt).fresh
+        under Left = subst (IsFresh c.layout c.pass h) (sym fork.left) (holds true grows First (omega arith)).fresh
+        under Right = subst (IsFresh c.layout c.pass h) (sym fork.right) (holds true grows Second (omega arith)).fresh
 
     -- of a leaf of class 0 with four pairs
     split_low : (low : f.head.class ≡ 0) → 4 ≤ length (held_pairs (value h) old_leaf) → Made fork_node
@@ -334,17 +330,20 @@ module _ (ed : PutPair) (c : Call) (h : History) (f : Found) (snaps : List Snap)
         lower_key = let a = x.looked.small in let p = old_high in omega (arith, a, p)
 
   -- whatever the leaf holds
-  top_one : put_need f ≡ One → Made ns.first.0 → (n : ℕ) × (top_of (put_need f) ns ≡ n) × Made n
-  top_one need y = (ns.first.0, ap (λ (q : Need). top_of q ns) need, y)
+  abbrev MadeAtTop : Type 0
+  MadeAtTop = (n : ℕ) × (top_of (put_need (splits f)) ns ≡ n) × Made n
 
-  top_three : put_need f ≡ Three → Made ns.third.0 → (n : ℕ) × (top_of (put_need f) ns ≡ n) × Made n
-  top_three need y = (ns.third.0, ap (λ (q : Need). top_of q ns) need, y)
+  top_one : splits f ≡ false → Made ns.first.0 → MadeAtTop
+  top_one whole y = (ns.first.0, ap (λ b. top_of (put_need b) ns) whole, y)
 
-  made_low : (low : f.head.class ≡ 0) → (o : Option ℕ) → f.value ≡ o → (n : ℕ) × (top_of (put_need f) ns ≡ n) × Made n
-  made_low low (Some old) is = top_one need (one_leaf low need (let m = many_old low in let l = few_old low in let e = same in omega (arith, m, l, e)))
+  top_three : splits f ≡ true → Made ns.third.0 → MadeAtTop
+  top_three split y = (ns.third.0, ap (λ b. top_of (put_need b) ns) split, y)
+
+  made_low : (low : f.head.class ≡ 0) → (o : Option ℕ) → f.value ≡ o → MadeAtTop
+  made_low low (Some old) is = top_one whole (one_leaf low whole (let m = many_old low in let l = few_old low in let e = same in omega (arith, m, l, e)))
     where
-      need : put_need f ≡ One
-      need = ap (λ o. need_by o (has_room f)) is
+      whole : splits f ≡ false
+      whole = ap (λ o. splits_by o (has_room f)) is
 
       there : get ed.key (held_pairs (value h) old_leaf) ≡ Some old
       there = ap (get ed.key) (sym (low_pairs (value h) old_leaf (was low))) ∙ sym found.says ∙ is
@@ -353,40 +352,39 @@ module _ (ed : PutPair) (c : Call) (h : History) (f : Found) (snaps : List Snap)
       same = insert_present ed.key ed.value old (held_pairs (value h) old_leaf) (held_is ed.key c h f snaps run looked low).2 there
   made_low low None is = go (dec_lt f.more 3)
     where
-      go : Dec (f.more < 3) → (n : ℕ) × (top_of (put_need f) ns ≡ n) × Made n
+      go : Dec (f.more < 3) → MadeAtTop
       go (yes l) =
           let room : has_room f ≡ true = rw (eq-eqb f.head.class 0 low) (lt-ltb f.more 3 l) in
-          let need : put_need f ≡ One = (λ i. need_by (is i) (room i)) in
-          top_one need (one_leaf low need (let m = many_old low in let a = insert_most ed.key ed.value (held_pairs (value h) old_leaf) in omega (arith, m, a, l)))
+          let whole : splits f ≡ false = (λ i. splits_by (is i) (room i)) in
+          top_one whole (one_leaf low whole (let m = many_old low in let a = insert_most ed.key ed.value (held_pairs (value h) old_leaf) in omega (arith, m, a, l)))
       go (no n) =
           let room : has_room f ≡ false = rw (eq-eqb f.head.class 0 low) (le-ltb f.more 3 (omega (arith, n))) in
-          let need : put_need f ≡ Three = (λ i. need_by (is i) (room i)) in
-          top_three need (split_low need low (let m = many_old low in omega (arith, m, n)))
+          let split : splits f ≡ true = (λ i. splits_by (is i) (room i)) in
+          top_three split (split_low split low (let m = many_old low in omega (arith, m, n)))
 
-  made_high : f.head.class ≢ 0 → (o : Option ℕ) → f.value ≡ o → (n : ℕ) × (top_of (put_need f) ns ≡ n) × Made n
+  made_high : f.head.class ≢ 0 → (o : Option ℕ) → f.value ≡ o → MadeAtTop
   made_high high (Some old) is = absurd (high (sym same_class ∙ said_low (value h) ed.key old_leaf old (sym is ∙ found.says)))
   made_high high None is =
       let room : has_room f ≡ false = rw (ne_eqb f.head.class 0 high) refl in
-      let need : put_need f ≡ Three = (λ i. need_by (is i) (room i)) in
-      top_three need (split_high need high)
+      let split : splits f ≡ true = (λ i. splits_by (is i) (room i)) in
+      top_three split (split_high split high)
 
-  is_made : (n : ℕ) × (top_of (put_need f) ns ≡ n) × Made n
+  is_made : MadeAtTop
   is_made = go (ℕ_discrete f.head.class 0)
     where
-      go : Dec (f.head.class ≡ 0) → (n : ℕ) × (top_of (put_need f) ns ≡ n) × Made n
+      go : Dec (f.head.class ≡ 0) → MadeAtTop
       go (yes low) = made_low low f.value refl
       go (no high) = made_high high f.value refl
 
-  put_is_promised : (j : Job) (d : Descriptor) → IsUpdateFor (put_means.side ed f) (put_means.needs ed f) snaps ns j.update → Says d j → IsPromised c.layout c.pass h j.scx.0 d (PutEdit ed.key ed.value)
+  put_is_promised : (j : Job) (d : Descriptor) → j.update ≡ update_for (put_work f) snaps ns → Says d j → IsPromised c.layout c.pass h j.scx.0 d (PutEdit ed.key ed.value)
   put_is_promised j d is says = edit_promised c h j.scx.0 (PutEdit ed.key ed.value) f d is_made.0 run x.looked.small found
-      (is_leaf_edit f snaps j d is_made.0 both is.covers is.plan is.old (is.fresh ∙ is_made.1) says) is_made.2
+      (is_leaf_edit f snaps ns (put_work f) j d is_made.0 both refl is is_made.1 says) is_made.2
       (λ e. absurd (let z : Some ed.value ≡ None = e in cc))
 
--- its two nodes are apart, and what it has filled is promised to put the value at the key
+-- its plan covers its two nodes, and what it has filled is promised to put the value at the key
 pub put_makes : MakesWell put_means
 put_makes = record {
-  some = λ e f d. let z : At f.trail.parent ≡ Enough = d in cc;
-  distinct = λ e c h f snaps run n x enough. leaf_distinct e.key c h f snaps run x enough;
+  over = λ e c h f snaps ns run n x enough. leaf_over e.key c h f snaps ns (put_work f) run x enough refl;
   leaf = λ e c h f snaps s run n x enough k later since covers. leaf_covered (PutEdit e.key e.value) f snaps k s (has_both f snaps enough x.seen) covers;
   promised = λ e c h f snaps ns read j d run n x is says. put_is_promised e c h f snaps ns read run x j d is says;
 }

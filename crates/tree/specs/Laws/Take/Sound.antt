@@ -1,5 +1,5 @@
 -- What a delete looks at, reads and fills, and that it makes the edit.
-use Rattle.std.proofs.Common.{◌≡◌, ◌≢◌, ℕ, zero, suc, ◌+◌, ◌*◌, ◌/◌, ◌%◌, ◌^◌, ◌<◌, ◌≤◌, ◌⊎◌, inl, inr, ⊎_elim, Bool, true, false, ◌==◌, eqb-true, eq-eqb, ne_eqb, lt-ltb, if◌then◌else◌, List, [], ◌∷◌, length, take, Option, Some, None, refl, sym, ◌∙◌, ap, subst, arith, IsTrue}
+use Rattle.std.proofs.Common.{◌≡◌, ◌≢◌, ℕ, zero, suc, ◌+◌, ◌*◌, ◌/◌, ◌%◌, ◌^◌, ◌<◌, ◌≤◌, ◌⊎◌, inl, inr, ⊎_elim, Bool, true, false, ◌==◌, eqb-true, eq-eqb, ne_eqb, lt-ltb, cond, if◌then◌else◌, List, [], ◌∷◌, length, take, Option, Some, None, refl, sym, ◌∙◌, ap, subst, arith, IsTrue}
 use Rattle.std.specs.Prelude.{unwrap_or, IfSome, IsTrue}
 use Rattle.std.proofs.Math.Decide.{dec_lt}
 use Rattle.std.proofs.lemmas.Bool.{ltb-true}
@@ -18,7 +18,7 @@ use Rattle.arena.specs.Fills.{IsInField}
 use Rattle.arena.specs.Heads.{head_of, head_word}
 use Rattle.arena.specs.History.{History, value, Extends}
 use Rattle.arena.specs.Machines.{Call}
-use Rattle.arena.specs.ScxRecords.{bit, count, member}
+use Rattle.arena.specs.ScxRecords.{IsPlan, bit, count, count_of, member}
 use Rattle.arena.specs.TakenNodes.{taken_nodes}
 use Rattle.arena.specs.Words.{node, child, first_key, first_value}
 use Rattle.arena.proofs.Lemmas.{taken_few}
@@ -26,16 +26,17 @@ use Rattle.histories.specs.Descriptor.{Descriptor}
 use Rattle.prims.specs.Laws.Idle.{IsQuietSince}
 use Rattle.prims.specs.Laws.Linked.{IsLinked, in_field_named, linked_since}
 use Rattle.prims.specs.Llx.Known.{IsOpened}
-use Rattle.prims.specs.Scx.Known.{Job, Says}
+use Rattle.prims.specs.Scx.Known.{IsUpdateOver, Job, Says}
 use Rattle.prims.specs.Snap.{child_of, snap_at}
 use Rattle.prims.specs.Snaps.{AreDistinct}
 use Rattle.prims.specs.declared.snap.Snap.{Snap}
+use Rattle.prims.specs.declared.update.Update.{Update}
 use Rattle.ordered_map.specs.declared.pair.Pair.{Pair}
 use Rattle.ordered_map.specs.OrderedMap.{AllBelow, Delete as TakeEdit, IsRising, delete, pair}
 use Rattle.ordered_map.specs.Holding.{held_pairs, IsWellCounted}
 use Rattle.ordered_map.specs.Paths.{WasInTree}
 use Rattle.ordered_map.specs.Runs.{IsTreeRun}
-use Rattle.ordered_map.specs.TreeShape.{join_plan, edit_leaf, leaf_place, sibling_place}
+use Rattle.ordered_map.specs.TreeShape.{join_plan, leaf_plan, edit_leaf, leaf_place, sibling_place}
 use Rattle.ordered_map.specs.TreeWords.{class, is_leaf, level, toward}
 use Rattle.ordered_map.proofs.Lemmas.{counted_few, held_count, held_first, root_head, run_since, settled_toward, stood_blank, stood_counted, stood_depth, stood_settled, was_passed}
 use Rattle.template.specs.FoundLeaf.{HasFoundLeaf}
@@ -49,22 +50,21 @@ use Rattle.template.proofs.Lemmas.{edit_promised, found_below, found_level, join
 use Rattle.tree.specs.LeafEdit.{leaf_looks, leaf_reads}
 use Rattle.tree.specs.declared.take.TakePair.{TakePair}
 use Rattle.tree.specs.Take.Laws.{take_bounds}
-use Rattle.tree.specs.Take.Means.{copied_pairs, copy_with, take_means, take_need, take_looks, take_reads, has_more, join_looks, sibling_of, sibling_copy}
+use Rattle.tree.specs.Take.Means.{copied_pairs, copy_with, take_means, take_plan, take_work, work_by, take_reads, has_more, join_looks, sibling_of, sibling_copy}
 use Rattle.tree.specs.Laws.Take.Shown.{shown_stood, shown_rises, shown_apart}
-use Rattle.tree.specs.Laws.LeafLooks.{HasBoth, class_is, has_both, held_is, is_leaf_edit, leaf_begins, leaf_covered, leaf_differs, leaf_distinct, leaf_opens, leaf_stood, many, pairs_are}
+use Rattle.tree.specs.Laws.LeafLooks.{HasBoth, class_is, has_both, held_is, is_leaf_edit, leaf_begins, field_shown, leaf_covered, leaf_differs, leaf_opens, leaf_over, leaf_stood, many, pairs_are}
 use Rattle.tree.specs.Laws.Looks.{same_node, goes_on, not_enough, is_other}
 use Rattle.tree.specs.Laws.PairLists.{delete_least, delete_most}
 use Rattle.edits.specs.declared.edit.Look.TheVariants.{At, Differs, Enough}
-use Rattle.edits.specs.declared.edit.Need.TheVariants.{Nothing}
 use Rattle.edits.specs.declared.edit.Nodes.{Nodes}
 use Rattle.edits.specs.declared.edit.Nth.TheVariants.{First}
 use Rattle.edits.specs.declared.piece.Piece.TheVariants.{Leaf, Fork}
 use Rattle.edits.specs.declared.reading.Reading.{Reading}
-use Rattle.edits.specs.Known.{HasLookedBy, IsNeeded, HasSnappedAfterWalk, HasLooked, HasFilledAll, HoldsPiece, IsUpdateFor, MayRead}
+use Rattle.edits.specs.Known.{HasLookedBy, HasSnappedAfterWalk, HasLooked, HasFilledAll, HoldsPiece, MayRead}
 use Rattle.edits.specs.Laws.Contended.{passed_not_final, shown_not_final, turned_contended}
 use Rattle.edits.specs.Laws.PieceFills.{HoldsWords, the_same}
 use Rattle.edits.specs.Pairs.{pair_at}
-use Rattle.edits.specs.Pieces.{is_filled, piece_head, plan_over, top_of, word_of}
+use Rattle.edits.specs.Pieces.{is_filled, piece_head, top_of, update_for, word_of}
 use Rattle.edits.specs.Readings.{is_leaf_read, next_read, nothing_read, slot_read}
 use Rattle.edits.specs.Tries.{CoversSnaps}
 use Rattle.edits.specs.Sound.{LooksWell, FillsWell, MakesWell, EditLaws}
@@ -77,9 +77,9 @@ JoinSeen f snaps = (i : ℕ) → i < length snaps → join_looks f (take i snaps
 -- What it looks at
 
 -- where a delete has something to do, the key has a value
-pub key_there : (o : Option ℕ) → take_need o ≢ Nothing → (old : ℕ) × (o ≡ Some old)
-key_there None d = absurd (d refl)
-key_there (Some v) d = (v, refl)
+pub key_there : (o : Option ℕ) (plan : ℕ) → 0 < (work_by o plan).need → (old : ℕ) × (o ≡ Some old)
+key_there None plan d = absurd (omega (arith, d))
+key_there (Some v) plan d = (v, refl)
 
 -- the snapshots are those of the fork above the parent, which still is its child, and of the
 -- parent, of which the leaf still is a child
@@ -92,9 +92,9 @@ seen_parent ed f g p snaps x = goes_on ((child_of g f.trail.grand_side).0 == f.t
 seen_left : (ed : TakePair) (f : Found) (g p l : Snap) (snaps : List Snap) → JoinSeen f (g ∷ p ∷ l ∷ snaps) → IsTrue ((child_of p f.trail.side).0 == f.trail.node.0) × (p.left ≡ l.node)
 seen_left ed f g p l snaps x = goes_on ((child_of p f.trail.side).0 == f.trail.node.0) p.left p l.node (x 2 (omega arith))
 
-module _ (ed : TakePair) (c : Call) (h : History) (f : Found) (run : IsTreeRun c.layout h) (needed : take_need f.value ≢ Nothing) where
+module _ (ed : TakePair) (c : Call) (h : History) (f : Found) (run : IsTreeRun c.layout h) (needed : 0 < (take_work f).need) where
   there : (old : ℕ) × (f.value ≡ Some old)
-  there = key_there f.value needed
+  there = key_there f.value (take_plan f) needed
 
   grand_turned : (m : History) → IsTreeRun c.layout m → HasFoundLeaf c m ed.key f → HasTurned c m ed.key f.trail.grand.0 f.trail.grand_side f.trail.parent.0
   grand_turned m r a = a.trail.grand (found_below (ToKey ed.key) c m f r a) (λ z. a.trail.high (found_below (ToKey ed.key) c m f r a) z a.leaf (said_low (value m) ed.key f.trail.node.0 there.0 (sym there.1 ∙ a.says)))
@@ -207,7 +207,7 @@ linked_at : (ed : TakePair) (c : Call) (h : History) (f : Found) (snaps : List S
 linked_at ed c h f snaps i run p four x = let u = usable_at ed c h f snaps i p four x in linked_since c.layout h u.moment (snap_at snaps i) run.1.lawful u.within u.is.linked
 
 -- the leaf's sibling stood in the tree
-sibling_stood : (ed : TakePair) (c : Call) (h : History) (f : Found) (snaps : List Snap) → IsTreeRun c.layout h → take_need f.value ≢ Nothing → HasFour f snaps → HasLookedBy join_looks c h (ToKey ed.key) f snaps → WasInTree h (sibling_of f snaps).node.0
+sibling_stood : (ed : TakePair) (c : Call) (h : History) (f : Found) (snaps : List Snap) → IsTreeRun c.layout h → 0 < (take_work f).need → HasFour f snaps → HasLookedBy join_looks c h (ToKey ed.key) f snaps → WasInTree h (sibling_of f snaps).node.0
 sibling_stood ed c h f snaps run d four x = go f.trail.side
   where
     shown : (side : Side) → WasInTree h (child_of (snap_at snaps 1) side).0
@@ -218,7 +218,7 @@ sibling_stood ed c h f snaps run d four x = go f.trail.side
     go Right = subst (WasInTree h) (sym four.left) (shown Left)
 
 -- and is not the root: it is below another node
-sibling_below : (ed : TakePair) (c : Call) (h : History) (f : Found) (snaps : List Snap) → IsTreeRun c.layout h → take_need f.value ≢ Nothing → HasFour f snaps → HasLookedBy join_looks c h (ToKey ed.key) f snaps → (sibling_of f snaps).node.0 ≢ 0
+sibling_below : (ed : TakePair) (c : Call) (h : History) (f : Found) (snaps : List Snap) → IsTreeRun c.layout h → 0 < (take_work f).need → HasFour f snaps → HasLookedBy join_looks c h (ToKey ed.key) f snaps → (sibling_of f snaps).node.0 ≢ 0
 sibling_below ed c h f snaps run d four x = go f.trail.side
   where
     shown : (side : Side) → (child_of (snap_at snaps 1) side).0 ≢ 0
@@ -234,7 +234,7 @@ sibling_below ed c h f snaps run d four x = go f.trail.side
     go Right z = shown Left (sym four.left ∙ z)
 
 -- so it may be read from its head on
-sibling_begins : (ed : TakePair) (c : Call) (h : History) (f : Found) (snaps : List Snap) → IsTreeRun c.layout h → take_need f.value ≢ Nothing → HasLookedBy join_looks c h (ToKey ed.key) f snaps → join_looks f snaps ≡ Enough → MayRead c.layout h (sibling_of f snaps).node.0 nothing_read
+sibling_begins : (ed : TakePair) (c : Call) (h : History) (f : Found) (snaps : List Snap) → IsTreeRun c.layout h → 0 < (take_work f).need → HasLookedBy join_looks c h (ToKey ed.key) f snaps → join_looks f snaps ≡ Enough → MayRead c.layout h (sibling_of f snaps).node.0 nothing_read
 sibling_begins ed c h f snaps run d x enough =
     let four : HasFour f snaps = has_four ed f snaps enough x.seen in
     let o : IsOpened c.layout h (sibling_of f snaps).node.0 = opened_if_stood c.layout h (sibling_of f snaps).node.0 run (sibling_stood ed c h f snaps run d four x) in
@@ -242,7 +242,7 @@ sibling_begins ed c h f snaps run d x enough =
 
 -- the levels rise from the fork above to the parent, and from there to its children, which are
 -- apart
-module _ (ed : TakePair) (c : Call) (h : History) (f : Found) (snaps : List Snap) (run : IsTreeRun c.layout h) (needed : take_need f.value ≢ Nothing) (four : HasFour f snaps) (x : HasLookedBy join_looks c h (ToKey ed.key) f snaps) where
+module _ (ed : TakePair) (c : Call) (h : History) (f : Found) (snaps : List Snap) (run : IsTreeRun c.layout h) (needed : 0 < (take_work f).need) (four : HasFour f snaps) (x : HasLookedBy join_looks c h (ToKey ed.key) f snaps) where
   abbrev at_place : ℕ → ℕ
   at_place i = (snap_at snaps i).node.0
 
@@ -330,12 +330,29 @@ pub looked_join : (ed : TakePair) (c : Call) (h : History) (f : Found) (snaps : 
 looked_join ed c h f snaps t x = record { small = x.small; found = x.found; usable = x.usable; seen = λ i p. rw t at (x.seen i p) }
 
 -- the leaf of a key that is there is of class 0
-low_there : (k : ℕ) (c : Call) (h : History) (f : Found) → take_need f.value ≢ Nothing → HasFoundLeaf c h k f → f.head.class ≡ 0
+low_there : (k : ℕ) (c : Call) (h : History) (f : Found) → 0 < (take_work f).need → HasFoundLeaf c h k f → f.head.class ≡ 0
 low_there k c h f d a =
-    let there : (old : ℕ) × (f.value ≡ Some old) = key_there f.value d in
+    let there : (old : ℕ) × (f.value ≡ Some old) = key_there f.value (take_plan f) d in
     sym (ap (λ w. w.class) a.head) ∙ said_low (value h) k f.trail.node.0 there.0 (sym there.1 ∙ a.says)
 
-module _ (ed : TakePair) (c : Call) (h : History) (f : Found) (snaps : List Snap) (run : IsTreeRun c.layout h) (d : take_need f.value ≢ Nothing) (x : HasLooked take_means c h ed f snaps) where
+-- its plan is that of one of these
+plan_is : (f : Found) → 0 < (take_work f).need → (b : Bool) → has_more f ≡ b → (take_work f).plan.0 ≡ cond b (leaf_plan f.trail.side) (join_plan f.trail.grand_side)
+plan_is f d b t = ap (λ o. (work_by o (take_plan f)).plan.0) (key_there f.value (take_plan f) d).1 ∙ ap (λ q. cond q (leaf_plan f.trail.side) (join_plan f.trail.grand_side)) t
+
+-- that of taking the leaf out is a plan, of four nodes, which changes a field of the first
+join_planned : (side : Side) → IsPlan (join_plan side)
+join_planned Left = record { some = omega arith; removed = omega arith; field = omega arith }
+join_planned Right = record { some = omega arith; removed = omega arith; field = omega arith }
+
+four_planned : (side : Side) → count_of (join_plan side) ≡ 4
+four_planned Left = refl
+four_planned Right = refl
+
+shown_grand : (side : Side) (snaps : List Snap) → field_shown (join_plan side) snaps ≡ (child_of (snap_at snaps 0) side).0
+shown_grand Left snaps = refl
+shown_grand Right snaps = refl
+
+module _ (ed : TakePair) (c : Call) (h : History) (f : Found) (snaps : List Snap) (run : IsTreeRun c.layout h) (d : 0 < (take_work f).need) (x : HasLooked take_means c h ed f snaps) where
   take_opens : (n : NodeNo) → (b : Bool) → has_more f ≡ b → (if b then leaf_looks f snaps else join_looks f snaps) ≡ At n → IsOpened c.layout h n.0
   take_opens n true t at = leaf_opens ed.key c h f snaps run (looked_leaf ed c h f snaps t x) n at
   take_opens n false t at = opened_if_stood c.layout h n.0 run (looks_stood ed c h f run d snaps n (looked_join ed c h f snaps t x) at)
@@ -352,9 +369,23 @@ module _ (ed : TakePair) (c : Call) (h : History) (f : Found) (snaps : List Snap
   take_reads_well true t enough = leaf_begins ed.key c h f snaps run (looked_leaf ed c h f snaps t x) (low_there ed.key c h f d x.found)
   take_reads_well false t enough = sibling_begins ed c h f snaps run d (looked_join ed c h f snaps t x) enough
 
-  take_distinct : (b : Bool) → has_more f ≡ b → (if b then leaf_looks f snaps else join_looks f snaps) ≡ Enough → AreDistinct snaps
-  take_distinct true t enough = leaf_distinct ed.key c h f snaps run (looked_leaf ed c h f snaps t x) enough
-  take_distinct false t enough = let y = looked_join ed c h f snaps t x in four_apart ed c h f snaps run d (has_four ed f snaps enough y.seen) y
+  take_over : (ns : Nodes) (b : Bool) → has_more f ≡ b → (if b then leaf_looks f snaps else join_looks f snaps) ≡ Enough → IsUpdateOver (update_for (take_work f) snaps ns)
+  take_over ns true t enough = leaf_over ed.key c h f snaps ns (take_work f) run (looked_leaf ed c h f snaps t x) enough (plan_is f d true t)
+  take_over ns false t enough = record {
+    planned = subst IsPlan (sym plan) (join_planned f.trail.grand_side);
+    count = ap count_of plan ∙ four_planned f.trail.grand_side ∙ sym four.four;
+    distinct = four_apart ed c h f snaps run d four y;
+    old = refl;
+  }
+    where
+      y : HasLookedBy join_looks c h (ToKey ed.key) f snaps
+      y = looked_join ed c h f snaps t x
+
+      four : HasFour f snaps
+      four = has_four ed f snaps enough y.seen
+
+      plan : (take_work f).plan.0 ≡ join_plan f.trail.grand_side
+      plan = plan_is f d false t
 
   take_covered : (k : History) (s : ℕ) → IsTreeRun c.layout k → Extends k h → CoversSnaps k s snaps → (b : Bool) → has_more f ≡ b → (if b then leaf_looks f snaps else join_looks f snaps) ≡ Enough → edit_leaf k s (TakeEdit ed.key) ≡ f.trail.node.0
   take_covered k s later since covers true t enough = leaf_covered (TakeEdit ed.key) f snaps k s (has_both f snaps enough (looked_leaf ed c h f snaps t x).seen) covers
@@ -413,28 +444,20 @@ head_back w fits = head_is (w / 8) (w % 4) (w / 4 % 2 == 1) fits (omega arith) �
     whole : head_word (head_of w) ≡ w
     whole = let b : bit (w / 4 % 2 == 1) ≡ w / 4 % 2 = bit_back (w / 4 % 2) (omega arith) in omega (arith, b)
 
--- the plan word of four is that of taking a leaf out
-plan_four : (n : ℕ) (side : Side) → n ≡ 4 → plan_over n side ≡ join_plan side
-plan_four n Left e = rw e refl
-plan_four n Right e = rw e refl
-
 -- what is not read of a key that is 0 is taken to be 0
 blank_key : (o : Option ℕ) (w : ℕ) → IfSome o (λ k. w ≡ k) → w ≡ 0 → unwrap_or o 0 ≡ 0
 blank_key None w is e = refl
 blank_key (Some k) w is e = sym is ∙ e
 
-module _ (ed : TakePair) (c : Call) (h : History) (f : Found) (snaps : List Snap) (ns : Nodes) (read : Reading) (run : IsTreeRun c.layout h) (needed : take_need f.value ≢ Nothing) (x : HasFilledAll take_means c h ed f snaps ns read) where
+module _ (ed : TakePair) (c : Call) (h : History) (f : Found) (snaps : List Snap) (ns : Nodes) (read : Reading) (run : IsTreeRun c.layout h) (needed : 0 < (take_work f).need) (x : HasFilledAll take_means c h ed f snaps ns read) where
   present : (old : ℕ) × (f.value ≡ Some old)
-  present = key_there f.value needed
-
-  one : IsNeeded (take_need f.value) First
-  one = subst (λ o. IsNeeded (take_need o) First) (sym present.1) tt
+  present = key_there f.value (take_plan f) needed
 
   low : f.head.class ≡ 0
   low = low_there ed.key c h f needed x.looked.found
 
-  top : top_of (take_need f.value) ns ≡ ns.first.0
-  top = ap (λ o. top_of (take_need o) ns) present.1
+  top : top_of (take_work f).need ns ≡ ns.first.0
+  top = ap (λ o. top_of (work_by o (take_plan f)).need ns) present.1
 
   -- the pair goes out of its leaf
   module _ (t : has_more f ≡ true) where
@@ -472,7 +495,7 @@ module _ (ed : TakePair) (c : Call) (h : History) (f : Found) (snaps : List Snap
         omega (arith, m, few, l)
 
     p : HoldsPiece c h ns.first.0 (Leaf f.head.level 0 (delete ed.key read.pairs))
-    p = rw t at (x.holds First one)
+    p = rw t at (x.holds First needed)
 
     pairs_left : delete ed.key read.pairs ≡ delete ed.key old_pairs
     pairs_left = ap (delete ed.key) read_is
@@ -494,9 +517,9 @@ module _ (ed : TakePair) (c : Call) (h : History) (f : Found) (snaps : List Snap
       below = λ fork. absurd (let z : true ≡ false = sym now.leaf ∙ fork in cc);
     }
 
-    leaf_promised : (j : Job) (d : Descriptor) → IsUpdateFor (take_means.side ed f) (take_means.needs ed f) snaps ns j.update → Says d j → IsPromised c.layout c.pass h j.scx.0 d (TakeEdit ed.key)
+    leaf_promised : (j : Job) (d : Descriptor) → j.update ≡ update_for (take_work f) snaps ns → Says d j → IsPromised c.layout c.pass h j.scx.0 d (TakeEdit ed.key)
     leaf_promised j d is says = edit_promised c h j.scx.0 (TakeEdit ed.key) f d ns.first.0 run x.looked.small x.looked.found
-        (is_leaf_edit f snaps j d ns.first.0 both is.covers (rw t at is.plan) (rw t at is.old) (is.fresh ∙ top) says) made
+        (is_leaf_edit f snaps ns (take_work f) j d ns.first.0 both (plan_is f needed true t) is top says) made
         (λ e z. let y : Some present.0 ≡ None = sym present.1 ∙ z in cc)
 
   -- or the leaf out of the tree
@@ -547,7 +570,7 @@ module _ (ed : TakePair) (c : Call) (h : History) (f : Found) (snaps : List Snap
     is_head = head_read (value h) z_node read right.is whole
 
     copied : HoldsPiece c h n_node (copy_with sibling (head_of w) read)
-    copied = subst (λ (o : Option HeadParts). HoldsPiece c h n_node (copy_with sibling (unwrap_or o (head_of 0)) read)) is_head (rw t at (x.holds First one))
+    copied = subst (λ (o : Option HeadParts). HoldsPiece c h n_node (copy_with sibling (unwrap_or o (head_of 0)) read)) is_head (rw t at (x.holds First needed))
 
     blank : class (value h) z_node ≢ 0 → value h (node z_node first_key) ≡ 0
     blank high = stood_blank c.layout h z_node run in_tree high
@@ -629,23 +652,29 @@ module _ (ed : TakePair) (c : Call) (h : History) (f : Found) (snaps : List Snap
         go false fork = fork_copy fork
 
     -- the SCX-record
-    module _ (j : Job) (d : Descriptor) (is : IsUpdateFor (take_means.side ed f) (take_means.needs ed f) snaps ns j.update) (says : Says d j) where
+    module _ (j : Job) (d : Descriptor) (is : j.update ≡ update_for (take_work f) snaps ns) (says : Says d j) where
+      covers : j.update.snaps ≡ snaps
+      covers = ap (λ (u : Update). u.snaps) is
+
+      plan : (take_work f).plan.0 ≡ join_plan f.trail.grand_side
+      plan = plan_is f needed false t
+
       is_member : (i : ℕ) → i < 4 → d.member i ≡ (snap_at snaps i).node.0
-      is_member i p = says.member i (rw (is.covers, four.four) p) ∙ ap (λ (xs : List Snap). (snap_at xs i).node.0) is.covers
+      is_member i p = says.member i (rw (covers, four.four) p) ∙ ap (λ (xs : List Snap). (snap_at xs i).node.0) covers
 
       is_seen : (i : ℕ) → i < 4 → d.seen i ≡ (snap_at snaps i).scx.0
-      is_seen i p = says.seen i (rw (is.covers, four.four) p) ∙ ap (λ (xs : List Snap). (snap_at xs i).scx.0) is.covers
+      is_seen i p = says.seen i (rw (covers, four.four) p) ∙ ap (λ (xs : List Snap). (snap_at xs i).scx.0) covers
 
       -- is one that takes the leaf out, which puts the copy into the place of the parent
       is_join : IsJoinAt f d (snap_at snaps 1) n_node
       is_join = record {
-        plan = says.plan ∙ (rw t at is.plan) ∙ plan_four (length snaps) f.trail.grand_side four.four;
+        plan = says.plan ∙ ap (λ (u : Update). u.plan.0) is ∙ plan;
         grand = is_member 0 (omega arith) ∙ four.grand;
         parent = is_member 1 (omega arith) ∙ four.parent;
         left = is_member 2 (omega arith) ∙ four.left;
         right = is_member 3 (omega arith) ∙ four.right;
-        old = says.old ∙ ap (λ (m : NodeNo). m.0) (rw t at is.old) ∙ four.held;
-        new = says.new ∙ is.fresh ∙ top;
+        old = says.old ∙ ap (λ (u : Update). u.old.0) is ∙ ap (λ p. field_shown p snaps) plan ∙ shown_grand f.trail.grand_side snaps ∙ four.held;
+        new = says.new ∙ ap (λ (u : Update). u.fresh.0) is ∙ top;
       }
 
       snap_is : (i : ℕ) → i < 4 → IsSnapOf c.layout h d i (snap_at snaps i)
@@ -654,26 +683,17 @@ module _ (ed : TakePair) (c : Call) (h : History) (f : Found) (snaps : List Snap
       join_is_promised : IsPromised c.layout c.pass h j.scx.0 d (TakeEdit ed.key)
       join_is_promised = join_promised c h j.scx.0 ed.key present.0 f d (snap_at snaps 1) sibling n_node run x.looked.small x.looked.found present.1 alone is_join (snap_is 1 (omega arith)) four.child (snap_is (sibling_place f.trail.side) (few_places f.trail.side)) copy
 
-  take_is_promised : (j : Job) (d : Descriptor) → IsUpdateFor (take_means.side ed f) (take_means.needs ed f) snaps ns j.update → Says d j → IsPromised c.layout c.pass h j.scx.0 d (TakeEdit ed.key)
+  take_is_promised : (j : Job) (d : Descriptor) → j.update ≡ update_for (take_work f) snaps ns → Says d j → IsPromised c.layout c.pass h j.scx.0 d (TakeEdit ed.key)
   take_is_promised j d is says = go (has_more f) refl
     where
       go : (b : Bool) → has_more f ≡ b → IsPromised c.layout c.pass h j.scx.0 d (TakeEdit ed.key)
       go true t = leaf_promised t j d is says
       go false t = join_is_promised t j d is says
 
--- it looks at something first
-looks_first : (f : Found) → take_looks f [] ≢ Enough
-looks_first f = go (has_more f)
-  where
-    go : (b : Bool) → (if b then leaf_looks f [] else join_looks f []) ≢ Enough
-    go true e = let z : At f.trail.parent ≡ Enough = e in cc
-    go false e = let z : At f.trail.grand ≡ Enough = e in cc
-
--- its nodes are apart, and what it has filled is promised to delete the key
+-- its plan covers its nodes, and what it has filled is promised to delete the key
 pub take_makes : MakesWell take_means
 take_makes = record {
-  some = λ e f. looks_first f;
-  distinct = λ e c h f snaps run n x enough. take_distinct e c h f snaps run n x (has_more f) refl enough;
+  over = λ e c h f snaps ns run n x enough. take_over e c h f snaps run n x ns (has_more f) refl enough;
   leaf = λ e c h f snaps s run n x enough k later since covers. take_covered e c h f snaps run n x k s later since covers (has_more f) refl enough;
   promised = λ e c h f snaps ns read j d run n x is says. take_is_promised e c h f snaps ns read run n x j d is says;
 }

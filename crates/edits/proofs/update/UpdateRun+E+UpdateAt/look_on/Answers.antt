@@ -10,16 +10,16 @@ use Rattle.edits.proofs.Turns.{look_lost}
 use Rattle.edits.proofs.update.UpdateRun+E+UpdateAt.look_on.Goals as goal
 
 pub returns-in-Ask-clause-nearer : goal.returns-in-Ask-clause-nearer
-returns-in-Ask-clause-nearer g c nodes = looked_on _ _ _ _ _ (rw c.in-Ask.is at c.next.ensures.nearer nodes tt)
+returns-in-Ask-clause-nearer g c asked nodes = looked_on _ _ _ _ _ (rw c.in-Ask.is at c.next.ensures.nearer nodes tt)
 
 pub returns-in-Done-Snapshot-clause-nearer : goal.returns-in-Done-Snapshot-clause-nearer
-returns-in-Done-Snapshot-clause-nearer g c nodes = c.go_on.ensures.nearer nodes _ (still_nearer g.E.Edit.means c.looked-next.new.self c.args.found c.looked-next.result nodes _ _ (c.looked-next.ensures.nearer nodes) (from_look _ _ _ _))
+returns-in-Done-Snapshot-clause-nearer g c asked nodes = c.go_on.ensures.nearer nodes _ (still_nearer g.E.Edit.means c.looked-next.new.self c.args.found c.looked-next.result nodes _ _ (c.looked-next.ensures.nearer asked nodes) (from_look _ _ _ _))
 
 pub returns-in-Done-Finalized-clause-nearer : goal.returns-in-Done-Finalized-clause-nearer
-returns-in-Done-Finalized-clause-nearer g c nodes = below c.lost.result _ _ _ (c.lost.ensures.nearer nodes) (to_tries _ _)
+returns-in-Done-Finalized-clause-nearer g c asked nodes = below c.lost.result _ _ _ (c.lost.ensures.nearer nodes) (to_tries _ _)
 
 pub returns-in-Done-Fail-clause-nearer : goal.returns-in-Done-Fail-clause-nearer
-returns-in-Done-Fail-clause-nearer g c nodes = below c.lost-in-Done-Fail.result _ _ _ (c.lost-in-Done-Fail.ensures.nearer nodes) (to_tries _ _)
+returns-in-Done-Fail-clause-nearer g c asked nodes = below c.lost-in-Done-Fail.result _ _ _ (c.lost-in-Done-Fail.ensures.nearer nodes) (to_tries _ _)
 
 pub returns-in-Ask-clause-turn : goal.returns-in-Ask-clause-turn
 returns-in-Ask-clause-turn g c d b begin h run try x ready = (b, try, tt, looks_on g.E.Edit.means c.args.self.now c.args.llx c.next.new.self c.args.found begin (begun_at d b) h c.next.result x c.next.ensures.same (c.next.ensures.turn (begun_at (begun_at d b) begin) h run ready) c.in-Ask.step c.in-Ask.is)
@@ -32,7 +32,7 @@ returns-in-Done-Snapshot-clause-turn g c d b begin h run try x ready =
     (rw (← c.in-Done-Snapshot.snap-is) at s.0) (rw (← c.in-Done-Snapshot.snap-is) at s.1) (rw (← c.in-Done-Snapshot.snap-is) at s.2))
 
 pub returns-in-Done-Snapshot-clause-spends : goal.returns-in-Done-Snapshot-clause-spends
-returns-in-Done-Snapshot-clause-spends g c = c.go_on.ensures.spends c.args.self.now.share _ _ c.looked-next.ensures.spends
+returns-in-Done-Snapshot-clause-spends g c asked = c.go_on.ensures.spends c.args.self.now.share _ _ (c.looked-next.ensures.spends asked)
 
 pub returns-in-Done-Finalized-clause-turn : goal.returns-in-Done-Finalized-clause-turn
 returns-in-Done-Finalized-clause-turn g c d b begin h run try x ready =

@@ -1,20 +1,18 @@
-use Rattle.std.proofs.Common.{◌≡◌, ◌≢◌, rules}
-use Rattle.edits.specs.declared.edit.Need.TheVariants.{Three}
+use Rattle.std.proofs.Common.{◌≤◌, ◌+◌, ◌∙◌, ap, subst, sym}
 use Rattle.arena.specs.Machines.{begun_at}
-use Rattle.edits.proofs.Looking.{needs_one}
+use Rattle.edits.specs.declared.edit.Work.{Work}
+use Rattle.edits.proofs.GoingOn.{taken_before}
+use Rattle.edits.proofs.Looking.{same_tries, takes_nodes}
 use Rattle.edits.proofs.update.UpdateRun.begin_work.Goals as goal
 
-pub returns-then-eq-clause-turn : goal.returns-then-eq-clause-turn
-returns-then-eq-clause-turn g c d b h run try x enough =
-    let three : c.need.result ≡ Three = search rules in
-    c.begin_three.ensures.turn d b h run try x enough (rw c.need.ensures at three)
+pub returns-clause-turn : goal.returns-clause-turn
+returns-clause-turn g c d b h run try x enough = c.begin_reading.ensures.turn d b h run (same_tries (ap (λ m. m.limit) c.take_nodes.ensures.same) (ap (λ m. m.tries) c.take_nodes.ensures.same) try) (takes_nodes g.E.Edit.means c.args.self.now c.take_nodes.new.self (begun_at d b) h c.args.found.now x enough c.take_nodes.ensures.same c.take_nodes.ensures.taken)
 
-pub returns-else-eq-clause-turn : goal.returns-else-eq-clause-turn
-returns-else-eq-clause-turn g c d b h run try x enough =
-    let other : c.need.result ≢ Three = search rules in
-    c.begin_one.ensures.turn d b h run try x enough (needs_one g.E.Edit.means c.args.self.now (begun_at d b) h c.args.found.now x (rw c.need.ensures at other))
-
-pub returns-then-eq-clause-spends : goal.returns-then-eq-clause-spends
-returns-then-eq-clause-spends g c =
-    let three : c.need.result ≡ Three = search rules in
-    c.begin_three.ensures.spends (rw c.need.ensures at three)
+pub returns-clause-spends : goal.returns-clause-spends
+returns-clause-spends g c asked =
+    let bounds = g.met.E.Edit.laws.bounds in
+    let ed = c.args.self.now.edit in
+    let few = subst (λ (w : Work). w.need ≤ g.E.Edit.means.most_nodes ed) (sym asked) (bounds.few_nodes ed c.args.found.now) in
+    let same = c.begin_reading.ensures.same.0 ∙ ap (λ m. m.edit) c.take_nodes.ensures.same in
+    let most = subst (λ e. c.args.self.now.share.nodes ≤ c.take_nodes.new.self.share.nodes + g.E.Edit.means.most_nodes e) (sym same) (c.take_nodes.ensures.spent.0 _ (bounds.some_nodes ed) few) in
+    rw (sym (ap (λ m. m.tries) c.take_nodes.ensures.same)) (taken_before g.E.Edit.means c.args.self.now.share c.take_nodes.new.self.share c.begin_reading.new.self c.args.found.now c.begin_reading.result _ _ most c.take_nodes.ensures.spent.1 c.begin_reading.ensures.spends)

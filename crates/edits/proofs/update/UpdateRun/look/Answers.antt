@@ -8,13 +8,13 @@ use Rattle.edits.proofs.Nearer.{less_than, to_look, to_works, to_tries}
 use Rattle.edits.proofs.update.UpdateRun.look.Goals as goal
 
 pub returns-in-At-clause-nearer : goal.returns-in-At-clause-nearer
-returns-in-At-clause-nearer g c nodes = to_look _ _ _ _ (g.met.E.Edit.laws.bounds.few_looks c.args.self.now.edit c.args.found.now c.args.self.now.snaps.items c.in-At.node (rw (sym c.as_slice.ensures.value) (sym c.look.ensures ∙ c.in-At.is)))
+returns-in-At-clause-nearer g c asked nodes = to_look _ _ _ _ (g.met.E.Edit.laws.bounds.few_looks c.args.self.now.edit c.args.found.now c.args.self.now.snaps.items c.in-At.node (rw (sym c.as_slice.ensures.value) (sym c.look.ensures ∙ c.in-At.is)))
 
 pub returns-in-Differs-clause-nearer : goal.returns-in-Differs-clause-nearer
-returns-in-Differs-clause-nearer g c nodes = to_tries _ _
+returns-in-Differs-clause-nearer g c asked nodes = to_tries _ _
 
 pub returns-in-Enough-clause-nearer : goal.returns-in-Enough-clause-nearer
-returns-in-Enough-clause-nearer g c nodes = less_than _ _ _ (c.begin_work.ensures.nearer nodes) (to_works _ _ _)
+returns-in-Enough-clause-nearer g c asked nodes = less_than _ _ _ (c.begin_work.ensures.nearer asked nodes) (to_works _ _ _)
 
 pub returns-in-Differs-clause-turn : goal.returns-in-Differs-clause-turn
 returns-in-Differs-clause-turn g c d b h run try x =

@@ -6,8 +6,8 @@ use Rattle.edits.proofs.Looking.{looked_one_more, pushed}
 use Rattle.edits.proofs.update.UpdateRun.looked.Goals as goal
 
 pub returns-clause-nearer : goal.returns-clause-nearer
-returns-clause-nearer g c nodes = still_nearer g.E.Edit.means c.look.new.self c.args.found.now c.look.result nodes _ _ (c.look.ensures.nearer nodes) (one_more _ _ _ _ _ (g.met.E.Edit.laws.bounds.small c.args.self.now.edit) (one_or_full c.try_push-fits.result (λ v. length v.items) _ _ c.try_push-fits.ensures.len c.try_push-fits.ensures.err c.try_push-fits.ensures.full))
+returns-clause-nearer g c asked nodes = still_nearer g.E.Edit.means c.look.new.self c.args.found.now c.look.result nodes _ _ (c.look.ensures.nearer asked nodes) (one_more _ _ _ _ _ (g.met.E.Edit.laws.bounds.small c.args.self.now.edit) (one_or_full c.try_push-fits.result (λ v. length v.items) _ _ c.try_push-fits.ensures.len c.try_push-fits.ensures.err c.try_push-fits.ensures.full))
 
 pub returns-clause-turn : goal.returns-clause-turn
-returns-clause-turn g c d b h run try x named is met = c.look.ensures.turn d b h run try (looked_one_more g.E.Edit.means c.args.self.now _ (begun_at d b) h c.args.found.now c.args.snap c.args.snap.node.0 refl refl
+returns-clause-turn g c d b h run try x named is met = c.look.ensures.turn d b h run try (looked_one_more g.E.Edit.means c.args.self.now _ (begun_at d b) h c.args.found.now c.args.snap c.args.snap.node.0 refl refl refl
     (pushed c.try_push-fits.result _ (length c.args.self.now.snaps.items) _ (g.met.E.Edit.laws.bounds.few_looks c.args.self.now.edit c.args.found.now c.args.self.now.snaps.items c.args.snap.node named) (g.met.E.Edit.laws.bounds.small c.args.self.now.edit) c.try_push-fits.ensures.ok c.try_push-fits.ensures.full) named is met x)

@@ -8,7 +8,7 @@ use Rattle.ordered_map.specs.TreeShape.{TreeAllows}
 use Rattle.arena.specs.Machines.{begun_at}
 use Rattle.edits.specs.Next.{next_step, update_of}
 use Rattle.edits.specs.declared.update.Next.TheVariants.{Change}
-use Rattle.edits.proofs.Beginning.{few_snaps, scx_begins}
+use Rattle.edits.proofs.Beginning.{scx_begins}
 use Rattle.edits.proofs.Nearer.{scx_left_now, scx_for_nodes}
 use Rattle.edits.proofs.update.UpdateRun.take_scx.Goals as goal
 
@@ -20,15 +20,14 @@ returns-in-Some-clause-turn g c d b h run try x = (
   b,
   try,
   tt,
-  scx_begins g.E.Edit.means c.args.self.now (scx Start) (scx Plan) c.args.found.now (begun_at d b) h g.met.E.Edit.laws.makes (few_snaps g.E.Edit.means c.args.self.now.edit c.args.found.now c.args.self.now.snaps.items g.met.E.Edit.laws.bounds x.all.looked.seen) x
-      record { covers = refl; plan = refl; old = refl; fresh = refl }
+  scx_begins g.E.Edit.means c.args.self.now (scx Start) (scx Plan) c.args.found.now (begun_at d b) h g.met.E.Edit.laws.makes x refl
       refl taken.0 refl refl refl refl
       c.scx.new.self (Ask (next_step g.E.Edit.means c.args.self.now c.args.found.now (Change c.in-Some.scx))) _ taken.2 refl
       (λ ready. turn_start TreeAllows (begun_at (begun_at d b) h) h (scx Start) (scx Plan) (Ask _) ready.1 ready.2 record { stands = refl; asked = refl }),
 )
   where
     scx : ScxAt → ScxRun
-    scx at = record { scx = c.in-Some.scx; call = c.args.self.now.call; update = update_of g.E.Edit.means c.args.self.now c.args.found.now; at = at }
+    scx at = record { scx = c.in-Some.scx; call = c.args.self.now.call; update = update_of c.args.self.now; at = at }
 
     taken : (c.in-Some.scx.0 ≡ c.args.self.now.share.next_scx) × (0 < c.args.self.now.share.scx) × (c.scx.new.self ≡ record c.args.self.now.share { next_scx = c.args.self.now.share.next_scx + 1; scx = c.args.self.now.share.scx - 1 })
     taken = rw c.in-Some.is at c.scx.ensures.after_taking

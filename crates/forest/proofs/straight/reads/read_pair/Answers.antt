@@ -16,7 +16,7 @@ pub step-low-requires-clause-waits : goal.step-low-requires-clause-waits
 step-low-requires-clause-waits g c =
     let r = c.requires.tries in
     let u = r.0 in
-    let is_key = reads_next u _ c.args.run.now c.args.found.now c.args.node (Key c.args.slot) r.1 in
+    let is_key = (reads_next u _ c.args.run.now c.args.found.now c.args.node (Key c.args.slot) r.1).1 in
     let low = waits_value u _ c.args.run.now c.args.found.now c.args.node c.args.slot c.step-key.result c.requires.pair is_key (c.step-key.ensures.told u.call u.first (u.with_run (placed g.E.Edit.means c.args.run.now c.args.found.now (Read c.args.node (Key c.args.slot)))) (u.is_layout, u.is_number) r.1) in
     (u.call, u.first, u.with_run (placed g.E.Edit.means (told c.args.run.now (Key c.args.slot) c.step-key.result) c.args.found.now (Read c.args.node (Value c.args.slot))), (u.is_layout, u.is_number), low)
 
@@ -24,7 +24,7 @@ pub step-high-requires-clause-waits : goal.step-high-requires-clause-waits
 step-high-requires-clause-waits g c =
     let r = c.requires.tries in
     let u = r.0 in
-    let is_key = reads_next u _ c.args.run.now c.args.found.now c.args.node (Key c.args.slot) r.1 in
+    let is_key = (reads_next u _ c.args.run.now c.args.found.now c.args.node (Key c.args.slot) r.1).1 in
     let low = waits_value u _ c.args.run.now c.args.found.now c.args.node c.args.slot c.step-key.result c.requires.pair is_key (c.step-key.ensures.told u.call u.first (u.with_run (placed g.E.Edit.means c.args.run.now c.args.found.now (Read c.args.node (Key c.args.slot)))) (u.is_layout, u.is_number) r.1) in
     let is_low = key_then_value c.args.run.now.read c.args.slot c.step-key.result c.requires.pair is_key in
     let high = waits_high u _ (told c.args.run.now (Key c.args.slot) c.step-key.result) c.args.found.now c.args.node c.args.slot c.step-low.result is_low (c.step-low.ensures.told u.call u.first (u.with_run (placed g.E.Edit.means (told c.args.run.now (Key c.args.slot) c.step-key.result) c.args.found.now (Read c.args.node (Value c.args.slot)))) (u.is_layout, u.is_number) low) in
@@ -34,7 +34,7 @@ pub returns-clause-goes_on : goal.returns-clause-goes_on
 returns-clause-goes_on g c = record {
   table = search rules;
   to = λ u x.
-      let is_key = reads_next u _ c.args.run.now c.args.found.now c.args.node (Key c.args.slot) x in
+      let is_key = (reads_next u _ c.args.run.now c.args.found.now c.args.node (Key c.args.slot) x).1 in
       let low = waits_value u _ c.args.run.now c.args.found.now c.args.node c.args.slot c.step-key.result c.requires.pair is_key (c.step-key.ensures.told u.call u.first (u.with_run (placed g.E.Edit.means c.args.run.now c.args.found.now (Read c.args.node (Key c.args.slot)))) (u.is_layout, u.is_number) x) in
       let is_low = key_then_value c.args.run.now.read c.args.slot c.step-key.result c.requires.pair is_key in
       let high = waits_high u _ (told c.args.run.now (Key c.args.slot) c.step-key.result) c.args.found.now c.args.node c.args.slot c.step-low.result is_low (c.step-low.ensures.told u.call u.first (u.with_run (placed g.E.Edit.means (told c.args.run.now (Key c.args.slot) c.step-key.result) c.args.found.now (Read c.args.node (Value c.args.slot)))) (u.is_layout, u.is_number) low) in
@@ -44,11 +44,12 @@ returns-clause-goes_on g c = record {
   steps = (
       let r = c.requires.tries in
       let nodes = shared_nodes c.args.hand.layout.now in
-      let is_key = reads_next r.0 _ c.args.run.now c.args.found.now c.args.node (Key c.args.slot) r.1 in
+      let known = reads_next r.0 _ c.args.run.now c.args.found.now c.args.node (Key c.args.slot) r.1 in
+      let is_key = known.1 in
       let is_low = key_then_value c.args.run.now.read c.args.slot c.step-key.result c.requires.pair is_key in
       let is_high = value_then_high (told c.args.run.now (Key c.args.slot) c.step-key.result).read c.args.slot c.step-low.result is_low in
       pair_steps _ _ _ _ _ _ _ _ c.step-key.ensures.one c.step-low.ensures.one c.step-high.ensures.one
-      (c.read_pair.ensures.nearer nodes is_high)
+      (c.read_pair.ensures.nearer known.0 nodes is_high)
       (told_nearer g.E.Edit.means (told c.args.run.now (Key c.args.slot) c.step-key.result) c.args.found.now c.args.node (Value c.args.slot) (High c.args.slot) c.step-low.result nodes is_low is_high)
       (told_nearer g.E.Edit.means c.args.run.now c.args.found.now c.args.node (Key c.args.slot) (Value c.args.slot) c.step-key.result nodes is_key is_low));
 }

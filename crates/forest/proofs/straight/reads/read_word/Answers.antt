@@ -16,5 +16,8 @@ returns-clause-goes_on g c = record {
   to = λ u x. reads_on u _ c.args.run.now c.read_on.new.self c.args.found.now c.args.node c.args.part c.step-told.result (Ok c.read_on.result) c.read_on.ensures.same c.read_on.ensures.tries c.read_on.ensures.spends (λ b h. c.read_on.ensures.turn u.call b h)
       (c.step-told.ensures.told u.call u.first (u.with_run (placed g.E.Edit.means c.args.run.now c.args.found.now (Read c.args.node c.args.part))) (u.is_layout, u.is_number) x);
   later = (let one = c.step-told.ensures.one in omega (arith, one));
-  steps = (let r = c.requires.tries in read_steps _ _ _ _ _ _ c.step-told.ensures.one (c.read_on.ensures.nearer (shared_nodes c.args.hand.layout.now) (reads_next r.0 _ c.args.run.now c.args.found.now c.args.node c.args.part r.1)));
+  steps = (
+      let r = c.requires.tries in
+      let known = reads_next r.0 _ c.args.run.now c.args.found.now c.args.node c.args.part r.1 in
+      read_steps _ _ _ _ _ _ c.step-told.ensures.one (c.read_on.ensures.nearer known.0 (shared_nodes c.args.hand.layout.now) known.1));
 }

@@ -1,4 +1,4 @@
-use Rattle.std.proofs.Common.{◌∙◌, ◌≡◌, arith, subst, sym, rules}
+use Rattle.std.proofs.Common.{◌∙◌, ◌≡◌, arith, refl, subst, sym, rules}
 use Rattle.arena.specs.declared.number.ScxNo.{ScxNo}
 use Rattle.help.specs.declared.state.HelpAt.TheVariants.{Commit}
 use Rattle.prims.specs.declared.scx.ScxAt.TheVariants.{Help}
@@ -21,19 +21,19 @@ use Rattle.forest.proofs.straight.update.change.Goals as goal
 
 -- what its SCX is to do
 abbrev change_of : (g : Over) (c : After-fill_all g) → ChangeOf
-change_of g c = record { scx = c.args.scx; call = c.args.run.now.call; plan = c.plan.result; old = c.old.result; fresh = c.fresh.result }
+change_of g c = record { scx = c.args.scx; call = c.args.run.now.call; plan = c.args.run.now.work.plan; old = c.old.result; fresh = c.fresh.result }
 
 -- whichever call tries, once all is filled its HELP waits to load the plan
 helps : (g : Over) (c : After-fill_all g) (u : Updater (calls g.S.Shape g.M.Machine c.args.hand.layout.now c.args.hand.number) g.E.Edit.means) → UpdaterTries u c.args.seat.now.me.0.passes c.args.run.now c.args.found.now (Change c.args.scx) → LoadsPlan (helper (changer u c.args.run.now c.args.found.now) c.as_slice-snaps.result.now (change_of g c)) c.fill_all.new.seat.me.0.passes c.new-help.result
 helps g c u x = to_help (changer u c.args.run.now c.args.found.now) c.as_slice-snaps.result.now (change_of g c) _ c.new-help.result c.fill_all.result c.new-help.ensures.scx c.new-help.ensures.start
-    (c.fill_all.ensures.to (changer u c.args.run.now c.args.found.now) (begins_change u _ c.args.run.now c.args.found.now c.args.scx c.as_slice-snaps.result.now c.plan.result c.old.result c.fresh.result c.as_slice-snaps.ensures.value c.plan.ensures c.old.ensures c.fresh.ensures x))
+    (c.fill_all.ensures.to (changer u c.args.run.now c.args.found.now) (begins_change u _ c.args.run.now c.args.found.now c.args.scx c.as_slice-snaps.result.now c.args.run.now.work.plan c.old.result c.fresh.result c.as_slice-snaps.ensures.value refl c.old.ensures c.fresh.ensures x))
 
 pub scx_start-start-requires : goal.scx_start-start-requires
 scx_start-start-requires g c = let r = c.requires.tries in let u = r.0 in
-    (waits_within (changer u c.args.run.now c.args.found.now) _ g.met.M.Machine.lawful _ _ (begins_change u _ c.args.run.now c.args.found.now c.args.scx c.as_slice-snaps.result.now c.plan.result c.old.result c.fresh.result c.as_slice-snaps.ensures.value c.plan.ensures c.old.ensures c.fresh.ensures r.1)).0
+    (waits_within (changer u c.args.run.now c.args.found.now) _ g.met.M.Machine.lawful _ _ (begins_change u _ c.args.run.now c.args.found.now c.args.scx c.as_slice-snaps.result.now c.args.run.now.work.plan c.old.result c.fresh.result c.as_slice-snaps.ensures.value refl c.old.ensures c.fresh.ensures r.1)).0
 
 pub fill_all-requires-clause-waits : goal.fill_all-requires-clause-waits
-fill_all-requires-clause-waits g c = let r = c.requires.tries in let u = r.0 in (changer u c.args.run.now c.args.found.now, begins_change u _ c.args.run.now c.args.found.now c.args.scx c.as_slice-snaps.result.now c.plan.result c.old.result c.fresh.result c.as_slice-snaps.ensures.value c.plan.ensures c.old.ensures c.fresh.ensures r.1)
+fill_all-requires-clause-waits g c = let r = c.requires.tries in let u = r.0 in (changer u c.args.run.now c.args.found.now, begins_change u _ c.args.run.now c.args.found.now c.args.scx c.as_slice-snaps.result.now c.args.run.now.work.plan c.old.result c.fresh.result c.as_slice-snaps.ensures.value refl c.old.ensures c.fresh.ensures r.1)
 
 pub begin-requires-clause-waits : goal.begin-requires-clause-waits
 begin-requires-clause-waits g c = let r = c.requires.tries in let b = (goal.at.begin-requires-clause-waits g c).After-fill_all in (helper (changer r.0 c.args.run.now c.args.found.now) c.as_slice-snaps.result.now (change_of g b), helps g b r.0 r.1)
@@ -56,15 +56,15 @@ blocked : (g : Over) (c : Else-begin g) (u : Updater (calls g.S.Shape g.M.Machin
 blocked g c u x = is_blocked u _ c.args.run.now c.args.found.now c.args.scx c.begin.new.run (with_update parts) same waits
   where
     parts : Update
-    parts = record { snaps = c.as_slice-snaps.result.now; plan = c.plan.result; old = c.old.result; fresh = c.fresh.result }
+    parts = record { snaps = c.as_slice-snaps.result.now; plan = c.args.run.now.work.plan; old = c.old.result; fresh = c.fresh.result }
 
-    is : parts ≡ update_of g.E.Edit.means c.args.run.now c.args.found.now
-    is = sym (update_is (update_of g.E.Edit.means c.args.run.now c.args.found.now) parts.snaps parts.plan parts.old parts.fresh c.as_slice-snaps.ensures.value c.plan.ensures c.old.ensures c.fresh.ensures)
+    is : parts ≡ update_of c.args.run.now
+    is = sym (update_is (update_of c.args.run.now) parts.snaps parts.plan parts.old parts.fresh c.as_slice-snaps.ensures.value refl c.old.ensures c.fresh.ensures)
 
     with_update : Update → ScxRun
     with_update up = record { scx = c.args.scx; call = c.args.run.now.call; update = up; at = Help c.begin.new.run }
 
-    same : with_update parts ≡ with_update (update_of g.E.Edit.means c.args.run.now c.args.found.now)
+    same : with_update parts ≡ with_update (update_of c.args.run.now)
     same i = with_update (is i)
 
     waits : InnerWaits (changer u c.args.run.now c.args.found.now) c.begin.new.seat.me.0.passes (with_update parts) (all_frozen_load c.args.scx)
