@@ -1,14 +1,16 @@
 -- The calls of a map, told by its values.
 use Rattle.std.proofs.Common.{◌≡◌, ◌≢◌, ℕ, ◌<◌, ◌≤◌, Bool, true, false, cond, ◌&&◌, eqb, leb, ltb, ◌⊎◌, inl, inr, List, [], ◌∷◌, ◌++◌, refl, sym, ◌∙◌, ap, arith, lt-ltb, le-ltb, eq-eqb, ne_eqb, subst}
-use Rattle.std.specs.Prelude.{Option, Some, None, is_none, unwrap_or}
+use Rattle.std.specs.Prelude.{Option, Some, None, unwrap_or}
 use Rattle.arena.specs.declared.word.Side.{Side}
 use Rattle.arena.specs.declared.word.Side.TheVariants.{Left, Right}
 use Rattle.std.proofs.lemmas.Bool.{eqb-true, eqb-false}
 use native.Mathlib.Decide.{ℕ_discrete}
 use Rattle.ordered_map.specs.declared.pair.Pair.{Pair}
 use Rattle.ordered_map.proofs.Lists.{above_less}
-use Rattle.ordered_map.specs.OrderedMap.{pair, AllAbove, IsRising, get, insert, delete, is_value, successor, between, MapEdit, Insert, Delete, edit_key, edited, value_left, after_edit, MapCall, OneValue, call_delete, call_insert, call_pop_first, call_pop_last, call_replace_if, call_insert_new, call_delete_if, reply, after, edit_of, AllBelow, last_pair, end_pair}
-use Rattle.ordered_map.specs.MapLaws.{IsSuccessor, delete_if, insert_new, replace_if, within, without_first, IsEndmost, without_last}
+use Rattle.ordered_map.specs.declared.rule.Goal.TheVariants.{Key}
+use Rattle.ordered_map.specs.declared.rule.Rule.{Rule}
+use Rattle.ordered_map.specs.OrderedMap.{pair, AllAbove, IsRising, applies, get, insert, delete, leaves, successor, between, MapEdit, Insert, Delete, edit_key, edit_to, edited, value_left, after_edit, MapCall, OneValue, call_delete, call_insert, call_pop_first, call_pop_last, reply, after, edit_of, AllBelow, last_pair, end_pair, Edit}
+use Rattle.ordered_map.specs.MapLaws.{IsSuccessor, by_rule, within, without_first, IsEndmost, without_last}
 use Rattle.ordered_map.proofs.Trees.{split_at}
 
 -- a key is below another one, is it, or is above
@@ -320,14 +322,8 @@ where_so : (edit : MapEdit) (m : List Pair) (so : Bool) → after_edit (cond so 
 where_so edit m true = refl
 where_so edit m false = refl
 
-pub after_replace : (k e v : ℕ) (m : List Pair) → after (call_replace_if k e v) m ≡ replace_if k e v m
-after_replace k e v m = where_so (Insert k v) m (is_value e (get k m))
-
-pub after_insert_new : (k v : ℕ) (m : List Pair) → after (call_insert_new k v) m ≡ insert_new k v m
-after_insert_new k v m = where_so (Insert k v) m (is_none (get k m))
-
-pub after_delete_if : (k e : ℕ) (m : List Pair) → after (call_delete_if k e) m ≡ delete_if k e m
-after_delete_if k e m = where_so (Delete k) m (is_value e (get k m))
+pub after_rule : (k : ℕ) (rule : Rule) (m : List Pair) → after (Edit (Key k) rule) m ≡ by_rule rule k m
+after_rule k rule m = where_so (edit_to k (leaves rule)) m (applies rule (get k m))
 
 -- a call leaves what the edit leaves that its reply says it has made; a reading leaves the map
 pub after_is : (call : MapCall) (m : List Pair) (made : Option MapEdit) → edit_of call (reply call m) ≡ made → after call m ≡ after_edit made m

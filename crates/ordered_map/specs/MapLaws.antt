@@ -1,10 +1,11 @@
 -- What the laws of the map say of the keys at its ends, of the least above another one, of the keys
--- between two, and of what a take at an end and the edits leave that go by the value found.
-use Rattle.std.specs.Prelude.{◌≡◌, ℕ, ◌<◌, if◌then◌else◌, ◌&&◌, nat_le, List, [], ◌∷◌, Option, Some, None, is_none}
+-- between two, and of what a take at an end leaves, and a rule at a key.
+use Rattle.std.specs.Prelude.{◌≡◌, ℕ, ◌<◌, if◌then◌else◌, ◌&&◌, nat_le, List, [], ◌∷◌, Option, Some, None}
 use Rattle.arena.specs.declared.word.Side.{Side}
 use Rattle.arena.specs.declared.word.Side.TheVariants.{Left, Right}
 use Rattle.ordered_map.specs.declared.pair.Pair.{Pair}
-use Rattle.ordered_map.specs.OrderedMap.{delete, get, insert, is_value}
+use Rattle.ordered_map.specs.declared.rule.Rule.{Rule}
+use Rattle.ordered_map.specs.OrderedMap.{applies, edit_to, edited, get, leaves}
 
 -- a pair of the map with a key above k, below which no key above k has a value; or none has one
 abbrev pub IsSuccessor : ℕ → List Pair → Option Pair → Type 0
@@ -36,14 +37,7 @@ without_last [] = []
 without_last (p ∷ []) = []
 without_last (p ∷ q ∷ ps) = p ∷ without_last (q ∷ ps)
 
--- the map with k at v where k has the value e, and else the map as it is
-abbrev pub replace_if : ℕ → ℕ → ℕ → List Pair → List Pair
-replace_if k e v m = if is_value e (get k m) then insert k v m else m
-
--- the map with k at v where k has no value, and else the map as it is
-abbrev pub insert_new : ℕ → ℕ → List Pair → List Pair
-insert_new k v m = if is_none (get k m) then insert k v m else m
-
--- the map without k where k has the value e, and else the map as it is
-abbrev pub delete_if : ℕ → ℕ → List Pair → List Pair
-delete_if k e m = if is_value e (get k m) then delete k m else m
+-- where the rule changes something in the place of what k has, the map with k at the value that it
+-- leaves, or without k if it leaves none; and else the map as it is
+abbrev pub by_rule : Rule → ℕ → List Pair → List Pair
+by_rule rule k m = if applies rule (get k m) then edited (edit_to k (leaves rule)) m else m

@@ -1,4 +1,4 @@
-use Rattle.ordered_map.proofs.Maps.{inserted, insert_keeps, deleted, delete_keeps, edited_rises, same_values, after_insert, after_delete, after_pop, after_replace, after_insert_new, after_delete_if, successor_is, between_gives, between_rises, end_is, after_pop_last}
+use Rattle.ordered_map.proofs.Maps.{inserted, insert_keeps, deleted, delete_keeps, edited_rises, same_values, after_insert, after_delete, after_pop, after_rule, successor_is, between_gives, between_rises, end_is, after_pop_last}
 use Rattle.ordered_map.proofs.laws.map_laws_hold.Goals as goal
 
 pub returns-clause-inserted : goal.returns-clause-inserted
@@ -34,14 +34,8 @@ returns-clause-after_pop c = after_pop
 pub returns-clause-after_pop_last : goal.returns-clause-after_pop_last
 returns-clause-after_pop_last c = after_pop_last
 
-pub returns-clause-after_replace : goal.returns-clause-after_replace
-returns-clause-after_replace c = after_replace
-
-pub returns-clause-after_insert_new : goal.returns-clause-after_insert_new
-returns-clause-after_insert_new c = after_insert_new
-
-pub returns-clause-after_delete_if : goal.returns-clause-after_delete_if
-returns-clause-after_delete_if c = after_delete_if
+pub returns-clause-after_rule : goal.returns-clause-after_rule
+returns-clause-after_rule c = after_rule
 
 pub returns-clause-successor : goal.returns-clause-successor
 returns-clause-successor c = successor_is
