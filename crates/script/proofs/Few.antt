@@ -6,5 +6,5 @@ use Rattle.script.specs.Commands.{AsksForFewPairs, IsCommand}
 
 -- each command that there is asks for few
 pub command_asks : (command : Command) → IsCommand command → AsksForFewPairs command
-command_asks (Map (Range low high most)) is = is.2
+command_asks (Map (Range low high most)) is = is.1.1.0
 command_asks command is = tt

@@ -1,5 +1,6 @@
 -- Commands as fields of a row.
-use Rattle.std.specs.Prelude.{ℕ, ◌≢◌, ◌≡◌, ◌≤◌, ◌<◌, ◌^◌, Option, Some, None, List, [], ◌∷◌, ◌++◌, All, codes, decimal, length, map}
+use Rattle.std.specs.Prelude.{ℕ, ◌≢◌, ◌≡◌, ◌⊎◌, ◌≤◌, ◌<◌, ◌^◌, Option, Some, None, List, [], ◌∷◌, ◌++◌, All, codes, decimal, get_or, length, map}
+use Rattle.std.specs.List.{AllByRecursion}
 use denote.Ref.{Bor}
 use Rattle.arena.specs.declared.limits.Mode.{Mode}
 use Rattle.arena.specs.declared.limits.Mode.TheVariants.{Records, Tree}
@@ -32,18 +33,66 @@ numbers_text (n ∷ ns) = decimal n ++ spaced ns
 abbrev pub change_text : ℕ × Side → ℕ → List ℕ
 change_text field value = decimal field.0 ++ (codes " " ++ (side_text field.1 ++ (codes " " ++ decimal value)))
 
+-- an argument of a call of the map: a key, a value, or how many pairs
+pub data MapArgument : Type 0 where
+  OfKey : ℕ → MapArgument
+  OfValue : ℕ → MapArgument
+  OfCount : ℕ → MapArgument
+
+-- as a script has it
+abbrev pub argument_text : MapArgument → List ℕ
+argument_text (OfKey key) = decimal key
+argument_text (OfValue value) = decimal value
+argument_text (OfCount most) = decimal most
+
+-- it is one that there is: a key fits a word and a value two, and there are at most 64 pairs
+abbrev pub IsArgument : MapArgument → Type 0
+IsArgument (OfKey key) = key < 2 ^ 64
+IsArgument (OfValue value) = value < 2 ^ 128
+IsArgument (OfCount most) = most ≤ 64
+
+-- the name of a call of the map
+abbrev pub request_name : Request ℕ ℕ → List ℕ
+request_name (Insert key value) = codes "insert"
+request_name (Delete key) = codes "delete"
+request_name PopFirst = codes "pop_first"
+request_name PopLast = codes "pop_last"
+request_name (ReplaceIf key expected value) = codes "replace_if"
+request_name (InsertNew key value) = codes "insert_new"
+request_name (DeleteIf key expected) = codes "delete_if"
+request_name (Get key) = codes "get"
+request_name (Successor key) = codes "successor"
+request_name (Range low high most) = codes "range"
+
+-- the field is such a name
+abbrev pub NamesRequest : List ℕ → Type 0
+NamesRequest field =
+    (field ≡ codes "insert") ⊎ (field ≡ codes "delete") ⊎ (field ≡ codes "pop_first") ⊎ (field ≡ codes "pop_last")
+    ⊎ (field ≡ codes "replace_if") ⊎ (field ≡ codes "insert_new") ⊎ (field ≡ codes "delete_if")
+    ⊎ (field ≡ codes "get") ⊎ (field ≡ codes "successor") ⊎ (field ≡ codes "range")
+
+-- its arguments, three at most
+abbrev pub request_arguments : Request ℕ ℕ → List MapArgument
+request_arguments (Insert key value) = OfKey key ∷ OfValue value ∷ []
+request_arguments (Delete key) = OfKey key ∷ []
+request_arguments PopFirst = []
+request_arguments PopLast = []
+request_arguments (ReplaceIf key expected value) = OfKey key ∷ OfValue expected ∷ OfValue value ∷ []
+request_arguments (InsertNew key value) = OfKey key ∷ OfValue value ∷ []
+request_arguments (DeleteIf key expected) = OfKey key ∷ OfValue expected ∷ []
+request_arguments (Get key) = OfKey key ∷ []
+request_arguments (Successor key) = OfKey key ∷ []
+request_arguments (Range low high most) = OfKey low ∷ OfKey high ∷ OfCount most ∷ []
+
+-- three fields: these arguments, and an empty field for each that is missing
+abbrev pub three_fields : List MapArgument → List (List ℕ)
+three_fields arguments =
+    let texts = map argument_text arguments in
+    get_or texts 0 [] ∷ get_or texts 1 [] ∷ get_or texts 2 [] ∷ []
+
 -- the name of a call of the map and its arguments, as a script has them
 abbrev pub request_row : Request ℕ ℕ → List (List ℕ)
-request_row (Insert key value) = codes "insert" ∷ decimal key ∷ decimal value ∷ [] ∷ []
-request_row (Delete key) = codes "delete" ∷ decimal key ∷ [] ∷ [] ∷ []
-request_row PopFirst = codes "pop_first" ∷ [] ∷ [] ∷ [] ∷ []
-request_row PopLast = codes "pop_last" ∷ [] ∷ [] ∷ [] ∷ []
-request_row (ReplaceIf key expected value) = codes "replace_if" ∷ decimal key ∷ decimal expected ∷ decimal value ∷ []
-request_row (InsertNew key value) = codes "insert_new" ∷ decimal key ∷ decimal value ∷ [] ∷ []
-request_row (DeleteIf key expected) = codes "delete_if" ∷ decimal key ∷ decimal expected ∷ [] ∷ []
-request_row (Get key) = codes "get" ∷ decimal key ∷ [] ∷ [] ∷ []
-request_row (Successor key) = codes "successor" ∷ decimal key ∷ [] ∷ [] ∷ []
-request_row (Range low high most) = codes "range" ∷ decimal low ∷ decimal high ∷ decimal most ∷ []
+request_row request = request_name request ∷ three_fields (request_arguments request)
 
 -- a command's name and its arguments, as a script has them
 abbrev pub command_row : Command → List (List ℕ)
@@ -76,19 +125,9 @@ IsCell node = (1 ≤ node) × (node ≤ 8)
 abbrev pub AreCells : List ℕ → Type 0
 AreCells nodes = (1 ≤ length nodes) × All IsCell nodes
 
--- the call of the map is one that there is: its keys fit a word and its values two, and it asks for
--- at most 64 pairs
+-- the call of the map is one that there is: its arguments are
 abbrev pub IsRequest : Request ℕ ℕ → Type 0
-IsRequest (Insert key value) = (key < 2 ^ 64) × (value < 2 ^ 128)
-IsRequest (Delete key) = key < 2 ^ 64
-IsRequest PopFirst = Unit {0}
-IsRequest PopLast = Unit {0}
-IsRequest (ReplaceIf key expected value) = (key < 2 ^ 64) × (expected < 2 ^ 128) × (value < 2 ^ 128)
-IsRequest (InsertNew key value) = (key < 2 ^ 64) × (value < 2 ^ 128)
-IsRequest (DeleteIf key expected) = (key < 2 ^ 64) × (expected < 2 ^ 128)
-IsRequest (Get key) = key < 2 ^ 64
-IsRequest (Successor key) = key < 2 ^ 64
-IsRequest (Range low high most) = (low < 2 ^ 64) × (high < 2 ^ 64) × (most ≤ 64)
+IsRequest request = AllByRecursion IsArgument (request_arguments request)
 
 -- the command is one that there is: its nodes are cells, the value of a fresh cell fits a word, and a
 -- call of the map is one that there is; an `Update` itself says that those finalized are a part of its

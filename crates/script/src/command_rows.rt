@@ -1,12 +1,12 @@
 //! Commands as fields of a row, read and written.
-ghost use Rattle.std.specs.Prelude.{◌≡◌, ◌≢◌, ◌<◌, ◌≤◌, ◌^◌, ◌↔◌, ℕ, [], ◌∷◌, ◌++◌, All, Contains, length, map, decimal, codes, IsSome, IfSome, MatchOption, Option, IfOk, IfErr, OnOk, string_bytes};
+ghost use Rattle.std.specs.Prelude.{◌≡◌, ◌≢◌, ◌<◌, ◌≤◌, ◌^◌, ◌↔◌, ℕ, [], ◌∷◌, ◌++◌, All, Contains, length, map, decimal, codes, IsSome, IfSome, MatchOption, MatchResult, Option, Some, None, IfOk, IfErr, OnOk, string_bytes};
 ghost use Rattle.std.specs.Option.{option_map_or};
 ghost use Rattle.arena.specs.declared.word.Side.{Side};
 ghost use Rattle.script.specs.declared.cells.CellList.{CellList};
 ghost use Rattle.script.specs.Calls.{IsNoCommand};
 ghost use Rattle.script.specs.Cells.{cells_of, maybe_cells_of};
 ghost use Rattle.texts.specs.Sheets.{ArePlain, IsPlain};
-ghost use Rattle.script.specs.Commands.{command_row, request_row, mode_of, change_text, numbers_text, side_text, texts, AreCells, AsksForFewPairs, IsCell, IsCommand, IsCommandOf};
+ghost use Rattle.script.specs.Commands.{command_row, request_arguments, request_name, three_fields, mode_of, change_text, numbers_text, side_text, texts, AreCells, AsksForFewPairs, IsCell, IsCommand, IsCommandOf};
 
 use crate::cells::{Cell, CellList};
 use crate::command::{CellUpdate, Command};
@@ -20,6 +20,7 @@ use texts::{number_of, small_number_of};
 /// The command that a row of a script says by this name and these arguments. The cause is `Command`
 /// where no command of the mode has the name, and else `Argument`: none of the name has these
 /// arguments.
+#[tactic(auto, using(crate::proofs::Few::command_asks))]
 pub fn command_of(mode: Mode, name: &str, arguments: [&str; 3]) -> Result<Command, ScriptCause>
     ensures command { IfOk result (λ command. (mode_of command ≡ mode) × IsCommand command × (name.now ∷ texts arguments.entry ≡ command_row command)) }
     ensures few { IfOk result AsksForFewPairs }
@@ -34,41 +35,41 @@ pub fn command_of(mode: Mode, name: &str, arguments: [&str; 3]) -> Result<Comman
 /// The same of the commands on cells.
 fn cells_command_of(name: &str, arguments: [&str; 3]) -> Result<Command, ScriptCause>
     ensures command { IfOk result (λ command. (mode_of command ≡ Mode.Records) × IsCommand command × (name.now ∷ texts arguments.entry ≡ command_row command)) }
-    ensures few { IfOk result AsksForFewPairs }
     ensures cause { IfErr result (IsNoCommand Mode.Records name.now (texts arguments.entry)) }
 {
-    let command = match name {
-        "llx" => llx_of(arguments),
-        "scx" => scx_of(arguments),
-        "vlx" => vlx_of(arguments),
-        "set" => set_of(arguments),
-        _ => return Err(ScriptCause::Command),
-    };
-    match command {
-        Some(command) => Ok(command),
-        None => Err(ScriptCause::Argument),
+    match name {
+        "llx" => or_argument(llx_of(arguments)),
+        "scx" => or_argument(scx_of(arguments)),
+        "vlx" => or_argument(vlx_of(arguments)),
+        "set" => or_argument(set_of(arguments)),
+        _ => Err(ScriptCause::Command),
     }
 }
 
 /// And of the calls of the map.
 fn map_command_of(name: &str, arguments: [&str; 3]) -> Result<Command, ScriptCause>
     ensures command { IfOk result (λ command. (mode_of command ≡ Mode.Tree) × IsCommand command × (name.now ∷ texts arguments.entry ≡ command_row command)) }
-    ensures few { IfOk result AsksForFewPairs }
     ensures cause { IfErr result (IsNoCommand Mode.Tree name.now (texts arguments.entry)) }
 {
-    let command = match name {
-        "insert" => insert_of(arguments),
-        "delete" => delete_of(arguments),
-        "pop_first" => pop_first_of(arguments),
-        "pop_last" => pop_last_of(arguments),
-        "replace_if" => replace_if_of(arguments),
-        "insert_new" => insert_new_of(arguments),
-        "delete_if" => delete_if_of(arguments),
-        "get" => get_of(arguments),
-        "successor" => successor_of(arguments),
-        "range" => range_of(arguments),
-        _ => return Err(ScriptCause::Command),
-    };
+    match name {
+        "insert" => or_argument(insert_of(arguments)),
+        "delete" => or_argument(delete_of(arguments)),
+        "pop_first" => or_argument(pop_first_of(arguments)),
+        "pop_last" => or_argument(pop_last_of(arguments)),
+        "replace_if" => or_argument(replace_if_of(arguments)),
+        "insert_new" => or_argument(insert_new_of(arguments)),
+        "delete_if" => or_argument(delete_if_of(arguments)),
+        "get" => or_argument(get_of(arguments)),
+        "successor" => or_argument(successor_of(arguments)),
+        "range" => or_argument(range_of(arguments)),
+        _ => Err(ScriptCause::Command),
+    }
+}
+
+/// The command that a name's arguments say, or that they say none.
+fn or_argument(command: Option<Command>) -> Result<Command, ScriptCause>
+    ensures { MatchResult result (λ found. command ≡ Some found) (λ cause. (command ≡ None) × (cause ≡ ScriptCause.Argument)) }
+{
     match command {
         Some(command) => Ok(command),
         None => Err(ScriptCause::Argument),
@@ -297,6 +298,40 @@ fn side_of(text: &str) -> Option<Side>
     }
 }
 
+/// The name of a call of the map, and its arguments.
+fn request_text(request: &Request<u64, u128>) -> (&'static str, [Option<u128>; 3])
+    ensures name { result.0.now ≡ request_name request.now }
+    ensures plain { IsPlain result.0.now }
+    ensures arguments { map (λ n. option_map_or decimal n []) result.1 ≡ three_fields (request_arguments request.now) }
+{
+    match *request {
+        Request::Insert { key, value } => ("insert", [Some(key.into()), Some(value), None]),
+        Request::Delete { key } => ("delete", [Some(key.into()), None, None]),
+        Request::PopFirst => ("pop_first", [None, None, None]),
+        Request::PopLast => ("pop_last", [None, None, None]),
+        Request::ReplaceIf {
+            key,
+            expected,
+            value,
+        } => (
+            "replace_if",
+            [Some(key.into()), Some(expected), Some(value)],
+        ),
+        Request::InsertNew { key, value } => ("insert_new", [Some(key.into()), Some(value), None]),
+        Request::DeleteIf { key, expected } => {
+            ("delete_if", [Some(key.into()), Some(expected), None])
+        }
+        Request::Get { key } => ("get", [Some(key.into()), None, None]),
+        Request::Successor { key } => ("successor", [Some(key.into()), None, None]),
+        Request::Range { low, high, most } => {
+            (
+                "range",
+                [Some(low.into()), Some(high.into()), Some(most.into())],
+            )
+        }
+    }
+}
+
 /// The name of a command, and its arguments as a script has them.
 #[derive(Drop)]
 pub struct CommandText {
@@ -337,52 +372,10 @@ impl CommandText {
                 b: String::from_str(alloc, side_name(field.1))?,
                 c: argument_text(alloc, Some((*value).into()))?,
             }),
-            Command::Map(request) => CommandText::of_request(alloc, request),
-        }
-    }
-
-    /// The text of a call of the map. The only error is want of memory.
-    fn of_request(alloc: Global, request: &Request<u64, u128>) -> Result<CommandText, AllocError>
-        ensures row { IfOk result (λ t. t.name.now ∷ string_bytes t.a ∷ string_bytes t.b ∷ string_bytes t.c ∷ [] ≡ request_row request.now) }
-        ensures plain { OnOk result (ArePlain (request_row request.now)) }
-    {
-        match *request {
-            Request::Insert { key, value } => {
-                CommandText::of_numbers(alloc, "insert", [Some(key.into()), Some(value), None])
+            Command::Map(request) => {
+                let (name, arguments) = request_text(request);
+                CommandText::of_numbers(alloc, name, arguments)
             }
-            Request::Delete { key } => {
-                CommandText::of_numbers(alloc, "delete", [Some(key.into()), None, None])
-            }
-            Request::PopFirst => CommandText::of_numbers(alloc, "pop_first", [None, None, None]),
-            Request::PopLast => CommandText::of_numbers(alloc, "pop_last", [None, None, None]),
-            Request::ReplaceIf {
-                key,
-                expected,
-                value,
-            } => CommandText::of_numbers(
-                alloc,
-                "replace_if",
-                [Some(key.into()), Some(expected), Some(value)],
-            ),
-            Request::InsertNew { key, value } => {
-                CommandText::of_numbers(alloc, "insert_new", [Some(key.into()), Some(value), None])
-            }
-            Request::DeleteIf { key, expected } => CommandText::of_numbers(
-                alloc,
-                "delete_if",
-                [Some(key.into()), Some(expected), None],
-            ),
-            Request::Get { key } => {
-                CommandText::of_numbers(alloc, "get", [Some(key.into()), None, None])
-            }
-            Request::Successor { key } => {
-                CommandText::of_numbers(alloc, "successor", [Some(key.into()), None, None])
-            }
-            Request::Range { low, high, most } => CommandText::of_numbers(
-                alloc,
-                "range",
-                [Some(low.into()), Some(high.into()), Some(most.into())],
-            ),
         }
     }
 
