@@ -13,7 +13,7 @@ use Rattle.order.specs.declared.refused.Refused.TheVariants as refused
 use Rattle.ordered_map.specs.CallRules.{TakesNothing, nodes_at, nodes_there, steps_behind, call_rules, most_nodes, most_steps, need, MayReply}
 use Rattle.ordered_map.specs.OrderedMap.{MapCall, MapReply, Edit, Successor as SuccessorOf, Range as RangeOf, OneValue, applies, edit_key, edit_of, edit_there, edit_to, leaves, pair, pair_or_none, reply, spot}
 use Rattle.ordered_map.specs.declared.rule.Rule.{Rule}
-use Rattle.ordered_map.specs.declared.rule.Rule.TheVariants.{Put, Take, Swap, PutNew, TakeIf}
+use Rattle.ordered_map.specs.declared.rule.Rule.TheVariants.{Take}
 use Rattle.ordered_map.specs.declared.pair.Pair.{Pair}
 use Rattle.template.specs.FoundLeaf.{asked_key, path_key}
 use Rattle.template.specs.declared.walk.Found.{Found}
@@ -58,11 +58,8 @@ steps_by (Some v) nodes = omega arith
 
 -- a rule that leaves no value changes something only where there is one
 takes_there : (rule : Rule) → leaves rule ≡ None → applies rule None ≡ true → ⊥
-takes_there (Put v) none there = cc
 takes_there Take none there = cc
-takes_there (Swap e v) none there = cc
-takes_there (PutNew v) none there = cc
-takes_there (TakeIf e) none there = cc
+takes_there rule none there = cc
 
 -- At the leaf that was found, which tells this value
 module _ (f : Found) (rule : Rule) where
