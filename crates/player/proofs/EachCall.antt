@@ -17,7 +17,6 @@ use Rattle.ordered_map.specs.OrderedMap.{MapCall, MapEdit, MapReply, OneValue, O
 use Rattle.ordered_map.specs.declared.rule.Goal.{Goal}
 use Rattle.ordered_map.specs.declared.rule.Goal.TheVariants.{Key, End}
 use Rattle.ordered_map.specs.declared.rule.Rule.{Rule}
-use Rattle.ordered_map.specs.declared.rule.Rule.TheVariants.{Put, Take, Swap, PutNew, TakeIf}
 use Rattle.ordered_map.specs.Paths.{IsAnswerAt}
 use Rattle.ordered_map.specs.Replies.{number_reply, word_pair}
 use Rattle.ordered_map.specs.Requests.{AsksForFew, key_told, map_request, tells_change}
@@ -28,7 +27,7 @@ use Rattle.ordered_map.specs.declared.pair.Pair.{Pair}
 use Rattle.ordered_map.specs.declared.reply.Reply.{Reply}
 use Rattle.ordered_map.specs.declared.reply.Reply.TheVariants.{Value, Pair as PairOf, Pairs, Contended, Full, NoMemory}
 use Rattle.ordered_map.specs.declared.request.Request.{Request}
-use Rattle.ordered_map.specs.declared.request.Request.TheVariants.{Insert as InsertOf, Delete as DeleteOf, PopFirst as PopFirstOf, PopLast as PopLastOf, ReplaceIf as ReplaceIfOf, InsertNew as InsertNewOf, DeleteIf as DeleteIfOf, Get as GetOf, Successor as SuccessorOf, Range as RangeOf}
+use Rattle.ordered_map.specs.declared.request.Request.TheVariants.{Get as GetOf, Range as RangeOf}
 use Rattle.edits.specs.Known.{RestsWith, IsUntouched}
 use Rattle.dict.specs.Calls.{AsksForPairs, IsFewCall}
 use Rattle.dict.specs.DictKnown.{DictRefuses}
@@ -217,6 +216,16 @@ told_right of lay tries c now start linked (Contended node scx) told is right = 
 told_right of lay tries c now start linked (Full full) told is right = cc
 told_right of lay tries c now start linked NoMemory told is right = cc
 
+-- one that speaks of no key alone is an ordered read
+abbrev ReadsInOrder : MapCall → Request ℕ ℕ → Type 0
+ReadsInOrder (Edit (Key key) rule) request = Unit {0}
+ReadsInOrder (Get key) request = Unit {0}
+ReadsInOrder _ request = IsOrderedRead (Map request)
+
+reads_in_order : (request : Request ℕ ℕ) → ReadsInOrder (map_request request) request
+reads_in_order (GetOf key) = tt
+reads_in_order request = tt
+
 -- each call, by its answer, where that is right
 module _ (lay : Layout) (tries c : ℕ) (now start : History) (linked : ℕ → Option History) where
   key_took_place : (request : Request ℕ ℕ) (key : ℕ) (rule : Rule) (given : Reply ℕ ℕ) → EditIsRight (Edit (Key key) rule) lay tries c now start linked (MapAnswer given) → HasPlace request (Edit (Key key) rule) (MapAnswer given)
@@ -233,21 +242,20 @@ module _ (lay : Layout) (tries c : ℕ) (now start : History) (linked : ℕ → 
       go None is = no_place request (Edit (End side) rule) given is
       go (Some told) is = end_place side request rule given told is ordered
 
+  -- where the request is this call, and an ordered read where the call is one
+  place_of : (request : Request ℕ ℕ) (of : MapCall) (answer : Answer) → ReadsInOrder of request → (map_rules of).IsRight lay tries c now start linked answer → HasPlace request of answer
+  place_of request (Edit (Key key) rule) (MapAnswer given) ordered right = key_took_place request key rule given right
+  place_of request (Edit (End side) rule) (MapAnswer given) ordered right = end_took_place side request rule given ordered
+  place_of request (Get key) (MapAnswer (Value told)) ordered right = value_place request (Get key) key (Value told) told (value_told told) refl (λ m. refl) false refl
+  place_of request (Successor key) (MapAnswer (PairOf found)) ordered right = ordered_place request (Successor key) (PairOf found) (pair_or_none (option_map (word_pair (λ n. n) (λ n. n)) found)) refl refl refl ordered
+  place_of request (Range low high most) (MapAnswer (Pairs found)) ordered right = ordered_place request (Range low high most) (Pairs found) (ManyPairs (number_pairs found.items)) refl refl refl ordered
+  place_of request of (MapAnswer (Contended node scx)) ordered right = no_place request of (Contended node scx) refl
+  place_of request of (MapAnswer (Full full)) ordered right = no_place request of (Full full) refl
+  place_of request of (MapAnswer NoMemory) ordered right = no_place request of NoMemory refl
+  place_of request of answer ordered right = absurd right
+
   pub took_place : (request : Request ℕ ℕ) (answer : Answer) → IsRight lay tries c now start linked (Map request) answer → HasTakenPlace request answer
-  took_place (InsertOf key put) (MapAnswer given) right = key_took_place (InsertOf key put) key (Put put) given right
-  took_place (DeleteOf key) (MapAnswer given) right = key_took_place (DeleteOf key) key Take given right
-  took_place PopFirstOf (MapAnswer given) right = end_took_place Left PopFirstOf Take given tt
-  took_place PopLastOf (MapAnswer given) right = end_took_place Right PopLastOf Take given tt
-  took_place (InsertNewOf key put) (MapAnswer given) right = key_took_place (InsertNewOf key put) key (PutNew put) given right
-  took_place (DeleteIfOf key expected) (MapAnswer given) right = key_took_place (DeleteIfOf key expected) key (TakeIf expected) given right
-  took_place (ReplaceIfOf key expected put) (MapAnswer given) right = key_took_place (ReplaceIfOf key expected put) key (Swap expected put) given right
-  took_place (GetOf key) (MapAnswer (Value told)) right = value_place (GetOf key) (Get key) key (Value told) told (value_told told) refl (λ m. refl) false refl
-  took_place (SuccessorOf key) (MapAnswer (PairOf found)) right = ordered_place (SuccessorOf key) (Successor key) (PairOf found) (pair_or_none (option_map (word_pair (λ n. n) (λ n. n)) found)) refl refl refl tt
-  took_place (RangeOf low high most) (MapAnswer (Pairs found)) right = ordered_place (RangeOf low high most) (Range low high most) (Pairs found) (ManyPairs (number_pairs found.items)) refl refl refl tt
-  took_place request (MapAnswer (Contended node scx)) right = no_place request (map_request request) (Contended node scx) refl
-  took_place request (MapAnswer (Full full)) right = no_place request (map_request request) (Full full) refl
-  took_place request (MapAnswer NoMemory) right = no_place request (map_request request) NoMemory refl
-  took_place request answer right = absurd right
+  took_place request answer right = place_of request (map_request request) answer (reads_in_order request) right
 
 -- What an answer says
 
