@@ -1,10 +1,11 @@
 -- The fields of the row of a call.
-use Rattle.std.proofs.Common.{◌≡◌, ◌≢◌, ℕ, List, [], ◌∷◌, Bor, None, Result, Ok, Err, IfErr, inl, inr, arith, codes, decimal, get_or, length, refl}
+use Rattle.std.proofs.Common.{◌≡◌, ◌≢◌, ℕ, List, [], ◌∷◌, Bor, None, Result, Ok, Err, IfErr, inl, inr, ap, arith, codes, decimal, get_or, length, refl, rules, subst, sym}
 use Rattle.std.specs.Result.{result_ok}
 use Rattle.arena.specs.declared.limits.Mode.{Mode}
-use Rattle.ordered_map.specs.declared.request.Request.TheVariants.{Insert, InsertNew, Delete, DeleteIf, PopFirst, PopLast, ReplaceIf, Get, Successor, Range}
+use Rattle.ordered_map.specs.declared.request.Request.{Request}
+use Rattle.ordered_map.specs.declared.request.Request.TheVariants.{Insert}
 use Rattle.script.specs.Calls.{IsNoCommand, NamesCommand}
-use Rattle.script.specs.Commands.{IsCommand, command_row, mode_of, texts}
+use Rattle.script.specs.Commands.{IsCommand, NamesRequest, command_row, mode_of, request_name, texts}
 use Rattle.script.specs.declared.command.Command.{Command}
 use Rattle.script.specs.declared.command.Command.TheVariants.{Llx, Scx, Vlx, Set, Map}
 use Rattle.script.specs.declared.fault.ScriptCause.{ScriptCause}
@@ -31,22 +32,18 @@ pub call_row_is : (fields : List (Bor (List ℕ))) (name client number : List �
 call_row_is (a ∷ b ∷ c ∷ e ∷ f ∷ g ∷ h ∷ []) name client number command long p q r s = rw (← p, ← q, ← r, ← s) refl
 call_row_is fields name client number command long p q r s = absurd (omega (arith, long))
 
+-- each call of the map has a name
+is_named : (request : Request ℕ ℕ) → NamesRequest (request_name request)
+is_named (Insert key value) = inl refl
+is_named request = search rules
+
 -- the first field of a command's row names the command
 names_command : (mode : Mode) (name : List ℕ) (rest : List (List ℕ)) (command : Command) → mode_of command ≡ mode → name ∷ rest ≡ command_row command → NamesCommand mode name
 names_command mode name rest (Llx cell) of_mode is = rw (← of_mode) (inl cc)
 names_command mode name rest (Scx update) of_mode is = rw (← of_mode) (inr (inl cc))
 names_command mode name rest (Vlx cells) of_mode is = rw (← of_mode) (inr (inr (inl cc)))
 names_command mode name rest (Set field value) of_mode is = rw (← of_mode) (inr (inr (inr cc)))
-names_command mode name rest (Map (Insert key value)) of_mode is = rw (← of_mode) (inl cc)
-names_command mode name rest (Map (Delete key)) of_mode is = rw (← of_mode) (inr (inl cc))
-names_command mode name rest (Map PopFirst) of_mode is = rw (← of_mode) (inr (inr (inl cc)))
-names_command mode name rest (Map PopLast) of_mode is = rw (← of_mode) (inr (inr (inr (inl cc))))
-names_command mode name rest (Map (ReplaceIf key expected value)) of_mode is = rw (← of_mode) (inr (inr (inr (inr (inl cc)))))
-names_command mode name rest (Map (InsertNew key value)) of_mode is = rw (← of_mode) (inr (inr (inr (inr (inr (inl cc))))))
-names_command mode name rest (Map (DeleteIf key expected)) of_mode is = rw (← of_mode) (inr (inr (inr (inr (inr (inr (inl cc)))))))
-names_command mode name rest (Map (Get key)) of_mode is = rw (← of_mode) (inr (inr (inr (inr (inr (inr (inr (inl cc))))))))
-names_command mode name rest (Map (Successor key)) of_mode is = rw (← of_mode) (inr (inr (inr (inr (inr (inr (inr (inr (inl cc)))))))))
-names_command mode name rest (Map (Range low high most)) of_mode is = rw (← of_mode) (inr (inr (inr (inr (inr (inr (inr (inr (inr cc)))))))))
+names_command mode name rest (Map request) of_mode is = rw (← of_mode) (subst NamesRequest (sym (ap (λ (row : List (List ℕ)). get_or row 0 []) is)) (is_named request))
 
 why_none : (mode : Mode) (name : List ℕ) (rest : List (List ℕ)) (why : ScriptCause) → IsNoCommand mode name rest why → (command : Command) → mode_of command ≡ mode → IsCommand command → name ∷ rest ≢ command_row command
 why_none mode name rest cause.Command none command of_mode valid is = none (names_command mode name rest command of_mode is)
@@ -68,13 +65,4 @@ whole_row client number (Llx cell) = refl
 whole_row client number (Scx update) = refl
 whole_row client number (Vlx cells) = refl
 whole_row client number (Set field value) = refl
-whole_row client number (Map (Insert key value)) = refl
-whole_row client number (Map (Delete key)) = refl
-whole_row client number (Map PopFirst) = refl
-whole_row client number (Map PopLast) = refl
-whole_row client number (Map (ReplaceIf key expected value)) = refl
-whole_row client number (Map (InsertNew key value)) = refl
-whole_row client number (Map (DeleteIf key expected)) = refl
-whole_row client number (Map (Get key)) = refl
-whole_row client number (Map (Successor key)) = refl
-whole_row client number (Map (Range low high most)) = refl
+whole_row client number (Map request) = refl

@@ -1,5 +1,5 @@
 -- The rows of a report are text, in seven fields.
-use Rattle.std.proofs.Common.{◌≡◌, ℕ, ◌<◌, ◌≤◌, ◌^◌, Bool, true, false, eqb, ltb, ltb-true, lt-ltb, cond, List, [], ◌∷◌, ◌++◌, Option, Some, None, All, Contains, IsAscii, IsUtf8, IfSome, codes, decimal, length, map, refl, sym, subst, arith, lit≤, ◌+◌}
+use Rattle.std.proofs.Common.{◌≡◌, ℕ, zero, suc, ◌<◌, ◌≤◌, ◌^◌, Bool, true, false, eqb, ltb, ltb-true, lt-ltb, cond, List, [], ◌∷◌, ◌++◌, Option, Some, None, All, Contains, IsAscii, IsUtf8, IfSome, codes, decimal, get_or, length, map, refl, sym, subst, arith, lit≤, ◌+◌}
 use Rattle.std.proofs.Math.Logic.{∥∥₁_elim}
 use Rattle.std.proofs.lemmas.Bool.{eqb-true}
 use Rattle.std.proofs.lemmas.Fmt.{IsAscii-decimal_wide}
@@ -30,8 +30,8 @@ use Rattle.arena.specs.Words.{IsScxWord}
 use Rattle.ordered_map.specs.declared.reply.Reply.{Reply}
 use Rattle.ordered_map.specs.declared.reply.Reply.TheVariants.{Value, Pair, Pairs, Contended, NoMemory, Full as FullShare}
 use Rattle.ordered_map.specs.declared.request.Request.{Request}
-use Rattle.ordered_map.specs.declared.request.Request.TheVariants.{Insert, InsertNew, Delete, DeleteIf, PopFirst, PopLast, ReplaceIf, Get, Successor, Range}
-use Rattle.script.specs.Commands.{IsCell, IsCommand, IsRequest, change_text, command_row, numbers_text, request_row, side_text, spaced}
+use Rattle.ordered_map.specs.declared.request.Request.TheVariants.{Insert}
+use Rattle.script.specs.Commands.{IsArgument, IsCell, IsCommand, IsRequest, MapArgument, OfCount, OfKey, OfValue, argument_text, change_text, command_row, numbers_text, request_arguments, request_name, request_row, side_text, spaced}
 use Rattle.script.specs.Kinds.{kind_text}
 use Rattle.script.specs.Rows.{limits_row}
 use Rattle.script.specs.Part.{is_subsequence}
@@ -253,17 +253,24 @@ part_is_small (n ∷ part) (m ∷ whole) is all = go (eqb n m) refl is (λ sub. 
     go true same sub less keep = let e : n ≡ m = eqb-true n m same in (omega (arith, e, all.0), less sub)
     go false same sub less keep = keep sub
 
+name_is_text : (request : Request ℕ ℕ) → IsUtf8 (request_name request)
+name_is_text (Insert key value) = ascii (codes "insert") refl
+name_is_text request = ascii _ refl
+
+argument_is_text : (argument : MapArgument) → IsArgument argument → IsUtf8 (argument_text argument)
+argument_is_text (OfKey key) fits = number key fits
+argument_is_text (OfValue value) fits = value_is_text value fits
+argument_is_text (OfCount most) fits = number most (omega (arith, fits))
+
+field_is_text : (arguments : List MapArgument) (k : ℕ) → AllByRecursion IsArgument arguments → IsUtf8 (get_or (map argument_text arguments) k [])
+field_is_text [] k fits = IsUtf8-nil
+field_is_text (a ∷ rest) zero fits = argument_is_text a fits.0
+field_is_text (a ∷ rest) (suc k) fits = field_is_text rest k fits.1
+
 request_is_text : (request : Request ℕ ℕ) → IsRequest request → AllText (request_row request)
-request_is_text (Insert key value) fits = four_texts _ _ _ _ (ascii (codes "insert") refl) (number key fits.0) (value_is_text value fits.1) IsUtf8-nil
-request_is_text (Delete key) fits = four_texts _ _ _ _ (ascii (codes "delete") refl) (number key fits) IsUtf8-nil IsUtf8-nil
-request_is_text PopFirst fits = four_texts _ _ _ _ (ascii (codes "pop_first") refl) IsUtf8-nil IsUtf8-nil IsUtf8-nil
-request_is_text (ReplaceIf key expected value) fits = four_texts _ _ _ _ (ascii (codes "replace_if") refl) (number key fits.0) (value_is_text expected fits.1) (value_is_text value fits.2)
-request_is_text PopLast fits = four_texts _ _ _ _ (ascii (codes "pop_last") refl) IsUtf8-nil IsUtf8-nil IsUtf8-nil
-request_is_text (InsertNew key value) fits = four_texts _ _ _ _ (ascii (codes "insert_new") refl) (number key fits.0) (value_is_text value fits.1) IsUtf8-nil
-request_is_text (DeleteIf key expected) fits = four_texts _ _ _ _ (ascii (codes "delete_if") refl) (number key fits.0) (value_is_text expected fits.1) IsUtf8-nil
-request_is_text (Get key) fits = four_texts _ _ _ _ (ascii (codes "get") refl) (number key fits) IsUtf8-nil IsUtf8-nil
-request_is_text (Successor key) fits = four_texts _ _ _ _ (ascii (codes "successor") refl) (number key fits) IsUtf8-nil IsUtf8-nil
-request_is_text (Range low high most) fits = four_texts _ _ _ _ (ascii (codes "range") refl) (number low fits.0) (number high fits.1) (number most (omega (arith, fits.2)))
+request_is_text request fits =
+    let field = field_is_text (request_arguments request) in
+    four_texts _ _ _ _ (name_is_text request) (field 0 fits) (field 1 fits) (field 2 fits)
 
 change_is_text : (field : ℕ × Side) (value : ℕ) → field.0 < 2 ^ 64 → value < 2 ^ 64 → IsUtf8 (change_text field value)
 change_is_text field value small fits =
@@ -301,16 +308,7 @@ call_is_wide client number (Llx cell) text = (refl, text)
 call_is_wide client number (Scx update) text = (refl, text)
 call_is_wide client number (Vlx cells) text = (refl, text)
 call_is_wide client number (Set field value) text = (refl, text)
-call_is_wide client number (Map (Insert key value)) text = (refl, text)
-call_is_wide client number (Map (Delete key)) text = (refl, text)
-call_is_wide client number (Map PopFirst) text = (refl, text)
-call_is_wide client number (Map PopLast) text = (refl, text)
-call_is_wide client number (Map (ReplaceIf key expected value)) text = (refl, text)
-call_is_wide client number (Map (InsertNew key value)) text = (refl, text)
-call_is_wide client number (Map (DeleteIf key expected)) text = (refl, text)
-call_is_wide client number (Map (Get key)) text = (refl, text)
-call_is_wide client number (Map (Successor key)) text = (refl, text)
-call_is_wide client number (Map (Range low high most)) text = (refl, text)
+call_is_wide client number (Map request) text = (refl, text)
 
 line_is_long : (line : Line) → length (seven (line_row line)) ≡ 7
 line_is_long (Step (Made n row)) = refl

@@ -1,18 +1,20 @@
 -- What the versions of a report tell apart.
-use Rattle.std.proofs.Common.{◌≡◌, ◌<◌, ◌^◌, ℕ, List, [], ◌∙◌, ap, arith, decimal, get_or, refl, subst, sym}
+use Rattle.std.proofs.Common.{◌≡◌, ◌<◌, ◌≤◌, ◌^◌, ℕ, zero, suc, List, [], ◌∷◌, ◌∙◌, ap, arith, decimal, drop, get_or, length, lit≤, map, refl, subst, sym}
+use Rattle.std.specs.List.{AllByRecursion}
 use Rattle.arena.specs.declared.word.NodeWord.{NodeWord}
 use Rattle.arena.specs.declared.word.NodeWord.TheVariants.{Settled, Child, Info, Marked}
 use Rattle.arena.specs.declared.word.SettledPart.TheVariants.{Head, More, Key, Value, High}
 use Rattle.arena.specs.declared.word.Side.TheVariants.{Left, Right}
 use Rattle.arena.specs.declared.word.Slot.{Slot}
 use Rattle.arena.specs.declared.word.Slot.TheVariants.{First, Second, Third, Fourth}
-use Rattle.ordered_map.specs.declared.request.Request.TheVariants.{Insert, InsertNew, Delete, DeleteIf, PopFirst, PopLast, ReplaceIf, Range}
-use Rattle.script.specs.Commands.{IsCommand, command_row}
+use Rattle.ordered_map.specs.declared.request.Request.{Request}
+use Rattle.ordered_map.specs.declared.request.Request.TheVariants.{PopFirst}
+use Rattle.script.specs.Commands.{IsArgument, IsCommand, MapArgument, OfCount, OfKey, OfValue, argument_text, command_row, mode_of, request_arguments, three_fields}
 use Rattle.script.specs.declared.command.Command.{Command}
 use Rattle.script.specs.declared.command.Command.TheVariants.{Map}
 use Rattle.std.proofs.lemmas.Fmt.{decimal_is_IsNumeral_wide}
 use Rattle.std.specs.Str.Parse.{digits_value}
-use Rattle.report.specs.Versions.{HasCommand, HasPart, value_limit, version_text}
+use Rattle.report.specs.Versions.{HasCommand, HasOneWord, HasPart, NamesFirstCall, value_limit, version_text}
 use Rattle.report.specs.Words.{node_part}
 use Rattle.report.specs.declared.version.Version.{Version}
 use Rattle.report.specs.declared.version.Version.TheVariants.{One, Two}
@@ -63,33 +65,47 @@ same_part One (Settled (High slot)) other is has =
     other_letters other has (sym (ap (λ (t : List ℕ). get_or t 0 0) is) ∙ letters.0, sym (ap (λ (t : List ℕ). get_or t 1 0) is) ∙ letters.1)
 same_part version part other is has = tt
 
--- Commands: their rows tell their values
+-- Commands: their rows tell whether the first version has them
 
-same_value : (version : Version) (n m : ℕ) → n < 2 ^ 128 → m < 2 ^ 128 → decimal n ≡ decimal m → m < value_limit version → n < value_limit version
-same_value version n m fits small is has =
-    let same : n ≡ m = sym (decimal_is_IsNumeral_wide n (omega (arith, fits))).1 ∙ ap (digits_value 10) is ∙ (decimal_is_IsNumeral_wide m (omega (arith, small))).1 in
-    subst (λ k. k < value_limit version) (sym same) has
+read_back : (n : ℕ) → n < 2 ^ 128 → digits_value 10 (decimal n) ≡ n
+read_back n fits = (decimal_is_IsNumeral_wide n (omega (arith, fits))).1
 
-abbrev name_letter : ℕ → List (List ℕ) → ℕ
-name_letter k row = get_or (get_or row 0 []) k 0
+-- all that stands in the fields of arguments of one word has one word
+field_is_short : (arguments : List MapArgument) (k : ℕ) → AllByRecursion IsArgument arguments → AllByRecursion HasOneWord arguments → digits_value 10 (get_or (map argument_text arguments) k []) < 2 ^ 64
+field_is_short [] k fits short = omega arith
+field_is_short (OfKey n ∷ rest) zero fits short = omega (arith, fits.0, read_back n (omega (arith, fits.0)))
+field_is_short (OfValue n ∷ rest) zero fits short = omega (arith, short.0, read_back n fits.0)
+field_is_short (OfCount n ∷ rest) zero fits short = omega (arith, fits.0, read_back n (omega (arith, fits.0)))
+field_is_short (a ∷ rest) (suc k) fits short = field_is_short rest k fits.1 short.1
 
-pub same_command : (version : Version) (command other : Command) → IsCommand command → IsCommand other → command_row command ≡ command_row other → HasCommand version other → HasCommand version command
-same_command version (Map (Insert key value)) (Map (Insert k v)) fits small is has = same_value version value v fits.1 small.1 (ap (λ (row : List (List ℕ)). get_or row 2 []) is) has
-same_command version (Map (Insert key value)) (Map (InsertNew k v)) fits small is has = absurd (omega (arith, ap (name_letter 6) is))
-same_command version (Map (Insert key value)) other fits small is has = absurd (omega (arith, ap (name_letter 0) is))
-same_command version (Map (InsertNew key value)) (Map (InsertNew k v)) fits small is has = has
-same_command version (Map (InsertNew key value)) (Map (Insert k v)) fits small is has = absurd (omega (arith, ap (name_letter 6) is))
-same_command version (Map (InsertNew key value)) other fits small is has = absurd (omega (arith, ap (name_letter 0) is))
-same_command version (Map (DeleteIf key expected)) (Map (DeleteIf k e)) fits small is has = has
-same_command version (Map (DeleteIf key expected)) (Map (Delete k)) fits small is has = absurd (omega (arith, ap (name_letter 6) is))
-same_command version (Map (DeleteIf key expected)) other fits small is has = absurd (omega (arith, ap (name_letter 0) is))
-same_command version (Map PopLast) (Map PopLast) fits small is has = has
-same_command version (Map PopLast) (Map PopFirst) fits small is has = absurd (omega (arith, ap (name_letter 4) is))
-same_command version (Map PopLast) other fits small is has = absurd (omega (arith, ap (name_letter 0) is))
-same_command version (Map (ReplaceIf key expected value)) (Map (ReplaceIf k e v)) fits small is has = (
-  same_value version expected e fits.1 small.1 (ap (λ (row : List (List ℕ)). get_or row 2 []) is) has.0,
-  same_value version value v fits.2 small.2 (ap (λ (row : List (List ℕ)). get_or row 3 []) is) has.1,
+-- so what has the same fields has one word too
+argument_is_short : (a : MapArgument) (text : List ℕ) → IsArgument a → argument_text a ≡ text → digits_value 10 text < 2 ^ 64 → HasOneWord a
+argument_is_short (OfValue n) text fits is short = omega (arith, read_back n fits, ap (digits_value 10) is, short)
+argument_is_short a text fits is short = tt
+
+same_arguments : (arguments others : List MapArgument) → length arguments ≤ 3 → three_fields arguments ≡ three_fields others → AllByRecursion IsArgument arguments → AllByRecursion IsArgument others → AllByRecursion HasOneWord others → AllByRecursion HasOneWord arguments
+same_arguments arguments others few is fits small has = go arguments few fits (λ k. ap (λ (row : List (List ℕ)). get_or row k []) is)
+  where
+    short : (k : ℕ) → digits_value 10 (get_or (map argument_text others) k []) < 2 ^ 64
+    short k = field_is_short others k small has
+
+    go : (of : List MapArgument) → length of ≤ 3 → AllByRecursion IsArgument of → ((k : ℕ) → get_or (three_fields of) k [] ≡ get_or (three_fields others) k []) → AllByRecursion HasOneWord of
+    go [] few fits same = tt
+    go (a ∷ []) few fits same = (argument_is_short a _ fits.0 (same 0) (short 0), tt)
+    go (a ∷ b ∷ []) few fits same = (argument_is_short a _ fits.0 (same 0) (short 0), (argument_is_short b _ fits.1.0 (same 1) (short 1), tt))
+    go (a ∷ b ∷ c ∷ []) few fits same =
+        (argument_is_short a _ fits.0 (same 0) (short 0), (argument_is_short b _ fits.1.0 (same 1) (short 1), (argument_is_short c _ fits.1.1.0 (same 2) (short 2), tt)))
+    go (a ∷ b ∷ c ∷ d ∷ of) few fits same = absurd (omega (arith, few))
+
+few_arguments : (request : Request ℕ ℕ) → length (request_arguments request) ≤ 3
+few_arguments PopFirst = lit≤ tt
+few_arguments request = lit≤ tt
+
+pub same_command : (version : Version) (command other : Command) → mode_of command ≡ mode_of other → IsCommand command → IsCommand other → command_row command ≡ command_row other → HasCommand version other → HasCommand version command
+same_command One (Map request) (Map other) modes fits small is has = (
+  subst NamesFirstCall (sym (ap (λ (row : List (List ℕ)). get_or row 0 []) is)) has.0,
+  same_arguments (request_arguments request) (request_arguments other) (few_arguments request) (ap (drop 1) is) fits small has.1,
 )
-same_command version (Map (ReplaceIf key expected value)) (Map (Range low high most)) fits small is has = absurd (omega (arith, ap (name_letter 1) is))
-same_command version (Map (ReplaceIf key expected value)) other fits small is has = absurd (omega (arith, ap (name_letter 0) is))
-same_command version command other fits small is has = tt
+same_command One (Map request) other modes fits small is has = absurd cc
+same_command Two (Map request) other modes fits small is has = tt
+same_command version command other modes fits small is has = tt

@@ -1,10 +1,11 @@
 -- The versions of a report's format, and what a report of each may tell.
-use Rattle.std.specs.Prelude.{◌≡◌, ℕ, ◌<◌, ◌^◌, ⊤, List, codes}
+use Rattle.std.specs.Prelude.{◌≡◌, ◌⊎◌, ℕ, ◌<◌, ◌^◌, ⊤, List, codes}
+use Rattle.std.specs.List.{AllByRecursion}
 use Rattle.arena.specs.declared.word.NodeWord.{NodeWord}
 use Rattle.arena.specs.declared.word.NodeWord.TheVariants.{Settled}
 use Rattle.arena.specs.declared.word.SettledPart.TheVariants.{High}
 use Rattle.ordered_map.specs.declared.request.Request.{Request}
-use Rattle.ordered_map.specs.declared.request.Request.TheVariants.{Insert, InsertNew, DeleteIf, PopLast, ReplaceIf}
+use Rattle.script.specs.Commands.{MapArgument, OfValue, request_arguments, request_name}
 use Rattle.script.specs.declared.command.Command.{Command}
 use Rattle.script.specs.declared.command.Command.TheVariants.{Map}
 use Rattle.report.specs.declared.version.Version.{Version}
@@ -25,16 +26,23 @@ abbrev pub HasPart : Version → NodeWord → Type 0
 HasPart One (Settled (High slot)) = ⊥
 HasPart version part = ⊤
 
--- the call of the map is one of the version, and has values of it
-abbrev pub HasRequest : Version → Request ℕ ℕ → Type 0
-HasRequest version (Insert key value) = value < value_limit version
-HasRequest version (ReplaceIf key expected value) = (expected < value_limit version) × (value < value_limit version)
-HasRequest version (InsertNew key value) = version ≡ Two
-HasRequest version (DeleteIf key expected) = version ≡ Two
-HasRequest version PopLast = version ≡ Two
-HasRequest version request = ⊤
+-- the first version has a call of the map of this name
+abbrev pub NamesFirstCall : List ℕ → Type 0
+NamesFirstCall name =
+    (name ≡ codes "insert") ⊎ (name ≡ codes "delete") ⊎ (name ≡ codes "pop_first") ⊎ (name ≡ codes "replace_if")
+    ⊎ (name ≡ codes "get") ⊎ (name ≡ codes "successor") ⊎ (name ≡ codes "range")
 
--- the command has values of the version
+-- the argument, if it is a value, has one word
+abbrev pub HasOneWord : MapArgument → Type 0
+HasOneWord (OfValue value) = value < 2 ^ 64
+HasOneWord argument = ⊤
+
+-- the call of the map is one of the version, and has values of it; the second version has all
+abbrev pub HasRequest : Version → Request ℕ ℕ → Type 0
+HasRequest One request = NamesFirstCall (request_name request) × AllByRecursion HasOneWord (request_arguments request)
+HasRequest Two request = ⊤
+
+-- the command is one of the version
 abbrev pub HasCommand : Version → Command → Type 0
 HasCommand version (Map request) = HasRequest version request
 HasCommand version command = ⊤

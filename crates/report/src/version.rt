@@ -1,6 +1,6 @@
 //! The versions of a report's format.
-ghost use Rattle.std.specs.Prelude.{◌≡◌, ◌≢◌, ◌<◌, ◌↔◌, ℕ, IsTrue, MatchOption, decimal};
-ghost use Rattle.report.specs.Versions.{HasCommand, HasPart, value_limit, version_text};
+ghost use Rattle.std.specs.Prelude.{◌≡◌, ◌≢◌, ◌<◌, ◌^◌, ◌↔◌, ℕ, IsTrue, MatchOption, decimal};
+ghost use Rattle.report.specs.Versions.{HasCommand, HasPart, HasRequest, value_limit, version_text};
 
 use arena::{NodeWord, SettledPart};
 use ordered_map::Request;
@@ -61,7 +61,7 @@ impl Version {
         }
     }
 
-    /// This command, if its values are of the version.
+    /// This command, if it is one of the version.
     pub fn command(self, command: Command) -> Option<Command>
         ensures { MatchOption result (¬ (HasCommand self command)) (λ same. (same ≡ command) × HasCommand self command) }
     {
@@ -72,32 +72,37 @@ impl Version {
         }
     }
 
-    /// Whether the values of a command are of the version.
+    /// Whether a command is one of the version.
     fn has_command(self, command: &Command) -> bool
         ensures { IsTrue result ↔ HasCommand self command.now }
     {
-        match command {
-            Command::Map(Request::Insert { key: _, value }) => self.has_value(*value),
-            Command::Map(Request::InsertNew { .. } | Request::DeleteIf { .. } | Request::PopLast) =>
-                self == Version::Two,
-            Command::Map(
-                Request::ReplaceIf {
-                    key: _,
-                    expected,
-                    value,
-                },
-            ) => self.has_value(*expected) && self.has_value(*value),
+        match (self, command) {
+            (Version::One, Command::Map(request)) => is_in_first(request),
             _ => true,
         }
     }
+}
 
-    /// Whether a value is of the version.
-    fn has_value(self, value: u128) -> bool
-        ensures { IsTrue result ↔ (value < value_limit self) }
-    {
-        match self {
-            Version::One => u64::try_from(value).is_ok(),
-            Version::Two => true,
-        }
+/// Whether the first version has a call of the map, with these values.
+fn is_in_first(request: &Request<u64, u128>) -> bool
+    ensures { IsTrue result ↔ HasRequest Version.One request.now }
+{
+    match request {
+        Request::Insert { key: _, value } => has_one_word(*value),
+        Request::ReplaceIf {
+            key: _,
+            expected,
+            value,
+        } => has_one_word(*expected) && has_one_word(*value),
+        Request::Delete { .. } | Request::PopFirst | Request::Get { .. } => true,
+        Request::Successor { .. } | Request::Range { .. } => true,
+        _ => false,
     }
+}
+
+/// Whether a value has one word.
+fn has_one_word(value: u128) -> bool
+    ensures { IsTrue result ↔ (value < 2 ^ 64) }
+{
+    u64::try_from(value).is_ok()
 }

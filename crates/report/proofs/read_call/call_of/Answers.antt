@@ -22,7 +22,7 @@ returns-in_err-command-clause-none c = rw c.from_residual-in_err-command.ensures
     let done : c.command_of.result ≡ Ok c.in_ok-ok.field-0 = search rules in
     let told = rw done at c.command_of.ensures.command in
     let row = (call_fields_are c.args.fields (codes "call") (decimal call.client.0) (decimal number) (command_row call.command) (omega arith) is).command_is in
-    c.in_err-command.ensures (same_command c.args.version c.in_ok-ok.field-0 call.command told.1 ok.2 (sym told.2 ∙ row) ok.3))
+    c.in_err-command.ensures (same_command c.args.version c.in_ok-ok.field-0 call.command (told.0 ∙ sym ok.1) told.1 ok.2 (sym told.2 ∙ row) ok.3))
 
 pub returns-then-client-layout-clause-row : goal.returns-then-client-layout-clause-row
 returns-then-client-layout-clause-row c =
