@@ -14,7 +14,7 @@ use std::alloc::Global;
 use std::process::Abort;
 use std::test::Fail;
 use template::{Goal, WalkRun};
-use tree::{Tree, insert, pop_first};
+use tree::{AtKey, AtLeast, KeyEdit, PutRule, TakeRule, Tree};
 
 /// No call of these tests has as many steps.
 const MOST_STEPS: u32 = 1000;
@@ -80,8 +80,8 @@ fn inserts(
     call: u64,
     pair: (u64, u128),
 ) -> (u32, Option<Updated>, Share) {
-    let (key, value) = pair;
-    plays(table, insert(key, value).run(share, 3, call))
+    let (goal, rule) = (AtKey(pair.0), PutRule(pair.1));
+    plays(table, KeyEdit { goal, rule }.run(share, 3, call))
 }
 
 /// The tree that has five pairs, and what is left of the share: a fork with the key 11, over a leaf
@@ -105,7 +105,8 @@ fn five_pairs(rt: &impl Abort, table: &mut PlainWords) -> Share {
 
 /// Takes the least pair away, in the call of this number.
 fn pops(table: &mut PlainWords, share: Share, call: u64) -> (u32, Option<Updated>, Share) {
-    plays(table, pop_first().run(share, 3, call))
+    let (goal, rule) = (AtLeast, TakeRule);
+    plays(table, KeyEdit { goal, rule }.run(share, 3, call))
 }
 
 /// The key and the value that an answer tells, if it tells a pair.

@@ -3,10 +3,7 @@ ghost use Rattle.std.specs.Prelude.{◌≡◌};
 ghost use Rattle.edits.specs.Steps.{update_left};
 
 use crate::put::PutPair;
-use crate::rule::{
-    AtGreatest, AtKey, AtLeast, EditGoal, EditRule, PutNewRule, PutRule, SwapRule, TakeIfRule,
-    TakeRule,
-};
+use crate::rule::{EditGoal, EditRule};
 use crate::take::TakePair;
 use arena::{NodeNo, Share};
 use edits::{Edit, Known, Look, Nodes, Nth, Piece, Reading, UpdateAt, UpdateRun, Work};
@@ -19,83 +16,6 @@ use template::Found;
 pub struct KeyEdit<G, R> {
     pub goal: G,
     pub rule: R,
-}
-
-/// Puts a value at a key.
-#[inline(always)]
-pub fn insert(key: u64, value: u128) -> KeyEdit<AtKey, PutRule>
-    ensures { result ≡ record { goal = record { 0 = key }; rule = record { 0 = value } } }
-{
-    KeyEdit {
-        goal: AtKey(key),
-        rule: PutRule(value),
-    }
-}
-
-/// Takes a key away.
-#[inline(always)]
-pub fn delete(key: u64) -> KeyEdit<AtKey, TakeRule>
-    ensures { result ≡ record { goal = record { 0 = key }; rule = record {} } }
-{
-    KeyEdit {
-        goal: AtKey(key),
-        rule: TakeRule,
-    }
-}
-
-/// Takes the pair with the least key away, if there is one.
-#[inline(always)]
-pub fn pop_first() -> KeyEdit<AtLeast, TakeRule>
-    ensures { result ≡ record { goal = record {}; rule = record {} } }
-{
-    KeyEdit {
-        goal: AtLeast,
-        rule: TakeRule,
-    }
-}
-
-/// Takes the pair with the greatest key away, if there is one.
-#[inline(always)]
-pub fn pop_last() -> KeyEdit<AtGreatest, TakeRule>
-    ensures { result ≡ record { goal = record {}; rule = record {} } }
-{
-    KeyEdit {
-        goal: AtGreatest,
-        rule: TakeRule,
-    }
-}
-
-/// Puts a value at a key that has the expected one, be they the same or not.
-#[inline(always)]
-pub fn replace_if(key: u64, expected: u128, value: u128) -> KeyEdit<AtKey, SwapRule>
-    ensures { result ≡ record { goal = record { 0 = key }; rule = record { expected = expected; value = value } } }
-{
-    KeyEdit {
-        goal: AtKey(key),
-        rule: SwapRule { expected, value },
-    }
-}
-
-/// Puts a value at a key that has none.
-#[inline(always)]
-pub fn insert_new(key: u64, value: u128) -> KeyEdit<AtKey, PutNewRule>
-    ensures { result ≡ record { goal = record { 0 = key }; rule = record { 0 = value } } }
-{
-    KeyEdit {
-        goal: AtKey(key),
-        rule: PutNewRule(value),
-    }
-}
-
-/// Takes a key away that has the expected value.
-#[inline(always)]
-pub fn delete_if(key: u64, expected: u128) -> KeyEdit<AtKey, TakeIfRule>
-    ensures { result ≡ record { goal = record { 0 = key }; rule = record { 0 = expected } } }
-{
-    KeyEdit {
-        goal: AtKey(key),
-        rule: TakeIfRule(expected),
-    }
 }
 
 /// An edit, step by step.
