@@ -12,7 +12,7 @@ use Rattle.ordered_map.specs.OrderedMap.{MapCall, MapReply, MapEdit, edited, rep
 use Rattle.ordered_map.specs.Runs.{Makes}
 use Rattle.ordered_map.specs.Spelled.{Spells}
 use Rattle.template.specs.Tries.{tries_since, HasTriedAtMost}
-use Rattle.ordered_map.specs.CallRules.{Form, IsFormOfValue, MayReply, form_of, most_nodes, most_scx, most_steps}
+use Rattle.ordered_map.specs.CallRules.{MayReply, form_of, most_nodes, most_scx, most_steps}
 use Rattle.ordered_map.specs.Replies.{told_of}
 use Rattle.ordered_map.specs.declared.reply.Reply.{Reply}
 use Rattle.ordered_map.specs.declared.reply.Reply.TheVariants.{Contended, Full, NoMemory}
@@ -167,7 +167,3 @@ abbrev pub read_reply : {A K V : Type 0} → (A → Reply K V) → Result A Orde
 read_reply told (Ok answer) = told answer
 read_reply told (Err (reads.Contended node scx)) = Contended node scx
 read_reply told (Err reads.NoMemory) = NoMemory
-
--- the call replies a value, unless it is refused
-abbrev pub RepliesValue : MapCall → Type 0
-RepliesValue call = (form : Form) → MayReply call form → IsFormOfValue form

@@ -2,14 +2,15 @@
 ghost use Rattle.std.specs.Prelude.{◌≡◌, ◌≤◌, ◌↔◌, Err, IfOk, OnOk};
 ghost use Rattle.arena.specs.Limits.{IsAccepted, IsLayoutOf};
 ghost use Rattle.arena.specs.declared.limits.Mode.TheVariants.{Tree};
-ghost use Rattle.ordered_map.specs.OrderedMap.{Get, Range, Successor, call_insert, call_insert_new, call_delete, call_delete_if, call_pop_first, call_pop_last, call_replace_if};
+ghost use Rattle.ordered_map.specs.declared.rule.Goal.TheVariants.{Key};
+ghost use Rattle.ordered_map.specs.OrderedMap.{Edit, Get, Range, Successor, call_insert, call_insert_new, call_delete, call_delete_if, call_pop_first, call_pop_last, call_replace_if};
 ghost use Rattle.dict.specs.Calls.{IsSmallCall, edit_call};
 ghost use Rattle.ordered_map.specs.CallRules.{IsFormOfValue, IsFormOfPair, form_of};
 ghost use Rattle.ordered_map.specs.Requests.{AsksForFew, as_map_call};
 ghost use Rattle.dict.specs.Says.{KeepsLists};
 ghost use Rattle.dict.specs.Typed.{IsTypedCall};
 ghost use Rattle.dict.specs.Words.{IsWordOf};
-ghost use Rattle.forest.specs.Dictionary.{HasCalled, RepliesValue, read_reply, update_reply};
+ghost use Rattle.forest.specs.Dictionary.{HasCalled, read_reply, update_reply};
 ghost use Rattle.forest.specs.Passes.{IsOf, AreNew};
 
 use crate::fault::{NewFault, OrderFault, UpdateFault};
@@ -23,8 +24,8 @@ use std::alloc::Global;
 use std::mem::replace;
 use template::Goal;
 use tree::{
-    EditGoal, EditRule, KeyEdit, delete, delete_if, insert, insert_new, pop_first, pop_last,
-    replace_if,
+    AtGreatest, AtKey, AtLeast, EditGoal, EditRule, KeyEdit, PutNewRule, PutRule, SwapRule,
+    TakeIfRule, TakeRule,
 };
 
 /// What the caller of an edit of a key gets of its reply.
@@ -102,8 +103,7 @@ impl<K: WordKey, V: WordValue> Forest<Dict<K, V>> {
     {
         key.valid();
         value.valid();
-        let (key, value) = (key.word(), number_of(&value));
-        self.edit_at_key(pass, insert(key, value))
+        self.edit_at_key(pass, key.word(), PutRule(number_of(&value)))
     }
 
     /// Sets a key to a value if it has none, and tells the value that it has otherwise: then the map
@@ -122,8 +122,7 @@ impl<K: WordKey, V: WordValue> Forest<Dict<K, V>> {
     {
         key.valid();
         value.valid();
-        let (key, value) = (key.word(), number_of(&value));
-        self.edit_at_key(pass, insert_new(key, value))
+        self.edit_at_key(pass, key.word(), PutNewRule(number_of(&value)))
     }
 
     /// Takes a key away, and tells the value that it had just before. It takes at most a node and
@@ -134,8 +133,7 @@ impl<K: WordKey, V: WordValue> Forest<Dict<K, V>> {
             pass.old pass.new (call_delete (K.word_of key.now)) (update_reply Reply.Value result) }
     {
         key.valid();
-        let key = key.word();
-        self.edit_at_key(pass, delete(key))
+        self.edit_at_key(pass, key.word(), TakeRule)
     }
 
     /// Takes a key away that has the expected value, and tells the value that the key had just
@@ -153,8 +151,7 @@ impl<K: WordKey, V: WordValue> Forest<Dict<K, V>> {
             (update_reply Reply.Value result) }
     {
         key.valid();
-        let (key, expected) = (key.word(), number_of(expected));
-        self.edit_at_key(pass, delete_if(key, expected))
+        self.edit_at_key(pass, key.word(), TakeIfRule(number_of(expected)))
     }
 
     /// Takes the pair with the least key away, if there is one, and tells it. It takes at most a node
@@ -164,7 +161,8 @@ impl<K: WordKey, V: WordValue> Forest<Dict<K, V>> {
         ensures { HasCalled K.is_valid K.word_of V.is_valid V.word_of self.now
             pass.old pass.new call_pop_first (update_reply Reply.Pair result) }
     {
-        told_pair(self.edit(pass, pop_first()))
+        let (goal, rule) = (AtLeast, TakeRule);
+        told_pair(self.edit(pass, KeyEdit { goal, rule }))
     }
 
     /// Takes the pair with the greatest key away, if there is one, and tells it. It takes at most a
@@ -174,7 +172,8 @@ impl<K: WordKey, V: WordValue> Forest<Dict<K, V>> {
         ensures { HasCalled K.is_valid K.word_of V.is_valid V.word_of self.now
             pass.old pass.new call_pop_last (update_reply Reply.Pair result) }
     {
-        told_pair(self.edit(pass, pop_last()))
+        let (goal, rule) = (AtGreatest, TakeRule);
+        told_pair(self.edit(pass, KeyEdit { goal, rule }))
     }
 
     /// Puts a value at a key that has the expected one, and tells the value that the key had just
@@ -195,8 +194,8 @@ impl<K: WordKey, V: WordValue> Forest<Dict<K, V>> {
     {
         key.valid();
         value.valid();
-        let (key, expected, value) = (key.word(), number_of(expected), number_of(&value));
-        self.edit_at_key(pass, replace_if(key, expected, value))
+        let (expected, value) = (number_of(expected), number_of(&value));
+        self.edit_at_key(pass, key.word(), SwapRule { expected, value })
     }
 
     /// The value of a key, if it has one. It takes nothing, and is never refused.
@@ -270,20 +269,20 @@ impl<K: WordKey, V: WordValue> Forest<Dict<K, V>> {
 
     /// Makes an edit of a key.
     #[inline(always)]
-    fn edit_at_key<G: EditGoal, R: EditRule>(
+    fn edit_at_key<R: EditRule>(
         &self,
         pass: &mut Pass<Dict<K, V>>,
-        edit: KeyEdit<G, R>,
+        key: u64,
+        rule: R,
     ) -> Result<Option<V>, UpdateFault>
         requires pass { IsOf self.now pass.old }
         requires typed { IsTypedCall (IsWordOf K.is_valid K.word_of) (IsWordOf V.is_valid V.word_of)
-            (edit_call G.goal R.rule edit) }
-        requires small { IsSmallCall (edit_call G.goal R.rule edit) }
-        requires value { RepliesValue (edit_call G.goal R.rule edit) }
+            (Edit (Key key) (R.rule rule)) }
         ensures { HasCalled K.is_valid K.word_of V.is_valid V.word_of self.now
-            pass.old pass.new (edit_call G.goal R.rule edit) (update_reply Reply.Value result) }
+            pass.old pass.new (Edit (Key key) (R.rule rule)) (update_reply Reply.Value result) }
     {
-        told_value(self.edit(pass, edit))
+        let goal = AtKey(key);
+        told_value(self.edit(pass, KeyEdit { goal, rule }))
     }
 
     /// Makes an edit.

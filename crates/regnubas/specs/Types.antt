@@ -11,7 +11,7 @@ pub use Rattle.ordered_map.specs.declared.pair.Pair.{Pair}
 pub use Rattle.ordered_map.specs.declared.rule.Goal.{Goal}
 pub use Rattle.ordered_map.specs.declared.rule.Goal.TheVariants.{Key, End}
 pub use Rattle.ordered_map.specs.declared.rule.Rule.{Rule}
-pub use Rattle.ordered_map.specs.declared.rule.Rule.TheVariants.{Put, PutNew, Swap, Take, TakeIf}
+pub use Rattle.ordered_map.specs.declared.rule.Rule.TheVariants as rules
 pub use Rattle.forest.specs.declared.fault.NewFault.{NewFault}
 pub use Rattle.forest.specs.declared.fault.OrderFault.{OrderFault}
 pub use Rattle.forest.specs.declared.fault.UpdateFault.{UpdateFault}
