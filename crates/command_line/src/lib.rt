@@ -4,11 +4,20 @@
 mod args;
 mod ask;
 mod buffered;
+mod complaint;
+mod field;
+mod forms;
+mod help;
 mod outcomes;
+mod people;
 mod picture;
+mod refusal;
+mod rules;
+mod source;
 mod words;
 
 pub use ask::run_words;
-pub use outcomes::{explore_over, explore_words};
-pub use picture::{draw_over, draw_words};
+pub use outcomes::explore_over;
+pub use people::people_words;
+pub use picture::draw_over;
 pub use words::{exit_status, words_of};

@@ -9,7 +9,6 @@ use std::convert::AsStr;
 use std::io::Write;
 use std::rt::Env;
 use std::{env, io};
-use texts::number_of;
 
 /// All words that the program is given, of which the first is its own name.
 pub fn words_of<R: Env + AllocGlobal>(rt: &R) -> Result<Vec<String>, Fault> {
@@ -35,7 +34,8 @@ pub(crate) fn given_to<'a, S: AsStr>(
     }
 }
 
-fn matches_of<'a, S: AsStr>(
+/// The same, with what the command itself says of words that do not fit.
+pub(crate) fn matches_of<'a, S: AsStr>(
     command: Result<Command<'a>, Error>,
     words: &'a [S],
 ) -> Result<ArgMatches<'a>, Error> {
@@ -50,14 +50,6 @@ pub(crate) fn file<'a>(alloc: Global, name: &'a str) -> Arg<'a> {
 /// What may be given after `--name`.
 pub(crate) fn option<'a>(alloc: Global, name: &'a str) -> Arg<'a> {
     Arg::new(alloc, name).long(name).action(ArgAction::Set)
-}
-
-/// The number that is given to this option, or this one where the option is left out.
-pub(crate) fn number(given: &ArgMatches<'_>, name: &str, otherwise: u64) -> Option<u64> {
-    match given.get_str(name) {
-        Some(number) => number_of(number),
-        None => Some(otherwise),
-    }
 }
 
 /// The status with which a program ends that has done this; a fault is told in a line.
