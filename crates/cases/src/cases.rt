@@ -7,6 +7,7 @@ use crate::refusal::Refusal;
 use crate::sweep::Sweep;
 use crate::words::WordsCase;
 use anyhow::{Context, Result};
+use std::io::Input;
 use std::rt::Files;
 use std::sync::Wait;
 use std::thread::Threads;
@@ -19,7 +20,9 @@ pub(crate) struct Told {
 }
 
 /// Tells of each case how it ends. A line of a list that begins with `#` is a remark.
-pub(crate) fn all<R: Files + Print + AllocGlobal + Threads + Wait + Sync>(rt: &R) -> Result<Told> {
+pub(crate) fn all<R: Files + Input + Print + AllocGlobal + Threads + Wait + Sync>(
+    rt: &R,
+) -> Result<Told> {
     let mut told = Told::default();
     told.cases(rt)?;
     told.refusals(rt)?;
@@ -94,7 +97,7 @@ impl Told {
     }
 
     /// Words of the command line.
-    fn words<R: Files + Print + AllocGlobal + Threads + Wait + Sync>(
+    fn words<R: Files + Input + Print + AllocGlobal + Threads + Wait + Sync>(
         &mut self,
         rt: &R,
     ) -> Result<()> {

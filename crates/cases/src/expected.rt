@@ -73,14 +73,17 @@ impl Expected {
     }
 }
 
-/// The status with which the program ends behind this line on standard error.
+/// The status with which the program ends after this line on standard error.
 fn status_of(fault: &[u8]) -> u8 {
-    let begins = |word: &[u8]| fault.starts_with(word);
+    let fault = from_utf8(fault).unwrap_or("");
+    let begins = |word: &str| fault.starts_with(word);
     if fault.is_empty() {
         0
-    } else if begins(b"bad script: ") || begins(b"bad schedule: ") || begins(b"not lawful: ") {
+    } else if begins("bad script: ") || begins("bad schedule: ") || begins("not lawful: ") {
         1
-    } else if begins(b"bad gate\n") || begins(b"usage\n") {
+    } else if fault.contains(", row ") {
+        1
+    } else if begins("bad gate\n") || begins("usage\n") || begins("--") {
         2
     } else {
         4

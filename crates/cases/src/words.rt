@@ -4,13 +4,14 @@ use crate::expected::Expected;
 use crate::files::lines_of;
 use crate::finding::Finding;
 use anyhow::{Context, Result};
-use command_line::run_words;
+use command_line::{people_words, run_words};
 use std::alloc::{AllocError, Global};
+use std::io::Input;
 use std::rt::Files;
 use std::sync::Wait;
 use std::thread::Threads;
 
-/// The words after the program's name, which one space parts; the fault that it is to tell, if
+/// The words after the name of `cli`, or those of `rnb` with its name, which one space parts; the fault that it is to tell, if
 /// there is one; and else what it is to print, in which `|` stands for a new line.
 #[derive(Clone, Copy)]
 pub(crate) struct WordsCase<'a> {
@@ -32,14 +33,19 @@ impl<'a> WordsCase<'a> {
     }
 
     /// How the program ends with them.
-    pub(crate) fn find<R: Files + AllocGlobal + Threads + Wait + Sync>(
+    pub(crate) fn find<R: Files + Input + AllocGlobal + Threads + Wait + Sync>(
         self,
         rt: &R,
     ) -> Result<Finding> {
         let alloc = rt.alloc();
-        let words = with_name(alloc, self.words)?;
         let (mut out, mut err) = (Vec::new(alloc), Vec::new(alloc));
-        let status = run_words(rt, words.as_slice(), &mut out, &mut err);
+        let status = if self.words.starts_with("rnb ") {
+            let words = all_words(alloc, "", self.words)?;
+            people_words(rt, words.as_slice(), &mut out, &mut err)
+        } else {
+            let words = all_words(alloc, "regnubas ", self.words)?;
+            run_words(rt, words.as_slice(), &mut out, &mut err)
+        };
         let ended = ProgramEnd { status, out, err };
         Ok(self.expected(alloc)?.compare(alloc, &ended)?)
     }
@@ -54,11 +60,10 @@ impl<'a> WordsCase<'a> {
     }
 }
 
-/// These words behind the program's name.
-fn with_name(alloc: Global, words: &str) -> Result<Vec<String>, AllocError> {
+/// All words of these two texts.
+fn all_words(alloc: Global, name: &str, words: &str) -> Result<Vec<String>, AllocError> {
     let mut all = Vec::new(alloc);
-    all.push(String::from_str(alloc, "regnubas")?)?;
-    for word in words.split_whitespace() {
+    for word in name.split_whitespace().chain(words.split_whitespace()) {
         all.push(String::from_str(alloc, word)?)?;
     }
     Ok(all)

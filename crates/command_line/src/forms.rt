@@ -4,11 +4,6 @@ use arena::Mode;
 
 const WORD: u128 = 18_446_744_073_709_551_615;
 
-const NOTHING: Field = Field {
-    name: "what comes last",
-    wanted: Wanted::Nothing,
-};
-
 const KEY: Field = Field {
     name: "key",
     wanted: Wanted::Number {
@@ -53,6 +48,14 @@ fn text(name: &'static str) -> Field {
     }
 }
 
+/// A field that is empty.
+fn nothing(name: &'static str) -> Field {
+    Field {
+        name,
+        wanted: Wanted::Nothing,
+    }
+}
+
 /// A field with a word of memory.
 fn word(name: &'static str) -> Field {
     Field::number(name, 0, WORD)
@@ -88,14 +91,14 @@ fn client(passes: u128) -> Field {
 fn arguments(command: &str) -> [Field; 3] {
     let expected = Field::number("expected value", 0, u128::MAX);
     match command {
-        "insert" | "insert_new" => [KEY, VALUE, NOTHING],
-        "delete" | "get" | "successor" => [KEY, NOTHING, NOTHING],
-        "delete_if" => [KEY, expected, NOTHING],
+        "insert" | "insert_new" => [KEY, VALUE, nothing("c")],
+        "delete" | "get" | "successor" => [KEY, nothing("b"), nothing("c")],
+        "delete_if" => [KEY, expected, nothing("c")],
         "replace_if" => [KEY, expected, VALUE],
-        "pop_first" | "pop_last" => [NOTHING, NOTHING, NOTHING],
+        "pop_first" | "pop_last" => [nothing("a"), nothing("b"), nothing("c")],
         "range" => [word("lo"), word("hi"), Field::number("most", 0, 64)],
-        "llx" => [CELL, NOTHING, NOTHING],
-        "vlx" => [CELLS, NOTHING, NOTHING],
+        "llx" => [CELL, nothing("b"), nothing("c")],
+        "vlx" => [CELLS, nothing("b"), nothing("c")],
         "set" => [CELL, one_of("side", "left right"), word("value")],
         "scx" => [CELLS, text("finalized cells"), text("change")],
         _ => [text("a"), text("b"), text("c")],
@@ -106,12 +109,12 @@ fn arguments(command: &str) -> [Field; 3] {
 pub(crate) fn schedule_fields(command: &str, passes: u128) -> [Field; 4] {
     let times = Field::number("number", 1, 1_000_000);
     let (kind, times) = match command {
-        "step" => (NOTHING, times),
+        "step" => (nothing("kind"), times),
         "until" => (one_of("kind", KINDS), times),
-        _ => (NOTHING, NOTHING),
+        _ => (nothing("kind"), nothing("number")),
     };
     [
-        one_of("command", "step call until finish end"),
+        one_of("command", "step call until finish"),
         client(passes),
         kind,
         times,
@@ -122,6 +125,7 @@ pub(crate) fn schedule_fields(command: &str, passes: u128) -> [Field; 4] {
 pub(crate) fn report_fields(first: &str, kind: &str) -> [Field; 7] {
     let client = Field::number("client", 0, 31);
     let head = one_of("first field", "report limits call step log reply end");
+    let rest = nothing("what follows");
     let kinds =
         "fill settled info state marked allfrozen child freeze frozen mark update commit abort idle";
     match first {
@@ -129,14 +133,14 @@ pub(crate) fn report_fields(first: &str, kind: &str) -> [Field; 7] {
             head,
             one_of("version", "1 2"),
             one_of("mode", "records tree"),
-            NOTHING,
-            NOTHING,
-            NOTHING,
-            NOTHING,
+            rest,
+            rest,
+            rest,
+            rest,
         ],
         "limits" => {
             let [_, passes, nodes, scx, tries] = script_fields(1, "", Mode::Tree, 0);
-            [head, passes, nodes, scx, tries, NOTHING, NOTHING]
+            [head, passes, nodes, scx, tries, rest, rest]
         }
         "call" => [
             head,
@@ -147,15 +151,7 @@ pub(crate) fn report_fields(first: &str, kind: &str) -> [Field; 7] {
             text("b"),
             text("c"),
         ],
-        "step" if kind == "idle" => [
-            head,
-            word("number"),
-            client,
-            text("kind"),
-            NOTHING,
-            NOTHING,
-            NOTHING,
-        ],
+        "step" if kind == "idle" => [head, word("number"), client, text("kind"), rest, rest, rest],
         "step" => [
             head,
             word("number"),
@@ -172,7 +168,7 @@ pub(crate) fn report_fields(first: &str, kind: &str) -> [Field; 7] {
             text("SCX-record"),
             client,
             word("call"),
-            NOTHING,
+            rest,
         ],
         "reply" => [
             head,
@@ -188,9 +184,9 @@ pub(crate) fn report_fields(first: &str, kind: &str) -> [Field; 7] {
             word("steps"),
             word("replies"),
             word("logs"),
-            NOTHING,
-            NOTHING,
-            NOTHING,
+            rest,
+            rest,
+            rest,
         ],
         _ => [
             head,

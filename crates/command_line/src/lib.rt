@@ -4,10 +4,10 @@
 mod args;
 mod ask;
 mod buffered;
+mod command_help;
 mod complaint;
 mod field;
 mod forms;
-mod help;
 mod outcomes;
 mod people;
 mod picture;

@@ -2,8 +2,8 @@
 ghost use Rattle.std.specs.Prelude.{◌≤◌};
 
 use crate::buffered::play_buffered;
+use crate::command_help::whole_command;
 use crate::complaint::Complaint;
-use crate::help::whole_command;
 use crate::outcomes::explore_over;
 use crate::refusal::{record_of, require_lawful, schedule_of, script_of};
 use crate::source::{LateFile, Source};

@@ -79,7 +79,7 @@ pub(crate) fn require_lawful(
     let found = row_of(alloc, source, row)?;
     let rule = rule_of(found.get(0).unwrap_or(""), found.get(3).unwrap_or(""));
     let (name, text) = (source.name, row_text(alloc, &found)?);
-    let text = format!(in alloc; "{name}, row {row}: not lawful: {text}; {rule}")?;
+    let text = format!(in alloc; "{name}, row {row}: not lawful: {text}: {rule}")?;
     Err(Complaint::Refused(text))
 }
 
@@ -140,7 +140,7 @@ fn why(
     if count == 0 {
         return String::from_str(
             alloc,
-            ": no UTF-8, or no row; the last row begins with `end`",
+            ": no UTF-8, or no row: the last row begins with `end`",
         );
     }
     if count != width {

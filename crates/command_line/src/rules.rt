@@ -10,7 +10,7 @@ pub(crate) fn rule_of(first: &str, kind: &str) -> &'static str {
         }
         "reply" => {
             "a call is answered at the end of its last step, with what is true at the moment that is \
-             named, the latest one between its first step and its last; the moment is empty where the \
+             named, the latest one between its first step and its last, and the moment is empty where the \
              answer says nothing of the map or of a cell"
         }
         "end" => "an entry of the log, or the reply of a call that has ended, is missing before it",
@@ -22,12 +22,12 @@ pub(crate) fn rule_of(first: &str, kind: &str) -> &'static str {
 fn step_rule(kind: &str) -> &'static str {
     match kind {
         "fill" => {
-            "turns are numbered from 1; a fill stores into a word of a node or SCX-record of the client's \
+            "turns are numbered from 1, and a fill stores into a word of a node or SCX-record of the client's \
              own share that is taken or the next one, and not named yet"
         }
         "freeze" => {
             "a freeze exchanges the info of a node that the SCX-record covers, from the word of its \
-             owner's snapshot, and all nodes before are frozen for it; at the first node the plan is \
+             owner's snapshot, and all nodes before are frozen for it, and at the first node the plan is \
              right, nothing of it is out of date, and it makes the edit of its owner's call"
         }
         "frozen" => "frozen is stored once all nodes of the SCX-record have been frozen for it",
@@ -44,6 +44,6 @@ fn step_rule(kind: &str) -> &'static str {
         "idle" =>
             "a turn is idle if the client has no call left, or if the call is answered without a step",
         _ =>
-            "turns are numbered from 1; a load is of a word that exists, and `before` and `after` are what it holds",
+            "turns are numbered from 1, and a load is of a word that exists, and `before` and `after` are what it holds",
     }
 }

@@ -200,11 +200,15 @@ const ACTIONS = {
   allfrozen: ({ word, before }) => `reads whether ${nodeOf(word)} has frozen all its nodes: ${YES[before]}`,
   freeze({ word, before, scx, changes }) {
     if (changes) return `freezes ${nodeOf(word)}`;
-    return Number(before) === scx ? `finds ${nodeOf(word)} frozen for s${scx} already` : `cannot freeze ${nodeOf(word)}, finds s${before} there`;
+    if (Number(before) === scx) return `finds ${nodeOf(word)} frozen for s${scx} already`;
+    return `cannot freeze ${nodeOf(word)}, finds s${before} there`;
   },
-  frozen: ({ scx, changes }) => (changes ? `notes that all nodes of s${scx} are frozen` : `notes once more that all nodes of s${scx} are frozen`),
-  mark: ({ word, changes }) => (changes ? `retires ${nodeOf(word)}` : `retires ${nodeOf(word)} once more`),
-  update: ({ word, before, after, changes }) => (changes ? `makes the update: ${word}, which was ${meaning(word, before)}, is ${meaning(word, after)}` : `finds that ${word} is changed already`),
+  frozen: ({ scx, changes }) => `notes ${changes ? "" : "once more "}that all nodes of s${scx} are frozen`,
+  mark: ({ word, changes }) => `retires ${nodeOf(word)}${changes ? "" : " once more"}`,
+  update({ word, before, after, changes }) {
+    if (changes) return `puts ${meaning(word, after)} in place of ${meaning(word, before)} into ${word}`;
+    return `finds ${word} changed already`;
+  },
   commit: ({ scx, changes }) => (changes ? `commits s${scx}` : `finds s${scx} committed already`),
   abort: ({ scx, changes }) => (changes ? `aborts s${scx}` : `finds s${scx} aborted already`),
 };
@@ -446,6 +450,7 @@ function classOf(node, fresh) {
 }
 
 let drawn = [];
+const spotOf = new Map();
 
 let drawnVersion = -1;
 
@@ -478,6 +483,8 @@ function drawTree() {
   }
   [across, high] = [across + 30, high + 8];
   const scale = Math.max(1, Math.min(1.6, shapeWide / across));
+  spotOf.clear();
+  for (const spot of nodes) spotOf.set(`n${spot.node}`, place(spot).map((along) => scale * along));
   put(shape, `<svg width="${scale * across}" height="${scale * high}" viewBox="0 0 ${across} ${high}" role="img" aria-label="The tree">${text}</svg>`);
   put(pairList, pairs.map(({ key, value }) => `<li data-key="${key}" data-value="${value}">${key} → ${value}</li>`).join("") || "no pair");
 }
@@ -494,12 +501,17 @@ const stepName = () => (now > 0 && turns[now - 1].kind !== "idle" ? nodeOf(turns
 const pointedName = () => pinned ?? stepName();
 const ring = (x, y, across, high) => `<rect x="${x}" y="${y}" width="${across}" height="${high}" rx="6" class="ring"/>`;
 
-// Rings the node that is pointed at.
+// Rings the node that is pointed at, and brings it into sight.
 function drawRing() {
   shape.querySelector(".pointed")?.classList.remove("pointed");
   const name = pointedName();
   const node = name && shape.querySelector(`[data-name="${name}"]`);
   node?.classList.add("pointed");
+  const spot = name && spotOf.get(name);
+  if (!spot) return;
+  const [x, y] = spot;
+  if (x < shape.scrollLeft || shape.scrollLeft + shapeWide < x + 20) shape.scrollLeft = x - shapeWide / 2;
+  if (y < shape.scrollTop || shape.scrollTop + shape.clientHeight < y + 20) shape.scrollTop = y - shape.clientHeight / 2;
 }
 
 // ---- Cells ----

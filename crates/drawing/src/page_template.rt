@@ -45,7 +45,6 @@ li{padding:1px 0}
 .dim{color:var(--quiet)}
 .cursor{stroke:var(--cursor);fill:none}
 .veil{fill-opacity:.6}
-.label{font-weight:600}
 .tint{fill-opacity:.22;stroke-width:2.5}
 .dash{stroke-dasharray:3 2}
 .ring{display:none;fill:none;stroke:var(--cursor);stroke-width:1.5}
@@ -61,6 +60,7 @@ main{grid-template-columns:minmax(0,1fr)}
 header,section{padding:6px 8px}
 h1{margin:6px 8px 0}
 #lanes{padding:4px 0}
+#say{min-height:4.4em}
 nav{gap:4px}
 button{padding:2px 7px}
 #shape>div{max-height:none}
