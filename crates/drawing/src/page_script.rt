@@ -13,7 +13,10 @@ pub(crate) const SCRIPT: &str = r##"
 const rows = document.getElementById("report").textContent.trim().split("\n").map((row) => row.split(","));
 const isTree = rows[0][2] === "tree";
 const [passes, , scxShare] = rows[1].slice(1).map(Number);
-const clients = Array.from({ length: passes }, (_, number) => ({ number, calls: [], begun: 0, open: null, scx: 0 }));
+// Of each client its calls, the one that it is in, and for which SCX-records it has worked up to a turn.
+const clientOf = (number) => ({ number, calls: [], begun: 0, open: null, scx: 0, works: [0] });
+const clients = Array.from({ length: passes }, (_, number) => clientOf(number));
+const stranger = clientOf(0); // whose turns only an unlawful report has
 const turns = [];
 const entries = [];
 const moments = [];
@@ -69,7 +72,7 @@ function begin(client, turn) {
 }
 
 function addStep([, place, of, kind, word, before, after]) {
-  const client = clients[of];
+  const client = clients[of] ?? stranger;
   const turn = { place: turns.length + 1, client, kind, word, before, after, scx: 0, call: null };
   turns.push(turn);
   if (kind === "idle") return;
@@ -86,6 +89,7 @@ function addStep([, place, of, kind, word, before, after]) {
 
 function addEntry([, place, , scx, client, call]) {
   const turn = turns.at(-1);
+  if (!turn) return;
   const record = Number(scx.slice(1));
   const entry = { place, turn: turn.place, call: clients[client]?.calls[call], word: turn.word, old: Number(turn.before) };
   entry.fresh = freshFrom(Number(turn.after));
@@ -97,8 +101,9 @@ function addEntry([, place, , scx, client, call]) {
 }
 
 function addReply([, of, , , , moment, answer]) {
-  const client = clients[of];
+  const client = clients[of] ?? stranger;
   const turn = turns.at(-1);
+  if (!turn) return;
   const call = client.open ?? begin(client, turn.place);
   client.open = null;
   Object.assign(call, { end: turn.place, moment: Number(moment), answer, answered: turn.place });
@@ -138,7 +143,6 @@ function countTo(list, turn, turnOf) {
 let now = 0;
 let pinned = null;
 let version = 0; // rises with each change of a word
-const works = clients.map(() => [0]);
 
 function write(word, held) {
   memory.set(word, held);
@@ -148,13 +152,13 @@ function write(word, held) {
 function forward() {
   const turn = turns[now++];
   if (turn.changes) write(turn.word, turn.after);
-  if (turn.works !== undefined) works[turn.client.number].push(turn.works);
+  if (turn.works !== undefined) turn.client.works.push(turn.works);
 }
 
 function back() {
   const turn = turns[--now];
   if (turn.changes) write(turn.word, turn.before);
-  if (turn.works !== undefined) works[turn.client.number].pop();
+  if (turn.works !== undefined) turn.client.works.pop();
 }
 
 function go(turn) {
@@ -252,7 +256,7 @@ let [wide, left, shift, drawnFrom, drawnTo] = [0, 0, 0, 0, -1];
 
 // The turn at so many pixels from the first one.
 function turnAt(x) {
-  return Math.max(1, Math.min(lastTurn, countTo(spots, x, (spot) => spot)));
+  return Math.min(lastTurn, Math.max(1, countTo(spots, x, (spot) => spot)));
 }
 
 // Puts the turn into the middle. What has been drawn is moved, as long as it reaches as far as one sees.
@@ -273,7 +277,7 @@ function drawLanes() {
 // Draws the turns from there to there.
 function drawPart(from, to) {
   [drawnFrom, drawnTo] = [from, to];
-  const [first, last] = [turnAt(from), turnAt(to)];
+  const [first, last] = [Math.max(1, turnAt(from)), turnAt(to)];
   const [bands, names, turnSigns] = [[], [], []];
   callers.forEach((client, lane) => {
     const top = topOf(lane);
@@ -591,7 +595,7 @@ function goingText(scx) {
   const owner = ownerOf(scx);
   const { nodes, retired, field } = planOf(scx);
   const covers = nodes.map((node) => `n${node}${number(`n${node}.info`) === scx ? " (frozen)" : ""}`).join(", ");
-  const helpers = clients.filter((client) => client !== owner && works[client.number].at(-1) === scx).map((client) => `${chip(client.number)}client ${client.number}`);
+  const helpers = clients.filter((client) => client !== owner && client.works.at(-1) === scx).map((client) => `${chip(client.number)}client ${client.number}`);
   const isMade = read(field) === read(`s${scx}.new`);
   return `<li>${chip(owner?.number ?? 0)}<b>s${scx}</b>, client ${owner?.number}'s ${escape(callOf(scx)?.text)}: covers ${covers}; retires ${retired.map((node) => `n${node}`).join(", ") || "none"}; ${isMade ? "has put" : "is to put"} n${read(`s${scx}.new`)} into ${field}. ${helpers.length ? `Helped by ${helpers.join(", ")}.` : '<span class="dim">Nobody helps.</span>'}</li>`;
 }
