@@ -27,10 +27,8 @@ pub(crate) fn script_of(
         Err(TextFault::Bad { row, cause: _ }) => row,
         Err(_) => return Err(Complaint::NoMemory),
     };
-    let passes = row_of(alloc, source, 1)?
-        .get(1)
-        .and_then(number_of::<u128>)
-        .unwrap_or(0);
+    let first = row_of(alloc, source, 1)?;
+    let passes = number_of::<u128>(first.get(1).unwrap_or("")).unwrap_or(0);
     let found = row_of(alloc, source, row)?;
     let command = found.get(1).unwrap_or("");
     let fields = script_fields(row, command, mode, passes);
