@@ -42,7 +42,8 @@ function planOf(scx) {
   const plan = number(`s${scx}.plan`);
   const nodes = Array.from({ length: plan & 7 }, (_, at) => number(`s${scx}.v${at}`));
   const side = (plan >> 9) & 1 ? "right" : "left";
-  return { nodes, retired: nodes.filter((_, at) => (plan >> (3 + at)) & 1), field: `n${nodes[(plan >> 7) & 3]}.${side}` };
+  const retired = nodes.filter((_, at) => (plan >> (3 + at)) & 1);
+  return { nodes, retired, field: `n${nodes[(plan >> 7) & 3]}.${side}` };
 }
 
 // The nodes of a fresh subtree that no entry has put in before.
@@ -91,7 +92,8 @@ function addEntry([, place, , scx, client, call]) {
   const turn = turns.at(-1);
   if (!turn) return;
   const record = Number(scx.slice(1));
-  const entry = { place, turn: turn.place, call: clients[client]?.calls[call], word: turn.word, old: Number(turn.before) };
+  const entry = { place, turn: turn.place, call: clients[client]?.calls[call], word: turn.word };
+  entry.old = Number(turn.before);
   entry.fresh = freshFrom(Number(turn.after));
   entry.retired = new Set(planOf(record).retired);
   if (entry.call) entry.call.entry = entry;
@@ -190,7 +192,9 @@ function meaning(word, held) {
   if (INFOS.test(word)) return `s${held}`;
   if (word.endsWith(".state")) return STATES[held] ?? held;
   if (/\.(marked|allfrozen)$/.test(word)) return YES[held] ?? held;
-  if (word.endsWith(".head")) return `${held & 4 ? "leaf" : "fork"} of class ${held & 3} on level ${held >> 3}`;
+  if (word.endsWith(".head")) {
+    return `${held & 4 ? "leaf" : "fork"} of class ${held & 3} on level ${held >> 3}`;
+  }
   return held;
 }
 
@@ -223,29 +227,46 @@ const nodeOf = (word) => word.split(".")[0];
 function sentence(turn) {
   const who = `client ${turn.client.number}`;
   if (turn.kind === "idle") {
-    return turn.call ? `${who} answers ${turn.call.text} without a step: ${turn.call.answer}` : `${who} has no call left`;
+    if (!turn.call) return `${who} has no call left`;
+    return `${who} answers ${turn.call.text} without a step: ${turn.call.answer}`;
   }
   const action = ACTIONS[turn.kind]?.(turn) ?? `${turn.kind} ${turn.word}`;
   const owner = ownerOf(turn.scx);
   const helps = owner && owner !== turn.client;
   const begins = turn.begins ? `${who} begins ${turn.call.text}: ` : "";
-  let text = helps
-    ? `${begins || who} helps s${turn.scx}: ${action} for client ${owner.number}'s ${callOf(turn.scx)?.text ?? "call"}`
-    : `${begins || `${who}, ${turn.call.text}: `}${action}`;
+  let text = `${begins || `${who}, ${turn.call.text}: `}${action}`;
+  if (helps) {
+    const call = callOf(turn.scx)?.text ?? "call";
+    text = `${begins || who} helps s${turn.scx}: ${action} for client ${owner.number}'s ${call}`;
+  }
   if (turn.entry) text += `; this is entry ${turn.entry.place} of the log`;
-  if (turn.ends) text += `; it answers ${turn.call.answer}${turn.call.moment ? `, as of turn ${turn.call.moment}` : ""}`;
+  if (turn.ends) text += `; it answers ${turn.call.answer}`;
+  if (turn.ends && turn.call.moment) text += `, as of turn ${turn.call.moment}`;
   return text;
 }
 
+// Elements of SVG.
+const rect = (x, y, across, high, kind, inner = "") =>
+  `<rect x="${x}" y="${y}" width="${across}" height="${high}" rx="4" class="${kind}">${inner}</rect>`;
+const label = (x, y, kind, text) => `<text x="${x}" y="${y}" class="${kind}">${text}</text>`;
+const sign = (name, x, y, kind) => `<use href="#${name}" x="${x}" y="${y}" class="${kind}"/>`;
+const svg = (across, high, name, inner, scale = 1) =>
+  `<svg width="${scale * across}" height="${scale * high}" viewBox="0 0 ${across} ${high}"` +
+  ` role="img" aria-label="${name}">${inner}</svg>`;
+
 const escape = (text) => String(text).replace(/[&<>"]/g, (letter) => `&#${letter.charCodeAt(0)};`);
 const colourOf = (client) => `c${client % 7}`;
-const chip = (client) => `<svg class="chip" viewBox="0 0 10 10" aria-hidden="true"><rect width="10" height="10" rx="2" class="${colourOf(client)}"/></svg>`;
+const chip = (client) =>
+  `<svg class="chip" viewBox="0 0 10 10" aria-hidden="true">${rect(0, 0, 10, 10, colourOf(client))}</svg>`;
 const short = (digits) => (digits.length < 7 ? digits : `${digits.slice(0, 2)}…${digits.slice(-3)}`);
 
 // ---- The lanes ----
 
 // Where each turn begins from left to right, and where the last one ends.
-const widthOf = ({ kind, word }) => (SIGNS.has(kind) ? Math.max(18, word.startsWith("n") ? 5 * nodeOf(word).length + 4 : 0) : kind === "idle" ? 10 : 4);
+function widthOf({ kind, word }) {
+  if (!SIGNS.has(kind)) return kind === "idle" ? 10 : 4;
+  return word.startsWith("n") ? Math.max(18, 5 * nodeOf(word).length + 4) : 18;
+}
 const spots = new Float64Array(lastTurn + 1);
 turns.forEach((turn, at) => (spots[at + 1] = spots[at] + widthOf(turn)));
 const [LABELS, BOX, BELOW] = [16, 22, 30];
@@ -265,7 +286,8 @@ function drawLanes() {
   const cursor = now === 0 ? 0 : (spots[now - 1] + spots[now]) / 2;
   shift = Math.max(0, Math.min(cursor - room / 2, spots[lastTurn] - room));
   if (shift < drawnFrom || drawnTo < shift + room) drawPart(Math.max(0, shift - wide), shift + 2 * wide);
-  const [moving, labels, veil, frame] = ["moving", "labels", "veil", "cursor"].map((name) => lanes.querySelector(`.${name}`));
+  const parts = ["moving", "labels", "veil", "cursor"];
+  const [moving, labels, veil, frame] = parts.map((name) => lanes.querySelector(`.${name}`));
   moving.setAttribute("transform", `translate(${left - shift} 0)`);
   const [begin, end] = now === 0 ? [-9, -9] : [spots[now - 1], spots[now]];
   veil.setAttribute("x", Math.max(0, end) + 1);
@@ -278,20 +300,22 @@ function drawLanes() {
 function drawPart(from, to) {
   [drawnFrom, drawnTo] = [from, to];
   const [first, last] = [Math.max(1, turnAt(from)), turnAt(to)];
-  const [bands, names, turnSigns] = [[], [], []];
+  const [bands, names, calls] = [[], [], []];
   callers.forEach((client, lane) => {
     const top = topOf(lane);
-    const band = `y="${top}" height="${LABELS + BOX + BELOW - 2}" class="lane"`;
-    bands.push(`<rect ${band} width="100%"/>`);
-    turnSigns.push(drawCalls(client, top + LABELS, first, last), drawTurns(client, top + LABELS, first, last));
-    names.push(`<rect ${band} width="${left - 3}"/><rect x="4" y="${top + LABELS}" width="6" height="${BOX}" rx="3" class="${colourOf(client.number)}"/>`);
-    names.push(`<text x="13" y="${top + LABELS + 15}">${wide < 600 ? "c" : "client "}${client.number}</text>`);
+    const tall = LABELS + BOX + BELOW - 2;
+    bands.push(rect(0, top, wide, tall, "lane"));
+    calls.push(drawCalls(client, top + LABELS, first, last), drawTurns(client, top + LABELS, first, last));
+    names.push(rect(-4, top, left + 1, tall, "lane"));
+    names.push(rect(4, top + LABELS, 6, BOX, colourOf(client.number)));
+    names.push(label(13, top + LABELS + 15, "", `${wide < 600 ? "c" : "client "}${client.number}`));
   });
-  names.push(`<rect width="${left - 3}" height="18" class="page"/><rect y="${foot}" width="${left - 3}" height="20" class="page"/>`);
-  const veil = `<rect width="${spots[lastTurn] + wide}" height="${foot + 20}" class="page veil"/>`;
-  const cursor = `<rect y="15" height="${foot - 14}" rx="3" class="cursor"/>`;
-  const moving = `${drawNumbers(first, last)}${turnSigns.join("")}${drawMoments(first, last)}<g class="labels"></g>${veil}${cursor}`;
-  lanes.innerHTML = `<svg width="${wide}" height="${foot + 20}" role="img" aria-label="Lanes">${bands.join("")}<g class="moving">${moving}</g>${names.join("")}</svg>`;
+  names.push(rect(-4, 0, left + 1, 18, "page"), rect(-4, foot, left + 1, 20, "page"));
+  const veil = rect(0, 0, spots[lastTurn] + wide, foot + 20, "page veil");
+  const cursor = rect(0, 15, 0, foot - 14, "cursor");
+  const moving = [drawNumbers(first, last), ...calls, drawMoments(first, last), '<g class="labels"></g>', veil, cursor];
+  const all = `${bands.join("")}<g class="moving">${moving.join("")}</g>${names.join("")}`;
+  lanes.innerHTML = svg(wide, foot + 20, "Lanes", all);
 }
 
 function drawNumbers(first, last) {
@@ -301,7 +325,7 @@ function drawNumbers(first, last) {
     const x = (spots[turn - 1] + spots[turn]) / 2;
     text += `<path class="tick" d="M${x} 12v4"/>`;
     if (x < free) continue;
-    text += `<text x="${x}" y="10" class="small quiet middle">${turn}</text>`;
+    text += label(x, 10, "small quiet middle", turn);
     free = x + 36;
   }
   return text;
@@ -311,7 +335,8 @@ function drawNumbers(first, last) {
 function drawCalls(client, top, first, last) {
   return client.calls.filter((call) => call.begin <= last && first <= call.end).map((call) => {
     const [x, right] = [spots[call.begin - 1], spots[call.end]];
-    return `<rect x="${x}" y="${top}" width="${right - x}" height="${BOX}" rx="4" class="${colourOf(client.number)} call${call.answered ? "" : " open"}"><title>${escape(labelOf(call))}</title></rect>`;
+    const kind = `${colourOf(client.number)} call${call.answered ? "" : " open"}`;
+    return rect(x, top, right - x, BOX, kind, `<title>${escape(labelOf(call))}</title>`);
   }).join("");
 }
 
@@ -324,8 +349,10 @@ function drawLabels(client, y, room) {
     const next = client.calls[at + 1]?.begin;
     const x = Math.max(spots[call.begin - 1], shift) + 3;
     const letters = Math.floor(((next ? spots[next - 1] : shift + room) - x) / 6.1);
-    const label = labelOf(call);
-    return letters < 3 ? "" : `<text x="${x}" y="${y}" class="${colourOf(client.number)}">${escape(label.length > letters ? `${label.slice(0, letters - 1)}…` : label)}</text>`;
+    if (letters < 3) return "";
+    const text = labelOf(call);
+    const part = text.length > letters ? `${text.slice(0, letters - 1)}…` : text;
+    return label(x, y, colourOf(client.number), escape(part));
   }).join("");
 }
 
@@ -337,7 +364,7 @@ function drawTurns(client, top, first, last) {
     if (turn.client !== client) continue;
     const [x, y] = [(spots[at - 1] + spots[at]) / 2, top + BOX / 2];
     if (turn.kind === "fill") fills += `M${x} ${y - 7}v14`;
-    else if (turn.kind === "idle") text += `<use href="#idle" x="${x}" y="${y}" class="quiet"/>`;
+    else if (turn.kind === "idle") text += sign("idle", x, y, "quiet");
     else if (SIGNS.has(turn.kind)) text += drawSign(turn, x, y);
     else loads += `M${x} ${y - 4}v8`;
   }
@@ -349,10 +376,10 @@ function drawSign(turn, x, y) {
   const colour = colourOf(owner.number);
   const helps = owner !== turn.client;
   const wide = spots[turn.place] - spots[turn.place - 1];
-  let text = helps ? `<rect x="${x - wide / 2}" y="${y - BOX / 2}" width="${wide}" height="${BOX}" class="${colour} help"/>` : "";
-  text += `<use href="#${turn.kind}" x="${x}" y="${y}" class="${colour}${turn.changes ? "" : " hollow"}"/>`;
-  if (turn.word.startsWith("n") && turn.kind !== "update") text += `<text x="${x}" y="${y + 20}" class="small quiet middle">${nodeOf(turn.word)}</text>`;
-  if (helps) text += `<text x="${x}" y="${y + 29}" class="small middle ${colour}">c${owner.number}</text>`;
+  let text = helps ? rect(x - wide / 2, y - BOX / 2, wide, BOX, `${colour} help`) : "";
+  text += sign(turn.kind, x, y, `${colour}${turn.changes ? "" : " hollow"}`);
+  if (turn.kind === "freeze" || turn.kind === "mark") text += label(x, y + 20, "small quiet middle", nodeOf(turn.word));
+  if (helps) text += label(x, y + 29, `small middle ${colour}`, `c${owner.number}`);
   return text;
 }
 
@@ -365,9 +392,10 @@ function drawMoments(first, last) {
     const lane = callers.findIndex((client) => client.number === call?.client);
     if (lane < 0) continue;
     const x = (spots[turn - 1] + spots[turn]) / 2;
-    text += `<path class="${colourOf(call.client)} dots" d="M${x} ${topOf(lane) + LABELS + BOX}V${foot + 4}"/>`;
-    text += `<use href="#moment" x="${x}" y="${foot + 7}" class="${colourOf(call.client)}${reads ? " hollow" : ""}"/>`;
-    text += `<text x="${x + 5}" y="${foot + 11}" class="small">${at + 1}</text>`;
+    const colour = colourOf(call.client);
+    text += `<path class="${colour} dots" d="M${x} ${topOf(lane) + LABELS + BOX}V${foot + 4}"/>`;
+    text += sign("moment", x, foot + 7, `${colour}${reads ? " hollow" : ""}`);
+    text += label(x + 5, foot + 11, "small", at + 1);
   }
   return text;
 }
@@ -391,7 +419,8 @@ function walk() {
 }
 
 function pairsOf(node) {
-  return ["", "1", "2", "3"].slice(0, 1 + number(`n${node}.more`)).map((slot) => ({ key: read(`n${node}.key${slot}`), value: valueOf(node, slot) }));
+  const slots = ["", "1", "2", "3"].slice(0, 1 + number(`n${node}.more`));
+  return slots.map((slot) => ({ key: read(`n${node}.key${slot}`), value: valueOf(node, slot) }));
 }
 
 // A value is the low half and 2^64 times the high one.
@@ -419,7 +448,8 @@ function layOut(reached) {
       const node = number(word);
       if (!ghost || (ghost.retired.has(node) && !reached.has(node))) points.push(place(node, level, ghost));
       const taken = ghost ? undefined : ghosts.get(word);
-      if (taken?.retired.has(taken.node) && !reached.has(taken.node)) points.push(place(taken.node, level, taken));
+      const isGone = taken?.retired.has(taken.node) && !reached.has(taken.node);
+      if (isGone) points.push(place(taken.node, level, taken));
     };
     grow("left");
     x = Math.max(x, (lastOn[above.level] ?? -42) + 42);
@@ -476,21 +506,23 @@ function drawTree() {
     const tall = headOf(spot.node).leaf ? 4 + 20 * lines.length : 16;
     const top = headOf(spot.node).leaf ? y - 12 : y - 8;
     [high, across] = [Math.max(high, top + tall), Math.max(across, x)];
-    text += `<g data-name="n${spot.node}"${spot.ghost ? ` class="gone${spot.ghost.age || ""}"` : ""}>${ring(x - 21, top - 3, 42, tall + 6)}`;
-    text += `<rect x="${x - 18}" y="${top}" width="36" height="${tall}" rx="4" class="page"/><rect x="${x - 18}" y="${top}" width="36" height="${tall}" rx="4" class="${classOf(spot.node, fresh?.has(spot.node))}"/>`;
-    text += `<text x="${x}" y="${top - 3}" class="small quiet middle">n${spot.node}</text>`;
-    lines.forEach(([key, value], at) => {
-      text += `<text x="${x}" y="${y + 20 * at + (value === undefined ? 3 : -2)}" class="small middle">${key}</text>`;
-      if (value !== undefined) text += `<text x="${x}" y="${y + 20 * at + 8}" class="small quiet middle">${value}</text>`;
+    const gone = spot.ghost ? `gone${spot.ghost.age || ""}` : "";
+    const name = label(x, top - 3, "small quiet middle", `n${spot.node}`);
+    const boxes = ["page", classOf(spot.node, fresh?.has(spot.node))].map((kind) => rect(x - 18, top, 36, tall, kind));
+    const pairs = lines.map(([key, value], at) => {
+      if (value === undefined) return label(x, y + 3, "small middle", key);
+      return label(x, y + 20 * at - 2, "small middle", key) + label(x, y + 20 * at + 8, "small quiet middle", value);
     });
-    text += "</g>";
+    const inner = [ring(x - 21, top - 3, 42, tall + 6), ...boxes, name, ...pairs].join("");
+    text += `<g data-name="n${spot.node}" class="${gone}">${inner}</g>`;
   }
   [across, high] = [across + 30, high + 8];
   const scale = Math.max(1, Math.min(1.6, shapeWide / across));
   spotOf.clear();
   for (const spot of nodes) spotOf.set(`n${spot.node}`, place(spot).map((along) => scale * along));
-  put(shape, `<svg width="${scale * across}" height="${scale * high}" viewBox="0 0 ${across} ${high}" role="img" aria-label="The tree">${text}</svg>`);
-  put(pairList, pairs.map(({ key, value }) => `<li data-key="${key}" data-value="${value}">${key} → ${value}</li>`).join("") || "no pair");
+  put(shape, svg(across, high, "The tree", text, scale));
+  const items = pairs.map(({ key, value }) => `<li>${key} → ${value}</li>`);
+  put(pairList, items.join("") || "no pair");
 }
 
 // What is written into a node: each pair of a leaf, the key of a fork, or its class.
@@ -503,7 +535,7 @@ function linesOf(node) {
 
 const stepName = () => (now > 0 && turns[now - 1].kind !== "idle" ? nodeOf(turns[now - 1].word) : null);
 const pointedName = () => pinned ?? stepName();
-const ring = (x, y, across, high) => `<rect x="${x}" y="${y}" width="${across}" height="${high}" rx="6" class="ring"/>`;
+const ring = (x, y, across, high) => rect(x, y, across, high, "ring");
 
 // Rings the node that is pointed at, and brings it into sight.
 function drawRing() {
@@ -514,13 +546,16 @@ function drawRing() {
   const spot = name && spotOf.get(name);
   if (!spot) return;
   const [x, y] = spot;
+  const tall = shape.clientHeight;
   if (x < shape.scrollLeft || shape.scrollLeft + shapeWide < x + 20) shape.scrollLeft = x - shapeWide / 2;
-  if (y < shape.scrollTop || shape.scrollTop + shape.clientHeight < y + 20) shape.scrollTop = y - shape.clientHeight / 2;
+  if (y < shape.scrollTop || shape.scrollTop + tall < y + 20) shape.scrollTop = y - tall / 2;
 }
 
 // ---- Cells ----
 
-const cells = [...new Set(rows.filter((row) => row[0] === "call").flatMap((row) => (isTree ? [] : row[4].split(" ").map(Number))))].sort((a, b) => a - b);
+const callRows = rows.filter((row) => row[0] === "call");
+const named = isTree ? [] : callRows.flatMap((row) => row[4].split(" ").map(Number));
+const cells = [...new Set(named)].sort((one, other) => one - other);
 
 function drawCells() {
   drawn = cells;
@@ -530,19 +565,22 @@ function drawCells() {
     const fields = ["left", "right"].map((side, right) => {
       const held = read(`n${cell}.${side}`);
       const isNew = now > 0 && turns[now - 1].entry?.word === `n${cell}.${side}`;
-      const box = `x="${x + 62 * right}" y="${y}" width="62" height="18" rx="4"`;
-      return `<rect ${box} class="page"/><rect ${box} class="${classOf(cell, isNew)}"/><text x="${x + 62 * right + 31}" y="${y + 12}" class="small middle">${held === "0" ? "0" : `n${held}: ${short(read(`n${held}.value`))}`}</text>`;
+      const boxes = ["page", classOf(cell, isNew)].map((kind) => rect(x + 62 * right, y, 62, 18, kind));
+      const text = held === "0" ? "0" : `n${held}: ${short(read(`n${held}.value`))}`;
+      return boxes.join("") + label(x + 62 * right + 31, y + 12, "small middle", text);
     });
     const retired = read(`n${cell}.marked`) === "1" ? " final" : "";
-    return `<g data-name="n${cell}">${ring(x - 3, y - 3, 130, 24)}<text x="${x}" y="${y - 5}" class="small quiet">n${cell}${retired}</text>${fields.join("")}</g>`;
+    const name = label(x, y - 5, "small quiet", `n${cell}${retired}`);
+    return `<g data-name="n${cell}">${ring(x - 3, y - 3, 130, 24)}${name}${fields.join("")}</g>`;
   });
-  put(shape, `<svg width="${6 + 140 * across}" height="${20 + 52 * Math.ceil(cells.length / across)}" role="img" aria-label="The cells">${text.join("")}</svg>`);
+  put(shape, svg(6 + 140 * across, 20 + 52 * Math.ceil(cells.length / across), "The cells", text.join("")));
 }
 
 // ---- What stands beside ----
 
-const NODE_WORDS = ["head", "key", "value", "high", "more", "key1", "value1", "high1", "key2", "value2", "high2", "key3", "value3", "high3", "left", "right", "info", "marked"];
-const SCX_WORDS = ["state", "allfrozen", "plan", "new", "old", "v0", "v1", "v2", "v3", "i0", "i1", "i2", "i3", "call"];
+const PAIR_WORDS = ["", "1", "2", "3"].flatMap((slot) => [`key${slot}`, `value${slot}`, `high${slot}`]);
+const NODE_WORDS = ["head", "more", ...PAIR_WORDS, "left", "right", "info", "marked"];
+const SCX_WORDS = "state allfrozen plan new old v0 v1 v2 v3 i0 i1 i2 i3 call".split(" ");
 
 // Words that say nothing: the other pairs of a leaf, the pairs of a fork, the fields of a leaf.
 function isSaid(name, part) {
@@ -550,7 +588,10 @@ function isSaid(name, part) {
   if (name.startsWith("s")) return !/^[vi]\d/.test(part) || slot < (number(`${name}.plan`) & 7);
   if (!isTree) return /^(value|left|right|info|marked)$/.test(part);
   const { leaf, class: order } = headOf(Number(name.slice(1)));
-  if (/^(key|value|high)/.test(part)) return (leaf || part === "key") && slot <= number(`${name}.more`) && (order === 0 || read(`${name}.${part}`) !== "0");
+  if (PAIR_WORDS.includes(part)) {
+    const isThere = (leaf || part === "key") && slot <= number(`${name}.more`);
+    return isThere && (order === 0 || read(`${name}.${part}`) !== "0");
+  }
   return part === "more" ? leaf : leaf ? part !== "left" && part !== "right" : true;
 }
 
@@ -572,14 +613,17 @@ function drawWords() {
 
 function planText(scx, held) {
   const { nodes, retired, field } = planOf(scx);
-  return held === "0" ? "0" : `${held}: ${nodes.length} nodes, retires ${retired.map((node) => `n${node}`).join(" ") || "none"}, changes ${field}`;
+  return held === "0" ? "0" : `${held}: ${nodes.length} nodes, retires ${listOf(retired)}, changes ${field}`;
 }
+
+const listOf = (nodes) => nodes.map((node) => `n${node}`).join(", ") || "none";
 
 // The SCX-records that began and have not ended, each with the turns from and to which it was in progress.
 const spans = new Map();
 for (const turn of turns) {
-  if (turn.kind === "freeze" && turn.changes && !spans.has(turn.scx)) spans.set(turn.scx, { scx: turn.scx, from: turn.place, to: Infinity });
-  if ((turn.kind === "commit" || turn.kind === "abort") && turn.changes && spans.has(turn.scx)) spans.get(turn.scx).to = turn.place;
+  const { scx, place, kind, changes } = turn;
+  if (kind === "freeze" && changes && !spans.has(scx)) spans.set(scx, { scx, from: place, to: Infinity });
+  if ((kind === "commit" || kind === "abort") && changes && spans.has(scx)) spans.get(scx).to = place;
 }
 const spanList = [...spans.values()];
 
@@ -594,10 +638,14 @@ function drawGoing() {
 function goingText(scx) {
   const owner = ownerOf(scx);
   const { nodes, retired, field } = planOf(scx);
-  const covers = nodes.map((node) => `n${node}${number(`n${node}.info`) === scx ? " (frozen)" : ""}`).join(", ");
-  const helpers = clients.filter((client) => client !== owner && client.works.at(-1) === scx).map((client) => `${chip(client.number)}client ${client.number}`);
-  const isMade = read(field) === read(`s${scx}.new`);
-  return `<li>${chip(owner?.number ?? 0)}<b>s${scx}</b>, client ${owner?.number}'s ${escape(callOf(scx)?.text)}: covers ${covers}; retires ${retired.map((node) => `n${node}`).join(", ") || "none"}; ${isMade ? "has put" : "is to put"} n${read(`s${scx}.new`)} into ${field}. ${helpers.length ? `Helped by ${helpers.join(", ")}.` : '<span class="dim">Nobody helps.</span>'}</li>`;
+  const isFrozen = (node) => number(`n${node}.info`) === scx;
+  const covers = nodes.map((node) => `n${node}${isFrozen(node) ? " (frozen)" : ""}`).join(", ");
+  const puts = read(field) === read(`s${scx}.new`) ? "has put" : "is to put";
+  const helpers = clients.filter((client) => client !== owner && client.works.at(-1) === scx);
+  const names = helpers.map((client) => `${chip(client.number)}client ${client.number}`).join(", ");
+  const whose = `${chip(owner?.number ?? 0)}<b>s${scx}</b>, client ${owner?.number}'s ${escape(callOf(scx)?.text)}`;
+  const plan = `covers ${covers}; retires ${listOf(retired)}; ${puts} n${read(`s${scx}.new`)} into ${field}`;
+  return `<li>${whose}: ${plan}. ${names ? `Helped by ${names}.` : '<span class="dim">Nobody helps.</span>'}</li>`;
 }
 
 const MOST_LISTED = 100;
@@ -607,7 +655,8 @@ function drawOrder() {
   const from = Math.max(0, count - MOST_LISTED);
   const items = moments.slice(from, count).map(({ turn, call }, at) => {
     const answer = call?.answered <= now ? call.answer : "…";
-    return `<li${turn === now ? ' class="now"' : ""}>${from + at + 1}. ${chip(call?.client ?? 0)}${escape(call?.text)} → ${escape(answer)} <span class="dim">turn ${turn}</span></li>`;
+    const text = `${chip(call?.client ?? 0)}${escape(call?.text)} → ${escape(answer)}`;
+    return `<li class="${turn === now ? "now" : ""}">${from + at + 1}. ${text} <span class="dim">turn ${turn}</span></li>`;
   });
   if (from > 0) items.unshift(`<li class="dim">${from} before these</li>`);
   if (put(order, items.join("") || '<li class="dim">none</li>')) order.scrollTop = order.scrollHeight;
@@ -657,7 +706,8 @@ function draw() {
   drawWords();
   drawGoing();
   drawOrder();
-  put(say, `<b>${now}</b> of ${lastTurn}: ${escape(now === 0 ? "before the first turn" : sentence(turns[now - 1]))}.`);
+  const text = now === 0 ? "before the first turn" : sentence(turns[now - 1]);
+  put(say, `<b>${now}</b> of ${lastTurn}: ${escape(text)}.`);
   slider.value = now;
   BUTTONS.forEach(([, , , direction], at) => {
     nav.children[at].disabled = direction < 0 ? now === 0 : now === lastTurn;
@@ -674,14 +724,16 @@ function pointNext(by) {
   point(`n${drawn[(at + by + drawn.length) % drawn.length]}`);
 }
 
+const endsTo = (turn) => countTo(answered, turn, (end) => end);
+
 // A button: what stands on it, its key, what it does, the direction, and its name.
 const BUTTONS = [
   ["|◀", "Home", () => go(0), -1, "to the start"],
   ["◀", "ArrowLeft", () => go(now - 1), -1, "a step back"],
   ["▶", "ArrowRight", () => go(now + 1), 1, "a step forward"],
   ["▶|", "End", () => go(lastTurn), 1, "to the end"],
-  ["◀ call", "ArrowUp", () => go(answered[countTo(answered, now - 1, (turn) => turn) - 1] ?? 0), -1, "to the end of the call before"],
-  ["call ▶", "ArrowDown", () => go(answered[countTo(answered, now, (turn) => turn)] ?? lastTurn), 1, "to the end of the next call"],
+  ["◀ call", "ArrowUp", () => go(answered[endsTo(now - 1) - 1] ?? 0), -1, "to the end of the call before"],
+  ["call ▶", "ArrowDown", () => go(answered[endsTo(now)] ?? lastTurn), 1, "to the end of the next call"],
   ["freeze", "f", () => go(find(1, ofKind("freeze"))), 1, "to the next freeze"],
   ["update", "u", () => go(find(1, ofKind("update"))), 1, "to the next update"],
   ["abort", "a", () => go(find(1, ofKind("abort"))), 1, "to the next abort"],
@@ -712,7 +764,9 @@ document.addEventListener("keydown", (event) => {
 });
 slider.max = lastTurn;
 slider.addEventListener("input", () => go(Number(slider.value)));
-lanes.addEventListener("click", (event) => go(turnAt(event.clientX - lanes.getBoundingClientRect().left - left + shift)));
+lanes.addEventListener("click", (event) => {
+  go(turnAt(event.clientX - lanes.getBoundingClientRect().left - left + shift));
+});
 const nameAt = (event) => event.target.closest("[data-name]")?.dataset.name;
 shape.addEventListener("click", (event) => point(nameAt(event) ?? null));
 shape.addEventListener("mouseover", (event) => nameAt(event) && point(nameAt(event)));
@@ -720,8 +774,13 @@ shape.addEventListener("mouseleave", () => point(null));
 addEventListener("resize", measure);
 addEventListener("hashchange", () => go(Number(location.hash.slice(1)) || 0));
 
-document.querySelector("h1").textContent =
-  `${isTree ? "tree" : "cells"} · clients: ${callers.length} · calls answered: ${answered.length} of ${rows.filter((row) => row[0] === "call").length} · turns: ${lastTurn} · updates: ${entries.length}`;
+document.querySelector("h1").textContent = [
+  isTree ? "tree" : "cells",
+  `clients: ${callers.length}`,
+  `calls answered: ${answered.length} of ${callRows.length}`,
+  `turns: ${lastTurn}`,
+  `updates: ${entries.length}`,
+].join(" · ");
 shapeTitle.textContent = isTree ? "The tree, as the words spell it" : "The cells";
 document.getElementById("pairs").hidden = !isTree;
 measure();
