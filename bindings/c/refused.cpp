@@ -1,6 +1,7 @@
-// Each allocation of a story is refused in turn, alone and then with all behind it: the call answers
+// Each allocation of a story is refused in turn, alone and then with all after it: the call answers
 // NO_MEMORY, or does without, as a range may that asks for room beforehand; nothing leaks, and the
-// dictionary is as it was. The heap here counts its blocks.
+// dictionary is as it was.
+#include "refusing_heap.hpp"
 #include "regnubas.h"
 
 #include <cstdio>
@@ -8,37 +9,6 @@
 
 #define CHECK(what) \
     do { if (!(what)) { std::fprintf(stderr, "%s:%d: %s (refusing %ld)\n", __FILE__, __LINE__, #what, refuse); std::abort(); } } while (0)
-
-static long refuse = 0, asked = 0, blocks = 0; // the refuse-th is refused; 0: none
-static bool onwards = false;                   // and those behind it
-
-static bool refused() {
-    asked++;
-    return refuse != 0 && (onwards ? asked >= refuse : asked == refuse);
-}
-
-struct tried {
-    uint64_t ok;
-    void *p;
-};
-
-extern "C" tried rattle_alloc(size_t n, size_t a) {
-    static char nowhere;
-    if (refused()) return {0, &nowhere};
-    blocks++;
-    return {1, std::malloc(n != 0 ? n : a)};
-}
-
-extern "C" tried rattle_realloc(void *p, size_t, size_t n, size_t a) {
-    static char nowhere;
-    if (refused()) return {0, &nowhere};
-    return {1, std::realloc(p, n != 0 ? n : a)};
-}
-
-extern "C" void rattle_dealloc(void *p) {
-    blocks--;
-    std::free(p);
-}
 
 // Whether all was done. All passes end it, or the last of them.
 static bool story(bool by_all) {

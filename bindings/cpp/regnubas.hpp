@@ -4,7 +4,7 @@
 // A call that is refused has changed nothing, but a `close` for want of memory ends the dictionary. It
 // throws `regnubas::refused`, which says why; the call with `try_` before its name answers a
 // `regnubas::result` in place of that. Where C++ itself has no memory, any call that answers a vector
-// throws `std::bad_alloc`.
+// throws `std::bad_alloc`. Compiled without exceptions, the program is aborted in place of each.
 #ifndef REGNUBAS_HPP
 #define REGNUBAS_HPP
 
@@ -14,6 +14,8 @@
 #include <array>
 #include <cstddef>
 #include <cstdint>
+#include <cstdlib>
+#include <iterator>
 #include <limits>
 #include <optional>
 #include <stdexcept>
@@ -70,6 +72,26 @@ private:
     status why_;
 };
 
+[[noreturn]] inline void refuse(status why) {
+#ifdef __cpp_exceptions
+    throw refused(why);
+#else
+    static_cast<void>(why);
+    std::abort();
+#endif
+}
+
+// Limits for so many changes by each pass, of which `new_keys` give a value to a key that has none.
+// Twice what they take is put by, since a try that is lost to another thread takes as much; but at most
+// 32,768. If they take more than that by themselves, `make` refuses it.
+inline regnubas_limits limits_for(std::uint32_t changes, std::uint32_t new_keys) {
+    const auto with_lost_tries = [](std::uint64_t taken) {
+        const std::uint64_t all = std::max(taken, std::min<std::uint64_t>(2 * taken, 32768));
+        return static_cast<std::uint32_t>(std::min<std::uint64_t>(all, std::numeric_limits<std::uint32_t>::max()));
+    };
+    return {with_lost_tries(changes + 2 * std::uint64_t{new_keys}), with_lost_tries(changes), 100};
+}
+
 // What a call tells, or why it was refused.
 template <typename T> class result {
 public:
@@ -81,7 +103,7 @@ public:
 
     // What it tells; throws `refused` where it tells nothing.
     T get() && {
-        if (!told_) throw refused(why_);
+        if (!told_) refuse(why_);
         return std::move(*told_);
     }
     const T &operator*() const noexcept { return *told_; }
@@ -254,12 +276,27 @@ public:
 
     class iterator {
     public:
+        using iterator_category = std::input_iterator_tag;
+        using value_type = pair;
+        using difference_type = std::ptrdiff_t;
+        using pointer = const pair *;
+        using reference = const pair &;
+
         explicit iterator(between *in = nullptr) : in_(in) {}
         const pair &operator*() const { return in_->chunk_[in_->at_]; }
         const pair *operator->() const { return &**this; }
         iterator &operator++() {
             in_->step();
             return *this;
+        }
+        struct kept {
+            pair found;
+            const pair &operator*() const { return found; }
+        };
+        kept operator++(int) {
+            kept old = {**this};
+            ++*this;
+            return old;
         }
         bool operator==(const iterator &other) const { return over() == other.over(); }
         bool operator!=(const iterator &other) const { return !(*this == other); }

@@ -2,6 +2,7 @@
 // tried, and ends with status 0.
 #include "regnubas.hpp"
 
+#include <algorithm>
 #include <cstdio>
 #include <cstdlib>
 #include <map>
@@ -71,7 +72,22 @@ void pairs_are_gone_through() {
         for (const auto &[key, found] : passes[0].items(low, high)) CHECK(seen.emplace(key, found).second);
         for (const auto &[key, found] : kept) if (low <= key && key <= high) wanted.emplace(key, found);
         CHECK(seen == wanted);
+        auto items = passes[0].items(low, high);
+        CHECK(std::equal(items.begin(), items.end(), wanted.begin(), wanted.end(), [](const auto &one, const auto &other) {
+            return one.first == other.first && one.second == other.second;
+        }));
     }
+}
+
+void limits_are_reckoned() {
+    struct { std::uint32_t changes, new_keys, nodes, scx; } rows[] = {
+        {0, 0, 0, 0}, {100, 10, 240, 200}, {20000, 10, 32768, 32768}, {32768, 0, 32768, 32768}, {~0u, ~0u, ~0u, ~0u},
+    };
+    for (auto row : rows) {
+        const regnubas_limits limits = regnubas::limits_for(row.changes, row.new_keys);
+        CHECK(limits.nodes == row.nodes && limits.scx == row.scx);
+    }
+    CHECK(pass::try_make(1, regnubas::limits_for(32769, 0)).why() == status::limits);
 }
 
 void threads_share_it() {
@@ -96,6 +112,7 @@ int main() {
     each_call_answers();
     refusals_are_told();
     pairs_are_gone_through();
+    limits_are_reckoned();
     threads_share_it();
-    std::puts("each call, each refusal, ranges, four threads");
+    std::puts("each call, each refusal, ranges, limits, four threads");
 }

@@ -1,7 +1,15 @@
-"""Four threads of Python on one dictionary, and what is refused."""
+"""The module beside a dict, four threads on one dictionary, and what is refused: by pytest, or as a
+program, which may be given names of tests."""
+import copy
+import doctest
+import pickle
+import random
+import sys
 import threading
 
 import regnubas
+import regnubas._pass
+from regnubas import again
 
 THREADS, KEYS, MOST, WIDEST = 4, 1000, 2**64 - 1, 2**128 - 1
 
@@ -9,14 +17,6 @@ THREADS, KEYS, MOST, WIDEST = 4, 1000, 2**64 - 1, 2**128 - 1
 def value_of(key):
     """The value that a key is given here: it has bits in both its words."""
     return (MOST - key) << 64 | key + 7
-
-
-def again(call, *arguments):
-    while True:
-        try:
-            return call(*arguments)
-        except regnubas.Contended:
-            pass
 
 
 def refused(fault, call, *arguments, **named):
@@ -49,7 +49,7 @@ def work(number, one, failures):
         failures.append(failure)
 
 
-def four_threads_and_a_close():
+def test_four_threads_and_a_close():
     passes = regnubas.make(THREADS, nodes=32768, scx=32768, tries=100)
     failures = []
     threads = [threading.Thread(target=work, args=(t, passes[t], failures)) for t in range(THREADS)]
@@ -68,11 +68,19 @@ def four_threads_and_a_close():
     assert passes[0].close() == left[1:-1]
 
 
-def what_is_refused():
+def test_what_is_refused():
     refused(regnubas.BadLimits, regnubas.make, 33, nodes=1, scx=1, tries=1)
     refused(OverflowError, regnubas.make, 1, nodes=2**32, scx=1, tries=1)
+    refused(regnubas.BadLimits, regnubas.make, 1, changes=40000)
+    for named in {}, {"nodes": 1}, {"changes": 1, "scx": 1}, {"nodes": 1, "scx": 1, "new_keys": 1}:
+        refused(TypeError, regnubas.make, 1, **named)
     [one] = regnubas.make(1, nodes=3, scx=1, tries=1)
     assert one.pop_first() is None and one.pop_last() is None and one.left() == (3, 1)
+    for call in one.get, one.pop, one.__contains__, one.__getitem__, one.successor, one.delete:
+        refused(OverflowError, call, 2**64)
+        refused(OverflowError, call, -1)
+        refused(TypeError, call, "5")
+        refused(TypeError, call, 5.0)
     refused(OverflowError, one.insert, 2**64, 1)
     for value in 2**128, -1:
         refused(OverflowError, one.insert, 1, value)
@@ -80,8 +88,128 @@ def what_is_refused():
         refused(OverflowError, one.replace_if, 1, 1, value)
     assert one.insert(MOST, WIDEST) is None and one.get(MOST) == WIDEST
     refused(regnubas.Full, one.delete, MOST)
+    for call in copy.copy, copy.deepcopy, pickle.dumps:
+        refused(TypeError, call, one)
+    one.leave()
+    refused(regnubas.NoPass, one.popitem)
 
 
-four_threads_and_a_close()
-what_is_refused()
-print("ok")
+def drawn_key():
+    key = random.randrange(40)
+    return key if key % 2 else MOST - key
+
+
+def both(one, mirror, call, *arguments):
+    """Asks both the same, and compares what they answer, or the exceptions that they raise."""
+    answers = []
+    for asked in one, mirror:
+        try:
+            answers.append(getattr(asked, call)(*arguments))
+        except KeyError:
+            answers.append(KeyError)
+    assert answers[0] == answers[1], (call, arguments, answers)
+
+
+def test_a_mapping():
+    random.seed(5)
+    [one] = regnubas.make(threads=1, changes=8000)
+    mirror = {}
+    for _ in range(4000):
+        key, value = drawn_key(), random.randrange(3) << 64 | random.randrange(3)
+        call = random.choice(
+            [
+                ("__setitem__", key, value),
+                ("__delitem__", key),
+                ("__getitem__", key),
+                ("__contains__", key),
+                ("get", key),
+                ("get", key, "none"),
+                ("setdefault", key, value),
+                ("pop", key),
+                ("pop", key, None),
+                ("update", {key: value, key ^ 1: value}),
+                ("__len__",),
+                ("__eq__", dict(mirror)),
+            ]
+        )
+        both(one, mirror, *call)
+        assert one.replace(key, value, 7) == (mirror.get(key) == value)
+        if mirror.get(key) == value:
+            mirror[key] = 7
+        assert bool(one) == bool(mirror)
+        assert list(one.items()) == sorted(mirror.items())
+    assert one.popitem() == max(mirror.items())
+    assert one.popitem(last=False) == min(mirror.items())
+    one.clear()
+    assert not one and len(one) == 0
+    refused(KeyError, one.popitem)
+    refused(KeyError, one.popitem, last=False)
+
+
+def test_going_through_pairs():
+    for count in 0, 1, 63, 64, 65, 128, 129, 500:
+        keys = random.sample(range(1000), count)
+        keys = [key if key % 2 else MOST - key for key in keys]
+        [one] = regnubas.make(threads=1, changes=count)
+        for key in keys:
+            one[key] = value_of(key)
+        keys.sort()
+        pairs = [(key, value_of(key)) for key in keys]
+        assert list(one) == list(one.keys()) == keys and len(one) == count
+        assert list(one.items()) == pairs and list(one.values()) == [value for _, value in pairs]
+        assert one.keys() == set(keys) and one.items() == set(pairs)
+        assert all(value in one.values() for _, value in pairs[:2]) and 1 not in one.values()
+        for low, high in (0, MOST), (100, 900), (MOST - 300, MOST), (MOST, MOST), (9, 5):
+            assert list(one.irange(low, high)) == [key for key in keys if low <= key <= high]
+        assert list(one.irange(500)) == [key for key in keys if key >= 500]
+
+
+def test_limits():
+    for changes, new_keys, nodes, scx in [
+        (0, None, 0, 0),
+        (100, None, 600, 200),
+        (100, 10, 240, 200),
+        (20000, 10, 32768, 32768),
+        (32748, 10, 32768, 32768),
+    ]:
+        [one] = regnubas.make(threads=1, changes=changes, new_keys=new_keys)
+        assert one.left() == (nodes, scx)
+
+
+def test_a_pass_leaves_after_its_with():
+    one, other = regnubas.make(threads=2, changes=9)
+    with one:
+        one[5] = 50
+        refused(regnubas.Shared, other.close)
+    refused(regnubas.NoPass, one.get, 5)
+    assert other.close() == [(5, 50)]
+
+
+def test_threads_may_share_a_pass():
+    """Eight threads of Python add up in one key, with two passes: four take turns on each."""
+    passes = regnubas.make(threads=2, changes=8000, new_keys=1)
+
+    def add(one):
+        for _ in range(500):
+            while not one.replace(1, seen := one[1], seen + 1):
+                pass
+
+    passes[0][1] = 2**64 - 5
+    threads = [threading.Thread(target=add, args=(passes[t % 2],)) for t in range(8)]
+    for thread in threads:
+        thread.start()
+    for thread in threads:
+        thread.join()
+    assert passes[1][1] == 2**64 - 5 + 4000
+
+
+def test_examples():
+    for module in regnubas, regnubas._pass:
+        failed, tried = doctest.testmod(module)
+        assert tried > 0 and failed == 0
+
+
+if __name__ == "__main__":
+    for name in sys.argv[1:] or [name for name in dir() if name.startswith("test_")]:
+        globals()[name]()
+        print("ok:", name)

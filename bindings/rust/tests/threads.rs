@@ -1,5 +1,5 @@
 //! Four threads on one dictionary.
-use regnubas::{make, CloseFault, Fault, Limits, Pass};
+use regnubas::{again, make, CloseFault, Fault, Limits, Pass};
 
 const THREADS: u64 = 4;
 const KEYS: u64 = 3000;
@@ -13,15 +13,6 @@ fn value_of(key: u64) -> u128 {
     u128::from(!key) << 64 | u128::from(key + 7)
 }
 
-fn again<T>(mut call: impl FnMut() -> Result<T, Fault>) -> Result<T, Fault> {
-    loop {
-        match call() {
-            Err(Fault::Contended) => {}
-            told => return told,
-        }
-    }
-}
-
 fn work(number: u64, mut pass: Pass) -> Pass {
     for i in 0..KEYS {
         let key = key_of(number, i);
@@ -33,15 +24,15 @@ fn work(number: u64, mut pass: Pass) -> Pass {
     for i in (0..KEYS).step_by(3) {
         let key = key_of(number, i);
         assert_eq!(again(|| pass.insert_new(key, 0)), Ok(Some(value_of(key))));
-        assert_eq!(again(|| pass.delete_if(key, 0)), Ok(Some(value_of(key))));
-        assert_eq!(again(|| pass.delete_if(key, value_of(key))), Ok(Some(value_of(key))));
+        assert_eq!(again(|| pass.remove_if(key, 0)), Ok(Some(value_of(key))));
+        assert_eq!(again(|| pass.remove_if(key, value_of(key))), Ok(Some(value_of(key))));
         assert_eq!(again(|| pass.insert_new(key, 0)), Ok(None));
-        assert_eq!(again(|| pass.delete(key)), Ok(Some(0)));
+        assert_eq!(again(|| pass.remove(key)), Ok(Some(0)));
         assert_eq!(pass.get(key), None);
         if let Some((next, _)) = again(|| pass.successor(key)).unwrap() {
             assert!(next > key);
         }
-        let pairs = again(|| pass.range(key, u64::MAX, 16)).unwrap();
+        let pairs = again(|| pass.snapshot(key.., 16)).unwrap();
         assert!(pairs.len() <= 16 && pairs.iter().all(|pair| pair.0 > key));
         assert!(pairs.windows(2).all(|two| two[0].0 < two[1].0));
     }
@@ -51,18 +42,27 @@ fn work(number: u64, mut pass: Pass) -> Pass {
 #[test]
 fn four_threads_and_a_close() {
     let passes = make(4, Limits { nodes: 32768, scx: 32768, tries: 100 }).unwrap();
-    let threads: Vec<_> = (0..THREADS).zip(passes).map(|(t, pass)| std::thread::spawn(move || work(t, pass))).collect();
+    let threads: Vec<_> = (0..THREADS)
+        .zip(passes)
+        .map(|(t, pass)| std::thread::spawn(move || work(t, pass)))
+        .collect();
     let mut passes: Vec<Pass> = threads.into_iter().map(|t| t.join().unwrap()).collect();
     let last = passes.pop().unwrap();
     let Err(CloseFault::Shared(mut last)) = last.close() else { panic!("closed while shared") };
     drop(passes);
     let least = key_of(0, 1);
     assert_eq!(last.pop_first(), Ok(Some((least, value_of(least)))));
-    let keys: Vec<u64> = (0..KEYS).filter(|i| i % 3 != 0).flat_map(|i| (0..THREADS).map(move |t| key_of(t, i))).collect();
+    let keys: Vec<u64> = (0..KEYS)
+        .filter(|i| i % 3 != 0)
+        .flat_map(|i| (0..THREADS).map(move |t| key_of(t, i)))
+        .collect();
     let greatest = keys[keys.len() - 1];
     assert_eq!(last.pop_last(), Ok(Some((greatest, value_of(greatest)))));
     let Ok(pairs) = last.close() else { panic!("not closed") };
-    assert_eq!(pairs, keys[1..keys.len() - 1].iter().map(|&key| (key, value_of(key))).collect::<Vec<_>>());
+    assert_eq!(
+        pairs,
+        keys[1..keys.len() - 1].iter().map(|&key| (key, value_of(key))).collect::<Vec<_>>()
+    );
 }
 
 #[test]
@@ -72,5 +72,5 @@ fn what_is_refused() {
     let mut passes = make(1, Limits { nodes: 3, scx: 1, tries: 1 }).unwrap();
     assert_eq!((passes[0].pop_first(), passes[0].pop_last()), (Ok(None), Ok(None)));
     assert_eq!(passes[0].insert(5, 50), Ok(None));
-    assert_eq!(passes[0].delete(5), Err(Fault::Full));
+    assert_eq!(passes[0].remove(5), Err(Fault::Full));
 }

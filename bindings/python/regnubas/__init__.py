@@ -1,0 +1,37 @@
+"""An ordered dictionary that many threads read and change without locks. A key is a number below 2**64,
+a value one below 2**128.
+
+>>> import regnubas
+>>> one, other = regnubas.make(threads=2, changes=1000)
+>>> one[5] = 50
+>>> other[5], other.get(6), 6 in other
+(50, None, False)
+
+Each thread has a pass of its own, which is a `MutableMapping`. A call lets go of the interpreter's
+lock; a pass that two threads use takes one call at a time. No call in the child of a fork of a process
+with threads.
+
+A change that other passes were in the way of raises `Contended` and has changed nothing. What every
+mapping has (`m[5] = 50`, `del m[5]`, `pop`, ..), `replace` and what goes through many pairs ask again
+by themselves; the calls that say what was there before do not: `again(m.insert, 5, 50)`.
+
+The library is the file that REGNUBAS_LIBRARY names, or the one that came with the wheel, or
+libregnubas.so.0 as the loader finds it."""
+from ._faults import BadLimits, Contended, Fault, Full, NoMemory, NoPass, Shared
+from ._pass import MOST_KEY, MOST_VALUE, Pass, again, make
+
+__all__ = [
+    "MOST_KEY",
+    "MOST_VALUE",
+    "BadLimits",
+    "Contended",
+    "Fault",
+    "Full",
+    "NoMemory",
+    "NoPass",
+    "Pass",
+    "Shared",
+    "again",
+    "make",
+]
+__version__ = "0.1.0"

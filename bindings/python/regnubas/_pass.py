@@ -1,0 +1,334 @@
+"""A pass: what a thread needs to make calls."""
+from __future__ import annotations
+
+import threading
+from collections.abc import Callable, ItemsView, Iterator, MutableMapping, ValuesView
+from ctypes import byref
+from typing import Any, NoReturn, TypeVar, overload
+
+from ._faults import Contended, tells
+from ._library import Answer, Pair, RawLimits, RawPass, library, number, two_words, word
+from ._views import Items, Values
+
+MOST_KEY = 2**64 - 1
+MOST_VALUE = 2**128 - 1
+_CHUNK = 64  # the most pairs that one call of the library lists
+_MOST_NODES = 32768
+_NOTHING = object()
+
+T = TypeVar("T")
+
+
+def again(call: Callable[..., T], *arguments: Any) -> T:
+    """Asks until other passes are not in the way.
+
+    >>> [m] = make(threads=1, changes=10)
+    >>> again(m.insert, 5, 50)
+    """
+    while True:
+        try:
+            return call(*arguments)
+        except Contended:
+            pass
+
+
+def _told(answer: Answer) -> int | None:
+    return number(answer.value) if tells(answer.status) else None
+
+
+class Pass(MutableMapping[int, int]):
+    """What a thread needs to make calls; `make` makes it. One that is forgotten leaves, and so does one
+    at the end of its `with`."""
+
+    def __init__(self, most: int) -> None:
+        # `most`: the pairs that the dictionary may have, since a new key takes a node at least
+        self._raw, self._most, self._lock = RawPass(), most, threading.Lock()
+
+    def _call(self, call: Callable[..., Any], *arguments: Any) -> Any:
+        with self._lock:
+            return call(byref(self._raw), *arguments)
+
+    # One call of the library each. These say what was there before, and may be `Contended`.
+
+    def insert(self, key: int, value: int) -> int | None:
+        """Sets a key to a value, and tells the value that the key had just before, or None.
+
+        >>> [m] = make(threads=1, changes=10)
+        >>> m.insert(5, 50), m.insert(5, 51)
+        (None, 50)
+        """
+        return _told(self._call(library.regnubas_insert, word(key), two_words(value)))
+
+    def insert_new(self, key: int, value: int) -> int | None:
+        """Sets a key to a value if it has none: None; otherwise tells the value that it has.
+
+        >>> [m] = make(threads=1, changes=10)
+        >>> m.insert_new(5, 50), m.insert_new(5, 51), m[5]
+        (None, 50, 50)
+        """
+        return _told(self._call(library.regnubas_insert_new, word(key), two_words(value)))
+
+    def delete(self, key: int) -> int | None:
+        """Takes a key away, and tells the value that it had, or None."""
+        return _told(self._call(library.regnubas_delete, word(key)))
+
+    def delete_if(self, key: int, expected: int) -> int | None:
+        """Takes a key away where it has the expected value, and tells the value that it had just
+        before: it was taken away where that is the one expected."""
+        return _told(self._call(library.regnubas_delete_if, word(key), two_words(expected)))
+
+    def replace_if(self, key: int, expected: int, value: int) -> int | None:
+        """Sets a key to a value where it has the expected one, and tells the value that it had just
+        before: it was replaced where that is the one expected.
+
+        >>> [m] = make(threads=1, changes=10)
+        >>> m[5] = 50
+        >>> m.replace_if(5, 49, 51), m.replace_if(5, 50, 52), m[5]
+        (50, 50, 52)
+        """
+        words = word(key), two_words(expected), two_words(value)
+        return _told(self._call(library.regnubas_replace_if, *words))
+
+    def _found(self, call: Callable[..., Any], *arguments: Any) -> tuple[int, int] | None:
+        pair = Pair()
+        found = tells(self._call(call, *arguments, byref(pair)))
+        return (pair.key, number(pair.value)) if found else None
+
+    def pop_first(self) -> tuple[int, int] | None:
+        """Takes the pair with the least key away: it, or None."""
+        return self._found(library.regnubas_pop_first)
+
+    def pop_last(self) -> tuple[int, int] | None:
+        """Takes the pair with the greatest key away: it, or None."""
+        return self._found(library.regnubas_pop_last)
+
+    def successor(self, key: int) -> tuple[int, int] | None:
+        """The pair with the least key above this one, or None.
+
+        >>> [m] = make(threads=1, changes=10)
+        >>> m.update({5: 50, 9: 90})
+        >>> m.successor(5), m.successor(9)
+        ((9, 90), None)
+        """
+        return self._found(library.regnubas_successor, word(key))
+
+    def _listed(self, call: Callable[..., Any], most: int, *arguments: int) -> list[tuple[int, int]]:
+        room = (Pair * most)()
+        count = self._call(call, *arguments, room, most)
+        tells(count.status)
+        return [(pair.key, number(pair.value)) for pair in room[: count.pairs]]
+
+    def range(self, low: int, high: int, most: int = _CHUNK) -> list[tuple[int, int]]:
+        """The first pairs by rising key from `low` to `high`, both with them, all of one moment: at
+        most so many, and 64.
+
+        >>> [m] = make(threads=1, changes=10)
+        >>> m.update({5: 50, 7: 70, 9: 90})
+        >>> m.range(6, 9), m.range(0, MOST_KEY, most=1)
+        ([(7, 70), (9, 90)], [(5, 50)])
+        """
+        return self._listed(library.regnubas_range, min(most, _CHUNK), word(low), word(high))
+
+    def left(self) -> tuple[int, int]:
+        """How many nodes and SCX-records are left of the pass's share."""
+        share = self._call(library.regnubas_left)
+        return share.nodes, share.scx
+
+    def leave(self) -> None:
+        """Gives the pass up. The last to leave frees the dictionary."""
+        self._call(library.regnubas_leave)
+
+    def close(self) -> list[tuple[int, int]]:
+        """Ends the dictionary by its last pass: all its pairs by rising key.
+
+        >>> one, other = make(threads=2, changes=10)
+        >>> one[5] = 50
+        >>> one.leave()
+        >>> other.close()
+        [(5, 50)]
+        """
+        return self._listed(library.regnubas_close, self._most)
+
+    # What a mapping has. Each of these is one call of the library, but those that say otherwise, and
+    # asks again while others are in the way.
+
+    @overload
+    def get(self, key: int) -> int | None: ...
+    @overload
+    def get(self, key: int, default: int | T) -> int | T: ...
+    def get(self, key: int, default: Any = None) -> Any:
+        """The value of a key, or the default. It is never refused."""
+        found = _told(self._call(library.regnubas_get, word(key)))
+        return default if found is None else found
+
+    def __getitem__(self, key: int) -> int:
+        found = self.get(key)
+        if found is None:
+            raise KeyError(key)
+        return found
+
+    def __contains__(self, key: object) -> bool:
+        return self.get(key) is not None  # type: ignore[call-overload]
+
+    def __setitem__(self, key: int, value: int) -> None:
+        again(self.insert, key, value)
+
+    def __delitem__(self, key: int) -> None:
+        self.pop(key)
+
+    def setdefault(self, key: int, default: int) -> int:  # type: ignore[override]
+        """The value of a key, which is set to the default if it has none.
+
+        >>> [m] = make(threads=1, changes=10)
+        >>> m.setdefault(5, 50), m.setdefault(5, 51)
+        (50, 50)
+        """
+        found = again(self.insert_new, key, default)
+        return default if found is None else found
+
+    @overload
+    def pop(self, key: int) -> int: ...
+    @overload
+    def pop(self, key: int, default: int | T) -> int | T: ...
+    def pop(self, key: int, default: Any = _NOTHING) -> Any:
+        """Takes a key away: the value that it had, or the default; without one a KeyError.
+
+        >>> [m] = make(threads=1, changes=10)
+        >>> m[5] = 50
+        >>> m.pop(5), m.pop(5, None)
+        (50, None)
+        """
+        found = again(self.delete, key)
+        if found is not None:
+            return found
+        if default is _NOTHING:
+            raise KeyError(key)
+        return default
+
+    def popitem(self, last: bool = True) -> tuple[int, int]:
+        """Takes the pair with the greatest key away, or that with the least; a KeyError if there is
+        none.
+
+        >>> [m] = make(threads=1, changes=10)
+        >>> m.update({5: 50, 7: 70, 9: 90})
+        >>> m.popitem(), m.popitem(last=False), m.popitem()
+        ((9, 90), (5, 50), (7, 70))
+        """
+        pair = again(self.pop_last if last else self.pop_first)
+        if pair is None:
+            raise KeyError("popitem: the dictionary is empty")
+        return pair
+
+    def replace(self, key: int, expected: int, value: int) -> bool:
+        """Sets a key to a value where it has the expected one: whether it had it.
+
+        >>> [m] = make(threads=1, changes=10)
+        >>> m[5] = 50
+        >>> m.replace(5, 50, 51), m.replace(5, 50, 52), m[5]
+        (True, False, 51)
+        """
+        return again(self.replace_if, key, expected, value) == expected
+
+    def _pairs(self, low: int = 0, high: int = MOST_KEY) -> Iterator[tuple[int, int]]:
+        while low <= high:
+            chunk = again(self.range, low, high)
+            yield from chunk
+            if len(chunk) < _CHUNK:
+                return
+            low = chunk[-1][0] + 1
+
+    def irange(self, minimum: int = 0, maximum: int = MOST_KEY) -> Iterator[int]:
+        """The keys from `minimum` to `maximum`, both with them, by rising key. They are read 64 at a
+        time: those of one such chunk are of one moment, two chunks are not.
+
+        >>> [m] = make(threads=1, changes=10)
+        >>> m.update({5: 50, 7: 70, 9: 90})
+        >>> list(m.irange(5, 8)), list(m)
+        ([5, 7], [5, 7, 9])
+        """
+        return (key for key, _ in self._pairs(minimum, maximum))
+
+    def __iter__(self) -> Iterator[int]:
+        return self.irange()
+
+    def items(self) -> ItemsView[int, int]:
+        """The pairs by rising key, read 64 at a time: those of one such chunk are of one moment, two
+        chunks are not.
+
+        >>> [m] = make(threads=1, changes=10)
+        >>> m.update({9: 90, 5: 50})
+        >>> list(m.items())
+        [(5, 50), (9, 90)]
+        """
+        return Items(self)
+
+    def values(self) -> ValuesView[int]:
+        """The values by rising key, read as `items` are."""
+        return Values(self)
+
+    def __len__(self) -> int:
+        """How many pairs `items` finds. It goes through all of them: the dictionary keeps no count."""
+        return sum(1 for _ in self._pairs())
+
+    def __bool__(self) -> bool:
+        """Whether there is a pair. It reads one."""
+        return bool(again(self.range, 0, MOST_KEY, 1))
+
+    # The end of a pass.
+
+    def __enter__(self) -> Pass:
+        return self
+
+    def __exit__(self, *fault: object) -> None:
+        self.leave()
+
+    def __reduce__(self) -> NoReturn:
+        raise TypeError("a pass can be neither copied nor pickled")
+
+    def __del__(self, leave: Callable[..., Any] = library.regnubas_leave) -> None:
+        leave(byref(self._raw))
+
+
+def _share(changes: int, new_keys: int | None) -> tuple[int, int]:
+    """The nodes and SCX-records for these changes, and as many again for tries that are lost."""
+    if new_keys is None:
+        new_keys = changes
+    nodes, scx = changes + 2 * new_keys, changes
+    return max(nodes, min(2 * nodes, _MOST_NODES)), max(scx, min(2 * scx, _MOST_NODES))
+
+
+def make(
+    threads: int,
+    nodes: int | None = None,
+    scx: int | None = None,
+    tries: int = 100,
+    *,
+    changes: int | None = None,
+    new_keys: int | None = None,
+) -> list[Pass]:
+    """A dictionary with a pass for each of so many threads, 1 to 32.
+
+    `changes` is how many changes each thread makes in the life of the dictionary, `new_keys` how many
+    of them give a value to a key that has none (all of them, if it is left out). A change takes an
+    SCX-record and a node, that of a new key up to three nodes. Twice that is put by, since a try that
+    is lost to another thread takes as much; but at most 32,768 each, which is all that a pass can have.
+
+    >>> [m] = make(threads=1, changes=100, new_keys=10)
+    >>> m.left()
+    (240, 200)
+
+    Or give the `nodes` and SCX-records (`scx`) of each pass yourself. A call tries `tries` times, 1 to
+    1,000, before it is `Contended`."""
+    if changes is not None:
+        if nodes is not None or scx is not None:
+            raise TypeError("make: either changes, or nodes and scx")
+        nodes, scx = _share(word(changes, 32), None if new_keys is None else word(new_keys, 32))
+    elif nodes is None or scx is None or new_keys is not None:
+        raise TypeError("make: either changes, or nodes and scx")
+    each = RawLimits(word(nodes, 32), word(scx, 32), word(tries, 32))
+    raw = (RawPass * word(threads, 16))()
+    tells(library.regnubas_make(each, raw, threads))
+    made = [Pass(threads * nodes) for _ in range(threads)]
+    for own, old in zip(made, raw):
+        own._raw.at, old.at = old.at, None
+    return made

@@ -1,0 +1,90 @@
+//! Why a call is not done.
+
+use crate::Pass;
+use std::error::Error;
+use std::fmt;
+
+/// Why a call was not done. It has changed nothing.
+///
+/// ```
+/// use regnubas::{make, Fault, Limits};
+///
+/// let mut passes = make(1, Limits { nodes: 3, scx: 1, tries: 1 })?;
+/// passes[0].insert(5, 50)?;
+/// let fault = passes[0].insert(5, 51).unwrap_err();
+/// assert_eq!(fault, Fault::Full);
+/// assert_eq!(fault.to_string(), "full: too little is left of the pass's share");
+/// # Ok::<(), Fault>(())
+/// ```
+#[derive(Clone, Copy, Debug, PartialEq, Eq)]
+pub enum Fault {
+    /// Other passes were in the way in each try: ask again, by yourself or by [`again`](crate::again).
+    Contended,
+    /// Too little is left of the pass's share, which never grows.
+    Full,
+    /// An allocation was refused.
+    NoMemory,
+    /// A number is out of its range.
+    Limits,
+}
+
+impl fmt::Display for Fault {
+    fn fmt(&self, f: &mut fmt::Formatter<'_>) -> fmt::Result {
+        f.write_str(match self {
+            Fault::Contended => "contended: other passes were in the way",
+            Fault::Full => "full: too little is left of the pass's share",
+            Fault::NoMemory => "no memory",
+            Fault::Limits => "bad limits",
+        })
+    }
+}
+
+impl Error for Fault {}
+
+/// Why a dictionary was not closed.
+///
+/// ```
+/// use regnubas::{make, CloseFault, Limits};
+///
+/// let mut passes = make(2, Limits::for_changes(10, 10))?;
+/// let (last, other) = (passes.pop().unwrap(), passes.pop().unwrap());
+/// let Err(CloseFault::Shared(last)) = last.close() else { panic!("closed") };
+/// drop(other);
+/// assert!(last.close().is_ok());
+/// # Ok::<(), regnubas::Fault>(())
+/// ```
+#[derive(Debug)]
+pub enum CloseFault {
+    /// Other passes have not left: here is this one.
+    Shared(Pass),
+    /// An allocation was refused: the dictionary is gone.
+    NoMemory,
+}
+
+impl fmt::Display for CloseFault {
+    fn fmt(&self, f: &mut fmt::Formatter<'_>) -> fmt::Result {
+        f.write_str(match self {
+            CloseFault::Shared(_) => "shared: other passes have not left",
+            CloseFault::NoMemory => "no memory: the dictionary is gone",
+        })
+    }
+}
+
+impl Error for CloseFault {}
+
+/// The status of a dictionary that others share.
+pub(crate) const SHARED: u32 = 7;
+
+/// Whether the answer of this status tells something.
+pub(crate) fn tells(status: u32) -> Result<bool, Fault> {
+    match status {
+        0 => Ok(false),
+        1 => Ok(true),
+        2 => Err(Fault::Contended),
+        3 => Err(Fault::Full),
+        4 => Err(Fault::NoMemory),
+        5 => Err(Fault::Limits),
+        // A `Pass` always holds one, and `close` has looked for `SHARED`.
+        status => unreachable!("status {status}"),
+    }
+}

@@ -1,0 +1,302 @@
+//! A pass: what a thread needs to make calls.
+
+use crate::fault::{tells, CloseFault, Fault, SHARED};
+use crate::ffi::*;
+use crate::range::{ends, Range};
+use crate::{Limits, Share};
+use std::fmt;
+use std::ops::RangeBounds;
+
+/// The most pairs that one call of the library lists.
+pub(crate) const MOST_LISTED: usize = 64;
+
+/// What a thread needs to make calls. One that is dropped leaves; the last frees the dictionary.
+///
+/// ```
+/// let mut passes = regnubas::make(2, regnubas::Limits::for_changes(10, 10))?;
+/// let (mut one, mut other) = (passes.pop().unwrap(), passes.pop().unwrap());
+/// std::thread::spawn(move || one.insert(5, 50)).join().unwrap()?;
+/// assert_eq!(other.get(5), Some(50));
+/// # Ok::<(), regnubas::Fault>(())
+/// ```
+pub struct Pass {
+    raw: RawPass,
+    /// The most pairs that the dictionary may have: a new key takes a node at least.
+    most: usize,
+}
+
+// SAFETY: what a pass leads to may cross threads, as the library proves of its handle; and `&mut` in
+// each call gives the pass to one call at a time.
+unsafe impl Send for Pass {}
+
+impl fmt::Debug for Pass {
+    fn fmt(&self, f: &mut fmt::Formatter<'_>) -> fmt::Result {
+        f.debug_struct("Pass").finish_non_exhaustive()
+    }
+}
+
+/// A dictionary with so many passes, 1 to 32: as many threads may work at a time.
+///
+/// ```
+/// use regnubas::{make, Fault, Limits};
+///
+/// assert_eq!(make(4, Limits::for_changes(1000, 200))?.len(), 4);
+/// assert_eq!(make(33, Limits::for_changes(1000, 200)).unwrap_err(), Fault::Limits);
+/// # Ok::<(), Fault>(())
+/// ```
+pub fn make(passes: usize, each: Limits) -> Result<Vec<Pass>, Fault> {
+    if passes > 32 {
+        return Err(Fault::Limits);
+    }
+    let mut raw: Vec<RawPass> = (0..passes).map(|_| RawPass::EMPTY).collect();
+    // SAFETY: these are `passes` zeroed passes, and no one else has them.
+    tells(unsafe { regnubas_make(each, raw.as_mut_ptr(), raw.len()) })?;
+    Ok(raw.into_iter().map(|raw| Pass { raw, most: passes * each.nodes as usize }).collect())
+}
+
+fn told(answer: Answer) -> Result<Option<u128>, Fault> {
+    Ok(tells(answer.status)?.then(|| answer.value.number()))
+}
+
+// SAFETY of the calls: the pass is held and ours alone by `&mut`, and so are a pair and a room.
+impl Pass {
+    /// The value of a key. It is never refused.
+    ///
+    /// ```
+    /// # let mut pass = regnubas::make(1, regnubas::Limits::for_changes(10, 10))?.remove(0);
+    /// pass.insert(5, 50)?;
+    /// assert_eq!((pass.get(5), pass.get(6)), (Some(50), None));
+    /// # Ok::<(), regnubas::Fault>(())
+    /// ```
+    pub fn get(&mut self, key: u64) -> Option<u128> {
+        told(unsafe { regnubas_get(&mut self.raw, key) }).expect("a get is never refused")
+    }
+
+    /// Whether a key has a value. It is never refused.
+    ///
+    /// ```
+    /// # let mut pass = regnubas::make(1, regnubas::Limits::for_changes(10, 10))?.remove(0);
+    /// pass.insert(5, 50)?;
+    /// assert!(pass.contains_key(5) && !pass.contains_key(6));
+    /// # Ok::<(), regnubas::Fault>(())
+    /// ```
+    pub fn contains_key(&mut self, key: u64) -> bool {
+        self.get(key).is_some()
+    }
+
+    /// Sets a key to a value, and tells the value that the key had just before.
+    ///
+    /// ```
+    /// # let mut pass = regnubas::make(1, regnubas::Limits::for_changes(10, 10))?.remove(0);
+    /// assert_eq!(pass.insert(5, 50)?, None);
+    /// assert_eq!(pass.insert(5, 51)?, Some(50));
+    /// # Ok::<(), regnubas::Fault>(())
+    /// ```
+    pub fn insert(&mut self, key: u64, value: u128) -> Result<Option<u128>, Fault> {
+        told(unsafe { regnubas_insert(&mut self.raw, key, Value::of(value)) })
+    }
+
+    /// Sets a key to a value if it has none, and tells the value that it has otherwise.
+    ///
+    /// ```
+    /// # let mut pass = regnubas::make(1, regnubas::Limits::for_changes(10, 10))?.remove(0);
+    /// assert_eq!(pass.insert_new(5, 50)?, None);
+    /// assert_eq!(pass.insert_new(5, 51)?, Some(50));
+    /// assert_eq!(pass.get(5), Some(50));
+    /// # Ok::<(), regnubas::Fault>(())
+    /// ```
+    pub fn insert_new(&mut self, key: u64, value: u128) -> Result<Option<u128>, Fault> {
+        told(unsafe { regnubas_insert_new(&mut self.raw, key, Value::of(value)) })
+    }
+
+    /// Takes a key away, and tells the value that it had.
+    ///
+    /// ```
+    /// # let mut pass = regnubas::make(1, regnubas::Limits::for_changes(10, 10))?.remove(0);
+    /// pass.insert(5, 50)?;
+    /// assert_eq!((pass.remove(5)?, pass.remove(5)?), (Some(50), None));
+    /// # Ok::<(), regnubas::Fault>(())
+    /// ```
+    pub fn remove(&mut self, key: u64) -> Result<Option<u128>, Fault> {
+        told(unsafe { regnubas_delete(&mut self.raw, key) })
+    }
+
+    /// Takes a key away where it has the expected value, and tells the value that it had just
+    /// before: it was taken away where that is the one expected.
+    ///
+    /// ```
+    /// # let mut pass = regnubas::make(1, regnubas::Limits::for_changes(10, 10))?.remove(0);
+    /// pass.insert(5, 50)?;
+    /// assert_eq!(pass.remove_if(5, 49)?, Some(50));
+    /// assert_eq!(pass.remove_if(5, 50)?, Some(50));
+    /// assert_eq!(pass.remove_if(5, 50)?, None);
+    /// # Ok::<(), regnubas::Fault>(())
+    /// ```
+    pub fn remove_if(&mut self, key: u64, expected: u128) -> Result<Option<u128>, Fault> {
+        told(unsafe { regnubas_delete_if(&mut self.raw, key, Value::of(expected)) })
+    }
+
+    /// Sets a key to a value where it has the expected one, and tells the value that it had just
+    /// before: it was replaced where that is the one expected.
+    ///
+    /// ```
+    /// # let mut pass = regnubas::make(1, regnubas::Limits::for_changes(10, 10))?.remove(0);
+    /// pass.insert(5, 50)?;
+    /// assert_eq!(pass.replace_if(5, 49, 51)?, Some(50));
+    /// assert_eq!(pass.replace_if(5, 50, 52)?, Some(50));
+    /// assert_eq!(pass.get(5), Some(52));
+    /// # Ok::<(), regnubas::Fault>(())
+    /// ```
+    pub fn replace_if(
+        &mut self,
+        key: u64,
+        expected: u128,
+        value: u128,
+    ) -> Result<Option<u128>, Fault> {
+        told(unsafe {
+            regnubas_replace_if(&mut self.raw, key, Value::of(expected), Value::of(value))
+        })
+    }
+
+    /// The pair with the least key.
+    ///
+    /// ```
+    /// # let mut pass = regnubas::make(1, regnubas::Limits::for_changes(10, 10))?.remove(0);
+    /// pass.insert(9, 90)?;
+    /// pass.insert(5, 50)?;
+    /// assert_eq!(pass.first_key_value()?, Some((5, 50)));
+    /// # Ok::<(), regnubas::Fault>(())
+    /// ```
+    pub fn first_key_value(&mut self) -> Result<Option<(u64, u128)>, Fault> {
+        Ok(self.listed(0, u64::MAX, 1)?.pop())
+    }
+
+    /// Takes the pair with the least key away.
+    ///
+    /// ```
+    /// # let mut pass = regnubas::make(1, regnubas::Limits::for_changes(10, 10))?.remove(0);
+    /// pass.insert(9, 90)?;
+    /// pass.insert(5, 50)?;
+    /// assert_eq!(pass.pop_first()?, Some((5, 50)));
+    /// # Ok::<(), regnubas::Fault>(())
+    /// ```
+    pub fn pop_first(&mut self) -> Result<Option<(u64, u128)>, Fault> {
+        let mut pair = Pair::default();
+        let taken = tells(unsafe { regnubas_pop_first(&mut self.raw, &mut pair) })?;
+        Ok(taken.then(|| pair.told()))
+    }
+
+    /// Takes the pair with the greatest key away.
+    ///
+    /// ```
+    /// # let mut pass = regnubas::make(1, regnubas::Limits::for_changes(10, 10))?.remove(0);
+    /// pass.insert(9, 90)?;
+    /// pass.insert(5, 50)?;
+    /// assert_eq!(pass.pop_last()?, Some((9, 90)));
+    /// # Ok::<(), regnubas::Fault>(())
+    /// ```
+    pub fn pop_last(&mut self) -> Result<Option<(u64, u128)>, Fault> {
+        let mut pair = Pair::default();
+        let taken = tells(unsafe { regnubas_pop_last(&mut self.raw, &mut pair) })?;
+        Ok(taken.then(|| pair.told()))
+    }
+
+    /// The pair with the least key above this one.
+    ///
+    /// ```
+    /// # let mut pass = regnubas::make(1, regnubas::Limits::for_changes(10, 10))?.remove(0);
+    /// pass.insert(9, 90)?;
+    /// pass.insert(5, 50)?;
+    /// assert_eq!((pass.successor(5)?, pass.successor(9)?), (Some((9, 90)), None));
+    /// # Ok::<(), regnubas::Fault>(())
+    /// ```
+    pub fn successor(&mut self, key: u64) -> Result<Option<(u64, u128)>, Fault> {
+        let mut pair = Pair::default();
+        let next = tells(unsafe { regnubas_successor(&mut self.raw, key, &mut pair) })?;
+        Ok(next.then(|| pair.told()))
+    }
+
+    /// The pairs with these keys, by rising key. See [`Range`] for what is of one moment. Where no
+    /// key is in the range, there is none.
+    ///
+    /// ```
+    /// # let mut pass = regnubas::make(1, regnubas::Limits::for_changes(10, 10))?.remove(0);
+    /// pass.insert(9, 90)?;
+    /// pass.insert(5, 50)?;
+    /// for pair in pass.range(5..=8) {
+    ///     let (key, value) = pair?;
+    ///     assert_eq!((key, value), (5, 50));
+    /// }
+    /// # Ok::<(), regnubas::Fault>(())
+    /// ```
+    pub fn range(&mut self, keys: impl RangeBounds<u64>) -> Range<'_> {
+        Range::new(self, keys)
+    }
+
+    /// The first pairs with these keys, by rising key and all of one moment: at most so many, and 64.
+    ///
+    /// ```
+    /// # let mut pass = regnubas::make(1, regnubas::Limits::for_changes(10, 10))?.remove(0);
+    /// pass.insert(9, 90)?;
+    /// pass.insert(5, 50)?;
+    /// assert_eq!(pass.snapshot(.., 64)?, [(5, 50), (9, 90)]);
+    /// assert_eq!(pass.snapshot(.., 1)?, [(5, 50)]);
+    /// # Ok::<(), regnubas::Fault>(())
+    /// ```
+    pub fn snapshot(
+        &mut self,
+        keys: impl RangeBounds<u64>,
+        most: usize,
+    ) -> Result<Vec<(u64, u128)>, Fault> {
+        ends(keys).map_or(Ok(Vec::new()), |(low, high)| self.listed(low, high, most))
+    }
+
+    pub(crate) fn listed(
+        &mut self,
+        low: u64,
+        high: u64,
+        most: usize,
+    ) -> Result<Vec<(u64, u128)>, Fault> {
+        let mut room = [Pair::default(); MOST_LISTED];
+        let most = most.min(MOST_LISTED);
+        let count = unsafe { regnubas_range(&mut self.raw, low, high, room.as_mut_ptr(), most) };
+        tells(count.status)?;
+        Ok(room[..count.pairs as usize].iter().map(Pair::told).collect())
+    }
+
+    /// What is left of the pass's share.
+    ///
+    /// ```
+    /// # let mut pass = regnubas::make(1, regnubas::Limits::for_changes(10, 10))?.remove(0);
+    /// assert_eq!(pass.left(), regnubas::Share { nodes: 60, scx: 20 });
+    /// # Ok::<(), regnubas::Fault>(())
+    /// ```
+    pub fn left(&mut self) -> Share {
+        unsafe { regnubas_left(&mut self.raw) }
+    }
+
+    /// Ends the dictionary by its last pass: all its pairs by rising key.
+    ///
+    /// ```
+    /// # let mut pass = regnubas::make(1, regnubas::Limits::for_changes(10, 10))?.remove(0);
+    /// pass.insert(5, 50)?;
+    /// assert_eq!(pass.close()?, [(5, 50)]);
+    /// # Ok::<(), Box<dyn std::error::Error>>(())
+    /// ```
+    pub fn close(mut self) -> Result<Vec<(u64, u128)>, CloseFault> {
+        let mut room = vec![Pair::default(); self.most];
+        let count = unsafe { regnubas_close(&mut self.raw, room.as_mut_ptr(), room.len()) };
+        if count.status == SHARED {
+            return Err(CloseFault::Shared(self));
+        }
+        tells(count.status).map_err(|_| CloseFault::NoMemory)?;
+        Ok(room[..count.pairs as usize].iter().map(Pair::told).collect())
+    }
+}
+
+impl Drop for Pass {
+    fn drop(&mut self) {
+        // SAFETY: as of the calls; one that was closed is empty, of which this makes nothing.
+        unsafe { regnubas_leave(&mut self.raw) }
+    }
+}
