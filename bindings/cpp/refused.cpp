@@ -32,7 +32,7 @@ void operator delete(void *p, std::size_t) noexcept { give_back(p); }
 void operator delete(void *p, std::align_val_t) noexcept { give_back(p); }
 void operator delete(void *p, std::size_t, std::align_val_t) noexcept { give_back(p); }
 
-// Whether a call was done; `told` where it was not. Refusals make no allocation of their own here.
+// Whether a call was done. An exception has memory of its own.
 template <typename Call> static bool is_done(Call call) {
     of_cpp = true;
     bool done = true;
@@ -78,7 +78,7 @@ static bool story() {
     std::size_t pairs = 0;
     if (is_done([&] { pairs = passes[0].close().size(); })) CHECK(pairs == 90);
     else all = false;
-    passes = {};
+    passes = std::vector<regnubas::pass>();
     CHECK(blocks == 0);
     return all;
 }
