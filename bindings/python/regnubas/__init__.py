@@ -34,4 +34,3 @@ __all__ = [
     "again",
     "make",
 ]
-__version__ = "0.1.0"

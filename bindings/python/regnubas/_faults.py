@@ -36,5 +36,5 @@ _FAULTS = {2: Contended, 3: Full, 4: NoMemory, 5: BadLimits, 6: NoPass, 7: Share
 def tells(status: int) -> bool:
     """Whether the answer of this status tells something."""
     if status in _FAULTS:
-        raise _FAULTS[status]
+        raise _FAULTS[status](_FAULTS[status].__doc__)
     return status == _SOME

@@ -69,12 +69,24 @@ class Pass(MutableMapping[int, int]):
         return _told(self._call(library.regnubas_insert_new, word(key), two_words(value)))
 
     def delete(self, key: int) -> int | None:
-        """Takes a key away, and tells the value that it had, or None."""
+        """Takes a key away, and tells the value that it had, or None.
+
+        >>> [m] = make(threads=1, changes=10)
+        >>> m[5] = 50
+        >>> m.delete(5), m.delete(5)
+        (50, None)
+        """
         return _told(self._call(library.regnubas_delete, word(key)))
 
     def delete_if(self, key: int, expected: int) -> int | None:
         """Takes a key away where it has the expected value, and tells the value that it had just
-        before: it was taken away where that is the one expected."""
+        before: it was taken away where that is the one expected.
+
+        >>> [m] = make(threads=1, changes=10)
+        >>> m[5] = 50
+        >>> m.delete_if(5, 49), m.delete_if(5, 50), m.delete_if(5, 50)
+        (50, 50, None)
+        """
         return _told(self._call(library.regnubas_delete_if, word(key), two_words(expected)))
 
     def replace_if(self, key: int, expected: int, value: int) -> int | None:
@@ -95,7 +107,13 @@ class Pass(MutableMapping[int, int]):
         return (pair.key, number(pair.value)) if found else None
 
     def pop_first(self) -> tuple[int, int] | None:
-        """Takes the pair with the least key away: it, or None."""
+        """Takes the pair with the least key away: it, or None.
+
+        >>> [m] = make(threads=1, changes=10)
+        >>> m.update({5: 50, 7: 70, 9: 90})
+        >>> m.pop_first(), m.pop_last(), list(m)
+        ((5, 50), (9, 90), [7])
+        """
         return self._found(library.regnubas_pop_first)
 
     def pop_last(self) -> tuple[int, int] | None:
@@ -130,7 +148,13 @@ class Pass(MutableMapping[int, int]):
         return self._listed(library.regnubas_range, min(most, _CHUNK), word(low), word(high))
 
     def left(self) -> tuple[int, int]:
-        """How many nodes and SCX-records are left of the pass's share."""
+        """How many nodes and SCX-records are left of the pass's share.
+
+        >>> [m] = make(threads=1, nodes=300, scx=100)
+        >>> m[5] = 50
+        >>> m.left()
+        (297, 99)
+        """
         share = self._call(library.regnubas_left)
         return share.nodes, share.scx
 
@@ -157,7 +181,13 @@ class Pass(MutableMapping[int, int]):
     @overload
     def get(self, key: int, default: int | T) -> int | T: ...
     def get(self, key: int, default: Any = None) -> Any:
-        """The value of a key, or the default. It is never refused."""
+        """The value of a key, or the default. It is never refused.
+
+        >>> [m] = make(threads=1, changes=10)
+        >>> m[5] = 50
+        >>> m.get(5), m.get(6), m.get(6, 0)
+        (50, None, 0)
+        """
         found = _told(self._call(library.regnubas_get, word(key)))
         return default if found is None else found
 

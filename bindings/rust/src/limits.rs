@@ -1,6 +1,14 @@
 //! What a pass may take.
 
 /// What each pass may take in the life of the dictionary, of which nothing is ever given back.
+///
+/// ```
+/// use regnubas::{make, Limits, Share};
+///
+/// let mut passes = make(2, Limits { nodes: 300, scx: 100, tries: 1000 })?;
+/// assert_eq!(passes[0].left(), Share { nodes: 300, scx: 100 });
+/// # Ok::<(), regnubas::Fault>(())
+/// ```
 #[repr(C)]
 #[derive(Clone, Copy, Debug, PartialEq, Eq)]
 pub struct Limits {
