@@ -79,6 +79,13 @@ void pairs_are_gone_through() {
     }
 }
 
+void a_full_chunk_up_to_the_last_key() {
+    auto passes = pass::make(1, LIMITS);
+    for (regnubas::key k = 0; k < 64; k++) passes[0].insert(~k, k);
+    auto items = passes[0].items();
+    CHECK(std::distance(items.begin(), items.end()) == 64);
+}
+
 void limits_are_reckoned() {
     struct { std::uint32_t changes, new_keys, nodes, scx; } rows[] = {
         {0, 0, 0, 0}, {100, 10, 240, 200}, {20000, 10, 32768, 32768}, {32768, 0, 32768, 32768}, {~0u, ~0u, ~0u, ~0u},
@@ -112,6 +119,7 @@ int main() {
     each_call_answers();
     refusals_are_told();
     pairs_are_gone_through();
+    a_full_chunk_up_to_the_last_key();
     limits_are_reckoned();
     threads_share_it();
     std::puts("each call, each refusal, ranges, limits, four threads");

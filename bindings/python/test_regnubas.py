@@ -71,7 +71,8 @@ def test_four_threads_and_a_close():
 def test_what_is_refused():
     refused(regnubas.BadLimits, regnubas.make, 33, nodes=1, scx=1, tries=1)
     refused(OverflowError, regnubas.make, 1, nodes=2**32, scx=1, tries=1)
-    refused(regnubas.BadLimits, regnubas.make, 1, changes=40000)
+    refused(regnubas.BadLimits, regnubas.make, 1, changes=40000, new_keys=0)
+    refused(regnubas.BadLimits, regnubas.make, 1, changes=20000, new_keys=20000)
     for named in {}, {"nodes": 1}, {"changes": 1, "scx": 1}, {"nodes": 1, "scx": 1, "new_keys": 1}:
         refused(TypeError, regnubas.make, 1, **named)
     [one] = regnubas.make(1, nodes=3, scx=1, tries=1)
@@ -162,6 +163,9 @@ def test_going_through_pairs():
         for low, high in (0, MOST), (100, 900), (MOST - 300, MOST), (MOST, MOST), (9, 5):
             assert list(one.irange(low, high)) == [key for key in keys if low <= key <= high]
         assert list(one.irange(500)) == [key for key in keys if key >= 500]
+    [one] = regnubas.make(threads=1, changes=64)
+    one.update((key, 0) for key in range(MOST - 63, MOST + 1))
+    assert len(one) == 64 and list(one.irange(MOST - 9, MOST - 3)) == list(range(MOST - 9, MOST - 2))
 
 
 def test_limits():
@@ -187,19 +191,25 @@ def test_a_pass_leaves_after_its_with():
 
 def test_threads_may_share_a_pass():
     """Eight threads of Python add up in one key, with two passes: four take turns on each."""
-    passes = regnubas.make(threads=2, changes=8000, new_keys=1)
+    passes = regnubas.make(threads=2, changes=8000, new_keys=200)
+    failures = []
 
     def add(one):
-        for _ in range(500):
-            while not one.replace(1, seen := one[1], seen + 1):
-                pass
+        try:
+            for _ in range(500):
+                while not one.replace(1, seen := one[1], seen + 1):
+                    pass
+                assert len(again(one.range, 1, MOST)) == 64
+        except BaseException as failure:
+            failures.append(failure)
 
-    passes[0][1] = 2**64 - 5
+    passes[0].update((key, 2**64 - 5) for key in range(200))
     threads = [threading.Thread(target=add, args=(passes[t % 2],)) for t in range(8)]
     for thread in threads:
         thread.start()
     for thread in threads:
         thread.join()
+    assert not failures, failures
     assert passes[1][1] == 2**64 - 5 + 4000
 
 

@@ -111,6 +111,16 @@ fn ranges() {
     }
 }
 
+#[test]
+fn a_full_chunk_up_to_the_last_key() {
+    let mut pass = make(1, Limits::for_changes(64, 64)).unwrap().remove(0);
+    let keys = u64::MAX - 63..=u64::MAX;
+    for key in keys.clone() {
+        assert_eq!(pass.insert(key, 0), Ok(None));
+    }
+    assert!(pass.range(..).map(|pair| pair.unwrap().0).eq(keys));
+}
+
 /// So many changes that nothing is left of what `for_changes` has reckoned without lost tries.
 #[test]
 fn limits_are_enough() {
