@@ -1,6 +1,6 @@
-// Each allocation of a story is refused in turn, alone and then with all after it, those of the library
-// and those of C++: the call throws `refused` or `bad_alloc`, or does without; nothing leaks, and the
-// dictionary is as it was.
+// Each allocation of a story is refused in turn, alone and then with all after it, those of the
+// library and those of C++: the call throws `refused` or `bad_alloc`, or does without; nothing
+// leaks, and the dictionary is as it was.
 #include "refusing_heap.hpp"
 #include "regnubas.hpp"
 

@@ -1,10 +1,11 @@
-// The dictionary of regnubas.h in C++17: passes that leave by themselves, optionals, and a range-for
-// over the pairs between two keys. Header only; calls mean what regnubas.h says of them.
+// The dictionary of regnubas.h in C++17: passes that leave by themselves, optionals, and a
+// range-for over the pairs between two keys. Header only; calls mean what regnubas.h says of them.
 //
-// A call that is refused has changed nothing, but a `close` for want of memory ends the dictionary. It
-// throws `regnubas::refused`, which says why; the call with `try_` before its name answers a
-// `regnubas::result` in place of that. Where C++ itself has no memory, any call that answers a vector
-// throws `std::bad_alloc`. Compiled without exceptions, the program is aborted in place of each.
+// A call that is refused has changed nothing, but a `close` for want of memory ends the dictionary.
+// It throws `regnubas::refused`, which says why; the call with `try_` before its name answers a
+// `regnubas::result` in place of that. Where C++ itself has no memory, any call that answers a
+// vector throws `std::bad_alloc`. Compiled without exceptions, the program is aborted in place of
+// each.
 #ifndef REGNUBAS_HPP
 #define REGNUBAS_HPP
 
@@ -81,9 +82,9 @@ private:
 #endif
 }
 
-// Limits for so many changes by each pass, of which `new_keys` give a value to a key that has none.
-// Twice what they take is put by, since a try that is lost to another thread takes as much; but at most
-// 32,768. If they take more than that by themselves, `make` refuses it.
+// Limits for this many changes by each pass, of which `new_keys` give a value to a key that has
+// none. What they take is doubled, up to 32,768, since a try that is lost to another thread takes
+// as much. If they take more than 32,768 by themselves, `make` refuses them.
 inline regnubas_limits limits_for(std::uint32_t changes, std::uint32_t new_keys) {
     const auto with_lost_tries = [](std::uint64_t taken) {
         const std::uint64_t all = std::max(taken, std::min<std::uint64_t>(2 * taken, 32768));
@@ -180,8 +181,8 @@ public:
     }
     std::optional<value> erase_if(key k, value expected) { return try_erase_if(k, expected).get(); }
 
-    // Sets a key where it has the expected value; the value that it had: it was set where that is the
-    // expected one.
+    // Sets a key where it has the expected value; the value that it had: it was set where that is
+    // the expected one.
     result<std::optional<value>> try_replace_if(key k, value expected, value v) {
         return value_of(regnubas_replace_if(&raw_, k, raw_of(expected), raw_of(v)));
     }
@@ -266,8 +267,8 @@ private:
 };
 
 // The pairs from one key to another, read 64 at a time, the first at once. It is gone through once,
-// and neither it nor the pass moves meanwhile; a chunk that is refused because others are in the way
-// is asked for again.
+// and neither it nor the pass moves meanwhile; a chunk that is refused because others are in the
+// way is asked for again.
 class between {
 public:
     between(pass &from, key low, key high) : from_(&from), next_(low), high_(high), more_(low <= high) { read(); }

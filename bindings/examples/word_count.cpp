@@ -1,6 +1,6 @@
-// word_count FILE: four threads count the words of a text in one dictionary, and then in a map with a
-// lock. It prints the twenty most frequent words with both counts, and how long each way took: the
-// least of five rounds.
+// word_count FILE: four threads count the words of a text in one dictionary, and then in a map with
+// a lock. It prints the twenty most frequent words with both counts, and how long each way took:
+// the least of five rounds.
 //
 // A key is the first twelve letters of a word, five bits each: so keys have the order of words.
 #include <regnubas.hpp>

@@ -1,6 +1,6 @@
-"""word_count.py FILE: four threads count the words of a text in one dictionary, and then in a dict with
-a lock. It prints the twenty most frequent words with both counts, and how long each way took: the least
-of five rounds.
+"""word_count.py FILE: four threads count the words of a text in one dictionary, and then in a dict
+with a lock. It prints the twenty most frequent words with both counts, and how long each way took:
+the least of five rounds.
 
 A key is the first twelve letters of a word, five bits each: so keys have the order of words."""
 import re
@@ -27,7 +27,8 @@ def word_of(key):
 
 
 def in_threads(words, count):
-    """Four threads each count a part of the words by `count(thread, word)`: the seconds that it took."""
+    """Four threads each count a part of the words by `count(thread, word)`: the seconds that it
+    took."""
 
     def work(number):
         for word in words[len(words) * number // THREADS : len(words) * (number + 1) // THREADS]:

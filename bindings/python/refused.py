@@ -1,5 +1,6 @@
 """Each allocation of the library is refused in turn: the call raises `NoMemory`, or does without;
-nothing leaks, and the dictionary is as it was. REGNUBAS_LIBRARY names what was made of refusing.cpp."""
+nothing leaks, and the dictionary is as it was. REGNUBAS_LIBRARY names what was made of
+refusing.cpp."""
 import ctypes
 import os
 

@@ -1,5 +1,5 @@
-//! Where the library is: in the prefix that `REGNUBAS_PREFIX` names; or, as in the archive, in `lib`
-//! beside this crate; or where pkg-config says.
+//! Where the library is: in the prefix that `REGNUBAS_PREFIX` names; or, as in the archive, in
+//! `lib` beside this crate; or where pkg-config says.
 use std::path::{Path, PathBuf};
 use std::process::Command;
 

@@ -1,5 +1,5 @@
-"""An ordered dictionary that many threads read and change without locks. A key is a number below 2**64,
-a value one below 2**128.
+"""An ordered dictionary that many threads read and change without locks. A key is a number below
+2**64, a value one below 2**128.
 
 >>> import regnubas
 >>> one, other = regnubas.make(threads=2, changes=1000)
@@ -8,12 +8,12 @@ a value one below 2**128.
 (50, None, False)
 
 Each thread has a pass of its own, which is a `MutableMapping`. A call lets go of the interpreter's
-lock; a pass that two threads use takes one call at a time. No call in the child of a fork of a process
-with threads.
+lock; a pass that two threads use takes one call at a time. No call in the child of a fork of a
+process with threads.
 
-A change that other passes were in the way of raises `Contended` and has changed nothing. What every
-mapping has (`m[5] = 50`, `del m[5]`, `pop`, ..), `replace` and what goes through many pairs ask again
-by themselves; the calls that say what was there before do not: `again(m.insert, 5, 50)`.
+A call that other passes interfered with in each try raises `Contended` and has changed nothing.
+What every mapping has (`m[5] = 50`, `del m[5]`, `pop`, ..), `replace`, and what goes through many
+pairs call the library again by themselves; for other calls there is `again(m.insert, 5, 50)`.
 
 The library is the file that REGNUBAS_LIBRARY names, or the one that came with the wheel, or
 libregnubas.so.0 as the loader finds it."""

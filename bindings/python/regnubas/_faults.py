@@ -6,7 +6,7 @@ class Fault(Exception):
 
 
 class Contended(Fault):
-    """Other passes were in the way in each try: ask again."""
+    """Other passes interfered in each try: call again."""
 
 
 class Full(Fault):
@@ -14,7 +14,7 @@ class Full(Fault):
 
 
 class NoMemory(Fault, MemoryError):
-    """An allocation was refused."""
+    """An allocation failed."""
 
 
 class BadLimits(Fault, ValueError):
@@ -33,8 +33,8 @@ _SOME = 1
 _FAULTS = {2: Contended, 3: Full, 4: NoMemory, 5: BadLimits, 6: NoPass, 7: Shared}
 
 
-def tells(status: int) -> bool:
-    """Whether the answer of this status tells something."""
+def is_some(status: int) -> bool:
+    """Whether a call of this status has found something; raises its fault."""
     if status in _FAULTS:
         raise _FAULTS[status](_FAULTS[status].__doc__)
     return status == _SOME

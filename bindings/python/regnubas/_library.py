@@ -35,10 +35,10 @@ class Share(Structure):
 
 
 def _path() -> str:
-    """The file that REGNUBAS_LIBRARY names; the one that the wheel has brought; the loader's."""
+    """The file that REGNUBAS_LIBRARY names; the one in the wheel; the one that the loader finds."""
     named = os.environ.get("REGNUBAS_LIBRARY")
-    brought = pathlib.Path(__file__).with_name("libregnubas.so.0")
-    return named or (str(brought) if brought.exists() else brought.name)
+    beside = pathlib.Path(__file__).with_name("libregnubas.so.0")
+    return named or (str(beside) if beside.exists() else beside.name)
 
 
 def _load() -> ctypes.CDLL:

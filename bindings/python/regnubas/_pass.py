@@ -6,7 +6,7 @@ from collections.abc import Callable, ItemsView, Iterator, MutableMapping, Value
 from ctypes import byref
 from typing import Any, NoReturn, TypeVar, overload
 
-from ._faults import Contended, tells
+from ._faults import Contended, is_some
 from ._library import Answer, Pair, RawLimits, RawPass, library, number, two_words, word
 from ._views import Items, Values
 
@@ -20,7 +20,7 @@ T = TypeVar("T")
 
 
 def again(call: Callable[..., T], *arguments: Any) -> T:
-    """Asks until other passes are not in the way.
+    """Calls until other passes do not interfere.
 
     >>> [m] = make(threads=1, changes=10)
     >>> again(m.insert, 5, 50)
@@ -32,13 +32,13 @@ def again(call: Callable[..., T], *arguments: Any) -> T:
             pass
 
 
-def _told(answer: Answer) -> int | None:
-    return number(answer.value) if tells(answer.status) else None
+def _value_of(answer: Answer) -> int | None:
+    return number(answer.value) if is_some(answer.status) else None
 
 
 class Pass(MutableMapping[int, int]):
-    """What a thread needs to make calls; `make` makes it. One that is forgotten leaves, and so does one
-    at the end of its `with`."""
+    """What a thread needs to make calls; `make` makes it. One that is forgotten leaves, and so does
+    one at the end of its `with`."""
 
     def __init__(self, most: int) -> None:
         # `most`: the pairs that the dictionary may have, since a new key takes a node at least
@@ -48,50 +48,50 @@ class Pass(MutableMapping[int, int]):
         with self._lock:
             return call(byref(self._raw), *arguments)
 
-    # One call of the library each. These say what was there before, and may be `Contended`.
+    # One call of the library each. These return what was there before, and may be `Contended`.
 
     def insert(self, key: int, value: int) -> int | None:
-        """Sets a key to a value, and tells the value that the key had just before, or None.
+        """Sets a key to a value, and returns the value that the key had just before, or None.
 
         >>> [m] = make(threads=1, changes=10)
         >>> m.insert(5, 50), m.insert(5, 51)
         (None, 50)
         """
-        return _told(self._call(library.regnubas_insert, word(key), two_words(value)))
+        return _value_of(self._call(library.regnubas_insert, word(key), two_words(value)))
 
     def insert_new(self, key: int, value: int) -> int | None:
-        """Sets a key to a value if it has none: None; otherwise tells the value that it has.
+        """Sets a key to a value if it has none: None; otherwise returns the value that it has.
 
         >>> [m] = make(threads=1, changes=10)
         >>> m.insert_new(5, 50), m.insert_new(5, 51), m[5]
         (None, 50, 50)
         """
-        return _told(self._call(library.regnubas_insert_new, word(key), two_words(value)))
+        return _value_of(self._call(library.regnubas_insert_new, word(key), two_words(value)))
 
     def delete(self, key: int) -> int | None:
-        """Takes a key away, and tells the value that it had, or None.
+        """Removes a key, and returns the value that it had, or None.
 
         >>> [m] = make(threads=1, changes=10)
         >>> m[5] = 50
         >>> m.delete(5), m.delete(5)
         (50, None)
         """
-        return _told(self._call(library.regnubas_delete, word(key)))
+        return _value_of(self._call(library.regnubas_delete, word(key)))
 
     def delete_if(self, key: int, expected: int) -> int | None:
-        """Takes a key away where it has the expected value, and tells the value that it had just
-        before: it was taken away where that is the one expected.
+        """Removes a key where it has the expected value, and returns the value that it had just
+        before: it was removed where that is the one expected.
 
         >>> [m] = make(threads=1, changes=10)
         >>> m[5] = 50
         >>> m.delete_if(5, 49), m.delete_if(5, 50), m.delete_if(5, 50)
         (50, 50, None)
         """
-        return _told(self._call(library.regnubas_delete_if, word(key), two_words(expected)))
+        return _value_of(self._call(library.regnubas_delete_if, word(key), two_words(expected)))
 
     def replace_if(self, key: int, expected: int, value: int) -> int | None:
-        """Sets a key to a value where it has the expected one, and tells the value that it had just
-        before: it was replaced where that is the one expected.
+        """Sets a key to a value where it has the expected one, and returns the value that it had
+        just before: it was replaced where that is the one expected.
 
         >>> [m] = make(threads=1, changes=10)
         >>> m[5] = 50
@@ -99,15 +99,15 @@ class Pass(MutableMapping[int, int]):
         (50, 50, 52)
         """
         words = word(key), two_words(expected), two_words(value)
-        return _told(self._call(library.regnubas_replace_if, *words))
+        return _value_of(self._call(library.regnubas_replace_if, *words))
 
     def _found(self, call: Callable[..., Any], *arguments: Any) -> tuple[int, int] | None:
         pair = Pair()
-        found = tells(self._call(call, *arguments, byref(pair)))
+        found = is_some(self._call(call, *arguments, byref(pair)))
         return (pair.key, number(pair.value)) if found else None
 
     def pop_first(self) -> tuple[int, int] | None:
-        """Takes the pair with the least key away: it, or None.
+        """Removes the pair with the least key: it, or None.
 
         >>> [m] = make(threads=1, changes=10)
         >>> m.update({5: 50, 7: 70, 9: 90})
@@ -117,7 +117,7 @@ class Pass(MutableMapping[int, int]):
         return self._found(library.regnubas_pop_first)
 
     def pop_last(self) -> tuple[int, int] | None:
-        """Takes the pair with the greatest key away: it, or None."""
+        """Removes the pair with the greatest key: it, or None."""
         return self._found(library.regnubas_pop_last)
 
     def successor(self, key: int) -> tuple[int, int] | None:
@@ -133,12 +133,12 @@ class Pass(MutableMapping[int, int]):
     def _listed(self, call: Callable[..., Any], most: int, *arguments: int) -> list[tuple[int, int]]:
         room = (Pair * most)()
         count = self._call(call, *arguments, room, most)
-        tells(count.status)
+        is_some(count.status)
         return [(pair.key, number(pair.value)) for pair in room[: count.pairs]]
 
     def range(self, low: int, high: int, most: int = _CHUNK) -> list[tuple[int, int]]:
         """The first pairs by rising key from `low` to `high`, both with them, all of one moment: at
-        most so many, and 64.
+        most `most`, and 64.
 
         >>> [m] = make(threads=1, changes=10)
         >>> m.update({5: 50, 7: 70, 9: 90})
@@ -173,8 +173,8 @@ class Pass(MutableMapping[int, int]):
         """
         return self._listed(library.regnubas_close, self._most)
 
-    # What a mapping has. Each of these is one call of the library, but those that say otherwise, and
-    # asks again while others are in the way.
+    # What a mapping has. Each of these is one call of the library, but those that say otherwise,
+    # and calls again while others interfere.
 
     @overload
     def get(self, key: int) -> int | None: ...
@@ -188,7 +188,7 @@ class Pass(MutableMapping[int, int]):
         >>> m.get(5), m.get(6), m.get(6, 0)
         (50, None, 0)
         """
-        found = _told(self._call(library.regnubas_get, word(key)))
+        found = _value_of(self._call(library.regnubas_get, word(key)))
         return default if found is None else found
 
     def __getitem__(self, key: int) -> int:
@@ -221,7 +221,7 @@ class Pass(MutableMapping[int, int]):
     @overload
     def pop(self, key: int, default: int | T) -> int | T: ...
     def pop(self, key: int, default: Any = _NOTHING) -> Any:
-        """Takes a key away: the value that it had, or the default; without one a KeyError.
+        """Removes a key: the value that it had, or the default; without one a KeyError.
 
         >>> [m] = make(threads=1, changes=10)
         >>> m[5] = 50
@@ -236,7 +236,7 @@ class Pass(MutableMapping[int, int]):
         return default
 
     def popitem(self, last: bool = True) -> tuple[int, int]:
-        """Takes the pair with the greatest key away, or that with the least; a KeyError if there is
+        """Removes the pair with the greatest key, or that with the least; a KeyError if there is
         none.
 
         >>> [m] = make(threads=1, changes=10)
@@ -268,8 +268,8 @@ class Pass(MutableMapping[int, int]):
             low = chunk[-1][0] + 1
 
     def irange(self, minimum: int = 0, maximum: int = MOST_KEY) -> Iterator[int]:
-        """The keys from `minimum` to `maximum`, both with them, by rising key. They are read 64 at a
-        time: those of one such chunk are of one moment, two chunks are not.
+        """The keys from `minimum` to `maximum`, both with them, by rising key. They are read 64 at
+        a time: those of one such chunk are of one moment, two chunks are not.
 
         >>> [m] = make(threads=1, changes=10)
         >>> m.update({5: 50, 7: 70, 9: 90})
@@ -282,8 +282,8 @@ class Pass(MutableMapping[int, int]):
         return self.irange()
 
     def items(self) -> ItemsView[int, int]:
-        """The pairs by rising key, read 64 at a time: those of one such chunk are of one moment, two
-        chunks are not.
+        """The pairs by rising key, read 64 at a time: those of one such chunk are of one moment,
+        two chunks are not.
 
         >>> [m] = make(threads=1, changes=10)
         >>> m.update({9: 90, 5: 50})
@@ -297,7 +297,8 @@ class Pass(MutableMapping[int, int]):
         return Values(self)
 
     def __len__(self) -> int:
-        """How many pairs `items` finds. It goes through all of them: the dictionary keeps no count."""
+        """How many pairs `items` finds. It goes through all of them: the dictionary keeps no
+        count."""
         return sum(1 for _ in self._pairs())
 
     def __bool__(self) -> bool:
@@ -336,19 +337,19 @@ def make(
     changes: int | None = None,
     new_keys: int | None = None,
 ) -> list[Pass]:
-    """A dictionary with a pass for each of so many threads, 1 to 32.
+    """A dictionary with a pass for each thread, 1 to 32.
 
-    `changes` is how many changes each thread makes in the life of the dictionary, `new_keys` how many
-    of them give a value to a key that has none (all of them, if it is left out). A change takes an
-    SCX-record and a node, that of a new key up to three nodes. Twice that is put by, since a try that
-    is lost to another thread takes as much; but at most 32,768 each, which is all that a pass can have.
+    `changes` is how many changes each thread makes in the life of the dictionary, `new_keys` how
+    many of them give a value to a key that has none (all of them, if it is left out). A change
+    takes an SCX-record and a node, that of a new key up to three nodes. What they take is doubled,
+    up to the 32,768 that a pass can have, since a try that is lost to another thread takes as much.
 
     >>> [m] = make(threads=1, changes=100, new_keys=10)
     >>> m.left()
     (240, 200)
 
-    Or give the `nodes` and SCX-records (`scx`) of each pass yourself. A call tries `tries` times, 1 to
-    1,000, before it is `Contended`."""
+    Or give the `nodes` and SCX-records (`scx`) of each pass yourself. A call tries `tries` times, 1
+    to 1,000, before it is `Contended`."""
     if changes is not None:
         if nodes is not None or scx is not None:
             raise TypeError("make: either changes, or nodes and scx")
@@ -357,7 +358,7 @@ def make(
         raise TypeError("make: either changes, or nodes and scx")
     each = RawLimits(word(nodes, 32), word(scx, 32), word(tries, 32))
     raw = (RawPass * word(threads, 16))()
-    tells(library.regnubas_make(each, raw, threads))
+    is_some(library.regnubas_make(each, raw, threads))
     made = [Pass(threads * nodes) for _ in range(threads)]
     for own, old in zip(made, raw):
         own._raw.at, old.at = old.at, None

@@ -1,5 +1,5 @@
-"""The keys, values and pairs of a pass, by rising key and as it reads them: 64 at a time. Those of one
-such chunk are of one moment, two chunks are not."""
+"""The keys, values and pairs of a pass, by rising key and as it reads them: 64 at a time. Those of
+one such chunk are of one moment, two chunks are not."""
 from __future__ import annotations
 
 from collections.abc import ItemsView, Iterator, ValuesView

@@ -18,11 +18,11 @@ use std::fmt;
 /// ```
 #[derive(Clone, Copy, Debug, PartialEq, Eq)]
 pub enum Fault {
-    /// Other passes were in the way in each try: ask again, by yourself or by [`again`](crate::again).
+    /// Other passes interfered in each try: call again, by yourself or by [`again`](crate::again).
     Contended,
     /// Too little is left of the pass's share, which never grows.
     Full,
-    /// An allocation was refused.
+    /// An allocation failed.
     NoMemory,
     /// A number is out of its range.
     Limits,
@@ -31,7 +31,7 @@ pub enum Fault {
 impl fmt::Display for Fault {
     fn fmt(&self, f: &mut fmt::Formatter<'_>) -> fmt::Result {
         f.write_str(match self {
-            Fault::Contended => "contended: other passes were in the way",
+            Fault::Contended => "contended: other passes interfered",
             Fault::Full => "full: too little is left of the pass's share",
             Fault::NoMemory => "no memory",
             Fault::Limits => "bad limits",
@@ -57,7 +57,7 @@ impl Error for Fault {}
 pub enum CloseFault {
     /// Other passes have not left: here is this one.
     Shared(Pass),
-    /// An allocation was refused: the dictionary is gone.
+    /// An allocation failed: the dictionary is gone.
     NoMemory,
 }
 
@@ -75,8 +75,8 @@ impl Error for CloseFault {}
 /// The status of a dictionary that others share.
 pub(crate) const SHARED: u32 = 7;
 
-/// Whether the answer of this status tells something.
-pub(crate) fn tells(status: u32) -> Result<bool, Fault> {
+/// Whether a call of this status has found something.
+pub(crate) fn is_some(status: u32) -> Result<bool, Fault> {
     match status {
         0 => Ok(false),
         1 => Ok(true),

@@ -39,7 +39,7 @@ pub struct Pair {
 }
 
 impl Pair {
-    pub fn told(&self) -> (u64, u128) {
+    pub fn numbers(&self) -> (u64, u128) {
         (self.key, self.value.number())
     }
 }

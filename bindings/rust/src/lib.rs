@@ -1,6 +1,6 @@
 //! An ordered dictionary that many threads read and change without locks: its keys are `u64`, its
-//! values `u128`. What the library asks of its callers is kept by types: a [`Pass`] is moved and never
-//! copied, its calls take `&mut`, and it is `Send` and not `Sync`.
+//! values `u128`. What the library asks of its callers is kept by types: a [`Pass`] is moved and
+//! never copied, its calls take `&mut`, and it is `Send` and not `Sync`.
 //!
 //! ```
 //! let mut passes = regnubas::make(2, regnubas::Limits::for_changes(100, 100))?;
@@ -14,9 +14,9 @@
 //! shared::<regnubas::Pass>();
 //! ```
 //!
-//! Names are those of `BTreeMap`. What differs: a call may be refused (see [`Fault`]), and only `get`
-//! and `contains_key` never are; `insert_new`, `remove_if`, `replace_if` look and change in one step;
-//! there is no `len`, since the dictionary keeps no count.
+//! Names are those of `BTreeMap`. What differs: a call may be refused (see [`Fault`]), and only
+//! `get` and `contains_key` never are; `insert_new`, `remove_if`, `replace_if` look and change in
+//! one step; there is no `len`, since the dictionary keeps no count.
 
 mod fault;
 mod ffi;
@@ -29,7 +29,7 @@ pub use limits::{Limits, Share};
 pub use pass::{make, Pass};
 pub use range::Range;
 
-/// Asks until other passes are not in the way.
+/// Calls until other passes do not interfere.
 ///
 /// ```
 /// # let mut pass = regnubas::make(1, regnubas::Limits::for_changes(10, 10))?.remove(0);
@@ -40,7 +40,7 @@ pub fn again<T>(mut call: impl FnMut() -> Result<T, Fault>) -> Result<T, Fault> 
     loop {
         match call() {
             Err(Fault::Contended) => {}
-            told => return told,
+            result => return result,
         }
     }
 }

@@ -12,7 +12,8 @@
 #[repr(C)]
 #[derive(Clone, Copy, Debug, PartialEq, Eq)]
 pub struct Limits {
-    /// 0 to 32,768. A change takes a node in a try; the first key, or a new one in a full leaf, three.
+    /// 0 to 32,768. A change takes a node in a try; the first key, or a new one in a full leaf,
+    /// three.
     pub nodes: u32,
     /// 0 to 32,768 SCX-records. A change takes one in a try.
     pub scx: u32,
@@ -28,10 +29,10 @@ impl Limits {
     /// ```
     pub const MOST: u32 = 32_768;
 
-    /// Limits for so many changes by each pass, of which `new_keys` give a value to a key that has
-    /// none. Twice what they take is put by, since a try that is lost to another thread takes as
-    /// much; but at most [`MOST`](Limits::MOST). If they take more than that by themselves,
-    /// [`make`](crate::make) answers [`Fault::Limits`](crate::Fault::Limits).
+    /// Limits for this many changes by each pass, of which `new_keys` give a value to a key that
+    /// has none. What they take is doubled, up to [`MOST`](Limits::MOST), since a try that is lost
+    /// to another thread takes as much. If they take more than `MOST` by themselves,
+    /// [`make`](crate::make) returns [`Fault::Limits`](crate::Fault::Limits).
     ///
     /// ```
     /// use regnubas::Limits;

@@ -1,6 +1,6 @@
 //! A pass: what a thread needs to make calls.
 
-use crate::fault::{tells, CloseFault, Fault, SHARED};
+use crate::fault::{is_some, CloseFault, Fault, SHARED};
 use crate::ffi::*;
 use crate::range::{ends, Range};
 use crate::{Limits, Share};
@@ -25,8 +25,8 @@ pub struct Pass {
     most: usize,
 }
 
-// SAFETY: what a pass leads to may cross threads, as the library proves of its handle; and `&mut` in
-// each call gives the pass to one call at a time.
+// SAFETY: what a pass leads to may cross threads, as the library proves of its handle; and `&mut`
+// in each call gives the pass to one call at a time.
 unsafe impl Send for Pass {}
 
 impl fmt::Debug for Pass {
@@ -35,7 +35,7 @@ impl fmt::Debug for Pass {
     }
 }
 
-/// A dictionary with so many passes, 1 to 32: as many threads may work at a time.
+/// A dictionary with this many passes, 1 to 32: as many threads may work at a time.
 ///
 /// ```
 /// use regnubas::{make, Fault, Limits};
@@ -50,12 +50,17 @@ pub fn make(passes: usize, each: Limits) -> Result<Vec<Pass>, Fault> {
     }
     let mut raw: Vec<RawPass> = (0..passes).map(|_| RawPass::EMPTY).collect();
     // SAFETY: these are `passes` zeroed passes, and no one else has them.
-    tells(unsafe { regnubas_make(each, raw.as_mut_ptr(), raw.len()) })?;
+    is_some(unsafe { regnubas_make(each, raw.as_mut_ptr(), raw.len()) })?;
     Ok(raw.into_iter().map(|raw| Pass { raw, most: passes * each.nodes as usize }).collect())
 }
 
-fn told(answer: Answer) -> Result<Option<u128>, Fault> {
-    Ok(tells(answer.status)?.then(|| answer.value.number()))
+fn value_of(answer: Answer) -> Result<Option<u128>, Fault> {
+    Ok(is_some(answer.status)?.then(|| answer.value.number()))
+}
+
+fn pair_of(call: impl FnOnce(&mut Pair) -> u32) -> Result<Option<(u64, u128)>, Fault> {
+    let mut pair = Pair::default();
+    Ok(is_some(call(&mut pair))?.then(|| pair.numbers()))
 }
 
 // SAFETY of the calls: the pass is held and ours alone by `&mut`, and so are a pair and a room.
@@ -69,7 +74,7 @@ impl Pass {
     /// # Ok::<(), regnubas::Fault>(())
     /// ```
     pub fn get(&mut self, key: u64) -> Option<u128> {
-        told(unsafe { regnubas_get(&mut self.raw, key) }).expect("a get is never refused")
+        value_of(unsafe { regnubas_get(&mut self.raw, key) }).expect("a get is never refused")
     }
 
     /// Whether a key has a value. It is never refused.
@@ -84,7 +89,7 @@ impl Pass {
         self.get(key).is_some()
     }
 
-    /// Sets a key to a value, and tells the value that the key had just before.
+    /// Sets a key to a value, and returns the value that the key had just before.
     ///
     /// ```
     /// # let mut pass = regnubas::make(1, regnubas::Limits::for_changes(10, 10))?.remove(0);
@@ -93,10 +98,10 @@ impl Pass {
     /// # Ok::<(), regnubas::Fault>(())
     /// ```
     pub fn insert(&mut self, key: u64, value: u128) -> Result<Option<u128>, Fault> {
-        told(unsafe { regnubas_insert(&mut self.raw, key, Value::of(value)) })
+        value_of(unsafe { regnubas_insert(&mut self.raw, key, Value::of(value)) })
     }
 
-    /// Sets a key to a value if it has none, and tells the value that it has otherwise.
+    /// Sets a key to a value if it has none, and returns the value that it has otherwise.
     ///
     /// ```
     /// # let mut pass = regnubas::make(1, regnubas::Limits::for_changes(10, 10))?.remove(0);
@@ -106,10 +111,10 @@ impl Pass {
     /// # Ok::<(), regnubas::Fault>(())
     /// ```
     pub fn insert_new(&mut self, key: u64, value: u128) -> Result<Option<u128>, Fault> {
-        told(unsafe { regnubas_insert_new(&mut self.raw, key, Value::of(value)) })
+        value_of(unsafe { regnubas_insert_new(&mut self.raw, key, Value::of(value)) })
     }
 
-    /// Takes a key away, and tells the value that it had.
+    /// Removes a key, and returns the value that it had.
     ///
     /// ```
     /// # let mut pass = regnubas::make(1, regnubas::Limits::for_changes(10, 10))?.remove(0);
@@ -118,11 +123,11 @@ impl Pass {
     /// # Ok::<(), regnubas::Fault>(())
     /// ```
     pub fn remove(&mut self, key: u64) -> Result<Option<u128>, Fault> {
-        told(unsafe { regnubas_delete(&mut self.raw, key) })
+        value_of(unsafe { regnubas_delete(&mut self.raw, key) })
     }
 
-    /// Takes a key away where it has the expected value, and tells the value that it had just
-    /// before: it was taken away where that is the one expected.
+    /// Removes a key where it has the expected value, and returns the value that it had just
+    /// before: it was removed where that is the one expected.
     ///
     /// ```
     /// # let mut pass = regnubas::make(1, regnubas::Limits::for_changes(10, 10))?.remove(0);
@@ -133,10 +138,10 @@ impl Pass {
     /// # Ok::<(), regnubas::Fault>(())
     /// ```
     pub fn remove_if(&mut self, key: u64, expected: u128) -> Result<Option<u128>, Fault> {
-        told(unsafe { regnubas_delete_if(&mut self.raw, key, Value::of(expected)) })
+        value_of(unsafe { regnubas_delete_if(&mut self.raw, key, Value::of(expected)) })
     }
 
-    /// Sets a key to a value where it has the expected one, and tells the value that it had just
+    /// Sets a key to a value where it has the expected one, and returns the value that it had just
     /// before: it was replaced where that is the one expected.
     ///
     /// ```
@@ -153,7 +158,7 @@ impl Pass {
         expected: u128,
         value: u128,
     ) -> Result<Option<u128>, Fault> {
-        told(unsafe {
+        value_of(unsafe {
             regnubas_replace_if(&mut self.raw, key, Value::of(expected), Value::of(value))
         })
     }
@@ -171,7 +176,7 @@ impl Pass {
         Ok(self.listed(0, u64::MAX, 1)?.pop())
     }
 
-    /// Takes the pair with the least key away.
+    /// Removes the pair with the least key.
     ///
     /// ```
     /// # let mut pass = regnubas::make(1, regnubas::Limits::for_changes(10, 10))?.remove(0);
@@ -181,12 +186,10 @@ impl Pass {
     /// # Ok::<(), regnubas::Fault>(())
     /// ```
     pub fn pop_first(&mut self) -> Result<Option<(u64, u128)>, Fault> {
-        let mut pair = Pair::default();
-        let taken = tells(unsafe { regnubas_pop_first(&mut self.raw, &mut pair) })?;
-        Ok(taken.then(|| pair.told()))
+        pair_of(|pair| unsafe { regnubas_pop_first(&mut self.raw, pair) })
     }
 
-    /// Takes the pair with the greatest key away.
+    /// Removes the pair with the greatest key.
     ///
     /// ```
     /// # let mut pass = regnubas::make(1, regnubas::Limits::for_changes(10, 10))?.remove(0);
@@ -196,9 +199,7 @@ impl Pass {
     /// # Ok::<(), regnubas::Fault>(())
     /// ```
     pub fn pop_last(&mut self) -> Result<Option<(u64, u128)>, Fault> {
-        let mut pair = Pair::default();
-        let taken = tells(unsafe { regnubas_pop_last(&mut self.raw, &mut pair) })?;
-        Ok(taken.then(|| pair.told()))
+        pair_of(|pair| unsafe { regnubas_pop_last(&mut self.raw, pair) })
     }
 
     /// The pair with the least key above this one.
@@ -211,9 +212,7 @@ impl Pass {
     /// # Ok::<(), regnubas::Fault>(())
     /// ```
     pub fn successor(&mut self, key: u64) -> Result<Option<(u64, u128)>, Fault> {
-        let mut pair = Pair::default();
-        let next = tells(unsafe { regnubas_successor(&mut self.raw, key, &mut pair) })?;
-        Ok(next.then(|| pair.told()))
+        pair_of(|pair| unsafe { regnubas_successor(&mut self.raw, key, pair) })
     }
 
     /// The pairs with these keys, by rising key. See [`Range`] for what is of one moment. Where no
@@ -233,7 +232,8 @@ impl Pass {
         Range::new(self, keys)
     }
 
-    /// The first pairs with these keys, by rising key and all of one moment: at most so many, and 64.
+    /// The first pairs with these keys, by rising key and all of one moment: at most `most`, and
+    /// 64.
     ///
     /// ```
     /// # let mut pass = regnubas::make(1, regnubas::Limits::for_changes(10, 10))?.remove(0);
@@ -260,8 +260,8 @@ impl Pass {
         let mut room = [Pair::default(); MOST_LISTED];
         let most = most.min(MOST_LISTED);
         let count = unsafe { regnubas_range(&mut self.raw, low, high, room.as_mut_ptr(), most) };
-        tells(count.status)?;
-        Ok(room[..count.pairs as usize].iter().map(Pair::told).collect())
+        is_some(count.status)?;
+        Ok(room[..count.pairs as usize].iter().map(Pair::numbers).collect())
     }
 
     /// What is left of the pass's share.
@@ -289,8 +289,8 @@ impl Pass {
         if count.status == SHARED {
             return Err(CloseFault::Shared(self));
         }
-        tells(count.status).map_err(|_| CloseFault::NoMemory)?;
-        Ok(room[..count.pairs as usize].iter().map(Pair::told).collect())
+        is_some(count.status).map_err(|_| CloseFault::NoMemory)?;
+        Ok(room[..count.pairs as usize].iter().map(Pair::numbers).collect())
     }
 }
 

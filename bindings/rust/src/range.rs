@@ -6,8 +6,8 @@ use std::iter::FusedIterator;
 use std::ops::{Bound, RangeBounds};
 
 /// The pairs between two keys by rising key, as [`Pass::range`] answers them. They are read 64 at a
-/// time: those of one such chunk are of one moment, two chunks are not. A chunk that other passes were
-/// in the way of is asked for again.
+/// time: those of one such chunk are of one moment, two chunks are not. A chunk that is
+/// contended is read again.
 ///
 /// ```
 /// let mut passes = regnubas::make(1, regnubas::Limits::for_changes(10, 10))?;
