@@ -1,4 +1,4 @@
-use Rattle.ordered_map.proofs.Maps.{inserted, insert_keeps, deleted, delete_keeps, edited_rises, same_values, after_insert, after_delete, after_pop, after_replace, after_insert_new, after_delete_if, successor_is, between_gives, between_rises, end_is, after_pop_last}
+use Rattle.ordered_map.proofs.Maps.{inserted, insert_keeps, deleted, delete_keeps, edited_rises, same_values, after_insert, after_delete, after_pop, after_replace, after_insert_new, after_delete_if, neighbour_is, between_gives, between_rises, end_is, after_pop_last}
 use Rattle.ordered_map.proofs.laws.map_laws_hold.Goals as goal
 
 pub returns-clause-inserted : goal.returns-clause-inserted
@@ -43,8 +43,8 @@ returns-clause-after_insert_new c = after_insert_new
 pub returns-clause-after_delete_if : goal.returns-clause-after_delete_if
 returns-clause-after_delete_if c = after_delete_if
 
-pub returns-clause-successor : goal.returns-clause-successor
-returns-clause-successor c = successor_is
+pub returns-clause-neighbours : goal.returns-clause-neighbours
+returns-clause-neighbours c = neighbour_is
 
 pub returns-clause-between : goal.returns-clause-between
 returns-clause-between c = between_gives
