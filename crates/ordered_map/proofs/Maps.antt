@@ -205,7 +205,7 @@ predecessor_is k (p ∷ ps) r = go (split_at p.key k) (predecessor k ps) (predec
           rw (ne_eqb q.key p.key (λ e. omega (arith, e, above))) x.1,
           λ j i u. rw (ne_eqb j p.key (λ e. omega (arith, e, above, u))) (x.2 j i u),
         )
-    go (inr l) None x = rw (le-ltb k p.key l) (λ j i. below_first j p ps r (omega (arith, i, l)))
+    go (inr l) None x = rw (le-ltb p.key k l) (λ j i. below_first j p ps r (omega (arith, i, l)))
     go (inr l) (Some q) x = absurd (let a = has_above q.key p.key q.value ps r.0 x.1 in let b = x.0 in omega (arith, a, b, l))
 
 pub neighbour_is : (side : Side) (k : ℕ) (m : List Pair) → IsRising m → IsNeighbour side k m (neighbour side k m)
