@@ -4,7 +4,7 @@ use Rattle.std.specs.Prelude.{◌≡◌, ℕ, ◌^◌, ◌<◌, List, [], ◌∷
 use Rattle.ordered_map.specs.Holding.{wide_value}
 use Rattle.ordered_map.specs.declared.pair.Pair.{Pair}
 use Rattle.ordered_map.specs.declared.request.Request.{Request}
-use Rattle.ordered_map.specs.declared.request.Request.TheVariants.{Insert as InsertOf, Delete as DeleteOf, PopFirst as PopFirstOf, PopLast as PopLastOf, ReplaceIf as ReplaceIfOf, InsertNew as InsertNewOf, DeleteIf as DeleteIfOf, Get as GetOf, Successor as SuccessorOf, Range as RangeOf}
+use Rattle.ordered_map.specs.declared.request.Request.TheVariants.{Insert as InsertOf, Delete as DeleteOf, PopFirst as PopFirstOf, PopLast as PopLastOf, ReplaceIf as ReplaceIfOf, InsertNew as InsertNewOf, DeleteIf as DeleteIfOf, Get as GetOf, Successor as SuccessorOf, Predecessor as PredecessorOf, Range as RangeOf}
 use Rattle.ordered_map.specs.declared.reply.Reply.{Reply}
 use Rattle.ordered_map.specs.declared.reply.Reply.TheVariants.{Value, Pair as PairOf, Pairs}
 
@@ -44,6 +44,7 @@ IsValidRequest valid_key valid_value (InsertNewOf k v) = valid_key k × valid_va
 IsValidRequest valid_key valid_value (DeleteIfOf k e) = valid_key k × valid_value e
 IsValidRequest valid_key valid_value (GetOf k) = valid_key k
 IsValidRequest valid_key valid_value (SuccessorOf k) = valid_key k
+IsValidRequest valid_key valid_value (PredecessorOf k) = valid_key k
 IsValidRequest valid_key valid_value (RangeOf low high most) = valid_key low × valid_key high
 
 -- the keys and the values of a reply are those of their types

@@ -15,7 +15,7 @@ pub use Rattle.ordered_map.proofs.SlotReads.{get_here, get_behind, get_nowhere, 
 pub use Rattle.ordered_map.proofs.Moved.{settled_rank, settled_toward, settled_class, settled_leaf, settled_level, settled_said, settled_end, move_leaf_edit, move_join_by}
 pub use Rattle.ordered_map.proofs.Next.{or_else, or_none, found_before, before_above, part_on, end_below, rest_below, search_below}
 pub use Rattle.ordered_map.proofs.NextPairs.{low_pair, pair_stays, pair_goes, search_tells}
-pub use Rattle.ordered_map.proofs.Maps.{get_above, insert_here, put_before, put_behind, taken_out, inserted, insert_keeps, deleted, delete_keeps, edited_rises, same_values, end_is, end_had, after_insert, after_delete, after_pop, after_pop_last, after_replace, neighbour_is, between_gives, between_rises, edit_gives, after_is}
-pub use Rattle.ordered_map.proofs.Lists.{edited_below}
+pub use Rattle.ordered_map.proofs.Maps.{get_above, insert_here, put_before, put_behind, taken_out, inserted, insert_keeps, deleted, delete_keeps, edited_rises, same_values, end_is, end_had, below_end, after_insert, after_delete, after_pop, after_pop_last, after_replace, neighbour_is, between_gives, between_rises, edit_gives, after_is}
+pub use Rattle.ordered_map.proofs.Lists.{above_less, edited_below}
 pub use Rattle.ordered_map.proofs.Rising.{rising_levels, held_stood}
 pub use Rattle.ordered_map.proofs.EndLeaf.{IsBeside, IsUpTo, beside_same, end_small, end_up, stood_counted, walk_small, walk_holds, walk_turns, walk_beside, walk_own, walk_end, win_end}
