@@ -17,7 +17,7 @@ call_row call = decimal call.client.0 ∷ command_row call.command
 -- the field names a command of the mode
 abbrev pub NamesCommand : Mode → List ℕ → Type 0
 NamesCommand Records field = (field ≡ codes "llx") ⊎ (field ≡ codes "scx") ⊎ (field ≡ codes "vlx") ⊎ (field ≡ codes "set")
-NamesCommand Tree field = (field ≡ codes "insert") ⊎ (field ≡ codes "delete") ⊎ (field ≡ codes "pop_first") ⊎ (field ≡ codes "pop_last") ⊎ (field ≡ codes "replace_if") ⊎ (field ≡ codes "insert_new") ⊎ (field ≡ codes "delete_if") ⊎ (field ≡ codes "get") ⊎ (field ≡ codes "successor") ⊎ (field ≡ codes "range")
+NamesCommand Tree field = (field ≡ codes "insert") ⊎ (field ≡ codes "delete") ⊎ (field ≡ codes "pop_first") ⊎ (field ≡ codes "pop_last") ⊎ (field ≡ codes "replace_if") ⊎ (field ≡ codes "insert_new") ⊎ (field ≡ codes "delete_if") ⊎ (field ≡ codes "get") ⊎ (field ≡ codes "successor") ⊎ (field ≡ codes "predecessor") ⊎ (field ≡ codes "range")
 
 -- why a name with arguments says no command: the first cause that fits it
 abbrev pub IsNoCommand : Mode → List ℕ → List (List ℕ) → ScriptCause → Type 0

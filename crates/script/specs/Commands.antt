@@ -11,7 +11,7 @@ use Rattle.script.specs.Update.{update_cells, update_finalize, update_field, upd
 use Rattle.ordered_map.specs.declared.request.Request.{Request}
 use Rattle.script.specs.declared.command.Command.{Command}
 use Rattle.script.specs.declared.command.Command.TheVariants.{Llx, Scx, Vlx, Set, Map}
-use Rattle.ordered_map.specs.declared.request.Request.TheVariants.{Insert, InsertNew, Delete, DeleteIf, PopFirst, PopLast, ReplaceIf, Get, Successor, Range}
+use Rattle.ordered_map.specs.declared.request.Request.TheVariants.{Insert, InsertNew, Delete, DeleteIf, PopFirst, PopLast, ReplaceIf, Get, Successor, Predecessor, Range}
 
 -- the word for a side
 abbrev pub side_text : Side → List ℕ
@@ -43,6 +43,7 @@ request_row (InsertNew key value) = codes "insert_new" ∷ decimal key ∷ decim
 request_row (DeleteIf key expected) = codes "delete_if" ∷ decimal key ∷ decimal expected ∷ [] ∷ []
 request_row (Get key) = codes "get" ∷ decimal key ∷ [] ∷ [] ∷ []
 request_row (Successor key) = codes "successor" ∷ decimal key ∷ [] ∷ [] ∷ []
+request_row (Predecessor key) = codes "predecessor" ∷ decimal key ∷ [] ∷ [] ∷ []
 request_row (Range low high most) = codes "range" ∷ decimal low ∷ decimal high ∷ decimal most ∷ []
 
 -- a command's name and its arguments, as a script has them
@@ -88,6 +89,7 @@ IsRequest (InsertNew key value) = (key < 2 ^ 64) × (value < 2 ^ 128)
 IsRequest (DeleteIf key expected) = (key < 2 ^ 64) × (expected < 2 ^ 128)
 IsRequest (Get key) = key < 2 ^ 64
 IsRequest (Successor key) = key < 2 ^ 64
+IsRequest (Predecessor key) = key < 2 ^ 64
 IsRequest (Range low high most) = (low < 2 ^ 64) × (high < 2 ^ 64) × (most ≤ 64)
 
 -- the command is one that there is: its nodes are cells, the value of a fresh cell fits a word, and a

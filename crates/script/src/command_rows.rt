@@ -66,6 +66,7 @@ fn map_command_of(name: &str, arguments: [&str; 3]) -> Result<Command, ScriptCau
         "delete_if" => delete_if_of(arguments),
         "get" => get_of(arguments),
         "successor" => successor_of(arguments),
+        "predecessor" => predecessor_of(arguments),
         "range" => range_of(arguments),
         _ => return Err(ScriptCause::Command),
     };
@@ -210,6 +211,17 @@ fn successor_of(arguments: [&str; 3]) -> Option<Command>
         return None;
     };
     Some(Command::Map(Request::Successor {
+        key: number_of(key)?,
+    }))
+}
+
+fn predecessor_of(arguments: [&str; 3]) -> Option<Command>
+    ensures { IsCommandOf (codes "predecessor" ∷ texts arguments.entry) result }
+{
+    let [key, "", ""] = arguments else {
+        return None;
+    };
+    Some(Command::Map(Request::Predecessor {
         key: number_of(key)?,
     }))
 }
@@ -377,6 +389,9 @@ impl CommandText {
             }
             Request::Successor { key } => {
                 CommandText::of_numbers(alloc, "successor", [Some(key.into()), None, None])
+            }
+            Request::Predecessor { key } => {
+                CommandText::of_numbers(alloc, "predecessor", [Some(key.into()), None, None])
             }
             Request::Range { low, high, most } => CommandText::of_numbers(
                 alloc,

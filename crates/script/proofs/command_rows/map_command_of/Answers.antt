@@ -1,7 +1,7 @@
 use Rattle.std.proofs.Common.{rules}
 use Rattle.script.proofs.Few.{command_asks}
 use Rattle.script.proofs.command_rows.map_command_of.Goals as goal
-use Rattle.script.proofs.command_rows.map_command_of.Goals.{in-insert, in-delete, in-pop_first, in-pop_last, in-replace_if, in-insert_new, in-delete_if, in-get, in-successor, in-range}
+use Rattle.script.proofs.command_rows.map_command_of.Goals.{in-insert, in-delete, in-pop_first, in-pop_last, in-replace_if, in-insert_new, in-delete_if, in-get, in-successor, in-predecessor, in-range}
 
 pub returns-in-Some-clause-command : goal.returns-in-Some-clause-command
 returns-in-Some-clause-command c = elim c.match-name.branch [
@@ -14,6 +14,7 @@ returns-in-Some-clause-command c = elim c.match-name.branch [
   | in-delete_if w ↦ search rules
   | in-get w ↦ search rules
   | in-successor w ↦ search rules
+  | in-predecessor w ↦ search rules
   | in-range w ↦ search rules
 ]
 
@@ -28,6 +29,7 @@ returns-in-None-clause-cause c = elim c.match-name.branch [
   | in-delete_if w ↦ search rules
   | in-get w ↦ search rules
   | in-successor w ↦ search rules
+  | in-predecessor w ↦ search rules
   | in-range w ↦ search rules
 ]
 
