@@ -2,7 +2,7 @@
 use Rattle.std.proofs.Common.{◌≡◌, ◌≢◌, ℕ, List, [], ◌∷◌, Bor, None, Result, Ok, Err, IfErr, inl, inr, arith, codes, decimal, get_or, length, refl}
 use Rattle.std.specs.Result.{result_ok}
 use Rattle.arena.specs.declared.limits.Mode.{Mode}
-use Rattle.ordered_map.specs.declared.request.Request.TheVariants.{Insert, InsertNew, Delete, DeleteIf, PopFirst, PopLast, ReplaceIf, Get, Successor, Range}
+use Rattle.ordered_map.specs.declared.request.Request.TheVariants.{Insert, InsertNew, Delete, DeleteIf, PopFirst, PopLast, ReplaceIf, Get, Successor, Predecessor, Range}
 use Rattle.script.specs.Calls.{IsNoCommand, NamesCommand}
 use Rattle.script.specs.Commands.{IsCommand, command_row, mode_of, texts}
 use Rattle.script.specs.declared.command.Command.{Command}
@@ -46,7 +46,8 @@ names_command mode name rest (Map (InsertNew key value)) of_mode is = rw (← of
 names_command mode name rest (Map (DeleteIf key expected)) of_mode is = rw (← of_mode) (inr (inr (inr (inr (inr (inr (inl cc)))))))
 names_command mode name rest (Map (Get key)) of_mode is = rw (← of_mode) (inr (inr (inr (inr (inr (inr (inr (inl cc))))))))
 names_command mode name rest (Map (Successor key)) of_mode is = rw (← of_mode) (inr (inr (inr (inr (inr (inr (inr (inr (inl cc)))))))))
-names_command mode name rest (Map (Range low high most)) of_mode is = rw (← of_mode) (inr (inr (inr (inr (inr (inr (inr (inr (inr cc)))))))))
+names_command mode name rest (Map (Predecessor key)) of_mode is = rw (← of_mode) (inr (inr (inr (inr (inr (inr (inr (inr (inr (inl cc))))))))))
+names_command mode name rest (Map (Range low high most)) of_mode is = rw (← of_mode) (inr (inr (inr (inr (inr (inr (inr (inr (inr (inr cc))))))))))
 
 why_none : (mode : Mode) (name : List ℕ) (rest : List (List ℕ)) (why : ScriptCause) → IsNoCommand mode name rest why → (command : Command) → mode_of command ≡ mode → IsCommand command → name ∷ rest ≢ command_row command
 why_none mode name rest cause.Command none command of_mode valid is = none (names_command mode name rest command of_mode is)
@@ -77,4 +78,5 @@ whole_row client number (Map (InsertNew key value)) = refl
 whole_row client number (Map (DeleteIf key expected)) = refl
 whole_row client number (Map (Get key)) = refl
 whole_row client number (Map (Successor key)) = refl
+whole_row client number (Map (Predecessor key)) = refl
 whole_row client number (Map (Range low high most)) = refl

@@ -30,7 +30,7 @@ use Rattle.arena.specs.Words.{IsScxWord}
 use Rattle.ordered_map.specs.declared.reply.Reply.{Reply}
 use Rattle.ordered_map.specs.declared.reply.Reply.TheVariants.{Value, Pair, Pairs, Contended, NoMemory, Full as FullShare}
 use Rattle.ordered_map.specs.declared.request.Request.{Request}
-use Rattle.ordered_map.specs.declared.request.Request.TheVariants.{Insert, InsertNew, Delete, DeleteIf, PopFirst, PopLast, ReplaceIf, Get, Successor, Range}
+use Rattle.ordered_map.specs.declared.request.Request.TheVariants.{Insert, InsertNew, Delete, DeleteIf, PopFirst, PopLast, ReplaceIf, Get, Successor, Predecessor, Range}
 use Rattle.script.specs.Commands.{IsCell, IsCommand, IsRequest, change_text, command_row, numbers_text, request_row, side_text, spaced}
 use Rattle.script.specs.Kinds.{kind_text}
 use Rattle.script.specs.Rows.{limits_row}
@@ -263,6 +263,7 @@ request_is_text (InsertNew key value) fits = four_texts _ _ _ _ (ascii (codes "i
 request_is_text (DeleteIf key expected) fits = four_texts _ _ _ _ (ascii (codes "delete_if") refl) (number key fits.0) (value_is_text expected fits.1) IsUtf8-nil
 request_is_text (Get key) fits = four_texts _ _ _ _ (ascii (codes "get") refl) (number key fits) IsUtf8-nil IsUtf8-nil
 request_is_text (Successor key) fits = four_texts _ _ _ _ (ascii (codes "successor") refl) (number key fits) IsUtf8-nil IsUtf8-nil
+request_is_text (Predecessor key) fits = four_texts _ _ _ _ (ascii (codes "predecessor") refl) (number key fits) IsUtf8-nil IsUtf8-nil
 request_is_text (Range low high most) fits = four_texts _ _ _ _ (ascii (codes "range") refl) (number low fits.0) (number high fits.1) (number most (omega (arith, fits.2)))
 
 change_is_text : (field : ℕ × Side) (value : ℕ) → field.0 < 2 ^ 64 → value < 2 ^ 64 → IsUtf8 (change_text field value)
@@ -310,6 +311,7 @@ call_is_wide client number (Map (InsertNew key value)) text = (refl, text)
 call_is_wide client number (Map (DeleteIf key expected)) text = (refl, text)
 call_is_wide client number (Map (Get key)) text = (refl, text)
 call_is_wide client number (Map (Successor key)) text = (refl, text)
+call_is_wide client number (Map (Predecessor key)) text = (refl, text)
 call_is_wide client number (Map (Range low high most)) text = (refl, text)
 
 line_is_long : (line : Line) → length (seven (line_row line)) ≡ 7

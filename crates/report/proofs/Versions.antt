@@ -6,7 +6,7 @@ use Rattle.arena.specs.declared.word.SettledPart.TheVariants.{Head, More, Key, V
 use Rattle.arena.specs.declared.word.Side.TheVariants.{Left, Right}
 use Rattle.arena.specs.declared.word.Slot.{Slot}
 use Rattle.arena.specs.declared.word.Slot.TheVariants.{First, Second, Third, Fourth}
-use Rattle.ordered_map.specs.declared.request.Request.TheVariants.{Insert, InsertNew, Delete, DeleteIf, PopFirst, PopLast, ReplaceIf, Range}
+use Rattle.ordered_map.specs.declared.request.Request.TheVariants.{Insert, InsertNew, Delete, DeleteIf, PopFirst, PopLast, Predecessor, ReplaceIf, Range}
 use Rattle.script.specs.Commands.{IsCommand, command_row}
 use Rattle.script.specs.declared.command.Command.{Command}
 use Rattle.script.specs.declared.command.Command.TheVariants.{Map}
@@ -85,7 +85,12 @@ same_command version (Map (DeleteIf key expected)) (Map (Delete k)) fits small i
 same_command version (Map (DeleteIf key expected)) other fits small is has = absurd (omega (arith, ap (name_letter 0) is))
 same_command version (Map PopLast) (Map PopLast) fits small is has = has
 same_command version (Map PopLast) (Map PopFirst) fits small is has = absurd (omega (arith, ap (name_letter 4) is))
+same_command version (Map PopLast) (Map (Predecessor k)) fits small is has = absurd (omega (arith, ap (name_letter 1) is))
 same_command version (Map PopLast) other fits small is has = absurd (omega (arith, ap (name_letter 0) is))
+same_command version (Map (Predecessor key)) (Map (Predecessor k)) fits small is has = has
+same_command version (Map (Predecessor key)) (Map PopFirst) fits small is has = absurd (omega (arith, ap (name_letter 1) is))
+same_command version (Map (Predecessor key)) (Map PopLast) fits small is has = absurd (omega (arith, ap (name_letter 1) is))
+same_command version (Map (Predecessor key)) other fits small is has = absurd (omega (arith, ap (name_letter 0) is))
 same_command version (Map (ReplaceIf key expected value)) (Map (ReplaceIf k e v)) fits small is has = (
   same_value version expected e fits.1 small.1 (ap (λ (row : List (List ℕ)). get_or row 2 []) is) has.0,
   same_value version value v fits.2 small.2 (ap (λ (row : List (List ℕ)). get_or row 3 []) is) has.1,

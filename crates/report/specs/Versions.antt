@@ -4,7 +4,7 @@ use Rattle.arena.specs.declared.word.NodeWord.{NodeWord}
 use Rattle.arena.specs.declared.word.NodeWord.TheVariants.{Settled}
 use Rattle.arena.specs.declared.word.SettledPart.TheVariants.{High}
 use Rattle.ordered_map.specs.declared.request.Request.{Request}
-use Rattle.ordered_map.specs.declared.request.Request.TheVariants.{Insert, InsertNew, DeleteIf, PopLast, ReplaceIf}
+use Rattle.ordered_map.specs.declared.request.Request.TheVariants.{Insert, InsertNew, DeleteIf, PopLast, Predecessor, ReplaceIf}
 use Rattle.script.specs.declared.command.Command.{Command}
 use Rattle.script.specs.declared.command.Command.TheVariants.{Map}
 use Rattle.report.specs.declared.version.Version.{Version}
@@ -32,6 +32,7 @@ HasRequest version (ReplaceIf key expected value) = (expected < value_limit vers
 HasRequest version (InsertNew key value) = version ≡ Two
 HasRequest version (DeleteIf key expected) = version ≡ Two
 HasRequest version PopLast = version ≡ Two
+HasRequest version (Predecessor key) = version ≡ Two
 HasRequest version request = ⊤
 
 -- the command has values of the version

@@ -78,8 +78,12 @@ impl Version {
     {
         match command {
             Command::Map(Request::Insert { key: _, value }) => self.has_value(*value),
-            Command::Map(Request::InsertNew { .. } | Request::DeleteIf { .. } | Request::PopLast) =>
-                self == Version::Two,
+            Command::Map(
+                Request::InsertNew { .. }
+                | Request::DeleteIf { .. }
+                | Request::PopLast
+                | Request::Predecessor { .. },
+            ) => self == Version::Two,
             Command::Map(
                 Request::ReplaceIf {
                     key: _,
