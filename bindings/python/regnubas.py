@@ -88,6 +88,7 @@ def _load():
         ("pop_first", c_uint32, [one, room]),
         ("pop_last", c_uint32, [one, room]),
         ("successor", c_uint32, [one, word, room]),
+        ("predecessor", c_uint32, [one, word, room]),
         ("range", _Count, [one, word, word, room, c_size_t]),
         ("left", _Share, [one]),
         ("leave", None, [one]),
@@ -183,6 +184,10 @@ class Pass:
     def successor(self, key):
         """The pair with the least key above this one, or None."""
         return self._found(_library.regnubas_successor, _word(key))
+
+    def predecessor(self, key):
+        """The pair with the greatest key below this one, or None."""
+        return self._found(_library.regnubas_predecessor, _word(key))
 
     def _listed(self, call, most, *arguments):
         room = (_Pair * most)()

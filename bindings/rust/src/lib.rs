@@ -101,6 +101,7 @@ extern "C" {
     fn regnubas_pop_first(pass: *mut RawPass, pair: *mut Pair) -> u32;
     fn regnubas_pop_last(pass: *mut RawPass, pair: *mut Pair) -> u32;
     fn regnubas_successor(pass: *mut RawPass, key: u64, pair: *mut Pair) -> u32;
+    fn regnubas_predecessor(pass: *mut RawPass, key: u64, pair: *mut Pair) -> u32;
     fn regnubas_range(pass: *mut RawPass, low: u64, high: u64, pairs: *mut Pair, count: usize) -> Count;
     fn regnubas_left(pass: *mut RawPass) -> Share;
     fn regnubas_leave(pass: *mut RawPass);
@@ -244,6 +245,13 @@ impl Pass {
         let mut pair = Pair::default();
         let next = tells(unsafe { regnubas_successor(&mut self.raw, key, &mut pair) })?;
         Ok(next.then(|| pair.told()))
+    }
+
+    /// The pair with the greatest key below this one.
+    pub fn predecessor(&mut self, key: u64) -> Result<Option<(u64, u128)>, Fault> {
+        let mut pair = Pair::default();
+        let previous = tells(unsafe { regnubas_predecessor(&mut self.raw, key, &mut pair) })?;
+        Ok(previous.then(|| pair.told()))
     }
 
     /// The first pairs by rising key from `low` to `high`, both with them, all of one moment: at most
