@@ -58,6 +58,7 @@ int main(int argc, char **argv) {
     else if (work == "pop") rounds(calls, [&](uint64_t, uint64_t) { tell(regnubas_pop_first(pass, &pair), pair); });
     else if (work == "pop_last") rounds(calls, [&](uint64_t, uint64_t) { tell(regnubas_pop_last(pass, &pair), pair); });
     else if (work == "succ") rounds(calls, [&](uint64_t key, uint64_t) { tell(regnubas_successor(pass, key, &pair), pair); });
+    else if (work == "pred") rounds(calls, [&](uint64_t key, uint64_t) { tell(regnubas_predecessor(pass, key, &pair), pair); });
     else if (work == "range64")
         rounds(calls, [&](uint64_t key, uint64_t) {
             regnubas_count count = regnubas_range(pass, key, UINT64_MAX, pairs, 64);

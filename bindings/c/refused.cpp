@@ -35,6 +35,13 @@ static bool story(bool by_all) {
             all = false;
         } else
             CHECK(status == REGNUBAS_SOME ? pair.key == 2 * k + 2 : k == 89);
+        pair = {7, {7, 7}};
+        status = regnubas_predecessor(&passes[1], 2 * k, &pair);
+        if (status == REGNUBAS_NO_MEMORY) {
+            CHECK(pair.key == 7 && pair.value.low == 7 && pair.value.high == 7);
+            all = false;
+        } else
+            CHECK(status == REGNUBAS_SOME ? pair.key == 2 * k - 2 : k == 0);
         regnubas_pair pairs[64] = {};
         regnubas_count count = regnubas_range(&passes[2], 2 * k, UINT64_MAX, pairs, 64);
         if (count.status == REGNUBAS_NO_MEMORY)

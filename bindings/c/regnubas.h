@@ -117,6 +117,10 @@ uint32_t regnubas_pop_last(regnubas_pass *pass, regnubas_pair *pair);
  * NO_MEMORY. */
 uint32_t regnubas_successor(regnubas_pass *pass, uint64_t key, regnubas_pair *pair);
 
+/* SOME: the pair with the greatest key below this one is at `pair`; NONE: there is none. CONTENDED,
+ * NO_MEMORY. */
+uint32_t regnubas_predecessor(regnubas_pass *pass, uint64_t key, regnubas_pair *pair);
+
 /* The first pairs by rising key, with keys from `low` to `high`, both with them, `count` at the
  * most and 64, all of one moment. SOME with the number of pairs written. CONTENDED, NO_MEMORY. */
 regnubas_count regnubas_range(regnubas_pass *pass, uint64_t low, uint64_t high,

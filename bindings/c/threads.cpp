@@ -64,6 +64,8 @@ void take_keys(regnubas_pass *pass, uint64_t number) {
         regnubas_pair pair = {}, pairs[16] = {};
         uint32_t status = again([&] { return regnubas_successor(pass, key, &pair); });
         CHECK(status == REGNUBAS_SOME && pair.key > key && (pair.key == COUNTER || same(pair.value, value_of(pair.key))));
+        status = again([&] { return regnubas_predecessor(pass, key, &pair); });
+        CHECK(status == REGNUBAS_NONE || (status == REGNUBAS_SOME && pair.key < key && same(pair.value, value_of(pair.key))));
         regnubas_count count = again([&] { return regnubas_range(pass, key, COUNTER - 1, pairs, 16); });
         CHECK(count.status == REGNUBAS_SOME && count.pairs <= 16);
         for (uint64_t j = 0; j < count.pairs; j++)
@@ -192,6 +194,7 @@ void refusals() {
     CHECK(regnubas_pop_first(&none, &pair) == REGNUBAS_NO_PASS);
     CHECK(regnubas_pop_last(&none, &pair) == REGNUBAS_NO_PASS);
     CHECK(regnubas_successor(&none, 1, &pair) == REGNUBAS_NO_PASS);
+    CHECK(regnubas_predecessor(&none, 1, &pair) == REGNUBAS_NO_PASS);
     CHECK(is(regnubas_range(&none, 1, 1, &pair, 1), REGNUBAS_NO_PASS, 0));
     CHECK(is(regnubas_close(&none, &pair, 1), REGNUBAS_NO_PASS, 0));
     CHECK(is(regnubas_end(&none, 1, &pair, 1), REGNUBAS_NO_PASS, 0));

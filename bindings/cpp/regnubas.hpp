@@ -209,6 +209,13 @@ public:
     }
     std::optional<pair> successor(key k) { return try_successor(k).get(); }
 
+    // The pair with the greatest key below this one.
+    result<std::optional<pair>> try_predecessor(key k) {
+        regnubas_pair found = {};
+        return pair_of(regnubas_predecessor(&raw_, k, &found), found);
+    }
+    std::optional<pair> predecessor(key k) { return try_predecessor(k).get(); }
+
     // The first pairs by rising key from `low` to `high`, both with them, all of one moment; 64 at
     // the most.
     result<std::vector<pair>> try_range(key low, key high, std::size_t most = 64) {

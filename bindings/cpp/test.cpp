@@ -39,6 +39,7 @@ void each_call_answers() {
     CHECK(!one.replace_if(6, 0, 1) && one.get(5) == value(52));
     CHECK(!one.insert_new(9, 90) && one.insert_new(9, 91) == value(90));
     CHECK(one.successor(5)->first == 9 && !one.successor(9));
+    CHECK(one.predecessor(9)->first == 5 && !one.predecessor(5));
     CHECK((one.range(0, 9) == std::vector<regnubas::pair>{{5, 52}, {9, 90}}) && one.range(0, 9, 1).size() == 1);
     CHECK(one.range(9, 0).empty());
     CHECK(one.erase_if(9, 91) == value(90) && one.erase_if(9, 90) == value(90) && !one.erase_if(9, 90));

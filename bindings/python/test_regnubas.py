@@ -43,6 +43,8 @@ def work(number, one, failures):
             assert one.get(key) is None
             found = again(one.successor, key)
             assert found is None or found[0] > key
+            found = again(one.predecessor, key)
+            assert found is None or found[0] < key
             pairs = again(one.range, key, MOST, 16)
             assert pairs == sorted(pairs) and all(k > key for k, _ in pairs)
     except BaseException as failure:

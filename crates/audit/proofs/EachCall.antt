@@ -15,7 +15,7 @@ use Rattle.arena.proofs.Lemmas.{ends_self}
 use Rattle.ordered_map.specs.CallRules.{need, nodes_at, nodes_there}
 use Rattle.arena.specs.declared.word.Side.{Side}
 use Rattle.ordered_map.specs.MapLaws.{IsEndmost}
-use Rattle.ordered_map.specs.OrderedMap.{MapCall, Edit, Get, Successor, Range, MapReply, OneValue, MapEdit, Delete, IsRising, applies, changes_map, delete, edit_by, edit_key, edit_of, edit_to, edited, end_pair, get, leaves, pair, pair_or_none, reply}
+use Rattle.ordered_map.specs.OrderedMap.{MapCall, Edit, Get, Neighbour, Range, MapReply, OneValue, MapEdit, Delete, IsRising, applies, changes_map, delete, edit_by, edit_key, edit_of, edit_to, edited, end_pair, get, leaves, pair, pair_or_none, reply}
 use Rattle.ordered_map.specs.Requests.{edit_in, map_request}
 use Rattle.ordered_map.specs.Runs.{IsTreeRun, Makes}
 use Rattle.ordered_map.specs.Spelled.{Spells}
@@ -126,11 +126,11 @@ module _ (lay : Layout) (tries c : ℕ) (now start : History) (kept : ℕ → Op
   get_right key m (MapAnswer (Pairs ps)) e fits y = neither fits
   get_right key m answer e fits y = absurd (let z : None ≡ Some (OneValue (get key m)) = e in cc)
 
-  successor_right : (key : ℕ) (told : MapReply) (answer : Answer) → reply_told answer ≡ Some told → Fits (Successor key) answer → RightOf (Successor key) answer
-  successor_right key told (MapAnswer (PairOf p)) e fits = tt
-  successor_right key told (MapAnswer (Value v)) e fits = neither fits
-  successor_right key told (MapAnswer (Pairs ps)) e fits = neither fits
-  successor_right key told answer e fits = absurd (let z : None ≡ Some told = e in cc)
+  neighbour_right : (side : Side) (key : ℕ) (told : MapReply) (answer : Answer) → reply_told answer ≡ Some told → Fits (Neighbour side key) answer → RightOf (Neighbour side key) answer
+  neighbour_right side key told (MapAnswer (PairOf p)) e fits = tt
+  neighbour_right side key told (MapAnswer (Value v)) e fits = neither fits
+  neighbour_right side key told (MapAnswer (Pairs ps)) e fits = neither fits
+  neighbour_right side key told answer e fits = absurd (let z : None ≡ Some told = e in cc)
 
   range_right : (low high most : ℕ) (told : MapReply) (answer : Answer) → reply_told answer ≡ Some told → Fits (Range low high most) answer → RightOf (Range low high most) answer
   range_right low high most told (MapAnswer (Pairs ps)) e fits = tt
@@ -144,7 +144,7 @@ module _ (lay : Layout) (tries c : ℕ) (now start : History) (kept : ℕ → Op
       let call : MapCall = Edit goal rule in
       edit_right call (reply call m) answer e (subst (λ (b : Bool). HasChangedOrReplied b lay now start call (reply call m)) (sym unchanged) (replied_by lay now start m (there (λ z. z)) call (reply call m) refl))
   read_right (Get key) m answer e unchanged fits there = get_right key m answer e fits (there (λ z. z))
-  read_right (Successor key) m answer e unchanged fits there = successor_right key (reply (Successor key) m) answer e fits
+  read_right (Neighbour side key) m answer e unchanged fits there = neighbour_right side key (reply (Neighbour side key) m) answer e fits
   read_right (Range low high most) m answer e unchanged fits there = range_right low high most (reply (Range low high most) m) answer e fits
 
   -- a refusal for want of memory
@@ -152,7 +152,7 @@ module _ (lay : Layout) (tries c : ℕ) (now start : History) (kept : ℕ → Op
   memory_right (Edit (Key key) rule) fits = neither fits
   memory_right (Edit (End side) rule) fits = neither fits
   memory_right (Get key) fits = neither fits
-  memory_right (Successor key) fits = tt
+  memory_right (Neighbour side key) fits = tt
   memory_right (Range low high most) fits = tt
 
 module _ (lay : Layout) (tries : ℕ) (calls : List Call) (lines : List Line) (changed : List Change) (client : ClientState) (request : Request ℕ ℕ) (r : Finished) (x : IsAsked lay tries calls lines changed client (Map request) r) where
@@ -172,7 +172,7 @@ module _ (lay : Layout) (tries : ℕ) (calls : List Call) (lines : List Line) (c
   contended_by : (call : MapCall) (node : NodeNo) (scx : ScxNo) → map_request request ≡ call → Fits call (MapAnswer (Contended node scx)) → HasLostAllTries lay tries r.client.0 now begun node.0 scx.0 → NeededSomething calls lines call r → RightBy call (MapAnswer (Contended node scx))
   contended_by (Edit goal rule) node scx is fits lost (nodes, some, (m, from, to, needs)) = (nodes, to_change_by lay now begun (map_at calls lines m) (spelled_by (Edit goal rule) is (λ z. z) m from to) (Edit goal rule) nodes some needs, lost)
   contended_by (Get key) node scx is fits lost needed = neither fits
-  contended_by (Successor key) node scx is fits lost needed = lost
+  contended_by (Neighbour side key) node scx is fits lost needed = lost
   contended_by (Range low high most) node scx is fits lost needed = lost
 
   -- one that fits is right where all tries were lost, and the call needed something

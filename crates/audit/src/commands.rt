@@ -5,7 +5,7 @@ ghost use Rattle.record.specs.CommandRules.{rules};
 ghost use Rattle.script.specs.declared.command.Command.TheVariants.{Map as MapCommand};
 ghost use Rattle.record.specs.declared.record.Answer.TheVariants.{Map as MapAnswer};
 ghost use Rattle.record.specs.Rules.Llx.{LlxAfterStep};
-ghost use Rattle.ordered_map.specs.CallRules.{IsFormOfRange, IsFormOfSuccessor, TakesNothing, form_of};
+ghost use Rattle.ordered_map.specs.CallRules.{IsFormOfNeighbour, IsFormOfRange, TakesNothing, form_of};
 ghost use Rattle.record.specs.Rules.Range.{RangeAtOnce};
 ghost use Rattle.record.specs.Rules.Set.{SetAfterStep};
 
@@ -19,7 +19,8 @@ pub(crate) fn may_make(command: &Command, kind: Kind) -> bool
     ensures { IsTrue result → MayMake command.now kind }
 {
     match command {
-        Command::Llx { cell: _ } | Command::Map(Request::Successor { key: _ }) => kind
+        Command::Llx { .. }
+        | Command::Map(Request::Successor { .. } | Request::Predecessor { .. }) => kind
             != Kind::Fill,
         Command::Vlx { cells: _ } => kind == Kind::LoadInfo,
         Command::Map(Request::Get { key: _ }) => kind == Kind::LoadSettled
@@ -63,7 +64,9 @@ fn most_map_steps(request: &Request<u64, u128>, tries: u64, levels: u64) -> u64
     }
     match request {
         Request::Get { key: _ } => levels.saturating_mul(3).saturating_add(5),
-        Request::Successor { key: _ } => tries.saturating_mul(levels.saturating_mul(137)),
+        Request::Successor { .. } | Request::Predecessor { .. } => {
+            tries.saturating_mul(levels.saturating_mul(137))
+        }
         Request::Range { most, .. } => range_steps(tries, levels, *most),
         _ => 0,
     }
@@ -105,7 +108,9 @@ fn may_reply_at_once(request: &Request<u64, u128>, reply: &Reply<u64, u128>) -> 
 {
     match request {
         Request::Range { low, high, most } => is_range_at_once(*low, *high, *most, reply),
-        Request::Successor { key: _ } => matches!(reply, Reply::NoMemory),
+        Request::Successor { .. } | Request::Predecessor { .. } => {
+            matches!(reply, Reply::NoMemory)
+        }
         _ => false,
     }
 }
@@ -146,7 +151,7 @@ fn may_reply_after_step(request: &Request<u64, u128>, reply: &Reply<u64, u128>) 
     }
     match request {
         Request::Get { key: _ } => matches!(reply, Reply::Value(_)),
-        Request::Successor { key: _ } => is_of_successor(reply),
+        Request::Successor { .. } | Request::Predecessor { .. } => is_of_neighbour(reply),
         Request::Range { .. } => is_of_range(reply),
         _ => false,
     }
@@ -171,8 +176,8 @@ fn is_of_set(answer: &Answer) -> bool
     }
 }
 
-fn is_of_successor(reply: &Reply<u64, u128>) -> bool
-    ensures { IsTrue result → IsFormOfSuccessor (form_of reply.now) }
+fn is_of_neighbour(reply: &Reply<u64, u128>) -> bool
+    ensures { IsTrue result → IsFormOfNeighbour (form_of reply.now) }
 {
     match reply {
         Reply::Pair(_) | Reply::Contended { .. } | Reply::NoMemory => true,

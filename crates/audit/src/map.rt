@@ -228,7 +228,7 @@ fn tells_pairs(request: &Request<u64, u128>, told: &Reply<u64, u128>) -> bool
 {
     match (request, told) {
         (Request::Range { .. }, Reply::Pairs(_)) => true,
-        (Request::Successor { key: _ }, Reply::Pair(_)) => true,
+        (Request::Successor { .. } | Request::Predecessor { .. }, Reply::Pair(_)) => true,
         (_, Reply::Pair(_)) => matches!(request.edit(), Some((Goal::End(_), _))),
         _ => false,
     }

@@ -1,5 +1,5 @@
 // A dictionary on the tree: get, insert, insert_new, remove, remove_if, pop_first, pop_last, replace_if,
-// successor, range.
+// successor, predecessor, range.
 #pragma once
 #include <optional>
 #include <vector>
@@ -161,15 +161,9 @@ public:
         return {End::contended, {}};
     }
 
-    [[gnu::noinline]] Reply<std::optional<Pair>> successor(Word key) const {
-        std::vector<Snap> snaps;
-        for (Word tried = 0; tried < tries_; tried++) {
-            snaps.clear();
-            std::optional<Pair> found;
-            if (search(key, snaps, found) && same(snaps)) return {End::done, found};
-        }
-        return {End::contended, {}};
-    }
+    [[gnu::noinline]] Reply<std::optional<Pair>> successor(Word key) const { return neighbour<RIGHT_SIDE>(key); }
+
+    [[gnu::noinline]] Reply<std::optional<Pair>> predecessor(Word key) const { return neighbour<LEFT_SIDE>(key); }
 
     // The first pairs by key of those with keys from `low` to `high`, `most` at most.
     [[gnu::noinline]] Reply<std::vector<Pair>> range(Word low, Word high, Word most) const {
@@ -398,7 +392,20 @@ private:
         return true;
     }
 
-    // The last fork at which the walk of a key goes left.
+    // The pair that is next to a key on a side.
+    template <Side SIDE>
+    Reply<std::optional<Pair>> neighbour(Word key) const {
+        std::vector<Snap> snaps;
+        for (Word tried = 0; tried < tries_; tried++) {
+            snaps.clear();
+            std::optional<Pair> found;
+            if (search<SIDE>(key, snaps, found) && same(snaps)) return {End::done, found};
+        }
+        return {End::contended, {}};
+    }
+
+    // The last fork at which the walk of a key turns away from a side; the root where it never does.
+    template <Side SIDE>
     Word last_turn(Word key) const {
         Word turn = 0, node = 0;
         for (;;) {
@@ -410,42 +417,54 @@ private:
             }
             const Word found = head.class_() == 0 ? at(node, KEY) : 0;
             const Side next = toward(key, head, found);
-            if (next == LEFT_SIDE) turn = node;
+            if (next != SIDE) turn = node;
             node = at(node, next == LEFT_SIDE ? LEFT : RIGHT);
         }
     }
 
-    // One try of a successor, but for the VLX. False where it is lost.
+    // The pair of a leaf of class 0 that is next to a key on a side; of a leaf that is not the key's own
+    // the nearest.
+    template <Side SIDE>
+    std::optional<Pair> next_in(Word node, Word key, bool own) const {
+        const Word more = own || SIDE == LEFT_SIDE ? at(node, MORE) : 0;
+        Word index = own || SIDE == RIGHT_SIDE ? 0 : more, last = 0;
+        for (; index <= more; index++) {
+            const Word here = key_at(node, index);
+            if (!own || (SIDE == RIGHT_SIDE && here > key)) return Pair{here, value_at(node, index)};
+            if (SIDE == LEFT_SIDE && here >= key) break;
+            last = here;
+        }
+        if (SIDE == RIGHT_SIDE || index == 0) return std::nullopt;
+        return Pair{last, value_at(node, index - 1)};
+    }
+
+    // One try of a successor, or on the left of a predecessor, but for the VLX. False where it is lost.
+    template <Side SIDE>
     bool search(Word key, std::vector<Snap>& snaps, std::optional<Pair>& found) const {
+        constexpr Side AWAY = SIDE == LEFT_SIDE ? RIGHT_SIDE : LEFT_SIDE;
         bool along = true;
-        Side side = LEFT_SIDE;
-        Word node = last_turn(key), right = 0;
+        Word node = last_turn<SIDE>(key), beside = 0;
+        Side side = node == 0 ? LEFT_SIDE : AWAY;
         for (bool fork = true;;) {
             if (fork) {
                 const Llx looked = forest_.llx(node);
                 if (looked.end != LlxEnd::snapshot) return false;
                 snaps.push_back(looked.snap);
-                if (along && side == LEFT_SIDE) right = looked.snap.right;
+                if (along && side == AWAY) beside = looked.snap.child(SIDE);
                 node = looked.snap.child(side);
             }
             const Head head(at(node, HEAD));
             fork = !head.leaf();
             if (fork) {
                 const Word here = along && head.class_() == 0 ? at(node, KEY) : 0;
-                side = along ? toward(key, head, here) : LEFT_SIDE;
+                side = along ? toward(key, head, here) : AWAY;
                 continue;
             }
             if (head.class_() != 0) return true;
-            // Of the leaf behind the key's own the first pair is enough.
-            const Word more = along ? at(node, MORE) : 0;
-            for (Word index = 0; index <= more; index++) {
-                const Word here = key_at(node, index);
-                if (along && here <= key) continue;
-                found = Pair{here, value_at(node, index)};
-                return true;
-            }
+            found = next_in<SIDE>(node, key, along);
+            if (found || beside == 0) return true;
             along = false;
-            node = right;
+            node = beside;
         }
     }
 

@@ -1,5 +1,5 @@
 // Rounds on a dictionary: `get`, `mix90`, `mix50`, `mix0`, `insert`, `insert_new`, `delete`, `delete_if`,
-// `pop`, `pop_last`, `replace`, `succ`, `range64`.
+// `pop`, `pop_last`, `replace`, `succ`, `pred`, `range64`.
 #pragma once
 #include "dictionary.hpp"
 #include "tally.hpp"
@@ -7,7 +7,7 @@
 namespace tree {
 
 enum class Work {
-    get, mix90, mix50, mix0, insert, insert_new, remove, remove_if, pop, pop_last, replace, succ, range64
+    get, mix90, mix50, mix0, insert, insert_new, remove, remove_if, pop, pop_last, replace, succ, pred, range64
 };
 
 // How many pairs a pass puts into the map before the threads start.
@@ -127,6 +127,7 @@ inline Tally rounds(const Dictionary& map, Work work, Deal deal, Word keys, Word
             case Work::pop_last: count_pair(tally, map.pop_last(pass)); break;
             case Work::replace: count_value(tally, map.replace_if(pass, key, key, key)); break;
             case Work::succ: count_pair(tally, map.successor(key)); break;
+            case Work::pred: count_pair(tally, map.predecessor(key)); break;
             case Work::range64: list(map, key, tally); break;
         }
     }

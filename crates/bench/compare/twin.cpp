@@ -58,6 +58,7 @@ constexpr WorkRow WORKS[] = {
     tree_row(tree::Work::pop_last, "pop_last", SHARE, 400),
     tree_row(tree::Work::replace, "replace", SHARE, 20000),
     tree_row(tree::Work::succ, "succ", UINT32_MAX, 20000),
+    tree_row(tree::Work::pred, "pred", UINT32_MAX, 20000),
     tree_row(tree::Work::range64, "range64", UINT32_MAX, 2000),
     peer_row(tree::Work::get, "peer_get", UINT32_MAX, 100000),
     peer_row(tree::Work::mix90, "peer_mix90", 200000, 100000),

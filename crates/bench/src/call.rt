@@ -65,6 +65,7 @@ fn round(
         TreeWork::PopLast => told(key_and_value(forest.pop_last(pass)), tally),
         TreeWork::Replace => told(forest.replace_if(pass, pair.0, key, pair.0), tally),
         TreeWork::Successor => told_pair(forest.successor(alloc, pass, key), tally),
+        TreeWork::Predecessor => told_pair(forest.predecessor(alloc, pass, key), tally),
         TreeWork::Range => told_pairs(forest.range(alloc, pass, key, &u64::MAX, MOST_PAIRS), tally),
     }
 }
@@ -122,7 +123,7 @@ fn pair_word(pair: (u64, u64)) -> u64 {
     pair.0.wrapping_add(pair.1).wrapping_add(1)
 }
 
-/// Notes what a successor has told.
+/// Notes what a successor or a predecessor has told.
 pub fn told_pair(reply: Result<Option<(u64, u64)>, OrderFault>, tally: &mut Tally) -> End
     ensures { total tally.new ≡ total tally.old }
 {

@@ -138,6 +138,10 @@ fn round<R: Wait>(
             let found = behind(&map.lock(rt), pair.0);
             told_pair(Ok(found), tally)
         }
+        TreeWork::Predecessor => {
+            let found = before(&map.lock(rt), pair.0);
+            told_pair(Ok(found), tally)
+        }
         TreeWork::Range => {
             let found = pairs_from(alloc, &map.lock(rt), pair.0);
             told_pairs(found.map_err(|_| OrderFault::NoMemory), tally)
@@ -225,6 +229,11 @@ fn replace(map: &mut BTreeMap<u64, u64>, key: u64) -> Option<u64> {
 fn behind(map: &BTreeMap<u64, u64>, key: u64) -> Option<(u64, u64)> {
     let bounds = (Bound::Excluded(key), Bound::Unbounded);
     map.range(bounds).next().map(|(key, value)| (*key, *value))
+}
+
+/// The pair before a key.
+fn before(map: &BTreeMap<u64, u64>, key: u64) -> Option<(u64, u64)> {
+    map.range(..key).next_back().map(|(key, value)| (*key, *value))
 }
 
 /// The first 64 pairs from a key on.

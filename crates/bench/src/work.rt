@@ -60,6 +60,8 @@ pub enum TreeWork {
     Replace,
     /// It looks for the pair behind the key.
     Successor,
+    /// It looks for the pair before the key.
+    Predecessor,
     /// It looks for the first 64 pairs from the key on.
     Range,
 }
@@ -85,7 +87,7 @@ pub struct Bounds {
 
 impl Work {
     /// Each work once.
-    pub const ALL: [Work; 36] = [
+    pub const ALL: [Work; 38] = [
         Work::Cells(CellWork::Llx),
         Work::Cells(CellWork::Own),
         Work::Cells(CellWork::Two),
@@ -102,6 +104,7 @@ impl Work {
         Work::Tree(TreeWork::PopLast),
         Work::Tree(TreeWork::Replace),
         Work::Tree(TreeWork::Successor),
+        Work::Tree(TreeWork::Predecessor),
         Work::Tree(TreeWork::Range),
         Work::Peers(TreeWork::Get),
         Work::Peers(TreeWork::Mix { looks: 90 }),
@@ -121,6 +124,7 @@ impl Work {
         Work::Locked(TreeWork::PopLast),
         Work::Locked(TreeWork::Replace),
         Work::Locked(TreeWork::Successor),
+        Work::Locked(TreeWork::Predecessor),
         Work::Locked(TreeWork::Range),
     ];
 
@@ -219,6 +223,7 @@ impl TreeWork {
             TreeWork::PopLast => "pop_last",
             TreeWork::Replace => "replace",
             TreeWork::Successor => "succ",
+            TreeWork::Predecessor => "pred",
             TreeWork::Range => "range64",
         }
     }
@@ -255,7 +260,7 @@ impl TreeWork {
                 (Limits::MOST_RECORDS, 400)
             }
             TreeWork::Replace => (Limits::MOST_RECORDS, 20_000),
-            TreeWork::Successor => (u32::MAX, 20_000),
+            TreeWork::Successor | TreeWork::Predecessor => (u32::MAX, 20_000),
             TreeWork::Range => (u32::MAX, 2_000),
         };
         Bounds {

@@ -6,7 +6,7 @@ use Rattle.std.specs.Option.{option_map}
 use Rattle.arena.specs.Limits.{IsAccepted}
 use Rattle.arena.specs.declared.limits.Limits.{Limits}
 use Rattle.ordered_map.specs.Holding.{wide_value}
-use Rattle.ordered_map.specs.OrderedMap.{MapCall, Get, Successor, Range}
+use Rattle.ordered_map.specs.OrderedMap.{MapCall, Get, Range}
 use Rattle.ordered_map.specs.declared.reply.Reply.{Reply}
 use Rattle.ordered_map.specs.declared.reply.Reply.TheVariants as replies
 use Rattle.forest.specs.declared.fault.OrderFault.{OrderFault}
@@ -112,9 +112,9 @@ EditSays call old new a = (told : Result (Option ℕ) UpdateFault) × IsUpdateAn
 abbrev pub TakenSays : MapCall → KeyValue → OwnedPass → OwnedPass → ℕ → Type 0
 TakenSays call room old new status = (told : Result (Option (ℕ × ℕ)) UpdateFault) × IsFoundAnswer update_status told room status × HasClientCalled old new call (update_reply replies.Pair told)
 
--- what `successor` says
-abbrev pub NextSays : ℕ → KeyValue → OwnedPass → OwnedPass → ℕ → Type 0
-NextSays key room old new status = (told : Result (Option (ℕ × ℕ)) OrderFault) × IsFoundAnswer order_status told room status × HasClientCalled old new (Successor key) (read_reply replies.Pair told)
+-- what `successor` and `predecessor` say, which leave the pair that they have found in this room
+abbrev pub FoundSays : MapCall → KeyValue → OwnedPass → OwnedPass → ℕ → Type 0
+FoundSays call room old new status = (told : Result (Option (ℕ × ℕ)) OrderFault) × IsFoundAnswer order_status told room status × HasClientCalled old new call (read_reply replies.Pair told)
 
 -- what `range` says, which may tell so many pairs, and leaves them in this room
 abbrev pub BetweenSays : ℕ → ℕ → ℕ → List KeyValue → OwnedPass → OwnedPass → Count → Type 0

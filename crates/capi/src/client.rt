@@ -1,7 +1,7 @@
 //! What a handle leads to: a pass of a dictionary, and a part in its forest.
 ghost use Rattle.std.specs.Prelude.{◌≡◌, ◌≤◌, IfOk, length, min, vec_len};
 ghost use Rattle.std.specs.Arc.{arc_value};
-ghost use Rattle.ordered_map.specs.OrderedMap.{call_insert, call_insert_new, call_delete, call_delete_if, call_pop_first, call_pop_last, call_replace_if, Get, Successor, Range};
+ghost use Rattle.ordered_map.specs.OrderedMap.{call_insert, call_insert_new, call_delete, call_delete_if, call_pop_first, call_pop_last, call_replace_if, call_successor, call_predecessor, Get, Range};
 ghost use Rattle.ordered_map.specs.declared.reply.Reply.TheVariants as replies;
 ghost use Rattle.forest.specs.Passes.{IsOf};
 ghost use Rattle.forest.specs.Dictionary.{read_reply, update_reply};
@@ -108,10 +108,23 @@ impl OwnedPass {
     /// The pair with the least key above this one.
     pub fn successor(&mut self, alloc: Global, key: u64) -> Result<Option<(u64, u128)>, OrderFault>
         ensures same { self.new.forest ≡ self.old.forest }
-        ensures called { HasClientCalled self.old self.new (Successor key)
+        ensures called { HasClientCalled self.old self.new (call_successor key)
             (read_reply replies.Pair result) }
     {
         self.forest.successor(alloc, &mut self.pass, &key)
+    }
+
+    /// The pair with the greatest key below this one.
+    pub fn predecessor(
+        &mut self,
+        alloc: Global,
+        key: u64,
+    ) -> Result<Option<(u64, u128)>, OrderFault>
+        ensures same { self.new.forest ≡ self.old.forest }
+        ensures called { HasClientCalled self.old self.new (call_predecessor key)
+            (read_reply replies.Pair result) }
+    {
+        self.forest.predecessor(alloc, &mut self.pass, &key)
     }
 
     /// The first pairs from `low` to `high`, at most so many.

@@ -11,9 +11,9 @@
 //!    from a signal handler, or in the child of a fork of a process with threads.
 //! 5. The passes that `regnubas_end` is given are of one dictionary (`AreOfOne`).
 ghost use Rattle.std.specs.Prelude.{◌≡◌, None, length, min};
-ghost use Rattle.ordered_map.specs.OrderedMap.{call_insert, call_insert_new, call_delete, call_delete_if, call_pop_first, call_pop_last, call_replace_if};
+ghost use Rattle.ordered_map.specs.OrderedMap.{call_insert, call_insert_new, call_delete, call_delete_if, call_pop_first, call_pop_last, call_replace_if, call_successor, call_predecessor};
 ghost use Rattle.capi.specs.Ends.{AreOfOne, EndSays, held_in};
-ghost use Rattle.capi.specs.Answers.{number, bare, no_count, CallSays, GetSays, EditSays, TakenSays, NextSays, BetweenSays, LeftSays, CloseSays, MakeSays};
+ghost use Rattle.capi.specs.Answers.{number, bare, no_count, CallSays, GetSays, EditSays, TakenSays, FoundSays, BetweenSays, LeftSays, CloseSays, MakeSays};
 
 use crate::answer::{
     Count, KeyValue, LIMITS, Left, NO_MEMORY, NO_PASS, NONE, PassLimits, SHARED, Value,
@@ -198,13 +198,34 @@ pub extern "C" fn regnubas_successor(
     key: u64,
     pair: &mut KeyValue,
 ) -> u32
-    ensures { CallSays 6 (NextSays key pair.new) pass.old.handle.value pass.new.handle.value result }
+    ensures { CallSays 6 (FoundSays (call_successor key) pair.new) pass.old.handle.value pass.new.handle.value result }
 {
     let Some(mut client) = pass.handle.take(alloc) else {
         return NO_PASS;
     };
     let status = match client.successor(alloc, key) {
-        Ok(next) => tell_pair(next, pair),
+        Ok(found) => tell_pair(found, pair),
+        Err(fault) => status_of_read(fault),
+    };
+    pass.handle.put(client);
+    status
+}
+
+/// The pair with the greatest key below this one, which is left at `pair`.
+#[unsafe(no_mangle)]
+pub extern "C" fn regnubas_predecessor(
+    alloc: Global,
+    pass: &mut HandleSlot,
+    key: u64,
+    pair: &mut KeyValue,
+) -> u32
+    ensures { CallSays 6 (FoundSays (call_predecessor key) pair.new) pass.old.handle.value pass.new.handle.value result }
+{
+    let Some(mut client) = pass.handle.take(alloc) else {
+        return NO_PASS;
+    };
+    let status = match client.predecessor(alloc, key) {
+        Ok(found) => tell_pair(found, pair),
         Err(fault) => status_of_read(fault),
     };
     pass.handle.put(client);

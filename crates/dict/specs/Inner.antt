@@ -5,10 +5,10 @@ use Rattle.std.specs.Prelude.{ℕ, Option, Vec}
 use Rattle.arena.specs.Share.{Remaining}
 use Rattle.order.specs.Meaning.{ReadMeaning}
 use Rattle.order.specs.Range.{range_means}
-use Rattle.order.specs.Successor.{successor_means}
+use Rattle.order.specs.Neighbour.{neighbour_means}
 use Rattle.order.specs.declared.range.Range.{Range}
 use Rattle.order.specs.declared.run.ReadRun.{ReadRun}
-use Rattle.order.specs.declared.successor.Successor.{Successor}
+use Rattle.order.specs.declared.neighbour.Neighbour.{Neighbour}
 use Rattle.ordered_map.specs.declared.pair.Pair.{Pair}
 use Rattle.ordered_map.specs.declared.rule.Goal.{Goal}
 use Rattle.ordered_map.specs.declared.rule.Rule.{Rule}
@@ -37,9 +37,9 @@ pub record ReadKind : Type 1 where
   pub means : ReadMeaning R A
   pub tells : A → WordReply
 
--- those of the two calls that read in order
-abbrev pub successor_kind : ReadKind
-successor_kind = record { R = Successor; A = Option Pair; means = successor_means; tells = WordReply.Pair }
+-- those of the calls that read in order
+abbrev pub neighbour_kind : ReadKind
+neighbour_kind = record { R = Neighbour; A = Option Pair; means = neighbour_means; tells = WordReply.Pair }
 
 abbrev pub range_kind : ReadKind
 range_kind = record { R = Range; A = Vec Pair Global; means = range_means; tells = λ (found : Vec Pair Global). WordReply.Pairs found.items }
@@ -54,5 +54,5 @@ pub data InnerRun : Type 1 where
 abbrev pub inner : MapRun → InnerRun
 inner (runs.Edit m) = Update m
 inner (runs.Get key walk share) = Get key walk share
-inner (runs.Successor m share) = Read successor_kind m share
+inner (runs.Neighbour m share) = Read neighbour_kind m share
 inner (runs.Range m share) = Read range_kind m share

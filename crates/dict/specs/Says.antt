@@ -9,7 +9,7 @@ use Rattle.arena.specs.Fills.{IsOthersScx}
 use Rattle.arena.specs.History.{History, ◌⊳◌, value, Extends}
 use Rattle.arena.specs.Machines.{Call}
 use Rattle.arena.specs.Share.{Remaining}
-use Rattle.ordered_map.specs.OrderedMap.{MapEdit, MapCall, Successor, Range, MapReply, reply, edit_of}
+use Rattle.ordered_map.specs.OrderedMap.{MapEdit, MapCall, Neighbour, Range, MapReply, reply, edit_of}
 use Rattle.ordered_map.specs.Spelled.{Spells}
 use Rattle.ordered_map.specs.declared.pair.Pair.{Pair}
 use Rattle.template.specs.Blame.{IsOverOrNew, HasLostTriesTo}
@@ -111,7 +111,7 @@ pub record HasRunOut (c : Call) (h : History) (call : MapCall) (share : Remainin
 
 -- the call keeps lists, which grow
 abbrev pub KeepsLists : MapCall → Type 0
-KeepsLists (Successor key) = Unit {0}
+KeepsLists (Neighbour side key) = Unit {0}
 KeepsLists (Range low high most) = Unit {0}
 KeepsLists _ = ⊥
 

@@ -61,9 +61,9 @@ read_reply tells (Ok found) = tells found
 read_reply tells (Err (refused.Contended node scx)) = Contended node scx
 read_reply tells (Err refused.NoMemory) = NoMemory
 
--- a successor the pair that it has found
-abbrev pub successor_reply : Result (Option PairOf) Refused → WordReply
-successor_reply = read_reply Pair
+-- a search for the pair beside a key the one that it has found
+abbrev pub neighbour_reply : Result (Option PairOf) Refused → WordReply
+neighbour_reply = read_reply Pair
 
 -- a range its pairs
 abbrev pub range_reply : Result (Vec PairOf Global) Refused → WordReply

@@ -117,6 +117,7 @@ fn in_words<K: WordKey, V: WordValue>(request: Request<K, V>) -> Request<u64, u1
         }
         Request::Get { key } => Request::Get { key: key.word() },
         Request::Successor { key } => Request::Successor { key: key.word() },
+        Request::Predecessor { key } => Request::Predecessor { key: key.word() },
         Request::Range { low, high, most } => Request::Range {
             low: low.word(),
             high: high.word(),

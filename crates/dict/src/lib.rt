@@ -1,4 +1,4 @@
-//! An ordered dictionary on the tree: keys of one word, values of two, its seven calls, and the
+//! An ordered dictionary on the tree: keys of one word, values of two, its calls, and the
 //! machine of one.
 #![tactic(auto)]
 
@@ -20,6 +20,6 @@ pub use name::Name8;
 pub use ordered_map::{Reply, Request};
 pub use run::MapRun;
 pub use shape::Dict;
-pub use told::{of_range, of_successor, of_update};
+pub use told::{of_neighbour, of_range, of_update};
 pub use translation::{number_of, pairs_of, value_of};
 pub use value::WordValue;

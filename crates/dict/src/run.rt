@@ -13,11 +13,11 @@ ghost use Rattle.dict.specs.WordReplies.{edit_reply};
 ghost use Rattle.ordered_map.specs.Requests.{as_map_call};
 
 use crate::key::WordKey;
-use crate::told::{of_range, of_successor, of_update, of_value};
+use crate::told::{of_neighbour, of_range, of_update, of_value};
 use crate::value::WordValue;
-use arena::{Machine, Share, Turn};
+use arena::{Machine, Share, Side, Turn};
 use edits::Updated;
-use order::{Range, RangeRun, Successor, SuccessorRun};
+use order::{Neighbour, NeighbourRun, Range, RangeRun};
 use ordered_map::{Goal, Reply, Request, Rule};
 use std::alloc::Global;
 use template::{Tree, WalkRun};
@@ -33,8 +33,8 @@ pub enum MapRun {
         walk: WalkRun,
         share: Share,
     },
-    Successor {
-        run: SuccessorRun,
+    Neighbour {
+        run: NeighbourRun,
         share: Share,
     },
     Range {
@@ -69,8 +69,12 @@ impl MapRun {
                 walk: WalkRun::new(Goal::Key(key)),
                 share,
             },
-            (_, Request::Successor { key }, Some(alloc)) => MapRun::Successor {
-                run: Successor::run(alloc, key, tries),
+            (_, Request::Successor { key }, Some(alloc)) => MapRun::Neighbour {
+                run: Neighbour::run(alloc, key, Side::Right, tries),
+                share,
+            },
+            (_, Request::Predecessor { key }, Some(alloc)) => MapRun::Neighbour {
+                run: Neighbour::run(alloc, key, Side::Left, tries),
                 share,
             },
             (_, Request::Range { low, high, most }, Some(alloc)) => MapRun::Range {
@@ -105,9 +109,9 @@ impl MapRun {
                 Turn::Ask(step) => Turn::Ask(step),
                 Turn::Done(found) => Turn::Done(of_value(found.value)),
             },
-            MapRun::Successor { run, share: _ } => match run.step(got) {
+            MapRun::Neighbour { run, share: _ } => match run.step(got) {
                 Turn::Ask(step) => Turn::Ask(step),
-                Turn::Done(told) => Turn::Done(of_successor(told)),
+                Turn::Done(told) => Turn::Done(of_neighbour(told)),
             },
             MapRun::Range { run, share: _ } => match run.step(got) {
                 Turn::Ask(step) => Turn::Ask(step),
@@ -128,7 +132,7 @@ impl MapRun {
                 walk: _,
                 share,
             } => share,
-            MapRun::Successor { run, share } => {
+            MapRun::Neighbour { run, share } => {
                 drop(run);
                 share
             }

@@ -1,6 +1,6 @@
 //! What a call replies of what its machine has answered.
 ghost use Rattle.dict.specs.Translated.{IsReplyOf};
-ghost use Rattle.dict.specs.WordReplies.{WordReply, edit_reply, goal_reply, range_reply, successor_reply};
+ghost use Rattle.dict.specs.WordReplies.{WordReply, edit_reply, goal_reply, neighbour_reply, range_reply};
 
 use crate::key::WordKey;
 use crate::translation::{pair_of, pairs_of, value_of};
@@ -43,10 +43,10 @@ pub fn of_update<K: WordKey, V: WordValue>(goal: Goal, updated: Updated) -> Repl
     }
 }
 
-/// What a successor replies of what its machine has answered.
+/// What a search for the pair beside a key replies of what its machine has answered.
 #[inline(always)]
-pub fn of_successor<K: WordKey, V: WordValue>(told: Result<Option<Pair>, Refused>) -> Reply<K, V>
-    ensures { IsReplyOf K.is_valid K.word_of V.is_valid V.word_of (successor_reply told) result }
+pub fn of_neighbour<K: WordKey, V: WordValue>(told: Result<Option<Pair>, Refused>) -> Reply<K, V>
+    ensures { IsReplyOf K.is_valid K.word_of V.is_valid V.word_of (neighbour_reply told) result }
 {
     match told {
         Ok(pair) => Reply::Pair(pair_of(pair)),

@@ -5,22 +5,22 @@ use Rattle.std.specs.Prelude.{unwrap_or}
 use Rattle.std.proofs.lemmas.Bool.{cases_lt, le-leb, lt-leb}
 use Rattle.std.proofs.lemmas.Bool.Decides.{leb_tells}
 use Rattle.ordered_map.specs.declared.pair.Pair.{Pair}
-use Rattle.ordered_map.specs.OrderedMap.{MapCall, call_pop_first, call_pop_last, Successor, Range, MapReply, OnePair, ManyPairs, pair_or_none, first_pair, last_pair, AllAbove, successor, between, reply, get, IsRising}
+use Rattle.ordered_map.specs.OrderedMap.{MapCall, call_pop_first, call_pop_last, call_successor, call_predecessor, Range, MapReply, OnePair, ManyPairs, pair_or_none, first_pair, last_pair, AllAbove, successor, predecessor, between, range, reply, get, IsRising}
 use Rattle.script.specs.declared.call.Call.{Call}
 use Rattle.script.specs.declared.command.Command.{Command}
 use Rattle.script.specs.declared.command.Command.TheVariants.{Map}
-use Rattle.ordered_map.specs.declared.request.Request.TheVariants.{PopFirst as PopOf, PopLast as PopLastOf, Successor as SuccessorOf, Range as RangeOf}
+use Rattle.ordered_map.specs.declared.request.Request.TheVariants.{PopFirst as PopOf, PopLast as PopLastOf, Successor as SuccessorOf, Predecessor as PredecessorOf, Range as RangeOf}
 use Rattle.record.specs.declared.record.Line.{Line}
 use Rattle.record.specs.MapRecord.{map_call, map_at, written_log}
 use Rattle.record.specs.Placed.{IsGreatestTurn}
 use Rattle.linearization.specs.declared.places.Change.{Change}
 use Rattle.linearization.specs.declared.places.Place.{Place}
 use Rattle.linearization.specs.Entries.{AreEntries}
-use Rattle.linearization.specs.Ordered.{FallFrom, IsOrderedRead, Tells, is_unlike, pairs_in, pairs_read}
+use Rattle.linearization.specs.Ordered.{FallFrom, IsOrderedRead, Tells, is_from, is_unlike, pairs_in, pairs_read}
 use Rattle.linearization.proofs.Values.{value_at, value_is, values}
 use Rattle.linearization.proofs.Counts.{count_nothing, nothing_counted}
 use Rattle.linearization.proofs.Chains.{changes_of}
-use Rattle.linearization.proofs.Told.{told_like, like_told}
+use Rattle.linearization.proofs.Told.{filter_rises, told_like, like_told}
 use Rattle.linearization.proofs.Weights.{key_bound, value_beyond, weight_at, IsWeighed, weighed_all}
 
 -- What a reply says and which pairs it tells
@@ -31,6 +31,22 @@ successor_first k (p ∷ ps) = go (ltb k p.key) (successor_first k ps)
   where
     go : (b : Bool) → successor k ps ≡ first_pair (filter (λ (q : Pair). ltb k q.key) ps) → cond b (Some p) (successor k ps) ≡ first_pair (cond b (p ∷ filter (λ (q : Pair). ltb k q.key) ps) (filter (λ (q : Pair). ltb k q.key) ps))
     go true more = refl
+    go false more = more
+
+predecessor_last : (k : ℕ) (m : List Pair) → predecessor k m ≡ last_pair (filter (λ (p : Pair). ltb p.key k) m)
+predecessor_last k [] = refl
+predecessor_last k (p ∷ ps) = go (ltb p.key k) (predecessor_last k ps)
+  where
+    go : (b : Bool) → predecessor k ps ≡ last_pair (filter (λ (q : Pair). ltb q.key k) ps) → cond b (Some (unwrap_or (predecessor k ps) p)) (predecessor k ps) ≡ last_pair (cond b (p ∷ filter (λ (q : Pair). ltb q.key k) ps) (filter (λ (q : Pair). ltb q.key k) ps))
+    go true more = ap (λ (o : Option Pair). Some (unwrap_or o p)) more
+    go false more = more
+
+filter_both : (f g : ℕ → Bool) (m : List Pair) → filter (λ (p : Pair). f p.key && g p.key) m ≡ filter (λ (p : Pair). g p.key) (filter (λ (p : Pair). f p.key) m)
+filter_both f g [] = refl
+filter_both f g (p ∷ ps) = go (f p.key) (filter_both f g ps)
+  where
+    go : (b : Bool) → filter (λ (q : Pair). f q.key && g q.key) ps ≡ filter (λ (q : Pair). g q.key) (filter (λ (q : Pair). f q.key) ps) → cond (b && g p.key) (p ∷ filter (λ (q : Pair). f q.key && g q.key) ps) (filter (λ (q : Pair). f q.key && g q.key) ps) ≡ filter (λ (q : Pair). g q.key) (cond b (p ∷ filter (λ (q : Pair). f q.key) ps) (filter (λ (q : Pair). f q.key) ps))
+    go true more = ap (λ qs. cond (g p.key) (p ∷ qs) qs) more
     go false more = more
 
 pub between_all : (low high : ℕ) (m : List Pair) → between low high m ≡ filter (λ (p : Pair). leb low p.key && leb p.key high) m
@@ -130,8 +146,15 @@ reply_tells (Map PopLastOf) call told m ordered is rises =
     let same : call_pop_last ≡ call = cc in
     subst (λ (c : MapCall). Tells (Map PopLastOf) told m ↔ (pairs_in (Some (reply c m)) ≡ told)) same (last_tells told m rises)
 reply_tells (Map (SuccessorOf k)) call told m ordered is rises =
-    let same : Successor k ≡ call = cc in
+    let same : call_successor k ≡ call = cc in
     by_same told m (Map (SuccessorOf k)) call (ap (λ (c : MapCall). pairs_in (Some (reply c m))) (sym same) ∙ ap (λ (f : Option Pair). pairs_in (Some (pair_or_none f))) (successor_first k m) ∙ one_pair (filter (λ (p : Pair). ltb k p.key) m))
+reply_tells (Map (PredecessorOf k)) call told m ordered is rises =
+    let same : call_predecessor k ≡ call = cc in
+    let below : List Pair = filter (λ (p : Pair). ltb p.key k) m in
+    let tells : Tells (Map PopLastOf) told below ↔ (pairs_in (Some (pair_or_none (last_pair below))) ≡ told) = last_tells told below (filter_rises (λ j. ltb j k) m rises) in
+    let both : pairs_read (Map (PredecessorOf k)) told m ≡ pairs_read (Map PopLastOf) told below = ap (take 2) (filter_both (λ j. ltb j k) (is_from told) m) in
+    let gives : pairs_in (Some (reply call m)) ≡ pairs_in (Some (pair_or_none (last_pair below))) = ap (λ (c : MapCall). pairs_in (Some (reply c m))) (sym same) ∙ ap (λ (f : Option Pair). pairs_in (Some (pair_or_none f))) (predecessor_last k m) in
+    (λ e. gives ∙ tells.0 (sym both ∙ e), λ e. both ∙ tells.1 (sym gives ∙ e))
 reply_tells (Map (RangeOf low high most)) call told m ordered is rises =
     let same : Range low high most ≡ call = cc in
     by_same told m (Map (RangeOf low high most)) call (ap (λ (c : MapCall). pairs_in (Some (reply c m))) (sym same) ∙ ap (take most) (between_all low high m))
@@ -148,7 +171,8 @@ same_pairs (Some x) None e = absurd (let z : x ∷ [] ≡ [] = e in cc)
 same_reply : (command : Command) (call : MapCall) (m n : List Pair) → IsOrderedRead command → map_call (Some command) ≡ Some call → pairs_in (Some (reply call m)) ≡ pairs_in (Some (reply call n)) → reply call m ≡ reply call n
 same_reply (Map PopOf) call m n ordered is = let same : call_pop_first ≡ call = cc in subst (λ (c : MapCall). pairs_in (Some (reply c m)) ≡ pairs_in (Some (reply c n)) → reply c m ≡ reply c n) same (same_pairs (first_pair m) (first_pair n))
 same_reply (Map PopLastOf) call m n ordered is = let same : call_pop_last ≡ call = cc in subst (λ (c : MapCall). pairs_in (Some (reply c m)) ≡ pairs_in (Some (reply c n)) → reply c m ≡ reply c n) same (same_pairs (last_pair m) (last_pair n))
-same_reply (Map (SuccessorOf k)) call m n ordered is = let same : Successor k ≡ call = cc in subst (λ (c : MapCall). pairs_in (Some (reply c m)) ≡ pairs_in (Some (reply c n)) → reply c m ≡ reply c n) same (same_pairs (successor k m) (successor k n))
+same_reply (Map (SuccessorOf k)) call m n ordered is = let same : call_successor k ≡ call = cc in subst (λ (c : MapCall). pairs_in (Some (reply c m)) ≡ pairs_in (Some (reply c n)) → reply c m ≡ reply c n) same (same_pairs (successor k m) (successor k n))
+same_reply (Map (PredecessorOf k)) call m n ordered is = let same : call_predecessor k ≡ call = cc in subst (λ (c : MapCall). pairs_in (Some (reply c m)) ≡ pairs_in (Some (reply c n)) → reply c m ≡ reply c n) same (same_pairs (predecessor k m) (predecessor k n))
 same_reply (Map (RangeOf low high most)) call m n ordered is = let same : Range low high most ≡ call = cc in subst (λ (c : MapCall). pairs_in (Some (reply c m)) ≡ pairs_in (Some (reply c n)) → reply c m ≡ reply c n) same (ap ManyPairs)
 same_reply command call m n ordered is = absurd ordered
 

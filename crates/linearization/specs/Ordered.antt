@@ -7,7 +7,7 @@ use Rattle.ordered_map.specs.declared.pair.Pair.{Pair}
 use Rattle.ordered_map.specs.OrderedMap.{get, MapReply, OnePair, ManyPairs}
 use Rattle.script.specs.declared.command.Command.{Command}
 use Rattle.script.specs.declared.command.Command.TheVariants.{Map}
-use Rattle.ordered_map.specs.declared.request.Request.TheVariants.{PopFirst, PopLast, Successor, Range}
+use Rattle.ordered_map.specs.declared.request.Request.TheVariants.{PopFirst, PopLast, Successor, Predecessor, Range}
 use Rattle.linearization.specs.declared.places.Change.{Change}
 
 -- it is one
@@ -15,11 +15,12 @@ abbrev pub IsOrderedRead : Command → Type 0
 IsOrderedRead (Map PopFirst) = Unit {0}
 IsOrderedRead (Map PopLast) = Unit {0}
 IsOrderedRead (Map (Successor key)) = Unit {0}
+IsOrderedRead (Map (Predecessor key)) = Unit {0}
 IsOrderedRead (Map (Range low high most)) = Unit {0}
 IsOrderedRead _ = ⊥
 
--- whether what tells the last pair, or none, looks for this key: it looks whether there is another
--- one behind the pair, or any
+-- whether what tells the last of some pairs, or none, looks for this key of one of them: it looks
+-- whether there is another one behind the pair, or any
 abbrev pub is_from : List Pair → ℕ → Bool
 is_from [] key = true
 is_from (p ∷ []) key = nat_le p.key key
@@ -30,6 +31,7 @@ abbrev pub looks_for : Command → List Pair → ℕ → Bool
 looks_for (Map PopFirst) told key = true
 looks_for (Map PopLast) told key = is_from told key
 looks_for (Map (Successor above)) told key = nat_lt above key
+looks_for (Map (Predecessor below)) told key = nat_lt key below && is_from told key
 looks_for (Map (Range low high most)) told key = nat_le low key && nat_le key high
 looks_for _ told key = false
 
@@ -38,6 +40,7 @@ abbrev pub most_told : Command → ℕ
 most_told (Map PopFirst) = 1
 most_told (Map PopLast) = 2
 most_told (Map (Successor above)) = 1
+most_told (Map (Predecessor below)) = 2
 most_told (Map (Range low high most)) = most
 most_told _ = 0
 

@@ -48,12 +48,13 @@ fn looks_for(command: &Command, pairs: &[(u64, u128)], key: u64) -> bool
         Command::Map(Request::PopFirst) => true,
         Command::Map(Request::PopLast) => is_from(pairs, key),
         Command::Map(Request::Successor { key: above }) => *above < key,
+        Command::Map(Request::Predecessor { key: below }) => key < *below && is_from(pairs, key),
         Command::Map(Request::Range { low, high, most: _ }) => *low <= key && key <= *high,
         _ => false,
     }
 }
 
-/// Whether what tells the last pair, or none, looks for this key.
+/// Whether what tells the last of some pairs, or none, looks for this key of one of them.
 fn is_from(pairs: &[(u64, u128)], key: u64) -> bool
     ensures { result ≡ is_from (number_pairs pairs.now) key }
 {
@@ -77,6 +78,11 @@ pub(crate) fn bounds(command: &Command, pairs: &[(u64, u128)]) -> (Bound<u64>, B
             _ => (Bound::Included(0), Bound::Excluded(0)),
         },
         Command::Map(Request::Successor { key }) => (Bound::Excluded(*key), Bound::Unbounded),
+        Command::Map(Request::Predecessor { key }) => match pairs {
+            [] => (Bound::Unbounded, Bound::Excluded(*key)),
+            [pair] if pair.0 <= *key => (Bound::Included(pair.0), Bound::Excluded(*key)),
+            _ => (Bound::Included(0), Bound::Excluded(0)),
+        },
         Command::Map(Request::Range { low, high, .. }) if *low <= *high => {
             (Bound::Included(*low), Bound::Included(*high))
         }
@@ -92,6 +98,7 @@ pub(crate) fn most_told(command: &Command) -> usize
         Command::Map(Request::PopFirst) => 1,
         Command::Map(Request::PopLast) => 2,
         Command::Map(Request::Successor { key: _ }) => 1,
+        Command::Map(Request::Predecessor { key: _ }) => 2,
         Command::Map(Request::Range { most, .. }) => *most as usize,
         _ => 0,
     }

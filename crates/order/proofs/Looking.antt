@@ -1,5 +1,6 @@
 -- What an ordered read knows one place further, whichever it is.
-use Rattle.std.proofs.Common.{◌≡◌, ℕ, ◌^◌, ◌<◌, true, false, List, [], ◌∷◌, ◌++◌, length, inl, inr, ⊎_elim, refl, sym, ◌∙◌, subst, arith, lt-ltb, None}
+use Rattle.std.proofs.Common.{◌≡◌, ℕ, ◌^◌, ◌<◌, true, false, List, [], ◌∷◌, ◌++◌, length, inl, inr, ⊎_elim, refl, sym, ◌∙◌, subst, arith, lt-ltb, ne_eqb, None}
+use native.Mathlib.Decide.{ℕ_discrete}
 use Rattle.arena.specs.declared.number.NodeNo.{NodeNo}
 use Rattle.arena.specs.declared.word.NodeWord.TheVariants.{Settled}
 use Rattle.arena.specs.declared.word.SettledPart.TheVariants.{Head as HeadWord}
@@ -29,20 +30,21 @@ use Rattle.template.specs.declared.walk.Found.{Found}
 use Rattle.ordered_map.specs.declared.rule.Goal.TheVariants.{Key as ToKey}
 use Rattle.template.proofs.Lemmas.{own_since, opened_if_stood}
 use Rattle.order.specs.Found.{GoesTo, IsReading, IsThere, Looks, Stands, WalksTo}
-use Rattle.order.specs.Known.{HasTurnedLeft, IsLastTurn, Validates}
+use Rattle.order.specs.Known.{AreLastTurns, HasTurned, IsLastTurn, Validates}
 use Rattle.order.specs.Meaning.{ReadMeaning}
 use Rattle.order.specs.Next.{MayValidate}
 use Rattle.order.specs.Reads.{HasStood, Reads}
 use Rattle.order.specs.Replies.{IsReplyAt}
 use Rattle.order.specs.declared.read.Children.{Children}
-use Rattle.order.specs.declared.read.Children.TheVariants.{Both}
+use Rattle.order.specs.declared.last_turns.LastTurns.{LastTurns}
+use Rattle.order.specs.LastTurns.{first_children, turn_to, turned_at}
 use Rattle.order.proofs.Snapping.{hold_before, some_more, reads_one_more, child_there, child_rises, unmarked_then, field_then}
 
 -- The fork where the search begins
 
 -- the root is a fork of class 2
-root_turned : (c : Call) (h : History) (k : ℕ) (f : Found) → IsTreeRun c.layout h → k < 2 ^ 64 → HasFoundLeaf c h k f → HasTurnedLeft c h k 0
-root_turned c h k f run small a = record { passed = record { first = a.trail.node.first; own = a.trail.node.own; passed = there }; fork = rw head refl; left = rw (lt-ltb k (rank (value h) 0) high) refl }
+root_turned : (c : Call) (h : History) (k : ℕ) (f : Found) → IsTreeRun c.layout h → k < 2 ^ 64 → HasFoundLeaf c h k f → HasTurned c h k Left 0
+root_turned c h k f run small a = record { passed = record { first = a.trail.node.first; own = a.trail.node.own; passed = there }; fork = rw head refl; turn = rw (lt-ltb k (rank (value h) 0) high) refl }
   where
     head : value h (node 0 (Settled HeadWord)) ≡ 2
     head = root_head c.layout h run
@@ -56,9 +58,15 @@ root_turned c h k f run small a = record { passed = record { first = a.trail.nod
         let x : Passed p.0 p.0 k 0 = walk_first c.layout p.0 k (run_since c.layout h p.0 run p.1) in
         (x.0, ends_trans h p.0 x.0 p.1 x.1, ends_trans x.0 p.0 a.trail.node.first x.2 p.2, x.3)
 
-last_turned : (c : Call) (h : History) (k n : ℕ) (f : Found) → IsTreeRun c.layout h → k < 2 ^ 64 → HasFoundLeaf c h k f → IsLastTurn c h k n → HasTurnedLeft c h k n
-last_turned c h k n f run small a (inl e) = rw e (root_turned c h k f run small a)
-last_turned c h k n f run small a (inr x) = x
+last_turned : (c : Call) (h : History) (k n : ℕ) (side : Side) (f : Found) → IsTreeRun c.layout h → k < 2 ^ 64 → HasFoundLeaf c h k f → IsLastTurn c h k side n → HasTurned c h k (turned_at side n) n
+last_turned c h k n Left f run small a (inl e) = rw e (root_turned c h k f run small a)
+last_turned c h k n Left f run small a (inr x) = x
+last_turned c h k n Right f run small a last = go (ℕ_discrete n 0) last
+  where
+    go : Dec (n ≡ 0) → IsLastTurn c h k Right n → HasTurned c h k (turned_at Right n) n
+    go (yes e) x = rw e (root_turned c h k f run small a)
+    go (no d) (inl e) = absurd (d e)
+    go (no d) (inr x) = rw (ne_eqb n 0 d) x
 
 -- an LLX may begin at a node that has stood
 pub look_ready : (c : Call) (h : History) (snaps : List Snap) (n : ℕ) (llx : LlxRun) → Reads c h snaps → HasStood c h n → llx.node.0 ≡ n → llx.at ≡ LlxStart → LlxIsReady TreeAllows llx (begun_at c h) h None
@@ -71,9 +79,9 @@ look_ready c h snaps n llx reads stood is at = record {
 }
 
 module _ {R A : Type 0} (means : ReadMeaning R A) (r : R) (snaps : List Snap) (c : Call) (h : History) (reading : IsReading means r snaps c h) where
-  -- where its walk has last turned left it may look
-  looks_first : (key n : ℕ) → WalksTo means r key → HasTurnedLeft c h key n → Looks means r snaps c h Both 0 n
-  looks_first key n w x = record {
+  -- where its walk has last turned to its side it may look
+  looks_first : (key : ℕ) (side : Side) (n : ℕ) → WalksTo means r key side → HasTurned c h key (turned_at side n) n → Looks means r snaps c h (first_children side n) 0 n
+  looks_first key side n w x = record {
     stood = record {
       stood = stood;
       not_final = record { moment = p.0; within = p.1; since = ends_trans p.0 x.passed.first c.start p.2 (own_since c x.passed.first x.passed.own); was = path_not_final c.layout p.0 key n (run_since c.layout h p.0 reading.reads.run p.1) p.3 };
@@ -82,7 +90,7 @@ module _ {R A : Type 0} (means : ReadMeaning R A) (r : R) (snaps : List Snap) (c
     fork = x.fork;
     deep = omega arith;
     waits = rw w.waits tt;
-    here = λ b run e hold. w.turned b n (λ unmarked. passed_unmarked c.layout b x.passed.first key n run (p.0, ends_trans b h p.0 e p.1, p.2, p.3) unmarked) (settled_toward (value h) (value b) n key (stood_settled c.layout b h n run e stood) ∙ x.left);
+    here = λ b run e hold. w.turned b n (λ unmarked. passed_unmarked c.layout b x.passed.first key n run (p.0, ends_trans b h p.0 e p.1, p.2, p.3) unmarked) (settled_toward (value h) (value b) n key (stood_settled c.layout b h n run e stood) ∙ x.turn);
   }
     where
       p : Passed h x.passed.first key n
@@ -92,8 +100,10 @@ module _ {R A : Type 0} (means : ReadMeaning R A) (r : R) (snaps : List Snap) (c
       stood = was_passed h x.passed.first key n p
 
   -- so it may behind the leaf that its walk has found
-  pub walk_found : (key n : ℕ) (f : Found) → WalksTo means r key → IsLastTurn c h key n → HasFoundGoal (ToKey key) c h f → Looks means r snaps c h Both 0 n
-  walk_found key n f w last found = looks_first key n w (last_turned c h key n f reading.reads.run (w.small reading.suits) found last)
+  pub walk_found : (key : ℕ) (side : Side) (turns : LastTurns) (f : Found) → WalksTo means r key side → AreLastTurns c h key turns → HasFoundGoal (ToKey key) c h f → Looks means r snaps c h (first_children side (turn_to side turns).0) 0 (turn_to side turns).0
+  walk_found key side turns f w last found =
+      let n = (turn_to side turns).0 in
+      looks_first key side n w (last_turned c h key n side f reading.reads.run (w.small reading.suits) found (last side))
 
   -- A snapshot more
 
@@ -118,7 +128,7 @@ module _ {R A : Type 0} (means : ReadMeaning R A) (r : R) (snaps : List Snap) (c
           stood = one.0;
           asks = rw same x.asks;
           some = inr (some_more snaps snap);
-          waits = to.waits c h x.waits (there Right);
+          waits = to.waits c h x.waits (there Left) (there Right);
           here = λ b run e hold.
               let field = field_then c h snaps snap reading.reads is x.stood x.fork b run e hold in
               to.below c.layout b snap.node.0 run (settled_leaf (value h) (value b) snap.node.0 (stood_settled c.layout b h snap.node.0 run e x.stood.stood) ∙ x.fork) (unmarked_then c h snaps snap reading.reads is x.stood x.fork b run e hold) (field Left) (field Right) (x.here b run e (hold_before b snaps snap hold));

@@ -1,16 +1,33 @@
 -- From place to place of a leaf.
-use Rattle.std.proofs.Common.{◌≡◌, [], ◌∷◌, refl, sym, ◌∙◌, ap, subst, Option, Some, None}
+use Rattle.std.proofs.Common.{◌≡◌, ℕ, List, [], ◌∷◌, refl, sym, ◌∙◌, ap, subst, Option, Some, None}
+use Rattle.arena.specs.declared.word.NodeWord.TheVariants.{Settled}
+use Rattle.arena.specs.declared.word.SettledPart.TheVariants.{Key as KeyWord}
 use Rattle.arena.specs.declared.word.Slot.{Slot}
-use Rattle.arena.specs.History.{History, value}
+use Rattle.arena.specs.History.{History, value, Extends}
+use Rattle.arena.specs.Machines.{Call}
+use Rattle.prims.specs.declared.snap.Snap.{Snap}
+use Rattle.ordered_map.specs.declared.pair.Pair.{Pair}
 use Rattle.ordered_map.specs.Holding.{held_behind, held_from, slot_behind}
-use Rattle.ordered_map.proofs.Lemmas.{held_next}
-use Rattle.order.specs.Found.{more_at, place_pair, pairs_behind}
+use Rattle.ordered_map.specs.OrderedMap.{pair}
+use Rattle.ordered_map.specs.Paths.{WasInTree}
+use Rattle.ordered_map.specs.Runs.{IsTreeRun}
+use Rattle.ordered_map.proofs.Lemmas.{held_next, same_pair, stood_settled}
+use Rattle.order.specs.Found.{StandsIn, TakesPair, more_at, pairs_behind, place_key, place_pair, place_value}
 use Rattle.order.specs.Loads.{place_behind, place_in}
+use Rattle.order.specs.Meaning.{ReadMeaning}
 use Rattle.order.specs.declared.load.LeafPlace.{LeafPlace}
 
 -- from a place on a leaf holds the pair there, and what is behind it
 pub place_next : (h : History) (p : LeafPlace) → more_at h p.node.0 ≡ p.more → held_from (value h) p.node.0 p.slot ≡ place_pair h p ∷ pairs_behind h p
 place_next h p count = held_next (value h) p.node.0 p.slot ∙ ap (λ more. place_pair h p ∷ held_behind (value h) p.node.0 (slot_behind more p.slot)) count
+
+-- where its key has been loaded, the pair there may be taken
+pub takes_here : {R A : Type 0} (means : ReadMeaning R A) (r : R) (snaps : List Snap) (c : Call) (h : History) (p : LeafPlace) (key : ℕ) → StandsIn means r snaps c h p → place_key h p ≡ key → means.Takes r key → TakesPair means r snaps c h p key
+takes_here means r snaps c h p key x is takes = record { stands = x; key_is = λ b run e hold. stood_settled c.layout b h p.node.0 run e x.stood.stood (Settled (KeyWord p.slot)) tt ∙ is; takes = takes }
+
+-- and once its key and value are known, it is this pair
+pub pair_then : (c : Call) (h : History) (p : LeafPlace) (found : Pair) → WasInTree h p.node.0 → place_value h p ≡ found.value → (b : History) → IsTreeRun c.layout b → Extends b h → place_key b p ≡ found.key → place_pair b p ≡ found
+pair_then c h p found stood is b run e key_is = λ i. pair (key_is i) ((ap (λ (q : Pair). q.value) (same_pair (value h) (value b) p.node.0 p.slot (stood_settled c.layout b h p.node.0 run e stood)) ∙ is) i)
 
 -- the place behind one is in the same leaf
 record IsPlaceBehind (p q : LeafPlace) : Type 0 where

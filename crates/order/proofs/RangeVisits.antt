@@ -17,9 +17,9 @@ use Rattle.ordered_map.specs.OrderedMap.{between, range, ManyPairs}
 use Rattle.ordered_map.specs.Runs.{IsTreeRun}
 use Rattle.ordered_map.specs.Spelled.{Spells}
 use Rattle.ordered_map.specs.TreeWords.{class, is_leaf, level, rank}
-use Rattle.ordered_map.proofs.Lemmas.{run_spells, same_pair, stood_settled, SameSettled, settled_class, settled_leaf, settled_rank}
+use Rattle.ordered_map.proofs.Lemmas.{run_spells, stood_settled, SameSettled, settled_class, settled_leaf, settled_rank}
 use Rattle.template.specs.Trails.{IsOwnMoment}
-use Rattle.order.specs.Found.{AreThere, BeginsAtRoot, GoesTo, IsAtLowFork, IsReading, IsThere, Looks, Stands, StandsBefore, StandsIn, TakesPair, head_at, key_at, place_key, more_at, place_pair}
+use Rattle.order.specs.Found.{AreThere, BeginsAtRoot, GoesTo, IsAtLowFork, IsReading, IsThere, Looks, Stands, StandsBefore, StandsIn, TakesPair, head_at, key_at, place_key, more_at, place_pair, place_value}
 use Rattle.order.specs.Loads.{place_behind}
 use Rattle.order.specs.Next.{MayValidate}
 use Rattle.order.specs.Range.{AreWithin, GoesBehind, GoesOnBehind, Visits, VisitsIn, bounds_of, range_means, waiting_of}
@@ -30,7 +30,7 @@ use Rattle.order.specs.declared.range.Range.{Range}
 use Rattle.order.specs.declared.read.Children.{Children}
 use Rattle.order.specs.declared.read.Children.TheVariants.{Left, Right, Both}
 use Rattle.order.proofs.Looking.{some_taken}
-use Rattle.order.proofs.Placing.{behind_node}
+use Rattle.order.proofs.Placing.{behind_node, pair_then}
 use Rattle.order.proofs.Visiting.{ends_all, ends_full, ends_last, passes, passes_above, takes, visited_in, visits_both, visits_in, visits_left, visits_next, visits_on, visits_right, visits_root}
 
 -- Of no pairs, and of no keys
@@ -97,7 +97,7 @@ module _ (r : Range) (left right : NodeNo) where
   pub both_go : (waiting : Vec NodeNo Global) → waiting.items ≡ r.waiting.items ++ right ∷ [] → GoesTo range_means r (record r { waiting = waiting }) Both left right left
   both_go waiting more = record {
     one = inl refl;
-    waits = λ c h before there. rw waits_is (there, before);
+    waits = λ c h before to_left to_right. rw waits_is (to_right, before);
     below = λ lay b n run fork unmarked to_left to_right x. rw (waits_is, ← to_left, ← to_right) (x.1.0, visits_both b (bounds_of r) n r.taken.items (waiting_of r) r.leaves x.1.1 fork x.0.0 x.0.1);
   }
     where
@@ -107,14 +107,14 @@ module _ (r : Range) (left right : NodeNo) where
   pub left_goes : GoesTo range_means r r Left left right left
   left_goes = record {
     one = inl refl;
-    waits = λ c h before there. before;
+    waits = λ c h before to_left to_right. before;
     below = λ lay b n run fork unmarked to_left to_right x. rw (← to_left) (x.1.0, visits_left b (bounds_of r) n r.taken.items (waiting_of r) r.leaves x.1.1 fork x.0);
   }
 
   pub right_goes : GoesTo range_means r r Right left right right
   right_goes = record {
     one = inr refl;
-    waits = λ c h before there. before;
+    waits = λ c h before to_left to_right. before;
     below = λ lay b n run fork unmarked to_left to_right x. rw (← to_right) (x.1.0, visits_right b (bounds_of r) n r.taken.items (waiting_of r) r.leaves x.1.1 fork x.0);
   }
 
@@ -200,7 +200,7 @@ pair_passed r snaps c h p key own x is out = record {
 }
 
 -- one within them is taken
-pub pair_taken : (r : Range) (snaps : List Snap) (c : Call) (h : History) (p : LeafPlace) (found : Pair) (taken : Vec Pair Global) → IsOwnMoment c h → TakesPair range_means r snaps c h p found.key → place_pair h p ≡ found → taken.items ≡ r.taken.items ++ found ∷ [] → GoesOnBehind (record r { taken = taken }) snaps c h p
+pub pair_taken : (r : Range) (snaps : List Snap) (c : Call) (h : History) (p : LeafPlace) (found : Pair) (taken : Vec Pair Global) → IsOwnMoment c h → TakesPair range_means r snaps c h p found.key → place_value h p ≡ found.value → taken.items ≡ r.taken.items ++ found ∷ [] → GoesOnBehind (record r { taken = taken }) snaps c h p
 pair_taken r snaps c h p found taken own x is items = record {
   own = own;
   asks = x.stands.asks;
@@ -208,9 +208,8 @@ pair_taken r snaps c h p found taken own x is items = record {
   stood = x.stands.stood;
   waits = x.stands.waits;
   visited = λ b run e hold.
-      let same : SameSettled (value h) (value b) p.node.0 = stood_settled c.layout b h p.node.0 run e x.stands.stood.stood in
-      let key_is : place_key b p ≡ found.key = same (Settled (KeyWord p.slot)) tt ∙ x.key_is in
-      let pair_is : place_pair b p ≡ found = same_pair (value h) (value b) p.node.0 p.slot same ∙ is in
+      let key_is : place_key b p ≡ found.key = x.key_is b run e hold in
+      let pair_is : place_pair b p ≡ found = pair_then c h p found x.stands.stood.stood is b run e key_is in
       let v : VisitsIn r b p = x.stands.here b run e hold in
       rw items (
         (let i = v.0 in let l : length (r.taken.items ++ found ∷ []) ≡ length r.taken.items + 1 = one_longer r.taken.items found in omega (arith, i, l)),

@@ -1,239 +1,244 @@
--- How the search for the least key above k goes down a tree.
-use Rattle.std.proofs.Common.{◌≡◌, ◌≢◌, ℕ, ◌^◌, ◌<◌, ◌≤◌, true, false, inl, inr, List, refl, sym, ◌∙◌, ap, lt-ltb, le-ltb, subst, Option, Some, None}
+-- How the search for the next key on a side of k goes down a tree.
+use Rattle.std.proofs.Common.{◌≡◌, ◌≢◌, ℕ, ◌*◌, ◌^◌, ◌<◌, ◌≤◌, Bool, true, false, cond, List, [], ◌∷◌, inl, inr, refl, sym, ◌∙◌, ap, subst, arith, lt-ltb, le-ltb, Option, Some, None, unwrap_or}
 use Rattle.arena.specs.declared.layout.Layout.{Layout}
 use Rattle.arena.specs.declared.number.NodeNo.{NodeNo}
+use Rattle.arena.specs.declared.word.Side.{Side}
 use Rattle.arena.specs.declared.word.Side.TheVariants.{Left, Right}
-use Rattle.arena.specs.declared.word.Slot.TheVariants.{First}
 use Rattle.arena.specs.declared.word.Word.{Word}
 use Rattle.arena.specs.Words.{child}
 use Rattle.arena.specs.History.{History, value}
-use Rattle.ordered_map.specs.Holding.{held_behind, held_pairs, pair_in, slot_behind}
 use Rattle.ordered_map.specs.declared.pair.Pair.{Pair}
-use Rattle.ordered_map.specs.OrderedMap.{AllBelow, first_pair, successor}
+use Rattle.ordered_map.specs.Holding.{end_slot, held_pairs, pair_in}
+use Rattle.ordered_map.specs.OrderedMap.{AllBelow, IsRising, end_pair, neighbour, predecessor, successor, pair}
 use Rattle.ordered_map.specs.Paths.{IsOnPath}
 use Rattle.ordered_map.specs.Spelled.{Spells}
-use Rattle.ordered_map.specs.TreeWords.{Tree, Leaf, Fork, root, Shows, Passes, class, is_leaf, rank, leaf_items, leaf_pairs}
-use Rattle.ordered_map.proofs.Lemmas.{first_of, search_items, search_here, search_past, search_tells, leaf_tells, low_pair, low_items, low_pairs, high_pairs, held_next, successor_behind, successor_here}
-use Rattle.order.specs.Found.{place_key, more_at, place_pair, pairs_behind}
-use Rattle.order.specs.Laws.Search.{IsSearched, IsSearchedIn, IsFirstBehind, IsFirstIn, or_next}
+use Rattle.ordered_map.specs.TreeWords.{Tree, Leaf, Fork, Passes, Shows, class, is_leaf, leaf_items, opposite, rank, root, toward}
+use Rattle.ordered_map.proofs.Lemmas.{above_less, before_above, below_end, end_below, found_before, held_end, high_items, items, low_items, low_pair, or_else, or_none, pair_goes, part_on, rest_below, search_below, search_tells}
+use Rattle.order.specs.Found.{more_at, pairs_behind, place_key, place_pair}
+use Rattle.order.specs.Laws.Search.{Finds, FindsNone, IsAnswer, IsBeside, IsEndBelow, IsPartAt, IsSearched, IsSearchedIn}
 use Rattle.order.specs.Loads.{first_in_leaf, place_behind}
+use Rattle.order.specs.Neighbour.{alone, ways}
 use Rattle.order.specs.declared.load.LeafPlace.{LeafPlace}
 use Rattle.order.proofs.Following.{no_leaf, one_tree}
 use Rattle.order.proofs.Placing.{behind_more, behind_none, behind_some, place_next}
 
--- At a fork on the path, with k on the left of it
+-- what it finds is what the map says, but for what is above all keys
+pub finds_tells : (lay : Layout) (h : History) (side : Side) (k : ℕ) (found : Option Pair) (ps : List Pair) → Finds h side k found → k < 2 ^ 64 → Spells lay (value h) ps → neighbour side k ps ≡ low_pair found
+finds_tells lay h side k found ps x small spelled = search_tells side lay (value h) ps k spelled small ∙ ap low_pair (ap (λ t. neighbour side k (items (value h) t)) (one_tree h spelled.tree x.tree spelled.is_tree x.is_tree) ∙ x.finds)
 
--- the search goes on below its left child, with what its right child offers
-record Turns (f : Word → ℕ) (k : ℕ) (t : Tree) (n : ℕ) (d : Option Pair) : Type 0 where
-  left : Tree
-  left_low : ℕ
-  left_high : ℕ
-  left_shows : Shows f left_low left_high left
-  left_is : root left ≡ f (child n Left)
-  right : Tree
-  right_low : ℕ
-  right_high : ℕ
-  right_shows : Shows f right_low right_high right
-  right_is : root right ≡ f (child n Right)
-  finds : search_items f k t d ≡ search_items f k left (first_of f right)
+-- the same, where it is called otherwise
+pub finds_as : (h : History) (side : Side) (k : ℕ) (found other : Option Pair) → found ≡ other → Finds h side k found → Finds h side k other
+finds_as h side k found other e x = record { tree = x.tree; is_tree = x.is_tree; finds = x.finds ∙ e }
 
-turns : (f : Word → ℕ) (k : ℕ) (t : Tree) (lo hi n : ℕ) (d : Option Pair) → Shows f lo hi t → Passes f k t n → is_leaf f n ≡ false → k < rank f n → Turns f k t n d
-turns f k (Leaf m) lo hi n d s e fork l = no_leaf f m _ s.leaf (rw (← e) at fork)
-turns f k (Fork m a b) lo hi n d s (inl e) fork l = record {
-  left = a;
-  left_low = lo;
-  left_high = rank f m;
-  left_shows = s.1;
-  left_is = rw (← e) (sym s.0.left);
-  right = b;
-  right_low = rank f m;
-  right_high = hi;
-  right_shows = s.2;
-  right_is = rw (← e) (sym s.0.right);
-  finds = rw (lt-ltb k (rank f m) (rw (← e) at l)) refl;
-}
-turns f k (Fork m a b) lo hi n d s (inr (inl q)) fork l =
-    let x : Turns f k a n (first_of f b) = turns f k a lo (rank f m) n (first_of f b) s.1 q.1 fork l in
-    record {
-      left = x.left;
-      left_low = x.left_low;
-      left_high = x.left_high;
-      left_shows = x.left_shows;
-      left_is = x.left_is;
-      right = x.right;
-      right_low = x.right_low;
-      right_high = x.right_high;
-      right_shows = x.right_shows;
-      right_is = x.right_is;
-      finds = rw (lt-ltb k (rank f m) q.0) x.finds;
-    }
-turns f k (Fork m a b) lo hi n d s (inr (inr q)) fork l =
-    let x : Turns f k b n d = turns f k b (rank f m) hi n d s.2 q.1 fork l in
-    record {
-      left = x.left;
-      left_low = x.left_low;
-      left_high = x.left_high;
-      left_shows = x.left_shows;
-      left_is = x.left_is;
-      right = x.right;
-      right_low = x.right_low;
-      right_high = x.right_high;
-      right_shows = x.right_shows;
-      right_is = x.right_is;
-      finds = rw (le-ltb k (rank f m) q.0) x.finds;
-    }
+-- At a fork
 
-pub begins_below : (h : History) (k n : ℕ) → IsOnPath h k n → is_leaf (value h) n ≡ false → k < rank (value h) n → IsSearched h k (value h (child n Left)) (value h (child n Right))
-begins_below h k n p fork l =
-    let x : Turns (value h) k p.tree n None = turns (value h) k p.tree _ _ n None p.is_tree.shows p.passes fork l in
-    record {
-      tree = p.tree;
-      is_tree = p.is_tree;
-      part = record { tree = x.left; low = x.left_low; high = x.left_high; shows = x.left_shows; is = x.left_is };
-      behind = record { tree = x.right; low = x.right_low; high = x.right_high; shows = x.right_shows; is = x.right_is };
-      finds = x.finds;
-    }
+-- what is known below a fork at which the path turns so
+abbrev pub IsBelow : History → Side → Side → ℕ → NodeNo → NodeNo → Option Pair → Type 0
+IsBelow h Left Right k left right rest = (beside : Option Pair) × IsBeside h Left (Some left) beside × IsSearched h Left k right.0 beside
+IsBelow h Right Left k left right rest = (beside : Option Pair) × IsBeside h Right (Some right) beside × IsSearched h Right k left.0 beside
+IsBelow h Left Left k left right rest = IsSearched h Left k left.0 rest
+IsBelow h Right Right k left right rest = IsSearched h Right k right.0 rest
 
--- One node further down
+-- its parts
+module _ (h : History) (k m : ℕ) (a b : Tree) (lo hi : ℕ) (s : Shows (value h) lo hi (Fork m a b)) (left right : NodeNo) (to_left : value h (child m Left) ≡ left.0) (to_right : value h (child m Right) ≡ right.0) where
+  abbrev part_left : IsPartAt h left.0
+  part_left = record { tree = a; low = lo; high = rank (value h) m; shows = s.1; is = sym s.0.left ∙ to_left }
 
-module _ (h : History) (k n right : ℕ) (x : IsSearched h k n right) where
-  abbrev f : Word → ℕ
-  f = value h
+  abbrev part_right : IsPartAt h right.0
+  part_right = record { tree = b; low = rank (value h) m; high = hi; shows = s.2; is = sym s.0.right ∙ to_right }
 
-  abbrev Finds : Tree → Type 0
-  Finds p = search_items (value h) k x.tree None ≡ search_items (value h) k p (first_of (value h) x.behind.tree)
+  below : (side turn : Side) (rest : Option Pair) → Finds h side k (or_else (neighbour side k (items (value h) (part_on turn a b))) (rest_below side turn (value h) a b rest)) → IsBelow h side turn k left right rest
+  below Left Right rest x = (end_pair Right (items (value h) a), (part_left, refl), record { part = part_right; finds = x })
+  below Right Left rest x = (end_pair Left (items (value h) b), (part_right, refl), record { part = part_left; finds = x })
+  below Left Left rest x = record { part = part_left; finds = x }
+  below Right Right rest x = record { part = part_right; finds = x }
 
-  pub goes_left : is_leaf (value h) n ≡ false → k < rank (value h) n → IsSearched h k (value h (child n Left)) (value h (child n Right))
-  goes_left fork l = go x.part.tree x.part.low x.part.high x.part.shows x.part.is x.finds
+  ends : (side : Side) → Finds h side k (end_pair (opposite side) (items (value h) (Fork m a b))) → IsEndBelow h side k (ways side (alone (opposite side)) left right).1.0
+  ends Left x = record { part = part_right; finds = finds_as h Left k _ _ (end_below Right (value h) m a b) x }
+  ends Right x = record { part = part_left; finds = finds_as h Right k _ _ (end_below Left (value h) m a b) x }
+
+module _ (h : History) (side : Side) (k n : ℕ) (fork : is_leaf (value h) n ≡ false) (left right : NodeNo) (to_left : value h (child n Left) ≡ left.0) (to_right : value h (child n Right) ≡ right.0) where
+  pub goes_below : (rest : Option Pair) → IsSearched h side k n rest → (turn : Side) → toward (value h) n k ≡ turn → IsBelow h side turn k left right rest
+  goes_below rest x turn is = go x.part.tree x.part.low x.part.high x.part.shows x.part.is x.finds
     where
-      go : (p : Tree) (low high : ℕ) → Shows f low high p → root p ≡ n → Finds p → IsSearched h k (value h (child n Left)) (value h (child n Right))
-      go (Leaf m) low high s e d = no_leaf f n _ (rw e at s.leaf) fork
-      go (Fork m a b) low high s e d = record {
-        tree = x.tree;
-        is_tree = x.is_tree;
-        part = record { tree = a; low = low; high = rank f m; shows = s.1; is = rw (← e) (sym s.0.left) };
-        behind = record { tree = b; low = rank f m; high = high; shows = s.2; is = rw (← e) (sym s.0.right) };
-        finds = rw (lt-ltb k (rank f m) (rw (← e) at l)) at d;
-      }
-
-  pub goes_right : is_leaf (value h) n ≡ false → rank (value h) n ≤ k → IsSearched h k (value h (child n Right)) right
-  goes_right fork l = go x.part.tree x.part.low x.part.high x.part.shows x.part.is x.finds
-    where
-      go : (p : Tree) (low high : ℕ) → Shows f low high p → root p ≡ n → Finds p → IsSearched h k (value h (child n Right)) right
-      go (Leaf m) low high s e d = no_leaf f n _ (rw e at s.leaf) fork
-      go (Fork m a b) low high s e d = record {
-        tree = x.tree;
-        is_tree = x.is_tree;
-        part = record { tree = b; low = rank f m; high = high; shows = s.2; is = rw (← e) (sym s.0.right) };
-        behind = x.behind;
-        finds = rw (le-ltb k (rank f m) (rw (← e) at l)) at d;
-      }
-
-  -- at a leaf above k
-  pub ends_here : is_leaf (value h) n ≡ true → k < rank (value h) n → IsFirstBehind h k n
-  ends_here leaf l = go x.part.tree x.part.low x.part.high x.part.shows x.part.is x.finds
-    where
-      go : (p : Tree) (low high : ℕ) → Shows f low high p → root p ≡ n → Finds p → IsFirstBehind h k n
-      go (Fork m a b) low high s e d = no_leaf f n _ leaf (rw e at s.0.fork)
-      go (Leaf m) low high s e d = record {
-        tree = x.tree;
-        is_tree = x.is_tree;
-        part = record { tree = Leaf m; low = low; high = high; shows = s; is = e };
-        finds = d ∙ search_here f k m (first_of f x.behind.tree) (subst (λ j. k < rank f j) (sym e) l);
-      }
-
--- On the way to the first leaf
-
-module _ (h : History) (k n : ℕ) (x : IsFirstBehind h k n) where
-  abbrev Ends : Tree → Type 0
-  Ends p = search_items (value h) k x.tree None ≡ first_of (value h) p
-
-  pub first_left : is_leaf (value h) n ≡ false → IsFirstBehind h k (value h (child n Left))
-  first_left fork = go x.part.tree x.part.low x.part.high x.part.shows x.part.is x.finds
-    where
-      go : (p : Tree) (low high : ℕ) → Shows (value h) low high p → root p ≡ n → Ends p → IsFirstBehind h k (value h (child n Left))
+      go : (p : Tree) (low high : ℕ) → Shows (value h) low high p → root p ≡ n → Finds h side k (or_else (neighbour side k (items (value h) p)) rest) → IsBelow h side turn k left right rest
       go (Leaf m) low high s e d = no_leaf (value h) n _ (rw e at s.leaf) fork
-      go (Fork m a b) low high s e d = record {
-        tree = x.tree;
-        is_tree = x.is_tree;
-        part = record { tree = a; low = low; high = rank (value h) m; shows = s.1; is = rw (← e) (sym s.0.left) };
-        finds = d;
-      }
+      go (Fork m a b) low high s e d =
+          let same : toward (value h) m k ≡ turn = ap (λ j. toward (value h) j k) e ∙ is in
+          let step = search_below side (value h) k m a b low high rest s ∙ ap (λ t. or_else (neighbour side k (items (value h) (part_on t a b))) (rest_below side t (value h) a b rest)) same in
+          below h k m a b low high s left right (ap (λ j. value h (child j Left)) e ∙ to_left) (ap (λ j. value h (child j Right)) e ∙ to_right) side turn rest (finds_as h side k _ _ step d)
 
-  -- the leaf says what the map does
-  pub first_tells : (lay : Layout) (ps : List Pair) → is_leaf (value h) n ≡ true → Spells lay (value h) ps → successor k ps ≡ first_pair (leaf_pairs (value h) n)
-  first_tells lay ps leaf spelled = search_tells lay (value h) ps k spelled ∙ ap (λ t. low_pair (search_items (value h) k t None)) (one_tree h spelled.tree x.tree spelled.is_tree x.is_tree) ∙ go x.part.tree x.part.low x.part.high x.part.shows x.part.is x.finds
+  pub goes_near : IsEndBelow h side k n → IsEndBelow h side k (ways side (alone (opposite side)) left right).1.0
+  goes_near x = go x.part.tree x.part.low x.part.high x.part.shows x.part.is x.finds
     where
-      go : (p : Tree) (low high : ℕ) → Shows (value h) low high p → root p ≡ n → Ends p → low_pair (search_items (value h) k x.tree None) ≡ first_pair (leaf_pairs (value h) n)
-      go (Fork m a b) low high s e d = no_leaf (value h) n _ leaf (rw e at s.0.fork)
-      go (Leaf m) low high s e d = ap low_pair d ∙ leaf_tells (value h) m low high s ∙ ap (λ j. first_pair (leaf_pairs (value h) j)) e
+      go : (p : Tree) (low high : ℕ) → Shows (value h) low high p → root p ≡ n → Finds h side k (end_pair (opposite side) (items (value h) p)) → IsEndBelow h side k (ways side (alone (opposite side)) left right).1.0
+      go (Leaf m) low high s e d = no_leaf (value h) n _ (rw e at s.leaf) fork
+      go (Fork m a b) low high s e d = ends h k m a b low high s left right (ap (λ j. value h (child j Left)) e ∙ to_left) (ap (λ j. value h (child j Right)) e ∙ to_right) side d
+
+-- On the path
+
+-- the search in the tree t, with d besides, is that below the node n, with the rest
+record Reaches (f : Word → ℕ) (side : Side) (k : ℕ) (t : Tree) (n : ℕ) (d : Option Pair) : Type 0 where
+  part : Tree
+  low : ℕ
+  high : ℕ
+  shows : Shows f low high part
+  is : root part ≡ n
+  rest : Option Pair
+  finds : or_else (neighbour side k (items f t)) d ≡ or_else (neighbour side k (items f part)) rest
+
+reaches : (f : Word → ℕ) (side : Side) (k : ℕ) (t : Tree) (lo hi n : ℕ) (d : Option Pair) → Shows f lo hi t → Passes f k t n → Reaches f side k t n d
+reaches f side k (Leaf m) lo hi n d s e = record { part = Leaf m; low = lo; high = hi; shows = s; is = e; rest = d; finds = refl }
+reaches f side k (Fork m a b) lo hi n d s (inl e) = record { part = Fork m a b; low = lo; high = hi; shows = s; is = e; rest = d; finds = refl }
+reaches f side k (Fork m a b) lo hi n d s (inr (inl q)) =
+    let turn : toward f m k ≡ Left = rw (lt-ltb k (rank f m) q.0) refl in
+    let x : Reaches f side k a n (rest_below side Left f a b d) = reaches f side k a lo (rank f m) n (rest_below side Left f a b d) s.1 q.1 in
+    record {
+      part = x.part;
+      low = x.low;
+      high = x.high;
+      shows = x.shows;
+      is = x.is;
+      rest = x.rest;
+      finds = search_below side f k m a b lo hi d s ∙ ap (λ t. or_else (neighbour side k (items f (part_on t a b))) (rest_below side t f a b d)) turn ∙ x.finds;
+    }
+reaches f side k (Fork m a b) lo hi n d s (inr (inr q)) =
+    let turn : toward f m k ≡ Right = rw (le-ltb k (rank f m) q.0) refl in
+    let x : Reaches f side k b n (rest_below side Right f a b d) = reaches f side k b (rank f m) hi n (rest_below side Right f a b d) s.2 q.1 in
+    record {
+      part = x.part;
+      low = x.low;
+      high = x.high;
+      shows = x.shows;
+      is = x.is;
+      rest = x.rest;
+      finds = search_below side f k m a b lo hi d s ∙ ap (λ t. or_else (neighbour side k (items f (part_on t a b))) (rest_below side t f a b d)) turn ∙ x.finds;
+    }
+
+-- at any node of it something is left besides
+pub on_path : (h : History) (side : Side) (k n : ℕ) → IsOnPath h k n → (rest : Option Pair) × IsSearched h side k n rest
+on_path h side k n p =
+    let x : Reaches (value h) side k p.tree n None = reaches (value h) side k p.tree _ _ n None p.is_tree.shows p.passes in (
+      x.rest,
+      record {
+        part = record { tree = x.part; low = x.low; high = x.high; shows = x.shows; is = x.is };
+        finds = record { tree = p.tree; is_tree = p.is_tree; finds = sym (or_none (neighbour side k (items (value h) p.tree))) ∙ x.finds };
+      },
+    )
+
+-- at the root nothing is
+pub at_root : (h : History) (side : Side) (k n : ℕ) → IsOnPath h k n → n ≡ 0 → IsSearched h side k n None
+at_root h side k n p e = record {
+  part = record { tree = p.tree; low = 0; high = 3 * 2 ^ 64; shows = p.is_tree.shows; is = p.is_tree.is ∙ sym e };
+  finds = record { tree = p.tree; is_tree = p.is_tree; finds = sym (or_none (neighbour side k (items (value h) p.tree))) };
+}
+
+-- At a leaf above all keys
+
+-- which is above k: on the left of k nothing is in it, and what is on the right has no pair
+pub high_left : (h : History) (k n : ℕ) (rest : Option Pair) → IsSearched h Left k n rest → is_leaf (value h) n ≡ true → class (value h) n ≢ 0 → k < rank (value h) n → Finds h Left k rest
+high_left h k n rest x leaf high above = go x.part.tree x.part.low x.part.high x.part.shows x.part.is x.finds
+  where
+    go : (p : Tree) (low hi : ℕ) → Shows (value h) low hi p → root p ≡ n → Finds h Left k (or_else (neighbour Left k (items (value h) p)) rest) → Finds h Left k rest
+    go (Fork m a b) low hi s e d = no_leaf (value h) n _ leaf (rw e at s.0.fork)
+    go (Leaf m) low hi s e d =
+        let is : leaf_items (value h) m ≡ pair (rank (value h) m) 0 ∷ [] = high_items (value h) m (λ z. high (sym (ap (class (value h)) e) ∙ z)) in
+        finds_as h Left k _ rest (ap (λ ps. or_else (predecessor k ps) rest) is ∙ ap (λ o. or_else o rest) (before_above k (pair (rank (value h) m) 0 ∷ []) (subst (λ j. k < rank (value h) j) (sym e) above, tt))) d
+
+pub high_right : (h : History) (k n : ℕ) (rest : Option Pair) → IsSearched h Right k n rest → is_leaf (value h) n ≡ true → class (value h) n ≢ 0 → k < rank (value h) n → FindsNone h Right k
+high_right h k n rest x leaf high above = go x.part.tree x.part.low x.part.high x.part.shows x.part.is x.finds
+  where
+    go : (p : Tree) (low hi : ℕ) → Shows (value h) low hi p → root p ≡ n → Finds h Right k (or_else (neighbour Right k (items (value h) p)) rest) → FindsNone h Right k
+    go (Fork m a b) low hi s e d = no_leaf (value h) n _ leaf (rw e at s.0.fork)
+    go (Leaf m) low hi s e d =
+        let other : class (value h) m ≢ 0 = λ z. high (sym (ap (class (value h)) e) ∙ z) in
+        let is : leaf_items (value h) m ≡ pair (rank (value h) m) 0 ∷ [] = high_items (value h) m other in
+        let found : successor k (pair (rank (value h) m) 0 ∷ []) ≡ Some (pair (rank (value h) m) 0) = rw (lt-ltb k (rank (value h) m) (subst (λ j. k < rank (value h) j) (sym e) above)) refl in
+        record { found = Some (pair (rank (value h) m) 0); none = pair_goes (pair (rank (value h) m) 0) (omega (arith, other)); finds = finds_as h Right k _ _ (ap (λ ps. or_else (successor k ps) rest) is ∙ ap (λ o. or_else o rest) found) d }
+
+pub high_end : (h : History) (side : Side) (k n : ℕ) → IsEndBelow h side k n → is_leaf (value h) n ≡ true → class (value h) n ≢ 0 → FindsNone h side k
+high_end h side k n x leaf high = go x.part.tree x.part.low x.part.high x.part.shows x.part.is x.finds
+  where
+    one : (end : Side) (q : Pair) → end_pair end (q ∷ []) ≡ Some q
+    one Left q = refl
+    one Right q = refl
+
+    go : (p : Tree) (low hi : ℕ) → Shows (value h) low hi p → root p ≡ n → Finds h side k (end_pair (opposite side) (items (value h) p)) → FindsNone h side k
+    go (Fork m a b) low hi s e d = no_leaf (value h) n _ leaf (rw e at s.0.fork)
+    go (Leaf m) low hi s e d =
+        let other : class (value h) m ≢ 0 = λ z. high (sym (ap (class (value h)) e) ∙ z) in
+        record { found = Some (pair (rank (value h) m) 0); none = pair_goes (pair (rank (value h) m) 0) (omega (arith, other)); finds = finds_as h side k _ _ (ap (end_pair (opposite side)) (high_items (value h) m other) ∙ one (opposite side) (pair (rank (value h) m) 0)) d }
 
 -- At a leaf of class 0
 
--- what the search finds there
-leaf_finds : (f : Word → ℕ) (k n : ℕ) (d : Option Pair) → search_items f k (Leaf n) d ≡ or_next (successor k (leaf_items f n)) d
-leaf_finds f k n d = go (successor k (leaf_items f n)) refl
-  where
-    go : (x : Option Pair) → successor k (leaf_items f n) ≡ x → search_items f k (Leaf n) d ≡ or_next (successor k (leaf_items f n)) d
-    go None e = search_past f k n d e ∙ sym (ap (λ o. or_next o d) e)
-    go (Some p) e = rw e refl
-
--- on the path of k it stands at the first place
-pub searched_in : (h : History) (k : ℕ) (n : NodeNo) (more right : ℕ) → IsSearched h k n.0 right → is_leaf (value h) n.0 ≡ true → class (value h) n.0 ≡ 0 → more_at h n.0 ≡ more → IsSearchedIn h k (first_in_leaf n more) right
-searched_in h k n more right x leaf low count = go x.part.tree x.part.low x.part.high x.part.shows x.part.is x.finds
-  where
-    go : (p : Tree) (least high : ℕ) → Shows (value h) least high p → root p ≡ n.0 → search_items (value h) k x.tree None ≡ search_items (value h) k p (first_of (value h) x.behind.tree) → IsSearchedIn h k (first_in_leaf n more) right
-    go (Fork m a b) least high s e d = no_leaf (value h) n.0 _ leaf (rw e at s.0.fork)
-    go (Leaf m) least high s e d = record {
-      tree = x.tree;
-      is_tree = x.is_tree;
-      behind = x.behind;
-      more = count;
-      small = subst (λ j. AllBelow (2 ^ 64) (held_pairs (value h) j)) e (s.items.keys (ap (class (value h)) e ∙ low)).1;
-      finds = d ∙ leaf_finds (value h) k m (first_of (value h) x.behind.tree) ∙ ap (λ ps. or_next (successor k ps) (first_of (value h) x.behind.tree)) (low_items (value h) m (ap (class (value h)) e ∙ low) ∙ ap (held_pairs (value h)) e);
-    }
-
-module _ (h : History) (k : ℕ) (p : LeafPlace) (right : ℕ) (x : IsSearchedIn h k p right) where
-  -- the pair there is the answer if its key is above k
-  finds_here : k < place_key h p → search_items (value h) k x.tree None ≡ Some (place_pair h p)
-  finds_here l = x.finds ∙ ap (λ o. or_next o (first_of (value h) x.behind.tree)) (successor_here (value h) p.node.0 p.slot k l)
-
-  here_small : place_key h p < 2 ^ 64
-  here_small = (subst (AllBelow (2 ^ 64)) (place_next h p x.more) x.small).0
-
-  pub tells_here : (lay : Layout) (ps : List Pair) → k < place_key h p → Spells lay (value h) ps → successor k ps ≡ Some (place_pair h p)
-  tells_here lay ps l spelled = search_tells lay (value h) ps k spelled ∙ ap (λ t. low_pair (search_items (value h) k t None)) (one_tree h spelled.tree x.tree spelled.is_tree x.is_tree) ∙ ap low_pair (finds_here l) ∙ stays
+module _ (h : History) (side : Side) (k : ℕ) (n : NodeNo) (more : ℕ) (leaf : is_leaf (value h) n.0 ≡ true) (low : class (value h) n.0 ≡ 0) (count : more_at h n.0 ≡ more) where
+  -- on the path of k it stands at the first place
+  pub searched_in : (rest : Option Pair) → IsSearched h side k n.0 rest → IsSearchedIn h side k (first_in_leaf n more) rest
+  searched_in rest x = go x.part.tree x.part.low x.part.high x.part.shows x.part.is x.finds
     where
-      stays : low_pair (Some (place_pair h p)) ≡ Some (place_pair h p)
-      stays = rw (lt-ltb (place_key h p) (2 ^ 64) here_small) refl
+      go : (p : Tree) (least high : ℕ) → Shows (value h) least high p → root p ≡ n.0 → Finds h side k (or_else (neighbour side k (items (value h) p)) rest) → IsSearchedIn h side k (first_in_leaf n more) rest
+      go (Fork m a b) least high s e d = no_leaf (value h) n.0 _ leaf (rw e at s.0.fork)
+      go (Leaf m) least high s e d =
+          let is_low : class (value h) m ≡ 0 = ap (class (value h)) e ∙ low in
+          let held : leaf_items (value h) m ≡ held_pairs (value h) n.0 = low_items (value h) m is_low ∙ ap (held_pairs (value h)) e in
+          record {
+            more = count;
+            small = subst (λ j. AllBelow (2 ^ 64) (held_pairs (value h) j)) e (s.items.keys is_low).1;
+            rises = subst IsRising held s.items.rising;
+            finds = finds_as h side k _ _ (ap (λ ps. or_else (neighbour side k ps) rest) held) d;
+          }
 
-  -- else it goes on behind that
-  finds_behind : place_key h p ≤ k → search_items (value h) k x.tree None ≡ or_next (successor k (pairs_behind h p)) (first_of (value h) x.behind.tree)
-  finds_behind l = x.finds ∙ ap (λ o. or_next o (first_of (value h) x.behind.tree)) (successor_behind (value h) p.node.0 p.slot k l ∙ ap (λ more. successor k (held_behind (value h) p.node.0 (slot_behind more p.slot))) x.more)
+  -- beside that path the pair at the near end is the answer
+  pub answers_end : IsEndBelow h side k n.0 → IsAnswer h side k (record { node = n; more = more; slot = end_slot (opposite side) more })
+  answers_end x = go x.part.tree x.part.low x.part.high x.part.shows x.part.is x.finds
+    where
+      go : (p : Tree) (least high : ℕ) → Shows (value h) least high p → root p ≡ n.0 → Finds h side k (end_pair (opposite side) (items (value h) p)) → IsAnswer h side k (record { node = n; more = more; slot = end_slot (opposite side) more })
+      go (Fork m a b) least high s e d = no_leaf (value h) n.0 _ leaf (rw e at s.0.fork)
+      go (Leaf m) least high s e d =
+          let is_low : class (value h) m ≡ 0 = ap (class (value h)) e ∙ low in
+          let small : AllBelow (2 ^ 64) (held_pairs (value h) n.0) = subst (λ j. AllBelow (2 ^ 64) (held_pairs (value h) j)) e (s.items.keys is_low).1 in
+          let last : end_pair (opposite side) (held_pairs (value h) n.0) ≡ Some (pair_in (value h) n.0 (end_slot (opposite side) more)) = held_end (opposite side) (value h) n.0 ∙ ap (λ j. Some (pair_in (value h) n.0 (end_slot (opposite side) j))) count in
+          record {
+            small = below_end (opposite side) (2 ^ 64) (held_pairs (value h) n.0) _ small last;
+            finds = finds_as h side k _ _ (ap (end_pair (opposite side)) (low_items (value h) m is_low ∙ ap (held_pairs (value h)) e) ∙ last) d;
+          }
 
-  pub goes_on : (q : LeafPlace) → place_key h p ≤ k → place_behind p ≡ Some q → IsSearchedIn h k q right
-  goes_on q l is = record {
-    tree = x.tree;
-    is_tree = x.is_tree;
-    behind = x.behind;
+-- At a place of it
+
+module _ (h : History) (k : ℕ) (p : LeafPlace) (rest : Option Pair) where
+  -- on the right the first pair above k is the answer
+  pub answers_here : IsSearchedIn h Right k p rest → k < place_key h p → IsAnswer h Right k p
+  answers_here x l = record {
+    small = (subst (AllBelow (2 ^ 64)) (place_next h p x.more) x.small).0;
+    finds = finds_as h Right k _ _ (ap (λ ps. or_else (successor k ps) rest) (place_next h p x.more) ∙ ap (λ (b : Bool). or_else (cond b (Some (place_pair h p)) (successor k (pairs_behind h p))) rest) (lt-ltb k (place_key h p) l)) x.finds;
+  }
+
+  -- on the left none is from one on that is not below k
+  pub past_here : IsSearchedIn h Left k p rest → k ≤ place_key h p → Finds h Left k rest
+  past_here x l =
+      let none : predecessor k (pairs_behind h p) ≡ None = before_above k (pairs_behind h p) (above_less k (place_key h p) (pairs_behind h p) l (subst IsRising (place_next h p x.more) x.rises).0) in
+      finds_as h Left k _ _ (ap (λ ps. or_else (predecessor k ps) rest) (place_next h p x.more) ∙ ap (λ (b : Bool). or_else (cond b (Some (unwrap_or (predecessor k (pairs_behind h p)) (place_pair h p))) (predecessor k (pairs_behind h p))) rest) (le-ltb (place_key h p) k l) ∙ ap (λ o. or_else o rest) none) x.finds
+
+  -- else it is among those that follow, or the last that is below k
+  pub passes_right : IsSearchedIn h Right k p rest → place_key h p ≤ k → Finds h Right k (or_else (successor k (pairs_behind h p)) rest)
+  passes_right x l = finds_as h Right k _ _ (ap (λ ps. or_else (successor k ps) rest) (place_next h p x.more) ∙ ap (λ (b : Bool). or_else (cond b (Some (place_pair h p)) (successor k (pairs_behind h p))) rest) (le-ltb k (place_key h p) l)) x.finds
+
+  pub passes_left : IsSearchedIn h Left k p rest → place_key h p < k → Finds h Left k (or_else (predecessor k (pairs_behind h p)) (Some (place_pair h p)))
+  passes_left x l = finds_as h Left k _ _ (ap (λ ps. or_else (predecessor k ps) rest) (place_next h p x.more) ∙ ap (λ (b : Bool). or_else (cond b (Some (unwrap_or (predecessor k (pairs_behind h p)) (place_pair h p))) (predecessor k (pairs_behind h p))) rest) (lt-ltb (place_key h p) k l) ∙ found_before (predecessor k (pairs_behind h p)) rest (place_pair h p)) x.finds
+
+-- behind a place
+module _ (h : History) (side : Side) (k : ℕ) (p : LeafPlace) (rest left : Option Pair) (x : IsSearchedIn h side k p rest) (finds : Finds h side k (or_else (neighbour side k (pairs_behind h p)) left)) where
+  pub goes_on : (q : LeafPlace) → place_behind p ≡ Some q → IsSearchedIn h side k q left
+  goes_on q is = record {
     more = behind_more h p q is x.more;
     small = subst (AllBelow (2 ^ 64)) (behind_some h p q is) (subst (AllBelow (2 ^ 64)) (place_next h p x.more) x.small).1;
-    finds = finds_behind l ∙ ap (λ ps. or_next (successor k ps) (first_of (value h) x.behind.tree)) (behind_some h p q is);
+    rises = subst IsRising (behind_some h p q is) (subst IsRising (place_next h p x.more) x.rises).1;
+    finds = finds_as h side k _ _ (ap (λ ps. or_else (neighbour side k ps) left) (behind_some h p q is)) finds;
   }
 
-  -- or on to the next leaf
-  pub ends_behind : place_key h p ≤ k → place_behind p ≡ None → IsFirstBehind h k right
-  ends_behind l is = record {
-    tree = x.tree;
-    is_tree = x.is_tree;
-    part = x.behind;
-    finds = finds_behind l ∙ ap (λ ps. or_next (successor k ps) (first_of (value h) x.behind.tree)) (behind_none h p is);
-  }
-
--- the first pair of the next leaf is the answer
-pub tells_first : (lay : Layout) (h : History) (k : ℕ) (p : LeafPlace) (ps : List Pair) → IsFirstIn h k p → Spells lay (value h) ps → successor k ps ≡ Some (place_pair h p)
-tells_first lay h k p ps x spelled = first_tells h k p.node.0 x.first lay ps x.leaf spelled ∙ ap first_pair (low_pairs (value h) p.node.0 x.low ∙ held_next (value h) p.node.0 First) ∙ ap (λ slot. Some (pair_in (value h) p.node.0 slot)) (sym x.slot)
-
--- above all keys there is none
-pub tells_none : (f : Word → ℕ) (n : ℕ) → class f n ≢ 0 → first_pair (leaf_pairs f n) ≡ None
-tells_none f n high = ap first_pair (high_pairs f n high)
+  pub ends_there : place_behind p ≡ None → Finds h side k left
+  ends_there is = finds_as h side k _ _ (ap (λ ps. or_else (neighbour side k ps) left) (behind_none h p is) ∙ ap (λ o. or_else o left) (none side)) finds
+    where
+      none : (on : Side) → neighbour on k [] ≡ None
+      none Left = refl
+      none Right = refl

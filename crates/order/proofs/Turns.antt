@@ -8,6 +8,7 @@ use Rattle.arena.specs.declared.step.Step.{Step}
 use Rattle.arena.specs.declared.step.Kind.TheVariants.{LoadMarked, LoadSettled}
 use Rattle.arena.specs.declared.word.NodeWord.TheVariants.{Settled}
 use Rattle.arena.specs.declared.word.SettledPart.TheVariants.{Head as HeadWord}
+use Rattle.arena.specs.declared.word.Side.{Side}
 use Rattle.arena.specs.declared.word.Side.TheVariants as sides
 use Rattle.arena.specs.Words.{marked, node}
 use Rattle.arena.specs.History.{History, value, Extends}
@@ -37,18 +38,20 @@ use Rattle.template.specs.declared.walk.WalkAt.{WalkAt}
 use Rattle.template.specs.declared.walk.WalkAt.TheVariants.{Start as WalkStart, Root as WalkRoot, Head as AtHead, Key as AtKey, Child, More as AtMore, Pair as AtPair, Value as AtValue, High as AtHigh}
 use Rattle.template.specs.declared.walk.WalkRun.{WalkRun}
 use Rattle.order.specs.Found.{BeginsAtRoot, BeginsSo, IsReading, Looks, WalksTo}
-use Rattle.order.specs.Known.{IsLastTurn, IsSameRead, ReadAnswers, ReadGoes, ReadIsReady, ReadIsToldAt, ReadTurn, ReadWaits, RunStands, Validates, Walks, WalksInTry}
+use Rattle.order.specs.Known.{AreLastTurns, HasTurned, IsLastTurn, IsSameRead, ReadAnswers, ReadGoes, ReadIsReady, ReadIsToldAt, ReadTurn, ReadWaits, RunStands, Validates, Walks, WalksInTry}
 use Rattle.order.specs.Laws.Kept.{root_there}
+use Rattle.order.specs.Laws.Run.{no_turn}
+use Rattle.order.specs.LastTurns.{first_children, last_turns, no_turns, turn_to, with_turn}
+use Rattle.order.specs.declared.last_turns.LastTurns.{LastTurns}
 use Rattle.order.specs.Loads.{load_value}
 use Rattle.order.specs.Meaning.{ReadMeaning}
 use Rattle.order.specs.Next.{MayLoad}
 use Rattle.order.specs.Paths.{BeginsNear, ComesNearer}
 use Rattle.order.specs.Places.{GoesOn, MayGoOn, RunComesNearer, next_step, placed}
-use Rattle.order.specs.Steps.{ReadFits, ReadFitsAt, ReadIsNearer, last_turn, phase_left, read_left, run_try_left, tries_left}
+use Rattle.order.specs.Steps.{ReadFits, ReadFitsAt, ReadIsNearer, phase_left, read_left, run_try_left, tries_left}
 use Rattle.order.specs.Tries.{BeginsTry, IsInTry}
 use Rattle.order.specs.declared.load.ReadLoad.{ReadLoad}
 use Rattle.order.specs.declared.read.Children.{Children}
-use Rattle.order.specs.declared.read.Children.TheVariants.{Both}
 use Rattle.order.specs.declared.read.ReadBegin.TheVariants as begins
 use Rattle.order.specs.declared.read.ReadNext.{ReadNext}
 use Rattle.order.specs.declared.read.ReadNext.TheVariants as next
@@ -62,13 +65,24 @@ use Rattle.order.proofs.Looking.{look_ready, replies, validates, walk_found}
 module _ {R A : Type 0} (means : ReadMeaning R A) (m : ReadRun R) where
   -- Its walk
 
-  module _ (walk after : WalkRun) (turn : NodeNo) (c : Call) (begin h : History) (try : IsInTry c h begin m.limit m.tries) (goes : ReadGoes means m (begun_at c begin) h) (key : ℕ) (goal : walk.goal ≡ ToKey key) (to : WalksTo means m.read key) (last : IsLastTurn (begun_at c begin) h key turn.0) (same : after.goal ≡ walk.goal) where
-    turned : (at : WalkAt) → WalkKnows (begun_at c begin) h after at → IsLastTurn (begun_at c begin) h key (last_turn at after.trail.node turn).0
-    turned (Child low sides.Left) k = inr record { passed = rw is at k.0.node; fork = k.2; left = rw is at k.3 }
+  module _ (walk after : WalkRun) (side : Side) (turns : LastTurns) (c : Call) (begin h : History) (try : IsInTry c h begin m.limit m.tries) (goes : ReadGoes means m (begun_at c begin) h) (key : ℕ) (goal : walk.goal ≡ ToKey key) (to : WalksTo means m.read key side) (last : AreLastTurns (begun_at c begin) h key turns) (same : after.goal ≡ walk.goal) where
+    abbrev Knows : WalkAt → Type 0
+    Knows = WalkKnows (begun_at c begin) h after
+
+    turned_here : (low : ℕ) (turn : Side) → Knows (Child low turn) → HasTurned (begun_at c begin) h key turn after.trail.node.0
+    turned_here low turn k = record { passed = rw is at k.0.node; fork = k.2; turn = rw is at k.3 }
       where
         is : path_key after.goal ≡ key
         is = ap path_key (same ∙ goal)
-    turned (Child low sides.Right) k = last
+
+    turned_child : (low : ℕ) (turn s : Side) → Knows (Child low turn) → IsLastTurn (begun_at c begin) h key s (turn_to s (with_turn turn after.trail.node turns)).0
+    turned_child low sides.Left sides.Left k = inr (turned_here low sides.Left k)
+    turned_child low sides.Right sides.Right k = inr (turned_here low sides.Right k)
+    turned_child low sides.Left sides.Right k = last sides.Right
+    turned_child low sides.Right sides.Left k = last sides.Left
+
+    turned : (at : WalkAt) → Knows at → AreLastTurns (begun_at c begin) h key (last_turns at after.trail.node turns)
+    turned (Child low turn) k = λ s. turned_child low turn s k
     turned WalkStart k = last
     turned WalkRoot k = last
     turned (AtHead above) k = last
@@ -78,35 +92,35 @@ module _ {R A : Type 0} (means : ReadMeaning R A) (m : ReadRun R) where
     turned (AtValue head more slot found) k = last
     turned (AtHigh head more slot found low) k = last
 
-    past : (next : NodeNo) (at : WalkAt) → IsPastRoot at → WalksInTry means m c h begin next at
+    past : (next : LastTurns) (at : WalkAt) → IsPastRoot at → WalksInTry means m c h begin next at
     past next WalkStart p = absurd p
     past next WalkRoot p = absurd p
     past next _ p = try
 
-    -- a step behind the root takes it on, with the last fork where it has turned left
-    pub walk_waits : (step : Step) → IsPastRoot after.at → WalkWaits after (begun_at c begin) h step → ReadWaits means (record m { at = Walk after (last_turn after.at after.trail.node turn) }) c h step
+    -- a step behind the root takes it on, with the last forks where it has turned
+    pub walk_waits : (step : Step) → IsPastRoot after.at → WalkWaits after (begun_at c begin) h step → ReadWaits means (record m { at = Walk after side (last_turns after.at after.trail.node turns) }) c h step
     walk_waits step p waits = (
       begin,
-      past (last_turn after.at after.trail.node turn) after.at p,
+      past (last_turns after.at after.trail.node turns) after.at p,
       goes,
       (record { key = key; goal = same ∙ goal; goes_to = to; last = turned after.at waits.known }, waits),
     )
 
   -- behind the leaf that it has found it looks at that fork
-  pub found_looks : (walk after : WalkRun) (turn : NodeNo) (c : Call) (h : History) (t : Turn Found) (f : Found) → ReadGoes means m c h → (key : ℕ) → walk.goal ≡ ToKey key → WalksTo means m.read key → IsLastTurn c h key turn.0 → after.goal ≡ walk.goal → t ≡ Done f → MatchTurn t (WalkWaits after c h) (WalkAnswers after c h) → Looks means m.read m.snaps.items c h Both 0 turn.0
-  found_looks walk after turn c h t f goes key goal to last same done w = walk_found means m.read m.snaps.items c h goes key turn.0 f to last (subst (λ g. HasFoundGoal g c h f) (same ∙ goal) found)
+  pub found_looks : (walk after : WalkRun) (side : Side) (turns : LastTurns) (c : Call) (h : History) (t : Turn Found) (f : Found) → ReadGoes means m c h → (key : ℕ) → walk.goal ≡ ToKey key → WalksTo means m.read key side → AreLastTurns c h key turns → after.goal ≡ walk.goal → t ≡ Done f → MatchTurn t (WalkWaits after c h) (WalkAnswers after c h) → Looks means m.read m.snaps.items c h (first_children side (turn_to side turns).0) 0 (turn_to side turns).0
+  found_looks walk after side turns c h t f goes key goal to last same done w = walk_found means m.read m.snaps.items c h goes key side turns f to last (subst (λ g. HasFoundGoal g c h f) (same ∙ goal) found)
     where
       found : HasFoundGoal after.goal c h f
       found = rw done at w
 
   -- it begins with the load of the root's head, as it walks
-  pub walks_first : (walk : WalkRun) (c : Call) (begin h : History) → BeginsTry c h m.limit m.tries → m.snaps.items ≡ [] → ReadGoes means m (begun_at c begin) h → (key : ℕ) → walk.goal ≡ ToKey key → walk.trail.node.0 ≡ 0 → WalksTo means m.read key → ReadWaits means (record m { at = Walk (record walk { at = WalkRoot }) (record { 0 = 0 }) }) c h (load LoadSettled (node 0 (Settled HeadWord)))
-  walks_first walk c begin h try none goes key goal root to = (
+  pub walks_first : (walk : WalkRun) (c : Call) (begin h : History) → BeginsTry c h m.limit m.tries → m.snaps.items ≡ [] → ReadGoes means m (begun_at c begin) h → (key : ℕ) (side : Side) → walk.goal ≡ ToKey key → walk.trail.node.0 ≡ 0 → WalksTo means m.read key side → ReadWaits means (record m { at = Walk (record walk { at = WalkRoot }) side no_turns }) c h (load LoadSettled (node 0 (Settled HeadWord)))
+  walks_first walk c begin h try none goes key side goal root to = (
     begin,
     ((try, none, to.waits), refl),
     goes,
     (
-      record { key = key; goal = goal; goes_to = to; last = inl refl },
+      record { key = key; goal = goal; goes_to = to; last = no_turn (begun_at c begin) h key },
       record { run = goes.reads.run; small = rw goal (to.small goes.suits); since = goes.reads.since; known = root; asked = ap (λ n. load LoadSettled (node n (Settled HeadWord))) (sym root) },
     ),
   )
@@ -132,8 +146,8 @@ module _ {R A : Type 0} (means : ReadMeaning R A) (m : ReadRun R) where
     try_now : BeginsTry c h m.limit m.tries
     try_now = rw (same.1, tries) try
 
-    pub begins_walk : (walk : WalkRun) (key : ℕ) → walk.goal ≡ ToKey key → walk.trail.node.0 ≡ 0 → WalksTo means m.read key → now ≡ record m { at = Walk (record walk { at = WalkRoot }) (record { 0 = 0 }) } → turn ≡ Ask (load LoadSettled (node 0 (Settled HeadWord))) → ReadTurn means c h now turn
-    begins_walk walk key goal root to is asked = rw (asked, is) (walks_first walk c begin h try_now none (goes_again old (begun_at c begin) h same none goes) key goal root to)
+    pub begins_walk : (walk : WalkRun) (key : ℕ) (side : Side) → walk.goal ≡ ToKey key → walk.trail.node.0 ≡ 0 → WalksTo means m.read key side → now ≡ record m { at = Walk (record walk { at = WalkRoot }) side no_turns } → turn ≡ Ask (load LoadSettled (node 0 (Settled HeadWord))) → ReadTurn means c h now turn
+    begins_walk walk key side goal root to is asked = rw (asked, is) (walks_first walk c begin h try_now none (goes_again old (begun_at c begin) h same none goes) key side goal root to)
 
     pub begins_root : BeginsAtRoot means m.read → now ≡ record m { at = Root } → turn ≡ Ask (load LoadSettled (node 0 (Settled HeadWord))) → ReadTurn means c h now turn
     begins_root x is asked = rw (asked, is) (roots_first c begin h try_now none (goes_again old (begun_at c begin) h same none goes) x)
@@ -149,8 +163,8 @@ module _ {R A : Type 0} (means : ReadMeaning R A) (m : ReadRun R) where
     all_same : tries_left means m nodes ≡ tries_left means old nodes
     all_same = λ i. tries i * means.try_left (same.0 i) nodes
 
-    pub walk_nearer : (walk : WalkRun) (last : NodeNo) (key : ℕ) → now ≡ record m { at = Walk (record walk { at = WalkRoot }) last } → BeginsNear means m.read nodes (begins.Walk key) → ReadIsNearer means now nodes turn (tries_left means old nodes + run_try_left means old nodes)
-    walk_nearer walk last key is near = let e = ap length none in let each = each_same in let all = all_same in rw (asked, is) (omega (arith, e, near, each, all))
+    pub walk_nearer : (walk : WalkRun) (side : Side) (turns : LastTurns) (key : ℕ) → now ≡ record m { at = Walk (record walk { at = WalkRoot }) side turns } → BeginsNear means m.read nodes (begins.Walk key side) → ReadIsNearer means now nodes turn (tries_left means old nodes + run_try_left means old nodes)
+    walk_nearer walk side turns key is near = let e = ap length none in let each = each_same in let all = all_same in rw (asked, is) (omega (arith, e, near, each, all))
 
     pub root_nearer : now ≡ record m { at = Root } → BeginsNear means m.read nodes begins.Root → ReadIsNearer means now nodes turn (tries_left means old nodes + run_try_left means old nodes)
     root_nearer is near = let e = ap length none in let each = each_same in let all = all_same in rw (asked, is) (omega (arith, e, near, each, all))
@@ -255,9 +269,9 @@ module _ {R A : Type 0} (means : ReadMeaning R A) (m : ReadRun R) where
     told_at : (v : ℕ) (at : ReadAt) → m.at ≡ at → ReadIsReady means m c h (Some v) → ToldInTry (λ d. ReadIsToldAt means m d h v at)
     told_at v at is r = (r.0, r.1, r.2, r.3, subst (λ p. ReadIsToldAt means m (begun_at c r.0) h v p) is r.4)
 
-    pub at_walk : (got : Option ℕ) (walk : WalkRun) (turn : NodeNo) → m.at ≡ Walk walk turn → ReadIsReady means m c h got → (v : ℕ) × (got ≡ Some v) × ToldInTry (λ d. Walks means m.read d h walk turn × WalkIsReady walk d h (Some v))
-    at_walk None walk turn is r = absurd (let d : Walk walk turn ≡ Start = sym is ∙ r.1 in cc)
-    at_walk (Some v) walk turn is r = (v, refl, told_at v (Walk walk turn) is r)
+    pub at_walk : (got : Option ℕ) (walk : WalkRun) (side : Side) (turns : LastTurns) → m.at ≡ Walk walk side turns → ReadIsReady means m c h got → (v : ℕ) × (got ≡ Some v) × ToldInTry (λ d. Walks means m.read d h walk side turns × WalkIsReady walk d h (Some v))
+    at_walk None walk side turns is r = absurd (let d : Walk walk side turns ≡ Start = sym is ∙ r.1 in cc)
+    at_walk (Some v) walk side turns is r = (v, refl, told_at v (Walk walk side turns) is r)
 
     pub at_look : (got : Option ℕ) (children : Children) (low : ℕ) (llx : LlxRun) → m.at ≡ Look children low llx → ReadIsReady means m c h got → ToldInTry (λ d. Looks means m.read m.snaps.items d h children low llx.node.0 × ((look : History) × Extends look d.start × LlxIsReady TreeAllows llx (begun_at d look) h got))
     at_look None children low llx is r = absurd (let d : Look children low llx ≡ Start = sym is ∙ r.1 in cc)

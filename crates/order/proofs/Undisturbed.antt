@@ -19,7 +19,8 @@ use Rattle.histories.proofs.Lemmas.{Facts, IsOwned, Logs, facts, lawful_since, l
 use Rattle.prims.specs.Laws.Idle.{IsQuietSince, out_by_others}
 use Rattle.prims.proofs.Lemmas.{wins_in_progress}
 use Rattle.ordered_map.specs.declared.pair.Pair.{Pair}
-use Rattle.ordered_map.specs.OrderedMap.{MapCall, MapReply, OnePair, ManyPairs, pair_or_none, range, reply, successor}
+use Rattle.arena.specs.declared.word.Side.{Side}
+use Rattle.ordered_map.specs.OrderedMap.{MapCall, MapReply, OnePair, ManyPairs, pair_or_none, neighbour, range, reply}
 use Rattle.ordered_map.specs.Runs.{IsTreeRun}
 use Rattle.ordered_map.specs.Spelled.{Spells}
 use Rattle.ordered_map.proofs.Lemmas.{one_spelling, quiet_spells, run_since}
@@ -30,13 +31,13 @@ use Rattle.order.specs.Meaning.{ReadMeaning}
 use Rattle.order.specs.Range.{range_means}
 use Rattle.order.specs.Replies.{IsReplyAt, KeepsTries}
 use Rattle.order.specs.Steps.{ReadIsNearer, phase_left, read_left, run_try_left}
-use Rattle.order.specs.Successor.{successor_means}
+use Rattle.order.specs.Neighbour.{neighbour_means}
 use Rattle.order.specs.Undisturbed.{HasLeftAll, HasLessOfTry, TellsNext, TellsRange}
 use Rattle.order.specs.declared.range.Range.{Range as RangeRead}
 use Rattle.order.specs.declared.refused.Refused.{Refused}
 use Rattle.order.specs.declared.refused.Refused.TheVariants.{Contended, NoMemory}
 use Rattle.order.specs.declared.run.ReadRun.{ReadRun}
-use Rattle.order.specs.declared.successor.Successor.{Successor as SuccessorRead}
+use Rattle.order.specs.declared.neighbour.Neighbour.{Neighbour as NeighbourRead}
 
 -- What a reply tells
 
@@ -163,10 +164,10 @@ module _ {R A : Type 0} (means : ReadMeaning R A) (c : Call) (h : History) (alon
   alone_read old now (Some v) ready is turn x = turn_tells old now is ready.2.reads.run ready.1.quiet turn x
 
 module _ (c : Call) (h : History) (alone : IsUndisturbed c h) (map : List Pair) (spells : Spells c.layout (value c.start) map) where
-  next_told : (k : ℕ) (answer : Result (Option Pair) Refused) → Tells pair_or_none (pair_or_none (successor k map)) answer → TellsNext map k answer
-  next_told k (Ok found) x = same_next found (successor k map) x
-  next_told k (Err (Contended n s)) x = x
-  next_told k (Err NoMemory) x = x
+  next_told : (side : Side) (k : ℕ) (answer : Result (Option Pair) Refused) → Tells pair_or_none (pair_or_none (neighbour side k map)) answer → TellsNext side map k answer
+  next_told side k (Ok found) x = same_next found (neighbour side k map) x
+  next_told side k (Err (Contended n s)) x = x
+  next_told side k (Err NoMemory) x = x
 
   range_told : (low high most : ℕ) (answer : Result (Vec Pair Global) Refused) → Tells (λ (told : Vec Pair Global). ManyPairs told.items) (ManyPairs (range low high most map)) answer → TellsRange map low high most answer
   range_told low high most (Ok told) x = same_pairs told.items (range low high most map) x
@@ -177,9 +178,9 @@ module _ (c : Call) (h : History) (alone : IsUndisturbed c h) (map : List Pair) 
   turn_as (Ask step) P Q f x = tt
   turn_as (Done answer) P Q f x = f answer x
 
-  -- a successor by itself, and a range
-  pub alone_next : (old now : ReadRun SuccessorRead) (turn : Turn (Result (Option Pair) Refused)) (got : Option ℕ) → ReadIsReady successor_means old c h got → IsSameRead successor_means old now → ReadTurn successor_means c h now turn → HasLeftAll c h map × MatchTurn turn (λ _. Unit {0}) (TellsNext map old.read.key)
-  alone_next old now turn got ready is x = let y = alone_read successor_means c h alone map spells old now got ready is turn x in (y.0, turn_as turn _ _ (next_told old.read.key) y.1)
+  -- a search for the pair beside a key by itself, and a range
+  pub alone_next : (old now : ReadRun NeighbourRead) (turn : Turn (Result (Option Pair) Refused)) (got : Option ℕ) → ReadIsReady neighbour_means old c h got → IsSameRead neighbour_means old now → ReadTurn neighbour_means c h now turn → HasLeftAll c h map × MatchTurn turn (λ _. Unit {0}) (TellsNext old.read.side map old.read.key)
+  alone_next old now turn got ready is x = let y = alone_read neighbour_means c h alone map spells old now got ready is turn x in (y.0, turn_as turn _ _ (next_told old.read.side old.read.key) y.1)
 
   pub alone_range : (old now : ReadRun RangeRead) (turn : Turn (Result (Vec Pair Global) Refused)) (got : Option ℕ) → ReadIsReady range_means old c h got → IsSameRead range_means old now → ReadTurn range_means c h now turn → HasLeftAll c h map × MatchTurn turn (λ _. Unit {0}) (TellsRange map old.read.low old.read.high old.read.most)
   alone_range old now turn got ready is x = let y = alone_read range_means c h alone map spells old now got ready is turn x in (y.0, turn_as turn _ _ (range_told old.read.low old.read.high old.read.most) y.1)

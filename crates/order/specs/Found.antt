@@ -5,6 +5,7 @@ use Rattle.arena.specs.declared.layout.Layout.{Layout}
 use Rattle.arena.specs.declared.number.NodeNo.{NodeNo}
 use Rattle.arena.specs.declared.word.NodeWord.TheVariants.{Settled}
 use Rattle.arena.specs.declared.word.SettledPart.TheVariants.{Head as HeadWord, More as MoreWord, Key as KeyWord, Value as ValueWord}
+use Rattle.arena.specs.declared.word.Side.{Side}
 use Rattle.arena.specs.declared.word.Side.TheVariants as sides
 use Rattle.arena.specs.Heads.{head_of}
 use Rattle.arena.specs.Words.{child, marked, node, first_key}
@@ -18,12 +19,11 @@ use Rattle.ordered_map.specs.Paths.{IsOnPath}
 use Rattle.ordered_map.specs.Runs.{IsTreeRun}
 use Rattle.ordered_map.specs.Spelled.{Spells}
 use Rattle.ordered_map.specs.TreeWords.{class, is_leaf, level, toward}
-use Rattle.order.specs.Loads.{first_in_leaf}
 use Rattle.order.specs.Meaning.{ReadMeaning}
 use Rattle.order.specs.Reads.{Reads, Whenever, HasStood}
+use Rattle.order.specs.LastTurns.{first_children, turned_at}
 use Rattle.order.specs.declared.load.LeafPlace.{LeafPlace}
 use Rattle.order.specs.declared.read.Children.{Children}
-use Rattle.order.specs.declared.read.Children.TheVariants.{Both}
 use Rattle.order.specs.declared.read.ReadBegin.{ReadBegin}
 use Rattle.order.specs.declared.read.ReadBegin.TheVariants.{Walk, Root, Answer}
 use Rattle.order.specs.declared.refused.Refused.{Refused}
@@ -49,6 +49,10 @@ place_key h p = value h (node p.node.0 (Settled (KeyWord p.slot)))
 abbrev pub place_low : History → LeafPlace → ℕ
 place_low h p = value h (node p.node.0 (Settled (ValueWord p.slot)))
 
+-- the whole value
+abbrev pub place_value : History → LeafPlace → ℕ
+place_value h p = (pair_in (value h) p.node.0 p.slot).value
+
 -- and the whole pair
 abbrev pub place_pair : History → LeafPlace → Pair
 place_pair h p = pair_in (value h) p.node.0 p.slot
@@ -73,13 +77,13 @@ module _ {R A : Type 0} (means : ReadMeaning R A) (r : R) where
   abbrev pub IsRightAt : Layout → History → Type 0
   IsRightAt lay b = (map : List Pair) → Spells lay (value b) map → reply (means.call r) map ≡ means.found r
 
-  -- What begins with a walk to this key goes down from the last fork where that turns left, which may
-  -- have been removed by then.
-  pub record WalksTo (key : ℕ) : Type 0 where
+  -- What begins with a walk to this key goes down from the last fork where that turns to this side,
+  -- which may have been removed by then.
+  pub record WalksTo (key : ℕ) (side : Side) : Type 0 where
     pub asks : means.asks (means.call r)
     pub small : means.suits (means.call r) → key < 2 ^ 64
     pub waits : means.waiting r ≡ []
-    pub turned : (b : History) (n : ℕ) → (value b (marked n) ≡ 0 → IsOnPath b key n) → toward (value b) n key ≡ sides.Left → means.IsAtFork r b n Both
+    pub turned : (b : History) (n : ℕ) → (value b (marked n) ≡ 0 → IsOnPath b key n) → toward (value b) n key ≡ turned_at side n → means.IsAtFork r b n (first_children side n)
 
   -- what begins at the root stands there
   pub record BeginsAtRoot : Type 0 where
@@ -89,7 +93,7 @@ module _ {R A : Type 0} (means : ReadMeaning R A) (r : R) where
 
   -- so a try begins; or all maps give the answer
   abbrev pub BeginsSo : ReadBegin A → Type 0
-  BeginsSo (Walk key) = WalksTo key
+  BeginsSo (Walk key side) = WalksTo key side
   BeginsSo Root = BeginsAtRoot
   BeginsSo (Answer answer) = ¬ means.asks (means.call r) × ((map : List Pair) → reply (means.call r) map ≡ means.told answer)
 
@@ -122,14 +126,14 @@ module _ {R A : Type 0} (means : ReadMeaning R A) (r : R) where
       pub waits : AreThere c h (means.waiting r)
       pub here : Whenever c.layout h snaps (λ b. means.IsIn r b p)
 
-    -- it is about to stand at the first place of a leaf, once it is told of its count
+    -- it is about to stand at the place of a leaf where it begins, once it is told of its count
     abbrev pub StandsBefore : NodeNo → Type 0
-    StandsBefore n = StandsIn (first_in_leaf n (more_at h n.0))
+    StandsBefore n = StandsIn (record { node = n; more = more_at h n.0; slot = means.starts r (more_at h n.0) })
 
     -- it takes the pair at a place of a leaf, which has this key
     pub record TakesPair (p : LeafPlace) (key : ℕ) : Type 0 where
       pub stands : StandsIn p
-      pub key_is : place_key h p ≡ key
+      pub key_is : Whenever c.layout h snaps (λ b. place_key b p ≡ key)
       pub takes : means.Takes r key
 
     -- it may look at this fork, not above the level `low`, of which these children are to be visited
@@ -144,7 +148,7 @@ module _ {R A : Type 0} (means : ReadMeaning R A) (r : R) where
 -- behind a fork with these two it stands at one of them, and the other may wait
 pub record GoesTo {R A : Type 0} (means : ReadMeaning R A) (old now : R) (children : Children) (left right n : NodeNo) : Type 0 where
   pub one : (n ≡ left) ⊎ (n ≡ right)
-  pub waits : (c : Call) (h : History) → AreThere c h (means.waiting old) → IsThere c h right → AreThere c h (means.waiting now)
+  pub waits : (c : Call) (h : History) → AreThere c h (means.waiting old) → IsThere c h left → IsThere c h right → AreThere c h (means.waiting now)
   pub below : (lay : Layout) (b : History) (fork : ℕ) → IsTreeRun lay b → is_leaf (value b) fork ≡ false → value b (marked fork) ≡ 0 → value b (child fork sides.Left) ≡ left.0 → value b (child fork sides.Right) ≡ right.0 → means.IsAtFork old b fork children → means.IsAt now b n.0
 
 -- it goes on so, or has no memory

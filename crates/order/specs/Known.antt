@@ -1,12 +1,11 @@
 -- When an ordered read may go on, what it waits for, and what its answer says.
 use Rattle.std.specs.Prelude.{◌≡◌, ◌⊎◌, ℕ, ◌+◌, ◌≤◌, false, List, [], Option, Some, None, Result, Ok, Err}
 use Rattle.arena.specs.declared.machine.Turn.{Turn}
-use Rattle.arena.specs.declared.number.NodeNo.{NodeNo}
 use Rattle.arena.specs.declared.step.Step.{Step}
 use Rattle.arena.specs.declared.step.Kind.TheVariants.{LoadSettled}
 use Rattle.arena.specs.declared.word.NodeWord.TheVariants.{Settled}
 use Rattle.arena.specs.declared.word.SettledPart.TheVariants.{Head as HeadWord}
-use Rattle.arena.specs.declared.word.Side.TheVariants as sides
+use Rattle.arena.specs.declared.word.Side.{Side}
 use Rattle.arena.specs.Words.{node}
 use Rattle.arena.specs.History.{History, value, Extends}
 use Rattle.arena.specs.Machines.{Call, MatchTurn, begun_at}
@@ -33,31 +32,37 @@ use Rattle.order.specs.Next.{MayLoad}
 use Rattle.order.specs.Reads.{AllHold, Reads}
 use Rattle.order.specs.Replies.{IsReplyAt}
 use Rattle.order.specs.Tries.{BeginsTry, IsInTry}
+use Rattle.order.specs.LastTurns.{no_turns, turn_to}
 use Rattle.order.specs.declared.refused.Refused.{Refused}
 use Rattle.order.specs.declared.refused.Refused.TheVariants.{Contended, NoMemory}
 use Rattle.order.specs.declared.run.ReadAt.{ReadAt}
 use Rattle.order.specs.declared.run.ReadAt.TheVariants.{Start, Walk, Root, Load, Look, Validate}
 use Rattle.order.specs.declared.run.ReadRun.{ReadRun}
+use Rattle.order.specs.declared.last_turns.LastTurns.{LastTurns}
 
 -- Its walk
 
--- the call has passed this fork on its way to k, which is on the left of it
-pub record HasTurnedLeft (c : Call) (h : History) (k n : ℕ) : Type 0 where
+-- the call has passed this fork on its way to k, which is on this side of it
+pub record HasTurned (c : Call) (h : History) (k : ℕ) (side : Side) (n : ℕ) : Type 0 where
   pub passed : WasPassed c h k n
   pub fork : is_leaf (value h) n ≡ false
-  pub left : toward (value h) n k ≡ sides.Left
+  pub turn : toward (value h) n k ≡ side
 
--- so it is with the last fork where the walk has turned left; the root is always one
-abbrev pub IsLastTurn : Call → History → ℕ → ℕ → Type 0
-IsLastTurn c h k n = (n ≡ 0) ⊎ HasTurnedLeft c h k n
+-- so it is with the last fork where the walk has turned to this side, or that is the root
+abbrev pub IsLastTurn : Call → History → ℕ → Side → ℕ → Type 0
+IsLastTurn c h k side n = (n ≡ 0) ⊎ HasTurned c h k side n
+
+-- and with both
+abbrev pub AreLastTurns : Call → History → ℕ → LastTurns → Type 0
+AreLastTurns c h k turns = (side : Side) → IsLastTurn c h k side (turn_to side turns).0
 
 module _ {R A : Type 0} (means : ReadMeaning R A) where
-  -- it walks to a key, from the last fork where that turns left it goes down
-  pub record Walks (r : R) (c : Call) (h : History) (walk : WalkRun) (turn : NodeNo) : Type 0 where
+  -- it walks to a key, from the last fork where that turns to this side it goes down
+  pub record Walks (r : R) (c : Call) (h : History) (walk : WalkRun) (side : Side) (turns : LastTurns) : Type 0 where
     pub key : ℕ
     pub goal : walk.goal ≡ ToKey key
-    pub goes_to : WalksTo means r key
-    pub last : IsLastTurn c h key turn.0
+    pub goes_to : WalksTo means r key side
+    pub last : AreLastTurns c h key turns
 
   -- its VLX has begun at an own moment of the call, at which what it has found was right if all infos
   -- were as found
@@ -84,7 +89,7 @@ module _ {R A : Type 0} (means : ReadMeaning R A) where
     -- what holds while it waits for this step at this place
     abbrev pub ReadWaitsAt : Step → ReadAt → Type 0
     ReadWaitsAt s Start = ⊥
-    ReadWaitsAt s (Walk walk turn) = Walks m.read c h walk turn × WalkWaits walk c h s
+    ReadWaitsAt s (Walk walk side turns) = Walks m.read c h walk side turns × WalkWaits walk c h s
     ReadWaitsAt s Root = RunStands 0 × (s ≡ load LoadSettled (node 0 (Settled HeadWord)))
     ReadWaitsAt s (Load of) = MayLoad means m.read m.snaps.items c h of × (s ≡ load LoadSettled (load_word of))
     ReadWaitsAt s (Look children low llx) = Looks means m.read m.snaps.items c h children low llx.node.0 × ((begin : History) × Extends begin c.start × LlxWaits TreeAllows llx (begun_at c begin) h s)
@@ -93,7 +98,7 @@ module _ {R A : Type 0} (means : ReadMeaning R A) where
     -- what holds once the step of this place has told v
     abbrev pub ReadIsToldAt : ℕ → ReadAt → Type 0
     ReadIsToldAt v Start = ⊥
-    ReadIsToldAt v (Walk walk turn) = Walks m.read c h walk turn × WalkIsReady walk c h (Some v)
+    ReadIsToldAt v (Walk walk side turns) = Walks m.read c h walk side turns × WalkIsReady walk c h (Some v)
     ReadIsToldAt v Root = RunStands 0 × (value h (node 0 (Settled HeadWord)) ≡ v)
     ReadIsToldAt v (Load of) = MayLoad means m.read m.snaps.items c h of × (load_value h of ≡ v)
     ReadIsToldAt v (Look children low llx) = Looks means m.read m.snaps.items c h children low llx.node.0 × ((begin : History) × Extends begin c.start × LlxIsReady TreeAllows llx (begun_at c begin) h (Some v))
@@ -108,13 +113,13 @@ module _ {R A : Type 0} (means : ReadMeaning R A) where
     module _ (begin : History) where
       -- with the first step of its walk it begins one; behind that it is in the try that began at
       -- `begin`
-      abbrev pub WalksInTry : NodeNo → WalkAt → Type 0
-      WalksInTry turn walks.Root = BeginsHere × (turn.0 ≡ 0)
-      WalksInTry turn _ = IsInTry c h begin m.limit m.tries
+      abbrev pub WalksInTry : LastTurns → WalkAt → Type 0
+      WalksInTry turns walks.Root = BeginsHere × (turns ≡ no_turns)
+      WalksInTry turns _ = IsInTry c h begin m.limit m.tries
 
       -- so it is at any place
       abbrev pub StandsInTry : ReadAt → Type 0
-      StandsInTry (Walk walk turn) = WalksInTry turn walk.at
+      StandsInTry (Walk walk side turns) = WalksInTry turns walk.at
       StandsInTry Root = BeginsHere
       StandsInTry _ = IsInTry c h begin m.limit m.tries
 

@@ -4,12 +4,13 @@ pub mod Reads
 pub mod Loads
 pub mod Meaning
 pub mod Paths
+pub mod LastTurns
 pub mod Found
 pub mod Next
 pub mod Steps
 pub mod Known
 pub mod Places
-pub mod Successor
+pub mod Neighbour
 pub mod Visits
 pub mod Range
 pub mod Undisturbed

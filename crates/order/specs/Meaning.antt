@@ -1,6 +1,7 @@
 -- What an ordered read says to the machine that makes it.
 use Rattle.std.specs.Prelude.{ℕ, List}
 use Rattle.arena.specs.declared.number.NodeNo.{NodeNo}
+use Rattle.arena.specs.declared.word.Slot.{Slot}
 use Rattle.arena.specs.History.{History}
 use Rattle.ordered_map.specs.OrderedMap.{MapCall, MapReply}
 use Rattle.order.specs.declared.load.LeafPlace.{LeafPlace}
@@ -20,6 +21,8 @@ pub record ReadMeaning (R A : Type 0) : Type 1 where
   pub asks : MapCall → Type 0
   -- the nodes that wait to be visited, the next one first
   pub waiting : R → List NodeNo
+  -- in which slot it begins in a leaf that has that many pairs after its first
+  pub starts : R → ℕ → Slot
   -- it stands at this node
   pub IsAt : R → History → ℕ → Type 0
   -- it stands at this fork, of which these children are to be visited

@@ -34,7 +34,7 @@ slots_left p = 12 - 3 * slot_no p.slot
 module _ {R A : Type 0} (means : ReadMeaning R A) (r : R) (nodes : ℕ) where
   -- a try that begins so takes no more steps than a try may
   abbrev pub BeginsNear : ReadBegin A → Type 0
-  BeginsNear (Walk key) = 3 * (2 + nodes) + 5 + path_left nodes + means.behind r nodes ≤ means.try_left (means.call r) nodes
+  BeginsNear (Walk key side) = 3 * (2 + nodes) + 5 + path_left nodes + means.behind r nodes ≤ means.try_left (means.call r) nodes
   BeginsNear Root = path_left nodes + means.behind r nodes ≤ means.try_left (means.call r) nodes
   BeginsNear (Answer answer) = Unit {0}
 

@@ -15,6 +15,7 @@ use Rattle.order.specs.Paths.{path_left}
 use Rattle.order.specs.Reads.{HasStood, Whenever}
 use Rattle.order.specs.Visits.{Bounds, IsVisiting, IsVisitingIn, HasVisited, HasVisitedIn}
 use Rattle.order.specs.declared.load.LeafPlace.{LeafPlace}
+use Rattle.arena.specs.declared.word.Slot.TheVariants.{First}
 use Rattle.order.specs.declared.range.Range.{Range}
 use Rattle.order.specs.declared.read.Children.{Children}
 use Rattle.order.specs.declared.read.Children.TheVariants.{Left, Right, Both}
@@ -88,6 +89,7 @@ range_means = record {
   suits = IsSmallRange;
   asks = AsksForSome;
   waiting = waiting_of;
+  starts = λ r more. First;
   IsAt = Visits;
   IsAtFork = λ r b n children. AreWithin r (rank (value b) n) children × Visits r b n;
   IsIn = VisitsIn;

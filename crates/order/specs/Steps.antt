@@ -4,23 +4,14 @@ use Rattle.std.specs.Prelude.{ℕ, ◌+◌, ◌*◌, ◌-◌, ◌<◌, length, O
 use Rattle.arena.specs.Heads.{head_of}
 use Rattle.arena.specs.Machines.{MatchTurn}
 use Rattle.arena.specs.declared.machine.Turn.{Turn}
-use Rattle.arena.specs.declared.number.NodeNo.{NodeNo}
-use Rattle.arena.specs.declared.word.Side.TheVariants as sides
 use Rattle.prims.specs.Llx.Steps.{llx_left}
 use Rattle.prims.specs.Vlx.Steps.{vlx_left}
 use Rattle.template.specs.Walk.Steps.{walk_left, WalkFits}
-use Rattle.template.specs.declared.walk.WalkAt.{WalkAt}
-use Rattle.template.specs.declared.walk.WalkAt.TheVariants.{Child}
 use Rattle.order.specs.Meaning.{ReadMeaning}
 use Rattle.order.specs.Paths.{HeadFits, LoadFits, load_left, path_left}
 use Rattle.order.specs.declared.run.ReadAt.{ReadAt}
 use Rattle.order.specs.declared.run.ReadAt.TheVariants.{Start, Walk, Root, Load, Look, Validate}
 use Rattle.order.specs.declared.run.ReadRun.{ReadRun}
-
--- the last fork where a walk has turned left, if that was `turn` before it stood here at the node
-abbrev pub last_turn : WalkAt → NodeNo → NodeNo → NodeNo
-last_turn (Child level sides.Left) node turn = node
-last_turn _ node turn = turn
 
 module _ {R A : Type 0} (means : ReadMeaning R A) (m : ReadRun R) where
   -- how many steps a try may ask for, where no more nodes than these are taken
@@ -34,7 +25,7 @@ module _ {R A : Type 0} (means : ReadMeaning R A) (m : ReadRun R) where
   -- and so many are left in this one at this place
   abbrev pub phase_left : ℕ → ReadAt → ℕ
   phase_left nodes Start = run_try_left nodes
-  phase_left nodes (Walk walk turn) = walk_left walk.at nodes + length m.snaps.items + path_left nodes + means.behind m.read nodes
+  phase_left nodes (Walk walk side turns) = walk_left walk.at nodes + length m.snaps.items + path_left nodes + means.behind m.read nodes
   phase_left nodes Root = length m.snaps.items + path_left nodes - 1 + means.behind m.read nodes
   phase_left nodes (Load load) = length m.snaps.items + load_left means m.read nodes load - 1
   phase_left nodes (Look children level llx) = llx_left llx.at + length m.snaps.items + 1 + 67 * (1 + nodes - level) + means.behind m.read nodes
@@ -50,7 +41,7 @@ module _ {R A : Type 0} (means : ReadMeaning R A) (m : ReadRun R) where
 
   -- what the run is told at this place fits so many taken nodes
   abbrev pub ReadFitsAt : Option ℕ → ℕ → ReadAt → Type 0
-  ReadFitsAt got nodes (Walk walk turn) = WalkFits walk got nodes
+  ReadFitsAt got nodes (Walk walk side turns) = WalkFits walk got nodes
   ReadFitsAt got nodes Root = HeadFits (head_of (unwrap_or got 0)) nodes
   ReadFitsAt got nodes (Load load) = LoadFits (unwrap_or got 0) nodes load
   ReadFitsAt got nodes (Look children level llx) = level + 1 < 2 + nodes

@@ -5,8 +5,9 @@ use Rattle.arena.specs.History.{History, value}
 use Rattle.arena.specs.Log.{log}
 use Rattle.arena.specs.Machines.{Call, MatchTurn}
 use Rattle.arena.specs.declared.machine.Turn.{Turn}
+use Rattle.arena.specs.declared.word.Side.{Side}
 use Rattle.ordered_map.specs.declared.pair.Pair.{Pair}
-use Rattle.ordered_map.specs.OrderedMap.{successor, range}
+use Rattle.ordered_map.specs.OrderedMap.{neighbour, range}
 use Rattle.ordered_map.specs.Spelled.{Spells}
 use Rattle.order.specs.declared.refused.Refused.{Refused}
 use Rattle.order.specs.declared.refused.Refused.TheVariants.{Contended, NoMemory}
@@ -20,11 +21,12 @@ pub record HasLeftAll (c : Call) (h : History) (map : List Pair) : Type 0 where
   pub entries : log c.layout h ≡ log c.layout c.start
   pub spelled : Spells c.layout (value h) map
 
--- a successor tells of this map the pair behind the key, or that there is none; it is not contended
-abbrev pub TellsNext : List Pair → ℕ → Result (Option Pair) Refused → Type 0
-TellsNext map k (Ok found) = found ≡ successor k map
-TellsNext map k (Err (Contended n s)) = ⊥
-TellsNext map k (Err NoMemory) = Unit {0}
+-- a search tells of this map the pair beside the key on its side, or that there is none; it is not
+-- contended
+abbrev pub TellsNext : Side → List Pair → ℕ → Result (Option Pair) Refused → Type 0
+TellsNext side map k (Ok found) = found ≡ neighbour side k map
+TellsNext side map k (Err (Contended n s)) = ⊥
+TellsNext side map k (Err NoMemory) = Unit {0}
 
 -- a range tells of this map the first pairs within the bounds; it is not contended
 abbrev pub TellsRange : List Pair → ℕ → ℕ → ℕ → Result (Vec Pair Global) Refused → Type 0

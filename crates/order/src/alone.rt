@@ -12,12 +12,12 @@ ghost use Rattle.order.specs.Known.{IsSameRead, ReadIsReady, ReadTurn};
 ghost use Rattle.order.specs.Range.{range_means};
 ghost use Rattle.order.specs.Replies.{KeepsTries};
 ghost use Rattle.order.specs.Steps.{ReadIsNearer, phase_left, read_left};
-ghost use Rattle.order.specs.Successor.{successor_means};
+ghost use Rattle.order.specs.Neighbour.{neighbour_means};
 ghost use Rattle.order.specs.Undisturbed.{HasLeftAll, HasLessOfTry, TellsNext, TellsRange};
 ghost use Rattle.order.specs.declared.range.Range.{Range};
 ghost use Rattle.order.specs.declared.refused.Refused.{Refused};
 ghost use Rattle.order.specs.declared.run.ReadRun.{ReadRun};
-ghost use Rattle.order.specs.declared.successor.Successor.{Successor};
+ghost use Rattle.order.specs.declared.neighbour.Neighbour.{Neighbour};
 ghost use Rattle.template.specs.Blame.{IsContended};
 
 /// What a turn of an ordered read says of a call by itself: nothing was in progress as it began,
@@ -26,20 +26,20 @@ ghost use Rattle.template.specs.Blame.{IsContended};
 /// turn leaves fewer steps of the first. Nor is any read contended where there is one pass alone.
 /// It does nothing; a caller learns the laws from its contract.
 pub fn alone_holds()
-    ensures successor { (old now : ReadRun Successor) (turn : Turn (Result (Option Pair) Refused)) (c : Call) (h : History)
+    ensures neighbour { (old now : ReadRun Neighbour) (turn : Turn (Result (Option Pair) Refused)) (c : Call) (h : History)
         (got : Option ℕ) (map : List Pair) → IsUndisturbed c h → Spells c.layout (value c.start) map
-        → ReadIsReady successor_means old c h got → IsSameRead successor_means old now → ReadTurn successor_means c h now turn
-        → HasLeftAll c h map × MatchTurn turn (λ _. Unit {0}) (TellsNext map old.read.key) }
+        → ReadIsReady neighbour_means old c h got → IsSameRead neighbour_means old now → ReadTurn neighbour_means c h now turn
+        → HasLeftAll c h map × MatchTurn turn (λ _. Unit {0}) (TellsNext old.read.side map old.read.key) }
     ensures range { (old now : ReadRun Range) (turn : Turn (Result (Vec Pair Global) Refused)) (c : Call) (h : History)
         (got : Option ℕ) (map : List Pair) → IsUndisturbed c h → Spells c.layout (value c.start) map
         → ReadIsReady range_means old c h got → IsSameRead range_means old now → ReadTurn range_means c h now turn
         → HasLeftAll c h map × MatchTurn turn (λ _. Unit {0}) (TellsRange map old.read.low old.read.high old.read.most) }
-    ensures successor_try { (old now : ReadRun Successor) (turn : Turn (Result (Option Pair) Refused)) (c : Call) (h : History)
-        (nodes : ℕ) → IsTreeRun c.layout h → IsUndisturbed c h → IsSameRead successor_means old now
+    ensures neighbour_try { (old now : ReadRun Neighbour) (turn : Turn (Result (Option Pair) Refused)) (c : Call) (h : History)
+        (nodes : ℕ) → IsTreeRun c.layout h → IsUndisturbed c h → IsSameRead neighbour_means old now
         → KeepsTries c h old.tries now.tries turn
-        → ReadIsNearer successor_means now nodes turn (read_left successor_means old nodes)
+        → ReadIsNearer neighbour_means now nodes turn (read_left neighbour_means old nodes)
         → (now.tries ≡ old.tries)
-        × HasLessOfTry turn (phase_left successor_means now nodes now.at) (phase_left successor_means old nodes old.at) }
+        × HasLessOfTry turn (phase_left neighbour_means now nodes now.at) (phase_left neighbour_means old nodes old.at) }
     ensures range_try { (old now : ReadRun Range) (turn : Turn (Result (Vec Pair Global) Refused)) (c : Call) (h : History)
         (nodes : ℕ) → IsTreeRun c.layout h → IsUndisturbed c h → IsSameRead range_means old now
         → KeepsTries c h old.tries now.tries turn

@@ -28,8 +28,8 @@ pub trait KnownLoad<R: Read + Drop> {
     fn word(&self) -> Word
         ensures { result ≡ load_word (load self.now) };
 
-    /// Goes on with what the load found: behind the count of a leaf comes its first key, and behind
-    /// a value the high half of that.
+    /// Goes on with what the load found: behind the count of a leaf comes a key of it, and behind a
+    /// value the high half of that.
     ///
     /// # Errors
     ///
@@ -107,8 +107,8 @@ impl<R: Read + Drop> KnownLoad<R> for MoreLoad {
     }
 
     #[inline(always)]
-    fn found(&self, _run: &mut ReadRun<R>, value: u64) -> Result<ReadNext, Refused> {
-        let (node, more, slot) = (self.node, value, Slot::First);
+    fn found(&self, run: &mut ReadRun<R>, value: u64) -> Result<ReadNext, Refused> {
+        let (node, more, slot) = (self.node, value, run.read.first_slot(value));
         let place = LeafPlace { node, more, slot };
         Ok(ReadNext::Load(ReadLoad::Pair { place }))
     }

@@ -1,22 +1,24 @@
-//! The ordered reads of the tree, step by step: the pair behind a key, and the pairs between two
-//! keys.
+//! The ordered reads of the tree, step by step: the pair beside a key on a side of it, and the
+//! pairs between two keys.
 #![tactic(auto)]
 
 mod alone;
 mod known_load;
+mod last_turns;
 mod load;
+mod neighbour;
 mod range;
 mod read;
 mod refused;
 mod run;
-mod successor;
 
 pub use alone::alone_holds;
 pub use known_load::{HeadLoad, HighLoad, KeyLoad, KnownLoad, MoreLoad, PairLoad, ValueLoad};
+pub use last_turns::LastTurns;
 pub use load::{LeafPlace, ReadLoad};
+pub use neighbour::{Neighbour, NeighbourRun, Route};
 pub use range::{Range, RangeRun};
 pub use read::{Children, Read, ReadBegin, ReadNext};
 pub use refused::Refused;
 pub use run::{ReadAt, ReadRun};
-pub use successor::{Route, Successor, SuccessorRun};
 pub use template::Tree;

@@ -5,7 +5,7 @@ use crate::load::{LeafPlace, ReadLoad};
 use crate::read::{Children, Read, ReadBegin, ReadNext};
 use crate::refused::Refused;
 use crate::run::ReadRun;
-use arena::{Head, NodeNo};
+use arena::{Head, NodeNo, Slot};
 use ordered_map::Pair;
 use std::alloc::Global;
 use std::mem;
@@ -184,6 +184,11 @@ impl Read for Range {
             level,
             node,
         }
+    }
+
+    #[inline(always)]
+    fn first_slot(&self, _more: u64) -> Slot {
+        Slot::First
     }
 
     #[inline(always)]

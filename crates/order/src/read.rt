@@ -5,13 +5,13 @@ ghost use Rattle.arena.specs.Machines.{Call};
 ghost use Rattle.prims.specs.declared.snap.Snap.{Snap};
 ghost use Rattle.template.specs.Trails.{IsOwnMoment};
 ghost use Rattle.order.specs.Meaning.{ReadMeaning};
-ghost use Rattle.order.specs.Found.{IsReading, Stands, IsAtLowFork, StandsIn, TakesPair, BeginsSo, GoesBelow, head_at, key_at, place_key, place_pair};
+ghost use Rattle.order.specs.Found.{IsReading, Stands, IsAtLowFork, StandsIn, TakesPair, BeginsSo, GoesBelow, head_at, key_at, place_key, place_value};
 ghost use Rattle.order.specs.Next.{MayDo, GoesOnSo};
 ghost use Rattle.order.specs.Paths.{HeadFits, BeginsNear, ComesNearer, slots_left};
 
 use crate::load::{LeafPlace, ReadLoad};
 use crate::refused::Refused;
-use arena::{Head, NodeNo};
+use arena::{Head, NodeNo, Side, Slot};
 use ordered_map::Pair;
 
 /// Which children of a fork are to be visited.
@@ -21,15 +21,15 @@ pub enum Children {
     Left,
     /// The right one alone.
     Right,
-    /// The left one, and then the right one.
+    /// Both, one after the other.
     Both,
 }
 
 /// With what a try of a read begins.
 #[derive(Debug, Drop)]
 pub enum ReadBegin<A> {
-    /// A walk to this key.
-    Walk(u64),
+    /// A walk to this key. From the last fork where that turns to this side it goes down again.
+    Walk { key: u64, side: Side },
     /// The load of the root's head.
     Root,
     /// Nothing: there is nothing to be found, and this is the answer.
@@ -92,6 +92,10 @@ pub trait Read {
         ensures nearer { (nodes : ℕ) → level + 1 < 2 + nodes
             → ComesNearer means self.new nodes result (67 * (2 + nodes - level) - 2 + means.behind self.old nodes) };
 
+    /// In which slot it begins in a leaf that has that many pairs after its first.
+    fn first_slot(&self, more: u64) -> Slot
+        ensures { result ≡ means.starts self.now more };
+
     /// What is done behind the key at this place of a leaf.
     fn pair_on(&mut self, place: LeafPlace, key: u64) -> ReadNext
         ensures goes_on { (snaps : List Snap) (c : Call) (h : History) → IsReading means self.old snaps c h → IsOwnMoment c h
@@ -107,7 +111,7 @@ pub trait Read {
     /// `NoMemory` where there is none to keep it.
     fn value_on(&mut self, place: LeafPlace, pair: Pair) -> Result<ReadNext, Refused>
         ensures goes_on { (snaps : List Snap) (c : Call) (h : History) → IsReading means self.old snaps c h → IsOwnMoment c h
-            → TakesPair means self.old snaps c h place pair.key → place_pair h place ≡ pair → GoesOnSo means self.new snaps c h result }
+            → TakesPair means self.old snaps c h place pair.key → place_value h place ≡ pair.value → GoesOnSo means self.new snaps c h result }
         ensures same { means.call self.new ≡ means.call self.old }
         ensures nearer { (nodes : ℕ) → IfOk result (λ next. ComesNearer means self.new nodes next
             (slots_left place - 3 + means.behind self.old nodes)) };

@@ -1,8 +1,9 @@
 //! The machine of an ordered read of the tree.
 ghost use Rattle.std.specs.Prelude.{◌≡◌};
-ghost use Rattle.order.specs.Steps.{last_turn};
+ghost use Rattle.order.specs.LastTurns.{last_turns};
 
 use crate::known_load::{HeadLoad, HighLoad, KeyLoad, KnownLoad, MoreLoad, PairLoad, ValueLoad};
+use crate::last_turns::LastTurns;
 use crate::load::ReadLoad;
 use crate::read::{Children, Read, ReadBegin, ReadNext};
 use crate::refused::Refused;
@@ -18,10 +19,12 @@ use template::{Goal, Tree, WalkAt, WalkRun};
 pub enum ReadAt {
     /// None yet.
     Start,
-    /// A step of its walk, which has last turned left at the fork `turn`.
+    /// A step of its walk, which has last turned at these forks. From that to this side it goes down
+    /// again.
     Walk {
         walk: WalkRun,
-        turn: NodeNo,
+        side: Side,
+        turns: LastTurns,
     },
     /// The load of the root's head.
     Root,
@@ -70,7 +73,7 @@ impl<R: Read + Drop> ReadRun<R> {
     ghost use Rattle.template.specs.Walk.Steps.{walk_left, WalkFits};
     ghost use Rattle.template.specs.Trails.{IsOwnMoment};
     ghost use Rattle.order.specs.Found.{BeginsSo, WalksTo, IsReading, Looks};
-    ghost use Rattle.order.specs.Known.{IsLastTurn, IsSameRead, ReadIsReady, ReadTurn, Validates};
+    ghost use Rattle.order.specs.Known.{AreLastTurns, IsSameRead, ReadIsReady, ReadTurn, Validates};
     ghost use Rattle.order.specs.Loads.{load_value};
     ghost use Rattle.order.specs.Next.{MayLoad};
     ghost use Rattle.order.specs.Paths.{BeginsNear, ComesNearer, LoadFits, load_left, path_left};
@@ -135,10 +138,11 @@ impl<R: Read + Drop> ReadRun<R> {
         let (kind, root) = (Kind::LoadSettled, NodeNo(0));
         let head = Word::Node(root, NodeWord::Settled(SettledPart::Head));
         match self.start() {
-            ReadBegin::Walk(key) => {
+            ReadBegin::Walk { key, side } => {
                 let mut walk = WalkRun::new(Goal::Key(key));
                 walk.at = WalkAt::Root;
-                self.load(ReadAt::Walk { walk, turn: root }, kind, head)
+                let turns = LastTurns::none();
+                self.load(ReadAt::Walk { walk, side, turns }, kind, head)
             }
             ReadBegin::Root => self.load(ReadAt::Root, kind, head),
             ReadBegin::Answer(answer) => Turn::Done(Ok(answer)),
@@ -168,12 +172,13 @@ impl<R: Read + Drop> ReadRun<R> {
     fn walk_on(
         &mut self,
         mut walk: WalkRun,
-        turn: NodeNo,
+        side: Side,
+        turns: LastTurns,
         got: Option<u64>,
     ) -> Turn<Result<R::Answer, Refused>>
         ensures turn { (c : Call) (begin h : History) (key v : ℕ) → got ≡ Some v → IsInTry c h begin self.old.limit self.old.tries
             → IsReading R.means self.old.read self.old.snaps.items (begun_at c begin) h → walk.goal ≡ Goal.Key key
-            → WalksTo R.means self.old.read key → IsLastTurn (begun_at c begin) h key turn.0
+            → WalksTo R.means self.old.read key side → AreLastTurns (begun_at c begin) h key turns
             → WalkIsReady walk (begun_at c begin) h (Some v) → ReadTurn R.means c h self.new result }
         ensures same { IsSameRead R.means self.old self.new }
         ensures nearer { (nodes : ℕ) → WalkFits walk got nodes
@@ -184,11 +189,11 @@ impl<R: Read + Drop> ReadRun<R> {
     {
         match Machine::<Tree>::next(&mut walk, got) {
             Turn::Ask(step) => {
-                let turn = last_turn(&walk, turn);
-                self.at = ReadAt::Walk { walk, turn };
+                let turns = last_turns(&walk, turns);
+                self.at = ReadAt::Walk { walk, side, turns };
                 Turn::Ask(step)
             }
-            Turn::Done(_) => self.look(Children::Both, 0, turn),
+            Turn::Done(_) => self.look(turns.children(side), 0, turns.to(side)),
         }
     }
 
@@ -350,8 +355,8 @@ impl<R: Read + Drop> ReadRun<R> {
         }
     }
 
-    /// Goes on with what a load of a word of a node found: behind the count of a leaf comes its first
-    /// key, and behind a value the high half of that.
+    /// Goes on with what a load of a word of a node found: behind the count of a leaf comes a key
+    /// of it, and behind a value the high half of that.
     ///
     /// # Errors
     ///
@@ -391,7 +396,7 @@ impl<R: Read + Drop> ReadRun<R> {
         let value = got.unwrap_or(0);
         match self.at {
             ReadAt::Start => self.begin(),
-            ReadAt::Walk { walk, turn } => self.walk_on(walk, turn, got),
+            ReadAt::Walk { walk, side, turns } => self.walk_on(walk, side, turns, got),
             ReadAt::Root => {
                 let next = self.read.head_on(Head::of(value), NodeNo(0));
                 self.stand(next)
@@ -444,15 +449,12 @@ impl<R: Read + Drop> Machine<Tree> for ReadRun<R> {
     ghost told = { read_told R.means };
 }
 
-/// The last fork where a walk has turned left, where that was `turn` before its last step.
-fn last_turn(walk: &WalkRun, turn: NodeNo) -> NodeNo
-    ensures { result ≡ last_turn walk.now.at walk.now.trail.node turn }
+/// The last forks where a walk has turned, where they were these before its last step.
+fn last_turns(walk: &WalkRun, turns: LastTurns) -> LastTurns
+    ensures { result ≡ last_turns walk.now.at walk.now.trail.node turns }
 {
     match walk.at {
-        WalkAt::Child {
-            level: _,
-            side: Side::Left,
-        } => walk.trail.node,
-        _ => turn,
+        WalkAt::Child { level: _, side } => turns.with(side, walk.trail.node),
+        _ => turns,
     }
 }

@@ -9,8 +9,8 @@ use Rattle.ordered_map.specs.declared.pair.Pair.{Pair}
 use Rattle.ordered_map.proofs.Lists.{above_less}
 use Rattle.ordered_map.specs.declared.rule.Goal.TheVariants.{Key}
 use Rattle.ordered_map.specs.declared.rule.Rule.{Rule}
-use Rattle.ordered_map.specs.OrderedMap.{pair, AllAbove, IsRising, applies, get, insert, delete, leaves, successor, between, MapEdit, Insert, Delete, edit_key, edit_to, edited, value_left, after_edit, MapCall, OneValue, call_delete, call_insert, call_pop_first, call_pop_last, reply, after, edit_of, AllBelow, last_pair, end_pair, Edit}
-use Rattle.ordered_map.specs.MapLaws.{IsSuccessor, by_rule, within, without_first, IsEndmost, without_last}
+use Rattle.ordered_map.specs.OrderedMap.{pair, AllAbove, IsRising, applies, get, insert, delete, leaves, successor, predecessor, neighbour, between, MapEdit, Insert, Delete, edit_key, edit_to, edited, value_left, after_edit, MapCall, OneValue, call_delete, call_insert, call_pop_first, call_pop_last, reply, after, edit_of, AllBelow, last_pair, end_pair, Edit}
+use Rattle.ordered_map.specs.MapLaws.{IsNeighbour, by_rule, within, without_first, IsEndmost, without_last}
 use Rattle.ordered_map.proofs.Trees.{split_at}
 
 -- a key is below another one, is it, or is above
@@ -156,16 +156,16 @@ same_values (p ∷ ps) (q ∷ qs) r s f = go (order p.key q.key) (λ g. same_val
         let rest : ps ≡ qs = more (rest_gives p q ps qs e r s f) in
         λ i. pair (e i) (v i) ∷ rest i
 
--- The least key above
+-- The next key on a side
 
 below_first : (j : ℕ) (p : Pair) (ps : List Pair) → IsRising (p ∷ ps) → j < p.key → get j (p ∷ ps) ≡ None
 below_first j p ps r l = get_above j (p ∷ ps) (l, above_less j p.key ps (omega (arith, l)) r.0)
 
-pub successor_is : (k : ℕ) (m : List Pair) → IsRising m → IsSuccessor k m (successor k m)
+successor_is : (k : ℕ) (m : List Pair) → IsRising m → IsNeighbour Right k m (successor k m)
 successor_is k [] r = λ j l. refl
 successor_is k (p ∷ ps) r = go (split_at k p.key) (successor_is k ps r.1)
   where
-    found : (o : Option Pair) → p.key ≤ k → successor k ps ≡ o → IsSuccessor k ps o → IsSuccessor k (p ∷ ps) o
+    found : (o : Option Pair) → p.key ≤ k → successor k ps ≡ o → IsNeighbour Right k ps o → IsNeighbour Right k (p ∷ ps) o
     found None l e x = λ j i. rw (ne_eqb j p.key (λ z. omega (arith, z, l, i))) (x j i)
     found (Some q) l e x = (
       x.0,
@@ -173,9 +173,37 @@ successor_is k (p ∷ ps) r = go (split_at k p.key) (successor_is k ps r.1)
       λ j i u. rw (ne_eqb j p.key (λ z. omega (arith, z, l, i))) (x.2 j i u),
     )
 
-    go : (k < p.key) ⊎ (p.key ≤ k) → IsSuccessor k ps (successor k ps) → IsSuccessor k (p ∷ ps) (cond (ltb k p.key) (Some p) (successor k ps))
+    go : (k < p.key) ⊎ (p.key ≤ k) → IsNeighbour Right k ps (successor k ps) → IsNeighbour Right k (p ∷ ps) (cond (ltb k p.key) (Some p) (successor k ps))
     go (inl l) x = rw (lt-ltb k p.key l) (l, rw (at_key p.key) refl, λ j i u. below_first j p ps r u)
     go (inr l) x = rw (le-ltb k p.key l) (found (successor k ps) l refl x)
+
+-- a key with a value is above those below which there is none
+has_above : (j k v : ℕ) (m : List Pair) → AllAbove k m → get j m ≡ Some v → k < j
+has_above j k v m a e = go (split_at k j)
+  where
+    go : (k < j) ⊎ (j ≤ k) → k < j
+    go (inl l) = l
+    go (inr l) = absurd (no_value v (sym e ∙ get_above j m (above_less j k m l a)))
+
+predecessor_is : (k : ℕ) (m : List Pair) → IsRising m → IsNeighbour Left k m (predecessor k m)
+predecessor_is k [] r = λ j l. refl
+predecessor_is k (p ∷ ps) r = go (split_at p.key k) (predecessor k ps) (predecessor_is k ps r.1)
+  where
+    go : (p.key < k) ⊎ (k ≤ p.key) → (o : Option Pair) → IsNeighbour Left k ps o → IsNeighbour Left k (p ∷ ps) (cond (ltb p.key k) (Some (unwrap_or o p)) o)
+    go (inl l) None x = rw (lt-ltb p.key k l) (l, rw (at_key p.key) refl, λ j i u. rw (ne_eqb j p.key (λ e. omega (arith, e, u))) (x j i))
+    go (inl l) (Some q) x =
+        let above : p.key < q.key = has_above q.key p.key q.value ps r.0 x.1 in
+        rw (lt-ltb p.key k l) (
+          x.0,
+          rw (ne_eqb q.key p.key (λ e. omega (arith, e, above))) x.1,
+          λ j i u. rw (ne_eqb j p.key (λ e. omega (arith, e, above, u))) (x.2 j i u),
+        )
+    go (inr l) None x = rw (le-ltb p.key k l) (λ j i. below_first j p ps r (omega (arith, i, l)))
+    go (inr l) (Some q) x = absurd (let a = has_above q.key p.key q.value ps r.0 x.1 in let b = x.0 in omega (arith, a, b, l))
+
+pub neighbour_is : (side : Side) (k : ℕ) (m : List Pair) → IsRising m → IsNeighbour side k m (neighbour side k m)
+neighbour_is Left = predecessor_is
+neighbour_is Right = successor_is
 
 -- Keys between two
 

@@ -1,32 +1,30 @@
--- What the search for the least key above k finds is what the pairs of the tree say: a leaf above
--- all keys has no pair.
-use Rattle.std.proofs.Common.{◌≡◌, ℕ, ◌^◌, ◌<◌, ◌≤◌, Bool, true, false, cond, ltb, ◌⊎◌, inl, inr, List, [], ◌∷◌, refl, sym, ◌∙◌, ap, arith, lt-ltb, le-ltb}
-use Rattle.std.specs.Prelude.{Option, Some, None}
-use native.Mathlib.Decide.{ℕ_discrete}
+-- What the search for the next key on a side of k finds is what the pairs of the tree say: a leaf
+-- above all keys has no pair.
+use Rattle.std.proofs.Common.{◌≡◌, ℕ, ◌^◌, ◌<◌, ◌≤◌, Bool, true, false, cond, ltb, ◌⊎◌, inl, inr, List, [], ◌∷◌, refl, sym, ◌∙◌, ap, arith, subst, lt-ltb, le-ltb}
+use Rattle.std.specs.Prelude.{Option, Some, None, unwrap_or}
 use Rattle.arena.specs.declared.layout.Layout.{Layout}
+use Rattle.arena.specs.declared.word.Side.{Side}
+use Rattle.arena.specs.declared.word.Side.TheVariants.{Left, Right}
 use Rattle.arena.specs.declared.word.Word.{Word}
-use Rattle.arena.specs.Words.{node, first_key}
 use Rattle.ordered_map.specs.declared.pair.Pair.{Pair}
-use Rattle.ordered_map.specs.OrderedMap.{pair, AllAbove, IsRising, first_pair, successor}
+use Rattle.ordered_map.specs.OrderedMap.{AllAbove, IsRising, successor, predecessor, neighbour}
 use Rattle.ordered_map.specs.Spelled.{Spells}
-use Rattle.ordered_map.specs.TreeWords.{Leaf, IsLeaf, class, rank, leaf_items, leaf_pairs}
-use Rattle.ordered_map.proofs.Holding.{held_first, first_item, low_items, high_items, low_pairs, high_pairs}
 use Rattle.ordered_map.proofs.Trees.{items, split_at}
 use Rattle.ordered_map.proofs.Growing.{low, pairs_low, items_rise}
-use Rattle.ordered_map.proofs.Next.{or_else, first_of, search_items, search_is}
 
 -- a pair of a key of the map, and none above all keys
 abbrev pub low_pair : Option Pair → Option Pair
 low_pair None = None
 low_pair (Some p) = cond (ltb p.key (2 ^ 64)) (Some p) None
 
-pair_stays : (p : Pair) → p.key < 2 ^ 64 → low_pair (Some p) ≡ Some p
+pub pair_stays : (p : Pair) → p.key < 2 ^ 64 → low_pair (Some p) ≡ Some p
 pair_stays p l = rw (lt-ltb p.key (2 ^ 64) l) refl
 
-pair_goes : (p : Pair) → 2 ^ 64 ≤ p.key → low_pair (Some p) ≡ None
+pub pair_goes : (p : Pair) → 2 ^ 64 ≤ p.key → low_pair (Some p) ≡ None
 pair_goes p l = rw (le-ltb p.key (2 ^ 64) l) refl
 
 -- the pairs are the items below 2 ^ 64
+
 next_low : (k : ℕ) (xs : List Pair) → IsRising xs → successor k (low xs) ≡ low_pair (successor k xs)
 unfolding low
 next_low k [] r = refl
@@ -48,34 +46,39 @@ next_low k (x ∷ xs) r = go (split_at x.key (2 ^ 64)) (next_low k xs r.1)
     go (inl l) e = ap (λ (b : Bool). successor k (cond b (x ∷ low xs) (low xs))) (lt-ltb x.key (2 ^ 64) l) ∙ stays (ltb k x.key) l e
     go (inr l) e = ap (λ (b : Bool). successor k (cond b (x ∷ low xs) (low xs))) (le-ltb x.key (2 ^ 64) l) ∙ goes (ltb k x.key) l e
 
-or_none : (x : Option Pair) → or_else x None ≡ x
-or_none None = refl
-or_none (Some x) = refl
-
--- where words spell a map, the search in their tree finds its least key above k
-pub search_tells : (lay : Layout) (f : Word → ℕ) (m : List Pair) (k : ℕ) (x : Spells lay f m) → successor k m ≡ low_pair (search_items f k x.tree None)
-search_tells lay f m k x =
-    ap (successor k) (sym x.pairs ∙ pairs_low f x.tree _ _ x.is_tree.shows)
-    ∙ next_low k (items f x.tree) (items_rise f x.tree _ _ x.is_tree.shows)
-    ∙ ap low_pair (sym (search_is f k x.tree _ _ None x.is_tree.shows ∙ or_none (successor k (items f x.tree))))
-
--- where it ends, the first pair of the leaf is told
-pub leaf_tells : (f : Word → ℕ) (n lo hi : ℕ) → IsLeaf f n lo hi → low_pair (first_of f (Leaf n)) ≡ first_pair (leaf_pairs f n)
-leaf_tells f n lo hi s = go (ℕ_discrete (class f n) 0)
+before_low : (k : ℕ) (xs : List Pair) → k < 2 ^ 64 → predecessor k (low xs) ≡ predecessor k xs
+unfolding low
+before_low k [] small = refl
+before_low k (x ∷ xs) small = go (split_at x.key (2 ^ 64)) (before_low k xs small)
   where
-    go : Dec (class f n ≡ 0) → low_pair (first_of f (Leaf n)) ≡ first_pair (leaf_pairs f n)
-    go (yes z) =
-        let x = held_first f n in
-        ap (λ ps. low_pair (first_pair ps)) (low_items f n z ∙ x.is) ∙ pair_stays (pair (f (node n first_key)) x.value) s.small ∙ sym (ap first_pair (low_pairs f n z ∙ x.is))
-    go (no d) = ap (λ ps. low_pair (first_pair ps)) (high_items f n d) ∙ pair_goes (pair (rank f n) 0) (omega (arith, d)) ∙ sym (ap first_pair (high_pairs f n d))
+    go : (x.key < 2 ^ 64) ⊎ (2 ^ 64 ≤ x.key) → predecessor k (low xs) ≡ predecessor k xs → predecessor k (cond (ltb x.key (2 ^ 64)) (x ∷ low xs) (low xs)) ≡ cond (ltb x.key k) (Some (unwrap_or (predecessor k xs) x)) (predecessor k xs)
+    go (inl l) e = ap (λ (b : Bool). predecessor k (cond b (x ∷ low xs) (low xs))) (lt-ltb x.key (2 ^ 64) l) ∙ ap (λ o. cond (ltb x.key k) (Some (unwrap_or o x)) o) e
+    go (inr l) e = ap (λ (b : Bool). predecessor k (cond b (x ∷ low xs) (low xs))) (le-ltb x.key (2 ^ 64) l) ∙ e ∙ sym (ap (λ (b : Bool). cond b (Some (unwrap_or (predecessor k xs) x)) (predecessor k xs)) (le-ltb x.key k (omega (arith, l, small))))
 
--- it ends at a leaf above k
-pub search_here : (f : Word → ℕ) (k n : ℕ) (d : Option Pair) → k < rank f n → search_items f k (Leaf n) d ≡ first_of f (Leaf n)
-search_here f k n d l =
-    let x = first_item f n in
-    let found : successor k (pair (rank f n) x.value ∷ x.rest) ≡ Some (pair (rank f n) x.value) = rw (lt-ltb k (rank f n) l) refl in
-    ap (λ o. or_else o d) (ap (successor k) x.is ∙ found) ∙ sym (ap first_pair x.is)
+-- what is found below k is below it
+abbrev IsBelow : ℕ → Option Pair → Type 0
+IsBelow k None = Unit {0}
+IsBelow k (Some p) = p.key < k
 
--- and goes on behind one that has no key above k
-pub search_past : (f : Word → ℕ) (k n : ℕ) (d : Option Pair) → successor k (leaf_items f n) ≡ None → search_items f k (Leaf n) d ≡ d
-search_past f k n d none = ap (λ o. or_else o d) none
+before_less : (k : ℕ) (xs : List Pair) → IsBelow k (predecessor k xs)
+before_less k [] = tt
+before_less k (x ∷ xs) = go (split_at x.key k) (predecessor k xs) (before_less k xs)
+  where
+    go : (x.key < k) ⊎ (k ≤ x.key) → (o : Option Pair) → IsBelow k o → IsBelow k (cond (ltb x.key k) (Some (unwrap_or o x)) o)
+    go (inl l) None i = rw (lt-ltb x.key k l) l
+    go (inl l) (Some p) i = rw (lt-ltb x.key k l) i
+    go (inr l) o i = rw (le-ltb x.key k l) i
+
+below_stays : (k : ℕ) (o : Option Pair) → k < 2 ^ 64 → IsBelow k o → o ≡ low_pair o
+below_stays k None small i = refl
+below_stays k (Some p) small i = sym (pair_stays p (omega (arith, i, small)))
+
+found_low : (side : Side) (k : ℕ) (xs : List Pair) → k < 2 ^ 64 → IsRising xs → neighbour side k (low xs) ≡ low_pair (neighbour side k xs)
+found_low Left k xs small rises = before_low k xs small ∙ below_stays k (predecessor k xs) small (before_less k xs)
+found_low Right k xs small rises = next_low k xs rises
+
+-- where words spell a map, the search in their tree finds its next key on this side of k
+pub search_tells : (side : Side) (lay : Layout) (f : Word → ℕ) (m : List Pair) (k : ℕ) (x : Spells lay f m) → k < 2 ^ 64 → neighbour side k m ≡ low_pair (neighbour side k (items f x.tree))
+search_tells side lay f m k x small =
+    ap (neighbour side k) (sym x.pairs ∙ pairs_low f x.tree _ _ x.is_tree.shows)
+    ∙ found_low side k (items f x.tree) small (items_rise f x.tree _ _ x.is_tree.shows)

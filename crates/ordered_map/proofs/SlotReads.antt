@@ -1,5 +1,4 @@
--- What a leaf says that is read slot by slot: of a key, of the keys above one, and of those between
--- two. Each slot has its pair, or leaves it to those behind it.
+-- What a leaf says of a key that is read slot by slot. Each slot has its pair, or leaves it to those behind it.
 use Rattle.std.proofs.Common.{◌≡◌, ◌≢◌, ℕ, ◌<◌, ◌≤◌, List, ◌∷◌, refl, ◌∙◌, ap, arith, subst, lt-ltb, le-ltb, eq-eqb, ne_eqb}
 use Rattle.std.specs.Prelude.{Some, None}
 use Rattle.arena.specs.declared.word.NodeWord.TheVariants.{Settled}
@@ -8,7 +7,7 @@ use Rattle.arena.specs.declared.word.Slot.{Slot}
 use Rattle.arena.specs.declared.word.Word.{Word}
 use Rattle.arena.specs.Words.{node}
 use Rattle.ordered_map.specs.declared.pair.Pair.{Pair}
-use Rattle.ordered_map.specs.OrderedMap.{IsRising, get, successor}
+use Rattle.ordered_map.specs.OrderedMap.{IsRising, get}
 use Rattle.ordered_map.specs.Holding.{slot_behind, pair_in, held_from, held_behind}
 use Rattle.ordered_map.proofs.Holding.{held_next}
 use Rattle.ordered_map.proofs.Lists.{above_less}
@@ -35,10 +34,3 @@ module _ (f : Word → ℕ) (n : ℕ) (slot : Slot) where
 
   pub get_nowhere : (k : ℕ) → IsRising (held_from f n slot) → k < f (node n (Settled (Key slot))) → get k (held_from f n slot) ≡ None
   get_nowhere k rises low = get_behind k (λ e. omega (arith, e, low)) ∙ get_above k pairs_behind (above_less k key_here pairs_behind (omega (arith, low)) (rises_here rises).0)
-
-  -- the least key above k is in this slot, or behind it
-  pub successor_here : (k : ℕ) → k < f (node n (Settled (Key slot))) → successor k (held_from f n slot) ≡ Some (pair_in f n slot)
-  successor_here k low = ap (successor k) (held_next f n slot) ∙ rw (lt-ltb k key_here low) refl
-
-  pub successor_behind : (k : ℕ) → f (node n (Settled (Key slot))) ≤ k → successor k (held_from f n slot) ≡ successor k (held_behind f n (slot_behind (f (node n (Settled More))) slot))
-  successor_behind k high = ap (successor k) (held_next f n slot) ∙ rw (le-ltb k key_here high) refl

@@ -6,7 +6,7 @@ use Rattle.arena.specs.declared.step.Kind.TheVariants.{Fill, LoadChild, LoadSett
 use Rattle.ordered_map.specs.declared.pair.Pair.{Pair as PairOf}
 use Rattle.ordered_map.specs.declared.reply.Reply.{Reply}
 use Rattle.ordered_map.specs.declared.reply.Reply.TheVariants as replies
-use Rattle.ordered_map.specs.OrderedMap.{MapCall, Edit, Get, Successor, Range, applies, goal_told, leaves, spot}
+use Rattle.ordered_map.specs.OrderedMap.{MapCall, Edit, Get, Neighbour, Range, applies, goal_told, leaves, spot}
 use Rattle.ordered_map.specs.declared.rule.Goal.{Goal}
 use Rattle.ordered_map.specs.declared.rule.Goal.TheVariants.{Key, End}
 use Rattle.ordered_map.specs.declared.rule.Rule.{Rule}
@@ -91,12 +91,12 @@ abbrev pub IsFormOfGet : Form → Type 0
 IsFormOfGet Value = Unit {0}
 IsFormOfGet _ = ⊥
 
--- a successor tells a pair, or none, or is refused
-abbrev pub IsFormOfSuccessor : Form → Type 0
-IsFormOfSuccessor Pair = Unit {0}
-IsFormOfSuccessor Contended = Unit {0}
-IsFormOfSuccessor NoMemory = Unit {0}
-IsFormOfSuccessor _ = ⊥
+-- a search for the pair beside a key tells it, or none, or is refused
+abbrev pub IsFormOfNeighbour : Form → Type 0
+IsFormOfNeighbour Pair = Unit {0}
+IsFormOfNeighbour Contended = Unit {0}
+IsFormOfNeighbour NoMemory = Unit {0}
+IsFormOfNeighbour _ = ⊥
 
 -- a range takes no pair, whatever the map has: none is asked for, or no key is from `low` to `high`
 abbrev pub TakesNothing : ℕ → ℕ → ℕ → Type 0
@@ -112,7 +112,7 @@ IsFormOfRange _ = ⊥
 -- The one match from calls to their rules. A walk makes at most three steps for each level that the
 -- tree may have, two more than nodes are taken, and five more at its leaf; an edit makes one walk in a
 -- try, and takes at most one SCX-record; a search with snapshots 67
--- for each level, and a successor makes two of these behind a walk, a range one for each pair that it
+-- for each level, and one for the pair beside a key makes two of these behind a walk, a range one for each pair that it
 -- may take and for two more.
 abbrev pub call_rules : MapCall → CallRules
 call_rules (Edit goal rule) = record {
@@ -131,13 +131,13 @@ call_rules (Get key) = record {
   need = λ map. 0;
   MayReply = IsFormOfGet;
 }
-call_rules (Successor key) = record {
+call_rules (Neighbour side key) = record {
   most_steps = λ tries nodes. tries * (137 * (2 + nodes));
   MayMake = λ kind. kind ≢ Fill;
   most_scx = λ tries. 0;
   most_nodes = 0;
   need = λ map. 0;
-  MayReply = IsFormOfSuccessor;
+  MayReply = IsFormOfNeighbour;
 }
 call_rules (Range low high most) = record {
   most_steps = λ tries nodes. tries * ((most + 2) * (67 * (2 + nodes)));

@@ -1,5 +1,5 @@
--- What the laws of the map say of the keys at its ends, of the least above another one, of the keys
--- between two, and of what a take at an end leaves, and a rule at a key.
+-- What the laws of the map say of the keys at its ends, of the next key on a side of another one, of
+-- the keys between two, and of what a take at an end leaves, and a rule at a key.
 use Rattle.std.specs.Prelude.{◌≡◌, ℕ, ◌<◌, if◌then◌else◌, ◌&&◌, nat_le, List, [], ◌∷◌, Option, Some, None}
 use Rattle.arena.specs.declared.word.Side.{Side}
 use Rattle.arena.specs.declared.word.Side.TheVariants.{Left, Right}
@@ -7,15 +7,16 @@ use Rattle.ordered_map.specs.declared.pair.Pair.{Pair}
 use Rattle.ordered_map.specs.declared.rule.Rule.{Rule}
 use Rattle.ordered_map.specs.OrderedMap.{applies, edit_to, edited, get, leaves}
 
--- a pair of the map with a key above k, below which no key above k has a value; or none has one
-abbrev pub IsSuccessor : ℕ → List Pair → Option Pair → Type 0
-IsSuccessor k m (Some p) = (k < p.key) × (get p.key m ≡ Some p.value) × ((j : ℕ) → k < j → j < p.key → get j m ≡ None)
-IsSuccessor k m None = (j : ℕ) → k < j → get j m ≡ None
-
 -- j is beyond k on this side
 abbrev pub IsBeyond : Side → ℕ → ℕ → Type 0
 IsBeyond Left k j = j < k
 IsBeyond Right k j = k < j
+
+-- a pair of the map with a key beyond k on this side, where no key between the two has a value; or no
+-- key beyond k has one
+abbrev pub IsNeighbour : Side → ℕ → List Pair → Option Pair → Type 0
+IsNeighbour side k m (Some p) = IsBeyond side k p.key × (get p.key m ≡ Some p.value) × ((j : ℕ) → IsBeyond side k j → IsBeyond side j p.key → get j m ≡ None)
+IsNeighbour side k m None = (j : ℕ) → IsBeyond side k j → get j m ≡ None
 
 -- a pair of the map beyond whose key, on this side, no key has a value; or none has one
 abbrev pub IsEndmost : Side → List Pair → Option Pair → Type 0

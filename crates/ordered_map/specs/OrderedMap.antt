@@ -76,6 +76,18 @@ abbrev pub successor : ℕ → List Pair → Option Pair
 successor k [] = None
 successor k (p ∷ ps) = if nat_lt k p.key then Some p else successor k ps
 
+-- the pair with the greatest key below k, if there is one
+abbrev pub predecessor : ℕ → List Pair → Option Pair
+predecessor k [] = None
+predecessor k (p ∷ ps) =
+    if nat_lt p.key k then Some (unwrap_or (predecessor k ps) p) else predecessor k ps
+
+-- the pair with the next key beyond k on this side, if there is one: on the left that with the
+-- greatest key below k
+abbrev pub neighbour : Side → ℕ → List Pair → Option Pair
+neighbour Left = predecessor
+neighbour Right = successor
+
 -- the pairs with keys from `low` to `high`, both with them
 abbrev pub between : ℕ → ℕ → List Pair → List Pair
 between low high [] = []
@@ -143,12 +155,12 @@ edit_by rule k found = if applies rule found then Some (edit_to k (leaves rule))
 
 -- Calls
 
--- All calls of a map. `Edit`: the rule at the goal; `Range`: from this key, to this key, at most so
--- many pairs.
+-- All calls of a map. `Edit`: the rule at the goal; `Neighbour`: beyond this key on this side; `Range`:
+-- from this key, to this key, at most so many pairs.
 pub data MapCall : Type 0 where
   Edit : Goal → Rule → MapCall
   Get : ℕ → MapCall
-  Successor : ℕ → MapCall
+  Neighbour : Side → ℕ → MapCall
   Range : ℕ → ℕ → ℕ → MapCall
 
 -- the edits by their names: a key is to have this value; a key is to have none; the pair with the
@@ -175,6 +187,13 @@ call_insert_new k v = Edit (Key k) (PutNew v)
 abbrev pub call_delete_if : ℕ → ℕ → MapCall
 call_delete_if k e = Edit (Key k) (TakeIf e)
 
+-- the searches for a pair beside a key by their names: the least key above it, the greatest below
+abbrev pub call_successor : ℕ → MapCall
+call_successor k = Neighbour Right k
+
+abbrev pub call_predecessor : ℕ → MapCall
+call_predecessor k = Neighbour Left k
+
 -- the key of a goal, where `at_end` is the key at its end of the map, if there is one
 abbrev pub goal_key : Goal → Option ℕ → Option ℕ
 goal_key (Key k) at_end = Some k
@@ -200,7 +219,7 @@ goal_told (End side) m = pair_or_none (end_pair side m)
 abbrev pub reply : MapCall → List Pair → MapReply
 reply (Edit goal rule) m = goal_told goal m
 reply (Get k) m = OneValue (get k m)
-reply (Successor k) m = pair_or_none (successor k m)
+reply (Neighbour side k) m = pair_or_none (neighbour side k m)
 reply (Range low high most) m = ManyPairs (range low high most m)
 
 -- the key at which an edit with this reply is, and what that has, if it has a value; there is none

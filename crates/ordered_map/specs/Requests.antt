@@ -1,11 +1,11 @@
 -- Requests as calls of the map of words, and what calls tell.
 use Rattle.std.specs.Prelude.{ℕ, ◌≤◌, Bool, false, Option, Some, None}
-use Rattle.ordered_map.specs.OrderedMap.{MapCall, MapReply, Edit, Get, Successor, Range, changes_map, call_insert, call_delete, call_pop_first, call_pop_last, call_replace_if, call_insert_new, call_delete_if}
+use Rattle.ordered_map.specs.OrderedMap.{MapCall, MapReply, Edit, Get, Range, changes_map, call_insert, call_delete, call_pop_first, call_pop_last, call_replace_if, call_insert_new, call_delete_if, call_successor, call_predecessor}
 use Rattle.ordered_map.specs.declared.rule.Goal.{Goal}
 use Rattle.ordered_map.specs.declared.rule.Goal.TheVariants.{Key}
 use Rattle.ordered_map.specs.declared.rule.Rule.{Rule}
 use Rattle.ordered_map.specs.declared.request.Request.{Request}
-use Rattle.ordered_map.specs.declared.request.Request.TheVariants.{Insert as InsertOf, Delete as DeleteOf, PopFirst as PopFirstOf, PopLast as PopLastOf, ReplaceIf as ReplaceIfOf, InsertNew as InsertNewOf, DeleteIf as DeleteIfOf, Get as GetOf, Successor as SuccessorOf, Range as RangeOf}
+use Rattle.ordered_map.specs.declared.request.Request.TheVariants.{Insert as InsertOf, Delete as DeleteOf, PopFirst as PopFirstOf, PopLast as PopLastOf, ReplaceIf as ReplaceIfOf, InsertNew as InsertNewOf, DeleteIf as DeleteIfOf, Get as GetOf, Successor as SuccessorOf, Predecessor as PredecessorOf, Range as RangeOf}
 
 -- a request as a call of the map of words,
 -- where `key` and `value` give the words of keys and values
@@ -18,7 +18,8 @@ as_map_call key value (ReplaceIfOf k e v) = call_replace_if (key k) (value e) (v
 as_map_call key value (InsertNewOf k v) = call_insert_new (key k) (value v)
 as_map_call key value (DeleteIfOf k e) = call_delete_if (key k) (value e)
 as_map_call key value (GetOf k) = Get (key k)
-as_map_call key value (SuccessorOf k) = Successor (key k)
+as_map_call key value (SuccessorOf k) = call_successor (key k)
+as_map_call key value (PredecessorOf k) = call_predecessor (key k)
 as_map_call key value (RangeOf low high most) = Range (key low) (key high) most
 
 -- a request of numbers as a call of the map

@@ -36,6 +36,11 @@ IsBlankAboveKeys f n = class f n ≢ 0 → f (node n first_key) ≡ 0
 abbrev pub toward : (Word → ℕ) → ℕ → ℕ → Side
 toward f n k = if nat_lt k (rank f n) then Left else Right
 
+-- the other side
+abbrev pub opposite : Side → Side
+opposite Left = Right
+opposite Right = Left
+
 -- what the leaf n gives to the map: its pairs, by rising key
 abbrev pub leaf_pairs : (Word → ℕ) → ℕ → List Pair
 leaf_pairs f n = if class f n == 0 then held_pairs f n else []

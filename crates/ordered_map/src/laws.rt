@@ -11,13 +11,13 @@ ghost use Rattle.arena.specs.TakenNodes.{taken_nodes};
 ghost use Rattle.ordered_map.specs.declared.pair.Pair.{Pair};
 ghost use Rattle.ordered_map.specs.declared.rule.Goal.TheVariants.{Key};
 ghost use Rattle.ordered_map.specs.declared.rule.Rule.{Rule};
-ghost use Rattle.ordered_map.specs.OrderedMap.{MapEdit, Edit, IsRising, get, insert, delete, edited, after, call_insert, call_delete, call_pop_first, call_pop_last, successor, between, end_pair};
+ghost use Rattle.ordered_map.specs.OrderedMap.{MapEdit, Edit, IsRising, get, insert, delete, edited, after, call_insert, call_delete, call_pop_first, call_pop_last, neighbour, between, end_pair};
 ghost use Rattle.ordered_map.specs.TreeWords.{Tree, Has, is_leaf, level, said, IsBlankAboveKeys};
 ghost use Rattle.ordered_map.specs.Spelled.{IsTree, Spells};
 ghost use Rattle.ordered_map.specs.Paths.{Passed, WasInTree, IsAnswerAt};
 ghost use Rattle.ordered_map.specs.Runs.{IsTreeRun, Makes, IsEditAt};
 ghost use Rattle.ordered_map.specs.Laws.{AreEdits, SpellsLog};
-ghost use Rattle.ordered_map.specs.MapLaws.{IsSuccessor, by_rule, within, without_first, IsEndmost, without_last};
+ghost use Rattle.ordered_map.specs.MapLaws.{IsNeighbour, by_rule, within, without_first, IsEndmost, without_last};
 
 /// What every history of the tree keeps in which only edits of the map begin. Of each SCX-record with
 /// an entry some edit may be said that it makes. Whichever is said, be it the only one or not, after
@@ -43,10 +43,11 @@ pub fn laws_hold()
 
 /// What the calls of a map do, told by its values: an edit changes the value of its key alone and
 /// keeps the keys rising; maps of the same values are the same list; the first pair has the least
-/// key, the last the greatest, and the successor the least above; between two keys are the pairs of
-/// just those keys; an insert leaves the map with its key at its value, a delete the map without its
-/// key, a pop the map without its first pair, or its last; an edit of a key by any rule, the one or
-/// the other, or the map as it was. It does nothing; a caller learns the laws from its contract.
+/// key, the last the greatest, the successor of a key the least above it, and the predecessor the
+/// greatest below; between two keys are the pairs of just those keys; an insert leaves the map with
+/// its key at its value, a delete the map without its key, a pop the map without its first pair, or
+/// its last; an edit of a key by any rule, the one or the other, or the map as it was. It does
+/// nothing; a caller learns the laws from its contract.
 pub fn map_laws_hold()
     ensures inserted { (k v : ℕ) (m : List Pair) → get k (insert k v m) ≡ Some v }
     ensures insert_keeps { (j k v : ℕ) (m : List Pair) → j ≢ k → get j (insert k v m) ≡ get j m }
@@ -60,7 +61,7 @@ pub fn map_laws_hold()
     ensures after_pop { (m : List Pair) → after call_pop_first m ≡ without_first m }
     ensures after_pop_last { (m : List Pair) → IsRising m → after call_pop_last m ≡ without_last m }
     ensures after_rule { (k : ℕ) (rule : Rule) (m : List Pair) → after (Edit (Key k) rule) m ≡ by_rule rule k m }
-    ensures successor { (k : ℕ) (m : List Pair) → IsRising m → IsSuccessor k m (successor k m) }
+    ensures neighbours { (side : Side) (k : ℕ) (m : List Pair) → IsRising m → IsNeighbour side k m (neighbour side k m) }
     ensures between { (low high j : ℕ) (m : List Pair) → get j (between low high m) ≡ within low high j (get j m) }
     ensures between_rises { (low high : ℕ) (m : List Pair) → IsRising m → IsRising (between low high m) }
 {}

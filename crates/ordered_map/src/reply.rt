@@ -9,7 +9,7 @@ use arena::{Full, NodeNo, ScxNo};
 pub enum Reply<K, V> {
     /// To an insert, a delete, a replacement and a get: the value that the key had, if it had one.
     Value(Option<V>),
-    /// To a pop and a successor: the pair, if there is one.
+    /// To a pop, a successor and a predecessor: the pair, if there is one.
     Pair(Option<(K, V)>),
     /// To a range: the pairs, by rising key.
     Pairs(Vec<(K, V)>),

@@ -28,6 +28,8 @@ pub enum Request<K, V> {
     Get { key: K },
     /// Looks for the pair with the least key above this one.
     Successor { key: K },
+    /// Looks for the pair with the greatest key below this one.
+    Predecessor { key: K },
     /// Takes the first pairs by key of those with keys from `low` to `high`, both with them, at most
     /// so many, 64 at the most.
     Range { low: K, high: K, most: u32 },
@@ -50,7 +52,10 @@ impl Request<u64, u128> {
                 expected,
                 value,
             } => Some((Goal::Key(key), Rule::Swap { expected, value })),
-            Request::Get { .. } | Request::Successor { .. } | Request::Range { .. } => None,
+            Request::Get { .. }
+            | Request::Successor { .. }
+            | Request::Predecessor { .. }
+            | Request::Range { .. } => None,
         }
     }
 

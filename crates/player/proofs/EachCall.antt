@@ -13,7 +13,7 @@ use Rattle.arena.specs.Share.{Remaining}
 use Rattle.arena.proofs.Lemmas.{ends_trans}
 use Rattle.histories.proofs.Lemmas.{entry_of}
 use Rattle.ordered_map.specs.CallRules.{IsFormOfEdit, MayReply, form_of, need}
-use Rattle.ordered_map.specs.OrderedMap.{MapCall, MapEdit, MapReply, OneValue, OnePair, ManyPairs, Edit, Insert, Delete, Get, Successor, Range, applies, changes_map, edit_key, edit_of, edit_to, end_pair, get, leaves, pair_or_none, reply}
+use Rattle.ordered_map.specs.OrderedMap.{MapCall, MapEdit, MapReply, OneValue, OnePair, ManyPairs, Edit, Insert, Delete, Get, Neighbour, Range, applies, changes_map, edit_key, edit_of, edit_to, end_pair, get, leaves, pair_or_none, reply}
 use Rattle.ordered_map.specs.declared.rule.Goal.{Goal}
 use Rattle.ordered_map.specs.declared.rule.Goal.TheVariants.{Key, End}
 use Rattle.ordered_map.specs.declared.rule.Rule.{Rule}
@@ -77,7 +77,7 @@ edit_of_key (Edit (End side) rule) edit m made = go (end_pair side m) refl made
         let had = end_had side m p is in
         inr (had.0, subst (λ (n : ℕ). get n m ≡ Some had.0) (by_rule (applies rule (Some p.value)) p.key (leaves rule) edit made) had.1)
 edit_of_key (Get key) edit m made = cc
-edit_of_key (Successor key) edit m made = cc
+edit_of_key (Neighbour side key) edit m made = cc
 edit_of_key (Range low high most) edit m made = cc
 
 -- an SCX-record that makes an edit has an entry of a call whose reply, on the map just before, says
@@ -85,7 +85,7 @@ edit_of_key (Range low high most) edit m made = cc
 pub entry_makes : (lay : Layout) (before : History) (s : ℕ) (of : MapCall) (edit : MapEdit) (map : List Pair) → Spells lay (value before) map → ((also : List Pair) → Spells lay (value before) also → edit_of of (reply of also) ≡ Some edit) → Makes lay before s edit → IsMapEntry of lay before (entry_of lay before s)
 entry_makes lay before s (Edit goal rule) edit map spells gives makes = record { edit = edit; makes = makes; of_map = gives }
 entry_makes lay before s (Get key) edit map spells gives makes = absurd (let e = gives map spells in cc)
-entry_makes lay before s (Successor key) edit map spells gives makes = absurd (let e = gives map spells in cc)
+entry_makes lay before s (Neighbour side key) edit map spells gives makes = absurd (let e = gives map spells in cc)
 entry_makes lay before s (Range low high most) edit map spells gives makes = absurd (let e = gives map spells in cc)
 
 -- What steps a call may make
@@ -247,7 +247,7 @@ module _ (lay : Layout) (tries c : ℕ) (now start : History) (linked : ℕ → 
   place_of request (Edit (Key key) rule) (MapAnswer given) ordered right = key_took_place request key rule given right
   place_of request (Edit (End side) rule) (MapAnswer given) ordered right = end_took_place side request rule given ordered
   place_of request (Get key) (MapAnswer (Value told)) ordered right = value_place request (Get key) key (Value told) told (value_told told) refl (λ m. refl) false refl
-  place_of request (Successor key) (MapAnswer (PairOf found)) ordered right = ordered_place request (Successor key) (PairOf found) (pair_or_none (option_map (word_pair (λ n. n) (λ n. n)) found)) refl refl refl ordered
+  place_of request (Neighbour side key) (MapAnswer (PairOf found)) ordered right = ordered_place request (Neighbour side key) (PairOf found) (pair_or_none (option_map (word_pair (λ n. n) (λ n. n)) found)) refl refl refl ordered
   place_of request (Range low high most) (MapAnswer (Pairs found)) ordered right = ordered_place request (Range low high most) (Pairs found) (ManyPairs (number_pairs found.items)) refl refl refl ordered
   place_of request of (MapAnswer (Contended node scx)) ordered right = no_place request of (Contended node scx) refl
   place_of request of (MapAnswer (Full full)) ordered right = no_place request of (Full full) refl
@@ -335,9 +335,9 @@ module _ (v : ClientView) (c : Client) (is_pass : c.pass.0 < v.layout.passes) wh
   pub answer_right : (to : MapCall) (a : Reply ℕ ℕ) (share : Remaining) → RestsWith call v.past share → MayReply to (form_of a) → TellsOfMap call v.past to (number_reply a) → DictRefuses call v.past to share v.tries a → (map_rules to).IsRight v.layout v.tries c.pass.0 v.past v.start v.linked (MapAnswer a)
   answer_right (Edit goal rule) a share rests form tells why = edit_right goal rule a share rests form tells why
   answer_right (Get key) (Value old) share rests form tells why = answer_at key old (subst (TellsOfMap call v.past (Get key)) (value_told old) tells)
-  answer_right (Successor key) (PairOf found) share rests form tells why = tt
-  answer_right (Successor key) (Contended node scx) share rests form tells why = lost (Successor key) node.0 scx.0 why
-  answer_right (Successor key) NoMemory share rests form tells why = tt
+  answer_right (Neighbour side key) (PairOf found) share rests form tells why = tt
+  answer_right (Neighbour side key) (Contended node scx) share rests form tells why = lost (Neighbour side key) node.0 scx.0 why
+  answer_right (Neighbour side key) NoMemory share rests form tells why = tt
   answer_right (Range low high most) (Pairs found) share rests form tells why = tt
   answer_right (Range low high most) (Contended node scx) share rests form tells why = lost (Range low high most) node.0 scx.0 why
   answer_right (Range low high most) NoMemory share rests form tells why = tt

@@ -42,7 +42,7 @@ use Rattle.record.specs.MapRecord.{number_pairs}
 use Rattle.record.specs.declared.record.Answer.{Answer}
 use Rattle.record.specs.declared.record.Answer.TheVariants.{Done, Unlinked, Full, Map as MapAnswer}
 use Rattle.script.specs.declared.command.Command.TheVariants.{Llx as LlxOf, Scx as ScxOf, Vlx as VlxOf, Set as SetOf, Map}
-use Rattle.ordered_map.specs.declared.request.Request.TheVariants.{Successor as SuccessorOf, Range as RangeOf}
+use Rattle.ordered_map.specs.declared.request.Request.TheVariants.{Successor as SuccessorOf, Predecessor as PredecessorOf, Range as RangeOf}
 use Rattle.player.specs.declared.client.Client.{Client}
 use Rattle.record.specs.Turns.{history, turns, entries, answered, begin, start, steps, won, last_client, entry_of, entry_owed, entry_at}
 use Rattle.record.specs.Commands.{commands, next_command}
@@ -342,6 +342,7 @@ is_refusal v (ScxOf update) (Unlinked node) x = record { leaves = λ n. refl; no
 is_refusal v (ScxOf update) (Full what left) x = record { leaves = λ n. refl; not_done = λ e. cc; none = refl }
 is_refusal v (VlxOf cells) (Unlinked node) x = record { leaves = λ n. refl; not_done = λ e. cc; none = refl }
 is_refusal v (Map (SuccessorOf key)) (MapAnswer NoMemory) x = record { leaves = λ n. refl; not_done = λ e. cc; none = refl }
+is_refusal v (Map (PredecessorOf key)) (MapAnswer NoMemory) x = record { leaves = λ n. refl; not_done = λ e. cc; none = refl }
 is_refusal v (Map (RangeOf low high most)) (MapAnswer (Pairs found)) x = record { leaves = λ n. refl; not_done = λ e. cc; none = refl }
 is_refusal v (Map (RangeOf low high most)) (MapAnswer NoMemory) x = record { leaves = λ n. refl; not_done = λ e. cc; none = refl }
 is_refusal v command answer x = absurd x
@@ -353,6 +354,7 @@ refuses_tells v c (ScxOf update) answer x = tt
 refuses_tells v c (VlxOf cells) answer x = tt
 refuses_tells v c (SetOf field value) answer x = tt
 refuses_tells v c (Map (SuccessorOf key)) (MapAnswer NoMemory) x = tt
+refuses_tells v c (Map (PredecessorOf key)) (MapAnswer NoMemory) x = tt
 refuses_tells v c (Map (RangeOf low high most)) (MapAnswer (Pairs found)) x = inr (λ m. nothing_taken low high most m x.0 ∙ ap (λ (ps : List (ℕ × ℕ)). ManyPairs (number_pairs ps)) (sym x.1))
 refuses_tells v c (Map (RangeOf low high most)) (MapAnswer NoMemory) x = tt
 refuses_tells v c command answer x = absurd x

@@ -5,7 +5,7 @@ pub mod Vlx
 pub mod Set
 pub mod Edit
 pub mod Get
-pub mod Successor
+pub mod Neighbour
 pub mod Range
 pub mod Map
 use Rattle.std.specs.Prelude.{ℕ, Bool, List, Option}

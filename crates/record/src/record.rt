@@ -119,12 +119,13 @@ pub enum Answer {
     /// the value of its key, if the key has one; a `delete` that tells none has changed nothing, nor
     /// has a `replace_if` that tells another value than it expects, or none. `pop_first`: `Pair`,
     /// the pair with the least key, if there is one; where it tells none it has changed nothing.
-    /// `successor`: `Pair`, the pair with the least key above its own, if there is one. `range`:
+    /// `successor`, `predecessor`: `Pair`, the pair with the next key above its own, or below, if there
+    /// is one. `range`:
     /// `Pairs`, the first pairs between its keys, by rising key. All but `get`: `Contended`, all its
     /// tries were lost, and in the last of them `scx` was in progress over the node `node` of the
     /// tree; an edit was not made and never will be. `insert`, `delete`, `pop_first`, `replace_if`:
     /// `Full`, so many of the resource are left in the client's share, too few for the call.
-    /// `successor`, `range`: `NoMemory`, an allocation was refused.
+    /// `successor`, `predecessor`, `range`: `NoMemory`, an allocation was refused.
     Map(Reply<u64, u128>),
     /// `scx`, `set`: `left` of the resource are left in the client's share, too few for the call.
     Full { what: Resource, left: u32 },

@@ -6,7 +6,7 @@ use Rattle.arena.specs.declared.fault.Resource.TheVariants.{Nodes, Scx}
 use Rattle.ordered_map.specs.declared.reply.Reply.{Reply}
 use Rattle.ordered_map.specs.declared.reply.Reply.TheVariants.{Value, Pair, Pairs, Contended, NoMemory, Full as FullShare}
 use Rattle.ordered_map.specs.declared.request.Request.{Request}
-use Rattle.ordered_map.specs.declared.request.Request.TheVariants.{Successor, PopFirst, PopLast}
+use Rattle.ordered_map.specs.declared.request.Request.TheVariants.{Successor, Predecessor, PopFirst, PopLast}
 use Rattle.script.specs.declared.call.Call.{Call}
 use Rattle.script.specs.declared.command.Command.{Command}
 use Rattle.script.specs.declared.command.Command.TheVariants.{Map as MapCommand}
@@ -65,11 +65,13 @@ answer_text (Map reply) = reply_text reply
 
 -- Forms: two texts are each that of two answers
 
--- the reply with the same text that answers this request: `none` is no pair to a successor and to a
--- pop, and no value to any other
+-- the reply with the same text that answers this request: `none` is no pair to a successor, to a
+-- predecessor and to a pop, and no value to any other
 abbrev pub reply_to : Request ℕ ℕ → Reply ℕ ℕ → Reply ℕ ℕ
 reply_to (Successor key) (Value None) = Pair None
 reply_to (Successor key) reply = reply
+reply_to (Predecessor key) (Value None) = Pair None
+reply_to (Predecessor key) reply = reply
 reply_to PopFirst (Value None) = Pair None
 reply_to PopFirst reply = reply
 reply_to PopLast (Value None) = Pair None

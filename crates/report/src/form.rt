@@ -58,7 +58,10 @@ fn reply_to(request: &Request<u64, u128>, reply: Reply<u64, u128>) -> Reply<u64,
     ensures spelled { (version : Version) → IsSpelledReply version reply → IsSpelledReply version result }
 {
     match request {
-        Request::Successor { key: _ } | Request::PopFirst | Request::PopLast => match reply {
+        Request::Successor { .. }
+        | Request::Predecessor { .. }
+        | Request::PopFirst
+        | Request::PopLast => match reply {
             Reply::Value(None) => Reply::Pair(None),
             _ => reply,
         },

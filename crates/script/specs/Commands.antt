@@ -12,7 +12,7 @@ use Rattle.script.specs.Update.{update_cells, update_finalize, update_field, upd
 use Rattle.ordered_map.specs.declared.request.Request.{Request}
 use Rattle.script.specs.declared.command.Command.{Command}
 use Rattle.script.specs.declared.command.Command.TheVariants.{Llx, Scx, Vlx, Set, Map}
-use Rattle.ordered_map.specs.declared.request.Request.TheVariants.{Insert, InsertNew, Delete, DeleteIf, PopFirst, PopLast, ReplaceIf, Get, Successor, Range}
+use Rattle.ordered_map.specs.declared.request.Request.TheVariants.{Insert, InsertNew, Delete, DeleteIf, PopFirst, PopLast, ReplaceIf, Get, Successor, Predecessor, Range}
 
 -- the word for a side
 abbrev pub side_text : Side → List ℕ
@@ -62,6 +62,7 @@ request_name (InsertNew key value) = codes "insert_new"
 request_name (DeleteIf key expected) = codes "delete_if"
 request_name (Get key) = codes "get"
 request_name (Successor key) = codes "successor"
+request_name (Predecessor key) = codes "predecessor"
 request_name (Range low high most) = codes "range"
 
 -- the field is such a name
@@ -69,7 +70,7 @@ abbrev pub NamesRequest : List ℕ → Type 0
 NamesRequest field =
     (field ≡ codes "insert") ⊎ (field ≡ codes "delete") ⊎ (field ≡ codes "pop_first") ⊎ (field ≡ codes "pop_last")
     ⊎ (field ≡ codes "replace_if") ⊎ (field ≡ codes "insert_new") ⊎ (field ≡ codes "delete_if")
-    ⊎ (field ≡ codes "get") ⊎ (field ≡ codes "successor") ⊎ (field ≡ codes "range")
+    ⊎ (field ≡ codes "get") ⊎ (field ≡ codes "successor") ⊎ (field ≡ codes "predecessor") ⊎ (field ≡ codes "range")
 
 -- its arguments, three at most
 abbrev pub request_arguments : Request ℕ ℕ → List MapArgument
@@ -82,6 +83,7 @@ request_arguments (InsertNew key value) = OfKey key ∷ OfValue value ∷ []
 request_arguments (DeleteIf key expected) = OfKey key ∷ OfValue expected ∷ []
 request_arguments (Get key) = OfKey key ∷ []
 request_arguments (Successor key) = OfKey key ∷ []
+request_arguments (Predecessor key) = OfKey key ∷ []
 request_arguments (Range low high most) = OfKey low ∷ OfKey high ∷ OfCount most ∷ []
 
 -- three fields: these arguments, and an empty field for each that is missing

@@ -61,6 +61,7 @@ fn map_command_of(name: &str, arguments: [&str; 3]) -> Result<Command, ScriptCau
         "delete_if" => or_argument(delete_if_of(arguments)),
         "get" => or_argument(get_of(arguments)),
         "successor" => or_argument(successor_of(arguments)),
+        "predecessor" => or_argument(predecessor_of(arguments)),
         "range" => or_argument(range_of(arguments)),
         _ => Err(ScriptCause::Command),
     }
@@ -215,6 +216,17 @@ fn successor_of(arguments: [&str; 3]) -> Option<Command>
     }))
 }
 
+fn predecessor_of(arguments: [&str; 3]) -> Option<Command>
+    ensures { IsCommandOf (codes "predecessor" ∷ texts arguments.entry) result }
+{
+    let [key, "", ""] = arguments else {
+        return None;
+    };
+    Some(Command::Map(Request::Predecessor {
+        key: number_of(key)?,
+    }))
+}
+
 fn range_of(arguments: [&str; 3]) -> Option<Command>
     ensures { IsCommandOf (codes "range" ∷ texts arguments.entry) result }
 {
@@ -323,6 +335,7 @@ fn request_text(request: &Request<u64, u128>) -> (&'static str, [Option<u128>; 3
         }
         Request::Get { key } => ("get", [Some(key.into()), None, None]),
         Request::Successor { key } => ("successor", [Some(key.into()), None, None]),
+        Request::Predecessor { key } => ("predecessor", [Some(key.into()), None, None]),
         Request::Range { low, high, most } => {
             (
                 "range",

@@ -5,7 +5,7 @@ use Rattle.ordered_map.specs.CallRules.{MayReply, most_scx}
 use Rattle.ordered_map.specs.CallRules as form
 use Rattle.arena.specs.declared.word.Side.{Side}
 use Rattle.arena.specs.declared.word.Side.TheVariants.{Left, Right}
-use Rattle.ordered_map.specs.OrderedMap.{MapEdit, Insert, Delete, insert, delete, edited, edit_of, edit_to, MapCall, Edit, Get, Successor, Range, MapReply, OneValue, OnePair, ManyPairs, applies, leaves, reply, get, last_pair, end_pair, successor, between, pair, pair_or_none}
+use Rattle.ordered_map.specs.OrderedMap.{MapEdit, Insert, Delete, insert, delete, edited, edit_of, edit_to, MapCall, Edit, Get, Neighbour, Range, MapReply, OneValue, OnePair, ManyPairs, applies, leaves, reply, get, last_pair, end_pair, successor, predecessor, neighbour, between, pair, pair_or_none}
 use Rattle.ordered_map.specs.declared.rule.Goal.TheVariants.{Key, End}
 use Rattle.ordered_map.specs.declared.pair.Pair.{Pair}
 use Rattle.dict.specs.Calls.{most_tries}
@@ -51,6 +51,20 @@ module _ (keys values : ℕ → Type 0) where
   successor_typed k [] x = tt
   successor_typed k (p ∷ ps) x = if_pair (nat_lt k p.key) (Some p) (successor k ps) (x.0, x.1) (successor_typed k ps x.2)
 
+  or_typed : (o : Option Pair) (p : Pair) → IsTypedReply keys values (pair_or_none o) → keys p.key → values p.value → keys (unwrap_or o p).key × values (unwrap_or o p).value
+  or_typed None p x k v = (k, v)
+  or_typed (Some q) p x k v = x
+
+  predecessor_typed : (k : ℕ) (m : List Pair) → AreTyped keys values m → IsTypedReply keys values (pair_or_none (predecessor k m))
+  predecessor_typed k [] x = tt
+  predecessor_typed k (p ∷ ps) x =
+      let rest = predecessor_typed k ps x.2 in
+      if_pair (nat_lt p.key k) (Some (unwrap_or (predecessor k ps) p)) (predecessor k ps) (or_typed (predecessor k ps) p rest x.0 x.1) rest
+
+  neighbour_typed : (side : Side) (k : ℕ) (m : List Pair) → AreTyped keys values m → IsTypedReply keys values (pair_or_none (neighbour side k m))
+  neighbour_typed Left = predecessor_typed
+  neighbour_typed Right = successor_typed
+
   between_typed : (low high : ℕ) (m : List Pair) → AreTyped keys values m → AreTyped keys values (between low high m)
   between_typed low high [] x = tt
   between_typed low high (p ∷ ps) x = let y = between_typed low high ps x.2 in if_typed (nat_le low p.key && nat_le p.key high) (p ∷ between low high ps) (between low high ps) (x.0, x.1, y) y
@@ -74,7 +88,7 @@ module _ (keys values : ℕ → Type 0) where
   reply_typed (Edit (Key k) rule) m x = get_typed k m x
   reply_typed (Edit (End side) rule) m x = end_typed side m x
   reply_typed (Get k) m x = get_typed k m x
-  reply_typed (Successor k) m x = successor_typed k m x
+  reply_typed (Neighbour side k) m x = neighbour_typed side k m x
   reply_typed (Range low high most) m x = take_typed most (between low high m) (between_typed low high m x)
 
   -- and the edit that a call of such words has made is one, where what it tells is of such words
@@ -103,7 +117,7 @@ pub tells_lists : (call : MapCall) (m : List Pair) (ps : List Pair) → reply ca
 tells_lists (Edit (Key k) rule) m ps told = absurd cc
 tells_lists (Edit (End side) rule) m ps told = absurd (one_pair (end_pair side m) ps told)
 tells_lists (Get k) m ps told = absurd cc
-tells_lists (Successor k) m ps told = (tt, refl)
+tells_lists (Neighbour side k) m ps told = (tt, refl)
 tells_lists (Range low high most) m ps told = (tt, refl)
 
 -- and may be refused memory
@@ -111,7 +125,7 @@ pub may_lack : (call : MapCall) → MayReply call form.Pairs → MayReply call f
 may_lack (Edit (Key k) rule) x = absurd x
 may_lack (Edit (End side) rule) x = absurd x
 may_lack (Get k) x = x
-may_lack (Successor k) x = absurd x
+may_lack (Neighbour side k) x = absurd x
 may_lack (Range low high most) x = tt
 
 -- Tries
@@ -120,12 +134,12 @@ may_lack (Range low high most) x = tt
 pub tries_take : (call : MapCall) (begun tries : ℕ) → begun ≤ most_tries call tries → most_scx call begun ≤ most_scx call tries
 tries_take (Edit goal rule) begun tries few = few
 tries_take (Get k) begun tries few = omega arith
-tries_take (Successor k) begun tries few = omega arith
+tries_take (Neighbour side k) begun tries few = omega arith
 tries_take (Range low high most) begun tries few = omega arith
 
 -- each may begin one try, where it may begin one alone
 pub one_alone : (call : MapCall) → most_tries call 1 ≡ 1
 one_alone (Edit goal rule) = refl
 one_alone (Get k) = refl
-one_alone (Successor k) = refl
+one_alone (Neighbour side k) = refl
 one_alone (Range low high most) = refl

@@ -11,7 +11,8 @@ use Rattle.arena.specs.Share.{Remaining}
 use Rattle.order.specs.declared.refused.Refused.{Refused}
 use Rattle.order.specs.declared.refused.Refused.TheVariants as refused
 use Rattle.ordered_map.specs.CallRules.{TakesNothing, nodes_at, nodes_there, steps_behind, call_rules, most_nodes, most_steps, need, MayReply}
-use Rattle.ordered_map.specs.OrderedMap.{MapCall, MapReply, Edit, Successor as SuccessorOf, Range as RangeOf, OneValue, applies, edit_key, edit_of, edit_there, edit_to, leaves, pair, pair_or_none, reply, spot}
+use Rattle.arena.specs.declared.word.Side.{Side}
+use Rattle.ordered_map.specs.OrderedMap.{MapCall, MapReply, Edit, Neighbour as NeighbourOf, Range as RangeOf, OneValue, applies, edit_key, edit_of, edit_there, edit_to, leaves, pair, pair_or_none, reply, spot}
 use Rattle.ordered_map.specs.declared.rule.Rule.{Rule}
 use Rattle.ordered_map.specs.declared.rule.Rule.TheVariants.{Take}
 use Rattle.ordered_map.specs.declared.pair.Pair.{Pair}
@@ -31,8 +32,8 @@ use Rattle.edits.specs.declared.update.Updated.{Updated}
 use Rattle.edits.specs.declared.update.Updated.TheVariants.{Done, Contended, Full}
 use Rattle.dict.specs.Calls.{AsksForPairs, IsSmallCall, most_tries}
 use Rattle.dict.specs.Goals.{leaf_told}
-use Rattle.dict.specs.WordReplies.{edit_reply, range_reply, read_reply, successor_reply, told_in, word_form}
-use Rattle.dict.specs.Inner.{ReadKind, InnerRun, Read, edit_means, inner, range_kind, successor_kind}
+use Rattle.dict.specs.WordReplies.{edit_reply, range_reply, read_reply, neighbour_reply, told_in, word_form}
+use Rattle.dict.specs.Inner.{ReadKind, InnerRun, Read, edit_means, inner, range_kind, neighbour_kind}
 use Rattle.dict.specs.Says.{IsRefusal, KeepsLists}
 use Rattle.dict.specs.declared.run.MapRun.{MapRun}
 use Rattle.dict.specs.declared.run.MapRun.TheVariants as runs
@@ -168,14 +169,14 @@ pub record IsReadKind (k : ReadKind) : Type 0 where
   pub told : (a : k.A) → told_in (k.tells a) ≡ Some (k.means.told a)
   pub refuses : (c : Call) (h : History) (call : MapCall) (share : Remaining) (tries : ℕ) (a : k.A) → IsRefusal c h call share tries (k.tells a)
 
-successor_form : (key : ℕ) (a : Result (Option Pair) Refused) → MayReply (SuccessorOf key) (word_form (successor_reply a))
-successor_form key (Ok found) = tt
-successor_form key (Err (refused.Contended node scx)) = tt
-successor_form key (Err refused.NoMemory) = tt
+neighbour_form : (side : Side) (key : ℕ) (a : Result (Option Pair) Refused) → MayReply (NeighbourOf side key) (word_form (neighbour_reply a))
+neighbour_form side key (Ok found) = tt
+neighbour_form side key (Err (refused.Contended node scx)) = tt
+neighbour_form side key (Err refused.NoMemory) = tt
 
--- a successor is such a kind
-pub successor_is : IsReadKind successor_kind
-successor_is = record {
+-- a search for the pair beside a key is such a kind
+pub neighbour_is : IsReadKind neighbour_kind
+neighbour_is = record {
   lists = λ r. tt;
   nodes = λ r. refl;
   tries = λ r tries. refl;
@@ -184,7 +185,7 @@ successor_is = record {
   asks = λ r asks. tt;
   finds = λ r asks. tt;
   kinds = λ r kind asks fills_not. fills_not;
-  form = λ r a. successor_form r.key a;
+  form = λ r a. neighbour_form r.side r.key a;
   told = λ a. refl;
   refuses = λ c h call share tries a. tt;
 }
@@ -224,5 +225,5 @@ IsOfKind _ = Unit {0}
 pub is_of_kind : (m : MapRun) → IsOfKind (inner m)
 is_of_kind (runs.Edit m) = tt
 is_of_kind (runs.Get key walk share) = tt
-is_of_kind (runs.Successor m share) = successor_is
+is_of_kind (runs.Neighbour m share) = neighbour_is
 is_of_kind (runs.Range m share) = range_is

@@ -24,6 +24,7 @@ pub(super) enum Call<K, V> {
     ReplaceIf(K, V, V),
     Get(K),
     Successor(K),
+    Predecessor(K),
     /// From a key to another, so many pairs, or 64.
     Range(K, K, u32),
 }
@@ -49,6 +50,7 @@ impl<K: WordKey, V: WordValue> Call<K, V> {
             }
             Call::Get(key) => Request::Get { key },
             Call::Successor(key) => Request::Successor { key },
+            Call::Predecessor(key) => Request::Predecessor { key },
             Call::Range(low, high, most) => {
                 let most = most.min(MOST_PAIRS);
                 Request::Range { low, high, most }
@@ -77,7 +79,8 @@ impl<K: WordKey, V: WordValue> Call<K, V> {
                 value_told(forest.replace_if(pass, key, &expected, value))
             }
             Call::Get(key) => Reply::Value(forest.get(pass, &key)),
-            Call::Successor(key) => successor(alloc, forest, pass, key),
+            Call::Successor(key) => found_told(forest.successor(alloc, pass, &key)),
+            Call::Predecessor(key) => found_told(forest.predecessor(alloc, pass, &key)),
             Call::Range(low, high, most) => range(alloc, forest, pass, low, high, most),
         }
     }
@@ -109,16 +112,9 @@ fn pair_told<K: WordKey, V: WordValue>(told: Result<Option<(K, V)>, UpdateFault>
     }
 }
 
-fn successor<K: WordKey, V: WordValue>(
-    alloc: Global,
-    forest: &Forest<Dict<K, V>>,
-    pass: &mut Pass<Dict<K, V>>,
-    key: K,
-) -> Reply<K, V>
-    requires { IsOf forest.now pass.old }
-    ensures { IsOf forest.now pass.new }
-{
-    match forest.successor(alloc, pass, &key) {
+/// And what a search for a pair beside a key has told.
+fn found_told<K: WordKey, V: WordValue>(told: Result<Option<(K, V)>, OrderFault>) -> Reply<K, V> {
+    match told {
         Ok(pair) => Reply::Pair(pair),
         Err(OrderFault::Contended { node, scx }) => Reply::Contended { node, scx },
         Err(OrderFault::NoMemory) => Reply::NoMemory,

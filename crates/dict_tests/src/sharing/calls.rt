@@ -1,6 +1,6 @@
 //! Calls by passes that take turns.
 use super::call::Call::{
-    Delete, DeleteIf, Get, Insert, InsertNew, PopFirst, PopLast, Range, ReplaceIf, Successor,
+    Delete, DeleteIf, Get, Insert, InsertNew, PopFirst, PopLast, Predecessor, Range, ReplaceIf, Successor,
 };
 use super::call::meet;
 use super::rows::Says::{Pair, Pairs, Value};
@@ -136,6 +136,8 @@ const TWO_WORDS: [Row<'static, u64, u128>; 35] = [
     (Insert(4, NONE), Value(None), (10, 12)),
     (Successor(2), Pair(Some((3, TWO))), (10, 12)),
     (Successor(3), Pair(Some((4, NONE))), (10, 12)),
+    (Predecessor(4), Pair(Some((3, TWO))), (10, 12)),
+    (Predecessor(3), Pair(Some((2, u128::MAX))), (10, 12)),
     (
         Range(2, 4, 64),
         Pairs(&[(2, u128::MAX), (3, TWO), (4, NONE)]),

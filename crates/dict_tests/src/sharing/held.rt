@@ -4,7 +4,7 @@ ghost use Rattle.forest.specs.Passes.{IsOf};
 
 use super::call::Call;
 use super::call::Call::{
-    Delete, DeleteIf, Get, Insert, InsertNew, PopFirst, PopLast, Range, ReplaceIf, Successor,
+    Delete, DeleteIf, Get, Insert, InsertNew, PopFirst, PopLast, Predecessor, Range, ReplaceIf, Successor,
 };
 use super::rows::Says::{Pair, Pairs, Value};
 use super::rows::{Row, Told, make_all};
@@ -364,6 +364,12 @@ const SUCCESSOR: Case = Case {
     ..FROZEN
 };
 
+const PREDECESSOR: Case = Case {
+    meanwhile: &[(Predecessor(6), Pair(Some((5, 50))), (17, 19))],
+    left: [(19, 19), (17, 19)],
+    ..FROZEN
+};
+
 const RANGE: Case = Case {
     meanwhile: &[(Range(0, 9, 64), Pairs(&[(5, 50), (7, 70)]), (17, 19))],
     left: [(19, 19), (17, 19)],
@@ -392,7 +398,7 @@ fn play(rt: &impl Abort, alloc: Global, case: &Case) -> Result<(), Fail> {
     Ok(())
 }
 
-const CASES: [Case; 16] = [
+const CASES: [Case; 17] = [
     HELPED,
     TOO_LATE,
     POP,
@@ -408,6 +414,7 @@ const CASES: [Case; 16] = [
     SECOND_POP_LAST,
     REPLACEMENT,
     SUCCESSOR,
+    PREDECESSOR,
     RANGE,
 ];
 

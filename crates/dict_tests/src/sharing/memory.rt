@@ -3,7 +3,7 @@
 ghost use Rattle.std.specs.List.{All};
 ghost use Rattle.forest.specs.Passes.{IsOf};
 
-use super::call::Call::{self, Insert, Range, Successor};
+use super::call::Call::{self, Insert, Predecessor, Range, Successor};
 use super::call::pairs_told;
 use super::held::Numbers;
 use super::{TRIES, closed, limits, two};
@@ -51,16 +51,18 @@ fn read(
     }
 }
 
-/// A successor tells the next pair, and a range all; where one of them had no memory, as soon as it
-/// is asked again. Nothing of the share is taken.
-fn both_look(alloc: Global, forest: &Forest<Numbers>, pass: &mut Pass<Numbers>) -> bool
+/// A successor tells the next pair, a predecessor the one before, and a range all; where one of them
+/// had no memory, as soon as it is asked again. Nothing of the share is taken.
+fn all_look(alloc: Global, forest: &Forest<Numbers>, pass: &mut Pass<Numbers>) -> bool
     requires { IsOf forest.now pass.old }
     ensures { IsOf forest.now pass.new }
 {
     let left = pass.left();
     let next = read(alloc, forest, pass, Successor(3));
+    let previous = read(alloc, forest, pass, Predecessor(3));
     let all = pairs_told(read(alloc, forest, pass, Range(0, LAST, 64)));
     next == Reply::Pair(Some((4, 4)))
+        && previous == Reply::Pair(Some((2, 2)))
         && all.is_some_and(|pairs| are_all(pairs.as_slice()))
         && pass.left() == left
 }
@@ -98,7 +100,7 @@ fn a_refused_growth_leaves_all_as_it_was(rt: HostRuntime) -> Result<(), Fail> {
         return Ok(());
     };
     assert!(rt; put_all(alloc, &forest, &mut first));
-    assert!(rt; both_look(alloc, &forest, &mut first));
+    assert!(rt; all_look(alloc, &forest, &mut first));
     passes.push(first)?;
     passes.push(second)?;
     assert!(rt; are_left(alloc, forest, passes));

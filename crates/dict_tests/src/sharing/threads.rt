@@ -4,7 +4,8 @@ ghost use Rattle.std.specs.List.{All};
 ghost use Rattle.forest.specs.Passes.{IsOf};
 
 use super::call::Call::{
-    self, Delete, DeleteIf, Get, Insert, InsertNew, PopFirst, PopLast, Range, ReplaceIf, Successor,
+    self, Delete, DeleteIf, Get, Insert, InsertNew, PopFirst, PopLast, Predecessor, Range, ReplaceIf,
+    Successor,
 };
 use super::call::pairs_told;
 use super::held::Numbers;
@@ -25,7 +26,7 @@ const MOST_ASKS: u32 = 1000;
 /// How often a thread counts up.
 const COUNTS: u64 = 500;
 
-/// How many of the ten calls a thread makes.
+/// How many of the eleven calls a thread makes.
 const CALLS: u64 = 50;
 
 /// How many keys the window has.
@@ -50,7 +51,7 @@ enum Work {
     First { keys: u64 },
     /// It takes out the first pair, or, where its number is odd, the last.
     Pop,
-    /// It makes one of the ten calls. What this adds to the sum of the pairs comes out.
+    /// It makes one of the eleven calls. What this adds to the sum of the pairs comes out.
     Any,
     /// It adds one to the value of the key 0, until it has done so often enough.
     Count,
@@ -190,19 +191,20 @@ fn put_new(alloc: Global, forest: &Forest<Numbers>, pass: &mut Pass<Numbers>, ke
     }
 }
 
-/// One of the ten calls, on one of a hundred keys with two of four values.
+/// One of the eleven calls, on one of a hundred keys with two of four values.
 fn any(draw: u64) -> Call<u64, u64> {
     let (key, value, other) = (draw / 16 % 100, draw / 1600 % 4, draw / 6400 % 4);
     match draw % 16 {
         0 => Get(key),
         1 => Successor(key),
-        2 => Range(key, u64::MAX, 10),
-        3 => PopFirst,
-        4 => PopLast,
-        5 => Delete(key),
-        6 | 7 => DeleteIf(key, value),
-        8 | 9 => ReplaceIf(key, value, other),
-        10..=12 => InsertNew(key, value),
+        2 => Predecessor(key),
+        3 => Range(key, u64::MAX, 10),
+        4 => PopFirst,
+        5 => PopLast,
+        6 => Delete(key),
+        7 | 8 => DeleteIf(key, value),
+        9 | 10 => ReplaceIf(key, value, other),
+        11..=13 => InsertNew(key, value),
         _ => Insert(key, value),
     }
 }

@@ -7,7 +7,9 @@ use Rattle.arena.specs.declared.step.Step.{Step}
 use Rattle.arena.specs.declared.step.Kind.TheVariants.{Fill, LoadSettled}
 use Rattle.arena.specs.declared.word.NodeWord.TheVariants.{Settled}
 use Rattle.arena.specs.declared.word.SettledPart.{SettledPart}
-use Rattle.arena.specs.declared.word.SettledPart.TheVariants.{Head as HeadWord, More as MoreWord, Key as KeyWord, Value as ValueWord}
+use Rattle.arena.specs.declared.word.Side.{Side}
+use Rattle.arena.specs.declared.word.Side.TheVariants as sides
+use Rattle.arena.specs.declared.word.SettledPart.TheVariants.{Head as HeadWord, More as MoreWord, Value as ValueWord}
 use Rattle.arena.specs.declared.word.Word.{Word}
 use Rattle.arena.specs.Heads.{head_of}
 use Rattle.arena.specs.Words.{node}
@@ -35,16 +37,17 @@ use Rattle.template.specs.declared.walk.WalkAt.TheVariants as places
 use Rattle.template.specs.declared.walk.WalkRun.{WalkRun}
 use Rattle.template.proofs.Lemmas.{BeginsNoTry, llx_begins_none, others_begin_none, own_begins, own_begins_none, vlx_begins_none, walk_begins_none, walk_fills_not, stood_inside}
 use Rattle.order.specs.Found.{AreThere, IsAtLowFork, Looks, StandsIn, TakesPair, more_at}
-use Rattle.order.specs.Known.{BeginsHere, IsLastTurn, ReadGoes, ReadIsReady, ReadIsToldAt, ReadWaits, ReadWaitsAt, RunStands, StandsInTry, Validates, Walks, WalksInTry}
+use Rattle.order.specs.Known.{AreLastTurns, BeginsHere, IsLastTurn, ReadGoes, ReadIsReady, ReadIsToldAt, ReadWaits, ReadWaitsAt, RunStands, StandsInTry, Validates, Walks, WalksInTry}
 use Rattle.order.specs.Laws.Depth.{fork_depth, head_fits}
 use Rattle.order.specs.Laws.Kept.{begins_more, in_try_more, in_try_now, load_begins_none, reads_anew, root_there, stood_more, whenever_more, reads_more, settled_more}
-use Rattle.order.specs.Loads.{first_in_leaf, load_node, load_part, load_value, load_word}
+use Rattle.order.specs.Loads.{load_node, load_part, load_value, load_word}
 use Rattle.order.specs.Meaning.{ReadMeaning}
 use Rattle.order.specs.Next.{MayLoad}
 use Rattle.order.specs.Paths.{HeadFits, LoadFits}
 use Rattle.order.specs.Reads.{HasStood}
 use Rattle.order.specs.Steps.{ReadFits, ReadFitsAt}
 use Rattle.order.specs.Tries.{IsInTry}
+use Rattle.order.specs.LastTurns.{no_turns, turn_to}
 use Rattle.order.specs.declared.load.LeafPlace.{LeafPlace}
 use Rattle.order.specs.declared.load.ReadLoad.{ReadLoad}
 use Rattle.order.specs.declared.load.ReadLoad.TheVariants as loads
@@ -52,6 +55,12 @@ use Rattle.order.specs.declared.read.Children.{Children}
 use Rattle.order.specs.declared.run.ReadAt.{ReadAt}
 use Rattle.order.specs.declared.run.ReadAt.TheVariants.{Start, Walk, Root, Load, Look, Validate}
 use Rattle.order.specs.declared.run.ReadRun.{ReadRun}
+use Rattle.order.specs.declared.last_turns.LastTurns.{LastTurns}
+
+-- a walk that has not turned has the root alone
+pub no_turn : (c : Call) (h : History) (k : ℕ) → AreLastTurns c h k no_turns
+no_turn c h k sides.Left = inl refl
+no_turn c h k sides.Right = inl refl
 
 module _ {R A : Type 0} (means : ReadMeaning R A) (m : ReadRun R) where
   -- One row more
@@ -64,19 +73,19 @@ module _ {R A : Type 0} (means : ReadMeaning R A) (m : ReadRun R) where
     there_more [] x = tt
     there_more (n ∷ ns) x = ((stood_more c h r n.0 x.0.0, deeper_more 0 n.0 x.0.0 x.0.1), there_more ns x.1)
 
-    last_more : (k n : ℕ) → IsLastTurn c h k n → IsLastTurn c (r ⊳ h) k n
-    last_more k n (inl e) = inl e
-    last_more k n (inr x) = inr record {
+    last_more : (k : ℕ) (side : Side) (n : ℕ) → IsLastTurn c h k side n → IsLastTurn c (r ⊳ h) k side n
+    last_more k side n (inl e) = inl e
+    last_more k side n (inr x) = inr record {
       passed = record { first = x.passed.first; own = x.passed.own; passed = walk_stays r h x.passed.first k n x.passed.passed };
       fork = settled_leaf (value h) (value (r ⊳ h)) n same ∙ x.fork;
-      left = settled_toward (value h) (value (r ⊳ h)) n k same ∙ x.left;
+      turn = settled_toward (value h) (value (r ⊳ h)) n k same ∙ x.turn;
     }
       where
         same : SameSettled (value h) (value (r ⊳ h)) n
         same = stood_settled c.layout (r ⊳ h) h n (g.0, run) (inr (ends_self h)) (was_passed h x.passed.first k n x.passed.passed)
 
-    walks_more : (walk : WalkRun) (turn : NodeNo) → Walks means m.read c h walk turn → Walks means m.read c (r ⊳ h) walk turn
-    walks_more walk turn x = record { key = x.key; goal = x.goal; goes_to = x.goes_to; last = last_more x.key turn.0 x.last }
+    walks_more : (walk : WalkRun) (side : Side) (turns : LastTurns) → Walks means m.read c h walk side turns → Walks means m.read c (r ⊳ h) walk side turns
+    walks_more walk side turns x = record { key = x.key; goal = x.goal; goes_to = x.goes_to; last = λ s. last_more x.key s (turn_to s turns).0 (x.last s) }
 
     stands_more : (n : ℕ) → RunStands means m c h n → RunStands means m c (r ⊳ h) n
     stands_more n x = record {
@@ -121,12 +130,12 @@ module _ {R A : Type 0} (means : ReadMeaning R A) (m : ReadRun R) where
     }
 
     pair_more : (p : LeafPlace) (key : ℕ) → TakesPair means m.read m.snaps.items c h p key → TakesPair means m.read m.snaps.items c (r ⊳ h) p key
-    pair_more p key x = record { stands = place_more p x.stands; key_is = settled_more c h r run p.node.0 g x.stands.stood (Settled (KeyWord p.slot)) tt ∙ x.key_is; takes = x.takes }
+    pair_more p key x = record { stands = place_more p x.stands; key_is = whenever_more c h r m.snaps.items _ x.key_is; takes = x.takes }
 
     load_more : (of : ReadLoad) → MayLoad means m.read m.snaps.items c h of → MayLoad means m.read m.snaps.items c (r ⊳ h) of
     load_more (loads.Head above n) x = (stands_more n.0 x.0, deeper_more above n.0 x.0.stood x.1)
     load_more (loads.Key low n) x = fork_more low n.0 x
-    load_more (loads.More n) x = subst (λ more. StandsIn means m.read m.snaps.items c (r ⊳ h) (first_in_leaf n more)) (sym (settled_more c h r run n.0 g x.stood (Settled MoreWord) tt)) (place_more (first_in_leaf n (more_at h n.0)) x)
+    load_more (loads.More n) x = subst (λ more. StandsIn means m.read m.snaps.items c (r ⊳ h) (record { node = n; more = more; slot = means.starts m.read more })) (sym (settled_more c h r run n.0 g x.stood (Settled MoreWord) tt)) (place_more (record { node = n; more = more_at h n.0; slot = means.starts m.read (more_at h n.0) }) x)
     load_more (loads.Pair p) x = place_more p x
     load_more (loads.Value p key) x = pair_more p key x
     load_more (loads.High p key low) x = (pair_more p key x.0, settled_more c h r run p.node.0 g x.0.stands.stood (Settled (ValueWord p.slot)) tt ∙ x.1)
@@ -141,7 +150,7 @@ module _ {R A : Type 0} (means : ReadMeaning R A) (m : ReadRun R) where
 
     kept_at : (s : Step) (at : ReadAt) → r.pass.0 ≢ c.pass → ReadWaitsAt means m c h s at → ReadWaitsAt means m c (r ⊳ h) s at
     kept_at s Start other w = w
-    kept_at s (Walk walk turn) other w = (walks_more walk turn w.0, walk_keeps walk c h s r run other w.1)
+    kept_at s (Walk walk side turns) other w = (walks_more walk side turns w.0, walk_keeps walk c h s r run other w.1)
     kept_at s Root other w = (stands_more 0 w.0, w.1)
     kept_at s (Load of) other w = (load_more of w.0, w.1)
     kept_at s (Look children low llx) other w = (looks_more children low llx.node.0 w.0, (w.1.0, w.1.1, llx_keeps TreeAllows llx (begun_at c w.1.0) h s r run other w.1.2))
@@ -151,12 +160,12 @@ module _ {R A : Type 0} (means : ReadMeaning R A) (m : ReadRun R) where
     begins_on : BeginsHere means m c h → BeginsHere means m c (r ⊳ h)
     begins_on x = (begins_more c h r m.limit m.tries idle none x.0, x.1, x.2)
 
-    walks_on : (turn : NodeNo) (p : WalkAt) → WalksInTry means m c h begin turn p → WalksInTry means m c (r ⊳ h) begin turn p
-    walks_on turn places.Root x = (begins_on x.0, x.1)
-    walks_on turn _ x = in_try_more c h r m.limit m.tries idle begin none x
+    walks_on : (turns : LastTurns) (p : WalkAt) → WalksInTry means m c h begin turns p → WalksInTry means m c (r ⊳ h) begin turns p
+    walks_on turns places.Root x = (begins_on x.0, x.1)
+    walks_on turns _ x = in_try_more c h r m.limit m.tries idle begin none x
 
     try_more : (at : ReadAt) → StandsInTry means m c h begin at → StandsInTry means m c (r ⊳ h) begin at
-    try_more (Walk walk turn) x = walks_on turn walk.at x
+    try_more (Walk walk side turns) x = walks_on turns walk.at x
     try_more Root x = begins_on x
     try_more _ x = in_try_more c h r m.limit m.tries idle begin none x
 
@@ -188,7 +197,7 @@ module _ {R A : Type 0} (means : ReadMeaning R A) (m : ReadRun R) where
 
   lawful_at : (c : Call) (h : History) (s : Step) (at : ReadAt) → IsTreeRun c.layout h → ReadWaitsAt means m c h s at → IsRun TreeAllows c.layout (row_of c s h ⊳ h)
   lawful_at c h s Start g w = absurd w
-  lawful_at c h s (Walk walk turn) g w = walk_lawful walk c h s g.1 w.1
+  lawful_at c h s (Walk walk side turns) g w = walk_lawful walk c h s g.1 w.1
   lawful_at c h s Root g w = load_on c h s 0 HeadWord g w.0.stood w.1
   lawful_at c h s (Load of) g w = load_on c h s (load_node of).0 (load_part of) g (load_stood c h of w.0) w.1
   lawful_at c h s (Look children low llx) g w = llx_lawful TreeAllows llx (begun_at c w.1.0) h s g.1 w.1.2
@@ -205,7 +214,7 @@ module _ {R A : Type 0} (means : ReadMeaning R A) (m : ReadRun R) where
 
   fills_not_at : (c : Call) (h : History) (s : Step) (at : ReadAt) → ReadWaitsAt means m c h s at → s.kind ≢ Fill
   fills_not_at c h s Start w = absurd w
-  fills_not_at c h s (Walk walk turn) w = walk_fills_not walk c h s w.1
+  fills_not_at c h s (Walk walk side turns) w = walk_fills_not walk c h s w.1
   fills_not_at c h s Root w = load_fills_not s (node 0 (Settled HeadWord)) w.1
   fills_not_at c h s (Load of) w = load_fills_not s (load_word of) w.1
   fills_not_at c h s (Look children low llx) w = llx_fills_not TreeAllows llx (begun_at c w.1.0) h s w.1.2
@@ -227,7 +236,7 @@ module _ {R A : Type 0} (means : ReadMeaning R A) (m : ReadRun R) where
 
   asks_at : (c : Call) (h : History) (s : Step) (at : ReadAt) → ReadWaitsAt means m c h s at → means.asks (means.call m.read)
   asks_at c h s Start w = absurd w
-  asks_at c h s (Walk walk turn) w = w.0.goes_to.asks
+  asks_at c h s (Walk walk side turns) w = w.0.goes_to.asks
   asks_at c h s Root w = w.0.asks
   asks_at c h s (Load of) w = load_asks c h of w.0
   asks_at c h s (Look children low llx) w = w.0.asks
@@ -245,7 +254,7 @@ module _ {R A : Type 0} (means : ReadMeaning R A) (m : ReadRun R) where
 
     made_at : (at : ReadAt) → ReadWaitsAt means m c h s at → ReadIsToldAt means m c (row_of c s h ⊳ h) v at
     made_at Start w = w
-    made_at (Walk walk turn) w = (walks_more c h r g run walk turn w.0, walk_made walk c h s v run t w.1)
+    made_at (Walk walk side turns) w = (walks_more c h r g run walk side turns w.0, walk_made walk c h s v run t w.1)
     made_at Root w = (stands_more c h r g run 0 w.0, load_told c h LoadSettled (node 0 (Settled HeadWord)) s v w.1 t)
     made_at (Load of) w = (load_more c h r g run of w.0, load_told c h LoadSettled (load_word of) s v w.1 t)
     made_at (Look children low llx) w = (looks_more c h r g run children low llx.node.0 w.0, (w.1.0, w.1.1, llx_made TreeAllows llx (begun_at c w.1.0) h s v run t w.1.2))
@@ -287,8 +296,8 @@ module _ {R A : Type 0} (means : ReadMeaning R A) (m : ReadRun R) where
       root_begins : ReadWaitsAt means m (begun_at c begin) h s Root → ReadyAt c made v Root
       root_begins w = begins_now Root w (record { stood = root_there (begun_at c h) h goes.reads.run (ends_self h); asks = w.0.asks; some = w.0.some; waits = rw try.2 tt; here = w.0.here }, w.1)
 
-    walk_begins : (begin : History) (walk : WalkRun) (turn : NodeNo) → walk.at ≡ places.Root → WalksInTry means m c h begin turn places.Root → ReadGoes means m (begun_at c begin) h → ReadWaitsAt means m (begun_at c begin) h s (Walk walk turn) → ReadyAt c made v (Walk walk turn)
-    walk_begins begin walk turn e try goes w = begins_now begin goes try.0 loads (Walk walk turn) w (record { key = w.0.key; goal = w.0.goal; goes_to = w.0.goes_to; last = inl try.1 }, again)
+    walk_begins : (begin : History) (walk : WalkRun) (side : Side) (turns : LastTurns) → walk.at ≡ places.Root → WalksInTry means m c h begin turns places.Root → ReadGoes means m (begun_at c begin) h → ReadWaitsAt means m (begun_at c begin) h s (Walk walk side turns) → ReadyAt c made v (Walk walk side turns)
+    walk_begins begin walk side turns e try goes w = begins_now begin goes try.0 loads (Walk walk side turns) w (record { key = w.0.key; goal = w.0.goal; goes_to = w.0.goes_to; last = rw try.1 (no_turn (begun_at c h) h w.0.key) }, again)
       where
         at_root : walk.trail.node.0 ≡ 0
         at_root = subst (WalkKnows (begun_at c begin) h walk) e w.1.known
@@ -299,14 +308,14 @@ module _ {R A : Type 0} (means : ReadMeaning R A) (m : ReadRun R) where
         again : WalkWaits walk (begun_at c h) h s
         again = record { run = w.1.run; small = w.1.small; since = ends_self h; known = subst (WalkKnows (begun_at c h) h walk) (sym e) at_root; asked = w.1.asked }
 
-    walk_told_in : (begin : History) (walk : WalkRun) (turn : NodeNo) (p : WalkAt) → walk.at ≡ p → WalksInTry means m c h begin turn p → ReadGoes means m (begun_at c begin) h → ReadWaitsAt means m (begun_at c begin) h s (Walk walk turn) → ReadyAt c made v (Walk walk turn)
-    walk_told_in begin walk turn places.Start e try goes w = absurd (subst (WalkKnows (begun_at c begin) h walk) e w.1.known)
-    walk_told_in begin walk turn places.Root e try goes w = walk_begins begin walk turn e try goes w
-    walk_told_in begin walk turn _ e try goes w = stays_in_try begin goes (Walk walk turn) try (walk_begins_none walk (begun_at c begin) h s (subst IsPastRoot (sym e) tt) w.1) w
+    walk_told_in : (begin : History) (walk : WalkRun) (side : Side) (turns : LastTurns) (p : WalkAt) → walk.at ≡ p → WalksInTry means m c h begin turns p → ReadGoes means m (begun_at c begin) h → ReadWaitsAt means m (begun_at c begin) h s (Walk walk side turns) → ReadyAt c made v (Walk walk side turns)
+    walk_told_in begin walk side turns places.Start e try goes w = absurd (subst (WalkKnows (begun_at c begin) h walk) e w.1.known)
+    walk_told_in begin walk side turns places.Root e try goes w = walk_begins begin walk side turns e try goes w
+    walk_told_in begin walk side turns _ e try goes w = stays_in_try begin goes (Walk walk side turns) try (walk_begins_none walk (begun_at c begin) h s (subst IsPastRoot (sym e) tt) w.1) w
 
     ready_at : (begin : History) (at : ReadAt) → StandsInTry means m c h begin at → ReadGoes means m (begun_at c begin) h → ReadWaitsAt means m (begun_at c begin) h s at → ReadyAt c made v at
     ready_at begin Start try goes w = absurd w
-    ready_at begin (Walk walk turn) try goes w = walk_told_in begin walk turn walk.at refl try goes w
+    ready_at begin (Walk walk side turns) try goes w = walk_told_in begin walk side turns walk.at refl try goes w
     ready_at begin Root try goes w = root_begins begin goes try w.1 w
     ready_at begin (Load of) try goes w = stays_in_try begin goes (Load of) try (load_begins_none means m.read m.snaps.items (begun_at c begin) h s of goes.reads.run w.0 w.1) w
     ready_at begin (Look children low llx) try goes w = stays_in_try begin goes (Look children low llx) try (llx_begins_none TreeAllows llx (begun_at c w.1.0) h s w.1.2) w
@@ -330,7 +339,7 @@ module _ {R A : Type 0} (means : ReadMeaning R A) (m : ReadRun R) where
 
   fits_at : (c : Call) (h : History) (v nodes : ℕ) (at : ReadAt) → IsTreeRun c.layout h → ReadIsToldAt means m c h v at → length (taken_nodes h) ≤ nodes → ReadFitsAt means m (Some v) nodes at
   fits_at c h v nodes Start g x few = absurd x
-  fits_at c h v nodes (Walk walk turn) g x few = walk_told walk c h (Some v) nodes g.1 x.1 few
+  fits_at c h v nodes (Walk walk side turns) g x few = walk_told walk c h (Some v) nodes g.1 x.1 few
   fits_at c h v nodes Root g x few = head_fits c.layout h 0 nodes (head_of v) g x.0.stood.stood (ap head_of x.1) few
   fits_at c h v nodes (Load of) g x few = load_fits c h v nodes of g x.0 x.1 few
   fits_at c h v nodes (Look children low llx) g x few =

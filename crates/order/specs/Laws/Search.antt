@@ -1,14 +1,15 @@
--- Where a search for the least key above k has come to, in the tree that the words show.
-use Rattle.std.specs.Prelude.{◌≡◌, ℕ, ◌^◌, true, Option, Some, None}
-use Rattle.arena.specs.declared.word.Slot.TheVariants.{First}
+-- Where a search for the next key on a side of k has come to, in the tree that the words show.
+use Rattle.std.specs.Prelude.{◌≡◌, ℕ, ◌^◌, ◌<◌, Option, Some, None}
+use Rattle.arena.specs.declared.number.NodeNo.{NodeNo}
+use Rattle.arena.specs.declared.word.Side.{Side}
 use Rattle.arena.specs.History.{History, value}
 use Rattle.ordered_map.specs.declared.pair.Pair.{Pair}
 use Rattle.ordered_map.specs.Holding.{held_from}
-use Rattle.ordered_map.specs.OrderedMap.{AllBelow, successor}
+use Rattle.ordered_map.specs.OrderedMap.{AllBelow, IsRising, end_pair, neighbour}
 use Rattle.ordered_map.specs.Spelled.{IsTree}
-use Rattle.ordered_map.specs.TreeWords.{Tree, root, Shows, class, is_leaf}
-use Rattle.ordered_map.proofs.Lemmas.{first_of, search_items}
-use Rattle.order.specs.Found.{more_at}
+use Rattle.ordered_map.specs.TreeWords.{Tree, root, Shows, opposite}
+use Rattle.ordered_map.proofs.Lemmas.{items, low_pair, or_else}
+use Rattle.order.specs.Found.{more_at, place_key, place_pair}
 use Rattle.order.specs.declared.load.LeafPlace.{LeafPlace}
 
 -- the part of the tree whose root is the node n
@@ -19,40 +20,41 @@ pub record IsPartAt (h : History) (n : ℕ) : Type 0 where
   pub shows : Shows (value h) low high tree
   pub is : root tree ≡ n
 
--- It is the search below the node n, which is on the path of k. Where no key there is above k, the
--- first leaf below `right` is the next one.
-pub record IsSearched (h : History) (k n right : ℕ) : Type 0 where
+-- in the whole tree the search finds this, where what is above all keys counts too
+pub record Finds (h : History) (side : Side) (k : ℕ) (found : Option Pair) : Type 0 where
   pub tree : Tree
   pub is_tree : IsTree (value h) tree
+  pub finds : neighbour side k (items (value h) tree) ≡ found
+
+-- that is what it finds below the node n, which is on the path of k; or else this
+pub record IsSearched (h : History) (side : Side) (k n : ℕ) (rest : Option Pair) : Type 0 where
   pub part : IsPartAt h n
-  pub behind : IsPartAt h right
-  pub finds : search_items (value h) k tree None ≡ search_items (value h) k part.tree (first_of (value h) behind.tree)
+  pub finds : Finds h side k (or_else (neighbour side k (items (value h) part.tree)) rest)
 
--- the pair that was found, or else the other
-abbrev pub or_next : Option Pair → Option Pair → Option Pair
-or_next None next = next
-or_next (Some p) next = Some p
+-- this is the near end of what is beside the path, below the node n; where no node is, there is none
+abbrev pub IsBeside : History → Side → Option NodeNo → Option Pair → Type 0
+IsBeside h side None rest = rest ≡ None
+IsBeside h side (Some n) rest = (part : IsPartAt h n.0) × (rest ≡ end_pair (opposite side) (items (value h) part.tree))
 
--- It is the search in a leaf on the path of k, from this place on. Where no key there is above k, the
--- first leaf below `right` is the next one.
-pub record IsSearchedIn (h : History) (k : ℕ) (p : LeafPlace) (right : ℕ) : Type 0 where
-  pub tree : Tree
-  pub is_tree : IsTree (value h) tree
-  pub behind : IsPartAt h right
+-- what it finds is the near end of what is below the node n
+pub record IsEndBelow (h : History) (side : Side) (k n : ℕ) : Type 0 where
+  pub part : IsPartAt h n
+  pub finds : Finds h side k (end_pair (opposite side) (items (value h) part.tree))
+
+-- It is what it finds from this place of a leaf on; or else this.
+pub record IsSearchedIn (h : History) (side : Side) (k : ℕ) (p : LeafPlace) (rest : Option Pair) : Type 0 where
   pub more : more_at h p.node.0 ≡ p.more
   pub small : AllBelow (2 ^ 64) (held_from (value h) p.node.0 p.slot)
-  pub finds : search_items (value h) k tree None ≡ or_next (successor k (held_from (value h) p.node.0 p.slot)) (first_of (value h) behind.tree)
+  pub rises : IsRising (held_from (value h) p.node.0 p.slot)
+  pub finds : Finds h side k (or_else (neighbour side k (held_from (value h) p.node.0 p.slot)) rest)
 
--- it ends at the first leaf below the node n
-pub record IsFirstBehind (h : History) (k n : ℕ) : Type 0 where
-  pub tree : Tree
-  pub is_tree : IsTree (value h) tree
-  pub part : IsPartAt h n
-  pub finds : search_items (value h) k tree None ≡ first_of (value h) part.tree
+-- it is the pair at this place
+pub record IsAnswer (h : History) (side : Side) (k : ℕ) (p : LeafPlace) : Type 0 where
+  pub small : place_key h p < 2 ^ 64
+  pub finds : Finds h side k (Some (place_pair h p))
 
--- it ends at this leaf of class 0, with the first pair
-pub record IsFirstIn (h : History) (k : ℕ) (p : LeafPlace) : Type 0 where
-  pub first : IsFirstBehind h k p.node.0
-  pub leaf : is_leaf (value h) p.node.0 ≡ true
-  pub low : class (value h) p.node.0 ≡ 0
-  pub slot : p.slot ≡ First
+-- it is none that the map has
+pub record FindsNone (h : History) (side : Side) (k : ℕ) : Type 0 where
+  pub found : Option Pair
+  pub none : low_pair found ≡ None
+  pub finds : Finds h side k found

@@ -3,7 +3,7 @@ use Rattle.arena.specs.declared.layout.Layout.{Layout}
 use Rattle.arena.specs.History.{History}
 use Rattle.arena.specs.Log.{Entry as Entered}
 use Rattle.ordered_map.specs.CallRules.{MayReply, call_rules, form_of, most_nodes, most_scx, most_steps}
-use Rattle.ordered_map.specs.OrderedMap.{MapCall, Edit, Get, Successor, Range}
+use Rattle.ordered_map.specs.OrderedMap.{MapCall, Edit, Get, Neighbour, Range}
 use Rattle.ordered_map.specs.Requests.{tells_change}
 use Rattle.record.specs.declared.record.Answer.{Answer}
 use Rattle.record.specs.declared.record.Answer.TheVariants.{Map}
@@ -12,8 +12,8 @@ use Rattle.record.specs.Placed.{IsPlacedOnMap}
 use Rattle.record.specs.Rules.{Rules, MapRules}
 use Rattle.record.specs.Rules.Edit.{IsEditEntry, edit_rules}
 use Rattle.record.specs.Rules.Get.{get_rules}
+use Rattle.record.specs.Rules.Neighbour.{neighbour_rules}
 use Rattle.record.specs.Rules.Range.{range_rules}
-use Rattle.record.specs.Rules.Successor.{successor_rules}
 
 -- after a step it gives a reply of the map, of a form that the call may give
 abbrev pub RepliesAfterStep : MapCall → Answer → Type 0
@@ -29,7 +29,7 @@ IsMapEntry _ lay before e = ⊥
 abbrev pub own_rules : MapCall → MapRules
 own_rules (Edit goal rule) = edit_rules (Edit goal rule)
 own_rules (Get key) = get_rules key
-own_rules (Successor key) = successor_rules
+own_rules (Neighbour side key) = neighbour_rules
 own_rules (Range low high most) = range_rules low high most
 
 -- What it may do and take are the call's own rules. It leaves snapshots alone, and took place where

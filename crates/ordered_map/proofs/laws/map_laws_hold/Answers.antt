@@ -1,4 +1,4 @@
-use Rattle.ordered_map.proofs.Maps.{inserted, insert_keeps, deleted, delete_keeps, edited_rises, same_values, after_insert, after_delete, after_pop, after_rule, successor_is, between_gives, between_rises, end_is, after_pop_last}
+use Rattle.ordered_map.proofs.Maps.{inserted, insert_keeps, deleted, delete_keeps, edited_rises, same_values, after_insert, after_delete, after_pop, after_rule, neighbour_is, between_gives, between_rises, end_is, after_pop_last}
 use Rattle.ordered_map.proofs.laws.map_laws_hold.Goals as goal
 
 pub returns-clause-inserted : goal.returns-clause-inserted
@@ -37,8 +37,8 @@ returns-clause-after_pop_last c = after_pop_last
 pub returns-clause-after_rule : goal.returns-clause-after_rule
 returns-clause-after_rule c = after_rule
 
-pub returns-clause-successor : goal.returns-clause-successor
-returns-clause-successor c = successor_is
+pub returns-clause-neighbours : goal.returns-clause-neighbours
+returns-clause-neighbours c = neighbour_is
 
 pub returns-clause-between : goal.returns-clause-between
 returns-clause-between c = between_gives

@@ -3,9 +3,9 @@ use Rattle.template.specs.FoundLeaf.{HasFoundGoal}
 use Rattle.template.proofs.Lemmas.{walk_ready_run}
 use Rattle.edits.specs.Laws.Update.{update_spends}
 use Rattle.dict.specs.Known.{MapIsReady}
-use Rattle.dict.specs.declared.run.MapRun.TheVariants.{Edit, Get, Successor, Range}
-use Rattle.dict.specs.Inner.{edit_means, range_kind, successor_kind}
-use Rattle.dict.specs.Laws.Kinds.{range_is, successor_is}
+use Rattle.dict.specs.declared.run.MapRun.TheVariants.{Edit, Get, Neighbour, Range}
+use Rattle.dict.specs.Inner.{edit_means, range_kind, neighbour_kind}
+use Rattle.dict.specs.Laws.Kinds.{range_is, neighbour_is}
 use Rattle.dict.proofs.Ends.{edit_goes, edit_ends, get_ends, read_ends, stands_once, tried_once}
 use Rattle.dict.proofs.run.MapRun.next.Goals as goal
 
@@ -29,8 +29,8 @@ returns-in-Ask-next-clause-turn g c tries d h run ready =
 
 pub returns-in-Done-step-clause-turn : goal.returns-in-Done-step-clause-turn
 returns-in-Done-step-clause-turn g c tries d h run ready =
-    let r : MapIsReady tries (Successor c.in-Successor.run' c.in-Successor.share) d h c.args.got = rw c.in-Successor.is at ready in
-    (_, read_ends tries d h successor_kind successor_is c.step-in-Successor.new.self c.in-Successor.share c.in-Done-step.told r.1.1 r.0.spent (c.step-in-Successor.ensures.same.1 ∙ r.0.limit) (c.in-Done-step.ensures.turn d h r.1.0), c.of_successor.ensures)
+    let r : MapIsReady tries (Neighbour c.in-Neighbour.run' c.in-Neighbour.share) d h c.args.got = rw c.in-Neighbour.is at ready in
+    (_, read_ends tries d h neighbour_kind neighbour_is c.step-in-Neighbour.new.self c.in-Neighbour.share c.in-Done-step.told r.1.1 r.0.spent (c.step-in-Neighbour.ensures.same.1 ∙ r.0.limit) (c.in-Done-step.ensures.turn d h r.1.0), c.of_neighbour.ensures)
 
 pub returns-in-Done-step-2-clause-turn : goal.returns-in-Done-step-2-clause-turn
 returns-in-Done-step-2-clause-turn g c tries d h run ready =
@@ -45,8 +45,8 @@ returns-in-Ask-clause-turn g c tries d h run ready =
 
 pub returns-in-Ask-step-clause-turn : goal.returns-in-Ask-step-clause-turn
 returns-in-Ask-step-clause-turn g c tries d h run ready =
-    let r : MapIsReady tries (Successor c.in-Successor.run' c.in-Successor.share) d h c.args.got = rw c.in-Successor.is at ready in
-    (record { mode = r.0.mode; small = tt; number = tt; limit = c.step-in-Successor.ensures.same.1 ∙ r.0.limit; spent = r.0.spent }, (c.in-Ask-step.ensures.turn d h r.1.0, r.1.1))
+    let r : MapIsReady tries (Neighbour c.in-Neighbour.run' c.in-Neighbour.share) d h c.args.got = rw c.in-Neighbour.is at ready in
+    (record { mode = r.0.mode; small = tt; number = tt; limit = c.step-in-Neighbour.ensures.same.1 ∙ r.0.limit; spent = r.0.spent }, (c.in-Ask-step.ensures.turn d h r.1.0, r.1.1))
 
 pub returns-in-Ask-step-2-clause-turn : goal.returns-in-Ask-step-2-clause-turn
 returns-in-Ask-step-2-clause-turn g c tries d h run ready =

@@ -14,7 +14,7 @@ returns-in-Start-clause-begins g c none asks d h r = c.begin.ensures.begins asks
 
 pub returns-in-Walk-clause-turn : goal.returns-in-Walk-clause-turn
 returns-in-Walk-clause-turn g c d h r =
-    let t = at_walk g.R.Read.means c.args.self.now d h c.args.got c.in-Walk.walk c.in-Walk.turn c.in-Walk.is r in
+    let t = at_walk g.R.Read.means c.args.self.now d h c.args.got c.in-Walk.walk c.in-Walk.side c.in-Walk.turns c.in-Walk.is r in
     let w = t.2 in
     let walks = w.4.0 in
     c.walk_on.ensures.turn d w.0 h walks.key t.0 t.1 w.1 w.2 walks.goal walks.goes_to walks.last w.4.1

@@ -1,5 +1,0 @@
-use Rattle.order.proofs.Finding.{low_looks}
-use Rattle.order.proofs.successor.SuccessorRead.key_on.Goals as goal
-
-pub returns-clause-goes_on : goal.returns-clause-goes_on
-returns-clause-goes_on c snaps d h reading own x is = rw c.children-children.ensures (low_looks c.args.self.now snaps d h c.args.level c.args.node.0 c.args.key reading x is)
