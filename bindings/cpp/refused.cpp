@@ -72,6 +72,8 @@ static bool story() {
         else all = false;
         if (is_done([&] { next = passes[1].successor(2 * k); })) CHECK(next ? next->first == 2 * k + 2 : k == 89);
         else all = false;
+        if (is_done([&] { next = passes[1].predecessor(2 * k); })) CHECK(next ? next->first == 2 * k - 2 : k == 0);
+        else all = false;
         CHECK(passes[2].get(2 * k) == regnubas::value(k, ~(2 * k)));
     }
     for (std::size_t i = 1; i < 3; i++) passes[i].leave();

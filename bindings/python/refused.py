@@ -21,6 +21,10 @@ def story():
         except regnubas.NoMemory:
             refused += 1
         try:
+            assert other.predecessor(2 * key + 1) == (2 * key, key)
+        except regnubas.NoMemory:
+            refused += 1
+        try:
             assert list(other.irange(2 * key)) == list(range(2 * key, 180, 2))
         except regnubas.NoMemory:
             refused += 1

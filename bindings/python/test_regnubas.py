@@ -79,7 +79,7 @@ def test_what_is_refused():
         refused(TypeError, regnubas.make, 1, **named)
     [one] = regnubas.make(1, nodes=3, scx=1, tries=1)
     assert one.pop_first() is None and one.pop_last() is None and one.left() == (3, 1)
-    for call in one.get, one.pop, one.__contains__, one.__getitem__, one.successor, one.delete:
+    for call in one.get, one.pop, one.__contains__, one.__getitem__, one.successor, one.predecessor, one.delete:
         refused(OverflowError, call, 2**64)
         refused(OverflowError, call, -1)
         refused(TypeError, call, "5")

@@ -55,6 +55,7 @@ def _load() -> ctypes.CDLL:
         ("pop_first", c_uint32, [one, room]),
         ("pop_last", c_uint32, [one, room]),
         ("successor", c_uint32, [one, word, room]),
+        ("predecessor", c_uint32, [one, word, room]),
         ("range", Count, [one, word, word, room, c_size_t]),
         ("left", Share, [one]),
         ("leave", None, [one]),

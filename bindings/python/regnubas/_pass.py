@@ -130,6 +130,16 @@ class Pass(MutableMapping[int, int]):
         """
         return self._found(library.regnubas_successor, word(key))
 
+    def predecessor(self, key: int) -> tuple[int, int] | None:
+        """The pair with the greatest key below this one, or None.
+
+        >>> [m] = make(threads=1, changes=10)
+        >>> m.update({5: 50, 9: 90})
+        >>> m.predecessor(9), m.predecessor(5)
+        ((5, 50), None)
+        """
+        return self._found(library.regnubas_predecessor, word(key))
+
     def _listed(self, call: Callable[..., Any], most: int, *arguments: int) -> list[tuple[int, int]]:
         room = (Pair * most)()
         count = self._call(call, *arguments, room, most)

@@ -72,6 +72,7 @@ extern "C" {
     pub fn regnubas_pop_first(pass: *mut RawPass, pair: *mut Pair) -> u32;
     pub fn regnubas_pop_last(pass: *mut RawPass, pair: *mut Pair) -> u32;
     pub fn regnubas_successor(pass: *mut RawPass, key: u64, pair: *mut Pair) -> u32;
+    pub fn regnubas_predecessor(pass: *mut RawPass, key: u64, pair: *mut Pair) -> u32;
     pub fn regnubas_range(
         pass: *mut RawPass,
         low: u64,

@@ -215,6 +215,19 @@ impl Pass {
         pair_of(|pair| unsafe { regnubas_successor(&mut self.raw, key, pair) })
     }
 
+    /// The pair with the greatest key below this one.
+    ///
+    /// ```
+    /// # let mut pass = regnubas::make(1, regnubas::Limits::for_changes(10, 10))?.remove(0);
+    /// pass.insert(9, 90)?;
+    /// pass.insert(5, 50)?;
+    /// assert_eq!((pass.predecessor(9)?, pass.predecessor(5)?), (Some((5, 50)), None));
+    /// # Ok::<(), regnubas::Fault>(())
+    /// ```
+    pub fn predecessor(&mut self, key: u64) -> Result<Option<(u64, u128)>, Fault> {
+        pair_of(|pair| unsafe { regnubas_predecessor(&mut self.raw, key, pair) })
+    }
+
     /// The pairs with these keys, by rising key. See [`Range`] for what is of one moment. Where no
     /// key is in the range, there is none.
     ///

@@ -55,6 +55,8 @@ fn compare(pass: &mut Pass, map: &mut BTreeMap<u64, u128>, draws: &mut Draws) {
         pass.first_key_value(),
         Ok(map.first_key_value().map(|(&key, &value)| (key, value)))
     );
+    let below = map.range(..key).next_back();
+    assert_eq!(pass.predecessor(key), Ok(below.map(|(&key, &value)| (key, value))));
     let above = map.range((Bound::Excluded(key), Bound::Unbounded)).next();
     assert_eq!(pass.successor(key), Ok(above.map(|(&key, &value)| (key, value))));
 }

@@ -84,6 +84,10 @@ fn story() -> Result<(), Fault> {
             Err(fault) => refused = Err(fault),
             found => assert_eq!(found, Ok(Some((2 * key + 2, u128::from(key) + 1)))),
         }
+        match passes[1].predecessor(2 * key + 1) {
+            Err(fault) => refused = Err(fault),
+            found => assert_eq!(found, Ok(Some((2 * key, u128::from(key))))),
+        }
         match passes[1].range(2 * key..).collect::<Result<Vec<_>, _>>() {
             Err(fault) => refused = Err(fault),
             Ok(pairs) => assert_eq!(pairs.len() as u64, 90 - key),

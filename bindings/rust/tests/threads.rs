@@ -32,6 +32,9 @@ fn work(number: u64, mut pass: Pass) -> Pass {
         if let Some((next, _)) = again(|| pass.successor(key)).unwrap() {
             assert!(next > key);
         }
+        if let Some((previous, _)) = again(|| pass.predecessor(key)).unwrap() {
+            assert!(previous < key);
+        }
         let pairs = again(|| pass.snapshot(key.., 16)).unwrap();
         assert!(pairs.len() <= 16 && pairs.iter().all(|pair| pair.0 > key));
         assert!(pairs.windows(2).all(|two| two[0].0 < two[1].0));
