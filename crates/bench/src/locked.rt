@@ -233,7 +233,9 @@ fn behind(map: &BTreeMap<u64, u64>, key: u64) -> Option<(u64, u64)> {
 
 /// The pair before a key.
 fn before(map: &BTreeMap<u64, u64>, key: u64) -> Option<(u64, u64)> {
-    map.range(..key).next_back().map(|(key, value)| (*key, *value))
+    map.range(..key)
+        .next_back()
+        .map(|(key, value)| (*key, *value))
 }
 
 /// The first 64 pairs from a key on.

@@ -1,6 +1,7 @@
 //! Calls by passes that take turns.
 use super::call::Call::{
-    Delete, DeleteIf, Get, Insert, InsertNew, PopFirst, PopLast, Predecessor, Range, ReplaceIf, Successor,
+    Delete, DeleteIf, Get, Insert, InsertNew, PopFirst, PopLast, Predecessor, Range, ReplaceIf,
+    Successor,
 };
 use super::call::meet;
 use super::rows::Says::{Pair, Pairs, Value};

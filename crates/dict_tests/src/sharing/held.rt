@@ -4,7 +4,8 @@ ghost use Rattle.forest.specs.Passes.{IsOf};
 
 use super::call::Call;
 use super::call::Call::{
-    Delete, DeleteIf, Get, Insert, InsertNew, PopFirst, PopLast, Predecessor, Range, ReplaceIf, Successor,
+    Delete, DeleteIf, Get, Insert, InsertNew, PopFirst, PopLast, Predecessor, Range, ReplaceIf,
+    Successor,
 };
 use super::rows::Says::{Pair, Pairs, Value};
 use super::rows::{Row, Told, make_all};

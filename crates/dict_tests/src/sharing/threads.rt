@@ -4,8 +4,8 @@ ghost use Rattle.std.specs.List.{All};
 ghost use Rattle.forest.specs.Passes.{IsOf};
 
 use super::call::Call::{
-    self, Delete, DeleteIf, Get, Insert, InsertNew, PopFirst, PopLast, Predecessor, Range, ReplaceIf,
-    Successor,
+    self, Delete, DeleteIf, Get, Insert, InsertNew, PopFirst, PopLast, Predecessor, Range,
+    ReplaceIf, Successor,
 };
 use super::call::pairs_told;
 use super::held::Numbers;
