@@ -6,7 +6,7 @@ use Rattle.arena.specs.declared.layout.Layout.{Layout}
 use Rattle.arena.specs.declared.limits.Mode.TheVariants.{Tree}
 use Rattle.arena.specs.History.{History, Extends}
 use Rattle.arena.specs.Share.{Remaining}
-use Rattle.ordered_map.specs.OrderedMap.{MapCall, Edit, Get, Range, Successor, MapReply}
+use Rattle.ordered_map.specs.OrderedMap.{MapCall, Edit, Get, Range, Neighbour, MapReply}
 use Rattle.ordered_map.specs.Runs.{IsTreeRun}
 use Rattle.prims.specs.Laws.Begun.{taken_since}
 use Rattle.prims.specs.Shares.{IsShare}
@@ -104,7 +104,7 @@ module _ {K V : Type 0} (valid_key : K → Type 0) (key : K → ℕ) (valid_valu
 
   -- an ordered read is of a typed call
   pub typed_read : (call : MapCall) → KeepsLists call → IsTypedCall keys values call
-  typed_read (Successor key) x = tt
+  typed_read (Neighbour side key) x = tt
   typed_read (Range low high most) x = tt
   typed_read (Edit goal rule) x = absurd x
   typed_read (Get key) x = absurd x

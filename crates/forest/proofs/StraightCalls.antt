@@ -33,11 +33,11 @@ use Rattle.ordered_map.specs.declared.rule.Goal.{Goal}
 use Rattle.ordered_map.specs.declared.rule.Rule.{Rule}
 use Rattle.tree.specs.KeyEdit.Means.{key_means}
 use Rattle.tree.specs.declared.key_edit.KeyEdit.{KeyEdit}
-use Rattle.dict.specs.Inner.{InnerRun, Read, ReadKind, Update, by_values, inner, range_kind, successor_kind}
+use Rattle.dict.specs.Inner.{InnerRun, Read, ReadKind, Update, by_values, inner, neighbour_kind, range_kind}
 use Rattle.dict.specs.Known.{Goes, HasRested, InnerAnswers, IsReadyInside, StandsAtStart, WaitsInside}
-use Rattle.dict.specs.Laws.Kinds.{IsReadKind, range_is, successor_is}
+use Rattle.dict.specs.Laws.Kinds.{IsReadKind, neighbour_is, range_is}
 use Rattle.dict.specs.declared.run.MapRun.{MapRun}
-use Rattle.dict.specs.declared.run.MapRun.TheVariants.{Edit, Successor, Range}
+use Rattle.dict.specs.declared.run.MapRun.TheVariants.{Edit, Neighbour, Range}
 use Rattle.dict.specs.Translated.{IsReplyOf}
 use Rattle.dict.specs.WordReplies.{WordReply, edit_reply, read_reply}
 use Rattle.ordered_map.specs.declared.reply.Reply.{Reply}
@@ -58,8 +58,8 @@ pub record DictRead : Type 1 where
   pub around : ReadRun kind.R → Remaining → MapRun
   pub inside : (m : ReadRun kind.R) (share : Remaining) → inner (around m share) ≡ Read kind m share
 
-abbrev pub successors : DictRead
-successors = record { kind = successor_kind; is = successor_is; around = λ m share. Successor m share; inside = λ m share. refl }
+abbrev pub neighbours : DictRead
+neighbours = record { kind = neighbour_kind; is = neighbour_is; around = λ m share. Neighbour m share; inside = λ m share. refl }
 
 abbrev pub ranges : DictRead
 ranges = record { kind = range_kind; is = range_is; around = λ m share. Range m share; inside = λ m share. refl }

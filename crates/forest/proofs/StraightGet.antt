@@ -3,7 +3,6 @@ use Rattle.std.proofs.Common.{◌≡◌, ℕ, List, ◌^◌, ◌<◌, Option, No
 use Rattle.std.specs.Option.{option_map}
 use Rattle.arena.specs.declared.layout.Layout.{Layout}
 use Rattle.arena.specs.declared.limits.Mode.TheVariants.{Tree}
-use Rattle.arena.specs.declared.number.NodeNo.{NodeNo}
 use Rattle.arena.specs.declared.step.Kind.TheVariants.{LoadSettled}
 use Rattle.arena.specs.declared.step.Step.{Step}
 use Rattle.arena.specs.declared.word.NodeWord.TheVariants.{Settled}
@@ -30,6 +29,8 @@ use Rattle.dict.specs.declared.dict.DictRun.{DictRun}
 use Rattle.dict.specs.WordReplies.{WordReply}
 use Rattle.ordered_map.specs.declared.reply.Reply.TheVariants as replies
 use Rattle.dict.proofs.Lemmas.{get_ends, dict_ends, none_tried, once_past}
+use Rattle.order.specs.LastTurns.{no_turns}
+use Rattle.order.specs.declared.last_turns.LastTurns.{LastTurns}
 use Rattle.forest.specs.declared.pass.Pass.TheInside.{Inside}
 use Rattle.forest.specs.declared.view.SeatedPass.{SeatedPass}
 use Rattle.forest.specs.declared.view.SeatView.{SeatView}
@@ -76,7 +77,7 @@ module _ {K V : Type 0} (valid_key : K → Type 0) (key : K → ℕ) (valid_valu
 
   -- its machine waits for the head of the root
   pub get_walks : {T : Type 0} (p : Inside T) (x : IsPass allows Tree p) (tries wanted number : ℕ) (layout : Layout) (is_layout : p.layout ≡ layout) (is_number : taken_of (pass_view p) ≡ number) → wanted < 2 ^ 64
-      → WalkerWaits (walker p.share tries wanted (call_of p x (taken_of (pass_view p))) layout number is_layout is_number) p.seat.me.0.passes (walk_from (ToKey wanted)) record { 0 = 0 } (load LoadSettled (node 0 (Settled Head)))
+      → WalkerWaits (walker p.share tries wanted (call_of p x (taken_of (pass_view p))) layout number is_layout is_number) p.seat.me.0.passes (walk_from (ToKey wanted)) no_turns (load LoadSettled (node 0 (Settled Head)))
   unfolding walker
   get_walks p x tries wanted number layout is_layout is_number small =
       let first : DictRun K V = getting p.share tries wanted (walk_at (ToKey wanted) root_trail Start) in
@@ -91,7 +92,7 @@ module _ {K V : Type 0} (valid_key : K → Type 0) (key : K → ℕ) (valid_valu
   same_told (Some w) v e t = ap (λ (o : Option ℕ). Some (OneValue o)) (e t)
 
   -- what its walk finds, it answers
-  pub get_ended : (share : Remaining) (tries wanted number : ℕ) (layout : Layout) (c : Call) (is_layout : c.layout ≡ layout) (is_number : c.number ≡ number) (ps : List SeatedPass) (turn : NodeNo) (f : Found) (v : Option V) → c.layout.mode ≡ Tree → IfSome v valid_value → (IfSome f.value (IsWordOf valid_value value_word) → option_map value_word v ≡ f.value)
+  pub get_ended : (share : Remaining) (tries wanted number : ℕ) (layout : Layout) (c : Call) (is_layout : c.layout ≡ layout) (is_number : c.number ≡ number) (ps : List SeatedPass) (turn : LastTurns) (f : Found) (v : Option V) → c.layout.mode ≡ Tree → IfSome v valid_value → (IfSome f.value (IsWordOf valid_value value_word) → option_map value_word v ≡ f.value)
       → (x : WalkerFinds (walker share tries wanted c layout number is_layout is_number) ps (ToKey wanted) turn f)
       → HoldsForCall allows ps c (λ h. DictAnswers valid_key key valid_value value_word (getting share tries wanted x.last) c h (replies.Value v) × Trace allows waits same c (getting share tries wanted (walk_at (ToKey wanted) root_trail Start)) (getting share tries wanted x.last) h)
   unfolding walker
@@ -106,7 +107,7 @@ module _ {K V : Type 0} (valid_key : K → Type 0) (key : K → ℕ) (valid_valu
           (get_ends tries c h wanted x.last share f (rw x.is_goal at t.small) r.1.1.1 r.1.0.spent found r.1.1.0.2) record { valid = valid; says = λ typed. same_told f.value v same_word typed; form = inl refl }
 
   -- and so it has ended, where a walk that waits for the head of the root finds that
-  pub get_over : {T : Type 0} (p : Inside T) (x : IsPass allows Tree p) (s : Seat ℕ SeatView) (tries wanted number : ℕ) (layout : Layout) → p.layout ≡ layout → taken_of (pass_view p) ≡ number → wanted < 2 ^ 64 → (turn : NodeNo) (f : Found) (v : Option V) → IfSome v valid_value → (IfSome f.value (IsWordOf valid_value value_word) → option_map value_word v ≡ f.value)
+  pub get_over : {T : Type 0} (p : Inside T) (x : IsPass allows Tree p) (s : Seat ℕ SeatView) (tries wanted number : ℕ) (layout : Layout) → p.layout ≡ layout → taken_of (pass_view p) ≡ number → wanted < 2 ^ 64 → (turn : LastTurns) (f : Found) (v : Option V) → IfSome v valid_value → (IfSome f.value (IsWordOf valid_value value_word) → option_map value_word v ≡ f.value)
       → ((w : Walker (dict_calls valid_key key valid_value value_word layout number)) → WalksFromRoot w p.seat.me.0.passes (ToKey wanted) → WalkerFinds w s.me.0.passes (ToKey wanted) turn f)
       → (last : WalkRun) × HoldsForCall allows s.me.0.passes (call_of p x (taken_of (pass_view p))) (λ h. Answered valid_key key valid_value value_word p x s (getting p.share tries wanted last) (replies.Value v) h × Trace allows waits same (call_of p x (taken_of (pass_view p))) (getting p.share tries wanted (walk_at (ToKey wanted) root_trail Start)) (getting p.share tries wanted last) h)
   get_over p x s tries wanted number layout is_layout is_number small turn f v valid same_word finds =

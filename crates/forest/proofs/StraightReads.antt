@@ -3,6 +3,7 @@ use Rattle.std.proofs.Common.{◌≡◌, ◌∙◌, ℕ, suc, ◌+◌, ◌-◌, 
 use Rattle.std.specs.Prelude.{Err}
 use Rattle.arena.specs.declared.machine.Turn.{Turn}
 use Rattle.arena.specs.declared.machine.Turn.TheVariants.{Ask, Done}
+use Rattle.arena.specs.declared.word.Side.{Side}
 use Rattle.arena.specs.declared.number.NodeNo.{NodeNo}
 use Rattle.arena.specs.declared.number.ScxNo.{ScxNo}
 use Rattle.arena.specs.declared.step.Kind.TheVariants.{LoadInfo, LoadMarked, LoadSettled, LoadState}
@@ -21,10 +22,9 @@ use Rattle.order.specs.Next.{MayDo, MayLoad}
 use Rattle.order.specs.Paths.{BeginsNear, ComesNearer, HeadFits, LoadFits, load_left}
 use Rattle.order.specs.Places.{GoesOn, MayGoOn, RunComesNearer, next_step, placed}
 use Rattle.order.specs.Tries.{IsInTry}
-use Rattle.order.specs.Steps.{ReadFits, last_turn, phase_left, read_left, run_try_left, tries_left}
+use Rattle.order.specs.Steps.{ReadFits, phase_left, read_left, run_try_left, tries_left}
 use Rattle.order.specs.declared.load.ReadLoad.{ReadLoad}
 use Rattle.order.specs.declared.read.Children.{Children}
-use Rattle.order.specs.declared.read.Children.TheVariants.{Both}
 use Rattle.order.specs.declared.read.ReadBegin.TheVariants.{Walk as Walking, Root as AtRoot, Answer}
 use Rattle.order.specs.declared.read.ReadNext.{ReadNext}
 use Rattle.order.specs.declared.read.ReadNext.TheVariants.{Load as LoadNext, Look as LookNext, Validate as ValidateNext}
@@ -47,6 +47,8 @@ use Rattle.template.specs.Walk.Places.{walk_from}
 use Rattle.template.specs.declared.walk.Found.{Found}
 use Rattle.ordered_map.specs.declared.rule.Goal.TheVariants.{Key as ToKey}
 use Rattle.template.specs.declared.walk.WalkRun.{WalkRun}
+use Rattle.order.specs.declared.last_turns.LastTurns.{LastTurns}
+use Rattle.order.specs.LastTurns.{first_children, last_turns, no_turns, turn_to}
 use Rattle.forest.specs.declared.view.SeatedPass.{SeatedPass}
 use Rattle.forest.specs.CallKinds.{Calls}
 use Rattle.forest.specs.Hosts.{HostedIsTold, HostedStands, HostedWaits}
@@ -268,9 +270,9 @@ module _ {M R A : Type 0} {o : Calls M} {means : ReadMeaning R A} (r : Reader o 
     some_snap ps x = let w = r.opens (placed m ValidateNext) _ _ x.so.0 in let i = w.3.2.looks.within in rw e (omega (arith, i))
 
   -- It walks to a key
-  module _ (m : ReadRun R) (key : ℕ) (to : WalksTo means m.read key) where
-    abbrev walking : WalkRun → NodeNo → ReadRun R
-    walking walk turn = record m { at = Walk walk turn }
+  module _ (m : ReadRun R) (key : ℕ) (side : Side) (to : WalksTo means m.read key side) where
+    abbrev walking : WalkRun → LastTurns → ReadRun R
+    walking walk turns = record m { at = Walk walk side turns }
 
     pub walker : Walker o
     walker = record {
@@ -283,23 +285,23 @@ module _ {M R A : Type 0} {o : Calls M} {means : ReadMeaning R A} (r : Reader o 
       turns = λ old now h v s goes next run x.
           let y = r.tells (walking old.0 old.1) h (Some v) x in
           let w = y.4.0 in
-          let turned = last_turn now.0.at now.0.trail.node old.1 in
-          subst (λ (t : NodeNo). o.waits (r.with_run (walking now.0 t)) r.call h s) (sym goes.2) (r.turns (walking old.0 old.1) (walking now.0 turned) h (Some v) s (itself means m) x
-          (walk_waits means m old.0 now.0 old.1 r.call y.0 h y.1 y.2 w.key w.goal w.goes_to w.last goes.1 s goes.0 (next (begun_at r.call y.0) y.4.1)));
+          let turned = last_turns now.0.at now.0.trail.node old.1 in
+          subst (λ (t : LastTurns). o.waits (r.with_run (walking now.0 t)) r.call h s) (sym goes.2) (r.turns (walking old.0 old.1) (walking now.0 turned) h (Some v) s (itself means m) x
+          (walk_waits means m old.0 now.0 side old.1 r.call y.0 h y.1 y.2 w.key w.goal w.goes_to w.last goes.1 s goes.0 (next (begun_at r.call y.0) y.4.1)));
       stays = λ old now goes. r.stays (walking old.0 old.1) (walking now.0 now.1) (itself means m);
     }
 
     -- it begins its walk, with no snapshot
-    pub walks : (ps : List SeatedPass) (old : ReadRun R) → IsSameRead means old m → m.tries ≡ old.tries → m.snaps.items ≡ [] → ReaderBegins r ps old → WalkerWaits walker ps (walk_from (ToKey key)) record { 0 = 0 } (load LoadSettled (node 0 (Settled HeadWord)))
+    pub walks : (ps : List SeatedPass) (old : ReadRun R) → IsSameRead means old m → m.tries ≡ old.tries → m.snaps.items ≡ [] → ReaderBegins r ps old → WalkerWaits walker ps (walk_from (ToKey key)) no_turns (load LoadSettled (node 0 (Settled HeadWord)))
     unfolding walker
-    walks ps old is tries none x = told_on r ps old (walking (walk_from (ToKey key)) record { 0 = 0 }) None (Ask (load LoadSettled (node 0 (Settled HeadWord)))) is
-        (λ h run y. begins_walk means m old (walking (walk_from (ToKey key)) record { 0 = 0 }) r.call r.call.start h (Ask (load LoadSettled (node 0 (Settled HeadWord)))) is tries none y.2 y.0 (walk_from (ToKey key)) key refl refl to refl refl) x
+    walks ps old is tries none x = told_on r ps old (walking (walk_from (ToKey key)) no_turns) None (Ask (load LoadSettled (node 0 (Settled HeadWord)))) is
+        (λ h run y. begins_walk means m old (walking (walk_from (ToKey key)) no_turns) r.call r.call.start h (Ask (load LoadSettled (node 0 (Settled HeadWord)))) is tries none y.2 y.0 (walk_from (ToKey key)) key side refl refl to refl refl) x
 
-    -- behind the leaf that it finds it looks at the last fork where it has turned left
-    pub walk_looks : (ps : List SeatedPass) (f : Found) (turn : NodeNo) → WalkerFinds walker ps (ToKey key) turn f → ReaderWaits r ps m (LookNext Both 0 turn)
+    -- behind the leaf that it finds it looks at the last fork where it has turned to its side
+    pub walk_looks : (ps : List SeatedPass) (f : Found) (turns : LastTurns) → WalkerFinds walker ps (ToKey key) turns f → ReaderWaits r ps m (LookNext (first_children side (turn_to side turns).0) 0 (turn_to side turns))
     unfolding walker
-    walk_looks ps f turn x = on_to ps (walking x.last turn) m (LookNext Both 0 turn) x.told (itself means m)
-        (λ h run y. let c = begun_at r.call y.0 in let w = y.4.0 in (y.0, y.1, (y.2, walk_found means m.read m.snaps.items c h y.2 w.key turn.0 f w.goes_to w.last (subst (λ g. HasFoundGoal g c h f) (sym x.is_goal ∙ w.goal) (x.finds c h y.4.1))))) x.so
+    walk_looks ps f turns x = on_to ps (walking x.last turns) m (LookNext (first_children side (turn_to side turns).0) 0 (turn_to side turns)) x.told (itself means m)
+        (λ h run y. let c = begun_at r.call y.0 in let w = y.4.0 in (y.0, y.1, (y.2, walk_found means m.read m.snaps.items c h y.2 w.key side turns f w.goes_to w.last (subst (λ g. HasFoundGoal g c h f) (sym x.is_goal ∙ w.goal) (x.finds c h y.4.1))))) x.so
 
   -- A try that has begun otherwise
   module _ (ps : List SeatedPass) (old m : ReadRun R) (is : IsSameRead means old m) where
@@ -320,8 +322,8 @@ module _ {R A : Type 0} (means : ReadMeaning R A) (old m : ReadRun R) (is : IsSa
       (subst (λ n. after ≤ before + n) (λ i. tries i * means.try_left (is.0 i) nodes + means.try_left (is.0 i) nodes) few)
 
   -- its walk, and the rest
-  pub walk_in_try : (turn : NodeNo) (key mid : ℕ) → BeginsNear means m.read nodes (Walking key) → mid ≤ before + (3 * (2 + nodes) + 5) → after ≤ mid + suc (read_left means (placed m (LookNext Both 0 turn)) nodes) → after ≤ before + read_left means old nodes
-  walk_in_try turn key mid near walks rest = in_try (let e = ap length none in omega (arith, e, near, walks, rest))
+  pub walk_in_try : (children : Children) (turn : NodeNo) (key mid : ℕ) (side : Side) → BeginsNear means m.read nodes (Walking key side) → mid ≤ before + (3 * (2 + nodes) + 5) → after ≤ mid + suc (read_left means (placed m (LookNext children 0 turn)) nodes) → after ≤ before + read_left means old nodes
+  walk_in_try children turn key mid side near walks rest = in_try (let e = ap length none in omega (arith, e, near, walks, rest))
 
   -- or all from the root on
   pub root_in_try : BeginsNear means m.read nodes AtRoot → after ≤ before + suc (root_left means m nodes) → after ≤ before + read_left means old nodes

@@ -31,6 +31,8 @@ use Rattle.edits.specs.Pieces.{is_filled, nth_node, part_behind, word_of}
 use Rattle.edits.specs.Readings.{is_at_pair, next_read, read_with}
 use Rattle.edits.specs.Sound.{FillsWell, IsAtFound}
 use Rattle.edits.proofs.Lemmas.{behind_filled, fewer_fills, fills_next, fills_word, joined_spends, key_then_value, placed_same, scx_asks, scx_done, told_spends, told_turn, value_then_high}
+use Rattle.order.specs.LastTurns.{no_turns}
+use Rattle.order.specs.declared.last_turns.LastTurns.{LastTurns}
 use Rattle.forest.specs.declared.straight.scx.ScxTask.{ScxTask}
 use Rattle.forest.specs.StraightScx.{Changer, all_frozen_load, changing_at, scx_fill}
 use Rattle.arena.specs.History.{History, value}
@@ -131,7 +133,7 @@ module _ {M E : Type 0} {o : Calls M} {e : EditMeaning E} (u : Updater o e) wher
   }
 
   -- an update that may begin begins its walk
-  pub walks : (ps : List SeatedPass) {A : Type 0} (m : UpdateRun E A) (goal : Goal) → goal ≡ e.goal m.edit → UpdaterBegins u ps m → WalkerWaits (walker m) ps (walk_from goal) record { 0 = 0 } (load LoadSettled (node 0 (Settled Head)))
+  pub walks : (ps : List SeatedPass) {A : Type 0} (m : UpdateRun E A) (goal : Goal) → goal ≡ e.goal m.edit → UpdaterBegins u ps m → WalkerWaits (walker m) ps (walk_from goal) no_turns (load LoadSettled (node 0 (Settled Head)))
   unfolding walker
   walks ps m goal is_goal x = record {
     known = x.known;
@@ -196,7 +198,7 @@ module _ {M E : Type 0} {o : Calls M} {e : EditMeaning E} (u : Updater o e) wher
     stops now stop (Done a) is fewer spent next x = record { known = x.known; is = x.is; sound = x.sound; so = record { old = x.so.old; got = x.so.got; was = x.so.was; goes = gone_behind x.so.old now now.tries now.tries is fewer spent x.so.tries x.so.goes; answers = next _ (u.runs _ x.sound) x.so.may; course = x.so.course } }
 
   -- behind its walk it goes on as its try does
-  pub finds : (ps : List SeatedPass) {A : Type 0} (m now : UpdateRun E A) (goal : Goal) (turn : NodeNo) (f : Found) (next : Result Next Stop) → goal ≡ e.goal m.edit → IsSameUpdate m now → now.tries ≡ m.tries → HasSpentForNext e m.share now f next (m.tries + 1) (m.tries + 1)
+  pub finds : (ps : List SeatedPass) {A : Type 0} (m now : UpdateRun E A) (goal : Goal) (turn : LastTurns) (f : Found) (next : Result Next Stop) → goal ≡ e.goal m.edit → IsSameUpdate m now → now.tries ≡ m.tries → HasSpentForNext e m.share now f next (m.tries + 1) (m.tries + 1)
       → ((b h : History) → IsRun TreeAllows u.call.layout h → IsTry u.call b h m.limit m.tries → IsUntouched u.call b m.share → MayBeginTry e m (begun_at u.call b) h → IsQuietSince u.call.layout u.call.pass b h → HasFilledNone u.call.pass h b → HasFoundGoal (e.goal m.edit) (begun_at u.call b) h f → UpdateGoesOn e u.call h now f next)
       → WalkerFinds (walker m) ps goal turn f → UpdaterGoesOn u ps now f next
   unfolding walker

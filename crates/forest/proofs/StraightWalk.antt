@@ -2,7 +2,6 @@
 use Rattle.std.specs.Prelude.{if◌then◌else◌}
 use Rattle.std.proofs.Common.{◌≡◌, ◌≢◌, ℕ, suc, ◌+◌, ◌<◌, ◌≤◌, ◌⊎◌, Bool, true, false, cond, ltb, List, None, Some, unwrap_or, refl, ap, subst, arith}
 use Rattle.arena.specs.declared.head.Head.{Head as HeadParts}
-use Rattle.arena.specs.declared.number.NodeNo.{NodeNo}
 use Rattle.arena.specs.declared.step.Kind.TheVariants.{LoadSettled, LoadChild}
 use Rattle.arena.specs.declared.step.Step.{Step}
 use Rattle.arena.specs.declared.word.Side.{Side}
@@ -16,7 +15,7 @@ use Rattle.arena.specs.History.{History}
 use Rattle.arena.specs.Machines.{Call}
 use Rattle.arena.specs.Words.{node, first_key, slot_no}
 use Rattle.ordered_map.specs.Holding.{slot_behind, wide_value}
-use Rattle.order.specs.Steps.{last_turn}
+use Rattle.order.specs.LastTurns.{last_turns}
 use Rattle.prims.specs.Llx.Known.{load}
 use Rattle.template.specs.FoundLeaf.{asked_key, path_key}
 use Rattle.template.specs.Walk.Known.{WalkIsTold, WalkWaits, asks_key, goal_slot, open_side}
@@ -29,6 +28,7 @@ use Rattle.template.specs.declared.walk.WalkAt.{WalkAt}
 use Rattle.template.specs.declared.walk.WalkAt.TheVariants.{Start, Root, Head, Key, Child, More, Pair, Value, High}
 use Rattle.template.specs.declared.walk.WalkRun.{WalkRun}
 use Rattle.template.proofs.Lemmas.{head_to_key, head_to_more, head_ends, head_to_child, key_to_child, more_to_pair, pair_to_value, pair_to_pair, pair_ends, value_to_high, high_ends, child_to_head}
+use Rattle.order.specs.declared.last_turns.LastTurns.{LastTurns}
 use Rattle.forest.specs.declared.view.SeatedPass.{SeatedPass}
 use Rattle.forest.specs.StraightWalk.{Walker, WalkerWaits, WalkerIsTold, WalkerFinds}
 use Rattle.forest.specs.Traces.{shared_nodes}
@@ -38,15 +38,15 @@ use Rattle.forest.proofs.Advances.{few_taken}
 
 module _ {M : Type 0} {o : Calls M} (w : Walker o) (ps : List SeatedPass) where
   -- an edge takes it from place to place
-  goes : (m now : WalkRun) (turn : NodeNo) (v : ℕ) (s : Step) → IsPastRoot now.at → now.goal ≡ m.goal → ((d : Call) (h : History) → WalkIsTold m d h v → WalkWaits now d h s) → WalkerIsTold w ps m turn v → WalkerWaits w ps now (last_turn now.at now.trail.node turn) s
-  goes m now turn v s past goal edge = goes_to w ps (m, turn) (now, last_turn now.at now.trail.node turn) v s (past, goal, refl) edge
+  goes : (m now : WalkRun) (turn : LastTurns) (v : ℕ) (s : Step) → IsPastRoot now.at → now.goal ≡ m.goal → ((d : Call) (h : History) → WalkIsTold m d h v → WalkWaits now d h s) → WalkerIsTold w ps m turn v → WalkerWaits w ps now (last_turns now.at now.trail.node turn) s
+  goes m now turn v s past goal edge = goes_to w ps (m, turn) (now, last_turns now.at now.trail.node turn) v s (past, goal, refl) edge
 
-  module _ (goal : Goal) (t : Trail) (turn : NodeNo) where
+  module _ (goal : Goal) (t : Trail) (turn : LastTurns) where
     module _ (p : WalkAt) (v : ℕ) (head : HeadParts) (at : LoadsHead p) (is : head_of v ≡ head) where
       pub to_key : head.leaf ≡ false → asks_key goal head ≡ true → WalkerIsTold w ps (walk_at goal t p) turn v → WalkerWaits w ps (walk_at goal t (Key head)) turn (load LoadSettled (node t.node.0 first_key))
       to_key fork asks = goes (walk_at goal t p) (walk_at goal t (Key head)) turn v _ tt refl (λ d h x. head_to_key goal t d h p v head at is x fork asks)
 
-      pub to_open : head.leaf ≡ false → asks_key goal head ≡ false → WalkerIsTold w ps (walk_at goal t p) turn v → WalkerWaits w ps (walk_at goal t (Child head.level (open_side goal head))) (last_turn (Child head.level (open_side goal head)) t.node turn) (load LoadChild (node t.node.0 (ChildWord (open_side goal head))))
+      pub to_open : head.leaf ≡ false → asks_key goal head ≡ false → WalkerIsTold w ps (walk_at goal t p) turn v → WalkerWaits w ps (walk_at goal t (Child head.level (open_side goal head))) (last_turns (Child head.level (open_side goal head)) t.node turn) (load LoadChild (node t.node.0 (ChildWord (open_side goal head))))
       to_open fork asks = goes (walk_at goal t p) (walk_at goal t (Child head.level (open_side goal head))) turn v _ tt refl (λ d h x. head_to_child goal t d h p v head at is x fork asks)
 
       pub to_more : head.leaf ≡ true → head.class ≡ 0 → WalkerIsTold w ps (walk_at goal t p) turn v → WalkerWaits w ps (walk_at goal t (More head)) turn (load LoadSettled (node t.node.0 (Settled MoreWord)))
@@ -55,7 +55,7 @@ module _ {M : Type 0} {o : Calls M} (w : Walker o) (ps : List SeatedPass) where
       pub finds_none : head.leaf ≡ true → head.class ≢ 0 → WalkerIsTold w ps (walk_at goal t p) turn v → WalkerFinds w ps goal turn record { trail = t; head = head; more = 0; key = asked_key goal 0; value = None }
       finds_none leaf high x = record { last = walk_at goal t p; is_goal = refl; told = v; finds = λ d h y. head_ends goal t d h p v head at is y leaf high; so = x }
 
-    pub to_side : (head : HeadParts) (low : ℕ) (side : Side) → side ≡ cond (ltb (path_key goal) low) Left Right → WalkerIsTold w ps (walk_at goal t (Key head)) turn low → WalkerWaits w ps (walk_at goal t (Child head.level side)) (last_turn (Child head.level side) t.node turn) (load LoadChild (node t.node.0 (ChildWord side)))
+    pub to_side : (head : HeadParts) (low : ℕ) (side : Side) → side ≡ cond (ltb (path_key goal) low) Left Right → WalkerIsTold w ps (walk_at goal t (Key head)) turn low → WalkerWaits w ps (walk_at goal t (Child head.level side)) (last_turns (Child head.level side) t.node turn) (load LoadChild (node t.node.0 (ChildWord side)))
     to_side head low side is = goes (walk_at goal t (Key head)) (walk_at goal t (Child head.level side)) turn low _ tt refl (λ d h x. key_to_child goal t d h head low side x is)
 
     pub to_first : (head : HeadParts) (more : ℕ) → WalkerIsTold w ps (walk_at goal t (More head)) turn more → WalkerWaits w ps (walk_at goal t (Pair head more (goal_slot goal more))) turn (load LoadSettled (node t.node.0 (Settled (KeyWord (goal_slot goal more)))))
@@ -81,7 +81,7 @@ module _ {M : Type 0} {o : Calls M} (w : Walker o) (ps : List SeatedPass) where
     to_head level side n = goes (walk_at goal t (Child level side)) (walk_at goal (trail_below t side n) (Head level)) turn n _ tt refl (λ d h x. child_to_head goal t d h level side n x)
 
   -- what it is told leads it no deeper than the taken nodes allow
-  pub fits : (m : WalkRun) (turn : NodeNo) (v : ℕ) → WalkerIsTold w ps m turn v → WalkFitsAt m.at v (shared_nodes o.layout)
+  pub fits : (m : WalkRun) (turn : LastTurns) (v : ℕ) → WalkerIsTold w ps m turn v → WalkFitsAt m.at v (shared_nodes o.layout)
   fits m turn v x =
       let y = w.tells (m, turn) _ v x.sound x.so.0 in
       walk_told m y.0 _ (Some v) (shared_nodes o.layout) y.1.run.1 y.1 (few_taken o.allows o.layout w.call _ w.is_layout x.sound)

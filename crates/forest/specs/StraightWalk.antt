@@ -1,6 +1,5 @@
 -- Calls that stand at a place of a walk, of whatever machine that walks.
 use Rattle.std.specs.Prelude.{◌≡◌, ℕ, List}
-use Rattle.arena.specs.declared.number.NodeNo.{NodeNo}
 use Rattle.arena.specs.declared.step.Step.{Step}
 use Rattle.arena.specs.History.{History}
 use Rattle.arena.specs.Machines.{Call}
@@ -10,7 +9,7 @@ use Rattle.arena.specs.declared.word.SettledPart.TheVariants.{Head as HeadWord}
 use Rattle.arena.specs.declared.word.Side.{Side}
 use Rattle.arena.specs.Words.{child, node}
 use Rattle.prims.specs.Llx.Known.{load}
-use Rattle.order.specs.Steps.{last_turn}
+use Rattle.order.specs.LastTurns.{last_turns, no_turns}
 use Rattle.template.specs.FoundLeaf.{HasFoundGoal}
 use Rattle.template.specs.Walk.Known.{WalkIsTold, WalkWaits}
 use Rattle.template.specs.Walk.Places.{IsPastRoot, walk_at, walk_from}
@@ -19,18 +18,19 @@ use Rattle.ordered_map.specs.declared.rule.Goal.{Goal}
 use Rattle.template.specs.declared.walk.Trail.{Trail}
 use Rattle.template.specs.declared.walk.WalkAt.TheVariants.{Child}
 use Rattle.template.specs.declared.walk.WalkRun.{WalkRun}
+use Rattle.order.specs.declared.last_turns.LastTurns.{LastTurns}
 use Rattle.forest.specs.declared.view.SeatedPass.{SeatedPass}
 use Rattle.forest.specs.CallKinds.{Calls}
 use Rattle.forest.specs.Inside.{Inner, Inside, InnerIsTold, InnerWaits}
 
--- a walk in a call of its own, with the last fork where it has turned left; it goes on past the
--- root, to the same goal, and keeps the fork if it turns left there
-abbrev pub inner_walk : Inner (WalkRun × NodeNo)
+-- a walk in a call of its own, with the last forks where it has turned; it goes on past the root, to
+-- the same goal, and keeps a fork where it turns
+abbrev pub inner_walk : Inner (WalkRun × LastTurns)
 inner_walk = record {
   Context = Call;
   told = λ d m h v. WalkIsTold m.0 d h v;
   waits = λ d m h s. WalkWaits m.0 d h s;
-  goes = λ old now. IsPastRoot now.0.at × (now.0.goal ≡ old.0.goal) × (now.1 ≡ last_turn now.0.at now.0.trail.node old.1);
+  goes = λ old now. IsPastRoot now.0.at × (now.0.goal ≡ old.0.goal) × (now.1 ≡ last_turns now.0.at now.0.trail.node old.1);
 }
 
 -- a call of a machine that walks
@@ -38,26 +38,26 @@ abbrev pub Walker : {M : Type 0} → Calls M → Type 0
 Walker o = Inside o inner_walk
 
 module _ {M : Type 0} {o : Calls M} (w : Walker o) (ps : List SeatedPass) where
-  -- its walk waits for this step, and has last turned left at this fork
-  abbrev pub WalkerWaits : WalkRun → NodeNo → Step → Type 0
+  -- its walk waits for this step, and has last turned at these forks
+  abbrev pub WalkerWaits : WalkRun → LastTurns → Step → Type 0
   WalkerWaits m turn step = InnerWaits w ps (m, turn) step
 
   -- the step of its walk has told v
-  abbrev pub WalkerIsTold : WalkRun → NodeNo → ℕ → Type 0
+  abbrev pub WalkerIsTold : WalkRun → LastTurns → ℕ → Type 0
   WalkerIsTold m turn v = InnerIsTold w ps (m, turn) v
 
   -- its walk to this goal waits for the child on this side of the node to which its trail has come,
-  -- whose head is of this level; it had turned left last at this fork before that
-  abbrev pub WalkerGoesDown : Goal → Trail → ℕ → Side → NodeNo → Type 0
-  WalkerGoesDown goal trail level side turn = WalkerWaits (walk_at goal trail (Child level side)) (last_turn (Child level side) trail.node turn) (load LoadChild (child trail.node.0 side))
+  -- whose head is of this level; it had turned last at these forks before that
+  abbrev pub WalkerGoesDown : Goal → Trail → ℕ → Side → LastTurns → Type 0
+  WalkerGoesDown goal trail level side turn = WalkerWaits (walk_at goal trail (Child level side)) (last_turns (Child level side) trail.node turn) (load LoadChild (child trail.node.0 side))
 
   -- its walk to this goal waits for the head of the root, with which it begins
   abbrev pub WalksFromRoot : Goal → Type 0
-  WalksFromRoot goal = WalkerWaits (walk_from goal) record { 0 = 0 } (load LoadSettled (node 0 (Settled HeadWord)))
+  WalksFromRoot goal = WalkerWaits (walk_from goal) no_turns (load LoadSettled (node 0 (Settled HeadWord)))
 
   -- the last step of its walk to a goal has told what makes this leaf the one that it has found,
-  -- and this fork is the last where it has turned left
-  pub record WalkerFinds (goal : Goal) (turn : NodeNo) (f : Found) : Type 0 where
+  -- and these forks are the last where it has turned
+  pub record WalkerFinds (goal : Goal) (turn : LastTurns) (f : Found) : Type 0 where
     pub last : WalkRun
     pub is_goal : last.goal ≡ goal
     pub told : ℕ

@@ -3,9 +3,9 @@ ghost use Rattle.std.specs.Prelude.{◌≡◌, ◌≤◌, ◌↔◌, Err, IfOk, 
 ghost use Rattle.arena.specs.Limits.{IsAccepted, IsLayoutOf};
 ghost use Rattle.arena.specs.declared.limits.Mode.TheVariants.{Tree};
 ghost use Rattle.ordered_map.specs.declared.rule.Goal.TheVariants.{Key};
-ghost use Rattle.ordered_map.specs.OrderedMap.{Edit, Get, Range, Successor, call_insert, call_insert_new, call_delete, call_delete_if, call_pop_first, call_pop_last, call_replace_if};
+ghost use Rattle.ordered_map.specs.OrderedMap.{Edit, Get, Range, call_successor, call_predecessor, call_insert, call_insert_new, call_delete, call_delete_if, call_pop_first, call_pop_last, call_replace_if};
 ghost use Rattle.dict.specs.Calls.{IsSmallCall, edit_call};
-ghost use Rattle.ordered_map.specs.CallRules.{IsFormOfValue, IsFormOfPair, form_of};
+ghost use Rattle.ordered_map.specs.CallRules.{IsFormOfValue, IsFormOfNeighbour, IsFormOfPair, form_of};
 ghost use Rattle.ordered_map.specs.Requests.{AsksForFew, as_map_call};
 ghost use Rattle.dict.specs.Says.{KeepsLists};
 ghost use Rattle.dict.specs.Typed.{IsTypedCall};
@@ -57,6 +57,26 @@ fn told_pair<K: WordKey, V: WordValue>(reply: Reply<K, V>) -> Result<Option<(K, 
         Reply::Contended { node, scx } => Err(UpdateFault::Contended { node, scx }),
         Reply::Full(full) => Err(UpdateFault::Full(full)),
         Reply::Value(_) | Reply::NoMemory => unreachable!(),
+        Reply::Pairs(pairs) => {
+            drop(pairs);
+            unreachable!()
+        }
+    }
+}
+
+/// What the caller of a search for the pair beside a key gets of its reply.
+#[inline(always)]
+fn told_neighbour<K: WordKey, V: WordValue>(
+    reply: Reply<K, V>,
+) -> Result<Option<(K, V)>, OrderFault>
+    requires form { IsFormOfNeighbour (form_of reply) }
+    ensures { reply ≡ read_reply Reply.Pair result }
+{
+    match reply {
+        Reply::Pair(pair) => Ok(pair),
+        Reply::Contended { node, scx } => Err(OrderFault::Contended { node, scx }),
+        Reply::NoMemory => Err(OrderFault::NoMemory),
+        Reply::Value(_) | Reply::Full(_) => unreachable!(),
         Reply::Pairs(pairs) => {
             drop(pairs);
             unreachable!()
@@ -227,18 +247,24 @@ impl<K: WordKey, V: WordValue> Forest<Dict<K, V>> {
     ) -> Result<Option<(K, V)>, OrderFault>
         requires pass { IsOf self.now pass.old }
         ensures { HasCalled K.is_valid K.word_of V.is_valid V.word_of self.now
-            pass.old pass.new (Successor (K.word_of key.now)) (read_reply Reply.Pair result) }
+            pass.old pass.new (call_successor (K.word_of key.now)) (read_reply Reply.Pair result) }
     {
-        match self.read(alloc, pass, Request::Successor { key: *key }) {
-            Reply::Pair(pair) => Ok(pair),
-            Reply::Contended { node, scx } => Err(OrderFault::Contended { node, scx }),
-            Reply::NoMemory => Err(OrderFault::NoMemory),
-            Reply::Value(_) | Reply::Full(_) => unreachable!(),
-            Reply::Pairs(pairs) => {
-                drop(pairs);
-                unreachable!()
-            }
-        }
+        told_neighbour(self.read(alloc, pass, Request::Successor { key: *key }))
+    }
+
+    /// The pair with the greatest key below this one, if there is one. It takes nothing of the pass's
+    /// share, but memory for what it looks at.
+    pub fn predecessor(
+        &self,
+        alloc: Global,
+        pass: &mut Pass<Dict<K, V>>,
+        key: &K,
+    ) -> Result<Option<(K, V)>, OrderFault>
+        requires pass { IsOf self.now pass.old }
+        ensures { HasCalled K.is_valid K.word_of V.is_valid V.word_of self.now
+            pass.old pass.new (call_predecessor (K.word_of key.now)) (read_reply Reply.Pair result) }
+    {
+        told_neighbour(self.read(alloc, pass, Request::Predecessor { key: *key }))
     }
 
     /// The first pairs by rising key with keys from `low` to `high`, both with them, and at most so

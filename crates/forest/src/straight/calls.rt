@@ -5,6 +5,7 @@ ghost use Rattle.arena.specs.Share.{Remaining};
 ghost use Rattle.dict.specs.Calls.{AsksForPairs, IsSmallCall, edit_call};
 ghost use Rattle.dict.specs.Says.{KeepsLists};
 ghost use Rattle.ordered_map.specs.CallRules.{most_steps};
+ghost use Rattle.ordered_map.specs.OrderedMap.{Neighbour as NeighbourOf};
 ghost use Rattle.ordered_map.specs.Requests.{as_map_call};
 ghost use Rattle.order.specs.Range.{range_means, range_try_left};
 ghost use Rattle.order.specs.Steps.{read_left};
@@ -18,10 +19,10 @@ ghost use Rattle.forest.specs.StraightCalls.{CallHasEnded, SeatCallBegins};
 use crate::straight::hand::Hand;
 use crate::straight::{ordered_read, update};
 use crate::view::SeatView;
-use arena::Share;
+use arena::{Share, Side};
 use atomic_table::Seat;
-use dict::{Dict, DictRun, Reply, Request, WordKey, WordValue, of_range, of_successor, of_update};
-use order::{Range, RangeRun, Successor};
+use dict::{Dict, DictRun, Reply, Request, WordKey, WordValue, of_neighbour, of_range, of_update};
+use order::{Neighbour, Range, RangeRun};
 use std::alloc::Global;
 use tree::{EditGoal, EditRule, KeyEdit};
 
@@ -82,6 +83,38 @@ fn range_run(alloc: Global, low: u64, high: u64, most: usize, tries: u32) -> Ran
     run
 }
 
+/// Looks with so many tries for the pair beside a key on this side, and takes nothing of a share. What
+/// it keeps grows with this allocator.
+#[inline(always)]
+fn neighbour<K: WordKey, V: WordValue>(
+    hand: Hand<Dict<K, V>>,
+    seat: &mut Seat<u8, SeatView>,
+    alloc: Global,
+    tries: u32,
+    key: K,
+    side: Side,
+) -> Reply<K, V>
+    requires table { IsAt hand seat.old }
+    requires tries { 0 < tries }
+    requires begins { (c : Call) × (share : Remaining) × IsCallOf hand c
+        × SeatCallBegins K.is_valid K.word_of V.is_valid V.word_of c
+        seat.old.me.0.passes (NeighbourOf side (K.word_of key)) share tries hand.number }
+    ensures table { StaysAtTable seat.old seat.new }
+    ensures ends { (c : Call) (share : Remaining) → IsCallOf hand.entry c
+        → SeatCallBegins K.is_valid K.word_of V.is_valid V.word_of c
+        seat.old.me.0.passes (NeighbourOf side (K.word_of key)) share tries hand.entry.number
+        → CallHasEnded K.is_valid K.word_of V.is_valid V.word_of c seat.new.me.0.passes
+        (NeighbourOf side (K.word_of key)) share tries hand.entry.number share result }
+    ensures steps { steps_made seat.new
+        ≤ steps_made seat.old + most_steps (NeighbourOf side (K.word_of key)) tries
+        (shared_nodes hand.entry.layout.now) }
+{
+    key.valid();
+    let mut run = Neighbour::run(alloc, key.word(), side, tries);
+    let told = ordered_read::call::<Dict<K, V>, DictRun<K, V>, Neighbour>(hand, seat, &mut run);
+    of_neighbour(told)
+}
+
 /// Makes an ordered read with so many tries, which takes nothing of a share. What it keeps grows
 /// with this allocator.
 #[inline(always)]
@@ -110,14 +143,8 @@ pub(crate) fn read<K: WordKey, V: WordValue>(
     ensures nothing { ¬ AsksForPairs (as_map_call K.word_of V.word_of request) → seat.new ≡ seat.old }
 {
     match request {
-        Request::Successor { key } => {
-            key.valid();
-            let mut run = Successor::run(alloc, key.word(), tries);
-            let told = ordered_read::call::<Dict<K, V>, DictRun<K, V>, Successor>(
-                hand, seat, &mut run,
-            );
-            of_successor(told)
-        }
+        Request::Successor { key } => neighbour(hand, seat, alloc, tries, key, Side::Right),
+        Request::Predecessor { key } => neighbour(hand, seat, alloc, tries, key, Side::Left),
         Request::Range { low, high, most } => {
             high.valid();
             let mut run = range_run(alloc, low.word(), high.word(), most as usize, tries);

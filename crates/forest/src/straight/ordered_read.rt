@@ -465,9 +465,11 @@ pub(crate) fn call<S: Shape, M: Machine<S>, R: Read + Drop>(
     ensures nothing { ¬ R.means.asks (R.means.call run.old.read) → seat.new ≡ seat.old }
 {
     match run.start() {
-        ReadBegin::Walk(key) => {
-            let (_, node) = walk::call::<S, M>(hand, seat, Goal::Key(key));
-            let (children, level) = (Children::Both, 0);
+        ReadBegin::Walk { key, side } => {
+            let (_, turns) = walk::call::<S, M>(hand, seat, Goal::Key(key));
+            let children = turns.children(side);
+            let node = turns.to(side);
+            let level = 0;
             let first = ReadNext::Look {
                 children,
                 level,

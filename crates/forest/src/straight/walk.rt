@@ -8,7 +8,7 @@ ghost use Rattle.forest.specs.Hands.{IsAt, hand_calls};
 ghost use Rattle.forest.specs.Seats.{StaysAtTable};
 ghost use Rattle.forest.specs.Traces.{shared_nodes};
 ghost use Rattle.forest.specs.StraightWalk.{Walker, WalkerFinds, WalkerGoesDown, WalkerIsTold, WalkerWaits, WalksFromRoot};
-ghost use Rattle.order.specs.Steps.{last_turn};
+ghost use Rattle.order.specs.declared.last_turns.LastTurns.{LastTurns};
 ghost use Rattle.prims.specs.Llx.Known.{load};
 ghost use Rattle.template.specs.FoundLeaf.{asked_key, path_key};
 ghost use Rattle.template.specs.declared.walk.WalkRun.{WalkRun};
@@ -22,6 +22,7 @@ use arena::{
     Access, Head, Kind, Machine, NodeNo, NodeWord, SettledPart, Shape, Side, Slot, Step, Word,
 };
 use atomic_table::Seat;
+use order::LastTurns;
 use ordered_map::{end_slot, slot_behind, wide_value};
 use template::{Found, Goal, Trail, WalkAt};
 
@@ -38,12 +39,12 @@ fn read<S: Shape, M: Machine<S>>(
     requires table { IsAt hand seat.old }
     requires start { start ≡ node_start node }
     requires waits { (w : Walker (hand_calls S.Shape M.Machine hand)) × (m : WalkRun)
-        × (turn : NodeNo)
+        × (turn : LastTurns)
         × WalkerWaits w seat.old.me.0.passes m turn (load kind (Word.Node node part)) }
     ensures table { StaysAtTable seat.old seat.new }
     ensures one { steps_made seat.new ≡ suc (steps_made seat.old) }
     ensures told { (w : Walker (hand_calls S.Shape M.Machine hand.entry)) (m : WalkRun)
-        (turn : NodeNo)
+        (turn : LastTurns)
         → WalkerWaits w seat.old.me.0.passes m turn (load kind (Word.Node node part))
         → WalkerIsTold w seat.new.me.0.passes m turn result }
 {
@@ -139,12 +140,12 @@ fn end_with<S: Shape, M: Machine<S>>(
     requires table { IsAt hand seat.old }
     requires start { start ≡ node_start trail.node }
     requires asked { asked_key goal key ≡ key }
-    requires told { (w : Walker (hand_calls S.Shape M.Machine hand)) × (turn : NodeNo)
+    requires told { (w : Walker (hand_calls S.Shape M.Machine hand)) × (turn : LastTurns)
         × WalkerIsTold w seat.old.me.0.passes (walk_at goal trail (WalkAt.Pair head more slot)) turn
         key }
     ensures table { StaysAtTable seat.old seat.new }
     ensures steps { steps_made seat.new ≡ steps_made seat.old + 2 }
-    ensures finds { (w : Walker (hand_calls S.Shape M.Machine hand.entry)) (turn : NodeNo)
+    ensures finds { (w : Walker (hand_calls S.Shape M.Machine hand.entry)) (turn : LastTurns)
         → WalkerIsTold w seat.old.me.0.passes (walk_at goal trail (WalkAt.Pair head more slot)) turn
         key
         → WalkerFinds w seat.new.me.0.passes goal turn result }
@@ -177,11 +178,11 @@ fn end_among<S: Shape, M: Machine<S>>(
 ) -> Found
     requires table { IsAt hand seat.old }
     requires start { start ≡ node_start trail.node }
-    requires told { (w : Walker (hand_calls S.Shape M.Machine hand)) × (turn : NodeNo)
+    requires told { (w : Walker (hand_calls S.Shape M.Machine hand)) × (turn : LastTurns)
         × WalkerIsTold w seat.old.me.0.passes (walk_at goal trail (WalkAt.More head)) turn more }
     ensures table { StaysAtTable seat.old seat.new }
     ensures steps { steps_made seat.new ≤ steps_made seat.old + 6 }
-    ensures finds { (w : Walker (hand_calls S.Shape M.Machine hand.entry)) (turn : NodeNo)
+    ensures finds { (w : Walker (hand_calls S.Shape M.Machine hand.entry)) (turn : LastTurns)
         → WalkerIsTold w seat.old.me.0.passes (walk_at goal trail (WalkAt.More head)) turn more
         → WalkerFinds w seat.new.me.0.passes goal turn result }
 {
@@ -223,11 +224,11 @@ fn end<S: Shape, M: Machine<S>>(
     requires table { IsAt hand seat.old }
     requires start { start ≡ node_start trail.node }
     requires leaf { (head_of word).leaf ≡ true }
-    requires told { (w : Walker (hand_calls S.Shape M.Machine hand)) × (turn : NodeNo)
+    requires told { (w : Walker (hand_calls S.Shape M.Machine hand)) × (turn : LastTurns)
         × WalkerIsTold w seat.old.me.0.passes (walk_at goal trail at) turn word }
     ensures table { StaysAtTable seat.old seat.new }
     ensures steps { steps_made seat.new ≤ steps_made seat.old + 7 }
-    ensures finds { (w : Walker (hand_calls S.Shape M.Machine hand.entry)) (turn : NodeNo)
+    ensures finds { (w : Walker (hand_calls S.Shape M.Machine hand.entry)) (turn : LastTurns)
         → WalkerIsTold w seat.old.me.0.passes (walk_at goal trail at) turn word
         → WalkerFinds w seat.new.me.0.passes goal turn result }
 {
@@ -261,17 +262,17 @@ fn pass<S: Shape, M: Machine<S>>(
     requires place { LoadsHead at }
     requires table { IsAt hand seat.old }
     requires start { start ≡ node_start trail.node }
-    requires told { (w : Walker (hand_calls S.Shape M.Machine hand)) × (turn : NodeNo)
+    requires told { (w : Walker (hand_calls S.Shape M.Machine hand)) × (turn : LastTurns)
         × WalkerIsTold w seat.old.me.0.passes (walk_at goal trail at) turn word }
     ensures table { StaysAtTable seat.old seat.new }
     ensures steps { MatchResult result (λ _. steps_made seat.new ≤ steps_made seat.old + 1)
         (λ _. steps_made seat.new ≤ steps_made seat.old + 7) }
     ensures down { IfOk result (λ side.
-        (w : Walker (hand_calls S.Shape M.Machine hand.entry)) (turn : NodeNo)
+        (w : Walker (hand_calls S.Shape M.Machine hand.entry)) (turn : LastTurns)
         → WalkerIsTold w seat.old.me.0.passes (walk_at goal trail at) turn word
         → WalkerGoesDown w seat.new.me.0.passes goal trail (head_of word).level side turn) }
     ensures finds { IfErr result (λ found.
-        (w : Walker (hand_calls S.Shape M.Machine hand.entry)) (turn : NodeNo)
+        (w : Walker (hand_calls S.Shape M.Machine hand.entry)) (turn : LastTurns)
         → WalkerIsTold w seat.old.me.0.passes (walk_at goal trail at) turn word
         → WalkerFinds w seat.new.me.0.passes goal turn found) }
 {
@@ -289,27 +290,15 @@ fn pass<S: Shape, M: Machine<S>>(
     Ok(open_side(goal, word))
 }
 
-/// The last fork where a walk has turned left, which was `turn` before it went on to this side of
-/// the fork `node`.
-#[inline(always)]
-fn turn_at(side: Side, node: NodeNo, turn: NodeNo) -> NodeNo
-    ensures { (level : ℕ) → result ≡ last_turn (WalkAt.Child level side) node turn }
-{
-    match side {
-        Side::Left => node,
-        Side::Right => turn,
-    }
-}
-
 /// The walk from the root to the leaf where a key stands, or would stand, or to the first leaf, and
-/// the last fork where it turned left, or the root if it turned left at none. Where the words of a
-/// node begin is reckoned once, as soon as its parent has told it.
+/// the last forks where it turned. Where the words of a node begin is reckoned once, as soon as its
+/// parent has told it.
 #[inline(always)]
 pub(crate) fn call<S: Shape, M: Machine<S>>(
     hand: Hand<S>,
     seat: &mut Seat<u8, SeatView>,
     goal: Goal,
-) -> (Found, NodeNo)
+) -> (Found, LastTurns)
     requires table { IsAt hand seat.old }
     requires waits { (w : Walker (hand_calls S.Shape M.Machine hand))
         × WalksFromRoot w seat.old.me.0.passes goal }
@@ -334,7 +323,7 @@ pub(crate) fn call<S: Shape, M: Machine<S>>(
         side: Side::Left,
         node: root,
     };
-    let (mut at, mut turn) = (WalkAt::Root, root);
+    let (mut at, mut turns) = (WalkAt::Root, LastTurns::none());
     let mut start = 0;
     loop {
         let node = trail.node;
@@ -343,11 +332,11 @@ pub(crate) fn call<S: Shape, M: Machine<S>>(
         let head = Head::of(word);
         let side = match pass::<S, M>(hand, seat, goal, trail, start, at, word) {
             Ok(side) => side,
-            Err(found) => return (found, turn),
+            Err(found) => return (found, turns),
         };
         let (kind, part) = (Kind::LoadChild, NodeWord::Child(side));
         let child = read::<S, M>(hand, seat, kind, node, start, part);
-        turn = turn_at(side, node, turn);
+        turns = turns.with(side, node);
         trail = Trail {
             grand: trail.parent,
             grand_side: trail.side,

@@ -1,28 +1,12 @@
-use Rattle.std.proofs.Common.{◌≡◌, ℕ, ◌∙◌, ap}
+use Rattle.std.proofs.Common.{◌≡◌, ℕ, ◌∙◌}
 use Rattle.arena.specs.Share.{Remaining}
-use Rattle.ordered_map.specs.OrderedMap.{Range, Successor}
+use Rattle.ordered_map.specs.OrderedMap.{Range}
 use Rattle.ordered_map.specs.Requests.{as_map_call}
 use Rattle.forest.specs.StraightCalls.{IsFreshCall}
-use Rattle.forest.proofs.StraightCalls.{made_begins, made_by, made_ended, ranges, read_fresh, read_machine, successors}
+use Rattle.forest.proofs.StraightCalls.{made_begins, made_by, made_ended, ranges, read_fresh, read_machine}
 use Rattle.forest.proofs.straight.calls.read.Given.{Over}
-use Rattle.forest.proofs.straight.calls.read.Goals.{After-run-run, After-range_run-run}
+use Rattle.forest.proofs.straight.calls.read.Goals.{After-range_run-run}
 use Rattle.forest.proofs.straight.calls.read.Goals as goal
-
--- the machine of a successor has not begun
-searches : (g : Over) (c : After-run-run g) (share : Remaining) → IsFreshCall {K = g.row.K.Denot} {V = g.row.V.Denot} (as_map_call g.K.WordKey.word_of g.V.WordValue.word_of c.args.request) share c.args.tries c.args.hand.number (read_machine successors c.args.tries share c.run-run.result)
-searches g c share = rw c.in-Successor.is (read_fresh successors share c.args.tries c.args.hand.number (Successor (g.K.WordKey.word_of c.in-Successor.key)) c.requires.tries c.run-run.result (ap Successor (c.run-run.ensures.key ∙ c.word.ensures)) c.run-run.ensures.start c.run-run.ensures.snaps c.run-run.ensures.tries c.run-run.ensures.limit (λ few. g.met.K.WordKey.fits c.in-Successor.key c.valid.ensures))
-
-pub call-told-requires-clause-begins : goal.call-told-requires-clause-begins
-call-told-requires-clause-begins g c =
-    let r = c.requires.begins in
-    let fresh = searches g (goal.at.call-told-requires-clause-begins g c).After-run-run r.1 in
-    (made_by g.K.WordKey.is_valid g.K.WordKey.word_of g.V.WordValue.is_valid g.V.WordValue.word_of successors r.0 c.args.hand.layout.now c.args.hand.number r.2 c.args.tries _ r.1 c.run-run.result fresh, made_begins g.K.WordKey.is_valid g.K.WordKey.word_of g.V.WordValue.is_valid g.V.WordValue.word_of successors r.0 c.args.hand.layout.now c.args.hand.number r.2 c.args.tries _ r.1 c.run-run.result fresh _ r.3)
-
-pub returns-in-Successor-clause-ends : goal.returns-in-Successor-clause-ends
-returns-in-Successor-clause-ends g c = λ call share fits x.
-    let fresh = searches g (goal.at.returns-in-Successor-clause-ends g c).After-run-run share in
-    made_ended g.K.WordKey.is_valid g.K.WordKey.word_of g.V.WordValue.is_valid g.V.WordValue.word_of successors call c.args.hand.layout.now c.args.hand.number fits c.args.tries _ share c.run-run.result fresh _ c.call-told.new.run c.call-told.result c.of_successor.result c.of_successor.ensures
-    (c.call-told.ensures.leads.to (made_by g.K.WordKey.is_valid g.K.WordKey.word_of g.V.WordValue.is_valid g.V.WordValue.word_of successors call c.args.hand.layout.now c.args.hand.number fits c.args.tries _ share c.run-run.result fresh) (made_begins g.K.WordKey.is_valid g.K.WordKey.word_of g.V.WordValue.is_valid g.V.WordValue.word_of successors call c.args.hand.layout.now c.args.hand.number fits c.args.tries _ share c.run-run.result fresh _ x))
 
 -- of which keys a range is
 range_of : (low high most l h m : ℕ) → l ≡ low → h ≡ high → m ≡ most → Range l h m ≡ Range low high most
@@ -31,16 +15,22 @@ range_of low high most l h m is_low is_high is_most i = Range (is_low i) (is_hig
 -- the machine of a range has not begun
 visits : (g : Over) (c : After-range_run-run g) (share : Remaining) → IsFreshCall {K = g.row.K.Denot} {V = g.row.V.Denot} (as_map_call g.K.WordKey.word_of g.V.WordValue.word_of c.args.request) share c.args.tries c.args.hand.number (read_machine ranges c.args.tries share c.range_run-run.result)
 visits g c share = rw c.in-Range.is (read_fresh ranges share c.args.tries c.args.hand.number (Range (g.K.WordKey.word_of c.in-Range.low) (g.K.WordKey.word_of c.in-Range.high) c.in-Range.most) c.requires.tries c.range_run-run.result
-    (range_of _ _ _ _ _ _ (c.range_run-run.ensures.low ∙ c.word-in-Range.ensures) (c.range_run-run.ensures.high ∙ c.word-in-Range-2.ensures) c.range_run-run.ensures.most) c.range_run-run.ensures.start c.range_run-run.ensures.snaps c.range_run-run.ensures.tries c.range_run-run.ensures.limit (λ few. (g.met.K.WordKey.fits c.in-Range.high c.valid-in-Range.ensures, few)))
+    (range_of _ _ _ _ _ _ (c.range_run-run.ensures.low ∙ c.word.ensures) (c.range_run-run.ensures.high ∙ c.word-in-Range.ensures) c.range_run-run.ensures.most) c.range_run-run.ensures.start c.range_run-run.ensures.snaps c.range_run-run.ensures.tries c.range_run-run.ensures.limit (λ few. (g.met.K.WordKey.fits c.in-Range.high c.valid.ensures, few)))
 
-pub call-told-requires-in-Range-clause-begins : goal.call-told-requires-in-Range-clause-begins
-call-told-requires-in-Range-clause-begins g c =
+pub call-told-requires-clause-begins : goal.call-told-requires-clause-begins
+call-told-requires-clause-begins g c =
     let r = c.requires.begins in
-    let fresh = visits g (goal.at.call-told-requires-in-Range-clause-begins g c).After-range_run-run r.1 in
+    let fresh = visits g (goal.at.call-told-requires-clause-begins g c).After-range_run-run r.1 in
     (made_by g.K.WordKey.is_valid g.K.WordKey.word_of g.V.WordValue.is_valid g.V.WordValue.word_of ranges r.0 c.args.hand.layout.now c.args.hand.number r.2 c.args.tries _ r.1 c.range_run-run.result fresh, made_begins g.K.WordKey.is_valid g.K.WordKey.word_of g.V.WordValue.is_valid g.V.WordValue.word_of ranges r.0 c.args.hand.layout.now c.args.hand.number r.2 c.args.tries _ r.1 c.range_run-run.result fresh _ r.3)
 
 pub returns-in-Range-clause-ends : goal.returns-in-Range-clause-ends
 returns-in-Range-clause-ends g c = λ call share fits x.
     let fresh = visits g (goal.at.returns-in-Range-clause-ends g c).After-range_run-run share in
-    made_ended g.K.WordKey.is_valid g.K.WordKey.word_of g.V.WordValue.is_valid g.V.WordValue.word_of ranges call c.args.hand.layout.now c.args.hand.number fits c.args.tries _ share c.range_run-run.result fresh _ c.call-told-in-Range.new.run c.call-told-in-Range.result c.of_range.result c.of_range.ensures
-    (c.call-told-in-Range.ensures.leads.to (made_by g.K.WordKey.is_valid g.K.WordKey.word_of g.V.WordValue.is_valid g.V.WordValue.word_of ranges call c.args.hand.layout.now c.args.hand.number fits c.args.tries _ share c.range_run-run.result fresh) (made_begins g.K.WordKey.is_valid g.K.WordKey.word_of g.V.WordValue.is_valid g.V.WordValue.word_of ranges call c.args.hand.layout.now c.args.hand.number fits c.args.tries _ share c.range_run-run.result fresh _ x))
+    made_ended g.K.WordKey.is_valid g.K.WordKey.word_of g.V.WordValue.is_valid g.V.WordValue.word_of ranges call c.args.hand.layout.now c.args.hand.number fits c.args.tries _ share c.range_run-run.result fresh _ c.call-told.new.run c.call-told.result c.of_range.result c.of_range.ensures
+    (c.call-told.ensures.leads.to (made_by g.K.WordKey.is_valid g.K.WordKey.word_of g.V.WordValue.is_valid g.V.WordValue.word_of ranges call c.args.hand.layout.now c.args.hand.number fits c.args.tries _ share c.range_run-run.result fresh) (made_begins g.K.WordKey.is_valid g.K.WordKey.word_of g.V.WordValue.is_valid g.V.WordValue.word_of ranges call c.args.hand.layout.now c.args.hand.number fits c.args.tries _ share c.range_run-run.result fresh _ x))
+
+pub neighbour-requires-clause-begins : goal.neighbour-requires-clause-begins
+neighbour-requires-clause-begins g c = rw c.in-Successor.is at c.requires.begins
+
+pub neighbour-requires-in-Predecessor-clause-begins : goal.neighbour-requires-in-Predecessor-clause-begins
+neighbour-requires-in-Predecessor-clause-begins g c = rw c.in-Predecessor.is at c.requires.begins

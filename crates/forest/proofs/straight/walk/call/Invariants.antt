@@ -20,7 +20,7 @@ invariant-loop-side g l = record {
   steps : seat_steps l.seat.me.0.passes + suc (walk_left l.at (shared_nodes l.fn.hand.layout.now)) ≤ seat_steps l.fn.seat.me.0.passes + (3 * (2 + shared_nodes l.fn.hand.layout.now) + 5);
   waits : (w : Walker (calls g.S.Shape g.M.Machine l.fn.hand.layout.now l.fn.hand.number))
       → WalksFromRoot w l.fn.seat.me.0.passes l.goal
-      → WalkerWaits w l.seat.me.0.passes (walk_at l.goal l.trail l.at) l.turn (load LoadSettled (node l.trail.node.0 (Settled Head)));
+      → WalkerWaits w l.seat.me.0.passes (walk_at l.goal l.trail l.at) l.turns (load LoadSettled (node l.trail.node.0 (Settled Head)));
 }
 
 abbrev pub decreases-loop-side : goal.decreases-loop-side

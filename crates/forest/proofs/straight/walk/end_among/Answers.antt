@@ -1,8 +1,8 @@
 use Rattle.std.proofs.Common.{◌≢◌, ◌∙◌, inl, inr, refl, sym, arith}
-use Rattle.arena.specs.declared.number.NodeNo.{NodeNo}
 use Rattle.template.specs.FoundLeaf.{asked_key}
 use Rattle.template.specs.Walk.Places.{walk_at}
 use Rattle.template.specs.declared.walk.WalkAt.TheVariants.{More, Pair}
+use Rattle.order.specs.declared.last_turns.LastTurns.{LastTurns}
 use Rattle.forest.specs.CallKinds.{calls}
 use Rattle.forest.specs.StraightWalk.{Walker, WalkerIsTold}
 use Rattle.forest.proofs.StraightWalk.{to_first, to_next, finds_other, next_slot, few_slots}
@@ -11,7 +11,7 @@ use Rattle.forest.proofs.straight.walk.end_among.Goals.{After-read-key, Else-ask
 use Rattle.forest.proofs.straight.walk.end_among.Goals as goal
 
 -- whichever call it is, the key in this slot has been told
-told : (g : Over) (c : After-read-key g) (w : Walker (calls g.S.Shape g.M.Machine c.args.hand.layout.now c.args.hand.number)) (turn : NodeNo)
+told : (g : Over) (c : After-read-key g) (w : Walker (calls g.S.Shape g.M.Machine c.args.hand.layout.now c.args.hand.number)) (turn : LastTurns)
     → WalkerIsTold w c.args.seat.now.me.0.passes (walk_at c.args.goal c.args.trail (More c.args.head)) turn c.args.more
     → WalkerIsTold w c.read-key.new.seat.me.0.passes (walk_at c.args.goal c.args.trail (Pair c.args.head c.args.more c.loop-hand.slot)) turn c.read-key.result
 told g c w turn x = c.read-key.ensures.told w (walk_at c.args.goal c.args.trail (Pair c.args.head c.args.more c.loop-hand.slot)) turn (c.loop-hand.invariant.waits w turn x)

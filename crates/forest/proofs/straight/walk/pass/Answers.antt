@@ -1,8 +1,8 @@
 use Rattle.std.proofs.Common.{◌∙◌, refl, sym}
-use Rattle.arena.specs.declared.number.NodeNo.{NodeNo}
 use Rattle.arena.specs.Heads.{head_of}
 use Rattle.template.specs.Walk.Places.{walk_at}
 use Rattle.template.specs.declared.walk.WalkAt.TheVariants.{Key}
+use Rattle.order.specs.declared.last_turns.LastTurns.{LastTurns}
 use Rattle.forest.specs.CallKinds.{calls}
 use Rattle.forest.specs.StraightWalk.{Walker, WalkerIsTold, WalkerWaits}
 use Rattle.forest.proofs.StraightWalk.{to_key, to_open, to_side}
@@ -14,7 +14,7 @@ use Rattle.forest.proofs.straight.walk.pass.Goals.{Then-asks_key}
 use Rattle.forest.proofs.straight.walk.pass.Goals as goal
 
 -- whichever call it is, it waits for the key of the fork
-waits : (g : Over) (c : Then-asks_key g) (w : Walker (calls g.S.Shape g.M.Machine c.args.hand.layout.now c.args.hand.number)) (turn : NodeNo)
+waits : (g : Over) (c : Then-asks_key g) (w : Walker (calls g.S.Shape g.M.Machine c.args.hand.layout.now c.args.hand.number)) (turn : LastTurns)
     → WalkerIsTold w c.args.seat.now.me.0.passes (walk_at c.args.goal c.args.trail c.args.at) turn c.args.word
     → WalkerWaits w c.args.seat.now.me.0.passes (walk_at c.args.goal c.args.trail (Key (head_of c.args.word))) turn (load LoadSettled (node c.args.trail.node.0 first_key))
 waits g c w turn x = to_key w _ c.args.goal c.args.trail turn c.args.at c.args.word (head_of c.args.word) c.requires.place refl (sym c.is_leaf.ensures ∙ c.if-is_leaf.false) (sym c.asks_key.ensures ∙ c.if-asks_key.true) x
