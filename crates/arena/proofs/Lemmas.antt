@@ -1,4 +1,4 @@
--- What the layers above know of words, plans and shares, passed on from one
+-- What the layers above know of words, plans and shares, exported from one
 -- place: no other module of these proofs can be named outside. Declares nothing.
 pub use Rattle.arena.proofs.SameWords.{word_apart, word_refl, word_same}
 pub use Rattle.arena.proofs.Shapes.{run_as}

@@ -9,7 +9,7 @@ use Rattle.arena.specs.History.{History, ◌⊳◌, value}
 use Rattle.arena.specs.Fills.{IsNamed, opening_node, by_field, by_scx, IsNamedScx}
 use Rattle.arena.proofs.Values.{held_back}
 
--- an SCX-record that is named behind a row that leaves all infos was named before it
+-- an SCX-record that is named after a row that leaves all infos was named before it
 pub named_scx_before : (r : Row) (h : History) (s : ℕ) → ((n : ℕ) → value (r ⊳ h) (info n) ≡ value h (info n)) → IsNamedScx (r ⊳ h) s → IsNamedScx h s
 named_scx_before r h s same p = (p.0, held_back r h (info p.0) s (same p.0) p.1)
 

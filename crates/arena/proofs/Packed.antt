@@ -27,7 +27,7 @@ bits_small (a ∷ b ∷ c ∷ []) l = absurd (omega arith)
 bits_small (a ∷ b ∷ c ∷ d ∷ []) l = omega (arith, bit_small a, bit_small b, bit_small c, bit_small d)
 bits_small (a ∷ b ∷ c ∷ d ∷ e ∷ bs) l = absurd (omega arith)
 
--- as many bits as there are nodes, where none behind them is set
+-- as many bits as there are nodes, if none after them is set
 bits_within : (n : ℕ) (bs : List Bool) → length bs ≡ 4 → 0 < n → n ≤ 4 → ((j : ℕ) → n ≤ j → j < 4 → get_or bs j false ≡ false) → removed_bits bs < 2 ^ n
 bits_within n [] l s f none = absurd (omega arith)
 bits_within n (a ∷ []) l s f none = absurd (omega arith)
@@ -56,7 +56,7 @@ digit p n a b c d rest e few i k l m =
     let q : p / 8 ≡ a + 2 * (b + 2 * (c + 2 * d)) + 16 * rest = omega arith in
     (omega arith, omega arith, omega arith, omega arith)
 
--- a plan word of so many nodes, these bits, this place and this side
+-- a plan word of n nodes, these bits, this place and this side
 module _ (n : ℕ) (bs : List Bool) (at : ℕ) (side : Side) (p : ℕ) (is : p ≡ n + 8 * removed_bits bs + 128 * at + 512 * side_no side) (four : length bs ≡ 4) (few : n ≤ 4) (place : at < 4) where
   pub packed_count : count_of p ≡ n
   packed_count =

@@ -7,7 +7,7 @@ use Rattle.arena.specs.Fills.{IsOwnScx}
 use Rattle.arena.specs.Log.{owner}
 use Rattle.arena.proofs.Bools.{and_left, and_right}
 
--- its count stands in the lowest three bits, and is at most four
+-- its count is in the lowest three bits, and is at most four
 pub record IsCounted (p : ℕ) : Type 0 where
   pub count : count_of p ≡ p % 8
   pub few : p % 8 ≤ 4

@@ -149,7 +149,7 @@ same_moment (Start mode) m e f = e
 same_moment (r ⊳ h) m (inl e) f = e
 same_moment (r ⊳ h) m (inr e) f = absurd (let x = shorter h m e in let y = shorter m (r ⊳ h) f in omega arith)
 
--- no row comes behind a moment that it stands before
+-- no row is both after a moment and before it
 pub no_row_behind : (h k : History) (r : Row) → Extends h (r ⊳ k) → Extends k h → ⊥
 unfolding length_of
 no_row_behind h k r e f = let x = shorter h (r ⊳ k) e in let y = shorter k h f in omega arith

@@ -21,7 +21,7 @@ pub record IsInProgress (h : History) (s : ℕ) : Type 0 where
   pub unfinished : value h (state s) ≡ 0
   pub named : IsNamedScx h s
 
--- after some row of h behind the moment `start`, s was in progress and covered n
+-- after some row of h later than `start`, s was in progress and covered n
 pub record WasInTheWay (h start : History) (n s : ℕ) : Type 0 where
   pub row : Row
   pub before : History
@@ -38,5 +38,5 @@ pub record HasFailed (lay : Layout) (c : ℕ) (now start : History) (n s : ℕ) 
   pub others : IsOthersScx lay c s
   pub in_the_way : WasInTheWay now start n s
   pub over : value now (state s) ≢ 0
-  -- the node was not final at the call's begin
+  -- the node was not final at the call's start
   pub not_final : is_final (log lay start) n ≡ false

@@ -15,7 +15,7 @@ pub record IsLastStep (c : ℕ) (h : History) (kind : Kind) (n : ℕ) (row : Row
   pub none_since : (later : Row) (k : History) → Extends h (later ⊳ k) → Extends k (row ⊳ before) → later.pass.0 ≡ c → later.kind ≢ kind
 
 -- the newest row of this kind that the pass c has made, which is
--- behind the moment `start`, found s in the info of n
+-- after the moment `start`, found s in the info of n
 pub record HasFound (c : ℕ) (h start : History) (kind : Kind) (n s : ℕ) : Type 0 where
   pub row : Row
   pub before : History

@@ -142,7 +142,7 @@ unfoldable pub HasWon : History → ℕ → Type 0
 HasWon (Start mode) s = ⊥
 HasWon (r ⊳ h) s = IsWin h r s ⊎ HasWon h s
 
--- the row commits s, of which an update has won
+-- the row commits s, one of whose update exchanges has won
 pub record IsCommit (h : History) (r : Row) (s : ℕ) : Type 0 where
   pub word : r.word ≡ state s
   pub stored : r.after ≡ 1

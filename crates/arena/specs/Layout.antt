@@ -1,4 +1,4 @@
--- The table of a layout: how many words it has, where each stands, what each
+-- The table of a layout: how many words it has, where each is, what each
 -- holds at the start, and which pass owns what.
 use Rattle.std.specs.Prelude.{ℕ, ◌+◌, ◌*◌, ◌<◌, if◌then◌else◌, ◌==◌}
 use Rattle.arena.specs.declared.limits.Mode.{Mode}
@@ -24,12 +24,12 @@ all_nodes lay = opening_nodes lay.mode + lay.passes * lay.nodes
 abbrev pub all_scx : Layout → ℕ
 all_scx lay = 1 + lay.passes * lay.scx
 
--- the first node of pass c's share: behind the nodes of
+-- the first node of pass c's share: after the nodes of
 -- the start and the shares of the passes before
 abbrev pub first_node : Layout → ℕ → ℕ
 first_node lay c = opening_nodes lay.mode + c * lay.nodes
 
--- the first SCX-record of pass c's share: behind the dummy and the shares of the passes before it
+-- the first SCX-record of pass c's share: after the dummy and the shares of the passes before it
 abbrev pub first_scx : Layout → ℕ → ℕ
 first_scx lay c = 1 + c * lay.scx
 
@@ -41,7 +41,7 @@ table_size lay = 18 * all_nodes lay + 14 * all_scx lay
 abbrev pub node_start : NodeNo → ℕ
 node_start n = 18 * n.0
 
--- and where those of an SCX-record do, behind all nodes
+-- and where those of an SCX-record do, after all nodes
 abbrev pub scx_start : Layout → ScxNo → ℕ
 scx_start lay s = 18 * all_nodes lay + 14 * s.0
 

@@ -19,7 +19,7 @@ use Rattle.arena.specs.ScxRecords.{count, member, scx_finalizes}
 abbrev pub owner : Layout → ℕ → ℕ
 owner lay s = (s - 1) / lay.scx
 
--- an update that has won, as it stands in the log
+-- an update that has won, as it is in the log
 pub record Entry : Type 0 where
   -- its SCX-record, the pass that owns that one, and the number of the owner's call
   pub scx : ℕ

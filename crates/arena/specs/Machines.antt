@@ -23,7 +23,7 @@ pub record IsRun (allows : Layout → History → ℕ → Type 0) (lay : Layout)
   pub shaped : Shaped allows lay h
 
 -- a call of a machine: the pass that makes it, its number among
--- the pass's calls, and the history at its begin
+-- the pass's calls, and the history at its start
 pub record Call : Type 0 where
   pub layout : Layout
   pub pass : ℕ
@@ -39,7 +39,7 @@ begun_at c begin = record c { start = begin }
 abbrev pub row_of : Call → Step → History → Row
 row_of c s h = record { pass = record { 0 = c.pass }; call = c.number; kind = s.kind; word = s.word; before = value h s.word; after = word_after s.access (value h s.word) }
 
--- v may be told of a step that found `found`: of a load or
+-- v may be what a machine gets of a step that found `found`: of a load or
 -- an exchange what it found, of a store anything
 abbrev pub IsTold : Access → ℕ → ℕ → Type 0
 IsTold Load found v = v ≡ found

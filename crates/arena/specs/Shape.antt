@@ -1,4 +1,4 @@
--- What the layer above asks of a history beside its being lawful: each
+-- What the layer above requires of a history apart from its being lawful: each
 -- SCX-record that begins is one that it allows.
 use Rattle.std.specs.Prelude.{◌≡◌, ◌≢◌, ℕ}
 use Rattle.arena.specs.declared.layout.Layout.{Layout}
@@ -17,7 +17,7 @@ pub record IsBegin (h : History) (r : Row) (s : ℕ) : Type 0 where
   -- an exchange that loses may find what it would store
   pub changed : r.before ≢ r.after
 
--- every SCX-record that begins is allowed just before its begin
+-- every SCX-record that begins is allowed just before its start
 unfoldable pub Shaped : (Layout → History → ℕ → Type 0) → Layout → History → Type 0
 Shaped allows lay (Start mode) = Unit {0}
 Shaped allows lay (r ⊳ h) = Shaped allows lay h × ((s : ℕ) → IsBegin h r s → allows lay h s)

@@ -12,7 +12,7 @@ abbrev pub with_fill : Kind → Word → List ℕ → List ℕ
 with_fill Fill (Node n part) ns = if has ns n.0 then ns else n.0 ∷ ns
 with_fill _ _ ns = ns
 
--- the nodes of which some word was filled, the newest first, each once
+-- the nodes that have had a word filled, the newest first, each once
 unfoldable pub taken_nodes : History → List ℕ
 taken_nodes (Start mode) = []
 taken_nodes (r ⊳ h) = with_fill r.kind r.word (taken_nodes h)

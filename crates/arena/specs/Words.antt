@@ -1,4 +1,4 @@
--- What each word of a node and of an SCX-record is called, and how words are told apart.
+-- What each word of a node and of an SCX-record is called, and which words are the same.
 use Rattle.std.specs.Prelude.{ℕ, ◌+◌, ◌*◌, ◌<◌, Bool, true, false, if◌then◌else◌, ◌&&◌, ◌==◌}
 use Rattle.arena.specs.declared.word.Side.{Side}
 use Rattle.arena.specs.declared.word.Side.TheVariants.{Left, Right}
@@ -22,7 +22,7 @@ slot_no Second = 1
 slot_no Third = 2
 slot_no Fourth = 3
 
--- the place of a settled word within its node: a head, a first key and value, and, behind the fields,
+-- the place of a settled word within its node: head, first key and value, and, after its fields,
 -- info and mark, how many pairs more, those three, and the high halves of all four values
 abbrev pub settled_place : SettledPart → ℕ
 settled_place Head = 0

@@ -16,9 +16,9 @@ pub struct NoMemory;
 /// What a share can run out of.
 #[derive(Clone, Copy, Debug, PartialEq, Eq)]
 pub enum Resource {
-    /// Nodes, of which an edit takes up to three in a try.
+    /// Nodes; an edit takes up to three in a try.
     Nodes,
-    /// SCX-records, of which an edit takes one in a try.
+    /// SCX-records; an edit takes one in a try.
     Scx,
 }
 

@@ -2,8 +2,8 @@
 ghost use Rattle.std.specs.Prelude.{◌≡◌};
 ghost use Rattle.arena.specs.Heads.{FitsWord, head_of, head_word};
 
-/// How deep a node stands (the root's level is 0), whether it is a leaf, and its class: 0 for keys, 1
-/// and 2 for what stands above all keys. Its word is `8 * level + 4 * leaf + class`.
+/// How deep a node is (the root's level is 0), whether it is a leaf, and its class: 0 for keys, 1
+/// and 2 for what is above all keys. Its word is `8 * level + 4 * leaf + class`.
 #[derive(Clone, Copy, Debug, PartialEq, Eq)]
 pub struct Head {
     pub level: u64,

@@ -1,4 +1,4 @@
-//! Where each word stands in the table.
+//! Where each word is in the table.
 ghost use Rattle.std.specs.Prelude.{◌≡◌, ℕ, ◌+◌, ◌*◌, ◌<◌, ◌≤◌, ◌↔◌, IsTrue, IsSome, IfSome};
 ghost use Rattle.arena.specs.Opening.{opening_nodes};
 
@@ -16,7 +16,7 @@ pub struct Layout {
     pub nodes: u32,
     /// How many SCX-records each pass owns: at most 32,768.
     pub scx: u32,
-    /// How many words the nodes have. Those of the SCX-records come behind them: reckoned once,
+    /// How many words the nodes have. Those of the SCX-records are after them: computed once,
     /// since each step on such a word needs it.
     node_words: u32,
     ghost passes_fit: { passes ≤ 32 },

@@ -9,14 +9,14 @@ use crate::layout::Layout;
 pub enum Mode {
     /// Three nodes from the start: a root over two leaves.
     Tree,
-    /// Nodes 0 to 8 from the start, of which 1 to 8 are the cells that scripts name.
+    /// Nodes 0 to 8 from the start; 1 to 8 are the cells that scripts name.
     Records,
 }
 
 /// How many passes there are, how many nodes and SCX-records each of them owns, and how often a
-/// dictionary call tries. Nodes and SCX-records are never given back: a try of an insert takes three
-/// nodes where its key is new, any other try of an edit one at most, and each one SCX-record. With
-/// `passes` of `nodes` and `scx` a forest's table takes `8 * (18 * (3 + passes * nodes) + 14 *
+/// dictionary call tries. Nodes and SCX-records are never given back: a try of an insert takes up
+/// to three nodes if its key is new, any other try of an edit at most one, and each one SCX-record.
+/// With `passes` of `nodes` and `scx` a forest's table takes `8 * (18 * (3 + passes * nodes) + 14 *
 /// (1 + passes * scx))` bytes; of cells it has 9 nodes where this has 3.
 ///
 ///     Limits { passes: 4, nodes: 3000, scx: 1000, tries: 100 }

@@ -51,16 +51,16 @@ pub trait Shape {
     ghost stays: { (lay : Layout) (h : History) (r : Row) → IsRun allows lay (r ⊳ h) → holds lay h → holds lay (r ⊳ h) };
 }
 
-/// A call that asks for one atomic step at a time, and is told what each found.
+/// A call that asks for one atomic step at a time, and gets what each found.
 /// `next(None)` begins it; while it answers `Ask(step)`, the caller makes the step and
-/// goes on with `next(Some(found))`. It runs under the shape of the layer above. Its
-/// conditions are said of the call and of the history so far, which rows of other passes
-/// may lengthen between any two of its own steps.
+/// continues with `next(Some(found))`. It runs under the shape of the layer above. Its
+/// conditions are about the call and the history so far, to which rows of other passes
+/// may be added between any two of its own steps.
 pub trait Machine<S: Shape> {
     /// What a call of it answers.
     type Answer;
 
-    /// It may be called with what it is told.
+    /// It may be called with this result of its last step.
     ghost ready: { Self → Call → History → Option ℕ → Type 0 };
 
     /// It waits for this step.
@@ -75,13 +75,13 @@ pub trait Machine<S: Shape> {
     /// How many steps it may still ask for, in a run in which no more nodes than these are taken.
     ghost left: { Self → ℕ → ℕ };
 
-    /// What it is told is of such a run.
+    /// What it gets is of such a run.
     ghost fits: { Self → Option ℕ → ℕ → Type 0 };
 
     /// It never answers in place of its first step.
     ghost asks_first: { Self → Type 0 };
 
-    /// Goes on with what the last step found; with nothing at the first call, which may answer at
+    /// Continues with what the last step found; with nothing at the first call, which may answer at
     /// once. It is not called again after `Done`.
     fn next(&mut self, got: Option<u64>) -> Turn<Self::Answer>
         ensures turn { (c : Call) (h : History) → IsRun S.allows c.layout h → ready self.old c h got
@@ -98,11 +98,11 @@ pub trait Machine<S: Shape> {
     /// of the table, and begins only what is allowed.
     ghost lawful: { (m : Self) (c : Call) (h : History) (s : Step) → IsRun S.allows c.layout h → waits m c h s → IsRun S.allows c.layout (row_of c s h ⊳ h) };
 
-    /// Once the step is made, it may be called with what that told.
+    /// Once the step is made, it may be called with what that found.
     ghost made: { (m : Self) (c : Call) (h : History) (s : Step) (v : ℕ) → IsRun S.allows c.layout (row_of c s h ⊳ h)
         → IsTold s.access (value h s.word) v → waits m c h s → ready m c (row_of c s h ⊳ h) (Some v) };
 
-    /// What it may be told fits the nodes that are taken by then.
+    /// What it may get fits the nodes that are taken by then.
     ghost told: { (m : Self) (c : Call) (h : History) (got : Option ℕ) (nodes : ℕ) → IsRun S.allows c.layout h → ready m c h got
         → length (taken_nodes h) ≤ nodes → fits m got nodes };
 }

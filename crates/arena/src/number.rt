@@ -54,7 +54,7 @@ impl MemberIndex {
         }
     }
 
-    /// The one behind it, if there is one.
+    /// The next one, if there is one.
     pub fn next(self) -> Option<MemberIndex>
         ensures valid { IsSome result ↔ (member_index self < 3) }
         ensures value { IfSome result (λ m. member_index m ≡ member_index self + 1) }

@@ -10,8 +10,8 @@ use crate::limits::Mode;
 use crate::number::{NodeNo, ScxNo};
 use crate::word::{ABORTED, NodeWord, ScxWord, SettledPart, Side, Word};
 
-/// What a word holds at the start: the dummy is aborted, the tree is a root of class 2 over a leaf of
-/// class 1 and a leaf of class 2, and all else is 0.
+/// What a word holds at the start: the dummy is aborted, the tree is a root of class 2 over a leaf
+/// of class 1 and a leaf of class 2, and all else is 0.
 pub fn opening_word(mode: Mode, word: Word) -> u64
     ensures { result ≡ opening mode word }
 {

@@ -6,14 +6,14 @@ ghost use Rattle.arena.specs.ScxRecords.{IsPlan, count_of, raw_count, side_of, s
 use crate::number::MemberIndex;
 use crate::word::Side;
 
-/// How many nodes an SCX-record covers, which of them it finalizes, and which field of which of
-/// them it changes: `count + 8 * removed + 128 * member_index at + 512 * side`, where bit j of
+/// How many nodes an SCX-record covers, which of them it finalizes, and which field of which
+/// node it changes: `count + 8 * removed + 128 * member_index at + 512 * side`, where bit j of
 /// `removed` is set for the j-th node if it is to be finalized.
 #[derive(Clone, Copy, Debug, PartialEq, Eq)]
 pub struct Plan(pub u64);
 
 impl Plan {
-    /// The plan of an SCX-record over so many nodes, 1 to 4, where `removed` says of each whether
+    /// The plan of an SCX-record over `count` nodes, 1 to 4, where `removed` says of each whether
     /// it is to be finalized.
     pub fn new(count: usize, removed: [bool; 4], at: MemberIndex, side: Side) -> Plan
         requires { count ≤ 4 }
@@ -41,8 +41,8 @@ impl Plan {
         }
     }
 
-    /// Whether the word is a plan: of one to four nodes, with those that are finalized and that of the
-    /// field among them.
+    /// Whether the word is a plan: of one to four nodes, with those that are finalized and that of
+    /// the field among them.
     pub fn is_valid(self) -> bool
         ensures { IsTrue result ↔ IsPlan self.0 }
     {
@@ -50,7 +50,7 @@ impl Plan {
         0 < count && self.0 / 8 % 16 < power(count) && self.at().number() < count
     }
 
-    /// The place behind this one, if the plan covers so many nodes.
+    /// The place after this one, if the plan covers that many nodes.
     pub fn member_behind(self, j: MemberIndex) -> Option<MemberIndex>
         ensures valid { IsSome result ↔ ((member_index j < 3) × (member_index j + 1 < raw_count self.0)) }
         ensures value { IfSome result (λ k. member_index k ≡ member_index j + 1) }

@@ -47,7 +47,7 @@ impl Fresh {
 }
 
 impl Share {
-    /// The share of a pass, of which nothing is taken. No other pass's share has any of it.
+    /// The share of a pass, with nothing taken. No other pass's share has any of it.
     pub fn of(layout: &Layout, pass: PassNo) -> Share
         requires { pass.0 < layout.now.passes }
         ensures whole { result ≡ whole_share layout.now pass.0 }

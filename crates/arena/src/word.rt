@@ -34,7 +34,7 @@ pub enum Slot {
 pub enum SettledPart {
     /// 8 times the level, and 4 for a leaf, and the class; 0 in cells.
     Head,
-    /// How many pairs a leaf has behind its first.
+    /// How many pairs a leaf has after its first.
     More,
     /// The key of a pair of a leaf; the first of a fork is that of the fork.
     Key(Slot),

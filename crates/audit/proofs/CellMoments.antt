@@ -1,4 +1,4 @@
--- Moments of a history, told apart by how many rows they have, and what looks and snapshots say.
+-- Moments of a history, by how many rows they have, and what looks and snapshots say.
 use Rattle.std.proofs.Common.{◌≡◌, ℕ, ◌<◌, false, slice_get, inr, Option, Some, None, IsSome, refl, sym, ap, subst, ◌∙◌, arith}
 use Rattle.arena.specs.declared.layout.Layout.{Layout}
 use Rattle.arena.specs.declared.step.Kind.{Kind}

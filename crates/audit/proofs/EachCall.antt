@@ -1,6 +1,6 @@
--- What is shown of each call of the map by itself, with an arm for edits and one for each read: when
--- its answer is right and where it took place, and what an entry of it does. The other proofs of this
--- crate speak of any call.
+-- What is shown of each call of the map by itself, with an arm for edits and one for each read:
+-- when its answer is right and where it took place, and what an entry of it does. The other proofs
+-- of this crate speak of any call.
 use Rattle.std.proofs.Common.{◌≡◌, ℕ, ◌-◌, ◌<◌, ◌≤◌, ◌⊎◌, inr, Bool, true, false, cond, List, Option, Some, None, option_map, refl, sym, ◌∙◌, ap, subst, arith}
 use native.Mathlib.Decide.{ℕ_discrete}
 use Rattle.arena.specs.declared.layout.Layout.{Layout}
@@ -108,7 +108,7 @@ module _ (lay : Layout) (tries c : ℕ) (now start : History) (kept : ℕ → Op
   abbrev pub RightOf : MapCall → Answer → Type 0
   RightOf call = (own_rules call).IsRight lay tries c now start kept
 
-  -- an edit that tells something has changed it, or found it
+  -- an edit that answers something has changed it, or found it
   edit_right : (call : MapCall) (told : MapReply) (answer : Answer) → reply_told answer ≡ Some told → HasChangedOrReplied (changes_map call told) lay now start call told → EditIsRight call lay tries c now start kept answer
   edit_right call told (MapAnswer (Value v)) e had = subst (EditTells call lay now start) (sym e) had
   edit_right call told (MapAnswer (PairOf p)) e had = subst (EditTells call lay now start) (sym e) had
@@ -138,7 +138,7 @@ module _ (lay : Layout) (tries c : ℕ) (now start : History) (kept : ℕ → Op
   range_right low high most told (MapAnswer (PairOf p)) e fits = neither fits
   range_right low high most told answer e fits = absurd (let z : None ≡ Some told = e in cc)
 
-  -- a call that tells what the words said, and that it has changed nothing
+  -- a call that answers what the words said, and that it has changed nothing
   read_right : (call : MapCall) (m : List Pair) (answer : Answer) → reply_told answer ≡ Some (reply call m) → changes_map call (reply call m) ≡ false → Fits call answer → (((own_rules call).IsAtOnce answer → ⊥) → HasSpelled lay now start m) → RightOf call answer
   read_right (Edit goal rule) m answer e unchanged fits there =
       let call : MapCall = Edit goal rule in

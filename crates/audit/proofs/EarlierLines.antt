@@ -10,7 +10,7 @@ use Rattle.audit.specs.After.{lines_of, IsAfter}
 use Rattle.audit.specs.Faults.{first_row, MayBeAtFault}
 use Rattle.audit.specs.declared.run.Replay.{Replay}
 
--- more of a list goes on from less of it
+-- more of a list extends less of it
 take_more_of : (xs : List Line) (i j : ℕ) → i ≤ j → (rest : List Line) × (take j xs ≡ take i xs ++ rest)
 take_more_of xs zero j less = (take j xs, refl)
 take_more_of xs (suc i) zero less = absurd (omega (arith, less))
@@ -32,7 +32,7 @@ module _ (lay : Layout) (tries : ℕ) (calls : List Call) where
       let more = take_more_of lines i j less in
       older (reverse more.0) (reverse (take i lines)) (subst (AreLines lay tries calls) (ap reverse more.1 ∙ reverse-append (take i lines) more.0) fit)
 
--- what is said of a row that a fault names, where so many lines were found to fit
+-- what is said of a row that a fault names, if this many lines were found to fit
 fault_at : (r : Record) (at row : ℕ) → first_row r ≤ row → row ≤ first_row r + length r.lines.items → row ≤ first_row r + at → AreLines r.script.layout r.script.limits.tries r.script.calls.items (reverse (take at r.lines.items)) → MayBeAtFault r row
 fault_at r at row from within less fit = record {
   of_line = from;
@@ -44,7 +44,7 @@ fault_at r at row from within less fit = record {
 pub fault_before : (r : Record) (row : ℕ) → first_row r ≤ row → row ≤ first_row r + 0 → MayBeAtFault r row
 fault_before r row from less = fault_at r 0 row from (omega (arith, less)) (omega (arith, less)) (none_fit r.script.layout r.script.limits.tries r.script.calls.items)
 
--- and behind the lines that a run has passed
+-- and after the lines that a run has passed
 pub fault_behind : (run : Replay) (r : Record) (at row : ℕ) → run.record.now ≡ r → run.at ≡ at → IsAfter run (lines_of run) → first_row r ≤ row → row ≤ first_row r + length r.lines.items → row ≤ first_row r + at → MayBeAtFault r row
 fault_behind run r at row same is after from within less =
     subst (λ (k : Record). first_row k ≤ row → row ≤ first_row k + length k.lines.items → row ≤ first_row k + at → MayBeAtFault k row) same

@@ -206,7 +206,7 @@ module _ (lay : Layout) (tries : ℕ) (calls : List Call) (judge : Judged) (clie
     clients = rw change (ended_clients lay calls lines reply clients client next there behind x.clients);
   }
 
--- what the answer may be goes by the newest line
+-- what the answer may be depends on the newest line
 pub fitting : (lines : List Line) (command : Command) (answer : Answer) (idle : Bool) → is_idle lines ≡ idle → (idle ≡ true → MayAnswerAtOnce command answer) → (idle ≡ false → MayAnswerAfterStep command answer) → IsFitting lines command answer
 fitting [] command answer idle e once step = step (sym e)
 fitting (Step (Made n row) ∷ lines) command answer idle e once step = step (sym e)
@@ -249,7 +249,7 @@ reply_fits run reply client command x there own is last call begun end fits ente
     y : IsClientAfter (layout_of run) (calls_of run) (lines_of run) reply.client.0 client
     y = subst (λ (p : PassNo). IsClientAfter (layout_of run) (calls_of run) (lines_of run) p.0 client) own (x.clients client.pass.0 client there)
 
--- each client behind a step and the entry that it asks for
+-- each client after a step and the entry that it asks for
 pub made_clients : (lay : Layout) (calls : List Call) (lines : List Line) (number : ℕ) (row : StepRow) (owed : Option Entry) (clients old new : List ClientState) (client changed : ClientState) → entry_of lay lines number row ≡ owed → AreClientsAfter lay calls lines clients → slice_get clients row.pass.0 ≡ Some client → changed ≡ record client { begun = Some (unwrap_or client.begun number); steps = client.steps + 1 } → old ≡ set clients row.pass.0 changed → ((e : Entry) → owed ≡ Some e → e.client.0 < length old) → (owed ≡ None → new ≡ old) → ((e : Entry) (c : ClientState) → owed ≡ Some e → slice_get old e.client.0 ≡ Some c → new ≡ set old e.client.0 (record c { won = Some number })) → AreClientsAfter lay calls (Step (Made number row) ∷ lines) new
 made_clients lay calls lines number row owed clients old new client changed is x there change put within none some = go owed refl
   where
@@ -352,6 +352,6 @@ lawful_run run x all lawful settled whole = lawful_lines (layout_of run) (tries_
     there : (P : List Line → Type 0) → P (lines_of run) → P (reverse run.record.now.lines.items)
     there P y = subst (λ (l : List Line). P (reverse l)) taken y
 
--- what a run remembers, where what it remembers of the map goes by what it remembers of turns
+-- what a run remembers, if what it remembers of the map depends on what it remembers of turns
 pub remembers_all : (run : Replay) (lines : List Line) → IsAfter run lines → (IsAfter run lines → IsMapAfter run lines) → AreRememberedAfter run lines → Remembers run lines
 remembers_all run lines after map remembered = record { after = after; map = map after; remembered = remembered }

@@ -26,7 +26,7 @@ use Rattle.audit.specs.Edits.{AreToward, IsAlike, IsInFront, key_in}
 
 -- The place of an edit
 
--- the first pairs, so many, stay in front of the edit
+-- the first pairs, this many, stay in front of the edit
 abbrev pub StayInFront : MapEdit → List (ℕ × ℕ) → ℕ → Type 0
 StayInFront e ps zero = Unit {0}
 StayInFront e [] (suc at) = ⊥
@@ -40,7 +40,7 @@ with_value key (Some v) at ps = put_in ps at (key, v)
 abbrev number_pair : ℕ × ℕ → Pair
 number_pair p = pair p.0 p.1
 
--- behind a pair that stays, all is as without it
+-- after a pair that stays, all is as without it
 behind : (key : ℕ) (value : Option ℕ) (p : ℕ × ℕ) (ps qs : List (ℕ × ℕ)) (at : ℕ) → IsInFront (edit_to key value) (Some p.0) → number_pairs (with_value key value at qs) ≡ edited (edit_to key value) (number_pairs ps) → number_pairs (with_value key value (suc at) (p ∷ qs)) ≡ edited (edit_to key value) (number_pairs (p ∷ ps))
 behind key None p ps qs at x e = ap (λ (rest : List Pair). number_pair p ∷ rest) e ∙ sym (rw (ne_eqb key p.0 (λ is. x (sym is))) refl)
 behind key (Some v) p ps qs at x e = ap (λ (rest : List Pair). number_pair p ∷ rest) e ∙ sym (rw (le-ltb key p.0 (omega (arith, x)), ne_eqb key p.0 (λ is. omega (arith, x, is))) refl)
@@ -84,7 +84,7 @@ same_pairs (x ∷ xs) (y ∷ ys) e =
     let rest = same_pairs xs ys all.1 in
     λ i. (key i, value i) ∷ rest i
 
--- so the edit is made where the first pair stands that does not stay in front
+-- so the edit is made where the first pair is that does not stay in front
 pub made : (key : ℕ) (value : Option ℕ) (ps qs : List (ℕ × ℕ)) (at : ℕ) → StayInFront (edit_to key value) ps at → ¬ IsInFront (edit_to key value) (key_in ps at) → ((key_in ps at ≡ Some key) × (remove ps at ≡ qs)) ⊎ ((key_in ps at ≢ Some key) × (ps ≡ qs)) → number_pairs (with_value key value at qs) ≡ edited (edit_to key value) (number_pairs ps)
 made key value ps qs at s stops (inl x) = ap (λ (rest : List (ℕ × ℕ)). number_pairs (with_value key value at rest)) (sym x.1) ∙ made_gone key value ps at s x.0
 made key value ps qs at s stops (inr x) = ap (λ (rest : List (ℕ × ℕ)). number_pairs (with_value key value at rest)) (sym x.1) ∙ made_kept key value ps at s stops x.0
@@ -107,8 +107,8 @@ pub key_of_edit : (key : ℕ) (value : Option ℕ) → edit_key (edit_to key val
 key_of_edit key None = refl
 key_of_edit key (Some v) = refl
 
--- an SCX-record with the plan of an edit of a leaf, and the leaf as what it expects, edits this, if a
--- delete finds its key there
+-- an SCX-record with the plan of an edit of a leaf, and the leaf as what it expects, edits this, if
+-- a delete finds its key there
 pub leaf_edit_of : (h : History) (s key : ℕ) (put : Option ℕ) → plan h s ≡ leaf_plan (toward (value h) (member h s 0) key) → old h s ≡ member h s 1 → (put ≡ None → said (value h) key (member h s 1) ≢ None) → IsLeafEdit (value h) (edit_to key put) (member h s 1) (new h s) → EditsLeaf h s (edit_to key put)
 leaf_edit_of h s key None plan old there edit = record { plan = plan; old = old; edit = edit; there = λ _. there refl }
 leaf_edit_of h s key (Some v) plan old there edit = record { plan = plan; old = old; edit = edit; there = λ none. absurd (let z : Some v ≡ None = none in cc) }
@@ -120,8 +120,8 @@ module _ (f : Word → ℕ) where
   low_both : (n : ℕ) → class f n ≡ 0 → leaf_items f n ≡ leaf_pairs f n
   low_both n low = low_items f n low ∙ sym (low_pairs f n low)
 
-  -- Where two leaves between them give the map what the edit makes of what the leaf l gives it, so it
-  -- is with their items: above all keys the last one's stands behind the key.
+  -- If two leaves between them give the map what the edit makes of what the leaf l gives it, so it
+  -- is with their items: above all keys the last one's is after the key.
   pub split_items : (e : MapEdit) (l x y : ℕ) → edit_key e < 2 ^ 64 → class f x ≡ 0 → IsLastLeaf f y l → leaf_pairs f x ++ leaf_pairs f y ≡ edited e (leaf_pairs f l) → leaf_items f x ++ leaf_items f y ≡ edited e (leaf_items f l)
   split_items e l x y small low last made = go (ℕ_discrete (class f l) 0)
     where
@@ -194,8 +194,8 @@ module _ (f : Word → ℕ) where
   pub read_all : (n : ℕ) (ps : List (ℕ × ℕ)) → AreReadTo n ps None → (number_pairs ps ≡ held_pairs f n) × (length ps ≤ 4)
   read_all n ps x = (sym (append-nil (number_pairs ps)) ∙ x.all, (let few = x.few in omega (arith, few)))
 
-  -- a fork c over two leaves, x and y, which between them give the map what the edit makes of what the
-  -- leaf l gives it; the fork has the rank of y, and stands between their pairs
+  -- a fork c over two leaves, x and y, which between them give the map what the edit makes of what
+  -- the leaf l gives it; the fork has the rank of y, and is between their pairs
   pub record IsSplitOfPairs (e : MapEdit) (l c x y : ℕ) : Type 0 where
     pub leaf : is_leaf f l ≡ true
     pub fork : is_leaf f c ≡ false
@@ -211,7 +211,7 @@ module _ (f : Word → ℕ) where
     pub low : level f x ≡ level f c + 1
     pub high : level f y ≡ level f c + 1
 
-  -- what is on the right of a fork of its own rank stands at it or above: above all keys it is one item
+  -- what is on the right of a fork of its own rank is at it or above: above all keys it is one item
   last_behind : (c y : ℕ) → IsAlike f c y → AreToward f c Right (leaf_pairs f y) → AllFrom (rank f c) (leaf_items f y)
   last_behind c y alike right = go (ℕ_discrete (class f y) 0)
     where

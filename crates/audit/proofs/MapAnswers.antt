@@ -57,7 +57,7 @@ module _ (lay : Layout) (tries : ℕ) (calls : List Call) (lines : List Line) (c
   pub some_turns : r.begin ≤ r.end
   some_turns = let w = begin_within lay tries calls lines r.client.0 r.begin x.in_order x.begun in let e = x.end in omega (w, e, arith)
 
-  -- behind which there are no changes
+  -- after which there are no changes
   pub changes_fall : FallFrom (suc r.end) changed
   changes_fall = subst (λ (n : ℕ). FallFrom (suc n) changed) (sym x.end) (falls lay tries calls lines changed x.in_order x.entries)
 
@@ -85,7 +85,7 @@ module _ (lay : Layout) (tries : ℕ) (calls : List Call) (lines : List Line) (c
         replies = told ∙ ap (λ (m : List Pair). Some (reply call m)) before;
       }
 
--- what is found of a key is the reply to a call that tells its value
+-- what is found of a key is the reply to a call that answers its value
 pub read_value : (calls : List Call) (lines : List Line) (r : Finished) (key : ℕ) (call : MapCall) → ((m : List Pair) → reply call m ≡ OneValue (get key m)) → IsValueAt calls lines key r → IsReadAt calls lines call r
 read_value calls lines r key call says v = record {
   turn = v.turn;

@@ -1,4 +1,4 @@
--- Where the commands of a client stand among the calls.
+-- Where the commands of a client are among the calls.
 use Rattle.std.proofs.Common.{◌≡◌, ℕ, zero, suc, ◌<◌, List, [], ◌∷◌, length, drop, Option, Some, None, slice_get, get_or, drop-cons, refl, sym, ◌∙◌, ap, subst, cond, Bool, arith}
 use Rattle.std.proofs.lemmas.Bool.{eq-eqb}
 use Rattle.std.proofs.lemmas.Option.{slice_get_read}
@@ -7,7 +7,7 @@ use Rattle.script.specs.declared.command.Command.{Command}
 use Rattle.record.specs.Commands.{commands}
 use Rattle.audit.specs.Calls.{StandsNext, command_of_call, command_at}
 
--- the first of what is left stands there, and the rest is left behind it
+-- the first of what is left is there, and the rest is left after it
 first_left : {X : Type 0} (xs : List X) (n : ℕ) (x : X) (ys : List X) → drop n xs ≡ x ∷ ys → (slice_get xs n ≡ Some x) × (drop (suc n) xs ≡ ys) × (n < length xs)
 first_left [] zero x ys e = cc
 first_left [] (suc n) x ys e = cc
@@ -20,7 +20,7 @@ none_there [] n e = refl
 none_there (z ∷ xs) zero e = cc
 none_there (z ∷ xs) (suc n) e = none_there xs n e
 
--- the next of a client's commands is that of the call where it stands
+-- the next of a client's commands is that of the call where it is
 pub next_at : (calls : List Call) (c number at : ℕ) → StandsNext calls c (drop number (commands calls c)) (Some at) → (call : Call) × (slice_get calls at ≡ Some call) × (slice_get (commands calls c) number ≡ Some call.command)
 next_at calls c number at x = (x.0, x.1, (first_left (commands calls c) number x.0.command _ x.2).0)
 
@@ -37,7 +37,7 @@ call_at calls c at call left below is same e = (
   same,
 )
 
--- the command of the call where a client stands is its next one
+-- the command of the call where a client is is its next one
 pub command_next : (calls : List Call) (c number : ℕ) (at : Option ℕ) → StandsNext calls c (drop number (commands calls c)) at → command_at calls at ≡ slice_get (commands calls c) number
 command_next calls c number None x = sym (none_left calls c number x)
 command_next calls c number (Some at) x = let y = next_at calls c number at x in ap command_of_call y.1 ∙ sym y.2

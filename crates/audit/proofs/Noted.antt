@@ -1,4 +1,4 @@
--- What is remembered of the steps, behind one more.
+-- What is remembered of the steps, after one more.
 use Rattle.std.proofs.Common.{◌≡◌, ◌≢◌, ℕ, zero, suc, ◌+◌, ◌^◌, ◌<◌, ◌≤◌, ◌↔◌, ◌⊎◌, inl, inr, ⊎_elim, Bool, true, false, ◌||◌, eqb, List, [], ◌∷◌, ◌++◌, length, set, slice_get, Option, Some, None, refl, sym, ◌∙◌, ap, subst, add-one, arith}
 use native.Mathlib.Decide.{ℕ_discrete}
 use Rattle.arena.specs.declared.layout.Layout.{Layout}
@@ -95,7 +95,7 @@ module _ (lay : Layout) (h : History) (r : Row) where
   running_more : (rows s : ℕ) → WasRunningAt h rows s → WasRunningAt (r ⊳ h) rows s
   running_more rows s x = (x.0, record { within = inr x.1.within; many = x.1.many }, x.2)
 
-  -- all that is kept of the steps, behind the row
+  -- all that is kept of the steps, after the row
   pub record AreMore (old new : Steps) : Type 0 where
     pub layout : new.judge.layout ≡ lay
     pub is_seen : seen_history new.judge ≡ r ⊳ h

@@ -135,7 +135,7 @@ final_as l lay k h a b xs ys s n rows e f g i z = subst (λ (q : List ℕ). IsRe
 pub noted_as : (l lay : Layout) (k h : History) (a b : ℕ) (row : Row) (old new : Memory) → l ≡ lay → k ≡ h → a ≡ b → IsNoted l k a row old new → IsNoted lay h b row old new
 noted_as l lay k h a b row old new e f g z = subst (λ (q : ℕ). IsNoted lay h q row old new) g (subst (λ (q : History). IsNoted lay q a row old new) f (subst (λ (q : Layout). IsNoted q k a row old new) e z))
 
--- what is remembered of a client behind a step, by whether the step is its own
+-- what is remembered of a client after a step, by whether the step is its own
 abbrev KeptIf : Layout → List Call → List Line → ℕ → Row → Bool → ℕ → Memory → Type 0
 KeptIf lay calls lines number row b c m = IsKept lay (row ⊳ history lay.mode lines) (cond (b || is_some (begin lines c)) (start lay.mode lines c) (row ⊳ history lay.mode lines)) (linked calls lay.mode lines c) (cond b (Some (unwrap_or (begin lines c) number)) (begin lines c)) (next_command calls lines c) c m
 
@@ -145,7 +145,7 @@ made_remembered lay calls lines number row old new x lawful small more others ow
   memories = λ c m get. go c m get (ℕ_discrete row.pass.0 c);
 }
   where
-    -- of a client whose call has begun the begin stays
+    -- of a client whose call has begun the start stays
     if_begun : (c : ℕ) (m : Memory) (o : Option ℕ) → IsKept lay (row ⊳ history lay.mode lines) (start lay.mode lines c) (linked calls lay.mode lines c) o (next_command calls lines c) c m → IsKept lay (row ⊳ history lay.mode lines) (cond (is_some o) (start lay.mode lines c) (row ⊳ history lay.mode lines)) (linked calls lay.mode lines c) o (next_command calls lines c) c m
     if_begun c m (Some k) y = y
     if_begun c m None y = record { begins = λ some. absurd (let z : false ≡ true = some in cc); looks = y.looks; freezes = y.freezes; snapshots = y.snapshots }
@@ -205,7 +205,7 @@ module _ (old new : Steps) (pass : ℕ) (memory : Memory) (same : new ≡ record
           here : slice_get new.memories.items pass ≡ Some m → Q pass m
           here q = let z = put_own m q in subst (λ (k : Memory). Q pass k) (sym z.0) (own z.1.0 z.1.1 (x pass z.1.0 z.1.1))
 
-  -- the begin of a call
+  -- the start of a call
   pub begun_remembered : (lay : Layout) (calls : List Call) (lines : List Line) → AreRemembered lay calls lines old → ((before : Memory) → slice_get old.memories.items pass ≡ Some before → memory ≡ record before { begun = memory.begun; nodes = memory.nodes; scx = memory.scx; tries = memory.tries; same = memory.same }) → (pass < length old.memories.items → IsBegunOf lay calls lines pass memory) → AreRememberedInCall lay calls lines pass new
   begun_remembered lay calls lines x rest begun = record {
     remembered = record {
@@ -228,7 +228,7 @@ module _ (old new : Steps) (pass : ℕ) (memory : Memory) (same : new ≡ record
 
 -- A reply
 
--- what is remembered of a client behind a reply, by whether the reply is its own
+-- what is remembered of a client after a reply, by whether the reply is its own
 abbrev RepliedIf : Layout → List Call → List Line → Finished → Bool → ℕ → Memory → Type 0
 RepliedIf lay calls lines reply b c m = IsKept lay (history lay.mode lines) (cond b (history lay.mode lines) (start lay.mode lines c)) (λ n. cond b (linked_then (next_command calls lines c) reply.answer (history lay.mode lines) n (linked calls lay.mode lines c n)) (linked calls lay.mode lines c n)) (cond b None (begin lines c)) (slice_get (commands calls c) (cond b (suc (answered lines c)) (answered lines c))) c m
 

@@ -1,4 +1,4 @@
--- Levels still rise behind a row that is stored where they do.
+-- Levels still rise after a row that is stored where they do.
 use Rattle.std.proofs.Common.{◌≡◌, ◌≢◌, ℕ, ◌<◌, ◌⊎◌, inl, inr, ⊎_elim, Bool, true, false, cond, refl, sym, ◌∙◌, ap, subst}
 use Rattle.arena.specs.declared.word.Side.{Side}
 use Rattle.arena.specs.declared.word.NodeWord.TheVariants.{Settled, Child}
@@ -38,7 +38,7 @@ unfolding HasHeld
 held_before r h w v left (inl e) = subst (λ (x : ℕ). HasHeld h w x) (sym left ∙ e) (held_now h w)
 held_before r h w v left (inr x) = x
 
--- so a node that a field has held behind the row has been held before
+-- so a node that a field has held after the row has been held before
 stood_before : (r : Row) (h : History) → ((n : ℕ) (side : Side) → IsLeft r h (child n side)) → (n : ℕ) → HasStoodInField (r ⊳ h) n → HasStoodInField h n
 stood_before r h fields n (inl few) = inl few
 stood_before r h fields n (inr (m, from, held)) = inr (m, from, held_before r h (child m from) n (fields m from) held)

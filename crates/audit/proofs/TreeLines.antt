@@ -138,7 +138,7 @@ module _ (lay : Layout) (tries : ℕ) (calls : List Call) (mode : lay.mode ≡ T
   pub tree_log : (entry : Entry) (change : Change) → AreLines lay tries calls (Log entry ∷ lines) → IsChangeOf calls (written_log lines) entry change → IsTreeSoFar lay calls begun (change ∷ changed) (Log entry ∷ lines)
   tree_log entry change a is = record { run = x.run; rising = x.rising; spelled = spelled_more (Log entry) a (mode, x.run) x.rising; edits = x.edits; entries = (is, x.entries) }
 
-  -- a step that begins no SCX-record but one that makes an edit, behind which levels rise
+  -- a step that begins no SCX-record but one that makes an edit, after which levels rise
   pub tree_step : (number : ℕ) (row : StepRow) (more : List (Option BegunEdit)) → AreLines lay tries calls (Step (Made number row) ∷ lines) → IsLawful lay (history lay.mode lines) row → ((s : ℕ) → IsBegin (history lay.mode lines) row s → TreeAllows lay (history lay.mode lines) s) → HasRisingLevels (row ⊳ history lay.mode lines) → AreRememberedEdits lay (row ⊳ history lay.mode lines) more → IsTreeSoFar lay calls more changed (Step (Made number row) ∷ lines)
   unfolding Lawful Shaped
   tree_step number row more a lawful allows rising edits = record { run = run; rising = rising; spelled = spelled_more (Step (Made number row)) a (mode, run) rising; edits = edits; entries = x.entries }

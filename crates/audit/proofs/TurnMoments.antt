@@ -104,7 +104,7 @@ idle_others (ReplyLine r ∷ lines) c d last other = tt
 
 -- Moments
 
--- the words spelled this map at a moment behind a row of the call's own time
+-- the words spelled this map at a moment after a row of the call's own time
 pub record HasSpelled (lay : Layout) (now start : History) (m : List Pair) : Type 0 where
   pub row : StepRow
   pub before : History

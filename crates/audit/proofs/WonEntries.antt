@@ -16,7 +16,7 @@ use Rattle.record.proofs.Lemmas.{entries_none, log_step, won_within}
 use Rattle.linearization.proofs.Lemmas.{map_now}
 use Rattle.audit.proofs.TurnMoments.{map_before}
 
--- the entry stands behind its turn, is of the client's call, and its only one; the map before the
+-- the entry comes after its turn, is of the client's call, and its only one; the map before the
 -- turn is that of the entries before
 pub record IsEntered (lay : Layout) (calls : List Call) (lines : List Line) (c turn : ℕ) : Type 0 where
   pub entry : Entry

@@ -1,4 +1,4 @@
--- What an audit remembers of the lines so far. Lines stand here with the newest first.
+-- What an audit remembers of the lines so far. Lines have the newest first here.
 use Rattle.std.specs.Prelude.{◌≡◌, ℕ, ◌<◌, Bool, true, false, List, ◌∷◌, length, reverse, take, slice_get, Option, Some, None, IfSome, is_some, drop}
 use Rattle.arena.specs.declared.layout.Layout.{Layout}
 use Rattle.arena.specs.declared.limits.Mode.TheVariants.{Tree}
@@ -110,7 +110,7 @@ pub record IsNextStep (run : Replay) (number : ℕ) (row : Row) (owed : Option E
   -- nothing is owed up to now, and the step fits the lines
   pub settled : OwesNothing (layout_of run) (calls_of run) (lines_of run)
   pub step : IsStep (layout_of run) (tries_of run) (calls_of run) (lines_of run) number row
-  -- on the tree levels still rise behind it, and what it begins, if it begins something, makes an edit
+  -- on the tree levels still rise after it, and if it begins something, that makes an edit
   pub rising : (layout_of run).mode ≡ Tree → HasRisingLevels (seen_history run.steps.judge) → HasRisingLevels (row ⊳ seen_history run.steps.judge)
   pub edit : (layout_of run).mode ≡ Tree → IsBegin (seen_history run.steps.judge) row row.after → (begun : BegunEdit) × MayMakeEdit (layout_of run) (seen_history run.steps.judge) row.after begun
   -- the entry is that of the step, and of a client that there is
@@ -119,7 +119,7 @@ pub record IsNextStep (run : Replay) (number : ℕ) (row : Row) (owed : Option E
   pub wins : (e : Entry) → fits ≡ true → owed ≡ Some e → IsWinOf (layout_of run) (calls_of run) (lines_of run) row e
 
 -- nothing but the reply is owed, and it is to the next call of this client, which has this command:
--- its answer is one that the call may give behind the newest line
+-- its answer is one that the call may give after the newest line
 pub record IsReplyToNext (run : Replay) (client : ClientState) (command : Command) (reply : Finished) : Type 0 where
   pub owed : entry_owed (layout_of run) (lines_of run) ≡ None
   pub is_client : slice_get run.clients.items client.pass.0 ≡ Some client
@@ -128,7 +128,7 @@ pub record IsReplyToNext (run : Replay) (client : ClientState) (command : Comman
   pub begun : client.begun ≡ Some reply.begin
   pub end : reply.end ≡ run.turn
   pub fits : IsFitting (lines_of run) command reply.answer
-  -- it tells a change if its client's call has won, and only then
+  -- it says that it has made a change if its client's call has won, and only then
   pub entry : enters command reply.answer ≡ is_some client.won
   pub is_next : next_command (calls_of run) (lines_of run) client.pass.0 ≡ Some command
 

@@ -1,5 +1,5 @@
--- What is known of a call of the map whose answer is judged. Lines stand here with the newest
--- first.
+-- What is known of a call of the map whose answer is judged. Lines have the newest
+-- first here.
 use Rattle.std.specs.Prelude.{◌≡◌, ℕ, ◌<◌, ◌≤◌, List, Option, Some, None}
 use Rattle.arena.specs.declared.layout.Layout.{Layout}
 use Rattle.ordered_map.specs.declared.pair.Pair.{Pair}
@@ -29,7 +29,7 @@ use Rattle.audit.specs.declared.client.ClientState.{ClientState}
 
 -- The lines so far are lawful ones, in which the words spell the map, and the changes are those of
 -- their entries. The reply is one to the client's next call, of this command, which is one of the
--- map: it names the call, its first turn and its last, and an answer that the call may give behind
+-- map: it names the call, its first turn and its last, and an answer that the call may give after
 -- the newest line.
 pub record IsAsked (lay : Layout) (tries : ℕ) (calls : List Call) (lines : List Line) (changed : List Change) (client : ClientState) (command : Command) (r : Finished) : Type 0 where
   pub in_order : AreLines lay tries calls lines
@@ -47,7 +47,7 @@ pub record IsAsked (lay : Layout) (tries : ℕ) (calls : List Call) (lines : Lis
   -- an update of the call has won if the answer says so, and only then
   pub entry : HasItsEntry (enters command r.answer) (won lay lines r.client.0)
 
--- after some turn of the call the map was one on which it needs so many nodes
+-- after some turn of the call the map was one on which it needs this many nodes
 abbrev pub NeededWithin : List Call → List Line → MapCall → ℕ → Finished → Type 0
 NeededWithin calls lines call nodes r = (m : ℕ) × (r.begin ≤ m) × (m ≤ r.end) × (need call (map_at calls lines m) ≡ nodes)
 
@@ -56,12 +56,12 @@ abbrev pub NeededSomething : List Call → List Line → MapCall → Finished �
 NeededSomething calls lines (Edit goal rule) r = (nodes : ℕ) × (0 < nodes) × NeededWithin calls lines (Edit goal rule) nodes r
 NeededSomething calls lines _ r = Unit {0}
 
--- what is told has the form of the call's replies, of which it is the one that tells the same pairs
+-- what is answered has the form of the call's replies, and is the one of these with the same pairs
 abbrev pub IsToldByPairs : MapCall → Reply ℕ ℕ → Type 0
 IsToldByPairs call told = (m : List Pair) → pairs_in (number_reply told) ≡ pairs_in (Some (reply call m)) → number_reply told ≡ Some (reply call m)
 
 -- the reply's moment is the greatest turn of the call after which the map had at the key what it
--- tells
+-- answers
 pub record IsValueAt (calls : List Call) (lines : List Line) (key : ℕ) (r : Finished) : Type 0 where
   pub told : Option ℕ
   pub answers : r.answer ≡ Map (Value told)
@@ -69,7 +69,7 @@ pub record IsValueAt (calls : List Call) (lines : List Line) (key : ℕ) (r : Fi
   pub moment : r.moment ≡ Some turn
   pub greatest : IsGreatestTurn (λ m. get key (map_at calls lines m) ≡ told) r.begin r.end turn
 
--- the reply's moment is the greatest turn of the call after which the map replied what it tells
+-- the reply's moment is the greatest turn of the call after which the map replied what it answers
 pub record IsReadAt (calls : List Call) (lines : List Line) (call : MapCall) (r : Finished) : Type 0 where
   pub turn : ℕ
   pub moment : r.moment ≡ Some turn

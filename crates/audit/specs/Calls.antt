@@ -1,11 +1,11 @@
--- Where a client's calls stand in a script.
+-- Where a client's calls are in a script.
 use Rattle.std.specs.Prelude.{◌≡◌, ℕ, suc, List, [], ◌∷◌, drop, Option, Some, None, slice_get}
 use Rattle.script.specs.declared.call.Call.{Call}
 use Rattle.script.specs.declared.command.Command.{Command}
 use Rattle.record.specs.Commands.{commands}
 
--- where the first of client c's commands that are still to come
--- stands among the calls; nowhere if none is to come
+-- where the first of client c's commands that are still to be made
+-- is among the calls; nowhere if there is none
 abbrev pub StandsNext : List Call → ℕ → List Command → Option ℕ → Type 0
 StandsNext calls c left None = left ≡ []
 StandsNext calls c left (Some at) = (call : Call) × (slice_get calls at ≡ Some call) × (left ≡ call.command ∷ commands (drop (suc at) calls) c) × (call.client.0 ≡ c)
@@ -15,7 +15,7 @@ abbrev pub command_of_call : Option Call → Option Command
 command_of_call None = None
 command_of_call (Some call) = Some call.command
 
--- the command of the call that stands at a place
+-- the command of the call at a place
 abbrev pub command_at : List Call → Option ℕ → Option Command
 command_at calls None = None
 command_at calls (Some at) = command_of_call (slice_get calls at)

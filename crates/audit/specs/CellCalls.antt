@@ -29,7 +29,7 @@ pub record IsCallSeen (lay : Layout) (c : ℕ) (h start : History) (linked : ℕ
   pub freezes : (look : FoundInfo) → memory.freeze ≡ Some look → IsLookOf lay h c Freeze look
   pub snapshots : AreSnapshotsOf lay h memory linked
 
--- the last look of a kind was made behind the first so many steps,
+-- the last look of a kind was made after the first `after` steps,
 -- at this node, where it found this
 pub record IsLookAt (look : Option FoundInfo) (node found after : ℕ) : Type 0 where
   pub kept : FoundInfo
@@ -38,7 +38,7 @@ pub record IsLookAt (look : Option FoundInfo) (node found after : ℕ) : Type 0 
   pub at : kept.node.0 ≡ node
   pub it_found : kept.found ≡ found
 
--- the look of the memory is this one, at this node since the call's begin
+-- the look of the memory is this one, at this node since the call's start
 pub record IsOwnLook (memory : Memory) (node : ℕ) (look : FoundInfo) : Type 0 where
   pub is : memory.look ≡ Some look
   pub behind : memory.begun < look.steps

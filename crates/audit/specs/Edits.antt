@@ -42,7 +42,7 @@ pub record IsAlike (f : Word → ℕ) (n m : ℕ) : Type 0 where
   pub class : class f n ≡ class f m
   pub key : f (node n first_key) ≡ f (node m first_key)
 
--- the keys of these pairs are words, and all stand on this side of the fork n
+-- the keys of these pairs are words, and all are on this side of the fork n
 abbrev pub AreToward : (Word → ℕ) → ℕ → Side → List Pair → Type 0
 AreToward f n side [] = Unit {0}
 AreToward f n side (p ∷ ps) = (p.key < 2 ^ 64) × (toward f n p.key ≡ side) × AreToward f n side ps
@@ -64,7 +64,7 @@ abbrev pub IsLeafFor : Goal → History → ℕ → ℕ → Type 0
 IsLeafFor (Key k) h n key = Unit {0}
 IsLeafFor (End side) h n key = IsEndLeaf side h n key
 
--- the leaf that the SCX-record covers for its edit suits the call, which changes what that says
+-- the leaf that the SCX-record covers for its edit fits the call, which changes what that says
 abbrev pub Suits : Option MapCall → History → ℕ → MapEdit → Type 0
 Suits (Some (Edit goal rule)) h s edit = IsTrue (applies rule (said (value h) (edit_key edit) (edit_leaf h s edit))) × IsLeafFor goal h (edit_leaf h s edit) (edit_key edit)
 Suits _ h s edit = Unit {0}
@@ -86,6 +86,6 @@ pub record HasBegunWith (lay : Layout) (h : History) (s : ℕ) (begun : BegunEdi
   pub begins : IsBegin before row s
   pub makes : MayMakeEdit lay before s begun
 
--- of each SCX-record of which one is remembered that is the one with which it has begun
+-- of each SCX-record, if an edit is remembered of it, that is the one with which it has begun
 abbrev pub AreRememberedEdits : Layout → History → List (Option BegunEdit) → Type 0
 AreRememberedEdits lay h edits = (s : ℕ) (begun : BegunEdit) → slice_get edits s ≡ Some (Some begun) → HasBegunWith lay h s begun

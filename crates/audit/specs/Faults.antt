@@ -3,12 +3,12 @@ use Rattle.std.specs.Prelude.{ℕ, ◌+◌, ◌-◌, ◌≤◌, length, reverse,
 use Rattle.record.specs.declared.record.Record.{Record}
 use Rattle.record.specs.LawfulRun.{AreLines}
 
--- the row of the first line in the record's report: before it stand those of the format, of the
+-- the row of the first line in the record's report: before it are those of the format, of the
 -- limits and of the calls
 abbrev pub first_row : Record → ℕ
 first_row r = length r.script.calls.items + 3
 
--- The row is that of a line of the run, or the one behind the last, and all lines before it fit.
+-- The row is that of a line of the run, or the one after the last, and all lines before it fit.
 pub record MayBeAtFault (r : Record) (row : ℕ) : Type 0 where
   pub of_line : first_row r ≤ row
   pub within : row ≤ first_row r + length r.lines.items

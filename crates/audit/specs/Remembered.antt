@@ -1,5 +1,5 @@
--- What an audit remembers of the steps, for the answers of calls. Lines stand here with the newest
--- first.
+-- What an audit remembers of the steps, for the answers of calls. Lines have the newest
+-- first here.
 use Rattle.std.specs.Prelude.{◌≡◌, ℕ, suc, ◌+◌, ◌<◌, ◌≤◌, ◌↔◌, List, length, slice_get, Option, Some, None, IsSome, true}
 use Rattle.arena.specs.declared.layout.Layout.{Layout}
 use Rattle.arena.specs.declared.step.Kind.{Kind}
@@ -35,12 +35,12 @@ abbrev pub row_count : History → ℕ
 row_count (Start mode) = 0
 row_count (row ⊳ h) = suc (row_count h)
 
--- g is the moment of h after its first so many rows
+-- g is the moment of h after its first `rows` rows
 pub record IsMomentAt (h : History) (rows : ℕ) (g : History) : Type 0 where
   pub within : Extends h g
   pub many : row_count g ≡ rows
 
--- after so many rows of h SCX-record s was in progress
+-- after this many rows of h SCX-record s was in progress
 abbrev pub WasRunningAt : History → ℕ → ℕ → Type 0
 WasRunningAt h rows s = (g : History) × IsMomentAt h rows g × IsInProgress g s
 
@@ -50,7 +50,7 @@ pub record AreStepsOf (lay : Layout) (h : History) (steps : Steps) : Type 0 wher
   pub is_seen : seen_history steps.judge ≡ h
   pub count : steps.count ≡ row_count h
   pub all_until : length steps.until.items ≡ all_scx lay
-  -- of a finished SCX-record: so many rows of h there were as it was still in progress
+  -- of a finished SCX-record: how many rows of h there were while it was still in progress
   pub until : (s rows : ℕ) → slice_get steps.until.items s ≡ Some rows → 0 < rows → WasRunningAt h rows s
   pub all_finals : length steps.finals.items ≡ all_nodes lay
   -- of each node: since when it is final
@@ -79,12 +79,12 @@ abbrev pub AreSnapshotsOf : Layout → History → Memory → (ℕ → Option Hi
 AreSnapshotsOf lay h memory linked = (n : ℕ) (kept : Option Snapshot) → slice_get memory.snapshots n ≡ Some kept → IsSnapshotOf lay h n kept (linked n)
 
 -- Since the moment `start` client c has begun as many tries as are remembered, the newest of them
--- behind so many rows.
+-- after the remembered number of rows.
 pub record AreTriesSince (h start : History) (c : ℕ) (tries : Tries) : Type 0 where
   pub many : tries_begun c h ≡ tries_begun c start + tries.many
   pub newest : 0 < tries.many → (begin : History) × IsMomentAt h tries.before begin × Extends begin start × IsNewestTry c h begin
 
--- What is remembered of the begin of a call of client c: the history was `start` then, `linked` are
+-- What is remembered of the start of a call of client c: the history was `start` then, `linked` are
 -- the moments of the snapshots that the client keeps, and `next` is the call's command.
 pub record IsBegunWith (lay : Layout) (h start : History) (linked : ℕ → Option History) (next : Option Command) (c : ℕ) (memory : Memory) : Type 0 where
   pub begun : memory.begun ≡ row_count start

@@ -13,7 +13,7 @@ use Rattle.audit.specs.declared.memory.FoundInfo.{FoundInfo}
 use Rattle.audit.specs.declared.memory.Memory.{Memory}
 use Rattle.audit.specs.declared.memory.Tries.{Tries}
 
--- the look is what the row has found in an info word, as the last of so many rows of h
+-- the look is what the row has found in an info word, as the last of `rows` rows of h
 pub record IsLookBy (lay : Layout) (h : History) (rows : ℕ) (row : Row) (look : FoundInfo) : Type 0 where
   pub word : row.word ≡ info look.node.0
   pub many : look.steps ≡ rows
@@ -26,21 +26,21 @@ noted LoadInfo look memory = record memory { look = look }
 noted Freeze look memory = record memory { freeze = look }
 noted _ look memory = memory
 
--- what is remembered of a client's tries behind a step, the last of so many, which begins one or
+-- what is remembered of a client's tries after a step, the last of this many, which begins one or
 -- does not
 abbrev pub tried : Bool → ℕ → Tries → Tries
 tried true rows old = record { many = suc old.many; before = rows - 1 }
 tried false rows old = old
 
 -- it was noted what the row has found,
--- as the last of so many rows of h, and whether it begins a try
+-- as the last of `rows` rows of h, and whether it begins a try
 pub record IsNoted (lay : Layout) (h : History) (rows : ℕ) (row : Row) (old new : Memory) : Type 0 where
   pub seen : Option FoundInfo
   pub by : (look : FoundInfo) → seen ≡ Some look → IsLookBy lay h rows row look
   pub is : new ≡ record (noted row.kind seen old) { tries = new.tries }
   pub tries : old.tries.many + 1 < 2 ^ 64 → new.tries ≡ tried (begins_try row.pass.0 row) rows old.tries
 
--- what is remembered of since when node n is final, which was `before`, is so many rows after it
+-- since how many rows node n is remembered to be final: that was `before`, and is `after` once it
 -- was noted of the nodes of SCX-record s below this place
 abbrev pub IsRememberedFinal : Layout → History → ℕ → ℕ → ℕ → Option ℕ → ℕ → ℕ → Type 0
 IsRememberedFinal lay h s places rows before n after = ((before ≡ Some after) × (after ≡ 0 → (j : ℕ) → j < places → member h s j ≡ n → is_final (log lay h) n ≡ false)) ⊎ ((before ≡ Some 0) × (after ≡ rows) × (is_final (log lay h) n ≡ true))

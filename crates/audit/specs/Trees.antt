@@ -1,4 +1,4 @@
--- What an audit of a record on the tree remembers of it. Lines stand here with the newest first.
+-- What an audit of a record on the tree remembers of it. Lines have the newest first here.
 use Rattle.std.specs.Prelude.{◌≡◌, ℕ, List, ◌∷◌, Option, Some, slice_get}
 use Rattle.arena.specs.declared.limits.Mode.TheVariants.{Tree}
 use Rattle.arena.specs.declared.layout.Layout.{Layout}
@@ -33,8 +33,8 @@ pub record IsTreeSoFar (lay : Layout) (calls : List Call) (begun : List (Option 
 pub record IsMapSoFar (lay : Layout) (calls : List Call) (begun : List (Option BegunEdit)) (places : Places) (lines : List Line) : Type 0 where
   pub tree : lay.mode ≡ Tree → IsTreeSoFar lay calls begun (changes places) lines
 
--- the change is that of the entry's SCX-record, as it is remembered, which has begun for the next call
--- of the entry's client
+-- the change is that of the entry's SCX-record, as it is remembered, which has begun for the next
+-- call of the entry's client
 pub record IsChangeBegun (calls : List Call) (lines : List Line) (entry : Entry) (edits : List (Option BegunEdit)) (change : Change) : Type 0 where
   pub begun : BegunEdit
   pub known : slice_get edits entry.scx.0 ≡ Some (Some begun)
@@ -47,7 +47,7 @@ pub record HasChangedBy (calls : List Call) (lines : List Line) (entry : Entry) 
   pub by : IsChangeBegun calls lines entry edits change
   pub added : after ≡ change ∷ before
 
--- the SCX-record has begun for a call with this command, as it is remembered, and suits it now
+-- the SCX-record has begun for a call with this command, as it is remembered, and fits it now
 pub record IsReadyFor (edits : List (Option BegunEdit)) (h : History) (s : ℕ) (command : Command) : Type 0 where
   pub begun : BegunEdit
   pub known : slice_get edits s ≡ Some (Some begun)

@@ -125,8 +125,8 @@ fn plan(judge: &Judge, scx: ScxNo) -> Plan
     Plan(scx_word(judge, scx, ScxWord::Plan))
 }
 
-/// Whether an SCX-record covers just these cells in this order, and finalizes those of them that are
-/// in the second list.
+/// Whether an SCX-record covers just these cells in this order, and finalizes those of them that
+/// are in the second list.
 fn is_over(judge: &Judge, scx: ScxNo, cells: &[Cell], finalized: &[Cell]) -> bool
     requires { (n : ℕ) → has finalized.now n ≡ true → has cells.now n ≡ true }
     ensures { IsTrue result → IsOverCells (seen_history judge.now) scx.0 cells.now finalized.now }
@@ -168,8 +168,8 @@ fn is_into(judge: &Judge, scx: ScxNo, field: &(Cell, Side)) -> bool
     node == field.0.node().0 && plan.side() == field.1
 }
 
-/// Whether the new node of an SCX-record is of the client's share and has this value, and its fields
-/// are 0.
+/// Whether the new node of an SCX-record is of the client's share and has this value, and its
+/// fields are 0.
 fn is_fresh(judge: &Judge, pass: PassNo, scx: ScxNo, value: u64) -> bool
     requires { pass.0 < judge.now.layout.passes }
     ensures { IsTrue result →
@@ -295,7 +295,7 @@ pub(crate) fn is_right(
     reply.moment == moment_of(client, reply) && is_true(steps, client.pass, command, &reply.answer)
 }
 
-/// Where an answered call of cells took place: an LLX that told something in its last turn, a VLX
+/// Where an answered call of cells took place: an LLX that says something in its last turn, a VLX
 /// that found its cells as they were in its first, an SCX that is done in the turn of its entry.
 fn moment_of(client: &ClientState, reply: &Finished) -> Option<u64>
     ensures { result ≡ moment_in reply.now.answer reply.now.begin reply.now.end client.now.won }
@@ -364,8 +364,8 @@ fn is_snapshot(judge: &Judge, cell: NodeNo, fields: (NodeNo, NodeNo)) -> bool
 }
 
 /// Whether an LLX of a cell was right to fail: its last look at the cell's info has found the
-/// SCX-record, which is another's, was in progress over the cell since the call's begin and is
-/// finished; and the cell was not final at the begin.
+/// SCX-record, which is another's, was in progress over the cell since the call's start and is
+/// finished; and the cell was not final at the start.
 fn has_failed(steps: &Steps, pass: PassNo, memory: &Memory, cell: Cell, scx: ScxNo) -> bool
     requires { steps.now.judge.layout.mode ≡ Records }
     ensures { (start : History) (linked : ℕ → Option History) →
@@ -381,7 +381,7 @@ fn has_failed(steps: &Steps, pass: PassNo, memory: &Memory, cell: Cell, scx: Scx
         && !steps.was_final(blamed.0, memory.begun)
 }
 
-/// Whether the last look of a kind was made behind the first so many steps, at a node where it found
+/// Whether the last look of a kind was made after the first `after` steps, at a node where it found
 /// an SCX-record.
 fn has_found(look: Option<FoundInfo>, blamed: (NodeNo, ScxNo), after: u64) -> bool
     ensures { IsTrue result → IsLookAt look blamed.0.0 blamed.1.0 after }
@@ -487,8 +487,8 @@ fn is_true_of_set(steps: &Steps, pass: PassNo, memory: &Memory, cell: Cell, answ
     }
 }
 
-/// Whether the last step of all is the client's look at a cell's info, in this call, and the cell is
-/// not final.
+/// Whether the last step of all is the client's look at a cell's info, in this call, and the cell
+/// is not final.
 fn has_just_looked(steps: &Steps, memory: &Memory, cell: NodeNo) -> bool
     ensures look { (c : ℕ) (start : History) (linked : ℕ → Option History) →
         AreStepsOf steps.now.judge.layout (seen_history steps.now.judge) steps.now →
@@ -505,8 +505,8 @@ fn has_just_looked(steps: &Steps, memory: &Memory, cell: NodeNo) -> bool
 }
 
 /// Whether the SCX of a `set` was lost to another: its last freeze has found it in the cell's info,
-/// and it was in progress over the cell since the last look of the call's LLX, at which the cell was
-/// not final.
+/// and it was in progress over the cell since the last look of the call's LLX, at which the cell
+/// was not final.
 fn has_lost(steps: &Steps, pass: PassNo, memory: &Memory, cell: Cell, scx: ScxNo) -> bool
     requires { steps.now.judge.layout.mode ≡ Records }
     ensures { (start : History) (linked : ℕ → Option History) →
@@ -529,8 +529,8 @@ fn has_lost(steps: &Steps, pass: PassNo, memory: &Memory, cell: Cell, scx: ScxNo
     }
 }
 
-/// Whether another's SCX-record has come to one of the cells since its snapshot, as this last look of
-/// the call has found.
+/// Whether another's SCX-record has reached one of the cells since its snapshot, as this last look
+/// of the call has found.
 fn has_come(
     steps: &Steps,
     pass: PassNo,
@@ -578,7 +578,7 @@ fn are_linked(memory: &Memory, cells: &[Cell]) -> bool
     first_unlinked(memory, cells).is_none()
 }
 
-/// The first of the cells of which a client keeps no snapshot.
+/// The first of the cells without a kept snapshot.
 fn first_unlinked(memory: &Memory, cells: &[Cell]) -> Option<NodeNo>
     ensures first { (lay : Layout) (h : History) (linked : ℕ → Option History) →
         AreSnapshotsOf lay h memory.now linked →

@@ -15,7 +15,7 @@ use script::{Call, Command};
 #[derive(Clone, Copy)]
 pub(crate) struct ClientState {
     pub(crate) pass: PassNo,
-    /// Where its next call stands in the script, if it has one left.
+    /// Where its next call is in the script, if it has one left.
     pub(crate) at: Option<usize>,
     /// How many of its calls are answered.
     pub(crate) answered: u64,

@@ -38,7 +38,7 @@ fn takes_nothing(low: u64, high: u64, most: u32) -> bool
     most == 0 || high < low
 }
 
-/// How many steps a call may make at most, while so many nodes are taken; or fewer, if that is no
+/// How many steps a call may make at most, while this many nodes are taken; or fewer, if that is no
 /// number of this type.
 pub(crate) fn most_steps(command: &Command, limits: &Limits, taken: u64) -> u64
     ensures { (all : ℕ) → taken ≤ all → result ≤ command_steps command.now limits.now.tries all }
@@ -54,7 +54,7 @@ pub(crate) fn most_steps(command: &Command, limits: &Limits, taken: u64) -> u64
     }
 }
 
-/// How many steps a call of the map may make at most, in so many tries.
+/// How many steps a call of the map may make at most, in this many tries.
 fn most_map_steps(request: &Request<u64, u128>, tries: u64, levels: u64) -> u64
     ensures { (all : ℕ) → levels ≤ 2 + all →
         result ≤ command_steps (MapCommand request.now) tries all }
@@ -72,14 +72,14 @@ fn most_map_steps(request: &Request<u64, u128>, tries: u64, levels: u64) -> u64
     }
 }
 
-/// How many steps an edit may make at most, in so many tries.
+/// How many steps an edit may make at most, in this many tries.
 fn edit_steps(tries: u64, levels: u64, others: u64) -> u64
     ensures { (all : ℕ) → levels ≤ 2 + all → result ≤ tries * (3 * (2 + all) + others) }
 {
     tries.saturating_mul(levels.saturating_mul(3).saturating_add(others))
 }
 
-/// How many steps a range may make at most that takes so many pairs.
+/// How many steps a range may make at most that takes this many pairs.
 fn range_steps(tries: u64, levels: u64, most: u32) -> u64
     ensures { (all : ℕ) → levels ≤ 2 + all → result ≤ tries * ((most + 2) * (67 * (2 + all))) }
 {

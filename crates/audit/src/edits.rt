@@ -1,5 +1,5 @@
-//! Whether an SCX-record that begins makes the edit of its owner's call. What its leaves hold is read
-//! as lists of pairs, on which the edit is made.
+//! Whether an SCX-record that begins makes the edit of its owner's call. What its leaves hold is
+//! read as lists of pairs, on which the edit is made.
 ghost use Rattle.std.specs.Prelude.{◌≡◌, ◌≢◌, ◌==◌, ◌+◌, ◌^◌, ◌<◌, ◌≤◌, ◌↔◌, ℕ, true, false, [], ◌++◌, length, set, Some, None, IfSome, IsSome, IsTrue};
 ghost use Rattle.arena.specs.ScxRecords.{count, member as member_of, seen as seen_at, new};
 ghost use Rattle.arena.specs.Fills.{IsNamed};
@@ -36,7 +36,7 @@ pub(crate) struct BegunEdit {
 }
 
 /// The edit that an SCX-record is about to make for a call: below a fork on the search path of its
-/// key, and of a leaf that suits the call, unless it is to take the pair at an end out and can win
+/// key, and of a leaf that fits the call, unless it is to take the pair at an end out and can win
 /// no more.
 pub(crate) fn begun_for(judge: &Judge, scx: u64, command: &Command) -> Option<BegunEdit>
     requires { IsTreeRun judge.now.layout (seen_history judge.now) }
@@ -66,8 +66,8 @@ fn edit_in(command: &Command) -> Option<(Goal, Rule)>
     }
 }
 
-/// The edit that a call with this command is to make by an SCX-record: of the pair at an end, which it
-/// may only take out, the key is the one at that end of its leaf.
+/// The edit that a call with this command is to make by an SCX-record: of the pair at an end, which
+/// it may only take out, the key is the one at that end of its leaf.
 fn edit_for(judge: &Judge, scx: u64, command: &Command, goal: Goal, rule: Rule) -> Option<BegunEdit>
     requires { map_call (Some command.now) ≡ Some (Edit goal rule) }
     ensures command { IfSome result (λ begun. begun.command ≡ command.now) }
@@ -87,7 +87,7 @@ fn edit_for(judge: &Judge, scx: u64, command: &Command, goal: Goal, rule: Rule) 
     })
 }
 
-/// The leaf out of which the key at an end may be taken by an SCX-record: of two nodes the second, of
+/// The leaf whose key at an end may be taken by an SCX-record: of two nodes the second, of
 /// four the child on that side, unless this is above all keys.
 fn taken_leaf(judge: &Judge, scx: u64, side: Side) -> u64 {
     let right = member(judge, scx, 3);
@@ -100,7 +100,7 @@ fn taken_leaf(judge: &Judge, scx: u64, side: Side) -> u64 {
     }
 }
 
-/// The key at this end of the leaf out of which an SCX-record may take it.
+/// The key at this end of the leaf from which an SCX-record may take it.
 fn end_key(judge: &Judge, scx: u64, side: Side) -> u64
     ensures { result < 2 ^ 64 }
 {
@@ -109,7 +109,7 @@ fn end_key(judge: &Judge, scx: u64, side: Side) -> u64
     settled(judge, leaf, SettledPart::Key(slot))
 }
 
-/// Whether the leaf that an SCX-record covers for its edit suits the call that it has begun for: the
+/// Whether the leaf that an SCX-record covers for its edit fits the call that it has begun for: the
 /// call changes what that says of the key, and, of the pair at an end, it is the tree's leaf there.
 pub(crate) fn covers_the_right_leaf(judge: &Judge, scx: u64, begun: &BegunEdit) -> bool
     requires { IsTreeRun judge.now.layout (seen_history judge.now) }
@@ -140,7 +140,7 @@ fn is_leaf_for(judge: &Judge, goal: Goal, leaf: u64, key: u64) -> bool
     }
 }
 
-/// The leaf where the key of an SCX-record's edit stands, or would: the second of two nodes, or one
+/// The leaf where the key of an SCX-record's edit is, or would be: the second of two nodes, or one
 /// of the last two of four.
 fn edit_leaf(judge: &Judge, scx: u64, begun: &BegunEdit) -> u64
     ensures { result ≡ edit_leaf (seen_history judge.now) scx (edit_begun begun.now) }
@@ -257,7 +257,7 @@ fn is_as_seen(judge: &Judge, scx: u64, place: u8) -> bool
     node_word(judge, node, NodeWord::Info) == scx_word(judge, scx, ScxWord::Seen(place))
 }
 
-/// On which side of a fork a key stands: all classes above 0 are above all keys.
+/// On which side of a fork a key is: all classes above 0 are above all keys.
 fn toward(judge: &Judge, node: u64, key: u64) -> Side
     ensures { result ≡ toward_of (word_now judge.now) node key }
 {
@@ -363,7 +363,7 @@ fn is_swap(judge: &Judge, leaf: u64, new: u64, begun: &BegunEdit) -> bool
 }
 
 /// Whether a leaf is replaced by a fork over two fresh ones, which between them hold what the edit
-/// makes of its pairs, and between which the fork stands.
+/// makes of its pairs, and between which the fork is.
 fn is_split(judge: &Judge, leaf: u64, fork: u64, begun: &BegunEdit) -> bool
     requires readable { class (word_now judge.now) leaf ≡ 0 →
         IsWellCounted (word_now judge.now) leaf }
@@ -396,7 +396,7 @@ fn is_split(judge: &Judge, leaf: u64, fork: u64, begun: &BegunEdit) -> bool
         && joined(low, &high) == edited(begun, pairs_of_leaf(judge, leaf))
 }
 
-/// Whether a node is a leaf that may stand last in the place of another: of its class, and, above all
+/// Whether a node is a leaf that may be last in the place of another: of its class, and, above all
 /// keys, of its key.
 fn is_last_leaf(judge: &Judge, node: u64, leaf: u64) -> bool
     ensures { IsTrue result → IsLastLeaf (word_now judge.now) node leaf }
@@ -412,7 +412,7 @@ fn is_last_leaf(judge: &Judge, node: u64, leaf: u64) -> bool
     }
 }
 
-/// Whether all keys of these pairs stand on this side of a fork.
+/// Whether all keys of these pairs are on this side of a fork.
 fn are_toward(judge: &Judge, fork: u64, side: Side, pairs: &[(u64, u128)]) -> bool
     ensures { IsTrue result → AreToward (word_now judge.now) fork side (number_pairs pairs.now) }
 {

@@ -32,7 +32,7 @@ pub(crate) enum LineFault {
 
 impl LineFault {
     /// The fault of a record that is refused at the line of this index, where the line of index 0
-    /// stands in row `first` of its report.
+    /// is in row `first` of its report.
     pub(crate) fn at(self, first: u64, line: usize) -> AuditFault
         ensures { (row : ℕ) → result ≡ AuditFault.NotLawful row → (first ≤ row)
             × (row ≤ first + line) }
@@ -48,7 +48,7 @@ impl LineFault {
     }
 }
 
-/// Refuses a line of which this does not hold.
+/// Refuses a line if this does not hold of it.
 pub(crate) fn require(fits: bool) -> Result<(), LineFault>
     ensures { OnOk result (fits ≡ true) }
 {

@@ -16,7 +16,7 @@ use arrayvec::ArrayVec;
 use judge::Judge;
 use ordered_map::{slot_behind, wide_value};
 
-/// Pairs by rising key, of two leaves at most, of which each holds four at most.
+/// Pairs by rising key, of two leaves at most, each of which holds four at most.
 pub(crate) type Pairs = ArrayVec<(u64, u128), 8>;
 
 /// What a leaf says of a key.
@@ -76,7 +76,7 @@ fn pair_in(judge: &Judge, leaf: u64, slot: Slot) -> (u64, u128)
     )
 }
 
-/// Whether what a leaf gives the map may be read: of class 0, it holds as many pairs as it may hold.
+/// Whether what a leaf gives the map may be read: of class 0, it holds no more than it may hold.
 pub(crate) fn is_readable(judge: &Judge, leaf: u64) -> bool
     ensures { IsTrue result → class (word_now judge.now) leaf ≡ 0 →
         IsWellCounted (word_now judge.now) leaf }
@@ -84,7 +84,7 @@ pub(crate) fn is_readable(judge: &Judge, leaf: u64) -> bool
     head(judge, leaf).class != 0 || is_well_counted(judge, leaf)
 }
 
-/// Whether a leaf of class 0 holds as many pairs as it may hold: three behind its first, at most.
+/// Whether a leaf of class 0 holds as many pairs as it may hold: three after its first, at most.
 #[tactic(auto, using(ordered_map::proofs::Lemmas::few_counted))]
 pub(crate) fn is_well_counted(judge: &Judge, leaf: u64) -> bool
     ensures { IsTrue result → IsWellCounted (word_now judge.now) leaf }

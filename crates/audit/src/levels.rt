@@ -13,7 +13,7 @@ use crate::leaves::head;
 use arena::{NodeNo, NodeWord, Row, SettledPart, Side, Word};
 use judge::Judge;
 
-/// Whether levels still rise behind a lawful row that is to be made: where it stores a node into a
+/// Whether levels still rise after a lawful row that is to be made: where it stores a node into a
 /// field. The head of a node that a field has held is not filled any more.
 pub(crate) fn do_levels_rise(judge: &Judge, row: &Row) -> bool
     requires { row.now.before ≡ value (seen_history judge.now) row.now.word }

@@ -1,4 +1,4 @@
-//! Calls of the map: where they took place, and what they told there.
+//! Calls of the map: where they took place, and what they answered there.
 ghost use Rattle.std.specs.Prelude.{◌≡◌, ℕ, suc, ◌-◌, ◌<◌, ◌≤◌, List, Some, None, IsTrue};
 ghost use Rattle.arena.specs.declared.layout.Layout.{Layout};
 ghost use Rattle.ordered_map.specs.OrderedMap.{OneValue, get, reply as reply_of};
@@ -28,8 +28,8 @@ use ordered_map::{Goal, Reply, Request};
 use record::{Answer, Finished};
 use script::Command;
 
-/// Whether a call of the map took place where its reply says, and told what the map gave there; or
-/// was refused, and took place nowhere.
+/// Whether a call of the map took place where its reply says, and answered what the map gave there;
+/// or was refused, and took place nowhere.
 pub(crate) fn is_right(
     steps: &Steps,
     places: &Places,
@@ -66,9 +66,9 @@ pub(crate) fn is_right(
     }
 }
 
-/// Whether a call that tells of the map took place in the turn of its reply: with its entry, just
-/// before which the map gave its answer; or, without one, in the last of its turns, whoever made
-/// it, after which the map gave it.
+/// Whether a call that says something of the map took place in the turn of its reply: with its
+/// entry, just before which the map gave its answer; or, without one, in the last of its turns,
+/// whoever made it, after which the map gave it.
 fn is_placed(
     places: &Places,
     client: &ClientState,
@@ -94,7 +94,7 @@ fn is_placed(
     }
 }
 
-/// Whether a reply tells what the map replied to a call just before a turn.
+/// Whether a reply is what the map replied to a call just before a turn.
 fn had_before(
     places: &Places,
     request: &Request<u64, u128>,
@@ -113,7 +113,7 @@ fn had_before(
     }
 }
 
-/// The key whose value a call tells, if it tells that of one key.
+/// The key whose value a call answers, if it answers that of one key.
 fn told_key(request: &Request<u64, u128>) -> Option<u64>
     ensures { (key : ℕ) → result ≡ Some key → (m : List PairOf) →
         reply_of (map_request request.now) m ≡ OneValue (get key m) }
@@ -125,7 +125,7 @@ fn told_key(request: &Request<u64, u128>) -> Option<u64>
     goal.key(None)
 }
 
-/// Whether a reply tells what a key has after a turn.
+/// Whether a reply says what a key has after a turn.
 fn tells_of(places: &Places, key: u64, told: &Reply<u64, u128>, turn: u64) -> bool
     ensures { (calls : List CallOf) (lines : List Line) →
         AreEntries calls lines (changes places.now) → IsTrue result →
@@ -158,7 +158,7 @@ fn is_read(
     }
 }
 
-/// Whether a call that tells what its key had took place in the greatest of its turns after which
+/// Whether a call that answers what its key had took place in the greatest of its turns after which
 /// the map had that.
 fn is_read_of(places: &Places, key: u64, told: &Reply<u64, u128>, reply: &Finished) -> bool
     requires { reply.now.answer ≡ MapAnswer told.now }
@@ -203,8 +203,8 @@ fn is_read_at(
     reply.moment == Some(turn) && tells_at(places, request, told, turn)
 }
 
-/// Whether an ordered read, or an edit of the first pair, tells what the map replies to it after a
-/// turn.
+/// Whether an ordered read, or an edit of the first pair, answers what the map replies to it after
+/// a turn.
 fn tells_at(
     places: &Places,
     request: &Request<u64, u128>,
@@ -221,7 +221,7 @@ fn tells_at(
     tells_pairs(request, told) && places.tells(&command, pairs_told(told), turn)
 }
 
-/// Whether a reply has the form of those to the call, which tells pairs by rising key.
+/// Whether a reply has the form of those to the call, with pairs by rising key.
 fn tells_pairs(request: &Request<u64, u128>, told: &Reply<u64, u128>) -> bool
     ensures ordered { IsTrue result → IsOrderedRead (MapCommand request.now) }
     ensures form { IsTrue result → IsToldByPairs (map_request request.now) told.now }

@@ -41,14 +41,14 @@ impl Tries {
     /// Those of a call that has begun none.
     pub(crate) const NONE: Tries = Tries { many: 0, before: 0 };
 
-    /// Whether they are so many, and one at least.
+    /// Whether they are this many, and one at least.
     pub(crate) fn are(self, many: u32) -> bool
         ensures { IsTrue result → (0 < self.many) × (self.many ≡ many) }
     {
         0 < many && self.many == u64::from(many)
     }
 
-    /// The same behind a step of the client, the last of so many: with one more, if it begins one.
+    /// The same after a step of the client, the last of `steps`: with one more, if it begins one.
     pub(crate) fn behind(self, row: &Row, steps: u64) -> Tries
         ensures { self.many + 1 < 2 ^ 64 →
             result ≡ tried (begins_try row.now.pass.0 row.now) steps self }

@@ -1,4 +1,4 @@
-//! Where a client's calls stand in a script.
+//! Where a client's calls are in a script.
 ghost use Rattle.std.specs.Prelude.{List, drop};
 ghost use Rattle.script.specs.declared.command.Command.{Command};
 ghost use Rattle.record.specs.Commands.{commands};
@@ -7,7 +7,7 @@ ghost use Rattle.audit.specs.Calls.{StandsNext};
 use arena::PassNo;
 use script::Call;
 
-/// Where the next call of a client stands, from this place on.
+/// Where the next call of a client is, from this place on.
 pub(crate) fn next_call(calls: &[Call], from: usize, pass: PassNo) -> Option<usize>
     ensures { StandsNext calls.now pass.0 (commands (drop from calls.now) pass.0) result }
 {
@@ -19,7 +19,7 @@ pub(crate) fn next_call(calls: &[Call], from: usize, pass: PassNo) -> Option<usi
     None
 }
 
-/// Where the call of a client stands that comes behind this one, which is its next.
+/// Where the call of a client is that comes after this one, which is its next.
 pub(crate) fn next_behind(calls: &[Call], at: Option<usize>, pass: PassNo) -> Option<usize>
     ensures { (left : List Command) → StandsNext calls.now pass.0 left at →
         StandsNext calls.now pass.0 (drop 1 left) result }

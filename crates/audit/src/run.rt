@@ -33,13 +33,13 @@ pub(crate) struct Replay<'a> {
     pub(crate) entries: u64,
     /// Who made the last turn.
     pub(crate) last: Option<PassNo>,
-    /// The entry that has to stand behind the last line.
+    /// The entry that has to follow the last line.
     pub(crate) owed: Option<Entry>,
     /// Whether that entry is one that its client's call makes.
     pub(crate) fits: bool,
     /// Whether the last line is an idle turn.
     pub(crate) idle: bool,
-    /// Whether it is the whole of a call, whose reply has to stand behind it.
+    /// Whether it is the whole of a call, whose reply has to follow it.
     pub(crate) awaits: bool,
 }
 
@@ -102,7 +102,7 @@ impl<'a> Replay<'a> {
         })
     }
 
-    /// No other line has to stand behind the last one.
+    /// No other line has to follow the last one.
     pub(crate) fn settled(&self) -> Result<(), LineFault>
         requires { IsAfter self.now (lines_of self.now) }
         ensures { OnOk result
@@ -113,7 +113,7 @@ impl<'a> Replay<'a> {
         Ok(())
     }
 
-    /// Refuses the next line, of which this does not hold; or, where the next line is to be the reply
+    /// Refuses the next line, if this does not hold of it; or, if the next line is to be the reply
     /// that explains the last one, an idle turn, refuses that.
     fn require_or_blame_idle(&self, fits: bool) -> Result<(), LineFault>
         ensures { OnOk result (fits ≡ true) }
@@ -125,7 +125,7 @@ impl<'a> Replay<'a> {
         }
     }
 
-    /// The lines are those of a lawful run, if no other line has to stand behind the last one.
+    /// The lines are those of a lawful run, if no other line has to follow the last one.
     pub(crate) fn finish(&self) -> Result<(), LineFault>
         requires remembers { Remembers self.now (lines_of self.now) }
         requires all { self.now.at ≡ length self.now.record.now.lines.items }
@@ -185,7 +185,7 @@ impl<'a> Replay<'a> {
         Ok(())
     }
 
-    /// This line behind those so far, if it fits them.
+    /// This line after those so far, if it fits them.
     fn next_line(&mut self, line: &Line) -> Result<(), LineFault>
         requires { Remembers self.old (lines_of self.old) }
         ensures remembers { OnOk result (Remembers self.new (line.now ∷ lines_of self.old)) }
@@ -290,8 +290,8 @@ impl<'a> Replay<'a> {
         }
     }
 
-    /// The entry that a step of this turn asks for, if it is an update which changes its field: of the
-    /// SCX-record that holds the field's node.
+    /// The entry that a step of this turn asks for, if it is an update which changes its field: of
+    /// the SCX-record that holds the field's node.
     fn owed_by(&self, number: u64, row: &arena::Row) -> Result<Option<Entry>, LineFault>
         requires { IsAfter self.now (lines_of self.now) }
         ensures owed { IfOk result
@@ -377,7 +377,7 @@ impl<'a> Replay<'a> {
         }
     }
 
-    /// On the tree levels still rise behind a step.
+    /// On the tree levels still rise after a step.
     fn check_levels(&self, row: &arena::Row) -> Result<(), LineFault>
         requires after { IsAfter self.now (lines_of self.now) }
         requires found { row.now.before ≡ value (seen_history self.now.steps.judge) row.now.word }
@@ -392,8 +392,8 @@ impl<'a> Replay<'a> {
         Ok(())
     }
 
-    /// On the tree the SCX-record that a step begins, if it begins one, makes an edit for its client's
-    /// call.
+    /// On the tree the SCX-record that a step begins, if it begins one, makes an edit for its
+    /// client's call.
     fn check_begun(&self, row: &arena::Row) -> Result<(), LineFault>
         requires { Remembers self.now (lines_of self.now) }
         ensures { OnOk result ((layout_of self.now).mode ≡ Tree →
@@ -423,8 +423,8 @@ impl<'a> Replay<'a> {
         self.record.script.layout.mode == Mode::Tree && self.steps.judge.is_begin(row)
     }
 
-    /// The SCX-record that a step on the tree begins, if it begins one, with the edit that it makes for
-    /// its client's call.
+    /// The SCX-record that a step on the tree begins, if it begins one, with the edit that it makes
+    /// for its client's call.
     fn begun_by(&self, row: &arena::Row) -> Option<BegunEdit>
         requires { Remembers self.now (lines_of self.now) }
         ensures begins { IfSome result
@@ -444,7 +444,7 @@ impl<'a> Replay<'a> {
         }
     }
 
-    /// Whether an SCX-record that wins has begun for a call with this command, and suits it.
+    /// Whether an SCX-record that wins has begun for a call with this command, and fits it.
     fn is_ready(&self, command: &Command, scx: ScxNo) -> bool
         requires { IsTreeRun self.now.steps.judge.layout (seen_history self.now.steps.judge) }
         ensures { IsTrue result →
@@ -621,7 +621,7 @@ impl<'a> Replay<'a> {
         Ok(())
     }
 
-    /// Whether a call may give the answer of a reply behind the newest line.
+    /// Whether a call may give the answer of a reply after the newest line.
     fn may_answer(&self, command: &Command, reply: &Finished) -> bool
         requires { IsAfter self.now (lines_of self.now) }
         ensures { IsTrue result → IsFitting (lines_of self.now) command.now reply.now.answer }

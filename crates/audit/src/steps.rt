@@ -26,8 +26,8 @@ pub(crate) struct Steps {
     pub(crate) judge: Judge,
     /// How many there were.
     pub(crate) count: u64,
-    /// How many there were up to the last one after which an SCX-record was in progress, of those that
-    /// are finished.
+    /// How many there were up to the last one after which an SCX-record was in progress, of those
+    /// that are finished.
     until: Vec<u64>,
     /// Of each node: how many there were with the one that has made it final, or 0.
     finals: Vec<u64>,
@@ -90,8 +90,8 @@ impl Steps {
         }
     }
 
-    /// A turn of a client comes next: it is the first of its call, if it has made none since its last
-    /// reply.
+    /// A turn of a client comes next: it is the first of its call, if it has made none since its
+    /// last reply.
     pub(crate) fn begin(&mut self, client: &ClientState, calls: &[Call])
         ensures same { self.new ≡ record self.old { memories = self.new.memories } }
         ensures remembered { (lay : Layout) (lines : List Line) →
@@ -225,7 +225,7 @@ impl Steps {
         }
     }
 
-    /// Whether a node was final after the first so many steps.
+    /// Whether a node was final after the first `after` steps.
     pub(crate) fn was_final(&self, node: NodeNo, after: u64) -> bool
         ensures { (lay : Layout) (h g : History) → AreStepsOf lay h self.now →
             IsMomentAt h after g → node.0 < all_nodes lay →
@@ -413,8 +413,8 @@ impl Steps {
         false
     }
 
-    /// Whether an SCX-record of another pass, which covers a node, was in progress after a step behind
-    /// the first so many.
+    /// Whether an SCX-record of another pass, which covers a node, was in progress after a step
+    /// later than the first `after`.
     pub(crate) fn was_in_the_way(&self, pass: PassNo, blamed: (NodeNo, ScxNo), after: u64) -> bool
         ensures others { IsTrue result → IsOthersScx self.now.judge.layout pass.0 blamed.1.0 }
         ensures way { (lay : Layout) (h g : History) → AreStepsOf lay h self.now →
@@ -426,8 +426,8 @@ impl Steps {
         after < self.last_in_progress(scx) && self.is_others(pass, scx) && self.covers(scx, node)
     }
 
-    /// Whether the call of a client has lost all its tries: it has begun so many, and in the newest
-    /// another pass's SCX-record, which covers a node, was in progress.
+    /// Whether the call of a client has lost all its tries: it has begun this many, and in the
+    /// newest another pass's SCX-record, which covers a node, was in progress.
     pub(crate) fn has_lost_all_tries(
         &self,
         pass: PassNo,
@@ -445,7 +445,7 @@ impl Steps {
         of_call.are(tries) && self.was_in_the_way(pass, blamed, of_call.before)
     }
 
-    /// Whether some SCX-record of another pass was in progress after a step behind the first so many.
+    /// Whether some SCX-record of another pass was in progress after a step later than `after`.
     fn was_blocked(&self, pass: PassNo, after: u64) -> bool
         ensures { (lay : Layout) (h g : History) → AreStepsOf lay h self.now →
             IsMomentAt h after g → IsTrue result → WasBlocked lay pass.0 h g }
@@ -460,8 +460,8 @@ impl Steps {
         false
     }
 
-    /// Whether the share of a pass has just so many of the resource left, too few for an update that
-    /// needs so many nodes.
+    /// Whether the share of a pass has just this much of the resource left, too little for an
+    /// update that needs `needed` nodes.
     pub(crate) fn has_too_few(&self, pass: PassNo, needed: u32, full: (Resource, u32)) -> bool
         requires { pass.0 < self.now.judge.layout.passes }
         ensures { IsTrue result →
@@ -471,8 +471,8 @@ impl Steps {
         is_too_few((self.nodes_left(pass), self.scx_left(pass)), needed, full)
     }
 
-    /// Whether the share of a pass has too little for the next try of its call: it had too little as
-    /// the call began, or another pass was in the way since.
+    /// Whether the share of a pass has too little for the next try of its call: it had too little
+    /// as the call began, or another pass was in the way since.
     pub(crate) fn has_too_few_to_try(
         &self,
         pass: PassNo,
@@ -493,9 +493,9 @@ impl Steps {
     }
 }
 
-/// Whether a share with so many nodes and SCX-records left has just so many of the resource, which
-/// is too little for an update that needs so many nodes. No SCX-record may be told wherever a node
-/// is left: how many nodes a new key needs goes by its leaf, of which no answer tells.
+/// Whether a share with these nodes and SCX-records left has just this much of the resource, too
+/// little for an update that needs `needed` nodes. It may be said that no SCX-record is left if any
+/// node is: how many nodes a new key needs depends on its leaf, which no answer shows.
 fn is_too_few(share: (u32, u32), needed: u32, full: (Resource, u32)) -> bool
     ensures { (lay : LayoutOf) (c : ℕ) (h : HistoryOf) → NodesLeft lay c h share.0 →
         ScxLeft lay c h share.1 → IsTrue result →
@@ -514,7 +514,7 @@ fn has_run(answer: &Answer) -> bool
     matches!(answer, Answer::Done | Answer::Lost { .. })
 }
 
-/// Whether a row that fills the word `call` of an SCX-record stores there the number of its own call.
+/// Whether a row that fills the word `call` of an SCX-record stores the number of its own call.
 pub(crate) fn says_its_call(row: &Row) -> bool
     ensures { IsTrue result → SaysItsCall row.now }
 {

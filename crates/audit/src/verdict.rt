@@ -38,7 +38,7 @@ pub fn audit(alloc: Global, record: &Record) -> Result<(), AuditFault>
     Ok(())
 }
 
-/// The row of a report in which the first line of the run stands: behind its head, the limits and
+/// The row of a report in which the first line of the run is: after its head, the limits and
 /// the calls.
 fn first_row(script: &Script) -> u64
     ensures { result ≡ length script.now.calls.items + 3 }

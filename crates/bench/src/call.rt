@@ -14,7 +14,7 @@ use std::alloc::Global;
 /// A dictionary of numbers of one word.
 pub type Numbers = Dict<u64, u64>;
 
-/// How many pairs a range tells at most.
+/// How many pairs a range answers at most.
 pub const MOST_PAIRS: usize = 64;
 
 /// All rounds of a thread.
@@ -70,7 +70,7 @@ fn round(
     }
 }
 
-/// Looks a key up in so many of a hundred rounds; else puts it in or takes it out.
+/// Looks a key up in `looks` of a hundred rounds; else puts it in or takes it out.
 fn mix(
     forest: &Forest<Numbers>,
     pass: &mut Pass<Numbers>,
@@ -102,7 +102,7 @@ fn key_and_value(
     }
 }
 
-/// Notes what a call has told of a value.
+/// Notes what a call has answered as a value.
 pub fn told(reply: Result<Option<u64>, UpdateFault>, tally: &mut Tally) -> End
     ensures { total tally.new ≡ total tally.old }
 {
@@ -135,7 +135,7 @@ pub fn told_pair(reply: Result<Option<(u64, u64)>, OrderFault>, tally: &mut Tall
     End::Done
 }
 
-/// Notes what a range has told.
+/// Notes what a range has answered.
 pub fn told_pairs(reply: Result<Vec<(u64, u64)>, OrderFault>, tally: &mut Tally) -> End
     ensures { total tally.new ≡ total tally.old }
 {

@@ -42,7 +42,7 @@ pub fn fillers(keys: u32) -> u32 {
     (keys / 2).div_ceil(PAIRS_OF_A_PASS)
 }
 
-/// A dictionary with a pass for each thread, and behind these the passes that fill it. Shares are
+/// A dictionary with a pass for each thread, and after these the passes that fill it. Shares are
 /// whole ones.
 fn open(alloc: Global, task: Task) -> Result<(Forest<Numbers>, Vec<Pass<Numbers>>), Fault>
     ensures { IfOk result (λ r. All (IsOf r.0) r.1.items) }
@@ -81,7 +81,7 @@ fn fill_half(
     passes
 }
 
-/// Puts so many fresh keys of those that are drawn into the map.
+/// Puts this many fresh keys of those that are drawn into the map.
 fn fill(
     forest: &Forest<Numbers>,
     mut pass: Pass<Numbers>,

@@ -52,7 +52,7 @@ impl Draws {
         self.word
     }
 
-    /// A key below so many.
+    /// A key below `keys`.
     pub fn key(&mut self, keys: u32) -> u64
         requires { 0 < keys }
     {
@@ -63,7 +63,7 @@ impl Draws {
         }
     }
 
-    /// A key below so many, and for a call that goes by chance a number below 100.
+    /// A key below `keys`, and for a call that depends on chance a number below 100.
     pub fn round(&mut self, keys: u32, by_chance: bool) -> (u64, u64)
         requires { 0 < keys }
     {

@@ -51,7 +51,7 @@ fn half_full(alloc: Global, task: Task) -> Result<BTreeMap<u64, u64>, Fault> {
     Ok(map)
 }
 
-/// Puts so many fresh keys of those that are drawn into the map.
+/// Puts this many fresh keys of those that are drawn into the map.
 fn fill(
     map: &mut BTreeMap<u64, u64>,
     mut draws: Draws,
@@ -177,7 +177,7 @@ fn call(
     }
 }
 
-/// Looks a key up in so many of a hundred rounds; else puts it in or takes it out.
+/// Looks a key up in `looks` of a hundred rounds; else puts it in or takes it out.
 fn mix(
     map: &mut BTreeMap<u64, u64>,
     chance: u64,
@@ -194,7 +194,7 @@ fn mix(
     }
 }
 
-/// Puts a key in, if it is not there, and tells the value that it has otherwise.
+/// Puts a key in, if it is not there, and returns the value that it has otherwise.
 fn insert_new(
     map: &mut BTreeMap<u64, u64>,
     key: u64,
@@ -206,7 +206,7 @@ fn insert_new(
     }
 }
 
-/// Takes a key out, if it has the value of the start, and tells the value that it had.
+/// Takes a key out, if it has the value of the start, and returns the value that it had.
 fn delete_if(map: &mut BTreeMap<u64, u64>, key: u64) -> Option<u64> {
     let old = map.get(&key).copied()?;
     if old == key {
@@ -225,7 +225,7 @@ fn replace(map: &mut BTreeMap<u64, u64>, key: u64) -> Option<u64> {
     Some(old)
 }
 
-/// The pair behind a key.
+/// The pair after a key.
 fn behind(map: &BTreeMap<u64, u64>, key: u64) -> Option<(u64, u64)> {
     let bounds = (Bound::Excluded(key), Bound::Unbounded);
     map.range(bounds).next().map(|(key, value)| (*key, *value))

@@ -1,5 +1,5 @@
-//! Times whole calls of a forest: `bench WORK THREADS CALLS TIMES KEYS`. Its dictionary has keys and
-//! values of one word, in leaves that have room for values of two.
+//! Times whole calls of a forest: `bench WORK THREADS CALLS TIMES KEYS`. Its dictionary has keys
+//! and values of one word, in leaves that have room for values of two.
 #![tactic(auto)]
 
 mod call;

@@ -34,7 +34,7 @@ pub struct Measurement {
 pub struct PerCall(pub u128);
 
 impl PerCall {
-    /// That of a repetition which took so long. None is told where the task asks for none.
+    /// That of a repetition which took this long. There is none if the task asks for none.
     fn of(nanos: u128, task: Task) -> PerCall {
         if task.times == 0 {
             PerCall(0)

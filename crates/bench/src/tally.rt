@@ -11,7 +11,7 @@ pub enum End {
     Done,
     /// With an SCX that another thread's was in the way of, or with a call that was contended.
     Lost,
-    /// With no SCX: no LLX gave a snapshot, or the thread's share was used up; or for want of memory.
+    /// With no SCX: no LLX gave a snapshot, or the share was used up; or for want of memory.
     Fail,
 }
 
@@ -21,7 +21,7 @@ pub struct Tally {
     pub done: u64,
     pub lost: u64,
     pub fail: u64,
-    /// A number made of all that was told: one that is told otherwise changes it.
+    /// A number made of all that was answered: another answer changes it.
     pub checksum: u64,
 }
 
@@ -38,7 +38,7 @@ impl Tally {
         }
     }
 
-    /// This was told.
+    /// This was answered.
     pub fn tell(&mut self, reply: u64)
         ensures { total self.new ≡ total self.old }
     {
@@ -67,7 +67,7 @@ impl fmt::Display for Tally {
     }
 }
 
-/// The checksum once this was told too.
+/// The checksum once this was answered too.
 pub fn with_reply(checksum: u64, reply: u64) -> u64 {
     checksum.wrapping_mul(31).wrapping_add(reply)
 }

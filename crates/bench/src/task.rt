@@ -4,7 +4,7 @@ ghost use Rattle.std.specs.Prelude.{◌≤◌};
 use crate::work::Work;
 use std::fmt;
 
-/// A work, which so many threads do in so many rounds each, in so many forests one after the other.
+/// A work: what `threads` threads do in `calls` rounds each, in `times` forests one after another.
 #[derive(Clone, Copy)]
 pub struct Task {
     /// What a thread does in each round.
@@ -13,9 +13,9 @@ pub struct Task {
     pub threads: u32,
     /// How many rounds each of them makes.
     pub calls: u32,
-    /// How many forests are made and timed. With 0 there is one, and no time is told.
+    /// How many forests are made and timed. With 0 there is one, and no time is reported.
     pub times: u32,
-    /// How many keys there are, of which a dictionary has half at the start.
+    /// How many keys there are; a dictionary has half of them at the start.
     pub keys: u32,
     ghost some_thread: { 1 ≤ threads },
     ghost passes: { threads ≤ 32 },
@@ -23,7 +23,7 @@ pub struct Task {
     ghost some_key: { 1 ≤ keys },
 }
 
-/// The fields of a row that say what is measured. Of cells 0 keys are told.
+/// The fields of a row that say what is measured. For cells 0 keys are reported.
 impl fmt::Display for Task {
     fn fmt<W: fmt::Write>(&self, f: &mut fmt::Formatter<W>) -> fmt::Result {
         let (name, threads, calls, times) = (

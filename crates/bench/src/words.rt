@@ -10,7 +10,7 @@ use std::alloc::Global;
 use std::rt::Env;
 use std::{env, io};
 
-/// The most words that there may be, of which the first is the program's own name.
+/// The most words that there may be; the first is the program's own name.
 const MOST_WORDS: usize = 6;
 
 /// How many threads there are, and how often all is done, where the words do not say it.
@@ -21,7 +21,7 @@ const USUAL_TIMES: u32 = 15;
 /// The most keys: half of them fit the shares of five passes.
 const MOST_KEYS: u32 = 100_000;
 
-/// The words that the program was given, of which the first is its own name.
+/// The words that the program was given; the first is its own name.
 pub fn words_of<R: Env + AllocGlobal>(rt: &R) -> Result<Vec<String>, Fault> {
     match env::args(rt) {
         Ok(words) => Ok(words.collect(rt.alloc())?),
@@ -66,8 +66,8 @@ fn task_of(words: &[String], work: Work) -> Result<Task, Fault> {
     })
 }
 
-/// The number that the word at this place says, within these bounds, or the usual one where there is
-/// no such word.
+/// The number that the word at this place says, within these bounds, or the usual one where there
+/// is no such word.
 fn number_at(words: &[String], place: usize, bounds: (u32, u32), usual: u32) -> Result<u32, Fault>
     requires some { bounds.0 ≤ usual }
     requires within { usual ≤ bounds.1 }

@@ -7,7 +7,7 @@ use arena::Limits;
 /// How many keys there are where the words do not say it.
 const USUAL_KEYS: u32 = 1_000;
 
-/// And in the works of peers: so many the maps of others were measured with.
+/// And in the works of peers: as many as the maps of others were measured with.
 const KEYS_OF_PEERS: u32 = 10_000;
 
 /// What a thread does in each of its rounds.
@@ -41,7 +41,7 @@ pub enum CellWork {
 pub enum TreeWork {
     /// It looks the key up.
     Get,
-    /// In so many of a hundred rounds it looks the key up; in one half of the others it puts it in,
+    /// In `looks` of a hundred rounds it looks the key up; in one half of the others it puts it in,
     /// and in one half it takes it out.
     Mix { looks: u64 },
     /// It puts the key in.
@@ -58,7 +58,7 @@ pub enum TreeWork {
     PopLast,
     /// It gives the key the value that it has had from the start once more, if it is there.
     Replace,
-    /// It looks for the pair behind the key.
+    /// It looks for the pair after the key.
     Successor,
     /// It looks for the pair before the key.
     Predecessor,
@@ -146,7 +146,7 @@ impl Work {
         }
     }
 
-    /// The word of the command line that asks for it, but where it is of a map behind a lock.
+    /// The word of the command line that asks for it, but if it is of a map behind a lock.
     pub fn name(self) -> &'static str {
         match self {
             Work::Cells(work) => work.name(),
@@ -190,8 +190,8 @@ impl CellWork {
         }
     }
 
-    /// There are eight cells. A round with an SCX takes a node and an SCX-record, of which a thread
-    /// has a share.
+    /// There are eight cells. A round with an SCX takes a node and an SCX-record of the thread's
+    /// share.
     fn bounds(self) -> Bounds {
         let (threads, calls, usual_calls) = match self {
             CellWork::Llx => (8, u32::MAX, 1_000_000),
@@ -244,8 +244,8 @@ impl TreeWork {
         matches!(self, TreeWork::Mix { .. })
     }
 
-    /// An insert takes three nodes at most and another edit one, of which a thread has a share. There
-    /// are 500 pairs to take out where the words do not say how many keys there are.
+    /// An insert takes three nodes at most and another edit one, of the thread's share. There
+    /// are 500 pairs to take out if the words do not say how many keys there are.
     fn bounds(self, usual_keys: u32) -> Bounds
         requires some { 1 ≤ usual_keys }
         requires few { usual_keys ≤ 100000 }

@@ -62,7 +62,7 @@ fn filled(table: &Forest<Table>, mut passes: Vec<Pass<Table>>) -> Result<Vec<Pas
     Ok(passes)
 }
 
-/// Counts a message: one more than there were, if no other thread has come in between, and else
+/// Counts a message: one more than there were, if no other thread has counted meanwhile, and else
 /// again from what that has left. Answers whether the topic is open and the share has had room.
 fn count(table: &Forest<Table>, pass: &mut Pass<Table>, topic: Name8) -> bool
     requires { IsOf table.now pass.old }
@@ -94,7 +94,7 @@ fn work(table: &Forest<Table>, mut pass: Pass<Table>) -> Pass<Table>
     pass
 }
 
-/// All threads work, and come back with their passes.
+/// All threads work, and return their passes.
 fn work_all<R: Threads + Sync>(
     rt: &R,
     table: &Forest<Table>,

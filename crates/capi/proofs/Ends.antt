@@ -22,7 +22,7 @@ value_of p = p.handle.value
 pub all_through : (P : Option OwnedPass → Type 0) (xs : List HandleSlot) (i : ℕ) → length xs ≤ i → All P (take i (held_in xs)) → All P (held_in xs)
 all_through P xs i end all = All-same P (held_in xs) (take i (held_in xs)) (sym (take_all i (held_in xs) (subst (λ (n : ℕ). n ≤ i) (sym (length-map xs value_of)) end))) all
 
--- a handle is written over by one of which P holds, too
+-- a handle is written over by one for which P holds, too
 pub all_more : (P : Option OwnedPass → Type 0) (xs : List HandleSlot) (i : ℕ) (new : HandleSlot) → i < length xs → All P (take i (held_in xs)) → P new.handle.value → All P (take (i + 1) (held_in (set xs i new)))
 all_more P xs i new inside before one =
     All-same P (take (i + 1) (held_in (set xs i new))) (take i (held_in xs) ++ new.handle.value ∷ [])
@@ -38,17 +38,17 @@ module _ (xs : List HandleSlot) (i : ℕ) (old new : HandleSlot) (is : old ≡ g
   pub one_of : (P : Option OwnedPass → Type 0) → i < length xs → All P (held_in xs) → P old.handle.value
   one_of P inside all = subst P (get_or-map value_of xs i old old.handle.value inside ∙ ap value_of (sym is)) (all i old.handle.value (subst (λ (n : ℕ). i < n) (sym (length-map xs value_of)) inside))
 
--- a handle that tells how many passes there are holds one
+-- a handle that says how many passes there are holds one
 pub told_held : (v : Option OwnedPass) (n : ℕ) → Some n ≡ option_map pass_count v → IsSome v
 told_held (Some c) n told = refl
 told_held None n told = absurd (none-some n (sym told))
 
--- one that tells nothing holds none
+-- one that says nothing holds none
 pub none_told : (v : Option OwnedPass) → None ≡ option_map pass_count v → ¬ IsSome v
 none_told None told some = false≢true some
 none_told (Some c) told some = none-some (pass_count c) told
 
--- the dictionary of the first has so many
+-- the dictionary of the first has this many
 pub told_of : (f : Ground) (v : Option OwnedPass) (n : ℕ) → Some n ≡ option_map pass_count v → IsIn f v → IsHeldOf f v × (n ≡ f.layout.passes)
 told_of f (Some c) n told in_f = (in_f, some_is (told ∙ ap (λ (g : Ground). Some g.layout.passes) in_f))
   where

@@ -40,7 +40,7 @@ bare status = record { value = record { low = 0; high = 0 }; status = status }
 abbrev pub no_count : ℕ → Count
 no_count status = record { pairs = 0; status = status }
 
--- the answer that there are so many pairs
+-- the answer that there are this many pairs
 abbrev pub counted : ℕ → Count
 counted n = record { pairs = n; status = 1 }
 
@@ -68,7 +68,7 @@ IsUpdateAnswer (Err fault) a = a ≡ bare (update_status fault)
 abbrev pub pair_of : KeyValue → ℕ × ℕ
 pair_of p = (p.key, number p.value)
 
--- what a call that tells a pair leaves in its room, and answers
+-- what a call that answers a pair leaves in its room, and answers
 abbrev pub IsPairAnswer : Option (ℕ × ℕ) → KeyValue → ℕ → Type 0
 IsPairAnswer (Some p) room status = (pair_of room ≡ p) × (status ≡ 1)
 IsPairAnswer None room status = status ≡ 0
@@ -78,7 +78,7 @@ abbrev pub IsFoundAnswer : {F : Type 0} → (F → ℕ) → Result (Option (ℕ 
 IsFoundAnswer refusal (Ok found) room status = IsPairAnswer found room status
 IsFoundAnswer refusal (Err fault) room status = status ≡ refusal fault
 
--- these pairs stand in the first places of the room
+-- these pairs are in the first places of the room
 abbrev pub StandIn : List (ℕ × ℕ) → List KeyValue → Type 0
 StandIn pairs room = (j : ℕ) (p : ℕ × ℕ) → slice_get pairs j ≡ Some p → option_map pair_of (slice_get room j) ≡ Some p
 
@@ -116,18 +116,18 @@ TakenSays call room old new status = (told : Result (Option (ℕ × ℕ)) Update
 abbrev pub FoundSays : MapCall → KeyValue → OwnedPass → OwnedPass → ℕ → Type 0
 FoundSays call room old new status = (told : Result (Option (ℕ × ℕ)) OrderFault) × IsFoundAnswer order_status told room status × HasClientCalled old new call (read_reply replies.Pair told)
 
--- what `range` says, which may tell so many pairs, and leaves them in this room
+-- what `range` says, which may answer this many pairs, and leaves them in this room
 abbrev pub BetweenSays : ℕ → ℕ → ℕ → List KeyValue → OwnedPass → OwnedPass → Count → Type 0
 BetweenSays low high most room old new a = (told : Result (Vec (ℕ × ℕ)) OrderFault) × IsCountOfRange told room a × HasClientCalled old new (Range low high most) (read_reply replies.Pairs told)
 
--- what `left` tells
+-- what `left` answers
 abbrev pub LeftSays : Option OwnedPass → Left → Type 0
 LeftSays None a = a ≡ record { nodes = 0; scx = 0 }
 LeftSays (Some c) a = a ≡ record { nodes = c.pass.share.nodes; scx = c.pass.share.scx }
 
 -- What `close` and `make` say
 
--- the pairs that are left stand in the room, as far as they go in
+-- the pairs that are left are in the room, as far as they go in
 pub record HasClosed (c : OwnedPass) (room : List KeyValue) (a : Count) : Type 0 where
   pub pairs : List (ℕ × ℕ)
   pub left : AreLeft c.pass pairs
@@ -140,7 +140,7 @@ CloseSays None after room a = (after ≡ None) × (a ≡ no_count 6)
 CloseSays (Some c) (Some d) room a = (d ≡ c) × (a ≡ no_count 7)
 CloseSays (Some c) None room a = (a ≡ no_count 4) ⊎ HasClosed c room a
 
--- the limits of so many passes
+-- the limits of this many passes
 abbrev pub limits_of : PassLimits → ℕ → Limits
 limits_of each passes = record { passes = passes; nodes = each.nodes; scx = each.scx; tries = each.tries }
 

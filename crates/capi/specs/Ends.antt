@@ -53,7 +53,7 @@ pub record HaveEndedWith (held : List (Option OwnedPass)) (pairs : List (ℕ × 
   pub layout : Layout
   pub left : AreLeftByAll layout passes pairs
 
--- the pairs that are left stand in the room, as far as they go in
+-- the pairs that are left are in the room, as far as they go in
 pub record HasToldAll (held : List (Option OwnedPass)) (room : List KeyValue) (a : Count) : Type 0 where
   pub pairs : List (ℕ × ℕ)
   pub left : HaveEndedWith held pairs
@@ -71,7 +71,7 @@ pub record IsNotEnded (before after : List (Option OwnedPass)) (a : Count) : Typ
   pub why : ((a ≡ no_count 6) × (¬ AreHeld before)) ⊎ ((a ≡ no_count 7) × AreTooFew before)
 
 -- the handles had enough, and are empty: an allocation was refused, and the dictionary is gone; or
--- its pairs are told
+-- its pairs are answered
 pub record HasEnded (before after : List (Option OwnedPass)) (room : List KeyValue) (a : Count) : Type 0 where
   pub all : AreEnough before
   pub empty : All IsEmpty after

@@ -17,8 +17,8 @@ use Rattle.capi.specs.declared.client.OwnedPass.{OwnedPass}
 use Rattle.capi.specs.declared.client.Closing.{Closing}
 use Rattle.capi.specs.declared.client.Closing.TheVariants.{Pairs, NoMemory, Shared}
 
--- the pairs are those of the map at the end of a lawful run, which goes on from what the pass knew;
--- the pass itself has entered nothing more: what has come since is other passes'
+-- the pairs are those of the map at the end of a lawful run, which extends what the pass knew;
+-- the pass itself has entered nothing more: what was added since is other passes'
 pub record AreLeft (p : PassView) (pairs : List (ℕ × ℕ)) : Type 0 where
   pub run : History
   pub sound : IsRun (TypedAllows IsNumber IsWideNumber) p.layout run
@@ -27,7 +27,7 @@ pub record AreLeft (p : PassView) (pairs : List (ℕ × ℕ)) : Type 0 where
   pub spelled : Spells p.layout (value run) (map (word_pair (λ k. k) (λ v. v)) pairs)
 
 -- These are all passes of a dictionary of this layout, and the pairs are those of the map at the
--- end of one lawful run, which goes on from what each of the passes knew (`begun` of `closed`): it
+-- end of one lawful run, which extends what each of the passes knew (`begun` of `closed`): it
 -- has entered nothing more, and its only step there is a look at the table.
 pub record AreLeftByAll (lay : Layout) (passes : List PassView) (pairs : List (ℕ × ℕ)) : Type 0 where
   pub layouts : All (λ p. p.layout ≡ lay) passes

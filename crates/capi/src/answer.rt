@@ -115,7 +115,7 @@ pub(crate) fn status_of_read(fault: OrderFault) -> u32
     }
 }
 
-/// What a call answers that tells a pair, and leaves at `room`.
+/// What a call answers that has found a pair, and leaves at `room`.
 pub(crate) fn tell_pair(found: Option<(u64, u128)>, room: &mut KeyValue) -> u32
     ensures { IsPairAnswer found room.new result }
 {

@@ -127,7 +127,7 @@ impl OwnedPass {
         self.forest.predecessor(alloc, &mut self.pass, &key)
     }
 
-    /// The first pairs from `low` to `high`, at most so many.
+    /// The first pairs from `low` to `high`, at most `most`.
     #[tactic(auto, using(crate::proofs::Ranges::range_few))]
     pub fn range(
         &mut self,

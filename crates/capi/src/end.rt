@@ -31,8 +31,8 @@ pub(crate) fn all_of(alloc: Global, passes: &mut [HandleSlot]) -> Option<u32>
     all
 }
 
-/// Ends the dictionary whose passes these handles hold, and answers its pairs. It is gone where they
-/// are not all there, or an allocation was refused.
+/// Ends the dictionary whose passes these handles hold, and answers its pairs. It is gone where
+/// they are not all there, or an allocation was refused.
 pub(crate) fn end(alloc: Global, passes: &mut [HandleSlot]) -> Option<Vec<(u64, u128)>>
     requires { AreOfOne (held_in passes.old) }
     ensures empty { All IsEmpty (held_in passes.new) }
@@ -60,7 +60,7 @@ fn take_out(alloc: Global, passes: &mut [HandleSlot]) -> Option<Vec<HandleSlot>>
     }
 }
 
-/// So many handles that hold nothing.
+/// `count` handles that hold nothing.
 fn none_held(alloc: Global, count: usize) -> Result<Vec<HandleSlot>, NoMemory>
     ensures len { IfOk result (λ places. vec_len places ≡ count) }
     ensures empty { IfOk result (λ places. All IsEmpty (held_in places.items)) }

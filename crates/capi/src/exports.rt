@@ -63,7 +63,7 @@ pub extern "C" fn regnubas_get(alloc: Global, pass: &mut HandleSlot, key: u64) -
     answer
 }
 
-/// Sets a key to a value, and tells the value that it had.
+/// Sets a key to a value, and returns the value that it had.
 #[unsafe(no_mangle)]
 pub extern "C" fn regnubas_insert(
     alloc: Global,
@@ -81,7 +81,7 @@ pub extern "C" fn regnubas_insert(
     answer
 }
 
-/// Sets a key to a value if it has none, and tells the value that it has otherwise.
+/// Sets a key to a value if it has none, and returns the value that it has otherwise.
 #[unsafe(no_mangle)]
 pub extern "C" fn regnubas_insert_new(
     alloc: Global,
@@ -99,7 +99,7 @@ pub extern "C" fn regnubas_insert_new(
     answer
 }
 
-/// Takes a key away, and tells the value that it had.
+/// Removes a key, and returns the value that it had.
 #[unsafe(no_mangle)]
 pub extern "C" fn regnubas_delete(alloc: Global, pass: &mut HandleSlot, key: u64) -> ValueAnswer
     ensures { CallSays (bare 6) (EditSays (call_delete key)) pass.old.handle.value pass.new.handle.value result }
@@ -112,7 +112,7 @@ pub extern "C" fn regnubas_delete(alloc: Global, pass: &mut HandleSlot, key: u64
     answer
 }
 
-/// Takes a key away where it has the expected value, and tells the value that it had.
+/// Removes a key if it has the expected value, and returns the value that it had.
 #[unsafe(no_mangle)]
 pub extern "C" fn regnubas_delete_if(
     alloc: Global,
@@ -170,7 +170,7 @@ pub extern "C" fn regnubas_pop_last(
     status
 }
 
-/// Sets a key to a value where it has the expected one, and tells the value that it had.
+/// Sets a key to a value if it has the expected one, and returns the value that it had.
 #[unsafe(no_mangle)]
 pub extern "C" fn regnubas_replace_if(
     alloc: Global,

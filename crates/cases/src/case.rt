@@ -21,8 +21,8 @@ pub(crate) struct Case<'a> {
 }
 
 impl<'a> Case<'a> {
-    /// What a line says: the words of the command, and its folder; in front of them `failing` where
-    /// its devices fail, and behind them `as` and the other folder where that is not the same.
+    /// What a line says: the words of the command, and its folder; before them `failing` if
+    /// its devices fail, and after them `as` and the other folder if that is not the same.
     pub(crate) fn of(line: &'a str) -> Result<Case<'a>> {
         let (fails, line) = match line.strip_prefix("failing ") {
             Some(rest) => (true, rest),

@@ -19,7 +19,7 @@ pub(crate) struct Told {
     pub(crate) other: u64,
 }
 
-/// Tells of each case how it ends. A line of a list that begins with `#` is a remark.
+/// Reports of each case how it ends. A line of a list that begins with `#` is a remark.
 pub(crate) fn all<R: Files + Input + Print + AllocGlobal + Threads + Wait + Sync>(
     rt: &R,
 ) -> Result<Told> {
@@ -50,8 +50,8 @@ impl Told {
         Ok(())
     }
 
-    /// So many in folders of this case's folder, from `000` on: how the last one ends that does not end
-    /// as it has to. Tells of each such one.
+    /// This many in folders of this case's folder, from `000` on: how the last one ends that does
+    /// not end as it has to. Reports each such one.
     fn numbered<R: Files + Print + AllocGlobal + Threads + Wait + Sync>(
         &mut self,
         rt: &R,
@@ -119,7 +119,7 @@ impl Told {
         Ok(())
     }
 
-    /// Tells how a case has ended.
+    /// Reports how a case has ended.
     fn tell<R: Print>(&mut self, rt: &R, name: &str, finding: Finding) -> Result<()> {
         println!(rt; "{name}: {finding}")?;
         self.all = self.all.saturating_add(1);

@@ -12,8 +12,8 @@ use std::sync::Wait;
 use std::thread::Threads;
 
 /// The folder of a report, or of its script and schedule; the row that the audit is to name once it
-/// is changed; and the changes: what stands there, and what is put in its place the first time that
-/// it stands there.
+/// changed; and the changes: what is there, and what is put in its place the first time that
+/// it is there.
 #[derive(Clone, Copy)]
 pub(crate) struct ReportChange<'a> {
     folder: &'a str,

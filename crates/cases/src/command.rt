@@ -1,4 +1,4 @@
-//! The commands of the program, one that copies a report, one that draws it, and one that tells the
+//! The commands of the program, one that copies a report, one that draws it, and one that lists the
 //! outcomes of a script.
 use crate::copy::copy_over;
 use crate::ended::ProgramEnd;
@@ -26,7 +26,7 @@ pub(crate) enum Action<'a> {
     Copy,
     /// To read a report, and draw it.
     Picture,
-    /// To play a script with so many interruptions at most, by so many schedules.
+    /// To play a script with this many interruptions at most, by this many schedules.
     Outcomes { interruptions: u32, most: u64 },
 }
 
@@ -45,7 +45,7 @@ impl<'a> Action<'a> {
         }
     }
 
-    /// The outcomes by these numbers, of which the second may be left out.
+    /// The outcomes by these numbers, the second of which may be left out.
     fn outcomes(numbers: &str) -> Result<Action<'a>> {
         let (interruptions, most) = numbers.split_once(' ').unwrap_or((numbers, "1000000"));
         Ok(Action::Outcomes {
@@ -54,7 +54,7 @@ impl<'a> Action<'a> {
         })
     }
 
-    /// How it ends over these readers, of which only a play has two, and this writer.
+    /// How it ends over these readers (only a play has two) and this writer.
     pub(crate) fn over<R: Threads + Wait + Sync + AllocGlobal, S: Read, T: Read, O: Write>(
         self,
         rt: &R,

@@ -7,7 +7,7 @@ use std::sync::Wait;
 use std::thread::Threads;
 use texts::FailAt;
 
-/// What goes out of a command whose readers and whose writer pass so many bytes.
+/// What is written by a command whose readers and whose writer pass this many bytes.
 fn over<R: Threads + Wait + Sync + AllocGlobal>(
     rt: &R,
     command: Action<'_>,
@@ -25,8 +25,8 @@ fn over<R: Threads + Wait + Sync + AllocGlobal>(
     }
 }
 
-/// Where one device fails after each number of bytes in turn, the command says so, and what has gone
-/// out is a beginning of its output: none where a read fails.
+/// Where one device fails after each number of bytes in turn, the command says so, and what has
+/// gone out is a beginning of its output: none where a read fails.
 pub(crate) fn failing<R: Threads + Wait + Sync + AllocGlobal>(
     rt: &R,
     command: Action<'_>,
@@ -44,7 +44,7 @@ pub(crate) fn failing<R: Threads + Wait + Sync + AllocGlobal>(
     Finding::AsExpected
 }
 
-/// The least number of bytes of a text after which a failed read is not told as such.
+/// The least number of bytes of a text after which a failed read is not reported as such.
 fn other_read<R: Threads + Wait + Sync + AllocGlobal>(
     rt: &R,
     command: Action<'_>,

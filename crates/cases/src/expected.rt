@@ -13,8 +13,8 @@ use std::str::from_utf8;
 pub(crate) enum Expected {
     /// Just this to its output.
     Output(Vec<u8>),
-    /// Of a report or of outcomes these rows: all replies and pairs, each last row, and whichever other
-    /// rows stand here.
+    /// Of a report or of outcomes these rows: all replies and pairs, each last row, and whichever
+    /// other rows are here.
     Rows(String),
     /// This line to standard error alone.
     Fault(Vec<u8>),

@@ -1,12 +1,12 @@
-//! Scripts whose outcomes are told.
+//! Scripts whose outcomes are listed.
 use command_line::explore_over;
 use program::Fault;
 use std::alloc::Global;
 use std::io::{Read, Write};
 use texts::{Metered, send};
 
-/// Writes the outcomes of a script, and after them what the program `outcomes` says of the schedules
-/// that are left.
+/// Writes the outcomes of a script, and after them what the program `outcomes` says of the
+/// schedules that are left.
 pub(crate) fn outcomes_over<R: Read, O: Write>(
     alloc: Global,
     script: &mut R,

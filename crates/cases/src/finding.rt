@@ -18,9 +18,9 @@ pub(crate) enum Finding {
     Copy,
     /// The same turns, made one by one, give another record.
     Turns,
-    /// Where a read fails after so many bytes, the command ends otherwise.
+    /// If a read fails after this many bytes, the command ends otherwise.
     Read(usize),
-    /// Where a write fails after so many bytes, it ends otherwise.
+    /// If a write fails after this many bytes, it ends otherwise.
     Write(usize),
     /// Of a sweep the play with these numbers.
     Sweep(u64, u64),

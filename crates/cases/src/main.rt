@@ -1,4 +1,4 @@
-//! Gives the program the cases that lie where this one runs, and tells of each how it ends: a line a
+//! Gives the program the cases that are where this one runs, and reports how each ends: a line a
 //! case. `cases.txt` lists those that have folders, `refused.txt` has texts that are refused,
 //! `reports.txt` reports with a change, `words.txt` words of the command line, and `sweeps.txt` scripts
 //! that are played by one schedule after another.

@@ -8,7 +8,7 @@ use anyhow::{Context, Result};
 use std::sync::Wait;
 use std::thread::Threads;
 
-/// A command, the fault that it is to tell, and its texts, in which `|` stands for a new line.
+/// A command, the fault that it is to report, and its texts, in which `|` is a new line.
 #[derive(Clone, Copy)]
 pub(crate) struct Refusal<'a> {
     command: Action<'a>,

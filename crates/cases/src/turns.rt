@@ -51,7 +51,7 @@ fn again(alloc: Global, mode: Mode, script: &[u8], report: &[u8]) -> Result<Vec<
     Ok(to.inner)
 }
 
-/// The clients of the turns of a record, among so many.
+/// The clients of the turns of a record, among this many.
 fn turns_of(alloc: Global, record: &Record, passes: u32) -> Result<Vec<PassNo>, AllocError>
     ensures { IfOk result (λ turns. All (λ pass. pass.0 < passes) turns.items) }
 {

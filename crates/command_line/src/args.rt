@@ -26,7 +26,7 @@ pub(crate) enum Invocation<'a> {
     },
 }
 
-/// What these words ask for, of which the first is the program's own name.
+/// What these words ask for; the first is the program's own name.
 pub(crate) fn read_words<'a, S: AsStr>(
     alloc: Global,
     words: &'a [S],

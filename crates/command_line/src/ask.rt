@@ -12,7 +12,7 @@ use std::sync::Wait;
 use std::thread::Threads;
 use texts::Metered;
 
-/// Does what the words ask for, of which the first is the program's own name, and answers the exit
+/// Does what the words ask for, the first being the program's own name, and answers the exit
 /// status. The files are opened in the order of the words before any of them is read.
 pub fn run_words<R: Files + AllocGlobal + Threads + Wait + Sync, O: Write, E: Write>(
     rt: &R,

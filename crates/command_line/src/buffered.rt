@@ -27,8 +27,8 @@ impl<W: Write> Write for Unflushed<W> {
     }
 }
 
-/// Plays a script by a schedule, as `play_over` does, with a buffer before `out`. It goes out in the
-/// end, also after a fault: then too `out` has a beginning of the report.
+/// Plays a script by a schedule, as `play_over` does, with a buffer before `out`. It goes out in
+/// the end, also after a fault: then too `out` has a beginning of the report.
 pub(crate) fn play_buffered<S: Read + Drop, T: Read + Drop, O: Write, E: Write>(
     alloc: Global,
     mode: Mode,

@@ -7,8 +7,8 @@ use std::alloc::Global;
 use std::io::{Read, Write};
 use texts::{Metered, send};
 
-/// Writes the outcomes of a script by schedules with so many interruptions at most, of so many
-/// schedules, and answers the line that tells how many are left.
+/// Writes the outcomes of a script by schedules with at most this many interruptions, of at most
+/// this many schedules, and answers the line that says how many are left.
 pub fn explore_over<R: Read, O: Write>(
     alloc: Global,
     script: &mut R,

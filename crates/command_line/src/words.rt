@@ -10,7 +10,7 @@ use std::io::Write;
 use std::rt::Env;
 use std::{env, io};
 
-/// All words that the program is given, of which the first is its own name.
+/// All words that the program is given; the first is its own name.
 pub fn words_of<R: Env + AllocGlobal>(rt: &R) -> Result<Vec<String>, Fault> {
     match env::args(rt) {
         Ok(words) => words.collect(rt.alloc()).map_err(|_| Fault::NoMemory),
@@ -19,7 +19,7 @@ pub fn words_of<R: Env + AllocGlobal>(rt: &R) -> Result<Vec<String>, Fault> {
     }
 }
 
-/// What these words give to a command, of which the first is the program's own name. A wish for help
+/// What these words give to a command; the first is the program's own name. A wish for help
 /// is a fault of usage too.
 pub(crate) fn given_to<'a, S: AsStr>(
     command: Result<Command<'a>, Error>,
@@ -52,7 +52,7 @@ pub(crate) fn option<'a>(alloc: Global, name: &'a str) -> Arg<'a> {
     Arg::new(alloc, name).long(name).action(ArgAction::Set)
 }
 
-/// The status with which a program ends that has done this; a fault is told in a line.
+/// The status with which a program ends that has done this; a fault is reported in a line.
 pub fn exit_status<E: Write>(done: Result<(), Fault>, err: &mut E) -> u8
     ensures { result ≤ 4 }
 {

@@ -32,7 +32,7 @@ same_view p = record { table = refl; layout = refl; number = refl; run = self (r
 pub later_view : (p q r : PassView) → IsLaterView p q → IsLaterView q r → IsLaterView p r
 later_view p q r x y = record { table = y.table ∙ x.table; layout = y.layout ∙ x.layout; number = y.number ∙ x.number; run = back (run_of r) (run_of q) (run_of p) y.run x.run }
 
--- the value that a reply tells
+-- the value that a reply has
 told_value : MapReply → Option ℕ → Option ℕ
 told_value (OneValue v) other = v
 told_value _ other = other
@@ -59,10 +59,10 @@ module _ (lay : Layout) where
   tree_run : {allows : Layout → History → ℕ → Type 0} → VersionLaws allows → lay.mode ≡ Tree → (p : PassView) → p.layout ≡ lay → IsRun allows p.layout (run_of p) → IsTreeRun lay (run_of p)
   tree_run {allows} laws tree p e run = laws.runs lay (run_of p) tree (subst (λ (x : Layout). IsRun allows x (run_of p)) e run)
 
-  -- A change by which k has the value v. At a moment behind it, up to which no pass has made another
+  -- A change by which k has the value v. At a later moment, up to which no pass has made another
   -- entry, k still has it.
   module _ {allows : Layout → History → ℕ → Type 0} (laws : VersionLaws allows) (inserted : (k v : ℕ) (m : List Pair) → get k (insert k v m) ≡ Some v) (old new : PassView) (k v : ℕ) (told : MapReply) (c : IsChange old new (call_insert k v) told (Insert k v)) (at : new.layout ≡ lay) where
-    -- the moment just behind it
+    -- the moment just after it
     abbrev set_at : History
     set_at = c.row ⊳ c.before
 
@@ -76,7 +76,7 @@ module _ (lay : Layout) where
     quiet_call l view =
         subst (λ (x : Layout). EntersNothing x new.number (run_of new) set_at) at (laws.newest old new (call_insert k v) told (Insert k v) (subst (λ (x : Layout). Lawful x (run_of new)) (sym at) l) view c)
 
-  -- what a get tells of the map that it has read
+  -- what a get answers of the map that it has read
   read_told : (k : ℕ) (m : List Pair) (found : Option ℕ) → reply (Get k) m ≡ OneValue found → found ≡ get k m
   unfolding told_value
   read_told k m found e = sym (ap (λ r. told_value r found) e)

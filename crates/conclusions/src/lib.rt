@@ -1,4 +1,4 @@
-//! What callers of a dictionary can conclude of several calls from the clauses of these calls alone.
+//! What callers of a dictionary can conclude of several calls from their clauses alone.
 #![tactic(auto)]
 
 ghost use Rattle.std.specs.Prelude.{◌≡◌, Some, IfOk, OnOk};
@@ -30,9 +30,9 @@ pub fn set_then_get(
     Ok(map.get(pass, &key))
 }
 
-/// Of two passes, the only ones, one sets a key, and the other finds the value. They meet before, so
-/// that what the other had done is known to be older; between the two calls, so that the get comes
-/// later; and at the end, so that nothing else is known to have come between.
+/// Of two passes, the only ones, one sets a key, and the other finds the value. They meet before,
+/// so that what the other had done is known to be older; between the two calls, so that the get is
+/// later; and at the end, so that nothing else is known to have happened between.
 pub fn set_for_another(
     map: &Forest<Numbers>,
     one: &mut Pass<Numbers>,

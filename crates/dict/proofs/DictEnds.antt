@@ -28,10 +28,10 @@ use Rattle.dict.specs.declared.dict.DictRun.{DictRun}
 use Rattle.ordered_map.specs.declared.reply.Reply.{Reply}
 use Rattle.ordered_map.specs.declared.reply.Reply.TheVariants as replies
 
--- What is told of a map of typed words is typed
+-- What is answered of a map of typed words is typed
 
 module _ (keys values : ℕ → Type 0) where
-  -- what a call tells in a run of the dictionary
+  -- what a call answers in a run of the dictionary
   module _ (c : Call) (h : History) (mode : c.layout.mode ≡ TreeMode) (run : IsRun (TypedAllows keys values) c.layout h) where
     map_typed : (moment : History) (m : List Pair) → Extends h moment → Spells c.layout (value moment) m → AreTyped keys values m
     map_typed moment m within x = typed_map keys values c.layout moment mode (typed_since keys values c.layout h moment run within) m x
@@ -55,12 +55,12 @@ module _ (keys values : ℕ → Type 0) where
 -- What the reply of keys and values says
 
 module _ (c : Call) (h : History) where
-  -- what is told a map replies
+  -- what is answered a map replies
   told_by : (made : Option MapEdit) (call : MapCall) (told : MapReply) → HasToldBy made c h call told → (map : List Pair) × (reply call map ≡ told)
   told_by (Some edit) call told x = (x.map, x.gives)
   told_by None call told x = (x.read.map, x.read.gives)
 
-  -- a call that tells pairs keeps lists, and has entered nothing
+  -- a call that answers pairs keeps lists, and has entered nothing
   keeps : (call : MapCall) (ps : List Pair) → HasTold c h call (ManyPairs ps) → KeepsLists call × HasEnteredNone c.layout c.pass h c.start
   keeps call ps x =
       let told = told_by (edit_of call (ManyPairs ps)) call (ManyPairs ps) x in
@@ -72,7 +72,7 @@ module _ (c : Call) (h : History) where
     abbrev Right : Reply K V → Type 0
     Right r = TellsOfMap c h call (told_of key value_of r) × DictRefuses c h call share tries r
 
-    -- a reply that tells something refuses nothing
+    -- a reply that says something of the map refuses nothing
     refuses_none : (r : Reply K V) (told : MapReply) → told_of key value_of r ≡ Some told → DictRefuses c h call share tries r
     refuses_none (replies.Value v) told e = tt
     refuses_none (replies.Pair p) told e = tt

@@ -43,7 +43,7 @@ use Rattle.dict.specs.WordReplies.{WordReply, goal_reply, edit_reply, read_reply
 use Rattle.dict.proofs.Readings.{NeededAs, none_entered, reply_read, always_read, leaf_read, leaf_needed, ran_out}
 
 module _ (tries : ℕ) (c : Call) (h : History) where
-  -- just before an edit is made its leaf tells what the map replies
+  -- just before an edit is made its leaf says what the map replies
   made_told : (goal : Goal) (e : MapEdit) (number : ℕ) (f : Found) → edit_key e ≡ asked_key goal f.key → (x : HasMade e c h number f.value) → ToldEnd goal c.layout x.before f → (map : List Pair) → Spells c.layout (value x.before) map → goal_told goal map ≡ leaf_told goal f
   made_told (ToKey k) e number f at x first map s = ap OneValue (ap (λ q. get q map) (sym at) ∙ x.told map s)
   made_told (End side) e number f at x first map s = ap pair_or_none (first map s)
@@ -55,7 +55,7 @@ module _ (tries : ℕ) (c : Call) (h : History) where
       let map : (m : List Pair) × Spells c.layout (value x.before) m = run_spells c.layout x.before (run_since c.layout h x.before run within) in
       record { old = f.value; made = x; map = map.0; spelled = map.1; gives = walks map.0 ∙ made_told goal e c.number f at x first map.0 map.1 }
 
-  -- what a leaf of this key and this value tells is what the update replies that is done there
+  -- what a leaf of this key and this value says is what the update replies that is done there
   done_says : (goal : Goal) (call : MapCall) (f : Found) (key : ℕ) (old : Option ℕ) → f.key ≡ key → f.value ≡ old → HasTold c h call (leaf_told goal f) → TellsOfMap c h call (told_in (goal_reply goal key old))
   done_says (ToKey k) call f key old is_key is_value x = subst (λ v. HasTold c h call (OneValue v)) is_value x
   done_says (End side) call f key old is_key is_value x = subst (λ p. HasTold c h call (pair_or_none p)) (λ i. option_map (pair (is_key i)) (is_value i)) x
@@ -65,7 +65,7 @@ module _ (tries : ℕ) (c : Call) (h : History) where
   done_refuses (ToKey k) call share key old = tt
   done_refuses (End side) call share key old = tt
 
-  -- where it has so many tries, so many are lost
+  -- if it has this many tries, this many are lost
   lost : {limit n s : ℕ} → limit ≡ tries → HasLostTriesTo c.pass h c.start limit n s → HasLostTriesTo c.pass h c.start tries n s
   lost {limit} {n} {s} e x = subst (λ k. HasLostTriesTo c.pass h c.start k n s) e x
 
@@ -83,7 +83,7 @@ module _ (tries : ℕ) (c : Call) (h : History) where
     abbrev goal : Goal
     goal = m.edit.goal
 
-    -- the leaf that it has found tells what the map replied
+    -- the leaf that it has found says what the map replied
     edit_read : (f : Found) → HasFoundGoal goal c h f → HasEnteredNone c.layout c.pass h c.start → HasOnlyLooked c.pass h c.start → HasReadMap c h call (leaf_told goal f)
     edit_read f found none only_looked = leaf_read c h call goal f (λ map. refl) (edit_small m.edit.goal m.edit.rule small) run found none (λ some. only_looked)
 
@@ -120,11 +120,11 @@ module _ (tries : ℕ) (c : Call) (h : History) where
       ran_out c h call (edit_means.work m.edit x.found).need m.share full x.only_looked (edit_needed (begun_at c x.only_looked.begin) h run x.found x.has_found x.needed) x.short x.first x.none,
     )
 
-  -- a get has read what its leaf tells
+  -- a get has read what its leaf says
   pub get_says : (key : ℕ) (share : Remaining) (f : Found) → key < 2 ^ 64 → HasRested c h share → HasFoundGoal (ToKey key) c h f → WordSays c h (Get key) share tries (WordReply.Value f.value)
   get_says key share f small x found = (leaf_read c h (Get key) (ToKey key) f (λ map. refl) small x.run found (none_entered c h share x) (λ some. absurd (omega (arith, some))), tt)
 
-  -- so has an ordered read, or it tells what every map replies
+  -- so has an ordered read, or it answers what every map replies
   module _ (k : ReadKind) (is : IsReadKind k) (m : ReadRun k.R) (share : Remaining) (x : HasRested c h share) (limit : m.limit ≡ tries) where
     none : HasEnteredNone c.layout c.pass h c.start
     none = none_entered c h share x
@@ -156,7 +156,7 @@ edit_spends c most old now tries nodes nodes_then scx scx_then x y = record {
   spends = (let a = x.spends.0 in let b = y.0 in omega (arith, a, b), let a = x.spends.1 in let b = y.1 in omega (arith, a, b), let a = x.spends.2 in let b = y.2 in omega (arith, a, b));
 }
 
--- what `limit` tries may take less what the `left` ones still may is at most what the begun ones may
+-- what `limit` tries may take less what the `left` ones may is at most what the begun ones may
 by_begun : (most old now begun first left limit : ℕ) → begun + left ≡ first + limit → old + most * left ≤ now + most * limit → old ≤ now + most * (begun - first)
 by_begun most old now begun first left limit all s =
     let few : limit ≤ (begun - first) + left = omega (arith, all) in
@@ -164,7 +164,7 @@ by_begun most old now begun first left limit all s =
     let parts = mul-add most (begun - first) left in
     omega (arith, s, more, parts)
 
--- and once it has answered, with so many tries left
+-- and once it has answered, with this many tries left
 pub edit_spent : (c : Call) (h : History) (goal : Goal) (rule : Rule) (tries left : ℕ) (share : Remaining) → HasSpentSo c (nodes_in_try rule) share tries left left → HasTriedAllBut c h tries left → HasSpent c h (Edit goal rule) tries share
 edit_spent c h goal rule tries left share x tried = record {
   tried = tried_few c h tries left tried;

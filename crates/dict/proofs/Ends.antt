@@ -37,7 +37,7 @@ use Rattle.dict.proofs.Endings.{edit_says, get_says, read_says, read_spent, edit
 -- Their way
 
 module _ (tries : ℕ) (c : Call) where
-  -- an edit that goes on is the same
+  -- an edit that continues is the same
   pub edit_goes : (old now : UpdateRun (KeyEdit Goal Rule) UpdateAt) → Goes (Update old) tries c → now.edit ≡ old.edit → now.call ≡ old.call → now.limit ≡ old.limit → Spends (nodes_in_try now.edit.rule) old.share now.share (node_tries old old.at) (node_tries now now.at) (scx_tries old old.at) (scx_tries now now.at) → Goes (Update now) tries c
   edit_goes old now goes edit call limit spends = record {
     mode = goes.mode;
@@ -49,7 +49,7 @@ module _ (tries : ℕ) (c : Call) where
 
 -- The tries of a get
 
--- while it has begun none it may stand anywhere
+-- while it has begun none it may be anywhere
 pub none_tried : (at : WalkAt) (now then : ℕ) → now ≡ then → HasTriedOnceAt at now then
 none_tried at now then e = (omega (arith, e), λ root. e)
 
@@ -61,7 +61,7 @@ pub tried_once : (got : Option ℕ) (now then : ℕ) → HasTriedOnce got now th
 tried_once None now then e = omega (arith, e)
 tried_once (Some v) now then i = i
 
--- where its walk stands once it has asked for a step
+-- where its walk is once it has asked for a step
 pub stands_once : (c : Call) (h : History) (m now : WalkRun) (got : Option ℕ) (n s : ℕ) → IsRun TreeAllows c.layout h → WalkIsReady m c h got → HasTriedOnce got n s → ((nodes : ℕ) → WalkFits m got nodes → walk_left now.at nodes < walk_left m.at nodes) → HasTriedOnceAt now.at n s
 stands_once c h m now None n s run ready e nearer = none_tried now.at n s e
 stands_once c h m now (Some v) n s run ready i nearer = once_past now.at n s (walk_past_root m c h now v run ready nearer) i

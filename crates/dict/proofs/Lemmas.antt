@@ -1,4 +1,4 @@
--- What the layers above know of calls of a dictionary beside their clauses, passed on from one
+-- What the layers above know of calls of a dictionary besides their clauses, exported from one
 -- place: no other module of these proofs can be named outside. Declares nothing.
 pub use Rattle.dict.proofs.Ends.{edit_goes, edit_ends, get_ends, none_tried, once_past, read_ends}
 pub use Rattle.dict.proofs.DictEnds.{dict_ends}

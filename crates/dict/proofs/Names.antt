@@ -82,7 +82,7 @@ tells_names w bytes b e told = told ∙ ap is_padded e
 
 -- Back from the bytes of a word to a text.
 
--- these bytes are visible characters, and zeros behind them
+-- these bytes are visible characters, and zeros after them
 record IsPadded (cs : List ℕ) : Type 0 where
   letters : List ℕ
   visible : list_all is_ascii_graphic letters ≡ true
@@ -109,7 +109,7 @@ padded : (cs : List ℕ) → is_padded cs ≡ true → IsPadded cs
 padded [] h = record { letters = []; visible = refl; zeros = 0; bytes = refl }
 padded (b ∷ cs) h = in_front b cs (b == 0) (is_ascii_graphic b) (is_padded cs) refl refl refl h (padded cs)
 
--- a word of a name has a text of which it is the word
+-- a word of a name has a text whose word it is
 pub spelled_text : (w : ℕ) → w < 2 ^ 64 → is_padded (to_be_bytes w64 w) ≡ true → (bs : List ℕ) × IsName bs × (w ≡ name_word bs)
 unfolding name_word
 spelled_text w few h =

@@ -67,7 +67,7 @@ module _ (c : Call) (h : History) where
       let map : (ps : List Pair) × Spells c.layout (value h) ps = run_spells c.layout h run in
       record { read = record { moment = h; within = ends_self h; since = since; own = λ asks. absurd (asks_not asks); map = map.0; spelled = map.1; gives = gives map.0; only_looked = λ some. absurd (omega (arith, some, reads)) }; none = none }
 
-  -- the leaf that was found tells what the map replied at a moment of the call
+  -- the leaf that was found says what the map replied at a moment of the call
   pub leaf_read : (call : MapCall) (goal : Goal) (f : Found) → ((map : List Pair) → reply call map ≡ goal_told goal map) → path_key goal < 2 ^ 64 → IsTreeRun c.layout h → HasFoundGoal goal c h f → HasEnteredNone c.layout c.pass h c.start → (0 < most_nodes call → HasOnlyLooked c.pass h c.start) → HasReadMap c h call (leaf_told goal f)
   leaf_read call goal f walks small run found none only_looked =
       let first = found.trail.node.first in
@@ -87,12 +87,12 @@ module _ (c : Call) (h : History) where
         none = none;
       }
 
-  -- a share that is too small for the need, which is some, is too small for so many nodes or more
+  -- a share that is too small for the need, which is some, is too small for this many nodes or more
   short_of : (want : ℕ) (many : ℕ) (left : Remaining) (what : Resource) (k : ℕ) → want ≤ many → 0 < want → IsShort want left what k → HasTooLittle many left what k
   short_of want many left Nodes k few some x = (let i = x.0 in omega (arith, i, few), x.1)
   short_of want many left ScxRecords k few some x = (let i = x.0 in omega (arith, i, some), x.1, x.2)
 
-  -- the leaf that was found tells what an edit needed at a moment of the call, if it needed something
+  -- the leaf that was found says what an edit needed at a moment of the call, if it needed nodes
   pub leaf_needed : (call : MapCall) (goal : Goal) (f : Found) (want : ℕ) → ((map : List Pair) → reply call map ≡ goal_told goal map) → path_key goal < 2 ^ 64 → IsTreeRun c.layout h → HasFoundGoal goal c h f → ((map : List Pair) → reply call map ≡ leaf_told goal f → want ≤ need call map) → 0 < want → NeededAs c.layout c.pass h c.start call want
   leaf_needed call goal f want walks small run found needs some =
       let first = found.trail.node.first in

@@ -1,4 +1,4 @@
--- What a call by itself tells and leaves.
+-- What a call by itself answers and leaves.
 use Rattle.std.proofs.Common.{◌≡◌, ◌∙◌, ◌<◌, ℕ, inl, inr, List, Option, Some, None, refl, sym, ap, subst}
 use Rattle.arena.specs.History.{History, ◌⊳◌, value, Extends}
 use Rattle.arena.specs.Machines.{Call}

@@ -39,17 +39,17 @@ inner_share (OrderedRead k m share) = share
 abbrev pub share_of : MapRun → Remaining
 share_of m = inner_share (inner m)
 
--- how many tries are left behind this one to a call with this inner machine; a get has one alone
+-- how many tries are left after this one to a call with this inner machine; a get has one alone
 abbrev pub inner_tries : InnerRun → ℕ
 inner_tries (Update m) = m.tries
 inner_tries (GetWalk key walk share) = 0
 inner_tries (OrderedRead k m share) = m.tries
 
--- so many to the machine
+-- how many to the machine
 abbrev pub tries_behind : MapRun → ℕ
 tries_behind m = inner_tries (inner m)
 
--- of the tries that were left behind this one no more is gone than one
+-- of the tries that were left after this one no more than one is gone
 abbrev pub KeepsTriesButOne : MapRun → MapRun → Type 0
 KeepsTriesButOne old now = (tries_behind now ≤ tries_behind old) × (tries_behind old ≤ tries_behind now + 1)
 
@@ -60,7 +60,7 @@ IsSmallCall _ = Unit {0}
 
 -- What a call may try and take
 
--- how many tries it may begin, where the limits allow so many: a get has one alone
+-- how many tries it may begin, if the limits allow this many: a get has one alone
 abbrev pub most_tries : MapCall → ℕ → ℕ
 most_tries (Get key) tries = 1
 most_tries _ tries = tries
@@ -74,7 +74,7 @@ pub record HasSpent (c : Call) (h : History) (call : MapCall) (tries : ℕ) (sha
   pub first : RestsWith c c.start left
   pub nodes : left.nodes ≤ share.nodes + most_nodes call * tries_since c.pass h c.start
   pub scx : left.scx ≤ share.scx + most_scx call (tries_since c.pass h c.start)
-  -- and for each SCX-record that is gone at most so many nodes
+  -- and for each SCX-record that is gone at most this many nodes
   pub each : left.nodes + most_nodes call * share.scx ≤ share.nodes + most_nodes call * left.scx
 
 -- it takes some pairs, where it is a range

@@ -1,4 +1,4 @@
--- When the machine of a call of a dictionary may go on, what it waits for, and what its answer
+-- When the machine of a call of a dictionary may continue, what it waits for, and what its answer
 -- says.
 use Rattle.std.specs.Prelude.{ℕ, Option}
 use Rattle.arena.specs.declared.step.Step.{Step}
@@ -27,7 +27,7 @@ DictIsReady keys values m c h got = IsTypedCall keys values (call_in m.run) × M
 abbrev pub DictWaits : {K V : Type 0} → (ℕ → Type 0) → (ℕ → Type 0) → DictRun K V → Call → History → Step → Type 0
 DictWaits keys values m c h s = IsTypedCall keys values (call_in m.run) × MapWaits m.tries m.run c h s
 
--- why a reply tells nothing of the map, where the call has this share left, and so many tries in
+-- why a reply says nothing of the map, if the call has this share left, and this many tries in
 -- all
 abbrev pub DictRefuses : {K V : Type 0} → Call → History → MapCall → Remaining → ℕ → Reply K V → Type 0
 DictRefuses c h call share tries (Contended node scx) = HasLost c h call tries node.0 scx.0
@@ -35,7 +35,7 @@ DictRefuses c h call share tries (Full full) = HasRunOut c h call share full
 DictRefuses c h call share tries NoMemory = KeepsLists call × HasEnteredNone c.layout c.pass h c.start
 DictRefuses c h call share tries _ = Unit {0}
 
--- Its answer is right. Behind it the pass is at rest with what is left of the share, of which no
+-- Its answer is right. After it the pass is at rest with what is left of the share, of which no
 -- more is gone than the tries that it has begun may take. Its keys and values are of their types.
 pub record DictAnswers {K V : Type 0} (valid_key : K → Type 0) (key : K → ℕ) (valid_value : V → Type 0) (value : V → ℕ) (m : DictRun K V) (c : Call) (h : History) (reply : Reply K V) : Type 0 where
   pub rests : RestsWith c h (share_of m.run)

@@ -1,4 +1,4 @@
--- What the map tells a call that walks to a goal, and what the leaf that was found says of that.
+-- What the map answers a call that walks to a goal, and what the leaf that was found says of that.
 use Rattle.std.specs.Prelude.{◌≡◌, List}
 use Rattle.arena.specs.declared.layout.Layout.{Layout}
 use Rattle.arena.specs.History.{History, value, Extends}

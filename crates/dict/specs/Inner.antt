@@ -1,5 +1,5 @@
--- What runs inside of the machine of a call of the map: an update for a call that may edit, the walk
--- of a get, or an ordered read, whichever that is.
+-- What runs inside of the machine of a call of the map: an update for a call that may edit, the
+-- walk of a get, or an ordered read, whichever that is.
 use Rattle.std.specs.Global.{Global}
 use Rattle.std.specs.Prelude.{ℕ, Option, Vec}
 use Rattle.arena.specs.Share.{Remaining}
@@ -44,7 +44,7 @@ neighbour_kind = record { R = Neighbour; A = Option Pair; means = neighbour_mean
 abbrev pub range_kind : ReadKind
 range_kind = record { R = Range; A = Vec Pair Global; means = range_means; tells = λ (found : Vec Pair Global). WordReply.Pairs found.items }
 
--- the machine inside, and the share that lies beside that of a read
+-- the machine inside, and the share that is kept with that of a read
 pub data InnerRun : Type 1 where
   Update : UpdateRun (KeyEdit Goal Rule) UpdateAt → InnerRun
   Get : ℕ → WalkRun → Remaining → InnerRun

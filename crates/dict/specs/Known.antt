@@ -1,4 +1,4 @@
--- When the machine of a call of the map may go on, what it waits for, and what its answer says.
+-- When the machine of a call of the map may continue, what it waits for, and what its answer says.
 use Rattle.std.specs.Prelude.{◌≡◌, ℕ, suc, ◌+◌, ◌^◌, ◌<◌, ◌≤◌, Option, Some, None, []}
 use Rattle.arena.specs.declared.limits.Mode.TheVariants.{Tree as TreeMode}
 use Rattle.arena.specs.declared.step.Step.{Step}
@@ -40,7 +40,7 @@ pub record HasSpentSo (c : Call) (most : ℕ) (share : Remaining) (tries nodes s
   pub first : RestsWith c c.start left
   pub spends : Spends most left share tries nodes tries scx
 
--- what is gone of the share of a call with so many tries: of a read nothing
+-- what is gone of the share of a call with this many tries: of a read nothing
 abbrev pub HasSpentIn : InnerRun → ℕ → Call → Type 0
 HasSpentIn (Update m) tries c = HasSpentSo c (nodes_in_try m.edit.rule) m.share tries (node_tries m m.at) (scx_tries m m.at)
 HasSpentIn (Get key walk share) tries c = RestsWith c c.start share
@@ -51,13 +51,13 @@ abbrev pub IsNumbered : InnerRun → ℕ → Type 0
 IsNumbered (Update m) number = m.call ≡ number
 IsNumbered m number = Unit {0}
 
--- an edit or an ordered read may try so often
+-- an edit or an ordered read may make this many tries
 abbrev pub HasTries : InnerRun → ℕ → Type 0
 HasTries (Update m) tries = m.limit ≡ tries
 HasTries (Get key walk share) tries = Unit {0}
 HasTries (Read k m share) tries = m.limit ≡ tries
 
--- what holds of the machine inside all the way of its call, which has so many tries
+-- what holds of the machine inside throughout its call, which has this many tries
 pub record Goes (m : InnerRun) (tries : ℕ) (c : Call) : Type 0 where
   pub mode : c.layout.mode ≡ TreeMode
   pub small : IsSmallCall (inner_call m)
@@ -65,8 +65,8 @@ pub record Goes (m : InnerRun) (tries : ℕ) (c : Call) : Type 0 where
   pub limit : HasTries m tries
   pub spent : HasSpentIn m tries c
 
--- a get begins one try at most, and none before it was told anything: its pass has begun so many by
--- now, and had so many as the call began
+-- a get begins one try at most, and none before it gets anything: its pass has begun this many by
+-- now, and had begun that many as the call began
 abbrev pub HasTriedOnce : Option ℕ → ℕ → ℕ → Type 0
 HasTriedOnce None now then = now ≡ then
 HasTriedOnce (Some v) now then = now ≤ suc then
@@ -95,7 +95,7 @@ MapIsReady tries m c h got = Goes (inner m) tries c × IsReadyInside (inner m) c
 abbrev pub MapWaits : ℕ → MapRun → Call → History → Step → Type 0
 MapWaits tries m c h s = Goes (inner m) tries c × WaitsInside (inner m) c h s
 
--- The answer of a call with this inner machine is right. Behind it the pass is at rest with what is
+-- The answer of a call with this inner machine is right. After it the pass is at rest with what is
 -- left of the share, of which no more is gone than the tries that it has begun may take.
 pub record InnerAnswers (tries : ℕ) (m : InnerRun) (c : Call) (h : History) (reply : WordReply) : Type 0 where
   pub rests : RestsWith c h (inner_share m)
@@ -113,7 +113,7 @@ AsksFirst m = AsksForPairs (call_in m)
 
 -- Before it begins
 
--- the machine inside stands at its start, with so many tries in all, in the call of this number
+-- the machine inside is at its start, with this many tries in all, in the call of this number
 abbrev pub StandsAtStart : InnerRun → ℕ → ℕ → Type 0
 StandsAtStart (Update m) tries call = (m.at ≡ UpdateStart) × (m.tries + 1 ≡ tries) × (m.call ≡ call) × IsSmallCall (Edit m.edit.goal m.edit.rule) × (m.limit ≡ tries)
 StandsAtStart (Get key walk share) tries call = (walk.at ≡ WalkStart) × (walk.trail.node.0 ≡ 0) × (walk.goal ≡ ToKey key) × (key < 2 ^ 64)

@@ -8,7 +8,7 @@ use Rattle.std.specs.Int.{w64, from_be_bytes, to_be_bytes}
 abbrev pub IsName : List ℕ → Type 0
 IsName bs = (length bs ≤ 8) × (list_all is_ascii_graphic bs ≡ true)
 
--- these bytes, and as many zeros behind them as make them 8
+-- these bytes, and as many zeros after them as make them 8
 abbrev pub zero_padded : List ℕ → List ℕ
 zero_padded bs = bs ++ repeat (8 - length bs) (0 ∷ [])
 
@@ -16,7 +16,7 @@ zero_padded bs = bs ++ repeat (8 - length bs) (0 ∷ [])
 unfoldable pub name_word : List ℕ → ℕ
 name_word bs = from_be_bytes w64 (zero_padded bs)
 
--- characters from '!' to '~', and zero bytes alone behind them
+-- characters from '!' to '~', and zero bytes alone after them
 abbrev pub is_padded : List ℕ → Bool
 is_padded [] = true
 is_padded (b ∷ bs) =

@@ -19,7 +19,7 @@ use Rattle.ordered_map.specs.CallRules.{most_nodes, need}
 use Rattle.dict.specs.Calls.{AsksForPairs}
 use Rattle.dict.specs.WordReplies.{WordReply, told_in}
 
--- A change: the call has made this edit, and tells what the map just before replies.
+-- A change: the call has made this edit, and answers what the map just before replies.
 pub record HasMadeEdit (c : Call) (h : History) (call : MapCall) (told : MapReply) (edit : MapEdit) : Type 0 where
   -- the value that the edit's key had
   pub old : Option ℕ
@@ -28,7 +28,7 @@ pub record HasMadeEdit (c : Call) (h : History) (call : MapCall) (told : MapRepl
   pub spelled : Spells c.layout (value made.before) map
   pub gives : reply call map ≡ told
 
--- by this moment the pass has made a row of its own behind the start
+-- by this moment the pass has made a row of its own since the start
 pub record HasMadeRow (pass : ℕ) (start moment : History) : Type 0 where
   pub row : Row
   pub before : History
@@ -54,12 +54,12 @@ pub record HasReadMap (c : Call) (h : History) (call : MapCall) (told : MapReply
   pub read : HasReadSince c.layout c.pass h c.start call told
   pub none : HasEnteredNone c.layout c.pass h c.start
 
--- what is told is told of a change by this edit, or of a reading
+-- the answer is that of a change by this edit, or of a reading
 abbrev pub HasToldBy : Option MapEdit → Call → History → MapCall → MapReply → Type 0
 HasToldBy (Some edit) c h call told = HasMadeEdit c h call told edit
 HasToldBy None c h call told = HasReadMap c h call told
 
--- which of the two it is, and by which edit, the call and what is told say
+-- which of the two it is, and by which edit, follows from the call and its answer
 abbrev pub HasTold : Call → History → MapCall → MapReply → Type 0
 HasTold c h call told = HasToldBy (edit_of call told) c h call told
 
@@ -74,29 +74,29 @@ pub record HasNeeded (lay : Layout) (pass : ℕ) (now begin : History) (call : M
   pub spelled : Spells lay (value moment) map
   pub some : 0 < need call map
 
--- Since the moment `begin` the pass has begun so many tries of the call, and lost them all. The
--- SCX-record s, which is another pass's, was in the way of the last over the node n, and in that try
--- the pass has itself found s in the info of n. It is finished now, or has come to n since `begin`.
--- A call that may take nodes had something to do in that try.
+-- Since the moment `begin` the pass has begun `tries` tries of the call, and lost them all. The
+-- SCX-record s, which is another pass's, was in the way of the last over the node n, and in that
+-- try the pass has itself found s in the info of n. It is finished now, or has reached n since
+-- `begin`. A call that may take nodes had something to do in that try.
 pub record HasLostSince (lay : Layout) (pass : ℕ) (now begin : History) (call : MapCall) (tries n s : ℕ) : Type 0 where
   pub others : IsOthersScx lay pass s
   pub all : HasLostTriesTo pass now begin tries n s
   pub over_or_new : IsOverOrNew now begin n s
   pub needed : 0 < most_nodes call → HasNeeded lay pass now all.lost.begin call
 
--- The call has lost all its tries, so many, and its pass has entered nothing since it began.
+-- The call has lost all its `tries` tries, and its pass has entered nothing since it began.
 pub record HasLost (c : Call) (h : History) (call : MapCall) (tries n s : ℕ) : Type 0 where
   pub lost : HasLostSince c.layout c.pass h c.start call tries n s
   pub none : HasEnteredNone c.layout c.pass h c.start
 
--- the share has fewer nodes than these, so many; or some node, and no SCX-record
+-- the share has fewer nodes than these, or some node but no SCX-record; this much is left
 abbrev pub HasTooLittle : ℕ → Remaining → Resource → ℕ → Type 0
 HasTooLittle many left Nodes k = (left.nodes < many) × (k ≡ left.nodes)
 HasTooLittle many left ScxRecords k = (0 < left.nodes) × (left.scx ≡ 0) × (k ≡ 0)
 
 -- The share has too little left for the newest try of the call that the pass has begun since the
--- moment `begin`. There was something to do in it: there are not enough nodes for what it needed, or
--- some, and no SCX-record. In that try the pass has only looked.
+-- moment `begin`. There was something to do in it: there are not enough nodes for what it needed,
+-- or some, and no SCX-record. In that try the pass has only looked.
 pub record HasTooLittleSince (lay : Layout) (pass : ℕ) (now begin : History) (call : MapCall) (share : Remaining) (full : FullOf) : Type 0 where
   pub only_looked : HasOnlyLooked pass now begin
   pub needed : HasNeeded lay pass now only_looked.begin call
@@ -120,7 +120,7 @@ abbrev pub TellsOfMap : Call → History → MapCall → Option MapReply → Typ
 TellsOfMap c h call None = Unit {0}
 TellsOfMap c h call (Some told) = HasTold c h call told
 
--- why there is none, where the call has this share left, and so many tries in all
+-- why there is none, if the call has this share left, and this many tries in all
 abbrev pub IsRefusal : Call → History → MapCall → Remaining → ℕ → WordReply → Type 0
 IsRefusal c h call share tries (WordReply.Contended node scx) = HasLost c h call tries node.0 scx.0
 IsRefusal c h call share tries (WordReply.Full full) = HasRunOut c h call share full

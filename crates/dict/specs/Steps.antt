@@ -14,17 +14,17 @@ inner_left (Update m) nodes = update_left edit_means m nodes
 inner_left (Get key walk share) nodes = walk_left walk.at nodes
 inner_left (Read k m share) nodes = read_left k.means m nodes
 
--- so many the machine
+-- how many the machine
 abbrev pub map_left : MapRun → ℕ → ℕ
 map_left m nodes = inner_left (inner m) nodes
 
--- what the inner machine is told fits so many taken nodes
+-- what the inner machine gets fits this many taken nodes
 abbrev pub InnerFits : InnerRun → Option ℕ → ℕ → Type 0
 InnerFits (Update m) got nodes = UpdateFits edit_means m got nodes
 InnerFits (Get key walk share) got nodes = WalkFits walk got nodes
 InnerFits (Read k m share) got nodes = ReadFits k.means m got nodes
 
--- so what the machine is told
+-- so what the machine gets
 abbrev pub MapFits : MapRun → Option ℕ → ℕ → Type 0
 MapFits m got nodes = InnerFits (inner m) got nodes
 

@@ -27,12 +27,12 @@ pub record ArePairsOf {K V : Type 0} (valid_key : K → Type 0) (key : K → ℕ
   pub valid : All (IsValidPair valid_key valid_value) pairs
   pub words_are : AreTyped (IsWordOf valid_key key) (IsWordOf valid_value value) words → map (word_pair key value) pairs ≡ words
 
--- what is told is of such words
+-- what is answered is of such words
 abbrev pub TellsTyped : (ℕ → Type 0) → (ℕ → Type 0) → Option MapReply → Type 0
 TellsTyped keys values None = Unit {0}
 TellsTyped keys values (Some told) = IsTypedReply keys values told
 
--- It refuses what the other refuses; or it tells the same of the map, or there was no memory for
+-- It refuses what the other refuses; or it says the same of the map, or there was no memory for
 -- the pairs.
 abbrev pub SaysSame : {K V : Type 0} → (K → ℕ) → (V → ℕ) → WordReply → Reply K V → Type 0
 SaysSame key value (WordReply.Contended node scx) reply = reply ≡ replies.Contended node scx
@@ -49,7 +49,7 @@ HasFormOf told reply = (form_of reply ≡ word_form told) ⊎ ((word_form told �
 -- The reply has keys and values of their types, and is in place of this one in words.
 pub record IsReplyOf {K V : Type 0} (valid_key : K → Type 0) (key : K → ℕ) (valid_value : V → Type 0) (value : V → ℕ) (told : WordReply) (reply : Reply K V) : Type 0 where
   pub valid : IsValidReply valid_key valid_value reply
-  -- it says the same where the words that are told are of a key or of a value
+  -- it says the same if the words that are answered are of a key or of a value
   pub says : TellsTyped (IsWordOf valid_key key) (IsWordOf valid_value value) (told_in told) → SaysSame key value told reply
   pub form : HasFormOf told reply
 

@@ -1,4 +1,4 @@
--- A dictionary of typed keys and values, told by their words: its SCX-records make edits of such
+-- A dictionary of typed keys and values, seen by their words: its SCX-records make edits of such
 -- words alone, so its map has no others.
 use Rattle.std.specs.Prelude.{◌≡◌, ℕ, List, [], ◌∷◌, Option, Some, None}
 use Rattle.arena.specs.declared.layout.Layout.{Layout}

@@ -1,4 +1,4 @@
--- What a call replies, in words: what that tells of the map, which form it has, and what machines'
+-- What a call replies, in words: what that says of the map, which form it has, and what machines'
 -- answers are as such replies.
 use Rattle.std.specs.Prelude.{ℕ, List, Option, Some, None, Result, Ok, Err, Vec}
 use Rattle.std.specs.Global.{Global}
@@ -43,7 +43,7 @@ word_form (Contended node scx) = Form.Contended
 word_form (Full full) = Form.Full
 word_form NoMemory = Form.NoMemory
 
--- what the leaf tells at which an update is done: to an edit of a key the value that this had, to a
+-- what the leaf says at which an update is done: to an edit of a key the value that this had, to a
 -- take at an end the pair
 abbrev pub goal_reply : Goal → ℕ → Option ℕ → WordReply
 goal_reply (ToKey k) key value = Value value
@@ -55,7 +55,7 @@ edit_reply goal (updated.Done key value) = goal_reply goal key value
 edit_reply goal (updated.Contended node scx) = Contended node scx
 edit_reply goal (updated.Full full) = Full full
 
--- what an ordered read replies, where this is what it tells
+-- what an ordered read replies, if this is what it answers
 abbrev pub read_reply : {A : Type 0} → (A → WordReply) → Result A Refused → WordReply
 read_reply tells (Ok found) = tells found
 read_reply tells (Err (refused.Contended node scx)) = Contended node scx

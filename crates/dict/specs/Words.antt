@@ -1,5 +1,5 @@
--- Typed keys, values, calls and replies in words. `word` stands for the word of a key, or for the
--- number of a value, which has two words; `valid` for whether it is one of its type.
+-- Typed keys, values, calls and replies in words. `word` gives the word of a key, or the
+-- number of a value, which has two words; `valid` says whether it is one of its type.
 use Rattle.std.specs.Prelude.{◌≡◌, ℕ, ◌^◌, ◌<◌, List, [], ◌∷◌, All, IfSome}
 use Rattle.ordered_map.specs.Holding.{wide_value}
 use Rattle.ordered_map.specs.declared.pair.Pair.{Pair}
@@ -10,7 +10,7 @@ use Rattle.ordered_map.specs.declared.reply.Reply.TheVariants.{Value, Pair as Pa
 abbrev pub IsWordOf : {T : Type 0} → (T → Type 0) → (T → ℕ) → ℕ → Type 0
 IsWordOf {T} valid word n = (x : T) × valid x × (word x ≡ n)
 
--- the word of a number that is a key itself: each of 64 bits, for which it stands
+-- the word of a number that is a key itself: each of 64 bits, and itself
 abbrev pub IsNumber : ℕ → Type 0
 IsNumber = IsWordOf (λ n. n < 2 ^ 64) (λ n. n)
 

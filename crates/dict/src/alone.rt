@@ -15,10 +15,10 @@ ghost use Rattle.ordered_map.specs.CallRules.{need};
 ghost use Rattle.dict.specs.Says.{HasTold, HasLost, HasRunOut, HasTooLittle};
 
 /// What the answers of a call say of a call by itself: nothing was in progress as it began, and no
-/// other pass makes a row while it runs. It tells what the map that was there as it began replies,
-/// and leaves the map that the call leaves; a refused one leaves the map as it was. One that is
+/// other pass makes a row while it runs. It answers what the map that was there as it began
+/// replies, and leaves the map that the call leaves; a refused one leaves it as it was. One that is
 /// full had too little of its share for that map as it began. It is never contended, nor is any
-/// call where there is one pass alone, so that there too a full call had taken nothing. It does
+/// call if there is one pass alone, so that there too a full call had taken nothing. It does
 /// nothing; a caller learns the laws from its contract.
 pub fn alone_holds()
     ensures told { (c : Call) (h : History) (call : MapCall) (told : MapReply) (map : List Pair) → IsTreeRun c.layout h → IsUndisturbed c h

@@ -30,10 +30,10 @@ pub struct DictRun<K, V> {
 }
 
 impl<K: WordKey, V: WordValue> DictRun<K, V> {
-    /// A call that has not begun, with so many tries, in the caller's call of this number. The
+    /// A call that has not begun, with `tries` tries, in the caller's call of this number. The
     /// pairs of its reply, and what an ordered read keeps, grow with this allocator; other calls
-    /// need none. What is said of its turns holds for some tries, and of a range for at most 64
-    /// pairs.
+    /// need none. What is said of its turns holds for at least one try, and of a range for at most
+    /// 64 pairs.
     #[inline(always)]
     pub fn new(
         alloc: Option<Global>,

@@ -4,7 +4,7 @@ ghost use Rattle.std.specs.Ordering.{nat_cmp};
 ghost use Rattle.dict.specs.Laws.Offsets.{IsLong, offset_of, offset_fits, offset_exact, offset_ordered};
 
 /// A type of keys that a word holds: each has a word of its own, and their order is that of the
-/// words. `u64`, `u32`, `i64` and `Name8` have it; `docs/USING.md` shows how a pair of `u32` gets it.
+/// words. `u64`, `u32`, `i64` and `Name8` have it; for a pair of `u32` see `docs/USING.md`.
 pub trait WordKey: Copy + Ord {
     /// Whether this is a value of the type. In proofs an integer is any number, also one that the
     /// type does not have.
@@ -13,7 +13,7 @@ pub trait WordKey: Copy + Ord {
     /// The word of each.
     ghost word_of: { Self → ℕ };
 
-    /// The word that stands for it.
+    /// The word of it.
     fn word(&self) -> u64
         ensures { result ≡ word_of self.now };
 

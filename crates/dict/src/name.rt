@@ -44,7 +44,7 @@ impl Name8 {
         Some(Name8 { word })
     }
 
-    /// The word of it: its characters, the first most significant, and zero bytes behind them.
+    /// The word of it: its characters, the first most significant, and zero bytes after them.
     pub(crate) fn to_word(self) -> u64
         ensures { result ≡ self.word }
     {
@@ -66,7 +66,7 @@ fn are_zeros(bytes: &[u8]) -> bool
     bytes.iter().all(|byte| *byte == 0)
 }
 
-/// Whether these bytes are visible ASCII characters, and zeros behind them.
+/// Whether these bytes are visible ASCII characters, and zeros after them.
 fn is_padded(bytes: &[u8]) -> bool
     ensures { result ≡ is_padded bytes.now }
 {

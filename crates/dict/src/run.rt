@@ -23,8 +23,8 @@ use std::alloc::Global;
 use template::{Tree, WalkRun};
 use tree::{KeyEdit, KeyEditRun};
 
-/// A call that has begun. It has its pass's share until it has answered, of which a read takes
-/// nothing.
+/// A call that has begun. It has its pass's share until it has answered; a read takes nothing
+/// of it.
 #[derive(Debug, Drop)]
 pub enum MapRun {
     Edit(KeyEditRun<Goal, Rule>),
@@ -44,7 +44,7 @@ pub enum MapRun {
 }
 
 impl MapRun {
-    /// A call that has not begun, with so many tries, in the caller's call of this number. What it
+    /// A call that has not begun, with `tries` tries, in the caller's call of this number. What it
     /// keeps grows with this allocator.
     #[inline(always)]
     pub fn new(
@@ -85,7 +85,7 @@ impl MapRun {
         }
     }
 
-    /// Goes on with what the last step found, as the machine inside.
+    /// Continues with what the last step found, as the machine inside.
     pub(crate) fn next<K: WordKey, V: WordValue>(&mut self, got: Option<u64>) -> Turn<Reply<K, V>>
         ensures turn { (tries : ℕ) (c : Call) (h : History) → IsRun TreeAllows c.layout h → MapIsReady tries self.old c h got
             → MatchTurn result (MapWaits tries self.new c h)

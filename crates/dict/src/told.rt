@@ -20,7 +20,7 @@ pub(crate) fn of_value<K: WordKey, V: WordValue>(value: Option<u128>) -> Reply<K
     Reply::Value(value_of(value))
 }
 
-/// What an edit that walks there replies where its leaf has this key, and tells this value.
+/// What an edit that walks there replies if its leaf has this key, with this value.
 #[inline(always)]
 fn of_leaf<K: WordKey, V: WordValue>(goal: Goal, key: u64, value: Option<u128>) -> Reply<K, V>
     ensures { IsReplyOf K.is_valid K.word_of V.is_valid V.word_of (goal_reply goal key value) result }

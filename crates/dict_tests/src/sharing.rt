@@ -74,7 +74,7 @@ fn two<K: WordKey, V: WordValue>(
     Some((forest, first, second))
 }
 
-/// The same for a test, which fails where there is none. Each call tries so often.
+/// The same for a test, which fails if there is none. Each call makes this many tries at most.
 fn opened_with<K: WordKey, V: WordValue>(
     alloc: Global,
     tries: u32,

@@ -9,12 +9,12 @@ fn name(text: &str) -> Result<Name8, Fail> {
     Ok(Name8::new(text).ok_or("no name")?)
 }
 
-/// The key has this word, and the word stands for it.
+/// The key has this word, and the word is that of this key.
 fn are_one<K: WordKey + Debug>(rt: &impl Abort, key: K, word: u64) {
     same(rt, (key.word(), K::from_word(word)), (word, Some(key)));
 }
 
-/// The value has these words, the high one first, and they stand for it.
+/// The value has these words, the high one first, and they are those of this value.
 fn have_words<V: WordValue + PartialEq + Debug>(rt: &impl Abort, value: V, words: [u64; 2]) {
     same(
         rt,

@@ -22,8 +22,8 @@ pub(crate) struct Spot {
     pub(crate) y: f64,
 }
 
-/// The elements so far, and how far they reach. Where memory is refused nothing more is drawn, and
-/// `into_svg` tells it.
+/// The elements so far, and how far they reach. If memory is refused nothing more is drawn, and
+/// `into_svg` reports it.
 #[derive(Drop)]
 pub(crate) struct Canvas {
     text: String,
@@ -49,14 +49,14 @@ impl Canvas {
         self.bottom = self.bottom.max(bottom);
     }
 
-    /// Puts some parts behind what is drawn.
+    /// Puts some parts after what is drawn.
     fn add(&mut self, parts: &[TextPart]) {
         if !self.is_refused {
             self.is_refused = add(&mut self.text, parts).is_err();
         }
     }
 
-    /// Begins an element that stands at a spot, up to its class.
+    /// Begins an element at a spot, up to its class.
     fn open(&mut self, element: &str, at: Spot) {
         self.add(&[Text("<"), Text(element), Text(" x=\""), Length(at.x)]);
         self.add(&[Text("\" y=\""), Length(at.y), Text("\" class=\"")]);
@@ -80,7 +80,7 @@ impl Canvas {
         self.add(&[Text("</text>\n")]);
     }
 
-    /// A box with its left upper corner there, which tells this where one points at it.
+    /// A box with its left upper corner there, which shows this when one points at it.
     pub(crate) fn rectangle(
         &mut self,
         corner: Spot,
@@ -139,7 +139,7 @@ impl Canvas {
         self.add(&[Text("\"/>\n")]);
     }
 
-    /// A sign around a spot, which tells this where one points at it.
+    /// A sign around a spot, which shows this when one points at it.
     pub(crate) fn sign(&mut self, name: &str, at: Spot, class: &[TextPart], told: &[TextPart]) {
         self.reach(at.x, at.y);
         self.use_of(name, at, class);
@@ -148,7 +148,7 @@ impl Canvas {
         self.add(&[Text("</title></use>\n")]);
     }
 
-    /// A sign around a spot that tells nothing.
+    /// A sign around a spot that shows nothing.
     pub(crate) fn mark(&mut self, name: &str, at: Spot, class: &str) {
         self.use_of(name, at, &[Text(class)]);
         self.add(&[Text("\"/>\n")]);

@@ -1,4 +1,4 @@
-//! Where each turn stands, from left to right.
+//! Where each turn is drawn, from left to right.
 use crate::canvas::SMALL_LETTER;
 use crate::parts::digits_of;
 use crate::shown_run::{ShownTurn, has_sign};
@@ -43,7 +43,7 @@ impl Group {
         (self.left + self.right) / 2.0
     }
 
-    /// Whether one more turn of it can go on with it.
+    /// Whether it can continue with one more turn of it.
     fn takes(&self, turn: &ShownTurn) -> bool {
         match (self.turn.step, turn.step) {
             (Some(row), Some(next)) => {
@@ -141,7 +141,7 @@ fn width_of_group(group: &Group) -> f64 {
     }
 }
 
-/// How wide so many small letters are, with what is left free beside them.
+/// How wide this many small letters are, with what is left free beside them.
 fn small_width(letters: usize) -> f64 {
     SMALL_LETTER * nearest_usize_to_f64(letters) + 3.0
 }

@@ -1,4 +1,4 @@
-//! Rows of labels, of which none lies over another.
+//! Rows of labels, none of which lies over another.
 use std::alloc::{AllocError, Global};
 
 /// How many letters a label has at most.

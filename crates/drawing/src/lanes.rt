@@ -12,7 +12,7 @@ use script::kind_name;
 use std::alloc::{AllocError, Global};
 use std::num::nearest_usize_to_f64;
 
-/// How high a row of labels is, the box of a call, and what stands below it.
+/// How high a row of labels is, the box of a call, and what is below it.
 const ROW: f64 = 13.0;
 
 const BOX: f64 = 22.0;

@@ -3,7 +3,7 @@ use arena::{Head, Layout, Mode, NodeNo, NodeWord, SettledPart, Side, Slot, Word,
 use ordered_map::wide_value;
 use std::alloc::{AllocError, Global};
 
-/// A pair of a leaf. The first of a fork has the fork's key, and that of a cell what the cell holds.
+/// A pair of a leaf. The first of a fork has the fork's key, of a cell what the cell holds.
 #[derive(Clone, Copy)]
 pub(crate) struct ShownPair {
     pub(crate) key: u64,
@@ -11,7 +11,7 @@ pub(crate) struct ShownPair {
     pub(crate) high: u64,
 }
 
-/// What a node holds, but for its info.
+/// What a node holds, except for its info.
 #[derive(Clone, Copy)]
 pub(crate) struct ShownNode {
     pub(crate) head: u64,
@@ -61,7 +61,7 @@ impl ShownNode {
         self.pairs[0]
     }
 
-    /// How many pairs it has behind its first.
+    /// How many pairs it has after its first.
     pub(crate) fn pairs_behind(&self) -> usize {
         self.more.min(3) as usize
     }

@@ -25,7 +25,7 @@ pub(crate) fn joined(alloc: Global, parts: &[TextPart]) -> Result<String, AllocE
     Ok(text)
 }
 
-/// Puts some parts behind a text.
+/// Puts some parts after a text.
 pub(crate) fn add(text: &mut String, parts: &[TextPart]) -> Result<(), AllocError> {
     for part in parts {
         match *part {

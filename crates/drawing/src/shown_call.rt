@@ -10,7 +10,7 @@ pub(crate) struct ShownCall {
     /// The numbers of its first and its last turn so far.
     pub(crate) begin: u64,
     pub(crate) end: u64,
-    /// Where it took place, if it told or changed something.
+    /// Where it took place, if it answered or changed something.
     pub(crate) moment: Option<u64>,
     /// Whether it is answered.
     pub(crate) is_answered: bool,
@@ -28,7 +28,7 @@ pub(crate) fn call_text(alloc: Global, command: &Command) -> Result<String, Allo
     Ok(text)
 }
 
-/// Puts the fields of a command behind its name; of an SCX those that are empty too.
+/// Puts the fields of a command after its name; of an SCX those that are empty too.
 fn add_fields(text: &mut String, told: &CommandText, is_scx: bool) -> Result<(), AllocError> {
     let between = if is_scx { " | " } else { " " };
     let mut gap = " ";

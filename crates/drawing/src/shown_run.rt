@@ -248,7 +248,7 @@ pub(crate) fn has_sign(kind: Kind) -> bool {
     )
 }
 
-/// So many clients, with their calls.
+/// This many clients, with their calls.
 fn clients_of(alloc: Global, calls: &[Call], passes: u32) -> Result<Vec<ShownClient>, AllocError> {
     let mut clients = Vec::new(alloc);
     for _ in 0..passes {

@@ -1,7 +1,7 @@
 //! How the elements of a picture look.
 
-/// The colours, on a light page and on a dark one. Those of clients are seven that one can tell
-/// apart when colour-blind.
+/// The colours, on a light page and on a dark one. Those of clients are seven that a colour-blind
+/// person can distinguish.
 pub(crate) const STYLE: &str = "<style>
 text{font:10px ui-monospace,'DejaVu Sans Mono',Menlo,Consolas,monospace;fill:#222;stroke:none!important}
 .head{font-size:15px;font-weight:bold}

@@ -27,7 +27,7 @@ struct Branch {
     y: f64,
 }
 
-/// The nodes of a tree from left to right, so that a fork stands between its two sides.
+/// The nodes of a tree from left to right, so that a fork is between its two sides.
 #[derive(Drop)]
 struct TreeDrawing {
     branches: Vec<Branch>,
@@ -48,7 +48,7 @@ impl TreeDrawing {
     }
 
     /// Adds a node and what hangs below it, as long as there are levels left; answers where it
-    /// stands.
+    /// is.
     fn grow(
         &mut self,
         table: &NodeTable,
@@ -87,7 +87,7 @@ impl TreeDrawing {
         Ok(place)
     }
 
-    /// Where a node stands in the picture, if the root is on this level.
+    /// Where a node is in the picture, if the root is on this level.
     fn spot(&self, place: usize, corner: Spot) -> Spot {
         let down = match self.branches.get(place) {
             Some(branch) => branch.y,
@@ -141,12 +141,12 @@ pub(crate) fn draw_tree(
     Ok(nodes)
 }
 
-/// How high the pairs of a node behind its first are.
+/// How high the pairs of a node after its first are.
 fn high_behind(shown: &ShownNode) -> f64 {
     PAIR * nearest_usize_to_f64(shown.pairs_behind())
 }
 
-/// Draws a node around a spot; its pairs behind the first hang below that.
+/// Draws a node around a spot; its pairs after the first hang below that.
 fn draw_node(
     alloc: Global,
     canvas: &mut Canvas,
@@ -178,7 +178,7 @@ fn draw_node(
     Ok(())
 }
 
-/// What a node tells where one points at it: its pairs.
+/// What a node shows when one points at it: its pairs.
 fn told_of(
     alloc: Global,
     shown: &ShownNode,

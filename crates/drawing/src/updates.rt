@@ -61,7 +61,7 @@ pub(crate) fn draw_updates(
 }
 
 impl Updates {
-    /// Goes on by a turn.
+    /// Continues with a turn.
     fn turn(
         &mut self,
         alloc: Global,

@@ -1,4 +1,4 @@
--- What an update waits for behind the fill of a word: the next word, the next node, or its SCX.
+-- What an update waits for after the fill of a word: the next word, the next node, or its SCX.
 use Rattle.std.proofs.Common.{◌≡◌, ℕ, suc, ◌<◌, ◌≤◌, ◌⊎◌, inl, inr, Some, None, true, sym, subst, arith}
 use Rattle.arena.specs.declared.word.Side.{Side}
 use Rattle.arena.specs.declared.word.NodeWord.{NodeWord}
@@ -78,7 +78,7 @@ module _ {E : Type 0} (e : EditMeaning E) {A : Type 0} (m : UpdateRun E A) (c : 
   filled_here : part_behind said part ≡ None → HasFilledTo c.layout h c.pass m.share m.nodes.first.0 (top m) (suc here) (piece e m f)
   filled_here none = filled_next c.layout h c.pass m.share m.nodes.first.0 (top m) here (piece e m f) x.2 (all_words none) x.0.full
 
-  -- it may go on with the next node
+  -- it may continue with the next node
   pub node_next : (after : Nth) → part_behind said part ≡ None → nth_behind m.work.need nth ≡ Some after → CanFillNode e m c h f after
   node_next after none is = record {
     works = record { run = x.0.works.run; since = x.0.works.since; quiet = x.0.works.quiet; looked = x.0.works.looked; enough = x.0.works.enough; asked = x.0.works.asked; need = behind.needed; in_order = x.0.works.in_order; some = x.0.works.some };

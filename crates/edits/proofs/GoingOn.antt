@@ -1,4 +1,4 @@
--- That an update which begins what it does next stands as is said of that.
+-- Once an update has begun what it does next, it is at the place for that (`placed`).
 use Rattle.std.proofs.Common.{◌≡◌, ℕ, ◌+◌, ◌*◌, ◌<◌, ◌≤◌, refl, arith}
 use Rattle.std.specs.Prelude.{Result, Ok, Err}
 use Rattle.arena.specs.declared.machine.Turn.{Turn}
@@ -45,7 +45,7 @@ module _ {E : Type 0} (e : EditMeaning E) {A : Type 0} (m : UpdateRun E A) (now 
     pub fill_spends : IsSpending e turn m.share now m.tries (m.tries + 1)
     fill_spends = rw (place, is) (omega arith, omega arith, omega arith)
 
--- where it stands once that has begun, it makes the same update
+-- at its place once that has begun, it makes the same update
 pub placed_same : {E : Type 0} (e : EditMeaning E) {A : Type 0} (m : UpdateRun E A) (f : Found) (next : Next) → IsSameUpdate m (placed e m f next)
 placed_same e m f (Look n) = (refl, refl, refl)
 placed_same e m f (Wait n b scx) = (refl, refl, refl)
@@ -63,7 +63,7 @@ pub still_nearer : {E : Type 0} (e : EditMeaning E) {A : Type 0} (m : UpdateRun 
 still_nearer e m f (Ok next) nodes a b x i = omega (arith, x, i)
 still_nearer e m f (Err stop) nodes a b x i = omega (arith, x, i)
 
--- what is taken up to the end of a try, and behind it
+-- what is taken up to the end of a try, and after it
 pub joined_spends : (most : ℕ) (old mid now : Remaining) (nodes nodes_then scx scx_then tries : ℕ) → Spends most old mid nodes tries scx tries → Spends most mid now tries nodes_then tries scx_then → Spends most old now nodes nodes_then scx scx_then
 joined_spends most old mid now nodes nodes_then scx scx_then tries x y = (let a = x.0 in let b = y.0 in omega (arith, a, b), let a = x.1 in let b = y.1 in omega (arith, a, b), let a = x.2 in let b = y.2 in omega (arith, a, b))
 
@@ -78,7 +78,7 @@ taken_before e old mid m f (Read n part) nodes scx i same x = more_before (e.mos
 taken_before e old mid m f (FillNext nth) nodes scx i same x = more_before (e.most_nodes m.edit) old mid m.share nodes _ scx _ i same x
 taken_before e old mid m f (Change s) nodes scx i same x = more_before (e.most_nodes m.edit) old mid m.share nodes _ scx _ i same x
 
--- what is spent up to the end of a try, and behind it
+-- what is spent up to the end of a try, and after it
 pub spends_on : {E : Type 0} (e : EditMeaning E) (turn : Turn Updated) (old mid : Remaining) (m : UpdateRun E UpdateAt) (nodes scx tries : ℕ) → Spends (e.most_nodes m.edit) old mid nodes tries scx tries → IsSpending e turn mid m tries tries → IsSpending e turn old m nodes scx
 spends_on e (Ask s) old mid m nodes scx tries x y = joined_spends (e.most_nodes m.edit) old mid m.share nodes (node_tries m m.at) scx (scx_tries m m.at) tries x y
 spends_on e (Done u) old mid m nodes scx tries x y = joined_spends (e.most_nodes m.edit) old mid m.share nodes m.tries scx m.tries tries x y

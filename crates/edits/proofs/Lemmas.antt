@@ -1,4 +1,4 @@
--- What the layers above know of updates beside their clauses, passed on from one place: no other
+-- What the layers above know of updates besides their clauses, exported from one place: no other
 -- module of these proofs can be named outside. Declares nothing.
 pub use Rattle.edits.proofs.Filling.{fills_next}
 pub use Rattle.edits.proofs.GoingOn.{joined_spends, placed_same, weighs_next}

@@ -104,7 +104,7 @@ module _ {E : Type 0} (e : EditMeaning E) (ed : E) (c : Call) (f : Found) (begin
   settled : SameSettled (value begin) (value before) f.trail.node.0
   settled part i = node_since c.layout before begin f.trail.node.0 part then.1.lawful since i (walk_named c.layout begin found.trail.node.first (path_key (e.goal ed)) f.trail.node.0 begun found.trail.node.passed)
 
-  -- that leaf told what the map had at the key
+  -- that leaf answered what the map had at the key
   leaf_told : IsAtFound e → IsEditAt c.layout before row s (e.edit ed f) → (map : List Pair) → Spells c.layout (value before) map → get (edit_key (e.edit ed f)) map ≡ f.value
   leaf_told at_found edits map spells =
       let k : ℕ = edit_key (e.edit ed f) in
@@ -153,8 +153,8 @@ module _ {E : Type 0} (e : EditMeaning E) (at_found : IsAtFound e) {A : Type 0} 
   covers_snaps : CoversSnaps before after.scx.0 scx.update.snaps
   covers_snaps = subst (λ (u : Update). CoversSnaps before after.scx.0 u.snaps) same_update (covers (begun_at c begin) h after row before x.run.1.lawful y)
 
-  -- its edit is made by one entry, and just before that the leaf that was found told what the map
-  -- did
+  -- its edit is made by one entry, and just before that the leaf that was found answered what the
+  -- map did
   has_made : HasMade (e.edit m.edit f) c h m.call f.value
   has_made = record {
     scx = after.scx.0;

@@ -110,7 +110,7 @@ as_many most nodes scx tries = let same : scx + (tries + 1) + tries ≡ scx + tr
 pub some_left : (now left : ℕ) → now < left → 0 < left
 some_left now left i = omega (arith, i)
 
--- fewer words are filled behind the next
+-- fewer words are filled after the next
 pub fewer_fills : (p : Piece) (part next : NodeWord) → part_behind p part ≡ Some next → fills_behind p next < fills_behind p part
 fewer_fills p part next e = (next_word p part next e).fewer
 

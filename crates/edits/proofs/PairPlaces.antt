@@ -211,7 +211,7 @@ before_is k (a ∷ b ∷ c ∷ d ∷ e ∷ []) few = go (not (a.key == k)) (not 
     go true true true true true = refl
 before_is k (a ∷ b ∷ c ∷ d ∷ e ∷ f ∷ ps) few = absurd (omega (arith, few))
 
--- an insert puts the pair there, in the stead of one with its key
+-- an insert puts the pair there, in place of one with its key
 abbrev Inserted : ℕ → ℕ → List Pair → Type 0
 Inserted k v ps = insert k v ps ≡ (if has_at k (below k ps) ps then slice_set ps (below k ps) (pair k v) else take (below k ps) ps ++ pair k v ∷ drop (below k ps) ps)
 
@@ -231,7 +231,7 @@ inserted_at k v (p ∷ ps) = go (inserted_at k v ps) (ℕ_discrete k p.key)
     go rest (yes e) = rw (le-ltb k p.key (omega (arith, e)), eq-eqb k p.key e, le-ltb p.key k (omega (arith, e)), eq-eqb p.key k (sym e)) refl
     go rest (no d) = other rest d (dec_lt k p.key)
 
--- a delete takes out what stands there
+-- a delete takes out what is there
 pub deleted_at : (k : ℕ) (ps : List Pair) → delete k ps ≡ remove ps (before k ps)
 deleted_at k [] = refl
 deleted_at k (p ∷ ps) = go (deleted_at k ps) (ℕ_discrete k p.key)

@@ -65,7 +65,7 @@ some_part : {A : Type 0} (o : Option A) (a : A) (P : A → Type 0) → o ≡ Som
 some_part None a P e x = absurd (let z : None ≡ Some a = e in cc)
 some_part (Some b) a P e x = subst P (the_same b a e) x
 
--- the slot behind a slot is the next one
+-- the slot after a slot is the next one
 next_count : (more : ℕ) (s : Slot) (n : ℕ) → n ≡ suc (slot_no s) → IfSome (slot_behind more s) (λ t. n ≡ slot_no t)
 next_count more slots.First n e = go (nat_lt 0 more)
   where
@@ -174,7 +174,7 @@ module _ (f : Word → ℕ) (n : ℕ) (r : Reading) (v : ℕ) (x : IsRead f n r)
       go true d = low_told part head.leaf (rw is refl) d
       go false d = absurd (let z : None ≡ Some part = d in cc)
 
-  -- what is read stays right, once the next word has told what it holds
+  -- what is read stays right, once the next word has been found to hold what it holds
   pub read_one : (part : SettledPart) → next_read r ≡ Some part → Then part
   read_one part e = node_told part r.head refl e
 
@@ -235,7 +235,7 @@ module _ (r : Reading) (v : ℕ) where
   fork_fewer part None e = subst (λ q. if_unread (read_with r q v).key < 1) (the_same (Key slots.First) part e) (omega arith)
   fork_fewer part (Some k) e = absurd (let z : None ≡ Some part = e in cc)
 
-  -- a word that is read behind a head leaves that
+  -- a word that is read after a head leaves that
   same_head : (head : Head) (part : SettledPart) (low leaf : Bool) → (if low then (if leaf then next_in_leaf r r.more else next_in_fork r.key) else None) ≡ Some part → (read_with r part v).head ≡ r.head
   same_head head part false leaf e = absurd (let z : None ≡ Some part = e in cc)
   same_head head part true false e = go r.key e
@@ -302,7 +302,7 @@ last_true true b e = e
 last_true false b e = absurd (let z : false ≡ true = e in cc)
 
 module _ (r : Reading) (slot : Slot) (v : ℕ) where
-  -- behind a key the value without its high half, where of that nothing is read yet
+  -- after a key the value without its high half, where of that nothing is read yet
   pub key_then_value : is_at_pair r ≡ true → next_read r ≡ Some (Key slot) → next_read (read_with r (Key slot) v) ≡ Some (Value slot)
   key_then_value at e = leaf_goes r (read_with r (Key slot) v) (Key slot) (Some (Value slot)) refl refl (λ q. cc) (λ q. cc) (λ fork d. let z : true ≡ false = sym (first_true (is_leaf_read r.head) (is_none r.low) (first_true (is_leaf_read r.head && is_none r.low) (is_none r.key) at)) ∙ fork in cc) (in_pair r.slot r.key r.low (last_true (is_leaf_read r.head) (is_none r.low) (first_true (is_leaf_read r.head && is_none r.low) (is_none r.key) at))) e
     where
@@ -313,7 +313,7 @@ module _ (r : Reading) (slot : Slot) (v : ℕ) where
       in_pair (Some s) (Some k) None free d = absurd (let z : Some (Value s) ≡ Some (Key slot) = d in cc)
       in_pair (Some s) (Some k) (Some l) free d = absurd (let z : false ≡ true = free in cc)
 
-  -- behind that the high half
+  -- after that the high half
   pub value_then_high : next_read r ≡ Some (Value slot) → next_read (read_with r (Value slot) v) ≡ Some (High slot)
   value_then_high e = leaf_goes r (read_with r (Value slot) v) (Value slot) (Some (High slot)) refl refl (λ q. cc) (λ q. cc) (λ fork. fork_has_key (Value slot) r.key (λ q. cc)) (in_pair r.slot r.key r.low) e
     where
@@ -323,11 +323,11 @@ module _ (r : Reading) (slot : Slot) (v : ℕ) where
       in_pair (Some s) (Some k) None d = let z : Some (Value s) ≡ Some (Value slot) = d in cc
       in_pair (Some s) (Some k) (Some l) d = absurd (let z : Some (High s) ≡ Some (Value slot) = d in cc)
 
-  -- and behind that the next pair
+  -- and after that the next pair
   pub high_then_pair : next_read r ≡ Some (High slot) → next_read (read_with r (High slot) v) ≡ next_in_pair (slot_behind (unwrap_or r.more 0) slot) None None
   high_then_pair e = leaf_goes r (read_with r (High slot) v) (High slot) (next_in_pair (slot_behind (unwrap_or r.more 0) slot) None None) refl refl (λ q. cc) (λ q. cc) (λ fork. fork_has_key (High slot) r.key (λ q. cc)) (λ d. refl) e
 
--- so it goes on where all three words of a pair are kept at once
+-- so it continues where all three words of a pair are kept at once
 pub pair_goes : (r q : Reading) (slot : Slot) (key low high : ℕ) (o : Option Slot) → q ≡ pair_read_with r slot key low high → q.slot ≡ o → next_read (read_with (read_with r (Key slot) key) (Value slot) low) ≡ Some (High slot) → next_read q ≡ next_in_pair o None None
 pair_goes r q slot key low high o is at e = subst (λ s. next_read q ≡ next_in_pair s None None) at (subst (λ (x : Reading). next_read x ≡ next_in_pair x.slot None None) (sym is) (high_then_pair (read_with (read_with r (Key slot) key) (Value slot) low) slot high e))
 
@@ -368,7 +368,7 @@ module _ {E : Type 0} (e : EditMeaning E) where
     read = looks.reads m.edit c h f m.snaps.items (n, read) x.works.run (subst (λ (w : Work). 0 < w.need) x.works.asked x.works.need) x.works.looked x.works.enough is;
   }
 
-  -- and goes on once the load has told a word
+  -- and continues once the load has found a word
   pub goes_reading : {A : Type 0} (m : UpdateRun E A) (c : Call) (h : History) (f : Found) (n : NodeNo) (part : SettledPart) (v : ℕ) → Reads e m c h f n part → value h (node n.0 (Settled part)) ≡ v → CanRead e (record m { read = read_with m.read part v }) c h f n
   goes_reading m c h f n part v x told = record {
     work = with_read m c h f (read_with m.read part v) record { works = x.works; full = x.full; hand = x.hand; blank = x.blank };
@@ -408,7 +408,7 @@ module _ {E : Type 0} (e : EditMeaning E) where
     whole = subst (λ o. IsReadWhole o m.read) (sym is) tt;
   }
 
-  -- where a word is told behind which another one is read, it goes on to that
+  -- once a word is found after which another one is read, it continues with that
   pub told_turn : {A : Type 0} (m : UpdateRun E A) (c : Call) (b h : History) (f : Found) (n : NodeNo) (part next : SettledPart) (v : ℕ) → IsTry c b h m.limit m.tries → Reads e m (begun_at c b) h f n part → value h (node n.0 (Settled part)) ≡ v → next_read (read_with m.read part v) ≡ Some next → UpdateGoesOn e c h (told m part v) f (Ok (ReadNext n next))
   told_turn m c b h f n part next v try x is_v is_next = (b, try, tt, reads_word (told m part v) (begun_at c b) h f n next (goes_reading m (begun_at c b) h f n part v x is_v) is_next)
 
@@ -463,11 +463,11 @@ module _ (f : Word → ℕ) (n : ℕ) (r : Reading) (x : IsRead f n r) (whole : 
 pub begun_read : (f : Word → ℕ) (n : ℕ) (head : Head) (more : ℕ) → head_of (f (node n (Settled HeadPart))) ≡ head → f (node n (Settled More)) ≡ more → IsRead f n (leaf_begun head more)
 begun_read f n head more e d = record { head = e; more = d; key = tt; low = tt; pairs = refl; count = refl; first = λ leaf. refl }
 
--- and of a node of which nothing is read
+-- and of a node with nothing read
 pub unread : (f : Word → ℕ) (n : ℕ) → IsRead f n nothing_read
 unread f n = record { head = tt; more = tt; key = tt; low = tt; pairs = refl; count = refl; first = λ leaf. refl }
 
--- so many words are left
+-- this many words are left
 pub begun_left : (head : Head) (more : ℕ) → reads_left (leaf_begun head more) ≤ 12
 begun_left head more = go (head.class == 0) head.leaf
   where

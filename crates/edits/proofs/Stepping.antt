@@ -1,4 +1,4 @@
--- What an update knows as it is told something, by the place where it stands.
+-- What an update knows when it gets something, by its place.
 use Rattle.std.proofs.Common.{◌≡◌, ℕ, Option, Some, None, unwrap_or, refl, sym, ◌∙◌, subst}
 use Rattle.arena.specs.declared.number.NodeNo.{NodeNo}
 use Rattle.arena.specs.declared.word.NodeWord.{NodeWord}

@@ -98,7 +98,7 @@ module _ {E : Type 0} (e : EditMeaning E) where
   pub walks_on : {A : Type 0} (m : UpdateRun E A) (walk after : WalkRun) (c : Call) (b h : History) (turn : Turn Found) (step : Step) → IsTry c b h m.limit m.tries → IsUntouched c b m.share → Walks e m (begun_at c b) h walk.goal → after.goal ≡ walk.goal → IsPastRoot after.at → turn ≡ Ask step → MatchTurn turn (WalkWaits after (begun_at c b) h) (WalkAnswers after (begun_at c b) h) → UpdateWaits e (standing m (Walk after)) c h step
   walks_on m walk after c b h turn step try first x same past asked w = (b, past_root after.at past try, first, (record { small = x.small; rests = x.rests; quiet = x.quiet; none_filled = x.none_filled; same = same ∙ x.same }, rw asked at w))
 
-  -- its walk is told something, at a moment of the call
+  -- its walk gets something, at a moment of the call
   pub walk_rests : {A : Type 0} (m : UpdateRun E A) (walk : WalkRun) (c : Call) (h : History) (v : ℕ) → Walks e m c h walk.goal → WalkIsTold walk c h v → MayBeginTry e m c h
   walk_rests m walk c h v x told = record { run = told.run; small = x.small; since = own_since c h told.own; rests = x.rests }
 

@@ -34,7 +34,7 @@ use Rattle.template.specs.Blame.{IsContended}
 use Rattle.edits.specs.Known.{HasMade, ToldEnd}
 use Rattle.edits.specs.Tries.{HasEnteredNone}
 
--- no update wins in h behind the moment `start`
+-- no update wins in h after the moment `start`
 abbrev HasNoWin : History → History → Type 0
 HasNoWin h start = (row : Row) (before : History) (t : ℕ) → Extends h (row ⊳ before) → Extends before start → ¬ IsWin before row t
 
@@ -101,7 +101,7 @@ module _ (c : Call) (h : History) (run : IsTreeRun c.layout h) (alone : IsUndist
   pub alone_reads : (key : ℕ) (told : Option ℕ) (map : List Pair) → IsAnswerAt c.layout h c.start key told → HasEnteredNone c.layout c.pass h c.start → Spells c.layout (value c.start) map → told ≡ get key map
   alone_reads key told map x none spells = sym x.gives ∙ ap (get key) (one_spelling c.layout (value x.moment) x.map map x.spelled (alone_keeps x.moment map x.within x.since none spells))
 
-  -- so the leaf that it has found tells what the map has
+  -- so the leaf that it has found answers what the map has
   pub alone_found : (key : ℕ) (f : Found) (map : List Pair) → key < 2 ^ 64 → HasFoundLeaf c h key f → HasEnteredNone c.layout c.pass h c.start → Spells c.layout (value c.start) map → f.value ≡ get key map
   alone_found key f map small found none spells = found.says ∙ alone_reads key (said (value h) key f.trail.node.0) map answer none spells
     where

@@ -27,15 +27,15 @@ pub record EditMeaning (E : Type 0) : Type 0 where
   pub most_nodes : E → ℕ
   -- what it looks at next, with these snapshots
   pub looks : E → Found → List Snap → Look
-  -- at most so many nodes
+  -- how many nodes at most
   pub most_looks : E → ℕ
-  -- the node of which it reads settled words, if it reads any, and what is known of that before
+  -- the node whose settled words it reads, if it reads any, and what is known of that before
   pub reads : E → Found → List Snap → Option (NodeNo × Reading)
-  -- at most so many words
+  -- how many words at most
   pub most_reads : E → ℕ
   -- what the fresh node of this place is to hold, once that is read
   pub pieces : E → Found → List Snap → Nodes → Reading → Nth → Piece
-  -- at most so many fills
+  -- how many fills at most
   pub most_fills : E → ℕ
 
 -- what an edit says that says what another one does: `of` is the other one

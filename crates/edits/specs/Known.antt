@@ -1,4 +1,4 @@
--- When an update may go on, and what it waits for.
+-- When an update may continue, and what it waits for.
 use Rattle.std.specs.Prelude.{◌≡◌, ◌≢◌, ℕ, suc, ◌+◌, ◌-◌, ◌^◌, ◌<◌, ◌≤◌, ◌⊎◌, ◌==◌, if◌then◌else◌, min, true, List, ◌∷◌, length, take, Option, Some, None}
 use Rattle.arena.specs.declared.fault.Full.{Full}
 use Rattle.arena.specs.declared.fault.Resource.{Resource}
@@ -85,7 +85,7 @@ pub record HasNodesFor (need : ℕ) (left : Remaining) : Type 0 where
   pub nodes : need ≤ left.nodes
   pub scx : 0 < left.scx
 
--- the share has fewer nodes than are needed; or as many, and no SCX-record. So many are left
+-- the share has fewer nodes than are needed; or enough, and no SCX-record. This many are left
 abbrev pub IsShort : ℕ → Remaining → Resource → ℕ → Type 0
 IsShort need left FreshNodes k = (left.nodes < need) × (k ≡ left.nodes)
 IsShort need left ScxRecords k = (need ≤ left.nodes) × (left.scx ≡ 0) × (k ≡ 0)
@@ -180,7 +180,7 @@ pub record HasMade (edit : MapEdit) (c : Call) (h : History) (number : ℕ) (old
   pub owner : entry.owner ≡ c.pass
   pub call : entry.call ≡ number
 
--- a walk to an end told the pair at that end of the map of this moment
+-- a walk to an end answered the pair at that end of the map of this moment
 abbrev pub ToldEnd : Goal → Layout → History → Found → Type 0
 ToldEnd (ToKey k) lay moment f = Unit {0}
 ToldEnd (End side) lay moment f = (map : List Pair) → Spells lay (value moment) map → end_pair side map ≡ end_told f
@@ -189,7 +189,7 @@ ToldEnd (End side) lay moment f = (map : List Pair) → Spells lay (value moment
 abbrev pub done_at : Found → Updated
 done_at f = Done f.key f.value
 
--- each snapshot is of the node that an edit's looks name behind those before it
+-- each snapshot is of the node that an edit's looks name after those before it
 abbrev pub AreSeen : (Found → List Snap → LookOf) → Found → List Snap → Type 0
 AreSeen looks f snaps = (i : ℕ) → i < length snaps → looks f (take i snaps) ≡ At (snap_at snaps i).node
 
@@ -235,8 +235,8 @@ module _ {E : Type 0} (e : EditMeaning E) where
   abbrev pub HasRead : {A : Type 0} → UpdateRun E A → Call → History → Found → Type 0
   HasRead m c h f = MayReadAt c.layout h (e.reads m.edit f m.snaps.items) m.read
 
--- What is known of an edit and of its update. It goes by what the edit says at its own value and by
--- what the update has, and not by the edit's type: so it is the same of two that say the same.
+-- What is known of an edit and of its update. It depends on what the edit says at its own value and
+-- on what the update has, not on the edit's type: so it is the same of two that say the same.
 module _ (e : EditMeaning (Unit {0})) where
   -- all is looked at, all is read, and its fresh nodes hold what they are to
   pub record HasFilledAs (c : Call) (h : History) (f : Found) (snaps : List Snap) (ns : Nodes) (read : Reading) : Type 0 where
@@ -316,8 +316,8 @@ module _ (e : EditMeaning (Unit {0})) where
       pub quiet : IsQuietSince c.layout c.pass c.start begin
       pub leaf : CoversLeaf e tt f c begin scx.scx.0 scx.update.snaps
 
-    -- the walk goes where the edit's is to go, the pass is at rest, and has filled nothing since the
-    -- walk's begin
+    -- the walk goes where the edit's is to go, the pass is at rest, and has filled nothing since
+    -- the walk's start
     pub record WalksAs (c : Call) (h : History) (goal : Goal) : Type 0 where
       pub small : path_key (e.goal tt) < 2 ^ 64
       pub rests : RestsWith c h m.share
@@ -334,7 +334,7 @@ module _ (e : EditMeaning (Unit {0})) where
 
   -- What it answers
 
-  -- there was nothing to make at the leaf that it tells, which it has found; the pass has entered
+  -- there was nothing to make at the leaf that it answers, which it has found; the pass has entered
   -- nothing, and has only looked in its newest try
   pub record HasNothingToMake (c : Call) (h : History) (found : Found) : Type 0 where
     pub has_found : HasFoundGoal (e.goal tt) c h found
@@ -361,8 +361,8 @@ module _ (e : EditMeaning (Unit {0})) where
     pub has_found : HasFoundGoal (e.goal tt) c moment found
     pub needed : 0 < (e.work tt found).need
 
-  -- All tries of the call, so many, were lost, the newest to the SCX-record s over the node n; in
-  -- it the call has found a leaf at which there was something to make. The pass has entered
+  -- All tries of the call, `limit` of them, were lost, the newest to the SCX-record s over the node
+  -- n; in it the call has found a leaf at which there was something to make. The pass has entered
   -- nothing.
   pub record HasLostEveryTry (c : Call) (h : History) (limit n s : ℕ) : Type 0 where
     pub way : IsContended c h n s
@@ -371,8 +371,8 @@ module _ (e : EditMeaning (Unit {0})) where
     pub found : Found
     pub needed : WasNeeded (begun_at c all.lost.begin) h found
 
-  -- There was nothing to make at this leaf, or the edit is made there. Where the walk goes to an end,
-  -- the leaf tells the pair at that end of the map just before the entry.
+  -- There was nothing to make at this leaf, or the edit is made there. If the walk goes to an end,
+  -- the leaf has the pair at that end of the map just before the entry.
   abbrev pub IsDoneAt : ℕ → Call → History → Found → Type 0
   IsDoneAt number c h found = HasNothingToMake c h found
       ⊎ ((made : HasMade (e.edit tt found) c h number found.value) × WasNeeded c h found × ToldEnd (e.goal tt) c.layout made.before found)
@@ -386,7 +386,7 @@ module _ (e : EditMeaning (Unit {0})) where
 
 -- Of an edit of some type
 
--- what an update has, whatever the type of its edit is, and wherever it stands
+-- what an update has, whatever the type of its edit is, and whatever its place
 abbrev pub bare : {E A : Type 0} → UpdateRun E A → UpdateRun (Unit {0}) (Unit {0})
 bare m = record { edit = tt; share = m.share; work = m.work; snaps = m.snaps; nodes = m.nodes; read = m.read; tries = 0; limit = 0; call = m.call; at = tt }
 
@@ -436,7 +436,7 @@ module _ {E : Type 0} (e : EditMeaning E) where
   UpdateWaitsAt m c h s (Fill f nth part) = FillsPiece m c h f nth part × FieldMay part (IsForField c.layout h m.nodes.first.0 (top m) (word_of (piece e m f (nth_node m.nodes nth).0) part)) × HoldsBefore h (nth_node m.nodes nth).0 (piece_here e m f nth) part × (s ≡ piece_fill_step m f nth part)
   UpdateWaitsAt m c h s (Scx f scx) = (begin : History) × Scxs m c h f scx begin × ScxWaits TreeAllows scx (begun_at c begin) h s
 
-  -- what holds once the step of this place has told v
+  -- what holds once the step of this place has found v
   abbrev pub UpdateIsToldAt : {A : Type 0} → UpdateRun E A → Call → History → ℕ → UpdateAt → Type 0
   UpdateIsToldAt m c h v Start = ⊥
   UpdateIsToldAt m c h v (Walk walk) = Walks m c h walk.goal × WalkIsReady walk c h (Some v)
@@ -456,12 +456,12 @@ module _ {E : Type 0} (e : EditMeaning E) where
   Tries m c begin h (Walk walk) = IsTryAt c begin h m.limit m.tries walk.at
   Tries m c begin h _ = IsTry c begin h m.limit m.tries
 
-  -- it may be called with this: with nothing at its start, then with what its step told
+  -- it may be called with this: with nothing at its start, then with what its step found
   abbrev pub UpdateIsReady : UpdateRun E UpdateAt → Call → History → Option ℕ → Type 0
   UpdateIsReady m c h None = MayBeginTry m c h × MayTry c h h m.limit m.tries × RestsWith c c.start m.share × (m.at ≡ Start)
   UpdateIsReady m c h (Some v) = (begin : History) × IsTry c begin h m.limit m.tries × FirstOrLost m c begin m.at × UpdateIsToldAt m (begun_at c begin) h v m.at
 
-  -- in the try that this call is, it waits for this step where it stands
+  -- in the try that this call is, it waits for this step at its place
   abbrev pub TryWaits : UpdateRun E UpdateAt → Call → History → Step → Type 0
   TryWaits m c h s = UpdateWaitsAt m c h s m.at
 
@@ -486,7 +486,7 @@ module _ {E : Type 0} (e : EditMeaning E) where
     pub hand : IsInHand m.nodes (top m) First
     pub blank : IsBlankHere e m h First
 
-  -- it may go on to read this node
+  -- it may continue to read this node
   pub record CanRead {A : Type 0} (m : UpdateRun E A) (c : Call) (h : History) (f : Found) (node : NodeNo) : Type 0 where
     pub work : CanWork m c h f
     pub from : Reading
@@ -539,7 +539,7 @@ module _ {E : Type 0} (e : EditMeaning E) where
   IsUpdateAnswer m c h (FullAnswer full) = IsFullFor (says e m.edit) m.share c h full
   IsUpdateAnswer m c h (Contended node scx) = (m.tries ≡ 0) × HasLostEveryTry (says e m.edit) c h m.limit node.0 scx.0
 
-  -- and behind it the pass is at rest, with what is left of the share, and has begun all tries but
+  -- and after it the pass is at rest, with what is left of the share, and has begun all tries but
   -- those that are left, each only as needed
   abbrev pub UpdateAnswers : {A : Type 0} → UpdateRun E A → Call → History → Updated → Type 0
   UpdateAnswers m c h answer = RestsWith c h m.share × IsUpdateAnswer m c h answer × HasTriedAllBut c h m.limit m.tries

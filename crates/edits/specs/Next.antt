@@ -1,4 +1,4 @@
--- What a try of an update does next, before the update stands there.
+-- What a try of an update does next, before the update is at the place for it.
 use Rattle.std.specs.Prelude.{◌≡◌, ℕ, suc, ◌*◌, ◌<◌, ◌≤◌, Result, Ok, Err}
 use Rattle.arena.specs.declared.machine.Turn.TheVariants.{Ask}
 use Rattle.arena.specs.declared.step.Access.TheVariants.{Load as LoadAccess, Store}
@@ -33,7 +33,7 @@ use Rattle.edits.specs.declared.update.Stop.{Stop}
 use Rattle.edits.specs.declared.update.Stop.TheVariants.{Nothing, Lost, Full as FullStop}
 use Rattle.edits.specs.declared.update.Updated.TheVariants.{Full as FullAnswer}
 
--- the update where it stands at this place, or at none
+-- the update at this place, or at none
 abbrev pub standing : {E A B : Type 0} → UpdateRun E A → B → UpdateRun E B
 standing m at = record { edit = m.edit; share = m.share; work = m.work; snaps = m.snaps; nodes = m.nodes; read = m.read; tries = m.tries; limit = m.limit; call = m.call; at = at }
 
@@ -41,11 +41,11 @@ standing m at = record { edit = m.edit; share = m.share; work = m.work; snaps = 
 abbrev pub IsSameUpdate : {E A B : Type 0} → UpdateRun E A → UpdateRun E B → Type 0
 IsSameUpdate old now = (now.edit ≡ old.edit) × (now.call ≡ old.call) × (now.limit ≡ old.limit)
 
--- the update once this word of the node that it reads has told v
+-- the update once this word of the node that it reads was found to hold v
 abbrev pub told : {E A : Type 0} → UpdateRun E A → SettledPart → ℕ → UpdateRun E A
 told m part v = record m { read = read_with m.read part v }
 
--- and once key and value of the pair in this slot have told these
+-- and once key and value of the pair in this slot were found to be these
 abbrev pub half_told : {E A : Type 0} → UpdateRun E A → Slot → ℕ → ℕ → UpdateRun E A
 half_told m slot key low = told (told m (Key slot) key) (Value slot) low
 
@@ -58,7 +58,7 @@ module _ {E : Type 0} (e : EditMeaning E) where
   abbrev pub fills : {A : Type 0} → UpdateRun E A → Found → Nth → NodeWord → Step
   fills m f nth part = record { kind = FillKind; word = NodeOf (nth_node m.nodes nth) part; access = Store (word_of (e.pieces m.edit f m.snaps.items m.nodes m.read nth) part) }
 
-  -- the update where it stands once this has begun
+  -- the update at its place once this has begun
   abbrev pub placed : {A : Type 0} → UpdateRun E A → Found → Next → UpdateRun E UpdateAt
   placed m f (LookNext n) = standing m (Look f record { node = n; at = Marked })
   placed m f (Wait n b scx) = standing m (Look f record { node = n; at = StateAgain b scx })
@@ -85,17 +85,17 @@ module _ {E : Type 0} (e : EditMeaning E) where
   UpdateGoesOn c h m f (Ok next) = UpdateWaits e (placed m f next) c h (next_step m f next)
   UpdateGoesOn c h m f (Err stop) = MayStop c h m f stop
 
-  -- fewer than n steps are left then; where it ends, at most as many in the tries behind it
+  -- fewer than n steps are left then; if it ends, at most that many in the tries after it
   abbrev pub ComesNearer : {A : Type 0} → UpdateRun E A → Found → Result Next Stop → ℕ → ℕ → Type 0
   ComesNearer m f (Ok next) nodes n = update_left e (placed m f next) nodes < n
   ComesNearer m f (Err stop) nodes n = m.tries * try_left e m.edit nodes ≤ n
 
-  -- so much is taken of the share, where so many tries might take of it
+  -- this much is taken of the share, where this many tries might take of it
   abbrev pub HasSpentForNext : {A : Type 0} → Remaining → UpdateRun E A → Found → Result Next Stop → ℕ → ℕ → Type 0
   HasSpentForNext old m f (Ok next) nodes scx = IsSpending e (Ask (next_step m f next)) old (placed m f next) nodes scx
   HasSpentForNext old m f (Err stop) nodes scx = Spends (e.most_nodes m.edit) old m.share nodes m.tries scx m.tries
 
-  -- so many steps are left then
+  -- how many steps are left then
   abbrev pub left_then : {A : Type 0} → UpdateRun E A → Found → Result Next Stop → ℕ → ℕ
   left_then m f (Ok next) nodes = suc (update_left e (placed m f next) nodes)
   left_then m f (Err stop) nodes = m.tries * try_left e m.edit nodes

@@ -3,7 +3,7 @@ use Rattle.std.specs.Prelude.{ℕ, zero, suc, Bool, false, not, ◌==◌, nat_lt
 use Rattle.ordered_map.specs.declared.pair.Pair.{Pair}
 use Rattle.ordered_map.specs.OrderedMap.{pair}
 
--- the pair at a place of the list, or a blank one behind its last
+-- the pair at a place of the list, or a blank one after its last
 abbrev pub pair_at : List Pair → ℕ → Pair
 pair_at ps i = slice_index_or ps i (pair 0 0)
 
@@ -29,12 +29,12 @@ run a b c d e =
     if not a then 0
     else (if not b then 1 else (if not c then 2 else (if not d then 3 else (if not e then 4 else 5))))
 
--- what stands at a place where a new pair is put at the place `at`: those before it stay, and those
--- behind it move on
+-- what is at a place when a new pair is put at the place `at`: those before it stay, and those
+-- after it move on
 abbrev pub moved_on : ℕ → ℕ → Pair → Pair → Pair → Pair
 moved_on at place here new last = if nat_lt place at then here else (if place == at then new else last)
 
--- and where the pair at the place `at` is taken out: those behind it move back
+-- and when the pair at the place `at` is taken out: those after it move back
 abbrev pub moved_back : ℕ → ℕ → Pair → Pair → Pair
 moved_back at place here next = if nat_lt place at then here else next
 

@@ -28,7 +28,7 @@ use Rattle.edits.specs.Pairs.{pair_at}
 abbrev pub piece_head : ℕ → Bool → ℕ → ℕ
 piece_head level leaf class = head_word record { level = min level (2 ^ 61 - 1); leaf = leaf; class = class % 4 }
 
--- what a word of a leaf behind its head is to hold
+-- what a word of a leaf after its head is to hold
 abbrev pub leaf_word : List Pair → NodeWord → ℕ
 leaf_word pairs (Settled More) = length pairs - 1
 leaf_word pairs (Settled (Key slot)) = (pair_at pairs (slot_no slot)).key
@@ -89,7 +89,7 @@ abbrev pub slot_key : Option Slot → Option NodeWord
 slot_key None = None
 slot_key (Some slot) = Some (Settled (Key slot))
 
--- the key behind the pair of this slot, if there is one
+-- the key after the pair of this slot, if there is one
 abbrev pub key_behind : List Pair → Slot → Option NodeWord
 key_behind pairs slot = slot_key (slot_behind (length pairs - 1) slot)
 
@@ -97,7 +97,7 @@ key_behind pairs slot = slot_key (slot_behind (length pairs - 1) slot)
 abbrev pub value_in : List Pair → Slot → Option NodeWord
 value_in pairs slot = if nat_lt (slot_no slot) (length pairs) then Some (Settled (Value slot)) else None
 
--- the word that is filled behind this one of a leaf
+-- the word of a leaf that is filled after this one
 abbrev pub leaf_behind : List Pair → NodeWord → Option NodeWord
 leaf_behind pairs (Settled Head) = if nat_lt 1 (length pairs) then Some (Settled More) else key_first pairs
 leaf_behind pairs (Settled More) = key_first pairs
@@ -113,12 +113,12 @@ fork_behind (Settled (Key FirstSlot)) = Some (Child Left)
 fork_behind (Child Left) = Some (Child Right)
 fork_behind _ = None
 
--- the word that is filled behind this one
+-- the word that is filled after this one
 abbrev pub part_behind : Piece → NodeWord → Option NodeWord
 part_behind (Leaf level class pairs) part = leaf_behind pairs part
 part_behind (Fork level class key l r) part = fork_behind part
 
--- at most so many words are filled behind this one
+-- how many words are filled after this one, at most
 abbrev pub fills_behind : Piece → NodeWord → ℕ
 fills_behind (Leaf level class pairs) part = 1 + 3 * min (length pairs) 4 - fill_place part
 fills_behind (Fork level class key l r) (Settled Head) = 3
@@ -126,7 +126,7 @@ fills_behind (Fork level class key l r) (Settled (Key FirstSlot)) = 2
 fills_behind (Fork level class key l r) (Child Left) = 1
 fills_behind (Fork level class key l r) _ = 0
 
--- and so many in all
+-- and how many in all
 abbrev pub many_fills : Piece → ℕ
 many_fills p = suc (fills_behind p (Settled Head))
 

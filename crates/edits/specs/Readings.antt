@@ -1,5 +1,5 @@
 -- What is read of a node, word by word: its head; of a fork of class 0 the key; of a leaf of class
--- 0 how many pairs it has behind its first, and then key, value and high half of each.
+-- 0 how many pairs it has after its first, and then key, value and high half of each.
 use Rattle.std.specs.Prelude.{◌≡◌, ℕ, ◌+◌, ◌*◌, ◌-◌, Bool, false, ◌==◌, ◌&&◌, if◌then◌else◌, [], ◌∷◌, ◌++◌, length, take, Option, Some, None, IfSome, is_none, unwrap_or}
 use Rattle.arena.specs.declared.head.Head.{Head}
 use Rattle.arena.specs.declared.word.NodeWord.TheVariants.{Settled}
@@ -22,7 +22,7 @@ use Rattle.edits.specs.declared.reading.Reading.{Reading}
 abbrev pub nothing_read : Reading
 nothing_read = record { head = None; more = None; slot = Some First; key = None; low = None; pairs = [] }
 
--- of a leaf with this head and so many pairs behind its first, these two are
+-- of a leaf with this head and this many pairs after its first, these two are
 abbrev pub leaf_begun : Head → ℕ → Reading
 leaf_begun head more = record { head = Some head; more = Some more; slot = Some First; key = None; low = None; pairs = [] }
 
@@ -66,7 +66,7 @@ next_read r = next_behind_head r r.head
 abbrev pub pair_read : Reading → ℕ → Pair
 pair_read r v = pair (unwrap_or r.key 0) (wide_value (unwrap_or r.low 0) v)
 
--- what is read once this word has told v
+-- what is read once this word was found to hold v
 abbrev pub read_with : Reading → SettledPart → ℕ → Reading
 read_with r HeadPart v = record r { head = Some (head_of v) }
 read_with r More v = record r { more = Some v }
@@ -74,7 +74,7 @@ read_with r (Key slot) v = record r { key = Some v }
 read_with r (Value slot) v = record r { low = Some v }
 read_with r (High slot) v = record { head = r.head; more = r.more; slot = slot_behind (unwrap_or r.more 0) slot; key = None; low = None; pairs = take 5 (r.pairs ++ pair_read r v ∷ []) }
 
--- and once these words of the pair in this slot have told key, value and high half
+-- and once these words of the pair in this slot were found to hold key, value and high half
 abbrev pub pair_read_with : Reading → Slot → ℕ → ℕ → ℕ → Reading
 pair_read_with r slot key low high = read_with (read_with (read_with r (Key slot) key) (Value slot) low) (High slot) high
 
@@ -85,7 +85,7 @@ abbrev pub if_unread : Option ℕ → ℕ
 if_unread None = 1
 if_unread (Some v) = 0
 
--- at most so many of the pairs from this slot on: three of each
+-- how many words at most of the pairs from this slot on: three of each
 abbrev pub left_in_pairs : Option Slot → Option ℕ → Option ℕ → ℕ
 left_in_pairs None key low = 0
 left_in_pairs (Some slot) None low = 12 - 3 * slot_no slot
@@ -97,7 +97,7 @@ abbrev pub left_behind_head : Reading → Option Head → ℕ
 left_behind_head r None = 2 + left_in_pairs r.slot r.key r.low
 left_behind_head r (Some head) = if head.class == 0 then (if head.leaf then if_unread r.more + left_in_pairs r.slot r.key r.low else if_unread r.key) else 0
 
--- at most so many words are read from now on
+-- how many words are read from now on, at most
 abbrev pub reads_left : Reading → ℕ
 reads_left r = left_behind_head r r.head
 

@@ -26,7 +26,7 @@ use Rattle.edits.specs.Edits.{EditMeaning, EditBounds}
 use Rattle.edits.specs.Known.{ComesBefore, CoversLeaf, IsNeeded, HasLooked, HasFilledAll, MayRead}
 use Rattle.edits.specs.Pieces.{is_filled, nth_node, update_for, word_of}
 
--- What an edit looks at an LLX may look at, and was not final at a moment of the call. Where a
+-- What an edit looks at an LLX may look at, and was not final at a moment of the call. If a
 -- snapshot differs from what the walk has found, what the edit names was in the way of a pass that
 -- was idle. What an edit reads every pass may know, it is not the root, and what is known of it
 -- before is right.
@@ -49,7 +49,7 @@ pub record MakesWell {E : Type 0} (m : EditMeaning E) : Type 0 where
   pub leaf : (e : E) (c : Call) (h : History) (f : Found) (snaps : List Snap) (s : ℕ) → IsTreeRun c.layout h → 0 < (m.work e f).need → HasLooked m c h e f snaps → m.looks e f snaps ≡ Enough → CoversLeaf m e f c h s snaps
   pub promised : (e : E) (c : Call) (h : History) (f : Found) (snaps : List Snap) (ns : Nodes) (read : Reading) (j : Job) (d : Descriptor) → IsTreeRun c.layout h → 0 < (m.work e f).need → HasFilledAll m c h e f snaps ns read → j.update ≡ update_for (m.work e f) snaps ns → Says d j → IsPromised c.layout c.pass h j.scx.0 d (m.edit e f)
 
--- its edit is of the key of which the leaf that was found tells the value
+-- its edit is of the key whose value the leaf that was found answers
 abbrev pub IsAtFound : {E : Type 0} → EditMeaning E → Type 0
 IsAtFound {E} m = (e : E) (f : Found) → edit_key (m.edit e f) ≡ asked_key (m.goal e) f.key
 

@@ -1,5 +1,5 @@
--- How many steps an update may still ask for: at most so many in a try, and as many in each try
--- that is left behind it.
+-- How many steps an update may still ask for: how many at most in a try, and as many in each try
+-- that is left after it.
 use Rattle.std.specs.Prelude.{◌≡◌, ℕ, ◌+◌, ◌*◌, ◌-◌, ◌<◌, ◌≤◌, length, Option, Some}
 use Rattle.arena.specs.declared.machine.Turn.{Turn}
 use Rattle.arena.specs.declared.word.NodeWord.{NodeWord}
@@ -37,7 +37,7 @@ try_left m e nodes = 3 * (2 + nodes) + 5 + (64 * m.most_looks e + most_works m e
 abbrev pub pieces_now : {E A : Type 0} → EditMeaning E → UpdateRun E A → Found → Nth → Piece
 pieces_now e m f nth = e.pieces m.edit f m.snaps.items m.nodes m.read nth
 
--- how many fills are left behind that of this word
+-- how many fills are left after that of this word
 abbrev pub fills_left : {E A : Type 0} → EditMeaning E → UpdateRun E A → Found → Nth → NodeWord → ℕ
 fills_left e m f nth part = fills_behind (pieces_now e m f nth) part + fills_after m.work.need (pieces_now e m f) nth
 
@@ -58,7 +58,7 @@ update_left e m nodes = m.tries * try_left e m.edit nodes + phase_left e m nodes
 abbrev pub IsNearer : {E : Type 0} → EditMeaning E → UpdateRun E UpdateAt → ℕ → Turn Updated → ℕ → Type 0
 IsNearer e m nodes turn n = MatchTurn turn (λ _. update_left e m nodes < n) (λ _. Unit {0})
 
--- what the run is told at this place fits so many taken nodes, and is of the word that it reads
+-- what the run gets at this place fits this many taken nodes, and is of the word that it reads
 -- next
 abbrev pub UpdateFitsAt : {E A : Type 0} → EditMeaning E → UpdateRun E A → Option ℕ → ℕ → UpdateAt → Type 0
 UpdateFitsAt e m got nodes (Walk walk) = WalkFits walk got nodes
@@ -66,13 +66,13 @@ UpdateFitsAt e m got nodes (Look f llx) = HasAsked e m f
 UpdateFitsAt e m got nodes (Read f n part) = HasAsked e m f × (next_read m.read ≡ Some part)
 UpdateFitsAt e m got nodes _ = Unit {0}
 
--- what the run is told where it stands fits so many taken nodes
+-- what the run gets at its place fits this many taken nodes
 abbrev pub UpdateFits : {E : Type 0} → EditMeaning E → UpdateRun E UpdateAt → Option ℕ → ℕ → Type 0
 UpdateFits e m got nodes = UpdateFitsAt e m got nodes m.at
 
 -- What it takes of its share
 
--- how many tries, this one and those behind it, may still take nodes
+-- how many tries, this one and those after it, may still take nodes
 abbrev pub node_tries : {E A : Type 0} → UpdateRun E A → UpdateAt → ℕ
 node_tries m (Read f n part) = m.tries
 node_tries m (Fill f nth part) = m.tries
@@ -91,8 +91,8 @@ MaySpend e m (Look f llx) = HasAsked e m f
 MaySpend e m (Fill f nth part) = 0 < m.share.scx
 MaySpend e m _ = Unit {0}
 
--- At most so many nodes are taken for each of the tries that might take some and no longer may, and
--- at most one SCX-record; and at most so many nodes for each SCX-record that is taken, besides
+-- At most `most` nodes are taken for each of the tries that might take some and no longer may, and
+-- at most one SCX-record; and at most `most` nodes for each SCX-record that is taken, besides
 -- those of a try that no longer may take nodes and may still take its SCX-record.
 abbrev pub Spends : ℕ → Remaining → Remaining → ℕ → ℕ → ℕ → ℕ → Type 0
 Spends most old now nodes nodes_then scx scx_then =
@@ -100,7 +100,7 @@ Spends most old now nodes nodes_then scx scx_then =
     × (old.scx + scx_then ≤ now.scx + scx)
     × (old.nodes + most * (now.scx + scx + nodes_then) ≤ now.nodes + most * (old.scx + nodes + scx_then))
 
--- so much is taken of the share, where so many tries might take of it; behind an answer those
+-- this much is taken of the share, where this many tries might take of it; after an answer those
 -- that are left still may
 abbrev pub IsSpending : {E : Type 0} → EditMeaning E → Turn Updated → Remaining → UpdateRun E UpdateAt → ℕ → ℕ → Type 0
 IsSpending e turn old m nodes scx = MatchTurn turn (λ _. Spends (e.most_nodes m.edit) old m.share nodes (node_tries m m.at) scx (scx_tries m m.at)) (λ _. Spends (e.most_nodes m.edit) old m.share nodes m.tries scx m.tries)

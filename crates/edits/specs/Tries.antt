@@ -15,7 +15,7 @@ use Rattle.template.specs.Tries.{MayTryNext, IsInNewest}
 use Rattle.template.specs.declared.walk.WalkAt.{WalkAt}
 use Rattle.template.specs.declared.walk.WalkAt.TheVariants.{Root}
 
--- behind the moment `start` no update of an SCX-record of the pass c has won, but perhaps of s
+-- after the moment `start` no update of an SCX-record of the pass c has won, but perhaps of s
 abbrev pub HasEnteredOnly : Layout → ℕ → ℕ → History → History → Type 0
 HasEnteredOnly lay c s h start = (row : Row) (before : History) (t : ℕ) → Extends h (row ⊳ before) → Extends before start → IsWin before row t → IsOwnScx lay c t → t ≡ s
 
@@ -34,7 +34,7 @@ pub record HasOnlyLooked (c : ℕ) (now start : History) : Type 0 where
   pub newest : IsNewestTry c now begin
   pub none : HasFilledNone c now begin
 
--- A try may begin, of a call that may try `limit` times in all, and so many are left behind it:
+-- A try may begin, of a call that may try `limit` times in all, and `left` are left after it:
 -- until the moment `begin` the pass has entered nothing, and by now it has lost all others.
 pub record MayTry (c : Call) (begin now : History) (limit left : ℕ) : Type 0 where
   pub since : Extends begin c.start

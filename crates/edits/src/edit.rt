@@ -108,7 +108,7 @@ impl Nodes {
     }
 }
 
-/// An edit of the tree: what it looks at behind its walk, what it reads, and what its fresh nodes
+/// An edit of the tree: what it looks at after its walk, what it reads, and what its fresh nodes
 /// are to hold.
 pub trait Edit {
     /// What each of its functions answers, and which edit of the map it is.
@@ -126,7 +126,7 @@ pub trait Edit {
     fn look(&self, found: &Found, snaps: &[Snap]) -> Look
         ensures { result ≡ means.looks self.now found.now snaps.now };
 
-    /// The node of which it reads settled words once all is looked at, if it reads any, and what is
+    /// The node whose settled words it reads once all is looked at, if it reads any, and what is
     /// known of that by then.
     fn reads(&self, found: &Found, snaps: &[Snap]) -> Option<(NodeNo, Known)>
         ensures { known_reads result ≡ means.reads self.now found.now snaps.now };

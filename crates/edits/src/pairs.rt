@@ -6,11 +6,11 @@ use arena::Slot;
 use ordered_map::Pair;
 use std::marker::Model;
 
-/// The pair of a place behind the last.
+/// The pair of a place after the last.
 const BLANK: Pair = Pair { key: 0, value: 0 };
 
 /// Up to five pairs as a plain value, in a row: as many as a leaf holds, and one more. Places
-/// behind the last are blank. What does not fit any more falls out at the end.
+/// after the last are blank. What does not fit any more falls out at the end.
 #[derive(Clone, Copy, Debug)]
 pub struct Pairs {
     first: Pair,
@@ -93,7 +93,7 @@ impl Pairs {
         self.count
     }
 
-    /// How many there are behind the first.
+    /// How many there are after the first.
     #[inline(always)]
     pub fn more(&self) -> u64
         ensures { result ≡ length self.now - 1 }
@@ -114,7 +114,7 @@ impl Pairs {
         }
     }
 
-    /// The pair in this slot, which is blank behind the last.
+    /// The pair in this slot, which is blank after the last.
     #[inline(always)]
     pub fn at(&self, slot: Slot) -> Pair
         ensures { result ≡ pair_at self.now (slot_no slot) }
@@ -127,7 +127,7 @@ impl Pairs {
         }
     }
 
-    /// One more behind the last, where that fits. The slot is a guess where that is: a right one
+    /// One more after the last, if that fits. The slot is a guess where that is: a right one
     /// spares the search.
     #[inline(always)]
     pub fn push(&mut self, slot: Slot, pair: Pair)
@@ -165,7 +165,7 @@ impl Pairs {
     pub fn insert(self, key: u64, value: u128) -> Pairs
         ensures { result ≡ take 5 (insert key value self) }
     {
-        // A pair in the stead of another one fits, since there are five at most.
+        // A pair in place of another one fits, since there are five at most.
         let _ = &self.count;
         let at = self.below(key);
         let pair = Pair { key, value };
@@ -204,7 +204,7 @@ impl Pairs {
         }
     }
 
-    /// Those behind the first two.
+    /// Those after the first two.
     #[inline(always)]
     pub fn behind_two(self) -> Pairs
         ensures { result ≡ drop 2 self }
@@ -219,7 +219,7 @@ impl Pairs {
         }
     }
 
-    /// The pair at this place, which is blank behind the last.
+    /// The pair at this place, which is blank after the last.
     #[inline(always)]
     fn place(&self, at: usize) -> Pair
         ensures { result ≡ pair_at self.now at }
@@ -276,7 +276,7 @@ impl Pairs {
         .min(self.count)
     }
 
-    /// The same with a pair more at this place, where those behind it move on.
+    /// The same with a pair more at this place, where those after it move on.
     #[inline(always)]
     fn put(self, at: usize, pair: Pair) -> Pairs
         requires { at ≤ length self }
@@ -292,7 +292,7 @@ impl Pairs {
         }
     }
 
-    /// The same with a pair in the stead of that at this place.
+    /// The same with a pair in place of that at this place.
     #[inline(always)]
     fn set(self, at: usize, pair: Pair) -> Pairs
         requires { at < length self }
@@ -308,7 +308,7 @@ impl Pairs {
         }
     }
 
-    /// The same without the pair at this place, where those behind it move back.
+    /// The same without the pair at this place, where those after it move back.
     #[inline(always)]
     fn without(self, at: usize) -> Pairs
         requires { at ≤ length self }
@@ -361,7 +361,7 @@ fn by_parts(pair: Pair) -> Pair
     }
 }
 
-/// What stands at a place where a new pair is put at the place `at`, before which `last` stands.
+/// What is at a place when a new pair is put at the place `at`, before which `last` is.
 #[inline(always)]
 fn moved_on(at: usize, place: usize, here: Pair, new: Pair, last: Pair) -> Pair
     ensures { result ≡ moved_on at place here new last }
@@ -375,7 +375,7 @@ fn moved_on(at: usize, place: usize, here: Pair, new: Pair, last: Pair) -> Pair
     })
 }
 
-/// What stands at a place where the pair at the place `at` is taken out.
+/// What is at a place when the pair at the place `at` is taken out.
 #[inline(always)]
 fn moved_back(at: usize, place: usize, here: Pair, next: Pair) -> Pair
     ensures { result ≡ moved_back at place here next }
@@ -383,7 +383,7 @@ fn moved_back(at: usize, place: usize, here: Pair, next: Pair) -> Pair
     by_parts(if place < at { here } else { next })
 }
 
-/// What stands at a place where a pair is put in the stead of that at the place `at`.
+/// What is at a place when a pair is put in place of that at the place `at`.
 #[inline(always)]
 fn replaced(at: usize, place: usize, here: Pair, new: Pair) -> Pair
     ensures { result ≡ replaced at place here new }

@@ -76,7 +76,7 @@ impl Piece {
         }
     }
 
-    /// The key that is filled behind the pair in this slot, if one is.
+    /// The key that is filled after the pair in this slot, if one is.
     #[inline(always)]
     pub fn key_behind(&self, slot: Slot) -> Option<NodeWord>
         ensures { result ≡ part_behind self.now (NodeWord.Settled (SettledPart.High slot)) }
@@ -87,7 +87,7 @@ impl Piece {
         }
     }
 
-    /// The word that is filled behind this one, if one is: of a leaf the count of its pairs, and
+    /// The word that is filled after this one, if one is: of a leaf the count of its pairs, and
     /// then key and value of each, where a count and a high half that are 0 are left out.
     #[inline(always)]
     pub fn behind(&self, part: NodeWord) -> Option<NodeWord>
@@ -113,7 +113,7 @@ fn head(level: u64, leaf: bool, class: u8) -> u64
     .word()
 }
 
-/// What a word of a leaf behind its head is to hold.
+/// What a word of a leaf after its head is to hold.
 #[inline(always)]
 fn leaf_word(pairs: &Pairs, part: NodeWord) -> u64
     ensures { result ≡ leaf_word pairs.now part }
@@ -143,7 +143,7 @@ fn high_half(value: u128) -> u64
     halves(value).1
 }
 
-/// The word that is filled behind this one of a leaf.
+/// The word that is filled after this one of a leaf.
 #[inline(always)]
 fn leaf_behind(pairs: &Pairs, part: NodeWord) -> Option<NodeWord>
     ensures { result ≡ leaf_behind pairs.now part }
@@ -158,7 +158,7 @@ fn leaf_behind(pairs: &Pairs, part: NodeWord) -> Option<NodeWord>
     }
 }
 
-/// The word that is filled behind this one of a fork.
+/// The word that is filled after this one of a fork.
 #[inline(always)]
 fn fork_behind(part: NodeWord) -> Option<NodeWord>
     ensures { result ≡ fork_behind part }
@@ -209,7 +209,7 @@ fn value_in(pairs: &Pairs, slot: Slot) -> Option<NodeWord>
     }
 }
 
-/// The high half of the value in this slot, where that is not 0, or else the key behind.
+/// The high half of the value in this slot, if that is not 0, or else the next key.
 #[inline(always)]
 fn high_or_key(pairs: &Pairs, slot: Slot) -> Option<NodeWord>
     ensures { result ≡ leaf_behind pairs.now (NodeWord.Settled (SettledPart.Value slot)) }
@@ -221,7 +221,7 @@ fn high_or_key(pairs: &Pairs, slot: Slot) -> Option<NodeWord>
     }
 }
 
-/// The key behind the pair of this slot, if there is one.
+/// The key after the pair of this slot, if there is one.
 #[inline(always)]
 fn key_behind(pairs: &Pairs, slot: Slot) -> Option<NodeWord>
     ensures { result ≡ key_behind pairs.now slot }

@@ -7,12 +7,12 @@ use arena::{Head, SettledPart, Slot};
 use ordered_map::{Pair, slot_behind, wide_value};
 
 /// What is read of a node, word by word: its head; of a fork of class 0 its key; of a leaf of class
-/// 0 how many pairs it has behind its first, and then key, value and high half of each.
+/// 0 how many pairs it has after its first, and then key, value and high half of each.
 #[derive(Clone, Copy, Debug)]
 pub struct Reading {
     /// Its head, once that is read.
     pub head: Option<Head>,
-    /// How many pairs a leaf has behind its first.
+    /// How many pairs a leaf has after its first.
     pub more: Option<u64>,
     /// The slot of the pair that is read, none once all are.
     pub slot: Option<Slot>,
@@ -29,7 +29,7 @@ pub struct Reading {
 pub enum Known {
     /// Nothing.
     Nothing,
-    /// It is a leaf with this head and so many pairs behind its first.
+    /// It is a leaf with this head and this many pairs after its first.
     Leaf { head: Head, more: u64 },
 }
 
@@ -52,7 +52,7 @@ impl Reading {
         }
     }
 
-    /// Begins anew, with what is known.
+    /// Begins with what is known.
     #[inline(always)]
     pub fn begin(&mut self, known: Known)
         ensures { self.new ≡ known_reading known }
@@ -119,7 +119,7 @@ impl Reading {
         }
     }
 
-    /// Keeps what this word has told.
+    /// Keeps what this word was found to hold.
     #[inline(always)]
     pub fn keep(&mut self, part: SettledPart, told: u64)
         ensures { self.new ≡ read_with self.old part told }
@@ -138,8 +138,8 @@ impl Reading {
         }
     }
 
-    /// Keeps what the three words of the pair in this slot of a leaf have told, of which nothing is
-    /// kept yet; tells the slot of the pair that is read next, none behind the last.
+    /// Keeps what the three words of the pair in this slot of a leaf were found to hold, when none
+    /// is kept yet; returns the slot of the pair that is read next, none after the last.
     #[inline(always)]
     pub fn keep_pair(&mut self, slot: Slot, key: u64, low: u64, high: u64) -> Option<Slot>
         requires none { (self.old.key ≡ None) × (self.old.low ≡ None) }

@@ -18,7 +18,7 @@ use template::{Found, Trail, Tree, WalkAt, WalkRun};
 /// What an update answers.
 #[derive(Clone, Copy, Debug, PartialEq, Eq)]
 pub enum Updated {
-    /// It is made, or there was nothing to make; the walk told of this key, and `value` is what
+    /// It is made, or there was nothing to make; the walk was for this key, and `value` is what
     /// that had, if it had one.
     Done { key: u64, value: Option<u128> },
     /// All tries were lost, the last to this SCX-record over this node.
@@ -112,8 +112,8 @@ pub enum UpdateAt {
 
 /// An update of the tree, step by step: a walk, LLXs of the nodes that the edit names, loads of
 /// what it reads of one of them, fills of fresh nodes, an SCX; and again where such a try is lost,
-/// as long as tries are left. From Brown, Ellen and Ruppert (PPoPP 2014). The machine stands at an
-/// `UpdateAt`; whoever makes its steps in line keeps no place, `()`, which spares the writing of
+/// as long as tries are left. From Brown, Ellen and Ruppert (PPoPP 2014). The machine's place is an
+/// `UpdateAt`; whoever makes its steps inline keeps no place, `()`, which saves the writing of
 /// one.
 #[derive(Debug, Drop)]
 pub struct UpdateRun<E, A> {
@@ -129,17 +129,17 @@ pub struct UpdateRun<E, A> {
     pub nodes: Nodes,
     /// What was read for them.
     pub read: Reading,
-    /// How many tries are left behind this one.
+    /// How many tries are left after this one.
     pub tries: u32,
     /// How many it has in all.
     pub limit: u32,
     /// The number of the call, as its maker counts.
     pub call: u64,
-    /// Where the run stands.
+    /// Where the run is.
     pub at: A,
 }
 
-/// The same leaf, made anew from its parts. Copied as a whole it would take the bytes between them
+/// The same leaf, rebuilt from its parts. Copied as a whole it would take the bytes between them
 /// along, and a walk would have to write those at each fork.
 #[inline(always)]
 pub fn anew(found: &Found) -> Found
@@ -227,7 +227,7 @@ impl<E: Edit + Drop> UpdateRun<E, UpdateAt> {
         self.begin_walk()
     }
 
-    /// Goes on with what the last step of the walk found.
+    /// Continues with what the last step of the walk found.
     fn walk_on(&mut self, mut walk: WalkRun, got: Option<u64>) -> Turn<Updated>
         ensures turn { (c : Call) (b h : History) (v : ℕ) → got ≡ Some v → IsRun TreeAllows c.layout h
             → IsTry c b h self.old.limit self.old.tries → IsUntouched c b self.old.share
@@ -253,7 +253,7 @@ impl<E: Edit + Drop> UpdateRun<E, UpdateAt> {
         }
     }
 
-    /// Goes on with what the last step of an LLX found.
+    /// Continues with what the last step of an LLX found.
     fn look_on(&mut self, found: Found, mut llx: LlxRun, got: Option<u64>) -> Turn<Updated>
         ensures turn { (c : Call) (b begin h : History) → IsRun TreeAllows c.layout h → IsTry c b h self.old.limit self.old.tries
             → Looks E.means self.old (begun_at c b) h found llx begin
@@ -295,7 +295,7 @@ impl<E: Edit + Drop> UpdateRun<E, UpdateAt> {
         })
     }
 
-    /// Goes on behind that fill: with the next word, or with what is done behind the last.
+    /// Continues after that fill: with the next word, or with what is done after the last.
     fn fill_on(&mut self, found: Found, nth: Nth, part: NodeWord) -> Turn<Updated>
         ensures turn { (c : Call) (b h : History) → IsRun TreeAllows c.layout h → IsTry c b h self.old.limit self.old.tries
             → IsFilledUpTo E.means self.old (begun_at c b) h found nth part → UpdateTurn E.means c h self.new result }
@@ -394,7 +394,7 @@ impl<E: Edit + Drop> UpdateRun<E, UpdateAt> {
         })
     }
 
-    /// Stands in its SCX where a node could not be frozen.
+    /// Continues in its SCX at a node that could not be frozen.
     #[cold]
     pub fn block(&mut self, found: Found, scx: ScxNo, help: HelpRun) -> Turn<Updated>
         ensures place { self.new ≡ record self.old {
@@ -448,7 +448,7 @@ impl<E: Edit + Drop> UpdateRun<E, UpdateAt> {
         }
     }
 
-    /// Goes on with what the last step of the SCX found.
+    /// Continues with what the last step of the SCX found.
     fn scx_on(&mut self, found: Found, mut scx: ScxRun, got: Option<u64>) -> Turn<Updated>
         ensures turn { (c : Call) (b begin h : History) → IsRun TreeAllows c.layout h → IsTry c b h self.old.limit self.old.tries
             → Scxs E.means self.old (begun_at c b) h found scx begin
@@ -468,7 +468,7 @@ impl<E: Edit + Drop> UpdateRun<E, UpdateAt> {
         }
     }
 
-    /// Goes on with what the last step found; with nothing at the first call, which asks for a
+    /// Continues with what the last step found; with nothing at the first call, which asks for a
     /// step.
     pub fn step(&mut self, got: Option<u64>) -> Turn<Updated>
         ensures turn { (c : Call) (h : History) → IsRun TreeAllows c.layout h → UpdateIsReady E.means self.old c h got

@@ -1,4 +1,4 @@
-//! The work of an update, wherever it stands.
+//! The work of an update, whatever its place.
 ghost use Rattle.edits.specs.Steps.{HasAsked, try_left, most_works, pieces_now};
 
 use crate::edit::{Edit, Look, Nodes, Nth, Work};
@@ -99,7 +99,7 @@ impl<E: Edit + Drop, A: Drop> UpdateRun<E, A> {
         None
     }
 
-    /// What the try does behind its walk, if the share has what the edit needs.
+    /// What the try does after its walk, if the share has what the edit needs.
     #[inline(always)]
     pub fn test_share(&mut self, found: &Found) -> Result<Next, Stop>
         ensures turn { (c : Call) (b h : History) → IsRun TreeAllows c.layout h → IsTry c b h self.old.limit self.old.tries
@@ -123,7 +123,7 @@ impl<E: Edit + Drop, A: Drop> UpdateRun<E, A> {
         self.look(found)
     }
 
-    /// The next node that the edit names to be looked at, or what is done behind the last.
+    /// The next node that the edit names to be looked at, or what is done after the last.
     #[inline(always)]
     fn look(&mut self, found: &Found) -> Result<Next, Stop>
         ensures turn { (c : Call) (b h : History) → IsRun TreeAllows c.layout h → IsTry c b h self.old.limit self.old.tries
@@ -143,7 +143,7 @@ impl<E: Edit + Drop, A: Drop> UpdateRun<E, A> {
         }
     }
 
-    /// Keeps a snapshot, and tells what is done behind it.
+    /// Keeps a snapshot, and returns what is done next.
     #[inline(always)]
     pub fn looked(&mut self, found: &Found, snap: Snap) -> Result<Next, Stop>
         ensures turn { (c : Call) (b h : History) → IsRun TreeAllows c.layout h → IsTry c b h self.old.limit self.old.tries
@@ -251,7 +251,7 @@ impl<E: Edit + Drop, A: Drop> UpdateRun<E, A> {
         }
     }
 
-    /// Keeps what that load has told, and tells what is done behind it.
+    /// Keeps what that load has found, and returns what is done next.
     #[inline(always)]
     pub fn read_on(&mut self, found: &Found, node: NodeNo, part: SettledPart, told: u64) -> Next
         ensures turn { (c : Call) (b h : History) → IsRun TreeAllows c.layout h → IsTry c b h self.old.limit self.old.tries
@@ -269,7 +269,7 @@ impl<E: Edit + Drop, A: Drop> UpdateRun<E, A> {
     }
 
     /// Keeps what the loads of key, value and high half of the pair in this slot of a leaf have
-    /// told, and tells what is done behind the last of them: so it is behind `read_on` of each.
+    /// found, and returns what is done after the last of them, as `read_on` of each would.
     #[inline(always)]
     pub fn read_pair(
         &mut self,

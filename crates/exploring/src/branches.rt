@@ -5,7 +5,7 @@ use record::{Line, Record, TurnRow};
 use script::Call;
 use std::alloc::{AllocError, Global};
 
-/// A play that is looked through, turn by turn, from where it went on.
+/// A play that is looked through, turn by turn, from where it continued.
 #[derive(Drop)]
 pub(crate) struct Branches {
     /// How many calls each client has left.
@@ -14,11 +14,11 @@ pub(crate) struct Branches {
     stretches: Vec<Stretch>,
     /// Who has made the newest turn.
     newest: Option<PassNo>,
-    /// How many turns had been made when it went on.
+    /// How many turns had been made when it continued.
     first: u64,
     made: u64,
     interruptions: u32,
-    /// The other ways to go on, those with as many interruptions and those with one more.
+    /// The other ways to continue, those with as many interruptions and those with one more.
     pub(crate) beside: Vec<Begun>,
     pub(crate) above: Vec<Begun>,
 }
@@ -57,7 +57,7 @@ impl Branches {
         }
     }
 
-    /// Goes on by a turn of a client.
+    /// Continues with a turn of a client.
     fn turn(&mut self, alloc: Global, client: PassNo) -> Result<(), AllocError> {
         if self.first < self.made {
             self.branch(alloc, client)?;
@@ -101,7 +101,7 @@ impl Branches {
     }
 }
 
-/// How many calls each of so many clients has.
+/// How many calls each of this many clients has.
 pub(crate) fn calls_of(alloc: Global, calls: &[Call], passes: u32) -> Result<Vec<u64>, AllocError> {
     let mut counts = Vec::new(alloc);
     for _ in 0..passes {

@@ -1,4 +1,4 @@
-//! What a schedule leaves behind.
+//! What a schedule leaves.
 use arena::PassNo;
 use linearization::edited;
 use ordered_map::Request;
@@ -52,7 +52,7 @@ fn pairs_of(alloc: Global, record: &Record) -> Result<Vec<(u64, u128)>, AllocErr
     Ok(pairs)
 }
 
-/// The command of which an entry is.
+/// The command of the call that an entry is of.
 fn command_of(calls: &[Call], entry: &Entry) -> Option<Command> {
     let mut own = calls.iter().filter(|call| call.client == entry.client);
     Some(own.nth(entry.call as usize)?.command)

@@ -25,14 +25,14 @@ pub struct Exploration {
     later: Vec<Begun>,
 }
 
-/// Plays the schedules of a script in which a client with a call left is interrupted at most so
-/// often in all, those with fewer interruptions first; at most so many of them. The record of each
+/// Plays the schedules of a script in which clients with a call left are interrupted at most
+/// `interruptions` times in all, those with fewer first; at most `most` of them. The record of each
 /// outcome's first schedule is audited.
 ///
 /// Of two clients that make m and n turns, whatever the other does, those with p interruptions are
 /// C(m - 1, a) C(n - 1, b) + C(n - 1, a) C(m - 1, b), where a is p / 2 rounded up and b rounded
-/// down: one client begins, and of the places behind its turns, but for the last, a are chosen, and
-/// b behind those of the other. Up to two interruptions that is 2 + (m + n - 2) + 2 (m - 1)(n - 1).
+/// down: one client begins, and of the places after its turns, but the last, a are chosen, and
+/// b after those of the other. Up to two interruptions that is 2 + (m + n - 2) + 2 (m - 1)(n - 1).
 pub fn explore(
     alloc: Global,
     script: &Script,
@@ -72,8 +72,8 @@ impl Exploration {
         self.now.pop()
     }
 
-    /// Plays a schedule, and notes its outcome and those that branch off from it. Answers the record of
-    /// an outcome that is new.
+    /// Plays a schedule, and notes its outcome and those that branch off from it. Answers the
+    /// record of an outcome that is new.
     fn play(
         &mut self,
         alloc: Global,

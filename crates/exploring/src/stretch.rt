@@ -9,8 +9,8 @@ pub(crate) struct Stretch {
     pub(crate) turns: u32,
 }
 
-/// A schedule up to where a client takes its turn, by choice or by interrupting another. It goes on
-/// until this client has no call left, and then each client makes its calls, by number.
+/// A schedule up to where a client takes its turn, by choice or by interrupting another. It plays
+/// this client until it has no call left, and then each client makes its calls, by number.
 #[derive(Drop)]
 pub(crate) struct Begun {
     pub(crate) stretches: Vec<Stretch>,

@@ -23,7 +23,7 @@ pub run_before : (allows : Layout → History → ℕ → Type 0) (lay : Layout)
 unfolding Lawful Shaped
 run_before allows lay h r run = record { lawful = run.lawful.0; shaped = run.shaped.0 }
 
--- what rows of others keep holds behind all of them
+-- what rows of others keep holds after all of them
 pub keeps_all : (allows : Layout → History → ℕ → Type 0) (lay : Layout) (c : ℕ) (P : History → Type 0) → ((h : History) (r : Row) → IsRun allows lay (r ⊳ h) → r.pass.0 ≢ c → P h → P (r ⊳ h)) → (rows known : List Row) → ByOthers c rows → IsRun allows lay (history_of lay.mode (rows ++ known)) → P (history_of lay.mode known) → P (history_of lay.mode (rows ++ known))
 keeps_all allows lay c P keeps [] known by run x = x
 keeps_all allows lay c P keeps (r ∷ rs) known by run x = keeps (history_of lay.mode (rs ++ known)) r run by.0 (keeps_all allows lay c P keeps rs known by.1 (run_before allows lay (history_of lay.mode (rs ++ known)) r run) x)
@@ -36,7 +36,7 @@ pub same_knower : (ps : List SeatedPass) (p q : SeatedPass) → ps ≡ p ∷ [] 
 unfolding first_or
 same_knower ps p q a b = ap (first_or p) (sym a ∙ b)
 
--- what is so beside something else is so
+-- what is so together with something else is so
 pub called_so : {allows : Layout → History → ℕ → Type 0} {ps : List SeatedPass} {c : Call} {P Q : History → Type 0} → HoldsForCall allows ps c (λ h. P h × Q h) → HoldsForCall allows ps c P
 called_so x = record { known = x.known; is = x.is; sound = x.sound; so = x.so.0 }
 

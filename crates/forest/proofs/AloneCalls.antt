@@ -1,5 +1,5 @@
--- That what is said of a call's tries bites: with nobody about, a call of a dictionary begins one try
--- at most, and takes what one may.
+-- The claim about a call's tries is strong: with no other pass, a call of a dictionary begins at
+-- most one try, and takes at most what one may.
 use Rattle.std.proofs.Common.{ℕ, ◌+◌, ◌*◌, ◌≤◌, sym, subst, arith}
 use Rattle.std.proofs.Math.Nat.{mul-le-mul_left}
 use Rattle.arena.specs.Blame.{WasInTheWay}

@@ -1,4 +1,4 @@
--- How often an SCX-record stands in a blame list.
+-- How many times an SCX-record is in a blame list.
 use Rattle.std.proofs.Common.{◌≡◌, ◌≢◌, ℕ, zero, suc, ◌+◌, ◌<◌, ◌≤◌, true, cond, eqb, eq-eqb, ne_eqb, List, [], ◌∷◌, length, inl, inr, refl, sym, ◌∙◌, ap, subst, arith}
 use native.Mathlib.Decide.{ℕ_discrete}
 use Rattle.std.specs.List.{All, Contains}
@@ -94,7 +94,7 @@ for_later lay h m blamed s l e x = record {
 pub for_other : (h : History) (blamed : List ℕ) (s t : ℕ) → t ≢ s → IsBlamedFor h blamed t → IsBlamedFor h (s ∷ blamed) t
 for_other h blamed s t d x = record { nodes = x.nodes; different = x.different; frozen = x.frozen; running = λ z. rw (times_other blamed s t d) (x.running z); most = rw (times_other blamed s t d) x.most }
 
--- One more in it, which was in the way since the run m. So it was not finished there: it stood in
+-- One more in it, which was in the way since the run m. So it was not finished there: it was in
 -- the list no more than once for each node. Now it is finished; or it has frozen one node more.
 pub for_same : (lay : Layout) (h m : History) (blamed : List ℕ) (n s : ℕ) → Lawful lay h → Extends h m → WasInTheWay h m n s → IsOverOrNew h m n s → IsBlamedFor m blamed s → IsBlamedFor h (s ∷ blamed) s
 for_same lay h m blamed n s l e w x y = go x

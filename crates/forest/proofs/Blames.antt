@@ -34,7 +34,7 @@ named_scx_since lay h m s = since (λ k. IsNamedScx k s) lay (λ h r l. named_sc
 all_begun_since : (lay : Layout) (h m : History) → Lawful lay h → Extends h m → (ss : List ℕ) → All (IsNamedScx m) ss → All (IsNamedScx h) ss
 all_begun_since lay h m l e = All-weaker (IsNamedScx m) (IsNamedScx h) (λ s d. named_scx_since lay h m s l e d)
 
--- what is finished at the begin was not in the way since
+-- what is finished at the start was not in the way since
 never_in_the_way : (lay : Layout) (h start : History) (n s : ℕ) → Lawful lay h → value start (state s) ≢ 0 → ¬ WasInTheWay h start n s
 never_in_the_way lay h start n s l d w = over_since lay (w.row ⊳ w.before) start s now (inr w.since) d w.running.unfinished
   where
@@ -68,8 +68,8 @@ begun_more old new start n s more l e w x = rw more (All-cons (IsNamedScx (run_o
 others_more : (old new : PassView) (s : ℕ) → new.layout ≡ old.layout → new.number ≡ old.number → new.blamed ≡ s ∷ old.blamed → IsOthersScx new.layout new.number s → HasBlamed old → All (IsOthersScx new.layout new.number) new.blamed
 others_more old new s lay number more other x = let before : All (IsOthersScx new.layout new.number) old.blamed = rw (lay, number) x.others in rw more (All-cons (IsOthersScx new.layout new.number) s old.blamed other before)
 
--- one more that a call on the tree has named, which was in its way, and is finished now or has come
--- to the node in the call
+-- one more that a call on the tree has named, which was in its way, and is finished now or has
+-- reached the node in the call
 pub blamed_on_tree : (old new : PassView) (n s : ℕ) → new.layout.mode ≡ Tree → new.layout ≡ old.layout → new.number ≡ old.number → new.blamed ≡ s ∷ old.blamed → Lawful new.layout (run_of new) → Extends (run_of new) (run_of old) → IsOthersScx new.layout new.number s → WasInTheWay (run_of new) (run_of old) n s → IsOverOrNew (run_of new) (run_of old) n s → HasBlamed old → HasBlamed new
 blamed_on_tree old new n s tree lay number more l e other w y x = record {
   others = others_more old new s lay number more other x;
@@ -99,10 +99,10 @@ blamed_more old new n s lay number more l e f x = record {
 
 -- What has left a share
 
--- what has begun by a moment is no more in a share of which what is left is untaken
+-- what has begun by a moment is no more in a share, what is left of which is untaken
 begun_left : (lay : Layout) (h m : History) (c : ℕ) (left : Remaining) (node scx s : ℕ) → Lawful lay m → Extends h m → IsShare lay h c left node scx → IsNamedScx m s → ¬ HasScx left s
 begun_left lay h m c left node scx s l e share d p = share.untaken s p (taken_since h m s e (named_scx_taken lay m s l (λ z. let a = p.from in let b = share.from_scx in omega arith) d))
 
--- the blame list of p, and the share of q, which is untaken in a run that goes on from what p knows
+-- the blame list of p, and the share of q, which is untaken in a run that extends what p knows
 pub blames_left : (lay : Layout) (h : History) (p q : PassView) (c node scx : ℕ) → Lawful lay (run_of p) → Extends h (run_of p) → IsShare lay h c q.share node scx → HasBlamed p → All (λ s. ¬ HasScx q.share s) p.blamed
 blames_left lay h p q c node scx l e share x = All-weaker (IsNamedScx (run_of p)) (λ s. ¬ HasScx q.share s) (λ s d. begun_left lay h (run_of p) c q.share node scx s l e share d) p.blamed x.begun

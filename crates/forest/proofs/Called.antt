@@ -30,7 +30,7 @@ module _ (P : Row → Type 0) (c : ℕ) (start : History) where
   pub own_start : HoldsOfOwn P c start start
   own_start r before e since own = absurd (no_longer before r (ends_trans before start (r ⊳ before) since e))
 
-  -- a row of the pass, of which it holds, or of another pass
+  -- a row of the pass, for which it holds, or of another pass
   pub own_more : (h : History) (r : Row) → (r.pass.0 ≡ c → P r) → HoldsOfOwn P c start h → HoldsOfOwn P c start (r ⊳ h)
   own_more h r is x q before (inl e) since own = let same : q ≡ r = cc in rw same (is (rw same at own))
   own_more h r is x q before (inr e) since own = x q before e since own
@@ -39,15 +39,15 @@ module _ (P : Row → Type 0) (c : ℕ) (start : History) where
   own_others mode [] known by x = x
   own_others mode (r ∷ rs) known by x = own_more (history_of mode (rs ++ known)) r (λ e. absurd (by.0 e)) (own_others mode rs known by.1 x)
 
--- what a call has come by
+-- the rows that were added in a call
 pub course_calls : {M : Type 0} {allows : Layout → History → ℕ → Type 0} {waits : M → Call → History → Step → Type 0} {same : M → M → Type 0} (c : Call) {first : M} (m : M) (h : History) → Trace allows waits same c first m h → AreOfCall c.pass c.number c.start h
 course_calls c m h (begins e k) = subst (AreOfCall c.pass c.number c.start) (sym k) (own_start (λ r. r.call ≡ c.number) c.pass c.start)
 course_calls c m h (others s r g e w other run x) = subst (AreOfCall c.pass c.number c.start) (sym e) (own_more (λ r. r.call ≡ c.number) c.pass c.start g r (λ own. absurd (other own)) (course_calls c m g x))
 course_calls c m h (makes s g e w run x) = subst (AreOfCall c.pass c.number c.start) (sym e) (own_more (λ r. r.call ≡ c.number) c.pass c.start g _ (λ own. refl) (course_calls c m g x))
 course_calls c m h (goes_on old is x) = course_calls c old h x
 
--- What holds of the row of each step for which the machine waits, as long as Q holds of it, holds of
--- each own row of the call.
+-- What holds of the row of each step for which the machine waits, as long as Q holds of it, holds
+-- of each own row of the call.
 module _ {M : Type 0} {allows : Layout → History → ℕ → Type 0} (waits : M → Call → History → Step → Type 0) (same : M → M → Type 0) (c : Call) (first : M) (P : Row → Type 0) (Q : M → Type 0) (opens : Q first) (stays : (old now : M) → same old now → Q old → Q now) (steps : (m : M) (h : History) (s : Step) → Q m → waits m c h s → P (row_of c s h)) where
   pub course_holds : (m : M) (h : History) → Trace allows waits same c first m h → Q m × HoldsOfOwn P c.pass c.start h
   course_holds m h (begins e k) = (subst Q (sym e) opens, subst (HoldsOfOwn P c.pass c.start) (sym k) (own_start P c.pass c.start))

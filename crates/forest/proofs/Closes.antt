@@ -107,7 +107,7 @@ owned_behind lay run owner id k [] o i = absurd i
 owned_behind lay run owner id k (p ∷ ps) o (inl e) = subst (λ (q : SeatedPass). (q.layout ≡ lay) × Behind run q) (sym e) (o.1, o.2)
 owned_behind lay run owner id k (p ∷ ps) o (inr i) = owned_behind lay run owner id k ps o.4 i
 
--- what is so of a pass at the end, whose run goes on from what the pass knew
+-- what is so of a pass at the end, whose run extends what the pass knew
 record IsAtEnd (lay : Layout) (rows : List Row) (d : PassView) : Type 0 where
   ends : Extends (history_of d.layout.mode rows) (run_of d)
   done : entries_of d.number (log d.layout (history_of d.layout.mode rows)) ≡ done_of d
@@ -117,7 +117,7 @@ record IsAtEnd (lay : Layout) (rows : List Row) (d : PassView) : Type 0 where
   share : IsShare lay (history_of lay.mode rows) d.number d.share d.share.next_node d.share.next_scx
   blamed : HasBlamed d
 
--- behind what it knows are rows of others alone
+-- after what it knows are rows of others alone
 one_ended : {allows : Layout → History → ℕ → Type 0} (d : PassView) (k : SeatedPass) (lay : Layout) (run : List Row) → d.layout ≡ lay → IsFrom allows d k → IsRun allows lay (history_of lay.mode run) → Behind run k → IsAtEnd lay run d
 one_ended {allows} d k lay run same f sound b =
     let h0 : History = history_of d.layout.mode k.known in

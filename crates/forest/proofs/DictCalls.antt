@@ -137,7 +137,7 @@ module _ {K V : Type 0} (valid_key : K → Type 0) (key : K → ℕ) (valid_valu
       course_keeps (λ (k : DictRun K V). IsSameCall first k) (refl, refl) (λ old now e q. (e.0 ∙ q.0, e.1 ∙ q.1)) m _ y.so.1,
     )
 
-    -- the pass behind it
+    -- the pass afterwards
     abbrev pub behind : Inside T
     behind = left_with p x s called Answered (share_of m.run) (blamed_by_reply reply p.blamed)
 
@@ -176,7 +176,7 @@ module _ {K V : Type 0} (valid_key : K → Type 0) (key : K → ℕ) (valid_valu
       pub dict_pass : s.me.1 ≡ p.seat.me.1 → IsPass allows Tree behind
       dict_pass bare = ended_pass p x s called Answered (share_of m.run) (blamed_by_reply reply p.blamed) bare y rest dict_blames
 
-      -- and has gone on
+      -- and its run is extended
       pub dict_goes_on : (few most : ℕ) → s.table_id ≡ p.seat.table_id → seat_steps s.me.0.passes ≤ seat_steps p.seat.me.0.passes + few → few ≤ most → HasGoneOn allows (pass_view p) now called most (blamed_by_reply reply p.blamed)
       dict_goes_on few most table steps small = ended_goes_on p x s called Answered (share_of m.run) (blamed_by_reply reply p.blamed) few most table y steps small rest dict_blames
 
@@ -201,7 +201,7 @@ module _ {K V : Type 0} (valid_key : K → Type 0) (key : K → ℕ) (valid_valu
             end_scx = rest.share.to_scx ∙ sym x.rest.share.to_scx;
           }
 
-      -- what it tells
+      -- what it answers
       pub dict_tells : IsToldOf (pass_view p) now (call_in m.run) (told_of key value_word reply)
       dict_tells = go (told_of key value_word reply) y.answers.tells
         where
@@ -209,7 +209,7 @@ module _ {K V : Type 0} (valid_key : K → Type 0) (key : K → ℕ) (valid_valu
           go None z = tt
           go (Some told) z = told_says (pass_view p) x.is_pass called refl s.table_id (share_of m.run) (known_of s.me.0.passes) (blamed_by_reply reply p.blamed) tree y.since (call_in m.run) told rests y.answers.rests z
 
-      -- why it tells nothing
+      -- why it answers nothing
       pub dict_refuses : IsRefusalOf m.tries (pass_view p) now (call_in m.run) reply
       dict_refuses = go reply y.answers.refuses
         where

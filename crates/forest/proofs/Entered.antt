@@ -1,4 +1,4 @@
--- What a pass has entered behind the start of a call, and what the call leaves of the pass, where
+-- What a pass has entered since the start of a call, and what the call leaves of the pass, if
 -- both are known of the call's end alone, without its course.
 use Rattle.std.proofs.Common.{◌≡◌, ◌≢◌, ◌≤◌, ◌+◌, ℕ, inl, inr, List, ◌∷◌, [], Option, refl, sym, ◌∙◌, ap, subst, arith}
 use Rattle.atomic_table.specs.declared.shared.Seat.{Seat}
@@ -85,11 +85,11 @@ one_entered c h l m =
 
 -- What a call leaves
 
--- behind an answer at which it rests with a share, the pass is between two calls
+-- after an answer at which it rests with a share, the pass is between two calls
 pub rests_between : (c : Call) (h : History) (left : Remaining) → RestsWith c h left → IsBetweenCalls c.layout c.pass h left
 rests_between c h left x = record { share = x.share; over = over_begins c.layout c.pass left.next_scx h x.over }
 
--- what a call has come by goes on from its start
+-- the rows that were added in a call extend its start
 pub course_since : {M : Type 0} {allows : Layout → History → ℕ → Type 0} {waits : M → Call → History → Step → Type 0} {same : M → M → Type 0} (c : Call) {first : M} (m : M) (h : History) → Trace allows waits same c first m h → Extends h c.start
 course_since c m h (begins e k) = subst (λ g. Extends g c.start) (sym k) (ends_self c.start)
 course_since c m h (others s r g e w other run x) = subst (λ k. Extends k c.start) (sym e) (inr (course_since c m g x))
@@ -124,7 +124,7 @@ module _ {allows : Layout → History → ℕ → Type 0} {mode : Mode} {T : Typ
   pub ended_pass : s.me.1 ≡ p.seat.me.1 → HasEnded allows p s number A → IsBetweenCalls p.layout p.number.0 (run_of (pass_view left_with)) left → HasBlamed (pass_view left_with) → IsPass allows mode left_with
   ended_pass bare y rest blames = record { seat = y.seat; bare = bare ∙ x.bare; is_mode = x.is_mode; is_pass = x.is_pass; sound = y.sound; rest = rest; blamed = blames }
 
-  -- and has gone on
+  -- and its run is extended
   pub ended_goes_on : (few most : ℕ) → s.table_id ≡ p.seat.table_id → HasEnded allows p s number A → seat_steps s.me.0.passes ≤ seat_steps p.seat.me.0.passes + few → few ≤ most → IsBetweenCalls p.layout p.number.0 (run_of (pass_view left_with)) left → HasBlamed (pass_view left_with) → HasGoneOn allows (pass_view p) (pass_view left_with) number most blamed
   ended_goes_on few most table y steps small rest blames = record {
     later = later;

@@ -36,7 +36,7 @@ HasOwnWon lay c h s = IsOwnScx lay c s × HasWon h s
 
 -- The whole
 
--- a call of pass c has come so far: with this share, this node and SCX-record, and these snapshots
+-- a call of pass c under way: with this share, this node and SCX-record, and these snapshots
 -- in hand; all other snapshots that were left alone are; and the log has one entry more of the pass
 -- if the update has won, and none else
 pub record CarriesOn (allows : Layout → History → ℕ → Type 0) (lay : Layout) (c : ℕ) (start h : History) (left : Remaining) (node scx : ℕ) (snaps : List Snap) : Type 0 where

@@ -20,7 +20,7 @@ pub waits_within : {M N : Type 0} {o : Calls M} {i : Inner N} (k : Inside o i) (
 waits_within k ps lawful m s x = subst (λ (l : Layout). IsWord l s.word) k.is_layout (word_of _ k.call record { call = k.call.number; step = s } refl ps _ (λ h. lawful (k.with_run m) k.call h s) (called_so x))
 
 module _ {N P : Type 0} (i : Inner N) (j : Inner P) where
-  -- where a machine stands inside one that is inside another itself
+  -- what a machine is inside one that is inside another itself
   pub record Nested : Type 0 where
     pub with_run : P → N
     pub tells : (m : P) (h : History) (v : ℕ) (d : i.Context) → i.told d (with_run m) h v → (e : j.Context) × j.told e m h v

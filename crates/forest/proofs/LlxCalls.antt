@@ -84,7 +84,7 @@ module _ {allows : Layout → History → ℕ → Type 0} {mode : Mode} {T : Typ
             blamed = blamed_more (pass_view p) (pass_view (heard (u.0 ∷ p.blamed))) node.0 u.0 refl refl refl w.sound.lawful z.goes.since (llx_says (u.0 ∷ p.blamed) (Fail n u) z).1 x.blamed;
           }
 
-  -- it has gone on, and taken nothing
+  -- its run is extended, and it has taken nothing
   pub llx_goes_on : (a : Llx) (blamed : List ℕ) (left most : ℕ) → blamed ≡ blamed_by a p.blamed → s.table_id ≡ p.seat.table_id → s.me.1 ≡ p.seat.me.1 → HasOnlyLoaded allows p s number (Answered p x number node a) → seat_steps s.me.0.passes ≤ seat_steps p.seat.me.0.passes + left → left ≤ most → HasGoneOn allows (pass_view p) (pass_view (heard blamed)) number most (blamed_by a p.blamed)
   llx_goes_on a blamed left most e table bare y few small =
       let z = called_goes_on p x s number _ left most table bare y few small in

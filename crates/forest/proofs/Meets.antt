@@ -51,9 +51,9 @@ ends_more mode (r ∷ rs) known = inr (ends_more mode rs known)
 pub behind_ends : (run : List Row) (p : SeatedPass) → Behind run p → Extends (history_of p.layout.mode run) (history_of p.layout.mode p.known)
 behind_ends run p b = subst (λ rows. Extends (history_of p.layout.mode rows) (history_of p.layout.mode p.known)) (sym b.1) (ends_more p.layout.mode b.0 p.known)
 
--- a pass that has looked at the table behind this run
+-- a pass that has looked at the table after this run
 module _ {T : Type 0} (p : Inside T) (s : Seat ℕ SeatView) (run : List Row) (behind : Behind run (seated_pass p.number.0 p.layout (known_of p.seat.me.0.passes))) (are : s.me.0.passes ≡ after_look (seated_pass p.number.0 p.layout (known_of p.seat.me.0.passes)) run ∷ []) where
-  -- what holds of the look holds of each row of the pass behind what it knew
+  -- what holds of the look holds of each row of the pass after what it knew
   look_own : (P : Row → Type 0) → P (row p.number.0 look (history_of p.layout.mode run)) → HoldsOfOwn P p.number.0 (run_of (pass_view p)) (run_of (pass_view (seated p s)))
   look_own P holds =
       let mode = p.layout.mode in

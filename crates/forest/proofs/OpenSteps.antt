@@ -33,7 +33,7 @@ pub differ : true ≡ false → ⊥
 differ e = cc
 
 module _ {K V : Type 0} (valid_key : K → Type 0) (key : K → ℕ) (valid_value : V → Type 0) (value : V → ℕ) where
-  -- where the machine of such a call stands
+  -- where the machine of such a call is
   abbrev pub DictStands : Call → List SeatedPass → DictRun K V → DictRun K V → Turn (Reply K V) → Type 0
   DictStands c ps first m turn = Stands (TypedAllows (IsWordOf valid_key key) (IsWordOf valid_value value)) (DictWaits (IsWordOf valid_key key) (IsWordOf valid_value value)) (IsSameDictCall valid_key key valid_value value) c ps first (DictAnswers valid_key key valid_value value) m turn
 

@@ -98,7 +98,7 @@ goes_nowhere p x number most = record {
 pub steps_are : (c : ℕ) (lay : Layout) (ps : List SeatedPass) → ps ≡ seated_pass c lay (known_of ps) ∷ [] → seat_steps ps ≡ rows_of c (known_of ps)
 steps_are c lay ps e = ap seat_steps e
 
--- and it has gone on
+-- and its run is extended
 pub called_goes_on : {allows : Layout → History → ℕ → Type 0} {mode : Mode} {T : Type 0} (p : Inside T) (x : IsPass allows mode p) (s : Seat ℕ SeatView) (number : ℕ) (A : History → Type 0) (left most : ℕ) → s.table_id ≡ p.seat.table_id → s.me.1 ≡ p.seat.me.1 → HasOnlyLoaded allows p s number A → seat_steps s.me.0.passes ≤ seat_steps p.seat.me.0.passes + left → left ≤ most → HasGoneOn allows (pass_view p) (pass_view (seated p s)) number most p.blamed
 called_goes_on p x s number A left most table bare y few small = record {
   later = later;

@@ -242,7 +242,7 @@ module _ {T : Type 0} (p : Inside T) (x : IsPass AllowsAll Records p) (some_node
   pub put_alone : (s : Seat ℕ SeatView) (a : Scx) → HasPut s a → (snap : Snap) → ¬ IsAmong snaps snap.node.0 → HasLeftAlone (pass_view p) snap → HasLeftAlone (pass_view (spent s)) snap
   put_alone s a y = y.goes.alone
 
-  -- it has gone on
+  -- its run is extended
   pub put_goes_on : (s : Seat ℕ SeatView) (a : Scx) (left most : ℕ) → s.table_id ≡ p.seat.table_id → s.me.1 ≡ p.seat.me.1 → HasPut s a → seat_steps s.me.0.passes ≤ seat_steps p.seat.me.0.passes + left → left ≤ most → HasGoneOn AllowsAll (pass_view p) (pass_view (spent s)) number most p.blamed
   put_goes_on s a left most table bare y few small = record {
     later = later;

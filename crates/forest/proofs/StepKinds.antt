@@ -1,4 +1,4 @@
--- Which kinds of step a call of a dictionary makes, and that a range that asks for no pairs makes none.
+-- Which kinds of step a call of a dictionary makes; a range that asks for no pairs makes none.
 use Rattle.std.proofs.Common.{◌≡◌, ◌∙◌, ℕ, List, refl, sym, ap, subst}
 use Rattle.atomic_table.specs.Seated.{TableId}
 use Rattle.atomic_table.specs.declared.shared.Seat.{Seat}
@@ -40,7 +40,7 @@ use Rattle.forest.proofs.DictCalls.{Answered, IsSameCall, behind, dict_refuses}
 use Rattle.forest.proofs.Entered.{HasEnded}
 use Rattle.forest.proofs.Passes.{call_of}
 
--- no row of a history is behind it
+-- no row of a history is after it
 no_row : (h : History) (r : Row) (before : History) → Extends h (r ⊳ before) → Extends before h → ⊥
 no_row h r before within since = own_start (λ _. ⊥) r.pass.0 h r before within since refl
 
@@ -95,7 +95,7 @@ module _ {K V : Type 0} (valid_key : K → Type 0) (key : K → ℕ) (valid_valu
     abbrev seen : TableId → Remaining → List Row → List ℕ → PassView
     seen table share known blamed = record { table = table; layout = p.layout; number = p.number.0; share = share; known = known; blamed = blamed }
 
-    -- a call behind which its pass knows what it knew before has left the pass as it was
+    -- a call after which its pass knows what it knew before has left the pass as it was
     pub dict_nothing : HasEnded allows p s (taken_of (pass_view p)) Ended → s.table_id ≡ p.seat.table_id → known_of s.me.0.passes ≡ known_of p.seat.me.0.passes → now ≡ pass_view p
     dict_nothing y table known =
         let run : run_of now ≡ run_of (pass_view p) = ap (history_of p.layout.mode) known in

@@ -162,7 +162,7 @@ module _ {K V : Type 0} (valid_key : K → Type 0) (key : K → ℕ) (valid_valu
       same_read : (old now : ReadRun d.kind.R) → IsSameRead d.kind.means old now → same (reading old) (reading now)
       same_read old now x = rw (d.inside old share, d.inside now share) (x.0, refl, (x.2, x.3))
 
-      -- what it is told, and what it then waits for, its machine does
+      -- what it gets, and what it then waits for, its machine does
       told_inside : (m : ReadRun d.kind.R) (h : History) (got : Option ℕ) → ready (reading m) c h got → Goes (Read d.kind m share) machine.tries c × (ReadIsReady d.kind.means m c h got × HasRested c h share)
       told_inside m h got x = subst (λ (i : InnerRun). Goes i machine.tries c × IsReadyInside i c h got) (d.inside m share) x.1
 
@@ -207,7 +207,7 @@ module _ {K V : Type 0} (valid_key : K → Type 0) (key : K → ℕ) (valid_valu
             );
           }
 
-  -- a machine that has answered is told as a reply of keys and values
+  -- the answer of a machine as a reply of keys and values
   pub replies : (c : Call) (ps : List SeatedPass) (first m : DictRun K V) (w : WordReply) (r : Reply K V) → IsReplyOf valid_key key valid_value value_word w r → ends c ps first m w → SeatDictEnds valid_key key valid_value value_word c ps first m r
   replies c ps first m w r of x = record {
     known = x.known;
@@ -268,7 +268,7 @@ module _ {K V : Type 0} (valid_key : K → Type 0) (key : K → ℕ) (valid_valu
 pub as_many_steps : (m : ReadRun RangeRead) (snaps : Vec Snap Global) (waiting : Vec NodeNo Global) (taken : Vec Pair Global) (nodes bound : ℕ) → m.at ≡ ReadStart → read_left range_means m nodes ≤ bound → read_left range_means (record m { read = record m.read { waiting = waiting; taken = taken }; snaps = snaps }) nodes ≤ bound
 as_many_steps m snaps waiting taken nodes bound at few = subst (λ a. tries_left range_means m nodes + phase_left range_means (record m { read = record m.read { waiting = waiting; taken = taken }; snaps = snaps }) nodes a ≤ bound) (sym at) (subst (λ a. tries_left range_means m nodes + phase_left range_means m nodes a ≤ bound) at few)
 
--- all tries have as many steps as each of them so many times
+-- all tries have as many steps as each of them, times their number
 pub tries_steps : (now old left tries each : ℕ) → 0 < tries → left ≡ tries - 1 → now ≤ old + (left * each + each) → now ≤ old + tries * each
 tries_steps now old left tries each some is small = subst (λ n. now ≤ old + n) (whole tries some is) small
   where

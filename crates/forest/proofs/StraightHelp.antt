@@ -43,7 +43,7 @@ module _ {M : Type 0} {inner : Layout → History → ℕ → Type 0} {o : Calls
   abbrev At : HelpRun → Step → Type 0
   At m step = InnerWaits k ps m step
 
-  -- the step has told v
+  -- the step has found v
   abbrev Tells : HelpRun → ℕ → Type 0
   Tells m v = InnerIsTold k ps m v
 

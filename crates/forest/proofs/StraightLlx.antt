@@ -1,5 +1,5 @@
--- From place to place of an LLX, of whatever machine looks at nodes; and calls of LLX, which look at
--- theirs.
+-- From place to place of an LLX, of whatever machine looks at nodes; and calls of LLX, which look
+-- at theirs.
 use Rattle.std.proofs.Common.{◌≡◌, ℕ, Bool, List, refl, sym, subst, ◌≢◌, true, false, ◌⊎◌, inl, inr, Some}
 use Rattle.arena.specs.declared.layout.Layout.{Layout}
 use Rattle.arena.specs.declared.machine.Turn.TheVariants.{Ask, Done}
@@ -32,7 +32,7 @@ module _ {M : Type 0} {inner : Layout → History → ℕ → Type 0} {o : Calls
   abbrev At : LlxAt → Step → Type 0
   At at step = InnerWaits k ps (llx_at node at) step
 
-  -- the step of this place has told v
+  -- the step of this place has found v
   abbrev Tells : LlxAt → ℕ → Type 0
   Tells at v = InnerIsTold k ps (llx_at node at) v
 

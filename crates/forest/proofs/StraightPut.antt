@@ -1,4 +1,4 @@
--- From place to place of an SCX with a fresh cell, in line.
+-- From place to place of an SCX with a fresh cell, inline.
 use Rattle.std.proofs.Common.{◌≡◌, ℕ, List, true, refl, sym, subst}
 use Rattle.arena.specs.declared.layout.Layout.{Layout}
 use Rattle.arena.specs.declared.machine.Turn.TheVariants.{Ask, Done as End}
@@ -79,7 +79,7 @@ module _ (allows : Layout → History → ℕ → Type 0) (layout : Layout) (num
     unfolding putter
     change_waits step x = x
 
-    -- what HELP has told once it is committed, the SCX answers
+    -- what HELP has answered once it is committed, the SCX answers
     pub put_done : (help : HelpRun) (v : ℕ) → InnerIsTold putter ps (record m { at = Help (record help { at = HelpCommit }) }) v → SeatPutEnds allows c ps first (with_scx first (record m { at = Help (record help { at = HelpCommit }) })) Done
     unfolding putter
     put_done help v x =

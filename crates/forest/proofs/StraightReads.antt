@@ -75,19 +75,19 @@ module _ {R A : Type 0} (means : ReadMeaning R A) where
   itself m = (refl, refl, omega arith, omega arith)
 
 module _ {M R A : Type 0} {o : Calls M} {means : ReadMeaning R A} (r : Reader o means) where
-  -- its step has told this
+  -- its step has found this
   abbrev IsTold : List SeatedPass → ReadRun R → ℕ → Type 0
   IsTold ps m v = HostedIsTold r ps m v
 
-  -- what it is told takes it to what comes next
+  -- what it gets takes it to what comes next
   on_to : (ps : List SeatedPass) (old m : ReadRun R) (next : ReadNext) (v : ℕ) → IsSameRead means old (placed m next) → ((h : History) → IsRun TreeAllows r.call.layout h → ReadIsReady means old r.call h (Some v) → MayGoOn means r.call h m next) → IsTold ps old v → ReaderWaits r ps m next
   on_to ps old m next v is know x = told_on r ps old (placed m next) (Some v) (Ask (next_step m next)) is (λ h run y. next_waits means m r.call h next (know h run y)) x
 
-  -- what it is told fits the taken nodes
+  -- what it gets fits the taken nodes
   pub told_fits : (ps : List SeatedPass) (m : ReadRun R) (v : ℕ) → IsTold ps m v → ReadFits means m (Some v) (shared_nodes o.layout)
   told_fits ps m v x = read_told means m r.call _ (Some v) (shared_nodes o.layout) (r.runs _ x.sound) (r.tells m _ (Some v) x.so.0) (few_taken o.allows o.layout r.call _ r.is_layout x.sound)
 
-  -- Behind its loads: the read has gone on
+  -- After its loads: the read has continued
   module _ (m : ReadRun R) (read : R) (same : means.call read ≡ means.call m.read) where
     abbrev now : ReadRun R
     now = record m { read = read }
@@ -123,7 +123,7 @@ module _ {M R A : Type 0} {o : Calls M} {means : ReadMeaning R A} (r : Reader o 
         let p = lighter c _ next (shared_nodes o.layout) _ (goes m.snaps.items c _ y.2 y.3 y.4.0 (ap head_of y.4.1)) (near (shared_nodes o.layout) f) in
         omega (arith, i, p)
 
-  -- Behind a load: the run has gone on
+  -- After a load: the run has continued
   module _ (m now : ReadRun R) (of : ReadLoad) (is : IsSameRead means m now) (tries : now.tries ≡ m.tries) where
     -- what is known of it then
     abbrev Loads : ℕ → Result ReadNext Refused → Type 0
@@ -186,7 +186,7 @@ module _ {M R A : Type 0} {o : Calls M} {means : ReadMeaning R A} (r : Reader o 
     unfolding looker
     begins_look ps n x = x
 
-    -- with the snapshot it goes on as its turn says
+    -- with the snapshot it continues as its turn says
     looked : (ps : List SeatedPass) (now : ReadRun R) (n : NodeNo) (snap : Snap) (turn : Turn (Result A Refused)) → IsSameRead means m now
         → ((begin h : History) → IsInTry r.call h begin m.limit m.tries → ReadGoes means m (begun_at r.call begin) h → Looks means m.read m.snaps.items (begun_at r.call begin) h children level snap.node.0 → IsSnapshot r.call.layout h snap.node.0 snap → MatchTurn turn (ReadWaits means now r.call h) (ReadAnswers means now r.call h))
         → LookerSnaps looker ps n snap → HostedStands r ps now turn
@@ -216,7 +216,7 @@ module _ {M R A : Type 0} {o : Calls M} {means : ReadMeaning R A} (r : Reader o 
     unfolding looker
     level_fits ps n snap x = told_fits ps (at x.last) x.told x.so
 
-    -- where something is in the way, it stands there
+    -- if something is in the way, it is at that place
     pub looks_again : (ps : List SeatedPass) (n : NodeNo) (b : Bool) (scx : ScxNo) → InnerWaits looker ps (llx_at n (StateAgain b scx)) (load LoadState (state scx.0)) → ReaderLooksAgain r ps m children level n b scx
     unfolding looker
     looks_again ps n b scx x = x

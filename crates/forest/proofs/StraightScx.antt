@@ -28,7 +28,7 @@ use Rattle.forest.specs.CallKinds.{Calls}
 use Rattle.forest.specs.Inside.{InnerIsTold, InnerWaits}
 use Rattle.forest.proofs.Inside.{Nested, compose, goes_to}
 
--- where HELP of its own SCX-record stands inside an SCX
+-- where HELP of its own SCX-record is inside an SCX
 abbrev helps : (inner : Layout → History → ℕ → Type 0) (snaps : List Snap) (change : ScxTask) → Nested (inner_scx inner) (inner_help inner)
 helps inner snaps change = record {
   with_run = λ help. changing_at snaps change (Help help);
@@ -47,7 +47,7 @@ module _ {M : Type 0} {inner : Layout → History → ℕ → Type 0} {o : Calls
     abbrev At : ScxAt → Step → Type 0
     At at step = InnerWaits k ps (changing_at snaps change at) step
 
-    -- the step of this place has told v
+    -- the step of this place has found v
     abbrev Tells : ScxAt → ℕ → Type 0
     Tells at v = InnerIsTold k ps (changing_at snaps change at) v
 
@@ -82,7 +82,7 @@ module _ {M : Type 0} {inner : Layout → History → ℕ → Type 0} {o : Calls
     to_help begun v is start = goes_to k ps (changing_at snaps change AtCall) (changing_at snaps change (Help (record begun { at = HelpPlan }))) v _ (refl, refl, refl)
         (λ d h t. let y = begin_help inner d h (changing_at snaps change AtCall) begun t.0 t.1 is start in (record { known = y.ready.1; asked = refl }, is, y.filled))
 
-    -- what its HELP waits for or is told, it waits for or is told
+    -- what its HELP waits for or gets, it waits for or gets
     pub help_waits : (help : HelpRun) (step : Step) → InnerWaits helper ps help step → At (Help help) step
     unfolding helper
     help_waits help step x = x
@@ -91,7 +91,7 @@ module _ {M : Type 0} {inner : Layout → History → ℕ → Type 0} {o : Calls
     unfolding helper
     help_told help v x = x
 
--- of the place behind this one, if there is one, and if there is none
+-- of the place after this one, if there is one, and if there is none
 module _ (r : Option MemberIndex) (j : MemberIndex) (count : ℕ) (valid : IsSome r ↔ ((member_index j < 3) × (member_index j + 1 < count))) (is : IfSome r (λ k. member_index k ≡ member_index j + 1)) where
   pub behind_is : IfSome r (λ next. (member_index next ≡ member_index j + 1) × (member_index next < 4))
   behind_is = go r valid is

@@ -1,4 +1,4 @@
--- How the tries of an update go on from seat to seat, of whatever machine updates.
+-- How the tries of an update continue from seat to seat, of whatever machine updates.
 use Rattle.std.proofs.Common.{◌≡◌, ℕ, List, Option, ◌<◌, ◌∙◌, refl, arith}
 use Rattle.std.specs.Prelude.{Result}
 use Rattle.atomic_table.specs.declared.shared.Seat.{Seat}
@@ -23,7 +23,7 @@ use Rattle.forest.specs.Traces.{shared_nodes}
 use Rattle.forest.proofs.StraightUpdate.{goes_as, through}
 
 module _ {S T M A E : Type 0} {s : Shape T} {m : Machine M T A} {e : EditMeaning E} {hand : Hand S} {f : Found} {B : Type 0} {old : Seat ℕ SeatView} {run : UpdateRun E B} {next behind : Result Next Stop} where
-  -- where it comes next as before, it has gone on
+  -- if the same comes next, it continues so
   pub tries_as : next ≡ behind → TryGoesOn s m e hand f old run next old run behind
   tries_as is = record {
     table = (refl, refl);
@@ -32,7 +32,7 @@ module _ {S T M A E : Type 0} {s : Shape T} {m : Machine M T A} {e : EditMeaning
     steps = rw is (omega arith);
   }
 
-  -- it goes on twice
+  -- it continues twice
   pub tries_on : {C D : Type 0} {new third : Seat ℕ SeatView} {now : UpdateRun E C} {last : UpdateRun E D} {end : Result Next Stop} → TryGoesOn s m e hand f old run next new now behind → TryGoesOn s m e hand f new now behind third last end → TryGoesOn s m e hand f old run next third last end
   tries_on a b = record {
     table = (b.table.0 ∙ a.table.0, b.table.1 ∙ a.table.1);
@@ -45,7 +45,7 @@ module _ {S T M A E : Type 0} {s : Shape T} {m : Machine M T A} {e : EditMeaning
   pub tries_nearer : {C : Type 0} {new : Seat ℕ SeatView} {now : UpdateRun E C} → TryGoesOn s m e hand f old run next new now behind → steps_made old < steps_made new → left_then e now f behind (shared_nodes hand.layout.now) < left_then e run f next (shared_nodes hand.layout.now)
   tries_nearer a moves = let steps = a.steps in omega (arith, steps, moves)
 
-  -- it goes on, and then leads to Q
+  -- it continues, and then leads to Q
   pub tries_end : {C : Type 0} {new third : Seat ℕ SeatView} {now : UpdateRun E C} {Q : Updater (hand_calls s m hand) e → List SeatedPass → Type 0} → TryGoesOn s m e hand f old run next new now behind → Leads new third (left_then e now f behind (shared_nodes hand.layout.now)) (λ u ps. UpdaterGoesOn u ps now f behind) Q → Leads old third (left_then e run f next (shared_nodes hand.layout.now)) (λ u ps. UpdaterGoesOn u ps run f next) Q
   tries_end a b = record {
     table = (b.table.0 ∙ a.table.0, b.table.1 ∙ a.table.1);
@@ -53,7 +53,7 @@ module _ {S T M A E : Type 0} {s : Shape T} {m : Machine M T A} {e : EditMeaning
     steps = (let before = a.steps in let after = b.steps in omega (arith, before, after));
   }
 
-  -- where it goes on, Q holds
+  -- if it continues, Q holds
   pub tries_stop : {C : Type 0} {new : Seat ℕ SeatView} {now : UpdateRun E C} {Q : Updater (hand_calls s m hand) e → List SeatedPass → Type 0} → ((u : Updater (hand_calls s m hand) e) → UpdaterGoesOn u new.me.0.passes now f behind → Q u new.me.0.passes) → TryGoesOn s m e hand f old run next new now behind → Leads old new (left_then e run f next (shared_nodes hand.layout.now)) (λ u ps. UpdaterGoesOn u ps run f next) Q
   tries_stop stops a = record { table = a.table; to = λ u x. stops u (a.to u x); steps = (let steps = a.steps in omega (arith, steps)) }
 

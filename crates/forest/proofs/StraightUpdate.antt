@@ -103,7 +103,7 @@ module _ {M E : Type 0} {o : Calls M} {e : EditMeaning E} (u : Updater o e) wher
   pub has_passes : 0 < o.layout.passes
   has_passes = subst (λ (l : Layout). 0 < l.passes) u.is_layout (let i = u.call.is_pass in omega (arith, i))
 
-  -- what it has gone on with does not depend on the place of the update
+  -- what it has continued with does not depend on the place of the update
   gone_anywhere : {A B : Type 0} (old : UpdateRun E UpdateAt) (m : UpdateRun E A) (at : B) (left : ℕ) → HasUpdateGoneOn e old m left left → HasUpdateGoneOn e old (standing m at) left left
   gone_anywhere old m at left x = record { edit = x.edit; called = x.called; limit = x.limit; tries = x.tries; spends = x.spends }
 
@@ -169,7 +169,7 @@ module _ {M E : Type 0} {o : Calls M} {e : EditMeaning E} (u : Updater o e) wher
   keeps_tries : (old now : ℕ) → now ≡ old → (old ≤ now + 1) × (now ≤ old)
   keeps_tries old now e = (omega (arith, e), omega (arith, e))
 
-  -- what its try does next, once it has told so and no more of the share is taken than may
+  -- what its try does next, once it has found this and no more of the share is taken than may
   module _ (ps : List SeatedPass) {A : Type 0} (m : UpdateRun E A) (f : Found) where
     gone_to : (old : UpdateRun E UpdateAt) (next : Next) → IsSameUpdate old m → m.tries ≡ old.tries → HasSpentForNext e old.share m f (Ok next) (node_tries old old.at) (scx_tries old old.at) → HasUpdateGoneOn e old (placed e m f next) (node_tries (placed e m f next) (placed e m f next).at) (scx_tries (placed e m f next) (placed e m f next).at)
     gone_to old next same tries spent = record { edit = p.0 ∙ same.0; called = p.1 ∙ same.1; limit = p.2 ∙ same.2; tries = keeps_tries old.tries (placed e m f next).tries (placed_tries m f next ∙ tries); spends = spent }
@@ -177,7 +177,7 @@ module _ {M E : Type 0} {o : Calls M} {e : EditMeaning E} (u : Updater o e) wher
         p : IsSameUpdate m (placed e m f next)
         p = placed_same e m f next
 
-    -- behind the step of which it was told it goes on so
+    -- after the step whose result it got it continues so
     pub goes_behind : (old : UpdateRun E UpdateAt) (v : ℕ) (next : Result Next Stop) → IsSameUpdate old m → m.tries ≡ old.tries → HasSpentForNext e old.share m f next (node_tries old old.at) (scx_tries old old.at) → (x : HostedIsTold u ps old v) → UpdateGoesOn e u.call (history_of u.call.layout.mode x.known) m f next → UpdaterGoesOn u ps m f next
     goes_behind old v (Ok next) is tries spent x z =
         let gone = gone_to old next is tries spent in
@@ -190,14 +190,14 @@ module _ {M E : Type 0} {o : Calls M} {e : EditMeaning E} (u : Updater o e) wher
     gone_behind : (old now : UpdateRun E UpdateAt) (nodes scx : ℕ) → IsSameUpdate m now → (m.tries ≤ now.tries + 1) × (now.tries ≤ m.tries) → Spends (e.most_nodes now.edit) m.share now.share m.tries nodes m.tries scx → m.tries ≡ old.tries → HasUpdateGoneOn e old m m.tries m.tries → HasUpdateGoneOn e old now nodes scx
     gone_behind old now nodes scx is fewer spent tries x = record { edit = is.0 ∙ x.edit; called = is.1 ∙ x.called; limit = is.2 ∙ x.limit; tries = fewer_then tries fewer; spends = joined_spends (e.most_nodes now.edit) old.share m.share now.share (node_tries old old.at) nodes (scx_tries old old.at) scx m.tries (subst (λ ed. Spends (e.most_nodes ed) old.share m.share (node_tries old old.at) m.tries (scx_tries old old.at) m.tries) (sym is.0) x.spends) spent }
 
-    -- where its try ends so, it stands as the turn says that it makes of that
+    -- if its try ends so, it is as the turn says that it makes of that
     pub stops : (now : UpdateRun E UpdateAt) (stop : Stop) (turn : Turn Updated) → IsSameUpdate m now → (m.tries ≤ now.tries + 1) × (now.tries ≤ m.tries) → IsSpending e turn m.share now m.tries m.tries → ((h : History) → IsRun TreeAllows u.call.layout h → MayStop e u.call h m f stop → UpdateTurn e u.call h now turn) → UpdaterStops u ps m f stop → HostedStands u ps now turn
     stops now stop (Ask s) is fewer spent next x =
         let gone = gone_behind x.so.old now (node_tries now now.at) (scx_tries now now.at) is fewer spent x.so.tries x.so.goes in
         record { known = x.known; is = x.is; sound = x.sound; so = (u.turns x.so.old now _ x.so.got s gone x.so.was (next _ (u.runs _ x.sound) x.so.may), goes_on (u.with_run x.so.old) (u.stays x.so.old now gone) x.so.course) }
     stops now stop (Done a) is fewer spent next x = record { known = x.known; is = x.is; sound = x.sound; so = record { old = x.so.old; got = x.so.got; was = x.so.was; goes = gone_behind x.so.old now now.tries now.tries is fewer spent x.so.tries x.so.goes; answers = next _ (u.runs _ x.sound) x.so.may; course = x.so.course } }
 
-  -- behind its walk it goes on as its try does
+  -- after its walk it continues as its try does
   pub finds : (ps : List SeatedPass) {A : Type 0} (m now : UpdateRun E A) (goal : Goal) (turn : LastTurns) (f : Found) (next : Result Next Stop) → goal ≡ e.goal m.edit → IsSameUpdate m now → now.tries ≡ m.tries → HasSpentForNext e m.share now f next (m.tries + 1) (m.tries + 1)
       → ((b h : History) → IsRun TreeAllows u.call.layout h → IsTry u.call b h m.limit m.tries → IsUntouched u.call b m.share → MayBeginTry e m (begun_at u.call b) h → IsQuietSince u.call.layout u.call.pass b h → HasFilledNone u.call.pass h b → HasFoundGoal (e.goal m.edit) (begun_at u.call b) h f → UpdateGoesOn e u.call h now f next)
       → WalkerFinds (walker m) ps goal turn f → UpdaterGoesOn u ps now f next
@@ -211,7 +211,7 @@ module _ {M E : Type 0} {o : Calls M} {e : EditMeaning E} (u : Updater o e) wher
       w : Walks e (walking m x.last) (begun_at u.call y.0) (history_of u.call.layout.mode x.so.known) x.last.goal × WalkIsTold x.last (begun_at u.call y.0) (history_of u.call.layout.mode x.so.known) x.told
       w = y.3
 
-  -- what it goes on with is what its equal is
+  -- what it continues with is what its equal is
   pub goes_as : (ps : List SeatedPass) {A : Type 0} (m : UpdateRun E A) (f : Found) (next equal : Result Next Stop) → next ≡ equal → UpdaterGoesOn u ps m f next → UpdaterGoesOn u ps m f equal
   goes_as ps m f next equal is x = subst (λ (n : Result Next Stop). UpdaterGoesOn u ps m f n) is x
 
@@ -253,7 +253,7 @@ module _ {M E : Type 0} {o : Calls M} {e : EditMeaning E} (u : Updater o e) wher
   pub looks_asked : (ps : List SeatedPass) {A : Type 0} (m : UpdateRun E A) (f : Found) (node : NodeNo) → UpdaterTries u ps m f (LookNext node) → HasAsked e m f
   looks_asked ps m f node x = (u.opens (placed e m f (LookNext node)) (history_of u.call.layout.mode x.known) (next_step e m f (LookNext node)) x.so.0).3.1.asked
 
-  -- with the snapshot it goes on as its turn says
+  -- with the snapshot it continues as its turn says
   pub looks_on : (ps : List SeatedPass) {A : Type 0} (m now : UpdateRun E A) (f : Found) (node : NodeNo) (snap : Snap) (next : Result Next Stop) → IsSameUpdate m now → now.tries ≡ m.tries → (HasAsked e m f → HasSpentForNext e m.share now f next (m.tries + 1) (m.tries + 1))
       → ((b h : History) → IsRun TreeAllows u.call.layout h → IsTry u.call b h m.limit m.tries → CanLook e m (begun_at u.call b) h f → e.looks m.edit f m.snaps.items ≡ At snap.node → IsSnapshot u.call.layout h snap.node.0 snap → HasFoundThere u.call.pass h b snap.node.0 snap.scx.0 → UpdateGoesOn e u.call h now f next)
       → LookerSnaps (looker m f) ps node snap → UpdaterGoesOn u ps now f next
@@ -281,7 +281,7 @@ module _ {M E : Type 0} {o : Calls M} {e : EditMeaning E} (u : Updater o e) wher
       met : HasFoundThere u.call.pass h y.0 snap.node.0 snap.scx.0
       met = there_wider u.call.pass h y.3.0 y.0 snap.node.0 snap.scx.0 l.since (subst (λ (n : NodeNo). HasFoundThere u.call.pass h y.3.0 n.0 snap.scx.0) (sym x.of_node) (x.found (begun_at (begun_at u.call y.0) y.3.0) h (u.runs h x.so.sound) y.3.2))
 
-  -- where something is in the way, it waits for the state again
+  -- if something is in the way, it waits for the state again
   pub looks_again : (ps : List SeatedPass) {A : Type 0} (m : UpdateRun E A) (f : Found) (node : NodeNo) (b : Bool) (scx : ScxNo) → InnerWaits (looker m f) ps (llx_at node (StateAgain b scx)) (load LoadState (state scx.0)) → UpdaterTries u ps m f (WaitNext node b scx)
   unfolding looker
   looks_again ps m f node b scx x = x
@@ -293,7 +293,7 @@ module _ {M E : Type 0} {o : Calls M} {e : EditMeaning E} (u : Updater o e) wher
   pub ends_full : (ps : List SeatedPass) {A : Type 0} (m : UpdateRun E A) (f : Found) (full : Full) → UpdaterStops u ps m f (FullStop full) → UpdaterEnds u ps m (FullAnswer full)
   ends_full ps m f full x = record { known = x.known; is = x.is; sound = x.sound; so = let y = x.so in record { old = y.old; got = y.got; was = y.was; goes = gone_anywhere y.old m Start m.tries y.goes; answers = y.may; course = y.course } }
 
-  -- Its machine goes on
+  -- Its machine continues
 
   -- what comes next does not depend on the place of the update
   pub goes_there : (ps : List SeatedPass) {A : Type 0} (m : UpdateRun E A) (start : UpdateRun E UpdateAt) (f : Found) (next : Result Next Stop) → start ≡ standing m Start → UpdaterGoesOn u ps m f next → UpdaterGoesOn u ps start f next
@@ -310,7 +310,7 @@ module _ {M E : Type 0} {o : Calls M} {e : EditMeaning E} (u : Updater o e) wher
   pub blocked_there : (ps : List SeatedPass) {A : Type 0} (m : UpdateRun E A) (start : UpdateRun E UpdateAt) (f : Found) (scx : ScxNo) (help : HelpRun) → start ≡ standing m Start → UpdaterIsBlocked u ps m f scx help → UpdaterIsBlocked u ps start f scx help
   blocked_there ps m start f scx help is x = subst (λ (r : UpdateRun E UpdateAt). UpdaterIsBlocked u ps r f scx help) (sym is) x
 
-  -- once its machine has begun what comes next, it stands there
+  -- once its machine has begun what comes next, it is at that place
   pub stands_there : (ps : List SeatedPass) (m now : UpdateRun E UpdateAt) (f : Found) (next : Next) (turn : Turn Updated) → now ≡ placed e m f next → turn ≡ Ask (next_step e m f next) → UpdaterTries u ps m f next → HostedStands u ps now turn
   stands_there ps m now f next turn place asks x = rw (place, asks) x
 
@@ -322,16 +322,16 @@ module _ {M E : Type 0} {o : Calls M} {e : EditMeaning E} (u : Updater o e) wher
   may_spend : (ps : List SeatedPass) (m : UpdateRun E UpdateAt) (v : ℕ) → HostedIsTold u ps m v → MaySpend e m m.at
   may_spend ps m v x = update_spends e m u.call _ (Some v) (u.tells m _ (Some v) x.so.0)
 
-  -- told what its step has found, it has gone on as its turn says
+  -- given what its step has found, it has continued as its turn says
   pub goes_told : (ps : List SeatedPass) (m now : UpdateRun E UpdateAt) (v : ℕ) (turn : Turn Updated) → IsSameUpdate m now → (m.tries ≤ now.tries + 1) × (now.tries ≤ m.tries) → (MaySpend e m m.at → IsSpending e turn m.share now (node_tries m m.at) (scx_tries m m.at)) → HostedIsTold u ps m v → MatchTurn turn (λ _. (inner_update e).goes m now) (λ _. (inner_update e).ends m now)
   goes_told ps m now v (Ask s) is fewer spent x = record { edit = is.0; called = is.1; limit = is.2; tries = fewer; spends = spent (may_spend ps m v x) }
   goes_told ps m now v (Done a) is fewer spent x = record { edit = is.0; called = is.1; limit = is.2; tries = fewer; spends = spent (may_spend ps m v x) }
 
-  -- what it is told fits the taken nodes
+  -- what it gets fits the taken nodes
   pub told_fits : (ps : List SeatedPass) (m : UpdateRun E UpdateAt) (v : ℕ) → HostedIsTold u ps m v → UpdateFits e m (Some v) (shared_nodes o.layout)
   told_fits ps m v x = update_told e m u.call _ (Some v) (shared_nodes o.layout) (u.runs _ x.sound) (u.tells m _ (Some v) x.so.0) (few_taken o.allows o.layout u.call _ u.is_layout x.sound)
 
-  -- its answer is that of the update that stands nowhere again
+  -- its answer is that of the update that has no place again
   pub ends_nowhere : (ps : List SeatedPass) {B : Type 0} (m : UpdateRun E UpdateAt) (at : B) (now : UpdateRun E B) (a : Updated) → now ≡ standing m at → HostedEnds u ps m a → UpdaterEnds u ps now a
   ends_nowhere ps m at now a is x = rw is record { known = x.known; is = x.is; sound = x.sound; so = let y = x.so in record { old = y.old; got = y.got; was = y.was; goes = gone_anywhere y.old m Start m.tries y.goes; answers = y.answers; course = y.course } }
 
@@ -344,7 +344,7 @@ module _ {M E : Type 0} {o : Calls M} {e : EditMeaning E} (u : Updater o e) wher
       reads : Reads e (placed e m f (ReadNext n part)) (begun_at u.call (u.opens (placed e m f (ReadNext n part)) (history_of u.call.layout.mode x.known) (next_step e m f (ReadNext n part)) x.so.0).0) (history_of u.call.layout.mode x.known) f n part
       reads = (u.opens (placed e m f (ReadNext n part)) (history_of u.call.layout.mode x.known) (next_step e m f (ReadNext n part)) x.so.0).3.0
 
-  -- with what the load has told it goes on as its turn says
+  -- with what the load has found it continues as its turn says
   pub reads_on : (ps : List SeatedPass) {A : Type 0} (m now : UpdateRun E A) (f : Found) (n : NodeNo) (part : SettledPart) (v : ℕ) (next : Result Next Stop) → IsSameUpdate m now → now.tries ≡ m.tries → HasSpentForNext e m.share now f next m.tries (m.tries + 1)
       → ((b h : History) → IsRun TreeAllows u.call.layout h → IsTry u.call b h m.limit m.tries → Reads e m (begun_at u.call b) h f n part → value h (node n.0 (Settled part)) ≡ v → UpdateGoesOn e u.call h now f next)
       → HostedIsTold u ps (placed e m f (ReadNext n part)) v → UpdaterGoesOn u ps now f next
@@ -356,11 +356,11 @@ module _ {M E : Type 0} {o : Calls M} {e : EditMeaning E} (u : Updater o e) wher
       y : UpdateIsReady e (placed e m f (ReadNext n part)) u.call h (Some v)
       y = u.tells (placed e m f (ReadNext n part)) h (Some v) x.so.0
 
-  -- behind the load of a word it waits for the load of the next
+  -- after the load of a word it waits for the load of the next
   reads_to : (ps : List SeatedPass) {A : Type 0} (m : UpdateRun E A) (f : Found) (n : NodeNo) (part next : SettledPart) (v : ℕ) → next_read (read_with m.read part v) ≡ Some next → HostedIsTold u ps (placed e m f (ReadNext n part)) v → UpdaterTries u ps (told m part v) f (ReadNext n next)
   reads_to ps m f n part next v is x = reads_on ps m (told m part v) f n part v (Ok (ReadNext n next)) (refl, refl, refl) refl (told_spends e m f n part next v) (λ b h run try reads there. told_turn e m u.call b h f n part next v try reads there is) x
 
-  -- behind that of a pair's key for its value, and then for the high half
+  -- after that of a pair's key for its value, and then for the high half
   pub waits_value : (ps : List SeatedPass) {A : Type 0} (m : UpdateRun E A) (f : Found) (n : NodeNo) (slot : Slot) (v : ℕ) → is_at_pair m.read ≡ true → next_read m.read ≡ Some (Key slot) → HostedIsTold u ps (placed e m f (ReadNext n (Key slot))) v → UpdaterTries u ps (told m (Key slot) v) f (ReadNext n (Value slot))
   waits_value ps m f n slot v at_pair is x = reads_to ps m f n (Key slot) (Value slot) v (key_then_value m.read slot v at_pair is) x
 
@@ -371,7 +371,7 @@ module _ {M E : Type 0} {o : Calls M} {e : EditMeaning E} (u : Updater o e) wher
   abbrev pub filling : {A : Type 0} → UpdateRun E A → Found → Nth → NodeWord → UpdateRun E UpdateAt
   filling m f nth part = standing m (Fill f nth part)
 
-  -- behind a fill that is not a node's last it waits for the next
+  -- after a fill that is not a node's last it waits for the next
   fills_next_word : (ps : List SeatedPass) {A : Type 0} (m : UpdateRun E A) (f : Found) (nth : Nth) (part next : NodeWord) (told : ℕ) → FillsWell e → part_behind (pieces_now e m f nth) part ≡ Some next → HostedIsTold u ps (filling m f nth part) told → HostedWaits u ps (filling m f nth next) (fills e m f nth next)
   fills_next_word ps m f nth part next told sound behind x = record {
     known = x.known;
@@ -392,7 +392,7 @@ module _ {M E : Type 0} {o : Calls M} {e : EditMeaning E} (u : Updater o e) wher
       can : CanFill e (filling m f nth part) (begun_at u.call y.0) h f nth next
       can = fills_next e (filling m f nth part) (begun_at u.call y.0) h f nth part y.3 next sound behind
 
-  -- and so it goes on behind a fill, to the next, or to the end
+  -- and so it continues after a fill, to the next, or to the end
   pub fills_on : (ps : List SeatedPass) {A : Type 0} (m : UpdateRun E A) (f : Found) (nth : Nth) (part : NodeWord) (next : Option NodeWord) (told : ℕ) → FillsWell e → part_behind (pieces_now e m f nth) part ≡ next → HostedIsTold u ps (filling m f nth part) told → UpdaterFills u ps m f nth next
   fills_on ps m f nth part (Some next) told sound behind x = fills_next_word ps m f nth part next told sound behind x
   fills_on ps m f nth part None told sound behind x = (part, told, behind, x)
@@ -401,7 +401,7 @@ module _ {M E : Type 0} {o : Calls M} {e : EditMeaning E} (u : Updater o e) wher
   pub fill_as : {A : Type 0} (m : UpdateRun E A) (f : Found) (nth : Nth) (part : NodeWord) (p : Piece) (n : NodeNo) (v : ℕ) → p ≡ pieces_now e m f nth → n ≡ nth_node m.nodes nth → v ≡ word_of p part → fills e m f nth part ≡ record { kind = FillKind; word = NodeOf n part; access = Store v }
   fill_as m f nth part p n v is_p is_n is_v i = record { kind = FillKind; word = NodeOf (sym is_n i) part; access = Store (sym (is_v ∙ ap (λ q. word_of q part) is_p) i) }
 
-  -- behind a node's last fill it goes on as its turn says
+  -- after a node's last fill it continues as its turn says
   pub fills_end : (ps : List SeatedPass) {A : Type 0} (m now : UpdateRun E A) (f : Found) (nth : Nth) (part : NodeWord) (v : ℕ) (next : Result Next Stop) → IsSameUpdate m now → now.tries ≡ m.tries → (0 < m.share.scx → HasSpentForNext e m.share now f next m.tries (m.tries + 1))
       → ((b h : History) → IsRun TreeAllows u.call.layout h → IsTry u.call b h m.limit m.tries → IsFilledUpTo e m (begun_at u.call b) h f nth part → UpdateGoesOn e u.call h now f next)
       → HostedIsTold u ps (filling m f nth part) v → UpdaterGoesOn u ps now f next
@@ -475,7 +475,7 @@ module _ {M E : Type 0} {o : Calls M} {e : EditMeaning E} (u : Updater o e) wher
   unfolding changer
   is_blocked ps m f scx help run is x = subst (λ (r : ScxRun). HostedWaits u ps (scxing m f r) (all_frozen_load scx)) is x
 
--- its steps are those of its walk, and those that are left behind it
+-- its steps are those of its walk, and those that are left after it
 pub walk_steps : (now old walk left tries rest : ℕ) → now ≤ old + walk → left ≤ tries + rest → now + left ≤ old + (tries + (walk + rest))
 walk_steps now old walk left tries rest a b = omega (arith, a, b)
 
@@ -486,12 +486,12 @@ look_steps now old left tries looks works a b = omega (arith, a, b)
 pub both_steps : (now then bound : ℕ) → now ≤ then → then ≤ bound → now ≤ bound
 both_steps now then bound a b = omega (arith, a, b)
 
--- fewer words are left behind a fill
+-- fewer words are left after a fill
 pub fewer_fills_then : (p : Piece) (part : NodeWord) (next : Option NodeWord) → part_behind p part ≡ next → fills_then p next < fills_then p (Some part)
 fewer_fills_then p part None e = omega arith
 fewer_fills_then p part (Some next) e = let less = fewer_fills p part next e in omega (arith, less)
 
--- and what is filled behind a word is to be filled
+-- and what is filled after a word is to be filled
 pub filled_next : (p : Piece) (part : NodeWord) (next : Option NodeWord) → next ≡ part_behind p part → IfSome next (λ word. is_filled p word ≡ true)
 filled_next p part None e = tt
 filled_next p part (Some next) e = behind_filled p part next (sym e)
@@ -528,7 +528,7 @@ left_standing e m start f next nodes is = rw is (there next)
     there (Ok (ChangeNext scx)) = refl
     there (Err stop) = refl
 
--- so much is left where its machine stands once it has begun what comes next
+-- how many steps are left at its machine's place once it has begun what comes next
 pub left_there : {E : Type 0} (e : EditMeaning E) (m now : UpdateRun E UpdateAt) (f : Found) (next : Next) (turn : Turn Updated) (nodes : ℕ) → now ≡ placed e m f next → turn ≡ Ask (next_step e m f next) → weight turn (update_left e now nodes) ≡ left_then e m f (Ok next) nodes
 left_there e m now f next turn nodes place asks = rw (place, asks) refl
 

@@ -80,13 +80,13 @@ module _ {M : Type 0} {o : Calls M} (w : Walker o) (ps : List SeatedPass) where
     pub to_head : (level : ℕ) (side : Side) (n : ℕ) → WalkerIsTold w ps (walk_at goal t (Child level side)) turn n → WalkerWaits w ps (walk_at goal (trail_below t side n) (Head level)) turn (load LoadSettled (node n (Settled HeadWord)))
     to_head level side n = goes (walk_at goal t (Child level side)) (walk_at goal (trail_below t side n) (Head level)) turn n _ tt refl (λ d h x. child_to_head goal t d h level side n x)
 
-  -- what it is told leads it no deeper than the taken nodes allow
+  -- what it gets leads it no deeper than the taken nodes allow
   pub fits : (m : WalkRun) (turn : LastTurns) (v : ℕ) → WalkerIsTold w ps m turn v → WalkFitsAt m.at v (shared_nodes o.layout)
   fits m turn v x =
       let y = w.tells (m, turn) _ v x.sound x.so.0 in
       walk_told m y.0 _ (Some v) (shared_nodes o.layout) y.1.run.1 y.1 (few_taken o.allows o.layout w.call _ w.is_layout x.sound)
 
--- a node's head, and what is loaded behind it, take at most three steps
+-- a node's head, and what is loaded after it, take at most three steps
 pub fewer : (p : WalkAt) (v nodes : ℕ) (head : HeadParts) → LoadsHead p → head_of v ≡ head → WalkFitsAt p v nodes → head.level + 1 < 2 + nodes → 3 + walk_left (Head head.level) nodes ≤ walk_left p nodes
 fewer Root v nodes head x is fits deep = omega (arith, deep)
 fewer (Head above) v nodes head x is fits deep = let rises : above < head.level = subst (λ (k : HeadParts). above < k.level) is fits.0 in omega (arith, rises, deep)
@@ -98,7 +98,7 @@ fewer (Pair k more slot) v nodes head x is fits deep = absurd x
 fewer (Value k more slot low) v nodes head x is fits deep = absurd x
 fewer (High k more slot low high) v nodes head x is fits deep = absurd x
 
--- a leaf takes at most seven behind its head
+-- a leaf takes at most seven after its head
 pub some_left : (p : WalkAt) (v nodes : ℕ) → LoadsHead p → WalkFitsAt p v nodes → 7 ≤ walk_left p nodes
 some_left Root v nodes x fits = omega arith
 some_left (Head above) v nodes x fits = let a = fits.0 in let b = fits.1 in omega (arith, a, b)
@@ -110,7 +110,7 @@ some_left (Pair k more slot) v nodes x fits = absurd x
 some_left (Value k more slot low) v nodes x fits = absurd x
 some_left (High k more slot low high) v nodes x fits = absurd x
 
--- the slot behind one is the next, of four
+-- the slot after one is the next, of four
 slot_after : (slot behind next : Slot) (t : Bool) → slot_no behind ≡ suc (slot_no slot) → (if t then Some behind else None) ≡ Some next → slot_no next ≡ suc (slot_no slot)
 slot_after slot behind next true e i = subst (λ s. slot_no s ≡ suc (slot_no slot)) (ap (λ o. unwrap_or o behind) i) e
 slot_after slot behind next false e i = absurd (let z : None ≡ Some next = i in cc)

@@ -64,7 +64,7 @@ module _ (was : PassView) (is_pass : was.number < was.layout.passes) (number : �
     told_by (Some edit) call told first rests y = change_says call told edit first rests y
     told_by None call told first rests y = record { read = y.read; done = none_more y.none }
 
-    -- what is told, with what its share had as the call began, and has now
+    -- what is answered, with what its share had as the call began, and has now
     pub told_says : (call : MapCall) (told : MapReply) → RestsWith call_by (run_of was) was.share → RestsWith call_by (run_of then) left → HasTold call_by (run_of then) call told → IsChangeOrReading (edit_of call told) was then call told
     told_says call told first rests y = told_by (edit_of call told) call told first rests y
 

@@ -43,7 +43,7 @@ module _ {K V : Type 0} (valid_key : K → Type 0) (key : K → ℕ) (valid_valu
     abbrev Ended : History → Type 0
     Ended = Answered valid_key key valid_value value_word p x s m reply
 
-    -- the machine has come from the first to the last in this call
+    -- the machine has got from the first to the last in this call
     abbrev pub IsOver : Type 0
     IsOver = HoldsForCall allows s.me.0.passes call_made (λ h. Ended h × Trace allows (DictWaits (IsWordOf valid_key key) (IsWordOf valid_value value_word)) (IsSameDictCall valid_key key valid_value value_word) call_made first m h)
 
@@ -76,7 +76,7 @@ module _ {K V : Type 0} (valid_key : K → Type 0) (key : K → ℕ) (valid_valu
           }
 
       module _ (share : Remaining) (blamed : List ℕ) (is_share : share_of m.run ≡ share) (is_blamed : blamed ≡ blamed_by_reply reply p.blamed) where
-        -- the pass behind it
+        -- the pass afterwards
         abbrev pub left : Inside T
         left = left_with p x s number Ended share blamed
 

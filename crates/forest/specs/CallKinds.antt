@@ -7,7 +7,7 @@ use Rattle.arena.specs.declared.step.Step.{Step}
 use Rattle.arena.specs.History.{History}
 use Rattle.arena.specs.Machines.{Call}
 
--- What is said of the calls of a machine: in which runs they are made, when it may be told
+-- What is said of the calls of a machine: in which runs they are made, when it may get
 -- something, when it waits for a step, what of it stays the same, and their layout and number.
 pub record Calls (M : Type 0) : Type 1 where
   pub allows : Layout → History → ℕ → Type 0

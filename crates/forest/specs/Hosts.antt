@@ -12,8 +12,8 @@ use Rattle.forest.specs.CallKinds.{Calls}
 use Rattle.forest.specs.Traces.{HoldsForCall, Trace, Waits, Told}
 
 -- What is said of a machine that is called inside another's call: in which runs it is called, when
--- it may be told something, when it waits for a step, which answers are right; and to which places
--- it may go on from a place, with a step and with its answer.
+-- it may get something, when it waits for a step, which answers are right; and to which places
+-- it may continue from a place, with a step and with its answer.
 pub record InnerCall (N A : Type 0) : Type 1 where
   pub allows : Layout → History → ℕ → Type 0
   pub ready : N → Call → History → Option ℕ → Type 0
@@ -38,13 +38,13 @@ module _ {M N A : Type 0} (o : Calls M) (i : InnerCall N A) where
     pub with_run : N → M
     -- what the machine waits for, its inner machine does
     pub opens : (m : N) (h : History) (s : Step) → o.waits (with_run m) call h s → i.waits m call h s
-    -- what the machine is told, its inner machine is told
+    -- what the machine gets, its inner machine gets
     pub tells : (m : N) (h : History) (got : Option ℕ) → o.ready (with_run m) call h got → i.ready m call h got
     -- what its inner machine then waits for, the machine does
     pub turns : (old now : N) (h : History) (got : Option ℕ) (s : Step) → i.goes old now → o.ready (with_run old) call h got → i.waits now call h s → o.waits (with_run now) call h s
     pub stays : (old now : N) → i.goes old now → o.same (with_run old) (with_run now)
 
--- the inner machine as it was when it was called last, behind which it has answered
+-- the inner machine as it was when it was called last; after that it has answered
 pub record HasHostedAnswered {M N A : Type 0} {o : Calls M} {i : InnerCall N A} (k : Host o i) (m : N) (a : A) (h : History) : Type 0 where
   pub old : N
   pub got : Option ℕ
@@ -62,11 +62,11 @@ module _ {M N A : Type 0} {o : Calls M} {i : InnerCall N A} (k : Host o i) (ps :
   abbrev pub HostedWaits : N → Step → Type 0
   HostedWaits m step = Waits o.allows o.waits o.same k.call ps k.first (k.with_run m) step
 
-  -- the step of its inner machine has told v
+  -- the step of its inner machine has found v
   abbrev pub HostedIsTold : N → ℕ → Type 0
   HostedIsTold m v = Told o.allows o.waits o.same k.call ps k.first o.ready (k.with_run m) v
 
-  -- its inner machine has answered, behind what it was told last
+  -- its inner machine has answered, after what it got last
   abbrev pub HostedEnds : N → A → Type 0
   HostedEnds m a = HoldsForCall o.allows ps k.call (HasHostedAnswered k m a)
 

@@ -13,7 +13,7 @@ module _ {M N : Type 0} (o : Calls M) (i : Inner N) where
   abbrev pub WaitsInside : Seat ℕ SeatView → Step → Type 0
   WaitsInside seat step = (k : Inside o i) × (m : N) × InnerWaits k seat.me.0.passes m step
 
-  -- from this seat the step is made, which brings it to that one, and has told v
+  -- from this seat the step is made, which leads to that one, and has found v
   pub record MakesInside (old new : Seat ℕ SeatView) (step : Step) (v : ℕ) : Type 0 where
     pub table : StaysAtTable old new
     pub told : (k : Inside o i) (m : N) → InnerWaits k old.me.0.passes m step → InnerIsTold k new.me.0.passes m v

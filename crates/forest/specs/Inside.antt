@@ -7,9 +7,9 @@ use Rattle.forest.specs.declared.view.SeatedPass.{SeatedPass}
 use Rattle.forest.specs.CallKinds.{Calls}
 use Rattle.forest.specs.Traces.{Waits, Told}
 
--- What is said of a machine inside another: in which contexts it stands there, as in a call of its
--- own that began later; what it has been told in one; for which step it waits; and to which places
--- it may go on from a place.
+-- What is said of a machine inside another: in which contexts it is there, as in a call of its
+-- own that began later; what it has got in one; for which step it waits; and to which places
+-- it may continue from a place.
 pub record Inner (N : Type 0) : Type 1 where
   pub Context : Type 0
   pub told : Context → N → History → ℕ → Type 0
@@ -25,9 +25,9 @@ module _ {M N : Type 0} (o : Calls M) (i : Inner N) where
     -- the machine with which it began, and that with its inner machine at some place
     pub first : M
     pub with_run : N → M
-    -- what the machine is told, its inner machine is told
+    -- what the machine gets, its inner machine gets
     pub tells : (m : N) (h : History) (v : ℕ) → IsRun o.allows call.layout h → o.ready (with_run m) call h (Some v) → (d : i.Context) × i.told d m h v
-    -- what its inner machine waits for once it is told something, the machine does
+    -- what its inner machine waits for once it gets something, the machine does
     pub turns : (old now : N) (h : History) (v : ℕ) (s : Step) → i.goes old now → ((d : i.Context) → i.told d old h v → i.waits d now h s) → IsRun o.allows call.layout h → o.ready (with_run old) call h (Some v) → o.waits (with_run now) call h s
     pub stays : (old now : N) → i.goes old now → o.same (with_run old) (with_run now)
 
@@ -36,6 +36,6 @@ module _ {M N : Type 0} {o : Calls M} {i : Inner N} (k : Inside o i) (ps : List 
   abbrev pub InnerWaits : N → Step → Type 0
   InnerWaits m step = Waits o.allows o.waits o.same k.call ps k.first (k.with_run m) step
 
-  -- the step of its inner machine has told v
+  -- the step of its inner machine has found v
   abbrev pub InnerIsTold : N → ℕ → Type 0
   InnerIsTold m v = Told o.allows o.waits o.same k.call ps k.first o.ready (k.with_run m) v

@@ -10,7 +10,7 @@ use Rattle.forest.specs.Traces.{seat_steps}
 abbrev pub steps_made : Seat ℕ SeatView → ℕ
 steps_made seat = seat_steps seat.me.0.passes
 
--- From this seat a call comes to that one in at most so many steps: it stays at the table, and of
+-- From this seat a call gets to that one in at most `most` steps: it stays at the table, and of
 -- any call of the kind K of which P held, Q holds.
 pub record Leads {K : Type 0} (old new : Seat ℕ SeatView) (most : ℕ) (P Q : K → List SeatedPass → Type 0) : Type 0 where
   pub table : StaysAtTable old new

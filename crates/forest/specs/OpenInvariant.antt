@@ -33,7 +33,7 @@ open_view o = record {
   over = o.over;
 }
 
--- The fields of this pass, at a seat that has it alone, told from what contracts see of it.
+-- The fields of this pass, at a seat that has it alone, from what contracts see of it.
 abbrev pub pass_as : {T : Type 0} → PassView → Seat ℕ SeatView → pass.Inside T
 pass_as p s = record {
   number = record { 0 = p.number };
@@ -52,7 +52,7 @@ next_call p is_pass = record { layout = p.layout; pass = p.number; is_pass = is_
 pub record IsOpen {K V : Type 0} (valid_key : K → Type 0) (key : K → ℕ) (valid_value : V → Type 0) (value : V → ℕ) (o : Inside K V) : Type 0 where
   -- as it began its pass was one between two calls
   pub pass : IsPass (TypedAllows (IsWordOf valid_key key) (IsWordOf valid_value value)) Tree (pass_as {T = Dict K V} o.began.value o.seat)
-  -- of which only the seat and the share have changed
+  -- only the seat and the share of it have changed
   pub table : o.seat.table_id ≡ o.began.value.table
   pub bare : o.seat.me.1 ≡ []
   pub number : o.number.0 ≡ o.began.value.number

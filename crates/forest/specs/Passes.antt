@@ -78,7 +78,7 @@ pub record Ground : Type 0 where
   pub layout : Layout
   pub tries : ℕ
 
--- the forest of this table and layout, whose calls try so often
+-- the forest of this table and layout, whose calls make at most this many tries
 abbrev pub ground : TableId → Layout → ℕ → Ground
 ground table lay tries = record { table = table; layout = lay; tries = tries }
 
@@ -90,7 +90,7 @@ IsOn table lay p = (p.table ≡ table) × (p.layout ≡ lay)
 abbrev pub IsOf : Ground → PassView → Type 0
 IsOf f = IsOn f.table f.layout
 
--- the same pass, later on: the run that it knows goes on from what it knew
+-- the same pass, later on: the run that it knows extends what it knew
 pub record IsLaterView (old new : PassView) : Type 0 where
   pub table : new.table ≡ old.table
   pub layout : new.layout ≡ old.layout
@@ -101,11 +101,11 @@ pub record IsLaterView (old new : PassView) : Type 0 where
 abbrev pub taken_of : PassView → ℕ
 taken_of p = p.layout.scx - p.share.scx
 
--- behind the start, P holds of each row of pass c
+-- after the start, P holds of each row of pass c
 abbrev pub HoldsOfOwn : (Row → Type 0) → ℕ → History → History → Type 0
 HoldsOfOwn P c start h = (r : Row) (before : History) → Extends h (r ⊳ before) → Extends before start → r.pass.0 ≡ c → P r
 
--- behind the start, each row of pass c is of its call of this number
+-- after the start, each row of pass c is of its call of this number
 abbrev pub AreOfCall : ℕ → ℕ → History → History → Type 0
 AreOfCall c number = HoldsOfOwn (λ r. r.call ≡ number) c
 
@@ -131,11 +131,11 @@ Each P (x ∷ xs) = P x × Each P xs
 
 -- Blame lists
 
--- how often the SCX-record s stands in a list
+-- how many times the SCX-record s is in a list
 abbrev pub times_in : List ℕ → ℕ → ℕ
 times_in blamed s = count_by (nat_eq s) blamed
 
--- In a run the SCX-record s has frozen these nodes, no two of them the same. It stands in the blame
+-- In a run the SCX-record s has frozen these nodes, no two of them the same. It is in the blame
 -- list once at most for each of them, and if it is finished there once more at most.
 pub record IsBlamedFor (h : History) (blamed : List ℕ) (s : ℕ) : Type 0 where
   pub nodes : List ℕ
@@ -145,8 +145,8 @@ pub record IsBlamedFor (h : History) (blamed : List ℕ) (s : ℕ) : Type 0 wher
   pub most : times_in blamed s ≤ suc (length nodes)
 
 -- The blame list has SCX-records of other passes' shares, each of which an info word has named in
--- the run that the pass knows. None stands there more than five times: once for each of the nodes
--- that it covers, of which there are four at most, and once when it is finished. In cells each is
+-- the run that the pass knows. None is there more than five times: once for each of the nodes
+-- that it covers, at most four, and once when it is finished. In cells each is
 -- finished in the run, and none of them is blamed twice; a call on the tree may name one that is in
 -- progress, and name it again.
 pub record HasBlamed (p : PassView) : Type 0 where
@@ -161,7 +161,7 @@ pub record HasBlamed (p : PassView) : Type 0 where
 
 -- the call of this number has brought the pass further
 pub record HasGoneOn (allows : Layout → History → ℕ → Type 0) (old new : PassView) (number most : ℕ) (blamed : List ℕ) : Type 0 where
-  -- the run that it knows goes on from what it knew, and is lawful
+  -- the run that it knows extends what it knew, and is lawful
   pub later : IsLaterView old new
   pub lawful : IsRun allows new.layout (run_of new)
   -- its own rows there are of this call, and no more than `most`
@@ -175,7 +175,7 @@ pub record HasGoneOn (allows : Layout → History → ℕ → Type 0) (old new :
   -- it may use each snapshot that it could use
   pub usable : (snap : Snap) → CanUse old snap → CanUse new snap
 
--- a pass of this forest, which is one of cells, has made a call of so many steps at most, and blames
+-- a pass of this forest, which is one of cells, has made a call of at most `most` steps, and blames
 -- these now
 pub record HasCalledCells (forest : Ground) (old new : PassView) (most : ℕ) (blamed : List ℕ) : Type 0 where
   pub pass : IsOf forest new
@@ -245,7 +245,7 @@ abbrev pub AreAsked : PassView → PassView → List Snap → ℕ → Type 0
 AreAsked old new snaps k = HasFoundFirst new.number (run_of new) (run_of old) snaps k
 
 -- what an answer of `vlx` says: all nodes were as found, and the call has looked at each; or
--- another SCX-record had come to one of them, and those before it were as found and looked at
+-- another SCX-record had reached one of them, and those before it were as found and looked at
 abbrev pub VlxSays : PassView → PassView → List Snap → Vlx → Type 0
 VlxSays old new snaps Same = AreAsFound old new snaps (length snaps) × AreAsked old new snaps (length snaps)
 VlxSays old new snaps (Changed node s) = (c : HasChanged new.layout new.number LoadInfo (run_of new) (run_of old) snaps node.0 s.0) × AreAsFound old new snaps c.index × AreAsked old new snaps c.index
@@ -263,14 +263,14 @@ IsUsedUp p f = IsFull p.share f × IsAllTaken p f.what
 
 -- the call's update is in the log, once, as asked: e is its entry
 pub record IsDoneCall (old new : PassView) (snaps : List Snap) (finalize : List NodeNo) (field : ℕ × Side) (value_of_cell : ℕ) (e : Entry) : Type 0 where
-  -- the row that has put it there, which may be another pass's, is behind what was known before
+  -- the row that has put it there, which may be another pass's, is after what was known before
   pub row : Row
   pub before : History
   pub within : Extends (run_of new) (row ⊳ before)
   pub since : Extends before (run_of old)
   pub wins : IsWin before row e.scx
   pub logged : log new.layout (row ⊳ before) ≡ e ∷ log new.layout before
-  -- it is the pass's only entry behind what the pass had seen
+  -- it is the pass's only entry after what the pass had seen
   pub done : done_of new ≡ e ∷ done_of old
   -- it is of this call, and of the SCX-record and the node that were next in the share
   pub of_pass : e.owner ≡ old.number
@@ -292,7 +292,7 @@ abbrev pub ScxSays : PassView → PassView → List Snap → List NodeNo → ℕ
 -- there is one entry more, of this call
 ScxSays old new snaps finalize field v Done = (e : Entry) × IsDoneCall old new snaps finalize field v e
 -- there is none, now or later: the SCX-record is aborted, and
--- another had come to a node since its snapshot
+-- another had reached a node since its snapshot
 ScxSays old new snaps finalize field v (Lost node s) = HasChanged new.layout new.number Freeze (run_of new) (run_of old) snaps node.0 s.0 × (done_of new ≡ done_of old) × (value (run_of new) (state old.share.next_scx) ≡ 2)
 
 -- Passes that come together
@@ -329,13 +329,13 @@ HasPass passes n = Contains (map (λ (p : PassView). p.number) passes) n
 abbrev pub AreAllBack : Layout → List PassView → Type 0
 AreAllBack lay passes = (n : ℕ) → n < lay.passes → HasPass passes n
 
--- these rows go on from what each pass knew, by one row of its own, which is a look at the table;
+-- these rows extend what each pass knew, by one row of its own, which is a look at the table;
 -- its entries in them are those of its done list
 abbrev pub AreBegun : List PassView → List Row → Type 0
 AreBegun [] rows = Unit {0}
 AreBegun (p ∷ ps) rows = Extends (history_of p.layout.mode rows) (run_of p) × (entries_of p.number (log p.layout (history_of p.layout.mode rows)) ≡ done_of p) × (rows_of p.number rows ≡ suc (steps_of p)) × HoldsOfOwn IsLook p.number (run_of p) (history_of p.layout.mode rows) × AreBegun ps rows
 
--- The forest of this layout has ended: its words are those of one run, which goes on from what
+-- The forest of this layout has ended: its words are those of one run, which extends what
 -- these passes knew.
 pub record IsClosed (allows : Layout → History → ℕ → Type 0) (lay : Layout) (passes : List PassView) (words : Contents) : Type 0 where
   pub layout : words.layout ≡ lay

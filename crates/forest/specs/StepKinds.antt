@@ -5,7 +5,7 @@ use Rattle.ordered_map.specs.CallRules.{call_rules}
 use Rattle.ordered_map.specs.OrderedMap.{MapCall}
 use Rattle.forest.specs.Passes.{HoldsOfOwn, PassView, run_of}
 
--- the pass has made no other steps in this call: each own row behind the run that it knew before is
+-- the pass has made no other steps in this call: each own row after the run that it knew before is
 -- of a kind that the call may make
 abbrev pub HasKeptToKinds : PassView → PassView → MapCall → Type 0
 HasKeptToKinds old new call = HoldsOfOwn (λ r. (call_rules call).MayMake r.kind) new.number (run_of old) (run_of new)

@@ -18,15 +18,15 @@ use Rattle.ordered_map.specs.OrderedMap.{MapCall}
 use Rattle.forest.specs.declared.view.SeatedPass.{SeatedPass}
 use Rattle.forest.specs.Traces.{CallBegins, Ends, HoldsForCall, Trace}
 
--- a machine that makes this call with so many tries and this share, in the call of this number, has
--- not begun
+-- a machine that makes this call with this many tries and this share, in the call of this number,
+-- has not begun
 pub record IsFreshCall {K V : Type 0} (call : MapCall) (share : Remaining) (tries number : ℕ) (m : DictRun K V) : Type 0 where
   pub is_call : call_in m.run ≡ call
   pub has_tries : m.tries ≡ tries
   pub has_share : share_of m.run ≡ share
   pub unbegun : IsUnbegun m.run tries number
 
--- `valid` says of a key or a value whether it is one of its type, `word` which word stands for it.
+-- `valid` says of a key or a value whether it is one of its type, `word` which its word is.
 module _ {K V : Type 0} (valid_key : K → Type 0) (key : K → ℕ) (valid_value : V → Type 0) (value : V → ℕ) where
   -- the runs that a dictionary of such keys and values allows
   abbrev pub DictAllows : Layout → History → ℕ → Type 0

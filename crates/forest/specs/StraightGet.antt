@@ -5,7 +5,7 @@ use Rattle.dict.specs.declared.dict.DictRun.{DictRun}
 use Rattle.dict.specs.declared.run.MapRun.TheVariants.{Get}
 use Rattle.template.specs.declared.walk.WalkRun.{WalkRun}
 
--- the machine of a get of the key, whose pass has this share and whose calls try so often, with its
--- walk there
+-- the machine of a get of the key, whose pass has this share and whose calls make at most `tries`
+-- tries, with its walk there
 abbrev pub getting : {K V : Type 0} → Remaining → ℕ → ℕ → WalkRun → DictRun K V
 getting share tries key walk = record { run = Get key walk share; tries = tries; types = record {} }

@@ -1,4 +1,4 @@
--- Calls that stand at a place of a HELP, of whatever machine helps.
+-- Calls that are at a place of a HELP, of whatever machine helps.
 use Rattle.std.specs.Prelude.{◌≡◌, ◌<◌, ◌+◌, ℕ, Bool, true, false, List, Some}
 use Rattle.arena.specs.declared.layout.Layout.{Layout}
 use Rattle.arena.specs.History.{History}
@@ -17,7 +17,7 @@ use Rattle.arena.specs.ScxRecords.{raw_count}
 use Rattle.arena.specs.Words.{scx}
 use Rattle.help.specs.declared.state.HelpAt.TheVariants.{Plan as AtPlan, Member as AtMember, SetFrozen as AtSetFrozen, Commit as AtCommit}
 
--- a HELP in some pass, which is said to wait and to be told in the runs that `inner` allows
+-- a HELP in some pass, with its conditions for the runs that `inner` allows
 abbrev pub inner_help : (Layout → History → ℕ → Type 0) → Inner HelpRun
 inner_help inner = record {
   Context = Layout × ℕ;
@@ -48,14 +48,14 @@ module _ {M : Type 0} {inner : Layout → History → ℕ → Type 0} {o : Calls
   LoadsFlag = InnerWaits k ps m record { kind = LoadAllFrozen; word = scx m.scx.0 AllFrozen; access = Load }
 
 module _ {M : Type 0} {inner : Layout → History → ℕ → Type 0} {o : Calls M} (k : Helper inner o) (ps : List SeatedPass) (m : HelpRun) where
-  -- its HELP, under this plan, is behind the freezing of the node of this place, which is frozen or
-  -- not: it goes on to the next node or sets the flag, or loads that
+  -- its HELP, under this plan, is past the freezing of the node of this place, which is frozen or
+  -- not: it continues with the next node or sets the flag, or loads that
   pub record IsBehindFreeze (plan : ℕ) (j : MemberIndex) (frozen : Bool) : Type 0 where
     pub next : frozen ≡ true → (next : MemberIndex) → member_index next ≡ member_index j + 1 → member_index next < raw_count plan → LoadsMember k ps m next
     pub last : frozen ≡ true → ((member_index j < 3) × (member_index j + 1 < raw_count plan) → ⊥) → SetsFlag k ps m
     pub blocked : frozen ≡ false → LoadsFlag k ps m
 
-  -- behind that of all nodes
+  -- past that of all nodes
   pub record IsBehindFreezes (all : Bool) : Type 0 where
     pub frozen : all ≡ true → SetsFlag k ps m
     pub blocked : all ≡ false → LoadsFlag k ps m
@@ -66,7 +66,7 @@ module _ {M : Type 0} {inner : Layout → History → ℕ → Type 0} {o : Calls
     pub commits : done ≡ true → (v : ℕ) × InnerIsTold k ps (record m { at = AtCommit }) v
     pub blocked : done ≡ false → LoadsFlag k ps m
 
--- the last step of its HELP has told that `allfrozen` is set, and that those of the first p
+-- the last step of its HELP has found that `allfrozen` is set, and that those of the first p
 -- nodes that are finalized are marked
 pub record HelperMarks {M : Type 0} {inner : Layout → History → ℕ → Type 0} {o : Calls M} (k : Helper inner o) (ps : List SeatedPass) (m : HelpRun) (p : ℕ) : Type 0 where
   pub last : HelpRun

@@ -1,4 +1,4 @@
--- LLXs that stand at a place: as calls of their own, and of whatever machine looks at nodes.
+-- LLXs that are at a place: as calls of their own, and of whatever machine looks at nodes.
 use Rattle.std.specs.Prelude.{◌≡◌, ℕ, List, Bool, Some}
 use Rattle.arena.specs.declared.layout.Layout.{Layout}
 use Rattle.arena.specs.declared.number.NodeNo.{NodeNo}
@@ -20,7 +20,7 @@ use Rattle.arena.specs.declared.number.ScxNo.{ScxNo}
 use Rattle.arena.specs.declared.step.Kind.TheVariants.{LoadMarked, LoadState}
 use Rattle.arena.specs.Words.{marked, state}
 
--- the run of LLX of the node that stands at a place
+-- the run of LLX of the node that is at a place
 abbrev pub llx_at : NodeNo → LlxAt → LlxRun
 llx_at node at = record { node = node; at = at }
 
@@ -41,7 +41,7 @@ module _ (allows : Layout → History → ℕ → Type 0) (c : Call) (ps : List 
   abbrev pub SeatLlxEnds : Llx → Type 0
   SeatLlxEnds a = (m : LlxRun) × Ends allows (LlxWaits allows) IsSameNode c ps (llx_at node Start) LlxAnswers m a
 
--- an LLX of a node, in a call of its own, which is said to wait and to be told in the runs that
+-- an LLX of a node, in a call of its own, with its conditions for the runs that
 -- `inner` allows
 abbrev pub inner_llx : (Layout → History → ℕ → Type 0) → Inner LlxRun
 inner_llx inner = record {
@@ -64,7 +64,7 @@ module _ {M : Type 0} {inner : Layout → History → ℕ → Type 0} {o : Calls
   abbrev pub LoadsStateAgain : Bool → ScxNo → Type 0
   LoadsStateAgain b s = InnerWaits k ps (llx_at node (StateAgain b s)) (load LoadState (state s.0))
 
--- the last step of its LLX of the node has told what makes this snapshot right, and its
+-- the last step of its LLX of the node has found what makes this snapshot right, and its
 -- SCX-record one that the call has found in the node's info; the call has just looked at the node
 pub record LookerSnaps {M : Type 0} {inner : Layout → History → ℕ → Type 0} {o : Calls M} (k : Looker inner o) (ps : List SeatedPass) (node : NodeNo) (snap : Snap) : Type 0 where
   pub of_node : snap.node ≡ node

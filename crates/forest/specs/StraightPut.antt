@@ -1,4 +1,4 @@
--- Calls of an SCX with a fresh cell that stand at a place of its machine.
+-- Calls of an SCX with a fresh cell that are at a place of its machine.
 use Rattle.std.specs.Prelude.{◌≡◌, ℕ, List}
 use Rattle.arena.specs.declared.layout.Layout.{Layout}
 use Rattle.arena.specs.declared.step.Step.{Step}
@@ -21,7 +21,7 @@ abbrev pub IsSamePut : PutRun → PutRun → Type 0
 IsSamePut old now = (now.scx.scx ≡ old.scx.scx) × (now.scx.update ≡ old.scx.update) × (now.scx.call ≡ old.scx.call) × (now.value ≡ old.value)
 
 -- the run over these snapshots of what is to be put, in the
--- call of this number, that stands at these places
+-- call of this number, that is at these places
 abbrev pub standing_put : List Snap → PutTask → ℕ → ScxAt → PutAt → PutRun
 standing_put snaps put number scx at = record { value = put.value; scx = record { scx = put.scx; call = number; update = record { snaps = snaps; plan = put.plan; old = put.old; fresh = put.fresh }; at = scx }; at = at }
 
@@ -42,7 +42,7 @@ module _ (allows : Layout → History → ℕ → Type 0) (c : Call) (ps : List 
   abbrev pub SeatPutWaits : PutRun → Step → Type 0
   SeatPutWaits = Waits allows (PutWaits allows) IsSamePut c ps first
 
-  -- the step of the place has told v
+  -- the step of the place has found v
   abbrev pub SeatPutTold : PutRun → ℕ → Type 0
   SeatPutTold = Told allows (PutWaits allows) IsSamePut c ps first (PutIsReady allows)
 

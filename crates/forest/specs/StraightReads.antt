@@ -70,18 +70,18 @@ module _ {M R A : Type 0} {o : Calls M} {means : ReadMeaning R A} (r : Reader o 
   abbrev pub ReaderEnds : ReadRun R → Result A Refused → Type 0
   ReaderEnds m a = HostedEnds r ps m a
 
-  -- its read goes on so, or has answered
+  -- its read is about to do this, or has answered
   abbrev pub ReaderGoesOn : ReadRun R → Result ReadNext (Result A Refused) → Type 0
   ReaderGoesOn m (Ok next) = ReaderWaits m next
   ReaderGoesOn m (Err a) = ReaderEnds m a
 
 module _ {R A : Type 0} (means : ReadMeaning R A) where
-  -- so many steps are left to it then
+  -- how many steps are left to it then
   abbrev pub left_then : ℕ → ReadRun R → Result ReadNext (Result A Refused) → ℕ
   left_then nodes m (Ok next) = suc (read_left means (placed m next) nodes)
   left_then nodes m (Err a) = 0
 
-  -- behind the load of the root's head
+  -- after the load of the root's head
   abbrev pub root_left : ReadRun R → ℕ → ℕ
   root_left m nodes = read_left means (at_root m) nodes
 
@@ -94,15 +94,15 @@ module _ {S T M R A B : Type 0} (s : Shape T) (m : Machine M T B) (means : ReadM
   abbrev pub StandsToRead : Seat ℕ SeatView → ReadRun R → ReadNext → Type 0
   StandsToRead seat run next = (r : Reader (hand_calls s m hand) means) × ReaderWaits r seat.me.0.passes run next
 
-  -- From this seat, where a read goes on so, it comes to that one, where it goes on so: at the same
-  -- table, in any call of the hand, in no more steps than it then has fewer left, which are at
-  -- least so many fewer.
+  -- From the old seat, about to do `next`, a read gets to the new one, about to do `behind`: at the
+  -- same table, in any call of the hand. The steps left drop by at least those made, and by at
+  -- least `fewer`.
   pub record ReadGoesOn (fewer : ℕ) (old : Seat ℕ SeatView) (run : ReadRun R) (next : Result ReadNext (Result A Refused)) (new : Seat ℕ SeatView) (now : ReadRun R) (behind : Result ReadNext (Result A Refused)) : Type 0 where
     pub table : StaysAtTable old new
     pub to : (r : Reader (hand_calls s m hand) means) → ReaderGoesOn r old.me.0.passes run next → ReaderGoesOn r new.me.0.passes now behind
     pub nearer : fewer + left_then means (shared_nodes hand.layout.now) now behind ≤ left_then means (shared_nodes hand.layout.now) run next
     pub steps : steps_made new + left_then means (shared_nodes hand.layout.now) now behind ≤ steps_made old + left_then means (shared_nodes hand.layout.now) run next
 
-  -- from this seat, where a read has begun what comes next, it comes to its end at that one
+  -- from this seat, with a read about to do `next`, it ends at that one
   abbrev pub ReadEnds : Seat ℕ SeatView → ReadRun R → ReadNext → Seat ℕ SeatView → ReadRun R → Result A Refused → Type 0
   ReadEnds old run next new now answer = Leads {K = Reader (hand_calls s m hand) means} old new (left_then means (shared_nodes hand.layout.now) run (Ok next)) (λ r ps. ReaderWaits r ps run next) (λ r ps. ReaderEnds r ps now answer)

@@ -1,4 +1,4 @@
--- Calls that stand at a place of an SCX, of whatever machine makes one.
+-- Calls that are at a place of an SCX, of whatever machine makes one.
 use Rattle.std.specs.Prelude.{◌≡◌, ℕ, Bool, true, false, List, Some}
 use Rattle.arena.specs.declared.layout.Layout.{Layout}
 use Rattle.arena.specs.declared.number.ScxNo.{ScxNo}
@@ -25,7 +25,7 @@ use Rattle.prims.specs.Snap.{snap_at}
 use Rattle.prims.specs.declared.scx.ScxAt.TheVariants.{Plan as AtPlan, Member as AtMember, Seen as AtSeen, Call as AtCall, Help as AtHelp}
 use Rattle.forest.specs.declared.view.SeatedPass.{SeatedPass}
 
--- the run of SCX over these snapshots that makes this change and stands at a place
+-- the run of SCX over these snapshots that makes this change and is at a place
 abbrev pub changing_at : List Snap → ScxTask → ScxAt → ScxRun
 changing_at snaps change at = record { scx = change.scx; call = change.call; update = record { snaps = snaps; plan = change.plan; old = change.old; fresh = change.fresh }; at = at }
 
@@ -37,7 +37,7 @@ scx_fill s part v = record { kind = Fill; word = scx s.0 part; access = Store v 
 abbrev pub all_frozen_load : ScxNo → Step
 all_frozen_load s = record { kind = LoadAllFrozen; word = scx s.0 AllFrozen; access = Load }
 
--- an SCX in a call of its own, which is said to wait and to be told in the runs that `inner` allows
+-- an SCX in a call of its own, with its conditions for the runs that `inner` allows
 abbrev pub inner_scx : (Layout → History → ℕ → Type 0) → Inner ScxRun
 inner_scx inner = record {
   Context = Call;

@@ -39,7 +39,7 @@ use Rattle.forest.specs.Seats.{StaysAtTable}
 use Rattle.forest.specs.Traces.{Trace, HoldsForCall, shared_nodes}
 
 -- The second run is the same update further on, which has given up one try at most. Of the share
--- no more is taken than may be, where so many tries may still take nodes, and so many an
+-- no more is taken than may be, if this many tries may still take nodes, and this many an
 -- SCX-record.
 pub record HasUpdateGoneOn {E A : Type 0} (e : EditMeaning E) (old : UpdateRun E UpdateAt) (now : UpdateRun E A) (nodes scx : ℕ) : Type 0 where
   pub edit : now.edit ≡ old.edit
@@ -48,7 +48,7 @@ pub record HasUpdateGoneOn {E A : Type 0} (e : EditMeaning E) (old : UpdateRun E
   pub tries : (old.tries ≤ now.tries + 1) × (now.tries ≤ old.tries)
   pub spends : Spends (e.most_nodes now.edit) old.share now.share (node_tries old old.at) nodes (scx_tries old old.at) scx
 
--- an update of which nothing is made, in the call of this number
+-- an update that has made nothing yet, in the call of this number
 abbrev pub new_update : {E : Type 0} → E → Remaining → ℕ → ℕ → UpdateRun E (Unit {0})
 new_update edit share tries call = record {
   edit = edit;
@@ -63,7 +63,7 @@ new_update edit share tries call = record {
   at = tt;
 }
 
--- An update that is called inside another call. Where it goes on with a step, its place says how
+-- An update that is called inside another call. If it continues with a step, its place says how
 -- many tries may still take of the share; where it has answered, those that are left may.
 abbrev pub inner_update : {E : Type 0} → EditMeaning E → InnerCall (UpdateRun E UpdateAt) Updated
 inner_update e = record {
@@ -75,7 +75,7 @@ inner_update e = record {
   ends = λ old now. HasUpdateGoneOn e old now now.tries now.tries;
 }
 
--- so many words of a piece are left to be filled, where this one is the next, if one is
+-- how many words of a piece are left to be filled, if this one is the next, if one is
 abbrev pub fills_then : Piece → Option NodeWord → ℕ
 fills_then p None = 0
 fills_then p (Some part) = suc (fills_behind p part)
@@ -84,8 +84,8 @@ fills_then p (Some part) = suc (fills_behind p part)
 abbrev pub Updater : {M E : Type 0} → Calls M → EditMeaning E → Type 0
 Updater o e = Host o (inner_update e)
 
--- the machine's update as it was when it was told of the last step, behind which its try, the same
--- as before, may end so
+-- the machine's update as it was when it got the result of the last step, after which its try, the
+-- same as before, may end so
 pub record HasTryStopped {M E : Type 0} {o : Calls M} {e : EditMeaning E} (u : Updater o e) {A : Type 0} (m : UpdateRun E A) (f : Found) (stop : Stop) (h : History) : Type 0 where
   pub old : UpdateRun E UpdateAt
   pub got : Option ℕ
@@ -100,7 +100,7 @@ module _ {M E : Type 0} {o : Calls M} {e : EditMeaning E} (u : Updater o e) (ps 
   abbrev pub UpdaterBegins : {A : Type 0} → UpdateRun E A → Type 0
   UpdaterBegins m = HostedBegins u ps (standing m Start)
 
-  -- its update has answered, wherever it stands
+  -- its update has answered, whatever its place
   abbrev pub UpdaterEnds : {A : Type 0} → UpdateRun E A → Updated → Type 0
   UpdaterEnds m a = HostedEnds u ps (standing m Start) a
 
@@ -108,7 +108,7 @@ module _ {M E : Type 0} {o : Calls M} {e : EditMeaning E} (u : Updater o e) (ps 
   abbrev pub UpdaterTries : {A : Type 0} → UpdateRun E A → Found → Next → Type 0
   UpdaterTries m f next = HostedWaits u ps (placed e m f next) (next_step e m f next)
 
-  -- its try may end so, behind the last step that it was told of
+  -- its try may end so, after the last step whose result it got
   abbrev pub UpdaterStops : {A : Type 0} → UpdateRun E A → Found → Stop → Type 0
   UpdaterStops m f stop = HoldsForCall o.allows ps u.call (λ h. HasTryStopped u m f stop h)
 
@@ -127,7 +127,7 @@ module _ {M E : Type 0} {o : Calls M} {e : EditMeaning E} (u : Updater o e) (ps 
   abbrev pub UpdaterIsBlocked : {A : Type 0} → UpdateRun E A → Found → ScxNo → HelpRun → Type 0
   UpdaterIsBlocked m f scx help = HostedWaits u ps (standing m (Scx f record { scx = scx; call = m.call; update = update_of m; at = Help help })) (all_frozen_load scx)
 
-  -- its update has answered, wherever it stands, and this is left of its share
+  -- its update has answered, whatever its place, and this is left of its share
   abbrev pub UpdaterLeaves : Updated → Remaining → Type 0
   UpdaterLeaves a share = (m : UpdateRun E (Unit {0})) × (m.share ≡ share) × UpdaterEnds m a
 
@@ -135,24 +135,24 @@ module _ {M E : Type 0} {o : Calls M} {e : EditMeaning E} (u : Updater o e) (ps 
 abbrev pub IsFreshPiece : {E A : Type 0} → EditMeaning E → UpdateRun E A → Found → Nth → ℕ → Piece → Type 0
 IsFreshPiece e m f nth start p = (start ≡ node_start (nth_node m.nodes nth)) × (p ≡ pieces_now e m f nth)
 
--- so many steps are left to an update whose SCX could not freeze a node, where its HELP stands so
+-- how many steps are left to an update whose SCX could not freeze a node, if its HELP is there
 abbrev pub left_at_block : {E A : Type 0} → EditMeaning E → UpdateRun E A → HelpRun → ℕ → ℕ
 left_at_block e m help nodes = suc (m.tries * try_left e m.edit nodes + scx_left (Help help))
 
 module _ {S T M A E : Type 0} (s : Shape T) (m : Machine M T A) (e : EditMeaning E) (hand : Hand S) (f : Found) where
-  -- in a call of the hand, a try that has found f goes on so
+  -- in a call of the hand, a try that has found f is about to do `next`
   abbrev pub StandsToTry : {B : Type 0} → Seat ℕ SeatView → UpdateRun E B → Result Next Stop → Type 0
   StandsToTry seat run next = (u : Updater (hand_calls s m hand) e) × UpdaterGoesOn u seat.me.0.passes run f next
 
-  -- From this seat, where a try that has found f goes on so, it comes to that one, where it goes on
-  -- so: at the same table, in any call of the hand, in no more steps than it then has fewer left.
+  -- From the old seat, about to do `next`, a try gets to the new one, about to do `behind`: at the
+  -- same table, in any call of the hand. The steps left drop by at least those made.
   pub record TryGoesOn {B C : Type 0} (old : Seat ℕ SeatView) (run : UpdateRun E B) (next : Result Next Stop) (new : Seat ℕ SeatView) (now : UpdateRun E C) (behind : Result Next Stop) : Type 0 where
     pub table : StaysAtTable old new
     pub to : (u : Updater (hand_calls s m hand) e) → UpdaterGoesOn u old.me.0.passes run f next → UpdaterGoesOn u new.me.0.passes now f behind
     pub later : steps_made old ≤ steps_made new
     pub steps : steps_made new + left_then e now f behind (shared_nodes hand.layout.now) ≤ steps_made old + left_then e run f next (shared_nodes hand.layout.now)
 
-  -- from this seat, where it goes on so, the update comes to its end at that one, with this answer
+  -- from this seat, with a try about to do `next`, the update ends at that one, with this answer
   abbrev pub TryEnds : {B C : Type 0} → Seat ℕ SeatView → UpdateRun E B → Result Next Stop → Seat ℕ SeatView → UpdateRun E C → Updated → Type 0
   TryEnds old run next new now answer = Leads {K = Updater (hand_calls s m hand) e} old new (left_then e run f next (shared_nodes hand.layout.now)) (λ u ps. UpdaterGoesOn u ps run f next) (λ u ps. UpdaterEnds u ps now answer)
 
@@ -160,8 +160,8 @@ module _ {S T M A E : Type 0} (s : Shape T) (m : Machine M T A) (e : EditMeaning
   abbrev pub StandsToFill : {B : Type 0} → Seat ℕ SeatView → UpdateRun E B → Nth → Option NodeWord → Type 0
   StandsToFill seat run nth next = (u : Updater (hand_calls s m hand) e) × UpdaterFills u seat.me.0.passes run f nth next
 
-  -- From this seat, where one word of the fresh node of this place is filled next, it comes to that
-  -- one, where another is, as `TryGoesOn` says.
+  -- From the old seat, where one word of the fresh node of this place is filled next, one gets to
+  -- the new one, where another is, as `TryGoesOn` says.
   pub record FillGoesOn {B : Type 0} (run : UpdateRun E B) (nth : Nth) (p : Piece) (old : Seat ℕ SeatView) (next : Option NodeWord) (new : Seat ℕ SeatView) (behind : Option NodeWord) : Type 0 where
     pub table : StaysAtTable old new
     pub to : (u : Updater (hand_calls s m hand) e) → UpdaterFills u old.me.0.passes run f nth next → UpdaterFills u new.me.0.passes run f nth behind

@@ -1,4 +1,4 @@
--- VLXs that stand at a place: as calls of their own, and of whatever machine validates snapshots.
+-- VLXs that are at a place: as calls of their own, and of whatever machine validates snapshots.
 use Rattle.std.specs.Prelude.{◌≡◌, ℕ, List, Option, suc}
 use Rattle.arena.specs.declared.layout.Layout.{Layout}
 use Rattle.arena.specs.declared.step.Step.{Step}
@@ -18,7 +18,7 @@ use Rattle.prims.specs.Snap.{snap_at}
 use Rattle.forest.specs.CallKinds.{Calls}
 use Rattle.forest.specs.Inside.{Inner, Inside, InnerWaits}
 
--- the run of VLX over the snapshots that has asked for so many infos
+-- the run of VLX over the snapshots that has asked for this many infos
 abbrev pub vlx_at : {L : Type 0} → L → ℕ → VlxRun L
 vlx_at snaps n = record { snaps = snaps; asked = n }
 
@@ -48,7 +48,7 @@ module _ {L : Type 0} (list : L → List Snap) (allows : Layout → History → 
   abbrev pub SeatVlxEnds : Vlx → Type 0
   SeatVlxEnds a = (m : VlxRun L) × Ends allows (waits_over list) AreSameSnaps c ps (vlx_at snaps 0) (answers_over list) m a
 
--- a VLX of these snapshots, in a call of its own, that has asked for so many infos
+-- a VLX of these snapshots, in a call of its own, that has asked for this many infos
 abbrev pub inner_vlx : List Snap → Inner ℕ
 inner_vlx snaps = record {
   Context = Call;

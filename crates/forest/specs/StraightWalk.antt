@@ -1,4 +1,4 @@
--- Calls that stand at a place of a walk, of whatever machine that walks.
+-- Calls that are at a place of a walk, of whatever machine that walks.
 use Rattle.std.specs.Prelude.{◌≡◌, ℕ, List}
 use Rattle.arena.specs.declared.step.Step.{Step}
 use Rattle.arena.specs.History.{History}
@@ -42,11 +42,11 @@ module _ {M : Type 0} {o : Calls M} (w : Walker o) (ps : List SeatedPass) where
   abbrev pub WalkerWaits : WalkRun → LastTurns → Step → Type 0
   WalkerWaits m turn step = InnerWaits w ps (m, turn) step
 
-  -- the step of its walk has told v
+  -- the step of its walk has found v
   abbrev pub WalkerIsTold : WalkRun → LastTurns → ℕ → Type 0
   WalkerIsTold m turn v = InnerIsTold w ps (m, turn) v
 
-  -- its walk to this goal waits for the child on this side of the node to which its trail has come,
+  -- its walk to this goal waits for the child on this side of the node that its trail has reached,
   -- whose head is of this level; it had turned last at these forks before that
   abbrev pub WalkerGoesDown : Goal → Trail → ℕ → Side → LastTurns → Type 0
   WalkerGoesDown goal trail level side turn = WalkerWaits (walk_at goal trail (Child level side)) (last_turns (Child level side) trail.node turn) (load LoadChild (child trail.node.0 side))
@@ -55,7 +55,7 @@ module _ {M : Type 0} {o : Calls M} (w : Walker o) (ps : List SeatedPass) where
   abbrev pub WalksFromRoot : Goal → Type 0
   WalksFromRoot goal = WalkerWaits (walk_from goal) no_turns (load LoadSettled (node 0 (Settled HeadWord)))
 
-  -- the last step of its walk to a goal has told what makes this leaf the one that it has found,
+  -- the last step of its walk to a goal has found what makes this leaf the one that it has found,
   -- and these forks are the last where it has turned
   pub record WalkerFinds (goal : Goal) (turn : LastTurns) (f : Found) : Type 0 where
     pub last : WalkRun

@@ -38,7 +38,7 @@ abbrev pub ByOthers : ℕ → List Row → Type 0
 ByOthers c [] = Unit {0}
 ByOthers c (r ∷ rs) = (r.pass.0 ≢ c) × ByOthers c rs
 
--- the run is what the pass knows, and behind that rows of others alone
+-- the run is what the pass knows, and after that rows of others alone
 abbrev pub Behind : List Row → SeatedPass → Type 0
 Behind run p = (others : List Row) × (run ≡ others ++ p.known) × ByOthers p.number.0 others
 
@@ -59,13 +59,13 @@ pub record TableIsLawful (allows : Layout → History → ℕ → Type 0) (lay :
   pub holds : (w : Word) → IsWord lay w → slice_index s.words (place lay w) ≡ value (history_of lay.mode run) w
   pub sound : IsRun allows lay (history_of lay.mode run)
   -- each pass is of one seat, and knows a beginning of
-  -- the run, behind which are rows of others alone
+  -- the run, after which are rows of others alone
   pub owner : ℕ → ℕ
   pub passes : (id : ℕ) (v : SeatView) → get_elem? s.views id ≡ some v → Owns lay run owner id v.passes
 
 -- Steps
 
--- the run that a pass knows, and behind it these rows of others
+-- the run that a pass knows, and after it these rows of others
 abbrev pub past_of : SeatedPass → List Row → History
 past_of p others = history_of p.layout.mode (others ++ p.known)
 
@@ -77,8 +77,8 @@ row c said h = record { pass = record { 0 = c }; call = said.call; kind = said.s
 abbrev pub MayStep : (Layout → History → ℕ → Type 0) → CallStep → SeatedPass → Type 0
 MayStep allows said p = (others : List Row) → ByOthers p.number.0 others → IsRun allows p.layout (past_of p others) → IsRun allows p.layout (row p.number.0 said (past_of p others) ⊳ past_of p others)
 
--- the only pass of a seat has made the step behind rows of others;
--- it was told n, and knows the run up to its step
+-- the only pass of a seat has made the step after rows of others;
+-- it has found n, and knows the run up to its step
 pub record Made (allows : Layout → History → ℕ → Type 0) (said : CallStep) (ps : List SeatedPass) (n : ℕ) (qs : List SeatedPass) : Type 0 where
   pub pass : SeatedPass
   pub others : List Row
@@ -93,8 +93,8 @@ pub record Made (allows : Layout → History → ℕ → Type 0) (said : CallSte
 abbrev pub look : CallStep
 look = record { call = 0; step = record { kind = LoadSettled; word = node 0 (Settled Head); access = Load } }
 
--- the first of two passes of a seat has looked at the table behind a run of which both knew a
--- beginning, and stands behind the other now
+-- the first of two passes of a seat has looked at the table after a run of which both knew a
+-- beginning, and is now the second in the list
 pub record Looked (allows : Layout → History → ℕ → Type 0) (ps qs : List SeatedPass) : Type 0 where
   pub first : SeatedPass
   pub second : SeatedPass
@@ -115,7 +115,7 @@ abbrev pub new_passes : Layout → ℕ → ℕ → List SeatedPass
 new_passes lay from zero = []
 new_passes lay from (suc n) = seated_pass from lay [] ∷ new_passes lay (suc from) n
 
--- the passes behind the first
+-- the passes after the first
 abbrev pub rest_of : List SeatedPass → List SeatedPass
 rest_of [] = []
 rest_of (p ∷ ps) = ps
@@ -141,7 +141,7 @@ joined_seat v w = seat_view (v.passes ++ w.passes)
 abbrev pub IsTableOf : TableId → Layout → Layout → Type 0
 IsTableOf id key lay = (id.words ≡ table_size lay) × (key ≡ lay)
 
--- a word of this layout stands at this place, and no other
+-- a word of this layout is at this place, and no other
 pub record IsPlaceOf (lay : Layout) (word : Word) (at : ℕ) : Type 0 where
   pub is_word : IsWord lay word
   pub is_place : at ≡ place lay word
@@ -155,17 +155,17 @@ pub record IsAlone (lay : Layout) (ps : List SeatedPass) : Type 0 where
   pub layout : pass.layout ≡ lay
   pub is_pass : pass.number.0 < lay.passes
 
--- a pass that has looked at the table behind this run
+-- a pass that has looked at the table after this run
 abbrev pub after_look : SeatedPass → List Row → SeatedPass
 after_look p run = seated_pass p.number.0 p.layout (row p.number.0 look (history_of p.layout.mode run) ∷ run)
 
--- the pass knew a beginning of the run, and its look is lawful behind the run
+-- the pass knew a beginning of the run, and its look is lawful after the run
 pub record HasLookedBehind (allows : Layout → History → ℕ → Type 0) (p : SeatedPass) (run : List Row) : Type 0 where
   pub behind : Behind run p
   pub before : IsRun allows p.layout (history_of p.layout.mode run)
   pub after : IsRun allows p.layout (row p.number.0 look (history_of p.layout.mode run) ⊳ history_of p.layout.mode run)
 
--- two passes have met: the second has looked behind a run of which both knew a beginning
+-- two passes have met: the second has looked after a run of which both knew a beginning
 pub record Met (allows : Layout → History → ℕ → Type 0) (ps qs new_ps new_qs : List SeatedPass) : Type 0 where
   pub one : SeatedPass
   pub other : SeatedPass
@@ -177,7 +177,7 @@ pub record Met (allows : Layout → History → ℕ → Type 0) (ps qs new_ps ne
   pub same : one.layout ≡ other.layout
   pub knew_one : Behind early one
   pub other_looked : HasLookedBehind allows other early
-  -- the first has looked behind a run that goes on from the second's look
+  -- the first has looked after a run that extends that of the second's look
   pub one_looked : HasLookedBehind allows one late
   pub goes_on : Behind late (after_look other early)
   pub is_one : new_ps ≡ after_look one late ∷ []

@@ -1,4 +1,4 @@
--- The course of a call: how the run went on while it was made.
+-- The course of a call: the rows that the run has got while it was made.
 use Rattle.std.specs.Prelude.{◌≡◌, ◌≢◌, ◌==◌, if◌then◌else◌, ℕ, suc, ◌*◌, List, [], ◌∷◌, Option, Some, None}
 use Rattle.arena.specs.declared.layout.Layout.{Layout}
 use Rattle.arena.specs.declared.step.Row.{Row}
@@ -10,15 +10,15 @@ use Rattle.arena.specs.declared.machine.Turn.TheVariants.{Ask, Done}
 use Rattle.forest.specs.declared.view.SeatedPass.{SeatedPass}
 use Rattle.forest.specs.TableRule.{history_of, seated_pass}
 
--- how a call, begun with the machine `first`, has come to the machine m and the history h
+-- how a call, begun with the machine `first`, has reached the machine m and the history h
 pub data Trace {M : Type 0} (allows : Layout → History → ℕ → Type 0) (waits : M → Call → History → Step → Type 0) (same : M → M → Type 0) (c : Call) (first : M) : M → History → Type 0 where
   -- it begins now
   begins : {m : M} {h : History} → m ≡ first → h ≡ c.start → Trace allows waits same c first m h
-  -- a row of another pass has come while the machine waited for a step
+  -- a row of another pass was added while the machine waited for a step
   others : {m : M} {h : History} (s : Step) (r : Row) (before : History) → h ≡ r ⊳ before → waits m c h s → r.pass.0 ≢ c.pass → IsRun allows c.layout h → Trace allows waits same c first m before → Trace allows waits same c first m h
   -- the step that the machine waited for was made
   makes : {m : M} {h : History} (s : Step) (before : History) → h ≡ row_of c s before ⊳ before → waits m c before s → IsRun allows c.layout h → Trace allows waits same c first m before → Trace allows waits same c first m h
-  -- the machine went on, with what it was told
+  -- the machine continued, with what it got
   goes_on : {m : M} {h : History} (old : M) → same old m → Trace allows waits same c first old h → Trace allows waits same c first m h
 
 -- the seat has the pass of the call alone, and P holds of the run that the pass knows
@@ -28,14 +28,14 @@ pub record HoldsForCall (allows : Layout → History → ℕ → Type 0) (ps : L
   pub sound : IsRun allows c.layout (history_of c.layout.mode known)
   pub so : P (history_of c.layout.mode known)
 
--- Where a call of a machine stands that began with the
+-- Where a call of a machine is that began with the
 -- machine `first`, as the one pass of a seat knows it
 module _ {M : Type 0} (allows : Layout → History → ℕ → Type 0) (waits : M → Call → History → Step → Type 0) (same : M → M → Type 0) (c : Call) (ps : List SeatedPass) (first : M) where
   -- the machine waits for this step
   abbrev pub Waits : M → Step → Type 0
   Waits m step = HoldsForCall allows ps c (λ h. waits m c h step × Trace allows waits same c first m h)
 
-  -- the machine may be told v, which its step has found
+  -- the machine may get v, which its step has found
   abbrev pub Told : (M → Call → History → Option ℕ → Type 0) → M → ℕ → Type 0
   Told ready m v = HoldsForCall allows ps c (λ h. ready m c h (Some v) × Trace allows waits same c first m h)
 
@@ -65,7 +65,7 @@ seat_steps (p ∷ ps) = rows_of p.number.0 p.known
 abbrev pub shared_nodes : Layout → ℕ
 shared_nodes lay = lay.passes * lay.nodes
 
--- how many turns a machine that has so many steps left may still take
+-- how many turns a machine that has this many steps left may still take
 abbrev pub weight : {A : Type 0} → Turn A → ℕ → ℕ
 weight (Ask s) n = suc n
 weight (Done a) n = 0

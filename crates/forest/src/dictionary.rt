@@ -106,7 +106,7 @@ impl<K: WordKey, V: WordValue> Forest<Dict<K, V>> {
         }
     }
 
-    /// Sets a key to a value, and tells the value that the key had just before. It takes at most
+    /// Sets a key to a value, and returns the value that the key had just before. It takes at most
     /// three nodes and an SCX-record of the pass's share in a try, and no memory. The pass blames
     /// the SCX-record that `Contended` names. After Brown, Ellen and Ruppert (PPoPP 2014), as are
     /// the other edits.
@@ -126,9 +126,9 @@ impl<K: WordKey, V: WordValue> Forest<Dict<K, V>> {
         self.edit_at_key(pass, key.word(), PutRule(number_of(&value)))
     }
 
-    /// Sets a key to a value if it has none, and tells the value that it has otherwise: then the map
-    /// is as it was. It takes at most three nodes and an SCX-record of the pass's share in a try, and
-    /// no memory.
+    /// Sets a key to a value if it has none, and returns the value that it has otherwise: then the
+    /// map is as it was. It takes at most three nodes and an SCX-record of the pass's share in a
+    /// try, and no memory.
     pub fn insert_new(
         &self,
         pass: &mut Pass<Dict<K, V>>,
@@ -145,7 +145,7 @@ impl<K: WordKey, V: WordValue> Forest<Dict<K, V>> {
         self.edit_at_key(pass, key.word(), PutNewRule(number_of(&value)))
     }
 
-    /// Takes a key away, and tells the value that it had just before. It takes at most a node and
+    /// Removes a key, and returns the value that it had just before. It takes at most a node and
     /// an SCX-record of the pass's share in a try, and no memory.
     pub fn delete(&self, pass: &mut Pass<Dict<K, V>>, key: &K) -> Result<Option<V>, UpdateFault>
         requires pass { IsOf self.now pass.old }
@@ -156,8 +156,8 @@ impl<K: WordKey, V: WordValue> Forest<Dict<K, V>> {
         self.edit_at_key(pass, key.word(), TakeRule)
     }
 
-    /// Takes a key away that has the expected value, and tells the value that the key had just
-    /// before: the map is changed where that is the one expected. It takes at most a node and an
+    /// Removes a key that has the expected value, and returns the value that the key had just
+    /// before: the map is changed if that is the one expected. It takes at most a node and an
     /// SCX-record of the pass's share in a try, and no memory.
     pub fn delete_if(
         &self,
@@ -174,8 +174,8 @@ impl<K: WordKey, V: WordValue> Forest<Dict<K, V>> {
         self.edit_at_key(pass, key.word(), TakeIfRule(number_of(expected)))
     }
 
-    /// Takes the pair with the least key away, if there is one, and tells it. It takes at most a node
-    /// and an SCX-record of the pass's share in a try, and no memory.
+    /// Removes the pair with the least key, if there is one, and returns it. It takes at most a
+    /// node and an SCX-record of the pass's share in a try, and no memory.
     pub fn pop_first(&self, pass: &mut Pass<Dict<K, V>>) -> Result<Option<(K, V)>, UpdateFault>
         requires pass { IsOf self.now pass.old }
         ensures { HasCalled K.is_valid K.word_of V.is_valid V.word_of self.now
@@ -185,7 +185,7 @@ impl<K: WordKey, V: WordValue> Forest<Dict<K, V>> {
         told_pair(self.edit(pass, KeyEdit { goal, rule }))
     }
 
-    /// Takes the pair with the greatest key away, if there is one, and tells it. It takes at most a
+    /// Removes the pair with the greatest key, if there is one, and returns it. It takes at most a
     /// node and an SCX-record of the pass's share in a try, and no memory.
     pub fn pop_last(&self, pass: &mut Pass<Dict<K, V>>) -> Result<Option<(K, V)>, UpdateFault>
         requires pass { IsOf self.now pass.old }
@@ -196,8 +196,8 @@ impl<K: WordKey, V: WordValue> Forest<Dict<K, V>> {
         told_pair(self.edit(pass, KeyEdit { goal, rule }))
     }
 
-    /// Puts a value at a key that has the expected one, and tells the value that the key had just
-    /// before: the map is changed where that is the one expected. It takes at most a node and an
+    /// Sets a key that has the expected value to another, and returns the value that the key had
+    /// just before: the map is changed if that is the one expected. It takes at most a node and an
     /// SCX-record of the pass's share in a try, and no memory.
     pub fn replace_if(
         &self,
@@ -267,9 +267,9 @@ impl<K: WordKey, V: WordValue> Forest<Dict<K, V>> {
         told_neighbour(self.read(alloc, pass, Request::Predecessor { key: *key }))
     }
 
-    /// The first pairs by rising key with keys from `low` to `high`, both with them, and at most so
-    /// many, 64 at the most. It takes nothing of the pass's share, but memory. One that asks for no
-    /// pairs makes no step, and leaves the pass as it was.
+    /// The first pairs by rising key with keys from `low` to `high`, both included, and at most
+    /// `most` of them, 64 at the most. It takes nothing of the pass's share, but memory. If it asks
+    /// for no pairs it makes no step, and leaves the pass as it was.
     pub fn range(
         &self,
         alloc: Global,

@@ -28,14 +28,14 @@ use std::snapshot::Snapshot;
 /// What a step of a call leaves.
 #[derive(Clone, Copy, Debug, PartialEq, Eq)]
 pub enum Stepped {
-    /// It was of this kind, and the call goes on.
+    /// It was of this kind, and the call is not over.
     More(Kind),
     /// The call is over. Its last step was of this kind; a call that needs no step has none.
     Done(Option<Kind>),
 }
 
 /// A call that has begun, with its pass: `step` makes one atomic step, and `finish`, once a step
-/// has told `Done`, gives pass and reply.
+/// has returned `Done`, gives pass and reply.
 #[derive(Drop)]
 pub struct OpenCall<K: WordKey, V: WordValue> {
     number: PassNo,

@@ -1,4 +1,4 @@
-//! The rule of the table, and what a step tells the seat that makes it.
+//! The rule of the table, and what a step shows the seat that makes it.
 ghost use Rattle.std.specs.Prelude.{◌≡◌, []};
 ghost use Rattle.forest.specs.TableRule.{TableIsLawful, Made, Looked, seat_view, new_passes, rest_of_seat, first_of_seat, joined_seat};
 
@@ -7,7 +7,7 @@ use arena::{Layout, Shape, Step};
 use atomic_table::{Join, Play, Split, TableRule};
 use std::marker::{Brand, PhantomData};
 
-/// Some lawful run leads to the words, and each pass knows a beginning of it, behind which are rows
+/// Some lawful run leads to the words, and each pass knows a beginning of it, after which are rows
 /// of others alone.
 pub struct Lawful<S>(PhantomData<S>);
 
@@ -47,7 +47,7 @@ impl<S: Shape, J: Says> Play<u8, SeatView> for Makes<S, J> {
     ghost then = { λ st v n w. Made S.allows J.said v.0.passes n w.0.passes × (w.1 ≡ v.1) };
 }
 
-/// The step of a seat with two passes, by the first, which goes behind the other.
+/// The step of a seat with two passes, by the first, which is then the second.
 pub struct Looks<S>(PhantomData<S>);
 
 impl<S: Shape> Play<u8, SeatView> for Looks<S> {

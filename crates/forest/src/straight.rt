@@ -1,7 +1,7 @@
 //! Whole calls as straight code. Each step is the one for which the call's machine waits at that
 //! place, so the machine's conditions say what is known there; the machine itself does not run, but
-//! where something is in the way, or has come between: it goes on from that place. The machine of
-//! an ordered read is also told of the last load of its VLX, behind which it answers.
+//! if something is in the way, or has happened between: it continues from that place. The machine
+//! of an ordered read also gets what the last load of its VLX found, and then answers.
 
 pub(crate) mod calls;
 pub(crate) mod fresh_nodes;

@@ -12,8 +12,8 @@ pub struct SeatedPass {
     pub known: LinkedList<Row>,
 }
 
-/// The passes of a seat: one, none where it was joined to another, or several before they are
-/// dealt.
+/// The passes of a seat: one, none if it was joined to another, or several before they are
+/// split.
 pub struct SeatView {
     /// The passes, each of this seat alone.
     pub passes: LinkedList<SeatedPass>,

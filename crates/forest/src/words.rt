@@ -1,5 +1,5 @@
 //! The words of the table, and all that touches them while threads share them: a step, which adds
-//! one row to the run, and the moves by which seats are dealt and joined, which tell nothing.
+//! one row to the run, and the moves by which seats are split and joined, which show nothing.
 //! Nothing else can be written outside this module, so that a call's rows are all that it has done.
 ghost use Rattle.std.specs.Prelude.{◌≡◌, ◌<◌, ◌++◌, [], ◌∷◌, IfOk};
 ghost use Rattle.std.specs.Slots.{IsFull, slots_len, slots_items};
@@ -39,7 +39,7 @@ impl<S: Shape> Words<S> {
         Ok((Words { table }, seat))
     }
 
-    /// Makes the step that is said, which stands at this place, and answers what is told of it.
+    /// Makes the step that is said, which is at this place, and answers what a machine gets of it.
     #[inline(always)]
     pub(crate) fn make<J: Says>(
         &self,
@@ -69,7 +69,7 @@ impl<S: Shape> Words<S> {
         }
     }
 
-    /// A look at the table by the first of two passes of a seat, which goes behind the other.
+    /// A look at the table by the first of two passes of a seat, which is then the second.
     pub(crate) fn look(&self, layout: &Layout, seat: &mut Seat<u8, SeatView>)
         requires table { IsSeatAt self.now layout.now seat.old }
         requires two { (p : SeatedPass) × (q : SeatedPass) × (seat.old.me.0.passes ≡ p ∷ q ∷ [])

@@ -1,4 +1,4 @@
--- From place to place of a run of HELP: what it has been told at one is what it must know at the
+-- From place to place of a run of HELP: what it has got at one is what it must know at the
 -- next.
 use Rattle.std.proofs.Common.{◌≡◌, ◌≢◌, ℕ, suc, ◌<◌, ◌≤◌, zero, eqb-true, pow_mono, ◌+◌, ◌/◌, ◌%◌, ◌^◌, ◌⊎◌, inl, inr, ⊎_elim, refl, sym, ◌∙◌, ap, arith, false, true, length, ◌↔◌, Option, Some, None, IsSome, IfSome}
 use Rattle.std.proofs.lemmas.List.{get_or-set_same, get_or-set_other}
@@ -47,7 +47,7 @@ removed_within p j x i e = go (either j (count_of p))
     go (inl y) = y
     go (inr d) = let y : 2 ^ count_of p ≤ 2 ^ j = pow_mono d in let z = x.removed in absurd (omega (arith, bit))
 
--- a node with none behind it is the last
+-- a node with none after it is the last
 no_more : (n p j : ℕ) → n ≡ p → p ≤ 4 → ((j < 3) × (suc j < p) → ⊥) → n ≤ suc j
 no_more n p j e few none = go (either (suc j) p)
   where
@@ -69,7 +69,7 @@ module _ (h : History) (m : Reading) where
   counted : (j : ℕ) → plan h m.scx ≡ m.plan → j < count h m.scx → (count h m.scx ≡ raw_count m.plan) × (raw_count m.plan ≤ 4)
   counted j e i = let a = plan_counted (plan h m.scx) (let z = i in omega arith) in (rw (← e) a.count, rw (← e) a.few)
 
-  -- a node that it finalizes is marked where all those before a place are, and none stands between
+  -- a node that it finalizes is marked where all those before a place are, and none is between
   marked_up_to : (p n : ℕ) → Marks h m p → ((i : ℕ) → p ≤ i → i < n → i < count h m.scx → plan_finalizes m.plan i ≡ false) → Marks h m n
   marked_up_to p n x none = record { started = x.started; plan = x.plan; read = x.read; flag = x.flag; marked = λ i q w t. at i q w t (either i p) }
     where
@@ -189,7 +189,7 @@ module _ {allows : Layout → History → ℕ → Type 0} {lay : Layout} {c : �
   pub to_commit : (v : ℕ) → HelpIsTold allows lay c h m AtUpdate v → HelpWaitsAt allows lay c h m AtCommit record { kind = Commit; word = state m.scx; access = Store 1 }
   to_commit v t = record { known = t; asked = refl }
 
--- the number of the place behind a node's: the next node's, or 4 behind the last
+-- the number of the place after a node's: the next node's, or 4 after the last
 pub place_behind : (j : MemberIndex) (next : Option MemberIndex) → (IsSome next ↔ (member_index j < 3)) → IfSome next (λ k. member_index k ≡ member_index j + 1) → suc (member_index j) ≡ first_place next
 place_behind j (Some k) v e = omega arith
 place_behind Fourth None v e = refl

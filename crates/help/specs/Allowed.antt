@@ -22,19 +22,19 @@ pub record IsQuiet (r : Row) : Type 0 where
 abbrev pub MayComeBetween : ℕ → ℕ → Row → Type 0
 MayComeBetween c s r = (r.pass.0 ≢ c) ⊎ (IsFillOfScx s r ⊎ IsQuiet r)
 
--- the history k goes on from h, with no rows between but such as may come before c begins s
+-- the history k extends h, with no rows between but such as may precede c's beginning of s
 abbrev pub IsLater : ℕ → ℕ → History → History → Type 0
 IsLater c s h (Start mode) = h ≡ Start mode
 IsLater c s h (r ⊳ k) = (h ≡ r ⊳ k) ⊎ (MayComeBetween c s r × IsLater c s h k)
 
 -- the layer above allows s with these words whenever its owner's first freeze
--- may win: after any run that goes on from h by such rows, in which s still is
+-- may win: after any run that extends h by such rows, in which s still is
 -- ready and the first info still is what was found
 abbrev pub IsAllowed : (Layout → History → ℕ → Type 0) → Layout → ℕ → History → ℕ → Descriptor → Type 0
 IsAllowed allows lay c h s d =
     (k : History) → IsLater c s h k → IsRun allows lay k → descriptor k s ≡ d → Begins lay d k c s → value k (info (member k s 0)) ≡ seen k s 0 → allows lay k s
 
--- s is its owner c's, stands ready for its first freeze, and the layer above will allow it
+-- s is its owner c's, is ready for its first freeze, and the layer above will allow it
 pub record IsPrepared (allows : Layout → History → ℕ → Type 0) (lay : Layout) (c : ℕ) (h : History) (s : ℕ) : Type 0 where
   pub begins : Begins lay (descriptor h s) h c s
   pub allowed : IsAllowed allows lay c h s (descriptor h s)

@@ -14,7 +14,7 @@ impl HelpRun {
     ghost use Rattle.help.specs.Help.Known.{HelpAsks, HasNext, IsLast, MarksNext, MarksNone, node_at, first_place};
     ghost use Rattle.help.specs.Help.Steps.{help_left};
 
-    /// Asks for a step, and stands there.
+    /// Asks for a step, and is at its place.
     fn ask(&mut self, at: HelpAt, kind: Kind, word: Word, access: Access) -> Turn<bool>
         ensures { HelpAsks self.old self.new result at record { kind = kind; word = word; access = access } }
     {
@@ -50,7 +50,7 @@ impl HelpRun {
         self.ask(HelpAt::Freeze { j, seen }, Kind::Freeze, info, access)
     }
 
-    /// Goes on to the next node once the j-th is frozen.
+    /// Continues with the next node once the j-th is frozen.
     fn after_freeze(&mut self, j: MemberIndex) -> Turn<bool>
         ensures scx { self.new.scx ≡ self.old.scx }
         ensures nearer { help_left self.new.at < help_left (HelpAt.Freeze j 0) }
@@ -83,7 +83,7 @@ impl HelpRun {
         self.ask(at, Kind::LoadAllFrozen, allfrozen, Access::Load)
     }
 
-    /// Marks the next node to be finalized, from this one on, or goes on to the update.
+    /// Marks the next node to be finalized, from this one on, or continues with the update.
     fn mark_from(&mut self, from: Option<MemberIndex>) -> Turn<bool>
         ensures scx { self.new.scx ≡ self.old.scx }
         ensures nearer { MatchOption from (help_left self.new.at < 4) (λ j. help_left self.new.at < 8 - member_index j) }

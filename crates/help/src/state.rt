@@ -1,4 +1,4 @@
-//! Where a run of HELP stands.
+//! Where in HELP a run is.
 ghost use Rattle.std.specs.Prelude.{◌≡◌, ◌≤◌};
 
 use arena::{MemberIndex, NodeNo, Plan, ScxNo};
@@ -46,7 +46,7 @@ pub struct HelpRun {
     pub plan: Plan,
     /// The nodes that it covers, as far as they are read.
     pub members: [NodeNo; 4],
-    /// Where the run stands.
+    /// Where the run is.
     pub at: HelpAt,
 }
 

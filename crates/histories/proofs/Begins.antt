@@ -70,7 +70,7 @@ owner_freezes lay h r s b w x = record {
   may_win = λ y. (b.unfinished, λ z. may_begin lay h r.pass.0 s b);
 }
 
--- what an info word no longer names does not come back once it is finished
+-- what an info word no longer names never returns there once it is finished
 pub passed_stays : (lay : Layout) (h : History) (r : Row) (n i : ℕ) → Lawful lay (r ⊳ h) → IsNamed lay h n → value h (state i) ≢ 0 → value h (info n) ≢ i → value (r ⊳ h) (info n) ≢ i
 passed_stays lay h r n i l named d p e = p (still lay h r n i l named d e).info
 

@@ -1,4 +1,4 @@
--- Whatever comes between two moments of a node, an SCX-record in progress that covers the node was
+-- Whatever happens between two moments of a node, an SCX-record in progress that covers it was
 -- in the way.
 use Rattle.std.proofs.Common.{◌≡◌, ◌≢◌, ℕ, Bool, true, false, inl, inr, ⊎_elim, refl, sym, ◌∙◌, ap, subst, arith}
 use native.Mathlib.Decide.{ℕ_discrete}

@@ -40,7 +40,7 @@ pub record About (lay : Layout) (d : Descriptor) (h : History) (s : ℕ) : Type 
   pub rest : (j : ℕ) → j < count_in d → value h (state (d.seen j)) ≢ 0
   -- while it is in progress it holds what it froze
   pub holds : (j : ℕ) → j < count_in d → Froze d h s j → value h (state s) ≡ 0 → value h (info (d.member j)) ≡ s
-  -- what it found in a node's info does not come back
+  -- what it found in a node's info never returns there
   pub gone : (j : ℕ) → j < count_in d → Froze d h s j → value h (info (d.member j)) ≢ d.seen j
   pub done : value h (state s) ≢ 0 → HasWon h s ⊎ IsStuck d h s
   -- its field shows `old` until its update has won, and never again after that

@@ -1,4 +1,4 @@
--- What the layers above know of lawful histories, passed on from one place: no other module of
+-- What the layers above know of lawful histories, exported from one place: no other module of
 -- these proofs can be named outside. Declares nothing.
 pub use Rattle.histories.proofs.Changes.{Change, FillsNode, FillsScx, FreezeWins, IsNodeFill, IsScxFill, UpdateWins, aborts, change, commits, fills_node, fills_scx, freezes, lawful_more, lawful_row, lawful_tail, marks, nothing, sets_frozen, updates}
 pub use Rattle.histories.proofs.Facts.{About, Facts, IsEnded, IsFlagged, IsMarker, IsOwned, child_node, descriptor_same, flagged_about, some_is_real, won_more}

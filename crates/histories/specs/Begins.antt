@@ -1,4 +1,4 @@
--- What stands before an SCX-record begins, which it does by its owner's first freezing exchange.
+-- What holds before an SCX-record begins, which it does by its owner's first freezing exchange.
 use Rattle.std.specs.Prelude.{◌≡◌, ◌≢◌, ℕ, ◌<◌}
 use Rattle.arena.specs.declared.layout.Layout.{Layout}
 use Rattle.arena.specs.declared.word.Side.{Side}

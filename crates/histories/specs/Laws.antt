@@ -23,6 +23,6 @@ StaysFinal lay h = (moment : History) (n : ℕ) (part : NodeWord) → Extends h 
 abbrev pub StaysFinalized : History → Type 0
 StaysFinalized h = (moment : History) (n : ℕ) (part : NodeWord) → Extends h moment → IsFinalized moment n → value h (node n part) ≡ value moment (node n part)
 
--- the SCX-record has no entry, in this history or in any lawful one that goes on from it
+-- the SCX-record has no entry, in this history or in any lawful one that extends it
 abbrev pub IsNeverEntered : Layout → History → ℕ → Type 0
 IsNeverEntered lay h s = (later : History) → Lawful lay later → Extends later h → ¬ IsEntered (log lay later) s

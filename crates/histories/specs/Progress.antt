@@ -1,4 +1,4 @@
--- How far an SCX-record has come: it has started, has frozen a node, can go no further, or is over.
+-- How far an SCX-record is: it has started, has frozen a node, can get no further, or is over.
 use Rattle.std.specs.Prelude.{◌≡◌, ◌≢◌, ℕ, ◌<◌, ◌⊎◌}
 use Rattle.arena.specs.Words.{info, state}
 use Rattle.arena.specs.History.{History, value, HasHeld}

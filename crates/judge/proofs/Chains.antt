@@ -1,11 +1,11 @@
--- Links that are kept in a list, from the same place one behind the other.
+-- Links that are kept in a list, from the same place one after the other.
 use Rattle.std.proofs.Common.{◌≡◌, ℕ, zero, suc, ◌<◌, ◌≤◌, ◌⊎◌, inl, inr, ⊎_elim, Option, Some, None, List, [], ◌∷◌, ◌++◌, length, refl, sym, ◌∙◌, ap, subst, arith, length-append}
 use Rattle.std.specs.Prelude.{IfSome}
 use Rattle.std.proofs.lemmas.List.{get_or_append_left, get_or_at, get_or_default}
 use Rattle.judge.specs.declared.graph.Link.{Link}
 use Rattle.judge.specs.Graph.{IsLinkAt, HasLink, here, older}
 
--- one link stands at a place
+-- one link is at a place
 pub one_there : (list : List Link) (i : ℕ) (k l : Link) → IsLinkAt list i k → IsLinkAt list i l → k ≡ l
 one_there list i k l a b = a.is ∙ get_or_default list i k l a.within ∙ sym b.is
 
@@ -38,7 +38,7 @@ stands_split list i k l a = go (before_or i (length list))
 pub no_link : (list : List Link) (v : ℕ) → ¬ HasLink list v None
 no_link list v p = elim p [ ]
 
--- what is left of a chain behind its first link
+-- what is left of a chain after its first link
 pub link_split : (list : List Link) (v i : ℕ) (l : Link) → IsLinkAt list i l → HasLink list v (Some i) → (l.to ≡ v) ⊎ HasLink list v l.before
 link_split list v i l a (here j k b e) = inl (ap (λ (m : Link). m.to) (one_there list i l k a b) ∙ e)
 link_split list v i l a (older j k b p) = inr (subst (λ (m : Link). HasLink list v m.before) (one_there list i k l b a) p)

@@ -119,7 +119,7 @@ module _ (lay : Layout) (h : History) (r : Row) (frozen : List ℕ) (n : Freezin
     known : Facts lay h
     known = facts_before lay h r lawful
 
-    -- so many were frozen before it
+    -- this many were frozen before it
     number : frozen_of frozen s ≡ j
     number =
         let at = n.first s j w.freeze.within in

@@ -262,7 +262,7 @@ counted [] = omega arith
 counted (true ∷ flags) = let l = counted flags in omega (l, arith)
 counted (false ∷ flags) = let l = counted flags in omega (l, arith)
 
--- so many places, of which the first alone is reached
+-- this many places, the first of which alone is reached
 
 module _ (size : ℕ) (some : 0 < size) where
   start_flag : (v : ℕ) → has_flag (slice_set (replicate size false) 0 true) v ≡ true → v ≡ 0

@@ -47,7 +47,7 @@ is_node (Scx s part) = false
 
 -- Counting the first ones
 
--- the first k of a range are those of which P holds
+-- the first k of a range are those for which P holds
 record Counted (from size k : ℕ) (P : ℕ → Type 0) : Type 0 where
   fits : k ≤ size
   is : (n : ℕ) → from ≤ n → n < from + size → P n ↔ (n < from + k)

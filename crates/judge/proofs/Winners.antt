@@ -1,4 +1,4 @@
--- Which rows make an entry, and of which SCX-record.
+-- Which rows make an entry, and for which SCX-record.
 use Rattle.std.proofs.Common.{◌≡◌, ◌≢◌, ℕ, true, false, ◌∷◌, refl, sym, ◌∙◌, ap, subst, eqb, ne_eqb, eq-eqb}
 use Rattle.std.specs.Prelude.{not}
 use Rattle.arena.specs.declared.layout.Layout.{Layout}

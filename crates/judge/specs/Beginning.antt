@@ -6,8 +6,8 @@ use Rattle.arena.specs.Words.{state, info, marked}
 use Rattle.arena.specs.History.{History, value}
 use Rattle.arena.specs.ScxRecords.{member, seen}
 
--- the first nodes of s, as many as `count`, are other nodes of the table each, what they were frozen
--- for is finished, and those that are still as seen are not marked
+-- the first nodes of s, as many as `count`, are other nodes of the table each, what they were
+-- frozen for is finished, and those that are still as seen are not marked
 pub record AreReady (lay : Layout) (h : History) (s count : ℕ) : Type 0 where
   pub inside : (j : ℕ) → j < count → member h s j < all_nodes lay
   pub distinct : (j k : ℕ) → j < count → k < count → j ≢ k → member h s j ≢ member h s k

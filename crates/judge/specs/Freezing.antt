@@ -36,6 +36,6 @@ MayFreeze frozen r = freezes r ≡ true → (r.after < length frozen) × (frozen
 -- the numbers are those of the history
 pub record FreezingStands (lay : Layout) (h : History) (frozen : List ℕ) : Type 0 where
   pub size : length frozen ≡ all_scx lay
-  -- the first of its nodes, so many, were frozen for s
+  -- the first of its nodes, this many, were frozen for s
   pub first : (s j : ℕ) → j < count h s → IsFrozen h s j ↔ (j < frozen_of frozen s)
   pub none : (s : ℕ) → ¬ IsNamedScx h s → frozen_of frozen s ≡ 0

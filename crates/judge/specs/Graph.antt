@@ -38,16 +38,16 @@ abbrev pub count_unset : List Bool → ℕ
 count_unset [] = 0
 count_unset (b ∷ flags) = if b then count_unset flags else 1 + count_unset flags
 
--- where the newest link that is kept of a place stands
+-- where the newest link that is kept of a place is
 abbrev pub newest_from : List (Option ℕ) → ℕ → Option ℕ
 newest_from newest u = slice_index_or newest u None
 
--- this link stands there in the list
+-- this link is there in the list
 pub record IsLinkAt (list : List Link) (i : ℕ) (l : Link) : Type 0 where
   pub within : i < length list
   pub is : l ≡ slice_index_or list i l
 
--- a link to v is among the one that stands there and those before it from the same place
+-- a link to v is among the one that is there and those before it from the same place
 pub data HasLink (list : List Link) (v : ℕ) : Option ℕ → Type 0 where
   here : (i : ℕ) (l : Link) → IsLinkAt list i l → l.to ≡ v → HasLink list v (Some i)
   older : (i : ℕ) (l : Link) → IsLinkAt list i l → HasLink list v l.before → HasLink list v (Some i)
@@ -73,7 +73,7 @@ pub record IsSpreading (reached : List Bool) (newest : List (Option ℕ)) (list 
   pub chained : (u v : ℕ) → HasLink list v (newest_from newest u) → IsLink links u v
   -- what is kept of a place that is reached is followed, or still to be
   pub closed : (u v : ℕ) → has_flag reached u ≡ true → HasLink list v (newest_from newest u) → (has_flag reached v ≡ true) ⊎ (IsUnfollowed fresh u ⊎ ((u ≡ from) × HasLink list v at))
-  -- a link stands behind the one before it
+  -- a link comes after the one before it of the same place
   pub rising : (i : ℕ) (l : Link) → IsLinkAt list i l → IfSome l.before (λ b. b < i)
   pub ends : (u : ℕ) → IfSome (newest_from newest u) (λ i. i < length list)
   pub starts : IfSome at (λ i. i < length list)

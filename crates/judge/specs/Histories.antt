@@ -10,7 +10,7 @@ pub record Judged : Type 0 where
   pub layout : Layout
   pub rows : List Row
 
--- the history of rows of which the newest is the first
+-- the history of rows, the newest of which is the first
 abbrev pub history_of_rows : Mode → List Row → History
 history_of_rows mode [] = Start mode
 history_of_rows mode (r ∷ rows) = r ⊳ history_of_rows mode rows

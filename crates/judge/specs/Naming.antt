@@ -10,7 +10,7 @@ use Rattle.arena.specs.History.{History, Start, ◌⊳◌}
 use Rattle.judge.specs.Graph.{IsGraph, links_of}
 use Rattle.judge.specs.declared.naming.Naming.{Naming}
 
--- The places, where there are so many nodes: n itself for a node that is named, then one for each
+-- The places, if there are this many nodes: n itself for a node that is named, then one for each
 -- node that a field of a named node has held, then one for each SCX-record that an info word has
 -- named. Node 0 is named from the start.
 
@@ -26,7 +26,7 @@ begun_place nodes s = 2 * nodes + s
 abbrev pub scx_links : ℕ → ℕ → ℕ → List (ℕ × ℕ)
 scx_links nodes s v = if nat_lt v nodes then (begun_place nodes s, v) ∷ [] else []
 
--- the links that are added where the word holds v, among so many nodes and SCX-records
+-- the links that are added if the word holds v, among this many nodes and SCX-records
 abbrev pub word_links : ℕ → ℕ → Word → ℕ → List (ℕ × ℕ)
 word_links nodes scxs (Node m (Child side)) v =
     if nat_lt v nodes then (m.0, shown_place nodes v) ∷ (m.0, v) ∷ []
@@ -38,7 +38,7 @@ word_links nodes scxs (Scx s Old) v = scx_links nodes s.0 v
 word_links nodes scxs (Scx s (Member j)) v = scx_links nodes s.0 v
 word_links nodes scxs (Scx s _) v = []
 
--- the links to the dummy and to so many nodes, which are there from the start
+-- the links to the dummy and to this many nodes, which are there from the start
 abbrev pub opening_links : ℕ → ℕ → List (ℕ × ℕ)
 opening_links nodes zero = (0, 2 * nodes) ∷ []
 opening_links nodes (suc k) = (0, nodes + k) ∷ (0, k) ∷ opening_links nodes k

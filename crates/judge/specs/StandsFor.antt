@@ -1,4 +1,4 @@
--- What a judge remembers, and what that says of the history which it stands for.
+-- What a judge remembers, and what that says of the history which it represents.
 use Rattle.std.specs.Prelude.{◌≡◌, vec_len}
 use Rattle.arena.specs.declared.layout.Layout.{Layout}
 use Rattle.arena.specs.declared.word.Word.{Word}

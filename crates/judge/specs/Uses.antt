@@ -1,4 +1,4 @@
--- Which nodes fields have held, and `new` of which SCX-records.
+-- Which nodes fields have held, and `new` words of SCX-records.
 use Rattle.std.specs.Prelude.{◌≡◌, ◌≢◌, ◌↔◌, ℕ, ◌<◌, if◌then◌else◌, ◌==◌, Bool, true, false, not, List, length, slice_index_or, slice_set}
 use Rattle.arena.specs.declared.layout.Layout.{Layout}
 use Rattle.arena.specs.declared.limits.Mode.{Mode}
@@ -15,8 +15,8 @@ use Rattle.judge.specs.declared.uses.Users.{Users}
 use Rattle.judge.specs.declared.uses.Users.TheVariants.{Nobody, One, Several}
 use Rattle.judge.specs.declared.uses.Uses.{Uses}
 
--- how many nodes fields hold at the start, the first ones: the root's child words hold 1 and 2, each
--- other field 0
+-- how many nodes fields hold at the start, the first ones: the root's child words hold 1 and 2,
+-- each other field 0
 abbrev pub held_nodes : Mode → ℕ
 held_nodes Tree = 3
 held_nodes Records = 1
@@ -40,7 +40,7 @@ has_other Nobody s = false
 has_other (One u) s = not (u == s)
 has_other Several s = true
 
--- these are the SCX-records in whose `new` the node has been: none, this one alone, or more than one
+-- these are the SCX-records in whose `new` the node has been: none, this one alone, or several
 abbrev pub AreUsers : History → ℕ → Users → Type 0
 AreUsers h n Nobody = (s : ℕ) → ¬ HasHeld h (scx s New) n
 AreUsers h n (One u) = HasHeld h (scx u New) n × ((s : ℕ) → HasHeld h (scx s New) n → s ≡ u)

@@ -46,7 +46,7 @@ fn are_inside(judge: &Judge, scx: u64, count: u8) -> bool
     true
 }
 
-/// Whether none of these nodes but that at the place is the one that stands there.
+/// Whether none of these nodes but that at the place is the same as the one there.
 fn is_alone(judge: &Judge, scx: u64, place: u8, count: u8) -> bool
     ensures { IsTrue result ↔
         ((k : ℕ) → k < count → place ≢ k → member (seen_history judge.now) scx place ≢ member (seen_history judge.now) scx k) }

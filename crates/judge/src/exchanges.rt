@@ -63,8 +63,8 @@ fn is_freeze_for(judge: &Judge, row: &Row, scx: u64) -> bool
 }
 
 /// Whether a row freezes some node for some SCX-record. One that wins leaves it there. One that
-/// loses is mostly for that which it finds there, or for the one of which its pass has loaded a
-/// word last; only where it is for neither are all looked at.
+/// loses is mostly for that which it finds there, or for the one a word of which its pass has
+/// loaded last; only if it is for neither are all looked at.
 pub fn is_some_freeze(judge: &Judge, row: &Row) -> bool
     requires { row.now.pass.0 < judge.now.layout.passes }
     ensures { IsTrue result ↔ ((s j : ℕ) × IsFreeze judge.now.layout (seen_history judge.now) row.now s j) }
@@ -181,8 +181,8 @@ fn is_update(judge: &Judge, row: &Row, scx: u64) -> bool
 }
 
 /// Whether a row is an update by some SCX-record. One that wins is by that which the info of the
-/// field's node names. One that loses mostly too, or by the one of which its pass has loaded a word
-/// last; only where it is by neither are all looked at.
+/// field's node names. One that loses mostly too, or by the one a word of which its pass has loaded
+/// last; only if it is by neither are all looked at.
 pub fn is_some_update(judge: &Judge, row: &Row) -> bool
     requires pass { row.now.pass.0 < judge.now.layout.passes }
     requires kind { row.now.kind ≡ Update }
@@ -210,7 +210,7 @@ fn is_update_of_any(judge: &Judge, row: &Row) -> bool
     false
 }
 
-/// Whether a row commits the SCX-record of its word, of which an update has won.
+/// Whether a row commits the SCX-record of its word, one of whose updates has won.
 pub fn is_some_commit(judge: &Judge, row: &Row) -> bool
     ensures { IsTrue result ↔ ((s : ℕ) × IsCommit (seen_history judge.now) row.now s) }
 {

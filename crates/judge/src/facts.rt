@@ -95,7 +95,7 @@ pub fn scx_taken(judge: &Judge, pass: PassNo) -> u32
     judge.taking.scx[pass.0 as usize]
 }
 
-/// The SCX-record of which a pass has loaded a word last. Nothing is claimed of it.
+/// The SCX-record a word of which a pass has loaded last. Nothing is claimed of it.
 pub fn last_loaded(judge: &Judge, pass: PassNo) -> u64
     requires { pass.0 < judge.now.layout.passes }
 {

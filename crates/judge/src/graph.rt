@@ -5,7 +5,7 @@ use std::alloc::Global;
 use std::mem::replace;
 use std::snapshot::Snapshot;
 
-/// A link to a place, and where the one before it from the same place stands.
+/// A link to a place, and where the one before it from the same place is.
 #[derive(Clone, Copy, Debug)]
 pub(crate) struct Link {
     pub(crate) to: usize,
@@ -24,7 +24,7 @@ pub(crate) enum LinkList {
 pub(crate) struct Graph {
     /// Which places are reached.
     pub(crate) reached: Vec<bool>,
-    /// Where the newest link from each place stands.
+    /// Where the newest link from each place is.
     pub(crate) newest: Vec<Option<usize>>,
     pub(crate) links: Vec<Link>,
     /// Places that are reached, while their links are not followed yet.
@@ -36,7 +36,7 @@ impl Graph {
     ghost use Rattle.std.specs.Prelude.{◌≡◌, ◌↔◌, ℕ, ◌+◌, ◌<◌, IsTrue, IfOk, OnOk, true, false, if◌then◌else◌, [], ◌∷◌, ◌++◌, slice_set, vec_len, length};
     ghost use Rattle.judge.specs.Graph.{IsReached, Spreads, IsGraph, HasRoomLeft, HasSpare, KeepsLinks, HasOneLinkMore, has_flag, count_unset, newest_from, links_of};
 
-    /// So many places, of which the first alone is reached. The only error is want of memory.
+    /// `size` places, the first of which alone is reached. The only error is want of memory.
     pub(crate) fn new(alloc: Global, size: usize) -> Result<Graph, NoMemory>
         requires { 0 < size }
         ensures graph { IfOk result IsGraph }

@@ -1,7 +1,7 @@
 //! A judge of runs, which goes from row to row and judges each by the words and by what it
-//! remembers of the rows before. Over a run each row costs a bounded time, but for an exchange that
-//! loses: where it is neither for the SCX-record that it finds nor for the one of which its pass
-//! has loaded a word last, all SCX-records are looked at.
+//! remembers of the rows before. Over a run each row costs a bounded time, except an exchange that
+//! loses: if it is neither for the SCX-record that it finds nor for the one a word of which its
+//! pass has loaded last, all SCX-records are looked at.
 use crate::entering::{Entering, makes_entry};
 use crate::freezing::Freezing;
 use crate::naming::Naming;
@@ -25,7 +25,7 @@ pub struct Judge {
     pub(crate) freezing: Freezing,
     pub(crate) entering: Entering,
     pub(crate) taking: Taking,
-    /// The SCX-record of which each pass has loaded a word last, which says where to look first.
+    /// The SCX-record a word of which each pass has loaded last, which says where to look first.
     pub(crate) loaded: Vec<u64>,
     past: Past,
 }
@@ -260,7 +260,7 @@ fn left_by(row: &Row) -> Step
     }
 }
 
-/// Remembers of which SCX-record a pass has loaded a word.
+/// Remembers the SCX-record of the word that a pass has loaded.
 fn note_load(loaded: &mut [u64], row: &Row)
     requires { row.now.pass.0 < length loaded.old }
 {

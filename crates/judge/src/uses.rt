@@ -1,4 +1,4 @@
-//! Which nodes fields have held, and `new` of which SCX-records.
+//! Which nodes fields have held, and `new` words of SCX-records.
 use arena::{Layout, Mode, NoMemory, NodeWord, Row, ScxWord, Word};
 use std::alloc::Global;
 

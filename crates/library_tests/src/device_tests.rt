@@ -6,7 +6,7 @@ use std::io::{Read, Write};
 use std::test::Fail;
 use texts::{FailAt, Metered};
 
-/// A row goes before a failed read behind it.
+/// A row is written before a failed read after it.
 #[test]
 fn a_bad_row_of_a_script_is_told_before_a_failed_read(rt: HostRuntime) {
     let text = b"limits,1,1,1,1\n9,llx,1,,\n0,llx,1,,\n".as_slice();

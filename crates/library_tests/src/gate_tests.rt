@@ -56,7 +56,7 @@ impl Meet {
     }
 }
 
-/// Waits until this is so, and tells whether it was at last.
+/// Waits until this is so, and returns whether it was at last.
 fn has_come(awaited: &AtomicBool) -> bool {
     for _look in 0..MOST_LOOKS {
         if awaited.load(Ordering::SeqCst) {
@@ -147,7 +147,7 @@ impl Steps {
         }
     }
 
-    /// Adds how many there are now, so that what is told twice is counted twice.
+    /// Adds how many there are now, so that what is reported twice is counted twice.
     fn note(&self, counts: &[AtomicU64; CALLS], call: u64) {
         if let Some(count) = counts.get(call as usize) {
             count.fetch_add(self.made.load(Ordering::SeqCst), Ordering::SeqCst);
@@ -203,7 +203,7 @@ fn a_gate_is_told_of_each_step(rt: HostRuntime) -> Result<(), Fail> {
     Ok(())
 }
 
-/// Client 1's first call waits until client 0 has made a step of kind `freeze`, behind which the
+/// Client 1's first call waits until client 0 has made a step of kind `freeze`, after which the
 /// gate of that name holds client 0 back.
 #[derive(Drop)]
 struct Frozen {
@@ -268,7 +268,7 @@ fn a_frozen_client_waits_for_its_helper(rt: HostRuntime) -> Result<(), Fail> {
     Ok(())
 }
 
-/// What a gate is told of a call of a client.
+/// What is reported to a gate of a call of a client.
 #[derive(Clone, Copy)]
 enum Told {
     Began(u32, u64),
@@ -276,7 +276,7 @@ enum Told {
     Answered(u32, u64),
 }
 
-/// Whether a gate has waited in vain once it was told these, one after another.
+/// Whether a gate is missed once these were reported to it, one after another.
 fn misses<G: Gate>(gate: &G, told: &[Told]) -> bool {
     for one in told {
         match *one {
@@ -291,7 +291,7 @@ fn misses<G: Gate>(gate: &G, told: &[Told]) -> bool {
 /// A get of each of three clients.
 const THREE: &str = "limits,3,20,20,3\n0,get,1,,\n1,get,2,,\n2,get,3,,\nend,3,,,\n";
 
-/// A call of these that waits for what does not come has waited in vain after so many looks.
+/// A call of these that waits for what does not happen has waited too long after this many looks.
 const IN_VAIN: [(GateName, &[Told], bool); 8] = [
     (GateName::Hold, &[Began(1, 0), Began(2, 0)], false),
     (GateName::Hold, &[Began(0, 0)], true),
@@ -390,10 +390,10 @@ fn what_is_answered_is_not_waited_for(rt: HostRuntime) -> Result<(), Fail> {
     Ok(())
 }
 
-/// Behind the gate's row, that of a run of `TWO`.
+/// After the gate's row, that of a run of `TWO`.
 const OUTCOME_OF_TWO: &str = "reply,0,0,none\nreply,1,0,none\nend,2,0,\n";
 
-/// Once a call has waited in vain every call goes, and the outcome tells it.
+/// Once a call has waited too long no call waits, and the outcome says so.
 #[test]
 fn a_missed_gate_is_told(rt: HostRuntime) -> Result<(), Fail> {
     let script = script_of(rt.alloc(), TWO)?;

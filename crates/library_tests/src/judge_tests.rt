@@ -234,7 +234,7 @@ fn push_all(rows: &mut Vec<Row>, made: &[Made]) -> Result<(), AllocError> {
     Ok(())
 }
 
-/// A table whose clients have so many nodes and SCX-records each.
+/// A table whose clients have `records` nodes and SCX-records each.
 fn layout(mode: Mode, passes: u32, records: u32) -> Result<Layout, Fail> {
     let limits = Limits {
         passes,
@@ -509,7 +509,7 @@ fn begins_are_judged(rt: HostRuntime) -> Result<(), Fail> {
     Ok(())
 }
 
-/// A client sets cell 1 after so many times before, when its left field holds this.
+/// A client sets cell 1 after doing so `number` times, when its left field holds this.
 fn set_again(number: u32, left: u64) -> [Made; 20] {
     let state = if number == 0 { 2 } else { 1 };
     let number = u64::from(number);
@@ -538,8 +538,8 @@ fn set_again(number: u32, left: u64) -> [Made; 20] {
     ]
 }
 
-/// One client sets cell 1 again and again: 120 times. And an insert, after which a leaf below the new
-/// node is filled late: it is named with that node.
+/// One client sets cell 1 again and again: 120 times. And an insert, after which a leaf below the
+/// new node is filled late: it is named with that node.
 #[test]
 fn long_runs_and_inserts_are_judged(rt: HostRuntime) -> Result<(), Fail> {
     let mut rows = Vec::new(rt.alloc());

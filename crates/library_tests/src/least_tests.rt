@@ -109,7 +109,7 @@ fn pops(table: &mut PlainWords, share: Share, call: u64) -> (u32, Option<Updated
     plays(table, KeyEdit { goal, rule }.run(share, 3, call))
 }
 
-/// The key and the value that an answer tells, if it tells a pair.
+/// The key and the value of an answer, if it has a pair.
 fn pair(answer: Option<Updated>) -> Option<(u64, u128)> {
     match answer {
         Some(Updated::Done { key, value }) => Some((key, value?)),

@@ -34,14 +34,14 @@ fn count_lines(text: &[u8]) -> usize {
     text.iter().filter(|byte| **byte == b'\n').count()
 }
 
-/// A play went well, with so many lines, of which these are the last.
+/// A play went well, with this many lines, the last of which are these.
 fn ends_well(rt: &impl Abort, ended: &Ended, end: &str, lines: usize) {
     let out = ended.out.as_slice();
     same(rt, out.ends_with(end.as_bytes()), true);
     same(rt, (ended.status, count_lines(out)), (0, lines));
 }
 
-/// A first line, so many others, and a last one.
+/// A first line, this many others, and a last one.
 fn long_text(
     alloc: Global,
     first: &str,
@@ -57,7 +57,7 @@ fn long_text(
     Ok(text)
 }
 
-/// So many calls, each of a cell without a snapshot, and so one turn.
+/// This many calls, each of a cell without a snapshot, and so one turn.
 fn long_script(alloc: Global, calls: u32) -> Result<String, Fail> {
     let last = format!(in alloc; "end,{calls},,,\n")?;
     long_text(
@@ -69,7 +69,7 @@ fn long_script(alloc: Global, calls: u32) -> Result<String, Fail> {
     )
 }
 
-/// So many rows, each of which plays a call.
+/// This many rows, each of which plays a call.
 fn long_schedule(alloc: Global, rows: u32) -> Result<String, Fail> {
     let last = format!(in alloc; "end,{rows},,\n")?;
     long_text(alloc, "", "call,0,,\n", rows, last.as_str())
@@ -86,7 +86,7 @@ fn the_longest_texts_are_taken(rt: HostRuntime) -> Result<(), Fail> {
     Ok(())
 }
 
-/// A script of so many calls is refused by a schedule of so many rows with this line.
+/// A script of this many calls is refused by a schedule of this many rows with this line.
 fn refuses(
     rt: &impl Abort,
     alloc: Global,
@@ -128,7 +128,7 @@ fn million_idle_turns(rt: HostRuntime) {
     ends_well(&rt, &ended, end, 1000005);
 }
 
-/// A report of so many calls, which no one began.
+/// A report of this many calls, which no one began.
 fn long_report(alloc: Global, calls: u64) -> Result<String, AllocError> {
     let mut text = String::from_str(alloc, "report,1,records,,,,\nlimits,1,0,0,1,,\n")?;
     for number in 0..calls {
@@ -138,7 +138,7 @@ fn long_report(alloc: Global, calls: u64) -> Result<String, AllocError> {
     Ok(text)
 }
 
-/// How many calls the report of so many has, once it is read.
+/// How many calls the report of this many has, once it is read.
 fn read_calls(alloc: Global, calls: u64) -> Result<Result<usize, ReportFault>, AllocError> {
     let text = long_report(alloc, calls)?;
     match read_record(alloc, &mut Metered::new(text.as_bytes())) {

@@ -232,7 +232,7 @@ const OUTSIDE: [Node; 5] = [
     Fork(3, 1, 1, 0, (6, 5)),
 ];
 
-/// Trees, and nodes of which each, changed by itself, has them spell nothing.
+/// Trees, and nodes each of which, changed by itself, has them spell nothing.
 const CHANGED: [(&[Node], &[Node]); 4] = [
     (&FOUR_PAIRS, &OUT_OF_ORDER),
     (&FOUR_PAIRS, &NOT_RISING),
@@ -360,8 +360,8 @@ fn a_leaf_spells_as_many_pairs_as_it_says(rt: HostRuntime) -> Result<(), Fail> {
 /// Leaf 9 is left of a fork that has the key 6.
 const BELOW_SIX: [Node; 2] = [Fork(8, 3, 0, 6, (9, 10)), Leaf(10, 4, 0, 6, 60)];
 
-/// A second pair of leaf 9 stands where its key is below that of the fork on its right, and not at
-/// it.
+/// A second pair of leaf 9 may be there if its key is below that of the fork on its right, and not
+/// at it.
 #[test]
 fn a_pair_of_a_leaf_beyond_its_fork_spells_nothing(rt: HostRuntime) -> Result<(), Fail> {
     let mut table = written(rt.alloc(), &FOUR_PAIRS, &BELOW_SIX)?;

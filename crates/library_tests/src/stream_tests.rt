@@ -17,7 +17,7 @@ const MOST_TURNS: u32 = 100;
 
 const GET: &str = "limits,1,10,10,3\n0,get,0,,\nend,1,,,\n";
 
-/// Its whole report, of which the first three lines come before the first turn.
+/// Its whole report; the first three lines come before the first turn.
 const REPORT_OF_GET: &str = "\
     report,2,tree,,,,\n\
     limits,1,10,10,3,,\n\
@@ -212,7 +212,7 @@ fn write(
     stream.end(to)
 }
 
-/// A writer fails once, at each byte of the report in turn: what stands there is a beginning.
+/// A writer fails once, at each byte of the report in turn: what was written is a beginning.
 fn fails_at_each_byte(
     rt: &impl Abort,
     alloc: Global,
@@ -279,7 +279,7 @@ impl Write for Flushed {
     }
 }
 
-/// So many bytes were written, and all of them are flushed.
+/// This many bytes were written, and all of them are flushed.
 fn are_flushed(rt: &impl Abort, to: &Metered<FailAt<Flushed>>, bytes: usize) {
     let Flushed { written, flushed } = &to.inner.inner;
     assert_eq!(rt; (written.len(), *flushed), (bytes, bytes));

@@ -29,7 +29,7 @@ pub links_more : (p : Place) (ps : List Place) → p.before ≡ latest p.change.
 links_more p ps b x [] q older e = let s : p ≡ q = cc in let t : ps ≡ older = cc in rw (sym s, sym t) b
 links_more p ps b x (n ∷ newer) q older e = x newer q older (let t : ps ≡ newer ++ q ∷ older = cc in t)
 
--- behind the list that has the oldest in front
+-- added to the list that has the oldest in front
 pushed : (items new : List Place) (p : Place) → new ≡ items ++ p ∷ [] → reverse new ≡ p ∷ reverse items
 pushed items new p e = ap reverse e ∙ reverse-append items (p ∷ [])
 
@@ -64,7 +64,7 @@ gt_leb a b i = go (leb a b) refl
     go true e = let j = leb-true a b e in absurd (omega (i, j, arith))
     go false e = refl
 
--- it stands somewhere, with only others' changes over it
+-- it is somewhere, with only others' changes over it
 pub record IsNewest (key i : ℕ) (ps : List Place) : Type 0 where
   pub newer : List Place
   pub place : Place
@@ -108,7 +108,7 @@ place_at places newer p older d e = rw (sym (reverse-reverse places), e, reverse
 
 -- The search
 
--- Of the turns behind `until` none has the value. Up to `until` the key has what the places from
+-- Of the turns after `until` none has the value. Up to `until` the key has what the places from
 -- `at` on say.
 pub record IsLookedFor (key : ℕ) (value : Option ℕ) (first last until : ℕ) (at : Option ℕ) (all : List Place) : Type 0 where
   pub newer : List Place

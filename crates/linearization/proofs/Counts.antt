@@ -1,4 +1,4 @@
--- Counting the numbers below a bound of which something is true.
+-- Counting the numbers below a bound for which something is true.
 use Rattle.std.proofs.Common.{◌≡◌, ◌≢◌, ℕ, zero, suc, ◌+◌, ◌<◌, Bool, true, false, inl, inr, refl, sym, ap, arith}
 use Rattle.std.proofs.lemmas.Bool.{cases_order}
 

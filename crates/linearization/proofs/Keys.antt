@@ -37,7 +37,7 @@ still_some old_get new_get put value own others key x = ⊎_elim (λ e. subst (�
 pub still_none : (old_get new_get : ℕ → Option (Option ℕ)) (put : ℕ) → new_get put ≡ Some None → ((key : ℕ) → put ≢ key → new_get key ≡ old_get key) → ((key : ℕ) → unwrap_or (old_get key) None ≡ None) → (key : ℕ) → unwrap_or (new_get key) None ≡ None
 still_none old_get new_get put own others x key = ⊎_elim (λ e. subst (λ j. unwrap_or (new_get j) None ≡ None) e (rw own refl)) (λ ne. rw (others key ne) (x key)) (cases_eq put key)
 
--- the call at a place, whichever stands for what is past the end
+-- the call at a place, whichever is put in for what is past the end
 same_call : (calls : List Call) (n : ℕ) (call d : Call) → n < length calls → call ≡ get_or calls n call → get_or calls n d ≡ call
 same_call calls n call d i e = get_or_default calls n d call i ∙ sym e
 

@@ -1,4 +1,4 @@
--- The best turn is the greatest after which an ordered read tells what it has told.
+-- The best turn is the greatest after which an ordered read answers what it has answered.
 use Rattle.std.proofs.Common.{◌≡◌, ℕ, suc, ◌<◌, ◌≤◌, inl, inr, ⊎_elim, Bool, true, false, cond, ltb, leb, ◌&&◌, List, [], ◌∷◌, take, Option, Some, None, ◌↔◌, refl, sym, ◌∙◌, ap, subst, arith}
 use Rattle.std.specs.List.{filter}
 use Rattle.std.specs.Prelude.{unwrap_or}
@@ -23,7 +23,7 @@ use Rattle.linearization.proofs.Chains.{changes_of}
 use Rattle.linearization.proofs.Told.{filter_rises, told_like, like_told}
 use Rattle.linearization.proofs.Weights.{key_bound, value_beyond, weight_at, IsWeighed, weighed_all}
 
--- What a reply says and which pairs it tells
+-- What a reply says and which pairs it has
 
 pub successor_first : (k : ℕ) (m : List Pair) → successor k m ≡ first_pair (filter (λ (p : Pair). ltb k p.key) m)
 successor_first k [] = refl
@@ -109,7 +109,7 @@ last_alone p (q ∷ s ∷ ps) r e =
     let low = last_above q.key p (s ∷ ps) r.0 last in
     rw (lt-leb p.key q.key low) (last_alone p (s ∷ ps) r.1 last)
 
--- so what tells the last pair tells just that
+-- so what answers the last pair answers just that
 last_tells : (told m : List Pair) → IsRising m → Tells (Map PopLastOf) told m ↔ (pairs_in (Some (pair_or_none (last_pair m))) ≡ told)
 last_tells [] [] r = (λ e. refl, λ e. refl)
 last_tells [] (p ∷ ps) r = (λ e. absurd (some e), λ e. absurd (let z : unwrap_or (last_pair ps) p ∷ [] ≡ [] = e in cc))
@@ -137,7 +137,7 @@ last_tells (p ∷ q ∷ ps) m r = (λ e. absurd (none m e), λ e. absurd (two (l
 by_same : (told m : List Pair) (command : Command) (call : MapCall) → pairs_in (Some (reply call m)) ≡ pairs_read command told m → Tells command told m ↔ (pairs_in (Some (reply call m)) ≡ told)
 by_same told m command call e = (λ x. e ∙ x, λ x. sym e ∙ x)
 
--- the reply to an ordered read has just the pairs that it tells
+-- the reply to an ordered read has just the pairs that it answers
 pub reply_tells : (command : Command) (call : MapCall) (told m : List Pair) → IsOrderedRead command → map_call (Some command) ≡ Some call → IsRising m → Tells command told m ↔ (pairs_in (Some (reply call m)) ≡ told)
 reply_tells (Map PopOf) call told m ordered is rises =
     let same : call_pop_first ≡ call = cc in
@@ -189,11 +189,11 @@ module _ (command : Command) (pairs : List Pair) (all : List Place) (calls : Lis
   unlike_now : (j m : ℕ) → is_unlike command pairs j (get j (map_at calls lines m)) ≡ is_unlike command pairs j (value_at j m (changes_of all))
   unlike_now j m = ap (is_unlike command pairs j) (value_is calls (written_log lines) (changes_of all) j m are)
 
-  -- where the pairs are told no key is unlike them
+  -- if the pairs are answered no key is unlike them
   weightless : (m : ℕ) → Tells command pairs (map_at calls lines m) → weight_at (is_unlike command pairs) (key_bound (changes_of all)) (changes_of all) m ≡ 0
   weightless m told = count_nothing (key_bound (changes_of all)) (λ j. is_unlike command pairs j (value_at j m (changes_of all))) (λ j. sym (unlike_now j m) ∙ told_like command pairs (map_at calls lines m) (rises m) told j)
 
-  -- and where no key is they are told, if they are told at all
+  -- and if no key is they are answered, if they are answered at all
   told_there : (n m : ℕ) → Tells command pairs (map_at calls lines n) → weight_at (is_unlike command pairs) (key_bound (changes_of all)) (changes_of all) m ≡ 0 → Tells command pairs (map_at calls lines m)
   told_there n m told none = like_told command pairs (map_at calls lines m) (map_at calls lines n) (rises m) (rises n) told like
     where
@@ -216,7 +216,7 @@ module _ (command : Command) (pairs : List Pair) (all : List Place) (calls : Lis
 
 -- In the words of a reply
 
--- what is found of the pairs that a reply tells is found of the reply
+-- what is found of the pairs that a reply has is found of the reply
 pub found_reply : (command : Command) (call : MapCall) (told : Option MapReply) (calls : List Call) (lines : List Line) (n first last m : ℕ) → ((j : ℕ) → IsRising (map_at calls lines j)) → IsOrderedRead command → map_call (Some command) ≡ Some call → told ≡ Some (reply call (map_at calls lines n)) → (Tells command (pairs_in told) (map_at calls lines n) → IsGreatestTurn (λ j. Tells command (pairs_in told) (map_at calls lines j)) first last m) → IsGreatestTurn (λ j. told ≡ Some (reply call (map_at calls lines j))) first last m
 found_reply command call told calls lines n first last m rises ordered is says found =
     let x = found (has n says) in

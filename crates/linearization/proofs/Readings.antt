@@ -1,4 +1,4 @@
--- A call that has answered and changed nothing took place in a turn of its own that `greatest`
+-- A call that has answered and changed nothing took place in a turn of its own that `latest`
 -- finds.
 use Rattle.std.proofs.Common.{◌≡◌, ℕ, zero, suc, ◌<◌, inl, inr, false, leb, List, [], ◌∷◌, take, arith, Some, None, refl, sym, ap, subst}
 use Rattle.std.proofs.lemmas.Bool.{cases_lt, lt-leb, and_right}
@@ -17,7 +17,7 @@ use Rattle.record.proofs.Lemmas.{entries_none}
 
 -- An ordered read
 
--- a call that stands at the greatest turn after which the map replies what it has told is a reading
+-- a call whose turn is the greatest after which the map replies what it has answered is a reading
 pub ordered_placed : (lay : Layout) (tries : ℕ) (calls : List Call) (lines : List Line) (r : Finished) (call : MapCall) (turn : ℕ) → AreLines lay tries calls lines → won lay lines r.client.0 ≡ None → r.call ≡ answered lines r.client.0 → r.moment ≡ Some turn → IsGreatestTurn (λ m. reply_told r.answer ≡ Some (reply call (map_at calls lines m))) r.begin r.end turn → IsPlacedReading calls lines call r
 ordered_placed lay tries calls lines r call turn a unwon number moment greatest = record {
   none = subst (λ (n : ℕ). entries_of_call r.client.0 n (written_log lines) ≡ 0) (sym number) (entries_none lay tries calls lines a r.client.0 unwon);
@@ -26,7 +26,7 @@ ordered_placed lay tries calls lines r call turn a unwon number moment greatest 
   greatest = greatest;
 }
 
--- what a range tells that takes nothing
+-- what a range answers that takes nothing
 none_between : (low high : ℕ) (m : List Pair) → high < low → between low high m ≡ []
 none_between low high [] i = refl
 none_between low high (p ∷ ps) i = elim (cases_lt high p.key) [

@@ -1,4 +1,4 @@
--- The pairs that an ordered read tells, found key by key.
+-- The pairs that an ordered read answers, found key by key.
 use Rattle.std.proofs.Common.{◌≡◌, ◌≢◌, ℕ, zero, suc, ◌<◌, ⊎_elim, Bool, true, false, cond, List, [], ◌∷◌, length, take, Option, Some, None, All, Less, refl, sym, ◌∙◌, ap, subst, arith}
 use Rattle.std.specs.Prelude.{unwrap_or}
 use Rattle.std.specs.List.{filter}
@@ -105,9 +105,9 @@ held_filter {X} looks value (e ∷ es) = go (looks e.0) refl (value e.0) refl (h
     go false t (Some v) is rest = rw t rest
     go false t None is rest = rest
 
--- What is told
+-- What is answered
 
--- the first pairs that are held of a map, by keys of which it has no others, are those that are told
+-- the first pairs held of a map, by keys such that it has no others, are those answered
 pub told_held : {X : Type 0} (command : Command) (pairs : List Pair) (es : List (ℕ × X)) (m : List Pair) → IsStrictlySortedBy nat_cmp (keys_of es) → IsRising m → ((j : ℕ) → lookup (is_at (nat_cmp j)) es ≡ None → get j m ≡ None) → take (most_told command) (held (λ j. get j m) (filter (λ e. looks_for command pairs e.0) es)) ≡ pairs_read command pairs m
 told_held {X} command pairs es m sorted rises unknown = ap (take (most_told command)) (held_filter (looks_for command pairs) (λ j. get j m) es) ∙ take_same (most_told command) (filter (λ (p : Pair). looks_for command pairs p.key) (held (λ j. get j m) es)) (filter (λ (p : Pair). looks_for command pairs p.key) m) (filter_rises (looks_for command pairs) (held (λ j. get j m) es) (held_rises (λ j. get j m) es sorted)) (filter_rises (looks_for command pairs) m rises) (λ j t. agree j)
   where
@@ -145,7 +145,7 @@ module _ {X : Type 0} (value : ℕ → Option ℕ) (all : List (ℕ × X)) (most
   pub told_none : (e : ℕ × X) (es : List (ℕ × X)) (left : ℕ) (rest : List Pair) → value e.0 ≡ None → IsToldBy value all most pairs (e ∷ es) left rest → IsToldBy value all most pairs es left rest
   told_none e es left rest none x = rw none at x
 
-  -- and one with a value is told
+  -- and one with a value is answered
   pub told_more : (e : ℕ × X) (es : List (ℕ × X)) (v left less : ℕ) (rest others : List Pair) → value e.0 ≡ Some v → (first : Pair) × (first.key ≡ e.0) × (first.value ≡ v) × (rest ≡ first ∷ others) → suc less ≡ left → IsToldBy value all most pairs (e ∷ es) left rest → IsToldBy value all most pairs es less others
   told_more e es v left less rest others is first less_is x = (λ told. x.0 (begins ∙ ap (λ ps. pair_of e.0 v ∷ ps) told ∙ sym ends), λ told. behind (sym begins ∙ x.1 told ∙ ends))
     where
@@ -161,14 +161,14 @@ module _ {X : Type 0} (value : ℕ → Option ℕ) (all : List (ℕ × X)) (most
       behind : pair_of e.0 v ∷ take less (held value es) ≡ pair_of e.0 v ∷ others → take less (held value es) ≡ others
       behind q = cc
 
-  -- which no other pair may stand for
+  -- which no other pair may replace
   pub told_other : (e : ℕ × X) (es : List (ℕ × X)) (v left less : ℕ) (rest : List Pair) → value e.0 ≡ Some v → ((first : Pair) (others : List Pair) → first.key ≡ e.0 → first.value ≡ v → rest ≢ first ∷ others) → suc less ≡ left → IsToldBy value all most pairs (e ∷ es) left rest → take most (held value all) ≢ pairs
   told_other e es v left less rest is other less_is x told = other (pair_of e.0 v) (take less (held value es)) refl refl (sym (x.1 told) ∙ begins)
     where
       begins : take left (held value (e ∷ es)) ≡ pair_of e.0 v ∷ take less (held value es)
       begins = rw (is, sym less_is) refl
 
-  -- so many are told
+  -- this many are answered
   pub so_many : (es : List (ℕ × X)) (left : ℕ) (rest : List Pair) → left ≡ 0 → IsToldBy value all most pairs es left rest → IsToldBy value all most pairs [] left rest
   so_many es left rest none x = rw none (rw none at x)
 
@@ -197,7 +197,7 @@ pub first_some : (key value : ℕ) (m : List Pair) → get key m ≡ Some value 
 first_some key value [] is = let y : None ≡ Some value = is in absurd (cc)
 first_some key value (p ∷ ps) is = (p, refl)
 
--- and one of which a pop would tell no pair has none
+-- and one for which a pop would answer no pair has none
 pub first_none : (m : List Pair) → [] ≡ pairs_read (Map PopFirst) [] m → first_pair m ≡ None
 first_none [] is = refl
 first_none (p ∷ ps) is = absurd (cc)

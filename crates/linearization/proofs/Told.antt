@@ -1,4 +1,4 @@
--- What an ordered read tells depends on the values of a few keys: those that it reaches.
+-- What an ordered read answers depends on the values of a few keys: those that it reaches.
 use Rattle.std.proofs.Common.{◌≡◌, ◌≢◌, ℕ, zero, suc, ◌<◌, ◌≤◌, ◌⊎◌, inl, inr, ⊎_elim, Bool, true, false, cond, ◌&&◌, ◌||◌, not, eqb, leb, ltb, List, [], ◌∷◌, length, take, Option, Some, None, refl, sym, ◌∙◌, ap, arith}
 use Rattle.std.specs.Option.{option_eq}
 use Rattle.std.specs.List.{filter}
@@ -120,7 +120,7 @@ take_same (suc n) (p ∷ ps) (q ∷ qs) r s agree = go (cases_order p.key q.key)
     go (inr (inl l)) more = absurd (let y : Some p.value ≡ None = sym (get_first p ps) ∙ agree p.key (reached p.key (omega (l, arith))) ∙ get_low p.key p.key (q ∷ qs) (omega arith) (l, above_less p.key q.key qs (omega (l, arith)) s.0) in cc)
     go (inr (inr l)) more = absurd (let y : None ≡ Some q.value = sym (get_low q.key q.key (p ∷ ps) (omega arith) (l, above_less q.key p.key ps (omega (l, arith)) r.0)) ∙ agree q.key (reached q.key (omega arith)) ∙ get_first q qs in cc)
 
--- What a read tells of a map
+-- What a read answers on a map
 
 same_option : (a b : Option ℕ) → a ≡ b → option_eq eqb a b ≡ true
 same_option None None e = refl
@@ -128,7 +128,7 @@ same_option (Some x) (Some y) e = eq-eqb x y (some_same x y e)
 same_option None (Some y) e = absurd (cc)
 same_option (Some x) None e = absurd (cc)
 
--- of a map of which it tells these pairs no key is unlike them
+-- on a map on which it answers these pairs no key is unlike them
 pub told_like : (command : Command) (pairs m : List Pair) → IsRising m → Tells command pairs m → (j : ℕ) → is_unlike command pairs j (get j m) ≡ false
 told_like command pairs m r told j = go (looks_for command pairs j) refl (reaches (most_told command) pairs j) refl
   where
@@ -143,7 +143,7 @@ told_like command pairs m r told j = go (looks_for command pairs j) refl (reache
         let gives = take_gives (most_told command) j sought (filter_rises (looks_for command pairs) m r) (ap (λ ps. reaches (most_told command) ps j) told ∙ t) in
         rw (same_option (get j pairs) (get j m) (ap (get j) (sym told) ∙ sym gives ∙ have)) refl
 
--- and of another one of which no key is unlike them it tells these
+-- and on another one without a key unlike them it answers these
 pub like_told : (command : Command) (pairs m old : List Pair) → IsRising m → IsRising old → Tells command pairs old → ((j : ℕ) → is_unlike command pairs j (get j m) ≡ false) → Tells command pairs m
 like_told command pairs m old r s told like = take_same (most_told command) sought before (filter_rises (looks_for command pairs) m r) (filter_rises (looks_for command pairs) old s) agree ∙ told
   where

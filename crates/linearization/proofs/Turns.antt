@@ -1,4 +1,4 @@
--- Each moment of a reading call is behind one of its turns: the words spelled then the map that the
+-- Each moment of a reading call is just after one of its turns: the words spelled then the map that
 -- record has after that turn.
 use Rattle.std.proofs.Common.{◌≡◌, ℕ, suc, ◌≤◌, ◌⊎◌, inl, inr, ⊎_elim, Bool, true, false, cond, ◌&&◌, eqb, not, List, [], ◌∷◌, Option, Some, None, refl, sym, ◌∙◌, ap, subst, arith}
 use Rattle.std.specs.Prelude.{leb}
@@ -69,7 +69,7 @@ same_tail : (a b : History) (r t : StepRow) → r ⊳ a ≡ t ⊳ b → a ≡ b
 unfolding tail_of
 same_tail a b r t e = ap tail_of e
 
--- no moment is one behind itself
+-- no moment is after itself
 never_behind : (h : History) (row : StepRow) → Extends h (row ⊳ h) → ⊥
 never_behind (Start mode) row e = absurd (let y : row ⊳ Start mode ≡ Start mode = e in cc)
 never_behind (r ⊳ h) row (inl e) = never_behind h r (subst (λ (k : History). Extends h k) (sym (same_tail (r ⊳ h) h row r e)) (ends_self h))
@@ -110,7 +110,7 @@ is_won_update lay lines n row e x u = go (is_update row.kind) u x
     go false d x = let y : None ≡ Some e = x in absurd (cc)
 
 module _ (lay : Layout) (tries : ℕ) (calls : List Call) (c : ℕ) (command : Command) where
-  -- a moment behind the call's begin; or the one just before its first turn, of a call that makes no
+  -- a moment after the call's start; or the one just before its first turn, of a call that makes no
   -- update
   abbrev IsMomentSince : History → History → Type 0
   IsMomentSince start h = Extends h start × (h ≡ start → (kind : Kind) → MayMake command kind → is_update kind ≡ false)
@@ -189,7 +189,7 @@ module _ (lay : Layout) (tries : ℕ) (calls : List Call) (c : ℕ) (command : C
   moments (Log entry ∷ ReplyLine reply ∷ lines) a x owed h ps first is e within since s = absurd a.1
   moments (Log entry ∷ []) a x owed h ps first is e within since s = absurd a.1
 
-  -- and one of any call after which the map replies what it has replied behind a row of the call's time
+  -- and one of any call after which the map replies what it has replied after a row within the call
   pub replied_turn : (lines : List Line) (call : MapCall) (told : MapReply) (first : ℕ) → AreLines lay tries calls lines → AreSpelled lay calls lines → entry_owed lay lines ≡ None → next_command calls lines c ≡ Some command → begin lines c ≡ Some first → HasReplied lay (history lay.mode lines) (start lay.mode lines c) call told → IsRepliedIn calls lines call told first
   replied_turn lines call told first a x owed is e h =
       let since = ends_trans h.moment (h.row ⊳ h.before) (start lay.mode lines c) h.behind (inr h.since) in

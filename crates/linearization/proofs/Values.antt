@@ -31,7 +31,7 @@ pub until_all : (turn m : ℕ) (es : List Entry) → AreUpTo turn es → turn �
 until_all turn m [] a i = refl
 until_all turn m (e ∷ es) a i = rw (le-leb e.step m (let j = a.0 in omega (j, i, arith))) (ap (λ rest. e ∷ rest) (until_all turn m es a.1 i))
 
--- with one more of both, whether its turn has come or not
+-- with one more of both, whether its turn is reached or not
 value_more : (calls : List Call) (e : Entry) (es : List Entry) (c : Change) (cs : List Change) (m : ℕ) → IsChangeOf calls es e c → IsRising (map_of calls (entries_until m es)) × ((key : ℕ) → get key (map_of calls (entries_until m es)) ≡ value_at key m cs) → (b : Bool) → leb e.step m ≡ b → IsRising (map_of calls (cond b (e ∷ entries_until m es) (entries_until m es))) × ((key : ℕ) → get key (map_of calls (cond b (e ∷ entries_until m es) (entries_until m es))) ≡ cond b (cond (eqb key c.key) c.value (value_at key m cs)) (value_at key m cs))
 value_more calls e es c cs m x older true come =
     let all : entries_until m es ≡ es = until_all e.step m es x.2 (leb-true e.step m come) in

@@ -1,4 +1,4 @@
--- How many keys are not as told after each turn, from the newest change to the oldest.
+-- How many keys are not as answered after each turn, from the newest change to the oldest.
 use Rattle.std.proofs.Common.{◌≡◌, ℕ, suc, ◌+◌, ◌-◌, ◌<◌, ◌≤◌, inl, inr, Bool, true, false, cond, eqb, leb, List, [], ◌∷◌, ◌++◌, length, length-append, get_or, reverse, Option, Some, None, refl, sym, ◌∙◌, ap, subst, arith, append_assoc}
 use Rattle.std.proofs.lemmas.Bool.{le-leb, eq-eqb, ne_eqb, cases_lt}
 use Rattle.std.proofs.lemmas.List.{length-reverse}
@@ -84,7 +84,7 @@ pub fall_less : (a b : ℕ) (cs : List Change) → a ≤ b → FallFrom a cs →
 fall_less a b [] i f = tt
 fall_less a b (c ∷ cs) i f = ((let x = f.0 in omega (x, i, arith)), f.1)
 
--- after a turn that none is behind, a key has what the newest change left
+-- after a turn later than which there is none, a key has what the newest change left
 pub value_settled : (j m : ℕ) (cs : List Change) → FallFrom (suc m) cs → value_at j m cs ≡ newest_value j cs
 value_settled j m [] f = refl
 value_settled j m (c ∷ cs) f =
@@ -93,7 +93,7 @@ value_settled j m (c ∷ cs) f =
 
 -- Weights
 
--- how many keys are unlike what is told after these changes
+-- how many keys are unlike what is answered after these changes
 abbrev pub weight : (ℕ → Option ℕ → Bool) → ℕ → List Change → ℕ
 weight unlike n cs = count n (λ j. unlike j (newest_value j cs))
 
@@ -101,7 +101,7 @@ weight unlike n cs = count n (λ j. unlike j (newest_value j cs))
 abbrev pub weight_at : (ℕ → Option ℕ → Bool) → ℕ → List Change → ℕ → ℕ
 weight_at unlike n cs m = count n (λ j. unlike j (value_at j m cs))
 
--- Of the turns from `until` on `best` is the greatest with the fewest keys that are not as told.
+-- Of the turns from `until` on `best` is the greatest with the fewest keys unlike what is answered.
 -- Up to `until` each key has what the places in `rest` say, after which there are `more` such keys.
 pub record IsWeighed (unlike : ℕ → Option ℕ → Bool) (n first last best more : ℕ) (all rest : List Place) : Type 0 where
   pub until : ℕ
@@ -160,7 +160,7 @@ module _ (unlike : ℕ → Option ℕ → Bool) (n first last : ℕ) (all : List
       before : weight_at unlike n (changes_of all) (turn - 1) ≡ weight unlike n (changes_of older)
       before = count_same n (λ j. unlike j (value_at j (turn - 1) (changes_of all))) (λ j. unlike j (newest_value j (changes_of older))) (λ j. ap (unlike j) (agree j (turn - 1) (omega arith) ∙ value_settled j (turn - 1) (changes_of older) falls))
 
-      -- and behind it
+      -- and after it
       behind : (m : ℕ) → turn ≤ m → m ≤ x.until → weight_at unlike n (changes_of all) m ≡ weight_at unlike n (changes_of all) best + more
       behind m i l = weight_here best more m (p ∷ older) x l (omega (i, arith), x.falls.1) ∙ x.heavy
 
@@ -214,7 +214,7 @@ module _ (unlike : ℕ → Option ℕ → Bool) (n first last : ℕ) (all : List
       go false true w s (inl y) = rw (y.1, y.2) (becomes (let c = changed false true w s in let z = y.0 in omega (c, z, arith)) y.0)
       go false true w s (inr y) = rw y.0 (stays more' (let c = changed false true w s in let z = y.1 in omega (c, z, arith)))
 
-  -- once all changes behind the first turn are passed, the best is that of all turns
+  -- once all changes after the first turn are passed, the best is that of all turns
   pub weighed_all : (best more : ℕ) (rest : List Place) → (x : IsWeighed unlike n first last best more all rest) → FallFrom (suc first) (changes_of rest) → (m : ℕ) → first ≤ m → m ≤ last → weight_at unlike n (changes_of all) best ≤ weight_at unlike n (changes_of all) m
   weighed_all best more rest x falls m i l = elim (cases_lt x.until m) [
     | inl q ↦ x.least m (omega (q, arith)) l
@@ -223,7 +223,7 @@ module _ (unlike : ℕ → Option ℕ → Bool) (n first last : ℕ) (all : List
 
 -- The search, place by place
 
--- so many places are left
+-- how many places are left
 pub record IsWeighing (unlike : ℕ → Option ℕ → Bool) (n first last best more left : ℕ) (all : List Place) : Type 0 where
   pub newer : List Place
   pub rest : List Place
@@ -267,7 +267,7 @@ module _ (unlike : ℕ → Option ℕ → Bool) (first last best more left : ℕ
         weighed = weighed_next unlike (key_bound (changes_of (reverse items))) first last (reverse items) best more best' more' place y.older was is (subst (λ qs. IsWeighed unlike (key_bound (changes_of (reverse items))) first last best more (reverse items) qs) y.is x.weighed) late below (ap (unlike place.change.key) (sym said) ∙ sym w) (sym s) next;
       }
 
-  -- where the next change is not behind the first turn, no other one is
+  -- if the next change is not after the first turn, no other one is
   pub weighing_ends : (x : IsWeighing unlike (key_bound (changes_of (reverse items))) first last best more left (reverse items)) → place.change.turn ≤ first → FallFrom (suc first) (changes_of x.rest)
   weighing_ends x early =
       let y = place_next items x.newer x.rest left place x.is x.number some here in

@@ -1,5 +1,5 @@
--- Which changes of the map the entries of a record's log are. Entries and changes stand here with
--- the newest first.
+-- Which changes of the map the entries of a record's log are. Entries and changes have
+-- the newest first here.
 use Rattle.std.specs.Prelude.{◌≡◌, ℕ, ◌≤◌, List, [], ◌∷◌, Option, Some, None}
 use Rattle.ordered_map.specs.declared.pair.Pair.{Pair}
 use Rattle.ordered_map.specs.OrderedMap.{MapCall, MapEdit, edit_key, edit_of, first_pair, get, reply, value_left}
@@ -24,7 +24,7 @@ abbrev pub AreUpTo : ℕ → List Entry → Type 0
 AreUpTo turn [] = Unit {0}
 AreUpTo turn (e ∷ es) = (e.step ≤ turn) × AreUpTo turn es
 
--- the change is that of the entry's call, in the entry's turn, behind these older entries, which are
+-- the change is that of the entry's call, in the entry's turn, after these older entries, which are
 -- of turns up to it
 abbrev pub IsChangeOf : List Call → List Entry → Entry → Change → Type 0
 IsChangeOf calls older e change = (change.turn ≡ e.step) × IsChangeBy (map_call_of calls e.client.0 e.call) (map_of calls older) change × AreUpTo e.step older

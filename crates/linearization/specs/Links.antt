@@ -1,5 +1,5 @@
--- How the changes of one key hang together. Places stand here with the newest first; the number of
--- a place is how many stand behind it.
+-- How the changes of one key hang together. Places have the newest first here; the number of
+-- a place is how many there are after it.
 use Rattle.std.specs.Prelude.{◌≡◌, ℕ, if◌then◌else◌, ◌==◌, List, [], ◌∷◌, ◌++◌, length, Option, Some, None}
 use Rattle.linearization.specs.declared.places.Change.{Change}
 use Rattle.linearization.specs.declared.places.Place.{Place}

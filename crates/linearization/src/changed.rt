@@ -6,7 +6,7 @@ ghost use Rattle.linearization.specs.Changed.{changed_key, entered_edit};
 
 use script::Command;
 
-/// The key of which a command speaks whose value it may change, if it may change one.
+/// The key of a command whose value it may change, if it may change one.
 pub(crate) fn changed_key(command: Command) -> Option<u64>
     ensures { result ≡ changed_key command }
 {

@@ -1,5 +1,5 @@
-//! When a key of a run's map had which value, and when the map gave what an ordered read has told,
-//! found without a look at every step.
+//! When a key of a run's map had which value, and when the map gave what an ordered read has
+//! answered, found without a look at every step.
 #![tactic(auto)]
 
 mod changed;

@@ -1,4 +1,4 @@
-//! Ordered reads: which keys they look for, and what they tell of the map.
+//! Ordered reads: which keys they look for, and what they answer of the map.
 ghost use Rattle.std.specs.Prelude.{◌≡◌, ◌≢◌, ℕ, ◌+◌, ◌^◌, ◌<◌, List, ◌∷◌, IfSome, IfNone, nat_le};
 ghost use Rattle.std.specs.List.{list_any};
 ghost use Rattle.std.specs.Ordering.{nat_cmp};
@@ -15,7 +15,7 @@ use script::Command;
 use std::ops::Bound;
 use std::slice;
 
-/// The pairs that a reply tells.
+/// The pairs that a reply has.
 pub fn pairs_told(reply: &Reply<u64, u128>) -> &[(u64, u128)]
     ensures { number_pairs result.now ≡ pairs_in (number_reply reply.now) }
 {
@@ -26,7 +26,7 @@ pub fn pairs_told(reply: &Reply<u64, u128>) -> &[(u64, u128)]
     }
 }
 
-/// Whether a key of this value is not as these pairs tell, which the read has told.
+/// Whether a key of this value is not as these pairs say, which the read has answered.
 pub(crate) fn is_unlike(
     command: &Command,
     pairs: &[(u64, u128)],
@@ -40,7 +40,7 @@ pub(crate) fn is_unlike(
         && value_in(pairs, key) != value
 }
 
-/// Whether the read looks for this key, where it tells these pairs.
+/// Whether the read looks for this key, if it answers these pairs.
 fn looks_for(command: &Command, pairs: &[(u64, u128)], key: u64) -> bool
     ensures { result ≡ looks_for command.now (number_pairs pairs.now) key }
 {
@@ -104,7 +104,7 @@ pub(crate) fn most_told(command: &Command) -> usize
     }
 }
 
-/// Whether these pairs, of at most so many, tell what the key has.
+/// Whether these pairs, at most `most`, say what the key has.
 fn reaches(most: usize, pairs: &[(u64, u128)], key: u64) -> bool
     ensures { result ≡ reaches most (number_pairs pairs.now) key }
 {
@@ -123,7 +123,7 @@ fn go_as_far(pairs: &[(u64, u128)], key: u64) -> bool
     false
 }
 
-/// The pairs behind the first one, where that has this key and this value.
+/// The pairs after the first one, if that has this key and this value.
 pub(crate) fn behind(pairs: &[(u64, u128)], key: u64, value: u128) -> Option<&[(u64, u128)]>
     ensures some { IfSome result (λ rest. (first : PairOf) × (first.key ≡ key) × (first.value ≡ value) ×
         (number_pairs pairs.now ≡ first ∷ number_pairs rest.now)) }
@@ -149,8 +149,8 @@ fn value_in(pairs: &[(u64, u128)], key: u64) -> Option<u128>
     None
 }
 
-/// The better of two turns, and how many keys more are not as told after the older one: just before
-/// a change whose key was not as told before it, or is not so behind it.
+/// The better of two turns, and how many keys more are not as answered after the older one: just
+/// before a change whose key was not so before it, or is not so after it.
 pub(crate) fn next_best(was: bool, is: bool, older: u64, best: u64, more: usize) -> (u64, usize)
     requires { more + 1 < 2 ^ 64 }
     ensures { IsNextBest was is older best more result.0 result.1 }

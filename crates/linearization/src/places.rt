@@ -20,14 +20,14 @@ pub struct Change {
     pub value: Option<u128>,
 }
 
-/// A change, and where in the list the one before it of the same key stands.
+/// A change, and where in the list the one before it of the same key is.
 #[derive(Clone, Copy, Debug, PartialEq, Eq)]
 struct Place {
     change: Change,
     before: Option<usize>,
 }
 
-/// The changes of a run's map, in order, and where the newest of each key stands.
+/// The changes of a run's map, in order, and where the newest of each key is.
 #[derive(Drop)]
 pub struct Places {
     list: Vec<Place>,
@@ -127,8 +127,8 @@ impl Places {
         if value.is_none() { Some(until) } else { None }
     }
 
-    /// Whether the key had a value, whatever it was, after some turn from `first` to `last`. It goes
-    /// back over the changes of this key alone.
+    /// Whether the key had a value, whatever it was, after some turn from `first` to `last`. It
+    /// goes back over the changes of this key alone.
     pub fn had_some(&self, key: u64, first: u64, last: u64) -> bool
         requires { first ≤ last }
         ensures found { (calls : List Call) (lines : List Line) → AreEntries calls lines (changes self.now) → IsTrue result →
@@ -152,8 +152,8 @@ impl Places {
         false
     }
 
-    /// Whether the map had a pair after some turn from `first` to `last`. It goes over the keys, and
-    /// back over the changes of each.
+    /// Whether the map had a pair after some turn from `first` to `last`. It goes over the keys,
+    /// and back over the changes of each.
     pub fn had_pair(&self, first: u64, last: u64) -> bool
         requires { first ≤ last }
         ensures found { (calls : List Call) (lines : List Line) → AreEntries calls lines (changes self.now) → IsTrue result →
@@ -172,8 +172,8 @@ impl Places {
         false
     }
 
-    /// Whether these pairs are what an ordered read tells of the map after a turn. It goes over the
-    /// keys between which the read looks alone, and no further than the read tells.
+    /// Whether these pairs are what an ordered read answers of the map after a turn. It visits the
+    /// keys between which the read looks alone, and no further than the read answers.
     pub fn tells(&self, command: &Command, pairs: &[(u64, u128)], turn: u64) -> bool
         ensures told { (calls : List Call) (lines : List Line) → AreEntries calls lines (changes self.now) → IsTrue result →
             Tells command.now (number_pairs pairs.now) (map_at calls lines turn) }
@@ -197,7 +197,7 @@ impl Places {
         rest.is_empty()
     }
 
-    /// The value after a turn of the key whose newest change stands here.
+    /// The value after a turn of the key whose newest change is here.
     fn value_from(&self, newest: Option<usize>, turn: u64) -> Option<u128>
         requires { (key : ℕ) × (newest ≡ latest key (reverse self.now.list.items)) }
         ensures { (key : ℕ) (calls : List Call) (lines : List Line) → newest ≡ latest key (reverse self.now.list.items) →
@@ -215,7 +215,7 @@ impl Places {
     }
 
     /// The greatest turn from `first` to `last` after which the map replies to an ordered read what
-    /// this reply tells, if there is one.
+    /// this reply says, if there is one.
     pub fn latest_reply(
         &self,
         command: &Command,
@@ -233,8 +233,8 @@ impl Places {
         self.latest_with_pairs(command, pairs_told(reply), first, last)
     }
 
-    /// The same by the pairs that are told: the best turn, after which the fewest keys are not as
-    /// told, and of these the greatest. It goes back from change to change.
+    /// The same by the pairs that are answered: the best turn, after which the fewest keys are not
+    /// so, and of these the greatest. It goes back from change to change.
     fn latest_with_pairs(
         &self,
         command: &Command,
@@ -274,7 +274,7 @@ impl Places {
         place.change.value
     }
 
-    /// Where the newest change of a key stands.
+    /// Where the newest change of a key is.
     fn newest_of(&self, key: u64) -> Option<usize>
         ensures { result ≡ latest key (reverse self.now.list.items) }
     {

@@ -11,7 +11,7 @@ use std::alloc::{AllocError, Global};
 use std::sync::atomic::{AtomicU64, Ordering};
 use std::thread::{Threads, map_vec};
 
-/// From names of up to 8 characters to the pages that they stand on.
+/// From names of up to 8 characters to the pages on which they are.
 type Index = Dict<Name8, u32>;
 
 /// A pass for each thread. A new name takes three nodes at most and an SCX-record, which are never
@@ -32,7 +32,7 @@ const NEW: [[(&str, u32); 4]; 2] = [
     [("drop", 15), ("first", 9), ("max", 7), ("zip", 41)],
 ];
 
-/// Enters a name, and asks again as long as others are in the way. Answers whether it is a name and
+/// Enters a name, and calls again while others are in the way. Answers whether it is a name and
 /// the share of this pass has had room for it.
 fn enter(index: &Forest<Index>, pass: &mut Pass<Index>, name: &str, page: u32) -> bool
     requires { IsOf index.now pass.old }
@@ -114,7 +114,7 @@ fn work(index: &Forest<Index>, pass: Pass<Index>, wrong: &AtomicU64) -> Pass<Ind
     }
 }
 
-/// All threads work, and come back with their passes.
+/// All threads work, and return their passes.
 fn work_all<R: Threads + Sync>(
     rt: &R,
     index: &Forest<Index>,

@@ -171,7 +171,7 @@ module _ (r : Neighbour) (snaps : List Snap) (c : Call) (h : History) (n : NodeN
       go b same (Within slot key) e y = absurd y
       go b same Beyond e y = (refl, y)
 
-  -- of which it loads no key
+  -- whose key it does not load
   pub high_looks : (head : HeadParts) → head_at h n.0 ≡ head → asks_on_route r.route head ≡ false → head.leaf ≡ false → Looks neighbour_means r snaps c h (children_on r.side r.route sides.Left) head.level n.0
   high_looks head is e fork = looks_at sides.Left head.level (ap (λ (w : HeadParts). w.leaf) is ∙ fork) (ap (λ (w : HeadParts). w.level) is) (λ beside on. rw (lt-ltb r.key (rank (value h) n.0) (low (subst (λ route. asks_on_route route head ≡ false) on e))) refl)
     where

@@ -1,4 +1,4 @@
--- What the layers above know of ordered reads beside their clauses, passed on from one place: no
+-- What the layers above know of ordered reads besides their clauses, exported from one place: no
 -- other module of these proofs can be named outside. Declares nothing.
 pub use Rattle.order.proofs.Looking.{walk_found}
 pub use Rattle.order.proofs.Ready.{read_ready_first}

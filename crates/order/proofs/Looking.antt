@@ -68,7 +68,7 @@ last_turned c h k n Right f run small a last = go (ℕ_discrete n 0) last
     go (no d) (inl e) = absurd (d e)
     go (no d) (inr x) = rw (ne_eqb n 0 d) x
 
--- an LLX may begin at a node that has stood
+-- an LLX may begin at a node that has been in the tree
 pub look_ready : (c : Call) (h : History) (snaps : List Snap) (n : ℕ) (llx : LlxRun) → Reads c h snaps → HasStood c h n → llx.node.0 ≡ n → llx.at ≡ LlxStart → LlxIsReady TreeAllows llx (begun_at c h) h None
 look_ready c h snaps n llx reads stood is at = record {
   opened = rw is (opened_if_stood c.layout h n reads.run stood.stood);
@@ -99,7 +99,7 @@ module _ {R A : Type 0} (means : ReadMeaning R A) (r : R) (snaps : List Snap) (c
       stood : WasInTree h n
       stood = was_passed h x.passed.first key n p
 
-  -- so it may behind the leaf that its walk has found
+  -- so it may after the leaf that its walk has found
   pub walk_found : (key : ℕ) (side : Side) (turns : LastTurns) (f : Found) → WalksTo means r key side → AreLastTurns c h key turns → HasFoundGoal (ToKey key) c h f → Looks means r snaps c h (first_children side (turn_to side turns).0) 0 (turn_to side turns).0
   walk_found key side turns f w last found =
       let n = (turn_to side turns).0 in
@@ -121,7 +121,7 @@ module _ {R A : Type 0} (means : ReadMeaning R A) (r : R) (snaps : List Snap) (c
       one : (HasStood c h n.0) × (low < level (value h) n.0)
       one = ⊎_elim (λ e. rw e ((there Left).0, rises Left)) (λ e. rw e ((there Right).0, rises Right)) to.one
 
-      -- it goes on to the child to which that takes it
+      -- it continues to the child to which that takes it
       pub stands_below : means.call now ≡ means.call r → Stands means now (snaps ++ snap ∷ []) c h n.0 × (low < level (value h) n.0)
       stands_below same = (
         record {

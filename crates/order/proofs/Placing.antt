@@ -17,7 +17,7 @@ use Rattle.order.specs.Loads.{place_behind, place_in}
 use Rattle.order.specs.Meaning.{ReadMeaning}
 use Rattle.order.specs.declared.load.LeafPlace.{LeafPlace}
 
--- from a place on a leaf holds the pair there, and what is behind it
+-- from a place on a leaf holds the pair there, and what is after it
 pub place_next : (h : History) (p : LeafPlace) → more_at h p.node.0 ≡ p.more → held_from (value h) p.node.0 p.slot ≡ place_pair h p ∷ pairs_behind h p
 place_next h p count = held_next (value h) p.node.0 p.slot ∙ ap (λ more. place_pair h p ∷ held_behind (value h) p.node.0 (slot_behind more p.slot)) count
 
@@ -29,7 +29,7 @@ takes_here means r snaps c h p key x is takes = record { stands = x; key_is = λ
 pub pair_then : (c : Call) (h : History) (p : LeafPlace) (found : Pair) → WasInTree h p.node.0 → place_value h p ≡ found.value → (b : History) → IsTreeRun c.layout b → Extends b h → place_key b p ≡ found.key → place_pair b p ≡ found
 pair_then c h p found stood is b run e key_is = λ i. pair (key_is i) ((ap (λ (q : Pair). q.value) (same_pair (value h) (value b) p.node.0 p.slot (stood_settled c.layout b h p.node.0 run e stood)) ∙ is) i)
 
--- the place behind one is in the same leaf
+-- the place after one is in the same leaf
 record IsPlaceBehind (p q : LeafPlace) : Type 0 where
   slot : Slot
   some : slot_behind p.more p.slot ≡ Some slot
@@ -48,7 +48,7 @@ behind_node p q is = ap (λ (r : LeafPlace). r.node) (behind_is p q is).is
 pub behind_more : (h : History) (p q : LeafPlace) → place_behind p ≡ Some q → more_at h p.node.0 ≡ p.more → more_at h q.node.0 ≡ q.more
 behind_more h p q is count = subst (λ (r : LeafPlace). more_at h r.node.0 ≡ r.more) (sym (behind_is p q is).is) count
 
--- there it holds what is behind the first; where there is none, nothing is
+-- there it holds what is after the first; if there is none, nothing is
 pub behind_some : (h : History) (p q : LeafPlace) → place_behind p ≡ Some q → pairs_behind h p ≡ held_from (value h) q.node.0 q.slot
 behind_some h p q is =
     let x = behind_is p q is in

@@ -185,7 +185,7 @@ one_longer : (xs : List Pair) (p : Pair) → length (xs ++ p ∷ []) ≡ length 
 one_longer [] p = refl
 one_longer (x ∷ xs) p = let e = one_longer xs p in omega (arith, e)
 
--- one outside of the bounds is behind it
+-- one outside of the bounds is passed
 pub pair_passed : (r : Range) (snaps : List Snap) (c : Call) (h : History) (p : LeafPlace) (key : ℕ) → IsOwnMoment c h → StandsIn range_means r snaps c h p → place_key h p ≡ key → (key < r.low) ⊎ (r.high < key) → GoesOnBehind r snaps c h p
 pair_passed r snaps c h p key own x is out = record {
   own = own;
@@ -217,10 +217,10 @@ pair_taken r snaps c h p found taken own x is items = record {
       );
 }
 
--- Behind a pair
+-- After a pair
 
 module _ (r : Range) (snaps : List Snap) (c : Call) (h : History) (p : LeafPlace) (x : GoesOnBehind r snaps c h p) where
-  -- as many are taken as it tells
+  -- as many are taken as it may answer
   pub taken_all : r.most ≤ length r.taken.items → MayValidate range_means r snaps c h
   taken_all full = record {
     asks = x.asks;
@@ -242,7 +242,7 @@ module _ (r : Range) (snaps : List Snap) (c : Call) (h : History) (p : LeafPlace
       here = λ b run e hold. (room, visits_on b (bounds_of r) p r.taken.items (waiting_of r) r.leaves (x.visited b run e hold).1 q is);
     }
 
-    -- or the leaf is behind it
+    -- or the leaf is done
     pub leaf_behind : place_behind p ≡ None → GoesBehind r snaps c h (r.leaves - 1)
     leaf_behind is = record {
       own = x.own;
@@ -252,7 +252,7 @@ module _ (r : Range) (snaps : List Snap) (c : Call) (h : History) (p : LeafPlace
       visited = λ b run e hold. (room, visited_in b (bounds_of r) p r.taken.items (waiting_of r) r.leaves (x.visited b run e hold).1 is);
     }
 
--- Behind a leaf
+-- After a leaf
 
 module _ (r : Range) (snaps : List Snap) (c : Call) (h : History) (leaves : ℕ) (x : GoesBehind r snaps c h leaves) where
   -- the next node that waits
@@ -289,7 +289,7 @@ module _ (r : Range) (snaps : List Snap) (c : Call) (h : History) (leaves : ℕ)
       go b room v (inl none) = ends_all c.layout b (bounds_of r) r.taken.items (waiting_of r) leaves v room (ap reverse none)
       go b room v (inr last) = ends_last c.layout b (bounds_of r) r.taken.items (waiting_of r) leaves v room last
 
--- the next path takes no more steps than those that are left behind this one
+-- the next path takes no more steps than those that are left after this one
 pub next_path : (leaves nodes : ℕ) → leaves - 1 ≢ 0 → 67 * (1 + nodes - 0) + (leaves - 1 - 1) * (67 * (2 + nodes)) ≤ (leaves - 1) * (67 * (2 + nodes))
 next_path leaves nodes d =
     let one : suc (leaves - 1 - 1) * (67 * (2 + nodes)) ≤ (leaves - 1) * (67 * (2 + nodes)) = mul-le-mul_right (67 * (2 + nodes)) (omega (arith, d)) in

@@ -59,12 +59,12 @@ module _ (c : Call) (h : History) (snaps : List Snap) (snap : Snap) (reads : Rea
       now : HasSnapped c h snap
       now = record { moment = h; within = ends_self h; since = reads.since; is = is }
 
-  -- the read goes on with the longer list
+  -- the read continues with the longer list
   pub reads_one_more : Reads c h (snaps ++ snap ∷ [])
   reads_one_more = record { run = reads.run; since = reads.since; over = reads.over; quiet = reads.quiet; snapped = snapped_one_more }
 
   module _ (stood : HasStood c h snap.node.0) (fork : is_leaf (value h) snap.node.0 ≡ false) where
-    -- a child of the node has stood in the tree, too
+    -- a child of the node has been in the tree, too
     pub child_there : (s : Side) → HasStood c h (child_of snap s).0
     child_there s = subst (HasStood c h) (is.linked.fields s is.info) record {
       stood = child_stood c.layout h h snap.node.0 s reads.run (ends_self h) stood.stood is.not_final fork;

@@ -106,7 +106,7 @@ module _ {R A : Type 0} (means : ReadMeaning R A) (m : ReadRun R) where
       (record { key = key; goal = same ∙ goal; goes_to = to; last = turned after.at waits.known }, waits),
     )
 
-  -- behind the leaf that it has found it looks at that fork
+  -- after the leaf that it has found it looks at that fork
   pub found_looks : (walk after : WalkRun) (side : Side) (turns : LastTurns) (c : Call) (h : History) (t : Turn Found) (f : Found) → ReadGoes means m c h → (key : ℕ) → walk.goal ≡ ToKey key → WalksTo means m.read key side → AreLastTurns c h key turns → after.goal ≡ walk.goal → t ≡ Done f → MatchTurn t (WalkWaits after c h) (WalkAnswers after c h) → Looks means m.read m.snaps.items c h (first_children side (turn_to side turns).0) 0 (turn_to side turns).0
   found_looks walk after side turns c h t f goes key goal to last same done w = walk_found means m.read m.snaps.items c h goes key side turns f to last (subst (λ g. HasFoundGoal g c h f) (same ∙ goal) found)
     where
@@ -196,7 +196,7 @@ module _ {R A : Type 0} (means : ReadMeaning R A) (m : ReadRun R) where
 
   -- Its VLX
 
-  -- what that is told and tells, of the snapshots as they stand in their list
+  -- what that gets and answers, of the snapshots as they are in their list
   pub vlx_turn : (c : Call) (begin look h : History) (before after : List Snap) (asked now : ℕ) (got : Option ℕ) (turn : Turn Vlx) → before ≡ m.snaps.items → after ≡ before → ((d : Call) (k : History) → IsRun TreeAllows d.layout k → VlxIsReady before asked d k got → MatchTurn turn (VlxWaits after now d k) (VlxAnswers after d k)) → ReadGoes means m (begun_at c begin) h → VlxIsReady m.snaps.items asked (begun_at c look) h got → MatchTurn turn (VlxWaits m.snaps.items now (begun_at c look) h) (VlxAnswers m.snaps.items (begun_at c look) h)
   vlx_turn c begin look h before after asked now got turn is same step goes ready = subst (λ (l : List Snap). MatchTurn turn (VlxWaits l now (begun_at c look) h) (VlxAnswers l (begun_at c look) h)) (same ∙ is) (step (begun_at c look) h goes.reads.run.1 (subst (λ (l : List Snap). VlxIsReady l asked (begun_at c look) h got) (sym is) ready))
 
@@ -255,14 +255,14 @@ module _ {R A : Type 0} (means : ReadMeaning R A) (m : ReadRun R) where
   pub stands_nearer : {T : Type 0} (now : ReadRun R) (turn : Turn T) (next : ReadNext) (step : Step) (nodes n : ℕ) → now ≡ placed m next → turn ≡ Ask step → 0 < n → RunComesNearer means m nodes next n → ReadIsNearer means now nodes turn (tries_left means m nodes + n)
   stands_nearer now turn next step nodes n is asked some near = rw (asked, is) (placed_nearer next nodes n some near)
 
-  -- As it is told something
+  -- As it gets something
 
   module _ (c : Call) (h : History) where
     pub at_start : (got : Option ℕ) → m.at ≡ Start → ReadIsReady means m c h got → BeginsTry c h m.limit m.tries × ReadGoes means m c h
     at_start None is r = (r.2, r.0)
     at_start (Some v) is r = absurd (subst (λ p. ReadIsToldAt means m (begun_at c r.0) h v p) is r.4)
 
-    -- it is told of what it has asked for in a try
+    -- it gets what it has asked for in a try
     abbrev pub ToldInTry : (Call → Type 0) → Type 0
     ToldInTry P = (begin : History) × IsInTry c h begin m.limit m.tries × ReadGoes means m (begun_at c begin) h × IsOwnMoment (begun_at c begin) h × P (begun_at c begin)
 
@@ -289,7 +289,7 @@ module _ {R A : Type 0} (means : ReadMeaning R A) (m : ReadRun R) where
     at_validate None asked is r = absurd (let d : Validate asked ≡ Start = sym is ∙ r.1 in cc)
     at_validate (Some v) asked is r = told_at v (Validate asked) is r
 
-  -- what it is told fits as its place says, and so it leaves fewer steps
+  -- what it gets fits as its place says, and so it leaves fewer steps
   pub fits_at : (got : Option ℕ) (nodes : ℕ) (at : ReadAt) → m.at ≡ at → ReadFits means m got nodes → ReadFitsAt means m got nodes at
   fits_at got nodes at is fits = subst (ReadFitsAt means m got nodes) is fits
 
@@ -299,7 +299,7 @@ module _ {R A : Type 0} (means : ReadMeaning R A) (m : ReadRun R) where
   pub left_at : {T : Type 0} (nodes : ℕ) (now : ReadRun R) (turn : Turn T) (at : ReadAt) → m.at ≡ at → ReadIsNearer means now nodes turn (tries_left means m nodes + phase_left means m nodes at) → ReadIsNearer means now nodes turn (read_left means m nodes)
   left_at nodes now turn at is near = subst (λ p. ReadIsNearer means now nodes turn (tries_left means m nodes + phase_left means m nodes p)) (sym is) near
 
-  -- What the read tells is told of the run
+  -- What is said of the read is said of the run
 
   pub goes_read : (now : R) (c : Call) (h : History) → means.call now ≡ means.call m.read → ReadGoes means m c h → IsReading means now m.snaps.items c h
   goes_read now c h same x = record { reads = x.reads; suits = rw same x.suits }
@@ -309,7 +309,7 @@ module _ {R A : Type 0} (means : ReadMeaning R A) (now : R) (m : ReadRun R) (nod
   pub goes_taken : (next : ReadNext) (n : ℕ) → ComesNearer means now nodes next n → RunComesNearer means (record m { read = now }) nodes next (length m.snaps.items + n)
   goes_taken next n near = (near.0, (let i = near.1 in omega (arith, i)))
 
-  -- a load is behind it
+  -- a load is done
   pub load_taken : (next : ReadNext) (n most : ℕ) → n < most → ComesNearer means now nodes next n → RunComesNearer means (record m { read = now }) nodes next (length m.snaps.items + most - 1)
   load_taken next n most less near = (near.0, (let i = near.1 in omega (arith, i, less)))
 

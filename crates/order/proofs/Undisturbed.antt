@@ -39,7 +39,7 @@ use Rattle.order.specs.declared.refused.Refused.TheVariants.{Contended, NoMemory
 use Rattle.order.specs.declared.run.ReadRun.{ReadRun}
 use Rattle.order.specs.declared.neighbour.Neighbour.{Neighbour as NeighbourRead}
 
--- What a reply tells
+-- What a reply says
 
 pair_told : MapReply → Option Pair
 pair_told (OnePair p) = Some p
@@ -158,7 +158,7 @@ module _ {R A : Type 0} (means : ReadMeaning R A) (c : Call) (h : History) (alon
     turn_tells (Ask step) x = (still c h run alone quiet map spells h (ends_self h) alone.since, tt)
     turn_tells (Done answer) x = (still c h run alone quiet map spells h (ends_self h) alone.since, tells answer x)
 
-  -- what it may be called with tells that its pass was idle since the call began
+  -- what it may be called with shows that its pass was idle since the call began
   alone_read : (old now : ReadRun R) (got : Option ℕ) → ReadIsReady means old c h got → IsSameRead means old now → (turn : Turn (Result A Refused)) → ReadTurn means c h now turn → HasLeftAll c h map × MatchTurn turn (λ _. Unit {0}) (Tells means.told (reply (means.call old.read) map))
   alone_read old now None ready is turn x = turn_tells old now is ready.0.reads.run ready.0.reads.quiet turn x
   alone_read old now (Some v) ready is turn x = turn_tells old now is ready.2.reads.run ready.1.quiet turn x

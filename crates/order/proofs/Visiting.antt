@@ -295,7 +295,7 @@ module _ (h : History) (w : Bounds) (p : LeafPlace) (taken : List Pair) (waiting
       enough d (inr i) (inl j) = absurd (let k = (here_next d).0 in omega (arith, i, k))
 
 module _ (h : History) (w : Bounds) (p : LeafPlace) (taken : List Pair) (waiting : List NodeNo) (leaves : ℕ) (x : HasVisitedIn h w p taken waiting leaves) where
-  -- the pair behind is next
+  -- the next pair is next
   pub visits_on : (q : LeafPlace) → place_behind p ≡ Some q → IsVisitingIn h w q taken waiting leaves
   visits_on q is = record {
     tree = x.tree;
@@ -320,7 +320,7 @@ module _ (h : History) (w : Bounds) (p : LeafPlace) (taken : List Pair) (waiting
     few = x.few;
   }
 
--- Behind a leaf
+-- After a leaf
 
 -- the next node is visited
 pub visits_next : (h : History) (w : Bounds) (n : NodeNo) (taken : List Pair) (waiting : List NodeNo) (leaves : ℕ) → HasVisited h w taken (n ∷ waiting) leaves → IsVisiting h w n.0 taken waiting leaves

@@ -1,4 +1,4 @@
--- What an ordered read knows of the nodes that it comes to.
+-- What an ordered read knows of the nodes that it reaches.
 use Rattle.std.specs.Prelude.{◌≡◌, ◌⊎◌, ℕ, ◌^◌, ◌<◌, ◌≤◌, false, List, [], ◌∷◌, length, Result, Ok, Err}
 use Rattle.arena.specs.declared.head.Head.{Head as HeadParts}
 use Rattle.arena.specs.declared.layout.Layout.{Layout}
@@ -37,7 +37,7 @@ head_at h n = head_of (value h (node n (Settled HeadWord)))
 abbrev pub key_at : History → ℕ → ℕ
 key_at h n = value h (node n first_key)
 
--- how many pairs a leaf has behind its first
+-- how many pairs a leaf has after its first
 abbrev pub more_at : History → ℕ → ℕ
 more_at h n = value h (node n (Settled MoreWord))
 
@@ -57,13 +57,13 @@ place_value h p = (pair_in (value h) p.node.0 p.slot).value
 abbrev pub place_pair : History → LeafPlace → Pair
 place_pair h p = pair_in (value h) p.node.0 p.slot
 
--- the pairs of the leaf behind that place, as far as they may be read
+-- the pairs of the leaf after that place, as far as they may be read
 abbrev pub pairs_behind : History → LeafPlace → List Pair
 pairs_behind h p = held_behind (value h) p.node.0 (slot_behind p.more p.slot)
 
 -- Nodes
 
--- the node stands below some fork
+-- the node is below some fork
 abbrev pub IsThere : Call → History → NodeNo → Type 0
 IsThere c h n = HasStood c h n.0 × (0 < level (value h) n.0)
 
@@ -85,7 +85,7 @@ module _ {R A : Type 0} (means : ReadMeaning R A) (r : R) where
     pub waits : means.waiting r ≡ []
     pub turned : (b : History) (n : ℕ) → (value b (marked n) ≡ 0 → IsOnPath b key n) → toward (value b) n key ≡ turned_at side n → means.IsAtFork r b n (first_children side n)
 
-  -- what begins at the root stands there
+  -- what begins at the root is there
   pub record BeginsAtRoot : Type 0 where
     pub asks : means.asks (means.call r)
     pub waits : means.waiting r ≡ []
@@ -103,7 +103,7 @@ module _ {R A : Type 0} (means : ReadMeaning R A) (r : R) where
       pub reads : Reads c h snaps
       pub suits : means.suits (means.call r)
 
-    -- it stands at this node: the root, or one below a fork of which it has a snapshot
+    -- it is at this node: the root, or one below a fork of which it has a snapshot
     pub record Stands (n : ℕ) : Type 0 where
       pub stood : HasStood c h n
       pub asks : means.asks (means.call r)
@@ -111,14 +111,14 @@ module _ {R A : Type 0} (means : ReadMeaning R A) (r : R) where
       pub waits : AreThere c h (means.waiting r)
       pub here : Whenever c.layout h snaps (λ b. means.IsAt r b n)
 
-    -- it stands at a fork of class 0 and of this level
+    -- it is at a fork of class 0 and of this level
     pub record IsAtLowFork (low n : ℕ) : Type 0 where
       pub stands : Stands n
       pub fork : is_leaf (value h) n ≡ false
       pub class : class (value h) n ≡ 0
       pub deep : level (value h) n ≡ low
 
-    -- it stands at a place of a leaf, below a fork of which it has a snapshot
+    -- it is at a place of a leaf, below a fork of which it has a snapshot
     pub record StandsIn (p : LeafPlace) : Type 0 where
       pub stood : HasStood c h p.node.0
       pub asks : means.asks (means.call r)
@@ -136,7 +136,7 @@ module _ {R A : Type 0} (means : ReadMeaning R A) (r : R) where
       pub key_is : Whenever c.layout h snaps (λ b. place_key b p ≡ key)
       pub takes : means.Takes r key
 
-    -- it may look at this fork, not above the level `low`, of which these children are to be visited
+    -- it may look at this fork, not above the level `low`, with these children to be visited
     pub record Looks (children : Children) (low n : ℕ) : Type 0 where
       pub stood : HasStood c h n
       pub asks : means.asks (means.call r)
@@ -145,13 +145,13 @@ module _ {R A : Type 0} (means : ReadMeaning R A) (r : R) where
       pub waits : AreThere c h (means.waiting r)
       pub here : Whenever c.layout h snaps (λ b. means.IsAtFork r b n children)
 
--- behind a fork with these two it stands at one of them, and the other may wait
+-- after a fork with these two it is at one of them, and the other may wait
 pub record GoesTo {R A : Type 0} (means : ReadMeaning R A) (old now : R) (children : Children) (left right n : NodeNo) : Type 0 where
   pub one : (n ≡ left) ⊎ (n ≡ right)
   pub waits : (c : Call) (h : History) → AreThere c h (means.waiting old) → IsThere c h left → IsThere c h right → AreThere c h (means.waiting now)
   pub below : (lay : Layout) (b : History) (fork : ℕ) → IsTreeRun lay b → is_leaf (value b) fork ≡ false → value b (marked fork) ≡ 0 → value b (child fork sides.Left) ≡ left.0 → value b (child fork sides.Right) ≡ right.0 → means.IsAtFork old b fork children → means.IsAt now b n.0
 
--- it goes on so, or has no memory
+-- it continues so, or has no memory
 abbrev pub GoesBelow : {R A : Type 0} → ReadMeaning R A → R → R → Children → NodeNo → NodeNo → Result NodeNo Refused → Type 0
 GoesBelow means old now children left right (Ok n) = GoesTo means old now children left right n
 GoesBelow means old now children left right (Err refused) = refused ≡ NoMemory

@@ -1,4 +1,4 @@
--- When an ordered read may go on, what it waits for, and what its answer says.
+-- When an ordered read may continue, what it waits for, and what its answer says.
 use Rattle.std.specs.Prelude.{◌≡◌, ◌⊎◌, ℕ, ◌+◌, ◌≤◌, false, List, [], Option, Some, None, Result, Ok, Err}
 use Rattle.arena.specs.declared.machine.Turn.{Turn}
 use Rattle.arena.specs.declared.step.Step.{Step}
@@ -64,8 +64,8 @@ module _ {R A : Type 0} (means : ReadMeaning R A) where
     pub goes_to : WalksTo means r key side
     pub last : AreLastTurns c h key turns
 
-  -- its VLX has begun at an own moment of the call, at which what it has found was right if all infos
-  -- were as found
+  -- its VLX has begun at an own moment of the call, at which what it has found was right if all
+  -- infos were as found
   pub record Validates (r : R) (snaps : List Snap) (c : Call) (h begin : History) : Type 0 where
     pub asks : means.asks (means.call r)
     pub own : IsOwnMoment c begin
@@ -95,7 +95,7 @@ module _ {R A : Type 0} (means : ReadMeaning R A) where
     ReadWaitsAt s (Look children low llx) = Looks means m.read m.snaps.items c h children low llx.node.0 × ((begin : History) × Extends begin c.start × LlxWaits TreeAllows llx (begun_at c begin) h s)
     ReadWaitsAt s (Validate asked) = (begin : History) × Validates m.read m.snaps.items c h begin × VlxWaits m.snaps.items asked (begun_at c begin) h s
 
-    -- what holds once the step of this place has told v
+    -- what holds once the step of this place has found v
     abbrev pub ReadIsToldAt : ℕ → ReadAt → Type 0
     ReadIsToldAt v Start = ⊥
     ReadIsToldAt v (Walk walk side turns) = Walks m.read c h walk side turns × WalkIsReady walk c h (Some v)
@@ -111,7 +111,7 @@ module _ {R A : Type 0} (means : ReadMeaning R A) where
     BeginsHere = BeginsTry c h m.limit m.tries × (m.snaps.items ≡ []) × (means.waiting m.read ≡ [])
 
     module _ (begin : History) where
-      -- with the first step of its walk it begins one; behind that it is in the try that began at
+      -- with the first step of its walk it begins one; after that it is in the try that began at
       -- `begin`
       abbrev pub WalksInTry : LastTurns → WalkAt → Type 0
       WalksInTry turns walks.Root = BeginsHere × (turns ≡ no_turns)
@@ -124,20 +124,20 @@ module _ {R A : Type 0} (means : ReadMeaning R A) where
       StandsInTry _ = IsInTry c h begin m.limit m.tries
 
   module _ (m : ReadRun R) (c : Call) (h : History) where
-    -- it waits for this step where it stands; what it knows is of its try, which is the call from the
+    -- it waits for this step at its place; what it knows is of its try, which is the call from the
     -- moment `begin` on
     abbrev pub ReadWaits : Step → Type 0
     ReadWaits s = (begin : History) × StandsInTry m c h begin m.at × ReadGoes m (begun_at c begin) h × ReadWaitsAt m (begun_at c begin) h s m.at
 
-    -- it may be called with this: with nothing at its start, then with what its step told by an own row
+    -- it may be called with this: nothing at its start, then what its step found by an own row
     abbrev pub ReadIsReady : Option ℕ → Type 0
     ReadIsReady None = ReadGoes m c h × (m.at ≡ Start) × BeginsTry c h m.limit m.tries
     ReadIsReady (Some v) = (begin : History) × IsInTry c h begin m.limit m.tries × ReadGoes m (begun_at c begin) h × IsOwnMoment (begun_at c begin) h × ReadIsToldAt m (begun_at c begin) h v m.at
 
     -- What it answers
 
-    -- the map's reply at a moment of the call; or, where there is nothing to be found, that of every
-    -- map
+    -- the map's reply at a moment of the call; or, where there is nothing to be found, that of
+    -- every map
     abbrev pub HasReplied : A → Type 0
     HasReplied answer = IsReplyAt c h (means.call m.read) (means.told answer) ⊎ (¬ means.asks (means.call m.read) × ((map : List Pair) → reply (means.call m.read) map ≡ means.told answer))
 
@@ -147,7 +147,7 @@ module _ {R A : Type 0} (means : ReadMeaning R A) where
     IsReadAnswer (Err (Contended n s)) = IsContended c h n.0 s.0 × (m.tries ≡ 0) × HasLostTriesTo c.pass h c.start m.limit n.0 s.0
     IsReadAnswer (Err NoMemory) = Unit {0}
 
-    -- and behind it the pass is at rest, and has begun no more tries than it may, each only as needed
+    -- and after it the pass is at rest, and has begun no more tries than it may, each as needed
     abbrev pub ReadAnswers : Result A Refused → Type 0
     ReadAnswers answer = AreFinished c.layout c.pass 0 h × IsReadAnswer answer × HasTriedAtMost c.layout c.pass h c.start m.limit
 

@@ -19,15 +19,15 @@ abbrev pub place_in : LeafPlace → Option Slot → Option LeafPlace
 place_in p None = None
 place_in p (Some slot) = Some (record p { slot = slot })
 
--- the place behind one, if that may be read
+-- the place after one, if that may be read
 abbrev pub place_behind : LeafPlace → Option LeafPlace
 place_behind p = place_in p (slot_behind p.more p.slot)
 
--- the first place of a leaf of which so many slots behind the first may be read
+-- the first place of a leaf, if this many slots after the first may be read
 abbrev pub first_in_leaf : NodeNo → ℕ → LeafPlace
 first_in_leaf n more = record { node = n; more = more; slot = First }
 
--- the node of which a word is loaded
+-- the node a word of which is loaded
 abbrev pub load_node : ReadLoad → NodeNo
 load_node (Head above n) = n
 load_node (Key level n) = n

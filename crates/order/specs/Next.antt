@@ -1,4 +1,4 @@
--- What an ordered read does next in its try, before it stands there.
+-- What an ordered read does next in its try, before it is at the place for it.
 use Rattle.std.specs.Prelude.{◌≡◌, ◌<◌, List, length, Result, Ok, Err}
 use Rattle.arena.specs.History.{History, value}
 use Rattle.arena.specs.Machines.{Call}
@@ -39,7 +39,7 @@ module _ {R A : Type 0} (means : ReadMeaning R A) (r : R) (snaps : List Snap) (c
   MayDo (Look children low n) = Looks means r snaps c h children low n.0
   MayDo Validate = MayValidate
 
-  -- it goes on so; or it ends, for want of memory
+  -- it continues so; or it ends, for want of memory
   abbrev pub GoesOnSo : Result ReadNext Refused → Type 0
   GoesOnSo (Ok next) = MayDo next
   GoesOnSo (Err refused) = refused ≡ NoMemory

@@ -1,5 +1,5 @@
--- How many steps a read may ask for on its way down to a leaf: 67 a node of the path. At the leaf it
--- needs fourteen of them at most.
+-- How many steps a read may ask for on its way down to a leaf: 67 a node of the path. At the leaf
+-- it needs fourteen of them at most.
 use Rattle.std.specs.Prelude.{◌≡◌, ℕ, ◌+◌, ◌*◌, ◌-◌, ◌<◌, ◌≤◌, false}
 use Rattle.arena.specs.declared.head.Head.{Head as HeadParts}
 use Rattle.arena.specs.Heads.{head_of}
@@ -21,7 +21,7 @@ path_left nodes = 67 * (2 + nodes)
 abbrev pub HeadFits : HeadParts → ℕ → Type 0
 HeadFits head nodes = (head.level < 2 + nodes) × (head.leaf ≡ false → head.level + 1 < 2 + nodes)
 
--- what a load tells does not lead deeper than that
+-- what a load finds does not lead deeper than that
 abbrev pub LoadFits : ℕ → ℕ → ReadLoad → Type 0
 LoadFits v nodes (Head above n) = (above < (head_of v).level) × HeadFits (head_of v) nodes
 LoadFits v nodes (Key low n) = low + 1 < 2 + nodes
@@ -38,7 +38,7 @@ module _ {R A : Type 0} (means : ReadMeaning R A) (r : R) (nodes : ℕ) where
   BeginsNear Root = path_left nodes + means.behind r nodes ≤ means.try_left (means.call r) nodes
   BeginsNear (Answer answer) = Unit {0}
 
-  -- how many steps are left before this load has begun, beside those of a VLX over the snapshots
+  -- how many steps are left before this load has begun, without those of a VLX over the snapshots
   -- that it has by now
   abbrev pub load_left : ReadLoad → ℕ
   load_left (Head above n) = 67 * (1 + nodes - above) + means.behind r nodes
@@ -59,6 +59,6 @@ module _ {R A : Type 0} (means : ReadMeaning R A) (r : R) (nodes : ℕ) where
   IsStep (Load load) = 0 < load_left load
   IsStep _ = Unit {0}
 
-  -- at most so many steps are left then
+  -- how many steps are left then, at most
   abbrev pub ComesNearer : ReadNext → ℕ → Type 0
   ComesNearer next n = IsStep next × (next_left next ≤ n)

@@ -21,7 +21,7 @@ use Rattle.order.specs.declared.run.ReadAt.{ReadAt}
 use Rattle.order.specs.declared.run.ReadAt.TheVariants.{Load, Look, Validate}
 use Rattle.order.specs.declared.run.ReadRun.{ReadRun}
 
--- where the read stands once this has begun
+-- where the read is once this has begun
 abbrev pub place_of : ReadNext → ReadAt
 place_of (LoadNext of) = Load of
 place_of (LookNext children level n) = Look children level record { node = n; at = Marked }
@@ -37,7 +37,7 @@ next_step m (LookNext children level n) = load LoadMarked (marked n.0)
 next_step m ValidateNext = load LoadInfo (info (snap_at m.snaps.items 0).node.0)
 
 module _ {R A : Type 0} (means : ReadMeaning R A) where
-  -- the run goes on so; or it ends, for want of memory
+  -- the run continues so; or it ends, for want of memory
   abbrev pub GoesOn : Call → History → ReadRun R → Result ReadNext Refused → Type 0
   GoesOn c h m next = ReadGoes means m c h × GoesOnSo means m.read m.snaps.items c h next
 

@@ -33,7 +33,7 @@ abbrev pub IsSmallRange : MapCall → Type 0
 IsSmallRange (RangeOf low high most) = (high < 2 ^ 64) × (most ≤ 64)
 IsSmallRange _ = ⊥
 
--- there may be keys, and pairs, to be told
+-- there may be keys, and pairs, to be answered
 abbrev pub AsksForSome : MapCall → Type 0
 AsksForSome (RangeOf low high most) = (0 < most) × (low ≤ high)
 AsksForSome _ = ⊥
@@ -52,7 +52,7 @@ Visits r b n = (length r.taken.items < r.most) × IsVisiting b (bounds_of r) n r
 abbrev pub VisitsIn : Range → History → LeafPlace → Type 0
 VisitsIn r b p = (length r.taken.items < r.most) × IsVisitingIn b (bounds_of r) p r.taken.items (waiting_of r) r.leaves
 
--- a pair of a leaf is behind it, and it has taken that if it is within the bounds
+-- it is past a pair of a leaf, and has taken that if it is within the bounds
 pub record GoesOnBehind (r : Range) (snaps : List Snap) (c : Call) (h : History) (p : LeafPlace) : Type 0 where
   pub own : IsOwnMoment c h
   pub asks : (0 < r.most) × (r.low ≤ r.high)
@@ -77,7 +77,7 @@ abbrev pub call_left : MapCall → ℕ → ℕ
 call_left (RangeOf low high most) nodes = range_try_left most nodes
 call_left _ nodes = 0
 
--- so many the leaves that it may visit behind the next one
+-- how many leaves it may visit after the next one
 abbrev pub leaves_left : ℕ → ℕ → ℕ
 leaves_left leaves nodes = (leaves - 1) * path_left nodes
 

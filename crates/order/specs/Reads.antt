@@ -43,7 +43,7 @@ AllHold b snaps = (i : ℕ) → i < length snaps → value b (info (snap_at snap
 abbrev pub Whenever : Layout → History → List Snap → (History → Type 0) → Type 0
 Whenever lay h snaps P = (b : History) → IsTreeRun lay b → Extends b h → AllHold b snaps → P b
 
--- the node has stood in the tree, and was not final at a moment of the call
+-- the node has been in the tree, and was not final at a moment of the call
 pub record HasStood (c : Call) (h : History) (n : ℕ) : Type 0 where
   pub stood : WasInTree h n
   pub not_final : HasBeen h c.start (λ m. is_final (log c.layout m) n ≡ false)

@@ -18,11 +18,11 @@ module _ {R A : Type 0} (means : ReadMeaning R A) (m : ReadRun R) where
   abbrev pub run_try_left : ℕ → ℕ
   run_try_left nodes = means.try_left (means.call m.read) nodes
 
-  -- so many the tries behind this one
+  -- how many tries there are after this one
   abbrev pub tries_left : ℕ → ℕ
   tries_left nodes = m.tries * run_try_left nodes
 
-  -- and so many are left in this one at this place
+  -- and how many steps are left in this one at this place
   abbrev pub phase_left : ℕ → ReadAt → ℕ
   phase_left nodes Start = run_try_left nodes
   phase_left nodes (Walk walk side turns) = walk_left walk.at nodes + length m.snaps.items + path_left nodes + means.behind m.read nodes
@@ -39,7 +39,7 @@ module _ {R A : Type 0} (means : ReadMeaning R A) (m : ReadRun R) where
   abbrev pub ReadIsNearer : {T : Type 0} → ℕ → Turn T → ℕ → Type 0
   ReadIsNearer nodes turn n = MatchTurn turn (λ _. read_left nodes < n) (λ _. Unit {0})
 
-  -- what the run is told at this place fits so many taken nodes
+  -- what the run gets at this place fits this many taken nodes
   abbrev pub ReadFitsAt : Option ℕ → ℕ → ReadAt → Type 0
   ReadFitsAt got nodes (Walk walk side turns) = WalkFits walk got nodes
   ReadFitsAt got nodes Root = HeadFits (head_of (unwrap_or got 0)) nodes
@@ -47,6 +47,6 @@ module _ {R A : Type 0} (means : ReadMeaning R A) (m : ReadRun R) where
   ReadFitsAt got nodes (Look children level llx) = level + 1 < 2 + nodes
   ReadFitsAt got nodes _ = Unit {0}
 
-  -- what it is told where it stands
+  -- what it gets at its place does
   abbrev pub ReadFits : Option ℕ → ℕ → Type 0
   ReadFits got nodes = ReadFitsAt got nodes m.at

@@ -7,7 +7,7 @@ use Rattle.prims.specs.Laws.Idle.{IsQuietSince}
 use Rattle.ordered_map.specs.Tries.{IsNewestTry}
 use Rattle.template.specs.Tries.{MayTryNext}
 
--- The call is about to begin a try, of `limit` in all, behind which so many will be left: it has lost
+-- The call is about to begin a try, of `limit` in all, after which `left` will be left: it has lost
 -- all others. None of its pass's SCX-records was in progress since the call began.
 pub record BeginsTry (c : Call) (h : History) (limit left : ℕ) : Type 0 where
   pub since : Extends h c.start

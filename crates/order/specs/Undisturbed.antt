@@ -1,4 +1,4 @@
--- What an ordered read tells and leaves that is a call by itself.
+-- What an ordered read answers and leaves that is a call by itself.
 use Rattle.std.specs.Prelude.{◌≡◌, ℕ, ◌<◌, List, Option, Result, Ok, Err, Vec}
 use Rattle.std.specs.Global.{Global}
 use Rattle.arena.specs.History.{History, value}
@@ -28,7 +28,7 @@ TellsNext side map k (Ok found) = found ≡ neighbour side k map
 TellsNext side map k (Err (Contended n s)) = ⊥
 TellsNext side map k (Err NoMemory) = Unit {0}
 
--- a range tells of this map the first pairs within the bounds; it is not contended
+-- a range answers the first pairs of this map within the bounds; it is not contended
 abbrev pub TellsRange : List Pair → ℕ → ℕ → ℕ → Result (Vec Pair Global) Refused → Type 0
 TellsRange map low high most (Ok told) = told.items ≡ range low high most map
 TellsRange map low high most (Err (Contended n s)) = ⊥

@@ -29,9 +29,9 @@ abbrev pub AreWaiting : History → Bounds → List NodeNo → List Pair → Typ
 AreWaiting h w [] ps = ps ≡ []
 AreWaiting h w (n ∷ ns) ps = (part : IsPartAt h n.0) × (rest : List Pair) × AreWaiting h w ns rest × (ps ≡ part_pairs h w part.tree ++ rest) × (w.low < part.low) × (ns ≢ [] → part.high ≤ w.high)
 
--- The visits stand at the node n, with these pairs taken, these nodes waiting, and so many leaves
+-- The visits are at the node n, with these pairs taken, these nodes waiting, and `leaves` leaves
 -- left to be visited. The pairs of the tree within the bounds are those taken, those below n, and
--- those of the nodes that wait. At most one leaf was visited of which no pair was taken.
+-- those of the nodes that wait. At most one leaf was visited without a pair being taken of it.
 pub record IsVisiting (h : History) (w : Bounds) (n : ℕ) (taken : List Pair) (waiting : List NodeNo) (leaves : ℕ) : Type 0 where
   pub tree : Tree
   pub is_tree : IsTree (value h) tree
@@ -43,7 +43,7 @@ pub record IsVisiting (h : History) (w : Bounds) (n : ℕ) (taken : List Pair) (
   pub behind : leaves ≢ w.most + 2 → w.low < part.low
   pub below : waiting ≢ [] → part.high ≤ w.high
 
--- Such visits stand at a place of a leaf of class 0. Where a leaf is visited of which no pair is
+-- Such visits are at a place of a leaf of class 0. If a leaf is visited and no pair of it is
 -- taken, no node waits, or it is the first one.
 pub record IsVisitingIn (h : History) (w : Bounds) (p : LeafPlace) (taken : List Pair) (waiting : List NodeNo) (leaves : ℕ) : Type 0 where
   pub tree : Tree
@@ -56,7 +56,7 @@ pub record IsVisitingIn (h : History) (w : Bounds) (p : LeafPlace) (taken : List
   pub behind : (w.low < place_key h p) ⊎ (waiting ≢ [] → w.most + 1 ≤ leaves - 1 + length taken)
   pub below : waiting ≢ [] → AllBelow (w.high + 1) (held_from (value h) p.node.0 p.slot)
 
--- they are behind the pair at that place
+-- they are past the pair at that place
 pub record HasVisitedIn (h : History) (w : Bounds) (p : LeafPlace) (taken : List Pair) (waiting : List NodeNo) (leaves : ℕ) : Type 0 where
   pub tree : Tree
   pub is_tree : IsTree (value h) tree

@@ -1,5 +1,5 @@
-//! The loads of an ordered read, each a type of its own: where one of them is made, the compiler
-//! puts in line what comes behind this one alone.
+//! The loads of an ordered read, each a type of its own: at the place of each call the compiler
+//! inlines only what follows this load.
 ghost use Rattle.std.specs.Prelude.{◌≡◌, ℕ, ◌+◌, ◌-◌, length, IfOk};
 ghost use Rattle.arena.specs.History.{History};
 ghost use Rattle.arena.specs.Machines.{Call};
@@ -90,7 +90,7 @@ impl<R: Read + Drop> KnownLoad<R> for KeyLoad {
     }
 }
 
-/// The load of how many pairs a leaf of class 0 has behind its first.
+/// The load of how many pairs a leaf of class 0 has after its first.
 #[derive(Clone, Copy, Debug)]
 pub struct MoreLoad {
     pub node: NodeNo,
@@ -162,7 +162,7 @@ impl<R: Read + Drop> KnownLoad<R> for ValueLoad {
     }
 }
 
-/// The load of the high half of that value, of which this is the rest.
+/// The load of the high half of that value, whose other half is this.
 #[derive(Clone, Copy, Debug)]
 pub struct HighLoad {
     pub place: LeafPlace,

@@ -5,7 +5,7 @@ ghost use Rattle.order.specs.Loads.{place_behind, load_word};
 use arena::{NodeNo, NodeWord, SettledPart, Slot, Word};
 use ordered_map::slot_behind;
 
-/// A place in a leaf of class 0: one of its slots, where so many slots behind its first may be read.
+/// A place in a leaf of class 0: one of its slots, where `more` slots after its first may be read.
 #[derive(Clone, Copy, Debug, PartialEq, Eq)]
 pub struct LeafPlace {
     pub node: NodeNo,
@@ -14,7 +14,7 @@ pub struct LeafPlace {
 }
 
 impl LeafPlace {
-    /// The place behind this one, if it may be read.
+    /// The place after this one, if it may be read.
     #[inline(always)]
     pub fn behind(self) -> Option<LeafPlace>
         ensures { result ≡ place_behind self }
@@ -37,7 +37,7 @@ pub enum ReadLoad {
         level: u64,
         node: NodeNo,
     },
-    /// How many pairs a leaf of class 0 has behind its first.
+    /// How many pairs a leaf of class 0 has after its first.
     More {
         node: NodeNo,
     },
@@ -50,7 +50,7 @@ pub enum ReadLoad {
         place: LeafPlace,
         key: u64,
     },
-    /// The high half of that value, of which this is the rest.
+    /// The high half of that value, whose other half is this.
     High {
         place: LeafPlace,
         key: u64,

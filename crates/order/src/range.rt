@@ -15,7 +15,7 @@ use std::mem;
 pub struct Range {
     pub low: u64,
     pub high: u64,
-    /// How many pairs it tells at most.
+    /// How many pairs it answers at most.
     pub most: usize,
     /// With what the lists grow.
     pub alloc: Global,
@@ -41,10 +41,10 @@ impl Range {
     ghost use Rattle.order.specs.Steps.{read_left};
     ghost use Rattle.order.specs.declared.run.ReadAt.{ReadAt};
 
-    /// A range of keys that has not begun, with so many tries. What it keeps grows with this
-    /// allocator. What is said of its turns holds for a `most` of up to 64. In each try it asks for at
-    /// most 67 steps for each node that has been taken when it ends, and for 134 more; and that for
-    /// each of the pairs it is to tell at most, and twice more.
+    /// A range of keys that has not begun, with `tries` tries. What it keeps grows with this
+    /// allocator. What is said of its turns holds for a `most` of up to 64. In each try it asks for
+    /// at most 67 steps for each node that has been taken when it ends, and for 134 more; and that
+    /// for each of the pairs it is to answer at most, and twice more.
     #[inline(always)]
     pub fn run(alloc: Global, low: u64, high: u64, most: usize, tries: u32) -> RangeRun
         ensures low { result.read.low ≡ low }
@@ -81,7 +81,7 @@ impl Range {
         }
     }
 
-    /// What is done behind a leaf, where fewer pairs are taken than it tells at most.
+    /// What is done after a leaf, if fewer pairs are taken than it answers at most.
     #[inline(always)]
     fn visited(&mut self) -> ReadNext
         ensures goes_on { (snaps : List Snap) (c : Call) (h : History) → GoesBehind self.old snaps c h (self.old.leaves - 1)
@@ -99,7 +99,7 @@ impl Range {
         }
     }
 
-    /// What is done behind a pair of a leaf: no more is loaded once as many are taken as it tells.
+    /// What is done after a pair of a leaf: no more is loaded once as many are taken as it answers.
     #[inline(always)]
     fn go_on(&mut self, place: LeafPlace) -> ReadNext
         ensures goes_on { (snaps : List Snap) (c : Call) (h : History) → GoesOnBehind self.old snaps c h place → MayDo range_means self.new snaps c h result }

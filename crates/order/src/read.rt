@@ -36,12 +36,12 @@ pub enum ReadBegin<A> {
     Answer(A),
 }
 
-/// What a read does next in its try, before it stands there.
+/// What a read does next in its try, before it is at the place for it.
 #[derive(Clone, Copy, Debug, PartialEq, Eq)]
 pub enum ReadNext {
     /// The load of a word of a node.
     Load(ReadLoad),
-    /// The LLX of a fork of this level, of which these children are to be visited.
+    /// The LLX of a fork of this level, whose children to be visited are these.
     Look {
         children: Children,
         level: u64,
@@ -51,13 +51,13 @@ pub enum ReadNext {
     Validate,
 }
 
-/// An ordered read of the tree: with what it begins, and what it does behind each word that it has
+/// An ordered read of the tree: with what it begins, and what it does after each word that it has
 /// found.
 pub trait Read {
     /// What it answers, where it is not refused.
     type Answer;
 
-    /// Which call of the map it is, and what it knows of the node where it stands.
+    /// Which call of the map it is, and what it knows of the node where it is.
     ghost means: { ReadMeaning Self Self.Answer };
 
     /// Forgets the last try.
@@ -66,7 +66,7 @@ pub trait Read {
         ensures same { means.call self.new ≡ means.call self.old }
         ensures nearer { (nodes : ℕ) → BeginsNear means self.new nodes result };
 
-    /// Goes on from a fork of which these children are to be visited, to one of the two.
+    /// Continues from a fork with these children to be visited to one of the two.
     ///
     /// # Errors
     ///
@@ -76,7 +76,7 @@ pub trait Read {
         ensures same { means.call self.new ≡ means.call self.old }
         ensures nearer { (nodes : ℕ) → means.behind self.new nodes ≤ means.behind self.old nodes };
 
-    /// What is done behind the head of a node.
+    /// What is done after the head of a node.
     fn head_on(&mut self, head: Head, node: NodeNo) -> ReadNext
         ensures goes_on { (snaps : List Snap) (c : Call) (h : History) → IsReading means self.old snaps c h → IsOwnMoment c h
             → Stands means self.old snaps c h node.0 → head_at h node.0 ≡ head → MayDo means self.new snaps c h result }
@@ -84,7 +84,7 @@ pub trait Read {
         ensures nearer { (nodes : ℕ) → HeadFits head nodes
             → ComesNearer means self.new nodes result (67 * (2 + nodes - head.level) - 1 + means.behind self.old nodes) };
 
-    /// What is done behind the key of a fork of class 0 and of this level.
+    /// What is done after the key of a fork of class 0 and of this level.
     fn key_on(&mut self, level: u64, node: NodeNo, key: u64) -> ReadNext
         ensures goes_on { (snaps : List Snap) (c : Call) (h : History) → IsReading means self.old snaps c h → IsOwnMoment c h
             → IsAtLowFork means self.old snaps c h level node.0 → key_at h node.0 ≡ key → MayDo means self.new snaps c h result }
@@ -96,7 +96,7 @@ pub trait Read {
     fn first_slot(&self, more: u64) -> Slot
         ensures { result ≡ means.starts self.now more };
 
-    /// What is done behind the key at this place of a leaf.
+    /// What is done after the key at this place of a leaf.
     fn pair_on(&mut self, place: LeafPlace, key: u64) -> ReadNext
         ensures goes_on { (snaps : List Snap) (c : Call) (h : History) → IsReading means self.old snaps c h → IsOwnMoment c h
             → StandsIn means self.old snaps c h place → place_key h place ≡ key → MayDo means self.new snaps c h result }
@@ -104,7 +104,7 @@ pub trait Read {
         ensures nearer { (nodes : ℕ)
             → ComesNearer means self.new nodes result (slots_left place - 1 + means.behind self.old nodes) };
 
-    /// Takes the pair at this place of a leaf, and tells what is done behind it.
+    /// Takes the pair at this place of a leaf, and returns what is done next.
     ///
     /// # Errors
     ///

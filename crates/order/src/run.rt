@@ -30,7 +30,7 @@ pub enum ReadAt {
     Root,
     /// The load of a word of a node.
     Load(ReadLoad),
-    /// A step of the LLX of a fork of this level, of which these children are to be visited.
+    /// A step of the LLX of a fork of this level, whose children to be visited are these.
     Look {
         children: Children,
         level: u64,
@@ -43,19 +43,19 @@ pub enum ReadAt {
 }
 
 /// An ordered read, step by step: a walk, for a read that begins with one; visits of nodes, with an
-/// LLX of each fork; a VLX over all nodes that were looked at. And again where such a try is lost, as
-/// long as tries are left.
+/// LLX of each fork; a VLX over all nodes that were looked at. And again where such a try is lost,
+/// as long as tries are left.
 #[derive(Debug, Drop)]
 pub struct ReadRun<R> {
-    /// What is read, and how far that has come.
+    /// What is read, and how far that is.
     pub read: R,
     /// How many tries it has in all.
     pub limit: u32,
-    /// How many of them are left behind this one.
+    /// How many of them are left after this one.
     pub tries: u32,
     /// What the LLXs of this try have found.
     pub snaps: Vec<Snap>,
-    /// Where the run stands.
+    /// Where the run is.
     pub at: ReadAt,
 }
 
@@ -83,7 +83,7 @@ impl<R: Read + Drop> ReadRun<R> {
     ghost use Rattle.order.specs.Tries.{BeginsTry, IsInTry};
 
     /// A run that has not begun. What it keeps grows with this allocator. What is said of its turns
-    /// holds for some tries.
+    /// holds for at least one try.
     #[inline(always)]
     pub fn new(alloc: Global, read: R, tries: u32) -> ReadRun<R>
         ensures read { result.read ≡ read }
@@ -102,7 +102,7 @@ impl<R: Read + Drop> ReadRun<R> {
         }
     }
 
-    /// Asks for a load of a word, and stands there.
+    /// Asks for a load of a word, and is at this place.
     fn load(&mut self, at: ReadAt, kind: Kind, word: Word) -> Turn<Result<R::Answer, Refused>>
         ensures stands { self.new ≡ record self.old { at = at } }
         ensures asked { result ≡ Turn.Ask record { kind = kind; word = word; access = Access.Load } }
@@ -112,7 +112,7 @@ impl<R: Read + Drop> ReadRun<R> {
         Turn::Ask(Step { kind, word, access })
     }
 
-    /// Forgets the last try, and tells with what the next begins.
+    /// Forgets the last try, and returns what the next begins with.
     #[inline(always)]
     pub fn start(&mut self) -> ReadBegin<R::Answer>
         ensures begins { BeginsSo R.means self.new.read result }
@@ -168,7 +168,7 @@ impl<R: Read + Drop> ReadRun<R> {
         self.begin()
     }
 
-    /// Goes on with what the last step of the walk found.
+    /// Continues with what the last step of the walk found.
     fn walk_on(
         &mut self,
         mut walk: WalkRun,
@@ -223,7 +223,7 @@ impl<R: Read + Drop> ReadRun<R> {
         self.load(at, Kind::LoadMarked, marked)
     }
 
-    /// Goes on with what the last step of an LLX found.
+    /// Continues with what the last step of an LLX found.
     fn look_on(
         &mut self,
         children: Children,
@@ -262,7 +262,7 @@ impl<R: Read + Drop> ReadRun<R> {
         }
     }
 
-    /// Keeps a snapshot of the fork at which it looks, and tells to which child of that it goes on.
+    /// Keeps a snapshot of the fork at which it looks, and returns the child to continue with.
     ///
     /// # Errors
     ///
@@ -293,7 +293,7 @@ impl<R: Read + Drop> ReadRun<R> {
         }
     }
 
-    /// Goes on with what the last step of the VLX found.
+    /// Continues with what the last step of the VLX found.
     fn validate_on(&mut self, asked: usize, got: Option<u64>) -> Turn<Result<R::Answer, Refused>>
         ensures turn { (c : Call) (begin look h : History) → IsInTry c h begin self.old.limit self.old.tries
             → IsReading R.means self.old.read self.old.snaps.items (begun_at c begin) h
@@ -321,7 +321,7 @@ impl<R: Read + Drop> ReadRun<R> {
         }
     }
 
-    /// Begins what comes next, and stands there.
+    /// Begins what comes next, and is at its place.
     fn stand(&mut self, next: ReadNext) -> Turn<Result<R::Answer, Refused>>
         ensures turn { (c : Call) (h : History) → MayGoOn R.means c h self.old next → ReadTurn R.means c h self.new result }
         ensures same { IsSameRead R.means self.old self.new }
@@ -381,8 +381,8 @@ impl<R: Read + Drop> ReadRun<R> {
         }
     }
 
-    /// Goes on with what the last step found; with nothing at the first call, which asks for a step
-    /// if there is something to be found, and else ends. It gives up one try at most, where an
+    /// Continues with what the last step found; with nothing at the first call, which asks for a
+    /// step if there is something to be found, and else ends. It gives up at most one try, if an
     /// SCX-record of another pass was in the way of the call; and none as it ends.
     pub fn step(&mut self, got: Option<u64>) -> Turn<Result<R::Answer, Refused>>
         ensures turn { (c : Call) (h : History) → ReadIsReady R.means self.old c h got → ReadTurn R.means c h self.new result }

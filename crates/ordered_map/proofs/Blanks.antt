@@ -1,4 +1,4 @@
--- What stood in the tree above all keys is blank.
+-- What was in the tree above all keys is blank.
 use Rattle.std.proofs.Common.{◌≡◌, ℕ, ◌<◌, ◌%◌, true, false, ◌⊎◌, inl, inr, refl, sym, ◌∙◌, ap, arith, subst}
 use Rattle.arena.specs.declared.limits.Mode.TheVariants.{Tree as TreeMode}
 use Rattle.arena.specs.declared.word.Side.{Side}
@@ -107,7 +107,7 @@ module _ (calls : ℕ → MapEdit) (lay : Layout) (h : History) (u : ℕ) (p : P
   puts_blank : ((n : ℕ) → Cuts n → IsBlankAboveKeys (value h) n) → (n : ℕ) → Puts n → IsBlankAboveKeys (value h) n
   puts_blank cut n m = settled_blank b (value h) n (p.settled n (its n m)) (edits (calls u) p.allowed.edit cut n m)
 
--- All that stood in the tree
+-- All that was in the tree
 
 module _ (calls : ℕ → MapEdit) (lay : Layout) where
   abbrev IsBlankThen : History → ℕ → Type 0

@@ -68,7 +68,7 @@ module _ (calls : ℕ → MapEdit) (lay : Layout) (h : History) (r : Row) (u : �
   pub past : Pending calls lay h u
   past = t.pending u _ real held_u not_won
 
-  -- its words are those at its begin
+  -- its words are those at its start
   abbrev spot_of : ℕ
   spot_of = member past.before u 0
 
@@ -546,7 +546,7 @@ module _ (calls : ℕ → MapEdit) (lay : Layout) (h : History) (r : Row) (u : �
   unfolding IsAsDeep
   born_level n b = levels_of called past.allowed.edit n b
 
-  -- its new node stands in the tree now
+  -- its new node is in the tree now
   pub new_in : Has result.tree (new h u)
   new_in = go (path_then h (edit_key called) spot_of (inr (ends_self h)) record { tree = t.tree; is_tree = t.is_tree; passes = on_path (edit_key called) is_spot past.allowed.path })
     where

@@ -1,5 +1,6 @@
--- The leaf at an end of a tree: it stands on the path of the key at that end of all keys that may be.
--- On the right it is the last of class 0, since a fork of class 0 has no leaf of another class below it.
+-- The leaf at an end of a tree: it is on the path of the key at that end of all keys that may be.
+-- On the right it is the last of class 0, since a fork of class 0 has no leaf of another class
+-- below it.
 use Rattle.std.proofs.Common.{◌≡◌, ◌≢◌, ℕ, ◌^◌, ◌<◌, ◌≤◌, Bool, true, false, cond, eqb, lt-ltb, le-ltb, eq-eqb, ne_eqb, inl, inr, List, [], ◌∷◌, ◌++◌, refl, sym, ◌∙◌, ap, arith, append_assoc, append-nil, subst}
 use Rattle.std.specs.Prelude.{Some, unwrap_or}
 use native.Mathlib.Decide.{ℕ_discrete}
@@ -88,7 +89,7 @@ fork_low f (Fork m a b) lo hi n s w (inl e) d low =
 fork_low f (Fork m a b) lo hi n s w (inr (inl q)) d low = fork_low f a lo (rank f m) n s.1 w.1 q d low
 fork_low f (Fork m a b) lo hi n s w (inr (inr q)) d low = fork_low f b (rank f m) hi n s.2 w.2 q d low
 
--- how x stands to the fork n that it is below on this side: before it; or not before it, and below
+-- where x is, seen from the fork n that it is below on this side: before it; or not before it, and
 -- 2 ^ 64 if the fork is
 abbrev pub IsBeside : (Word → ℕ) → Side → ℕ → ℕ → Type 0
 IsBeside f Left n x = rank f x < rank f n
@@ -137,7 +138,7 @@ fork_turn f Right t lo hi n s w h d = go (ℕ_discrete (class f n) 0)
 never_right : (f : Word → ℕ) (a : Tree) (lo m : ℕ) → Shows f lo (rank f m) a → rank f m ≤ 0 → ⊥
 never_right f a lo m s e = let x : lo < rank f m = open_between f a lo (rank f m) s in omega (arith, x, e)
 
--- what stands on the path of 0 stands on that of every key up to its own
+-- what is on the path of 0 is on that of every key up to its own
 first_path : (f : Word → ℕ) (k : ℕ) (t : Tree) (lo hi n : ℕ) → Shows f lo hi t → Passes f 0 t n → k ≤ rank f n → Passes f k t n
 first_path f k (Leaf m) lo hi n s e u = e
 first_path f k (Fork m a b) lo hi n s (inl e) u = inl e
@@ -228,7 +229,7 @@ pairs_last f t lo hi n s w p d = go (ℕ_discrete (class f n) 0)
         let held = ap last_pair (low_pairs f n low) ∙ held_end Right f n in
         ap last_pair x.1 ∙ last_join x.0 (leaf_pairs f n) _ held ∙ sym held
 
--- what stands on the path of 2 ^ 64 - 1 stands on that of every key from its own on
+-- what is on the path of 2 ^ 64 - 1 is on that of every key from its own on
 last_path : (f : Word → ℕ) (k : ℕ) (t : Tree) (lo hi n : ℕ) → Shows f lo hi t → EndsLow f t → Passes f (end_key Right) t n → k < 2 ^ 64 → (rank f n < 2 ^ 64 → rank f n ≤ k) → Passes f k t n
 last_path f k (Leaf m) lo hi n s w e small u = e
 last_path f k (Fork m a b) lo hi n s w (inl e) small u = inl e
@@ -249,13 +250,14 @@ pairs_end : (side : Side) (f : Word → ℕ) (t : Tree) (lo hi n : ℕ) → Show
 pairs_end Left f t lo hi n s w p d = pairs_first f t lo hi n s p d
 pairs_end Right f t lo hi n s w p d = pairs_last f t lo hi n s w p d
 
--- the key k stands between an end and a node of this rank, or is its own; on the right a node above
+-- the key k is between an end and a node of this rank, or is its own; on the right a node above
 -- all keys has all of them between
 abbrev pub IsUpTo : Side → ℕ → ℕ → Type 0
 IsUpTo Left k r = k ≤ r
 IsUpTo Right k r = (k < 2 ^ 64) × (r < 2 ^ 64 → r ≤ k)
 
--- the key at the end of a leaf of class 0 is a key of the map, and between that end and the leaf's rank
+-- the key at the end of a leaf of class 0 is a key of the map, and between that end and the leaf's
+-- rank
 pub end_small : (side : Side) (f : Word → ℕ) (n : ℕ) → AllBelow (2 ^ 64) (held_pairs f n) → f (node n (Settled (Key (end_slot side (f (node n (Settled More))))))) < 2 ^ 64
 end_small side f n below = below_end side (2 ^ 64) (held_pairs f n) _ below (held_end side f n)
 
@@ -285,7 +287,7 @@ run_low lay h t g is =
 same_since : (lay : Layout) (h start : History) (k n : ℕ) → IsTreeRun lay h → (p : Passed h start k n) → SameSettled (value p.0) (value h) n
 same_since lay h start k n g p part i = node_since lay h p.0 n part g.1.lawful p.1 i (path_named lay p.0 k n g.0 p.3)
 
--- how what is on a side of a fork that was passed stands to the fork
+-- where what is on a side of a fork that was passed is, seen from the fork
 pub walk_beside : (lay : Layout) (h start : History) (k n : ℕ) (side : Side) → IsTreeRun lay h → Passed h start k n → is_leaf (value h) n ≡ false → IsBeside (value h) side n (value h (child n side))
 walk_beside lay h start k n side g p fork =
     let x : Latest h p.0 k n = latest (edits_of lay h g).edits lay h p.0 k n (grown lay h g) p.1 p.3 in
@@ -363,8 +365,8 @@ walk_end side lay h start n g p leaf =
       is = spelled_end side lay m n spelled.0 then_run spelled.1 p.3 then ∙ sym (settled_end side (value m) (value h) n same);
     }
 
--- Just before an SCX-record wins whose leaf was on the path to an end, that leaf says which pair is at
--- that end of the map: it is not final, so it is on that path still.
+-- Just before an SCX-record wins whose leaf was on the path to an end, that leaf says which pair is
+-- at that end of the map: it is not final, so it is on that path still.
 pub win_end : (side : Side) (lay : Layout) (h : History) (row : Row) (s : ℕ) (e : MapEdit) → IsTreeRun lay (row ⊳ h) → IsWin h row s → Makes lay h s e → WasOnPath h (end_key side) (edit_leaf h s e) → is_leaf (value h) (edit_leaf h s e) ≡ true → (ps : List Pair) → Spells lay (value h) ps → end_pair side ps ≡ end_said side (value h) (edit_leaf h s e)
 win_end side lay h row s e g won makes was leaf ps spells = spelled_end side lay h (edit_leaf h s e) ps run spells (path_remains lay h (end_key side) (edit_leaf h s e) run was not_final) leaf
   where

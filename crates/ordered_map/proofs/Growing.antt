@@ -203,7 +203,7 @@ but_last_is [] x = refl
 but_last_is (y ∷ []) x = refl
 but_last_is (y ∷ z ∷ xs) x = ap (λ w. y ∷ w) (but_last_is (z ∷ xs) x)
 
--- lists that agree but for the last agree
+-- lists that agree except for the last agree
 pub front_same : {A : Type 0} (xs ys : List A) (x y : A) → xs ++ x ∷ [] ≡ ys ++ y ∷ [] → xs ≡ ys
 front_same xs ys x y e = sym (but_last_is xs x) ∙ ap but_last e ∙ but_last_is ys y
 

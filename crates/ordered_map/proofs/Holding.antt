@@ -1,5 +1,5 @@
 -- What a leaf holds. The facts that depend on the words in which it does are proved here, and all
--- else goes by them.
+-- else uses them.
 use Rattle.std.proofs.Common.{◌≡◌, ◌≢◌, ℕ, zero, suc, ◌+◌, ◌*◌, ◌/◌, ◌%◌, ◌^◌, ◌<◌, ◌≤◌, true, cond, eqb, List, [], ◌∷◌, length, refl, sym, ◌∙◌, ap, arith, subst, lt-ltb, eq-eqb, ne_eqb}
 use Rattle.std.specs.Prelude.{map, Option, Some, None}
 use native.Mathlib.Decide.{ℕ_discrete}
@@ -23,7 +23,7 @@ use Rattle.ordered_map.proofs.Lists.{from_less, below_more, rising_from}
 abbrev pub SameSettled : (Word → ℕ) → (Word → ℕ) → ℕ → Type 0
 SameSettled b f n = (a : NodeWord) → IsSettled (node n a) → f (node n a) ≡ b (node n a)
 
--- how many pairs the leaf n has behind its first
+-- how many pairs the leaf n has after its first
 abbrev more_of : (Word → ℕ) → ℕ → ℕ
 more_of f n = f (node n (Settled More))
 
@@ -44,7 +44,7 @@ pub counted_same : (b f : Word → ℕ) (n : ℕ) → SameSettled b f n → IsWe
 unfolding IsWellCounted
 counted_same b f n e c = let more : f (node n (Settled More)) ≡ b (node n (Settled More)) = e (Settled More) tt in rw more c
 
--- it is as it may be just where it has at most three pairs behind its first
+-- its count is allowed if it has at most three pairs after its first
 pub few_counted : (f : Word → ℕ) (n : ℕ) → f (node n (Settled More)) < 4 → IsWellCounted f n
 unfolding IsWellCounted
 few_counted f n few = few
@@ -106,12 +106,12 @@ module _ (f : Word → ℕ) (n : ℕ) where
   slots_rise (suc (suc (suc more))) Third r = r.1.1
   slots_rise more Fourth r = (tt, tt)
 
--- from a slot on it holds the pair that is there, and what it holds from the slot behind that on
+-- from a slot on it holds the pair that is there, and what it holds from the next slot on
 pub held_next : (f : Word → ℕ) (n : ℕ) (slot : Slot) → held_from f n slot ≡ pair_in f n slot ∷ held_behind f n (slot_behind (f (node n (Settled More))) slot)
 unfolding held_from
 held_next f n slot = next_slot f n (more_of f n) slot ∙ ap (λ ps. pair_in f n slot ∷ ps) (behind_slot f n (slot_behind (more_of f n) slot))
 
--- the first and those behind it
+-- the first and those after it
 pub held_count : (f : Word → ℕ) (n : ℕ) → IsWellCounted f n → length (held_pairs f n) ≡ 1 + f (node n (Settled More))
 unfolding held_from IsWellCounted
 held_count f n counted = slots_count f n (more_of f n) counted
@@ -144,7 +144,7 @@ held_end Right f n = in_slots_end (more_of f n)
     in_slots_end (suc (suc zero)) = refl
     in_slots_end (suc (suc (suc more))) = refl
 
--- a leaf with no pair behind its first has this one
+-- a leaf with no pair after its first has this one
 pub held_alone : (f : Word → ℕ) (n : ℕ) → f (node n (Settled More)) ≡ 0 → held_pairs f n ≡ pair_in f n First ∷ []
 held_alone f n none = held_next f n First ∙ ap (λ more. pair_in f n First ∷ held_behind f n (slot_behind more First)) none
 
@@ -199,7 +199,7 @@ high_leaf f n lo hi leaf high small from below = record {
   };
 }
 
--- one of class 0, if its pairs rise to below the upper bound, and its rank is not below the lower one
+-- one of class 0, if its pairs rise to below the upper bound, and its rank is not below `lo`
 pub low_leaf : (f : Word → ℕ) (n lo hi : ℕ) → is_leaf f n ≡ true → class f n ≡ 0 → IsWellCounted f n → IsRising (held_pairs f n) → AllBelow hi (held_pairs f n) → AllBelow (2 ^ 64) (held_pairs f n) → lo ≤ rank f n → IsLeaf f n lo hi
 low_leaf f n lo hi leaf low counted rises below words from =
     let x = held_first f n in

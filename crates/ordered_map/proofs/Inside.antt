@@ -1,4 +1,4 @@
--- Every node that stood in the tree is in the table.
+-- Every node that was in the tree is in the table.
 use Rattle.std.proofs.Common.{◌≡◌, ◌≢◌, ℕ, ◌<◌, Bool, true, false, ◌⊎◌, inl, inr, ⊎_elim, refl, sym, ◌∙◌, arith, ne_eqb}
 use native.Mathlib.Decide.{ℕ_discrete}
 use Rattle.arena.specs.declared.limits.Mode.{Mode}

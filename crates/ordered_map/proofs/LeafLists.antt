@@ -41,7 +41,7 @@ others_inside c ns others a e = front (λ n. n < all_nodes c.layout) others (e.o
 
 -- The two last
 
--- what stands before them is determined
+-- what is before them is determined
 others_same : (xs ys : List ℕ) (x y : ℕ) → xs ++ x ∷ 2 ∷ [] ≡ ys ++ y ∷ 2 ∷ [] → xs ≡ ys
 others_same xs ys x y e = front_same xs ys x y (front_same (xs ++ x ∷ []) (ys ++ y ∷ []) 2 2 (append_assoc xs (x ∷ []) (2 ∷ []) ∙ e ∙ sym (append_assoc ys (y ∷ []) (2 ∷ []))))
 

@@ -55,6 +55,6 @@ module _ (calls : ℕ → MapEdit) (lay : Layout) where
       let c = y.2 in
       rw (log_wins f w) (omega (arith, e, d, c))
 
-  -- a node that stood in the tree is at most that deep
+  -- a node that was in the tree is at most that deep
   pub grown_level : (h : History) → IsGrown calls lay h → (n : ℕ) → WasInTree h n → level (value h) n ≤ suc (length (log lay h))
   grown_level = of_all_stood calls lay IsWithin opens stays begins

@@ -29,7 +29,7 @@ pub below_right : (k : ℕ) (xs ys : List Pair) → AllBelow k (xs ++ ys) → Al
 below_right k [] ys a = a
 below_right k (x ∷ xs) ys a = below_right k xs ys a.1
 
--- keys rise in both if they do, and those of the first are below some number that the others are above
+-- keys rise in both if they do in each, and some number is above the first's, below the others
 pub rising_join : (m : ℕ) (xs ys : List Pair) → AllBelow m xs → IsRising xs → IsRising ys → ((k : ℕ) → k < m → AllAbove k ys) → IsRising (xs ++ ys)
 rising_join m [] ys b r s a = s
 rising_join m (x ∷ xs) ys b r s a = (above_join x.key xs ys r.0 (a x.key b.0), rising_join m xs ys b.1 r.1 s a)

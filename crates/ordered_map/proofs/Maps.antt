@@ -1,4 +1,4 @@
--- The calls of a map, told by its values.
+-- The calls of a map, by the map's values.
 use Rattle.std.proofs.Common.{◌≡◌, ◌≢◌, ℕ, ◌<◌, ◌≤◌, Bool, true, false, cond, ◌&&◌, eqb, leb, ltb, ◌⊎◌, inl, inr, List, [], ◌∷◌, ◌++◌, refl, sym, ◌∙◌, ap, arith, lt-ltb, le-ltb, eq-eqb, ne_eqb, subst}
 use Rattle.std.specs.Prelude.{Option, Some, None, unwrap_or}
 use Rattle.arena.specs.declared.word.Side.{Side}
@@ -243,7 +243,7 @@ between_rises low high (p ∷ ps) r = go (leb low p.key && leb p.key high) (betw
 
 -- The keys at the ends
 
--- the last of those behind p, or p, is not below it
+-- the last of those after p, or p, is not below it
 pub last_from : (p : Pair) (ps : List Pair) → AllAbove p.key ps → p.key ≤ (unwrap_or (last_pair ps) p).key
 last_from p [] a = omega arith
 last_from p (q ∷ qs) a = last_above q qs a
@@ -298,7 +298,7 @@ below_end Right hi (q ∷ qs) p a e = go (last_pair qs) refl (ap (λ o. unwrap_o
     go None is eq rest = subst (λ (r : Pair). r.key < hi) (sym (ap (λ o. unwrap_or o q) is) ∙ eq) a.0
     go (Some r) is eq rest = subst (λ (s : Pair). s.key < hi) (sym (ap (λ o. unwrap_or o q) is) ∙ eq) (rest r is)
 
--- behind others it is the same
+-- after others it is the same
 pub last_join : (xs ys : List Pair) (p : Pair) → last_pair ys ≡ Some p → last_pair (xs ++ ys) ≡ Some p
 last_join [] ys p e = e
 last_join (x ∷ xs) ys p e = ap (λ o. Some (unwrap_or o x)) (last_join xs ys p e)

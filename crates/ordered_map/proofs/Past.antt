@@ -1,4 +1,4 @@
--- A walk by child loads visits only nodes that were on the search path at a moment since its begin.
+-- A walk by child loads visits only nodes that were on the search path at a moment since its start.
 use Rattle.std.proofs.Common.{◌≡◌, ◌≢◌, ℕ, ◌<◌, ◌≤◌, ◌*◌, ◌/◌, ◌%◌, ◌^◌, true, false, eqb, ltb, ◌⊎◌, inl, inr, refl, sym, ◌∙◌, ap, arith, subst, cond}
 use Rattle.std.specs.Prelude.{Option}
 use native.Mathlib.Decide.{ℕ_discrete}
@@ -87,7 +87,7 @@ latest calls lay (r ⊳ h) m k n g (inr e) p = go (latest calls lay h m k n (gro
     go x (inl q) = record { moment = r ⊳ h; within = inl refl; since = inr e; on_path = record { tree = t.tree; is_tree = t.is_tree; passes = q }; same = same_refl (value (r ⊳ h)) n }
     go x (inr d) = record { moment = x.moment; within = inr x.within; since = x.since; on_path = x.on_path; same = same_trans (value x.moment) (value h) (value (r ⊳ h)) n x.same (row_same d) }
 
--- At the begin of a walk: node 0.
+-- At the start of a walk: node 0.
 pub walk_begins : (calls : ℕ → MapEdit) (lay : Layout) (h : History) (k : ℕ) → IsGrown calls lay h → Passed h h k 0
 walk_begins calls lay h k g =
     let t : TreeFacts calls lay h = tree_facts calls lay h g in
@@ -109,7 +109,7 @@ walk_goes_on calls lay h start k n g p fork =
     let q : Passes (value m) k x.on_path.tree (value m (child n (toward (value m) n k))) = path_child (value m) k x.on_path.tree _ _ n x.on_path.is_tree.shows x.on_path.passes (ap (λ v. eqb (v / 4 % 2) 1) (sym head) ∙ fork) in
     (m, x.within, ends_trans m p.0 start x.since p.2, record { tree = x.on_path.tree; is_tree = x.on_path.is_tree; passes = rw c q })
 
--- The map at a moment since the begin gives what the leaf says now.
+-- The map at a moment since the start gives what the leaf says now.
 pub record Answered (calls : ℕ → MapEdit) (lay : Layout) (h start : History) (k : ℕ) (answer : Option ℕ) : Type 0 where
   pub moment : History
   pub within : Extends h moment
@@ -136,7 +136,7 @@ walk_ends calls lay h start k n small g p leaf =
 
 -- Levels rise, in the tree and in removed nodes.
 
--- the children of a fork of the tree stand in the tree, on levels above its own
+-- the children of a fork of the tree are in the tree, on levels above its own
 pub path_level : (f : Word → ℕ) (t : Tree) (lo hi n : ℕ) (side : Side) → Shows f lo hi t → Has t n → is_leaf f n ≡ false → (level f n < level f (f (child n side))) × Has t (f (child n side))
 path_level f (Leaf m) lo hi n side s e d = absurd (let x : true ≡ false = sym s.leaf ∙ rw (← e) at d in cc)
 path_level f (Fork m a b) lo hi n Left s (inl e) d =

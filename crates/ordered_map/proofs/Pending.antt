@@ -1,4 +1,4 @@
--- What is kept of an SCX-record from its begin to its update.
+-- What is kept of an SCX-record from its start to its update.
 use Rattle.std.proofs.Common.{◌≡◌, ◌≢◌, ℕ, ◌<◌, false, ◌⊎◌, inl, inr, ⊎_elim, refl, sym, ◌∙◌, subst}
 use native.Mathlib.Decide.{ℕ_discrete}
 use Rattle.arena.specs.declared.word.Side.{Side}

@@ -21,7 +21,7 @@ use Rattle.ordered_map.proofs.Trees.{open_between, has_root}
 use Rattle.ordered_map.proofs.Lists.{rising_cons}
 use Rattle.ordered_map.proofs.Holding.{held_next, high_leaf, low_leaf, rank_from, rank_below}
 
--- what stands behind a key: nothing, or pairs in order of which the first is above it
+-- what follows a key: nothing, or pairs in order, the first of which is above it
 abbrev OrderedBehind : (Word → ℕ) → ℕ → ℕ → ℕ → Option Slot → Type 0
 OrderedBehind f n high key None = Unit {0}
 OrderedBehind f n high key (Some next) = (key < (pair_in f n next).key) × AreInOrder high (held_from f n next)
@@ -171,7 +171,7 @@ seen_fork c p left right l at r d el er = rw (el, er) record { apart = apart; jo
         inside n (inr (inl h)) = x.inside n h
         inside n (inr (inr h)) = y.inside n h
 
--- Several parts, of which the last is read first
+-- Several parts, the last of which is read first
 
 -- the leaves of trees of all of them
 abbrev pub AreRead : Contents → List Part → List ℕ → Type 0

@@ -1,5 +1,5 @@
--- A node that was on a search path, and is not final, still is on it; so what stood in the tree, and
--- is not final, still stands there.
+-- A node that was on a search path, and is not final, still is on it; so what was in the tree, and
+-- is not final, still is there.
 use Rattle.std.proofs.Common.{◌≡◌, ℕ, ◌<◌, ◌≤◌, ◌*◌, ◌^◌, true, false, Bool, inl, inr, ⊎_elim, refl, sym, ◌∙◌, subst}
 use Rattle.arena.specs.declared.layout.Layout.{Layout}
 use Rattle.arena.specs.declared.step.Row.{Row}

@@ -1,4 +1,4 @@
--- A node that an entry finalizes stood in the tree, and stands there no more.
+-- A node that an entry finalizes was in the tree, and is there no more.
 use Rattle.std.proofs.Common.{◌≡◌, ◌≢◌, ℕ, true, false, ◌⊎◌, inl, inr, ⊎_elim, refl, sym, ◌∙◌, ap, arith, subst}
 use native.Mathlib.Decide.{ℕ_discrete}
 use Rattle.arena.specs.declared.limits.Mode.{Mode}
@@ -40,7 +40,7 @@ pub record NodeFacts (lay : Layout) (h : History) : Type 0 where
   pub once : (s u n : ℕ) → IsPending h s → IsPending h u → s ≢ u → IsMadeBy h s n → IsMadeBy h u n → ⊥
   pub gone : (n : ℕ) → is_final (log lay h) n ≡ true → WasInTree h n × ((t : Tree) → IsTree (value h) t → ¬ Has t n)
 
--- a node that stood in the tree is the root or was in a field
+-- a node that was in the tree is the root or was in a field
 was_field : (h : History) (n : ℕ) → WasInTree h n → (n ≡ 0) ⊎ ((m : ℕ) × (side : Side) × HasHeld h (child m side) n)
 was_field h n x = ⊎_elim
     (λ e. inl (e ∙ x.is_tree.is))
@@ -195,7 +195,7 @@ module _ (calls : ℕ → MapEdit) (lay : Layout) (h : History) (r : Row) (g : I
     update_made s n p = made_back s n p.named (update_keeps_scx f w s New) (update_keeps_scx f w s Plan)
         (λ _ side. update_keeps_other f w (child (new h s) side) (node_apart (member h u (field_index h u)) (new h s) (Child (side_of (plan h u))) (Child side) (λ e. x.unborn s (new h s) p (inl refl) (subst (WasInTree h) e spot_was))))
 
-    -- what stands in the tree now stood there before, or u has made it
+    -- what is in the tree now was there before, or u has made it
     in_now : (tree : Tree) (n : ℕ) → IsTree (value (r ⊳ h)) tree → Has tree n → Has t.tree n ⊎ IsMadeBy h u n
     in_now tree n i p = ⊎_elim inl (λ b. inr (born_made calls lay h r u f w g.mode g.lawful t n b)) (in_updated calls lay h r g u w tree n i p)
 

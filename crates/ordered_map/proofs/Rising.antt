@@ -1,5 +1,5 @@
 -- Levels rise from each fork that a field has ever named, where machines fill nodes in order: such
--- a node has stood in the tree, or is a leaf.
+-- a node has been in the tree, or is a leaf.
 use Rattle.std.proofs.Common.{◌≡◌, ℕ, zero, suc, ◌<◌, ◌/◌, ◌%◌, ◌⊎◌, inl, inr, ⊎_elim, Bool, true, false, cond, eqb, refl, sym, ◌∙◌, ap, subst, arith}
 use native.Mathlib.Decide.{ℕ_discrete}
 use Rattle.arena.specs.declared.limits.Mode.{Mode}
@@ -84,7 +84,7 @@ field_came lay h r m side n l q = test (same_word r.word (child m side)) refl
 
 -- Nodes that a field has named
 
--- such a node has stood in the tree, or is a leaf
+-- such a node has been in the tree, or is a leaf
 abbrev StoodOrLeaf : History → ℕ → Type 0
 StoodOrLeaf h n = WasInTree h n ⊎ (is_leaf (value h) n ≡ true)
 
@@ -155,8 +155,8 @@ stood lay (Start mode) n g order x = subst (λ (m : Mode). StoodOrLeaf (Start m)
     small y = subst (λ k. k < 3) (start_word mode (child y.0 y.1) tree ∙ held_start mode (child y.0 y.1) n y.2) (field_small y.0 y.1)
 stood lay (r ⊳ h) n g order x = row_stood lay h r n g order (stood lay h n (g.0, record { lawful = lawful_tail lay h r g.1.lawful; shaped = shaped_tail TreeAllows lay h r g.1.shaped }) order.0) x
 
--- Where the steps are a run of the tree whose nodes were filled in order, levels rise from each fork
--- that a field has ever named.
+-- Where the steps are a run of the tree whose nodes were filled in order, levels rise from each
+-- fork that a field has ever named.
 pub rising_levels : (lay : Layout) (h : History) → IsTreeRun lay h → AreFilledInOrder h → HasRisingLevels h
 rising_levels lay h g order n side named fork = ⊎_elim (λ x. levels_rise lay h n side g x fork) (λ e. let y : true ≡ false = sym e ∙ fork in absurd (cc)) (stood lay h n g order named)
 
@@ -166,6 +166,6 @@ filled_since (Start mode) m e x = subst AreFilledInOrder (sym e) x
 filled_since (r ⊳ h) m (inl e) x = subst AreFilledInOrder (sym e) x
 filled_since (r ⊳ h) m (inr e) x = filled_since h m e x.0
 
--- What such a fork has held in a field while it was not final has stood in the tree.
+-- What such a fork has held in a field while it was not final has been in the tree.
 pub held_stood : (lay : Layout) (h m : History) (n : ℕ) (side : Side) → IsTreeRun lay h → AreFilledInOrder h → Extends h m → HasStoodInField m n → is_final (log lay m) n ≡ false → is_leaf (value m) n ≡ false → WasInTree h (value m (child n side))
 held_stood lay h m n side g order e named not_final fork = ⊎_elim (λ x. child_stood lay h m n side g e x not_final fork) (λ leaf. let y : true ≡ false = sym leaf ∙ fork in absurd (cc)) (stood lay m n (run_since lay h m g e) (filled_since h m e order) named)

@@ -1,5 +1,5 @@
--- Runs under the shape of the tree: each SCX-record that begins does so once, so that an edit can be
--- named for each; where more than one would do, any.
+-- Runs under the shape of the tree: each SCX-record that begins does so once, so that an edit can
+-- be named for each; where more than one would do, any.
 use Rattle.std.proofs.Common.{◌≡◌, ℕ, true, false, cond, eqb, eq-eqb, ne_eqb, inl, inr, refl, sym, ◌∙◌, ap, arith, subst}
 use native.Mathlib.Decide.{ℕ_discrete}
 use Rattle.arena.specs.declared.limits.Mode.{Mode}
@@ -123,7 +123,7 @@ pub has_edits : (lay : Layout) (h : History) → Lawful lay h → Shaped TreeAll
 has_edits lay (Start m) l p = record { edits = λ s. Delete 0; shaped = shaped_start (AllowsGiven (λ s. Delete 0)) lay m }
 has_edits lay (r ⊳ h) l p = edits_more lay h r l p (has_edits lay h (lawful_tail lay h r l) (shaped_tail TreeAllows lay h r p))
 
--- an edit that an SCX-record is said to make can stand for it
+-- any edit that an SCX-record makes may be the one that it is said to make
 pub edit_told : (lay : Layout) (h : History) (u : ℕ) (e : MapEdit) (edits : ℕ → MapEdit) → Lawful lay h → Makes lay h u e → Shaped (AllowsGiven edits) lay h → Shaped (AllowsGiven (with_edit u e edits)) lay h
 edit_told lay h u e edits l x p = shaped_change (AllowsGiven edits) (AllowsGiven (with_edit u e edits)) lay h p told
   where

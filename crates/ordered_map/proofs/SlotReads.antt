@@ -25,7 +25,7 @@ module _ (f : Word → ℕ) (n : ℕ) (slot : Slot) where
   rises_here : IsRising (held_from f n slot) → IsRising (pair_in f n slot ∷ pairs_behind)
   rises_here = subst IsRising (held_next f n slot)
 
-  -- a key is in this slot, or behind it if it is another one, and not where it is below that of the slot
+  -- a key is in this slot, or later if it is another one, and not if it is below that of the slot
   pub get_here : (k : ℕ) → k ≡ f (node n (Settled (Key slot))) → get k (held_from f n slot) ≡ Some (pair_in f n slot).value
   get_here k e = ap (get k) (held_next f n slot) ∙ rw (eq-eqb k key_here e) refl
 

@@ -1,4 +1,4 @@
--- Which nodes ever stood in the tree: each was there at the start, or an update has put it there.
+-- Which nodes ever were in the tree: each was there at the start, or an update has put it there.
 use Rattle.std.proofs.Common.{◌≡◌, ℕ, ◌<◌, ◌⊎◌, inl, inr, ⊎_elim, sym, ◌∙◌, arith, subst}
 use Rattle.arena.specs.declared.limits.Mode.TheVariants.{Tree as TreeMode}
 use Rattle.arena.specs.declared.word.Side.{Side}
@@ -26,7 +26,7 @@ one_tree h t u a b = same_tree (value h) t u _ _ _ _ a.shows b.shows (a.is ∙ s
 pub was_more : (h : History) (r : Row) (n : ℕ) → WasInTree h n → WasInTree (r ⊳ h) n
 was_more h r n x = record { moment = x.moment; within = inr x.within; tree = x.tree; is_tree = x.is_tree; has = x.has }
 
--- it stood there before, or does so now
+-- it was there before, or is there now
 pub was_split : (h : History) (r : Row) (n : ℕ) → WasInTree (r ⊳ h) n → WasInTree h n ⊎ ((t : Tree) × IsTree (value (r ⊳ h)) t × Has t n)
 was_split h r n x = go x.within
   where
@@ -37,11 +37,11 @@ was_split h r n x = go x.within
 pub was_now : (h : History) (t : Tree) (n : ℕ) → IsTree (value h) t → Has t n → WasInTree h n
 was_now h t n i x = record { moment = h; within = ends_self h; tree = t; is_tree = i; has = x }
 
--- a node that was passed stood there
+-- a node that was passed was there
 pub was_passed : (h start : History) (k n : ℕ) → Passed h start k n → WasInTree h n
 was_passed h start k n p = record { moment = p.0; within = p.1; tree = p.3.tree; is_tree = p.3.is_tree; has = passes_has (value p.0) k p.3.tree n p.3.passes }
 
--- a node that stood in the tree was named
+-- a node that was in the tree was named
 pub was_named : (lay : Layout) (h : History) (n : ℕ) → lay.mode ≡ TreeMode → Lawful lay h → WasInTree h n → IsNamed lay h n
 was_named lay h n o l x = named_since lay h x.moment n l x.within (all_named lay x.moment x.tree n o x.is_tree x.has)
 
@@ -81,7 +81,7 @@ module _ (calls : ℕ → MapEdit) (lay : Layout) (h : History) (r : Row) (g : I
     pub was_back : (n : ℕ) → WasInTree (r ⊳ h) n → WasInTree h n
     was_back n x = ⊎_elim (λ y. y) (λ y. was_now h tree_then.tree n tree_then.is_tree (stood_before y.0 n y.1 y.2)) (was_split h r n x)
 
-  -- after an update a node of the tree stood there before, or was put there
+  -- after an update a node of the tree was there before, or was put there
   pub in_updated : (u : ℕ) (w : UpdateWins h r u) (tree : Tree) (n : ℕ) → IsTree (value (r ⊳ h)) tree → Has tree n → Has tree_then.tree n ⊎ PutThere u w n
   in_updated u w tree n i p =
       (result calls lay h r u facts_then w g.mode g.lawful tree_then).made n
@@ -96,8 +96,8 @@ module _ (calls : ℕ → MapEdit) (lay : Layout) (h : History) (r : Row) (g : I
       go (freeze s j w) = inl (stood_before (λ n side q. freeze_keeps_field facts_then w n side) tree n i p)
       go (update u w) = ⊎_elim inl (λ b. inr (u, w, b)) (in_updated u w tree n i p)
 
--- What is true of the opening nodes, of each node as it is put into the tree, and stays so, is true
--- of each node that ever stood there.
+-- What is true of the opening nodes and of each node as it is put into the tree, and stays so, is
+-- true of each node that ever was there.
 module _ (calls : ℕ → MapEdit) (lay : Layout) (P : History → ℕ → Type 0)
     (opens : (n : ℕ) → n < 3 → P (Start TreeMode) n)
     (stays : (h : History) (r : Row) (n : ℕ) → IsGrown calls lay (r ⊳ h) → IsNamed lay h n → P h n → P (r ⊳ h) n)

@@ -105,7 +105,7 @@ taken_in (r ⊳ h) n (inr p) = more r.kind r.word (taken_in h n p)
     more Fill (Scx s part) q = q
     more _ _ q = q
 
--- a node behind the opening ones whose head is not 0 was taken
+-- a node after the opening ones whose head is not 0 was taken
 head_taken : (lay : Layout) (h : History) (n : ℕ) → Lawful lay h → 3 ≤ n → value h (node n (Settled Head)) ≢ 0 → IsTakenNode h n
 head_taken lay (Start mode) n l i d = absurd (d (value_start mode (node n (Settled Head)) ∙ no_head mode n (λ e. omega (arith, e)) (λ e. omega (arith, e)) (λ e. omega (arith, e))))
 head_taken lay (r ⊳ h) n l i d = go (change lay h r l) (head_taken lay h n (lawful_tail lay h r l) i)

@@ -48,11 +48,11 @@ tree_not_final lay h t n g i p = go (is_final (log lay h) n) refl
 pub path_not_final : (lay : Layout) (h : History) (k n : ℕ) → IsTreeRun lay h → IsOnPath h k n → is_final (log lay h) n ≡ false
 path_not_final lay h k n g x = tree_not_final lay h x.tree n g x.is_tree (passes_has (value h) k x.tree n x.passes)
 
--- a node that stood in the tree and is not final still stands there
+-- a node that was in the tree and is not final is still there
 pub tree_remains : (lay : Layout) (h : History) (t : Tree) (n : ℕ) → IsTreeRun lay h → WasInTree h n → is_final (log lay h) n ≡ false → IsTree (value h) t → Has t n
 tree_remains lay h t n g x e i = grown_remains (edits_of lay h g).edits lay h t n (grown lay h g) x e i
 
--- the new node of an update that has won stands in the tree
+-- the new node of an update that has won is in the tree
 pub new_stood : (lay : Layout) (h : History) (r : Row) (u : ℕ) → IsTreeRun lay (r ⊳ h) → UpdateWins h r u → WasInTree (r ⊳ h) (new h u)
 new_stood lay h r u g w = was_now (r ⊳ h) (result edits lay h r u f w g.0 g.1.lawful then).tree (new h u) (tree_now edits lay h r u f w g.0 g.1.lawful then) (new_in edits lay h r u f w g.0 g.1.lawful then)
   where
@@ -97,18 +97,18 @@ log_short lay h g = grown_log (edits_of lay h g).edits lay h (grown lay h g)
 pub passed_depth : (lay : Layout) (h start : History) (k n : ℕ) → IsTreeRun lay h → Passed h start k n → level (value h) n < 2 + length (taken_nodes h)
 passed_depth lay h start k n g p = grown_depth (edits_of lay h g).edits lay h start k n (grown lay h g) p
 
--- and so is one that stood there
+-- and so is one that was there
 pub stood_depth : (lay : Layout) (h : History) (n : ℕ) → IsTreeRun lay h → WasInTree h n → level (value h) n < 2 + length (taken_nodes h)
 stood_depth lay h n g x =
     let a : level (value h) n ≤ suc (length (log lay h)) = grown_level (edits_of lay h g).edits lay h (grown lay h g) n x in
     let b : length (log lay h) ≤ length (taken_nodes h) = log_short lay h g in
     omega (arith, a, b)
 
--- the settled words of a node that stood in the tree stay as they were
+-- the settled words of a node that was in the tree do not change
 pub stood_settled : (lay : Layout) (h m : History) (n : ℕ) → IsTreeRun lay h → Extends h m → WasInTree m n → SameSettled (value m) (value h) n
 stood_settled lay h m n g e x part i = node_since lay h m n part g.1.lawful e i (was_named lay m n g.0 (run_since lay h m g e).1.lawful x)
 
--- a node that stood in the tree is the root, or a field of the fork above it has held it
+-- a node that was in the tree is the root, or a field of the fork above it has held it
 pub stood_in_field : (lay : Layout) (h : History) (n : ℕ) → IsTreeRun lay h → WasInTree h n → IsInField lay h n
 stood_in_field lay h n g x = go (has_above (value x.moment) x.tree _ _ n x.is_tree.shows x.has)
   where
@@ -116,11 +116,11 @@ stood_in_field lay h n g x = go (has_above (value x.moment) x.tree _ _ n x.is_tr
     go (inl e) = let z : n ≡ 0 = e ∙ x.is_tree.is in inl (subst (λ m. n < opening_nodes m) (sym g.0) (omega (arith, z)))
     go (inr y) = inr (y.fork, y.side, was_named lay h y.fork g.0 g.1.lawful record { moment = x.moment; within = x.within; tree = x.tree; is_tree = x.is_tree; has = y.has }, held_since h x.moment (child y.fork y.side) n x.within (held_at x.moment (child y.fork y.side) n y.holds))
 
--- the children of a fork that has stood in the tree and is not final stand in the tree
+-- the children of a fork that has been in the tree and is not final are in the tree
 child_has : (lay : Layout) (h : History) (t : Tree) (n : ℕ) (side : Side) → IsTreeRun lay h → IsTree (value h) t → WasInTree h n → is_final (log lay h) n ≡ false → is_leaf (value h) n ≡ false → Has t (value h (child n side))
 child_has lay h t n side g i x e fork = (path_level (value h) t _ _ n side i.shows (tree_remains lay h t n g x e i) fork).1
 
--- what a fork holds in its fields that has stood in the tree and is not final stands in the tree
+-- what a fork holds in its fields that has been in the tree and is not final is in the tree
 pub child_stood : (lay : Layout) (h m : History) (n : ℕ) (side : Side) → IsTreeRun lay h → Extends h m → WasInTree m n → is_final (log lay m) n ≡ false → is_leaf (value m) n ≡ false → WasInTree h (value m (child n side))
 child_stood lay h m n side g e x not_final fork = record { moment = m; within = e; tree = spelled.tree; is_tree = spelled.is_tree; has = child_has lay m spelled.tree n side run spelled.is_tree x not_final fork }
   where
@@ -130,7 +130,7 @@ child_stood lay h m n side g e x not_final fork = record { moment = m; within = 
     spelled : Spells lay (value m) (run_spells lay m run).0
     spelled = (run_spells lay m run).1
 
--- its two children are apart
+-- its two children are different
 pub children_apart : (lay : Layout) (h : History) (n : ℕ) → IsTreeRun lay h → WasInTree h n → is_final (log lay h) n ≡ false → is_leaf (value h) n ≡ false → value h (child n Left) ≢ value h (child n Right)
 children_apart lay h n g x not_final fork = fields_apart (value h) spelled.tree _ _ n spelled.is_tree.shows (tree_remains lay h spelled.tree n g x not_final spelled.is_tree) fork
   where

@@ -102,7 +102,7 @@ node_below f (Fork m a b) lo hi n s (inr (inl q)) =
     omega (arith, x, y)
 node_below f (Fork m a b) lo hi n s (inr (inr q)) = node_below f b (rank f m) hi n s.2 q
 
--- no node stands on both sides
+-- no node is on both sides
 pub apart : (f : Word → ℕ) (a b : Tree) (lo m hi p : ℕ) → Shows f lo m a → Shows f m hi b → Has a p → Has b p → ⊥
 apart f a b lo m hi p s r h i = go (part_of f a lo m p s h) (part_of f b m hi p r i)
   where
@@ -112,7 +112,7 @@ apart f a b lo m hi p s r h i = go (part_of f a lo m p s h) (part_of f b m hi p 
         let z : y.low < x.high = overlap f x.tree x.low x.high y.low y.high x.shows (subst (Shows f y.low y.high) (sym e) y.shows) in
         omega (arith, z, x.to, y.from)
 
--- no node stands below itself
+-- no node is below itself
 pub not_below : (f : Word → ℕ) (t : Tree) (lo hi p : ℕ) → Shows f lo hi t → level f p < level f (root t) → Has t p → ⊥
 not_below f t lo hi p s l h = let x : level f (root t) ≤ level f p = (part_of f t lo hi p s h).deeper in omega arith
 

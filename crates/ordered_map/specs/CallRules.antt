@@ -31,11 +31,11 @@ form_of replies.NoMemory = NoMemory
 
 -- what is said of one call of the map, whoever makes it
 pub record CallRules : Type 1 where
-  -- how many steps it makes at most, with so many tries, where so many nodes are taken when it ends
+  -- how many steps it makes at most, by the number of its tries, and of nodes taken when it ends
   pub most_steps : ℕ → ℕ → ℕ
   -- the kinds of step that it may make
   pub MayMake : Kind → Type 0
-  -- at most so many SCX-records, with so many tries, and so many nodes for each
+  -- how many SCX-records it takes at most in that many tries, and how many nodes for each
   pub most_scx : ℕ → ℕ
   pub most_nodes : ℕ
   -- how many nodes it needs on a map
@@ -45,7 +45,7 @@ pub record CallRules : Type 1 where
 
 -- Edits
 
--- so many nodes an edit needs, whose rule changes something, at a key that has this value: two leaves
+-- how many nodes an edit needs whose rule changes something, at a key with this value: two leaves
 -- and a fork over them at most, or a leaf in place of another, or a copy of its sibling
 abbrev pub nodes_at : Option ℕ → ℕ
 nodes_at None = 3
@@ -56,24 +56,24 @@ abbrev pub nodes_there : Rule → Option (ℕ × Option ℕ) → ℕ
 nodes_there rule None = 0
 nodes_there rule (Some s) = if applies rule s.1 then nodes_at s.1 else 0
 
--- and so many at most in a try, of one that changes nothing where there is no value
+-- and how many at most in a try, of one that changes nothing where there is no value
 abbrev pub nodes_in_try : Rule → ℕ
 nodes_in_try rule = if applies rule None then 3 else 1
 
--- so many steps at most behind its walk in a try, by the value that it leaves: where it leaves none, a
+-- how many steps at most after its walk in a try, by the value that it leaves: if it leaves none, a
 -- leaf and the fork over it may go, and the leaf's sibling is copied
 abbrev pub steps_behind : Option ℕ → ℕ
 steps_behind (Some value) = 207
 steps_behind None = 328
 
--- an edit of a key tells a value, or none, or is refused
+-- an edit of a key answers a value, or none, or is refused
 abbrev pub IsFormOfValue : Form → Type 0
 IsFormOfValue Value = Unit {0}
 IsFormOfValue Contended = Unit {0}
 IsFormOfValue Full = Unit {0}
 IsFormOfValue _ = ⊥
 
--- one of the pair at an end tells a pair, or none, or is refused
+-- one of the pair at an end answers a pair, or none, or is refused
 abbrev pub IsFormOfPair : Form → Type 0
 IsFormOfPair Pair = Unit {0}
 IsFormOfPair Contended = Unit {0}
@@ -86,7 +86,7 @@ IsFormOfEdit (End side) = IsFormOfPair
 
 -- Reads
 
--- a get tells what the key has, and is never refused
+-- a get answers what the key has, and is never refused
 abbrev pub IsFormOfGet : Form → Type 0
 IsFormOfGet Value = Unit {0}
 IsFormOfGet _ = ⊥
@@ -102,7 +102,7 @@ IsFormOfNeighbour _ = ⊥
 abbrev pub TakesNothing : ℕ → ℕ → ℕ → Type 0
 TakesNothing low high most = (most ≡ 0) ⊎ (high < low)
 
--- it tells pairs, or is refused
+-- it answers pairs, or is refused
 abbrev pub IsFormOfRange : Form → Type 0
 IsFormOfRange Pairs = Unit {0}
 IsFormOfRange Contended = Unit {0}
@@ -110,10 +110,10 @@ IsFormOfRange NoMemory = Unit {0}
 IsFormOfRange _ = ⊥
 
 -- The one match from calls to their rules. A walk makes at most three steps for each level that the
--- tree may have, two more than nodes are taken, and five more at its leaf; an edit makes one walk in a
--- try, and takes at most one SCX-record; a search with snapshots 67
+-- tree may have, two more than nodes are taken, and five more at its leaf; an edit makes one walk
+-- in a try, and takes at most one SCX-record; a search with snapshots 67 for each level; a
 -- for each level, and one for the pair beside a key makes two of these behind a walk, a range one for each pair that it
--- may take and for two more.
+-- more.
 abbrev pub call_rules : MapCall → CallRules
 call_rules (Edit goal rule) = record {
   most_steps = λ tries nodes. tries * (3 * (2 + nodes) + steps_behind (leaves rule));
@@ -148,15 +148,15 @@ call_rules (Range low high most) = record {
   MayReply = IsFormOfRange;
 }
 
--- how many steps a call makes at most, with so many tries, where so many nodes are taken
+-- how many steps a call makes at most, by the number of its tries, and of nodes taken
 abbrev pub most_steps : MapCall → ℕ → ℕ → ℕ
 most_steps call = (call_rules call).most_steps
 
--- at most so many nodes for each SCX-record, of which a try takes one at most
+-- how many nodes at most for each SCX-record, of which a try takes one at most
 abbrev pub most_nodes : MapCall → ℕ
 most_nodes call = (call_rules call).most_nodes
 
--- at most so many SCX-records, with so many tries
+-- how many SCX-records at most, by the number of its tries
 abbrev pub most_scx : MapCall → ℕ → ℕ
 most_scx call = (call_rules call).most_scx
 

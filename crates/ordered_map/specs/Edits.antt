@@ -1,4 +1,4 @@
--- The edits of the tree, as facts on the words of the nodes, by the lists of pairs that leaves hold.
+-- The edits of the tree, as facts on the words of nodes, by the lists of pairs that leaves hold.
 use Rattle.std.specs.Prelude.{◌≡◌, ◌≢◌, ℕ, ◌+◌, ◌^◌, true, false, ◌⊎◌, [], ◌++◌}
 use Rattle.arena.specs.declared.word.Side.{Side}
 use Rattle.arena.specs.declared.word.Side.TheVariants.{Left, Right}
@@ -16,7 +16,7 @@ pub record IsLowLeaf (f : Word → ℕ) (n : ℕ) : Type 0 where
   pub class : class f n ≡ 0
   pub counted : IsWellCounted f n
 
--- n is a leaf that may stand last in the place of the leaf l: of its class, and, above all keys, of
+-- n is a leaf that may be last in the place of the leaf l: of its class, and, above all keys, of
 -- its key
 pub record IsLastLeaf (f : Word → ℕ) (n l : ℕ) : Type 0 where
   pub leaf : is_leaf f n ≡ true
@@ -32,8 +32,8 @@ pub record IsSwapBy (f : Word → ℕ) (e : MapEdit) (l c : ℕ) : Type 0 where
   pub pairs : held_pairs f c ≡ edited e (held_pairs f l)
   pub deep : level f c ≡ level f l
 
--- the leaf l is replaced by a fork c over two leaves, which between them hold what the edit makes of
--- its items; the fork stands between them, of the class of the leaf, and above all keys it has its key
+-- the leaf l is replaced by a fork c over two leaves, which hold what the edit makes of its
+-- items; the fork is between them, of the class of the leaf, and above all keys it has its key
 pub record IsSplitBy (f : Word → ℕ) (e : MapEdit) (l c x y : ℕ) : Type 0 where
   pub leaf : is_leaf f l ≡ true
   pub fork : is_leaf f c ≡ false
@@ -66,7 +66,7 @@ pub record IsJoinBy (f : Word → ℕ) (e : MapEdit) (q l z c : ℕ) : Type 0 wh
   pub emptied : edited e (held_pairs f l) ≡ []
   pub copy : IsCopyOf f c z
 
--- a leaf l is replaced by what holds what the edit makes of its pairs: by a leaf, or by a fork over two
+-- a leaf l is replaced by a leaf, or by a fork over two, that hold what the edit makes of its pairs
 abbrev pub IsLeafEdit : (Word → ℕ) → MapEdit → ℕ → ℕ → Type 0
 IsLeafEdit f e l c = IsSwapBy f e l c ⊎ ((x y : ℕ) × IsSplitBy f e l c x y)
 

@@ -20,7 +20,7 @@ abbrev pub HasRisingLevels : History → Type 0
 HasRisingLevels h = (n : ℕ) (side : Side) → HasStoodInField h n → is_leaf (value h) n ≡ false → level (value h) n < level (value h) (value h (child n side))
 
 -- a node whose head is filled gets the head of a leaf, or no field has named it; what is put into a
--- field has stood in the tree, or is a leaf by its head
+-- field has been in the tree, or is a leaf by its head
 pub record IsFillInOrder (h : History) (r : Row) : Type 0 where
   pub head : (n : ℕ) → r.kind ≡ Fill → r.word ≡ node n (Settled Head) → IsTrue (r.after / 4 % 2 == 1) ⊎ (¬ HasStoodInField h n)
   pub field : (n : ℕ) (side : Side) → r.kind ≡ Fill → r.word ≡ child n side → WasInTree h r.after ⊎ (is_leaf (value h) r.after ≡ true)

@@ -1,5 +1,5 @@
--- What the words of a leaf hold: in which words its pairs stand is written here alone. One file of
--- proofs opens this; all others go by what it tells.
+-- What the words of a leaf hold: which words hold its pairs is written here alone. One file of
+-- proofs opens this; all others use the lemmas of that file.
 use Rattle.std.specs.Prelude.{ℕ, zero, suc, ◌+◌, ◌*◌, ◌^◌, ◌<◌, if◌then◌else◌, nat_lt, List, [], ◌∷◌, map, Option, Some, None}
 use Rattle.arena.specs.declared.word.NodeWord.TheVariants.{Settled}
 use Rattle.arena.specs.declared.word.SettledPart.TheVariants.{More, Key, Value, High}
@@ -12,7 +12,7 @@ use Rattle.arena.specs.Words.{node}
 use Rattle.ordered_map.specs.declared.pair.Pair.{Pair}
 use Rattle.ordered_map.specs.OrderedMap.{pair}
 
--- the slots of a leaf that has so many pairs behind its first: four at most
+-- the slots of a leaf with `more` pairs after its first: four at most
 abbrev pub slots : ℕ → List Slot
 slots zero = First ∷ []
 slots (suc zero) = First ∷ Second ∷ []
@@ -27,14 +27,14 @@ slots_from (suc (suc (suc more))) Second = Second ∷ Third ∷ Fourth ∷ []
 slots_from (suc (suc (suc more))) Third = Third ∷ Fourth ∷ []
 slots_from more slot = slot ∷ []
 
--- the slot behind this one in a leaf that has so many pairs behind its first, if there is one
+-- the next slot in a leaf with `more` pairs after its first, if there is one
 abbrev pub slot_behind : ℕ → Slot → Option Slot
 slot_behind more First = if nat_lt 0 more then Some Second else None
 slot_behind more Second = if nat_lt 1 more then Some Third else None
 slot_behind more Third = if nat_lt 2 more then Some Fourth else None
 slot_behind more Fourth = None
 
--- the slot at this end of a leaf that has so many pairs behind its first
+-- the slot at this end of a leaf with `more` pairs after its first
 abbrev pub end_slot : Side → ℕ → Slot
 end_slot Left more = First
 end_slot Right zero = First
@@ -54,7 +54,7 @@ pair_in f n slot = pair (f (node n (Settled (Key slot)))) (wide_value (f (node n
 unfoldable pub held_from : (Word → ℕ) → ℕ → Slot → List Pair
 held_from f n slot = map (pair_in f n) (slots_from (f (node n (Settled More))) slot)
 
--- those that it holds from the slot behind another one on, if there is one
+-- those that it holds from the slot after another one on, if there is one
 abbrev pub held_behind : (Word → ℕ) → ℕ → Option Slot → List Pair
 held_behind f n None = []
 held_behind f n (Some slot) = held_from f n slot
@@ -63,6 +63,6 @@ held_behind f n (Some slot) = held_from f n slot
 abbrev pub held_pairs : (Word → ℕ) → ℕ → List Pair
 held_pairs f n = held_from f n First
 
--- it holds as many as a leaf may hold: three behind its first, at most
+-- it holds as many as a leaf may hold: three after its first, at most
 unfoldable pub IsWellCounted : (Word → ℕ) → ℕ → Type 0
 IsWellCounted f n = f (node n (Settled More)) < 4

@@ -66,7 +66,7 @@ abbrev pub end_pair : Side → List Pair → Option Pair
 end_pair Left = first_pair
 end_pair Right = last_pair
 
--- whether this is the value told
+-- whether this is the value answered
 abbrev pub is_value : ℕ → Option ℕ → Bool
 is_value v None = false
 is_value v (Some told) = told == v
@@ -95,7 +95,7 @@ between low high (p ∷ ps) =
     if nat_le low p.key && nat_le p.key high then p ∷ between low high ps
     else between low high ps
 
--- the first of these by key, at most so many
+-- the first of these by key, at most `most`
 abbrev pub range : ℕ → ℕ → ℕ → List Pair → List Pair
 range low high most m = take most (between low high m)
 
@@ -106,7 +106,7 @@ pub data MapEdit : Type 0 where
   Insert : ℕ → ℕ → MapEdit
   Delete : ℕ → MapEdit
 
--- the key of which an edit speaks
+-- the key that an edit is about
 abbrev pub edit_key : MapEdit → ℕ
 edit_key (Insert k v) = k
 edit_key (Delete k) = k
@@ -132,8 +132,8 @@ after_edit None m = m
 after_edit (Some e) m = edited e m
 
 -- whether a rule changes anything where it finds this value, or none: a put always does, a put of
--- what is new where there is none, a take where there is one, a swap and a take of one value where it
--- is the value expected
+-- what is new where there is none, a take where there is one, a swap and a take of one value where
+-- it is the value expected
 abbrev pub applies : Rule → Option ℕ → Bool
 applies (Put v) found = true
 applies Take found = is_some found
@@ -215,7 +215,7 @@ abbrev pub goal_told : Goal → List Pair → MapReply
 goal_told (Key k) m = OneValue (get k m)
 goal_told (End side) m = pair_or_none (end_pair side m)
 
--- what the call replies on the map m: an edit tells what it finds
+-- what the call replies on the map m: an edit answers what it finds
 abbrev pub reply : MapCall → List Pair → MapReply
 reply (Edit goal rule) m = goal_told goal m
 reply (Get k) m = OneValue (get k m)
@@ -223,7 +223,7 @@ reply (Neighbour side k) m = pair_or_none (neighbour side k m)
 reply (Range low high most) m = ManyPairs (range low high most m)
 
 -- the key at which an edit with this reply is, and what that has, if it has a value; there is none
--- where it looks for a pair and tells none
+-- where it looks for a pair and answers none
 abbrev pub spot : Goal → MapReply → Option (ℕ × Option ℕ)
 spot (Key k) (OneValue found) = Some (k, found)
 spot (End side) (OnePair p) = Some (p.key, Some p.value)

@@ -1,4 +1,4 @@
--- Parts of the tree that words may show, and what leaves hold: what the reader of words goes by.
+-- Parts of the tree that words may show, and what leaves hold: what the reader of words needs.
 use Rattle.std.specs.Prelude.{◌≡◌, ℕ, suc, ◌+◌, ◌-◌, ◌*◌, ◌^◌, ◌<◌, ◌≤◌, true, false, List, [], ◌∷◌, ◌++◌, All}
 use Rattle.arena.specs.Layout.{all_nodes}
 use Rattle.arena.specs.PlainWords.{Contents, word_at}
@@ -55,7 +55,7 @@ pub record IsLeafRoot (c : Contents) (p : Part) : Type 0 where
   pub small : word_at c (node p.node first_key) < 2 ^ 64
   pub fits : IsFit p (level (word_at c) p.node) (rank (word_at c) p.node)
 
--- the pairs stand by rising key, and their keys are words below `high`
+-- the pairs are in the order of rising keys, and their keys are words below `high`
 abbrev pub AreInOrder : ℕ → List Pair → Type 0
 AreInOrder high ps = IsRising ps × AllBelow high ps × AllBelow (2 ^ 64) ps
 
@@ -74,7 +74,7 @@ pub record ShowLeaves (c : Contents) (ns : List ℕ) : Type 0 where
 abbrev pub AreInside : Contents → List ℕ → Type 0
 AreInside c ns = All (λ n. n < all_nodes c.layout) ns
 
--- the leaves end with one of class 1 and node 2, of class 2, behind these others
+-- the leaves end with one of class 1 and node 2, of class 2, after these others
 pub record HasEnds (c : Contents) (ns others : List ℕ) : Type 0 where
   pub one : ℕ
   pub last : ns ≡ others ++ one ∷ 2 ∷ []

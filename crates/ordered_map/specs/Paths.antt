@@ -1,4 +1,4 @@
--- Which nodes a search for a key passes, and which stand in the tree, now or at a moment before;
+-- Which nodes a search for a key passes, and which are in the tree, now or at a moment before;
 -- and what a search may answer.
 use Rattle.std.specs.Prelude.{◌≡◌, ℕ, ◌-◌, ◌^◌, if◌then◌else◌, ◌==◌, List, Option}
 use Rattle.arena.specs.declared.word.Side.{Side}
@@ -10,7 +10,7 @@ use Rattle.ordered_map.specs.OrderedMap.{get, end_pair}
 use Rattle.ordered_map.specs.TreeWords.{Tree, Has, Passes}
 use Rattle.ordered_map.specs.Spelled.{IsTree, Spells}
 
--- after the history n stands in the tree, on the search path of k
+-- after the history n is in the tree, on the search path of k
 pub record IsOnPath (h : History) (k n : ℕ) : Type 0 where
   pub tree : Tree
   pub is_tree : IsTree (value h) tree
@@ -24,7 +24,7 @@ WasOnPath h k n = (m : History) × Extends h m × IsOnPath m k n
 abbrev pub Passed : History → History → ℕ → ℕ → Type 0
 Passed h start k n = (m : History) × Extends h m × Extends m start × IsOnPath m k n
 
--- n stood in the tree at a moment of the history
+-- n was in the tree at a moment of the history
 pub record WasInTree (h : History) (n : ℕ) : Type 0 where
   pub moment : History
   pub within : Extends h moment

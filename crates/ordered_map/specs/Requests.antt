@@ -1,4 +1,4 @@
--- Requests as calls of the map of words, and what calls tell.
+-- Requests as calls of the map of words, and what calls answer.
 use Rattle.std.specs.Prelude.{ℕ, ◌≤◌, Bool, false, Option, Some, None}
 use Rattle.ordered_map.specs.OrderedMap.{MapCall, MapReply, Edit, Get, Range, changes_map, call_insert, call_delete, call_pop_first, call_pop_last, call_replace_if, call_insert_new, call_delete_if, call_successor, call_predecessor}
 use Rattle.ordered_map.specs.declared.rule.Goal.{Goal}
@@ -31,13 +31,13 @@ abbrev pub edit_in : MapCall → Option (Goal × Rule)
 edit_in (Edit goal rule) = Some (goal, rule)
 edit_in _ = None
 
--- the key whose value a call tells, if it tells one
+-- the key whose value a call answers, if it answers one
 abbrev pub key_told : MapCall → Option ℕ
 key_told (Edit (Key k) rule) = Some k
 key_told (Get k) = Some k
 key_told _ = None
 
--- whether a call that has told this, if it was not refused, says that it has changed the map
+-- whether a call that has answered this, if it was not refused, says that it has changed the map
 abbrev pub tells_change : MapCall → Option MapReply → Bool
 tells_change call (Some told) = changes_map call told
 tells_change call None = false

@@ -23,8 +23,8 @@ join_plan Left = 116
 join_plan Right = 628
 
 -- An edit of a leaf covers the parent and the leaf, and finalizes the leaf: the field of the parent
--- towards the key is to hold a fresh leaf, or a fresh fork over two fresh leaves. A delete finds its
--- key in the leaf.
+-- towards the key is to hold a fresh leaf, or a fresh fork over two fresh leaves. A delete finds
+-- its key in the leaf.
 pub record EditsLeaf (h : History) (s : ℕ) (e : MapEdit) : Type 0 where
   pub plan : plan h s ≡ leaf_plan (toward (value h) (member h s 0) (edit_key e))
   pub old : old h s ≡ member h s 1
@@ -42,8 +42,8 @@ sibling_place Left = 3
 sibling_place Right = 2
 
 -- What takes a leaf out, because the edit leaves it no pair, covers the grandparent, the parent and
--- its two children, and finalizes all but the first: the field of the grandparent towards the key is
--- to hold a copy of the leaf's sibling.
+-- its two children, and finalizes all but the first: the field of the grandparent towards the key
+-- is to hold a copy of the leaf's sibling.
 pub record TakesLeafOut (h : History) (s : ℕ) (e : MapEdit) (side : Side) : Type 0 where
   pub plan : plan h s ≡ join_plan (toward (value h) (member h s 0) (edit_key e))
   pub old : old h s ≡ member h s 1
@@ -68,7 +68,7 @@ pub record MayEdit (lay : Layout) (h : History) (s : ℕ) (e : MapEdit) : Type 0
 abbrev pub TreeAllows : Layout → History → ℕ → Type 0
 TreeAllows lay h s = (e : MapEdit) × MayEdit lay h s e
 
--- the leaf where the key of an edit stands, or would: the second of two nodes, or one of the last
+-- the leaf where the key of an edit is, or would be: the second of two nodes, or one of the last
 -- two of four
 abbrev pub edit_leaf : History → ℕ → MapEdit → ℕ
 edit_leaf h s e = if count h s == 2 then member h s 1 else member h s (leaf_place (toward (value h) (member h s 1) (edit_key e)))

@@ -12,7 +12,7 @@ use Rattle.ordered_map.specs.Holding.{held_pairs, IsWellCounted}
 
 -- The settled words of a node; `f` says what each word holds
 
--- keys of class 0 are those of the map; above all of them stand those of class 1, then of class 2
+-- keys of class 0 are those of the map; above all of them are those of class 1, then of class 2
 abbrev pub class : (Word → ℕ) → ℕ → ℕ
 class f n = f (node n (Settled Head)) % 4
 
@@ -32,7 +32,7 @@ rank f n = class f n * 2 ^ 64 + f (node n first_key)
 abbrev pub IsBlankAboveKeys : (Word → ℕ) → ℕ → Type 0
 IsBlankAboveKeys f n = class f n ≢ 0 → f (node n first_key) ≡ 0
 
--- on which side of the fork n the key k stands
+-- on which side of the fork n the key k is
 abbrev pub toward : (Word → ℕ) → ℕ → ℕ → Side
 toward f n k = if nat_lt k (rank f n) then Left else Right
 
@@ -77,8 +77,8 @@ pub record IsForkOver (f : Word → ℕ) (n : ℕ) (a b : Tree) : Type 0 where
   pub low : level f n < level f (root a)
   pub high : level f n < level f (root b)
 
--- the items of the leaf n rise, from `low` to below `high`; they are as many as a leaf may hold, and
--- keys of the map if it is of class 0
+-- the items of the leaf n rise, from `low` to below `high`; they are as many as a leaf may hold,
+-- and keys of the map if it is of class 0
 pub record HasItems (f : Word → ℕ) (n low high : ℕ) : Type 0 where
   pub keys : class f n ≡ 0 → IsWellCounted f n × AllBelow (2 ^ 64) (held_pairs f n)
   pub rising : IsRising (leaf_items f n)

@@ -25,14 +25,14 @@ unfoldable pub tries_begun : ℕ → History → ℕ
 tries_begun c (Start mode) = 0
 tries_begun c (r ⊳ h) = if begins_try c r then suc (tries_begun c h) else tries_begun c h
 
--- the newest try of the pass c began right behind the moment `begin`
+-- the newest try of the pass c began right after the moment `begin`
 pub record IsNewestTry (c : ℕ) (now begin : History) : Type 0 where
   pub first : Row
   pub begins : begins_try c first ≡ true
   pub within : Extends now (first ⊳ begin)
   pub none_since : tries_begun c now ≡ tries_begun c (first ⊳ begin)
 
--- Since the moment `start` the pass c has begun so many tries, and lost the newest of them: in that
+-- Since the moment `start` the pass c has begun `tries` tries, and lost the newest of them: in that
 -- one the SCX-record s was in the way over the node n.
 pub record HasLostTries (c : ℕ) (now start : History) (tries n s : ℕ) : Type 0 where
   pub begin : History

@@ -9,7 +9,7 @@ use crate::pair::Pair;
 use crate::wide::wide_value;
 use arena::{NoMemory, NodeNo, NodeWord, PlainWords, SettledPart, Side, Slot, Word};
 
-/// The slot behind this one in a leaf that has so many pairs behind its first, if there is one.
+/// The next slot in a leaf with `more` pairs after its first, if there is one.
 pub fn slot_behind(more: u64, slot: Slot) -> Option<Slot>
     ensures { result ≡ slot_behind more slot }
 {
@@ -21,7 +21,7 @@ pub fn slot_behind(more: u64, slot: Slot) -> Option<Slot>
     }
 }
 
-/// The slot at this end of a leaf that has so many pairs behind its first.
+/// The slot at this end of a leaf with `more` pairs after its first.
 #[inline(always)]
 pub fn end_slot(side: Side, more: u64) -> Slot
     ensures { result ≡ end_slot side more }
@@ -56,7 +56,7 @@ fn pair_in(words: &PlainWords, leaf: NodeNo, slot: Slot) -> Pair
     }
 }
 
-/// The slot behind this one in a leaf, if there is one.
+/// The next slot in a leaf, if there is one.
 fn behind(words: &PlainWords, leaf: NodeNo, slot: Slot) -> Option<Slot>
     requires { leaf.0 < all_nodes words.now.layout }
     ensures { result ≡ slot_behind (word_at words.now (Word.Node leaf (NodeWord.Settled SettledPart.More))) slot }

@@ -19,12 +19,12 @@ ghost use Rattle.ordered_map.specs.Runs.{IsTreeRun, Makes, IsEditAt};
 ghost use Rattle.ordered_map.specs.Laws.{AreEdits, SpellsLog};
 ghost use Rattle.ordered_map.specs.MapLaws.{IsNeighbour, by_rule, within, without_first, IsEndmost, without_last};
 
-/// What every history of the tree keeps in which only edits of the map begin. Of each SCX-record with
-/// an entry some edit may be said that it makes. Whichever is said, be it the only one or not, after
-/// each row the words spell one map, that of the log so far, and an update leaves the map that the
-/// edit leaves which is said of it; its leaf tells the old value. A walk's leaf tells what the map gave
-/// at a moment of the walk, and is at most one level deeper than the taken nodes are many; of the nodes
-/// that ever stood in the tree just those that are not final still stand there; one that is above all
+/// What holds in every history of the tree in which only edits of the map begin. Of each SCX-record
+/// with an entry some edit may be said that it makes. Whichever is said, the only one or not, after
+/// each row the words spell one map, that of the log so far, and an update leaves the map that
+/// this edit leaves; its leaf has the old value. A walk's leaf says what the map gave
+/// at a moment of the walk, and is at most one level deeper than there are taken nodes; of the
+/// nodes that ever were in the tree just those not final are still there; one that is above all
 /// keys has the key 0. It does nothing; a caller learns the laws from its contract.
 pub fn laws_hold()
     ensures edits { (lay : Layout) (h : History) → IsTreeRun lay h → (edits : ℕ → MapEdit) × AreEdits edits lay h }
@@ -41,7 +41,7 @@ pub fn laws_hold()
     ensures blank { (lay : Layout) (h : History) (n : ℕ) → IsTreeRun lay h → WasInTree h n → IsBlankAboveKeys (value h) n }
 {}
 
-/// What the calls of a map do, told by its values: an edit changes the value of its key alone and
+/// What the calls of a map do, by its values: an edit changes the value of its key alone and
 /// keeps the keys rising; maps of the same values are the same list; the first pair has the least
 /// key, the last the greatest, the successor of a key the least above it, and the predecessor the
 /// greatest below; between two keys are the pairs of just those keys; an insert leaves the map with

@@ -72,8 +72,8 @@ fn look_at(words: &PlainWords, part: Part, head: u64, key: u64) -> Seen
     }
 }
 
-/// The same, at a leaf: one of class 0 holds as many pairs as it may hold, in the order of their keys,
-/// and all below the part's end.
+/// The same, at a leaf: one of class 0 holds as many pairs as it may hold, in the order of their
+/// keys, and all below the part's end.
 fn look_leaf(words: &PlainWords, part: Part) -> Seen
     requires { IsLeafRoot words.now part }
     ensures { IsSeen words.now part result }

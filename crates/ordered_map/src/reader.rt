@@ -13,9 +13,9 @@ use arena::{NoMemory, NodeNo, NodeWord, PlainWords, SettledPart, Slot, Word};
 use std::alloc::Global;
 
 /// The map that the words spell: the pairs of the tree that they show from node 0, by rising key.
-/// None where they spell no map: where what they show is no tree, with nodes of the table and rising
-/// levels, is not in order, or does not end with a leaf of class 1, the only one, and node 2, of
-/// class 2. The only error is want of memory.
+/// None where they spell no map: where what they show is no tree, with nodes of the table and
+/// rising levels, is not in order, or does not end with a leaf of class 1, the only one, and node
+/// 2, of class 2. The only error is want of memory.
 pub fn spelled(alloc: Global, words: &PlainWords) -> Result<Option<Vec<Pair>>, NoMemory>
     ensures spells { IfOk result (λ o. IfSome o (λ m. Spells words.now.layout (word_at words.now) m.items)) }
     ensures none { IfOk result (λ o. IfNone o ((m : List Pair) → ¬ Spells words.now.layout (word_at words.now) m)) }
@@ -81,7 +81,7 @@ fn spelled_by(
     }
 }
 
-/// Takes the two last leaves off, and says whether they are a leaf of class 1 and node 2, of class 2.
+/// Takes the last two leaves off, and says if they are a leaf of class 1 and node 2, of class 2.
 fn take_ends(words: &PlainWords, leaves: &mut Vec<u64>) -> bool
     requires { AreInside words.now leaves.old.items }
     ensures ends { IsTrue result → HasEnds words.now leaves.old.items leaves.new.items }

@@ -23,8 +23,8 @@ pub enum Reply<K, V> {
 }
 
 impl Reply<u64, u128> {
-    /// The value that it tells, or that there is none, if it tells one of these: no pair and no
-    /// value are told alike.
+    /// The value that it answers, or that there is none, if it answers one of these: that there is
+    /// no pair and no value is the same here.
     pub fn value(&self) -> Option<Option<u128>>
         ensures { result ≡ one_value (number_reply self.now) }
     {

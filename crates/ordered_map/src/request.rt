@@ -30,8 +30,8 @@ pub enum Request<K, V> {
     Successor { key: K },
     /// Looks for the pair with the greatest key below this one.
     Predecessor { key: K },
-    /// Takes the first pairs by key of those with keys from `low` to `high`, both with them, at most
-    /// so many, 64 at the most.
+    /// Takes the first pairs by key of those with keys from `low` to `high`, both included, at most
+    /// `most`, 64 at the most.
     Range { low: K, high: K, most: u32 },
 }
 
@@ -59,7 +59,7 @@ impl Request<u64, u128> {
         }
     }
 
-    /// The key whose value it tells, if it tells one.
+    /// The key whose value it answers, if it answers one.
     pub fn key(&self) -> Option<u64>
         ensures { result ≡ key_told (map_request self.now) }
     {

@@ -48,7 +48,7 @@ impl Goal {
     {
         match (self, reply) {
             (Goal::Key(key), Reply::Value(found)) => Some((key, *found)),
-            // That there is no pair tells the same of a key as that it has no value.
+            // That there is no pair says the same of a key as that it has no value.
             (Goal::Key(key), Reply::Pair(None)) => Some((key, None)),
             (Goal::End(_), Reply::Pair(Some(pair))) => Some((pair.0, Some(pair.1))),
             _ => None,
@@ -126,7 +126,7 @@ impl Rule {
         if self.applies(None) { 3 } else { 1 }
     }
 
-    /// How many steps an edit makes at most behind its walk in a try.
+    /// How many steps an edit makes at most after its walk in a try.
     pub fn steps_behind(&self) -> u64
         ensures { result ≡ steps_behind (leaves self.now) }
     {

@@ -231,7 +231,7 @@ begins_held v old new share (Some answer) x = (record { pass = x.0.pass; number 
 pub map_begins : (v : ClientView) (old new : Client) (m : DictRun ℕ ℕ) (share : Option Remaining) (answer : Option Answer) → share ≡ None → Starts v (record old { share = None }) (MapRun m) None → (Starts v (record old { share = share }) (MapRun m) None → BeginsOrRefuses v old.begin (record old { share = share }) new answer) → BeginsOrRefuses v old.begin old new answer
 map_begins v old new m share answer none x f = begins_held v old new share answer (f (subst (λ (o : Option Remaining). Starts v (record old { share = o }) (MapRun m) None) (sym none) x))
 
--- a client at rest keeps a snapshot of each cell of which one is said
+-- a client at rest keeps a snapshot of each cell that is said to have one
 unkept_is : (v : ClientView) (c : Client) → Rests v c → (n : ℕ) → n ≤ 8 → kept_of c.kept n ≡ None → v.linked n ≡ None
 unkept_is v c r n i e = ⊎_elim (λ z. absurd (among_none n z)) (λ z. z) (r.stands.unkept n i e)
 
@@ -291,7 +291,7 @@ mode_there mode calls at call all e = sym (subst (λ (k : Call). mode_of k.comma
 pub get_there : (calls : List Call) (at : ℕ) (call : Call) → true ≡ nat_lt at (length calls) → call ≡ get_or calls at call → slice_get calls at ≡ Some call
 get_there calls at call i e = slice_get_read calls (length calls) at call refl (grind (arith, i)) e
 
--- how a client stands once its call has begun, or was refused
+-- how a client is once its call has begun, or was refused
 pub stood_refused : (v : ClientView) (turn : ℕ) (old new : Client) (answer : Answer) → Rests v old → BeginsOrRefuses v turn old new (Some answer) → IsNextAction v turn old new (Answers answer)
 stood_refused v turn old new answer r x = (x.0, r, x.2, x.1)
 

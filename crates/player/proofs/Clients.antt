@@ -26,7 +26,7 @@ use Rattle.player.specs.RunSteps.{run_left, then_left, left_of}
 use Rattle.player.specs.ClientView.{ClientView, Hand, in_hand, snaps_of, IsStart, IsPutOf, IsScxOf, held, HoldsShare, Holds, TakesInHand, HasNewest, IsMachineOf, IsRoomy, MayTryAll, IsWonBy, IsClientState, Works, Hears, Answered, machine_call, GoesOn, HasBeenTold}
 use Rattle.player.specs.Hearing.{HasAnswered, HasHeard}
 
--- what does not change while a machine goes on
+-- what does not change while a machine continues
 record IsKept (left : Remaining) (old now : Run) : Type 0 where
   hand : in_hand left now ≡ in_hand left old
   newest : HasNewest left old → HasNewest left now
@@ -182,7 +182,7 @@ answered_so v c p end rest mid x e is =
     subst (λ (k : Client). Answered v k p.run p.then end) (sym is)
     (answered_back v (record c { running = rest }) p.run p.then end (works_so v c rest p.run p.run p.then (is_itself p.run) x.works) e x.answers x.few)
 
--- what is told does not ask whether a machine ran, nor who had the share
+-- what is said of an answer does not ask whether a machine ran, nor who had the share
 told_so : (v : ClientView) (c new : Client) (rest : Option Running) (share : Option Remaining) (answer : Option Answer) → HasBeenTold v (record c { running = rest; share = share }) new answer → HasBeenTold v c new answer
 told_so v c new rest share None x = record { same = record { pass = x.same.pass; number = x.same.number; next = x.same.next }; begin = x.begin; running = x.running; is = x.is; waits = x.waits }
 told_so v c new rest share (Some answer) x = record { same = record { pass = x.same.pass; number = x.same.number; next = x.same.next }; begin = x.begin; rests = x.rests; command = x.command; is = x.is; answers = x.answers; right = x.right; entry = x.entry; tells = x.tells; took = x.took; late = x.late }
@@ -190,7 +190,7 @@ told_so v c new rest share (Some answer) x = record { same = record { pass = x.s
 pub told_from : (v : ClientView) (c mid new : Client) (rest : Option Running) (share : Option Remaining) (answer : Option Answer) → mid ≡ record c { running = rest; share = share } → HasBeenTold v mid new answer → HasBeenTold v c new answer
 told_from v c mid new rest share answer is x = told_so v c new rest share answer (subst (λ (k : Client). HasBeenTold v k new answer) is x)
 
--- what a machine has answered tells which machine it was
+-- what a machine has answered shows which machine it was
 pub after_run : (v : ClientView) (c new : Client) (run : Run) (then : Option SetField) (end : Ended) (a : LlxAnswer) (answer : Option Answer) → end ≡ ended.Llx a → Answered v c run then end → ((m : LlxRun) → Answered v c (Llx m) then (ended.Llx a) → HasBeenTold v c new answer) → HasBeenTold v c new answer
 after_run v c new run then end a answer e x f = go run (subst (λ t. Answered v c run then t) e x)
   where

@@ -1,4 +1,4 @@
--- Where the commands of a client stand among the calls.
+-- Where the commands of a client are among the calls.
 use Rattle.std.proofs.Common.{◌≡◌, ℕ, zero, suc, ◌<◌, ◌≤◌, List, [], ◌∷◌, length, drop, Option, Some, None, slice_get, get_or, drop-cons, refl, sym, ◌∙◌, ap, subst, eqb, cond, Bool, true, false, arith}
 use Rattle.std.proofs.lemmas.Bool.{eq-eqb}
 use Rattle.std.proofs.lemmas.Option.{slice_get_read}
@@ -14,7 +14,7 @@ commands_few (call ∷ calls) c =
     let h = commands_few calls c in
     elim (eqb call.client.0 c) as (λ b. length (cond b (call.command ∷ commands calls c) (commands calls c)) ≤ suc (length calls)) [ true ↦ omega arith | false ↦ omega arith ]
 
--- the first of what is left stands there, and the rest is left behind it
+-- the first of what is left is there, and the rest is left after it
 first_left : {X : Type 0} (xs : List X) (n : ℕ) (x : X) (ys : List X) → drop n xs ≡ x ∷ ys → (slice_get xs n ≡ Some x) × (drop (suc n) xs ≡ ys) × (n < length xs)
 first_left [] zero x ys e = cc
 first_left [] (suc n) x ys e = cc
@@ -27,7 +27,7 @@ none_there [] n e = refl
 none_there (z ∷ xs) zero e = cc
 none_there (z ∷ xs) (suc n) e = none_there xs n e
 
--- the next of a client's commands is that of the call where it stands
+-- the next of a client's commands is that of the call where it is
 pub next_at : (calls : List Call) (c number at : ℕ) → IsNextCallAt calls c (drop number (commands calls c)) (Some at) → (call : Call) × (slice_get calls at ≡ Some call) × (call.client.0 ≡ c) × (slice_get (commands calls c) number ≡ Some call.command)
 next_at calls c number at x = (x.0, x.1, x.2, (first_left (commands calls c) number x.0.command _ x.3).0)
 
@@ -35,7 +35,7 @@ next_at calls c number at x = (x.0, x.1, x.2, (first_left (commands calls c) num
 pub none_left : (calls : List Call) (c number : ℕ) → drop number (commands calls c) ≡ [] → slice_get (commands calls c) number ≡ None
 none_left calls c number e = none_there (commands calls c) number e
 
--- a place behind that of the next command is that of the one after it
+-- a place after that of the next command is that of the one after it
 pub place_more : (calls : List Call) (c number at : ℕ) → IsNextCallAt calls c (drop number (commands calls c)) (Some at) → (next : Option ℕ) → IsNextCallAt calls c (commands (drop (suc at) calls) c) next → IsNextCallAt calls c (drop (suc number) (commands calls c)) next
 place_more calls c number at x next y = subst (λ (left : List Command). IsNextCallAt calls c left next) (sym (first_left (commands calls c) number x.0.command _ x.3).1) y
 

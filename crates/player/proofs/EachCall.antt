@@ -1,6 +1,6 @@
--- What is shown of each call of the map by itself, with an arm for each: which edit it has made, how
--- many steps it makes, where it took place, and what its answers say. The other proofs of this crate
--- speak of any call.
+-- What is shown of each call of the map by itself, with an arm for each: which edit it has made,
+-- how many steps it makes, where it took place, and what its answers say. The other proofs of this
+-- crate speak of any call.
 use Rattle.std.proofs.Common.{◌≡◌, ℕ, ◌<◌, ◌⊎◌, inl, inr, Bool, true, false, cond, is_some, ◌↔◌, List, Option, Some, None, refl, sym, ◌∙◌, ap, subst, arith}
 use Rattle.std.specs.Option.{option_map}
 use Rattle.arena.specs.declared.fault.Full.{Full as FullOf}
@@ -116,7 +116,7 @@ IsMomentSo calls lines changes command (ByValue key value) first last won moment
 IsMomentSo calls lines changes command (ByReply given) first last won moment = IsOrderedMoment calls lines changes command given first last moment
 IsMomentSo calls lines changes command Nowhere first last won moment = moment ≡ None
 
--- and so is what it tells
+-- and so is what it answers
 abbrev pub TellsOf : Request ℕ ℕ → MapCall → Answer → TookPlace → Type 0
 TellsOf request of answer ByEntry = (told : MapReply) × (reply_told answer ≡ Some told) × (changes_map of told ≡ true)
 TellsOf request of answer (ByValue key value) = (reply_told answer ≡ Some (OneValue value)) × (changes_map of (OneValue value) ≡ false) × ((m : List Pair) → reply of m ≡ OneValue (get key m))
@@ -143,7 +143,7 @@ is_made : (b : Bool) (edit : MapEdit) → is_some (cond b (Some edit) None) ≡ 
 is_made true edit = refl
 is_made false edit = refl
 
--- a reply that tells this took place at its entry where it says that it has changed the map, and else
+-- a reply that says this took place at its entry if it says that it has changed the map, and else
 -- where it was read
 module _ (request : Request ℕ ℕ) (of : MapCall) (given : Reply ℕ ℕ) (told : MapReply) (is : number_reply given ≡ Some told) where
   says : (b : Bool) → changes_map of told ≡ b → tells_change of (number_reply given) ≡ b
@@ -178,7 +178,7 @@ value_place request of key given value is its_key gives true changes = at_entry 
 value_place request of key given value is its_key gives false changes = at_reading request of given (OneValue value) is changes (ByValue key value) refl (is, changes, gives)
     (λ calls lines changed first last won at. subst (λ (k : Option ℕ). IsReadingMoment calls lines changed (Map request) given k (Some (OneValue value)) first last at ↔ IsReadMoment calls lines changed key value first last at) (sym its_key) same)
 
--- and nowhere where it tells nothing
+-- and nowhere if it answers nothing
 no_place : (request : Request ℕ ℕ) (of : MapCall) (given : Reply ℕ ℕ) → number_reply given ≡ None → HasPlace request of (MapAnswer given)
 no_place request of given is = record {
   place = Nowhere;
@@ -191,7 +191,7 @@ no_place request of given is = record {
     nothing calls lines changes None first last won at = same
     nothing calls lines changes (Some key) first last won at = same
 
--- an edit of a key, by what it tells where that is right
+-- an edit of a key, by what it answers if that is right
 key_place : (request : Request ℕ ℕ) (key : ℕ) (rule : Rule) (lay : Layout) (now start : History) (given : Reply ℕ ℕ) (told : MapReply) → number_reply given ≡ Some told → EditTells (Edit (Key key) rule) lay now start (Some told) → HasPlace request (Edit (Key key) rule) (MapAnswer given)
 key_place request key rule lay now start given (OneValue value) is right = value_place request (Edit (Key key) rule) key given value is refl (λ m. refl) (applies rule value) (is_made (applies rule value) (edit_to key (leaves rule)))
 key_place request key rule lay now start given (OnePair p) is right = absurd (let other = right.replies in cc)
@@ -207,7 +207,7 @@ end_place side request rule given (OnePair p) is ordered = go (applies rule (Som
 end_place side request rule given (OneValue value) is ordered = ordered_place request (Edit (End side) rule) given (OneValue value) is refl refl ordered
 end_place side request rule given (ManyPairs ps) is ordered = ordered_place request (Edit (End side) rule) given (ManyPairs ps) is refl refl ordered
 
--- what is right of an edit that tells this
+-- what is right of an edit that answers this
 told_right : (of : MapCall) (lay : Layout) (tries c : ℕ) (now start : History) (linked : ℕ → Option History) (given : Reply ℕ ℕ) (told : MapReply) → number_reply given ≡ Some told → EditIsRight of lay tries c now start linked (MapAnswer given) → EditTells of lay now start (Some told)
 told_right of lay tries c now start linked (Value v) told is right = subst (EditTells of lay now start) is right
 told_right of lay tries c now start linked (PairOf p) told is right = subst (EditTells of lay now start) is right
@@ -276,7 +276,7 @@ module _ (v : ClientView) (c : Client) (is_pass : c.pass.0 < v.layout.passes) wh
   answer_at : (key : ℕ) (old : Option ℕ) → HasReadMap call v.past (Get key) (OneValue old) → IsAnswerAt v.layout v.past v.start key old
   answer_at key old x = let read = x.read in record { moment = read.moment; within = read.within; since = read.since; map = read.map; spelled = read.spelled; gives = ap value_of read.gives }
 
-  -- another reading: the map has replied so behind the call's first own row
+  -- another reading: the map has replied so after the call's first own row
   pub replied : (of : MapCall) (told : MapReply) → AsksForPairs of → HasReadMap call v.past of told → HasReplied v.layout v.past v.start of told
   replied of told asks x =
       let read = x.read in

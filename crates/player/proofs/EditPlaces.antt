@@ -1,5 +1,5 @@
--- Where a call of the map took place that has changed it: at its one entry, which tells what the map
--- had just before. One that is refused took place nowhere.
+-- Where a call of the map took place that has changed it: at its one entry, and it answers what the
+-- map had just before. One that is refused took place nowhere.
 use Rattle.std.proofs.Common.{◌≡◌, ℕ, suc, ◌⊎◌, inl, inr, ⊎_elim, Bool, true, false, cond, ◌&&◌, ◌||◌, eqb, eqb-true, eq-eqb, ne_eqb, is_some, List, [], ◌∷◌, ◌++◌, Option, Some, None, refl, sym, ◌∙◌, ap, subst}
 use Rattle.arena.specs.declared.limits.Mode.TheVariants.{Tree}
 use Rattle.arena.specs.declared.layout.Layout.{Layout}
@@ -82,7 +82,7 @@ module _ (lay : Layout) (tries : ℕ) (calls : List Call) (c : ℕ) where
     spells : Spells lay (value (history lay.mode rest)) (map_of calls (written_log rest))
 
   module _ (mode : lay.mode ≡ Tree) (all : AreOf lay.mode calls) (row : Row) (before : History) (s : ℕ) (win : IsWin before row s) (own : IsOwnScx lay c s) where
-    -- the row stands behind the moment that it stands behind
+    -- the row is after the moment that it is after
     not_before : (h : History) → Extends h (row ⊳ before) → Extends before h → ⊥
     not_before h within since = none_yet lay c h row before s within since win own
 

@@ -100,13 +100,13 @@ pub record IsEditHand (m : InnerRun) (call : MachineCall) (h : History) (t : ℕ
   pub hand : IsHandOf call.number edit call h t
   pub gives : (row : Row) → IsTreeRun call.layout (row ⊳ h) → IsWin h row t → (map : List Pair) → Spells call.layout (value h) map → edit_of (inner_call m) (reply (inner_call m) map) ≡ Some edit
 
--- what is asked of the key that a walk tells is what it was to ask
+-- what is asked of the key that a walk answers is what it was to ask
 asked_still : (goal : Goal) (f : Word → ℕ) (n key : ℕ) → asked_in goal f n ≡ key → asked_key goal key ≡ asked_in goal f n
 asked_still (ToKey k) f n key e = refl
 asked_still (End side) f n key e = sym e
 
 module _ {E : Type 0} (means : EditMeaning E) (m : UpdateRun E UpdateAt) where
-  -- where a row makes the update win, the leaf that was found tells what the map has just before
+  -- if a row makes the update win, the leaf that was found says what the map has just before
   record TellsAtWin (f : Found) (lay : Layout) (h : History) (t : ℕ) : Type 0 where
     value_is : (row : Row) → IsTreeRun lay (row ⊳ h) → IsWin h row t → (map : List Pair) → Spells lay (value h) map → get (edit_key (means.edit m.edit f)) map ≡ f.value
     end_is : (row : Row) → IsTreeRun lay (row ⊳ h) → IsWin h row t → ToldEnd (means.goal m.edit) lay h f
@@ -119,7 +119,7 @@ module _ {E : Type 0} (means : EditMeaning E) (m : UpdateRun E UpdateAt) where
     hand : IsHandOf m.call (means.edit m.edit found) call h t
     tells : TellsAtWin found call.layout h t
 
-  -- that leaf tells what the map has at the key
+  -- that leaf says what the map has at the key
   leaf_value : IsAtFound means → (c : MachineCall) (f : Found) (begin h : History) (row : Row) (s : ℕ) (snaps : List Snap) → IsTreeRun c.layout (row ⊳ h) → Extends h begin → IsWin h row s → Makes c.layout h s (means.edit m.edit f) → HasFoundGoal (means.goal m.edit) c begin f → CoversLeaf means m.edit f c begin s snaps → CoversSnaps h s snaps
       → (map : List Pair) → Spells c.layout (value h) map → get (edit_key (means.edit m.edit f)) map ≡ f.value
   leaf_value at_found c f begin h row s snaps now since won makes found covers_leaf covers_snaps map spells =
@@ -148,7 +148,7 @@ module _ {E : Type 0} (means : EditMeaning E) (m : UpdateRun E UpdateAt) where
     makes_it edit j e (Tracks.begun x) = rw e at x
     makes_it edit j e (Tracks.over x) = absurd (let z = p.unfinished in let y = rw e at x in omega (arith, z, y))
 
-    -- so tells the leaf that its SCX covers
+    -- so does the leaf that its SCX covers
     tells_at : (b begin : History) (f : Found) (scx : ScxMachine) → Scxs means m (begun_at call b) h f scx begin → HasFilled (begun_at (begun_at call b) begin) h scx.scx.0 scx.call scx.update → Makes call.layout h scx.scx.0 (means.edit m.edit f) → TellsAtWin f call.layout h scx.scx.0
     tells_at b begin f scx x filled makes = record {
       value_is = λ row now won map spells. leaf_value at_found (begun_at call b) f begin h row scx.scx.0 scx.update.snaps now filled.way.begun.since won makes x.found x.leaf covers map spells;
@@ -191,7 +191,7 @@ module _ {E : Type 0} (means : EditMeaning E) (m : UpdateRun E UpdateAt) where
   update_says_at call h s t v (Fill f nth part) w kind word = absurd (let z = ap (λ (q : Step). q.word) (sym w.3) ∙ word in cc)
   update_says_at call h s t v (Scx f scx) w kind word = scx_says TreeAllows (job_of scx) (begun_at call w.0) h scx.at s t v w.2 kind word ∙ w.1.call
 
--- the map tells a call what the leaf does that it has found, where the leaf's value is that of the
+-- the map answers a call what the leaf does that it has found, if the leaf's value is that of the
 -- key in the map, and of a walk to an end where the pair there is the map's
 goal_is : (goal : Goal) (f : Found) (lay : Layout) (h : History) (key : ℕ) (map : List Pair) → key ≡ asked_key goal f.key → get key map ≡ f.value → ToldEnd goal lay h f → Spells lay (value h) map → goal_told goal map ≡ leaf_told goal f
 goal_is (ToKey k) f lay h key map same value_is end_is spells = ap OneValue (subst (λ (n : ℕ). get n map ≡ f.value) same value_is)

@@ -487,7 +487,7 @@ rests_kept v c kept m then a linked sound x e said = record {
     unspent (LlxFinalized node scx) z found d = cc
     unspent (LlxFail node scx) z found d = cc
 
--- a failed LLX failed since the call's begin
+-- a failed LLX failed since the call's start
 failed_since : (v : ClientView) (c : Client) (m : LlxRun) (then : Option SetField) (node : NodeNo) (scx : ScxNo) → Answered v c (Llx m) then (ended.Llx (LlxFail node scx)) → (node.0 ≡ m.node.0) × HasFailed v.layout c.pass.0 v.past v.start m.node.0 scx.0
 failed_since v c m then node scx x = (x.answers.0, subst (λ (k : History). HasFailed v.layout c.pass.0 v.past k m.node.0 scx.0) x.works.begun x.answers.1)
 

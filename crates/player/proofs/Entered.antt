@@ -162,7 +162,7 @@ module _ (v : ClientView) (c : Client) (row : Row) (m : PutRun) (start : History
       )
   does command p z = absurd p
 
--- an update that a row makes win has won behind it
+-- an update that a row makes win has won after it
 has_won : (row : Row) (before : History) (t : ℕ) → IsWin before row t → HasWon (row ⊳ before) t
 unfolding HasWon
 has_won row before t w = inl w

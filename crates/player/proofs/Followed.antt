@@ -31,7 +31,7 @@ use Rattle.player.proofs.Played.{turn_in_front}
 
 -- One turn
 
--- where the turns are one more, no turn stands behind the newest, and that is the client's
+-- if the turns are one more, no turn is after the newest, and that is the client's
 only_turn : (behind : List Line) (row : TurnRow) (lines : List Line) (c : ℕ) → clients (behind ++ Step row ∷ lines) ≡ c ∷ clients lines → (clients behind ≡ []) × (client_of row ≡ c)
 only_turn behind row lines c e = only (clients behind) (client_of row) (clients lines) (sym (joined behind) ∙ e)
   where
@@ -45,7 +45,7 @@ only_turn behind row lines c e = only (clients behind) (client_of row) (clients 
     only [] own older e = (refl, cc)
     only (x ∷ newer) own older e = absurd (let n : length ((x ∷ newer) ++ own ∷ older) ≡ length (c ∷ older) = ap (λ (l : List ℕ). length l) e in grind (arith, length-append))
 
--- where a line stands among them, there are lines
+-- if a line is among them, there are lines
 some_line : (newer : List Line) (line : Line) (older : List Line) → newer ++ line ∷ older ≢ []
 some_line [] line older e = cc
 some_line (first ∷ newer) line older e = cc
@@ -128,7 +128,7 @@ replies_more p i more t played = ap (λ (l : List Line). answered l i) are ∙ g
 
 -- An order
 
--- the lines behind the older ones are turns of an order, of which so much is left
+-- the lines after the older ones are turns of an order, and this much of it is left
 pub record IsPartDone (calls : List Call) (order : Order) (older : List Line) (left : ℕ) (newer : List Line) : Type 0 where
   pub so_far : IsFollowedSoFar calls order older newer
   pub counts : counting order newer + left ≡ counting order older + wanted_of order
@@ -256,7 +256,7 @@ module _ (orders : List Order) (p : PlayerView) where
       here : IsBetweenOrders p.script.calls orders p.lines (get_or orders i d ∷ drop (i + 1) orders) x.later.lines
       here = subst (λ (left : List Order). IsBetweenOrders p.script.calls orders p.lines left x.later.lines) (from_here orders i d less) x.asked
 
-      -- behind the next one
+      -- after the next one
       pub behind_next : HasFollowed x.later (IsOrdered x.later.script.calls (get_or orders i d) x.later.lines) next → HasFollowed p (IsBetweenOrders p.script.calls orders p.lines (drop (i + 1) orders)) next
       behind_next y =
           let obeyed : IsOrdered p.script.calls (get_or orders i d) x.later.lines y.later.lines = rw x.script at y.asked in
@@ -276,7 +276,7 @@ module _ (orders : List Order) (p : PlayerView) where
           let begun : IsFollowedSoFar p.script.calls (get_or orders i d) x.later.lines y.later.lines = rw x.script at y.asked in
           record { later = y.later; script = y.script ∙ x.script; asked = here.so_far y.later.lines (inl begun); stands = y.stands }
 
-    -- behind the last
+    -- after the last
     pub behind_last : drop i orders ≡ [] → HasFollowed p (AreOrdered p.script.calls orders p.lines) such
     behind_last over = record { later = x.later; script = x.script; asked = x.asked.ordered x.later.lines (rw over refl); stands = x.stands }
 
@@ -287,7 +287,7 @@ run_of script schedule such x played = record {
   lawful = rw (reverse-reverse x.later.lines) (subst (λ (s : ScriptView). IsLawfulRun s.layout s.limits.tries s.calls (reverse (clients x.later.lines)) (reverse x.later.lines)) x.script played);
 }
 
--- what is so of a fault is so where that fault is told
+-- what is so of a fault is so if that fault is returned
 pub told : {T E : Type 0} (r : Result T E) (fault : E) (so : E → Type 0) → IsErrAnd r (λ e. e ≡ fault) → so fault → IfErr r so
 told (Ok t) fault so is holds = absurd is
 told (Err e) fault so is holds = rw is holds

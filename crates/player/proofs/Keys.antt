@@ -1,4 +1,4 @@
--- Of which keys a client's calls speak.
+-- Which keys a client's calls are about.
 use Rattle.std.proofs.Common.{◌≡◌, ℕ, zero, suc, Bool, true, false, cond, eqb, List, [], ◌∷◌, Some, All, slice_get, subst, arith}
 use Rattle.std.proofs.lemmas.List.Elements.{All-tail}
 use Rattle.ordered_map.specs.OrderedMap.{MapEdit}

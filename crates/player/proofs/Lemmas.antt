@@ -1,4 +1,4 @@
--- What the layers above know of players beside their clauses, passed on from one
+-- What the layers above know of players besides their clauses, exported from one
 -- place: no other module of these proofs can be named outside. Declares nothing.
 pub use Rattle.player.proofs.Played.{stands_played}
 pub use Rattle.player.proofs.Followed.{run_of, told}

@@ -54,7 +54,7 @@ module _ (v : ClientView) (c : Client) (is_pass : c.pass.0 < v.layout.passes) (w
 
   -- A change
 
-  -- the call tells what the map just before its own row replies
+  -- the call answers what the map just before its own row replies
   changed : (of : MapCall) (told : MapReply) (e : MapEdit) → HasMadeEdit call v.past of told e → ((turn : ℕ) × (v.won ≡ Some turn)) × IsToldChange v c.pass.0 of told
   changed of told e x =
       let made = x.made in
@@ -63,7 +63,7 @@ module _ (v : ClientView) (c : Client) (is_pass : c.pass.0 < v.layout.passes) (w
         record { row = made.row; before = made.before; scx = made.scx; win = win; replies = λ m s. subst (λ (k : List PairOf). reply of k ≡ told) (one_spelling v.layout (value made.before) x.map m x.spelled s) x.gives },
       )
 
-  -- What is told
+  -- What is answered
 
   -- of a change or of a reading
   told_by : (of : MapCall) (told : MapReply) (e : Option MapEdit) → AsksForPairs of → HasToldBy e call v.past of told → HasItsEntry (is_some e) v.won × IsToldBy (is_some e) v c.pass.0 of told

@@ -82,7 +82,7 @@ others_idle lay tries calls clients lines i number pass is x j c d get =
     let y = x j c d get in
     (y.0, rw (ne_eqb pass.0 j (λ e. d (sym e ∙ is))) (subst (λ (k : History). IsClient (record { layout = lay; tries = tries; calls = calls; past = history lay.mode lines; answered = answered lines j; start = k; steps = steps lines j; won = won lay lines j; linked = linked calls lay.mode lines j }) (begin lines j) c) (sym (start_kept lay.mode lines j)) y.1))
 
--- an entry tells the clients nothing
+-- an entry changes nothing of what the clients know
 pub others_log : (lay : Layout) (tries : ℕ) (calls : List Call) (clients : List Client) (lines : List Line) (i : ℕ) (entry : Entry) → AreOthers lay tries calls clients lines i → AreOthers lay tries calls clients (Log entry ∷ lines) i
 others_log lay tries calls clients lines i entry x = x
 
@@ -116,7 +116,7 @@ get_there [] i p = absurd (omega arith)
 get_there (x ∷ xs) zero p = (x, refl)
 get_there (x ∷ xs) (suc i) p = get_there xs i (omega arith)
 
--- its turn goes on with the client changed
+-- its turn continues with the client changed
 pub turn_changed : (lay : Layout) (tries : ℕ) (calls : List Call) (words : Contents) (clients : List Client) (lines : List Line) (old new : Client) → new.pass ≡ old.pass → IsTurnOf lay tries calls words clients lines old → IsTurnOf lay tries calls words (set clients old.pass.0 new) lines new
 turn_changed lay tries calls words clients lines old new same x = record {
   so_far = x.so_far;
@@ -182,7 +182,7 @@ finished_turn lay tries calls words clients lines c number pass settled x r none
 
 -- A reply
 
--- the client stands at its next call
+-- the client is at its next call
 behind : (lay : Layout) (tries : ℕ) (calls : List Call) (lines : List Line) (old new : Client) (command : Command) (said : ℕ → Option History) → length calls ≤ 65536 → Rests (record (client_view lay tries calls lines old.pass.0) { linked = said }) old → next_command calls lines old.pass.0 ≡ Some command → IsAtNextCall calls old new → Rests (record { layout = lay; tries = tries; calls = calls; past = history lay.mode lines; answered = suc (answered lines old.pass.0); start = history lay.mode lines; steps = 0; won = None; linked = said }) new
 behind lay tries calls lines old new command said few r is b = go old.next refl
   where
@@ -211,7 +211,7 @@ behind lay tries calls lines old new command said few r is b = go old.next refl
           none = r.none;
         }
 
--- what is known of a call that has ended, but for its reply
+-- what is known of a call that has ended, except for its reply
 pub record IsOver (lay : Layout) (tries : ℕ) (calls : List Call) (lines : List Line) (i : ℕ) (c : Client) (command : Command) (answer : Answer) : Type 0 where
   pub is : next_command calls lines i ≡ Some command
   pub rests : Rests (record (client_view lay tries calls lines i) { linked = linked_by (client_view lay tries calls lines i) command answer }) c
@@ -291,7 +291,7 @@ replied lay tries calls words clients lines changes old new answer said reply co
     begins : old.begin ≤ turns lines
     begins = begin_within lay tries calls lines old.pass.0 old.begin x.so_far.in_order o.began
 
-    -- the call stands at its place in the script
+    -- the call is at its place in the script
     moment : IsMomentBy calls lines changes command reply.answer reply.begin reply.end (won lay lines old.pass.0) reply.moment
     moment = rw (e.answers, e.begin, e.end) (go old.next refl)
       where
@@ -347,7 +347,7 @@ is_refusal v (Map (RangeOf low high most)) (MapAnswer (Pairs found)) x = record 
 is_refusal v (Map (RangeOf low high most)) (MapAnswer NoMemory) x = record { leaves = λ n. refl; not_done = λ e. cc; none = refl }
 is_refusal v command answer x = absurd x
 
--- it tells of a range that takes nothing
+-- it answers a range that takes nothing
 refuses_tells : (v : ClientView) (c : ℕ) (command : Command) (answer : Answer) → MayAnswerAtOnce command answer → Tells v c command answer
 refuses_tells v c (LlxOf cell) answer x = tt
 refuses_tells v c (ScxOf update) answer x = tt

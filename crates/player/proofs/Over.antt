@@ -1,4 +1,4 @@
--- What a client has taken stays finished, but for the SCX-record that it has in hand.
+-- What a client has taken stays finished, except for the SCX-record that it has in hand.
 use Rattle.std.proofs.Common.{◌≡◌, ◌≢◌, ℕ, ◌+◌, ◌-◌, ◌*◌, ◌<◌, ◌≤◌, ◌⊎◌, inl, inr, ⊎_elim, sym, subst, arith}
 use native.Mathlib.Decide.{ℕ_discrete}
 use Rattle.arena.specs.declared.layout.Layout.{Layout}
@@ -91,11 +91,11 @@ ordered a b = grind arith
 scx_left_less : (lay : Layout) (c : ℕ) (now start : History) (old left : Remaining) → Extends now start → IsShare lay start c old old.next_node old.next_scx → IsShare lay now c left left.next_node left.next_scx → old.next_scx ≤ left.next_scx
 scx_left_less lay c now start old left since began share = ⊎_elim (λ i. i) (λ i. absurd (share.untaken left.next_scx record { from = omega arith; below = let a = began.to_scx in let b = share.to_scx in omega (arith, i, a, b) } (taken_since now start left.next_scx since (began.taken_scx left.next_scx record { from = share.from_scx; below = let a = began.to_scx in omega (arith, i, a) } i)))) (ordered old.next_scx left.next_scx)
 
--- so many nodes for each SCX-record
+-- this many nodes for each SCX-record
 nodes_for_each : (most old_nodes nodes old_scx scx many : ℕ) → scx + many ≡ old_scx → old_nodes + most * scx ≤ nodes + most * old_scx → old_nodes ≤ nodes + most * many
 nodes_for_each most old_nodes nodes old_scx scx many e i = let j : old_nodes + most * scx ≤ nodes + most * (scx + many) = rw (sym e) at i in omega (arith, j)
 
--- one that has taken so many SCX-records at most, and so many nodes for each
+-- one that has taken at most this many SCX-records, and this many nodes for each
 taken_few : (lay : Layout) (c most_scx most : ℕ) (now start : History) (old left : Remaining) → Extends now start → IsShare lay start c old old.next_node old.next_scx → IsShare lay now c left left.next_node left.next_scx → old.scx ≤ left.scx + most_scx → old.nodes + most * left.scx ≤ left.nodes + most * old.scx → HasTakenAtMost lay c now start most_scx most
 taken_few lay c most_scx most now start old left since began share few each = record {
   many = left.next_scx - old.next_scx;
@@ -137,6 +137,6 @@ taken_tries c h call tries left since rests spent = taken_few c.layout c.pass (m
 pub map_took : (c : Call) (h : History) (request : Request ℕ ℕ) (tries : ℕ) (left : Remaining) → Extends h c.start → RestsWith c h left → HasSpent c h (map_request request) tries left → HasTakenFew c.layout tries c.pass h c.start (MapOf request)
 map_took c h request tries left since rests spent = taken_tries c h (map_request request) tries left since rests spent
 
--- and at the call's begin that is nothing
+-- and at the call's start that is nothing
 pub taken_none : (v : ClientView) (c : ℕ) (hand : Hand) → v.start ≡ v.past → HasTaken v c hand
 taken_none v c hand begun = record { nodes = λ n own d free. subst (λ (k : History). ¬ IsTakenNode k n) begun free; scx_records = λ s own d free. subst (λ (k : History). ¬ IsTakenScx k s) begun free }

@@ -46,7 +46,7 @@ opening_between lay tries calls words rests same opening all each = record {
 pub no_wins : (lay : Layout) (wins : List (Option ℕ)) → AreWins lay [] wins
 no_wins lay wins c turn e = cc
 
--- lines, the first in front, behind which an interleaving stands are a lawful run of the turns that
+-- lines, the first in front, that have led to an interleaving are a lawful run of the turns that
 -- they say
 played_record : (p : Interleaving) (told : List Line) → IsBetweenTurns p (reverse told) → (turns : List ℕ) → clients (reverse told) ≡ reverse turns → IsLawfulRun p.script.layout p.script.limits.tries p.script.calls.items turns told
 played_record p told x turns e = record {
@@ -73,7 +73,7 @@ asked_run p x asked e = rw (e, reverse-reverse asked) at x
 pub reverse_map_more : {X Y : Type 0} (f : X → Y) (xs : List X) (i : ℕ) (d : X) → i < length xs → reverse (map f (take (i + 1) xs)) ≡ f (get_or xs i d) ∷ reverse (map f (take i xs))
 reverse_map_more f xs i d less = ap reverse (map_more f xs i d less) ∙ reverse-append (map f (take i xs)) (f (get_or xs i d) ∷ [])
 
--- what stands behind a core is a lawful run
+-- what has led to a core is a lawful run
 pub stands_played : (core : Interleaving) (p : PlayerView) → StandsAt core p → IsPlayed p
 stands_played core p x = subst (λ (s : ScriptView). IsPlayed (record { script = s; lines = p.lines })) x.script (played core p.lines x.between)
 
@@ -91,7 +91,7 @@ turn_counted row None (Some reply) lines = refl
 turn_counted row (Some entry) None lines = refl
 turn_counted row (Some entry) (Some reply) lines = refl
 
--- a turn's lines come behind the others, the newest in front
+-- a turn's lines are added to the others, the newest in front
 pub turn_in_front : (row : TurnRow) (entry : Option Entry) (reply : Option Finished) (lines : List Line) → reverse (turn_lines row entry reply) ++ lines ≡ with_turn row entry reply lines
 turn_in_front row None None lines = refl
 turn_in_front row None (Some reply) lines = refl
@@ -110,7 +110,7 @@ module _ {A E : Type 0} (r : Result A E) (old new : Interleaving) (i : ℕ) (mor
   abbrev Makes : Type 0
   Makes = OnOk r ((lines : List Line) → IsBetweenTurns old lines → HasMadeTurn old new lines i more)
 
-  -- it was refused, and stands where it stood
+  -- it was refused, and is where it was
   abbrev Stays : Type 0
   Stays = OnErr r ((lines : List Line) → IsBetweenTurns old lines → IsBetweenTurns new lines)
 
@@ -121,7 +121,7 @@ counts_one (Ok a) old new i more lines x made =
     t.between.counted.turned ∙ turn_counted t.row t.entry t.reply lines ∙ ap suc (sym x.counted.turned)
 counts_one (Err e) old new i more lines x made = tt
 
--- it stands between turns again
+-- it is between turns again
 pub stays_between : {A E : Type 0} (r : Result A E) (old new : Interleaving) (i : ℕ) (more lines : List Line) → IsBetweenTurns old lines → Makes r old new i more → Stays r old new i more → (lines : List Line) × IsBetweenTurns new lines
 stays_between (Ok a) old new i more lines x made stays = let t = made lines x in (with_turn t.row t.entry t.reply lines, t.between)
 stays_between (Err e) old new i more lines x made stays = (lines, stays lines x)
@@ -139,7 +139,7 @@ makes_next (Ok a) old new i more made = λ p x.
     }
 makes_next (Err e) old new i more made = tt
 
--- it stands behind them
+-- these lines have led to it
 pub stands_behind : {A E : Type 0} (r : Result A E) (old new : Interleaving) (i : ℕ) (more : List Line) → Makes r old new i more → OnOk r ((p : PlayerView) → StandsAt old p → StandsAt new (with_lines p more))
 stands_behind (Ok a) old new i more made = λ p x.
     let t = made p.lines x.between in
@@ -149,21 +149,21 @@ stands_behind (Ok a) old new i more made = λ p x.
     }
 stands_behind (Err e) old new i more made = tt
 
--- or where it stood
+-- or it is where it was
 pub stands_still : {A E : Type 0} (r : Result A E) (old new : Interleaving) (i : ℕ) (more : List Line) → script_view new.script ≡ script_view old.script → Stays r old new i more → OnErr r ((p : PlayerView) → StandsAt old p → StandsAt new p)
 stands_still (Ok a) old new i more same stays = tt
 stands_still (Err e) old new i more same stays = λ p x. record { script = same ∙ x.script; between = stays p.lines x.between }
 
 -- One turn more, as a player sees it
 
--- entry and reply stand behind the row
+-- entry and reply are after the row
 turn_behind : (row : TurnRow) (entry : Option Entry) (reply : Option Finished) (lines : List Line) → with_turn row entry reply lines ≡ with_reply reply (with_entry entry []) ++ Step row ∷ lines
 turn_behind row None None lines = refl
 turn_behind row None (Some reply) lines = refl
 turn_behind row (Some entry) None lines = refl
 turn_behind row (Some entry) (Some reply) lines = refl
 
--- the row of a turn, and what stands behind it
+-- the row of a turn, and what is after it
 pub turn_of : (p : PlayerView) (i : ℕ) (more : List Line) (t : IsNextTurn p i more) → IsTurnMore p (with_lines p more) i t.row
 turn_of p i more t = record {
   script = refl;

@@ -1,6 +1,6 @@
 -- Where the calls of a run took place: those of cells where their answer says; a call of the map at
--- its entry, or in the turn that was found for it. All replies of a run on the tree are those of one
--- map.
+-- its entry, or in the turn that was found for it. All replies of a run on the tree are those of
+-- one map.
 use Rattle.std.proofs.Common.{◌≡◌, ℕ, suc, ◌≤◌, ⊎_elim, Bool, true, false, List, Option, Some, None, IfSome, IfNone, refl, sym, ◌∙◌, ap, subst, arith}
 use Rattle.arena.specs.declared.limits.Mode.{Mode}
 use Rattle.arena.specs.declared.limits.Mode.TheVariants.{Records, Tree}
@@ -49,7 +49,7 @@ cell_moment calls lines changes command answer first last won moment d x = x
 spelled_so_far : (lay : Layout) (tries : ℕ) (calls : List Call) (words : Contents) (lines : List Line) → IsLawfulSoFar lay tries calls words lines → lay.mode ≡ Tree → AreSpelled lay calls lines
 spelled_so_far lay tries calls words lines x mode = are_spelled lay tries calls mode (map_calls lay.mode calls mode x.of_mode) lines x.in_order (tree_run lay (history lay.mode lines) mode x.sound) (x.filled mode)
 
--- the value of a reply that tells one
+-- the value of a reply that answers one
 some_value : (a b : Option ℕ) → Some (OneValue a) ≡ Some (OneValue b) → a ≡ b
 some_value a b e = cc
 
@@ -74,7 +74,7 @@ module _ (lay : Layout) (tries : ℕ) (calls : List Call) (words : Contents) (li
       fall : FallFrom (suc reply.end) changes
       fall = subst (λ (n : ℕ). FallFrom (suc n) changes) (sym y.ended) (falls lay tries calls lines changes x.in_order y.entries)
 
-  -- or the key to have had the value that it tells
+  -- or the key to have had the value that it answers
   value_reads : (key : ℕ) (value : Option ℕ) → won lay lines reply.client.0 ≡ None → reply_told reply.answer ≡ Some (OneValue value) → ((m : List Pair) → answer_on call m ≡ OneValue (get key m)) → IsToldReading view call (OneValue value) → IsReadMoment calls lines changes key value reply.begin reply.end reply.moment → IsPlacedReading calls lines call reply
   value_reads key value unwon says gives tells moment = go reply.moment refl (moment y.entries)
     where
@@ -94,7 +94,7 @@ module _ (lay : Layout) (tries : ℕ) (calls : List Call) (words : Contents) (li
         none_later = λ n i j d. found.0.none_later n i j (some_value _ _ (sym (told_at n) ∙ sym d ∙ says));
       }
 
-  -- what it tells is told so
+  -- what it answers is right
   tells_by : (told : MapReply) (b : Bool) → reply_told reply.answer ≡ Some told → changes_map call told ≡ b → IsToldBy b view reply.client.0 call told
   tells_by told b is changes = subst (λ (z : Bool). IsToldBy z view reply.client.0 call told) changes (subst (IsToldOfMap view reply.client.0 call) is y.tells)
 

@@ -1,4 +1,4 @@
--- The machine of a call in a player's run: it goes on as the machine inside, in a run of its mode.
+-- The machine of a call in a player's run: it does as the machine inside, in a run of its mode.
 use Rattle.std.proofs.Common.{◌≡◌, ◌≢◌, ℕ, Some}
 use Rattle.arena.specs.declared.step.Row.{Row}
 use Rattle.arena.specs.declared.step.Step.{Step}
@@ -30,7 +30,7 @@ run_lawful (Scx m) c h s mode run w = as_played c.layout (row_of c s h ⊳ h) mo
 run_lawful (Vlx m) c h s mode run w = as_played c.layout (row_of c s h ⊳ h) mode (vlx_lawful AllowsAll m.snaps m.asked c h s (as_cells c.layout h mode run) w)
 run_lawful (Map m) c h s mode run w = as_played_numbers c.layout (row_of c s h ⊳ h) mode (dict_lawful IsNumber IsWideNumber m c h s (as_numbers c.layout h mode run) w)
 
--- once the step is made, the machine may be called with what it told
+-- once the step is made, the machine may be called with what it found
 pub run_made : (m : Run) (c : Call) (h : History) (s : Step) (v : ℕ) → c.layout.mode ≡ run_mode m → IsRun PlayedAllows c.layout (row_of c s h ⊳ h) → IsTold s.access (value h s.word) v → RunWaits m c h s → RunIsReady m c (row_of c s h ⊳ h) (Some v)
 run_made (Llx m) c h s v mode run told w = llx_made AllowsAll m c h s v (as_cells c.layout (row_of c s h ⊳ h) mode run) told w
 run_made (Scx m) c h s v mode run told w = put_made AllowsAll m c h s v (as_cells c.layout (row_of c s h ⊳ h) mode run) told w

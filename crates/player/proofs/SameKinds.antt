@@ -30,7 +30,7 @@ tag_is Abort = refl
 kind_same : (a b : Kind) → sameb the_type a b ≡ eqb (kind_place a) (kind_place b)
 kind_same a b = rw (tag_is a, tag_is b) refl
 
--- what a comparison of a turn's kind with one tells
+-- what a comparison of a turn's kind with one shows
 pub kind_is : (row : TurnRow) (kind : Kind) (found : Option Kind) (same : Bool) → found ≡ kind_of row → same ≡ option_eq (sameb the_type) found (Some kind) → is_of kind row ≡ same
 kind_is row kind found same f e = go row ∙ sym (rw f at e)
   where

@@ -16,7 +16,7 @@ use Rattle.player.specs.declared.kept.Kept.{Kept}
 use Rattle.player.specs.KeptSnaps.{AreKept, AllKept, IsFirstUnkept, IsUnspent, kept_of, node_of, found_of, parts, snap_of}
 use Rattle.record.specs.Snapshots.{IsFirstUnlinked}
 
--- what is read after a write was written, or stood there before
+-- what is read after a write was written, or was there before
 read_there : {X : Type 0} (xs : List (Option X)) (i : ℕ) (y : Option X) → i < length xs → get_or (set xs i y) i None ≡ y
 read_there [] i y p = absurd (omega arith)
 read_there (z ∷ zs) zero y p = refl
@@ -100,7 +100,7 @@ module _ (old new : Kept) (snaps : List Snap) (left : (n : ℕ) → kept_of new 
 pub kept_linked : (lay : Layout) (c : ℕ) (h : History) (linked : ℕ → Option History) (kept : Kept) (snaps : List Snap) → AllKept kept snaps → AreKept lay c h linked kept → (i : ℕ) → i < length snaps → (moment : History) × (linked (snap_at snaps i).node.0 ≡ Some moment) × IsUnspent lay c h (snap_at snaps i) moment
 kept_linked lay c h linked kept snaps those x i below = x (snap_at snaps i).node.0 (parts (snap_at snaps i)) (those i below)
 
--- the first cell of which nothing is kept is the first of which no snapshot is said
+-- the first cell without a kept snapshot is the first of which no snapshot is said
 pub first_unlinked : (lay : Layout) (c : ℕ) (h : History) (linked : ℕ → Option History) (kept : Kept) (cells : List ℕ) (node : ℕ) → AreKept lay c h linked kept → ((n : ℕ) → n ≤ 8 → kept_of kept n ≡ None → linked n ≡ None) → IsFirstUnkept kept cells node → IsFirstUnlinked linked cells node
 first_unlinked lay c h linked kept cells node those unkept x = (unkept node x.0 x.1, record { place = x.2.place; is = x.2.is; before = λ i p. some (get_or cells i 0) (kept_of kept (get_or cells i 0)) refl (x.2.before i p) })
   where

@@ -1,4 +1,4 @@
--- How a turn begins: what the client that makes it stands at.
+-- How a turn begins: where the client that makes it is.
 use Rattle.std.proofs.Common.{◌≡◌, ◌≢◌, ℕ, suc, ◌<◌, ◌⊎◌, inl, inr, List, ◌∷◌, set, length, get_or, Option, Some, None, is_some, drop, slice_get, refl, sym, ◌∙◌, ap, subst, arith}
 use Rattle.std.proofs.lemmas.Option.{slice_get_read}
 use Rattle.arena.specs.declared.layout.Layout.{Layout}

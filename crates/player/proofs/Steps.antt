@@ -81,7 +81,7 @@ pub record IsHeard (lay : Layout) (tries : ℕ) (calls : List Call) (words : Con
   pub fits : (command : Command) (answer : Answer) → MayAnswerAfterStep command answer → IsFitting lines command answer
   pub in_turn : number ≡ turns lines
 
--- a machine may be told what its step found
+-- a machine may get what its step found
 told_all : (access : Access) (v : ℕ) → IsTold access v v
 told_all Load v = refl
 told_all (Store new) v = tt
@@ -137,7 +137,7 @@ module _ (p : Interleaving) (lines : List Line) (i number : ℕ) (step : Ask) (a
   abbrev made : Row
   made = own_row v a.client a.running.step
 
-  -- the step goes on with the run
+  -- the step continues the run
   sound : IsRun PlayedAllows lay (made ⊳ history lay.mode lines)
   sound = step_sound v a.client a.running a.turn.so_far.sound a.waits v.won
 
@@ -272,8 +272,8 @@ module _ (p : Interleaving) (lines : List Line) (i number : ℕ) (step : Ask) (a
   has_edit : (entry : Entry) (o : IsOwner entry) (edit : MapEdit) → edit_in_hand o.running.run ≡ Some edit → owners_edit p.clients.items entry.client.0 ≡ Some edit
   has_edit entry o edit is = ap client_edit o.there ∙ ap running_edit o.runs ∙ is
 
-  -- on the tree the entry is of the edit that its client has in hand, which its call makes of the map
-  -- just before
+  -- on the tree the entry is of the edit that its client has in hand, which its call makes of the
+  -- map just before
   module _ (entry : Entry) (e : entry_of lay lines number made ≡ Some entry) (tree : lay.mode ≡ Tree) where
     o : IsOwner entry
     o = owner_of entry e
@@ -363,14 +363,14 @@ module _ (p : Interleaving) (lines : List Line) (i number : ℕ) (step : Ask) (a
   asked_so_far row words after e changed is =
       subst (λ l. IsLawfulSoFar lay tries calls words l) (sym is) (subst (λ (r : Row). IsLawfulSoFar lay tries calls words (Step (Made number r) ∷ lines)) (sym e) (asked_made words changed).so_far)
 
-  -- and what the client hears behind them
+  -- and what the client hears after them
   pub asked_hears : (row : Row) (words : Contents) (pushed after : List Line) (found : ℕ) → row ≡ made → found ≡ word_at p.words step.word → IsChanged p.words words made.word made.after → pushed ≡ Step (Made number row) ∷ lines → MatchOption (entry_owed lay pushed) (after ≡ pushed) (λ e. after ≡ Log e ∷ pushed) → IsHeard lay tries calls words p.clients.items after a.client a.running found number
   asked_hears row words pushed after found e f changed is m =
       let same : pushed ≡ Step (Made number made) ∷ lines = is ∙ ap (λ (r : Row). Step (Made number r) ∷ lines) e in
       subst (λ (k : ℕ). IsHeard lay tries calls words p.clients.items after a.client a.running k number) (sym (f ∙ asked_value))
       (asked_heard words after changed (rw same at m))
 
--- Behind what the client has heard
+-- After what the client has heard
 
 -- it asks for another step
 pub heard_on : (lay : Layout) (tries : ℕ) (calls : List Call) (words : Contents) (all : List Client) (lines : List Line) (c new : Client) (q : Running) (found number : ℕ) → IsHeard lay tries calls words all lines c q found number → GoesOn (client_view lay tries calls lines c.pass.0) c new → AreBetweenTurns lay tries calls words (set all c.pass.0 new) lines
@@ -450,7 +450,7 @@ place_known _ _ clients _ e places owned p = go (owners_edit clients e.client.0)
         let x = owned.edits (owned.tree edit is) in
         subst (λ (d : MapEdit). Knows places (edit_key d)) (some_edit x.edit edit (sym x.is ∙ is)) (x.known places p)
 
--- the entry behind the newest line leaves who made the turns, and how many they are
+-- the entry after the newest line leaves who made the turns, and how many they are
 pub turns_logged : (entry : Option Entry) (lines : List Line) → (clients (with_entry entry lines) ≡ clients lines) × (turns (with_entry entry lines) ≡ turns lines)
 turns_logged None lines = (refl, refl)
 turns_logged (Some entry) lines = (refl, refl)
@@ -463,7 +463,7 @@ logged_as_owed _ entry lines e = subst (λ (o : Option Entry). MatchOption o (wi
     go None = refl
     go (Some entry) = refl
 
--- what is told to the client as the player has it, is told to that client
+-- what the client as the player has it gets, that client gets
 pub told_goes : (v : ClientView) (now c new : Client) (q : Running) (found : ℕ) → now ≡ c → IsSound v → c.running ≡ Some q → Hears v c q found → ((w : ClientView) (r : Running) → IsSound w → now.running ≡ Some r → Hears w now r found → GoesOn w now new) → GoesOn v c new
 told_goes v now c new q found e sound runs h f = subst (λ (k : Client). GoesOn v k new) e (f v q sound (subst (λ (k : Client). k.running ≡ Some q) (sym e) runs) (subst (λ (k : Client). Hears v k q found) (sym e) h))
 

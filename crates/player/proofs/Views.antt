@@ -58,8 +58,8 @@ share_by_own (Vlx m) call h step left node scx is l w newest x = share_by_step c
 share_by_own (Map m) call h step left node scx is l w newest x = absurd is
 share_by_own (Scx m) call h step left node scx is l w newest x = share_by_put AllowsAll m call h step left node scx l w newest.0 newest.1 x
 
--- the view with one row more, with this begin of the call, so many steps of its own, and this turn
--- of its update
+-- the view with one row more, with this begin of the call, this many steps of its own, and this
+-- turn of its update
 abbrev pub after_row : ClientView → Row → History → ℕ → Option ℕ → ClientView
 after_row v r start steps won = record { layout = v.layout; tries = v.tries; calls = v.calls; past = r ⊳ v.past; answered = v.answered; start = start; steps = steps; won = won; linked = v.linked }
 
@@ -100,7 +100,7 @@ covers_ready run call h v left is l w share = covers_none call.layout h call.pas
 unspent_more : (lay : Layout) (c : ℕ) (h : History) (r : Row) (snap : Snap) (moment : History) → Lawful lay (r ⊳ h) → ((s : ℕ) → IsOwnScx lay c s → IsInProgress (r ⊳ h) s → ¬ IsMember (r ⊳ h) s snap.node.0) → IsUnspent lay c h snap moment → IsUnspent lay c (r ⊳ h) snap moment
 unspent_more lay c h r snap moment l none x = record { usable = usable_since lay (r ⊳ h) h snap moment l (inr (ends_self h)) x.usable; alone = alone_more lay c h r snap none x.alone }
 
--- no SCX-record of the client in progress covers a node of which it keeps a snapshot
+-- no SCX-record of the client in progress covers a node that it keeps a snapshot of
 abbrev LeavesKept : ClientView → Client → History → Type 0
 LeavesKept v c h = (n : ℕ) (found : KeptSnapshot) → kept_of c.kept n ≡ Some found → (s : ℕ) → IsOwnScx v.layout c.pass.0 s → IsInProgress h s → ¬ IsMember h s n
 
@@ -136,7 +136,7 @@ stands_more v c r start steps won hand run alone x = record {
 holds_more : (v : ClientView) (c : Client) (r : Row) (start : History) (steps : ℕ) (won : Option ℕ) (hand : Hand) → IsShare v.layout (r ⊳ v.past) c.pass.0 (held c) hand.node hand.scx → AreFinished v.layout c.pass.0 hand.scx (r ⊳ v.past) → HoldsShare v c hand → HoldsShare (after_row v r start steps won) c hand
 holds_more v c r start steps won hand share over x = record { some = x.some; share = share; over = over }
 
--- a row leaves what a machine has in hand, but for a call of the map, which says so by itself
+-- a row leaves what a machine has in hand, except for a call of the map, which says so by itself
 abbrev LeavesHand : ClientView → Client → Row → Run → Type 0
 LeavesHand v c r (Map m) = Unit {0}
 LeavesHand v c r q = TakesOnly v.layout c.pass.0 (in_hand (held c) q).scx v.past r × ((n : ℕ) → IsOwnNode v.layout c.pass.0 n → n ≢ (in_hand (held c) q).node → ¬ IsTakenNode v.past n → ¬ IsTakenNode (r ⊳ v.past) n)
@@ -184,7 +184,7 @@ module _ (v : ClientView) (c : Client) (r : Row) (number : ℕ) (start : History
               let same : z.0 ≡ hand.scx = own_in_hand v.layout v.past c.pass.0 z.0 hand.scx sound.lawful x.over z.2 (wins_in_progress v.layout v.past r z.0 run.lawful z.1) in
               y (rw same at (update_won (facts_before v.layout v.past r run.lawful) z.1))
 
-  -- an update of the call has won where some row since its begin has made one win
+  -- an update of the call has won where some row since its start has made one win
   won_since : start ≡ v.start → Extends v.past v.start → IsWonSince v c.pass.0 → IsWonSince (after_row v r start steps won) c.pass.0
   won_since same since x = record { yes = yes; no = no }
     where
@@ -247,7 +247,7 @@ module _ (v : ClientView) (c : Client) (r : Row) (number : ℕ) (start : History
   roomy (Scx m) e y = subst (λ (k : History). HasRoom v.layout c.pass.0 k × ¬ IsTakenScx k m.scx.scx.0) (sym e) y
   roomy q e y = tt
 
-  -- a machine has started at the begin of its call or later
+  -- a machine has started at the start of its call or later
   begun_since : (q : Run) (start : History) → Extends v.past start → IsStart q start v.start → Extends v.past v.start
   begun_since (Scx m) start since begun = ends_trans v.past start v.start since begun
   begun_since q start since begun = subst (λ (k : History). Extends v.past k) begun since
@@ -345,7 +345,7 @@ module _ (v : ClientView) (c : Client) (q : Running) (sound : IsSound v) (w : Wa
   stands_then won (Map m) found waits ready mode newest x h = record { stands = stands_more v c (own_row v c q.step) v.start (suc v.steps) won (in_hand (held c) (Map m)) (step_sound won) (leaves_tree v c (own_row v c q.step ⊳ v.past) _ mode x) x; holds = tt; leaves = tt }
   stands_then won run found waits ready mode newest x h = let y = hand_stands won run found tt waits ready newest x h in record { stands = y.0; holds = y.1; leaves = (y.2, y.3) }
 
-  -- the machine may be told what the step found
+  -- the machine may get what the step found
   pub hears : (number : ℕ) (won : Option ℕ) → TellsWon v c.pass.0 (own_row v c q.step) number won → c.begin ≤ number → (found : ℕ) → IsTold q.step.access (value v.past q.step.word) found → Hears (after_row v (own_row v c q.step) v.start (suc v.steps) won) c q found
   unfolding works_more
   hears number won tells late found told =

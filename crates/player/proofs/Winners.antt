@@ -144,7 +144,7 @@ module _ (lay : Layout) (lines : List Line) (number : ℕ) (row : Row) (l : Lawf
       go (aborts u j q x) = no_update Abort q refl
       go (updates u w) = let y = win_enters u w in (u, subst (λ (k : Entry). IsEntryOfWin lay h row k u) (some_entry y.entry entry (sym y.is ∙ e)) y.of_win)
 
-  -- so the lines tell of the update of each client whether it has won
+  -- so the lines show of the update of each client whether it has won
   pub tells_won : (tries : ℕ) (calls : List CallOf) (j : ℕ) → TellsWon (client_view lay tries calls lines j) j row number (won lay (Step (Made number row) ∷ lines) j)
   tells_won tries calls j = record { yes = yes; no = no (entry_of lay lines number row) refl }
     where

@@ -79,14 +79,14 @@ pub record KnowsCounts (p : Interleaving) (lines : List Line) : Type 0 where
   pub turned : p.turns ≡ turns lines
   pub entered : p.entries ≡ entries lines
 
--- what holds of an interleaving between two turns, behind these lines, the newest first
+-- what holds of an interleaving between two turns, after these lines, the newest first
 pub record IsBetweenTurns (p : Interleaving) (lines : List Line) : Type 0 where
   pub between : AreBetweenTurns p.script.layout p.script.limits.tries p.script.calls.items p.words p.clients.items lines
   pub wins : AreWins p.script.layout lines p.wins.items
   pub places : ArePlaces p.script.layout p.script.calls.items lines p.places
   pub counted : KnowsCounts p lines
 
--- behind these lines it has made a turn of the i-th client, which leaves these more, the first in
+-- after these lines it has made a turn of the i-th client, which adds these, the first in
 -- front, and is between two turns again
 pub record HasMadeTurn (old new : Interleaving) (lines : List Line) (i : ℕ) (more : List Line) : Type 0 where
   pub script : script_view new.script ≡ script_view old.script
@@ -99,7 +99,7 @@ pub record HasMadeTurn (old new : Interleaving) (lines : List Line) (i : ℕ) (m
 
 -- In the middle of a turn
 
--- behind these lines the i-th client, whose turn it is, asks for this step
+-- after these lines the i-th client, whose turn it is, asks for this step
 pub record IsStepAsked (p : Interleaving) (lines : List Line) (i number : ℕ) (step : Ask) : Type 0 where
   pub client : Client
   pub is : client.pass.0 ≡ i
@@ -163,7 +163,7 @@ pub record HasLogged (old new : Interleaving) (lines : List Line) (number : ℕ)
   pub entered : new.entries ≡ entries (with_entry entry lines)
   pub places : ArePlaces new.script.layout new.script.calls.items (with_entry entry lines) new.places
 
--- this is the reply to the call of this client, which stands at its next call then
+-- this is the reply to the call of this client, which is at its next call then
 pub record IsReplied (old new : Interleaving) (turn : ℕ) (answer : Answer) (c : Client) (reply : Finished) : Type 0 where
   pub client : Client
   pub won : Option ℕ
@@ -178,7 +178,7 @@ pub record HasSameClients (old new : Interleaving) : Type 0 where
   pub clients : new.clients.items ≡ old.clients.items
   pub turns : new.turns ≡ old.turns
 
--- all is as it was but for the clients
+-- all is as it was except for the clients
 pub record HasOtherClients (old new : Interleaving) : Type 0 where
   pub script : script_view new.script ≡ script_view old.script
   pub words : new.words ≡ old.words

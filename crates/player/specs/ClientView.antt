@@ -68,7 +68,7 @@ pub record ClientView : Type 0 where
   pub past : History
   -- how many of its calls are answered
   pub answered : ℕ
-  -- the steps up to the begin of its call
+  -- the steps up to the start of its call
   pub start : History
   -- how many steps it has made since its last reply
   pub steps : ℕ
@@ -138,8 +138,8 @@ abbrev pub IsVlxOf : Command → List Snap → Option SetField → Type 0
 IsVlxOf (VlxOf cells) snaps None = nodes_of snaps ≡ cells_of cells
 IsVlxOf _ snaps _ = ⊥
 
--- the machine of a call of the map, with nothing behind it, is that of the command; it asks for a
--- step before it answers
+-- the machine of a call of the map, with nothing to do after it, is that of the command; it asks
+-- for a step before it answers
 pub record IsMapOf (command : Command) (m : DictRun ℕ ℕ) (then : Option SetField) : Type 0 where
   pub request : Request ℕ ℕ
   pub is : command ≡ MapOf request
@@ -154,7 +154,7 @@ IsMachineOf command number (Scx m) then = IsScxOf command number m then
 IsMachineOf command number (Vlx m) then = IsVlxOf command m.snaps then
 IsMachineOf command number (Map m) then = IsMapOf command m then
 
--- a client between two turns, but for its machine: its next call is the first that is not answered
+-- a client between two turns, except its machine: its next call is the first that is not answered
 pub record IsClientState (v : ClientView) (c : Client) (hand : Hand) : Type 0 where
   pub is_pass : c.pass.0 < v.layout.passes
   pub tries : c.tries ≡ v.tries
@@ -176,7 +176,7 @@ pub record HoldsShare (v : ClientView) (c : Client) (hand : Hand) : Type 0 where
   -- the SCX-records that it has taken are finished, but perhaps the one in hand
   pub over : AreFinished v.layout c.pass.0 hand.scx v.past
 
--- it does while a machine runs, but for a call of the map, which has the share and says by itself
+-- it does while a machine runs, except for a call of the map, which has the share and says itself
 -- what is left of it
 abbrev pub Holds : ClientView → Client → Run → Type 0
 Holds v c (Map m) = Unit {0}
@@ -206,7 +206,7 @@ command_of v c = slice_get (commands v.calls c.pass.0) v.answered
 abbrev pub machine_call : (v : ClientView) (c : Client) → c.pass.0 < v.layout.passes → History → MachineCall
 machine_call v c is_pass start = record { layout = v.layout; pass = c.pass.0; is_pass = is_pass; number = c.number; start = start }
 
--- where a machine starts: an LLX and a VLX at the begin of the call, an SCX there or later
+-- where a machine starts: an LLX and a VLX at the start of the call, an SCX there or later
 abbrev pub IsStart : Run → History → History → Type 0
 IsStart (Scx m) start begun = Extends start begun
 IsStart _ start begun = start ≡ begun
@@ -225,7 +225,7 @@ IsSource v c (SetOf field x) n moment = IsLastLook c v.past v.start moment n
 IsSource v c _ n moment = v.linked n ≡ Some moment
 
 -- the snapshot has a moment: at it the node was as
--- found, and it is the one that the command goes by
+-- found, and it is the one that the command uses
 pub record HasMoment (v : ClientView) (c : ℕ) (command : Command) (snap : Snap) : Type 0 where
   pub moment : History
   pub found : IsMoment v.layout v.past snap moment
@@ -261,7 +261,7 @@ IsWonBy v c (Scx m) = IsWonAs v c m.scx.scx.0
 IsWonBy v c (Map m) = IsWonSince v c
 IsWonBy v c _ = v.won ≡ None
 
--- since its call's begin the client has taken only what it has in hand
+-- since its call's start the client has taken only what it has in hand
 pub record HasTaken (v : ClientView) (c : ℕ) (hand : Hand) : Type 0 where
   pub nodes : (n : ℕ) → IsOwnNode v.layout c n → n ≢ hand.node → ¬ IsTakenNode v.start n → ¬ IsTakenNode v.past n
   pub scx_records : HasTakenOnly v.layout c hand.scx v.start v.past
@@ -271,12 +271,12 @@ abbrev pub TakesInHand : ClientView → Client → Run → Type 0
 TakesInHand v c (Map m) = Unit {0}
 TakesInHand v c run = HasTaken v c.pass.0 (in_hand (held c) run)
 
--- at the call's begin the share had room for an SCX that runs, and its SCX-record was not taken
+-- at the call's start the share had room for an SCX that runs, and its SCX-record was not taken
 abbrev pub IsRoomy : ClientView → ℕ → Run → Type 0
 IsRoomy v c (Scx m) = HasRoom v.layout c v.start × ¬ IsTakenScx v.start m.scx.scx.0
 IsRoomy v c _ = Unit {0}
 
--- a call of the map may try so often
+-- a call of the map may make this many tries
 abbrev pub MayTryAll : Run → ℕ → Type 0
 MayTryAll (Map m) tries = m.tries ≡ tries
 MayTryAll _ tries = Unit {0}
@@ -294,7 +294,7 @@ pub record Works (v : ClientView) (c : Client) (run : Run) (then : Option SetFie
   pub limit : MayTryAll run v.tries
   pub is_pass : c.pass.0 < v.layout.passes
   pub start : History
-  -- the machine has started at the begin of the call or later
+  -- the machine has started at the start of the call or later
   pub since : Extends v.past start
   pub begun : IsStart run start v.start
   pub moments : HaveMoments v c.pass.0 command (snaps_of run)
@@ -357,7 +357,7 @@ pub record IsSameCall (old new : Client) : Type 0 where
   pub number : new.number ≡ old.number
   pub next : new.next ≡ old.next
 
--- the client waits for a step, whose call has begun or gone on
+-- the client waits for a step, and its call has begun or continued
 pub record GoesOn (v : ClientView) (old new : Client) : Type 0 where
   pub same : IsSameCall old new
   pub begin : new.begin ≡ old.begin
@@ -392,17 +392,17 @@ pub record IsToldChange (v : ClientView) (c : ℕ) (call : MapCall) (told : MapR
 abbrev pub IsToldReading : ClientView → MapCall → MapReply → Type 0
 IsToldReading v call told = HasReplied v.layout v.past v.start call told ⊎ ((m : List Pair) → reply call m ≡ told)
 
--- what it tells is told of a change, or of a reading
+-- what it answers is that of a change, or of a reading
 abbrev pub IsToldBy : Bool → ClientView → ℕ → MapCall → MapReply → Type 0
 IsToldBy true v c call told = IsToldChange v c call told
 IsToldBy false v c call told = IsToldReading v call told
 
--- which of the two it is, the call and what it tells say; a refusal tells nothing
+-- which of the two it is follows from the call and its answer; a refusal answers nothing
 abbrev pub IsToldOfMap : ClientView → ℕ → MapCall → Option MapReply → Type 0
 IsToldOfMap v c call None = Unit {0}
 IsToldOfMap v c call (Some told) = IsToldBy (changes_map call told) v c call told
 
--- what a call of the map tells is so
+-- what a call of the map answers is right
 abbrev pub Tells : ClientView → ℕ → Command → Answer → Type 0
 Tells v c (MapOf request) answer = IsToldOfMap v c (map_request request) (reply_told answer)
 Tells v c command answer = Unit {0}
@@ -421,7 +421,7 @@ pub record EndsCall (v : ClientView) (old new : Client) (answer : Answer) : Type
   pub took : HasTakenFew v.layout v.tries new.pass.0 v.past v.start command
   pub late : (turn : ℕ) → v.won ≡ Some turn → new.begin ≤ turn
 
--- what became of a client that was told what its step
+-- what became of a client that got what its step
 -- found: it asks for another, or its call is answered
 abbrev pub HasBeenTold : ClientView → Client → Client → Option Answer → Type 0
 HasBeenTold v old new None = GoesOn v old new
@@ -468,7 +468,7 @@ abbrev pub BeginsOrRefuses : ClientView → ℕ → Client → Client → Option
 BeginsOrRefuses v turn old new None = IsSameCall old new × (new.begin ≡ turn) × ((r : Running) × (new.running ≡ Some r) × WaitsForStep v new r)
 BeginsOrRefuses v turn old new (Some answer) = IsSameCall old new × (new.begin ≡ turn) × Refuses v new answer
 
--- the client stands at its next call, the one behind the call that has ended
+-- the client is at its next call, the one after the call that has ended
 pub record IsAtNextCall (calls : List Call) (old new : Client) : Type 0 where
   pub same : new ≡ record old { next = new.next; number = new.number }
   pub none : old.next ≡ None → (new.next ≡ None) × (new.number ≡ old.number)

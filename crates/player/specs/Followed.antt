@@ -9,27 +9,27 @@ use Rattle.record.specs.Schedules.{AsksForMore, IsOrdered, ordered_client}
 use Rattle.record.specs.Turns.{answered, made, turns}
 use Rattle.player.specs.Player.{PlayerView}
 
--- the lines behind the older ones are turns that the order means, from its first on: all are its
+-- the lines after the older ones are turns that the order means, from its first on: all are its
 -- client's, and each was made while the order still asked for one
 pub record IsFollowedSoFar (calls : List Call) (order : Order) (older newer : List Line) : Type 0 where
   pub behind : List Line
   pub lines : newer ≡ behind ++ older
   pub each : AreMadeWhile (AsksForMore calls order older) (ordered_client order) older behind
 
--- the lines behind the older ones are turns that these orders mean, one order after another, as far
+-- the lines after the older ones are turns that these orders mean, one order after another, as far
 -- as they were followed
 abbrev pub AreFollowedSoFar : List Call → List Order → List Line → List Line → Type 0
 AreFollowedSoFar calls [] older newer = newer ≡ older
 AreFollowedSoFar calls (order ∷ orders) older newer = IsFollowedSoFar calls order older newer ⊎ ((between : List Line) × IsOrdered calls order older between × AreFollowedSoFar calls orders between newer)
 
--- the script was played from the lines of p on: of all lines now `so` holds, and what is played is such
+-- the script was played from the lines of p on: `so` holds of all lines now, `such` of the player
 pub record HasFollowed (p : PlayerView) (so : List Line → Type 0) (such : PlayerView → Type 0) : Type 0 where
   pub later : PlayerView
   pub script : later.script ≡ p.script
   pub asked : so later.lines
   pub stands : such later
 
--- How much of an order is done is counted: it is obeyed once so much has come that it wants, or
+-- How much of an order is done is counted: it is obeyed once as much has been done as it wants, or
 -- once its client has no call left, where it asks for no other turns
 
 -- how much it wants

@@ -1,4 +1,4 @@
--- What becomes of a client of which the machine alone is told what its step found.
+-- What becomes of a client whose machine alone gets what its step found.
 use Rattle.std.specs.Prelude.{◌≡◌, ℕ, ◌+◌, ◌≤◌, length, Option, Some, None}
 use Rattle.arena.specs.TakenNodes.{taken_nodes}
 use Rattle.record.specs.CommandRules.{command_steps}
@@ -9,7 +9,7 @@ use Rattle.player.specs.RunKnown.{RunAnswers}
 use Rattle.player.specs.RunSteps.{then_left}
 use Rattle.player.specs.ClientView.{ClientView, Works, GoesOn, machine_call}
 
--- the machine has answered, and still stands where it ran
+-- the machine has answered, and still is where it ran
 pub record HasAnswered (v : ClientView) (c : Client) (running : Running) (ended : Ended) : Type 0 where
   pub works : Works v c running.run running.then
   pub answers : RunAnswers running.run (machine_call v c works.is_pass works.start) v.past ended

@@ -25,7 +25,7 @@ abbrev pub parts : Snap → KeptSnapshot
 parts snap = record { scx = snap.scx; left = snap.left; right = snap.right }
 
 -- a snapshot of this moment that the client may use, and since which
--- no SCX-record of its own has come to the node
+-- no SCX-record of its own has reached the node
 pub record IsUnspent (lay : Layout) (c : ℕ) (h : History) (snap : Snap) (moment : History) : Type 0 where
   pub usable : IsUsable lay h snap moment
   pub alone : IsLeftAlone lay c h snap
@@ -34,7 +34,7 @@ pub record IsUnspent (lay : Layout) (c : ℕ) (h : History) (snap : Snap) (momen
 abbrev pub AreKept : Layout → ℕ → History → (ℕ → Option History) → Kept → Type 0
 AreKept lay c h linked kept = (n : ℕ) (found : KeptSnapshot) → kept_of kept n ≡ Some found → (moment : History) × (linked n ≡ Some moment) × IsUnspent lay c h (snap_of n found) moment
 
--- the node of which an LLX has answered
+-- the node that an answer of LLX is about
 abbrev pub node_of : Llx → ℕ
 node_of (Snapshot snap) = snap.node.0
 node_of (Finalized node scx) = node.0
@@ -50,6 +50,6 @@ found_of (Fail node scx) = None
 abbrev pub AllKept : Kept → List Snap → Type 0
 AllKept kept snaps = (i : ℕ) → i < length snaps → kept_of kept (snap_at snaps i).node.0 ≡ Some (parts (snap_at snaps i))
 
--- the node is the first of the cells of which nothing is kept
+-- the node is the first of the cells without a kept snapshot
 abbrev pub IsFirstUnkept : Kept → List ℕ → ℕ → Type 0
 IsFirstUnkept kept cells node = (node ≤ 8) × (kept_of kept node ≡ None) × IsBehindAll (λ n. IsSome (kept_of kept n)) cells node

@@ -1,4 +1,4 @@
--- The lines of one turn, and how they come behind those before it.
+-- The lines of one turn, and how they are added to those before it.
 use Rattle.std.specs.Prelude.{ℕ, ◌-◌, List, [], ◌∷◌, Option, Some, None, Vec, vec_len}
 use Rattle.std.specs.Global.{Global}
 use Rattle.std.specs.Vec.{vec_capacity}
@@ -19,7 +19,7 @@ abbrev pub reply_line : Option Finished → List Line
 reply_line None = []
 reply_line (Some reply) = Reply reply ∷ []
 
--- the entry, if there is one, and these lines behind it
+-- the entry, if there is one, and these lines after it
 abbrev pub entry_line : Option Entry → List Line → List Line
 entry_line None behind = behind
 entry_line (Some entry) behind = Log entry ∷ behind

@@ -22,14 +22,14 @@ abbrev pub IsReadMoment : List Call → List Line → List Change → ℕ → Op
 IsReadMoment calls lines changes key told first last moment = AreEntries calls lines changes → IfSome moment (λ m. IsGreatestTurn (λ n. get key (map_at calls lines n) ≡ told) first last m) × IfNone moment ((n : ℕ) → first ≤ n → n ≤ last → get key (map_at calls lines n) ≢ told)
 
 -- the moment of an ordered read: the greatest of its turns after which the map replies what this
--- reply tells, if there is one
+-- reply says, if there is one
 pub record IsOrderedMoment (calls : List Call) (lines : List Line) (changes : List Change) (command : Command) (reply : Reply ℕ ℕ) (first last : ℕ) (moment : Option ℕ) : Type 0 where
   pub turn : ℕ
   pub is : moment ≡ Some turn
   pub within : first ≤ last → FallFrom (suc last) changes → (first ≤ turn) × (turn ≤ last)
   pub greatest : (call : MapCall) (n : ℕ) → AreEntries calls lines changes → FallFrom (suc last) changes → IsOrderedRead command → map_call (Some command) ≡ Some call → first ≤ n → n ≤ last → number_reply reply ≡ Some (replies_on call (map_at calls lines n)) → IsGreatestTurn (λ m. number_reply reply ≡ Some (replies_on call (map_at calls lines m))) first last turn
 
--- the moment of a call that reads, and has told this by its reply: of its key, or else in order
+-- the moment of a call that reads, and has answered this: of its key, or else in order
 abbrev pub IsReadingMoment : List Call → List Line → List Change → Command → Reply ℕ ℕ → Option ℕ → Option MapReply → ℕ → ℕ → Option ℕ → Type 0
 IsReadingMoment calls lines changes command reply (Some key) (Some (OneValue told)) first last moment = IsReadMoment calls lines changes key told first last moment
 IsReadingMoment calls lines changes command reply None (Some told) first last moment = IsOrderedMoment calls lines changes command reply first last moment

@@ -1,11 +1,11 @@
--- Where a client's calls stand in a script.
+-- Where a client's calls are in a script.
 use Rattle.std.specs.Prelude.{◌≡◌, ℕ, suc, List, [], ◌∷◌, drop, Option, Some, None, slice_get}
 use Rattle.script.specs.declared.call.Call.{Call}
 use Rattle.script.specs.declared.command.Command.{Command}
 use Rattle.record.specs.Commands.{commands}
 
--- where the first of client c's commands that are still to come
--- stands among the calls; nowhere if none is to come
+-- where the first of client c's commands that are still to be made
+-- is among the calls; nowhere if there is none
 abbrev pub IsNextCallAt : List Call → ℕ → List Command → Option ℕ → Type 0
 IsNextCallAt calls c left None = left ≡ []
 IsNextCallAt calls c left (Some at) = (call : Call) × (slice_get calls at ≡ Some call) × (call.client.0 ≡ c) × (left ≡ call.command ∷ commands (drop (suc at) calls) c)

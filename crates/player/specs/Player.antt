@@ -40,7 +40,7 @@ view_code =
 abbrev pub IsPlayed : PlayerView → Type 0
 IsPlayed p = IsLawfulRun p.script.layout p.script.limits.tries p.script.calls (reverse (clients p.lines)) (reverse p.lines)
 
--- the lines have this one turn of the i-th client more, and the entry and reply behind it
+-- the lines have this one turn of the i-th client more, and the entry and reply after it
 pub record IsTurnMore (old new : PlayerView) (i : ℕ) (row : TurnRow) : Type 0 where
   pub script : new.script ≡ old.script
   pub behind : List Line

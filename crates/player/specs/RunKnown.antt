@@ -1,4 +1,4 @@
--- When the machine of a call may go on, what it waits for,
+-- When the machine of a call may continue, what it waits for,
 -- and what its answer says: as the machine inside.
 use Rattle.std.specs.Prelude.{◌≡◌, ℕ, Option, Some, None}
 use Rattle.arena.specs.declared.limits.Mode.{Mode}
@@ -41,7 +41,7 @@ RunIsReady (Scx m) c h got = PutIsReady AllowsAll m c h got
 RunIsReady (Vlx m) c h got = VlxIsReady m.snaps m.asked c h got
 RunIsReady (Map m) c h got = DictIsReady IsNumber IsWideNumber m c h got
 
--- it asks for a step before it answers: all do, but for a range that takes no pair
+-- it asks for a step before it answers: all do, except for a range that takes no pair
 abbrev pub RunAsksFirst : Run → Type 0
 RunAsksFirst (Map m) = AsksFirst m.run
 RunAsksFirst _ = Unit {0}

@@ -36,7 +36,7 @@ struct Running {
     step: Step,
 }
 
-/// How a client stands before a turn.
+/// How a client is before a turn.
 #[derive(Debug, Drop, PartialEq, Eq)]
 pub(crate) enum NextAction {
     /// It has no call left.
@@ -56,7 +56,7 @@ pub(crate) struct Client {
     /// None while a call of the map runs, which has it.
     share: Option<Share>,
     kept: Kept,
-    /// Where in the script the call stands that runs or comes next.
+    /// Where in the script the call is that runs or comes next.
     next: Option<usize>,
     /// The number of that call among the client's own.
     number: u64,
@@ -129,7 +129,7 @@ impl Client {
         self.next.is_some()
     }
 
-    /// How the client stands at this turn, with its next call begun.
+    /// How the client is at this turn, with its next call begun.
     pub(crate) fn next_action(&mut self, calls: &[Call], turn: u64) -> NextAction
         ensures { (v : ClientView) (began : Option ℕ) → IsSound v → 0 < v.tries →
             All (λ call. mode_of call.command ≡ v.layout.mode) v.calls → calls.now ≡ v.calls →
@@ -285,7 +285,7 @@ impl Client {
         }
     }
 
-    /// Tells the client what the step that it had asked for found: it asks for another, or answers.
+    /// Gives the client what the step that it had asked for found: it asks for another, or answers.
     pub(crate) fn tell(&mut self, found: u64) -> Option<Answer>
         ensures { (v : ClientView) (q : Running) → IsSound v → self.old.running ≡ Some q → Hears v self.old q found → HasBeenTold v self.old self.new result }
     {
@@ -385,9 +385,9 @@ impl Client {
         calls.get(self.next?).copied()
     }
 
-    /// The turn at which an answer stands: of an update that is done, and of a call that has
+    /// The turn of an answer: of an update that is done, and of a call that has
     /// changed the map, that of its entry, of a VLX its first, of an LLX its last, of a reading of
-    /// the map the greatest within the call, whoever's, after which the map was as it tells. `won`
+    /// the map the greatest within the call, whoever's, after which the map was as it says. `won`
     /// is the turn of the last update of the client's that has won.
     pub(crate) fn moment(
         &self,
@@ -412,7 +412,7 @@ impl Client {
         }
     }
 
-    /// The turn at which a reply of the map stands; a refusal stands nowhere.
+    /// The turn of a reply of the map; a refusal has none.
     fn reply_moment(
         &self,
         calls: &[Call],
@@ -436,7 +436,7 @@ impl Client {
         self.reading_moment(&command, request.key(), turn, reply, places)
     }
 
-    /// The turn at which a reply stands of a call that has changed nothing: of one that tells the
+    /// The turn of a reply of a call that has changed nothing: of one that answers the
     /// value of this key, or, without a key, that reads in order.
     fn reading_moment(
         &self,
@@ -462,7 +462,7 @@ impl Client {
     }
 }
 
-/// Tells a machine what its step found, in its place: it asks for another step, or has ended.
+/// Gives a machine what its step found, in its place: it asks for another step, or has ended.
 fn hear(running: &mut Option<Running>, found: u64) -> Option<Ended>
     ensures { (v : ClientView) (c : Client) (q : Running) → IsSound v → running.old ≡ Some q → Hears v c q found → HasHeard v c running.new result }
 {

@@ -11,7 +11,7 @@ use record::{Answer, Entry, Finished, Line, TurnRow};
 use script::Script;
 use std::alloc::Global;
 
-/// A script, and what the turns of its clients have left so far, but for their lines.
+/// A script, and what the turns of its clients have left so far, except for their lines.
 #[derive(Drop)]
 pub(crate) struct Interleaving {
     script: Script,
@@ -63,7 +63,7 @@ impl Interleaving {
     }
 
     /// One turn of a client: its next atomic step, or a row of kind idle where it has no call left
-    /// or its call answers without a step. Its lines are put in place of what stands in `more`. A
+    /// or its call answers without a step. Its lines replace what is in `more`. A
     /// refusal leaves all as it was, and the same turn can be asked again.
     pub(crate) fn step(&mut self, client: PassNo, more: &mut Lines) -> Result<(), NoMemory>
         requires client { client.0 < self.old.script.layout.passes }

@@ -68,7 +68,7 @@ impl Kept {
         }
     }
 
-    /// The snapshots of these cells, or the first cell of which none is kept.
+    /// The snapshots of these cells, or the first cell without a kept one.
     pub(crate) fn linked(&self, cells: &[Cell]) -> Result<ArrayVec<Snap, 4>, NodeNo>
         requires { length cells.now ≤ 4 }
         ensures nodes { IfOk result (λ snaps. map (λ s. s.node.0) snaps.items ≡ cells.now) }

@@ -12,7 +12,7 @@ use record::{Entry, Line, TurnRow};
 /// one, and the reply to the call that it has ended, if it has ended one.
 pub type Lines = ArrayVec<Line, 3>;
 
-/// Puts the row and the entry of a turn in place of what stands there. A reply has room behind them.
+/// Puts the row and the entry of a turn in place of what is there. A reply has room after them.
 #[inline]
 pub(crate) fn begin(lines: &mut Lines, row: TurnRow, entry: Option<Entry>)
     ensures lines { lines.new.items ≡ turn_lines row entry None }
@@ -25,7 +25,7 @@ pub(crate) fn begin(lines: &mut Lines, row: TurnRow, entry: Option<Entry>)
     }
 }
 
-/// The row of a turn, which stands in front of its lines.
+/// The row of a turn, which is the first of its lines.
 pub(crate) fn row_of(turn: &[Line]) -> TurnRow
     requires { (row : TurnRow) × (behind : List Line) × (turn.now ≡ Line.Step row ∷ behind) }
     ensures { (row : TurnRow) (behind : List Line) → turn.now ≡ Line.Step row ∷ behind → result ≡ row }
@@ -36,7 +36,7 @@ pub(crate) fn row_of(turn: &[Line]) -> TurnRow
     }
 }
 
-/// Moves the lines of a turn behind those of the turns before it, for which there must be room.
+/// Moves the lines of a turn to the end of those before it, which must have room for them.
 pub(crate) fn append(list: &mut Vec<Line>, mut turn: Lines)
     requires { 3 ≤ room list.old }
     ensures { list.new.items ≡ list.old.items ++ turn.items }

@@ -101,7 +101,7 @@ fn wanted_by(order: Order) -> u32
     }
 }
 
-/// Whether an order of which so much is left asks for a turn.
+/// Whether an order with this much left asks for a turn.
 fn asks(order: Order, left: u32, has_call: bool) -> bool
     ensures some { IsTrue result → 0 < left }
     ensures asks { (calls : List Call) (lines : List Line) → has_call ≡ is_some (next_command calls lines (ordered_client order)) →

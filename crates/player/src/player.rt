@@ -66,7 +66,7 @@ impl Player {
         Ok(self.make(client)?.0)
     }
 
-    /// The same; answers also what the turn tells.
+    /// The same; answers also what the turn shows.
     fn make(&mut self, client: PassNo) -> Result<(TurnRow, Turned), NoMemory>
         requires { client.0 < self.old.script.layout.passes }
         ensures turn { IfOk result (λ made. TellsTurn self.old self.new client.0 made.0 made.1) }

@@ -50,9 +50,9 @@ impl Core {
     }
 
     /// One turn of a client: its next atomic step, or a row of kind idle where it has no call left
-    /// or its call answers without a step. Its lines are put in place of what stands in `more`, so
-    /// that who asks for many turns has none of them moved; behind whatever lines the core stands,
-    /// these come next. A refusal leaves it where it stood, and the same turn can be asked again.
+    /// or its call answers without a step. Its lines replace what is in `more`, so
+    /// that who asks for many turns has none of them moved; whatever lines have led to the core,
+    /// these come next. A refusal leaves it as it was, and the same turn can be asked again.
     pub fn step_into(&mut self, client: PassNo, more: &mut Lines) -> Result<(), NoMemory>
         requires client { client.0 < passes_of self.old }
         requires steps { turns_made self.old < 2 ^ 64 - 1 }

@@ -8,7 +8,7 @@ ghost use Rattle.player.specs.Player.{PlayerView};
 use crate::turned::Turned;
 use arena::PassNo;
 
-/// Plays a script, one turn of a client at a time, and may write to `to` what each turn tells.
+/// Plays a script, one turn of a client at a time, and may write to `to` what each turn shows.
 pub trait Plays<To> {
     /// Why a turn is not made, or not written.
     type Fault;
@@ -19,11 +19,11 @@ pub trait Plays<To> {
     /// How many turns can still be counted.
     ghost left: { Self → ℕ };
 
-    /// It stands behind these turns of a script, of which nothing was written at the start, and
+    /// These turns of a script have led to it; nothing of them was written at the start, and
     /// all is written now.
     ghost behind: { To → Self → To → PlayerView → Type 0 };
 
-    /// A fault came behind these turns, or in one more; this is what is written.
+    /// A fault came after these turns, or in one more; this is what is written.
     ghost broken: { To → Self → To → Self.Fault → PlayerView → Type 0 };
 
     /// Whether a client has a call left.

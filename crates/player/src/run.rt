@@ -63,8 +63,8 @@ impl Run {
     ghost use Rattle.ordered_map.specs.OrderedMap.{edit_key, value_left};
     ghost use Rattle.player.specs.RunKnown.{edit_in_hand, share_in};
 
-    /// Goes on with what the last step found, as the machine inside, in a run of its mode. It asks for
-    /// a step before it answers.
+    /// Continues with what the last step found, as the machine inside, in a run of its mode. It
+    /// asks for a step before it answers.
     pub(crate) fn next(&mut self, got: Option<u64>) -> Turn<Ended>
         ensures turn { (c : Call) (h : History) → c.layout.mode ≡ run_mode self.old → IsRun PlayedAllows c.layout h →
             RunIsReady self.old c h got → MatchTurn result (RunWaits self.new c h) (RunAnswers self.new c h) }

@@ -1,4 +1,4 @@
-//! What a turn tells of itself.
+//! What a turn shows of itself.
 ghost use Rattle.std.specs.Prelude.{◌≡◌, ◌∷◌, List, Option, is_some};
 ghost use Rattle.record.specs.Turns.{kind_of as kind_at};
 ghost use Rattle.record.specs.declared.record.Entry.{Entry};
@@ -25,7 +25,7 @@ impl Turned {
     ghost use Rattle.player.specs.Plays.{TellsTurn};
     ghost use Rattle.player.specs.Player.{IsPlayed, PlayerView};
 
-    /// What these lines of a turn tell.
+    /// What these lines of a turn show.
     pub fn of(lines: &[Line]) -> Turned
         ensures { (p : PlayerView) (i : ℕ) (turn : IsNextTurn p i lines.now) → IsPlayed (with_lines p lines.now) →
             TellsTurn p (with_lines p lines.now) i turn.row result }

@@ -1,4 +1,4 @@
--- What the layers above know of LLX, SCX and VLX beside their clauses, passed on from one
+-- What the layers above know of LLX, SCX and VLX besides their clauses, exported from one
 -- place: no other module of these proofs can be named outside. Declares nothing.
 pub use Rattle.prims.proofs.FillsNot.{llx_fills_not, vlx_fills_not}
 pub use Rattle.prims.proofs.LooksNot.{put_looks_not}

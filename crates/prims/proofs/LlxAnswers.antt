@@ -47,7 +47,7 @@ cell_opened lay h n e i = record { in_field = inl early; inside = let a = early 
 pub snapshot_open : (lay : Layout) (h m : History) (n : ℕ) (snap : Snap) → Lawful lay h → Extends h m → IsSnapshot lay h n snap → is_final (log lay m) n ≡ false
 snapshot_open lay h m n snap l e x = open_before lay h m n l e x.not_final
 
--- of a node that is final at the call's begin the answer is that it is finalized
+-- of a node that is final at the call's start the answer is that it is finalized
 pub finalized_at_start : (m : LlxRun) (c : Call) (h : History) (a : Llx) → Lawful c.layout h → Extends h c.start → is_final (log c.layout c.start) m.node.0 ≡ true → LlxAnswers m c h a → (s : ScxNo) × (a ≡ Finalized m.node s)
 finalized_at_start m c h (Snapshot snap) l e f x = absurd (let q = snapshot_open c.layout h c.start m.node.0 snap l e x.0 in cc)
 finalized_at_start m c h (Finalized node s) l e f x = (s, λ i. Finalized record { 0 = x.0 i } s)

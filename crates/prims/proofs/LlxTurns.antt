@@ -29,7 +29,7 @@ use Rattle.prims.specs.declared.llx.LlxRun.{LlxRun}
 use Rattle.prims.specs.declared.llx.LlxAt.{LlxAt}
 use Rattle.prims.specs.declared.llx.LlxAt.TheVariants.{Start, Marked, Info, State, MarkedAgain, Left as AtLeft, Right as AtRight, InfoAgain, StateAgain, LastInfo, LastState}
 
--- what a run of LLX knows at the place where it stands, once its step has told what was found
+-- what a run of LLX knows at its place, once its step has found this
 pub record Knows (allows : Layout → History → ℕ → Type 0) (c : Call) (h : History) (n : ℕ) (at : LlxAt) (found : ℕ) : Type 0 where
   pub opened : IsOpened c.layout h n
   pub since : Extends h c.start
@@ -38,7 +38,7 @@ pub record Knows (allows : Layout → History → ℕ → Type 0) (c : Call) (h 
   pub told : LlxIsTold allows c h n at found
   pub behind : IsBehind h c.start
 
--- a run that stands behind its start and may be called has been told something there
+-- a run that is past its start and may be called has got something there
 pub knows : (allows : Layout → History → ℕ → Type 0) (m : LlxRun) (c : Call) (h : History) (got : Option ℕ) (found : ℕ) (at : LlxAt) → m.at ≡ at → (at ≡ Start → ⊥) → found ≡ unwrap_or got 0 → LlxIsReady allows m c h got → Knows allows c h m.node.0 at found
 knows allows m c h None found at is d e r = absurd (d (sym is ∙ r.told))
 knows allows m c h (Some v) found at is d e r = record { opened = r.opened; since = r.since; quiet = r.quiet; known = rw (sym is) r.known; told = rw (e, sym is) r.told.0; behind = r.told.1 }

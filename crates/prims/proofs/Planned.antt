@@ -14,7 +14,7 @@ use Rattle.prims.proofs.Snapshots.{has_from, has_to}
 use Rattle.prims.specs.declared.snap.Snap.{Snap}
 use Rattle.prims.specs.declared.update.Update.{Update}
 
--- behind the last snapshot none is finalized
+-- after the last snapshot none is finalized
 not_behind : (snaps : List Snap) (nodes : List NodeNo) (j : ℕ) → length snaps ≤ j → finalizes snaps nodes j ≡ false
 not_behind snaps nodes j i = go (ltb j (length snaps)) refl
   where

@@ -46,7 +46,7 @@ scx_begin allows lay c h m l over linked own_scx scx_in_order free own_node u pr
     unfinished (yes e) = e
     unfinished (no d) = absurd (free (finished_taken lay h m.scx.0 l real d))
 
--- with a fresh cell: the next node of the share; what it promises is for the time behind the fill
+-- with a fresh cell: the next node of the share; what it promises is for the time after the fill
 -- of the cell
 pub put_begin : (allows : Layout → History → ℕ → Type 0) (lay : Layout) (c : ℕ) (h : History) (m : ScxRun) → Lawful lay h → IsUpdateOver m.update → AllLinked lay h m.update.snaps → m.at ≡ Start
     → IsOwnScx lay c m.scx.0 → ((t : ℕ) → IsOwnScx lay c t → t < m.scx.0 → IsTakenScx h t) → ¬ IsTakenScx h m.scx.0

@@ -1,4 +1,4 @@
--- Where a run of SCX with a fresh cell stands once an info word names its SCX-record: its words are
+-- What a run of SCX with a fresh cell has once an info word names its SCX-record: its words are
 -- filled, and as soon as it has won there is its entry.
 use Rattle.std.proofs.Common.{◌≡◌, ◌≢◌, ℕ, ◌<◌, length, Some, sym, ◌∙◌, ap, arith}
 use Rattle.arena.specs.declared.layout.Layout.{Layout}

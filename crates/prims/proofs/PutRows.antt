@@ -1,5 +1,5 @@
--- What the rows of an SCX with a fresh cell leave as it was: nodes that nothing mentions, but for
--- its own, and SCX-records that are not taken, but for its own.
+-- What the rows of an SCX with a fresh cell leave as it was: nodes that nothing mentions, except
+-- for its own, and SCX-records that are not taken, except for its own.
 use Rattle.std.proofs.Common.{◌≢◌, ℕ, ◌≤◌, inl, inr, refl, sym, arith, subst, length}
 use Rattle.arena.specs.declared.layout.Layout.{Layout}
 use Rattle.arena.specs.declared.step.Step.{Step}

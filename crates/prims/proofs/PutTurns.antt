@@ -33,7 +33,7 @@ first_way allows m c h x = record {
   free = rw x.begins at x.free;
 }
 
--- what it has been told
+-- what it has got
 
 -- what is known at the start of a run
 pub told_first : (allows : Layout → History → ℕ → Type 0) (m : PutRun) (c : Call) (h : History) (got : Option ℕ) → m.at ≡ Start → PutIsReady allows m c h got → IsFirstPut allows m c h

@@ -89,7 +89,7 @@ module _ (allows : Layout → History → ℕ → Type 0) (c : Call) (h : Histor
   fewer : IsUpdateOver m.update → (j : ℕ) → j < count_of m.update.plan.0 → j < length m.update.snaps
   fewer u j i = rw u.count at i
 
-  -- a place of the plan, or what is behind the last
+  -- a place of the plan, or the one after the last
   next_within : IsUpdateOver m.update → (j : MemberIndex) → member_index j < raw_count m.update.plan.0 → member_index j < length m.update.snaps
   next_within u j i = let a = plan_counted m.update.plan.0 u.planned.some in let b = a.count in fewer u (member_index j) (omega arith)
 
@@ -208,7 +208,7 @@ module _ (allows : Layout → History → ℕ → Type 0) (c : Call) (h : Histor
   pub begin_help : (help : HelpRun) → IsRun allows c.layout h → FillMade allows c h (job_of m) AtCall → help.scx ≡ m.scx → help.at ≡ HelpStart → ScxHelps allows c h m help None
   begin_help help run x e z = record { run = run; ready = (z, inr (rw e (prepared x))); same = e; filled = filled x }
 
--- a run behind its start has been told something, so the word of its place is filled
+-- a run past its start has got something, so the word of its place is filled
 pub made_then : (allows : Layout → History → ℕ → Type 0) (m : ScxRun) (c : Call) (h : History) (got : Option ℕ) (at : ScxAt) → m.at ≡ at → (at ≡ Start → ⊥) → ((v : ℕ) → ScxIsToldAt allows c h (job_of m) at v → FillMade allows c h (job_of m) at) → ScxIsReady allows m c h got → FillMade allows c h (job_of m) at
 made_then allows m c h None at is d f r = absurd (d (sym is ∙ r.0))
 made_then allows m c h (Some v) at is d f r = f v (subst (λ a. ScxIsToldAt allows c h (job_of m) a v) is r)
@@ -248,7 +248,7 @@ module _ (c : Call) (h : History) (m : ScxRun) (help : HelpRun) (l : Lawful c.la
       within : b.index < length m.update.snaps
       within = rw (ap count_of x.planned ∙ x.over.count) at b.within
 
-  -- HELP stands where it has aborted
+  -- HELP is at a place where it has aborted
   lost_with : (now : HelpRun) (at : HelpAt) → now.scx ≡ help.scx → value h (state now.scx.0) ≡ 2 → HasNoted c.pass h (reading now) at → IsLost c h m (blocked_at now.members at).0.0 (blocked_at now.members at).1.0
   lost_with now (AtAbort j found) e a k = lost_by (node_at now.members (member_index j)) found (rw (e, same) at a) (rw (e, same) at k)
   lost_with now _ e a k = absurd k

@@ -103,7 +103,7 @@ share_by_scx allows m call h step left node scx l w next_node next_scx x = share
 abbrev pub less_a_node : Remaining → Remaining
 less_a_node left = record left { next_node = left.next_node + 1; nodes = left.nodes - 1 }
 
--- a node that the share gives is in hand, behind those that are so already
+-- a node that the share gives is in hand, after those that are so already
 pub node_in_hand : (lay : Layout) (h : History) (c : ℕ) (left : Remaining) (node scx : ℕ) → 0 < left.nodes → IsShare lay h c left node scx → IsShare lay h c (less_a_node left) node scx
 node_in_hand lay h c left node scx some x = record {
   from_node = let a = x.from_node in omega arith;

@@ -1,4 +1,4 @@
--- Nodes of a share that are not taken stay so, but for the fresh node of an SCX.
+-- Nodes of a share that are not taken stay so, except for the fresh node of an SCX.
 use Rattle.std.proofs.Common.{◌≡◌, ◌≢◌, ℕ, inl, inr, sym, subst}
 use Rattle.arena.specs.declared.layout.Layout.{Layout}
 use Rattle.arena.specs.declared.word.NodeWord.{NodeWord}

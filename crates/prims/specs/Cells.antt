@@ -1,4 +1,4 @@
--- Cells ask nothing of an SCX-record.
+-- Cells require nothing of an SCX-record.
 use Rattle.std.specs.Prelude.{ℕ}
 use Rattle.arena.specs.declared.layout.Layout.{Layout}
 use Rattle.arena.specs.History.{History}

@@ -46,16 +46,16 @@ AreFinished lay c s h = (t : ℕ) → IsOwnScx lay c t → t ≢ s → IsTakenSc
 abbrev pub HasTakenOnly : Layout → ℕ → ℕ → History → History → Type 0
 HasTakenOnly lay c s start h = (t : ℕ) → IsOwnScx lay c t → t ≢ s → ¬ IsTakenScx start t → ¬ IsTakenScx h t
 
--- another SCX-record, s, has come to the node since the snapshot, by a call of the pass c that
+-- another SCX-record, s, has reached the node since the snapshot, by a call of the pass c that
 -- began at `start`
 pub record IsBlamed (lay : Layout) (c : ℕ) (now start : History) (snap : Snap) (s : ℕ) : Type 0 where
-  -- at some step behind each moment at which the node was as found, it was in progress over the
+  -- at some step after each moment at which the node was as found, it was in progress over the
   -- node
   pub in_the_way : (moment : History) → IsMoment lay now snap moment → WasInTheWay now moment snap.node.0 s
   -- it is another pass's, where this one had left the snapshot alone as its call began
   pub others : IsLeftAlone lay c start snap → IsOthersScx lay c s
 
--- another SCX-record, s, has come to node n, of which one of the snapshots is, since that was taken
+-- another SCX-record, s, has reached node n since the snapshot of it, one of these, was taken
 pub record HasChanged (lay : Layout) (c : ℕ) (kind : Kind) (now start : History) (snaps : List Snap) (n s : ℕ) : Type 0 where
   pub index : ℕ
   pub within : index < length snaps

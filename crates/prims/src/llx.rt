@@ -16,7 +16,7 @@ pub enum Llx {
     /// The node is finalized, by this SCX-record.
     Finalized { node: NodeNo, scx: ScxNo },
     /// Another client's SCX-record was in the way: it was in progress over the node within the
-    /// call, and is finished now. The node was not final at the call's begin.
+    /// call, and is finished now. The node was not final at the call's start.
     Fail { node: NodeNo, scx: ScxNo },
 }
 
@@ -89,7 +89,7 @@ pub enum LlxAt {
 pub struct LlxRun {
     /// The node that is looked at.
     pub node: NodeNo,
-    /// Where the run stands.
+    /// Where the run is.
     pub at: LlxAt,
 }
 
@@ -113,7 +113,7 @@ impl LlxRun {
         }
     }
 
-    /// Asks for a load, and stands there.
+    /// Asks for a load, and is at its place.
     fn ask(&mut self, at: LlxAt, kind: Kind, word: Word) -> Turn<Llx>
         ensures { LlxAsks self.old self.new result at record { kind = kind; word = word; access = Access.Load } }
     {
@@ -217,7 +217,7 @@ impl LlxRun {
         }
     }
 
-    /// Helps the SCX-record that was met, or goes on at once if it is finished.
+    /// Helps the SCX-record that was met, or continues at once if it is finished.
     fn meet<S: Shape>(&mut self, marked: bool, scx: ScxNo, state: u64) -> Turn<Llx>
         ensures node { self.new.node ≡ self.old.node }
         ensures turn { (c : Call) (h : History) → Meets S.allows c h self.old.node.0 marked scx.0 state → LlxTurn S.allows c h self.new result }
@@ -259,7 +259,7 @@ impl LlxRun {
         }
     }
 
-    /// Helps the SCX-record that stands in the info now, and fails.
+    /// Helps the SCX-record that the info names now, and fails.
     fn help_last<S: Shape>(&mut self, scx: ScxNo, mut help: HelpRun, got: Option<u64>) -> Turn<Llx>
         ensures node { self.new.node ≡ self.old.node }
         ensures turn { (c : Call) (h : History) → LlxHelps S.allows c h self.old.node.0 help got

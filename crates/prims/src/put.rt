@@ -22,7 +22,7 @@ pub struct PutRun {
     pub value: u64,
     /// The SCX that puts the cell into its field.
     pub scx: ScxRun,
-    /// Where the run stands.
+    /// Where the run is.
     pub at: PutAt,
 }
 

@@ -11,7 +11,7 @@ pub enum Scx {
     /// The update is made: at one moment of the call each node was as its snapshot found it, and
     /// the field took the fresh node. A later update may have changed the field since.
     Done,
-    /// The update is not made and never will be: another SCX-record has come to this node since its
+    /// The update is not made and never will be: another SCX-record has reached this node since its
     /// snapshot. The node's info named that one, which may have changed the node or aborted.
     Lost { node: NodeNo, scx: ScxNo },
 }
@@ -47,7 +47,7 @@ pub struct ScxRun {
     pub call: u64,
     /// What the SCX is to do.
     pub update: Update,
-    /// Where the run stands.
+    /// Where the run is.
     pub at: ScxAt,
 }
 

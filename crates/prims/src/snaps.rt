@@ -17,13 +17,13 @@ pub trait SnapList {
     fn len(&self) -> usize
         ensures { result ≡ length (list self.now) };
 
-    /// The snapshot at an index, which is blank behind the last.
+    /// The snapshot at an index, which is blank after the last.
     fn get(&self, index: usize) -> Snap
         ensures { result ≡ snap_at (list self.now) index };
 }
 
 /// Up to four snapshots as a plain value, so that an update is copied and passed on as one. Slots
-/// behind the last are blank.
+/// after the last are blank.
 #[derive(Clone, Copy, Debug)]
 pub struct Snaps {
     slots: [Snap; 4],
@@ -65,7 +65,7 @@ impl Snaps {
         }
     }
 
-    /// The snapshot at a place, which is blank behind the last.
+    /// The snapshot at a place, which is blank after the last.
     #[inline(always)]
     pub fn at(&self, place: MemberIndex) -> Snap
         ensures { result ≡ snap_at self.now (member_index place) }
@@ -120,7 +120,7 @@ impl SnapList for &[Snap] {
     }
 }
 
-/// A snapshot of a slice, which is blank behind the last.
+/// A snapshot of a slice, which is blank after the last.
 #[inline(always)]
 fn slot(snaps: &[Snap], index: usize) -> Snap
     ensures { result ≡ snap_at snaps.now index }

@@ -30,7 +30,7 @@ impl Update {
     ghost use Rattle.prims.specs.Snaps.{AreDistinct, IsAmong, ListsNode};
     ghost use Rattle.prims.specs.Updates.{ChangesField};
 
-    /// An update of 1 to 4 snapshots of different nodes, of which the field's node is one. It
+    /// An update of 1 to 4 snapshots of different nodes, one of them the field's node. It
     /// finalizes those that are in `finalize`.
     pub fn new(snaps: &[Snap], finalize: &[NodeNo], field: (NodeNo, Side), fresh: Fresh) -> Update
         requires fits { length snaps.now ≤ 4 }

@@ -9,7 +9,7 @@ use arena::{Access, Kind, Machine, NodeNo, NodeWord, ScxNo, Shape, Step, Turn, W
 pub enum Vlx {
     /// Every node was as its snapshot says as the call began.
     Same,
-    /// Another SCX-record has come to this node since its snapshot: the node's info names it. It
+    /// Another SCX-record has reached this node since its snapshot: the node's info names it. It
     /// may have changed the node, be about to, or have aborted.
     Changed { node: NodeNo, scx: ScxNo },
 }

@@ -1,4 +1,4 @@
--- What has gone out of a report is a beginning of it.
+-- What was written of a report is a beginning of it.
 use Rattle.std.proofs.Common.{◌≡◌, ◌⊎◌, inl, inr, ℕ, List, [], ◌∷◌, Option, refl, reverse, sym}
 use Rattle.texts.specs.Pages.{BeginsWith}
 use Rattle.script.specs.declared.call.Call.{Call}
@@ -19,7 +19,7 @@ unfolding AreMadeWhile
 none_followed calls [] = refl
 none_followed calls (order ∷ orders) = inl record { behind = []; lines = refl; each = tt }
 
--- behind the last one
+-- after the last one
 pub all_followed : (calls : List Call) (orders : List Order) (older newer : List Line) → AreOrdered calls orders older newer → AreFollowedSoFar calls orders older newer
 all_followed calls [] older newer x = x
 all_followed calls (order ∷ orders) older newer x = inr (x.0, x.1, all_followed calls orders x.0 newer x.2)
@@ -28,7 +28,7 @@ all_followed calls (order ∷ orders) older newer x = inr (x.0, x.1, all_followe
 pub report_begins : (old new : Option (List ℕ)) (script : Script) (p : PlayerView) → p.script ≡ script_view script → BeginsWith old new (text_so_far p) → BeginsWith old new (report_text script (reverse p.lines))
 report_begins old new script p same x = part_of_first _ _ _ (text_whole p script (sym same)) old new x
 
--- as a stream stops: where its turns are all told, or in one turn more
+-- as a stream stops: after all its turns, or in one turn more
 pub stopped_begins : (P : Type 0) (old new : Option (List ℕ)) (script : Script) (p : PlayerView) → p.script ≡ script_view script → BeginsWith old new (text_so_far p) ⊎ P → BeginsWith old new (report_text script (reverse p.lines)) ⊎ P
 stopped_begins P old new script p same (inl x) = inl (report_begins old new script p same x)
 stopped_begins P old new script p same (inr x) = inr x

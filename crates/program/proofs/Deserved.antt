@@ -21,7 +21,7 @@ schedule_deserves mode said ordered limits layout calls NoMemory says bad = tt
 schedule_deserves mode said ordered limits layout calls Read says bad = tt
 schedule_deserves mode said ordered limits layout calls (Bad row cause) says bad = (limits, layout, calls, says, bad)
 
--- what is so of a fault is so where that fault is told
+-- what is so of a fault is so if that fault is returned
 pub told : {T : Type 0} (r : Result T Fault) (fault : Fault) (P : Fault → Type 0) → IsErrAnd r (λ e. e ≡ fault) → P fault → IfErr r P
 told (Ok t) fault P is holds = absurd is
 told (Err e) fault P is holds = rw is holds

@@ -11,8 +11,8 @@ use Rattle.program.specs.declared.fault.Fault.{Fault}
 use Rattle.program.specs.declared.fault.Fault.TheVariants.{Usage, BadGate, BadScript, BadSchedule, NotLawful, NoMemory, Read, Write}
 
 -- the text is the report, in a version that can spell them, of some calls and of the lines of a
--- lawful run of theirs, in which each turn was made by the client that its line says. The limits that
--- a row tells are accepted, and the layout of the run is theirs: so it is with every script
+-- lawful run of theirs, in which each turn was made by the client that its line says. The limits
+-- that a row has are accepted, and the layout of the run is theirs: so it is with every script
 -- (`Script`)
 pub record IsReportOfLawfulRun (text : List ℕ) : Type 0 where
   pub script : Script

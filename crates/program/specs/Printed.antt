@@ -18,7 +18,7 @@ use Rattle.player.specs.Followed.{AreFollowedSoFar}
 use Rattle.program.specs.declared.fault.Fault.{Fault}
 use Rattle.program.specs.declared.fault.Fault.TheVariants.{Usage, BadGate, BadScript, BadSchedule, NotLawful, NoMemory, Read, Write}
 
--- of what the two texts say there was a run, and behind the old bytes stands its report
+-- of what the two texts say there was a run, and after the old bytes is its report
 pub record HasPrinted (mode : Mode) (script_text schedule_text : List ℕ) (old new : Option (List ℕ)) : Type 0 where
   pub script : Script
   pub schedule : Schedule
@@ -28,9 +28,9 @@ pub record HasPrinted (mode : Mode) (script_text schedule_text : List ℕ) (old 
   pub run : IsRunOf script schedule lines
   pub text : Appends old new (report_text script lines)
 
--- of what the two texts say there was the beginning of a run, whose turns are those that the schedule
--- means, as far as they go; behind the old bytes stands a beginning of its report, or of that with one
--- turn more of some client, with which they are a lawful run too
+-- of what the two texts say there was the beginning of a run, whose turns are those that the
+-- schedule means, as far as they go; after the old bytes is a beginning of its report, or of that
+-- with one turn more of some client, with which they are a lawful run too
 pub record HasPrintedPart (mode : Mode) (script_text schedule_text : List ℕ) (old new : Option (List ℕ)) : Type 0 where
   pub script : Script
   pub schedule : Schedule

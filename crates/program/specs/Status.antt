@@ -48,7 +48,7 @@ abbrev pub fault_of_write : WriteFault → Fault
 fault_of_write write.NoMemory = NoMemory
 fault_of_write write.Write = Write
 
--- the program's fault where a report that is written while it is played did not go on
+-- the program's fault if a report that is written while it is played was not continued
 abbrev pub fault_of_stream : StreamFault → Fault
 fault_of_stream stream.NoMemory = NoMemory
 fault_of_stream stream.Write = Write

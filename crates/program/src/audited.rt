@@ -20,11 +20,11 @@ pub fn audit_over<R: Read, O: Write, E: Write>(
     out: &mut Metered<O>,
     err: &mut E,
 ) -> u8
-    // Of a reader that tells its bytes.
+    // Of a reader whose bytes are known.
     ensures lawful { (told : List ℕ) → R.remaining report.old.inner ≡ Some told → result ≡ 0 → IsReportOfLawfulRun told }
     ensures deserved { (told : List ℕ) → R.remaining report.old.inner ≡ Some told → result ≡ 1 → (row : ℕ) × IsRefusedFor told row }
 
-    // 4 exactly where a read or a write failed, as their counts tell while they can rise.
+    // 4 exactly if a read or a write failed, as their counts say while they can rise.
     ensures failed { CanRise report.old.failures → CanRise out.old.failures →
         result ≡ 4 ↔ ((report.new.failures ≢ report.old.failures) ⊎ (out.new.failures ≢ out.old.failures)) }
 

@@ -55,8 +55,8 @@ impl Fault {
         }
     }
 
-    /// Tells it in a line, and answers its status. Where the line cannot be written, the status
-    /// alone tells it.
+    /// Reports it in a line, and answers its status. If the line cannot be written, the status
+    /// alone reports it.
     pub fn print<E: Write>(self, err: &mut E) -> u8
         ensures { result ≡ status_of self }
     {

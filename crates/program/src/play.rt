@@ -24,7 +24,7 @@ pub fn play_over<S: Read, T: Read, O: Write, E: Write>(
     out: &mut Metered<O>,
     err: &mut E,
 ) -> u8
-    // Of readers that tell their bytes: what is printed, and why a text is refused.
+    // Of readers whose bytes are known: what is printed, and why a text is refused.
     ensures printed { (said ordered : List ℕ) →
         S.remaining script.old.inner ≡ Some said → T.remaining schedule.old.inner ≡ Some ordered →
         result ≡ 0 → HasPrinted mode said ordered (O.contents out.old.inner) (O.contents out.new.inner) }
@@ -37,7 +37,7 @@ pub fn play_over<S: Read, T: Read, O: Write, E: Write>(
         S.remaining script.old.inner ≡ Some said → T.remaining schedule.old.inner ≡ Some ordered →
         result ≢ 0 → (out.new ≡ out.old) ⊎ HasPrintedPart mode said ordered (O.contents out.old.inner) (O.contents out.new.inner) }
 
-    // 4 exactly where a read or a write failed, as their counts tell while they can rise.
+    // 4 exactly if a read or a write failed, as their counts say while they can rise.
     ensures failed { CanRise script.old.failures → CanRise schedule.old.failures → CanRise out.old.failures →
         result ≡ 4 ↔ ((script.new.failures ≢ script.old.failures)
         ⊎ (schedule.new.failures ≢ schedule.old.failures) ⊎ (out.new.failures ≢ out.old.failures)) }

@@ -29,13 +29,13 @@ pub fn run_over<R: Threads + Wait + Sync, S: Read, O: Write, E: Write>(
     out: &mut Metered<O>,
     err: &mut E,
 ) -> u8
-    // Of a reader that tells its bytes: what is printed, and why a text is refused.
+    // Of a reader whose bytes are known: what is printed, and why a text is refused.
     ensures printed { (said : List ℕ) → S.remaining script.old.inner ≡ Some said →
         result ≡ 0 → HasPrintedRun said (O.contents out.old.inner) (O.contents out.new.inner) }
     ensures deserved { (said : List ℕ) → S.remaining script.old.inner ≡ Some said →
         result ≡ 1 → (fault : Fault) × (status_of fault ≡ 1) × IsDeservedWithThreads gate.now said fault }
 
-    // 4 exactly where a read or a write failed, as their counts tell while they can rise.
+    // 4 exactly if a read or a write failed, as their counts say while they can rise.
     ensures failed { CanRise script.old.failures → CanRise out.old.failures →
         result ≡ 4 ↔ ((script.new.failures ≢ script.old.failures) ⊎ (out.new.failures ≢ out.old.failures)) }
 

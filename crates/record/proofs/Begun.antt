@@ -29,7 +29,7 @@ start_unbegun mode (ReplyLine reply ∷ lines) c e = go (eqb reply.client.0 c) e
     go true d f = refl
     go false d f = f d
 
--- a turn without a step of another client leaves the begin
+-- a turn without a step of another client leaves the start
 pub start_kept : (mode : Mode) (lines : List Line) (c : ℕ) → cond (is_some (begin lines c)) (start mode lines c) (history mode lines) ≡ start mode lines c
 start_kept mode lines c = go (begin lines c) refl
   where

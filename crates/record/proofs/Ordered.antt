@@ -155,7 +155,7 @@ right_other calls answers r es (Read m q ∷ xs) t a = go (eqb r.client.0 q.clie
     go true e u rest = none_left (times r.client.0 r.call xs) u
     go false e u rest = (record { silent = a.0.silent; replies = rw e a.0.replies; answered = rw e a.0.answered }, rest u)
 
--- the entries behind that of call j of client c
+-- the entries after that of call j of client c
 abbrev behind : ℕ → ℕ → List Entry → List Entry
 behind c j [] = []
 behind c j (e ∷ es) = cond (is_of_call c j e) es (behind c j es)
@@ -203,7 +203,7 @@ right_own calls answers r es (Read m q ∷ xs) n t x a = go (eqb r.client.0 q.cl
     go true e u rest = unread calls answers r.client.0 r.call q (map_of calls es) e n a.0
     go false e u rest = (record { silent = a.0.silent; replies = rw e a.0.replies; answered = rw e a.0.answered }, rest u)
 
--- a call that is not answered stands among the events as often as it has entries
+-- a call that is not answered is among the events as many times as it has entries
 pub counted : (calls : List Call) (answers : ℕ → ℕ → Option Answer) (c j : ℕ) (es : List Entry) (xs : List Event) → answers c j ≡ None → AreRight calls answers es xs → entries_of_call c j (onto es xs) ≡ times c j xs + entries_of_call c j es
 counted calls answers c j es [] n a = omega arith
 counted calls answers c j es (Change e ∷ xs) n a = counted calls answers c j (e ∷ es) xs n a.1 ∙ go (eqb c e.client.0 && eqb j e.call)
@@ -302,7 +302,7 @@ places_more (ReplyLine r ∷ lines) x xs n a = go (eqb r.client.0 (event_client 
 -- What the lines say one by one
 
 -- An entry is of a call of the map that is not answered and has no other; no other call of its
--- client is entered and not answered; all that was placed before stands before its turn.
+-- client is entered and not answered; all that was placed before is before its turn.
 pub record IsOrderlyEntry (calls : List Call) (lines : List Line) (e : Entry) : Type 0 where
   pub call : MapCall
   pub is : map_call_of calls e.client.0 e.call ≡ Some call
@@ -335,14 +335,14 @@ pub record IsKept (calls : List Call) (lines : List Line) (xs : List Event) : Ty
   pub one : (c j : ℕ) → times c j xs ≤ 1
   pub few : (c : ℕ) → unanswered (answer_to lines) c xs ≤ 1
 
--- a call that is not answered stands there as often as it has entries
+-- a call that is not answered is there as many times as it has entries
 stands_as_entered : (calls : List Call) (lines : List Line) (c j n : ℕ) (xs : List Event) → IsKept calls lines xs → answer_to lines c j ≡ None → entries_of_call c j (written_log lines) ≡ n → times c j xs ≡ n
 stands_as_entered calls lines c j n xs k none e =
     let i : entries_of_call c j (onto [] xs) ≡ n = ap (entries_of_call c j) k.logged ∙ e in
     let m = counted calls (answer_to lines) c j [] xs none k.right in
     omega (i, m, arith)
 
--- the entries behind that of a call which has one: those that the lines behind it have
+-- the entries after that of a call which has one: those that the lines after it have
 behind_entry : (c j : ℕ) (e : Entry) (newer older : List Line) → e.client.0 ≡ c → e.call ≡ j → entries_of_call c j (written_log (newer ++ Log e ∷ older)) ≡ 1 → behind c j (written_log (newer ++ Log e ∷ older)) ≡ written_log older
 behind_entry c j e [] older i k n =
     let p = eq-eqb c e.client.0 (sym i) in
@@ -369,7 +369,7 @@ behind_entry c j e (Log d ∷ newer) older i k n = go (eqb c d.client.0 && eqb j
     go true u rest = let v = some newer in absurd (omega (u, v, arith))
     go false u rest = rest u
 
--- an answered call stands there as often as it has to, and its answer is known
+-- an answered call is there as many times as it has to, and its answer is known
 answer_keeps : (calls : List Call) (lines : List Line) (r : Finished) (xs : List Event) → IsKept calls lines xs → AreRight calls (answer_to (ReplyLine r ∷ lines)) [] xs → times r.client.0 r.call xs ≡ times_due (reply_told r.answer) → IsKept calls (ReplyLine r ∷ lines) xs
 answer_keeps calls lines r xs k a t = record {
   right = a;
@@ -380,7 +380,7 @@ answer_keeps calls lines r xs k a t = record {
   few = λ c. let i = k.few c in let j = fewer (answer_to lines) r c xs in omega (i, j, arith);
 }
 
--- with a call that stood nowhere, each still stands once at most
+-- with a call that was nowhere, each still is there once at most
 one_more : (c j client call : ℕ) (xs : List Event) → times client call xs ≡ 0 → (b : Bool) → (eqb c client && eqb j call) ≡ b → times c j xs ≤ 1 → cond b (suc (times c j xs)) (times c j xs) ≤ 1
 one_more c j client call xs absent true i u =
     let p = and_parts (eqb c client) (eqb j call) i in

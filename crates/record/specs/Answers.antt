@@ -16,7 +16,7 @@ use Rattle.record.specs.declared.record.Answer.{Answer}
 use Rattle.record.specs.Turns.{won}
 use Rattle.record.specs.declared.record.Answer.TheVariants.{Snapshot, Finalized, Done, Same}
 
--- where an answered call of cells took place: an LLX that told something in its last turn, a VLX
+-- where an answered call of cells took place: an LLX that says something in its last turn, a VLX
 -- that found its cells as they were in its first, an SCX that is done in the turn of its entry; all
 -- others took place nowhere
 abbrev pub moment_of : Answer → ℕ → ℕ → Option ℕ → Option ℕ
@@ -51,23 +51,23 @@ IsAsSnapped lay at linked n = (moment : History) × (linked n ≡ Some moment) �
 abbrev pub AreUnchanged : Layout → History → (ℕ → Option History) → List ℕ → Type 0
 AreUnchanged lay at linked cells = (n : ℕ) → Contains cells n → IsAsSnapped lay at linked n
 
--- another client's SCX-record has come to one of the cells since the snapshot of it
+-- another client's SCX-record has reached one of the cells since the snapshot of it
 pub record IsInTheWay (lay : Layout) (c : ℕ) (now start : History) (kind : Kind) (cells : List ℕ) (node scx : ℕ) (IsMoment : History → Type 0) : Type 0 where
   pub among : Contains cells node
   -- the moment of the cell's snapshot
   pub moment : History
   pub of_snapshot : IsMoment moment
-  -- the SCX-record was in progress over the cell at some step behind that moment
+  -- the SCX-record was in progress over the cell at some step after that moment
   pub way : WasInTheWay now moment node scx
   -- the last step of this kind in the call has found it in the cell's info
   pub found : HasFound c now start kind node scx
   pub others : IsOthersScx lay c scx
 
--- since the call's begin another client's SCX-record was in progress over this node
+-- since the call's start another client's SCX-record was in progress over this node
 abbrev pub WasBlockedBy : Layout → ℕ → History → History → ℕ → ℕ → Type 0
 WasBlockedBy lay c now start node scx = IsOthersScx lay c scx × WasInTheWay now start node scx
 
--- the call has lost all its tries: since its begin the client has begun so many, and in the newest
+-- the call has lost all its tries: since its start the client has begun `tries`, and in the newest
 -- of them another client's SCX-record was in progress over this node
 abbrev pub HasLostAllTries : Layout → ℕ → ℕ → History → History → ℕ → ℕ → Type 0
 HasLostAllTries lay tries c now start node scx = IsOthersScx lay c scx × HasLostTries c now start tries node scx

@@ -28,13 +28,13 @@ rules (Vlx cells) = vlx_rules cells
 rules (Set field value) = set_rules field value
 rules (Map request) = map_rules (map_request request)
 
--- how many steps a call may make, where it may try so often, while so many nodes are taken, by any
--- client; those of cells make no more where nodes are taken
+-- how many steps a call may make, by how many tries it may make and how many nodes are taken, by
+-- any client; those of cells make no more if nodes are taken
 abbrev pub command_steps : Command → ℕ → ℕ → ℕ
 command_steps command = (rules command).most_steps
 
--- since its begin the call of client c, which may try so often, has taken no more of the client's
--- share than it may
+-- since its start the call of client c, which may make `tries` tries, has taken no more of the
+-- client's share than it may
 abbrev pub HasTakenFew : Layout → ℕ → ℕ → History → History → Command → Type 0
 HasTakenFew lay tries c now start command = HasTakenAtMost lay c now start ((rules command).most_scx tries) (rules command).nodes_each
 
@@ -59,8 +59,8 @@ abbrev pub linked_then : Option Command → Answer → History → ℕ → Optio
 linked_then None answer now n old = old
 linked_then (Some command) answer now n old = (rules command).linked_then answer now n old
 
--- the answer to a call of client c, which may try so often, is right: it is true of the steps up to
--- the call's begin and of those up to now, with the snapshots that the client keeps
+-- the answer to a call of client c, which may make `tries` tries, is right: it is true of the steps
+-- up to the call's start and of those up to now, with the snapshots that the client keeps
 abbrev pub IsRight : Layout → ℕ → ℕ → History → History → (ℕ → Option History) → Command → Answer → Type 0
 IsRight lay tries c now start linked command = (rules command).IsRight lay tries c now start linked
 

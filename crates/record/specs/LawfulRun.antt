@@ -16,7 +16,7 @@ use Rattle.record.specs.Steps.{IsTurn}
 use Rattle.record.specs.SpelledMap.{AreSpelled}
 use Rattle.record.specs.Legal.{IsLegal}
 
--- nothing has to stand behind the newest line: neither an entry nor a reply
+-- the newest line need not be followed by anything: neither an entry nor a reply
 pub record OwesNothing (lay : Layout) (calls : List Call) (lines : List Line) : Type 0 where
   pub entry : entry_owed lay lines ≡ None
   pub reply : ¬ IsReplyOwed calls lines
@@ -33,14 +33,14 @@ unfoldable pub AreLines : Layout → ℕ → List Call → List Line → Type 0
 AreLines lay tries calls [] = Unit {0}
 AreLines lay tries calls (line ∷ lines) = AreLines lay tries calls lines × IsNext lay tries calls lines line
 
--- what is said of the run of a mode beside its lines: on the tree the words spell the map so far
+-- what is said of the run of a mode besides its lines: on the tree the words spell the map so far
 -- after every step, and all replies are those of one map
 abbrev pub IsWhole : Mode → Layout → List Call → List Line → Type 0
 IsWhole Tree lay calls lines = AreSpelled lay calls lines × IsLegal calls lines
 IsWhole Records lay calls lines = Unit {0}
 
 -- The main statement: the lines, the first in front, are a lawful run of the calls, in which turn i
--- was made by the i-th of these clients, and each call may try so often. That the steps are a
+-- was made by the i-th of these clients, and each call may make `tries` tries. That the steps are a
 -- lawful history is said of each step in `in_order`, and once more of all in `lawful`.
 pub record IsLawfulRun (lay : Layout) (tries : ℕ) (calls : List Call) (passes : List ℕ) (lines : List Line) : Type 0 where
   pub turns : clients (reverse lines) ≡ reverse passes

@@ -1,5 +1,5 @@
 -- What the lines of a record say of the map: its calls, the log, the map after each turn. Lines
--- stand here with the newest first.
+-- have the newest first here.
 use Rattle.std.specs.Prelude.{ℕ, suc, Bool, if◌then◌else◌, ◌&&◌, ◌==◌, nat_le, List, [], ◌∷◌, map, Option, Some, None, slice_get}
 use Rattle.ordered_map.specs.declared.pair.Pair.{Pair}
 use Rattle.ordered_map.specs.OrderedMap.{MapCall, MapReply, after}
@@ -28,7 +28,7 @@ map_call_of calls c j = map_call (slice_get (commands calls c) j)
 abbrev pub number_pairs : List (ℕ × ℕ) → List Pair
 number_pairs = map (word_pair (λ n. n) (λ n. n))
 
--- what an answer tells of the map; a refusal tells nothing, nor does an answer of cells
+-- what an answer says of the map; a refusal says nothing, nor does an answer of cells
 abbrev pub reply_told : Answer → Option MapReply
 reply_told (MapAnswer reply) = number_reply reply
 reply_told _ = None

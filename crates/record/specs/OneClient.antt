@@ -20,11 +20,11 @@ abbrev pub AwaitsReply : List Call → ℕ → List Line → List Line → Type 
 AwaitsReply calls c older lines = HasCall calls c lines × (answered lines c ≡ answered older c)
 
 -- the client has a call that is not answered, and has not made so
--- many more steps of the kind since the older lines
+-- that many more steps of the kind since the older lines
 abbrev pub AwaitsSteps : List Call → ℕ → Kind → ℕ → List Line → List Line → Type 0
 AwaitsSteps calls c kind times older lines = HasCall calls c lines × (made lines c kind < made older c kind + times)
 
--- the lines behind the older ones are turns of this client, each with the entry or reply behind it,
+-- the lines after the older ones are turns of this client, each with its entry or reply after it,
 -- and each was made where `so` held of the lines before it
 unfoldable pub AreMadeWhile : (List Line → Type 0) → ℕ → List Line → List Line → Type 0
 AreMadeWhile so c older [] = Unit {0}

@@ -1,4 +1,4 @@
--- Where a call of the map stands in the record, and what its reply says there.
+-- Where a call of the map is in the record, and what its reply says there.
 use Rattle.std.specs.Prelude.{◌≡◌, ℕ, ◌<◌, ◌≤◌, List, ◌∷◌, ◌++◌, Bool, true, false, Option, Some, None}
 use Rattle.ordered_map.specs.OrderedMap.{MapCall, MapReply, reply, changes_map}
 use Rattle.script.specs.declared.call.Call.{Call}
@@ -8,14 +8,14 @@ use Rattle.record.specs.declared.record.Entry.{Entry}
 use Rattle.record.specs.declared.record.Finished.{Finished}
 use Rattle.record.specs.MapRecord.{reply_told, written_log, entries_of_call, map_of, map_at}
 
--- m is the greatest turn from `first` to `last` of which P holds
+-- m is the greatest turn from `first` to `last` for which P holds
 pub record IsGreatestTurn (P : ℕ → Type 0) (first last m : ℕ) : Type 0 where
   pub from : first ≤ m
   pub to : m ≤ last
   pub holds : P m
   pub none_later : (n : ℕ) → m < n → n ≤ last → ¬ P n
 
--- A changing call has one entry. Its moment is the entry's turn, and it tells what the map just
+-- A changing call has one entry. Its moment is the entry's turn, and it answers what the map just
 -- before that entry replies.
 pub record IsPlacedChange (calls : List Call) (lines : List Line) (call : MapCall) (r : Finished) : Type 0 where
   pub entry : Entry
@@ -41,12 +41,12 @@ pub record IsRefused (lines : List Line) (r : Finished) : Type 0 where
   pub none : entries_of_call r.client.0 r.call (written_log lines) ≡ 0
   pub moment : r.moment ≡ None
 
--- A call that tells something has changed the map, or read it.
+-- A call that says something has changed the map, or read it.
 abbrev pub IsPlacedChangeOrReading : Bool → List Call → List Line → MapCall → Finished → Type 0
 IsPlacedChangeOrReading true calls lines call r = IsPlacedChange calls lines call r
 IsPlacedChangeOrReading false calls lines call r = IsPlacedReading calls lines call r
 
--- where a call of the map took place, by what it tells
+-- where a call of the map took place, by what it answers
 abbrev pub IsPlacedOnMap : Option MapReply → List Call → List Line → MapCall → Finished → Type 0
 IsPlacedOnMap (Some told) calls lines call r = IsPlacedChangeOrReading (changes_map call told) calls lines call r
 IsPlacedOnMap None calls lines call r = IsRefused lines r

@@ -7,7 +7,7 @@ use Rattle.ordered_map.specs.declared.pair.Pair.{Pair}
 use Rattle.ordered_map.specs.OrderedMap.{MapCall, MapReply, reply}
 use Rattle.ordered_map.specs.Spelled.{Spells}
 
--- after some row behind the call's begin, the map that the words spelled replied this to the call
+-- after some row since the call's start, the map that the words spelled replied this to the call
 pub record HasReplied (lay : Layout) (now start : History) (call : MapCall) (told : MapReply) : Type 0 where
   pub row : Row
   pub before : History

@@ -26,7 +26,7 @@ IsFitting (Step (Idle number client) ∷ lines) command answer = MayAnswerAtOnce
 IsFitting lines command answer = MayAnswerAfterStep command answer
 
 -- the reply to the next call of the client that made the newest turn, which is the call's last; a
--- call may try so often
+-- call may make `tries` tries
 pub record IsReply (lay : Layout) (tries : ℕ) (calls : List Call) (lines : List Line) (reply : Finished) : Type 0 where
   pub client : last_client lines ≡ Some reply.client.0
   pub call : reply.call ≡ answered lines reply.client.0

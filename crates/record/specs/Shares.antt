@@ -8,7 +8,7 @@ use Rattle.arena.specs.History.{History}
 use Rattle.arena.specs.Fills.{IsOwnNode, IsOwnScx, IsTakenNode, IsTakenScx}
 use Rattle.record.specs.Answers.{WasBlockedBy}
 
--- n is one of so many numbers that follow one another, from `first` on
+-- n is one of this many numbers that follow one another, from `first` on
 abbrev pub IsInRow : ℕ → ℕ → ℕ → Type 0
 IsInRow first many n = (first ≤ n) × (n < first + many)
 
@@ -24,38 +24,38 @@ pub record IsScxTakenSince (lay : Layout) (c : ℕ) (now start : History) (s : �
   pub not_then : ¬ IsTakenScx start s
   pub taken : IsTakenScx now s
 
--- since `start` the client has taken at most so many SCX-records of its share, and for each that it
--- has taken at most so many nodes
+-- since `start` the client has taken at most `most_scx` SCX-records of its share, and for each that
+-- it has taken at most `nodes_each` nodes
 pub record HasTakenAtMost (lay : Layout) (c : ℕ) (now start : History) (most_scx nodes_each : ℕ) : Type 0 where
-  -- it has taken just so many SCX-records, which follow one another
+  -- it has taken just this many SCX-records, which follow one another
   pub many : ℕ
   pub few : many ≤ most_scx
   pub lowest_scx : ℕ
   pub scx_records : (s : ℕ) → IsScxTakenSince lay c now start s ↔ IsInRow lowest_scx many s
-  -- each node that it has taken is one of so many for each of them, which follow one another
+  -- each node that it has taken is one of this many for each of them, which follow one another
   pub lowest_node : ℕ
   pub nodes : (n : ℕ) → IsNodeTakenSince lay c now start n → IsInRow lowest_node (nodes_each * many) n
 
--- so many nodes are left of the client's share: the last ones, which are not taken, while all
+-- this many nodes are left of the client's share: the last ones, which are not taken, while all
 -- before them are
 pub record HasNodesLeft (lay : Layout) (c : ℕ) (now : History) (left : ℕ) : Type 0 where
   pub within : left ≤ lay.nodes
   pub taken : (n : ℕ) → IsOwnNode lay c n → n + left < first_node lay c + lay.nodes → IsTakenNode now n
   pub untaken : (n : ℕ) → IsOwnNode lay c n → first_node lay c + lay.nodes ≤ n + left → ¬ IsTakenNode now n
 
--- so many SCX-records are left of it
+-- this many SCX-records are left of it
 pub record HasScxLeft (lay : Layout) (c : ℕ) (now : History) (left : ℕ) : Type 0 where
   pub within : left ≤ lay.scx
   pub taken : (s : ℕ) → IsOwnScx lay c s → s + left < first_scx lay c + lay.scx → IsTakenScx now s
   pub untaken : (s : ℕ) → IsOwnScx lay c s → first_scx lay c + lay.scx ≤ s + left → ¬ IsTakenScx now s
 
--- The client's share has too little for an update that needs so many nodes and an SCX-record: so
--- many nodes are left, which are too few; or some node is left, and no SCX-record.
+-- The client's share has too little for an update that needs this many nodes and an SCX-record: the
+-- nodes left are too few; or some node is left, and no SCX-record. The last number is what is left.
 abbrev pub HasTooFew : Layout → ℕ → History → ℕ → Resource → ℕ → Type 0
 HasTooFew lay c now needed Nodes left = (left < needed) × HasNodesLeft lay c now left
 HasTooFew lay c now needed ScxRecords left = (left ≡ 0) × HasScxLeft lay c now left × ((nodes : ℕ) × (0 < nodes) × HasNodesLeft lay c now nodes)
 
--- since the call's begin another client's SCX-record was in progress over some node
+-- since the call's start another client's SCX-record was in progress over some node
 abbrev pub WasBlocked : Layout → ℕ → History → History → Type 0
 WasBlocked lay c now start = (node : ℕ) × (scx : ℕ) × WasBlockedBy lay c now start node scx
 

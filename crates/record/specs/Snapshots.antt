@@ -26,7 +26,7 @@ pub record IsBehindAll (P : ℕ → Type 0) (cells : List ℕ) (node : ℕ) : Ty
   pub is : slice_get cells place ≡ Some node
   pub before : (i : ℕ) → i < place → P (slice_index_or cells i 0)
 
--- this is the first of the cells of which the client keeps no snapshot
+-- this is the first of the cells without a kept snapshot
 abbrev pub IsFirstUnlinked : (ℕ → Option History) → List ℕ → ℕ → Type 0
 IsFirstUnlinked linked cells node = (linked node ≡ None) × IsBehindAll (λ n. IsSome (linked n)) cells node
 

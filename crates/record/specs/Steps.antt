@@ -21,7 +21,7 @@ abbrev pub SaysItsCall : StepRow → Type 0
 SaysItsCall row = (s : ℕ) → row.kind ≡ Fill → row.word ≡ scx s CallWord → row.after ≡ row.call
 
 -- a turn that makes a lawful step, in the client's next call, which may make one more and of this
--- kind; a call may try so often
+-- kind; a call may make `tries` tries
 pub record IsStep (lay : Layout) (tries : ℕ) (calls : List Call) (lines : List Line) (number : ℕ) (row : StepRow) : Type 0 where
   pub in_turn : number ≡ suc (turns lines)
   pub lawful : IsLawful lay (history lay.mode lines) row

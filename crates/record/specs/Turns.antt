@@ -1,4 +1,4 @@
--- What the lines of a run say. Lines stand here with the newest first.
+-- What the lines of a run say. Lines have the newest first here.
 use Rattle.std.specs.Prelude.{ℕ, suc, Bool, true, false, if◌then◌else◌, ◌&&◌, ◌||◌, ◌==◌, not, List, [], ◌∷◌, Option, Some, None, unwrap_or, is_some}
 use Rattle.arena.specs.declared.limits.Mode.{Mode}
 use Rattle.arena.specs.declared.layout.Layout.{Layout}
@@ -33,7 +33,7 @@ abbrev pub kind_of : TurnRow → Option Kind
 kind_of (Made number row) = Some row.kind
 kind_of (Idle number client) = None
 
--- the place of a kind among all, by which kinds are told apart
+-- the place of a kind among all, which differs for different kinds
 abbrev pub kind_place : Kind → ℕ
 kind_place Fill = 0
 kind_place LoadSettled = 1
@@ -101,7 +101,7 @@ begin (Step row ∷ lines) c =
 begin (Log entry ∷ lines) c = begin lines c
 begin (Reply reply ∷ lines) c = if reply.client.0 == c then None else begin lines c
 
--- the steps up to the begin of the client's call, which is its first turn since
+-- the steps up to the start of the client's call, which is its first turn since
 -- its last reply; all of them if it has made none
 abbrev pub start : Mode → List Line → ℕ → History
 start mode [] c = Start mode
@@ -167,7 +167,7 @@ entry_of lay lines number row =
     then entry_at lay (history lay.mode lines) (suc (entries lines)) number row.word
     else None
 
--- the entry that has to stand behind the newest line
+-- the entry that has to follow the newest line
 abbrev pub entry_owed : Layout → List Line → Option Entry
 entry_owed lay (Step (Made number row) ∷ lines) = entry_of lay lines number row
 entry_owed lay _ = None

@@ -1,4 +1,4 @@
-//! What a run leaves behind, and when it is a lawful run of a script: the main statement.
+//! What a run leaves, and when it is a lawful run of a script: the main statement.
 #![tactic(auto)]
 
 mod record;

@@ -1,4 +1,4 @@
-//! What a run leaves behind.
+//! What a run leaves.
 use arena::{Kind, NodeNo, PassNo, Resource, ScxNo};
 use ordered_map::Reply;
 use script::Script;
@@ -17,7 +17,7 @@ pub enum Line {
     Step(TurnRow),
     /// The update that the turn before it has won.
     Log(Entry),
-    /// The answer to the call whose last turn stands before it.
+    /// The answer to the call whose last turn is before it.
     Reply(Finished),
 }
 
@@ -85,7 +85,7 @@ pub struct Finished {
     pub begin: u64,
     /// The number of its last turn.
     pub end: u64,
-    /// The number of the turn at which it took place. None where the call changed and told nothing:
+    /// The number of the turn at which it took place. None if the call changed and says nothing:
     /// it was refused, failed, lost, or not all its cells were as found.
     pub moment: Option<u64>,
     pub answer: Answer,
@@ -104,27 +104,27 @@ pub enum Answer {
     Fail { node: NodeNo, scx: ScxNo },
     /// `scx`, `set`: the update is in the log, once, as asked.
     Done,
-    /// `scx`, `set`: the update was not made and never will be; `scx` has come to the cell `node`
+    /// `scx`, `set`: the update was not made and never will be; `scx` has reached the cell `node`
     /// since its snapshot, as the call's last freeze has found.
     Lost { node: NodeNo, scx: ScxNo },
-    /// `vlx`: at the call's begin each cell was as its snapshot found it.
+    /// `vlx`: at the call's start each cell was as its snapshot found it.
     Same,
-    /// `vlx`: `scx` has come to the cell `node` since its snapshot, as the call's last load of an
+    /// `vlx`: `scx` has reached the cell `node` since its snapshot, as the call's last load of an
     /// info has found; it may have changed the cell or not.
     Changed { node: NodeNo, scx: ScxNo },
     /// `scx`, `vlx`: the client keeps no snapshot of this cell, the first such.
     Unlinked { node: NodeNo },
-    /// A call of the map, by what it replies. One with an entry tells what the map had just before
-    /// its moment, all others what it has at it. `get`, `insert`, `delete`, `replace_if`: `Value`,
-    /// the value of its key, if the key has one; a `delete` that tells none has changed nothing, nor
-    /// has a `replace_if` that tells another value than it expects, or none. `pop_first`: `Pair`,
-    /// the pair with the least key, if there is one; where it tells none it has changed nothing.
+    /// A call of the map, by what it replies. One with an entry answers what the map had just
+    /// before its moment, all others what it has at it. `get` and the edits of a key: `Value`,
+    /// the value of its key, if the key has one; an `insert_new` that answers a value has changed
+    /// nothing, nor has a `delete` that answers none, nor a `replace_if` or `delete_if` that
+    /// answers another value than it expects, or none. `pop_first`, `pop_last`: `Pair`, the pair
     /// `successor`, `predecessor`: `Pair`, the pair with the next key above its own, or below, if there
     /// is one. `range`:
-    /// `Pairs`, the first pairs between its keys, by rising key. All but `get`: `Contended`, all its
-    /// tries were lost, and in the last of them `scx` was in progress over the node `node` of the
-    /// tree; an edit was not made and never will be. `insert`, `delete`, `pop_first`, `replace_if`:
-    /// `Full`, so many of the resource are left in the client's share, too few for the call.
+    /// answer none. `range`: `Pairs`, the first pairs between its keys, by rising key. All but
+    /// `get`: `Contended`, all its tries were lost, and in the last of them `scx` was in progress
+    /// over the node `node` of the tree; an edit was not made and never will be. Edits: `Full`,
+    /// this much of the resource is left in the client's share, too little for the call.
     /// `successor`, `predecessor`, `range`: `NoMemory`, an allocation was refused.
     Map(Reply<u64, u128>),
     /// `scx`, `set`: `left` of the resource are left in the client's share, too few for the call.

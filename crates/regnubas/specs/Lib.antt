@@ -1,4 +1,4 @@
--- What the contracts of the crate's items cite, passed on from one place.
+-- What the contracts of the crate's items cite, exported from one place.
 pub mod Types
 pub mod Versions
 pub use Rattle.arena.specs.History

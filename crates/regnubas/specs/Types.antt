@@ -1,4 +1,4 @@
--- The types that contracts name, passed on from one place. Declares nothing.
+-- The types that contracts name, exported from one place. Declares nothing.
 pub use Rattle.arena.specs.declared.layout.Layout.{Layout}
 pub use Rattle.arena.specs.declared.limits.Mode.{Mode}
 pub use Rattle.arena.specs.declared.limits.Mode.TheVariants.{Tree, Records}

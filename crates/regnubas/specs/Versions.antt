@@ -1,5 +1,5 @@
--- What follows from several calls of a dictionary together: where no pass has made an entry, the map
--- is the same.
+-- What follows from several calls of a dictionary together: where no pass has made an entry, the
+-- map is the same.
 use Rattle.std.specs.Prelude.{◌≡◌, ◌<◌, ℕ, List}
 use Rattle.arena.specs.declared.layout.Layout.{Layout}
 use Rattle.arena.specs.declared.limits.Mode.TheVariants.{Tree}
@@ -21,13 +21,13 @@ EntersNothing lay c later before = entries_of c (log lay later) ≡ entries_of c
 
 -- what a caller may conclude of a dictionary, whose calls say of a run what it allows
 pub record VersionLaws (allows : Layout → History → ℕ → Type 0) : Type 0 where
-  -- its run is one of the tree, of which `laws_hold` speaks
+  -- its run is one of the tree, as in `laws_hold`
   pub runs : (lay : Layout) (h : History) → lay.mode ≡ Tree → IsRun allows lay h → IsTreeRun lay h
-  -- a call that has changed the map has made no entry behind its own
+  -- a call that has changed the map has made no entry after its own
   pub newest : (old new : PassView) (call : MapCall) (told : MapReply) (edit : MapEdit) → Lawful new.layout (run_of new) → IsLaterView old new
       → (c : IsChange old new call told edit) → EntersNothing new.layout new.number (run_of new) (c.row ⊳ c.before)
-  -- a pass that has made no entry between two moments has made none from the first to a moment between
-  -- them, nor from there to the second
+  -- a pass that has made no entry between two moments has made none from the first to a moment
+  -- between them, nor from there to the second
   pub earlier : (lay : Layout) (c : ℕ) (h moment before : History) → Lawful lay h → Extends h moment → Extends moment before
       → EntersNothing lay c h before → EntersNothing lay c moment before
   pub later : (lay : Layout) (c : ℕ) (h moment before : History) → Lawful lay h → Extends h moment → Extends moment before

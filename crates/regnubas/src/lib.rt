@@ -1,5 +1,5 @@
-//! An ordered dictionary that many threads read and change without locks, and the primitives that it
-//! is made of: all that a program names, and nothing else. `docs/USING.md` says how to use it.
+//! An ordered dictionary that many threads read and change without locks, and the primitives that
+//! it is made of: all that a program names, and nothing else. `docs/USING.md` says how to use it.
 #![tactic(auto)]
 //!
 //! A dictionary from numbers to numbers, whose calls take a pass of it each:
@@ -28,7 +28,7 @@
 //!     call.step(&map)                           // Stepped::Done(Some(Kind::LoadSettled))
 //!     call.finish()                             // (pass, Reply::Value(None))
 //!
-//! Cells, of which 1 to 8 are there at the start:
+//! Cells; 1 to 8 are there at the start:
 //!
 //!     let (cells, passes) = Forest::<Cells>::new(alloc, limits)?;
 //!     cells.llx(&mut pass, NodeNo(1))           // Llx::Snapshot(snap): both fields are 0

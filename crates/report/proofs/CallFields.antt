@@ -59,7 +59,7 @@ pub no_command : (mode : Mode) (name : List ℕ) (rest : List (List ℕ)) (r : R
 no_command mode name rest (Ok found) failed none = absurd cc
 no_command mode name rest (Err why) failed none = why_none mode name rest why none
 
--- the row of a call has no empty fields behind the command's
+-- the row of a call has no empty fields after the command's
 pub whole_row : (client number : ℕ) (command : Command) → seven (codes "call" ∷ decimal client ∷ decimal number ∷ command_row command) ≡ codes "call" ∷ decimal client ∷ decimal number ∷ command_row command
 whole_row client number (Llx cell) = refl
 whole_row client number (Scx update) = refl

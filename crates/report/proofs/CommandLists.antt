@@ -25,11 +25,11 @@ commands_next calls i call c b less is same =
     ∙ ap (λ x. commands (take i calls) c ++ cond x (call.command ∷ []) []) same
 
 module _ (calls : List Call) (i : ℕ) (call : Call) (c : ℕ) (less : i < length calls) (is : call ≡ get_or calls i call) (own : List Command) (so_far : own ≡ commands (take i calls) c) where
-  -- behind a call of the client
+  -- after a call of the client
   pub own_more : call.client.0 ≡ c → (new : List Command) → new ≡ own ++ call.command ∷ [] → new ≡ commands (take (i + 1) calls) c
   own_more same new pushed = pushed ∙ ap (λ xs. xs ++ call.command ∷ []) so_far ∙ sym (commands_next calls i call c true less is (eq-eqb call.client.0 c same))
 
-  -- behind another's
+  -- after another's
   pub own_same : (call.client.0 ≡ c → ⊥) → own ≡ commands (take (i + 1) calls) c
   own_same other = so_far ∙ sym (commands_next calls i call c false less is (ne_eqb call.client.0 c other) ∙ append-nil (commands (take i calls) c))
 

@@ -59,7 +59,7 @@ pub counted_reply : (old new : Counts) (passes : ℕ) (lines : List Line) (reply
 counted_reply old new passes lines reply counted fits more others client below =
     one_more old new reply.client.0 client (answered lines client) (counted client below) (omega (arith, fits, answered_bound client lines)) (λ is. more (rw is below)) (others client below)
 
--- a step of the call that comes next, behind numbered lines
+-- a step of the call that comes next, after numbered lines
 pub numbered_more : (passes : ℕ) (counts : Counts) (lines : List Line) (line : Line) → HasCountedReplies counts passes lines → IsOfNextCall (calls_counted counts) line → AreNumbered passes lines → AreNumbered passes (line ∷ lines)
 numbered_more passes counts lines (Step (Made number row)) counted next numbered = (λ below. next ∙ counted row.pass.0 below, numbered)
 numbered_more passes counts lines (Step (Idle number client)) counted next numbered = numbered

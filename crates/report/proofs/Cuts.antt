@@ -18,7 +18,7 @@ IsTail (b ∷ text) = b ≡ 32
 other_than_space : (b : ℕ) → not (eqb b 32) ≡ true → b ≢ 32
 other_than_space b test is = grind (arith, nat_tests)
 
--- a text of which a test finds that it has no space
+-- a text that a test finds to have no space
 pub literal : (text : List ℕ) → list_all (λ b. not (eqb b 32)) text ≡ true → HasNoSpace text
 literal text test k d within = other_than_space _ (AllPass-from_list_all (λ b. not (eqb b 32)) text test k d within)
 
@@ -54,7 +54,7 @@ one_cut (a ∷ more) (b ∷ bs) s t p q tail rest is =
 pub cut_there : (text first rest : List ℕ) (r : Option (Bor (List ℕ) × Bor (List ℕ))) → IsSplitOnceResult 32 text r → HasNoSpace first → text ≡ first ++ (32 ∷ rest) → MatchOption r ⊥ (λ x. (x.0.now ≡ first) × (x.1.now ≡ rest))
 cut_there text first rest r split free is = split_after 32 text first rest r split (lit< tt) is (λ i within. free i 0 within)
 
--- what stands before a cut has no space
+-- what is before a cut has no space
 pub front_has_no_space : (text : List ℕ) (x : Bor (List ℕ) × Bor (List ℕ)) → IsSplitOnceResult 32 text (Some x) → (text ≡ x.0.now ++ (32 ∷ x.1.now)) × HasNoSpace x.0.now
 front_has_no_space text x split =
     let parts = split_parts 32 text (Some x) split (lit< tt) in

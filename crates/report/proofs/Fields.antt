@@ -7,7 +7,7 @@ use Rattle.script.specs.Rows.{limits_row}
 use Rattle.report.specs.Report.{name_of, seven}
 use Rattle.texts.proofs.Lemmas.{same_number}
 
--- what a lookup behind the last field would find
+-- what a lookup past the last field would find
 abbrev pub blank : Bor (List ℕ)
 blank = record { ref_ptr = (0, 0); now = [] }
 

@@ -1,4 +1,4 @@
--- The rows of an outcome, as they go out.
+-- The rows of an outcome, as they are written.
 use Rattle.std.proofs.Common.{◌≡◌, ℕ, suc, ◌+◌, ◌<◌, ◌≤◌, arith, ◌-◌, ◌^◌, min, Bool, true, false, List, [], ◌∷◌, ◌++◌, ◌∙◌, ⊎_elim, Vec, ap, append-nil, codes, drop, get_or, length, refl, sym}
 use Rattle.std.specs.Global.{Global}
 use Rattle.std.proofs.lemmas.Bool.Decides.{leb_tells}

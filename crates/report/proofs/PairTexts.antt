@@ -2,7 +2,7 @@
 use Rattle.std.proofs.Common.{◌≡◌, ℕ, List, [], ◌∷◌, ◌++◌, codes, decimal, sym, ◌∙◌, ap, append_assoc, append-nil}
 use Rattle.report.specs.Answers.{spaced_pairs}
 
--- one pair behind a space
+-- one pair after a space
 abbrev pub pair_text : ℕ × ℕ → List ℕ
 pair_text p = codes " " ++ (decimal p.0 ++ (codes " " ++ decimal p.1))
 

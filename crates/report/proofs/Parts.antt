@@ -1,4 +1,4 @@
--- The four parts of a text, as they go out one after another.
+-- The four parts of a text, as they are written one after another.
 use Rattle.std.proofs.Common.{◌≡◌, List, [], ◌∷◌, ◌++◌, ◌∙◌, ℕ, Bool, Option, Vec, ap, append-nil, length, map, subst, sym}
 use Rattle.std.specs.Global.{Global}
 use Rattle.std.specs.Io.KnownBytes.{Appends}

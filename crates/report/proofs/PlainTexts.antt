@@ -1,4 +1,4 @@
--- Texts of which csv quotes none.
+-- Texts, none of which csv quotes.
 use Rattle.std.proofs.Common.{◌≡◌, ◌∙◌, ℕ, List, [], ◌∷◌, ◌++◌, append_assoc, append-nil, codes, decimal, refl, sym}
 use Rattle.arena.specs.declared.step.Kind.{Kind}
 use Rattle.arena.specs.declared.step.Kind.TheVariants.{Fill, LoadSettled, LoadInfo, LoadState, LoadMarked, LoadAllFrozen, LoadChild, Freeze, SetFrozen, Mark, Update, Commit, Abort}
@@ -26,7 +26,7 @@ kind_plain Abort = refl
 pub pair_plain : (p : ℕ × ℕ) → IsPlain (decimal p.0) → IsPlain (decimal p.1) → IsPlain (codes " " ++ (decimal p.0 ++ (codes " " ++ decimal p.1)))
 pair_plain p key value = plain_append (codes " ") (decimal p.0 ++ (codes " " ++ decimal p.1)) refl (plain_append (decimal p.0) (codes " " ++ decimal p.1) key (plain_append (codes " ") (decimal p.1) refl value))
 
--- texts that are put one behind another
+-- texts that are put one after another
 abbrev pub behind : List ℕ → List (List ℕ) → List ℕ
 behind start [] = start
 behind start (text ∷ texts) = behind (start ++ text) texts

@@ -34,7 +34,7 @@ unfolding field_at
 seven_fields (a ∷ b ∷ c ∷ d ∷ e ∷ f ∷ g ∷ []) h = refl
 seven_fields fields h = absurd (omega arith)
 
--- one more row behind those of some calls
+-- one more row after those of some calls
 pub call_read : (before : List (List (List ℕ))) (calls : List Call) (call : Call) (row : List (List ℕ)) → row ≡ seven (reported_call_row (reverse calls) call)
     → (before ++ map seven (call_rows [] calls)) ++ row ∷ [] ≡ before ++ map seven (call_rows [] (calls ++ call ∷ []))
 unfolding call_rows
@@ -44,7 +44,7 @@ call_read before calls call row e =
     (ap (λ fields. map seven (call_rows [] calls) ++ fields ∷ []) (e ∙ ap (λ earlier. seven (reported_call_row earlier call)) (sym (append-nil (reverse calls))))
     ∙ sym (ap (map seven) (call_rows_after [] calls (call ∷ [])) ∙ map-append seven (call_rows [] calls) (reported_call_row (reverse calls ++ []) call ∷ [])))
 
--- one more row behind those of some lines
+-- one more row after those of some lines
 pub line_read : (before : List (List (List ℕ))) (lines : List Line) (line : Line) (row : List (List ℕ)) → row ≡ seven (line_row line)
     → (before ++ map seven (map line_row lines)) ++ row ∷ [] ≡ before ++ map seven (map line_row (lines ++ line ∷ []))
 line_read before lines line row e =
@@ -64,7 +64,7 @@ line_rows_length : (lines : List Line) → length (map seven (map line_row lines
 line_rows_length [] = refl
 line_rows_length (line ∷ lines) = ap suc (line_rows_length lines)
 
--- of the head, of so many calls and of the row behind
+-- of the head, of n calls and of the row after them
 pub calls_counted : (version : Version) (mode : Mode) (limits : Limits) (calls : List Call) (n : ℕ) → n ≡ length calls → suc (length (rows_of_calls version mode limits calls)) ≡ 3 + n
 calls_counted version mode limits calls n is = omega (arith, call_rows_length [] calls, is)
 
@@ -75,7 +75,7 @@ calls_counted_more version mode limits calls call n is = omega (arith, call_rows
 pub lines_counted : (version : Version) (mode : Mode) (limits : Limits) (calls : List Call) (lines : List Line) (n : ℕ) → n ≡ length lines → length (rows_of_lines version mode limits calls lines) ≡ 2 + length calls + n
 lines_counted version mode limits calls lines n is = omega (arith, call_rows_length [] calls, line_rows_length lines, length-append (rows_of_calls version mode limits calls) (map seven (map line_row lines)), is)
 
--- and of the row behind
+-- and of the row after them
 pub end_counted : (version : Version) (mode : Mode) (limits : Limits) (calls : List Call) (lines : List Line) (row : List (List ℕ)) → length (rows_of_lines version mode limits calls lines ++ row ∷ []) ≡ 3 + length calls + length lines
 end_counted version mode limits calls lines row = omega (arith, lines_counted version mode limits calls lines (length lines) refl, length-append (rows_of_lines version mode limits calls lines) (row ∷ []))
 

@@ -91,8 +91,8 @@ abbrev pub BeginsOtherwise : (List (List ℕ) → Type 0) → List (List (List �
 BeginsOtherwise P [] = ⊤
 BeginsOtherwise P (row ∷ rows) = ¬ (P row)
 
--- where the first rows of each of two lists that are the same are so, and the rest begins otherwise,
--- they are the same up to there, and behind
+-- where the first rows of each of two lists that are the same are so, and the rest begins
+-- otherwise, they are the same up to there, and after it
 same_parts : (P : List (List ℕ) → Type 0) (xs ys more others : List (List (List ℕ))) → AllByRecursion P xs → AllByRecursion P ys → BeginsOtherwise P more → BeginsOtherwise P others → xs ++ more ≡ ys ++ others → (xs ≡ ys) × (more ≡ others)
 same_parts P [] [] more others a b f g e = (refl, e)
 same_parts P [] (y ∷ ys) [] others a b f g e = absurd cc
@@ -107,11 +107,11 @@ same_parts P (x ∷ xs) (y ∷ ys) more others a b f g e =
 
 -- The row of a call
 
--- the client numbers are below so many
+-- the client numbers are below this number
 abbrev AreBelow : ℕ → List Call → Type 0
 AreBelow passes calls = All (λ call. call.client.0 < passes) calls
 
--- the row is one of a call that may come behind these
+-- the row is one of a call that may come after these
 pub record IsRowOfCall (row : List (List ℕ)) (version : Version) (mode : Mode) (passes : ℕ) (before : List Call) : Type 0 where
   pub call : Call
   pub reported : IsReported version mode passes call
@@ -122,7 +122,7 @@ more_alike call other earlier others same alike client =
     ap (λ (n : ℕ). cond (eqb n client) (suc (calls_by client earlier)) (calls_by client earlier)) same
     ∙ ap (λ (n : ℕ). cond (eqb other.client.0 client) (suc n) n) (alike client)
 
--- a row that is named so behind the rows of some calls, where a report's calls are
+-- a row that is named so after the rows of some calls, where a report's calls are
 call_found : (version : Version) (mode : Mode) (passes : ℕ) (earlier others calls told : List Call) (row : List (List ℕ)) (more rest : List (List (List ℕ))) → passes ≤ 32
     → ((client : ℕ) → calls_by client earlier ≡ calls_by client others) → AreBelow (2 ^ 64) calls → All (IsReported version mode passes) told
     → IsCallRow row → BeginsOtherwise IsCallRow rest → map seven (call_rows earlier calls) ++ row ∷ more ≡ map seven (call_rows others told) ++ rest
@@ -147,7 +147,7 @@ call_found version mode passes earlier others (c ∷ calls) (d ∷ told) row mor
 
 -- The rows of lines
 
--- a row that is no end row, behind the rows of some lines, where a report's lines are
+-- a row that is no end row, after the rows of some lines, where a report's lines are
 line_found : (version : Version) (rows : List (List (List ℕ))) (told : List Line) (row last : List (List ℕ)) (more : List (List (List ℕ))) → AllByRecursion IsNoEnd rows → IsNoEnd row → ¬ (IsNoEnd last) → All (IsSpelledLine version) told
     → rows ++ row ∷ more ≡ map seven (map line_row told) ++ last ∷ [] → (line : Line) × IsSpelledLine version line × (row ≡ seven (line_row line))
 line_found version [] [] row last more none no_end end all e = let same : row ≡ last = cc in absurd (end (subst IsNoEnd same no_end))
@@ -202,7 +202,7 @@ same_mode Records Records e = refl
 same_mode Tree Records e = absurd (omega (arith, ap (λ (text : List ℕ). get_or text 0 0) e))
 same_mode Records Tree e = absurd (omega (arith, ap (λ (text : List ℕ). get_or text 0 0) e))
 
--- the row of a title tells its version and its mode
+-- the row of a title says its version and its mode
 same_title : (version other : Version) (mode last : Mode) → seven (title_in version mode) ≡ seven (title_in other last) → (version ≡ other) × (mode ≡ last)
 same_title version other mode last e = (
   same_version version other (ap (λ (fields : List (List ℕ)). get_or fields 1 []) e),
@@ -210,7 +210,7 @@ same_title version other mode last e = (
 )
 
 module _ (version : Version) (mode : Mode) (limits : Limits) (calls : List Call) (row : List (List ℕ)) (admitted : AreAdmitted version mode limits calls) (named : IsCallRow row) where
-  -- the calls of a report that goes on with this row
+  -- the calls of a report that continues with this row
   call_in : (more : List (List (List ℕ))) (r : AreOfReport ((rows_of_calls version mode limits calls ++ row ∷ []) ++ more)) → IsRowOfCall row r.version r.mode r.limits.passes (reverse calls ++ []) × (length calls < length r.calls)
   call_in more r =
       let below : AreBelow (2 ^ 64) calls = λ k d within. let ok = admitted.reported k d within in omega (arith, ok.0, admitted.accepted.passes) in
@@ -243,7 +243,7 @@ some_behind [] line row = tt
 some_behind (other ∷ lines) line row = tt
 
 module _ (version : Version) (mode : Mode) (limits : Limits) (calls : List Call) (lines : List Line) (row : List (List ℕ)) (behind : BeginsBehindCalls lines row) where
-  -- the lines of a report that goes on with this row
+  -- the lines of a report that continues with this row
   lines_in : (more : List (List (List ℕ))) (r : AreOfReport ((rows_of_lines version mode limits calls lines ++ row ∷ []) ++ more)) → map seven (map line_row lines) ++ row ∷ more ≡ map seven (map line_row r.lines) ++ seven (report_end_row r.lines) ∷ []
   lines_in more r =
       let here = map seven (call_rows [] calls) in
@@ -373,7 +373,7 @@ no_report bytes before (inr (row, begun, none)) rows r all =
 pub first_bad_row : (bytes : List ℕ) (before : List (List (List ℕ))) (row : ℕ) → BeginReport before → FailsBehind bytes before → row ≡ suc (length before) → IsFirstBadRow bytes row
 first_bad_row bytes before row begun fails is = record { no_report = no_report bytes before fails; before = before; begun = begun; fails = fails; row_is = is }
 
--- a row that goes on no report is the first that is bad
+-- a row with which no report continues is the first that is bad
 pub bad_here : (bytes : List ℕ) (before : List (List (List ℕ))) (fields : List (List ℕ)) (row : ℕ) → BeginReport before → BeginWithRows bytes (before ++ fields ∷ []) → ¬ (BeginReport (before ++ fields ∷ [])) → row ≡ suc (length before) → IsFirstBadRow bytes row
 bad_here bytes before fields row begun begins none is = first_bad_row bytes before row begun (inr (fields, begins, none)) is
 

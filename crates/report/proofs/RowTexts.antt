@@ -91,7 +91,7 @@ both = IsUtf8-append
 named : (name : List ℕ) (n : ℕ) → IsUtf8 name → n < 2 ^ 64 → IsUtf8 (name ++ decimal n)
 named name n text fits = both name (decimal n) text (number n fits)
 
--- a name, a number, and a text behind it
+-- a name, a number, and a text after it
 named_more : (name : List ℕ) (n : ℕ) (more : List ℕ) → IsUtf8 name → n < 2 ^ 64 → IsUtf8 more → IsUtf8 (name ++ (decimal n ++ more))
 named_more name n more text fits rest = both name (decimal n ++ more) text (both (decimal n) more (number n fits) rest)
 
@@ -302,7 +302,7 @@ command_is_text (Map request) fits = request_is_text request fits
 abbrev pub IsWide : List (List ℕ) → Type 0
 IsWide row = IsRow 7 row
 
--- the row of a command is four fields, behind three of a call
+-- the row of a command is four fields, after three of a call
 call_is_wide : (client number : ℕ) (command : Command) → AllText (codes "call" ∷ decimal client ∷ decimal number ∷ command_row command) → IsWide (seven (codes "call" ∷ decimal client ∷ decimal number ∷ command_row command))
 call_is_wide client number (Llx cell) text = (refl, text)
 call_is_wide client number (Scx update) text = (refl, text)

@@ -22,7 +22,7 @@ use Rattle.report.proofs.Texts.{IsSent, all_sent, none_sent, part_sent, piece_se
 
 -- Lines
 
--- the lines of one turn more come behind the others
+-- the lines of one turn more come after the others
 pub lines_more : (p : PlayerView) (more : List Line) → reverse (with_lines p more).lines ≡ reverse p.lines ++ more
 lines_more p more = reverse-append (reverse more) p.lines ∙ ap (λ (l : List Line). reverse p.lines ++ l) (reverse-reverse more)
 
@@ -80,7 +80,7 @@ of_turn row None (Some reply) = (refl, omega arith, omega arith)
 of_turn row (Some entry) None = (refl, omega arith, omega arith)
 of_turn row (Some entry) (Some reply) = (refl, omega arith, omega arith)
 
--- whichever way they stand, they are as many
+-- whichever their order, their number is the same
 one_more : (line : Line) (lines : List Line) → steps_in (reverse lines) ≡ turns lines → steps_in (reverse lines) + steps_in (line ∷ []) ≡ turns (line ∷ lines)
 one_more (Step row) lines so_far = omega (arith, so_far)
 one_more (Log entry) lines so_far = omega (arith, so_far)
@@ -121,7 +121,7 @@ no_totals = record { steps = refl; replies = refl; entries = refl; few_replies =
 
 -- Bytes
 
--- bytes that come behind others, and are then kept
+-- bytes that come after others, and are then kept
 pub then_kept : (old mid new : Option (List ℕ)) (text : List ℕ) → Appends old mid text → Keeps mid new → Appends old new text
 then_kept None mid new text a k = tt
 then_kept (Some known) None new text a k = absurd a
@@ -157,7 +157,7 @@ module _ (first second whole : List ℕ) (is : first ++ second ≡ whole) where
 pub end_row : (totals : Totals) (lines : List Line) → AreTotals totals lines → rows_text 7 (counts_row totals.steps totals.replies totals.entries ∷ []) ≡ rows_text 7 (report_end_row lines ∷ [])
 end_row totals lines x = rw (x.steps, x.replies, x.entries) refl
 
--- a turn that did not go out was stopped before its lines, where the stream goes on, or in these
+-- a turn that was not written was stopped before its lines, if the stream continues, or in these
 pub stopped_in : (next : Stream) (old new : Option (List ℕ)) (p : PlayerView) (i : ℕ) → (next.ended ≡ false → HasWritten next old new p) → (IsTrue next.ended → IsCutAt old new p i) → BeginsWith old new (text_so_far p) ⊎ ((i : ℕ) × IsCutAt old new p i)
 stopped_in next old new p i unchanged cut = go next.ended refl
   where

@@ -1,4 +1,4 @@
--- What a text tells behind its name.
+-- What a text says after its name.
 use Rattle.std.proofs.Common.{◌≡◌, ◌≢◌, ◌<◌, ◌^◌, ◌∙◌, ℕ, List, [], ◌∷◌, ◌++◌, All, Bor, Option, Some, None, ap, codes, decimal, drop, refl, sym}
 use Rattle.std.proofs.lemmas.List.Elements.{All-head, All-tail}
 use Rattle.arena.specs.declared.fault.Resource.{Resource}
@@ -39,7 +39,7 @@ other_answer name told free snap fail lost changed unlinked version none (Full w
 other_answer name told free snap fail lost changed unlinked version none (Map reply) fits is = none reply fits is
 other_answer name told free snap fail lost changed unlinked version none answer fits is = absurd fits
 
--- a text that is none of these, and tells nothing behind a name, is at most that of many pairs
+-- a text that is none of these, and says nothing after a name, is at most that of many pairs
 pub only_pairs : (text : List ℕ) → text ≢ codes "finalized" → text ≢ codes "done" → text ≢ codes "same" → text ≢ codes "none" → text ≢ codes "no memory" → (version : Version) → ((answer : Answer) → IsTellingAnswer version answer → text ≢ answer_text answer) → (answer : Answer) → IsSpelledAnswer version answer → text ≡ answer_text answer → TellsPairs answer
 only_pairs text finalized done same no_value memory version none Finalized fits is = absurd (finalized is)
 only_pairs text finalized done same no_value memory version none Done fits is = absurd (done is)
@@ -61,18 +61,18 @@ unfolding spaced_pairs
 tail_pairs [] = tt
 tail_pairs (p ∷ ps) = refl
 
--- the pairs that a text of many pairs tells behind its name
+-- the pairs that a text of many pairs has after its name
 pub pairs_cut : (text name : List ℕ) (told : Option (Bor (List ℕ))) → HasNoSpace name → text ≡ name ++ rest_text told → (version : Version) (answer : Answer) → IsSpelledAnswer version answer → TellsPairs answer → text ≡ answer_text answer → (ps : List (ℕ × ℕ)) × All (IsSpelledPair version) ps × (name ≡ codes "pairs") × (rest_text told ≡ spaced_pairs ps)
 pairs_cut text name told free whole version (Map (Pairs ps)) fits tells is =
     let both = one_cut name (codes "pairs") (rest_text told) (spaced_pairs ps.items) free (literal (codes "pairs") refl) (tail_rest told) (tail_pairs ps.items) (sym whole ∙ is) in
     (ps.items, fits, both.0, both.1)
 pairs_cut text name told free whole version answer fits tells is = absurd tells
 
--- the number at the head of what is told, and the rest
+-- the number at the head of what is said, and the rest
 pub number_cut : (whole word : List ℕ) (rest : Option (Bor (List ℕ))) (n : ℕ) (more : List (ℕ × ℕ)) → n < 2 ^ 128 → HasNoSpace word → whole ≡ word ++ rest_text rest → whole ≡ decimal n ++ spaced_pairs more → (word ≡ decimal n) × (rest_text rest ≡ spaced_pairs more)
 number_cut whole word rest n more fits free cut is = one_cut word (decimal n) (rest_text rest) (spaced_pairs more) free (value_has_no_space n fits) (tail_rest rest) (tail_pairs more) (sym cut ∙ is)
 
--- the first of the pairs that stand behind a space
+-- the first of the pairs that are after a space
 pub record IsNextPair (version : Version) (text : List ℕ) : Type 0 where
   pub pair : ℕ × ℕ
   pub more : List (ℕ × ℕ)

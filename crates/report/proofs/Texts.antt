@@ -30,7 +30,7 @@ if_bad NoMemory f p = tt
 if_bad Read f p = tt
 if_bad (Bad row cause) f p = f row cause p
 
--- what is so of a fault is so where that fault is told
+-- what is so of a fault is so if that fault is returned
 pub of_fault : {T E : Type 0} (r : Result T E) (fault : E) (P : E → Type 0) → IsErrAnd r (λ e. e ≡ fault) → P fault → IfErr r P
 of_fault (Ok t) fault P is holds = absurd is
 of_fault (Err e) fault P is holds = rw is holds
@@ -69,7 +69,7 @@ part_sent old mid new piece left whole x (n, bound, sent) =
     subst (λ text. BeginsWith old new text) x.whole_is
     (length x.so_far + n, rw (length-append x.so_far (piece ++ left), length-append piece left) (omega (arith, bound)), rw (take-append-add x.so_far (piece ++ left) n, take-append-le n piece left bound) (Appends-trans old mid new x.so_far (take n piece) x.sent sent))
 
--- the rows of some things, and of those behind them
+-- the rows of some things, and of those after them
 pub rows_split : {A : Type 0} (width : ℕ) (row_of : A → List (List ℕ)) (all some more : List A) → all ≡ some ++ more → rows_text width (map row_of all) ≡ rows_text width (map row_of some) ++ rows_text width (map row_of more)
 rows_split width row_of all some more e = ap (λ things. rows_text width (map row_of things)) e ∙ ap (λ rows. rows_text width rows) (map-append row_of some more) ∙ rows_after width (map row_of some) (map row_of more)
 
@@ -93,7 +93,7 @@ pub on_ok_of : {T E : Type 0} {P Q : Type 0} (r : Result T E) → (P → Q) → 
 on_ok_of (Ok t) f p = f p
 on_ok_of (Err e) f p = tt
 
--- what stands on a sheet that was cleared before
+-- what is on a sheet that was cleared before
 pub chunk_text : (sent new cleared text : List ℕ) → sent ≡ new → new ≡ cleared ++ text → cleared ≡ [] → sent ≡ text
 chunk_text sent new cleared text is put none = is ∙ put ∙ ap (λ t. t ++ text) none
 
@@ -112,6 +112,6 @@ pub two_rows : (width : ℕ) (row next : List (List ℕ)) → rows_text width (r
 unfolding rows_text
 two_rows width row next = ap (λ text. line_of width row ++ text) (append-nil (line_of width next))
 
--- a text behind another that stands behind the start
+-- a text after another that is after the start
 pub text_behind : (start text more mid new : List ℕ) → new ≡ mid ++ more → mid ≡ start ++ text → new ≡ start ++ (text ++ more)
 text_behind start text more mid new put before = put ∙ ap (λ t. t ++ more) before ∙ append_assoc start text more

@@ -1,4 +1,4 @@
--- What the versions of a report tell apart.
+-- In what the versions of a report differ.
 use Rattle.std.proofs.Common.{◌≡◌, ◌<◌, ◌≤◌, ◌^◌, ℕ, zero, suc, List, [], ◌∷◌, ◌∙◌, ap, arith, decimal, drop, get_or, length, lit≤, map, refl, subst, sym}
 use Rattle.std.specs.List.{AllByRecursion}
 use Rattle.arena.specs.declared.word.NodeWord.{NodeWord}

@@ -14,12 +14,12 @@ use Rattle.report.specs.Versions.{HasPart}
 use Rattle.report.specs.declared.version.Version.{Version}
 use Rattle.report.specs.Words.{IsSpelled, node_part, scx_part, word_text}
 
--- what stands before the dot
+-- what is before the dot
 abbrev record_name : Word → List ℕ
 record_name (Node n part) = codes "n" ++ decimal n.0
 record_name (Scx s part) = codes "s" ++ decimal s.0
 
--- and behind it
+-- and after it
 abbrev part_name : Word → List ℕ
 part_name (Node n part) = node_part part
 part_name (Scx s part) = scx_part part
@@ -38,7 +38,7 @@ cut_at_dot text (Scx s part) r split version fits is =
     split_after 46 text (codes "s" ++ decimal s.0) (scx_part part) r split (lit< tt) is (λ i within. no_dot 115 s.0 i (λ same. omega (arith, same)) fits.0 within)
 
 module _ (version : Version) (text : List ℕ) (name part : Bor (List ℕ)) (split : IsSplitOnceResult 46 text (Some (name, part))) where
-  -- behind a node's name stands no word of a node
+  -- after a node's name is no word of a node
   pub no_part_of_node : (n : ℕ) → name.now ≡ codes "n" ++ decimal n → ((p : NodeWord) → HasPart version p → part.now ≢ node_part p) → (word : Word) → IsSpelled version word → text ≢ word_text word
   no_part_of_node n named none (Node m p) fits is = none p fits.1 (cut_at_dot text (Node m p) (Some (name, part)) split version fits is).1
   no_part_of_node n named none (Scx s p) fits is =
@@ -50,7 +50,7 @@ module _ (version : Version) (text : List ℕ) (name part : Bor (List ℕ)) (spl
   no_record no_node no_scx (Node n p) fits is = no_node n.0 fits.0 (cut_at_dot text (Node n p) (Some (name, part)) split version fits is).0
   no_record no_node no_scx (Scx s p) fits is = no_scx s.0 fits.0 (cut_at_dot text (Scx s p) (Some (name, part)) split version fits is).0
 
-  -- behind the name of an SCX-record stands no word of one
+  -- after the name of an SCX-record is no word of one
   pub no_part_of_scx : ((n : ℕ) → n < 2 ^ 64 → name.now ≢ codes "n" ++ decimal n) → ((p : ScxWord) → IsScxWord p → part.now ≢ scx_part p) → (word : Word) → IsSpelled version word → text ≢ word_text word
   no_part_of_scx no_node none (Node n p) fits is = no_node n.0 fits.0 (cut_at_dot text (Node n p) (Some (name, part)) split version fits is).0
   no_part_of_scx no_node none (Scx s p) fits is = none p fits.1 (cut_at_dot text (Scx s p) (Some (name, part)) split version fits is).1

@@ -16,7 +16,7 @@ use Rattle.record.specs.declared.record.Line.{Line}
 use Rattle.record.specs.declared.record.Line.TheVariants.{Step, Log, Reply as ReplyLine}
 use Rattle.record.specs.Commands.{commands}
 
--- keys and values, each behind a space
+-- keys and values, each after a space
 unfoldable pub spaced_pairs : List (ℕ × ℕ) → List ℕ
 spaced_pairs [] = []
 spaced_pairs (p ∷ ps) = codes " " ++ (decimal p.0 ++ (codes " " ++ (decimal p.1 ++ spaced_pairs ps)))
@@ -29,7 +29,7 @@ both_text first second = decimal first ++ (codes " " ++ decimal second)
 abbrev pub blame_text : ℕ → ℕ → List ℕ
 blame_text node scx = codes "n" ++ (decimal node ++ (codes " s" ++ decimal scx))
 
--- what stands behind a space, if anything does
+-- what is after a space, if anything is
 abbrev pub rest_text : Option (Bor (List ℕ)) → List ℕ
 rest_text None = []
 rest_text (Some text) = codes " " ++ text.now
@@ -100,8 +100,8 @@ fitted_to None answer = answer
 abbrev pub IsInForm : Option Command → Answer → Type 0
 IsInForm command answer = fitted_to command answer ≡ answer
 
--- a reply in this line, if it is of one of so many clients, is in the form that answers the call
--- that it names
+-- a reply in this line, if it is of one of the clients below this number, is in the form that
+-- answers the call that it names
 abbrev pub HasForm : ℕ → List Call → Line → Type 0
 HasForm passes calls (ReplyLine reply) = reply.client.0 < passes → IsInForm (slice_get (commands calls reply.client.0) reply.call) reply.answer
 HasForm passes calls (Step row) = ⊤

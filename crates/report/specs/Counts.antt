@@ -17,10 +17,10 @@ calls_counted counts client = slice_index_or counts.calls.items client 0
 abbrev pub HasCounted : Counts → List Call → Type 0
 HasCounted counts calls = (client : ℕ) → calls_counted counts client ≡ calls_by client calls
 
--- of each of so many clients as many replies were counted as these lines have, the newest first
+-- of each client below this number as many replies were counted as these lines have, newest first
 abbrev pub HasCountedReplies : Counts → ℕ → List Line → Type 0
 HasCountedReplies counts passes lines = (client : ℕ) → client < passes → calls_counted counts client ≡ answered lines client
 
--- of each of so many clients the commands among these calls are kept
+-- of each client below this number the commands among these calls are kept
 abbrev pub HasCommands : Commands → ℕ → List Call → Type 0
 HasCommands all passes calls = (client : ℕ) → client < passes → option_map (λ own. own.items) (slice_get all.clients.items client) ≡ Some (commands calls client)

@@ -1,4 +1,4 @@
--- What is told of a text that is no report.
+-- What is reported of a text that is no report.
 use Rattle.texts.specs.declared.fault.TextFault.{TextFault}
 use Rattle.texts.specs.declared.fault.TextFault.TheVariants.{NoMemory, Read, Bad}
 use Rattle.report.specs.declared.fault.NotLawful.{NotLawful}

@@ -53,11 +53,11 @@ abbrev pub calls_by : ℕ → List Call → ℕ
 calls_by c [] = 0
 calls_by c (call ∷ calls) = if call.client.0 == c then suc (calls_by c calls) else calls_by c calls
 
--- the row of a call behind these: its client's number, its own among the client's, and its command
+-- the row of a call after these: its client's number, its own among the client's, and its command
 abbrev pub reported_call_row : List Call → Call → List (List ℕ)
 reported_call_row earlier call = codes "call" ∷ decimal call.client.0 ∷ decimal (calls_by call.client.0 earlier) ∷ command_row call.command
 
--- the rows of these calls, behind earlier ones of which the last comes first
+-- the rows of these calls, after earlier ones, the last of which comes first
 unfoldable pub call_rows : List Call → List Call → List (List (List ℕ))
 call_rows earlier [] = []
 call_rows earlier (call ∷ calls) = reported_call_row earlier call ∷ call_rows (call ∷ earlier) calls
@@ -76,7 +76,7 @@ line_row (Step (Idle number client)) = codes "step" ∷ decimal number ∷ decim
 line_row (Log entry) = codes "log" ∷ decimal entry.place ∷ decimal entry.step ∷ (codes "s" ++ decimal entry.scx.0) ∷ decimal entry.client.0 ∷ decimal entry.call ∷ []
 line_row (Reply reply) = codes "reply" ∷ decimal reply.client.0 ∷ decimal reply.call ∷ decimal reply.begin ∷ decimal reply.end ∷ moment_text reply.moment ∷ answer_text reply.answer ∷ []
 
--- the first row behind the calls, of these lines or else this one, is not named as a call's
+-- the first row after the calls, of these lines or else this one, is not named as a call's
 abbrev pub BeginsBehindCalls : List Line → List (List ℕ) → Type 0
 BeginsBehindCalls [] row = ¬ (IsCallRow row)
 BeginsBehindCalls (line ∷ lines) row = ⊤
@@ -104,7 +104,7 @@ entries_in (Step row ∷ lines) = entries_in lines
 entries_in (Log entry ∷ lines) = suc (entries_in lines)
 entries_in (Reply reply ∷ lines) = entries_in lines
 
--- the row that tells these counts
+-- the row of these counts
 abbrev pub counts_row : ℕ → ℕ → ℕ → List (List ℕ)
 counts_row steps replies entries = codes "end" ∷ decimal steps ∷ decimal replies ∷ decimal entries ∷ []
 
@@ -114,8 +114,8 @@ report_end_row lines = counts_row (steps_in lines) (replies_in lines) (entries_i
 
 -- The whole
 
--- all rows of a report, in order: in this version, of this mode, within these limits, of these calls
--- and lines
+-- all rows of a report, in order: in this version, of this mode, within these limits, of these
+-- calls and lines
 abbrev pub rows_told : Version → Mode → Limits → List Call → List Line → List (List (List ℕ))
 rows_told version mode limits calls lines = title_in version mode ∷ limits_row limits ∷ (call_rows [] calls ++ (map line_row lines ++ report_end_row lines ∷ []))
 

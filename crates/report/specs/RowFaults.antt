@@ -43,13 +43,13 @@ pub record AreOfReport (rows : List (List (List ℕ))) : Type 0 where
 abbrev pub BeginReport : List (List (List ℕ)) → Type 0
 BeginReport rows = (more : List (List (List ℕ))) × AreOfReport (rows ++ more)
 
--- behind these rows the text is as no report: it ends there, and they are no whole report; or a row
--- stands there with which they begin none
+-- after these rows the text is as no report: it ends there, and they are no whole report; or a row
+-- is there with which they begin none
 abbrev pub FailsBehind : List ℕ → List (List (List ℕ)) → Type 0
 FailsBehind bytes before = (AreRows bytes before × ¬ (AreOfReport before)) ⊎ ((row : List (List ℕ)) × BeginWithRows bytes (before ++ row ∷ []) × ¬ (BeginReport (before ++ row ∷ [])))
 
 -- the text is no report, and this row, counted from 1, is the first at fault: some report begins
--- with those before it, and behind them the text is as none
+-- with those before it, and after them the text is as none
 pub record IsFirstBadRow (bytes : List ℕ) (row : ℕ) : Type 0 where
   pub no_report : (rows : List (List (List ℕ))) → AreOfReport rows → ¬ (AreRows bytes rows)
   pub before : List (List (List ℕ))

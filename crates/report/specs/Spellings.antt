@@ -26,13 +26,13 @@ HasNoSpace text = All (λ b. b ≢ 32) text
 abbrev pub IsSpelledPair : Version → ℕ × ℕ → Type 0
 IsSpelledPair version p = (p.0 < 2 ^ 64) × (p.1 < value_limit version)
 
--- a call that a report of this mode and of so many clients may have
+-- a call that a report of this mode and of this many clients may have
 abbrev pub IsReported : Version → Mode → ℕ → Call → Type 0
 IsReported version mode passes call = (call.client.0 < passes) × (mode_of call.command ≡ mode) × IsCommand call.command × HasCommand version call.command
 
 -- Replies and answers
 
--- a reply that tells one thing behind its name, in numbers that fit
+-- a reply that has one thing after its name, in numbers that fit
 abbrev pub IsTelling : Version → Reply ℕ ℕ → Type 0
 IsTelling version (Value (Some value)) = value < value_limit version
 IsTelling version (Pair (Some p)) = IsSpelledPair version p
@@ -48,7 +48,7 @@ IsSpelledReply version (Pairs ps) = All (IsSpelledPair version) ps.items
 IsSpelledReply version NoMemory = ⊤
 IsSpelledReply version reply = IsTelling version reply
 
--- an answer that tells one thing behind its name, in numbers that fit
+-- an answer that has one thing after its name, in numbers that fit
 abbrev pub IsTellingAnswer : Version → Answer → Type 0
 IsTellingAnswer version (Snapshot left right) = (left.0 < 2 ^ 64) × (right.0 < 2 ^ 64)
 IsTellingAnswer version (Fail node scx) = (node.0 < 2 ^ 64) × (scx.0 < 2 ^ 64)
@@ -67,7 +67,7 @@ IsSpelledAnswer version Same = ⊤
 IsSpelledAnswer version (Map reply) = IsSpelledReply version reply
 IsSpelledAnswer version answer = IsTellingAnswer version answer
 
--- the answer tells many pairs
+-- the answer is of many pairs
 abbrev pub TellsPairs : Answer → Type 0
 TellsPairs (Map (Pairs ps)) = ⊤
 TellsPairs answer = ⊥

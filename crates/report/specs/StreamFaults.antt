@@ -1,4 +1,4 @@
--- Why a part of a streamed report did not go out.
+-- Why a part of a streamed report was not written.
 use Rattle.std.specs.Prelude.{ℕ, Result}
 use Rattle.texts.specs.Pages.{CountsFault}
 use Rattle.texts.specs.declared.fault.WriteFault.{WriteFault}

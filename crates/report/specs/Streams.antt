@@ -1,4 +1,4 @@
--- What a stream has written of its report, and what it stands behind.
+-- What a stream has written of its report, and which turns have led to it.
 use Rattle.std.specs.Prelude.{◌≡◌, ◌≢◌, ◌+◌, ◌-◌, ◌^◌, ◌≤◌, ◌⊎◌, ℕ, false, List, [], ◌∷◌, ◌++◌, Option, map, min, reverse}
 use Rattle.std.specs.Io.KnownBytes.{Appends}
 use Rattle.texts.specs.Pages.{BeginsWith, rows_text}
@@ -24,14 +24,14 @@ pub record AreTotals (totals : Totals) (lines : List Line) : Type 0 where
   pub few_replies : replies_in lines ≤ steps_in lines
   pub few_entries : entries_in lines ≤ steps_in lines
 
--- the stream goes on behind these turns, and their report so far stands behind the old bytes
+-- the stream continues after these turns, and their report so far is after the old bytes
 pub record HasWritten (stream : Stream) (old new : Option (List ℕ)) (p : PlayerView) : Type 0 where
   pub goes_on : stream.ended ≡ false
   pub stands : StandsAt stream.core p
   pub totals : AreTotals stream.totals (reverse p.lines)
   pub text : Appends old new (text_so_far p)
 
--- behind the old bytes stands a beginning of the report of these turns and one more of client i; with
+-- after the old bytes is a beginning of the report of these turns and one more of client i; with
 -- that turn they are a lawful run
 pub record IsCutAt (old new : Option (List ℕ)) (p : PlayerView) (i : ℕ) : Type 0 where
   pub more : List Line
@@ -39,9 +39,9 @@ pub record IsCutAt (old new : Option (List ℕ)) (p : PlayerView) (i : ℕ) : Ty
   pub played : IsPlayed (with_lines p more)
   pub text : BeginsWith old new (text_so_far (with_lines p more))
 
--- a turn was not made, or not written, for this fault: these turns are a lawful run, and behind the old
--- bytes stands a beginning of its report, or of that with one turn more of some client, with which they
--- are a lawful run too; a failed write is counted, and nothing else
+-- a turn was not made, or not written, for this fault: these turns are a lawful run, and after the
+-- old bytes is a beginning of its report, or of that with one turn more of some client, with which
+-- they are a lawful run too; a failed write is counted, and nothing else
 pub record HasBrokenOff (old new : Option (List ℕ)) (before after : ℕ) (fault : StreamFault) (p : PlayerView) : Type 0 where
   pub played : IsPlayed p
   pub text : BeginsWith old new (text_so_far p) ⊎ ((i : ℕ) × IsCutAt old new p i)

@@ -1,4 +1,4 @@
--- The versions of a report's format, and what a report of each may tell.
+-- The versions of a report's format, and what a report of each may say.
 use Rattle.std.specs.Prelude.{◌≡◌, ◌⊎◌, ℕ, ◌<◌, ◌^◌, ⊤, List, codes}
 use Rattle.std.specs.List.{AllByRecursion}
 use Rattle.arena.specs.declared.word.NodeWord.{NodeWord}

@@ -50,8 +50,8 @@ abbrev pub word_text : Word → List ℕ
 word_text (Node n part) = codes "n" ++ (decimal n.0 ++ (codes "." ++ node_part part))
 word_text (Scx s part) = codes "s" ++ (decimal s.0 ++ (codes "." ++ scx_part part))
 
--- a word that a table may have: its record's number has 64 bits, a node has the words of the version,
--- and an SCX-record has four members
+-- a word that a table may have: its record's number has 64 bits, a node has the words of the
+-- version, and an SCX-record has four members
 abbrev pub IsSpelled : Version → Word → Type 0
 IsSpelled version (Node n part) = (n.0 < 2 ^ 64) × HasPart version part
 IsSpelled version (Scx s part) = (s.0 < 2 ^ 64) × IsScxWord part

@@ -16,7 +16,7 @@ use record::Answer;
 use std::alloc::{AllocError, Global};
 use texts::Sheet;
 
-/// Puts the text of an answer: its name, and what it tells.
+/// Puts the text of an answer: its name, and what it says.
 pub fn put_answer(sheet: &mut Sheet, answer: &Answer) -> Result<(), AllocError>
     ensures text { OnOk result (sheet_text sheet.new ≡ sheet_text sheet.old ++ answer_text answer.now) }
     ensures plain { OnOk result (IsPlain (answer_text answer.now)) }
@@ -48,7 +48,7 @@ pub fn put_answer(sheet: &mut Sheet, answer: &Answer) -> Result<(), AllocError>
     Ok(())
 }
 
-/// The text of an answer: its name, and what it tells.
+/// The text of an answer: its name, and what it says.
 pub fn answer_text(alloc: Global, answer: &Answer) -> Result<String, AllocError>
     ensures { IfOk result (λ text. string_bytes text ≡ answer_text answer.now) }
 {
@@ -57,7 +57,7 @@ pub fn answer_text(alloc: Global, answer: &Answer) -> Result<String, AllocError>
     String::from_str(alloc, sheet.as_str())
 }
 
-/// An answer that a text spells: where two do, that of the map, and of these the one that tells of
+/// An answer that a text spells: if two do, that of the map, and of these the one with
 /// a value. The only error is want of memory.
 pub fn answer_of(alloc: Global, text: &str, version: Version) -> Result<Option<Answer>, AllocError>
     ensures some { IfOk result (λ o. IfSome o (λ answer. text.now ≡ answer_text answer)) }
@@ -91,7 +91,7 @@ fn pairs_answer_of(
     }
 }
 
-/// The answer that a text spells which does not tell many pairs.
+/// The answer that a text spells which does not have many pairs.
 fn plain_answer_of(text: &str, version: Version) -> Option<Answer>
     ensures some { IfSome result (λ answer. text.now ≡ answer_text answer) }
     ensures spelled { IfSome result (IsSpelledAnswer version) }
@@ -110,7 +110,7 @@ fn plain_answer_of(text: &str, version: Version) -> Option<Answer>
     }
 }
 
-/// The answer of this name that tells this.
+/// The answer of this name that says this.
 fn telling_answer_of(name: &str, told: &str, version: Version) -> Option<Answer>
     ensures some { IfSome result (λ answer. name.now ++ (codes " " ++ told.now) ≡ answer_text answer) }
     ensures spelled { IfSome result (IsSpelledAnswer version) }

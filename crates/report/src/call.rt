@@ -13,7 +13,7 @@ use script::{Call, CommandText};
 use std::alloc::{AllocError, Global};
 use texts::Sheet;
 
-/// Puts the rows of some calls, of which `counts` has counted those before.
+/// Puts the rows of some calls, when `counts` has counted those before.
 pub fn put_calls(
     alloc: Global,
     sheet: &mut Sheet,

@@ -15,7 +15,7 @@ pub struct Commands {
 }
 
 impl Commands {
-    /// Those of so many clients among these calls.
+    /// Those of the clients below `passes` among these calls.
     pub fn of(alloc: Global, calls: &[Call], passes: u32) -> Result<Commands, AllocError>
         ensures { IfOk result (λ all. HasCommands all passes calls.now) }
     {

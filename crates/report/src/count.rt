@@ -35,7 +35,7 @@ impl Counts {
         self.calls[place] = before.saturating_add(1);
         Ok(before)
     }
-    /// Counts a call, if it is of one of so many clients.
+    /// Counts a call, if it is of a client below `passes`.
     pub fn count_below(&mut self, passes: u32, client: PassNo) -> Result<(), AllocError>
         ensures counted { client.0 < passes → OnOk result (calls_counted self.new client.0 ≡ min (calls_counted self.old client.0 + 1) (2 ^ 64 - 1)) }
         ensures others { (other : ℕ) → other < passes → other ≢ client.0 → calls_counted self.new other ≡ calls_counted self.old other }

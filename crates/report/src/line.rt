@@ -15,7 +15,7 @@ use script::kind_name;
 use std::alloc::AllocError;
 use texts::Sheet;
 
-/// How long a row is at most, but for the answer in the row of a reply.
+/// How long a row is at most, except for the answer in the row of a reply.
 const LONGEST: usize = 160;
 
 /// Puts the rows of some lines of a run.

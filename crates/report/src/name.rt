@@ -21,7 +21,7 @@ pub fn scx_of(text: &str) -> Option<ScxNo>
     Some(ScxNo(number_of(text.strip_prefix('s')?)?))
 }
 
-/// The client of this number, whether or not there are so many.
+/// The client of this number, whether or not there is such a client.
 pub fn client_of(text: &str) -> Option<PassNo>
     ensures some { IfSome result (λ client. text.now ≡ decimal client.0) }
     ensures none { IfNone result ((n : ℕ) → n < 2 ^ 32 → text.now ≢ decimal n) }

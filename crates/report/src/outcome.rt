@@ -12,7 +12,7 @@ use std::alloc::{AllocError, Global};
 use std::io::Write;
 use texts::{Metered, Sheet, WriteFault, send};
 
-/// How long a row is at most, but for the reply in it.
+/// How long a row is at most, except for the reply in it.
 const LONGEST: usize = 80;
 
 /// How many rows are made in memory before they go out.
@@ -20,7 +20,7 @@ const ROWS: usize = 64;
 
 /// Writes the outcome of a run: a row that names the format, one that says whether the gate was
 /// met, the replies by client and call, the pairs by key, and a row that counts both. After a fault
-/// what went out is a beginning of it.
+/// what was written is a beginning of it.
 pub fn write_outcome<W: Write>(
     alloc: Global,
     missed: bool,

@@ -27,11 +27,11 @@ use std::alloc::Global;
 use std::io::Read;
 use texts::{Metered, Rows, by_failure_count};
 
-/// Reads a report of either version and mode: its rows are those of the record, and no others. Whether the run
-/// is lawful is not asked here, only what a row says by itself, the numbers of the calls and the
-/// counts of the end row. Where two answers have one text, a reply gets the one that its call may
-/// give. Nothing is kept of a text that is refused. What was written of a record is read as one that
-/// has the same report.
+/// Reads a report of either version and mode: its rows are those of the record, and no others.
+/// Whether the run is lawful is not asked here, only what a row says by itself, the numbers of the
+/// calls and the counts of the end row. Where two answers have one text, a reply gets the one that
+/// its call may give. Nothing is kept of a text that is refused. What was written of a record is
+/// read as one that has the same report.
 pub fn read_record<R: Read>(alloc: Global, from: &mut Metered<R>) -> Result<Record, ReportFault>
     ensures rows { (bytes : List ℕ) → R.remaining from.old.inner ≡ Some bytes → IfOk result (λ told. IsReportOf told.script told.lines.items bytes) }
     ensures again { (script : Script) (lines : List Line) → R.remaining from.old.inner ≡ Some (report_text script lines) →
@@ -42,7 +42,7 @@ pub fn read_record<R: Read>(alloc: Global, from: &mut Metered<R>) -> Result<Reco
     // A text that is refused is no report; the row that is named is the first that is as in none.
     ensures refused { (bytes : List ℕ) → R.remaining from.old.inner ≡ Some bytes → IfErr result (IfRefused (IsFirstBadRow bytes)) }
 
-    // Whether a read failed is told by the failure count, as long as it can rise.
+    // Whether a read failed follows from the failure count, as long as it can rise.
     ensures ok { OnOk result (from.new.failures ≡ from.old.failures) }
     ensures read { IsErrOf result ReportFault.Read → from.old.failures < 2 ^ 64 - 1 → from.new.failures ≢ from.old.failures }
     ensures failed { from.new.failures ≢ from.old.failures → IsErrOf result ReportFault.Read }
@@ -73,7 +73,7 @@ fn record_of<R: Read>(alloc: Global, from: &mut Metered<R>) -> Result<Record, Ro
     Ok(Record { script, lines })
 }
 
-/// Reads the first two rows and the calls, and goes on to the row behind them. It answers the
+/// Reads the first two rows and the calls, and advances to the row after them. It answers the
 /// version too.
 fn script_of<R: Read + Drop>(
     alloc: Global,

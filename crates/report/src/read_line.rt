@@ -37,7 +37,7 @@ use std::io::Read;
 use texts::{Rows, number_of};
 
 /// Reads the lines from this row on, up to the first row that begins as the end row does. The calls
-/// are those of so many clients.
+/// are those of the clients below `passes`.
 pub fn lines_of<R: Read + Drop>(
     alloc: Global,
     rows: &mut Rows<R>,
@@ -73,7 +73,7 @@ pub fn lines_of<R: Read + Drop>(
     Ok(lines)
 }
 
-/// The line of this row, whose reply is counted if it is of one of so many clients.
+/// The line of this row, whose reply is counted if it is of a client below `passes`.
 fn next_line<R: Read + Drop>(
     alloc: Global,
     rows: &Rows<R>,

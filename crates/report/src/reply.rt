@@ -13,7 +13,7 @@ use ordered_map::Reply;
 use std::alloc::{AllocError, Global};
 use texts::{Sheet, number_of, small_number_of};
 
-/// Puts the text of a reply: its name, and what it tells.
+/// Puts the text of a reply: its name, and what it says.
 pub fn put_reply(sheet: &mut Sheet, reply: &Reply<u64, u128>) -> Result<(), AllocError>
     ensures text { OnOk result (sheet_text sheet.new ≡ sheet_text sheet.old ++ reply_text reply.now) }
     ensures plain { OnOk result (IsPlain (reply_text reply.now)) }
@@ -79,7 +79,7 @@ fn put_pairs(sheet: &mut Sheet, pairs: &[(u64, u128)]) -> Result<(), AllocError>
     Ok(())
 }
 
-/// Puts a key and its value, each behind a space.
+/// Puts a key and its value, each after a space.
 fn put_pair(sheet: &mut Sheet, key: u64, value: u128) -> Result<(), AllocError>
     ensures text { OnOk result (sheet_text sheet.new ≡ sheet_text sheet.old ++ (codes " " ++ (decimal key ++ (codes " " ++ decimal value)))) }
     ensures key { OnOk result (IsPlain (decimal key)) }
@@ -93,7 +93,7 @@ fn put_pair(sheet: &mut Sheet, key: u64, value: u128) -> Result<(), AllocError>
     Ok(())
 }
 
-/// The pairs that are told behind the name of their reply.
+/// The pairs that follow the name of their reply.
 pub(crate) fn pairs_of(
     alloc: Global,
     told: Option<&str>,
@@ -115,7 +115,7 @@ pub(crate) fn pairs_of(
     Ok(Some(Reply::Pairs(pairs)))
 }
 
-/// The pair at the head of a text, and what stands behind the next space.
+/// The pair at the head of a text, and what is after the next space.
 fn first_pair_of(text: &str, version: Version) -> Option<((u64, u128), Option<&str>)>
     ensures some { IfSome result (λ r. text.now ≡ decimal r.0.0 ++ (codes " " ++ (decimal r.0.1 ++ rest_text r.1))) }
     ensures fits { IfSome result (λ r. IsSpelledPair version r.0) }
@@ -128,7 +128,7 @@ fn first_pair_of(text: &str, version: Version) -> Option<((u64, u128), Option<&s
     Some(((number_of(key)?, version.value_of(value)?), rest))
 }
 
-/// What stands before the first space of a text, and behind it if there is one.
+/// What is before the first space of a text, and after it if there is one.
 pub(crate) fn first_word_of(text: &str) -> (&str, Option<&str>)
     ensures whole { text.now ≡ result.0.now ++ rest_text result.1 }
     ensures free { HasNoSpace result.0.now }
@@ -139,7 +139,7 @@ pub(crate) fn first_word_of(text: &str) -> (&str, Option<&str>)
     }
 }
 
-/// The reply of this name that tells this, if it is not of many pairs.
+/// The reply of this name that says this, if it is not of many pairs.
 pub(crate) fn telling_reply_of(name: &str, told: &str, version: Version) -> Option<Reply<u64, u128>>
     ensures some { IfSome result (λ reply. name.now ++ (codes " " ++ told.now) ≡ reply_text reply) }
     ensures spelled { IfSome result (IsSpelledReply version) }

@@ -15,7 +15,7 @@ use texts::Rows;
 /// How many fields a row of a report has.
 const WIDTH: usize = 7;
 
-/// Goes on to the next row, or to the place behind the last row, where it answers false.
+/// Advances to the next row, or past the last row, when it answers false.
 pub fn advance<R: Read + Drop>(rows: &mut Rows<R>) -> Result<bool, RowFault>
     ensures number { rows.new.number ≡ min (rows.old.number + 1) (2 ^ 64 - 1) }
     ensures row { (bytes : List ℕ) (so_far : List (List (List ℕ))) → HasRead R.remaining bytes so_far rows.old →
@@ -27,7 +27,7 @@ pub fn advance<R: Read + Drop>(rows: &mut Rows<R>) -> Result<bool, RowFault>
     rows.advance(WIDTH)
 }
 
-/// Goes on to the next row, which has to be there.
+/// Advances to the next row, which has to be there.
 pub fn next_row<R: Read + Drop>(rows: &mut Rows<R>) -> Result<(), RowFault>
     ensures number { rows.new.number ≡ min (rows.old.number + 1) (2 ^ 64 - 1) }
     ensures row { (bytes : List ℕ) (so_far : List (List (List ℕ))) → HasRead R.remaining bytes so_far rows.old →

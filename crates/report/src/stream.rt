@@ -84,8 +84,8 @@ pub struct Stream {
 impl Stream {
     ghost use Rattle.report.specs.Streams.{HasWritten, IsCutAt, text_so_far};
 
-    /// Writes the rows before the first turn: those of the format, the limits and the calls. After a
-    /// fault what went out is a beginning of them. The faults are `NoMemory` and `Write`.
+    /// Writes the rows before the first turn: those of the format, the limits and the calls. After
+    /// a fault what was written is a beginning of them. The faults are `NoMemory` and `Write`.
     pub fn new<W: Write>(
         alloc: Global,
         script: &Script,
@@ -114,10 +114,10 @@ impl Stream {
         })
     }
 
-    /// One turn of a client, as `Core::step_into` makes it, and its lines, which are written, and stand in
-    /// `lines` until the next. Where memory for them is refused before the turn, nothing has changed,
-    /// and the same turn can be asked again. Where a write fails, or memory is refused after the turn,
-    /// what went out is a beginning of the report, and the stream has ended.
+    /// One turn of a client, as `Core::step_into` makes it, and its lines, which are written, and
+    /// are in `lines` until the next. If memory for them is refused before it, nothing has changed,
+    /// and the same turn can be asked again. If a write fails, or memory is refused after the turn,
+    /// what was written is a beginning of the report, and the stream has ended.
     pub fn turn<W: Write>(&mut self, client: PassNo, to: &mut Metered<W>) -> Result<(), StreamFault>
         requires client { client.0 < passes_of self.old.core }
         requires steps { turns_made self.old.core < 2 ^ 64 - 1 }
@@ -129,7 +129,7 @@ impl Stream {
         ensures refused { (start : Option (List ℕ)) (p : PlayerView) → HasWritten self.old start (W.contents to.old.inner) p →
             OnErr result (self.new.ended ≡ false → HasWritten self.new start (W.contents to.new.inner) p × to.new ≡ to.old) }
 
-        // One behind it ends the stream.
+        // A fault after it ends the stream.
         ensures cut { (start : Option (List ℕ)) (p : PlayerView) → HasWritten self.old start (W.contents to.old.inner) p →
             OnErr result (IsTrue self.new.ended → IsCutAt start (W.contents to.new.inner) p client.0) }
         ensures failed { IsErrOf result StreamFault.Write → IsTrue self.new.ended }
@@ -164,8 +164,8 @@ impl Stream {
         self.lines.as_slice()
     }
 
-    /// Writes the last row, which counts the others. After a fault what went out is a beginning of
-    /// the report.
+    /// Writes the last row, which counts the others. After a fault what was written is a beginning
+    /// of the report.
     pub fn end<W: Write>(self, to: &mut Metered<W>) -> Result<(), StreamFault>
         ensures all { (start : Option (List ℕ)) (p : PlayerView) (script : Script) →
             HasWritten self start (W.contents to.old.inner) p → script_view script ≡ p.script →

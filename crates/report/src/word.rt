@@ -62,7 +62,7 @@ pub fn word_text(alloc: Global, word: Word) -> Result<String, AllocError>
     String::from_str(alloc, sheet.as_str())
 }
 
-/// The name of a word within its SCX-record, but for the number of a member that ends it.
+/// The name of a word within its SCX-record, except for the number of a member that ends it.
 fn scx_part(part: ScxWord) -> (&'static str, Option<u8>)
     ensures name { MatchOption result.1 (scx_part part ≡ result.0.now) (λ member. scx_part part ≡ result.0.now ++ decimal member) }
     ensures plain { IsPlain result.0.now }

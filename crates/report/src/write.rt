@@ -19,8 +19,8 @@ use texts::{Metered, Sheet, WriteFault, send};
 const ROWS: usize = 64;
 
 /// Writes the report of a run: a row that names the format and the mode, the limits, the calls of
-/// the script, the lines of the run in order, and a row that counts them. After a fault what went
-/// out is a beginning of the report.
+/// the script, the lines of the run in order, and a row that counts them. After a fault what was
+/// written is a beginning of the report.
 pub fn write_record<W: Write>(
     alloc: Global,
     record: &Record,
@@ -42,7 +42,7 @@ pub fn write_record<W: Write>(
     send(sheet.text(), to)
 }
 
-/// Writes the rows of calls, over what stands on the sheet.
+/// Writes the rows of calls, over what is on the sheet.
 pub fn write_calls<W: Write>(
     alloc: Global,
     sheet: &mut Sheet,

@@ -1,4 +1,4 @@
--- The calls of a client, one behind the other.
+-- The calls of a client, one after the other.
 use Rattle.std.proofs.Common.{◌≡◌, ◌∙◌, ℕ, ◌+◌, ◌<◌, Bool, true, false, cond, eqb, List, [], ◌∷◌, ◌++◌, take, length, get_or, Some, refl, sym, ap, subst, append-nil}
 use Rattle.std.proofs.lemmas.List.{take_more}
 use Rattle.arena.proofs.Lemmas.{ends_self, ends_trans}
@@ -52,10 +52,10 @@ commands_next calls i call c b less is same = commands_more calls i call c less
     ∙ ap (λ x. commands (take i calls) c ++ cond x (call.command ∷ []) []) same
 
 module _ (P : PassView → PassView → MapCall → Reply ℕ ℕ → Type 0) (calls : List Call) (i : ℕ) (call : Call) (c : ℕ) (less : i < length calls) (is : call ≡ get_or calls i call) (a b : PassView) (rs : List (Reply ℕ ℕ)) (h : HaveReplies P a (commands (take i calls) c) rs b) where
-  -- behind a call of the client
+  -- after a call of the client
   pub replies_next : eqb call.client.0 c ≡ true → (d : PassView) (made : MapCall) (reply : Reply ℕ ℕ) → map_call (Some call.command) ≡ Some made → P b d made reply → HaveReplies P a (commands (take (i + 1) calls) c) (rs ++ reply ∷ []) d
   replies_next same d made reply map p = subst (λ cs. HaveReplies P a cs (rs ++ reply ∷ []) d) (sym (commands_next calls i call c true less is same)) (replies_more P a b d (commands (take i calls) c) rs call.command made reply h map p)
 
-  -- behind another's
+  -- after another's
   pub replies_skip : eqb call.client.0 c ≡ false → HaveReplies P a (commands (take (i + 1) calls) c) rs b
   replies_skip same = subst (λ cs. HaveReplies P a cs rs b) (sym (commands_next calls i call c false less is same ∙ append-nil (commands (take i calls) c))) h

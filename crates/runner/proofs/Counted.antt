@@ -35,7 +35,7 @@ set_one counts client k less = go (eqb client k) refl
     go true e = let is = eqb-true client k e in get_or-set_at counts client k (get_or counts client 0 + 1) 0 (sym is) less ∙ ap (λ n. get_or counts n 0 + 1) is
     go false e = let rest : get_or counts k 0 ≡ get_or counts k 0 + 0 = omega arith in get_or-set_other counts client k (get_or counts client 0 + 1) 0 (λ is. eqb-false client k e (sym is)) ∙ rest
 
--- the counts behind the next call, which is of a client below so many
+-- the counts after the next call, which is of one of the clients counted
 pub counted : (calls : List Call) (i : ℕ) (call : Call) (counts : List ℕ) → i < length calls → call ≡ get_or calls i call → call.client.0 < length counts → ((k : ℕ) → k < length counts → get_or counts k 0 ≡ call_count (take i calls) k) → (k : ℕ) → k < length counts → get_or (set counts call.client.0 (get_or counts call.client.0 0 + 1)) k 0 ≡ call_count (take (i + 1) calls) k
 counted calls i call counts less is inside so k below = set_one counts call.client.0 k inside ∙ ap (λ n. n + cond (eqb call.client.0 k) 1 0) (so k below) ∙ sym (more_calls calls i call k less is)
 

@@ -43,7 +43,7 @@ worked_of f calls [] [] (r ∷ owns) h = absurd h
 worked_of f calls (o ∷ olds) [] owns h = absurd h
 worked_of f calls (o ∷ olds) (n ∷ news) [] h = absurd h
 
--- what stands at a place
+-- what is at a place
 pub record WorkedAt (f : Ground) (calls : List Call) (olds news : List PassView) (c : ℕ) (own : List (Reply ℕ ℕ)) : Type 0 where
   pub old : PassView
   pub new : PassView
@@ -60,7 +60,7 @@ worked_at f calls [] [] (r ∷ owns) h c own e = absurd h
 worked_at f calls (o ∷ olds) [] owns h c own e = absurd h
 worked_at f calls (o ∷ olds) (n ∷ news) [] h c own e = absurd h
 
--- a pass that stands somewhere is there
+-- a pass that is somewhere is there
 has_at : (ps : List PassView) (c : ℕ) (p : PassView) → slice_get ps c ≡ Some p → HasPass ps p.number
 has_at [] c p e = absurd (none_some p e)
 has_at (q ∷ ps) zero p e = (0, omega arith, ap (λ (x : PassView). x.number) (some_same q p e))
@@ -83,7 +83,7 @@ worked_back f calls olds news owns new h n less =
 
 -- Threads, one after the other
 
--- what is left of a list behind its first
+-- what is left of a list after its first
 module _ {T : Type 0} (rest more : List T) (t : T) (step : rest ≡ t ∷ more) where
   pub first_too : (D : T → Type 0) → All D rest → D t
   first_too D a = All-head D t more (subst (All D) step a)

@@ -1,4 +1,4 @@
--- Where the calls of a client stand in the history of the whole run.
+-- Where the calls of a client are in the history of the whole run.
 use Rattle.std.proofs.Common.{◌≡◌, ◌∙◌, ℕ, inr, List, [], ◌∷◌, Option, Some, None, refl, sym, ap, subst}
 use Rattle.arena.specs.declared.layout.Layout.{Layout}
 use Rattle.arena.specs.History.{History, ◌⊳◌, value, Extends}
@@ -67,7 +67,7 @@ module _ (forest : Ground) (run : History) (versions : History → List Pair) (a
     placed_as (Some edit) call told e x = entry_placed call told edit e x
     placed_as None call told e x = read_placed call told x
 
-    -- what a reply tells, or that the call has no entry
+    -- what a reply says, or that the call has no entry
     placed : (call : MapCall) (r : Reply ℕ ℕ) → IsToldOf old new call (told_of (λ n. n) (λ n. n) r) → IsRefusalOf forest.tries old new call r → IsPlacedInRun lay versions old new call (told_of (λ n. n) (λ n. n) r)
     placed call (replies.Value v) x y = placed_as (edit_of call _) call _ refl x
     placed call (replies.Pair p) x y = placed_as (edit_of call _) call _ refl x

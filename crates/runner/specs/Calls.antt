@@ -1,4 +1,4 @@
--- The calls of a client, as its pass makes them one behind the other.
+-- The calls of a client, as its pass makes them one after the other.
 use Rattle.std.specs.Prelude.{◌≡◌, ℕ, ◌<◌, ◌^◌, List, [], ◌∷◌, Some, Vec}
 use Rattle.std.specs.Global.{Global}
 use Rattle.arena.specs.declared.layout.Layout.{Layout}
@@ -22,7 +22,7 @@ NumbersAllow = TypedAllows IsNumber IsWideNumber
 abbrev pub HasCalledNumbers : Ground → PassView → PassView → MapCall → Reply ℕ ℕ → Type 0
 HasCalledNumbers = HasCalled (λ k. k < 2 ^ 64) (λ k. k) (λ v. v < 2 ^ 128) (λ v. v)
 
--- The pass has made the calls of these commands, one behind the other, and they have these replies;
+-- The pass has made the calls of these commands, one after the other, and they have these replies;
 -- each call with its reply is as P says. The pass knew `old` as the first began, and `new` at the
 -- end of the last.
 abbrev pub HaveReplies : (PassView → PassView → MapCall → Reply ℕ ℕ → Type 0) → PassView → List Command → List (Reply ℕ ℕ) → PassView → Type 0
@@ -36,7 +36,7 @@ pub record HasWorked (forest : Ground) (calls : List Call) (old new : PassView) 
   pub number : new.number ≡ old.number
   pub made : HaveReplies (HasCalledNumbers forest) old (commands calls old.number) replies new
 
--- each of these passes has worked, and has given back what stands at its place
+-- each of these passes has worked, and has given back what is at its place
 abbrev pub HaveWorked : Ground → List Call → List PassView → List PassView → List (Vec (Reply ℕ ℕ) Global) → Type 0
 HaveWorked forest calls [] [] [] = Unit {0}
 HaveWorked forest calls (old ∷ olds) (new ∷ news) (own ∷ replies) = HasWorked forest calls old new own.items × HaveWorked forest calls olds news replies

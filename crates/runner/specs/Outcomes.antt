@@ -18,7 +18,7 @@ use Rattle.forest.specs.Shares.{entries_of}
 use Rattle.runner.specs.Calls.{NumbersAllow, HaveReplies}
 use Rattle.runner.specs.Histories.{AreVersions, IsAnswered}
 
--- All calls of client c stand in the history of this run, one behind the other from its start on,
+-- All calls of client c are in the history of this run, one after the other from its start on,
 -- each with its reply. `lasts` says of each client what its pass knew at the end of its last call.
 pub record IsClientOfRun (forest : Ground) (run : History) (versions : History → List Pair) (lasts : List PassView) (c : ℕ) (calls : List Command) (replies : List (Reply ℕ ℕ)) : Type 0 where
   pub last : PassView
@@ -27,12 +27,12 @@ pub record IsClientOfRun (forest : Ground) (run : History) (versions : History �
   pub within : Extends run (run_of last)
   -- its entries in the run are those of its changing calls, and no others
   pub entries : entries_of c (log forest.layout run) ≡ done_of last
-  -- behind the last it has only looked at the table: it has made no call more
+  -- after the last it has only looked at the table: it has made no further call
   pub looks : HoldsOfOwn IsLook c (run_of last) run
 
--- There is one lawful run of a dictionary within the script's limits, whose calls try as often as
--- the script says. All calls of all clients stand in its history, each client's in the script's
--- order, with one reply for each call; the pairs are those of the last version.
+-- There is one lawful run of a dictionary within the script's limits, whose calls make at most the
+-- tries that the script says. All calls of all clients are in its history, each client's in the
+-- script's order, with one reply for each call; the pairs are those of the last version.
 pub record IsOutcome (script : Script) (replies : List (Vec (Reply ℕ ℕ) Global)) (pairs : List (ℕ × ℕ)) : Type 0 where
   pub forest : Ground
   pub layout : IsLayoutOf script.limits Tree forest.layout

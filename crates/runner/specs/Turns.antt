@@ -14,7 +14,7 @@ call_count calls c = length (commands calls c)
 abbrev pub call_if : (ℕ → ℕ) → ℕ → ℕ → Option (PassNo × ℕ)
 call_if counts c j = if nat_lt j (counts c) then Some (record { 0 = c }, j) else None
 
--- Where so many clients take turns, call j of a client waits for call j of the client before it;
+-- If this many clients take turns, call j of a client waits for call j of the client before it;
 -- the first client's waits for call j - 1 of the last client, and its first call for none.
 abbrev pub in_turn : (ℕ → ℕ) → ℕ → ℕ → ℕ → Option (PassNo × ℕ)
 in_turn counts clients (suc c) j = call_if counts c j
@@ -27,8 +27,8 @@ abbrev pub held_back : Bool → ℕ → ℕ → Option (PassNo × ℕ)
 held_back true zero zero = Some (record { 0 = 1 }, 0)
 held_back holds c j = None
 
--- where the first client is held in the midst of its first call, that call waits behind a step of
--- kind `freeze` for the first call of client 1; behind no other step a call waits
+-- where the first client is held in the midst of its first call, that call waits after a step of
+-- kind `freeze` for the first call of client 1; after no other step a call waits
 abbrev pub held_frozen : Bool → ℕ → ℕ → Kind → Option (PassNo × ℕ)
 held_frozen holds c j Freeze = held_back holds c j
 held_frozen holds c j kind = None

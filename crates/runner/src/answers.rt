@@ -7,7 +7,7 @@ use std::array::from_fn;
 use std::sync::atomic::{AtomicBool, AtomicU64, Ordering};
 use std::thread::yield_now;
 
-/// How often a call looks at most whether what it waits for has come.
+/// How many times a call looks at most whether what it waits for has happened.
 pub(crate) const MOST_LOOKS: u64 = 1_000_000_000;
 
 /// How often it looks before it leaves its processor to another thread.
@@ -72,7 +72,7 @@ impl Answers {
     }
 }
 
-/// Whether this call, counted from 0, is answered where so many calls of its client are.
+/// Whether this call, counted from 0, is answered if this many calls of its client are.
 fn is_answered(call: u64, answered: u64) -> bool
     ensures { IsTrue result ↔ call < answered }
 {

@@ -22,7 +22,7 @@ pub(crate) type Numbers = Dict<u64, u128>;
 /// What a client's thread gives back: its pass, and the replies to its calls.
 pub(crate) type Worked = Result<(Pass<Numbers>, Vec<Reply<u64, u128>>), NoMemory>;
 
-/// Makes the calls of the pass's client among these, one after the other, and tells the gate of
+/// Makes the calls of the pass's client among these, one after the other, and notifies the gate of
 /// them. The only error is want of memory.
 pub(crate) fn make_calls<G: Gate>(
     alloc: Global,

@@ -1,7 +1,7 @@
-//! What a run tells of its calls while it makes them.
+//! What a run reports of its calls while it makes them.
 use arena::{Kind, PassNo};
 
-/// Is told of each call of a run by the thread that makes it, and may let that thread wait. A
+/// Is notified of each call of a run by the thread that makes it, and may let that thread wait. A
 /// client's calls are numbered from 0.
 pub trait Gate: Sync {
     /// The call is about to make its first step.

@@ -1,4 +1,4 @@
-//! What a run leaves behind.
+//! What a run leaves.
 use dict::Reply;
 
 /// What the clients of a script were answered, and what is left in the map.

@@ -18,8 +18,8 @@ use std::alloc::Global;
 use std::sync::Wait;
 use std::thread::{Threads, scope, scope_env};
 
-/// Runs a script of the tree with a thread for each client, which tells the gate of its calls. The
-/// only error is want of memory, also for a thread: the threads that were started have ended then.
+/// Runs a script of the tree with a thread for each client, which notifies the gate of its calls.
+/// The only error is want of memory, also for a thread: those that were started have ended then.
 pub fn run<R: Threads + Wait + Sync, G: Gate>(
     rt: &R,
     alloc: Global,

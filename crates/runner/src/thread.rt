@@ -39,7 +39,7 @@ impl<'a> Promise<Worked> for Duty<'a> {
     ghost kept_by = { λ d worked. IfOk worked (λ w. HasWorked d.forest.now d.calls.now d.pass.value w.0 w.1.items) };
 }
 
-/// Starts a thread for each pass, and tells whether all were started. The only error is want of
+/// Starts a thread for each pass, and returns whether all were started. The only error is want of
 /// memory before the first.
 pub(crate) fn start_all<'s, E, G: Gate>(
     alloc: Global,

@@ -86,8 +86,8 @@ fn run(queue: &Forest<Queue>, pass: &mut Pass<Queue>, runs: &[AtomicU64], due: D
     }
 }
 
-/// What a thread does with its pass: it takes jobs out and runs them until there is none. A job that
-/// another thread is running may be put in again after that, and then that thread takes it.
+/// What a thread does with its pass: it takes jobs out and runs them until there is none. A job
+/// that another thread is running may be put in again after that, and then that thread takes it.
 fn work(queue: &Forest<Queue>, mut pass: Pass<Queue>, runs: &[AtomicU64]) -> Pass<Queue>
     requires { IsOf queue.now pass }
     ensures { IsOf queue.now result }
@@ -103,7 +103,7 @@ fn work(queue: &Forest<Queue>, mut pass: Pass<Queue>, runs: &[AtomicU64]) -> Pas
     pass
 }
 
-/// All threads work, and come back with their passes.
+/// All threads work, and return their passes.
 fn work_all<R: Threads + Sync>(
     rt: &R,
     queue: &Forest<Queue>,

@@ -5,7 +5,7 @@ use Rattle.std.proofs.Math.Seq.{get_or-append_seam}
 use Rattle.std.proofs.lemmas.List.{get_or_append_left}
 use Rattle.std.proofs.lemmas.Grind.{get_or_default_zero}
 
--- what stands before the end, and is what was put there, is in the list
+-- what is before the end, and is what was put there, is in the list
 found_before_end : (xs : List ℕ) (y i d : ℕ) → i < length xs → get_or (xs ++ y ∷ []) i d ≡ get_or (xs ++ y ∷ []) (length xs) d → Contains xs y
 found_before_end xs y i d lt same =
     (i, lt, get_or_default_zero xs i y lt ∙ sym (get_or_default_zero xs i d lt) ∙ sym (get_or_append_left xs (y ∷ []) d i lt) ∙ same ∙ get_or-append_seam xs y [] d)

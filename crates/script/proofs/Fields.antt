@@ -1,4 +1,4 @@
--- Rows of so many fields.
+-- Rows of a fixed number of fields.
 use Rattle.std.proofs.Common.{◌≡◌, ℕ, List, [], ◌∷◌, length, refl, sym, ◌∙◌, arith, rules, Result, Ok, Err, IfOk}
 use Rattle.csv.specs.Records.{field_at}
 use Rattle.texts.specs.Fields.{field_of}
@@ -24,6 +24,6 @@ pub read_four : {T E : Type 0} (row : T → List (List ℕ)) (r : Result T E) (f
 read_four row (Ok t) fields a b c d is_a is_b is_c is_d says = λ h. four_fields_are fields a b c d h is_a is_b is_c is_d ∙ sym says
 read_four row (Err e) fields a b c d is_a is_b is_c is_d says = search rules
 
--- a row of five fields that is a command behind a client
+-- a row of five fields that is a command after a client
 pub five_fields_say : (fields rest : List (List ℕ)) (first : List ℕ) → length fields ≡ 5 → fields ≡ first ∷ rest → field_of fields 1 ∷ field_of fields 2 ∷ field_of fields 3 ∷ field_of fields 4 ∷ [] ≡ rest
 five_fields_say fields rest first h is = let all = five_fields fields h in cc

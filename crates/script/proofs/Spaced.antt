@@ -33,7 +33,7 @@ parts_from n (m ∷ ns) all =
     slice_split_at (λ b. eqb b 32) (decimal n) 32 (decimal m ++ spaced ns) (no_space n (small n (All-head IsCell n (m ∷ ns) all))) refl ∙
     ap (λ parts. decimal n ∷ parts) (parts_from m ns (All-tail IsCell n (m ∷ ns) all))
 
--- between the spaces of cells' text stand the cells' own texts
+-- between the spaces of cells' text are the cells' own texts
 pub parts_are : (ns : List ℕ) → AreCells ns → parts_of (numbers_text ns) ≡ map decimal ns
 parts_are [] cells = absurd (omega arith)
 parts_are (n ∷ ns) cells = parts_from n ns cells.1

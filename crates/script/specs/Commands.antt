@@ -114,7 +114,7 @@ abbrev pub AsksForFewPairs : Command → Type 0
 AsksForFewPairs (Map request) = AsksForFew request
 AsksForFewPairs _ = Unit {0}
 
--- the texts behind references
+-- the texts that references refer to
 abbrev pub texts : List (Bor (List ℕ)) → List (List ℕ)
 texts = map (λ text. text.now)
 
@@ -131,9 +131,9 @@ AreCells nodes = (1 ≤ length nodes) × All IsCell nodes
 abbrev pub IsRequest : Request ℕ ℕ → Type 0
 IsRequest request = AllByRecursion IsArgument (request_arguments request)
 
--- the command is one that there is: its nodes are cells, the value of a fresh cell fits a word, and a
--- call of the map is one that there is; an `Update` itself says that those finalized are a part of its
--- cells, and that its field belongs to one
+-- the command is one that there is: its nodes are cells, the value of a fresh cell fits a word, and
+-- a call of the map is one that there is; an `Update` itself says that those finalized are a part
+-- of its cells, and that its field belongs to one
 abbrev pub IsCommand : Command → Type 0
 IsCommand (Llx cell) = IsCell cell
 IsCommand (Scx update) = AreCells (update_cells update) × (update_value update < 2 ^ 64)

@@ -18,11 +18,11 @@ use Rattle.texts.specs.Texts.{AreRows, BeginWithRows, Grammar, IsFirstFault, IsR
 
 -- Schedules
 
--- how a schedule for so many clients says its orders: four fields a row, the rows of `order_row`
+-- how a schedule for this many clients says its orders: four fields a row, the rows of `order_row`
 abbrev pub order_grammar : ℕ → Grammar Order ScheduleCause
 order_grammar passes = record { width = 4; row_of = order_row; Accepts = IsOrder passes; IsNoEntry = IsNoOrder passes; fields = schedule.Fields; end = schedule.End; long = schedule.Long }
 
--- the bytes say these orders of so many clients, and nothing else
+-- the bytes say these orders of this many clients, and nothing else
 abbrev pub SayOrders : ℕ → List ℕ → List Order → Type 0
 SayOrders passes bytes orders = SayEntries (order_grammar passes) bytes [] orders
 
@@ -51,7 +51,7 @@ IsHeadFault bytes cause =
     ⊎ ((fields : List (List ℕ)) × BeginWithRows bytes (fields ∷ []) × IsRow 5 fields × ((limits : Limits) → IsAccepted limits → fields ≢ limits_row limits) × (cause ≡ script.Limits))
 
 -- the first faulty row of a script, and what is wrong with it first: it is
--- the first one, or it stands behind the limits
+-- the first one, or it comes after the limits
 abbrev pub IsScriptFault : Mode → List ℕ → ℕ → ScriptCause → Type 0
 IsScriptFault mode bytes row cause =
     ((row ≡ 1) × IsHeadFault bytes cause)

@@ -12,7 +12,7 @@ use Rattle.script.specs.Fields.{NamesClient}
 use Rattle.script.specs.Kinds.{kind_text}
 use Rattle.script.specs.OrderKind.{order_kind_text}
 
--- the order is accepted: its client is one of so many, and its turns or steps are 1 to 1,000,000
+-- the order is accepted: its client is one of this many, and its turns or steps are 1 to 1,000,000
 abbrev pub IsOrder : ℕ → Order → Type 0
 IsOrder passes (Step client turns) = (client.0 < passes) × (1 ≤ turns) × (turns ≤ 1000000)
 IsOrder passes (Call client) = client.0 < passes

@@ -26,7 +26,7 @@ pub enum ScriptCause {
     /// The arguments do not fit the command.
     #[error("argument")]
     Argument,
-    /// The end row is missing or wrong, or a row stands behind it.
+    /// The end row is missing or wrong, or a row comes after it.
     #[error("end")]
     End,
     /// The 65,537th call.
@@ -53,7 +53,7 @@ pub enum ScheduleCause {
     /// the order has one, or is not empty elsewhere.
     #[error("number")]
     Number,
-    /// The end row is missing or wrong, or a row stands behind it.
+    /// The end row is missing or wrong, or a row comes after it.
     #[error("end")]
     End,
     /// The 65,537th order.

@@ -21,7 +21,7 @@ use texts::{Format, Metered, Rows, by_failure_count, field, small_number_of};
 /// What one row of a schedule orders.
 #[derive(Clone, Copy, Debug, PartialEq, Eq)]
 pub enum Order {
-    /// So many turns of the client.
+    /// `times` turns of the client.
     Step {
         client: PassNo,
         turns: u32,
@@ -30,7 +30,7 @@ pub enum Order {
     Call {
         client: PassNo,
     },
-    /// Turns until the client has made so many more steps of the kind, or has no call left.
+    /// Turns until the client has made `times` more steps of the kind, or has no call left.
     Until {
         client: PassNo,
         kind: Kind,
@@ -58,12 +58,12 @@ pub fn read_schedule<R: Read>(
 ) -> Result<Schedule, ScheduleFault>
     ensures orders { IfOk result (λ schedule. All (IsOrder script.now.layout.passes) schedule.orders.items) }
 
-    // Of a reader that tells its bytes: the schedule is what they say, and a fault is their first.
+    // Of a reader whose bytes are known: the schedule is what they say, and a fault is their first.
     ensures says { (bytes : List ℕ) → R.remaining from.old.inner ≡ Some bytes → IfOk result
         (λ schedule. SayOrders script.now.layout.passes bytes schedule.orders.items) }
     ensures fault { (bytes : List ℕ) → R.remaining from.old.inner ≡ Some bytes → IfErr result (IfBad (IsScheduleFault script.now.layout.passes bytes)) }
 
-    // Whether a read failed is told by the failure count, as long as it can rise.
+    // Whether a read failed follows from the failure count, as long as it can rise.
     ensures ok { OnOk result (from.new.failures ≡ from.old.failures) }
     ensures read { IsErrOf result TextFault.Read → from.old.failures < 2 ^ 64 - 1 → from.new.failures ≢ from.old.failures }
     ensures failed { from.new.failures ≢ from.old.failures → IsErrOf result TextFault.Read }

@@ -73,12 +73,12 @@ pub fn read_script<R: Read>(
 ) -> Result<Script, ScriptFault>
     ensures mode { IfOk result (λ script. script.layout.mode ≡ mode) }
 
-    // Of a reader that tells its bytes: the script is what they say, and a fault is their first.
+    // Of a reader whose bytes are known: the script is what they say, and a fault is their first.
     ensures says { (bytes : List ℕ) → R.remaining from.old.inner ≡ Some bytes → IfOk result
         (λ script. SayScript mode bytes script.limits script.layout script.calls.items) }
     ensures fault { (bytes : List ℕ) → R.remaining from.old.inner ≡ Some bytes → IfErr result (IfBad (IsScriptFault mode bytes)) }
 
-    // Whether a read failed is told by the failure count, as long as it can rise.
+    // Whether a read failed follows from the failure count, as long as it can rise.
     ensures ok { OnOk result (from.new.failures ≡ from.old.failures) }
     ensures read { IsErrOf result TextFault.Read → from.old.failures < 2 ^ 64 - 1 → from.new.failures ≢ from.old.failures }
     ensures failed { from.new.failures ≢ from.old.failures → IsErrOf result TextFault.Read }

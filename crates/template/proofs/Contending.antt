@@ -1,5 +1,5 @@
 -- Who was in the way of a call on the tree: another's SCX-record, which is finished at the end of
--- the call or has come to the node in it.
+-- the call or has reached the node in it.
 use Rattle.std.proofs.Common.{◌≡◌, ◌≢◌, ℕ, List, inl, inr, ⊎_elim, sym, ◌∙◌, ap, subst, arith}
 use native.Mathlib.Decide.{ℕ_discrete}
 use Rattle.arena.specs.declared.layout.Layout.{Layout}
@@ -25,7 +25,7 @@ use Rattle.prims.specs.declared.snap.Snap.{Snap}
 use Rattle.ordered_map.proofs.Lemmas.{blame_finalizer}
 use Rattle.template.specs.Blame.{WasNotFinal, HasCome, IsContended}
 
--- What has come to a node
+-- What has reached a node
 
 -- an info that is no longer what it was names an SCX-record that it had never named by then
 come_info : (lay : Layout) (h m : History) (n : ℕ) → Lawful lay h → Extends h m → value h (info n) ≢ value m (info n) → ¬ HasHeld m (info n) (value h (info n))
@@ -51,11 +51,11 @@ come_info lay (r ⊳ h) m n l (inr e) d = go (effect lay h r l) (come_info lay h
             let then : HasHeld h (info n) u = held_since h m (info n) u e (rw q at held) in
             freeze_is_new f w (subst (λ k. HasHeld h (info k) u) (sym p) then)
 
--- what has come by a moment has come by a later one
+-- what has reached it by a moment has done so by a later one
 come_later : (h m start : History) (n s : ℕ) → Extends h m → HasCome m start n s → HasCome h start n s
 come_later h m start n s e x = record { named = held_since h m (info n) s e x.named; new = x.new }
 
--- what has come since a moment has come since an earlier one
+-- what has reached it since a moment has done so since an earlier one
 come_wider : (h m start : History) (n s : ℕ) → Extends m start → HasCome h m n s → HasCome h start n s
 come_wider h m start n s e x = record { named = x.named; new = λ p. x.new (held_since m start (info n) s e p) }
 

@@ -116,7 +116,7 @@ module _ (c : Call) (h : History) (k old : ℕ) (f : Found) (d : Descriptor) (ab
     copied = λ fork side. subst (λ m. value h (child m side) ≡ (child_of sibling side).0) (sym i.new) (w.fields (subst (λ m. is_leaf (value h) m ≡ false) (sym sibling_is.node) fork) side);
   }
 
--- An SCX-record that puts a fresh copy of the sibling of the key's leaf, which has no other pair, into
--- the place of their parent deletes the key.
+-- An SCX-record that puts a fresh copy of the sibling of the key's leaf, which has no other pair,
+-- into the place of their parent deletes the key.
 pub join_promised : (c : Call) (h : History) (s k old : ℕ) (f : Found) (d : Descriptor) (above sibling : Snap) (n : ℕ) → IsTreeRun c.layout h → k < 2 ^ 64 → HasFoundLeaf c h k f → f.value ≡ Some old → f.more ≡ 0 → IsJoinAt f d above n → IsSnapOf c.layout h d 1 above → (child_of above f.trail.side).0 ≡ f.trail.node.0 → IsSnapOf c.layout h d (sibling_place f.trail.side) sibling → HasFreshCopy c.layout c.pass h sibling n → IsPromised c.layout c.pass h s d (Delete k)
 join_promised c h s k old f d above sibling n run small a found alone i above_is same sibling_is w = taken_out_promised c.layout c.pass s h d (Delete k) f.trail.side c.is_pass (will_take_out c h k old f d above sibling n run small a found alone i above_is same sibling_is w)

@@ -1,5 +1,5 @@
--- What the walk to an end has found: the leaf on the path of its own key there, and the pair at that
--- end of the map.
+-- What the walk to an end has found: the leaf on the path of its own key there, and the pair at
+-- that end of the map.
 use Rattle.std.proofs.Common.{Bool, true, false, cond, eqb, ◌≡◌, ◌≢◌, ◌⊎◌, inl, inr, ℕ, ◌<◌, ◌≤◌, ◌^◌, eq-eqb, ne_eqb, lt-ltb, le-ltb, [], refl, sym, ◌∙◌, ap, arith, subst, Some, None}
 use Rattle.std.specs.Option.{option_map}
 use native.Mathlib.Decide.{ℕ_discrete}
@@ -26,7 +26,7 @@ use Rattle.template.specs.declared.walk.Found.{Found}
 use Rattle.ordered_map.specs.declared.rule.Goal.{Goal}
 use Rattle.ordered_map.specs.declared.rule.Goal.TheVariants.{Key as ToKey, End}
 
--- the key k stands on the side of a fork of this rank to which the search for the key at the end goes
+-- the key k is on the side of a fork of this rank to which the search for the key at the end goes
 abbrev pub IsWithin : Side → ℕ → ℕ → Type 0
 IsWithin Left k r = k < r
 IsWithin Right k r = IsUpTo Right k r
@@ -56,7 +56,7 @@ module _ (end : Side) (c : Call) (h : History) (n : ℕ) (side : Side) (next : �
   turned : side ≡ end_turn end (class (value h) n)
   turned = sym x.side_is ∙ walk_turns end c.layout h x.passed.first n run x.passed.passed x.fork
 
-  -- and how what it has found there stands to the fork
+  -- and where what it has found there is, seen from the fork
   turned_beside : IsBeside (value h) side n next
   turned_beside =
       let s = x.shown in
@@ -165,7 +165,7 @@ module _ (end : Side) (c : Call) (h : History) (f : Found) (run : IsTreeRun c.la
       at_grand : leaf ≢ 0 → f.trail.parent.0 ≢ 0 → IsWithin end f.key (rank (value h) f.trail.grand.0)
       at_grand d p = turned_within end c h f.trail.grand.0 f.trail.grand_side f.trail.parent.0 run (a.trail.grand d p) f.key (within_up end f.key (rank (value h) f.trail.parent.0) (at_parent d))
 
-  -- what its words say is what was told of it
+  -- what its words say is what was said of it
   pub found_told : end_said end (value h) leaf ≡ end_told f
   found_told = go (ℕ_discrete f.head.class 0)
     where
@@ -191,11 +191,11 @@ module _ (end : Side) (c : Call) (h : History) (f : Found) (run : IsTreeRun c.la
       go (yes z) = at_low z
       go (no d) = at_high d
 
-  -- so it tells the pair at that end of the map, at a moment of the call
+  -- so it answers the pair at that end of the map, at a moment of the call
   pub found_end : IsEndAt end c.layout h a.trail.node.first (end_told f)
   found_end = subst (IsEndAt end c.layout h a.trail.node.first) found_told (walk_end end c.layout h a.trail.node.first leaf run a.trail.node.passed a.leaf)
 
--- the key of which it tells is below 2 ^ 64
+-- the key that it answers is below 2 ^ 64
 pub found_small : (goal : Goal) (c : Call) (h : History) (f : Found) → IsTreeRun c.layout h → path_key goal < 2 ^ 64 → HasFoundGoal goal c h f → f.key < 2 ^ 64
 found_small (ToKey k) c h f run small a = subst (λ n. n < 2 ^ 64) a.key small
 found_small (End end) c h f run small a = small_end end c h f run a

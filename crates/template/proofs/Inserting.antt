@@ -31,7 +31,7 @@ leaf_edit_words m d f n x plan two parent leaf old new = record {
   new = x.new ∙ new;
 }
 
--- An SCX-record that puts such a fresh node into the place of the leaf that was found makes the edit.
+-- An SCX-record that puts such a fresh node in place of the leaf that was found makes the edit.
 pub edit_promised : (c : Call) (h : History) (s : ℕ) (e : MapEdit) (f : Found) (d : Descriptor) (n : ℕ) → IsTreeRun c.layout h → (edit_key e) < 2 ^ 64 → HasFoundLeaf c h (edit_key e) f → IsLeafEditAt f d n → HasFreshEdit c.layout c.pass h e f.trail.node.0 n → (value_left e ≡ None → f.value ≢ None) → IsPromised c.layout c.pass h s d e
 edit_promised c h s e f d n run small a i w there = leaf_edit_promised c.layout c.pass s h d e c.is_pass record {
   small = small;

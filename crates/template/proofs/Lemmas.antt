@@ -1,5 +1,5 @@
--- What the layers above know beside the clauses of walks, and of who was in the way of a call,
--- passed on from one place: no other module of these proofs can be named outside. Declares nothing.
+-- What the layers above know besides the clauses of walks, and of who was in the way of a call,
+-- exported from one place: no other module of these proofs can be named outside. Declares nothing.
 pub use Rattle.template.proofs.WalkBounds.{walk_loads, walk_fills_not, walk_ready_first, walk_ready_run, found_gives, found_below, found_blank, found_class, found_level, found_more, settled_asked, turned_lost, found_holds, said_low}
 pub use Rattle.template.proofs.WalkTurns.{own_since}
 pub use Rattle.template.proofs.Promised.{promised_allowed, promised_more}

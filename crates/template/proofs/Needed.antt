@@ -29,11 +29,11 @@ module _ (c : ℕ) where
   tries_grow (r ⊳ h) m (inl e) = rw e (omega arith)
   tries_grow (r ⊳ h) m (inr e) = let more = tries_grow h m e in let one = begun_by r h (begins_try c r) refl in omega (arith, more, one)
 
-  -- behind a row that begins a try there is one more than at each moment before
+  -- after a row that begins a try there is one more than at each moment before
   more_behind : (now begin : History) (first : Row) → begins_try c first ≡ true → Extends now (first ⊳ begin) → tries_begun c begin < tries_begun c now
   more_behind now begin first b e = let one = tries_begin c first begin b in let grow = tries_grow now (first ⊳ begin) e in omega (arith, one, grow)
 
-  -- and behind one row more at most one more
+  -- and after one more row at most one more
   pub one_row : (r : Row) (h : History) → tries_begun c (r ⊳ h) ≤ suc (tries_begun c h)
   one_row r h = at_most (begins_try c r) refl
     where
@@ -45,7 +45,7 @@ module _ (c : ℕ) where
   other_row : (r first : Row) (h begin : History) → begins_try c r ≡ false → begins_try c first ≡ true → first ⊳ begin ≡ r ⊳ h → ⊥
   other_row r first h begin none b e = cc
 
-  -- a row that begins a try is the one that began the newest, or stands before it
+  -- a row that begins a try is the one that began the newest, or is before it
   not_behind : (now begin start then : History) (x : IsNewestTry c now begin) (y : HasBegunTry c now start then) → Extends (x.first ⊳ begin) (y.first ⊳ then)
   not_behind now begin start then x y = ⊎_elim (λ d. d) later (ends_either now (x.first ⊳ begin) (y.first ⊳ then) x.within y.within)
     where
@@ -185,7 +185,7 @@ module _ (c : ℕ) where
           let x = before (omega (arith, same, some)) in
           record { begin = x.begin; is = record { first = x.is.first; begins = x.is.begins; within = inr x.is.within; since = x.is.since }; last = x.last ∙ sym same }
 
--- where no SCX-record of another pass was in the way, one try is begun at most
+-- if no SCX-record of another pass was in the way, one try is begun at most
 pub alone_once : (lay : Layout) (c : ℕ) (now start : History) → Extends now start → ((n s : ℕ) → IsOthersScx lay c s → ¬ WasInTheWay now start n s) → HasTriedAsNeeded lay c now start → tries_since c now start ≤ 1
 alone_once lay c now start since alone needed = let few : tries_begun c now < suc (suc (tries_begun c start)) = lt_of_not-le twice in omega (arith, few)
   where

@@ -1,4 +1,4 @@
--- Nodes that have stood in the tree.
+-- Nodes that have been in the tree.
 use Rattle.std.specs.Prelude.{ℕ, ◌<◌}
 use Rattle.arena.specs.declared.layout.Layout.{Layout}
 use Rattle.arena.specs.History.{History}
@@ -8,7 +8,7 @@ use Rattle.ordered_map.specs.Paths.{WasInTree}
 use Rattle.ordered_map.specs.Runs.{IsTreeRun}
 use Rattle.ordered_map.proofs.Lemmas.{run_since, stood_in_field, tree_inside}
 
--- a node that has stood in the tree is of the table
+-- a node that has been in the tree is in the table
 pub stood_inside : (lay : Layout) (h : History) (n : ℕ) → IsTreeRun lay h → WasInTree h n → n < all_nodes lay
 stood_inside lay h n run x = tree_inside lay x.moment x.tree (run_since lay h x.moment run x.within).1.lawful x.is_tree n x.has
 

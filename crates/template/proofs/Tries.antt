@@ -1,4 +1,4 @@
--- Which steps begin a try, and what a pass's tries are behind one row more.
+-- Which steps begin a try, and what a pass's tries are after one more row.
 use Rattle.std.proofs.Common.{◌≡◌, ◌≢◌, ℕ, suc, ◌<◌, ◌≤◌, Bool, true, false, ◌&&◌, eqb, eq-eqb, ne_eqb, List, length, Some, inl, inr, refl, ◌∙◌, subst, arith}
 use Rattle.arena.specs.declared.layout.Layout.{Layout}
 use Rattle.arena.specs.declared.step.Kind.{Kind}
@@ -46,7 +46,7 @@ pub others_begin_none : (c : ℕ) (r : Row) → r.pass.0 ≢ c → begins_try c 
 others_begin_none c r other = rw (ne_eqb r.pass.0 c other) refl
 
 module _ (c : ℕ) (r : Row) (h : History) where
-  -- behind a row that begins none as many are begun, and the newest stays the newest
+  -- after a row that begins none the same number are begun, and the newest stays the newest
   pub tries_more : begins_try c r ≡ false → tries_begun c (r ⊳ h) ≡ tries_begun c h
   unfolding tries_begun
   tries_more none = rw none refl
@@ -54,7 +54,7 @@ module _ (c : ℕ) (r : Row) (h : History) where
   pub newest_more : (begin : History) → begins_try c r ≡ false → IsNewestTry c h begin → IsNewestTry c (r ⊳ h) begin
   newest_more begin none x = record { first = x.first; begins = x.begins; within = inr x.within; none_since = tries_more none ∙ x.none_since }
 
-  -- behind one that begins one there is one more, and that is the newest
+  -- after one that begins one there is one more, and that is the newest
   pub tries_begin : begins_try c r ≡ true → tries_begun c (r ⊳ h) ≡ suc (tries_begun c h)
   unfolding tries_begun
   tries_begin begins = rw begins refl
@@ -176,11 +176,11 @@ module _ (m : WalkRun) (c : Call) (h : History) where
   walk_step_begins_none (Value head more slot key) run past k = no_and_left (eqb m.trail.node.0 0)
   walk_step_begins_none (High head more slot key low) run past k = no_and_left (eqb m.trail.node.0 0)
 
-  -- behind the load of the root's head a walk begins no try
+  -- after the load of the root's head a walk begins no try
   pub walk_begins_none : (s : Step) → IsPastRoot m.at → WalkWaits m c h s → BeginsNoTry s
   walk_begins_none s past w = rw w.asked (walk_step_begins_none m.at w.run past w.known)
 
-  -- no more steps are left than behind the root's head
+  -- no more steps are left than after the root's head
   few_left : (p : WalkAt) (nodes : ℕ) → WalkKnows c h m p → walk_left p nodes ≤ walk_left Root nodes
   few_left WalkStart nodes k = absurd k
   few_left Root nodes k = omega arith
@@ -203,7 +203,7 @@ module _ (m : WalkRun) (c : Call) (h : History) where
   past_root (Value head more slot key) nodes fewer = tt
   past_root (High head more slot key low) nodes fewer = tt
 
-  -- once it was told something, and asks for a step, it is past the root's head
+  -- once it has got something, and asks for a step, it is past the root's head
   pub walk_past_root : (now : WalkRun) (v : ℕ) → IsRun TreeAllows c.layout h → WalkIsTold m c h v → ((nodes : ℕ) → WalkFits m (Some v) nodes → walk_left now.at nodes < walk_left m.at nodes) → IsPastRoot now.at
   walk_past_root now v run x nearer =
       let nodes : ℕ = length (taken_nodes h) in

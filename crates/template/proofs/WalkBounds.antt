@@ -81,7 +81,7 @@ walk_ready_run m c h (Some v) r = (r.run, r.small)
 
 -- What a leaf says of a key
 
--- one that tells a value is of class 0
+-- one that answers a value is of class 0
 pub said_low : (f : Word → ℕ) (k n old : ℕ) → Some old ≡ said f k n → class f n ≡ 0
 said_low f k n old e = go (ℕ_discrete (class f n) 0)
   where
@@ -120,7 +120,7 @@ module _ (goal : Goal) (c : Call) (h : History) (f : Found) (run : IsTreeRun c.l
       let most : c.layout.passes * c.layout.nodes ≤ 32 * 32768 = mul-le c.layout.passes c.layout.nodes 32 32768 c.layout.passes_fit c.layout.nodes_fit in
       omega (arith, deep, few, most)
 
--- what a leaf tells of stays with its settled words
+-- what a leaf answers does not change with its settled words
 pub settled_asked : (goal : Goal) (b f : Word → ℕ) (n : ℕ) → SameSettled b f n → asked_in goal f n ≡ asked_in goal b n
 settled_asked (ToKey k) b f n e = refl
 settled_asked (End side) b f n e = λ i. cond (eqb (e (Settled HeadWord) tt i % 4) 0) (key i) 0

@@ -53,7 +53,7 @@ module _ (goal : Goal) (t : Trail) (d : Call) (h : History) where
     pub head_ends : head.leaf ≡ true → head.class ≢ 0 → HasFoundGoal goal d h record { trail = t; head = head; more = 0; key = asked_key goal 0; value = None }
     head_ends leaf high = ends_above d h (walk_at goal t p) (walk_at goal t p) (Done _) head stood record { stands = refl; done = refl } head_is high leaf
 
-    -- of another leaf it loads how many pairs it has behind its first
+    -- of another leaf it loads how many pairs it has after its first
     pub head_to_more : head.leaf ≡ true → head.class ≡ 0 → WalkWaits (walk_at goal t (More head)) d h (load LoadSettled (node t.node.0 (Settled MoreWord)))
     head_to_more leaf low = waits_at d h (walk_at goal t p) (walk_at goal t (More head)) (Ask _) (More head) _ stood record { stands = refl; asked = refl } (record { trail = stood.trail; head = head_is; low = low; leaf = leaf }) refl
 
@@ -67,7 +67,7 @@ module _ (goal : Goal) (t : Trail) (d : Call) (h : History) where
         waits_at d h m (walk_at goal t (Child head.level (open_side goal head))) (Ask _) (Child head.level (open_side goal head)) _ stood record { stands = refl; asked = refl }
         (stood.trail, level_is d h m stood head head_is, fork_is d h m stood head head_is fork, unasked_turn d h m head stood head_is asks fork) refl
 
-  -- behind the key of a fork it goes on by that
+  -- after the key of a fork it continues by that
   pub key_to_child : (head : HeadParts) (low : ℕ) (side : Side) → WalkIsTold (walk_at goal t (Key head)) d h low → side ≡ cond (ltb (path_key goal) low) Left Right → WalkWaits (walk_at goal t (Child head.level side)) d h (load LoadChild (node t.node.0 (ChildWord side)))
   key_to_child head low side w is = turn_key d h (walk_at goal t (Key head)) (walk_at goal t (Child head.level side)) (Ask _) head side low refl w is record { stands = refl; asked = refl }
 
@@ -82,7 +82,7 @@ module _ (goal : Goal) (t : Trail) (d : Call) (h : History) where
     stood_at_slot : WalkStands at_slot d h
     stood_at_slot = stands_by at_slot d h key w w.known.0.trail
 
-    -- the value of the key that it tells of
+    -- the value of the key that it answers
     pub pair_to_value : asked_key goal key ≡ key → WalkWaits (walk_at goal t (Value head more slot key)) d h (load LoadSettled (node t.node.0 (Settled (ValueWord slot))))
     pair_to_value same = asks_value d h at_slot (walk_at goal t (Value head more slot key)) (Ask _) head more slot key stood_at_slot w.known.0 w.known.1 w.known.2 w.told same record { stands = refl; asked = refl }
 
@@ -94,15 +94,15 @@ module _ (goal : Goal) (t : Trail) (d : Call) (h : History) where
     pub pair_ends : asked_key goal key ≢ key → (slot_behind more slot ≡ None) ⊎ (asked_key goal key < key) → HasFoundGoal goal d h record { trail = t; head = head; more = more; key = asked_key goal key; value = None }
     pair_ends other none = ends_without d h at_slot at_slot (Done _) head more slot key stood_at_slot w.known.0 w.known.1 w.known.2 w.told other none record { stands = refl; done = refl }
 
-  -- behind the value comes its high half
+  -- after the value comes its high half
   pub value_to_high : (head : HeadParts) (more : ℕ) (slot : Slot) (key low : ℕ) → WalkIsTold (walk_at goal t (Value head more slot key)) d h low → WalkWaits (walk_at goal t (High head more slot key low)) d h (load LoadSettled (node t.node.0 (Settled (HighWord slot))))
   value_to_high head more slot key low w = turn_value d h (walk_at goal t (Value head more slot key)) (walk_at goal t (High head more slot key low)) (Ask _) head more slot key low refl w record { stands = refl; asked = refl }
 
-  -- which is the last that it is told
+  -- which is the last word that it gets
   pub high_ends : (head : HeadParts) (more : ℕ) (slot : Slot) (key low high : ℕ) → WalkIsTold (walk_at goal t (High head more slot key low)) d h high → HasFoundGoal goal d h record { trail = t; head = head; more = more; key = key; value = Some (wide_value low high) }
   high_ends head more slot key low high w = let m = walk_at goal t (High head more slot key low) in turn_high d h m m (Done _) head more slot key low high refl w record { stands = refl; done = refl }
 
-  -- it goes down to the child that it was told
+  -- it goes down to the child that it has got
   pub child_to_head : (level : ℕ) (side : Side) (n : ℕ) → WalkIsTold (walk_at goal t (Child level side)) d h n → WalkWaits (walk_at goal (trail_below t side n) (Head level)) d h (load LoadSettled (node n (Settled HeadWord)))
   child_to_head level side n w = let m = walk_at goal t (Child level side) in
       turn_down d h m (walk_at goal (trail_below t side n) (Head level)) (Ask _) level side n

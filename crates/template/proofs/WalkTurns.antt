@@ -103,7 +103,7 @@ first_slot (End side) f n more e = ap (end_slot side) (sym e)
 end_asked : (side : Side) (f : Word → ℕ) (n : ℕ) → class f n ≡ 0 → asked_in (End side) f n ≡ f (node n (Settled (KeyWord (end_slot side (f (node n (Settled MoreWord)))))))
 end_asked side f n low = rw (eq-eqb (class f n) 0 low) refl
 
--- what it tells of is in a slot or behind it
+-- what it answers is in a slot or after it
 slot_says : (goal : Goal) (f : Word → ℕ) (n : ℕ) (slot : Slot) → class f n ≡ 0 → IsRising (held_pairs f n) → IsSlotFor goal f n slot → get (asked_in goal f n) (held_pairs f n) ≡ get (asked_in goal f n) (held_from f n slot)
 slot_says (ToKey k) f n slot low rises at = at
 slot_says (End side) f n slot low rises at =
@@ -122,7 +122,7 @@ other_asked : (goal : Goal) (f : Word → ℕ) (n key : ℕ) → asked_key goal 
 other_asked (ToKey k) f n key d = refl
 other_asked (End side) f n key d = absurd (d refl)
 
--- it is then behind the slot
+-- it is then after the slot
 slot_next : (goal : Goal) (f : Word → ℕ) (n : ℕ) (slot next : Slot) (key : ℕ) → IsSlotFor goal f n slot → f (node n (Settled (KeyWord slot))) ≡ key → asked_key goal key ≢ key → slot_behind (f (node n (Settled MoreWord))) slot ≡ Some next → IsSlotFor goal f n next
 slot_next (ToKey k) f n slot next key at e d behind = at ∙ get_behind f n slot k (λ z. d (z ∙ e)) ∙ ap (λ o. get k (held_behind f n o)) behind
 slot_next (End side) f n slot next key at e d behind = absurd (d refl)
@@ -150,7 +150,7 @@ module _ (c : Call) (h : History) (m : WalkRun) (k : WalkStands m c h) (parts : 
   unlike : asked_key m.goal key ≢ key → asked ≢ here h m (Settled (KeyWord slot))
   unlike other e = other (sym (other_asked m.goal (value h) leaf_no key other) ∙ e ∙ d)
 
-  -- there is none behind the last slot
+  -- there is none after the last slot
   says_none_last : asked_key m.goal key ≢ key → slot_behind (here h m (Settled MoreWord)) slot ≡ None → None ≡ said (value h) asked leaf_no
   says_none_last other last = sym (says_slot ∙ get_behind (value h) leaf_no slot asked (unlike other) ∙ ap (λ o. get asked (held_behind (value h) leaf_no o)) last)
 
@@ -166,11 +166,11 @@ ends_low : (c : Call) (h : History) (old now : WalkRun) (turn : Turn Found) (par
 ends_low c h old now turn parts more key found k a x many d says = answers_at c h old now turn parts more key found k a (leaf_is c h old k parts x.head x.leaf) x.head (λ q. many) (λ above. absurd (above x.low)) d says
 
 module _ (c : Call) (h : History) (old now : WalkRun) (turn : Turn Found) (parts : HeadParts) (more : ℕ) (slot : Slot) (key : ℕ) (k : WalkStands old c h) (x : WalkStandsAtLeaf c h old.goal old.trail parts) (many : here h old (Settled MoreWord) ≡ more) (at : IsSlotFor old.goal (value h) old.trail.node.0 slot) (d : here h old (Settled (KeyWord slot)) ≡ key) where
-  -- it waits for the value of the key that it tells of
+  -- it waits for the value of the key that it answers
   pub asks_value : asked_key old.goal key ≡ key → WalkAsks old now turn (Value parts more slot key) (walk_step old (Value parts more slot key)) → WalkTurn c h now turn
   asks_value same a = waits_at c h old now turn (Value parts more slot key) (walk_step old (Value parts more slot key)) k a (x, many, at, d, same) refl
 
-  -- behind another key it waits for the next one
+  -- after another key it waits for the next one
   pub asks_next : asked_key old.goal key ≢ key → (next : Slot) → slot_behind more slot ≡ Some next → WalkAsks old now turn (Pair parts more next) (walk_step old (Pair parts more next)) → WalkTurn c h now turn
   asks_next other next behind a = waits_at c h old now turn (Pair parts more next) (walk_step old (Pair parts more next)) k a
       (x, many, slot_next old.goal (value h) old.trail.node.0 slot next key at d other (ap (λ v. slot_behind v slot) many ∙ behind)) refl
@@ -194,7 +194,7 @@ pub asked_low : (goal : Goal) (head : HeadParts) → asks_key goal head ≡ true
 asked_low (ToKey k) head e = eqb-true head.class 0 e
 asked_low (End side) head e = absurd (let x : false ≡ true = e in cc)
 
--- where it leaves a fork of which it loads no key
+-- where it leaves a fork whose key it does not load
 pub unasked_turn : (c : Call) (h : History) (m : WalkRun) (head : HeadParts) → WalkStands m c h → head_of (here h m (Settled HeadWord)) ≡ head → asks_key m.goal head ≡ false → head.leaf ≡ false → toward (value h) m.trail.node.0 (path_key m.goal) ≡ open_side m.goal head
 unasked_turn c h m head k e asks fork = go m.goal refl
   where
@@ -250,7 +250,7 @@ turn_down c h m now turn low side n k e fork s d a =
     waits_at c h (record m { trail = below m.trail side n }) now turn (Head low) (walk_step (record m { trail = below m.trail side n }) (Head low))
     (record { run = k.run; small = k.small; own = k.own; trail = t }) a (t, level_below c h m side n low k e fork d) refl
 
--- what it has been told, at a place behind its start
+-- what it has got, at a place after its start
 pub told_at : (m : WalkRun) (c : Call) (h : History) (got : Option ℕ) (found : ℕ) (at : WalkAt) → m.at ≡ at → (at ≡ Start → ⊥) → found ≡ unwrap_or got 0 → WalkIsReady m c h got → WalkIsTold m c h found
 told_at m c h None found at is d e r = absurd (d (sym is ∙ r.at))
 told_at m c h (Some v) found at is d e r = subst (WalkIsTold m c h) (sym e) r
@@ -278,13 +278,13 @@ turn_more c h old now turn head found is t a =
     let many : here h old (Settled MoreWord) ≡ found = rw is at t.told in
     waits_at c h old now turn (Pair head found (goal_slot old.goal found)) (walk_step old (Pair head found (goal_slot old.goal found))) (stands_by old c h found t x.trail) a (x, many, first_slot old.goal (value h) old.trail.node.0 found many) refl
 
--- behind the value of a key it waits for the high half of that
+-- after the value of a key it waits for the high half of that
 pub turn_value : (c : Call) (h : History) (old now : WalkRun) (turn : Turn Found) (head : HeadParts) (more : ℕ) (slot : Slot) (key found : ℕ) → old.at ≡ Value head more slot key → WalkIsTold old c h found → WalkAsks old now turn (High head more slot key found) (walk_step old (High head more slot key found)) → WalkTurn c h now turn
 turn_value c h old now turn head more slot key found is t a =
     let x : WalkKnows c h old (Value head more slot key) = subst (WalkKnows c h old) is t.known in
     waits_at c h old now turn (High head more slot key found) (walk_step old (High head more slot key found)) (stands_by old c h found t x.0.trail) a (x.0, x.1, x.2, x.3, x.4, rw is at t.told) refl
 
--- which is the last that it is told
+-- which is the last word that it gets
 pub turn_high : (c : Call) (h : History) (old now : WalkRun) (turn : Turn Found) (head : HeadParts) (more : ℕ) (slot : Slot) (key low found : ℕ) → old.at ≡ High head more slot key low → WalkIsTold old c h found → WalkEnds old now turn head more key (Some (wide_value low found)) → WalkTurn c h now turn
 turn_high c h old now turn head more slot key low found is t a =
     let x : WalkKnows c h old (High head more slot key low) = subst (WalkKnows c h old) is t.known in

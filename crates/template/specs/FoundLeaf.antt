@@ -24,7 +24,7 @@ abbrev pub path_key : Goal → ℕ
 path_key (ToKey k) = k
 path_key (End side) = end_key side
 
--- the key of which a walk tells what its leaf says: its own, or the one in the slot where it stands
+-- the key whose value a walk answers: its own, or the one in the slot where it is
 abbrev pub asked_key : Goal → ℕ → ℕ
 asked_key (ToKey k) here = k
 asked_key (End side) here = here
@@ -34,24 +34,24 @@ abbrev pub asked_in : Goal → (Word → ℕ) → ℕ → ℕ
 asked_in (ToKey k) f n = k
 asked_in (End side) f n = if class f n == 0 then f (node n (Settled (Key (end_slot side (f (node n (Settled More))))))) else 0
 
--- The call has found the leaf to which its walk was to go: what its words say, and what it says of the
--- key asked for.
+-- The call has found the leaf to which its walk was to go: what its words say, and what it says of
+-- the key asked for.
 pub record HasFoundGoal (goal : Goal) (c : Call) (h : History) (f : Found) : Type 0 where
   pub trail : OnTrail c h (path_key goal) f.trail
   pub leaf : is_leaf (value h) f.trail.node.0 ≡ true
   pub head : head_of (value h (node f.trail.node.0 (Settled Head))) ≡ f.head
   -- it is not deeper than the taken nodes allow
   pub deep : f.head.level < 2 + length (taken_nodes h)
-  -- how many pairs it has behind its first; one above all keys has none
+  -- how many pairs it has after its first; one above all keys has none
   pub more : f.head.class ≡ 0 → value h (node f.trail.node.0 (Settled More)) ≡ f.more
   pub none : f.head.class ≢ 0 → f.more ≡ 0
   pub key : asked_in goal (value h) f.trail.node.0 ≡ f.key
   pub says : f.value ≡ said (value h) (asked_in goal (value h) f.trail.node.0) f.trail.node.0
 
--- the call has found the leaf where k stands, or would stand
+-- the call has found the leaf where k is, or would be
 abbrev pub HasFoundLeaf : Call → History → ℕ → Found → Type 0
 HasFoundLeaf c h k f = HasFoundGoal (ToKey k) c h f
 
--- the pair at an end, as the leaf there tells it: none where that has no value
+-- the pair at an end, as the leaf there has it: none if the leaf has no value
 abbrev pub end_told : Found → Option Pair
 end_told f = option_map (pair f.key) f.value

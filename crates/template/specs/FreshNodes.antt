@@ -1,5 +1,5 @@
--- What the SCX-record of an edit says once the leaf of its key is found, and the copy that is filled
--- where a leaf is taken out.
+-- What the SCX-record of an edit says once the leaf of its key is found, and the copy that is
+-- filled where a leaf is taken out.
 use Rattle.std.specs.Prelude.{◌≡◌, ℕ, false}
 use Rattle.arena.specs.declared.layout.Layout.{Layout}
 use Rattle.arena.specs.declared.word.Side.{Side}
@@ -35,8 +35,8 @@ pub record IsJoinAt (f : Found) (d : Descriptor) (snap : Snap) (n : ℕ) : Type 
   pub old : d.old ≡ f.trail.parent.0
   pub new : d.new ≡ n
 
--- a fresh copy n of the snapshot's node: a fork has the fields that the snapshot found; its value is
--- not filled, and what is not filled is 0
+-- a fresh copy n of the snapshot's node: a fork has the fields that the snapshot found; its value
+-- is not filled, and what is not filled is 0
 pub record HasFreshCopy (lay : Layout) (c : ℕ) (h : History) (snap : Snap) (n : ℕ) : Type 0 where
   pub fresh : IsFresh lay c h n
   pub copy : IsCopyOf (value h) n snap.node.0

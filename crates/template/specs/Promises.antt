@@ -19,8 +19,8 @@ use Rattle.ordered_map.specs.Paths.{WasOnPath}
 use Rattle.ordered_map.specs.TreeShape.{MayEdit, TreeAllows, leaf_plan, join_plan, leaf_place, sibling_place}
 use Rattle.ordered_map.specs.TreeWords.{is_leaf, toward, said}
 
--- Whenever the pass c may begin s with these words, it makes the edit: after any run that goes on
--- from h by such rows as may come before, in which s still is ready and the first info still is
+-- Whenever the pass c may begin s with these words, it makes the edit: after any run that extends
+-- h by such rows as may be added before, in which s still is ready and the first info still is
 -- what was found.
 abbrev pub IsPromised : Layout → ℕ → History → ℕ → Descriptor → MapEdit → Type 0
 IsPromised lay c h s d e =
@@ -31,15 +31,15 @@ pub record IsFresh (lay : Layout) (c : ℕ) (h : History) (n : ℕ) : Type 0 whe
   pub own : IsOwnNode lay c n
   pub unnamed : ¬ IsNamed lay h n
 
--- the fresh node n holds what the edit makes of the pairs of the leaf l: it is a leaf, or a fork over
--- two fresh leaves
+-- the fresh node n holds what the edit makes of the pairs of the leaf l: it is a leaf, or a fork
+-- over two fresh leaves
 pub record HasFreshEdit (lay : Layout) (c : ℕ) (h : History) (e : MapEdit) (l n : ℕ) : Type 0 where
   pub fresh : IsFresh lay c h n
   pub edit : IsLeafEdit (value h) e l n
   pub below : is_leaf (value h) n ≡ false → (side : Side) → IsFresh lay c h (value h (child n side))
 
--- What an edit of a leaf has in hand: a fork that was on the key's path, its leaf on the side of the
--- key, in which a delete finds it, and the fresh node that is to replace that.
+-- What an edit of a leaf has in hand: a fork that was on the key's path, its leaf on the side of
+-- the key, in which a delete finds it, and the fresh node that is to replace that.
 pub record WillEditLeaf (lay : Layout) (c : ℕ) (h : History) (d : Descriptor) (e : MapEdit) : Type 0 where
   pub small : edit_key e < 2 ^ 64
   pub path : WasOnPath h (edit_key e) (d.member 0)
@@ -58,8 +58,8 @@ pub record IsSnapOf (lay : Layout) (h : History) (d : Descriptor) (j : ℕ) (sna
   pub scx : snap.scx.0 ≡ d.seen j
 
 -- What has in hand what is to take a leaf out, where the leaf of the key is on this side of its
--- parent: two forks that were on the key's path, the children of the lower one as its snapshot found
--- them, of which one is the leaf, and a fresh copy of the other.
+-- parent: two forks that were on the key's path, the children of the lower one as its snapshot
+-- found them, one of which is the leaf, and a fresh copy of the other.
 pub record WillTakeOut (lay : Layout) (c : ℕ) (h : History) (d : Descriptor) (e : MapEdit) (side : Side) : Type 0 where
   pub small : edit_key e < 2 ^ 64
   pub path : WasOnPath h (edit_key e) (d.member 0)

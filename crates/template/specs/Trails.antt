@@ -33,7 +33,7 @@ pub record HasShown (c : Call) (h : History) (k n : ℕ) (side : Side) (next : �
   pub passed : WasPassed c moment k n
   pub held : value moment (child n side) ≡ next
 
--- the call has passed this fork, on this side of which k stands, and there it has found `next`
+-- the call has passed this fork, with k on this side of it, and there it has found `next`
 pub record HasTurned (c : Call) (h : History) (k n : ℕ) (side : Side) (next : ℕ) : Type 0 where
   pub passed : WasPassed c h k n
   pub fork : is_leaf (value h) n ≡ false

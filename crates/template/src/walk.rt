@@ -7,9 +7,9 @@ use arena::{
 };
 use ordered_map::{Goal, end_slot, slot_behind, wide_value};
 
-/// The last nodes of a walk: the node that it has come to, and the two forks above it with the sides
-/// to which it has gone there. A walk that stands at the root has no fork above it, and one that
-/// stands at a child of the root has one.
+/// The last nodes of a walk: the node that it has reached, and the two forks above it with the
+/// sides to which it has gone there. A walk at the root has no fork above it, and one
+/// at a child of the root has one.
 #[derive(Clone, Copy, Debug, PartialEq, Eq)]
 pub struct Trail {
     pub grand: NodeNo,
@@ -19,7 +19,7 @@ pub struct Trail {
     pub node: NodeNo,
 }
 
-/// The step that a walk has asked for: a load of a word of the node that it has come to.
+/// The step that a walk has asked for: a load of a word of the node that it has reached.
 #[derive(Clone, Copy, Debug, PartialEq, Eq)]
 pub enum WalkAt {
     /// None yet.
@@ -39,24 +39,24 @@ pub enum WalkAt {
         level: u64,
         side: Side,
     },
-    /// The load of how many pairs a leaf of class 0 has behind its first.
+    /// The load of how many pairs a leaf of class 0 has after its first.
     More {
         head: Head,
     },
-    /// The load of the key in this slot of a leaf that has so many pairs behind its first.
+    /// The load of the key in this slot of a leaf with `more` pairs after its first.
     Pair {
         head: Head,
         more: u64,
         slot: Slot,
     },
-    /// The load of the value in this slot, of which the key is this one, without its high half.
+    /// The load of the value in this slot, whose key is this one, without its high half.
     Value {
         head: Head,
         more: u64,
         slot: Slot,
         key: u64,
     },
-    /// The load of the high half of that value, of which this is the rest.
+    /// The load of the high half of that value, whose other half is this.
     High {
         head: Head,
         more: u64,
@@ -66,9 +66,9 @@ pub enum WalkAt {
     },
 }
 
-/// The leaf at which a walk has ended: its head, and how many pairs it has behind its first, 0 if it is
-/// above all keys; the key of which the walk tells what the leaf says, and the value of that, if it has
-/// one. It is the walk's own key, or, of a walk to an end, the leaf's key there, and 0 above all keys.
+/// The leaf at which a walk has ended: its head, and how many pairs it has after its first, 0 if it
+/// is above all keys; the key whose value in the leaf the walk answers, and that value, if there is
+/// one. It is the walk's own key, or, of a walk to an end, the leaf's there, and 0 above all keys.
 #[derive(Clone, Copy, Debug, PartialEq, Eq)]
 pub struct Found {
     pub trail: Trail,
@@ -78,19 +78,19 @@ pub struct Found {
     pub value: Option<u128>,
 }
 
-/// A walk from the root to the leaf where a key stands, or would stand, or to that at an end. On its
-/// way to a key it loads of each fork the head, the key if that is of class 0, and a field; on its way
-/// to an end the head and a field, which is the left one above all keys. Of the leaf it loads the head,
-/// and, if that is of class 0, how many pairs it has behind its first, the keys by rising order up to
-/// the first that is not below the walk's, and the two words of the value if that key is the walk's; of
-/// the leaf at an end the key there and its value.
+/// A walk from the root to the leaf where a key is, or would be, or to that at an end. On its
+/// way to a key it loads of each fork the head, the key if that is of class 0, and a field; on its
+/// way to an end the head and a field, which is the left one above all keys. Of the leaf it loads
+/// the head, and, if that is of class 0, how many pairs it has after its first, the keys in rising
+/// order to the first that is not below the walk's, and the two words of the value if that key is
+/// the walk's; of the leaf at an end the key there and its value.
 #[derive(Clone, Copy, Debug, PartialEq, Eq)]
 pub struct WalkRun {
     /// Where it goes.
     pub goal: Goal,
-    /// The nodes that it has come to.
+    /// The nodes that it has reached.
     pub trail: Trail,
-    /// Where it stands.
+    /// Where it is.
     pub at: WalkAt,
 }
 
@@ -130,7 +130,7 @@ impl WalkRun {
         }
     }
 
-    /// Asks for a load of a word of the node, and stands there.
+    /// Asks for a load of a word of the node, and is at this place.
     fn load(&mut self, at: WalkAt, kind: Kind, part: NodeWord) -> Turn<Found>
         ensures { WalkAsks self.old self.new result at record { kind = kind; word = Word.Node self.old.trail.node part; access = Access.Load } }
     {
@@ -164,7 +164,7 @@ impl WalkRun {
         self.load(at, Kind::LoadChild, NodeWord::Child(side))
     }
 
-    /// Ends at the node that it has come to.
+    /// Ends at the node that it has reached.
     fn end(&mut self, head: Head, more: u64, key: u64, value: Option<u128>) -> Turn<Found>
         ensures { WalkEnds self.old self.new result head more key value }
     {
@@ -178,8 +178,8 @@ impl WalkRun {
         })
     }
 
-    /// Whether the walk loads the key of a fork with this head: where it goes at one of class 0 depends
-    /// on its key, unless it goes to an end.
+    /// Whether the walk loads the key of a fork with this head: where it goes at one of class 0
+    /// depends on its key, unless it goes to an end.
     fn asks_key(&self, head: Head) -> bool
         ensures { result ≡ asks_key self.now.goal head }
     {
@@ -189,7 +189,7 @@ impl WalkRun {
         }
     }
 
-    /// Where the walk goes at a fork with this head of which it loads no key.
+    /// Where the walk goes at a fork with this head whose key it does not load.
     fn open_side(&self, head: Head) -> Side
         ensures { result ≡ open_side self.now.goal head }
     {
@@ -215,7 +215,7 @@ impl WalkRun {
         }
     }
 
-    /// The slot in which the walk begins at a leaf that has so many pairs behind its first.
+    /// The slot in which the walk begins at a leaf with `more` pairs after its first.
     fn first_slot(&self, more: u64) -> Slot
         ensures { result ≡ goal_slot self.now.goal more }
     {
@@ -225,7 +225,7 @@ impl WalkRun {
         }
     }
 
-    /// The key of which the walk tells at a leaf that has this key in the slot where it stands.
+    /// The key whose value the walk answers at a leaf that has this key in the slot where it is.
     fn asked_key(&self, here: u64) -> u64
         ensures { result ≡ asked_key self.now.goal here }
     {
@@ -235,7 +235,7 @@ impl WalkRun {
         }
     }
 
-    /// Goes on with the head of the node.
+    /// Continues with the head of the node.
     fn read_head(&mut self, head: Head) -> Turn<Found>
         ensures turn { (c : Call) (h : History) → WalkStands self.old c h → head_of (here h self.old (Settled HeadWord)) ≡ head → WalkTurn c h self.new result }
         ensures same { self.new.goal ≡ self.old.goal }
@@ -251,7 +251,7 @@ impl WalkRun {
         }
     }
 
-    /// Goes on with the head of a leaf: one above all keys has no pair.
+    /// Continues with the head of a leaf: one above all keys has no pair.
     fn read_leaf(&mut self, head: Head) -> Turn<Found>
         requires { head.leaf ≡ true }
         ensures turn { (c : Call) (h : History) → WalkStands self.old c h → head_of (here h self.old (Settled HeadWord)) ≡ head → WalkTurn c h self.new result }
@@ -266,8 +266,8 @@ impl WalkRun {
         }
     }
 
-    /// Goes on with the key in a slot of a leaf of class 0: where it is below the walk's own, with the
-    /// next one, if there is one.
+    /// Continues with the key in a slot of a leaf of class 0: if it is below the walk's own, with
+    /// the next one, if there is one.
     fn read_pair(&mut self, head: Head, more: u64, slot: Slot, key: u64) -> Turn<Found>
         ensures turn { (c : Call) (h : History) → WalkStands self.old c h → WalkStandsAtLeaf c h self.old.goal self.old.trail head
             → here h self.old (Settled MoreWord) ≡ more → IsSlotFor self.old.goal (value h) self.old.trail.node.0 slot

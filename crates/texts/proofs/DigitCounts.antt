@@ -40,7 +40,7 @@ four_more n large fits =
     let same : n / 10 / 10 / 10 / 10 ≡ n / 10000 = omega arith in
     rw (← same) (omega (arith, one, two, three, four))
 
--- digits that were put behind a text
+-- digits that were put after a text
 pub digits_stand : (end k at : ℕ) (digits rest old new : List ℕ) → at + length digits ≡ end + k → length digits ≡ k → drop at new ≡ digits ++ rest → take at new ≡ take at old → take (end + k) new ≡ take end old ++ digits
 digits_stand end k at digits rest old new start many written before =
     let here : at ≡ end = omega arith in

@@ -28,7 +28,7 @@ nothing_behind zero j = refl
 nothing_behind (suc n) zero = refl
 nothing_behind (suc n) (suc j) = nothing_behind n j
 
--- what an end row has behind its name and its count
+-- what an end row has after its name and its count
 pub empty_behind : (width count j : ℕ) → 2 ≤ j → field_of (end_row width count) j ≡ []
 unfolding field_at
 empty_behind width count zero far = absurd (omega (arith, far))

@@ -47,7 +47,7 @@ taken config s0 s1 s2 xs rest so_far fields (Some left) reached next =
     let p = next_is (next_record config s1 [] [] rest) fields s2 left next in
     subst (λ (f : List (List ℕ)). (s : State) × (more : List ℕ) × Reached config s0 xs (so_far ++ f ∷ []) s more) (sym p.2) (p.0.1, p.0.2, reached-more config s0 s1 xs rest so_far p.0 reached p.1)
 
--- a row that was read, but could not be given, stands behind those that were given
+-- a row that was read, but could not be given, comes after those that were given
 pub took : {R : Type 0} (remaining : R → Option (List ℕ)) (bytes : List ℕ) (so_far : List (List (List ℕ))) (old new : Rows R) (fields : List (List ℕ)) → HasRead remaining bytes so_far old → TookRecord remaining old.reader new.reader fields → BeginWithRows bytes (so_far ++ fields ∷ [])
 took remaining bytes so_far old new fields h next =
     taken default_config state.StartRecord (reader_state old.reader) (reader_state new.reader) (strip_bom bytes) h.rest so_far fields _ h.reached (rw (h.plain.config, h.left) at next)

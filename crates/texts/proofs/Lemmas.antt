@@ -1,4 +1,4 @@
--- What the layers above know of texts beside their clauses, passed on from one
+-- What the layers above know of texts besides their clauses, exported from one
 -- place: no other module of these proofs can be named outside. Declares nothing.
 pub use Rattle.texts.proofs.Numbers.{same_number}
 pub use Rattle.texts.proofs.HaveRead.{begins}

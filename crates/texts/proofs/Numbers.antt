@@ -73,7 +73,7 @@ less_digits n m byte n_short m_short same = ⊎_elim small large (cases_lt n 10)
 
 -- A text as a number is read from it, byte by byte
 
--- the first byte of a text and so many of the others spell a number
+-- the first byte of a text and `i` of the others spell a number
 pub record SpellsFront (text more : List ℕ) (i number : ℕ) : Type 0 where
   pub behind : drop 1 text ≡ more
   pub no_zero : 0 < length more → get_or text 0 0 ≢ 48
@@ -153,7 +153,7 @@ module _ (limit : ℕ) (few : limit ≤ 10 ^ 64) where
                 (cases_lt k (suc (length ds))),
           )
 
-  -- a text of which no front is a number spells none
+  -- a text with no front that is a number spells none
   no_front : (text : List ℕ) (k : ℕ) → 0 < k → k ≤ length text → ((m : ℕ) → m < limit → take k text ≢ decimal m) → (n : ℕ) → n < limit → text ≢ decimal n
   no_front text k some within none n fits same =
       let is = front_number n k fits some (omega (arith, ap (λ (ds : List ℕ). length ds) same)) in
@@ -165,7 +165,7 @@ module _ (limit : ℕ) (few : limit ≤ 10 ^ 64) where
       let long : 1 ≤ length text = omega (arith, length-take 1 text, ap (λ (bytes : List ℕ). length bytes) first) in
       no_front text 1 (omega arith) long (λ m fits same. let digit = one_byte m byte fits (sym first ∙ same) in none m digit.0 digit.1)
 
-  -- nor does one that goes on as no number does
+  -- nor does one that continues as no number does
   stops : (text more : List ℕ) (i m : ℕ) → SpellsFront text more i m → i < length more → ((n : ℕ) → n < limit → decimal n ≢ decimal m ++ get_or more i 0 ∷ []) → (n : ℕ) → n < limit → text ≢ decimal n
   stops text more i m front inside none = no_front text (suc (i + 1)) (omega arith) (omega (arith, inside, length-drop 1 text, ap (λ (bytes : List ℕ). length bytes) front.behind))
       (λ n fits same. none n fits (sym same ∙ longer text more i m front inside))

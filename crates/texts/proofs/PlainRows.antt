@@ -16,7 +16,7 @@ digit_is_plain d small =
     let back = ne_eqb (48 + d) 13 (λ e. omega (arith, e)) in
     rw (comma, quote, line, back) refl
 
--- text behind text
+-- text after text
 pub plain_append : (xs ys : List ℕ) → IsPlain xs → IsPlain ys → IsPlain (xs ++ ys)
 plain_append xs ys p q = list_any-append (needs_byte default_writer) xs ys ∙ ap (λ b. b || needs_quotes default_writer ys) p ∙ q
 
@@ -29,7 +29,7 @@ plain_number n short =
 field_is : (field : List ℕ) → IsPlain field → field_text default_writer field ≡ field
 field_is field plain = rw plain refl
 
--- and so are plain fields behind others
+-- and so are plain fields after others
 fields_are : (field : List ℕ) (rest : List (List ℕ)) → ArePlain rest → field ++ (fields_text default_writer rest ++ 10 ∷ []) ≡ plain_line (field ∷ rest)
 unfolding fields_text
 fields_are field [] plain = refl

@@ -1,4 +1,4 @@
--- Rows of so many fields as text.
+-- Rows of a fixed number of fields as text.
 use Rattle.std.specs.Prelude.{ℕ, ◌≡◌, ◌+◌, ◌-◌, ◌^◌, ◌≤◌, List, [], ◌∷◌, ◌++◌, length, min, replicate, take, Option, Result, IsErrOf, OnOk}
 use Rattle.std.specs.Io.KnownBytes.{Appends}
 use Rattle.csv.specs.Writing.{default_writer, row_text}
@@ -22,8 +22,8 @@ rows_text width (row ∷ rows) = line_of width row ++ rows_text width rows
 abbrev pub BeginsWith : Option (List ℕ) → Option (List ℕ) → List ℕ → Type 0
 BeginsWith old new text = (n : ℕ) × (n ≤ length text) × Appends old new (take n text)
 
--- of a call that writes: it counts a failure of the writer where its fault is that a write failed, and
--- else none; the count ends at the greatest number of 64 bits
+-- of a call that writes: it counts a failure of the writer where its fault is that a write failed,
+-- and else none; the count ends at the greatest number of 64 bits
 pub record CountsFault {T Fault : Type 0} (memory failed : Fault) (result : Result T Fault) (old new : ℕ) : Type 0 where
   pub ok : OnOk result (new ≡ old)
   pub no_memory : IsErrOf result memory → new ≡ old

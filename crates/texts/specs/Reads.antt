@@ -12,7 +12,7 @@ use Rattle.texts.specs.declared.rows.Rows.{Rows}
 abbrev pub last_row : {R : Type 0} → Rows R → List (List ℕ)
 last_row rows = fields_of rows.row
 
--- the reader yields rows as they stand, of any number of fields, the first one too
+-- the reader yields rows as they are, of any number of fields, the first one too
 pub record IsPlainReader {R : Type 0} (reader : Reader R) : Type 0 where
   pub config : reader_config reader ≡ default_config
   pub trim : reader_trim reader ≡ trim.None
@@ -26,7 +26,7 @@ pub record HasRead {R : Type 0} (remaining : R → Option (List ℕ)) (bytes : L
   pub left : source_of remaining rows.reader ≡ Some rest
   pub reached : Reached default_config state.StartRecord (strip_bom bytes) so_far (reader_state rows.reader) rest
 
--- the row that was read last stands behind these, and has so many fields
+-- the row that was read last comes after these, and has `width` fields
 pub record IsAtRow {R : Type 0} (remaining : R → Option (List ℕ)) (bytes : List ℕ) (before : List (List (List ℕ))) (width : ℕ) (rows : Rows R) : Type 0 where
   pub read : HasRead remaining bytes (before ++ last_row rows ∷ []) rows
   pub row : IsRow width (last_row rows)

@@ -1,9 +1,9 @@
--- Text that is put down in room made before.
+-- Text that is written into room made before.
 use Rattle.std.specs.Prelude.{ℕ, ◌≡◌, ◌-◌, false, List, [], ◌∷◌, ◌++◌, take, vec_len, ⊤}
 use Rattle.csv.specs.Writing.{default_writer, needs_quotes}
 use Rattle.texts.specs.declared.sheet.Sheet.{Sheet}
 
--- the text that stands on a sheet
+-- the text that is on a sheet
 abbrev pub sheet_text : Sheet → List ℕ
 sheet_text s = take s.end s.bytes.items
 

@@ -14,11 +14,11 @@ use Rattle.texts.specs.Fields.{field_of}
 abbrev pub AreRows : List ℕ → List (List (List ℕ)) → Type 0
 AreRows bytes rows = AreRecords default_config state.StartRecord (strip_bom bytes) rows
 
--- the bytes begin with these rows; what comes behind them is not looked at
+-- the bytes begin with these rows; what follows is not looked at
 abbrev pub BeginWithRows : List ℕ → List (List (List ℕ)) → Type 0
 BeginWithRows bytes rows = (s : State) × (rest : List ℕ) × Reached default_config state.StartRecord (strip_bom bytes) rows s rest
 
--- these are so many fields, each of them text
+-- these are this many fields, each of them text
 abbrev pub IsRow : ℕ → List (List ℕ) → Type 0
 IsRow width fields = (length fields ≡ width) × AllText fields
 
@@ -53,12 +53,12 @@ module _ {Entry Cause : Type 0} (g : Grammar Entry Cause) where
   abbrev pub AreAcceptedEntries : List Entry → Type 0
   AreAcceptedEntries entries = All g.Accepts entries × (length entries ≤ most_entries)
 
-  -- the rows of these entries, behind those of the text's head
+  -- the rows of these entries, after those of the text's head
   abbrev pub rows_of_entries : List (List (List ℕ)) → List Entry → List (List (List ℕ))
   rows_of_entries head entries = head ++ map g.row_of entries
 
-  -- the bytes say these entries: their rows stand
-  -- behind the head, then the end row, and nothing else
+  -- the bytes say these entries: their rows come
+  -- after the head, then the end row, and nothing else
   abbrev pub SayEntries : List ℕ → List (List (List ℕ)) → List Entry → Type 0
   SayEntries bytes head entries = AreAcceptedEntries entries × AreRows bytes (rows_of_entries head entries ++ end_row g.width (length entries) ∷ [])
 
@@ -66,7 +66,7 @@ module _ {Entry Cause : Type 0} (g : Grammar Entry Cause) where
   abbrev pub IsEndRow : List (List ℕ) → Type 0
   IsEndRow fields = field_of fields 0 ≡ codes "end"
 
-  -- what is wrong first with a row behind these entries: it is none; it ends the text, but does not
+  -- what is wrong first with a row after these entries: it is none; it ends the text, but does not
   -- count the entries; it is no entry; it is one too many
   abbrev pub IsFaulty : List Entry → List (List ℕ) → Cause → Type 0
   IsFaulty entries fields cause =
@@ -75,23 +75,23 @@ module _ {Entry Cause : Type 0} (g : Grammar Entry Cause) where
       ⊎ (IsRow g.width fields × ¬ (IsEndRow fields) × g.IsNoEntry fields cause)
       ⊎ (IsRow g.width fields × ¬ (IsEndRow fields) × ((entry : Entry) × g.Accepts entry × (fields ≡ g.row_of entry)) × (length entries ≡ most_entries) × (cause ≡ g.long))
 
-  -- what is wrong first with a row behind the end row: it is none; it is no entry; it stands there
+  -- what is wrong first with a row after the end row: it is none; it is no entry; it is there
   abbrev pub IsTooLate : List (List ℕ) → Cause → Type 0
   IsTooLate fields cause =
       (¬ (IsRow g.width fields) × (cause ≡ g.fields))
       ⊎ (IsRow g.width fields × ¬ (IsEndRow fields) × g.IsNoEntry fields cause)
       ⊎ (IsRow g.width fields × (IsEndRow fields ⊎ (entry : Entry) × g.Accepts entry × (fields ≡ g.row_of entry)) × (cause ≡ g.end))
 
-  -- what is wrong with an end row, of this number, behind these rows: it does not count the
-  -- entries, or a row stands behind it
+  -- what is wrong with an end row, of this number, after these rows: it does not count the
+  -- entries, or a row comes after it
   abbrev pub IsEndFault : List ℕ → List (List (List ℕ)) → List (List ℕ) → ℕ → ℕ → ℕ → Cause → Type 0
   IsEndFault bytes before fields entries number row cause =
       ((row ≡ number) × (fields ≢ end_row g.width entries) × (cause ≡ g.end))
       ⊎ ((row ≡ suc number) × (fields ≡ end_row g.width entries) × (late : List (List ℕ)) × BeginWithRows bytes ((before ++ fields ∷ []) ++ late ∷ []) × IsTooLate late cause)
 
-  -- the first faulty row behind the head and some entries, counted from 1, and
-  -- what is wrong with it: the row that is missing at the end, the one behind
-  -- the entries, or the one behind a right end row
+  -- the first faulty row after the head and some entries, counted from 1, and
+  -- what is wrong with it: the row that is missing at the end, the one after
+  -- the entries, or the one after a right end row
   abbrev pub IsFirstFault : List ℕ → List (List (List ℕ)) → ℕ → Cause → Type 0
   IsFirstFault bytes head row cause = (entries : List Entry) × AreAcceptedEntries entries × (
       (AreRows bytes (rows_of_entries head entries) × (row ≡ suc (length (rows_of_entries head entries))) × (cause ≡ g.end))

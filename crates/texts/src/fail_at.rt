@@ -6,8 +6,8 @@ ghost use Rattle.std.specs.Io.KnownBytes.{Keeps, ReadConsumes, WriteAppends};
 use std::io;
 use std::io::{ErrorKind, Read, Write};
 
-/// Passes so many bytes to or from another reader or writer, and then fails each read and write. A
-/// read or write of more bytes than are left is cut to them; a flush is passed on.
+/// Passes this many bytes to or from another reader or writer, and then fails each read and write.
+/// A read or write of more bytes than are left is cut to them; a flush is passed on.
 #[derive(Debug, Drop)]
 pub struct FailAt<T> {
     /// The reader or writer within.
@@ -17,7 +17,7 @@ pub struct FailAt<T> {
 }
 
 impl<T> FailAt<T> {
-    /// Passes so many bytes from now on.
+    /// Passes `left` bytes from now on.
     pub fn new(inner: T, left: usize) -> FailAt<T>
         ensures inner { result.inner ≡ inner }
         ensures left { result.left ≡ left }

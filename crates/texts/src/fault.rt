@@ -27,7 +27,7 @@ pub trait Cause {
 
     ghost FIELDS: { Self };
 
-    /// The end row is missing, does not count what is before it, or a row stands behind it.
+    /// The end row is missing, does not count what is before it, or a row comes after it.
     const END: Self;
 
     ghost END: { Self };

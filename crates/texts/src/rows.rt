@@ -46,7 +46,7 @@ pub fn field(row: &StringRecord, place: usize) -> &str
     row.get(place).unwrap_or("")
 }
 
-/// Whether an end row counts so many entries, and says nothing else.
+/// Whether an end row counts this many entries, and says nothing else.
 fn counts(row: &StringRecord, entries: usize) -> bool
     ensures { (width : ℕ) → 2 ≤ width → length (fields_of row.now) ≡ width → field_of (fields_of row.now) 0 ≡ codes "end"
         → IsTrue result ↔ (fields_of row.now ≡ end_row width entries) }
@@ -72,7 +72,7 @@ pub struct Rows<R> {
 }
 
 impl<R: Read + Drop> Rows<R> {
-    /// The rows of a reader, of which none is read yet.
+    /// The rows of a reader, with none read yet.
     pub fn new(alloc: Global, from: R) -> Rows<R>
         ensures none { (bytes : List ℕ) → R.remaining from ≡ Some bytes → HasRead R.remaining bytes [] result }
         ensures number { result.number ≡ 0 }
@@ -87,8 +87,8 @@ impl<R: Read + Drop> Rows<R> {
         }
     }
 
-    /// Goes on to the next row, which has so many fields, or to the place behind the last row,
-    /// where it answers false. A row of another number of fields, or that is no text, is refused as
+    /// Advances to the next row, which has `width` fields, or past the last row,
+    /// when it answers false. A row of another number of fields, or that is no text, is refused as
     /// `FIELDS`.
     pub fn advance<C: Cause>(&mut self, width: usize) -> Result<bool, TextFault<C>>
         ensures number { self.new.number ≡ min (self.old.number + 1) (2 ^ 64 - 1) }
@@ -194,8 +194,8 @@ impl<R: Read + Drop> Rows<R> {
     }
 }
 
-/// What is told of a text, by the count of its reader's failures before and after: `Read` exactly
-/// where it rose. Where it can't rise, `Read` is told of a failed read too.
+/// What is reported of a text, by the count of its reader's failures before and after: `Read`
+/// exactly if it rose. If it can't rise, `Read` is reported for a failed read too.
 pub fn by_failure_count<T: Drop, C: Drop>(
     read: Result<T, TextFault<C>>,
     before: u64,

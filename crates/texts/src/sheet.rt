@@ -1,4 +1,4 @@
-//! Text that is put down in room made before.
+//! Text that is written into room made before.
 ghost use Rattle.std.specs.Prelude.{◌≡◌, ◌≤◌, ◌+◌, [], ◌++◌, OnOk, decimal, length, take, vec_len};
 ghost use Rattle.std.specs.Str.{IsUtf8};
 
@@ -6,7 +6,7 @@ use crate::digits::digits_in;
 use itoa::{Buffer, write_digits};
 use std::alloc::{AllocError, Global};
 
-/// Text, and room behind it. Room is made once for many bytes, and names and numbers are then put in
+/// Text, and room after it. Room is made once for many bytes, and names and numbers are then put in
 /// place: nothing is written twice, and nothing fails.
 #[derive(Drop)]
 pub struct Sheet {
@@ -55,7 +55,7 @@ impl Sheet {
         self.end = 0;
     }
 
-    /// Makes room for so many bytes, if there is not as much.
+    /// Makes room for this many bytes, if there is not as much.
     #[inline]
     pub fn make_room(&mut self, room: usize) -> Result<(), AllocError>
         ensures room { OnOk result (room ≤ sheet_room self.new) }
@@ -80,7 +80,7 @@ impl Sheet {
         self.bytes.resize(wanted, 0)
     }
 
-    /// Puts a text behind the one that stands.
+    /// Puts a text after the one that is there.
     #[inline]
     pub fn put(&mut self, text: &str)
         requires { length text.now ≤ sheet_room self.old }
@@ -101,7 +101,7 @@ impl Sheet {
         Ok(())
     }
 
-    /// Puts the digits of a number behind the text that stands.
+    /// Puts the digits of a number after the text that is there.
     #[inline]
     pub fn number(&mut self, n: u64)
         requires { 20 ≤ sheet_room self.old }
@@ -115,7 +115,7 @@ impl Sheet {
         self.end = end;
     }
 
-    /// Puts the digits of a number of up to two words behind the text that stands.
+    /// Puts the digits of a number of up to two words after the text that is there.
     #[inline]
     pub fn wide_number(&mut self, n: u128)
         requires { 39 ≤ sheet_room self.old }

@@ -57,7 +57,7 @@ pub same_number : (n k : ℕ) (a b : NodeWord) → node n a ≡ node k b → n �
 unfolding word_number
 same_number n k a b e = ap word_number e
 
--- what nothing mentions has stood in no field
+-- what nothing mentions has been in no field
 pub unstood : (lay : Layout) (h : History) (c n : ℕ) → lay.mode ≡ TreeMode → IsOwnNode lay c n → IsUnmentioned h n → ¬ HasStoodInField h n
 unstood lay h c n mode own u (inl i) =
     let a = own.from in

@@ -1,5 +1,5 @@
 -- A delete fills its copy in order: nothing mentions the copy, and its fields get what the
--- sibling's held, which has stood in the tree.
+-- sibling's held, which has been in the tree.
 use Rattle.std.proofs.Common.{◌≡◌, ℕ, ◌/◌, ◌%◌, ◌<◌, ◌≤◌, inl, inr, Bool, true, false, le-ltb, cond, eqb, Option, Some, None, refl, sym, ◌∙◌, ap, subst, arith}
 use Rattle.std.specs.Prelude.{unwrap_or}
 use Rattle.arena.specs.declared.limits.Mode.{Mode}
@@ -90,7 +90,7 @@ module _ (m : UpdateRun TakePair UpdateAt) (c : Call) (h : History) (f : Found) 
         let whole : next_read m.read ≡ None = x.whole in
         ap (λ o. unwrap_or o (head_of 0)) (head_read (value h) sibling.node.0 m.read right.is whole)
 
-    -- what a field of the sibling held has stood in the tree
+    -- what a field of the sibling held has been in the tree
     field_stood : (side : Side) → AreFilledInOrder h → is_leaf (value h) sibling.node.0 ≡ false → WasInTree h (child_of sibling side).0
     field_stood side filled fork = subst (WasInTree h) (u.is.linked.fields side u.is.info) (held_stood c.layout h u.moment sibling.node.0 side x.works.run filled u.within (named u.is.linked.in_field) u.is.not_final then)
       where

@@ -17,6 +17,6 @@ leaf_looks f (p ∷ []) =
     else Differs p.node p.scx
 leaf_looks f (p ∷ l ∷ snaps) = Enough
 
--- it reads the leaf, of which the walk has found head and count
+-- it reads the leaf, whose head and count the walk has found
 abbrev pub leaf_reads : Found → NodeNo × Reading
 leaf_reads f = (f.trail.node, leaf_begun f.head f.more)

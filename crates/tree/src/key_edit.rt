@@ -28,7 +28,7 @@ impl<G: EditGoal, R: EditRule> KeyEdit<G, R> {
     ghost use Rattle.template.specs.FoundLeaf.{asked_key};
     ghost use Rattle.tree.specs.KeyEdit.Means.{key_means, putting, taking, wants};
 
-    /// An edit with so many tries, in the caller's call of this number; it takes fresh nodes and
+    /// An edit with `tries` tries, in the caller's call of this number; it takes fresh nodes and
     /// SCX-records out of the share, at most one SCX-record in a try, and one node, or three where
     /// its rule puts in what was absent. Where `nodes` are taken when it ends, it makes at most
     /// `tries * (3 * (2 + nodes) + n)` steps, n being 207 if it leaves a value, and else 328.

@@ -1,5 +1,5 @@
 -- The laws of the machine of a call of a dictionary: rows of others leave it waiting, its steps are
--- lawful and begin edits of typed words alone, and what it is told is so.
+-- lawful and begin edits of typed words alone, and what it is called with is right.
 use Rattle.std.proofs.Common.{◌≢◌, ℕ, ◌<◌, ◌≤◌, length, Option, Some, subst}
 use Rattle.arena.specs.declared.step.Kind.TheVariants.{Fill}
 use Rattle.arena.specs.declared.step.Row.{Row}
@@ -33,7 +33,7 @@ use Rattle.dict.specs.Inner.{InnerRun, Update, Get, Read, edit_means, inner}
 use Rattle.dict.specs.Laws.Kinds.{IsOfKind, edit_changes, is_of_kind}
 
 module _ (keys values : ℕ → Type 0) where
-  -- a read begins none: its pass is at rest behind its step too
+  -- a read begins none: its pass is at rest after its step too
   read_lawful : (c : Call) (h : History) (s : Step) (share : Remaining) → s.kind ≢ Fill → IsRun (TypedAllows keys values) c.layout h → IsRun TreeAllows c.layout (row_of c s h ⊳ h) → HasRested c h share → IsRun (TypedAllows keys values) c.layout (row_of c s h ⊳ h)
   read_lawful c h s share fills_not run tree x = typed_quiet keys values c.layout h (row_of c s h) run tree (on c h (row_of c s h) share tree fills_not x).now.over
 
@@ -61,10 +61,10 @@ module _ (keys values : ℕ → Type 0) where
     pub dict_lawful : (m : DictRun K V) (c : Call) (h : History) (s : Step) → IsRun (TypedAllows keys values) c.layout h → DictWaits keys values m c h s → IsRun (TypedAllows keys values) c.layout (row_of c s h ⊳ h)
     dict_lawful m c h s run w = lawful_inside (inner m.run) c h s (is_of_kind m.run) run (inner_lawful (inner m.run) c h s (typed_run keys values c.layout h run) w.1.1) w.0 w.1.1
 
-    -- once the step is made, it may be called with what that told
+    -- once the step is made, it may be called with what that found
     pub dict_made : (m : DictRun K V) (c : Call) (h : History) (s : Step) (v : ℕ) → IsRun (TypedAllows keys values) c.layout (row_of c s h ⊳ h) → IsTold s.access (value h s.word) v → DictWaits keys values m c h s → DictIsReady keys values m c (row_of c s h ⊳ h) (Some v)
     dict_made m c h s v run told w = (w.0, map_made m.tries m.run c h s v (typed_run keys values c.layout (row_of c s h ⊳ h) run) told w.1)
 
-    -- what it may be told fits the nodes that are taken by then
+    -- what it may get fits the nodes that are taken by then
     pub dict_told : (m : DictRun K V) (c : Call) (h : History) (got : Option ℕ) (nodes : ℕ) → IsRun (TypedAllows keys values) c.layout h → DictIsReady keys values m c h got → length (taken_nodes h) ≤ nodes → MapFits m.run got nodes
     dict_told m c h got nodes run x few = map_told m.tries m.run c h got nodes (typed_run keys values c.layout h run) x.1 few

@@ -1,5 +1,5 @@
--- What is shown of each call of the map by itself, with an arm for each: what it tells of a map, and
--- what it may take. The other laws and proofs of this crate, and of those above it, speak of any call.
+-- What is shown of each call of the map by itself, with an arm for each: what it answers of a map,
+-- and what it may take. The other laws and proofs of this crate and of later ones are of any call.
 use Rattle.std.proofs.Common.{◌≡◌, ℕ, zero, suc, ◌≤◌, List, [], ◌∷◌, take, Bool, true, false, if◌then◌else◌, ◌==◌, nat_lt, nat_le, ◌&&◌, Option, Some, None, unwrap_or, refl, subst, arith}
 use Rattle.ordered_map.specs.CallRules.{MayReply, most_scx}
 use Rattle.ordered_map.specs.CallRules as form
@@ -91,7 +91,7 @@ module _ (keys values : ℕ → Type 0) where
   reply_typed (Neighbour side k) m x = neighbour_typed side k m x
   reply_typed (Range low high most) m x = take_typed most (between low high m) (between_typed low high m x)
 
-  -- and the edit that a call of such words has made is one, where what it tells is of such words
+  -- and the edit that a call of such words has made is one, if what it answers is of such words
   to_typed : (key : ℕ) (left : Option ℕ) → keys key → IsTypedValue values left → IsTypedEdit keys values (edit_to key left)
   to_typed key None k v = k
   to_typed key (Some value) k v = (k, v)
@@ -112,7 +112,7 @@ one_pair : (p : Option Pair) (ps : List Pair) → pair_or_none p ≡ ManyPairs p
 one_pair None ps e = cc
 one_pair (Some p) ps e = cc
 
--- a call that tells pairs keeps lists, and has made no edit
+-- a call that answers pairs keeps lists, and has made no edit
 pub tells_lists : (call : MapCall) (m : List Pair) (ps : List Pair) → reply call m ≡ ManyPairs ps → KeepsLists call × (edit_of call (ManyPairs ps) ≡ None)
 tells_lists (Edit (Key k) rule) m ps told = absurd cc
 tells_lists (Edit (End side) rule) m ps told = absurd (one_pair (end_pair side m) ps told)

@@ -1,4 +1,4 @@
--- What the leaf that was found tells the map has replied, at a moment of the call.
+-- What the leaf that was found says the map has replied, at a moment of the call.
 use Rattle.std.proofs.Common.{◌^◌, ◌<◌, ap}
 use Rattle.arena.specs.History.{History}
 use Rattle.arena.specs.Machines.{Call}

@@ -47,12 +47,12 @@ edit_form (End side) rule (Done own told) = tt
 edit_form (End side) rule (Contended node scx) = tt
 edit_form (End side) rule (Full full) = tt
 
--- what the leaf says of what a goal finds, where it tells this value of this key
+-- what the leaf says of what a goal finds, if it has this value at this key
 abbrev told_by : Goal → ℕ → Option ℕ → MapReply
 told_by (ToKey k) key value = OneValue value
 told_by (End side) key value = pair_or_none (option_map (pair key) value)
 
--- it makes at most so many steps behind its walk
+-- how many steps it makes after its walk, at most
 steps_by : (left : Option ℕ) (nodes : ℕ) → 3 * (2 + nodes) + 5 + (64 * (doing left).most_looks 0 + ((doing left).most_reads 0 + (doing left).most_fills 0) + 39) ≡ 3 * (2 + nodes) + steps_behind left
 steps_by None nodes = omega arith
 steps_by (Some v) nodes = omega arith
@@ -62,7 +62,7 @@ takes_there : (rule : Rule) → leaves rule ≡ None → applies rule None ≡ t
 takes_there Take none there = cc
 takes_there rule none there = cc
 
--- At the leaf that was found, which tells this value
+-- At the leaf that was found, which has this value
 module _ (f : Found) (rule : Rule) where
   abbrev left : Option ℕ
   left = leaves rule
@@ -122,12 +122,12 @@ edit_small (ToKey k) rule small = small
 edit_small (End Left) rule small = omega arith
 edit_small (End Right) rule small = omega arith
 
--- what the map replies to an edit, where the leaf tells that
+-- what the map replies to an edit, if the leaf says that
 same_told : (goal : Goal) (f : Found) → leaf_told goal f ≡ told_by goal f.key f.value
 same_told (ToKey k) f = refl
 same_told (End side) f = refl
 
--- its edit is of the key of which the leaf tells what the call replies
+-- its edit is of the key at which the leaf says what the call replies
 pub edit_at_found : (e : KeyEdit Goal Rule) (f : Found) → edit_key (edit_means.edit e f) ≡ asked_key e.goal f.key
 edit_at_found e f = at_goal (leaves e.rule) (asked_key e.goal f.key)
 
@@ -136,7 +136,7 @@ pub edit_steps : {G R : Type 0} (goal : G → Goal) (rule : R → Rule) (e : Key
 edit_steps goal rule e tries nodes = ap (λ (k : ℕ). tries * k) (steps_by (leaves (rule e.rule)) nodes)
 
 module _ (e : KeyEdit Goal Rule) (f : Found) where
-  -- it needs no more nodes than its call may on a map that replies what its leaf tells
+  -- it needs no more nodes than its call may on a map that replies what its leaf says
   pub edit_needs : (map : List Pair) → reply (Edit e.goal e.rule) map ≡ leaf_told e.goal f → (edit_means.work e f).need ≤ need (Edit e.goal e.rule) map
   edit_needs map is = subst (λ (told : MapReply). (edit_means.work e f).need ≤ nodes_there e.rule (spot e.goal told)) (sym (is ∙ same_told e.goal f)) (key_many f e.rule e.goal f.value refl)
 
@@ -164,7 +164,7 @@ pub record IsReadKind (k : ReadKind) : Type 0 where
   pub finds : (r : k.R) → AsksForPairs (k.means.call r) → k.means.asks (k.means.call r)
   -- and then it may make all steps but fills
   pub kinds : (r : k.R) (kind : Kind) → k.means.asks (k.means.call r) → kind ≢ Fill → (call_rules (k.means.call r)).MayMake kind
-  -- what it answers is of a form that its call may reply, and tells what it has found
+  -- what it answers is of a form that its call may reply, and says what it has found
   pub form : (r : k.R) (a : Result k.A Refused) → MayReply (k.means.call r) (word_form (read_reply k.tells a))
   pub told : (a : k.A) → told_in (k.tells a) ≡ Some (k.means.told a)
   pub refuses : (c : Call) (h : History) (call : MapCall) (share : Remaining) (tries : ℕ) (a : k.A) → IsRefusal c h call share tries (k.tells a)

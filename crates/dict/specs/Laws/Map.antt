@@ -1,5 +1,5 @@
 -- The machine of a call of the map: rows of others leave it waiting, its steps are lawful, and what
--- it is told is so, as of the machine inside.
+-- it gets is so, as of the machine inside.
 use Rattle.std.proofs.Common.{◌≡◌, ◌≢◌, ℕ, suc, ◌≤◌, length, inr, Option, Some, refl, sym, subst, arith}
 use Rattle.arena.specs.declared.step.Kind.TheVariants.{Fill}
 use Rattle.arena.specs.declared.step.Row.{Row}
@@ -26,7 +26,7 @@ use Rattle.dict.specs.Steps.{InnerFits, MapFits}
 use Rattle.dict.specs.declared.run.MapRun.{MapRun}
 use Rattle.dict.specs.Inner.{InnerRun, Update, Get, Read, edit_means, inner}
 
--- a read rests on behind one row more, if its pass does
+-- a read is still at rest after one row more, if its pass is
 module _ (c : Call) (h : History) (r : Row) (share : Remaining) (run : IsRun TreeAllows c.layout (r ⊳ h)) where
   rests_more : HasRested c h share → RestsWith c (r ⊳ h) share → HasRested c (r ⊳ h) share
   rests_more x now = record { run = (x.run.0, run); since = inr x.since; now = now; quiet = quiet_rests c h r share run.lawful now x.quiet }
@@ -53,7 +53,7 @@ inner_lawful (Update m) c h s run w = update_lawful edit_means m c h s run w
 inner_lawful (Get key walk share) c h s run w = walk_lawful walk c h s run w.0.0
 inner_lawful (Read k m share) c h s run w = read_lawful k.means m c h s run w.0
 
--- by its step a get begins a try at most where its walk stands at the root
+-- by its step a get begins a try at most if its walk is at the root
 tries_made : (walk : WalkRun) (c : Call) (h : History) (s : Step) → WalkWaits walk c h s → HasTriedOnceAt walk.at (tries_begun c.pass h) (tries_begun c.pass c.start) → tries_begun c.pass (row_of c s h ⊳ h) ≤ suc (tries_begun c.pass c.start)
 tries_made walk c h s w x = go walk.at refl
   where
@@ -65,7 +65,7 @@ tries_made walk c h s w x = go walk.at refl
     go Root is = let one = one_row c.pass (row_of c s h) h in let none = x.1 is in omega (arith, one, none)
     go at is = past (subst IsPastRoot (sym is) tt)
 
--- once the step is made, it may be called with what that told
+-- once the step is made, it may be called with what that found
 made : (m : InnerRun) (c : Call) (h : History) (s : Step) (v : ℕ) → IsRun TreeAllows c.layout (row_of c s h ⊳ h) → IsTold s.access (value h s.word) v → WaitsInside m c h s → IsReadyInside m c (row_of c s h ⊳ h) (Some v)
 made (Update m) c h s v run told w = update_made edit_means m c h s v run told w
 made (Get key walk share) c h s v run told w = ((walk_made walk c h s v run told w.0.0, w.0.1, tries_made walk c h s w.0.0 w.0.2), on c h (row_of c s h) share run (walk_fills_not walk c h s w.0.0) w.1)
@@ -75,7 +75,7 @@ made (Read k m share) c h s v run told w = (read_made k.means m c h s v run told
 pub map_made : (tries : ℕ) (m : MapRun) (c : Call) (h : History) (s : Step) (v : ℕ) → IsRun TreeAllows c.layout (row_of c s h ⊳ h) → IsTold s.access (value h s.word) v → MapWaits tries m c h s → MapIsReady tries m c (row_of c s h ⊳ h) (Some v)
 map_made tries m c h s v run told w = (w.0, made (inner m) c h s v run told w.1)
 
--- what it may be told fits the nodes that are taken by then
+-- what it may get fits the nodes that are taken by then
 told : (m : InnerRun) (c : Call) (h : History) (got : Option ℕ) (nodes : ℕ) → IsRun TreeAllows c.layout h → IsReadyInside m c h got → length (taken_nodes h) ≤ nodes → InnerFits m got nodes
 told (Update m) c h got nodes run x few = update_told edit_means m c h got nodes run x few
 told (Get key walk share) c h got nodes run x few = walk_told walk c h got nodes run x.0.0 few

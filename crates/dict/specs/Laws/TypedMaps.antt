@@ -30,7 +30,7 @@ module _ (keys values : ℕ → Type 0) where
   typed_since lay h m run e = record { lawful = lawful_since lay h m run.lawful e; shaped = shaped_since (TypedAllows keys values) lay h m run.shaped e }
 
   -- The map of a run: of each SCX-record that wins some edit may be said that is of such words, and
-  -- whichever is said, the map behind it is the same.
+  -- whichever is said, the map after it is the same.
 
   typed_row : (lay : Layout) (h : History) (r : Row) → lay.mode ≡ TreeMode → IsRun (TypedAllows keys values) lay (r ⊳ h) → IsTypedThere keys values lay h → (m : List Pair) × Spells lay (value (r ⊳ h)) m × AreTyped keys values m
   typed_row lay h r mode run there = go (logs lay h r run.lawful)
@@ -54,7 +54,7 @@ module _ (keys values : ℕ → Type 0) where
   pub typed_opens : (lay : Layout) → IsTypedThere keys values lay (Start lay.mode)
   typed_opens lay mode = ([], opening_spells lay mode, tt)
 
-  -- and after every row of a run in which only such edits begin
+  -- and after every row of a run in which only such edits start
   pub typed_stays : (lay : Layout) (h : History) (r : Row) → IsRun (TypedAllows keys values) lay (r ⊳ h) → IsTypedThere keys values lay h → IsTypedThere keys values lay (r ⊳ h)
   typed_stays lay h r run there mode = typed_row lay h r mode run there
 

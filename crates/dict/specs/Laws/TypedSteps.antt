@@ -41,7 +41,7 @@ use Rattle.dict.specs.Laws.TypedMaps.{typed_run}
 not_begin : (h : History) (r : Row) (s : ℕ) (k : Kind) → IsBegin h r s → r.kind ≡ k → (k ≡ Freeze → ⊥) → ⊥
 not_begin h r s k b e d = d (sym e ∙ b.kind)
 
--- what a row begins is in progress behind it
+-- what a row begins is in progress after it
 begun_runs : (lay : Layout) (h : History) (r : Row) (s : ℕ) → Lawful lay (r ⊳ h) → IsBegin h r s → IsInProgress (r ⊳ h) s
 begun_runs lay h r s l b = record { unfinished = go (change lay h r l); named = begun_named (r ⊳ h) h r s (inl refl) b }
   where
@@ -69,13 +69,13 @@ pub record HasWalkedTo {E : Type 0} (e : EditMeaning E) (ed : E) (c : Call) (h :
   pub begin : History
   pub found : HasFoundGoal (e.goal ed) (begun_at c begin) moment f
 
--- an SCX goes on behind its begin
+-- an SCX continues after its start
 scx_went_on : (m : Job) (c : Call) (h : History) (s : Step) (at : ScxAt) → ScxWaitsAt TreeAllows c h m at s → Extends h c.start
 scx_went_on m c h s ScxStart w = absurd w
 scx_went_on m c h s (Help help) w = w.2.way.begun.since
 scx_went_on m c h s at w = w.fills.way.begun.since
 
--- what a step has found may be told of it
+-- what a step has found may be what a machine gets of it
 told_found : (a : Access) (n : ℕ) → IsTold a n n
 told_found LoadAccess n = refl
 told_found (Store new) n = tt
@@ -95,7 +95,7 @@ module _ (keys values : ℕ → Type 0) where
   pub typed_no_freeze : (lay : Layout) (h : History) (r : Row) → IsRun (TypedAllows keys values) lay h → IsRun TreeAllows lay (r ⊳ h) → r.kind ≢ Freeze → IsRun (TypedAllows keys values) lay (r ⊳ h)
   typed_no_freeze lay h r run tree d = typed_step lay h r run tree (λ s first b. absurd (d b.kind))
 
-  -- nor does a row of a pass whose SCX-records are all finished behind it
+  -- nor does a row of a pass whose SCX-records are all finished after it
   pub typed_quiet : (lay : Layout) (h : History) (r : Row) → IsRun (TypedAllows keys values) lay h → IsRun TreeAllows lay (r ⊳ h) → AreFinished lay r.pass.0 0 (r ⊳ h) → IsRun (TypedAllows keys values) lay (r ⊳ h)
   typed_quiet lay h r run tree finished = typed_step lay h r run tree (λ s first b. absurd (none s first b))
     where

@@ -1,5 +1,5 @@
-//! The calls of a dictionary. What a call says of steps and runs is long, and a body with many calls
-//! is proved over all of it: so each is made in one place, and tests have rows of calls.
+//! The calls of a dictionary. What a call says of steps and runs is long, and a body with many
+//! calls is proved over all of it: so each is made in one place, and tests have rows of calls.
 ghost use Rattle.ordered_map.specs.Requests.{AsksForFew};
 ghost use Rattle.forest.specs.Passes.{IsOf};
 
@@ -25,7 +25,7 @@ pub(super) enum Call<K, V> {
     Get(K),
     Successor(K),
     Predecessor(K),
-    /// From a key to another, so many pairs, or 64.
+    /// From a key to another, this many pairs, or 64.
     Range(K, K, u32),
 }
 
@@ -86,7 +86,7 @@ impl<K: WordKey, V: WordValue> Call<K, V> {
     }
 }
 
-/// The pairs that a reply tells, if it is one of a range.
+/// The pairs that a reply has, if it is one of a range.
 pub(super) fn pairs_told<K: WordKey, V: WordValue>(reply: Reply<K, V>) -> Option<Vec<(K, V)>> {
     match reply {
         Reply::Pairs(pairs) => Some(pairs),
@@ -94,7 +94,7 @@ pub(super) fn pairs_told<K: WordKey, V: WordValue>(reply: Reply<K, V>) -> Option
     }
 }
 
-/// What an edit of a key has told, as a reply.
+/// What an edit of a key has answered, as a reply.
 fn value_told<K: WordKey, V: WordValue>(told: Result<Option<V>, UpdateFault>) -> Reply<K, V> {
     match told {
         Ok(old) => Reply::Value(old),
@@ -103,7 +103,7 @@ fn value_told<K: WordKey, V: WordValue>(told: Result<Option<V>, UpdateFault>) ->
     }
 }
 
-/// And what a pop has told.
+/// And what a pop has answered.
 fn pair_told<K: WordKey, V: WordValue>(told: Result<Option<(K, V)>, UpdateFault>) -> Reply<K, V> {
     match told {
         Ok(pair) => Reply::Pair(pair),

@@ -100,7 +100,7 @@ fn five_keys_come_and_go(rt: HostRuntime) -> Result<(), Fail> {
     alone(&rt, rt.alloc(), &FIVE_KEYS, &[(7, 70)])
 }
 
-/// Beside each other, and different in both words.
+/// Next to each other, and different in both words.
 const BELOW: u128 = 18446744073709551615;
 
 const ABOVE: u128 = 18446744073709551616;
@@ -115,7 +115,7 @@ const TWO: u128 = 36893488147419103237;
 /// It differs from `ONE` in the low word alone.
 const NEXT: u128 = 18446744073709551622;
 
-/// What is expected is told apart from what is there by each of the two words.
+/// What is expected differs from what is there by each of the two words.
 const TWO_WORDS: [Row<'static, u64, u128>; 35] = [
     (Insert(1, ABOVE), Value(None), (17, 19)),
     (Insert(2, u128::MAX), Value(None), (16, 18)),

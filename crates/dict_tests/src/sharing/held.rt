@@ -100,8 +100,8 @@ const READ: &[Kind] = &[
     LoadSettled,
 ];
 
-/// Makes so many steps of a call, or fewer where it is over before, and notes their kinds. It tells
-/// whether the call goes on.
+/// Makes this many steps of a call, or fewer if it is over before, and notes their kinds. Returns
+/// whether the call is not over.
 pub(super) fn hold(
     forest: &Forest<Numbers>,
     call: &mut Held,
@@ -122,7 +122,7 @@ pub(super) fn hold(
     Ok(true)
 }
 
-/// Makes so many steps of a call, behind which it goes on.
+/// Makes this many steps of a call, which is not over then.
 pub(super) fn held(
     forest: &Forest<Numbers>,
     mut call: Held,
@@ -163,7 +163,7 @@ pub(super) fn rest(
     }
 }
 
-/// Whether these are the kinds of the parts, one part behind the other.
+/// Whether these are the kinds of the parts, one part after the other.
 fn are(kinds: &[Kind], parts: &[&[Kind]]) -> bool {
     let mut left = kinds;
     for part in parts {
@@ -181,22 +181,22 @@ struct Case {
     /// What the second does before.
     before: &'static [Row<'static, u64, u64>],
     call: Call<u64, u64>,
-    /// Behind so many steps, of which the newest is of this kind, it is held.
+    /// After this many steps, the newest of this kind, it is held.
     steps: usize,
     newest: Option<Kind>,
     /// What the second does meanwhile.
     meanwhile: &'static [Row<'static, u64, u64>],
-    /// What the call tells, and of which kinds its steps are.
+    /// What the call answers, and of which kinds its steps are.
     told: Told<'static, u64, u64>,
     kinds: Option<&'static [&'static [Kind]]>,
-    /// What the first does behind it.
+    /// What the first does after it.
     behind: &'static [Row<'static, u64, u64>],
     /// The shares at the end, and the pairs.
     left: [(u32, u32); 2],
     pairs: &'static [(u64, u64)],
 }
 
-/// An insert is held behind its first freeze, and the call that the second makes helps it first.
+/// An insert is held after its first freeze, and the call that the second makes helps it first.
 const HELPED: Case = Case {
     before: &[],
     call: Insert(5, 50),
@@ -214,8 +214,8 @@ const HELPED: Case = Case {
     pairs: &[(5, 50), (7, 70)],
 };
 
-/// It is held just before that freeze, which then finds the SCX-record of the other insert. The pair
-/// that is there is read, and both are put into one leaf.
+/// It is held just before that freeze, which then finds the SCX-record of the other insert. The
+/// pair that is there is read, and both are put into one leaf.
 const TOO_LATE: Case = Case {
     steps: 38,
     newest: Some(LoadSettled),
@@ -230,7 +230,7 @@ const TOO_LATE: Case = Case {
     ..HELPED
 };
 
-/// A lesser key comes in just before the first freeze of a pop: it takes that one.
+/// A lesser key is put in just before the first freeze of a pop: it takes that one.
 const POP: Case = Case {
     before: &[(Insert(7, 70), Value(None), (17, 19))],
     call: PopFirst,
@@ -244,7 +244,7 @@ const POP: Case = Case {
     ..HELPED
 };
 
-/// A greater key comes in just before that of the last pair: it takes that one.
+/// A greater key is put in just before that of the last pair: it takes that one.
 const POP_LAST: Case = Case {
     call: PopLast,
     meanwhile: &[(Insert(9, 90), Value(None), (16, 18))],
@@ -252,7 +252,7 @@ const POP_LAST: Case = Case {
     ..POP
 };
 
-/// The key comes in just before the first freeze of an insert where it is absent: what this has
+/// The key is put in just before the first freeze of an insert where it is absent: what this has
 /// filled is of no use, and its second try takes nothing.
 const INSERT_NEW: Case = Case {
     call: InsertNew(5, 50),
@@ -264,7 +264,7 @@ const INSERT_NEW: Case = Case {
     ..TOO_LATE
 };
 
-/// Another value comes in just before that of a delete of the one expected, which takes one try.
+/// Another value is put in just before that of a delete of the one expected, which takes one try.
 const DELETE_IF: Case = Case {
     before: &[(Insert(5, 50), Value(None), (17, 19))],
     call: DeleteIf(5, 50),
@@ -275,7 +275,7 @@ const DELETE_IF: Case = Case {
     ..POP
 };
 
-/// A get has come to the leaf of 5, which the delete takes off: it reads what was.
+/// A get has reached the leaf of 5, which the delete takes off: it reads what was.
 const GET: Case = Case {
     before: &[(Insert(5, 50), Value(None), (17, 19))],
     call: Get(5),
@@ -306,7 +306,7 @@ const NO_PAIRS: Case = Case {
     pairs: &[],
 };
 
-/// An insert of (5, 50) is held behind its first freeze, over the leaf of 7. A call that comes to
+/// An insert of (5, 50) is held after its first freeze, over the leaf of 7. A call that reaches
 /// the frozen node has to help it, and so loses its first try, which takes nothing of its share.
 const FROZEN: Case = Case {
     before: &[(Insert(7, 70), Value(None), (17, 19))],

@@ -8,7 +8,7 @@ use std::alloc::Global;
 use std::fmt::Debug;
 use std::process::Abort;
 
-/// What a call tells.
+/// What a call answers.
 #[derive(Clone, Copy)]
 pub(super) enum Says<K, V, L> {
     Value(Option<V>),
@@ -16,11 +16,11 @@ pub(super) enum Says<K, V, L> {
     Pairs(L),
 }
 
-/// What a call is to tell.
+/// What a call is to answer.
 pub(super) type Told<'a, K, V> = Says<K, V, &'a [(K, V)]>;
 
 impl<K: PartialEq, V: PartialEq> Says<K, V, &[(K, V)]> {
-    /// Whether a reply tells it.
+    /// Whether a reply says it.
     pub(super) fn is_of(&self, reply: &Reply<K, V>) -> bool {
         match (self, reply) {
             (Says::Value(want), Reply::Value(old)) => want == old,
@@ -31,7 +31,7 @@ impl<K: PartialEq, V: PartialEq> Says<K, V, &[(K, V)]> {
     }
 }
 
-/// A call, what it is to tell, and how many nodes and SCX-records it leaves of its pass's share.
+/// A call, what it is to answer, and how many nodes and SCX-records it leaves of its pass's share.
 pub(super) type Row<'a, K, V> = (Call<K, V>, Told<'a, K, V>, (u32, u32));
 
 /// A pass makes the calls of these rows, and each is as its row says.

@@ -19,11 +19,11 @@ type Edit = Call<u64, u64>;
 /// What is known of an edit that has begun.
 #[derive(Clone, Copy, Debug)]
 enum Answer {
-    /// It told the value that its key had.
+    /// It answered the value that its key had.
     Told(Option<u64>),
     /// It was contended: this SCX-record was in its way.
     Contended(ScxNo),
-    /// It told something else.
+    /// It answered something else.
     Other,
     /// It has not answered, and may have been made.
     Left,
@@ -35,7 +35,7 @@ type Made = (Edit, Answer);
 /// The values of the keys below 8.
 type Plain = [Option<u64>; 8];
 
-/// Makes an edit on plain values, and tells what its key had.
+/// Makes an edit on plain values, and returns what its key had.
 fn make_plain(edit: Edit, values: &mut Plain) -> Option<u64> {
     match edit {
         Insert(key, value) => values.get_mut(key as usize)?.replace(value),
@@ -49,7 +49,7 @@ fn make_plain(edit: Edit, values: &mut Plain) -> Option<u64> {
     }
 }
 
-/// Gives a key this in the place of what is expected, and tells what it had.
+/// Gives a key this in the place of what is expected, and returns what it had.
 fn swap(values: &mut Plain, key: u64, expected: Option<u64>, new: Option<u64>) -> Option<u64> {
     let slot = values.get_mut(key as usize)?;
     let old = *slot;
@@ -79,7 +79,7 @@ fn take_last(values: &mut Plain) -> Option<u64> {
     None
 }
 
-/// What an edit has told.
+/// What an edit has answered.
 fn replied(reply: Reply<u64, u64>) -> Answer {
     match reply {
         Reply::Value(old) => Answer::Told(old),
@@ -89,7 +89,7 @@ fn replied(reply: Reply<u64, u64>) -> Answer {
     }
 }
 
-/// Makes an edit on plain values, if it tells so. One that was refused has changed nothing.
+/// Makes an edit on plain values, if its answer fits. One that was refused has changed nothing.
 fn follow(values: &mut Plain, (edit, answer): Made) -> Option<()> {
     match answer {
         Answer::Told(old) => if make_plain(edit, values) == old {
@@ -107,7 +107,7 @@ fn follow(values: &mut Plain, (edit, answer): Made) -> Option<()> {
 }
 
 /// The values after the edits of one pass, and that of the other just before that of this place, if
-/// each tells so.
+/// the answer of each fits.
 fn replay(own: &[Made], other: Made, place: usize) -> Option<Plain> {
     let mut values = [None; 8];
     for (number, made) in own.iter().enumerate() {
@@ -122,7 +122,7 @@ fn replay(own: &[Made], other: Made, place: usize) -> Option<Plain> {
     Some(values)
 }
 
-/// Whether they tell so, and leave these pairs.
+/// Whether the answers fit, and these pairs are left.
 fn leave(own: &[Made], other: Made, place: usize, pairs: &[(u64, u64)]) -> bool {
     let Some(mut values) = replay(own, other, place) else {
         return false;
@@ -196,14 +196,14 @@ const REPLACEMENTS: Race = Race {
     tries: 3,
 };
 
-/// Where the first pass stops: in its edit of this number, behind so many steps.
+/// Where the first pass stops: in its edit of this number, after this many steps.
 #[derive(Clone, Copy, Debug)]
 struct Stop {
     number: usize,
     steps: usize,
 }
 
-/// Makes these edits, one behind the other.
+/// Makes these edits, one after the other.
 fn make_all(
     alloc: Global,
     forest: &Forest<Numbers>,
@@ -221,8 +221,8 @@ fn make_all(
     Ok(())
 }
 
-/// A dictionary in which the first pass has made its edits up to the one in which it stops, and holds
-/// that one.
+/// A dictionary in which the first pass has made its edits up to the one in which it stops, and
+/// holds that one.
 fn stopped_after(
     alloc: Global,
     race: Race,
@@ -250,7 +250,7 @@ fn steps_alone(alloc: Global, race: Race, number: usize) -> Result<usize, Fail> 
     Ok(kinds.len())
 }
 
-/// Makes the rest of the edit that was held, and those behind it.
+/// Makes the rest of the edit that was held, and those after it.
 fn go_on(
     alloc: Global,
     forest: &Forest<Numbers>,
@@ -271,7 +271,7 @@ fn go_on(
     Ok(pass)
 }
 
-/// Whether it told a value, or, where it had one try, that it was contended.
+/// Whether it answered a value, or, if it had one try, that it was contended.
 fn may_tell(race: Race, answer: Answer) -> bool {
     match answer {
         Answer::Told(_) => true,
@@ -298,8 +298,8 @@ fn has_left(answer: Answer, owner: &Pass<Numbers>) -> bool {
     first < scx.0 && scx.0.saturating_add(left) <= first + 20
 }
 
-/// The pairs. A look that meets an update that has stopped helps it, and may have no try left: it is
-/// made again.
+/// The pairs. A look that meets an update that has stopped helps it, and may have no try left: it
+/// is made again.
 fn see(alloc: Global, forest: &Forest<Numbers>, pass: &mut Pass<Numbers>) -> Option<Vec<(u64, u64)>>
     requires { IsOf forest.now pass.old }
     ensures { IsOf forest.now pass.new }
@@ -311,8 +311,8 @@ fn see(alloc: Global, forest: &Forest<Numbers>, pass: &mut Pass<Numbers>) -> Opt
     }
 }
 
-/// Whether all is right where the first pass stops, the other makes its edit, and the first does not
-/// go on.
+/// Whether all is right if the first pass stops, the other makes its edit, and the first does not
+/// continue.
 fn is_right_when_left(alloc: Global, race: Race, stop: Stop) -> Result<bool, Fail> {
     let mut own = Vec::new(alloc);
     let (forest, call, mut second) = stopped_after(alloc, race, stop, &mut own)?;
@@ -334,7 +334,7 @@ fn is_right_when_left(alloc: Global, race: Race, stop: Stop) -> Result<bool, Fai
     Ok(unmade || leave(&own, other, before, pairs) || leave(&own, other, behind, pairs))
 }
 
-/// Whether all is right at the end, where the other's edit has come between these places of the
+/// Whether all is right at the end, if the other's edit was made between these places of the
 /// first's.
 fn is_right_at_the_end(
     alloc: Global,
@@ -358,7 +358,7 @@ fn is_right_at_the_end(
     Ok(have_told && have_left && are_right)
 }
 
-/// The same where the first goes on. It counts the edits that were contended.
+/// The same if the first continues. It counts the edits that were contended.
 fn is_right_when_it_goes_on(
     alloc: Global,
     race: Race,
@@ -375,8 +375,8 @@ fn is_right_when_it_goes_on(
     is_right_at_the_end(alloc, race, (forest, first, second), &own, other, places)
 }
 
-/// The same where the other stops too, behind so many steps, and goes on once the first has made all
-/// its edits. None where it is over before.
+/// The same if the other stops too, after this many steps, and continues once the first has made
+/// all its edits. None if it is over before.
 fn is_right_when_both_stop(
     alloc: Global,
     race: Race,
@@ -396,7 +396,7 @@ fn is_right_when_both_stop(
     Ok(Some(is_right_at_the_end(alloc, race, ends, &own, other, places)?))
 }
 
-/// The first stops after each of its steps in turn. It tells how many edits were contended.
+/// The first stops after each of its steps in turn. It returns how many edits were contended.
 fn sweep(rt: &impl Abort, alloc: Global, race: Race) -> Result<usize, Fail> {
     let mut contended = 0;
     for number in 0..race.own.len() {
@@ -433,7 +433,7 @@ fn a_stopped_edit_is_left_or_goes_on(rt: HostRuntime) -> Result<(), Fail> {
 /// No insert of the other makes more steps.
 const MOST_STEPS: usize = 100;
 
-/// The other stops after each of its steps in turn, wherever the first has stopped in its second edit.
+/// The other stops after each of its steps in turn, wherever the first stopped in its second edit.
 #[test]
 fn an_insert_that_stops_as_it_helps_goes_on(rt: HostRuntime) -> Result<(), Fail> {
     let number = 1;

@@ -38,7 +38,7 @@ const RIVALS: u64 = 8;
 /// What a thread does in each of its rounds.
 #[derive(Clone, Copy)]
 enum Work {
-    /// It puts in a key that no other of so many threads has.
+    /// It puts in a key that no other of this many threads has.
     Own { threads: u64 },
     /// It puts in a key where it is absent, which the others do too, with a value of its own. That
     /// comes out if it was put in.
@@ -47,13 +47,13 @@ enum Work {
     Mixed,
     /// The first thread moves a window of keys, and the others look at it.
     Window,
-    /// The first thread puts in so many keys.
+    /// The first thread puts in this many keys.
     First { keys: u64 },
     /// It takes out the first pair, or, where its number is odd, the last.
     Pop,
     /// It makes one of the eleven calls. What this adds to the sum of the pairs comes out.
     Any,
-    /// It adds one to the value of the key 0, until it has done so often enough.
+    /// It adds one to the value of the key 0, until it has done so as many times as it is to.
     Count,
 }
 
@@ -63,7 +63,7 @@ type Out = Option<Option<u64>>;
 /// What came out in each round.
 type Outs = [Out; ROUNDS as usize];
 
-/// What a key had, as a reply tells it; of a pop, whose values are their keys, the value.
+/// What a key had, as a reply says; of a pop, whose values are their keys, the value.
 fn told(reply: Reply<u64, u64>) -> Out {
     match reply {
         Reply::Value(old) => Some(old),
@@ -73,7 +73,7 @@ fn told(reply: Reply<u64, u64>) -> Out {
     }
 }
 
-/// Whether this was told.
+/// Whether this was answered.
 fn is_told(out: Out, want: Option<u64>) -> Out {
     if out? == want { Some(None) } else { None }
 }
@@ -110,7 +110,7 @@ fn ask(
     told(reply_of(alloc, forest, pass, edit)?)
 }
 
-/// Adds one to the value of the key 0, and answers what it was. Where another thread has changed it
+/// Adds one to the value of the key 0, and answers what it was. If another thread has changed it
 /// meanwhile, or was in the way, it is read again.
 fn count_up(alloc: Global, forest: &Forest<Numbers>, pass: &mut Pass<Numbers>) -> Out
     requires { IsOf forest.now pass.old }
@@ -126,7 +126,7 @@ fn count_up(alloc: Global, forest: &Forest<Numbers>, pass: &mut Pass<Numbers>) -
     None
 }
 
-/// Puts in the key behind the window's last, and takes out its first once there are enough.
+/// Puts in the key after the window's last, and takes out its first once there are enough.
 fn move_window(alloc: Global, forest: &Forest<Numbers>, pass: &mut Pass<Numbers>, round: u64) -> Out
     requires { IsOf forest.now pass.old }
     ensures { IsOf forest.now pass.new }
@@ -138,7 +138,7 @@ fn move_window(alloc: Global, forest: &Forest<Numbers>, pass: &mut Pass<Numbers>
     }
 }
 
-/// Whether these are the pairs of a window: of so many keys or of one more, each one above the one
+/// Whether these are the pairs of a window: of its keys or of one more, each one above the one
 /// before; or of fewer from 0 on.
 fn is_window(pairs: &[(u64, u64)]) -> bool {
     let many = pairs.len() as u64;
@@ -154,7 +154,7 @@ fn is_window(pairs: &[(u64, u64)]) -> bool {
     steps && (many == WINDOW || many == WINDOW + 1 || first == 0 && many < WINDOW)
 }
 
-/// Looks at the window, and answers how many keys it has seen. A look that is refused tells nothing.
+/// Looks at the window, and answers how many keys it has seen. A look that is refused sees nothing.
 fn see_window(alloc: Global, forest: &Forest<Numbers>, pass: &mut Pass<Numbers>) -> Out
     requires { IsOf forest.now pass.old }
     ensures { IsOf forest.now pass.new }
@@ -257,7 +257,7 @@ fn add_up(
     }
 }
 
-/// A number that hangs on all of this one.
+/// A number that depends on all of this one.
 fn stirred(number: u64) -> u64 {
     number.wrapping_mul(11_400_714_819_323_198_485) / 65_536
 }
@@ -401,7 +401,7 @@ impl Ended {
         }
     }
 
-    /// There are so many pairs: these keys one above the other.
+    /// There are this many pairs: these keys one above the other.
     fn has_keys(&self, first: u64, many: usize) -> bool {
         let mut pairs = self.pairs.iter().enumerate();
         self.pairs.len() == many
@@ -435,9 +435,9 @@ impl Ended {
 /// The pairs that are left.
 #[derive(Clone, Copy)]
 enum Left {
-    /// So many keys from this one on, each with itself.
+    /// This many keys from this one on, each with itself.
     Keys(u64, usize),
-    /// So many keys from 0 on, each with the value of one thread.
+    /// This many keys from 0 on, each with the value of one thread.
     News(usize),
     /// The key 0, with this value.
     Count(u64),
@@ -450,7 +450,7 @@ enum Left {
 enum Come {
     /// Some value.
     Some,
-    /// With what is left so many values, which rise by this step from 0 on.
+    /// With what is left this many values, which rise by this step from 0 on.
     Steps(usize, u64),
     /// The values that are left, each once.
     Left,
@@ -458,7 +458,7 @@ enum Come {
     Sum,
 }
 
-/// Whether these are so many numbers from 0 on, each by this step above the one before.
+/// Whether these are `many` numbers from 0 on, each by this step above the one before.
 fn are_steps(values: &[u64], (many, step): (usize, u64)) -> bool {
     let mut places = values.iter().enumerate();
     values.len() == many && places.all(|(place, value)| *value == step.wrapping_mul(place as u64))
@@ -479,7 +479,7 @@ fn worked<R: Threads + Sync>(
     part(alloc, forest, workers)
 }
 
-/// So many threads do these works, one after the other, and then the forest is closed. What came out
+/// This many threads do these works, one after the other, and then the forest is closed. The result
 /// is that of the second.
 fn raced<R: Threads + Sync>(
     rt: &R,
@@ -499,7 +499,7 @@ fn raced<R: Threads + Sync>(
     }
 }
 
-/// So many threads; what they do before and in a race; and how it is to end.
+/// This many threads; what they do before and in a race; and how it is to end.
 type Race = (u32, [Work; 2], Left, Come);
 
 /// Nothing is put in before a race.

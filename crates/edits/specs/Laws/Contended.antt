@@ -22,7 +22,7 @@ use Rattle.ordered_map.specs.declared.rule.Goal.{Goal}
 use Rattle.template.proofs.Lemmas.{own_since, turned_lost, way_contended}
 use Rattle.edits.specs.Known.{HasSnappedAfterWalk}
 
--- a node that the call has passed stood in the tree then, and so was not final
+-- a node that the call has passed was in the tree then, and so was not final
 pub passed_not_final : (c : Call) (h : History) (k n : ℕ) → IsTreeRun c.layout h → WasPassed c h k n → WasNotFinal c h n
 passed_not_final c h k n run x = record {
   moment = x.passed.0;
@@ -31,8 +31,8 @@ passed_not_final c h k n run x = record {
   was = path_not_final c.layout x.passed.0 k n (run_since c.layout h x.passed.0 run x.passed.1) x.passed.3;
 }
 
--- A fork by a field of which the call went down has had no final node in its fields as long as it
--- was not final: what a snapshot of it shows was not final then.
+-- If the call went down by a field of a fork, the fork had no final node in its fields as long as
+-- it was not final: what a snapshot of it shows was not final then.
 pub shown_not_final : {goal : Goal} (c : Call) (h : History) (k : ℕ) (f : Found) (snap : Snap) (turn side : Side) (next : ℕ) → IsTreeRun c.layout h → (x : HasSnappedAfterWalk c h goal f snap) → HasTurned c x.moment k snap.node.0 turn next → WasNotFinal c h (child_of snap side).0
 shown_not_final c h k f snap turn side next run x turned = record {
   moment = x.moment;
@@ -42,7 +42,7 @@ shown_not_final c h k f snap turn side next run x turned = record {
       (child_not_final c.layout x.moment snap.node.0 side (run_since c.layout h x.moment run x.within) (was_passed x.moment turned.passed.first k snap.node.0 turned.passed.passed) x.is.not_final turned.fork);
 }
 
--- Where the call went down by a field of a fork, and its snapshot of the fork shows another node
+-- If the call went down by a field of a fork, and its snapshot of the fork shows another node
 -- there, what the snapshot found in the fork's info was in the way.
 pub turned_contended : {goal : Goal} (c : Call) (h : History) (k : ℕ) (f : Found) (snap : Snap) (side : Side) (next : ℕ) → IsTreeRun c.layout h → IsQuietSince c.layout c.pass c.start h → (x : HasSnappedAfterWalk c h goal f snap) → HasTurned c x.moment k snap.node.0 side next → (child_of snap side).0 ≢ next → IsContended c h snap.node.0 snap.scx.0
 turned_contended c h k f snap side next run quiet x turned d = way_contended c h c.start snap.node.0 snap.scx.0 run.1.lawful quiet (ends_self c.start) way over (there_later c.pass h x.moment c.start snap.node.0 snap.scx.0 x.within x.met)

@@ -22,7 +22,7 @@ rows : History → ℕ
 rows (Start mode) = 0
 rows (r ⊳ h) = suc (rows h)
 
--- no row stands between a moment and itself
+-- no row is between a moment and itself
 no_row : (h : History) (row : Row) (before : History) → Extends h (row ⊳ before) → Extends before h → ⊥
 unfolding rows
 no_row h row before within since =
@@ -44,7 +44,7 @@ module _ (lay : Layout) (c : ℕ) where
   running : (before : History) (row : Row) (s : ℕ) → Lawful lay (row ⊳ before) → IsWin before row s → IsInProgress before s
   running before row s l w = wins_in_progress lay before row s l (wins_of lay before row s l w)
 
-  -- behind a moment itself nothing is entered
+  -- after a moment itself nothing is entered
   pub none_yet : (h : History) → HasEnteredNone lay c h h
   none_yet h row before t within since w own = no_row h row before within since
 
@@ -66,7 +66,7 @@ module _ (lay : Layout) (c : ℕ) where
       older k (Start mode) = k
       older k (q ⊳ j) = j
 
-  -- what is entered behind two moments, one behind the other
+  -- what is entered after two moments, one later than the other
   pub only_joined : (s : ℕ) (h begin start : History) → Extends h begin → HasEnteredNone lay c begin start → HasEnteredOnly lay c s h begin → HasEnteredOnly lay c s h start
   only_joined s h begin start since none only row before t within behind w own = go (ends_either h before begin (ends_trans h (row ⊳ before) before within (inr (ends_self before))) since)
     where

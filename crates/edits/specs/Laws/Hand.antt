@@ -35,7 +35,7 @@ pub record HasHand (lay : Layout) (h : History) (c first top : ℕ) : Type 0 whe
   pub unnamed : (n : ℕ) → first ≤ n → n ≤ top → ¬ IsNamed lay h n
   pub unmentioned : IsUnmentioned h top
 
--- those below n are full, and those above it blank; behind the top one stands what is left of the
+-- those below n are full, and those above it blank; after the top one is what is left of the
 -- share; no SCX-record of the pass is unfinished
 pub record HasFilledTo (lay : Layout) (h : History) (c : ℕ) (left : Remaining) (first top n : ℕ) (piece : ℕ → Piece) : Type 0 where
   pub some : first ≤ top
@@ -241,7 +241,7 @@ by_load lay h r c left first top n piece l no_fill same x = record {
   blank = λ k i j t q p. same (node k q) ∙ x.blank k i j t q p;
 }
 
--- Behind the last word of a node
+-- After the last word of a node
 
 pub filled_next : (lay : Layout) (h : History) (c : ℕ) (left : Remaining) (first top n : ℕ) (piece : ℕ → Piece) → IsTakenNode h n → HoldsWords h n (piece n) → HasFilledTo lay h c left first top n piece → HasFilledTo lay h c left first top (suc n) piece
 filled_next lay h c left first top n piece t w x = record {

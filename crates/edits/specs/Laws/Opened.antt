@@ -1,4 +1,4 @@
--- Nodes that an LLX may look at: those that have stood in the tree, as the leaf that a walk has
+-- Nodes that an LLX may look at: those that have been in the tree, as the leaf that a walk has
 -- found and its parent.
 use Rattle.std.proofs.Common.{ℕ}
 use Rattle.arena.specs.Fills.{IsNamed}

@@ -8,10 +8,10 @@ use Rattle.edits.specs.Pairs.{pair_at}
 abbrev pub listed : Inside → List Pair
 listed s = take s.count (s.first ∷ s.second ∷ s.third ∷ s.fourth ∷ s.fifth ∷ [])
 
--- the five places of a list of at most five pairs: those behind the last are blank
+-- the five places of a list of at most five pairs: those after the last are blank
 abbrev pub placed_pairs : List Pair → Inside
 placed_pairs ps = record { first = pair_at ps 0; second = pair_at ps 1; third = pair_at ps 2; fourth = pair_at ps 3; fifth = pair_at ps 4; count = length ps }
 
--- places with blanks behind the last are those of the list that they hold
+-- places with blanks after the last are those of the list that they hold
 pub placed_back : (s : Inside) → s ≡ placed_pairs (listed s) → placed_pairs (listed s) ≡ s
 placed_back s i = sym i

@@ -36,7 +36,7 @@ pub record HoldsBefore (h : History) (n : ℕ) (p : Piece) (part : NodeWord) : T
   pub done : (q : NodeWord) → IsNodeFill q → fill_place q < fill_place part → value h (node n q) ≡ word_of p q
   pub blank : (q : NodeWord) → IsNodeFill q → fill_place part ≤ fill_place q → value h (node n q) ≡ 0
 
--- so is this word too, and all that come behind it are 0
+-- so is this word too, and all that come after it are 0
 pub record HoldsUpTo (h : History) (n : ℕ) (p : Piece) (part : NodeWord) : Type 0 where
   pub done : (q : NodeWord) → IsNodeFill q → fill_place q ≤ fill_place part → value h (node n q) ≡ word_of p q
   pub blank : (q : NodeWord) → IsNodeFill q → fill_place part < fill_place q → value h (node n q) ≡ 0
@@ -116,13 +116,13 @@ other_place a b d e = let z : false ≡ true = sym d ∙ subst (λ q. same_node_
 
 -- Pairs in slots
 
--- behind the last pair stand blank ones
+-- after the last pair are blank ones
 blank_behind : (ps : List Pair) (i : ℕ) → length ps ≤ i → pair_at ps i ≡ pair 0 0
 blank_behind [] i l = refl
 blank_behind (p ∷ ps) zero l = absurd (omega (arith, l))
 blank_behind (p ∷ ps) (suc i) l = blank_behind ps i (omega (arith, l))
 
--- of a leaf the words of the slots behind the last pair are 0
+-- of a leaf the words of the slots after the last pair are 0
 module _ (level class : ℕ) (ps : List Pair) where
   abbrev leaf : Piece
   leaf = Leaf level class ps
@@ -164,7 +164,7 @@ piece_fill (Fork level class key l r) Marked i = absurd (let z : false ≡ true 
 
 -- The next word
 
--- a word is filled next: it comes behind that one, what stands between them is 0, and fewer are
+-- a word is filled next: it is after that one, what is between them is 0, and fewer are
 -- left
 pub record ComesNext (p : Piece) (part next : NodeWord) : Type 0 where
   pub is : is_filled p next ≡ true
@@ -172,7 +172,7 @@ pub record ComesNext (p : Piece) (part next : NodeWord) : Type 0 where
   pub between : (q : NodeWord) → IsNodeFill q → fill_place part < fill_place q → fill_place q < fill_place next → word_of p q ≡ 0
   pub fewer : fills_behind p next < fills_behind p part
 
--- none is filled behind it
+-- none is filled after it
 abbrev ComesLast : Piece → NodeWord → Type 0
 ComesLast p part = (q : NodeWord) → IsNodeFill q → fill_place part < fill_place q → word_of p q ≡ 0
 
@@ -231,7 +231,7 @@ module _ (level class : ℕ) (ps : List Pair) where
     fewer = let f = few_slots (length ps) s (high_within level class ps s e) in omega (arith, f);
   }
 
-  -- between a value and the next key stands a high half that is 0
+  -- between a value and the next key is a high half that is 0
   high_between : (s t : Slot) → slot_no t ≡ suc (slot_no s) → word_of p (Settled (High s)) ≡ 0 → (q : NodeWord) → IsNodeFill q → 3 + 3 * slot_no s < fill_place q → fill_place q < 2 + 3 * slot_no t → word_of p q ≡ 0
   high_between s t e empty (Settled Head) i a b = absurd (omega (arith, a))
   high_between s t e empty (Settled More) i a b = absurd (omega (arith, a))
@@ -255,7 +255,7 @@ module _ (level class : ℕ) (ps : List Pair) where
       between (inl z) q i a b = high_between s t e z q i (omega (arith, from, a)) b
       between (inr past) q i a b = absurd (omega (arith, past, a, b, e))
 
-  -- the slot behind a slot is the next, and has a pair
+  -- the slot after a slot is the next, and has a pair
   pub slot_next : (s t : Slot) → slot_behind (length ps - 1) s ≡ Some t → (slot_no t ≡ suc (slot_no s)) × (slot_no t < length ps)
   slot_next First t e = go (dec_lt 0 (length ps - 1))
     where
@@ -274,7 +274,7 @@ module _ (level class : ℕ) (ps : List Pair) where
       go (no n) = absurd (let z : None ≡ Some t = rw (le-ltb 2 (length ps - 1) (omega (arith, n))) at e in cc)
   slot_next Fourth t e = absurd (let z : None ≡ Some t = e in cc)
 
-  -- where there is none, all slots behind it are blank
+  -- if there is none, all slots after it are blank
   slot_last : (s u : Slot) → slot_behind (length ps - 1) s ≡ None → slot_no s < slot_no u → length ps ≤ slot_no u
   slot_last First u e l = go (dec_lt 0 (length ps - 1))
     where
@@ -358,7 +358,7 @@ module _ (level class : ℕ) (ps : List Pair) where
       go None d = refl
       go (Some t) d = absurd (let z : Some (Settled (Key t)) ≡ None = d in cc)
 
-  -- behind the last value or high half
+  -- after the last value or high half
   last_in : (part : NodeWord) (s : Slot) → (3 + 3 * slot_no s ≤ fill_place part) → (word_of p (Settled (High s)) ≡ 0 ⊎ (4 + 3 * slot_no s ≤ fill_place part)) → key_behind ps s ≡ None → ComesLast p part
   last_in part s from empty e q i a = all_blank (fill_place part) (high empty) low (λ l. absurd (omega (arith, from, l))) q i a
     where
@@ -472,7 +472,7 @@ pub next_word : (p : Piece) (part next : NodeWord) → part_behind p part ≡ So
 next_word (Leaf level class ps) part next e = leaf_next level class ps part next e
 next_word (Fork level class key l r) part next e = fork_next level class key l r part next e
 
--- behind the last word all others are 0
+-- after the last word all others are 0
 last_part : (p : Piece) (part : NodeWord) → is_filled p part ≡ true → part_behind p part ≡ None → ComesLast p part
 last_part (Leaf level class ps) part i e = leaf_last level class ps part i e
 last_part (Fork level class key l r) part i e = fork_last level class key l r part i e

@@ -38,7 +38,7 @@ module _ (c : Call) (begin h : History) (r : Row) (limit left : ℕ) (none : beg
   try_at_more (Value head more slot key) x = try_more x
   try_at_more (High head more slot key low) x = try_more x
 
--- behind the root's head the try has begun
+-- past the root's head the try has begun
 pub past_root : {c : Call} {begin h : History} {limit left : ℕ} (at : WalkAt) → IsPastRoot at → IsTry c begin h limit left → IsTryAt c begin h limit left at
 past_root Start past x = absurd past
 past_root Root past x = absurd past

@@ -1,5 +1,5 @@
--- The laws of updates: rows of others leave them waiting, their steps are lawful, and what they are
--- told is so.
+-- The laws of updates: rows of others leave them waiting, their steps are lawful, and what they
+-- get is so.
 use Rattle.std.proofs.Common.{◌≡◌, ◌≢◌, ℕ, ◌≤◌, false, Some, None, Option, length, inl, inr, refl, sym, ◌∙◌, ap, subst, arith}
 use Rattle.arena.specs.declared.layout.Layout.{Layout}
 use Rattle.arena.specs.declared.step.Row.{Row}
@@ -288,7 +288,7 @@ module _ {E : Type 0} (e : EditMeaning E) where
     walks_then : Walks e m (begun_at c b) after walk.goal
     walks_then = walks_by_step m (begun_at c b) h (row_of c s h) walk.goal run (walk_fills_not walk (begun_at c b) h s w) x
 
-    -- past the root's head it goes on
+    -- past the root's head it continues
     goes_past : IsPastRoot walk.at → IsTry c b h m.limit m.tries → WalkThen
     goes_past past try = (b, try_more c b h (row_of c s h) m.limit m.tries (own_begins_none c s h (walk_begins_none walk (begun_at c b) h s past w)) try, first, (walks_then, walk_made walk (begun_at c b) h s v run t w))
 
@@ -329,7 +329,7 @@ module _ {E : Type 0} (e : EditMeaning E) where
     walk_goes (walks.Value head more slot key) at try = goes_past (subst IsPastRoot (sym at) tt) try
     walk_goes (walks.High head more slot key low) at try = goes_past (subst IsPastRoot (sym at) tt) try
 
-  -- what is known once the step of this place has told v
+  -- what is known once the step of this place has found v
   abbrev ToldThen : UpdateRun E UpdateAt → Call → History → ℕ → UpdateAt → Type 0
   ToldThen m c h v at = (begin : History) × IsTry c begin h m.limit m.tries × FirstOrLost e m c begin at × UpdateIsToldAt e m (begun_at c begin) h v at
 
@@ -361,7 +361,7 @@ module _ {E : Type 0} (e : EditMeaning E) where
     (w.0, scxs_made m (begun_at c b) h s f scx w.0 run w.1 w.2, scx_made TreeAllows scx (begun_at (begun_at c b) w.0) h s v run t w.2),
   )
 
-  -- once the step is made, an update may be called with what it told
+  -- once the step is made, an update may be called with what it found
   pub update_made : (m : UpdateRun E UpdateAt) (c : Call) (h : History) (s : Step) (v : ℕ) → IsRun TreeAllows c.layout (row_of c s h ⊳ h) → IsTold s.access (value h s.word) v → UpdateWaits e m c h s → UpdateIsReady e m c (row_of c s h ⊳ h) (Some v)
   update_made m c h s v run t w = made_at m c w.0 h s v m.at run t w.1 w.2 w.3
 
@@ -378,7 +378,7 @@ module _ {E : Type 0} (e : EditMeaning E) where
   update_spends m c h None x = subst (MaySpend e m) (sym x.3) tt
   update_spends m c h (Some v) x = spends_at m (begun_at c x.0) h v m.at x.3
 
-  -- What it is told
+  -- What it gets
 
   fits_at : (m : UpdateRun E UpdateAt) (c : Call) (h : History) (v nodes : ℕ) (at : UpdateAt) → IsRun TreeAllows c.layout h → UpdateIsToldAt e m c h v at → length (taken_nodes h) ≤ nodes → UpdateFitsAt e m (Some v) nodes at
   fits_at m c h v nodes Start run x few = absurd x
@@ -388,7 +388,7 @@ module _ {E : Type 0} (e : EditMeaning E) where
   fits_at m c h v nodes (Fill f nth part) run x few = tt
   fits_at m c h v nodes (Scx f scx) run x few = tt
 
-  -- what an update may be told fits the nodes that are taken by then
+  -- what an update may get fits the nodes that are taken by then
   pub update_told : (m : UpdateRun E UpdateAt) (c : Call) (h : History) (got : Option ℕ) (nodes : ℕ) → IsRun TreeAllows c.layout h → UpdateIsReady e m c h got → length (taken_nodes h) ≤ nodes → UpdateFits e m got nodes
   update_told m c h None nodes run x few = subst (λ at. UpdateFitsAt e m None nodes at) (sym x.3) tt
   update_told m c h (Some v) nodes run x few = fits_at m (begun_at c x.0) h v nodes m.at run x.3 few

@@ -29,7 +29,7 @@ use tree::{EditGoal, EditRule, KeyEdit};
 /// The most forks that there are as a rule from the root to a leaf.
 const DEEP: usize = 32;
 
-/// Makes an edit with so many tries and this share, and tells what is left of that.
+/// Makes an edit with `tries` tries and this share, and returns what is left of that.
 #[inline(always)]
 pub(crate) fn make<K: WordKey, V: WordValue, G: EditGoal, R: EditRule>(
     hand: Hand<Dict<K, V>>,
@@ -115,7 +115,7 @@ fn neighbour<K: WordKey, V: WordValue>(
     of_neighbour(told)
 }
 
-/// Makes an ordered read with so many tries, which takes nothing of a share. What it keeps grows
+/// Makes an ordered read with `tries` tries, which takes nothing of a share. What it keeps grows
 /// with this allocator.
 #[inline(always)]
 pub(crate) fn read<K: WordKey, V: WordValue>(

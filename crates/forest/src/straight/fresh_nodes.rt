@@ -60,7 +60,7 @@ fn put<S: Shape, M: Machine<S>, E: Edit + Copy>(
     step_from::<S, M>(hand, seat, Step { kind, word, access }, node.start);
 }
 
-/// Fills a word of the fresh node of this place, and tells which word is filled behind it, if one
+/// Fills a word of the fresh node of this place, and returns the word that is filled next, if one
 /// is.
 #[inline(always)]
 fn fill<S: Shape, M: Machine<S>, E: Edit + Copy>(

@@ -1,4 +1,4 @@
-//! HELP, of whatever machine helps: its steps in line.
+//! HELP, of whatever machine helps: its steps inline.
 ghost use Rattle.std.specs.Prelude.{◌≡◌, ◌≢◌, ◌+◌, ◌≤◌, ◌⊎◌, ℕ, suc, true, false};
 ghost use Rattle.arena.specs.Layout.{scx_start};
 ghost use Rattle.arena.specs.MemberIndex.{member_index};
@@ -93,7 +93,7 @@ fn is_frozen(found: u64, seen: u64, scx: ScxNo) -> bool
 }
 
 /// Freezes the node of this place of an SCX-record that begins there and whose plan has been read;
-/// tells whether it is frozen.
+/// returns whether it is frozen.
 #[inline(always)]
 fn freeze<S: Shape, M: Machine<S>, T: Shape>(
     hand: Hand<S>,
@@ -132,7 +132,7 @@ fn freeze<S: Shape, M: Machine<S>, T: Shape>(
     true
 }
 
-/// Freezes the nodes of an SCX-record whose plan has been read; tells whether all are frozen.
+/// Freezes the nodes of an SCX-record whose plan has been read; returns whether all are frozen.
 #[inline(always)]
 fn freeze_all<S: Shape, M: Machine<S>, T: Shape>(
     hand: Hand<S>,
@@ -219,9 +219,9 @@ fn mark_all<S: Shape, M: Machine<S>, T: Shape>(
     mark::<S, M, T>(hand, seat, run, MemberIndex::Fourth);
 }
 
-/// Reads the plan of an SCX-record and freezes its nodes, by a run that has not begun; tells
-/// whether all are frozen. Where one could not be frozen the run waits to look whether all were.
-/// Each edit `E` has its own copy, which the compiler puts in line.
+/// Reads the plan of an SCX-record and freezes its nodes, by a run that has not begun; returns
+/// whether all are frozen. If one could not be frozen the run waits to look whether all were.
+/// Each edit `E` has its own copy, which the compiler inlines.
 #[inline(always)]
 pub(crate) fn begin<S: Shape, M: Machine<S>, T: Shape, E>(
     hand: Hand<S>,
@@ -277,7 +277,7 @@ pub(crate) fn commit<S: Shape, M: Machine<S>, T: Shape>(
     act_on::<S, M, T>(hand, seat, scx, start, part, Kind::Commit, commit);
 }
 
-/// HELP of an SCX-record by a run that has not begun; tells whether it has committed. Where a node
+/// HELP of an SCX-record by a run that has not begun; returns whether it has committed. If a node
 /// could not be frozen the run waits to look whether all were.
 #[inline(always)]
 pub(crate) fn call<S: Shape, M: Machine<S>, T: Shape>(

@@ -62,8 +62,8 @@ fn read<S: Shape, M: Machine<S>, T: Shape>(
     step::<S, M>(hand, seat, Step { kind, word, access })
 }
 
-/// LLX of a node whose mark is asked for: the loads of a snapshot. Where something is in the way,
-/// it tells whether the node was marked, and by which SCX-record, whose state is asked for again.
+/// LLX of a node whose mark is asked for: the loads of a snapshot. If something is in the way,
+/// it returns whether the node was marked, and by which SCX-record, whose state is asked for again.
 #[inline(always)]
 pub(crate) fn look<S: Shape, M: Machine<S>, T: Shape>(
     hand: Hand<S>,
@@ -112,8 +112,8 @@ pub(crate) fn look<S: Shape, M: Machine<S>, T: Shape>(
     })
 }
 
-/// Goes on by the machine, where something is in the way. In line, since an answer that came from
-/// out of line would take that of a call which meets nothing through memory too.
+/// Continues with the machine, if something is in the way. Inlined, since an answer from a function
+/// out of line would make a call which meets nothing use memory for its answer too.
 #[inline(always)]
 fn hand_over<S: Shape>(
     hand: Hand<S>,
@@ -140,7 +140,7 @@ fn hand_over<S: Shape>(
     complete::<S, LlxRun, S, LlxRun>(hand.words, hand.layout, seat, hand.number, &mut run, turn)
 }
 
-/// LLX of a node: the loads of a snapshot; where something is in the way, the machine goes on.
+/// LLX of a node: the loads of a snapshot; if something is in the way, the machine continues.
 #[inline(always)]
 pub(crate) fn call<S: Shape>(hand: Hand<S>, seat: &mut Seat<u8, SeatView>, node: NodeNo) -> Llx
     requires table { IsAt hand seat.old }

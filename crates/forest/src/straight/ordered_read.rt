@@ -1,6 +1,6 @@
-//! Ordered reads, of whatever machine makes one: the first try in line, as long as nothing is in its
-//! way. Where something is, or has come between, the machine of the read goes on from there; until
-//! then its place is left as it was.
+//! Ordered reads, of whatever machine makes one: the first try inline, as long as nothing is in its
+//! way. If something is, or has happened between, the machine of the read continues from there;
+//! until then its place is left as it was.
 ghost use Rattle.std.specs.Prelude.{◌≡◌, suc, Ok};
 ghost use Rattle.forest.specs.StraightReads.{ReadEnds, ReadGoesOn, Reader, ReaderBegins, ReaderEnds, ReaderLooksAgain, ReaderRoots, StandsToRead, again_left, root_left};
 ghost use Rattle.forest.specs.Hands.{IsAt, hand_calls};
@@ -54,7 +54,7 @@ pub(crate) fn read<S: Shape, M: Machine<S>, T: Shape, N: Machine<T>>(
     step::<S, M>(hand, seat, Step { kind, word, access })
 }
 
-/// Goes on by the machine of a read, told this, to the end.
+/// Completes a read by its machine, which gets this.
 #[inline(never)]
 pub(crate) fn tell<S: Shape, M: Machine<S>, T: Shape, N: Machine<T>>(
     hand: Hand<S>,
@@ -74,8 +74,8 @@ pub(crate) fn tell<S: Shape, M: Machine<S>, T: Shape, N: Machine<T>>(
     complete::<S, M, T, N>(hand.words, hand.layout, seat, hand.number, run, turn)
 }
 
-/// Looks at a fork, and tells what comes behind that, or what the read has answered: that there
-/// is no memory to keep what was found, or, where something is in the way, what its machine says.
+/// Looks at a fork, and returns what is done next, or what the read has answered: that there
+/// is no memory to keep what was found, or, if something is in the way, what its machine answers.
 #[inline(always)]
 fn look_on<S: Shape, M: Machine<S>, R: Read + Drop>(
     hand: Hand<S>,
@@ -103,7 +103,7 @@ fn look_on<S: Shape, M: Machine<S>, R: Read + Drop>(
     }
 }
 
-/// Goes on by the machine, where something is in the way of a look. Out of line, so that no turn
+/// Continues with the machine, if something is in the way of a look. Out of line, so that no turn
 /// pays for its locals.
 #[cold]
 #[inline(never)]
@@ -137,8 +137,8 @@ fn look_again<S: Shape, M: Machine<S>, R: Read + Drop>(
     complete::<S, M, Tree, ReadRun<R>>(hand.words, hand.layout, seat, hand.number, run, turn)
 }
 
-/// Validates what it has looked at, and tells what the read has answered. Where the last load has
-/// not told what was found, its machine is told of that, and goes on to the end.
+/// Validates what it has looked at, and returns what the read has answered. If the last load has
+/// not found what was found before, its machine gets that, and continues to the end.
 #[inline(always)]
 fn validate_on<S: Shape, M: Machine<S>, R: Read + Drop>(
     hand: Hand<S>,
@@ -160,7 +160,7 @@ fn validate_on<S: Shape, M: Machine<S>, R: Read + Drop>(
     tell::<S, M, Tree, ReadRun<R>>(hand, seat, run, told)
 }
 
-/// Loads a word of a node, and tells what comes behind that, or that there is no memory to keep
+/// Loads a word of a node, and returns what is done next, or that there is no memory to keep
 /// what is found.
 #[inline(always)]
 fn load_on<S: Shape, M: Machine<S>, R: Read + Drop, L: KnownLoad<R>>(
@@ -337,7 +337,7 @@ fn look_next<S: Shape, M: Machine<S>, R: Read + Drop>(
     }
 }
 
-/// Does what comes next, and tells what comes behind that, or what the read has answered.
+/// Does what comes next, and returns what is done then, or what the read has answered.
 #[inline(always)]
 fn visit_on<S: Shape, M: Machine<S>, R: Read + Drop>(
     hand: Hand<S>,
@@ -447,7 +447,7 @@ fn from_root<S: Shape, M: Machine<S>, R: Read + Drop>(
     go_on::<S, M, R>(hand, seat, run, first)
 }
 
-/// Makes an ordered read: its first try in line. A function of its own, as that of an update.
+/// Makes an ordered read: its first try inline. A function of its own, as that of an update.
 #[inline(never)]
 pub(crate) fn call<S: Shape, M: Machine<S>, R: Read + Drop>(
     hand: Hand<S>,

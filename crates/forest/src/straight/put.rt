@@ -1,4 +1,4 @@
-//! An SCX with a fresh cell, with its steps in line.
+//! An SCX with a fresh cell, with its steps inline.
 ghost use Rattle.std.specs.Prelude.{◌≡◌, ◌≤◌, ◌+◌, suc, length};
 ghost use Rattle.arena.specs.Machines.{Call};
 ghost use Rattle.prims.specs.Put.Steps.{put_left};
@@ -33,7 +33,7 @@ pub(crate) struct PutTask {
     pub(crate) scx: ScxNo,
 }
 
-/// Its machine, which only says where the call stands.
+/// Its machine, which only says where the call is.
 #[inline(always)]
 fn machine(snaps: &[Snap], put: PutTask, number: u64, scx: ScxAt, at: PutAt) -> PutRun
     requires fits { length snaps.now ≤ 4 }
@@ -84,9 +84,9 @@ fn fill_value<S: Shape>(hand: Hand<S>, seat: &mut Seat<u8, SeatView>, snaps: &[S
     step::<S, PutRun>(hand, seat, asked);
 }
 
-/// Goes on by the machine, where a node could not be frozen: it waits to look whether all were. The
-/// layout and the run of HELP are copies, so that the caller's, which are not handed out of line,
-/// stay in registers.
+/// Continues with the machine, if a node could not be frozen: it waits to look whether all were.
+/// The layout and the run of HELP are copies, so that the caller's, which are not handed out of
+/// line, stay in registers.
 #[inline(always)]
 fn complete_blocked<S: Shape>(
     hand: Hand<S>,

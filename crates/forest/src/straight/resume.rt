@@ -1,4 +1,4 @@
-//! Updates that meet something in their way: their machine goes on from there.
+//! Updates that meet something in their way: their machine continues from there.
 ghost use Rattle.std.specs.Prelude.{◌≡◌, ◌<◌};
 ghost use Rattle.forest.specs.Hosts.{HostedStands};
 ghost use Rattle.forest.specs.Hands.{IsAt, hand_calls};
@@ -19,7 +19,7 @@ use help::HelpRun;
 use std::mem::replace;
 use template::Found;
 
-/// Takes an update out, to be put at a place. Until it comes back, another stands in for it, whose
+/// Takes an update out, to be put at a place. Until it is put back, another replaces it, whose
 /// share nobody takes from: that of some pass, since a share is always one's.
 #[inline(always)]
 fn take_up<E: Edit + Copy>(run: &mut UpdateRun<E, ()>, layout: &Layout) -> UpdateRun<E, UpdateAt>
@@ -87,7 +87,7 @@ fn rest_from_next<S: Shape, M: Machine<S>, E: Edit + Copy>(
     }
 }
 
-/// Makes the rest of an update from what its try does next on. In line it makes a copy of the leaf,
+/// Makes the rest of an update from what its try does next on. Inlined, it copies the leaf,
 /// since the compiler keeps in registers only what is handed to no function out of line.
 #[inline(always)]
 pub(crate) fn from_next<S: Shape, M: Machine<S>, E: Edit + Copy>(

@@ -1,4 +1,4 @@
-//! SCX with an SCX-record of the share, of whatever machine makes one: its steps in line.
+//! SCX with an SCX-record of the share, of whatever machine makes one: its steps inline.
 ghost use Rattle.std.specs.Prelude.{◌≡◌, ◌≤◌, ◌<◌, ◌+◌, ℕ, suc, true, false, IfSome, IfNone};
 ghost use Rattle.arena.specs.Layout.{scx_start};
 ghost use Rattle.arena.specs.MemberIndex.{member_index};
@@ -55,7 +55,7 @@ fn fill<S: Shape, M: Machine<S>, T: Shape>(
     step_from::<S, M>(hand, seat, Step { kind, word, access }, start)
 }
 
-/// Fills the node of this place, and tells the place behind it.
+/// Fills the node of this place, and returns the next place.
 #[inline(always)]
 fn fill_member<S: Shape, M: Machine<S>, T: Shape, L: SnapList>(
     hand: Hand<S>,
@@ -118,7 +118,7 @@ fn fill_members<S: Shape, M: Machine<S>, T: Shape, L: SnapList>(
     fill_member::<S, M, T, L>(hand, seat, snaps, change, start, fourth);
 }
 
-/// Fills what the info of the node of this place was, and tells the place behind it.
+/// Fills what the info of the node of this place was, and returns the next place.
 #[inline(always)]
 fn fill_seen<S: Shape, M: Machine<S>, T: Shape, L: SnapList>(
     hand: Hand<S>,
@@ -209,7 +209,7 @@ pub(crate) fn fill_all<S: Shape, M: Machine<S>, T: Shape, L: SnapList>(
 }
 
 /// SCX that begins with the fill of its plan, and then by this run of HELP, which has not begun;
-/// tells whether it is done. Where a node could not be frozen the run waits to look whether all
+/// returns whether it is done. If a node could not be frozen the run waits to look whether all
 /// were.
 #[inline(always)]
 pub(crate) fn call<S: Shape, M: Machine<S>, T: Shape, L: SnapList>(

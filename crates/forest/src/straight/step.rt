@@ -1,4 +1,4 @@
-//! Steps of a call whose machine stands nowhere: clauses alone say where it would stand.
+//! Steps of a call without a machine: only clauses say which place its machine would be at.
 ghost use Rattle.std.specs.Prelude.{◌≡◌, suc, [], ◌∷◌};
 ghost use Rattle.arena.specs.Layout.{start_of};
 ghost use Rattle.arena.specs.Machines.{Call};
@@ -17,7 +17,7 @@ use atomic_table::Seat;
 use std::marker::Brand;
 
 /// Makes the step for which a machine of this type waits, on a word whose node or SCX-record begins
-/// there, and answers what it may be told.
+/// there, and answers what the machine may get.
 #[inline(always)]
 pub(crate) fn step_from<S: Shape, M: Machine<S>>(
     hand: Hand<S>,
@@ -46,7 +46,7 @@ pub(crate) fn step_from<S: Shape, M: Machine<S>>(
     hand.words.make::<Brand>(seat, &asked, at)
 }
 
-/// Makes the step for which a machine of this type waits, and answers what it may be told.
+/// Makes the step for which a machine of this type waits, and answers what the machine may get.
 #[inline(always)]
 pub(crate) fn step<S: Shape, M: Machine<S>>(
     hand: Hand<S>,

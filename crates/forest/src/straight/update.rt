@@ -24,10 +24,10 @@ use help::HelpRun;
 use prims::Snap;
 use template::{Found, Tree};
 
-/// Makes an edit in so many tries out of this share, and tells what is left of that. It is a
-/// function of its own, since the compiler puts nothing into a function that would grow very large,
+/// Makes an edit in `tries` tries out of this share, and returns what is left of that. It is a
+/// function of its own, since the compiler inlines nothing into a function that would grow large,
 /// as one with two edits would. It keeps the update's run to itself, so that the compiler knows
-/// what the run holds behind each step.
+/// what the run holds after each step.
 #[inline(never)]
 pub(crate) fn make<S: Shape, M: Machine<S>, E: Edit + Copy>(
     hand: Hand<S>,
@@ -61,8 +61,8 @@ pub(crate) fn make<S: Shape, M: Machine<S>, E: Edit + Copy>(
     (updated, run.into_share())
 }
 
-/// Makes an update: its first try in line, as long as nothing is in its way. Where something is,
-/// its machine goes on from there; until then the update has no place.
+/// Makes an update: its first try inline, as long as nothing is in its way. If something is,
+/// its machine continues from there; until then the update has no place.
 #[inline(always)]
 fn call<S: Shape, M: Machine<S>, E: Edit + Copy>(
     hand: Hand<S>,
@@ -84,7 +84,7 @@ fn call<S: Shape, M: Machine<S>, E: Edit + Copy>(
     try_on::<S, M, E>(hand, seat, run, &found, next)
 }
 
-/// Makes what a try does next and all behind it.
+/// Makes what a try does next and all after it.
 #[inline(always)]
 fn try_on<S: Shape, M: Machine<S>, E: Edit + Copy>(
     hand: Hand<S>,
@@ -199,7 +199,7 @@ fn look_at<S: Shape, M: Machine<S>, E: Edit + Copy>(
     }
 }
 
-/// Makes the SCX, part by part: the compiler puts no function in line that would grow very large, as
+/// Makes the SCX, part by part: the compiler inlines no function that would grow very large, as
 /// one with all of these parts would.
 #[inline(always)]
 fn change<S: Shape, M: Machine<S>, E: Edit + Copy>(

@@ -15,8 +15,8 @@ use arena::{Access, Kind, Machine, NodeWord, ScxNo, Shape, Step, Word};
 use atomic_table::Seat;
 use prims::{SnapList, Vlx, VlxRun};
 
-/// VLX of which the first info is asked for: loads the infos of the snapshots' nodes, up to the
-/// first that is not what its snapshot found, or else the last. It tells how many it has loaded,
+/// VLX whose first info is asked for: loads the infos of the snapshots' nodes, up to the
+/// first that is not what its snapshot found, or else the last. It returns how many it has loaded,
 /// and what the last of these is.
 #[inline(always)]
 pub(crate) fn validate<S: Shape, M: Machine<S>, L: SnapList + Copy>(

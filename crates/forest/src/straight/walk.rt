@@ -53,7 +53,7 @@ fn read<S: Shape, M: Machine<S>>(
     step_from::<S, M>(hand, seat, Step { kind, word, access }, start)
 }
 
-/// On which side of a fork with this key the walk goes on.
+/// On which side of a fork with this key the walk continues.
 #[inline(always)]
 fn side_of(goal: Goal, key: u64) -> Side
     ensures { result ≡ (if nat_lt (path_key goal) key then Side.Left else Side.Right) }
@@ -90,7 +90,7 @@ fn asks_key(goal: Goal, word: u64) -> bool
     }
 }
 
-/// On which side of a fork with the head in this word the walk goes on without its key.
+/// On which side of a fork with the head in this word the walk continues without its key.
 #[inline(always)]
 fn open_side(goal: Goal, word: u64) -> Side
     ensures { result ≡ open_side goal (head_of word) }
@@ -101,7 +101,7 @@ fn open_side(goal: Goal, word: u64) -> Side
     }
 }
 
-/// The slot in which the walk begins at a leaf that has so many pairs behind its first.
+/// The slot in which the walk begins at a leaf with `more` pairs after its first.
 #[inline(always)]
 fn first_slot(goal: Goal, more: u64) -> Slot
     ensures { result ≡ goal_slot goal more }
@@ -112,7 +112,7 @@ fn first_slot(goal: Goal, more: u64) -> Slot
     }
 }
 
-/// The key of which the walk tells at a leaf, where this is the one that it has read there.
+/// The key whose value the walk answers at a leaf, if this is the one that it has read there.
 #[inline(always)]
 fn asked_key(goal: Goal, key: u64) -> u64
     ensures { result ≡ asked_key goal key }
@@ -123,7 +123,7 @@ fn asked_key(goal: Goal, key: u64) -> u64
     }
 }
 
-/// Ends at the pair in this slot of a leaf that begins there, of which it tells: with the two words
+/// Ends at the pair in this slot of a leaf that begins there, which it answers: with the two words
 /// of its value.
 #[inline(always)]
 fn end_with<S: Shape, M: Machine<S>>(
@@ -164,7 +164,7 @@ fn end_with<S: Shape, M: Machine<S>>(
     }
 }
 
-/// Ends at a leaf of class 0 that begins there and has so many pairs behind its first: it loads the
+/// Ends at a leaf of class 0 that begins there and has `more` pairs after its first: it loads the
 /// keys in order up to the first that is not below the walk's, or the last.
 #[inline(always)]
 fn end_among<S: Shape, M: Machine<S>>(
@@ -247,7 +247,7 @@ fn end<S: Shape, M: Machine<S>>(
     }
 }
 
-/// Goes on behind the head of a node that begins there: on a side of a fork, or to the end at a
+/// Continues after the head of a node that begins there: on a side of a fork, or to the end at a
 /// leaf.
 #[inline(always)]
 fn pass<S: Shape, M: Machine<S>>(
@@ -290,7 +290,7 @@ fn pass<S: Shape, M: Machine<S>>(
     Ok(open_side(goal, word))
 }
 
-/// The walk from the root to the leaf where a key stands, or would stand, or to the first leaf, and
+/// The walk from the root to the leaf where a key is, or would be, or to the first leaf, and
 /// the last forks where it turned. Where the words of a node begin is reckoned once, as soon as its
 /// parent has told it.
 #[inline(always)]

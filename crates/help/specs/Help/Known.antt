@@ -1,4 +1,4 @@
--- When a run of HELP may go on, what it waits for, and what its answer says.
+-- When a run of HELP may continue, what it waits for, and what its answer says.
 use Rattle.std.specs.Prelude.{◌≡◌, ◌≢◌, ℕ, suc, ◌<◌, ◌≤◌, true, false, Bool, ◌⊎◌, List, Option, Some, None, slice_index_or}
 use Rattle.arena.specs.declared.layout.Layout.{Layout}
 use Rattle.arena.specs.declared.number.NodeNo.{NodeNo}
@@ -27,7 +27,7 @@ use Rattle.help.specs.declared.state.HelpRun.{HelpRun}
 use Rattle.help.specs.declared.state.HelpAt.{HelpAt}
 use Rattle.help.specs.declared.state.HelpAt.TheVariants.{Start, Plan as AtPlan, Member as AtMember, Seen as AtSeen, Freeze as AtFreeze, AllFrozen as AtAllFrozen, Abort as AtAbort, SetFrozen as AtSetFrozen, Mark as AtMark, New as AtNew, Old as AtOld, Update as AtUpdate, Commit as AtCommit}
 
--- the run may go on with s: an info word names it or has named
+-- the run may continue with s: an info word names it or has named
 -- it, or it is the owner's own and ready to begin
 abbrev pub IsServed : (Layout → History → ℕ → Type 0) → Layout → ℕ → History → ℕ → Type 0
 IsServed allows lay c h s = IsStarted h s ⊎ IsPrepared allows lay c h s
@@ -39,7 +39,7 @@ pub record Reading : Type 0 where
   pub plan : ℕ
   pub members : List NodeNo
 
--- what a run of HELP has read, without the place where it stands
+-- what a run of HELP has read, without its place
 abbrev pub reading : HelpRun → Reading
 reading m = record { scx = m.scx.0; plan = m.plan.0; members = m.members }
 
@@ -158,7 +158,7 @@ pub record HelpWaitsAt (allows : Layout → History → ℕ → Type 0) (lay : L
   pub known : HelpKnows allows lay c h m at
   pub asked : step ≡ help_step h m.scx at
 
--- the run waits for this step where it stands
+-- the run waits for this step at its place
 abbrev pub HelpWaits : (Layout → History → ℕ → Type 0) → Layout → ℕ → HelpRun → History → Step → Type 0
 HelpWaits allows lay c m h step = HelpWaitsAt allows lay c h (reading m) m.at step
 
@@ -171,7 +171,7 @@ pub record HasTried (lay : Layout) (c : ℕ) (h : History) (m : Reading) (j v ex
   pub won : (v ≡ expected) ⊎ (v ≡ m.scx) → IsStarted h m.scx × AreFrozen h m.scx (suc j)
   pub lost : v ≢ expected → v ≢ m.scx → Blocked lay c h m j v
 
--- what holds once the step of this place has told v
+-- what holds once the step of this place has found v
 abbrev pub HelpIsTold : (Layout → History → ℕ → Type 0) → Layout → ℕ → History → Reading → HelpAt → ℕ → Type 0
 HelpIsTold allows lay c h m Start v = ⊥
 HelpIsTold allows lay c h m AtPlan v = IsServed allows lay c h m.scx × (plan h m.scx ≡ v)
@@ -187,12 +187,12 @@ HelpIsTold allows lay c h m (AtOld found) v = Marked h m × (new h m.scx ≡ fou
 HelpIsTold allows lay c h m AtUpdate v = IsStarted h m.scx × HasWon h m.scx
 HelpIsTold allows lay c h m AtCommit v = value h (state m.scx) ≡ 1
 
--- the run may be called with this: with nothing at its start, then with what its step told
+-- the run may be called with this: with nothing at its start, then with what its step found
 abbrev pub HelpIsReady : (Layout → History → ℕ → Type 0) → Layout → ℕ → HelpRun → History → Option ℕ → Type 0
 HelpIsReady allows lay c m h None = (m.at ≡ Start) × IsServed allows lay c h m.scx.0
 HelpIsReady allows lay c m h (Some v) = HelpIsTold allows lay c h (reading m) m.at v
 
--- the run stands behind its abort, and this is what kept it from freezing a node
+-- the run is at its abort, and this is what kept it from freezing a node
 abbrev pub HasNoted : ℕ → History → Reading → HelpAt → Type 0
 HasNoted c h m (AtAbort j found) = IsBlocked c h m.scx (node_at m.members (member_index j)) found
 HasNoted c h m _ = ⊥
@@ -225,7 +225,7 @@ abbrev pub first_place : Option MemberIndex → ℕ
 first_place None = 4
 first_place (Some j) = member_index j
 
--- the plan covers a node behind the j-th, and the run asks for its `v` word next
+-- the plan covers a node after the j-th, and the run asks for its `v` word next
 pub record HasNext (old now : HelpRun) (turn : Turn Bool) (j : MemberIndex) : Type 0 where
   pub next : MemberIndex
   pub is : member_index next ≡ suc (member_index j)

@@ -271,7 +271,7 @@ impl Ended {
     }
 }
 
-/// So many threads work, and then all passes meet, and the forest is closed.
+/// This many threads work, and then all passes meet, and the forest is closed.
 fn race<R: Threads + Sync>(rt: &R, alloc: Global, threads: u32, kind: Work) -> Result<Ended, Fail> {
     let Ok((forest, passes)) = Forest::<Cells>::new(alloc, limits(threads, ROUNDS, ROUNDS)) else {
         return Err("no forest".into());

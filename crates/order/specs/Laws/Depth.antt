@@ -1,4 +1,4 @@
--- How deep nodes stand that an ordered read comes to.
+-- How deep the nodes are that an ordered read reaches.
 use Rattle.std.proofs.Common.{◌≡◌, ℕ, ◌+◌, ◌<◌, ◌≤◌, false, length, sym, ◌∙◌, ap, arith}
 use Rattle.arena.specs.declared.head.Head.{Head as HeadParts}
 use Rattle.arena.specs.declared.layout.Layout.{Layout}
@@ -17,7 +17,7 @@ use Rattle.ordered_map.proofs.Lemmas.{child_stood, levels_rise, run_since, stood
 use Rattle.order.specs.Laws.Kept.{taken_nodes_grow}
 use Rattle.order.specs.Paths.{HeadFits}
 
--- the children of a fork that has stood in the tree are not deeper than the taken nodes allow
+-- the children of a fork that has been in the tree are not deeper than the taken nodes allow
 pub fork_depth : (lay : Layout) (h : History) (n : ℕ) → IsTreeRun lay h → WasInTree h n → is_leaf (value h) n ≡ false → level (value h) n + 1 < 2 + length (taken_nodes h)
 fork_depth lay h n g x fork =
     let k : History = x.moment in
@@ -32,7 +32,7 @@ fork_depth lay h n g x fork =
     let same_level : level (value h) n ≡ level (value k) n = settled_level (value k) (value h) n same in
     omega (arith, rises, deep, more, same_level)
 
--- so a head of such a node fits so many taken nodes
+-- so a head of such a node fits this many taken nodes
 pub head_fits : (lay : Layout) (h : History) (n nodes : ℕ) (head : HeadParts) → IsTreeRun lay h → WasInTree h n → head_of (value h (node n (Settled HeadWord))) ≡ head → length (taken_nodes h) ≤ nodes → HeadFits head nodes
 head_fits lay h n nodes head g x e few = (
   (let d : level (value h) n < 2 + length (taken_nodes h) = stood_depth lay h n g x in let l : level (value h) n ≡ head.level = ap (λ (w : HeadParts). w.level) e in omega (arith, d, l, few)),

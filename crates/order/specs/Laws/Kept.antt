@@ -35,7 +35,7 @@ use Rattle.order.specs.Tries.{BeginsTry, IsInTry}
 use Rattle.order.specs.declared.load.ReadLoad.{ReadLoad}
 use Rattle.order.specs.declared.load.ReadLoad.TheVariants as loads
 
--- the root has stood in the tree
+-- the root has been in the tree
 pub root_there : (c : Call) (h : History) → IsTreeRun c.layout h → Extends h c.start → HasStood c h 0
 root_there c h run since = record {
   stood = was_passed h h 0 0 p;
@@ -90,7 +90,7 @@ module _ (c : Call) (h : History) (r : Row) where
         over : AreFinished c.layout c.pass 0 (r ⊳ h)
         over = over_more c.layout c.pass 0 h r run.lawful takes x.over
 
-    -- the settled words of a node that has stood in the tree stay
+    -- the settled words of a node that has been in the tree stay
     pub settled_more : (n : ℕ) → IsTreeRun c.layout h → HasStood c h n → SameSettled (value h) (value (r ⊳ h)) n
     settled_more n g x = stood_settled c.layout (r ⊳ h) h n (g.0, run) (inr (ends_self h)) x.stood
 

@@ -1,5 +1,5 @@
--- The laws of ordered reads: rows of others leave them waiting, their steps are lawful, and what they
--- are told is so.
+-- The laws of ordered reads: rows of others leave them waiting, their steps are lawful, and what
+-- they get is so.
 use Rattle.std.proofs.Common.{◌≡◌, ◌≢◌, ℕ, ◌+◌, ◌<◌, ◌≤◌, false, length, List, [], ◌∷◌, inl, inr, refl, sym, ◌∙◌, ap, subst, arith, Option, Some, None}
 use Rattle.arena.specs.declared.number.NodeNo.{NodeNo}
 use Rattle.arena.specs.declared.step.Row.{Row}
@@ -183,7 +183,7 @@ module _ {R A : Type 0} (means : ReadMeaning R A) (m : ReadRun R) where
 
   -- The step that it waits for
 
-  -- a load of a settled word of a node that has stood in the tree continues the run
+  -- a load of a settled word of a node that has been in the tree continues the run
   load_on : (c : Call) (h : History) (s : Step) (n : ℕ) (part : SettledPart) → IsTreeRun c.layout h → HasStood c h n → s ≡ load LoadSettled (node n (Settled part)) → IsRun TreeAllows c.layout (row_of c s h ⊳ h)
   load_on c h s n part g x asked = load_lawful TreeAllows c h LoadSettled (node n (Settled part)) s g.1 asked record { word = tt; same = refl } (λ q. cc) (stood_inside c.layout h n g x.stood)
 
@@ -260,7 +260,7 @@ module _ {R A : Type 0} (means : ReadMeaning R A) (m : ReadRun R) where
     made_at (Look children low llx) w = (looks_more c h r g run children low llx.node.0 w.0, (w.1.0, w.1.1, llx_made TreeAllows llx (begun_at c w.1.0) h s v run t w.1.2))
     made_at (Validate asked) w = (w.0, validates_more c h r g run w.0 w.1, vlx_made TreeAllows m.snaps.items asked (begun_at c w.0) h s v run t w.2)
 
-  -- so it may be called at this place, once its step has told v
+  -- so it may be called at this place, once its step has found v
   abbrev ReadyAt : Call → History → ℕ → ReadAt → Type 0
   ReadyAt c h v at = (begin : History) × IsInTry c h begin m.limit m.tries × ReadGoes means m (begun_at c begin) h × IsOwnMoment (begun_at c begin) h × ReadIsToldAt means m (begun_at c begin) h v at
 
@@ -288,7 +288,7 @@ module _ {R A : Type 0} (means : ReadMeaning R A) (m : ReadRun R) where
       stays_in_try : (at : ReadAt) → IsInTry c h begin m.limit m.tries → BeginsNoTry s → ReadWaitsAt means m (begun_at c begin) h s at → ReadyAt c made v at
       stays_in_try at try none w = told_in_try at (in_try_more c h (row_of c s h) m.limit m.tries (idle_made at w) begin (own_begins_none c s h none) try) w
 
-    -- the load of the root's head begins one, of which it knows what it has known so far
+    -- the load of the root's head begins one, about which it knows what it has known so far
     module _ (begin : History) (goes : ReadGoes means m (begun_at c begin) h) (try : BeginsHere means m c h) (loads : s ≡ load LoadSettled (node 0 (Settled HeadWord))) where
       begins_now : (at : ReadAt) → ReadWaitsAt means m (begun_at c begin) h s at → ReadWaitsAt means m (begun_at c h) h s at → ReadyAt c made v at
       begins_now at w again = told_in_try h record { reads = reads_anew c h m.snaps.items try.1 goes.reads.run goes.reads.over; suits = goes.suits } at (in_try_now c h (row_of c s h) m.limit m.tries (idle_made begin goes at w) (own_begins c s h loads) try.0) again
@@ -321,11 +321,11 @@ module _ {R A : Type 0} (means : ReadMeaning R A) (m : ReadRun R) where
     ready_at begin (Look children low llx) try goes w = stays_in_try begin goes (Look children low llx) try (llx_begins_none TreeAllows llx (begun_at c w.1.0) h s w.1.2) w
     ready_at begin (Validate asked) try goes w = stays_in_try begin goes (Validate asked) try (vlx_begins_none m.snaps.items asked (begun_at c w.0) h s w.2) w
 
-  -- once the step is made, a read may be called with what it told
+  -- once the step is made, a read may be called with what it found
   pub read_made : (c : Call) (h : History) (s : Step) (v : ℕ) → IsRun TreeAllows c.layout (row_of c s h ⊳ h) → IsTold s.access (value h s.word) v → ReadWaits means m c h s → ReadIsReady means m c (row_of c s h ⊳ h) (Some v)
   read_made c h s v run t w = ready_at c h s v run t w.0 m.at w.1 w.2 w.3
 
-  -- What it is told
+  -- What it gets
 
   load_fits : (c : Call) (h : History) (v nodes : ℕ) (of : ReadLoad) → IsTreeRun c.layout h → MayLoad means m.read m.snaps.items c h of → load_value h of ≡ v → length (taken_nodes h) ≤ nodes → LoadFits v nodes of
   load_fits c h v nodes (loads.Head above n) g x t few =
@@ -348,7 +348,7 @@ module _ {R A : Type 0} (means : ReadMeaning R A) (m : ReadRun R) where
       omega (arith, d, deep, few)
   fits_at c h v nodes (Validate asked) g x few = tt
 
-  -- what a read may be told fits the nodes that are taken by then
+  -- what a read may get fits the nodes that are taken by then
   pub read_told : (c : Call) (h : History) (got : Option ℕ) (nodes : ℕ) → IsRun TreeAllows c.layout h → ReadIsReady means m c h got → length (taken_nodes h) ≤ nodes → ReadFits means m got nodes
   read_told c h None nodes run x few = subst (λ at. ReadFitsAt means m None nodes at) (sym x.1) tt
   read_told c h (Some v) nodes run x few = fits_at (begun_at c x.0) h v nodes m.at x.2.reads.run x.4 few

@@ -1,4 +1,4 @@
--- What a call over snapshots knows since its begin stays, whatever rows come.
+-- What a call over snapshots knows since its start stays, whatever rows come.
 use Rattle.std.proofs.Common.{◌≡◌, ◌≢◌, ℕ, inr, inl, ◌∙◌, subst, List}
 use Rattle.arena.specs.declared.layout.Layout.{Layout}
 use Rattle.arena.specs.declared.step.Row.{Row}
@@ -48,11 +48,11 @@ takes_by_node lay c s h r n part w t own d free = untaken_by_node h r n t part w
 
 -- What stays
 
--- what a call over snapshots knows since its begin stays true, if the row takes no SCX-record but s
+-- what a call over snapshots knows since its start stays true, if the row takes no SCX-record but s
 pub begun_more : (c : Call) (h : History) (r : Row) (s : ℕ) (snaps : List Snap) → TakesOnly c.layout c.pass s h r → HasBegun c h s snaps → HasBegun c (r ⊳ h) s snaps
 begun_more c h r s snaps takes x = record { since = inr x.since; clear = x.clear; only = λ t own d free. takes t own d (x.only t own d free) }
 
--- that a call on s has come so far stays true, if the row takes no SCX-record but s
+-- that a call on s is under way stays true, if the row takes no SCX-record but s
 pub way_more : (c : Call) (h : History) (r : Row) (s : ℕ) (snaps : List Snap) → TakesOnly c.layout c.pass s h r → IsUnderWay c h s snaps → IsUnderWay c (r ⊳ h) s snaps
 way_more c h r s snaps takes x = record { begun = begun_more c h r s snaps takes x.begun; free = x.free }
 

@@ -33,7 +33,7 @@ owned_of lay k v l x =
     let o = ((facts lay k l).about v x.named.0 real x.named.1).owned in
     (o.pass, o.is_pass, o.scx)
 
--- a moment at which s covers some node stands behind the call's
+-- a moment at which s covers some node is after the call's
 -- begin, where s was not taken as the call began
 pub behind_start : (c : Call) (h : History) (s : ℕ) → Lawful c.layout h → Extends h c.start → ¬ IsTakenScx c.start s → (k : History) → Extends h k → 0 < count k s → Extends k c.start
 behind_start c h s l since free k e some = ⊎_elim (λ p. p) (λ p. absurd (free (taken_since c.start k s p (planned_taken c.layout k s (lawful_since c.layout h k l e) some)))) (ends_either h k c.start e since)
@@ -81,14 +81,14 @@ module _ (c : Call) (h : History) (s : ℕ) (snaps : List Snap) (l : Lawful c.la
   others_of v d way alone = others_at v d alone (way alone.moment (moment_since c.layout h c.start alone.moment (snap_at snaps i) b.since alone.found))
 
   -- an SCX-record that the info names now, and that the snapshot had not found
-  -- there, has come to the node since the snapshot
+  -- there, has reached the node since the snapshot
   pub blamed_now : (v : ℕ) → (IsOwnScx c.layout c.pass v → v ≢ s) → value h (info (snap_at snaps i).node.0) ≡ v → (snap_at snaps i).scx.0 ≢ v → IsBlamed c.layout c.pass h c.start (snap_at snaps i) v
   blamed_now v d e other = record { in_the_way = way; others = others_of v d way }
     where
       way : (m : History) → IsMoment c.layout h (snap_at snaps i) m → WasInTheWay h m (snap_at snaps i).node.0 v
       way m y = subst (λ u. WasInTheWay h m (snap_at snaps i).node.0 u) e (blame_info c.layout h m (snap_at snaps i).node.0 l y.within (λ z. other (sym y.info ∙ sym z ∙ e)))
 
-  -- so has one that the info named at a moment behind the call's begin, and that the snapshot had
+  -- so has one that the info named at a moment after the call's start, and that the snapshot had
   -- not found there
   pub blamed_behind : (k : History) (v : ℕ) → (IsOwnScx c.layout c.pass v → v ≢ s) → Extends h k → Extends k c.start → value k (info (snap_at snaps i).node.0) ≡ v → (snap_at snaps i).scx.0 ≢ v → IsBlamed c.layout c.pass h c.start (snap_at snaps i) v
   blamed_behind k v d e behind held other = record { in_the_way = way; others = others_of v d way }
@@ -99,7 +99,7 @@ module _ (c : Call) (h : History) (s : ℕ) (snaps : List Snap) (l : Lawful c.la
       from_known : Extends k known
       from_known = ends_trans k c.start known behind found.within
 
-      -- the info does not come back
+      -- the info never names that again
       not_later : (m : History) → IsMoment c.layout h (snap_at snaps i) m → Extends m k → ⊥
       not_later m y p =
           let rest : value k (state (snap_at snaps i).scx.0) ≢ 0 = λ z. found.rest (sym (state_since c.layout k known (snap_at snaps i).scx.0 lk from_known found.rest) ∙ z) in

@@ -42,7 +42,7 @@ idle_if_finished c h l over = idle_if_over c.layout c.pass h l (λ s own t. over
 
 -- One more row
 
--- an SCX-record that the row doesn't name anew and that was not in progress is not in progress then
+-- an SCX-record that the row does not newly name and that was not in progress is not so then
 still_out : (lay : Layout) (h : History) (r : Row) (t : ℕ) → Lawful lay (r ⊳ h) → (IsNamedScx (r ⊳ h) t → IsNamedScx h t) → ¬ IsInProgress h t → ¬ IsInProgress (r ⊳ h) t
 still_out lay h r t l back out x = go (ℕ_discrete (value h (state t)) 0)
   where
@@ -125,7 +125,7 @@ idle_by_no_freeze lay c h r l d idle t own = out_by_no_freeze lay h r t l d (idl
 pub idle_by_help : (allows : Layout → History → ℕ → Type 0) (c : Call) (h : History) (m : HelpRun) (step : Step) → Lawful c.layout (row_of c step h ⊳ h) → HelpWaits allows c.layout c.pass m h step → IsNamedScx h m.scx.0 → IsIdle c.layout c.pass h → IsIdle c.layout c.pass (row_of c step h ⊳ h)
 idle_by_help allows c h m step l w named idle t own = out_by_help allows c h m step t l w (λ e. rw e named) (idle t own)
 
--- Since a call's begin
+-- Since a call's start
 
 -- a pass that is idle now has been idle since now
 pub quiet_at_start : (lay : Layout) (c : ℕ) (h : History) → IsIdle lay c h → IsQuietSince lay c h h

@@ -24,7 +24,7 @@ pub record HasBeen (h start : History) (P : History → Type 0) : Type 0 where
   pub since : Extends moment start
   pub was : P moment
 
--- some row has come since the moment `start`, the newest of h
+-- some row has been added since the moment `start`, the newest of h
 pub record IsBehind (h start : History) : Type 0 where
   pub row : Row
   pub before : History
@@ -83,7 +83,7 @@ open_before lay h m n l e d = go (is_final (log lay m) n) refl
     go false q = refl
     go true q = absurd (let x = final_since lay h m n l e q in cc)
 
--- a node that was unmarked at a moment of the call was not final at its begin
+-- a node that was unmarked at a moment of the call was not final at its start
 pub open_at_start : (lay : Layout) (h start : History) (n : ℕ) → Lawful lay h → HasBeen h start (λ m. value m (marked n) ≡ 0) → is_final (log lay start) n ≡ false
 open_at_start lay h start n l x =
     let k : Lawful lay x.moment = lawful_since lay h x.moment l x.within in

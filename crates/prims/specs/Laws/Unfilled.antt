@@ -48,8 +48,8 @@ field_apart : (side : Side) (part : NodeWord) → ((other : Side) → part ≢ C
 field_apart side (Child other) no_field = absurd (no_field other refl)
 field_apart side _ no_field = refl
 
--- a row that fills no word of node n leaves its settled words as they were; and its fields, where no
--- SCX-record covers it
+-- a row that fills no word of node n leaves its settled words as they were; and its fields, where
+-- no SCX-record covers it
 pub node_unfilled : (lay : Layout) (h : History) (r : Row) (n : ℕ) (part : NodeWord) → Lawful lay (r ⊳ h) → ((q : NodeWord) → ¬ FillsNode lay h r n q) → IsNodeFill part → ((side : Side) → part ≡ Child side → (t j : ℕ) → member h t j ≢ n) → value (r ⊳ h) (node n part) ≡ value h (node n part)
 node_unfilled lay h r n part l no_fill fill uncovered = go (change lay h r l)
   where

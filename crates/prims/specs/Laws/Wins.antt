@@ -109,7 +109,7 @@ module _ (lay : Layout) (h : History) (s : ℕ) (l : Lawful lay h) (x : IsWonAt 
   won_is_real : s ≢ 0
   won_is_real = some_is_real before_facts (update_flagged before_facts row_wins).some
 
-  -- it comes behind the moment before
+  -- it is later than the moment before
   before_ends : Extends h x.before
   before_ends = ends_trans h (x.row ⊳ x.before) x.before x.within (inr (ends_self x.before))
 
@@ -140,7 +140,7 @@ module _ (lay : Layout) (h : History) (s : ℕ) (l : Lawful lay h) (x : IsWonAt 
         (λ p. absurd (gone p))
         (ends_either h x.before m before_ends e)
       where
-        -- what was seen does not come back
+        -- what was seen is never there again
         gone : Extends m x.before → ⊥
         gone p =
             let lm : Lawful lay m = lawful_since lay h m l e in
@@ -149,7 +149,7 @@ module _ (lay : Layout) (h : History) (s : ℕ) (l : Lawful lay h) (x : IsWonAt 
             let about : About lay (descriptor m s) m s = (facts lay m lm).about s (member x.before s i) won_is_real held in
             about.gone i (rw (ap count_of (same Plan tt)) w) (rw (same (Member i) tt) held) (rw (same (Member i) tt, same (Seen i) tt) here)
 
-  -- the row comes behind every moment at which s had not won
+  -- the row is later than every moment at which s had not won
   pub won_since_start : (m : History) → Extends h m → ¬ HasWon m s → Extends x.before m
   won_since_start m e d = ⊎_elim behind (λ p. absurd (d (won_since lay m (x.row ⊳ x.before) s (lawful_since lay h m l e) p row_won))) (ends_either h (x.row ⊳ x.before) m x.within e)
     where

@@ -1,4 +1,4 @@
--- When a run of LLX may go on, what it waits for, and what its answer says.
+-- When a run of LLX may continue, what it waits for, and what its answer says.
 use Rattle.std.specs.Prelude.{◌≡◌, ◌≢◌, ℕ, ◌<◌, Bool, true, false, ◌⊎◌, Option, Some, None}
 use Rattle.arena.specs.declared.layout.Layout.{Layout}
 use Rattle.arena.specs.declared.word.Side.TheVariants.{Left, Right}
@@ -96,8 +96,8 @@ LlxHasAsked allows c h n LastInfo step = step ≡ load LoadInfo (info n)
 LlxHasAsked allows c h n (LastState s) step = step ≡ load LoadState (state s.0)
 LlxHasAsked allows c h n (LastHelp s m) step = HelpWaits allows c.layout c.pass m h step
 
--- the newest row of h is the pass c's own, has come since the moment `start`, and loads the info of
--- node n
+-- the newest row of h is the pass c's own, was added since the moment `start`, and loads the info
+-- of node n
 pub record HasJustLooked (c : ℕ) (h start : History) (n : ℕ) : Type 0 where
   pub row : Row
   pub before : History
@@ -107,7 +107,7 @@ pub record HasJustLooked (c : ℕ) (h start : History) (n : ℕ) : Type 0 where
   pub kind : row.kind ≡ LoadInfo
   pub word : row.word ≡ info n
 
--- what holds once the step of this place has told v: v is what its word holds
+-- what holds once the step of this place has found v: v is what its word holds
 abbrev pub LlxIsTold : (Layout → History → ℕ → Type 0) → Call → History → ℕ → LlxAt → ℕ → Type 0
 LlxIsTold allows c h n Start v = ⊥
 LlxIsTold allows c h n Marked v = value h (marked n) ≡ v
@@ -129,7 +129,7 @@ pub record IsOpened (lay : Layout) (h : History) (n : ℕ) : Type 0 where
   pub in_field : IsInField lay h n
   pub inside : n < all_nodes lay
 
--- a run of LLX waits for this step, at a moment of its call; since the call's begin none of the
+-- a run of LLX waits for this step, at a moment of its call; since the call's start none of the
 -- pass's own SCX-records was in progress
 pub record LlxWaits (allows : Layout → History → ℕ → Type 0) (m : LlxRun) (c : Call) (h : History) (step : Step) : Type 0 where
   pub opened : IsOpened c.layout h m.node.0
@@ -138,12 +138,12 @@ pub record LlxWaits (allows : Layout → History → ℕ → Type 0) (m : LlxRun
   pub known : LlxKnows c h m.node.0 m.at
   pub asked : LlxHasAsked allows c h m.node.0 m.at step
 
--- what the run was told: nothing at its start, then v by a row of its own
+-- what the run has got: nothing at its start, then v by a row of its own
 abbrev pub LlxGot : (Layout → History → ℕ → Type 0) → Call → History → ℕ → LlxAt → Option ℕ → Type 0
 LlxGot allows c h n at None = at ≡ Start
 LlxGot allows c h n at (Some v) = LlxIsTold allows c h n at v × IsBehind h c.start
 
--- a run of LLX may be called with this: with nothing at its start, then with what its step told
+-- a run of LLX may be called with this: with nothing at its start, then with what its step found
 pub record LlxIsReady (allows : Layout → History → ℕ → Type 0) (m : LlxRun) (c : Call) (h : History) (got : Option ℕ) : Type 0 where
   pub opened : IsOpened c.layout h m.node.0
   pub since : Extends h c.start

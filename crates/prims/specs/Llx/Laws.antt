@@ -137,15 +137,15 @@ lawful_at allows c h n (LastHelp u m) s run i k a = help_lawful allows m c h s r
 pub llx_lawful : (allows : Layout → History → ℕ → Type 0) (m : LlxRun) (c : Call) (h : History) (s : Step) → IsRun allows c.layout h → LlxWaits allows m c h s → IsRun allows c.layout (row_of c s h ⊳ h)
 llx_lawful allows m c h s run w = lawful_at allows c h m.node.0 m.at s run w.opened.inside w.known w.asked
 
--- What they tell
+-- What loads find
 
--- after a load, its word holds what the load told
+-- after a load, its word holds what the load found
 pub load_told : (c : Call) (h : History) (k : Kind) (w : Word) (s : Step) (v : ℕ) → s ≡ load k w → IsTold s.access (value h s.word) v → value (row_of c s h ⊳ h) w ≡ v
 load_told c h k w s v e t =
     let u : v ≡ value h w = rw e at t in
     rw e (value_at (row_of c (load k w) h) h w refl ∙ sym u)
 
--- a load of an info is the call's last look there, and has found what it told
+-- a load of an info is the call's last look there, and has found that value
 pub load_found : (c : Call) (h : History) (n : ℕ) (s : Step) (v : ℕ) → Extends h c.start → s ≡ load LoadInfo (info n) → IsTold s.access (value h s.word) v → HasFound c.pass (row_of c s h ⊳ h) c.start LoadInfo n v
 load_found c h n s v since e t =
     let u : v ≡ value h (info n) = rw e at t in
@@ -166,7 +166,7 @@ told_at allows c h n LastInfo s v run t e a = (load_told c h LoadInfo (info n) s
 told_at allows c h n (LastState u) s v run t e a = load_told c h LoadState (state u.0) s v a t
 told_at allows c h n (LastHelp u m) s v run t e a = help_made allows m c h s v run t a
 
--- none of the steps that it waits for is a freezing exchange, but for those of HELP
+-- none of the steps that it waits for is a freezing exchange, except for those of HELP
 load_idle : (c : Call) (h : History) (k : Kind) (w : Word) (s : Step) → Lawful c.layout (row_of c s h ⊳ h) → s ≡ load k w → (k ≡ Freeze → ⊥) → IsIdle c.layout c.pass h → IsIdle c.layout c.pass (row_of c s h ⊳ h)
 load_idle c h k w s l e d idle = idle_by_no_freeze c.layout c.pass h (row_of c s h) l (λ f. d (sym (ap (λ (t : Step). t.kind) e) ∙ f)) idle
 
@@ -186,7 +186,7 @@ idle_at allows c h n LastInfo s l k a idle = load_idle c h LoadInfo (info n) s l
 idle_at allows c h n (LastState u) s l k a idle = load_idle c h LoadState (state u.0) s l a (λ e. cc) idle
 idle_at allows c h n (LastHelp u m) s l k a idle = idle_by_help allows c h m s l a (n, rw k.1 k.0.held) idle
 
--- once the step is made, the run of LLX may be called with what it told
+-- once the step is made, the run of LLX may be called with what it found
 pub llx_made : (allows : Layout → History → ℕ → Type 0) (m : LlxRun) (c : Call) (h : History) (s : Step) (v : ℕ) → IsRun allows c.layout (row_of c s h ⊳ h) → IsTold s.access (value h s.word) v → LlxWaits allows m c h s → LlxIsReady allows m c (row_of c s h ⊳ h) (Some v)
 llx_made allows m c h s v run t w = record {
   opened = opened_more c h (row_of c s h) m.node.0 run.lawful w.opened;

@@ -1,4 +1,4 @@
--- When a run of SCX with a fresh cell may go on, what it waits for, and what its answer says.
+-- When a run of SCX with a fresh cell may continue, what it waits for, and what its answer says.
 use Rattle.std.specs.Prelude.{◌≡◌, ℕ, ◌<◌, Option, Some, None}
 use Rattle.arena.specs.declared.layout.Layout.{Layout}
 use Rattle.arena.specs.declared.step.Row.{Row}
@@ -36,8 +36,8 @@ pub record PutHand (allows : Layout → History → ℕ → Type 0) (lay : Layou
 abbrev pub put_step : PutRun → Step
 put_step m = record { kind = Fill; word = node m.scx.update.fresh.0 first_value; access = Store m.value }
 
--- the fresh node n is of the pass's share and taken, has its value, and but for that was blank
--- since the call's begin as long as no update of s had won
+-- the fresh node n is of the pass's share and taken, has its value, and except for that was blank
+-- since the call's start as long as no update of s had won
 pub record HasValue (c : Call) (h : History) (s n v : ℕ) : Type 0 where
   pub own : IsOwnNode c.layout c.pass n
   pub taken : IsTakenNode h n
@@ -50,13 +50,13 @@ PutWaitsAt allows c h m Start step = ⊥
 PutWaitsAt allows c h m AtFill step = PutHand allows c.layout c.pass h m.scx × IsUnderWay c h m.scx.scx.0 m.scx.update.snaps × (step ≡ put_step m) × WasBlank c.start h m.scx.scx.0 m.scx.update.fresh.0
 PutWaitsAt allows c h m Scx step = HasValue c h m.scx.scx.0 m.scx.update.fresh.0 m.value × ScxWaits allows m.scx c h step
 
--- what holds once the step of this place has told v
+-- what holds once the step of this place has found v
 abbrev pub PutIsToldAt : (Layout → History → ℕ → Type 0) → Call → History → PutRun → PutAt → ℕ → Type 0
 PutIsToldAt allows c h m Start v = ⊥
 PutIsToldAt allows c h m AtFill v = HasValue c h m.scx.scx.0 m.scx.update.fresh.0 m.value × (m.scx.at ≡ ScxStart) × InHand allows c.layout c.pass h (job_of m.scx) × IsUnderWay c h m.scx.scx.0 m.scx.update.snaps
 PutIsToldAt allows c h m Scx v = HasValue c h m.scx.scx.0 m.scx.update.fresh.0 m.value × ScxIsReady allows m.scx c h (Some v)
 
--- the run waits for this step where it stands
+-- the run waits for this step at its place
 abbrev pub PutWaits : (Layout → History → ℕ → Type 0) → PutRun → Call → History → Step → Type 0
 PutWaits allows m c h step = PutWaitsAt allows c h m m.at step
 
@@ -70,7 +70,7 @@ pub record IsFirstPut (allows : Layout → History → ℕ → Type 0) (m : PutR
   pub free : ¬ IsTakenScx h m.scx.scx.0
   pub blank : IsBlank h m.scx.scx.0 m.scx.update.fresh.0
 
--- the run may be called with this: with nothing at its start, then with what its step told
+-- the run may be called with this: with nothing at its start, then with what its step found
 abbrev pub PutIsReady : (Layout → History → ℕ → Type 0) → PutRun → Call → History → Option ℕ → Type 0
 PutIsReady allows m c h None = IsFirstPut allows m c h
 PutIsReady allows m c h (Some v) = PutIsToldAt allows c h m m.at v
@@ -87,6 +87,6 @@ abbrev pub PutEnds : PutRun → Call → History → Answer → Type 0
 PutEnds m c h Done = IsPut c h m
 PutEnds m c h (Lost node found) = IsLost c h m.scx node.0 found.0
 
--- what an answer says: the fresh node is taken and has its value, and the SCX has ended as told
+-- what an answer says: the fresh node is taken and has its value, and the SCX has ended so
 abbrev pub PutAnswers : PutRun → Call → History → Answer → Type 0
 PutAnswers m c h a = HasValue c h m.scx.scx.0 m.scx.update.fresh.0 m.value × PutEnds m c h a

@@ -110,6 +110,6 @@ made_at allows m c h AtFill s v run t w =
       way_more c h (row_of c (put_step m) h) m.scx.scx.0 m.scx.update.snaps (takes_by_node c.layout c.pass m.scx.scx.0 h (row_of c (put_step m) h) m.scx.update.fresh.0 first_value refl) w.1,
     )
 
--- once the step is made, the run may be called with what it told
+-- once the step is made, the run may be called with what it found
 pub put_made : (allows : Layout → History → ℕ → Type 0) (m : PutRun) (c : Call) (h : History) (s : Step) (v : ℕ) → IsRun allows c.layout (row_of c s h ⊳ h) → IsTold s.access (value h s.word) v → PutWaits allows m c h s → PutIsReady allows m c (row_of c s h ⊳ h) (Some v)
 put_made allows m c h s v run t w = made_at allows m c h m.at s v run t w

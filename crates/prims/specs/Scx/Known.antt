@@ -1,4 +1,4 @@
--- When a run of SCX may go on, what it waits for, and what its answer says.
+-- When a run of SCX may continue, what it waits for, and what its answer says.
 use Rattle.std.specs.Prelude.{◌≡◌, ◌≢◌, ◌⊎◌, ℕ, suc, ◌<◌, if◌then◌else◌, List, [], ◌∷◌, length, map, Option, Some, None}
 use Rattle.arena.specs.declared.layout.Layout.{Layout}
 use Rattle.arena.specs.declared.step.Row.{Row}
@@ -41,7 +41,7 @@ pub record Job : Type 0 where
   pub call : ℕ
   pub update : Update
 
--- what this run is to do, wherever it stands
+-- what this run is to do, whatever its place
 abbrev pub job_of : ScxRun → Job
 job_of m = record { scx = m.scx; call = m.call; update = m.update }
 
@@ -85,7 +85,7 @@ pub record InHand (allows : Layout → History → ℕ → Type 0) (lay : Layout
   pub in_no_other : (u : ℕ) → u ≢ m.scx.0 → ¬ HasHeld h (scx u New) m.update.fresh.0
   pub allowed : (d : Descriptor) → Says d m → IsAllowed allows lay c h m.scx.0 d
 
--- a call over snapshots on the SCX-record s, which was not taken as it began, has come so far
+-- a call over snapshots is on the SCX-record s, which was not taken as the call began
 pub record IsUnderWay (c : Call) (h : History) (s : ℕ) (snaps : List Snap) : Type 0 where
   pub begun : HasBegun c h s snaps
   pub free : ¬ IsTakenScx c.start s
@@ -176,17 +176,17 @@ ScxWaitsAt allows c h m Start step = ⊥
 ScxWaitsAt allows c h m (Help help) step = HelpWaits allows c.layout c.pass help h step × (help.scx ≡ m.scx) × HasFilled c h m.scx.0 m.call m.update
 ScxWaitsAt allows c h m at step = FillWaits allows c h m at step
 
--- what holds once the step of this place has told v
+-- what holds once the step of this place has found v
 abbrev pub ScxIsToldAt : (Layout → History → ℕ → Type 0) → Call → History → Job → ScxAt → ℕ → Type 0
 ScxIsToldAt allows c h m Start v = ⊥
 ScxIsToldAt allows c h m (Help help) v = HelpIsReady allows c.layout c.pass help h (Some v) × (help.scx ≡ m.scx) × HasFilled c h m.scx.0 m.call m.update
 ScxIsToldAt allows c h m at v = FillMade allows c h m at
 
--- the run of SCX waits for this step where it stands
+-- the run of SCX waits for this step at its place
 abbrev pub ScxWaits : (Layout → History → ℕ → Type 0) → ScxRun → Call → History → Step → Type 0
 ScxWaits allows m c h step = ScxWaitsAt allows c h (job_of m) m.at step
 
--- the run of SCX may be called with this: with nothing at its start, then with what its step told
+-- the run of SCX may be called with this: with nothing at its start, then with what its step found
 abbrev pub ScxIsReady : (Layout → History → ℕ → Type 0) → ScxRun → Call → History → Option ℕ → Type 0
 ScxIsReady allows m c h None = (m.at ≡ Start) × InHand allows c.layout c.pass h (job_of m) × IsUnderWay c h m.scx.0 m.update.snaps
 ScxIsReady allows m c h (Some v) = ScxIsToldAt allows c h (job_of m) m.at v
@@ -216,7 +216,7 @@ update_entry c m =
       new = m.update.fresh.0;
     }
 
--- this row, made since the call's begin, has put the update's entry into the log; just before it
+-- this row, made since the call's start, has put the update's entry into the log; just before it
 -- each node was as its snapshot found it
 pub record IsEntryAt (c : Call) (h : History) (m : ScxRun) (row : Row) (before : History) : Type 0 where
   pub within : Extends h (row ⊳ before)
@@ -238,7 +238,7 @@ pub record IsDone (c : Call) (h : History) (m : ScxRun) : Type 0 where
   pub entry : HasEntry c h m
 
 -- the SCX is lost: it is aborted, has no entry, and another
--- SCX-record has come to the node n since its snapshot
+-- SCX-record has reached the node n since its snapshot
 pub record IsLost (c : Call) (h : History) (m : ScxRun) (n v : ℕ) : Type 0 where
   pub aborted : value h (state m.scx.0) ≡ 2
   pub no_entry : ¬ IsEntered (log c.layout h) m.scx.0
@@ -258,14 +258,14 @@ pub record FillsAt (old now : ScxRun) (turn : Turn Scx) (at : ScxAt) : Type 0 wh
   pub stands : now ≡ record old { at = at }
   pub asked : turn ≡ Ask (fill_step (job_of old) (part_at at))
 
--- there is a node behind the j-th, and the run fills its word next
+-- there is a node after the j-th, and the run fills its word next
 pub record FillsNext (old now : ScxRun) (turn : Turn Scx) (j : MemberIndex) (place : MemberIndex → ScxAt) : Type 0 where
   pub next : MemberIndex
   pub is : member_index next ≡ suc (member_index j)
   pub within : member_index next < raw_count old.update.plan.0
   pub fills : FillsAt old now turn (place next)
 
--- the j-th node is the last, and the run fills the word behind those of the nodes
+-- the j-th node is the last, and the run fills the word after those of the nodes
 pub record FillsLast (old now : ScxRun) (turn : Turn Scx) (j : MemberIndex) (at : ScxAt) : Type 0 where
   pub none : (member_index j < 3) × (suc (member_index j) < raw_count old.update.plan.0) → ⊥
   pub fills : FillsAt old now turn at

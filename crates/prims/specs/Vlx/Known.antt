@@ -1,4 +1,4 @@
--- When a run of VLX may go on, what it waits for, and what its answer says.
+-- When a run of VLX may continue, what it waits for, and what its answer says.
 use Rattle.std.specs.Prelude.{◌≡◌, ◌≢◌, ℕ, suc, ◌<◌, ◌≤◌, List, length, Option, Some, None}
 use Rattle.arena.specs.declared.layout.Layout.{Layout}
 use Rattle.arena.specs.declared.step.Step.{Step}
@@ -28,7 +28,7 @@ pub record IsClear (lay : Layout) (c : ℕ) (h : History) (snaps : List Snap) : 
   pub over : AreFinished lay c 0 h
   pub found : (i : ℕ) → i < length snaps → (moment : History) × IsMoment lay h (snap_at snaps i) moment
 
--- a call over snapshots has come so far: since its begin its pass has taken no SCX-record but s
+-- a call over snapshots is under way: since its start its pass has taken no SCX-record but s
 pub record HasBegun (c : Call) (h : History) (s : ℕ) (snaps : List Snap) : Type 0 where
   pub since : Extends h c.start
   pub clear : IsClear c.layout c.pass c.start snaps
@@ -59,7 +59,7 @@ pub record VlxWaits (snaps : List Snap) (n : ℕ) (c : Call) (h : History) (step
   pub looks : LooksAtInfos c h snaps n index
   pub asked : step ≡ load LoadInfo (info (snap_at snaps index).node.0)
 
--- what holds once the last info that the run has asked for has told v
+-- what holds once the run's last load of an info has found v
 pub record VlxIsTold (snaps : List Snap) (n : ℕ) (c : Call) (h : History) (v : ℕ) : Type 0 where
   pub index : ℕ
   pub looks : LooksAtInfos c h snaps n index
@@ -74,7 +74,7 @@ pub record IsFirstLook (snaps : List Snap) (n : ℕ) (c : Call) (h : History) : 
   pub begins : h ≡ c.start
   pub clear : IsClear c.layout c.pass h snaps
 
--- a run of VLX may be called with this: with nothing at its start, then with what its step told
+-- a run of VLX may be called with this: with nothing at its start, then with what its step found
 abbrev pub VlxIsReady : List Snap → ℕ → Call → History → Option ℕ → Type 0
 VlxIsReady snaps n c h None = IsFirstLook snaps n c h
 VlxIsReady snaps n c h (Some v) = VlxIsTold snaps n c h v
@@ -89,7 +89,7 @@ pub record IsSame (c : Call) (h : History) (snaps : List Snap) : Type 0 where
   pub asked : HasFoundFirst c.pass h c.start snaps (length snaps)
 
 -- the call's answer `Changed` is right: another
--- SCX-record, v, has come to the node n since its snapshot
+-- SCX-record, v, has reached the node n since its snapshot
 pub record IsFirstChange (c : Call) (h : History) (snaps : List Snap) (n v : ℕ) : Type 0 where
   pub changed : HasChanged c.layout c.pass LoadInfo h c.start snaps n v
   -- the info of n names it, and the snapshot had not
@@ -101,7 +101,7 @@ pub record IsFirstChange (c : Call) (h : History) (snaps : List Snap) (n v : ℕ
   pub asked : HasFoundFirst c.pass h c.start snaps changed.index
 
 -- what an answer of VLX says: that all nodes were as
--- found, or which one another SCX-record has come to
+-- found, or which one another SCX-record has reached
 abbrev pub VlxAnswers : List Snap → Call → History → Vlx → Type 0
 VlxAnswers snaps c h Same = IsSame c h snaps
 VlxAnswers snaps c h (Changed node s) = IsFirstChange c h snaps node.0 s.0

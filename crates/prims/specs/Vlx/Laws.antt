@@ -41,7 +41,7 @@ vlx_keeps allows snaps asked c h s r run other w = record { index = w.index; loo
 pub vlx_lawful : (allows : Layout → History → ℕ → Type 0) (snaps : List Snap) (asked : ℕ) (c : Call) (h : History) (s : Step) → IsRun allows c.layout h → VlxWaits snaps asked c h s → IsRun allows c.layout (row_of c s h ⊳ h)
 vlx_lawful allows snaps asked c h s run w = load_lawful allows c h LoadInfo (info (snap_at snaps w.index).node.0) s run w.asked record { word = tt; same = refl } (λ e. cc) (w.looks.looked.linked w.index w.looks.within).inside
 
--- once the step is made, the run of VLX may be called with what it told
+-- once the step is made, the run of VLX may be called with what it found
 pub vlx_made : (allows : Layout → History → ℕ → Type 0) (snaps : List Snap) (asked : ℕ) (c : Call) (h : History) (s : Step) (v : ℕ) → IsRun allows c.layout (row_of c s h ⊳ h) → IsTold s.access (value h s.word) v → VlxWaits snaps asked c h s → VlxIsReady snaps asked c (row_of c s h ⊳ h) (Some v)
 vlx_made allows snaps asked c h s v run t w = record { index = w.index; looks = looks_more c h (row_of c s h) snaps asked w.index (takes_by_step c.layout c.pass 0 h (row_of c s h) (λ f. let e : s.kind ≡ LoadInfo = ap (λ (t : Step). t.kind) w.asked in let z : LoadInfo ≡ Fill = sym e ∙ f in cc)) w.looks; told = load_told c h LoadInfo (info (snap_at snaps w.index).node.0) s v w.asked t; found = load_found c h (snap_at snaps w.index).node.0 s v w.looks.looked.begun.since w.asked t }
 
@@ -117,18 +117,18 @@ changed c h snaps asked v l x d = record {
     before : (i : ℕ) → i < x.index → IsAsFound c.layout h c.start (snap_at snaps i)
     before i p = let y = x.looks.looked in found_at c h (snap_at snaps i) l y.begun.since (y.linked i (let w = x.looks.within in omega arith)) (y.same i p)
 
--- where the info is not what the snapshot found, another SCX-record has come to the node
+-- if the info is not what the snapshot found, another SCX-record has reached the node
 pub turn_changed : (c : Call) (h : History) (snaps : List Snap) (asked : ℕ) (k v : ℕ) (snap : Snap) → Lawful c.layout h → VlxIsTold snaps asked c h v → suc k ≡ asked → snap ≡ snap_at snaps k → snap.scx.0 ≢ v → IsFirstChange c h snaps snap.node.0 v
 turn_changed c h snaps asked k v snap l x e q d =
     let i : k ≡ x.index = let y = x.looks.is in omega arith in
     let a : snap ≡ snap_at snaps x.index = q ∙ ap (snap_at snaps) i in
     rw a (changed c h snaps asked v l x (rw a at d))
 
--- what is known where the run was told something
+-- what is known if the run has got something
 pub told_some : (c : Call) (h : History) (snaps : List Snap) (asked : ℕ) (got : Option ℕ) (v : ℕ) → got ≡ Some v → VlxIsReady snaps asked c h got → VlxIsTold snaps asked c h v
 told_some c h snaps asked got v e r = rw e at r
 
--- what is known where it was told nothing
+-- what is known if it has got nothing
 pub told_none : (c : Call) (h : History) (snaps : List Snap) (asked : ℕ) (got : Option ℕ) → got ≡ None → VlxIsReady snaps asked c h got → VlxIsReady snaps asked c h None
 told_none c h snaps asked got e r = rw e at r
 

@@ -16,16 +16,16 @@ use Rattle.record.specs.Replied.{HasReplied}
 use Rattle.record.specs.Rules.{MapRules}
 use Rattle.record.specs.Shares.{HasTooFewToTry}
 
--- after some row behind the call's begin there was something for it to change, for which it needs so
--- many nodes
+-- after some row since the call's start there was something for it to change, for which it needs
+-- this many nodes
 pub record HadToChange (lay : Layout) (now start : History) (call : MapCall) (nodes : ℕ) : Type 0 where
   pub told : MapReply
   pub replied : HasReplied lay now start call told
   pub needs : need call replied.map ≡ nodes
   pub some : 0 < nodes
 
--- What one says that tells this: where it has changed the map, its entry and where it took place say
--- all; else the map replied this after some row behind the call's begin.
+-- What one says that answers this: if it has changed the map, its entry and where it took place say
+-- all; else the map replied this after some row since the call's start.
 abbrev pub HasChangedOrReplied : Bool → Layout → History → History → MapCall → MapReply → Type 0
 HasChangedOrReplied true lay now start call told = Unit {0}
 HasChangedOrReplied false lay now start call told = HasReplied lay now start call told

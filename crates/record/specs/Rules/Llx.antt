@@ -11,7 +11,7 @@ use Rattle.record.specs.Answers.{IsSnapshotAt, IsPlacedCell}
 use Rattle.record.specs.Rules.{Rules}
 use Rattle.record.specs.Snapshots.{snapshot_of}
 
--- the answers of an LLX that has run: it tells something, or fails
+-- the answers of an LLX that has run: it says something, or fails
 abbrev pub LlxAfterStep : Answer → Type 0
 LlxAfterStep (Snapshot left right) = Unit {0}
 LlxAfterStep Finalized = Unit {0}

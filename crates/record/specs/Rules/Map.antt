@@ -33,7 +33,7 @@ own_rules (Neighbour side key) = neighbour_rules
 own_rules (Range low high most) = range_rules low high most
 
 -- What it may do and take are the call's own rules. It leaves snapshots alone, and took place where
--- what it told of the map says.
+-- what it answered of the map says.
 abbrev pub map_rules : MapCall → Rules
 map_rules call = record {
   most_steps = most_steps call;

@@ -15,7 +15,7 @@ NeighbourAtOnce _ = ⊥
 
 -- what its answers say
 abbrev pub NeighbourIsRight : Layout → ℕ → ℕ → History → History → (ℕ → Option History) → Answer → Type 0
--- of one that tells a pair, or none, where it took place says all
+-- of one that answers a pair, or none, where it took place says all
 NeighbourIsRight lay tries c now start linked (Map (Pair found)) = Unit {0}
 NeighbourIsRight lay tries c now start linked (Map (Contended node scx)) = HasLostAllTries lay tries c now start node.0 scx.0
 NeighbourIsRight lay tries c now start linked (Map NoMemory) = Unit {0}

@@ -17,7 +17,7 @@ RangeAtOnce low high most _ = ⊥
 
 -- what its answers say
 abbrev pub RangeIsRight : Layout → ℕ → ℕ → History → History → (ℕ → Option History) → Answer → Type 0
--- of one that tells pairs, where it took place says all
+-- of one that answers pairs, where it took place says all
 RangeIsRight lay tries c now start linked (Map (Pairs found)) = Unit {0}
 RangeIsRight lay tries c now start linked (Map (Contended node scx)) = HasLostAllTries lay tries c now start node.0 scx.0
 RangeIsRight lay tries c now start linked (Map NoMemory) = Unit {0}

@@ -40,11 +40,11 @@ scx_linked update answer now n old =
 
 -- what its answers say; of one that is done, its entry says all the rest
 abbrev pub ScxIsRight : CellUpdate → Layout → ℕ → History → History → (ℕ → Option History) → Answer → Type 0
--- the first of its cells of which the client keeps no snapshot
+-- the first of its cells without a kept snapshot
 ScxIsRight update lay c now start linked (Unlinked node) = IsFirstUnlinked linked (update_cells update) node.0
 -- all snapshots are there, and the share has none left of this
 ScxIsRight update lay c now start linked (Full what left) = AreLinked linked (update_cells update) × HasTooFew lay c now 1 what left
--- another client's SCX-record has come to this cell since its snapshot
+-- another client's SCX-record has reached this cell since its snapshot
 ScxIsRight update lay c now start linked (Lost node scx) = AreLinked linked (update_cells update) × HasRoom lay c start × IsInTheWay lay c now start Freeze (update_cells update) node.0 scx.0 (λ moment. linked node.0 ≡ Some moment)
 ScxIsRight update lay c now start linked Done = HasRoom lay c start
 ScxIsRight update lay c now start linked _ = ⊥

@@ -36,7 +36,7 @@ SetIsRight field value lay c now start linked Finalized = is_final (log lay now)
 SetIsRight field value lay c now start linked (Fail node scx) = (node.0 ≡ field.0) × HasFailed lay c now start field.0 scx.0
 -- the share has none left of this; the call's LLX has just looked at the cell, which is not final
 SetIsRight field value lay c now start linked (Full what left) = HasTooFew lay c now 1 what left × (is_final (log lay now) field.0 ≡ false) × IsLastLook c now start now field.0
--- another client's SCX-record has come to the cell since the snapshot of its own LLX
+-- another client's SCX-record has reached the cell since the snapshot of its own LLX
 SetIsRight field value lay c now start linked (Lost node scx) = HasRoom lay c start × IsInTheWay lay c now start Freeze (field.0 ∷ []) node.0 scx.0 (λ moment. IsLastLook c now start moment field.0 × (is_final (log lay moment) field.0 ≡ false))
 SetIsRight field value lay c now start linked Done = HasRoom lay c start
 SetIsRight field value lay c now start linked _ = ⊥

@@ -16,7 +16,7 @@ abbrev pub VlxAtOnce : Answer → Type 0
 VlxAtOnce (Unlinked node) = Unit {0}
 VlxAtOnce _ = ⊥
 
--- a VLX that has run tells whether its cells still are as found
+-- a VLX that has run says whether its cells still are as found
 abbrev pub VlxAfterStep : Answer → Type 0
 VlxAfterStep Same = Unit {0}
 VlxAfterStep (Changed node scx) = Unit {0}
@@ -28,11 +28,11 @@ vlx_linked answer now n old = old
 
 -- what its answers say
 abbrev pub VlxIsRight : CellList → Layout → ℕ → History → History → (ℕ → Option History) → Answer → Type 0
--- the first of its cells of which the client keeps no snapshot
+-- the first of its cells without a kept snapshot
 VlxIsRight cells lay c now start linked (Unlinked node) = IsFirstUnlinked linked (cells_of cells) node.0
 -- as the call began, each cell was as the client's snapshot found it
 VlxIsRight cells lay c now start linked Same = AreUnchanged lay start linked (cells_of cells)
--- another client's SCX-record has come to this cell since its snapshot, which may have aborted; as
+-- another client's SCX-record has reached this cell since its snapshot, which may have aborted; as
 -- the call began, the cells before it were as their snapshots found them
 VlxIsRight cells lay c now start linked (Changed node scx) = AreLinked linked (cells_of cells) × IsInTheWay lay c now start LoadInfo (cells_of cells) node.0 scx.0 (λ moment. linked node.0 ≡ Some moment) × IsBehindAll (IsAsSnapped lay start linked) (cells_of cells) node.0
 VlxIsRight cells lay c now start linked _ = ⊥

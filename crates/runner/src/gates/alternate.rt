@@ -28,7 +28,7 @@ impl Alternate {
         Alternate::with_looks(script, MOST_LOOKS)
     }
 
-    /// The gate of a script, at which a call has waited in vain after so many looks.
+    /// The gate of a script, at which a call has waited too long after this many looks.
     pub fn with_looks(script: &Script, most_looks: u64) -> Alternate
         ensures clients { result.clients ≡ script.now.layout.passes }
         ensures counts { (c : ℕ) → c < CLIENTS → slice_index result.counts c ≡ call_count script.now.calls.items c }

@@ -8,8 +8,8 @@ use crate::gate::Gate;
 use arena::{Kind, PassNo};
 use script::Script;
 
-/// Client 0's first call waits, behind its first step of kind `freeze`, until client 1's first call
-/// is answered; if that client has no call, it doesn't wait. Behind later steps of that kind it has
+/// Client 0's first call waits, after its first step of kind `freeze`, until client 1's first call
+/// is answered; if that client has no call, it doesn't wait. After later steps of that kind it has
 /// nothing to wait for any more.
 #[derive(Drop)]
 pub struct Freeze {
@@ -26,7 +26,7 @@ impl Freeze {
         Freeze::with_looks(script, MOST_LOOKS)
     }
 
-    /// The gate of a script, at which a call has waited in vain after so many looks.
+    /// The gate of a script, at which a call has waited too long after this many looks.
     pub fn with_looks(script: &Script, most_looks: u64) -> Freeze
         ensures holds { result.holds ≡ nat_lt 0 (call_count script.now.calls.items 1) }
         ensures looks { result.answers.most_looks ≡ most_looks }
@@ -38,7 +38,7 @@ impl Freeze {
         }
     }
 
-    /// The call for which this one waits behind a step of this kind.
+    /// The call for which this one waits after a step of this kind.
     fn awaited(&self, client: PassNo, call: u64, kind: Kind) -> Option<(PassNo, u64)>
         ensures { result ≡ held_frozen self.now.holds client.0 call kind }
     {

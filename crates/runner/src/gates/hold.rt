@@ -25,7 +25,7 @@ impl Hold {
         Hold::with_looks(script, MOST_LOOKS)
     }
 
-    /// The gate of a script, at which a call has waited in vain after so many looks.
+    /// The gate of a script, at which a call has waited too long after this many looks.
     pub fn with_looks(script: &Script, most_looks: u64) -> Hold
         ensures holds { result.holds ≡ nat_lt 0 (call_count script.now.calls.items 1) }
         ensures looks { result.answers.most_looks ≡ most_looks }

@@ -28,7 +28,7 @@ due_exact j k x y e =
     let job : j.job ≡ k.job = omega (arith, low, other, e) in
     λ i. record { at = at i; job = job i }
 
--- how two words stand, by how their halves do
+-- how two words compare, by how their halves do
 word_ranks : (a b c d : ℕ) → b < 2 ^ 32 → d < 2 ^ 32 → (o p : Ordering) → MatchOrdering o (a < c) (a ≡ c) (c < a) → MatchOrdering p (b < d) (b ≡ d) (d < b)
     → MatchOrdering (ordering_then o p) (a * 2 ^ 32 + b < c * 2 ^ 32 + d) (a * 2 ^ 32 + b ≡ c * 2 ^ 32 + d) (c * 2 ^ 32 + d < a * 2 ^ 32 + b)
 word_ranks a b c d x y Less p h g = omega arith

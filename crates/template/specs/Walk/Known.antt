@@ -1,4 +1,4 @@
--- When a walk may go on, what it waits for, and what its answer says.
+-- When a walk may continue, what it waits for, and what its answer says.
 use Rattle.std.specs.Prelude.{◌≡◌, ℕ, ◌^◌, ◌<◌, Bool, true, false, ◌==◌, Option, Some, None}
 use Rattle.arena.specs.declared.head.Head.{Head as HeadParts}
 use Rattle.arena.specs.declared.machine.Turn.{Turn}
@@ -34,7 +34,7 @@ use Rattle.template.specs.declared.walk.WalkRun.{WalkRun}
 use Rattle.template.specs.declared.walk.WalkAt.{WalkAt}
 use Rattle.template.specs.declared.walk.WalkAt.TheVariants.{Start, Root, Head, Key, Child, More, Pair, Value, High}
 
--- what a word of the node that the walk has come to holds
+-- what a word of the node that the walk has reached holds
 abbrev pub here : History → WalkRun → NodeWord → ℕ
 here h m part = value h (node m.trail.node.0 part)
 
@@ -43,24 +43,24 @@ abbrev pub asks_key : Goal → HeadParts → Bool
 asks_key (ToKey k) head = head.class == 0
 asks_key (End side) head = false
 
--- where a walk goes at a fork with this head of which it loads no key
+-- where a walk goes at a fork with this head whose key it does not load
 abbrev pub open_side : Goal → HeadParts → Side
 open_side (ToKey k) head = Left
 open_side (End side) head = end_turn side head.class
 
--- the slot in which it begins at a leaf that has so many pairs behind its first
+-- the slot in which it begins at a leaf with this number of pairs after its first
 abbrev pub goal_slot : Goal → ℕ → Slot
 goal_slot (ToKey k) more = First
 goal_slot (End side) more = end_slot side more
 
--- a walk to this goal that has come by this trail stands at a leaf of class 0 that has this head
+-- a walk to this goal by this trail is at a leaf of class 0 that has this head
 pub record WalkStandsAtLeaf (c : Call) (h : History) (goal : Goal) (t : Trail) (parts : HeadParts) : Type 0 where
   pub trail : OnTrail c h (path_key goal) t
   pub head : head_of (value h (node t.node.0 (Settled HeadWord))) ≡ parts
   pub low : parts.class ≡ 0
   pub leaf : parts.leaf ≡ true
 
--- what a walk to this goal looks for in the leaf n stands in this slot, or behind it, if the leaf has
+-- what a walk to this goal looks for in the leaf n is in this slot, or after it, if the leaf has
 -- it: it looks for its key, or for the pair at an end
 abbrev pub IsSlotFor : Goal → (Word → ℕ) → ℕ → Slot → Type 0
 IsSlotFor (ToKey k) f n slot = get k (held_pairs f n) ≡ get k (held_from f n slot)
@@ -109,7 +109,7 @@ pub record WalkWaits (m : WalkRun) (c : Call) (h : History) (step : Step) : Type
   pub known : WalkKnows c h m m.at
   pub asked : step ≡ walk_step m m.at
 
--- an own row has told v, which is what the word of its place holds
+-- an own row has found v, which is what the word of its place holds
 pub record WalkIsTold (m : WalkRun) (c : Call) (h : History) (v : ℕ) : Type 0 where
   pub run : IsTreeRun c.layout h
   pub small : path_key m.goal < 2 ^ 64
@@ -140,7 +140,7 @@ WalkTurn c h m turn = MatchTurn turn (WalkWaits m c h) (WalkAnswers m c h)
 
 -- What its turns leave
 
--- it asks for a step, and stands at this place
+-- it asks for a step, and is at this place
 pub record WalkAsks (old now : WalkRun) (turn : Turn Found) (at : WalkAt) (step : Step) : Type 0 where
   pub stands : now ≡ record old { at = at }
   pub asked : turn ≡ Ask step
@@ -150,7 +150,7 @@ pub record WalkEnds (old now : WalkRun) (turn : Turn Found) (head : HeadParts) (
   pub stands : now ≡ old
   pub done : turn ≡ Done record { trail = old.trail; head = head; more = more; key = key; value = found }
 
--- what a walk knows as it is told something, but for what it is told: it stands at a node that was
+-- what a walk knows when it gets something, apart from that: it is at a node that was
 -- on its path
 pub record WalkStands (m : WalkRun) (c : Call) (h : History) : Type 0 where
   pub run : IsTreeRun c.layout h

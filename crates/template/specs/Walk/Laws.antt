@@ -1,5 +1,5 @@
--- The laws of walks: rows of others leave them waiting, their steps are lawful, and what they are
--- told is so, and leads them no deeper than the taken nodes allow.
+-- The laws of walks: rows of others leave them waiting, their steps are lawful, and what they
+-- get is so, and leads them no deeper than the taken nodes allow.
 use Rattle.std.proofs.Common.{◌≡◌, ◌≢◌, ℕ, ◌+◌, ◌<◌, ◌≤◌, length, Option, Some, None, inr, refl, sym, ◌∙◌, ap, arith, subst}
 use Rattle.arena.specs.declared.layout.Layout.{Layout}
 use Rattle.arena.specs.declared.limits.Mode.TheVariants.{Tree as TreeMode}
@@ -150,7 +150,7 @@ lawful_at m c h (High head more slot key low) s run e i = settled_lawful m c h (
 pub walk_lawful : (m : WalkRun) (c : Call) (h : History) (s : Step) → IsRun TreeAllows c.layout h → WalkWaits m c h s → IsRun TreeAllows c.layout (row_of c s h ⊳ h)
 walk_lawful m c h s run w = lawful_at m c h m.at s run w.asked (inside c h m m.at w.run w.known)
 
--- once the step is made, the walk may be called with what it told
+-- once the step is made, the walk may be called with what it found
 pub walk_made : (m : WalkRun) (c : Call) (h : History) (s : Step) (v : ℕ) → IsRun TreeAllows c.layout (row_of c s h ⊳ h) → IsTold s.access (value h s.word) v → WalkWaits m c h s → WalkIsReady m c (row_of c s h ⊳ h) (Some v)
 walk_made m c h s v run t w = record {
   run = run_more c h (row_of c s h) w.run run;
@@ -160,7 +160,7 @@ walk_made m c h s v run t w = record {
   told = load_told c h (walk_kind m.at) (node m.trail.node.0 (walk_part m.at)) s v w.asked t;
 }
 
--- What it is told
+-- What it gets
 
 -- no node that was passed is deeper than the taken nodes allow
 depth : (lay : Layout) (h start : History) (k n l nodes : ℕ) → IsTreeRun lay h → Passed h start k n → length (taken_nodes h) ≤ nodes → level (value h) n ≡ l → l < 2 + nodes
@@ -190,7 +190,7 @@ fits_at m c h v nodes (Pair head more slot) g k t few = leaf_depth m c h head no
 fits_at m c h v nodes (Value head more slot key) g k t few = leaf_depth m c h head nodes g k.0 few
 fits_at m c h v nodes (High head more slot key low) g k t few = tt
 
--- what a walk may be told fits the nodes that are taken by then
+-- what a walk may get fits the nodes that are taken by then
 pub walk_told : (m : WalkRun) (c : Call) (h : History) (got : Option ℕ) (nodes : ℕ) → IsRun TreeAllows c.layout h → WalkIsReady m c h got → length (taken_nodes h) ≤ nodes → WalkFits m got nodes
 walk_told m c h None nodes run r few = subst (λ (at : WalkAt). WalkFitsAt at 0 nodes) (sym r.at) tt
 walk_told m c h (Some v) nodes run r few = fits_at m c h v nodes m.at r.run r.known r.told few

@@ -1,4 +1,4 @@
--- A walk to a goal, by the place where it stands.
+-- A walk to a goal, by its place.
 use Rattle.std.specs.Prelude.{ℕ}
 use Rattle.arena.specs.declared.word.Side.{Side}
 use Rattle.arena.specs.declared.word.Side.TheVariants.{Left}
@@ -8,11 +8,11 @@ use Rattle.template.specs.declared.walk.WalkAt.{WalkAt}
 use Rattle.template.specs.declared.walk.WalkAt.TheVariants.{Start, Root, Head}
 use Rattle.template.specs.declared.walk.WalkRun.{WalkRun}
 
--- the walk to this goal that stands at this place of this trail
+-- the walk to this goal at this place of this trail
 abbrev pub walk_at : Goal → Trail → WalkAt → WalkRun
 walk_at goal trail at = record { goal = goal; trail = trail; at = at }
 
--- the trail of a walk that stands at the root
+-- the trail of a walk that is at the root
 abbrev pub root_trail : Trail
 root_trail = record { grand = record { 0 = 0 }; grand_side = Left; parent = record { 0 = 0 }; side = Left; node = record { 0 = 0 } }
 
@@ -30,7 +30,7 @@ LoadsHead Root = Unit {0}
 LoadsHead (Head above) = Unit {0}
 LoadsHead _ = ⊥
 
--- the place is one behind the load of the root's head
+-- the place is one after the load of the root's head
 abbrev pub IsPastRoot : WalkAt → Type 0
 IsPastRoot Start = ⊥
 IsPastRoot Root = ⊥

@@ -20,7 +20,7 @@ walk_left (Pair head more slot) nodes = 3 * (2 + nodes - head.level) + 2 - slot_
 walk_left (Value head more slot key) nodes = 3 * (2 + nodes - head.level) - 2
 walk_left (High head more slot key low) nodes = 3 * (2 + nodes - head.level) - 3
 
--- what a walk is told at this place does not lead it deeper than so many taken nodes allow
+-- what a walk gets at this place does not lead it deeper than this number of taken nodes allows
 abbrev pub WalkFitsAt : WalkAt → ℕ → ℕ → Type 0
 WalkFitsAt Root v nodes = (head_of v).level < 2 + nodes
 WalkFitsAt (Head above) v nodes = (above < (head_of v).level) × ((head_of v).level < 2 + nodes)
@@ -30,6 +30,6 @@ WalkFitsAt (Pair head more slot) v nodes = head.level < 2 + nodes
 WalkFitsAt (Value head more slot key) v nodes = head.level < 2 + nodes
 WalkFitsAt _ v nodes = Unit {0}
 
--- what a walk is told fits so many taken nodes
+-- what a walk gets fits this number of taken nodes
 abbrev pub WalkFits : WalkRun → Option ℕ → ℕ → Type 0
 WalkFits m got nodes = WalkFitsAt m.at (unwrap_or got 0) nodes

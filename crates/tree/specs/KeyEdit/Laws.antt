@@ -1,5 +1,5 @@
--- The bounds of an edit: those of what it does at a key, and one node, or three where its rule puts in
--- what was absent.
+-- The bounds of an edit: those of what it does at a key, and one node, or three where its rule puts
+-- in what was absent.
 use Rattle.std.proofs.Common.{◌≡◌, ℕ, ◌<◌, ◌≤◌, Bool, true, false, cond, Option, Some, None, refl, sym, subst, arith}
 use Rattle.ordered_map.specs.CallRules.{nodes_in_try}
 use Rattle.ordered_map.specs.OrderedMap.{applies, leaves}

@@ -1,5 +1,5 @@
--- What an edit needs, looks at, reads and fills: at the leaf that was found it does what puts a value
--- at a key, or what takes a key out, by what its rule leaves.
+-- What an edit needs, looks at, reads and fills: at the leaf that was found it does what puts a
+-- value at a key, or what takes a key out, by what its rule leaves.
 use Rattle.std.specs.Prelude.{ℕ, Bool, false, if◌then◌else◌, Option, Some, None}
 use Rattle.ordered_map.specs.CallRules.{nodes_in_try}
 use Rattle.ordered_map.specs.OrderedMap.{applies, edit_to, leaves}
@@ -48,7 +48,7 @@ leaving left = record {
 
 -- At a goal
 
--- whether a rule at a goal changes anything where the leaf tells this value: at an end there has
+-- whether a rule at a goal changes anything if the leaf has this value: at an end there has
 -- to be a pair
 abbrev pub wants : Goal → Rule → Option ℕ → Bool
 wants (Key k) rule found = applies rule found

@@ -21,9 +21,9 @@ scx_of _ = record { 0 = 0 }
 pub same_node : (a b : NodeNo) → At a ≡ At b → a ≡ b
 same_node a b e = ap looked_node e
 
--- A look that goes on to the next node, if the snapshot shows what it is to show
+-- A look that continues with the next node, if the snapshot shows what it is to show
 
--- goes on only if it does
+-- continues only if it does
 pub goes_on : (b : Bool) (next : NodeNo) (p : Snap) (n : NodeNo) → (if b then At next else Differs p.node p.scx) ≡ At n → (b ≡ true) × (next ≡ n)
 goes_on true next p n e = (refl, same_node next n e)
 goes_on false next p n e = absurd (let d : Differs p.node p.scx ≡ At n = e in cc)

@@ -1,4 +1,4 @@
--- How long lists of pairs are behind an edit, and in which order their parts stand.
+-- How long lists of pairs are after an edit, and in which order their parts are.
 use Rattle.std.proofs.Common.{◌≡◌, ◌≢◌, ℕ, suc, ◌+◌, ◌<◌, ◌≤◌, Bool, true, false, ◌==◌, if◌then◌else◌, List, [], ◌∷◌, ◌++◌, length, take, drop, Some, None, refl, sym, ◌∙◌, ap, arith, eq-eqb, ne_eqb, le-ltb}
 use Rattle.std.specs.Prelude.{nat_lt}
 use Rattle.std.proofs.Math.Decide.{dec_lt}
@@ -101,7 +101,7 @@ all_from : (k : ℕ) (ps : List Pair) → AllAbove k ps → AllFrom k ps
 all_from k [] a = tt
 all_from k (p ∷ ps) a = (let b = a.0 in omega (arith, b), all_from k ps a.1)
 
--- where keys rise, the third stands between the parts
+-- where keys rise, the third is between the parts
 pub parts_apart : (ps : List Pair) → 3 ≤ length ps → IsRising ps → AllBelow (pair_at (drop 2 ps) 0).key (take 2 ps) × AllFrom (pair_at (drop 2 ps) 0).key (drop 2 ps)
 parts_apart [] l r = absurd (omega (arith, l))
 parts_apart (a ∷ []) l r = absurd (omega (arith, l))

@@ -33,7 +33,7 @@ few_reads f x e = go (f.head.class == 0) e
     go true d = subst (λ (y : NodeNo × Reading). reads_left y.1 ≤ 12) (the_same (leaf_reads f) x d) (begun_left f.head f.more)
     go false d = absurd (let z : None ≡ Some x = d in cc)
 
--- a leaf of so many pairs
+-- a leaf of this many pairs
 leaf_fills : (level class : ℕ) (ps : List Pair) (n : ℕ) → length ps ≤ n → n ≤ 4 → many_fills (Leaf level class ps) ≤ 2 + 3 * n
 leaf_fills level class ps n few four = omega (arith, few, four)
 

@@ -23,7 +23,7 @@ use Rattle.edits.specs.Edits.{EditMeaning}
 use Rattle.edits.specs.Pieces.{no_work}
 use Rattle.edits.specs.Readings.{nothing_read}
 
--- it goes on to the next node, where the snapshot still shows the child that was found
+-- it continues with the next node, if the snapshot still shows the child that was found
 abbrev pub past : Snap → Side → NodeNo → NodeNo → Look
 past s side n next = if (child_of s side).0 == n.0 then At next else Differs s.node s.scx
 

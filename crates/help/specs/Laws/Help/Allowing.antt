@@ -17,12 +17,12 @@ use Rattle.help.specs.Allowed.{IsQuiet, MayComeBetween, IsLater, IsAllowed, IsPr
 
 -- Later histories
 
--- a history goes on from itself, with no row between
+-- a history extends itself, with no row between
 pub later_self : (c s : ℕ) (h : History) → IsLater c s h h
 later_self c s (Start mode) = refl
 later_self c s (r ⊳ h) = inl refl
 
--- what goes on from what goes on from h goes on from h
+-- what extends an extension of h extends h
 pub later_trans : (c s : ℕ) (h m k : History) → IsLater c s m k → IsLater c s h m → IsLater c s h k
 later_trans c s h m (Start mode) e p = rw e at p
 later_trans c s h m (r ⊳ k) (inl e) p = rw e at p

@@ -33,7 +33,7 @@ module _ (h k : History) (m : Reading) (e : descriptor k m.scx ≡ descriptor h 
   pub read_more : (n : ℕ) → HasReadMembers m h n → HasReadMembers m k n
   read_more n x i p = x i p ∙ sym (same_member h k m.scx e i)
 
-  -- what kept the run from freezing a node stands as it did, if the pass has made no freeze since
+  -- what kept the run from freezing a node is as it was, if the pass has made no freeze since
   pub blocked_same : (c n v : ℕ) → ((row : Row) (before : History) → IsLastStep c h Freeze n row before → IsLastStep c k Freeze n row before) → IsBlocked c h m.scx n v → IsBlocked c k m.scx n v
   blocked_same c n v p x = record {
     index = x.index;

@@ -1,4 +1,4 @@
--- Once the step is made, a run of HELP may go on with what that told.
+-- Once the step is made, a run of HELP may continue with what that found.
 use Rattle.std.proofs.Common.{◌≡◌, ◌≢◌, ℕ, suc, ◌<◌, ◌⊎◌, inl, inr, refl, sym, ◌∙◌, ap, arith, Some}
 use native.Mathlib.Decide.{ℕ_discrete}
 use Rattle.arena.specs.declared.layout.Layout.{Layout}
@@ -125,7 +125,7 @@ module _ (allows : Layout → History → ℕ → Type 0) (c : Call) (h : Histor
     quiet_known : IsQuiet (row_of c (help_step h m.scx at) h) → (help_step h m.scx at).kind ≢ Freeze → HelpKnows allows c.layout c.pass (row_of c (help_step h m.scx at) h ⊳ h) m at
     quiet_known q d = known_more allows c.layout c.pass h (row_of c (help_step h m.scx at) h) c.is_pass l (inr q) m at (λ e. d) k
 
-    -- and the word holds what the load told
+    -- and the word holds what the load found
     quiet_value : (v : ℕ) → v ≡ value h (help_step h m.scx at).word → (row_of c (help_step h m.scx at) h).after ≡ value h (help_step h m.scx at).word → value (row_of c (help_step h m.scx at) h ⊳ h) (help_step h m.scx at).word ≡ v
     quiet_value v e q = value_at (row_of c (help_step h m.scx at) h) h (help_step h m.scx at).word refl ∙ q ∙ sym e
 
@@ -178,7 +178,7 @@ module _ (allows : Layout → History → ℕ → Type 0) (c : Call) (h : Histor
   made_at AtUpdate v l t k = (started_more (row_of c (help_step h m.scx AtUpdate) h) h m.scx k.started, won_after c.layout h (row_of c (help_step h m.scx AtUpdate) h) m.scx l refl (update_at allows c h m (lawful_tail c.layout h _ l) k))
   made_at AtCommit v l t k = value_at (row_of c (help_step h m.scx AtCommit) h) h (state m.scx) refl
 
--- once the step is made, the run of HELP may be called with what it told
+-- once the step is made, the run of HELP may be called with what it found
 pub help_made : (allows : Layout → History → ℕ → Type 0) (m : HelpRun) (c : Call) (h : History) (s : Step) (v : ℕ) → IsRun allows c.layout (row_of c s h ⊳ h) → IsTold s.access (value h s.word) v → HelpWaits allows c.layout c.pass m h s → HelpIsReady allows c.layout c.pass m (row_of c s h ⊳ h) (Some v)
 help_made allows m c h s v run t w =
     let l : Lawful c.layout (row_of c (help_step h m.scx.0 m.at) h ⊳ h) = rw w.asked at run.lawful in

@@ -1,4 +1,4 @@
--- Once the step is made, a run of SCX may go on with what that told.
+-- Once the step is made, a run of SCX may continue with what that found.
 use Rattle.std.proofs.Common.{◌≡◌, ◌≢◌, ℕ, Bool, true, false, Some, ◌⊎◌, inl, inr, refl, sym, ◌∙◌, ap, length}
 use Rattle.arena.specs.declared.layout.Layout.{Layout}
 use Rattle.arena.specs.declared.step.Row.{Row}
@@ -97,7 +97,7 @@ made_at allows m c h (AtMember j) s v run t w = made_by allows m c h (AtMember j
 made_at allows m c h (AtSeen j) s v run t w = made_by allows m c h (AtSeen j) s run w
 made_at allows m c h AtCall s v run t w = made_by allows m c h AtCall s run w
 
--- once the step is made, the run of SCX may be called with what it told
+-- once the step is made, the run of SCX may be called with what it found
 pub scx_made : (allows : Layout → History → ℕ → Type 0) (m : ScxRun) (c : Call) (h : History) (s : Step) (v : ℕ) → IsRun allows c.layout (row_of c s h ⊳ h) → IsTold s.access (value h s.word) v → ScxWaits allows m c h s → ScxIsReady allows m c (row_of c s h ⊳ h) (Some v)
 scx_made allows m c h s v run t w = made_at allows (job_of m) c h m.at s v run t w
 

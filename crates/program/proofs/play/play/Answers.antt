@@ -10,7 +10,7 @@ use Rattle.program.proofs.Deserved.{schedule_deserves, stream_failed, told}
 use Rattle.program.proofs.Beginnings.{all_followed, none_followed, report_begins, stopped_begins}
 use Rattle.program.proofs.play.play.Goals as goal
 
--- a script of which no turn is made
+-- a script with no turn made
 abbrev at_first : Script → PlayerView
 at_first script = record { script = script_view script; lines = [] }
 

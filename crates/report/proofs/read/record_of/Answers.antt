@@ -27,7 +27,7 @@ unfolding returns-clause-rows
 returns-clause-again g c = λ script lines known.
     same_report c.in_ok-version.version script c.in_ok-version.script lines c.in_ok-lines.lines.items (returns-clause-rows g c (report_text script lines) known).rows
 
--- what a script says may stand in a report
+-- what a script says may be in a report
 admitted : (version : Version) (script : Script) → All (IsReported version script.layout.mode script.layout.passes) script.calls.items → AreAdmitted version script.layout.mode script.limits script.calls.items
 admitted version script reported =
     record { accepted = script.accepted; few = omega (arith, script.few, script.calls.ok.0); reported = subst (λ (n : ℕ). All (IsReported version script.layout.mode n) script.calls.items) script.of_limits.passes reported }

@@ -61,7 +61,7 @@ admitted g c limits accepted layout =
 named : (g : Over) (c : After-row_fields g) → length (last_row c.loop-layout.rows) ≡ 7 → (get_or c.row_fields.result 0 blank).now ≡ codes "call" → IsCallRow (last_row c.loop-layout.rows)
 named g c wide is = name_is c.row_fields.result (last_row c.loop-layout.rows) (omega arith) (c.row_fields.ensures wide) ∙ is
 
--- a row behind them that goes on no report is the first that is bad
+-- a row after them with which no report continues is the first that is bad
 pub returns-in_err-call-clause-fault : goal.returns-in_err-call-clause-fault
 returns-in_err-call-clause-fault g c = λ bytes limits accepted layout start three.
     let inv = c.loop-layout.invariant in

@@ -7,7 +7,7 @@ use Rattle.report.proofs.Versions.{small_value}
 use Rattle.report.proofs.reply.first_pair_of.Goals.{After-first_word_of}
 use Rattle.report.proofs.reply.first_pair_of.Goals as goal
 
--- the key stands before the first space, and the value behind it
+-- the key is before the first space, and the value after it
 parts : (c : After-first_word_of) (pair : ℕ × ℕ) (more : List (ℕ × ℕ)) → IsSpelledPair c.args.version pair → c.args.text.now ≡ decimal pair.0 ++ (32 ∷ (decimal pair.1 ++ spaced_pairs more)) → (c.in_ok-key.key.now ≡ decimal pair.0) × (c.in_ok-key.rest.now ≡ decimal pair.1 ++ spaced_pairs more)
 parts c pair more fits is = cut_there c.args.text.now (decimal pair.0) (decimal pair.1 ++ spaced_pairs more) (Some (c.in_ok-key.key, c.in_ok-key.rest)) c.in_ok-key.ensures.cases (number_has_no_space pair.0 fits.0) is
 

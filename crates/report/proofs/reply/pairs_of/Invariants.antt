@@ -3,7 +3,7 @@ use Rattle.report.specs.Answers.{rest_text, spaced_pairs}
 use Rattle.report.specs.Spellings.{IsSpelledPair}
 use Rattle.report.proofs.reply.pairs_of.Given as goal
 
--- the pairs so far, and what is left of the text; where it tells pairs, so does what is left
+-- the pairs so far, and what is left of the text; if that has pairs, so has what is left
 abbrev pub invariant-loop-left : goal.invariant-loop-left
 invariant-loop-left l = record {
   so_far : rest_text l.told ≡ spaced_pairs l.pairs.items ++ rest_text l.left;

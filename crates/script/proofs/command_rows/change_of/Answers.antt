@@ -18,13 +18,13 @@ side_spaceless : (side : Side) (i : ℕ) → i < length (side_text side) → get
 side_spaceless Left i within = other_than_32 _ (AllPass-from_list_all (λ b. not (eqb b 32)) (codes "left") refl i 0 within)
 side_spaceless Right i within = other_than_32 _ (AllPass-from_list_all (λ b. not (eqb b 32)) (codes "right") refl i 0 within)
 
--- the first space of a change stands behind its cell
+-- the first space of a change comes after its cell
 behind_cell : (text : List ℕ) (field : ℕ × Side) (value : ℕ) (r : Option (Bor (List ℕ) × Bor (List ℕ))) → IsSplitOnceResult 32 text r → IsCell field.0 → text ≡ change_text field value → MatchOption r ⊥ (λ x. (x.0.now ≡ decimal field.0) × (x.1.now ≡ side_text field.1 ++ (32 ∷ decimal value)))
 behind_cell text field value r split cell is =
     split_after 32 text (decimal field.0) (side_text field.1 ++ (32 ∷ decimal value)) r split (lit< tt) is
     (λ i within. not_32 _ (no_space field.0 (small field.0 cell) i 0 within))
 
--- and the next one behind its side
+-- and the next one after its side
 behind_side : (text : List ℕ) (side : Side) (value : ℕ) (r : Option (Bor (List ℕ) × Bor (List ℕ))) → IsSplitOnceResult 32 text r → text ≡ side_text side ++ (32 ∷ decimal value) → MatchOption r ⊥ (λ x. (x.0.now ≡ side_text side) × (x.1.now ≡ decimal value))
 behind_side text side value r split is = split_after 32 text (side_text side) (decimal value) r split (lit< tt) is (side_spaceless side)
 

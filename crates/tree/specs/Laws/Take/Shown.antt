@@ -30,7 +30,7 @@ module _ {goal : Goal} (c : Call) (h : History) (k : ℕ) (f : Found) (s : Snap)
   child_there : (side : Side) → WasInTree u.moment (child_of s side).0
   child_there side = subst (WasInTree u.moment) (field_is side) (child_stood c.layout u.moment u.moment s.node.0 side then (ends_self u.moment) stood u.is.not_final turned.fork)
 
-  -- both children stood in the tree
+  -- both children were in the tree
   pub shown_stood : (side : Side) → WasInTree h (child_of s side).0
   shown_stood side = subst (WasInTree h) (field_is side) (child_stood c.layout h u.moment s.node.0 side run u.within stood u.is.not_final turned.fork)
 
@@ -42,6 +42,6 @@ module _ {goal : Goal} (c : Call) (h : History) (k : ℕ) (f : Found) (s : Snap)
       let b : level (value h) (child_of s side).0 ≡ level (value u.moment) (child_of s side).0 = settled_level (value u.moment) (value h) (child_of s side).0 (stood_settled c.layout h u.moment (child_of s side).0 run u.within (child_there side)) in
       omega (arith, low, a, b)
 
-  -- and apart
+  -- and differ
   pub shown_apart : (child_of s Left).0 ≢ (child_of s Right).0
   shown_apart e = children_apart c.layout u.moment s.node.0 then stood u.is.not_final turned.fork (field_is Left ∙ e ∙ sym (field_is Right))

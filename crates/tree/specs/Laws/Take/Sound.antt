@@ -82,7 +82,7 @@ key_there None plan d = absurd (omega (arith, d))
 key_there (Some v) plan d = (v, refl)
 
 -- the snapshots are those of the fork above the parent, which still is its child, and of the
--- parent, of which the leaf still is a child
+-- parent, whose child the leaf still is
 seen_grand : (ed : TakePair) (f : Found) (g : Snap) (snaps : List Snap) → JoinSeen f (g ∷ snaps) → f.trail.grand ≡ g.node
 seen_grand ed f g snaps x = same_node f.trail.grand g.node (x 0 (omega arith))
 
@@ -109,7 +109,7 @@ module _ (ed : TakePair) (c : Call) (h : History) (f : Found) (run : IsTreeRun c
   parent_snap : (s : Snap) (u : HasSnappedAfterWalk c h (ToKey ed.key) f s) → s.node.0 ≡ f.trail.parent.0 → HasTurned c u.moment ed.key s.node.0 f.trail.side f.trail.node.0
   parent_snap s u e = subst (λ n. HasTurned c u.moment ed.key n f.trail.side f.trail.node.0) (sym e) (parent_turned u.moment (run_since c.layout h u.moment run u.within) u.found)
 
-  -- the children of the parent stood in the tree
+  -- the children of the parent were in the tree
   below_parent : (s : Snap) → HasSnappedAfterWalk c h (ToKey ed.key) f s → s.node.0 ≡ f.trail.parent.0 → (side : Side) → WasInTree h (child_of s side).0
   below_parent s u e side = shown_stood c h ed.key f s f.trail.side f.trail.node.0 run u (parent_snap s u e) side
 
@@ -120,7 +120,7 @@ module _ (ed : TakePair) (c : Call) (h : History) (f : Found) (run : IsTreeRun c
   same_no : (a b : NodeNo) → a ≡ b → b.0 ≡ a.0
   same_no a b e = ap (λ (n : NodeNo). n.0) (sym e)
 
-  -- each node at which it looks stood in the tree
+  -- each node at which it looks was in the tree
   looks_stood : (snaps : List Snap) (n : NodeNo) → HasLookedBy join_looks c h (ToKey ed.key) f snaps → join_looks f snaps ≡ At n → WasInTree h n.0
   looks_stood [] n x e = let t = grand_turned h run x.found in subst (λ (k : NodeNo). WasInTree h k.0) (same_node f.trail.grand n e) (was_passed h t.passed.first ed.key f.trail.grand.0 t.passed.passed)
   looks_stood (g ∷ []) n x e =
@@ -206,7 +206,7 @@ usable_at ed c h f snaps i p four x = x.usable i (rw four.four p)
 linked_at : (ed : TakePair) (c : Call) (h : History) (f : Found) (snaps : List Snap) (i : ℕ) → IsTreeRun c.layout h → i < 4 → HasFour f snaps → HasLookedBy join_looks c h (ToKey ed.key) f snaps → IsLinked c.layout h (snap_at snaps i)
 linked_at ed c h f snaps i run p four x = let u = usable_at ed c h f snaps i p four x in linked_since c.layout h u.moment (snap_at snaps i) run.1.lawful u.within u.is.linked
 
--- the leaf's sibling stood in the tree
+-- the leaf's sibling was in the tree
 sibling_stood : (ed : TakePair) (c : Call) (h : History) (f : Found) (snaps : List Snap) → IsTreeRun c.layout h → 0 < (take_work f).need → HasFour f snaps → HasLookedBy join_looks c h (ToKey ed.key) f snaps → WasInTree h (sibling_of f snaps).node.0
 sibling_stood ed c h f snaps run d four x = go f.trail.side
   where
@@ -241,7 +241,7 @@ sibling_begins ed c h f snaps run d x enough =
     record { named = in_field_named (sibling_of f snaps).node.0 o.in_field; inside = (sibling_below ed c h f snaps run d four x, o.inside); is = unread (value h) (sibling_of f snaps).node.0 }
 
 -- the levels rise from the fork above to the parent, and from there to its children, which are
--- apart
+-- different
 module _ (ed : TakePair) (c : Call) (h : History) (f : Found) (snaps : List Snap) (run : IsTreeRun c.layout h) (needed : 0 < (take_work f).need) (four : HasFour f snaps) (x : HasLookedBy join_looks c h (ToKey ed.key) f snaps) where
   abbrev at_place : ℕ → ℕ
   at_place i = (snap_at snaps i).node.0

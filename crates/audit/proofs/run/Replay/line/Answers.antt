@@ -7,7 +7,7 @@ use Rattle.audit.specs.After.{Remembers, lines_of}
 use Rattle.audit.proofs.Fitting.{line_counted}
 use Rattle.audit.proofs.run.Replay.line.Goals as goal
 
--- with the line that stands next, the lines so far are one more
+-- with the line that comes next, the lines so far are one more
 one_more : (old new : Replay) (line : Line) → new.record ≡ old.record → new.at ≡ old.at → old.at < vec_len old.record.now.lines → line ≡ slice_index_or old.record.now.lines.items old.at line → line ∷ lines_of old ≡ reverse (take (new.at + 1) new.record.now.lines.items)
 one_more old new line same at less is =
     let lines = old.record.now.lines in

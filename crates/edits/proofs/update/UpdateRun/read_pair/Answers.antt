@@ -14,7 +14,7 @@ use Rattle.edits.proofs.update.UpdateRun.read_pair.Given.{Over}
 use Rattle.edits.proofs.update.UpdateRun.read_pair.Goals.{After-keep_pair}
 use Rattle.edits.proofs.update.UpdateRun.read_pair.Goals as goal
 
--- it may go on to read, once the pair is kept
+-- it may continue to read, once the pair is kept
 goes : (g : Over) (c : After-keep_pair g) (d : Call) (b h : History) → Reads g.E.Edit.means (half_told c.args.self.now c.args.slot c.args.key c.args.low) (begun_at d b) h c.args.found.now c.args.node (High c.args.slot) → value h (node c.args.node.0 (Settled (High c.args.slot))) ≡ c.args.high → CanRead g.E.Edit.means (record c.args.self.now { read = c.keep_pair.new.self }) (begun_at d b) h c.args.found.now c.args.node
 goes g c d b h x told = rw c.keep_pair.ensures.kept (goes_reading g.E.Edit.means (half_told c.args.self.now c.args.slot c.args.key c.args.low) (begun_at d b) h c.args.found.now c.args.node (High c.args.slot) c.args.high x told)
 

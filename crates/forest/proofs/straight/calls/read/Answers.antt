@@ -8,7 +8,7 @@ use Rattle.forest.proofs.straight.calls.read.Given.{Over}
 use Rattle.forest.proofs.straight.calls.read.Goals.{After-range_run-run}
 use Rattle.forest.proofs.straight.calls.read.Goals as goal
 
--- of which keys a range is
+-- the keys of a range
 range_of : (low high most l h m : ℕ) → l ≡ low → h ≡ high → m ≡ most → Range l h m ≡ Range low high most
 range_of low high most l h m is_low is_high is_most i = Range (is_low i) (is_high i) (is_most i)
 

@@ -9,7 +9,7 @@ use Rattle.forest.proofs.straight.llx.look.Given.{Over}
 use Rattle.forest.proofs.straight.llx.look.Goals.{After-read-found, After-read-named, After-read-state, After-read-again, After-read-left, After-read-right, After-read-last}
 use Rattle.forest.proofs.straight.llx.look.Goals as goal
 
--- whichever call it is, this has been told
+-- whichever call it is, it has got this
 told_found : (g : Over) (c : After-read-found g) (k : Looker g.T.Shape.allows (calls g.S.Shape g.M.Machine c.args.hand.layout.now c.args.hand.number)) → LoadsMark k c.args.seat.now.me.0.passes c.args.node → InnerIsTold k c.read-found.new.seat.me.0.passes (llx_at c.args.node (Marked)) c.read-found.result
 told_found g c k x = c.read-found.ensures.told k (llx_at c.args.node (Marked)) x
 

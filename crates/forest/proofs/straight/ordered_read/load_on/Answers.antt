@@ -11,7 +11,7 @@ use Rattle.forest.proofs.straight.ordered_read.load_on.Goals as goal
 pub read-value-requires-clause-waits : goal.read-value-requires-clause-waits
 read-value-requires-clause-waits g c = let w = c.requires.waits in (w.0, placed c.args.run.now (Load (g.L.KnownLoad.load c.args.load.now)), rw c.word.ensures w.1)
 
--- behind it there are fewer steps left
+-- after it there are fewer steps left
 lighter : (g : Over) (c : In-Ok g) → read_left g.R.Read.means (placed c.found.new.run c.in-Ok.next) (shared_nodes c.args.hand.layout.now) < read_left g.R.Read.means (placed c.args.run.now (Load (g.L.KnownLoad.load c.args.load.now))) (shared_nodes c.args.hand.layout.now)
 lighter g c = let w = c.requires.waits in load_lighter w.0 c.args.run.now c.found.new.run (g.L.KnownLoad.load c.args.load.now) c.found.ensures.same c.found.ensures.tries _ c.read-value.result c.in-Ok.next (rw c.in-Ok.is at c.found.ensures.goes_on) (rw c.in-Ok.is at c.found.ensures.nearer) (c.read-value.ensures.told w.0 (placed c.args.run.now (Load (g.L.KnownLoad.load c.args.load.now))) (rw c.word.ensures w.1))
 

@@ -11,7 +11,7 @@ use Rattle.forest.proofs.straight.resume.finish.Given.{Over}
 use Rattle.forest.proofs.straight.resume.finish.Goals.{After-step-turn}
 use Rattle.forest.proofs.straight.resume.finish.Goals as goal
 
--- the update is told what its step has found
+-- the update gets what its step has found
 told : (g : Over) (c : After-step-turn g) (u : Updater (calls g.S.Shape g.M.Machine c.args.hand.layout.now c.args.hand.number) g.E.Edit.means) → HostedStands u c.args.seat.now.me.0.passes c.args.machine c.args.turn → HostedIsTold u c.step-told.new.seat.me.0.passes c.loop-turn.machine c.step-told.result
 told g c u x = c.step-told.ensures.told u.call u.first (u.with_run c.loop-turn.machine) (u.is_layout, u.is_number) (rw c.in-Ask.is at c.loop-turn.invariant.stands u x)
 

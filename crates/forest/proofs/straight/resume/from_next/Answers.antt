@@ -8,7 +8,7 @@ use Rattle.forest.proofs.straight.resume.from_next.Given.{Over}
 use Rattle.forest.proofs.straight.resume.from_next.Goals.{After-anew}
 use Rattle.forest.proofs.straight.resume.from_next.Goals as goal
 
--- taken up it goes on as before
+-- with a place again it continues as before
 goes_on : (g : Over) (c : After-anew g) (u : Updater (calls g.S.Shape g.M.Machine c.args.hand.layout.now c.args.hand.number) g.E.Edit.means) → UpdaterGoesOn u c.args.seat.now.me.0.passes c.args.run.now c.args.found.now c.args.next → UpdaterGoesOn u c.args.seat.now.me.0.passes c.take_up-machine.result c.anew.result c.args.next
 goes_on g c u x = subst (λ (f : Found). UpdaterGoesOn u c.args.seat.now.me.0.passes c.take_up-machine.result f c.args.next) (sym c.anew.ensures) (goes_there u _ c.args.run.now c.take_up-machine.result c.args.found.now c.args.next c.take_up-machine.ensures x)
 

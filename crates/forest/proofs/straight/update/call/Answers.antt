@@ -10,7 +10,7 @@ use Rattle.forest.proofs.straight.update.call.Given.{Over}
 use Rattle.forest.proofs.straight.update.call.Goals.{After-test_share-next}
 use Rattle.forest.proofs.straight.update.call.Goals as goal
 
--- whichever call began, behind its walk it goes on as its try does
+-- whichever call began, after its walk it continues as its try does
 goes_on : (g : Over) (c : After-test_share-next g) (u : Updater (calls g.S.Shape g.M.Machine c.args.hand.layout.now c.args.hand.number) g.E.Edit.means) → UpdaterBegins u c.args.seat.now.me.0.passes c.args.run.now → UpdaterGoesOn u c.call.new.seat.me.0.passes c.test_share-next.new.self c.anew-found.result c.test_share-next.result
 goes_on g c u x = finds u _ c.args.run.now c.test_share-next.new.self c.goal-goal.result c.call.result.1 c.anew-found.result c.test_share-next.result c.goal-goal.ensures c.test_share-next.ensures.same c.test_share-next.ensures.tries c.test_share-next.ensures.spends
     (λ b h. c.test_share-next.ensures.turn u.call b h)

@@ -18,7 +18,7 @@ use Rattle.forest.proofs.straight.walk.call.Given.{Over}
 use Rattle.forest.proofs.straight.walk.call.Goals.{After-read-word, After-read-child}
 use Rattle.forest.proofs.straight.walk.call.Goals as goal
 
--- whichever call it is, the head of this node has been told
+-- whichever call it is, it has got the head of this node
 told : (g : Over) (c : After-read-word g) (w : Walker (calls g.S.Shape g.M.Machine c.args.hand.layout.now c.args.hand.number))
     → WalksFromRoot w c.args.seat.now.me.0.passes c.args.goal
     → WalkerIsTold w c.read-word.new.seat.me.0.passes (walk_at c.args.goal c.loop-side.trail c.loop-side.at) c.loop-side.turns c.read-word.result

@@ -12,7 +12,7 @@ use Rattle.forest.proofs.straight.walk.end.Goals as goal
 leaf : (g : Over) (c : After-of-head g) → c.of-head.result.leaf ≡ true
 leaf g c = rw c.of-head.ensures c.requires.leaf
 
--- whichever call it is, the count has been told
+-- whichever call it is, it has got the count
 told : (g : Over) (c : After-read-more g) (w : Walker (calls g.S.Shape g.M.Machine c.args.hand.layout.now c.args.hand.number)) (turn : LastTurns)
     → WalkerIsTold w c.args.seat.now.me.0.passes (walk_at c.args.goal c.args.trail c.args.at) turn c.args.word
     → WalkerIsTold w c.read-more.new.seat.me.0.passes (walk_at c.args.goal c.args.trail (More c.of-head.result)) turn c.read-more.result

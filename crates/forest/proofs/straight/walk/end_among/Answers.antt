@@ -10,13 +10,13 @@ use Rattle.forest.proofs.straight.walk.end_among.Given.{Over}
 use Rattle.forest.proofs.straight.walk.end_among.Goals.{After-read-key, Else-asked-key}
 use Rattle.forest.proofs.straight.walk.end_among.Goals as goal
 
--- whichever call it is, the key in this slot has been told
+-- whichever call it is, it has got the key in this slot
 told : (g : Over) (c : After-read-key g) (w : Walker (calls g.S.Shape g.M.Machine c.args.hand.layout.now c.args.hand.number)) (turn : LastTurns)
     → WalkerIsTold w c.args.seat.now.me.0.passes (walk_at c.args.goal c.args.trail (More c.args.head)) turn c.args.more
     → WalkerIsTold w c.read-key.new.seat.me.0.passes (walk_at c.args.goal c.args.trail (Pair c.args.head c.args.more c.loop-hand.slot)) turn c.read-key.result
 told g c w turn x = c.read-key.ensures.told w (walk_at c.args.goal c.args.trail (Pair c.args.head c.args.more c.loop-hand.slot)) turn (c.loop-hand.invariant.waits w turn x)
 
--- it is not that of which it tells
+-- it is not the one whose value it answers
 other : (g : Over) (c : Else-asked-key g) → asked_key c.args.goal c.read-key.result ≢ c.read-key.result
 other g c = λ z. c.if-asked-key.false (c.asked_key-asked.ensures ∙ z)
 

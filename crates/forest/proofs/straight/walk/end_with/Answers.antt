@@ -8,7 +8,7 @@ use Rattle.forest.proofs.straight.walk.end_with.Given.{Over}
 use Rattle.forest.proofs.straight.walk.end_with.Goals.{After-read-low}
 use Rattle.forest.proofs.straight.walk.end_with.Goals as goal
 
--- whichever call it is, the value has been told
+-- whichever call it is, it has got the value
 told_low : (g : Over) (c : After-read-low g) (w : Walker (calls g.S.Shape g.M.Machine c.args.hand.layout.now c.args.hand.number)) (turn : LastTurns)
     → WalkerIsTold w c.args.seat.now.me.0.passes (walk_at c.args.goal c.args.trail (Pair c.args.head c.args.more c.args.slot)) turn c.args.key
     → WalkerIsTold w c.read-low.new.seat.me.0.passes (walk_at c.args.goal c.args.trail (Value c.args.head c.args.more c.args.slot c.args.key)) turn c.read-low.result

@@ -19,7 +19,7 @@ clash : {b : Bool} → b ≡ true → b ≡ false → ⊥
 clash e f = cc
 
 module _ (allows : Layout → History → ℕ → Type 0) (lay : Layout) (c : ℕ) (h : History) where
-  -- what it has been told where it stands
+  -- what it has got at its place
   told : (m : HelpRun) (got : Option ℕ) (found : ℕ) (at : HelpAt) → m.at ≡ at → (at ≡ Start → ⊥) → found ≡ unwrap_or got 0 → HelpIsReady allows lay c m h got → HelpIsTold allows lay c h (reading m) at found
   told m None found at is d e r = absurd (d (sym is ∙ r.0))
   told m (Some v) found at is d e r = rw (e, sym is) r
@@ -28,12 +28,12 @@ module _ (allows : Layout → History → ℕ → Type 0) (lay : Layout) (c : �
   asks : {old now : HelpRun} {turn : Turn Bool} {at : HelpAt} {step : Step} → HelpAsks old now turn at step → HelpWaitsAt allows lay c h (reading old) at step → MatchTurn turn (HelpWaits allows lay c now h) (HelpAnswers lay c now h)
   asks a w = rw (a.asked, a.stands) w
 
-  -- behind a frozen node
+  -- after a frozen node
   behind : {old now : HelpRun} {turn : Turn Bool} {j : MemberIndex} {expected v : ℕ} → Lawful lay h → (v ≡ expected) ⊎ (v ≡ old.scx.0) → HelpIsTold allows lay c h (reading old) (Freeze j expected) v → HasNext old now turn j ⊎ IsLast old now turn j → MatchTurn turn (HelpWaits allows lay c now h) (HelpAnswers lay c now h)
   behind {old} {j} {expected} {v} l won t (inl y) = asks y.asks (to_next (reading old) l j y.next expected v won y.is y.within t)
   behind {old} {j} {expected} {v} l won t (inr y) = asks y.asks (to_set_frozen (reading old) l j expected v won y.none t)
 
-  -- behind the nodes that are marked
+  -- after the nodes that are marked
   marks : {old now : HelpRun} {turn : Turn Bool} {p : ℕ} → Lawful lay h → Marks h (reading old) p → MarksNext old now turn p ⊎ MarksNone old now turn p → MatchTurn turn (HelpWaits allows lay c now h) (HelpAnswers lay c now h)
   marks {old} {p} l x (inl y) = asks y.asks (to_mark (reading old) l p y.next y.is y.first x)
   marks {old} {p} l x (inr y) = asks y.asks (to_new (reading old) l p y.none x)

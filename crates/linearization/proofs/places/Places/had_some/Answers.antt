@@ -5,7 +5,7 @@ use Rattle.linearization.proofs.Chains.{IsLookedFor, IsHere, look_here, look_wit
 use Rattle.linearization.proofs.places.Places.had_some.Goals.{In-Some, else-place-turn-via-then-place-turn+else-is_some, else-place-turn-via-else-place-turn}
 use Rattle.linearization.proofs.places.Places.had_some.Goals as goal
 
--- the search stands at a place
+-- the search is at a place
 stands : (c : In-Some) → (v : ℕ) → IsLookedFor c.args.key (Some v) c.args.first c.args.last c.loop-at.turn (Some c.in-Some.i) (reverse c.args.self.now.list.items)
 stands c v = subst (λ (o : Option ℕ). IsLookedFor c.args.key (Some v) c.args.first c.args.last c.loop-at.turn o (reverse c.args.self.now.list.items)) c.in-Some.is (c.loop-at.invariant v)
 

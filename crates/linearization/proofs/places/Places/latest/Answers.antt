@@ -4,7 +4,7 @@ use Rattle.linearization.proofs.Chains.{IsLookedFor, look_here, look_within, loo
 use Rattle.linearization.proofs.places.Places.latest.Goals.{In-Some, else-place-until-via-then-place-until+else-eq, else-place-until-via-else-place-until}
 use Rattle.linearization.proofs.places.Places.latest.Goals as goal
 
--- the search stands at a place
+-- the search is at a place
 stands : (c : In-Some) → IsLookedFor c.args.key c.args.value c.args.first c.args.last c.loop-at.until (Some c.in-Some.i) (reverse c.args.self.now.list.items)
 stands c = subst (λ (o : Option ℕ). IsLookedFor c.args.key c.args.value c.args.first c.args.last c.loop-at.until o (reverse c.args.self.now.list.items)) c.in-Some.is c.loop-at.invariant
 

@@ -14,7 +14,7 @@ use Rattle.linearization.proofs.Tells.{held, told_is, told_none, told_more, told
 use Rattle.linearization.proofs.places.Places.tells.Goals.{After-into_iter-key-iterator}
 use Rattle.linearization.proofs.places.Places.tells.Goals as goal
 
--- what is read is told of the keys that are gone over
+-- what is read is what is said of the keys that are visited
 is_told : (c : After-into_iter-key-iterator) (calls : List Call) (lines : List Line) → AreEntries calls lines (changes c.args.self.now) → take (most_told c.args.command.now) (held (λ j. get j (map_at calls lines c.args.turn)) c.into_iter-key-iterator.result) ≡ pairs_read c.args.command.now (number_pairs c.args.pairs.now) (map_at calls lines c.args.turn)
 is_told c calls lines a =
     let found : c.into_iter-key-iterator.result ≡ filter (λ e. looks_for c.args.command.now (number_pairs c.args.pairs.now) e.0) c.args.self.now.newest.entries = c.into_iter-key-iterator.ensures.into_iter_gives ∙ c.range-key-items.ensures.between tt ∙ (λ i. filter (λ e. c.bounds.ensures.keys e.0 i) c.args.self.now.newest.entries) in

@@ -4,7 +4,7 @@ use Rattle.linearization.proofs.Chains.{IsLookedFor, IsHere, look_starts, look_h
 use Rattle.linearization.proofs.places.Places.value_from.Goals.{In-Some, After-index-place}
 use Rattle.linearization.proofs.places.Places.value_from.Goals as goal
 
--- the search stands at a place
+-- the search is at a place
 stands : (c : In-Some) (key : ℕ) → c.args.newest ≡ latest key (reverse c.args.self.now.list.items) → IsLookedFor key None c.args.turn c.args.turn c.args.turn (Some c.in-Some.i) (reverse c.args.self.now.list.items)
 stands c key e = subst (λ (o : Option ℕ). IsLookedFor key None c.args.turn c.args.turn c.args.turn o (reverse c.args.self.now.list.items)) c.in-Some.is (c.loop-at.invariant key e)
 

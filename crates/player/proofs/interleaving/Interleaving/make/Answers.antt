@@ -79,11 +79,11 @@ module _ (c : After-tell) (lines : List Line) (a : IsStepAsked c.args.self.now l
   as_owed : MatchOption (entry_owed p.script.layout row_lines) (after ≡ row_lines) (λ e. after ≡ Log e ∷ row_lines)
   as_owed = logged_as_owed p.script.layout c.log-entry.result row_lines logged.owed
 
-  -- the client that makes the step, still there as it is told what the step has found
+  -- the client that makes the step, still there as it gets what the step has found
   there : slice_get c.log-entry.new.self.clients.items i ≡ Some a.client
   there = ap (λ (l : List Client). slice_get l i) c.log-entry.ensures.same.clients ∙ asked_there p lines i number c.args.step a
 
-  -- it is the one that is told
+  -- it is the one that gets it
   seen : c.index_mut.result.now ≡ a.client
   seen = c.index_mut.ensures.value ∙ get_or_from_slice_get c.log-entry.new.self.clients.items i a.client c.index_mut.result.now there
 

@@ -20,11 +20,11 @@ module _ (c : After-next_action) (lines : List Line) (played : IsBetweenTurns c.
   there : slice_get c.args.self.now.clients.items c.args.client.0 ≡ Some c.index_mut.result.now
   there = client_there c.args.self.now c.args.client.0 c.index_mut.result.now c.requires.client c.index_mut.ensures.value
 
-  -- the turn has the number behind those of the lines
+  -- the turn has the number after those of the lines
   numbered : c.args.self.now.turns + 1 ≡ suc (turns lines)
   numbered = let e = played.counted.turned in omega (arith, e)
 
-  -- how the client stands at it
+  -- how the client is at it
   stood : IsNextAction (client_view c.args.self.now.script.layout c.args.self.now.script.limits.tries c.args.self.now.script.calls.items lines c.args.client.0) (c.args.self.now.turns + 1) c.index_mut.result.now c.next_action.new.self c.next_action.result
   stood =
       let p = c.args.self.now in
@@ -32,7 +32,7 @@ module _ (c : After-next_action) (lines : List Line) (played : IsBetweenTurns c.
       let client = is_client p lines i (p.turns + 1) c.index_mut.result.now c.next_action.new.self played there in
       c.next_action.ensures (client_view p.script.layout p.script.limits.tries p.script.calls.items lines i) (begin lines i) played.between.so_far.sound p.script.accepted.some_try (calls_are_of_mode p.script) c.deref.ensures.value client
 
-  -- and the places, but for their room
+  -- and the places, except for their room
   roomy : ArePlaces c.args.self.now.script.layout c.args.self.now.script.calls.items lines c.reserve.new.self
   roomy = places_roomy _ _ _ _ _ c.in_ok-reserve.ensures.same c.in_ok-reserve.ensures.keys played.places
 

@@ -76,7 +76,7 @@ returns-clause-lawful c = stands_played c.step_into.new.self _ (stands (goal.at.
 pub returns-in_err-reserve-clause-lawful : goal.returns-in_err-reserve-clause-lawful
 returns-in_err-reserve-clause-lawful c = rw c.reserve.ensures.items (stands_played c.self.inside.core _ c.self.invariant)
 
--- a core that was refused the turn stands where it stood
+-- a core that was refused the turn is where it was
 still : (c : In_err-step_into) → StandsAt c.step_into.new.self record { script = script_view c.step_into.new.self.script; lines = reverse c.self.inside.lines.items }
 still c = record { script = refl; between = (c.in_err-step_into.ensures.refused (player_view c.self.inside) c.self.invariant).between }
 

@@ -15,11 +15,11 @@ right g c bytes before st is_end =
     let wide : 2 ≤ grammar.width = omega (arith, width.0, width.1) in
     (c.counts.ensures grammar.width wide st.row.0 is_end).0 (rw c.if-not-counts.false (search rules))
 
--- the row behind it is the next
+-- the row after it is the next
 next : (g : Over) (c : After-advance g) → c.args.self.now.number < 2 ^ 64 - 1 → c.advance.new.self.number ≡ suc c.args.self.now.number
 next g c small = omega (arith, c.advance.ensures.number, small)
 
--- the reader stands at that row
+-- the reader is at that row
 late : (g : Over) (c : After-field g) (bytes : List ℕ) (before : List (List (List ℕ))) → IsAtRow g.R.Read.remaining bytes before (g.F.Format.grammar c.args.format.now).width c.args.self.now → IsAtRow g.R.Read.remaining bytes (before ++ last_row c.args.self.now ∷ []) (g.F.Format.grammar c.args.format.now).width c.advance.new.self
 late g c bytes before st =
     let found = rw c.if-not-branch.false at (c.in_ok-advance.ensures.row bytes (before ++ last_row c.args.self.now ∷ []) st.read) in

@@ -8,13 +8,13 @@ use Rattle.texts.proofs.rows.Rows.entries.Given.{Over}
 use Rattle.texts.proofs.rows.Rows.entries.Goals.{After-advance, After-field, After-len}
 use Rattle.texts.proofs.rows.Rows.entries.Goals as goal
 
--- what has been read are entries, and the row that is read now has the number behind them
+-- what has been read are entries, and the row that is read now has the number after them
 so_far : (g : Over) (c : After-advance g) (head : List (List (List ℕ))) → c.args.self.now.number ≡ length head → length head < 2 ^ 32 → AreAcceptedEntries (g.F.Format.grammar c.args.format.now) c.loop-entries.entries.items × (c.advance.new.self.number ≡ suc (length (rows_of_entries (g.F.Format.grammar c.args.format.now) head c.loop-entries.entries.items)))
 so_far g c head start small =
     let l = c.loop-entries in
     read_so_far (g.F.Format.grammar c.args.format.now) head l.entries.items (vec_len l.entries) _ _ _ l.invariant.1 l.invariant.0 (omega (arith, l.entries.ok.0)) start small l.invariant.3 c.advance.ensures.number
 
--- the reader stands at the row behind them
+-- the reader is at the row after them
 at_row : (g : Over) (c : After-field g) (bytes : List ℕ) (head : List (List (List ℕ))) → HasRead g.R.Read.remaining bytes head c.args.self.now → IsAtRow g.R.Read.remaining bytes (rows_of_entries (g.F.Format.grammar c.args.format.now) head c.loop-entries.entries.items) (g.F.Format.grammar c.args.format.now).width c.advance.new.self
 at_row g c bytes head h =
     let l = c.loop-entries in
