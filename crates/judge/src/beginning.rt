@@ -139,7 +139,8 @@ fn is_unused(judge: &Judge, user: u64, node: u64) -> bool
 /// Whether a node is of the pass's own share, and no field and no other `new` has named it.
 fn is_fresh(judge: &Judge, pass: PassNo, user: u64, node: u64) -> bool
     requires { pass.0 < judge.now.layout.passes }
-    ensures { IsTrue result ↔ (IsOwnNode judge.now.layout pass.0 node × IsUnused (seen_history judge.now) user node) }
+    ensures { IsTrue result ↔ (IsOwnNode judge.now.layout pass.0 node ×
+        IsUnused (seen_history judge.now) user node) }
 {
     is_own_node(judge.layout(), pass, node) && is_unused(judge, user, node)
 }

@@ -66,7 +66,8 @@ impl Entering {
     /// an entry, of the SCX-record that the info of the field's node names.
     pub(crate) fn note(&mut self, words: &PlainWords, row: &Row)
         requires word { IsWord words.now.layout row.now.word }
-        requires may { makes_entry row.now ≡ true → MayEnter words.now self.old (holder_in words.now row.now.word) }
+        requires may { makes_entry row.now ≡ true →
+            MayEnter words.now self.old (holder_in words.now row.now.word) }
         ensures entries { self.new.entries ≡ (if makes_entry row.now then self.old.entries + 1 else self.old.entries) }
         ensures won { self.new.won.items ≡
             (if makes_entry row.now

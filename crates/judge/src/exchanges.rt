@@ -52,7 +52,8 @@ fn is_freeze(judge: &Judge, row: &Row, scx: u64, place: u8) -> bool
 /// Whether a row freezes some node for an SCX-record.
 fn is_freeze_for(judge: &Judge, row: &Row, scx: u64) -> bool
     requires { row.now.pass.0 < judge.now.layout.passes }
-    ensures { IsTrue result ↔ ((j : ℕ) × IsFreeze judge.now.layout (seen_history judge.now) row.now scx j) }
+    ensures { IsTrue result ↔ ((j : ℕ) ×
+        IsFreeze judge.now.layout (seen_history judge.now) row.now scx j) }
 {
     for place in 0..count(judge, scx) {
         if is_freeze(judge, row, scx, place) {
@@ -67,7 +68,8 @@ fn is_freeze_for(judge: &Judge, row: &Row, scx: u64) -> bool
 /// loaded last; only if it is for neither are all looked at.
 pub fn is_some_freeze(judge: &Judge, row: &Row) -> bool
     requires { row.now.pass.0 < judge.now.layout.passes }
-    ensures { IsTrue result ↔ ((s j : ℕ) × IsFreeze judge.now.layout (seen_history judge.now) row.now s j) }
+    ensures { IsTrue result ↔ ((s j : ℕ) ×
+        IsFreeze judge.now.layout (seen_history judge.now) row.now s j) }
 {
     is_freeze_for(judge, row, row.after)
         || is_freeze_for(judge, row, last_loaded(judge, row.pass))
@@ -76,7 +78,8 @@ pub fn is_some_freeze(judge: &Judge, row: &Row) -> bool
 
 fn is_freeze_for_any(judge: &Judge, row: &Row) -> bool
     requires { row.now.pass.0 < judge.now.layout.passes }
-    ensures { IsTrue result ↔ ((s j : ℕ) × IsFreeze judge.now.layout (seen_history judge.now) row.now s j) }
+    ensures { IsTrue result ↔ ((s j : ℕ) ×
+        IsFreeze judge.now.layout (seen_history judge.now) row.now s j) }
 {
     judge.laws_hold();
     for scx in 0..u64::from(judge.layout().all_scx()) {
@@ -256,7 +259,8 @@ fn is_abort(judge: &Judge, row: &Row, scx: u64, place: u8) -> bool
 /// Whether a row aborts the SCX-record of its word.
 pub fn is_some_abort(judge: &Judge, row: &Row) -> bool
     requires { row.now.pass.0 < judge.now.layout.passes }
-    ensures { IsTrue result ↔ ((s j : ℕ) × IsAbort judge.now.layout (seen_history judge.now) row.now s j) }
+    ensures { IsTrue result ↔ ((s j : ℕ) ×
+        IsAbort judge.now.layout (seen_history judge.now) row.now s j) }
 {
     match row.word {
         Word::Scx(scx, _) => is_abort(judge, row, scx.0, frozen_count(judge, scx.0)),

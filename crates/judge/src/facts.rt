@@ -33,7 +33,8 @@ pub fn is_named_node(judge: &Judge, node: u64) -> bool
 /// Whether a node of the table was there from the start, or a field of a named node has held it.
 pub fn is_shown(judge: &Judge, node: u64) -> bool
     ensures shown { IsTrue result → IsInField judge.now.layout (seen_history judge.now) node }
-    ensures inside { node < all_nodes judge.now.layout → IsInField judge.now.layout (seen_history judge.now) node → IsTrue result }
+    ensures inside { node < all_nodes judge.now.layout →
+        IsInField judge.now.layout (seen_history judge.now) node → IsTrue result }
 {
     judge.naming.has_shown(node)
 }
@@ -63,7 +64,8 @@ pub fn was_in_other_new(judge: &Judge, user: u64, node: u64) -> bool
 
 /// How many of the nodes that an SCX-record covers were ever frozen for it: the first ones.
 pub fn frozen_count(judge: &Judge, scx: u64) -> u8
-    ensures { (j : ℕ) → j < count (seen_history judge.now) scx → IsFrozen (seen_history judge.now) scx j ↔ (j < result) }
+    ensures { (j : ℕ) → j < count (seen_history judge.now) scx →
+        IsFrozen (seen_history judge.now) scx j ↔ (j < result) }
 {
     judge.freezing.of(scx)
 }

@@ -85,7 +85,8 @@ impl Judge {
     /// The words as the rows have left them.
     pub fn words(&self) -> &PlainWords
         ensures layout { result.now.layout ≡ self.now.layout }
-        ensures words { (w : Word) → IsWord self.now.layout w → word_at result.now w ≡ value (seen_history self.now) w }
+        ensures words { (w : Word) → IsWord self.now.layout w →
+            word_at result.now w ≡ value (seen_history self.now) w }
     {
         &self.words
     }
@@ -141,7 +142,8 @@ impl Judge {
     /// Whether a node is named. Of one that is not of the table it says so, named or not.
     pub fn is_named_node(&self, node: NodeNo) -> bool
         ensures named { IsNamed self.now.layout (seen_history self.now) node.0 → IsTrue result }
-        ensures inside { node.0 < all_nodes self.now.layout → IsTrue result → IsNamed self.now.layout (seen_history self.now) node.0 }
+        ensures inside { node.0 < all_nodes self.now.layout → IsTrue result →
+            IsNamed self.now.layout (seen_history self.now) node.0 }
     {
         node.0 >= u64::from(self.layout().all_nodes()) || facts::is_named_node(self, node.0)
     }
@@ -149,8 +151,10 @@ impl Judge {
     /// Whether a field holds a node, or has held it. Of one that is not of the table it says so,
     /// held or not.
     pub fn is_in_field(&self, node: NodeNo) -> bool
-        ensures never { result ≡ false → (m : ℕ) → (side : Side) → HasHeld (seen_history self.now) (child m side) node.0 → ⊥ }
-        ensures inside { node.0 < all_nodes self.now.layout → IsTrue result → WasInField (seen_history self.now) node.0 }
+        ensures never { result ≡ false → (m : ℕ) → (side : Side) →
+            HasHeld (seen_history self.now) (child m side) node.0 → ⊥ }
+        ensures inside { node.0 < all_nodes self.now.layout → IsTrue result →
+            WasInField (seen_history self.now) node.0 }
     {
         node.0 >= u64::from(self.layout().all_nodes()) || facts::was_in_field(self, node.0)
     }

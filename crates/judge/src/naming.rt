@@ -65,7 +65,8 @@ impl Naming {
     /// Whether an SCX-record is named.
     pub(crate) fn has_scx(&self, scx: u64) -> bool
         requires { IsNaming self.now }
-        ensures { IsTrue result ↔ ((scx < self.now.scxs) × IsReached (links_of self.now.graph) (begun_place self.now.nodes scx)) }
+        ensures { IsTrue result ↔ ((scx < self.now.scxs) ×
+            IsReached (links_of self.now.graph) (begun_place self.now.nodes scx)) }
     {
         scx < self.scxs && self.graph.has((2 * self.nodes + scx) as usize)
     }

@@ -19,7 +19,8 @@ pub(crate) fn changed_key(command: Command) -> Option<u64>
 /// The key that an entry of a command changes, and what it leaves there, if it is an edit, where
 /// this is the key at its end of the map, if that has one.
 pub fn edited(command: Command, at_end: Option<u64>) -> Option<(u64, Option<u128>)>
-    ensures edits { (e : MapEdit) → entered_edit (map_call (Some command)) at_end ≡ Some e → result ≡ Some (edit_key e, value_left e) }
+    ensures edits { (e : MapEdit) → entered_edit (map_call (Some command)) at_end ≡ Some e →
+        result ≡ Some (edit_key e, value_left e) }
     ensures key { IfSome result (λ r. (changed_key command ≡ Some r.0) ⊎ (at_end ≡ Some r.0)) }
 {
     let Command::Map(request) = command else {

@@ -68,7 +68,8 @@ fn is_from(pairs: &[(u64, u128)], key: u64) -> bool
 /// Between which keys it looks.
 pub(crate) fn bounds(command: &Command, pairs: &[(u64, u128)]) -> (Bound<u64>, Bound<u64>)
     ensures forward { IsForward (IsLeBy nat_cmp) (IsLtBy nat_cmp) result.0 result.1 }
-    ensures keys { (key : ℕ) → range_contains nat_cmp result.0 result.1 key ≡ looks_for command.now (number_pairs pairs.now) key }
+    ensures keys { (key : ℕ) →
+        range_contains nat_cmp result.0 result.1 key ≡ looks_for command.now (number_pairs pairs.now) key }
 {
     match command {
         Command::Map(Request::PopFirst) => (Bound::Unbounded, Bound::Unbounded),
@@ -127,7 +128,8 @@ fn go_as_far(pairs: &[(u64, u128)], key: u64) -> bool
 pub(crate) fn behind(pairs: &[(u64, u128)], key: u64, value: u128) -> Option<&[(u64, u128)]>
     ensures some { IfSome result (λ rest. (first : PairOf) × (first.key ≡ key) × (first.value ≡ value) ×
         (number_pairs pairs.now ≡ first ∷ number_pairs rest.now)) }
-    ensures none { IfNone result ((first : PairOf) (rest : List PairOf) → first.key ≡ key → first.value ≡ value → number_pairs pairs.now ≢ first ∷ rest) }
+    ensures none { IfNone result ((first : PairOf) (rest : List PairOf) → first.key ≡ key →
+        first.value ≡ value → number_pairs pairs.now ≢ first ∷ rest) }
 {
     let (first, rest) = pairs.split_first()?;
     if first.0 == key && first.1 == value {

@@ -223,7 +223,8 @@ impl Places {
         first: u64,
         last: u64,
     ) -> u64
-        ensures within { first ≤ last → FallFrom (suc last) (changes self.now) → (first ≤ result) × (result ≤ last) }
+        ensures within { first ≤ last → FallFrom (suc last) (changes self.now) → (first ≤ result) ×
+            (result ≤ last) }
         ensures greatest { (calls : List Call) (lines : List Line) (call : MapCall) (n : ℕ) →
             AreEntries calls lines (changes self.now) → FallFrom (suc last) (changes self.now) →
             IsOrderedRead command.now → map_call (Some command.now) ≡ Some call → first ≤ n → n ≤ last →
@@ -242,7 +243,8 @@ impl Places {
         first: u64,
         last: u64,
     ) -> u64
-        ensures within { first ≤ last → FallFrom (suc last) (changes self.now) → (first ≤ result) × (result ≤ last) }
+        ensures within { first ≤ last → FallFrom (suc last) (changes self.now) → (first ≤ result) ×
+            (result ≤ last) }
         ensures greatest { (calls : List Call) (lines : List Line) (n : ℕ) → AreEntries calls lines (changes self.now) →
             FallFrom (suc last) (changes self.now) → first ≤ n → n ≤ last →
             Tells command.now (number_pairs pairs.now) (map_at calls lines n) → IsGreatestTurn

@@ -46,6 +46,8 @@ pub fn alone_holds()
         → ReadIsNearer range_means now nodes turn (read_left range_means old nodes)
         → (now.tries ≡ old.tries)
         × HasLessOfTry turn (phase_left range_means now nodes now.at) (phase_left range_means old nodes old.at) }
-    ensures undisturbed { (c : Call) (h : History) (n s : ℕ) → IsTreeRun c.layout h → IsUndisturbed c h → ¬ IsContended c h n s }
-    ensures one_pass { (c : Call) (h : History) (n s : ℕ) → c.layout.passes ≡ 1 → ¬ IsContended c h n s }
+    ensures undisturbed { (c : Call) (h : History) (n s : ℕ) → IsTreeRun c.layout h →
+        IsUndisturbed c h → ¬ IsContended c h n s }
+    ensures one_pass { (c : Call) (h : History) (n s : ℕ) → c.layout.passes ≡ 1 →
+        ¬ IsContended c h n s }
 {}

@@ -123,7 +123,8 @@ impl Neighbour {
         ensures snaps { result.snaps.items ≡ [] }
         ensures limit { result.limit ≡ tries }
         ensures tries { result.tries ≡ tries - 1 }
-        ensures bound { (nodes : ℕ) → 0 < tries → read_left neighbour_means result nodes ≤ tries * neighbour_try_left nodes }
+        ensures bound { (nodes : ℕ) → 0 < tries →
+            read_left neighbour_means result nodes ≤ tries * neighbour_try_left nodes }
     {
         let (route, found) = (Route::Above, None);
         let read = Neighbour {

@@ -54,7 +54,8 @@ impl Range {
         ensures snaps { result.snaps.items ≡ [] }
         ensures limit { result.limit ≡ tries }
         ensures tries { result.tries ≡ tries - 1 }
-        ensures bound { (nodes : ℕ) → 0 < tries → read_left range_means result nodes ≤ tries * range_try_left most nodes }
+        ensures bound { (nodes : ℕ) → 0 < tries →
+            read_left range_means result nodes ≤ tries * range_try_left most nodes }
     {
         let (waiting, taken) = (Vec::new(alloc), Vec::new(alloc));
         let read = Range {
@@ -87,7 +88,8 @@ impl Range {
         ensures goes_on { (snaps : List Snap) (c : Call) (h : History) → GoesBehind self.old snaps c h (self.old.leaves - 1)
             → MayDo range_means self.new snaps c h result }
         ensures same { range_means.call self.new ≡ range_means.call self.old }
-        ensures nearer { (nodes : ℕ) → ComesNearer range_means self.new nodes result (range_means.behind self.old nodes) }
+        ensures nearer { (nodes : ℕ) →
+            ComesNearer range_means self.new nodes result (range_means.behind self.old nodes) }
     {
         self.leaves = self.leaves.saturating_sub(1);
         if self.leaves == 0 {
@@ -102,9 +104,11 @@ impl Range {
     /// What is done after a pair of a leaf: no more is loaded once as many are taken as it answers.
     #[inline(always)]
     fn go_on(&mut self, place: LeafPlace) -> ReadNext
-        ensures goes_on { (snaps : List Snap) (c : Call) (h : History) → GoesOnBehind self.old snaps c h place → MayDo range_means self.new snaps c h result }
+        ensures goes_on { (snaps : List Snap) (c : Call) (h : History) →
+            GoesOnBehind self.old snaps c h place → MayDo range_means self.new snaps c h result }
         ensures same { range_means.call self.new ≡ range_means.call self.old }
-        ensures nearer { (nodes : ℕ) → ComesNearer range_means self.new nodes result (slots_left place - 3 + range_means.behind self.old nodes) }
+        ensures nearer { (nodes : ℕ) →
+            ComesNearer range_means self.new nodes result (slots_left place - 3 + range_means.behind self.old nodes) }
     {
         if self.taken.len() >= self.most {
             return ReadNext::Validate;

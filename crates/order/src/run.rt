@@ -91,7 +91,8 @@ impl<R: Read + Drop> ReadRun<R> {
         ensures snaps { result.snaps.items ≡ [] }
         ensures limit { result.limit ≡ tries }
         ensures tries { result.tries ≡ tries - 1 }
-        ensures bound { (nodes : ℕ) → 0 < tries → read_left R.means result nodes ≤ tries * run_try_left R.means result nodes }
+        ensures bound { (nodes : ℕ) → 0 < tries →
+            read_left R.means result nodes ≤ tries * run_try_left R.means result nodes }
     {
         ReadRun {
             read,
@@ -129,7 +130,8 @@ impl<R: Read + Drop> ReadRun<R> {
     fn begin(&mut self) -> Turn<Result<R::Answer, Refused>>
         ensures turn { (c : Call) (begin h : History) → BeginsTry c h self.old.limit self.old.tries
             → IsReading R.means self.old.read self.old.snaps.items (begun_at c begin) h → ReadTurn R.means c h self.new result }
-        ensures begins { R.means.asks (R.means.call self.old.read) → MatchTurn result (λ _. Unit {0}) (λ _. ⊥) }
+        ensures begins { R.means.asks (R.means.call self.old.read) →
+            MatchTurn result (λ _. Unit {0}) (λ _. ⊥) }
         ensures same { IsSameRead R.means self.old self.new }
         ensures nearer { (nodes : ℕ) → ReadIsNearer R.means self.new nodes result
             (tries_left R.means self.old nodes + run_try_left R.means self.old nodes) }
@@ -157,7 +159,8 @@ impl<R: Read + Drop> ReadRun<R> {
             → IsReading R.means self.old.read self.old.snaps.items (begun_at c begin) h
             → IsContended (begun_at c begin) h node.0 scx.0 → ReadTurn R.means c h self.new result }
         ensures same { IsSameRead R.means self.old self.new }
-        ensures nearer { (nodes : ℕ) → ReadIsNearer R.means self.new nodes result (tries_left R.means self.old nodes) }
+        ensures nearer { (nodes : ℕ) →
+            ReadIsNearer R.means self.new nodes result (tries_left R.means self.old nodes) }
         ensures tries { (c : Call) (h : History) → R.means.asks (R.means.call self.old.read) → IsContended c h node.0 scx.0
             → KeepsTries c h self.old.tries self.new.tries result }
     {
@@ -300,7 +303,8 @@ impl<R: Read + Drop> ReadRun<R> {
             → Validates R.means self.old.read self.old.snaps.items (begun_at c begin) h look → VlxIsReady self.old.snaps.items asked (begun_at c look) h got
             → ReadTurn R.means c h self.new result }
         ensures same { IsSameRead R.means self.old self.new }
-        ensures nearer { (nodes : ℕ) → ReadIsNearer R.means self.new nodes result (tries_left R.means self.old nodes + vlx_left self.old.snaps.items asked) }
+        ensures nearer { (nodes : ℕ) →
+            ReadIsNearer R.means self.new nodes result (tries_left R.means self.old nodes + vlx_left self.old.snaps.items asked) }
         ensures tries { (c : Call) (begin h : History) → IsReading R.means self.old.read self.old.snaps.items c h
             → Validates R.means self.old.read self.old.snaps.items c h begin → VlxIsReady self.old.snaps.items asked (begun_at c begin) h got
             → KeepsTries c h self.old.tries self.new.tries result }
@@ -323,11 +327,13 @@ impl<R: Read + Drop> ReadRun<R> {
 
     /// Begins what comes next, and is at its place.
     fn stand(&mut self, next: ReadNext) -> Turn<Result<R::Answer, Refused>>
-        ensures turn { (c : Call) (h : History) → MayGoOn R.means c h self.old next → ReadTurn R.means c h self.new result }
+        ensures turn { (c : Call) (h : History) → MayGoOn R.means c h self.old next →
+            ReadTurn R.means c h self.new result }
         ensures same { IsSameRead R.means self.old self.new }
         ensures nearer { (nodes n : ℕ) → RunComesNearer R.means self.old nodes next n
             → ReadIsNearer R.means self.new nodes result (tries_left R.means self.old nodes + n) }
-        ensures tries { (c : Call) (h : History) → GoesOn R.means c h self.old (Ok next) → KeepsTries c h self.old.tries self.new.tries result }
+        ensures tries { (c : Call) (h : History) → GoesOn R.means c h self.old (Ok next) →
+            KeepsTries c h self.old.tries self.new.tries result }
     {
         match next {
             ReadNext::Load(load) => self.load(ReadAt::Load(load), Kind::LoadSettled, load.word()),
@@ -347,7 +353,8 @@ impl<R: Read + Drop> ReadRun<R> {
         ensures same { IsSameRead R.means self.old self.new }
         ensures nearer { (nodes n : ℕ) → IfOk next (λ now. RunComesNearer R.means self.old nodes now n)
             → ReadIsNearer R.means self.new nodes result (tries_left R.means self.old nodes + n) }
-        ensures tries { (c : Call) (h : History) → GoesOn R.means c h self.old next → KeepsTries c h self.old.tries self.new.tries result }
+        ensures tries { (c : Call) (h : History) → GoesOn R.means c h self.old next →
+            KeepsTries c h self.old.tries self.new.tries result }
     {
         match next {
             Ok(now) => self.stand(now),
@@ -385,13 +392,15 @@ impl<R: Read + Drop> ReadRun<R> {
     /// step if there is something to be found, and else ends. It gives up at most one try, if an
     /// SCX-record of another pass was in the way of the call; and none as it ends.
     pub fn step(&mut self, got: Option<u64>) -> Turn<Result<R::Answer, Refused>>
-        ensures turn { (c : Call) (h : History) → ReadIsReady R.means self.old c h got → ReadTurn R.means c h self.new result }
+        ensures turn { (c : Call) (h : History) → ReadIsReady R.means self.old c h got →
+            ReadTurn R.means c h self.new result }
         ensures begins { got ≡ None → R.means.asks (R.means.call self.old.read) → (c : Call) (h : History)
             → ReadIsReady R.means self.old c h None → MatchTurn result (λ _. Unit {0}) (λ _. ⊥) }
         ensures same { IsSameRead R.means self.old self.new }
         ensures nearer { (nodes : ℕ) → ReadFits R.means self.old got nodes
             → ReadIsNearer R.means self.new nodes result (read_left R.means self.old nodes) }
-        ensures tries { (c : Call) (h : History) → ReadIsReady R.means self.old c h got → KeepsTries c h self.old.tries self.new.tries result }
+        ensures tries { (c : Call) (h : History) → ReadIsReady R.means self.old c h got →
+            KeepsTries c h self.old.tries self.new.tries result }
     {
         let value = got.unwrap_or(0);
         match self.at {

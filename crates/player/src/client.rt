@@ -257,10 +257,13 @@ impl Client {
     /// Takes a node and an SCX-record of the share. No call of the map runs.
     fn take(&mut self) -> Result<(Fresh, ScxNo), Full>
         ensures same { self.new ≡ record self.old { share = self.new.share } }
-        ensures records { IfOk result (λ r. (r.0 ≡ (held self.old).next_node) × (r.1.0 ≡ (held self.old).next_scx)) }
+        ensures records { IfOk result (λ r. (r.0 ≡ (held self.old).next_node) ×
+            (r.1.0 ≡ (held self.old).next_scx)) }
         ensures some { OnOk result ((0 < (held self.old).nodes) × (0 < (held self.old).scx)) }
-        ensures left { IsSome self.old.share → OnOk result (self.new.share ≡ Some (after_taking (held self.old))) }
-        ensures full { IsSome self.old.share → IfErr result (λ f. IsFull (held self.old) f × (self.new.share ≡ self.old.share)) }
+        ensures left { IsSome self.old.share →
+            OnOk result (self.new.share ≡ Some (after_taking (held self.old))) }
+        ensures full { IsSome self.old.share →
+            IfErr result (λ f. IsFull (held self.old) f × (self.new.share ≡ self.old.share)) }
     {
         let Some(mut share) = self.share.take() else {
             let what = Resource::Nodes;
@@ -273,7 +276,8 @@ impl Client {
 
     /// Runs a machine from its start, which asks for a step first.
     fn run(&mut self, mut run: Run, then: Option<SetField>) -> Option<Answer>
-        ensures begins { (v : ClientView) → IsSound v → Starts v self.old run then → BeginsOrRefuses v self.old.begin self.old self.new result }
+        ensures begins { (v : ClientView) → IsSound v → Starts v self.old run then →
+            BeginsOrRefuses v self.old.begin self.old self.new result }
         ensures asks { (v : ClientView) → IsSound v → Starts v self.old run then → result ≡ None }
     {
         match run.next(None) {
@@ -287,7 +291,8 @@ impl Client {
 
     /// Gives the client what the step that it had asked for found: it asks for another, or answers.
     pub(crate) fn tell(&mut self, found: u64) -> Option<Answer>
-        ensures { (v : ClientView) (q : Running) → IsSound v → self.old.running ≡ Some q → Hears v self.old q found → HasBeenTold v self.old self.new result }
+        ensures { (v : ClientView) (q : Running) → IsSound v → self.old.running ≡ Some q →
+            Hears v self.old q found → HasBeenTold v self.old self.new result }
     {
         let ended = hear(&mut self.running, found)?;
         self.conclude(ended)
@@ -323,7 +328,8 @@ impl Client {
 
     /// What follows a machine that has answered: the client's answer, or the SCX of a `set`.
     fn after(&mut self, ended: Ended, then: Option<SetField>) -> Option<Answer>
-        ensures { (v : ClientView) (run : Run) → IsSound v → Answered v self.old run then ended → HasBeenTold v self.old self.new result }
+        ensures { (v : ClientView) (run : Run) → IsSound v → Answered v self.old run then ended →
+            HasBeenTold v self.old self.new result }
     {
         match ended {
             Ended::Llx(llx) => self.after_llx(llx, then),
@@ -332,7 +338,9 @@ impl Client {
     }
 
     fn after_llx(&mut self, llx: Llx, then: Option<SetField>) -> Option<Answer>
-        ensures { (v : ClientView) (m : LlxRun) → IsSound v → Answered v self.old (LlxOf m) then (LlxEnded llx) → HasBeenTold v self.old self.new result }
+        ensures { (v : ClientView) (m : LlxRun) → IsSound v →
+            Answered v self.old (LlxOf m) then (LlxEnded llx) →
+            HasBeenTold v self.old self.new result }
     {
         self.kept.keep(llx);
         match (llx, then) {
@@ -379,7 +387,8 @@ impl Client {
 
     /// The call that runs or comes next.
     pub(crate) fn call(&self, calls: &[Call]) -> Option<Call>
-        ensures here { (at : ℕ) (call : ScriptCall) → self.now.next ≡ Some at → slice_get calls.now at ≡ Some call → result ≡ Some call }
+        ensures here { (at : ℕ) (call : ScriptCall) → self.now.next ≡ Some at →
+            slice_get calls.now at ≡ Some call → result ≡ Some call }
         ensures one { IfSome result (λ call. (at : ℕ) × (slice_get calls.now at ≡ Some call)) }
     {
         calls.get(self.next?).copied()
@@ -464,7 +473,8 @@ impl Client {
 
 /// Gives a machine what its step found, in its place: it asks for another step, or has ended.
 fn hear(running: &mut Option<Running>, found: u64) -> Option<Ended>
-    ensures { (v : ClientView) (c : Client) (q : Running) → IsSound v → running.old ≡ Some q → Hears v c q found → HasHeard v c running.new result }
+    ensures { (v : ClientView) (c : Client) (q : Running) → IsSound v → running.old ≡ Some q →
+        Hears v c q found → HasHeard v c running.new result }
 {
     match running {
         Some(here) => match here.run.next(Some(found)) {

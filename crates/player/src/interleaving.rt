@@ -70,8 +70,10 @@ impl Interleaving {
         requires turns { self.old.turns < 2 ^ 64 - 1 }
         requires played { (lines : List Line) × IsBetweenTurns self.old lines }
         ensures script { script_view self.new.script ≡ script_view self.old.script }
-        ensures turn { OnOk result ((lines : List Line) → IsBetweenTurns self.old lines → HasMadeTurn self.old self.new lines client.0 more.new.items) }
-        ensures refused { OnErr result ((lines : List Line) → IsBetweenTurns self.old lines → IsBetweenTurns self.new lines) }
+        ensures turn { OnOk result ((lines : List Line) → IsBetweenTurns self.old lines →
+            HasMadeTurn self.old self.new lines client.0 more.new.items) }
+        ensures refused { OnErr result ((lines : List Line) → IsBetweenTurns self.old lines →
+            IsBetweenTurns self.new lines) }
     {
         self.places.reserve()?;
         let number = self.turns + 1;
@@ -109,7 +111,8 @@ impl Interleaving {
         requires next { number ≡ suc self.old.turns }
         requires asked { (lines : List Line) × IsStepAsked self.old lines client.0 number step }
         ensures script { script_view self.new.script ≡ script_view self.old.script }
-        ensures turn { (lines : List Line) → IsStepAsked self.old lines client.0 number step → HasMadeTurn self.old self.new lines client.0 more.new.items }
+        ensures turn { (lines : List Line) → IsStepAsked self.old lines client.0 number step →
+            HasMadeTurn self.old self.new lines client.0 more.new.items }
     {
         let before = self.words.apply(step);
         let row = arena::Row {
@@ -134,7 +137,8 @@ impl Interleaving {
         requires due { (lines : List Line) × IsEntryDue self.old lines number row.now }
         requires roomy { 1 ≤ room_for_changes self.old.places }
         ensures same { HasSameClients self.old self.new }
-        ensures logged { (lines : List Line) → IsEntryDue self.old lines number row.now → HasLogged self.old self.new lines number result }
+        ensures logged { (lines : List Line) → IsEntryDue self.old lines number row.now →
+            HasLogged self.old self.new lines number result }
     {
         let Some(entry) = self.entry(number, row) else {
             return None;
@@ -166,7 +170,8 @@ impl Interleaving {
     /// the field's node.
     fn entry(&self, number: u64, row: &arena::Row) -> Option<Entry>
         requires { (lines : List Line) × IsMade self.now lines number row.now }
-        ensures owed { (lines : List Line) → IsMade self.now lines number row.now → result ≡ entry_owed self.now.script.layout lines }
+        ensures owed { (lines : List Line) → IsMade self.now lines number row.now →
+            result ≡ entry_owed self.now.script.layout lines }
         ensures owner { IfSome result (λ e. e.client.0 < self.now.script.layout.passes) }
         ensures place { IfSome result (λ e. e.place ≡ suc self.now.entries) }
     {
@@ -189,7 +194,8 @@ impl Interleaving {
     /// The reply to the call that a client ends in this turn.
     fn reply(&mut self, client: PassNo, number: u64, answer: Answer) -> Finished
         requires client { client.0 < self.old.script.layout.passes }
-        requires begun { (c : Client) → slice_get self.old.clients.items client.0 ≡ Some c → c.begin ≤ number }
+        requires begun { (c : Client) → slice_get self.old.clients.items client.0 ≡ Some c →
+            c.begin ≤ number }
         ensures same { HasOtherClients self.old self.new }
         ensures replied { (c : Client) → slice_get self.old.clients.items client.0 ≡ Some c → c.pass.0 ≡ client.0 →
             IsReplied self.old self.new number answer c result }

@@ -28,7 +28,8 @@ pub(crate) fn begin(lines: &mut Lines, row: TurnRow, entry: Option<Entry>)
 /// The row of a turn, which is the first of its lines.
 pub(crate) fn row_of(turn: &[Line]) -> TurnRow
     requires { (row : TurnRow) × (behind : List Line) × (turn.now ≡ Line.Step row ∷ behind) }
-    ensures { (row : TurnRow) (behind : List Line) → turn.now ≡ Line.Step row ∷ behind → result ≡ row }
+    ensures { (row : TurnRow) (behind : List Line) → turn.now ≡ Line.Step row ∷ behind →
+        result ≡ row }
 {
     match turn {
         [Line::Step(row), ..] => *row,

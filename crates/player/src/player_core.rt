@@ -56,9 +56,12 @@ impl Core {
     pub fn step_into(&mut self, client: PassNo, more: &mut Lines) -> Result<(), NoMemory>
         requires client { client.0 < passes_of self.old }
         requires steps { turns_made self.old < 2 ^ 64 - 1 }
-        ensures turn { OnOk result ((p : PlayerView) → StandsAt self.old p → IsNextTurn p client.0 more.new.items) }
-        ensures stands { OnOk result ((p : PlayerView) → StandsAt self.old p → StandsAt self.new (with_lines p more.new.items)) }
-        ensures refused { OnErr result ((p : PlayerView) → StandsAt self.old p → StandsAt self.new p) }
+        ensures turn { OnOk result ((p : PlayerView) → StandsAt self.old p →
+            IsNextTurn p client.0 more.new.items) }
+        ensures stands { OnOk result ((p : PlayerView) → StandsAt self.old p →
+            StandsAt self.new (with_lines p more.new.items)) }
+        ensures refused { OnErr result ((p : PlayerView) → StandsAt self.old p →
+            StandsAt self.new p) }
         ensures lawful { (p : PlayerView) → StandsAt self.new p → IsPlayed p }
         ensures script { script_view self.new.script ≡ script_view self.old.script }
         ensures counted { OnOk result (turns_made self.new ≡ suc (turns_made self.old)) }
@@ -77,7 +80,8 @@ impl Core {
     /// Whether a client has a call left.
     pub fn has_call(&self, client: PassNo) -> bool
         requires { client.0 < passes_of self.now }
-        ensures is { (p : PlayerView) → StandsAt self.now p → result ≡ is_some (next_command p.script.calls p.lines client.0) }
+        ensures is { (p : PlayerView) → StandsAt self.now p →
+            result ≡ is_some (next_command p.script.calls p.lines client.0) }
         ensures lawful { (p : PlayerView) → StandsAt self.now p → IsPlayed p }
     {
         self.interleaving.has_call(client)

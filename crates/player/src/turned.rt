@@ -39,7 +39,8 @@ impl Turned {
 
 /// The kind of the step that a turn has made.
 fn kind_of(lines: &[Line]) -> Option<Kind>
-    ensures { (row : TurnRow) (behind : List Line) → lines.now ≡ Line.Step row ∷ behind → result ≡ kind_at row }
+    ensures { (row : TurnRow) (behind : List Line) → lines.now ≡ Line.Step row ∷ behind →
+        result ≡ kind_at row }
 {
     match lines.first() {
         Some(Line::Step(row)) => row.kind(),

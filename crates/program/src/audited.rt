@@ -21,14 +21,17 @@ pub fn audit_over<R: Read, O: Write, E: Write>(
     err: &mut E,
 ) -> u8
     // Of a reader whose bytes are known.
-    ensures lawful { (told : List ℕ) → R.remaining report.old.inner ≡ Some told → result ≡ 0 → IsReportOfLawfulRun told }
-    ensures deserved { (told : List ℕ) → R.remaining report.old.inner ≡ Some told → result ≡ 1 → (row : ℕ) × IsRefusedFor told row }
+    ensures lawful { (told : List ℕ) → R.remaining report.old.inner ≡ Some told → result ≡ 0 →
+        IsReportOfLawfulRun told }
+    ensures deserved { (told : List ℕ) → R.remaining report.old.inner ≡ Some told → result ≡ 1 →
+        (row : ℕ) × IsRefusedFor told row }
 
     // 4 exactly if a read or a write failed, as their counts say while they can rise.
     ensures failed { CanRise report.old.failures → CanRise out.old.failures →
         result ≡ 4 ↔ ((report.new.failures ≢ report.old.failures) ⊎ (out.new.failures ≢ out.old.failures)) }
 
-    ensures says { result ≡ 0 → Appends (O.contents out.old.inner) (O.contents out.new.inner) lawful_line }
+    ensures says { result ≡ 0 →
+        Appends (O.contents out.old.inner) (O.contents out.new.inner) lawful_line }
     ensures refused { result ≡ 1 → out.new ≡ out.old }
     ensures not_usage { result ≢ 2 }
     ensures status { result ≤ 4 }
@@ -44,8 +47,10 @@ fn audit_report<R: Read, O: Write>(
     report: &mut Metered<R>,
     out: &mut Metered<O>,
 ) -> Result<(), Fault>
-    ensures lawful { (told : List ℕ) → R.remaining report.old.inner ≡ Some told → OnOk result (IsReportOfLawfulRun told) }
-    ensures deserved { (told : List ℕ) → R.remaining report.old.inner ≡ Some told → IfErr result (IsDeservedByReport told) }
+    ensures lawful { (told : List ℕ) → R.remaining report.old.inner ≡ Some told →
+        OnOk result (IsReportOfLawfulRun told) }
+    ensures deserved { (told : List ℕ) → R.remaining report.old.inner ≡ Some told →
+        IfErr result (IsDeservedByReport told) }
     ensures well { OnOk result
         ((report.new.failures ≡ report.old.failures) × (out.new.failures ≡ out.old.failures)) }
     ensures failed { CanRise report.old.failures → CanRise out.old.failures →

@@ -62,7 +62,8 @@ pub fn answer_text(alloc: Global, answer: &Answer) -> Result<String, AllocError>
 pub fn answer_of(alloc: Global, text: &str, version: Version) -> Result<Option<Answer>, AllocError>
     ensures some { IfOk result (λ o. IfSome o (λ answer. text.now ≡ answer_text answer)) }
     ensures spelled { IfOk result (λ o. IfSome o (IsSpelledAnswer version)) }
-    ensures none { IfOk result (λ o. IfNone o ((answer : AnswerOf) → IsSpelledAnswer version answer → text.now ≢ answer_text answer)) }
+    ensures none { IfOk result (λ o. IfNone o ((answer : AnswerOf) →
+        IsSpelledAnswer version answer → text.now ≢ answer_text answer)) }
 {
     match plain_answer_of(text, version) {
         Some(answer) => Ok(Some(answer)),
@@ -95,7 +96,8 @@ fn pairs_answer_of(
 fn plain_answer_of(text: &str, version: Version) -> Option<Answer>
     ensures some { IfSome result (λ answer. text.now ≡ answer_text answer) }
     ensures spelled { IfSome result (IsSpelledAnswer version) }
-    ensures none { IfNone result ((answer : AnswerOf) → IsSpelledAnswer version answer → text.now ≡ answer_text answer → TellsPairs answer) }
+    ensures none { IfNone result ((answer : AnswerOf) → IsSpelledAnswer version answer →
+        text.now ≡ answer_text answer → TellsPairs answer) }
 {
     match text {
         "finalized" => Some(Answer::Finalized),

@@ -25,7 +25,8 @@ impl Counts {
         ensures before { IfOk result (λ before. before ≡ calls_counted self.old client.0) }
         ensures counted { OnOk result (calls_counted self.new client.0 ≡ min (calls_counted self.old client.0 + 1) (2 ^ 64 - 1)) }
         ensures unchanged { OnErr result (calls_counted self.new client.0 ≡ calls_counted self.old client.0) }
-        ensures others { (other : ℕ) → other ≢ client.0 → calls_counted self.new other ≡ calls_counted self.old other }
+        ensures others { (other : ℕ) → other ≢ client.0 →
+            calls_counted self.new other ≡ calls_counted self.old other }
     {
         let place = client.0 as usize;
         if self.calls.len() <= place {
@@ -37,8 +38,10 @@ impl Counts {
     }
     /// Counts a call, if it is of a client below `passes`.
     pub fn count_below(&mut self, passes: u32, client: PassNo) -> Result<(), AllocError>
-        ensures counted { client.0 < passes → OnOk result (calls_counted self.new client.0 ≡ min (calls_counted self.old client.0 + 1) (2 ^ 64 - 1)) }
-        ensures others { (other : ℕ) → other < passes → other ≢ client.0 → calls_counted self.new other ≡ calls_counted self.old other }
+        ensures counted { client.0 < passes →
+            OnOk result (calls_counted self.new client.0 ≡ min (calls_counted self.old client.0 + 1) (2 ^ 64 - 1)) }
+        ensures others { (other : ℕ) → other < passes → other ≢ client.0 →
+            calls_counted self.new other ≡ calls_counted self.old other }
     {
         if client.0 < passes {
             self.count(client)?;

@@ -14,7 +14,8 @@ pub fn fitted_to(command: Option<Command>, answer: Answer) -> Answer
     ensures form { result ≡ fitted_to command answer }
     ensures fits { IsInForm command result }
     ensures text { answer_text result ≡ answer_text answer }
-    ensures spelled { (version : Version) → IsSpelledAnswer version answer → IsSpelledAnswer version result }
+    ensures spelled { (version : Version) → IsSpelledAnswer version answer →
+        IsSpelledAnswer version result }
 {
     match command {
         Some(Command::Map(request)) => map_answer(&request, answer),
@@ -27,7 +28,8 @@ pub fn fitted_to(command: Option<Command>, answer: Answer) -> Answer
 fn map_answer(request: &Request<u64, u128>, answer: Answer) -> Answer
     ensures form { result ≡ map_answer request.now answer }
     ensures text { answer_text result ≡ answer_text answer }
-    ensures spelled { (version : Version) → IsSpelledAnswer version answer → IsSpelledAnswer version result }
+    ensures spelled { (version : Version) → IsSpelledAnswer version answer →
+        IsSpelledAnswer version result }
 {
     match answer {
         Answer::Full { what, left } => Answer::Map(Reply::Full(Full { what, left })),
@@ -40,7 +42,8 @@ fn map_answer(request: &Request<u64, u128>, answer: Answer) -> Answer
 fn cells_answer(answer: Answer) -> Answer
     ensures form { result ≡ cells_answer answer }
     ensures text { answer_text result ≡ answer_text answer }
-    ensures spelled { (version : Version) → IsSpelledAnswer version answer → IsSpelledAnswer version result }
+    ensures spelled { (version : Version) → IsSpelledAnswer version answer →
+        IsSpelledAnswer version result }
 {
     match answer {
         Answer::Map(Reply::Full(full)) => Answer::Full {
@@ -55,7 +58,8 @@ fn cells_answer(answer: Answer) -> Answer
 fn reply_to(request: &Request<u64, u128>, reply: Reply<u64, u128>) -> Reply<u64, u128>
     ensures form { result ≡ reply_to request.now reply }
     ensures text { reply_text result ≡ reply_text reply }
-    ensures spelled { (version : Version) → IsSpelledReply version reply → IsSpelledReply version result }
+    ensures spelled { (version : Version) → IsSpelledReply version reply →
+        IsSpelledReply version result }
 {
     match request {
         Request::Successor { .. }

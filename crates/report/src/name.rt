@@ -32,7 +32,8 @@ pub fn client_of(text: &str) -> Option<PassNo>
 /// The node and the SCX-record that was in the way there, as `n5 s2`.
 pub fn blame_of(text: &str) -> Option<(NodeNo, ScxNo)>
     ensures some { IfSome result (λ blame. text.now ≡ blame_text blame.0.0 blame.1.0) }
-    ensures none { IfNone result ((node scx : ℕ) → node < 2 ^ 64 → scx < 2 ^ 64 → text.now ≢ blame_text node scx) }
+    ensures none { IfNone result ((node scx : ℕ) → node < 2 ^ 64 → scx < 2 ^ 64 →
+        text.now ≢ blame_text node scx) }
 {
     let (node, scx) = text.split_once(' ')?;
     Some((node_of(node)?, scx_of(scx)?))

@@ -33,18 +33,21 @@ use texts::{Metered, Rows, by_failure_count};
 /// its call may give. Nothing is kept of a text that is refused. What was written of a record is
 /// read as one that has the same report.
 pub fn read_record<R: Read>(alloc: Global, from: &mut Metered<R>) -> Result<Record, ReportFault>
-    ensures rows { (bytes : List ℕ) → R.remaining from.old.inner ≡ Some bytes → IfOk result (λ told. IsReportOf told.script told.lines.items bytes) }
+    ensures rows { (bytes : List ℕ) → R.remaining from.old.inner ≡ Some bytes →
+        IfOk result (λ told. IsReportOf told.script told.lines.items bytes) }
     ensures again { (script : Script) (lines : List Line) → R.remaining from.old.inner ≡ Some (report_text script lines) →
         IfOk result (λ told. report_text told.script told.lines.items ≡ report_text script lines) }
     ensures calls { IfOk result (λ told. AreNumbered told.script.layout.passes (reverse told.lines.items)) }
     ensures forms { IfOk result (λ told. All (HasForm told.script.layout.passes told.script.calls.items) told.lines.items) }
 
     // A text that is refused is no report; the row that is named is the first that is as in none.
-    ensures refused { (bytes : List ℕ) → R.remaining from.old.inner ≡ Some bytes → IfErr result (IfRefused (IsFirstBadRow bytes)) }
+    ensures refused { (bytes : List ℕ) → R.remaining from.old.inner ≡ Some bytes →
+        IfErr result (IfRefused (IsFirstBadRow bytes)) }
 
     // Whether a read failed follows from the failure count, as long as it can rise.
     ensures ok { OnOk result (from.new.failures ≡ from.old.failures) }
-    ensures read { IsErrOf result ReportFault.Read → from.old.failures < 2 ^ 64 - 1 → from.new.failures ≢ from.old.failures }
+    ensures read { IsErrOf result ReportFault.Read → from.old.failures < 2 ^ 64 - 1 →
+        from.new.failures ≢ from.old.failures }
     ensures failed { from.new.failures ≢ from.old.failures → IsErrOf result ReportFault.Read }
 {
     let before = from.failures;
@@ -53,12 +56,14 @@ pub fn read_record<R: Read>(alloc: Global, from: &mut Metered<R>) -> Result<Reco
 }
 
 fn record_of<R: Read>(alloc: Global, from: &mut Metered<R>) -> Result<Record, RowFault>
-    ensures rows { (bytes : List ℕ) → R.remaining from.old.inner ≡ Some bytes → IfOk result (λ told. IsReportOf told.script told.lines.items bytes) }
+    ensures rows { (bytes : List ℕ) → R.remaining from.old.inner ≡ Some bytes →
+        IfOk result (λ told. IsReportOf told.script told.lines.items bytes) }
     ensures again { (script : Script) (lines : List Line) → R.remaining from.old.inner ≡ Some (report_text script lines) →
         IfOk result (λ told. report_text told.script told.lines.items ≡ report_text script lines) }
     ensures calls { IfOk result (λ told. AreNumbered told.script.layout.passes (reverse told.lines.items)) }
     ensures forms { IfOk result (λ told. All (HasForm told.script.layout.passes told.script.calls.items) told.lines.items) }
-    ensures fault { (bytes : List ℕ) → R.remaining from.old.inner ≡ Some bytes → IfErr result (IfBad (λ row _. IsFirstBadRow bytes row)) }
+    ensures fault { (bytes : List ℕ) → R.remaining from.old.inner ≡ Some bytes →
+        IfErr result (IfBad (λ row _. IsFirstBadRow bytes row)) }
 {
     let mut rows = Rows::new(alloc, from);
     let (version, script) = script_of(alloc, &mut rows)?;
@@ -83,8 +88,10 @@ fn script_of<R: Read + Drop>(
         IfOk result (λ told. IsAtRow R.remaining bytes
         (rows_of_calls told.0 told.1.layout.mode told.1.limits told.1.calls.items) 7 rows.new) }
     ensures reported { IfOk result (λ told. All (IsReported told.0 told.1.layout.mode told.1.layout.passes) told.1.calls.items) }
-    ensures behind { (bytes : List ℕ) → HasRead R.remaining bytes [] rows.old → OnOk result (¬ (IsCallRow (last_row rows.new))) }
-    ensures number { rows.old.number ≡ 0 → IfOk result (λ told. rows.new.number ≡ 3 + length told.1.calls.items) }
+    ensures behind { (bytes : List ℕ) → HasRead R.remaining bytes [] rows.old →
+        OnOk result (¬ (IsCallRow (last_row rows.new))) }
+    ensures number { rows.old.number ≡ 0 →
+        IfOk result (λ told. rows.new.number ≡ 3 + length told.1.calls.items) }
     ensures fault { (bytes : List ℕ) → HasRead R.remaining bytes [] rows.old → rows.old.number ≡ 0 →
         IfErr result (IfBad (λ row _. IsFirstBadRow bytes row)) }
 {

@@ -34,7 +34,8 @@ pub fn calls_of<R: Read + Drop>(
 ) -> Result<Vec<Call>, RowFault>
     ensures few { IfOk result (λ calls. vec_len calls ≤ 65536) }
     ensures accepted { IfOk result (λ calls. All (IsReported version layout.mode layout.passes) calls.items) }
-    ensures number { rows.old.number ≡ 3 → IfOk result (λ calls. rows.new.number ≡ 3 + vec_len calls) }
+    ensures number { rows.old.number ≡ 3 →
+        IfOk result (λ calls. rows.new.number ≡ 3 + vec_len calls) }
     ensures behind { (bytes : List ℕ) (before : List (List (List ℕ))) → IsAtRow R.remaining bytes before 7 rows.old →
         OnOk result (¬ (IsCallRow (last_row rows.new))) }
     ensures rows { (bytes : List ℕ) (before : List (List (List ℕ))) → IsAtRow R.remaining bytes before 7 rows.old →

@@ -25,7 +25,8 @@ pub fn title_of(fields: [&str; 7]) -> Option<(Version, Mode)>
 
 /// The mode of this name.
 fn mode_of(name: &str) -> Option<Mode>
-    ensures { MatchOption result ((mode : ModeOf) → name.now ≢ mode_text mode) (λ mode. name.now ≡ mode_text mode) }
+    ensures { MatchOption result ((mode : ModeOf) →
+        name.now ≢ mode_text mode) (λ mode. name.now ≡ mode_text mode) }
 {
     match name {
         "tree" => Some(Mode::Tree),
@@ -39,7 +40,8 @@ pub fn limits_of(fields: [&str; 7], mode: Mode) -> Option<(Limits, Layout)>
     ensures accepted { IfSome result (λ told. IsAccepted told.0) }
     ensures layout { IfSome result (λ told. IsLayoutOf told.0 mode told.1) }
     ensures row { IfSome result (λ told. texts fields.entry ≡ seven (limits_row told.0)) }
-    ensures none { IfNone result ((limits : LimitsOf) → IsAccepted limits → texts fields.entry ≢ seven (limits_row limits)) }
+    ensures none { IfNone result ((limits : LimitsOf) → IsAccepted limits →
+        texts fields.entry ≢ seven (limits_row limits)) }
 {
     let ["limits", passes, nodes, scx, tries, "", ""] = fields else {
         return None;

@@ -82,9 +82,11 @@ fn next_line<R: Read + Drop>(
     version: Version,
     replies: &mut Counts,
 ) -> Result<Line, RowFault>
-    ensures row { length (last_row rows.now) ≡ 7 → IfOk result (λ line. last_row rows.now ≡ seven (line_row line)) }
+    ensures row { length (last_row rows.now) ≡ 7 →
+        IfOk result (λ line. last_row rows.now ≡ seven (line_row line)) }
     ensures call { IfOk result (IsOfNextCall (calls_counted replies.old)) }
-    ensures form { (calls : List CallOf) → HasCommands commands.now passes calls → IfOk result (HasForm passes calls) }
+    ensures form { (calls : List CallOf) → HasCommands commands.now passes calls →
+        IfOk result (HasForm passes calls) }
     ensures counted { (lines : List Line) → HasCountedReplies replies.old passes lines → length lines < 2 ^ 64 - 1 →
         IfOk result (λ line. HasCountedReplies replies.new passes (line ∷ lines)) }
     ensures spelled { IfOk result (IsSpelledLine version) }
@@ -116,9 +118,11 @@ fn line_of(
 ) -> Result<Option<Line>, AllocError>
     ensures row { IfOk result (λ o. IfSome o (λ line. texts fields.entry ≡ seven (line_row line))) }
     ensures call { IfOk result (λ o. IfSome o (IsOfNextCall (calls_counted replies.now))) }
-    ensures form { (passes : ℕ) (calls : List CallOf) → HasCommands commands.now passes calls → IfOk result (λ o. IfSome o (HasForm passes calls)) }
+    ensures form { (passes : ℕ) (calls : List CallOf) → HasCommands commands.now passes calls →
+        IfOk result (λ o. IfSome o (HasForm passes calls)) }
     ensures spelled { IfOk result (λ o. IfSome o (IsSpelledLine version)) }
-    ensures none { IfOk result (λ o. IfNone o ((line : Line) → IsSpelledLine version line → texts fields.entry ≢ seven (line_row line))) }
+    ensures none { IfOk result (λ o. IfNone o ((line : Line) → IsSpelledLine version line →
+        texts fields.entry ≢ seven (line_row line))) }
 {
     if fields[0] != "reply" {
         return Ok(turn_or_entry_of(fields, version, replies));
@@ -135,7 +139,8 @@ fn turn_or_entry_of(fields: [&str; 7], version: Version, replies: &Counts) -> Op
     ensures call { IfSome result (IsOfNextCall (calls_counted replies.now)) }
     ensures form { (passes : ℕ) (calls : List CallOf) → IfSome result (HasForm passes calls) }
     ensures spelled { IfSome result (IsSpelledLine version) }
-    ensures none { IfNone result ((line : Line) → IsSpelledLine version line → texts fields.entry ≡ seven (line_row line) → IsReplyLine line) }
+    ensures none { IfNone result ((line : Line) → IsSpelledLine version line →
+        texts fields.entry ≡ seven (line_row line) → IsReplyLine line) }
 {
     match fields[0] {
         "step" => Some(Line::Step(turn_of(fields, version, replies)?)),
@@ -148,7 +153,8 @@ fn turn_of(fields: [&str; 7], version: Version, replies: &Counts) -> Option<Turn
     ensures row { IfSome result (λ row. texts fields.entry ≡ seven (line_row (StepLine row))) }
     ensures call { IfSome result (λ row. IsOfNextCall (calls_counted replies.now) (StepLine row)) }
     ensures spelled { IfSome result (IsSpelledTurn version) }
-    ensures none { IfNone result ((row : TurnRow) → IsSpelledTurn version row → texts fields.entry ≢ seven (line_row (StepLine row))) }
+    ensures none { IfNone result ((row : TurnRow) → IsSpelledTurn version row →
+        texts fields.entry ≢ seven (line_row (StepLine row))) }
 {
     match fields[3] {
         "idle" => idle_of(fields),
@@ -198,7 +204,8 @@ fn step_of(fields: [&str; 7], version: Version, replies: &Counts) -> Option<Turn
 fn entry_of(fields: [&str; 7]) -> Option<Entry>
     ensures row { IfSome result (λ entry. texts fields.entry ≡ seven (line_row (Log entry))) }
     ensures spelled { IfSome result IsSpelledEntry }
-    ensures none { IfNone result ((entry : EntryOf) → IsSpelledEntry entry → texts fields.entry ≢ seven (line_row (Log entry))) }
+    ensures none { IfNone result ((entry : EntryOf) → IsSpelledEntry entry →
+        texts fields.entry ≢ seven (line_row (Log entry))) }
 {
     let ["log", place, step, scx, client, call, ""] = fields else {
         return None;
@@ -217,8 +224,10 @@ fn reply_of(fields: [&str; 7], answer: Answer, commands: &Commands) -> Option<Li
     requires text { slice_index_or (texts fields) 6 [] ≡ answer_text answer }
     ensures row { IfSome result (λ line. texts fields.entry ≡ seven (line_row line)) }
     ensures call { (calls : ℕ → ℕ) → IfSome result (IsOfNextCall calls) }
-    ensures form { (passes : ℕ) (calls : List CallOf) → HasCommands commands.now passes calls → IfSome result (HasForm passes calls) }
-    ensures spelled { (version : VersionOf) → IsSpelledAnswer version answer → IfSome result (IsSpelledLine version) }
+    ensures form { (passes : ℕ) (calls : List CallOf) → HasCommands commands.now passes calls →
+        IfSome result (HasForm passes calls) }
+    ensures spelled { (version : VersionOf) → IsSpelledAnswer version answer →
+        IfSome result (IsSpelledLine version) }
     ensures none { IfNone result ((version : VersionOf) (reply : FinishedOf) → IsSpelledFinished version reply
         → texts fields.entry ≢ seven (line_row (ReplyLine reply))) }
 {

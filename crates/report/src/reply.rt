@@ -101,7 +101,8 @@ pub(crate) fn pairs_of(
 ) -> Result<Option<Reply<u64, u128>>, AllocError>
     ensures some { IfOk result (λ o. IfSome o (λ reply. codes "pairs" ++ rest_text told.entry ≡ reply_text reply)) }
     ensures spelled { IfOk result (λ o. IfSome o (IsSpelledReply version)) }
-    ensures none { IfOk result (λ o. IfNone o ((pairs : List (ℕ × ℕ)) → All (IsSpelledPair version) pairs → rest_text told.entry ≢ spaced_pairs pairs)) }
+    ensures none { IfOk result (λ o. IfNone o ((pairs : List (ℕ × ℕ)) →
+        All (IsSpelledPair version) pairs → rest_text told.entry ≢ spaced_pairs pairs)) }
 {
     let mut pairs = Vec::new(alloc);
     let mut left = told;
@@ -162,7 +163,8 @@ pub(crate) fn telling_reply_of(name: &str, told: &str, version: Version) -> Opti
 fn pair_of(text: &str, version: Version) -> Option<(u64, u128)>
     ensures some { IfSome result (λ pair. text.now ≡ both_text pair.0 pair.1) }
     ensures fits { IfSome result (IsSpelledPair version) }
-    ensures none { IfNone result ((pair : ℕ × ℕ) → IsSpelledPair version pair → text.now ≢ both_text pair.0 pair.1) }
+    ensures none { IfNone result ((pair : ℕ × ℕ) → IsSpelledPair version pair →
+        text.now ≢ both_text pair.0 pair.1) }
 {
     let (key, value) = text.split_once(' ')?;
     Some((number_of(key)?, version.value_of(value)?))
@@ -171,7 +173,8 @@ fn pair_of(text: &str, version: Version) -> Option<(u64, u128)>
 /// Two numbers, parted by a space.
 pub(crate) fn both_of(text: &str) -> Option<(u64, u64)>
     ensures some { IfSome result (λ both. text.now ≡ both_text both.0 both.1) }
-    ensures none { IfNone result ((first second : ℕ) → first < 2 ^ 64 → second < 2 ^ 64 → text.now ≢ both_text first second) }
+    ensures none { IfNone result ((first second : ℕ) → first < 2 ^ 64 → second < 2 ^ 64 →
+        text.now ≢ both_text first second) }
 {
     let (first, second) = text.split_once(' ')?;
     Some((number_of(first)?, number_of(second)?))
@@ -180,7 +183,8 @@ pub(crate) fn both_of(text: &str) -> Option<(u64, u64)>
 /// What a share has run out of.
 fn full_of(told: &str) -> Option<Full>
     ensures some { IfSome result (λ full. codes "full " ++ told.now ≡ full_text full.what full.left) }
-    ensures none { IfNone result ((what : ResourceOf) (left : ℕ) → left < 2 ^ 32 → codes "full " ++ told.now ≢ full_text what left) }
+    ensures none { IfNone result ((what : ResourceOf) (left : ℕ) → left < 2 ^ 32 →
+        codes "full " ++ told.now ≢ full_text what left) }
 {
     let (what, left) = told.split_once(' ')?;
     let left = small_number_of(left)?;

@@ -121,7 +121,8 @@ impl Stream {
     pub fn turn<W: Write>(&mut self, client: PassNo, to: &mut Metered<W>) -> Result<(), StreamFault>
         requires client { client.0 < passes_of self.old.core }
         requires steps { turns_made self.old.core < 2 ^ 64 - 1 }
-        ensures turn { OnOk result ((p : PlayerView) → StandsAt self.old.core p → IsNextTurn p client.0 self.new.lines.items) }
+        ensures turn { OnOk result ((p : PlayerView) → StandsAt self.old.core p →
+            IsNextTurn p client.0 self.new.lines.items) }
         ensures written { (start : Option (List ℕ)) (p : PlayerView) → HasWritten self.old start (W.contents to.old.inner) p →
             OnOk result (HasWritten self.new start (W.contents to.new.inner) (with_lines p self.new.lines.items)) }
 
@@ -133,7 +134,8 @@ impl Stream {
         ensures cut { (start : Option (List ℕ)) (p : PlayerView) → HasWritten self.old start (W.contents to.old.inner) p →
             OnErr result (IsTrue self.new.ended → IsCutAt start (W.contents to.new.inner) p client.0) }
         ensures failed { IsErrOf result StreamFault.Write → IsTrue self.new.ended }
-        ensures over { IsTrue self.old.ended → (result ≡ Err StreamFault.Ended) × (self.new ≡ self.old) × (to.new ≡ to.old) }
+        ensures over { IsTrue self.old.ended → (result ≡ Err StreamFault.Ended) ×
+            (self.new ≡ self.old) × (to.new ≡ to.old) }
         ensures why { result ≡ Err StreamFault.Ended → IsTrue self.old.ended }
 
         ensures lawful { (p : PlayerView) → StandsAt self.new.core p → IsPlayed p }

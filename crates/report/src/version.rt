@@ -21,7 +21,8 @@ impl Version {
 
     /// The version of this name.
     pub fn named(name: &str) -> Option<Version>
-        ensures { MatchOption result ((version : Version) → name.now ≢ version_text version) (λ version. name.now ≡ version_text version) }
+        ensures { MatchOption result ((version : Version) →
+            name.now ≢ version_text version) (λ version. name.now ≡ version_text version) }
     {
         match name {
             "1" => Some(Version::One),
@@ -53,7 +54,8 @@ impl Version {
 
     /// This word of a node, if the version has it.
     pub fn part(self, part: NodeWord) -> Option<NodeWord>
-        ensures { MatchOption result (¬ (HasPart self part)) (λ same. (same ≡ part) × HasPart self part) }
+        ensures { MatchOption result (¬ (HasPart self part)) (λ same. (same ≡ part) ×
+            HasPart self part) }
     {
         match (self, part) {
             (Version::One, NodeWord::Settled(SettledPart::High(_))) => None,
@@ -63,7 +65,8 @@ impl Version {
 
     /// This command, if it is one of the version.
     pub fn command(self, command: Command) -> Option<Command>
-        ensures { MatchOption result (¬ (HasCommand self command)) (λ same. (same ≡ command) × HasCommand self command) }
+        ensures { MatchOption result (¬ (HasCommand self command)) (λ same. (same ≡ command) ×
+            HasCommand self command) }
     {
         if self.has_command(&command) {
             Some(command)

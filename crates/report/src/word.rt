@@ -121,7 +121,8 @@ pub fn word_of(text: &str, version: Version) -> Option<Word>
 }
 
 fn node_part_of(name: &str) -> Option<NodeWord>
-    ensures { MatchOption result ((part : NodeWordOf) → name.now ≢ node_part part) (λ part. name.now ≡ node_part part) }
+    ensures { MatchOption result ((part : NodeWordOf) →
+        name.now ≢ node_part part) (λ part. name.now ≡ node_part part) }
 {
     match name {
         "head" => Some(NodeWord::Settled(SettledPart::Head)),
@@ -147,7 +148,8 @@ fn node_part_of(name: &str) -> Option<NodeWord>
 }
 
 fn scx_part_of(name: &str) -> Option<ScxWord>
-    ensures { MatchOption result ((part : ScxWordOf) → IsScxWord part → name.now ≢ scx_part part) (λ part. IsScxWord part × (name.now ≡ scx_part part)) }
+    ensures { MatchOption result ((part : ScxWordOf) → IsScxWord part →
+        name.now ≢ scx_part part) (λ part. IsScxWord part × (name.now ≡ scx_part part)) }
 {
     match name {
         "state" => Some(ScxWord::State),

@@ -34,8 +34,10 @@ impl Format for CallRows {
     fn entry(&self, row: &StringRecord) -> Result<Call, ScriptCause>
         ensures accepted { IfOk result (λ call. (call.client.0 < self.now.layout.passes) ×
             (mode_of call.command ≡ self.now.layout.mode) × IsCommand call.command) }
-        ensures row { IfOk result (λ call. length (fields_of row.now) ≡ 5 → fields_of row.now ≡ call_row call) }
-        ensures cause { IfErr result (λ cause. length (fields_of row.now) ≡ 5 → IsNoCall self.now.layout (fields_of row.now) cause) }
+        ensures row { IfOk result (λ call. length (fields_of row.now) ≡ 5 →
+            fields_of row.now ≡ call_row call) }
+        ensures cause { IfErr result (λ cause. length (fields_of row.now) ≡ 5 →
+            IsNoCall self.now.layout (fields_of row.now) cause) }
     {
         let client = client_of(field(row, 0), self.layout.passes).ok_or(ScriptCause::Client)?;
         let arguments = [field(row, 2), field(row, 3), field(row, 4)];

@@ -71,7 +71,8 @@ impl CellList {
 
     /// These and one more cell, if there are fewer than four and it is none of them.
     pub fn with(self, cell: Cell) -> Option<CellList>
-        ensures fits { IsSome result ↔ ((length (cells_of self) < 4) × ¬ (Contains (cells_of self) cell)) }
+        ensures fits { IsSome result ↔ ((length (cells_of self) < 4) ×
+            ¬ (Contains (cells_of self) cell)) }
         ensures cells { IfSome result (λ cells. cells_of cells ≡ cells_of self ++ cell ∷ []) }
     {
         if self.count == 4 || self.as_slice().contains(&cell) {

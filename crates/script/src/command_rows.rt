@@ -22,7 +22,8 @@ use texts::{number_of, small_number_of};
 /// arguments.
 #[tactic(auto, using(crate::proofs::Few::command_asks))]
 pub fn command_of(mode: Mode, name: &str, arguments: [&str; 3]) -> Result<Command, ScriptCause>
-    ensures command { IfOk result (λ command. (mode_of command ≡ mode) × IsCommand command × (name.now ∷ texts arguments.entry ≡ command_row command)) }
+    ensures command { IfOk result (λ command. (mode_of command ≡ mode) × IsCommand command ×
+        (name.now ∷ texts arguments.entry ≡ command_row command)) }
     ensures few { IfOk result AsksForFewPairs }
     ensures cause { IfErr result (IsNoCommand mode name.now (texts arguments.entry)) }
 {
@@ -34,7 +35,8 @@ pub fn command_of(mode: Mode, name: &str, arguments: [&str; 3]) -> Result<Comman
 
 /// The same of the commands on cells.
 fn cells_command_of(name: &str, arguments: [&str; 3]) -> Result<Command, ScriptCause>
-    ensures command { IfOk result (λ command. (mode_of command ≡ Mode.Records) × IsCommand command × (name.now ∷ texts arguments.entry ≡ command_row command)) }
+    ensures command { IfOk result (λ command. (mode_of command ≡ Mode.Records) ×
+        IsCommand command × (name.now ∷ texts arguments.entry ≡ command_row command)) }
     ensures cause { IfErr result (IsNoCommand Mode.Records name.now (texts arguments.entry)) }
 {
     match name {
@@ -48,7 +50,8 @@ fn cells_command_of(name: &str, arguments: [&str; 3]) -> Result<Command, ScriptC
 
 /// And of the calls of the map.
 fn map_command_of(name: &str, arguments: [&str; 3]) -> Result<Command, ScriptCause>
-    ensures command { IfOk result (λ command. (mode_of command ≡ Mode.Tree) × IsCommand command × (name.now ∷ texts arguments.entry ≡ command_row command)) }
+    ensures command { IfOk result (λ command. (mode_of command ≡ Mode.Tree) × IsCommand command ×
+        (name.now ∷ texts arguments.entry ≡ command_row command)) }
     ensures cause { IfErr result (IsNoCommand Mode.Tree name.now (texts arguments.entry)) }
 {
     match name {
@@ -69,7 +72,8 @@ fn map_command_of(name: &str, arguments: [&str; 3]) -> Result<Command, ScriptCau
 
 /// The command that a name's arguments say, or that they say none.
 fn or_argument(command: Option<Command>) -> Result<Command, ScriptCause>
-    ensures { MatchResult result (λ found. command ≡ Some found) (λ cause. (command ≡ None) × (cause ≡ ScriptCause.Argument)) }
+    ensures { MatchResult result (λ found. command ≡ Some found) (λ cause. (command ≡ None) ×
+        (cause ≡ ScriptCause.Argument)) }
 {
     match command {
         Some(command) => Ok(command),
@@ -241,7 +245,8 @@ fn range_of(arguments: [&str; 3]) -> Option<Command>
 /// How many pairs a range may take: 64 at most.
 #[tactic(auto, using(texts::proofs::Lemmas::same_number))]
 fn most_of(text: &str) -> Option<u32>
-    ensures { MatchOption result ((most : ℕ) → most ≤ 64 → text.now ≢ decimal most) (λ most. (most ≤ 64) × (text.now ≡ decimal most)) }
+    ensures { MatchOption result ((most : ℕ) → most ≤ 64 →
+        text.now ≢ decimal most) (λ most. (most ≤ 64) × (text.now ≡ decimal most)) }
 {
     let most = small_number_of(text)?;
     if most <= 64 { Some(most) } else { None }
@@ -249,7 +254,8 @@ fn most_of(text: &str) -> Option<u32>
 
 #[tactic(auto, using(texts::proofs::Lemmas::same_number))]
 fn cell_of(text: &str) -> Option<Cell>
-    ensures { MatchOption result ((node : ℕ) → IsCell node → text.now ≢ decimal node) (λ cell. IsCell cell × (text.now ≡ decimal cell)) }
+    ensures { MatchOption result ((node : ℕ) → IsCell node →
+        text.now ≢ decimal node) (λ cell. IsCell cell × (text.now ≡ decimal cell)) }
 {
     Cell::new(number_of(text)?)
 }
@@ -268,7 +274,8 @@ fn cells_of(text: &str) -> Option<CellList>
 
 /// These cells, if any, and one that is none of them; four are the most.
 fn one_more(cells: Option<CellList>, cell: Cell) -> Option<CellList>
-    ensures fits { IsSome result ↔ ((length (maybe_cells_of cells) < 4) × ¬ (Contains (maybe_cells_of cells) cell)) }
+    ensures fits { IsSome result ↔ ((length (maybe_cells_of cells) < 4) ×
+        ¬ (Contains (maybe_cells_of cells) cell)) }
     ensures cells { IfSome result (λ more. cells_of more ≡ maybe_cells_of cells ++ cell ∷ []) }
 {
     match cells {
@@ -301,7 +308,8 @@ fn change_of(text: &str) -> Option<((Cell, Side), u64)>
 }
 
 fn side_of(text: &str) -> Option<Side>
-    ensures { MatchOption result ((side : Side) → text.now ≢ side_text side) (λ side. text.now ≡ side_text side) }
+    ensures { MatchOption result ((side : Side) →
+        text.now ≢ side_text side) (λ side. text.now ≡ side_text side) }
 {
     match text {
         "left" => Some(Side::Left),

@@ -61,11 +61,13 @@ pub fn read_schedule<R: Read>(
     // Of a reader whose bytes are known: the schedule is what they say, and a fault is their first.
     ensures says { (bytes : List ℕ) → R.remaining from.old.inner ≡ Some bytes → IfOk result
         (λ schedule. SayOrders script.now.layout.passes bytes schedule.orders.items) }
-    ensures fault { (bytes : List ℕ) → R.remaining from.old.inner ≡ Some bytes → IfErr result (IfBad (IsScheduleFault script.now.layout.passes bytes)) }
+    ensures fault { (bytes : List ℕ) → R.remaining from.old.inner ≡ Some bytes →
+        IfErr result (IfBad (IsScheduleFault script.now.layout.passes bytes)) }
 
     // Whether a read failed follows from the failure count, as long as it can rise.
     ensures ok { OnOk result (from.new.failures ≡ from.old.failures) }
-    ensures read { IsErrOf result TextFault.Read → from.old.failures < 2 ^ 64 - 1 → from.new.failures ≢ from.old.failures }
+    ensures read { IsErrOf result TextFault.Read → from.old.failures < 2 ^ 64 - 1 →
+        from.new.failures ≢ from.old.failures }
     ensures failed { from.new.failures ≢ from.old.failures → IsErrOf result TextFault.Read }
 {
     let before = from.failures;
@@ -79,8 +81,10 @@ fn schedule_of<R: Read>(
     from: &mut Metered<R>,
 ) -> Result<Schedule, ScheduleFault>
     ensures orders { IfOk result (λ schedule. All (IsOrder passes) schedule.orders.items) }
-    ensures says { (bytes : List ℕ) → R.remaining from.old.inner ≡ Some bytes → IfOk result (λ schedule. SayOrders passes bytes schedule.orders.items) }
-    ensures fault { (bytes : List ℕ) → R.remaining from.old.inner ≡ Some bytes → IfErr result (IfBad (IsScheduleFault passes bytes)) }
+    ensures says { (bytes : List ℕ) → R.remaining from.old.inner ≡ Some bytes →
+        IfOk result (λ schedule. SayOrders passes bytes schedule.orders.items) }
+    ensures fault { (bytes : List ℕ) → R.remaining from.old.inner ≡ Some bytes →
+        IfErr result (IfBad (IsScheduleFault passes bytes)) }
 {
     let orders = Rows::new(alloc, from).entries(alloc, &OrderRows { passes })?;
     Ok(Schedule { orders })
@@ -114,7 +118,8 @@ impl Format for OrderRows {
 
     fn entry(&self, row: &StringRecord) -> Result<Order, ScheduleCause>
         ensures accepted { IfOk result (IsOrder self.now.passes) }
-        ensures row { IfOk result (λ order. length (fields_of row.now) ≡ 4 → fields_of row.now ≡ order_row order) }
+        ensures row { IfOk result (λ order. length (fields_of row.now) ≡ 4 →
+            fields_of row.now ≡ order_row order) }
         ensures cause { IfErr result (IsNoOrder self.now.passes (fields_of row.now)) }
     {
         let what = order_kind_of(field(row, 0)).ok_or(ScheduleCause::Command)?;

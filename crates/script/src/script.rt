@@ -76,11 +76,13 @@ pub fn read_script<R: Read>(
     // Of a reader whose bytes are known: the script is what they say, and a fault is their first.
     ensures says { (bytes : List ℕ) → R.remaining from.old.inner ≡ Some bytes → IfOk result
         (λ script. SayScript mode bytes script.limits script.layout script.calls.items) }
-    ensures fault { (bytes : List ℕ) → R.remaining from.old.inner ≡ Some bytes → IfErr result (IfBad (IsScriptFault mode bytes)) }
+    ensures fault { (bytes : List ℕ) → R.remaining from.old.inner ≡ Some bytes →
+        IfErr result (IfBad (IsScriptFault mode bytes)) }
 
     // Whether a read failed follows from the failure count, as long as it can rise.
     ensures ok { OnOk result (from.new.failures ≡ from.old.failures) }
-    ensures read { IsErrOf result TextFault.Read → from.old.failures < 2 ^ 64 - 1 → from.new.failures ≢ from.old.failures }
+    ensures read { IsErrOf result TextFault.Read → from.old.failures < 2 ^ 64 - 1 →
+        from.new.failures ≢ from.old.failures }
     ensures failed { from.new.failures ≢ from.old.failures → IsErrOf result TextFault.Read }
 {
     let before = from.failures;
@@ -96,7 +98,8 @@ fn script_of<R: Read>(
     ensures mode { IfOk result (λ script. script.layout.mode ≡ mode) }
     ensures says { (bytes : List ℕ) → R.remaining from.old.inner ≡ Some bytes → IfOk result
         (λ script. SayScript mode bytes script.limits script.layout script.calls.items) }
-    ensures fault { (bytes : List ℕ) → R.remaining from.old.inner ≡ Some bytes → IfErr result (IfBad (IsScriptFault mode bytes)) }
+    ensures fault { (bytes : List ℕ) → R.remaining from.old.inner ≡ Some bytes →
+        IfErr result (IfBad (IsScriptFault mode bytes)) }
 {
     let mut rows = Rows::new(alloc, from);
     let head = head_of(&mut rows, mode)?;
@@ -130,8 +133,10 @@ fn head_of<R: Read + Drop>(rows: &mut Rows<R>, mode: Mode) -> Result<(Limits, La
 fn limits_of(row: &StringRecord, mode: Mode) -> Option<(Limits, Layout)>
     ensures accepted { IfSome result (λ r. IsAccepted r.0) }
     ensures layout { IfSome result (λ r. IsLayoutOf r.0 mode r.1) }
-    ensures row { IfSome result (λ r. length (fields_of row.now) ≡ 5 → fields_of row.now ≡ limits_row r.0) }
-    ensures none { IfNone result ((limits : Limits) → IsAccepted limits → fields_of row.now ≢ limits_row limits) }
+    ensures row { IfSome result (λ r. length (fields_of row.now) ≡ 5 →
+        fields_of row.now ≡ limits_row r.0) }
+    ensures none { IfNone result ((limits : Limits) → IsAccepted limits →
+        fields_of row.now ≢ limits_row limits) }
 {
     if field(row, 0) != "limits" {
         return None;

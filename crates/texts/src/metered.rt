@@ -59,9 +59,11 @@ impl<T: Write> Write for Metered<T> {
 
         // To take none of no bytes is no failure.
         ensures some { IfOk result (λ n. 0 < n → self.new.failures ≡ self.old.failures) }
-        ensures no_bytes { OnOk result (length buf.now ≡ 0 → self.new.failures ≡ self.old.failures) }
+        ensures no_bytes { OnOk result (length buf.now ≡ 0 →
+            self.new.failures ≡ self.old.failures) }
 
-        ensures none { 0 < length buf.now → result ≡ Ok 0 → self.new.failures ≡ min (self.old.failures + 1) (2 ^ 64 - 1) }
+        ensures none { 0 < length buf.now → result ≡ Ok 0 →
+            self.new.failures ≡ min (self.old.failures + 1) (2 ^ 64 - 1) }
         ensures err { OnErr result (self.new.failures ≡ min (self.old.failures + 1) (2 ^ 64 - 1)) }
     {
         let taken = self.inner.write(buf);

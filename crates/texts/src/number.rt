@@ -69,7 +69,8 @@ impl Number for u128 {
 
 /// The number that a text spells: decimal digits, with no leading zero and no sign.
 pub fn number_of<N: Number>(text: &str) -> Option<N>
-    ensures { MatchOption result ((n : ℕ) → n < N.limit → text.now ≢ decimal n) (λ n. text.now ≡ decimal (N.number n)) }
+    ensures { MatchOption result ((n : ℕ) → n < N.limit →
+        text.now ≢ decimal n) (λ n. text.now ≡ decimal (N.number n)) }
 {
     let (first, more) = text.as_bytes().split_first()?;
     let digit = digit_of(*first)?;
@@ -86,7 +87,8 @@ pub fn number_of<N: Number>(text: &str) -> Option<N>
 /// The number that a digit spells.
 #[inline]
 fn digit_of(byte: u8) -> Option<u8>
-    ensures { MatchOption result ((n : ℕ) → n < 10 → byte ≢ 48 + n) (λ n. (n < 10) × (byte ≡ 48 + n)) }
+    ensures { MatchOption result ((n : ℕ) → n < 10 → byte ≢ 48 + n) (λ n. (n < 10) ×
+        (byte ≡ 48 + n)) }
 {
     match byte {
         b'0'..=b'9' => Some(byte - b'0'),
@@ -105,7 +107,8 @@ pub fn is_number(text: &str, number: u64) -> bool
 /// The same of a number below 2 ^ 32.
 #[tactic(auto, using(crate::proofs::Numbers::same_number))]
 pub fn small_number_of(text: &str) -> Option<u32>
-    ensures spells { MatchOption result ((n : ℕ) → n < 2 ^ 32 → text.now ≢ decimal n) (λ n. text.now ≡ decimal n) }
+    ensures spells { MatchOption result ((n : ℕ) → n < 2 ^ 32 →
+        text.now ≢ decimal n) (λ n. text.now ≡ decimal n) }
     ensures fits { IfSome result (λ n. n < 2 ^ 32) }
 {
     u32::try_from(number_of::<u64>(text)?).ok()

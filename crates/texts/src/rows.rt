@@ -30,7 +30,8 @@ pub trait Format {
 
     fn entry(&self, row: &StringRecord) -> Result<Self::Entry, Self::Cause>
         ensures accepted { IfOk result (grammar self.now).Accepts }
-        ensures row { IfOk result (λ entry. length (fields_of row.now) ≡ WIDTH → fields_of row.now ≡ (grammar self.now).row_of entry) }
+        ensures row { IfOk result (λ entry. length (fields_of row.now) ≡ WIDTH →
+            fields_of row.now ≡ (grammar self.now).row_of entry) }
         ensures cause { IfErr result (λ cause. length (fields_of row.now) ≡ WIDTH → (grammar self.now).IsNoEntry (fields_of row.now) cause) };
 
     ghost width: { (format : Self) → ((grammar format).width ≡ WIDTH) × (2 ≤ WIDTH) };
@@ -74,7 +75,8 @@ pub struct Rows<R> {
 impl<R: Read + Drop> Rows<R> {
     /// The rows of a reader, with none read yet.
     pub fn new(alloc: Global, from: R) -> Rows<R>
-        ensures none { (bytes : List ℕ) → R.remaining from ≡ Some bytes → HasRead R.remaining bytes [] result }
+        ensures none { (bytes : List ℕ) → R.remaining from ≡ Some bytes →
+            HasRead R.remaining bytes [] result }
         ensures number { result.number ≡ 0 }
     {
         Rows {
@@ -159,7 +161,8 @@ impl<R: Read + Drop> Rows<R> {
 
     fn entry<F: Format>(&self, format: &F) -> Result<F::Entry, TextFault<F::Cause>>
         ensures accepted { IfOk result (F.grammar format.now).Accepts }
-        ensures row { IfOk result (λ entry. length (last_row self.now) ≡ F.WIDTH → last_row self.now ≡ (F.grammar format.now).row_of entry) }
+        ensures row { IfOk result (λ entry. length (last_row self.now) ≡ F.WIDTH →
+            last_row self.now ≡ (F.grammar format.now).row_of entry) }
         ensures fault { length (last_row self.now) ≡ F.WIDTH
             → IfErr result (IfBad (λ row cause. (row ≡ self.now.number) × (F.grammar format.now).IsNoEntry (last_row self.now) cause)) }
     {
@@ -205,7 +208,8 @@ pub fn by_failure_count<T: Drop, C: Drop>(
     ensures read { IsErrOf result TextFault.Read → before < 2 ^ 64 - 1 → before ≢ after }
     ensures ok { OnOk result (before ≡ after × result ≡ read) }
     ensures bad { IfErr result (IfBad (λ row cause. read ≡ Err (TextFault.Bad row cause))) }
-    ensures kept { before ≡ after → (read ≡ Err TextFault.Read → before ≡ 2 ^ 64 - 1) → result ≡ read }
+    ensures kept { before ≡ after → (read ≡ Err TextFault.Read → before ≡ 2 ^ 64 - 1) →
+        result ≡ read }
 {
     match read {
         _ if before != after => Err(TextFault::Read),
