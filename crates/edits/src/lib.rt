@@ -14,4 +14,4 @@ pub use edit::{Edit, Look, Nodes, Nth, Work};
 pub use pairs::Pairs;
 pub use piece::Piece;
 pub use reading::{Known, Reading};
-pub use update::{Next, Stop, UpdateAt, UpdateRun, Updated, anew};
+pub use update::{Next, Stop, UpdateAt, UpdateRun, Updated, copied};

@@ -142,7 +142,7 @@ pub struct UpdateRun<E, A> {
 /// The same leaf, rebuilt from its parts. Copied as a whole it would take the bytes between them
 /// along, and a walk would have to write those at each fork.
 #[inline(always)]
-pub fn anew(found: &Found) -> Found
+pub fn copied(found: &Found) -> Found
     ensures { result ≡ found.now }
 {
     Found {

@@ -56,7 +56,7 @@ impl<E: Edit + Drop, A: Drop> UpdateRun<E, A> {
 
     /// The same update, at this place or at none.
     #[inline(always)]
-    pub fn stand<B>(self, at: B) -> UpdateRun<E, B>
+    pub fn placed_at<B>(self, at: B) -> UpdateRun<E, B>
         ensures { result ≡ standing self at }
     {
         UpdateRun {

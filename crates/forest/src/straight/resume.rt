@@ -14,7 +14,7 @@ use crate::straight::step::step;
 use crate::view::SeatView;
 use arena::{Layout, Machine, PassNo, ScxNo, Shape, Share, Turn};
 use atomic_table::Seat;
-use edits::{Edit, Next, Stop, UpdateAt, UpdateRun, Updated, anew};
+use edits::{Edit, Next, Stop, UpdateAt, UpdateRun, Updated, copied};
 use help::HelpRun;
 use std::mem::replace;
 use template::Found;
@@ -22,13 +22,13 @@ use template::Found;
 /// Takes an update out, to be put at a place. Until it is put back, another replaces it, whose
 /// share nobody takes from: that of some pass, since a share is always one's.
 #[inline(always)]
-fn take_up<E: Edit + Copy>(run: &mut UpdateRun<E, ()>, layout: &Layout) -> UpdateRun<E, UpdateAt>
+fn take_run<E: Edit + Copy>(run: &mut UpdateRun<E, ()>, layout: &Layout) -> UpdateRun<E, UpdateAt>
     requires some { 0 < layout.now.passes }
     ensures { result ≡ standing run.old Places.Start }
 {
     let share = Share::of(layout, PassNo(0));
     let other = UpdateRun::new(run.edit, share, 0, 0, ());
-    replace(run, other).stand(UpdateAt::Start)
+    replace(run, other).placed_at(UpdateAt::Start)
 }
 
 /// Makes the rest of an update from this turn of its machine on, and gives it back without a place.
@@ -54,7 +54,7 @@ fn finish<S: Shape, M: Machine<S>, E: Edit + Copy>(
                 turn = machine.step(Some(told));
             }
             Turn::Done(updated) => {
-                return (updated, machine.stand(()));
+                return (updated, machine.placed_at(()));
             }
         }
     }
@@ -102,8 +102,8 @@ pub(crate) fn from_next<S: Shape, M: Machine<S>, E: Edit + Copy>(
     ensures { TryEnds S.Shape M.Machine E.means hand.entry found.now
         seat.old run.old next seat.new run.new result }
 {
-    let machine = take_up(run, hand.layout);
-    let (updated, rest) = rest_from_next::<S, M, E>(hand, seat, machine, anew(found), next);
+    let machine = take_run(run, hand.layout);
+    let (updated, rest) = rest_from_next::<S, M, E>(hand, seat, machine, copied(found), next);
     *run = rest;
     updated
 }
@@ -151,8 +151,15 @@ pub(crate) fn from_block<S: Shape, M: Machine<S>, E: Edit + Copy>(
         UpdaterIsBlocked u ps run.old found.now scx help.now)
         (λ u ps. UpdaterEnds u ps run.new result) }
 {
-    let machine = take_up(run, hand.layout);
-    let (updated, rest) = rest_from_block::<S, M, E>(hand, seat, machine, anew(found), scx, *help);
+    let machine = take_run(run, hand.layout);
+    let (updated, rest) = rest_from_block::<S, M, E>(
+        hand,
+        seat,
+        machine,
+        copied(found),
+        scx,
+        *help,
+    );
     *run = rest;
     updated
 }

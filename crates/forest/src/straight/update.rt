@@ -19,7 +19,7 @@ use crate::view::SeatView;
 use arena::{Machine, NodeNo, ScxNo, Shape, Share};
 use arrayvec::ArrayVec;
 use atomic_table::Seat;
-use edits::{Edit, Next, Nodes, Reading, Stop, UpdateRun, Updated, Work, anew};
+use edits::{Edit, Next, Nodes, Reading, Stop, UpdateRun, Updated, Work, copied};
 use help::HelpRun;
 use prims::Snap;
 use template::{Found, Tree};
@@ -79,7 +79,7 @@ fn call<S: Shape, M: Machine<S>, E: Edit + Copy>(
         (λ u ps. UpdaterEnds u ps run.new result) }
 {
     let goal = run.edit.goal();
-    let found = anew(&walk::call::<S, M>(hand, seat, goal).0);
+    let found = copied(&walk::call::<S, M>(hand, seat, goal).0);
     let next = run.test_share(&found);
     try_on::<S, M, E>(hand, seat, run, &found, next)
 }

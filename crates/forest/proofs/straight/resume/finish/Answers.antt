@@ -37,6 +37,6 @@ loop-turn-smaller g c = rw c.in-Ask.is (let w = weighs c.step-turn.result _ _ (n
 pub returns-in-Done : goal.returns-in-Done
 returns-in-Done g c = record {
   table = c.loop-turn.invariant.here;
-  to = λ u x. ends_nowhere u _ c.loop-turn.machine _ c.stand.result c.in-Done.updated c.stand.ensures (rw c.in-Done.is at c.loop-turn.invariant.stands u x);
+  to = λ u x. ends_nowhere u _ c.loop-turn.machine _ c.placed_at.result c.in-Done.updated c.placed_at.ensures (rw c.in-Done.is at c.loop-turn.invariant.stands u x);
   steps = (let steps = c.loop-turn.invariant.steps in omega (arith, steps));
 }

@@ -11,10 +11,10 @@ use Rattle.forest.proofs.straight.update.call.Goals.{After-test_share-next}
 use Rattle.forest.proofs.straight.update.call.Goals as goal
 
 -- whichever call began, after its walk it continues as its try does
-goes_on : (g : Over) (c : After-test_share-next g) (u : Updater (calls g.S.Shape g.M.Machine c.args.hand.layout.now c.args.hand.number) g.E.Edit.means) → UpdaterBegins u c.args.seat.now.me.0.passes c.args.run.now → UpdaterGoesOn u c.call.new.seat.me.0.passes c.test_share-next.new.self c.anew-found.result c.test_share-next.result
-goes_on g c u x = finds u _ c.args.run.now c.test_share-next.new.self c.goal-goal.result c.call.result.1 c.anew-found.result c.test_share-next.result c.goal-goal.ensures c.test_share-next.ensures.same c.test_share-next.ensures.tries c.test_share-next.ensures.spends
+goes_on : (g : Over) (c : After-test_share-next g) (u : Updater (calls g.S.Shape g.M.Machine c.args.hand.layout.now c.args.hand.number) g.E.Edit.means) → UpdaterBegins u c.args.seat.now.me.0.passes c.args.run.now → UpdaterGoesOn u c.call.new.seat.me.0.passes c.test_share-next.new.self c.copied-found.result c.test_share-next.result
+goes_on g c u x = finds u _ c.args.run.now c.test_share-next.new.self c.goal-goal.result c.call.result.1 c.copied-found.result c.test_share-next.result c.goal-goal.ensures c.test_share-next.ensures.same c.test_share-next.ensures.tries c.test_share-next.ensures.spends
     (λ b h. c.test_share-next.ensures.turn u.call b h)
-    (subst (λ (f : Found). WalkerFinds (walker u c.args.run.now) c.call.new.seat.me.0.passes c.goal-goal.result c.call.result.1 f) (sym c.anew-found.ensures)
+    (subst (λ (f : Found). WalkerFinds (walker u c.args.run.now) c.call.new.seat.me.0.passes c.goal-goal.result c.call.result.1 f) (sym c.copied-found.ensures)
     (c.call.ensures.finds (walker u c.args.run.now) (walks u _ c.args.run.now c.goal-goal.result c.goal-goal.ensures x)))
 
 pub call-requires-clause-waits : goal.call-requires-clause-waits
@@ -30,5 +30,5 @@ pub returns : goal.returns
 returns g c = record {
   table = search rules;
   to = λ u x. c.try_on.ensures.to u (goes_on g (goal.at.returns g c).After-test_share-next u x);
-  steps = both_steps _ _ _ c.try_on.ensures.steps (walk_steps _ _ _ _ _ _ c.call.ensures.steps (weighs_next g.E.Edit.means c.test_share-next.new.self c.anew-found.result c.test_share-next.result _ _ (c.test_share-next.ensures.nearer (shared_nodes c.args.hand.layout.now))));
+  steps = both_steps _ _ _ c.try_on.ensures.steps (walk_steps _ _ _ _ _ _ c.call.ensures.steps (weighs_next g.E.Edit.means c.test_share-next.new.self c.copied-found.result c.test_share-next.result _ _ (c.test_share-next.ensures.nearer (shared_nodes c.args.hand.layout.now))));
 }
