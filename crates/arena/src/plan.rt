@@ -15,6 +15,7 @@ pub struct Plan(pub u64);
 impl Plan {
     /// The plan of an SCX-record over `count` nodes, 1 to 4, where `removed` says of each whether
     /// it is to be finalized.
+    #[inline(always)]
     pub fn new(count: usize, removed: [bool; 4], at: MemberIndex, side: Side) -> Plan
         requires { count ≤ 4 }
         ensures { result.0 ≡ count + 8 * removed_bits removed + 128 * member_index at + 512 * side_no side }
@@ -86,6 +87,7 @@ impl Plan {
     }
 
     /// The place of the node whose field is changed.
+    #[inline(always)]
     pub fn at(self) -> MemberIndex
         ensures { member_index result ≡ field_index_of self.0 }
     {
@@ -93,6 +95,7 @@ impl Plan {
     }
 
     /// The side of the field that is changed.
+    #[inline(always)]
     pub fn side(self) -> Side
         ensures { result ≡ side_of self.0 }
     {
