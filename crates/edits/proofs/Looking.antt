@@ -33,7 +33,7 @@ use Rattle.edits.specs.declared.piece.Piece.{Piece}
 use Rattle.edits.specs.declared.update.UpdateRun.{UpdateRun}
 use Rattle.edits.specs.Next.{standing}
 use Rattle.edits.specs.Edits.{EditMeaning}
-use Rattle.edits.specs.Known.{RestsWith, MayBeginTry, HasNodesFor, HasTaken, without, HasSnappedAfterWalk, AreUsable, AreSeen, CanLook, CanWork, Looks, TryWaits, piece}
+use Rattle.edits.specs.Known.{RestsWith, MayBeginTry, HasNodesFor, HasTakenNodes, without, HasSnappedAfterWalk, AreUsable, AreSeen, CanLook, CanWork, Looks, TryWaits, piece}
 use Rattle.edits.specs.Pieces.{top_of}
 use Rattle.edits.specs.Steps.{HasAsked}
 use Rattle.edits.specs.Laws.Hand.{HasFilledTo}
@@ -153,7 +153,7 @@ is_needed e m c h f x = subst (λ (w : Work). 0 < w.need) x.asked x.room.some
 
 module _ {E : Type 0} (e : EditMeaning E) {A : Type 0} (m now : UpdateRun E A) (c : Call) (h : History) (f : Found) (x : CanLook e m c h f) (enough : e.looks m.edit f m.snaps.items ≡ Enough) where
   -- the taken nodes are in hand, and none is filled
-  takes : now ≡ record m { share = now.share; nodes = now.nodes } → HasTaken m.work.need m.share now.share now.nodes → CanWork e (record m { share = now.share; nodes = now.nodes }) c h f
+  takes : now ≡ record m { share = now.share; nodes = now.nodes } → HasTakenNodes m.work.need m.share now.share now.nodes → CanWork e (record m { share = now.share; nodes = now.nodes }) c h f
   takes same t = record {
     works = record {
       run = x.begins.run;
@@ -175,7 +175,7 @@ module _ {E : Type 0} (e : EditMeaning E) {A : Type 0} (m now : UpdateRun E A) (
       last : top_of m.work.need now.nodes ≡ now.nodes.first.0 + (min m.work.need 3 - 1)
       last = top_is m.work.need now.nodes t.in_order
 
-  pub takes_nodes : now ≡ record m { share = now.share; nodes = now.nodes } → (HasNodesFor m.work.need m.share → HasTaken m.work.need m.share now.share now.nodes) → CanWork e now c h f
+  pub takes_nodes : now ≡ record m { share = now.share; nodes = now.nodes } → (HasNodesFor m.work.need m.share → HasTakenNodes m.work.need m.share now.share now.nodes) → CanWork e now c h f
   takes_nodes same taken = subst (λ (n : UpdateRun E A). CanWork e n c h f) (sym same) (takes same (taken x.room))
 
 -- A snapshot is kept

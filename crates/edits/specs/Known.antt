@@ -141,7 +141,7 @@ abbrev pub without : Remaining → ℕ → Remaining
 without left many = record left { next_node = left.next_node + many; nodes = left.nodes - many }
 
 -- as many as are needed, three at most, were taken out of the share, the next ones
-pub record HasTaken (need : ℕ) (left now : Remaining) (ns : Nodes) : Type 0 where
+pub record HasTakenNodes (need : ℕ) (left now : Remaining) (ns : Nodes) : Type 0 where
   pub first : ns.first.0 ≡ left.next_node
   pub in_order : StandInRow need ns
   pub share : now ≡ without left (min need 3)

@@ -14,7 +14,7 @@ impl<E: Edit + Drop, A: Drop> UpdateRun<E, A> {
     ghost use Rattle.std.specs.Prelude.{◌≡◌, ℕ, ◌<◌, ◌≤◌, ◌*◌, ◌+◌, ◌-◌, length};
     ghost use Rattle.std.specs.Prelude.{◌≢◌, IfNone, IfSome, None, Some, Ok, true};
     ghost use Rattle.template.specs.FoundLeaf.{HasFoundGoal};
-    ghost use Rattle.edits.specs.Known.{HasNodesFor, HasTaken, IsShort, IsFilledUpTo, CanScx};
+    ghost use Rattle.edits.specs.Known.{HasNodesFor, HasTakenNodes, IsShort, IsFilledUpTo, CanScx};
     ghost use Rattle.edits.specs.Pieces.{fills_after, part_behind, less_a_node};
     ghost use Rattle.edits.specs.Readings.{is_at_pair, next_read, reads_left};
     ghost use Rattle.arena.specs.History.{History, value};
@@ -188,7 +188,7 @@ impl<E: Edit + Drop, A: Drop> UpdateRun<E, A> {
         ensures spent { ((most : ℕ) → 0 < most → self.old.work.need ≤ most → self.old.share.nodes ≤ self.new.share.nodes + most)
             × (self.new.share.scx ≡ self.old.share.scx) }
         ensures taken { HasNodesFor self.old.work.need self.old.share
-            → HasTaken self.old.work.need self.old.share self.new.share self.new.nodes }
+            → HasTakenNodes self.old.work.need self.old.share self.new.share self.new.nodes }
     {
         self.nodes.first = self.take();
         if self.work.need < 2 {

@@ -21,7 +21,7 @@ use Rattle.template.specs.Trails.{IsOwnMoment}
 use Rattle.order.specs.Found.{AreThere, GoesTo, IsAtLowFork, IsReading, IsThere, Looks, Stands, StandsIn, TakesPair, WalksTo, head_at, key_at, more_at, pairs_behind, place_key, place_pair, place_value}
 use Rattle.order.specs.Laws.Search.{Finds, FindsNone, IsAnswer, IsBeside, IsSearched, IsSearchedIn}
 use Rattle.order.specs.Loads.{first_in_leaf, place_behind}
-use Rattle.order.specs.Neighbour.{IsInLeaf, IsLeft, IsOnRoute, IsRest, Leaves, LooksOnRoute, asks_on_route, alone, beside_path, children_on, children_toward, is_answer, is_past, leaf_load, leaving, neighbour_means, route_above, route_at, route_below, second_path_left, start_slot, turn_by, ways}
+use Rattle.order.specs.Neighbour.{IsInLeaf, IsLeft, IsOnRoute, IsRest, Leaves, LooksOnRoute, asks_on_route, alone, beside_path, children_on, children_toward, is_answer, is_past, leaf_load, after_leaf, neighbour_means, route_above, route_at, route_below, second_path_left, start_slot, turn_by, ways}
 use Rattle.order.specs.Next.{MayDo, MayLoad, MayValidate}
 use Rattle.order.specs.Reads.{HasStood, Whenever}
 use Rattle.order.specs.LastTurns.{first_children, turned_at}
@@ -255,7 +255,7 @@ low_looks r snaps c h low n key reading x key_is = looks_at r snaps c h n readin
 -- After the keys of a leaf
 
 -- it takes what is left, or is done
-pub leaves_to : (r : Neighbour) (n : NodeNo) (snaps : List Snap) (c : Call) (h : History) → IsReading neighbour_means r snaps c h → Leaves r n snaps c h → MayDo neighbour_means (record r { route = Beyond; found = None }) snaps c h (leaving r.route n)
+pub leaves_to : (r : Neighbour) (n : NodeNo) (snaps : List Snap) (c : Call) (h : History) → IsReading neighbour_means r snaps c h → Leaves r n snaps c h → MayDo neighbour_means (record r { route = Beyond; found = None }) snaps c h (after_leaf r.route n)
 leaves_to r n snaps c h reading x = go r.route refl
   where
     after : Neighbour
@@ -272,7 +272,7 @@ leaves_to r n snaps c h reading x = go r.route refl
       right = λ b run e hold ps spelled. let y = none b run e hold in ap pair_or_none (finds_tells c.layout b r.side r.key y.found ps y.finds reading.suits spelled ∙ y.none);
     }
 
-    go : (route : Route) → r.route ≡ route → MayDo neighbour_means after snaps c h (leaving route n)
+    go : (route : Route) → r.route ≡ route → MayDo neighbour_means after snaps c h (after_leaf route n)
     go Above e = ends (left_then Above e)
     go Beyond e = ends (left_then Beyond e)
     go (Along None) e = ends (left_then (Along None) e)
@@ -289,7 +289,7 @@ reading_on : (r : Neighbour) (route : Route) (snaps : List Snap) (c : Call) (h :
 reading_on r route snaps c h x = record { reads = x.reads; suits = x.suits }
 
 -- so it is at a leaf above all keys
-pub leaves_high : (r : Neighbour) (snaps : List Snap) (c : Call) (h : History) (n : NodeNo) → IsReading neighbour_means r snaps c h → Stands neighbour_means r snaps c h n.0 → is_leaf (value h) n.0 ≡ true → IsOwnMoment c h → class (value h) n.0 ≢ 0 → MayDo neighbour_means (record r { route = Beyond; found = None }) snaps c h (leaving (route_above r.side r.route) n)
+pub leaves_high : (r : Neighbour) (snaps : List Snap) (c : Call) (h : History) (n : NodeNo) → IsReading neighbour_means r snaps c h → Stands neighbour_means r snaps c h n.0 → is_leaf (value h) n.0 ≡ true → IsOwnMoment c h → class (value h) n.0 ≢ 0 → MayDo neighbour_means (record r { route = Beyond; found = None }) snaps c h (after_leaf (route_above r.side r.route) n)
 leaves_high r snaps c h n reading x leaf own high = leaves_to (record r { route = route_above r.side r.route }) n snaps c h (reading_on r (route_above r.side r.route) snaps c h reading) (leaves_above r snaps c h n reading x leaf own high)
 
 -- At the key of a pair
@@ -414,7 +414,7 @@ module _ (r : Neighbour) (snaps : List Snap) (c : Call) (h : History) (p : LeafP
       }
 
 -- so it goes on from its last pair
-pub leaves_low : (r : Neighbour) (snaps : List Snap) (c : Call) (h : History) (p : LeafPlace) (key : ℕ) → IsReading neighbour_means r snaps c h → StandsIn neighbour_means r snaps c h p → place_key h p ≡ key → IsOwnMoment c h → is_answer r.side r.route r.key key ≡ false → is_past r.side r.key key ≡ false → place_behind p ≡ None → MayDo neighbour_means (record r { route = Beyond; found = None }) snaps c h (leaving (route_at r.side r.route p.slot key) p.node)
+pub leaves_low : (r : Neighbour) (snaps : List Snap) (c : Call) (h : History) (p : LeafPlace) (key : ℕ) → IsReading neighbour_means r snaps c h → StandsIn neighbour_means r snaps c h p → place_key h p ≡ key → IsOwnMoment c h → is_answer r.side r.route r.key key ≡ false → is_past r.side r.key key ≡ false → place_behind p ≡ None → MayDo neighbour_means (record r { route = Beyond; found = None }) snaps c h (after_leaf (route_at r.side r.route p.slot key) p.node)
 leaves_low r snaps c h p key reading x key_is own not here is = leaves_to (record r { route = route_at r.side r.route p.slot key }) p.node snaps c h (reading_on r (route_at r.side r.route p.slot key) snaps c h reading) (leaves_last r snaps c h p key reading x key_is own not here is)
 
 -- At the pair of the answer

@@ -30,7 +30,7 @@ use Rattle.template.specs.declared.walk.Found.{Found}
 use Rattle.ordered_map.specs.declared.rule.Goal.TheVariants.{Key as ToKey}
 use Rattle.template.proofs.Lemmas.{own_since, opened_if_stood}
 use Rattle.order.specs.Found.{GoesTo, IsReading, IsThere, Looks, Stands, WalksTo}
-use Rattle.order.specs.Known.{AreLastTurns, HasTurned, IsLastTurn, Validates}
+use Rattle.order.specs.Known.{AreLastTurns, LastTurned, IsLastTurn, Validates}
 use Rattle.order.specs.Meaning.{ReadMeaning}
 use Rattle.order.specs.Next.{MayValidate}
 use Rattle.order.specs.Reads.{HasStood, Reads}
@@ -43,7 +43,7 @@ use Rattle.order.proofs.Snapping.{hold_before, some_more, reads_one_more, child_
 -- The fork where the search begins
 
 -- the root is a fork of class 2
-root_turned : (c : Call) (h : History) (k : ℕ) (f : Found) → IsTreeRun c.layout h → k < 2 ^ 64 → HasFoundLeaf c h k f → HasTurned c h k Left 0
+root_turned : (c : Call) (h : History) (k : ℕ) (f : Found) → IsTreeRun c.layout h → k < 2 ^ 64 → HasFoundLeaf c h k f → LastTurned c h k Left 0
 root_turned c h k f run small a = record { passed = record { first = a.trail.node.first; own = a.trail.node.own; passed = there }; fork = rw head refl; turn = rw (lt-ltb k (rank (value h) 0) high) refl }
   where
     head : value h (node 0 (Settled HeadWord)) ≡ 2
@@ -58,12 +58,12 @@ root_turned c h k f run small a = record { passed = record { first = a.trail.nod
         let x : Passed p.0 p.0 k 0 = walk_first c.layout p.0 k (run_since c.layout h p.0 run p.1) in
         (x.0, ends_trans h p.0 x.0 p.1 x.1, ends_trans x.0 p.0 a.trail.node.first x.2 p.2, x.3)
 
-last_turned : (c : Call) (h : History) (k n : ℕ) (side : Side) (f : Found) → IsTreeRun c.layout h → k < 2 ^ 64 → HasFoundLeaf c h k f → IsLastTurn c h k side n → HasTurned c h k (turned_at side n) n
+last_turned : (c : Call) (h : History) (k n : ℕ) (side : Side) (f : Found) → IsTreeRun c.layout h → k < 2 ^ 64 → HasFoundLeaf c h k f → IsLastTurn c h k side n → LastTurned c h k (turned_at side n) n
 last_turned c h k n Left f run small a (inl e) = rw e (root_turned c h k f run small a)
 last_turned c h k n Left f run small a (inr x) = x
 last_turned c h k n Right f run small a last = go (ℕ_discrete n 0) last
   where
-    go : Dec (n ≡ 0) → IsLastTurn c h k Right n → HasTurned c h k (turned_at Right n) n
+    go : Dec (n ≡ 0) → IsLastTurn c h k Right n → LastTurned c h k (turned_at Right n) n
     go (yes e) x = rw e (root_turned c h k f run small a)
     go (no d) (inl e) = absurd (d e)
     go (no d) (inr x) = rw (ne_eqb n 0 d) x
@@ -80,7 +80,7 @@ look_ready c h snaps n llx reads stood is at = record {
 
 module _ {R A : Type 0} (means : ReadMeaning R A) (r : R) (snaps : List Snap) (c : Call) (h : History) (reading : IsReading means r snaps c h) where
   -- where its walk has last turned to its side it may look
-  looks_first : (key : ℕ) (side : Side) (n : ℕ) → WalksTo means r key side → HasTurned c h key (turned_at side n) n → Looks means r snaps c h (first_children side n) 0 n
+  looks_first : (key : ℕ) (side : Side) (n : ℕ) → WalksTo means r key side → LastTurned c h key (turned_at side n) n → Looks means r snaps c h (first_children side n) 0 n
   looks_first key side n w x = record {
     stood = record {
       stood = stood;

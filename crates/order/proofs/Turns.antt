@@ -38,10 +38,10 @@ use Rattle.template.specs.declared.walk.WalkAt.{WalkAt}
 use Rattle.template.specs.declared.walk.WalkAt.TheVariants.{Start as WalkStart, Root as WalkRoot, Head as AtHead, Key as AtKey, Child, More as AtMore, Pair as AtPair, Value as AtValue, High as AtHigh}
 use Rattle.template.specs.declared.walk.WalkRun.{WalkRun}
 use Rattle.order.specs.Found.{BeginsAtRoot, BeginsSo, IsReading, Looks, WalksTo}
-use Rattle.order.specs.Known.{AreLastTurns, HasTurned, IsLastTurn, IsSameRead, ReadAnswers, ReadGoes, ReadIsReady, ReadIsToldAt, ReadTurn, ReadWaits, RunStands, Validates, Walks, WalksInTry}
+use Rattle.order.specs.Known.{AreLastTurns, LastTurned, IsLastTurn, IsSameRead, ReadAnswers, ReadGoes, ReadIsReady, ReadIsToldAt, ReadTurn, ReadWaits, RunStands, Validates, Walks, WalksInTry}
 use Rattle.order.specs.Laws.Kept.{root_there}
 use Rattle.order.specs.Laws.Run.{no_turn}
-use Rattle.order.specs.LastTurns.{first_children, last_turns, no_turns, turn_to, with_turn}
+use Rattle.order.specs.LastTurns.{first_children, last_turns, no_turns, turn_to, with_last_turn}
 use Rattle.order.specs.declared.last_turns.LastTurns.{LastTurns}
 use Rattle.order.specs.Loads.{load_value}
 use Rattle.order.specs.Meaning.{ReadMeaning}
@@ -69,13 +69,13 @@ module _ {R A : Type 0} (means : ReadMeaning R A) (m : ReadRun R) where
     abbrev Knows : WalkAt → Type 0
     Knows = WalkKnows (begun_at c begin) h after
 
-    turned_here : (low : ℕ) (turn : Side) → Knows (Child low turn) → HasTurned (begun_at c begin) h key turn after.trail.node.0
+    turned_here : (low : ℕ) (turn : Side) → Knows (Child low turn) → LastTurned (begun_at c begin) h key turn after.trail.node.0
     turned_here low turn k = record { passed = rw is at k.0.node; fork = k.2; turn = rw is at k.3 }
       where
         is : path_key after.goal ≡ key
         is = ap path_key (same ∙ goal)
 
-    turned_child : (low : ℕ) (turn s : Side) → Knows (Child low turn) → IsLastTurn (begun_at c begin) h key s (turn_to s (with_turn turn after.trail.node turns)).0
+    turned_child : (low : ℕ) (turn s : Side) → Knows (Child low turn) → IsLastTurn (begun_at c begin) h key s (turn_to s (with_last_turn turn after.trail.node turns)).0
     turned_child low sides.Left sides.Left k = inr (turned_here low sides.Left k)
     turned_child low sides.Right sides.Right k = inr (turned_here low sides.Right k)
     turned_child low sides.Left sides.Right k = last sides.Right

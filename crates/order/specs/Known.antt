@@ -43,14 +43,14 @@ use Rattle.order.specs.declared.last_turns.LastTurns.{LastTurns}
 -- Its walk
 
 -- the call has passed this fork on its way to k, which is on this side of it
-pub record HasTurned (c : Call) (h : History) (k : ℕ) (side : Side) (n : ℕ) : Type 0 where
+pub record LastTurned (c : Call) (h : History) (k : ℕ) (side : Side) (n : ℕ) : Type 0 where
   pub passed : WasPassed c h k n
   pub fork : is_leaf (value h) n ≡ false
   pub turn : toward (value h) n k ≡ side
 
 -- so it is with the last fork where the walk has turned to this side, or that is the root
 abbrev pub IsLastTurn : Call → History → ℕ → Side → ℕ → Type 0
-IsLastTurn c h k side n = (n ≡ 0) ⊎ HasTurned c h k side n
+IsLastTurn c h k side n = (n ≡ 0) ⊎ LastTurned c h k side n
 
 -- and with both
 abbrev pub AreLastTurns : Call → History → ℕ → LastTurns → Type 0

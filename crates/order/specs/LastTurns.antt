@@ -14,9 +14,9 @@ abbrev pub no_turns : LastTurns
 no_turns = record { left = record { 0 = 0 }; right = record { 0 = 0 } }
 
 -- with a turn to this side at the node n
-abbrev pub with_turn : Side → NodeNo → LastTurns → LastTurns
-with_turn sides.Left n turns = record turns { left = n }
-with_turn sides.Right n turns = record turns { right = n }
+abbrev pub with_last_turn : Side → NodeNo → LastTurns → LastTurns
+with_last_turn sides.Left n turns = record turns { left = n }
+with_last_turn sides.Right n turns = record turns { right = n }
 
 -- the last to this side
 abbrev pub turn_to : Side → LastTurns → NodeNo
@@ -25,7 +25,7 @@ turn_to sides.Right turns = turns.right
 
 -- of a walk that stands here at the node, where it had these before
 abbrev pub last_turns : WalkAt → NodeNo → LastTurns → LastTurns
-last_turns (Child level side) node turns = with_turn side node turns
+last_turns (Child level side) node turns = with_last_turn side node turns
 last_turns _ node turns = turns
 
 -- to which side a walk has turned at its last turn to this side, or at the root if it had none: there

@@ -105,14 +105,14 @@ route_above sides.Left route = route
 route_above sides.Right route = Beyond
 
 -- the place of a slot of this leaf
-abbrev pub place_of : NodeNo → Slot → LeafPlace
-place_of n slot = record { node = n; more = 0; slot = slot }
+abbrev pub slot_place : NodeNo → Slot → LeafPlace
+slot_place n slot = record { node = n; more = 0; slot = slot }
 
 -- what it does after the keys of this leaf
-abbrev pub leaving : Route → NodeNo → ReadNext
-leaving (Within slot key) n = Load (Value (place_of n slot) key)
-leaving (Along (Some beside)) n = Load (Head 0 beside)
-leaving _ n = Validate
+abbrev pub after_leaf : Route → NodeNo → ReadNext
+after_leaf (Within slot key) n = Load (Value (slot_place n slot) key)
+after_leaf (Along (Some beside)) n = Load (Head 0 beside)
+after_leaf _ n = Validate
 
 -- the keys of such a call are words
 abbrev pub IsSmallNeighbour : MapCall → Type 0
@@ -142,7 +142,7 @@ LooksOnRoute side Beyond b k n children = (children ≡ alone (opposite side)) �
 -- beside the path, or the pair in this slot, which has this key
 abbrev pub IsRest : Side → Route → History → NodeNo → Option MapPair → Type 0
 IsRest side (Along beside) b n rest = IsBeside b side beside rest
-IsRest side (Within slot key) b n rest = (rest ≡ Some (place_pair b (place_of n slot))) × (place_key b (place_of n slot) ≡ key) × (key < 2 ^ 64)
+IsRest side (Within slot key) b n rest = (rest ≡ Some (place_pair b (slot_place n slot))) × (place_key b (slot_place n slot) ≡ key) × (key < 2 ^ 64)
 IsRest side _ b n rest = ⊥
 
 -- where it stands at a place of a leaf
@@ -153,7 +153,7 @@ IsInLeaf side route b k p = (rest : Option MapPair) × IsRest side route b p.nod
 -- what it knows of the answer after the keys of this leaf
 abbrev pub IsLeft : Side → Route → History → ℕ → NodeNo → Type 0
 IsLeft side (Along (Some beside)) b k n = IsEndBelow b side k beside.0
-IsLeft side (Within slot key) b k n = IsAnswer b side k (place_of n slot) × (place_key b (place_of n slot) ≡ key)
+IsLeft side (Within slot key) b k n = IsAnswer b side k (slot_place n slot) × (place_key b (slot_place n slot) ≡ key)
 IsLeft side _ b k n = FindsNone b side k
 
 pub record Leaves (r : Neighbour) (n : NodeNo) (snaps : List Snap) (c : Call) (h : History) : Type 0 where

@@ -1,6 +1,6 @@
 //! The forks at which a walk has turned.
 ghost use Rattle.std.specs.Prelude.{◌≡◌};
-ghost use Rattle.order.specs.LastTurns.{first_children, no_turns, turn_to, with_turn};
+ghost use Rattle.order.specs.LastTurns.{first_children, no_turns, turn_to, with_last_turn};
 
 use crate::read::Children;
 use arena::{NodeNo, Side};
@@ -26,7 +26,7 @@ impl LastTurns {
     /// With a turn to this side at the fork `node`.
     #[inline(always)]
     pub fn with(self, side: Side, node: NodeNo) -> LastTurns
-        ensures { result ≡ with_turn side node self }
+        ensures { result ≡ with_last_turn side node self }
     {
         match side {
             Side::Left => LastTurns { left: node, ..self },

@@ -107,7 +107,7 @@ pub type NeighbourRun = ReadRun<Neighbour>;
 
 impl Neighbour {
     ghost use Rattle.std.specs.Prelude.{◌≡◌, ℕ, ◌-◌, ◌*◌, ◌<◌, ◌≤◌, None, []};
-    ghost use Rattle.order.specs.Neighbour.{asks_on_route, children_on, is_answer, is_past, leaf_load, leaving, neighbour_means, neighbour_try_left, turn_by, ways};
+    ghost use Rattle.order.specs.Neighbour.{asks_on_route, children_on, is_answer, is_past, leaf_load, after_leaf, neighbour_means, neighbour_try_left, turn_by, ways};
     ghost use Rattle.order.specs.declared.neighbour.Route.{Route};
     ghost use Rattle.order.specs.Steps.{read_left};
     ghost use Rattle.order.specs.declared.run.ReadAt.{ReadAt};
@@ -235,7 +235,7 @@ impl Neighbour {
           route = Route.Beyond;
           found = None;
         } }
-        ensures next { result ≡ leaving self.old.route node }
+        ensures next { result ≡ after_leaf self.old.route node }
     {
         let route = self.route;
         self.route = Route::Beyond;

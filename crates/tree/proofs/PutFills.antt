@@ -13,7 +13,7 @@ use Rattle.ordered_map.specs.TreeWords.{is_leaf}
 use Rattle.template.specs.declared.walk.Found.{Found}
 use Rattle.tree.proofs.Fills.{leaf_head, same_number, same_part, unstood}
 use Rattle.tree.specs.declared.put.PutPair.{PutPair}
-use Rattle.tree.specs.Put.Means.{put_means, put_pieces, lower, pairs_with, pieces_by, splits}
+use Rattle.tree.specs.Put.Means.{put_means, put_pieces, lower, pairs_with, split_or_leaf, splits}
 use Rattle.tree.specs.Laws.Put.Sound.{put_fields}
 use Rattle.edits.specs.declared.edit.Nodes.{Nodes}
 use Rattle.edits.specs.declared.edit.Nth.{Nth}
@@ -37,18 +37,18 @@ third_top : (need : ℕ) (ns : Nodes) → IsNeeded need Third → top_of need ns
 third_top need ns x = rw (lt-ltb 2 need x) refl
 
 -- what has fields is the third of three
-has_fields : (split : Bool) (ps : List Pair) (f : Found) (ns : Nodes) (nth : Nth) (side : Side) → is_filled (pieces_by split ps f ns nth) (Child side) ≡ true → nth ≡ Third
+has_fields : (split : Bool) (ps : List Pair) (f : Found) (ns : Nodes) (nth : Nth) (side : Side) → is_filled (split_or_leaf split ps f ns nth) (Child side) ≡ true → nth ≡ Third
 has_fields false ps f ns nth side p = absurd (let z : false ≡ true = p in cc)
 has_fields true ps f ns First side p = absurd (let z : false ≡ true = p in cc)
 has_fields true ps f ns Second side p = absurd (let z : false ≡ true = p in cc)
 has_fields true ps f ns Third side p = refl
 
 -- those before it are leaves
-leaf_first : (split : Bool) (ps : List Pair) (f : Found) (ns : Nodes) → eqb (word_of (pieces_by split ps f ns First) (Settled Head) / 4 % 2) 1 ≡ true
+leaf_first : (split : Bool) (ps : List Pair) (f : Found) (ns : Nodes) → eqb (word_of (split_or_leaf split ps f ns First) (Settled Head) / 4 % 2) 1 ≡ true
 leaf_first false ps f ns = leaf_head f.head.level 0
 leaf_first true ps f ns = leaf_head (lower f.head.level) 0
 
-leaf_second : (split : Bool) (ps : List Pair) (f : Found) (ns : Nodes) → eqb (word_of (pieces_by split ps f ns Second) (Settled Head) / 4 % 2) 1 ≡ true
+leaf_second : (split : Bool) (ps : List Pair) (f : Found) (ns : Nodes) → eqb (word_of (split_or_leaf split ps f ns Second) (Settled Head) / 4 % 2) 1 ≡ true
 leaf_second false ps f ns = leaf_head f.head.level 0
 leaf_second true ps f ns = leaf_head (lower f.head.level) f.head.class
 

@@ -6,7 +6,7 @@ use Rattle.ordered_map.specs.declared.pair.Pair.{Pair}
 use Rattle.ordered_map.specs.OrderedMap.{pair, insert}
 use Rattle.template.specs.declared.walk.Found.{Found}
 use Rattle.tree.specs.LeafEdit.{leaf_looks, leaf_reads}
-use Rattle.tree.specs.Put.Means.{put_means, put_need, put_reads, splits, lower, pieces_by, pairs_with, second_pairs}
+use Rattle.tree.specs.Put.Means.{put_means, put_need, put_reads, splits, lower, split_or_leaf, pairs_with, second_pairs}
 use Rattle.edits.specs.declared.edit.Look.TheVariants.{At, Enough}
 use Rattle.edits.specs.declared.edit.Nodes.{Nodes}
 use Rattle.edits.specs.declared.piece.Piece.TheVariants.{Leaf}
@@ -60,7 +60,7 @@ second_few k v f read = go (f.head.class == 0)
     go true = rest_few (insert k v read.pairs)
     go false = omega arith
 
-few_fills : (split : Bool) (k v : ℕ) (f : Found) (ns : Nodes) (read : Reading) → all_fills (put_need split) (pieces_by split (pairs_with k v f read) f ns) ≤ 23
+few_fills : (split : Bool) (k v : ℕ) (f : Found) (ns : Nodes) (read : Reading) → all_fills (put_need split) (split_or_leaf split (pairs_with k v f read) f ns) ≤ 23
 few_fills false k v f ns read = let a = any_leaf f.head.level 0 (pairs_with k v f read) in omega (arith, a)
 few_fills true k v f ns read =
     let a = leaf_fills (lower f.head.level) 0 (take 2 (pairs_with k v f read)) 2 (first_few (pairs_with k v f read)) (omega arith) in

@@ -64,11 +64,11 @@ split_pieces ps f ns Second = Leaf (lower f.head.level) f.head.class (second_pai
 split_pieces ps f ns Third = fork_over (second_pairs f ps) f ns
 
 -- those three, or one leaf
-abbrev pub pieces_by : Bool → List Pair → Found → Nodes → Nth → Piece
-pieces_by split ps f ns nth = if split then split_pieces ps f ns nth else Leaf f.head.level 0 ps
+abbrev pub split_or_leaf : Bool → List Pair → Found → Nodes → Nth → Piece
+split_or_leaf split ps f ns nth = if split then split_pieces ps f ns nth else Leaf f.head.level 0 ps
 
 abbrev pub put_pieces : ℕ → ℕ → Found → Nodes → Reading → Nth → Piece
-put_pieces k v f ns read nth = pieces_by (splits f) (pairs_with k v f read) f ns nth
+put_pieces k v f ns read nth = split_or_leaf (splits f) (pairs_with k v f read) f ns nth
 
 -- the edit that an insert is
 abbrev pub put_means : EditMeaning PutPair

@@ -27,7 +27,7 @@ use Rattle.template.proofs.Lemmas.{edit_promised, found_blank, found_class, foun
 use Rattle.tree.specs.LeafEdit.{leaf_looks, leaf_reads}
 use Rattle.tree.specs.declared.put.PutPair.{PutPair}
 use Rattle.tree.specs.Put.Laws.{put_bounds}
-use Rattle.tree.specs.Put.Means.{put_means, put_need, put_reads, put_work, has_room, lower, pairs_with, pieces_by, second_pairs, splits, splits_by}
+use Rattle.tree.specs.Put.Means.{put_means, put_need, put_reads, put_work, has_room, lower, pairs_with, split_or_leaf, second_pairs, splits, splits_by}
 use Rattle.tree.specs.Laws.LeafLooks.{HasBoth, class_is, has_both, held_is, is_leaf_edit, leaf_begins, leaf_covered, leaf_differs, leaf_opens, leaf_over, leaf_stood, many, pairs_are}
 use Rattle.tree.specs.Laws.PairLists.{both_parts, first_below, first_long, insert_least, insert_most, insert_present, insert_some, parts_apart, rest_long}
 use Rattle.edits.specs.declared.edit.Nodes.{Nodes}
@@ -63,7 +63,7 @@ put_look = record {
 
 -- What it fills
 
-pub put_fields : (split : Bool) (ps : List Pair) (f : Found) (ns : Nodes) (nth : Nth) (side : Side) → is_filled (pieces_by split ps f ns nth) (Child side) ≡ true → (i : Nth) × ComesBefore i nth × (word_of (pieces_by split ps f ns nth) (Child side) ≡ (nth_node ns i).0)
+pub put_fields : (split : Bool) (ps : List Pair) (f : Found) (ns : Nodes) (nth : Nth) (side : Side) → is_filled (split_or_leaf split ps f ns nth) (Child side) ≡ true → (i : Nth) × ComesBefore i nth × (word_of (split_or_leaf split ps f ns nth) (Child side) ≡ (nth_node ns i).0)
 put_fields false ps f ns nth side p = absurd (let z : false ≡ true = p in cc)
 put_fields true ps f ns First side p = absurd (let z : false ≡ true = p in cc)
 put_fields true ps f ns Second side p = absurd (let z : false ≡ true = p in cc)
@@ -112,8 +112,8 @@ module _ (ed : PutPair) (c : Call) (h : History) (f : Found) (snaps : List Snap)
   abbrev all : List Pair
   all = pairs_with ed.key ed.value f read
 
-  holds : (split : Bool) → splits f ≡ split → (i : Nth) → IsNeeded (put_need split) i → HoldsPiece c h (nth_node ns i).0 (pieces_by split all f ns i)
-  holds split is i n = subst (λ (q : Bool). HoldsPiece c h (nth_node ns i).0 (pieces_by q all f ns i)) is (x.holds i (subst (λ (q : Bool). IsNeeded (put_need q) i) (sym is) n))
+  holds : (split : Bool) → splits f ≡ split → (i : Nth) → IsNeeded (put_need split) i → HoldsPiece c h (nth_node ns i).0 (split_or_leaf split all f ns i)
+  holds split is i n = subst (λ (q : Bool). HoldsPiece c h (nth_node ns i).0 (split_or_leaf q all f ns i)) is (x.holds i (subst (λ (q : Bool). IsNeeded (put_need q) i) (sym is) n))
 
   below : lower f.head.level ≡ f.head.level + 1
   below = lower_is f.head.level fits
