@@ -32,7 +32,7 @@ pub(crate) fn script_of(
     let found = row_of(alloc, source, row)?;
     let command = found.get(1).unwrap_or("");
     let fields = script_fields(row, command, mode, passes);
-    Err(refuse(alloc, source, row, &found, fields.as_slice(), 1)?)
+    Err(refuse(alloc, source, row, &found, fields.as_slice(), 1))
 }
 
 /// The schedule that a text says.
@@ -48,7 +48,7 @@ pub(crate) fn schedule_of(
     };
     let found = row_of(alloc, source, row)?;
     let fields = schedule_fields(found.get(0).unwrap_or(""), u128::from(script.limits.passes));
-    Err(refuse(alloc, source, row, &found, fields.as_slice(), 0)?)
+    Err(refuse(alloc, source, row, &found, fields.as_slice(), 0))
 }
 
 /// The record that a report says.
@@ -60,7 +60,7 @@ pub(crate) fn record_of(alloc: Global, source: &Source<'_>) -> Result<Record, Co
     };
     let found = row_of(alloc, source, row)?;
     let fields = report_fields(found.get(0).unwrap_or(""), found.get(3).unwrap_or(""));
-    Err(refuse(alloc, source, row, &found, fields.as_slice(), 2)?)
+    Err(refuse(alloc, source, row, &found, fields.as_slice(), 2))
 }
 
 /// Asks whether a record is of a lawful run.
@@ -116,10 +116,14 @@ fn refuse(
     found: &StringRecord,
     fields: &[Field],
     head: u64,
-) -> Result<Complaint, AllocError> {
-    let why = why(alloc, source, row, found, fields, head)?;
-    let text = format!(in alloc; "{}, row {row}{why}", source.name)?;
-    Ok(Complaint::Refused(text))
+) -> Complaint {
+    match why(alloc, source, row, found, fields, head) {
+        Ok(why) => match format!(in alloc; "{}, row {row}{why}", source.name) {
+            Ok(text) => Complaint::Refused(text),
+            Err(_) => Complaint::NoMemory,
+        },
+        Err(_) => Complaint::NoMemory,
+    }
 }
 
 fn why(
