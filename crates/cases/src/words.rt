@@ -11,8 +11,8 @@ use std::rt::Files;
 use std::sync::Wait;
 use std::thread::Threads;
 
-/// The words after the name of `cli`, or those of `rnb` with its name, which one space parts; the fault that it is to tell, if
-/// there is one; and else what it is to print, in which `|` is a new line.
+/// The words after the name of `cli`, or those of `rnb` with its name, which one space parts; the
+/// fault that it is to print, if there is one; and else its output, in which `|` is a new line.
 #[derive(Clone, Copy)]
 pub(crate) struct WordsCase<'a> {
     words: &'a str,

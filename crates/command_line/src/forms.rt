@@ -30,6 +30,9 @@ const CELLS: Field = Field {
     wanted: Wanted::Cells,
 };
 
+const CALLS: &str = "insert insert_new delete delete_if pop_first pop_last replace_if get \
+    successor predecessor range";
+
 const KINDS: &str =
     "fill settled info state marked allfrozen child freeze frozen mark update commit abort";
 
@@ -74,15 +77,13 @@ pub(crate) fn script_fields(row: u64, command: &str, mode: Mode, passes: u128) -
     }
     let [a, b, c] = arguments(command);
     let commands = match mode {
-        Mode::Tree => {
-            "insert insert_new delete delete_if pop_first pop_last replace_if get successor range"
-        }
+        Mode::Tree => CALLS,
         Mode::Records => "llx scx vlx set",
     };
     [client(passes), one_of("command", commands), a, b, c]
 }
 
-/// A client below so many.
+/// The number of a client.
 fn client(passes: u128) -> Field {
     Field::number("client", 0, passes.saturating_sub(1))
 }
@@ -92,7 +93,7 @@ fn arguments(command: &str) -> [Field; 3] {
     let expected = Field::number("expected value", 0, u128::MAX);
     match command {
         "insert" | "insert_new" => [KEY, VALUE, nothing("c")],
-        "delete" | "get" | "successor" => [KEY, nothing("b"), nothing("c")],
+        "delete" | "get" | "successor" | "predecessor" => [KEY, nothing("b"), nothing("c")],
         "delete_if" => [KEY, expected, nothing("c")],
         "replace_if" => [KEY, expected, VALUE],
         "pop_first" | "pop_last" => [nothing("a"), nothing("b"), nothing("c")],

@@ -111,9 +111,9 @@ IsFormOfRange _ = ⊥
 
 -- The one match from calls to their rules. A walk makes at most three steps for each level that the
 -- tree may have, two more than nodes are taken, and five more at its leaf; an edit makes one walk
--- in a try, and takes at most one SCX-record; a search with snapshots 67 for each level; a
--- for each level, and one for the pair beside a key makes two of these behind a walk, a range one for each pair that it
--- more.
+-- in a try, and takes at most one SCX-record; a search with snapshots makes 67 for each level, the
+-- pair beside a key takes two of these after a walk, a range one for each pair that it may take and
+-- two more.
 abbrev pub call_rules : MapCall → CallRules
 call_rules (Edit goal rule) = record {
   most_steps = λ tries nodes. tries * (3 * (2 + nodes) + steps_behind (leaves rule));

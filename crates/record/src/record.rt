@@ -119,12 +119,11 @@ pub enum Answer {
     /// the value of its key, if the key has one; an `insert_new` that answers a value has changed
     /// nothing, nor has a `delete` that answers none, nor a `replace_if` or `delete_if` that
     /// answers another value than it expects, or none. `pop_first`, `pop_last`: `Pair`, the pair
-    /// `successor`, `predecessor`: `Pair`, the pair with the next key above its own, or below, if there
-    /// is one. `range`:
-    /// answer none. `range`: `Pairs`, the first pairs between its keys, by rising key. All but
-    /// `get`: `Contended`, all its tries were lost, and in the last of them `scx` was in progress
-    /// over the node `node` of the tree; an edit was not made and never will be. Edits: `Full`,
-    /// this much of the resource is left in the client's share, too little for the call.
+    /// at that end. `successor`, `predecessor`: `Pair`, the pair with the next key above its own, or
+    /// below. Each of these may answer none. `range`: `Pairs`, the first pairs between its keys, by
+    /// rising key. All but `get`: `Contended`, all its tries were lost, and in the last of them `scx`
+    /// was in progress over the node `node` of the tree; an edit was not made and never will be.
+    /// Edits: `Full`, this much of the resource is left in the client's share, too little for the call.
     /// `successor`, `predecessor`, `range`: `NoMemory`, an allocation was refused.
     Map(Reply<u64, u128>),
     /// `scx`, `set`: `left` of the resource are left in the client's share, too few for the call.

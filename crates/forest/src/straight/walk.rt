@@ -291,8 +291,8 @@ fn pass<S: Shape, M: Machine<S>>(
 }
 
 /// The walk from the root to the leaf where a key is, or would be, or to the first leaf, and
-/// the last forks where it turned. Where the words of a node begin is reckoned once, as soon as its
-/// parent has told it.
+/// the last forks where it turned. Where the words of a node begin is computed once, as soon as its
+/// parent is loaded.
 #[inline(always)]
 pub(crate) fn call<S: Shape, M: Machine<S>>(
     hand: Hand<S>,
