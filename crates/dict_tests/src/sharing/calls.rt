@@ -116,7 +116,7 @@ const TWO: u128 = 36893488147419103237;
 const NEXT: u128 = 18446744073709551622;
 
 /// What is expected differs from what is there by each of the two words.
-const TWO_WORDS: [Row<'static, u64, u128>; 35] = [
+const TWO_WORDS: [Row<'static, u64, u128>; 37] = [
     (Insert(1, ABOVE), Value(None), (17, 19)),
     (Insert(2, u128::MAX), Value(None), (16, 18)),
     (Get(1), Value(Some(ABOVE)), (16, 18)),
