@@ -1,3 +1,5 @@
+mod Bits
+mod Spans
 mod Lists
 mod Holding
 mod Trees
