@@ -3,6 +3,7 @@ mod Spans
 mod Lists
 mod Holding
 mod Trees
+mod Parted
 mod Local
 mod Searches
 mod Next
