@@ -1,5 +1,5 @@
 -- The bit at which two keys part, as numbers: the highest in which they differ.
-use Rattle.std.proofs.Common.{◌≡◌, ◌≢◌, ℕ, suc, ◌+◌, ◌-◌, ◌*◌, ◌/◌, ◌%◌, ◌^◌, ◌<◌, ◌≤◌, ◌↔◌, IsTrue, nat_le, sym, ◌∙◌, ap, arith, bit_xor, pow_pos, div-mul-le_self, mod-eq_of_lt, zero-mul, pos_of_ne-zero, div-add-mod', leb-true, le-leb}
+use Rattle.std.proofs.Common.{min, ◌≡◌, ◌≢◌, ℕ, suc, ◌+◌, ◌-◌, ◌*◌, ◌/◌, ◌%◌, ◌^◌, ◌<◌, ◌≤◌, ◌↔◌, IsTrue, nat_le, sym, ◌∙◌, ap, arith, bit_xor, pow_pos, div-mul-le_self, mod-eq_of_lt, zero-mul, pos_of_ne-zero, div-add-mod', leb-true, le-leb}
 use Rattle.std.proofs.Math.Nat.{div-eq_of_lt, div-eq_of_lt-le, div-div-eq-div-mul, pow-suc, mul_assoc, mul_comm, add-mul, one-mul, lt-div-mul-add}
 use Rattle.std.proofs.lemmas.Nat.{xor_shr, xor_lt, xor_block, le-div, mod-mul-add, leading_top}
 use Rattle.std.specs.Int.Bits.{xor_assoc, xor_self, xor_zero_l, xor_zero_r}
@@ -89,20 +89,19 @@ parts_at j k b level l m n high e = record {
     lowest : k / 2 ^ b * 2 ^ b % (2 * room_at level) ≡ room_at level
     lowest = rw room (odd_at (k / 2 ^ b) b odd)
 
--- Below 2 ^ 64 the zeros above the highest bit in which two keys differ say which that is.
-
-pub highest : (j k : ℕ) → j < k → k < 2 ^ 64 → (b : ℕ) × (count_leading_zeros 64 (bit_xor j k) + suc b ≡ 64) × (2 ^ b ≤ bit_xor j k) × (bit_xor j k < 2 ^ suc b)
+-- below 2 ^ 64 the zeros above the highest bit in which two keys differ say which that is
+highest : (j k : ℕ) → j < k → k < 2 ^ 64 → (b : ℕ) × (count_leading_zeros 64 (bit_xor j k) + suc b ≡ 64) × (2 ^ b ≤ bit_xor j k) × (bit_xor j k < 2 ^ suc b)
 highest j k l small = leading_top 64 (bit_xor j k) (pos_of_ne-zero differ) (xor_lt 64 j k (omega (arith, l, small)) small)
   where
     differ : bit_xor j k ≢ 0
     differ e = let same = same_bits j k e in omega (arith, l, same)
 
-pub parts : (j k : ℕ) → j < k → k < 2 ^ 64 → let zeros = count_leading_zeros 64 (bit_xor j k) in PartsKeys j k (k / 2 ^ (63 - zeros) * 2 ^ (63 - zeros) % 2 ^ 64) (zeros + 2)
-parts j k l small =
+pub parts : (j k zeros greater : ℕ) → j < k → k < 2 ^ 64 → zeros ≡ min (count_leading_zeros 64 (bit_xor j k)) 63 → greater ≡ k → PartsKeys j k (greater / 2 ^ (63 - zeros) * 2 ^ (63 - zeros) % 2 ^ 64) (zeros + 2)
+parts j k zeros greater l small z g =
     let (b, top, low, high) = highest j k l small in
-    let is : 63 - count_leading_zeros 64 (bit_xor j k) ≡ b = omega (arith, top) in
+    let is : 63 - zeros ≡ b = omega (arith, z, top) in
     let whole = div-mul-le_self k (2 ^ b) in
-    rw is (rw (mod-eq_of_lt {n = k / 2 ^ b * 2 ^ b} {m = 2 ^ 64} (omega (arith, whole, small))) (parts_at j k b (count_leading_zeros 64 (bit_xor j k) + 2) l low high (omega arith) (omega (arith, top))))
+    rw g (rw is (rw (mod-eq_of_lt {n = k / 2 ^ b * 2 ^ b} {m = 2 ^ 64} (omega (arith, whole, small))) (parts_at j k b (zeros + 2) l low high (omega arith) (omega (arith, z, top)))))
 
 -- Sharing a fork
 
@@ -131,6 +130,14 @@ last_bit x q b e = omega (arith, all, none, one, p, two)
 -- the key of a fork is a multiple of twice its room, and its room more
 pub key_is : (x level : ℕ) → IsForkKey x level → x ≡ x / (2 * room_at level) * (2 * room_at level) + room_at level
 key_is x level fork = sym (div-add-mod' x (2 * room_at level)) ∙ ap (λ y. x / (2 * room_at level) * (2 * room_at level) + y) fork.lowest
+
+-- in 64 bits the number before it is the sum with 2 ^ 64 - 1
+pub one_before : (x level : ℕ) → IsForkKey x level → x < 2 ^ 64 → (x + (2 ^ 64 - 1)) % 2 ^ 64 ≡ x - 1
+one_before x level fork small =
+    let is = key_is x level fork in
+    let p = pow_pos (65 - level) in
+    let some : 0 < x = omega (arith, is, p) in
+    omega (arith, some, small)
 
 pub sharing : (x level k : ℕ) → IsForkKey x level → IsTrue (nat_le (bit_xor k x) (bit_xor x (x - 1))) ↔ IsInSpan x level k
 sharing x level k fork = (λ t. inside (agree_from k x (suc b) (let l = leb-true (bit_xor k x) (bit_xor x (x - 1)) t in omega (arith, last, l))), λ s. le-leb (bit_xor k x) (bit_xor x (x - 1)) (let l = differ_below k x (suc b) (agrees s) in omega (arith, last, l)))

@@ -32,5 +32,7 @@ mod EndLeaf
 mod Reading
 mod LeafLists
 mod Maps
+mod PartedPairs
+mod FreshForks
 mod SlotReads
 pub mod Lemmas

@@ -1,6 +1,6 @@
 -- Forks that part keys at a bit, as words show them: the keys of their sides, and where a fresh fork
 -- between two keys stands.
-use Rattle.std.proofs.Common.{◌≡◌, ◌≢◌, ℕ, ◌+◌, ◌-◌, ◌^◌, ◌<◌, ◌≤◌, true, false, ◌⊎◌, inl, inr, refl, sym, ◌∙◌, arith, eq-eqb, ne_eqb, lt-ltb, le-ltb, pow_pos}
+use Rattle.std.proofs.Common.{◌≡◌, ◌≢◌, ℕ, ◌+◌, ◌-◌, ◌^◌, ◌<◌, ◌≤◌, true, false, ◌⊎◌, ◌↔◌, inl, inr, refl, sym, ◌∙◌, arith, eq-eqb, ne_eqb, lt-ltb, le-ltb, pow_pos}
 use native.Mathlib.Decide.{ℕ_discrete}
 use Rattle.arena.specs.declared.word.Side.{Side}
 use Rattle.arena.specs.declared.word.Side.TheVariants.{Left, Right}
@@ -16,7 +16,7 @@ abbrev pub IsOnSide : (Word → ℕ) → ℕ → Side → ℕ → Type 0
 IsOnSide f n side k = (side_from f n side ≤ k) × (k < side_to f n side)
 
 -- the key of a fork
-abbrev key_of : (Word → ℕ) → ℕ → ℕ
+abbrev pub key_of : (Word → ℕ) → ℕ → ℕ
 key_of f n = f (node n first_key)
 
 module _ (f : Word → ℕ) where
@@ -33,6 +33,18 @@ module _ (f : Word → ℕ) where
 
   pub high_to : (n : ℕ) → class f n ≢ 0 → (side_to f n Left ≡ 2 ^ 64) × (side_to f n Right ≡ 2 ^ 64)
   high_to n high = let e = ne_eqb (class f n) 0 high in (rw e refl, rw e refl)
+
+  -- a key shares a fork of class 0 if it is in the span of its key
+  pub shares_span : (n k : ℕ) → class f n ≡ 0 → Shares f n k ↔ IsInSpan (key_of f n) (level f n) k
+  shares_span n k low =
+      let from = low_from n low in
+      let to = low_to n low in
+      (λ s. (omega (arith, from, s), omega (arith, to, s)), λ s. (omega (arith, from, s), omega (arith, to, s)))
+
+  -- a side of a fork of class 0 is in its span
+  pub side_in : (n : ℕ) (side : Side) → class f n ≡ 0 → (side_from f n Left ≤ side_from f n side) × (side_to f n side ≤ side_to f n Right)
+  side_in n Left low = let to = low_to n low in (omega arith, omega (arith, to))
+  side_in n Right low = let from = low_from n low in (omega (arith, from), omega arith)
 
   -- a key of the map that shares a fork may stand on the side to which its search turns there
   pub own_side : (n k : ℕ) → k < 2 ^ 64 → Shares f n k → IsOnSide f n (toward f n k) k
@@ -105,7 +117,7 @@ module _ (f : Word → ℕ) where
   above_keeps u c k parted fork low zero apart = go
     where
       outside : ¬ IsInSpan (key_of f u) (level f u) k
-      outside s = let from = low_from u low in let to = low_to u low in apart (omega (arith, from, s), omega (arith, to, s))
+      outside s = apart ((shares_span u k low).1 s)
 
       go : PartsFrom u c k → Keeps f c (opposite (toward f c k)) u × (level f c < level f u) × IsOnSide f c (toward f c k) k
       go (inl parts) =
