@@ -24,13 +24,13 @@ use Rattle.histories.proofs.Lemmas.{Facts, IsFlagged, IsMarker, UpdateWins, chil
 use Rattle.ordered_map.specs.declared.pair.Pair.{Pair}
 use Rattle.ordered_map.specs.OrderedMap.{MapEdit, edit_key, edited, get, AllAbove}
 use Rattle.ordered_map.proofs.Pending.{Mine, IsMadeBy, Pending, Holds, pending_update}
-use Rattle.ordered_map.proofs.Trees.{items, ends, Replaced, replace, IsLocal, edited_local, passes_has}
+use Rattle.ordered_map.proofs.Trees.{items, ends, EndsLow, Replaced, replace, IsLocal, edited_local, passes_has, path_level}
 use Rattle.ordered_map.specs.Paths.{IsOnPath, WasOnPath}
 use Rattle.ordered_map.specs.Runs.{map_of_log}
 use Rattle.ordered_map.specs.Spelled.{IsTree}
 use Rattle.ordered_map.specs.TreeShape.{leaf_plan, join_plan, EditsLeaf, TakesLeafOut, IsEdit, leaf_place, sibling_place, edit_leaf}
 use Rattle.ordered_map.specs.TreeWords.{Tree, root, Shows, Has, Passes, is_leaf, level, rank, toward, said}
-use Rattle.ordered_map.specs.Edits.{IsLeafEdit, AreBelow, HasFieldsOf}
+use Rattle.ordered_map.specs.Edits.{IsLeafEdit, IsJoinBy, AreBelow, HasFieldsOf}
 use Rattle.ordered_map.proofs.Local.{Apart, swap, split, join}
 use Rattle.ordered_map.proofs.Searches.{told, told_said, path_child, get_left, get_leaf}
 use Rattle.ordered_map.proofs.Holding.{SameSettled}
@@ -45,8 +45,8 @@ pub join_plan_says : (p : ℕ) (side : Side) → p ≡ join_plan side → (field
 join_plan_says p Left e = rw e (refl, refl, refl, refl, refl, refl, refl)
 join_plan_says p Right e = rw e (refl, refl, refl, refl, refl, refl, refl)
 
-weaken : {f g : Word → ℕ} {change : List Pair → List Pair} {Gone Lost Made Born : ℕ → Type 0} {new lo hi : ℕ} {a : Tree} → ((n : ℕ) → Gone n → Lost n) → ((n : ℕ) → Lost n → Gone n) → ((n : ℕ) → Made n → Born n) → Replaced f g change Gone Made new lo hi a → Replaced f g change Lost Born new lo hi a
-weaken to back born x = record { tree = x.tree; shows = x.shows; is = x.is; deep = x.deep; items = x.items; ends = x.ends; low = x.low; paths = λ j n p. ⊎_elim inl (λ q. inr (to n q)) (x.paths j n p); made = λ n p. ⊎_elim inl (λ q. inr (born n q)) (x.made n p); out = λ n p. x.out n (back n p) }
+weaken : {f g : Word → ℕ} {change : List Pair → List Pair} {Stays : ℕ → ℕ → Type 0} {Gone Lost Made Born : ℕ → Type 0} {new lo hi : ℕ} {a : Tree} → ((n : ℕ) → Gone n → Lost n) → ((n : ℕ) → Lost n → Gone n) → ((n : ℕ) → Made n → Born n) → Replaced f g change Stays Gone Made new lo hi a → Replaced f g change Stays Lost Born new lo hi a
+weaken to back born x = record { tree = x.tree; shows = x.shows; is = x.is; items = x.items; ends = x.ends; low = x.low; paths = λ j n s p. ⊎_elim inl (λ q. inr (to n q)) (x.paths j n s p); made = λ n p. ⊎_elim inl (λ q. inr (born n q)) (x.made n p); out = λ n p. x.out n (back n p) }
 
 module _ (calls : ℕ → MapEdit) (lay : Layout) (h : History) (r : Row) (u : ℕ) (f : Facts lay h) (z : UpdateWins h r u)
     (o : lay.mode ≡ TreeMode) (l : Lawful lay (r ⊳ h)) (t : TreeFacts calls lay h) where
@@ -145,20 +145,33 @@ module _ (calls : ℕ → MapEdit) (lay : Layout) (h : History) (r : Row) (u : �
   abbrev pub Born : ℕ → Type 0
   Born n = (n ≡ made_of) ⊎ ((is_leaf (value h) made_of ≡ false) × (count past.before u ≡ 2) × ((side : Side) × (value h (child made_of side) ≡ n)) × (is_leaf (value h) n ≡ true))
 
+  abbrev Keeps : ℕ → ℕ → Type 0
+  Keeps j n = Unit {0}
+
   on_path : (x : ℕ) → IsSpot x → WasOnPath past.before x spot_of → Passes (value h) x t.tree spot_of
   on_path x s p = ⊎_elim (λ q. q) (λ q. absurd (not_marked x s q)) (t.path p.0 x spot_of (ends_trans h past.before p.0 past.past p.1) p.2)
 
-  at_spot : (x : ℕ) (s : IsSpot x) → WasOnPath past.before x spot_of → x < 2 ^ 64 → is_leaf (value past.before) spot_of ≡ false → (change' : List Pair → List Pair) → IsLocal x change'
-      → ((lo hi : ℕ) (c : Tree) → lo ≤ x → x < hi → Shows (value h) lo hi c → root c ≡ old past.before u → ¬ Has c spot_of → Replaced (value h) (value (r ⊳ h)) change' IsCut Born made_of lo hi c)
-      → Replaced (value h) (value (r ⊳ h)) change' IsCut Born (root t.tree) 0 (3 * 2 ^ 64) t.tree
-  at_spot x s p small fork change' local edit =
-      replace (value h) (value (r ⊳ h)) x spot_of (old past.before u) made_of change' IsCut Born local
-      (settled_leaf (value past.before) (value h) spot_of (card spot_of (inr (inr (0, refl)))) ∙ fork)
-      was now stays edit t.tree 0 (3 * 2 ^ 64) (omega arith) (omega arith) t.is_tree.shows (on_path x s p)
-    where
-      was : value h (child spot_of (toward (value h) spot_of x)) ≡ old past.before u
-      was = rw (field_is x s) at (update_finds f z) ∙ sym (λ i. (past.same i).old)
+  field_was : (x : ℕ) → IsSpot x → value h (child spot_of (toward (value h) spot_of x)) ≡ old past.before u
+  field_was x s = rw (field_is x s) at (update_finds f z) ∙ sym (λ i. (past.same i).old)
 
+  spot_fork : is_leaf (value past.before) spot_of ≡ false → is_leaf (value h) spot_of ≡ false
+  spot_fork fork = settled_leaf (value past.before) (value h) spot_of (card spot_of (inr (inr (0, refl)))) ∙ fork
+
+  -- what it takes the place of is in the tree, deeper than the node of the field
+  old_deeper : (x : ℕ) → IsSpot x → WasOnPath past.before x spot_of → is_leaf (value past.before) spot_of ≡ false → (level (value h) spot_of < level (value h) (old past.before u)) × Has t.tree (old past.before u)
+  old_deeper x s p fork =
+      subst (λ n. (level (value h) spot_of < level (value h) n) × Has t.tree n) (field_was x s)
+      (path_level (value h) t.tree _ _ spot_of (toward (value h) spot_of x) t.is_tree.shows (passes_has (value h) x t.tree spot_of (on_path x s p)) (spot_fork fork))
+
+  at_spot : (x : ℕ) (s : IsSpot x) → WasOnPath past.before x spot_of → x < 2 ^ 64 → is_leaf (value past.before) spot_of ≡ false → (change' : List Pair → List Pair) → IsLocal x change'
+      → level (value h) spot_of < level (value h) made_of
+      → ((lo hi : ℕ) (c : Tree) → lo ≤ x → x < hi → Shows (value h) lo hi c → EndsLow (value h) c → root c ≡ old past.before u → ¬ Has c spot_of → Replaced (value h) (value (r ⊳ h)) change' Keeps IsCut Born made_of lo hi c)
+      → Replaced (value h) (value (r ⊳ h)) change' Keeps IsCut Born (root t.tree) 0 (3 * 2 ^ 64) t.tree
+  at_spot x s p small fork change' local deep edit =
+      replace (value h) (value (r ⊳ h)) x spot_of (old past.before u) made_of change' Keeps IsCut Born local
+      (spot_fork fork)
+      (field_was x s) now stays deep edit t.tree 0 (3 * 2 ^ 64) (omega arith) (omega arith) t.is_tree.shows t.ends_low (on_path x s p)
+    where
       now : value (r ⊳ h) (child spot_of (toward (value h) spot_of x)) ≡ made_of
       now = value_at r h (child spot_of (toward (value h) spot_of x)) (z.update.word ∙ field_is x s) ∙ z.stored ∙ sym made_is
 
@@ -166,7 +179,7 @@ module _ (calls : ℕ → MapEdit) (lay : Layout) (h : History) (r : Row) (u : �
       stays w d = update_keeps_other f z w (ap (λ y. same_word y w) (field_is x s) ∙ d)
 
   abbrev Result : (List Pair → List Pair) → Type 0
-  Result change' = Replaced (value h) (value (r ⊳ h)) change' IsCut Born (root t.tree) 0 (3 * 2 ^ 64) t.tree
+  Result change' = Replaced (value h) (value (r ⊳ h)) change' Keeps IsCut Born (root t.tree) 0 (3 * 2 ^ 64) t.tree
 
   marked_of : (j : ℕ) → j < count past.before u → scx_finalizes past.before u j ≡ true → IsMarked (member past.before u j)
   marked_of j i q e = let x : value h (marked (member past.before u j)) ≡ 1 = removed j i q in omega arith
@@ -188,8 +201,11 @@ module _ (calls : ℕ → MapEdit) (lay : Layout) (h : History) (r : Row) (u : �
 
   -- a leaf is replaced
   leaf_edits : (c : MapEdit) → edit_key c < 2 ^ 64 → WasOnPath past.before (edit_key c) spot_of → is_leaf (value past.before) spot_of ≡ false → EditsLeaf past.before u c → Result (edited c)
-  leaf_edits c small p fork e = at_spot (edit_key c) s p small fork (edited c) (edited_local c) (edit (move_leaf_edit (value past.before) (value h) c (member past.before u 1) made_of (member_card 1) made_card (λ _ side. child_card side (value past.before (child made_of side)) refl) past.fields e.edit))
+  leaf_edits c small p fork e = at_spot (edit_key c) s p small fork (edited c) (edited_local c) deep (edit moved)
     where
+      moved : IsLeafEdit (value h) c (member past.before u 1) made_of
+      moved = move_leaf_edit (value past.before) (value h) c (member past.before u 1) made_of (member_card 1) made_card (λ _ side. child_card side (value past.before (child made_of side)) refl) past.fields e.edit
+
       plans : (field_index_of (plan past.before u) ≡ 0) × (side_of (plan past.before u) ≡ toward (value past.before) spot_of (edit_key c)) × (plan_finalizes (plan past.before u) 0 ≡ false) × (count_of (plan past.before u) ≡ 2) × (plan_finalizes (plan past.before u) 1 ≡ true)
       plans = leaf_plan_says (plan past.before u) (toward (value past.before) spot_of (edit_key c)) e.plan
 
@@ -210,17 +226,27 @@ module _ (calls : ℕ → MapEdit) (lay : Layout) (h : History) (r : Row) (u : �
       other : member past.before u 1 ≢ made_of
       other i = update_differs f z (sym made_is ∙ sym i ∙ sym e.old ∙ (λ j. (past.same j).old))
 
+      deep : level (value h) spot_of < level (value h) made_of
+      deep =
+          let same : level (value h) made_of ≡ level (value h) (member past.before u 1) = ⊎_elim (λ w. w.deep) (λ w. w.3.deep) moved in
+          let is : level (value h) (old past.before u) ≡ level (value h) (member past.before u 1) = ap (level (value h)) e.old in
+          let below = (old_deeper (edit_key c) s p fork).0 in
+          omega (arith, same, is, below)
+
       deeper : (x : ℕ) → level (value h) made_of ≡ level (value h) (member past.before u 1) → level (value h) x ≡ level (value h) made_of + 1 → member past.before u 1 ≢ x
       deeper x a b i = let q : level (value h) (member past.before u 1) ≡ level (value h) x = ap (level (value h)) i in omega (arith, a, b, q)
 
       edit : IsLeafEdit (value h) c (member past.before u 1) made_of
-          → (lo hi : ℕ) (t : Tree) → lo ≤ edit_key c → edit_key c < hi → Shows (value h) lo hi t → root t ≡ old past.before u → ¬ Has t spot_of → Replaced (value h) (value (r ⊳ h)) (edited c) IsCut Born made_of lo hi t
-      edit (inl w) lo hi t i j g q d =
-          weaken to_cut from_cut (λ n m. inl m) (swap (value h) (value (r ⊳ h)) spot_of (is_apart (edit_key c) s) c (member past.before u 1) made_of small other w lo hi t i j g (q ∙ e.old) d)
-      edit (inr w) lo hi t i j g q d =
-          weaken to_cut from_cut born (split (value h) (value (r ⊳ h)) spot_of (is_apart (edit_key c) s) c (member past.before u 1) made_of w.0 w.1 small
-          (apart_made (edit_key c) s p w.2.fork) other (deeper w.0 w.2.deep w.2.low) (deeper w.1 w.2.deep w.2.high) w.2 lo hi t i j g (q ∙ e.old) d)
+          → (lo hi : ℕ) (t : Tree) → lo ≤ edit_key c → edit_key c < hi → Shows (value h) lo hi t → EndsLow (value h) t → root t ≡ old past.before u → ¬ Has t spot_of → Replaced (value h) (value (r ⊳ h)) (edited c) Keeps IsCut Born made_of lo hi t
+      edit (inl w) lo hi t i j g ends q d =
+          weaken to_cut from_cut (λ n m. inl m) (swap (value h) (value (r ⊳ h)) spot_of Keeps (is_apart (edit_key c) s) c (member past.before u 1) made_of small other w lo hi t i j g ends (q ∙ e.old) d)
+      edit (inr w) lo hi t i j g ends q d =
+          weaken to_cut from_cut born (split (value h) (value (r ⊳ h)) spot_of Keeps (is_apart (edit_key c) s) c (member past.before u 1) made_of w.0 w.1 small
+          (apart_made (edit_key c) s p w.2.fork) other (deeper w.0 w.3.deep w.3.low) (deeper w.1 w.3.deep w.3.high) (one_more w.0 w.3.low) (one_more w.1 w.3.high) w.2 lo hi t i j g ends (q ∙ e.old) d)
         where
+          one_more : (x : ℕ) → level (value h) x ≡ level (value h) made_of + 1 → level (value h) made_of < level (value h) x
+          one_more x l = omega (arith, l)
+
           born : (n : ℕ) → (n ≡ made_of) ⊎ ((n ≡ w.0) ⊎ (n ≡ w.1)) → Born n
           born n (inl m) = inl m
           born n (inr (inl m)) = inr (w.2.fork, plans.3, (Left, w.2.left ∙ sym m), rw m w.2.first.leaf)
@@ -246,7 +272,7 @@ module _ (calls : ℕ → MapEdit) (lay : Layout) (h : History) (r : Row) (u : �
 
   -- a leaf is taken out
   joins : (c : MapEdit) (side : Side) → edit_key c < 2 ^ 64 → WasOnPath past.before (edit_key c) spot_of → is_leaf (value past.before) spot_of ≡ false → TakesLeafOut past.before u c side → Result (edited c)
-  joins c side small p fork e = at_spot x s p small fork (edited c) (edited_local c) edit
+  joins c side small p fork e = at_spot x s p small fork (edited c) (edited_local c) deep edit
     where
       x : ℕ
       x = edit_key c
@@ -319,11 +345,33 @@ module _ (calls : ℕ → MapEdit) (lay : Layout) (h : History) (r : Row) (u : �
       shown_child Left w = ((λ i. past.unheld (member past.before u 1) Left (held_at past.before (child (member past.before u 1) Left) made_of (w.0 ∙ i))), (λ i. past.unheld (member past.before u 1) Right (held_at past.before (child (member past.before u 1) Right) made_of (w.1 ∙ i))))
       shown_child Right w = ((λ i. past.unheld (member past.before u 1) Right (held_at past.before (child (member past.before u 1) Right) made_of (w.1 ∙ i))), (λ i. past.unheld (member past.before u 1) Left (held_at past.before (child (member past.before u 1) Left) made_of (w.0 ∙ i))))
 
-      edit : (lo hi : ℕ) (t : Tree) → lo ≤ x → x < hi → Shows (value h) lo hi t → root t ≡ old past.before u → ¬ Has t spot_of → Replaced (value h) (value (r ⊳ h)) (edited c) IsCut Born made_of lo hi t
-      edit lo hi t i j g q d =
-          weaken gone from_cut (λ n m. inl m) (join (value h) (value (r ⊳ h)) spot_of (is_apart x s) c (member past.before u 1) (member past.before u (leaf_place side)) (member past.before u (sibling_place side)) made_of other (shown_child side (e.fields (saw 1 (omega arith)))).0 (shown_child side (e.fields (saw 1 (omega arith)))).1 (apart_made x s p)
-          (move_join_by (value past.before) (value h) c (member past.before u 1) (member past.before u (leaf_place side)) (member past.before u (sibling_place side)) made_of (member_card 1) (member_card (leaf_place side)) (member_card (sibling_place side)) made_card e.edit)
-          (sides side) kids lo hi t i j g (q ∙ e.old) d)
+      moved : IsJoinBy (value h) c (member past.before u 1) (member past.before u (leaf_place side)) (member past.before u (sibling_place side)) made_of
+      moved = move_join_by (value past.before) (value h) c (member past.before u 1) (member past.before u (leaf_place side)) (member past.before u (sibling_place side)) made_of (member_card 1) (member_card (leaf_place side)) (member_card (sibling_place side)) made_card e.edit
+
+      -- the copy is as deep as the sibling, which is below the fork that goes
+      deep : level (value h) spot_of < level (value h) made_of
+      deep =
+          let is : member past.before u 1 ≡ old past.before u = sym e.old in
+          let top = old_deeper x s p fork in
+          let in_tree : Has t.tree (member past.before u 1) = subst (Has t.tree) e.old top.1 in
+          let below : level (value h) (member past.before u 1) < level (value h) (member past.before u (sibling_place side)) = lower side in_tree (sides side) in
+          let same : level (value h) made_of ≡ level (value h) (member past.before u (sibling_place side)) = ap (λ v. v / 8) moved.copy.same_head in
+          let there : level (value h) (old past.before u) ≡ level (value h) (member past.before u 1) = ap (level (value h)) e.old in
+          let first = top.0 in
+          omega (arith, below, same, there, first)
+        where
+          at_side : (z : ℕ) (from : Side) → Has t.tree (member past.before u 1) → value h (child (member past.before u 1) from) ≡ z → level (value h) (member past.before u 1) < level (value h) z
+          at_side z from i q = subst (λ n. level (value h) (member past.before u 1) < level (value h) n) q (path_level (value h) t.tree _ _ (member past.before u 1) from t.is_tree.shows i moved.fork).0
+
+          lower : (side : Side) → Has t.tree (member past.before u 1) → AreBelow (value h) (member past.before u 1) (member past.before u (leaf_place side)) (member past.before u (sibling_place side)) → level (value h) (member past.before u 1) < level (value h) (member past.before u (sibling_place side))
+          lower side i (inl w) = at_side (member past.before u (sibling_place side)) Right i w.1
+          lower side i (inr w) = at_side (member past.before u (sibling_place side)) Left i w.0
+
+      edit : (lo hi : ℕ) (t : Tree) → lo ≤ x → x < hi → Shows (value h) lo hi t → EndsLow (value h) t → root t ≡ old past.before u → ¬ Has t spot_of → Replaced (value h) (value (r ⊳ h)) (edited c) Keeps IsCut Born made_of lo hi t
+      edit lo hi t i j g ends q d =
+          weaken gone from_cut (λ n m. inl m) (join (value h) (value (r ⊳ h)) spot_of Keeps (is_apart x s) c (member past.before u 1) (member past.before u (leaf_place side)) (member past.before u (sibling_place side)) made_of other (shown_child side (e.fields (saw 1 (omega arith)))).0 (shown_child side (e.fields (saw 1 (omega arith)))).1 (apart_made x s p)
+          moved
+          (sides side) kids lo hi t i j g ends (q ∙ e.old) d)
 
   edits : (c : MapEdit) → edit_key c < 2 ^ 64 → WasOnPath past.before (edit_key c) spot_of → is_leaf (value past.before) spot_of ≡ false → IsEdit past.before u c → Result (edited c)
   edits c small p fork (inl e) = leaf_edits c small p fork e
@@ -388,13 +436,13 @@ module _ (calls : ℕ → MapEdit) (lay : Layout) (h : History) (r : Row) (u : �
 
   path_then : (m : History) (x n : ℕ) → Extends (r ⊳ h) m → IsOnPath m x n → Passes (value (r ⊳ h)) x result.tree n ⊎ (value (r ⊳ h) (marked n) ≢ 0)
   path_then m x n (inl e) p = inl (path_now (r ⊳ h) result.tree x n tree_now (rw e at p))
-  path_then m x n (inr e) p = ⊎_elim (λ q. ⊎_elim inl (λ d. inr (still_marked (rw d.3 at (marked_of d.0 d.1 d.2)))) (result.paths x n q)) (λ d. inr (still_marked d)) (t.path m x n e p)
+  path_then m x n (inr e) p = ⊎_elim (λ q. ⊎_elim inl (λ d. inr (still_marked (rw d.3 at (marked_of d.0 d.1 d.2)))) (result.paths x n tt q)) (λ d. inr (still_marked d)) (t.path m x n e p)
     where
       still_marked : value h (marked n) ≢ 0 → value (r ⊳ h) (marked n) ≢ 0
       still_marked d e = d (sym (update_keeps_mark f z n) ∙ e)
 
   pub tree_updated : TreeFacts calls lay (r ⊳ h)
-  tree_updated = record { tree = result.tree; is_tree = tree_now; items = items_now; ends_low = result.low t.ends_low; pending = pending_then; one_new = one_new_then; unborn = unborn_then; path = path_then }
+  tree_updated = record { tree = result.tree; is_tree = tree_now; items = items_now; ends_low = result.low; pending = pending_then; one_new = one_new_then; unborn = unborn_then; path = path_then }
 
   -- the node of the field that it changes is in the tree
   pub spot_unmarked : value h (marked (member h u (field_index h u))) ≢ 0 → ⊥
@@ -412,9 +460,6 @@ module _ (calls : ℕ → MapEdit) (lay : Layout) (h : History) (r : Row) (u : �
   root_side e big =
       let i = past.allowed.small in
       spot_side ∙ ap (λ n. toward (value h) n (edit_key called)) e ∙ ap (λ c. cond c Left Right) (lt-ltb (edit_key called) (rank (value h) 0) (omega (arith, i, big)))
-
-  field_was : (x : ℕ) → IsSpot x → value h (child spot_of (toward (value h) spot_of x)) ≡ old past.before u
-  field_was x s = rw (field_is x s) at (update_finds f z) ∙ sym (λ i. (past.same i).old)
 
   old_on_path : (x : ℕ) → IsSpot x → WasOnPath past.before x spot_of → is_leaf (value past.before) spot_of ≡ false → Passes (value h) x t.tree (old past.before u)
   old_on_path x s p fork =
@@ -504,7 +549,7 @@ module _ (calls : ℕ → MapEdit) (lay : Layout) (h : History) (r : Row) (u : �
 
       deep : IsLeafEdit (value past.before) c (member past.before u 1) made_of → Born n → level (value h) n ≤ suc (level (value h) (member past.before u 1))
       deep (inl w) (inl m) = top w.deep m
-      deep (inr w) (inl m) = top w.2.deep m
+      deep (inr w) (inl m) = top w.3.deep m
       deep (inl w) (inr m) = absurd (let q : true ≡ false = sym w.new.leaf ∙ sym (settled_leaf (value past.before) (value h) made_of made_card) ∙ m.0 in cc)
       deep (inr w) (inr m) = below m.2.0 (sym (past.fields w.2.fork m.2.0) ∙ m.2.1)
         where
@@ -512,11 +557,11 @@ module _ (calls : ℕ → MapEdit) (lay : Layout) (h : History) (r : Row) (u : �
           is_child x side l i j =
               let a : level (value h) n ≡ level (value past.before) n = lv n (inr (inl (side, j))) in
               let b : level (value past.before) n ≡ level (value past.before) x = ap (level (value past.before)) (sym j ∙ i) in
-              let d = w.2.deep in omega (arith, a, b, d, l, ll)
+              let d = w.3.deep in omega (arith, a, b, d, l, ll)
 
           below : (side : Side) → value past.before (child made_of side) ≡ n → level (value h) n ≤ suc (level (value h) (member past.before u 1))
-          below Left j = is_child w.0 Left w.2.low w.2.left j
-          below Right j = is_child w.1 Right w.2.high w.2.right j
+          below Left j = is_child w.0 Left w.3.low w.2.left j
+          below Right j = is_child w.1 Right w.3.high w.2.right j
 
   join_levels : (c : MapEdit) (side : Side) → TakesLeafOut past.before u c side → (n : ℕ) → Born n → IsAsDeep n
   unfolding IsAsDeep

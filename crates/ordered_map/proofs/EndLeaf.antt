@@ -24,14 +24,14 @@ use Rattle.ordered_map.specs.Paths.{IsOnPath, Passed, WasInTree, WasOnPath, IsEn
 use Rattle.ordered_map.specs.Runs.{IsTreeRun, Makes}
 use Rattle.ordered_map.specs.Spelled.{IsTree, Spells}
 use Rattle.ordered_map.specs.TreeWords.{Tree, Leaf, Fork, root, IsLeaf, Shows, Has, Passes, class, is_leaf, rank, toward, pairs, leaf_pairs, end_said}
-use Rattle.ordered_map.proofs.Trees.{EndsLow, last_leaf, has_last, open_between, node_below, same_tree, shown_leaf, passes_has, has_root}
+use Rattle.ordered_map.proofs.Trees.{EndsLow, last_leaf, has_last, open_between, node_below, same_tree, shown_leaf, passes_has, has_root, path_level}
 use Rattle.ordered_map.specs.TreeShape.{edit_leaf}
 use Rattle.ordered_map.proofs.Holding.{SameSettled, counted_same, same_leaf, low_items, rank_from, held_first, held_end, low_pairs, high_pairs}
 use Rattle.ordered_map.proofs.Moved.{settled_rank, settled_class, settled_leaf, settled_toward, settled_end}
 use Rattle.ordered_map.proofs.TreeFacts.{path_now, all_named}
 use Rattle.ordered_map.proofs.Grown.{tree_facts}
 use Rattle.ordered_map.proofs.Maps.{below_end, last_from, last_join}
-use Rattle.ordered_map.proofs.Past.{path_named, Latest, latest, path_level}
+use Rattle.ordered_map.proofs.Past.{path_named, Latest, latest}
 use Rattle.ordered_map.proofs.Meanings.{edits_of, grown, run_spells, run_since, wins_of, leaf_covered}
 use Rattle.ordered_map.proofs.TreeRuns.{path_remains, stood_settled}
 

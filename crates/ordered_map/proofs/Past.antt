@@ -18,7 +18,7 @@ use Rattle.arena.specs.Log.{log}
 use Rattle.arena.proofs.Lemmas.{node_apart, ends_self, ends_trans}
 use Rattle.histories.proofs.Lemmas.{Effect, Facts, effect, facts_before, freeze, freeze_keeps_field, lawful_tail, named_since, node_since, node_stays, quiet, update, update_keeps_mark, update_keeps_other}
 use Rattle.ordered_map.specs.OrderedMap.{MapEdit, get, AllAbove}
-use Rattle.ordered_map.proofs.Trees.{items, ends, Same, same_rank, passes_has, has_root, settled_same, open_between}
+use Rattle.ordered_map.proofs.Trees.{items, ends, Same, same_rank, passes_has, path_level, settled_same, open_between}
 use Rattle.ordered_map.proofs.Holding.{same_items}
 use Rattle.ordered_map.specs.Paths.{IsOnPath, Passed, WasInTree}
 use Rattle.ordered_map.specs.Runs.{map_of_log}
@@ -135,18 +135,6 @@ walk_ends calls lay h start k n small g p leaf =
     }
 
 -- Levels rise, in the tree and in removed nodes.
-
--- the children of a fork of the tree are in the tree, on levels above its own
-pub path_level : (f : Word → ℕ) (t : Tree) (lo hi n : ℕ) (side : Side) → Shows f lo hi t → Has t n → is_leaf f n ≡ false → (level f n < level f (f (child n side))) × Has t (f (child n side))
-path_level f (Leaf m) lo hi n side s e d = absurd (let x : true ≡ false = sym s.leaf ∙ rw (← e) at d in cc)
-path_level f (Fork m a b) lo hi n Left s (inl e) d =
-    let q : f (child n Left) ≡ root a = rw (← e) s.0.left in
-    rw (q, ← e) (s.0.low, inr (inl (has_root a)))
-path_level f (Fork m a b) lo hi n Right s (inl e) d =
-    let q : f (child n Right) ≡ root b = rw (← e) s.0.right in
-    rw (q, ← e) (s.0.high, inr (inr (has_root b)))
-path_level f (Fork m a b) lo hi n side s (inr (inl h)) d = let x : (level f n < level f (f (child n side))) × Has a (f (child n side)) = path_level f a lo (rank f m) n side s.1 h d in (x.0, inr (inl x.1))
-path_level f (Fork m a b) lo hi n side s (inr (inr h)) d = let x : (level f n < level f (f (child n side))) × Has b (f (child n side)) = path_level f b (rank f m) hi n side s.2 h d in (x.0, inr (inr x.1))
 
 pub level_rises : (calls : ℕ → MapEdit) (lay : Layout) (h m : History) (k n : ℕ) (side : Side) → IsGrown calls lay h → Extends h m → IsOnPath m k n → is_leaf (value h) n ≡ false → level (value h) n < level (value h) (value h (child n side))
 level_rises calls lay h m k n side g e p fork =

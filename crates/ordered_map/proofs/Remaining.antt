@@ -60,7 +60,7 @@ module _ (calls : ℕ → MapEdit) (lay : Layout) (h : History) (r : Row) (g : I
         ⊎_elim
         (λ p. record { tree = x.tree; is_tree = tree_now calls lay h r u (facts_then calls lay h r g) w g.mode g.lawful t; passes = p })
         (λ c. absurd (let y : true ≡ false = sym (cut_final c) ∙ e in cc))
-        (x.paths k n q)
+        (x.paths k n tt q)
 
   still_there : (k : ℕ) → is_final (log lay (r ⊳ h)) n ≡ false → Passes (value h) k (tree_then calls lay h r g).tree n → IsOnPath (r ⊳ h) k n
   still_there k e q = go (effect lay h r g.lawful)

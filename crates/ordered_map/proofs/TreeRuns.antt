@@ -21,7 +21,7 @@ use Rattle.arena.proofs.Lemmas.{held_at, held_since}
 use Rattle.ordered_map.specs.Spelled.{IsTree, Spells}
 use Rattle.ordered_map.specs.Paths.{IsOnPath, Passed, WasInTree, WasOnPath}
 use Rattle.ordered_map.specs.Runs.{IsTreeRun}
-use Rattle.ordered_map.proofs.Past.{path_level, grown_rises}
+use Rattle.ordered_map.proofs.Past.{grown_rises}
 use Rattle.ordered_map.proofs.Removed.{grown_not_final}
 use Rattle.ordered_map.proofs.Levels.{grown_level}
 use Rattle.ordered_map.proofs.Blanks.{grown_blank}
@@ -31,7 +31,7 @@ use Rattle.ordered_map.proofs.Stood.{was_now, was_passed, was_named}
 use Rattle.ordered_map.proofs.TreeFacts.{TreeFacts}
 use Rattle.ordered_map.proofs.Edited.{result, tree_now, new_in}
 use Rattle.ordered_map.proofs.Grown.{tree_facts, grown_tail}
-use Rattle.ordered_map.proofs.Trees.{passes_has, IsBelowFork, has_above, fields_apart}
+use Rattle.ordered_map.proofs.Trees.{passes_has, IsBelowFork, has_above, fields_apart, path_level}
 use Rattle.ordered_map.proofs.Holding.{SameSettled}
 use Rattle.ordered_map.proofs.Taken.{grown_log, grown_depth}
 use Rattle.ordered_map.proofs.Meanings.{edits_of, grown, run_since, run_spells}
