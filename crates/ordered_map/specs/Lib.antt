@@ -7,6 +7,7 @@ pub mod TreeWords
 pub mod Spelled
 pub mod Paths
 pub mod FillOrder
+pub mod Bits
 pub mod Edits
 pub mod TreeShape
 pub mod Runs
