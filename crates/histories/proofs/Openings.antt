@@ -28,8 +28,4 @@ opening_field mode n side = of (is_map mode) side
     of false side = omega arith
 
 pub some_open : (mode : Mode) → 0 < opening_nodes mode
-some_open mode = of (is_map mode)
-  where
-    of : (map : Bool) → 0 < cond map 3 9
-    of true = omega arith
-    of false = omega arith
+some_open mode = elim (is_map mode) as (λ is. 0 < cond is 3 9) [ | true ↦ omega arith | false ↦ omega arith ]
