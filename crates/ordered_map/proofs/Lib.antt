@@ -3,6 +3,7 @@ mod Holding
 mod Trees
 mod Local
 mod Searches
+mod Spanned
 mod Next
 mod Pending
 mod Moved

@@ -1,5 +1,5 @@
 -- What each edit makes of the subtree that it replaces, whatever its leaves hold.
-use Rattle.std.proofs.Common.{◌≡◌, ◌≢◌, ℕ, ◌+◌, ◌*◌, ◌/◌, ◌%◌, ◌^◌, ◌<◌, ◌≤◌, Bool, true, false, cond, ◌⊎◌, inl, inr, ⊎_elim, List, [], ◌∷◌, ◌++◌, refl, sym, ◌∙◌, ap, arith, eqb, ltb, subst, append-nil}
+use Rattle.std.proofs.Common.{◌≡◌, ◌≢◌, ℕ, ◌+◌, ◌*◌, ◌/◌, ◌%◌, ◌^◌, ◌<◌, ◌≤◌, Bool, true, false, cond, ◌⊎◌, inl, inr, ⊎_elim, List, [], ◌∷◌, ◌++◌, refl, sym, ◌∙◌, ap, arith, eqb, ltb, le-ltb, lt-ltb, subst, append-nil}
 use Rattle.std.proofs.lemmas.Bool.{eqb-true}
 use native.Mathlib.Decide.{ℕ_discrete}
 use Rattle.arena.specs.declared.word.Side.{Side}
@@ -11,21 +11,26 @@ use Rattle.arena.specs.declared.word.Slot.TheVariants.{First}
 use Rattle.arena.specs.declared.word.Word.{Word}
 use Rattle.arena.specs.Words.{node, child, first_key, first_key}
 use Rattle.ordered_map.specs.declared.pair.Pair.{Pair}
-use Rattle.ordered_map.specs.OrderedMap.{pair, insert, MapEdit, Insert, Delete, edit_key, edited, delete, AllBelow, AllFrom, IsRising}
+use Rattle.ordered_map.specs.OrderedMap.{pair, insert, MapEdit, Insert, Delete, edit_key, edited, delete, get, AllBelow, AllFrom, IsRising}
 use Rattle.ordered_map.specs.Holding.{held_pairs, IsWellCounted}
-use Rattle.ordered_map.specs.TreeWords.{class, is_leaf, level, rank, leaf_items, Tree, Leaf, Fork, root, HasItems, IsLeaf, IsForkOver, Shows, Has, Passes}
-use Rattle.ordered_map.specs.Edits.{IsSwapBy, IsSplitBy, IsJoinBy, AreBelow, HasFieldsOf}
-use Rattle.ordered_map.proofs.Lists.{edited_from, edited_below, from_left, below_right, rising_left, rising_right}
-use Rattle.ordered_map.proofs.Maps.{edited_rises}
+use Rattle.ordered_map.specs.TreeWords.{class, is_leaf, level, rank, toward, opposite, leaf_items, Tree, Leaf, Fork, root, HasItems, IsLeaf, IsForkOver, Shows, Has, Passes}
+use Rattle.ordered_map.specs.Edits.{IsLowLeaf, IsSwapBy, IsSplitBy, IsJoinBy, AreBelow, HasFieldsOf}
+use Rattle.ordered_map.specs.TrieShape.{IsAboveBy}
+use Rattle.ordered_map.specs.Bits.{side_from, side_to, Shares, Keeps}
+use Rattle.ordered_map.proofs.Lists.{above_from, below_more, edited_from, edited_below, from_left, below_right, rising_left, rising_right}
+use Rattle.std.specs.Prelude.{None}
+use Rattle.ordered_map.proofs.Searches.{get_below}
+use Rattle.ordered_map.proofs.Spanned.{AreForks, child_items, child_shares, low_from, low_to, narrow_from, narrow_to, node_low}
+use Rattle.ordered_map.proofs.Maps.{edited_rises, get_above}
 use Rattle.ordered_map.proofs.Holding.{SameSettled, held_first, rank_from, rank_below, same_leaf, same_items, low_items, high_items, key_small}
-use Rattle.ordered_map.proofs.Trees.{items, last_leaf, EndsLow, has_last, frame_low, Replaced, Same, node_below, wider, frame, frame_items, frame_path, items_above, items_below, open_between, edited_local, apart, not_below}
+use Rattle.ordered_map.proofs.Trees.{items, last_leaf, EndsLow, has_last, frame_low, Replaced, Same, node_below, wider, frame, frame_items, frame_path, items_above, items_below, open_between, edited_local, apart, not_below, passes_has, split_at}
 
 -- Field words of the node p alone differ between f and g.
 pub record Apart (f g : Word → ℕ) (p : ℕ) : Type 0 where
   pub settled : (n : ℕ) (part : SettledPart) → g (node n (Settled part)) ≡ f (node n (Settled part))
   pub field : (n : ℕ) (side : Side) → p ≢ n → g (child n side) ≡ f (child n side)
 
-apart_settled : (f g : Word → ℕ) (p : ℕ) → Apart f g p → (n : ℕ) → SameSettled f g n
+pub apart_settled : (f g : Word → ℕ) (p : ℕ) → Apart f g p → (n : ℕ) → SameSettled f g n
 apart_settled f g p e n (Settled part) i = e.settled n part
 apart_settled f g p e n _ i = absurd i
 
@@ -59,6 +64,13 @@ emptied_key (Insert k v) p ps none = go (ltb k p.key) (eqb k p.key) none
     go true c x = absurd (let z : pair k v ∷ p ∷ ps ≡ [] = x in cc)
     go false true x = absurd (let z : pair k v ∷ ps ≡ [] = x in cc)
     go false false x = absurd (let z : p ∷ insert k v ps ≡ [] = x in cc)
+
+-- on which side of a fork a key is
+turned_left : (f : Word → ℕ) (n k : ℕ) → toward f n k ≡ Left → k < rank f n
+turned_left f n k z = ⊎_elim (λ l. l) (λ l. absurd (let x : toward f n k ≡ Right = rw (le-ltb k (rank f n) l) refl in let y : Right ≡ Left = sym x ∙ z in cc)) (split_at k (rank f n))
+
+turned_right : (f : Word → ℕ) (n k : ℕ) → toward f n k ≡ Right → rank f n ≤ k
+turned_right f n k z = ⊎_elim (λ l. absurd (let x : toward f n k ≡ Left = rw (lt-ltb k (rank f n) l) refl in let y : Left ≡ Right = sym x ∙ z in cc)) (λ l. l) (split_at k (rank f n))
 
 module _ (f g : Word → ℕ) (p : ℕ) (Stays : ℕ → ℕ → Type 0) (e : Apart f g p) where
   same : (n : ℕ) → SameSettled f g n
@@ -430,3 +442,164 @@ module _ (f g : Word → ℕ) (p : ℕ) (Stays : ℕ → ℕ → Type 0) (e : Ap
               paths j m w (inl h) = inr (inl (sym x ∙ h))
               paths j m w (inr (inr h)) = let y : l ≡ m = rw is_b at h.1 in inr (inr (inl y))
               paths j m w (inr (inl h)) = ⊎_elim inl (λ y. inr (inr (inr y))) (r.paths j m w h.1)
+
+  -- a leaf with what the edit makes of no pair
+  lone_pair : (c : MapEdit) (x lo hi : ℕ) → edit_key c < 2 ^ 64 → IsLowLeaf f x → held_pairs f x ≡ edited c [] → lo ≤ edit_key c → edit_key c < hi → IsLeaf f x lo hi
+  lone_pair c x lo hi small leaf held u w = record {
+    leaf = leaf.leaf;
+    small = key_small f x below_all;
+    items = record {
+      keys = λ z. (leaf.counted, below_all);
+      rising = subst IsRising (sym is) (edited_rises c [] tt);
+      from = subst (AllFrom lo) (sym is) (edited_from c lo [] tt u);
+      below = subst (AllBelow hi) (sym is) (edited_below c hi [] tt w);
+    };
+  }
+    where
+      is : leaf_items f x ≡ edited c []
+      is = low_items f x leaf.class ∙ held
+
+      below_all : AllBelow (2 ^ 64) (held_pairs f x)
+      below_all = subst (AllBelow (2 ^ 64)) (sym held) (edited_below c (2 ^ 64) [] tt small)
+
+  -- a fork goes below a fresh one, beside a leaf with a pair of its own
+  pub above : (c : MapEdit) (u new x : ℕ) (side : Side) → edit_key c < 2 ^ 64 → p ≢ new → level f new < level f x → level f new < level f u → IsAboveBy f c u new x side → Keeps f new (opposite side) u → ((j m : ℕ) → Stays j m → (is_leaf f m ≡ false) × (class f m ≡ 0 → Shares f m j))
+      → (lo hi : ℕ) (a : Tree) → lo ≤ edit_key c → edit_key c < hi → Shows f lo hi a → EndsLow f a → AreForks f a → root a ≡ u → ¬ Has a p → Replaced f g (edited c) Stays (λ n. ⊥) (λ n. (n ≡ new) ⊎ (n ≡ x)) new lo hi a
+  above c u new x side small pc lx lu s keeps shares lo hi (Leaf n) v w t ends all q d = absurd (let z : true ≡ false = sym t.leaf ∙ rw (← q) at s.old_fork in cc)
+  above c u new x side small pc lx lu s keeps shares lo hi (Fork n a b) v w t ends all q d = go side s keeps
+    where
+      k : ℕ
+      k = edit_key c
+
+      last : class f (last_leaf b) ≡ 0
+      last = ends.0 (ap (class f) q ∙ s.old_low)
+
+      same_m : (m : ℕ) → Has (Fork n a b) m → Same f g m
+      same_m m h = apart_same f g p e m (λ y. d (rw (← y) at h))
+
+      rank_is : rank f new ≡ f (node new first_key)
+      rank_is = let z = s.low in omega (arith, z)
+
+      rc : rank g new ≡ rank f new
+      rc = apart_rank f g p e new
+
+      x_items : leaf_items f x ≡ edited c []
+      x_items = low_items f x s.first.class ∙ s.pairs
+
+      x_class : class g x ≡ 0
+      x_class = apart_class f g p e x ∙ s.first.class
+
+      last_stays : class g (last_leaf b) ≡ class f (last_leaf b)
+      last_stays = apart_class f g p e (last_leaf b)
+
+      is_low : (m : ℕ) → Has (Fork n a b) m → class f m ≡ 0
+      is_low m h = let y = node_low f (Fork n a b) lo hi m t last h in omega (arith, y)
+
+      -- what stands on a side of it
+      side_items : (at : Side) → Keeps f new at u → AllFrom (side_from f new at) (items f (Fork n a b)) × AllBelow (side_to f new at) (items f (Fork n a b))
+      side_items at y = child_items f new at (Fork n a b) lo hi t last all (subst (Keeps f new at) (sym q) y)
+
+      side_keys : (at : Side) → Keeps f new at u → (j m : ℕ) → Stays j m → Has (Fork n a b) m → (side_from f new at ≤ j) × (j < side_to f new at)
+      side_keys at y j m z h =
+          let i = shares j m z in
+          child_shares f new at (Fork n a b) lo hi m j t last all (subst (Keeps f new at) (sym q) y) h i.0 (i.1 (is_low m h))
+
+      put_left : (m : ℕ) → Has (Fork new (Leaf x) (Fork n a b)) m → Has (Fork n a b) m ⊎ ((m ≡ new) ⊎ (m ≡ x))
+      put_left m (inl h) = inr (inl (sym h))
+      put_left m (inr (inl h)) = inr (inr (sym h))
+      put_left m (inr (inr h)) = inl h
+
+      put_right : (m : ℕ) → Has (Fork new (Fork n a b) (Leaf x)) m → Has (Fork n a b) m ⊎ ((m ≡ new) ⊎ (m ≡ x))
+      put_right m (inl h) = inr (inl (sym h))
+      put_right m (inr (inl h)) = inl h
+      put_right m (inr (inr h)) = inr (inr (sym h))
+
+      lc : level g new ≡ level f new
+      lc = apart_level f g p e new
+
+      x_deep : level g new < level g x
+      x_deep = let y : level g x ≡ level f x = apart_level f g p e x in omega (arith, lc, y, lx)
+
+      u_deep : level g new < level g n
+      u_deep = let y : level g n ≡ level f n = apart_level f g p e n in let z : level f n ≡ level f u = ap (level f) q in omega (arith, lc, y, z, lu)
+
+      go : (side : Side) → IsAboveBy f c u new x side → Keeps f new (opposite side) u → Replaced f g (edited c) Stays (λ n. ⊥) (λ n. (n ≡ new) ⊎ (n ≡ x)) new lo hi (Fork n a b)
+      go Left r y = record {
+        tree = Fork new (Leaf x) (Fork n a b);
+        shows = (
+          record { fork = apart_leaf f g p e new ∙ r.fork; left = e.field new Left pc ∙ r.leaf; right = e.field new Right pc ∙ r.other ∙ sym q; low = x_deep; high = u_deep },
+          subst (λ i. IsLeaf g x lo i) (sym rc) (same_leaf f g x lo (rank f new) (same x) (lone_pair c x lo (rank f new) small r.first r.pairs v key)),
+          subst (λ i. Shows g i hi (Fork n a b)) (sym rc) (frame f g (Fork n a b) (rank f new) hi same_m (narrow_from f (Fork n a b) lo hi (rank f new) t from)),
+        );
+        is = refl;
+        items = (λ i. same_items f g x (same x) i ++ frame_items f g (Fork n a b) same_m i) ∙ ap (λ xs. xs ++ items f (Fork n a b)) x_items ∙ sym ((edited_local c).left [] (items f (Fork n a b)) (above_from k (rank f new) (items f (Fork n a b)) key from));
+        ends = last_stays;
+        low = (λ _. last_stays ∙ last, tt, frame_low f g (Fork n a b) same_m ends);
+        paths = λ j m z h. inl (inr (inr (rw rc (beyond j m z h), frame_path f g j (Fork n a b) m same_m h)));
+        made = put_left;
+        out = λ m z. absurd z;
+      }
+        where
+          key : k < rank f new
+          key = turned_left f new k r.turn
+
+          bound : side_from f new Right ≡ rank f new
+          bound = (low_from f new r.low).1 ∙ sym rank_is
+
+          from : AllFrom (rank f new) (items f (Fork n a b))
+          from = subst (λ i. AllFrom i (items f (Fork n a b))) bound (side_items Right y).0
+
+          beyond : (j m : ℕ) → Stays j m → Passes f j (Fork n a b) m → rank f new ≤ j
+          beyond j m z h = subst (λ i. i ≤ j) bound (side_keys Right y j m z (passes_has f j (Fork n a b) m h)).0
+      go Right r y = record {
+        tree = Fork new (Fork n a b) (Leaf x);
+        shows = (
+          record { fork = apart_leaf f g p e new ∙ r.fork; left = e.field new Left pc ∙ r.other ∙ sym q; right = e.field new Right pc ∙ r.leaf; low = u_deep; high = x_deep },
+          subst (λ i. Shows g lo i (Fork n a b)) (sym rc) (frame f g (Fork n a b) lo (rank f new) same_m (narrow_to f (Fork n a b) lo hi (rank f new) t below)),
+          subst (λ i. IsLeaf g x i hi) (sym rc) (same_leaf f g x (rank f new) hi (same x) (lone_pair c x (rank f new) hi small r.first r.pairs key w)),
+        );
+        is = refl;
+        items = (λ i. frame_items f g (Fork n a b) same_m i ++ same_items f g x (same x) i) ∙ ap (λ xs. items f (Fork n a b) ++ xs) x_items ∙ sym ((edited_local c).right (items f (Fork n a b)) [] (below_more (rank f new) k (items f (Fork n a b)) key below)) ∙ ap (edited c) (append-nil (items f (Fork n a b)));
+        ends = x_class ∙ sym last;
+        low = (λ _. x_class, frame_low f g (Fork n a b) same_m ends, tt);
+        paths = λ j m z h. inl (inr (inl (rw rc (before j m z h), frame_path f g j (Fork n a b) m same_m h)));
+        made = put_right;
+        out = λ m z. absurd z;
+      }
+        where
+          key : rank f new ≤ k
+          key = turned_right f new k r.turn
+
+          bound : side_to f new Left ≡ rank f new
+          bound = (low_to f new r.low).0 ∙ sym rank_is
+
+          below : AllBelow (rank f new) (items f (Fork n a b))
+          below = subst (λ i. AllBelow i (items f (Fork n a b))) bound (side_items Left y).1
+
+          before : (j m : ℕ) → Stays j m → Passes f j (Fork n a b) m → j < rank f new
+          before j m z h = subst (λ i. j < i) bound (side_keys Left y j m z (passes_has f j (Fork n a b) m h)).1
+
+-- none of what is below where a fork is put above has the edit's key
+pub absent : (f : Word → ℕ) (c : MapEdit) (u new x : ℕ) (side : Side) (a : Tree) (lo hi : ℕ) → Shows f lo hi a → EndsLow f a → AreForks f a → root a ≡ u → IsAboveBy f c u new x side → Keeps f new (opposite side) u → get (edit_key c) (items f a) ≡ None
+absent f c u new x side (Leaf n) lo hi t ends all q s keeps = absurd (let z : true ≡ false = sym t.leaf ∙ rw (← q) at s.old_fork in cc)
+absent f c u new x side (Fork n a b) lo hi t ends all q s keeps = go side s keeps
+  where
+    k : ℕ
+    k = edit_key c
+
+    last : class f (last_leaf b) ≡ 0
+    last = ends.0 (ap (class f) q ∙ s.old_low)
+
+    go : (side : Side) → IsAboveBy f c u new x side → Keeps f new (opposite side) u → get (edit_key c) (items f (Fork n a b)) ≡ None
+    go Left r y =
+        let held = child_items f new Right (Fork n a b) lo hi t last all (subst (Keeps f new Right) (sym q) y) in
+        let bound = (low_from f new r.low).1 in
+        let below : k < rank f new = turned_left f new k r.turn in
+        let low = r.low in
+        get_above k (items f (Fork n a b)) (above_from k (side_from f new Right) (items f (Fork n a b)) (omega (arith, bound, below, low)) held.0)
+    go Right r y =
+        let held = child_items f new Left (Fork n a b) lo hi t last all (subst (Keeps f new Left) (sym q) y) in
+        let bound = (low_to f new r.low).0 in
+        let from : rank f new ≤ k = turned_right f new k r.turn in
+        let low = r.low in
+        get_below k (items f (Fork n a b)) (below_more (side_to f new Left) k (items f (Fork n a b)) (omega (arith, bound, from, low)) held.1)

@@ -6,9 +6,10 @@ use Rattle.arena.specs.declared.word.NodeWord.TheVariants.{Settled}
 use Rattle.arena.specs.declared.word.SettledPart.TheVariants.{Head}
 use Rattle.arena.specs.declared.word.Word.{Word}
 use Rattle.arena.specs.Words.{child, first_key}
-use Rattle.ordered_map.specs.OrderedMap.{AllBelow, AllFrom, MapEdit, edited, end_pair, get}
-use Rattle.ordered_map.specs.TreeWords.{class, is_leaf, level, rank, toward, said, end_said, leaf_items}
+use Rattle.ordered_map.specs.OrderedMap.{AllBelow, AllFrom, MapEdit, edit_key, edited, end_pair, get}
+use Rattle.ordered_map.specs.TreeWords.{class, is_leaf, level, rank, toward, opposite, said, end_said, leaf_items}
 use Rattle.ordered_map.proofs.Holding.{SameSettled, held_same, counted_same, same_items, same_pairs}
+use Rattle.ordered_map.specs.TrieShape.{IsAboveBy}
 use Rattle.ordered_map.specs.Edits.{IsLowLeaf, IsLastLeaf, IsSwapBy, IsSplitBy, HasTreeLevels, IsCopyOf, IsJoinBy, IsLeafEdit}
 
 pub settled_rank : (b f : Word → ℕ) (n : ℕ) → SameSettled b f n → rank f n ≡ rank b n
@@ -44,7 +45,7 @@ module _ (b f : Word → ℕ) where
     key = λ d. e first_key tt ∙ s.key (λ z. d (settled_class b f n e ∙ z)) ∙ sym (el first_key tt);
   }
 
-  move_swap_by : (e : MapEdit) (l c : ℕ) → SameSettled b f l → SameSettled b f c → IsSwapBy b e l c → IsSwapBy f e l c
+  pub move_swap_by : (e : MapEdit) (l c : ℕ) → SameSettled b f l → SameSettled b f c → IsSwapBy b e l c → IsSwapBy f e l c
   move_swap_by e l c el ec s = record {
     leaf = settled_leaf b f l el ∙ s.leaf;
     class = settled_class b f l el ∙ s.class;
@@ -53,7 +54,7 @@ module _ (b f : Word → ℕ) where
     deep = settled_level b f c ec ∙ s.deep ∙ sym (settled_level b f l el);
   }
 
-  move_split_by : (e : MapEdit) (l c x y : ℕ) → SameSettled b f l → SameSettled b f c → SameSettled b f x → SameSettled b f y → ((side : Side) → f (child c side) ≡ b (child c side)) → IsSplitBy b e l c x y → IsSplitBy f e l c x y
+  pub move_split_by : (e : MapEdit) (l c x y : ℕ) → SameSettled b f l → SameSettled b f c → SameSettled b f x → SameSettled b f y → ((side : Side) → f (child c side) ≡ b (child c side)) → IsSplitBy b e l c x y → IsSplitBy f e l c x y
   move_split_by e l c x y el ec ex ey fields s = record {
     leaf = settled_leaf b f l el ∙ s.leaf;
     fork = settled_leaf b f c ec ∙ s.fork;
@@ -69,7 +70,7 @@ module _ (b f : Word → ℕ) where
     key = λ d. ec first_key tt ∙ s.key (λ z. d (settled_class b f c ec ∙ z)) ∙ sym (el first_key tt);
   }
 
-  move_levels : (l c x y : ℕ) → SameSettled b f l → SameSettled b f c → SameSettled b f x → SameSettled b f y → HasTreeLevels b l c x y → HasTreeLevels f l c x y
+  pub move_levels : (l c x y : ℕ) → SameSettled b f l → SameSettled b f c → SameSettled b f x → SameSettled b f y → HasTreeLevels b l c x y → HasTreeLevels f l c x y
   move_levels l c x y el ec ex ey s = record {
     deep = settled_level b f c ec ∙ s.deep ∙ sym (settled_level b f l el);
     low = settled_level b f x ex ∙ s.low ∙ ap (λ v. v + 1) (sym (settled_level b f c ec));
@@ -99,4 +100,17 @@ module _ (b f : Word → ℕ) where
     low = settled_class b f l el ∙ s.low;
     emptied = ap (edited e) (held_same b f l el) ∙ s.emptied;
     copy = move_copy z c ez ec s.copy;
+  }
+
+  pub move_above : (e : MapEdit) (u c x : ℕ) (side : Side) → SameSettled b f u → SameSettled b f c → SameSettled b f x → ((at : Side) → f (child c at) ≡ b (child c at)) → IsAboveBy b e u c x side → IsAboveBy f e u c x side
+  move_above e u c x side eu ec ex fields s = record {
+    old_fork = settled_leaf b f u eu ∙ s.old_fork;
+    old_low = settled_class b f u eu ∙ s.old_low;
+    first = move_low x ex s.first;
+    pairs = held_same b f x ex ∙ s.pairs;
+    fork = settled_leaf b f c ec ∙ s.fork;
+    low = settled_class b f c ec ∙ s.low;
+    turn = settled_toward b f c (edit_key e) ec ∙ s.turn;
+    leaf = fields side ∙ s.leaf;
+    other = fields (opposite side) ∙ s.other;
   }

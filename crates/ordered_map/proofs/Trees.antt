@@ -321,13 +321,13 @@ pub record Replaced (f g : Word → ℕ) (change : List Pair → List Pair) (Sta
   pub made : (n : ℕ) → Has tree n → Has a n ⊎ Made n
   pub out : (n : ℕ) → Gone n → Has a n × ¬ Has tree n
 
-module _ (f g : Word → ℕ) (k p old new : ℕ) (change : List Pair → List Pair) (Stays : ℕ → ℕ → Type 0) (Gone Made : ℕ → Type 0) (local : IsLocal k change)
+module _ (f g : Word → ℕ) (k p old new : ℕ) (change : List Pair → List Pair) (Stays : ℕ → ℕ → Type 0) (In Gone Made : ℕ → Type 0) (local : IsLocal k change)
     (fork : is_leaf f p ≡ false)
     (was : f (child p (toward f p k)) ≡ old)
     (now : g (child p (toward f p k)) ≡ new)
     (stays : (w : Word) → same_word (child p (toward f p k)) w ≡ false → g w ≡ f w)
     (deep : level f p < level f new)
-    (edit : (lo hi : ℕ) (a : Tree) → lo ≤ k → k < hi → Shows f lo hi a → EndsLow f a → root a ≡ old → ¬ Has a p → Replaced f g change Stays Gone Made new lo hi a) where
+    (edit : (lo hi : ℕ) (a : Tree) → lo ≤ k → k < hi → Shows f lo hi a → EndsLow f a → ((n : ℕ) → Has a n → In n) → root a ≡ old → ¬ Has a p → Replaced f g change Stays Gone Made new lo hi a) where
   off : (n : ℕ) → p ≢ n → Same f g n
   off n d a i = stays (node n a) (node_apart p n (Child (toward f p k)) a d)
 
@@ -435,8 +435,8 @@ module _ (f g : Word → ℕ) (k p old new : ℕ) (change : List Pair → List P
       gone m c (inr (inr h)) = (x.out m c).1 h
 
   -- at the node of the changed field
-  here : (n lo hi : ℕ) (a b : Tree) → lo ≤ k → k < hi → Shows f lo hi (Fork n a b) → EndsLow f (Fork n a b) → p ≡ n → Replaced f g change Stays Gone Made n lo hi (Fork n a b)
-  here n lo hi a b x y s ends e = go (split_at k (rank f n))
+  here : (n lo hi : ℕ) (a b : Tree) → lo ≤ k → k < hi → Shows f lo hi (Fork n a b) → EndsLow f (Fork n a b) → ((m : ℕ) → Has (Fork n a b) m → In m) → p ≡ n → Replaced f g change Stays Gone Made n lo hi (Fork n a b)
+  here n lo hi a b x y s ends all e = go (split_at k (rank f n))
     where
       in_a : ¬ Has a p
       in_a h = not_below f a lo (rank f n) p s.1 (rw e s.0.low) h
@@ -450,24 +450,24 @@ module _ (f g : Word → ℕ) (k p old new : ℕ) (change : List Pair → List P
           let w : f (child n Left) ≡ old = rw (t, e) at was in
           let v : g (child n Left) ≡ new = rw (t, e) at now in
           let u : g (child n Right) ≡ f (child n Right) = stays (child n Right) (node_word_apart p n (Child (toward f p k)) (Child Right) (rw t refl)) in
-          on_left n lo hi a b l s ends in_b new (rw e at deep) v u (edit lo (rank f n) a x l s.1 ends.1 (sym s.0.left ∙ w) in_a)
+          on_left n lo hi a b l s ends in_b new (rw e at deep) v u (edit lo (rank f n) a x l s.1 ends.1 (λ m h. all m (inr (inl h))) (sym s.0.left ∙ w) in_a)
       go (inr l) =
           let t : toward f p k ≡ Right = rw (e, le-ltb k (rank f n) l) refl in
           let w : f (child n Right) ≡ old = rw (t, e) at was in
           let v : g (child n Right) ≡ new = rw (t, e) at now in
           let u : g (child n Left) ≡ f (child n Left) = stays (child n Left) (node_word_apart p n (Child (toward f p k)) (Child Left) (rw t refl)) in
-          on_right n lo hi a b l s ends in_a new (rw e at deep) v u (edit (rank f n) hi b l y s.2 ends.2 (sym s.0.right ∙ w) in_b)
+          on_right n lo hi a b l s ends in_a new (rw e at deep) v u (edit (rank f n) hi b l y s.2 ends.2 (λ m h. all m (inr (inr h))) (sym s.0.right ∙ w) in_b)
 
-  pub replace : (t : Tree) (lo hi : ℕ) → lo ≤ k → k < hi → Shows f lo hi t → EndsLow f t → Passes f k t p → Replaced f g change Stays Gone Made (root t) lo hi t
-  replace (Leaf n) lo hi x y s ends e = absurd (let z : true ≡ false = sym s.leaf ∙ rw (← e) at fork in cc)
-  replace (Fork n a b) lo hi x y s ends (inl e) = here n lo hi a b x y s ends (sym e)
-  replace (Fork n a b) lo hi x y s ends (inr (inl q)) =
+  pub replace : (t : Tree) (lo hi : ℕ) → lo ≤ k → k < hi → Shows f lo hi t → EndsLow f t → ((n : ℕ) → Has t n → In n) → Passes f k t p → Replaced f g change Stays Gone Made (root t) lo hi t
+  replace (Leaf n) lo hi x y s ends all e = absurd (let z : true ≡ false = sym s.leaf ∙ rw (← e) at fork in cc)
+  replace (Fork n a b) lo hi x y s ends all (inl e) = here n lo hi a b x y s ends all (sym e)
+  replace (Fork n a b) lo hi x y s ends all (inr (inl q)) =
       let h : Has a p = passes_has f k a p q.1 in
       let d : p ≢ n = λ e. not_below f a lo (rank f n) p s.1 (rw e s.0.low) h in
       let i : ¬ Has b p = λ j. apart f a b lo (rank f n) hi p s.1 s.2 h j in
-      on_left n lo hi a b q.0 s ends i (root a) s.0.low (off n d (Child Left) tt ∙ s.0.left) (off n d (Child Right) tt) (replace a lo (rank f n) x q.0 s.1 ends.1 q.1)
-  replace (Fork n a b) lo hi x y s ends (inr (inr q)) =
+      on_left n lo hi a b q.0 s ends i (root a) s.0.low (off n d (Child Left) tt ∙ s.0.left) (off n d (Child Right) tt) (replace a lo (rank f n) x q.0 s.1 ends.1 (λ m h. all m (inr (inl h))) q.1)
+  replace (Fork n a b) lo hi x y s ends all (inr (inr q)) =
       let h : Has b p = passes_has f k b p q.1 in
       let d : p ≢ n = λ e. not_below f b (rank f n) hi p s.2 (rw e s.0.high) h in
       let i : ¬ Has a p = λ j. apart f a b lo (rank f n) hi p s.1 s.2 j h in
-      on_right n lo hi a b q.0 s ends i (root b) s.0.high (off n d (Child Right) tt ∙ s.0.right) (off n d (Child Left) tt) (replace b (rank f n) hi q.0 y s.2 ends.2 q.1)
+      on_right n lo hi a b q.0 s ends i (root b) s.0.high (off n d (Child Right) tt ∙ s.0.right) (off n d (Child Left) tt) (replace b (rank f n) hi q.0 y s.2 ends.2 (λ m h. all m (inr (inr h))) q.1)
