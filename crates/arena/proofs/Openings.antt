@@ -1,9 +1,6 @@
 -- What the words of a table hold after it was opened.
-use Rattle.std.proofs.Common.{◌≡◌, ℕ, Bool, true, false, cond, ◌&&◌, eqb, ⊎_elim, refl, sym, ◌∙◌, eq-eqb, ne_eqb, ap, arith, zero, suc}
+use Rattle.std.proofs.Common.{◌≡◌, ℕ, Bool, true, false, cond, if◌then◌else◌, ◌&&◌, eqb, ⊎_elim, refl, sym, ◌∙◌, eq-eqb, ne_eqb, ap, arith, zero, suc}
 use Rattle.std.proofs.lemmas.Bool.Decides.{eqb_tells}
-use Rattle.arena.specs.declared.limits.Mode.{Mode}
-use Rattle.arena.specs.declared.limits.Mode.TheVariants.{Tree, Records}
-use Rattle.arena.specs.declared.layout.Layout.{Layout}
 use Rattle.arena.specs.declared.word.Side.TheVariants.{Left, Right}
 use Rattle.arena.specs.declared.word.NodeWord.TheVariants.{Settled, Child, Info, Marked}
 use Rattle.arena.specs.declared.word.SettledPart.TheVariants.{Head}
@@ -13,7 +10,7 @@ use Rattle.arena.specs.declared.number.ScxNo.{ScxNo}
 use Rattle.arena.specs.declared.word.Word.{Word}
 use Rattle.arena.specs.declared.word.Word.TheVariants.{Node, Scx}
 use Rattle.arena.specs.Words.{node, child, state, same_word}
-use Rattle.arena.specs.Layout.{IsWord, opening, tree_opening, records_opening}
+use Rattle.arena.specs.Layout.{is_map, tree_opening, records_opening, IsWord}
 use Rattle.arena.specs.PlainWords.{Contents, IsChanged, IsOpening, word_at}
 use Rattle.arena.proofs.SameWords.{word_same, word_apart}
 
@@ -100,12 +97,6 @@ planted a b c d e f p q r s t start w i =
 pub opened : (zeros words : Contents) → IsChanged zeros words (state 0) 2 → ((w : Word) → IsWord zeros.layout w → word_at zeros w ≡ 0) → (w : Word) → IsWord zeros.layout w → word_at words w ≡ records_opening w
 opened zeros words c z w i = changed_to zeros words _ _ w c i ∙ rw (z w i) (records_are w)
 
-pub as_tree : (old words : Contents) → words.layout ≡ old.layout → old.layout.mode ≡ Tree → ((w : Word) → IsWord old.layout w → word_at words w ≡ tree_opening w) → IsOpening words
-as_tree old words l m h w i =
-    let same : words.layout.mode ≡ Tree = ap (λ (x : Layout). x.mode) l ∙ m in
-    h w (rw l at i) ∙ ap (λ (x : Mode). opening x w) (sym same)
-
-pub as_records : (old words : Contents) → words.layout ≡ old.layout → old.layout.mode ≡ Records → ((w : Word) → IsWord old.layout w → word_at words w ≡ records_opening w) → IsOpening words
-as_records old words l m h w i =
-    let same : words.layout.mode ≡ Records = ap (λ (x : Layout). x.mode) l ∙ m in
-    h w (rw l at i) ∙ ap (λ (x : Mode). opening x w) (sym same)
+-- a table that holds a map's opening words, or those of records, is as its mode opens
+pub as_opening : (old words : Contents) (map : Bool) → words.layout ≡ old.layout → is_map old.layout.mode ≡ map → ((w : Word) → IsWord old.layout w → word_at words w ≡ (if map then tree_opening w else records_opening w)) → IsOpening words
+as_opening old words map l m h w i = h w (rw l at i) ∙ rw (l, m) refl

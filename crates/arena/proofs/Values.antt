@@ -1,13 +1,13 @@
 -- What a word holds, and has held, after one more row.
-use Rattle.std.proofs.Common.{◌≡◌, ◌≢◌, ℕ, Bool, true, false, ◌&&◌, eqb, ◌⊎◌, inl, inr, zero, suc, ◌≤◌, arith, refl, sym, ◌∙◌, ap, eq-eqb, ne_eqb, List, [], ◌∷◌, ◌++◌}
+use Rattle.std.proofs.Common.{◌≡◌, ◌≢◌, ℕ, Bool, true, false, cond, ◌&&◌, eqb, ◌⊎◌, inl, inr, zero, suc, ◌≤◌, arith, refl, sym, ◌∙◌, ap, eq-eqb, ne_eqb, List, [], ◌∷◌, ◌++◌}
 use Rattle.arena.specs.declared.limits.Mode.{Mode}
-use Rattle.arena.specs.declared.limits.Mode.TheVariants.{Tree, Records}
 use Rattle.arena.specs.declared.word.NodeWord.{NodeWord}
 use Rattle.arena.specs.declared.word.ScxWord.{ScxWord}
 use Rattle.arena.specs.declared.word.ScxWord.TheVariants.{State}
 use Rattle.arena.specs.declared.word.Word.{Word}
 use Rattle.arena.specs.declared.step.Row.{Row}
 use Rattle.arena.specs.declared.step.Access.TheVariants.{Exchange}
+use Rattle.arena.specs.Layout.{is_map, tree_opening, records_opening, IsMap}
 use Rattle.arena.specs.Words.{same_word, same_node_word, same_scx_word, node, scx, info, marked, state, word_after}
 use Rattle.arena.specs.History.{History, Start, ◌⊳◌, value, HasHeld, Extends, rows_after}
 use Rattle.arena.proofs.SameWords.{word_same, word_refl}
@@ -65,33 +65,32 @@ held_back r h w v e p = go (held_split r h w v p)
 
 -- The opening words
 
-pub opening_info : (mode : Mode) (n : ℕ) → value (Start mode) (info n) ≡ 0
+-- a map opens word for word as a tree
+pub map_opens : (mode : Mode) → IsMap mode → (w : Word) → value (Start mode) w ≡ tree_opening w
 unfolding value
-opening_info Tree n = refl
-opening_info Records n = refl
+map_opens mode e w = rw e refl
+
+-- what a map and cells open with alike
+opens_alike : (mode : Mode) (w : Word) (v : ℕ) → tree_opening w ≡ v → records_opening w ≡ v → value (Start mode) w ≡ v
+unfolding value
+opens_alike mode w v map cells = elim (is_map mode) as (λ is. cond is (tree_opening w) (records_opening w) ≡ v) [ | true ↦ map | false ↦ cells ]
+
+pub opening_info : (mode : Mode) (n : ℕ) → value (Start mode) (info n) ≡ 0
+opening_info mode n = opens_alike mode (info n) 0 refl refl
 
 pub opening_marked : (mode : Mode) (n : ℕ) → value (Start mode) (marked n) ≡ 0
-unfolding value
-opening_marked Tree n = refl
-opening_marked Records n = refl
+opening_marked mode n = opens_alike mode (marked n) 0 refl refl
 
 -- of an SCX-record's words only the dummy's state is not zero
 pub opening_scx : (mode : Mode) (s : ℕ) (part : ScxWord) → same_scx_word State part ≡ false → value (Start mode) (scx s part) ≡ 0
-unfolding value
-opening_scx Tree s State e = cc
-opening_scx Tree s _ e = refl
-opening_scx Records s State e = cc
-opening_scx Records s _ e = refl
+opening_scx mode s State e = cc
+opening_scx mode s part e = opens_alike mode (scx s part) 0 refl refl
 
 pub opening_dummy : (mode : Mode) → value (Start mode) (state 0) ≡ 2
-unfolding value
-opening_dummy Tree = refl
-opening_dummy Records = refl
+opening_dummy mode = opens_alike mode (state 0) 2 refl refl
 
 pub opening_state : (mode : Mode) (s : ℕ) → s ≢ 0 → value (Start mode) (state s) ≡ 0
-unfolding value
-opening_state Tree s d = rw (ne_eqb s 0 d) refl
-opening_state Records s d = rw (ne_eqb s 0 d) refl
+opening_state mode s d = opens_alike mode (state s) 0 (rw (ne_eqb s 0 d) refl) (rw (ne_eqb s 0 d) refl)
 
 -- Words that differ
 

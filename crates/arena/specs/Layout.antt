@@ -2,7 +2,6 @@
 -- holds at the start, and which pass owns what.
 use Rattle.std.specs.Prelude.{ℕ, ◌+◌, ◌*◌, ◌<◌, if◌then◌else◌, ◌==◌}
 use Rattle.arena.specs.declared.limits.Mode.{Mode}
-use Rattle.arena.specs.declared.limits.Mode.TheVariants.{Tree, Records}
 use Rattle.arena.specs.declared.layout.Layout.{Layout}
 use Rattle.arena.specs.declared.number.NodeNo.{NodeNo}
 use Rattle.arena.specs.declared.number.ScxNo.{ScxNo}
@@ -12,7 +11,7 @@ use Rattle.arena.specs.declared.word.SettledPart.TheVariants.{Head}
 use Rattle.arena.specs.declared.word.ScxWord.TheVariants.{State}
 use Rattle.arena.specs.declared.word.Word.{Word}
 use Rattle.arena.specs.declared.word.Word.TheVariants.{Node, Scx}
-pub use Rattle.arena.specs.Opening.{opening_nodes}
+pub use Rattle.arena.specs.Opening.{is_map, opening_nodes, IsMap}
 use Rattle.arena.specs.Words.{node_place, scx_place, IsScxWord}
 
 -- how many nodes there are: those of the start, and the share of each pass
@@ -60,7 +59,7 @@ abbrev pub IsWord : Layout → Word → Type 0
 IsWord lay (Node n part) = n.0 < all_nodes lay
 IsWord lay (Scx s part) = (s.0 < all_scx lay) × IsScxWord part
 
--- what a word holds at the start in a tree: node 0 is a root of class 2, over a leaf of class 1 on
+-- what a word holds at the start in a map: node 0 is a root of class 2, over a leaf of class 1 on
 -- its left and a leaf of class 2 on its right; the dummy is aborted; all else is 0
 abbrev pub tree_opening : Word → ℕ
 tree_opening (Node n (Settled Head)) =
@@ -78,5 +77,4 @@ records_opening _ = 0
 
 -- what a word holds before the first row, in a table of this mode
 abbrev pub opening : Mode → Word → ℕ
-opening Tree w = tree_opening w
-opening Records w = records_opening w
+opening mode w = if is_map mode then tree_opening w else records_opening w

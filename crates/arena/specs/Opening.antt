@@ -1,9 +1,18 @@
--- The nodes that are there from the start.
-use Rattle.std.specs.Prelude.{ℕ}
+-- Which modes are a map's, and the nodes that are there from the start.
+use Rattle.std.specs.Prelude.{◌≡◌, ℕ, Bool, true, false, if◌then◌else◌}
 use Rattle.arena.specs.declared.limits.Mode.{Mode}
-use Rattle.arena.specs.declared.limits.Mode.TheVariants.{Tree, Records}
+use Rattle.arena.specs.declared.limits.Mode.TheVariants.{Tree, Trie, Records}
 
--- how many nodes are there from the start: the three of the tree, or node 0 and the cells 1 to 8
+-- a table of this mode holds a map, as a tree or as a trie
+abbrev pub is_map : Mode → Bool
+is_map Tree = true
+is_map Trie = true
+is_map Records = false
+
+-- the mode is a map's
+abbrev pub IsMap : Mode → Type 0
+IsMap mode = is_map mode ≡ true
+
+-- how many nodes are there from the start: the three of a map, or node 0 and the cells 1 to 8
 abbrev pub opening_nodes : Mode → ℕ
-opening_nodes Tree = 3
-opening_nodes Records = 9
+opening_nodes mode = if is_map mode then 3 else 9

@@ -188,10 +188,7 @@ impl Layout {
 fn opening(mode: Mode) -> u32
     ensures { result ≡ opening_nodes mode }
 {
-    match mode {
-        Mode::Tree => 3,
-        Mode::Records => 9,
-    }
+    if mode.is_map() { 3 } else { 9 }
 }
 
 ghost use Rattle.arena.specs.Words.{node_place, settled_place, slot_no, scx_place, IsScxWord};

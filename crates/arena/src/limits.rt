@@ -4,13 +4,30 @@ ghost use Rattle.std.specs.Prelude.{◌≡◌, ◌↔◌, IsOk, IfOk};
 use crate::fault::BadLimits;
 use crate::layout::Layout;
 
-/// What a table is for: the tree of a dictionary, or cells that scripts name.
+/// What a table is for: a dictionary, as a tree or as a trie, or cells that scripts name.
 #[derive(Clone, Copy, Debug, PartialEq, Eq)]
 pub enum Mode {
-    /// Three nodes from the start: a root over two leaves.
+    /// A dictionary whose forks part keys where a leaf was full. Three nodes from the start: a root
+    /// over two leaves.
     Tree,
+    /// A dictionary whose forks part keys at their highest differing bit. It opens as a tree does.
+    Trie,
     /// Nodes 0 to 8 from the start; 1 to 8 are the cells that scripts name.
     Records,
+}
+
+impl Mode {
+    ghost use Rattle.arena.specs.Opening.{is_map};
+
+    /// Whether this is a dictionary's mode.
+    pub fn is_map(self) -> bool
+        ensures { result ≡ is_map self }
+    {
+        match self {
+            Mode::Tree | Mode::Trie => true,
+            Mode::Records => false,
+        }
+    }
 }
 
 /// How many passes there are, how many nodes and SCX-records each of them owns, and how often a

@@ -10,16 +10,16 @@ use crate::limits::Mode;
 use crate::number::{NodeNo, ScxNo};
 use crate::word::{ABORTED, NodeWord, ScxWord, SettledPart, Side, Word};
 
-/// What a word holds at the start: the dummy is aborted, the tree is a root of class 2 over a leaf
+/// What a word holds at the start: the dummy is aborted, a map is a root of class 2 over a leaf
 /// of class 1 and a leaf of class 2, and all else is 0.
 pub fn opening_word(mode: Mode, word: Word) -> u64
     ensures { result ≡ opening mode word }
 {
-    match (mode, word) {
+    match (mode.is_map(), word) {
         (_, Word::Scx(ScxNo(0), ScxWord::State)) => ABORTED,
-        (Mode::Tree, Word::Node(NodeNo(0), NodeWord::Child(Side::Left))) => 1,
-        (Mode::Tree, Word::Node(NodeNo(0), NodeWord::Child(Side::Right))) => 2,
-        (Mode::Tree, Word::Node(node, NodeWord::Settled(SettledPart::Head))) => opening_head(node),
+        (true, Word::Node(NodeNo(0), NodeWord::Child(Side::Left))) => 1,
+        (true, Word::Node(NodeNo(0), NodeWord::Child(Side::Right))) => 2,
+        (true, Word::Node(node, NodeWord::Settled(SettledPart::Head))) => opening_head(node),
         _ => 0,
     }
 }

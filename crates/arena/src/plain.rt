@@ -49,7 +49,7 @@ impl PlainWords {
     {
         let mut words = PlainWords::zeros(alloc, layout)?;
         words.set(Word::Scx(ScxNo(0), ScxWord::State), ABORTED);
-        if let Mode::Tree = layout.mode {
+        if layout.mode.is_map() {
             words.plant();
         }
         Ok(words)

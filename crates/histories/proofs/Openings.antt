@@ -1,11 +1,10 @@
 -- What words hold at the start.
 use Rattle.std.proofs.Common.{◌≡◌, ℕ, ◌<◌, Bool, true, false, eqb, cond, refl, arith}
 use Rattle.arena.specs.declared.limits.Mode.{Mode}
-use Rattle.arena.specs.declared.limits.Mode.TheVariants.{Tree, Records}
 use Rattle.arena.specs.declared.word.Side.{Side}
 use Rattle.arena.specs.declared.word.Side.TheVariants.{Left, Right}
 use Rattle.arena.specs.declared.word.Word.{Word}
-use Rattle.arena.specs.Layout.{opening, opening_nodes}
+use Rattle.arena.specs.Layout.{is_map, opening, opening_nodes, records_opening, tree_opening}
 use Rattle.arena.specs.Words.{child}
 use Rattle.arena.specs.History.{Start, value}
 
@@ -15,18 +14,18 @@ value_start mode w = refl
 
 -- a field mentions a node that was there from the start, and so do the words of SCX-records
 pub opening_field : (mode : Mode) (n : ℕ) (side : Side) → opening mode (child n side) < opening_nodes mode
-opening_field Tree n Left = cases (eqb n 0)
+opening_field mode n side = of (is_map mode) side
   where
-    cases : (t : Bool) → cond t 1 0 < 3
-    cases true = omega arith
-    cases false = omega arith
-opening_field Tree n Right = cases (eqb n 0)
-  where
-    cases : (t : Bool) → cond t 2 0 < 3
-    cases true = omega arith
-    cases false = omega arith
-opening_field Records n side = omega arith
+    one : (root : Bool) → cond root 1 0 < 3
+    one true = omega arith
+    one false = omega arith
+    two : (root : Bool) → cond root 2 0 < 3
+    two true = omega arith
+    two false = omega arith
+    of : (map : Bool) (side : Side) → cond map (tree_opening (child n side)) (records_opening (child n side)) < cond map 3 9
+    of true Left = one (eqb n 0)
+    of true Right = two (eqb n 0)
+    of false side = omega arith
 
 pub some_open : (mode : Mode) → 0 < opening_nodes mode
-some_open Tree = omega arith
-some_open Records = omega arith
+some_open mode = elim (is_map mode) as (λ is. 0 < cond is 3 9) [ | true ↦ omega arith | false ↦ omega arith ]

@@ -1,9 +1,8 @@
 -- A node of a pass's own share that is not named is its own: rows of others leave its words, and do
 -- not name it.
-use Rattle.std.proofs.Common.{◌≡◌, ◌≢◌, ℕ, ◌<◌, Bool, true, false, ◌⊎◌, inl, inr, ⊎_elim, refl, sym, ◌∙◌, arith, subst, ne_eqb}
+use Rattle.std.proofs.Common.{◌≡◌, ◌≢◌, ℕ, ◌<◌, Bool, true, false, cond, ◌⊎◌, inl, inr, ⊎_elim, refl, sym, ◌∙◌, arith, subst, ne_eqb}
 use native.Mathlib.Decide.{ℕ_discrete}
 use Rattle.arena.specs.declared.limits.Mode.{Mode}
-use Rattle.arena.specs.declared.limits.Mode.TheVariants.{Tree, Records}
 use Rattle.arena.specs.declared.layout.Layout.{Layout}
 use Rattle.arena.specs.declared.word.Side.{Side}
 use Rattle.arena.specs.declared.word.Side.TheVariants.{Left, Right}
@@ -12,7 +11,7 @@ use Rattle.arena.specs.declared.word.NodeWord.TheVariants.{Child, Info, Marked}
 use Rattle.arena.specs.declared.word.ScxWord.{ScxWord}
 use Rattle.arena.specs.declared.word.ScxWord.TheVariants.{State, AllFrozen, Plan, New, Old, Member, Seen, Call}
 use Rattle.arena.specs.declared.step.Row.{Row}
-use Rattle.arena.specs.Layout.{opening_nodes}
+use Rattle.arena.specs.Layout.{is_map, opening_nodes, records_opening, tree_opening}
 use Rattle.arena.specs.Words.{same_word, node, scx, info, marked, child, state}
 use Rattle.arena.specs.History.{History, Start, ◌⊳◌, value, HasHeld}
 use Rattle.arena.specs.ScxRecords.{plan, side_of, member, new, field_index, field}
@@ -25,6 +24,7 @@ use Rattle.histories.proofs.Quiet.{not_flag, not_state}
 use Rattle.histories.proofs.Facts.{IsFlagged, Facts, member_named, child_node}
 use Rattle.histories.proofs.Updates.{update_flagged}
 use Rattle.histories.proofs.Always.{facts_before}
+use Rattle.histories.proofs.Openings.{some_open}
 use Rattle.histories.proofs.Moments.{named_more}
 use Rattle.histories.proofs.Owners.{one_scx_owner, one_node_owner, named_scx_back}
 
@@ -46,14 +46,13 @@ written_more r m n (inr (inr x)) = inr (inr (x.0, x.1, λ o. named_more r (x.2 o
 
 opening_field : (mode : Mode) (m : ℕ) (side : Side) → (value (Start mode) (child m side) ≡ 0) ⊎ (m < opening_nodes mode)
 unfolding value
-opening_field Records m Left = inl refl
-opening_field Records m Right = inl refl
-opening_field Tree m side = go (ℕ_discrete m 0) side
+opening_field mode m side = of (is_map mode) (ℕ_discrete m 0) side
   where
-    go : Dec (m ≡ 0) → (side : Side) → (value (Start Tree) (child m side) ≡ 0) ⊎ (m < 3)
-    go (yes e) side = inr (omega arith)
-    go (no d) Left = inl (rw (ne_eqb m 0 d) refl)
-    go (no d) Right = inl (rw (ne_eqb m 0 d) refl)
+    of : (map : Bool) → Dec (m ≡ 0) → (side : Side) → (cond map (tree_opening (child m side)) (records_opening (child m side)) ≡ 0) ⊎ (m < cond map 3 9)
+    of true (yes e) side = inr (omega arith)
+    of true (no d) Left = inl (rw (ne_eqb m 0 d) refl)
+    of true (no d) Right = inl (rw (ne_eqb m 0 d) refl)
+    of false d side = inl refl
 
 pub start_mode : (lay : Layout) (mode : Mode) → Lawful lay (Start mode) → mode ≡ lay.mode
 unfolding Lawful
@@ -147,16 +146,12 @@ scx_written lay (r ⊳ h) s part n l i p = go (held_split r h (scx s part) n p) 
 
 -- Rows of others
 
-some_opening : (mode : Mode) → 0 < opening_nodes mode
-some_opening Tree = omega arith
-some_opening Records = omega arith
-
 module _ (lay : Layout) (h : History) (r : Row) (c : ℕ) (l : Lawful lay (r ⊳ h)) (is_pass : c < lay.passes) (other : r.pass.0 ≢ c) where
   others : (d n : ℕ) → d ≢ c → IsOwnNode lay c n → IsOthersNode lay d n
   others d n e o = record { pass = c; is_pass = is_pass; is_other = λ q. e (sym q); owns = o }
 
   zero_named : (n : ℕ) → n ≡ 0 → IsNamed lay h n
-  zero_named n e = opening_node (rw e (some_opening lay.mode))
+  zero_named n e = opening_node (rw e (some_open lay.mode))
 
   -- a field of another comes to name a node only where the node was named, or was in that field
   -- before

@@ -4,7 +4,6 @@ use Rattle.std.proofs.lemmas.Bool.{lt-ltb}
 use borrow.Author.Tests.{ltb-true}
 use Rattle.arena.specs.declared.layout.Layout.{Layout}
 use Rattle.arena.specs.declared.limits.Mode.{Mode}
-use Rattle.arena.specs.declared.limits.Mode.TheVariants.{Tree, Records}
 use Rattle.arena.specs.declared.word.Side.{Side}
 use Rattle.arena.specs.declared.word.NodeWord.TheVariants.{Settled, Child, Info, Marked}
 use Rattle.arena.specs.declared.word.ScxWord.{ScxWord}
@@ -274,10 +273,8 @@ info_link lay (r ⊳ h) m s l i p = ⊎_elim
     (held_by_row r h (info m) s p)
 
 opening_name : (mode : Mode) (s : ℕ) (part : ScxWord) → NamesNode part → opening mode (scx s part) ≡ 0
-opening_name Tree s State p = absurd p
-opening_name Tree s _ p = refl
-opening_name Records s State p = absurd p
-opening_name Records s _ p = refl
+opening_name mode s State p = absurd p
+opening_name mode s part p = elim (is_map mode) as (λ is. cond is 0 0 ≡ 0) [ | true ↦ refl | false ↦ refl ]
 
 names_links : (nodes scxs s v : ℕ) (part : ScxWord) → NamesNode part → word_links nodes scxs (scx s part) v ≡ scx_links nodes s v
 names_links nodes scxs s v New p = refl

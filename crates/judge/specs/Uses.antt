@@ -2,13 +2,12 @@
 use Rattle.std.specs.Prelude.{◌≡◌, ◌≢◌, ◌↔◌, ℕ, ◌<◌, if◌then◌else◌, ◌==◌, Bool, true, false, not, List, length, slice_index_or, slice_set}
 use Rattle.arena.specs.declared.layout.Layout.{Layout}
 use Rattle.arena.specs.declared.limits.Mode.{Mode}
-use Rattle.arena.specs.declared.limits.Mode.TheVariants.{Tree, Records}
 use Rattle.arena.specs.declared.word.Side.{Side}
 use Rattle.arena.specs.declared.word.NodeWord.TheVariants.{Child}
 use Rattle.arena.specs.declared.word.ScxWord.TheVariants.{New}
 use Rattle.arena.specs.declared.word.Word.{Word}
 use Rattle.arena.specs.declared.word.Word.TheVariants.{Node, Scx}
-use Rattle.arena.specs.Layout.{all_nodes}
+use Rattle.arena.specs.Layout.{is_map, all_nodes}
 use Rattle.arena.specs.Words.{child, scx}
 use Rattle.arena.specs.History.{History, HasHeld}
 use Rattle.judge.specs.declared.uses.Users.{Users}
@@ -18,8 +17,7 @@ use Rattle.judge.specs.declared.uses.Uses.{Uses}
 -- how many nodes fields hold at the start, the first ones: the root's child words hold 1 and 2,
 -- each other field 0
 abbrev pub held_nodes : Mode → ℕ
-held_nodes Tree = 3
-held_nodes Records = 1
+held_nodes mode = if is_map mode then 3 else 1
 
 -- a field holds the node, or has held it
 abbrev pub WasInField : History → ℕ → Type 0

@@ -95,10 +95,7 @@ ghost use Rattle.judge.specs.Uses.{with_user, held_nodes};
 fn held_at_start(mode: Mode) -> usize
     ensures { result ≡ held_nodes mode }
 {
-    match mode {
-        Mode::Tree => 3,
-        Mode::Records => 1,
-    }
+    if mode.is_map() { 3 } else { 1 }
 }
 
 /// The users with one more.

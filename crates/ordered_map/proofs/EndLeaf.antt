@@ -24,14 +24,17 @@ use Rattle.ordered_map.specs.Paths.{IsOnPath, Passed, WasInTree, WasOnPath, IsEn
 use Rattle.ordered_map.specs.Runs.{IsTreeRun, Makes}
 use Rattle.ordered_map.specs.Spelled.{IsTree, Spells}
 use Rattle.ordered_map.specs.TreeWords.{Tree, Leaf, Fork, root, IsLeaf, Shows, Has, Passes, class, is_leaf, rank, toward, pairs, leaf_pairs, end_said}
-use Rattle.ordered_map.proofs.Trees.{EndsLow, last_leaf, has_last, open_between, node_below, same_tree, shown_leaf, passes_has, has_root}
+use Rattle.ordered_map.proofs.Spanned.{node_from, node_low}
+use Rattle.ordered_map.proofs.Trees.{EndsLow, last_leaf, has_last, open_between, node_below, same_tree, shown_leaf, passes_has, has_root, path_level}
+use Rattle.arena.specs.declared.limits.Mode.TheVariants.{Tree as TreeMode}
+use Rattle.ordered_map.specs.TrieShape.{Stays}
 use Rattle.ordered_map.specs.TreeShape.{edit_leaf}
 use Rattle.ordered_map.proofs.Holding.{SameSettled, counted_same, same_leaf, low_items, rank_from, held_first, held_end, low_pairs, high_pairs}
 use Rattle.ordered_map.proofs.Moved.{settled_rank, settled_class, settled_leaf, settled_toward, settled_end}
 use Rattle.ordered_map.proofs.TreeFacts.{path_now, all_named}
 use Rattle.ordered_map.proofs.Grown.{tree_facts}
 use Rattle.ordered_map.proofs.Maps.{below_end, last_from, last_join}
-use Rattle.ordered_map.proofs.Past.{path_named, Latest, latest, path_level}
+use Rattle.ordered_map.proofs.Past.{path_named, Latest, latest}
 use Rattle.ordered_map.proofs.Meanings.{edits_of, grown, run_spells, run_since, wins_of, leaf_covered}
 use Rattle.ordered_map.proofs.TreeRuns.{path_remains, stood_settled}
 
@@ -46,37 +49,6 @@ fork_above f (Fork m a b) lo hi n s (inr (inr q)) d =
     let x : rank f m < rank f n = fork_above f b (rank f m) hi n s.2 q d in
     let y : lo < rank f m = open_between f a lo (rank f m) s.1 in
     omega (arith, x, y)
-
--- and all its nodes are at it or above
-node_from : (f : Word → ℕ) (t : Tree) (lo hi n : ℕ) → Shows f lo hi t → Has t n → lo ≤ rank f n
-node_from f (Leaf m) lo hi n s e = rw (← e) (rank_from f m lo hi s.items)
-node_from f (Fork m a b) lo hi n s (inl e) = let x : lo < rank f m = open_between f a lo (rank f m) s.1 in rw (← e) (omega (arith, x))
-node_from f (Fork m a b) lo hi n s (inr (inl q)) = node_from f a lo (rank f m) n s.1 q
-node_from f (Fork m a b) lo hi n s (inr (inr q)) =
-    let x : lo < rank f m = open_between f a lo (rank f m) s.1 in
-    let y : rank f m ≤ rank f n = node_from f b (rank f m) hi n s.2 q in
-    omega (arith, x, y)
-
--- none is above its last leaf
-node_to_last : (f : Word → ℕ) (t : Tree) (lo hi n : ℕ) → Shows f lo hi t → Has t n → rank f n ≤ rank f (last_leaf t)
-node_to_last f (Leaf m) lo hi n s e = rw (← e) (omega arith)
-node_to_last f (Fork m a b) lo hi n s (inl e) = rw (← e) (node_from f b (rank f m) hi (last_leaf b) s.2 (has_last b))
-node_to_last f (Fork m a b) lo hi n s (inr (inl q)) =
-    let x : rank f n < rank f m = node_below f a lo (rank f m) n s.1 q in
-    let y : rank f m ≤ rank f (last_leaf b) = node_from f b (rank f m) hi (last_leaf b) s.2 (has_last b) in
-    omega (arith, x, y)
-node_to_last f (Fork m a b) lo hi n s (inr (inr q)) = node_to_last f b (rank f m) hi n s.2 q
-
-last_small : (f : Word → ℕ) (t : Tree) (lo hi : ℕ) → Shows f lo hi t → f (node (last_leaf t) first_key) < 2 ^ 64
-last_small f (Leaf m) lo hi s = s.small
-last_small f (Fork m a b) lo hi s = last_small f b (rank f m) hi s.2
-
--- where that is of class 0 all are below 2 ^ 64
-node_low : (f : Word → ℕ) (t : Tree) (lo hi n : ℕ) → Shows f lo hi t → class f (last_leaf t) ≡ 0 → Has t n → rank f n < 2 ^ 64
-node_low f t lo hi n s low h =
-    let x : rank f n ≤ rank f (last_leaf t) = node_to_last f t lo hi n s h in
-    let y = last_small f t lo hi s in
-    omega (arith, x, y, low)
 
 -- so is each fork of class 0
 fork_low : (f : Word → ℕ) (t : Tree) (lo hi n : ℕ) → Shows f lo hi t → EndsLow f t → Has t n → is_leaf f n ≡ false → class f n ≡ 0 → rank f n < 2 ^ 64
@@ -288,9 +260,9 @@ same_since : (lay : Layout) (h start : History) (k n : ℕ) → IsTreeRun lay h 
 same_since lay h start k n g p part i = node_since lay h p.0 n part g.1.lawful p.1 i (path_named lay p.0 k n g.0 p.3)
 
 -- where what is on a side of a fork that was passed is, seen from the fork
-pub walk_beside : (lay : Layout) (h start : History) (k n : ℕ) (side : Side) → IsTreeRun lay h → Passed h start k n → is_leaf (value h) n ≡ false → IsBeside (value h) side n (value h (child n side))
-walk_beside lay h start k n side g p fork =
-    let x : Latest h p.0 k n = latest (edits_of lay h g).edits lay h p.0 k n (grown lay h g) p.1 p.3 in
+pub walk_beside : (lay : Layout) (h start : History) (k n : ℕ) (side : Side) → IsTreeRun lay h → Passed h start k n → Stays lay (value h) k n → is_leaf (value h) n ≡ false → IsBeside (value h) side n (value h (child n side))
+walk_beside lay h start k n side g p stay fork =
+    let x : Latest h p.0 k n = latest (edits_of lay h g).edits lay h p.0 k n (grown lay h g) p.1 p.3 stay in
     let m : History = x.moment in
     let at : Passed h m k n = (m, x.within, ends_self m, x.on_path) in
     let same : SameSettled (value m) (value h) n = same_since lay h m k n g at in
@@ -365,13 +337,13 @@ walk_end side lay h start n g p leaf =
       is = spelled_end side lay m n spelled.0 then_run spelled.1 p.3 then ∙ sym (settled_end side (value m) (value h) n same);
     }
 
--- Just before an SCX-record wins whose leaf was on the path to an end, that leaf says which pair is
--- at that end of the map: it is not final, so it is on that path still.
-pub win_end : (side : Side) (lay : Layout) (h : History) (row : Row) (s : ℕ) (e : MapEdit) → IsTreeRun lay (row ⊳ h) → IsWin h row s → Makes lay h s e → WasOnPath h (end_key side) (edit_leaf h s e) → is_leaf (value h) (edit_leaf h s e) ≡ true → (ps : List Pair) → Spells lay (value h) ps → end_pair side ps ≡ end_said side (value h) (edit_leaf h s e)
-win_end side lay h row s e g won makes was leaf ps spells = spelled_end side lay h (edit_leaf h s e) ps run spells (path_remains lay h (end_key side) (edit_leaf h s e) run was not_final) leaf
+-- Just before an SCX-record of a tree wins whose leaf was on the path to an end, that leaf says which
+-- pair is at that end of the map: it is not final, so it is on that path still.
+pub win_end : (side : Side) (lay : Layout) (h : History) (row : Row) (s : ℕ) (e : MapEdit) → lay.mode ≡ TreeMode → IsTreeRun lay (row ⊳ h) → IsWin h row s → Makes lay h s e → WasOnPath h (end_key side) (edit_leaf h s e) → is_leaf (value h) (edit_leaf h s e) ≡ true → (ps : List Pair) → Spells lay (value h) ps → end_pair side ps ≡ end_said side (value h) (edit_leaf h s e)
+win_end side lay h row s e tree g won makes was leaf ps spells = spelled_end side lay h (edit_leaf h s e) ps run spells (path_remains lay h (end_key side) (edit_leaf h s e) run was (inl tree) not_final) leaf
   where
     run : IsTreeRun lay h
     run = run_since lay (row ⊳ h) h g (inr (ends_self h))
 
     not_final : is_final (log lay h) (edit_leaf h s e) ≡ false
-    not_final = win_not_final lay h row s (edit_leaf h s e) g.1.lawful (wins_of lay h row s g.1.lawful won) (leaf_covered lay h s e run.1.lawful makes)
+    not_final = win_not_final lay h row s (edit_leaf h s e) g.1.lawful (wins_of lay h row s g.1.lawful won) (leaf_covered lay h s e run.1.lawful (inl tree) makes)

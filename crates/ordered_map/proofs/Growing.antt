@@ -12,6 +12,7 @@ use Rattle.arena.specs.declared.word.NodeWord.TheVariants.{Settled, Child}
 use Rattle.arena.specs.declared.word.SettledPart.TheVariants.{Head}
 use Rattle.arena.specs.declared.word.Word.{Word}
 use Rattle.arena.specs.declared.layout.Layout.{Layout}
+use Rattle.arena.specs.Layout.{tree_opening}
 use Rattle.arena.specs.Words.{node, child, first_key}
 use Rattle.arena.specs.History.{History, Start, ◌⊳◌, value, Extends}
 use Rattle.arena.specs.ScxRecords.{field_index, member, plan, side_of}
@@ -30,9 +31,9 @@ use Rattle.ordered_map.specs.Holding.{held_pairs}
 use Rattle.ordered_map.proofs.Lists.{above_split, below_left, below_right, rising_join}
 use Rattle.ordered_map.proofs.Holding.{held_first, low_items, high_items, low_pairs, high_pairs}
 use Rattle.ordered_map.proofs.Searches.{passes_root, path_child, get_leaf, get_below}
-use Rattle.ordered_map.proofs.TreeFacts.{TreeFacts}
+use Rattle.ordered_map.proofs.TreeFacts.{TreeFacts, opening_settled}
 use Rattle.ordered_map.proofs.Edited.{root_side}
-use Rattle.ordered_map.proofs.Grown.{IsGrown, tree_facts, grown_tail}
+use Rattle.ordered_map.proofs.Grown.{IsGrown, start_is, start_same, tree_facts, grown_tail}
 
 -- the pairs are the items below 2 ^ 64
 unfoldable pub low : List Pair → List Pair
@@ -101,37 +102,20 @@ rising_split (x ∷ xs) ys y r =
     ((a.0, q.0), (a.1.0, q.1))
 
 -- the right field of node 0 never changes
-ends_start : (lay : Layout) (h : History) → Lawful lay h → Extends h (Start lay.mode)
-ends_start lay (Start mode) l = ap Start (sym (start_mode lay mode l))
-ends_start lay (r ⊳ h) l = inr (ends_start lay h (lawful_tail lay h r l))
-
 right_start : value (Start TreeMode) (child 0 Right) ≡ 2
 unfolding value
 right_start = refl
 
-opening_root : value (Start TreeMode) (node 0 (Settled Head)) ≡ 2
-unfolding value
-opening_root = refl
-
-opening_two : value (Start TreeMode) (node 2 (Settled Head)) ≡ 14
-unfolding value
-opening_two = refl
-
-zero_key : value (Start TreeMode) (node 2 first_key) ≡ 0
-unfolding value
-zero_key = refl
-
 -- the settled words of the opening nodes stay
-opening_stays : (calls : ℕ → MapEdit) (lay : Layout) (h : History) (n : ℕ) (a : NodeWord) → IsGrown calls lay h → n < 3 → IsSettled (node n a) → value h (node n a) ≡ value (Start TreeMode) (node n a)
-opening_stays calls lay h n a g i s =
-    node_since lay h (Start lay.mode) n a g.lawful (ends_start lay h g.lawful) s (opening_node (rw g.mode i)) ∙ ap (λ m. value (Start m) (node n a)) g.mode
+opening_stays : (calls : ℕ → MapEdit) (lay : Layout) (h : History) (n : ℕ) (a : NodeWord) → IsGrown calls lay h → n < 3 → IsSettled (node n a) → value h (node n a) ≡ tree_opening (node n a)
+opening_stays calls lay h n a g i s = opening_settled lay h n a g.lawful g.mode i s
 
 -- so node 0 is a fork above all keys
 pub grown_root : (calls : ℕ → MapEdit) (lay : Layout) (h : History) → IsGrown calls lay h → value h (node 0 (Settled Head)) ≡ 2
-grown_root calls lay h g = opening_stays calls lay h 0 (Settled Head) g (omega arith) tt ∙ opening_root
+grown_root calls lay h g = opening_stays calls lay h 0 (Settled Head) g (omega arith) tt
 
 right_stays : (calls : ℕ → MapEdit) (lay : Layout) (h : History) → IsGrown calls lay h → value h (child 0 Right) ≡ 2
-right_stays calls lay (Start mode) g = ap (λ m. value (Start m) (child 0 Right)) (start_mode lay mode g.lawful ∙ g.mode) ∙ right_start
+right_stays calls lay (Start mode) g = ap (λ f. f (child 0 Right)) (sym (start_same mode (start_is lay mode g.lawful g.mode))) ∙ right_start
 right_stays calls lay (r ⊳ h) g = go (effect lay h r g.lawful) (right_stays calls lay h (grown_tail calls lay h r g))
   where
     f : Facts lay h
@@ -277,10 +261,10 @@ spells calls lay h g = record {
     head_0 = grown_root calls lay h g
 
     head_2 : (value h) (node 2 (Settled Head)) ≡ 14
-    head_2 = opening_stays calls lay h 2 (Settled Head) g (omega arith) tt ∙ opening_two
+    head_2 = opening_stays calls lay h 2 (Settled Head) g (omega arith) tt
 
     key_2 : (value h) (node 2 first_key) ≡ 0
-    key_2 = opening_stays calls lay h 2 first_key g (omega arith) tt ∙ zero_key
+    key_2 = opening_stays calls lay h 2 first_key g (omega arith) tt
 
     item_2 : leaf_items (value h) 2 ≡ pair (2 * 2 ^ 64) 0 ∷ []
     item_2 = high_items (value h) 2 (λ z. omega (arith, z, head_2)) ∙ (λ i. pair (head_2 i % 4 * 2 ^ 64 + key_2 i) 0 ∷ [])

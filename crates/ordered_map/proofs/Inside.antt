@@ -1,13 +1,12 @@
 -- Every node that was in the tree is in the table.
-use Rattle.std.proofs.Common.{◌≡◌, ◌≢◌, ℕ, ◌<◌, Bool, true, false, ◌⊎◌, inl, inr, ⊎_elim, refl, sym, ◌∙◌, arith, ne_eqb}
+use Rattle.std.proofs.Common.{◌≡◌, ◌≢◌, ℕ, ◌<◌, Bool, true, false, cond, ◌⊎◌, inl, inr, ⊎_elim, refl, sym, ◌∙◌, arith, ne_eqb}
 use native.Mathlib.Decide.{ℕ_discrete}
 use Rattle.arena.specs.declared.limits.Mode.{Mode}
-use Rattle.arena.specs.declared.limits.Mode.TheVariants.{Tree as TreeMode, Records}
 use Rattle.arena.specs.declared.word.NodeWord.TheVariants.{Settled}
 use Rattle.arena.specs.declared.word.SettledPart.TheVariants.{Head}
 use Rattle.arena.specs.declared.word.Word.{Word}
 use Rattle.arena.specs.declared.layout.Layout.{Layout}
-use Rattle.arena.specs.Layout.{opening_nodes, all_nodes, opening, IsWord}
+use Rattle.arena.specs.Layout.{is_map, opening_nodes, all_nodes, opening, tree_opening, IsWord}
 use Rattle.arena.specs.Words.{node, same_word}
 use Rattle.arena.specs.History.{History, Start, ◌⊳◌, value}
 use Rattle.arena.specs.Lawful.{Lawful}
@@ -19,12 +18,10 @@ use Rattle.ordered_map.specs.Spelled.{IsTree}
 use Rattle.ordered_map.specs.TreeWords.{Tree, Leaf, Fork, root, Shows, Has, level}
 
 pub no_head : (mode : Mode) (n : ℕ) → n ≢ 0 → n ≢ 1 → n ≢ 2 → opening mode (node n (Settled Head)) ≡ 0
-no_head TreeMode n a b c = rw (ne_eqb n 0 a, ne_eqb n 1 b, ne_eqb n 2 c) refl
-no_head Records n a b c = refl
+no_head mode n a b c = elim (is_map mode) as (λ is. cond is (tree_opening (node n (Settled Head))) 0 ≡ 0) [ true ↦ rw (ne_eqb n 0 a, ne_eqb n 1 b, ne_eqb n 2 c) refl | false ↦ refl ]
 
 some_nodes : (mode : Mode) → 2 < opening_nodes mode
-some_nodes TreeMode = omega arith
-some_nodes Records = omega arith
+some_nodes mode = elim (is_map mode) as (λ is. 2 < cond is 3 9) [ true ↦ omega arith | false ↦ omega arith ]
 
 pub head_inside : (lay : Layout) (h : History) (n : ℕ) → Lawful lay h → value h (node n (Settled Head)) ≢ 0 → n < all_nodes lay
 head_inside lay (Start mode) n l d = go (ℕ_discrete n 0) (ℕ_discrete n 1) (ℕ_discrete n 2)

@@ -1,6 +1,8 @@
--- No node of the tree is deeper than the log is long.
-use Rattle.std.proofs.Common.{◌≡◌, ℕ, ◌<◌, ◌/◌, ◌≤◌, zero, suc, length, refl, ap, arith}
+-- No node of a tree is deeper than the log is long.
+use Rattle.std.proofs.Common.{◌≡◌, ℕ, ◌<◌, ◌/◌, ◌≤◌, zero, suc, length, refl, ap, arith, subst}
+use Rattle.arena.specs.declared.limits.Mode.{Mode}
 use Rattle.arena.specs.declared.limits.Mode.TheVariants.{Tree as TreeMode}
+use Rattle.arena.specs.Layout.{IsMap}
 use Rattle.arena.specs.declared.word.NodeWord.TheVariants.{Settled, Child}
 use Rattle.arena.specs.declared.word.SettledPart.TheVariants.{Head}
 use Rattle.arena.specs.declared.layout.Layout.{Layout}
@@ -16,24 +18,24 @@ use Rattle.ordered_map.specs.OrderedMap.{MapEdit}
 use Rattle.ordered_map.specs.Paths.{WasInTree}
 use Rattle.ordered_map.specs.TreeWords.{Has, level}
 use Rattle.ordered_map.proofs.Edited.{result, born_level}
-use Rattle.ordered_map.proofs.Grown.{IsGrown}
+use Rattle.ordered_map.proofs.Grown.{IsGrown, start_same}
 use Rattle.ordered_map.proofs.Stood.{facts_then, tree_then, PutThere, of_all_stood}
 
-module _ (calls : ℕ → MapEdit) (lay : Layout) where
+module _ (calls : ℕ → MapEdit) (lay : Layout) (tree : lay.mode ≡ TreeMode) where
   -- the node is at most this deep
   abbrev IsWithin : History → ℕ → Type 0
   IsWithin h n = level (value h) n ≤ suc (length (log lay h))
 
-  at_start : (n : ℕ) → n < 3 → level (value (Start TreeMode)) n ≤ 1
+  in_tree : (n : ℕ) → n < 3 → level (value (Start TreeMode)) n ≤ 1
   unfolding value
-  at_start zero i = omega arith
-  at_start (suc zero) i = omega arith
-  at_start (suc (suc zero)) i = omega arith
-  at_start (suc (suc (suc n))) i = absurd (omega arith)
+  in_tree zero i = omega arith
+  in_tree (suc zero) i = omega arith
+  in_tree (suc (suc zero)) i = omega arith
+  in_tree (suc (suc (suc n))) i = absurd (omega arith)
 
-  opens : (n : ℕ) → n < 3 → IsWithin (Start TreeMode) n
+  opens : (mode : Mode) (n : ℕ) → IsMap mode → n < 3 → IsWithin (Start mode) n
   unfolding log
-  opens n i = at_start n i
+  opens mode n is i = subst (λ f. level f n ≤ 1) (start_same mode is) (in_tree n i)
 
   stays : (h : History) (r : Row) (n : ℕ) → IsGrown calls lay (r ⊳ h) → IsNamed lay h n → IsWithin h n → IsWithin (r ⊳ h) n
   stays h r n g named x = go (logs lay h r g.lawful)
@@ -49,7 +51,7 @@ module _ (calls : ℕ → MapEdit) (lay : Layout) where
   begins h r u g w before n b =
       let f = facts_then calls lay h r g in
       let t = tree_then calls lay h r g in
-      let y = born_level calls lay h r u f w g.mode g.lawful t n b in
+      let y = born_level calls lay h r u f w g.mode g.lawful t tree n b in
       let e : level (value (r ⊳ h)) n ≡ level (value h) n = ap (λ v. v / 8) (update_keeps_other f w (node n (Settled Head)) (node_word_apart (member h u (field_index h u)) n (Child (side_of (plan h u))) (Settled Head) refl)) in
       let d : level (value h) y.0 ≤ suc (length (log lay h)) = before y.0 ((result calls lay h r u f w g.mode g.lawful t).out y.0 y.1).0 in
       let c = y.2 in

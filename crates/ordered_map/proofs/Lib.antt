@@ -6,6 +6,7 @@ mod Trees
 mod Parted
 mod Local
 mod Searches
+mod Spanned
 mod Next
 mod Pending
 mod Moved

@@ -1,5 +1,5 @@
 -- What each edit makes of the subtree that it replaces, whatever its leaves hold.
-use Rattle.std.proofs.Common.{◌≡◌, ◌≢◌, ℕ, ◌+◌, ◌*◌, ◌/◌, ◌%◌, ◌^◌, ◌<◌, ◌≤◌, Bool, true, false, cond, ◌⊎◌, inl, inr, ⊎_elim, List, [], ◌∷◌, ◌++◌, refl, sym, ◌∙◌, ap, arith, eqb, ltb, subst, append-nil}
+use Rattle.std.proofs.Common.{◌≡◌, ◌≢◌, ℕ, ◌+◌, ◌*◌, ◌/◌, ◌%◌, ◌^◌, ◌<◌, ◌≤◌, Bool, true, false, cond, ◌⊎◌, inl, inr, ⊎_elim, List, [], ◌∷◌, ◌++◌, refl, sym, ◌∙◌, ap, arith, eqb, ltb, le-ltb, lt-ltb, subst, append-nil}
 use Rattle.std.proofs.lemmas.Bool.{eqb-true}
 use native.Mathlib.Decide.{ℕ_discrete}
 use Rattle.arena.specs.declared.word.Side.{Side}
@@ -11,21 +11,26 @@ use Rattle.arena.specs.declared.word.Slot.TheVariants.{First}
 use Rattle.arena.specs.declared.word.Word.{Word}
 use Rattle.arena.specs.Words.{node, child, first_key, first_key}
 use Rattle.ordered_map.specs.declared.pair.Pair.{Pair}
-use Rattle.ordered_map.specs.OrderedMap.{pair, insert, MapEdit, Insert, Delete, edit_key, edited, delete, AllBelow, AllFrom, IsRising}
+use Rattle.ordered_map.specs.OrderedMap.{pair, insert, MapEdit, Insert, Delete, edit_key, edited, delete, get, AllBelow, AllFrom, IsRising}
 use Rattle.ordered_map.specs.Holding.{held_pairs, IsWellCounted}
-use Rattle.ordered_map.specs.TreeWords.{class, is_leaf, level, rank, leaf_items, Tree, Leaf, Fork, root, HasItems, IsLeaf, IsForkOver, Shows, Has, Passes}
-use Rattle.ordered_map.specs.Edits.{IsSwapBy, IsSplitBy, IsJoinBy, AreBelow, HasFieldsOf}
-use Rattle.ordered_map.proofs.Lists.{edited_from, edited_below, from_left, below_right, rising_left, rising_right}
-use Rattle.ordered_map.proofs.Maps.{edited_rises}
+use Rattle.ordered_map.specs.TreeWords.{class, is_leaf, level, rank, toward, opposite, leaf_items, Tree, Leaf, Fork, root, HasItems, IsLeaf, IsForkOver, Shows, Has, Passes}
+use Rattle.ordered_map.specs.Edits.{IsLowLeaf, IsSwapBy, IsSplitBy, IsJoinBy, AreBelow, HasFieldsOf}
+use Rattle.ordered_map.specs.TrieShape.{IsAboveBy}
+use Rattle.ordered_map.specs.Bits.{side_from, side_to, Shares, Keeps}
+use Rattle.ordered_map.proofs.Lists.{above_from, below_more, edited_from, edited_below, from_left, below_right, rising_left, rising_right}
+use Rattle.std.specs.Prelude.{None}
+use Rattle.ordered_map.proofs.Searches.{get_below}
+use Rattle.ordered_map.proofs.Spanned.{AreForks, child_items, child_shares, low_from, low_to, narrow_from, narrow_to, node_low}
+use Rattle.ordered_map.proofs.Maps.{edited_rises, get_above}
 use Rattle.ordered_map.proofs.Holding.{SameSettled, held_first, rank_from, rank_below, same_leaf, same_items, low_items, high_items, key_small}
-use Rattle.ordered_map.proofs.Trees.{items, last_leaf, has_last, frame_low, Replaced, Same, node_below, wider, frame, frame_items, frame_path, items_above, items_below, open_between, edited_local, apart, not_below}
+use Rattle.ordered_map.proofs.Trees.{items, last_leaf, EndsLow, has_last, frame_low, Replaced, Same, node_below, wider, frame, frame_items, frame_path, items_above, items_below, open_between, edited_local, apart, not_below, passes_has, split_at}
 
 -- Field words of the node p alone differ between f and g.
 pub record Apart (f g : Word → ℕ) (p : ℕ) : Type 0 where
   pub settled : (n : ℕ) (part : SettledPart) → g (node n (Settled part)) ≡ f (node n (Settled part))
   pub field : (n : ℕ) (side : Side) → p ≢ n → g (child n side) ≡ f (child n side)
 
-apart_settled : (f g : Word → ℕ) (p : ℕ) → Apart f g p → (n : ℕ) → SameSettled f g n
+pub apart_settled : (f g : Word → ℕ) (p : ℕ) → Apart f g p → (n : ℕ) → SameSettled f g n
 apart_settled f g p e n (Settled part) i = e.settled n part
 apart_settled f g p e n _ i = absurd i
 
@@ -60,22 +65,28 @@ emptied_key (Insert k v) p ps none = go (ltb k p.key) (eqb k p.key) none
     go false true x = absurd (let z : pair k v ∷ ps ≡ [] = x in cc)
     go false false x = absurd (let z : p ∷ insert k v ps ≡ [] = x in cc)
 
-module _ (f g : Word → ℕ) (p : ℕ) (e : Apart f g p) where
+-- on which side of a fork a key is
+turned_left : (f : Word → ℕ) (n k : ℕ) → toward f n k ≡ Left → k < rank f n
+turned_left f n k z = ⊎_elim (λ l. l) (λ l. absurd (let x : toward f n k ≡ Right = rw (le-ltb k (rank f n) l) refl in let y : Right ≡ Left = sym x ∙ z in cc)) (split_at k (rank f n))
+
+turned_right : (f : Word → ℕ) (n k : ℕ) → toward f n k ≡ Right → rank f n ≤ k
+turned_right f n k z = ⊎_elim (λ l. absurd (let x : toward f n k ≡ Left = rw (lt-ltb k (rank f n) l) refl in let y : Left ≡ Right = sym x ∙ z in cc)) (λ l. l) (split_at k (rank f n))
+
+module _ (f g : Word → ℕ) (p : ℕ) (Stays : ℕ → ℕ → Type 0) (e : Apart f g p) where
   same : (n : ℕ) → SameSettled f g n
   same n = apart_settled f g p e n
 
   -- a leaf for a leaf
-  pub swap : (c : MapEdit) (l new : ℕ) → edit_key c < 2 ^ 64 → l ≢ new → IsSwapBy f c l new → (lo hi : ℕ) (a : Tree) → lo ≤ edit_key c → edit_key c < hi → Shows f lo hi a → root a ≡ l → ¬ Has a p → Replaced f g (edited c) (λ n. l ≡ n) (λ n. n ≡ new) new lo hi a
-  swap c l new small ne s lo hi (Fork n a b) u w t q d = absurd (let z : true ≡ false = sym s.leaf ∙ rw q at t.0.fork in cc)
-  swap c l new small ne s lo hi (Leaf n) u w t q d = record {
+  pub swap : (c : MapEdit) (l new : ℕ) → edit_key c < 2 ^ 64 → l ≢ new → IsSwapBy f c l new → (lo hi : ℕ) (a : Tree) → lo ≤ edit_key c → edit_key c < hi → Shows f lo hi a → EndsLow f a → root a ≡ l → ¬ Has a p → Replaced f g (edited c) Stays (λ n. l ≡ n) (λ n. n ≡ new) new lo hi a
+  swap c l new small ne s lo hi (Fork n a b) u w t ends q d = absurd (let z : true ≡ false = sym s.leaf ∙ rw q at t.0.fork in cc)
+  swap c l new small ne s lo hi (Leaf n) u w t ends q d = record {
     tree = Leaf new;
     shows = same_leaf f g new lo hi (same new) (record { leaf = s.new.leaf; small = key_small f new below_all; items = there });
     is = refl;
-    deep = let z : level g new ≡ level f new = apart_level f g p e new in let y : level f n ≡ level f l = ap (level f) q in let m = s.deep in omega (arith, z, y, m);
     items = same_items f g new (same new) ∙ items_are;
     ends = apart_class f g p e new ∙ s.new.class ∙ sym low;
-    low = λ _. tt;
-    paths = λ j m h. inr (sym q ∙ h);
+    low = tt;
+    paths = λ j m x h. inr (sym q ∙ h);
     made = λ m h. inr (sym h);
     out = λ m h. (q ∙ h, λ i. ne (h ∙ sym i));
   }
@@ -101,28 +112,27 @@ module _ (f g : Word → ℕ) (p : ℕ) (e : Apart f g p) where
       }
 
   -- a fork over two leaves for a leaf
-  pub split : (c : MapEdit) (l new x y : ℕ) → edit_key c < 2 ^ 64 → p ≢ new → l ≢ new → l ≢ x → l ≢ y → IsSplitBy f c l new x y → (lo hi : ℕ) (a : Tree) → lo ≤ edit_key c → edit_key c < hi → Shows f lo hi a → root a ≡ l → ¬ Has a p
-      → Replaced f g (edited c) (λ n. l ≡ n) (λ n. (n ≡ new) ⊎ ((n ≡ x) ⊎ (n ≡ y))) new lo hi a
-  split c l new x y small pc nc nx ny s lo hi (Fork n a b) u w t q d = absurd (let z : true ≡ false = sym s.leaf ∙ rw q at t.0.fork in cc)
-  split c l new x y small pc nc nx ny s lo hi (Leaf n) u w t q d = record {
+  pub split : (c : MapEdit) (l new x y : ℕ) → edit_key c < 2 ^ 64 → p ≢ new → l ≢ new → l ≢ x → l ≢ y → level f new < level f x → level f new < level f y → IsSplitBy f c l new x y → (lo hi : ℕ) (a : Tree) → lo ≤ edit_key c → edit_key c < hi → Shows f lo hi a → EndsLow f a → root a ≡ l → ¬ Has a p
+      → Replaced f g (edited c) Stays (λ n. l ≡ n) (λ n. (n ≡ new) ⊎ ((n ≡ x) ⊎ (n ≡ y))) new lo hi a
+  split c l new x y small pc nc nx ny lx ly s lo hi (Fork n a b) u w t ends q d = absurd (let z : true ≡ false = sym s.leaf ∙ rw q at t.0.fork in cc)
+  split c l new x y small pc nc nx ny lx ly s lo hi (Leaf n) u w t ends q d = record {
     tree = Fork new (Leaf x) (Leaf y);
     shows = (
       record {
         fork = apart_leaf f g p e new ∙ s.fork;
         left = e.field new Left pc ∙ s.left;
         right = e.field new Right pc ∙ s.right;
-        low = let i : level g x ≡ level f x = apart_level f g p e x in let m = s.low in omega (arith, lc, i, m);
-        high = let i : level g y ≡ level f y = apart_level f g p e y in let m = s.high in omega (arith, lc, i, m);
+        low = let i : level g x ≡ level f x = apart_level f g p e x in omega (arith, lc, i, lx);
+        high = let i : level g y ≡ level f y = apart_level f g p e y in omega (arith, lc, i, ly);
       },
       subst (λ r. IsLeaf g x lo r) (sym rc) (same_leaf f g x lo (rank f new) (same x) first),
       subst (λ r. IsLeaf g y r hi) (sym rc) (same_leaf f g y (rank f new) hi (same y) last),
     );
     is = refl;
-    deep = let i : level f n ≡ level f l = ap (level f) q in let m = s.deep in omega (arith, lc, i, m);
     items = (λ i. same_items f g x (same x) i ++ same_items f g y (same y) i) ∙ all;
     ends = y_class ∙ sym (ap (class f) q);
-    low = λ _. (λ z. y_class ∙ sym s.same_class ∙ sym (apart_class f g p e new) ∙ z, tt, tt);
-    paths = λ j m h. inr (sym q ∙ h);
+    low = (λ z. y_class ∙ sym s.same_class ∙ sym (apart_class f g p e new) ∙ z, tt, tt);
+    paths = λ j m x h. inr (sym q ∙ h);
     made = λ m h. inr (put m h);
     out = λ m h. (q ∙ h, λ i. not_l m h (put m i));
   }
@@ -198,16 +208,15 @@ module _ (f g : Word → ℕ) (p : ℕ) (e : Apart f g p) where
 
   -- a copy c of the root z of a subtree
   copied : (z c : ℕ) → z ≢ c → (is_leaf f c ≡ false → p ≢ c) → f (node c (Settled Head)) ≡ f (node z (Settled Head)) → f (node c first_key) ≡ f (node z first_key) → (is_leaf f z ≡ true → class f z ≡ 0 → IsWellCounted f c × (held_pairs f c ≡ held_pairs f z)) → HasFieldsOf f c z
-      → (lo hi : ℕ) (a : Tree) → Shows f lo hi a → root a ≡ z → ¬ Has a p → Replaced f g (λ xs. xs) (λ n. z ≡ n) (λ n. n ≡ c) c lo hi a
-  copied z c nc pc head key pairs below lo hi (Leaf n) t q d = record {
+      → (lo hi : ℕ) (a : Tree) → Shows f lo hi a → EndsLow f a → root a ≡ z → ¬ Has a p → Replaced f g (λ xs. xs) Stays (λ n. z ≡ n) (λ n. n ≡ c) c lo hi a
+  copied z c nc pc head key pairs below lo hi (Leaf n) t ends q d = record {
     tree = Leaf c;
     shows = same_leaf f g c lo hi (same c) (record { leaf = kind ∙ leaf_z; small = small; items = there });
     is = refl;
-    deep = let i : level f n ≡ level f c = rw (head, q) refl in let lc : level g c ≡ level f c = apart_level f g p e c in omega (arith, i, lc);
     items = same_items f g c (same c) ∙ items_are;
     ends = apart_class f g p e c ∙ class_c ∙ sym (ap (class f) q);
-    low = λ _. tt;
-    paths = λ j m h. inr (sym q ∙ h);
+    low = tt;
+    paths = λ j m x h. inr (sym q ∙ h);
     made = λ m h. inr (sym h);
     out = λ m h. (q ∙ h, λ i. nc (h ∙ sym i));
   }
@@ -253,14 +262,13 @@ module _ (f g : Word → ℕ) (p : ℕ) (e : Apart f g p) where
         from = subst (AllFrom lo) (sym items_are) had.from;
         below = subst (AllBelow hi) (sym items_are) had.below;
       }
-  copied z c nc pc head key pairs below lo hi (Fork n a b) t q d = record {
+  copied z c nc pc head key pairs below lo hi (Fork n a b) t ends q d = record {
     tree = Fork c a b;
     shows = (over, subst (λ v. Shows g lo v a) (sym rc) (frame f g a lo (rank f n) same_a t.1), subst (λ v. Shows g v hi b) (sym rc) (frame f g b (rank f n) hi same_b t.2));
     is = refl;
-    deep = omega (arith, deep, lc);
     items = λ i. frame_items f g a same_a i ++ frame_items f g b same_b i;
     ends = last_stays;
-    low = λ w. (λ i. last_stays ∙ w.0 (ap (class f) q ∙ sym class_c ∙ i), frame_low f g a same_a w.1, frame_low f g b same_b w.2);
+    low = (λ i. last_stays ∙ ends.0 (ap (class f) q ∙ sym class_c ∙ i), frame_low f g a same_a ends.1, frame_low f g b same_b ends.2);
     paths = paths;
     made = made;
     out = λ m h. (inl (q ∙ h), gone m h);
@@ -317,10 +325,10 @@ module _ (f g : Word → ℕ) (p : ℕ) (e : Apart f g p) where
             high = omega (arith, lc, lb, tb, deep);
           }
 
-      paths : (j m : ℕ) → Passes f j (Fork n a b) m → Passes g j (Fork c a b) m ⊎ (z ≡ m)
-      paths j m (inl h) = inr (sym q ∙ h)
-      paths j m (inr (inl h)) = inl (inr (inl (rw rc h.0, frame_path f g j a m same_a h.1)))
-      paths j m (inr (inr h)) = inl (inr (inr (rw rc h.0, frame_path f g j b m same_b h.1)))
+      paths : (j m : ℕ) → Stays j m → Passes f j (Fork n a b) m → Passes g j (Fork c a b) m ⊎ (z ≡ m)
+      paths j m w (inl h) = inr (sym q ∙ h)
+      paths j m w (inr (inl h)) = inl (inr (inl (rw rc h.0, frame_path f g j a m same_a h.1)))
+      paths j m w (inr (inr h)) = inl (inr (inr (rw rc h.0, frame_path f g j b m same_b h.1)))
 
       made : (m : ℕ) → Has (Fork c a b) m → Has (Fork n a b) m ⊎ (m ≡ c)
       made m (inl h) = inr (sym h)
@@ -331,9 +339,9 @@ module _ (f g : Word → ℕ) (p : ℕ) (e : Apart f g p) where
   lone_leaf l lo hi (Fork n a b) t q x = absurd (let z : true ≡ false = sym x ∙ rw q at t.0.fork in cc)
 
   -- the leaf goes that is left without a pair
-  pub join : (k : MapEdit) (q l z c : ℕ) → q ≢ c → l ≢ c → z ≢ c → (is_leaf f c ≡ false → p ≢ c) → IsJoinBy f k q l z c → AreBelow f q l z → HasFieldsOf f c z → (lo hi : ℕ) (a : Tree) → lo ≤ edit_key k → edit_key k < hi → Shows f lo hi a → root a ≡ q → ¬ Has a p → Replaced f g (edited k) (λ n. (q ≡ n) ⊎ ((l ≡ n) ⊎ (z ≡ n))) (λ n. n ≡ c) c lo hi a
-  join k q l z c qc lc zc pc s fields below lo hi (Leaf n) u w t x d = absurd (let y : true ≡ false = sym t.leaf ∙ rw (← x) at s.fork in cc)
-  join k q l z c qc lc zc pc s fields below lo hi (Fork n a b) u w t x d = go fields
+  pub join : (k : MapEdit) (q l z c : ℕ) → q ≢ c → l ≢ c → z ≢ c → (is_leaf f c ≡ false → p ≢ c) → IsJoinBy f k q l z c → AreBelow f q l z → HasFieldsOf f c z → (lo hi : ℕ) (a : Tree) → lo ≤ edit_key k → edit_key k < hi → Shows f lo hi a → EndsLow f a → root a ≡ q → ¬ Has a p → Replaced f g (edited k) Stays (λ n. (q ≡ n) ⊎ ((l ≡ n) ⊎ (z ≡ n))) (λ n. n ≡ c) c lo hi a
+  join k q l z c qc lc zc pc s fields below lo hi (Leaf n) u w t ends x d = absurd (let y : true ≡ false = sym t.leaf ∙ rw (← x) at s.fork in cc)
+  join k q l z c qc lc zc pc s fields below lo hi (Fork n a b) u w t ends x d = go fields
     where
       -- its key is that of the leaf
       rl : rank f l ≡ edit_key k
@@ -352,8 +360,8 @@ module _ (f g : Word → ℕ) (p : ℕ) (e : Apart f g p) where
       right_n : f (child q Right) ≡ root b
       right_n = rw x at t.0.right
 
-      go : ((f (child q Left) ≡ l) × (f (child q Right) ≡ z)) ⊎ ((f (child q Left) ≡ z) × (f (child q Right) ≡ l)) → Replaced f g (edited k) (λ n. (q ≡ n) ⊎ ((l ≡ n) ⊎ (z ≡ n))) (λ n. n ≡ c) c lo hi (Fork n a b)
-      go (inl o) = finish (copied z c zc pc s.copy.same_head s.copy.same_key s.copy.same_pairs below (rank f n) hi b t.2 root_b (λ h. d (inr (inr h))))
+      go : ((f (child q Left) ≡ l) × (f (child q Right) ≡ z)) ⊎ ((f (child q Left) ≡ z) × (f (child q Right) ≡ l)) → Replaced f g (edited k) Stays (λ n. (q ≡ n) ⊎ ((l ≡ n) ⊎ (z ≡ n))) (λ n. n ≡ c) c lo hi (Fork n a b)
+      go (inl o) = finish (copied z c zc pc s.copy.same_head s.copy.same_key s.copy.same_pairs below (rank f n) hi b t.2 ends.2 root_b (λ h. d (inr (inr h))))
         where
           root_b : root b ≡ z
           root_b = sym right_n ∙ o.1
@@ -364,7 +372,7 @@ module _ (f g : Word → ℕ) (p : ℕ) (e : Apart f g p) where
           leaf_l : IsLeaf f l lo (rank f n)
           leaf_l = rw is_a at t.1
 
-          finish : Replaced f g (λ xs. xs) (λ n. z ≡ n) (λ n. n ≡ c) c (rank f n) hi b → Replaced f g (edited k) (λ n. (q ≡ n) ⊎ ((l ≡ n) ⊎ (z ≡ n))) (λ n. n ≡ c) c lo hi (Fork n a b)
+          finish : Replaced f g (λ xs. xs) Stays (λ n. z ≡ n) (λ n. n ≡ c) c (rank f n) hi b → Replaced f g (edited k) Stays (λ n. (q ≡ n) ⊎ ((l ≡ n) ⊎ (z ≡ n))) (λ n. n ≡ c) c lo hi (Fork n a b)
           finish r =
               let l_below : rank f l < rank f n = rank_below f l lo (rank f n) leaf_l.items in
               let before : edited k (leaf_items f l ++ items f b) ≡ edited k (leaf_items f l) ++ items f b = (edited_local k).left (leaf_items f l) (items f b) (items_above f b (rank f n) hi (edit_key k) t.2 (omega (arith, l_below, rl))) in
@@ -372,10 +380,9 @@ module _ (f g : Word → ℕ) (p : ℕ) (e : Apart f g p) where
                 tree = r.tree;
                 shows = wider g r.tree (rank f n) hi lo hi (let y = open_between f a lo (rank f n) t.1 in omega (arith, y)) (omega arith) r.shows;
                 is = r.is;
-                deep = let v : level f n < level f (root b) = t.0.high in let y = r.deep in omega (arith, v, y);
                 items = r.items ∙ sym (ap (λ (m : Tree). edited k (items f m ++ items f b)) is_a ∙ before ∙ ap (λ xs. xs ++ items f b) none);
                 ends = r.ends;
-                low = λ w. r.low w.2;
+                low = r.low;
                 paths = paths;
                 made = λ m h. ⊎_elim (λ y. inl (inr (inr y))) inr (r.made m h);
                 out = gone;
@@ -386,11 +393,11 @@ module _ (f g : Word → ℕ) (p : ℕ) (e : Apart f g p) where
               gone m (inr (inl h)) = let y : Has a m = rw is_a h in (inr (inl y), λ i. ⊎_elim (λ w. apart f a b lo (rank f n) hi m t.1 t.2 y w) (λ w. lc (h ∙ w)) (r.made m i))
               gone m (inr (inr h)) = (inr (inr (r.out m h).0), (r.out m h).1)
 
-              paths : (j m : ℕ) → Passes f j (Fork n a b) m → Passes g j r.tree m ⊎ ((q ≡ m) ⊎ ((l ≡ m) ⊎ (z ≡ m)))
-              paths j m (inl h) = inr (inl (sym x ∙ h))
-              paths j m (inr (inl h)) = let y : l ≡ m = rw is_a at h.1 in inr (inr (inl y))
-              paths j m (inr (inr h)) = ⊎_elim inl (λ y. inr (inr (inr y))) (r.paths j m h.1)
-      go (inr o) = finish (copied z c zc pc s.copy.same_head s.copy.same_key s.copy.same_pairs below lo (rank f n) a t.1 root_a (λ h. d (inr (inl h))))
+              paths : (j m : ℕ) → Stays j m → Passes f j (Fork n a b) m → Passes g j r.tree m ⊎ ((q ≡ m) ⊎ ((l ≡ m) ⊎ (z ≡ m)))
+              paths j m w (inl h) = inr (inl (sym x ∙ h))
+              paths j m w (inr (inl h)) = let y : l ≡ m = rw is_a at h.1 in inr (inr (inl y))
+              paths j m w (inr (inr h)) = ⊎_elim inl (λ y. inr (inr (inr y))) (r.paths j m w h.1)
+      go (inr o) = finish (copied z c zc pc s.copy.same_head s.copy.same_key s.copy.same_pairs below lo (rank f n) a t.1 ends.1 root_a (λ h. d (inr (inl h))))
         where
           root_a : root a ≡ z
           root_a = sym left_n ∙ o.0
@@ -410,7 +417,7 @@ module _ (f g : Word → ℕ) (p : ℕ) (e : Apart f g p) where
               let small = leaf_l.small in
               omega (arith, below, from, low, small)
 
-          finish : Replaced f g (λ xs. xs) (λ n. z ≡ n) (λ n. n ≡ c) c lo (rank f n) a → Replaced f g (edited k) (λ n. (q ≡ n) ⊎ ((l ≡ n) ⊎ (z ≡ n))) (λ n. n ≡ c) c lo hi (Fork n a b)
+          finish : Replaced f g (λ xs. xs) Stays (λ n. z ≡ n) (λ n. n ≡ c) c lo (rank f n) a → Replaced f g (edited k) Stays (λ n. (q ≡ n) ⊎ ((l ≡ n) ⊎ (z ≡ n))) (λ n. n ≡ c) c lo hi (Fork n a b)
           finish r =
               let l_from : rank f n ≤ rank f l = rank_from f l (rank f n) hi leaf_l.items in
               let before : edited k (items f a ++ leaf_items f l) ≡ items f a ++ edited k (leaf_items f l) = (edited_local k).right (items f a) (leaf_items f l) (items_below f a lo (rank f n) (edit_key k) t.1 (omega (arith, l_from, rl))) in
@@ -418,10 +425,9 @@ module _ (f g : Word → ℕ) (p : ℕ) (e : Apart f g p) where
                 tree = r.tree;
                 shows = wider g r.tree lo (rank f n) lo hi (omega arith) (let y = open_between f b (rank f n) hi t.2 in omega (arith, y)) r.shows;
                 is = r.is;
-                deep = let v : level f n < level f (root a) = t.0.low in let y = r.deep in omega (arith, v, y);
                 items = r.items ∙ sym (ap (λ (m : Tree). edited k (items f a ++ items f m)) is_b ∙ before ∙ ap (λ ys. items f a ++ ys) none ∙ append-nil (items f a));
                 ends = r.ends ∙ last_low ∙ sym s.low ∙ sym (ap (λ (m : Tree). class f (last_leaf m)) is_b);
-                low = λ w. r.low w.1;
+                low = r.low;
                 paths = paths;
                 made = λ m h. ⊎_elim (λ y. inl (inr (inl y))) inr (r.made m h);
                 out = gone;
@@ -432,7 +438,168 @@ module _ (f g : Word → ℕ) (p : ℕ) (e : Apart f g p) where
               gone m (inr (inl h)) = let y : Has b m = rw is_b h in (inr (inr y), λ i. ⊎_elim (λ w. apart f a b lo (rank f n) hi m t.1 t.2 w y) (λ w. lc (h ∙ w)) (r.made m i))
               gone m (inr (inr h)) = (inr (inl (r.out m h).0), (r.out m h).1)
 
-              paths : (j m : ℕ) → Passes f j (Fork n a b) m → Passes g j r.tree m ⊎ ((q ≡ m) ⊎ ((l ≡ m) ⊎ (z ≡ m)))
-              paths j m (inl h) = inr (inl (sym x ∙ h))
-              paths j m (inr (inr h)) = let y : l ≡ m = rw is_b at h.1 in inr (inr (inl y))
-              paths j m (inr (inl h)) = ⊎_elim inl (λ y. inr (inr (inr y))) (r.paths j m h.1)
+              paths : (j m : ℕ) → Stays j m → Passes f j (Fork n a b) m → Passes g j r.tree m ⊎ ((q ≡ m) ⊎ ((l ≡ m) ⊎ (z ≡ m)))
+              paths j m w (inl h) = inr (inl (sym x ∙ h))
+              paths j m w (inr (inr h)) = let y : l ≡ m = rw is_b at h.1 in inr (inr (inl y))
+              paths j m w (inr (inl h)) = ⊎_elim inl (λ y. inr (inr (inr y))) (r.paths j m w h.1)
+
+  -- a leaf with what the edit makes of no pair
+  lone_pair : (c : MapEdit) (x lo hi : ℕ) → edit_key c < 2 ^ 64 → IsLowLeaf f x → held_pairs f x ≡ edited c [] → lo ≤ edit_key c → edit_key c < hi → IsLeaf f x lo hi
+  lone_pair c x lo hi small leaf held u w = record {
+    leaf = leaf.leaf;
+    small = key_small f x below_all;
+    items = record {
+      keys = λ z. (leaf.counted, below_all);
+      rising = subst IsRising (sym is) (edited_rises c [] tt);
+      from = subst (AllFrom lo) (sym is) (edited_from c lo [] tt u);
+      below = subst (AllBelow hi) (sym is) (edited_below c hi [] tt w);
+    };
+  }
+    where
+      is : leaf_items f x ≡ edited c []
+      is = low_items f x leaf.class ∙ held
+
+      below_all : AllBelow (2 ^ 64) (held_pairs f x)
+      below_all = subst (AllBelow (2 ^ 64)) (sym held) (edited_below c (2 ^ 64) [] tt small)
+
+  -- a fork goes below a fresh one, beside a leaf with a pair of its own
+  pub above : (c : MapEdit) (u new x : ℕ) (side : Side) → edit_key c < 2 ^ 64 → p ≢ new → level f new < level f x → level f new < level f u → IsAboveBy f c u new x side → Keeps f new (opposite side) u → ((j m : ℕ) → Stays j m → (is_leaf f m ≡ false) × (class f m ≡ 0 → Shares f m j))
+      → (lo hi : ℕ) (a : Tree) → lo ≤ edit_key c → edit_key c < hi → Shows f lo hi a → EndsLow f a → AreForks f a → root a ≡ u → ¬ Has a p → Replaced f g (edited c) Stays (λ n. ⊥) (λ n. (n ≡ new) ⊎ (n ≡ x)) new lo hi a
+  above c u new x side small pc lx lu s keeps shares lo hi (Leaf n) v w t ends all q d = absurd (let z : true ≡ false = sym t.leaf ∙ rw (← q) at s.old_fork in cc)
+  above c u new x side small pc lx lu s keeps shares lo hi (Fork n a b) v w t ends all q d = go side s keeps
+    where
+      k : ℕ
+      k = edit_key c
+
+      last : class f (last_leaf b) ≡ 0
+      last = ends.0 (ap (class f) q ∙ s.old_low)
+
+      same_m : (m : ℕ) → Has (Fork n a b) m → Same f g m
+      same_m m h = apart_same f g p e m (λ y. d (rw (← y) at h))
+
+      rank_is : rank f new ≡ f (node new first_key)
+      rank_is = let z = s.low in omega (arith, z)
+
+      rc : rank g new ≡ rank f new
+      rc = apart_rank f g p e new
+
+      x_items : leaf_items f x ≡ edited c []
+      x_items = low_items f x s.first.class ∙ s.pairs
+
+      x_class : class g x ≡ 0
+      x_class = apart_class f g p e x ∙ s.first.class
+
+      last_stays : class g (last_leaf b) ≡ class f (last_leaf b)
+      last_stays = apart_class f g p e (last_leaf b)
+
+      is_low : (m : ℕ) → Has (Fork n a b) m → class f m ≡ 0
+      is_low m h = let y = node_low f (Fork n a b) lo hi m t last h in omega (arith, y)
+
+      -- what stands on a side of it
+      side_items : (at : Side) → Keeps f new at u → AllFrom (side_from f new at) (items f (Fork n a b)) × AllBelow (side_to f new at) (items f (Fork n a b))
+      side_items at y = child_items f new at (Fork n a b) lo hi t last all (subst (Keeps f new at) (sym q) y)
+
+      side_keys : (at : Side) → Keeps f new at u → (j m : ℕ) → Stays j m → Has (Fork n a b) m → (side_from f new at ≤ j) × (j < side_to f new at)
+      side_keys at y j m z h =
+          let i = shares j m z in
+          child_shares f new at (Fork n a b) lo hi m j t last all (subst (Keeps f new at) (sym q) y) h i.0 (i.1 (is_low m h))
+
+      put_left : (m : ℕ) → Has (Fork new (Leaf x) (Fork n a b)) m → Has (Fork n a b) m ⊎ ((m ≡ new) ⊎ (m ≡ x))
+      put_left m (inl h) = inr (inl (sym h))
+      put_left m (inr (inl h)) = inr (inr (sym h))
+      put_left m (inr (inr h)) = inl h
+
+      put_right : (m : ℕ) → Has (Fork new (Fork n a b) (Leaf x)) m → Has (Fork n a b) m ⊎ ((m ≡ new) ⊎ (m ≡ x))
+      put_right m (inl h) = inr (inl (sym h))
+      put_right m (inr (inl h)) = inl h
+      put_right m (inr (inr h)) = inr (inr (sym h))
+
+      lc : level g new ≡ level f new
+      lc = apart_level f g p e new
+
+      x_deep : level g new < level g x
+      x_deep = let y : level g x ≡ level f x = apart_level f g p e x in omega (arith, lc, y, lx)
+
+      u_deep : level g new < level g n
+      u_deep = let y : level g n ≡ level f n = apart_level f g p e n in let z : level f n ≡ level f u = ap (level f) q in omega (arith, lc, y, z, lu)
+
+      go : (side : Side) → IsAboveBy f c u new x side → Keeps f new (opposite side) u → Replaced f g (edited c) Stays (λ n. ⊥) (λ n. (n ≡ new) ⊎ (n ≡ x)) new lo hi (Fork n a b)
+      go Left r y = record {
+        tree = Fork new (Leaf x) (Fork n a b);
+        shows = (
+          record { fork = apart_leaf f g p e new ∙ r.fork; left = e.field new Left pc ∙ r.leaf; right = e.field new Right pc ∙ r.other ∙ sym q; low = x_deep; high = u_deep },
+          subst (λ i. IsLeaf g x lo i) (sym rc) (same_leaf f g x lo (rank f new) (same x) (lone_pair c x lo (rank f new) small r.first r.pairs v key)),
+          subst (λ i. Shows g i hi (Fork n a b)) (sym rc) (frame f g (Fork n a b) (rank f new) hi same_m (narrow_from f (Fork n a b) lo hi (rank f new) t from)),
+        );
+        is = refl;
+        items = (λ i. same_items f g x (same x) i ++ frame_items f g (Fork n a b) same_m i) ∙ ap (λ xs. xs ++ items f (Fork n a b)) x_items ∙ sym ((edited_local c).left [] (items f (Fork n a b)) (above_from k (rank f new) (items f (Fork n a b)) key from));
+        ends = last_stays;
+        low = (λ _. last_stays ∙ last, tt, frame_low f g (Fork n a b) same_m ends);
+        paths = λ j m z h. inl (inr (inr (rw rc (beyond j m z h), frame_path f g j (Fork n a b) m same_m h)));
+        made = put_left;
+        out = λ m z. absurd z;
+      }
+        where
+          key : k < rank f new
+          key = turned_left f new k r.turn
+
+          bound : side_from f new Right ≡ rank f new
+          bound = (low_from f new r.low).1 ∙ sym rank_is
+
+          from : AllFrom (rank f new) (items f (Fork n a b))
+          from = subst (λ i. AllFrom i (items f (Fork n a b))) bound (side_items Right y).0
+
+          beyond : (j m : ℕ) → Stays j m → Passes f j (Fork n a b) m → rank f new ≤ j
+          beyond j m z h = subst (λ i. i ≤ j) bound (side_keys Right y j m z (passes_has f j (Fork n a b) m h)).0
+      go Right r y = record {
+        tree = Fork new (Fork n a b) (Leaf x);
+        shows = (
+          record { fork = apart_leaf f g p e new ∙ r.fork; left = e.field new Left pc ∙ r.other ∙ sym q; right = e.field new Right pc ∙ r.leaf; low = u_deep; high = x_deep },
+          subst (λ i. Shows g lo i (Fork n a b)) (sym rc) (frame f g (Fork n a b) lo (rank f new) same_m (narrow_to f (Fork n a b) lo hi (rank f new) t below)),
+          subst (λ i. IsLeaf g x i hi) (sym rc) (same_leaf f g x (rank f new) hi (same x) (lone_pair c x (rank f new) hi small r.first r.pairs key w)),
+        );
+        is = refl;
+        items = (λ i. frame_items f g (Fork n a b) same_m i ++ same_items f g x (same x) i) ∙ ap (λ xs. items f (Fork n a b) ++ xs) x_items ∙ sym ((edited_local c).right (items f (Fork n a b)) [] (below_more (rank f new) k (items f (Fork n a b)) key below)) ∙ ap (edited c) (append-nil (items f (Fork n a b)));
+        ends = x_class ∙ sym last;
+        low = (λ _. x_class, frame_low f g (Fork n a b) same_m ends, tt);
+        paths = λ j m z h. inl (inr (inl (rw rc (before j m z h), frame_path f g j (Fork n a b) m same_m h)));
+        made = put_right;
+        out = λ m z. absurd z;
+      }
+        where
+          key : rank f new ≤ k
+          key = turned_right f new k r.turn
+
+          bound : side_to f new Left ≡ rank f new
+          bound = (low_to f new r.low).0 ∙ sym rank_is
+
+          below : AllBelow (rank f new) (items f (Fork n a b))
+          below = subst (λ i. AllBelow i (items f (Fork n a b))) bound (side_items Left y).1
+
+          before : (j m : ℕ) → Stays j m → Passes f j (Fork n a b) m → j < rank f new
+          before j m z h = subst (λ i. j < i) bound (side_keys Left y j m z (passes_has f j (Fork n a b) m h)).1
+
+-- none of what is below where a fork is put above has the edit's key
+pub absent : (f : Word → ℕ) (c : MapEdit) (u new x : ℕ) (side : Side) (a : Tree) (lo hi : ℕ) → Shows f lo hi a → EndsLow f a → AreForks f a → root a ≡ u → IsAboveBy f c u new x side → Keeps f new (opposite side) u → get (edit_key c) (items f a) ≡ None
+absent f c u new x side (Leaf n) lo hi t ends all q s keeps = absurd (let z : true ≡ false = sym t.leaf ∙ rw (← q) at s.old_fork in cc)
+absent f c u new x side (Fork n a b) lo hi t ends all q s keeps = go side s keeps
+  where
+    k : ℕ
+    k = edit_key c
+
+    last : class f (last_leaf b) ≡ 0
+    last = ends.0 (ap (class f) q ∙ s.old_low)
+
+    go : (side : Side) → IsAboveBy f c u new x side → Keeps f new (opposite side) u → get (edit_key c) (items f (Fork n a b)) ≡ None
+    go Left r y =
+        let held = child_items f new Right (Fork n a b) lo hi t last all (subst (Keeps f new Right) (sym q) y) in
+        let bound = (low_from f new r.low).1 in
+        let below : k < rank f new = turned_left f new k r.turn in
+        let low = r.low in
+        get_above k (items f (Fork n a b)) (above_from k (side_from f new Right) (items f (Fork n a b)) (omega (arith, bound, below, low)) held.0)
+    go Right r y =
+        let held = child_items f new Left (Fork n a b) lo hi t last all (subst (Keeps f new Left) (sym q) y) in
+        let bound = (low_to f new r.low).0 in
+        let from : rank f new ≤ k = turned_right f new k r.turn in
+        let low = r.low in
+        get_below k (items f (Fork n a b)) (below_more (side_to f new Left) k (items f (Fork n a b)) (omega (arith, bound, from, low)) held.1)

@@ -1,25 +1,26 @@
 -- What a run under the shape of the tree says, whatever edits it makes: the map that the words
 -- spell, what a winning update makes of it, and what walks find.
-use Rattle.std.proofs.Common.{◌≡◌, ◌≢◌, ℕ, ◌^◌, ◌<◌, true, false, cond, eqb, eq-eqb, ne_eqb, inl, inr, ⊎_elim, List, [], refl, sym, ◌∙◌, ap, arith, subst}
+use Rattle.std.proofs.Common.{◌≡◌, ◌≢◌, ℕ, ◌^◌, ◌<◌, true, false, cond, eqb, eq-eqb, ne_eqb, ◌⊎◌, inl, inr, ⊎_elim, List, [], refl, sym, ◌∙◌, ap, arith, subst}
 use native.Mathlib.Decide.{ℕ_discrete}
-use Rattle.arena.specs.declared.limits.Mode.TheVariants.{Tree as TreeMode}
 use Rattle.arena.specs.declared.word.Side.{Side}
 use Rattle.arena.specs.declared.word.Side.TheVariants.{Left, Right}
 use Rattle.arena.specs.declared.word.ScxWord.TheVariants.{Plan}
 use Rattle.arena.specs.declared.word.Word.{Word}
 use Rattle.arena.specs.declared.layout.Layout.{Layout}
 use Rattle.arena.specs.declared.step.Row.{Row}
+use Rattle.arena.specs.Layout.{IsMap}
 use Rattle.arena.specs.Words.{info, scx, child}
 use Rattle.arena.specs.History.{History, Start, ◌⊳◌, value, Extends}
 use Rattle.arena.specs.Blame.{IsMember}
-use Rattle.arena.specs.ScxRecords.{count, count_of, member, plan}
+use Rattle.arena.specs.declared.limits.Mode.TheVariants.{Tree as TreeMode, Trie as TrieMode}
+use Rattle.arena.specs.ScxRecords.{count, count_of, member, plan, plan_finalizes, scx_finalizes}
 use Rattle.arena.specs.Fills.{IsNamed, IsNamedScx}
 use Rattle.arena.specs.Lawful.{Lawful, IsWin, HasWon}
 use Rattle.arena.specs.Log.{log, IsEntered}
 use Rattle.arena.specs.Shape.{IsBegin, Shaped}
 use Rattle.histories.specs.Descriptor.{count_in}
 use Rattle.arena.proofs.Lemmas.{held_back, held_start, opening_info, ends_self, ends_trans, value_apart}
-use Rattle.histories.proofs.Lemmas.{Effect, Facts, IsFirst, Logs, begins_once, scx_since, logs, same, wins, UpdateWins, effect, entered_won, facts, facts_before, freeze, freeze_held, lawful_row, lawful_since, lawful_tail, named_since, quiet, shaped_begin, shaped_since, shaped_tail, some_is_real, update, update_flagged, update_held, won_named, won_real}
+use Rattle.histories.proofs.Lemmas.{Effect, Facts, IsFirst, Logs, begins_once, scx_since, logs, same, wins, UpdateWins, effect, entered_won, facts, facts_before, freeze, freeze_held, lawful_row, lawful_since, lawful_tail, named_since, quiet, shaped_begin, shaped_since, shaped_tail, start_mode, some_is_real, update, update_flagged, update_held, won_named, won_real}
 use Rattle.ordered_map.specs.declared.pair.Pair.{Pair}
 use Rattle.ordered_map.specs.OrderedMap.{MapEdit, edit_key, edited, get}
 use Rattle.ordered_map.proofs.Pending.{AllowsGiven, Pending}
@@ -28,13 +29,14 @@ use Rattle.ordered_map.specs.Paths.{Passed, IsAnswerAt}
 use Rattle.ordered_map.specs.Laws.{AreEdits, SpellsLog}
 use Rattle.ordered_map.specs.Runs.{IsTreeRun, Makes, map_of_log, IsEditAt}
 use Rattle.ordered_map.specs.Spelled.{Spells}
-use Rattle.ordered_map.specs.TreeShape.{IsEdit, leaf_place, edit_leaf, TreeAllows}
+use Rattle.ordered_map.specs.TrieShape.{Stays, EditsEndLeaf, TakesEndLeafOut, PutsAbove}
+use Rattle.ordered_map.specs.TreeShape.{IsEdit, EditsLeaf, TakesLeafOut, leaf_place, leaf_out, edit_leaf, TreeAllows}
 use Rattle.ordered_map.specs.TreeWords.{class, is_leaf, level, toward, pairs, said}
-use Rattle.ordered_map.proofs.Moved.{settled_toward}
 use Rattle.ordered_map.proofs.TreeFacts.{TreeFacts}
-use Rattle.ordered_map.proofs.Edited.{past, leaf_plan_says, join_plan_says, content_now, replies}
-use Rattle.ordered_map.proofs.Grown.{IsGrown, tree_facts, first_begins, grown_tail, grown_since, start_mode}
-use Rattle.ordered_map.proofs.Past.{path_named, Answered, walk_begins, walk_goes_on, walk_ends, level_rises}
+use Rattle.ordered_map.proofs.Edited.{leaf_plan_says, join_plan_says, end_leaf_plan_says, end_join_plan_says, above_plan_says, content_now, replies}
+use Rattle.ordered_map.proofs.Grown.{IsGrown, tree_facts, first_begins, grown_tail, grown_since}
+use Rattle.ordered_map.proofs.Past.{path_named, Answered, walk_begins, walk_goes_on, walk_ends, grown_rises}
+use Rattle.ordered_map.proofs.Stood.{was_passed}
 use Rattle.ordered_map.proofs.Growing.{spells, root_leaf, root_left}
 use Rattle.ordered_map.proofs.Runs.{HasEdits, begin_names, edit_told, has_edits, with_edit}
 
@@ -56,7 +58,7 @@ pub run_spells : (lay : Layout) (h : History) → IsTreeRun lay h → (ps : List
 run_spells lay h g = (map_of_log (edits_of lay h g).edits (log lay h), spells (edits_of lay h g).edits lay h (grown lay h g))
 
 -- the opening words are a run, and spell the empty map
-pub opening_run : (lay : Layout) → lay.mode ≡ TreeMode → IsTreeRun lay (Start lay.mode)
+pub opening_run : (lay : Layout) → IsMap lay.mode → IsTreeRun lay (Start lay.mode)
 unfolding Lawful Shaped
 opening_run lay mode = (mode, record { lawful = refl; shaped = tt })
 
@@ -64,7 +66,7 @@ opening_log : (calls : ℕ → MapEdit) (lay : Layout) → map_of_log calls (log
 unfolding log
 opening_log calls lay = refl
 
-pub opening_spells : (lay : Layout) → lay.mode ≡ TreeMode → Spells lay (value (Start lay.mode)) []
+pub opening_spells : (lay : Layout) → IsMap lay.mode → Spells lay (value (Start lay.mode)) []
 opening_spells lay mode =
     let g : IsTreeRun lay (Start lay.mode) = opening_run lay mode in
     subst (Spells lay (value (Start lay.mode))) (opening_log (edits_of lay (Start lay.mode) g).edits lay) (spells (edits_of lay (Start lay.mode) g).edits lay (Start lay.mode) (grown lay (Start lay.mode) g))
@@ -145,13 +147,6 @@ run_since lay h m g e = (g.0, record { lawful = lawful_since lay h m g.1.lawful 
 
 -- A winning update
 
-same_leaf : (calls : ℕ → MapEdit) (lay : Layout) (h : History) (u : ℕ) (p : Pending calls lay h u) (e : MapEdit) → edit_leaf p.before u e ≡ edit_leaf h u e
-same_leaf calls lay h u p c =
-    let d : toward (value h) (member p.before u 1) (edit_key c) ≡ toward (value p.before) (member p.before u 1) (edit_key c) = settled_toward (value p.before) (value h) (member p.before u 1) (edit_key c) (λ a i. p.settled (member p.before u 1) (inr (inr (1, refl))) a i) in
-    let m : member p.before u 1 ≡ member h u 1 = λ i. (p.same i).member 1 in
-    let e : toward (value p.before) (member p.before u 1) (edit_key c) ≡ toward (value h) (member h u 1) (edit_key c) = sym d ∙ ap (λ n. toward (value h) n (edit_key c)) m in
-    λ i. cond (eqb (count_in (p.same i)) 2) ((p.same i).member 1) ((p.same i).member (leaf_place (e i)))
-
 module _ (calls : ℕ → MapEdit) (lay : Layout) (h : History) (r : Row) (u : ℕ) (now : IsGrown calls lay (r ⊳ h)) (w : UpdateWins h r u) where
   grown_then : IsGrown calls lay h
   grown_then = grown_tail calls lay h r now
@@ -178,7 +173,6 @@ module _ (calls : ℕ → MapEdit) (lay : Layout) (h : History) (r : Row) (u : �
   replying : (ps : List Pair) → Spells lay (value h) ps → get (edit_key (calls u)) ps ≡ said (value h) (edit_key (calls u)) (edit_leaf h u (calls u))
   replying ps s =
       ap (get (edit_key (calls u))) (map_then ps s) ∙ replies calls lay h r u f w now.mode now.lawful t
-      ∙ ap (said (value h) (edit_key (calls u))) (same_leaf calls lay h u (past calls lay h r u f w now.mode now.lawful t) (calls u))
 
   win_given : IsEditAt lay h r u (calls u)
   win_given = record { makes = makes; changes = changing; replies = replying }
@@ -196,11 +190,11 @@ quiet_spells lay h r ps g e s =
 pub walk_first : (lay : Layout) (h : History) (k : ℕ) → IsTreeRun lay h → Passed h h k 0
 walk_first lay h k g = walk_begins (edits_of lay h g).edits lay h k (grown lay h g)
 
-pub walk_next : (lay : Layout) (h start : History) (k n : ℕ) → IsTreeRun lay h → Passed h start k n → is_leaf (value h) n ≡ false → Passed h start k (value h (child n (toward (value h) n k)))
-walk_next lay h start k n g p d = walk_goes_on (edits_of lay h g).edits lay h start k n (grown lay h g) p d
+pub walk_next : (lay : Layout) (h start : History) (k n : ℕ) → IsTreeRun lay h → Passed h start k n → Stays lay (value h) k n → is_leaf (value h) n ≡ false → Passed h start k (value h (child n (toward (value h) n k)))
+walk_next lay h start k n g p stay d = walk_goes_on (edits_of lay h g).edits lay h start k n (grown lay h g) p stay d
 
 pub walk_rises : (lay : Layout) (h start : History) (k n : ℕ) (side : Side) → IsTreeRun lay h → Passed h start k n → is_leaf (value h) n ≡ false → level (value h) n < level (value h) (value h (child n side))
-walk_rises lay h start k n side g p d = level_rises (edits_of lay h g).edits lay h p.0 k n side (grown lay h g) p.1 p.3 d
+walk_rises lay h start k n side g p d = grown_rises (edits_of lay h g).edits lay h n side (grown lay h g) (was_passed h start k n p) d
 
 pub walk_named : (lay : Layout) (h start : History) (k n : ℕ) → IsTreeRun lay h → Passed h start k n → IsNamed lay h n
 walk_named lay h start k n g p = named_since lay h p.0 n g.1.lawful p.1 (path_named lay p.0 k n g.0 p.3)
@@ -277,22 +271,39 @@ begun_plan lay h s e l x =
     let named : IsNamedScx (x.row ⊳ x.before) s = (member x.before s 0, begin_names x.before x.row s x.begins) in
     scx_since lay h (x.row ⊳ x.before) s l x.within real named Plan tt ∙ value_apart x.row x.before (info (member x.before s 0)) (scx s Plan) x.begins.word refl
 
--- it covers the leaf of its edit
-pub leaf_covered : (lay : Layout) (h : History) (s : ℕ) (e : MapEdit) → Lawful lay h → Makes lay h s e → IsMember h s (edit_leaf h s e)
-leaf_covered lay h s e l x = go x.edit.edit
+-- it covers the leaf of its edit; but one that takes the leaf at an end of a trie out does not
+pub leaf_covered : (lay : Layout) (h : History) (s : ℕ) (e : MapEdit) → Lawful lay h → (lay.mode ≡ TreeMode) ⊎ (count h s ≢ 4) → Makes lay h s e → IsMember h s (edit_leaf h s e)
+leaf_covered lay h s e l kind x = go (ℕ_discrete (count h s) 4) x.edit.edit
   where
     few : (side : Side) → leaf_place side < 4
     few Left = omega arith
     few Right = omega arith
 
-    go : IsEdit x.before s e → IsMember h s (edit_leaf h s e)
-    go (inl y) =
-        let two : count h s ≡ 2 = ap count_of (begun_plan lay h s e l x) ∙ (leaf_plan_says _ _ y.plan).3 in
-        record { index = 1; within = rw two (omega arith); is = rw (eq-eqb (count h s) 2 two) refl }
-    go (inr y) =
-        let four : count h s ≡ 4 = ap count_of (begun_plan lay h s e l x) ∙ (join_plan_says _ _ y.plan).3 in
+    same : plan h s ≡ plan x.before s
+    same = begun_plan lay h s e l x
+
+    second : 1 < count h s → count h s ≢ 4 → IsMember h s (edit_leaf h s e)
+    second more not_four = record { index = 1; within = more; is = rw (ne_eqb (count h s) 4 not_four) refl }
+
+    out : TakesLeafOut x.before s e (toward (value x.before) (member x.before s 1) (edit_key e)) → count h s ≡ 4 → IsMember h s (edit_leaf h s e)
+    out y four =
+        let last : scx_finalizes h s 3 ≡ true = ap (λ p. plan_finalizes p 3) same ∙ (join_plan_says _ _ y.plan).6 in
         record {
           index = leaf_place (toward (value h) (member h s 1) (edit_key e));
           within = rw four (few (toward (value h) (member h s 1) (edit_key e)));
-          is = rw (ne_eqb (count h s) 2 (λ two. omega (arith, two, four))) refl;
+          is = rw (eq-eqb (count h s) 4 four, last) refl;
         }
+
+    many : (n : ℕ) → count_of (plan x.before s) ≡ n → count h s ≡ n
+    many n q = ap count_of same ∙ q
+
+    go : Dec (count h s ≡ 4) → IsEdit lay x.before s e → IsMember h s (edit_leaf h s e)
+    go (yes four) (inl y) = absurd (let two = many 2 (leaf_plan_says _ _ y.plan).3 in omega (arith, two, four))
+    go (yes four) (inr (inl y)) = out y four
+    go (yes four) (inr (inr y)) = absurd (⊎_elim (λ tree. let q : TreeMode ≡ TrieMode = sym tree ∙ y.0 in cc) (λ d. d four) kind)
+    go (no d) (inl y) = second (rw (many 2 (leaf_plan_says _ _ y.plan).3) (omega arith)) d
+    go (no d) (inr (inl y)) = absurd (d (many 4 (join_plan_says _ _ y.plan).3))
+    go (no d) (inr (inr (m, inl y))) = second (rw (many 2 (leaf_plan_says _ _ y.plan).3) (omega arith)) d
+    go (no d) (inr (inr (m, inr (inl y)))) = second (rw (many 3 (end_leaf_plan_says _ _ y.plan).3) (omega arith)) d
+    go (no d) (inr (inr (m, inr (inr (inl y))))) = absurd (d (many 4 (end_join_plan_says _ _ y.plan).3))
+    go (no d) (inr (inr (m, inr (inr (inr y))))) = second (rw (many 2 (above_plan_says _ _ y.plan).3) (omega arith)) d

@@ -6,10 +6,11 @@ use Rattle.arena.specs.declared.word.NodeWord.TheVariants.{Settled}
 use Rattle.arena.specs.declared.word.SettledPart.TheVariants.{Head}
 use Rattle.arena.specs.declared.word.Word.{Word}
 use Rattle.arena.specs.Words.{child, first_key}
-use Rattle.ordered_map.specs.OrderedMap.{AllBelow, AllFrom, MapEdit, edited, end_pair, get}
-use Rattle.ordered_map.specs.TreeWords.{class, is_leaf, level, rank, toward, said, end_said, leaf_items}
+use Rattle.ordered_map.specs.OrderedMap.{AllBelow, AllFrom, MapEdit, edit_key, edited, end_pair, get}
+use Rattle.ordered_map.specs.TreeWords.{class, is_leaf, level, rank, toward, opposite, said, end_said, leaf_items}
 use Rattle.ordered_map.proofs.Holding.{SameSettled, held_same, counted_same, same_items, same_pairs}
-use Rattle.ordered_map.specs.Edits.{IsLowLeaf, IsLastLeaf, IsSwapBy, IsSplitBy, IsCopyOf, IsJoinBy, IsLeafEdit}
+use Rattle.ordered_map.specs.TrieShape.{IsAboveBy}
+use Rattle.ordered_map.specs.Edits.{IsLowLeaf, IsLastLeaf, IsSwapBy, IsSplitBy, HasTreeLevels, IsCopyOf, IsJoinBy, IsLeafEdit}
 
 pub settled_rank : (b f : Word → ℕ) (n : ℕ) → SameSettled b f n → rank f n ≡ rank b n
 settled_rank b f n e = λ i. e (Settled Head) tt i % 4 * 2 ^ 64 + e first_key tt i
@@ -44,7 +45,7 @@ module _ (b f : Word → ℕ) where
     key = λ d. e first_key tt ∙ s.key (λ z. d (settled_class b f n e ∙ z)) ∙ sym (el first_key tt);
   }
 
-  move_swap_by : (e : MapEdit) (l c : ℕ) → SameSettled b f l → SameSettled b f c → IsSwapBy b e l c → IsSwapBy f e l c
+  pub move_swap_by : (e : MapEdit) (l c : ℕ) → SameSettled b f l → SameSettled b f c → IsSwapBy b e l c → IsSwapBy f e l c
   move_swap_by e l c el ec s = record {
     leaf = settled_leaf b f l el ∙ s.leaf;
     class = settled_class b f l el ∙ s.class;
@@ -53,7 +54,7 @@ module _ (b f : Word → ℕ) where
     deep = settled_level b f c ec ∙ s.deep ∙ sym (settled_level b f l el);
   }
 
-  move_split_by : (e : MapEdit) (l c x y : ℕ) → SameSettled b f l → SameSettled b f c → SameSettled b f x → SameSettled b f y → ((side : Side) → f (child c side) ≡ b (child c side)) → IsSplitBy b e l c x y → IsSplitBy f e l c x y
+  pub move_split_by : (e : MapEdit) (l c x y : ℕ) → SameSettled b f l → SameSettled b f c → SameSettled b f x → SameSettled b f y → ((side : Side) → f (child c side) ≡ b (child c side)) → IsSplitBy b e l c x y → IsSplitBy f e l c x y
   move_split_by e l c x y el ec ex ey fields s = record {
     leaf = settled_leaf b f l el ∙ s.leaf;
     fork = settled_leaf b f c ec ∙ s.fork;
@@ -67,6 +68,10 @@ module _ (b f : Word → ℕ) where
     behind = subst (λ r. AllFrom r (leaf_items f y)) (sym (settled_rank b f c ec)) (subst (AllFrom (rank b c)) (sym (same_items b f y ey)) s.behind);
     same_class = settled_class b f c ec ∙ s.same_class ∙ sym (settled_class b f l el);
     key = λ d. ec first_key tt ∙ s.key (λ z. d (settled_class b f c ec ∙ z)) ∙ sym (el first_key tt);
+  }
+
+  pub move_levels : (l c x y : ℕ) → SameSettled b f l → SameSettled b f c → SameSettled b f x → SameSettled b f y → HasTreeLevels b l c x y → HasTreeLevels f l c x y
+  move_levels l c x y el ec ex ey s = record {
     deep = settled_level b f c ec ∙ s.deep ∙ sym (settled_level b f l el);
     low = settled_level b f x ex ∙ s.low ∙ ap (λ v. v + 1) (sym (settled_level b f c ec));
     high = settled_level b f y ey ∙ s.high ∙ ap (λ v. v + 1) (sym (settled_level b f c ec));
@@ -74,7 +79,10 @@ module _ (b f : Word → ℕ) where
 
   pub move_leaf_edit : (e : MapEdit) (l c : ℕ) → SameSettled b f l → SameSettled b f c → (is_leaf b c ≡ false → (side : Side) → SameSettled b f (b (child c side))) → (is_leaf b c ≡ false → (side : Side) → f (child c side) ≡ b (child c side)) → IsLeafEdit b e l c → IsLeafEdit f e l c
   move_leaf_edit e l c el ec below fields (inl s) = inl (move_swap_by e l c el ec s)
-  move_leaf_edit e l c el ec below fields (inr s) = inr (s.0, s.1, move_split_by e l c s.0 s.1 el ec (subst (SameSettled b f) s.2.left (below s.2.fork Left)) (subst (SameSettled b f) s.2.right (below s.2.fork Right)) (fields s.2.fork) s.2)
+  move_leaf_edit e l c el ec below fields (inr s) =
+      let ex : SameSettled b f s.0 = subst (SameSettled b f) s.2.left (below s.2.fork Left) in
+      let ey : SameSettled b f s.1 = subst (SameSettled b f) s.2.right (below s.2.fork Right) in
+      inr (s.0, s.1, move_split_by e l c s.0 s.1 el ec ex ey (fields s.2.fork) s.2, move_levels l c s.0 s.1 el ec ex ey s.3)
 
   move_copy : (z c : ℕ) → SameSettled b f z → SameSettled b f c → IsCopyOf b c z → IsCopyOf f c z
   move_copy z c ez ec s = record {
@@ -92,4 +100,17 @@ module _ (b f : Word → ℕ) where
     low = settled_class b f l el ∙ s.low;
     emptied = ap (edited e) (held_same b f l el) ∙ s.emptied;
     copy = move_copy z c ez ec s.copy;
+  }
+
+  pub move_above : (e : MapEdit) (u c x : ℕ) (side : Side) → SameSettled b f u → SameSettled b f c → SameSettled b f x → ((at : Side) → f (child c at) ≡ b (child c at)) → IsAboveBy b e u c x side → IsAboveBy f e u c x side
+  move_above e u c x side eu ec ex fields s = record {
+    old_fork = settled_leaf b f u eu ∙ s.old_fork;
+    old_low = settled_class b f u eu ∙ s.old_low;
+    first = move_low x ex s.first;
+    pairs = held_same b f x ex ∙ s.pairs;
+    fork = settled_leaf b f c ec ∙ s.fork;
+    low = settled_class b f c ec ∙ s.low;
+    turn = settled_toward b f c (edit_key e) ec ∙ s.turn;
+    leaf = fields side ∙ s.leaf;
+    other = fields (opposite side) ∙ s.other;
   }

@@ -1,5 +1,5 @@
 -- A walk by child loads visits only nodes that were on the search path at a moment since its start.
-use Rattle.std.proofs.Common.{◌≡◌, ◌≢◌, ℕ, ◌<◌, ◌≤◌, ◌*◌, ◌/◌, ◌%◌, ◌^◌, true, false, eqb, ltb, ◌⊎◌, inl, inr, refl, sym, ◌∙◌, ap, arith, subst, cond}
+use Rattle.std.proofs.Common.{◌≡◌, ◌≢◌, ℕ, ◌<◌, ◌≤◌, ◌*◌, ◌/◌, ◌%◌, ◌^◌, true, false, eqb, ltb, ◌⊎◌, inl, inr, ⊎_elim, refl, sym, ◌∙◌, ap, arith, subst, cond}
 use Rattle.std.specs.Prelude.{Option}
 use native.Mathlib.Decide.{ℕ_discrete}
 use Rattle.arena.specs.declared.limits.Mode.TheVariants.{Tree as TreeMode}
@@ -10,16 +10,21 @@ use Rattle.arena.specs.declared.word.SettledPart.TheVariants.{Head}
 use Rattle.arena.specs.declared.word.Word.{Word}
 use Rattle.arena.specs.declared.layout.Layout.{Layout}
 use Rattle.arena.specs.declared.step.Row.{Row}
+use Rattle.arena.specs.Layout.{IsMap}
 use Rattle.arena.specs.Words.{node, marked, child}
+use Rattle.ordered_map.specs.TrieShape.{Stays}
+use Rattle.ordered_map.proofs.Spanned.{node_from, own_share, same_stays}
 use Rattle.arena.specs.History.{History, Start, ◌⊳◌, value, Extends}
 use Rattle.arena.specs.ScxRecords.{field_index, member, plan, side_of}
 use Rattle.arena.specs.Fills.{IsNamed}
+use Rattle.arena.specs.Lawful.{Lawful}
 use Rattle.arena.specs.Log.{log}
 use Rattle.arena.proofs.Lemmas.{node_apart, ends_self, ends_trans}
 use Rattle.histories.proofs.Lemmas.{Effect, Facts, effect, facts_before, freeze, freeze_keeps_field, lawful_tail, named_since, node_since, node_stays, quiet, update, update_keeps_mark, update_keeps_other}
 use Rattle.ordered_map.specs.OrderedMap.{MapEdit, get, AllAbove}
-use Rattle.ordered_map.proofs.Trees.{items, ends, Same, same_rank, passes_has, has_root, settled_same, open_between}
-use Rattle.ordered_map.proofs.Holding.{same_items}
+use Rattle.ordered_map.proofs.Trees.{items, ends, Same, same_rank, passes_has, path_level, node_below}
+use Rattle.ordered_map.proofs.Holding.{SameSettled, same_items}
+use Rattle.ordered_map.proofs.Moved.{settled_rank}
 use Rattle.ordered_map.specs.Paths.{IsOnPath, Passed, WasInTree}
 use Rattle.ordered_map.specs.Runs.{map_of_log}
 use Rattle.ordered_map.specs.TreeWords.{Tree, Leaf, Fork, root, Shows, Has, Passes, is_leaf, level, rank, toward, said}
@@ -28,7 +33,7 @@ use Rattle.ordered_map.proofs.TreeFacts.{TreeFacts, all_named, path_now}
 use Rattle.ordered_map.proofs.Edited.{spot_unmarked}
 use Rattle.ordered_map.proofs.Grown.{IsGrown, tree_facts, grown_tail, grown_since}
 
-pub path_named : (lay : Layout) (m : History) (k n : ℕ) → lay.mode ≡ TreeMode → IsOnPath m k n → IsNamed lay m n
+pub path_named : (lay : Layout) (m : History) (k n : ℕ) → IsMap lay.mode → IsOnPath m k n → IsNamed lay m n
 path_named lay m k n o p = all_named lay m p.tree n o p.is_tree (passes_has (value m) k p.tree n p.passes)
 
 -- a row changes no field of a node that is marked after it
@@ -67,10 +72,12 @@ same_refl f n a i = refl
 same_trans : (f g e : Word → ℕ) (n : ℕ) → Same f g n → Same g e n → Same f e n
 same_trans f g e n p q a i = q a i ∙ p a i
 
-pub latest : (calls : ℕ → MapEdit) (lay : Layout) (h m : History) (k n : ℕ) → IsGrown calls lay h → Extends h m → IsOnPath m k n → Latest h m k n
-latest calls lay (Start mode) m k n g e p = record { moment = Start mode; within = refl; since = rw e refl; on_path = rw e at p; same = same_refl (value (Start mode)) n }
-latest calls lay (r ⊳ h) m k n g (inl e) p = record { moment = r ⊳ h; within = inl refl; since = rw e (inl refl); on_path = rw e at p; same = same_refl (value (r ⊳ h)) n }
-latest calls lay (r ⊳ h) m k n g (inr e) p = go (latest calls lay h m k n (grown_tail calls lay h r g) e p) (t.path m k n (inr e) p)
+pub latest : (calls : ℕ → MapEdit) (lay : Layout) (h m : History) (k n : ℕ) → IsGrown calls lay h → Extends h m → IsOnPath m k n → Stays lay (value h) k n → Latest h m k n
+latest calls lay (Start mode) m k n g e p stay = record { moment = Start mode; within = refl; since = rw e refl; on_path = rw e at p; same = same_refl (value (Start mode)) n }
+latest calls lay (r ⊳ h) m k n g (inl e) p stay = record { moment = r ⊳ h; within = inl refl; since = rw e (inl refl); on_path = rw e at p; same = same_refl (value (r ⊳ h)) n }
+latest calls lay (r ⊳ h) m k n g (inr e) p stay =
+    go (latest calls lay h m k n (grown_tail calls lay h r g) e p (same_stays (value (r ⊳ h)) (value h) lay k n (λ a i. sym (node_stays lay h r n a g.lawful i named)) stay))
+    (t.path m k n (inr e) p stay)
   where
     t : TreeFacts calls lay (r ⊳ h)
     t = tree_facts calls lay (r ⊳ h) g
@@ -97,10 +104,10 @@ walk_begins calls lay h k g =
 pub walk_stays : (r : Row) (h start : History) (k n : ℕ) → Passed h start k n → Passed (r ⊳ h) start k n
 walk_stays r h start k n p = (p.0, inr p.1, p.2, p.3)
 
--- One more child load.
-pub walk_goes_on : (calls : ℕ → MapEdit) (lay : Layout) (h start : History) (k n : ℕ) → IsGrown calls lay h → Passed h start k n → is_leaf (value h) n ≡ false → Passed h start k (value h (child n (toward (value h) n k)))
-walk_goes_on calls lay h start k n g p fork =
-    let x : Latest h p.0 k n = latest calls lay h p.0 k n g p.1 p.3 in
+-- One more child load, of a node that stays on the path.
+pub walk_goes_on : (calls : ℕ → MapEdit) (lay : Layout) (h start : History) (k n : ℕ) → IsGrown calls lay h → Passed h start k n → Stays lay (value h) k n → is_leaf (value h) n ≡ false → Passed h start k (value h (child n (toward (value h) n k)))
+walk_goes_on calls lay h start k n g p stay fork =
+    let x : Latest h p.0 k n = latest calls lay h p.0 k n g p.1 p.3 stay in
     let m : History = x.moment in
     let head : value h (node n (Settled Head)) ≡ value m (node n (Settled Head)) = x.same (Settled Head) tt in
     let r : rank (value h) n ≡ rank (value m) n = same_rank (value m) (value h) n x.same in
@@ -116,41 +123,33 @@ pub record Answered (calls : ℕ → MapEdit) (lay : Layout) (h start : History)
   pub since : Extends moment start
   pub gives : get k (map_of_log calls (log lay moment)) ≡ answer
 
+-- its settled words are those of the moment when it was passed
+passed_settled : (lay : Layout) (h start : History) (k n : ℕ) → Lawful lay h → IsMap lay.mode → (p : Passed h start k n) → SameSettled (value p.0) (value h) n
+passed_settled lay h start k n l o p part i = node_since lay h p.0 n part l p.1 i (path_named lay p.0 k n o p.3)
+
 pub walk_ends : (calls : ℕ → MapEdit) (lay : Layout) (h start : History) (k n : ℕ) → k < 2 ^ 64 → IsGrown calls lay h → Passed h start k n → is_leaf (value h) n ≡ true → Answered calls lay h start k (said (value h) k n)
 walk_ends calls lay h start k n small g p leaf =
-    let x : Latest h p.0 k n = latest calls lay h p.0 k n g p.1 p.3 in
-    let m : History = x.moment in
-    let t : TreeFacts calls lay m = tree_facts calls lay m (grown_since calls lay h m x.within g) in
-    let q : Passes (value m) k t.tree n = path_now m t.tree k n t.is_tree x.on_path in
-    let head : value h (node n (Settled Head)) ≡ value m (node n (Settled Head)) = x.same (Settled Head) tt in
+    let m : History = p.0 in
+    let t : TreeFacts calls lay m = tree_facts calls lay m (grown_since calls lay h m p.1 g) in
+    let same : SameSettled (value m) (value h) n = passed_settled lay h start k n g.lawful g.mode p in
+    let q : Passes (value m) k t.tree n = path_now m t.tree k n t.is_tree p.3 in
+    let head : value h (node n (Settled Head)) ≡ value m (node n (Settled Head)) = same (Settled Head) tt in
     let d : is_leaf (value m) n ≡ true = ap (λ v. eqb (v / 4 % 2) 1) (sym head) ∙ leaf in
     let a : AllAbove k ends = (omega (arith, small), (omega (arith, small), tt)) in
     let e : get k (items (value m) t.tree) ≡ told (value m) k n = get_leaf (value m) k t.tree _ _ n t.is_tree.shows q d in
-    let same_told : told (value m) k n ≡ told (value h) k n = ap (get k) (sym (same_items (value m) (value h) n (settled_same (value m) (value h) n x.same))) in
+    let same_told : told (value m) k n ≡ told (value h) k n = ap (get k) (sym (same_items (value m) (value h) n same)) in
     record {
       moment = m;
-      within = x.within;
-      since = ends_trans m p.0 start x.since p.2;
+      within = p.1;
+      since = p.2;
       gives = sym (get_left k (map_of_log calls (log lay m)) ends a) ∙ ap (get k) (sym t.items) ∙ e ∙ same_told ∙ told_said (value h) k n small;
     }
 
 -- Levels rise, in the tree and in removed nodes.
 
--- the children of a fork of the tree are in the tree, on levels above its own
-pub path_level : (f : Word → ℕ) (t : Tree) (lo hi n : ℕ) (side : Side) → Shows f lo hi t → Has t n → is_leaf f n ≡ false → (level f n < level f (f (child n side))) × Has t (f (child n side))
-path_level f (Leaf m) lo hi n side s e d = absurd (let x : true ≡ false = sym s.leaf ∙ rw (← e) at d in cc)
-path_level f (Fork m a b) lo hi n Left s (inl e) d =
-    let q : f (child n Left) ≡ root a = rw (← e) s.0.left in
-    rw (q, ← e) (s.0.low, inr (inl (has_root a)))
-path_level f (Fork m a b) lo hi n Right s (inl e) d =
-    let q : f (child n Right) ≡ root b = rw (← e) s.0.right in
-    rw (q, ← e) (s.0.high, inr (inr (has_root b)))
-path_level f (Fork m a b) lo hi n side s (inr (inl h)) d = let x : (level f n < level f (f (child n side))) × Has a (f (child n side)) = path_level f a lo (rank f m) n side s.1 h d in (x.0, inr (inl x.1))
-path_level f (Fork m a b) lo hi n side s (inr (inr h)) d = let x : (level f n < level f (f (child n side))) × Has b (f (child n side)) = path_level f b (rank f m) hi n side s.2 h d in (x.0, inr (inr x.1))
-
-pub level_rises : (calls : ℕ → MapEdit) (lay : Layout) (h m : History) (k n : ℕ) (side : Side) → IsGrown calls lay h → Extends h m → IsOnPath m k n → is_leaf (value h) n ≡ false → level (value h) n < level (value h) (value h (child n side))
-level_rises calls lay h m k n side g e p fork =
-    let x : Latest h m k n = latest calls lay h m k n g e p in
+pub level_rises : (calls : ℕ → MapEdit) (lay : Layout) (h m : History) (k n : ℕ) (side : Side) → IsGrown calls lay h → Extends h m → IsOnPath m k n → Stays lay (value h) k n → is_leaf (value h) n ≡ false → level (value h) n < level (value h) (value h (child n side))
+level_rises calls lay h m k n side g e p stay fork =
+    let x : Latest h m k n = latest calls lay h m k n g e p stay in
     let l : History = x.moment in
     let head : value h (node n (Settled Head)) ≡ value l (node n (Settled Head)) = x.same (Settled Head) tt in
     let d : is_leaf (value l) n ≡ false = ap (λ v. eqb (v / 4 % 2) 1) (sym head) ∙ fork in
@@ -160,21 +159,32 @@ level_rises calls lay h m k n side g e p fork =
     let child_head : value h (node (value l (child n side)) (Settled Head)) ≡ value l (node (value l (child n side)) (Settled Head)) = node_since lay h l (value l (child n side)) (Settled Head) g.lawful x.within tt named in
     rw (c, head, child_head) y.0
 
--- every node of the tree is on the path of a key
-pub reach : (f : Word → ℕ) (t : Tree) (lo hi n : ℕ) → Shows f lo hi t → Has t n → (k : ℕ) × (lo ≤ k) × (k < hi) × Passes f k t n
-reach f (Leaf m) lo hi n s e = (lo, omega arith, open_between f (Leaf m) lo hi s, e)
-reach f (Fork m a b) lo hi n s (inl e) = (lo, omega arith, open_between f (Fork m a b) lo hi s, inl e)
-reach f (Fork m a b) lo hi n s (inr (inl q)) =
-    let x : (k : ℕ) × (lo ≤ k) × (k < rank f m) × Passes f k a n = reach f a lo (rank f m) n s.1 q in
-    let w : rank f m < hi = open_between f b (rank f m) hi s.2 in
-    (x.0, x.1, (let u = x.2 in omega (arith, u, w)), inr (inl (x.2, x.3)))
-reach f (Fork m a b) lo hi n s (inr (inr q)) =
-    let x : (k : ℕ) × (rank f m ≤ k) × (k < hi) × Passes f k b n = reach f b (rank f m) hi n s.2 q in
-    let w : lo < rank f m = open_between f a lo (rank f m) s.1 in
-    (x.0, (let u = x.1 in omega (arith, u, w)), x.2, inr (inr (x.1, x.3)))
+-- every node of the tree is on the path of its own rank
+own_path : (f : Word → ℕ) (t : Tree) (lo hi n : ℕ) → Shows f lo hi t → Has t n → Passes f (rank f n) t n
+own_path f (Leaf m) lo hi n s e = e
+own_path f (Fork m a b) lo hi n s (inl e) = inl e
+own_path f (Fork m a b) lo hi n s (inr (inl q)) = inr (inl (node_below f a lo (rank f m) n s.1 q, own_path f a lo (rank f m) n s.1 q))
+own_path f (Fork m a b) lo hi n s (inr (inr q)) = inr (inr (node_from f b (rank f m) hi n s.2 q, own_path f b (rank f m) hi n s.2 q))
+
+-- so each that was in the tree was on the path of a key with which it stays, but for the leaves of a
+-- trie
+pub record Reached (lay : Layout) (h m : History) (n : ℕ) : Type 0 where
+  pub key : ℕ
+  pub path : IsOnPath m key n
+  pub stays : Stays lay (value h) key n
+
+pub reach : (calls : ℕ → MapEdit) (lay : Layout) (h : History) (n : ℕ) → IsGrown calls lay h → (w : WasInTree h n) → (lay.mode ≡ TreeMode) ⊎ (is_leaf (value h) n ≡ false) → Reached lay h w.moment n
+reach calls lay h n g w kind = record {
+  key = rank (value h) n;
+  path = record { tree = w.tree; is_tree = w.is_tree; passes = subst (λ k. Passes (value w.moment) k w.tree n) (sym (settled_rank (value w.moment) (value h) n same)) (own_path (value w.moment) w.tree _ _ n w.is_tree.shows w.has) };
+  stays = ⊎_elim inl (λ d. inr (d, own_share (value h) n)) kind;
+}
+  where
+    same : SameSettled (value w.moment) (value h) n
+    same part i = node_since lay h w.moment n part g.lawful w.within i (all_named lay w.moment w.tree n g.mode w.is_tree w.has)
 
 -- in every node that was ever in the tree each child's level is above its own
 pub grown_rises : (calls : ℕ → MapEdit) (lay : Layout) (h : History) (n : ℕ) (side : Side) → IsGrown calls lay h → WasInTree h n → is_leaf (value h) n ≡ false → level (value h) n < level (value h) (value h (child n side))
 grown_rises calls lay h n side g w d =
-    let x : (k : ℕ) × (0 ≤ k) × (k < 3 * 2 ^ 64) × Passes (value w.moment) k w.tree n = reach (value w.moment) w.tree _ _ n w.is_tree.shows w.has in
-    level_rises calls lay h w.moment x.0 n side g w.within record { tree = w.tree; is_tree = w.is_tree; passes = x.3 } d
+    let x : Reached lay h w.moment n = reach calls lay h n g w (inr d) in
+    level_rises calls lay h w.moment x.key n side g w.within x.path x.stays d

@@ -1,5 +1,5 @@
 -- What is kept of an SCX-record from its start to its update.
-use Rattle.std.proofs.Common.{◌≡◌, ◌≢◌, ℕ, ◌<◌, false, ◌⊎◌, inl, inr, ⊎_elim, refl, sym, ◌∙◌, subst}
+use Rattle.std.proofs.Common.{◌≡◌, ◌≢◌, ℕ, ◌<◌, true, false, ◌⊎◌, inl, inr, ⊎_elim, refl, sym, ◌∙◌, subst}
 use native.Mathlib.Decide.{ℕ_discrete}
 use Rattle.arena.specs.declared.word.Side.{Side}
 use Rattle.arena.specs.declared.word.Side.TheVariants.{Left, Right}
@@ -11,7 +11,7 @@ use Rattle.arena.specs.declared.layout.Layout.{Layout}
 use Rattle.arena.specs.declared.step.Row.{Row}
 use Rattle.arena.specs.Words.{node, scx, info, child, state}
 use Rattle.arena.specs.History.{History, ◌⊳◌, value, HasHeld, Extends}
-use Rattle.arena.specs.ScxRecords.{count, field_index, member, seen, new, side_of, plan}
+use Rattle.arena.specs.ScxRecords.{count, field, field_index, member, seen, new, old, side_of, plan}
 use Rattle.arena.specs.Fills.{IsNamed, by_field, by_scx, IsNamedScx}
 use Rattle.arena.specs.Lawful.{IsSettled, Lawful}
 use Rattle.arena.proofs.Lemmas.{held_at, held_back, node_apart}
@@ -50,7 +50,7 @@ Mine b s n = (n ≡ new b s) ⊎ (((side : Side) × (value b (child (new b s) si
 
 -- what it puts into the tree: its new node, and the leaves below that of an insert
 abbrev pub IsMadeBy : History → ℕ → ℕ → Type 0
-IsMadeBy h s n = (n ≡ new h s) ⊎ ((is_leaf (value h) (new h s) ≡ false) × (count h s ≡ 2) × ((side : Side) × (value h (child (new h s) side) ≡ n)))
+IsMadeBy h s n = (n ≡ new h s) ⊎ ((is_leaf (value h) (new h s) ≡ false) × (count h s ≡ 2) × ((side : Side) × (value h (child (new h s) side) ≡ n)) × (is_leaf (value h) n ≡ true))
 
 pub record Pending (calls : ℕ → MapEdit) (lay : Layout) (h : History) (s : ℕ) : Type 0 where
   pub before : History
@@ -58,6 +58,7 @@ pub record Pending (calls : ℕ → MapEdit) (lay : Layout) (h : History) (s : �
   pub allowed : AllowsGiven calls lay before s
   pub same : descriptor before s ≡ descriptor h s
   pub unheld : (n : ℕ) (side : Side) → ¬ HasHeld before (child n side) (new before s)
+  pub shows : field_index before s ≡ 0 → value before (field before s) ≡ old before s
   pub named : (n : ℕ) → Mine before s n → IsNamed lay h n
   pub settled : (n : ℕ) → Mine before s n → (a : NodeWord) → IsSettled (node n a) → value h (node n a) ≡ value before (node n a)
   pub fields : is_leaf (value before) (new before s) ≡ false → (side : Side) → value h (child (new before s) side) ≡ value before (child (new before s) side)
@@ -76,6 +77,7 @@ pending_more calls lay h r s l named p same back fields shown = record {
   allowed = p.allowed;
   same = p.same ∙ same;
   unheld = p.unheld;
+  shows = p.shows;
   named = λ n m. named_more r (p.named n m);
   settled = λ n m a i. node_stays lay h r n a l i (p.named n m) ∙ p.settled n m a i;
   fields = λ e side. fields_here (leaf_here e) side ∙ p.fields e side;

@@ -1,6 +1,6 @@
 -- A node that was on a search path, and is not final, still is on it; so what was in the tree, and
 -- is not final, still is there.
-use Rattle.std.proofs.Common.{◌≡◌, ℕ, ◌<◌, ◌≤◌, ◌*◌, ◌^◌, true, false, Bool, inl, inr, ⊎_elim, refl, sym, ◌∙◌, subst}
+use Rattle.std.proofs.Common.{◌≡◌, ℕ, ◌<◌, ◌≤◌, ◌*◌, ◌^◌, true, false, Bool, ◌⊎◌, inl, inr, ⊎_elim, refl, sym, ◌∙◌, subst}
 use Rattle.arena.specs.declared.layout.Layout.{Layout}
 use Rattle.arena.specs.declared.step.Row.{Row}
 use Rattle.arena.specs.declared.word.NodeWord.TheVariants.{Child}
@@ -9,15 +9,19 @@ use Rattle.arena.specs.ScxRecords.{plan_finalizes, member}
 use Rattle.arena.specs.Log.{log, is_final}
 use Rattle.histories.specs.Descriptor.{Descriptor, count_in}
 use Rattle.histories.specs.Finalizing.{IsRemoved}
-use Rattle.histories.proofs.Lemmas.{Effect, UpdateWins, by_final, descriptor_stays, effect, final_by, finalized_by_stays, freeze, freeze_keeps_field, lawful_tail, quiet, removed_stays, some_is_real, update, update_flagged, update_won}
+use Rattle.histories.proofs.Lemmas.{Effect, UpdateWins, by_final, descriptor_stays, effect, final_by, finalized_by_stays, freeze, freeze_keeps_field, lawful_tail, named_since, node_stays, quiet, removed_stays, some_is_real, update, update_flagged, update_won}
 use Rattle.ordered_map.specs.OrderedMap.{MapEdit}
 use Rattle.ordered_map.specs.Paths.{IsOnPath, WasInTree}
 use Rattle.ordered_map.specs.Spelled.{IsTree}
-use Rattle.ordered_map.specs.TreeWords.{Tree, Has, Passes}
+use Rattle.ordered_map.specs.TreeWords.{Tree, Has, Passes, is_leaf}
+use Rattle.ordered_map.specs.TrieShape.{Stays}
+use Rattle.ordered_map.proofs.Spanned.{same_stays}
+use Rattle.arena.specs.declared.limits.Mode.TheVariants.{Tree as TreeMode}
+use Rattle.arena.specs.Fills.{IsNamed}
 use Rattle.ordered_map.proofs.Trees.{passes_has}
 use Rattle.ordered_map.proofs.Edited.{IsCut, past, result, tree_now}
 use Rattle.ordered_map.proofs.Grown.{IsGrown, grown_tail}
-use Rattle.ordered_map.proofs.Past.{reach}
+use Rattle.ordered_map.proofs.Past.{Reached, reach, path_named}
 use Rattle.ordered_map.proofs.TreeFacts.{path_now}
 use Rattle.ordered_map.proofs.Stood.{facts_then, tree_then, path_stays}
 
@@ -53,33 +57,35 @@ module _ (calls : ℕ → MapEdit) (lay : Layout) (h : History) (r : Row) (g : I
         }
 
     -- all else stays on its paths
-    after_update : (k : ℕ) → is_final (log lay (r ⊳ h)) n ≡ false → Passes (value h) k (tree_then calls lay h r g).tree n → IsOnPath (r ⊳ h) k n
-    after_update k e q =
+    after_update : (k : ℕ) → is_final (log lay (r ⊳ h)) n ≡ false → Stays lay (value h) k n → Passes (value h) k (tree_then calls lay h r g).tree n → IsOnPath (r ⊳ h) k n
+    after_update k e stay q =
         let t = tree_then calls lay h r g in
         let x = result calls lay h r u (facts_then calls lay h r g) w g.mode g.lawful t in
         ⊎_elim
         (λ p. record { tree = x.tree; is_tree = tree_now calls lay h r u (facts_then calls lay h r g) w g.mode g.lawful t; passes = p })
         (λ c. absurd (let y : true ≡ false = sym (cut_final c) ∙ e in cc))
-        (x.paths k n q)
+        (x.paths k n stay q)
 
-  still_there : (k : ℕ) → is_final (log lay (r ⊳ h)) n ≡ false → Passes (value h) k (tree_then calls lay h r g).tree n → IsOnPath (r ⊳ h) k n
-  still_there k e q = go (effect lay h r g.lawful)
+  still_there : (k : ℕ) → is_final (log lay (r ⊳ h)) n ≡ false → Stays lay (value h) k n → Passes (value h) k (tree_then calls lay h r g).tree n → IsOnPath (r ⊳ h) k n
+  still_there k e stay q = go (effect lay h r g.lawful)
     where
       go : Effect lay h r → IsOnPath (r ⊳ h) k n
       go (quiet x) = path_stays calls lay h r g (λ m side y. x.node m (Child side) tt y) k n q
       go (freeze s j w) = path_stays calls lay h r g (λ m side y. freeze_keeps_field (facts_then calls lay h r g) w m side) k n q
-      go (update u w) = after_update u w k e q
+      go (update u w) = after_update u w k e stay q
 
-pub grown_on_path : (calls : ℕ → MapEdit) (lay : Layout) (h m : History) (k n : ℕ) → IsGrown calls lay h → Extends h m → IsOnPath m k n → is_final (log lay h) n ≡ false → IsOnPath h k n
-grown_on_path calls lay (Start mode) m k n g w p e = subst (λ x. IsOnPath x k n) w p
-grown_on_path calls lay (r ⊳ h) m k n g (inl w) p e = subst (λ x. IsOnPath x k n) w p
-grown_on_path calls lay (r ⊳ h) m k n g (inr w) p e =
-    let y : IsOnPath h k n = grown_on_path calls lay h m k n (grown_tail calls lay h r g) w p (not_final_then calls lay h r g n e) in
+pub grown_on_path : (calls : ℕ → MapEdit) (lay : Layout) (h m : History) (k n : ℕ) → IsGrown calls lay h → Extends h m → IsOnPath m k n → Stays lay (value h) k n → is_final (log lay h) n ≡ false → IsOnPath h k n
+grown_on_path calls lay (Start mode) m k n g w p stay e = subst (λ x. IsOnPath x k n) w p
+grown_on_path calls lay (r ⊳ h) m k n g (inl w) p stay e = subst (λ x. IsOnPath x k n) w p
+grown_on_path calls lay (r ⊳ h) m k n g (inr w) p stay e =
+    let named : IsNamed lay h n = named_since lay h m n (lawful_tail lay h r g.lawful) w (path_named lay m k n g.mode p) in
+    let before : Stays lay (value h) k n = same_stays (value (r ⊳ h)) (value h) lay k n (λ a i. sym (node_stays lay h r n a g.lawful i named)) stay in
+    let y : IsOnPath h k n = grown_on_path calls lay h m k n (grown_tail calls lay h r g) w p before (not_final_then calls lay h r g n e) in
     let t = tree_then calls lay h r g in
-    still_there calls lay h r g n k e (path_now h t.tree k n t.is_tree y)
+    still_there calls lay h r g n k e before (path_now h t.tree k n t.is_tree y)
 
-pub grown_remains : (calls : ℕ → MapEdit) (lay : Layout) (h : History) (t : Tree) (n : ℕ) → IsGrown calls lay h → WasInTree h n → is_final (log lay h) n ≡ false → IsTree (value h) t → Has t n
-grown_remains calls lay h t n g x e i =
-    let k : (k : ℕ) × (0 ≤ k) × (k < 3 * 2 ^ 64) × Passes (value x.moment) k x.tree n = reach (value x.moment) x.tree _ _ n x.is_tree.shows x.has in
-    let y : IsOnPath h k.0 n = grown_on_path calls lay h x.moment k.0 n g x.within record { tree = x.tree; is_tree = x.is_tree; passes = k.3 } e in
-    passes_has (value h) k.0 t n (path_now h t k.0 n i y)
+pub grown_remains : (calls : ℕ → MapEdit) (lay : Layout) (h : History) (t : Tree) (n : ℕ) → IsGrown calls lay h → WasInTree h n → (lay.mode ≡ TreeMode) ⊎ (is_leaf (value h) n ≡ false) → is_final (log lay h) n ≡ false → IsTree (value h) t → Has t n
+grown_remains calls lay h t n g x kind e i =
+    let k : Reached lay h x.moment n = reach calls lay h n g x kind in
+    let y : IsOnPath h k.key n = grown_on_path calls lay h x.moment k.key n g x.within k.path k.stays e in
+    passes_has (value h) k.key t n (path_now h t k.key n i y)

@@ -1,5 +1,5 @@
 -- A node that an entry finalizes was in the tree, and is there no more.
-use Rattle.std.proofs.Common.{◌≡◌, ◌≢◌, ℕ, true, false, ◌⊎◌, inl, inr, ⊎_elim, refl, sym, ◌∙◌, ap, arith, subst}
+use Rattle.std.proofs.Common.{◌≡◌, ◌≢◌, ℕ, ◌/◌, ◌%◌, true, false, ◌⊎◌, inl, inr, ⊎_elim, refl, sym, ◌∙◌, ap, arith, eqb, subst}
 use native.Mathlib.Decide.{ℕ_discrete}
 use Rattle.arena.specs.declared.limits.Mode.{Mode}
 use Rattle.arena.specs.declared.word.Side.{Side}
@@ -69,10 +69,13 @@ module _ (calls : ℕ → MapEdit) (lay : Layout) (h : History) (r : Row) (g : I
   made_back : (s n : ℕ) → IsNamedScx h s → new (r ⊳ h) s ≡ new h s → plan (r ⊳ h) s ≡ plan h s → (is_leaf (value h) (new h s) ≡ false → (side : Side) → value (r ⊳ h) (child (new h s) side) ≡ value h (child (new h s) side)) → IsMadeBy (r ⊳ h) s n → IsMadeBy h s n
   made_back s n p same_new same_plan fields (inl e) = inl (e ∙ same_new)
   made_back s n p same_new same_plan fields (inr y) =
-      let head : value (r ⊳ h) (node (new h s) (Settled Head)) ≡ value h (node (new h s) (Settled Head)) = node_stays lay h r (new h s) (Settled Head) g.lawful tt (by_scx s New p tt (held_at h (scx s New) (new h s) refl)) in
+      let named : IsNamed lay h (new h s) = by_scx s New p tt (held_at h (scx s New) (new h s) refl) in
+      let head : value (r ⊳ h) (node (new h s) (Settled Head)) ≡ value h (node (new h s) (Settled Head)) = node_stays lay h r (new h s) (Settled Head) g.lawful tt named in
       let a : is_leaf (value (r ⊳ h)) (new h s) ≡ false = subst (λ c. is_leaf (value (r ⊳ h)) c ≡ false) same_new y.0 in
       let b : is_leaf (value h) (new h s) ≡ false = rw head at a in
-      inr (b, ap count_of (sym same_plan) ∙ y.1, (y.2.0, sym (fields b y.2.0) ∙ subst (λ c. value (r ⊳ h) (child c y.2.0) ≡ n) same_new y.2.1))
+      let is : value h (child (new h s) y.2.0) ≡ n = sym (fields b y.2.0) ∙ subst (λ c. value (r ⊳ h) (child c y.2.0) ≡ n) same_new y.2.1 in
+      let below : value (r ⊳ h) (node n (Settled Head)) ≡ value h (node n (Settled Head)) = node_stays lay h r n (Settled Head) g.lawful tt (by_field (new h s) y.2.0 named (held_at h (child (new h s) y.2.0) n is)) in
+      inr (b, ap count_of (sym same_plan) ∙ y.1, (y.2.0, is), ap (λ v. eqb (v / 4 % 2) 1) (sym below) ∙ y.3)
 
   -- quiet rows
   module _ (k : Kept lay h r) where
@@ -136,7 +139,9 @@ module _ (calls : ℕ → MapEdit) (lay : Layout) (h : History) (r : Row) (g : I
         let b : is_leaf (value h) (new h u) ≡ false = rw head at a in
         let two : count h u ≡ 2 = ap count_of (sym (freeze_keeps_scx f w u Plan)) ∙ m.1 in
         let c : value h (child (new h u) m.2.0) ≡ n = sym (freeze_keeps_field f w (new h u) m.2.0) ∙ subst (λ z. value (r ⊳ h) (child z m.2.0) ≡ n) same_new m.2.1 in
-        inr (λ p. (may_edit e).fresh two b m.2.0 (subst (IsNamed lay h) (sym c) p))
+        let leaf_head : value (r ⊳ h) (node n (Settled Head)) ≡ value h (node n (Settled Head)) = value_apart r h (info (member h u j)) (node n (Settled Head)) w.freeze.word (node_word_apart (member h u j) n Info (Settled Head) refl) in
+        let leaf : is_leaf (value h) n ≡ true = ap (λ v. eqb (v / 4 % 2) 1) (sym leaf_head) ∙ m.3 in
+        inr (λ p. (may_edit e).fresh two b m.2.0 (subst (λ i. is_leaf (value h) i ≡ true) (sym c) leaf) (subst (IsNamed lay h) (sym c) p))
 
     begins_unborn : (n : ℕ) → j ≡ 0 → (n ≡ new h u) ⊎ ¬ IsNamed lay h n → ¬ WasInTree h n
     begins_unborn n e (inr d) y = d (was_named lay h n g.mode before.lawful y)

@@ -3,6 +3,7 @@
 use Rattle.std.proofs.Common.{◌≡◌, ◌≢◌, ℕ, ◌+◌, ◌<◌, ◌≤◌, suc, Bool, true, false, cond, eqb, eq-eqb, ne_eqb, length, ◌⊎◌, inl, inr, ⊎_elim, List, [], ◌∷◌, refl, sym, ◌∙◌, ap, arith, subst}
 use native.Mathlib.Decide.{ℕ_discrete}
 use Rattle.arena.specs.declared.limits.Mode.{Mode}
+use Rattle.arena.specs.declared.limits.Mode.TheVariants.{Tree as TreeMode}
 use Rattle.arena.specs.declared.word.NodeWord.{NodeWord}
 use Rattle.arena.specs.declared.word.NodeWord.TheVariants.{Settled, Child, Info, Marked}
 use Rattle.arena.specs.declared.word.SettledPart.TheVariants.{Head}
@@ -217,8 +218,8 @@ grown_log calls lay h g =
 
 -- a node that was passed has fewer above it than the nodes of the tree: two that are not taken, and
 -- those that are
-pub grown_depth : (calls : ℕ → MapEdit) (lay : Layout) (h start : History) (k n : ℕ) → IsGrown calls lay h → Passed h start k n → level (value h) n < 2 + length (taken_nodes h)
-grown_depth calls lay h start k n g p =
-    let a : level (value h) n ≤ suc (length (log lay h)) = grown_level calls lay h g n (was_passed h start k n p) in
+pub grown_depth : (calls : ℕ → MapEdit) (lay : Layout) (h start : History) (k n : ℕ) → lay.mode ≡ TreeMode → IsGrown calls lay h → Passed h start k n → level (value h) n < 2 + length (taken_nodes h)
+grown_depth calls lay h start k n tree g p =
+    let a : level (value h) n ≤ suc (length (log lay h)) = grown_level calls lay tree h g n (was_passed h start k n p) in
     let b : length (log lay h) ≤ length (taken_nodes h) = grown_log calls lay h g in
     omega (arith, a, b)

@@ -1,7 +1,7 @@
 -- What is known after each history of the tree, and that rows that win no update keep it.
-use Rattle.std.proofs.Common.{◌≡◌, ◌≢◌, ℕ, ◌<◌, false, ◌⊎◌, inl, inr, ⊎_elim, ◌++◌, refl, sym, ◌∙◌, ap, arith}
+use Rattle.std.proofs.Common.{◌≡◌, ◌≢◌, ℕ, ◌<◌, false, ◌⊎◌, inl, inr, ⊎_elim, ◌++◌, refl, sym, ◌∙◌, ap, arith, subst}
 use native.Mathlib.Decide.{ℕ_discrete}
-use Rattle.arena.specs.declared.limits.Mode.TheVariants.{Tree as TreeMode}
+use Rattle.arena.specs.declared.limits.Mode.TheVariants.{Trie as TrieMode}
 use Rattle.arena.specs.declared.word.Side.{Side}
 use Rattle.arena.specs.declared.word.NodeWord.{NodeWord}
 use Rattle.arena.specs.declared.word.NodeWord.TheVariants.{Settled, Child, Info, Marked}
@@ -10,19 +10,22 @@ use Rattle.arena.specs.declared.word.ScxWord.TheVariants.{New, Member}
 use Rattle.arena.specs.declared.layout.Layout.{Layout}
 use Rattle.arena.specs.declared.step.Row.{Row}
 use Rattle.arena.specs.declared.step.Kind.TheVariants.{Freeze, Update}
-use Rattle.arena.specs.Layout.{opening_nodes}
+use Rattle.arena.specs.Layout.{opening_nodes, tree_opening, IsMap}
 use Rattle.arena.specs.Words.{same_node_word, node, scx, info, marked, child}
-use Rattle.arena.specs.History.{History, ◌⊳◌, value, HasHeld, Extends}
+use Rattle.arena.specs.History.{History, Start, ◌⊳◌, value, HasHeld, Extends}
 use Rattle.arena.specs.ScxRecords.{count, member, seen, new}
 use Rattle.arena.specs.Fills.{IsNamed, opening_node, by_field, by_scx, IsNamedScx}
 use Rattle.arena.specs.Lawful.{MayBegin, IsSettled, HasWon, Lawful}
 use Rattle.arena.specs.Log.{log}
-use Rattle.arena.proofs.Lemmas.{value_apart, held_at, held_more, held_back, node_word_apart, ends_self}
+use Rattle.arena.proofs.Lemmas.{map_opens, value_apart, held_at, held_more, held_back, node_word_apart, ends_self}
 use Rattle.histories.specs.Descriptor.{descriptor}
-use Rattle.histories.proofs.Lemmas.{Facts, FreezeWins, Kept, Logs, first_frozen, freeze_descriptor, freeze_distinct, freeze_finds, freeze_held, freeze_is_new, freeze_keeps_field, freeze_keeps_info, freeze_keeps_mark, freeze_keeps_scx, freeze_real, freeze_stores, log_same, logs, node_stays, same, update_is_first, update_won, wins, won_more}
+use Rattle.histories.proofs.Lemmas.{Facts, FreezeWins, Kept, Logs, first_frozen, freeze_descriptor, freeze_distinct, freeze_finds, freeze_held, freeze_is_new, freeze_keeps_field, freeze_keeps_info, freeze_keeps_mark, freeze_keeps_scx, freeze_real, freeze_stores, lawful_tail, log_same, logs, named_since, node_since, node_stays, same, start_mode, update_is_first, update_won, wins, won_more}
 use Rattle.ordered_map.specs.OrderedMap.{MapEdit}
 use Rattle.ordered_map.proofs.Pending.{AllowsGiven, tree_named, tree_field, Mine, Pending, Holds, pending_kept, pending_freeze}
-use Rattle.ordered_map.proofs.Trees.{items, ends, EndsLow, Same, frame, frame_items, frame_low, frame_path, same_tree}
+use Rattle.ordered_map.proofs.Trees.{items, ends, EndsLow, Same, frame, frame_items, frame_low, frame_path, passes_has, path_level, same_tree, settled_same}
+use Rattle.ordered_map.proofs.Spanned.{same_fork, same_keeps, same_stays}
+use Rattle.ordered_map.specs.Bits.{Keeps, IsTrieFork}
+use Rattle.ordered_map.specs.TrieShape.{Stays}
 use Rattle.ordered_map.specs.Paths.{IsOnPath}
 use Rattle.ordered_map.specs.Runs.{map_of_log}
 use Rattle.ordered_map.specs.Spelled.{IsTree}
@@ -37,21 +40,35 @@ pub record TreeFacts (calls : ℕ → MapEdit) (lay : Layout) (h : History) : Ty
   pub pending : (s n : ℕ) → s ≢ 0 → HasHeld h (info n) s → ¬ HasWon h s → Pending calls lay h s
   pub one_new : (s u m n : ℕ) → s ≢ 0 → u ≢ 0 → HasHeld h (info m) s → HasHeld h (info n) u → new h s ≡ new h u → s ≡ u
   pub unborn : (s n : ℕ) → s ≢ 0 → HasHeld h (info n) s → ¬ HasWon h s → is_leaf (value h) (new h s) ≡ false → ¬ Has tree (new h s)
-  pub path : (m : History) (k n : ℕ) → Extends h m → IsOnPath m k n → Passes (value h) k tree n ⊎ (value h (marked n) ≢ 0)
+  pub path : (m : History) (k n : ℕ) → Extends h m → IsOnPath m k n → Stays lay (value h) k n → Passes (value h) k tree n ⊎ (value h (marked n) ≢ 0)
+  pub forks : lay.mode ≡ TrieMode → (n : ℕ) → Has tree n → IsTrieFork (value h) n
 
 pub path_now : (h : History) (t : Tree) (k n : ℕ) → IsTree (value h) t → IsOnPath h k n → Passes (value h) k t n
 path_now h t k n i p =
     let e : p.tree ≡ t = same_tree (value h) p.tree t _ _ _ _ p.is_tree.shows i.shows (p.is_tree.is ∙ sym i.is) in
     rw e at p.passes
 
-root_named : (lay : Layout) (h : History) (t : Tree) → lay.mode ≡ TreeMode → IsTree (value h) t → IsNamed lay h (root t)
+root_named : (lay : Layout) (h : History) (t : Tree) → IsMap lay.mode → IsTree (value h) t → IsNamed lay h (root t)
 root_named lay h t o i = opening_node (rw (i.is, o) (omega arith))
 
-pub all_named : (lay : Layout) (h : History) (t : Tree) (n : ℕ) → lay.mode ≡ TreeMode → IsTree (value h) t → Has t n → IsNamed lay h n
+pub all_named : (lay : Layout) (h : History) (t : Tree) (n : ℕ) → IsMap lay.mode → IsTree (value h) t → Has t n → IsNamed lay h n
 all_named lay h t n o i p = tree_named lay h t _ _ n i.shows (root_named lay h t o i) p
 
+-- every history is over the opening words
+pub since_start : (lay : Layout) (h : History) → Lawful lay h → Extends h (Start lay.mode)
+since_start lay (Start mode) l = ap Start (sym (start_mode lay mode l))
+since_start lay (r ⊳ h) l = inr (since_start lay h (lawful_tail lay h r l))
+
+-- the settled words of the opening nodes stay
+pub opening_settled : (lay : Layout) (h : History) (n : ℕ) (a : NodeWord) → Lawful lay h → IsMap lay.mode → n < 3 → IsSettled (node n a) → value h (node n a) ≡ tree_opening (node n a)
+opening_settled lay h n a l o i s = node_since lay h (Start lay.mode) n a l (since_start lay h l) s (opening_node (rw o i)) ∙ map_opens lay.mode o (node n a)
+
+-- so node 2 is a leaf of class 2 on level 1
+pub opening_head : (lay : Layout) (h : History) → Lawful lay h → IsMap lay.mode → value h (node 2 (Settled Head)) ≡ 14
+opening_head lay h l o = opening_settled lay h 2 (Settled Head) l o (omega arith) tt
+
 -- a row that leaves the fields of named nodes leaves the tree
-module _ (calls : ℕ → MapEdit) (lay : Layout) (h : History) (r : Row) (o : lay.mode ≡ TreeMode) (l : Lawful lay (r ⊳ h)) (t : TreeFacts calls lay h)
+module _ (calls : ℕ → MapEdit) (lay : Layout) (h : History) (r : Row) (o : IsMap lay.mode) (l : Lawful lay (r ⊳ h)) (t : TreeFacts calls lay h)
     (field_stays : (n : ℕ) (side : Side) → IsNamed lay h n → value (r ⊳ h) (child n side) ≡ value h (child n side))
     (same_log : log lay (r ⊳ h) ≡ log lay h)
     (marks : (n : ℕ) → value h (marked n) ≢ 0 → value (r ⊳ h) (marked n) ≢ 0) where
@@ -72,18 +89,31 @@ module _ (calls : ℕ → MapEdit) (lay : Layout) (h : History) (r : Row) (o : l
   low_stays : EndsLow (value (r ⊳ h)) t.tree
   low_stays = frame_low (value h) (value (r ⊳ h)) t.tree in_tree t.ends_low
 
-  path_stays : (m : History) (k n : ℕ) → Extends (r ⊳ h) m → IsOnPath m k n → Passes (value (r ⊳ h)) k t.tree n ⊎ (value (r ⊳ h) (marked n) ≢ 0)
-  path_stays m k n (inl e) p = inl (path_now (r ⊳ h) t.tree k n tree_stays (rw e at p))
-  path_stays m k n (inr e) p = ⊎_elim (λ q. inl (frame_path (value h) (value (r ⊳ h)) k t.tree n in_tree q)) (λ q. inr (marks n q)) (t.path m k n e p)
+  path_stays : (m : History) (k n : ℕ) → Extends (r ⊳ h) m → IsOnPath m k n → Stays lay (value (r ⊳ h)) k n → Passes (value (r ⊳ h)) k t.tree n ⊎ (value (r ⊳ h) (marked n) ≢ 0)
+  path_stays m k n (inl e) p stay = inl (path_now (r ⊳ h) t.tree k n tree_stays (rw e at p))
+  path_stays m k n (inr e) p stay = ⊎_elim (λ q. inl (frame_path (value h) (value (r ⊳ h)) k t.tree n in_tree q)) (λ q. inr (marks n q)) (t.path m k n e p (same_stays (value (r ⊳ h)) (value h) lay k n (λ a i. sym (settled_same (value h) (value (r ⊳ h)) n (same_parts n named) a i)) stay))
+    where
+      named : IsNamed lay h n
+      named = named_since lay h m n (lawful_tail lay h r l) e (all_named lay m p.tree n o p.is_tree (passes_has (value m) k p.tree n p.passes))
+
+  forks_stay : lay.mode ≡ TrieMode → (n : ℕ) → Has t.tree n → IsTrieFork (value (r ⊳ h)) n
+  forks_stay e n p = same_fork (value h) (value (r ⊳ h)) n (settled_same (value h) (value (r ⊳ h)) n (in_tree n p)) keeps (t.forks e n p)
+    where
+      keeps : is_leaf (value h) n ≡ false → (side : Side) → Keeps (value h) n side (value h (child n side)) → Keeps (value (r ⊳ h)) n side (value (r ⊳ h) (child n side))
+      keeps d side x =
+          let below : Has t.tree (value h (child n side)) = (path_level (value h) t.tree _ _ n side t.is_tree.shows p d).1 in
+          subst (Keeps (value (r ⊳ h)) n side) (sym (in_tree n p (Child side) tt))
+          (same_keeps (value h) (value (r ⊳ h)) n side (value h (child n side)) (settled_same (value h) (value (r ⊳ h)) n (in_tree n p)) (settled_same (value h) (value (r ⊳ h)) (value h (child n side)) (in_tree (value h (child n side)) below)) x)
 
 -- a row that freezes nothing and wins nothing
-pub tree_kept : (calls : ℕ → MapEdit) (lay : Layout) (h : History) (r : Row) → Facts lay h → lay.mode ≡ TreeMode → Lawful lay (r ⊳ h) → TreeFacts calls lay h → Kept lay h r → TreeFacts calls lay (r ⊳ h)
+pub tree_kept : (calls : ℕ → MapEdit) (lay : Layout) (h : History) (r : Row) → Facts lay h → IsMap lay.mode → Lawful lay (r ⊳ h) → TreeFacts calls lay h → Kept lay h r → TreeFacts calls lay (r ⊳ h)
 tree_kept calls lay h r f o l t k = record {
   tree = t.tree;
   is_tree = tree_stays calls lay h r o l t fields same_log marks;
   items = items_stay calls lay h r o l t fields same_log marks;
   ends_low = low_stays calls lay h r o l t fields same_log marks;
   path = path_stays calls lay h r o l t fields same_log marks;
+  forks = forks_stay calls lay h r o l t fields same_log marks;
   pending = λ s n d p w. pending_kept calls f k s n l d (back n s p) (t.pending s n d (back n s p) (λ x. w (won_more r h s x)));
   one_new = λ s u m n d b p q x. t.one_new s u m n d b (back m s p) (back n u q) (sym (new_same s m d (back m s p)) ∙ x ∙ new_same u n b (back n u q));
   unborn = λ s n d p w x. unborn s n d (back n s p) (λ y. w (won_more r h s y)) x;
@@ -118,7 +148,7 @@ tree_kept calls lay h r f o l t k = record {
 
 -- a freezing exchange that wins
 module _ (calls : ℕ → MapEdit) (lay : Layout) (h : History) (r : Row) (u j : ℕ) (f : Facts lay h) (z : FreezeWins lay h r u j)
-    (o : lay.mode ≡ TreeMode) (l : Lawful lay (r ⊳ h)) (t : TreeFacts calls lay h) (allowed : j ≡ 0 → AllowsGiven calls lay h u) where
+    (o : IsMap lay.mode) (l : Lawful lay (r ⊳ h)) (t : TreeFacts calls lay h) (allowed : j ≡ 0 → AllowsGiven calls lay h u) where
   may_begin : j ≡ 0 → MayBegin lay h r.pass.0 u
   may_begin e = (z.freeze.may_win z.found).1 e
 
@@ -132,6 +162,7 @@ module _ (calls : ℕ → MapEdit) (lay : Layout) (h : History) (r : Row) (u j :
     allowed = allowed e;
     same = sym (freeze_descriptor f z u);
     unheld = (may_begin e).new_in_no_field;
+    shows = λ q. (may_begin e).shows (rw q (rw e at (freeze_finds f z)));
     named = named;
     settled = λ n m c i. value_apart r h (info (member h u j)) (node n c) z.freeze.word (node_word_apart _ n Info c (not_info n c i));
     fields = λ _ side. freeze_keeps_field f z (new h u) side;
@@ -230,6 +261,7 @@ module _ (calls : ℕ → MapEdit) (lay : Layout) (h : History) (r : Row) (u j :
     items = items_stay calls lay h r o l t stays no_log marks;
     ends_low = low_stays calls lay h r o l t stays no_log marks;
     path = path_stays calls lay h r o l t stays no_log marks;
+    forks = forks_stay calls lay h r o l t stays no_log marks;
     pending = pending_now;
     one_new = one_new_now;
     unborn = unborn_now;

@@ -12,7 +12,8 @@ use Rattle.arena.specs.ScxRecords.{new}
 use Rattle.arena.specs.History.{History, ◌⊳◌, value, Extends}
 use Rattle.arena.specs.Log.{log, is_final}
 use Rattle.arena.specs.Fills.{IsInField}
-use Rattle.arena.specs.Layout.{opening_nodes}
+use Rattle.arena.specs.declared.limits.Mode.TheVariants.{Tree as TreeMode}
+use Rattle.ordered_map.specs.TrieShape.{Stays}
 use Rattle.arena.specs.TakenNodes.{taken_nodes}
 use Rattle.histories.proofs.Lemmas.{Facts, UpdateWins, facts_before, node_since, not_final}
 use Rattle.ordered_map.specs.OrderedMap.{MapEdit}
@@ -21,7 +22,7 @@ use Rattle.arena.proofs.Lemmas.{held_at, held_since}
 use Rattle.ordered_map.specs.Spelled.{IsTree, Spells}
 use Rattle.ordered_map.specs.Paths.{IsOnPath, Passed, WasInTree, WasOnPath}
 use Rattle.ordered_map.specs.Runs.{IsTreeRun}
-use Rattle.ordered_map.proofs.Past.{path_level, grown_rises}
+use Rattle.ordered_map.proofs.Past.{grown_rises}
 use Rattle.ordered_map.proofs.Removed.{grown_not_final}
 use Rattle.ordered_map.proofs.Levels.{grown_level}
 use Rattle.ordered_map.proofs.Blanks.{grown_blank}
@@ -31,7 +32,7 @@ use Rattle.ordered_map.proofs.Stood.{was_now, was_passed, was_named}
 use Rattle.ordered_map.proofs.TreeFacts.{TreeFacts}
 use Rattle.ordered_map.proofs.Edited.{result, tree_now, new_in}
 use Rattle.ordered_map.proofs.Grown.{tree_facts, grown_tail}
-use Rattle.ordered_map.proofs.Trees.{passes_has, IsBelowFork, has_above, fields_apart}
+use Rattle.ordered_map.proofs.Trees.{passes_has, IsBelowFork, has_above, fields_apart, path_level}
 use Rattle.ordered_map.proofs.Holding.{SameSettled}
 use Rattle.ordered_map.proofs.Taken.{grown_log, grown_depth}
 use Rattle.ordered_map.proofs.Meanings.{edits_of, grown, run_since, run_spells}
@@ -48,9 +49,9 @@ tree_not_final lay h t n g i p = go (is_final (log lay h) n) refl
 pub path_not_final : (lay : Layout) (h : History) (k n : ℕ) → IsTreeRun lay h → IsOnPath h k n → is_final (log lay h) n ≡ false
 path_not_final lay h k n g x = tree_not_final lay h x.tree n g x.is_tree (passes_has (value h) k x.tree n x.passes)
 
--- a node that was in the tree and is not final is still there
-pub tree_remains : (lay : Layout) (h : History) (t : Tree) (n : ℕ) → IsTreeRun lay h → WasInTree h n → is_final (log lay h) n ≡ false → IsTree (value h) t → Has t n
-tree_remains lay h t n g x e i = grown_remains (edits_of lay h g).edits lay h t n (grown lay h g) x e i
+-- a node that was in the tree and is not final is still there, but for the leaves of a trie
+pub tree_remains : (lay : Layout) (h : History) (t : Tree) (n : ℕ) → IsTreeRun lay h → WasInTree h n → (lay.mode ≡ TreeMode) ⊎ (is_leaf (value h) n ≡ false) → is_final (log lay h) n ≡ false → IsTree (value h) t → Has t n
+tree_remains lay h t n g x kind e i = grown_remains (edits_of lay h g).edits lay h t n (grown lay h g) x kind e i
 
 -- the new node of an update that has won is in the tree
 pub new_stood : (lay : Layout) (h : History) (r : Row) (u : ℕ) → IsTreeRun lay (r ⊳ h) → UpdateWins h r u → WasInTree (r ⊳ h) (new h u)
@@ -81,26 +82,26 @@ passed_blank lay h start k n g p = stood_blank lay h n g (was_passed h start k n
 pub root_head : (lay : Layout) (h : History) → IsTreeRun lay h → value h (node 0 (Settled Head)) ≡ 2
 root_head lay h g = grown_root (edits_of lay h g).edits lay h (grown lay h g)
 
--- a node that was on a path and is not final still is on it
-pub path_remains : (lay : Layout) (h : History) (k n : ℕ) → IsTreeRun lay h → WasOnPath h k n → is_final (log lay h) n ≡ false → IsOnPath h k n
-path_remains lay h k n g p e = grown_on_path (edits_of lay h g).edits lay h p.0 k n (grown lay h g) p.1 p.2 e
+-- a node that was on a path, and stays there, is on it if it is not final
+pub path_remains : (lay : Layout) (h : History) (k n : ℕ) → IsTreeRun lay h → WasOnPath h k n → Stays lay (value h) k n → is_final (log lay h) n ≡ false → IsOnPath h k n
+path_remains lay h k n g p stay e = grown_on_path (edits_of lay h g).edits lay h p.0 k n (grown lay h g) p.1 p.2 stay e
 
 -- so is one that was passed and is not marked
-pub passed_unmarked : (lay : Layout) (h start : History) (k n : ℕ) → IsTreeRun lay h → Passed h start k n → value h (marked n) ≡ 0 → IsOnPath h k n
-passed_unmarked lay h start k n g p e = path_remains lay h k n g (p.0, p.1, p.3) (not_final lay h n g.1.lawful e)
+pub passed_unmarked : (lay : Layout) (h start : History) (k n : ℕ) → IsTreeRun lay h → Passed h start k n → Stays lay (value h) k n → value h (marked n) ≡ 0 → IsOnPath h k n
+passed_unmarked lay h start k n g p stay e = path_remains lay h k n g (p.0, p.1, p.3) stay (not_final lay h n g.1.lawful e)
 
 -- the log is no longer than the taken nodes are many
 pub log_short : (lay : Layout) (h : History) → IsTreeRun lay h → length (log lay h) ≤ length (taken_nodes h)
 log_short lay h g = grown_log (edits_of lay h g).edits lay h (grown lay h g)
 
--- so a node that was passed is not as deep as they are many, and two
-pub passed_depth : (lay : Layout) (h start : History) (k n : ℕ) → IsTreeRun lay h → Passed h start k n → level (value h) n < 2 + length (taken_nodes h)
-passed_depth lay h start k n g p = grown_depth (edits_of lay h g).edits lay h start k n (grown lay h g) p
+-- so a node of a tree that was passed is not as deep as they are many, and two
+pub passed_depth : (lay : Layout) (h start : History) (k n : ℕ) → lay.mode ≡ TreeMode → IsTreeRun lay h → Passed h start k n → level (value h) n < 2 + length (taken_nodes h)
+passed_depth lay h start k n tree g p = grown_depth (edits_of lay h g).edits lay h start k n tree (grown lay h g) p
 
 -- and so is one that was there
-pub stood_depth : (lay : Layout) (h : History) (n : ℕ) → IsTreeRun lay h → WasInTree h n → level (value h) n < 2 + length (taken_nodes h)
-stood_depth lay h n g x =
-    let a : level (value h) n ≤ suc (length (log lay h)) = grown_level (edits_of lay h g).edits lay h (grown lay h g) n x in
+pub stood_depth : (lay : Layout) (h : History) (n : ℕ) → lay.mode ≡ TreeMode → IsTreeRun lay h → WasInTree h n → level (value h) n < 2 + length (taken_nodes h)
+stood_depth lay h n tree g x =
+    let a : level (value h) n ≤ suc (length (log lay h)) = grown_level (edits_of lay h g).edits lay tree h (grown lay h g) n x in
     let b : length (log lay h) ≤ length (taken_nodes h) = log_short lay h g in
     omega (arith, a, b)
 
@@ -113,12 +114,12 @@ pub stood_in_field : (lay : Layout) (h : History) (n : ℕ) → IsTreeRun lay h 
 stood_in_field lay h n g x = go (has_above (value x.moment) x.tree _ _ n x.is_tree.shows x.has)
   where
     go : (n ≡ root x.tree) ⊎ IsBelowFork (value x.moment) x.tree n → IsInField lay h n
-    go (inl e) = let z : n ≡ 0 = e ∙ x.is_tree.is in inl (subst (λ m. n < opening_nodes m) (sym g.0) (omega (arith, z)))
+    go (inl e) = let z : n ≡ 0 = e ∙ x.is_tree.is in inl (rw g.0 (omega (arith, z)))
     go (inr y) = inr (y.fork, y.side, was_named lay h y.fork g.0 g.1.lawful record { moment = x.moment; within = x.within; tree = x.tree; is_tree = x.is_tree; has = y.has }, held_since h x.moment (child y.fork y.side) n x.within (held_at x.moment (child y.fork y.side) n y.holds))
 
 -- the children of a fork that has been in the tree and is not final are in the tree
 child_has : (lay : Layout) (h : History) (t : Tree) (n : ℕ) (side : Side) → IsTreeRun lay h → IsTree (value h) t → WasInTree h n → is_final (log lay h) n ≡ false → is_leaf (value h) n ≡ false → Has t (value h (child n side))
-child_has lay h t n side g i x e fork = (path_level (value h) t _ _ n side i.shows (tree_remains lay h t n g x e i) fork).1
+child_has lay h t n side g i x e fork = (path_level (value h) t _ _ n side i.shows (tree_remains lay h t n g x (inr fork) e i) fork).1
 
 -- what a fork holds in its fields that has been in the tree and is not final is in the tree
 pub child_stood : (lay : Layout) (h m : History) (n : ℕ) (side : Side) → IsTreeRun lay h → Extends h m → WasInTree m n → is_final (log lay m) n ≡ false → is_leaf (value m) n ≡ false → WasInTree h (value m (child n side))
@@ -132,7 +133,7 @@ child_stood lay h m n side g e x not_final fork = record { moment = m; within = 
 
 -- its two children are different
 pub children_apart : (lay : Layout) (h : History) (n : ℕ) → IsTreeRun lay h → WasInTree h n → is_final (log lay h) n ≡ false → is_leaf (value h) n ≡ false → value h (child n Left) ≢ value h (child n Right)
-children_apart lay h n g x not_final fork = fields_apart (value h) spelled.tree _ _ n spelled.is_tree.shows (tree_remains lay h spelled.tree n g x not_final spelled.is_tree) fork
+children_apart lay h n g x not_final fork = fields_apart (value h) spelled.tree _ _ n spelled.is_tree.shows (tree_remains lay h spelled.tree n g x (inr fork) not_final spelled.is_tree) fork
   where
     spelled : Spells lay (value h) (run_spells lay h g).0
     spelled = (run_spells lay h g).1

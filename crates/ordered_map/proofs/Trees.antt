@@ -230,6 +230,18 @@ fields_apart f (Fork m a b) lo hi n s (inl e) fork q =
 fields_apart f (Fork m a b) lo hi n s (inr (inl x)) fork q = fields_apart f a lo (rank f m) n s.1 x fork q
 fields_apart f (Fork m a b) lo hi n s (inr (inr x)) fork q = fields_apart f b (rank f m) hi n s.2 x fork q
 
+-- the children of a fork of the tree are in the tree, on levels above its own
+pub path_level : (f : Word → ℕ) (t : Tree) (lo hi n : ℕ) (side : Side) → Shows f lo hi t → Has t n → is_leaf f n ≡ false → (level f n < level f (f (child n side))) × Has t (f (child n side))
+path_level f (Leaf m) lo hi n side s e d = absurd (let x : true ≡ false = sym s.leaf ∙ rw (← e) at d in cc)
+path_level f (Fork m a b) lo hi n Left s (inl e) d =
+    let q : f (child n Left) ≡ root a = rw (← e) s.0.left in
+    rw (q, ← e) (s.0.low, inr (inl (has_root a)))
+path_level f (Fork m a b) lo hi n Right s (inl e) d =
+    let q : f (child n Right) ≡ root b = rw (← e) s.0.right in
+    rw (q, ← e) (s.0.high, inr (inr (has_root b)))
+path_level f (Fork m a b) lo hi n side s (inr (inl h)) d = let x : (level f n < level f (f (child n side))) × Has a (f (child n side)) = path_level f a lo (rank f m) n side s.1 h d in (x.0, inr (inl x.1))
+path_level f (Fork m a b) lo hi n side s (inr (inr h)) d = let x : (level f n < level f (f (child n side))) × Has b (f (child n side)) = path_level f b (rank f m) hi n side s.2 h d in (x.0, inr (inr x.1))
+
 -- Changes of a map that are local to a key
 
 pub items_above : (f : Word → ℕ) (t : Tree) (lo hi k : ℕ) → Shows f lo hi t → k < lo → AllAbove k (items f t)
@@ -296,25 +308,26 @@ edited_local (Delete k) = record { left = delete_left k; right = delete_right k 
 
 -- A subtree is replaced
 
--- what the words `g` show in the place of the tree `a` of the words `f`
-pub record Replaced (f g : Word → ℕ) (change : List Pair → List Pair) (Gone Made : ℕ → Type 0) (new lo hi : ℕ) (a : Tree) : Type 0 where
+-- what the words `g` show in the place of the tree `a` of the words `f`; a node stays on the path of
+-- each key that stays with it
+pub record Replaced (f g : Word → ℕ) (change : List Pair → List Pair) (Stays : ℕ → ℕ → Type 0) (Gone Made : ℕ → Type 0) (new lo hi : ℕ) (a : Tree) : Type 0 where
   pub tree : Tree
   pub shows : Shows g lo hi tree
   pub is : root tree ≡ new
-  pub deep : level f (root a) ≤ level g new
   pub items : items g tree ≡ change (items f a)
   pub ends : class g (last_leaf tree) ≡ class f (last_leaf a)
-  pub low : EndsLow f a → EndsLow g tree
-  pub paths : (j n : ℕ) → Passes f j a n → Passes g j tree n ⊎ Gone n
+  pub low : EndsLow g tree
+  pub paths : (j n : ℕ) → Stays j n → Passes f j a n → Passes g j tree n ⊎ Gone n
   pub made : (n : ℕ) → Has tree n → Has a n ⊎ Made n
   pub out : (n : ℕ) → Gone n → Has a n × ¬ Has tree n
 
-module _ (f g : Word → ℕ) (k p old new : ℕ) (change : List Pair → List Pair) (Gone Made : ℕ → Type 0) (local : IsLocal k change)
+module _ (f g : Word → ℕ) (k p old new : ℕ) (change : List Pair → List Pair) (Stays : ℕ → ℕ → Type 0) (In Gone Made : ℕ → Type 0) (local : IsLocal k change)
     (fork : is_leaf f p ≡ false)
     (was : f (child p (toward f p k)) ≡ old)
     (now : g (child p (toward f p k)) ≡ new)
     (stays : (w : Word) → same_word (child p (toward f p k)) w ≡ false → g w ≡ f w)
-    (edit : (lo hi : ℕ) (a : Tree) → lo ≤ k → k < hi → Shows f lo hi a → root a ≡ old → ¬ Has a p → Replaced f g change Gone Made new lo hi a) where
+    (deep : level f p < level f new)
+    (edit : (lo hi : ℕ) (a : Tree) → lo ≤ k → k < hi → Shows f lo hi a → EndsLow f a → ((n : ℕ) → Has a n → In n) → root a ≡ old → ¬ Has a p → Replaced f g change Stays Gone Made new lo hi a) where
   off : (n : ℕ) → p ≢ n → Same f g n
   off n d a i = stays (node n a) (node_apart p n (Child (toward f p k)) a d)
 
@@ -339,15 +352,14 @@ module _ (f g : Word → ℕ) (k p old new : ℕ) (change : List Pair → List P
   class_stays n = ap (λ v. v % 4) (head_stays n)
 
   -- the subtree on the left of n is replaced, the right one stays
-  on_left : (n lo hi : ℕ) (a b : Tree) → k < rank f n → Shows f lo hi (Fork n a b) → ¬ Has b p → (new_a : ℕ) → g (child n Left) ≡ new_a → g (child n Right) ≡ f (child n Right) → Replaced f g change Gone Made new_a lo (rank f n) a → Replaced f g change Gone Made n lo hi (Fork n a b)
-  on_left n lo hi a b l s d new_a at right x = record {
+  on_left : (n lo hi : ℕ) (a b : Tree) → k < rank f n → Shows f lo hi (Fork n a b) → EndsLow f (Fork n a b) → ¬ Has b p → (new_a : ℕ) → level f n < level f new_a → g (child n Left) ≡ new_a → g (child n Right) ≡ f (child n Right) → Replaced f g change Stays Gone Made new_a lo (rank f n) a → Replaced f g change Stays Gone Made n lo hi (Fork n a b)
+  on_left n lo hi a b l s e d new_a above at right x = record {
     tree = Fork n x.tree b;
     shows = (over, rank_moves n (λ v. Shows g lo v x.tree) x.shows, rank_moves n (λ v. Shows g v hi b) (frame f g b (rank f n) hi (off_tree b d) s.2));
     is = refl;
-    deep = let e : level g n ≡ level f n = level_stays n in omega (arith, e);
     items = (λ i. x.items i ++ frame_items f g b (off_tree b d) i) ∙ sym (local.left (items f a) (items f b) (items_above f b (rank f n) hi k s.2 l));
     ends = class_stays (last_leaf b);
-    low = λ e. (λ z. class_stays (last_leaf b) ∙ e.0 (sym (class_stays n) ∙ z), x.low e.1, frame_low f g b (off_tree b d) e.2);
+    low = (λ z. class_stays (last_leaf b) ∙ e.0 (sym (class_stays n) ∙ z), x.low, frame_low f g b (off_tree b d) e.2);
     paths = paths;
     made = made;
     out = λ m c. (inr (inl (x.out m c).0), gone m c);
@@ -357,19 +369,19 @@ module _ (f g : Word → ℕ) (k p old new : ℕ) (change : List Pair → List P
       over =
           let e : level g n ≡ level f n = level_stays n in
           let eb : level g (root b) ≡ level f (root b) = level_stays (root b) in
-          let ea : level g (root x.tree) ≡ level g new_a = ap (level g) x.is in
+          let ea : level g (root x.tree) ≡ level f new_a = ap (level g) x.is ∙ level_stays new_a in
           record {
             fork = rw (head_stays n) s.0.fork;
             left = at ∙ sym x.is;
             right = right ∙ s.0.right;
-            low = omega (arith, e, ea, x.deep, s.0.low);
+            low = omega (arith, e, ea, above);
             high = omega (arith, e, eb, s.0.high);
           }
 
-      paths : (j m : ℕ) → Passes f j (Fork n a b) m → Passes g j (Fork n x.tree b) m ⊎ Gone m
-      paths j m (inl e) = inl (inl e)
-      paths j m (inr (inl q)) = ⊎_elim (λ y. inl (inr (inl (rank_moves n (λ v. j < v) q.0, y)))) inr (x.paths j m q.1)
-      paths j m (inr (inr q)) = inl (inr (inr (rank_moves n (λ v. v ≤ j) q.0, frame_path f g j b m (off_tree b d) q.1)))
+      paths : (j m : ℕ) → Stays j m → Passes f j (Fork n a b) m → Passes g j (Fork n x.tree b) m ⊎ Gone m
+      paths j m w (inl e) = inl (inl e)
+      paths j m w (inr (inl q)) = ⊎_elim (λ y. inl (inr (inl (rank_moves n (λ v. j < v) q.0, y)))) inr (x.paths j m w q.1)
+      paths j m w (inr (inr q)) = inl (inr (inr (rank_moves n (λ v. v ≤ j) q.0, frame_path f g j b m (off_tree b d) q.1)))
 
       made : (m : ℕ) → Has (Fork n x.tree b) m → Has (Fork n a b) m ⊎ Made m
       made m (inl e) = inl (inl e)
@@ -381,15 +393,14 @@ module _ (f g : Word → ℕ) (k p old new : ℕ) (change : List Pair → List P
       gone m c (inr (inl h)) = (x.out m c).1 h
       gone m c (inr (inr h)) = apart f a b lo (rank f n) hi m s.1 s.2 (x.out m c).0 h
 
-  on_right : (n lo hi : ℕ) (a b : Tree) → rank f n ≤ k → Shows f lo hi (Fork n a b) → ¬ Has a p → (new_b : ℕ) → g (child n Right) ≡ new_b → g (child n Left) ≡ f (child n Left) → Replaced f g change Gone Made new_b (rank f n) hi b → Replaced f g change Gone Made n lo hi (Fork n a b)
-  on_right n lo hi a b l s d new_b at left x = record {
+  on_right : (n lo hi : ℕ) (a b : Tree) → rank f n ≤ k → Shows f lo hi (Fork n a b) → EndsLow f (Fork n a b) → ¬ Has a p → (new_b : ℕ) → level f n < level f new_b → g (child n Right) ≡ new_b → g (child n Left) ≡ f (child n Left) → Replaced f g change Stays Gone Made new_b (rank f n) hi b → Replaced f g change Stays Gone Made n lo hi (Fork n a b)
+  on_right n lo hi a b l s e d new_b above at left x = record {
     tree = Fork n a x.tree;
     shows = (over, rank_moves n (λ v. Shows g lo v a) (frame f g a lo (rank f n) (off_tree a d) s.1), rank_moves n (λ v. Shows g v hi x.tree) x.shows);
     is = refl;
-    deep = let e : level g n ≡ level f n = level_stays n in omega (arith, e);
     items = (λ i. frame_items f g a (off_tree a d) i ++ x.items i) ∙ sym (local.right (items f a) (items f b) (items_below f a lo (rank f n) k s.1 l));
     ends = x.ends;
-    low = λ e. (λ z. x.ends ∙ e.0 (sym (class_stays n) ∙ z), frame_low f g a (off_tree a d) e.1, x.low e.2);
+    low = (λ z. x.ends ∙ e.0 (sym (class_stays n) ∙ z), frame_low f g a (off_tree a d) e.1, x.low);
     paths = paths;
     made = made;
     out = λ m c. (inr (inr (x.out m c).0), gone m c);
@@ -399,19 +410,19 @@ module _ (f g : Word → ℕ) (k p old new : ℕ) (change : List Pair → List P
       over =
           let e : level g n ≡ level f n = level_stays n in
           let ea : level g (root a) ≡ level f (root a) = level_stays (root a) in
-          let eb : level g (root x.tree) ≡ level g new_b = ap (level g) x.is in
+          let eb : level g (root x.tree) ≡ level f new_b = ap (level g) x.is ∙ level_stays new_b in
           record {
             fork = rw (head_stays n) s.0.fork;
             left = left ∙ s.0.left;
             right = at ∙ sym x.is;
             low = omega (arith, e, ea, s.0.low);
-            high = omega (arith, e, eb, x.deep, s.0.high);
+            high = omega (arith, e, eb, above);
           }
 
-      paths : (j m : ℕ) → Passes f j (Fork n a b) m → Passes g j (Fork n a x.tree) m ⊎ Gone m
-      paths j m (inl e) = inl (inl e)
-      paths j m (inr (inl q)) = inl (inr (inl (rank_moves n (λ v. j < v) q.0, frame_path f g j a m (off_tree a d) q.1)))
-      paths j m (inr (inr q)) = ⊎_elim (λ y. inl (inr (inr (rank_moves n (λ v. v ≤ j) q.0, y)))) inr (x.paths j m q.1)
+      paths : (j m : ℕ) → Stays j m → Passes f j (Fork n a b) m → Passes g j (Fork n a x.tree) m ⊎ Gone m
+      paths j m w (inl e) = inl (inl e)
+      paths j m w (inr (inl q)) = inl (inr (inl (rank_moves n (λ v. j < v) q.0, frame_path f g j a m (off_tree a d) q.1)))
+      paths j m w (inr (inr q)) = ⊎_elim (λ y. inl (inr (inr (rank_moves n (λ v. v ≤ j) q.0, y)))) inr (x.paths j m w q.1)
 
       made : (m : ℕ) → Has (Fork n a x.tree) m → Has (Fork n a b) m ⊎ Made m
       made m (inl e) = inl (inl e)
@@ -424,8 +435,8 @@ module _ (f g : Word → ℕ) (k p old new : ℕ) (change : List Pair → List P
       gone m c (inr (inr h)) = (x.out m c).1 h
 
   -- at the node of the changed field
-  here : (n lo hi : ℕ) (a b : Tree) → lo ≤ k → k < hi → Shows f lo hi (Fork n a b) → p ≡ n → Replaced f g change Gone Made n lo hi (Fork n a b)
-  here n lo hi a b x y s e = go (split_at k (rank f n))
+  here : (n lo hi : ℕ) (a b : Tree) → lo ≤ k → k < hi → Shows f lo hi (Fork n a b) → EndsLow f (Fork n a b) → ((m : ℕ) → Has (Fork n a b) m → In m) → p ≡ n → Replaced f g change Stays Gone Made n lo hi (Fork n a b)
+  here n lo hi a b x y s ends all e = go (split_at k (rank f n))
     where
       in_a : ¬ Has a p
       in_a h = not_below f a lo (rank f n) p s.1 (rw e s.0.low) h
@@ -433,30 +444,30 @@ module _ (f g : Word → ℕ) (k p old new : ℕ) (change : List Pair → List P
       in_b : ¬ Has b p
       in_b h = not_below f b (rank f n) hi p s.2 (rw e s.0.high) h
 
-      go : (k < rank f n) ⊎ (rank f n ≤ k) → Replaced f g change Gone Made n lo hi (Fork n a b)
+      go : (k < rank f n) ⊎ (rank f n ≤ k) → Replaced f g change Stays Gone Made n lo hi (Fork n a b)
       go (inl l) =
           let t : toward f p k ≡ Left = rw (e, lt-ltb k (rank f n) l) refl in
           let w : f (child n Left) ≡ old = rw (t, e) at was in
           let v : g (child n Left) ≡ new = rw (t, e) at now in
           let u : g (child n Right) ≡ f (child n Right) = stays (child n Right) (node_word_apart p n (Child (toward f p k)) (Child Right) (rw t refl)) in
-          on_left n lo hi a b l s in_b new v u (edit lo (rank f n) a x l s.1 (sym s.0.left ∙ w) in_a)
+          on_left n lo hi a b l s ends in_b new (rw e at deep) v u (edit lo (rank f n) a x l s.1 ends.1 (λ m h. all m (inr (inl h))) (sym s.0.left ∙ w) in_a)
       go (inr l) =
           let t : toward f p k ≡ Right = rw (e, le-ltb k (rank f n) l) refl in
           let w : f (child n Right) ≡ old = rw (t, e) at was in
           let v : g (child n Right) ≡ new = rw (t, e) at now in
           let u : g (child n Left) ≡ f (child n Left) = stays (child n Left) (node_word_apart p n (Child (toward f p k)) (Child Left) (rw t refl)) in
-          on_right n lo hi a b l s in_a new v u (edit (rank f n) hi b l y s.2 (sym s.0.right ∙ w) in_b)
+          on_right n lo hi a b l s ends in_a new (rw e at deep) v u (edit (rank f n) hi b l y s.2 ends.2 (λ m h. all m (inr (inr h))) (sym s.0.right ∙ w) in_b)
 
-  pub replace : (t : Tree) (lo hi : ℕ) → lo ≤ k → k < hi → Shows f lo hi t → Passes f k t p → Replaced f g change Gone Made (root t) lo hi t
-  replace (Leaf n) lo hi x y s e = absurd (let z : true ≡ false = sym s.leaf ∙ rw (← e) at fork in cc)
-  replace (Fork n a b) lo hi x y s (inl e) = here n lo hi a b x y s (sym e)
-  replace (Fork n a b) lo hi x y s (inr (inl q)) =
+  pub replace : (t : Tree) (lo hi : ℕ) → lo ≤ k → k < hi → Shows f lo hi t → EndsLow f t → ((n : ℕ) → Has t n → In n) → Passes f k t p → Replaced f g change Stays Gone Made (root t) lo hi t
+  replace (Leaf n) lo hi x y s ends all e = absurd (let z : true ≡ false = sym s.leaf ∙ rw (← e) at fork in cc)
+  replace (Fork n a b) lo hi x y s ends all (inl e) = here n lo hi a b x y s ends all (sym e)
+  replace (Fork n a b) lo hi x y s ends all (inr (inl q)) =
       let h : Has a p = passes_has f k a p q.1 in
       let d : p ≢ n = λ e. not_below f a lo (rank f n) p s.1 (rw e s.0.low) h in
       let i : ¬ Has b p = λ j. apart f a b lo (rank f n) hi p s.1 s.2 h j in
-      on_left n lo hi a b q.0 s i (root a) (off n d (Child Left) tt ∙ s.0.left) (off n d (Child Right) tt) (replace a lo (rank f n) x q.0 s.1 q.1)
-  replace (Fork n a b) lo hi x y s (inr (inr q)) =
+      on_left n lo hi a b q.0 s ends i (root a) s.0.low (off n d (Child Left) tt ∙ s.0.left) (off n d (Child Right) tt) (replace a lo (rank f n) x q.0 s.1 ends.1 (λ m h. all m (inr (inl h))) q.1)
+  replace (Fork n a b) lo hi x y s ends all (inr (inr q)) =
       let h : Has b p = passes_has f k b p q.1 in
       let d : p ≢ n = λ e. not_below f b (rank f n) hi p s.2 (rw e s.0.high) h in
       let i : ¬ Has a p = λ j. apart f a b lo (rank f n) hi p s.1 s.2 j h in
-      on_right n lo hi a b q.0 s i (root b) (off n d (Child Right) tt ∙ s.0.right) (off n d (Child Left) tt) (replace b (rank f n) hi q.0 y s.2 q.1)
+      on_right n lo hi a b q.0 s ends i (root b) s.0.high (off n d (Child Right) tt ∙ s.0.right) (off n d (Child Left) tt) (replace b (rank f n) hi q.0 y s.2 ends.2 (λ m h. all m (inr (inr h))) q.1)

@@ -47,6 +47,9 @@ pub record IsSplitBy (f : Word → ℕ) (e : MapEdit) (l c x y : ℕ) : Type 0 w
   pub behind : AllFrom (rank f c) (leaf_items f y)
   pub same_class : class f c ≡ class f l
   pub key : class f c ≢ 0 → f (node c first_key) ≡ f (node l first_key)
+
+-- in a tree the fork is on the level of the leaf, and its two leaves are a level deeper
+pub record HasTreeLevels (f : Word → ℕ) (l c x y : ℕ) : Type 0 where
   pub deep : level f c ≡ level f l
   pub low : level f x ≡ level f c + 1
   pub high : level f y ≡ level f c + 1
@@ -68,7 +71,7 @@ pub record IsJoinBy (f : Word → ℕ) (e : MapEdit) (q l z c : ℕ) : Type 0 wh
 
 -- a leaf l is replaced by a leaf, or by a fork over two, that hold what the edit makes of its pairs
 abbrev pub IsLeafEdit : (Word → ℕ) → MapEdit → ℕ → ℕ → Type 0
-IsLeafEdit f e l c = IsSwapBy f e l c ⊎ ((x y : ℕ) × IsSplitBy f e l c x y)
+IsLeafEdit f e l c = IsSwapBy f e l c ⊎ ((x y : ℕ) × IsSplitBy f e l c x y × HasTreeLevels f l c x y)
 
 -- the fields of q are l and z
 abbrev pub AreBelow : (Word → ℕ) → ℕ → ℕ → ℕ → Type 0

@@ -9,6 +9,8 @@ pub mod Paths
 pub mod FillOrder
 pub mod Bits
 pub mod Edits
+pub mod EditPlans
+pub mod TrieShape
 pub mod TreeShape
 pub mod Runs
 pub mod Tries

@@ -1,6 +1,7 @@
 //! The laws of the tree and of the map.
-ghost use Rattle.std.specs.Prelude.{◌≡◌, ◌≢◌, ℕ, ◌+◌, ◌^◌, ◌<◌, true, false, length, List, Some, None};
+ghost use Rattle.std.specs.Prelude.{◌≡◌, ◌≢◌, ◌⊎◌, ℕ, ◌+◌, ◌^◌, ◌<◌, true, false, length, List, Some, None};
 ghost use Rattle.arena.specs.declared.layout.Layout.{Layout};
+ghost use Rattle.arena.specs.declared.limits.Mode.TheVariants.{Tree as TreeMode};
 ghost use Rattle.arena.specs.declared.step.Row.{Row};
 ghost use Rattle.arena.specs.declared.word.Side.{Side};
 ghost use Rattle.arena.specs.declared.word.Word.{Word};
@@ -34,10 +35,10 @@ pub fn laws_hold()
         → Extends h (row ⊳ before) → IsWin before row s → Makes lay h s e → IsEditAt lay before row s e }
     ensures walks { (lay : Layout) (h start : History) (k n : ℕ) → k < 2 ^ 64 → IsTreeRun lay h → Passed h start k n
         → is_leaf (value h) n ≡ true → IsAnswerAt lay h start k (said (value h) k n) }
-    ensures depth { (lay : Layout) (h start : History) (k n : ℕ) → IsTreeRun lay h → Passed h start k n → level (value h) n < 2 + length (taken_nodes h) }
+    ensures depth { (lay : Layout) (h start : History) (k n : ℕ) → lay.mode ≡ TreeMode → IsTreeRun lay h → Passed h start k n → level (value h) n < 2 + length (taken_nodes h) }
     ensures not_final { (lay : Layout) (h : History) (t : Tree) (n : ℕ) → IsTreeRun lay h → IsTree (value h) t → Has t n → is_final (log lay h) n ≡ false }
     ensures remains { (lay : Layout) (h : History) (t : Tree) (n : ℕ) → IsTreeRun lay h → WasInTree h n
-        → is_final (log lay h) n ≡ false → IsTree (value h) t → Has t n }
+        → (lay.mode ≡ TreeMode) ⊎ (is_leaf (value h) n ≡ false) → is_final (log lay h) n ≡ false → IsTree (value h) t → Has t n }
     ensures blank { (lay : Layout) (h : History) (n : ℕ) → IsTreeRun lay h → WasInTree h n → IsBlankAboveKeys (value h) n }
 {}
 
