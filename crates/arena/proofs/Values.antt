@@ -73,7 +73,7 @@ map_opens mode e w = rw e refl
 -- what a map and cells open with alike
 opens_alike : (mode : Mode) (w : Word) (v : ℕ) → tree_opening w ≡ v → records_opening w ≡ v → value (Start mode) w ≡ v
 unfolding value
-opens_alike mode w v map cells = elim (is_map mode) as (λ is. cond is (tree_opening w) (records_opening w) ≡ v) [ | true ↦ map | false ↦ cells ]
+opens_alike mode w v map cells = elim (is_map mode) as (λ is. cond is (tree_opening w) (records_opening w) ≡ v) [ true ↦ map | false ↦ cells ]
 
 pub opening_info : (mode : Mode) (n : ℕ) → value (Start mode) (info n) ≡ 0
 opening_info mode n = opens_alike mode (info n) 0 refl refl

@@ -18,10 +18,10 @@ use Rattle.ordered_map.specs.Spelled.{IsTree}
 use Rattle.ordered_map.specs.TreeWords.{Tree, Leaf, Fork, root, Shows, Has, level}
 
 pub no_head : (mode : Mode) (n : ℕ) → n ≢ 0 → n ≢ 1 → n ≢ 2 → opening mode (node n (Settled Head)) ≡ 0
-no_head mode n a b c = elim (is_map mode) as (λ is. cond is (tree_opening (node n (Settled Head))) 0 ≡ 0) [ | true ↦ rw (ne_eqb n 0 a, ne_eqb n 1 b, ne_eqb n 2 c) refl | false ↦ refl ]
+no_head mode n a b c = elim (is_map mode) as (λ is. cond is (tree_opening (node n (Settled Head))) 0 ≡ 0) [ true ↦ rw (ne_eqb n 0 a, ne_eqb n 1 b, ne_eqb n 2 c) refl | false ↦ refl ]
 
 some_nodes : (mode : Mode) → 2 < opening_nodes mode
-some_nodes mode = elim (is_map mode) as (λ is. 2 < cond is 3 9) [ | true ↦ omega arith | false ↦ omega arith ]
+some_nodes mode = elim (is_map mode) as (λ is. 2 < cond is 3 9) [ true ↦ omega arith | false ↦ omega arith ]
 
 pub head_inside : (lay : Layout) (h : History) (n : ℕ) → Lawful lay h → value h (node n (Settled Head)) ≢ 0 → n < all_nodes lay
 head_inside lay (Start mode) n l d = go (ℕ_discrete n 0) (ℕ_discrete n 1) (ℕ_discrete n 2)
