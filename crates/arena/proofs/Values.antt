@@ -66,9 +66,11 @@ held_back r h w v e p = go (held_split r h w v p)
 -- The opening words
 
 -- a map opens word for word as a tree
-pub map_opens : (mode : Mode) → IsMap mode → (w : Word) → value (Start mode) w ≡ tree_opening w
+pub map_opens : (mode : Mode) → IsMap mode → value (Start mode) ≡ tree_opening
 unfolding value
-map_opens mode e w = rw e refl
+map_opens mode e =
+    let opens : Bool → Word → ℕ = λ is w. cond is (tree_opening w) (records_opening w) in
+    ap opens e
 
 -- what a map and cells open with alike
 opens_alike : (mode : Mode) (w : Word) (v : ℕ) → tree_opening w ≡ v → records_opening w ≡ v → value (Start mode) w ≡ v

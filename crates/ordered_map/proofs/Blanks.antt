@@ -1,17 +1,18 @@
 -- What was in the tree above all keys is blank.
 use Rattle.std.proofs.Common.{◌≡◌, ℕ, ◌<◌, ◌%◌, true, false, ◌⊎◌, inl, inr, refl, sym, ◌∙◌, ap, arith, subst}
-use Rattle.arena.specs.declared.limits.Mode.TheVariants.{Tree as TreeMode}
 use Rattle.arena.specs.declared.word.Side.{Side}
 use Rattle.arena.specs.declared.word.Side.TheVariants.{Left, Right}
 use Rattle.arena.specs.declared.word.NodeWord.TheVariants.{Settled, Child}
 use Rattle.arena.specs.declared.word.Word.{Word}
 use Rattle.arena.specs.declared.layout.Layout.{Layout}
 use Rattle.arena.specs.declared.step.Row.{Row}
+use Rattle.arena.specs.declared.limits.Mode.{Mode}
+use Rattle.arena.specs.Layout.{IsMap}
 use Rattle.arena.specs.Words.{node, child, first_key}
 use Rattle.arena.specs.History.{History, Start, ◌⊳◌, value}
 use Rattle.arena.specs.ScxRecords.{count_of, plan_finalizes, field_index_of, count, field_index, member, new, side_of, plan, scx_finalizes}
 use Rattle.arena.specs.Fills.{IsNamed}
-use Rattle.arena.proofs.Lemmas.{node_word_apart}
+use Rattle.arena.proofs.Lemmas.{map_opens, node_word_apart}
 use Rattle.histories.proofs.Lemmas.{UpdateWins, node_stays, update_keeps_other}
 use Rattle.ordered_map.specs.OrderedMap.{MapEdit, edit_key}
 use Rattle.ordered_map.specs.Paths.{WasInTree}
@@ -113,9 +114,8 @@ module _ (calls : ℕ → MapEdit) (lay : Layout) where
   abbrev IsBlankThen : History → ℕ → Type 0
   IsBlankThen h n = IsBlankAboveKeys (value h) n
 
-  opens : (n : ℕ) → n < 3 → IsBlankThen (Start TreeMode) n
-  unfolding value
-  opens n i d = refl
+  opens : (mode : Mode) → IsMap mode → (n : ℕ) → n < 3 → IsBlankThen (Start mode) n
+  opens mode map n i d = rw (map_opens mode map) refl
 
   stays : (h : History) (r : Row) (n : ℕ) → IsGrown calls lay (r ⊳ h) → IsNamed lay h n → IsBlankThen h n → IsBlankThen (r ⊳ h) n
   stays h r n g named x = settled_blank (value h) (value (r ⊳ h)) n (λ a i. node_stays lay h r n a g.lawful i named) x

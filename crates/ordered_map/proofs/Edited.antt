@@ -1,7 +1,6 @@
 -- An update that wins makes the edit of its SCX-record.
 use Rattle.std.proofs.Common.{◌≡◌, ◌≢◌, ℕ, ◌<◌, ◌≤◌, ◌+◌, ◌*◌, ◌/◌, ◌%◌, ◌^◌, true, false, eqb, eq-eqb, ne_eqb, ltb, ◌⊎◌, inl, inr, ⊎_elim, List, ◌++◌, refl, sym, ◌∙◌, ap, arith, zero, suc, subst, lt-ltb, cond}
 use native.Mathlib.Decide.{ℕ_discrete}
-use Rattle.arena.specs.declared.limits.Mode.TheVariants.{Tree as TreeMode}
 use Rattle.arena.specs.declared.word.Side.{Side}
 use Rattle.arena.specs.declared.word.Side.TheVariants.{Left, Right}
 use Rattle.arena.specs.declared.word.NodeWord.TheVariants.{Settled, Child}
@@ -11,6 +10,7 @@ use Rattle.arena.specs.declared.word.ScxWord.TheVariants.{New}
 use Rattle.arena.specs.declared.word.Word.{Word}
 use Rattle.arena.specs.declared.layout.Layout.{Layout}
 use Rattle.arena.specs.declared.step.Row.{Row}
+use Rattle.arena.specs.Layout.{IsMap}
 use Rattle.arena.specs.Words.{node, scx, info, marked, child, state, same_word}
 use Rattle.arena.specs.History.{History, ◌⊳◌, value, HasHeld, Extends}
 use Rattle.arena.specs.ScxRecords.{count_of, plan_finalizes, field_index_of, count, field_index, member, seen, new, old, field, side_of, plan, scx_finalizes}
@@ -49,7 +49,7 @@ weaken : {f g : Word → ℕ} {change : List Pair → List Pair} {Gone Lost Made
 weaken to back born x = record { tree = x.tree; shows = x.shows; is = x.is; deep = x.deep; items = x.items; ends = x.ends; low = x.low; paths = λ j n p. ⊎_elim inl (λ q. inr (to n q)) (x.paths j n p); made = λ n p. ⊎_elim inl (λ q. inr (born n q)) (x.made n p); out = λ n p. x.out n (back n p) }
 
 module _ (calls : ℕ → MapEdit) (lay : Layout) (h : History) (r : Row) (u : ℕ) (f : Facts lay h) (z : UpdateWins h r u)
-    (o : lay.mode ≡ TreeMode) (l : Lawful lay (r ⊳ h)) (t : TreeFacts calls lay h) where
+    (o : IsMap lay.mode) (l : Lawful lay (r ⊳ h)) (t : TreeFacts calls lay h) where
   all_frozen : IsFlagged (descriptor h u) h u
   all_frozen = update_flagged f z
 

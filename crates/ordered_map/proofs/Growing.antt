@@ -5,20 +5,20 @@ use Rattle.std.proofs.lemmas.List.Elements.{All-nil, All-cons}
 use Rattle.std.specs.Prelude.{All}
 use Rattle.ordered_map.proofs.Inside.{tree_inside}
 use native.Mathlib.Decide.{ℕ_discrete}
-use Rattle.arena.specs.declared.limits.Mode.TheVariants.{Tree as TreeMode}
 use Rattle.arena.specs.declared.word.Side.TheVariants.{Left, Right}
 use Rattle.arena.specs.declared.word.NodeWord.{NodeWord}
 use Rattle.arena.specs.declared.word.NodeWord.TheVariants.{Settled, Child}
 use Rattle.arena.specs.declared.word.SettledPart.TheVariants.{Head}
 use Rattle.arena.specs.declared.word.Word.{Word}
 use Rattle.arena.specs.declared.layout.Layout.{Layout}
+use Rattle.arena.specs.Layout.{tree_opening}
 use Rattle.arena.specs.Words.{node, child, first_key}
 use Rattle.arena.specs.History.{History, Start, ◌⊳◌, value, Extends}
 use Rattle.arena.specs.ScxRecords.{field_index, member, plan, side_of}
 use Rattle.arena.specs.Fills.{opening_node}
 use Rattle.arena.specs.Lawful.{IsSettled, Lawful}
 use Rattle.arena.specs.Log.{log}
-use Rattle.arena.proofs.Lemmas.{node_apart, node_word_apart}
+use Rattle.arena.proofs.Lemmas.{map_opens, node_apart, node_word_apart}
 use Rattle.histories.proofs.Lemmas.{Effect, Facts, effect, facts_before, freeze, freeze_keeps_field, lawful_tail, node_since, quiet, start_mode, update, update_keeps_other}
 use Rattle.ordered_map.specs.declared.pair.Pair.{Pair}
 use Rattle.ordered_map.specs.OrderedMap.{pair, MapEdit, get, IsRising, AllAbove, AllBelow}
@@ -105,33 +105,17 @@ ends_start : (lay : Layout) (h : History) → Lawful lay h → Extends h (Start 
 ends_start lay (Start mode) l = ap Start (sym (start_mode lay mode l))
 ends_start lay (r ⊳ h) l = inr (ends_start lay h (lawful_tail lay h r l))
 
-right_start : value (Start TreeMode) (child 0 Right) ≡ 2
-unfolding value
-right_start = refl
-
-opening_root : value (Start TreeMode) (node 0 (Settled Head)) ≡ 2
-unfolding value
-opening_root = refl
-
-opening_two : value (Start TreeMode) (node 2 (Settled Head)) ≡ 14
-unfolding value
-opening_two = refl
-
-zero_key : value (Start TreeMode) (node 2 first_key) ≡ 0
-unfolding value
-zero_key = refl
-
 -- the settled words of the opening nodes stay
-opening_stays : (calls : ℕ → MapEdit) (lay : Layout) (h : History) (n : ℕ) (a : NodeWord) → IsGrown calls lay h → n < 3 → IsSettled (node n a) → value h (node n a) ≡ value (Start TreeMode) (node n a)
+opening_stays : (calls : ℕ → MapEdit) (lay : Layout) (h : History) (n : ℕ) (a : NodeWord) → IsGrown calls lay h → n < 3 → IsSettled (node n a) → value h (node n a) ≡ tree_opening (node n a)
 opening_stays calls lay h n a g i s =
-    node_since lay h (Start lay.mode) n a g.lawful (ends_start lay h g.lawful) s (opening_node (rw g.mode i)) ∙ ap (λ m. value (Start m) (node n a)) g.mode
+    node_since lay h (Start lay.mode) n a g.lawful (ends_start lay h g.lawful) s (opening_node (rw g.mode i)) ∙ rw (map_opens lay.mode g.mode) refl
 
 -- so node 0 is a fork above all keys
 pub grown_root : (calls : ℕ → MapEdit) (lay : Layout) (h : History) → IsGrown calls lay h → value h (node 0 (Settled Head)) ≡ 2
-grown_root calls lay h g = opening_stays calls lay h 0 (Settled Head) g (omega arith) tt ∙ opening_root
+grown_root calls lay h g = opening_stays calls lay h 0 (Settled Head) g (omega arith) tt
 
 right_stays : (calls : ℕ → MapEdit) (lay : Layout) (h : History) → IsGrown calls lay h → value h (child 0 Right) ≡ 2
-right_stays calls lay (Start mode) g = ap (λ m. value (Start m) (child 0 Right)) (start_mode lay mode g.lawful ∙ g.mode) ∙ right_start
+right_stays calls lay (Start mode) g = rw (map_opens mode (rw (start_mode lay mode g.lawful) g.mode)) refl
 right_stays calls lay (r ⊳ h) g = go (effect lay h r g.lawful) (right_stays calls lay h (grown_tail calls lay h r g))
   where
     f : Facts lay h
@@ -277,10 +261,10 @@ spells calls lay h g = record {
     head_0 = grown_root calls lay h g
 
     head_2 : (value h) (node 2 (Settled Head)) ≡ 14
-    head_2 = opening_stays calls lay h 2 (Settled Head) g (omega arith) tt ∙ opening_two
+    head_2 = opening_stays calls lay h 2 (Settled Head) g (omega arith) tt
 
     key_2 : (value h) (node 2 first_key) ≡ 0
-    key_2 = opening_stays calls lay h 2 first_key g (omega arith) tt ∙ zero_key
+    key_2 = opening_stays calls lay h 2 first_key g (omega arith) tt
 
     item_2 : leaf_items (value h) 2 ≡ pair (2 * 2 ^ 64) 0 ∷ []
     item_2 = high_items (value h) 2 (λ z. omega (arith, z, head_2)) ∙ (λ i. pair (head_2 i % 4 * 2 ^ 64 + key_2 i) 0 ∷ [])

@@ -1,16 +1,16 @@
 -- What is known after every history of the tree.
-use Rattle.std.proofs.Common.{◌≡◌, ◌≢◌, ℕ, inl, ◌++◌, refl, sym, ◌∙◌, arith, subst}
+use Rattle.std.proofs.Common.{◌≡◌, ◌≢◌, ℕ, inl, ◌++◌, refl, sym, ◌∙◌, arith}
 use Rattle.arena.specs.declared.limits.Mode.{Mode}
-use Rattle.arena.specs.declared.limits.Mode.TheVariants.{Tree as TreeMode}
 use Rattle.arena.specs.declared.layout.Layout.{Layout}
 use Rattle.arena.specs.declared.step.Row.{Row}
+use Rattle.arena.specs.Layout.{tree_opening, IsMap}
 use Rattle.arena.specs.Words.{info}
 use Rattle.arena.specs.History.{History, Start, ◌⊳◌, value, HasHeld, Extends}
 use Rattle.arena.specs.ScxRecords.{seen}
 use Rattle.arena.specs.Lawful.{Lawful}
 use Rattle.arena.specs.Log.{log}
 use Rattle.arena.specs.Shape.{IsBegin, Shaped}
-use Rattle.arena.proofs.Lemmas.{held_start, opening_info}
+use Rattle.arena.proofs.Lemmas.{held_start, map_opens, opening_info}
 use Rattle.histories.proofs.Lemmas.{Effect, Facts, FreezeWins, effect, facts_before, freeze, freeze_in_progress, freeze_rest, lawful_since, lawful_tail, quiet, shaped_begin, shaped_since, shaped_tail, update}
 use Rattle.ordered_map.specs.OrderedMap.{MapEdit}
 use Rattle.ordered_map.proofs.Pending.{AllowsGiven}
@@ -22,45 +22,43 @@ use Rattle.ordered_map.specs.TreeWords.{Leaf, Fork}
 use Rattle.ordered_map.proofs.TreeFacts.{TreeFacts, path_now, tree_kept, tree_frozen}
 use Rattle.ordered_map.proofs.Edited.{tree_updated}
 
--- the history is one of the tree, and its SCX-records make these edits
+-- the history is one of a map, and its SCX-records make these edits
 pub record IsGrown (calls : ℕ → MapEdit) (lay : Layout) (h : History) : Type 0 where
-  pub mode : lay.mode ≡ TreeMode
+  pub mode : IsMap lay.mode
   pub lawful : Lawful lay h
   pub shaped : Shaped (AllowsGiven calls) lay h
 
-pub opening_tree : IsTree (value (Start TreeMode)) (Fork 0 (Leaf 1) (Leaf 2))
-unfolding value
-opening_tree = record {
+pub opening_tree : (mode : Mode) → IsMap mode → IsTree (value (Start mode)) (Fork 0 (Leaf 1) (Leaf 2))
+opening_tree mode map = rw (map_opens mode map) record {
   shows = (
     record { fork = refl; left = refl; right = refl; low = omega arith; high = omega arith },
-    high_leaf (value (Start TreeMode)) 1 _ _ refl (λ z. absurd (cc)) (omega arith) (omega arith) (omega arith),
-    high_leaf (value (Start TreeMode)) 2 _ _ refl (λ z. absurd (cc)) (omega arith) (omega arith) (omega arith),
+    high_leaf tree_opening 1 _ _ refl (λ z. absurd (cc)) (omega arith) (omega arith) (omega arith),
+    high_leaf tree_opening 2 _ _ refl (λ z. absurd (cc)) (omega arith) (omega arith) (omega arith),
   );
   is = refl;
 }
 
-opening_low : EndsLow (value (Start TreeMode)) (Fork 0 (Leaf 1) (Leaf 2))
-unfolding value
-opening_low = (λ z. absurd (cc), tt, tt)
+opening_low : (mode : Mode) → IsMap mode → EndsLow (value (Start mode)) (Fork 0 (Leaf 1) (Leaf 2))
+opening_low mode map = rw (map_opens mode map) (λ z. absurd (cc), tt, tt)
 
-opening_items : (calls : ℕ → MapEdit) (lay : Layout) → items (value (Start TreeMode)) (Fork 0 (Leaf 1) (Leaf 2)) ≡ map_of_log calls (log lay (Start TreeMode)) ++ ends
-unfolding value log
-opening_items calls lay = refl
+opening_items : (calls : ℕ → MapEdit) (lay : Layout) (mode : Mode) → IsMap mode → items (value (Start mode)) (Fork 0 (Leaf 1) (Leaf 2)) ≡ map_of_log calls (log lay (Start mode)) ++ ends
+unfolding log
+opening_items calls lay mode map = rw (map_opens mode map) refl
 
 -- no info word names anything but the dummy at the start
-opened : (s n : ℕ) → s ≢ 0 → HasHeld (Start TreeMode) (info n) s → ⊥
-opened s n d p = d (sym (held_start TreeMode (info n) s p) ∙ opening_info TreeMode n)
+opened : (mode : Mode) (s n : ℕ) → s ≢ 0 → HasHeld (Start mode) (info n) s → ⊥
+opened mode s n d p = d (sym (held_start mode (info n) s p) ∙ opening_info mode n)
 
-tree_at_start : (calls : ℕ → MapEdit) (lay : Layout) → TreeFacts calls lay (Start TreeMode)
-tree_at_start calls lay = record {
+tree_at_start : (calls : ℕ → MapEdit) (lay : Layout) (mode : Mode) → IsMap mode → TreeFacts calls lay (Start mode)
+tree_at_start calls lay mode map = record {
   tree = Fork 0 (Leaf 1) (Leaf 2);
-  is_tree = opening_tree;
-  items = opening_items calls lay;
-  ends_low = opening_low;
-  pending = λ s n d p w. absurd (opened s n d p);
-  one_new = λ s u m n d c p q e. absurd (opened s m d p);
-  unborn = λ s n d p w e. absurd (opened s n d p);
-  path = λ m k n e p. inl (path_now (Start TreeMode) (Fork 0 (Leaf 1) (Leaf 2)) k n opening_tree (rw e at p));
+  is_tree = opening_tree mode map;
+  items = opening_items calls lay mode map;
+  ends_low = opening_low mode map;
+  pending = λ s n d p w. absurd (opened mode s n d p);
+  one_new = λ s u m n d c p q e. absurd (opened mode s m d p);
+  unborn = λ s n d p w e. absurd (opened mode s n d p);
+  path = λ m k n e p. inl (path_now (Start mode) (Fork 0 (Leaf 1) (Leaf 2)) k n (opening_tree mode map) (rw e at p));
 }
 
 -- the first freezing exchange of an SCX-record that wins begins it
@@ -72,7 +70,7 @@ first_begins lay h r s j f w q = record { kind = w.kind; word = rw q at w.freeze
         let x : seen h s j ≡ s = sym w.found ∙ e ∙ w.stored in
         freeze_rest f w j w.freeze.within (rw x (freeze_in_progress f w))
 
-tree_step : (calls : ℕ → MapEdit) (lay : Layout) (h : History) (r : Row) → lay.mode ≡ TreeMode → Lawful lay (r ⊳ h) → ((s : ℕ) → IsBegin h r s → AllowsGiven calls lay h s) → TreeFacts calls lay h → TreeFacts calls lay (r ⊳ h)
+tree_step : (calls : ℕ → MapEdit) (lay : Layout) (h : History) (r : Row) → IsMap lay.mode → Lawful lay (r ⊳ h) → ((s : ℕ) → IsBegin h r s → AllowsGiven calls lay h s) → TreeFacts calls lay h → TreeFacts calls lay (r ⊳ h)
 tree_step calls lay h r o l allowed t = go (effect lay h r l)
   where
     f : Facts lay h
@@ -88,7 +86,7 @@ unfolding Lawful
 start_mode lay mode l = l
 
 pub tree_facts : (calls : ℕ → MapEdit) (lay : Layout) (h : History) → IsGrown calls lay h → TreeFacts calls lay h
-tree_facts calls lay (Start mode) g = subst (λ m. TreeFacts calls lay (Start m)) (sym (start_mode lay mode g.lawful ∙ g.mode)) (tree_at_start calls lay)
+tree_facts calls lay (Start mode) g = tree_at_start calls lay mode (rw (start_mode lay mode g.lawful) g.mode)
 tree_facts calls lay (r ⊳ h) g =
     tree_step calls lay h r g.mode g.lawful (λ s b. shaped_begin (AllowsGiven calls) lay h r s g.shaped b)
     (tree_facts calls lay h record { mode = g.mode; lawful = lawful_tail lay h r g.lawful; shaped = shaped_tail (AllowsGiven calls) lay h r g.shaped })

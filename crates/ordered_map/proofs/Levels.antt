@@ -1,16 +1,17 @@
 -- No node of the tree is deeper than the log is long.
 use Rattle.std.proofs.Common.{◌≡◌, ℕ, ◌<◌, ◌/◌, ◌≤◌, zero, suc, length, refl, ap, arith}
-use Rattle.arena.specs.declared.limits.Mode.TheVariants.{Tree as TreeMode}
 use Rattle.arena.specs.declared.word.NodeWord.TheVariants.{Settled, Child}
 use Rattle.arena.specs.declared.word.SettledPart.TheVariants.{Head}
 use Rattle.arena.specs.declared.layout.Layout.{Layout}
 use Rattle.arena.specs.declared.step.Row.{Row}
+use Rattle.arena.specs.declared.limits.Mode.{Mode}
+use Rattle.arena.specs.Layout.{tree_opening, IsMap}
 use Rattle.arena.specs.Words.{node}
 use Rattle.arena.specs.History.{History, Start, ◌⊳◌, value}
 use Rattle.arena.specs.ScxRecords.{field_index, member, side_of, plan}
 use Rattle.arena.specs.Fills.{IsNamed}
 use Rattle.arena.specs.Log.{log}
-use Rattle.arena.proofs.Lemmas.{node_word_apart}
+use Rattle.arena.proofs.Lemmas.{map_opens, node_word_apart}
 use Rattle.histories.proofs.Lemmas.{Logs, UpdateWins, log_wins, logs, node_stays, same, update_keeps_other, wins}
 use Rattle.ordered_map.specs.OrderedMap.{MapEdit}
 use Rattle.ordered_map.specs.Paths.{WasInTree}
@@ -24,16 +25,15 @@ module _ (calls : ℕ → MapEdit) (lay : Layout) where
   abbrev IsWithin : History → ℕ → Type 0
   IsWithin h n = level (value h) n ≤ suc (length (log lay h))
 
-  at_start : (n : ℕ) → n < 3 → level (value (Start TreeMode)) n ≤ 1
-  unfolding value
+  at_start : (n : ℕ) → n < 3 → level tree_opening n ≤ 1
   at_start zero i = omega arith
   at_start (suc zero) i = omega arith
   at_start (suc (suc zero)) i = omega arith
   at_start (suc (suc (suc n))) i = absurd (omega arith)
 
-  opens : (n : ℕ) → n < 3 → IsWithin (Start TreeMode) n
+  opens : (mode : Mode) → IsMap mode → (n : ℕ) → n < 3 → IsWithin (Start mode) n
   unfolding log
-  opens n i = at_start n i
+  opens mode map n i = rw (map_opens mode map) (at_start n i)
 
   stays : (h : History) (r : Row) (n : ℕ) → IsGrown calls lay (r ⊳ h) → IsNamed lay h n → IsWithin h n → IsWithin (r ⊳ h) n
   stays h r n g named x = go (logs lay h r g.lawful)

@@ -2,13 +2,13 @@
 -- spell, what a winning update makes of it, and what walks find.
 use Rattle.std.proofs.Common.{◌≡◌, ◌≢◌, ℕ, ◌^◌, ◌<◌, true, false, cond, eqb, eq-eqb, ne_eqb, inl, inr, ⊎_elim, List, [], refl, sym, ◌∙◌, ap, arith, subst}
 use native.Mathlib.Decide.{ℕ_discrete}
-use Rattle.arena.specs.declared.limits.Mode.TheVariants.{Tree as TreeMode}
 use Rattle.arena.specs.declared.word.Side.{Side}
 use Rattle.arena.specs.declared.word.Side.TheVariants.{Left, Right}
 use Rattle.arena.specs.declared.word.ScxWord.TheVariants.{Plan}
 use Rattle.arena.specs.declared.word.Word.{Word}
 use Rattle.arena.specs.declared.layout.Layout.{Layout}
 use Rattle.arena.specs.declared.step.Row.{Row}
+use Rattle.arena.specs.Layout.{IsMap}
 use Rattle.arena.specs.Words.{info, scx, child}
 use Rattle.arena.specs.History.{History, Start, ◌⊳◌, value, Extends}
 use Rattle.arena.specs.Blame.{IsMember}
@@ -56,7 +56,7 @@ pub run_spells : (lay : Layout) (h : History) → IsTreeRun lay h → (ps : List
 run_spells lay h g = (map_of_log (edits_of lay h g).edits (log lay h), spells (edits_of lay h g).edits lay h (grown lay h g))
 
 -- the opening words are a run, and spell the empty map
-pub opening_run : (lay : Layout) → lay.mode ≡ TreeMode → IsTreeRun lay (Start lay.mode)
+pub opening_run : (lay : Layout) → IsMap lay.mode → IsTreeRun lay (Start lay.mode)
 unfolding Lawful Shaped
 opening_run lay mode = (mode, record { lawful = refl; shaped = tt })
 
@@ -64,7 +64,7 @@ opening_log : (calls : ℕ → MapEdit) (lay : Layout) → map_of_log calls (log
 unfolding log
 opening_log calls lay = refl
 
-pub opening_spells : (lay : Layout) → lay.mode ≡ TreeMode → Spells lay (value (Start lay.mode)) []
+pub opening_spells : (lay : Layout) → IsMap lay.mode → Spells lay (value (Start lay.mode)) []
 opening_spells lay mode =
     let g : IsTreeRun lay (Start lay.mode) = opening_run lay mode in
     subst (Spells lay (value (Start lay.mode))) (opening_log (edits_of lay (Start lay.mode) g).edits lay) (spells (edits_of lay (Start lay.mode) g).edits lay (Start lay.mode) (grown lay (Start lay.mode) g))

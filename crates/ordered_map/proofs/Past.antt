@@ -2,7 +2,6 @@
 use Rattle.std.proofs.Common.{◌≡◌, ◌≢◌, ℕ, ◌<◌, ◌≤◌, ◌*◌, ◌/◌, ◌%◌, ◌^◌, true, false, eqb, ltb, ◌⊎◌, inl, inr, refl, sym, ◌∙◌, ap, arith, subst, cond}
 use Rattle.std.specs.Prelude.{Option}
 use native.Mathlib.Decide.{ℕ_discrete}
-use Rattle.arena.specs.declared.limits.Mode.TheVariants.{Tree as TreeMode}
 use Rattle.arena.specs.declared.word.Side.{Side}
 use Rattle.arena.specs.declared.word.Side.TheVariants.{Left, Right}
 use Rattle.arena.specs.declared.word.NodeWord.TheVariants.{Settled, Child}
@@ -10,6 +9,7 @@ use Rattle.arena.specs.declared.word.SettledPart.TheVariants.{Head}
 use Rattle.arena.specs.declared.word.Word.{Word}
 use Rattle.arena.specs.declared.layout.Layout.{Layout}
 use Rattle.arena.specs.declared.step.Row.{Row}
+use Rattle.arena.specs.Layout.{IsMap}
 use Rattle.arena.specs.Words.{node, marked, child}
 use Rattle.arena.specs.History.{History, Start, ◌⊳◌, value, Extends}
 use Rattle.arena.specs.ScxRecords.{field_index, member, plan, side_of}
@@ -28,7 +28,7 @@ use Rattle.ordered_map.proofs.TreeFacts.{TreeFacts, all_named, path_now}
 use Rattle.ordered_map.proofs.Edited.{spot_unmarked}
 use Rattle.ordered_map.proofs.Grown.{IsGrown, tree_facts, grown_tail, grown_since}
 
-pub path_named : (lay : Layout) (m : History) (k n : ℕ) → lay.mode ≡ TreeMode → IsOnPath m k n → IsNamed lay m n
+pub path_named : (lay : Layout) (m : History) (k n : ℕ) → IsMap lay.mode → IsOnPath m k n → IsNamed lay m n
 path_named lay m k n o p = all_named lay m p.tree n o p.is_tree (passes_has (value m) k p.tree n p.passes)
 
 -- a row changes no field of a node that is marked after it

@@ -3,7 +3,6 @@
 use Rattle.std.proofs.Common.{◌≡◌, ℕ, zero, suc, ◌<◌, ◌/◌, ◌%◌, ◌⊎◌, inl, inr, ⊎_elim, Bool, true, false, cond, eqb, refl, sym, ◌∙◌, ap, subst, arith}
 use native.Mathlib.Decide.{ℕ_discrete}
 use Rattle.arena.specs.declared.limits.Mode.{Mode}
-use Rattle.arena.specs.declared.limits.Mode.TheVariants.{Tree as TreeMode}
 use Rattle.arena.specs.declared.layout.Layout.{Layout}
 use Rattle.arena.specs.declared.step.Kind.TheVariants.{Fill}
 use Rattle.arena.specs.declared.step.Row.{Row}
@@ -14,13 +13,13 @@ use Rattle.arena.specs.declared.word.Word.{Word}
 use Rattle.arena.specs.declared.word.NodeWord.TheVariants.{Settled, Child, Info, Marked}
 use Rattle.arena.specs.declared.word.SettledPart.TheVariants.{Head}
 use Rattle.arena.specs.declared.word.ScxWord.TheVariants.{AllFrozen}
-use Rattle.arena.specs.Layout.{opening}
+use Rattle.arena.specs.Layout.{tree_opening, IsMap}
 use Rattle.arena.specs.Words.{node, scx, info, marked, child, state, same_word}
 use Rattle.arena.specs.History.{History, Start, ◌⊳◌, value, Extends, HasHeld}
 use Rattle.arena.specs.Log.{log, is_final}
 use Rattle.arena.specs.Lawful.{Lawful}
 use Rattle.arena.specs.ScxRecords.{member, new, field, plan, side_of}
-use Rattle.arena.proofs.Lemmas.{held_at, held_split, held_start, node_apart, node_word_apart, value_apart, value_at, value_other, value_quiet, word_same}
+use Rattle.arena.proofs.Lemmas.{map_opens, held_at, held_split, held_start, node_apart, node_word_apart, value_apart, value_at, value_other, value_quiet, word_same}
 use Rattle.histories.proofs.Lemmas.{Change, UpdateWins, aborts, change, commits, fills_node, fills_scx, freezes, lawful_row, lawful_tail, marks, nothing, sets_frozen, shaped_tail, start_mode, updates}
 use Rattle.ordered_map.specs.TreeShape.{TreeAllows}
 use Rattle.ordered_map.specs.TreeWords.{Tree, Leaf, Fork, root, Has, is_leaf}
@@ -93,13 +92,9 @@ small_if true k i = i
 small_if false k i = omega arith
 
 -- the fields of the opening tree name opening nodes
-field_small : (n : ℕ) (side : Side) → opening TreeMode (child n side) < 3
+field_small : (n : ℕ) (side : Side) → tree_opening (child n side) < 3
 field_small n Left = small_if (eqb n 0) 1 (omega arith)
 field_small n Right = small_if (eqb n 0) 2 (omega arith)
-
-start_word : (mode : Mode) (w : Word) → mode ≡ TreeMode → opening TreeMode w ≡ value (Start mode) w
-unfolding value
-start_word mode w e = ap (λ (m : Mode). opening m w) (sym e)
 
 root_stood : (lay : Layout) (h : History) → IsTreeRun lay h → WasInTree h 0
 root_stood lay h g = was_now h spelled.tree 0 spelled.is_tree (subst (λ k. Has spelled.tree k) spelled.is_tree.is (root_has spelled.tree))
@@ -111,12 +106,11 @@ root_stood lay h g = was_now h spelled.tree 0 spelled.is_tree (subst (λ k. Has 
     root_has (Leaf n) = refl
     root_has (Fork n a b) = inl refl
 
-opening_stood : (lay : Layout) (n : ℕ) → IsTreeRun lay (Start TreeMode) → n < 3 → StoodOrLeaf (Start TreeMode) n
-unfolding value
-opening_stood lay zero g i = inl (root_stood lay (Start TreeMode) g)
-opening_stood lay (suc zero) g i = inr refl
-opening_stood lay (suc (suc zero)) g i = inr refl
-opening_stood lay (suc (suc (suc n))) g i = absurd (omega (i, arith))
+opening_stood : (lay : Layout) (mode : Mode) (n : ℕ) → IsMap mode → IsTreeRun lay (Start mode) → n < 3 → StoodOrLeaf (Start mode) n
+opening_stood lay mode zero map g i = inl (root_stood lay (Start mode) g)
+opening_stood lay mode (suc zero) map g i = inr (rw (map_opens mode map) refl)
+opening_stood lay mode (suc (suc zero)) map g i = inr (rw (map_opens mode map) refl)
+opening_stood lay mode (suc (suc (suc n))) map g i = absurd (omega (i, arith))
 
 -- a row that leaves its head leaves it so
 stood_more : (h : History) (r : Row) (n : ℕ) → value (r ⊳ h) (node n (Settled Head)) ≡ value h (node n (Settled Head)) → StoodOrLeaf h n → StoodOrLeaf (r ⊳ h) n
@@ -146,13 +140,13 @@ row_stood lay h r n g order before x = ⊎_elim (λ i. old (inl i)) (λ y. held 
     held m side (inr y) = old (inr (m, side, y))
 
 stood : (lay : Layout) (h : History) (n : ℕ) → IsTreeRun lay h → AreFilledInOrder h → HasStoodInField h n → StoodOrLeaf h n
-stood lay (Start mode) n g order x = subst (λ (m : Mode). StoodOrLeaf (Start m) n) (sym tree) (opening_stood lay n (subst (λ (m : Mode). IsTreeRun lay (Start m)) tree g) (⊎_elim (λ i. i) small x))
+stood lay (Start mode) n g order x = opening_stood lay mode n map g (⊎_elim (λ i. i) small x)
   where
-    tree : mode ≡ TreeMode
-    tree = start_mode lay mode g.1.lawful ∙ g.0
+    map : IsMap mode
+    map = rw (start_mode lay mode g.1.lawful) g.0
 
     small : ((m : ℕ) × (from : Side) × HasHeld (Start mode) (child m from) n) → n < 3
-    small y = subst (λ k. k < 3) (start_word mode (child y.0 y.1) tree ∙ held_start mode (child y.0 y.1) n y.2) (field_small y.0 y.1)
+    small y = subst (λ k. k < 3) (ap (λ (f : Word → ℕ). f (child y.0 y.1)) (sym (map_opens mode map)) ∙ held_start mode (child y.0 y.1) n y.2) (field_small y.0 y.1)
 stood lay (r ⊳ h) n g order x = row_stood lay h r n g order (stood lay h n (g.0, record { lawful = lawful_tail lay h r g.1.lawful; shaped = shaped_tail TreeAllows lay h r g.1.shaped }) order.0) x
 
 -- Where the steps are a run of the tree whose nodes were filled in order, levels rise from each

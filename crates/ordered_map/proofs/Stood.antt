@@ -1,10 +1,11 @@
 -- Which nodes ever were in the tree: each was there at the start, or an update has put it there.
 use Rattle.std.proofs.Common.{◌≡◌, ℕ, ◌<◌, ◌⊎◌, inl, inr, ⊎_elim, sym, ◌∙◌, arith, subst}
-use Rattle.arena.specs.declared.limits.Mode.TheVariants.{Tree as TreeMode}
 use Rattle.arena.specs.declared.word.Side.{Side}
 use Rattle.arena.specs.declared.word.NodeWord.TheVariants.{Settled, Child}
 use Rattle.arena.specs.declared.layout.Layout.{Layout}
 use Rattle.arena.specs.declared.step.Row.{Row}
+use Rattle.arena.specs.declared.limits.Mode.{Mode}
+use Rattle.arena.specs.Layout.{IsMap}
 use Rattle.arena.specs.Words.{child}
 use Rattle.arena.specs.History.{History, Start, ◌⊳◌, value, Extends}
 use Rattle.arena.specs.Fills.{IsNamed}
@@ -42,7 +43,7 @@ pub was_passed : (h start : History) (k n : ℕ) → Passed h start k n → WasI
 was_passed h start k n p = record { moment = p.0; within = p.1; tree = p.3.tree; is_tree = p.3.is_tree; has = passes_has (value p.0) k p.3.tree n p.3.passes }
 
 -- a node that was in the tree was named
-pub was_named : (lay : Layout) (h : History) (n : ℕ) → lay.mode ≡ TreeMode → Lawful lay h → WasInTree h n → IsNamed lay h n
+pub was_named : (lay : Layout) (h : History) (n : ℕ) → IsMap lay.mode → Lawful lay h → WasInTree h n → IsNamed lay h n
 was_named lay h n o l x = named_since lay h x.moment n l x.within (all_named lay x.moment x.tree n o x.is_tree x.has)
 
 -- One row more
@@ -99,11 +100,11 @@ module _ (calls : ℕ → MapEdit) (lay : Layout) (h : History) (r : Row) (g : I
 -- What is true of the opening nodes and of each node as it is put into the tree, and stays so, is
 -- true of each node that ever was there.
 module _ (calls : ℕ → MapEdit) (lay : Layout) (P : History → ℕ → Type 0)
-    (opens : (n : ℕ) → n < 3 → P (Start TreeMode) n)
+    (opens : (mode : Mode) → IsMap mode → (n : ℕ) → n < 3 → P (Start mode) n)
     (stays : (h : History) (r : Row) (n : ℕ) → IsGrown calls lay (r ⊳ h) → IsNamed lay h n → P h n → P (r ⊳ h) n)
     (begins : (h : History) (r : Row) (u : ℕ) (g : IsGrown calls lay (r ⊳ h)) (w : UpdateWins h r u) → ((n : ℕ) → Has (tree_then calls lay h r g).tree n → P h n) → (n : ℕ) → PutThere calls lay h r g u w n → P (r ⊳ h) n) where
-  at_start : (n : ℕ) → WasInTree (Start TreeMode) n → P (Start TreeMode) n
-  at_start n x = opens n (go n (subst (λ u. Has u n) (one_tree (Start TreeMode) x.tree (Fork 0 (Leaf 1) (Leaf 2)) (subst (λ m. IsTree (value m) x.tree) x.within x.is_tree) opening_tree) x.has))
+  at_start : (mode : Mode) → IsMap mode → (n : ℕ) → WasInTree (Start mode) n → P (Start mode) n
+  at_start mode map n x = opens mode map n (go n (subst (λ u. Has u n) (one_tree (Start mode) x.tree (Fork 0 (Leaf 1) (Leaf 2)) (subst (λ m. IsTree (value m) x.tree) x.within x.is_tree) (opening_tree mode map)) x.has))
     where
       go : (n : ℕ) → Has (Fork 0 (Leaf 1) (Leaf 2)) n → n < 3
       go n (inl e) = omega (arith, e)
@@ -120,5 +121,5 @@ module _ (calls : ℕ → MapEdit) (lay : Layout) (P : History → ℕ → Type 
       old y = stays h r n g (was_named lay h n g.mode (grown_tail calls lay h r g).lawful y) (before n y)
 
   pub of_all_stood : (h : History) → IsGrown calls lay h → (n : ℕ) → WasInTree h n → P h n
-  of_all_stood (Start mode) g = subst (λ m. (n : ℕ) → WasInTree (Start m) n → P (Start m) n) (sym (start_mode lay mode g.lawful ∙ g.mode)) at_start
+  of_all_stood (Start mode) g = at_start mode (rw (start_mode lay mode g.lawful) g.mode)
   of_all_stood (r ⊳ h) g = step h r g (of_all_stood h (grown_tail calls lay h r g))

@@ -1,7 +1,6 @@
 -- What is known after each history of the tree, and that rows that win no update keep it.
 use Rattle.std.proofs.Common.{◌≡◌, ◌≢◌, ℕ, ◌<◌, false, ◌⊎◌, inl, inr, ⊎_elim, ◌++◌, refl, sym, ◌∙◌, ap, arith}
 use native.Mathlib.Decide.{ℕ_discrete}
-use Rattle.arena.specs.declared.limits.Mode.TheVariants.{Tree as TreeMode}
 use Rattle.arena.specs.declared.word.Side.{Side}
 use Rattle.arena.specs.declared.word.NodeWord.{NodeWord}
 use Rattle.arena.specs.declared.word.NodeWord.TheVariants.{Settled, Child, Info, Marked}
@@ -10,7 +9,7 @@ use Rattle.arena.specs.declared.word.ScxWord.TheVariants.{New, Member}
 use Rattle.arena.specs.declared.layout.Layout.{Layout}
 use Rattle.arena.specs.declared.step.Row.{Row}
 use Rattle.arena.specs.declared.step.Kind.TheVariants.{Freeze, Update}
-use Rattle.arena.specs.Layout.{opening_nodes}
+use Rattle.arena.specs.Layout.{IsMap, opening_nodes}
 use Rattle.arena.specs.Words.{same_node_word, node, scx, info, marked, child}
 use Rattle.arena.specs.History.{History, ◌⊳◌, value, HasHeld, Extends}
 use Rattle.arena.specs.ScxRecords.{count, member, seen, new}
@@ -44,14 +43,14 @@ path_now h t k n i p =
     let e : p.tree ≡ t = same_tree (value h) p.tree t _ _ _ _ p.is_tree.shows i.shows (p.is_tree.is ∙ sym i.is) in
     rw e at p.passes
 
-root_named : (lay : Layout) (h : History) (t : Tree) → lay.mode ≡ TreeMode → IsTree (value h) t → IsNamed lay h (root t)
+root_named : (lay : Layout) (h : History) (t : Tree) → IsMap lay.mode → IsTree (value h) t → IsNamed lay h (root t)
 root_named lay h t o i = opening_node (rw (i.is, o) (omega arith))
 
-pub all_named : (lay : Layout) (h : History) (t : Tree) (n : ℕ) → lay.mode ≡ TreeMode → IsTree (value h) t → Has t n → IsNamed lay h n
+pub all_named : (lay : Layout) (h : History) (t : Tree) (n : ℕ) → IsMap lay.mode → IsTree (value h) t → Has t n → IsNamed lay h n
 all_named lay h t n o i p = tree_named lay h t _ _ n i.shows (root_named lay h t o i) p
 
 -- a row that leaves the fields of named nodes leaves the tree
-module _ (calls : ℕ → MapEdit) (lay : Layout) (h : History) (r : Row) (o : lay.mode ≡ TreeMode) (l : Lawful lay (r ⊳ h)) (t : TreeFacts calls lay h)
+module _ (calls : ℕ → MapEdit) (lay : Layout) (h : History) (r : Row) (o : IsMap lay.mode) (l : Lawful lay (r ⊳ h)) (t : TreeFacts calls lay h)
     (field_stays : (n : ℕ) (side : Side) → IsNamed lay h n → value (r ⊳ h) (child n side) ≡ value h (child n side))
     (same_log : log lay (r ⊳ h) ≡ log lay h)
     (marks : (n : ℕ) → value h (marked n) ≢ 0 → value (r ⊳ h) (marked n) ≢ 0) where
@@ -77,7 +76,7 @@ module _ (calls : ℕ → MapEdit) (lay : Layout) (h : History) (r : Row) (o : l
   path_stays m k n (inr e) p = ⊎_elim (λ q. inl (frame_path (value h) (value (r ⊳ h)) k t.tree n in_tree q)) (λ q. inr (marks n q)) (t.path m k n e p)
 
 -- a row that freezes nothing and wins nothing
-pub tree_kept : (calls : ℕ → MapEdit) (lay : Layout) (h : History) (r : Row) → Facts lay h → lay.mode ≡ TreeMode → Lawful lay (r ⊳ h) → TreeFacts calls lay h → Kept lay h r → TreeFacts calls lay (r ⊳ h)
+pub tree_kept : (calls : ℕ → MapEdit) (lay : Layout) (h : History) (r : Row) → Facts lay h → IsMap lay.mode → Lawful lay (r ⊳ h) → TreeFacts calls lay h → Kept lay h r → TreeFacts calls lay (r ⊳ h)
 tree_kept calls lay h r f o l t k = record {
   tree = t.tree;
   is_tree = tree_stays calls lay h r o l t fields same_log marks;
@@ -118,7 +117,7 @@ tree_kept calls lay h r f o l t k = record {
 
 -- a freezing exchange that wins
 module _ (calls : ℕ → MapEdit) (lay : Layout) (h : History) (r : Row) (u j : ℕ) (f : Facts lay h) (z : FreezeWins lay h r u j)
-    (o : lay.mode ≡ TreeMode) (l : Lawful lay (r ⊳ h)) (t : TreeFacts calls lay h) (allowed : j ≡ 0 → AllowsGiven calls lay h u) where
+    (o : IsMap lay.mode) (l : Lawful lay (r ⊳ h)) (t : TreeFacts calls lay h) (allowed : j ≡ 0 → AllowsGiven calls lay h u) where
   may_begin : j ≡ 0 → MayBegin lay h r.pass.0 u
   may_begin e = (z.freeze.may_win z.found).1 e
 

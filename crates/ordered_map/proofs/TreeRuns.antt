@@ -1,6 +1,6 @@
 -- What a history of the tree keeps, whatever edits it makes: levels, how deep it is, what is blank,
 -- and which nodes are final.
-use Rattle.std.proofs.Common.{◌≡◌, ◌≢◌, ◌⊎◌, inl, inr, ◌+◌, ◌<◌, ◌≤◌, Bool, true, false, suc, ℕ, length, refl, sym, ◌∙◌, subst, arith}
+use Rattle.std.proofs.Common.{◌≡◌, ◌≢◌, ◌⊎◌, inl, inr, ◌+◌, ◌<◌, ◌≤◌, Bool, true, false, suc, ℕ, length, refl, ◌∙◌, arith}
 use Rattle.arena.specs.declared.layout.Layout.{Layout}
 use Rattle.arena.specs.declared.word.Side.{Side}
 use Rattle.arena.specs.declared.word.Side.TheVariants.{Left, Right}
@@ -12,7 +12,6 @@ use Rattle.arena.specs.ScxRecords.{new}
 use Rattle.arena.specs.History.{History, ◌⊳◌, value, Extends}
 use Rattle.arena.specs.Log.{log, is_final}
 use Rattle.arena.specs.Fills.{IsInField}
-use Rattle.arena.specs.Layout.{opening_nodes}
 use Rattle.arena.specs.TakenNodes.{taken_nodes}
 use Rattle.histories.proofs.Lemmas.{Facts, UpdateWins, facts_before, node_since, not_final}
 use Rattle.ordered_map.specs.OrderedMap.{MapEdit}
@@ -113,7 +112,7 @@ pub stood_in_field : (lay : Layout) (h : History) (n : ℕ) → IsTreeRun lay h 
 stood_in_field lay h n g x = go (has_above (value x.moment) x.tree _ _ n x.is_tree.shows x.has)
   where
     go : (n ≡ root x.tree) ⊎ IsBelowFork (value x.moment) x.tree n → IsInField lay h n
-    go (inl e) = let z : n ≡ 0 = e ∙ x.is_tree.is in inl (subst (λ m. n < opening_nodes m) (sym g.0) (omega (arith, z)))
+    go (inl e) = let z : n ≡ 0 = e ∙ x.is_tree.is in inl (rw g.0 (omega (arith, z)))
     go (inr y) = inr (y.fork, y.side, was_named lay h y.fork g.0 g.1.lawful record { moment = x.moment; within = x.within; tree = x.tree; is_tree = x.is_tree; has = y.has }, held_since h x.moment (child y.fork y.side) n x.within (held_at x.moment (child y.fork y.side) n y.holds))
 
 -- the children of a fork that has been in the tree and is not final are in the tree
