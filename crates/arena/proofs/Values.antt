@@ -66,14 +66,16 @@ held_back r h w v e p = go (held_split r h w v p)
 -- The opening words
 
 -- a map opens word for word as a tree
-pub map_opens : (mode : Mode) → IsMap mode → (w : Word) → value (Start mode) w ≡ tree_opening w
+pub map_opens : (mode : Mode) → IsMap mode → value (Start mode) ≡ tree_opening
 unfolding value
-map_opens mode e w = rw e refl
+map_opens mode e =
+    let opens : Bool → Word → ℕ = λ is w. cond is (tree_opening w) (records_opening w) in
+    ap opens e
 
 -- what a map and cells open with alike
 opens_alike : (mode : Mode) (w : Word) (v : ℕ) → tree_opening w ≡ v → records_opening w ≡ v → value (Start mode) w ≡ v
 unfolding value
-opens_alike mode w v map cells = elim (is_map mode) as (λ is. cond is (tree_opening w) (records_opening w) ≡ v) [ | true ↦ map | false ↦ cells ]
+opens_alike mode w v map cells = elim (is_map mode) as (λ is. cond is (tree_opening w) (records_opening w) ≡ v) [ true ↦ map | false ↦ cells ]
 
 pub opening_info : (mode : Mode) (n : ℕ) → value (Start mode) (info n) ≡ 0
 opening_info mode n = opens_alike mode (info n) 0 refl refl

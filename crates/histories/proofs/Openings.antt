@@ -19,13 +19,15 @@ opening_field mode n side = of (is_map mode) side
     one : (root : Bool) → cond root 1 0 < 3
     one true = omega arith
     one false = omega arith
+
     two : (root : Bool) → cond root 2 0 < 3
     two true = omega arith
     two false = omega arith
+
     of : (map : Bool) (side : Side) → cond map (tree_opening (child n side)) (records_opening (child n side)) < cond map 3 9
     of true Left = one (eqb n 0)
     of true Right = two (eqb n 0)
     of false side = omega arith
 
 pub some_open : (mode : Mode) → 0 < opening_nodes mode
-some_open mode = elim (is_map mode) as (λ is. 0 < cond is 3 9) [ | true ↦ omega arith | false ↦ omega arith ]
+some_open mode = elim (is_map mode) as (λ is. 0 < cond is 3 9) [ true ↦ omega arith | false ↦ omega arith ]

@@ -11,12 +11,12 @@ use Rattle.arena.specs.declared.word.ScxWord.TheVariants.{State, AllFrozen, Plan
 use Rattle.arena.specs.declared.word.Word.{Word}
 use Rattle.arena.specs.declared.word.Word.TheVariants.{Node, Scx}
 use Rattle.arena.specs.declared.step.Row.{Row}
-use Rattle.arena.specs.Layout.{all_nodes, all_scx, opening_nodes, opening, IsWord}
-use Rattle.arena.specs.Words.{same_word, info, child, scx}
+use Rattle.arena.specs.Layout.{all_nodes, all_scx, opening_nodes, IsWord}
+use Rattle.arena.specs.Words.{same_word, same_scx_word, info, child, scx}
 use Rattle.arena.specs.History.{History, Start, ◌⊳◌, HasHeld}
 use Rattle.arena.specs.Fills.{IsNamed, opening_node, by_field, by_scx, IsNamedScx, IsInField, NamesNode}
 use Rattle.arena.specs.Lawful.{Lawful}
-use Rattle.arena.proofs.Lemmas.{word_same, value_at, value_other, held_at, held_more, held_back, held_split, held_start, opening_info}
+use Rattle.arena.proofs.Lemmas.{word_same, value_at, value_other, held_at, held_more, held_back, held_split, held_start, opening_info, opening_scx}
 use Rattle.histories.proofs.Lemmas.{lawful_tail, lawful_row, value_start, opening_field, some_open, named_scx_inside}
 use Rattle.judge.specs.Graph.{IsLink, IsReached, first, along}
 use Rattle.judge.proofs.Spreading.{same_or}
@@ -272,9 +272,9 @@ info_link lay (r ⊳ h) m s l i p = ⊎_elim
     (λ q. old_link lay r h 0 (2 * all_nodes lay + s) (info_link lay h m s (lawful_tail lay h r l) i q))
     (held_by_row r h (info m) s p)
 
-opening_name : (mode : Mode) (s : ℕ) (part : ScxWord) → NamesNode part → opening mode (scx s part) ≡ 0
-opening_name mode s State p = absurd p
-opening_name mode s part p = elim (is_map mode) as (λ is. cond is 0 0 ≡ 0) [ | true ↦ refl | false ↦ refl ]
+names_other : (part : ScxWord) → NamesNode part → same_scx_word State part ≡ false
+names_other State p = absurd p
+names_other _ p = refl
 
 names_links : (nodes scxs s v : ℕ) (part : ScxWord) → NamesNode part → word_links nodes scxs (scx s part) v ≡ scx_links nodes s v
 names_links nodes scxs s v New p = refl
@@ -291,7 +291,7 @@ ScxLink lay h s n = (n < opening_nodes lay.mode) ⊎ IsLink (named_links lay h) 
 
 scx_link : (lay : Layout) (h : History) (s : ℕ) (part : ScxWord) (n : ℕ) → Lawful lay h → NamesNode part → n < all_nodes lay → HasHeld h (scx s part) n → ScxLink lay h s n
 scx_link lay (Start mode) s part n l names i p =
-    let z : n ≡ 0 = sym (held_start mode (scx s part) n p) ∙ value_start mode (scx s part) ∙ opening_name mode s part names in
+    let z : n ≡ 0 = sym (held_start mode (scx s part) n p) ∙ opening_scx mode s part (names_other part names) in
     let o = some_open lay.mode in
     inl (omega (z, o, arith))
 scx_link lay (r ⊳ h) s part n l names i p = ⊎_elim

@@ -4,7 +4,6 @@ use Rattle.std.proofs.Math.ListN.{length-set}
 use Rattle.std.specs.Prelude.{slice_index_or}
 use Rattle.arena.specs.declared.layout.Layout.{Layout}
 use Rattle.arena.specs.declared.limits.Mode.{Mode}
-use Rattle.arena.specs.declared.limits.Mode.TheVariants.{Tree, Records}
 use Rattle.arena.specs.declared.word.Side.{Side}
 use Rattle.arena.specs.declared.word.Side.TheVariants.{Left, Right}
 use Rattle.arena.specs.declared.word.NodeWord.TheVariants.{Settled, Child, Info, Marked}
@@ -12,7 +11,7 @@ use Rattle.arena.specs.declared.word.ScxWord.TheVariants.{State, AllFrozen, Plan
 use Rattle.arena.specs.declared.word.Word.{Word}
 use Rattle.arena.specs.declared.word.Word.TheVariants.{Node, Scx}
 use Rattle.arena.specs.declared.step.Row.{Row}
-use Rattle.arena.specs.Layout.{all_nodes, opening}
+use Rattle.arena.specs.Layout.{is_map, all_nodes, opening, tree_opening}
 use Rattle.arena.specs.Words.{child, scx}
 use Rattle.arena.specs.History.{History, Start, ◌⊳◌, HasHeld}
 use Rattle.arena.proofs.Lemmas.{held_at, held_more, held_start, opening_scx}
@@ -166,29 +165,34 @@ uses_more lay h r u new old f g = record {
 
 -- At the start
 
+-- whichever of the two this is
+either : {n k : ℕ} (is : Bool) → n < k → 0 < k → cond is n 0 < k
+either true a b = a
+either false a b = b
+
 field_held : (mode : Mode) (m : ℕ) (side : Side) → opening mode (child m side) < held_nodes mode
-field_held Tree m Left = cases (eqb m 0)
+field_held mode m side = elim (is_map mode) as (λ is. cond is (tree_opening (child m side)) 0 < cond is 3 1) [
+  | true ↦ held side
+  | false ↦ omega arith
+]
   where
-    cases : (t : Bool) → cond t 1 0 < 3
-    cases true = omega arith
-    cases false = omega arith
-field_held Tree m Right = cases (eqb m 0)
-  where
-    cases : (t : Bool) → cond t 2 0 < 3
-    cases true = omega arith
-    cases false = omega arith
-field_held Records m side = omega arith
+    held : (side : Side) → tree_opening (child m side) < 3
+    held Left = either (eqb m 0) (omega arith) (omega arith)
+    held Right = either (eqb m 0) (omega arith) (omega arith)
 
 held_by_start : (mode : Mode) (m : ℕ) (side : Side) (n : ℕ) → opening mode (child m side) ≡ n → WasInField (Start mode) n
 held_by_start mode m side n e = (m, side, held_at (Start mode) (child m side) n (value_start mode (child m side) ∙ e))
 
 start_held : (mode : Mode) (n : ℕ) → n < held_nodes mode → WasInField (Start mode) n
-start_held Tree zero l = held_by_start Tree 1 Left 0 refl
-start_held Tree (suc zero) l = held_by_start Tree 0 Left 1 refl
-start_held Tree (suc (suc zero)) l = held_by_start Tree 0 Right 2 refl
-start_held Tree (suc (suc (suc n))) l = absurd (omega (l, arith))
-start_held Records zero l = held_by_start Records 0 Left 0 refl
-start_held Records (suc n) l = absurd (omega (l, arith))
+start_held mode = go (is_map mode) refl
+  where
+    go : (is : Bool) → is_map mode ≡ is → (n : ℕ) → n < cond is 3 1 → WasInField (Start mode) n
+    go true e zero l = held_by_start mode 1 Left 0 (rw e refl)
+    go true e (suc zero) l = held_by_start mode 0 Left 1 (rw e refl)
+    go true e (suc (suc zero)) l = held_by_start mode 0 Right 2 (rw e refl)
+    go true e (suc (suc (suc n))) l = absurd (omega (l, arith))
+    go false e zero l = held_by_start mode 0 Left 0 (rw e refl)
+    go false e (suc n) l = absurd (omega (l, arith))
 
 start_back : (mode : Mode) (n : ℕ) → WasInField (Start mode) n → n < held_nodes mode
 start_back mode n x =

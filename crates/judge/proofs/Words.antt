@@ -1,16 +1,15 @@
 -- What words hold that are not of the table, and after one more row.
-use Rattle.std.proofs.Common.{◌≡◌, ◌≢◌, ℕ, ◌<◌, ◌≤◌, Bool, true, false, ne_eqb, refl, sym, ◌∙◌, ap, subst, arith}
+use Rattle.std.proofs.Common.{◌≡◌, ◌≢◌, ℕ, ◌<◌, ◌≤◌, Bool, true, false, cond, ne_eqb, refl, sym, ◌∙◌, ap, subst, arith}
 use Rattle.arena.specs.declared.layout.Layout.{Layout}
 use Rattle.arena.specs.declared.limits.Mode.{Mode}
-use Rattle.arena.specs.declared.limits.Mode.TheVariants.{Tree, Records}
 use Rattle.arena.specs.declared.word.Side.TheVariants.{Left, Right}
-use Rattle.arena.specs.declared.word.NodeWord.TheVariants.{Settled, Child, Info, Marked}
+use Rattle.arena.specs.declared.word.NodeWord.TheVariants.{Settled, Child}
 use Rattle.arena.specs.declared.word.SettledPart.TheVariants.{Head}
-use Rattle.arena.specs.declared.word.ScxWord.TheVariants.{State, AllFrozen, Plan, New, Old, Member, Seen, Call}
+use Rattle.arena.specs.declared.word.ScxWord.TheVariants.{State}
 use Rattle.arena.specs.declared.word.Word.{Word}
 use Rattle.arena.specs.declared.word.Word.TheVariants.{Node, Scx}
 use Rattle.arena.specs.declared.step.Row.{Row}
-use Rattle.arena.specs.Layout.{all_nodes, opening_nodes, opening, IsWord}
+use Rattle.arena.specs.Layout.{is_map, all_nodes, opening_nodes, opening, tree_opening, records_opening, IsWord}
 use Rattle.arena.specs.Words.{same_word}
 use Rattle.arena.specs.History.{History, Start, ◌⊳◌, value}
 use Rattle.arena.specs.Lawful.{Lawful}
@@ -20,33 +19,25 @@ use Rattle.histories.proofs.Lemmas.{lawful_row, lawful_tail, value_start}
 use Rattle.judge.proofs.Names.{start_is}
 
 -- a word that is not of the table is 0 at the start
-tree_outside : (all n k : ℕ) → 3 ≤ all → k < 3 → ¬ (n < all) → n ≢ k
-tree_outside all n k a l d e = d (omega (a, l, e, arith))
+node_outside : (all n k : ℕ) → 3 ≤ all → k < 3 → ¬ (n < all) → n ≢ k
+node_outside all n k a l d e = d (omega (a, l, e, arith))
+
+tree_outside : (lay : Layout) (w : Word) → 3 ≤ all_nodes lay → ¬ IsWord lay w → tree_opening w ≡ 0
+tree_outside lay (Node n (Settled Head)) o d = rw (ne_eqb n.0 0 (node_outside (all_nodes lay) n.0 0 o (omega arith) d), ne_eqb n.0 1 (node_outside (all_nodes lay) n.0 1 o (omega arith) d), ne_eqb n.0 2 (node_outside (all_nodes lay) n.0 2 o (omega arith) d)) refl
+tree_outside lay (Node n (Child Left)) o d = rw (ne_eqb n.0 0 (node_outside (all_nodes lay) n.0 0 o (omega arith) d)) refl
+tree_outside lay (Node n (Child Right)) o d = rw (ne_eqb n.0 0 (node_outside (all_nodes lay) n.0 0 o (omega arith) d)) refl
+tree_outside lay (Scx s State) o d = rw (ne_eqb s.0 0 (λ e. d (omega (e, arith), tt))) refl
+tree_outside lay _ o d = refl
+
+cells_outside : (lay : Layout) (w : Word) → ¬ IsWord lay w → records_opening w ≡ 0
+cells_outside lay (Scx s State) d = rw (ne_eqb s.0 0 (λ e. d (omega (e, arith), tt))) refl
+cells_outside lay _ d = refl
 
 opening_outside : (lay : Layout) (mode : Mode) (w : Word) → opening_nodes mode ≤ all_nodes lay → ¬ IsWord lay w → opening mode w ≡ 0
-opening_outside lay Tree (Node n (Settled Head)) o d = rw (ne_eqb n.0 0 (tree_outside (all_nodes lay) n.0 0 o (omega arith) d), ne_eqb n.0 1 (tree_outside (all_nodes lay) n.0 1 o (omega arith) d), ne_eqb n.0 2 (tree_outside (all_nodes lay) n.0 2 o (omega arith) d)) refl
-opening_outside lay Tree (Node n (Child Left)) o d = rw (ne_eqb n.0 0 (tree_outside (all_nodes lay) n.0 0 o (omega arith) d)) refl
-opening_outside lay Tree (Node n (Child Right)) o d = rw (ne_eqb n.0 0 (tree_outside (all_nodes lay) n.0 0 o (omega arith) d)) refl
-opening_outside lay Tree (Node n (Settled _)) o d = refl
-opening_outside lay Tree (Node n Info) o d = refl
-opening_outside lay Tree (Node n Marked) o d = refl
-opening_outside lay Tree (Scx s State) o d = rw (ne_eqb s.0 0 (λ e. d (omega (e, arith), tt))) refl
-opening_outside lay Tree (Scx s AllFrozen) o d = refl
-opening_outside lay Tree (Scx s Plan) o d = refl
-opening_outside lay Tree (Scx s New) o d = refl
-opening_outside lay Tree (Scx s Old) o d = refl
-opening_outside lay Tree (Scx s (Member j)) o d = refl
-opening_outside lay Tree (Scx s (Seen j)) o d = refl
-opening_outside lay Tree (Scx s Call) o d = refl
-opening_outside lay Records (Node n part) o d = refl
-opening_outside lay Records (Scx s State) o d = rw (ne_eqb s.0 0 (λ e. d (omega (e, arith), tt))) refl
-opening_outside lay Records (Scx s AllFrozen) o d = refl
-opening_outside lay Records (Scx s Plan) o d = refl
-opening_outside lay Records (Scx s New) o d = refl
-opening_outside lay Records (Scx s Old) o d = refl
-opening_outside lay Records (Scx s (Member j)) o d = refl
-opening_outside lay Records (Scx s (Seen j)) o d = refl
-opening_outside lay Records (Scx s Call) o d = refl
+opening_outside lay mode w = elim (is_map mode) as (λ is. cond is 3 9 ≤ all_nodes lay → ¬ IsWord lay w → cond is (tree_opening w) (records_opening w) ≡ 0) [
+  | true ↦ λ o d. tree_outside lay w o d
+  | false ↦ λ o d. cells_outside lay w d
+]
 
 -- and after every lawful history
 pub value_outside : (lay : Layout) (h : History) (w : Word) → Lawful lay h → ¬ IsWord lay w → value h w ≡ 0

@@ -1,14 +1,13 @@
 -- A node of a share that is not taken, and that nothing mentions, is blank.
-use Rattle.std.proofs.Common.{◌≡◌, ℕ, ◌≤◌, inl, inr, refl, ◌∙◌, ne_eqb, arith}
+use Rattle.std.proofs.Common.{◌≡◌, ℕ, ◌≤◌, Bool, true, false, cond, inl, inr, refl, ◌∙◌, ne_eqb, arith}
 use Rattle.arena.specs.declared.layout.Layout.{Layout}
 use Rattle.arena.specs.declared.limits.Mode.{Mode}
-use Rattle.arena.specs.declared.limits.Mode.TheVariants.{Tree, Records}
 use Rattle.arena.specs.declared.word.Side.{Side}
 use Rattle.arena.specs.declared.word.Side.TheVariants.{Left, Right}
 use Rattle.arena.specs.declared.word.NodeWord.{NodeWord}
 use Rattle.arena.specs.declared.word.NodeWord.TheVariants.{Child, Info, Marked}
 use Rattle.arena.specs.declared.word.ScxWord.TheVariants.{AllFrozen, New, Member}
-use Rattle.arena.specs.Layout.{opening_nodes}
+use Rattle.arena.specs.Layout.{is_map, opening_nodes, records_opening, tree_opening}
 use Rattle.arena.specs.Words.{node, scx, info, marked, child, state}
 use Rattle.arena.specs.History.{History, Start, ◌⊳◌, value}
 use Rattle.arena.specs.ScxRecords.{member, plan, side_of, field_index}
@@ -22,16 +21,12 @@ use Rattle.prims.specs.BlankNodes.{IsBlank}
 -- at the start the fields of the nodes that come later are 0
 empty_start : (mode : Mode) (n : ℕ) (side : Side) → opening_nodes mode ≤ n → value (Start mode) (child n side) ≡ 0
 unfolding value
-empty_start Records n side late = opened side
+empty_start mode n side late = of (is_map mode) late side
   where
-    opened : (side : Side) → value (Start Records) (child n side) ≡ 0
-    opened Left = refl
-    opened Right = refl
-empty_start Tree n side late = opened side
-  where
-    opened : (side : Side) → value (Start Tree) (child n side) ≡ 0
-    opened Left = rw (ne_eqb n 0 (λ e. omega arith)) refl
-    opened Right = rw (ne_eqb n 0 (λ e. omega arith)) refl
+    of : (map : Bool) → cond map 3 9 ≤ n → (side : Side) → cond map (tree_opening (child n side)) (records_opening (child n side)) ≡ 0
+    of true late Left = rw (ne_eqb n 0 (λ e. omega (late, e, arith))) refl
+    of true late Right = rw (ne_eqb n 0 (λ e. omega (late, e, arith))) refl
+    of false late side = refl
 
 -- those of a node that is not taken, and that nothing mentions, stay 0
 empty_untaken : (lay : Layout) (h : History) (n : ℕ) (side : Side) → Lawful lay h → opening_nodes lay.mode ≤ n → IsUnmentioned h n → ¬ IsTakenNode h n → value h (child n side) ≡ 0

@@ -1,17 +1,16 @@
 -- What is not filled is 0: a node of a share that is not taken yet holds 0 in all its settled words
 -- and fields.
-use Rattle.std.proofs.Common.{◌≡◌, ℕ, ◌≤◌, inl, refl, ◌∙◌, arith}
+use Rattle.std.proofs.Common.{◌≡◌, ℕ, ◌≤◌, true, false, cond, inl, refl, ◌∙◌, arith}
 use Rattle.std.proofs.lemmas.Bool.{ne_eqb}
 use Rattle.arena.specs.declared.layout.Layout.{Layout}
 use Rattle.arena.specs.declared.limits.Mode.{Mode}
-use Rattle.arena.specs.declared.limits.Mode.TheVariants.{Tree, Records}
 use Rattle.arena.specs.declared.word.Side.TheVariants.{Left, Right}
 use Rattle.arena.specs.declared.word.NodeWord.{NodeWord}
 use Rattle.arena.specs.declared.word.NodeWord.TheVariants.{Settled, Child, Info, Marked}
 use Rattle.arena.specs.declared.word.SettledPart.TheVariants.{Head}
 use Rattle.arena.specs.declared.word.ScxWord.TheVariants.{Member}
 use Rattle.arena.specs.declared.step.Row.{Row}
-use Rattle.arena.specs.Layout.{opening, opening_nodes}
+use Rattle.arena.specs.Layout.{is_map, opening, opening_nodes, tree_opening}
 use Rattle.arena.specs.Share.{Remaining, HasNode}
 use Rattle.arena.specs.Words.{node, scx, child}
 use Rattle.arena.specs.History.{History, Start, ◌⊳◌, value}
@@ -26,13 +25,18 @@ use Rattle.prims.proofs.Shares.{left_own_node}
 
 -- before the first row a node that is not there from the start holds 0
 opens_zero : (mode : Mode) (n : ℕ) (part : NodeWord) → opening_nodes mode ≤ n → IsNodeFill part → opening mode (node n part) ≡ 0
-opens_zero Tree n (Settled Head) late fill = rw (ne_eqb n 0 (λ e. omega (arith, late, e)), ne_eqb n 1 (λ e. omega (arith, late, e)), ne_eqb n 2 (λ e. omega (arith, late, e))) refl
-opens_zero Tree n (Settled _) late fill = refl
-opens_zero Tree n (Child Left) late fill = rw (ne_eqb n 0 (λ e. omega (arith, late, e))) refl
-opens_zero Tree n (Child Right) late fill = rw (ne_eqb n 0 (λ e. omega (arith, late, e))) refl
-opens_zero Tree n Info late fill = absurd fill
-opens_zero Tree n Marked late fill = absurd fill
-opens_zero Records n part late fill = refl
+opens_zero mode n part = elim (is_map mode) as (λ is. cond is 3 9 ≤ n → IsNodeFill part → cond is (tree_opening (node n part)) 0 ≡ 0) [
+  | true ↦ zero_in_map part
+  | false ↦ λ late fill. refl
+]
+  where
+    zero_in_map : (part : NodeWord) → 3 ≤ n → IsNodeFill part → tree_opening (node n part) ≡ 0
+    zero_in_map (Settled Head) late fill = rw (ne_eqb n 0 (λ e. omega (arith, late, e)), ne_eqb n 1 (λ e. omega (arith, late, e)), ne_eqb n 2 (λ e. omega (arith, late, e))) refl
+    zero_in_map (Settled _) late fill = refl
+    zero_in_map (Child Left) late fill = rw (ne_eqb n 0 (λ e. omega (arith, late, e))) refl
+    zero_in_map (Child Right) late fill = rw (ne_eqb n 0 (λ e. omega (arith, late, e))) refl
+    zero_in_map Info late fill = absurd fill
+    zero_in_map Marked late fill = absurd fill
 
 -- what nothing mentions now nothing has mentioned before
 unmentioned_before : (h : History) (r : Row) (n : ℕ) → IsUnmentioned (r ⊳ h) n → IsUnmentioned h n
