@@ -44,7 +44,7 @@ impl Places {
     ghost use Rattle.ordered_map.specs.declared.pair.Pair.{Pair};
     ghost use Rattle.ordered_map.specs.OrderedMap.{MapCall, first_pair, get, reply as replies_on};
     ghost use Rattle.ordered_map.specs.Replies.{number_reply};
-    ghost use Rattle.linearization.specs.Ordered.{IsOrderedRead, FallFrom, Tells};
+    ghost use Rattle.linearization.specs.Ordered.{IsOrderedRead, FallFrom, AreReadPairs};
     ghost use Rattle.linearization.specs.declared.places.Place.{Place};
     ghost use Rattle.linearization.specs.Places.{changes, room_for_changes, Knows, HoldsOfKey};
     ghost use Rattle.linearization.specs.Entries.{AreEntries, HadWithin, HadFirstWithin};
@@ -173,9 +173,9 @@ impl Places {
     /// keys between which the read looks alone, and no further than the read answers.
     pub fn tells(&self, command: &Command, pairs: &[(u64, u128)], turn: u64) -> bool
         ensures told { (calls : List Call) (lines : List Line) → AreEntries calls lines (changes self.now) → IsTrue result →
-            Tells command.now (number_pairs pairs.now) (map_at calls lines turn) }
+            AreReadPairs command.now (number_pairs pairs.now) (map_at calls lines turn) }
         ensures other { (calls : List Call) (lines : List Line) → AreEntries calls lines (changes self.now) → result ≡ false →
-            ¬ Tells command.now (number_pairs pairs.now) (map_at calls lines turn) }
+            ¬ AreReadPairs command.now (number_pairs pairs.now) (map_at calls lines turn) }
     {
         let mut untold = most_told(command);
         let mut rest = pairs;
@@ -244,8 +244,8 @@ impl Places {
             (result ≤ last) }
         ensures greatest { (calls : List Call) (lines : List Line) (n : ℕ) → AreEntries calls lines (changes self.now) →
             FallFrom (suc last) (changes self.now) → first ≤ n → n ≤ last →
-            Tells command.now (number_pairs pairs.now) (map_at calls lines n) → IsGreatestTurn
-            (λ m. Tells command.now (number_pairs pairs.now) (map_at calls lines m)) first last result }
+            AreReadPairs command.now (number_pairs pairs.now) (map_at calls lines n) → IsGreatestTurn
+            (λ m. AreReadPairs command.now (number_pairs pairs.now) (map_at calls lines m)) first last result }
     {
         let mut best = last;
         let mut more = 0;
