@@ -1,5 +1,7 @@
 //! The steps of HELP.
-ghost use Rattle.std.specs.Prelude.{◌≡◌, ℕ, ◌+◌, ◌<◌, ◌≤◌, IfSome};
+ghost use Rattle.std.specs.Prelude.{◌≡◌, ℕ, ◌+◌, ◌<◌, ◌≤◌, IfSome, ◌-◌, true, false, ◌⊎◌, MatchOption};
+ghost use Rattle.help.specs.Help.Known.{HelpAsks, HasNext, IsLast, MarksNext, MarksNone, node_at, first_place, HelpIsReady, HelpWaits, HelpAnswers};
+ghost use Rattle.help.specs.Help.Steps.{help_left};
 
 use crate::state::{HelpAt, HelpRun};
 use arena::{
@@ -8,11 +10,8 @@ use arena::{
 };
 
 impl HelpRun {
-    ghost use Rattle.std.specs.Prelude.{◌≡◌, ◌<◌, ◌≤◌, ◌+◌, ◌-◌, true, false, ◌⊎◌, MatchOption};
     ghost use Rattle.arena.specs.ScxRecords.{raw_count, plan_finalizes, field_index_of, side_of};
     ghost use Rattle.arena.specs.MemberIndex.{member_index};
-    ghost use Rattle.help.specs.Help.Known.{HelpAsks, HasNext, IsLast, MarksNext, MarksNone, node_at, first_place};
-    ghost use Rattle.help.specs.Help.Steps.{help_left};
 
     /// Asks for a step, and is at its place.
     fn ask(&mut self, at: HelpAt, kind: Kind, word: Word, access: Access) -> Turn<bool>
@@ -122,10 +121,6 @@ impl HelpRun {
 
 impl<S: Shape> Machine<S> for HelpRun {
     type Answer = bool;
-
-    ghost use Rattle.std.specs.Prelude.{◌≡◌, ℕ};
-    ghost use Rattle.help.specs.Help.Steps.{help_left};
-    ghost use Rattle.help.specs.Help.Known.{HelpIsReady, HelpWaits, HelpAnswers};
 
     ghost ready = { λ m c. HelpIsReady S.allows c.layout c.pass m };
 

@@ -51,7 +51,6 @@ pub struct HelpRun {
 }
 
 impl HelpRun {
-    ghost use Rattle.std.specs.Prelude.{◌≡◌, ◌≤◌};
     ghost use Rattle.help.specs.Help.Steps.{help_left};
     ghost use Rattle.help.specs.Help.Known.{blocked_at};
     ghost use Rattle.help.specs.declared.state.HelpAt.TheVariants.{Start};

@@ -16,12 +16,9 @@ pub(crate) struct Entering {
 }
 
 impl Entering {
-    ghost use Rattle.std.specs.Prelude.{◌≡◌, ◌+◌, ◌<◌, ℕ, IfOk, if◌then◌else◌, true, false, length, slice_index_or, slice_set};
     ghost use Rattle.arena.specs.History.{Start};
     ghost use Rattle.arena.specs.Layout.{all_nodes, IsWord};
-    ghost use Rattle.arena.specs.ScxRecords.{count_of, plan_finalizes};
     ghost use Rattle.judge.specs.Graph.{has_flag};
-    ghost use Rattle.judge.specs.Enters.{makes_entry};
     ghost use Rattle.judge.specs.Entering.{EnteringStands, MayEnter, last_after, finals_after, plan_in, holder_in};
 
     /// No entry yet. The only error is want of memory.
@@ -127,8 +124,8 @@ impl Entering {
     }
 }
 
-ghost use Rattle.std.specs.Prelude.{◌≡◌, ◌<◌};
-ghost use Rattle.arena.specs.ScxRecords.{plan_finalizes};
+ghost use Rattle.std.specs.Prelude.{◌≡◌, ◌+◌, ◌<◌, ℕ, IfOk, if◌then◌else◌, true, false, length, slice_index_or, slice_set};
+ghost use Rattle.arena.specs.ScxRecords.{count_of, plan_finalizes};
 ghost use Rattle.judge.specs.Enters.{makes_entry};
 
 /// Whether a row makes an entry: it is an update that changes its field.

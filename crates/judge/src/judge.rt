@@ -43,7 +43,6 @@ impl Model for Judge {
 }
 
 impl Judge {
-    ghost use Rattle.std.specs.Prelude.{◌≡◌, ◌≢◌, ℕ, ◌+◌, ◌<◌, ◌≤◌, ◌∷◌, ◌↔◌, false, IsTrue, IfOk, IfSome, IfNone, OnOk, OnErr, length};
     ghost use Rattle.arena.specs.declared.word.Side.{Side};
     ghost use Rattle.arena.specs.Blame.{IsInProgress};
     ghost use Rattle.arena.specs.Fills.{IsOwnNode, IsOwnScx, IsNamed, IsNamedScx, IsTakenNode, IsTakenScx};
@@ -249,7 +248,7 @@ impl Judge {
     }
 }
 
-ghost use Rattle.std.specs.Prelude.{◌≡◌, ◌<◌, length};
+ghost use Rattle.std.specs.Prelude.{◌≡◌, ◌≢◌, ℕ, ◌+◌, ◌<◌, ◌≤◌, ◌∷◌, ◌↔◌, false, IsTrue, IfOk, IfSome, IfNone, OnOk, OnErr, length};
 ghost use Rattle.arena.specs.declared.step.Access.TheVariants.{Store};
 
 /// The step that leaves what a row has left in its word.

@@ -18,9 +18,7 @@ pub(crate) struct Uses {
 }
 
 impl Uses {
-    ghost use Rattle.std.specs.Prelude.{◌≡◌, ◌<◌, true, false, IfOk, length, slice_index_or, slice_set};
     ghost use Rattle.arena.specs.History.{Start};
-    ghost use Rattle.judge.specs.Uses.{UsesStand, has_other, users_of, with_user, fields_after, users_after};
 
     /// What the opening words hold. The only error is want of memory.
     pub(crate) fn new(alloc: Global, layout: &Layout) -> Result<Uses, NoMemory>
@@ -88,8 +86,8 @@ impl Uses {
     }
 }
 
-ghost use Rattle.std.specs.Prelude.{◌≡◌};
-ghost use Rattle.judge.specs.Uses.{with_user, held_nodes};
+ghost use Rattle.std.specs.Prelude.{◌≡◌, ◌<◌, true, false, IfOk, length, slice_index_or, slice_set};
+ghost use Rattle.judge.specs.Uses.{UsesStand, has_other, users_of, with_user, fields_after, users_after, held_nodes};
 
 /// How many nodes fields hold at the start: the first ones.
 fn held_at_start(mode: Mode) -> usize

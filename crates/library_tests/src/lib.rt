@@ -13,16 +13,10 @@ mod gate_tests;
 #[cfg(test)]
 mod judge_tests;
 #[cfg(test)]
-mod least_tests;
-#[cfg(test)]
 mod length_tests;
-#[cfg(test)]
-mod memory_tests;
 #[cfg(test)]
 mod same;
 #[cfg(test)]
 mod spelling_tests;
 #[cfg(test)]
 mod stream_tests;
-#[cfg(test)]
-mod version_tests;

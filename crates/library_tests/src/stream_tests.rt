@@ -28,49 +28,6 @@ const REPORT_OF_GET: &str = "\
     reply,0,0,1,3,3,none\n\
     end,3,1,0,,,\n";
 
-const SET: &str = "limits,2,10,10,1\n0,set,1,left,70\n1,llx,1,,\nend,2,,,\n";
-
-/// The report of a set, and then another client's snapshot of the cell.
-const REPORT_OF_SET: &str = "\
-    report,2,records,,,,\n\
-    limits,2,10,10,1,,\n\
-    call,0,0,set,1,left,70\n\
-    call,1,0,llx,1,,\n\
-    step,1,0,marked,n1.marked,0,0\n\
-    step,2,0,info,n1.info,0,0\n\
-    step,3,0,state,s0.state,2,2\n\
-    step,4,0,marked,n1.marked,0,0\n\
-    step,5,0,child,n1.left,0,0\n\
-    step,6,0,child,n1.right,0,0\n\
-    step,7,0,info,n1.info,0,0\n\
-    step,8,0,fill,n9.value,0,70\n\
-    step,9,0,fill,s1.plan,0,1\n\
-    step,10,0,fill,s1.new,0,9\n\
-    step,11,0,fill,s1.old,0,0\n\
-    step,12,0,fill,s1.v0,0,1\n\
-    step,13,0,fill,s1.i0,0,0\n\
-    step,14,0,fill,s1.call,0,0\n\
-    step,15,0,settled,s1.plan,1,1\n\
-    step,16,0,settled,s1.v0,1,1\n\
-    step,17,0,settled,s1.i0,0,0\n\
-    step,18,0,freeze,n1.info,0,1\n\
-    step,19,0,frozen,s1.allfrozen,0,1\n\
-    step,20,0,settled,s1.new,9,9\n\
-    step,21,0,settled,s1.old,0,0\n\
-    step,22,0,update,n1.left,0,9\n\
-    log,1,22,s1,0,0,\n\
-    step,23,0,commit,s1.state,0,1\n\
-    reply,0,0,1,23,22,done\n\
-    step,24,1,marked,n1.marked,0,0\n\
-    step,25,1,info,n1.info,1,1\n\
-    step,26,1,state,s1.state,1,1\n\
-    step,27,1,marked,n1.marked,0,0\n\
-    step,28,1,child,n1.left,9,9\n\
-    step,29,1,child,n1.right,0,0\n\
-    step,30,1,info,n1.info,1,1\n\
-    reply,1,0,24,30,30,snap 9 0\n\
-    end,30,2,1,,,\n";
-
 /// Updates and a validation, two of them of cells without a snapshot.
 const UNLINKED: &str = "\
     limits,1,10,10,1\n\
@@ -235,28 +192,12 @@ fn fails_at_each_byte(
 #[test]
 fn a_cut_report_is_a_beginning_of_it(rt: HostRuntime) -> Result<(), Fail> {
     fails_at_each_byte(&rt, rt.alloc(), Mode::Tree, (GET, REPORT_OF_GET))?;
-    fails_at_each_byte(&rt, rt.alloc(), Mode::Records, (SET, REPORT_OF_SET))?;
     fails_at_each_byte(
         &rt,
         rt.alloc(),
         Mode::Records,
         (UNLINKED, REPORT_OF_UNLINKED),
     )
-}
-
-#[test]
-fn a_stream_whose_turn_was_not_written_has_ended(rt: HostRuntime) -> Result<(), Fail> {
-    let script = read_script(rt.alloc(), Mode::Tree, &mut Metered::new(GET.as_bytes()))?;
-    let mut to = Metered::new(FailAt::new(Vec::new(rt.alloc()), 54));
-    let mut stream = Stream::new(rt.alloc(), &script, &mut to)?;
-    assert!(rt; script.layout.passes > 0);
-    let first = turn(&rt, &mut stream, PassNo(0), &mut to).err();
-    let second = turn(&rt, &mut stream, PassNo(0), &mut to).err();
-    assert_eq!(rt; first, Some(StreamFault::Write));
-    assert_eq!(rt; second, Some(StreamFault::Ended));
-    let beginning = "report,2,tree,,,,\nlimits,1,10,10,3,,\ncall,0,0,get,0,,\n";
-    assert_eq!(rt; to.inner.inner.as_slice(), beginning.as_bytes());
-    Ok(())
 }
 
 /// Keeps how much was written as it was flushed last.

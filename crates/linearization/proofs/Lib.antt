@@ -4,7 +4,7 @@ mod Counts
 mod Told
 mod Weights
 mod OrderedReads
-mod Tells
+mod ReadPairs
 mod Falls
 mod Keys
 mod Turns

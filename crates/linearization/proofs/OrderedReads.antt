@@ -16,7 +16,7 @@ use Rattle.record.specs.Placed.{IsGreatestTurn}
 use Rattle.linearization.specs.declared.places.Change.{Change}
 use Rattle.linearization.specs.declared.places.Place.{Place}
 use Rattle.linearization.specs.Entries.{AreEntries}
-use Rattle.linearization.specs.Ordered.{FallFrom, IsOrderedRead, Tells, is_from, is_unlike, pairs_in, pairs_read}
+use Rattle.linearization.specs.Ordered.{FallFrom, IsOrderedRead, AreReadPairs, is_from, is_unlike, pairs_in, pairs_read}
 use Rattle.linearization.proofs.Values.{value_at, value_is, values}
 use Rattle.linearization.proofs.Counts.{count_nothing, nothing_counted}
 use Rattle.linearization.proofs.Chains.{changes_of}
@@ -110,7 +110,7 @@ last_alone p (q ∷ s ∷ ps) r e =
     rw (lt-leb p.key q.key low) (last_alone p (s ∷ ps) r.1 last)
 
 -- so what answers the last pair answers just that
-last_tells : (told m : List Pair) → IsRising m → Tells (Map PopLastOf) told m ↔ (pairs_in (Some (pair_or_none (last_pair m))) ≡ told)
+last_tells : (told m : List Pair) → IsRising m → AreReadPairs (Map PopLastOf) told m ↔ (pairs_in (Some (pair_or_none (last_pair m))) ≡ told)
 last_tells [] [] r = (λ e. refl, λ e. refl)
 last_tells [] (p ∷ ps) r = (λ e. absurd (some e), λ e. absurd (let z : unwrap_or (last_pair ps) p ∷ [] ≡ [] = e in cc))
   where
@@ -134,24 +134,24 @@ last_tells (p ∷ q ∷ ps) m r = (λ e. absurd (none m e), λ e. absurd (two (l
     two None e = let z : [] ≡ p ∷ q ∷ ps = e in cc
     two (Some x) e = let z : x ∷ [] ≡ p ∷ q ∷ ps = e in cc
 
-by_same : (told m : List Pair) (command : Command) (call : MapCall) → pairs_in (Some (reply call m)) ≡ pairs_read command told m → Tells command told m ↔ (pairs_in (Some (reply call m)) ≡ told)
+by_same : (told m : List Pair) (command : Command) (call : MapCall) → pairs_in (Some (reply call m)) ≡ pairs_read command told m → AreReadPairs command told m ↔ (pairs_in (Some (reply call m)) ≡ told)
 by_same told m command call e = (λ x. e ∙ x, λ x. sym e ∙ x)
 
 -- the reply to an ordered read has just the pairs that it answers
-pub reply_tells : (command : Command) (call : MapCall) (told m : List Pair) → IsOrderedRead command → map_call (Some command) ≡ Some call → IsRising m → Tells command told m ↔ (pairs_in (Some (reply call m)) ≡ told)
+pub reply_tells : (command : Command) (call : MapCall) (told m : List Pair) → IsOrderedRead command → map_call (Some command) ≡ Some call → IsRising m → AreReadPairs command told m ↔ (pairs_in (Some (reply call m)) ≡ told)
 reply_tells (Map PopOf) call told m ordered is rises =
     let same : call_pop_first ≡ call = cc in
     by_same told m (Map PopOf) call (ap (λ (c : MapCall). pairs_in (Some (reply c m))) (sym same) ∙ one_pair m ∙ ap (take 1) (filter_all m))
 reply_tells (Map PopLastOf) call told m ordered is rises =
     let same : call_pop_last ≡ call = cc in
-    subst (λ (c : MapCall). Tells (Map PopLastOf) told m ↔ (pairs_in (Some (reply c m)) ≡ told)) same (last_tells told m rises)
+    subst (λ (c : MapCall). AreReadPairs (Map PopLastOf) told m ↔ (pairs_in (Some (reply c m)) ≡ told)) same (last_tells told m rises)
 reply_tells (Map (SuccessorOf k)) call told m ordered is rises =
     let same : call_successor k ≡ call = cc in
     by_same told m (Map (SuccessorOf k)) call (ap (λ (c : MapCall). pairs_in (Some (reply c m))) (sym same) ∙ ap (λ (f : Option Pair). pairs_in (Some (pair_or_none f))) (successor_first k m) ∙ one_pair (filter (λ (p : Pair). ltb k p.key) m))
 reply_tells (Map (PredecessorOf k)) call told m ordered is rises =
     let same : call_predecessor k ≡ call = cc in
     let below : List Pair = filter (λ (p : Pair). ltb p.key k) m in
-    let tells : Tells (Map PopLastOf) told below ↔ (pairs_in (Some (pair_or_none (last_pair below))) ≡ told) = last_tells told below (filter_rises (λ j. ltb j k) m rises) in
+    let tells : AreReadPairs (Map PopLastOf) told below ↔ (pairs_in (Some (pair_or_none (last_pair below))) ≡ told) = last_tells told below (filter_rises (λ j. ltb j k) m rises) in
     let both : pairs_read (Map (PredecessorOf k)) told m ≡ pairs_read (Map PopLastOf) told below = ap (take 2) (filter_both (λ j. ltb j k) (is_from told) m) in
     let gives : pairs_in (Some (reply call m)) ≡ pairs_in (Some (pair_or_none (last_pair below))) = ap (λ (c : MapCall). pairs_in (Some (reply c m))) (sym same) ∙ ap (λ (f : Option Pair). pairs_in (Some (pair_or_none f))) (predecessor_last k m) in
     (λ e. gives ∙ tells.0 (sym both ∙ e), λ e. both ∙ tells.1 (sym gives ∙ e))
@@ -190,11 +190,11 @@ module _ (command : Command) (pairs : List Pair) (all : List Place) (calls : Lis
   unlike_now j m = ap (is_unlike command pairs j) (value_is calls (written_log lines) (changes_of all) j m are)
 
   -- if the pairs are answered no key is unlike them
-  weightless : (m : ℕ) → Tells command pairs (map_at calls lines m) → weight_at (is_unlike command pairs) (key_bound (changes_of all)) (changes_of all) m ≡ 0
+  weightless : (m : ℕ) → AreReadPairs command pairs (map_at calls lines m) → weight_at (is_unlike command pairs) (key_bound (changes_of all)) (changes_of all) m ≡ 0
   weightless m told = count_nothing (key_bound (changes_of all)) (λ j. is_unlike command pairs j (value_at j m (changes_of all))) (λ j. sym (unlike_now j m) ∙ told_like command pairs (map_at calls lines m) (rises m) told j)
 
   -- and if no key is they are answered, if they are answered at all
-  told_there : (n m : ℕ) → Tells command pairs (map_at calls lines n) → weight_at (is_unlike command pairs) (key_bound (changes_of all)) (changes_of all) m ≡ 0 → Tells command pairs (map_at calls lines m)
+  told_there : (n m : ℕ) → AreReadPairs command pairs (map_at calls lines n) → weight_at (is_unlike command pairs) (key_bound (changes_of all)) (changes_of all) m ≡ 0 → AreReadPairs command pairs (map_at calls lines m)
   told_there n m told none = like_told command pairs (map_at calls lines m) (map_at calls lines n) (rises m) (rises n) told like
     where
       like : (j : ℕ) → is_unlike command pairs j (get j (map_at calls lines m)) ≡ false
@@ -203,7 +203,7 @@ module _ (command : Command) (pairs : List Pair) (all : List Place) (calls : Lis
         | inr q ↦ unlike_now j m ∙ ap (is_unlike command pairs j) (value_beyond j m (changes_of all) q ∙ sym (value_beyond j n (changes_of all) q)) ∙ sym (unlike_now j n) ∙ told_like command pairs (map_at calls lines n) (rises n) told j
       ]
 
-  pub best_told : (first last best more n : ℕ) (rest : List Place) → IsWeighed (is_unlike command pairs) (key_bound (changes_of all)) first last best more all rest → FallFrom (suc first) (changes_of rest) → first ≤ n → n ≤ last → Tells command pairs (map_at calls lines n) → IsGreatestTurn (λ m. Tells command pairs (map_at calls lines m)) first last best
+  pub best_told : (first last best more n : ℕ) (rest : List Place) → IsWeighed (is_unlike command pairs) (key_bound (changes_of all)) first last best more all rest → FallFrom (suc first) (changes_of rest) → first ≤ n → n ≤ last → AreReadPairs command pairs (map_at calls lines n) → IsGreatestTurn (λ m. AreReadPairs command pairs (map_at calls lines m)) first last best
   best_told first last best more n rest x falls from to told = record {
     from = let f = x.from in let t = x.to in omega (f, t, arith);
     to = x.within;
@@ -217,7 +217,7 @@ module _ (command : Command) (pairs : List Pair) (all : List Place) (calls : Lis
 -- In the words of a reply
 
 -- what is found of the pairs that a reply has is found of the reply
-pub found_reply : (command : Command) (call : MapCall) (told : Option MapReply) (calls : List Call) (lines : List Line) (n first last m : ℕ) → ((j : ℕ) → IsRising (map_at calls lines j)) → IsOrderedRead command → map_call (Some command) ≡ Some call → told ≡ Some (reply call (map_at calls lines n)) → (Tells command (pairs_in told) (map_at calls lines n) → IsGreatestTurn (λ j. Tells command (pairs_in told) (map_at calls lines j)) first last m) → IsGreatestTurn (λ j. told ≡ Some (reply call (map_at calls lines j))) first last m
+pub found_reply : (command : Command) (call : MapCall) (told : Option MapReply) (calls : List Call) (lines : List Line) (n first last m : ℕ) → ((j : ℕ) → IsRising (map_at calls lines j)) → IsOrderedRead command → map_call (Some command) ≡ Some call → told ≡ Some (reply call (map_at calls lines n)) → (AreReadPairs command (pairs_in told) (map_at calls lines n) → IsGreatestTurn (λ j. AreReadPairs command (pairs_in told) (map_at calls lines j)) first last m) → IsGreatestTurn (λ j. told ≡ Some (reply call (map_at calls lines j))) first last m
 found_reply command call told calls lines n first last m rises ordered is says found =
     let x = found (has n says) in
     record {
@@ -227,8 +227,8 @@ found_reply command call told calls lines n first last m rises ordered is says f
       none_later = λ j i l e. x.none_later j i l (has j e);
     }
   where
-    tells : (j : ℕ) → Tells command (pairs_in told) (map_at calls lines j) ↔ (pairs_in (Some (reply call (map_at calls lines j))) ≡ pairs_in told)
+    tells : (j : ℕ) → AreReadPairs command (pairs_in told) (map_at calls lines j) ↔ (pairs_in (Some (reply call (map_at calls lines j))) ≡ pairs_in told)
     tells j = reply_tells command call (pairs_in told) (map_at calls lines j) ordered is (rises j)
 
-    has : (j : ℕ) → told ≡ Some (reply call (map_at calls lines j)) → Tells command (pairs_in told) (map_at calls lines j)
+    has : (j : ℕ) → told ≡ Some (reply call (map_at calls lines j)) → AreReadPairs command (pairs_in told) (map_at calls lines j)
     has j e = (tells j).1 (ap pairs_in (sym e))

@@ -7,7 +7,7 @@ use Rattle.ordered_map.specs.declared.pair.Pair.{Pair}
 use Rattle.ordered_map.specs.OrderedMap.{get, AllAbove, IsRising}
 use Rattle.ordered_map.proofs.Lemmas.{get_above}
 use Rattle.script.specs.declared.command.Command.{Command}
-use Rattle.linearization.specs.Ordered.{looks_for, most_told, Tells, reaches, is_unlike}
+use Rattle.linearization.specs.Ordered.{looks_for, most_told, AreReadPairs, reaches, is_unlike}
 use Rattle.linearization.proofs.Chains.{values_same}
 
 -- Lists of pairs by rising key
@@ -129,7 +129,7 @@ same_option None (Some y) e = absurd (cc)
 same_option (Some x) None e = absurd (cc)
 
 -- on a map on which it answers these pairs no key is unlike them
-pub told_like : (command : Command) (pairs m : List Pair) → IsRising m → Tells command pairs m → (j : ℕ) → is_unlike command pairs j (get j m) ≡ false
+pub told_like : (command : Command) (pairs m : List Pair) → IsRising m → AreReadPairs command pairs m → (j : ℕ) → is_unlike command pairs j (get j m) ≡ false
 told_like command pairs m r told j = go (looks_for command pairs j) refl (reaches (most_told command) pairs j) refl
   where
     sought : List Pair
@@ -144,7 +144,7 @@ told_like command pairs m r told j = go (looks_for command pairs j) refl (reache
         rw (same_option (get j pairs) (get j m) (ap (get j) (sym told) ∙ sym gives ∙ have)) refl
 
 -- and on another one without a key unlike them it answers these
-pub like_told : (command : Command) (pairs m old : List Pair) → IsRising m → IsRising old → Tells command pairs old → ((j : ℕ) → is_unlike command pairs j (get j m) ≡ false) → Tells command pairs m
+pub like_told : (command : Command) (pairs m old : List Pair) → IsRising m → IsRising old → AreReadPairs command pairs old → ((j : ℕ) → is_unlike command pairs j (get j m) ≡ false) → AreReadPairs command pairs m
 like_told command pairs m old r s told like = take_same (most_told command) sought before (filter_rises (looks_for command pairs) m r) (filter_rises (looks_for command pairs) old s) agree ∙ told
   where
     sought : List Pair

@@ -49,8 +49,8 @@ abbrev pub pairs_read : Command → List Pair → List Pair → List Pair
 pairs_read command told m = take (most_told command) (filter (λ p. looks_for command told p.key) m)
 
 -- of the map m it answers just these pairs
-abbrev pub Tells : Command → List Pair → List Pair → Type 0
-Tells command told m = pairs_read command told m ≡ told
+abbrev pub AreReadPairs : Command → List Pair → List Pair → Type 0
+AreReadPairs command told m = pairs_read command told m ≡ told
 
 -- the pairs that a reply has
 abbrev pub pairs_in : Option MapReply → List Pair

@@ -1,8 +1,9 @@
 //! The changes of a run's map, each with the one of its key before it.
-ghost use Rattle.std.specs.Prelude.{◌≡◌, ℕ, None, reverse, unwrap_or};
+ghost use Rattle.std.specs.Prelude.{◌≡◌, ℕ, None, reverse, unwrap_or, ◌≢◌, suc, ◌+◌, ◌≤◌, false, List, [], ◌∷◌, ◌++◌, Some, map, IfOk, IfSome, IfNone, IsTrue, OnOk, All};
 ghost use Rattle.std.specs.Ordering.{nat_cmp};
 ghost use Rattle.std.specs.BTreeMap.{get as get_newest};
-ghost use Rattle.linearization.specs.Links.{latest, AreLinkedByKey};
+ghost use Rattle.linearization.specs.Links.{latest, AreLinkedByKey, newest_value};
+ghost use Rattle.record.specs.MapRecord.{map_at, map_call, number_pairs};
 
 use crate::changed::changed_key;
 use crate::ordered::{behind, bounds, is_unlike, most_told, next_best, pairs_told};
@@ -37,17 +38,13 @@ pub struct Places {
 }
 
 impl Places {
-    ghost use Rattle.std.specs.Prelude.{◌≡◌, ◌≢◌, ℕ, suc, ◌+◌, ◌≤◌, false, List, [], ◌∷◌, ◌++◌, Some, None, map, reverse, IfOk, IfSome, IfNone, IsTrue, OnOk, All};
     ghost use Rattle.script.specs.declared.call.Call.{Call};
     ghost use Rattle.record.specs.declared.record.Line.{Line};
-    ghost use Rattle.record.specs.MapRecord.{map_at};
     ghost use Rattle.record.specs.Placed.{IsGreatestTurn};
     ghost use Rattle.ordered_map.specs.declared.pair.Pair.{Pair};
     ghost use Rattle.ordered_map.specs.OrderedMap.{MapCall, first_pair, get, reply as replies_on};
-    ghost use Rattle.record.specs.MapRecord.{map_call, number_pairs};
     ghost use Rattle.ordered_map.specs.Replies.{number_reply};
-    ghost use Rattle.linearization.specs.Ordered.{IsOrderedRead, FallFrom, Tells};
-    ghost use Rattle.linearization.specs.Links.{newest_value};
+    ghost use Rattle.linearization.specs.Ordered.{IsOrderedRead, FallFrom, AreReadPairs};
     ghost use Rattle.linearization.specs.declared.places.Place.{Place};
     ghost use Rattle.linearization.specs.Places.{changes, room_for_changes, Knows, HoldsOfKey};
     ghost use Rattle.linearization.specs.Entries.{AreEntries, HadWithin, HadFirstWithin};
@@ -176,9 +173,9 @@ impl Places {
     /// keys between which the read looks alone, and no further than the read answers.
     pub fn tells(&self, command: &Command, pairs: &[(u64, u128)], turn: u64) -> bool
         ensures told { (calls : List Call) (lines : List Line) → AreEntries calls lines (changes self.now) → IsTrue result →
-            Tells command.now (number_pairs pairs.now) (map_at calls lines turn) }
+            AreReadPairs command.now (number_pairs pairs.now) (map_at calls lines turn) }
         ensures other { (calls : List Call) (lines : List Line) → AreEntries calls lines (changes self.now) → result ≡ false →
-            ¬ Tells command.now (number_pairs pairs.now) (map_at calls lines turn) }
+            ¬ AreReadPairs command.now (number_pairs pairs.now) (map_at calls lines turn) }
     {
         let mut untold = most_told(command);
         let mut rest = pairs;
@@ -247,8 +244,8 @@ impl Places {
             (result ≤ last) }
         ensures greatest { (calls : List Call) (lines : List Line) (n : ℕ) → AreEntries calls lines (changes self.now) →
             FallFrom (suc last) (changes self.now) → first ≤ n → n ≤ last →
-            Tells command.now (number_pairs pairs.now) (map_at calls lines n) → IsGreatestTurn
-            (λ m. Tells command.now (number_pairs pairs.now) (map_at calls lines m)) first last result }
+            AreReadPairs command.now (number_pairs pairs.now) (map_at calls lines n) → IsGreatestTurn
+            (λ m. AreReadPairs command.now (number_pairs pairs.now) (map_at calls lines m)) first last result }
     {
         let mut best = last;
         let mut more = 0;

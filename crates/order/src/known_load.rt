@@ -11,6 +11,7 @@ ghost use Rattle.order.specs.Next.{MayLoad};
 ghost use Rattle.order.specs.Paths.{LoadFits, load_left};
 ghost use Rattle.order.specs.Places.{GoesOn, RunComesNearer};
 ghost use Rattle.order.specs.declared.load.ReadLoad.{ReadLoad};
+ghost use Rattle.order.specs.declared.load.ReadLoad.TheVariants.{Head, Key, More, Pair, Value, High};
 
 use crate::load::{LeafPlace, ReadLoad};
 use crate::read::{Read, ReadNext};
@@ -52,8 +53,6 @@ pub struct HeadLoad {
 }
 
 impl<R: Read + Drop> KnownLoad<R> for HeadLoad {
-    ghost use Rattle.order.specs.declared.load.ReadLoad.TheVariants.{Head};
-
     ghost load = { λ l. Head l.above l.node };
 
     #[inline(always)]
@@ -75,8 +74,6 @@ pub struct KeyLoad {
 }
 
 impl<R: Read + Drop> KnownLoad<R> for KeyLoad {
-    ghost use Rattle.order.specs.declared.load.ReadLoad.TheVariants.{Key};
-
     ghost load = { λ l. Key l.level l.node };
 
     #[inline(always)]
@@ -97,8 +94,6 @@ pub struct MoreLoad {
 }
 
 impl<R: Read + Drop> KnownLoad<R> for MoreLoad {
-    ghost use Rattle.order.specs.declared.load.ReadLoad.TheVariants.{More};
-
     ghost load = { λ l. More l.node };
 
     #[inline(always)]
@@ -121,8 +116,6 @@ pub struct PairLoad {
 }
 
 impl<R: Read + Drop> KnownLoad<R> for PairLoad {
-    ghost use Rattle.order.specs.declared.load.ReadLoad.TheVariants.{Pair};
-
     ghost load = { λ l. Pair l.place };
 
     #[inline(always)]
@@ -145,8 +138,6 @@ pub struct ValueLoad {
 }
 
 impl<R: Read + Drop> KnownLoad<R> for ValueLoad {
-    ghost use Rattle.order.specs.declared.load.ReadLoad.TheVariants.{Value};
-
     ghost load = { λ l. Value l.place l.key };
 
     #[inline(always)]
@@ -171,8 +162,6 @@ pub struct HighLoad {
 }
 
 impl<R: Read + Drop> KnownLoad<R> for HighLoad {
-    ghost use Rattle.order.specs.declared.load.ReadLoad.TheVariants.{High};
-
     ghost load = { λ l. High l.place l.key l.low };
 
     #[inline(always)]

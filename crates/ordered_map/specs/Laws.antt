@@ -1,11 +1,19 @@
 -- What the laws say of a history of the tree, in the map's own terms.
-use Rattle.std.specs.Prelude.{ℕ}
+use Rattle.std.specs.Prelude.{◌≡◌, ◌+◌, ◌<◌, ◌^◌, ◌⊎◌, ℕ, true, false, length, List}
+use Rattle.arena.specs.declared.limits.Mode.TheVariants.{Tree as TreeMode}
 use Rattle.arena.specs.declared.layout.Layout.{Layout}
-use Rattle.arena.specs.History.{History, value, Extends}
-use Rattle.arena.specs.Log.{log, IsEntered}
+use Rattle.arena.specs.declared.step.Row.{Row}
+use Rattle.arena.specs.declared.word.Word.{Word}
+use Rattle.arena.specs.History.{History, ◌⊳◌, value, Extends}
+use Rattle.arena.specs.Lawful.{IsWin}
+use Rattle.arena.specs.Log.{log, IsEntered, is_final}
+use Rattle.arena.specs.TakenNodes.{taken_nodes}
+use Rattle.ordered_map.specs.declared.pair.Pair.{Pair}
 use Rattle.ordered_map.specs.OrderedMap.{MapEdit}
-use Rattle.ordered_map.specs.Spelled.{Spells}
-use Rattle.ordered_map.specs.Runs.{Makes, map_of_log}
+use Rattle.ordered_map.specs.TreeWords.{Tree, Has, is_leaf, level, said, IsBlankAboveKeys}
+use Rattle.ordered_map.specs.Spelled.{IsTree, Spells}
+use Rattle.ordered_map.specs.Paths.{Passed, WasInTree, IsAnswerAt}
+use Rattle.ordered_map.specs.Runs.{IsTreeRun, Makes, IsEditAt, map_of_log}
 
 -- `edits` gives of each SCX-record with an entry an edit that it may be said to have made
 abbrev pub AreEdits : (ℕ → MapEdit) → Layout → History → Type 0
@@ -14,3 +22,26 @@ AreEdits edits lay h = (s : ℕ) → IsEntered (log lay h) s → Makes lay h s (
 -- after each row the words spell the map that these edits of the log so far make of the empty map
 abbrev pub SpellsLog : (ℕ → MapEdit) → Layout → History → Type 0
 SpellsLog edits lay h = (moment : History) → Extends h moment → Spells lay (value moment) (map_of_log edits (log lay moment))
+
+-- what holds in every history of the tree in which only edits of the map begin
+pub record TreeLaws : Type 0 where
+  -- each SCX-record with an entry may be said to make some edit
+  pub edits : (lay : Layout) (h : History) → IsTreeRun lay h → (edits : ℕ → MapEdit) × AreEdits edits lay h
+  -- whichever is said, the only one or not, the words spell the map of the log so far
+  pub spelled : (lay : Layout) (h : History) (edits : ℕ → MapEdit) → IsTreeRun lay h → AreEdits edits lay h → SpellsLog edits lay h
+  -- which is one map
+  pub one_map : (lay : Layout) (f : Word → ℕ) (m n : List Pair) → Spells lay f m → Spells lay f n → m ≡ n
+  -- an update leaves the map that its edit leaves, and its leaf has the old value
+  pub updates : (lay : Layout) (h before : History) (row : Row) (s : ℕ) (e : MapEdit) → IsTreeRun lay h → Extends h (row ⊳ before) → IsWin before row s
+      → Makes lay h s e → IsEditAt lay before row s e
+  -- a walk's leaf says what the map gave at a moment of the walk
+  pub walks : (lay : Layout) (h start : History) (k n : ℕ) → k < 2 ^ 64 → IsTreeRun lay h → Passed h start k n → is_leaf (value h) n ≡ true
+      → IsAnswerAt lay h start k (said (value h) k n)
+  -- and is at most one level deeper than there are taken nodes
+  pub depth : (lay : Layout) (h start : History) (k n : ℕ) → lay.mode ≡ TreeMode → IsTreeRun lay h → Passed h start k n → level (value h) n < 2 + length (taken_nodes h)
+  -- of the nodes that ever were in the tree just those not final are still there
+  pub not_final : (lay : Layout) (h : History) (t : Tree) (n : ℕ) → IsTreeRun lay h → IsTree (value h) t → Has t n → is_final (log lay h) n ≡ false
+  pub remains : (lay : Layout) (h : History) (t : Tree) (n : ℕ) → IsTreeRun lay h → WasInTree h n → (lay.mode ≡ TreeMode) ⊎ (is_leaf (value h) n ≡ false)
+      → is_final (log lay h) n ≡ false → IsTree (value h) t → Has t n
+  -- one that is above all keys has the key 0
+  pub blank : (lay : Layout) (h : History) (n : ℕ) → IsTreeRun lay h → WasInTree h n → IsBlankAboveKeys (value h) n

@@ -1,5 +1,7 @@
 //! LLX of a node.
-ghost use Rattle.std.specs.Prelude.{◌≡◌, ℕ, ◌+◌, ◌<◌, ◌≤◌};
+ghost use Rattle.std.specs.Prelude.{◌≡◌, ℕ, ◌+◌, ◌<◌, ◌≤◌, ◌⊎◌};
+ghost use Rattle.prims.specs.Llx.Known.{HasStopped, IsToBlame, LlxHelps, Meets, LlxAsks, ReadsLeft, Declines, Differs, Snaps, Finalizes, LooksLast, LlxTurn, LlxIsReady, LlxWaits, LlxAnswers};
+ghost use Rattle.prims.specs.Llx.Steps.{llx_left};
 
 use crate::snap::Snap;
 use arena::{
@@ -94,12 +96,9 @@ pub struct LlxRun {
 }
 
 impl LlxRun {
-    ghost use Rattle.std.specs.Prelude.{◌≡◌, ◌+◌, ◌<◌, ◌≤◌, ◌⊎◌};
     ghost use Rattle.arena.specs.History.{History};
     ghost use Rattle.arena.specs.Machines.{MatchTurn, Call};
-    ghost use Rattle.prims.specs.Llx.Known.{HasStopped, IsToBlame, LlxHelps, Meets, LlxAsks, ReadsLeft, Declines, Differs, Snaps, Finalizes, LooksLast, LlxTurn};
     ghost use Rattle.help.specs.Help.Steps.{help_left};
-    ghost use Rattle.prims.specs.Llx.Steps.{llx_left};
 
     /// A run that has not begun. It asks for at most 64 steps.
     pub fn new(node: NodeNo) -> LlxRun
@@ -286,9 +285,6 @@ impl LlxRun {
 impl<S: Shape> Machine<S> for LlxRun {
     type Answer = Llx;
 
-    ghost use Rattle.std.specs.Prelude.{◌≡◌, ℕ};
-    ghost use Rattle.prims.specs.Llx.Steps.{llx_left};
-    ghost use Rattle.prims.specs.Llx.Known.{LlxIsReady, LlxWaits, LlxAnswers};
     ghost use Rattle.prims.specs.Llx.Laws.{llx_keeps, llx_lawful, llx_made};
 
     ghost ready = { LlxIsReady S.allows };

@@ -1,5 +1,6 @@
 //! SCX with a fresh cell.
 ghost use Rattle.std.specs.Prelude.{◌≡◌, ℕ, ◌+◌, ◌<◌, ◌≤◌};
+ghost use Rattle.prims.specs.Put.Steps.{put_left};
 
 use crate::scx::{Scx, ScxRun};
 use arena::{Access, Kind, Machine, NodeWord, SettledPart, Shape, Slot, Step, Turn, Word};
@@ -27,9 +28,6 @@ pub struct PutRun {
 }
 
 impl PutRun {
-    ghost use Rattle.std.specs.Prelude.{◌≡◌, ◌≤◌, ◌+◌};
-    ghost use Rattle.prims.specs.Put.Steps.{put_left};
-
     /// A run that has not begun, over an SCX that has not begun. It asks for at most 40 steps.
     pub fn new(value: u64, scx: ScxRun) -> PutRun
         requires { scx_left scx.at ≤ 39 }
@@ -51,8 +49,6 @@ impl PutRun {
 impl<S: Shape> Machine<S> for PutRun {
     type Answer = Scx;
 
-    ghost use Rattle.std.specs.Prelude.{◌≡◌, ℕ};
-    ghost use Rattle.prims.specs.Put.Steps.{put_left};
     ghost use Rattle.prims.specs.Put.Known.{PutIsReady, PutWaits, PutAnswers};
     ghost use Rattle.prims.specs.Put.Laws.{put_keeps, put_lawful, put_made};
 

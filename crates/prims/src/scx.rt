@@ -1,5 +1,7 @@
 //! SCX of nodes.
-ghost use Rattle.std.specs.Prelude.{◌≡◌, ℕ, ◌+◌, ◌<◌, ◌≤◌};
+ghost use Rattle.std.specs.Prelude.{◌≡◌, ℕ, ◌+◌, ◌<◌, ◌≤◌, ◌⊎◌};
+ghost use Rattle.prims.specs.Scx.Known.{FillsAt, FillsNext, FillsLast, ScxHelps, ScxTurn, ScxIsReady, ScxWaits, ScxAnswers};
+ghost use Rattle.prims.specs.Scx.Steps.{scx_left};
 
 use crate::update::Update;
 use arena::{Access, Kind, Machine, MemberIndex, NodeNo, ScxNo, ScxWord, Shape, Step, Turn, Word};
@@ -52,14 +54,11 @@ pub struct ScxRun {
 }
 
 impl ScxRun {
-    ghost use Rattle.std.specs.Prelude.{◌≡◌, ◌≤◌, ◌<◌, ◌+◌, ◌⊎◌};
     ghost use Rattle.arena.specs.MemberIndex.{member_index};
     ghost use Rattle.arena.specs.History.{History};
     ghost use Rattle.arena.specs.Machines.{MatchTurn, Call};
     ghost use Rattle.prims.specs.Snap.{snap_at};
-    ghost use Rattle.prims.specs.Scx.Known.{FillsAt, FillsNext, FillsLast, ScxHelps, ScxTurn};
     ghost use Rattle.help.specs.Help.Steps.{help_left};
-    ghost use Rattle.prims.specs.Scx.Steps.{scx_left};
 
     /// A run that has not begun, on the next SCX-record of the caller's share, in its call of this
     /// number. It asks for at most 39 steps.
@@ -154,9 +153,6 @@ impl ScxRun {
 impl<S: Shape> Machine<S> for ScxRun {
     type Answer = Scx;
 
-    ghost use Rattle.std.specs.Prelude.{◌≡◌, ℕ};
-    ghost use Rattle.prims.specs.Scx.Steps.{scx_left};
-    ghost use Rattle.prims.specs.Scx.Known.{ScxIsReady, ScxWaits, ScxAnswers};
     ghost use Rattle.prims.specs.Scx.Laws.{scx_keeps, scx_lawful};
     ghost use Rattle.prims.specs.Laws.Scx.Made.{scx_made};
 

@@ -17,7 +17,6 @@ pub struct Snap {
 }
 
 impl Snap {
-    ghost use Rattle.std.specs.Prelude.{◌≡◌};
     ghost use Rattle.prims.specs.Snap.{child_of};
 
     /// A field of the node.

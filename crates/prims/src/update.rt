@@ -1,8 +1,8 @@
 //! What an SCX is to do.
-ghost use Rattle.std.specs.Prelude.{◌≡◌, ℕ, ◌+◌, ◌*◌, ◌<◌, ◌≤◌, ◌^◌, false, length, slice_index_or};
+ghost use Rattle.std.specs.Prelude.{◌≡◌, ℕ, ◌+◌, ◌*◌, ◌<◌, ◌≤◌, ◌^◌, false, length, slice_index_or, ◌↔◌, true};
 ghost use Rattle.arena.specs.MemberIndex.{member_index};
 ghost use Rattle.prims.specs.Snap.{snap_at};
-ghost use Rattle.prims.specs.Snaps.{IsAmong, finalizes};
+ghost use Rattle.prims.specs.Snaps.{IsAmong, finalizes, AreDistinct, ListsNode};
 
 use crate::snap::Snap;
 use crate::snaps::Snaps;
@@ -23,11 +23,8 @@ pub struct Update {
 }
 
 impl Update {
-    ghost use Rattle.std.specs.Prelude.{◌≡◌, ℕ, ◌<◌, ◌≤◌, ◌↔◌, true, length};
     ghost use Rattle.arena.specs.ScxRecords.{plan_finalizes};
     ghost use Rattle.prims.specs.Scx.Known.{IsUpdateOver};
-    ghost use Rattle.prims.specs.Snap.{snap_at};
-    ghost use Rattle.prims.specs.Snaps.{AreDistinct, IsAmong, ListsNode};
     ghost use Rattle.prims.specs.Updates.{ChangesField};
 
     /// An update of 1 to 4 snapshots of different nodes, one of them the field's node. It

@@ -1,5 +1,7 @@
 //! VLX of nodes.
-ghost use Rattle.std.specs.Prelude.{◌≡◌, ℕ, ◌+◌, ◌<◌, ◌≤◌};
+ghost use Rattle.std.specs.Prelude.{◌≡◌, ℕ, ◌+◌, ◌<◌, ◌≤◌, ◌-◌, ◌⊎◌, length};
+ghost use Rattle.prims.specs.Vlx.Steps.{vlx_left};
+ghost use Rattle.prims.specs.Vlx.Known.{AsksNext, IsThrough, VlxIsReady, VlxWaits, VlxAnswers};
 
 use crate::snaps::SnapList;
 use arena::{Access, Kind, Machine, NodeNo, NodeWord, ScxNo, Shape, Step, Turn, Word};
@@ -25,10 +27,7 @@ pub struct VlxRun<L> {
 }
 
 impl<L: SnapList> VlxRun<L> {
-    ghost use Rattle.std.specs.Prelude.{◌≡◌, ◌+◌, ◌-◌, ◌<◌, ◌≤◌, ◌⊎◌, length};
     ghost use Rattle.arena.specs.Machines.{MatchTurn};
-    ghost use Rattle.prims.specs.Vlx.Steps.{vlx_left};
-    ghost use Rattle.prims.specs.Vlx.Known.{AsksNext, IsThrough};
 
     /// A run that has not begun, over some snapshots. It asks for a step a snapshot at most.
     pub fn new(snaps: L) -> VlxRun<L>
@@ -62,9 +61,6 @@ impl<L: SnapList> VlxRun<L> {
 impl<S: Shape, L: SnapList> Machine<S> for VlxRun<L> {
     type Answer = Vlx;
 
-    ghost use Rattle.std.specs.Prelude.{◌≡◌, ℕ};
-    ghost use Rattle.prims.specs.Vlx.Steps.{vlx_left};
-    ghost use Rattle.prims.specs.Vlx.Known.{VlxIsReady, VlxWaits, VlxAnswers};
     ghost use Rattle.prims.specs.Vlx.Laws.{vlx_keeps, vlx_lawful, vlx_made};
 
     ghost ready = { λ m. VlxIsReady (L.list m.snaps) m.asked };

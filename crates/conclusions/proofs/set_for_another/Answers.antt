@@ -17,7 +17,7 @@ returns-clause-found c =
     let one = made.goes_on.later.number ∙ first.look.0.goes_on.later.number in
     let other = first.look.1.goes_on.later.number in
     same_value _ (λ v. refl) _ _
-    (two_passes lay c.version_laws_hold.ensures c.map_laws_hold.ensures.inserted c.requires.two
+    (two_passes lay c.version_laws_hold.ensures c.map_laws_hold.ensures.edits.inserted c.requires.two
     (ap (λ (x : Layout). x.mode) (sym made.pass.1) ∙ made.tree)
     c.meet.new.one c.insert.new.pass c.meet-3.new.one c.meet.new.other c.meet-2.new.other c.get-found.new.pass c.meet-3.new.other
     made.pass.1 third.passes.0.1 first.passes.1.1 got.pass.1 third.passes.1.1

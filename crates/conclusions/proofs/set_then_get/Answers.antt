@@ -12,7 +12,7 @@ returns-clause-found c =
     let made = c.in_ok-insert.ensures in
     let got = c.get.ensures in
     same_value _ (λ v. refl) _ _
-    (one_pass lay c.version_laws_hold.ensures c.map_laws_hold.ensures.inserted c.requires.one
+    (one_pass lay c.version_laws_hold.ensures c.map_laws_hold.ensures.edits.inserted c.requires.one
     (ap (λ (x : Layout). x.mode) (sym made.pass.1) ∙ made.tree)
     c.args.pass.now c.insert.new.pass c.get.new.pass made.pass.1 got.pass.1
     (is_pass lay c.args.pass.now c.insert.new.pass _ made.goes_on.later.number c.requires.of.1 c.number.ensures.is c.number.ensures.inside)

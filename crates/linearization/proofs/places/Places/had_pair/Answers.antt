@@ -6,7 +6,7 @@ use Rattle.script.specs.declared.command.Command.{Command}
 use Rattle.script.specs.declared.command.Command.TheVariants.{Map}
 use Rattle.record.specs.MapRecord.{map_at}
 use Rattle.linearization.specs.Ordered.{looks_for, pairs_read}
-use Rattle.linearization.proofs.Tells.{held, held_less, first_none, first_some, told_is}
+use Rattle.linearization.proofs.ReadPairs.{held, held_less, first_none, first_some, told_is}
 use Rattle.linearization.proofs.places.Places.had_pair.Goals as goal
 
 pub loop-key-init : goal.loop-key-init

@@ -5,7 +5,7 @@ use Rattle.record.specs.declared.record.Line.{Line}
 use Rattle.record.specs.MapRecord.{map_at}
 use Rattle.linearization.specs.Entries.{AreEntries}
 use Rattle.linearization.specs.Places.{changes}
-use Rattle.linearization.proofs.Tells.{held}
+use Rattle.linearization.proofs.ReadPairs.{held}
 use Rattle.linearization.proofs.places.Places.had_pair.Given as goal
 
 -- the keys that are left have all that the map had

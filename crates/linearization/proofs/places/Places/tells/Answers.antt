@@ -10,7 +10,7 @@ use Rattle.record.specs.MapRecord.{map_at, number_pairs}
 use Rattle.linearization.specs.Entries.{AreEntries}
 use Rattle.linearization.specs.Ordered.{looks_for, most_told, pairs_read}
 use Rattle.linearization.specs.Places.{changes}
-use Rattle.linearization.proofs.Tells.{held, told_is, told_none, told_more, told_other, so_many, told_all, told_less, newest_next}
+use Rattle.linearization.proofs.ReadPairs.{held, told_is, told_none, told_more, told_other, so_many, told_all, told_less, newest_next}
 use Rattle.linearization.proofs.places.Places.tells.Goals.{After-into_iter-key-iterator}
 use Rattle.linearization.proofs.places.Places.tells.Goals as goal
 

@@ -8,7 +8,7 @@ use Rattle.record.specs.MapRecord.{map_at, number_pairs}
 use Rattle.linearization.specs.Entries.{AreEntries}
 use Rattle.linearization.specs.Ordered.{most_told}
 use Rattle.linearization.specs.Places.{changes}
-use Rattle.linearization.proofs.Tells.{IsToldBy}
+use Rattle.linearization.proofs.ReadPairs.{IsToldBy}
 use Rattle.linearization.proofs.places.Places.tells.Given as goal
 
 abbrev pub invariant-loop-key : goal.invariant-loop-key
