@@ -34,7 +34,7 @@ pub record IsGrown (calls : ℕ → MapEdit) (lay : Layout) (h : History) : Type
 
 -- a trie opens as a tree
 pub start_same : (mode : Mode) → IsMap mode → value (Start TreeMode) ≡ value (Start mode)
-start_same mode e = λ i w. (map_opens TreeMode refl w ∙ sym (map_opens mode e w)) i
+start_same mode e = map_opens TreeMode refl ∙ sym (map_opens mode e)
 
 tree_opens : IsTree (value (Start TreeMode)) (Fork 0 (Leaf 1) (Leaf 2))
 unfolding value

@@ -2,6 +2,7 @@
 use Rattle.std.proofs.Common.{◌≡◌, ◌≢◌, ℕ, ◌<◌, ◌≤◌, ◌*◌, ◌/◌, ◌%◌, ◌^◌, true, false, eqb, ltb, ◌⊎◌, inl, inr, ⊎_elim, refl, sym, ◌∙◌, ap, arith, subst, cond}
 use Rattle.std.specs.Prelude.{Option}
 use native.Mathlib.Decide.{ℕ_discrete}
+use Rattle.arena.specs.declared.limits.Mode.TheVariants.{Tree as TreeMode}
 use Rattle.arena.specs.declared.word.Side.{Side}
 use Rattle.arena.specs.declared.word.Side.TheVariants.{Left, Right}
 use Rattle.arena.specs.declared.word.NodeWord.TheVariants.{Settled, Child}

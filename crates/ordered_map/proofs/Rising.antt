@@ -154,7 +154,7 @@ stood lay (Start mode) n g order x = opening_stood lay mode n is g (⊎_elim (λ
     is = start_is lay mode g.1.lawful g.0
 
     small : ((m : ℕ) × (from : Side) × HasHeld (Start mode) (child m from) n) → n < 3
-    small y = subst (λ k. k < 3) (sym (map_opens mode is (child y.0 y.1)) ∙ held_start mode (child y.0 y.1) n y.2) (field_small y.0 y.1)
+    small y = subst (λ k. k < 3) (sym (ap (λ f. f (child y.0 y.1)) (map_opens mode is)) ∙ held_start mode (child y.0 y.1) n y.2) (field_small y.0 y.1)
 stood lay (r ⊳ h) n g order x = row_stood lay h r n g order (stood lay h n (g.0, record { lawful = lawful_tail lay h r g.1.lawful; shaped = shaped_tail TreeAllows lay h r g.1.shaped }) order.0) x
 
 -- Where the steps are a run of the tree whose nodes were filled in order, levels rise from each

@@ -61,7 +61,7 @@ since_start lay (r ⊳ h) l = inr (since_start lay h (lawful_tail lay h r l))
 
 -- the settled words of the opening nodes stay
 pub opening_settled : (lay : Layout) (h : History) (n : ℕ) (a : NodeWord) → Lawful lay h → IsMap lay.mode → n < 3 → IsSettled (node n a) → value h (node n a) ≡ tree_opening (node n a)
-opening_settled lay h n a l o i s = node_since lay h (Start lay.mode) n a l (since_start lay h l) s (opening_node (rw o i)) ∙ map_opens lay.mode o (node n a)
+opening_settled lay h n a l o i s = node_since lay h (Start lay.mode) n a l (since_start lay h l) s (opening_node (rw o i)) ∙ ap (λ f. f (node n a)) (map_opens lay.mode o)
 
 -- so node 2 is a leaf of class 2 on level 1
 pub opening_head : (lay : Layout) (h : History) → Lawful lay h → IsMap lay.mode → value h (node 2 (Settled Head)) ≡ 14

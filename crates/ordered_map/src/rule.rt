@@ -1,7 +1,6 @@
 //! Where an edit of a map goes, and what it makes of what it finds there.
-ghost use Rattle.std.specs.Prelude.{◌≡◌, option_and_then, IsTrue, ℕ, true, Some, IfSome};
-ghost use Rattle.ordered_map.specs.OrderedMap.{applies, goal_key, leaves, spot};
-ghost use Rattle.ordered_map.specs.CallRules.{IsFormOfEdit, form_of, nodes_in_try, steps_behind};
+ghost use Rattle.std.specs.Prelude.{◌≡◌};
+ghost use Rattle.ordered_map.specs.OrderedMap.{applies, goal_key, leaves};
 
 use crate::reply::Reply;
 use arena::Side;
@@ -17,6 +16,9 @@ pub enum Goal {
 }
 
 impl Goal {
+    ghost use Rattle.std.specs.Prelude.{option_and_then, IsTrue};
+    ghost use Rattle.ordered_map.specs.CallRules.{IsFormOfEdit, form_of};
+    ghost use Rattle.ordered_map.specs.OrderedMap.{spot};
     ghost use Rattle.ordered_map.specs.Replies.{number_reply};
 
     /// The key to which it goes, where this is the one at its end of the map, if there is one.
@@ -70,6 +72,9 @@ pub enum Rule {
 }
 
 impl Rule {
+    ghost use Rattle.std.specs.Prelude.{ℕ, true, Some, IfSome, IsTrue};
+    ghost use Rattle.ordered_map.specs.CallRules.{nodes_in_try, steps_behind};
+
     /// Whether it changes anything where it finds this.
     pub fn applies(&self, found: Option<u128>) -> bool
         ensures { result ≡ applies self.now found }
