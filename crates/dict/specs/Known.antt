@@ -1,7 +1,7 @@
 -- When the machine of a call of the map may continue, what it waits for, and what its answer says.
 use Rattle.std.specs.Prelude.{◌≡◌, ℕ, suc, ◌+◌, ◌^◌, ◌<◌, ◌≤◌, Option, Some, None, []}
+use Rattle.arena.specs.declared.limits.Mode.TheVariants.{Tree as TreeMode}
 use Rattle.arena.specs.declared.step.Step.{Step}
-use Rattle.arena.specs.Layout.{IsMap}
 use Rattle.arena.specs.History.{History, Extends}
 use Rattle.arena.specs.Machines.{Call}
 use Rattle.arena.specs.Share.{Remaining}
@@ -59,7 +59,7 @@ HasTries (Read k m share) tries = m.limit ≡ tries
 
 -- what holds of the machine inside throughout its call, which has this many tries
 pub record Goes (m : InnerRun) (tries : ℕ) (c : Call) : Type 0 where
-  pub mode : IsMap c.layout.mode
+  pub mode : c.layout.mode ≡ TreeMode
   pub small : IsSmallCall (inner_call m)
   pub number : IsNumbered m c.number
   pub limit : HasTries m tries

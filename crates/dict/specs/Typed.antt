@@ -2,7 +2,7 @@
 -- words alone, so its map has no others.
 use Rattle.std.specs.Prelude.{◌≡◌, ℕ, List, [], ◌∷◌, Option, Some, None}
 use Rattle.arena.specs.declared.layout.Layout.{Layout}
-use Rattle.arena.specs.Layout.{IsMap}
+use Rattle.arena.specs.declared.limits.Mode.TheVariants.{Tree as TreeMode}
 use Rattle.arena.specs.History.{History, value}
 use Rattle.ordered_map.specs.OrderedMap.{MapEdit, Insert, Delete, MapCall, Edit, MapReply, OneValue, OnePair, ManyPairs, leaves}
 use Rattle.ordered_map.specs.declared.rule.Goal.{Goal}
@@ -48,6 +48,6 @@ IsTypedReply keys values (ManyPairs ps) = AreTyped keys values ps
 abbrev pub TypedAllows : (ℕ → Type 0) → (ℕ → Type 0) → Layout → History → ℕ → Type 0
 TypedAllows keys values lay h s = (e : MapEdit) × MayEdit lay h s e × IsTypedEdit keys values e
 
--- in a map's mode the words spell a map of such pairs
+-- in tree mode the words spell a map of such pairs
 abbrev pub IsTypedThere : (ℕ → Type 0) → (ℕ → Type 0) → Layout → History → Type 0
-IsTypedThere keys values lay h = IsMap lay.mode → (m : List Pair) × Spells lay (value h) m × AreTyped keys values m
+IsTypedThere keys values lay h = lay.mode ≡ TreeMode → (m : List Pair) × Spells lay (value h) m × AreTyped keys values m

@@ -3,7 +3,6 @@ ghost use Rattle.std.specs.Prelude.{◌≡◌};
 ghost use Rattle.edits.specs.Edits.{EditMeaning};
 ghost use Rattle.edits.specs.Readings.{known_reads};
 ghost use Rattle.edits.specs.Sound.{EditLaws};
-ghost use Rattle.edits.specs.Pieces.{no_work, nth_behind, nth_node, top_of};
 
 use crate::piece::Piece;
 use crate::reading::{Known, Reading};
@@ -21,6 +20,9 @@ pub struct Work {
 }
 
 impl Work {
+    ghost use Rattle.std.specs.Prelude.{◌≡◌};
+    ghost use Rattle.edits.specs.Pieces.{no_work};
+
     /// There is nothing to update.
     pub fn none() -> Work
         ensures { result ≡ no_work }
@@ -53,6 +55,9 @@ pub enum Nth {
 }
 
 impl Nth {
+    ghost use Rattle.std.specs.Prelude.{◌≡◌};
+    ghost use Rattle.edits.specs.Pieces.{nth_behind};
+
     /// The place after this one, where that many fresh nodes have one there.
     pub fn behind(self, need: u32) -> Option<Nth>
         ensures { result ≡ nth_behind need self }
@@ -75,6 +80,9 @@ pub struct Nodes {
 }
 
 impl Nodes {
+    ghost use Rattle.std.specs.Prelude.{◌≡◌};
+    ghost use Rattle.edits.specs.Pieces.{nth_node, top_of};
+
     /// The last of that many.
     pub fn last(&self, need: u32) -> NodeNo
         ensures { result.0 ≡ top_of need self.now }

@@ -1,6 +1,6 @@
 //! Lists of a few pairs.
-ghost use Rattle.std.specs.Prelude.{◌≡◌, nat_lt, ℕ, ◌+◌, ◌-◌, ◌<◌, ◌≤◌, List, [], ◌∷◌, ◌++◌, length, take, drop, slice_set};
-ghost use Rattle.edits.specs.Pairs.{run, moved_on, moved_back, replaced, pair_at, below, before, has_at};
+ghost use Rattle.std.specs.Prelude.{◌≡◌};
+ghost use Rattle.edits.specs.Pairs.{run, moved_on, moved_back, replaced};
 
 use arena::Slot;
 use ordered_map::Pair;
@@ -38,9 +38,11 @@ impl Model for Pairs {
 }
 
 impl Pairs {
+    ghost use Rattle.std.specs.Prelude.{nat_lt, ◌≡◌, ℕ, ◌+◌, ◌-◌, ◌<◌, ◌≤◌, List, [], ◌∷◌, ◌++◌, length, take, drop, slice_set};
     ghost use Rattle.std.specs.List.{remove};
     ghost use Rattle.arena.specs.Words.{slot_no};
     ghost use Rattle.ordered_map.specs.OrderedMap.{pair, insert, delete};
+    ghost use Rattle.edits.specs.Pairs.{pair_at, below, before, has_at};
 
     /// None.
     #[inline(always)]

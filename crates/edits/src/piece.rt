@@ -1,6 +1,6 @@
 //! What fresh nodes are to hold.
 ghost use Rattle.std.specs.Prelude.{◌≡◌, ◌/◌, ◌%◌, ◌^◌};
-ghost use Rattle.edits.specs.Pieces.{piece_head, leaf_word, has_high, value_in, key_first, key_behind, leaf_behind, fork_behind, word_of, part_behind};
+ghost use Rattle.edits.specs.Pieces.{piece_head, leaf_word, has_high, value_in, key_first, key_behind, leaf_behind, fork_behind};
 
 use crate::pairs::Pairs;
 use arena::{Head, NodeNo, NodeWord, SettledPart, Side, Slot};
@@ -24,8 +24,10 @@ pub enum Piece {
 }
 
 impl Piece {
+    ghost use Rattle.std.specs.Prelude.{◌≡◌};
     ghost use Rattle.arena.specs.declared.word.NodeWord.{NodeWord};
     ghost use Rattle.arena.specs.declared.word.SettledPart.{SettledPart};
+    ghost use Rattle.edits.specs.Pieces.{word_of, part_behind};
 
     /// What one of its words is to hold.
     #[inline(always)]

@@ -1,6 +1,6 @@
 //! What is read of a node.
-ghost use Rattle.std.specs.Prelude.{◌≡◌, None};
-ghost use Rattle.edits.specs.Readings.{next_in_pair, known_reading, nothing_read, next_read, next_in_leaf, is_at_pair, read_with, pair_read_with};
+ghost use Rattle.std.specs.Prelude.{◌≡◌};
+ghost use Rattle.edits.specs.Readings.{next_in_pair};
 
 use crate::pairs::Pairs;
 use arena::{Head, SettledPart, Slot};
@@ -34,6 +34,9 @@ pub enum Known {
 }
 
 impl Reading {
+    ghost use Rattle.std.specs.Prelude.{◌≡◌, None};
+    ghost use Rattle.edits.specs.Readings.{known_reading, nothing_read, next_read, next_in_leaf, is_at_pair, read_with, pair_read_with};
+
     /// Nothing.
     #[inline(always)]
     pub fn new() -> Reading

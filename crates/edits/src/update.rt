@@ -1,8 +1,7 @@
 //! The machine of an edit of the tree.
-ghost use Rattle.std.specs.Prelude.{◌≡◌, ℕ, ◌+◌, ◌*◌, ◌-◌, ◌<◌, ◌≤◌, length, None, Some, Ok};
-ghost use Rattle.arena.specs.Machines.{MatchTurn, Call, IsRun, begun_at};
-ghost use Rattle.edits.specs.Steps.{try_left, most_works, update_left, IsNearer, UpdateFits, fills_left, pieces_now, HasAsked, MaySpend, IsSpending, node_tries, scx_tries};
-ghost use Rattle.edits.specs.Known.{done_at, Walks, IsFilledUpTo, UpdateIsReady, MayBeginTry, HasLostTry, IsUntouched, Looks, Scxs, UpdateTurn, UpdateWaits, UpdateAnswers};
+ghost use Rattle.std.specs.Prelude.{◌≡◌, ℕ, ◌+◌, ◌*◌, ◌-◌, ◌<◌, ◌≤◌, length};
+ghost use Rattle.arena.specs.Machines.{MatchTurn};
+ghost use Rattle.edits.specs.Steps.{try_left, most_works, update_left, IsNearer};
 
 use crate::edit::{Edit, Nodes, Nth, Work};
 use crate::piece::Piece;
@@ -29,6 +28,9 @@ pub enum Updated {
 }
 
 impl Updated {
+    ghost use Rattle.std.specs.Prelude.{◌≡◌};
+    ghost use Rattle.edits.specs.Known.{done_at};
+
     /// What an update answers that is done at this leaf.
     #[inline(always)]
     pub fn at(found: &Found) -> Updated
@@ -166,14 +168,21 @@ pub fn copied(found: &Found) -> Found
 }
 
 impl<E: Edit + Drop> UpdateRun<E, UpdateAt> {
+    ghost use Rattle.std.specs.Prelude.{◌≡◌, ℕ, ◌≤◌, ◌*◌, ◌+◌, ◌-◌, length};
     ghost use Rattle.template.specs.Walk.Steps.{WalkFits, walk_left};
     ghost use Rattle.prims.specs.Llx.Steps.{llx_left};
     ghost use Rattle.prims.specs.Scx.Steps.{scx_left};
+    ghost use Rattle.std.specs.Prelude.{None, Some, Ok};
     ghost use Rattle.template.specs.Walk.Known.{WalkIsTold};
+    ghost use Rattle.edits.specs.Known.{Walks, IsFilledUpTo, UpdateIsReady};
+    ghost use Rattle.edits.specs.Steps.{UpdateFits, fills_left, pieces_now};
     ghost use Rattle.arena.specs.History.{History};
+    ghost use Rattle.arena.specs.Machines.{Call, IsRun, begun_at};
     ghost use Rattle.prims.specs.Llx.Known.{LlxIsReady};
     ghost use Rattle.prims.specs.Scx.Known.{ScxIsReady};
     ghost use Rattle.ordered_map.specs.TreeShape.{TreeAllows};
+    ghost use Rattle.edits.specs.Known.{MayBeginTry, HasLostTry, IsUntouched, Looks, Scxs, UpdateTurn};
+    ghost use Rattle.edits.specs.Steps.{HasAsked, MaySpend, IsSpending, node_tries, scx_tries};
     ghost use Rattle.edits.specs.Next.{IsSameUpdate, placed, next_step, fills, update_of, MayStop, UpdateGoesOn, ComesNearer, HasSpentForNext};
     ghost use Rattle.arena.specs.Share.{Remaining};
     ghost use Rattle.edits.specs.Tries.{MayTry, IsTry};
@@ -488,6 +497,9 @@ impl<E: Edit + Drop> UpdateRun<E, UpdateAt> {
 impl<E: Edit + Drop> Machine<Tree> for UpdateRun<E, UpdateAt> {
     type Answer = Updated;
 
+    ghost use Rattle.std.specs.Prelude.{◌≡◌, ℕ, ◌+◌, ◌≤◌};
+    ghost use Rattle.edits.specs.Steps.{update_left, UpdateFits};
+    ghost use Rattle.edits.specs.Known.{UpdateIsReady, UpdateWaits, UpdateAnswers};
     ghost use Rattle.edits.specs.Laws.Update.{update_keeps, update_lawful, update_made, update_told};
 
     ghost ready = { UpdateIsReady E.means };

@@ -1,7 +1,5 @@
 //! The work of an update, whatever its place.
 ghost use Rattle.edits.specs.Steps.{HasAsked, try_left, most_works, pieces_now};
-ghost use Rattle.std.specs.Prelude.{◌≡◌, ℕ, ◌<◌, ◌≤◌, ◌*◌, ◌+◌, ◌-◌, length, ◌≢◌, IfNone, IfSome, None, Some, Ok, true};
-ghost use Rattle.edits.specs.Known.{HasNodesFor, HasTakenNodes, IsShort, IsFilledUpTo, CanScx, MayBeginTry, IsUntouched, CanLook, CanWork, CanRead, Reads};
 
 use crate::edit::{Edit, Look, Nodes, Nth, Work};
 use crate::piece::Piece;
@@ -13,7 +11,10 @@ use prims::{ScxAt, ScxRun, Snap, SnapList, Snaps, Update};
 use template::Found;
 
 impl<E: Edit + Drop, A: Drop> UpdateRun<E, A> {
+    ghost use Rattle.std.specs.Prelude.{◌≡◌, ℕ, ◌<◌, ◌≤◌, ◌*◌, ◌+◌, ◌-◌, length};
+    ghost use Rattle.std.specs.Prelude.{◌≢◌, IfNone, IfSome, None, Some, Ok, true};
     ghost use Rattle.template.specs.FoundLeaf.{HasFoundGoal};
+    ghost use Rattle.edits.specs.Known.{HasNodesFor, HasTakenNodes, IsShort, IsFilledUpTo, CanScx};
     ghost use Rattle.edits.specs.Pieces.{fills_after, part_behind, less_a_node};
     ghost use Rattle.edits.specs.Readings.{is_at_pair, next_read, reads_left};
     ghost use Rattle.arena.specs.History.{History, value};
@@ -21,6 +22,7 @@ impl<E: Edit + Drop, A: Drop> UpdateRun<E, A> {
     ghost use Rattle.prims.specs.FoundThere.{HasFoundThere};
     ghost use Rattle.prims.specs.Llx.Known.{IsSnapshot};
     ghost use Rattle.ordered_map.specs.TreeShape.{TreeAllows};
+    ghost use Rattle.edits.specs.Known.{MayBeginTry, IsUntouched, CanLook, CanWork, CanRead, Reads};
     ghost use Rattle.arena.specs.declared.word.NodeWord.{NodeWord};
     ghost use Rattle.arena.specs.declared.word.SettledPart.{SettledPart};
     ghost use Rattle.arena.specs.declared.word.Word.{Word};

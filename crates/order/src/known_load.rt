@@ -11,7 +11,6 @@ ghost use Rattle.order.specs.Next.{MayLoad};
 ghost use Rattle.order.specs.Paths.{LoadFits, load_left};
 ghost use Rattle.order.specs.Places.{GoesOn, RunComesNearer};
 ghost use Rattle.order.specs.declared.load.ReadLoad.{ReadLoad};
-ghost use Rattle.order.specs.declared.load.ReadLoad.TheVariants.{Head, Key, More, Pair, Value, High};
 
 use crate::load::{LeafPlace, ReadLoad};
 use crate::read::{Read, ReadNext};
@@ -53,6 +52,8 @@ pub struct HeadLoad {
 }
 
 impl<R: Read + Drop> KnownLoad<R> for HeadLoad {
+    ghost use Rattle.order.specs.declared.load.ReadLoad.TheVariants.{Head};
+
     ghost load = { λ l. Head l.above l.node };
 
     #[inline(always)]
@@ -74,6 +75,8 @@ pub struct KeyLoad {
 }
 
 impl<R: Read + Drop> KnownLoad<R> for KeyLoad {
+    ghost use Rattle.order.specs.declared.load.ReadLoad.TheVariants.{Key};
+
     ghost load = { λ l. Key l.level l.node };
 
     #[inline(always)]
@@ -94,6 +97,8 @@ pub struct MoreLoad {
 }
 
 impl<R: Read + Drop> KnownLoad<R> for MoreLoad {
+    ghost use Rattle.order.specs.declared.load.ReadLoad.TheVariants.{More};
+
     ghost load = { λ l. More l.node };
 
     #[inline(always)]
@@ -116,6 +121,8 @@ pub struct PairLoad {
 }
 
 impl<R: Read + Drop> KnownLoad<R> for PairLoad {
+    ghost use Rattle.order.specs.declared.load.ReadLoad.TheVariants.{Pair};
+
     ghost load = { λ l. Pair l.place };
 
     #[inline(always)]
@@ -138,6 +145,8 @@ pub struct ValueLoad {
 }
 
 impl<R: Read + Drop> KnownLoad<R> for ValueLoad {
+    ghost use Rattle.order.specs.declared.load.ReadLoad.TheVariants.{Value};
+
     ghost load = { λ l. Value l.place l.key };
 
     #[inline(always)]
@@ -162,6 +171,8 @@ pub struct HighLoad {
 }
 
 impl<R: Read + Drop> KnownLoad<R> for HighLoad {
+    ghost use Rattle.order.specs.declared.load.ReadLoad.TheVariants.{High};
+
     ghost load = { λ l. High l.place l.key l.low };
 
     #[inline(always)]

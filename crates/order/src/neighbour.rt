@@ -1,7 +1,7 @@
 //! The pair beside a key.
-ghost use Rattle.std.specs.Prelude.{◌≡◌, ℕ, ◌-◌, ◌*◌, ◌<◌, ◌≤◌, None, []};
+ghost use Rattle.std.specs.Prelude.{◌≡◌};
 ghost use Rattle.ordered_map.specs.TreeWords.{opposite};
-ghost use Rattle.order.specs.Neighbour.{alone, route_above, route_at, route_below, asks_on_route, children_on, is_answer, is_past, leaf_load, after_leaf, neighbour_means, neighbour_try_left, turn_by, ways};
+ghost use Rattle.order.specs.Neighbour.{alone};
 
 use crate::load::{LeafPlace, ReadLoad};
 use crate::read::{Children, Read, ReadBegin, ReadNext};
@@ -26,6 +26,9 @@ pub enum Route {
 }
 
 impl Route {
+    ghost use Rattle.std.specs.Prelude.{◌≡◌};
+    ghost use Rattle.order.specs.Neighbour.{route_above, route_at, route_below};
+
     /// The part after a fork of which this child is left beside the path, or none.
     #[inline(always)]
     fn below(self, aside: Option<NodeNo>) -> Route
@@ -103,6 +106,8 @@ pub struct Neighbour {
 pub type NeighbourRun = ReadRun<Neighbour>;
 
 impl Neighbour {
+    ghost use Rattle.std.specs.Prelude.{◌≡◌, ℕ, ◌-◌, ◌*◌, ◌<◌, ◌≤◌, None, []};
+    ghost use Rattle.order.specs.Neighbour.{asks_on_route, children_on, is_answer, is_past, leaf_load, after_leaf, neighbour_means, neighbour_try_left, turn_by, ways};
     ghost use Rattle.order.specs.declared.neighbour.Route.{Route};
     ghost use Rattle.order.specs.Steps.{read_left};
     ghost use Rattle.order.specs.declared.run.ReadAt.{ReadAt};
@@ -251,6 +256,8 @@ impl Neighbour {
 
 impl Read for Neighbour {
     type Answer = Option<Pair>;
+
+    ghost use Rattle.order.specs.Neighbour.{neighbour_means};
 
     ghost means = { neighbour_means };
 

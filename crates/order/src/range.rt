@@ -1,6 +1,5 @@
 //! Range.
-ghost use Rattle.std.specs.Prelude.{◌≡◌, ℕ, ◌+◌, ◌-◌, ◌*◌, ◌<◌, ◌≤◌, List, []};
-ghost use Rattle.order.specs.Range.{AreWithin, GoesBehind, GoesOnBehind, range_means, range_try_left};
+ghost use Rattle.std.specs.Prelude.{◌≡◌};
 
 use crate::load::{LeafPlace, ReadLoad};
 use crate::read::{Children, Read, ReadBegin, ReadNext};
@@ -32,11 +31,13 @@ pub struct Range {
 pub type RangeRun = ReadRun<Range>;
 
 impl Range {
+    ghost use Rattle.std.specs.Prelude.{◌≡◌, ℕ, ◌+◌, ◌-◌, ◌*◌, ◌<◌, ◌≤◌, List, []};
     ghost use Rattle.arena.specs.History.{History};
     ghost use Rattle.arena.specs.Machines.{Call};
     ghost use Rattle.prims.specs.declared.snap.Snap.{Snap};
     ghost use Rattle.order.specs.Next.{MayDo};
     ghost use Rattle.order.specs.Paths.{ComesNearer, slots_left};
+    ghost use Rattle.order.specs.Range.{AreWithin, GoesBehind, GoesOnBehind, range_means, range_try_left};
     ghost use Rattle.order.specs.Steps.{read_left};
     ghost use Rattle.order.specs.declared.run.ReadAt.{ReadAt};
 
@@ -121,6 +122,8 @@ impl Range {
 
 impl Read for Range {
     type Answer = Vec<Pair>;
+
+    ghost use Rattle.order.specs.Range.{range_means};
 
     ghost means = { range_means };
 

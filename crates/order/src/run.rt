@@ -1,8 +1,6 @@
 //! The machine of an ordered read of the tree.
-ghost use Rattle.std.specs.Prelude.{◌≡◌, ℕ, ◌+◌, ◌-◌, ◌*◌, ◌<◌, ◌≤◌, length, [], IfOk, None, Some, Ok};
+ghost use Rattle.std.specs.Prelude.{◌≡◌};
 ghost use Rattle.order.specs.LastTurns.{last_turns};
-ghost use Rattle.order.specs.Known.{AreLastTurns, IsSameRead, ReadIsReady, ReadTurn, Validates, ReadWaits, ReadAnswers};
-ghost use Rattle.order.specs.Steps.{ReadFits, ReadIsNearer, tries_left, read_left, run_try_left};
 
 use crate::known_load::{HeadLoad, HighLoad, KeyLoad, KnownLoad, MoreLoad, PairLoad, ValueLoad};
 use crate::last_turns::LastTurns;
@@ -62,6 +60,7 @@ pub struct ReadRun<R> {
 }
 
 impl<R: Read + Drop> ReadRun<R> {
+    ghost use Rattle.std.specs.Prelude.{◌≡◌, ℕ, ◌+◌, ◌-◌, ◌*◌, ◌<◌, ◌≤◌, length, [], IfOk, None, Some, Ok};
     ghost use Rattle.arena.specs.History.{History, Extends};
     ghost use Rattle.arena.specs.Machines.{MatchTurn, Call, begun_at};
     ghost use Rattle.prims.specs.Llx.Known.{IsSnapshot, LlxIsReady};
@@ -74,11 +73,13 @@ impl<R: Read + Drop> ReadRun<R> {
     ghost use Rattle.template.specs.Walk.Steps.{walk_left, WalkFits};
     ghost use Rattle.template.specs.Trails.{IsOwnMoment};
     ghost use Rattle.order.specs.Found.{BeginsSo, WalksTo, IsReading, Looks};
+    ghost use Rattle.order.specs.Known.{AreLastTurns, IsSameRead, ReadIsReady, ReadTurn, Validates};
     ghost use Rattle.order.specs.Loads.{load_value};
     ghost use Rattle.order.specs.Next.{MayLoad};
     ghost use Rattle.order.specs.Paths.{BeginsNear, ComesNearer, LoadFits, load_left, path_left};
     ghost use Rattle.order.specs.Places.{GoesOn, MayGoOn, RunComesNearer};
     ghost use Rattle.order.specs.Replies.{KeepsTries};
+    ghost use Rattle.order.specs.Steps.{ReadFits, ReadIsNearer, tries_left, read_left, run_try_left};
     ghost use Rattle.order.specs.Tries.{BeginsTry, IsInTry};
 
     /// A run that has not begun. What it keeps grows with this allocator. What is said of its turns
@@ -426,7 +427,9 @@ impl<R: Read + Drop> ReadRun<R> {
 impl<R: Read + Drop> Machine<Tree> for ReadRun<R> {
     type Answer = Result<R::Answer, Refused>;
 
+    ghost use Rattle.order.specs.Known.{IsSameRead, ReadIsReady, ReadWaits, ReadAnswers};
     ghost use Rattle.order.specs.Laws.Run.{read_keeps, read_lawful, read_made, read_told};
+    ghost use Rattle.order.specs.Steps.{ReadFits, read_left};
 
     ghost ready = { ReadIsReady R.means };
 

@@ -26,13 +26,11 @@ use Rattle.ordered_map.specs.Spelled.{IsTree, Spells}
 use Rattle.ordered_map.specs.TreeWords.{Tree, Leaf, Fork, root, IsLeaf, Shows, Has, Passes, class, is_leaf, rank, toward, pairs, leaf_pairs, end_said}
 use Rattle.ordered_map.proofs.Spanned.{node_from, node_low}
 use Rattle.ordered_map.proofs.Trees.{EndsLow, last_leaf, has_last, open_between, node_below, same_tree, shown_leaf, passes_has, has_root, path_level}
-use Rattle.arena.specs.declared.limits.Mode.TheVariants.{Tree as TreeMode}
-use Rattle.ordered_map.specs.TrieShape.{Stays}
 use Rattle.ordered_map.specs.TreeShape.{edit_leaf}
 use Rattle.ordered_map.proofs.Holding.{SameSettled, counted_same, same_leaf, low_items, rank_from, held_first, held_end, low_pairs, high_pairs}
 use Rattle.ordered_map.proofs.Moved.{settled_rank, settled_class, settled_leaf, settled_toward, settled_end}
 use Rattle.ordered_map.proofs.TreeFacts.{path_now, all_named}
-use Rattle.ordered_map.proofs.Grown.{tree_facts}
+use Rattle.ordered_map.proofs.Grown.{tree_facts, tree_map}
 use Rattle.ordered_map.proofs.Maps.{below_end, last_from, last_join}
 use Rattle.ordered_map.proofs.Past.{path_named, Latest, latest}
 use Rattle.ordered_map.proofs.Meanings.{edits_of, grown, run_spells, run_since, wins_of, leaf_covered}
@@ -257,12 +255,12 @@ run_low lay h t g is =
 
 -- what was passed says what it said
 same_since : (lay : Layout) (h start : History) (k n : ℕ) → IsTreeRun lay h → (p : Passed h start k n) → SameSettled (value p.0) (value h) n
-same_since lay h start k n g p part i = node_since lay h p.0 n part g.1.lawful p.1 i (path_named lay p.0 k n g.0 p.3)
+same_since lay h start k n g p part i = node_since lay h p.0 n part g.1.lawful p.1 i (path_named lay p.0 k n (tree_map lay.mode g.0) p.3)
 
 -- where what is on a side of a fork that was passed is, seen from the fork
-pub walk_beside : (lay : Layout) (h start : History) (k n : ℕ) (side : Side) → IsTreeRun lay h → Passed h start k n → Stays lay (value h) k n → is_leaf (value h) n ≡ false → IsBeside (value h) side n (value h (child n side))
-walk_beside lay h start k n side g p stay fork =
-    let x : Latest h p.0 k n = latest (edits_of lay h g).edits lay h p.0 k n (grown lay h g) p.1 p.3 stay in
+pub walk_beside : (lay : Layout) (h start : History) (k n : ℕ) (side : Side) → IsTreeRun lay h → Passed h start k n → is_leaf (value h) n ≡ false → IsBeside (value h) side n (value h (child n side))
+walk_beside lay h start k n side g p fork =
+    let x : Latest h p.0 k n = latest (edits_of lay h g).edits lay h p.0 k n (grown lay h g) p.1 p.3 (inl g.0) in
     let m : History = x.moment in
     let at : Passed h m k n = (m, x.within, ends_self m, x.on_path) in
     let same : SameSettled (value m) (value h) n = same_since lay h m k n g at in
@@ -271,7 +269,7 @@ walk_beside lay h start k n side g p stay fork =
     let low : EndsLow (value m) x.on_path.tree = run_low lay m x.on_path.tree (run_since lay h m g x.within) x.on_path.is_tree in
     let y : IsBeside (value m) side n (value m (child n side)) = child_beside (value m) side x.on_path.tree _ _ n x.on_path.is_tree.shows low has d in
     let below : Has x.on_path.tree (value m (child n side)) = (path_level (value m) x.on_path.tree _ _ n side x.on_path.is_tree.shows has d).1 in
-    let there : SameSettled (value m) (value h) (value m (child n side)) = λ part i. node_since lay h m (value m (child n side)) part g.1.lawful x.within i (all_named lay m x.on_path.tree _ g.0 x.on_path.is_tree below) in
+    let there : SameSettled (value m) (value h) (value m (child n side)) = λ part i. node_since lay h m (value m (child n side)) part g.1.lawful x.within i (all_named lay m x.on_path.tree _ (tree_map lay.mode g.0) x.on_path.is_tree below) in
     let c : value h (child n side) ≡ value m (child n side) = x.same (Child side) tt in
     subst (IsBeside (value h) side n) (sym c) (beside_same (value m) (value h) side n (value m (child n side)) (settled_rank (value m) (value h) n same) (settled_rank (value m) (value h) (value m (child n side)) there) y)
 
@@ -337,13 +335,13 @@ walk_end side lay h start n g p leaf =
       is = spelled_end side lay m n spelled.0 then_run spelled.1 p.3 then ∙ sym (settled_end side (value m) (value h) n same);
     }
 
--- Just before an SCX-record of a tree wins whose leaf was on the path to an end, that leaf says which
--- pair is at that end of the map: it is not final, so it is on that path still.
-pub win_end : (side : Side) (lay : Layout) (h : History) (row : Row) (s : ℕ) (e : MapEdit) → lay.mode ≡ TreeMode → IsTreeRun lay (row ⊳ h) → IsWin h row s → Makes lay h s e → WasOnPath h (end_key side) (edit_leaf h s e) → is_leaf (value h) (edit_leaf h s e) ≡ true → (ps : List Pair) → Spells lay (value h) ps → end_pair side ps ≡ end_said side (value h) (edit_leaf h s e)
-win_end side lay h row s e tree g won makes was leaf ps spells = spelled_end side lay h (edit_leaf h s e) ps run spells (path_remains lay h (end_key side) (edit_leaf h s e) run was (inl tree) not_final) leaf
+-- Just before an SCX-record wins whose leaf was on the path to an end, that leaf says which pair is
+-- at that end of the map: it is not final, so it is on that path still.
+pub win_end : (side : Side) (lay : Layout) (h : History) (row : Row) (s : ℕ) (e : MapEdit) → IsTreeRun lay (row ⊳ h) → IsWin h row s → Makes lay h s e → WasOnPath h (end_key side) (edit_leaf h s e) → is_leaf (value h) (edit_leaf h s e) ≡ true → (ps : List Pair) → Spells lay (value h) ps → end_pair side ps ≡ end_said side (value h) (edit_leaf h s e)
+win_end side lay h row s e g won makes was leaf ps spells = spelled_end side lay h (edit_leaf h s e) ps run spells (path_remains lay h (end_key side) (edit_leaf h s e) run was not_final) leaf
   where
     run : IsTreeRun lay h
     run = run_since lay (row ⊳ h) h g (inr (ends_self h))
 
     not_final : is_final (log lay h) (edit_leaf h s e) ≡ false
-    not_final = win_not_final lay h row s (edit_leaf h s e) g.1.lawful (wins_of lay h row s g.1.lawful won) (leaf_covered lay h s e run.1.lawful (inl tree) makes)
+    not_final = win_not_final lay h row s (edit_leaf h s e) g.1.lawful (wins_of lay h row s g.1.lawful won) (leaf_covered lay h s e run.1.lawful (inl g.0) makes)

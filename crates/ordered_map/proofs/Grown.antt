@@ -32,6 +32,10 @@ pub record IsGrown (calls : ℕ → MapEdit) (lay : Layout) (h : History) : Type
   pub lawful : Lawful lay h
   pub shaped : Shaped (AllowsGiven calls) lay h
 
+-- a tree's mode is a map's
+pub tree_map : (mode : Mode) → mode ≡ TreeMode → IsMap mode
+tree_map mode e = rw e refl
+
 -- a trie opens as a tree
 pub start_same : (mode : Mode) → IsMap mode → value (Start TreeMode) ≡ value (Start mode)
 start_same mode e = map_opens TreeMode refl ∙ sym (map_opens mode e)

@@ -8,7 +8,6 @@ use Rattle.arena.specs.declared.word.ScxWord.TheVariants.{Plan}
 use Rattle.arena.specs.declared.word.Word.{Word}
 use Rattle.arena.specs.declared.layout.Layout.{Layout}
 use Rattle.arena.specs.declared.step.Row.{Row}
-use Rattle.arena.specs.Layout.{IsMap}
 use Rattle.arena.specs.Words.{info, scx, child}
 use Rattle.arena.specs.History.{History, Start, ◌⊳◌, value, Extends}
 use Rattle.arena.specs.Blame.{IsMember}
@@ -34,7 +33,7 @@ use Rattle.ordered_map.specs.TreeShape.{IsEdit, EditsLeaf, TakesLeafOut, leaf_pl
 use Rattle.ordered_map.specs.TreeWords.{class, is_leaf, level, toward, pairs, said}
 use Rattle.ordered_map.proofs.TreeFacts.{TreeFacts}
 use Rattle.ordered_map.proofs.Edited.{leaf_plan_says, join_plan_says, end_leaf_plan_says, end_join_plan_says, above_plan_says, content_now, replies}
-use Rattle.ordered_map.proofs.Grown.{IsGrown, tree_facts, first_begins, grown_tail, grown_since}
+use Rattle.ordered_map.proofs.Grown.{IsGrown, tree_map, tree_facts, first_begins, grown_tail, grown_since}
 use Rattle.ordered_map.proofs.Past.{path_named, Answered, walk_begins, walk_goes_on, walk_ends, grown_rises}
 use Rattle.ordered_map.proofs.Stood.{was_passed}
 use Rattle.ordered_map.proofs.Growing.{spells, root_leaf, root_left}
@@ -44,7 +43,7 @@ pub edits_of : (lay : Layout) (h : History) → IsTreeRun lay h → HasEdits lay
 edits_of lay h g = has_edits lay h g.1.lawful g.1.shaped
 
 pub grown : (lay : Layout) (h : History) (g : IsTreeRun lay h) → IsGrown (edits_of lay h g).edits lay h
-grown lay h g = record { mode = g.0; lawful = g.1.lawful; shaped = (edits_of lay h g).shaped }
+grown lay h g = record { mode = tree_map lay.mode g.0; lawful = g.1.lawful; shaped = (edits_of lay h g).shaped }
 
 -- One spelling
 
@@ -58,7 +57,7 @@ pub run_spells : (lay : Layout) (h : History) → IsTreeRun lay h → (ps : List
 run_spells lay h g = (map_of_log (edits_of lay h g).edits (log lay h), spells (edits_of lay h g).edits lay h (grown lay h g))
 
 -- the opening words are a run, and spell the empty map
-pub opening_run : (lay : Layout) → IsMap lay.mode → IsTreeRun lay (Start lay.mode)
+pub opening_run : (lay : Layout) → lay.mode ≡ TreeMode → IsTreeRun lay (Start lay.mode)
 unfolding Lawful Shaped
 opening_run lay mode = (mode, record { lawful = refl; shaped = tt })
 
@@ -66,7 +65,7 @@ opening_log : (calls : ℕ → MapEdit) (lay : Layout) → map_of_log calls (log
 unfolding log
 opening_log calls lay = refl
 
-pub opening_spells : (lay : Layout) → IsMap lay.mode → Spells lay (value (Start lay.mode)) []
+pub opening_spells : (lay : Layout) → lay.mode ≡ TreeMode → Spells lay (value (Start lay.mode)) []
 opening_spells lay mode =
     let g : IsTreeRun lay (Start lay.mode) = opening_run lay mode in
     subst (Spells lay (value (Start lay.mode))) (opening_log (edits_of lay (Start lay.mode) g).edits lay) (spells (edits_of lay (Start lay.mode) g).edits lay (Start lay.mode) (grown lay (Start lay.mode) g))
@@ -190,14 +189,14 @@ quiet_spells lay h r ps g e s =
 pub walk_first : (lay : Layout) (h : History) (k : ℕ) → IsTreeRun lay h → Passed h h k 0
 walk_first lay h k g = walk_begins (edits_of lay h g).edits lay h k (grown lay h g)
 
-pub walk_next : (lay : Layout) (h start : History) (k n : ℕ) → IsTreeRun lay h → Passed h start k n → Stays lay (value h) k n → is_leaf (value h) n ≡ false → Passed h start k (value h (child n (toward (value h) n k)))
-walk_next lay h start k n g p stay d = walk_goes_on (edits_of lay h g).edits lay h start k n (grown lay h g) p stay d
+pub walk_next : (lay : Layout) (h start : History) (k n : ℕ) → IsTreeRun lay h → Passed h start k n → is_leaf (value h) n ≡ false → Passed h start k (value h (child n (toward (value h) n k)))
+walk_next lay h start k n g p d = walk_goes_on (edits_of lay h g).edits lay h start k n (grown lay h g) p (inl g.0) d
 
 pub walk_rises : (lay : Layout) (h start : History) (k n : ℕ) (side : Side) → IsTreeRun lay h → Passed h start k n → is_leaf (value h) n ≡ false → level (value h) n < level (value h) (value h (child n side))
 walk_rises lay h start k n side g p d = grown_rises (edits_of lay h g).edits lay h n side (grown lay h g) (was_passed h start k n p) d
 
 pub walk_named : (lay : Layout) (h start : History) (k n : ℕ) → IsTreeRun lay h → Passed h start k n → IsNamed lay h n
-walk_named lay h start k n g p = named_since lay h p.0 n g.1.lawful p.1 (path_named lay p.0 k n g.0 p.3)
+walk_named lay h start k n g p = named_since lay h p.0 n g.1.lawful p.1 (path_named lay p.0 k n (tree_map lay.mode g.0) p.3)
 
 pub walk_answers : (lay : Layout) (h start : History) (k n : ℕ) → k < 2 ^ 64 → IsTreeRun lay h → Passed h start k n → is_leaf (value h) n ≡ true → IsAnswerAt lay h start k (said (value h) k n)
 walk_answers lay h start k n small g p d =
@@ -228,7 +227,7 @@ update_makes lay h before row s e g w won x = subst (IsEditAt lay before row s) 
     calls = with_edit s e given
 
     whole : IsGrown calls lay h
-    whole = record { mode = g.0; lawful = g.1.lawful; shaped = edit_told lay h s e given g.1.lawful x (edits_of lay h g).shaped }
+    whole = record { mode = tree_map lay.mode g.0; lawful = g.1.lawful; shaped = edit_told lay h s e given g.1.lawful x (edits_of lay h g).shaped }
 
 pub win_makes : (lay : Layout) (h before : History) (row : Row) (s : ℕ) (e : MapEdit) → IsTreeRun lay h → Extends h (row ⊳ before) → IsWin before row s → Makes lay h s e → IsEditAt lay before row s e
 win_makes lay h before row s e g w won x = update_makes lay h before row s e g w (wins_of lay before row s (lawful_since lay h (row ⊳ before) g.1.lawful w) won) x

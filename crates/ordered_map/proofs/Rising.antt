@@ -29,7 +29,7 @@ use Rattle.ordered_map.specs.Runs.{IsTreeRun}
 use Rattle.ordered_map.specs.Spelled.{Spells}
 use Rattle.ordered_map.specs.FillOrder.{HasStoodInField, HasRisingLevels, AreFilledInOrder}
 use Rattle.ordered_map.proofs.Meanings.{run_since, run_spells}
-use Rattle.ordered_map.proofs.Grown.{start_is, start_same}
+use Rattle.ordered_map.proofs.Grown.{start_is, start_same, tree_map}
 use Rattle.ordered_map.proofs.Stood.{was_more, was_now}
 use Rattle.ordered_map.proofs.TreeRuns.{child_stood, levels_rise, new_stood}
 
@@ -151,7 +151,7 @@ stood : (lay : Layout) (h : History) (n : ℕ) → IsTreeRun lay h → AreFilled
 stood lay (Start mode) n g order x = opening_stood lay mode n is g (⊎_elim (λ i. i) small x)
   where
     is : IsMap mode
-    is = start_is lay mode g.1.lawful g.0
+    is = start_is lay mode g.1.lawful (tree_map lay.mode g.0)
 
     small : ((m : ℕ) × (from : Side) × HasHeld (Start mode) (child m from) n) → n < 3
     small y = subst (λ k. k < 3) (sym (ap (λ f. f (child y.0 y.1)) (map_opens mode is)) ∙ held_start mode (child y.0 y.1) n y.2) (field_small y.0 y.1)

@@ -31,7 +31,8 @@ use Rattle.ordered_map.proofs.Growing.{grown_root}
 use Rattle.ordered_map.proofs.Stood.{was_now, was_passed, was_named}
 use Rattle.ordered_map.proofs.TreeFacts.{TreeFacts}
 use Rattle.ordered_map.proofs.Edited.{result, tree_now, new_in}
-use Rattle.ordered_map.proofs.Grown.{tree_facts, grown_tail}
+use Rattle.arena.specs.Layout.{IsMap}
+use Rattle.ordered_map.proofs.Grown.{tree_facts, tree_map, grown_tail}
 use Rattle.ordered_map.proofs.Trees.{passes_has, IsBelowFork, has_above, fields_apart, path_level}
 use Rattle.ordered_map.proofs.Holding.{SameSettled}
 use Rattle.ordered_map.proofs.Taken.{grown_log, grown_depth}
@@ -49,14 +50,17 @@ tree_not_final lay h t n g i p = go (is_final (log lay h) n) refl
 pub path_not_final : (lay : Layout) (h : History) (k n : ℕ) → IsTreeRun lay h → IsOnPath h k n → is_final (log lay h) n ≡ false
 path_not_final lay h k n g x = tree_not_final lay h x.tree n g x.is_tree (passes_has (value h) k x.tree n x.passes)
 
--- a node that was in the tree and is not final is still there, but for the leaves of a trie
-pub tree_remains : (lay : Layout) (h : History) (t : Tree) (n : ℕ) → IsTreeRun lay h → WasInTree h n → (lay.mode ≡ TreeMode) ⊎ (is_leaf (value h) n ≡ false) → is_final (log lay h) n ≡ false → IsTree (value h) t → Has t n
-tree_remains lay h t n g x kind e i = grown_remains (edits_of lay h g).edits lay h t n (grown lay h g) x kind e i
+-- a node that was in the tree and is not final is still there
+pub tree_remains : (lay : Layout) (h : History) (t : Tree) (n : ℕ) → IsTreeRun lay h → WasInTree h n → is_final (log lay h) n ≡ false → IsTree (value h) t → Has t n
+tree_remains lay h t n g x e i = grown_remains (edits_of lay h g).edits lay h t n (grown lay h g) x (inl g.0) e i
 
 -- the new node of an update that has won is in the tree
 pub new_stood : (lay : Layout) (h : History) (r : Row) (u : ℕ) → IsTreeRun lay (r ⊳ h) → UpdateWins h r u → WasInTree (r ⊳ h) (new h u)
-new_stood lay h r u g w = was_now (r ⊳ h) (result edits lay h r u f w g.0 g.1.lawful then).tree (new h u) (tree_now edits lay h r u f w g.0 g.1.lawful then) (new_in edits lay h r u f w g.0 g.1.lawful then)
+new_stood lay h r u g w = was_now (r ⊳ h) (result edits lay h r u f w map g.1.lawful then).tree (new h u) (tree_now edits lay h r u f w map g.1.lawful then) (new_in edits lay h r u f w map g.1.lawful then)
   where
+    map : IsMap lay.mode
+    map = tree_map lay.mode g.0
+
     edits : ℕ → MapEdit
     edits = (edits_of lay (r ⊳ h) g).edits
 
@@ -82,32 +86,32 @@ passed_blank lay h start k n g p = stood_blank lay h n g (was_passed h start k n
 pub root_head : (lay : Layout) (h : History) → IsTreeRun lay h → value h (node 0 (Settled Head)) ≡ 2
 root_head lay h g = grown_root (edits_of lay h g).edits lay h (grown lay h g)
 
--- a node that was on a path, and stays there, is on it if it is not final
-pub path_remains : (lay : Layout) (h : History) (k n : ℕ) → IsTreeRun lay h → WasOnPath h k n → Stays lay (value h) k n → is_final (log lay h) n ≡ false → IsOnPath h k n
-path_remains lay h k n g p stay e = grown_on_path (edits_of lay h g).edits lay h p.0 k n (grown lay h g) p.1 p.2 stay e
+-- a node that was on a path is on it if it is not final
+pub path_remains : (lay : Layout) (h : History) (k n : ℕ) → IsTreeRun lay h → WasOnPath h k n → is_final (log lay h) n ≡ false → IsOnPath h k n
+path_remains lay h k n g p e = grown_on_path (edits_of lay h g).edits lay h p.0 k n (grown lay h g) p.1 p.2 (inl g.0) e
 
 -- so is one that was passed and is not marked
-pub passed_unmarked : (lay : Layout) (h start : History) (k n : ℕ) → IsTreeRun lay h → Passed h start k n → Stays lay (value h) k n → value h (marked n) ≡ 0 → IsOnPath h k n
-passed_unmarked lay h start k n g p stay e = path_remains lay h k n g (p.0, p.1, p.3) stay (not_final lay h n g.1.lawful e)
+pub passed_unmarked : (lay : Layout) (h start : History) (k n : ℕ) → IsTreeRun lay h → Passed h start k n → value h (marked n) ≡ 0 → IsOnPath h k n
+passed_unmarked lay h start k n g p e = path_remains lay h k n g (p.0, p.1, p.3) (not_final lay h n g.1.lawful e)
 
 -- the log is no longer than the taken nodes are many
 pub log_short : (lay : Layout) (h : History) → IsTreeRun lay h → length (log lay h) ≤ length (taken_nodes h)
 log_short lay h g = grown_log (edits_of lay h g).edits lay h (grown lay h g)
 
 -- so a node of a tree that was passed is not as deep as they are many, and two
-pub passed_depth : (lay : Layout) (h start : History) (k n : ℕ) → lay.mode ≡ TreeMode → IsTreeRun lay h → Passed h start k n → level (value h) n < 2 + length (taken_nodes h)
-passed_depth lay h start k n tree g p = grown_depth (edits_of lay h g).edits lay h start k n tree (grown lay h g) p
+pub passed_depth : (lay : Layout) (h start : History) (k n : ℕ) → IsTreeRun lay h → Passed h start k n → level (value h) n < 2 + length (taken_nodes h)
+passed_depth lay h start k n g p = grown_depth (edits_of lay h g).edits lay h start k n g.0 (grown lay h g) p
 
 -- and so is one that was there
-pub stood_depth : (lay : Layout) (h : History) (n : ℕ) → lay.mode ≡ TreeMode → IsTreeRun lay h → WasInTree h n → level (value h) n < 2 + length (taken_nodes h)
-stood_depth lay h n tree g x =
-    let a : level (value h) n ≤ suc (length (log lay h)) = grown_level (edits_of lay h g).edits lay tree h (grown lay h g) n x in
+pub stood_depth : (lay : Layout) (h : History) (n : ℕ) → IsTreeRun lay h → WasInTree h n → level (value h) n < 2 + length (taken_nodes h)
+stood_depth lay h n g x =
+    let a : level (value h) n ≤ suc (length (log lay h)) = grown_level (edits_of lay h g).edits lay g.0 h (grown lay h g) n x in
     let b : length (log lay h) ≤ length (taken_nodes h) = log_short lay h g in
     omega (arith, a, b)
 
 -- the settled words of a node that was in the tree do not change
 pub stood_settled : (lay : Layout) (h m : History) (n : ℕ) → IsTreeRun lay h → Extends h m → WasInTree m n → SameSettled (value m) (value h) n
-stood_settled lay h m n g e x part i = node_since lay h m n part g.1.lawful e i (was_named lay m n g.0 (run_since lay h m g e).1.lawful x)
+stood_settled lay h m n g e x part i = node_since lay h m n part g.1.lawful e i (was_named lay m n (tree_map lay.mode g.0) (run_since lay h m g e).1.lawful x)
 
 -- a node that was in the tree is the root, or a field of the fork above it has held it
 pub stood_in_field : (lay : Layout) (h : History) (n : ℕ) → IsTreeRun lay h → WasInTree h n → IsInField lay h n
@@ -115,11 +119,11 @@ stood_in_field lay h n g x = go (has_above (value x.moment) x.tree _ _ n x.is_tr
   where
     go : (n ≡ root x.tree) ⊎ IsBelowFork (value x.moment) x.tree n → IsInField lay h n
     go (inl e) = let z : n ≡ 0 = e ∙ x.is_tree.is in inl (rw g.0 (omega (arith, z)))
-    go (inr y) = inr (y.fork, y.side, was_named lay h y.fork g.0 g.1.lawful record { moment = x.moment; within = x.within; tree = x.tree; is_tree = x.is_tree; has = y.has }, held_since h x.moment (child y.fork y.side) n x.within (held_at x.moment (child y.fork y.side) n y.holds))
+    go (inr y) = inr (y.fork, y.side, was_named lay h y.fork (tree_map lay.mode g.0) g.1.lawful record { moment = x.moment; within = x.within; tree = x.tree; is_tree = x.is_tree; has = y.has }, held_since h x.moment (child y.fork y.side) n x.within (held_at x.moment (child y.fork y.side) n y.holds))
 
 -- the children of a fork that has been in the tree and is not final are in the tree
 child_has : (lay : Layout) (h : History) (t : Tree) (n : ℕ) (side : Side) → IsTreeRun lay h → IsTree (value h) t → WasInTree h n → is_final (log lay h) n ≡ false → is_leaf (value h) n ≡ false → Has t (value h (child n side))
-child_has lay h t n side g i x e fork = (path_level (value h) t _ _ n side i.shows (tree_remains lay h t n g x (inr fork) e i) fork).1
+child_has lay h t n side g i x e fork = (path_level (value h) t _ _ n side i.shows (tree_remains lay h t n g x e i) fork).1
 
 -- what a fork holds in its fields that has been in the tree and is not final is in the tree
 pub child_stood : (lay : Layout) (h m : History) (n : ℕ) (side : Side) → IsTreeRun lay h → Extends h m → WasInTree m n → is_final (log lay m) n ≡ false → is_leaf (value m) n ≡ false → WasInTree h (value m (child n side))
@@ -133,7 +137,7 @@ child_stood lay h m n side g e x not_final fork = record { moment = m; within = 
 
 -- its two children are different
 pub children_apart : (lay : Layout) (h : History) (n : ℕ) → IsTreeRun lay h → WasInTree h n → is_final (log lay h) n ≡ false → is_leaf (value h) n ≡ false → value h (child n Left) ≢ value h (child n Right)
-children_apart lay h n g x not_final fork = fields_apart (value h) spelled.tree _ _ n spelled.is_tree.shows (tree_remains lay h spelled.tree n g x (inr fork) not_final spelled.is_tree) fork
+children_apart lay h n g x not_final fork = fields_apart (value h) spelled.tree _ _ n spelled.is_tree.shows (tree_remains lay h spelled.tree n g x not_final spelled.is_tree) fork
   where
     spelled : Spells lay (value h) (run_spells lay h g).0
     spelled = (run_spells lay h g).1

@@ -1,7 +1,5 @@
 //! Walks from the root of the tree down to a leaf.
-ghost use Rattle.std.specs.Prelude.{◌≡◌, ℕ, ◌+◌, ◌-◌, ◌*◌, ◌^◌, ◌<◌, ◌≤◌, true, false, if◌then◌else◌, ◌==◌, nat_lt};
-ghost use Rattle.template.specs.Walk.Steps.{walk_left, WalkFits};
-ghost use Rattle.template.specs.Walk.Known.{asks_key, open_side, goal_slot, WalkAsks, WalkEnds, WalkStands, WalkStandsAtLeaf, IsSlotFor, WalkTurn, here, WalkIsReady, WalkWaits, WalkAnswers};
+ghost use Rattle.std.specs.Prelude.{◌≡◌, ℕ};
 
 use crate::shape::Tree;
 use arena::{
@@ -97,6 +95,7 @@ pub struct WalkRun {
 }
 
 impl WalkRun {
+    ghost use Rattle.std.specs.Prelude.{◌≡◌, ℕ, ◌+◌, ◌-◌, ◌*◌, ◌^◌, ◌<◌, ◌≤◌, true, false, if◌then◌else◌, ◌==◌, nat_lt};
     ghost use Rattle.arena.specs.Heads.{head_of};
     ghost use Rattle.arena.specs.declared.word.NodeWord.TheVariants.{Settled, Child as ChildWord};
     ghost use Rattle.arena.specs.declared.word.SettledPart.TheVariants.{Head as HeadWord, More as MoreWord, Key as KeyWord};
@@ -105,6 +104,8 @@ impl WalkRun {
     ghost use Rattle.arena.specs.Machines.{MatchTurn, Call};
     ghost use Rattle.ordered_map.specs.TreeWords.{is_leaf, level, toward};
     ghost use Rattle.template.specs.FoundLeaf.{path_key, asked_key};
+    ghost use Rattle.template.specs.Walk.Steps.{walk_left};
+    ghost use Rattle.template.specs.Walk.Known.{asks_key, open_side, goal_slot, WalkAsks, WalkEnds, WalkStands, WalkStandsAtLeaf, IsSlotFor, WalkTurn, here};
 
     /// A walk that has not begun. It asks for at most three steps for each node that has been taken
     /// when it ends, and for eleven more.
@@ -316,6 +317,9 @@ impl WalkRun {
 impl Machine<Tree> for WalkRun {
     type Answer = Found;
 
+    ghost use Rattle.std.specs.Prelude.{◌≡◌, ℕ};
+    ghost use Rattle.template.specs.Walk.Steps.{walk_left, WalkFits};
+    ghost use Rattle.template.specs.Walk.Known.{WalkIsReady, WalkWaits, WalkAnswers};
     ghost use Rattle.template.specs.Walk.Laws.{walk_keeps, walk_lawful, walk_made, walk_told};
 
     ghost ready = { WalkIsReady };

@@ -3,6 +3,7 @@ use Rattle.std.proofs.Common.{◌≡◌, ◌≢◌, ℕ, ◌/◌, ◌%◌, ◌<�
 use Rattle.std.proofs.lemmas.Bool.{eq-eqb}
 use Rattle.arena.specs.declared.layout.Layout.{Layout}
 use Rattle.arena.specs.declared.limits.Mode.{Mode}
+use Rattle.arena.specs.declared.limits.Mode.TheVariants.{Tree as TreeMode}
 use Rattle.arena.specs.declared.step.Kind.TheVariants.{Fill as FillKind, LoadSettled}
 use Rattle.arena.specs.declared.step.Step.{Step}
 use Rattle.arena.specs.declared.word.NodeWord.{NodeWord}
@@ -13,7 +14,7 @@ use Rattle.arena.specs.declared.word.Word.{Word}
 use Rattle.arena.specs.declared.word.Word.TheVariants.{Node, Scx as ScxOf}
 use Rattle.arena.specs.Fills.{IsOwnNode}
 use Rattle.arena.specs.History.{History}
-use Rattle.arena.specs.Layout.{IsMap, opening_nodes}
+use Rattle.arena.specs.Layout.{opening_nodes}
 use Rattle.arena.specs.Machines.{Call, row_of, begun_at}
 use Rattle.arena.specs.Words.{node, scx, child}
 use Rattle.help.specs.Laws.Help.Lawful.{help_fills_not}
@@ -57,10 +58,10 @@ unfolding word_number
 same_number n k a b e = ap word_number e
 
 -- what nothing mentions has been in no field
-pub unstood : (lay : Layout) (h : History) (c n : ℕ) → IsMap lay.mode → IsOwnNode lay c n → IsUnmentioned h n → ¬ HasStoodInField h n
+pub unstood : (lay : Layout) (h : History) (c n : ℕ) → lay.mode ≡ TreeMode → IsOwnNode lay c n → IsUnmentioned h n → ¬ HasStoodInField h n
 unstood lay h c n mode own u (inl i) =
     let a = own.from in
-    let b : n < opening_nodes lay.mode = rw mode i in
+    let b : n < opening_nodes lay.mode = subst (λ (m : Mode). n < opening_nodes m) (sym mode) i in
     omega (a, b, arith)
 unstood lay h c n mode own u (inr x) = u.in_no_field x.0 x.1 x.2
 

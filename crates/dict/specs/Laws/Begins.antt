@@ -1,6 +1,6 @@
 -- A call that has not begun may be called: its pass is at rest with the share that it has.
 use Rattle.std.proofs.Common.{◌≡◌, ℕ, ◌+◌, ◌<◌, ◌^◌, None, refl, sym, ◌∙◌, arith}
-use Rattle.arena.specs.Layout.{IsMap}
+use Rattle.arena.specs.declared.limits.Mode.TheVariants.{Tree as TreeMode}
 use Rattle.arena.specs.Machines.{Call, IsRun}
 use Rattle.arena.specs.Share.{Remaining}
 use Rattle.arena.proofs.Lemmas.{ends_self}
@@ -65,5 +65,5 @@ module _ (c : Call) (run : IsTreeRun c.layout c.start) where
   map_begins m tries x few r = (goes (inner m) tries (is_of_kind m) x r, inside (inner m) tries (is_of_kind m) x few r)
 
 -- so may that of a dictionary
-pub dict_begins : (keys values : ℕ → Type 0) {K V : Type 0} (m : DictRun K V) (c : Call) → IsMap c.layout.mode → IsRun (TypedAllows keys values) c.layout c.start → IsTypedCall keys values (call_in m.run) → IsUnbegun m.run m.tries c.number → IsFewCall (call_in m.run) → RestsWith c c.start (share_of m.run) → DictIsReady keys values m c c.start None
+pub dict_begins : (keys values : ℕ → Type 0) {K V : Type 0} (m : DictRun K V) (c : Call) → c.layout.mode ≡ TreeMode → IsRun (TypedAllows keys values) c.layout c.start → IsTypedCall keys values (call_in m.run) → IsUnbegun m.run m.tries c.number → IsFewCall (call_in m.run) → RestsWith c c.start (share_of m.run) → DictIsReady keys values m c c.start None
 dict_begins keys values m c mode run typed x few r = (typed, map_begins c (mode, typed_run keys values c.layout c.start run) m.run m.tries x few r)

@@ -3,8 +3,8 @@
 use Rattle.std.proofs.Common.{◌≡◌, ℕ, List, [], inl, inr, refl, sym, subst}
 use Rattle.arena.specs.declared.layout.Layout.{Layout}
 use Rattle.arena.specs.declared.limits.Mode.{Mode}
+use Rattle.arena.specs.declared.limits.Mode.TheVariants.{Tree as TreeMode}
 use Rattle.arena.specs.declared.step.Row.{Row}
-use Rattle.arena.specs.Layout.{IsMap}
 use Rattle.arena.specs.History.{History, Start, ◌⊳◌, value, Extends}
 use Rattle.arena.specs.Lawful.{Lawful}
 use Rattle.arena.specs.Log.{IsEntered}
@@ -32,7 +32,7 @@ module _ (keys values : ℕ → Type 0) where
   -- The map of a run: of each SCX-record that wins some edit may be said that is of such words, and
   -- whichever is said, the map after it is the same.
 
-  typed_row : (lay : Layout) (h : History) (r : Row) → IsMap lay.mode → IsRun (TypedAllows keys values) lay (r ⊳ h) → IsTypedThere keys values lay h → (m : List Pair) × Spells lay (value (r ⊳ h)) m × AreTyped keys values m
+  typed_row : (lay : Layout) (h : History) (r : Row) → lay.mode ≡ TreeMode → IsRun (TypedAllows keys values) lay (r ⊳ h) → IsTypedThere keys values lay h → (m : List Pair) × Spells lay (value (r ⊳ h)) m × AreTyped keys values m
   typed_row lay h r mode run there = go (logs lay h r run.lawful)
     where
       tree : IsTreeRun lay (r ⊳ h)
@@ -64,7 +64,7 @@ module _ (keys values : ℕ → Type 0) where
   typed_there lay (r ⊳ h) run = typed_stays lay h r run (typed_there lay h (typed_since lay (r ⊳ h) h run (inr (ends_self h))))
 
   -- so each map that they spell is of such words
-  pub typed_map : (lay : Layout) (h : History) → IsMap lay.mode → IsRun (TypedAllows keys values) lay h → (m : List Pair) → Spells lay (value h) m → AreTyped keys values m
+  pub typed_map : (lay : Layout) (h : History) → lay.mode ≡ TreeMode → IsRun (TypedAllows keys values) lay h → (m : List Pair) → Spells lay (value h) m → AreTyped keys values m
   typed_map lay h mode run m x =
       let y = typed_there lay h run mode in
       subst (AreTyped keys values) (one_spelling lay (value h) y.0 m y.1 x) y.2

@@ -1,8 +1,8 @@
 -- What every run under the shape of the tree keeps: the words are a tree.
 use Rattle.std.proofs.Common.{◌≡◌, List, refl}
+use Rattle.arena.specs.declared.limits.Mode.TheVariants.{Tree as TreeMode}
 use Rattle.arena.specs.declared.layout.Layout.{Layout}
 use Rattle.arena.specs.declared.step.Row.{Row}
-use Rattle.arena.specs.Layout.{IsMap}
 use Rattle.arena.specs.History.{History, Start, ◌⊳◌, value}
 use Rattle.arena.specs.Lawful.{Lawful}
 use Rattle.arena.specs.Shape.{Shaped}
@@ -12,9 +12,9 @@ use Rattle.ordered_map.proofs.Lemmas.{run_spells}
 use Rattle.ordered_map.specs.Spelled.{Spells}
 use Rattle.ordered_map.specs.TreeShape.{TreeAllows}
 
--- in a map's mode the words spell a map
+-- in tree mode the words spell a map
 abbrev pub IsTreeThere : Layout → History → Type 0
-IsTreeThere lay h = IsMap lay.mode → (m : List Pair) × Spells lay (value h) m
+IsTreeThere lay h = lay.mode ≡ TreeMode → (m : List Pair) × Spells lay (value h) m
 
 -- they do so at the start
 pub tree_opens : (lay : Layout) → IsTreeThere lay (Start lay.mode)

@@ -2,6 +2,7 @@
 -- get is so, and leads them no deeper than the taken nodes allow.
 use Rattle.std.proofs.Common.{◌≡◌, ◌≢◌, ℕ, ◌+◌, ◌<◌, ◌≤◌, length, Option, Some, None, inr, refl, sym, ◌∙◌, ap, arith, subst}
 use Rattle.arena.specs.declared.layout.Layout.{Layout}
+use Rattle.arena.specs.declared.limits.Mode.TheVariants.{Tree as TreeMode}
 use Rattle.arena.specs.declared.step.Row.{Row}
 use Rattle.arena.specs.declared.step.Step.{Step}
 use Rattle.arena.specs.declared.step.Kind.TheVariants.{LoadSettled, LoadChild}
@@ -13,7 +14,7 @@ use Rattle.arena.specs.declared.word.Slot.{Slot}
 use Rattle.arena.specs.declared.word.Slot.TheVariants.{First}
 use Rattle.arena.specs.declared.head.Head.{Head as HeadParts}
 use Rattle.arena.specs.Heads.{head_of}
-use Rattle.arena.specs.Layout.{IsMap, all_nodes}
+use Rattle.arena.specs.Layout.{all_nodes}
 use Rattle.arena.specs.Words.{node, child}
 use Rattle.arena.specs.History.{History, ◌⊳◌, value}
 use Rattle.arena.specs.Machines.{IsRun, Call, row_of, IsTold}
@@ -113,7 +114,7 @@ walk_keeps m c h s r run other w = record { run = run_more c h r w.run run; smal
 
 -- The step that it waits for
 
-root_inside : (lay : Layout) → IsMap lay.mode → 0 < all_nodes lay
+root_inside : (lay : Layout) → lay.mode ≡ TreeMode → 0 < all_nodes lay
 root_inside lay e = rw e (omega arith)
 
 leaf_inside : (c : Call) (h : History) (m : WalkRun) (head : HeadParts) → IsTreeRun c.layout h → WalkStandsAtLeaf c h m.goal m.trail head → m.trail.node.0 < all_nodes c.layout
