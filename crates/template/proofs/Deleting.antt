@@ -95,6 +95,7 @@ module _ (c : Call) (h : History) (k old : ℕ) (f : Found) (d : Descriptor) (ab
 
   will_take_out : WillTakeOut c.layout c.pass h d (Delete k) f.trail.side
   will_take_out = record {
+    tree = run.0;
     small = small;
     path = let p = grand.passed.passed in subst (WasOnPath h k) (sym i.grand) (p.0, p.1, p.3);
     fork = subst (λ m. is_leaf (value h) m ≡ false) (sym i.grand) grand.fork;

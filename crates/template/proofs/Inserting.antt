@@ -34,6 +34,7 @@ leaf_edit_words m d f n x plan two parent leaf old new = record {
 -- An SCX-record that puts such a fresh node in place of the leaf that was found makes the edit.
 pub edit_promised : (c : Call) (h : History) (s : ℕ) (e : MapEdit) (f : Found) (d : Descriptor) (n : ℕ) → IsTreeRun c.layout h → (edit_key e) < 2 ^ 64 → HasFoundLeaf c h (edit_key e) f → IsLeafEditAt f d n → HasFreshEdit c.layout c.pass h e f.trail.node.0 n → (value_left e ≡ None → f.value ≢ None) → IsPromised c.layout c.pass h s d e
 edit_promised c h s e f d n run small a i w there = leaf_edit_promised c.layout c.pass s h d e c.is_pass record {
+  tree = run.0;
   small = small;
   path = let p = parent.passed.passed in subst (WasOnPath h (edit_key e)) (sym i.parent) (p.0, p.1, p.3);
   named = subst (IsNamed c.layout h) (sym i.parent) (walk_named c.layout h parent.passed.first (edit_key e) f.trail.parent.0 run parent.passed.passed);

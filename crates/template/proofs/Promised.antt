@@ -1,6 +1,8 @@
 -- What a pass has in hand for an edit allows its SCX-record, whatever rows come until that begins.
-use Rattle.std.proofs.Common.{◌≡◌, ◌≢◌, ℕ, ◌<◌, false, inl, inr, refl, sym, ◌∙◌, ap, arith, subst}
+use Rattle.std.proofs.Common.{◌≡◌, ◌≢◌, ℕ, ◌<◌, true, false, inl, inr, refl, sym, ◌∙◌, ap, arith, subst}
 use Rattle.arena.specs.declared.layout.Layout.{Layout}
+use Rattle.arena.specs.declared.limits.Mode.{Mode}
+use Rattle.arena.specs.declared.limits.Mode.TheVariants.{Tree as TreeMode, Trie as TrieMode}
 use Rattle.arena.specs.declared.word.Side.{Side}
 use Rattle.arena.specs.declared.word.Side.TheVariants.{Left, Right}
 use Rattle.arena.specs.declared.word.NodeWord.{NodeWord}
@@ -28,6 +30,10 @@ use Rattle.ordered_map.specs.TreeWords.{is_leaf, toward, said}
 use Rattle.ordered_map.specs.Edits.{IsLeafEdit, IsJoinBy, HasFieldsOf}
 use Rattle.ordered_map.proofs.Lemmas.{join_plan_says, SameSettled, settled_said, settled_toward, settled_leaf, move_leaf_edit, move_join_by}
 use Rattle.template.specs.Promises.{IsPromised, IsFresh, WillEditLeaf, IsSnapOf, WillTakeOut}
+
+-- no mode is two
+apart : (mode : Mode) → mode ≡ TreeMode → mode ≢ TrieMode
+apart mode tree trie = absurd (let e : TreeMode ≡ TrieMode = sym tree ∙ trie in cc)
 
 -- what is promised is allowed
 pub promised_allowed : (lay : Layout) (c : ℕ) (h : History) (s : ℕ) (d : Descriptor) (e : MapEdit) → IsPromised lay c h s d e → IsAllowed TreeAllows lay c h s d
@@ -118,6 +124,8 @@ pub leaf_edit_promised : (lay : Layout) (c s : ℕ) (h : History) (d : Descripto
 leaf_edit_promised lay c s h d e is_pass w k later run same begins now = record {
   small = w.small;
   path = subst (WasOnPath k (edit_key e)) (sym (is_member k s d same 0)) (was_on_path_since h k (edit_key e) (d.member 0) ends w.path);
+  stays = inl w.tree;
+  fits = λ trie. absurd (apart lay.mode w.tree trie);
   fork = subst (λ n. is_leaf (value k) n ≡ false) (sym (is_member k s d same 0)) (settled_leaf (value h) (value k) (d.member 0) parent ∙ w.fork);
   edit = inl record {
     plan = is_plan k s d same ∙ w.plan ∙ ap leaf_plan (sym (settled_toward (value h) (value k) (d.member 0) (edit_key e) parent) ∙ ap (λ n. toward (value k) n (edit_key e)) (sym (is_member k s d same 0)));
@@ -126,7 +134,7 @@ leaf_edit_promised lay c s h d e is_pass w k later run same begins now = record 
         (subst (λ n. IsLeafEdit (value k) e n d.new) (sym (is_member k s d same 1)) moved);
     there = λ none absent. w.there none (sym says_now ∙ absent);
   };
-  fresh = λ two. subst (λ n. is_leaf (value k) n ≡ false → (side : Side) → ¬ IsNamed lay k (value k (child n side))) (sym (is_new k s d same)) unnamed;
+  fresh = λ two. subst (λ n. is_leaf (value k) n ≡ false → (side : Side) → is_leaf (value k) (value k (child n side)) ≡ true → ¬ IsNamed lay k (value k (child n side))) (sym (is_new k s d same)) (λ fork side leaf. unnamed fork side);
 }
   where
     ends : Extends k h
@@ -165,15 +173,17 @@ pub taken_out_promised : (lay : Layout) (c s : ℕ) (h : History) (d : Descripto
 taken_out_promised lay c s h d e side is_pass w k later run same begins now = record {
   small = w.small;
   path = subst (WasOnPath k (edit_key e)) (sym (at 0)) (was_on_path_since h k (edit_key e) (d.member 0) ends w.path);
+  stays = inl w.tree;
+  fits = λ trie. absurd (apart lay.mode w.tree trie);
   fork = subst (λ n. is_leaf (value k) n ≡ false) (sym (at 0)) (settled_leaf (value h) (value k) (d.member 0) (words 0 (omega arith)) ∙ w.fork);
-  edit = inr (subst (TakesLeafOut k s e) (sym side_now) record {
+  edit = inr (inl (subst (TakesLeafOut k s e) (sym side_now) record {
     plan = is_plan k s d same ∙ w.plan ∙ ap join_plan (sym (settled_toward (value h) (value k) (d.member 0) (edit_key e) (words 0 (omega arith))) ∙ ap (λ n. toward (value k) n (edit_key e)) (sym (at 0)));
     old = is_old k s d same ∙ w.old ∙ sym (at 1);
     edit = join_here;
     fields = λ q. (left_here q, right_here q);
     copied = copied_here;
-  });
-  fresh = λ two f z. absurd (let a : count k s ≡ 2 = two in let b : count k s ≡ 4 = four in omega (arith, a, b));
+  }));
+  fresh = λ two f z leaf. absurd (let a : count k s ≡ 2 = two in let b : count k s ≡ 4 = four in omega (arith, a, b));
 }
   where
     four : count k s ≡ 4

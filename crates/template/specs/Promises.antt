@@ -1,6 +1,7 @@
 -- What has to be known for an edit's SCX-record to be allowed, whatever rows come until it begins.
 use Rattle.std.specs.Prelude.{◌≡◌, ◌≢◌, ℕ, ◌^◌, ◌<◌, false, None}
 use Rattle.arena.specs.declared.layout.Layout.{Layout}
+use Rattle.arena.specs.declared.limits.Mode.TheVariants.{Tree as TreeMode}
 use Rattle.arena.specs.declared.word.Side.{Side}
 use Rattle.arena.specs.Words.{info, child}
 use Rattle.arena.specs.History.{History, value}
@@ -38,9 +39,10 @@ pub record HasFreshEdit (lay : Layout) (c : ℕ) (h : History) (e : MapEdit) (l 
   pub edit : IsLeafEdit (value h) e l n
   pub below : is_leaf (value h) n ≡ false → (side : Side) → IsFresh lay c h (value h (child n side))
 
--- What an edit of a leaf has in hand: a fork that was on the key's path, its leaf on the side of
+-- What an edit of a leaf of a tree has in hand: a fork that was on the key's path, its leaf on the side of
 -- the key, in which a delete finds it, and the fresh node that is to replace that.
 pub record WillEditLeaf (lay : Layout) (c : ℕ) (h : History) (d : Descriptor) (e : MapEdit) : Type 0 where
+  pub tree : lay.mode ≡ TreeMode
   pub small : edit_key e < 2 ^ 64
   pub path : WasOnPath h (edit_key e) (d.member 0)
   pub named : IsNamed lay h (d.member 0)
@@ -57,10 +59,11 @@ pub record IsSnapOf (lay : Layout) (h : History) (d : Descriptor) (j : ℕ) (sna
   pub node : snap.node.0 ≡ d.member j
   pub scx : snap.scx.0 ≡ d.seen j
 
--- What has in hand what is to take a leaf out, where the leaf of the key is on this side of its
+-- What has in hand what is to take a leaf of a tree out, where the leaf of the key is on this side of its
 -- parent: two forks that were on the key's path, the children of the lower one as its snapshot
 -- found them, one of which is the leaf, and a fresh copy of the other.
 pub record WillTakeOut (lay : Layout) (c : ℕ) (h : History) (d : Descriptor) (e : MapEdit) (side : Side) : Type 0 where
+  pub tree : lay.mode ≡ TreeMode
   pub small : edit_key e < 2 ^ 64
   pub path : WasOnPath h (edit_key e) (d.member 0)
   pub fork : is_leaf (value h) (d.member 0) ≡ false
