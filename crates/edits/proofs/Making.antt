@@ -99,7 +99,7 @@ module _ {E : Type 0} (e : EditMeaning E) (ed : E) (c : Call) (f : Found) (begin
   begun = run_since c.layout before begin then since
 
   leaf : edit_leaf before s (e.edit ed f) ≡ f.trail.node.0
-  leaf = covers_leaf before then since covers_snaps
+  leaf = covers_leaf before then since covers_snaps makes
 
   settled : SameSettled (value begin) (value before) f.trail.node.0
   settled part i = node_since c.layout before begin f.trail.node.0 part then.1.lawful since i (walk_named c.layout begin found.trail.node.first (path_key (e.goal ed)) f.trail.node.0 begun found.trail.node.passed)

@@ -31,7 +31,7 @@ use Rattle.prims.specs.declared.llx.LlxRun.{LlxRun}
 use Rattle.prims.specs.declared.scx.ScxRun.{ScxRun}
 use Rattle.prims.specs.declared.snap.Snap.{Snap}
 use Rattle.ordered_map.specs.OrderedMap.{MapEdit, edit_key, end_pair, get}
-use Rattle.ordered_map.specs.Runs.{IsTreeRun, IsEditAt}
+use Rattle.ordered_map.specs.Runs.{IsTreeRun, IsEditAt, Makes}
 use Rattle.ordered_map.specs.Spelled.{Spells}
 use Rattle.ordered_map.specs.TreeShape.{TreeAllows, edit_leaf}
 use Rattle.ordered_map.specs.declared.pair.Pair.{Pair}
@@ -210,10 +210,10 @@ abbrev pub top : {E A : Type 0} → UpdateRun E A → ℕ
 top m = top_of m.work.need m.nodes
 
 module _ {E : Type 0} (e : EditMeaning E) where
-  -- whatever the SCX-record s makes of these snapshots later, the leaf of the edit is the one that
-  -- was found
+  -- whenever the SCX-record s makes the edit of these snapshots later, the leaf of the edit is the one
+  -- that was found
   abbrev pub CoversLeaf : E → Found → Call → History → ℕ → List Snap → Type 0
-  CoversLeaf ed f c begin s snaps = (k : History) → IsTreeRun c.layout k → Extends k begin → CoversSnaps k s snaps → edit_leaf k s (e.edit ed f) ≡ f.trail.node.0
+  CoversLeaf ed f c begin s snaps = (k : History) → IsTreeRun c.layout k → Extends k begin → CoversSnaps k s snaps → Makes c.layout k s (e.edit ed f) → edit_leaf k s (e.edit ed f) ≡ f.trail.node.0
 
   -- what each fresh node is to hold
   abbrev pub piece : {A : Type 0} → UpdateRun E A → Found → ℕ → Piece

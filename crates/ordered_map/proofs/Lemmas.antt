@@ -1,6 +1,6 @@
 -- What the layers above know of histories of the tree, exported from one place: no other module of
 -- these proofs can be named outside. Declares nothing.
-pub use Rattle.ordered_map.proofs.Meanings.{one_spelling, opening_run, opening_spells, run_since, log_edits, spells_log, run_spells, entered_begun, update_makes, win_makes, wins_of, quiet_spells, makes_since, below_root, leaf_covered, walk_first, walk_next, walk_rises, walk_named, walk_answers}
+pub use Rattle.ordered_map.proofs.Meanings.{one_spelling, opening_run, opening_spells, run_since, log_edits, spells_log, run_spells, entered_begun, update_makes, win_makes, wins_of, quiet_spells, makes_since, below_root, leaf_covered, leaf_taken_out, walk_first, walk_next, walk_rises, walk_named, walk_answers}
 pub use Rattle.ordered_map.proofs.Stood.{was_now, was_passed}
 pub use Rattle.ordered_map.proofs.Past.{walk_stays}
 pub use Rattle.ordered_map.proofs.Inside.{tree_inside, walk_inside}

@@ -270,6 +270,20 @@ begun_plan lay h s e l x =
     let named : IsNamedScx (x.row ⊳ x.before) s = (member x.before s 0, begin_names x.before x.row s x.begins) in
     scx_since lay h (x.row ⊳ x.before) s l x.within real named Plan tt ∙ value_apart x.row x.before (info (member x.before s 0)) (scx s Plan) x.begins.word refl
 
+-- of the four nodes that it covers in a tree the leaf is one of the last two
+pub leaf_taken_out : (lay : Layout) (h : History) (s : ℕ) (e : MapEdit) → Lawful lay h → lay.mode ≡ TreeMode → Makes lay h s e → count h s ≡ 4 → edit_leaf h s e ≡ member h s (leaf_place (toward (value h) (member h s 1) (edit_key e)))
+leaf_taken_out lay h s e l tree x four = go x.edit.edit
+  where
+    same : plan h s ≡ plan x.before s
+    same = begun_plan lay h s e l x
+
+    go : IsEdit lay x.before s e → edit_leaf h s e ≡ member h s (leaf_place (toward (value h) (member h s 1) (edit_key e)))
+    go (inl y) = absurd (let two : count h s ≡ 2 = ap count_of same ∙ (leaf_plan_says _ _ y.plan).3 in omega (arith, two, four))
+    go (inr (inl y)) =
+        let last : scx_finalizes h s 3 ≡ true = ap (λ p. plan_finalizes p 3) same ∙ (join_plan_says _ _ y.plan).6 in
+        rw (eq-eqb (count h s) 4 four, last) refl
+    go (inr (inr y)) = absurd (let q : TreeMode ≡ TrieMode = sym tree ∙ y.0 in cc)
+
 -- it covers the leaf of its edit; but one that takes the leaf at an end of a trie out does not
 pub leaf_covered : (lay : Layout) (h : History) (s : ℕ) (e : MapEdit) → Lawful lay h → (lay.mode ≡ TreeMode) ⊎ (count h s ≢ 4) → Makes lay h s e → IsMember h s (edit_leaf h s e)
 leaf_covered lay h s e l kind x = go (ℕ_discrete (count h s) 4) x.edit.edit

@@ -124,7 +124,7 @@ module _ {E : Type 0} (means : EditMeaning E) (m : UpdateRun E UpdateAt) where
       → (map : List Pair) → Spells c.layout (value h) map → get (edit_key (means.edit m.edit f)) map ≡ f.value
   leaf_value at_found c f begin h row s snaps now since won makes found covers_leaf covers_snaps map spells =
       edits.replies map spells
-      ∙ ap (λ (n : ℕ). said (value h) key n) (covers_leaf h then since covers_snaps)
+      ∙ ap (λ (n : ℕ). said (value h) key n) (covers_leaf h then since covers_snaps makes)
       ∙ settled_said (value begin) (value h) key f.trail.node.0 settled
       ∙ ap (λ (k : ℕ). said (value begin) k f.trail.node.0) (at_found m.edit f ∙ asked_still (means.goal m.edit) (value begin) f.trail.node.0 f.key found.key)
       ∙ sym found.says

@@ -1,5 +1,5 @@
 -- An edit of one leaf: what it looks at, what it reads, and its SCX-record.
-use Rattle.std.proofs.Common.{◌≡◌, ◌≢◌, ℕ, ◌+◌, ◌^◌, ◌<◌, ◌⊎◌, inl, inr, true, false, ◌==◌, eqb-true, eq-eqb, List, [], ◌∷◌, length, take, refl, sym, ◌∙◌, ap, subst, arith}
+use Rattle.std.proofs.Common.{◌≡◌, ◌≢◌, ℕ, ◌+◌, ◌^◌, ◌<◌, ◌⊎◌, inl, inr, true, false, ◌==◌, eqb-true, eq-eqb, ne_eqb, List, [], ◌∷◌, length, take, refl, sym, ◌∙◌, ap, subst, arith}
 use Rattle.std.specs.Prelude.{IsTrue, None}
 use native.Mathlib.Decide.{ℕ_discrete}
 use Rattle.arena.specs.declared.number.NodeNo.{NodeNo}
@@ -115,7 +115,7 @@ has_both f (p ∷ l ∷ s ∷ snaps) e x = absurd (let d : Enough ≡ At s.node 
 pub leaf_covered : (e : MapEdit) (f : Found) (snaps : List Snap) (k : History) (s : ℕ) → HasBoth f snaps → CoversSnaps k s snaps → edit_leaf k s e ≡ f.trail.node.0
 leaf_covered e f snaps k s both covers =
     let two : count k s ≡ 2 = covers.count ∙ both.two in
-    rw (eq-eqb (count k s) 2 two) (covers.members 1 (let few = both.two in omega (arith, few)) ∙ both.leaf)
+    rw (ne_eqb (count k s) 4 (λ four. omega (arith, two, four))) (covers.members 1 (let few = both.two in omega (arith, few)) ∙ both.leaf)
 
 -- the parent is a fork, and so is not the leaf
 leaf_distinct : (k : ℕ) (c : Call) (h : History) (f : Found) (snaps : List Snap) → IsTreeRun c.layout h → HasLookedBy leaf_looks c h (ToKey k) f snaps → leaf_looks f snaps ≡ Enough → AreDistinct snaps

@@ -14,7 +14,7 @@ use Rattle.prims.specs.Scx.Known.{Job, Says}
 use Rattle.prims.specs.declared.snap.Snap.{Snap}
 use Rattle.ordered_map.specs.declared.pair.Pair.{Pair}
 use Rattle.ordered_map.specs.OrderedMap.{Insert as PutEdit, AllBelow, AllFrom, IsRising, insert, pair, get}
-use Rattle.ordered_map.specs.Edits.{IsSplitBy}
+use Rattle.ordered_map.specs.Edits.{HasTreeLevels, IsSplitBy}
 use Rattle.ordered_map.specs.Holding.{held_pairs, IsWellCounted}
 use Rattle.ordered_map.specs.Runs.{IsTreeRun}
 use Rattle.ordered_map.specs.TreeWords.{class, leaf_items, level, rank}
@@ -191,10 +191,10 @@ module _ (ed : PutPair) (c : Call) (h : History) (f : Found) (snaps : List Snap)
     y_leaf : 0 < length second → length second ≤ 4 → IsLeafWith (value h) y_node (f.head.level + 1) f.head.class second
     y_leaf some few = leaf_with h y_node (lower f.head.level) (f.head.level + 1) f.head.class second below fits small (holds true grows Second (omega arith)).words some few
 
-    made : IsSplitBy (value h) (PutEdit ed.key ed.value) old_leaf fork_node x_node y_node → Made fork_node
-    made split = record {
+    made : IsSplitBy (value h) (PutEdit ed.key ed.value) old_leaf fork_node x_node y_node → HasTreeLevels (value h) old_leaf fork_node x_node y_node → Made fork_node
+    made split levels = record {
       fresh = (holds true grows Third (omega arith)).fresh;
-      edit = inr (x_node, y_node, split);
+      edit = inr (x_node, y_node, split, levels);
       below = λ is_fork side. under side;
     }
       where
@@ -217,6 +217,7 @@ module _ (ed : PutPair) (c : Call) (h : History) (f : Found) (snaps : List Snap)
       behind = subst (λ n. AllFrom n (leaf_items (value h) y_node)) (sym at_third) (subst (AllFrom (pair_at (drop 2 all) 0).key) (sym y_items) apart.1);
       same_class = fork.class ∙ sym same_class;
       key = λ high. absurd (high (fork.class ∙ low));
+    } record {
       deep = fork.level ∙ sym level_is;
       low = xs.level ∙ ap (λ m. m + 1) (sym fork.level);
       high = ys.level ∙ ap (λ m. m + 1) (sym fork.level);
@@ -282,6 +283,7 @@ module _ (ed : PutPair) (c : Call) (h : History) (f : Found) (snaps : List Snap)
       behind = subst (AllFrom (rank (value h) fork_node)) (sym y_items) (let a = at_leaf in omega (arith, a), tt);
       same_class = fork.class ∙ sym same_class;
       key = λ _. fork_key ∙ sym blank;
+    } record {
       deep = fork.level ∙ sym level_is;
       low = xs.level ∙ ap (λ m. m + 1) (sym fork.level);
       high = ys.level ∙ ap (λ m. m + 1) (sym fork.level);
@@ -385,7 +387,7 @@ module _ (ed : PutPair) (c : Call) (h : History) (f : Found) (snaps : List Snap)
 pub put_makes : MakesWell put_means
 put_makes = record {
   over = λ e c h f snaps ns run n x enough. leaf_over e.key c h f snaps ns (put_work f) run x enough refl;
-  leaf = λ e c h f snaps s run n x enough k later since covers. leaf_covered (PutEdit e.key e.value) f snaps k s (has_both f snaps enough x.seen) covers;
+  leaf = λ e c h f snaps s run n x enough k later since covers makes. leaf_covered (PutEdit e.key e.value) f snaps k s (has_both f snaps enough x.seen) covers;
   promised = λ e c h f snaps ns read j d run n x is says. put_is_promised e c h f snaps ns read run x j d is says;
 }
 

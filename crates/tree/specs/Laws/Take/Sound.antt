@@ -35,10 +35,10 @@ use Rattle.ordered_map.specs.declared.pair.Pair.{Pair}
 use Rattle.ordered_map.specs.OrderedMap.{AllBelow, Delete as TakeEdit, IsRising, delete, pair}
 use Rattle.ordered_map.specs.Holding.{held_pairs, IsWellCounted}
 use Rattle.ordered_map.specs.Paths.{WasInTree}
-use Rattle.ordered_map.specs.Runs.{IsTreeRun}
+use Rattle.ordered_map.specs.Runs.{IsTreeRun, Makes}
 use Rattle.ordered_map.specs.TreeShape.{join_plan, leaf_plan, edit_leaf, leaf_place, sibling_place}
 use Rattle.ordered_map.specs.TreeWords.{class, is_leaf, level, toward}
-use Rattle.ordered_map.proofs.Lemmas.{counted_few, held_count, held_first, root_head, run_since, settled_toward, stood_blank, stood_counted, stood_depth, stood_settled, was_passed}
+use Rattle.ordered_map.proofs.Lemmas.{counted_few, held_count, held_first, leaf_taken_out, root_head, run_since, settled_toward, stood_blank, stood_counted, stood_depth, stood_settled, was_passed}
 use Rattle.template.specs.FoundLeaf.{HasFoundLeaf}
 use Rattle.template.specs.FreshNodes.{IsJoinAt, HasFreshCopy}
 use Rattle.template.specs.Promises.{IsPromised, IsSnapOf, HasFreshEdit}
@@ -293,11 +293,10 @@ module _ (ed : TakePair) (c : Call) (h : History) (f : Found) (snaps : List Snap
   four_apart i j p q d e = ⊎_elim (λ less. differ i j less (rw four.four at q) e) (λ less. differ j i less (rw four.four at p) (sym e)) (either i j d)
 
 -- it covers the leaf at its third or fourth place, on the side of the key
-join_covered : (ed : TakePair) (c : Call) (h : History) (f : Found) (snaps : List Snap) (k : History) (s : ℕ) → IsTreeRun c.layout h → HasFour f snaps → HasFoundLeaf c h ed.key f → IsTreeRun c.layout k → Extends k h → CoversSnaps k s snaps → edit_leaf k s (TakeEdit ed.key) ≡ f.trail.node.0
-join_covered ed c h f snaps k s run four found later since covers =
-    let many : count k s ≡ 4 = covers.count ∙ four.four in
-    rw (ne_eqb (count k s) 2 (λ two. omega (arith, two, many)))
-    (ap (λ side. member k s (leaf_place side)) side_is ∙ covers.members (leaf_place f.trail.side) (rw four.four (few f.trail.side)) ∙ place f.trail.side four.child)
+join_covered : (ed : TakePair) (c : Call) (h : History) (f : Found) (snaps : List Snap) (k : History) (s : ℕ) → IsTreeRun c.layout h → HasFour f snaps → HasFoundLeaf c h ed.key f → IsTreeRun c.layout k → Extends k h → CoversSnaps k s snaps → Makes c.layout k s (TakeEdit ed.key) → edit_leaf k s (TakeEdit ed.key) ≡ f.trail.node.0
+join_covered ed c h f snaps k s run four found later since covers makes =
+    leaf_taken_out c.layout k s (TakeEdit ed.key) later.1.lawful later.0 makes (covers.count ∙ four.four)
+    ∙ (ap (λ side. member k s (leaf_place side)) side_is ∙ covers.members (leaf_place f.trail.side) (rw four.four (few f.trail.side)) ∙ place f.trail.side four.child)
   where
     parent : HasTurned c h ed.key f.trail.parent.0 f.trail.side f.trail.node.0
     parent = found.trail.parent (found_below (ToKey ed.key) c h f run found)
@@ -387,9 +386,9 @@ module _ (ed : TakePair) (c : Call) (h : History) (f : Found) (snaps : List Snap
       plan : (take_work f).plan.0 ≡ join_plan f.trail.grand_side
       plan = plan_is f d false t
 
-  take_covered : (k : History) (s : ℕ) → IsTreeRun c.layout k → Extends k h → CoversSnaps k s snaps → (b : Bool) → has_more f ≡ b → (if b then leaf_looks f snaps else join_looks f snaps) ≡ Enough → edit_leaf k s (TakeEdit ed.key) ≡ f.trail.node.0
-  take_covered k s later since covers true t enough = leaf_covered (TakeEdit ed.key) f snaps k s (has_both f snaps enough (looked_leaf ed c h f snaps t x).seen) covers
-  take_covered k s later since covers false t enough = join_covered ed c h f snaps k s run (has_four ed f snaps enough (looked_join ed c h f snaps t x).seen) x.found later since covers
+  take_covered : (k : History) (s : ℕ) → IsTreeRun c.layout k → Extends k h → CoversSnaps k s snaps → Makes c.layout k s (TakeEdit ed.key) → (b : Bool) → has_more f ≡ b → (if b then leaf_looks f snaps else join_looks f snaps) ≡ Enough → edit_leaf k s (TakeEdit ed.key) ≡ f.trail.node.0
+  take_covered k s later since covers makes true t enough = leaf_covered (TakeEdit ed.key) f snaps k s (has_both f snaps enough (looked_leaf ed c h f snaps t x).seen) covers
+  take_covered k s later since covers makes false t enough = join_covered ed c h f snaps k s run (has_four ed f snaps enough (looked_join ed c h f snaps t x).seen) x.found later since covers makes
 
 -- an LLX may look at its nodes, which were not final, what it reads may be read, and where a fork
 -- has another child its last SCX-record was in the way
@@ -694,7 +693,7 @@ module _ (ed : TakePair) (c : Call) (h : History) (f : Found) (snaps : List Snap
 pub take_makes : MakesWell take_means
 take_makes = record {
   over = λ e c h f snaps ns run n x enough. take_over e c h f snaps run n x ns (has_more f) refl enough;
-  leaf = λ e c h f snaps s run n x enough k later since covers. take_covered e c h f snaps run n x k s later since covers (has_more f) refl enough;
+  leaf = λ e c h f snaps s run n x enough k later since covers makes. take_covered e c h f snaps run n x k s later since covers makes (has_more f) refl enough;
   promised = λ e c h f snaps ns read j d run n x is says. take_is_promised e c h f snaps ns read run n x j d is says;
 }
 
