@@ -235,7 +235,4 @@ module _ (f : Word → ℕ) where
     behind = last_behind c y s.between s.behind;
     same_class = s.between.class ∙ s.last.same_class;
     key = λ d. s.between.key ∙ s.last.key (λ z. d (s.between.class ∙ z));
-    deep = s.deep;
-    low = s.low;
-    high = s.high;
   }

@@ -192,6 +192,7 @@ module _ (lay : Layout) (tries : ℕ) (calls : List Call) (of_mode : AreOf lay.m
       go : (mode : Mode) → lay.mode ≡ mode → IsWhole mode lay calls lines
       go Tree e = ((x.tree e).spelled, lawful_is_legal lay tries calls lines (map_calls lay.mode calls e of_mode) a)
       go Records e = tt
+      go Trie e = tt
 
 -- The start
 

@@ -6,11 +6,11 @@ ghost use Rattle.arena.specs.Fills.{IsNamed};
 ghost use Rattle.arena.specs.Words.{child as child_of, info, scx as scx_of};
 ghost use Rattle.arena.specs.declared.word.Side.{Side as SideOf};
 ghost use Rattle.arena.specs.declared.word.Side.TheVariants.{Left, Right};
-ghost use Rattle.ordered_map.specs.Edits.{IsLastLeaf, IsSwapBy, IsSplitBy, IsJoinBy, IsCopyOf, HasFieldsOf};
+ghost use Rattle.ordered_map.specs.Edits.{IsLastLeaf, IsSwapBy, IsSplitBy, HasTreeLevels, IsJoinBy, IsCopyOf, HasFieldsOf};
 ghost use Rattle.ordered_map.specs.Holding.{held_pairs, IsWellCounted};
 ghost use Rattle.ordered_map.specs.Paths.{Passed};
 ghost use Rattle.ordered_map.specs.Runs.{IsTreeRun};
-ghost use Rattle.ordered_map.specs.TreeShape.{EditsLeaf, TakesLeafOut, IsEdit, leaf_plan, join_plan, leaf_place as leaf_place_of, sibling_place as sibling_place_of, edit_leaf};
+ghost use Rattle.ordered_map.specs.TreeShape.{EditsLeaf, TakesLeafOut, IsEdit, leaf_plan, join_plan, leaf_place as leaf_place_of, sibling_place as sibling_place_of, edit_leaf, leaf_out};
 ghost use Rattle.ordered_map.specs.TreeWords.{class, is_leaf, level, leaf_pairs, said, toward as toward_of};
 ghost use Rattle.ordered_map.specs.OrderedMap.{Edit, edit_key, edited, first_pair, last_pair, pair};
 ghost use Rattle.record.specs.MapRecord.{map_call, number_pairs};
@@ -140,22 +140,36 @@ fn is_leaf_for(judge: &Judge, goal: Goal, leaf: u64, key: u64) -> bool
     }
 }
 
-/// The leaf where the key of an SCX-record's edit is, or would be: the second of two nodes, or one
-/// of the last two of four.
+/// The leaf where the key of an SCX-record's edit is, or would be: the second of two nodes, or, of
+/// four, the one that is taken out.
 fn edit_leaf(judge: &Judge, scx: u64, begun: &BegunEdit) -> u64
     ensures { result ≡ edit_leaf (seen_history judge.now) scx (edit_begun begun.now) }
 {
-    if covers_two(judge, scx) {
-        return member(judge, scx, 1);
+    let second = member(judge, scx, 1);
+    if covers(judge, scx) == 4 {
+        leaf_out(judge, scx, toward(judge, second, begun.key))
+    } else {
+        second
     }
-    let side = toward(judge, member(judge, scx, 1), begun.key);
-    member(judge, scx, leaf_place(side))
 }
 
-fn covers_two(judge: &Judge, scx: u64) -> bool
-    ensures { result ≡ (count (seen_history judge.now) scx == 2) }
+/// The leaf that an SCX-record takes out, on this side of the second of its four nodes: one of the
+/// last two, or, where it does not finalize the last, what the second names there.
+fn leaf_out(judge: &Judge, scx: u64, side: Side) -> u64
+    ensures { result ≡ leaf_out (seen_history judge.now) scx side }
 {
-    Plan(scx_word(judge, scx, ScxWord::Plan)).count() == 2
+    if Plan(scx_word(judge, scx, ScxWord::Plan)).finalizes(MemberIndex::Three) {
+        member(judge, scx, leaf_place(side))
+    } else {
+        child(judge, member(judge, scx, 1), side)
+    }
+}
+
+/// How many nodes an SCX-record covers.
+fn covers(judge: &Judge, scx: u64) -> u8
+    ensures { result ≡ count (seen_history judge.now) scx }
+{
+    Plan(scx_word(judge, scx, ScxWord::Plan)).count()
 }
 
 /// Whether this is the first key that a leaf gives the map.
@@ -302,13 +316,14 @@ fn are_alike(judge: &Judge, one: u64, other: u64) -> bool
 /// Whether an SCX-record makes this edit: it edits a leaf, or takes one out.
 fn is_edit(judge: &Judge, scx: u64, begun: &BegunEdit) -> bool
     requires { begun.now.key < 2 ^ 64 }
-    ensures edit { IsTrue result → IsEdit (seen_history judge.now) scx (edit_begun begun.now) }
+    ensures edit { IsTrue result → IsEdit judge.now.layout (seen_history judge.now) scx
+        (edit_begun begun.now) }
     ensures fresh { IsTrue result → count (seen_history judge.now) scx ≡ 2 →
         is_leaf (word_now judge.now) (new (seen_history judge.now) scx) ≡ false → (side : SideOf) →
         IsNamed judge.now.layout (seen_history judge.now)
         (word_now judge.now (child_of (new (seen_history judge.now) scx) side)) → ⊥ }
 {
-    if covers_two(judge, scx) {
+    if covers(judge, scx) == 2 {
         edits_leaf(judge, scx, begun)
     } else {
         takes_leaf_out(judge, scx, begun)
@@ -371,7 +386,8 @@ fn is_split(judge: &Judge, leaf: u64, fork: u64, begun: &BegunEdit) -> bool
     requires small { begun.now.key < 2 ^ 64 }
     requires deep { level (word_now judge.now) fork ≡ level (word_now judge.now) leaf }
     ensures edit { IsTrue result → (x y : ℕ)
-        × IsSplitBy (word_now judge.now) (edit_begun begun.now) leaf fork x y }
+        × IsSplitBy (word_now judge.now) (edit_begun begun.now) leaf fork x y
+        × HasTreeLevels (word_now judge.now) leaf fork x y }
     ensures fresh { IsTrue result → (side : SideOf) →
         IsNamed judge.now.layout (seen_history judge.now)
         (word_now judge.now (child_of fork side)) → ⊥ }

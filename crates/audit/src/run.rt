@@ -652,6 +652,7 @@ impl<'a> Replay<'a> {
         require(self.steps.has_taken_few(client.pass, command, limits))?;
         match self.record.script.layout.mode {
             Mode::Tree => self.check_map_answer(client, command, reply),
+            Mode::Trie => Err(LineFault::NotLawful),
             Mode::Records => self.check_cells_answer(client, command, reply),
         }
     }

@@ -77,7 +77,7 @@ pub(crate) fn script_fields(row: u64, command: &str, mode: Mode, passes: u128) -
     }
     let [a, b, c] = arguments(command);
     let commands = match mode {
-        Mode::Tree => CALLS,
+        Mode::Tree | Mode::Trie => CALLS,
         Mode::Records => "llx scx vlx set",
     };
     [client(passes), one_of("command", commands), a, b, c]

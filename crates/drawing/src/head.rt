@@ -76,6 +76,7 @@ fn draw_remarks(canvas: &mut Canvas) {
 fn title_of(alloc: Global, run: &ShownRun, window: Window) -> Result<String, AllocError> {
     let mode = match run.layout.mode {
         Mode::Tree => "tree",
+        Mode::Trie => "trie",
         Mode::Records => "cells",
     };
     let (clients, calls) = callers_of(run);

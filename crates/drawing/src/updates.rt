@@ -105,7 +105,7 @@ impl Updates {
         caption: &str,
     ) -> Result<(), AllocError> {
         match self.table.mode() {
-            Mode::Tree => {
+            Mode::Tree | Mode::Trie => {
                 let earlier = self.earlier.as_slice();
                 let flow = &mut self.flow;
                 self.earlier = draw_tree(alloc, canvas, flow, &self.table, earlier, caption)?;

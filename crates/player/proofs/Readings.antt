@@ -149,4 +149,5 @@ whole lay tries calls words lines x = go lay.mode refl
   where
     go : (m : Mode) → lay.mode ≡ m → IsWhole m lay calls lines
     go Records e = tt
+    go Trie e = tt
     go Tree e = (spelled_so_far lay tries calls words lines x e, lawful_is_legal lay tries calls lines (map_calls lay.mode calls e x.of_mode) x.in_order)

@@ -1,7 +1,7 @@
 -- What a record says: a run that was made turn by turn, in which every step is lawful.
 use Rattle.std.specs.Prelude.{◌≡◌, ℕ, List, [], ◌∷◌, None, reverse}
 use Rattle.arena.specs.declared.limits.Mode.{Mode}
-use Rattle.arena.specs.declared.limits.Mode.TheVariants.{Tree, Records}
+use Rattle.arena.specs.declared.limits.Mode.TheVariants.{Tree, Trie, Records}
 use Rattle.arena.specs.declared.layout.Layout.{Layout}
 use Rattle.arena.specs.Lawful.{Lawful}
 use Rattle.arena.specs.Log.{log, AreOnce}
@@ -33,10 +33,11 @@ unfoldable pub AreLines : Layout → ℕ → List Call → List Line → Type 0
 AreLines lay tries calls [] = Unit {0}
 AreLines lay tries calls (line ∷ lines) = AreLines lay tries calls lines × IsNext lay tries calls lines line
 
--- what is said of the run of a mode besides its lines: on the tree the words spell the map so far
--- after every step, and all replies are those of one map
+-- What is said of the run of a mode besides its lines: on the tree the words spell the map so far
+-- after every step, and all replies are those of one map. Of a trie no call can be asked yet.
 abbrev pub IsWhole : Mode → Layout → List Call → List Line → Type 0
 IsWhole Tree lay calls lines = AreSpelled lay calls lines × IsLegal calls lines
+IsWhole Trie lay calls lines = Unit {0}
 IsWhole Records lay calls lines = Unit {0}
 
 -- The main statement: the lines, the first in front, are a lawful run of the calls, in which turn i

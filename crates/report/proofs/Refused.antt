@@ -12,7 +12,7 @@ use Rattle.csv.specs.declared.parser.State.TheVariants as state
 use Rattle.arena.specs.Limits.{IsAccepted}
 use Rattle.arena.specs.declared.limits.Limits.{Limits}
 use Rattle.arena.specs.declared.limits.Mode.{Mode}
-use Rattle.arena.specs.declared.limits.Mode.TheVariants.{Tree, Records}
+use Rattle.arena.specs.declared.limits.Mode.TheVariants.{Tree, Trie, Records}
 use Rattle.script.specs.Commands.{command_row}
 use Rattle.script.specs.Rows.{limits_row}
 use Rattle.script.specs.declared.call.Call.{Call}
@@ -199,8 +199,13 @@ no_row before row none (more, r) = none (in_the_middle (IsRow 7) before more row
 same_mode : (mode other : Mode) → mode_text mode ≡ mode_text other → mode ≡ other
 same_mode Tree Tree e = refl
 same_mode Records Records e = refl
+same_mode Trie Trie e = refl
+same_mode Tree Trie e = absurd (omega (arith, ap (λ (text : List ℕ). get_or text 2 0) e))
 same_mode Tree Records e = absurd (omega (arith, ap (λ (text : List ℕ). get_or text 0 0) e))
+same_mode Trie Tree e = absurd (omega (arith, ap (λ (text : List ℕ). get_or text 2 0) e))
+same_mode Trie Records e = absurd (omega (arith, ap (λ (text : List ℕ). get_or text 0 0) e))
 same_mode Records Tree e = absurd (omega (arith, ap (λ (text : List ℕ). get_or text 0 0) e))
+same_mode Records Trie e = absurd (omega (arith, ap (λ (text : List ℕ). get_or text 0 0) e))
 
 -- the row of a title says its version and its mode
 same_title : (version other : Version) (mode last : Mode) → seven (title_in version mode) ≡ seven (title_in other last) → (version ≡ other) × (mode ≡ last)

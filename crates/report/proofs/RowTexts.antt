@@ -13,7 +13,7 @@ use Rattle.arena.specs.declared.fault.Resource.TheVariants.{Nodes, Scx as ScxSha
 use Rattle.arena.specs.Limits.{IsAccepted}
 use Rattle.arena.specs.declared.limits.Limits.{Limits}
 use Rattle.arena.specs.declared.limits.Mode.{Mode}
-use Rattle.arena.specs.declared.limits.Mode.TheVariants.{Tree, Records}
+use Rattle.arena.specs.declared.limits.Mode.TheVariants.{Tree, Trie, Records}
 use Rattle.arena.specs.declared.step.Kind.{Kind}
 use Rattle.arena.specs.declared.step.Kind.TheVariants.{Fill, LoadSettled, LoadInfo, LoadState, LoadMarked, LoadAllFrozen, LoadChild, Freeze, SetFrozen, Mark, Update as UpdateStep, Commit, Abort}
 use Rattle.arena.specs.declared.word.Side.{Side}
@@ -318,6 +318,7 @@ line_is_long (ReplyLine reply) = refl
 
 mode_is_text : (mode : Mode) → IsUtf8 (mode_text mode)
 mode_is_text Tree = ascii (codes "tree") refl
+mode_is_text Trie = ascii (codes "trie") refl
 mode_is_text Records = ascii (codes "records") refl
 
 version_is_text : (version : Version) → IsUtf8 (version_text version)

@@ -3,7 +3,7 @@
 use Rattle.std.specs.Prelude.{◌≡◌, ⊤, ℕ, suc, List, [], ◌∷◌, ◌++◌, codes, if◌then◌else◌, decimal, ◌==◌, map, Option, Some, None, slice_index_or}
 use Rattle.arena.specs.declared.limits.Limits.{Limits}
 use Rattle.arena.specs.declared.limits.Mode.{Mode}
-use Rattle.arena.specs.declared.limits.Mode.TheVariants.{Tree, Records}
+use Rattle.arena.specs.declared.limits.Mode.TheVariants.{Tree, Trie, Records}
 use Rattle.script.specs.Kinds.{kind_text}
 use Rattle.script.specs.Commands.{command_row}
 use Rattle.script.specs.Rows.{limits_row}
@@ -28,6 +28,7 @@ seven = padded 7
 -- the word for a mode
 abbrev pub mode_text : Mode → List ℕ
 mode_text Tree = codes "tree"
+mode_text Trie = codes "trie"
 mode_text Records = codes "records"
 
 -- the first row: the format's version, and the mode

@@ -36,6 +36,7 @@ fn put_title(sheet: &mut Sheet, mode: Mode)
     sheet.put(Version::Two.name());
     match mode {
         Mode::Tree => sheet.put(",tree,,,,\n"),
+        Mode::Trie => sheet.put(",trie,,,,\n"),
         Mode::Records => sheet.put(",records,,,,\n"),
     }
 }

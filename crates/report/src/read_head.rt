@@ -30,6 +30,7 @@ fn mode_of(name: &str) -> Option<Mode>
 {
     match name {
         "tree" => Some(Mode::Tree),
+        "trie" => Some(Mode::Trie),
         "records" => Some(Mode::Records),
         _ => None,
     }

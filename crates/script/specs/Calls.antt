@@ -2,7 +2,7 @@
 use Rattle.std.specs.Prelude.{ℕ, ◌≡◌, ◌≢◌, ◌⊎◌, None, List, ◌∷◌, codes, decimal}
 use Rattle.arena.specs.declared.layout.Layout.{Layout}
 use Rattle.arena.specs.declared.limits.Mode.{Mode}
-use Rattle.arena.specs.declared.limits.Mode.TheVariants.{Records, Tree}
+use Rattle.arena.specs.declared.limits.Mode.TheVariants.{Records, Tree, Trie}
 use Rattle.script.specs.declared.call.Call.{Call}
 use Rattle.script.specs.declared.fault.ScriptCause.{ScriptCause}
 use Rattle.script.specs.declared.fault.ScriptCause.TheVariants as cause
@@ -14,10 +14,11 @@ use Rattle.script.specs.Fields.{NamesClient}
 abbrev pub call_row : Call → List (List ℕ)
 call_row call = decimal call.client.0 ∷ command_row call.command
 
--- the field names a command of the mode
+-- the field names a command of the mode: of a trie there is none yet
 abbrev pub NamesCommand : Mode → List ℕ → Type 0
 NamesCommand Records field = (field ≡ codes "llx") ⊎ (field ≡ codes "scx") ⊎ (field ≡ codes "vlx") ⊎ (field ≡ codes "set")
 NamesCommand Tree field = NamesRequest field
+NamesCommand Trie field = ⊥
 
 -- why a name with arguments says no command: the first cause that fits it
 abbrev pub IsNoCommand : Mode → List ℕ → List (List ℕ) → ScriptCause → Type 0

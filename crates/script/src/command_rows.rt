@@ -30,6 +30,8 @@ pub fn command_of(mode: Mode, name: &str, arguments: [&str; 3]) -> Result<Comman
     match mode {
         Mode::Records => cells_command_of(name, arguments),
         Mode::Tree => map_command_of(name, arguments),
+        // No call of a trie has come yet.
+        Mode::Trie => Err(ScriptCause::Command),
     }
 }
 

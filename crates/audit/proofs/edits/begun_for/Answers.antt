@@ -1,4 +1,5 @@
-use Rattle.std.proofs.Common.{◌≡◌, ℕ, ◌^◌, ◌<◌, Some, refl, sym, subst, rules}
+use Rattle.std.proofs.Common.{◌≡◌, ℕ, ◌^◌, ◌<◌, Some, inl, refl, sym, ◌∙◌, subst, rules}
+use Rattle.arena.specs.declared.limits.Mode.TheVariants.{Tree as TreeMode, Trie as TrieMode}
 use Rattle.arena.specs.ScxRecords.{member}
 use Rattle.ordered_map.specs.OrderedMap.{edit_key}
 use Rattle.ordered_map.specs.Paths.{Passed, WasOnPath}
@@ -19,9 +20,11 @@ returns-then-covers_the_right_leaf-clause-edit c =
       edit = record {
         small = subst (λ (k : ℕ). k < 2 ^ 64) (sym key) c.in_ok-begun.ensures.small;
         path = subst (λ (k : ℕ). WasOnPath h k (member h c.args.scx 0)) (sym key) (path.0, path.1, path.3);
+        stays = inl c.requires.0;
+        fits = λ trie. absurd (let q : TreeMode ≡ TrieMode = sym c.requires.0 ∙ trie in cc);
         fork = search rules;
         edit = c.if-is_edit.ensures.edit refl;
-        fresh = c.if-is_edit.ensures.fresh refl;
+        fresh = λ two fork side leaf. c.if-is_edit.ensures.fresh refl two fork side;
       };
       own = subst (λ (k : Command). IsEditBy (map_call (Some k)) (edit_begun begun)) (sym c.in_ok-begun.ensures.command) c.in_ok-begun.ensures.own;
     }
