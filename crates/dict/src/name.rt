@@ -1,5 +1,5 @@
 //! Short names.
-ghost use Rattle.std.specs.Prelude.{◌≡◌, ◌≢◌, ◌↔◌, ℕ, true, List, IsSome, IsNone, IfSome};
+ghost use Rattle.std.specs.Prelude.{◌≡◌, ◌≢◌, ◌↔◌, ℕ, true, List, IsSome, IsNone, IfSome, ◌==◌};
 ghost use Rattle.std.specs.List.{list_all};
 ghost use Rattle.std.specs.Char.{is_ascii_graphic};
 ghost use Rattle.dict.specs.Names.{IsName, is_padded, is_name_word, name_word};
@@ -92,5 +92,3 @@ impl fmt::Display for Name8 {
         Ok(())
     }
 }
-
-ghost use Rattle.std.specs.Prelude.{◌==◌};

@@ -1,5 +1,5 @@
 //! Numbers as keys and values.
-ghost use Rattle.std.specs.Prelude.{◌≡◌, ◌≢◌, IfSome, IfOk, IsNone};
+ghost use Rattle.std.specs.Prelude.{◌≡◌, ◌≢◌, IfSome, IfOk, IsNone, Option};
 ghost use Rattle.std.specs.Option.{option_map};
 ghost use Rattle.dict.specs.Words.{IsWordOf};
 ghost use Rattle.dict.specs.Translated.{ArePairsOf, IsPairOf};
@@ -79,5 +79,3 @@ pub fn pairs_of<K: WordKey, V: WordValue>(
     }
     Ok(pairs)
 }
-
-ghost use Rattle.std.specs.Prelude.{Option};

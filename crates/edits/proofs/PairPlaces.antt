@@ -97,8 +97,13 @@ out_at (a ∷ b ∷ c ∷ d ∷ e ∷ f ∷ ps) few at i = absurd (omega (arith,
 
 -- The place of a key
 
-pub below_is : (k : ℕ) (ps : List Pair) → length ps ≤ 5 → min (run (nat_lt (pair_at ps 0).key k) (nat_lt (pair_at ps 1).key k) (nat_lt (pair_at ps 2).key k) (nat_lt (pair_at ps 3).key k) (nat_lt (pair_at ps 4).key k)) (length ps) ≡ below k ps
-below_is k [] few = go (nat_lt (pair 0 0).key k) (nat_lt (pair 0 0).key k) (nat_lt (pair 0 0).key k) (nat_lt (pair 0 0).key k) (nat_lt (pair 0 0).key k)
+-- how many pairs pass a test before the first that does not
+abbrev leading : (Pair → Bool) → List Pair → ℕ
+leading test [] = 0
+leading test (p ∷ ps) = if test p then suc (leading test ps) else 0
+
+leading_is : (test : Pair → Bool) (ps : List Pair) → length ps ≤ 5 → min (run (test (pair_at ps 0)) (test (pair_at ps 1)) (test (pair_at ps 2)) (test (pair_at ps 3)) (test (pair_at ps 4))) (length ps) ≡ leading test ps
+leading_is test [] few = go (test (pair 0 0)) (test (pair 0 0)) (test (pair 0 0)) (test (pair 0 0)) (test (pair 0 0))
   where
     go : (t0 t1 t2 t3 t4 : Bool) → min (run t0 t1 t2 t3 t4) 0 ≡ 0
     go false t1 t2 t3 t4 = refl
@@ -107,7 +112,7 @@ below_is k [] few = go (nat_lt (pair 0 0).key k) (nat_lt (pair 0 0).key k) (nat_
     go true true true false t4 = refl
     go true true true true false = refl
     go true true true true true = refl
-below_is k (a ∷ []) few = go (nat_lt a.key k) (nat_lt (pair 0 0).key k) (nat_lt (pair 0 0).key k) (nat_lt (pair 0 0).key k) (nat_lt (pair 0 0).key k)
+leading_is test (a ∷ []) few = go (test a) (test (pair 0 0)) (test (pair 0 0)) (test (pair 0 0)) (test (pair 0 0))
   where
     go : (t0 t1 t2 t3 t4 : Bool) → min (run t0 t1 t2 t3 t4) 1 ≡ (if t0 then suc 0 else 0)
     go false t1 t2 t3 t4 = refl
@@ -116,7 +121,7 @@ below_is k (a ∷ []) few = go (nat_lt a.key k) (nat_lt (pair 0 0).key k) (nat_l
     go true true true false t4 = refl
     go true true true true false = refl
     go true true true true true = refl
-below_is k (a ∷ b ∷ []) few = go (nat_lt a.key k) (nat_lt b.key k) (nat_lt (pair 0 0).key k) (nat_lt (pair 0 0).key k) (nat_lt (pair 0 0).key k)
+leading_is test (a ∷ b ∷ []) few = go (test a) (test b) (test (pair 0 0)) (test (pair 0 0)) (test (pair 0 0))
   where
     go : (t0 t1 t2 t3 t4 : Bool) → min (run t0 t1 t2 t3 t4) 2 ≡ (if t0 then suc (if t1 then suc 0 else 0) else 0)
     go false t1 t2 t3 t4 = refl
@@ -125,7 +130,7 @@ below_is k (a ∷ b ∷ []) few = go (nat_lt a.key k) (nat_lt b.key k) (nat_lt (
     go true true true false t4 = refl
     go true true true true false = refl
     go true true true true true = refl
-below_is k (a ∷ b ∷ c ∷ []) few = go (nat_lt a.key k) (nat_lt b.key k) (nat_lt c.key k) (nat_lt (pair 0 0).key k) (nat_lt (pair 0 0).key k)
+leading_is test (a ∷ b ∷ c ∷ []) few = go (test a) (test b) (test c) (test (pair 0 0)) (test (pair 0 0))
   where
     go : (t0 t1 t2 t3 t4 : Bool) → min (run t0 t1 t2 t3 t4) 3 ≡ (if t0 then suc (if t1 then suc (if t2 then suc 0 else 0) else 0) else 0)
     go false t1 t2 t3 t4 = refl
@@ -134,7 +139,7 @@ below_is k (a ∷ b ∷ c ∷ []) few = go (nat_lt a.key k) (nat_lt b.key k) (na
     go true true true false t4 = refl
     go true true true true false = refl
     go true true true true true = refl
-below_is k (a ∷ b ∷ c ∷ d ∷ []) few = go (nat_lt a.key k) (nat_lt b.key k) (nat_lt c.key k) (nat_lt d.key k) (nat_lt (pair 0 0).key k)
+leading_is test (a ∷ b ∷ c ∷ d ∷ []) few = go (test a) (test b) (test c) (test d) (test (pair 0 0))
   where
     go : (t0 t1 t2 t3 t4 : Bool) → min (run t0 t1 t2 t3 t4) 4 ≡ (if t0 then suc (if t1 then suc (if t2 then suc (if t3 then suc 0 else 0) else 0) else 0) else 0)
     go false t1 t2 t3 t4 = refl
@@ -143,7 +148,7 @@ below_is k (a ∷ b ∷ c ∷ d ∷ []) few = go (nat_lt a.key k) (nat_lt b.key 
     go true true true false t4 = refl
     go true true true true false = refl
     go true true true true true = refl
-below_is k (a ∷ b ∷ c ∷ d ∷ e ∷ []) few = go (nat_lt a.key k) (nat_lt b.key k) (nat_lt c.key k) (nat_lt d.key k) (nat_lt e.key k)
+leading_is test (a ∷ b ∷ c ∷ d ∷ e ∷ []) few = go (test a) (test b) (test c) (test d) (test e)
   where
     go : (t0 t1 t2 t3 t4 : Bool) → min (run t0 t1 t2 t3 t4) 5 ≡ (if t0 then suc (if t1 then suc (if t2 then suc (if t3 then suc (if t4 then suc 0 else 0) else 0) else 0) else 0) else 0)
     go false t1 t2 t3 t4 = refl
@@ -152,64 +157,21 @@ below_is k (a ∷ b ∷ c ∷ d ∷ e ∷ []) few = go (nat_lt a.key k) (nat_lt 
     go true true true false t4 = refl
     go true true true true false = refl
     go true true true true true = refl
-below_is k (a ∷ b ∷ c ∷ d ∷ e ∷ f ∷ ps) few = absurd (omega (arith, few))
+leading_is test (a ∷ b ∷ c ∷ d ∷ e ∷ f ∷ ps) few = absurd (omega (arith, few))
+
+pub below_is : (k : ℕ) (ps : List Pair) → length ps ≤ 5 → min (run (nat_lt (pair_at ps 0).key k) (nat_lt (pair_at ps 1).key k) (nat_lt (pair_at ps 2).key k) (nat_lt (pair_at ps 3).key k) (nat_lt (pair_at ps 4).key k)) (length ps) ≡ below k ps
+below_is k ps few = leading_is (λ (p : Pair). nat_lt p.key k) ps few ∙ same ps
+  where
+    same : (ps : List Pair) → leading (λ (p : Pair). nat_lt p.key k) ps ≡ below k ps
+    same [] = refl
+    same (p ∷ ps) = ap (λ n. if nat_lt p.key k then suc n else 0) (same ps)
 
 pub before_is : (k : ℕ) (ps : List Pair) → length ps ≤ 5 → min (run (not ((pair_at ps 0).key == k)) (not ((pair_at ps 1).key == k)) (not ((pair_at ps 2).key == k)) (not ((pair_at ps 3).key == k)) (not ((pair_at ps 4).key == k))) (length ps) ≡ before k ps
-before_is k [] few = go (not ((pair 0 0).key == k)) (not ((pair 0 0).key == k)) (not ((pair 0 0).key == k)) (not ((pair 0 0).key == k)) (not ((pair 0 0).key == k))
+before_is k ps few = leading_is (λ (p : Pair). not (p.key == k)) ps few ∙ same ps
   where
-    go : (t0 t1 t2 t3 t4 : Bool) → min (run t0 t1 t2 t3 t4) 0 ≡ 0
-    go false t1 t2 t3 t4 = refl
-    go true false t2 t3 t4 = refl
-    go true true false t3 t4 = refl
-    go true true true false t4 = refl
-    go true true true true false = refl
-    go true true true true true = refl
-before_is k (a ∷ []) few = go (not (a.key == k)) (not ((pair 0 0).key == k)) (not ((pair 0 0).key == k)) (not ((pair 0 0).key == k)) (not ((pair 0 0).key == k))
-  where
-    go : (t0 t1 t2 t3 t4 : Bool) → min (run t0 t1 t2 t3 t4) 1 ≡ (if t0 then suc 0 else 0)
-    go false t1 t2 t3 t4 = refl
-    go true false t2 t3 t4 = refl
-    go true true false t3 t4 = refl
-    go true true true false t4 = refl
-    go true true true true false = refl
-    go true true true true true = refl
-before_is k (a ∷ b ∷ []) few = go (not (a.key == k)) (not (b.key == k)) (not ((pair 0 0).key == k)) (not ((pair 0 0).key == k)) (not ((pair 0 0).key == k))
-  where
-    go : (t0 t1 t2 t3 t4 : Bool) → min (run t0 t1 t2 t3 t4) 2 ≡ (if t0 then suc (if t1 then suc 0 else 0) else 0)
-    go false t1 t2 t3 t4 = refl
-    go true false t2 t3 t4 = refl
-    go true true false t3 t4 = refl
-    go true true true false t4 = refl
-    go true true true true false = refl
-    go true true true true true = refl
-before_is k (a ∷ b ∷ c ∷ []) few = go (not (a.key == k)) (not (b.key == k)) (not (c.key == k)) (not ((pair 0 0).key == k)) (not ((pair 0 0).key == k))
-  where
-    go : (t0 t1 t2 t3 t4 : Bool) → min (run t0 t1 t2 t3 t4) 3 ≡ (if t0 then suc (if t1 then suc (if t2 then suc 0 else 0) else 0) else 0)
-    go false t1 t2 t3 t4 = refl
-    go true false t2 t3 t4 = refl
-    go true true false t3 t4 = refl
-    go true true true false t4 = refl
-    go true true true true false = refl
-    go true true true true true = refl
-before_is k (a ∷ b ∷ c ∷ d ∷ []) few = go (not (a.key == k)) (not (b.key == k)) (not (c.key == k)) (not (d.key == k)) (not ((pair 0 0).key == k))
-  where
-    go : (t0 t1 t2 t3 t4 : Bool) → min (run t0 t1 t2 t3 t4) 4 ≡ (if t0 then suc (if t1 then suc (if t2 then suc (if t3 then suc 0 else 0) else 0) else 0) else 0)
-    go false t1 t2 t3 t4 = refl
-    go true false t2 t3 t4 = refl
-    go true true false t3 t4 = refl
-    go true true true false t4 = refl
-    go true true true true false = refl
-    go true true true true true = refl
-before_is k (a ∷ b ∷ c ∷ d ∷ e ∷ []) few = go (not (a.key == k)) (not (b.key == k)) (not (c.key == k)) (not (d.key == k)) (not (e.key == k))
-  where
-    go : (t0 t1 t2 t3 t4 : Bool) → min (run t0 t1 t2 t3 t4) 5 ≡ (if t0 then suc (if t1 then suc (if t2 then suc (if t3 then suc (if t4 then suc 0 else 0) else 0) else 0) else 0) else 0)
-    go false t1 t2 t3 t4 = refl
-    go true false t2 t3 t4 = refl
-    go true true false t3 t4 = refl
-    go true true true false t4 = refl
-    go true true true true false = refl
-    go true true true true true = refl
-before_is k (a ∷ b ∷ c ∷ d ∷ e ∷ f ∷ ps) few = absurd (omega (arith, few))
+    same : (ps : List Pair) → leading (λ (p : Pair). not (p.key == k)) ps ≡ before k ps
+    same [] = refl
+    same (p ∷ ps) = ap (λ n. if not (p.key == k) then suc n else 0) (same ps)
 
 -- an insert puts the pair there, in place of one with its key
 abbrev Inserted : ℕ → ℕ → List Pair → Type 0

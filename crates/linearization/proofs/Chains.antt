@@ -16,7 +16,7 @@ use Rattle.record.specs.declared.record.Line.{Line}
 use Rattle.record.specs.MapRecord.{written_log, map_at}
 use Rattle.record.specs.Placed.{IsGreatestTurn}
 use Rattle.linearization.specs.Entries.{AreEntries}
-use Rattle.linearization.specs.Links.{latest, AreLinkedByKey}
+use Rattle.linearization.specs.Links.{latest, newest_value, AreLinkedByKey}
 use Rattle.linearization.proofs.Values.{value_at, value_is}
 
 -- the changes of places
@@ -64,7 +64,7 @@ gt_leb a b i = go (leb a b) refl
     go true e = let j = leb-true a b e in absurd (omega (i, j, arith))
     go false e = refl
 
--- it is somewhere, with only others' changes over it
+-- it is somewhere, with only others' changes over it, and has what the key was left with
 pub record IsNewest (key i : ℕ) (ps : List Place) : Type 0 where
   pub newer : List Place
   pub place : Place
@@ -73,10 +73,11 @@ pub record IsNewest (key i : ℕ) (ps : List Place) : Type 0 where
   pub number : length older ≡ i
   pub key_is : place.change.key ≡ key
   pub others : (m : ℕ) → value_at key m (changes_of ps) ≡ value_at key m (place.change ∷ changes_of older)
+  pub says : newest_value key (changes_of ps) ≡ place.change.value
 
 -- one place more over it, of another key, or itself the newest
 newest_more : (key i : ℕ) (p : Place) (ps : List Place) (b : Bool) → eqb key p.change.key ≡ b → cond b (Some (length ps)) (latest key ps) ≡ Some i → (latest key ps ≡ Some i → IsNewest key i ps) → IsNewest key i (p ∷ ps)
-newest_more key i p ps true same e rest = record { newer = []; place = p; older = ps; is = refl; number = let n : length ps ≡ i = cc in n; key_is = sym (eqb-true key p.change.key same); others = λ m. refl }
+newest_more key i p ps true same e rest = record { newer = []; place = p; older = ps; is = refl; number = let n : length ps ≡ i = cc in n; key_is = sym (eqb-true key p.change.key same); others = λ m. refl; says = rw same refl }
 newest_more key i p ps false other e rest =
     let x = rest e in
     record {
@@ -87,6 +88,7 @@ newest_more key i p ps false other e rest =
       number = x.number;
       key_is = x.key_is;
       others = λ m. rw other (same_branch (leb p.change.turn m) (value_at key m (changes_of ps))) ∙ x.others m;
+      says = rw other x.says;
     }
 
 pub newest : (key i : ℕ) (ps : List Place) → latest key ps ≡ Some i → IsNewest key i ps

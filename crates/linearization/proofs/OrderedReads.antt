@@ -5,7 +5,7 @@ use Rattle.std.specs.Prelude.{unwrap_or}
 use Rattle.std.proofs.lemmas.Bool.{cases_lt, le-leb, lt-leb}
 use Rattle.std.proofs.lemmas.Bool.Decides.{leb_tells}
 use Rattle.ordered_map.specs.declared.pair.Pair.{Pair}
-use Rattle.ordered_map.specs.OrderedMap.{MapCall, call_pop_first, call_pop_last, call_successor, call_predecessor, Range, MapReply, OnePair, ManyPairs, pair_or_none, first_pair, last_pair, AllAbove, successor, predecessor, between, range, reply, get, IsRising}
+use Rattle.ordered_map.specs.OrderedMap.{MapCall, call_pop_first, call_pop_last, call_successor, call_predecessor, Range, MapReply, OnePair, ManyPairs, pair_or_none, first_pair, last_pair, AllAbove, successor, predecessor, between, reply, get, IsRising}
 use Rattle.script.specs.declared.call.Call.{Call}
 use Rattle.script.specs.declared.command.Command.{Command}
 use Rattle.script.specs.declared.command.Command.TheVariants.{Map}

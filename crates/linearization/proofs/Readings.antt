@@ -9,7 +9,7 @@ use Rattle.ordered_map.specs.CallRules.{TakesNothing}
 use Rattle.script.specs.declared.call.Call.{Call}
 use Rattle.record.specs.declared.record.Line.{Line}
 use Rattle.record.specs.declared.record.Finished.{Finished}
-use Rattle.record.specs.Turns.{answered, begin, won}
+use Rattle.record.specs.Turns.{answered, won}
 use Rattle.record.specs.MapRecord.{reply_told, map_at, written_log, entries_of_call}
 use Rattle.record.specs.Placed.{IsGreatestTurn, IsPlacedReading}
 use Rattle.record.specs.LawfulRun.{AreLines}

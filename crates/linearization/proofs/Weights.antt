@@ -8,7 +8,7 @@ use Rattle.linearization.specs.Links.{latest, newest_value, AreLinkedByKey}
 use Rattle.linearization.specs.Ordered.{FallFrom, IsNextBest}
 use Rattle.linearization.proofs.Values.{value_at}
 use Rattle.linearization.proofs.Counts.{bit, count, count_same, count_changed}
-use Rattle.linearization.proofs.Chains.{changes_of, place_at, value_before}
+use Rattle.linearization.proofs.Chains.{changes_of, newest, place_at, value_before}
 
 -- The keys of changes
 
@@ -44,35 +44,16 @@ newest_none key (p ∷ ps) e = go (eqb key p.change.key) e (newest_none key ps)
     go true d more = absurd (let y : Some (length ps) ≡ None = d in cc)
     go false d more = more d
 
--- and one with a place has what that says
-pub record IsSaidAt (key i : ℕ) (ps : List Place) : Type 0 where
-  pub newer : List Place
-  pub place : Place
-  pub older : List Place
-  pub is : ps ≡ newer ++ place ∷ older
-  pub number : length older ≡ i
-  pub says : newest_value key (changes_of ps) ≡ place.change.value
-
-said_at : (key i : ℕ) (ps : List Place) → latest key ps ≡ Some i → IsSaidAt key i ps
-said_at key i [] e = absurd (let y : None ≡ Some i = e in cc)
-said_at key i (p ∷ ps) e = go (eqb key p.change.key) refl e (said_at key i ps)
-  where
-    go : (b : Bool) → eqb key p.change.key ≡ b → cond b (Some (length ps)) (latest key ps) ≡ Some i → (latest key ps ≡ Some i → IsSaidAt key i ps) → IsSaidAt key i (p ∷ ps)
-    go true t d more = record { newer = []; place = p; older = ps; is = refl; number = let n : length ps ≡ i = cc in n; says = rw t refl }
-    go false t d more =
-        let x = more d in
-        record { newer = p ∷ x.newer; place = x.place; older = x.older; is = ap (λ qs. p ∷ qs) x.is; number = x.number; says = rw t x.says }
-
--- the list that has the oldest in front has it there
+-- the place of one that has one is there in the list that has the oldest in front
 pub newest_some : (key i : ℕ) (places newer ps : List Place) (d : Place) → reverse places ≡ newer ++ ps → latest key ps ≡ Some i → newest_value key (changes_of ps) ≡ (get_or places i d).change.value
 newest_some key i places newer ps d split e =
-    let x = said_at key i ps e in
+    let x = newest key i ps e in
     let all : reverse places ≡ (newer ++ x.newer) ++ x.place ∷ x.older = split ∙ ap (λ qs. newer ++ qs) x.is ∙ sym (append_assoc newer x.newer (x.place ∷ x.older)) in
     x.says ∙ ap (λ (q : Place). q.change.value) (sym (ap (λ n. get_or places n d) (sym x.number) ∙ place_at places (newer ++ x.newer) x.place x.older d all))
 
 pub newest_within : (key i : ℕ) (places newer ps : List Place) → reverse places ≡ newer ++ ps → latest key ps ≡ Some i → i < length places
 newest_within key i places newer ps split e =
-    let x = said_at key i ps e in
+    let x = newest key i ps e in
     let n : length places ≡ length newer + length ps = sym (length-reverse places) ∙ ap length split ∙ length-append newer ps in
     let m : length ps ≡ length x.newer + suc (length x.older) = ap length x.is ∙ length-append x.newer (x.place ∷ x.older) in
     let k = x.number in

@@ -87,33 +87,25 @@ record Reaches (f : Word → ℕ) (side : Side) (k : ℕ) (t : Tree) (n : ℕ) (
   rest : Option Pair
   finds : or_else (neighbour side k (items f t)) d ≡ or_else (neighbour side k (items f part)) rest
 
+-- on the side of a fork where the path goes on, with what is left besides there
+goes_on_at : (f : Word → ℕ) (side : Side) (k m : ℕ) (a b : Tree) (lo hi n : ℕ) (d : Option Pair) (turn : Side) → Shows f lo hi (Fork m a b) → toward f m k ≡ turn → Reaches f side k (part_on turn a b) n (rest_below side turn f a b d) → Reaches f side k (Fork m a b) n d
+goes_on_at f side k m a b lo hi n d turn s is x = record {
+  part = x.part;
+  low = x.low;
+  high = x.high;
+  shows = x.shows;
+  is = x.is;
+  rest = x.rest;
+  finds = search_below side f k m a b lo hi d s ∙ ap (λ t. or_else (neighbour side k (items f (part_on t a b))) (rest_below side t f a b d)) is ∙ x.finds;
+}
+
 reaches : (f : Word → ℕ) (side : Side) (k : ℕ) (t : Tree) (lo hi n : ℕ) (d : Option Pair) → Shows f lo hi t → Passes f k t n → Reaches f side k t n d
 reaches f side k (Leaf m) lo hi n d s e = record { part = Leaf m; low = lo; high = hi; shows = s; is = e; rest = d; finds = refl }
 reaches f side k (Fork m a b) lo hi n d s (inl e) = record { part = Fork m a b; low = lo; high = hi; shows = s; is = e; rest = d; finds = refl }
 reaches f side k (Fork m a b) lo hi n d s (inr (inl q)) =
-    let turn : toward f m k ≡ Left = rw (lt-ltb k (rank f m) q.0) refl in
-    let x : Reaches f side k a n (rest_below side Left f a b d) = reaches f side k a lo (rank f m) n (rest_below side Left f a b d) s.1 q.1 in
-    record {
-      part = x.part;
-      low = x.low;
-      high = x.high;
-      shows = x.shows;
-      is = x.is;
-      rest = x.rest;
-      finds = search_below side f k m a b lo hi d s ∙ ap (λ t. or_else (neighbour side k (items f (part_on t a b))) (rest_below side t f a b d)) turn ∙ x.finds;
-    }
+    goes_on_at f side k m a b lo hi n d Left s (rw (lt-ltb k (rank f m) q.0) refl) (reaches f side k a lo (rank f m) n (rest_below side Left f a b d) s.1 q.1)
 reaches f side k (Fork m a b) lo hi n d s (inr (inr q)) =
-    let turn : toward f m k ≡ Right = rw (le-ltb k (rank f m) q.0) refl in
-    let x : Reaches f side k b n (rest_below side Right f a b d) = reaches f side k b (rank f m) hi n (rest_below side Right f a b d) s.2 q.1 in
-    record {
-      part = x.part;
-      low = x.low;
-      high = x.high;
-      shows = x.shows;
-      is = x.is;
-      rest = x.rest;
-      finds = search_below side f k m a b lo hi d s ∙ ap (λ t. or_else (neighbour side k (items f (part_on t a b))) (rest_below side t f a b d)) turn ∙ x.finds;
-    }
+    goes_on_at f side k m a b lo hi n d Right s (rw (le-ltb k (rank f m) q.0) refl) (reaches f side k b (rank f m) hi n (rest_below side Right f a b d) s.2 q.1)
 
 -- at any node of it something is left besides
 pub on_path : (h : History) (side : Side) (k n : ℕ) → IsOnPath h k n → (rest : Option Pair) × IsSearched h side k n rest

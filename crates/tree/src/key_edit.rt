@@ -1,6 +1,7 @@
 //! Edits of the map: what a rule makes of what it finds at a goal.
-ghost use Rattle.std.specs.Prelude.{◌≡◌};
+ghost use Rattle.std.specs.Prelude.{◌≡◌, ℕ, ◌+◌, ◌*◌, ◌-◌, ◌<◌};
 ghost use Rattle.edits.specs.Steps.{update_left};
+ghost use Rattle.tree.specs.KeyEdit.Means.{key_means, putting, taking, wants};
 
 use crate::put::PutPair;
 use crate::rule::{EditGoal, EditRule};
@@ -22,11 +23,9 @@ pub struct KeyEdit<G, R> {
 pub type KeyEditRun<G, R> = UpdateRun<KeyEdit<G, R>, UpdateAt>;
 
 impl<G: EditGoal, R: EditRule> KeyEdit<G, R> {
-    ghost use Rattle.std.specs.Prelude.{◌≡◌, ℕ, ◌+◌, ◌*◌, ◌-◌, ◌<◌};
     ghost use Rattle.ordered_map.specs.CallRules.{steps_behind};
     ghost use Rattle.ordered_map.specs.OrderedMap.{edit_key, leaves, value_left};
     ghost use Rattle.template.specs.FoundLeaf.{asked_key};
-    ghost use Rattle.tree.specs.KeyEdit.Means.{key_means, putting, taking, wants};
 
     /// An edit with `tries` tries, in the caller's call of this number; it takes fresh nodes and
     /// SCX-records out of the share, at most one SCX-record in a try, and one node, or three where
@@ -99,8 +98,6 @@ impl<G: EditGoal, R: EditRule> KeyEdit<G, R> {
 }
 
 impl<G: EditGoal, R: EditRule> Edit for KeyEdit<G, R> {
-    ghost use Rattle.std.specs.Prelude.{◌≡◌};
-    ghost use Rattle.tree.specs.KeyEdit.Means.{key_means};
     ghost use Rattle.tree.specs.Laws.KeyEdit.{key_laws};
 
     ghost means = { key_means G.goal R.rule };

@@ -1,5 +1,6 @@
 //! What puts a value at a key.
 ghost use Rattle.std.specs.Prelude.{◌≡◌};
+ghost use Rattle.tree.specs.Put.Means.{put_means, has_room, splits, pairs_with, second_pairs, split_pieces, fork_over};
 
 use crate::leaf;
 use arena::{NodeNo, Slot};
@@ -16,10 +17,6 @@ pub(crate) struct PutPair {
 }
 
 impl PutPair {
-    ghost use Rattle.std.specs.Prelude.{◌≡◌};
-    ghost use Rattle.tree.specs.Put.Means.{put_means};
-    ghost use Rattle.tree.specs.Put.Means.{has_room, splits, pairs_with, second_pairs, split_pieces, fork_over};
-
     /// Whether the leaf has room for one pair more.
     fn has_room(found: &Found) -> bool
         ensures { result ≡ has_room found.now }
@@ -108,8 +105,6 @@ impl PutPair {
 }
 
 impl Edit for PutPair {
-    ghost use Rattle.std.specs.Prelude.{◌≡◌};
-    ghost use Rattle.tree.specs.Put.Means.{put_means};
     ghost use Rattle.tree.specs.Laws.Put.Sound.{put_laws};
 
     ghost means = { put_means };

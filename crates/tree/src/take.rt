@@ -1,5 +1,6 @@
 //! What takes a key out.
 ghost use Rattle.std.specs.Prelude.{◌≡◌};
+ghost use Rattle.tree.specs.Take.Means.{take_means, past, join_looks, copied_pairs, sibling_copy, take_plan};
 
 use crate::leaf;
 use arena::{Head, MemberIndex, NodeNo, Plan, Side};
@@ -15,11 +16,8 @@ pub(crate) struct TakePair {
 }
 
 impl TakePair {
-    ghost use Rattle.std.specs.Prelude.{◌≡◌};
     ghost use Rattle.prims.specs.Snap.{snap_at};
     ghost use Rattle.ordered_map.specs.TreeShape.{sibling_place};
-    ghost use Rattle.tree.specs.Take.Means.{take_means};
-    ghost use Rattle.tree.specs.Take.Means.{past, join_looks, copied_pairs, sibling_copy, take_plan};
 
     /// That of an edit of the leaf; or it covers the fork above the parent, the parent and both its
     /// children, finalizes all but the first, and changes the first one's field.
@@ -115,8 +113,6 @@ impl TakePair {
 }
 
 impl Edit for TakePair {
-    ghost use Rattle.std.specs.Prelude.{◌≡◌};
-    ghost use Rattle.tree.specs.Take.Means.{take_means};
     ghost use Rattle.tree.specs.Laws.Take.Sound.{take_laws};
 
     ghost means = { take_means };
