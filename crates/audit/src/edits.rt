@@ -21,7 +21,7 @@ use crate::leaves::{
     Pairs, head, held, is_leaf_copy, is_low_leaf, is_readable, is_well_counted, key_of, node_word,
     pairs_of_leaf, said, settled,
 };
-use arena::{NodeNo, NodeWord, Plan, ScxNo, ScxWord, SettledPart, Side, Word};
+use arena::{MemberIndex, NodeNo, NodeWord, Plan, ScxNo, ScxWord, SettledPart, Side, Word};
 use judge::Judge;
 use ordered_map::{Goal, Rule, end_slot};
 use script::Command;
@@ -158,7 +158,7 @@ fn edit_leaf(judge: &Judge, scx: u64, begun: &BegunEdit) -> u64
 fn leaf_out(judge: &Judge, scx: u64, side: Side) -> u64
     ensures { result ≡ leaf_out (seen_history judge.now) scx side }
 {
-    if Plan(scx_word(judge, scx, ScxWord::Plan)).finalizes(MemberIndex::Three) {
+    if Plan(scx_word(judge, scx, ScxWord::Plan)).finalizes(MemberIndex::Fourth) {
         member(judge, scx, leaf_place(side))
     } else {
         child(judge, member(judge, scx, 1), side)
