@@ -1,6 +1,6 @@
 // The works of `crates/bench` on a tree of 1,000 keys with one thread, through the header and by the
 // same draws, so that the instructions of a round can be set beside those of Rattle's own calls:
-//   cost get|insert|insert_new|delete_if|replace|pop|pop_last|succ|range64 CALLS
+//   cost get|insert|insert_new|delete|delete_if|replace|pop|pop_last|succ|pred|range64 CALLS
 #include "regnubas.h"
 
 #include <cinttypes>
@@ -53,6 +53,7 @@ int main(int argc, char **argv) {
     if (work == "get") rounds(calls, [&](uint64_t key, uint64_t) { tell(regnubas_get(pass, key)); });
     else if (work == "insert") rounds(calls, [&](uint64_t key, uint64_t call) { tell(regnubas_insert(pass, key, value(call))); });
     else if (work == "insert_new") rounds(calls, [&](uint64_t key, uint64_t call) { tell(regnubas_insert_new(pass, key, value(call))); });
+    else if (work == "delete") rounds(calls, [&](uint64_t key, uint64_t) { tell(regnubas_delete(pass, key)); });
     else if (work == "delete_if") rounds(calls, [&](uint64_t key, uint64_t) { tell(regnubas_delete_if(pass, key, value(key))); });
     else if (work == "replace") rounds(calls, [&](uint64_t key, uint64_t) { tell(regnubas_replace_if(pass, key, value(key), value(key))); });
     else if (work == "pop") rounds(calls, [&](uint64_t, uint64_t) { tell(regnubas_pop_first(pass, &pair), pair); });

@@ -1,4 +1,6 @@
 //! Drawn calls of one pass, each beside the same of a `BTreeMap`.
+// what pops from a `BTreeMap` came after the version of Rust that the crate asks for
+#![allow(clippy::incompatible_msrv)]
 use regnubas::{make, Limits, Pass};
 use std::collections::BTreeMap;
 use std::ops::{Bound, RangeBounds};
