@@ -16,7 +16,7 @@ pub(crate) fn excerpt(
     for number in row.saturating_sub(1).max(1)..=row.saturating_add(1) {
         if let FoundRow::Row(found) = row_of(alloc, source, number) {
             let shown = row_text(alloc, &found)?;
-            write!(text, "\n{number:>8} | {shown}")?;
+            write!(text, "\n{number:>8}  {shown}")?;
             if number == row
                 && let Some(field) = field
             {
@@ -29,7 +29,7 @@ pub(crate) fn excerpt(
 
 /// Marks a field of the row above.
 fn put_mark(text: &mut String, row: &StringRecord, field: usize) -> Result<(), AllocError> {
-    text.push_str("\n         | ")?;
+    text.push_str("\n          ")?;
     for before in row.iter().take(field) {
         for _ in before.chars() {
             text.push(' ')?;

@@ -30,7 +30,7 @@ fn check_filled_word(before: &LinesBefore<'_>, row: &Row) -> Result<(), Objectio
         is_filled,
         WORD,
         format!(in alloc;
-            "{word} in place of a settled word or a field of a node, or of plan to call of an SCX-record, which a \
+            "{word} in place of a settled word or a field of a node, or one of plan to call of an SCX-record, which a \
          fill stores into"
         ),
     )

@@ -96,7 +96,7 @@ fn check_reading(
         return Err(object(
             ANSWER,
             format!(in alloc;
-                "{answer} in place of {last}, which the map replies after turn {end}, the call's last; from turn \
+                "{answer} in place of {last}, which the map replies after turn {end}, the call's last, and from turn \
              {begin} on it never replies {answer}"
             ),
         ));
