@@ -31,13 +31,11 @@ fn command_of(before: &LinesBefore<'_>, client: PassNo, number: u64) -> Option<C
 
 /// Edits the pairs as a command does that has an entry.
 fn edit(pairs: &mut MapPairs, command: Command) -> Result<(), AllocError> {
+    let least = pairs.first().map(|pair| pair.0);
+    let greatest = pairs.last().map(|pair| pair.0);
     let takes_last = matches!(command, Command::Map(Request::PopLast));
-    let end = if takes_last {
-        pairs.last()
-    } else {
-        pairs.first()
-    };
-    let Some((key, value)) = edited(command, end.map(|pair| pair.0)) else {
+    let at_end = if takes_last { greatest } else { least };
+    let Some((key, value)) = edited(command, at_end) else {
         return Ok(());
     };
     pairs.retain(|pair| pair.0 != key);
