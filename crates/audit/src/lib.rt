@@ -16,6 +16,8 @@ mod place;
 mod run;
 mod steps;
 mod verdict;
+mod watch;
 
 pub use fault::AuditFault;
-pub use verdict::audit;
+pub use verdict::{audit, audit_watched};
+pub use watch::{Unwatched, Watch};

@@ -6,6 +6,7 @@ ghost use Rattle.record.specs.Turns.{clients};
 
 use crate::fault::{AuditFault, LineFault};
 use crate::run::Replay;
+use crate::watch::{Unwatched, Watch};
 use record::Record;
 use script::Script;
 use std::alloc::Global;
@@ -22,6 +23,21 @@ pub fn audit(alloc: Global, record: &Record) -> Result<(), AuditFault>
     ensures fault { (row : ℕ) → result ≡ Err (AuditFault.NotLawful row) →
         MayBeAtFault «record».now row }
 {
+    audit_watched(alloc, record, &mut Unwatched)
+}
+
+/// The same, of which somebody is told how many of the lines it has judged.
+pub fn audit_watched<W: Watch>(
+    alloc: Global,
+    record: &Record,
+    watch: &mut W,
+) -> Result<(), AuditFault>
+    ensures lawful { OnOk result
+        (IsLawfulRun «record».now.script.layout «record».now.script.limits.tries «record».now.script.calls.items
+        (reverse (clients (reverse «record».now.lines.items))) «record».now.lines.items) }
+    ensures fault { (row : ℕ) → result ≡ Err (AuditFault.NotLawful row) →
+        MayBeAtFault «record».now row }
+{
     let first = first_row(&record.script);
     let mut run = match Replay::new(alloc, record) {
         Ok(run) => run,
@@ -31,6 +47,7 @@ pub fn audit(alloc: Global, record: &Record) -> Result<(), AuditFault>
         if let Err(refused) = run.line() {
             return Err(refused.at(first, at));
         }
+        watch.reached(at as u64);
     }
     if let Err(refused) = run.finish() {
         return Err(refused.at(first, record.lines.len()));

@@ -11,6 +11,7 @@ use std::io::Input;
 use std::rt::Files;
 use std::sync::Wait;
 use std::thread::Threads;
+use std::time::Clock;
 
 /// How many cases there were, and how many of them did not end as they have to.
 #[derive(Clone, Copy, Default)]
@@ -20,7 +21,7 @@ pub(crate) struct Told {
 }
 
 /// Reports of each case how it ends. A line of a list that begins with `#` is a remark.
-pub(crate) fn all<R: Files + Input + Print + AllocGlobal + Threads + Wait + Sync>(
+pub(crate) fn all<R: Files + Input + Print + Clock + AllocGlobal + Threads + Wait + Sync>(
     rt: &R,
 ) -> Result<Told> {
     let mut told = Told::default();
@@ -97,7 +98,7 @@ impl Told {
     }
 
     /// Words of the command line.
-    fn words<R: Files + Input + Print + AllocGlobal + Threads + Wait + Sync>(
+    fn words<R: Files + Input + Print + Clock + AllocGlobal + Threads + Wait + Sync>(
         &mut self,
         rt: &R,
     ) -> Result<()> {

@@ -83,7 +83,7 @@ fn status_of(fault: &[u8]) -> u8 {
         1
     } else if fault.contains(", row ") {
         1
-    } else if begins("bad gate\n") || begins("usage\n") || begins("--") {
+    } else if begins("bad gate\n") || begins("usage\n") || begins("--") || begins("SCRIPT ") {
         2
     } else {
         4

@@ -10,9 +10,10 @@ use std::io::Input;
 use std::rt::Files;
 use std::sync::Wait;
 use std::thread::Threads;
+use std::time::Clock;
 
 /// The words after the name of `cli`, or those of `rnb` with its name, which one space parts; the
-/// fault that it is to print, if there is one; and else its output, in which `|` is a new line.
+/// fault that it is to print, if there is one; and else its output. `|` is a new line.
 #[derive(Clone, Copy)]
 pub(crate) struct WordsCase<'a> {
     words: &'a str,
@@ -33,7 +34,7 @@ impl<'a> WordsCase<'a> {
     }
 
     /// How the program ends with them.
-    pub(crate) fn find<R: Files + Input + AllocGlobal + Threads + Wait + Sync>(
+    pub(crate) fn find<R: Files + Input + Clock + AllocGlobal + Threads + Wait + Sync>(
         self,
         rt: &R,
     ) -> Result<Finding> {
@@ -55,7 +56,8 @@ impl<'a> WordsCase<'a> {
         Ok(if fault.is_empty() {
             Expected::Output(lines_of(alloc, self.output)?.into_bytes())
         } else {
-            Expected::Fault(format!(in alloc; "{fault}\n")?.into_bytes())
+            let lines = lines_of(alloc, fault)?;
+            Expected::Fault(format!(in alloc; "{lines}\n")?.into_bytes())
         })
     }
 }

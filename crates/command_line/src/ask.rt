@@ -4,6 +4,7 @@ ghost use Rattle.std.specs.Prelude.{◌≤◌};
 use crate::args::{Invocation, read_words};
 use crate::buffered::play_buffered;
 use arena::Mode;
+use audit::Unwatched;
 use program::{Fault, audit_over, run_over};
 use std::fs;
 use std::io::Write;
@@ -48,7 +49,10 @@ fn play_files<R: Files + AllocGlobal, O: Write, E: Write>(
     ensures { result ≤ 4 }
 {
     match open_both(rt, script, schedule) {
-        Ok((script, schedule)) => play_buffered(rt.alloc(), mode, script, schedule, out, err),
+        Ok((script, schedule)) => {
+            let alloc = rt.alloc();
+            play_buffered(alloc, mode, script, schedule, &mut Unwatched, out, err)
+        }
         Err(fault) => fault.print(err),
     }
 }

@@ -2,6 +2,7 @@
 ghost use Rattle.std.specs.Prelude.{◌≤◌};
 
 use arena::Mode;
+use audit::Watch;
 use program::{Fault, play_over};
 use std::alloc::Global;
 use std::io;
@@ -9,13 +10,16 @@ use std::io::{BufWriter, Read, Write};
 use texts::Metered;
 
 /// A writer that passes on all that is written, and no flush: so a buffer below it goes out once it
-/// is full, though each turn of a play is flushed by itself.
+/// is full, though each turn of a play is flushed by itself. Somebody is told how many turns have
+/// been flushed: the first flush is that of what is before them.
 #[derive(Drop)]
-struct Unflushed<W> {
+struct Unflushed<'a, W, T> {
     inner: W,
+    watch: &'a mut T,
+    flushed: u64,
 }
 
-impl<W: Write> Write for Unflushed<W> {
+impl<W: Write, T: Watch> Write for Unflushed<'_, W, T> {
     ghost contents = { λ u. W.contents u.inner };
 
     fn write(&mut self, buf: &[u8]) -> io::Result<usize> {
@@ -23,24 +27,34 @@ impl<W: Write> Write for Unflushed<W> {
     }
 
     fn flush(&mut self) -> io::Result<()> {
+        self.watch.reached(self.flushed);
+        self.flushed = self.flushed.saturating_add(1);
         Ok(())
     }
 }
 
 /// Plays a script by a schedule, as `play_over` does, with a buffer before `out`. It goes out in
 /// the end, also after a fault: then too `out` has a beginning of the report.
-pub(crate) fn play_buffered<S: Read + Drop, T: Read + Drop, O: Write, E: Write>(
+pub(crate) fn play_buffered<S: Read + Drop, T: Read + Drop, W: Watch, O: Write, E: Write>(
     alloc: Global,
     mode: Mode,
     script: S,
     schedule: T,
+    watch: &mut W,
     out: &mut O,
     err: &mut E,
 ) -> u8
     ensures { result ≤ 4 }
 {
     let mut to = match BufWriter::new(alloc, out) {
-        Ok(inner) => Metered::new(Unflushed { inner }),
+        Ok(inner) => {
+            let flushed = 0;
+            Metered::new(Unflushed {
+                inner,
+                watch,
+                flushed,
+            })
+        }
         Err(error) => return Fault::from(error).print(err),
     };
     let (mut script, mut schedule) = (Metered::new(script), Metered::new(schedule));

@@ -1,6 +1,6 @@
 //! The commands of the program for people, and what their help says.
 use crate::words::{file, option};
-use clap::{Command, Error, value_parser};
+use clap::{Arg, ArgAction, Command, Error, value_parser};
 use std::alloc::Global;
 
 const ABOUT: &str = "Regnubas for people: runs of a lock-free ordered dictionary, step by step";
@@ -106,6 +106,7 @@ fn command_of<'a>(alloc: Global, help: &CommandHelp) -> Result<Command<'a>, Erro
 /// A command with the options that it alone has.
 fn with_options<'a>(alloc: Global, name: &str, command: Command<'a>) -> Result<Command<'a>, Error> {
     Ok(match name {
+        "play" | "records" | "audit" => command.arg(progress(alloc))?,
         "run" => {
             let gate = option(alloc, "gate")
                 .value_parser(["open", "alternate", "hold", "freeze"].as_slice())
@@ -127,13 +128,20 @@ fn with_options<'a>(alloc: Global, name: &str, command: Command<'a>) -> Result<C
                 .value_parser(value_parser!(u64))
                 .value_name("M")
                 .help("How many schedules are played at most [default: 1000000]");
-            command.arg(interruptions)?.arg(most)?
+            command.arg(interruptions)?.arg(most)?.arg(progress(alloc))?
         }
         _ => command,
     })
 }
 
-fn turn<'a>(alloc: Global, name: &'a str, help: &'a str) -> clap::Arg<'a> {
+fn progress<'a>(alloc: Global) -> Arg<'a> {
+    Arg::new(alloc, "progress")
+        .long("progress")
+        .action(ArgAction::SetTrue)
+        .help("Say on standard error once a second how far it is")
+}
+
+fn turn<'a>(alloc: Global, name: &'a str, help: &'a str) -> Arg<'a> {
     option(alloc, name)
         .value_parser(value_parser!(u64))
         .value_name("TURN")

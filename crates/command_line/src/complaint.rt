@@ -16,8 +16,8 @@ pub(crate) enum Complaint {
     Usage(String),
     /// A text is refused: where, what was found, what is wanted.
     Refused(String),
-    /// A file cannot be read.
-    Read(String),
+    /// A file cannot be read or written.
+    File(String),
 }
 
 impl Complaint {
@@ -30,7 +30,7 @@ impl Complaint {
             Complaint::Write => (4, "the output: write failed"),
             Complaint::Usage(text) => (2, text.as_str()),
             Complaint::Refused(text) => (1, text.as_str()),
-            Complaint::Read(text) => (4, text.as_str()),
+            Complaint::File(text) => (4, text.as_str()),
         };
         let _ = writeln!(err, "{text}");
         status

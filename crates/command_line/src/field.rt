@@ -7,14 +7,26 @@ use texts::number_of;
 pub(crate) enum Wanted {
     /// A number in these bounds.
     Number { least: u128, most: u128 },
+    /// Such a number, or nothing.
+    NumberOrNothing { most: u128 },
     /// One of these words, between spaces.
     OneOf(&'static str),
-    /// Some cells between spaces.
+    /// Cells between spaces.
     Cells,
+    /// An SCX-record.
+    Scx,
+    /// A word of the table; not one with the high half of a value, if there is none.
+    TableWord { has_high: bool },
     Nothing,
     /// Whatever is said of it elsewhere.
     Text,
 }
+
+/// The words of a node and of an SCX-record.
+const NODE_PARTS: &str = "head key value left right info marked more key1 value1 key2 value2 key3 \
+    value3 high high1 high2 high3";
+
+const SCX_PARTS: &str = "state allfrozen plan new old v0 v1 v2 v3 i0 i1 i2 i3 call";
 
 /// A field: its name, and what it has to be.
 #[derive(Clone, Copy)]
@@ -24,7 +36,7 @@ pub(crate) struct Field {
 }
 
 impl Field {
-    /// A field with a number up to this one.
+    /// A field with a number in these bounds.
     pub(crate) fn number(name: &'static str, least: u128, most: u128) -> Field {
         Field {
             name,
@@ -35,26 +47,75 @@ impl Field {
     /// What is wrong with what was found there, if anything is.
     pub(crate) fn fault(&self, alloc: Global, found: &str) -> Result<Option<String>, AllocError> {
         let shown = if found.is_empty() { "nothing" } else { found };
-        match self.wanted {
-            Wanted::Number { least, most } => number_fault(alloc, found, least, most),
-            Wanted::OneOf(words) if words.split(' ').any(|word| word == found) => Ok(None),
-            Wanted::OneOf(words) => Ok(Some(format!(in alloc;
-                "{shown} is none of these: {words}"
-            )?)),
-            Wanted::Cells if found.split(' ').all(is_cell) => Ok(None),
-            Wanted::Cells => Ok(Some(format!(in alloc;
-                "{shown} in place of cells, 1 to 8, with a space between two"
-            )?)),
-            Wanted::Nothing if !found.is_empty() => Ok(Some(format!(in alloc;
-                "{found} where nothing is wanted"
-            )?)),
-            Wanted::Nothing | Wanted::Text => Ok(None),
-        }
+        let text = match self.wanted {
+            Wanted::Number { least, most } => return number_fault(alloc, found, least, most),
+            Wanted::NumberOrNothing { most } if !found.is_empty() => {
+                return number_fault(alloc, found, 0, most);
+            }
+            Wanted::OneOf(words) if !has_word(words, found) => words_fault(alloc, shown, words)?,
+            Wanted::Cells if !are_cells(found) => format!(in alloc;
+                "{shown} in place of 1 to 4 different cells, from 1 to 8, with a space between two"
+            )?,
+            Wanted::Scx if !is_scx(found) => {
+                format!(in alloc; "{shown} in place of an SCX-record, as s1")?
+            }
+            Wanted::TableWord { has_high } if !is_table_word(found, has_high) => {
+                format!(in alloc;
+                    "{shown} in place of a word of the table, as n5.left or s2.state"
+                )?
+            }
+            Wanted::Nothing if !found.is_empty() => {
+                format!(in alloc; "{found} where nothing is wanted")?
+            }
+            _ => return Ok(None),
+        };
+        Ok(Some(text))
     }
 }
 
-fn is_cell(text: &str) -> bool {
-    matches!(number_of::<u64>(text), Some(1..=8))
+fn has_word(words: &str, found: &str) -> bool {
+    words.split(' ').any(|word| word == found)
+}
+
+fn words_fault(alloc: Global, shown: &str, words: &str) -> Result<String, AllocError> {
+    if words.contains(' ') {
+        format!(in alloc; "{shown} is none of these: {words}")
+    } else {
+        format!(in alloc; "{shown} in place of {words}")
+    }
+}
+
+/// Whether these are one to four cells that differ.
+pub(crate) fn are_cells(text: &str) -> bool {
+    let mut many = 0;
+    for (place, cell) in text.split(' ').enumerate() {
+        let is_cell = matches!(number_of::<u64>(cell), Some(1..=8));
+        if !is_cell || text.split(' ').take(place).any(|other| other == cell) {
+            return false;
+        }
+        many = place;
+    }
+    many < 4
+}
+
+fn is_scx(text: &str) -> bool {
+    match text.strip_prefix("s") {
+        Some(number) => number_of::<u64>(number).is_some(),
+        None => false,
+    }
+}
+
+fn is_table_word(text: &str, has_high: bool) -> bool {
+    let Some((record, part)) = text.split_once('.') else {
+        return false;
+    };
+    if part.starts_with("high") && !has_high {
+        return false;
+    }
+    match record.strip_prefix("n") {
+        Some(number) => number_of::<u64>(number).is_some() && has_word(NODE_PARTS, part),
+        None => is_scx(record) && has_word(SCX_PARTS, part),
+    }
 }
 
 fn number_fault(
@@ -63,17 +124,17 @@ fn number_fault(
     least: u128,
     most: u128,
 ) -> Result<Option<String>, AllocError> {
-    match number_of::<u128>(found) {
-        Some(number) if number < least => Ok(Some(format!(in alloc; "{found} is below {least}")?)),
-        Some(number) if number <= most => Ok(None),
-        None if !is_digits(found) => {
-            let shown = if found.is_empty() { "nothing" } else { found };
-            Ok(Some(format!(in alloc;
-                "{shown} in place of a number in decimal digits, {least} to {most}"
-            )?))
-        }
-        _ => Ok(Some(format!(in alloc; "{found} is above {most}")?)),
-    }
+    let shown = if found.is_empty() { "nothing" } else { found };
+    let text = match number_of::<u128>(found) {
+        Some(number) if least <= number && number <= most => return Ok(None),
+        _ if least == most => format!(in alloc; "{shown} in place of {most}")?,
+        Some(number) if number < least => format!(in alloc; "{found} is below {least}")?,
+        None if !is_digits(found) => format!(in alloc;
+            "{shown} in place of a number in decimal digits, {least} to {most}"
+        )?,
+        _ => format!(in alloc; "{found} is above {most}")?,
+    };
+    Ok(Some(text))
 }
 
 /// Whether a text is the digits of a number, though it may be too large to be read.

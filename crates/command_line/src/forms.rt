@@ -1,22 +1,14 @@
-//! How the rows of scripts, schedules and reports are made up, field by field.
+//! How the rows of scripts and schedules are made up, field by field.
 use crate::field::{Field, Wanted};
 use arena::Mode;
 
-const WORD: u128 = 18_446_744_073_709_551_615;
+pub(crate) const WORD: u128 = 18_446_744_073_709_551_615;
 
 const KEY: Field = Field {
     name: "key",
     wanted: Wanted::Number {
         least: 0,
         most: WORD,
-    },
-};
-
-const VALUE: Field = Field {
-    name: "value",
-    wanted: Wanted::Number {
-        least: 0,
-        most: u128::MAX,
     },
 };
 
@@ -30,13 +22,16 @@ const CELLS: Field = Field {
     wanted: Wanted::Cells,
 };
 
-const CALLS: &str = "insert insert_new delete delete_if pop_first pop_last replace_if get \
+pub(crate) const CALLS: &str =
+    "insert insert_new delete delete_if pop_first pop_last replace_if get \
     successor predecessor range";
 
-const KINDS: &str =
+pub(crate) const CELL_CALLS: &str = "llx scx vlx set";
+
+pub(crate) const KINDS: &str =
     "fill settled info state marked allfrozen child freeze frozen mark update commit abort";
 
-fn one_of(name: &'static str, words: &'static str) -> Field {
+pub(crate) fn one_of(name: &'static str, words: &'static str) -> Field {
     Field {
         name,
         wanted: Wanted::OneOf(words),
@@ -44,7 +39,7 @@ fn one_of(name: &'static str, words: &'static str) -> Field {
 }
 
 /// A field of which something is said elsewhere.
-fn text(name: &'static str) -> Field {
+pub(crate) fn text(name: &'static str) -> Field {
     Field {
         name,
         wanted: Wanted::Text,
@@ -52,7 +47,7 @@ fn text(name: &'static str) -> Field {
 }
 
 /// A field that is empty.
-fn nothing(name: &'static str) -> Field {
+pub(crate) fn nothing(name: &'static str) -> Field {
     Field {
         name,
         wanted: Wanted::Nothing,
@@ -60,7 +55,7 @@ fn nothing(name: &'static str) -> Field {
 }
 
 /// A field with a word of memory.
-fn word(name: &'static str) -> Field {
+pub(crate) fn word(name: &'static str) -> Field {
     Field::number(name, 0, WORD)
 }
 
@@ -75,27 +70,28 @@ pub(crate) fn script_fields(row: u64, command: &str, mode: Mode, passes: u128) -
             Field::number("tries", 1, 1_000),
         ];
     }
-    let [a, b, c] = arguments(command);
+    let [a, b, c] = arguments(command, u128::MAX);
     let commands = match mode {
         Mode::Tree | Mode::Trie => CALLS,
-        Mode::Records => "llx scx vlx set",
+        Mode::Records => CELL_CALLS,
     };
     [client(passes), one_of("command", commands), a, b, c]
 }
 
-/// The number of a client.
-fn client(passes: u128) -> Field {
+/// The number of a client below `passes`.
+pub(crate) fn client(passes: u128) -> Field {
     Field::number("client", 0, passes.saturating_sub(1))
 }
 
-/// The arguments of a command of a script.
-fn arguments(command: &str) -> [Field; 3] {
-    let expected = Field::number("expected value", 0, u128::MAX);
+/// The arguments of a command, where this is the greatest value.
+pub(crate) fn arguments(command: &str, most: u128) -> [Field; 3] {
+    let expected = Field::number("expected value", 0, most);
+    let value = Field::number("value", 0, most);
     match command {
-        "insert" | "insert_new" => [KEY, VALUE, nothing("c")],
+        "insert" | "insert_new" => [KEY, value, nothing("c")],
         "delete" | "get" | "successor" | "predecessor" => [KEY, nothing("b"), nothing("c")],
         "delete_if" => [KEY, expected, nothing("c")],
-        "replace_if" => [KEY, expected, VALUE],
+        "replace_if" => [KEY, expected, value],
         "pop_first" | "pop_last" => [nothing("a"), nothing("b"), nothing("c")],
         "range" => [word("lo"), word("hi"), Field::number("most", 0, 64)],
         "llx" => [CELL, nothing("b"), nothing("c")],
@@ -120,83 +116,4 @@ pub(crate) fn schedule_fields(command: &str, passes: u128) -> [Field; 4] {
         kind,
         times,
     ]
-}
-
-/// The fields of a row of a report.
-pub(crate) fn report_fields(first: &str, kind: &str) -> [Field; 7] {
-    let client = Field::number("client", 0, 31);
-    let head = one_of("first field", "report limits call step log reply end");
-    let rest = nothing("what follows");
-    let kinds =
-        "fill settled info state marked allfrozen child freeze frozen mark update commit abort idle";
-    match first {
-        "report" => [
-            head,
-            one_of("version", "1 2"),
-            one_of("mode", "records tree"),
-            rest,
-            rest,
-            rest,
-            rest,
-        ],
-        "limits" => {
-            let [_, passes, nodes, scx, tries] = script_fields(1, "", Mode::Tree, 0);
-            [head, passes, nodes, scx, tries, rest, rest]
-        }
-        "call" => [
-            head,
-            client,
-            word("number"),
-            text("command"),
-            text("a"),
-            text("b"),
-            text("c"),
-        ],
-        "step" if kind == "idle" => [head, word("number"), client, text("kind"), rest, rest, rest],
-        "step" => [
-            head,
-            word("number"),
-            client,
-            one_of("kind", kinds),
-            text("word"),
-            word("before"),
-            word("after"),
-        ],
-        "log" => [
-            head,
-            word("place"),
-            word("step"),
-            text("SCX-record"),
-            client,
-            word("call"),
-            rest,
-        ],
-        "reply" => [
-            head,
-            client,
-            word("number"),
-            word("begin"),
-            word("end"),
-            text("moment"),
-            text("answer"),
-        ],
-        "end" => [
-            head,
-            word("steps"),
-            word("replies"),
-            word("logs"),
-            rest,
-            rest,
-            rest,
-        ],
-        _ => [
-            head,
-            text(""),
-            text(""),
-            text(""),
-            text(""),
-            text(""),
-            text(""),
-        ],
-    }
 }

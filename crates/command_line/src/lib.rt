@@ -4,15 +4,20 @@
 mod args;
 mod ask;
 mod buffered;
+mod cell_fields;
 mod command_help;
 mod complaint;
+mod excerpt;
 mod field;
 mod forms;
 mod outcomes;
 mod people;
 mod picture;
+mod progress;
 mod refusal;
-mod rules;
+mod report_forms;
+mod row_fault;
+mod sheet_rows;
 mod source;
 mod words;
 

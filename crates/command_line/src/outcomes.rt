@@ -1,6 +1,7 @@
 //! The command that tells what a script can answer.
 use arena::Mode;
-use exploring::{explore, left_text, outcomes_text};
+use audit::{Unwatched, Watch};
+use exploring::{explore_watched, left_text, outcomes_text};
 use program::Fault;
 use script::read_script;
 use std::alloc::Global;
@@ -16,8 +17,20 @@ pub fn explore_over<R: Read, O: Write>(
     most: u64,
     out: &mut Metered<O>,
 ) -> Result<String, Fault> {
+    explore_to(alloc, script, interruptions, most, &mut Unwatched, out)
+}
+
+/// The same, of which somebody is told how many schedules are played.
+pub(crate) fn explore_to<R: Read, W: Watch, O: Write>(
+    alloc: Global,
+    script: &mut R,
+    interruptions: u32,
+    most: u64,
+    watch: &mut W,
+    out: &mut Metered<O>,
+) -> Result<String, Fault> {
     let script = read_script(alloc, Mode::Tree, &mut Metered::new(script))?;
-    let found = explore(alloc, &script, interruptions, most)?;
+    let found = explore_watched(alloc, &script, interruptions, most, watch)?;
     send(outcomes_text(alloc, &found)?.as_bytes(), out)?;
     Ok(left_text(alloc, &found)?)
 }

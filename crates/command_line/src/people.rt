@@ -4,7 +4,8 @@ ghost use Rattle.std.specs.Prelude.{◌≤◌};
 use crate::buffered::play_buffered;
 use crate::command_help::whole_command;
 use crate::complaint::Complaint;
-use crate::outcomes::explore_over;
+use crate::outcomes::explore_to;
+use crate::progress::Progress;
 use crate::refusal::{record_of, require_lawful, schedule_of, script_of};
 use crate::source::{LateFile, Source};
 use crate::words::matches_of;
@@ -19,16 +20,16 @@ use std::io::{Input, Write};
 use std::rt::Files;
 use std::sync::Wait;
 use std::thread::Threads;
+use std::time::Clock;
 use texts::{Metered, send};
 
 /// Does what the words ask for, of which the first is the program's own name, and answers the exit
 /// status. Help goes to `out`; a fault goes to `err`, and says where and what.
-pub fn people_words<R: Files + Input + AllocGlobal + Threads + Wait + Sync, O: Write, E: Write>(
-    rt: &R,
-    words: &[String],
-    out: &mut O,
-    err: &mut E,
-) -> u8
+pub fn people_words<
+    R: Files + Input + Clock + AllocGlobal + Threads + Wait + Sync,
+    O: Write,
+    E: Write,
+>(rt: &R, words: &[String], out: &mut O, err: &mut E) -> u8
     ensures { result ≤ 4 }
 {
     match matches_of(whole_command(rt.alloc()), words) {
@@ -59,23 +60,26 @@ fn print_usage<O: Write, E: Write>(error: &Error, out: &mut O, err: &mut E) -> u
     }
 }
 
-fn choose_output<R: Files + Input + AllocGlobal + Threads + Wait + Sync, O: Write, E: Write>(
-    rt: &R,
-    given: &ArgMatches<'_>,
-    out: &mut O,
-    err: &mut E,
-) -> Result<(), Complaint> {
+fn choose_output<
+    R: Files + Input + Clock + AllocGlobal + Threads + Wait + Sync,
+    O: Write,
+    E: Write,
+>(rt: &R, given: &ArgMatches<'_>, out: &mut O, err: &mut E) -> Result<(), Complaint> {
     // That there is a command has been asked.
     let Some((name, given)) = given.subcommand() else {
         return Ok(());
     };
-    match given.get_str("output") {
-        Some(file) => do_command(rt, name, given, &mut LateFile::new(rt, file), err),
-        None => do_command(rt, name, given, out, err),
+    let Some(file) = given.get_str("output") else {
+        return do_command(rt, name, given, out, err);
+    };
+    let mut late = LateFile::new(rt, file);
+    match do_command(rt, name, given, &mut late, err) {
+        Err(Complaint::Write) => Err(late.unwritten(rt.alloc())),
+        done => done,
     }
 }
 
-fn do_command<R: Files + Input + AllocGlobal + Threads + Wait + Sync, O: Write, E: Write>(
+fn do_command<R: Files + Input + Clock + AllocGlobal + Threads + Wait + Sync, O: Write, E: Write>(
     rt: &R,
     name: &str,
     given: &ArgMatches<'_>,
@@ -83,27 +87,47 @@ fn do_command<R: Files + Input + AllocGlobal + Threads + Wait + Sync, O: Write, 
     err: &mut E,
 ) -> Result<(), Complaint> {
     match name {
-        "play" => play(rt, Mode::Tree, given, out),
-        "records" => play(rt, Mode::Records, given, out),
+        "play" => play(rt, Mode::Tree, given, out, err),
+        "records" => play(rt, Mode::Records, given, out, err),
         "run" => run(rt, given, out),
         "outcomes" => list_outcomes(rt, given, out, err),
-        _ => show(rt, name, given, out),
+        _ => show(rt, name, given, out, err),
     }
 }
 
-fn play<R: Files + Input + AllocGlobal, O: Write>(
+fn play<R: Files + Input + Clock + AllocGlobal, O: Write, E: Write>(
     rt: &R,
     mode: Mode,
     given: &ArgMatches<'_>,
     out: &mut O,
+    err: &mut E,
 ) -> Result<(), Complaint> {
     let alloc = rt.alloc();
+    require_one_input(alloc, given)?;
     let text = Source::of(rt, given, "SCRIPT")?;
     let script = script_of(alloc, mode, &text)?;
     let schedule = Source::of(rt, given, "SCHEDULE")?;
     schedule_of(alloc, &script, &schedule)?;
     let (text, schedule) = (text.bytes.as_slice(), schedule.bytes.as_slice());
-    ended(play_buffered(alloc, mode, text, schedule, out, &mut Vec::new(alloc)))
+    let mut watch = Progress::new(rt, err, given.get_flag("progress"), "turns", None);
+    ended(play_buffered(
+        alloc,
+        mode,
+        text,
+        schedule,
+        &mut watch,
+        out,
+        &mut Vec::new(alloc),
+    ))
+}
+
+/// Standard input can be read once.
+fn require_one_input(alloc: Global, given: &ArgMatches<'_>) -> Result<(), Complaint> {
+    if given.get_str("SCRIPT") == Some("-") && given.get_str("SCHEDULE") == Some("-") {
+        let text = "SCRIPT and SCHEDULE: only one of them can be `-`";
+        return Err(Complaint::Usage(String::from_str(alloc, text)?));
+    }
+    Ok(())
 }
 
 /// How a command ends that has this status over texts which are right: it can want memory, and a
@@ -116,7 +140,7 @@ fn ended(status: u8) -> Result<(), Complaint> {
     }
 }
 
-fn run<R: Files + Input + AllocGlobal + Threads + Wait + Sync, O: Write>(
+fn run<R: Files + Input + Clock + AllocGlobal + Threads + Wait + Sync, O: Write>(
     rt: &R,
     given: &ArgMatches<'_>,
     out: &mut O,
@@ -130,7 +154,7 @@ fn run<R: Files + Input + AllocGlobal + Threads + Wait + Sync, O: Write>(
     ended(run_over(rt, alloc, gate, &mut script, &mut out, &mut err))
 }
 
-fn list_outcomes<R: Files + Input + AllocGlobal, O: Write, E: Write>(
+fn list_outcomes<R: Files + Input + Clock + AllocGlobal, O: Write, E: Write>(
     rt: &R,
     given: &ArgMatches<'_>,
     out: &mut O,
@@ -142,24 +166,36 @@ fn list_outcomes<R: Files + Input + AllocGlobal, O: Write, E: Write>(
     let interruptions = given.get_one::<u32>("interruptions").unwrap_or(2);
     let most = given.get_one::<u64>("most").unwrap_or(1_000_000);
     let (mut script, mut out) = (script.bytes.as_slice(), Metered::new(out));
-    let left = explore_over(alloc, &mut script, interruptions, most, &mut out)?;
+    let asked = given.get_flag("progress");
+    let mut watch = Progress::new(rt, err, asked, "schedules at most", Some(most));
+    let left = explore_to(
+        alloc,
+        &mut script,
+        interruptions,
+        most,
+        &mut watch,
+        &mut out,
+    )?;
     let _ = err.write_all(left.as_bytes());
     Ok(())
 }
 
 /// Audits a report, draws it, or makes a page of it.
-fn show<R: Files + Input + AllocGlobal, O: Write>(
+fn show<R: Files + Input + Clock + AllocGlobal, O: Write, E: Write>(
     rt: &R,
     name: &str,
     given: &ArgMatches<'_>,
     out: &mut O,
+    err: &mut E,
 ) -> Result<(), Complaint> {
     let alloc = rt.alloc();
     let window = window_of(alloc, given)?;
     let report = Source::of(rt, given, "REPORT")?;
     let record = record_of(alloc, &report)?;
     if name == "audit" {
-        require_lawful(alloc, &report, &record)?;
+        let all = Some(record.lines.len() as u64);
+        let mut watch = Progress::new(rt, err, given.get_flag("progress"), "rows of the run", all);
+        require_lawful(alloc, &report, &record, &mut watch)?;
     }
     Ok(write_shown(alloc, name, &record, window, &mut Metered::new(out))?)
 }

@@ -1,20 +1,21 @@
 //! Why a text is refused: which row, which field of it, what was found and what is wanted.
 use crate::complaint::Complaint;
+use crate::excerpt::excerpt;
 use crate::field::Field;
-use crate::forms::{report_fields, schedule_fields, script_fields};
-use crate::rules::rule_of;
+use crate::forms::{schedule_fields, script_fields};
+use crate::report_forms::ReportSoFar;
+use crate::row_fault::{RowFault, absent_fault, entry_fault, field_fault, form_fault};
+use crate::sheet_rows::{FoundRow, row_of};
 use crate::source::Source;
-use arena::Mode;
-use audit::{AuditFault, audit};
-use csv::{ReaderBuilder, StringRecord};
+use arena::{Mode, NoMemory};
+use audit::{AuditFault, Watch, audit_watched};
+use csv::StringRecord;
+use explaining::explain;
 use record::Record;
 use report::{ReportFault, read_record};
 use script::{Schedule, Script, TextFault, read_schedule, read_script};
 use std::alloc::{AllocError, Global};
 use texts::{Metered, number_of};
-
-/// How many calls, or rows of a schedule, there are at most.
-const MOST_ENTRIES: u64 = 65_536;
 
 /// The script that a text says.
 pub(crate) fn script_of(
@@ -27,12 +28,33 @@ pub(crate) fn script_of(
         Err(TextFault::Bad { row, cause: _ }) => row,
         Err(_) => return Err(Complaint::NoMemory),
     };
-    let first = row_of(alloc, source, 1)?;
-    let passes = number_of::<u128>(first.get(1).unwrap_or("")).unwrap_or(0);
-    let found = row_of(alloc, source, row)?;
+    let before = row.saturating_sub(2);
+    let end = format!(in alloc; "end,{before},,,")?;
+    let found = match row_of(alloc, source, row) {
+        FoundRow::Row(found) => found,
+        absent => {
+            let first = "limits,passes,nodes,scx,tries";
+            let fault = absent_fault(alloc, &absent, row, first, end.as_str())?;
+            return Err(refused(alloc, source, row, "", &fault)?);
+        }
+    };
     let command = found.get(1).unwrap_or("");
-    let fields = script_fields(row, command, mode, passes);
-    Err(refuse(alloc, source, row, &found, fields.as_slice(), 1))
+    let fields = script_fields(row, command, mode, passes_of(alloc, source));
+    let scx_at = if command == "scx" { Some(2) } else { None };
+    let entry = if row > 1 {
+        Some((before, end.as_str()))
+    } else {
+        None
+    };
+    refuse(alloc, source, row, &found, fields.as_slice(), entry, scx_at)
+}
+
+/// The number of passes that the first row of a script says.
+fn passes_of(alloc: Global, source: &Source<'_>) -> u128 {
+    match row_of(alloc, source, 1) {
+        FoundRow::Row(first) => number_of::<u128>(first.get(1).unwrap_or("")).unwrap_or(0),
+        _ => 0,
+    }
 }
 
 /// The schedule that a text says.
@@ -46,9 +68,66 @@ pub(crate) fn schedule_of(
         Err(TextFault::Bad { row, cause: _ }) => row,
         Err(_) => return Err(Complaint::NoMemory),
     };
-    let found = row_of(alloc, source, row)?;
+    let before = row.saturating_sub(1);
+    let end = format!(in alloc; "end,{before},,")?;
+    let found = match row_of(alloc, source, row) {
+        FoundRow::Row(found) => found,
+        absent => {
+            let first = "one of a schedule, or end,0,,";
+            let fault = absent_fault(alloc, &absent, row, first, end.as_str())?;
+            return Err(refused(alloc, source, row, "", &fault)?);
+        }
+    };
     let fields = schedule_fields(found.get(0).unwrap_or(""), u128::from(script.limits.passes));
-    Err(refuse(alloc, source, row, &found, fields.as_slice(), 0))
+    let entry = Some((before, end.as_str()));
+    refuse(alloc, source, row, &found, fields.as_slice(), entry, None)
+}
+
+/// Refuses a row of a script or a schedule: one behind the head, so many entries and before what is
+/// to be the end row, is an entry.
+fn refuse<T>(
+    alloc: Global,
+    source: &Source<'_>,
+    row: u64,
+    found: &StringRecord,
+    fields: &[Field],
+    entry: Option<(u64, &str)>,
+    scx_at: Option<usize>,
+) -> Result<T, Complaint> {
+    if let Some(fault) = form_fault(alloc, source, row, found, fields.len())? {
+        return Err(refused(alloc, source, row, "", &fault)?);
+    }
+    if let Some((before, end)) = entry
+        && let Some(fault) = entry_fault(alloc, found, before, end)?
+    {
+        return Err(refused(alloc, source, row, "", &fault)?);
+    }
+    let fault = field_fault(alloc, found, fields, scx_at)?;
+    Err(refused(alloc, source, row, name_of(fields, &fault), &fault)?)
+}
+
+/// The name of the field that is at fault.
+fn name_of(fields: &[Field], fault: &RowFault) -> &'static str {
+    match fault.field.and_then(|place| fields.get(place)) {
+        Some(field) => field.name,
+        None => "",
+    }
+}
+
+/// What is said of a row, whose field of this name is at fault, if it has a name.
+fn refused(
+    alloc: Global,
+    source: &Source<'_>,
+    row: u64,
+    name: &str,
+    fault: &RowFault,
+) -> Result<Complaint, AllocError> {
+    let text = fault.text.as_str();
+    Ok(Complaint::Refused(if name.is_empty() {
+        format!(in alloc; "{}, row {row}: {text}", source.name)?
+    } else {
+        format!(in alloc; "{}, row {row}, {name}: {text}", source.name)?
+    }))
 }
 
 /// The record that a report says.
@@ -58,120 +137,87 @@ pub(crate) fn record_of(alloc: Global, source: &Source<'_>) -> Result<Record, Co
         Err(ReportFault::NotLawful { row }) => row,
         Err(_) => return Err(Complaint::NoMemory),
     };
-    let found = row_of(alloc, source, row)?;
-    let fields = report_fields(found.get(0).unwrap_or(""), found.get(3).unwrap_or(""));
-    Err(refuse(alloc, source, row, &found, fields.as_slice(), 2))
+    let found = match row_of(alloc, source, row) {
+        FoundRow::Row(found) => found,
+        absent => {
+            let (first, last) = ("report,2,MODE,,,,", "end,STEPS,REPLIES,LOGS,,,");
+            let fault = absent_fault(alloc, &absent, row, first, last)?;
+            return Err(refused_report(alloc, source, row, "", &fault)?);
+        }
+    };
+    if let Some(fault) = form_fault(alloc, source, row, &found, 7)? {
+        return Err(refused_report(alloc, source, row, "", &fault)?);
+    }
+    let so_far = ReportSoFar::of(alloc, source, row, &found);
+    let fields = so_far.fields(found.get(0).unwrap_or(""), found.get(3).unwrap_or(""));
+    let scx_at = if found.get(3) == Some("scx") {
+        Some(4)
+    } else {
+        None
+    };
+    let fault = field_fault(alloc, &found, fields.as_slice(), scx_at)?;
+    let name = name_of(fields.as_slice(), &fault);
+    Err(refused_report(alloc, source, row, name, &fault)?)
 }
 
-/// Asks whether a record is of a lawful run.
-pub(crate) fn require_lawful(
+/// The same of a row of a report, which is shown with its neighbours.
+fn refused_report(
+    alloc: Global,
+    source: &Source<'_>,
+    row: u64,
+    name: &str,
+    fault: &RowFault,
+) -> Result<Complaint, AllocError> {
+    let shown = excerpt(alloc, source, row, fault.field)?;
+    let RowFault { field: _, text } = fault;
+    let comma = if name.is_empty() { "" } else { ", " };
+    Ok(Complaint::Refused(format!(in alloc;
+        "{}, row {row}{comma}{name}: {text}{shown}",
+        source.name
+    )?))
+}
+
+/// Asks whether a record is of a lawful run; somebody is told how far that is.
+pub(crate) fn require_lawful<W: Watch>(
     alloc: Global,
     source: &Source<'_>,
     record: &Record,
+    watch: &mut W,
 ) -> Result<(), Complaint> {
-    let row = match audit(alloc, record) {
-        Ok(()) => return Ok(()),
-        Err(AuditFault::NotLawful { row }) => row,
-        Err(AuditFault::NoMemory) => return Err(Complaint::NoMemory),
+    match audit_watched(alloc, record, watch) {
+        Ok(()) => Ok(()),
+        Err(AuditFault::NotLawful { row }) => match unlawful(alloc, source, record, row) {
+            Ok(complaint) => Err(complaint),
+            Err(NoMemory) => Err(Complaint::NoMemory),
+        },
+        Err(AuditFault::NoMemory) => Err(Complaint::NoMemory),
+    }
+}
+
+/// Says which condition this row breaks.
+fn unlawful(
+    alloc: Global,
+    source: &Source<'_>,
+    record: &Record,
+    row: u64,
+) -> Result<Complaint, NoMemory> {
+    let head = (record.script.calls.len() as u64).saturating_add(3);
+    let breach = explain(alloc, record, row.saturating_sub(head) as usize)?;
+    let name = match row_of(alloc, source, row) {
+        FoundRow::Row(found) => {
+            let so_far = ReportSoFar::of(alloc, source, row, &found);
+            let fields = so_far.fields(found.get(0).unwrap_or(""), found.get(3).unwrap_or(""));
+            fields
+                .get(breach.field)
+                .map(|field| field.name)
+                .unwrap_or("")
+        }
+        _ => "",
     };
-    let found = row_of(alloc, source, row)?;
-    let rule = rule_of(found.get(0).unwrap_or(""), found.get(3).unwrap_or(""));
-    let (name, text) = (source.name, row_text(alloc, &found)?);
-    let text = format!(in alloc; "{name}, row {row}: not lawful: {text}: {rule}")?;
-    Err(Complaint::Refused(text))
-}
-
-/// A row of a text; one without fields if there is none, or if it is no text.
-fn row_of(alloc: Global, source: &Source<'_>, row: u64) -> Result<StringRecord, AllocError> {
-    let mut rows = ReaderBuilder::new()
-        .has_headers(false)
-        .flexible(true)
-        .from_reader(alloc, source.bytes.as_slice());
-    let mut found = StringRecord::new(alloc);
-    for _ in 0..row {
-        if !matches!(rows.read_record(&mut found), Ok(true)) {
-            return Ok(StringRecord::new(alloc));
-        }
-    }
-    Ok(found)
-}
-
-/// The row again.
-fn row_text(alloc: Global, row: &StringRecord) -> Result<String, AllocError> {
-    let mut text = String::new(alloc);
-    for (place, field) in row.iter().enumerate() {
-        if place > 0 {
-            text.push(',')?;
-        }
-        text.push_str(field)?;
-    }
-    Ok(text)
-}
-
-/// Says why this row is refused, of a text with so many rows before its entries.
-fn refuse(
-    alloc: Global,
-    source: &Source<'_>,
-    row: u64,
-    found: &StringRecord,
-    fields: &[Field],
-    head: u64,
-) -> Complaint {
-    match why(alloc, source, row, found, fields, head) {
-        Ok(why) => match format!(in alloc; "{}, row {row}{why}", source.name) {
-            Ok(text) => Complaint::Refused(text),
-            Err(_) => Complaint::NoMemory,
-        },
-        Err(_) => Complaint::NoMemory,
-    }
-}
-
-fn why(
-    alloc: Global,
-    source: &Source<'_>,
-    row: u64,
-    found: &StringRecord,
-    fields: &[Field],
-    head: u64,
-) -> Result<String, AllocError> {
-    let (count, width) = (found.len(), fields.len());
-    if count == 0 {
-        return String::from_str(
-            alloc,
-            ": no UTF-8, or no row: the last row begins with `end`",
-        );
-    }
-    if count != width {
-        return format!(in alloc; ": {count} fields in place of {width}");
-    }
-    if row_of(alloc, source, row.saturating_sub(1))?.get(0) == Some("end") {
-        return String::from_str(alloc, ": a row after the end row");
-    }
-    let text = row_text(alloc, found)?;
-    let before = row.saturating_sub(1).saturating_sub(head);
-    match (found.get(0), width) {
-        (Some("end"), 4) => format!(in alloc; ": {text} in place of end,{before},,"),
-        (Some("end"), 5) => format!(in alloc; ": {text} in place of end,{before},,,"),
-        _ if before == MOST_ENTRIES && width < 7 => {
-            format!(in alloc; ": more than {MOST_ENTRIES} rows before the end row")
-        }
-        _ => match first_fault(alloc, found, fields)? {
-            Some(fault) => Ok(fault),
-            None => format!(in alloc; ": {text} is not right, or not at its place"),
-        },
-    }
-}
-
-/// The first field that is not what it has to be.
-fn first_fault(
-    alloc: Global,
-    found: &StringRecord,
-    fields: &[Field],
-) -> Result<Option<String>, AllocError> {
-    for (place, field) in fields.iter().enumerate() {
-        if let Some(fault) = field.fault(alloc, found.get(place).unwrap_or(""))? {
-            return Ok(Some(format!(in alloc; ", {}: {fault}", field.name)?));
-        }
-    }
-    Ok(None)
+    let shown = excerpt(alloc, source, row, Some(breach.field))?;
+    let text = breach.text.as_str();
+    Ok(Complaint::Refused(format!(in alloc;
+        "{}, row {row}, {name}: not lawful: {text}{shown}",
+        source.name
+    )?))
 }

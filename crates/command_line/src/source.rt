@@ -41,10 +41,10 @@ where
     Ok(bytes)
 }
 
-/// What is said of a file that cannot be read.
+/// What is said of a file that cannot be read or written.
 fn unread(alloc: Global, name: &str, error: &io::Error) -> Complaint {
     match format!(in alloc; "{name}: {error}") {
-        Ok(text) if error.kind() != io::ErrorKind::OutOfMemory => Complaint::Read(text),
+        Ok(text) if error.kind() != io::ErrorKind::OutOfMemory => Complaint::File(text),
         _ => Complaint::NoMemory,
     }
 }
@@ -55,6 +55,8 @@ pub(crate) struct LateFile<'a, R: Files> {
     rt: &'a R,
     name: &'a str,
     file: Option<R::File>,
+    /// Why it could not be made or written.
+    fault: Option<io::Error>,
 }
 
 impl<'a, R: Files> LateFile<'a, R> {
@@ -64,12 +66,19 @@ impl<'a, R: Files> LateFile<'a, R> {
             rt,
             name,
             file: None,
+            fault: None,
         }
     }
-}
 
-impl<R: Files> Write for LateFile<'_, R> {
-    fn write(&mut self, buf: &[u8]) -> io::Result<usize> {
+    /// What is said of the file after a write to it that has failed.
+    pub(crate) fn unwritten(&self, alloc: Global) -> Complaint {
+        match &self.fault {
+            Some(error) => unread(alloc, self.name, error),
+            None => Complaint::Write,
+        }
+    }
+
+    fn write_late(&mut self, buf: &[u8]) -> io::Result<usize> {
         match &mut self.file {
             Some(file) => file.write(buf),
             None => {
@@ -77,6 +86,19 @@ impl<R: Files> Write for LateFile<'_, R> {
                 let written = file.write(buf);
                 self.file = Some(file);
                 written
+            }
+        }
+    }
+}
+
+impl<R: Files> Write for LateFile<'_, R> {
+    fn write(&mut self, buf: &[u8]) -> io::Result<usize> {
+        match self.write_late(buf) {
+            Ok(written) => Ok(written),
+            Err(error) => {
+                let kind = error.kind();
+                self.fault = Some(error);
+                Err(io::Error::from(kind))
             }
         }
     }

@@ -9,4 +9,4 @@ mod search;
 mod stretch;
 
 pub use found::{left_text, outcomes_text};
-pub use search::{Exploration, explore};
+pub use search::{Exploration, explore, explore_watched};

@@ -5,7 +5,7 @@ use crate::outcome::outcome_text;
 use crate::playing::play_on;
 use crate::stretch::{Begun, branch_off};
 use arena::{NoMemory, PassNo};
-use audit::{AuditFault, audit};
+use audit::{AuditFault, Unwatched, Watch, audit};
 use record::Record;
 use script::Script;
 use std::alloc::{AllocError, Global};
@@ -39,6 +39,17 @@ pub fn explore(
     interruptions: u32,
     most: u64,
 ) -> Result<Exploration, AuditFault> {
+    explore_watched(alloc, script, interruptions, most, &mut Unwatched)
+}
+
+/// The same, of which somebody is told how many schedules it has played.
+pub fn explore_watched<W: Watch>(
+    alloc: Global,
+    script: &Script,
+    interruptions: u32,
+    most: u64,
+    watch: &mut W,
+) -> Result<Exploration, AuditFault> {
     let mut exploration = Exploration {
         played: 0,
         left: 0,
@@ -54,6 +65,7 @@ pub fn explore(
         if let Some(record) = new.map_err(no_memory)? {
             audit(alloc, &record)?;
         }
+        watch.reached(exploration.played);
     }
     exploration.leave();
     Ok(exploration)

@@ -1,6 +1,6 @@
 use Rattle.std.proofs.Common.{◌≡◌}
 use Rattle.audit.specs.After.{lines_of, Remembers}
-use Rattle.audit.proofs.verdict.audit.Given as goal
+use Rattle.audit.proofs.verdict.audit_watched.Given as goal
 
 abbrev pub invariant-loop-at : goal.invariant-loop-at
 invariant-loop-at l = record {

@@ -1,6 +1,6 @@
 use Rattle.std.proofs.Common.{arith, refl, rules}
 use Rattle.audit.proofs.EarlierLines.{err_same, fault_before, fault_behind}
-use Rattle.audit.proofs.verdict.audit.Goals as goal
+use Rattle.audit.proofs.verdict.audit_watched.Goals as goal
 
 pub loop-at-init : goal.loop-at-init
 loop-at-init c =

@@ -1,0 +1,58 @@
+//! What is wrong with the cells of an `scx`.
+use crate::field::are_cells;
+use csv::StringRecord;
+use std::alloc::{AllocError, Global};
+use texts::number_of;
+
+/// What is wrong with the fields of an `scx` in a row, from this index on, and with which: its
+/// cells, those of them that it finalizes, and its change.
+pub(crate) fn scx_fault(
+    alloc: Global,
+    row: &StringRecord,
+    first: usize,
+) -> Result<Option<(usize, String)>, AllocError> {
+    let field = |place: usize| row.get(first.saturating_add(place)).unwrap_or("");
+    let (cells, finalized, change) = (field(0), field(1), field(2));
+    if !are_cells(cells) {
+        return Ok(None);
+    }
+    if !is_part(finalized, cells) {
+        return Ok(Some((
+            1,
+            format!(in alloc; "{finalized} in place of some of the cells {cells}, in their order")?,
+        )));
+    }
+    if is_change(change, cells) {
+        return Ok(None);
+    }
+    let shown = if change.is_empty() { "nothing" } else { change };
+    Ok(Some((
+        2,
+        format!(in alloc;
+            "{shown} in place of one of the cells {cells}, left or right, and a number, with spaces between"
+        )?,
+    )))
+}
+
+/// Whether `whole` gives `part`, where some of its cells are left out.
+fn is_part(part: &str, whole: &str) -> bool {
+    let mut wanted = part.split(' ').filter(|cell| !cell.is_empty()).peekable();
+    for cell in whole.split(' ') {
+        if wanted.peek() == Some(&cell) {
+            wanted.next();
+        }
+    }
+    wanted.peek().is_none() && !part.contains("  ")
+}
+
+fn is_change(change: &str, cells: &str) -> bool {
+    let mut fields = change.split(' ');
+    let (cell, side, value) = (fields.next(), fields.next(), fields.next());
+    let (Some(cell), Some(side), Some(value)) = (cell, side, value) else {
+        return false;
+    };
+    fields.next().is_none()
+        && cells.split(' ').any(|other| other == cell)
+        && (side == "left" || side == "right")
+        && number_of::<u64>(value).is_some()
+}

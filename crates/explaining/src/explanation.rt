@@ -1,0 +1,58 @@
+//! The condition that a line of a record breaks.
+use crate::breach::{Breach, Objection, object};
+use crate::entries::check_entry;
+use crate::idle::check_idle;
+use crate::lines_before::LinesBefore;
+use crate::replies::check_reply;
+use crate::steps::check_step;
+use crate::words::entry_words;
+use arena::NoMemory;
+use record::{Line, Record, TurnRow};
+use std::alloc::Global;
+
+/// Why the line of this index is not lawful after those before it, which are; with the index behind
+/// the last line, why the record may not end there. The only error is want of memory.
+pub fn explain(alloc: Global, record: &Record, line: usize) -> Result<Breach, NoMemory> {
+    match check(alloc, record, line) {
+        Err(Objection::Breaks(breach)) => Ok(breach),
+        Err(Objection::NoMemory) => Err(NoMemory),
+        Ok(()) => Ok(Breach {
+            field: 0,
+            text: String::from_str(alloc, "it does not fit the rows before it")?,
+        }),
+    }
+}
+
+/// Objects to the line, if a condition can be told that it breaks.
+fn check(alloc: Global, record: &Record, line: usize) -> Result<(), Objection> {
+    let before = LinesBefore::of(alloc, record, line)?;
+    match record.lines.get(line) {
+        Some(Line::Step(TurnRow::Step { number, row })) => {
+            check_owed(&before)?;
+            check_step(&before, *number, row)
+        }
+        Some(Line::Step(TurnRow::Idle { number, client })) => {
+            check_owed(&before)?;
+            check_idle(&before, *number, *client)
+        }
+        Some(Line::Log(entry)) => check_entry(&before, entry),
+        Some(Line::Reply(reply)) => {
+            check_owed(&before)?;
+            check_reply(&before, reply)
+        }
+        None => check_owed(&before),
+    }
+}
+
+/// After an update that wins comes its entry.
+fn check_owed(before: &LinesBefore<'_>) -> Result<(), Objection> {
+    let (alloc, turn) = (before.alloc, before.turn);
+    let Some(entry) = &before.owed else {
+        return Ok(());
+    };
+    let wanted = entry_words(alloc, entry)?;
+    Err(object(
+        0,
+        format!(in alloc; "the update of turn {turn} has won, so its entry comes next: {wanted}"),
+    ))
+}

@@ -1,0 +1,29 @@
+//! Why a line of a record is not lawful, in words. The lines before it are gone through, and then the
+//! conditions of its kind are asked one by one.
+#![tactic(auto)]
+
+mod begins;
+mod blame;
+mod breach;
+mod cell_answers;
+mod cell_entries;
+mod client_so_far;
+mod edits;
+mod entries;
+mod explanation;
+mod fills;
+mod freezes;
+mod idle;
+mod levels;
+mod lines_before;
+mod loads;
+mod map_answers;
+mod map_before;
+mod replies;
+mod steps;
+mod stores;
+mod updates;
+mod words;
+
+pub use breach::Breach;
+pub use explanation::explain;

@@ -1,0 +1,94 @@
+//! Updates of fields.
+use crate::begins::field_of;
+use crate::breach::{Objection, demand, object};
+use crate::lines_before::LinesBefore;
+use crate::steps::{AFTER, WORD};
+use crate::stores::{check_all_frozen, finalizes};
+use arena::{NodeWord, Row, ScxWord, Word};
+use report::word_text;
+
+/// An update exchanges the field of an SCX-record from `old` to `new`, once all its nodes are frozen
+/// and what it finalizes is marked.
+pub(crate) fn check_update(before: &LinesBefore<'_>, row: &Row) -> Result<(), Objection> {
+    let alloc = before.alloc;
+    let word = word_text(alloc, row.word)?;
+    let Word::Node(node, NodeWord::Child(_)) = row.word else {
+        return Err(object(
+            WORD,
+            format!(in alloc; "{word} in place of a field of a node, which an update exchanges"),
+        ));
+    };
+    let scx = before.node_word(node.0, NodeWord::Info);
+    if row.before == row.after && field_of(before, scx) != row.word {
+        return check_lost(before, row);
+    }
+    demand(
+        field_of(before, scx) == row.word,
+        WORD,
+        format!(in alloc;
+            "the info of n{} names s{scx}, whose field is not {word}",
+            node.0
+        ),
+    )?;
+    check_all_frozen(before, scx)?;
+    for place in 0..before.plan(scx).count() {
+        check_marked(before, scx, place)?;
+    }
+    check_exchange(before, row, scx)
+}
+
+/// A node that it finalizes is marked.
+fn check_marked(before: &LinesBefore<'_>, scx: u64, place: u8) -> Result<(), Objection> {
+    let (alloc, node) = (before.alloc, before.member(scx, place));
+    let is_marked = before.node_word(node, NodeWord::Marked) == 1;
+    demand(
+        is_marked || !finalizes(before, scx, place),
+        WORD,
+        format!(in alloc; "n{node}, which s{scx} finalizes, is not marked"),
+    )
+}
+
+/// What it leaves is `new`, or, where it does not find `old`, what it finds.
+fn check_exchange(before: &LinesBefore<'_>, row: &Row, scx: u64) -> Result<(), Objection> {
+    let alloc = before.alloc;
+    let old = before.scx_word(scx, ScxWord::Old);
+    let new = before.scx_word(scx, ScxWord::New);
+    if row.before == old {
+        return demand(
+            row.after == new,
+            AFTER,
+            format!(in alloc; "{} in place of {new}, the word new of s{scx}", row.after),
+        );
+    }
+    demand(
+        row.after == row.before,
+        AFTER,
+        format!(in alloc;
+            "{} in place of {}, since the exchange is lost: old of s{scx} is {old}",
+            row.after, row.before
+        ),
+    )
+}
+
+/// One that changes nothing, and is not of the SCX-record that the info names, is lost by another.
+fn check_lost(before: &LinesBefore<'_>, row: &Row) -> Result<(), Objection> {
+    let alloc = before.alloc;
+    let all = u64::from(before.judge.layout().all_scx());
+    let word = word_text(alloc, row.word)?;
+    let has_field = (0..all).any(|scx| field_of(before, scx) == row.word);
+    demand(
+        has_field,
+        WORD,
+        format!(in alloc; "no SCX-record has the field {word}"),
+    )?;
+    let is_lawful = before.judge.is_lawful(row);
+    demand(
+        is_lawful,
+        AFTER,
+        format!(in alloc;
+            "an exchange that finds {} is lost only by an SCX-record with the field {word} that has another old, \
+         whose allfrozen is 1, and whose nodes to finalize are marked",
+            row.before
+        ),
+    )
+}
