@@ -10,14 +10,16 @@ use Rattle.arena.specs.Words.{child}
 use Rattle.ordered_map.specs.declared.pair.Pair.{Pair}
 use Rattle.ordered_map.specs.OrderedMap.{MapEdit, edit_key, edited, AllBelow, AllFrom, IsRising, first_pair, last_pair}
 use Rattle.ordered_map.specs.Holding.{held_pairs}
-use Rattle.ordered_map.specs.TreeWords.{class, is_leaf, level, rank, toward, opposite, leaf_items}
-use Rattle.ordered_map.specs.Edits.{IsLowLeaf, IsSwapBy, IsSplitBy, IsCopyOf, HasFieldsOf}
+use Rattle.ordered_map.specs.TreeWords.{class, is_leaf, level, rank, opposite, leaf_items}
+use Rattle.ordered_map.specs.Edits.{IsSwapBy, IsSplitBy, IsCopyOf, HasFieldsOf}
+use Rattle.ordered_map.specs.TrieShape.{FitsTrie, IsAboveBy}
 use Rattle.ordered_map.specs.Bits.{room, side_from, side_to, Shares, IsParted, Keeps, IsTrieFork, IsForkKey, PartsKeys}
 use Rattle.ordered_map.proofs.Holding.{low_items}
 use Rattle.ordered_map.proofs.Lists.{from_left, from_less, below_right, below_more, edited_from, edited_below}
 use Rattle.ordered_map.proofs.Maps.{below_end, edited_rises}
 use Rattle.ordered_map.proofs.PartedPairs.{first_from, all_from_first, all_to_last}
-use Rattle.ordered_map.proofs.Parted.{key_of, IsOnSide, low_from, low_to, high_from, high_to, side_in, between_keeps, PartsFrom, above_keeps, above_in}
+use Rattle.ordered_map.proofs.Spanned.{low_from, low_to, side_in}
+use Rattle.ordered_map.proofs.Parted.{key_of, IsOnSide, high_from, high_to, between_keeps, PartsFrom, above_keeps, above_in}
 
 all_from_zero : (m : List Pair) → AllFrom 0 m
 all_from_zero [] = tt
@@ -31,10 +33,6 @@ on_both P Right a b Left = b
 on_both P Right a b Right = a
 
 module _ (f : Word → ℕ) where
-  -- what is put in below the fork p on this side keeps to it, with all below it, and levels rise
-  abbrev pub Fits : ℕ → Side → ℕ → Type 0
-  Fits p side c = Keeps f p side c × IsTrieFork f c × (level f p < level f c) × (is_leaf f c ≡ false → (below : Side) → level f c < level f (f (child c below)))
-
   apart : (n : ℕ) → is_leaf f n ≡ true → is_leaf f n ≡ false → ⊥
   apart n d e = let x : true ≡ false = sym d ∙ e in cc
 
@@ -51,11 +49,11 @@ module _ (f : Word → ℕ) where
   leaf_keeps : (p : ℕ) (side : Side) (c : ℕ) → is_leaf f c ≡ true → class f c ≡ 0 → level f c ≡ 66 → AllFrom (side_from f p side) (held_pairs f c) → AllBelow (side_to f p side) (held_pairs f c) → Keeps f p side c
   leaf_keeps p side c leaf low deep from below = record { fork = λ d _. absurd (apart c leaf d); leaf = λ _ _. (deep, from, below); last = λ _ d. absurd (d low) }
 
-  leaf_fits : (p : ℕ) (side : Side) (c : ℕ) → IsParted f p → is_leaf f c ≡ true → class f c ≡ 0 → level f c ≡ 66 → AllFrom (side_from f p side) (held_pairs f c) → AllBelow (side_to f p side) (held_pairs f c) → Fits p side c
-  leaf_fits p side c parted leaf low deep from below = (leaf_keeps p side c leaf low deep from below, λ d. absurd (apart c leaf d), (let x = parted_level p parted in omega (arith, deep, x)), λ d. absurd (apart c leaf d))
+  leaf_fits : (p : ℕ) (side : Side) (c : ℕ) → IsParted f p → is_leaf f c ≡ true → class f c ≡ 0 → level f c ≡ 66 → AllFrom (side_from f p side) (held_pairs f c) → AllBelow (side_to f p side) (held_pairs f c) → FitsTrie f p side c
+  leaf_fits p side c parted leaf low deep from below = record { keeps = leaf_keeps p side c leaf low deep from below; fork = λ d. absurd (apart c leaf d); deeper = let x = parted_level p parted in omega (arith, deep, x); rises = λ d. absurd (apart c leaf d) }
 
   -- a leaf in the place of another, with the pairs that the edit leaves
-  pub fits_swap : (p : ℕ) (side : Side) (e : MapEdit) (l c : ℕ) → IsParted f p → Keeps f p side l → IsOnSide f p side (edit_key e) → IsSwapBy f e l c → Fits p side c
+  pub fits_swap : (p : ℕ) (side : Side) (e : MapEdit) (l c : ℕ) → IsParted f p → Keeps f p side l → IsOnSide f p side (edit_key e) → IsSwapBy f e l c → FitsTrie f p side c
   fits_swap p side e l c parted keeps on s =
       let held = keeps.leaf s.leaf s.class in
       let from = edited_from e (side_from f p side) (held_pairs f l) held.1 on.0 in
@@ -65,8 +63,8 @@ module _ (f : Word → ℕ) where
   -- A fork over two leaves
 
   -- in the place of a leaf of class 0, between the first and the last of the pairs that the edit leaves
-  pub fits_split : (p : ℕ) (side : Side) (e : MapEdit) (l c x y : ℕ) (first last : Pair) → IsParted f p → Keeps f p side l → IsOnSide f p side (edit_key e) → IsSplitBy f e l c x y → class f l ≡ 0 → IsRising (held_pairs f l) → level f x ≡ 66 → level f y ≡ 66 → first_pair (edited e (held_pairs f l)) ≡ Some first → last_pair (edited e (held_pairs f l)) ≡ Some last → PartsKeys first.key last.key (key_of f c) (level f c) → Fits p side c
-  fits_split p side e l c x y first last parted keeps on s zero rising deep_x deep_y is_first is_last parts = (place.0, λ _. (record { top = λ d. absurd (d low); key = λ _. parts.fork }, below), place.1, λ _. deeper)
+  pub fits_split : (p : ℕ) (side : Side) (e : MapEdit) (l c x y : ℕ) (first last : Pair) → IsParted f p → Keeps f p side l → IsOnSide f p side (edit_key e) → IsSplitBy f e l c x y → class f l ≡ 0 → IsRising (held_pairs f l) → level f x ≡ 66 → level f y ≡ 66 → first_pair (edited e (held_pairs f l)) ≡ Some first → last_pair (edited e (held_pairs f l)) ≡ Some last → PartsKeys first.key last.key (key_of f c) (level f c) → FitsTrie f p side c
+  fits_split p side e l c x y first last parted keeps on s zero rising deep_x deep_y is_first is_last parts = record { keeps = place.0; fork = λ _. (record { top = λ d. absurd (d low); key = λ _. parts.fork }, below); deeper = place.1; rises = λ _. deeper }
     where
       made : List Pair
       made = edited e (held_pairs f l)
@@ -131,8 +129,8 @@ module _ (f : Word → ℕ) where
       deeper Right = let e = ap (level f) s.right in omega (arith, deep_y, parts.fork.deep, e)
 
   -- in the place of the leaf of class 1, where the map is empty
-  pub fits_first : (p : ℕ) (side : Side) (e : MapEdit) (l c x y : ℕ) → IsParted f p → class f p ≡ 2 → IsSplitBy f e l c x y → class f l ≡ 1 → level f c ≡ 1 → level f x ≡ 66 → level f y ≡ 2 → Fits p side c
-  fits_first p side e l c x y parted two s one deep deep_x deep_y = (keeps, λ _. (record { top = λ _. omega (arith, high, deep); key = λ z. absurd (omega (arith, high, z)) }, below), lower, λ _. deeper)
+  pub fits_first : (p : ℕ) (side : Side) (e : MapEdit) (l c x y : ℕ) → IsParted f p → class f p ≡ 2 → IsSplitBy f e l c x y → class f l ≡ 1 → level f c ≡ 1 → level f x ≡ 66 → level f y ≡ 2 → FitsTrie f p side c
+  fits_first p side e l c x y parted two s one deep deep_x deep_y = record { keeps = keeps; fork = λ _. (record { top = λ _. omega (arith, high, deep); key = λ z. absurd (omega (arith, high, z)) }, below); deeper = lower; rises = λ _. deeper }
     where
       high : class f c ≡ 1
       high = s.same_class ∙ one
@@ -172,8 +170,13 @@ module _ (f : Word → ℕ) where
   same_sides_keep c z at m from to k = record { fork = λ d l. rw (from, to) (k.fork d l); leaf = λ d l. rw (from, to) (k.leaf d l); last = k.last }
 
   -- a copy of what stands below the fork q, in the place of q below the fork g
-  pub fits_join : (g : ℕ) (side : Side) (q : ℕ) (at : Side) (z c : ℕ) → is_leaf f q ≡ false → Keeps f g side q → (class f q ≢ 0 → class f z ≢ 0) → Keeps f q at z → IsTrieFork f z → IsCopyOf f c z → HasFieldsOf f c z → level f g < level f q → level f q < level f z → (is_leaf f z ≡ false → (below : Side) → level f z < level f (f (child z below))) → Fits g side c
-  fits_join g side q at z c fork outer order inner trie copy fields lower deeper rises = (record { fork = keeps_fork; leaf = keeps_leaf; last = keeps_last }, trie_fork, omega (arith, lower, deeper, same_level), λ d below. let y = ap (level f) (fields (sym same_leaf ∙ d) below) in let r = rises (sym same_leaf ∙ d) below in omega (arith, same_level, y, r))
+  pub fits_join : (g : ℕ) (side : Side) (q : ℕ) (at : Side) (z c : ℕ) → is_leaf f q ≡ false → Keeps f g side q → (class f q ≢ 0 → class f z ≢ 0) → Keeps f q at z → IsTrieFork f z → IsCopyOf f c z → HasFieldsOf f c z → level f g < level f q → level f q < level f z → (is_leaf f z ≡ false → (below : Side) → level f z < level f (f (child z below))) → FitsTrie f g side c
+  fits_join g side q at z c fork outer order inner trie copy fields lower deeper rises = record {
+    keeps = record { fork = keeps_fork; leaf = keeps_leaf; last = keeps_last };
+    fork = trie_fork;
+    deeper = omega (arith, lower, deeper, same_level);
+    rises = λ d below. let y = ap (level f) (fields (sym same_leaf ∙ d) below) in let r = rises (sym same_leaf ∙ d) below in omega (arith, same_level, y, r);
+  }
     where
       same_leaf : is_leaf f c ≡ is_leaf f z
       same_leaf = ap (λ v. eqb (v / 4 % 2) 1) copy.same_head
@@ -227,24 +230,26 @@ module _ (f : Word → ℕ) where
   -- A fork above a fork
 
   -- a fresh fork over the fork u, which the key of the edit does not share, and over a leaf with its pair
-  pub fits_above : (p : ℕ) (side : Side) (e : MapEdit) (u c x : ℕ) → IsParted f p → Keeps f p side u → IsTrieFork f u → is_leaf f u ≡ false → class f u ≡ 0 → ¬ Shares f u (edit_key e) → IsOnSide f p side (edit_key e) → is_leaf f c ≡ false → class f c ≡ 0 → PartsFrom f u c (edit_key e) → IsLowLeaf f x → level f x ≡ 66 → held_pairs f x ≡ edited e [] → f (child c (toward f c (edit_key e))) ≡ x → f (child c (opposite (toward f c (edit_key e)))) ≡ u → Fits p side c
-  fits_above p side e u c x parted keeps trie fork low outside on new zero parts leaf deep pairs to_x to_u = (place.0, λ _. (record { top = λ d. absurd (d zero); key = λ _. key parts }, on_both (λ at. Keeps f c at (f (child c at))) turn beside below), place.1, λ _. on_both (λ at. level f c < level f (f (child c at))) turn (let y = ap (level f) to_x in let k = (key parts).deep in omega (arith, y, deep, k)) (let y = ap (level f) to_u in omega (arith, y, over.1)))
+  pub fits_above : (p : ℕ) (side : Side) (e : MapEdit) (u c x : ℕ) (at : Side) → IsParted f p → Keeps f p side u → IsTrieFork f u → ¬ Shares f u (edit_key e) → IsOnSide f p side (edit_key e) → IsAboveBy f e u c x at → PartsFrom f u c (edit_key e) → level f x ≡ 66 → FitsTrie f p side c
+  fits_above p side e u c x at parted keeps trie outside on s parts deep = record {
+    keeps = place.0;
+    fork = λ _. (record { top = λ d. absurd (d s.low); key = λ _. key parts }, on_both (λ to. Keeps f c to (f (child c to))) at beside below);
+    deeper = place.1;
+    rises = λ _. on_both (λ to. level f c < level f (f (child c to))) at (let y = ap (level f) s.leaf in let k = (key parts).deep in omega (arith, y, deep, k)) (let y = ap (level f) s.other in omega (arith, y, over.1));
+  }
     where
-      turn : Side
-      turn = toward f c (edit_key e)
-
       place : Keeps f p side c × (level f p < level f c)
-      place = above_in f p side u c (edit_key e) parted fork low keeps on new zero parts
+      place = above_in f p side u c (edit_key e) parted s.old_fork s.old_low keeps on s.fork s.low parts
 
-      over : Keeps f c (opposite (toward f c (edit_key e))) u × (level f c < level f u) × IsOnSide f c (toward f c (edit_key e)) (edit_key e)
-      over = above_keeps f u c (edit_key e) (trie fork).0 fork low zero outside parts
+      over : Keeps f c (opposite at) u × (level f c < level f u) × IsOnSide f c at (edit_key e)
+      over = subst (λ to. Keeps f c (opposite to) u × (level f c < level f u) × IsOnSide f c to (edit_key e)) s.turn (above_keeps f u c (edit_key e) (trie s.old_fork).0 s.old_fork s.old_low s.low outside parts)
 
       key : PartsFrom f u c (edit_key e) → IsForkKey (key_of f c) (level f c)
       key (inl y) = y.fork
       key (inr y) = y.fork
 
-      below : Keeps f c (opposite turn) (f (child c (opposite turn)))
-      below = subst (Keeps f c (opposite turn)) (sym to_u) over.0
+      below : Keeps f c (opposite at) (f (child c (opposite at)))
+      below = subst (Keeps f c (opposite at)) (sym s.other) over.0
 
-      beside : Keeps f c turn (f (child c turn))
-      beside = subst (Keeps f c turn) (sym to_x) (leaf_keeps c turn x leaf.leaf leaf.class deep (subst (AllFrom (side_from f c turn)) (sym pairs) (edited_from e (side_from f c turn) [] tt over.2.0)) (subst (AllBelow (side_to f c turn)) (sym pairs) (edited_below e (side_to f c turn) [] tt over.2.1)))
+      beside : Keeps f c at (f (child c at))
+      beside = subst (Keeps f c at) (sym s.leaf) (leaf_keeps c at x s.first.leaf s.first.class deep (subst (AllFrom (side_from f c at)) (sym s.pairs) (edited_from e (side_from f c at) [] tt over.2.0)) (subst (AllBelow (side_to f c at)) (sym s.pairs) (edited_below e (side_to f c at) [] tt over.2.1)))

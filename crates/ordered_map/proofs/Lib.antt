@@ -3,10 +3,10 @@ mod Spans
 mod Lists
 mod Holding
 mod Trees
-mod Parted
 mod Local
 mod Searches
 mod Spanned
+mod Parted
 mod Next
 mod Pending
 mod Moved
