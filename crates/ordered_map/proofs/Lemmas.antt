@@ -4,7 +4,7 @@ pub use Rattle.ordered_map.proofs.Meanings.{one_spelling, opening_run, opening_s
 pub use Rattle.ordered_map.proofs.Stood.{was_now, was_passed}
 pub use Rattle.ordered_map.proofs.Past.{walk_stays}
 pub use Rattle.ordered_map.proofs.Inside.{tree_inside, walk_inside}
-pub use Rattle.ordered_map.proofs.TreeRuns.{tree_not_final, path_not_final, path_remains, tree_remains, new_stood, levels_rise, stood_blank, passed_blank, root_head, passed_unmarked, log_short, passed_depth, child_stood, child_not_final, stood_depth, stood_settled, stood_in_field, children_apart}
+pub use Rattle.ordered_map.proofs.TreeRuns.{tree_not_final, path_not_final, path_remains, path_guarded, tree_remains, new_stood, levels_rise, stood_blank, passed_blank, root_head, passed_unmarked, log_short, passed_depth, stood_fork, child_stood, child_not_final, stood_depth, stood_settled, stood_in_field, children_apart}
 pub use Rattle.ordered_map.proofs.Blamed.{blame_finalizer}
 pub use Rattle.ordered_map.proofs.ChangedFields.{blame_field}
 pub use Rattle.ordered_map.proofs.Runs.{makes_at, begun_named, shaped_change}

@@ -24,6 +24,8 @@ mod Blanks
 mod Remaining
 mod ChangedFields
 mod Taken
+mod TrieForks
+mod Guarded
 mod TreeRuns
 mod Rising
 mod EndLeaf

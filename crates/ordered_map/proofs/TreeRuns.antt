@@ -1,18 +1,18 @@
 -- What a history of the tree keeps, whatever edits it makes: levels, how deep it is, what is blank,
 -- and which nodes are final.
-use Rattle.std.proofs.Common.{◌≡◌, ◌≢◌, ◌⊎◌, inl, inr, ◌+◌, ◌<◌, ◌≤◌, Bool, true, false, suc, ℕ, length, refl, sym, ◌∙◌, subst, arith}
+use Rattle.std.proofs.Common.{◌≡◌, ◌≢◌, ◌⊎◌, inl, inr, ⊎_elim, ◌+◌, ◌<◌, ◌≤◌, Bool, true, false, suc, ℕ, length, refl, sym, ◌∙◌, subst, arith}
 use Rattle.arena.specs.declared.layout.Layout.{Layout}
 use Rattle.arena.specs.declared.word.Side.{Side}
 use Rattle.arena.specs.declared.word.Side.TheVariants.{Left, Right}
 use Rattle.arena.specs.declared.word.NodeWord.TheVariants.{Settled}
 use Rattle.arena.specs.declared.word.SettledPart.TheVariants.{Head}
-use Rattle.arena.specs.Words.{node, child, marked}
+use Rattle.arena.specs.Words.{node, child, info, marked, state}
 use Rattle.arena.specs.declared.step.Row.{Row}
 use Rattle.arena.specs.ScxRecords.{new}
 use Rattle.arena.specs.History.{History, ◌⊳◌, value, Extends}
 use Rattle.arena.specs.Log.{log, is_final}
 use Rattle.arena.specs.Fills.{IsInField}
-use Rattle.arena.specs.declared.limits.Mode.TheVariants.{Tree as TreeMode}
+use Rattle.arena.specs.declared.limits.Mode.TheVariants.{Tree as TreeMode, Trie as TrieMode}
 use Rattle.ordered_map.specs.TrieShape.{Stays}
 use Rattle.arena.specs.TakenNodes.{taken_nodes}
 use Rattle.histories.proofs.Lemmas.{Facts, UpdateWins, facts_before, node_since, not_final}
@@ -20,11 +20,10 @@ use Rattle.ordered_map.specs.OrderedMap.{MapEdit}
 use Rattle.ordered_map.specs.TreeWords.{Tree, Has, is_leaf, level, IsBlankAboveKeys, root}
 use Rattle.arena.proofs.Lemmas.{held_at, held_since}
 use Rattle.ordered_map.specs.Spelled.{IsTree, Spells}
-use Rattle.ordered_map.specs.Paths.{IsOnPath, Passed, WasInTree, WasOnPath}
+use Rattle.ordered_map.specs.Paths.{IsOnPath, Passed, WasInTree, WasOnPath, depth}
 use Rattle.ordered_map.specs.Runs.{IsTreeRun}
 use Rattle.ordered_map.proofs.Past.{grown_rises}
 use Rattle.ordered_map.proofs.Removed.{grown_not_final}
-use Rattle.ordered_map.proofs.Levels.{grown_level}
 use Rattle.ordered_map.proofs.Blanks.{grown_blank}
 use Rattle.ordered_map.proofs.Remaining.{grown_on_path, grown_remains}
 use Rattle.ordered_map.proofs.Growing.{grown_root}
@@ -34,7 +33,10 @@ use Rattle.ordered_map.proofs.Edited.{result, tree_now, new_in}
 use Rattle.ordered_map.proofs.Grown.{tree_facts, grown_tail}
 use Rattle.ordered_map.proofs.Trees.{passes_has, IsBelowFork, has_above, fields_apart, path_level}
 use Rattle.ordered_map.proofs.Holding.{SameSettled}
-use Rattle.ordered_map.proofs.Taken.{grown_log, grown_depth}
+use Rattle.ordered_map.proofs.Taken.{grown_log}
+use Rattle.ordered_map.proofs.Guarded.{grown_guarded}
+use Rattle.ordered_map.proofs.TrieForks.{grown_fork, map_depth}
+use Rattle.ordered_map.specs.Bits.{IsTrieFork}
 use Rattle.ordered_map.proofs.Meanings.{edits_of, grown, run_since, run_spells}
 
 -- a node of the tree is not final
@@ -86,6 +88,11 @@ root_head lay h g = grown_root (edits_of lay h g).edits lay h (grown lay h g)
 pub path_remains : (lay : Layout) (h : History) (k n : ℕ) → IsTreeRun lay h → WasOnPath h k n → Stays lay (value h) k n → is_final (log lay h) n ≡ false → IsOnPath h k n
 path_remains lay h k n g p stay e = grown_on_path (edits_of lay h g).edits lay h p.0 k n (grown lay h g) p.1 p.2 stay e
 
+-- so is a fork on the path of any key, where the info of node 2 is what it was then, and named a
+-- finished SCX-record
+pub path_guarded : (lay : Layout) (h m : History) (k n guard : ℕ) → IsTreeRun lay h → Extends h m → value m (state guard) ≢ 0 → IsOnPath m k n → is_leaf (value h) n ≡ false → is_final (log lay h) n ≡ false → value h (info 2) ≡ guard → IsOnPath h k n
+path_guarded lay h m k n guard g e done p fork kept same = ⊎_elim (λ x. x) (λ d. absurd (d same)) (grown_guarded (edits_of lay h g).edits lay k n guard h m (grown lay h g) e done p fork kept)
+
 -- so is one that was passed and is not marked
 pub passed_unmarked : (lay : Layout) (h start : History) (k n : ℕ) → IsTreeRun lay h → Passed h start k n → Stays lay (value h) k n → value h (marked n) ≡ 0 → IsOnPath h k n
 passed_unmarked lay h start k n g p stay e = path_remains lay h k n g (p.0, p.1, p.3) stay (not_final lay h n g.1.lawful e)
@@ -94,16 +101,17 @@ passed_unmarked lay h start k n g p stay e = path_remains lay h k n g (p.0, p.1,
 pub log_short : (lay : Layout) (h : History) → IsTreeRun lay h → length (log lay h) ≤ length (taken_nodes h)
 log_short lay h g = grown_log (edits_of lay h g).edits lay h (grown lay h g)
 
--- so a node of a tree that was passed is not as deep as they are many, and two
-pub passed_depth : (lay : Layout) (h start : History) (k n : ℕ) → lay.mode ≡ TreeMode → IsTreeRun lay h → Passed h start k n → level (value h) n < 2 + length (taken_nodes h)
-passed_depth lay h start k n tree g p = grown_depth (edits_of lay h g).edits lay h start k n tree (grown lay h g) p
+-- a node that was there is not as deep as that
+pub stood_depth : (lay : Layout) (h : History) (n : ℕ) → IsTreeRun lay h → WasInTree h n → level (value h) n < depth lay.mode (length (taken_nodes h))
+stood_depth lay h n g x = map_depth (edits_of lay h g).edits lay h n (grown lay h g) x
 
--- and so is one that was there
-pub stood_depth : (lay : Layout) (h : History) (n : ℕ) → lay.mode ≡ TreeMode → IsTreeRun lay h → WasInTree h n → level (value h) n < 2 + length (taken_nodes h)
-stood_depth lay h n tree g x =
-    let a : level (value h) n ≤ suc (length (log lay h)) = grown_level (edits_of lay h g).edits lay tree h (grown lay h g) n x in
-    let b : length (log lay h) ≤ length (taken_nodes h) = log_short lay h g in
-    omega (arith, a, b)
+-- and so is one that was passed
+pub passed_depth : (lay : Layout) (h start : History) (k n : ℕ) → IsTreeRun lay h → Passed h start k n → level (value h) n < depth lay.mode (length (taken_nodes h))
+passed_depth lay h start k n g p = stood_depth lay h n g (was_passed h start k n p)
+
+-- a fork that was ever in a trie parts keys at a bit, and its children keep to its sides
+pub stood_fork : (lay : Layout) (h : History) (n : ℕ) → lay.mode ≡ TrieMode → IsTreeRun lay h → WasInTree h n → IsTrieFork (value h) n
+stood_fork lay h n trie g x = grown_fork (edits_of lay h g).edits lay trie h x.moment x.tree n (grown lay h g) x.within x.is_tree x.has
 
 -- the settled words of a node that was in the tree do not change
 pub stood_settled : (lay : Layout) (h m : History) (n : ℕ) → IsTreeRun lay h → Extends h m → WasInTree m n → SameSettled (value m) (value h) n

@@ -15,18 +15,19 @@ ghost use Rattle.ordered_map.specs.declared.rule.Rule.{Rule};
 ghost use Rattle.ordered_map.specs.OrderedMap.{MapEdit, Edit, IsRising, get, insert, delete, edited, after, call_insert, call_delete, call_pop_first, call_pop_last, neighbour, between, end_pair};
 ghost use Rattle.ordered_map.specs.TreeWords.{Tree, Has, is_leaf, level, said, IsBlankAboveKeys};
 ghost use Rattle.ordered_map.specs.Spelled.{IsTree, Spells};
-ghost use Rattle.ordered_map.specs.Paths.{Passed, WasInTree, IsAnswerAt};
+ghost use Rattle.ordered_map.specs.Paths.{Passed, WasInTree, IsAnswerAt, depth};
 ghost use Rattle.ordered_map.specs.Runs.{IsTreeRun, Makes, IsEditAt};
 ghost use Rattle.ordered_map.specs.Laws.{AreEdits, SpellsLog};
 ghost use Rattle.ordered_map.specs.MapLaws.{IsNeighbour, by_rule, within, without_first, IsEndmost, without_last};
 
-/// What holds in every history of the tree in which only edits of the map begin. Of each SCX-record
+/// What holds in every history of a map in which only edits of it begin. Of each SCX-record
 /// with an entry some edit may be said that it makes. Whichever is said, the only one or not, after
 /// each row the words spell one map, that of the log so far, and an update leaves the map that
 /// this edit leaves; its leaf has the old value. A walk's leaf says what the map gave
-/// at a moment of the walk, and is at most one level deeper than there are taken nodes; of the
-/// nodes that ever were in the tree just those not final are still there; one that is above all
-/// keys has the key 0. It does nothing; a caller learns the laws from its contract.
+/// at a moment of the walk, and is at most one level deeper than there are taken nodes, in a trie on
+/// level 66 at most; of the nodes that ever were in the tree just those not final are still there, but
+/// for the leaves of a trie; one that is above all keys has the key 0. It does nothing; a caller learns
+/// the laws from its contract.
 pub fn laws_hold()
     ensures edits { (lay : Layout) (h : History) → IsTreeRun lay h → (edits : ℕ → MapEdit) × AreEdits edits lay h }
     ensures spelled { (lay : Layout) (h : History) (edits : ℕ → MapEdit) → IsTreeRun lay h → AreEdits edits lay h → SpellsLog edits lay h }
@@ -35,7 +36,7 @@ pub fn laws_hold()
         → Extends h (row ⊳ before) → IsWin before row s → Makes lay h s e → IsEditAt lay before row s e }
     ensures walks { (lay : Layout) (h start : History) (k n : ℕ) → k < 2 ^ 64 → IsTreeRun lay h → Passed h start k n
         → is_leaf (value h) n ≡ true → IsAnswerAt lay h start k (said (value h) k n) }
-    ensures depth { (lay : Layout) (h start : History) (k n : ℕ) → lay.mode ≡ TreeMode → IsTreeRun lay h → Passed h start k n → level (value h) n < 2 + length (taken_nodes h) }
+    ensures depth { (lay : Layout) (h start : History) (k n : ℕ) → IsTreeRun lay h → Passed h start k n → level (value h) n < depth lay.mode (length (taken_nodes h)) }
     ensures not_final { (lay : Layout) (h : History) (t : Tree) (n : ℕ) → IsTreeRun lay h → IsTree (value h) t → Has t n → is_final (log lay h) n ≡ false }
     ensures remains { (lay : Layout) (h : History) (t : Tree) (n : ℕ) → IsTreeRun lay h → WasInTree h n
         → (lay.mode ≡ TreeMode) ⊎ (is_leaf (value h) n ≡ false) → is_final (log lay h) n ≡ false → IsTree (value h) t → Has t n }
