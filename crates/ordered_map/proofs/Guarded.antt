@@ -1,7 +1,7 @@
 -- A fork stays on the path of each key for as long as it is not final and no fork is put above another:
 -- what puts one there covers node 2. So a walk to an end of the map knows by the info of node 2 that
 -- what it has passed is on the path to that end still.
-use Rattle.std.proofs.Common.{◌≡◌, ◌≢◌, ℕ, ◌/◌, ◌%◌, ◌<◌, true, false, ◌⊎◌, inl, inr, ⊎_elim, eqb, refl, sym, ◌∙◌, ap, arith, subst}
+use Rattle.std.proofs.Common.{◌≡◌, ◌≢◌, ℕ, ◌/◌, ◌%◌, ◌<◌, true, false, ◌⊎◌, inl, inr, ⊎_elim, eqb, sym, ◌∙◌, ap, arith, subst}
 use Rattle.arena.specs.declared.layout.Layout.{Layout}
 use Rattle.arena.specs.declared.step.Row.{Row}
 use Rattle.arena.specs.declared.word.NodeWord.TheVariants.{Settled, Child}

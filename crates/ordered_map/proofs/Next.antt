@@ -10,7 +10,7 @@ use Rattle.ordered_map.specs.OrderedMap.{pair, first_pair, last_pair, end_pair, 
 use Rattle.ordered_map.proofs.Holding.{first_item}
 use Rattle.ordered_map.proofs.Maps.{last_join}
 use Rattle.ordered_map.proofs.Trees.{items, items_above, items_below, split_at}
-use Rattle.ordered_map.specs.TreeWords.{Tree, Leaf, Fork, Shows, rank, toward, leaf_items}
+use Rattle.ordered_map.specs.TreeWords.{Tree, Leaf, Fork, Shows, rank, toward}
 
 abbrev pub or_else : Option Pair → Option Pair → Option Pair
 or_else None d = d

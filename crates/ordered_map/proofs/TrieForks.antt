@@ -16,7 +16,7 @@ use Rattle.arena.specs.ScxRecords.{field_index, member, plan, side_of}
 use Rattle.arena.specs.Fills.{IsNamed, by_field}
 use Rattle.arena.specs.TakenNodes.{taken_nodes}
 use Rattle.arena.proofs.Lemmas.{held_at, node_apart}
-use Rattle.histories.proofs.Lemmas.{Effect, Facts, UpdateWins, effect, facts_before, freeze, freeze_keeps_field, lawful_tail, named_since, node_since, node_stays, quiet, update, update_keeps_other}
+use Rattle.histories.proofs.Lemmas.{Effect, Facts, effect, facts_before, freeze, freeze_keeps_field, lawful_tail, named_since, node_since, node_stays, quiet, update, update_keeps_other}
 use Rattle.ordered_map.specs.OrderedMap.{MapEdit}
 use Rattle.ordered_map.specs.Bits.{Keeps, IsTrieFork}
 use Rattle.ordered_map.specs.Paths.{WasInTree, depth}
