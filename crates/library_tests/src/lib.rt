@@ -7,6 +7,8 @@ mod device_tests;
 #[cfg(test)]
 mod forest_tests;
 #[cfg(test)]
+mod fork_tests;
+#[cfg(test)]
 mod gate_tests;
 #[cfg(test)]
 mod judge_tests;

@@ -19,3 +19,6 @@ pub use Rattle.ordered_map.proofs.Maps.{get_above, put_before, inserted, insert_
 pub use Rattle.ordered_map.proofs.Lists.{above_less, edited_below}
 pub use Rattle.ordered_map.proofs.Rising.{rising_levels, held_stood}
 pub use Rattle.ordered_map.proofs.EndLeaf.{IsBeside, IsUpTo, beside_same, end_small, end_up, stood_counted, walk_holds, walk_turns, walk_beside, walk_own, walk_end, win_end}
+pub use Rattle.ordered_map.proofs.Parted.{key_of, IsOnSide, PartsFrom, shares_span, own_side, keeps_deeper, between_keeps, either_first, above_keeps, above_in}
+pub use Rattle.ordered_map.proofs.PartedPairs.{some_first, some_last, parts_of_five}
+pub use Rattle.ordered_map.proofs.FreshForks.{parted_level, fits_swap, fits_split, fits_first, fits_join, fits_above}

@@ -1,9 +1,12 @@
+mod Bits
+mod Spans
 mod Lists
 mod Holding
 mod Trees
 mod Local
 mod Searches
 mod Spanned
+mod Parted
 mod Next
 mod Pending
 mod Moved
@@ -32,5 +35,7 @@ mod EndLeaf
 mod Reading
 mod LeafLists
 mod Maps
+mod PartedPairs
+mod FreshForks
 mod SlotReads
 pub mod Lemmas

@@ -87,7 +87,7 @@ pub low_to : (f : Word → ℕ) (n : ℕ) → class f n ≡ 0 → (side_to f n L
 low_to f n low = (rw (eq-eqb (class f n) 0 low) refl, rw (eq-eqb (class f n) 0 low) refl)
 
 -- a side is in the span
-side_in : (f : Word → ℕ) (n : ℕ) (side : Side) → class f n ≡ 0 → (side_from f n Left ≤ side_from f n side) × (side_to f n side ≤ side_to f n Right)
+pub side_in : (f : Word → ℕ) (n : ℕ) (side : Side) → class f n ≡ 0 → (side_from f n Left ≤ side_from f n side) × (side_to f n side ≤ side_to f n Right)
 side_in f n Left low = let a = low_to f n low in (omega arith, omega (arith, a))
 side_in f n Right low = let a = low_from f n low in (omega (arith, a), omega arith)
 
