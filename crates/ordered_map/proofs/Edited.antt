@@ -163,8 +163,9 @@ module _ (calls : ℕ → MapEdit) (lay : Layout) (h : History) (r : Row) (u : �
   abbrev pub Born : ℕ → Type 0
   Born n = (n ≡ made_of) ⊎ ((is_leaf (value h) made_of ≡ false) × (count past.before u ≡ 2) × ((side : Side) × (value h (child made_of side) ≡ n)) × (is_leaf (value h) n ≡ true))
 
+  -- a fork stays on all paths where none is put above another, since the second node is finalized
   abbrev StaysNow : ℕ → ℕ → Type 0
-  StaysNow j n = Stays lay (value h) j n
+  StaysNow j n = Stays lay (value h) j n ⊎ ((is_leaf (value h) n ≡ false) × (scx_finalizes past.before u 1 ≡ true))
 
   abbrev IsForkNow : ℕ → Type 0
   IsForkNow n = lay.mode ≡ TrieMode → IsTrieFork (value h) n
@@ -496,7 +497,8 @@ module _ (calls : ℕ → MapEdit) (lay : Layout) (h : History) (r : Row) (u : �
 
   -- in a trie no leaf stays anywhere
   no_leaf_stays : lay.mode ≡ TrieMode → (j n : ℕ) → is_leaf (value h) n ≡ true → StaysNow j n → ⊥
-  no_leaf_stays m j n leaf (inl tree) = let q : TreeMode ≡ TrieMode = sym tree ∙ m in cc
+  no_leaf_stays m j n leaf (inl (inl tree)) = let q : TreeMode ≡ TrieMode = sym tree ∙ m in cc
+  no_leaf_stays m j n leaf (inl (inr y)) = let q : true ≡ false = sym leaf ∙ y.0 in cc
   no_leaf_stays m j n leaf (inr y) = let q : true ≡ false = sym leaf ∙ y.0 in cc
 
   below_end : (c : MapEdit) (side : Side) (e : TakesEndLeafOut past.before u c side) → (value h (child (member past.before u 1) side) ≡ e.leaf) × (value h (child (member past.before u 1) (opposite side)) ≡ member past.before u 2)
@@ -586,8 +588,9 @@ module _ (calls : ℕ → MapEdit) (lay : Layout) (h : History) (r : Row) (u : �
       born n (inr q) = inr (w.fork, plans.1, (e.side, w.leaf ∙ sym q), rw q w.first.leaf)
 
       shares : (j n : ℕ) → StaysNow j n → (is_leaf (value h) n ≡ false) × (class (value h) n ≡ 0 → Shares (value h) n j)
-      shares j n (inl tree) = absurd (let q : TreeMode ≡ TrieMode = sym tree ∙ m in cc)
-      shares j n (inr y) = y
+      shares j n (inl (inl tree)) = absurd (let q : TreeMode ≡ TrieMode = sym tree ∙ m in cc)
+      shares j n (inl (inr y)) = y
+      shares j n (inr y) = absurd (plans.2 (member past.before u 1) (1, rw plans.1 (omega arith), y.1, refl))
 
       edit : EditsHere (edit_key c) (edited c)
       edit lo hi a i j g ends all q d =
@@ -672,12 +675,12 @@ module _ (calls : ℕ → MapEdit) (lay : Layout) (h : History) (r : Row) (u : �
 
   path_then : (m : History) (x n : ℕ) → Extends (r ⊳ h) m → IsOnPath m x n → Stays lay (value (r ⊳ h)) x n → Passes (value (r ⊳ h)) x result.tree n ⊎ (value (r ⊳ h) (marked n) ≢ 0)
   path_then m x n (inl e) p stay = inl (path_now (r ⊳ h) result.tree x n tree_now (rw e at p))
-  path_then m x n (inr e) p stay = ⊎_elim (λ q. ⊎_elim inl (λ d. inr (still_marked (rw d.3 at (marked_of d.0 d.1 d.2)))) (result.paths x n before q)) (λ d. inr (still_marked d)) (t.path m x n e p before)
+  path_then m x n (inr e) p stay = ⊎_elim (λ q. ⊎_elim inl (λ d. inr (still_marked (rw d.3 at (marked_of d.0 d.1 d.2)))) (result.paths x n (inl before) q)) (λ d. inr (still_marked d)) (t.path m x n e p before)
     where
       still_marked : value h (marked n) ≢ 0 → value (r ⊳ h) (marked n) ≢ 0
       still_marked d e = d (sym (update_keeps_mark f z n) ∙ e)
 
-      before : StaysNow x n
+      before : Stays lay (value h) x n
       before = same_stays (value (r ⊳ h)) (value h) lay x n (λ a i. sym (settled_now n a i)) stay
 
   -- Forks of a trie
@@ -716,12 +719,19 @@ module _ (calls : ℕ → MapEdit) (lay : Layout) (h : History) (r : Row) (u : �
           let e : value (r ⊳ h) (child made_of side) ≡ value h (child made_of side) = (is_apart (edit_key called) is_spot).field made_of side (apart_made (edit_key called) is_spot comes fork) in
           subst (Keeps (value (r ⊳ h)) made_of side) (sym e) (same_keeps (value h) (value (r ⊳ h)) made_of side (value h (child made_of side)) (settled_now made_of) (settled_now (value h (child made_of side))) k)
 
+  -- the node of the field is a fork of the trie still
+  pub spot_fork_then : lay.mode ≡ TrieMode → IsTrieFork (value (r ⊳ h)) (member h u (field_index h u))
+  spot_fork_then m =
+      subst (IsTrieFork (value (r ⊳ h))) (sym (same_place (edit_key called) is_spot))
+      (same_fork (value h) (value (r ⊳ h)) spot_of (settled_now spot_of) (λ fork side k. spot_keeps m (toward (value h) spot_of (edit_key called)) side refl k)
+      (t.forks m spot_of (passes_has (value h) (edit_key called) t.tree spot_of (on_path (edit_key called) is_spot comes))))
+
   forks_then : lay.mode ≡ TrieMode → (n : ℕ) → Has result.tree n → IsTrieFork (value (r ⊳ h)) n
   forks_then m n i = ⊎_elim (λ q. old n q (ℕ_discrete spot_of n)) new (result.made n i)
     where
       old : (n : ℕ) → Has t.tree n → Dec (spot_of ≡ n) → IsTrieFork (value (r ⊳ h)) n
       old n q (no d) = same_fork (value h) (value (r ⊳ h)) n (settled_now n) (λ fork side k. subst (Keeps (value (r ⊳ h)) n side) (sym ((is_apart (edit_key called) is_spot).field n side d)) (same_keeps (value h) (value (r ⊳ h)) n side (value h (child n side)) (settled_now n) (settled_now (value h (child n side))) k)) (t.forks m n q)
-      old n q (yes d) = subst (IsTrieFork (value (r ⊳ h))) d (same_fork (value h) (value (r ⊳ h)) spot_of (settled_now spot_of) (λ fork side k. spot_keeps m (toward (value h) spot_of (edit_key called)) side refl k) (t.forks m spot_of (rw (← d) at q)))
+      old n q (yes d) = subst (IsTrieFork (value (r ⊳ h))) (same_place (edit_key called) is_spot ∙ d) (spot_fork_then m)
 
       new : Born n → IsTrieFork (value (r ⊳ h)) n
       new (inl e) = rw e (made_fork m)
@@ -729,6 +739,32 @@ module _ (calls : ℕ → MapEdit) (lay : Layout) (h : History) (r : Row) (u : �
 
   pub tree_updated : TreeFacts calls lay (r ⊳ h)
   tree_updated = record { tree = result.tree; is_tree = tree_now; items = items_now; ends_low = result.low; pending = pending_then; one_new = one_new_then; unborn = unborn_then; path = path_then; forks = forks_then }
+
+  member_now : (j : ℕ) → member h u j ≡ member past.before u j
+  member_now j = λ i. (sym past.same i).member j
+
+  -- Paths of any key
+
+  -- where the second node is finalized no fork leaves a path but those that are finalized
+  pub fork_paths : (x n : ℕ) → is_leaf (value h) n ≡ false → scx_finalizes h u 1 ≡ true → Passes (value h) x t.tree n → Passes (value (r ⊳ h)) x result.tree n ⊎ IsCut n
+  fork_paths x n fork second p = result.paths x n (inr (fork, ap (λ d. plan_finalizes d.plan 1) past.same ∙ second)) p
+
+  second_of : (c : MapEdit) → IsEdit lay past.before u c → (scx_finalizes past.before u 1 ≡ true) ⊎ ((member past.before u 1 ≡ 2) × (1 < count past.before u))
+  second_of c (inl e) = inl (leaf_plan_says (plan past.before u) (toward (value past.before) spot_of (edit_key c)) e.plan).4
+  second_of c (inr (inl e)) = inl (join_plan_says (plan past.before u) (toward (value past.before) spot_of (edit_key c)) e.plan).4
+  second_of c (inr (inr (m, inl e))) = inl (leaf_plan_says (plan past.before u) (toward (value past.before) spot_of (edit_key c)) e.plan).4
+  second_of c (inr (inr (m, inr (inl e)))) = inl (end_leaf_plan_says (plan past.before u) (toward (value past.before) spot_of (edit_key c)) e.plan).4
+  second_of c (inr (inr (m, inr (inr (inl e))))) = inl (end_join_plan_says (plan past.before u) (toward (value past.before) spot_of (edit_key c)) e.plan).4
+  second_of c (inr (inr (m, inr (inr (inr e))))) = inr (e.guard, rw (above_plans (edit_key c) e.plan).1 (omega arith))
+
+  -- else it holds node 2 as it wins
+  pub second_or_two : (scx_finalizes h u 1 ≡ true) ⊎ (value h (info 2) ≡ u)
+  second_or_two = ⊎_elim (λ e. inl (ap (λ d. plan_finalizes d.plan 1) (sym past.same) ∙ e)) (λ x. inr (two x.0 x.1)) (second_of called past.allowed.edit)
+    where
+      two : member past.before u 1 ≡ 2 → 1 < count past.before u → value h (info 2) ≡ u
+      two is many =
+          let within : 1 < count h u = subst (λ d. 1 < count_in d) past.same many in
+          subst (λ n. value h (info n) ≡ u) (member_now 1 ∙ is) ((f.about u _ real held_u).holds 1 within (all_frozen.frozen 1 within) running)
 
   -- the node of the field that it changes is in the tree
   pub spot_unmarked : value h (marked (member h u (field_index h u))) ≢ 0 → ⊥
@@ -751,9 +787,6 @@ module _ (calls : ℕ → MapEdit) (lay : Layout) (h : History) (r : Row) (u : �
   old_on_path x s p fork =
       subst (λ n. Passes (value h) x t.tree n) (field_was x s)
       (path_child (value h) x t.tree _ _ spot_of t.is_tree.shows (on_path x s p) (spot_fork fork))
-
-  member_now : (j : ℕ) → member h u j ≡ member past.before u j
-  member_now j = λ i. (sym past.same i).member j
 
   few_covered : (c : MapEdit) → count past.before u < 4 → edit_leaf h u c ≡ member past.before u 1
   few_covered c few =

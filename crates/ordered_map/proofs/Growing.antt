@@ -1,5 +1,5 @@
 -- Every lawful history of the tree spells the map of its log.
-use Rattle.std.proofs.Common.{◌≡◌, ◌≢◌, ℕ, ◌<◌, ◌≤◌, ◌+◌, ◌*◌, ◌%◌, ◌^◌, Bool, true, false, eqb, ltb, inr, List, [], ◌∷◌, ◌++◌, refl, sym, ◌∙◌, ap, arith, lt-ltb, le-ltb, eq-eqb, cond, append_assoc, append-nil, subst, Some, None}
+use Rattle.std.proofs.Common.{◌≡◌, ◌≢◌, ℕ, ◌<◌, ◌≤◌, ◌+◌, ◌*◌, ◌%◌, ◌^◌, Bool, true, false, eqb, ltb, List, [], ◌∷◌, ◌++◌, refl, sym, ◌∙◌, ap, arith, lt-ltb, le-ltb, eq-eqb, cond, append_assoc, append-nil, subst, Some, None}
 use Rattle.std.proofs.lemmas.List.{append_cancel_right}
 use Rattle.std.proofs.lemmas.List.Elements.{All-nil, All-cons}
 use Rattle.std.specs.Prelude.{All}
@@ -14,13 +14,13 @@ use Rattle.arena.specs.declared.word.Word.{Word}
 use Rattle.arena.specs.declared.layout.Layout.{Layout}
 use Rattle.arena.specs.Layout.{tree_opening}
 use Rattle.arena.specs.Words.{node, child, first_key}
-use Rattle.arena.specs.History.{History, Start, ◌⊳◌, value, Extends}
+use Rattle.arena.specs.History.{History, Start, ◌⊳◌, value}
 use Rattle.arena.specs.ScxRecords.{field_index, member, plan, side_of}
 use Rattle.arena.specs.Fills.{opening_node}
-use Rattle.arena.specs.Lawful.{IsSettled, Lawful}
+use Rattle.arena.specs.Lawful.{IsSettled}
 use Rattle.arena.specs.Log.{log}
 use Rattle.arena.proofs.Lemmas.{node_apart, node_word_apart}
-use Rattle.histories.proofs.Lemmas.{Effect, Facts, effect, facts_before, freeze, freeze_keeps_field, lawful_tail, node_since, quiet, start_mode, update, update_keeps_other}
+use Rattle.histories.proofs.Lemmas.{Effect, Facts, effect, facts_before, freeze, freeze_keeps_field, quiet, update, update_keeps_other}
 use Rattle.ordered_map.specs.declared.pair.Pair.{Pair}
 use Rattle.ordered_map.specs.OrderedMap.{pair, MapEdit, get, IsRising, AllAbove, AllBelow}
 use Rattle.ordered_map.proofs.Trees.{items, ends, items_above, items_below, passes_has, shown_leaf}

@@ -27,6 +27,9 @@ mod Blanks
 mod Remaining
 mod ChangedFields
 mod Taken
+mod TrieForks
+mod TrieRuns
+mod Guarded
 mod TreeRuns
 mod Rising
 mod EndLeaf

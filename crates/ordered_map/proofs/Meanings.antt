@@ -1,6 +1,6 @@
 -- What a run under the shape of the tree says, whatever edits it makes: the map that the words
 -- spell, what a winning update makes of it, and what walks find.
-use Rattle.std.proofs.Common.{◌≡◌, ◌≢◌, ℕ, ◌^◌, ◌<◌, true, false, cond, eqb, eq-eqb, ne_eqb, ◌⊎◌, inl, inr, ⊎_elim, List, [], refl, sym, ◌∙◌, ap, arith, subst}
+use Rattle.std.proofs.Common.{◌≡◌, ◌≢◌, ℕ, ◌^◌, ◌<◌, true, false, cond, eq-eqb, ne_eqb, ◌⊎◌, inl, inr, ⊎_elim, List, [], refl, sym, ◌∙◌, ap, arith, subst}
 use native.Mathlib.Decide.{ℕ_discrete}
 use Rattle.arena.specs.declared.word.Side.{Side}
 use Rattle.arena.specs.declared.word.Side.TheVariants.{Left, Right}
@@ -17,19 +17,18 @@ use Rattle.arena.specs.Fills.{IsNamed, IsNamedScx}
 use Rattle.arena.specs.Lawful.{Lawful, IsWin, HasWon}
 use Rattle.arena.specs.Log.{log, IsEntered}
 use Rattle.arena.specs.Shape.{IsBegin, Shaped}
-use Rattle.histories.specs.Descriptor.{count_in}
 use Rattle.arena.proofs.Lemmas.{held_back, held_start, opening_info, ends_self, ends_trans, value_apart}
 use Rattle.histories.proofs.Lemmas.{Effect, Facts, IsFirst, Logs, begins_once, scx_since, logs, same, wins, UpdateWins, effect, entered_won, facts, facts_before, freeze, freeze_held, lawful_row, lawful_since, lawful_tail, named_since, quiet, shaped_begin, shaped_since, shaped_tail, start_mode, some_is_real, update, update_flagged, update_held, won_named, won_real}
 use Rattle.ordered_map.specs.declared.pair.Pair.{Pair}
 use Rattle.ordered_map.specs.OrderedMap.{MapEdit, edit_key, edited, get}
-use Rattle.ordered_map.proofs.Pending.{AllowsGiven, Pending}
+use Rattle.ordered_map.proofs.Pending.{AllowsGiven}
 use Rattle.ordered_map.proofs.Trees.{same_tree}
 use Rattle.ordered_map.specs.Paths.{Passed, IsAnswerAt}
 use Rattle.ordered_map.specs.Laws.{AreEdits, SpellsLog}
 use Rattle.ordered_map.specs.Runs.{IsTreeRun, Makes, map_of_log, IsEditAt}
 use Rattle.ordered_map.specs.Spelled.{Spells}
-use Rattle.ordered_map.specs.TrieShape.{Stays, EditsEndLeaf, TakesEndLeafOut, PutsAbove}
-use Rattle.ordered_map.specs.TreeShape.{IsEdit, EditsLeaf, TakesLeafOut, leaf_place, leaf_out, edit_leaf, TreeAllows}
+use Rattle.ordered_map.specs.TrieShape.{Stays}
+use Rattle.ordered_map.specs.TreeShape.{IsEdit, TakesLeafOut, leaf_place, edit_leaf, TreeAllows}
 use Rattle.ordered_map.specs.TreeWords.{class, is_leaf, level, toward, pairs, said}
 use Rattle.ordered_map.proofs.TreeFacts.{TreeFacts}
 use Rattle.ordered_map.proofs.Edited.{leaf_plan_says, join_plan_says, end_leaf_plan_says, end_join_plan_says, above_plan_says, content_now, replies}

@@ -27,7 +27,7 @@ use Rattle.ordered_map.proofs.Holding.{SameSettled, same_items}
 use Rattle.ordered_map.proofs.Moved.{settled_rank}
 use Rattle.ordered_map.specs.Paths.{IsOnPath, Passed, WasInTree}
 use Rattle.ordered_map.specs.Runs.{map_of_log}
-use Rattle.ordered_map.specs.TreeWords.{Tree, Leaf, Fork, root, Shows, Has, Passes, is_leaf, level, rank, toward, said}
+use Rattle.ordered_map.specs.TreeWords.{Tree, Leaf, Fork, Shows, Has, Passes, is_leaf, level, rank, toward, said}
 use Rattle.ordered_map.proofs.Searches.{told, told_said, passes_root, path_child, get_left, get_leaf}
 use Rattle.ordered_map.proofs.TreeFacts.{TreeFacts, all_named, path_now}
 use Rattle.ordered_map.proofs.Edited.{spot_unmarked}

@@ -27,7 +27,7 @@ use Rattle.ordered_map.proofs.Stood.{facts_then, tree_then, path_stays}
 
 module _ (calls : ℕ → MapEdit) (lay : Layout) (h : History) (r : Row) (g : IsGrown calls lay (r ⊳ h)) (n : ℕ) where
   -- what is final stays so
-  not_final_then : is_final (log lay (r ⊳ h)) n ≡ false → is_final (log lay h) n ≡ false
+  pub not_final_then : is_final (log lay (r ⊳ h)) n ≡ false → is_final (log lay h) n ≡ false
   not_final_then e = go (is_final (log lay h) n) refl
     where
       go : (b : Bool) → is_final (log lay h) n ≡ b → b ≡ false
@@ -48,7 +48,7 @@ module _ (calls : ℕ → MapEdit) (lay : Layout) (h : History) (r : Row) (g : I
         }
 
     -- what the update takes out of the tree is final
-    cut_final : IsCut calls lay h r u (facts_then calls lay h r g) w g.mode g.lawful (tree_then calls lay h r g) n → is_final (log lay (r ⊳ h)) n ≡ true
+    pub cut_final : IsCut calls lay h r u (facts_then calls lay h r g) w g.mode g.lawful (tree_then calls lay h r g) n → is_final (log lay (r ⊳ h)) n ≡ true
     cut_final x =
         let f = facts_then calls lay h r g in
         by_final lay (r ⊳ h) n u g.lawful record {
@@ -64,7 +64,7 @@ module _ (calls : ℕ → MapEdit) (lay : Layout) (h : History) (r : Row) (g : I
         ⊎_elim
         (λ p. record { tree = x.tree; is_tree = tree_now calls lay h r u (facts_then calls lay h r g) w g.mode g.lawful t; passes = p })
         (λ c. absurd (let y : true ≡ false = sym (cut_final c) ∙ e in cc))
-        (x.paths k n stay q)
+        (x.paths k n (inl stay) q)
 
   still_there : (k : ℕ) → is_final (log lay (r ⊳ h)) n ≡ false → Stays lay (value h) k n → Passes (value h) k (tree_then calls lay h r g).tree n → IsOnPath (r ⊳ h) k n
   still_there k e stay q = go (effect lay h r g.lawful)

@@ -10,7 +10,6 @@ use Rattle.arena.specs.declared.step.Row.{Row}
 use Rattle.arena.specs.declared.word.Side.{Side}
 use Rattle.arena.specs.declared.word.Side.TheVariants.{Left, Right}
 use Rattle.arena.specs.declared.word.NodeWord.{NodeWord}
-use Rattle.arena.specs.declared.word.Word.{Word}
 use Rattle.arena.specs.declared.word.NodeWord.TheVariants.{Settled, Child, Info, Marked}
 use Rattle.arena.specs.declared.word.SettledPart.TheVariants.{Head}
 use Rattle.arena.specs.declared.word.ScxWord.TheVariants.{AllFrozen}

@@ -1,5 +1,5 @@
 -- What a leaf says of a key that is read slot by slot. Each slot has its pair, or leaves it to those behind it.
-use Rattle.std.proofs.Common.{◌≡◌, ◌≢◌, ℕ, ◌<◌, List, ◌∷◌, refl, ◌∙◌, ap, arith, subst, eq-eqb, ne_eqb}
+use Rattle.std.proofs.Common.{◌≡◌, ◌≢◌, ℕ, ◌<◌, ◌≤◌, List, ◌∷◌, refl, ◌∙◌, ap, arith, subst, eq-eqb, ne_eqb}
 use Rattle.std.specs.Prelude.{Some, None}
 use Rattle.arena.specs.declared.word.NodeWord.TheVariants.{Settled}
 use Rattle.arena.specs.declared.word.SettledPart.TheVariants.{More, Key}

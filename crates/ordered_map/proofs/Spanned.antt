@@ -1,6 +1,6 @@
 -- Where the nodes of a tree are; and the spans of the forks of a trie: below a fork of class 0 all
 -- items are in its span, and each key that a fork there shares.
-use Rattle.std.proofs.Common.{◌≡◌, ℕ, ◌+◌, ◌-◌, ◌*◌, ◌/◌, ◌%◌, ◌^◌, ◌<◌, ◌≤◌, true, false, cond, inl, inr, List, [], ◌∷◌, ◌++◌, refl, sym, ◌∙◌, ap, arith, eqb, eq-eqb, ne_eqb, le-ltb, lt-ltb, subst, pow_pos}
+use Rattle.std.proofs.Common.{◌≡◌, ℕ, ◌+◌, ◌-◌, ◌*◌, ◌/◌, ◌%◌, ◌^◌, ◌<◌, ◌≤◌, true, false, inl, inr, List, [], ◌∷◌, ◌++◌, refl, sym, ◌∙◌, ap, arith, eqb, eq-eqb, le-ltb, lt-ltb, subst, pow_pos}
 use native.Mathlib.Decide.{ℕ_discrete}
 use Rattle.arena.specs.declared.layout.Layout.{Layout}
 use Rattle.arena.specs.declared.word.Side.{Side}
@@ -12,13 +12,13 @@ use Rattle.arena.specs.Words.{node, child, first_key}
 use Rattle.ordered_map.specs.declared.pair.Pair.{Pair}
 use Rattle.ordered_map.specs.OrderedMap.{AllBelow, AllFrom, get}
 use Rattle.ordered_map.specs.Holding.{held_pairs}
-use Rattle.ordered_map.specs.Bits.{room_at, room, side_from, side_to, Shares, IsParted, Keeps, IsTrieFork}
-use Rattle.ordered_map.specs.TrieShape.{Stays, FitsTrie}
-use Rattle.ordered_map.specs.TreeWords.{class, is_leaf, level, rank, toward, opposite, leaf_items, Tree, Leaf, Fork, root, IsLeaf, Shows, Has, Passes}
-use Rattle.ordered_map.proofs.Lists.{above_join, below_join, from_left, below_left, below_right, from_less, below_more}
-use Rattle.ordered_map.proofs.Holding.{SameSettled, held_same, low_items, rank_from, rank_below}
+use Rattle.ordered_map.specs.Bits.{room, side_from, side_to, Shares, IsParted, Keeps, IsTrieFork}
+use Rattle.ordered_map.specs.TrieShape.{Stays}
+use Rattle.ordered_map.specs.TreeWords.{class, is_leaf, level, rank, toward, Tree, Leaf, Fork, root, Shows, Has, Passes}
+use Rattle.ordered_map.proofs.Lists.{below_join, from_left, below_right, from_less, below_more}
+use Rattle.ordered_map.proofs.Holding.{SameSettled, held_same, low_items, rank_from}
 use Rattle.ordered_map.proofs.Searches.{get_left, get_right}
-use Rattle.ordered_map.proofs.Trees.{EndsLow, items, items_above, items_below, last_leaf, has_last, has_root, open_between, node_below}
+use Rattle.ordered_map.proofs.Trees.{EndsLow, items, items_above, items_below, last_leaf, has_last, open_between, node_below}
 
 -- all its nodes are at the lower bound or above
 pub node_from : (f : Word → ℕ) (t : Tree) (lo hi n : ℕ) → Shows f lo hi t → Has t n → lo ≤ rank f n

@@ -25,14 +25,13 @@ use Rattle.arena.proofs.Lemmas.{value_quiet, value_apart, node_apart, node_word_
 use Rattle.histories.proofs.Lemmas.{Change, Facts, Logs, UpdateWins, aborts, change, commits, facts_before, fills_node, fills_scx, freezes, lawful_row, lawful_tail, logs, marks, nothing, same, scx_stays, sets_frozen, some_is_real, update_about, update_flagged, update_is_first, update_won, updates, value_start, wins, won_more, won_named, won_real}
 use Rattle.arena.specs.TakenNodes.{with_fill, taken_nodes}
 use Rattle.ordered_map.specs.OrderedMap.{MapEdit}
-use Rattle.ordered_map.specs.Paths.{Passed}
+use Rattle.ordered_map.specs.Paths.{WasInTree}
 use Rattle.ordered_map.specs.TreeWords.{level}
 use Rattle.ordered_map.proofs.TreeFacts.{TreeFacts}
 use Rattle.ordered_map.proofs.Edited.{result, tree_now, new_in}
 use Rattle.ordered_map.proofs.Grown.{IsGrown, tree_facts, grown_tail}
 use Rattle.ordered_map.proofs.Inside.{no_head, has_head}
 use Rattle.ordered_map.proofs.Levels.{grown_level}
-use Rattle.ordered_map.proofs.Stood.{was_passed}
 
 -- Lists
 
@@ -216,10 +215,10 @@ grown_log calls lay h g =
     let b : length (news (log lay h)) ≡ length (log lay h) = news_length (log lay h) in
     omega (arith, a, b)
 
--- a node that was passed has fewer above it than the nodes of the tree: two that are not taken, and
--- those that are
-pub grown_depth : (calls : ℕ → MapEdit) (lay : Layout) (h start : History) (k n : ℕ) → lay.mode ≡ TreeMode → IsGrown calls lay h → Passed h start k n → level (value h) n < 2 + length (taken_nodes h)
-grown_depth calls lay h start k n tree g p =
-    let a : level (value h) n ≤ suc (length (log lay h)) = grown_level calls lay tree h g n (was_passed h start k n p) in
+-- a node that was in a tree has fewer above it than there are nodes: two that are not taken, and those
+-- that are
+pub grown_depth : (calls : ℕ → MapEdit) (lay : Layout) (h : History) (n : ℕ) → lay.mode ≡ TreeMode → IsGrown calls lay h → WasInTree h n → level (value h) n < 2 + length (taken_nodes h)
+grown_depth calls lay h n tree g x =
+    let a : level (value h) n ≤ suc (length (log lay h)) = grown_level calls lay tree h g n x in
     let b : length (log lay h) ≤ length (taken_nodes h) = grown_log calls lay h g in
     omega (arith, a, b)

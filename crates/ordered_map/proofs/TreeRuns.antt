@@ -1,6 +1,6 @@
 -- What a history of the tree keeps, whatever edits it makes: levels, how deep it is, what is blank,
 -- and which nodes are final.
-use Rattle.std.proofs.Common.{◌≡◌, ◌≢◌, ◌⊎◌, inl, inr, ◌+◌, ◌<◌, ◌≤◌, Bool, true, false, suc, ℕ, length, refl, sym, ◌∙◌, subst, arith}
+use Rattle.std.proofs.Common.{◌≡◌, ◌≢◌, ◌⊎◌, inl, inr, ⊎_elim, ◌+◌, ◌<◌, ◌≤◌, Bool, true, false, ℕ, length, refl, ◌∙◌, arith}
 use Rattle.arena.specs.declared.layout.Layout.{Layout}
 use Rattle.arena.specs.declared.word.Side.{Side}
 use Rattle.arena.specs.declared.word.Side.TheVariants.{Left, Right}
@@ -12,8 +12,6 @@ use Rattle.arena.specs.ScxRecords.{new}
 use Rattle.arena.specs.History.{History, ◌⊳◌, value, Extends}
 use Rattle.arena.specs.Log.{log, is_final}
 use Rattle.arena.specs.Fills.{IsInField}
-use Rattle.arena.specs.declared.limits.Mode.TheVariants.{Tree as TreeMode}
-use Rattle.ordered_map.specs.TrieShape.{Stays}
 use Rattle.arena.specs.TakenNodes.{taken_nodes}
 use Rattle.histories.proofs.Lemmas.{Facts, UpdateWins, facts_before, node_since, not_final}
 use Rattle.ordered_map.specs.OrderedMap.{MapEdit}
@@ -24,7 +22,6 @@ use Rattle.ordered_map.specs.Paths.{IsOnPath, Passed, WasInTree, WasOnPath}
 use Rattle.ordered_map.specs.Runs.{IsTreeRun}
 use Rattle.ordered_map.proofs.Past.{grown_rises}
 use Rattle.ordered_map.proofs.Removed.{grown_not_final}
-use Rattle.ordered_map.proofs.Levels.{grown_level}
 use Rattle.ordered_map.proofs.Blanks.{grown_blank}
 use Rattle.ordered_map.proofs.Remaining.{grown_on_path, grown_remains}
 use Rattle.ordered_map.proofs.Growing.{grown_root}
@@ -98,16 +95,13 @@ passed_unmarked lay h start k n g p e = path_remains lay h k n g (p.0, p.1, p.3)
 pub log_short : (lay : Layout) (h : History) → IsTreeRun lay h → length (log lay h) ≤ length (taken_nodes h)
 log_short lay h g = grown_log (edits_of lay h g).edits lay h (grown lay h g)
 
--- so a node of a tree that was passed is not as deep as they are many, and two
-pub passed_depth : (lay : Layout) (h start : History) (k n : ℕ) → IsTreeRun lay h → Passed h start k n → level (value h) n < 2 + length (taken_nodes h)
-passed_depth lay h start k n g p = grown_depth (edits_of lay h g).edits lay h start k n g.0 (grown lay h g) p
-
--- and so is one that was there
+-- a node of a tree that was there is not as deep as they are many, and two
 pub stood_depth : (lay : Layout) (h : History) (n : ℕ) → IsTreeRun lay h → WasInTree h n → level (value h) n < 2 + length (taken_nodes h)
-stood_depth lay h n g x =
-    let a : level (value h) n ≤ suc (length (log lay h)) = grown_level (edits_of lay h g).edits lay g.0 h (grown lay h g) n x in
-    let b : length (log lay h) ≤ length (taken_nodes h) = log_short lay h g in
-    omega (arith, a, b)
+stood_depth lay h n g x = grown_depth (edits_of lay h g).edits lay h n g.0 (grown lay h g) x
+
+-- and so is one that was passed
+pub passed_depth : (lay : Layout) (h start : History) (k n : ℕ) → IsTreeRun lay h → Passed h start k n → level (value h) n < 2 + length (taken_nodes h)
+passed_depth lay h start k n g p = stood_depth lay h n g (was_passed h start k n p)
 
 -- the settled words of a node that was in the tree do not change
 pub stood_settled : (lay : Layout) (h m : History) (n : ℕ) → IsTreeRun lay h → Extends h m → WasInTree m n → SameSettled (value m) (value h) n

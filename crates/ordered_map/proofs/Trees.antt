@@ -206,6 +206,7 @@ pub record IsBelowFork (f : Word → ℕ) (t : Tree) (n : ℕ) : Type 0 where
   pub fork : ℕ
   pub side : Side
   pub has : Has t fork
+  pub kind : is_leaf f fork ≡ false
   pub holds : f (child fork side) ≡ n
 
 -- each node but the one on top is below a fork
@@ -213,12 +214,12 @@ pub has_above : (f : Word → ℕ) (t : Tree) (lo hi n : ℕ) → Shows f lo hi 
 has_above f (Leaf m) lo hi n s e = inl (sym e)
 has_above f (Fork m a b) lo hi n s (inl e) = inl (sym e)
 has_above f (Fork m a b) lo hi n s (inr (inl x)) = ⊎_elim
-    (λ e. inr record { fork = m; side = Left; has = inl refl; holds = s.0.left ∙ sym e })
-    (λ y. inr record { fork = y.fork; side = y.side; has = inr (inl y.has); holds = y.holds })
+    (λ e. inr record { fork = m; side = Left; has = inl refl; kind = s.0.fork; holds = s.0.left ∙ sym e })
+    (λ y. inr record { fork = y.fork; side = y.side; has = inr (inl y.has); kind = y.kind; holds = y.holds })
     (has_above f a lo (rank f m) n s.1 x)
 has_above f (Fork m a b) lo hi n s (inr (inr x)) = ⊎_elim
-    (λ e. inr record { fork = m; side = Right; has = inl refl; holds = s.0.right ∙ sym e })
-    (λ y. inr record { fork = y.fork; side = y.side; has = inr (inr y.has); holds = y.holds })
+    (λ e. inr record { fork = m; side = Right; has = inl refl; kind = s.0.fork; holds = s.0.right ∙ sym e })
+    (λ y. inr record { fork = y.fork; side = y.side; has = inr (inr y.has); kind = y.kind; holds = y.holds })
     (has_above f b (rank f m) hi n s.2 x)
 
 -- the children of a fork are two nodes

@@ -1,5 +1,5 @@
 -- What the laws say of a history of the tree, in the map's own terms.
-use Rattle.std.specs.Prelude.{◌≡◌, ◌+◌, ◌<◌, ◌^◌, ℕ, true, false, length, List}
+use Rattle.std.specs.Prelude.{◌≡◌, ◌+◌, ◌<◌, ◌≤◌, ◌^◌, ℕ, true, false, length, List}
 use Rattle.arena.specs.declared.layout.Layout.{Layout}
 use Rattle.arena.specs.declared.step.Row.{Row}
 use Rattle.arena.specs.declared.word.Word.{Word}
@@ -12,7 +12,8 @@ use Rattle.ordered_map.specs.OrderedMap.{MapEdit}
 use Rattle.ordered_map.specs.TreeWords.{Tree, Has, is_leaf, level, said, IsBlankAboveKeys}
 use Rattle.ordered_map.specs.Spelled.{IsTree, Spells}
 use Rattle.ordered_map.specs.Paths.{Passed, WasInTree, IsAnswerAt}
-use Rattle.ordered_map.specs.Runs.{IsTreeRun, Makes, IsEditAt, map_of_log}
+use Rattle.ordered_map.specs.Bits.{IsTrieFork}
+use Rattle.ordered_map.specs.Runs.{IsTreeRun, IsTrieRun, Makes, IsEditAt, map_of_log}
 
 -- `edits` gives of each SCX-record with an entry an edit that it may be said to have made
 abbrev pub AreEdits : (ℕ → MapEdit) → Layout → History → Type 0
@@ -43,3 +44,12 @@ pub record TreeLaws : Type 0 where
   pub remains : (lay : Layout) (h : History) (t : Tree) (n : ℕ) → IsTreeRun lay h → WasInTree h n → is_final (log lay h) n ≡ false → IsTree (value h) t → Has t n
   -- one that is above all keys has the key 0
   pub blank : (lay : Layout) (h : History) (n : ℕ) → IsTreeRun lay h → WasInTree h n → IsBlankAboveKeys (value h) n
+
+-- what holds in every history of a trie in which only edits of the map begin
+pub record TrieLaws : Type 0 where
+  -- the words spell the map that edits of the log so far make of the empty map
+  pub spelled : (lay : Layout) (h : History) → IsTrieRun lay h → (edits : ℕ → MapEdit) × Spells lay (value h) (map_of_log edits (log lay h))
+  -- a fork that was ever in the trie parts keys at a bit, and its children keep to its sides
+  pub forks : (lay : Layout) (h : History) (n : ℕ) → IsTrieRun lay h → WasInTree h n → IsTrieFork (value h) n
+  -- no node is deeper than level 66
+  pub depth : (lay : Layout) (h : History) (n : ℕ) → IsTrieRun lay h → WasInTree h n → level (value h) n ≤ 66

@@ -1,14 +1,22 @@
 -- Which nodes a search for a key passes, and which are in the tree, now or at a moment before;
 -- and what a search may answer.
-use Rattle.std.specs.Prelude.{◌≡◌, ℕ, ◌-◌, ◌^◌, if◌then◌else◌, ◌==◌, List, Option}
+use Rattle.std.specs.Prelude.{◌≡◌, ℕ, ◌+◌, ◌-◌, ◌^◌, if◌then◌else◌, ◌==◌, List, Option}
 use Rattle.arena.specs.declared.word.Side.{Side}
 use Rattle.arena.specs.declared.word.Side.TheVariants.{Left, Right}
+use Rattle.arena.specs.declared.limits.Mode.{Mode}
+use Rattle.arena.specs.declared.limits.Mode.TheVariants.{Trie}
 use Rattle.arena.specs.declared.layout.Layout.{Layout}
 use Rattle.arena.specs.History.{History, value, Extends}
 use Rattle.ordered_map.specs.declared.pair.Pair.{Pair}
 use Rattle.ordered_map.specs.OrderedMap.{get, end_pair}
 use Rattle.ordered_map.specs.TreeWords.{Tree, Has, Passes}
 use Rattle.ordered_map.specs.Spelled.{IsTree, Spells}
+
+-- how many levels there are at most where this many nodes are taken: in a tree two more, in a trie one
+-- for each bit of a key and three more
+abbrev pub depth : Mode → ℕ → ℕ
+depth Trie nodes = 67
+depth _ nodes = 2 + nodes
 
 -- after the history n is in the tree, on the search path of k
 pub record IsOnPath (h : History) (k n : ℕ) : Type 0 where

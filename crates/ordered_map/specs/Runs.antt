@@ -1,7 +1,7 @@
 -- Histories of a map, the edits that their SCX-records make, and the map of their log.
 use Rattle.std.specs.Prelude.{◌≡◌, ℕ, List, [], ◌∷◌}
 use Rattle.arena.specs.declared.layout.Layout.{Layout}
-use Rattle.arena.specs.declared.limits.Mode.TheVariants.{Tree as TreeMode}
+use Rattle.arena.specs.declared.limits.Mode.TheVariants.{Tree as TreeMode, Trie as TrieMode}
 use Rattle.arena.specs.declared.step.Row.{Row}
 use Rattle.arena.specs.History.{History, ◌⊳◌, value, Extends}
 use Rattle.arena.specs.Log.{Entry}
@@ -16,6 +16,10 @@ use Rattle.ordered_map.specs.TreeShape.{MayEdit, TreeAllows, edit_leaf}
 -- a lawful history in tree mode, in which only edits of the map begin
 abbrev pub IsTreeRun : Layout → History → Type 0
 IsTreeRun lay h = (lay.mode ≡ TreeMode) × IsRun TreeAllows lay h
+
+-- the same in trie mode
+abbrev pub IsTrieRun : Layout → History → Type 0
+IsTrieRun lay h = (lay.mode ≡ TrieMode) × IsRun TreeAllows lay h
 
 -- s has begun, and may be said to make this edit, be it the only one or not
 pub record Makes (lay : Layout) (h : History) (s : ℕ) (e : MapEdit) : Type 0 where

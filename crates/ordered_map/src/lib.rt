@@ -14,7 +14,7 @@ mod wide;
 
 pub use fork_place::{ForkPlace, fork_between, shares};
 pub use held::{end_slot, slot_behind};
-pub use laws::{laws_hold, map_laws_hold};
+pub use laws::{laws_hold, map_laws_hold, trie_laws_hold};
 pub use pair::Pair;
 pub use reader::spelled;
 pub use reply::Reply;
