@@ -15,26 +15,23 @@ enum class Work { llx, own, two, shared };
 
 // `look` and `put` are calls in `bench` too: inlined into the loop they would be measured as something
 // that no caller with other code around it has.
-[[gnu::noinline]] inline Llx look(const Forest& forest, Word cell) { return forest.llx(cell); }
+[[gnu::noinline]] inline LlxEnd look(const Forest& forest, Word cell, Snap& snap) {
+    const Table table = forest.table();
+    return table.llx(table.node(cell), snap);
+}
 
-// Puts a fresh node with this value into a field of one of the nodes; `finalize` names those that
-// are removed. There is no answer where the share is used up.
-[[gnu::noinline]] inline std::optional<Scx> put(const Forest& forest, Pass& pass, const Snap* snaps, Word count,
-                                                const Word* finalize, Word finalized, Word cell, Side side,
-                                                Word value) {
+// Puts a fresh node with this value into the left field of the first of the nodes. There is no answer where
+// the share is used up.
+template <std::size_t COUNT>
+[[gnu::noinline]] std::optional<bool> put(const Forest& forest, Pass& pass, const std::array<Snap, COUNT>& snaps,
+                                          Word value) {
     if (pass.nodes == 0 || pass.scx == 0) return std::nullopt;
+    const Table table = forest.table();
     const Word call = pass.taken();
     const Word fresh = pass.fresh();
     const Word record = pass.record();
-    Word removed = 0;
-    Word at = 0;
-    for (Word index = count; index-- > 0;) {
-        if (snaps[index].node == cell) at = index;
-        for (Word other = 0; other < finalized; other++)
-            if (finalize[other] == snaps[index].node) removed |= Word{1} << index;
-    }
-    forest.store(Forest::node(fresh, VALUE), value);
-    return forest.put(record, snaps, Plan(count, removed, at, side), fresh, snaps[at].child(side), call);
+    table.node(fresh).store(VALUE, value);
+    return table.put<0>(record, snaps, LEFT_SIDE, fresh, snaps[0].left, call);
 }
 
 // The two cells of a thread. Most works take the first alone. Up to four threads have own cells that do
@@ -49,37 +46,31 @@ struct Pair {
     }
 };
 
-inline void count(Tally& tally, const std::optional<Scx>& answer) {
-    if (!answer) tally.fail++;
-    else if (answer->done) tally.done++;
+inline void count(Tally& tally, std::optional<bool> done) {
+    if (!done) tally.fail++;
+    else if (*done) tally.done++;
     else tally.lost++;
 }
 
 // The fields are read, so that no compiler leaves out what gives them.
 inline void look_at(const Forest& forest, Word cell, Tally& tally) {
-    const Llx found = look(forest, cell);
-    if (found.end == LlxEnd::snapshot && found.snap.left == found.snap.right) tally.done++;
+    Snap snap;
+    if (look(forest, cell, snap) == LlxEnd::snapshot && snap.left == snap.right) tally.done++;
     else tally.fail++;
 }
 
 inline void put_in(const Forest& forest, Pass& pass, Word cell, Tally& tally) {
-    const Llx found = look(forest, cell);
-    if (found.end != LlxEnd::snapshot) {
-        tally.fail++;
-        return;
-    }
-    count(tally, put(forest, pass, &found.snap, 1, nullptr, 0, cell, LEFT_SIDE, 1));
+    std::array<Snap, 1> snaps;
+    if (look(forest, cell, snaps[0]) == LlxEnd::snapshot) count(tally, put(forest, pass, snaps, 1));
+    else tally.fail++;
 }
 
 inline void put_in_first(const Forest& forest, Pass& pass, Pair pair, Tally& tally) {
-    const Llx first = look(forest, pair.first);
-    const Llx second = look(forest, pair.second);
-    if (first.end != LlxEnd::snapshot || second.end != LlxEnd::snapshot) {
-        tally.fail++;
-        return;
-    }
-    const Snap snaps[] = {first.snap, second.snap};
-    count(tally, put(forest, pass, snaps, 2, nullptr, 0, pair.first, LEFT_SIDE, 1));
+    std::array<Snap, 2> snaps;
+    const LlxEnd first = look(forest, pair.first, snaps[0]);
+    const LlxEnd second = look(forest, pair.second, snaps[1]);
+    if (first == LlxEnd::snapshot && second == LlxEnd::snapshot) count(tally, put(forest, pass, snaps, 1));
+    else tally.fail++;
 }
 
 inline Tally rounds(const Forest& forest, Work work, Word calls, Word thread) {

@@ -2,8 +2,11 @@
 //
 // They make the same atomic steps in the same order as Regnubas, on words that lie in the same order in
 // one table, and every step is sequentially consistent. What is measured beside `bench` is thus the
-// code around the steps, and nothing that another layout or a weaker order would win.
+// code around the steps, and nothing that another layout or a weaker order would win. That code is as
+// short as it can be by hand: a call keeps where the words lie in registers, and reckons where a node
+// begins once.
 #pragma once
+#include <array>
 #include <atomic>
 #include <cstdint>
 #include <memory>
@@ -14,6 +17,7 @@ using Word = std::uint64_t;
 #ifndef SHARED_WORD
 #define SHARED_WORD std::atomic<Word>
 #endif
+using Shared = SHARED_WORD;
 
 // A leaf has room for four pairs, with values of two words.
 enum NodeWord : Word {
@@ -34,23 +38,23 @@ constexpr Word FIRST_SCX = 1;
 constexpr Word SHARE = 32768;
 constexpr Word MOST_PASSES = 32;
 
+// A node's number, and where its words are.
+struct Node {
+    Word number;
+    Shared* words;
+
+    Word load(Word word) const { return words[word].load(); }
+    void store(Word word, Word value) const { words[word].store(value); }
+};
+
 struct Snap {
-    Word node, scx, left, right;
+    Node node;
+    Word scx, left, right;
 
     Word child(Side side) const { return side == RIGHT_SIDE ? right : left; }
 };
 
 enum class LlxEnd { snapshot, finalized, fail };
-
-struct Llx {
-    LlxEnd end;
-    Snap snap;
-};
-
-struct Scx {
-    bool done;
-    Word node, scx;
-};
 
 // A thread's number, and what is left of its share of nodes and SCX-records.
 struct Pass {
@@ -76,99 +80,143 @@ struct Pass {
 struct Plan {
     Word word;
 
-    Plan(Word count, Word removed, Word at, Side side) : word(count | removed << 3 | at << 7 | side << 9) {}
-    explicit Plan(Word found) : word(found) {}
+    constexpr Plan(Word count, Word removed, Word at, Side side)
+        : word(count | removed << 3 | at << 7 | Word(side) << 9) {}
+    explicit constexpr Plan(Word found) : word(found) {}
     Word count() const { return word & 7; }
     bool removes(Word index) const { return word >> (3 + index) & 1; }
     Word at() const { return word >> 7 & 3; }
     NodeWord field() const { return word >> 9 & 1 ? RIGHT : LEFT; }
 };
 
+// Answers what it found, as the steps of `bench` do.
+inline Word compare_exchange(Shared& word, Word expected, Word value) {
+    word.compare_exchange_strong(expected, value);
+    return expected;
+}
+
+// Where the words are. Each call has a copy of its own: what others could reach would have to be loaded
+// again behind each step.
+struct Table {
+    Shared* nodes;
+    Shared* records;
+
+    Node node(Word number) const { return {number, nodes + NODE_WORDS * number}; }
+    Shared* scx(Word number) const { return records + SCX_WORDS * number; }
+
+    // Fills `snap` where it answers that there is one.
+    [[gnu::always_inline]] LlxEnd llx(Node node, Snap& snap) const {
+        const Word marked = node.load(MARKED);
+        const Word info = node.load(INFO);
+        const Word state = scx(info)[STATE].load();
+        const Word marked_again = node.load(MARKED);
+        if (__builtin_expect(state == ABORTED || (state == COMMITTED && !marked_again), true)) {
+            const Word left = node.load(LEFT);
+            const Word right = node.load(RIGHT);
+            snap = {node, info, left, right};
+            if (__builtin_expect(node.load(INFO) == info, true)) return LlxEnd::snapshot;
+        }
+        return is_finalized(*this, node.words, marked, info) ? LlxEnd::finalized : LlxEnd::fail;
+    }
+
+    // Fills an SCX-record, and makes its SCX: puts `fresh` into the field of the first of the nodes that is
+    // on this side, and removes those that `removed` names. False where a node could not be frozen.
+    template <Word REMOVED, std::size_t COUNT>
+    [[gnu::always_inline]] bool put(Word record, const std::array<Snap, COUNT>& snaps, Side side, Word fresh,
+                                    Word old, Word call) const {
+        Shared* const words = scx(record);
+        words[PLAN].store(Plan(COUNT, REMOVED, 0, side).word);
+        words[NEW].store(fresh);
+        words[OLD].store(old);
+        for (Word index = 0; index < COUNT; index++) words[NODES + index].store(snaps[index].node.number);
+        for (Word index = 0; index < COUNT; index++) words[INFOS + index].store(snaps[index].scx);
+        words[CALL].store(call);
+        return help_own<REMOVED>(words, record, snaps, side, fresh, old);
+    }
+
+private:
+    // HELP of a record that the caller has just filled, and so with loads that find what is known.
+    template <Word REMOVED, std::size_t COUNT>
+    [[gnu::always_inline]] static bool help_own(Shared* words, Word record, const std::array<Snap, COUNT>& snaps,
+                                                Side side, Word fresh, Word old) {
+        words[PLAN].load();
+        for (Word index = 0; index < COUNT; index++) {
+            words[NODES + index].load();
+            words[INFOS + index].load();
+            const Word seen = snaps[index].scx;
+            const Word found = compare_exchange(snaps[index].node.words[INFO], seen, record);
+            if (__builtin_expect(found != seen && found != record, false)) return were_frozen(words);
+        }
+        words[ALL_FROZEN].store(1);
+        for (Word index = 0; index < COUNT; index++)
+            if (REMOVED >> index & 1) snaps[index].node.store(MARKED, 1);
+        words[NEW].load();
+        words[OLD].load();
+        compare_exchange(snaps[0].node.words[LEFT + side], old, fresh);
+        words[STATE].store(COMMITTED);
+        return true;
+    }
+
+    // Whether all nodes of a record were frozen, though one of them is no more. Where they were not, the
+    // record is aborted.
+    [[gnu::noinline, gnu::cold]] static bool were_frozen(Shared* words) {
+        if (words[ALL_FROZEN].load()) return true;
+        words[STATE].store(ABORTED);
+        return false;
+    }
+
+    // HELP of whatever record.
+    [[gnu::noinline]] static bool help(Table table, Word record) {
+        Shared* const words = table.scx(record);
+        const Plan plan(words[PLAN].load());
+        Node nodes[4];
+        for (Word index = 0; index < plan.count(); index++) {
+            nodes[index] = table.node(words[NODES + index].load());
+            const Word seen = words[INFOS + index].load();
+            const Word found = compare_exchange(nodes[index].words[INFO], seen, record);
+            if (found != seen && found != record) return were_frozen(words);
+        }
+        words[ALL_FROZEN].store(1);
+        for (Word index = 0; index < plan.count(); index++)
+            if (plan.removes(index)) nodes[index].store(MARKED, 1);
+        const Word fresh = words[NEW].load();
+        const Word old = words[OLD].load();
+        compare_exchange(nodes[plan.at()].words[plan.field()], old, fresh);
+        words[STATE].store(COMMITTED);
+        return true;
+    }
+
+    // What LLX does behind its first loads where something was in the way.
+    [[gnu::noinline, gnu::cold]] static bool is_finalized(Table table, Shared* node, Word marked, Word info) {
+        const Word state = table.scx(info)[STATE].load();
+        const bool committed = state == COMMITTED || (state == IN_PROGRESS && help(table, info));
+        if (marked && committed) return true;
+        const Word now = node[INFO].load();
+        if (table.scx(now)[STATE].load() == IN_PROGRESS) help(table, now);
+        return false;
+    }
+};
+
 class Forest {
 public:
     // Nodes 0 to `opening` - 1 are there from the start.
-    Forest(Word opening, Word passes)
-        : first_node_(opening),
-          scx_base_(NODE_WORDS * (opening + passes * SHARE)),
-          size_(scx_base_ + SCX_WORDS * (FIRST_SCX + passes * SHARE)),
-          words_(new SHARED_WORD[size_]) {
-        for (Word at = 0; at < size_; at++) words_[at].store(0, std::memory_order_relaxed);
-        store(scx(0, STATE), ABORTED);
+    Forest(Word opening, Word passes) : first_node_(opening) {
+        const Word nodes = NODE_WORDS * (opening + passes * SHARE);
+        const Word size = nodes + SCX_WORDS * (FIRST_SCX + passes * SHARE);
+        words_.reset(new Shared[size]);
+        for (Word at = 0; at < size; at++) words_[at].store(0, std::memory_order_relaxed);
+        table_ = {&words_[0], &words_[nodes]};
+        table_.scx(0)[STATE].store(ABORTED);
     }
+
+    const Table& table() const { return table_; }
 
     Pass pass(Word number) const {
         return {number, first_node_ + number * SHARE, SHARE, FIRST_SCX + number * SHARE, SHARE};
     }
 
-    static Word node(Word number, Word word) { return NODE_WORDS * number + word; }
-    Word scx(Word number, Word word) const { return scx_base_ + SCX_WORDS * number + word; }
-
-    Word load(Word at) const { return words_[at].load(); }
-    void store(Word at, Word value) const { words_[at].store(value); }
-
-    // Answers what it found, as the steps of `bench` do.
-    Word compare_exchange(Word at, Word expected, Word value) const {
-        words_[at].compare_exchange_strong(expected, value);
-        return expected;
-    }
-
-    Llx llx(Word at) const {
-        const Word marked = load(node(at, MARKED));
-        const Word info = load(node(at, INFO));
-        const Word state = load(scx(info, STATE));
-        const Word marked_again = load(node(at, MARKED));
-        if (state == ABORTED || (state == COMMITTED && !marked_again)) {
-            const Word left = load(node(at, LEFT));
-            const Word right = load(node(at, RIGHT));
-            if (load(node(at, INFO)) == info) return {LlxEnd::snapshot, {at, info, left, right}};
-        }
-        return no_snapshot(at, marked != 0, info);
-    }
-
-    // Fills an SCX-record, and makes its SCX: puts `fresh` into a field of one of the nodes.
-    Scx put(Word record, const Snap* snaps, Plan plan, Word fresh, Word old, Word call) const {
-        store(scx(record, PLAN), plan.word);
-        store(scx(record, NEW), fresh);
-        store(scx(record, OLD), old);
-        for (Word index = 0; index < plan.count(); index++) store(scx(record, NODES + index), snaps[index].node);
-        for (Word index = 0; index < plan.count(); index++) store(scx(record, INFOS + index), snaps[index].scx);
-        store(scx(record, CALL), call);
-        return help(record);
-    }
-
 private:
-    [[gnu::noinline]] Scx help(Word record) const {
-        const Plan plan(load(scx(record, PLAN)));
-        Word nodes[4];
-        for (Word index = 0; index < plan.count(); index++) {
-            nodes[index] = load(scx(record, NODES + index));
-            const Word seen = load(scx(record, INFOS + index));
-            const Word found = compare_exchange(node(nodes[index], INFO), seen, record);
-            if (found != seen && found != record) {
-                if (load(scx(record, ALL_FROZEN))) return {true, 0, 0};
-                store(scx(record, STATE), ABORTED);
-                return {false, nodes[index], found};
-            }
-        }
-        store(scx(record, ALL_FROZEN), 1);
-        for (Word index = 0; index < plan.count(); index++)
-            if (plan.removes(index)) store(node(nodes[index], MARKED), 1);
-        const Word fresh = load(scx(record, NEW));
-        const Word old = load(scx(record, OLD));
-        compare_exchange(node(nodes[plan.at()], plan.field()), old, fresh);
-        store(scx(record, STATE), COMMITTED);
-        return {true, 0, 0};
-    }
-
-    [[gnu::noinline, gnu::cold]] Llx no_snapshot(Word at, bool marked, Word info) const {
-        const Word state = load(scx(info, STATE));
-        const bool committed = state == COMMITTED || (state == IN_PROGRESS && help(info).done);
-        if (marked && committed) return {LlxEnd::finalized, {at, info, 0, 0}};
-        const Word now = load(node(at, INFO));
-        if (load(scx(now, STATE)) == IN_PROGRESS) help(now);
-        return {LlxEnd::fail, {at, now, 0, 0}};
-    }
-
-    Word first_node_, scx_base_, size_;
-    std::unique_ptr<SHARED_WORD[]> words_;
+    Word first_node_;
+    std::unique_ptr<Shared[]> words_;
+    Table table_;
 };

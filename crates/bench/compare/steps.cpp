@@ -74,7 +74,8 @@ void make(const Dictionary& map, Pass& pass, const char* row) {
     if (word == "replace_if") map.replace_if(pass, a, b, c);
     if (word == "successor") map.successor(a);
     if (word == "predecessor") map.predecessor(a);
-    if (word == "range") map.range(a, Word(b), Word(c));
+    Dictionary::RangeRoom room;
+    if (word == "range") map.range(a, Word(b), Word(c), room);
 }
 
 }  // namespace

@@ -94,7 +94,8 @@ inline void count_pair(Tally& tally, const Reply<std::optional<Pair>>& reply) {
 }
 
 inline void list(const Dictionary& map, Word key, Tally& tally) {
-    const auto reply = map.range(key, UINT64_MAX, MOST_PAIRS);
+    Dictionary::RangeRoom room;
+    const auto reply = map.range(key, UINT64_MAX, MOST_PAIRS, room);
     if (reply.end == End::done)
         for (const Pair& pair : reply.told) tally.tell(pair.key + pair.value + 1);
     count(tally, reply.end);
