@@ -1,5 +1,5 @@
 // Rounds on a dictionary: `get`, `mix90`, `mix50`, `mix0`, `insert`, `insert_new`, `delete`, `delete_if`,
-// `pop`, `pop_last`, `replace`, `succ`, `pred`, `range64`.
+// `pop`, `pop_last`, `replace`, `succ`, `pred`, `range1`, `range4`, `range16`, `range64`.
 #pragma once
 #include "dictionary.hpp"
 #include "tally.hpp"
@@ -7,13 +7,13 @@
 namespace tree {
 
 enum class Work {
-    get, mix90, mix50, mix0, insert, insert_new, remove, remove_if, pop, pop_last, replace, succ, pred, range64
+    get, mix90, mix50, mix0, insert, insert_new, remove, remove_if, pop, pop_last, replace, succ, pred,
+    range1, range4, range16, range64
 };
 
 // How many pairs a pass puts into the map before the threads start.
 constexpr Word PAIRS_OF_A_PASS = 10000;
 constexpr Word TRIES = 1000;
-constexpr Word MOST_PAIRS = 64;
 
 // How keys, and chances of a hundred, come out of random words: by the remainder of a word each; or both by
 // the halves of one word, as the maps of others were measured.
@@ -93,9 +93,9 @@ inline void count_pair(Tally& tally, const Reply<std::optional<Pair>>& reply) {
     count(tally, reply.end);
 }
 
-inline void list(const Dictionary& map, Word key, Tally& tally) {
+inline void list(const Dictionary& map, Word key, Word most, Tally& tally) {
     Dictionary::RangeRoom room;
-    const auto reply = map.range(key, UINT64_MAX, MOST_PAIRS, room);
+    const auto reply = map.range(key, UINT64_MAX, most, room);
     if (reply.end == End::done)
         for (const Pair& pair : reply.told) tally.tell(pair.key + pair.value + 1);
     count(tally, reply.end);
@@ -129,7 +129,10 @@ inline Tally rounds(const Dictionary& map, Work work, Deal deal, Word keys, Word
             case Work::replace: count_value(tally, map.replace_if(pass, key, key, key)); break;
             case Work::succ: count_pair(tally, map.successor(key)); break;
             case Work::pred: count_pair(tally, map.predecessor(key)); break;
-            case Work::range64: list(map, key, tally); break;
+            case Work::range1: list(map, key, 1, tally); break;
+            case Work::range4: list(map, key, 4, tally); break;
+            case Work::range16: list(map, key, 16, tally); break;
+            case Work::range64: list(map, key, 64, tally); break;
         }
     }
     return tally;

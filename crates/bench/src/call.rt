@@ -14,8 +14,8 @@ use std::alloc::Global;
 /// A dictionary of numbers of one word.
 pub type Numbers = Dict<u64, u64>;
 
-/// How many pairs a range answers at most.
-pub const MOST_PAIRS: usize = 64;
+/// The most pairs that a range may be asked for here.
+const MOST_PAIRS: usize = 64;
 
 /// All rounds of a thread.
 pub fn rounds(
@@ -66,7 +66,10 @@ fn round(
         TreeWork::Replace => told(forest.replace_if(pass, pair.0, key, pair.0), tally),
         TreeWork::Successor => told_pair(forest.successor(alloc, pass, key), tally),
         TreeWork::Predecessor => told_pair(forest.predecessor(alloc, pass, key), tally),
-        TreeWork::Range => told_pairs(forest.range(alloc, pass, key, &u64::MAX, MOST_PAIRS), tally),
+        TreeWork::Range { most } => {
+            let most = most.min(MOST_PAIRS);
+            told_pairs(forest.range(alloc, pass, key, &u64::MAX, most), tally)
+        }
     }
 }
 

@@ -2,7 +2,7 @@
 ghost use Rattle.std.specs.Prelude.{◌≡◌, ◌≤◌};
 ghost use Rattle.bench.specs.Tally.{total};
 
-use crate::call::{MOST_PAIRS, told, told_pair, told_pairs};
+use crate::call::{told, told_pair, told_pairs};
 use crate::dictionary::{PAIRS_OF_A_PASS, fillers};
 use crate::draws::Draws;
 use crate::fault::Fault;
@@ -142,8 +142,8 @@ fn round<R: Wait>(
             let found = before(&map.lock(rt), pair.0);
             told_pair(Ok(found), tally)
         }
-        TreeWork::Range => {
-            let found = pairs_from(alloc, &map.lock(rt), pair.0);
+        TreeWork::Range { most } => {
+            let found = pairs_from(alloc, &map.lock(rt), pair.0, most);
             told_pairs(found.map_err(|_| OrderFault::NoMemory), tally)
         }
         _ => {
@@ -238,14 +238,15 @@ fn before(map: &BTreeMap<u64, u64>, key: u64) -> Option<(u64, u64)> {
         .map(|(key, value)| (*key, *value))
 }
 
-/// The first 64 pairs from a key on.
+/// The first `most` pairs from a key on.
 fn pairs_from(
     alloc: Global,
     map: &BTreeMap<u64, u64>,
     key: u64,
+    most: usize,
 ) -> Result<Vec<(u64, u64)>, AllocError> {
     let mut pairs = Vec::new(alloc);
-    for (key, value) in map.range(key..).take(MOST_PAIRS) {
+    for (key, value) in map.range(key..).take(most) {
         pairs.push((*key, *value))?;
     }
     Ok(pairs)

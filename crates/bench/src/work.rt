@@ -62,8 +62,8 @@ pub enum TreeWork {
     Successor,
     /// It looks for the pair before the key.
     Predecessor,
-    /// It looks for the first 64 pairs from the key on.
-    Range,
+    /// It looks for the first `most` pairs from the key on.
+    Range { most: usize },
 }
 
 /// How much of a work may be asked for, and how many calls are measured where none are asked for.
@@ -87,7 +87,7 @@ pub struct Bounds {
 
 impl Work {
     /// Each work once.
-    pub const ALL: [Work; 38] = [
+    pub const ALL: [Work; 41] = [
         Work::Cells(CellWork::Llx),
         Work::Cells(CellWork::Own),
         Work::Cells(CellWork::Two),
@@ -105,13 +105,16 @@ impl Work {
         Work::Tree(TreeWork::Replace),
         Work::Tree(TreeWork::Successor),
         Work::Tree(TreeWork::Predecessor),
-        Work::Tree(TreeWork::Range),
+        Work::Tree(TreeWork::Range { most: 1 }),
+        Work::Tree(TreeWork::Range { most: 4 }),
+        Work::Tree(TreeWork::Range { most: 16 }),
+        Work::Tree(TreeWork::Range { most: 64 }),
         Work::Peers(TreeWork::Get),
         Work::Peers(TreeWork::Mix { looks: 90 }),
         Work::Peers(TreeWork::Mix { looks: 50 }),
         Work::Peers(TreeWork::Insert),
         Work::Peers(TreeWork::Successor),
-        Work::Peers(TreeWork::Range),
+        Work::Peers(TreeWork::Range { most: 64 }),
         Work::Locked(TreeWork::Get),
         Work::Locked(TreeWork::Mix { looks: 90 }),
         Work::Locked(TreeWork::Mix { looks: 50 }),
@@ -125,7 +128,7 @@ impl Work {
         Work::Locked(TreeWork::Replace),
         Work::Locked(TreeWork::Successor),
         Work::Locked(TreeWork::Predecessor),
-        Work::Locked(TreeWork::Range),
+        Work::Locked(TreeWork::Range { most: 64 }),
     ];
 
     /// The word of the command line that asks for all works of its kind.
@@ -224,7 +227,10 @@ impl TreeWork {
             TreeWork::Replace => "replace",
             TreeWork::Successor => "succ",
             TreeWork::Predecessor => "pred",
-            TreeWork::Range => "range64",
+            TreeWork::Range { most: 1 } => "range1",
+            TreeWork::Range { most: 4 } => "range4",
+            TreeWork::Range { most: 16 } => "range16",
+            TreeWork::Range { .. } => "range64",
         }
     }
 
@@ -234,7 +240,7 @@ impl TreeWork {
             TreeWork::Mix { looks: 90 } => "peer_mix90",
             TreeWork::Mix { .. } => "peer_mix50",
             TreeWork::Successor => "peer_succ",
-            TreeWork::Range => "peer_range64",
+            TreeWork::Range { .. } => "peer_range64",
             _ => "peer_insert",
         }
     }
@@ -261,7 +267,7 @@ impl TreeWork {
             }
             TreeWork::Replace => (Limits::MOST_RECORDS, 20_000),
             TreeWork::Successor | TreeWork::Predecessor => (u32::MAX, 20_000),
-            TreeWork::Range => (u32::MAX, 2_000),
+            TreeWork::Range { .. } => (u32::MAX, 2_000),
         };
         Bounds {
             threads: 8,
