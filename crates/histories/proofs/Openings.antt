@@ -1,13 +1,6 @@
 -- What words hold at the start.
 use Rattle.std.proofs.Common.{◌≡◌, ℕ, ◌<◌, Bool, true, false, eqb, cond, refl, arith}
-use Rattle.arena.specs.declared.limits.Mode.{Mode}
-use Rattle.arena.specs.declared.limits.Mode.TheVariants.{Tree, Records}
-use Rattle.arena.specs.declared.word.Side.{Side}
-use Rattle.arena.specs.declared.word.Side.TheVariants.{Left, Right}
-use Rattle.arena.specs.declared.word.Word.{Word}
-use Rattle.arena.specs.Layout.{opening, opening_nodes}
-use Rattle.arena.specs.Words.{child}
-use Rattle.arena.specs.History.{Start, value}
+use Rattle.histories.specs.Common.{Mode, Tree, Records, Side, Left, Right, Word, opening, opening_nodes, child, Start, value}
 
 pub value_start : (mode : Mode) (w : Word) → value (Start mode) w ≡ opening mode w
 unfolding value

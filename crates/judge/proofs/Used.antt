@@ -2,19 +2,9 @@
 use Rattle.std.proofs.Common.{◌≡◌, ◌≢◌, ◌↔◌, ℕ, zero, suc, ◌+◌, ◌<◌, ◌⊎◌, inl, inr, ⊎_elim, Bool, true, false, not, IsTrue, cond, eqb, List, length, replicate, refl, sym, ◌∙◌, ap, subst, arith, get_or-set_other, get_or-set_same, eq-eqb, ne_eqb}
 use Rattle.std.proofs.Math.ListN.{length-set}
 use Rattle.std.specs.Prelude.{slice_index_or}
-use Rattle.arena.specs.declared.layout.Layout.{Layout}
-use Rattle.arena.specs.declared.limits.Mode.{Mode}
-use Rattle.arena.specs.declared.limits.Mode.TheVariants.{Tree, Records}
-use Rattle.arena.specs.declared.word.Side.{Side}
-use Rattle.arena.specs.declared.word.Side.TheVariants.{Left, Right}
-use Rattle.arena.specs.declared.word.NodeWord.TheVariants.{Settled, Child, Info, Marked}
-use Rattle.arena.specs.declared.word.ScxWord.TheVariants.{State, AllFrozen, Plan, New, Old, Member, Seen, Call}
-use Rattle.arena.specs.declared.word.Word.{Word}
-use Rattle.arena.specs.declared.word.Word.TheVariants.{Node, Scx}
-use Rattle.arena.specs.declared.step.Row.{Row}
-use Rattle.arena.specs.Layout.{all_nodes, opening}
-use Rattle.arena.specs.Words.{child, scx}
-use Rattle.arena.specs.History.{History, Start, ◌⊳◌, HasHeld}
+use Rattle.histories.specs.Common.{Layout, Mode, Tree, Records, Side, Left, Right, Settled, Child, Info, Marked, State, AllFrozen, Plan, New}
+use Rattle.histories.specs.Common.{Old, Member, Seen, Word, Node, Scx, Row, all_nodes, opening, child, scx, History, Start, ◌⊳◌, HasHeld}
+use Rattle.arena.specs.declared.word.ScxWord.TheVariants.{Call}
 use Rattle.arena.proofs.Lemmas.{held_at, held_more, held_start, opening_scx}
 use Rattle.histories.proofs.Lemmas.{value_start}
 use Rattle.judge.specs.declared.uses.Users.{Users}

@@ -1,20 +1,8 @@
 -- What words hold that are not of the table, and after one more row.
 use Rattle.std.proofs.Common.{◌≡◌, ◌≢◌, ℕ, ◌<◌, ◌≤◌, Bool, true, false, ne_eqb, refl, sym, ◌∙◌, ap, subst, arith}
-use Rattle.arena.specs.declared.layout.Layout.{Layout}
-use Rattle.arena.specs.declared.limits.Mode.{Mode}
-use Rattle.arena.specs.declared.limits.Mode.TheVariants.{Tree, Records}
-use Rattle.arena.specs.declared.word.Side.TheVariants.{Left, Right}
-use Rattle.arena.specs.declared.word.NodeWord.TheVariants.{Settled, Child, Info, Marked}
-use Rattle.arena.specs.declared.word.SettledPart.TheVariants.{Head}
-use Rattle.arena.specs.declared.word.ScxWord.TheVariants.{State, AllFrozen, Plan, New, Old, Member, Seen, Call}
-use Rattle.arena.specs.declared.word.Word.{Word}
-use Rattle.arena.specs.declared.word.Word.TheVariants.{Node, Scx}
-use Rattle.arena.specs.declared.step.Row.{Row}
-use Rattle.arena.specs.Layout.{all_nodes, opening_nodes, opening, IsWord}
-use Rattle.arena.specs.Words.{same_word}
-use Rattle.arena.specs.History.{History, Start, ◌⊳◌, value}
-use Rattle.arena.specs.Lawful.{Lawful}
-use Rattle.arena.specs.PlainWords.{Contents, word_at, IsChanged}
+use Rattle.histories.specs.Common.{Layout, Mode, Tree, Records, Left, Right, Settled, Child, Info, Marked, Head, State, AllFrozen, Plan, New, Old, Member, Seen, Word}
+use Rattle.histories.specs.Common.{Node, Scx, Row, all_nodes, opening_nodes, opening, IsWord, same_word, History, Start, ◌⊳◌, value, Lawful, Contents, word_at, IsChanged}
+use Rattle.arena.specs.declared.word.ScxWord.TheVariants.{Call}
 use Rattle.arena.proofs.Lemmas.{word_same, word_refl, value_at, value_other}
 use Rattle.histories.proofs.Lemmas.{lawful_row, lawful_tail, value_start}
 use Rattle.judge.proofs.Names.{start_is}

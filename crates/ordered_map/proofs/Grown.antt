@@ -1,15 +1,6 @@
 -- What is known after every history of the tree.
 use Rattle.std.proofs.Common.{◌≡◌, ◌≢◌, ℕ, inl, ◌++◌, refl, sym, ◌∙◌, arith, subst}
-use Rattle.arena.specs.declared.limits.Mode.{Mode}
-use Rattle.arena.specs.declared.limits.Mode.TheVariants.{Tree as TreeMode}
-use Rattle.arena.specs.declared.layout.Layout.{Layout}
-use Rattle.arena.specs.declared.step.Row.{Row}
-use Rattle.arena.specs.Words.{info}
-use Rattle.arena.specs.History.{History, Start, ◌⊳◌, value, HasHeld, Extends}
-use Rattle.arena.specs.ScxRecords.{seen}
-use Rattle.arena.specs.Lawful.{Lawful}
-use Rattle.arena.specs.Log.{log}
-use Rattle.arena.specs.Shape.{IsBegin, Shaped}
+use Rattle.histories.specs.Common.{Mode, Tree as TreeMode, Layout, Row, info, History, Start, ◌⊳◌, value, HasHeld, Extends, seen, Lawful, log, IsBegin, Shaped}
 use Rattle.arena.proofs.Lemmas.{held_start, opening_info}
 use Rattle.histories.proofs.Lemmas.{Effect, Facts, FreezeWins, effect, facts_before, freeze, freeze_in_progress, freeze_rest, lawful_since, lawful_tail, quiet, shaped_begin, shaped_since, shaped_tail, update}
 use Rattle.ordered_map.specs.OrderedMap.{MapEdit}

@@ -2,22 +2,8 @@
 -- spell, what a winning update makes of it, and what walks find.
 use Rattle.std.proofs.Common.{◌≡◌, ◌≢◌, ℕ, ◌^◌, ◌<◌, true, false, cond, eqb, eq-eqb, ne_eqb, inl, inr, ⊎_elim, List, [], refl, sym, ◌∙◌, ap, arith, subst}
 use native.Mathlib.Decide.{ℕ_discrete}
-use Rattle.arena.specs.declared.limits.Mode.TheVariants.{Tree as TreeMode}
-use Rattle.arena.specs.declared.word.Side.{Side}
-use Rattle.arena.specs.declared.word.Side.TheVariants.{Left, Right}
-use Rattle.arena.specs.declared.word.ScxWord.TheVariants.{Plan}
-use Rattle.arena.specs.declared.word.Word.{Word}
-use Rattle.arena.specs.declared.layout.Layout.{Layout}
-use Rattle.arena.specs.declared.step.Row.{Row}
-use Rattle.arena.specs.Words.{info, scx, child}
-use Rattle.arena.specs.History.{History, Start, ◌⊳◌, value, Extends}
-use Rattle.arena.specs.Blame.{IsMember}
-use Rattle.arena.specs.ScxRecords.{count, count_of, member, plan}
-use Rattle.arena.specs.Fills.{IsNamed, IsNamedScx}
-use Rattle.arena.specs.Lawful.{Lawful, IsWin, HasWon}
-use Rattle.arena.specs.Log.{log, IsEntered}
-use Rattle.arena.specs.Shape.{IsBegin, Shaped}
-use Rattle.histories.specs.Descriptor.{count_in}
+use Rattle.histories.specs.Common.{Tree as TreeMode, Side, Left, Right, Plan, Word, Layout, Row, info, scx, child, History, Start, ◌⊳◌, value, Extends, IsMember}
+use Rattle.histories.specs.Common.{count, count_of, member, plan, IsNamed, IsNamedScx, Lawful, IsWin, HasWon, log, IsEntered, IsBegin, Shaped, count_in}
 use Rattle.arena.proofs.Lemmas.{held_back, held_start, opening_info, ends_self, ends_trans, value_apart}
 use Rattle.histories.proofs.Lemmas.{Effect, Facts, IsFirst, Logs, begins_once, scx_since, logs, same, wins, UpdateWins, effect, entered_won, facts, facts_before, freeze, freeze_held, lawful_row, lawful_since, lawful_tail, named_since, quiet, shaped_begin, shaped_since, shaped_tail, some_is_real, update, update_flagged, update_held, won_named, won_real}
 use Rattle.ordered_map.specs.declared.pair.Pair.{Pair}

@@ -1,24 +1,10 @@
 -- What is known after each history of the tree, and that rows that win no update keep it.
 use Rattle.std.proofs.Common.{◌≡◌, ◌≢◌, ℕ, ◌<◌, false, ◌⊎◌, inl, inr, ⊎_elim, ◌++◌, refl, sym, ◌∙◌, ap, arith}
 use native.Mathlib.Decide.{ℕ_discrete}
-use Rattle.arena.specs.declared.limits.Mode.TheVariants.{Tree as TreeMode}
-use Rattle.arena.specs.declared.word.Side.{Side}
-use Rattle.arena.specs.declared.word.NodeWord.{NodeWord}
-use Rattle.arena.specs.declared.word.NodeWord.TheVariants.{Settled, Child, Info, Marked}
-use Rattle.arena.specs.declared.word.SettledPart.TheVariants.{Head}
-use Rattle.arena.specs.declared.word.ScxWord.TheVariants.{New, Member}
-use Rattle.arena.specs.declared.layout.Layout.{Layout}
-use Rattle.arena.specs.declared.step.Row.{Row}
-use Rattle.arena.specs.declared.step.Kind.TheVariants.{Freeze, Update}
-use Rattle.arena.specs.Layout.{opening_nodes}
-use Rattle.arena.specs.Words.{same_node_word, node, scx, info, marked, child}
-use Rattle.arena.specs.History.{History, ◌⊳◌, value, HasHeld, Extends}
-use Rattle.arena.specs.ScxRecords.{count, member, seen, new}
-use Rattle.arena.specs.Fills.{IsNamed, opening_node, by_field, by_scx, IsNamedScx}
-use Rattle.arena.specs.Lawful.{MayBegin, IsSettled, HasWon, Lawful}
-use Rattle.arena.specs.Log.{log}
+use Rattle.histories.specs.Common.{Tree as TreeMode, Side, NodeWord, Settled, Child, Info, Marked, Head, New, Member, Layout, Row, Freeze, Update}
+use Rattle.histories.specs.Common.{opening_nodes, same_node_word, node, scx, info, marked, child, History, ◌⊳◌, value, HasHeld, Extends, count, member}
+use Rattle.histories.specs.Common.{seen, new, IsNamed, opening_node, by_field, by_scx, IsNamedScx, MayBegin, IsSettled, HasWon, Lawful, log, descriptor}
 use Rattle.arena.proofs.Lemmas.{value_apart, held_at, held_more, held_back, node_word_apart, ends_self}
-use Rattle.histories.specs.Descriptor.{descriptor}
 use Rattle.histories.proofs.Lemmas.{Facts, FreezeWins, Kept, Logs, first_frozen, freeze_descriptor, freeze_distinct, freeze_finds, freeze_held, freeze_is_new, freeze_keeps_field, freeze_keeps_info, freeze_keeps_mark, freeze_keeps_scx, freeze_real, freeze_stores, log_same, logs, node_stays, same, update_is_first, update_won, wins, won_more}
 use Rattle.ordered_map.specs.OrderedMap.{MapEdit}
 use Rattle.ordered_map.proofs.Pending.{AllowsGiven, tree_named, tree_field, Mine, Pending, Holds, pending_kept, pending_freeze}

@@ -1,8 +1,6 @@
 -- What the laws say of a history of the tree, in the map's own terms.
 use Rattle.std.specs.Prelude.{ℕ}
-use Rattle.arena.specs.declared.layout.Layout.{Layout}
-use Rattle.arena.specs.History.{History, value, Extends}
-use Rattle.arena.specs.Log.{log, IsEntered}
+use Rattle.histories.specs.Common.{Layout, History, value, Extends, log, IsEntered}
 use Rattle.ordered_map.specs.OrderedMap.{MapEdit}
 use Rattle.ordered_map.specs.Spelled.{Spells}
 use Rattle.ordered_map.specs.Runs.{Makes, map_of_log}

@@ -1,8 +1,7 @@
 -- What the laws of the map say of the keys at its ends, of the next key on a side of another one, of
 -- the keys between two, and of what a take at an end leaves, and a rule at a key.
 use Rattle.std.specs.Prelude.{◌≡◌, ℕ, ◌<◌, if◌then◌else◌, ◌&&◌, nat_le, List, [], ◌∷◌, Option, Some, None}
-use Rattle.arena.specs.declared.word.Side.{Side}
-use Rattle.arena.specs.declared.word.Side.TheVariants.{Left, Right}
+use Rattle.histories.specs.Common.{Side, Left, Right}
 use Rattle.ordered_map.specs.declared.pair.Pair.{Pair}
 use Rattle.ordered_map.specs.declared.rule.Rule.{Rule}
 use Rattle.ordered_map.specs.OrderedMap.{applies, edit_to, edited, get, leaves}
