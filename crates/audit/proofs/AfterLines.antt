@@ -3,18 +3,13 @@ use Rattle.std.proofs.Common.{◌≡◌, ◌≢◌, ℕ, zero, suc, ◌+◌, ◌
 use Rattle.std.proofs.lemmas.List.{length_push}
 use native.Mathlib.Decide.{ℕ_discrete}
 use Rattle.std.proofs.lemmas.Bool.{ne_eqb}
-use Rattle.arena.specs.declared.layout.Layout.{Layout}
-use Rattle.arena.specs.declared.number.PassNo.{PassNo}
-use Rattle.arena.specs.declared.step.Row.{Row as StepRow}
-use Rattle.script.specs.declared.call.Call.{Call}
-use Rattle.script.specs.declared.command.Command.{Command}
+use Rattle.histories.specs.Common.{Layout, PassNo, Row as StepRow}
+use Rattle.record.specs.Common.{Call, Command, commands, answered, begin, steps, won, entry_of}
 use Rattle.record.specs.declared.record.Line.{Line}
 use Rattle.record.specs.declared.record.Line.TheVariants.{Step, Log, Reply as ReplyLine}
 use Rattle.record.specs.declared.record.TurnRow.TheVariants.{Step as Made, Idle}
 use Rattle.record.specs.declared.record.Entry.{Entry}
 use Rattle.record.specs.declared.record.Finished.{Finished}
-use Rattle.record.specs.Commands.{commands}
-use Rattle.record.specs.Turns.{answered, begin, steps, won, entry_of}
 use Rattle.audit.specs.Calls.{StandsNext}
 use Rattle.audit.specs.After.{IsClientAfter, AreClientsAfter}
 use Rattle.audit.specs.declared.client.ClientState.{ClientState}

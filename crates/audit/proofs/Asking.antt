@@ -1,16 +1,9 @@
 -- What a run knows of a call of the map whose answer it judges.
 use Rattle.std.proofs.Common.{◌≡◌, ℕ, ◌<◌, Bool, true, false, is_some, slice_get, Option, Some, None, IsSome, refl, sym, ◌∙◌, ap, subst}
 use Rattle.std.proofs.lemmas.Option.{slice_get_within}
-use Rattle.arena.specs.declared.limits.Mode.TheVariants.{Tree}
-use Rattle.arena.specs.declared.layout.Layout.{Layout}
-use Rattle.arena.specs.declared.number.PassNo.{PassNo}
-use Rattle.script.specs.declared.command.Command.{Command}
+use Rattle.histories.specs.Common.{Tree, Layout, PassNo}
+use Rattle.record.specs.Common.{Command, HasItsEntry, enters, HasTakenFew, next_command, IsFitting, history, answered, begin, start, entry_owed}
 use Rattle.record.specs.declared.record.Finished.{Finished}
-use Rattle.record.specs.Answers.{HasItsEntry}
-use Rattle.record.specs.CommandRules.{enters, HasTakenFew}
-use Rattle.record.specs.Commands.{next_command}
-use Rattle.record.specs.Replies.{IsFitting}
-use Rattle.record.specs.Turns.{history, answered, begin, start, entry_owed}
 use Rattle.linearization.specs.Places.{changes}
 use Rattle.audit.specs.After.{IsAfter, IsMapAfter, IsClientAfter, lines_of, layout_of, tries_of, calls_of}
 use Rattle.audit.specs.Asked.{IsAsked}

@@ -2,20 +2,9 @@
 use Rattle.std.proofs.Common.{◌≡◌, ◌≢◌, ℕ, ◌+◌, ◌*◌, ◌<◌, ◌≤◌, Bool, true, false, not, List, [], ◌∷◌, length, get_or, slice_get, Option, Some, None, IsSome, IfSome, IfNone, is_some, refl, sym, ap, subst, ◌∙◌, arith}
 use Rattle.std.specs.List.{Contains}
 use Rattle.std.proofs.lemmas.Bool.{false≢true}
-use Rattle.arena.specs.declared.layout.Layout.{Layout}
-use Rattle.arena.specs.declared.step.Kind.{Kind}
-use Rattle.arena.specs.declared.step.Kind.TheVariants.{Freeze}
-use Rattle.arena.specs.declared.limits.Mode.TheVariants.{Records}
-use Rattle.arena.specs.Layout.{all_nodes}
+use Rattle.histories.specs.Common.{Layout, Kind, Freeze, Records, all_nodes, WasInTheWay, HasFailed, IsOthersScx, HasFound, History, value, log, last, is_final, state}
 use Rattle.arena.specs.Opening.{opening_nodes}
-use Rattle.arena.specs.Blame.{WasInTheWay, HasFailed}
-use Rattle.arena.specs.Fills.{IsOthersScx}
-use Rattle.arena.specs.Found.{HasFound}
-use Rattle.arena.specs.History.{History, value}
-use Rattle.arena.specs.Log.{log, last, is_final}
-use Rattle.arena.specs.Words.{state}
-use Rattle.record.specs.Answers.{IsInTheWay}
-use Rattle.record.specs.Snapshots.{IsLastLook, IsFirstUnlinked, AreLinked}
+use Rattle.record.specs.Common.{IsInTheWay, IsLastLook, IsFirstUnlinked, AreLinked}
 use Rattle.audit.specs.CellCalls.{IsCallSeen, IsLookAt, IsOwnLook, IsAsLooked}
 use Rattle.audit.specs.Remembered.{row_count, IsMomentAt, IsLookOf, AreSnapshotsOf}
 use Rattle.audit.specs.declared.memory.FoundInfo.{FoundInfo}

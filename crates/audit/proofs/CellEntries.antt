@@ -1,28 +1,8 @@
 -- Entries of calls of cells, and what is known as one of their answers is judged.
 use Rattle.std.proofs.Common.{◌≡◌, ℕ, ◌<◌, List, length, slice_get, Option, Some, None, IsSome, IfSome, refl, sym, ap, subst, ◌∙◌, arith}
-use Rattle.arena.specs.declared.layout.Layout.{Layout}
-use Rattle.arena.specs.declared.step.Row.{Row}
-use Rattle.arena.specs.declared.word.NodeWord.{NodeWord}
-use Rattle.arena.specs.declared.word.NodeWord.TheVariants.{Child}
-use Rattle.arena.specs.declared.word.Side.{Side}
-use Rattle.arena.specs.declared.word.Side.TheVariants.{Left}
-use Rattle.arena.specs.declared.word.Word.{Word}
-use Rattle.arena.specs.declared.word.Word.TheVariants.{Node, Scx}
-use Rattle.arena.specs.Fills.{IsOwnNode}
-use Rattle.arena.specs.History.{History, value}
-use Rattle.arena.specs.Lawful.{IsWin}
-use Rattle.arena.specs.Log.{entry}
-use Rattle.arena.specs.ScxRecords.{member, plan, new, field_index, side_of}
-use Rattle.arena.specs.Words.{node, child, first_value}
-use Rattle.script.specs.declared.call.Call.{Call}
-use Rattle.script.specs.declared.command.Command.TheVariants.{Vlx}
-use Rattle.script.specs.declared.cells.CellList.{CellList}
-use Rattle.script.specs.Cells.{cells_of}
+use Rattle.histories.specs.Common.{Layout, Row, NodeWord, Child, Side, Left, Word, Node, Scx, IsOwnNode, History, value, IsWin, entry, member, plan, new, field_index, side_of, node, child, first_value}
+use Rattle.record.specs.Common.{Call, Vlx, CellList, cells_of, next_command, linked, history, begin, start, IsEntryOver}
 use Rattle.record.specs.declared.record.Line.{Line}
-use Rattle.record.specs.Commands.{next_command}
-use Rattle.record.specs.Linked.{linked}
-use Rattle.record.specs.Turns.{history, begin, start}
-use Rattle.record.specs.Updates.{IsEntryOver}
 use Rattle.judge.specs.Histories.{seen_history}
 use Rattle.audit.specs.CellCalls.{IsOverCells, IsFreshWith, IsCallSeen, AreSameAt}
 use Rattle.audit.specs.Remembered.{AreStepsOf, AreSnapshotsOf, AreRemembered}

@@ -3,9 +3,7 @@ use Rattle.std.proofs.Common.{◌≡◌, ℕ, zero, suc, ◌+◌, ◌<◌, Bool,
 use Rattle.std.specs.List.{Contains}
 use Rattle.std.proofs.lemmas.Grind.{get_or_default_zero}
 use Rattle.std.proofs.lemmas.Bool.{false≢true}
-use Rattle.arena.specs.History.{History}
-use Rattle.arena.specs.Log.{has, members_from, finalized_from}
-use Rattle.arena.specs.ScxRecords.{member, count, scx_finalizes}
+use Rattle.histories.specs.Common.{History, has, members_from, finalized_from, member, count, scx_finalizes}
 use Rattle.script.specs.Part.{is_subsequence}
 use Rattle.audit.specs.CellCalls.{IsOverCells}
 

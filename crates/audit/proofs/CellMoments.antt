@@ -1,15 +1,8 @@
 -- Moments of a history, by how many rows they have, and what looks and snapshots say.
 use Rattle.std.proofs.Common.{◌≡◌, ℕ, ◌<◌, false, slice_get, inr, Option, Some, None, IsSome, refl, sym, ap, subst, ◌∙◌, arith}
-use Rattle.arena.specs.declared.layout.Layout.{Layout}
-use Rattle.arena.specs.declared.step.Kind.{Kind}
-use Rattle.arena.specs.declared.step.Kind.TheVariants.{LoadInfo}
-use Rattle.arena.specs.Found.{IsLastStep, HasFound}
-use Rattle.arena.specs.History.{History, ◌⊳◌, Extends, value}
-use Rattle.arena.specs.Log.{log, last, is_final}
-use Rattle.arena.specs.Words.{info}
+use Rattle.histories.specs.Common.{Layout, Kind, LoadInfo, IsLastStep, HasFound, History, ◌⊳◌, Extends, value, log, last, is_final, info}
 use Rattle.arena.proofs.Lemmas.{ends_self, ends_trans}
-use Rattle.record.specs.Answers.{IsAsSnapped}
-use Rattle.record.specs.Snapshots.{IsLastLook}
+use Rattle.record.specs.Common.{IsAsSnapped, IsLastLook}
 use Rattle.audit.specs.Remembered.{IsMomentAt, IsLookOf, IsSnapshotOf, AreSnapshotsOf}
 use Rattle.audit.proofs.RowMoments.{moment_before}
 use Rattle.audit.specs.declared.memory.FoundInfo.{FoundInfo}

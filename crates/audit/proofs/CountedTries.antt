@@ -1,11 +1,6 @@
 -- The tries of a client's call are those that its lines show.
-use Rattle.std.proofs.Common.{◌≡◌, ℕ, suc, ◌<◌, ◌≤◌, Bool, true, false, cond, inr, refl, sym, ◌∙◌, ap, subst, arith}
-use Rattle.std.proofs.lemmas.Bool.{ne_eqb}
-use Rattle.arena.specs.declared.layout.Layout.{Layout}
-use Rattle.arena.specs.declared.step.Row.{Row}
-use Rattle.arena.specs.Blame.{WasInTheWay}
-use Rattle.arena.specs.Fills.{IsOthersScx}
-use Rattle.arena.specs.History.{History, Start, ◌⊳◌, Extends}
+use Rattle.std.proofs.Common.{◌≡◌, ℕ, suc, ◌<◌, ◌≤◌, Bool, true, false, cond, inr, refl, sym, ◌∙◌, ap, subst, arith, ne_eqb}
+use Rattle.histories.specs.Common.{Layout, Row, WasInTheWay, IsOthersScx, History, Start, ◌⊳◌, Extends}
 use Rattle.arena.proofs.Lemmas.{ends_self}
 use Rattle.ordered_map.specs.Tries.{begins_try, tries_begun}
 use Rattle.record.specs.Answers.{HasLostAllTries}

@@ -3,49 +3,27 @@
 -- of this crate speak of any call.
 use Rattle.std.proofs.Common.{◌≡◌, ℕ, ◌-◌, ◌<◌, ◌≤◌, ◌⊎◌, inr, Bool, true, false, cond, List, Option, Some, None, option_map, refl, sym, ◌∙◌, ap, subst, arith}
 use native.Mathlib.Decide.{ℕ_discrete}
-use Rattle.arena.specs.declared.layout.Layout.{Layout}
-use Rattle.arena.specs.declared.fault.Resource.{Resource}
-use Rattle.arena.specs.declared.number.NodeNo.{NodeNo}
-use Rattle.arena.specs.declared.number.ScxNo.{ScxNo}
-use Rattle.arena.specs.declared.step.Row.{Row as StepRow}
-use Rattle.arena.specs.History.{History, ◌⊳◌, value}
-use Rattle.arena.specs.Lawful.{IsWin}
-use Rattle.arena.specs.Log.{Entry as Entered}
+use Rattle.histories.specs.Common.{Layout, Resource, NodeNo, ScxNo, Row as StepRow, History, ◌⊳◌, value, IsWin, Entry as Entered, Side}
 use Rattle.arena.proofs.Lemmas.{ends_self}
-use Rattle.ordered_map.specs.CallRules.{need, nodes_at, nodes_there}
-use Rattle.arena.specs.declared.word.Side.{Side}
+use Rattle.record.specs.Common.{need, MapCall, Edit, MapReply, OneValue, MapEdit, IsRising, changes_map, edit_key, edit_of, edit_to, edited, get, leaves, pair, pair_or_none, reply}
+use Rattle.record.specs.Common.{map_request, IsTreeRun, Makes, Spells, said, Pair, Value, Pairs, Contended, NoMemory, Full as FullOf, Request, Goal, Key, End, Call, Command, Map}
+use Rattle.record.specs.Common.{HasItsEntry, HasLostAllTries, enters, linked, map_at, map_call, reply_told, IsPlacedOnMap, IsFitting, tells_change, IsMapEntry, history, start, won}
+use Rattle.ordered_map.specs.CallRules.{nodes_at, nodes_there}
 use Rattle.ordered_map.specs.MapLaws.{IsEndmost}
-use Rattle.ordered_map.specs.OrderedMap.{MapCall, Edit, Get, Neighbour, Range, MapReply, OneValue, MapEdit, Delete, IsRising, applies, changes_map, delete, edit_by, edit_key, edit_of, edit_to, edited, end_pair, get, leaves, pair, pair_or_none, reply}
-use Rattle.ordered_map.specs.Requests.{edit_in, map_request}
-use Rattle.ordered_map.specs.Runs.{IsTreeRun, Makes}
-use Rattle.ordered_map.specs.Spelled.{Spells}
+use Rattle.ordered_map.specs.OrderedMap.{Get, Neighbour, Range, Delete, applies, delete, edit_by, end_pair}
+use Rattle.ordered_map.specs.Requests.{edit_in}
 use Rattle.ordered_map.specs.TreeShape.{edit_leaf}
-use Rattle.ordered_map.specs.TreeWords.{said}
-use Rattle.ordered_map.specs.declared.pair.Pair.{Pair}
-use Rattle.ordered_map.specs.declared.reply.Reply.TheVariants.{Value, Pair as PairOf, Pairs, Contended, NoMemory, Full as FullOf}
-use Rattle.ordered_map.specs.declared.request.Request.{Request}
-use Rattle.ordered_map.specs.declared.rule.Goal.{Goal}
-use Rattle.ordered_map.specs.declared.rule.Goal.TheVariants.{Key, End}
+use Rattle.ordered_map.specs.declared.reply.Reply.TheVariants.{Pair as PairOf}
 use Rattle.ordered_map.specs.declared.rule.Rule.{Rule}
 use Rattle.ordered_map.proofs.Lemmas.{deleted, delete_keeps, end_had, end_is, makes_since, one_spelling, win_end, win_makes}
-use Rattle.script.specs.declared.call.Call.{Call}
-use Rattle.script.specs.declared.command.Command.{Command}
-use Rattle.script.specs.declared.command.Command.TheVariants.{Map}
 use Rattle.record.specs.declared.record.Line.{Line}
 use Rattle.record.specs.declared.record.Finished.{Finished}
 use Rattle.record.specs.declared.record.Answer.{Answer}
 use Rattle.record.specs.declared.record.Answer.TheVariants.{Map as MapAnswer}
-use Rattle.record.specs.Answers.{HasItsEntry, HasLostAllTries}
-use Rattle.record.specs.CommandRules.{enters}
-use Rattle.record.specs.Linked.{linked}
-use Rattle.record.specs.MapRecord.{map_at, map_call, reply_told}
-use Rattle.record.specs.Placed.{IsPlacedChangeOrReading, IsPlacedOnMap}
-use Rattle.record.specs.Replies.{IsFitting}
+use Rattle.record.specs.Placed.{IsPlacedChangeOrReading}
 use Rattle.record.specs.Rules.Edit.{EditIsRight, EditTells, HasChangedOrReplied}
-use Rattle.ordered_map.specs.Requests.{tells_change}
-use Rattle.record.specs.Rules.Map.{IsMapEntry, RepliesAfterStep, own_rules}
+use Rattle.record.specs.Rules.Map.{RepliesAfterStep, own_rules}
 use Rattle.record.specs.Shares.{HasTooFewToTry}
-use Rattle.record.specs.Turns.{history, start, won}
 use Rattle.record.proofs.Lemmas.{value_told}
 use Rattle.linearization.specs.declared.places.Change.{Change}
 use Rattle.linearization.proofs.Lemmas.{ordered_placed}

@@ -2,10 +2,9 @@
 use Rattle.std.proofs.Common.{◌≡◌, ◌∙◌, ◌+◌, ◌-◌, ◌≤◌, ℕ, zero, suc, List, [], ◌∷◌, ◌++◌, Result, Err, length, take, reverse, refl, ap, subst, arith}
 use Rattle.std.proofs.lemmas.List.{reverse-append}
 use Rattle.arena.specs.declared.layout.Layout.{Layout}
-use Rattle.script.specs.declared.call.Call.{Call}
+use Rattle.record.specs.Common.{Call, AreLines}
 use Rattle.record.specs.declared.record.Line.{Line}
 use Rattle.record.specs.declared.record.Record.{Record}
-use Rattle.record.specs.LawfulRun.{AreLines}
 use Rattle.audit.specs.After.{lines_of, IsAfter}
 use Rattle.audit.specs.Faults.{first_row, MayBeAtFault}
 use Rattle.audit.specs.declared.run.Replay.{Replay}

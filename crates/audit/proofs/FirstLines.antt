@@ -1,9 +1,7 @@
 -- What is remembered of no line.
 use Rattle.std.proofs.Common.{◌≡◌, ℕ, true, false, List, [], length, None, refl}
-use Rattle.arena.specs.declared.layout.Layout.{Layout}
-use Rattle.arena.specs.History.{Start}
-use Rattle.script.specs.declared.call.Call.{Call}
-use Rattle.record.specs.LawfulRun.{AreLines}
+use Rattle.histories.specs.Common.{Layout, Start}
+use Rattle.record.specs.Common.{Call, AreLines}
 use Rattle.judge.specs.Histories.{Judged, seen_history}
 use Rattle.audit.specs.After.{IsSoFar, AreClientsAfter}
 use Rattle.audit.specs.declared.client.ClientState.{ClientState}

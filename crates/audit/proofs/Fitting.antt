@@ -4,42 +4,24 @@ use Rattle.std.proofs.lemmas.Bool.{ne_eqb}
 use Rattle.std.proofs.lemmas.List.{reverse-append, reverse-reverse, length-set}
 use Rattle.std.proofs.Math.Seq.{take-suc, take-length}
 use Rattle.std.proofs.lemmas.Option.{slice_get_within, get_or_from_slice_get}
-use Rattle.arena.specs.declared.layout.Layout.{Layout}
-use Rattle.arena.specs.declared.number.PassNo.{PassNo}
-use Rattle.arena.specs.declared.number.NodeNo.{NodeNo}
-use Rattle.arena.specs.declared.number.ScxNo.{ScxNo}
-use Rattle.arena.specs.declared.step.Row.{Row as StepRow}
-use Rattle.arena.specs.declared.step.Kind.TheVariants.{Update}
-use Rattle.arena.specs.declared.word.Side.{Side}
-use Rattle.arena.specs.declared.word.Word.{Word}
-use Rattle.arena.specs.declared.word.Word.TheVariants.{Node, Scx}
-use Rattle.arena.specs.declared.word.NodeWord.TheVariants.{Settled, Child, Info, Marked}
+use Rattle.histories.specs.Common.{Layout, PassNo, NodeNo, ScxNo, Row as StepRow, Update, Side, Word, Node, Scx, Settled, Child, Info, Marked, child}
+use Rattle.histories.specs.Common.{info, scx, first_scx, History, ◌⊳◌, value, IsLawful, IsWin, Lawful, owner, log, entry as entered, taken_nodes}
 use Rattle.arena.specs.declared.word.ScxWord.TheVariants.{Call as CallWord}
-use Rattle.arena.specs.Words.{child, info, scx}
-use Rattle.arena.specs.Layout.{first_scx}
-use Rattle.arena.specs.History.{History, ◌⊳◌, value}
-use Rattle.arena.specs.Lawful.{IsLawful, IsWin, Lawful}
 use Rattle.histories.proofs.Lemmas.{fields_are, finalized_since, lawful_since, once}
-use Rattle.arena.specs.Log.{owner, log, entry as entered}
-use Rattle.arena.specs.TakenNodes.{taken_nodes}
 use Rattle.std.proofs.Math.Nat.{div-eq_of_lt-le}
-use Rattle.script.specs.declared.call.Call.{Call}
-use Rattle.script.specs.declared.command.Command.{Command}
+use Rattle.record.specs.Common.{Call, Command, next_command, command_steps, MayAnswerAtOnce, MayAnswerAfterStep, IsRight, IsPlaced, HasTakenFew, IsEntryFor, enters, HasItsEntry}
+use Rattle.record.specs.Common.{linked, IsWinOf, AreLines, OwesNothing, IsLawfulRun, IsReplyOwed, IsFitting, history, clients, entries, start, entry_at, entry_of, is_update}
 use Rattle.record.specs.declared.record.Line.{Line}
 use Rattle.record.specs.declared.record.Line.TheVariants.{Step, Log, Reply as ReplyLine}
 use Rattle.record.specs.declared.record.TurnRow.TheVariants.{Step as Made, Idle}
 use Rattle.record.specs.declared.record.Entry.{Entry}
 use Rattle.record.specs.declared.record.Finished.{Finished}
-use Rattle.record.specs.Commands.{next_command}
 use Rattle.record.specs.declared.record.Answer.{Answer}
-use Rattle.record.specs.CommandRules.{command_steps, MayMake, MayAnswerAtOnce, MayAnswerAfterStep, IsRight, IsPlaced, HasTakenFew, IsEntryFor, enters}
-use Rattle.record.specs.Answers.{HasItsEntry}
-use Rattle.record.specs.Linked.{linked}
-use Rattle.record.specs.Entries.{IsLog, IsWinOf}
-use Rattle.record.specs.LawfulRun.{AreLines, OwesNothing, IsLawfulRun, IsWhole}
-use Rattle.record.specs.Replies.{IsReply, IsReplyOwed, IsFitting}
+use Rattle.record.specs.CommandRules.{MayMake}
+use Rattle.record.specs.Entries.{IsLog}
+use Rattle.record.specs.LawfulRun.{IsWhole}
+use Rattle.record.specs.Replies.{IsReply}
 use Rattle.record.specs.Steps.{IsStep, IsIdleTurn, SaysItsCall}
-use Rattle.record.specs.Turns.{history, clients, entries, start, entry_at, entry_of, is_update}
 use Rattle.audit.specs.Calls.{StandsNext}
 use Rattle.audit.proofs.AfterLines.{idle_clients, log_clients, ended_clients, AreStepped, stepped_clients, unwon_clients, won_clients, get_there}
 use Rattle.judge.specs.Histories.{Judged, seen_history}

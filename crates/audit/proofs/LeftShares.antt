@@ -1,9 +1,6 @@
 -- What calls have taken, by what was left of a share before and is left now.
 use Rattle.std.proofs.Common.{ℕ, ◌+◌, ◌-◌, ◌*◌, ◌<◌, ◌≤◌, arith}
-use Rattle.arena.specs.declared.layout.Layout.{Layout}
-use Rattle.arena.specs.Fills.{IsOwnScx}
-use Rattle.arena.specs.History.{History}
-use Rattle.arena.specs.Layout.{first_node, first_scx}
+use Rattle.histories.specs.Common.{Layout, IsOwnScx, History, first_node, first_scx}
 use Rattle.record.specs.Shares.{HasNodesLeft, HasScxLeft, HasTakenAtMost}
 
 -- what a call has taken is the difference

@@ -4,24 +4,14 @@ use Rattle.std.specs.Cmp.Lexicographic.{pointwise}
 use Rattle.std.proofs.lemmas.Bool.{and_parts, eqb-true, ltb-true, ltb-false}
 use Rattle.std.proofs.lemmas.List.{map-append, length-append}
 use native.Mathlib.Decide.{ℕ_discrete}
-use Rattle.arena.specs.declared.word.NodeWord.TheVariants.{Settled}
-use Rattle.arena.specs.declared.word.SettledPart.TheVariants.{More}
-use Rattle.arena.specs.declared.word.Side.{Side}
-use Rattle.arena.specs.declared.word.Side.TheVariants.{Left, Right}
-use Rattle.arena.specs.declared.word.Slot.{Slot}
-use Rattle.arena.specs.declared.word.Slot.TheVariants.{First}
-use Rattle.arena.specs.declared.word.Word.{Word}
-use Rattle.arena.specs.History.{History, value}
-use Rattle.arena.specs.ScxRecords.{plan, member, new, old}
-use Rattle.arena.specs.Words.{node, child}
-use Rattle.ordered_map.specs.declared.pair.Pair.{Pair}
-use Rattle.ordered_map.specs.OrderedMap.{MapEdit, AllAbove, AllBelow, AllFrom, pair, edit_key, edit_to, edited, first_pair, last_pair}
+use Rattle.histories.specs.Common.{Settled, More, Side, Left, Right, Slot, First, Word, History, value, plan, member, new, old, node, child}
+use Rattle.record.specs.Common.{Pair, MapEdit, AllAbove, pair, edit_key, edit_to, edited, first_pair, class, is_leaf, said, toward, number_pairs}
+use Rattle.ordered_map.specs.OrderedMap.{AllBelow, AllFrom, last_pair}
 use Rattle.ordered_map.specs.Holding.{slot_behind, pair_in, held_from, held_behind, held_pairs, IsWellCounted}
-use Rattle.ordered_map.specs.TreeWords.{class, is_leaf, level, rank, leaf_items, leaf_pairs, said, toward}
+use Rattle.ordered_map.specs.TreeWords.{level, rank, leaf_items, leaf_pairs}
 use Rattle.ordered_map.specs.Edits.{IsLowLeaf, IsLastLeaf, IsSplitBy, IsLeafEdit}
 use Rattle.ordered_map.specs.TreeShape.{EditsLeaf, leaf_plan}
 use Rattle.ordered_map.proofs.Lemmas.{edited_local, held_next, held_count, counted_few, low_items, high_items, low_pairs, high_pairs}
-use Rattle.record.specs.MapRecord.{number_pairs}
 use Rattle.audit.specs.Edits.{AreToward, IsAlike, IsInFront, key_in}
 
 -- The place of an edit

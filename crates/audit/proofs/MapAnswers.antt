@@ -1,21 +1,14 @@
 -- What is found of a call of the map, whichever it is, and where it took place.
 use Rattle.std.proofs.Common.{◌≡◌, ℕ, suc, ◌-◌, ◌≤◌, ◌⊎◌, inl, inr, false, List, [], ◌∷◌, is_some, Option, Some, None, refl, sym, ◌∙◌, ap, subst, arith}
 use Rattle.arena.specs.declared.layout.Layout.{Layout}
-use Rattle.ordered_map.specs.OrderedMap.{MapCall, OneValue, get, reply}
-use Rattle.ordered_map.specs.declared.pair.Pair.{Pair}
-use Rattle.script.specs.declared.call.Call.{Call}
-use Rattle.script.specs.declared.command.Command.{Command}
+use Rattle.record.specs.Common.{MapCall, OneValue, get, reply, Pair, Call, Command, IsRight, IsPlaced, MayAnswerAtOnce, MayAnswerAfterStep}
+use Rattle.record.specs.Common.{linked, map_at, map_of, reply_told, written_log, entries_of_call, IsFitting, history, turns, start, won}
 use Rattle.record.specs.declared.record.Line.{Line}
 use Rattle.record.specs.declared.record.Line.TheVariants.{Step, Log, Reply as ReplyLine}
 use Rattle.record.specs.declared.record.TurnRow.TheVariants.{Step as Made, Idle}
 use Rattle.record.specs.declared.record.Finished.{Finished}
 use Rattle.record.specs.declared.record.Answer.{Answer}
-use Rattle.record.specs.CommandRules.{IsRight, IsPlaced, MayAnswerAtOnce, MayAnswerAfterStep}
-use Rattle.record.specs.Linked.{linked}
-use Rattle.record.specs.MapRecord.{map_at, map_of, reply_told, written_log, entries_of_call}
 use Rattle.record.specs.Placed.{IsPlacedChange}
-use Rattle.record.specs.Replies.{IsFitting}
-use Rattle.record.specs.Turns.{history, turns, start, won}
 use Rattle.record.proofs.Lemmas.{begin_within, value_told}
 use Rattle.linearization.specs.declared.places.Change.{Change}
 use Rattle.linearization.specs.Ordered.{FallFrom}

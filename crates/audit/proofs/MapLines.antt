@@ -1,39 +1,15 @@
 -- What is remembered of the map stays what the lines say.
 use Rattle.std.proofs.Common.{◌≡◌, ℕ, zero, suc, Bool, true, false, cond, eqb, List, [], ◌∷◌, Some, None, Option, IfSome, IsSome, slice_get, set, replicate, All, refl, sym, ◌∙◌, ap, subst, arith}
 use Rattle.std.proofs.lemmas.List.Elements.{All-tail}
-use Rattle.arena.specs.declared.limits.Mode.{Mode}
-use Rattle.arena.specs.declared.limits.Mode.TheVariants.{Tree, Records}
-use Rattle.arena.specs.declared.layout.Layout.{Layout}
-use Rattle.arena.specs.declared.number.PassNo.{PassNo}
-use Rattle.arena.specs.declared.step.Row.{Row as StepRow}
-use Rattle.arena.specs.History.{History, ◌⊳◌, value}
-use Rattle.arena.specs.Lawful.{Lawful, IsLawful, IsWin}
-use Rattle.arena.specs.Log.{Entry as Entered}
-use Rattle.arena.specs.Machines.{IsRun}
-use Rattle.arena.specs.Shape.{Shaped, IsBegin}
-use Rattle.ordered_map.specs.FillOrder.{HasRisingLevels}
-use Rattle.ordered_map.specs.TreeShape.{TreeAllows}
-use Rattle.ordered_map.specs.declared.pair.Pair.{Pair}
-use Rattle.ordered_map.specs.OrderedMap.{MapCall}
-use Rattle.ordered_map.specs.Runs.{IsTreeRun}
-use Rattle.ordered_map.specs.Spelled.{Spells}
-use Rattle.ordered_map.specs.Requests.{map_request}
-use Rattle.script.specs.declared.call.Call.{Call}
-use Rattle.script.specs.declared.command.Command.{Command}
-use Rattle.script.specs.declared.command.Command.TheVariants.{Llx as LlxOf, Scx as ScxOf, Vlx as VlxOf, Set as SetOf, Map}
-use Rattle.script.specs.Commands.{mode_of}
+use Rattle.histories.specs.Common.{Mode, Tree, Records, Layout, PassNo, Row as StepRow, History, ◌⊳◌, value, Lawful, IsLawful, IsWin, Entry as Entered, IsRun, Shaped, IsBegin}
+use Rattle.record.specs.Common.{HasRisingLevels, TreeAllows, Pair, MapCall, IsTreeRun, Spells, map_request, Call, Command, Llx as LlxOf, Scx as ScxOf, Vlx as VlxOf, Set as SetOf, Map, mode_of}
+use Rattle.record.specs.Common.{IsEntryFor, commands, next_command, IsWinOf, AreLines, map_call, map_call_of, map_of, written_log, AreSpelled, IsSpelledAfter, history, answered, entry_owed}
 use Rattle.record.specs.declared.record.Line.{Line}
 use Rattle.record.specs.declared.record.Line.TheVariants.{Step, Log, Reply as ReplyLine}
 use Rattle.record.specs.declared.record.TurnRow.TheVariants.{Step as Made, Idle}
 use Rattle.record.specs.declared.record.Entry.{Entry}
 use Rattle.record.specs.declared.record.Finished.{Finished}
-use Rattle.record.specs.CommandRules.{IsEntryFor}
-use Rattle.record.specs.Commands.{commands, next_command}
-use Rattle.record.specs.Entries.{IsWinOf}
-use Rattle.record.specs.LawfulRun.{AreLines, IsWhole}
-use Rattle.record.specs.MapRecord.{map_call, map_call_of, map_of, written_log}
-use Rattle.record.specs.SpelledMap.{AreSpelled, IsSpelledAfter}
-use Rattle.record.specs.Turns.{history, answered, entry_owed}
+use Rattle.record.specs.LawfulRun.{IsWhole}
 use Rattle.record.proofs.Lemmas.{AreMapCalls, lawful_is_legal}
 use Rattle.linearization.specs.declared.places.Change.{Change}
 use Rattle.linearization.specs.Entries.{IsChangeBy}

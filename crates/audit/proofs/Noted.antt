@@ -1,19 +1,8 @@
 -- What is remembered of the steps, after one more.
 use Rattle.std.proofs.Common.{◌≡◌, ◌≢◌, ℕ, zero, suc, ◌+◌, ◌^◌, ◌<◌, ◌≤◌, ◌↔◌, ◌⊎◌, inl, inr, ⊎_elim, Bool, true, false, ◌||◌, eqb, List, [], ◌∷◌, ◌++◌, length, set, slice_get, Option, Some, None, refl, sym, ◌∙◌, ap, subst, add-one, arith}
 use native.Mathlib.Decide.{ℕ_discrete}
-use Rattle.arena.specs.declared.layout.Layout.{Layout}
-use Rattle.arena.specs.declared.step.Row.{Row}
-use Rattle.arena.specs.declared.step.Kind.{Kind}
-use Rattle.arena.specs.declared.step.Kind.TheVariants.{LoadInfo, Freeze}
-use Rattle.arena.specs.declared.word.Side.{Side}
-use Rattle.arena.specs.declared.word.Word.{Word}
-use Rattle.arena.specs.declared.word.ScxWord.TheVariants.{Member}
-use Rattle.arena.specs.Blame.{IsInProgress}
-use Rattle.arena.specs.History.{History, ◌⊳◌, Extends, value}
-use Rattle.arena.specs.Lawful.{IsLawful}
-use Rattle.arena.specs.Log.{Entry, entry, log, has, is_final, finalized_from}
-use Rattle.arena.specs.ScxRecords.{count, plan}
-use Rattle.arena.specs.Words.{child, scx}
+use Rattle.histories.specs.Common.{Layout, Row, Kind, LoadInfo, Freeze, Side, Word, Member, IsInProgress, History, ◌⊳◌, Extends}
+use Rattle.histories.specs.Common.{value, IsLawful, Entry, entry, log, has, is_final, finalized_from, count, plan, child, scx}
 use Rattle.arena.proofs.Lemmas.{ends_self, last_more, last_now, plan_counted, value_apart, or_split, or_right}
 use Rattle.histories.proofs.Lemmas.{is_removed_of}
 use Rattle.script.specs.declared.command.Command.{Command}

@@ -1,32 +1,18 @@
 -- What is remembered of a call that is refused makes its answer right.
 use Rattle.std.proofs.Common.{◌≡◌, ℕ, ◌<◌, List, Option, Some, IsSome, refl, sym, subst, None}
-use Rattle.arena.specs.declared.layout.Layout.{Layout}
-use Rattle.arena.specs.declared.fault.Resource.{Resource}
-use Rattle.arena.specs.declared.number.NodeNo.{NodeNo}
-use Rattle.arena.specs.declared.number.ScxNo.{ScxNo}
-use Rattle.script.specs.declared.call.Call.{Call}
-use Rattle.script.specs.declared.command.Command.{Command}
-use Rattle.ordered_map.specs.declared.reply.Reply.TheVariants.{Contended, NoMemory, Full as FullOf}
-use Rattle.ordered_map.specs.declared.request.Request.{Request}
-use Rattle.script.specs.declared.command.Command.TheVariants.{Map}
+use Rattle.histories.specs.Common.{Layout, Resource, NodeNo, ScxNo}
+use Rattle.record.specs.Common.{Call, Command, Contended, NoMemory, Full as FullOf, Request, Map, HasLostAllTries, IsRight, IsPlaced, linked, IsFitting}
+use Rattle.record.specs.Common.{history, begin, start, won, MapCall, MapReply, map_call, reply_told, written_log, entries_of_call, IsPlacedOnMap, map_request}
 use Rattle.record.specs.declared.record.Line.{Line}
 use Rattle.record.specs.declared.record.Finished.{Finished}
 use Rattle.record.specs.declared.record.Answer.{Answer}
 use Rattle.record.specs.declared.record.Answer.TheVariants.{Map as MapAnswer}
-use Rattle.record.specs.Answers.{HasLostAllTries}
-use Rattle.record.specs.CommandRules.{IsRight, IsPlaced}
-use Rattle.record.specs.Linked.{linked}
-use Rattle.record.specs.Replies.{IsFitting}
 use Rattle.record.specs.Shares.{HasTooFewToTry}
-use Rattle.record.specs.Turns.{history, begin, start, won}
 use Rattle.linearization.specs.declared.places.Change.{Change}
 use Rattle.audit.specs.Asked.{IsAsked, NeededSomething, NeededWithin}
 use Rattle.audit.specs.declared.client.ClientState.{ClientState}
-use Rattle.ordered_map.specs.OrderedMap.{MapCall, MapReply}
-use Rattle.record.specs.MapRecord.{map_call, reply_told, written_log, entries_of_call}
-use Rattle.record.specs.Placed.{IsRefused, IsPlacedOnMap}
+use Rattle.record.specs.Placed.{IsRefused}
 use Rattle.record.proofs.Lemmas.{entries_none}
-use Rattle.ordered_map.specs.Requests.{map_request}
 use Rattle.audit.proofs.EachCall.{contended_right, full_right, memory_right, refused_unwon}
 use Rattle.audit.proofs.MapAnswers.{either_fits}
 

@@ -1,36 +1,18 @@
 -- What is remembered of the steps stays what the lines say.
-use Rattle.std.proofs.Common.{◌≡◌, ◌≢◌, ℕ, suc, ◌^◌, ◌<◌, Bool, true, false, cond, ◌||◌, eq-eqb, is_some, IsSome, IfSome, IfNone, unwrap_or, List, ◌∷◌, length, set, Option, Some, None, slice_get, refl, sym, ◌∙◌, ap, subst, arith}
-use Rattle.std.proofs.lemmas.Bool.{ne_eqb}
-use Rattle.std.proofs.lemmas.List.{length-set}
+use Rattle.std.proofs.Common.{◌≡◌, ◌≢◌, ℕ, suc, ◌^◌, ◌<◌, Bool, true, false, cond, ◌||◌, eq-eqb, is_some, IsSome, IfSome, IfNone, unwrap_or, List, ◌∷◌, length, set, Option, Some, None, slice_get, refl, sym, ◌∙◌, ap, subst}
+use Rattle.std.proofs.Common.{arith, ne_eqb, length-set}
 use Rattle.std.proofs.lemmas.Option.{slice_get_within}
 use native.Mathlib.Decide.{ℕ_discrete}
-use Rattle.arena.specs.declared.layout.Layout.{Layout}
-use Rattle.arena.specs.declared.number.PassNo.{PassNo}
-use Rattle.arena.specs.declared.number.ScxNo.{ScxNo}
-use Rattle.arena.specs.declared.step.Row.{Row}
-use Rattle.arena.specs.declared.word.Side.{Side}
-use Rattle.arena.specs.Blame.{IsInProgress}
-use Rattle.arena.specs.History.{History, ◌⊳◌, Extends}
-use Rattle.arena.specs.Lawful.{IsLawful}
-use Rattle.arena.specs.Log.{entry, log, is_final}
-use Rattle.arena.specs.Words.{child}
+use Rattle.histories.specs.Common.{Layout, PassNo, ScxNo, Row, Side, IsInProgress, History, ◌⊳◌, Extends, IsLawful, entry, log, is_final, child}
 use Rattle.arena.proofs.Lemmas.{ends_self}
-use Rattle.script.specs.declared.cells.CellList.{CellList}
-use Rattle.script.specs.declared.call.Call.{Call}
-use Rattle.script.specs.declared.command.Command.{Command}
-use Rattle.script.specs.declared.command.Command.TheVariants.{Vlx}
-use Rattle.script.specs.Cells.{cells_of}
+use Rattle.record.specs.Common.{CellList, Call, Command, Vlx, cells_of, commands, next_command, linked, HasNodesLeft, HasScxLeft, history, begin, start, answered}
 use Rattle.record.specs.declared.record.Entry.{Entry}
 use Rattle.record.specs.declared.record.Finished.{Finished}
 use Rattle.record.specs.declared.record.Line.{Line}
 use Rattle.record.specs.declared.record.Line.TheVariants.{Step, Log, Reply as ReplyLine}
 use Rattle.record.specs.declared.record.TurnRow.TheVariants.{Step as Made, Idle}
 use Rattle.record.specs.CommandRules.{linked_then}
-use Rattle.record.specs.Commands.{commands, next_command}
-use Rattle.record.specs.Linked.{linked}
-use Rattle.record.specs.Shares.{HasNodesLeft, HasScxLeft}
 use Rattle.judge.specs.Histories.{seen_history}
-use Rattle.record.specs.Turns.{history, begin, start, answered}
 use Rattle.record.proofs.Lemmas.{start_unbegun, start_kept}
 use Rattle.audit.specs.declared.client.ClientState.{ClientState}
 use Rattle.audit.specs.declared.memory.Memory.{Memory}

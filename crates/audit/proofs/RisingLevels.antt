@@ -1,18 +1,6 @@
 -- Levels still rise after a row that is stored where they do.
 use Rattle.std.proofs.Common.{◌≡◌, ◌≢◌, ℕ, ◌<◌, ◌⊎◌, inl, inr, ⊎_elim, Bool, true, false, cond, refl, sym, ◌∙◌, ap, subst}
-use Rattle.arena.specs.declared.word.Side.{Side}
-use Rattle.arena.specs.declared.word.NodeWord.TheVariants.{Settled, Child}
-use Rattle.arena.specs.declared.word.SettledPart.{SettledPart}
-use Rattle.arena.specs.declared.word.SettledPart.TheVariants.{Head}
-use Rattle.arena.specs.declared.word.NodeWord.{NodeWord}
-use Rattle.arena.specs.declared.word.ScxWord.{ScxWord}
-use Rattle.arena.specs.declared.number.NodeNo.{NodeNo}
-use Rattle.arena.specs.declared.number.ScxNo.{ScxNo}
-use Rattle.arena.specs.declared.word.Word.{Word}
-use Rattle.arena.specs.declared.word.Word.TheVariants.{Node, Scx}
-use Rattle.arena.specs.declared.step.Row.{Row}
-use Rattle.arena.specs.Words.{node, child, same_word}
-use Rattle.arena.specs.History.{History, ◌⊳◌, value, HasHeld}
+use Rattle.histories.specs.Common.{Side, Settled, Child, SettledPart, Head, NodeWord, ScxWord, NodeNo, ScxNo, Word, Node, Scx, Row, node, child, same_word, History, ◌⊳◌, value, HasHeld}
 use Rattle.arena.proofs.Lemmas.{held_now, node_word_apart, value_apart, value_other, value_quiet, word_same}
 use Rattle.ordered_map.specs.TreeWords.{is_leaf, level}
 use Rattle.ordered_map.specs.FillOrder.{HasStoodInField, HasRisingLevels}

@@ -1,13 +1,6 @@
 -- Moments of a history, by how many rows there were.
 use Rattle.std.proofs.Common.{◌≡◌, ◌≢◌, ℕ, suc, ◌<◌, ◌≤◌, inl, inr, refl, sym, ◌∙◌, ap, subst, arith}
-use Rattle.arena.specs.declared.layout.Layout.{Layout}
-use Rattle.arena.specs.declared.step.Row.{Row}
-use Rattle.arena.specs.declared.word.ScxWord.TheVariants.{Plan, Member}
-use Rattle.arena.specs.Words.{state}
-use Rattle.arena.specs.Blame.{IsMember, IsInProgress, WasInTheWay}
-use Rattle.arena.specs.History.{History, Start, ◌⊳◌, Extends, value}
-use Rattle.arena.specs.Lawful.{Lawful}
-use Rattle.arena.specs.ScxRecords.{count_of, member}
+use Rattle.histories.specs.Common.{Layout, Row, Plan, Member, state, IsMember, IsInProgress, WasInTheWay, History, Start, ◌⊳◌, Extends, value, Lawful, count_of, member}
 use Rattle.arena.proofs.Lemmas.{ends_self, ends_trans}
 use Rattle.histories.proofs.Lemmas.{facts, lawful_since, scx_since}
 use Rattle.audit.specs.Remembered.{row_count, IsMomentAt, WasRunningAt}

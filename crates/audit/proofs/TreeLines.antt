@@ -1,38 +1,14 @@
 -- What is remembered of the tree stays what the lines say.
 use Rattle.std.proofs.Common.{◌≡◌, ℕ, zero, suc, ◌⊎◌, inl, inr, ⊎_elim, ◌∙◌, List, [], ◌∷◌, set, slice_get, Option, Some, None, refl, sym, ap, subst}
-use Rattle.arena.specs.declared.limits.Mode.TheVariants.{Tree}
-use Rattle.arena.specs.declared.layout.Layout.{Layout}
-use Rattle.arena.specs.declared.number.PassNo.{PassNo}
-use Rattle.arena.specs.declared.step.Row.{Row as StepRow}
-use Rattle.arena.specs.declared.step.Kind.{Kind}
-use Rattle.arena.specs.declared.step.Kind.TheVariants.{Freeze, Update}
-use Rattle.arena.specs.History.{History, Start, ◌⊳◌, value, Extends}
-use Rattle.arena.specs.Lawful.{Lawful, IsLawful, IsWin}
-use Rattle.arena.specs.Log.{Entry as Entered}
-use Rattle.arena.specs.Machines.{IsRun}
-use Rattle.arena.specs.Shape.{Shaped, IsBegin}
+use Rattle.histories.specs.Common.{Tree, Layout, PassNo, Row as StepRow, Kind, Freeze, Update, History, Start, ◌⊳◌, value, Extends, Lawful, IsLawful, IsWin, Entry as Entered, IsRun, Shaped, IsBegin}
 use Rattle.arena.proofs.Lemmas.{ends_self}
-use Rattle.ordered_map.specs.declared.pair.Pair.{Pair}
-use Rattle.script.specs.declared.call.Call.{Call}
-use Rattle.script.specs.declared.command.Command.{Command}
-use Rattle.script.specs.declared.command.Command.TheVariants.{Map}
-use Rattle.ordered_map.specs.FillOrder.{HasRisingLevels}
-use Rattle.ordered_map.specs.OrderedMap.{MapCall, MapEdit, edit_key, edit_to, value_left}
-use Rattle.ordered_map.specs.Requests.{map_request}
-use Rattle.ordered_map.specs.Runs.{IsTreeRun, Makes}
-use Rattle.ordered_map.specs.Spelled.{Spells}
-use Rattle.ordered_map.specs.TreeShape.{TreeAllows}
+use Rattle.record.specs.Common.{Pair, Call, Command, Map, HasRisingLevels, MapCall, MapEdit, edit_key, edit_to, value_left, map_request, IsTreeRun}
+use Rattle.record.specs.Common.{Makes, Spells, TreeAllows, IsEntryFor, map_call, written_log, IsMapEntry, AreLines, AreSpelled, history}
 use Rattle.record.specs.declared.record.Line.{Line}
 use Rattle.record.specs.declared.record.Line.TheVariants.{Step, Log, Reply as ReplyLine}
 use Rattle.record.specs.declared.record.TurnRow.TheVariants.{Step as Made, Idle}
 use Rattle.record.specs.declared.record.Entry.{Entry}
 use Rattle.record.specs.declared.record.Finished.{Finished}
-use Rattle.record.specs.CommandRules.{IsEntryFor}
-use Rattle.record.specs.MapRecord.{map_call, written_log}
-use Rattle.record.specs.Rules.Map.{IsMapEntry}
-use Rattle.record.specs.LawfulRun.{AreLines}
-use Rattle.record.specs.SpelledMap.{AreSpelled}
-use Rattle.record.specs.Turns.{history}
 use Rattle.record.proofs.Lemmas.{AreMapCalls}
 use Rattle.linearization.specs.declared.places.Change.{Change}
 use Rattle.linearization.specs.Entries.{IsChangeBy, IsChangeByEdit, IsChangeOf}

@@ -2,31 +2,18 @@
 use Rattle.std.proofs.Common.{◌≡◌, ◌≢◌, ℕ, suc, ◌<◌, ◌≤◌, inl, inr, Bool, true, false, cond, ◌||◌, eqb, is_some, unwrap_or, List, [], ◌∷◌, Option, Some, None, refl, sym, ◌∙◌, ap, subst, arith}
 use Rattle.std.specs.Prelude.{leb}
 use Rattle.std.proofs.lemmas.Bool.{eqb-true, eqb-false, leb-true, cases_order}
-use Rattle.arena.specs.declared.limits.Mode.{Mode}
-use Rattle.arena.specs.declared.layout.Layout.{Layout}
-use Rattle.arena.specs.declared.step.Row.{Row as StepRow}
-use Rattle.arena.specs.History.{History, ◌⊳◌, value, Extends}
+use Rattle.histories.specs.Common.{Mode, Layout, Row as StepRow, History, ◌⊳◌, value, Extends}
 use Rattle.arena.proofs.Lemmas.{ends_self, ends_trans}
-use Rattle.ordered_map.specs.declared.pair.Pair.{Pair}
-use Rattle.ordered_map.specs.CallRules.{need}
-use Rattle.ordered_map.specs.OrderedMap.{MapCall, MapReply, get, reply}
+use Rattle.record.specs.Common.{Pair, need, MapCall, MapReply, get, reply, Spells, Call, Command, client_of, history, turns, last_client, begin, start, entry_owed}
+use Rattle.record.specs.Common.{next_command, written_log, entries_until, map_of, map_at, AreSpelled, IsSpelledAfter, AreLines, HasReplied, IsReplyOwed}
 use Rattle.ordered_map.specs.Paths.{IsAnswerAt}
-use Rattle.ordered_map.specs.Spelled.{Spells}
-use Rattle.script.specs.declared.call.Call.{Call}
-use Rattle.script.specs.declared.command.Command.{Command}
 use Rattle.record.specs.declared.record.Line.{Line}
 use Rattle.record.specs.declared.record.Line.TheVariants.{Step, Log, Reply as ReplyLine}
 use Rattle.record.specs.declared.record.TurnRow.{TurnRow}
 use Rattle.record.specs.declared.record.TurnRow.TheVariants.{Step as Made, Idle}
 use Rattle.record.specs.declared.record.Entry.{Entry}
 use Rattle.record.specs.declared.record.Finished.{Finished}
-use Rattle.record.specs.Turns.{client_of, number_of, history, turns, last_client, begin, start, entry_owed}
-use Rattle.record.specs.Commands.{next_command}
-use Rattle.record.specs.MapRecord.{written_log, entries_until, map_of, map_at}
-use Rattle.record.specs.SpelledMap.{AreSpelled, IsSpelledAfter}
-use Rattle.record.specs.LawfulRun.{AreLines}
-use Rattle.record.specs.Replied.{HasReplied}
-use Rattle.record.specs.Replies.{IsReplyOwed}
+use Rattle.record.specs.Turns.{number_of}
 use Rattle.record.specs.Rules.Edit.{HadToChange}
 use Rattle.record.proofs.Lemmas.{begin_within, log_step, turn_number}
 use Rattle.linearization.proofs.Lemmas.{map_now}

@@ -2,10 +2,7 @@
 use Rattle.std.proofs.Common.{◌≡◌, ℕ, zero, suc, true, false, List, [], length, slice_get, Option, Some, None, refl, sym, ◌∙◌, ap, subst, arith}
 use Rattle.std.proofs.Math.ListN.{replicate}
 use Rattle.std.proofs.lemmas.List.{length-replicate}
-use Rattle.arena.specs.declared.layout.Layout.{Layout}
-use Rattle.arena.specs.History.{History, Start}
-use Rattle.arena.specs.Layout.{all_nodes, all_scx}
-use Rattle.arena.specs.Log.{log, is_final}
+use Rattle.histories.specs.Common.{Layout, History, Start, all_nodes, all_scx, log, is_final}
 use Rattle.script.specs.declared.call.Call.{Call}
 use Rattle.judge.specs.Histories.{seen_history}
 use Rattle.audit.specs.declared.memory.Memory.{Memory}

@@ -1,17 +1,13 @@
 -- The entry of the update that has won in a client's call.
 use Rattle.std.proofs.Common.{◌≡◌, ℕ, suc, ◌≤◌, Bool, true, false, cond, ◌&&◌, eqb, List, [], ◌∷◌, ◌++◌, Some, None, refl, sym, ◌∙◌, ap, arith}
 use Rattle.std.proofs.lemmas.Bool.{eqb-true, eqb-false, eq-eqb, ne_eqb}
-use Rattle.arena.specs.declared.layout.Layout.{Layout}
-use Rattle.arena.specs.declared.step.Row.{Row as StepRow}
-use Rattle.script.specs.declared.call.Call.{Call}
+use Rattle.histories.specs.Common.{Layout, Row as StepRow}
+use Rattle.record.specs.Common.{Call, turns, answered, won, entry_owed, written_log, entries_until, entries_of_call, map_of, map_at, AreLines}
 use Rattle.record.specs.declared.record.Line.{Line}
 use Rattle.record.specs.declared.record.Line.TheVariants.{Step, Log, Reply as ReplyLine}
 use Rattle.record.specs.declared.record.TurnRow.TheVariants.{Step as Made, Idle}
 use Rattle.record.specs.declared.record.TurnRow.{TurnRow}
 use Rattle.record.specs.declared.record.Entry.{Entry}
-use Rattle.record.specs.Turns.{turns, answered, won, entry_owed}
-use Rattle.record.specs.MapRecord.{written_log, entries_until, entries_of_call, map_of, map_at}
-use Rattle.record.specs.LawfulRun.{AreLines}
 use Rattle.record.proofs.Lemmas.{entries_none, log_step, won_within}
 use Rattle.linearization.proofs.Lemmas.{map_now}
 use Rattle.audit.proofs.TurnMoments.{map_before}

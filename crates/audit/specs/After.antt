@@ -1,26 +1,14 @@
 -- What an audit remembers of the lines so far. Lines have the newest first here.
 use Rattle.std.specs.Prelude.{◌≡◌, ℕ, ◌<◌, Bool, true, false, List, ◌∷◌, length, reverse, take, slice_get, Option, Some, None, IfSome, is_some, drop}
-use Rattle.arena.specs.declared.layout.Layout.{Layout}
-use Rattle.arena.specs.declared.limits.Mode.TheVariants.{Tree}
-use Rattle.arena.specs.declared.number.PassNo.{PassNo}
-use Rattle.arena.specs.declared.step.Row.{Row}
-use Rattle.arena.specs.History.{◌⊳◌}
-use Rattle.arena.specs.Shape.{IsBegin}
-use Rattle.ordered_map.specs.FillOrder.{HasRisingLevels}
-use Rattle.script.specs.declared.call.Call.{Call}
-use Rattle.script.specs.declared.command.Command.{Command}
+use Rattle.histories.specs.Common.{Layout, Tree, PassNo, Row, ◌⊳◌, IsBegin}
+use Rattle.record.specs.Common.{HasRisingLevels, Call, Command, history, turns, entries, last_client, answered, begin, start, steps, won, entry_of, entry_owed}
+use Rattle.record.specs.Common.{enters, HasTakenFew, IsRight, commands, next_command, IsWinOf, AreLines, OwesNothing, linked, IsFitting, IsReplyOwed}
 use Rattle.record.specs.declared.record.Finished.{Finished}
 use Rattle.record.specs.declared.record.Line.{Line}
 use Rattle.record.specs.declared.record.Line.TheVariants.{Step}
 use Rattle.record.specs.declared.record.Entry.{Entry}
 use Rattle.record.specs.declared.record.TurnRow.TheVariants.{Idle}
-use Rattle.record.specs.Turns.{history, turns, entries, last_client, answered, begin, start, steps, won, entry_of, entry_owed}
-use Rattle.record.specs.CommandRules.{enters, HasTakenFew, IsRight}
-use Rattle.record.specs.Commands.{commands, next_command}
-use Rattle.record.specs.Entries.{IsLog, IsWinOf}
-use Rattle.record.specs.LawfulRun.{AreLines, OwesNothing}
-use Rattle.record.specs.Linked.{linked}
-use Rattle.record.specs.Replies.{IsFitting, IsReplyOwed}
+use Rattle.record.specs.Entries.{IsLog}
 use Rattle.record.specs.Steps.{IsStep}
 use Rattle.audit.specs.Calls.{StandsNext}
 use Rattle.audit.specs.Edits.{MayMakeEdit}

@@ -2,26 +2,11 @@
 -- first here.
 use Rattle.std.specs.Prelude.{◌≡◌, ℕ, ◌<◌, ◌≤◌, List, Option, Some, None}
 use Rattle.arena.specs.declared.layout.Layout.{Layout}
-use Rattle.ordered_map.specs.declared.pair.Pair.{Pair}
-use Rattle.ordered_map.specs.CallRules.{need}
-use Rattle.ordered_map.specs.OrderedMap.{MapCall, Edit, get, reply}
-use Rattle.ordered_map.specs.Replies.{number_reply}
-use Rattle.ordered_map.specs.declared.reply.Reply.{Reply}
-use Rattle.ordered_map.specs.declared.reply.Reply.TheVariants.{Value}
-use Rattle.script.specs.declared.call.Call.{Call}
-use Rattle.script.specs.declared.command.Command.{Command}
+use Rattle.record.specs.Common.{Pair, need, MapCall, Edit, get, reply, number_reply, Reply, Value, Call, Command, HasItsEntry, enters, next_command}
+use Rattle.record.specs.Common.{AreLines, map_at, map_call, reply_told, IsGreatestTurn, IsFitting, AreSpelled, turns, answered, begin, won, entry_owed}
 use Rattle.record.specs.declared.record.Line.{Line}
 use Rattle.record.specs.declared.record.Answer.TheVariants.{Map}
 use Rattle.record.specs.declared.record.Finished.{Finished}
-use Rattle.record.specs.Answers.{HasItsEntry}
-use Rattle.record.specs.CommandRules.{enters}
-use Rattle.record.specs.Commands.{next_command}
-use Rattle.record.specs.LawfulRun.{AreLines}
-use Rattle.record.specs.MapRecord.{map_at, map_call, reply_told}
-use Rattle.record.specs.Placed.{IsGreatestTurn}
-use Rattle.record.specs.Replies.{IsFitting}
-use Rattle.record.specs.SpelledMap.{AreSpelled}
-use Rattle.record.specs.Turns.{turns, answered, begin, won, entry_owed}
 use Rattle.linearization.specs.declared.places.Change.{Change}
 use Rattle.linearization.specs.Entries.{AreEntries}
 use Rattle.linearization.specs.Ordered.{pairs_in}

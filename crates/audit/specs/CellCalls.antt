@@ -1,16 +1,8 @@
 -- What an audit knows of a call of cells as it judges its answer or its entry.
 use Rattle.std.specs.Prelude.{◌≡◌, ℕ, ◌<◌, List, slice_get, Bool, true, Option, Some}
-use Rattle.arena.specs.declared.layout.Layout.{Layout}
-use Rattle.arena.specs.declared.step.Kind.TheVariants.{LoadInfo, Freeze}
-use Rattle.arena.specs.declared.word.Side.{Side}
-use Rattle.arena.specs.Fills.{IsOwnNode}
-use Rattle.arena.specs.History.{History, value, Extends}
-use Rattle.arena.specs.Log.{has, members_from, finalized_from}
-use Rattle.arena.specs.ScxRecords.{count}
-use Rattle.arena.specs.Words.{node, child, first_value}
-use Rattle.record.specs.Answers.{IsAsSnapped, IsUnchanged}
-use Rattle.record.specs.Shares.{HasNodesLeft, HasScxLeft}
-use Rattle.record.specs.Snapshots.{IsLastLook}
+use Rattle.histories.specs.Common.{Layout, LoadInfo, Freeze, Side, IsOwnNode, History, value, Extends, has, members_from, finalized_from, count, node, child, first_value}
+use Rattle.record.specs.Common.{IsAsSnapped, HasNodesLeft, HasScxLeft, IsLastLook}
+use Rattle.record.specs.Answers.{IsUnchanged}
 use Rattle.audit.specs.Remembered.{IsMomentAt, IsLookOf, AreSnapshotsOf}
 use Rattle.audit.specs.declared.memory.FoundInfo.{FoundInfo}
 use Rattle.audit.specs.declared.memory.Memory.{Memory}

@@ -1,20 +1,11 @@
 -- Which edit of the map an SCX-record makes, and for which call.
 use Rattle.std.specs.Prelude.{◌≡◌, ◌≢◌, ℕ, ◌^◌, ◌<◌, true, List, [], ◌∷◌, Option, Some, None, IsTrue, option_map, slice_get}
-use Rattle.arena.specs.declared.layout.Layout.{Layout}
-use Rattle.arena.specs.declared.step.Row.{Row}
-use Rattle.arena.specs.declared.word.Side.{Side}
-use Rattle.arena.specs.declared.word.Word.{Word}
-use Rattle.arena.specs.Words.{node, first_key}
-use Rattle.arena.specs.History.{History, ◌⊳◌, value, Extends}
-use Rattle.arena.specs.Shape.{IsBegin}
-use Rattle.ordered_map.specs.OrderedMap.{MapCall, MapEdit, Edit, Insert, Delete, applies, edit_key, edit_to, end_pair, leaves, pair}
-use Rattle.ordered_map.specs.Paths.{Passed, end_key}
+use Rattle.histories.specs.Common.{Layout, Row, Side, Word, node, first_key, History, ◌⊳◌, value, Extends, IsBegin}
+use Rattle.record.specs.Common.{MapCall, MapEdit, Edit, edit_key, edit_to, leaves, pair, Passed, Pair, Goal, Key, End, class, is_leaf, said, toward, map_call}
+use Rattle.ordered_map.specs.OrderedMap.{Insert, Delete, applies, end_pair}
+use Rattle.ordered_map.specs.Paths.{end_key}
 use Rattle.ordered_map.specs.TreeShape.{MayEdit, edit_leaf}
-use Rattle.ordered_map.specs.declared.pair.Pair.{Pair}
-use Rattle.ordered_map.specs.declared.rule.Goal.{Goal}
-use Rattle.ordered_map.specs.declared.rule.Goal.TheVariants.{Key, End}
-use Rattle.ordered_map.specs.TreeWords.{class, is_leaf, leaf_pairs, said, toward}
-use Rattle.record.specs.MapRecord.{map_call}
+use Rattle.ordered_map.specs.TreeWords.{leaf_pairs}
 use Rattle.judge.specs.declared.judge.Judge.{Judge}
 use Rattle.judge.specs.Histories.{seen_history}
 use Rattle.audit.specs.declared.edits.BegunEdit.{BegunEdit}

@@ -1,28 +1,10 @@
 -- What an audit remembers of the steps, for the answers of calls. Lines have the newest
 -- first here.
 use Rattle.std.specs.Prelude.{◌≡◌, ℕ, suc, ◌+◌, ◌<◌, ◌≤◌, ◌↔◌, List, length, slice_get, Option, Some, None, IsSome, true}
-use Rattle.arena.specs.declared.layout.Layout.{Layout}
-use Rattle.arena.specs.declared.step.Kind.{Kind}
-use Rattle.arena.specs.declared.step.Kind.TheVariants.{LoadInfo, Freeze}
-use Rattle.arena.specs.declared.step.Row.{Row}
-use Rattle.arena.specs.Blame.{IsInProgress}
-use Rattle.arena.specs.Found.{IsLastStep}
-use Rattle.arena.specs.History.{History, Start, ◌⊳◌, Extends, value}
-use Rattle.arena.specs.Layout.{all_nodes, all_scx}
-use Rattle.arena.specs.Log.{log, last, is_final}
-use Rattle.arena.specs.Words.{info}
+use Rattle.histories.specs.Common.{Layout, Kind, LoadInfo, Freeze, Row, IsInProgress, IsLastStep, History, Start, ◌⊳◌, Extends, value, all_nodes, all_scx, log, last, is_final, info}
 use Rattle.ordered_map.specs.Tries.{tries_begun, IsNewestTry}
-use Rattle.script.specs.declared.call.Call.{Call}
-use Rattle.script.specs.declared.cells.CellList.{CellList}
-use Rattle.script.specs.declared.command.Command.{Command}
-use Rattle.script.specs.declared.command.Command.TheVariants.{Vlx}
-use Rattle.script.specs.Cells.{cells_of}
+use Rattle.record.specs.Common.{Call, CellList, Command, Vlx, cells_of, IsAsSnapped, next_command, linked, HasNodesLeft, HasScxLeft, history, begin, start}
 use Rattle.record.specs.declared.record.Line.{Line}
-use Rattle.record.specs.Answers.{IsAsSnapped}
-use Rattle.record.specs.Commands.{next_command}
-use Rattle.record.specs.Linked.{linked}
-use Rattle.record.specs.Shares.{HasNodesLeft, HasScxLeft}
-use Rattle.record.specs.Turns.{history, begin, start}
 use Rattle.judge.specs.Histories.{seen_history}
 use Rattle.audit.specs.declared.memory.Memory.{Memory}
 use Rattle.audit.specs.declared.memory.FoundInfo.{FoundInfo}

@@ -1,13 +1,6 @@
 -- What one step or one reply changes in what an audit remembers.
 use Rattle.std.specs.Prelude.{◌≡◌, ℕ, suc, ◌+◌, ◌-◌, ◌^◌, ◌<◌, ◌⊎◌, Bool, true, false, Option, Some}
-use Rattle.arena.specs.declared.layout.Layout.{Layout}
-use Rattle.arena.specs.declared.step.Kind.{Kind}
-use Rattle.arena.specs.declared.step.Kind.TheVariants.{LoadInfo, Freeze}
-use Rattle.arena.specs.declared.step.Row.{Row}
-use Rattle.arena.specs.History.{History}
-use Rattle.arena.specs.Log.{log, last, is_final}
-use Rattle.arena.specs.ScxRecords.{member}
-use Rattle.arena.specs.Words.{info}
+use Rattle.histories.specs.Common.{Layout, Kind, LoadInfo, Freeze, Row, History, log, last, is_final, member, info}
 use Rattle.ordered_map.specs.Tries.{begins_try}
 use Rattle.audit.specs.declared.memory.FoundInfo.{FoundInfo}
 use Rattle.audit.specs.declared.memory.Memory.{Memory}

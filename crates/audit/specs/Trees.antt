@@ -1,23 +1,14 @@
 -- What an audit of a record on the tree remembers of it. Lines have the newest first here.
 use Rattle.std.specs.Prelude.{◌≡◌, ℕ, List, ◌∷◌, Option, Some, slice_get}
-use Rattle.arena.specs.declared.limits.Mode.TheVariants.{Tree}
-use Rattle.arena.specs.declared.layout.Layout.{Layout}
-use Rattle.arena.specs.Machines.{IsRun}
-use Rattle.script.specs.declared.call.Call.{Call}
-use Rattle.ordered_map.specs.FillOrder.{HasRisingLevels}
-use Rattle.ordered_map.specs.TreeShape.{TreeAllows}
+use Rattle.histories.specs.Common.{Tree, Layout, IsRun, History}
+use Rattle.record.specs.Common.{Call, HasRisingLevels, TreeAllows, AreSpelled, history, next_command, Command}
 use Rattle.record.specs.declared.record.Line.{Line}
 use Rattle.record.specs.declared.record.Entry.{Entry}
-use Rattle.record.specs.SpelledMap.{AreSpelled}
-use Rattle.record.specs.Turns.{history}
 use Rattle.linearization.specs.declared.places.Change.{Change}
 use Rattle.linearization.specs.declared.places.Places.{Places}
 use Rattle.linearization.specs.Places.{changes}
 use Rattle.linearization.specs.Entries.{AreEntries}
 use Rattle.audit.specs.Edits.{AreRememberedEdits, IsSuited}
-use Rattle.arena.specs.History.{History}
-use Rattle.record.specs.Commands.{next_command}
-use Rattle.script.specs.declared.command.Command.{Command}
 use Rattle.audit.specs.declared.edits.BegunEdit.{BegunEdit}
 
 -- each SCX-record that has begun makes an edit, levels rise, and the words spell the map so far

@@ -1,6 +1,5 @@
 -- A range tells no more pairs than it was asked for.
-use Rattle.std.proofs.Common.{◌≡◌, ◌≤◌, ℕ, List, [], length, min, vec_len, sym, ◌∙◌, ap, arith}
-use Rattle.std.specs.Prelude.{Result, Ok, Err, IfOk}
+use Rattle.std.proofs.Common.{◌≡◌, ◌≤◌, ℕ, List, [], length, min, vec_len, sym, ◌∙◌, ap, arith, Result, Ok, Err, IfOk}
 use Rattle.std.specs.Global.{Vec}
 use Rattle.std.proofs.lemmas.List.{length-take, length-map}
 use Rattle.ordered_map.specs.declared.pair.Pair.{Pair}

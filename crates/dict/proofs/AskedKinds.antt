@@ -1,7 +1,5 @@
 -- Which kinds of step the machine of a call of the map asks for.
-use Rattle.arena.specs.declared.step.Step.{Step}
-use Rattle.arena.specs.History.{History}
-use Rattle.arena.specs.Machines.{Call}
+use Rattle.histories.specs.Common.{Step, History, Call}
 use Rattle.ordered_map.specs.CallRules.{call_rules}
 use Rattle.order.specs.Laws.Run.{read_asks, read_fills_not}
 use Rattle.template.proofs.Lemmas.{walk_loads}

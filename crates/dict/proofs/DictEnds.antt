@@ -1,20 +1,12 @@
 -- What the machine of a call of a dictionary has answered is right, where its reply is that of the
 -- map in words.
 use Rattle.std.proofs.Common.{◌≡◌, ℕ, List, Option, Some, None, inl, inr, sym, subst}
-use Rattle.arena.specs.declared.limits.Mode.TheVariants.{Tree as TreeMode}
-use Rattle.arena.specs.History.{History, ◌⊳◌, value, Extends}
-use Rattle.arena.specs.Machines.{Call, IsRun, MatchTurn}
-use Rattle.arena.specs.declared.machine.Turn.{Turn}
-use Rattle.arena.specs.declared.machine.Turn.TheVariants.{Ask, Done}
-use Rattle.arena.specs.Share.{Remaining}
+use Rattle.histories.specs.Common.{Tree as TreeMode, History, ◌⊳◌, value, Extends, Call, IsRun, MatchTurn, Turn, Ask, Done, Remaining}
 use Rattle.arena.proofs.Lemmas.{ends_self, ends_trans}
-use Rattle.ordered_map.specs.OrderedMap.{MapCall, MapEdit, MapReply, OneValue, ManyPairs, edit_of, pair_or_none, reply}
-use Rattle.ordered_map.specs.Spelled.{Spells}
-use Rattle.ordered_map.specs.declared.pair.Pair.{Pair}
+use Rattle.template.specs.Common.{MapCall, MapEdit, MapReply, OneValue, ManyPairs, edit_of, pair_or_none, reply, Spells, Pair, MayReply, form_of, told_of, Reply}
 use Rattle.edits.specs.Tries.{HasEnteredNone}
 use Rattle.dict.specs.Calls.{call_in, share_of}
 use Rattle.dict.specs.DictKnown.{DictRefuses, DictWaits, DictAnswers}
-use Rattle.ordered_map.specs.CallRules.{MayReply, form_of}
 use Rattle.dict.specs.Known.{MapAnswers, MapWaits}
 use Rattle.dict.specs.Says.{HasMadeEdit, HasReadMap, HasTold, HasToldBy, KeepsLists, TellsOfMap, WordSays}
 use Rattle.dict.specs.Translated.{HasFormOf, IsReplyOf, MapReplies, SaysSame, TellsTyped}
@@ -23,9 +15,7 @@ use Rattle.dict.specs.Laws.EachCall.{may_lack, reply_typed, tells_lists}
 use Rattle.dict.specs.Laws.TypedMaps.{typed_map, typed_since}
 use Rattle.dict.specs.WordReplies.{WordReply, told_in, word_form}
 use Rattle.dict.specs.Words.{IsWordOf}
-use Rattle.ordered_map.specs.Replies.{told_of}
 use Rattle.dict.specs.declared.dict.DictRun.{DictRun}
-use Rattle.ordered_map.specs.declared.reply.Reply.{Reply}
 use Rattle.ordered_map.specs.declared.reply.Reply.TheVariants as replies
 
 -- What is answered of a map of typed words is typed

@@ -2,27 +2,17 @@
 use Rattle.std.proofs.Common.{◌≡◌, ℕ, ◌+◌, ◌-◌, ◌*◌, ◌^◌, ◌<◌, ◌≤◌, inl, inr, List, Option, Result, Ok, Err, refl, sym, ◌∙◌, ap, subst, arith}
 use Rattle.std.proofs.Math.Nat.{mul-add, mul-le-mul_left}
 use Rattle.std.specs.Option.{option_map}
-use Rattle.arena.specs.History.{History, ◌⊳◌, value, Extends}
-use Rattle.arena.specs.Machines.{Call, begun_at}
-use Rattle.arena.specs.Share.{Remaining}
+use Rattle.histories.specs.Common.{History, ◌⊳◌, value, Extends, Call, begun_at, Remaining}
 use Rattle.arena.proofs.Lemmas.{ends_self, ends_trans}
 use Rattle.order.specs.Known.{HasReplied, ReadAnswers}
 use Rattle.order.specs.declared.refused.Refused.{Refused}
 use Rattle.order.specs.declared.refused.Refused.TheVariants as refused
 use Rattle.order.specs.declared.run.ReadRun.{ReadRun}
-use Rattle.ordered_map.specs.OrderedMap.{MapCall, MapEdit, Edit, Get, OneValue, edit_key, get, pair, pair_or_none, reply, goal_told}
-use Rattle.ordered_map.specs.Runs.{IsTreeRun}
-use Rattle.ordered_map.specs.Spelled.{Spells}
-use Rattle.ordered_map.specs.declared.pair.Pair.{Pair}
+use Rattle.template.specs.Common.{MapCall, MapEdit, Edit, Get, OneValue, edit_key, get, pair, pair_or_none, reply, goal_told, IsTreeRun, Spells, Pair, IsContended}
+use Rattle.template.specs.Common.{HasLostTriesTo, asked_key, HasFoundGoal, HasTriedAtMost, HasTriedAllBut, Goal, Key as ToKey, End, Rule, most_nodes, nodes_in_try}
 use Rattle.ordered_map.proofs.Lemmas.{run_since, run_spells}
-use Rattle.template.specs.Blame.{IsContended, HasLostTriesTo}
-use Rattle.template.specs.FoundLeaf.{asked_key, HasFoundGoal}
-use Rattle.template.specs.Tries.{HasTriedAtMost, HasTriedAllBut}
 use Rattle.template.proofs.Lemmas.{tried_few}
 use Rattle.template.specs.declared.walk.Found.{Found}
-use Rattle.ordered_map.specs.declared.rule.Goal.{Goal}
-use Rattle.ordered_map.specs.declared.rule.Goal.TheVariants.{Key as ToKey, End}
-use Rattle.ordered_map.specs.declared.rule.Rule.{Rule}
 use Rattle.tree.specs.declared.key_edit.KeyEdit.{KeyEdit}
 use Rattle.edits.specs.Edits.{says}
 use Rattle.edits.specs.Known.{RestsWith, HasLostEveryTry, HasMade, IsDoneAt, IsUpdateAnswer, ToldEnd}
@@ -32,7 +22,6 @@ use Rattle.edits.specs.declared.update.UpdateAt.{UpdateAt}
 use Rattle.edits.specs.declared.update.UpdateRun.{UpdateRun}
 use Rattle.edits.specs.declared.update.Updated.{Updated}
 use Rattle.edits.specs.declared.update.Updated.TheVariants.{Done, Contended, Full}
-use Rattle.ordered_map.specs.CallRules.{most_nodes, nodes_in_try}
 use Rattle.dict.specs.Calls.{most_tries, HasSpent, IsSmallCall}
 use Rattle.dict.specs.Goals.{leaf_told}
 use Rattle.dict.specs.Inner.{ReadKind, edit_means}

@@ -1,23 +1,11 @@
 -- What the machine of a call has answered is right, where the machine inside has answered.
 use Rattle.std.proofs.Common.{◌≡◌, ℕ, suc, ◌^◌, ◌<◌, ◌≤◌, Option, Some, None, Result, sym, ◌∙◌, subst, arith}
-use Rattle.arena.specs.History.{History}
-use Rattle.arena.specs.Machines.{Call, IsRun}
-use Rattle.arena.specs.Share.{Remaining}
+use Rattle.histories.specs.Common.{History, Call, IsRun, Remaining}
 use Rattle.order.specs.Known.{ReadAnswers}
 use Rattle.order.specs.declared.refused.Refused.{Refused}
 use Rattle.order.specs.declared.run.ReadRun.{ReadRun}
-use Rattle.ordered_map.specs.OrderedMap.{Get as GetOf}
-use Rattle.ordered_map.specs.TreeShape.{TreeAllows}
-use Rattle.template.specs.Tries.{HasTriedAtMost, HasTriedAllBut}
-use Rattle.ordered_map.specs.declared.rule.Goal.{Goal}
-use Rattle.ordered_map.specs.declared.rule.Rule.{Rule}
+use Rattle.template.specs.Common.{Get as GetOf, TreeAllows, HasTriedAtMost, HasTriedAllBut, Goal, Rule, tries_begun, Key as ToKey, HasFoundGoal, WalkIsReady, IsPastRoot, WalkFits, walk_left, nodes_in_try}
 use Rattle.tree.specs.declared.key_edit.KeyEdit.{KeyEdit}
-use Rattle.ordered_map.specs.Tries.{tries_begun}
-use Rattle.ordered_map.specs.declared.rule.Goal.TheVariants.{Key as ToKey}
-use Rattle.template.specs.FoundLeaf.{HasFoundGoal}
-use Rattle.template.specs.Walk.Known.{WalkIsReady}
-use Rattle.template.specs.Walk.Places.{IsPastRoot}
-use Rattle.template.specs.Walk.Steps.{WalkFits, walk_left}
 use Rattle.template.specs.declared.walk.Found.{Found}
 use Rattle.template.specs.declared.walk.WalkAt.{WalkAt}
 use Rattle.template.specs.declared.walk.WalkRun.{WalkRun}
@@ -27,7 +15,6 @@ use Rattle.edits.specs.Steps.{node_tries, scx_tries, Spends}
 use Rattle.edits.specs.declared.update.UpdateAt.{UpdateAt}
 use Rattle.edits.specs.declared.update.UpdateRun.{UpdateRun}
 use Rattle.edits.specs.declared.update.Updated.{Updated}
-use Rattle.ordered_map.specs.CallRules.{nodes_in_try}
 use Rattle.dict.specs.Known.{HasRested, HasTriedOnce, HasTriedOnceAt, Goes, InnerAnswers}
 use Rattle.dict.specs.WordReplies.{WordReply, edit_reply, read_reply}
 use Rattle.dict.specs.Inner.{ReadKind, Update, Get, Read, edit_means}

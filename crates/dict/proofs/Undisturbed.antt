@@ -1,20 +1,13 @@
 -- What a call by itself answers and leaves.
 use Rattle.std.proofs.Common.{◌≡◌, ◌∙◌, ◌<◌, ℕ, inl, inr, List, Option, Some, None, refl, sym, ap, subst}
-use Rattle.arena.specs.History.{History, ◌⊳◌, value, Extends}
-use Rattle.arena.specs.Machines.{Call}
+use Rattle.histories.specs.Common.{History, ◌⊳◌, value, Extends, Call, Full as FullOf, Remaining}
 use Rattle.arena.specs.Undisturbed.{IsUndisturbed}
 use Rattle.arena.proofs.Lemmas.{ends_self, ends_trans}
-use Rattle.ordered_map.specs.declared.pair.Pair.{Pair}
-use Rattle.ordered_map.specs.OrderedMap.{MapCall, MapEdit, MapReply, reply, after, edit_of, edited, after_edit}
-use Rattle.ordered_map.specs.Runs.{IsTreeRun}
-use Rattle.ordered_map.specs.Spelled.{Spells}
+use Rattle.template.specs.Common.{Pair, MapCall, MapEdit, MapReply, reply, edit_of, edited, IsTreeRun, Spells, IsContended, need}
+use Rattle.ordered_map.specs.OrderedMap.{after, after_edit}
 use Rattle.ordered_map.proofs.Lemmas.{after_is, one_spelling, run_since}
-use Rattle.template.specs.Blame.{IsContended}
 use Rattle.edits.specs.Known.{HasMade, RestsWith, IsUntouched}
 use Rattle.edits.specs.Tries.{HasEnteredNone}
-use Rattle.arena.specs.declared.fault.Full.{Full as FullOf}
-use Rattle.arena.specs.Share.{Remaining}
-use Rattle.ordered_map.specs.CallRules.{need}
 use Rattle.dict.specs.Says.{HasLost, HasToldBy, HasRunOut, HasTooLittle}
 
 -- what a made edit leaves, and what a call by itself that has entered nothing leaves

@@ -1,16 +1,9 @@
 -- The machine of a call of the map: what it is a call of, what it has left, and what such a call
 -- may take of its share.
 use Rattle.std.specs.Prelude.{ℕ, ◌*◌, ◌+◌, ◌^◌, ◌<◌, ◌≤◌}
-use Rattle.arena.specs.History.{History}
-use Rattle.arena.specs.Machines.{Call}
-use Rattle.arena.specs.Share.{Remaining}
-use Rattle.ordered_map.specs.CallRules.{most_nodes, most_scx}
-use Rattle.ordered_map.specs.OrderedMap.{MapCall, Edit, Get, Range}
-use Rattle.ordered_map.specs.declared.rule.Goal.{Goal}
-use Rattle.ordered_map.specs.declared.rule.Goal.TheVariants.{Key}
-use Rattle.ordered_map.specs.declared.rule.Rule.{Rule}
+use Rattle.histories.specs.Common.{History, Call, Remaining}
+use Rattle.template.specs.Common.{most_nodes, most_scx, MapCall, Edit, Get, Range, Goal, Key, Rule, tries_since, HasTriedAtMost}
 use Rattle.tree.specs.declared.key_edit.KeyEdit.{KeyEdit}
-use Rattle.template.specs.Tries.{tries_since, HasTriedAtMost}
 use Rattle.edits.specs.Known.{RestsWith}
 use Rattle.dict.specs.declared.run.MapRun.{MapRun}
 use Rattle.dict.specs.Inner.{InnerRun, Update, Get as GetWalk, Read as OrderedRead, inner}

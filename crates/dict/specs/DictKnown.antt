@@ -1,22 +1,16 @@
 -- When the machine of a call of a dictionary may continue, what it waits for, and what its answer
 -- says.
 use Rattle.std.specs.Prelude.{ℕ, Option}
-use Rattle.arena.specs.declared.step.Step.{Step}
-use Rattle.arena.specs.History.{History}
-use Rattle.arena.specs.Machines.{Call}
-use Rattle.arena.specs.Share.{Remaining}
-use Rattle.ordered_map.specs.OrderedMap.{MapCall}
+use Rattle.histories.specs.Common.{Step, History, Call, Remaining}
+use Rattle.template.specs.Common.{MapCall, MayReply, form_of, told_of, Reply}
 use Rattle.edits.specs.Known.{RestsWith}
 use Rattle.edits.specs.Tries.{HasEnteredNone}
 use Rattle.dict.specs.Calls.{call_in, share_of, HasSpent}
-use Rattle.ordered_map.specs.CallRules.{MayReply, form_of}
 use Rattle.dict.specs.Known.{MapIsReady, MapWaits}
 use Rattle.dict.specs.Says.{HasLost, HasRunOut, KeepsLists, TellsOfMap}
 use Rattle.dict.specs.Typed.{IsTypedCall}
 use Rattle.dict.specs.Words.{IsValidReply}
-use Rattle.ordered_map.specs.Replies.{told_of}
 use Rattle.dict.specs.declared.dict.DictRun.{DictRun}
-use Rattle.ordered_map.specs.declared.reply.Reply.{Reply}
 use Rattle.ordered_map.specs.declared.reply.Reply.TheVariants.{Contended, Full, NoMemory}
 
 -- it may be called with this: its edit, if it makes one, is of such words

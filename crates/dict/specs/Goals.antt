@@ -1,14 +1,8 @@
 -- What the map answers a call that walks to a goal, and what the leaf that was found says of that.
 use Rattle.std.specs.Prelude.{◌≡◌, List}
-use Rattle.arena.specs.declared.layout.Layout.{Layout}
-use Rattle.arena.specs.History.{History, value, Extends}
-use Rattle.ordered_map.specs.OrderedMap.{MapReply, OneValue, goal_told, pair_or_none}
-use Rattle.ordered_map.specs.Spelled.{Spells}
-use Rattle.ordered_map.specs.declared.pair.Pair.{Pair}
-use Rattle.template.specs.FoundLeaf.{end_told}
+use Rattle.histories.specs.Common.{Layout, History, value, Extends}
+use Rattle.template.specs.Common.{MapReply, OneValue, goal_told, pair_or_none, Spells, Pair, end_told, Goal, Key as ToKey, End}
 use Rattle.template.specs.declared.walk.Found.{Found}
-use Rattle.ordered_map.specs.declared.rule.Goal.{Goal}
-use Rattle.ordered_map.specs.declared.rule.Goal.TheVariants.{Key as ToKey, End}
 
 -- what the leaf that was found says that the goal finds in the map
 abbrev pub leaf_told : Goal → Found → MapReply

@@ -9,9 +9,7 @@ use Rattle.order.specs.Neighbour.{neighbour_means}
 use Rattle.order.specs.declared.range.Range.{Range}
 use Rattle.order.specs.declared.run.ReadRun.{ReadRun}
 use Rattle.order.specs.declared.neighbour.Neighbour.{Neighbour}
-use Rattle.ordered_map.specs.declared.pair.Pair.{Pair}
-use Rattle.ordered_map.specs.declared.rule.Goal.{Goal}
-use Rattle.ordered_map.specs.declared.rule.Rule.{Rule}
+use Rattle.template.specs.Common.{Pair, Goal, Rule}
 use Rattle.tree.specs.KeyEdit.Means.{key_means}
 use Rattle.tree.specs.declared.key_edit.KeyEdit.{KeyEdit}
 use Rattle.template.specs.declared.walk.WalkRun.{WalkRun}

@@ -1,27 +1,18 @@
 -- When the machine of a call of the map may continue, what it waits for, and what its answer says.
 use Rattle.std.specs.Prelude.{◌≡◌, ℕ, suc, ◌+◌, ◌^◌, ◌<◌, ◌≤◌, Option, Some, None, []}
-use Rattle.arena.specs.declared.limits.Mode.TheVariants.{Tree as TreeMode}
-use Rattle.arena.specs.declared.step.Step.{Step}
-use Rattle.arena.specs.History.{History, Extends}
-use Rattle.arena.specs.Machines.{Call}
-use Rattle.arena.specs.Share.{Remaining}
+use Rattle.histories.specs.Common.{Tree as TreeMode, Step, History, Extends, Call, Remaining}
 use Rattle.order.specs.Known.{ReadIsReady, ReadWaits}
 use Rattle.order.specs.declared.run.ReadAt.TheVariants.{Start as ReadStart}
 use Rattle.prims.specs.Laws.Idle.{IsQuietSince}
-use Rattle.ordered_map.specs.Runs.{IsTreeRun}
-use Rattle.ordered_map.specs.declared.rule.Goal.TheVariants.{Key as ToKey}
+use Rattle.template.specs.Common.{IsTreeRun, Key as ToKey, tries_begun, WalkIsReady, WalkWaits, MayReply, nodes_in_try, Edit}
 use Rattle.template.specs.declared.walk.WalkAt.{WalkAt}
 use Rattle.template.specs.declared.walk.WalkAt.TheVariants.{Start as WalkStart, Root}
-use Rattle.ordered_map.specs.Tries.{tries_begun}
-use Rattle.template.specs.Walk.Known.{WalkIsReady, WalkWaits}
 use Rattle.edits.specs.Known.{RestsWith, UpdateIsReady, UpdateWaits}
 use Rattle.edits.specs.Steps.{node_tries, scx_tries, Spends}
 use Rattle.edits.specs.declared.update.UpdateAt.TheVariants.{Start as UpdateStart}
 use Rattle.dict.specs.Calls.{call_in, inner_call, inner_share, AsksForPairs, IsFewCall, IsSmallCall, HasSpent}
-use Rattle.ordered_map.specs.CallRules.{MayReply, nodes_in_try}
 use Rattle.dict.specs.Says.{WordSays}
 use Rattle.dict.specs.declared.run.MapRun.{MapRun}
-use Rattle.ordered_map.specs.OrderedMap.{Edit}
 use Rattle.dict.specs.Inner.{InnerRun, Update, Get, Read, edit_means, inner}
 use Rattle.dict.specs.WordReplies.{WordReply, word_form}
 

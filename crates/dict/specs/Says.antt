@@ -1,21 +1,11 @@
 -- What the reply of a call of the map says, in words.
 use Rattle.std.specs.Prelude.{◌≡◌, ℕ, ◌<◌, List, Option, Some, None}
-use Rattle.arena.specs.declared.fault.Full.{Full as FullOf}
-use Rattle.arena.specs.declared.fault.Resource.{Resource}
-use Rattle.arena.specs.declared.fault.Resource.TheVariants.{Nodes, Scx as ScxRecords}
-use Rattle.arena.specs.declared.layout.Layout.{Layout}
-use Rattle.arena.specs.declared.step.Row.{Row}
-use Rattle.arena.specs.Fills.{IsOthersScx}
-use Rattle.arena.specs.History.{History, ◌⊳◌, value, Extends}
-use Rattle.arena.specs.Machines.{Call}
-use Rattle.arena.specs.Share.{Remaining}
-use Rattle.ordered_map.specs.OrderedMap.{MapEdit, MapCall, Neighbour, Range, MapReply, reply, edit_of}
-use Rattle.ordered_map.specs.Spelled.{Spells}
-use Rattle.ordered_map.specs.declared.pair.Pair.{Pair}
-use Rattle.template.specs.Blame.{IsOverOrNew, HasLostTriesTo}
+use Rattle.histories.specs.Common.{Full as FullOf, Resource, Nodes, Layout, Row, IsOthersScx, History, ◌⊳◌, value, Extends, Call, Remaining}
+use Rattle.arena.specs.declared.fault.Resource.TheVariants.{Scx as ScxRecords}
+use Rattle.template.specs.Common.{MapEdit, MapCall, Neighbour, Range, MapReply, reply, edit_of, Spells, Pair, HasLostTriesTo, most_nodes, need}
+use Rattle.template.specs.Blame.{IsOverOrNew}
 use Rattle.edits.specs.Known.{HasMade, IsUntouched}
 use Rattle.edits.specs.Tries.{HasEnteredNone, HasOnlyLooked}
-use Rattle.ordered_map.specs.CallRules.{most_nodes, need}
 use Rattle.dict.specs.Calls.{AsksForPairs}
 use Rattle.dict.specs.WordReplies.{WordReply, told_in}
 

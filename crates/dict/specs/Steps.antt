@@ -1,7 +1,6 @@
 -- How many steps the machine of a call of the map may still ask for: as the machine inside.
 use Rattle.std.specs.Prelude.{ℕ, ◌<◌, Option}
-use Rattle.arena.specs.Machines.{MatchTurn}
-use Rattle.arena.specs.declared.machine.Turn.{Turn}
+use Rattle.histories.specs.Common.{MatchTurn, Turn}
 use Rattle.order.specs.Steps.{ReadFits, read_left}
 use Rattle.template.specs.Walk.Steps.{walk_left, WalkFits}
 use Rattle.edits.specs.Steps.{update_left, UpdateFits}

@@ -1,18 +1,15 @@
 -- What a reply of keys and values has of one in words.
 use Rattle.std.specs.Prelude.{◌≡◌, ◌⊎◌, ℕ, map, All, List, Option, Some, None, IfSome}
 use Rattle.std.specs.Option.{option_map}
-use Rattle.arena.specs.History.{History}
-use Rattle.arena.specs.Machines.{Call}
-use Rattle.ordered_map.specs.OrderedMap.{MapReply}
-use Rattle.ordered_map.specs.declared.pair.Pair.{Pair}
-use Rattle.ordered_map.specs.CallRules.{Pairs, NoMemory, form_of}
+use Rattle.histories.specs.Common.{History, Call}
+use Rattle.template.specs.Common.{MapReply, Pair, form_of, told_of, Reply}
+use Rattle.ordered_map.specs.CallRules.{Pairs, NoMemory}
 use Rattle.dict.specs.Known.{MapAnswers}
 use Rattle.dict.specs.Typed.{AreTyped, IsTypedReply}
 use Rattle.dict.specs.Words.{IsWordOf, IsPairWord, IsValidPair, IsValidReply}
-use Rattle.ordered_map.specs.Replies.{word_pair, told_of}
+use Rattle.ordered_map.specs.Replies.{word_pair}
 use Rattle.dict.specs.WordReplies.{WordReply, told_in, word_form}
 use Rattle.dict.specs.declared.run.MapRun.{MapRun}
-use Rattle.ordered_map.specs.declared.reply.Reply.{Reply}
 use Rattle.ordered_map.specs.declared.reply.Reply.TheVariants as replies
 
 -- The pair has a key and a value of their types, and these are its words; and if these words are of

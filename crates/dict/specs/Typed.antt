@@ -1,15 +1,9 @@
 -- A dictionary of typed keys and values, seen by their words: its SCX-records make edits of such
 -- words alone, so its map has no others.
 use Rattle.std.specs.Prelude.{◌≡◌, ℕ, List, [], ◌∷◌, Option, Some, None}
-use Rattle.arena.specs.declared.layout.Layout.{Layout}
-use Rattle.arena.specs.declared.limits.Mode.TheVariants.{Tree as TreeMode}
-use Rattle.arena.specs.History.{History, value}
-use Rattle.ordered_map.specs.OrderedMap.{MapEdit, Insert, Delete, MapCall, Edit, MapReply, OneValue, OnePair, ManyPairs, leaves}
-use Rattle.ordered_map.specs.declared.rule.Goal.{Goal}
-use Rattle.ordered_map.specs.declared.rule.Goal.TheVariants.{Key, End}
-use Rattle.ordered_map.specs.Spelled.{Spells}
+use Rattle.histories.specs.Common.{Layout, Tree as TreeMode, History, value}
+use Rattle.template.specs.Common.{MapEdit, Insert, Delete, MapCall, Edit, MapReply, OneValue, OnePair, ManyPairs, leaves, Goal, Key, End, Spells, Pair}
 use Rattle.ordered_map.specs.TreeShape.{MayEdit}
-use Rattle.ordered_map.specs.declared.pair.Pair.{Pair}
 
 -- `keys` and `values` say of a word whether it is one of a key, or of a value.
 

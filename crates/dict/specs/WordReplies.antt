@@ -3,16 +3,11 @@
 use Rattle.std.specs.Prelude.{ℕ, List, Option, Some, None, Result, Ok, Err, Vec}
 use Rattle.std.specs.Global.{Global}
 use Rattle.std.specs.Option.{option_map}
-use Rattle.arena.specs.declared.fault.Full.{Full as FullOf}
-use Rattle.arena.specs.declared.number.NodeNo.{NodeNo}
-use Rattle.arena.specs.declared.number.ScxNo.{ScxNo}
+use Rattle.histories.specs.Common.{Full as FullOf, NodeNo, ScxNo}
 use Rattle.order.specs.declared.refused.Refused.{Refused}
 use Rattle.order.specs.declared.refused.Refused.TheVariants as refused
 use Rattle.ordered_map.specs.CallRules.{Form}
-use Rattle.ordered_map.specs.OrderedMap.{MapReply, OneValue, ManyPairs, pair, pair_or_none}
-use Rattle.ordered_map.specs.declared.pair.Pair.{Pair as PairOf}
-use Rattle.ordered_map.specs.declared.rule.Goal.{Goal}
-use Rattle.ordered_map.specs.declared.rule.Goal.TheVariants.{Key as ToKey, End}
+use Rattle.template.specs.Common.{MapReply, OneValue, ManyPairs, pair, pair_or_none, Pair as PairOf, Goal, Key as ToKey, End}
 use Rattle.edits.specs.declared.update.Updated.{Updated}
 use Rattle.edits.specs.declared.update.Updated.TheVariants as updated
 

@@ -1,9 +1,7 @@
 -- Typed keys, values, calls and replies in words. `word` gives the word of a key, or the
 -- number of a value, which has two words; `valid` says whether it is one of its type.
 use Rattle.std.specs.Prelude.{◌≡◌, ℕ, ◌^◌, ◌<◌, List, [], ◌∷◌, All, IfSome}
-use Rattle.ordered_map.specs.Holding.{wide_value}
-use Rattle.ordered_map.specs.declared.pair.Pair.{Pair}
-use Rattle.ordered_map.specs.declared.reply.Reply.{Reply}
+use Rattle.template.specs.Common.{wide_value, Pair, Reply}
 use Rattle.ordered_map.specs.declared.reply.Reply.TheVariants.{Value, Pair as PairOf, Pairs}
 
 -- the word of a key, or the number of a value

@@ -1,26 +1,11 @@
 -- What an update's SCX is to do, and what the update waits for as that begins.
 use Rattle.std.proofs.Common.{◌≡◌, ℕ, suc, ◌+◌, ◌-◌, ◌<◌, List, None, sym, ◌∙◌, ap, subst, arith}
-use Rattle.arena.specs.declared.machine.Turn.{Turn}
-use Rattle.arena.specs.declared.machine.Turn.TheVariants.{Ask}
-use Rattle.arena.specs.declared.number.ScxNo.{ScxNo}
-use Rattle.arena.specs.declared.step.Step.{Step}
-use Rattle.arena.specs.Fills.{IsOwnNode, IsOwnScx}
-use Rattle.arena.specs.History.{History}
-use Rattle.arena.specs.Machines.{Call, MatchTurn, begun_at}
-use Rattle.arena.specs.Share.{Remaining, HasScx}
-use Rattle.histories.specs.Descriptor.{Descriptor}
-use Rattle.prims.specs.Scx.Known.{Job, job_of, Says, IsUpdateOver, ScxIsReady, ScxWaits, ScxAnswers}
-use Rattle.prims.specs.Shares.{IsShare}
-use Rattle.prims.specs.Snap.{snap_at}
-use Rattle.prims.specs.declared.scx.Scx.{Scx as ScxAnswer}
+use Rattle.histories.specs.Common.{Turn, Ask, ScxNo, Step, IsOwnNode, IsOwnScx, History, Call, MatchTurn, begun_at, Remaining, HasScx, Descriptor}
+use Rattle.template.specs.Common.{Job, job_of, Says, IsUpdateOver, ScxIsReady, ScxWaits, IsShare, snap_at, Scx as ScxAnswer, ScxRun, Snap, Update, TreeAllows, IsPromised, Tracks}
+use Rattle.prims.specs.Scx.Known.{ScxAnswers}
 use Rattle.prims.specs.declared.scx.ScxAt.TheVariants.{Start as ScxStart}
-use Rattle.prims.specs.declared.scx.ScxRun.{ScxRun}
-use Rattle.prims.specs.declared.snap.Snap.{Snap}
-use Rattle.prims.specs.declared.update.Update.{Update}
 use Rattle.prims.proofs.Lemmas.{left_own_scx, over_begins}
-use Rattle.ordered_map.specs.TreeShape.{TreeAllows}
-use Rattle.template.specs.Promises.{IsPromised}
-use Rattle.template.specs.Tracked.{Tracks, waits}
+use Rattle.template.specs.Tracked.{waits}
 use Rattle.template.specs.declared.walk.Found.{Found}
 use Rattle.template.proofs.Lemmas.{promised_allowed}
 use Rattle.edits.specs.declared.edit.Work.{Work}

@@ -1,26 +1,13 @@
 -- Who was in the way of a try that is lost.
 use Rattle.std.proofs.Common.{◌≡◌, ℕ, ◌<◌, List, inr, subst, sym}
-use Rattle.arena.specs.declared.number.NodeNo.{NodeNo}
-use Rattle.arena.specs.declared.number.ScxNo.{ScxNo}
-use Rattle.arena.specs.declared.step.Kind.TheVariants.{Freeze}
-use Rattle.arena.specs.History.{History, ◌⊳◌, Extends}
-use Rattle.arena.specs.Lawful.{Lawful}
-use Rattle.arena.specs.Machines.{Call, begun_at}
+use Rattle.histories.specs.Common.{NodeNo, ScxNo, Freeze, History, ◌⊳◌, Extends, Lawful, Call, begun_at}
 use Rattle.arena.proofs.Lemmas.{ends_trans}
 use Rattle.histories.proofs.Lemmas.{lawful_since}
 use Rattle.prims.specs.Laws.FoundThere.{there_wider}
 use Rattle.prims.specs.Laws.Idle.{IsQuietSince}
-use Rattle.prims.specs.Llx.Known.{LlxAnswers}
+use Rattle.template.specs.Common.{LlxAnswers, snap_at, Finalized, Fail, LlxRun, ScxRun, Snap, IsTreeRun, IsContended, Goal}
 use Rattle.prims.specs.Scx.Known.{IsLost}
-use Rattle.prims.specs.Snap.{snap_at}
-use Rattle.prims.specs.declared.llx.Llx.TheVariants.{Finalized, Fail}
-use Rattle.prims.specs.declared.llx.LlxRun.{LlxRun}
-use Rattle.prims.specs.declared.scx.ScxRun.{ScxRun}
-use Rattle.prims.specs.declared.snap.Snap.{Snap}
-use Rattle.ordered_map.specs.Runs.{IsTreeRun}
-use Rattle.template.specs.Blame.{IsContended}
 use Rattle.template.specs.declared.walk.Found.{Found}
-use Rattle.ordered_map.specs.declared.rule.Goal.{Goal}
 use Rattle.template.proofs.Lemmas.{changed_contended, failed_contended, finalized_contended}
 use Rattle.edits.specs.declared.edit.Look.TheVariants.{At, Differs}
 use Rattle.edits.specs.Edits.{EditMeaning}

@@ -1,20 +1,9 @@
 -- What a node says once it is filled with a piece.
-use Rattle.std.proofs.Common.{◌≡◌, ℕ, suc, ◌+◌, ◌-◌, ◌*◌, ◌/◌, ◌%◌, ◌^◌, ◌<◌, ◌≤◌, Bool, true, false, List, [], ◌∷◌, length, refl, ◌∙◌, ap, arith, eq-eqb, ne_eqb}
-use Rattle.std.specs.Prelude.{map, min}
-use Rattle.arena.specs.declared.number.NodeNo.{NodeNo}
-use Rattle.arena.specs.declared.word.NodeWord.TheVariants.{Settled, Child}
-use Rattle.arena.specs.declared.word.SettledPart.TheVariants.{Head as HeadPart, More, Key, Value, High}
-use Rattle.arena.specs.declared.word.Side.TheVariants.{Left, Right}
-use Rattle.arena.specs.declared.word.Slot.{Slot}
-use Rattle.arena.specs.declared.word.Slot.TheVariants.{First, Second, Third, Fourth}
-use Rattle.arena.specs.declared.word.Word.{Word}
+use Rattle.std.proofs.Common.{◌≡◌, ℕ, suc, ◌+◌, ◌-◌, ◌*◌, ◌/◌, ◌%◌, ◌^◌, ◌<◌, ◌≤◌, Bool, true, false, List, [], ◌∷◌, length, refl, ◌∙◌, ap, arith, eq-eqb, ne_eqb, map, min}
+use Rattle.histories.specs.Common.{NodeNo, Settled, Child, Head as HeadPart, More, Key, Value, High, Left, Right, Slot, First, Second, Third, Fourth, Word, History, value, node, child, first_key, slot_no}
 use Rattle.arena.specs.Heads.{head_word}
-use Rattle.arena.specs.History.{History, value}
-use Rattle.arena.specs.Words.{node, child, first_key, slot_no}
-use Rattle.ordered_map.specs.declared.pair.Pair.{Pair}
-use Rattle.ordered_map.specs.Holding.{wide_value, pair_in, slots, held_pairs, IsWellCounted}
-use Rattle.ordered_map.specs.OrderedMap.{pair}
-use Rattle.ordered_map.specs.TreeWords.{class, is_leaf, level}
+use Rattle.template.specs.Common.{Pair, wide_value, pair_in, held_pairs, IsWellCounted, pair, class, is_leaf, level}
+use Rattle.ordered_map.specs.Holding.{slots}
 use Rattle.ordered_map.proofs.Lemmas.{few_counted, held_slots}
 use Rattle.edits.specs.declared.piece.Piece.TheVariants.{Leaf, Fork}
 use Rattle.edits.specs.Laws.PieceFills.{HoldsWords}

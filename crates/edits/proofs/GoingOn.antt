@@ -1,12 +1,6 @@
 -- Once an update has begun what it does next, it is at the place for that (`placed`).
-use Rattle.std.proofs.Common.{◌≡◌, ℕ, ◌+◌, ◌*◌, ◌<◌, ◌≤◌, refl, arith}
-use Rattle.std.specs.Prelude.{Result, Ok, Err}
-use Rattle.arena.specs.declared.machine.Turn.{Turn}
-use Rattle.arena.specs.declared.machine.Turn.TheVariants.{Ask, Done}
-use Rattle.arena.specs.declared.word.NodeWord.{NodeWord}
-use Rattle.arena.specs.History.{History}
-use Rattle.arena.specs.Machines.{Call, begun_at}
-use Rattle.arena.specs.Share.{Remaining}
+use Rattle.std.proofs.Common.{◌≡◌, ℕ, ◌+◌, ◌*◌, ◌<◌, ◌≤◌, refl, arith, Result, Ok, Err}
+use Rattle.histories.specs.Common.{Turn, Ask, Done, NodeWord, History, Call, begun_at, Remaining}
 use Rattle.template.specs.declared.walk.Found.{Found}
 use Rattle.edits.specs.Edits.{EditMeaning}
 use Rattle.edits.specs.Known.{CanFill, UpdateTurn}

@@ -1,32 +1,15 @@
 -- What an update knows once a node more is looked at, and as it takes its fresh nodes.
-use Rattle.std.proofs.Common.{◌≡◌, ℕ, zero, suc, ◌+◌, ◌-◌, ◌<◌, ◌≤◌, ◌⊎◌, List, [], ◌∷◌, ◌++◌, length, inl, inr, ⊎_elim, refl, sym, ◌∙◌, ap, subst, arith}
-use Rattle.std.specs.Prelude.{min, take, Result, Ok, Err, OnOk, OnErr}
+use Rattle.std.proofs.Common.{◌≡◌, ℕ, zero, suc, ◌+◌, ◌-◌, ◌<◌, ◌≤◌, ◌⊎◌, List, [], ◌∷◌, ◌++◌, length, inl, inr, ⊎_elim, refl, sym, ◌∙◌, ap, subst, arith, min, take, Result, Ok, Err, OnOk, OnErr}
 use Rattle.std.proofs.lemmas.List.{take-append-le}
-use Rattle.arena.specs.Fills.{IsOwnNode}
-use Rattle.arena.specs.History.{History, Extends}
-use Rattle.arena.specs.Lawful.{Lawful}
-use Rattle.arena.specs.Machines.{Call, MatchTurn, begun_at}
-use Rattle.arena.specs.Share.{Remaining, HasNode}
+use Rattle.histories.specs.Common.{IsOwnNode, History, Extends, Lawful, Call, MatchTurn, begun_at, Remaining, HasNode, Turn, Ask, Done, Step}
 use Rattle.arena.proofs.Lemmas.{ends_self}
 use Rattle.histories.proofs.Lemmas.{unmentioned_unnamed}
-use Rattle.arena.specs.declared.machine.Turn.{Turn}
-use Rattle.arena.specs.declared.machine.Turn.TheVariants.{Ask, Done}
-use Rattle.arena.specs.declared.step.Step.{Step}
-use Rattle.prims.specs.FoundThere.{HasFoundThere}
+use Rattle.template.specs.Common.{HasFoundThere, IsSnapshot, LlxWaits, LlxAnswers, Llx, Snapshot, LlxRun, TreeAllows, snap_at, Snap, HasFoundGoal, Goal}
 use Rattle.prims.specs.Laws.FoundThere.{there_wider}
 use Rattle.prims.specs.Laws.Idle.{IsQuietSince}
-use Rattle.prims.specs.Llx.Known.{IsSnapshot, LlxWaits, LlxAnswers}
-use Rattle.prims.specs.declared.llx.Llx.{Llx}
-use Rattle.prims.specs.declared.llx.Llx.TheVariants.{Snapshot}
-use Rattle.prims.specs.declared.llx.LlxRun.{LlxRun}
-use Rattle.ordered_map.specs.TreeShape.{TreeAllows}
 use Rattle.edits.specs.declared.update.UpdateAt.TheVariants.{Look}
-use Rattle.prims.specs.Snap.{snap_at}
-use Rattle.prims.specs.declared.snap.Snap.{Snap}
 use Rattle.prims.proofs.Lemmas.{left_own_node, left_zero}
-use Rattle.template.specs.FoundLeaf.{HasFoundGoal}
 use Rattle.template.specs.declared.walk.Found.{Found}
-use Rattle.ordered_map.specs.declared.rule.Goal.{Goal}
 use Rattle.edits.specs.declared.edit.Look.TheVariants.{At, Enough}
 use Rattle.edits.specs.declared.edit.Work.{Work}
 use Rattle.edits.specs.declared.piece.Piece.{Piece}

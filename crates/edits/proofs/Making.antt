@@ -1,34 +1,17 @@
 -- What the call has made once its SCX is done.
 use Rattle.std.proofs.Common.{◌≡◌, ℕ, zero, suc, ◌+◌, ◌<◌, true, inr, List, [], ◌∷◌, length, get_or, refl, sym, ◌∙◌, ap, subst, arith}
-use Rattle.arena.specs.declared.number.ScxNo.{ScxNo}
-use Rattle.arena.specs.declared.step.Row.{Row}
-use Rattle.arena.specs.declared.word.Word.{Word}
-use Rattle.arena.specs.Fills.{IsOwnScx}
-use Rattle.arena.specs.History.{History, ◌⊳◌, value, Extends}
-use Rattle.arena.specs.Lawful.{Lawful, HasWon, IsWin}
-use Rattle.arena.specs.Log.{Entry, log, members_from}
-use Rattle.arena.specs.Machines.{Call, begun_at}
-use Rattle.arena.specs.ScxRecords.{member, count}
+use Rattle.histories.specs.Common.{ScxNo, Row, Word, IsOwnScx, History, ◌⊳◌, value, Extends, Lawful, HasWon, IsWin, Entry, log, members_from, Call, begun_at, member, count}
 use Rattle.arena.proofs.Lemmas.{ends_self, ends_trans}
 use Rattle.histories.proofs.Lemmas.{entry_of, facts_before, lawful_since, log_wins, node_since}
-use Rattle.prims.specs.Scx.Known.{job_of, IsDone, IsEntryAt, nodes_of, update_entry}
-use Rattle.prims.specs.Snap.{snap_at}
-use Rattle.prims.specs.declared.snap.Snap.{Snap}
-use Rattle.prims.specs.declared.scx.ScxRun.{ScxRun}
-use Rattle.prims.specs.declared.update.Update.{Update}
-use Rattle.ordered_map.specs.OrderedMap.{edit_key, get}
-use Rattle.ordered_map.specs.Spelled.{Spells}
-use Rattle.ordered_map.specs.declared.pair.Pair.{Pair}
-use Rattle.ordered_map.specs.Paths.{WasOnPath, end_key}
-use Rattle.ordered_map.specs.Runs.{IsTreeRun, Makes, IsEditAt}
-use Rattle.ordered_map.specs.TreeShape.{edit_leaf}
-use Rattle.ordered_map.specs.TreeWords.{end_said, is_leaf, said}
+use Rattle.template.specs.Common.{job_of, nodes_of, snap_at, Snap, ScxRun, Update, edit_key, get, Spells, Pair, WasOnPath, IsTreeRun}
+use Rattle.template.specs.Common.{Makes, edit_leaf, is_leaf, said, path_key, asked_key, asked_in, HasFoundGoal, Goal, Key as ToKey, End}
+use Rattle.prims.specs.Scx.Known.{IsDone, IsEntryAt, update_entry}
+use Rattle.ordered_map.specs.Paths.{end_key}
+use Rattle.ordered_map.specs.Runs.{IsEditAt}
+use Rattle.ordered_map.specs.TreeWords.{end_said}
 use Rattle.ordered_map.proofs.Lemmas.{SameSettled, run_since, settled_said, settled_end, settled_leaf, walk_named, win_end, win_makes, wins_of}
 use Rattle.template.proofs.Lemmas.{found_told, tracked_makes}
-use Rattle.template.specs.FoundLeaf.{path_key, asked_key, asked_in, HasFoundGoal}
 use Rattle.template.specs.declared.walk.Found.{Found}
-use Rattle.ordered_map.specs.declared.rule.Goal.{Goal}
-use Rattle.ordered_map.specs.declared.rule.Goal.TheVariants.{Key as ToKey, End}
 use Rattle.edits.specs.declared.update.UpdateRun.{UpdateRun}
 use Rattle.edits.specs.Edits.{EditMeaning}
 use Rattle.edits.specs.Sound.{IsAtFound}

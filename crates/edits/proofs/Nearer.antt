@@ -1,11 +1,7 @@
 -- That each turn of an update leaves fewer steps, and takes no more of the share than it may.
-use Rattle.std.proofs.Common.{◌≡◌, ◌≢◌, ℕ, zero, suc, ◌+◌, ◌*◌, ◌-◌, ◌<◌, ◌≤◌, ◌⊎◌, refl, sym, arith, inl, inr, ap, subst, Some}
-use Rattle.std.specs.Prelude.{Result, Ok, Err, OnOk, OnErr}
+use Rattle.std.proofs.Common.{◌≡◌, ◌≢◌, ℕ, zero, suc, ◌+◌, ◌*◌, ◌-◌, ◌<◌, ◌≤◌, ◌⊎◌, refl, sym, arith, inl, inr, ap, subst, Some, Result, Ok, Err, OnOk, OnErr}
 use Rattle.std.proofs.Math.Nat.{suc-mul}
-use Rattle.arena.specs.declared.machine.Turn.{Turn}
-use Rattle.arena.specs.declared.machine.Turn.TheVariants.{Ask, Done}
-use Rattle.arena.specs.Machines.{MatchTurn}
-use Rattle.arena.specs.declared.word.NodeWord.{NodeWord}
+use Rattle.histories.specs.Common.{Turn, Ask, Done, MatchTurn, NodeWord}
 use Rattle.edits.specs.declared.piece.Piece.{Piece}
 use Rattle.edits.specs.Laws.PieceFills.{next_word}
 use Rattle.edits.specs.Pieces.{all_fills, part_behind, fills_behind}

@@ -1,7 +1,5 @@
 -- The places of an edit's fresh nodes: their numbers, which comes next, and which is the last.
-use Rattle.std.proofs.Common.{◌≡◌, ℕ, suc, ◌+◌, ◌-◌, ◌<◌, ◌≤◌, Bool, true, false, if◌then◌else◌, Some, None, refl, subst, arith}
-use Rattle.std.specs.Prelude.{min, nat_lt}
-use Rattle.std.proofs.lemmas.Bool.{eq-eqb, ltb-false, ltb-true, ne_eqb}
+use Rattle.std.proofs.Common.{◌≡◌, ℕ, suc, ◌+◌, ◌-◌, ◌<◌, ◌≤◌, Bool, true, false, if◌then◌else◌, Some, None, refl, subst, arith, min, nat_lt, eq-eqb, ltb-false, ltb-true, ne_eqb}
 use Rattle.edits.specs.declared.edit.Nodes.{Nodes}
 use Rattle.edits.specs.declared.edit.Nth.{Nth}
 use Rattle.edits.specs.declared.edit.Nth.TheVariants.{First, Second, Third}

@@ -1,9 +1,6 @@
 -- What is filled after the words of a pair.
 use Rattle.std.proofs.Common.{◌≡◌, ◌<◌, true, false, Some, refl, arith, lt-ltb, le-ltb}
-use Rattle.arena.specs.declared.word.NodeWord.{NodeWord}
-use Rattle.arena.specs.declared.word.NodeWord.TheVariants.{Settled}
-use Rattle.arena.specs.declared.word.SettledPart.TheVariants.{Key, Value, High}
-use Rattle.arena.specs.declared.word.Slot.{Slot}
+use Rattle.histories.specs.Common.{NodeWord, Settled, Key, Value, High, Slot}
 use Rattle.edits.specs.declared.piece.Piece.{Piece}
 use Rattle.edits.specs.declared.piece.Piece.TheVariants.{Leaf, Fork}
 use Rattle.edits.specs.Laws.PieceFills.{next_word}

@@ -4,8 +4,7 @@ use Rattle.std.specs.Prelude.{min, nat_lt, slice_set, if◌then◌else◌}
 use Rattle.std.specs.List.{remove}
 use native.Mathlib.Decide.{ℕ_discrete}
 use Rattle.std.proofs.Math.Decide.{dec_lt}
-use Rattle.ordered_map.specs.declared.pair.Pair.{Pair}
-use Rattle.ordered_map.specs.OrderedMap.{pair, insert, delete}
+use Rattle.template.specs.Common.{Pair, pair, insert, delete}
 use Rattle.edits.specs.declared.pairs.Pairs.TheInside.{Inside}
 use Rattle.edits.specs.Laws.PairPlaces.{listed, placed_pairs}
 use Rattle.edits.specs.Pairs.{pair_at, below, before, has_at, run, moved_on, moved_back}

@@ -2,24 +2,10 @@
 use Rattle.std.proofs.Common.{◌≡◌, ℕ, suc, ◌+◌, ◌-◌, ◌*◌, ◌<◌, ◌≤◌, Bool, true, false, ◌==◌, ◌&&◌, Some, None, Option, [], ◌∷◌, ◌++◌, length, take, eq-eqb, refl, sym, ◌∙◌, ap, subst, arith, append_assoc, append-nil, length-append}
 use Rattle.std.specs.Prelude.{if◌then◌else◌, nat_lt, IfSome, is_none, unwrap_or, Ok}
 use Rattle.arena.specs.declared.head.Head.{Head}
-use Rattle.arena.specs.declared.layout.Layout.{Layout}
-use Rattle.arena.specs.declared.number.NodeNo.{NodeNo}
-use Rattle.arena.specs.declared.step.Access.TheVariants.{Load as LoadAccess}
-use Rattle.arena.specs.declared.step.Kind.TheVariants.{LoadSettled}
-use Rattle.arena.specs.declared.word.NodeWord.TheVariants.{Settled}
-use Rattle.arena.specs.declared.word.SettledPart.{SettledPart}
-use Rattle.arena.specs.declared.word.SettledPart.TheVariants.{Head as HeadPart, More, Key, Value, High}
-use Rattle.arena.specs.declared.word.Slot.{Slot}
+use Rattle.histories.specs.Common.{Layout, NodeNo, Load as LoadAccess, LoadSettled, Settled, SettledPart, Head as HeadPart, More, Key, Value}
+use Rattle.histories.specs.Common.{High, Slot, Word, Node as NodeOf, head_of, History, value, Call, begun_at, Remaining, node, slot_no}
 use Rattle.arena.specs.declared.word.Slot.TheVariants as slots
-use Rattle.arena.specs.declared.word.Word.{Word}
-use Rattle.arena.specs.declared.word.Word.TheVariants.{Node as NodeOf}
-use Rattle.arena.specs.Heads.{head_of}
-use Rattle.arena.specs.History.{History, value}
-use Rattle.arena.specs.Machines.{Call, begun_at}
-use Rattle.arena.specs.Share.{Remaining}
-use Rattle.arena.specs.Words.{node, slot_no}
-use Rattle.ordered_map.specs.Holding.{slot_behind, wide_value, held_from, held_behind, held_pairs}
-use Rattle.ordered_map.specs.OrderedMap.{pair}
+use Rattle.template.specs.Common.{slot_behind, wide_value, held_from, held_behind, held_pairs, pair}
 use Rattle.ordered_map.proofs.Lemmas.{held_next}
 use Rattle.template.specs.declared.walk.Found.{Found}
 use Rattle.edits.specs.declared.edit.Nth.{Nth}

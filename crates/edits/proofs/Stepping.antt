@@ -1,18 +1,7 @@
 -- What an update knows when it gets something, by its place.
 use Rattle.std.proofs.Common.{◌≡◌, ℕ, Option, Some, None, unwrap_or, refl, sym, ◌∙◌, subst}
-use Rattle.arena.specs.declared.number.NodeNo.{NodeNo}
-use Rattle.arena.specs.declared.word.NodeWord.{NodeWord}
-use Rattle.arena.specs.declared.word.NodeWord.TheVariants.{Settled}
-use Rattle.arena.specs.declared.word.SettledPart.{SettledPart}
-use Rattle.arena.specs.History.{History, value}
-use Rattle.arena.specs.Machines.{Call, begun_at}
-use Rattle.arena.specs.Words.{node}
-use Rattle.prims.specs.Llx.Known.{LlxIsReady}
-use Rattle.prims.specs.Scx.Known.{ScxIsReady}
-use Rattle.prims.specs.declared.llx.LlxRun.{LlxRun}
-use Rattle.prims.specs.declared.scx.ScxRun.{ScxRun}
-use Rattle.ordered_map.specs.TreeShape.{TreeAllows}
-use Rattle.template.specs.Walk.Known.{WalkIsTold}
+use Rattle.histories.specs.Common.{NodeNo, NodeWord, Settled, SettledPart, History, value, Call, begun_at, node}
+use Rattle.template.specs.Common.{LlxIsReady, ScxIsReady, LlxRun, ScxRun, TreeAllows, WalkIsTold}
 use Rattle.template.specs.declared.walk.Found.{Found}
 use Rattle.template.specs.declared.walk.WalkRun.{WalkRun}
 use Rattle.edits.specs.declared.edit.Nth.{Nth}

@@ -1,41 +1,17 @@
 -- What an update waits for after each of its turns.
 use Rattle.std.proofs.Common.{◌≡◌, ◌≢◌, ℕ, suc, ◌-◌, ◌<◌, ◌⊎◌, inr, refl, ⊎_elim, sym, ◌∙◌, ap, subst, arith}
-use Rattle.arena.specs.declared.machine.Turn.{Turn}
-use Rattle.arena.specs.declared.machine.Turn.TheVariants.{Ask, Done}
-use Rattle.arena.specs.declared.number.NodeNo.{NodeNo}
-use Rattle.arena.specs.declared.number.ScxNo.{ScxNo}
-use Rattle.arena.specs.declared.step.Step.{Step}
-use Rattle.arena.specs.declared.step.Access.TheVariants.{Store}
-use Rattle.arena.specs.declared.step.Kind.TheVariants.{Fill as FillKind, LoadMarked, LoadSettled}
-use Rattle.arena.specs.declared.word.NodeWord.{NodeWord}
-use Rattle.arena.specs.declared.word.NodeWord.TheVariants.{Settled}
-use Rattle.arena.specs.declared.word.SettledPart.TheVariants.{Head as HeadWord}
-use Rattle.arena.specs.declared.word.Word.TheVariants.{Node as NodeOf}
-use Rattle.arena.specs.History.{History, ◌⊳◌, value, Extends}
-use Rattle.arena.specs.Fills.{IsOwnNode, IsOwnScx}
-use Rattle.arena.specs.Lawful.{Lawful}
-use Rattle.arena.specs.Machines.{Call, IsRun, MatchTurn, begun_at}
-use Rattle.arena.specs.Share.{Remaining}
-use Rattle.arena.specs.Words.{marked, node, state}
+use Rattle.histories.specs.Common.{Turn, Ask, Done, NodeNo, ScxNo, Step, Store, Fill as FillKind, LoadMarked, LoadSettled, NodeWord, Settled, Head as HeadWord, Node as NodeOf}
+use Rattle.histories.specs.Common.{History, ◌⊳◌, value, Extends, IsOwnNode, IsOwnScx, Lawful, Call, IsRun, MatchTurn, begun_at, Remaining, marked, node, state}
 use Rattle.arena.proofs.Lemmas.{ends_self, ends_trans}
 use Rattle.histories.proofs.Lemmas.{finished_taken}
 use Rattle.prims.specs.Laws.Idle.{IsQuietSince, quiet_at_start}
-use Rattle.prims.specs.Llx.Known.{IsOpened, load}
-use Rattle.prims.specs.Moments.{AreFinished}
-use Rattle.prims.specs.Scx.Known.{Job, IsDone, IsLost, ScxWaits, ScxAnswers}
-use Rattle.prims.specs.Shares.{IsShare}
+use Rattle.template.specs.Common.{IsOpened, load, AreFinished, Job, ScxWaits, IsShare, Scx as ScxAnswer, Done as ScxDone, Lost, ScxRun}
+use Rattle.template.specs.Common.{Update, TreeAllows, HasFoundGoal, Tracks, WalkIsTold, WalkWaits, IsPastRoot, IsContended, HasTriedAllBut}
+use Rattle.prims.specs.Scx.Known.{IsDone, IsLost, ScxAnswers}
 use Rattle.prims.specs.declared.llx.LlxAt.TheVariants.{Start as LlxStart, Marked as AtMarked}
-use Rattle.prims.specs.declared.scx.Scx.{Scx as ScxAnswer}
-use Rattle.prims.specs.declared.scx.Scx.TheVariants.{Done as ScxDone, Lost}
-use Rattle.prims.specs.declared.scx.ScxRun.{ScxRun}
-use Rattle.prims.specs.declared.update.Update.{Update}
 use Rattle.prims.proofs.Lemmas.{over_ends, turn_first}
-use Rattle.ordered_map.specs.TreeShape.{TreeAllows}
 use Rattle.template.proofs.Lemmas.{contended_wider, next_again, own_since, tried_in}
-use Rattle.template.specs.FoundLeaf.{HasFoundGoal}
-use Rattle.template.specs.Tracked.{Tracks}
-use Rattle.template.specs.Walk.Known.{WalkIsTold, WalkWaits, WalkAnswers}
-use Rattle.template.specs.Walk.Places.{IsPastRoot}
+use Rattle.template.specs.Walk.Known.{WalkAnswers}
 use Rattle.template.specs.declared.walk.Found.{Found}
 use Rattle.template.specs.declared.walk.WalkAt.TheVariants.{Root}
 use Rattle.template.specs.declared.walk.WalkRun.{WalkRun}
@@ -45,8 +21,6 @@ use Rattle.edits.specs.declared.piece.Piece.{Piece}
 use Rattle.edits.specs.declared.update.Updated.{Updated}
 use Rattle.edits.specs.declared.update.UpdateAt.TheVariants.{Walk, Look, Fill, Scx}
 use Rattle.edits.specs.declared.update.UpdateRun.{UpdateRun}
-use Rattle.template.specs.Blame.{IsContended}
-use Rattle.template.specs.Tries.{HasTriedAllBut}
 use Rattle.edits.specs.Next.{standing}
 use Rattle.edits.specs.Edits.{EditMeaning, says}
 use Rattle.edits.specs.Sound.{IsAtFound}

@@ -1,36 +1,19 @@
 -- What a call by itself finds and leaves: it has the map to itself.
 use Rattle.std.proofs.Common.{◌≡◌, ◌≢◌, ℕ, ◌^◌, ◌<◌, inl, inr, List, Option, refl, sym, ◌∙◌, ap, subst, arith}
 use native.Mathlib.Decide.{ℕ_discrete}
-use Rattle.arena.specs.declared.layout.Layout.{Layout}
-use Rattle.arena.specs.declared.step.Row.{Row}
-use Rattle.arena.specs.declared.word.Side.{Side}
-use Rattle.arena.specs.Blame.{IsInProgress}
-use Rattle.arena.specs.Fills.{IsOwnScx, IsOthersScx}
-use Rattle.arena.specs.History.{History, Start, ◌⊳◌, value, Extends}
-use Rattle.arena.specs.Lawful.{Lawful, HasWon, IsWin}
-use Rattle.arena.specs.Log.{log}
-use Rattle.arena.specs.Machines.{Call}
+use Rattle.histories.specs.Common.{Layout, Row, Side, IsInProgress, IsOwnScx, IsOthersScx, History, Start, ◌⊳◌, value, Extends, Lawful, HasWon, IsWin, log, Call, state, descriptor}
 use Rattle.arena.specs.Undisturbed.{IsUndisturbed}
-use Rattle.arena.specs.Words.{state}
 use Rattle.arena.proofs.Lemmas.{ends_self, ends_trans}
-use Rattle.histories.specs.Descriptor.{descriptor}
 use Rattle.histories.proofs.Lemmas.{Facts, IsOwned, Logs, facts, facts_before, lawful_since, lawful_tail, logs, same, update_changes, update_is_first, wins, won_since}
 use Rattle.prims.specs.Laws.Idle.{out_by_others}
 use Rattle.prims.proofs.Lemmas.{wins_in_progress}
-use Rattle.ordered_map.specs.Paths.{IsAnswerAt, IsEndAt}
-use Rattle.ordered_map.specs.TreeWords.{said}
-use Rattle.ordered_map.specs.OrderedMap.{MapEdit, edited, end_pair, get}
-use Rattle.ordered_map.specs.Runs.{IsTreeRun}
-use Rattle.ordered_map.specs.Spelled.{Spells}
-use Rattle.ordered_map.specs.declared.pair.Pair.{Pair}
+use Rattle.template.specs.Common.{IsAnswerAt, said, MapEdit, edited, end_pair, get, IsTreeRun, Spells, Pair, HasFoundGoal, HasFoundLeaf, end_told, End, IsContended}
+use Rattle.ordered_map.specs.Paths.{IsEndAt}
 use Rattle.ordered_map.specs.Laws.{AreEdits}
 use Rattle.ordered_map.specs.Runs.{map_of_log}
 use Rattle.ordered_map.proofs.Lemmas.{log_edits, one_spelling, spells_log, walk_answers, wins_of}
 use Rattle.template.proofs.Lemmas.{found_end, own_since}
-use Rattle.template.specs.FoundLeaf.{HasFoundGoal, HasFoundLeaf, end_told}
 use Rattle.template.specs.declared.walk.Found.{Found}
-use Rattle.ordered_map.specs.declared.rule.Goal.TheVariants.{End}
-use Rattle.template.specs.Blame.{IsContended}
 use Rattle.edits.specs.Known.{HasMade, ToldEnd}
 use Rattle.edits.specs.Tries.{HasEnteredNone}
 

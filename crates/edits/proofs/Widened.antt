@@ -1,13 +1,9 @@
 -- What a try has found its call has found.
 use Rattle.std.proofs.Common.{ℕ}
-use Rattle.arena.specs.declared.word.Side.{Side}
-use Rattle.arena.specs.History.{History, Extends}
-use Rattle.arena.specs.Machines.{Call, begun_at}
+use Rattle.histories.specs.Common.{Side, History, Extends, Call, begun_at}
 use Rattle.arena.proofs.Lemmas.{ends_trans}
-use Rattle.template.specs.FoundLeaf.{HasFoundGoal, path_key}
-use Rattle.template.specs.Trails.{IsOwnMoment, WasPassed, HasTurned}
+use Rattle.template.specs.Common.{HasFoundGoal, path_key, IsOwnMoment, WasPassed, HasTurned, Goal}
 use Rattle.template.specs.declared.walk.Found.{Found}
-use Rattle.ordered_map.specs.declared.rule.Goal.{Goal}
 
 module _ (c : Call) (b : History) (since : Extends b c.start) where
   own_wider : (h : History) → IsOwnMoment (begun_at c b) h → IsOwnMoment c h

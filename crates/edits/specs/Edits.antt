@@ -1,10 +1,8 @@
 -- What an edit of the tree says to the machine that makes it.
 use Rattle.std.specs.Prelude.{◌≡◌, ℕ, ◌<◌, ◌≤◌, List, length, Option, Some}
 use Rattle.arena.specs.declared.number.NodeNo.{NodeNo}
-use Rattle.prims.specs.declared.snap.Snap.{Snap}
-use Rattle.ordered_map.specs.OrderedMap.{MapEdit}
+use Rattle.template.specs.Common.{Snap, MapEdit, Goal}
 use Rattle.template.specs.declared.walk.Found.{Found}
-use Rattle.ordered_map.specs.declared.rule.Goal.{Goal}
 use Rattle.edits.specs.declared.edit.Look.{Look}
 use Rattle.edits.specs.declared.edit.Look.TheVariants.{At}
 use Rattle.edits.specs.declared.edit.Nodes.{Nodes}

@@ -1,19 +1,7 @@
 -- What a try of an update does next, before the update is at the place for it.
 use Rattle.std.specs.Prelude.{◌≡◌, ℕ, suc, ◌*◌, ◌<◌, ◌≤◌, Result, Ok, Err}
-use Rattle.arena.specs.declared.machine.Turn.TheVariants.{Ask}
-use Rattle.arena.specs.declared.step.Access.TheVariants.{Load as LoadAccess, Store}
-use Rattle.arena.specs.declared.step.Kind.TheVariants.{LoadMarked, LoadState, LoadSettled, Fill as FillKind}
-use Rattle.arena.specs.declared.step.Step.{Step}
-use Rattle.arena.specs.declared.word.NodeWord.{NodeWord}
-use Rattle.arena.specs.declared.word.NodeWord.TheVariants.{Settled, Marked as MarkedWord}
-use Rattle.arena.specs.declared.word.SettledPart.{SettledPart}
-use Rattle.arena.specs.declared.word.SettledPart.TheVariants.{Head, Key, Value}
-use Rattle.arena.specs.declared.word.Slot.{Slot}
-use Rattle.arena.specs.declared.word.ScxWord.TheVariants.{Plan as PlanWord, State as StateWord}
-use Rattle.arena.specs.declared.word.Word.TheVariants.{Node as NodeOf, Scx as ScxOf}
-use Rattle.arena.specs.History.{History}
-use Rattle.arena.specs.Machines.{Call}
-use Rattle.arena.specs.Share.{Remaining}
+use Rattle.histories.specs.Common.{Ask, Load as LoadAccess, Store, LoadMarked, LoadState, LoadSettled, Fill as FillKind, Step, NodeWord, Settled, Marked as MarkedWord}
+use Rattle.histories.specs.Common.{SettledPart, Head, Key, Value, Slot, Plan as PlanWord, State as StateWord, Node as NodeOf, Scx as ScxOf, History, Call, Remaining}
 use Rattle.prims.specs.declared.llx.LlxAt.TheVariants.{Marked, StateAgain}
 use Rattle.prims.specs.declared.scx.ScxAt.TheVariants.{Plan as AtPlan}
 use Rattle.prims.specs.declared.update.Update.{Update}

@@ -1,7 +1,6 @@
 -- Lists of a few pairs, by their places.
 use Rattle.std.specs.Prelude.{ℕ, zero, suc, Bool, false, not, ◌==◌, nat_lt, if◌then◌else◌, List, [], ◌∷◌, slice_index_or}
-use Rattle.ordered_map.specs.declared.pair.Pair.{Pair}
-use Rattle.ordered_map.specs.OrderedMap.{pair}
+use Rattle.template.specs.Common.{Pair, pair}
 
 -- the pair at a place of the list, or a blank one after its last
 abbrev pub pair_at : List Pair → ℕ → Pair

@@ -1,21 +1,8 @@
 -- What fresh nodes are to hold.
 use Rattle.std.specs.Prelude.{ℕ, suc, ◌+◌, ◌*◌, ◌-◌, ◌/◌, ◌%◌, ◌^◌, min, nat_lt, Bool, true, false, if◌then◌else◌, List, length, Option, Some, None}
-use Rattle.arena.specs.declared.number.NodeNo.{NodeNo}
-use Rattle.arena.specs.declared.word.Side.TheVariants.{Left, Right}
-use Rattle.arena.specs.declared.word.NodeWord.{NodeWord}
-use Rattle.arena.specs.declared.word.NodeWord.TheVariants.{Settled, Child, Info, Marked}
-use Rattle.arena.specs.declared.word.SettledPart.TheVariants.{Head, More, Key, Value, High}
-use Rattle.arena.specs.declared.word.Slot.{Slot}
-use Rattle.arena.specs.declared.word.Slot.TheVariants.{First as FirstSlot}
+use Rattle.histories.specs.Common.{NodeNo, Left, Right, NodeWord, Settled, Child, Info, Marked, Head, More, Key, Value, High, Slot, First as FirstSlot, field_index_of, side_of, Remaining, slot_no, first_key}
 use Rattle.arena.specs.Heads.{head_word}
-use Rattle.arena.specs.ScxRecords.{field_index_of, side_of}
-use Rattle.arena.specs.Share.{Remaining}
-use Rattle.arena.specs.Words.{slot_no, first_key}
-use Rattle.prims.specs.Snap.{child_of, snap_at}
-use Rattle.prims.specs.declared.snap.Snap.{Snap}
-use Rattle.prims.specs.declared.update.Update.{Update}
-use Rattle.ordered_map.specs.declared.pair.Pair.{Pair}
-use Rattle.ordered_map.specs.Holding.{slot_behind}
+use Rattle.template.specs.Common.{child_of, snap_at, Snap, Update, Pair, slot_behind}
 use Rattle.edits.specs.declared.edit.Nodes.{Nodes}
 use Rattle.edits.specs.declared.edit.Nth.{Nth}
 use Rattle.edits.specs.declared.edit.Nth.TheVariants.{First, Second, Third}

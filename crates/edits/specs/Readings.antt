@@ -2,18 +2,8 @@
 -- 0 how many pairs it has after its first, and then key, value and high half of each.
 use Rattle.std.specs.Prelude.{◌≡◌, ℕ, ◌+◌, ◌*◌, ◌-◌, Bool, false, ◌==◌, ◌&&◌, if◌then◌else◌, [], ◌∷◌, ◌++◌, length, take, Option, Some, None, IfSome, is_none, unwrap_or}
 use Rattle.arena.specs.declared.head.Head.{Head}
-use Rattle.arena.specs.declared.word.NodeWord.TheVariants.{Settled}
-use Rattle.arena.specs.declared.word.SettledPart.{SettledPart}
-use Rattle.arena.specs.declared.word.SettledPart.TheVariants.{Head as HeadPart, More, Key, Value, High}
-use Rattle.arena.specs.declared.word.Slot.{Slot}
-use Rattle.arena.specs.declared.word.Slot.TheVariants.{First}
-use Rattle.arena.specs.declared.word.Word.{Word}
-use Rattle.arena.specs.Heads.{head_of}
-use Rattle.arena.specs.Words.{node, slot_no}
-use Rattle.ordered_map.specs.declared.pair.Pair.{Pair}
-use Rattle.ordered_map.specs.Holding.{slot_behind, wide_value, held_behind, held_pairs}
-use Rattle.ordered_map.specs.OrderedMap.{pair}
-use Rattle.arena.specs.declared.number.NodeNo.{NodeNo}
+use Rattle.histories.specs.Common.{Settled, SettledPart, Head as HeadPart, More, Key, Value, High, Slot, First, Word, head_of, node, slot_no, NodeNo}
+use Rattle.template.specs.Common.{Pair, slot_behind, wide_value, held_behind, held_pairs, pair}
 use Rattle.edits.specs.declared.reading.Known.{Known}
 use Rattle.edits.specs.declared.reading.Known.TheVariants.{Nothing, Leaf}
 use Rattle.edits.specs.declared.reading.Reading.{Reading}

@@ -1,22 +1,8 @@
 -- The laws of an edit.
 use Rattle.std.specs.Prelude.{◌≡◌, ◌⊎◌, ℕ, ◌<◌, true, List, Some}
-use Rattle.arena.specs.declared.number.NodeNo.{NodeNo}
-use Rattle.arena.specs.declared.number.ScxNo.{ScxNo}
-use Rattle.arena.specs.declared.word.NodeWord.TheVariants.{Child}
-use Rattle.arena.specs.declared.word.Side.{Side}
-use Rattle.arena.specs.Fills.{IsInField}
-use Rattle.arena.specs.History.{History}
-use Rattle.arena.specs.Machines.{Call}
-use Rattle.histories.specs.Descriptor.{Descriptor}
+use Rattle.histories.specs.Common.{NodeNo, ScxNo, Child, Side, IsInField, History, Call, Descriptor}
 use Rattle.prims.specs.Laws.Idle.{IsQuietSince}
-use Rattle.prims.specs.Llx.Known.{IsOpened}
-use Rattle.prims.specs.Scx.Known.{IsUpdateOver, Job, Says}
-use Rattle.prims.specs.declared.snap.Snap.{Snap}
-use Rattle.ordered_map.specs.OrderedMap.{edit_key}
-use Rattle.ordered_map.specs.Runs.{IsTreeRun}
-use Rattle.template.specs.Blame.{IsContended, WasNotFinal}
-use Rattle.template.specs.FoundLeaf.{asked_key}
-use Rattle.template.specs.Promises.{IsPromised}
+use Rattle.template.specs.Common.{IsOpened, IsUpdateOver, Job, Says, Snap, edit_key, IsTreeRun, IsContended, WasNotFinal, asked_key, IsPromised}
 use Rattle.template.specs.declared.walk.Found.{Found}
 use Rattle.edits.specs.declared.edit.Look.TheVariants.{At, Differs, Enough}
 use Rattle.edits.specs.declared.edit.Nodes.{Nodes}

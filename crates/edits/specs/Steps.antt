@@ -1,13 +1,9 @@
 -- How many steps an update may still ask for: how many at most in a try, and as many in each try
 -- that is left after it.
 use Rattle.std.specs.Prelude.{◌≡◌, ℕ, ◌+◌, ◌*◌, ◌-◌, ◌<◌, ◌≤◌, length, Option, Some}
-use Rattle.arena.specs.declared.machine.Turn.{Turn}
-use Rattle.arena.specs.declared.word.NodeWord.{NodeWord}
-use Rattle.arena.specs.Machines.{MatchTurn}
-use Rattle.arena.specs.Share.{Remaining}
-use Rattle.prims.specs.Llx.Steps.{llx_left}
+use Rattle.histories.specs.Common.{Turn, NodeWord, MatchTurn, Remaining}
+use Rattle.template.specs.Common.{llx_left, walk_left, WalkFits}
 use Rattle.prims.specs.Scx.Steps.{scx_left}
-use Rattle.template.specs.Walk.Steps.{walk_left, WalkFits}
 use Rattle.template.specs.declared.walk.Found.{Found}
 use Rattle.edits.specs.declared.edit.Nth.{Nth}
 use Rattle.edits.specs.declared.piece.Piece.{Piece}

@@ -1,17 +1,8 @@
 -- The tries of a call, and what its pass has entered into the log since it began.
 use Rattle.std.specs.Prelude.{◌≡◌, ◌≢◌, ℕ, ◌<◌, List, length}
-use Rattle.arena.specs.declared.layout.Layout.{Layout}
-use Rattle.arena.specs.declared.step.Kind.TheVariants.{Fill}
-use Rattle.arena.specs.declared.step.Row.{Row}
-use Rattle.arena.specs.Fills.{IsOwnScx}
-use Rattle.arena.specs.History.{History, ◌⊳◌, Extends}
-use Rattle.arena.specs.Lawful.{IsWin}
-use Rattle.arena.specs.Machines.{Call}
-use Rattle.arena.specs.ScxRecords.{count, member}
-use Rattle.prims.specs.Snap.{snap_at}
-use Rattle.prims.specs.declared.snap.Snap.{Snap}
-use Rattle.ordered_map.specs.Tries.{IsNewestTry}
-use Rattle.template.specs.Tries.{MayTryNext, IsInNewest}
+use Rattle.histories.specs.Common.{Layout, Fill, Row, IsOwnScx, History, ◌⊳◌, Extends, IsWin, Call, count, member}
+use Rattle.template.specs.Common.{snap_at, Snap, IsNewestTry, MayTryNext}
+use Rattle.template.specs.Tries.{IsInNewest}
 use Rattle.template.specs.declared.walk.WalkAt.{WalkAt}
 use Rattle.template.specs.declared.walk.WalkAt.TheVariants.{Root}
 

@@ -1,16 +1,6 @@
 -- What a machine's laws make of a step under the rule.
 use Rattle.std.proofs.Common.{◌≡◌, ◌≢◌, ◌<◌, ◌≤◌, ℕ, suc, List, [], ◌∷◌, ◌++◌, length, sym, ap, refl, ◌∙◌, subst, eq-eqb, ne_eqb, arith}
-use Rattle.arena.specs.declared.layout.Layout.{Layout}
-use Rattle.arena.specs.declared.step.Row.{Row}
-use Rattle.arena.specs.declared.step.Step.{Step}
-use Rattle.arena.specs.declared.machine.Turn.{Turn}
-use Rattle.arena.specs.declared.machine.Turn.TheVariants.{Ask, Done}
-use Rattle.arena.specs.Layout.{IsWord}
-use Rattle.arena.specs.History.{History, ◌⊳◌, value}
-use Rattle.arena.specs.Lawful.{Lawful}
-use Rattle.arena.specs.Machines.{Call, IsRun, IsTold, MatchTurn, row_of}
-use Rattle.arena.specs.Shape.{Shaped}
-use Rattle.arena.specs.TakenNodes.{taken_nodes}
+use Rattle.histories.specs.Common.{Layout, Row, Step, Turn, Ask, Done, IsWord, History, ◌⊳◌, value, Lawful, Call, IsRun, IsTold, MatchTurn, row_of, Shaped, taken_nodes}
 use Rattle.arena.proofs.Lemmas.{taken_few}
 use Rattle.histories.proofs.Lemmas.{lawful_row}
 use Rattle.forest.specs.declared.rule.CallStep.{CallStep}

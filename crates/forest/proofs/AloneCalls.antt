@@ -2,12 +2,8 @@
 -- most one try, and takes at most what one may.
 use Rattle.std.proofs.Common.{ℕ, ◌+◌, ◌*◌, ◌≤◌, sym, subst, arith}
 use Rattle.std.proofs.Math.Nat.{mul-le-mul_left}
-use Rattle.arena.specs.Blame.{WasInTheWay}
-use Rattle.arena.specs.Fills.{IsOthersScx}
-use Rattle.arena.specs.History.{Extends}
-use Rattle.ordered_map.specs.CallRules.{most_nodes, most_scx}
-use Rattle.ordered_map.specs.OrderedMap.{MapCall}
-use Rattle.template.specs.Tries.{tries_since}
+use Rattle.histories.specs.Common.{WasInTheWay, IsOthersScx, Extends}
+use Rattle.template.specs.Common.{most_nodes, most_scx, MapCall, tries_since}
 use Rattle.template.proofs.Lemmas.{alone_once}
 use Rattle.dict.specs.Laws.EachCall.{one_alone, tries_take}
 use Rattle.forest.specs.Dictionary.{HasSpentAtMost}

@@ -9,12 +9,7 @@ use Rattle.std.proofs.lemmas.List.Elements.{All-nil, All-cons, All-contains, All
 use Rattle.std.proofs.lemmas.List.Kept.{AllPairs-cons}
 use Rattle.std.proofs.lemmas.List.Sums.{sum_by-cons}
 use Rattle.std.proofs.lemmas.Map.Made.{IsDistinct-from_AllPairs, is_member-Decides, length-le_from_is_member}
-use Rattle.arena.specs.declared.layout.Layout.{Layout}
-use Rattle.arena.specs.Words.{info, state}
-use Rattle.arena.specs.History.{History, ◌⊳◌, value, HasHeld, Extends}
-use Rattle.arena.specs.ScxRecords.{plan, count, member}
-use Rattle.arena.specs.Blame.{IsMember, WasInTheWay}
-use Rattle.arena.specs.Lawful.{Lawful}
+use Rattle.histories.specs.Common.{Layout, info, state, History, ◌⊳◌, value, HasHeld, Extends, plan, count, member, IsMember, WasInTheWay, Lawful}
 use Rattle.arena.proofs.Lemmas.{held_since, plan_counted}
 use Rattle.histories.proofs.Lemmas.{facts, lawful_since, member_of, state_since}
 use Rattle.template.specs.Blame.{IsOverOrNew}

@@ -1,11 +1,6 @@
 -- What holds of each own row of a call, as that it carries the number of the call.
 use Rattle.std.proofs.Common.{◌≡◌, ℕ, zero, suc, ◌≤◌, inl, inr, List, [], ◌∷◌, ◌++◌, refl, sym, subst, arith}
-use Rattle.arena.specs.declared.layout.Layout.{Layout}
-use Rattle.arena.specs.declared.step.Row.{Row}
-use Rattle.arena.specs.declared.step.Step.{Step}
-use Rattle.arena.specs.declared.limits.Mode.{Mode}
-use Rattle.arena.specs.History.{History, Start, ◌⊳◌, Extends}
-use Rattle.arena.specs.Machines.{Call, row_of}
+use Rattle.histories.specs.Common.{Layout, Row, Step, Mode, History, Start, ◌⊳◌, Extends, Call, row_of}
 use Rattle.arena.proofs.Lemmas.{ends_trans}
 use Rattle.forest.specs.TableRule.{history_of, ByOthers}
 use Rattle.forest.specs.Traces.{Trace, begins, others, makes, goes_on}

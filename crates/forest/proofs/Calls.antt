@@ -1,29 +1,12 @@
 -- What whole calls leave of what the pass has.
 use Rattle.std.proofs.Common.{◌≡◌, ◌≢◌, ℕ, suc, ◌<◌, List, [], refl, sym, subst}
-use Rattle.arena.specs.declared.layout.Layout.{Layout}
-use Rattle.arena.specs.declared.step.Row.{Row}
-use Rattle.arena.specs.declared.step.Step.{Step}
+use Rattle.histories.specs.Common.{Layout, Row, Step, Load, Store, Exchange, Fill, Remaining, state, History, ◌⊳◌, value, IsMember, IsInProgress, IsOwnScx, Call, IsRun, IsTold, row_of}
 use Rattle.arena.specs.declared.step.Access.{Access}
-use Rattle.arena.specs.declared.step.Access.TheVariants.{Load, Store, Exchange}
-use Rattle.arena.specs.declared.step.Kind.TheVariants.{Fill}
-use Rattle.arena.specs.Share.{Remaining}
-use Rattle.arena.specs.Words.{state}
-use Rattle.arena.specs.History.{History, ◌⊳◌, value}
-use Rattle.arena.specs.Blame.{IsMember, IsInProgress}
-use Rattle.arena.specs.Fills.{IsOwnScx}
-use Rattle.arena.specs.Machines.{Call, IsRun, IsTold, row_of}
 use Rattle.histories.proofs.Lemmas.{finished_taken}
-use Rattle.prims.specs.Cells.{AllowsAll}
-use Rattle.prims.specs.Moments.{AreFinished}
+use Rattle.template.specs.Common.{AllowsAll, AreFinished, IsAmong, PutWaits, PutAnswers, Snap, Scx as Answer, PutRun, IsShare}
 use Rattle.prims.specs.Laws.Begun.{TakesOnly, takes_by_others, takes_by_step}
-use Rattle.prims.specs.Snaps.{IsAmong}
-use Rattle.prims.specs.Put.Known.{PutWaits, PutAnswers}
 use Rattle.prims.specs.Put.Laws.{put_made}
-use Rattle.prims.specs.declared.snap.Snap.{Snap}
-use Rattle.prims.specs.declared.scx.Scx.{Scx as Answer}
-use Rattle.prims.specs.declared.put.PutRun.{PutRun}
 use Rattle.prims.proofs.Lemmas.{put_takes, over_begins, over_ends, share_by_others, share_by_step, share_by_put, share_ends, next_idle, next_unwon, put_covers, put_covers_then, put_finished}
-use Rattle.prims.specs.Shares.{IsShare}
 use Rattle.forest.specs.Traces.{Trace, begins, others, makes, goes_on}
 use Rattle.forest.specs.Shares.{IsBetweenCalls}
 use Rattle.forest.proofs.Frames.{CarriesOn, HasOwnWon, goes_from, goes_more}

@@ -6,19 +6,9 @@ use Rattle.std.specs.List.{All}
 use Rattle.std.proofs.lemmas.List.Elements.{All-nil, All-cons, All-head, All-tail, All-weaker}
 use Rattle.atomic_table.specs.declared.shared.Seat.{Seat}
 use Rattle.atomic_table.specs.Table.{Final, Seen}
-use Rattle.arena.specs.declared.layout.Layout.{Layout}
-use Rattle.arena.specs.declared.step.Row.{Row}
-use Rattle.arena.specs.declared.word.Word.{Word}
-use Rattle.arena.specs.Layout.{place, IsWord}
-use Rattle.arena.specs.Words.{child}
-use Rattle.arena.specs.History.{History, value, Extends}
-use Rattle.arena.specs.Log.{log}
-use Rattle.arena.specs.Share.{HasScx}
-use Rattle.arena.specs.Lawful.{Lawful}
-use Rattle.arena.specs.Machines.{IsRun}
+use Rattle.histories.specs.Common.{Layout, Row, Word, place, IsWord, child, History, value, Extends, log, HasScx, Lawful, IsRun, Mode}
 use Rattle.arena.proofs.Lemmas.{ends_trans}
 use Rattle.histories.proofs.Lemmas.{fields_are, lawful_since}
-use Rattle.arena.specs.declared.limits.Mode.{Mode}
 use Rattle.forest.specs.declared.view.SeatedPass.{SeatedPass}
 use Rattle.forest.specs.declared.view.SeatView.{SeatView}
 use Rattle.forest.specs.declared.pass.Pass.TheInside.{Inside}

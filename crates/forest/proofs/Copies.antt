@@ -3,20 +3,11 @@ use Rattle.std.proofs.Common.{◌≡◌, ℕ, ◌+◌, ◌<◌, ◌≤◌, Bool,
 use Rattle.std.proofs.Math.Nat.{eq-or-lt_of_le}
 use Rattle.std.specs.List.{All}
 use Rattle.std.proofs.lemmas.List.Elements.{All-nil, All-cons, All-head, All-tail, All-append}
-use Rattle.arena.specs.declared.layout.Layout.{Layout}
-use Rattle.arena.specs.declared.word.NodeWord.{NodeWord}
-use Rattle.arena.specs.declared.word.NodeWord.TheVariants.{Settled, Child, Info, Marked}
-use Rattle.arena.specs.declared.word.SettledPart.TheVariants.{Head, More, Key, Value, High}
-use Rattle.arena.specs.declared.word.Side.TheVariants.{Left, Right}
-use Rattle.arena.specs.declared.word.Slot.TheVariants.{First, Second, Third, Fourth}
-use Rattle.arena.specs.declared.word.Word.{Word}
-use Rattle.arena.specs.Layout.{all_nodes, IsWord}
-use Rattle.arena.specs.PlainWords.{Contents, IsChanged, word_at}
-use Rattle.arena.specs.Words.{node, same_word, first_key}
+use Rattle.histories.specs.Common.{Layout, NodeWord, Settled, Child, Info, Marked, Head, More, Key, Value, High, Left, Right, First, Second}
+use Rattle.histories.specs.Common.{Third, Fourth, Word, all_nodes, IsWord, Contents, IsChanged, word_at, node, same_word, first_key}
 use Rattle.arena.proofs.Lemmas.{word_same, word_apart}
-use Rattle.ordered_map.specs.declared.pair.Pair.{Pair}
-use Rattle.ordered_map.specs.TreeWords.{class, rank, IsForkOver, Tree, Leaf, Fork, root, Shows, Has, pairs, leaf_nodes}
-use Rattle.ordered_map.specs.Spelled.{Spells}
+use Rattle.template.specs.Common.{Pair, class, rank, Tree, root, Shows, Spells}
+use Rattle.ordered_map.specs.TreeWords.{IsForkOver, Leaf, Fork, Has, pairs, leaf_nodes}
 use Rattle.ordered_map.proofs.Lemmas.{SameSettled, same_leaf, same_pairs}
 use Rattle.forest.specs.Copies.{IsMapWord, AreCopied, map_word}
 

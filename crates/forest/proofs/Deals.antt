@@ -4,13 +4,7 @@ use mathlib.Core.Option.{some, some-injective, some-ne-none}
 use lib.ListN.{get_elem?}
 use Rattle.atomic_table.specs.Table.{State, Splits, Joins, opening}
 use Rattle.atomic_table.proofs.Lists.{at_set}
-use Rattle.arena.specs.declared.layout.Layout.{Layout}
-use Rattle.arena.specs.declared.step.Row.{Row}
-use Rattle.arena.specs.declared.word.Word.{Word}
-use Rattle.arena.specs.Layout.{opening as opening_word, place, table_size, IsWord}
-use Rattle.arena.specs.History.{History, value}
-use Rattle.arena.specs.Lawful.{Lawful}
-use Rattle.arena.specs.Shape.{Shaped}
+use Rattle.histories.specs.Common.{Layout, Row, Word, opening as opening_word, place, table_size, IsWord, History, value, Lawful, Shaped}
 use Rattle.forest.specs.declared.view.SeatedPass.{SeatedPass}
 use Rattle.forest.specs.declared.view.SeatView.{SeatView}
 use Rattle.forest.specs.TableRule.{TableIsLawful, Owns, Absent, seat_view, new_passes, rest_of_seat, first_of_seat, joined_seat, rest_of, first_of}

@@ -2,19 +2,12 @@
 use Rattle.std.proofs.Common.{◌≡◌, ◌∙◌, arith, ℕ, suc, ◌+◌, ◌*◌, ◌<◌, ◌≤◌, ◌∷◌, List, Option, Some, None, refl, sym, subst}
 use Rattle.std.proofs.Math.Nat.{lt_of_not-le}
 use Rattle.atomic_table.specs.declared.shared.Seat.{Seat}
-use Rattle.arena.specs.declared.layout.Layout.{Layout}
-use Rattle.arena.specs.declared.limits.Mode.TheVariants.{Tree}
-use Rattle.arena.specs.History.{History, Extends}
-use Rattle.arena.specs.Share.{Remaining}
-use Rattle.ordered_map.specs.OrderedMap.{MapCall, Edit, Get, Range, Neighbour, MapReply}
-use Rattle.ordered_map.specs.Runs.{IsTreeRun}
+use Rattle.histories.specs.Common.{Layout, Tree, History, Extends, Remaining}
+use Rattle.template.specs.Common.{MapCall, Edit, Get, Range, Neighbour, MapReply, IsTreeRun, IsShare, most_nodes, most_scx, tries_since, told_of, Reply}
 use Rattle.prims.specs.Laws.Begun.{taken_since}
-use Rattle.prims.specs.Shares.{IsShare}
 use Rattle.prims.proofs.Lemmas.{all_over, taken_node_since}
 use Rattle.edits.specs.Known.{RestsWith}
 use Rattle.dict.specs.Laws.Begins.{dict_begins}
-use Rattle.ordered_map.specs.CallRules.{most_nodes, most_scx}
-use Rattle.template.specs.Tries.{tries_since}
 use Rattle.dict.specs.Calls.{call_in, share_of, IsFewCall}
 use Rattle.dict.specs.DictKnown.{DictIsReady, DictWaits, DictAnswers, DictRefuses}
 use Rattle.dict.specs.Known.{IsUnbegun}
@@ -24,12 +17,10 @@ use Rattle.dict.specs.Says.{KeepsLists, TellsOfMap}
 use Rattle.dict.specs.Typed.{IsTypedCall, TypedAllows}
 use Rattle.dict.specs.Laws.TypedMaps.{typed_run}
 use Rattle.dict.specs.Words.{IsWordOf}
-use Rattle.ordered_map.specs.Replies.{told_of}
 use Rattle.ordered_map.specs.Requests.{AsksForFew, as_map_call}
 use Rattle.dict.specs.declared.dict.DictRun.{DictRun}
 use Rattle.ordered_map.specs.declared.request.Request.{Request}
 use Rattle.ordered_map.specs.declared.request.Request.TheVariants as requests
-use Rattle.ordered_map.specs.declared.reply.Reply.{Reply}
 use Rattle.ordered_map.specs.declared.reply.Reply.TheVariants as replies
 use Rattle.forest.specs.declared.view.SeatView.{SeatView}
 use Rattle.forest.specs.declared.pass.Pass.TheInside.{Inside}

@@ -2,18 +2,8 @@
 -- both are known of the call's end alone, without its course.
 use Rattle.std.proofs.Common.{◌≡◌, ◌≢◌, ◌≤◌, ◌+◌, ℕ, inl, inr, List, ◌∷◌, [], Option, refl, sym, ◌∙◌, ap, subst, arith}
 use Rattle.atomic_table.specs.declared.shared.Seat.{Seat}
-use Rattle.arena.specs.declared.layout.Layout.{Layout}
-use Rattle.arena.specs.declared.limits.Mode.{Mode}
-use Rattle.arena.specs.declared.step.Row.{Row}
-use Rattle.arena.specs.declared.step.Step.{Step}
-use Rattle.arena.specs.Share.{Remaining}
-use Rattle.arena.specs.History.{History, Start, ◌⊳◌, Extends}
-use Rattle.arena.specs.Fills.{IsOwnScx}
-use Rattle.arena.specs.Lawful.{HasWon, IsWin, Lawful}
-use Rattle.arena.specs.Log.{log, owner}
-use Rattle.arena.specs.Machines.{Call, IsRun}
+use Rattle.histories.specs.Common.{Layout, Mode, Row, Step, Remaining, History, Start, ◌⊳◌, Extends, IsOwnScx, HasWon, IsWin, Lawful, log, owner, Call, IsRun, descriptor}
 use Rattle.arena.proofs.Lemmas.{ends_self, ends_trans, owner_is}
-use Rattle.histories.specs.Descriptor.{descriptor}
 use Rattle.histories.proofs.Lemmas.{IsOwned, Logs, UpdateWins, entry_of, facts_before, lawful_row, lawful_since, lawful_tail, logs, same as log_same, update_about, update_is_first, update_win, wins as log_wins, won_since}
 use Rattle.prims.proofs.Lemmas.{over_begins}
 use Rattle.ordered_map.specs.OrderedMap.{MapEdit}

@@ -1,24 +1,12 @@
 -- What each row of a course leaves of what the pass has.
 use Rattle.std.proofs.Common.{◌≡◌, ◌≢◌, ℕ, inr, ⊎_elim, eq-eqb, ne_eqb, List, ◌∷◌, refl, sym, ◌∙◌, ap}
 use native.Mathlib.Decide.{ℕ_discrete}
-use Rattle.arena.specs.declared.layout.Layout.{Layout}
-use Rattle.arena.specs.declared.step.Row.{Row}
-use Rattle.arena.specs.Share.{Remaining}
-use Rattle.arena.specs.History.{History, ◌⊳◌, Extends}
-use Rattle.arena.specs.Blame.{IsMember, IsInProgress}
-use Rattle.arena.specs.Fills.{IsOwnScx}
-use Rattle.arena.specs.Lawful.{HasWon}
-use Rattle.arena.specs.Log.{Entry, log, owner}
-use Rattle.arena.specs.Machines.{IsRun}
+use Rattle.histories.specs.Common.{Layout, Row, Remaining, History, ◌⊳◌, Extends, IsMember, IsInProgress, IsOwnScx, HasWon, Entry, log, owner, IsRun, descriptor}
 use Rattle.arena.proofs.Lemmas.{ends_self, owner_is}
-use Rattle.histories.specs.Descriptor.{descriptor}
 use Rattle.histories.proofs.Lemmas.{Facts, IsOwned, Logs, UpdateWins, entry_of, facts_before, logs, one_scx_owner, same as log_same, update_about, update_is_first, update_split, update_won, wins as log_wins, won_more}
-use Rattle.prims.specs.Moments.{AreFinished, IsLeftAlone}
+use Rattle.template.specs.Common.{AreFinished, IsLeftAlone, IsAmong, Snap, IsShare}
 use Rattle.prims.specs.Laws.Begun.{TakesOnly}
-use Rattle.prims.specs.Snaps.{IsAmong}
-use Rattle.prims.specs.declared.snap.Snap.{Snap}
 use Rattle.prims.proofs.Lemmas.{alone_more, over_more, own_in_hand, wins_in_progress}
-use Rattle.prims.specs.Shares.{IsShare}
 use Rattle.forest.specs.Shares.{entries_of}
 
 -- Entries

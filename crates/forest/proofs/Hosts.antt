@@ -1,12 +1,6 @@
 -- From place to place of a machine that is called inside another's call.
 use Rattle.std.proofs.Common.{◌≡◌, ℕ, List, Option, refl, subst}
-use Rattle.arena.specs.declared.layout.Layout.{Layout}
-use Rattle.arena.specs.declared.machine.Turn.{Turn}
-use Rattle.arena.specs.declared.machine.Turn.TheVariants.{Ask, Done}
-use Rattle.arena.specs.declared.step.Step.{Step}
-use Rattle.arena.specs.History.{History, ◌⊳◌}
-use Rattle.arena.specs.Layout.{IsWord}
-use Rattle.arena.specs.Machines.{Call, IsRun, MatchTurn, row_of}
+use Rattle.histories.specs.Common.{Layout, Turn, Ask, Done, Step, History, ◌⊳◌, IsWord, Call, IsRun, MatchTurn, row_of}
 use Rattle.forest.specs.declared.view.SeatedPass.{SeatedPass}
 use Rattle.forest.specs.CallKinds.{Calls}
 use Rattle.forest.specs.Hosts.{InnerCall, Host, HostedEnds, HostedStands, HostedWaits}

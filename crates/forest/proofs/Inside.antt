@@ -1,10 +1,6 @@
 -- From place to place of a machine inside another, and machines inside these.
 use Rattle.std.proofs.Common.{ℕ, List, refl, subst}
-use Rattle.arena.specs.declared.layout.Layout.{Layout}
-use Rattle.arena.specs.declared.step.Step.{Step}
-use Rattle.arena.specs.History.{History, ◌⊳◌}
-use Rattle.arena.specs.Layout.{IsWord}
-use Rattle.arena.specs.Machines.{Call, IsRun, row_of}
+use Rattle.histories.specs.Common.{Layout, Step, History, ◌⊳◌, IsWord, Call, IsRun, row_of}
 use Rattle.forest.specs.declared.view.SeatedPass.{SeatedPass}
 use Rattle.forest.specs.CallKinds.{Calls}
 use Rattle.forest.specs.Inside.{Inner, Inside, InnerIsTold, InnerWaits}

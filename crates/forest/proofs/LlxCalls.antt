@@ -1,19 +1,9 @@
 -- What a call of `llx` says.
 use Rattle.std.proofs.Common.{◌≡◌, ◌≢◌, ◌≤◌, ◌+◌, ℕ, true, List, ◌∷◌, None, refl, sym, ◌∙◌, ap, subst}
 use Rattle.atomic_table.specs.declared.shared.Seat.{Seat}
-use Rattle.arena.specs.declared.number.NodeNo.{NodeNo}
-use Rattle.arena.specs.declared.layout.Layout.{Layout}
-use Rattle.arena.specs.declared.step.Kind.TheVariants.{Fill}
-use Rattle.arena.specs.declared.step.Row.{Row}
-use Rattle.arena.specs.History.{History}
-use Rattle.arena.specs.Log.{is_final}
-use Rattle.arena.specs.declared.limits.Mode.{Mode}
-use Rattle.arena.specs.declared.limits.Mode.TheVariants.{Records}
-use Rattle.prims.specs.Llx.Known.{IsSnapshot, HasJustLooked, LlxIsReady, LlxWaits, LlxAnswers}
+use Rattle.histories.specs.Common.{NodeNo, Layout, Fill, Row, History, is_final, Mode, Records}
+use Rattle.template.specs.Common.{IsSnapshot, HasJustLooked, LlxIsReady, LlxWaits, LlxAnswers, Llx, Snapshot, Finalized, Fail, LlxRun}
 use Rattle.prims.proofs.Lemmas.{llx_fills_not, ready_at_start, cell_opened, finalized_at_start, all_idle, alone_now, usable_now}
-use Rattle.prims.specs.declared.llx.Llx.{Llx}
-use Rattle.prims.specs.declared.llx.Llx.TheVariants.{Snapshot, Finalized, Fail}
-use Rattle.prims.specs.declared.llx.LlxRun.{LlxRun}
 use Rattle.prims.specs.declared.llx.LlxAt.TheVariants.{Start}
 use Rattle.forest.specs.declared.view.SeatView.{SeatView}
 use Rattle.forest.specs.declared.pass.Pass.TheInside.{Inside}

@@ -5,17 +5,7 @@ use mathlib.Core.Option.{some}
 use lib.ListN.{get_elem?}
 use Rattle.atomic_table.specs.Table.{Me, Allows, keeps}
 use Rattle.atomic_table.proofs.Lists.{at_set}
-use Rattle.arena.specs.declared.layout.Layout.{Layout}
-use Rattle.arena.specs.declared.word.Word.{Word}
-use Rattle.arena.specs.declared.step.Row.{Row}
-use Rattle.arena.specs.Layout.{place, table_size, IsWord}
-use Rattle.arena.specs.Words.{node, same_word, word_after}
-use Rattle.arena.specs.declared.word.NodeWord.TheVariants.{Settled}
-use Rattle.arena.specs.declared.word.SettledPart.TheVariants.{Head}
-use Rattle.arena.specs.Lawful.{Lawful}
-use Rattle.arena.specs.Shape.{Shaped}
-use Rattle.arena.specs.History.{History, ◌⊳◌, value}
-use Rattle.arena.specs.Machines.{IsRun, IsTold}
+use Rattle.histories.specs.Common.{Layout, Word, Row, place, table_size, IsWord, node, same_word, word_after, Settled, Head, Lawful, Shaped, History, ◌⊳◌, value, IsRun, IsTold}
 use Rattle.histories.proofs.Lemmas.{some_open}
 use Rattle.arena.proofs.Lemmas.{word_same, word_apart, value_at, value_other}
 use Rattle.forest.specs.declared.rule.CallStep.{CallStep}

@@ -1,17 +1,13 @@
 -- A call that is held open begins.
 use Rattle.std.proofs.Common.{◌≡◌, ◌≤◌, ℕ, false, refl, sym, subst, arith}
 use Rattle.std.specs.declared.snapshot.Snapshot.{Snapshot}
-use Rattle.arena.specs.declared.limits.Mode.TheVariants.{Tree}
-use Rattle.arena.specs.declared.machine.Turn.{Turn}
-use Rattle.arena.specs.declared.machine.Turn.TheVariants.{Ask, Done}
-use Rattle.arena.specs.Machines.{MatchTurn}
+use Rattle.histories.specs.Common.{Tree, Turn, Ask, Done, MatchTurn}
 use Rattle.dict.specs.Calls.{call_in, AsksForPairs}
-use Rattle.ordered_map.specs.CallRules.{most_steps}
+use Rattle.template.specs.Common.{most_steps, Reply}
 use Rattle.dict.specs.Steps.{map_left}
 use Rattle.dict.specs.Typed.{TypedAllows}
 use Rattle.dict.specs.Words.{IsWordOf}
 use Rattle.dict.specs.declared.dict.DictRun.{DictRun}
-use Rattle.ordered_map.specs.declared.reply.Reply.{Reply}
 use Rattle.dict.specs.declared.shape.Dict.{Dict}
 use Rattle.forest.specs.declared.open.OpenCall.TheInside.{Inside}
 use Rattle.forest.specs.declared.pass.Pass.TheInside as pass

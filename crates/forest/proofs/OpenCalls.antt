@@ -1,9 +1,6 @@
 -- What a call that was held open leaves of its pass, once it has answered.
 use Rattle.std.proofs.Common.{◌≡◌, ◌+◌, ◌-◌, ℕ, List, refl, sym, ap, subst, arith}
-use Rattle.arena.specs.declared.limits.Mode.TheVariants.{Tree}
-use Rattle.arena.specs.declared.machine.Turn.TheVariants.{Done}
-use Rattle.arena.specs.declared.number.PassNo.{PassNo}
-use Rattle.arena.specs.Share.{Remaining}
+use Rattle.histories.specs.Common.{Tree, Done, PassNo, Remaining}
 use Rattle.dict.specs.Calls.{call_in, share_of}
 use Rattle.dict.specs.Typed.{TypedAllows}
 use Rattle.dict.specs.Words.{IsWordOf}

@@ -1,18 +1,14 @@
 -- A call that is held open stays one, step by step.
 use Rattle.std.proofs.Common.{◌≡◌, ◌∙◌, ◌+◌, ◌<◌, ◌≤◌, ℕ, suc, Bool, true, false, List, refl, sym, subst, arith}
 use Rattle.atomic_table.specs.declared.shared.Seat.{Seat}
-use Rattle.arena.specs.declared.step.Step.{Step}
-use Rattle.arena.specs.declared.machine.Turn.{Turn}
-use Rattle.arena.specs.declared.machine.Turn.TheVariants.{Ask, Done}
-use Rattle.arena.specs.Machines.{Call, IsRun, MatchTurn}
+use Rattle.histories.specs.Common.{Step, Turn, Ask, Done, Call, IsRun, MatchTurn}
 use Rattle.dict.specs.Calls.{call_in, AsksForPairs}
 use Rattle.dict.specs.DictKnown.{DictWaits, DictAnswers}
-use Rattle.ordered_map.specs.CallRules.{most_steps}
+use Rattle.template.specs.Common.{most_steps, Reply}
 use Rattle.dict.specs.Steps.{map_left}
 use Rattle.dict.specs.Typed.{TypedAllows}
 use Rattle.dict.specs.Words.{IsWordOf}
 use Rattle.dict.specs.declared.dict.DictRun.{DictRun}
-use Rattle.ordered_map.specs.declared.reply.Reply.{Reply}
 use Rattle.forest.specs.declared.open.OpenCall.TheInside.{Inside}
 use Rattle.forest.specs.declared.view.SeatedPass.{SeatedPass}
 use Rattle.forest.specs.declared.view.SeatView.{SeatView}

@@ -1,15 +1,8 @@
 -- What a call leaves of a pass.
 use Rattle.std.proofs.Common.{◌≡◌, ◌≢◌, ℕ, ◌+◌, ◌≤◌, List, [], ◌∷◌, refl, sym, ◌∙◌, ap, subst, arith}
 use Rattle.atomic_table.specs.declared.shared.Seat.{Seat}
-use Rattle.arena.specs.declared.layout.Layout.{Layout}
-use Rattle.arena.specs.declared.step.Step.{Step}
-use Rattle.arena.specs.declared.step.Kind.TheVariants.{Fill}
+use Rattle.histories.specs.Common.{Layout, Step, Fill, History, Start, Lawful, Call, IsRun, Shaped, Mode}
 use Rattle.arena.specs.Share.{whole_share}
-use Rattle.arena.specs.History.{History, Start}
-use Rattle.arena.specs.Lawful.{Lawful}
-use Rattle.arena.specs.Machines.{Call, IsRun}
-use Rattle.arena.specs.Shape.{Shaped}
-use Rattle.arena.specs.declared.limits.Mode.{Mode}
 use Rattle.arena.proofs.Lemmas.{ends_self}
 use Rattle.prims.specs.declared.snap.Snap.{Snap}
 use Rattle.forest.specs.declared.view.SeatedPass.{SeatedPass}

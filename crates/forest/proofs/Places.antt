@@ -1,10 +1,6 @@
 -- From place to place of a call.
 use Rattle.std.proofs.Common.{ℕ, List, Option, None, refl, sym}
-use Rattle.arena.specs.declared.layout.Layout.{Layout}
-use Rattle.arena.specs.declared.step.Step.{Step}
-use Rattle.arena.specs.History.{History}
-use Rattle.arena.specs.declared.machine.Turn.{Turn}
-use Rattle.arena.specs.Machines.{Call, IsRun, MatchTurn}
+use Rattle.histories.specs.Common.{Layout, Step, History, Turn, Call, IsRun, MatchTurn}
 use Rattle.forest.specs.declared.view.SeatedPass.{SeatedPass}
 use Rattle.forest.specs.Traces.{CallBegins, Waits, Stands, begins, goes_on}
 use Rattle.forest.proofs.Advances.{turn_map}

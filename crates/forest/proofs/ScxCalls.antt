@@ -1,30 +1,14 @@
 -- What a call of `scx` says.
 use Rattle.std.proofs.Common.{◌≡◌, ◌<◌, ◌≤◌, ◌+◌, ◌⊎◌, ◌↔◌, ℕ, inl, inr, Bool, true, false, cond, eqb, List, [], ◌∷◌, length, None, refl, sym, ◌∙◌, ap, subst, arith}
 use Rattle.atomic_table.specs.declared.shared.Seat.{Seat}
-use Rattle.arena.specs.declared.layout.Layout.{Layout}
-use Rattle.arena.specs.declared.number.NodeNo.{NodeNo}
-use Rattle.arena.specs.declared.word.Side.{Side}
-use Rattle.arena.specs.Words.{state}
-use Rattle.arena.specs.History.{value, History, Start, ◌⊳◌, Extends}
-use Rattle.arena.specs.Fills.{IsOwnNode, IsOwnScx, IsTakenScx}
-use Rattle.arena.specs.Lawful.{Lawful, HasWon}
-use Rattle.arena.specs.Log.{Entry, log, has, IsEntered, AreOnce}
+use Rattle.histories.specs.Common.{Layout, NodeNo, Side, state, value, History, Start, ◌⊳◌, Extends, IsOwnNode, IsOwnScx, IsTakenScx, Lawful, HasWon, Entry, log, has, IsEntered, Freeze, Records}
+use Rattle.arena.specs.Log.{AreOnce}
 use Rattle.histories.proofs.Lemmas.{IsIn, Logs, aborted_never_won, lawful_tail, logs, newest, older, once, same as log_same, wins as log_wins}
-use Rattle.arena.specs.declared.step.Kind.TheVariants.{Freeze}
-use Rattle.arena.specs.declared.limits.Mode.TheVariants.{Records}
-use Rattle.prims.specs.Cells.{AllowsAll}
-use Rattle.prims.specs.Moments.{IsAsFound, HasChanged}
-use Rattle.prims.specs.Snaps.{IsAmong, ListsNode}
-use Rattle.prims.specs.Updates.{update_field_index}
-use Rattle.prims.specs.Snap.{snap_at}
-use Rattle.prims.specs.Scx.Known.{IsEntryAt, IsDone as IsScxDone, removed_nodes, nodes_of, update_entry}
-use Rattle.prims.specs.Put.Known.{PutIsReady, PutWaits, PutAnswers}
+use Rattle.template.specs.Common.{AllowsAll, HasChanged, IsAmong, ListsNode, update_field_index, snap_at, nodes_of, PutIsReady, PutWaits, PutAnswers, Snap, Scx, Done, Lost, PutRun}
+use Rattle.prims.specs.Moments.{IsAsFound}
+use Rattle.prims.specs.Scx.Known.{IsEntryAt, IsDone as IsScxDone, removed_nodes, update_entry}
 use Rattle.prims.proofs.Lemmas.{removed_those, left_own_node, left_own_scx, taken_share, next_free, next_unwon, all_over, put_ready_first}
-use Rattle.prims.specs.declared.snap.Snap.{Snap}
-use Rattle.prims.specs.declared.scx.Scx.{Scx}
-use Rattle.prims.specs.declared.scx.Scx.TheVariants.{Done, Lost}
 use Rattle.prims.specs.declared.scx.ScxAt.TheVariants.{Start as ScxStart}
-use Rattle.prims.specs.declared.put.PutRun.{PutRun}
 use Rattle.prims.specs.declared.put.PutAt.TheVariants.{Start as PutStart}
 use Rattle.arena.specs.Share.{after_taking}
 use Rattle.forest.specs.declared.view.SeatView.{SeatView}

@@ -2,18 +2,10 @@
 use Rattle.std.proofs.Common.{◌≡◌, ◌∙◌, ℕ, List, refl, sym, ap, subst}
 use Rattle.atomic_table.specs.Seated.{TableId}
 use Rattle.atomic_table.specs.declared.shared.Seat.{Seat}
-use Rattle.arena.specs.declared.layout.Layout.{Layout}
-use Rattle.arena.specs.declared.limits.Mode.TheVariants.{Tree}
-use Rattle.arena.specs.declared.step.Row.{Row}
-use Rattle.arena.specs.declared.step.Step.{Step}
-use Rattle.arena.specs.History.{History, ◌⊳◌, Extends}
-use Rattle.arena.specs.Machines.{Call}
-use Rattle.arena.specs.Share.{Remaining}
+use Rattle.histories.specs.Common.{Layout, Tree, Row, Step, History, ◌⊳◌, Extends, Call, Remaining}
 use Rattle.arena.proofs.Lemmas.{ends_trans}
 use Rattle.prims.proofs.Lemmas.{all_over}
-use Rattle.ordered_map.specs.CallRules.{call_rules}
-use Rattle.ordered_map.specs.OrderedMap.{MapCall}
-use Rattle.ordered_map.specs.declared.reply.Reply.{Reply}
+use Rattle.template.specs.Common.{call_rules, MapCall, Reply}
 use Rattle.ordered_map.specs.declared.reply.Reply.TheVariants as replies
 use Rattle.edits.specs.Known.{RestsWith}
 use Rattle.dict.specs.Inner.{inner}

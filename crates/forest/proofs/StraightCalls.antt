@@ -1,14 +1,7 @@
 -- Whole calls of a dictionary whose updates are straight.
-use Rattle.std.specs.Global.{Global}
-use Rattle.std.specs.Prelude.{Result, Vec}
-use Rattle.std.proofs.Common.{◌≡◌, ℕ, zero, suc, ◌+◌, ◌*◌, ◌-◌, ◌<◌, ◌≤◌, List, [], Option, None, refl, sym, subst, ap, arith, ◌∙◌}
-use Rattle.arena.specs.declared.layout.Layout.{Layout}
-use Rattle.arena.specs.declared.step.Step.{Step}
-use Rattle.arena.specs.History.{History}
-use Rattle.arena.specs.Machines.{Call}
-use Rattle.arena.specs.Share.{Remaining}
-use Rattle.arena.specs.declared.number.NodeNo.{NodeNo}
-use Rattle.prims.specs.declared.snap.Snap.{Snap}
+use Rattle.std.proofs.Common.{Global, Result, Vec, ◌≡◌, ℕ, zero, suc, ◌+◌, ◌*◌, ◌-◌, ◌<◌, ◌≤◌, List, [], Option, None, refl, sym, subst, ap, arith, ◌∙◌}
+use Rattle.histories.specs.Common.{Layout, Step, History, Call, Remaining, NodeNo}
+use Rattle.template.specs.Common.{Snap, Pair, MapCall, Goal, Rule, Reply}
 use Rattle.order.specs.Known.{IsSameRead, ReadIsReady, ReadWaits}
 use Rattle.order.specs.Range.{range_means}
 use Rattle.order.specs.Steps.{phase_left, read_left, tries_left}
@@ -16,8 +9,6 @@ use Rattle.order.specs.declared.range.Range.{Range as RangeRead}
 use Rattle.order.specs.declared.refused.Refused.{Refused}
 use Rattle.order.specs.declared.run.ReadAt.TheVariants.{Start as ReadStart}
 use Rattle.order.specs.declared.run.ReadRun.{ReadRun}
-use Rattle.ordered_map.specs.declared.pair.Pair.{Pair}
-use Rattle.ordered_map.specs.OrderedMap.{MapCall}
 use Rattle.edits.specs.Next.{standing}
 use Rattle.edits.specs.Steps.{node_tries, scx_tries}
 use Rattle.edits.specs.declared.update.UpdateAt.{UpdateAt}
@@ -29,8 +20,6 @@ use Rattle.dict.specs.Laws.TypedMaps.{typed_run}
 use Rattle.dict.specs.Words.{IsWordOf}
 use Rattle.dict.specs.declared.dict.DictRun.{DictRun}
 use Rattle.dict.specs.Calls.{IsFewCall, IsSmallCall, call_in, edit_call, inner_call, inner_share}
-use Rattle.ordered_map.specs.declared.rule.Goal.{Goal}
-use Rattle.ordered_map.specs.declared.rule.Rule.{Rule}
 use Rattle.tree.specs.KeyEdit.Means.{key_means}
 use Rattle.tree.specs.declared.key_edit.KeyEdit.{KeyEdit}
 use Rattle.dict.specs.Inner.{InnerRun, Read, ReadKind, Update, by_values, inner, neighbour_kind, range_kind}
@@ -40,7 +29,6 @@ use Rattle.dict.specs.declared.run.MapRun.{MapRun}
 use Rattle.dict.specs.declared.run.MapRun.TheVariants.{Edit, Neighbour, Range}
 use Rattle.dict.specs.Translated.{IsReplyOf}
 use Rattle.dict.specs.WordReplies.{WordReply, edit_reply, read_reply}
-use Rattle.ordered_map.specs.declared.reply.Reply.{Reply}
 use Rattle.dict.proofs.Lemmas.{edit_goes, edit_ends, read_ends, dict_ends}
 use Rattle.forest.specs.declared.view.SeatedPass.{SeatedPass}
 use Rattle.forest.specs.StraightCalls.{DictAllows, DictCallIsReady, DictCallWaits, IsSameDictCall, SeatDictBegins, SeatDictEnds, SeatWordEnds, IsFreshCall, SeatCallBegins, CallHasEnded}

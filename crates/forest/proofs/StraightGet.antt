@@ -1,24 +1,11 @@
 -- A get of a dictionary whose walk is straight.
 use Rattle.std.proofs.Common.{◌≡◌, ℕ, List, ◌^◌, ◌<◌, Option, None, Some, IfSome, inl, refl, ◌∙◌, ap, arith}
 use Rattle.std.specs.Option.{option_map}
-use Rattle.arena.specs.declared.layout.Layout.{Layout}
-use Rattle.arena.specs.declared.limits.Mode.TheVariants.{Tree}
-use Rattle.arena.specs.declared.step.Kind.TheVariants.{LoadSettled}
-use Rattle.arena.specs.declared.step.Step.{Step}
-use Rattle.arena.specs.declared.word.NodeWord.TheVariants.{Settled}
-use Rattle.arena.specs.declared.word.SettledPart.TheVariants.{Head}
-use Rattle.arena.specs.History.{History}
-use Rattle.arena.specs.Machines.{Call, IsRun}
-use Rattle.arena.specs.Share.{Remaining}
-use Rattle.arena.specs.Words.{node}
+use Rattle.histories.specs.Common.{Layout, Tree, LoadSettled, Step, Settled, Head, History, Call, IsRun, Remaining, node}
 use Rattle.atomic_table.specs.declared.shared.Seat.{Seat}
-use Rattle.prims.specs.Llx.Known.{load}
-use Rattle.ordered_map.specs.OrderedMap.{OneValue}
-use Rattle.template.specs.FoundLeaf.{HasFoundGoal}
-use Rattle.template.specs.Walk.Known.{WalkIsTold}
-use Rattle.template.specs.Walk.Places.{root_trail, walk_at, walk_from}
+use Rattle.template.specs.Common.{load, OneValue, HasFoundGoal, WalkIsTold, walk_at, walk_from, Key as ToKey}
+use Rattle.template.specs.Walk.Places.{root_trail}
 use Rattle.template.specs.declared.walk.Found.{Found}
-use Rattle.ordered_map.specs.declared.rule.Goal.TheVariants.{Key as ToKey}
 use Rattle.template.specs.declared.walk.WalkAt.TheVariants.{Root, Start}
 use Rattle.template.specs.declared.walk.WalkRun.{WalkRun}
 use Rattle.template.proofs.Lemmas.{walk_begins}

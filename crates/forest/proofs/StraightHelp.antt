@@ -1,19 +1,9 @@
 -- From place to place of a HELP, of whatever machine helps.
-use Rattle.std.proofs.Common.{◌≡◌, ◌≢◌, ℕ, suc, ◌+◌, ◌<◌, ◌≤◌, length, true, false, ◌⊎◌, inl, inr, ⊎_elim, List, refl, sym, subst, arith}
-use Rattle.std.specs.Prelude.{slice_set}
+use Rattle.std.proofs.Common.{◌≡◌, ◌≢◌, ℕ, suc, ◌+◌, ◌<◌, ◌≤◌, length, true, false, ◌⊎◌, inl, inr, ⊎_elim, List, refl, sym, subst, arith, slice_set}
 use Rattle.std.proofs.Math.Nat.{eq-or-lt_of_le}
-use Rattle.arena.specs.ScxRecords.{plan, raw_count, plan_finalizes, field_index_of, side_of}
-use Rattle.arena.specs.declared.layout.Layout.{Layout}
-use Rattle.arena.specs.declared.number.MemberIndex.{MemberIndex}
+use Rattle.histories.specs.Common.{plan, raw_count, plan_finalizes, field_index_of, side_of, Layout, MemberIndex, Step, Load, Store, Exchange, LoadAllFrozen, Freeze}
+use Rattle.histories.specs.Common.{SetFrozen, Mark, Update, Commit, AllFrozen, New, Old, Member, Seen, member_index, scx, info, marked, child, state, History, Lawful}
 use Rattle.arena.specs.declared.number.MemberIndex.TheVariants.{First}
-use Rattle.arena.specs.declared.step.Step.{Step}
-use Rattle.arena.specs.declared.step.Access.TheVariants.{Load, Store, Exchange}
-use Rattle.arena.specs.declared.step.Kind.TheVariants.{LoadAllFrozen, Freeze, SetFrozen, Mark, Update, Commit}
-use Rattle.arena.specs.declared.word.ScxWord.TheVariants.{AllFrozen, New, Old, Member, Seen}
-use Rattle.arena.specs.MemberIndex.{member_index}
-use Rattle.arena.specs.Words.{scx, info, marked, child, state}
-use Rattle.arena.specs.History.{History}
-use Rattle.arena.specs.Lawful.{Lawful}
 use Rattle.help.specs.Help.Known.{Marks, node_at, reading, settled_load, HelpIsTold, HelpWaits}
 use Rattle.help.proofs.Lemmas.{to_all_frozen as edge_to_all_frozen, to_commit as edge_to_commit, to_freeze as edge_to_freeze, to_mark as edge_to_mark, to_member as edge_to_member, to_new as edge_to_new, to_next as edge_to_next, to_old as edge_to_old, to_seen as edge_to_seen, to_set_frozen as edge_to_set_frozen, to_update as edge_to_update}
 use Rattle.help.specs.declared.state.HelpRun.{HelpRun}

@@ -1,29 +1,15 @@
 -- From place to place of an LLX, of whatever machine looks at nodes; and calls of LLX, which look
 -- at theirs.
 use Rattle.std.proofs.Common.{◌≡◌, ℕ, Bool, List, refl, sym, subst, ◌≢◌, true, false, ◌⊎◌, inl, inr, Some}
-use Rattle.arena.specs.declared.layout.Layout.{Layout}
-use Rattle.arena.specs.declared.machine.Turn.TheVariants.{Ask, Done}
-use Rattle.arena.specs.declared.number.NodeNo.{NodeNo}
-use Rattle.arena.specs.declared.number.ScxNo.{ScxNo}
-use Rattle.arena.specs.declared.step.Kind.TheVariants.{LoadState, LoadInfo, LoadMarked, LoadChild}
-use Rattle.arena.specs.Words.{state, info, marked, child}
-use Rattle.arena.specs.History.{History}
-use Rattle.arena.specs.Machines.{Call, IsRun}
-use Rattle.prims.specs.FoundThere.{HasFoundThere}
-use Rattle.prims.specs.Llx.Known.{load, HasJustLooked, IsSnapshot, LlxIsReady, LlxWaits, LlxAnswers}
+use Rattle.histories.specs.Common.{Layout, Ask, Done, NodeNo, ScxNo, LoadState, LoadInfo, LoadMarked, LoadChild, state, info, marked, child, History, Call, IsRun, Step, Left, Right}
+use Rattle.template.specs.Common.{HasFoundThere, load, HasJustLooked, IsSnapshot, LlxIsReady, LlxWaits, LlxAnswers, Snapshot, LlxRun, Snap, LlxAt}
 use Rattle.prims.proofs.Lemmas.{turn_first, Knows, knows, turn_info, turn_state, turn_mark, turn_read, turn_right, turn_again, turn_compare}
-use Rattle.prims.specs.declared.llx.Llx.TheVariants.{Snapshot}
 use Rattle.prims.specs.declared.llx.LlxAt.TheVariants.{Start, Marked, StateAgain, Info, State, MarkedAgain, Left as AtLeft, Right as AtRight, InfoAgain}
-use Rattle.prims.specs.declared.llx.LlxRun.{LlxRun}
-use Rattle.prims.specs.declared.snap.Snap.{Snap}
 use Rattle.forest.specs.declared.view.SeatedPass.{SeatedPass}
 use Rattle.forest.specs.CallKinds.{Calls}
 use Rattle.forest.specs.StraightLlx.{llx_at, IsSameNode, SeatLlxBegins, SeatLlxWaits, SeatLlxEnds, Looker, LookerSnaps, LoadsMark, LoadsStateAgain}
 use Rattle.forest.specs.TableRule.{history_of}
 use Rattle.forest.proofs.Places.{starts}
-use Rattle.arena.specs.declared.step.Step.{Step}
-use Rattle.arena.specs.declared.word.Side.TheVariants.{Left, Right}
-use Rattle.prims.specs.declared.llx.LlxAt.{LlxAt}
 use Rattle.forest.specs.Inside.{InnerIsTold, InnerWaits}
 use Rattle.forest.proofs.Inside.{goes_to}
 

@@ -1,22 +1,12 @@
 -- From place to place of an SCX with a fresh cell, inline.
 use Rattle.std.proofs.Common.{◌≡◌, ℕ, List, true, refl, sym, subst}
-use Rattle.arena.specs.declared.layout.Layout.{Layout}
-use Rattle.arena.specs.declared.machine.Turn.TheVariants.{Ask, Done as End}
-use Rattle.arena.specs.declared.number.ScxNo.{ScxNo}
-use Rattle.arena.specs.declared.step.Step.{Step}
-use Rattle.arena.specs.declared.word.ScxWord.TheVariants.{Plan}
-use Rattle.arena.specs.History.{History}
-use Rattle.arena.specs.Machines.{Call}
+use Rattle.histories.specs.Common.{Layout, Ask, Done as End, ScxNo, Step, Plan, History, Call}
 use Rattle.help.specs.declared.state.HelpAt.TheVariants.{Commit as HelpCommit}
-use Rattle.help.specs.declared.state.HelpRun.{HelpRun}
-use Rattle.prims.specs.Put.Known.{HasValue, put_step, PutIsReady, PutWaits}
+use Rattle.template.specs.Common.{HelpRun, PutIsReady, PutWaits, PutRun, Done, ScxRun, Update}
+use Rattle.prims.specs.Put.Known.{HasValue, put_step}
 use Rattle.prims.proofs.Lemmas.{turn_start as scx_start, done_at, put_turn_start, turn_scx}
-use Rattle.prims.specs.declared.put.PutRun.{PutRun}
 use Rattle.prims.specs.declared.put.PutAt.TheVariants.{Fill as AtFill, Scx as AtScx}
-use Rattle.prims.specs.declared.scx.Scx.TheVariants.{Done}
 use Rattle.prims.specs.declared.scx.ScxAt.TheVariants.{Plan as AtPlan, Help}
-use Rattle.prims.specs.declared.scx.ScxRun.{ScxRun}
-use Rattle.prims.specs.declared.update.Update.{Update}
 use Rattle.forest.specs.declared.view.SeatedPass.{SeatedPass}
 use Rattle.forest.specs.StraightScx.{Changer, scx_fill, all_frozen_load}
 use Rattle.forest.specs.StraightPut.{IsSamePut, scx_at, SeatPutBegins, SeatPutWaits, SeatPutTold, SeatPutEnds}

@@ -1,6 +1,5 @@
 -- How ordered reads continue from seat to seat, of whatever machine reads.
-use Rattle.std.proofs.Common.{◌≡◌, ℕ, ◌∙◌, refl, sym, subst, arith}
-use Rattle.std.specs.Prelude.{Result, Ok, Err}
+use Rattle.std.proofs.Common.{◌≡◌, ℕ, ◌∙◌, refl, sym, subst, arith, Result, Ok, Err}
 use Rattle.atomic_table.specs.declared.shared.Seat.{Seat}
 use Rattle.arena.specs.declared.machine.Machine.{Ghosts as Machine}
 use Rattle.arena.specs.declared.machine.Shape.{Ghosts as Shape}

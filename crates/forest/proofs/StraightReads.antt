@@ -1,18 +1,7 @@
 -- From place to place of an ordered read, of whatever machine makes one.
-use Rattle.std.proofs.Common.{◌≡◌, ◌∙◌, ℕ, suc, ◌+◌, ◌-◌, ◌*◌, ◌<◌, ◌≤◌, Bool, List, None, Some, Result, Ok, length, [], refl, sym, ap, subst, arith}
-use Rattle.std.specs.Prelude.{Err}
-use Rattle.arena.specs.declared.machine.Turn.{Turn}
-use Rattle.arena.specs.declared.machine.Turn.TheVariants.{Ask, Done}
-use Rattle.arena.specs.declared.word.Side.{Side}
-use Rattle.arena.specs.declared.number.NodeNo.{NodeNo}
-use Rattle.arena.specs.declared.number.ScxNo.{ScxNo}
-use Rattle.arena.specs.declared.step.Kind.TheVariants.{LoadInfo, LoadMarked, LoadSettled, LoadState}
-use Rattle.arena.specs.declared.word.NodeWord.TheVariants.{Settled}
-use Rattle.arena.specs.declared.word.SettledPart.TheVariants.{Head as HeadWord}
-use Rattle.arena.specs.Heads.{head_of}
-use Rattle.arena.specs.History.{History}
-use Rattle.arena.specs.Machines.{Call, IsRun, MatchTurn, begun_at}
-use Rattle.arena.specs.Words.{info, marked, node, state}
+use Rattle.std.proofs.Common.{◌≡◌, ◌∙◌, ℕ, suc, ◌+◌, ◌-◌, ◌*◌, ◌<◌, ◌≤◌, Bool, List, None, Some, Result, Ok, length, [], refl, sym, ap, subst, arith, Err}
+use Rattle.histories.specs.Common.{Turn, Ask, Done, Side, NodeNo, ScxNo, LoadInfo, LoadMarked, LoadSettled, LoadState, Settled}
+use Rattle.histories.specs.Common.{Head as HeadWord, head_of, History, Call, IsRun, MatchTurn, begun_at, info, marked, node, state}
 use Rattle.order.specs.Found.{BeginsAtRoot, BeginsSo, IsReading, Looks, Stands, WalksTo, head_at}
 use Rattle.order.specs.Known.{IsSameRead, ReadAnswers, ReadGoes, ReadIsReady, ReadWaits}
 use Rattle.order.specs.Laws.Run.{read_told}
@@ -32,20 +21,11 @@ use Rattle.order.specs.declared.refused.Refused.{Refused}
 use Rattle.order.specs.declared.run.ReadAt.TheVariants.{Start, Look, Walk, Validate}
 use Rattle.order.specs.declared.run.ReadRun.{ReadRun}
 use Rattle.order.proofs.Lemmas.{answers_all, answers_right, begins_root, begins_walk, ends_refused, next_waits, placed_nearer, walk_found, walk_waits}
-use Rattle.prims.specs.Llx.Known.{load, IsSnapshot}
-use Rattle.prims.specs.Snap.{snap_at}
-use Rattle.prims.specs.Vlx.Known.{HasFoundUnchanged, VlxAnswers, VlxIsTold, VlxWaits}
+use Rattle.template.specs.Common.{load, IsSnapshot, snap_at, VlxAnswers, VlxWaits, LlxRun, Snap, Same, TreeAllows, IsOwnMoment, HasFoundGoal, walk_from, Key as ToKey}
+use Rattle.prims.specs.Vlx.Known.{HasFoundUnchanged, VlxIsTold}
 use Rattle.prims.specs.Vlx.Laws.{all_same, looked_on}
 use Rattle.prims.specs.declared.llx.LlxAt.TheVariants.{Marked, StateAgain}
-use Rattle.prims.specs.declared.llx.LlxRun.{LlxRun}
-use Rattle.prims.specs.declared.snap.Snap.{Snap}
-use Rattle.prims.specs.declared.vlx.Vlx.TheVariants.{Same}
-use Rattle.ordered_map.specs.TreeShape.{TreeAllows}
-use Rattle.template.specs.Trails.{IsOwnMoment}
-use Rattle.template.specs.FoundLeaf.{HasFoundGoal}
-use Rattle.template.specs.Walk.Places.{walk_from}
 use Rattle.template.specs.declared.walk.Found.{Found}
-use Rattle.ordered_map.specs.declared.rule.Goal.TheVariants.{Key as ToKey}
 use Rattle.template.specs.declared.walk.WalkRun.{WalkRun}
 use Rattle.order.specs.declared.last_turns.LastTurns.{LastTurns}
 use Rattle.order.specs.LastTurns.{first_children, last_turns, no_turns, turn_to}

@@ -1,25 +1,13 @@
 -- From place to place of an SCX, of whatever machine makes one.
-use Rattle.std.proofs.Common.{◌≡◌, ◌↔◌, ℕ, suc, ◌+◌, ◌<◌, List, Option, Some, None, IsSome, refl, arith, ◌∙◌, inl, inr}
-use Rattle.std.specs.Prelude.{IfSome, IfNone}
-use Rattle.arena.specs.ScxRecords.{raw_count}
-use Rattle.arena.specs.declared.layout.Layout.{Layout}
-use Rattle.arena.specs.declared.number.MemberIndex.{MemberIndex}
+use Rattle.std.proofs.Common.{◌≡◌, ◌↔◌, ℕ, suc, ◌+◌, ◌<◌, List, Option, Some, None, IsSome, refl, arith, ◌∙◌, inl, inr, IfSome, IfNone}
+use Rattle.histories.specs.Common.{raw_count, Layout, MemberIndex, Ask, Step, Plan, New, Old, Member, Seen, member_index, History, Call}
 use Rattle.arena.specs.declared.number.MemberIndex.TheVariants.{First}
-use Rattle.arena.specs.declared.machine.Turn.TheVariants.{Ask}
-use Rattle.arena.specs.declared.step.Step.{Step}
-use Rattle.arena.specs.declared.word.ScxWord.TheVariants.{Plan, New, Old, Member, Seen, Call as CallWord}
-use Rattle.arena.specs.MemberIndex.{member_index}
-use Rattle.arena.specs.History.{History}
-use Rattle.arena.specs.Machines.{Call}
-use Rattle.help.specs.Help.Known.{settled_load}
+use Rattle.arena.specs.declared.word.ScxWord.TheVariants.{Call as CallWord}
+use Rattle.template.specs.Common.{settled_load, HelpRun, snap_at, job_of, ScxAt, Snap}
 use Rattle.help.specs.declared.state.HelpAt.TheVariants.{Start as HelpStart, Plan as HelpPlan}
-use Rattle.help.specs.declared.state.HelpRun.{HelpRun}
-use Rattle.prims.specs.Snap.{snap_at}
-use Rattle.prims.specs.Scx.Known.{job_of, FillMade, ScxTurn, ScxIsToldAt}
+use Rattle.prims.specs.Scx.Known.{FillMade, ScxTurn, ScxIsToldAt}
 use Rattle.prims.proofs.Lemmas.{turn_plan, turn_new, turn_old, turn_member, turn_seen, begin_help}
-use Rattle.prims.specs.declared.scx.ScxAt.{ScxAt}
 use Rattle.prims.specs.declared.scx.ScxAt.TheVariants.{Plan as AtPlan, New as AtNew, Old as AtOld, Member as AtMember, Seen as AtSeen, Call as AtCall, Help}
-use Rattle.prims.specs.declared.snap.Snap.{Snap}
 use Rattle.forest.specs.declared.straight.scx.ScxTask.{ScxTask}
 use Rattle.forest.specs.declared.view.SeatedPass.{SeatedPass}
 use Rattle.forest.specs.StraightScx.{Changer, inner_scx, changing_at, scx_fill}

@@ -1,10 +1,8 @@
 -- How the tries of an update continue from seat to seat, of whatever machine updates.
-use Rattle.std.proofs.Common.{◌≡◌, ℕ, List, Option, ◌<◌, ◌∙◌, refl, arith}
-use Rattle.std.specs.Prelude.{Result}
+use Rattle.std.proofs.Common.{◌≡◌, ℕ, List, Option, ◌<◌, ◌∙◌, refl, arith, Result}
 use Rattle.atomic_table.specs.declared.shared.Seat.{Seat}
-use Rattle.arena.specs.declared.machine.Machine.{Ghosts as Machine}
+use Rattle.histories.specs.Common.{Ghosts as Machine, NodeWord}
 use Rattle.arena.specs.declared.machine.Shape.{Ghosts as Shape}
-use Rattle.arena.specs.declared.word.NodeWord.{NodeWord}
 use Rattle.edits.specs.Edits.{EditMeaning}
 use Rattle.edits.specs.Next.{left_then}
 use Rattle.edits.specs.declared.edit.Nth.{Nth}

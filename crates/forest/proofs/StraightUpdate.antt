@@ -1,29 +1,13 @@
 -- From place to place of an update, of whatever machine updates.
-use Rattle.std.proofs.Common.{◌≡◌, ℕ, suc, Bool, true, ap, subst, ◌+◌, ◌-◌, ◌*◌, ◌<◌, ◌≤◌, List, Option, None, Some, inl, refl, sym, arith, ◌∙◌}
-use Rattle.std.specs.Prelude.{Result, Ok, Err, IfSome}
+use Rattle.std.proofs.Common.{◌≡◌, ℕ, suc, Bool, true, ap, subst, ◌+◌, ◌-◌, ◌*◌, ◌<◌, ◌≤◌, List, Option, None, Some, inl, refl, sym, arith, ◌∙◌, Result, Ok, Err, IfSome}
 use Rattle.std.specs.Result.{IsErrAnd}
 use Rattle.std.proofs.lemmas.Result.{err_from_is_err_and}
-use Rattle.arena.specs.declared.fault.Full.{Full}
-use Rattle.arena.specs.declared.layout.Layout.{Layout}
-use Rattle.arena.specs.declared.machine.Turn.{Turn}
-use Rattle.arena.specs.declared.machine.Turn.TheVariants.{Ask, Done}
-use Rattle.arena.specs.declared.number.NodeNo.{NodeNo}
-use Rattle.arena.specs.declared.step.Kind.TheVariants.{LoadMarked, LoadSettled, LoadState}
-use Rattle.arena.specs.declared.word.NodeWord.TheVariants.{Settled}
-use Rattle.arena.specs.declared.word.SettledPart.{SettledPart}
-use Rattle.arena.specs.declared.word.SettledPart.TheVariants.{Head, High, Key, Value}
-use Rattle.arena.specs.declared.word.Slot.{Slot}
-use Rattle.arena.specs.declared.step.Access.TheVariants.{Store}
-use Rattle.arena.specs.declared.step.Kind.TheVariants.{Fill as FillKind}
-use Rattle.arena.specs.declared.word.NodeWord.{NodeWord}
-use Rattle.arena.specs.declared.word.ScxWord.TheVariants.{Plan}
-use Rattle.arena.specs.declared.word.Word.TheVariants.{Node as NodeOf}
+use Rattle.histories.specs.Common.{Full, Layout, Turn, Ask, Done, NodeNo, LoadMarked, LoadSettled, LoadState, Settled, SettledPart, Head, High, Key, Value, Slot, Store}
+use Rattle.histories.specs.Common.{Fill as FillKind, NodeWord, Plan, Node as NodeOf, History, value, Call, IsRun, MatchTurn, begun_at, marked, node, state, ScxNo}
 use Rattle.help.specs.declared.state.HelpAt.TheVariants.{Commit as HelpCommit}
-use Rattle.help.specs.declared.state.HelpRun.{HelpRun}
+use Rattle.template.specs.Common.{HelpRun, Done as ScxDone, ScxRun, HasFoundThere, load, IsSnapshot, LlxRun, Snap, TreeAllows, HasFoundGoal, WalkIsTold, walk_from, IsPastRoot, Goal, Update}
 use Rattle.prims.specs.Scx.Steps.{scx_left}
-use Rattle.prims.specs.declared.scx.Scx.TheVariants.{Done as ScxDone}
 use Rattle.prims.specs.declared.scx.ScxAt.TheVariants.{Plan as AtPlan, Help}
-use Rattle.prims.specs.declared.scx.ScxRun.{ScxRun}
 use Rattle.prims.proofs.Lemmas.{done_at}
 use Rattle.edits.specs.declared.edit.Nth.{Nth}
 use Rattle.edits.specs.declared.piece.Piece.{Piece}
@@ -35,23 +19,11 @@ use Rattle.order.specs.LastTurns.{no_turns}
 use Rattle.order.specs.declared.last_turns.LastTurns.{LastTurns}
 use Rattle.forest.specs.declared.straight.scx.ScxTask.{ScxTask}
 use Rattle.forest.specs.StraightScx.{Changer, all_frozen_load, changing_at, scx_fill}
-use Rattle.arena.specs.History.{History, value}
-use Rattle.arena.specs.Machines.{Call, IsRun, MatchTurn, begun_at}
-use Rattle.arena.specs.Words.{marked, node, state}
 use Rattle.arena.proofs.Lemmas.{ends_self}
-use Rattle.prims.specs.FoundThere.{HasFoundThere}
 use Rattle.prims.specs.Laws.FoundThere.{there_wider}
 use Rattle.prims.specs.Laws.Idle.{quiet_at_start, idle_if_finished}
-use Rattle.prims.specs.Llx.Known.{load, IsSnapshot}
 use Rattle.prims.specs.declared.llx.LlxAt.TheVariants.{Marked, StateAgain}
-use Rattle.prims.specs.declared.llx.LlxRun.{LlxRun}
-use Rattle.prims.specs.declared.snap.Snap.{Snap}
-use Rattle.ordered_map.specs.TreeShape.{TreeAllows}
-use Rattle.template.specs.FoundLeaf.{HasFoundGoal}
-use Rattle.template.specs.Walk.Known.{WalkIsTold}
-use Rattle.template.specs.Walk.Places.{walk_from, IsPastRoot}
 use Rattle.template.specs.declared.walk.Found.{Found}
-use Rattle.ordered_map.specs.declared.rule.Goal.{Goal}
 use Rattle.template.specs.declared.walk.WalkAt.{WalkAt}
 use Rattle.template.specs.declared.walk.WalkAt.TheVariants.{Start as WalkStart, Root as WalkRoot}
 use Rattle.template.specs.declared.walk.WalkRun.{WalkRun}
@@ -71,8 +43,6 @@ use Rattle.edits.specs.declared.update.Next.TheVariants.{Look as LookNext, Wait 
 use Rattle.edits.specs.declared.update.UpdateAt.{UpdateAt}
 use Rattle.edits.specs.declared.update.UpdateAt.TheVariants.{Start, Walk, Look, Fill, Scx}
 use Rattle.edits.specs.declared.edit.Look.TheVariants.{At}
-use Rattle.prims.specs.declared.update.Update.{Update}
-use Rattle.arena.specs.declared.number.ScxNo.{ScxNo}
 use Rattle.arena.specs.declared.plan.Plan.{Plan as PlanOf}
 use Rattle.edits.specs.declared.update.UpdateRun.{UpdateRun}
 use Rattle.edits.specs.declared.update.Updated.{Updated}

@@ -1,18 +1,10 @@
 -- From info to info of a VLX, of whatever machine validates; and calls of VLX, which validate their
 -- own snapshots.
 use Rattle.std.proofs.Common.{◌≡◌, ◌≢◌, ℕ, suc, ◌<◌, List, length, refl, subst}
-use Rattle.arena.specs.declared.layout.Layout.{Layout}
-use Rattle.arena.specs.declared.step.Kind.TheVariants.{LoadInfo}
-use Rattle.arena.specs.Words.{info}
-use Rattle.arena.specs.History.{History}
-use Rattle.arena.specs.Machines.{Call}
-use Rattle.prims.specs.Llx.Known.{load}
-use Rattle.prims.specs.Snap.{snap_at}
+use Rattle.histories.specs.Common.{Layout, LoadInfo, info, History, Call}
+use Rattle.template.specs.Common.{load, snap_at, Snap, Same, Changed, VlxRun}
 use Rattle.prims.specs.Vlx.Known.{HasFoundUnchanged}
 use Rattle.prims.specs.Vlx.Laws.{first_looked, looks_next, looked_on, turn_changed, all_same}
-use Rattle.prims.specs.declared.snap.Snap.{Snap}
-use Rattle.prims.specs.declared.vlx.Vlx.TheVariants.{Same, Changed}
-use Rattle.prims.specs.declared.vlx.VlxRun.{VlxRun}
 use Rattle.forest.specs.declared.view.SeatedPass.{SeatedPass}
 use Rattle.forest.specs.CallKinds.{Calls}
 use Rattle.forest.specs.Inside.{InnerIsTold, InnerWaits}

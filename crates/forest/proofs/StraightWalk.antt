@@ -1,28 +1,14 @@
 -- From place to place of a walk, of whatever machine walks.
-use Rattle.std.specs.Prelude.{if◌then◌else◌}
-use Rattle.std.proofs.Common.{◌≡◌, ◌≢◌, ℕ, suc, ◌+◌, ◌<◌, ◌≤◌, ◌⊎◌, Bool, true, false, cond, ltb, List, None, Some, unwrap_or, refl, ap, subst, arith}
+use Rattle.std.proofs.Common.{if◌then◌else◌, ◌≡◌, ◌≢◌, ℕ, suc, ◌+◌, ◌<◌, ◌≤◌, ◌⊎◌, Bool, true, false, cond, ltb, List, None, Some, unwrap_or, refl, ap, subst, arith}
 use Rattle.arena.specs.declared.head.Head.{Head as HeadParts}
-use Rattle.arena.specs.declared.step.Kind.TheVariants.{LoadSettled, LoadChild}
-use Rattle.arena.specs.declared.step.Step.{Step}
-use Rattle.arena.specs.declared.word.Side.{Side}
-use Rattle.arena.specs.declared.word.Side.TheVariants.{Left, Right}
-use Rattle.arena.specs.declared.word.NodeWord.TheVariants.{Settled, Child as ChildWord}
-use Rattle.arena.specs.declared.word.SettledPart.TheVariants.{Head as HeadWord, More as MoreWord, Key as KeyWord, Value as ValueWord, High as HighWord}
-use Rattle.arena.specs.declared.word.Slot.{Slot}
-use Rattle.arena.specs.declared.word.Slot.TheVariants.{First, Second, Third, Fourth}
-use Rattle.arena.specs.Heads.{head_of}
-use Rattle.arena.specs.History.{History}
-use Rattle.arena.specs.Machines.{Call}
-use Rattle.arena.specs.Words.{node, first_key, slot_no}
-use Rattle.ordered_map.specs.Holding.{slot_behind, wide_value}
+use Rattle.histories.specs.Common.{LoadSettled, LoadChild, Step, Side, Left, Right, Settled, Child as ChildWord, Head as HeadWord, More as MoreWord, Key as KeyWord}
+use Rattle.histories.specs.Common.{Value as ValueWord, High as HighWord, Slot, First, Second, Third, Fourth, head_of, History, Call, node, first_key, slot_no}
+use Rattle.template.specs.Common.{slot_behind, wide_value, load, asked_key, path_key, WalkIsTold, WalkWaits, walk_at, IsPastRoot, walk_left, Goal}
 use Rattle.order.specs.LastTurns.{last_turns}
-use Rattle.prims.specs.Llx.Known.{load}
-use Rattle.template.specs.FoundLeaf.{asked_key, path_key}
-use Rattle.template.specs.Walk.Known.{WalkIsTold, WalkWaits, asks_key, goal_slot, open_side}
+use Rattle.template.specs.Walk.Known.{asks_key, goal_slot, open_side}
 use Rattle.template.specs.Walk.Laws.{walk_told}
-use Rattle.template.specs.Walk.Places.{walk_at, trail_below, IsPastRoot, LoadsHead}
-use Rattle.template.specs.Walk.Steps.{walk_left, WalkFitsAt}
-use Rattle.ordered_map.specs.declared.rule.Goal.{Goal}
+use Rattle.template.specs.Walk.Places.{trail_below, LoadsHead}
+use Rattle.template.specs.Walk.Steps.{WalkFitsAt}
 use Rattle.template.specs.declared.walk.Trail.{Trail}
 use Rattle.template.specs.declared.walk.WalkAt.{WalkAt}
 use Rattle.template.specs.declared.walk.WalkAt.TheVariants.{Start, Root, Head, Key, Child, More, Pair, Value, High}

@@ -2,13 +2,7 @@
 -- pass has taken since, by a row of its own.
 use Rattle.std.proofs.Common.{◌≡◌, ◌≢◌, ◌<◌, ◌≤◌, ℕ, ◌⊎◌, inl, inr, ⊎_elim, Option, sym, ◌∙◌, subst, arith}
 use native.Mathlib.Decide.{ℕ_discrete}
-use Rattle.arena.specs.declared.layout.Layout.{Layout}
-use Rattle.arena.specs.Blame.{IsInProgress}
-use Rattle.arena.specs.Fills.{IsOwnScx, IsTakenScx}
-use Rattle.arena.specs.History.{History, Start, ◌⊳◌, Extends}
-use Rattle.arena.specs.Lawful.{Lawful}
-use Rattle.arena.specs.Machines.{Call}
-use Rattle.arena.specs.Share.{Remaining}
+use Rattle.histories.specs.Common.{Layout, IsInProgress, IsOwnScx, IsTakenScx, History, Start, ◌⊳◌, Extends, Lawful, Call, Remaining}
 use Rattle.arena.proofs.Lemmas.{ends_self, ends_trans}
 use Rattle.histories.proofs.Lemmas.{lawful_row, lawful_since, lawful_tail, named_scx_taken, state_since, untaken_by_others}
 use Rattle.prims.specs.Laws.Begun.{taken_since}

@@ -1,16 +1,9 @@
 -- What the calls of a dictionary say.
 use Rattle.std.proofs.Common.{◌≡◌, ◌∙◌, ℕ, ◌<◌, ◌⊎◌, inl, inr, List, Option, Some, None, sym, subst}
 use Rattle.atomic_table.specs.Seated.{TableId}
-use Rattle.arena.specs.declared.fault.Full.{Full as FullOf}
-use Rattle.arena.specs.declared.step.Row.{Row}
-use Rattle.arena.specs.Blame.{WasInTheWay}
-use Rattle.arena.specs.Fills.{IsOthersScx}
-use Rattle.arena.specs.History.{History, ◌⊳◌, Extends}
-use Rattle.arena.specs.Machines.{Call}
-use Rattle.arena.specs.Share.{Remaining}
+use Rattle.histories.specs.Common.{Full as FullOf, Row, WasInTheWay, IsOthersScx, History, ◌⊳◌, Extends, Call, Remaining}
 use Rattle.arena.proofs.Lemmas.{ends_self, ends_trans}
-use Rattle.ordered_map.specs.OrderedMap.{MapCall, MapReply, MapEdit, edit_of}
-use Rattle.ordered_map.specs.Runs.{IsTreeRun, Makes}
+use Rattle.template.specs.Common.{MapCall, MapReply, MapEdit, edit_of, IsTreeRun, Makes}
 use Rattle.ordered_map.proofs.Lemmas.{makes_since}
 use Rattle.edits.specs.Known.{RestsWith, IsUntouched}
 use Rattle.edits.specs.Tries.{HasEnteredNone}

@@ -1,20 +1,9 @@
 -- What a call of `vlx` says.
 use Rattle.std.proofs.Common.{◌≡◌, ◌≢◌, ◌<◌, ℕ, zero, suc, inl, inr, List, [], ◌∷◌, length, refl, sym, ◌∙◌, ap, subst, arith}
 use Rattle.atomic_table.specs.declared.shared.Seat.{Seat}
-use Rattle.arena.specs.declared.layout.Layout.{Layout}
-use Rattle.arena.specs.declared.step.Kind.TheVariants.{LoadInfo}
-use Rattle.arena.specs.declared.step.Row.{Row}
-use Rattle.arena.specs.declared.step.Step.{Step}
-use Rattle.arena.specs.History.{History}
-use Rattle.arena.specs.declared.limits.Mode.{Mode}
-use Rattle.prims.specs.Snaps.{AreDistinct, IsAmong}
-use Rattle.prims.specs.Snap.{snap_at}
-use Rattle.prims.specs.Vlx.Known.{VlxAnswers}
+use Rattle.histories.specs.Common.{Layout, LoadInfo, Row, Step, History, Mode}
+use Rattle.template.specs.Common.{AreDistinct, IsAmong, snap_at, VlxAnswers, Snap, Vlx, Same, Changed, VlxRun}
 use Rattle.prims.proofs.Lemmas.{vlx_fills_not, all_over, vlx_ready_first}
-use Rattle.prims.specs.declared.snap.Snap.{Snap}
-use Rattle.prims.specs.declared.vlx.Vlx.{Vlx}
-use Rattle.prims.specs.declared.vlx.Vlx.TheVariants.{Same, Changed}
-use Rattle.prims.specs.declared.vlx.VlxRun.{VlxRun}
 use Rattle.forest.specs.declared.view.SeatView.{SeatView}
 use Rattle.forest.specs.declared.pass.Pass.TheInside.{Inside}
 use Rattle.forest.specs.Traces.{known_of}

@@ -1,15 +1,8 @@
 -- What a whole call of a dictionary says of the pass that has made it.
 use Rattle.std.proofs.Common.{◌≡◌, ◌∙◌, ◌+◌, ◌≤◌, ℕ, List, subst, arith}
 use Rattle.atomic_table.specs.declared.shared.Seat.{Seat}
-use Rattle.arena.specs.declared.layout.Layout.{Layout}
-use Rattle.arena.specs.declared.limits.Mode.TheVariants.{Tree}
-use Rattle.arena.specs.History.{History}
-use Rattle.arena.specs.Machines.{Call}
-use Rattle.arena.specs.Share.{Remaining}
-use Rattle.ordered_map.specs.CallRules.{MayReply, form_of, most_steps}
-use Rattle.ordered_map.specs.OrderedMap.{MapCall}
-use Rattle.ordered_map.specs.Replies.{told_of}
-use Rattle.ordered_map.specs.declared.reply.Reply.{Reply}
+use Rattle.histories.specs.Common.{Layout, Tree, History, Call, Remaining}
+use Rattle.template.specs.Common.{MayReply, form_of, most_steps, MapCall, told_of, Reply}
 use Rattle.dict.specs.declared.dict.DictRun.{DictRun}
 use Rattle.dict.specs.Calls.{AsksForPairs, call_in, share_of}
 use Rattle.dict.specs.DictKnown.{DictWaits}

@@ -1,11 +1,7 @@
 -- The calls of a machine, as the clauses of straight code see them.
 use Rattle.std.specs.Prelude.{ℕ, Option}
-use Rattle.arena.specs.declared.layout.Layout.{Layout}
-use Rattle.arena.specs.declared.machine.Machine.{Ghosts as Machine}
+use Rattle.histories.specs.Common.{Layout, Ghosts as Machine, Step, History, Call}
 use Rattle.arena.specs.declared.machine.Shape.{Ghosts as Shape}
-use Rattle.arena.specs.declared.step.Step.{Step}
-use Rattle.arena.specs.History.{History}
-use Rattle.arena.specs.Machines.{Call}
 
 -- What is said of the calls of a machine: in which runs they are made, when it may get
 -- something, when it waits for a step, what of it stays the same, and their layout and number.

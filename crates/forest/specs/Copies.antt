@@ -1,12 +1,6 @@
 -- Copies of the words that a map is read from.
 use Rattle.std.specs.Prelude.{◌≡◌, ℕ, ◌<◌, if◌then◌else◌, ◌==◌}
-use Rattle.arena.specs.declared.word.NodeWord.{NodeWord}
-use Rattle.arena.specs.declared.word.NodeWord.TheVariants.{Settled, Child, Info, Marked}
-use Rattle.arena.specs.declared.word.SettledPart.TheVariants.{Head, More, Key, Value, High}
-use Rattle.arena.specs.declared.word.Side.TheVariants.{Left, Right}
-use Rattle.arena.specs.declared.word.Slot.TheVariants.{First, Second, Third, Fourth}
-use Rattle.arena.specs.PlainWords.{Contents, word_at}
-use Rattle.arena.specs.Words.{node}
+use Rattle.histories.specs.Common.{NodeWord, Settled, Child, Info, Marked, Head, More, Key, Value, High, Left, Right, First, Second, Third, Fourth, Contents, word_at, node}
 
 -- a word of a node that a map is read from: all but its info and its mark
 abbrev pub IsMapWord : NodeWord → Type 0

@@ -1,20 +1,8 @@
 -- What the calls of a dictionary say of the pass that makes them.
 use Rattle.std.specs.Prelude.{◌≡◌, ℕ, ◌+◌, ◌*◌, ◌<◌, ◌≤◌, ◌⊎◌, List, ◌∷◌, Option, Some, None, Result, Ok, Err}
-use Rattle.arena.specs.declared.fault.Full.{Full as FullOf}
-use Rattle.arena.specs.declared.limits.Mode.TheVariants.{Tree}
-use Rattle.arena.specs.declared.step.Row.{Row}
-use Rattle.arena.specs.Blame.{WasInTheWay}
-use Rattle.arena.specs.Fills.{IsOthersScx}
-use Rattle.arena.specs.History.{History, ◌⊳◌, value, Extends}
-use Rattle.arena.specs.Log.{Entry, log}
-use Rattle.ordered_map.specs.declared.pair.Pair.{Pair as PairOf}
-use Rattle.ordered_map.specs.OrderedMap.{MapCall, MapReply, MapEdit, edited, reply, edit_of}
-use Rattle.ordered_map.specs.Runs.{Makes}
-use Rattle.ordered_map.specs.Spelled.{Spells}
-use Rattle.template.specs.Tries.{tries_since, HasTriedAtMost}
-use Rattle.ordered_map.specs.CallRules.{MayReply, form_of, most_nodes, most_scx, most_steps}
-use Rattle.ordered_map.specs.Replies.{told_of}
-use Rattle.ordered_map.specs.declared.reply.Reply.{Reply}
+use Rattle.histories.specs.Common.{Full as FullOf, Tree, Row, WasInTheWay, IsOthersScx, History, ◌⊳◌, value, Extends, Entry, log}
+use Rattle.template.specs.Common.{Pair as PairOf, MapCall, MapReply, MapEdit, edited, reply, edit_of, Makes, Spells, tries_since}
+use Rattle.template.specs.Common.{HasTriedAtMost, MayReply, form_of, most_nodes, most_scx, most_steps, told_of, Reply}
 use Rattle.ordered_map.specs.declared.reply.Reply.TheVariants.{Contended, Full, NoMemory}
 use Rattle.dict.specs.Calls.{AsksForPairs, most_tries}
 use Rattle.dict.specs.Says.{HasLostSince, HasMadeRow, HasReadSince, HasTooLittleSince, KeepsLists}

@@ -1,9 +1,8 @@
 -- What a call has in hand, as the clauses of straight code see it.
 use Rattle.std.specs.Prelude.{◌≡◌, ℕ}
 use Rattle.atomic_table.specs.declared.shared.Seat.{Seat}
-use Rattle.arena.specs.declared.machine.Machine.{Ghosts as Machine}
+use Rattle.histories.specs.Common.{Ghosts as Machine, Call}
 use Rattle.arena.specs.declared.machine.Shape.{Ghosts as Shape}
-use Rattle.arena.specs.Machines.{Call}
 use Rattle.forest.specs.declared.straight.hand.Hand.{Hand}
 use Rattle.forest.specs.declared.view.SeatView.{SeatView}
 use Rattle.forest.specs.CallKinds.{Calls, calls}

@@ -1,12 +1,7 @@
 -- Machines that are called inside the call of another, as the clauses of straight code see them.
 use Rattle.std.specs.Prelude.{◌≡◌, ℕ, List, Option, None}
-use Rattle.arena.specs.declared.layout.Layout.{Layout}
-use Rattle.arena.specs.declared.machine.Machine.{Ghosts as Machine}
+use Rattle.histories.specs.Common.{Layout, Ghosts as Machine, Turn, Step, History, Call, IsRun, MatchTurn}
 use Rattle.arena.specs.declared.machine.Shape.{Ghosts as Shape}
-use Rattle.arena.specs.declared.machine.Turn.{Turn}
-use Rattle.arena.specs.declared.step.Step.{Step}
-use Rattle.arena.specs.History.{History}
-use Rattle.arena.specs.Machines.{Call, IsRun, MatchTurn}
 use Rattle.forest.specs.declared.view.SeatedPass.{SeatedPass}
 use Rattle.forest.specs.CallKinds.{Calls}
 use Rattle.forest.specs.Traces.{HoldsForCall, Trace, Waits, Told}

@@ -1,8 +1,6 @@
 -- Machines inside the machine of a call, as the clauses of straight code see them.
 use Rattle.std.specs.Prelude.{◌≡◌, ℕ, List, Some}
-use Rattle.arena.specs.declared.step.Step.{Step}
-use Rattle.arena.specs.History.{History}
-use Rattle.arena.specs.Machines.{Call, IsRun}
+use Rattle.histories.specs.Common.{Step, History, Call, IsRun}
 use Rattle.forest.specs.declared.view.SeatedPass.{SeatedPass}
 use Rattle.forest.specs.CallKinds.{Calls}
 use Rattle.forest.specs.Traces.{Waits, Told}

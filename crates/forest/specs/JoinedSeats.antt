@@ -1,9 +1,6 @@
 -- Passes whose seats have been joined.
 use Rattle.std.specs.Prelude.{◌≡◌, ◌<◌, ◌⊎◌, ℕ, suc, List, [], ◌∷◌}
-use Rattle.arena.specs.declared.layout.Layout.{Layout}
-use Rattle.arena.specs.History.{History, Extends}
-use Rattle.arena.specs.Log.{log}
-use Rattle.arena.specs.Machines.{IsRun}
+use Rattle.histories.specs.Common.{Layout, History, Extends, log, IsRun}
 use Rattle.forest.specs.declared.view.SeatedPass.{SeatedPass}
 use Rattle.forest.specs.TableRule.{history_of, seated_pass}
 use Rattle.forest.specs.Traces.{rows_of}

@@ -1,8 +1,7 @@
 -- What is true of the fields of every call that is held open.
 use Rattle.std.specs.Prelude.{◌≡◌, ◌+◌, ◌-◌, ◌<◌, ◌≤◌, ℕ, true, false, [], ◌∷◌}
 use Rattle.atomic_table.specs.declared.shared.Seat.{Seat}
-use Rattle.arena.specs.declared.limits.Mode.TheVariants.{Tree}
-use Rattle.arena.specs.Machines.{Call, MatchTurn}
+use Rattle.histories.specs.Common.{Tree, Call, MatchTurn}
 use Rattle.dict.specs.Calls.{call_in, AsksForPairs}
 use Rattle.dict.specs.DictKnown.{DictWaits, DictAnswers}
 use Rattle.ordered_map.specs.CallRules.{most_steps}

@@ -1,7 +1,6 @@
 -- What contracts see of a call that is held open.
 use Rattle.std.specs.Prelude.{◌≡◌, ℕ, suc, ◌<◌, Bool, true, false, List, ◌∷◌, ◌++◌, Some, None}
-use Rattle.arena.specs.declared.step.Kind.{Kind}
-use Rattle.arena.specs.declared.step.Row.{Row}
+use Rattle.histories.specs.Common.{Kind, Row}
 use Rattle.ordered_map.specs.OrderedMap.{MapCall}
 use Rattle.dict.specs.Calls.{AsksForPairs}
 use Rattle.forest.specs.declared.open.Stepped.{Stepped}

@@ -1,9 +1,6 @@
 -- What is true of the fields of every pass.
 use Rattle.std.specs.Prelude.{◌≡◌, ◌<◌, ℕ, [], ◌∷◌}
-use Rattle.arena.specs.declared.limits.Mode.{Mode}
-use Rattle.arena.specs.declared.layout.Layout.{Layout}
-use Rattle.arena.specs.History.{History}
-use Rattle.arena.specs.Machines.{IsRun}
+use Rattle.histories.specs.Common.{Mode, Layout, History, IsRun}
 use Rattle.forest.specs.declared.pass.Pass.TheInside.{Inside}
 use Rattle.forest.specs.TableRule.{history_of, seated_pass}
 use Rattle.forest.specs.Traces.{known_of}

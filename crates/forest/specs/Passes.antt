@@ -2,44 +2,16 @@
 use Rattle.std.specs.Prelude.{◌≡◌, ◌≢◌, ◌+◌, ◌-◌, ◌<◌, ◌≤◌, ◌⊎◌, ◌↔◌, ℕ, suc, true, List, [], ◌∷◌, length, slice_get, Some, map, nat_eq}
 use Rattle.std.specs.List.{All, AllPairs, Contains, count_by}
 use Rattle.atomic_table.specs.Seated.{TableId}
-use Rattle.arena.specs.declared.layout.Layout.{Layout}
-use Rattle.arena.specs.declared.step.Row.{Row}
-use Rattle.arena.specs.declared.step.Kind.TheVariants.{Freeze, LoadInfo, LoadSettled}
-use Rattle.arena.specs.Share.{Remaining, whole_share, HasScx, IsFull}
-use Rattle.arena.specs.declared.number.NodeNo.{NodeNo}
-use Rattle.arena.specs.declared.word.Side.{Side}
-use Rattle.arena.specs.declared.word.NodeWord.TheVariants.{Settled}
-use Rattle.arena.specs.declared.word.SettledPart.TheVariants.{Head}
-use Rattle.arena.specs.declared.word.Word.{Word}
-use Rattle.arena.specs.Layout.{all_nodes, IsWord}
-use Rattle.arena.specs.Machines.{IsRun}
-use Rattle.arena.specs.PlainWords.{Contents, word_at}
-use Rattle.arena.specs.Words.{info, state, child, node as node_word, first_value}
-use Rattle.arena.specs.History.{History, ◌⊳◌, value, HasHeld, Extends}
-use Rattle.arena.specs.declared.limits.Mode.TheVariants.{Records}
-use Rattle.arena.specs.Fills.{IsNamedScx, IsOthersScx, IsOwnNode, IsOwnScx, IsTakenNode, IsTakenScx}
-use Rattle.arena.specs.Blame.{HasFailed}
-use Rattle.arena.specs.Lawful.{IsWin}
-use Rattle.arena.specs.Log.{Entry, log, has, fields}
-use Rattle.prims.specs.Cells.{AllowsAll}
-use Rattle.prims.specs.FoundThere.{HasFoundThere}
-use Rattle.prims.specs.Llx.Known.{IsSnapshot, IsFinalBy, HasJustLooked}
-use Rattle.prims.specs.declared.snap.Snap.{Snap}
-use Rattle.prims.specs.declared.llx.Llx.{Llx}
-use Rattle.prims.specs.declared.llx.Llx.TheVariants.{Snapshot, Finalized, Fail}
-use Rattle.prims.specs.Moments.{IsAsFound, IsLeftAlone, HasChanged}
-use Rattle.prims.specs.Scx.Known.{nodes_of}
-use Rattle.prims.specs.Shares.{IsUsable}
-use Rattle.prims.specs.Snaps.{IsAmong, ListsNode}
-use Rattle.prims.specs.Snap.{snap_at}
-use Rattle.prims.specs.declared.scx.Scx.{Scx}
-use Rattle.prims.specs.declared.scx.Scx.TheVariants.{Done, Lost}
+use Rattle.histories.specs.Common.{Layout, Row, Freeze, LoadInfo, LoadSettled, Remaining, HasScx, NodeNo, Side, Settled, Head, Word, all_nodes, IsWord, IsRun}
+use Rattle.histories.specs.Common.{Contents, word_at, info, state, child, node as node_word, first_value, History, ◌⊳◌, value, HasHeld, Extends, Records, IsNamedScx}
+use Rattle.histories.specs.Common.{IsOthersScx, IsOwnNode, IsOwnScx, IsTakenNode, IsTakenScx, HasFailed, IsWin, Entry, log, has, fields, Full, Resource, Nodes}
+use Rattle.arena.specs.Share.{whole_share, IsFull}
+use Rattle.template.specs.Common.{AllowsAll, HasFoundThere, IsSnapshot, HasJustLooked, Snap, Llx, Snapshot, Finalized, Fail, IsLeftAlone}
+use Rattle.template.specs.Common.{HasChanged, nodes_of, IsUsable, IsAmong, ListsNode, snap_at, Scx, Done, Lost, Vlx, Same, Changed}
+use Rattle.prims.specs.Llx.Known.{IsFinalBy}
+use Rattle.prims.specs.Moments.{IsAsFound}
 use Rattle.prims.specs.Vlx.Known.{HasFoundFirst}
-use Rattle.prims.specs.declared.vlx.Vlx.{Vlx}
-use Rattle.prims.specs.declared.vlx.Vlx.TheVariants.{Same, Changed}
-use Rattle.arena.specs.declared.fault.Full.{Full}
-use Rattle.arena.specs.declared.fault.Resource.{Resource}
-use Rattle.arena.specs.declared.fault.Resource.TheVariants.{Nodes, Scx as ScxRecords}
+use Rattle.arena.specs.declared.fault.Resource.TheVariants.{Scx as ScxRecords}
 use Rattle.forest.specs.TableRule.{history_of}
 use Rattle.forest.specs.Traces.{rows_of}
 use Rattle.forest.specs.Shares.{IsBetweenCalls, entries_of}

@@ -1,14 +1,7 @@
 -- What a run of SCX is to do.
 use Rattle.std.specs.Prelude.{◌≡◌, ◌<◌, ◌↔◌, ℕ, true, List, length}
-use Rattle.arena.specs.declared.number.NodeNo.{NodeNo}
-use Rattle.arena.specs.declared.word.Side.{Side}
-use Rattle.arena.specs.ScxRecords.{plan_finalizes, side_of}
-use Rattle.prims.specs.Scx.Known.{IsUpdateOver}
-use Rattle.prims.specs.Snaps.{ListsNode}
-use Rattle.prims.specs.Updates.{update_field_index}
-use Rattle.prims.specs.Snap.{snap_at}
-use Rattle.prims.specs.declared.snap.Snap.{Snap}
-use Rattle.prims.specs.declared.put.PutRun.{PutRun}
+use Rattle.histories.specs.Common.{NodeNo, Side, plan_finalizes, side_of}
+use Rattle.template.specs.Common.{IsUpdateOver, ListsNode, update_field_index, snap_at, Snap, PutRun}
 
 -- the run of SCX covers the nodes of these snapshots, finalizes those of them in the list, and puts
 -- this node, with this value, into the field; its SCX-record and the number of its call are these

@@ -1,11 +1,7 @@
 -- A pass between two calls, and its entries in the log.
 use Rattle.std.specs.Prelude.{ℕ, if◌then◌else◌, ◌==◌, List, [], ◌∷◌}
-use Rattle.arena.specs.declared.layout.Layout.{Layout}
-use Rattle.arena.specs.Share.{Remaining}
-use Rattle.arena.specs.History.{History}
-use Rattle.arena.specs.Log.{Entry}
-use Rattle.prims.specs.Moments.{AreFinished}
-use Rattle.prims.specs.Shares.{IsShare}
+use Rattle.histories.specs.Common.{Layout, Remaining, History, Entry}
+use Rattle.template.specs.Common.{AreFinished, IsShare}
 
 -- pass c is between two calls: it has taken all of its share before what is left, and each
 -- SCX-record that it has taken is finished

@@ -1,8 +1,7 @@
 -- Which kinds of step calls make.
 use Rattle.std.specs.Prelude.{◌≡◌, ◌≢◌}
 use Rattle.arena.specs.declared.step.Kind.TheVariants.{Fill, LoadInfo}
-use Rattle.ordered_map.specs.CallRules.{call_rules}
-use Rattle.ordered_map.specs.OrderedMap.{MapCall}
+use Rattle.template.specs.Common.{call_rules, MapCall}
 use Rattle.forest.specs.Passes.{HoldsOfOwn, PassView, run_of}
 
 -- the pass has made no other steps in this call: each own row after the run that it knew before is

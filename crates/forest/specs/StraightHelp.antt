@@ -1,20 +1,11 @@
 -- Calls that are at a place of a HELP, of whatever machine helps.
 use Rattle.std.specs.Prelude.{◌≡◌, ◌<◌, ◌+◌, ℕ, Bool, true, false, List, Some}
-use Rattle.arena.specs.declared.layout.Layout.{Layout}
-use Rattle.arena.specs.History.{History}
-use Rattle.arena.specs.Lawful.{Lawful}
+use Rattle.histories.specs.Common.{Layout, History, Lawful, MemberIndex, Load, Store, LoadAllFrozen, SetFrozen, AllFrozen, Member, Plan, member_index, raw_count, scx}
 use Rattle.help.specs.Help.Known.{Marks, reading, settled_load, HelpIsReady, HelpWaits}
 use Rattle.help.specs.declared.state.HelpRun.{HelpRun}
 use Rattle.forest.specs.declared.view.SeatedPass.{SeatedPass}
 use Rattle.forest.specs.CallKinds.{Calls}
 use Rattle.forest.specs.Inside.{Inner, Inside, InnerIsTold, InnerWaits}
-use Rattle.arena.specs.declared.number.MemberIndex.{MemberIndex}
-use Rattle.arena.specs.declared.step.Access.TheVariants.{Load, Store}
-use Rattle.arena.specs.declared.step.Kind.TheVariants.{LoadAllFrozen, SetFrozen}
-use Rattle.arena.specs.declared.word.ScxWord.TheVariants.{AllFrozen, Member, Plan}
-use Rattle.arena.specs.MemberIndex.{member_index}
-use Rattle.arena.specs.ScxRecords.{raw_count}
-use Rattle.arena.specs.Words.{scx}
 use Rattle.help.specs.declared.state.HelpAt.TheVariants.{Plan as AtPlan, Member as AtMember, SetFrozen as AtSetFrozen, Commit as AtCommit}
 
 -- a HELP in some pass, with its conditions for the runs that `inner` allows

@@ -1,24 +1,12 @@
 -- LLXs that are at a place: as calls of their own, and of whatever machine looks at nodes.
 use Rattle.std.specs.Prelude.{◌≡◌, ℕ, List, Bool, Some}
-use Rattle.arena.specs.declared.layout.Layout.{Layout}
-use Rattle.arena.specs.declared.number.NodeNo.{NodeNo}
-use Rattle.arena.specs.declared.step.Step.{Step}
-use Rattle.arena.specs.History.{History}
-use Rattle.arena.specs.Machines.{Call, IsRun}
-use Rattle.prims.specs.Llx.Known.{LlxIsReady, LlxWaits, LlxAnswers, load, HasJustLooked, IsSnapshot}
-use Rattle.prims.specs.declared.llx.Llx.{Llx}
-use Rattle.prims.specs.declared.llx.LlxRun.{LlxRun}
-use Rattle.prims.specs.declared.llx.LlxAt.{LlxAt}
+use Rattle.histories.specs.Common.{Layout, NodeNo, Step, History, Call, IsRun, ScxNo, LoadMarked, LoadState, marked, state}
+use Rattle.template.specs.Common.{LlxIsReady, LlxWaits, LlxAnswers, load, HasJustLooked, IsSnapshot, Llx, LlxRun, LlxAt, HasFoundThere, Snap}
 use Rattle.prims.specs.declared.llx.LlxAt.TheVariants.{Start, Marked, StateAgain}
 use Rattle.forest.specs.declared.view.SeatedPass.{SeatedPass}
 use Rattle.forest.specs.Traces.{CallBegins, Waits, Ends}
-use Rattle.prims.specs.FoundThere.{HasFoundThere}
-use Rattle.prims.specs.declared.snap.Snap.{Snap}
 use Rattle.forest.specs.CallKinds.{Calls}
 use Rattle.forest.specs.Inside.{Inner, Inside, InnerIsTold, InnerWaits}
-use Rattle.arena.specs.declared.number.ScxNo.{ScxNo}
-use Rattle.arena.specs.declared.step.Kind.TheVariants.{LoadMarked, LoadState}
-use Rattle.arena.specs.Words.{marked, state}
 
 -- the run of LLX of the node that is at a place
 abbrev pub llx_at : NodeNo → LlxAt → LlxRun

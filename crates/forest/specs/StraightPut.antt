@@ -1,17 +1,10 @@
 -- Calls of an SCX with a fresh cell that are at a place of its machine.
 use Rattle.std.specs.Prelude.{◌≡◌, ℕ, List}
-use Rattle.arena.specs.declared.layout.Layout.{Layout}
-use Rattle.arena.specs.declared.step.Step.{Step}
-use Rattle.arena.specs.History.{History}
-use Rattle.arena.specs.Machines.{Call}
-use Rattle.prims.specs.Put.Known.{PutIsReady, PutWaits, PutAnswers}
-use Rattle.prims.specs.declared.put.PutRun.{PutRun}
+use Rattle.histories.specs.Common.{Layout, Step, History, Call}
+use Rattle.template.specs.Common.{PutIsReady, PutWaits, PutAnswers, PutRun, Scx, ScxAt, Snap}
 use Rattle.prims.specs.declared.put.PutAt.TheVariants.{Start, Scx as AtScx}
-use Rattle.prims.specs.declared.scx.Scx.{Scx}
-use Rattle.prims.specs.declared.scx.ScxAt.{ScxAt}
 use Rattle.prims.specs.declared.scx.ScxAt.TheVariants.{Start as ScxStart}
 use Rattle.prims.specs.declared.put.PutAt.{PutAt}
-use Rattle.prims.specs.declared.snap.Snap.{Snap}
 use Rattle.forest.specs.declared.straight.put.PutTask.{PutTask}
 use Rattle.forest.specs.declared.view.SeatedPass.{SeatedPass}
 use Rattle.forest.specs.Traces.{CallBegins, Waits, Told, Ends}

@@ -2,15 +2,9 @@
 -- before what comes next.
 use Rattle.std.specs.Prelude.{ℕ, suc, ◌+◌, ◌≤◌, Bool, List, Result, Ok, Err}
 use Rattle.atomic_table.specs.declared.shared.Seat.{Seat}
-use Rattle.arena.specs.declared.machine.Machine.{Ghosts as Machine}
+use Rattle.histories.specs.Common.{Ghosts as Machine, NodeNo, ScxNo, LoadSettled, LoadState, Settled, Head as HeadWord, node, state}
 use Rattle.arena.specs.declared.machine.Shape.{Ghosts as Shape}
-use Rattle.arena.specs.declared.number.NodeNo.{NodeNo}
-use Rattle.arena.specs.declared.number.ScxNo.{ScxNo}
-use Rattle.arena.specs.declared.step.Kind.TheVariants.{LoadSettled, LoadState}
-use Rattle.arena.specs.declared.word.NodeWord.TheVariants.{Settled}
-use Rattle.arena.specs.declared.word.SettledPart.TheVariants.{Head as HeadWord}
-use Rattle.arena.specs.Words.{node, state}
-use Rattle.prims.specs.Llx.Known.{load}
+use Rattle.template.specs.Common.{load, TreeAllows}
 use Rattle.prims.specs.declared.llx.LlxAt.TheVariants.{StateAgain}
 use Rattle.order.specs.Known.{IsSameRead, ReadAnswers, ReadIsReady, ReadWaits}
 use Rattle.order.specs.Meaning.{ReadMeaning}
@@ -21,7 +15,6 @@ use Rattle.order.specs.declared.read.ReadNext.{ReadNext}
 use Rattle.order.specs.declared.refused.Refused.{Refused}
 use Rattle.order.specs.declared.run.ReadAt.TheVariants.{Look, Root}
 use Rattle.order.specs.declared.run.ReadRun.{ReadRun}
-use Rattle.ordered_map.specs.TreeShape.{TreeAllows}
 use Rattle.forest.specs.declared.straight.hand.Hand.{Hand}
 use Rattle.forest.specs.declared.view.SeatView.{SeatView}
 use Rattle.forest.specs.declared.view.SeatedPass.{SeatedPass}

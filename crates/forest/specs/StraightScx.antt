@@ -1,27 +1,12 @@
 -- Calls that are at a place of an SCX, of whatever machine makes one.
 use Rattle.std.specs.Prelude.{◌≡◌, ℕ, Bool, true, false, List, Some}
-use Rattle.arena.specs.declared.layout.Layout.{Layout}
-use Rattle.arena.specs.declared.number.ScxNo.{ScxNo}
-use Rattle.arena.specs.declared.step.Step.{Step}
-use Rattle.arena.specs.declared.step.Access.TheVariants.{Load, Store}
-use Rattle.arena.specs.declared.step.Kind.TheVariants.{Fill, LoadAllFrozen}
-use Rattle.arena.specs.declared.word.ScxWord.{ScxWord}
-use Rattle.arena.specs.declared.word.ScxWord.TheVariants.{AllFrozen, Plan, Member, Seen, Call as CallWord}
-use Rattle.arena.specs.Words.{scx}
-use Rattle.arena.specs.History.{History}
-use Rattle.arena.specs.Machines.{Call, IsRun}
+use Rattle.histories.specs.Common.{Layout, ScxNo, Step, Load, Store, Fill, LoadAllFrozen, ScxWord, AllFrozen, Plan, Member, Seen, scx, History, Call, IsRun, MemberIndex, member_index}
+use Rattle.arena.specs.declared.word.ScxWord.TheVariants.{Call as CallWord}
 use Rattle.help.specs.declared.state.HelpAt.TheVariants.{Commit}
-use Rattle.help.specs.declared.state.HelpRun.{HelpRun}
-use Rattle.prims.specs.Scx.Known.{ScxIsReady, ScxWaits}
-use Rattle.prims.specs.declared.scx.ScxAt.{ScxAt}
-use Rattle.prims.specs.declared.scx.ScxRun.{ScxRun}
-use Rattle.prims.specs.declared.snap.Snap.{Snap}
+use Rattle.template.specs.Common.{HelpRun, ScxIsReady, ScxWaits, ScxAt, ScxRun, Snap, snap_at}
 use Rattle.forest.specs.declared.straight.scx.ScxTask.{ScxTask}
 use Rattle.forest.specs.CallKinds.{Calls}
 use Rattle.forest.specs.Inside.{Inner, Inside, InnerIsTold, InnerWaits}
-use Rattle.arena.specs.declared.number.MemberIndex.{MemberIndex}
-use Rattle.arena.specs.MemberIndex.{member_index}
-use Rattle.prims.specs.Snap.{snap_at}
 use Rattle.prims.specs.declared.scx.ScxAt.TheVariants.{Plan as AtPlan, Member as AtMember, Seen as AtSeen, Call as AtCall, Help as AtHelp}
 use Rattle.forest.specs.declared.view.SeatedPass.{SeatedPass}
 

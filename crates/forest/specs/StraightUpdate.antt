@@ -1,13 +1,10 @@
 -- Calls of updates, of whatever machine updates: at a place of it, or before it has begun.
 use Rattle.std.specs.Prelude.{◌≡◌, ℕ, suc, ◌+◌, ◌-◌, ◌*◌, ◌≤◌, List, [], Option, Some, None, Result, Ok, Err}
 use Rattle.arena.specs.Layout.{node_start}
-use Rattle.arena.specs.declared.word.NodeWord.{NodeWord}
-use Rattle.arena.specs.declared.machine.Machine.{Ghosts as Machine}
+use Rattle.histories.specs.Common.{NodeWord, Ghosts as Machine, History, Remaining, ScxNo}
 use Rattle.arena.specs.declared.machine.Shape.{Ghosts as Shape}
-use Rattle.arena.specs.History.{History}
-use Rattle.arena.specs.Share.{Remaining}
 use Rattle.atomic_table.specs.declared.shared.Seat.{Seat}
-use Rattle.ordered_map.specs.TreeShape.{TreeAllows}
+use Rattle.template.specs.Common.{TreeAllows, HelpRun}
 use Rattle.edits.specs.Edits.{EditMeaning}
 use Rattle.edits.specs.Known.{UpdateIsReady, UpdateWaits, UpdateAnswers}
 use Rattle.template.specs.declared.walk.Found.{Found}
@@ -23,8 +20,6 @@ use Rattle.edits.specs.declared.update.UpdateAt.{UpdateAt}
 use Rattle.edits.specs.declared.update.UpdateAt.TheVariants.{Start, Fill, Scx}
 use Rattle.edits.specs.declared.update.UpdateRun.{UpdateRun}
 use Rattle.edits.specs.declared.update.Updated.{Updated}
-use Rattle.arena.specs.declared.number.ScxNo.{ScxNo}
-use Rattle.help.specs.declared.state.HelpRun.{HelpRun}
 use Rattle.prims.specs.Scx.Steps.{scx_left}
 use Rattle.prims.specs.declared.scx.ScxAt.TheVariants.{Help}
 use Rattle.forest.specs.StraightScx.{all_frozen_load}

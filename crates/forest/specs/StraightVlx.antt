@@ -1,20 +1,10 @@
 -- VLXs that are at a place: as calls of their own, and of whatever machine validates snapshots.
 use Rattle.std.specs.Prelude.{◌≡◌, ℕ, List, Option, suc}
-use Rattle.arena.specs.declared.layout.Layout.{Layout}
-use Rattle.arena.specs.declared.step.Step.{Step}
-use Rattle.arena.specs.History.{History}
-use Rattle.arena.specs.Machines.{Call}
-use Rattle.prims.specs.Vlx.Known.{VlxIsReady, VlxWaits, VlxAnswers, VlxIsTold}
-use Rattle.prims.specs.declared.snap.Snap.{Snap}
-use Rattle.prims.specs.declared.vlx.Vlx.{Vlx}
-use Rattle.prims.specs.declared.vlx.VlxRun.{VlxRun}
+use Rattle.histories.specs.Common.{Layout, Step, History, Call, Lawful, LoadInfo, info}
+use Rattle.template.specs.Common.{VlxIsReady, VlxWaits, VlxAnswers, Snap, Vlx, VlxRun, load, snap_at}
+use Rattle.prims.specs.Vlx.Known.{VlxIsTold}
 use Rattle.forest.specs.declared.view.SeatedPass.{SeatedPass}
 use Rattle.forest.specs.Traces.{CallBegins, Ends}
-use Rattle.arena.specs.Lawful.{Lawful}
-use Rattle.arena.specs.declared.step.Kind.TheVariants.{LoadInfo}
-use Rattle.arena.specs.Words.{info}
-use Rattle.prims.specs.Llx.Known.{load}
-use Rattle.prims.specs.Snap.{snap_at}
 use Rattle.forest.specs.CallKinds.{Calls}
 use Rattle.forest.specs.Inside.{Inner, Inside, InnerWaits}
 

@@ -1,20 +1,9 @@
 -- Calls that are at a place of a walk, of whatever machine that walks.
 use Rattle.std.specs.Prelude.{◌≡◌, ℕ, List}
-use Rattle.arena.specs.declared.step.Step.{Step}
-use Rattle.arena.specs.History.{History}
-use Rattle.arena.specs.Machines.{Call}
-use Rattle.arena.specs.declared.step.Kind.TheVariants.{LoadChild, LoadSettled}
-use Rattle.arena.specs.declared.word.NodeWord.TheVariants.{Settled}
-use Rattle.arena.specs.declared.word.SettledPart.TheVariants.{Head as HeadWord}
-use Rattle.arena.specs.declared.word.Side.{Side}
-use Rattle.arena.specs.Words.{child, node}
-use Rattle.prims.specs.Llx.Known.{load}
+use Rattle.histories.specs.Common.{Step, History, Call, LoadChild, LoadSettled, Settled, Head as HeadWord, Side, child, node}
+use Rattle.template.specs.Common.{load, HasFoundGoal, WalkIsTold, WalkWaits, IsPastRoot, walk_at, walk_from, Goal}
 use Rattle.order.specs.LastTurns.{last_turns, no_turns}
-use Rattle.template.specs.FoundLeaf.{HasFoundGoal}
-use Rattle.template.specs.Walk.Known.{WalkIsTold, WalkWaits}
-use Rattle.template.specs.Walk.Places.{IsPastRoot, walk_at, walk_from}
 use Rattle.template.specs.declared.walk.Found.{Found}
-use Rattle.ordered_map.specs.declared.rule.Goal.{Goal}
 use Rattle.template.specs.declared.walk.Trail.{Trail}
 use Rattle.template.specs.declared.walk.WalkAt.TheVariants.{Child}
 use Rattle.template.specs.declared.walk.WalkRun.{WalkRun}

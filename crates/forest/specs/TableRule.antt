@@ -4,18 +4,7 @@ use mathlib.Core.Option.{some}
 use lib.ListN.{get_elem?}
 use Rattle.atomic_table.specs.Seated.{TableId}
 use Rattle.atomic_table.specs.Table.{State}
-use Rattle.arena.specs.declared.limits.Mode.{Mode}
-use Rattle.arena.specs.declared.layout.Layout.{Layout}
-use Rattle.arena.specs.declared.word.NodeWord.TheVariants.{Settled}
-use Rattle.arena.specs.declared.word.SettledPart.TheVariants.{Head}
-use Rattle.arena.specs.declared.word.Word.{Word}
-use Rattle.arena.specs.declared.step.Kind.TheVariants.{LoadSettled}
-use Rattle.arena.specs.declared.step.Access.TheVariants.{Load}
-use Rattle.arena.specs.declared.step.Row.{Row}
-use Rattle.arena.specs.Layout.{place, table_size, IsWord}
-use Rattle.arena.specs.Words.{node, word_after}
-use Rattle.arena.specs.History.{History, Start, ◌⊳◌, value}
-use Rattle.arena.specs.Machines.{IsRun, IsTold}
+use Rattle.histories.specs.Common.{Mode, Layout, Settled, Head, Word, LoadSettled, Load, Row, place, table_size, IsWord, node, word_after, History, Start, ◌⊳◌, value, IsRun, IsTold}
 use Rattle.forest.specs.declared.rule.CallStep.{CallStep}
 use Rattle.forest.specs.declared.view.SeatedPass.{SeatedPass}
 use Rattle.forest.specs.declared.view.SeatView.{SeatView}

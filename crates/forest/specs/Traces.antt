@@ -1,12 +1,6 @@
 -- The course of a call: the rows that the run has got while it was made.
 use Rattle.std.specs.Prelude.{◌≡◌, ◌≢◌, ◌==◌, if◌then◌else◌, ℕ, suc, ◌*◌, List, [], ◌∷◌, Option, Some, None}
-use Rattle.arena.specs.declared.layout.Layout.{Layout}
-use Rattle.arena.specs.declared.step.Row.{Row}
-use Rattle.arena.specs.declared.step.Step.{Step}
-use Rattle.arena.specs.History.{History, ◌⊳◌}
-use Rattle.arena.specs.Machines.{Call, IsRun, MatchTurn, row_of}
-use Rattle.arena.specs.declared.machine.Turn.{Turn}
-use Rattle.arena.specs.declared.machine.Turn.TheVariants.{Ask, Done}
+use Rattle.histories.specs.Common.{Layout, Row, Step, History, ◌⊳◌, Call, IsRun, MatchTurn, row_of, Turn, Ask, Done}
 use Rattle.forest.specs.declared.view.SeatedPass.{SeatedPass}
 use Rattle.forest.specs.TableRule.{history_of, seated_pass}
 

@@ -1,24 +1,13 @@
 -- From place to place of a run of HELP: what it has got at one is what it must know at the
 -- next.
-use Rattle.std.proofs.Common.{◌≡◌, ◌≢◌, ℕ, suc, ◌<◌, ◌≤◌, zero, eqb-true, pow_mono, ◌+◌, ◌/◌, ◌%◌, ◌^◌, ◌⊎◌, inl, inr, ⊎_elim, refl, sym, ◌∙◌, ap, arith, false, true, length, ◌↔◌, Option, Some, None, IsSome, IfSome}
-use Rattle.std.proofs.lemmas.List.{get_or-set_same, get_or-set_other}
-use Rattle.std.specs.Prelude.{slice_set}
+use Rattle.std.proofs.Common.{◌≡◌, ◌≢◌, ℕ, suc, ◌<◌, ◌≤◌, zero, eqb-true, pow_mono, ◌+◌, ◌/◌, ◌%◌, ◌^◌, ◌⊎◌, inl, inr, ⊎_elim, refl, sym, ◌∙◌, ap, arith, false, true, length, ◌↔◌, Option, Some, None, IsSome}
+use Rattle.std.proofs.Common.{IfSome, get_or-set_same, get_or-set_other, slice_set}
 use native.Mathlib.Decide.{ℕ_discrete}
-use Rattle.arena.specs.declared.layout.Layout.{Layout}
-use Rattle.arena.specs.declared.number.NodeNo.{NodeNo}
-use Rattle.arena.specs.declared.number.MemberIndex.{MemberIndex}
+use Rattle.histories.specs.Common.{Layout, NodeNo, MemberIndex, Load, Store, Exchange, LoadAllFrozen, Freeze, SetFrozen, Mark, Update, Commit, Abort, AllFrozen}
+use Rattle.histories.specs.Common.{New, Old, Member, Seen, member_index, scx, info, marked, child, state, History, value, IsPlan, count_of, plan_finalizes}
+use Rattle.histories.specs.Common.{side_of, field_index_of, plan, member, count, scx_finalizes, field_index, raw_count, Lawful, descriptor, IsOver, IsStuck}
 use Rattle.arena.specs.declared.number.MemberIndex.TheVariants.{First, Second, Third, Fourth}
-use Rattle.arena.specs.declared.step.Access.TheVariants.{Load, Store, Exchange}
-use Rattle.arena.specs.declared.step.Kind.TheVariants.{LoadAllFrozen, Freeze, SetFrozen, Mark, Update, Commit, Abort}
-use Rattle.arena.specs.declared.word.ScxWord.TheVariants.{AllFrozen, New, Old, Member, Seen}
-use Rattle.arena.specs.MemberIndex.{member_index}
-use Rattle.arena.specs.Words.{scx, info, marked, child, state}
-use Rattle.arena.specs.History.{History, value}
-use Rattle.arena.specs.ScxRecords.{IsPlan, count_of, plan_finalizes, side_of, field_index_of, plan, member, count, scx_finalizes, field_index, raw_count}
-use Rattle.arena.specs.Lawful.{Lawful}
 use Rattle.arena.proofs.Lemmas.{plan_counted, ends_self}
-use Rattle.histories.specs.Descriptor.{descriptor}
-use Rattle.histories.specs.Progress.{IsOver, IsStuck}
 use Rattle.histories.proofs.Lemmas.{aborted_no_entry, about, committed_won, facts, free_unset, over_committed}
 use Rattle.help.specs.Help.Known.{IsServed, Reading, HasReadMembers, Marks, HasAborted, node_at, first_place, settled_load, HelpIsTold, HelpWaitsAt}
 use Rattle.help.specs.Laws.Help.Lawful.{index_small}

@@ -1,16 +1,8 @@
 -- What the layer above allows of an SCX-record that its owner
 -- has not begun, whatever rows come until then.
 use Rattle.std.specs.Prelude.{◌≡◌, ◌≢◌, ℕ, false, ◌⊎◌}
-use Rattle.arena.specs.declared.layout.Layout.{Layout}
-use Rattle.arena.specs.declared.step.Row.{Row}
-use Rattle.arena.specs.Words.{info}
-use Rattle.arena.specs.History.{History, Start, ◌⊳◌, value}
-use Rattle.arena.specs.ScxRecords.{member, seen}
+use Rattle.histories.specs.Common.{Layout, Row, info, History, Start, ◌⊳◌, value, member, seen, is_fill, IsRun, Begins, Descriptor, descriptor}
 use Rattle.arena.specs.Fills.{IsFillOfScx}
-use Rattle.arena.specs.Log.{is_fill}
-use Rattle.arena.specs.Machines.{IsRun}
-use Rattle.histories.specs.Begins.{Begins}
-use Rattle.histories.specs.Descriptor.{Descriptor, descriptor}
 
 -- the row changes nothing
 pub record IsQuiet (r : Row) : Type 0 where

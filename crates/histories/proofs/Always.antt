@@ -1,12 +1,6 @@
 -- What holds after every lawful history.
 use Rattle.std.proofs.Common.{◌≡◌, ◌≢◌, ℕ, inr, refl, sym, ◌∙◌}
-use Rattle.arena.specs.declared.limits.Mode.{Mode}
-use Rattle.arena.specs.declared.layout.Layout.{Layout}
-use Rattle.arena.specs.declared.step.Row.{Row}
-use Rattle.arena.specs.declared.word.ScxWord.TheVariants.{AllFrozen, Plan}
-use Rattle.arena.specs.Words.{info, state}
-use Rattle.arena.specs.History.{History, Start, ◌⊳◌, value, HasHeld}
-use Rattle.arena.specs.Lawful.{HasWon, IsLawful, Lawful}
+use Rattle.histories.specs.Common.{Mode, Layout, Row, AllFrozen, Plan, info, state, History, Start, ◌⊳◌, value, HasHeld, HasWon, IsLawful, Lawful}
 use Rattle.arena.proofs.Lemmas.{opening_info, opening_marked, opening_scx, opening_dummy, opening_state, held_start}
 use native.Mathlib.Decide.{ℕ_discrete}
 use Rattle.histories.proofs.Changes.{Change, nothing, fills_node, fills_scx, freezes, sets_frozen, marks, updates, commits, aborts, FreezeWins, UpdateWins, change_of, lawful_tail, lawful_row}

@@ -2,17 +2,8 @@
 -- exchange needs.
 use Rattle.std.proofs.Common.{◌≡◌, ◌≢◌, ℕ, ◌<◌, inl, ⊎_elim, sym, ◌∙◌, arith, subst}
 use native.Mathlib.Decide.{ℕ_discrete}
-use Rattle.arena.specs.declared.layout.Layout.{Layout}
-use Rattle.arena.specs.declared.word.ScxWord.{ScxWord}
-use Rattle.arena.specs.declared.word.ScxWord.TheVariants.{State, AllFrozen, New}
-use Rattle.arena.specs.declared.step.Row.{Row}
-use Rattle.arena.specs.Words.{scx, info, state}
-use Rattle.arena.specs.History.{History, ◌⊳◌, value}
-use Rattle.arena.specs.ScxRecords.{count, member, seen, new}
-use Rattle.arena.specs.Fills.{IsOwnScx, IsNamed, IsNamedScx}
-use Rattle.arena.specs.Lawful.{IsExchange, MayBegin, IsFreeze, IsAbort, Lawful}
-use Rattle.histories.specs.Begins.{Begins}
-use Rattle.histories.specs.Descriptor.{descriptor, field_index_in}
+use Rattle.histories.specs.Common.{Layout, ScxWord, State, AllFrozen, New, Row, scx, info, state, History, ◌⊳◌, value, count, member, seen, new}
+use Rattle.histories.specs.Common.{IsOwnScx, IsNamed, IsNamedScx, IsExchange, MayBegin, IsFreeze, IsAbort, Lawful, Begins, descriptor, field_index_in}
 use Rattle.histories.proofs.Facts.{IsFlagged, descriptor_same}
 use Rattle.histories.proofs.Always.{facts}
 use Rattle.histories.proofs.Moments.{Still, still, finished_stays, named_more}

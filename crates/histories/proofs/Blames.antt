@@ -2,17 +2,8 @@
 -- in the way.
 use Rattle.std.proofs.Common.{◌≡◌, ◌≢◌, ℕ, Bool, true, false, inl, inr, ⊎_elim, refl, sym, ◌∙◌, ap, subst, arith}
 use native.Mathlib.Decide.{ℕ_discrete}
-use Rattle.arena.specs.declared.layout.Layout.{Layout}
-use Rattle.arena.specs.declared.word.Word.{Word}
-use Rattle.arena.specs.declared.word.ScxWord.TheVariants.{State, AllFrozen}
-use Rattle.arena.specs.declared.step.Row.{Row}
-use Rattle.arena.specs.Words.{same_word, info, marked, scx, state}
-use Rattle.arena.specs.History.{History, Start, ◌⊳◌, value, HasHeld, Extends}
-use Rattle.arena.specs.ScxRecords.{member}
-use Rattle.arena.specs.Lawful.{Lawful}
-use Rattle.arena.specs.Blame.{IsMember, WasInTheWay}
+use Rattle.histories.specs.Common.{Layout, Word, State, AllFrozen, Row, same_word, info, marked, scx, state, History, Start, ◌⊳◌, value, HasHeld, Extends, member, Lawful, IsMember, WasInTheWay, descriptor}
 use Rattle.arena.proofs.Lemmas.{value_apart, value_other, held_at, held_now, held_more, word_same}
-use Rattle.histories.specs.Descriptor.{descriptor}
 use Rattle.histories.proofs.Changes.{lawful_tail}
 use Rattle.histories.proofs.Facts.{IsCell, Facts, some_is_real}
 use Rattle.histories.proofs.Keeps.{Marks}

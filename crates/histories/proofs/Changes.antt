@@ -1,22 +1,12 @@
 -- What a lawful row changes, whatever its kind: loads and exchanges that lose change nothing.
 use Rattle.std.proofs.Common.{◌≡◌, ℕ, ◌<◌, false, refl}
 use native.Mathlib.Decide.{ℕ_discrete}
-use Rattle.arena.specs.declared.word.NodeWord.{NodeWord}
-use Rattle.arena.specs.declared.word.NodeWord.TheVariants.{Settled, Child, Info, Marked}
-use Rattle.arena.specs.declared.word.ScxWord.{ScxWord}
-use Rattle.arena.specs.declared.word.ScxWord.TheVariants.{State, AllFrozen, Plan, New, Old, Member, Seen, Call}
-use Rattle.arena.specs.declared.word.Word.{Word}
-use Rattle.arena.specs.declared.word.Word.TheVariants.{Node, Scx}
-use Rattle.arena.specs.declared.layout.Layout.{Layout}
-use Rattle.arena.specs.declared.step.Row.{Row}
-use Rattle.arena.specs.declared.step.Kind.{Kind}
-use Rattle.arena.specs.declared.step.Kind.TheVariants.{Fill, LoadSettled, LoadInfo, LoadState, LoadMarked, LoadAllFrozen, LoadChild, Freeze, SetFrozen, Mark, Update, Commit, Abort}
-use Rattle.arena.specs.Words.{node, scx}
-use Rattle.arena.specs.History.{History, ◌⊳◌, value}
-use Rattle.arena.specs.ScxRecords.{seen, new, old}
-use Rattle.arena.specs.Fills.{IsOpenNode, IsOpenScx, MayFill}
-use Rattle.arena.specs.Lawful.{IsFreeze, IsSetFrozen, IsMark, IsUpdate, IsCommit, IsAbort, Obeys, IsLawful, Lawful}
-use Rattle.arena.specs.Log.{is_fill}
+use Rattle.histories.specs.Common.{NodeWord, Settled, Child, Info, Marked, ScxWord, State, AllFrozen, Plan, New, Old, Member, Seen, Word, Node, Scx, Layout, Row}
+use Rattle.histories.specs.Common.{Kind, Fill, LoadSettled, LoadInfo, LoadState, LoadMarked, LoadAllFrozen, LoadChild, Freeze, SetFrozen, Mark, Update, Commit, Abort}
+use Rattle.histories.specs.Common.{node, scx, History, ◌⊳◌, value, seen, new, old, MayFill, IsFreeze, IsMark, IsUpdate, IsAbort, Obeys, IsLawful, Lawful, is_fill}
+use Rattle.arena.specs.declared.word.ScxWord.TheVariants.{Call}
+use Rattle.arena.specs.Fills.{IsOpenNode, IsOpenScx}
+use Rattle.arena.specs.Lawful.{IsSetFrozen, IsCommit}
 
 -- the words that fills store in
 abbrev pub IsNodeFill : NodeWord → Type 0

@@ -1,16 +1,9 @@
 -- The log has one entry for each SCX-record whose update has won, and none for any other.
 use Rattle.std.proofs.Common.{◌≡◌, ◌≢◌, ℕ, true, cond, ◌⊎◌, inl, inr, ⊎_elim, List, [], ◌∷◌, zero, suc, refl, sym, ◌∙◌, ap, arith}
-use Rattle.arena.specs.declared.limits.Mode.{Mode}
-use Rattle.arena.specs.declared.layout.Layout.{Layout}
-use Rattle.arena.specs.declared.step.Row.{Row}
-use Rattle.arena.specs.History.{History, Start, ◌⊳◌}
-use Rattle.arena.specs.ScxRecords.{plan, plan_finalizes, side_of, count, member}
-use Rattle.arena.specs.Fills.{IsNamedScx}
-use Rattle.arena.specs.Lawful.{HasWon, Lawful}
+use Rattle.histories.specs.Common.{Mode, Layout, Row, History, Start, ◌⊳◌, plan, plan_finalizes, side_of, count, member, IsNamedScx, HasWon, Lawful, Entry, owner}
+use Rattle.histories.specs.Common.{log, members_from, finalized_from, has, is_final, IsEntered, Descriptor, descriptor, count_in, field_index_in, IsRemoved}
 use Rattle.arena.proofs.Lemmas.{or_right, or_split}
-use Rattle.arena.specs.Log.{Entry, owner, log, members_from, finalized_from, has, is_final, IsEntered, AreOnce}
-use Rattle.histories.specs.Descriptor.{Descriptor, descriptor, count_in, field_index_in}
-use Rattle.histories.specs.Finalizing.{IsRemoved}
+use Rattle.arena.specs.Log.{AreOnce}
 use Rattle.histories.proofs.Changes.{lawful_tail}
 use Rattle.histories.proofs.Facts.{IsFlagged, Facts, won_more, some_is_real}
 use Rattle.histories.proofs.Updates.{update_is_first, update_split, update_won, update_flagged}

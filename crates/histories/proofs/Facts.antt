@@ -1,22 +1,11 @@
 -- What holds after every lawful history: the facts about each SCX-record that an info word names,
 -- and about marks.
 use Rattle.std.proofs.Common.{◌≡◌, ◌≢◌, ℕ, ◌<◌, true, ◌⊎◌, inl, inr, refl, arith}
-use Rattle.arena.specs.declared.word.ScxWord.{ScxWord}
-use Rattle.arena.specs.declared.word.ScxWord.TheVariants.{AllFrozen, Plan, New, Old, Member, Seen, Call}
-use Rattle.arena.specs.declared.word.Word.{Word}
-use Rattle.arena.specs.declared.word.Word.TheVariants.{Node, Scx}
-use Rattle.arena.specs.declared.word.Side.{Side}
-use Rattle.arena.specs.declared.layout.Layout.{Layout}
-use Rattle.arena.specs.declared.step.Row.{Row}
-use Rattle.arena.specs.Layout.{all_nodes}
-use Rattle.arena.specs.Words.{scx, info, marked, child, state}
-use Rattle.arena.specs.History.{History, ◌⊳◌, value, HasHeld}
-use Rattle.arena.specs.ScxRecords.{IsPlan, plan_finalizes, plan, member}
-use Rattle.arena.specs.Fills.{IsOwnNode, IsOwnScx, IsNamed, by_scx}
-use Rattle.arena.specs.Lawful.{IsWin, HasWon}
+use Rattle.histories.specs.Common.{ScxWord, AllFrozen, Plan, New, Old, Member, Seen, Word, Node, Scx, Side, Layout, Row, all_nodes, scx, info, marked, child, state, History, ◌⊳◌, value, HasHeld}
+use Rattle.histories.specs.Common.{IsPlan, plan_finalizes, plan, member, IsOwnNode, IsOwnScx, IsNamed, by_scx, IsWin, HasWon, Descriptor, descriptor, count_in, field_index_in, field_in, IsStuck}
+use Rattle.arena.specs.declared.word.ScxWord.TheVariants.{Call}
 use Rattle.arena.proofs.Lemmas.{held_now}
-use Rattle.histories.specs.Descriptor.{Descriptor, descriptor, count_in, field_index_in, field_in}
-use Rattle.histories.specs.Progress.{Froze, IsStuck}
+use Rattle.histories.specs.Progress.{Froze}
 use Rattle.histories.proofs.Changes.{IsScxFill}
 
 -- it may still freeze its field's node, or holds it and is in progress

@@ -1,22 +1,9 @@
 -- The fields of a node are those that the log says.
 use Rattle.std.proofs.Common.{◌≡◌, ◌≢◌, ℕ, Bool, true, false, cond, ◌&&◌, List, ◌∷◌, refl, sym, ◌∙◌, ap, eq-eqb, ne_eqb}
 use native.Mathlib.Decide.{ℕ_discrete}
-use Rattle.arena.specs.declared.limits.Mode.{Mode}
-use Rattle.arena.specs.declared.word.Side.{Side}
-use Rattle.arena.specs.declared.word.NodeWord.TheVariants.{Child, Info, Marked}
-use Rattle.arena.specs.declared.word.ScxWord.TheVariants.{AllFrozen}
-use Rattle.arena.specs.declared.word.Word.{Word}
-use Rattle.arena.specs.declared.word.Word.TheVariants.{Node}
-use Rattle.arena.specs.declared.layout.Layout.{Layout}
-use Rattle.arena.specs.declared.step.Row.{Row}
-use Rattle.arena.specs.declared.step.Kind.{Kind}
-use Rattle.arena.specs.declared.step.Kind.TheVariants.{Fill, Freeze, SetFrozen, Mark, Update, Commit, Abort}
-use Rattle.arena.specs.Words.{same_word, node, scx, info, marked, child, state}
-use Rattle.arena.specs.History.{History, Start, ◌⊳◌, value}
-use Rattle.arena.specs.ScxRecords.{plan, side_of, field_index, member, new, field}
-use Rattle.arena.specs.Fills.{IsNamed}
-use Rattle.arena.specs.Lawful.{HasWon, Lawful}
-use Rattle.arena.specs.Log.{Entry, entry, with_row, log, is_fill, filled, field_after, fields}
+use Rattle.histories.specs.Common.{Mode, Side, Child, Info, Marked, AllFrozen, Word, Node, Layout, Row, Kind, Fill, Freeze, SetFrozen, Mark, Update, Commit, Abort, same_word, node, scx, info}
+use Rattle.histories.specs.Common.{marked, child, state, History, Start, ◌⊳◌, value, plan, side_of, field_index, member, new, field, IsNamed, HasWon, Lawful, Entry, entry, log, is_fill, fields}
+use Rattle.arena.specs.Log.{with_row, filled, field_after}
 use Rattle.arena.proofs.Lemmas.{value_apart, value_quiet, node_word_apart, node_apart}
 use Rattle.histories.proofs.Changes.{Change, nothing, fills_node, fills_scx, freezes, sets_frozen, marks, updates, commits, aborts, UpdateWins, change, lawful_tail, lawful_row}
 use Rattle.histories.proofs.Facts.{Facts, member_named, won_back}

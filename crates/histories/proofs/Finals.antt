@@ -2,24 +2,11 @@
 -- never changes again.
 use Rattle.std.proofs.Common.{◌≡◌, ◌≢◌, ℕ, Bool, true, false, inl, inr, ⊎_elim, refl, sym, ◌∙◌, arith}
 use native.Mathlib.Decide.{ℕ_discrete}
-use Rattle.arena.specs.declared.layout.Layout.{Layout}
-use Rattle.arena.specs.declared.word.Side.{Side}
-use Rattle.arena.specs.declared.word.NodeWord.{NodeWord}
-use Rattle.arena.specs.declared.word.NodeWord.TheVariants.{Settled, Child, Info, Marked}
-use Rattle.arena.specs.declared.word.ScxWord.TheVariants.{AllFrozen}
-use Rattle.arena.specs.declared.step.Row.{Row}
-use Rattle.arena.specs.Words.{node, info, marked, scx, state, child}
-use Rattle.arena.specs.History.{History, ◌⊳◌, value, Extends}
-use Rattle.arena.specs.Fills.{IsNamed}
-use Rattle.arena.specs.Lawful.{HasWon, Lawful}
-use Rattle.arena.specs.Log.{log, is_final}
+use Rattle.histories.specs.Common.{Layout, Side, NodeWord, Settled, Child, Info, Marked, AllFrozen, Row, node, info, marked, scx, state, child, History, ◌⊳◌}
+use Rattle.histories.specs.Common.{value, Extends, IsNamed, HasWon, Lawful, log, is_final, IsMember, plan, side_of, field_index, member, IsRemoved, descriptor}
 use Rattle.arena.specs.Finalized.{IsFinalized}
-use Rattle.arena.specs.Blame.{IsMember}
-use Rattle.arena.specs.ScxRecords.{plan, side_of, field_index, member}
 use Rattle.arena.proofs.Lemmas.{node_apart}
 use Rattle.histories.proofs.Freezes.{freeze_keeps_field}
-use Rattle.histories.specs.Finalizing.{IsRemoved}
-use Rattle.histories.specs.Descriptor.{descriptor}
 use Rattle.histories.proofs.Changes.{UpdateWins, lawful_tail}
 use Rattle.histories.proofs.Updates.{update_is_first, update_holds, update_keeps_other}
 use Rattle.histories.proofs.Lasts.{holds_member}

@@ -1,21 +1,9 @@
 -- A freezing exchange that wins keeps the facts.
 use Rattle.std.proofs.Common.{◌≡◌, ◌≢◌, ℕ, ◌<◌, true, ◌⊎◌, inl, inr, ⊎_elim, refl, sym, ◌∙◌, arith, zero, suc, subst}
 use native.Mathlib.Decide.{ℕ_discrete}
-use Rattle.arena.specs.declared.word.Side.{Side}
-use Rattle.arena.specs.declared.word.NodeWord.TheVariants.{Child, Info, Marked}
-use Rattle.arena.specs.declared.word.ScxWord.{ScxWord}
-use Rattle.arena.specs.declared.word.ScxWord.TheVariants.{State, AllFrozen, Plan}
-use Rattle.arena.specs.declared.layout.Layout.{Layout}
-use Rattle.arena.specs.declared.step.Row.{Row}
-use Rattle.arena.specs.declared.step.Kind.TheVariants.{Freeze, Update}
-use Rattle.arena.specs.Layout.{all_nodes}
-use Rattle.arena.specs.Words.{scx, info, marked, child, state}
-use Rattle.arena.specs.History.{History, ◌⊳◌, value, HasHeld}
-use Rattle.arena.specs.ScxRecords.{IsPlan, plan_finalizes, plan, count, field_index, member, seen, new, old, field}
-use Rattle.arena.specs.Lawful.{IsFrozen, MayBegin, HasWon}
+use Rattle.histories.specs.Common.{Side, Child, Info, Marked, ScxWord, State, AllFrozen, Plan, Layout, Row, Freeze, Update, all_nodes, scx, info, marked, child, state, History, ◌⊳◌, value}
+use Rattle.histories.specs.Common.{HasHeld, IsPlan, plan_finalizes, plan, count, field_index, member, seen, new, old, field, IsFrozen, MayBegin, HasWon, descriptor, count_in, IsStuck}
 use Rattle.arena.proofs.Lemmas.{value_at, value_apart, held_at, held_more, held_split, held_back, node_word_apart, node_apart}
-use Rattle.histories.specs.Descriptor.{descriptor, count_in}
-use Rattle.histories.specs.Progress.{IsStuck}
 use Rattle.histories.proofs.Changes.{FreezeWins}
 use Rattle.histories.proofs.Facts.{IsLive, IsOwned, About, IsCell, IsFlagged, IsMarker, Holds, AllMarked, IsEnded, Facts, descriptor_same, won_more, won_back, flagged_about}
 

@@ -2,18 +2,10 @@
 -- are made meanwhile.
 use Rattle.std.proofs.Common.{◌≡◌, ◌≢◌, ℕ, ◌<◌, ◌⊎◌, inl, inr, ⊎_elim, sym, ◌∙◌, arith, subst}
 use native.Mathlib.Decide.{ℕ_discrete}
-use Rattle.arena.specs.declared.layout.Layout.{Layout}
-use Rattle.arena.specs.declared.word.ScxWord.TheVariants.{AllFrozen}
-use Rattle.arena.specs.declared.step.Row.{Row}
-use Rattle.arena.specs.declared.step.Kind.TheVariants.{Update}
-use Rattle.arena.specs.Words.{info, scx, state}
-use Rattle.arena.specs.History.{History, ◌⊳◌, value, Extends}
-use Rattle.arena.specs.ScxRecords.{count, member, seen, old, field_index}
-use Rattle.arena.specs.Log.{log, IsEntered}
-use Rattle.arena.specs.Lawful.{IsExchange, IsFrozen, AreFrozen, AllAreFrozen, IsFreeze, IsSetFrozen, IsUpdate, IsAbort, HasWon, Lawful}
+use Rattle.histories.specs.Common.{Layout, AllFrozen, Row, Update, info, scx, state, History, ◌⊳◌, value, Extends, count, member, seen, old, field_index, log}
+use Rattle.histories.specs.Common.{IsEntered, IsExchange, IsFrozen, AreFrozen, IsFreeze, IsUpdate, IsAbort, HasWon, Lawful, IsStarted, IsOver, IsStuck, descriptor}
+use Rattle.arena.specs.Lawful.{AllAreFrozen, IsSetFrozen}
 use Rattle.arena.proofs.Lemmas.{held_more, held_back}
-use Rattle.histories.specs.Progress.{IsStarted, IsOver, IsStuck}
-use Rattle.histories.specs.Descriptor.{descriptor}
 use Rattle.histories.proofs.Changes.{lawful_tail, lawful_row}
 use Rattle.histories.proofs.Facts.{IsFlagged, IsEnded, About, Facts, won_more, flagged_about}
 use Rattle.histories.proofs.Freezes.{first_frozen, freeze_stuck, freeze_is_new, freeze_finds}

@@ -1,20 +1,9 @@
 -- A row that freezes nothing and wins nothing keeps the facts.
 use Rattle.std.proofs.Common.{◌≡◌, ◌≢◌, ℕ, ◌<◌, ◌⊎◌, inl, inr, ⊎_elim, sym, ◌∙◌, arith, subst}
 use native.Mathlib.Decide.{ℕ_discrete}
-use Rattle.arena.specs.declared.word.NodeWord.{NodeWord}
-use Rattle.arena.specs.declared.word.NodeWord.TheVariants.{Child}
-use Rattle.arena.specs.declared.word.ScxWord.{ScxWord}
-use Rattle.arena.specs.declared.word.ScxWord.TheVariants.{AllFrozen, Plan}
-use Rattle.arena.specs.declared.layout.Layout.{Layout}
-use Rattle.arena.specs.declared.step.Row.{Row}
-use Rattle.arena.specs.Words.{node, scx, info, marked, state}
-use Rattle.arena.specs.History.{History, ◌⊳◌, value, HasHeld}
-use Rattle.arena.specs.ScxRecords.{side_of, plan, member, seen}
-use Rattle.arena.specs.Fills.{IsNamed, IsNamedScx}
-use Rattle.arena.specs.Lawful.{HasWon}
+use Rattle.histories.specs.Common.{NodeWord, Child, ScxWord, AllFrozen, Plan, Layout, Row, node, scx, info, marked, state, History, ◌⊳◌, value}
+use Rattle.histories.specs.Common.{HasHeld, side_of, plan, member, seen, IsNamed, IsNamedScx, HasWon, descriptor, count_in, field_in, IsStuck}
 use Rattle.arena.proofs.Lemmas.{held_more, held_back}
-use Rattle.histories.specs.Descriptor.{descriptor, count_in, field_in}
-use Rattle.histories.specs.Progress.{IsStuck}
 use Rattle.histories.proofs.Changes.{IsNodeFill, IsScxFill}
 use Rattle.histories.proofs.Facts.{IsLive, About, IsCell, IsFlagged, IsMarker, Holds, AllMarked, IsEnded, Facts, descriptor_same, won_more, member_named, some_is_real, flagged_about}
 

@@ -1,15 +1,7 @@
 -- The last entry of a node, and whether it is final, stay while its info names one finished
 -- SCX-record, and while one that holds it has not won.
 use Rattle.std.proofs.Common.{◌≡◌, ◌≢◌, ℕ, Bool, true, false, cond, ◌||◌, inl, inr, List, ◌∷◌, length, suc, refl, sym, ◌∙◌, subst}
-use Rattle.arena.specs.declared.layout.Layout.{Layout}
-use Rattle.arena.specs.declared.step.Row.{Row}
-use Rattle.arena.specs.Words.{info, state}
-use Rattle.arena.specs.History.{History, Start, ◌⊳◌, value, Extends}
-use Rattle.arena.specs.Fills.{IsNamed}
-use Rattle.arena.specs.Lawful.{HasWon, Lawful}
-use Rattle.arena.specs.Blame.{IsMember}
-use Rattle.arena.specs.Log.{Entry, log, last, is_final, has}
-use Rattle.histories.specs.Finalizing.{IsRemoved}
+use Rattle.histories.specs.Common.{Layout, Row, info, state, History, Start, ◌⊳◌, value, Extends, IsNamed, HasWon, Lawful, IsMember, Entry, log, last, is_final, has, IsRemoved}
 use Rattle.histories.proofs.Changes.{UpdateWins, lawful_tail}
 use Rattle.histories.proofs.Facts.{Facts}
 use Rattle.histories.proofs.Updates.{update_about, update_flagged, update_in_progress, update_keeps_info, update_won}

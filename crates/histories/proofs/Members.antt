@@ -1,12 +1,8 @@
 -- The nodes that an entry names are those of its SCX-record.
 use Rattle.std.proofs.Common.{◌≡◌, ℕ, ◌+◌, ◌<◌, ◌≤◌, Bool, true, false, cond, ◌⊎◌, inl, inr, ⊎_elim, ◌∷◌, zero, suc, refl, arith, eqb-true, eq-eqb}
 use Rattle.std.proofs.lemmas.Bool.{or_left}
-use Rattle.arena.specs.History.{History}
-use Rattle.arena.specs.ScxRecords.{count, member, scx_finalizes}
-use Rattle.arena.specs.Log.{members_from, finalized_from, has}
-use Rattle.arena.specs.Blame.{IsMember}
+use Rattle.histories.specs.Common.{History, count, member, scx_finalizes, members_from, finalized_from, has, IsMember, IsRemoved}
 use Rattle.arena.proofs.Lemmas.{or_right, or_split}
-use Rattle.histories.specs.Finalizing.{IsRemoved}
 
 -- n is one of the nodes of s from its j-th on
 pub record IsAmong (h : History) (s j k n : ℕ) : Type 0 where

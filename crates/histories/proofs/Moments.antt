@@ -1,20 +1,9 @@
 -- What stays from one moment to a later one.
 use Rattle.std.proofs.Common.{◌≡◌, ◌≢◌, ℕ, false, inl, inr, ⊎_elim, refl, sym, ◌∙◌, subst}
 use native.Mathlib.Decide.{ℕ_discrete}
-use Rattle.arena.specs.declared.word.Side.{Side}
-use Rattle.arena.specs.declared.word.NodeWord.{NodeWord}
-use Rattle.arena.specs.declared.word.NodeWord.TheVariants.{Settled, Child, Info, Marked}
-use Rattle.arena.specs.declared.word.ScxWord.{ScxWord}
-use Rattle.arena.specs.declared.word.ScxWord.TheVariants.{State, AllFrozen}
-use Rattle.arena.specs.declared.layout.Layout.{Layout}
-use Rattle.arena.specs.declared.step.Row.{Row}
-use Rattle.arena.specs.Words.{same_node_word, node, scx, info, marked, child, state}
-use Rattle.arena.specs.History.{History, Start, ◌⊳◌, value, Extends}
-use Rattle.arena.specs.ScxRecords.{plan, side_of, field_index, member}
-use Rattle.arena.specs.Fills.{IsNamed, opening_node, by_field, by_scx, IsNamedScx}
-use Rattle.arena.specs.Lawful.{IsSettled, HasWon, Lawful}
+use Rattle.histories.specs.Common.{Side, NodeWord, Settled, Child, Info, Marked, ScxWord, State, AllFrozen, Layout, Row, same_node_word, node, scx, info, marked, child, state, History}
+use Rattle.histories.specs.Common.{Start, ◌⊳◌, value, Extends, plan, side_of, field_index, member, IsNamed, opening_node, by_field, by_scx, IsNamedScx, IsSettled, HasWon, Lawful, descriptor}
 use Rattle.arena.proofs.Lemmas.{value_apart, held_more, node_word_apart, node_apart}
-use Rattle.histories.specs.Descriptor.{descriptor}
 use Rattle.histories.proofs.Changes.{IsNodeFill, IsScxFill, lawful_tail}
 use Rattle.histories.proofs.Facts.{Facts, descriptor_same, won_more}
 use Rattle.histories.proofs.Keeps.{Marks, flag_stays, mark_stays, same_end}

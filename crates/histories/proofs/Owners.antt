@@ -3,16 +3,7 @@
 use Rattle.std.proofs.Common.{◌≡◌, ◌≢◌, ℕ, ◌<◌, ◌≤◌, ◌+◌, ◌*◌, ◌⊎◌, inl, inr, ⊎_elim, refl, arith, suc}
 use Rattle.std.proofs.Math.Nat.{mul-le-mul_right}
 use native.Mathlib.Decide.{ℕ_discrete}
-use Rattle.arena.specs.declared.layout.Layout.{Layout}
-use Rattle.arena.specs.declared.word.ScxWord.{ScxWord}
-use Rattle.arena.specs.declared.word.ScxWord.TheVariants.{State, AllFrozen}
-use Rattle.arena.specs.declared.step.Row.{Row}
-use Rattle.arena.specs.Layout.{opening_nodes, all_nodes, all_scx}
-use Rattle.arena.specs.Words.{node, scx, marked}
-use Rattle.arena.specs.History.{History, ◌⊳◌, value}
-use Rattle.arena.specs.ScxRecords.{member}
-use Rattle.arena.specs.Fills.{IsOwnNode, IsOwnScx, IsNamedScx}
-use Rattle.arena.specs.Lawful.{Lawful}
+use Rattle.histories.specs.Common.{Layout, ScxWord, State, AllFrozen, Row, opening_nodes, all_nodes, all_scx, node, scx, marked, History, ◌⊳◌, value, member, IsOwnNode, IsOwnScx, IsNamedScx, Lawful}
 use Rattle.arena.proofs.Lemmas.{overlap, value_quiet, value_apart, scx_apart, held_back}
 use Rattle.histories.proofs.Changes.{Change, nothing, fills_node, fills_scx, freezes, sets_frozen, marks, updates, commits, aborts, FreezeWins, change, lawful_row}
 use Rattle.histories.proofs.Facts.{Facts}

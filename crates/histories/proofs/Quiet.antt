@@ -2,21 +2,11 @@
 -- they must.
 use Rattle.std.proofs.Common.{◌≡◌, ◌≢◌, ℕ, ◌≤◌, false, ◌⊎◌, inl, inr, ⊎_elim, refl, sym, ◌∙◌, arith}
 use native.Mathlib.Decide.{ℕ_discrete}
-use Rattle.arena.specs.declared.word.NodeWord.{NodeWord}
-use Rattle.arena.specs.declared.word.NodeWord.TheVariants.{Info, Marked}
-use Rattle.arena.specs.declared.word.ScxWord.{ScxWord}
-use Rattle.arena.specs.declared.word.ScxWord.TheVariants.{State, AllFrozen}
-use Rattle.arena.specs.declared.layout.Layout.{Layout}
-use Rattle.arena.specs.declared.step.Row.{Row}
-use Rattle.arena.specs.declared.step.Kind.{Kind}
-use Rattle.arena.specs.declared.step.Kind.TheVariants.{Fill, SetFrozen, Mark, Update, Commit, Abort}
-use Rattle.arena.specs.Words.{same_node_word, same_scx_word, node, scx, info, marked, state}
-use Rattle.arena.specs.History.{History, ◌⊳◌, value}
-use Rattle.arena.specs.ScxRecords.{member}
-use Rattle.arena.specs.Lawful.{IsSetFrozen, IsMark, IsCommit, IsAbort, IsWin, HasWon}
+use Rattle.histories.specs.Common.{NodeWord, Info, Marked, ScxWord, State, AllFrozen, Layout, Row, Kind, Fill, SetFrozen, Mark, Update, Commit, Abort}
+use Rattle.histories.specs.Common.{same_node_word, node, scx, info, marked, state, History, ◌⊳◌, value, member, IsMark, IsAbort, IsWin, HasWon, descriptor, IsStuck}
+use Rattle.arena.specs.Words.{same_scx_word}
+use Rattle.arena.specs.Lawful.{IsSetFrozen, IsCommit}
 use Rattle.arena.proofs.Lemmas.{value_at, value_quiet, value_apart, node_word_apart, scx_word_apart, node_apart, scx_apart}
-use Rattle.histories.specs.Descriptor.{descriptor}
-use Rattle.histories.specs.Progress.{IsStuck}
 use Rattle.histories.proofs.Changes.{IsNodeFill, IsScxFill, FillsNode, FillsScx}
 use Rattle.histories.proofs.Facts.{IsFlagged, About, Facts, won_back, flagged_about}
 use Rattle.histories.proofs.Keeps.{Kept, Ends, Marks}

@@ -2,16 +2,7 @@
 -- of the shape.
 use Rattle.std.proofs.Common.{◌≡◌, ℕ, inl, inr, sym, ◌∙◌, ap, arith, subst}
 use native.Mathlib.Decide.{ℕ_discrete}
-use Rattle.arena.specs.declared.layout.Layout.{Layout}
-use Rattle.arena.specs.declared.step.Row.{Row}
-use Rattle.arena.specs.declared.step.Kind.{Kind}
-use Rattle.arena.specs.declared.step.Kind.TheVariants.{Fill, Freeze, SetFrozen, Mark, Update, Commit, Abort}
-use Rattle.arena.specs.Words.{info}
-use Rattle.arena.specs.History.{History, Start, ◌⊳◌, Extends}
-use Rattle.arena.specs.ScxRecords.{member}
-use Rattle.arena.specs.Fills.{IsOwnScx, IsNamedScx}
-use Rattle.arena.specs.Lawful.{Lawful}
-use Rattle.arena.specs.Shape.{IsBegin, Shaped}
+use Rattle.histories.specs.Common.{Layout, Row, Kind, Fill, Freeze, SetFrozen, Mark, Update, Commit, Abort, info, History, Start, ◌⊳◌, Extends, member, IsOwnScx, IsNamedScx, Lawful, IsBegin, Shaped}
 use Rattle.histories.proofs.Changes.{Change, nothing, fills_node, fills_scx, freezes, sets_frozen, marks, updates, commits, aborts, change}
 use Rattle.histories.proofs.Facts.{Facts, info_node}
 use Rattle.histories.proofs.Freezes.{first_frozen, freeze_real, freeze_distinct, freeze_is_new}

@@ -2,19 +2,10 @@
 -- one of another's.
 use Rattle.std.proofs.Common.{◌≡◌, ◌≢◌, ℕ, ◌<◌, Bool, true, false, ◌⊎◌, inl, inr, refl, sym, ◌∙◌, arith, subst}
 use native.Mathlib.Decide.{ℕ_discrete}
-use Rattle.arena.specs.declared.layout.Layout.{Layout}
-use Rattle.arena.specs.declared.word.Word.{Word}
-use Rattle.arena.specs.declared.word.Word.TheVariants.{Node, Scx}
-use Rattle.arena.specs.declared.word.NodeWord.{NodeWord}
-use Rattle.arena.specs.declared.word.ScxWord.{ScxWord}
-use Rattle.arena.specs.declared.word.ScxWord.TheVariants.{State, AllFrozen, Plan, New, Old, Member, Seen, Call}
-use Rattle.arena.specs.declared.step.Row.{Row}
-use Rattle.arena.specs.declared.step.Kind.TheVariants.{Fill}
-use Rattle.arena.specs.Words.{same_word, node, scx, info, marked, state}
-use Rattle.arena.specs.History.{History, Start, ◌⊳◌, value}
-use Rattle.arena.specs.ScxRecords.{count_of, plan, member, count, field}
-use Rattle.arena.specs.Fills.{IsOwnScx, IsNamedScx, IsFillOfScx, IsTakenScx, MayFill}
-use Rattle.arena.specs.Lawful.{Obeys, Lawful}
+use Rattle.histories.specs.Common.{Layout, Word, Node, Scx, NodeWord, ScxWord, State, AllFrozen, Plan, New, Old, Member, Seen, Row, Fill, same_word, node, scx, info, marked}
+use Rattle.histories.specs.Common.{state, History, Start, ◌⊳◌, value, count_of, plan, member, count, field, IsOwnScx, IsNamedScx, IsTakenScx, MayFill, Obeys, Lawful}
+use Rattle.arena.specs.declared.word.ScxWord.TheVariants.{Call}
+use Rattle.arena.specs.Fills.{IsFillOfScx}
 use Rattle.arena.proofs.Lemmas.{word_same, taken_scx_more, fill_takes_scx, value_quiet, value_apart, opening_scx, opening_state, scx_apart, scx_word_apart}
 use Rattle.histories.proofs.Changes.{Change, nothing, fills_node, fills_scx, freezes, sets_frozen, marks, updates, commits, aborts, change, lawful_tail, lawful_row}
 use Rattle.histories.proofs.Facts.{Facts}

@@ -1,24 +1,10 @@
 -- A node that no field and no SCX-record has ever named: rows of others leave it so, and so do rows
 -- that do not store its number and all rows but fills.
 use Rattle.std.proofs.Common.{◌≡◌, ◌≢◌, ℕ, ◌<◌, ◌≤◌, Bool, true, false, ◌⊎◌, inl, inr, ⊎_elim, refl, sym, ◌∙◌, arith, subst}
-use Rattle.arena.specs.declared.layout.Layout.{Layout}
-use Rattle.arena.specs.declared.word.Side.{Side}
-use Rattle.arena.specs.declared.limits.Mode.{Mode}
-use Rattle.arena.specs.declared.word.NodeWord.TheVariants.{Child, Info, Marked}
-use Rattle.arena.specs.declared.word.Word.{Word}
-use Rattle.arena.specs.declared.word.Word.TheVariants.{Node, Scx}
-use Rattle.arena.specs.declared.word.ScxWord.{ScxWord}
-use Rattle.arena.specs.declared.word.ScxWord.TheVariants.{State, AllFrozen, New}
-use Rattle.arena.specs.declared.step.Row.{Row}
-use Rattle.arena.specs.declared.step.Kind.TheVariants.{Fill}
-use Rattle.arena.specs.Layout.{opening_nodes}
-use Rattle.arena.specs.Words.{same_word, scx, info, marked, child, state}
-use Rattle.arena.specs.History.{History, Start, ◌⊳◌, value, HasHeld}
-use Rattle.arena.specs.ScxRecords.{member, new}
-use Rattle.arena.specs.Fills.{IsOwnNode, NamesNode, IsNamed, opening_node, by_field, by_scx}
-use Rattle.arena.specs.Lawful.{Lawful}
+use Rattle.histories.specs.Common.{Layout, Side, Mode, Child, Info, Marked, Word, Node, Scx, ScxWord, State, AllFrozen, New, Row, Fill, opening_nodes, same_word, scx, info, marked}
+use Rattle.histories.specs.Common.{child, state, History, Start, ◌⊳◌, value, HasHeld, member, new, IsOwnNode, IsNamed, opening_node, by_field, by_scx, Lawful, IsUnmentioned}
+use Rattle.arena.specs.Fills.{NamesNode}
 use Rattle.arena.proofs.Lemmas.{word_same, value_at, value_quiet, value_apart, value_other, held_at, held_now, held_split, held_back, held_start, opening_scx, node_word_apart, scx_word_apart}
-use Rattle.histories.specs.Unmentioned.{IsUnmentioned}
 use Rattle.histories.proofs.Changes.{Change, nothing, fills_node, fills_scx, freezes, sets_frozen, marks, updates, commits, aborts, change, lawful_row}
 use Rattle.histories.proofs.Openings.{opening_field, some_open, value_start}
 use Rattle.histories.proofs.Quiet.{not_flag, not_state}

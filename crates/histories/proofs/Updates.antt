@@ -1,19 +1,10 @@
 -- An updating exchange that wins keeps the facts.
 use Rattle.std.proofs.Common.{◌≡◌, ◌≢◌, ℕ, Bool, true, false, ◌⊎◌, inl, inr, ⊎_elim, refl, sym, ◌∙◌, arith, subst}
 use native.Mathlib.Decide.{ℕ_discrete}
-use Rattle.arena.specs.declared.word.NodeWord.TheVariants.{Child, Info, Marked}
-use Rattle.arena.specs.declared.word.ScxWord.{ScxWord}
-use Rattle.arena.specs.declared.word.ScxWord.TheVariants.{State, AllFrozen, Plan}
-use Rattle.arena.specs.declared.word.Word.{Word}
-use Rattle.arena.specs.declared.layout.Layout.{Layout}
-use Rattle.arena.specs.declared.step.Row.{Row}
-use Rattle.arena.specs.Words.{same_word, scx, info, marked, state}
-use Rattle.arena.specs.History.{History, ◌⊳◌, value, HasHeld}
-use Rattle.arena.specs.ScxRecords.{side_of, plan, field_index, member, new, old, field}
-use Rattle.arena.specs.Lawful.{IsUpdate, IsWin, HasWon}
+use Rattle.histories.specs.Common.{Child, Info, Marked, ScxWord, State, AllFrozen, Plan, Word, Layout, Row, same_word, scx, info, marked, state, History}
+use Rattle.histories.specs.Common.{◌⊳◌, value, HasHeld, side_of, plan, field_index, member, new, old, field, IsUpdate, IsWin, HasWon, descriptor, IsStuck}
 use Rattle.arena.proofs.Lemmas.{value_at, value_apart, held_at, held_more, held_back, node_word_apart, word_same, word_refl}
-use Rattle.histories.specs.Descriptor.{descriptor}
-use Rattle.histories.specs.Progress.{Froze, IsStuck}
+use Rattle.histories.specs.Progress.{Froze}
 use Rattle.histories.proofs.Changes.{UpdateWins}
 use Rattle.histories.proofs.Facts.{IsLive, About, IsCell, IsFlagged, IsMarker, Holds, AllMarked, IsEnded, Facts, descriptor_same, won_more, won_split, flagged_about, child_node}
 

@@ -4,3 +4,4 @@ pub mod Begins
 pub mod Finalizing
 pub mod Unmentioned
 pub mod Laws
+pub mod Common

@@ -1,10 +1,6 @@
 -- What a graph of names says of a history.
 use Rattle.std.proofs.Common.{◌≡◌, ◌↔◌, ℕ, ◌+◌, ◌*◌, ◌<◌, Bool, IsTrue, List, refl, sym, subst}
-use Rattle.arena.specs.declared.layout.Layout.{Layout}
-use Rattle.arena.specs.Layout.{all_nodes}
-use Rattle.arena.specs.History.{History}
-use Rattle.arena.specs.Fills.{IsNamed, IsNamedScx, IsInField}
-use Rattle.arena.specs.Lawful.{Lawful}
+use Rattle.histories.specs.Common.{Layout, all_nodes, History, IsNamed, IsNamedScx, IsInField, Lawful}
 use Rattle.judge.specs.Graph.{IsReached, links_of}
 use Rattle.judge.specs.Naming.{NamingStands, named_links}
 use Rattle.judge.specs.declared.naming.Naming.{Naming}

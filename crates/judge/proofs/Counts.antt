@@ -1,7 +1,6 @@
 -- How many flags are not set.
-use Rattle.std.proofs.Common.{◌≡◌, ◌≢◌, ℕ, zero, suc, ◌+◌, ◌<◌, Bool, true, false, List, [], ◌∷◌, length, replicate, refl, sym, arith, get_or-set_other, get_or-set_same}
+use Rattle.std.proofs.Common.{◌≡◌, ◌≢◌, ℕ, zero, suc, ◌+◌, ◌<◌, Bool, true, false, List, [], ◌∷◌, length, replicate, refl, sym, arith, get_or-set_other, get_or-set_same, slice_set, slice_index_or}
 use Rattle.std.proofs.lemmas.List.{get_or_read}
-use Rattle.std.specs.Prelude.{slice_set, slice_index_or}
 use Rattle.judge.specs.Graph.{has_flag, count_unset}
 
 -- the flag that was read

@@ -4,20 +4,8 @@ use Rattle.std.proofs.Math.ListN.{length-set}
 use Rattle.std.proofs.Math.Nat.{mul-le-mul_left}
 use Rattle.std.proofs.lemmas.List.{length-replicate}
 use Rattle.std.specs.Prelude.{◌&&◌, not, slice_set, slice_index_or}
-use Rattle.arena.specs.declared.layout.Layout.{Layout}
-use Rattle.arena.specs.declared.limits.Mode.{Mode}
-use Rattle.arena.specs.declared.word.ScxWord.TheVariants.{Plan, Member}
-use Rattle.arena.specs.declared.word.Word.{Word}
-use Rattle.arena.specs.declared.step.Kind.{Kind}
-use Rattle.arena.specs.declared.step.Kind.TheVariants.{Fill, Freeze, SetFrozen, Mark, Commit, Abort}
-use Rattle.arena.specs.declared.step.Row.{Row}
-use Rattle.arena.specs.Layout.{all_nodes, all_scx, IsWord}
-use Rattle.arena.specs.Words.{info, scx}
-use Rattle.arena.specs.History.{History, Start, ◌⊳◌, value}
-use Rattle.arena.specs.Lawful.{Lawful, HasWon}
-use Rattle.arena.specs.Log.{log, last, has, members_from, finalized_from}
-use Rattle.arena.specs.PlainWords.{Contents, word_at}
-use Rattle.arena.specs.ScxRecords.{count, count_of, plan, member, field_index, scx_finalizes, plan_finalizes}
+use Rattle.histories.specs.Common.{Layout, Mode, Plan, Member, Word, Kind, Fill, Freeze, SetFrozen, Mark, Commit, Abort, Row, all_nodes, all_scx, IsWord, info, scx, History, Start, ◌⊳◌, value}
+use Rattle.histories.specs.Common.{Lawful, HasWon, log, last, has, members_from, finalized_from, Contents, word_at, count, count_of, plan, member, field_index, scx_finalizes, plan_finalizes}
 use Rattle.arena.proofs.Lemmas.{or_right}
 use Rattle.histories.proofs.Lemmas.{Change, UpdateWins, nothing, fills_node, fills_scx, freezes, sets_frozen, marks, updates, commits, aborts, change, facts_before, facts, Facts, lawful_row, Logs, logs, same, wins, log_wins, update_changes, update_holds, update_about, update_is_first, update_won, update_split, named_scx_inside, won_named, won_more}
 use Rattle.judge.specs.Graph.{has_flag}

@@ -1,18 +1,8 @@
 -- Where the SCX-record of a row is found.
 use Rattle.std.proofs.Common.{◌≡◌, ◌≢◌, ℕ, ◌<◌, ◌≤◌, ⊎_elim, Bool, true, false, sym, ◌∙◌, ap, arith}
 use Rattle.std.proofs.lemmas.Bool.{cases_lt}
-use Rattle.arena.specs.declared.layout.Layout.{Layout}
-use Rattle.arena.specs.declared.word.NodeWord.{NodeWord}
-use Rattle.arena.specs.declared.word.ScxWord.TheVariants.{AllFrozen, Plan}
-use Rattle.arena.specs.declared.word.Word.{Word}
-use Rattle.arena.specs.declared.word.Word.TheVariants.{Node, Scx}
-use Rattle.arena.specs.declared.step.Kind.TheVariants.{Update}
-use Rattle.arena.specs.declared.step.Row.{Row}
-use Rattle.arena.specs.Layout.{all_scx}
-use Rattle.arena.specs.Words.{node, scx, info}
-use Rattle.arena.specs.History.{History, value}
-use Rattle.arena.specs.Lawful.{Lawful, IsMark, IsUpdate}
-use Rattle.arena.specs.ScxRecords.{count, count_of, member, old, field_index}
+use Rattle.histories.specs.Common.{Layout, NodeWord, AllFrozen, Plan, Word, Node, Scx, Update, Row, all_scx, node, scx, info}
+use Rattle.histories.specs.Common.{History, value, Lawful, IsMark, IsUpdate, count, count_of, member, old, field_index}
 use Rattle.histories.proofs.Lemmas.{UpdateWins, facts, update_holds}
 use Rattle.judge.proofs.Spreading.{same_or}
 use Rattle.judge.proofs.Words.{value_outside}

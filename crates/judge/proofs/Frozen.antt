@@ -2,20 +2,9 @@
 use Rattle.std.proofs.Common.{◌≡◌, ◌≢◌, ◌↔◌, ℕ, zero, suc, ◌+◌, ◌<◌, ◌≤◌, ◌⊎◌, ⊎_elim, Bool, true, false, cond, List, length, refl, sym, ◌∙◌, ap, subst, arith, get_or-set_other, get_or-set_same, ne_eqb, eq-eqb, eqb}
 use Rattle.std.proofs.Math.ListN.{length-set}
 use Rattle.std.specs.Prelude.{◌&&◌, not, slice_set}
-use Rattle.arena.specs.declared.layout.Layout.{Layout}
-use Rattle.arena.specs.declared.word.NodeWord.{NodeWord}
-use Rattle.arena.specs.declared.word.NodeWord.TheVariants.{Info, Marked, Child}
-use Rattle.arena.specs.declared.word.ScxWord.{ScxWord}
-use Rattle.arena.specs.declared.word.ScxWord.TheVariants.{State, AllFrozen, Plan, Member}
-use Rattle.arena.specs.declared.step.Row.{Row}
-use Rattle.arena.specs.declared.step.Kind.{Kind}
-use Rattle.arena.specs.declared.step.Kind.TheVariants.{Fill, SetFrozen, Mark, Update, Commit, Abort}
-use Rattle.arena.specs.Layout.{all_scx}
-use Rattle.arena.specs.Words.{node, scx, info, same_node_word, same_scx_word}
-use Rattle.arena.specs.History.{History, Start, ◌⊳◌, value, HasHeld}
-use Rattle.arena.specs.Fills.{IsNamedScx}
-use Rattle.arena.specs.Lawful.{Lawful, IsFrozen}
-use Rattle.arena.specs.ScxRecords.{count, count_of, plan, member, seen, field_index}
+use Rattle.histories.specs.Common.{Layout, NodeWord, Info, Marked, Child, ScxWord, State, AllFrozen, Plan, Member, Row, Kind, Fill, SetFrozen, Mark, Update, Commit, Abort, all_scx}
+use Rattle.histories.specs.Common.{node, scx, info, same_node_word, History, Start, ◌⊳◌, value, HasHeld, IsNamedScx, Lawful, IsFrozen, count, count_of, plan, member, seen, field_index}
+use Rattle.arena.specs.Words.{same_scx_word}
 use Rattle.arena.proofs.Lemmas.{value_at, value_apart, value_quiet, held_at, held_back, held_more, opening_scx, node_word_apart, scx_word_apart, scx_apart, plan_counted}
 use Rattle.histories.proofs.Lemmas.{Change, FreezeWins, IsNodeFill, nothing, fills_node, fills_scx, freezes, sets_frozen, marks, updates, commits, aborts, change, facts_before, Facts, lawful_row, named_scx_inside, named_scx_more, freeze_is_new, freeze_held, freeze_distinct, freeze_keeps_scx, freeze_rest, freeze_in_progress}
 use Rattle.judge.specs.Freezing.{frozen_of, frozen_after, is_freeze, freezes as freezes_row, MayFreeze, FreezingStands}

@@ -1,10 +1,8 @@
 -- One more row of a list.
 use Rattle.std.proofs.Common.{◌≡◌, ℕ, zero, suc, ◌+◌, ◌<◌, List, [], ◌∷◌, length, get_or, take, ap, ◌∙◌}
 use Rattle.std.proofs.lemmas.Grind.{take_at_read}
-use Rattle.arena.specs.declared.layout.Layout.{Layout}
-use Rattle.arena.specs.declared.step.Row.{Row}
-use Rattle.arena.specs.History.{History, Start, ◌⊳◌, rows_after}
-use Rattle.arena.specs.Lawful.{Lawful, IsLawful}
+use Rattle.histories.specs.Common.{Layout, Row, History, Start, ◌⊳◌, Lawful, IsLawful}
+use Rattle.arena.specs.History.{rows_after}
 use Rattle.arena.proofs.Lemmas.{rows_after_last}
 use Rattle.histories.proofs.Lemmas.{lawful_more, lawful_row, lawful_tail}
 use Rattle.judge.specs.Histories.{history_after}

@@ -1,12 +1,6 @@
 -- One more lawful row.
-use Rattle.std.proofs.Common.{◌≡◌, ℕ, ◌+◌, cond, ◌++◌, List, vec_len, true, refl, sym, ◌∙◌, subst}
-use Rattle.std.specs.Prelude.{slice_set}
-use Rattle.arena.specs.declared.layout.Layout.{Layout}
-use Rattle.arena.specs.declared.step.Row.{Row}
-use Rattle.arena.specs.History.{History, Start, ◌⊳◌}
-use Rattle.arena.specs.Lawful.{Lawful, IsLawful}
-use Rattle.arena.specs.PlainWords.{IsChanged}
-use Rattle.arena.specs.ScxRecords.{count_of}
+use Rattle.std.proofs.Common.{◌≡◌, ℕ, ◌+◌, cond, ◌++◌, List, vec_len, true, refl, sym, ◌∙◌, subst, slice_set}
+use Rattle.histories.specs.Common.{Layout, Row, History, Start, ◌⊳◌, Lawful, IsLawful, IsChanged, count_of}
 use Rattle.histories.proofs.Lemmas.{lawful_more}
 use Rattle.judge.specs.Histories.{history_of_rows}
 use Rattle.judge.specs.Graph.{links_of}

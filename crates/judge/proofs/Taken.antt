@@ -2,22 +2,11 @@
 use Rattle.std.proofs.Common.{◌≡◌, ◌≢◌, ◌↔◌, ℕ, zero, suc, ◌+◌, ◌<◌, ◌≤◌, ◌⊎◌, inl, inr, ⊎_elim, Bool, true, false, cond, eqb, eqb-true, eq-eqb, ne_eqb, List, ◌∷◌, length, refl, sym, ◌∙◌, ap, subst, arith, get_or-set_other, get_or-set_same}
 use Rattle.std.proofs.Math.ListN.{length-set}
 use Rattle.std.proofs.lemmas.Bool.{or_left}
-use Rattle.arena.specs.declared.layout.Layout.{Layout}
-use Rattle.arena.specs.declared.limits.Mode.{Mode}
-use Rattle.arena.specs.declared.word.NodeWord.{NodeWord}
-use Rattle.arena.specs.declared.word.ScxWord.{ScxWord}
-use Rattle.arena.specs.declared.word.Word.{Word}
-use Rattle.arena.specs.declared.word.Word.TheVariants.{Node, Scx}
-use Rattle.arena.specs.declared.step.Kind.{Kind}
-use Rattle.arena.specs.declared.step.Kind.TheVariants.{Fill, LoadSettled, LoadInfo, LoadState, LoadMarked, LoadAllFrozen, LoadChild, Freeze, SetFrozen, Mark, Update, Commit, Abort}
-use Rattle.arena.specs.declared.step.Row.{Row}
-use Rattle.arena.specs.Layout.{first_node, first_scx}
-use Rattle.arena.specs.Words.{node, scx}
-use Rattle.arena.specs.History.{History, Start, ◌⊳◌}
-use Rattle.arena.specs.Log.{has, is_fill}
-use Rattle.arena.specs.Fills.{IsOwnNode, IsOwnScx, IsFillOfNode, IsFillOfScx, IsTakenNode, IsTakenScx}
-use Rattle.arena.specs.Lawful.{Lawful}
-use Rattle.arena.specs.TakenNodes.{with_fill, taken_nodes}
+use Rattle.histories.specs.Common.{Layout, Mode, NodeWord, ScxWord, Word, Node, Scx, Kind, Fill, LoadSettled, LoadInfo, LoadState, LoadMarked}
+use Rattle.histories.specs.Common.{LoadAllFrozen, LoadChild, Freeze, SetFrozen, Mark, Update, Commit, Abort, Row, first_node, first_scx, node, scx}
+use Rattle.histories.specs.Common.{History, Start, ◌⊳◌, has, is_fill, IsOwnNode, IsOwnScx, IsFillOfNode, IsTakenNode, IsTakenScx, Lawful, taken_nodes}
+use Rattle.arena.specs.Fills.{IsFillOfScx}
+use Rattle.arena.specs.TakenNodes.{with_fill}
 use Rattle.arena.proofs.Lemmas.{fill_takes_node, fill_takes_scx, taken_node_more, taken_scx_more, taken_few, or_split, or_right}
 use Rattle.histories.proofs.Lemmas.{Change, FillsNode, FillsScx, nothing, fills_node, fills_scx, freezes, sets_frozen, marks, updates, commits, aborts, change, lawful_row, lawful_tail, one_node_owner, one_scx_owner}
 use Rattle.judge.specs.Taking.{taken_by, one_more, takes_node, takes_scx, MayTake, TakingStands}

@@ -1,22 +1,7 @@
 -- Which rows make an entry, and for which SCX-record.
-use Rattle.std.proofs.Common.{◌≡◌, ◌≢◌, ℕ, true, false, ◌∷◌, refl, sym, ◌∙◌, ap, subst, eqb, ne_eqb, eq-eqb}
-use Rattle.std.specs.Prelude.{not}
-use Rattle.arena.specs.declared.layout.Layout.{Layout}
-use Rattle.arena.specs.declared.word.Side.{Side}
-use Rattle.arena.specs.declared.word.NodeWord.{NodeWord}
-use Rattle.arena.specs.declared.word.NodeWord.TheVariants.{Settled, Child, Info, Marked}
-use Rattle.arena.specs.declared.number.ScxNo.{ScxNo}
-use Rattle.arena.specs.declared.word.ScxWord.{ScxWord}
-use Rattle.arena.specs.declared.word.Word.{Word}
-use Rattle.arena.specs.declared.word.Word.TheVariants.{Node, Scx}
-use Rattle.arena.specs.declared.step.Kind.{Kind}
-use Rattle.arena.specs.declared.step.Kind.TheVariants.{Fill, Freeze, SetFrozen, Mark, Update, Commit, Abort}
-use Rattle.arena.specs.declared.step.Row.{Row}
-use Rattle.arena.specs.Words.{child, info, node}
-use Rattle.arena.specs.History.{History, ◌⊳◌, value}
-use Rattle.arena.specs.Lawful.{Lawful, IsLawful, IsWin}
-use Rattle.arena.specs.Log.{log, entry}
-use Rattle.arena.specs.ScxRecords.{member, field_index, side_of, plan}
+use Rattle.std.proofs.Common.{◌≡◌, ◌≢◌, ℕ, true, false, ◌∷◌, refl, sym, ◌∙◌, ap, subst, eqb, ne_eqb, eq-eqb, not}
+use Rattle.histories.specs.Common.{Layout, Side, NodeWord, Settled, Child, Info, Marked, ScxNo, ScxWord, Word, Node, Scx, Kind, Fill, Freeze, SetFrozen, Mark, Update}
+use Rattle.histories.specs.Common.{Commit, Abort, Row, child, info, node, History, ◌⊳◌, value, Lawful, IsLawful, IsWin, log, entry, member, field_index, side_of, plan}
 use Rattle.arena.proofs.Lemmas.{and_left, and_right}
 use Rattle.histories.proofs.Lemmas.{Change, nothing, fills_node, fills_scx, freezes, sets_frozen, marks, updates, commits, aborts, change, facts, Facts, lawful_more, child_node, update_win, update_holds, log_same}
 use Rattle.judge.specs.Enters.{is_field_update, makes_entry}

@@ -1,10 +1,6 @@
 -- What may begin, in parts.
 use Rattle.std.specs.Prelude.{◌≡◌, ◌≢◌, ℕ, ◌<◌}
-use Rattle.arena.specs.declared.layout.Layout.{Layout}
-use Rattle.arena.specs.Layout.{all_nodes}
-use Rattle.arena.specs.Words.{state, info, marked}
-use Rattle.arena.specs.History.{History, value}
-use Rattle.arena.specs.ScxRecords.{member, seen}
+use Rattle.histories.specs.Common.{Layout, all_nodes, state, info, marked, History, value, member, seen}
 
 -- the first nodes of s, as many as `count`, are other nodes of the table each, what they were
 -- frozen for is finished, and those that are still as seen are not marked

@@ -1,16 +1,6 @@
 -- The log, as it is remembered.
 use Rattle.std.specs.Prelude.{◌≡◌, ◌↔◌, ℕ, zero, suc, ◌+◌, ◌<◌, ◌^◌, if◌then◌else◌, Bool, true, List, length, slice_index_or, slice_set}
-use Rattle.arena.specs.declared.layout.Layout.{Layout}
-use Rattle.arena.specs.declared.word.ScxWord.TheVariants.{Plan, Member}
-use Rattle.arena.specs.declared.word.Word.{Word}
-use Rattle.arena.specs.declared.word.Word.TheVariants.{Node, Scx}
-use Rattle.arena.specs.Layout.{all_nodes, all_scx}
-use Rattle.arena.specs.Words.{info, scx}
-use Rattle.arena.specs.History.{History}
-use Rattle.arena.specs.Lawful.{HasWon}
-use Rattle.arena.specs.Log.{log, last, is_final}
-use Rattle.arena.specs.PlainWords.{Contents, word_at}
-use Rattle.arena.specs.ScxRecords.{count_of, plan_finalizes}
+use Rattle.histories.specs.Common.{Layout, Plan, Member, Word, Node, Scx, all_nodes, all_scx, info, scx, History, HasWon, log, last, is_final, Contents, word_at, count_of, plan_finalizes}
 use Rattle.judge.specs.Graph.{has_flag, count_unset}
 use Rattle.judge.specs.declared.entering.Entering.{Entering}
 

@@ -1,11 +1,6 @@
 -- Which rows make an entry of the log.
 use Rattle.std.specs.Prelude.{Bool, true, false, ◌&&◌, not, ◌==◌}
-use Rattle.arena.specs.declared.word.NodeWord.TheVariants.{Child}
-use Rattle.arena.specs.declared.word.Word.{Word}
-use Rattle.arena.specs.declared.word.Word.TheVariants.{Node}
-use Rattle.arena.specs.declared.step.Kind.{Kind}
-use Rattle.arena.specs.declared.step.Kind.TheVariants.{Update}
-use Rattle.arena.specs.declared.step.Row.{Row}
+use Rattle.histories.specs.Common.{Child, Word, Node, Kind, Update, Row}
 
 -- whether a step of this kind on the word is an update of a field
 abbrev pub is_field_update : Kind → Word → Bool

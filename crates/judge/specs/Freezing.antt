@@ -1,14 +1,6 @@
 -- How many nodes of each SCX-record were ever frozen for it.
 use Rattle.std.specs.Prelude.{◌≡◌, ◌↔◌, ℕ, ◌+◌, ◌<◌, if◌then◌else◌, ◌&&◌, not, ◌==◌, Bool, true, false, List, length, slice_index_or, slice_set}
-use Rattle.arena.specs.declared.layout.Layout.{Layout}
-use Rattle.arena.specs.declared.step.Row.{Row}
-use Rattle.arena.specs.declared.step.Kind.{Kind}
-use Rattle.arena.specs.declared.step.Kind.TheVariants.{Freeze}
-use Rattle.arena.specs.Layout.{all_scx}
-use Rattle.arena.specs.History.{History}
-use Rattle.arena.specs.Fills.{IsNamedScx}
-use Rattle.arena.specs.Lawful.{IsFrozen}
-use Rattle.arena.specs.ScxRecords.{count}
+use Rattle.histories.specs.Common.{Layout, Row, Kind, Freeze, all_scx, History, IsNamedScx, IsFrozen, count}
 
 -- how many of the nodes of s, by the list of these numbers
 abbrev pub frozen_of : List ℕ → ℕ → ℕ

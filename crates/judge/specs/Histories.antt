@@ -1,9 +1,7 @@
 -- What a judge has seen: the table's layout and the rows, and the history that they make.
 use Rattle.std.specs.Prelude.{List, [], ◌∷◌}
-use Rattle.arena.specs.declared.limits.Mode.{Mode}
-use Rattle.arena.specs.declared.layout.Layout.{Layout}
-use Rattle.arena.specs.declared.step.Row.{Row}
-use Rattle.arena.specs.History.{History, Start, ◌⊳◌, rows_after}
+use Rattle.histories.specs.Common.{Mode, Layout, Row, History, Start, ◌⊳◌}
+use Rattle.arena.specs.History.{rows_after}
 
 -- a table's layout, and the rows made so far, the newest first
 pub record Judged : Type 0 where

@@ -1,12 +1,6 @@
 -- What is named, as places that links lead to.
 use Rattle.std.specs.Prelude.{◌≡◌, ℕ, zero, suc, ◌+◌, ◌*◌, ◌<◌, ◌≤◌, if◌then◌else◌, nat_lt, List, [], ◌∷◌, ◌++◌, length}
-use Rattle.arena.specs.declared.layout.Layout.{Layout}
-use Rattle.arena.specs.declared.word.NodeWord.TheVariants.{Child, Info}
-use Rattle.arena.specs.declared.word.ScxWord.TheVariants.{New, Old, Member}
-use Rattle.arena.specs.declared.word.Word.{Word}
-use Rattle.arena.specs.declared.word.Word.TheVariants.{Node, Scx}
-use Rattle.arena.specs.Layout.{all_nodes, all_scx, opening_nodes}
-use Rattle.arena.specs.History.{History, Start, ◌⊳◌}
+use Rattle.histories.specs.Common.{Layout, Child, Info, New, Old, Member, Word, Node, Scx, all_nodes, all_scx, opening_nodes, History, Start, ◌⊳◌}
 use Rattle.judge.specs.Graph.{IsGraph, links_of}
 use Rattle.judge.specs.declared.naming.Naming.{Naming}
 

@@ -1,11 +1,6 @@
 -- What a judge remembers, and what that says of the history which it represents.
 use Rattle.std.specs.Prelude.{◌≡◌, vec_len}
-use Rattle.arena.specs.declared.layout.Layout.{Layout}
-use Rattle.arena.specs.declared.word.Word.{Word}
-use Rattle.arena.specs.Layout.{IsWord}
-use Rattle.arena.specs.History.{History, value}
-use Rattle.arena.specs.Lawful.{Lawful}
-use Rattle.arena.specs.PlainWords.{word_at}
+use Rattle.histories.specs.Common.{Layout, Word, IsWord, History, value, Lawful, word_at}
 use Rattle.judge.specs.Naming.{NamingStands}
 use Rattle.judge.specs.Uses.{UsesStand}
 use Rattle.judge.specs.Freezing.{FreezingStands}

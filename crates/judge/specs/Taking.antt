@@ -1,14 +1,6 @@
 -- How much is taken of the shares.
 use Rattle.std.specs.Prelude.{◌≡◌, ◌↔◌, ℕ, ◌+◌, ◌*◌, ◌<◌, ◌≤◌, ◌==◌, Bool, false, List, length, slice_index_or, slice_set}
-use Rattle.arena.specs.declared.layout.Layout.{Layout}
-use Rattle.arena.specs.declared.word.Word.{Word}
-use Rattle.arena.specs.declared.word.Word.TheVariants.{Node, Scx}
-use Rattle.arena.specs.declared.step.Kind.{Kind}
-use Rattle.arena.specs.declared.step.Kind.TheVariants.{Fill}
-use Rattle.arena.specs.Layout.{first_node, first_scx}
-use Rattle.arena.specs.History.{History}
-use Rattle.arena.specs.Fills.{IsOwnNode, IsOwnScx, IsTakenNode, IsTakenScx}
-use Rattle.arena.specs.TakenNodes.{taken_nodes}
+use Rattle.histories.specs.Common.{Layout, Word, Node, Scx, Kind, Fill, first_node, first_scx, History, IsOwnNode, IsOwnScx, IsTakenNode, IsTakenScx, taken_nodes}
 use Rattle.judge.specs.declared.taking.Taking.{Taking}
 
 -- how many a pass has taken, by the list of these numbers

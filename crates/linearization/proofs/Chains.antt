@@ -10,11 +10,8 @@ use Rattle.std.proofs.lemmas.Grind.{reverse_onto, common_steps}
 use Rattle.std.proofs.Math.Seq.{get_or-append_seam}
 use Rattle.linearization.specs.declared.places.Change.{Change}
 use Rattle.linearization.specs.declared.places.Place.{Place}
-use Rattle.ordered_map.specs.OrderedMap.{get}
-use Rattle.script.specs.declared.call.Call.{Call}
+use Rattle.record.specs.Common.{get, Call, written_log, map_at, IsGreatestTurn}
 use Rattle.record.specs.declared.record.Line.{Line}
-use Rattle.record.specs.MapRecord.{written_log, map_at}
-use Rattle.record.specs.Placed.{IsGreatestTurn}
 use Rattle.linearization.specs.Entries.{AreEntries}
 use Rattle.linearization.specs.Links.{latest, newest_value, AreLinkedByKey}
 use Rattle.linearization.proofs.Values.{value_at, value_is}

@@ -1,12 +1,10 @@
 -- The turns of a record's entries fall, from the newest to the oldest.
 use Rattle.std.proofs.Common.{◌≡◌, ℕ, suc, List, [], ◌∷◌, sym, ◌∙◌, subst, arith}
 use Rattle.arena.specs.declared.layout.Layout.{Layout}
-use Rattle.script.specs.declared.call.Call.{Call}
+use Rattle.record.specs.Common.{Call, turns, AreLines}
 use Rattle.record.specs.declared.record.Line.{Line}
 use Rattle.record.specs.declared.record.Line.TheVariants.{Step, Log, Reply as ReplyLine}
 use Rattle.record.specs.declared.record.TurnRow.TheVariants.{Step as Made, Idle}
-use Rattle.record.specs.Turns.{turns}
-use Rattle.record.specs.LawfulRun.{AreLines}
 use Rattle.record.proofs.Lemmas.{log_step}
 use Rattle.linearization.specs.declared.places.Change.{Change}
 use Rattle.linearization.specs.Entries.{AreEntries}

@@ -1,14 +1,11 @@
 -- The keys that calls may change are known.
-use Rattle.std.proofs.Common.{◌≡◌, ◌≢◌, ℕ, ◌+◌, ◌<◌, inl, inr, ⊎_elim, List, length, reverse, get_or, Option, Some, None, IsSome, IfSome, refl, sym, ◌∙◌, ap, subst, arith}
-use Rattle.std.specs.Prelude.{unwrap_or}
+use Rattle.std.proofs.Common.{◌≡◌, ◌≢◌, ℕ, ◌+◌, ◌<◌, inl, inr, ⊎_elim, List, length, reverse, get_or, Option, Some, None, IsSome, IfSome, refl, sym, ◌∙◌, ap, subst, arith, unwrap_or}
 use Rattle.std.proofs.lemmas.Bool.{cases_order, cases_eq}
 use Rattle.std.proofs.lemmas.List.{get_or_default}
 use Rattle.std.specs.Ordering.{nat_cmp}
 use Rattle.std.specs.BTreeMap.{get as get_newest}
-use Rattle.ordered_map.specs.OrderedMap.{get}
-use Rattle.script.specs.declared.call.Call.{Call}
+use Rattle.record.specs.Common.{get, Call, map_at, written_log}
 use Rattle.record.specs.declared.record.Line.{Line}
-use Rattle.record.specs.MapRecord.{map_at, written_log}
 use Rattle.linearization.specs.Changed.{changed_key}
 use Rattle.linearization.specs.Entries.{AreEntries}
 use Rattle.linearization.specs.Links.{latest}

@@ -1,6 +1,5 @@
 -- The pairs that an ordered read answers, found key by key.
-use Rattle.std.proofs.Common.{◌≡◌, ◌≢◌, ℕ, zero, suc, ◌<◌, ⊎_elim, Bool, true, false, cond, List, [], ◌∷◌, length, take, Option, Some, None, All, Less, refl, sym, ◌∙◌, ap, subst, arith}
-use Rattle.std.specs.Prelude.{unwrap_or}
+use Rattle.std.proofs.Common.{◌≡◌, ◌≢◌, ℕ, zero, suc, ◌<◌, ⊎_elim, Bool, true, false, cond, List, [], ◌∷◌, length, take, Option, Some, None, All, Less, refl, sym, ◌∙◌, ap, subst, arith, unwrap_or}
 use Rattle.std.specs.List.{filter}
 use Rattle.std.specs.List.Sorted.{IsStrictlySortedBy}
 use Rattle.std.specs.Map.{keys_of, lookup}
@@ -11,15 +10,8 @@ use Rattle.std.proofs.lemmas.Grind.{common_steps}
 use Rattle.std.proofs.lemmas.List.{length-map}
 use Rattle.std.proofs.lemmas.Map.Keys.{sorted_tail}
 use Rattle.std.proofs.lemmas.Map.Views.{All-after_first}
-use Rattle.ordered_map.specs.declared.pair.Pair.{Pair}
-use Rattle.ordered_map.specs.OrderedMap.{get, first_pair, AllAbove, IsRising}
-use Rattle.ordered_map.specs.Replies.{word_pair}
-use Rattle.script.specs.declared.call.Call.{Call}
-use Rattle.ordered_map.specs.declared.request.Request.TheVariants.{PopFirst}
-use Rattle.script.specs.declared.command.Command.{Command}
-use Rattle.script.specs.declared.command.Command.TheVariants.{Map}
+use Rattle.record.specs.Common.{Pair, get, first_pair, AllAbove, IsRising, word_pair, Call, PopFirst, Command, Map, written_log, map_at, number_pairs}
 use Rattle.record.specs.declared.record.Line.{Line}
-use Rattle.record.specs.MapRecord.{written_log, map_at, number_pairs}
 use Rattle.linearization.specs.declared.places.Place.{Place}
 use Rattle.linearization.specs.Entries.{AreEntries}
 use Rattle.linearization.specs.Links.{latest}

@@ -1,38 +1,18 @@
 -- The words spell the map so far after every step of a run of calls of the map.
-use Rattle.std.proofs.Common.{◌≡◌, ℕ, suc, inr, true, false, eqb, List, [], ◌∷◌, Option, Some, None, slice_get, refl, sym, ◌∙◌, ap, subst}
-use Rattle.std.proofs.lemmas.Bool.{ne_eqb}
-use Rattle.arena.specs.declared.limits.Mode.TheVariants.{Tree}
-use Rattle.arena.specs.declared.layout.Layout.{Layout}
-use Rattle.arena.specs.declared.step.Row.{Row as StepRow}
-use Rattle.arena.specs.History.{History, ◌⊳◌, value}
-use Rattle.arena.specs.Lawful.{Lawful}
-use Rattle.arena.specs.Log.{log}
-use Rattle.arena.specs.ScxRecords.{field}
+use Rattle.std.proofs.Common.{◌≡◌, ℕ, suc, inr, true, false, eqb, List, [], ◌∷◌, Option, Some, None, slice_get, refl, sym, ◌∙◌, ap, subst, ne_eqb}
+use Rattle.histories.specs.Common.{Tree, Layout, Row as StepRow, History, ◌⊳◌, value, Lawful, log, field}
 use Rattle.arena.proofs.Lemmas.{ends_self}
 use Rattle.histories.proofs.Lemmas.{Logs, facts_before, logs, same, update_changes, wins}
-use Rattle.ordered_map.specs.declared.pair.Pair.{Pair}
-use Rattle.ordered_map.specs.OrderedMap.{MapCall, MapEdit, Edit, after, after_edit, edited}
-use Rattle.ordered_map.specs.FillOrder.{AreFilledInOrder}
-use Rattle.ordered_map.specs.Runs.{IsTreeRun, Makes}
-use Rattle.ordered_map.specs.Spelled.{Spells}
+use Rattle.record.specs.Common.{Pair, MapCall, MapEdit, Edit, after, edited, AreFilledInOrder, IsTreeRun, Makes, Spells, Call, Command, Llx, Scx, Vlx}
+use Rattle.record.specs.Common.{Set, Map, map_request, history, start, entry_at, entry_of, entry_owed, entries, is_update, commands, next_command}
+use Rattle.record.specs.Common.{IsEntryFor, IsMapEntry, IsWinOf, linked, map_call, map_call_of, written_log, map_of, AreSpelled, IsSpelledAfter, AreLines}
+use Rattle.ordered_map.specs.OrderedMap.{after_edit}
 use Rattle.ordered_map.proofs.Lemmas.{makes_since, opening_spells, quiet_spells, rising_levels, run_since, win_makes}
-use Rattle.script.specs.declared.call.Call.{Call}
-use Rattle.script.specs.declared.command.Command.{Command}
-use Rattle.script.specs.declared.command.Command.TheVariants.{Llx, Scx, Vlx, Set, Map}
-use Rattle.ordered_map.specs.Requests.{map_request}
 use Rattle.record.specs.declared.record.Line.{Line}
 use Rattle.record.specs.declared.record.Line.TheVariants.{Step, Log, Reply as ReplyLine}
 use Rattle.record.specs.declared.record.TurnRow.TheVariants.{Step as Made, Idle}
 use Rattle.record.specs.declared.record.Entry.{Entry}
-use Rattle.record.specs.Turns.{history, start, entry_at, entry_of, entry_owed, entries, is_update}
-use Rattle.record.specs.Commands.{commands, next_command}
-use Rattle.record.specs.CommandRules.{IsEntryFor}
-use Rattle.record.specs.Rules.Map.{IsMapEntry}
-use Rattle.record.specs.Entries.{IsWinOf}
-use Rattle.record.specs.Linked.{linked}
-use Rattle.record.specs.MapRecord.{map_call, map_call_of, after_maybe, written_log, map_of}
-use Rattle.record.specs.SpelledMap.{AreSpelled, IsSpelledAfter}
-use Rattle.record.specs.LawfulRun.{AreLines}
+use Rattle.record.specs.MapRecord.{after_maybe}
 use Rattle.record.proofs.Lemmas.{AreMapCalls}
 
 -- a step that owes no entry leaves the log

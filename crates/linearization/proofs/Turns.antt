@@ -1,35 +1,22 @@
 -- Each moment of a reading call is just after one of its turns: the words spelled then the map that
 -- record has after that turn.
-use Rattle.std.proofs.Common.{◌≡◌, ℕ, suc, ◌≤◌, ◌⊎◌, inl, inr, ⊎_elim, Bool, true, false, cond, ◌&&◌, eqb, not, List, [], ◌∷◌, Option, Some, None, refl, sym, ◌∙◌, ap, subst, arith}
-use Rattle.std.specs.Prelude.{leb}
-use Rattle.std.proofs.lemmas.Bool.{eqb-true, leb-true}
-use Rattle.arena.specs.declared.layout.Layout.{Layout}
-use Rattle.arena.specs.declared.step.Kind.{Kind}
-use Rattle.arena.specs.declared.step.Row.{Row as StepRow}
-use Rattle.arena.specs.History.{History, Start, ◌⊳◌, value, Extends}
+use Rattle.std.proofs.Common.{◌≡◌, ℕ, suc, ◌≤◌, ◌⊎◌, inl, inr, ⊎_elim, Bool, true, false, cond, ◌&&◌, eqb, not, List, [], ◌∷◌, Option, Some, None, refl, sym, ◌∙◌, ap, subst, arith, nat_le as leb}
+use Rattle.std.proofs.Common.{eqb-true, leb-true}
+use Rattle.histories.specs.Common.{Layout, Kind, Row as StepRow, History, Start, ◌⊳◌, value, Extends}
 use Rattle.arena.proofs.Lemmas.{ends_self, ends_trans, same_moment}
-use Rattle.ordered_map.specs.declared.pair.Pair.{Pair}
-use Rattle.ordered_map.specs.OrderedMap.{MapCall, MapReply, reply}
-use Rattle.ordered_map.specs.Spelled.{Spells}
+use Rattle.record.specs.Common.{Pair, MapCall, MapReply, reply, Spells, Call, Command, client_of, history, turns, begin, start, entry_at, entry_of, entry_owed, entries}
+use Rattle.record.specs.Common.{is_update, next_command, map_call_of, written_log, entries_until, map_of, map_at, AreSpelled, IsSpelledAfter, AreLines, HasReplied}
 use Rattle.ordered_map.proofs.Lemmas.{one_spelling}
-use Rattle.script.specs.declared.call.Call.{Call}
-use Rattle.script.specs.declared.command.Command.{Command}
 use Rattle.record.specs.declared.record.Line.{Line}
 use Rattle.record.specs.declared.record.Line.TheVariants.{Step, Log, Reply as ReplyLine}
 use Rattle.record.specs.declared.record.TurnRow.{TurnRow}
 use Rattle.record.specs.declared.record.TurnRow.TheVariants.{Step as Made, Idle}
 use Rattle.record.specs.declared.record.Entry.{Entry}
 use Rattle.record.specs.declared.record.Finished.{Finished}
-use Rattle.record.specs.Turns.{client_of, history, turns, begin, start, entry_at, entry_of, entry_owed, entries, is_update}
-use Rattle.record.specs.Commands.{next_command}
 use Rattle.record.specs.CommandRules.{MayMake}
-use Rattle.record.specs.MapRecord.{map_call_of, written_log, entries_until, map_of, map_at}
-use Rattle.record.specs.SpelledMap.{AreSpelled, IsSpelledAfter}
-use Rattle.record.specs.LawfulRun.{AreLines}
 use Rattle.record.proofs.Lemmas.{start_unbegun, begin_within, log_step}
 use Rattle.linearization.specs.declared.places.Change.{Change}
 use Rattle.linearization.specs.Entries.{IsChangeBy, AreUpTo, IsChangeOf}
-use Rattle.record.specs.Replied.{HasReplied}
 use Rattle.linearization.proofs.Values.{until_all}
 
 -- The map after the newest turn

@@ -1,13 +1,10 @@
 -- The value of a key after a turn, by the changes: what the map of the entries up to then gives.
-use Rattle.std.proofs.Common.{◌≡◌, ℕ, ◌≤◌, Bool, true, false, cond, eqb, List, [], ◌∷◌, Option, Some, None, refl, sym, ◌∙◌, ap, subst, arith}
-use Rattle.std.specs.Prelude.{leb}
-use Rattle.std.proofs.lemmas.Bool.{leb-true, le-leb}
-use Rattle.ordered_map.specs.declared.pair.Pair.{Pair}
-use Rattle.ordered_map.specs.OrderedMap.{MapCall, MapEdit, after_edit, edit_key, edit_of, get, reply, IsRising}
+use Rattle.std.proofs.Common.{◌≡◌, ℕ, ◌≤◌, Bool, true, false, cond, eqb, List, [], ◌∷◌, Option, Some, None, refl, sym, ◌∙◌, ap, subst, arith, nat_le as leb, leb-true, le-leb}
+use Rattle.record.specs.Common.{Pair, MapCall, MapEdit, edit_key, edit_of, get, reply, IsRising, Call, map_call_of, entries_until, map_of}
+use Rattle.ordered_map.specs.OrderedMap.{after_edit}
 use Rattle.ordered_map.proofs.Lemmas.{edit_gives, edited_rises}
-use Rattle.script.specs.declared.call.Call.{Call}
 use Rattle.record.specs.declared.record.Entry.{Entry}
-use Rattle.record.specs.MapRecord.{map_call_of, after_maybe, entries_until, map_of}
+use Rattle.record.specs.MapRecord.{after_maybe}
 use Rattle.linearization.specs.declared.places.Change.{Change}
 use Rattle.linearization.specs.Entries.{IsChangeByEdit, IsChangeBy, AreUpTo, IsChangeOf, AreChangesOf}
 

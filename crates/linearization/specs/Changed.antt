@@ -1,8 +1,7 @@
 -- Which key of the map a command may change, and which edit of it an entry makes.
 use Rattle.std.specs.Prelude.{ℕ, Option, Some, None, option_map}
-use Rattle.ordered_map.specs.OrderedMap.{MapCall, MapEdit, Edit, edit_to, goal_key, leaves}
-use Rattle.script.specs.declared.command.Command.{Command}
-use Rattle.record.specs.MapRecord.{map_call}
+use Rattle.record.specs.Common.{MapCall, MapEdit, Edit, edit_to, leaves, Command, map_call}
+use Rattle.ordered_map.specs.OrderedMap.{goal_key}
 
 -- the key that this call may change, if it names it; one that takes the first pair does not
 abbrev pub edited_key : Option MapCall → Option ℕ

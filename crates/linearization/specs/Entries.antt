@@ -1,12 +1,9 @@
 -- Which changes of the map the entries of a record's log are. Entries and changes have
 -- the newest first here.
 use Rattle.std.specs.Prelude.{◌≡◌, ℕ, ◌≤◌, List, [], ◌∷◌, Option, Some, None}
-use Rattle.ordered_map.specs.declared.pair.Pair.{Pair}
-use Rattle.ordered_map.specs.OrderedMap.{MapCall, MapEdit, edit_key, edit_of, first_pair, get, reply, value_left}
-use Rattle.script.specs.declared.call.Call.{Call}
+use Rattle.record.specs.Common.{Pair, MapCall, MapEdit, edit_key, edit_of, first_pair, get, reply, value_left, Call, map_call_of, written_log, map_of, map_at}
 use Rattle.record.specs.declared.record.Line.{Line}
 use Rattle.record.specs.declared.record.Entry.{Entry}
-use Rattle.record.specs.MapRecord.{map_call_of, written_log, map_of, map_at}
 use Rattle.linearization.specs.declared.places.Change.{Change}
 
 -- the change is that of this edit

@@ -3,11 +3,9 @@
 use Rattle.std.specs.Prelude.{ℕ, ◌<◌, Bool, false, ◌&&◌, ◌||◌, not, nat_le, nat_lt, ◌⊎◌, ◌≡◌, suc, true, List, [], ◌∷◌, length, take, Option, Some, nat_eq}
 use Rattle.std.specs.Option.{option_eq}
 use Rattle.std.specs.List.{filter, list_any}
-use Rattle.ordered_map.specs.declared.pair.Pair.{Pair}
-use Rattle.ordered_map.specs.OrderedMap.{get, MapReply, OnePair, ManyPairs}
-use Rattle.script.specs.declared.command.Command.{Command}
-use Rattle.script.specs.declared.command.Command.TheVariants.{Map}
-use Rattle.ordered_map.specs.declared.request.Request.TheVariants.{PopFirst, PopLast, Successor, Predecessor, Range}
+use Rattle.record.specs.Common.{Pair, get, MapReply, ManyPairs, Command, Map, PopFirst, Successor, Predecessor, Range}
+use Rattle.ordered_map.specs.OrderedMap.{OnePair}
+use Rattle.ordered_map.specs.declared.request.Request.TheVariants.{PopLast}
 use Rattle.linearization.specs.declared.places.Change.{Change}
 
 -- it is one

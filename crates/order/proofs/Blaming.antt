@@ -1,30 +1,16 @@
 -- Who was in the way of a try that is lost.
 use Rattle.std.proofs.Common.{◌≡◌, ◌≢◌, ℕ, suc, ◌<◌, ◌-◌, List, length, inl, inr, refl, subst, sym, arith, None}
-use Rattle.arena.specs.declared.machine.Turn.{Turn}
-use Rattle.arena.specs.declared.machine.Turn.TheVariants.{Ask, Done}
-use Rattle.arena.specs.declared.number.NodeNo.{NodeNo}
-use Rattle.arena.specs.declared.number.ScxNo.{ScxNo}
-use Rattle.arena.specs.declared.step.Kind.TheVariants.{LoadInfo}
-use Rattle.arena.specs.History.{History, Extends}
-use Rattle.arena.specs.Lawful.{Lawful}
-use Rattle.arena.specs.Machines.{Call, MatchTurn, begun_at}
+use Rattle.histories.specs.Common.{Turn, Ask, Done, NodeNo, ScxNo, LoadInfo, History, Extends, Lawful, Call, MatchTurn, begun_at}
 use Rattle.arena.proofs.Lemmas.{ends_self, ends_trans}
 use Rattle.prims.specs.Laws.FoundThere.{there_wider}
 use Rattle.prims.specs.Laws.Idle.{IsIdle, IsQuietSince, quiet_at_start}
-use Rattle.prims.specs.Llx.Known.{LlxAnswers}
-use Rattle.prims.specs.Shares.{IsUsable}
-use Rattle.prims.specs.Snap.{snap_at}
-use Rattle.prims.specs.Vlx.Known.{IsFirstChange, VlxIsReady}
-use Rattle.prims.specs.declared.llx.Llx.TheVariants.{Finalized, Fail}
-use Rattle.prims.specs.declared.llx.LlxRun.{LlxRun}
-use Rattle.prims.specs.declared.snap.Snap.{Snap}
+use Rattle.template.specs.Common.{LlxAnswers, IsUsable, snap_at, VlxIsReady, Finalized, Fail, LlxRun, Snap, MapCall, MapReply, IsContended, HasLostTriesTo, HasTriedAtMost, MayTryNext}
+use Rattle.prims.specs.Vlx.Known.{IsFirstChange}
 use Rattle.prims.proofs.Lemmas.{usable_now, usable_since}
 use Rattle.order.specs.Reads.{HasSnapped, Reads, HasStood}
-use Rattle.ordered_map.specs.OrderedMap.{MapCall, MapReply}
 use Rattle.order.specs.Replies.{IsReplyAt, KeepsTries}
 use Rattle.order.specs.Tries.{BeginsTry, IsInTry}
-use Rattle.template.specs.Blame.{IsContended, HasLostTriesTo}
-use Rattle.template.specs.Tries.{HasTriedAtMost, MayTryNext, IsInNewest}
+use Rattle.template.specs.Tries.{IsInNewest}
 use Rattle.template.proofs.Lemmas.{changed_contended, contended_wider, failed_contended, finalized_contended, lost_to, next_again, next_first, tried_few, tried_in}
 
 module _ (c : Call) (h : History) (snaps : List Snap) (reads : Reads c h snaps) where

@@ -2,22 +2,10 @@
 use Rattle.std.proofs.Common.{◌≡◌, ◌≢◌, ℕ, ◌<◌, ◌≤◌, ◌⊎◌, true, false, eqb, ltb, leb, List, [], ◌∷◌, inl, inr, refl, sym, ◌∙◌, ap, subst, arith, lt-ltb, ltb-true, ltb-false, leb-true, leb-false, eq-eqb, ne_eqb, Option, Some, None}
 use native.Mathlib.Decide.{ℕ_discrete}
 use Rattle.arena.specs.declared.head.Head.{Head as HeadParts}
-use Rattle.arena.specs.declared.number.NodeNo.{NodeNo}
-use Rattle.arena.specs.declared.word.NodeWord.TheVariants.{Settled}
-use Rattle.arena.specs.declared.word.SettledPart.TheVariants.{More as MoreWord, Key as KeyWord}
-use Rattle.arena.specs.declared.word.Side.{Side}
+use Rattle.histories.specs.Common.{NodeNo, Settled, More as MoreWord, Key as KeyWord, Side, child, marked, History, value, Extends, Call}
 use Rattle.arena.specs.declared.word.Side.TheVariants as sides
-use Rattle.arena.specs.Words.{child, marked}
-use Rattle.arena.specs.History.{History, value, Extends}
-use Rattle.arena.specs.Machines.{Call}
-use Rattle.prims.specs.declared.snap.Snap.{Snap}
-use Rattle.ordered_map.specs.declared.pair.Pair.{Pair as MapPair}
-use Rattle.ordered_map.specs.OrderedMap.{neighbour, pair_or_none}
-use Rattle.ordered_map.specs.Paths.{IsOnPath}
-use Rattle.ordered_map.specs.Runs.{IsTreeRun}
-use Rattle.ordered_map.specs.TreeWords.{class, is_leaf, level, opposite, rank, toward}
+use Rattle.template.specs.Common.{Snap, Pair as MapPair, neighbour, pair_or_none, IsOnPath, IsTreeRun, class, is_leaf, level, opposite, rank, toward, IsOwnMoment}
 use Rattle.ordered_map.proofs.Lemmas.{or_else, pair_stays, stood_settled, SameSettled, settled_class, settled_leaf, settled_toward}
-use Rattle.template.specs.Trails.{IsOwnMoment}
 use Rattle.order.specs.Found.{AreThere, GoesTo, IsAtLowFork, IsReading, IsThere, Looks, Stands, StandsIn, TakesPair, WalksTo, head_at, key_at, more_at, pairs_behind, place_key, place_pair, place_value}
 use Rattle.order.specs.Laws.Search.{Finds, FindsNone, IsAnswer, IsBeside, IsSearched, IsSearchedIn}
 use Rattle.order.specs.Loads.{first_in_leaf, place_behind}

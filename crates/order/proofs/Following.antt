@@ -1,9 +1,7 @@
 -- Words show one tree.
 use Rattle.std.proofs.Common.{◌≡◌, ℕ, true, false, sym, ◌∙◌}
-use Rattle.arena.specs.declared.word.Word.{Word}
-use Rattle.arena.specs.History.{History, value}
-use Rattle.ordered_map.specs.Spelled.{IsTree}
-use Rattle.ordered_map.specs.TreeWords.{Tree, is_leaf}
+use Rattle.histories.specs.Common.{Word, History, value}
+use Rattle.template.specs.Common.{IsTree, Tree, is_leaf}
 use Rattle.ordered_map.proofs.Lemmas.{same_tree}
 
 pub no_leaf : (f : Word → ℕ) (n : ℕ) (P : Type 0) → is_leaf f n ≡ true → is_leaf f n ≡ false → P

@@ -1,33 +1,16 @@
 -- What an ordered read knows one place further, whichever it is.
 use Rattle.std.proofs.Common.{◌≡◌, ℕ, ◌^◌, ◌<◌, true, false, List, [], ◌∷◌, ◌++◌, length, inl, inr, ⊎_elim, refl, sym, ◌∙◌, subst, arith, lt-ltb, ne_eqb, None}
 use native.Mathlib.Decide.{ℕ_discrete}
-use Rattle.arena.specs.declared.number.NodeNo.{NodeNo}
-use Rattle.arena.specs.declared.word.NodeWord.TheVariants.{Settled}
-use Rattle.arena.specs.declared.word.SettledPart.TheVariants.{Head as HeadWord}
-use Rattle.arena.specs.declared.word.Side.{Side}
-use Rattle.arena.specs.declared.word.Side.TheVariants.{Left, Right}
-use Rattle.arena.specs.Words.{node}
-use Rattle.arena.specs.History.{History, value}
-use Rattle.arena.specs.Machines.{Call, begun_at}
+use Rattle.histories.specs.Common.{NodeNo, Settled, Head as HeadWord, Side, Left, Right, node, History, value, Call, begun_at}
 use Rattle.arena.proofs.Lemmas.{ends_self, ends_trans}
 use Rattle.prims.specs.Laws.Idle.{quiet_at_start, idle_if_finished}
-use Rattle.prims.specs.Llx.Known.{IsSnapshot, LlxKnows, LlxIsReady}
-use Rattle.prims.specs.Snap.{child_of}
+use Rattle.template.specs.Common.{IsSnapshot, LlxIsReady, child_of, LlxRun, Snap, Pair, MapReply, Passed, WasInTree, IsTreeRun}
+use Rattle.template.specs.Common.{Spells, TreeAllows, is_leaf, level, rank, HasFoundGoal, HasFoundLeaf, Key as ToKey}
+use Rattle.prims.specs.Llx.Known.{LlxKnows}
 use Rattle.prims.specs.Vlx.Known.{IsSame}
 use Rattle.prims.specs.declared.llx.LlxAt.TheVariants.{Start as LlxStart}
-use Rattle.prims.specs.declared.llx.LlxRun.{LlxRun}
-use Rattle.prims.specs.declared.snap.Snap.{Snap}
-use Rattle.ordered_map.specs.declared.pair.Pair.{Pair}
-use Rattle.ordered_map.specs.OrderedMap.{MapReply}
-use Rattle.ordered_map.specs.Paths.{Passed, WasInTree}
-use Rattle.ordered_map.specs.Runs.{IsTreeRun}
-use Rattle.ordered_map.specs.Spelled.{Spells}
-use Rattle.ordered_map.specs.TreeShape.{TreeAllows}
-use Rattle.ordered_map.specs.TreeWords.{is_leaf, level, rank}
 use Rattle.ordered_map.proofs.Lemmas.{passed_unmarked, path_not_final, root_head, run_since, run_spells, stood_settled, walk_first, was_passed, settled_leaf, settled_toward}
-use Rattle.template.specs.FoundLeaf.{HasFoundGoal, HasFoundLeaf}
 use Rattle.template.specs.declared.walk.Found.{Found}
-use Rattle.ordered_map.specs.declared.rule.Goal.TheVariants.{Key as ToKey}
 use Rattle.template.proofs.Lemmas.{own_since, opened_if_stood}
 use Rattle.order.specs.Found.{GoesTo, IsReading, IsThere, Looks, Stands, WalksTo}
 use Rattle.order.specs.Known.{AreLastTurns, LastTurned, IsLastTurn, Validates}

@@ -1,12 +1,7 @@
 -- That each turn of a read leaves fewer steps.
 use Rattle.std.proofs.Common.{◌≡◌, ◌≢◌, ℕ, zero, suc, ◌+◌, ◌*◌, ◌-◌, ◌<◌, ◌≤◌, refl, arith}
 use Rattle.std.proofs.Math.Nat.{suc-mul}
-use Rattle.arena.specs.declared.machine.Turn.{Turn}
-use Rattle.arena.specs.declared.machine.Turn.TheVariants.{Ask, Done}
-use Rattle.arena.specs.declared.word.Slot.{Slot}
-use Rattle.arena.specs.declared.word.Slot.TheVariants.{First, Second, Third, Fourth}
-use Rattle.arena.specs.Machines.{MatchTurn}
-use Rattle.arena.specs.Words.{slot_no}
+use Rattle.histories.specs.Common.{Turn, Ask, Done, Slot, First, Second, Third, Fourth, MatchTurn, slot_no}
 
 -- what is below a number is below a greater one
 pub below : {A : Type 0} (turn : Turn A) (x a b : ℕ) → MatchTurn turn (λ _. x < a) (λ _. Unit {0}) → a ≤ b → MatchTurn turn (λ _. x < b) (λ _. Unit {0})

@@ -1,16 +1,7 @@
 -- From place to place of a leaf.
 use Rattle.std.proofs.Common.{◌≡◌, ℕ, List, [], ◌∷◌, refl, sym, ◌∙◌, ap, subst, Option, Some, None}
-use Rattle.arena.specs.declared.word.NodeWord.TheVariants.{Settled}
-use Rattle.arena.specs.declared.word.SettledPart.TheVariants.{Key as KeyWord}
-use Rattle.arena.specs.declared.word.Slot.{Slot}
-use Rattle.arena.specs.History.{History, value, Extends}
-use Rattle.arena.specs.Machines.{Call}
-use Rattle.prims.specs.declared.snap.Snap.{Snap}
-use Rattle.ordered_map.specs.declared.pair.Pair.{Pair}
-use Rattle.ordered_map.specs.Holding.{held_behind, held_from, slot_behind}
-use Rattle.ordered_map.specs.OrderedMap.{pair}
-use Rattle.ordered_map.specs.Paths.{WasInTree}
-use Rattle.ordered_map.specs.Runs.{IsTreeRun}
+use Rattle.histories.specs.Common.{Settled, Key as KeyWord, Slot, History, value, Extends, Call}
+use Rattle.template.specs.Common.{Snap, Pair, held_behind, held_from, slot_behind, pair, WasInTree, IsTreeRun}
 use Rattle.ordered_map.proofs.Lemmas.{held_next, same_pair, stood_settled}
 use Rattle.order.specs.Found.{StandsIn, TakesPair, more_at, pairs_behind, place_key, place_pair, place_value}
 use Rattle.order.specs.Loads.{place_behind, place_in}

@@ -1,24 +1,13 @@
 -- What a range knows one place further.
-use Rattle.std.proofs.Common.{◌≡◌, ◌≢◌, ℕ, zero, suc, ◌+◌, ◌-◌, ◌*◌, ◌<◌, ◌≤◌, ◌⊎◌, Bool, true, false, ltb, leb, ◌&&◌, List, [], ◌∷◌, ◌++◌, length, reverse, inl, inr, ⊎_elim, refl, sym, ◌∙◌, ap, subst, arith, le-ltb, min, Some, None, Vec}
-use Rattle.std.specs.Prelude.{take}
-use Rattle.std.specs.Global.{Global}
+use Rattle.std.proofs.Common.{◌≡◌, ◌≢◌, ℕ, zero, suc, ◌+◌, ◌-◌, ◌*◌, ◌<◌, ◌≤◌, ◌⊎◌, Bool, true, false, ltb, leb, ◌&&◌, List, [], ◌∷◌, ◌++◌, length, reverse, inl, inr, ⊎_elim, refl, sym, ◌∙◌, ap, subst, arith, le-ltb, min, Some, None}
+use Rattle.std.proofs.Common.{Vec, take, Global}
 use Rattle.std.proofs.Math.Nat.{suc-mul, mul-le-mul_right}
 use Rattle.std.proofs.lemmas.Bool.Decides.{leb_tells}
 use Rattle.std.proofs.lemmas.List.{reverse-append}
 use Rattle.arena.specs.declared.head.Head.{Head as HeadParts}
-use Rattle.arena.specs.declared.number.NodeNo.{NodeNo}
-use Rattle.arena.specs.declared.word.NodeWord.TheVariants.{Settled}
-use Rattle.arena.specs.declared.word.SettledPart.TheVariants.{More as MoreWord, Key as KeyWord}
-use Rattle.arena.specs.History.{History, value, Extends}
-use Rattle.arena.specs.Machines.{Call}
-use Rattle.prims.specs.declared.snap.Snap.{Snap}
-use Rattle.ordered_map.specs.declared.pair.Pair.{Pair}
-use Rattle.ordered_map.specs.OrderedMap.{between, range, ManyPairs}
-use Rattle.ordered_map.specs.Runs.{IsTreeRun}
-use Rattle.ordered_map.specs.Spelled.{Spells}
-use Rattle.ordered_map.specs.TreeWords.{class, is_leaf, level, rank}
+use Rattle.histories.specs.Common.{NodeNo, Settled, More as MoreWord, Key as KeyWord, History, value, Extends, Call}
+use Rattle.template.specs.Common.{Snap, Pair, between, range, ManyPairs, IsTreeRun, Spells, class, is_leaf, level, rank, IsOwnMoment}
 use Rattle.ordered_map.proofs.Lemmas.{run_spells, stood_settled, SameSettled, settled_class, settled_leaf, settled_rank}
-use Rattle.template.specs.Trails.{IsOwnMoment}
 use Rattle.order.specs.Found.{AreThere, BeginsAtRoot, GoesTo, IsAtLowFork, IsReading, IsThere, Looks, Stands, StandsBefore, StandsIn, TakesPair, head_at, key_at, place_key, more_at, place_pair, place_value}
 use Rattle.order.specs.Loads.{place_behind}
 use Rattle.order.specs.Next.{MayValidate}

@@ -1,10 +1,8 @@
 -- How an ordered read begins.
 use Rattle.std.proofs.Common.{◌≡◌, suc, [], subst, None}
-use Rattle.arena.specs.History.{History}
-use Rattle.arena.specs.Machines.{Call, begun_at}
-use Rattle.prims.specs.Moments.{AreFinished}
+use Rattle.histories.specs.Common.{History, Call, begun_at}
+use Rattle.template.specs.Common.{AreFinished, IsTreeRun}
 use Rattle.prims.specs.Laws.Idle.{idle_if_finished}
-use Rattle.ordered_map.specs.Runs.{IsTreeRun}
 use Rattle.order.specs.Known.{ReadIsReady}
 use Rattle.order.specs.Laws.Kept.{reads_anew}
 use Rattle.order.specs.Meaning.{ReadMeaning}

@@ -1,18 +1,9 @@
 -- How the search for the next key on a side of k goes down a tree.
 use Rattle.std.proofs.Common.{◌≡◌, ◌≢◌, ℕ, ◌*◌, ◌^◌, ◌<◌, ◌≤◌, Bool, true, false, cond, List, [], ◌∷◌, inl, inr, refl, sym, ◌∙◌, ap, subst, arith, lt-ltb, le-ltb, Option, Some, None, unwrap_or}
-use Rattle.arena.specs.declared.layout.Layout.{Layout}
-use Rattle.arena.specs.declared.number.NodeNo.{NodeNo}
-use Rattle.arena.specs.declared.word.Side.{Side}
-use Rattle.arena.specs.declared.word.Side.TheVariants.{Left, Right}
-use Rattle.arena.specs.declared.word.Word.{Word}
-use Rattle.arena.specs.Words.{child}
-use Rattle.arena.specs.History.{History, value}
-use Rattle.ordered_map.specs.declared.pair.Pair.{Pair}
-use Rattle.ordered_map.specs.Holding.{end_slot, held_pairs, pair_in}
-use Rattle.ordered_map.specs.OrderedMap.{AllBelow, IsRising, end_pair, neighbour, predecessor, successor, pair}
-use Rattle.ordered_map.specs.Paths.{IsOnPath}
-use Rattle.ordered_map.specs.Spelled.{Spells}
-use Rattle.ordered_map.specs.TreeWords.{Tree, Leaf, Fork, Passes, Shows, class, is_leaf, leaf_items, opposite, rank, root, toward}
+use Rattle.histories.specs.Common.{Layout, NodeNo, Side, Left, Right, Word, child, History, value}
+use Rattle.template.specs.Common.{Pair, end_slot, held_pairs, pair_in, AllBelow, IsRising, end_pair, neighbour, pair, IsOnPath, Spells, Tree, Shows, class, is_leaf, opposite, rank, root, toward}
+use Rattle.ordered_map.specs.OrderedMap.{predecessor, successor}
+use Rattle.ordered_map.specs.TreeWords.{Leaf, Fork, Passes, leaf_items}
 use Rattle.ordered_map.proofs.Lemmas.{above_less, before_above, below_end, end_below, found_before, held_end, high_items, items, low_items, low_pair, or_else, or_none, pair_goes, part_on, rest_below, search_below, search_tells}
 use Rattle.order.specs.Found.{more_at, pairs_behind, place_key, place_pair}
 use Rattle.order.specs.Laws.Search.{Finds, FindsNone, IsAnswer, IsBeside, IsEndBelow, IsPartAt, IsSearched, IsSearchedIn}

@@ -1,18 +1,11 @@
 -- One snapshot more: what it says of the children of its node, and what holds as long as the infos
 -- are what was found.
 use Rattle.std.proofs.Common.{◌≡◌, ℕ, zero, suc, ◌<◌, ◌⊎◌, false, List, [], ◌∷◌, ◌++◌, length, inl, inr, ⊎_elim, refl, sym, subst, arith}
-use Rattle.arena.specs.declared.word.Side.{Side}
-use Rattle.arena.specs.Words.{child, info, marked}
-use Rattle.arena.specs.History.{History, value, Extends}
-use Rattle.arena.specs.Machines.{Call}
+use Rattle.histories.specs.Common.{Side, child, info, marked, History, value, Extends, Call}
 use Rattle.arena.proofs.Lemmas.{ends_self}
 use Rattle.prims.specs.Laws.InTheWay.{been_now}
 use Rattle.prims.specs.Laws.Linked.{IsLinked, linked_since}
-use Rattle.prims.specs.Llx.Known.{IsSnapshot}
-use Rattle.prims.specs.Snap.{child_of, snap_at}
-use Rattle.prims.specs.declared.snap.Snap.{Snap}
-use Rattle.ordered_map.specs.Runs.{IsTreeRun}
-use Rattle.ordered_map.specs.TreeWords.{is_leaf, level}
+use Rattle.template.specs.Common.{IsSnapshot, child_of, snap_at, Snap, IsTreeRun, is_leaf, level}
 use Rattle.ordered_map.proofs.Lemmas.{child_not_final, child_stood, levels_rise}
 use Rattle.order.specs.Reads.{AreSnapped, HasSnapped, Reads, AllHold, HasStood}
 

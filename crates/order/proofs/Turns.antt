@@ -1,39 +1,14 @@
 -- What an ordered read waits for after each of its turns.
 use Rattle.std.proofs.Common.{◌≡◌, ℕ, ◌+◌, ◌-◌, ◌*◌, ◌<◌, List, [], length, inl, inr, refl, sym, ◌∙◌, ap, subst, arith, Option, Some, None, Result, Ok, Err, IfOk, unwrap_or}
-use Rattle.arena.specs.declared.machine.Turn.{Turn}
-use Rattle.arena.specs.declared.machine.Turn.TheVariants.{Ask, Done}
-use Rattle.arena.specs.declared.number.NodeNo.{NodeNo}
-use Rattle.arena.specs.declared.number.ScxNo.{ScxNo}
-use Rattle.arena.specs.declared.step.Step.{Step}
-use Rattle.arena.specs.declared.step.Kind.TheVariants.{LoadMarked, LoadSettled}
-use Rattle.arena.specs.declared.word.NodeWord.TheVariants.{Settled}
-use Rattle.arena.specs.declared.word.SettledPart.TheVariants.{Head as HeadWord}
-use Rattle.arena.specs.declared.word.Side.{Side}
+use Rattle.histories.specs.Common.{Turn, Ask, Done, NodeNo, ScxNo, Step, LoadMarked, LoadSettled, Settled, Head as HeadWord, Side, marked, node, History, value, Extends, Call, IsRun, MatchTurn, begun_at}
 use Rattle.arena.specs.declared.word.Side.TheVariants as sides
-use Rattle.arena.specs.Words.{marked, node}
-use Rattle.arena.specs.History.{History, value, Extends}
-use Rattle.arena.specs.Machines.{Call, IsRun, MatchTurn, begun_at}
-use Rattle.prims.specs.Llx.Known.{load, IsSnapshot, LlxIsReady, LlxWaits, LlxAnswers}
-use Rattle.prims.specs.Vlx.Known.{VlxIsReady, VlxWaits, VlxAnswers}
+use Rattle.template.specs.Common.{load, IsSnapshot, LlxIsReady, LlxWaits, LlxAnswers, VlxIsReady, VlxWaits, VlxAnswers, vlx_left, Llx, Snapshot, Finalized, Fail, LlxAt, LlxRun, Snap}
+use Rattle.template.specs.Common.{Vlx, Same, Changed, TreeAllows, IsContended, path_key, HasFoundGoal, IsOwnMoment, WalkKnows, WalkIsReady, WalkWaits, IsPastRoot, Key as ToKey}
 use Rattle.prims.specs.Vlx.Laws.{first_looked, looks_next}
-use Rattle.prims.specs.Vlx.Steps.{vlx_left}
-use Rattle.prims.specs.declared.llx.Llx.{Llx}
-use Rattle.prims.specs.declared.llx.Llx.TheVariants.{Snapshot, Finalized, Fail}
-use Rattle.prims.specs.declared.llx.LlxAt.{LlxAt}
 use Rattle.prims.specs.declared.llx.LlxAt.TheVariants.{Start as LlxStart, Marked}
-use Rattle.prims.specs.declared.llx.LlxRun.{LlxRun}
-use Rattle.prims.specs.declared.snap.Snap.{Snap}
-use Rattle.prims.specs.declared.vlx.Vlx.{Vlx}
-use Rattle.prims.specs.declared.vlx.Vlx.TheVariants.{Same, Changed}
 use Rattle.prims.proofs.Lemmas.{turn_first}
-use Rattle.ordered_map.specs.TreeShape.{TreeAllows}
-use Rattle.template.specs.Blame.{IsContended}
-use Rattle.template.specs.FoundLeaf.{path_key, HasFoundGoal}
-use Rattle.template.specs.Trails.{IsOwnMoment}
-use Rattle.template.specs.Walk.Known.{WalkKnows, WalkIsReady, WalkWaits, WalkAnswers}
-use Rattle.template.specs.Walk.Places.{IsPastRoot}
+use Rattle.template.specs.Walk.Known.{WalkAnswers}
 use Rattle.template.specs.declared.walk.Found.{Found}
-use Rattle.ordered_map.specs.declared.rule.Goal.TheVariants.{Key as ToKey}
 use Rattle.template.specs.declared.walk.WalkAt.{WalkAt}
 use Rattle.template.specs.declared.walk.WalkAt.TheVariants.{Start as WalkStart, Root as WalkRoot, Head as AtHead, Key as AtKey, Child, More as AtMore, Pair as AtPair, Value as AtValue, High as AtHigh}
 use Rattle.template.specs.declared.walk.WalkRun.{WalkRun}

@@ -1,31 +1,15 @@
 -- A call by itself: nobody is in its way, and what it reads is the map that was there as it began.
-use Rattle.std.proofs.Common.{◌≡◌, ◌≢◌, ℕ, ◌+◌, ◌*◌, ◌<◌, List, [], Option, Some, None, Result, Ok, Err, Vec, inl, inr, refl, sym, ◌∙◌, ap, subst, arith}
+use Rattle.std.proofs.Common.{◌≡◌, ◌≢◌, ℕ, ◌+◌, ◌*◌, ◌<◌, List, [], Option, Some, None, Result, Ok, Err, Vec, inl, inr, refl, sym, ◌∙◌, ap, subst, arith, Global}
 use native.Mathlib.Decide.{ℕ_discrete}
-use Rattle.std.specs.Global.{Global}
-use Rattle.arena.specs.Blame.{IsInProgress}
-use Rattle.arena.specs.Fills.{IsOthersScx}
-use Rattle.arena.specs.History.{History, Start, ◌⊳◌, value, Extends}
-use Rattle.arena.specs.Lawful.{Lawful}
-use Rattle.arena.specs.Log.{log}
-use Rattle.arena.specs.Machines.{Call, MatchTurn}
+use Rattle.histories.specs.Common.{IsInProgress, IsOthersScx, History, Start, ◌⊳◌, value, Extends, Lawful, log, Call, MatchTurn, state, Turn, Ask, Done, Row, descriptor, Side}
 use Rattle.arena.specs.Undisturbed.{IsUndisturbed}
-use Rattle.arena.specs.Words.{state}
-use Rattle.arena.specs.declared.machine.Turn.{Turn}
-use Rattle.arena.specs.declared.machine.Turn.TheVariants.{Ask, Done}
-use Rattle.arena.specs.declared.step.Row.{Row}
 use Rattle.arena.proofs.Lemmas.{ends_self, ends_trans}
-use Rattle.histories.specs.Descriptor.{descriptor}
 use Rattle.histories.proofs.Lemmas.{Facts, IsOwned, Logs, facts, lawful_since, logs, same, wins}
 use Rattle.prims.specs.Laws.Idle.{IsQuietSince, out_by_others}
 use Rattle.prims.proofs.Lemmas.{wins_in_progress}
-use Rattle.ordered_map.specs.declared.pair.Pair.{Pair}
-use Rattle.arena.specs.declared.word.Side.{Side}
-use Rattle.ordered_map.specs.OrderedMap.{MapCall, MapReply, OnePair, ManyPairs, pair_or_none, neighbour, range, reply}
-use Rattle.ordered_map.specs.Runs.{IsTreeRun}
-use Rattle.ordered_map.specs.Spelled.{Spells}
+use Rattle.template.specs.Common.{Pair, MapCall, MapReply, OnePair, ManyPairs, pair_or_none, neighbour, range, reply, IsTreeRun, Spells, IsContended}
 use Rattle.ordered_map.proofs.Lemmas.{one_spelling, quiet_spells, run_since}
 use Rattle.template.proofs.Lemmas.{own_since}
-use Rattle.template.specs.Blame.{IsContended}
 use Rattle.order.specs.Known.{HasReplied, IsSameRead, ReadAnswers, ReadIsReady, ReadTurn}
 use Rattle.order.specs.Meaning.{ReadMeaning}
 use Rattle.order.specs.Range.{range_means}

@@ -3,16 +3,10 @@ use Rattle.std.proofs.Common.{◌≡◌, ◌≢◌, ℕ, zero, suc, ◌+◌, ◌
 use Rattle.std.specs.Prelude.{take}
 use Rattle.std.proofs.lemmas.Bool.Decides.{leb_tells}
 use native.Mathlib.Decide.{ℕ_discrete}
-use Rattle.arena.specs.declared.layout.Layout.{Layout}
-use Rattle.arena.specs.declared.number.NodeNo.{NodeNo}
-use Rattle.arena.specs.declared.word.Side.TheVariants.{Left, Right}
-use Rattle.arena.specs.declared.word.Word.{Word}
-use Rattle.arena.specs.Words.{child}
-use Rattle.arena.specs.History.{History, value}
-use Rattle.ordered_map.specs.declared.pair.Pair.{Pair}
-use Rattle.ordered_map.specs.OrderedMap.{AllBelow, AllFrom, between}
-use Rattle.ordered_map.specs.Spelled.{IsTree, Spells}
-use Rattle.ordered_map.specs.TreeWords.{Tree, Leaf, Fork, root, Shows, class, is_leaf, rank, pairs, leaf_items, leaf_pairs}
+use Rattle.histories.specs.Common.{Layout, NodeNo, Left, Right, Word, child, History, value}
+use Rattle.template.specs.Common.{Pair, AllBelow, between, IsTree, Spells, Tree, root, Shows, class, is_leaf, rank}
+use Rattle.ordered_map.specs.OrderedMap.{AllFrom}
+use Rattle.ordered_map.specs.TreeWords.{Leaf, Fork, pairs, leaf_items, leaf_pairs}
 use Rattle.ordered_map.proofs.Lemmas.{open_between, low_items, low_pairs, high_pairs, rank_from, rank_below}
 use Rattle.order.specs.Found.{place_key, more_at, place_pair, pairs_behind}
 use Rattle.order.specs.Loads.{first_in_leaf, place_behind}

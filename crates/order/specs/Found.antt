@@ -1,24 +1,9 @@
 -- What an ordered read knows of the nodes that it reaches.
 use Rattle.std.specs.Prelude.{◌≡◌, ◌⊎◌, ℕ, ◌^◌, ◌<◌, ◌≤◌, false, List, [], ◌∷◌, length, Result, Ok, Err}
 use Rattle.arena.specs.declared.head.Head.{Head as HeadParts}
-use Rattle.arena.specs.declared.layout.Layout.{Layout}
-use Rattle.arena.specs.declared.number.NodeNo.{NodeNo}
-use Rattle.arena.specs.declared.word.NodeWord.TheVariants.{Settled}
-use Rattle.arena.specs.declared.word.SettledPart.TheVariants.{Head as HeadWord, More as MoreWord, Key as KeyWord, Value as ValueWord}
-use Rattle.arena.specs.declared.word.Side.{Side}
+use Rattle.histories.specs.Common.{Layout, NodeNo, Settled, Head as HeadWord, More as MoreWord, Key as KeyWord, Value as ValueWord, Side, head_of, child, marked, node, first_key, History, value, Call}
 use Rattle.arena.specs.declared.word.Side.TheVariants as sides
-use Rattle.arena.specs.Heads.{head_of}
-use Rattle.arena.specs.Words.{child, marked, node, first_key}
-use Rattle.arena.specs.History.{History, value}
-use Rattle.arena.specs.Machines.{Call}
-use Rattle.prims.specs.declared.snap.Snap.{Snap}
-use Rattle.ordered_map.specs.declared.pair.Pair.{Pair}
-use Rattle.ordered_map.specs.Holding.{held_behind, pair_in, slot_behind}
-use Rattle.ordered_map.specs.OrderedMap.{reply}
-use Rattle.ordered_map.specs.Paths.{IsOnPath}
-use Rattle.ordered_map.specs.Runs.{IsTreeRun}
-use Rattle.ordered_map.specs.Spelled.{Spells}
-use Rattle.ordered_map.specs.TreeWords.{class, is_leaf, level, toward}
+use Rattle.template.specs.Common.{Snap, Pair, held_behind, pair_in, slot_behind, reply, IsOnPath, IsTreeRun, Spells, class, is_leaf, level, toward}
 use Rattle.order.specs.Meaning.{ReadMeaning}
 use Rattle.order.specs.Reads.{Reads, Whenever, HasStood}
 use Rattle.order.specs.LastTurns.{first_children, turned_at}

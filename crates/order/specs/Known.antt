@@ -1,27 +1,8 @@
 -- When an ordered read may continue, what it waits for, and what its answer says.
 use Rattle.std.specs.Prelude.{◌≡◌, ◌⊎◌, ℕ, ◌+◌, ◌≤◌, false, List, [], Option, Some, None, Result, Ok, Err}
-use Rattle.arena.specs.declared.machine.Turn.{Turn}
-use Rattle.arena.specs.declared.step.Step.{Step}
-use Rattle.arena.specs.declared.step.Kind.TheVariants.{LoadSettled}
-use Rattle.arena.specs.declared.word.NodeWord.TheVariants.{Settled}
-use Rattle.arena.specs.declared.word.SettledPart.TheVariants.{Head as HeadWord}
-use Rattle.arena.specs.declared.word.Side.{Side}
-use Rattle.arena.specs.Words.{node}
-use Rattle.arena.specs.History.{History, value, Extends}
-use Rattle.arena.specs.Machines.{Call, MatchTurn, begun_at}
-use Rattle.prims.specs.Llx.Known.{load, LlxIsReady, LlxWaits}
-use Rattle.prims.specs.Moments.{AreFinished}
-use Rattle.prims.specs.Vlx.Known.{VlxIsReady, VlxWaits}
-use Rattle.prims.specs.declared.snap.Snap.{Snap}
-use Rattle.ordered_map.specs.declared.pair.Pair.{Pair}
-use Rattle.ordered_map.specs.OrderedMap.{reply}
-use Rattle.ordered_map.specs.TreeShape.{TreeAllows}
-use Rattle.ordered_map.specs.TreeWords.{is_leaf, toward}
-use Rattle.template.specs.Blame.{IsContended, HasLostTriesTo}
-use Rattle.template.specs.Trails.{IsOwnMoment, WasPassed}
-use Rattle.template.specs.Tries.{HasTriedAtMost}
-use Rattle.template.specs.Walk.Known.{WalkIsReady, WalkWaits}
-use Rattle.ordered_map.specs.declared.rule.Goal.TheVariants.{Key as ToKey}
+use Rattle.histories.specs.Common.{Turn, Step, LoadSettled, Settled, Head as HeadWord, Side, node, History, value, Extends, Call, MatchTurn, begun_at}
+use Rattle.template.specs.Common.{load, LlxIsReady, LlxWaits, AreFinished, VlxIsReady, VlxWaits, Snap, Pair, reply, TreeAllows, is_leaf, toward}
+use Rattle.template.specs.Common.{IsContended, HasLostTriesTo, IsOwnMoment, WasPassed, HasTriedAtMost, WalkIsReady, WalkWaits, Key as ToKey}
 use Rattle.template.specs.declared.walk.WalkAt.{WalkAt}
 use Rattle.template.specs.declared.walk.WalkAt.TheVariants as walks
 use Rattle.template.specs.declared.walk.WalkRun.{WalkRun}

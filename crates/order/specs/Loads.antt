@@ -1,14 +1,7 @@
 -- The loads of an ordered read, and the places in a leaf.
 use Rattle.std.specs.Prelude.{ℕ, Option, Some, None}
-use Rattle.arena.specs.declared.number.NodeNo.{NodeNo}
-use Rattle.arena.specs.declared.word.NodeWord.TheVariants.{Settled}
-use Rattle.arena.specs.declared.word.SettledPart.{SettledPart}
+use Rattle.histories.specs.Common.{NodeNo, Settled, SettledPart, Slot, First, Word, History, value, node}
 use Rattle.arena.specs.declared.word.SettledPart.TheVariants as parts
-use Rattle.arena.specs.declared.word.Slot.{Slot}
-use Rattle.arena.specs.declared.word.Slot.TheVariants.{First}
-use Rattle.arena.specs.declared.word.Word.{Word}
-use Rattle.arena.specs.History.{History, value}
-use Rattle.arena.specs.Words.{node}
 use Rattle.ordered_map.specs.Holding.{slot_behind}
 use Rattle.order.specs.declared.load.LeafPlace.{LeafPlace}
 use Rattle.order.specs.declared.load.ReadLoad.{ReadLoad}

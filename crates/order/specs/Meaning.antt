@@ -1,8 +1,6 @@
 -- What an ordered read says to the machine that makes it.
 use Rattle.std.specs.Prelude.{ℕ, List}
-use Rattle.arena.specs.declared.number.NodeNo.{NodeNo}
-use Rattle.arena.specs.declared.word.Slot.{Slot}
-use Rattle.arena.specs.History.{History}
+use Rattle.histories.specs.Common.{NodeNo, Slot, History}
 use Rattle.ordered_map.specs.OrderedMap.{MapCall, MapReply}
 use Rattle.order.specs.declared.load.LeafPlace.{LeafPlace}
 use Rattle.order.specs.declared.read.Children.{Children}

@@ -1,21 +1,9 @@
 -- A search for the pair beside a key, as an ordered read.
 use Rattle.std.specs.Prelude.{◌≡◌, ◌⊎◌, ℕ, ◌+◌, ◌*◌, ◌^◌, ◌<◌, Bool, true, false, if◌then◌else◌, ◌==◌, nat_lt, nat_le, List, [], ◌∷◌, length, Option, Some, None}
 use Rattle.arena.specs.declared.head.Head.{Head as HeadParts}
-use Rattle.arena.specs.declared.number.NodeNo.{NodeNo}
-use Rattle.arena.specs.declared.word.Side.{Side}
+use Rattle.histories.specs.Common.{NodeNo, Side, Slot, First, marked, History, value, Call}
 use Rattle.arena.specs.declared.word.Side.TheVariants as sides
-use Rattle.arena.specs.declared.word.Slot.{Slot}
-use Rattle.arena.specs.declared.word.Slot.TheVariants.{First}
-use Rattle.arena.specs.Words.{marked}
-use Rattle.arena.specs.History.{History, value}
-use Rattle.arena.specs.Machines.{Call}
-use Rattle.prims.specs.declared.snap.Snap.{Snap}
-use Rattle.ordered_map.specs.declared.pair.Pair.{Pair as MapPair}
-use Rattle.ordered_map.specs.Holding.{end_slot}
-use Rattle.ordered_map.specs.OrderedMap.{MapCall, Neighbour as NeighbourOf, pair_or_none}
-use Rattle.ordered_map.specs.Paths.{IsOnPath}
-use Rattle.ordered_map.specs.TreeWords.{opposite, toward}
-use Rattle.template.specs.Trails.{IsOwnMoment}
+use Rattle.template.specs.Common.{Snap, Pair as MapPair, end_slot, MapCall, Neighbour as NeighbourOf, pair_or_none, IsOnPath, opposite, toward, IsOwnMoment}
 use Rattle.order.specs.Found.{AreThere, place_key, place_pair}
 use Rattle.order.specs.Loads.{first_in_leaf}
 use Rattle.order.specs.Meaning.{ReadMeaning}

@@ -1,10 +1,7 @@
 -- What an ordered read does next in its try, before it is at the place for it.
 use Rattle.std.specs.Prelude.{◌≡◌, ◌<◌, List, length, Result, Ok, Err}
-use Rattle.arena.specs.History.{History, value}
-use Rattle.arena.specs.Machines.{Call}
-use Rattle.prims.specs.declared.snap.Snap.{Snap}
-use Rattle.ordered_map.specs.TreeWords.{level}
-use Rattle.template.specs.Trails.{IsOwnMoment}
+use Rattle.histories.specs.Common.{History, value, Call}
+use Rattle.template.specs.Common.{Snap, level, IsOwnMoment}
 use Rattle.order.specs.Found.{IsAtLowFork, IsRightAt, Looks, Stands, StandsBefore, StandsIn, TakesPair, place_low}
 use Rattle.order.specs.Meaning.{ReadMeaning}
 use Rattle.order.specs.Reads.{Whenever}

@@ -2,8 +2,7 @@
 -- it needs fourteen of them at most.
 use Rattle.std.specs.Prelude.{◌≡◌, ℕ, ◌+◌, ◌*◌, ◌-◌, ◌<◌, ◌≤◌, false}
 use Rattle.arena.specs.declared.head.Head.{Head as HeadParts}
-use Rattle.arena.specs.Heads.{head_of}
-use Rattle.arena.specs.Words.{slot_no}
+use Rattle.histories.specs.Common.{head_of, slot_no}
 use Rattle.order.specs.Meaning.{ReadMeaning}
 use Rattle.order.specs.declared.load.LeafPlace.{LeafPlace}
 use Rattle.order.specs.declared.load.ReadLoad.{ReadLoad}

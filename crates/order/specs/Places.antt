@@ -1,12 +1,7 @@
 -- From place to place of an ordered read.
 use Rattle.std.specs.Prelude.{ℕ, ◌+◌, ◌≤◌, length, Result, Ok}
-use Rattle.arena.specs.declared.step.Step.{Step}
-use Rattle.arena.specs.declared.step.Kind.TheVariants.{LoadInfo, LoadMarked, LoadSettled}
-use Rattle.arena.specs.Words.{info, marked}
-use Rattle.arena.specs.History.{History}
-use Rattle.arena.specs.Machines.{Call, begun_at}
-use Rattle.prims.specs.Llx.Known.{load}
-use Rattle.prims.specs.Snap.{snap_at}
+use Rattle.histories.specs.Common.{Step, LoadInfo, LoadMarked, LoadSettled, info, marked, History, Call, begun_at}
+use Rattle.template.specs.Common.{load, snap_at}
 use Rattle.prims.specs.declared.llx.LlxAt.TheVariants.{Marked}
 use Rattle.order.specs.Known.{ReadGoes}
 use Rattle.order.specs.Loads.{load_word}

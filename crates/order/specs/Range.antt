@@ -1,21 +1,14 @@
 -- A range, as an ordered read.
 use Rattle.std.specs.Prelude.{ℕ, ◌+◌, ◌-◌, ◌*◌, ◌^◌, ◌<◌, ◌≤◌, List, length, reverse, Vec}
 use Rattle.std.specs.Global.{Global}
-use Rattle.arena.specs.declared.number.NodeNo.{NodeNo}
-use Rattle.arena.specs.History.{History, value}
-use Rattle.arena.specs.Machines.{Call}
-use Rattle.prims.specs.declared.snap.Snap.{Snap}
-use Rattle.ordered_map.specs.declared.pair.Pair.{Pair}
-use Rattle.ordered_map.specs.OrderedMap.{MapCall, Range as RangeOf, ManyPairs}
-use Rattle.ordered_map.specs.TreeWords.{rank}
-use Rattle.template.specs.Trails.{IsOwnMoment}
+use Rattle.histories.specs.Common.{NodeNo, History, value, Call, First}
+use Rattle.template.specs.Common.{Snap, Pair, MapCall, Range as RangeOf, ManyPairs, rank, IsOwnMoment}
 use Rattle.order.specs.Found.{AreThere}
 use Rattle.order.specs.Meaning.{ReadMeaning}
 use Rattle.order.specs.Paths.{path_left}
 use Rattle.order.specs.Reads.{HasStood, Whenever}
 use Rattle.order.specs.Visits.{Bounds, IsVisiting, IsVisitingIn, HasVisited, HasVisitedIn}
 use Rattle.order.specs.declared.load.LeafPlace.{LeafPlace}
-use Rattle.arena.specs.declared.word.Slot.TheVariants.{First}
 use Rattle.order.specs.declared.range.Range.{Range}
 use Rattle.order.specs.declared.read.Children.{Children}
 use Rattle.order.specs.declared.read.Children.TheVariants.{Left, Right, Both}

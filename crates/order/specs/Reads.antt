@@ -1,19 +1,10 @@
 -- What an ordered read knows all the way of its pass, of the snapshots of its try, and of nodes
 -- that it comes to.
 use Rattle.std.specs.Prelude.{◌≡◌, ℕ, ◌<◌, false, List, length}
-use Rattle.arena.specs.declared.layout.Layout.{Layout}
-use Rattle.arena.specs.Words.{info}
-use Rattle.arena.specs.History.{History, value, Extends}
-use Rattle.arena.specs.Log.{log, is_final}
-use Rattle.arena.specs.Machines.{Call}
+use Rattle.histories.specs.Common.{Layout, info, History, value, Extends, log, is_final, Call}
 use Rattle.prims.specs.Laws.Idle.{IsQuietSince}
 use Rattle.prims.specs.Laws.InTheWay.{HasBeen}
-use Rattle.prims.specs.Llx.Known.{IsSnapshot}
-use Rattle.prims.specs.Moments.{AreFinished}
-use Rattle.prims.specs.Snap.{snap_at}
-use Rattle.prims.specs.declared.snap.Snap.{Snap}
-use Rattle.ordered_map.specs.Paths.{WasInTree}
-use Rattle.ordered_map.specs.Runs.{IsTreeRun}
+use Rattle.template.specs.Common.{IsSnapshot, AreFinished, snap_at, Snap, WasInTree, IsTreeRun}
 
 -- the snapshot was right at a moment of the call
 pub record HasSnapped (c : Call) (h : History) (snap : Snap) : Type 0 where

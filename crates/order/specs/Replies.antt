@@ -1,13 +1,7 @@
 -- What an ordered read replies, and when it is contended.
 use Rattle.std.specs.Prelude.{◌≡◌, ℕ, suc, ◌⊎◌, List}
-use Rattle.arena.specs.History.{History, value, Extends}
-use Rattle.arena.specs.Machines.{Call, MatchTurn}
-use Rattle.arena.specs.declared.machine.Turn.{Turn}
-use Rattle.ordered_map.specs.declared.pair.Pair.{Pair}
-use Rattle.ordered_map.specs.OrderedMap.{MapCall, MapReply, reply}
-use Rattle.ordered_map.specs.Spelled.{Spells}
-use Rattle.template.specs.Blame.{IsContended}
-use Rattle.template.specs.Trails.{IsOwnMoment}
+use Rattle.histories.specs.Common.{History, value, Extends, Call, MatchTurn, Turn}
+use Rattle.template.specs.Common.{Pair, MapCall, MapReply, reply, Spells, IsContended, IsOwnMoment}
 
 -- at a moment of the call, from its first own row on, the words spell a map that replies this
 pub record IsReplyAt (c : Call) (h : History) (call : MapCall) (told : MapReply) : Type 0 where

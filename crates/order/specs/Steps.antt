@@ -1,12 +1,8 @@
 -- How many steps an ordered read may still ask for: three a node of its walk and five more at its
 -- leaf, and 67 a node of each path that it goes down with LLXs.
 use Rattle.std.specs.Prelude.{ℕ, ◌+◌, ◌*◌, ◌-◌, ◌<◌, length, Option, unwrap_or}
-use Rattle.arena.specs.Heads.{head_of}
-use Rattle.arena.specs.Machines.{MatchTurn}
-use Rattle.arena.specs.declared.machine.Turn.{Turn}
-use Rattle.prims.specs.Llx.Steps.{llx_left}
-use Rattle.prims.specs.Vlx.Steps.{vlx_left}
-use Rattle.template.specs.Walk.Steps.{walk_left, WalkFits}
+use Rattle.histories.specs.Common.{head_of, MatchTurn, Turn}
+use Rattle.template.specs.Common.{llx_left, vlx_left, walk_left, WalkFits}
 use Rattle.order.specs.Meaning.{ReadMeaning}
 use Rattle.order.specs.Paths.{HeadFits, LoadFits, load_left, path_left}
 use Rattle.order.specs.declared.run.ReadAt.{ReadAt}

@@ -1,11 +1,9 @@
 -- The tries of an ordered read: it begins one with the load of the root's head, and is in it from
 -- then on, until it begins the next.
 use Rattle.std.specs.Prelude.{ℕ}
-use Rattle.arena.specs.History.{History, Extends}
-use Rattle.arena.specs.Machines.{Call}
+use Rattle.histories.specs.Common.{History, Extends, Call}
 use Rattle.prims.specs.Laws.Idle.{IsQuietSince}
-use Rattle.ordered_map.specs.Tries.{IsNewestTry}
-use Rattle.template.specs.Tries.{MayTryNext}
+use Rattle.template.specs.Common.{IsNewestTry, MayTryNext}
 
 -- The call is about to begin a try, of `limit` in all, after which `left` will be left: it has lost
 -- all others. None of its pass's SCX-records was in progress since the call began.

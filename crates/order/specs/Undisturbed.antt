@@ -1,14 +1,8 @@
 -- What an ordered read answers and leaves that is a call by itself.
 use Rattle.std.specs.Prelude.{◌≡◌, ℕ, ◌<◌, List, Option, Result, Ok, Err, Vec}
 use Rattle.std.specs.Global.{Global}
-use Rattle.arena.specs.History.{History, value}
-use Rattle.arena.specs.Log.{log}
-use Rattle.arena.specs.Machines.{Call, MatchTurn}
-use Rattle.arena.specs.declared.machine.Turn.{Turn}
-use Rattle.arena.specs.declared.word.Side.{Side}
-use Rattle.ordered_map.specs.declared.pair.Pair.{Pair}
-use Rattle.ordered_map.specs.OrderedMap.{neighbour, range}
-use Rattle.ordered_map.specs.Spelled.{Spells}
+use Rattle.histories.specs.Common.{History, value, log, Call, MatchTurn, Turn, Side}
+use Rattle.template.specs.Common.{Pair, neighbour, range, Spells}
 use Rattle.order.specs.declared.refused.Refused.{Refused}
 use Rattle.order.specs.declared.refused.Refused.TheVariants.{Contended, NoMemory}
 

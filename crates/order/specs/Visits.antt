@@ -1,13 +1,8 @@
 -- How far the visits of a range have come, in the tree that the words show.
 use Rattle.std.specs.Prelude.{◌≡◌, ◌≢◌, ◌⊎◌, ℕ, ◌+◌, ◌-◌, ◌<◌, ◌≤◌, List, [], ◌∷◌, ◌++◌, length}
-use Rattle.arena.specs.declared.layout.Layout.{Layout}
-use Rattle.arena.specs.declared.number.NodeNo.{NodeNo}
-use Rattle.arena.specs.History.{History, value}
-use Rattle.ordered_map.specs.declared.pair.Pair.{Pair}
-use Rattle.ordered_map.specs.Holding.{held_from}
-use Rattle.ordered_map.specs.OrderedMap.{AllBelow, between, range}
-use Rattle.ordered_map.specs.Spelled.{IsTree, Spells}
-use Rattle.ordered_map.specs.TreeWords.{Tree, pairs}
+use Rattle.histories.specs.Common.{Layout, NodeNo, History, value}
+use Rattle.template.specs.Common.{Pair, held_from, AllBelow, between, range, IsTree, Spells, Tree}
+use Rattle.ordered_map.specs.TreeWords.{pairs}
 use Rattle.order.specs.Found.{place_key, more_at, pairs_behind}
 use Rattle.order.specs.Laws.Search.{IsPartAt}
 use Rattle.order.specs.declared.load.LeafPlace.{LeafPlace}

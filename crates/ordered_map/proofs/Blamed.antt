@@ -1,16 +1,7 @@
 -- A node that a walk has passed and that is final at the end: what finalized it was in the way of
 -- the walk's call.
 use Rattle.std.proofs.Common.{◌≡◌, ℕ, Bool, true, false, ◌||◌, inl, inr, refl, sym, ◌∙◌, ap, subst}
-use Rattle.arena.specs.declared.layout.Layout.{Layout}
-use Rattle.arena.specs.declared.step.Row.{Row}
-use Rattle.arena.specs.declared.word.ScxWord.TheVariants.{State}
-use Rattle.arena.specs.History.{History, Start, ◌⊳◌, Extends}
-use Rattle.arena.specs.ScxRecords.{member, count}
-use Rattle.arena.specs.Fills.{IsNamedScx}
-use Rattle.arena.specs.Lawful.{Lawful}
-use Rattle.arena.specs.Blame.{WasInTheWay}
-use Rattle.arena.specs.Log.{log, has, is_final, finalized_from}
-use Rattle.histories.specs.Finalizing.{IsRemoved}
+use Rattle.histories.specs.Common.{Layout, Row, State, History, Start, ◌⊳◌, Extends, member, count, IsNamedScx, Lawful, WasInTheWay, log, has, is_final, finalized_from, IsRemoved}
 use Rattle.histories.proofs.Lemmas.{Facts, IsFinalizedBy, Logs, UpdateWins, by_final, descriptor_stays, earlier, facts, facts_before, final_by, finalized_by_stays, is_removed_of, lawful_tail, logs, named_scx_more, one_finalizer, removed_stays, same, some_is_real, update_flagged, update_in_progress, update_keeps_scx, update_won, wins}
 
 -- at the row at which it becomes final

@@ -2,17 +2,7 @@
 -- since then.
 use Rattle.std.proofs.Common.{◌≡◌, ◌≢◌, ℕ, inl, inr, refl, sym, ◌∙◌, ap, subst}
 use native.Mathlib.Decide.{ℕ_discrete}
-use Rattle.arena.specs.declared.layout.Layout.{Layout}
-use Rattle.arena.specs.declared.step.Row.{Row}
-use Rattle.arena.specs.declared.word.Side.{Side}
-use Rattle.arena.specs.declared.word.NodeWord.TheVariants.{Child}
-use Rattle.arena.specs.declared.word.ScxWord.TheVariants.{State, Plan, Member}
-use Rattle.arena.specs.Words.{info, child}
-use Rattle.arena.specs.History.{History, Start, ◌⊳◌, value, Extends}
-use Rattle.arena.specs.ScxRecords.{field_index, member, plan, side_of}
-use Rattle.arena.specs.Fills.{IsNamed}
-use Rattle.arena.specs.Lawful.{Lawful}
-use Rattle.arena.specs.Blame.{WasInTheWay}
+use Rattle.histories.specs.Common.{Layout, Row, Side, Child, State, Plan, Member, info, child, History, Start, ◌⊳◌, value, Extends, field_index, member, plan, side_of, IsNamed, Lawful, WasInTheWay}
 use Rattle.arena.proofs.Lemmas.{node_apart, ends_self, ends_trans}
 use Rattle.histories.proofs.Lemmas.{Effect, Facts, UpdateWins, blame_info, earlier, effect, facts_before, freeze, freeze_keeps_field, lawful_tail, named_scx_more, named_since, quiet, update, update_about, update_flagged, update_holds, update_in_progress, update_keeps_info, update_keeps_other, update_keeps_scx}
 

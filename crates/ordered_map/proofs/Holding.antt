@@ -3,16 +3,7 @@
 use Rattle.std.proofs.Common.{◌≡◌, ◌≢◌, ℕ, zero, suc, ◌+◌, ◌*◌, ◌/◌, ◌%◌, ◌^◌, ◌<◌, ◌≤◌, true, cond, eqb, List, [], ◌∷◌, length, refl, sym, ◌∙◌, ap, arith, subst, lt-ltb, eq-eqb, ne_eqb}
 use Rattle.std.specs.Prelude.{map, Option, Some, None}
 use native.Mathlib.Decide.{ℕ_discrete}
-use Rattle.arena.specs.declared.word.NodeWord.{NodeWord}
-use Rattle.arena.specs.declared.word.NodeWord.TheVariants.{Settled}
-use Rattle.arena.specs.declared.word.SettledPart.TheVariants.{Head, More, Key, Value, High}
-use Rattle.arena.specs.declared.word.Side.{Side}
-use Rattle.arena.specs.declared.word.Side.TheVariants.{Left, Right}
-use Rattle.arena.specs.declared.word.Slot.{Slot}
-use Rattle.arena.specs.declared.word.Slot.TheVariants.{First, Second, Third, Fourth}
-use Rattle.arena.specs.declared.word.Word.{Word}
-use Rattle.arena.specs.Lawful.{IsSettled}
-use Rattle.arena.specs.Words.{node, first_key}
+use Rattle.histories.specs.Common.{NodeWord, Settled, Head, More, Key, Value, High, Side, Left, Right, Slot, First, Second, Third, Fourth, Word, IsSettled, node, first_key}
 use Rattle.ordered_map.specs.declared.pair.Pair.{Pair}
 use Rattle.ordered_map.specs.OrderedMap.{pair, AllBelow, AllFrom, IsRising, first_pair, last_pair, end_pair}
 use Rattle.ordered_map.specs.Holding.{slots, slots_from, slot_behind, end_slot, wide_value, pair_in, held_from, held_behind, held_pairs, IsWellCounted}

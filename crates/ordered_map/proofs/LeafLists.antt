@@ -3,13 +3,7 @@ use Rattle.std.proofs.Common.{◌≡◌, ℕ, ◌+◌, ◌<◌, inl, inr, List, 
 use Rattle.std.specs.Prelude.{Option, Some, None, IfNone, All, take, slice_index_or}
 use Rattle.std.proofs.lemmas.List.{take_more}
 use Rattle.std.proofs.lemmas.List.Elements.{All-cons, All-head, All-tail, All-append, All-weaker, All-nil, All-more}
-use Rattle.arena.specs.Layout.{all_nodes}
-use Rattle.arena.specs.PlainWords.{Contents, word_at}
-use Rattle.arena.specs.declared.word.NodeWord.TheVariants.{Settled}
-use Rattle.arena.specs.declared.word.SettledPart.TheVariants.{More}
-use Rattle.arena.specs.declared.word.Slot.{Slot}
-use Rattle.arena.specs.declared.word.Word.{Word}
-use Rattle.arena.specs.Words.{node}
+use Rattle.histories.specs.Common.{all_nodes, Contents, word_at, Settled, More, Slot, Word, node}
 use Rattle.ordered_map.specs.declared.pair.Pair.{Pair}
 use Rattle.ordered_map.specs.OrderedMap.{IsRising}
 use Rattle.ordered_map.specs.TreeWords.{class, leaf_pairs, Tree, Leaf, Fork, Shows, Has, pairs, leaf_nodes}

@@ -1,10 +1,7 @@
 -- The search for the next key on a side of k: the leaf of k, or else the end of what is beside the
 -- last fork at which the path of k turns away from that side.
-use Rattle.std.proofs.Common.{◌≡◌, ℕ, ◌<◌, ◌≤◌, Bool, true, false, ltb, ◌⊎◌, inl, inr, List, [], ◌∷◌, ◌++◌, refl, sym, ◌∙◌, ap, arith, lt-ltb, le-ltb, cond}
-use Rattle.std.specs.Prelude.{Option, Some, None, unwrap_or}
-use Rattle.arena.specs.declared.word.Side.{Side}
-use Rattle.arena.specs.declared.word.Side.TheVariants.{Left, Right}
-use Rattle.arena.specs.declared.word.Word.{Word}
+use Rattle.std.proofs.Common.{◌≡◌, ℕ, ◌<◌, ◌≤◌, Bool, true, false, ltb, ◌⊎◌, inl, inr, List, [], ◌∷◌, ◌++◌, refl, sym, ◌∙◌, ap, arith, lt-ltb, le-ltb, cond, Option, Some, None, unwrap_or}
+use Rattle.histories.specs.Common.{Side, Left, Right, Word}
 use Rattle.ordered_map.specs.declared.pair.Pair.{Pair}
 use Rattle.ordered_map.specs.OrderedMap.{pair, first_pair, last_pair, end_pair, successor, predecessor, neighbour, AllBelow, AllAbove}
 use Rattle.ordered_map.proofs.Holding.{first_item}

@@ -1,14 +1,7 @@
 -- Words are read part by part, and no tree is missed that they may show.
 use Rattle.std.proofs.Common.{◌≡◌, ◌≢◌, ℕ, suc, ◌+◌, ◌-◌, ◌*◌, ◌/◌, ◌%◌, ◌^◌, ◌<◌, ◌≤◌, true, false, inl, inr, List, [], ◌∷◌, ◌++◌, refl, sym, ◌∙◌, ap, arith, subst, append_assoc, append-nil, eq-eqb}
 use Rattle.std.specs.Prelude.{Option, Some, None}
-use Rattle.arena.specs.Layout.{all_nodes}
-use Rattle.arena.specs.Words.{node, child, first_key}
-use Rattle.arena.specs.declared.word.NodeWord.TheVariants.{Settled}
-use Rattle.arena.specs.declared.word.SettledPart.TheVariants.{Head, More}
-use Rattle.arena.specs.declared.word.Slot.{Slot}
-use Rattle.arena.specs.declared.word.Word.{Word}
-use Rattle.arena.specs.declared.word.Side.TheVariants.{Left, Right}
-use Rattle.arena.specs.PlainWords.{Contents, word_at}
+use Rattle.histories.specs.Common.{all_nodes, node, child, first_key, Settled, Head, More, Slot, Word, Left, Right, Contents, word_at}
 use Rattle.ordered_map.specs.declared.part.Part.{Part}
 use Rattle.ordered_map.specs.declared.part.Seen.TheVariants.{Leaf as LeafSeen, Nothing}
 use Rattle.ordered_map.specs.TreeWords.{class, level, rank, IsLeaf, Tree, Leaf, Fork, root, Shows, Has, leaf_nodes}

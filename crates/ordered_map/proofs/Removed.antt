@@ -1,21 +1,8 @@
 -- A node that an entry finalizes was in the tree, and is there no more.
 use Rattle.std.proofs.Common.{◌≡◌, ◌≢◌, ℕ, ◌/◌, ◌%◌, true, false, ◌⊎◌, inl, inr, ⊎_elim, refl, sym, ◌∙◌, ap, arith, eqb, subst}
 use native.Mathlib.Decide.{ℕ_discrete}
-use Rattle.arena.specs.declared.limits.Mode.{Mode}
-use Rattle.arena.specs.declared.word.Side.{Side}
-use Rattle.arena.specs.declared.word.NodeWord.TheVariants.{Settled, Child, Info}
-use Rattle.arena.specs.declared.word.SettledPart.TheVariants.{Head}
-use Rattle.arena.specs.declared.word.ScxWord.TheVariants.{Plan, New}
-use Rattle.arena.specs.declared.layout.Layout.{Layout}
-use Rattle.arena.specs.declared.step.Row.{Row}
-use Rattle.arena.specs.declared.step.Kind.TheVariants.{Freeze, Update}
-use Rattle.arena.specs.Layout.{opening_nodes}
-use Rattle.arena.specs.Words.{node, scx, info, child}
-use Rattle.arena.specs.History.{History, Start, ◌⊳◌, value, HasHeld}
-use Rattle.arena.specs.ScxRecords.{count, count_of, field_index, member, new, side_of, plan}
-use Rattle.arena.specs.Fills.{IsNamed, by_field, by_scx, IsNamedScx}
-use Rattle.arena.specs.Lawful.{MayBegin, HasWon}
-use Rattle.arena.specs.Log.{log, has, is_final, finalized_from}
+use Rattle.histories.specs.Common.{Mode, Side, Settled, Child, Info, Head, Plan, New, Layout, Row, Freeze, Update, opening_nodes, node, scx, info, child, History, Start, ◌⊳◌, value, HasHeld}
+use Rattle.histories.specs.Common.{count, count_of, field_index, member, new, side_of, plan, IsNamed, by_field, by_scx, IsNamedScx, MayBegin, HasWon, log, has, is_final, finalized_from}
 use Rattle.arena.proofs.Lemmas.{value_apart, held_at, held_back, held_since, held_start, opening_info, node_apart, node_word_apart, or_split}
 use Rattle.histories.proofs.Lemmas.{Effect, Facts, FreezeWins, Kept, Logs, UpdateWins, effect, freeze, freeze_held, freeze_keeps_field, freeze_keeps_scx, is_removed_of, log_same, log_wins, logs, node_stays, quiet, same, shaped_begin, some_is_real, update, update_flagged, update_held, update_is_first, update_keeps_other, update_keeps_scx, update_won, wins, won_more}
 use Rattle.ordered_map.specs.OrderedMap.{MapEdit}

@@ -2,16 +2,7 @@
 -- be named for each; where more than one would do, any.
 use Rattle.std.proofs.Common.{◌≡◌, ℕ, true, false, cond, eqb, eq-eqb, ne_eqb, inl, inr, refl, sym, ◌∙◌, ap, arith, subst}
 use native.Mathlib.Decide.{ℕ_discrete}
-use Rattle.arena.specs.declared.limits.Mode.{Mode}
-use Rattle.arena.specs.declared.layout.Layout.{Layout}
-use Rattle.arena.specs.declared.step.Row.{Row}
-use Rattle.arena.specs.declared.step.Kind.TheVariants.{Freeze, Update}
-use Rattle.arena.specs.Words.{info}
-use Rattle.arena.specs.History.{History, Start, ◌⊳◌, HasHeld, Extends}
-use Rattle.arena.specs.ScxRecords.{member}
-use Rattle.arena.specs.Fills.{IsNamedScx}
-use Rattle.arena.specs.Lawful.{Lawful}
-use Rattle.arena.specs.Shape.{IsBegin, Shaped}
+use Rattle.histories.specs.Common.{Mode, Layout, Row, Freeze, Update, info, History, Start, ◌⊳◌, HasHeld, Extends, member, IsNamedScx, Lawful, IsBegin, Shaped}
 use Rattle.arena.proofs.Lemmas.{value_at, held_at, held_since}
 use Rattle.histories.proofs.Lemmas.{Effect, begins_once, effect, facts_before, freeze, lawful_row, lawful_tail, quiet, shaped_begin, shaped_tail, update}
 use Rattle.ordered_map.specs.OrderedMap.{MapEdit, Delete}

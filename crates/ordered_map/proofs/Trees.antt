@@ -1,12 +1,6 @@
 -- One word of a shown tree is changed, and the words show another tree.
 use Rattle.std.proofs.Common.{◌≡◌, ◌≢◌, ℕ, ◌+◌, ◌*◌, ◌/◌, ◌%◌, ◌^◌, ◌<◌, ◌≤◌, Bool, true, false, cond, ◌⊎◌, inl, inr, ⊎_elim, List, [], ◌∷◌, ◌++◌, refl, sym, ◌∙◌, ap, arith, eqb, ltb, lt-ltb, le-ltb, ne_eqb, subst}
-use Rattle.arena.specs.declared.word.Side.{Side}
-use Rattle.arena.specs.declared.word.Side.TheVariants.{Left, Right}
-use Rattle.arena.specs.declared.word.NodeWord.{NodeWord}
-use Rattle.arena.specs.declared.word.NodeWord.TheVariants.{Settled, Child}
-use Rattle.arena.specs.declared.word.SettledPart.TheVariants.{Head}
-use Rattle.arena.specs.declared.word.Word.{Word}
-use Rattle.arena.specs.Words.{node, child, same_word, first_key}
+use Rattle.histories.specs.Common.{Side, Left, Right, NodeWord, Settled, Child, Head, Word, node, child, same_word, first_key}
 use Rattle.arena.proofs.Lemmas.{node_word_apart, node_apart}
 use Rattle.histories.proofs.Lemmas.{IsNodeFill}
 use Rattle.ordered_map.specs.declared.pair.Pair.{Pair}

@@ -1,8 +1,7 @@
 -- What a call of the map may do, whoever makes it: how many steps and of which kinds, what it takes
 -- of its pass's share, what it needs, and which form its reply has.
 use Rattle.std.specs.Prelude.{if◌then◌else◌, ◌≡◌, ◌≢◌, ◌⊎◌, ℕ, ◌+◌, ◌*◌, ◌<◌, List, Option, Some, None}
-use Rattle.arena.specs.declared.step.Kind.{Kind}
-use Rattle.arena.specs.declared.step.Kind.TheVariants.{Fill, LoadChild, LoadSettled}
+use Rattle.histories.specs.Common.{Kind, Fill, LoadChild, LoadSettled}
 use Rattle.ordered_map.specs.declared.pair.Pair.{Pair as PairOf}
 use Rattle.ordered_map.specs.declared.reply.Reply.{Reply}
 use Rattle.ordered_map.specs.declared.reply.Reply.TheVariants as replies

@@ -1,11 +1,6 @@
 -- The edits of the tree, as facts on the words of nodes, by the lists of pairs that leaves hold.
 use Rattle.std.specs.Prelude.{◌≡◌, ◌≢◌, ℕ, ◌+◌, ◌^◌, true, false, ◌⊎◌, [], ◌++◌}
-use Rattle.arena.specs.declared.word.Side.{Side}
-use Rattle.arena.specs.declared.word.Side.TheVariants.{Left, Right}
-use Rattle.arena.specs.declared.word.NodeWord.TheVariants.{Settled}
-use Rattle.arena.specs.declared.word.SettledPart.TheVariants.{Head}
-use Rattle.arena.specs.declared.word.Word.{Word}
-use Rattle.arena.specs.Words.{node, child, first_key}
+use Rattle.histories.specs.Common.{Side, Left, Right, Settled, Head, Word, node, child, first_key}
 use Rattle.ordered_map.specs.OrderedMap.{MapEdit, edited, AllBelow, AllFrom}
 use Rattle.ordered_map.specs.Holding.{held_pairs, IsWellCounted}
 use Rattle.ordered_map.specs.TreeWords.{class, is_leaf, level, rank, leaf_items}

@@ -1,13 +1,7 @@
 -- Which nodes fields have named, how the levels of such forks rise, and in which order machines
 -- fill the words of nodes so that they do: the table of kinds leaves that open.
 use Rattle.std.specs.Prelude.{◌≡◌, ℕ, ◌/◌, ◌%◌, ◌<◌, true, false, ◌⊎◌, ◌==◌, IsTrue}
-use Rattle.arena.specs.declared.word.Side.{Side}
-use Rattle.arena.specs.declared.word.NodeWord.TheVariants.{Settled}
-use Rattle.arena.specs.declared.word.SettledPart.TheVariants.{Head}
-use Rattle.arena.specs.declared.step.Kind.TheVariants.{Fill}
-use Rattle.arena.specs.declared.step.Row.{Row}
-use Rattle.arena.specs.Words.{node, child}
-use Rattle.arena.specs.History.{History, Start, ◌⊳◌, value, HasHeld}
+use Rattle.histories.specs.Common.{Side, Settled, Head, Fill, Row, node, child, History, Start, ◌⊳◌, value, HasHeld}
 use Rattle.ordered_map.specs.TreeWords.{is_leaf, level}
 use Rattle.ordered_map.specs.Paths.{WasInTree}
 

@@ -1,14 +1,7 @@
 -- What the words of a leaf hold: which words hold its pairs is written here alone. One file of
 -- proofs opens this; all others use the lemmas of that file.
 use Rattle.std.specs.Prelude.{ℕ, zero, suc, ◌+◌, ◌*◌, ◌^◌, ◌<◌, if◌then◌else◌, nat_lt, List, [], ◌∷◌, map, Option, Some, None}
-use Rattle.arena.specs.declared.word.NodeWord.TheVariants.{Settled}
-use Rattle.arena.specs.declared.word.SettledPart.TheVariants.{More, Key, Value, High}
-use Rattle.arena.specs.declared.word.Side.{Side}
-use Rattle.arena.specs.declared.word.Side.TheVariants.{Left, Right}
-use Rattle.arena.specs.declared.word.Slot.{Slot}
-use Rattle.arena.specs.declared.word.Slot.TheVariants.{First, Second, Third, Fourth}
-use Rattle.arena.specs.declared.word.Word.{Word}
-use Rattle.arena.specs.Words.{node}
+use Rattle.histories.specs.Common.{Settled, More, Key, Value, High, Side, Left, Right, Slot, First, Second, Third, Fourth, Word, node}
 use Rattle.ordered_map.specs.declared.pair.Pair.{Pair}
 use Rattle.ordered_map.specs.OrderedMap.{pair}
 

@@ -1,8 +1,6 @@
 -- Parts of the tree that words may show, and what leaves hold: what the reader of words needs.
 use Rattle.std.specs.Prelude.{◌≡◌, ℕ, suc, ◌+◌, ◌-◌, ◌*◌, ◌^◌, ◌<◌, ◌≤◌, true, false, List, [], ◌∷◌, ◌++◌, All}
-use Rattle.arena.specs.Layout.{all_nodes}
-use Rattle.arena.specs.PlainWords.{Contents, word_at}
-use Rattle.arena.specs.Words.{node, first_key}
+use Rattle.histories.specs.Common.{all_nodes, Contents, word_at, node, first_key}
 use Rattle.ordered_map.specs.declared.part.Part.{Part}
 use Rattle.ordered_map.specs.declared.part.Seen.{Seen}
 use Rattle.ordered_map.specs.declared.part.Seen.TheVariants.{Leaf as LeafSeen, Fork as ForkSeen, Nothing}

@@ -1,8 +1,6 @@
 -- What map the words spell: they show an ordered tree, whose leaves hold the pairs.
 use Rattle.std.specs.Prelude.{◌≡◌, ℕ, ◌*◌, ◌^◌, ◌<◌, List, [], ◌∷◌, ◌++◌, All}
-use Rattle.arena.specs.declared.word.Word.{Word}
-use Rattle.arena.specs.declared.layout.Layout.{Layout}
-use Rattle.arena.specs.Layout.{all_nodes}
+use Rattle.histories.specs.Common.{Word, Layout, all_nodes}
 use Rattle.ordered_map.specs.declared.pair.Pair.{Pair}
 use Rattle.ordered_map.specs.OrderedMap.{IsRising}
 use Rattle.ordered_map.specs.TreeWords.{class, Tree, root, Shows, Has, pairs, leaf_nodes}

@@ -1,11 +1,6 @@
 -- What the settled words of a node say, and the tree of nodes that words show.
 use Rattle.std.specs.Prelude.{◌≡◌, ◌≢◌, ℕ, ◌+◌, ◌*◌, ◌/◌, ◌%◌, ◌^◌, ◌<◌, ◌≤◌, Bool, true, false, if◌then◌else◌, ◌==◌, nat_lt, ◌⊎◌, List, [], ◌∷◌, ◌++◌, Option}
-use Rattle.arena.specs.declared.word.Side.{Side}
-use Rattle.arena.specs.declared.word.Side.TheVariants.{Left, Right}
-use Rattle.arena.specs.declared.word.NodeWord.TheVariants.{Settled}
-use Rattle.arena.specs.declared.word.SettledPart.TheVariants.{Head}
-use Rattle.arena.specs.declared.word.Word.{Word}
-use Rattle.arena.specs.Words.{node, child, first_key}
+use Rattle.histories.specs.Common.{Side, Left, Right, Settled, Head, Word, node, child, first_key}
 use Rattle.ordered_map.specs.declared.pair.Pair.{Pair}
 use Rattle.ordered_map.specs.OrderedMap.{pair, AllBelow, AllFrom, IsRising, end_pair, get}
 use Rattle.ordered_map.specs.Holding.{held_pairs, IsWellCounted}

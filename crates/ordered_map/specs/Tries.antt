@@ -2,14 +2,7 @@
 -- makes nowhere else: so a history shows how many tries a pass has
 -- begun, and where the newest began.
 use Rattle.std.specs.Prelude.{◌≡◌, ℕ, suc, ◌+◌, Bool, true, false, if◌then◌else◌, ◌&&◌, ◌==◌}
-use Rattle.arena.specs.declared.step.Row.{Row}
-use Rattle.arena.specs.declared.step.Kind.{Kind}
-use Rattle.arena.specs.declared.step.Kind.TheVariants.{LoadSettled}
-use Rattle.arena.specs.declared.word.NodeWord.TheVariants.{Settled}
-use Rattle.arena.specs.declared.word.SettledPart.TheVariants.{Head}
-use Rattle.arena.specs.Blame.{WasInTheWay}
-use Rattle.arena.specs.History.{History, Start, ◌⊳◌, Extends}
-use Rattle.arena.specs.Words.{node, same_word}
+use Rattle.histories.specs.Common.{Row, Kind, LoadSettled, Settled, Head, WasInTheWay, History, Start, ◌⊳◌, Extends, node, same_word}
 
 -- whether a step of this kind loads a settled word
 abbrev pub is_settled_load : Kind → Bool

@@ -1,74 +1,46 @@
 -- What calls need to begin.
 use Rattle.std.proofs.Common.{Vec, ◌≡◌, ◌≢◌, ℕ, suc, ◌+◌, ◌<◌, ◌≤◌, inl, List, Option, Some, None, refl, sym, ◌∙◌, ap, subst, arith, length, zero, [], ◌∷◌, ◌⊎◌, ⊎_elim, slice_index_or, slice_get, get_or, unwrap_or, nat_lt, map, AllPairs, Contains, MatchOption, Bool, true, false, All}
-use Rattle.script.specs.Commands.{mode_of}
-use Rattle.arena.specs.declared.limits.Mode.{Mode}
-use Rattle.arena.specs.declared.limits.Mode.TheVariants.{Records, Tree}
-use Rattle.arena.specs.History.{History, value, Extends}
+use Rattle.record.specs.Common.{mode_of, cells_of, update_cells, update_finalize, update_field, update_value, AreLinked, Command, Llx as LlxCommand, Vlx as VlxCommand}
+use Rattle.record.specs.Common.{Scx as ScxCommand, Set as SetCommand, Map, Range as RangeCommand, command_steps, MapCall, map_request, Request, Call, Pairs}
+use Rattle.histories.specs.Common.{Mode, Records, Tree, History, value, Extends, NodeNo, Side, Remaining, IsOwnScx, IsTakenScx, Call as MachineCall}
 use Rattle.arena.proofs.Lemmas.{ends_self}
-use Rattle.prims.specs.Cells.{AllowsAll}
+use Rattle.template.specs.Common.{AllowsAll, AreDistinct, IsAmong, Snap, llx_left, vlx_left, snap_at, LlxRun, VlxRun, AreFinished, most_steps as most_map_steps, nodes_of}
 use Rattle.prims.proofs.Lemmas.{ready_at_start, cell_opened, all_over, all_idle, vlx_ready_first, among}
-use Rattle.script.specs.Cells.{cells_of}
-use Rattle.script.specs.Update.{update_cells, update_finalize, update_field, update_value}
-use Rattle.arena.specs.declared.number.NodeNo.{NodeNo}
-use Rattle.arena.specs.declared.word.Side.{Side}
 use Rattle.player.specs.declared.kept.KeptSnapshot.{KeptSnapshot}
-use Rattle.record.specs.Snapshots.{AreLinked}
 use Rattle.player.specs.KeptSnaps.{AllKept, IsFirstUnkept, IsUnspent, kept_of}
 use Rattle.player.proofs.EachCall.{few_pairs}
 use Rattle.player.proofs.Over.{either, taken_nothing, taken_none}
 use Rattle.player.proofs.Ends.{among_none, are_linked}
 use Rattle.player.proofs.Putting.{full_answer}
-use Rattle.prims.specs.Snaps.{AreDistinct, IsAmong}
-use Rattle.prims.specs.declared.snap.Snap.{Snap}
-use Rattle.prims.specs.Llx.Steps.{llx_left}
-use Rattle.prims.specs.Vlx.Steps.{vlx_left}
-use Rattle.script.specs.Cells.{cells_of}
 use Rattle.std.proofs.Math.Logic.{∥∥₁_elim}
 use Rattle.std.proofs.lemmas.List.{length-map}
 use Rattle.player.proofs.Snapshots.{has_snap, snap_there, snap_found, kept_linked, first_unlinked}
-use Rattle.prims.specs.Snap.{snap_at}
-use Rattle.prims.specs.declared.llx.LlxRun.{LlxRun}
 use Rattle.prims.specs.declared.llx.LlxAt.TheVariants.{Start}
-use Rattle.prims.specs.declared.vlx.VlxRun.{VlxRun}
-use Rattle.script.specs.declared.command.Command.{Command}
-use Rattle.script.specs.declared.command.Command.TheVariants.{Llx as LlxCommand, Vlx as VlxCommand, Scx as ScxCommand, Set as SetCommand, Map}
-use Rattle.ordered_map.specs.declared.request.Request.TheVariants.{Range as RangeCommand}
 use Rattle.player.specs.declared.run.Run.{Run}
 use Rattle.player.specs.declared.run.Run.TheVariants.{Llx, Scx, Vlx, Map as MapRun}
 use Rattle.player.specs.declared.client.Client.{Client}
 use Rattle.player.specs.declared.client.SetField.{SetField}
 use Rattle.record.specs.declared.record.Answer.{Answer}
 use Rattle.record.specs.declared.record.Answer.TheVariants.{Unlinked, Map as MapAnswer}
-use Rattle.record.specs.CommandRules.{command_steps}
-use Rattle.arena.specs.Share.{Remaining}
-use Rattle.arena.specs.Fills.{IsOwnScx, IsTakenScx}
-use Rattle.prims.specs.Moments.{AreFinished}
-use Rattle.arena.specs.Machines.{Call as MachineCall}
 use Rattle.edits.specs.Known.{RestsWith}
 use Rattle.edits.specs.Laws.Entered.{none_yet}
 use Rattle.dict.specs.Laws.Begins.{dict_begins}
 use Rattle.dict.specs.Calls.{AsksForPairs, IsFewCall, call_in, share_of}
 use Rattle.dict.specs.Known.{IsUnbegun as IsFresh}
-use Rattle.ordered_map.specs.CallRules.{most_steps as most_map_steps}
 use Rattle.dict.specs.Steps.{map_left}
 use Rattle.dict.specs.Typed.{IsTypedCall}
 use Rattle.dict.specs.declared.dict.DictRun.{DictRun}
-use Rattle.ordered_map.specs.OrderedMap.{MapCall}
-use Rattle.ordered_map.specs.Requests.{AsksForFew, map_request}
-use Rattle.ordered_map.specs.declared.request.Request.{Request}
+use Rattle.ordered_map.specs.Requests.{AsksForFew}
 use Rattle.dict.specs.Words.{IsNumber, IsWideNumber}
 use Rattle.player.specs.RunKnown.{IsForNothing, RunAsksFirst}
 use Rattle.player.proofs.Shapes.{as_numbers}
 use Rattle.player.specs.RunSteps.{then_left}
-use Rattle.prims.specs.Scx.Known.{nodes_of}
 use Rattle.player.specs.ClientView.{ClientView, no_hand, held, IsSound, Rests, Refuses, Starts, IsLlxOf, IsMachineOf, IsNextCallUnbegun, command_of, machine_call, GoesOn, IsSameCall, CanPut, Puts, BeginsOrRefuses, IsNextAction}
 use Rattle.player.specs.declared.client.NextAction.{NextAction}
 use Rattle.player.specs.declared.client.NextAction.TheVariants.{Finished, Answers, Asks}
-use Rattle.script.specs.declared.call.Call.{Call}
 use Rattle.std.proofs.lemmas.Option.{slice_get_read, slice_get_within, get_or_from_slice_get}
 use Rattle.player.proofs.Commands.{next_at}
 use Rattle.std.specs.Global.{Global}
-use Rattle.ordered_map.specs.declared.reply.Reply.TheVariants.{Pairs}
 
 none_late : (won : Option ℕ) (turn begin : ℕ) → won ≡ None → won ≡ Some turn → begin ≤ turn
 none_late won turn begin e d = cc

@@ -3,46 +3,26 @@
 -- crate speak of any call.
 use Rattle.std.proofs.Common.{◌≡◌, ℕ, ◌<◌, ◌⊎◌, inl, inr, Bool, true, false, cond, is_some, ◌↔◌, List, Option, Some, None, refl, sym, ◌∙◌, ap, subst, arith}
 use Rattle.std.specs.Option.{option_map}
-use Rattle.arena.specs.declared.fault.Full.{Full as FullOf}
-use Rattle.arena.specs.declared.layout.Layout.{Layout}
-use Rattle.arena.specs.declared.word.Side.{Side}
-use Rattle.arena.specs.declared.word.Side.TheVariants.{Left, Right}
-use Rattle.arena.specs.History.{History, value, Extends}
-use Rattle.arena.specs.Machines.{Call as MachineCall}
-use Rattle.arena.specs.Share.{Remaining}
+use Rattle.histories.specs.Common.{Full as FullOf, Layout, Side, History, value, Extends, Call as MachineCall, Remaining}
 use Rattle.arena.proofs.Lemmas.{ends_trans}
 use Rattle.histories.proofs.Lemmas.{entry_of}
-use Rattle.ordered_map.specs.CallRules.{IsFormOfEdit, MayReply, form_of, need}
-use Rattle.ordered_map.specs.OrderedMap.{MapCall, MapEdit, MapReply, OneValue, OnePair, ManyPairs, Edit, Insert, Delete, Get, Neighbour, Range, applies, changes_map, edit_key, edit_of, edit_to, end_pair, get, leaves, pair_or_none, reply}
-use Rattle.ordered_map.specs.declared.rule.Goal.{Goal}
-use Rattle.ordered_map.specs.declared.rule.Goal.TheVariants.{Key, End}
-use Rattle.ordered_map.specs.declared.rule.Rule.{Rule}
-use Rattle.ordered_map.specs.Paths.{IsAnswerAt}
-use Rattle.ordered_map.specs.Replies.{number_reply, word_pair}
-use Rattle.ordered_map.specs.Requests.{AsksForFew, key_told, map_request, tells_change}
-use Rattle.ordered_map.specs.Runs.{Makes}
+use Rattle.record.specs.Common.{need, MapCall, MapEdit, MapReply, OneValue, ManyPairs, Edit, changes_map, edit_key, edit_of, edit_to, get, leaves, pair_or_none}
+use Rattle.record.specs.Common.{reply, Goal, Key, End, number_reply, word_pair, map_request, tells_change, Makes, Spells, Pair, Reply, Value, Pairs, Contended, Full}
+use Rattle.record.specs.Common.{NoMemory, Request, Range as RangeOf, Call, Command, Map, HasLostAllTries, IsRight, number_pairs, reply_told, IsMapEntry, HasReplied}
+use Rattle.template.specs.Common.{MayReply, form_of, OnePair, Insert, Delete, Get, Neighbour, Range, applies, end_pair, Rule, IsAnswerAt}
+use Rattle.ordered_map.specs.CallRules.{IsFormOfEdit}
+use Rattle.ordered_map.specs.Requests.{AsksForFew, key_told}
 use Rattle.ordered_map.proofs.Lemmas.{end_had}
-use Rattle.ordered_map.specs.Spelled.{Spells}
-use Rattle.ordered_map.specs.declared.pair.Pair.{Pair}
-use Rattle.ordered_map.specs.declared.reply.Reply.{Reply}
-use Rattle.ordered_map.specs.declared.reply.Reply.TheVariants.{Value, Pair as PairOf, Pairs, Contended, Full, NoMemory}
-use Rattle.ordered_map.specs.declared.request.Request.{Request}
-use Rattle.ordered_map.specs.declared.request.Request.TheVariants.{Get as GetOf, Range as RangeOf}
+use Rattle.ordered_map.specs.declared.reply.Reply.TheVariants.{Pair as PairOf}
+use Rattle.ordered_map.specs.declared.request.Request.TheVariants.{Get as GetOf}
 use Rattle.edits.specs.Known.{RestsWith, IsUntouched}
 use Rattle.dict.specs.Calls.{AsksForPairs, IsFewCall}
 use Rattle.dict.specs.DictKnown.{DictRefuses}
 use Rattle.dict.specs.Says.{HasLost, HasNeeded, HasReadMap, HasRunOut, HasTold, HasToldBy, TellsOfMap}
-use Rattle.script.specs.declared.call.Call.{Call}
-use Rattle.script.specs.declared.command.Command.{Command}
-use Rattle.script.specs.declared.command.Command.TheVariants.{Map}
 use Rattle.record.specs.declared.record.Line.{Line}
 use Rattle.record.specs.declared.record.Answer.{Answer}
 use Rattle.record.specs.declared.record.Answer.TheVariants.{Map as MapAnswer}
-use Rattle.record.specs.Answers.{HasLostAllTries}
-use Rattle.record.specs.CommandRules.{IsRight}
-use Rattle.record.specs.MapRecord.{number_pairs, reply_told}
-use Rattle.record.specs.Rules.Map.{IsMapEntry, map_rules}
-use Rattle.record.specs.Replied.{HasReplied}
+use Rattle.record.specs.Rules.Map.{map_rules}
 use Rattle.record.specs.Rules.Edit.{EditIsRight, EditTells, HadToChange, HasChangedOrReplied}
 use Rattle.record.specs.Shares.{HasTooFew, HasTooFewToTry, WasBlocked}
 use Rattle.record.proofs.Lemmas.{value_told}

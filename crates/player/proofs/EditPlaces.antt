@@ -1,34 +1,18 @@
 -- Where a call of the map took place that has changed it: at its one entry, and it answers what the
 -- map had just before. One that is refused took place nowhere.
 use Rattle.std.proofs.Common.{◌≡◌, ℕ, suc, ◌⊎◌, inl, inr, ⊎_elim, Bool, true, false, cond, ◌&&◌, ◌||◌, eqb, eqb-true, eq-eqb, ne_eqb, is_some, List, [], ◌∷◌, ◌++◌, Option, Some, None, refl, sym, ◌∙◌, ap, subst}
-use Rattle.arena.specs.declared.limits.Mode.TheVariants.{Tree}
-use Rattle.arena.specs.declared.layout.Layout.{Layout}
-use Rattle.arena.specs.declared.step.Row.{Row}
-use Rattle.arena.specs.History.{History, Start, ◌⊳◌, value, Extends}
-use Rattle.arena.specs.Fills.{IsOwnScx}
-use Rattle.arena.specs.Lawful.{Lawful, IsWin}
-use Rattle.arena.specs.Machines.{IsRun}
+use Rattle.histories.specs.Common.{Tree, Layout, Row, History, Start, ◌⊳◌, value, Extends, IsOwnScx, Lawful, IsWin, IsRun}
 use Rattle.histories.proofs.Lemmas.{UpdateWins, lawful_row, one_scx_owner}
-use Rattle.ordered_map.specs.OrderedMap.{MapCall, MapReply}
-use Rattle.ordered_map.specs.Spelled.{Spells}
+use Rattle.record.specs.Common.{MapCall, MapReply, Spells, Call, Command, HasItsEntry, enters, IsRight, AreLines, linked, map_of, written_log}
+use Rattle.record.specs.Common.{entries_of_call, reply_told, next_command, AreSpelled, history, turns, answered, begin, start, won, entry_owed, client_of}
 use Rattle.edits.specs.Laws.Entered.{none_yet}
-use Rattle.script.specs.declared.call.Call.{Call}
-use Rattle.script.specs.declared.command.Command.{Command}
 use Rattle.record.specs.declared.record.Line.{Line}
 use Rattle.record.specs.declared.record.Line.TheVariants.{Step, Log, Reply as ReplyLine}
 use Rattle.record.specs.declared.record.TurnRow.{TurnRow as Turn}
 use Rattle.record.specs.declared.record.TurnRow.TheVariants.{Step as Made, Idle}
 use Rattle.record.specs.declared.record.Entry.{Entry}
 use Rattle.record.specs.declared.record.Finished.{Finished}
-use Rattle.record.specs.Answers.{HasItsEntry}
-use Rattle.record.specs.CommandRules.{enters, IsRight}
-use Rattle.record.specs.LawfulRun.{AreLines}
-use Rattle.record.specs.Linked.{linked}
-use Rattle.record.specs.MapRecord.{map_of, written_log, entries_of_call, reply_told}
-use Rattle.record.specs.Commands.{next_command}
 use Rattle.record.specs.Placed.{IsPlacedChange, IsRefused}
-use Rattle.record.specs.SpelledMap.{AreSpelled}
-use Rattle.record.specs.Turns.{history, turns, answered, begin, start, won, entry_owed, client_of}
 use Rattle.player.specs.Allowed.{PlayedAllows}
 use Rattle.linearization.specs.declared.places.Change.{Change}
 use Rattle.player.specs.Moments.{IsMomentBy}

@@ -1,32 +1,17 @@
 -- A call of the map that runs: what its SCX-record in progress says, and the word `call` that it
 -- fills.
 use Rattle.std.proofs.Common.{◌≡◌, ℕ, ◌<◌, inr, List, Option, Some, None, refl, sym, ◌∙◌, ap, subst, arith}
-use Rattle.arena.specs.declared.layout.Layout.{Layout}
-use Rattle.arena.specs.declared.step.Row.{Row}
-use Rattle.arena.specs.declared.step.Step.{Step}
-use Rattle.arena.specs.declared.step.Kind.TheVariants.{Fill as FillKind, LoadSettled}
-use Rattle.arena.specs.declared.word.ScxWord.{ScxWord}
-use Rattle.arena.specs.declared.word.Word.{Word}
+use Rattle.histories.specs.Common.{Layout, Row, Step, Fill as FillKind, LoadSettled, ScxWord, Word, scx as scx_word, word_after, History, ◌⊳◌}
+use Rattle.histories.specs.Common.{value, Extends, IsInProgress, count_of, IsOwnScx, IsNamedScx, Lawful, IsWin, Call as MachineCall, begun_at}
 use Rattle.arena.specs.declared.word.ScxWord.TheVariants.{Call as CallWord}
-use Rattle.arena.specs.Words.{scx as scx_word, word_after}
-use Rattle.arena.specs.History.{History, ◌⊳◌, value, Extends}
-use Rattle.arena.specs.Blame.{IsInProgress}
-use Rattle.arena.specs.ScxRecords.{count_of}
-use Rattle.arena.specs.Fills.{IsOwnScx, IsNamedScx}
-use Rattle.arena.specs.Lawful.{Lawful, IsWin}
-use Rattle.arena.specs.Machines.{Call as MachineCall, begun_at}
 use Rattle.arena.proofs.Lemmas.{ends_self}
 use Rattle.help.specs.Laws.Help.Lawful.{help_fills_not}
 use Rattle.histories.proofs.Lemmas.{node_since}
-use Rattle.prims.specs.Cells.{AllowsAll}
+use Rattle.template.specs.Common.{AllowsAll, Job, job_of, ScxWaitsAt, PutRun, ScxAt, ScxRun as ScxMachine, Snap, goal_told, asked_in, asked_key, path_key, HasFoundGoal, Tracks}
 use Rattle.prims.specs.Put.Known.{PutWaitsAt}
-use Rattle.prims.specs.Scx.Known.{Job, job_of, HasFilled, ScxWaitsAt, part_at, fill_step}
-use Rattle.prims.specs.declared.put.PutRun.{PutRun}
+use Rattle.prims.specs.Scx.Known.{HasFilled, part_at, fill_step}
 use Rattle.prims.specs.declared.put.PutAt.{PutAt}
 use Rattle.prims.specs.declared.put.PutAt.TheVariants.{Start as PutStart, Fill as PutFill, Scx as PutScx}
-use Rattle.prims.specs.declared.scx.ScxAt.{ScxAt}
-use Rattle.prims.specs.declared.scx.ScxRun.{ScxRun as ScxMachine}
-use Rattle.prims.specs.declared.snap.Snap.{Snap}
 use Rattle.prims.specs.declared.scx.ScxAt.TheVariants.{Start as ScxStart, Help}
 use Rattle.prims.proofs.Lemmas.{llx_fills_not, vlx_fills_not, own_in_hand}
 use Rattle.dict.specs.Calls.{inner_call, inner_share}
@@ -35,18 +20,11 @@ use Rattle.dict.specs.Goals.{leaf_told}
 use Rattle.dict.specs.Inner.{InnerRun, Update, Get, Read, edit_means, inner}
 use Rattle.dict.specs.Laws.Kinds.{edit_at_found, edit_changes}
 use Rattle.order.specs.Laws.Run.{read_fills_not}
-use Rattle.ordered_map.specs.declared.pair.Pair.{Pair}
-use Rattle.ordered_map.specs.OrderedMap.{Edit, MapEdit, OneValue, edit_key, edit_of, get, pair_or_none, reply, goal_told}
-use Rattle.ordered_map.specs.Runs.{IsEditAt, IsTreeRun, Makes}
-use Rattle.ordered_map.specs.Spelled.{Spells}
-use Rattle.ordered_map.specs.TreeShape.{TreeAllows}
-use Rattle.ordered_map.specs.TreeWords.{said}
+use Rattle.record.specs.Common.{Pair, Edit, MapEdit, OneValue, edit_key, edit_of, get, pair_or_none, reply, IsTreeRun, Makes}
+use Rattle.record.specs.Common.{Spells, TreeAllows, said, Goal, Key as ToKey, End, Command, Scx as ScxOf, Set as SetOf}
+use Rattle.ordered_map.specs.Runs.{IsEditAt}
 use Rattle.ordered_map.proofs.Lemmas.{SameSettled, run_since, settled_said, walk_named, win_makes}
 use Rattle.template.proofs.Lemmas.{walk_fills_not}
-use Rattle.template.specs.FoundLeaf.{asked_in, asked_key, path_key, HasFoundGoal}
-use Rattle.ordered_map.specs.declared.rule.Goal.{Goal}
-use Rattle.ordered_map.specs.declared.rule.Goal.TheVariants.{Key as ToKey, End}
-use Rattle.template.specs.Tracked.{Tracks}
 use Rattle.template.specs.declared.walk.Found.{Found}
 use Rattle.edits.specs.Edits.{EditMeaning}
 use Rattle.edits.specs.Known.{CoversLeaf, Scxs, ToldEnd, Tries, UpdateWaitsAt}
@@ -58,8 +36,6 @@ use Rattle.edits.proofs.Lemmas.{told_end}
 use Rattle.edits.specs.declared.update.UpdateAt.{UpdateAt}
 use Rattle.edits.specs.declared.update.UpdateAt.TheVariants.{Start, Walk, Look, Read as ReadWord, Fill, Scx}
 use Rattle.edits.specs.declared.update.UpdateRun.{UpdateRun}
-use Rattle.script.specs.declared.command.Command.{Command}
-use Rattle.script.specs.declared.command.Command.TheVariants.{Scx as ScxOf, Set as SetOf}
 use Rattle.player.specs.declared.client.SetField.{SetField}
 use Rattle.player.specs.declared.run.Run.{Run}
 use Rattle.player.specs.declared.run.Run.TheVariants.{Llx, Scx as ScxRun, Vlx, Map}

@@ -2,37 +2,15 @@
 use Rattle.std.proofs.Common.{◌≡◌, ◌≢◌, ℕ, zero, suc, ◌<◌, ◌≤◌, ◌⊎◌, inl, inr, ⊎_elim, Bool, true, false, cond, ◌||◌, eqb, List, [], ◌∷◌, length, get_or, slice_get, Option, Some, None, IsSome, refl, sym, ◌∙◌, ap, subst, arith}
 use Rattle.std.proofs.Math.ListN.{set}
 use Rattle.std.specs.List.{Contains}
-use Rattle.arena.specs.declared.number.NodeNo.{NodeNo}
-use Rattle.arena.specs.declared.number.ScxNo.{ScxNo}
-use Rattle.arena.specs.Words.{state}
-use Rattle.arena.specs.declared.step.Kind.{Kind}
-use Rattle.arena.specs.declared.step.Kind.TheVariants.{Freeze, LoadInfo}
-use Rattle.arena.specs.Fills.{IsTakenScx}
-use Rattle.arena.specs.History.{History, value, Extends}
+use Rattle.histories.specs.Common.{NodeNo, ScxNo, state, Kind, Freeze, LoadInfo, IsTakenScx, History, value, Extends, WasInTheWay, HasFailed, log, is_final, has, Records, Tree, Remaining}
 use Rattle.arena.proofs.Lemmas.{found_wider, ends_self}
-use Rattle.arena.specs.Blame.{WasInTheWay, HasFailed}
-use Rattle.arena.specs.Log.{log, is_final, has}
 use Rattle.histories.proofs.Lemmas.{aborted_never_won, committed_won, finished_taken}
-use Rattle.prims.specs.Moments.{IsMoment, IsAsFound, AreLeftAlone, HasChanged}
-use Rattle.prims.specs.Snaps.{IsAmong}
+use Rattle.template.specs.Common.{HasChanged, IsAmong, PutAnswers, snap_at, VlxAnswers, Snap, LlxRun, PutRun, VlxRun, Llx as LlxAnswer, Scx as ScxAnswer, Vlx as VlxAnswer, Snapshot as LlxSnapshot}
+use Rattle.template.specs.Common.{Finalized as LlxFinalized, Fail as LlxFail, Done as ScxDone, Lost as ScxLost, Same as VlxSame, Changed as VlxChanged, MayReply, form_of, nodes_of}
+use Rattle.prims.specs.Moments.{IsMoment, IsAsFound, AreLeftAlone}
 use Rattle.prims.proofs.Lemmas.{alone_now, over_begins, over_ends, share_ends, all_idle, usable_now, among, put_finished}
-use Rattle.prims.specs.Put.Known.{PutAnswers}
-use Rattle.prims.specs.Snap.{snap_at}
-use Rattle.prims.specs.Vlx.Known.{VlxAnswers}
-use Rattle.prims.specs.declared.snap.Snap.{Snap}
-use Rattle.prims.specs.declared.llx.LlxRun.{LlxRun}
-use Rattle.prims.specs.declared.put.PutRun.{PutRun}
-use Rattle.prims.specs.declared.vlx.VlxRun.{VlxRun}
-use Rattle.prims.specs.declared.llx.Llx.{Llx as LlxAnswer}
-use Rattle.prims.specs.declared.scx.Scx.{Scx as ScxAnswer}
-use Rattle.prims.specs.declared.vlx.Vlx.{Vlx as VlxAnswer}
-use Rattle.prims.specs.declared.llx.Llx.TheVariants.{Snapshot as LlxSnapshot, Finalized as LlxFinalized, Fail as LlxFail}
-use Rattle.prims.specs.declared.scx.Scx.TheVariants.{Done as ScxDone, Lost as ScxLost}
-use Rattle.prims.specs.declared.vlx.Vlx.TheVariants.{Same as VlxSame, Changed as VlxChanged}
-use Rattle.script.specs.declared.command.Command.{Command}
-use Rattle.script.specs.declared.command.Command.TheVariants.{Llx as LlxOf, Scx as ScxOf, Vlx as VlxOf, Set as SetOf, Map as MapOf}
-use Rattle.script.specs.Cells.{cells_of}
-use Rattle.script.specs.Update.{update_cells}
+use Rattle.record.specs.Common.{Command, Llx as LlxOf, Scx as ScxOf, Vlx as VlxOf, Set as SetOf, Map as MapOf, cells_of, update_cells, Reply, MayAnswerAfterStep}
+use Rattle.record.specs.Common.{HasTakenFew, enters, IsRight, MapCall, number_reply, map_request, Request, IsLastLook, AreLinked, IsInTheWay, IsAsSnapped, HasItsEntry}
 use Rattle.player.specs.declared.run.Run.{Run}
 use Rattle.player.specs.declared.run.Run.TheVariants.{Llx, Scx, Vlx, Map}
 use Rattle.player.specs.declared.run.Ended.{Ended}
@@ -41,29 +19,19 @@ use Rattle.player.specs.declared.client.Client.{Client}
 use Rattle.player.specs.declared.client.SetField.{SetField}
 use Rattle.player.specs.declared.kept.Kept.{Kept}
 use Rattle.player.specs.declared.kept.KeptSnapshot.{KeptSnapshot}
-use Rattle.ordered_map.specs.declared.reply.Reply.{Reply}
 use Rattle.record.specs.declared.record.Answer.{Answer}
 use Rattle.record.specs.declared.record.Answer.TheVariants.{Map as MapAnswer}
 use Rattle.player.specs.KeptSnaps.{IsUnspent, kept_of, node_of, found_of, parts, snap_of}
-use Rattle.record.specs.CommandRules.{MayAnswerAfterStep, HasTakenFew, enters, IsRight}
 use Rattle.record.specs.Shares.{HasTakenAtMost}
-use Rattle.arena.specs.declared.limits.Mode.TheVariants.{Records, Tree}
-use Rattle.arena.specs.Share.{Remaining}
 use Rattle.dict.specs.Calls.{AsksForPairs, HasSpent, share_of}
 use Rattle.dict.specs.DictKnown.{DictAnswers, DictRefuses}
-use Rattle.ordered_map.specs.CallRules.{MayReply, form_of}
 use Rattle.dict.specs.Says.{TellsOfMap}
-use Rattle.ordered_map.specs.OrderedMap.{MapCall}
-use Rattle.ordered_map.specs.Replies.{number_reply}
-use Rattle.ordered_map.specs.Requests.{map_request}
-use Rattle.ordered_map.specs.declared.request.Request.{Request}
 use Rattle.edits.specs.Known.{RestsWith}
 use Rattle.player.specs.Allowed.{FitsTwoWords, IsSmall}
 use Rattle.player.proofs.MapEnds.{IsRightEnd, map_ends, entered_some, entered_none}
-use Rattle.record.specs.Snapshots.{IsLastLook, AreLinked, IsBehindAll}
-use Rattle.record.specs.Answers.{HasRoom, IsInTheWay, IsAsSnapped, HasItsEntry}
+use Rattle.record.specs.Snapshots.{IsBehindAll}
+use Rattle.record.specs.Answers.{HasRoom}
 use Rattle.player.specs.RunKnown.{answer_of}
-use Rattle.prims.specs.Scx.Known.{nodes_of}
 use Rattle.player.specs.ClientView.{ClientView, IsSound, IsLlxOf, IsScxOf, IsVlxOf, Hand, no_hand, in_hand, held, HoldsShare, HaveMoments, Tells, command_of, IsClientState, Rests, Answered, EndsCall, machine_call, linked_by}
 use Rattle.player.proofs.Puts.{put_committed, put_aborted}
 use Rattle.player.proofs.Snapshots.{has_snap, snap_there, snap_found, kept_after, unkept_after}

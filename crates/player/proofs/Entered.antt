@@ -2,55 +2,32 @@
 -- has in hand.
 use Rattle.std.proofs.Common.{◌≡◌, ◌≢◌, ℕ, zero, suc, ◌<◌, inl, ⊎_elim, Bool, true, false, cond, eqb, eqb-true, eq-eqb, ◌↔◌, List, [], ◌∷◌, length, Option, Some, None, refl, sym, ◌∙◌, ap, subst, arith}
 use Rattle.std.specs.List.{Contains}
-use Rattle.arena.specs.declared.step.Row.{Row}
+use Rattle.histories.specs.Common.{Row, Side, node, scx, child, first_value, History, ◌⊳◌, value, IsInProgress, IsOwnNode, IsOwnScx, IsNamedScx}
+use Rattle.histories.specs.Common.{Lawful, IsWin, HasWon, Entry as Entered, log, has, Call as MachineCall, IsRun, IsTold, Records, Tree}
 use Rattle.arena.specs.declared.word.ScxWord.TheVariants.{Call as CallWord}
-use Rattle.arena.specs.declared.word.Side.{Side}
-use Rattle.arena.specs.Words.{node, scx, child, first_value}
-use Rattle.arena.specs.History.{History, ◌⊳◌, value}
-use Rattle.arena.specs.Blame.{IsInProgress}
-use Rattle.arena.specs.Fills.{IsOwnNode, IsOwnScx, IsNamedScx}
-use Rattle.arena.specs.Lawful.{Lawful, IsWin, HasWon}
-use Rattle.arena.specs.Log.{Entry as Entered, log, has}
-use Rattle.arena.specs.Machines.{Call as MachineCall, IsRun, IsTold}
 use Rattle.std.proofs.lemmas.Bool.{or_left}
 use Rattle.arena.proofs.Lemmas.{or_right, or_split}
 use Rattle.histories.proofs.Lemmas.{UpdateWins, entry_of, facts_before, log_wins, update_is_first, update_win, won_since}
-use Rattle.prims.specs.Cells.{AllowsAll}
-use Rattle.prims.specs.Put.Known.{PutWaits, PutIsReady}
-use Rattle.prims.specs.Snaps.{IsAmong}
-use Rattle.prims.specs.Scx.Known.{IsEntryAt, update_entry, removed_nodes, nodes_of}
-use Rattle.prims.specs.Snap.{snap_at}
-use Rattle.prims.specs.declared.snap.Snap.{Snap}
-use Rattle.prims.specs.declared.put.PutRun.{PutRun}
+use Rattle.template.specs.Common.{AllowsAll, PutWaits, PutIsReady, IsAmong, nodes_of, snap_at, Snap, PutRun}
+use Rattle.prims.specs.Scx.Known.{IsEntryAt, update_entry, removed_nodes}
 use Rattle.prims.proofs.Lemmas.{moment_more, put_full, put_entry, put_entry_then, removed_those, own_in_hand, next_idle, wins_in_progress, among}
 use Rattle.script.specs.Part.{is_subsequence}
-use Rattle.script.specs.Update.{update_cells, update_finalize, update_field, update_value}
-use Rattle.script.specs.declared.command.Command.{Command}
-use Rattle.script.specs.declared.command.Command.TheVariants.{Scx as ScxOf, Set as SetOf, Map as MapOf}
+use Rattle.record.specs.Common.{update_cells, update_finalize, update_field, update_value, Command, Scx as ScxOf, Set as SetOf, Map as MapOf}
+use Rattle.record.specs.Common.{IsLastLook, IsEntryOver, IsMapEntry, IsEntryFor, map_request, Request, Pair, MapCall, MapEdit, edit_of, reply, Spells}
 use Rattle.player.specs.declared.run.Run.{Run}
 use Rattle.player.specs.declared.run.Run.TheVariants.{Llx, Scx, Vlx, Map}
 use Rattle.player.specs.declared.client.Client.{Client}
 use Rattle.player.specs.declared.client.Running.{Running}
 use Rattle.player.specs.declared.client.SetField.{SetField}
-use Rattle.record.specs.Snapshots.{IsLastLook}
 use Rattle.record.specs.Answers.{IsUnchanged, AreUnchanged}
-use Rattle.record.specs.Updates.{IsEntryOver}
-use Rattle.record.specs.Rules.Map.{IsMapEntry}
 use Rattle.player.proofs.EachCall.{entry_makes}
-use Rattle.record.specs.CommandRules.{IsEntryFor}
 use Rattle.player.specs.Allowed.{PlayedAllows}
 use Rattle.player.specs.RunKnown.{RunWaits, RunIsReady, edit_in_hand, run_mode}
 use Rattle.player.proofs.RunLaws.{run_keeps, run_made}
 use Rattle.player.specs.ClientView.{ClientView, IsSound, IsMachineOf, IsMapOf, IsPutOf, IsScxOf, IsStart, IsOwnWin, IsWonSince, held, HoldsShare, HaveMoments, no_hand, Rests, Works, WaitsForStep, machine_call, command_of}
-use Rattle.arena.specs.declared.limits.Mode.TheVariants.{Records, Tree}
 use Rattle.dict.specs.Calls.{call_in}
 use Rattle.dict.specs.Inner.{inner}
 use Rattle.dict.specs.declared.dict.DictRun.{DictRun}
-use Rattle.ordered_map.specs.Requests.{map_request}
-use Rattle.ordered_map.specs.declared.request.Request.{Request}
-use Rattle.ordered_map.specs.declared.pair.Pair.{Pair}
-use Rattle.ordered_map.specs.OrderedMap.{MapCall, MapEdit, edit_of, reply}
-use Rattle.ordered_map.specs.Spelled.{Spells}
 use Rattle.ordered_map.proofs.Lemmas.{run_spells}
 use Rattle.player.proofs.MapCalls.{tree_run}
 use Rattle.edits.specs.Tries.{HasEnteredOnly}

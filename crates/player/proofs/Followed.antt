@@ -3,24 +3,20 @@ use Rattle.std.proofs.Common.{◌≡◌, ◌≢◌, ℕ, zero, suc, ◌+◌, ◌
 use Rattle.std.proofs.Math.Seq.{drop-cons}
 use Rattle.std.proofs.lemmas.List.{reverse-reverse}
 use Rattle.std.specs.Int.{from_bool}
-use Rattle.arena.specs.declared.layout.Layout.{Layout}
-use Rattle.arena.specs.declared.step.Kind.{Kind}
+use Rattle.histories.specs.Common.{Layout, Kind}
 use Rattle.script.specs.Orders.{IsOrder}
-use Rattle.script.specs.declared.call.Call.{Call}
+use Rattle.record.specs.Common.{Call, Script, next_command, AreLines, IsLawfulRun, answered, client_of, clients, turns}
 use Rattle.script.specs.declared.schedule.Order.{Order}
 use Rattle.script.specs.declared.schedule.Order.TheVariants.{Step as StepOf, Call as CallOf, Until, Finish}
 use Rattle.script.specs.declared.schedule.Schedule.{Schedule}
-use Rattle.script.specs.declared.script.Script.{Script}
 use Rattle.record.specs.declared.record.Line.{Line}
 use Rattle.record.specs.declared.record.Line.TheVariants.{Step, Log, Reply}
 use Rattle.record.specs.declared.record.TurnRow.{TurnRow}
 use Rattle.record.specs.declared.record.Entry.{Entry}
 use Rattle.record.specs.declared.record.Finished.{Finished}
-use Rattle.record.specs.Commands.{next_command}
-use Rattle.record.specs.LawfulRun.{AreLines, IsLawfulRun}
 use Rattle.record.specs.OneClient.{AreMadeWhile, HasCall, HasNoCall}
 use Rattle.record.specs.Schedules.{AreOrdered, AsksForMore, IsObeyed, IsOrdered, IsRunOf, ordered_client}
-use Rattle.record.specs.Turns.{answered, client_of, clients, is_of, made, turns}
+use Rattle.record.specs.Turns.{is_of, made}
 use Rattle.player.specs.Core.{IsNextTurn, with_lines}
 use Rattle.player.specs.Followed.{AreFollowedSoFar, HasFollowed, IsFollowedSoFar, MayTurn, counting, wanted_of}
 use Rattle.player.specs.Lines.{with_turn}

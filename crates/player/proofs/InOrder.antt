@@ -1,16 +1,11 @@
 -- The machines that run on the tree fill nodes in order.
 use Rattle.std.proofs.Common.{◌≡◌, ◌≢◌}
-use Rattle.arena.specs.declared.limits.Mode.TheVariants.{Records, Tree}
-use Rattle.arena.specs.declared.step.Kind.TheVariants.{Fill}
-use Rattle.arena.specs.declared.step.Step.{Step}
-use Rattle.arena.specs.History.{History}
-use Rattle.arena.specs.Machines.{Call, row_of}
+use Rattle.histories.specs.Common.{Records, Tree, Fill, Step, History, Call, row_of}
 use Rattle.dict.specs.Inner.{InnerRun, Update, Get, Read, inner}
 use Rattle.dict.specs.Known.{WaitsInside}
 use Rattle.order.specs.Laws.Run.{read_fills_not}
-use Rattle.ordered_map.specs.FillOrder.{AreFilledInOrder, IsFillInOrder}
-use Rattle.ordered_map.specs.declared.rule.Goal.{Goal}
-use Rattle.ordered_map.specs.declared.rule.Rule.{Rule}
+use Rattle.template.specs.Common.{IsFillInOrder, Goal, Rule}
+use Rattle.ordered_map.specs.FillOrder.{AreFilledInOrder}
 use Rattle.template.proofs.Lemmas.{walk_fills_not}
 use Rattle.tree.proofs.Lemmas.{key_in_order}
 use Rattle.player.specs.declared.run.Run.{Run}

@@ -1,10 +1,7 @@
 -- Which keys a client's calls are about.
 use Rattle.std.proofs.Common.{◌≡◌, ℕ, zero, suc, Bool, true, false, cond, eqb, List, [], ◌∷◌, Some, All, slice_get, subst, arith}
 use Rattle.std.proofs.lemmas.List.Elements.{All-tail}
-use Rattle.ordered_map.specs.OrderedMap.{MapEdit}
-use Rattle.script.specs.declared.call.Call.{Call}
-use Rattle.script.specs.declared.command.Command.{Command}
-use Rattle.record.specs.Commands.{commands}
+use Rattle.record.specs.Common.{MapEdit, Call, Command, commands}
 use Rattle.linearization.specs.Places.{HoldsOfKey}
 
 pub some_edit : (a b : MapEdit) → Some a ≡ Some b → a ≡ b

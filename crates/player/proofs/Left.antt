@@ -1,10 +1,8 @@
 -- What is left of a share, as records say it.
 use Rattle.std.proofs.Common.{◌≡◌, ℕ, ◌<◌, refl, sym, ◌∙◌, arith}
-use Rattle.arena.specs.declared.layout.Layout.{Layout}
-use Rattle.arena.specs.declared.fault.Resource.{Resource}
-use Rattle.arena.specs.declared.fault.Resource.TheVariants.{Nodes, Scx as ScxRecords}
-use Rattle.arena.specs.History.{History}
-use Rattle.arena.specs.Share.{Remaining, IsFullOf}
+use Rattle.histories.specs.Common.{Layout, Resource, Nodes, History, Remaining}
+use Rattle.arena.specs.declared.fault.Resource.TheVariants.{Scx as ScxRecords}
+use Rattle.arena.specs.Share.{IsFullOf}
 use Rattle.prims.specs.Shares.{IsShare}
 use Rattle.record.specs.Shares.{HasNodesLeft, HasScxLeft, HasTooFew}
 use Rattle.dict.specs.Says.{HasTooLittle}

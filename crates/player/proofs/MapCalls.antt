@@ -1,22 +1,9 @@
 -- On the tree all calls are of the map, and a run is one of the tree.
 use Rattle.std.proofs.Common.{◌≡◌, ℕ, zero, suc, Bool, true, false, cond, eqb, List, [], ◌∷◌, Some, slice_get, All, refl, sym, ◌∙◌, arith}
 use Rattle.std.proofs.lemmas.List.Elements.{All-tail}
-use Rattle.arena.specs.declared.limits.Mode.{Mode}
-use Rattle.arena.specs.declared.limits.Mode.TheVariants.{Tree}
-use Rattle.arena.specs.declared.layout.Layout.{Layout}
-use Rattle.arena.specs.declared.step.Row.{Row}
-use Rattle.arena.specs.History.{History, ◌⊳◌}
-use Rattle.arena.specs.Machines.{IsRun}
+use Rattle.histories.specs.Common.{Mode, Tree, Layout, Row, History, ◌⊳◌, IsRun}
 use Rattle.histories.proofs.Lemmas.{lawful_tail, shaped_tail}
-use Rattle.ordered_map.specs.OrderedMap.{MapCall}
-use Rattle.ordered_map.specs.Requests.{map_request}
-use Rattle.ordered_map.specs.Runs.{IsTreeRun}
-use Rattle.script.specs.declared.call.Call.{Call}
-use Rattle.script.specs.declared.command.Command.{Command}
-use Rattle.script.specs.declared.command.Command.TheVariants.{Llx as LlxOf, Scx as ScxOf, Vlx as VlxOf, Set as SetOf, Map}
-use Rattle.script.specs.Commands.{mode_of}
-use Rattle.record.specs.Commands.{commands}
-use Rattle.record.specs.MapRecord.{map_call}
+use Rattle.record.specs.Common.{MapCall, map_request, IsTreeRun, Call, Command, Llx as LlxOf, Scx as ScxOf, Vlx as VlxOf, Set as SetOf, Map, mode_of, commands, map_call}
 use Rattle.record.proofs.Lemmas.{AreMapCalls}
 use Rattle.player.specs.Allowed.{PlayedAllows}
 use Rattle.player.proofs.Shapes.{as_tree}

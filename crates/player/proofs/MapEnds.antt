@@ -1,29 +1,18 @@
 -- How a call of the map ends: what its reply says of the call.
 use Rattle.std.proofs.Common.{◌≡◌, ℕ, ◌<◌, inl, ⊎_elim, Bool, true, false, is_some, List, Option, Some, None, sym, ◌∙◌, ap, subst}
-use Rattle.arena.specs.History.{value}
-use Rattle.arena.specs.Machines.{Call as MachineCall}
-use Rattle.arena.specs.Share.{Remaining}
+use Rattle.histories.specs.Common.{value, Call as MachineCall, Remaining}
 use Rattle.ordered_map.specs.CallRules.{MayReply, form_of}
 use Rattle.dict.specs.Calls.{AsksForPairs}
 use Rattle.dict.specs.DictKnown.{DictRefuses}
 use Rattle.dict.specs.Says.{HasMadeEdit, HasTold, HasToldBy, TellsOfMap}
-use Rattle.ordered_map.specs.OrderedMap.{MapCall, MapEdit, MapReply, OneValue, changes_map, edit_of, reply}
+use Rattle.record.specs.Common.{MapCall, MapEdit, MapReply, OneValue, changes_map, edit_of, reply, number_reply, map_request, Pair as PairOf, Reply, Value}
+use Rattle.record.specs.Common.{Pairs, Contended, Full, NoMemory, Request, HasItsEntry, MayAnswerAfterStep, enters, IsRight, reply_told, Command, Map as MapOf}
 use Rattle.ordered_map.proofs.Lemmas.{one_spelling}
-use Rattle.ordered_map.specs.Replies.{number_reply}
-use Rattle.ordered_map.specs.Requests.{map_request}
-use Rattle.ordered_map.specs.declared.pair.Pair.{Pair as PairOf}
-use Rattle.ordered_map.specs.declared.reply.Reply.{Reply}
-use Rattle.ordered_map.specs.declared.reply.Reply.TheVariants.{Value, Pair, Pairs, Contended, Full, NoMemory}
-use Rattle.ordered_map.specs.declared.request.Request.{Request}
+use Rattle.ordered_map.specs.declared.reply.Reply.TheVariants.{Pair}
 use Rattle.edits.specs.Known.{RestsWith}
 use Rattle.edits.specs.Tries.{HasEnteredNone}
-use Rattle.record.specs.Answers.{HasItsEntry}
-use Rattle.record.specs.CommandRules.{MayAnswerAfterStep, enters, IsRight}
-use Rattle.record.specs.MapRecord.{reply_told}
 use Rattle.record.specs.declared.record.Answer.{Answer}
 use Rattle.record.specs.declared.record.Answer.TheVariants.{Map as MapAnswer}
-use Rattle.script.specs.declared.command.Command.{Command}
-use Rattle.script.specs.declared.command.Command.TheVariants.{Map as MapOf}
 use Rattle.player.specs.declared.client.Client.{Client}
 use Rattle.player.specs.ClientView.{ClientView, IsOwnWin, IsToldBy, IsToldChange, IsToldOfMap, IsWonSince, Tells, machine_call}
 use Rattle.player.proofs.EachCall.{TookPlace, ByEntry, ByValue, ByReply, Nowhere, HasTakenPlace, TellsSo, answer_right, is_by_entry, replied, took_place}

@@ -1,14 +1,9 @@
 -- The kinds of step that a call makes.
 use Rattle.std.proofs.Common.{ℕ, Option, refl, sym, subst}
-use Rattle.arena.specs.declared.step.Step.{Step}
-use Rattle.arena.specs.History.{History}
-use Rattle.arena.specs.Machines.{Call}
-use Rattle.prims.specs.Cells.{AllowsAll}
+use Rattle.histories.specs.Common.{Step, History, Call}
+use Rattle.template.specs.Common.{AllowsAll, call_rules}
 use Rattle.prims.proofs.Lemmas.{llx_fills_not}
-use Rattle.script.specs.declared.command.Command.{Command}
-use Rattle.script.specs.declared.command.Command.TheVariants.{Llx as LlxOf, Scx as ScxOf, Vlx as VlxOf, Set as SetOf, Map as MapOf}
-use Rattle.ordered_map.specs.CallRules.{call_rules}
-use Rattle.ordered_map.specs.OrderedMap.{MapCall}
+use Rattle.record.specs.Common.{Command, Llx as LlxOf, Scx as ScxOf, Vlx as VlxOf, Set as SetOf, Map as MapOf, MapCall}
 use Rattle.dict.specs.Inner.{inner}
 use Rattle.dict.specs.Laws.Kinds.{is_of_kind}
 use Rattle.dict.proofs.Lemmas.{kind_inside}

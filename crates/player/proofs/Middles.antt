@@ -3,66 +3,39 @@ use Rattle.std.proofs.Common.{◌≡◌, ◌≢◌, ℕ, zero, suc, ◌+◌, ◌
 use Rattle.std.proofs.lemmas.Option.{slice_get_within}
 use native.Mathlib.Decide.{ℕ_discrete}
 use Rattle.player.proofs.Readings.{placed}
-use Rattle.arena.specs.declared.limits.Mode.{Mode}
-use Rattle.arena.specs.declared.layout.Layout.{Layout}
-use Rattle.arena.specs.declared.number.PassNo.{PassNo}
-use Rattle.arena.specs.declared.step.Row.{Row}
-use Rattle.arena.specs.declared.word.Word.{Word}
-use Rattle.arena.specs.Layout.{IsWord, all_nodes, all_scx, first_scx}
-use Rattle.arena.specs.declared.number.NodeNo.{NodeNo}
-use Rattle.arena.specs.declared.word.Side.{Side}
-use Rattle.arena.specs.declared.word.NodeWord.{NodeWord}
-use Rattle.arena.specs.declared.word.NodeWord.TheVariants.{Child}
+use Rattle.histories.specs.Common.{Mode, Layout, PassNo, Row, Word, IsWord, all_nodes, all_scx, first_scx, NodeNo, Side, NodeWord, Child, Node, Update}
+use Rattle.histories.specs.Common.{IsLawful, owner, same_word, info, scx as scx_word, Contents, word_at, IsChanged, History, ◌⊳◌, value, IsRun, Tree}
 use Rattle.arena.specs.declared.word.ScxWord.TheVariants.{Call as CallWord}
-use Rattle.arena.specs.declared.word.Word.TheVariants.{Node}
-use Rattle.arena.specs.declared.step.Kind.TheVariants.{Update}
-use Rattle.arena.specs.Lawful.{IsLawful}
-use Rattle.arena.specs.Log.{owner}
 use Rattle.histories.proofs.Lemmas.{lawful_row}
 use Rattle.player.proofs.Winners.{tells_won, winner_holds, owner_is, info_kept, call_kept}
 use Rattle.player.specs.declared.interleaving.Interleaving.{Interleaving}
-use Rattle.arena.specs.Words.{same_word, info, scx as scx_word}
-use Rattle.arena.specs.PlainWords.{Contents, word_at, IsChanged}
-use Rattle.arena.specs.History.{History, ◌⊳◌, value}
-use Rattle.arena.specs.Machines.{IsRun}
 use Rattle.arena.proofs.Lemmas.{word_same, word_apart, value_at, value_other}
-use Rattle.script.specs.declared.command.Command.{Command}
+use Rattle.record.specs.Common.{Command, AreFilledInOrder, Call, Pairs, NoMemory, number_pairs, Llx as LlxOf, Scx as ScxOf, Vlx as VlxOf, Set as SetOf, Map, Successor as SuccessorOf}
+use Rattle.record.specs.Common.{Predecessor as PredecessorOf, Range as RangeOf, history, turns, entries, answered, begin, start, steps, won, last_client, entry_of, entry_owed, entry_at}
+use Rattle.record.specs.Common.{commands, next_command, linked, HasItsEntry, MayAnswerAtOnce, HasTakenFew, enters, IsRight, IsFitting, OwesNothing, AreLines, ManyPairs, mode_of}
 use Rattle.player.proofs.Commands.{none_left, next_at, place_more, number_small}
-use Rattle.arena.specs.declared.limits.Mode.TheVariants.{Tree}
 use Rattle.player.specs.Allowed.{PlayedAllows}
-use Rattle.ordered_map.specs.FillOrder.{AreFilledInOrder, IsFillInOrder}
-use Rattle.script.specs.declared.call.Call.{Call}
+use Rattle.ordered_map.specs.FillOrder.{IsFillInOrder}
 use Rattle.record.specs.declared.record.Line.{Line}
 use Rattle.record.specs.declared.record.Line.TheVariants.{Step, Log, Reply as ReplyLine}
 use Rattle.record.specs.declared.record.TurnRow.TheVariants.{Step as Made, Idle}
 use Rattle.record.specs.declared.record.Finished.{Finished}
 use Rattle.record.specs.declared.record.Entry.{Entry}
-use Rattle.ordered_map.specs.declared.reply.Reply.TheVariants.{Pairs, NoMemory}
-use Rattle.record.specs.MapRecord.{number_pairs}
 use Rattle.record.specs.declared.record.Answer.{Answer}
 use Rattle.record.specs.declared.record.Answer.TheVariants.{Done, Unlinked, Full, Map as MapAnswer}
-use Rattle.script.specs.declared.command.Command.TheVariants.{Llx as LlxOf, Scx as ScxOf, Vlx as VlxOf, Set as SetOf, Map}
-use Rattle.ordered_map.specs.declared.request.Request.TheVariants.{Successor as SuccessorOf, Predecessor as PredecessorOf, Range as RangeOf}
 use Rattle.player.specs.declared.client.Client.{Client}
-use Rattle.record.specs.Turns.{history, turns, entries, answered, begin, start, steps, won, last_client, entry_of, entry_owed, entry_at}
-use Rattle.record.specs.Commands.{commands, next_command}
-use Rattle.record.specs.Linked.{linked}
-use Rattle.record.specs.Answers.{HasItsEntry}
 use Rattle.player.specs.Moments.{IsMomentBy}
 use Rattle.linearization.specs.declared.places.Change.{Change}
 use Rattle.linearization.specs.Entries.{AreEntries}
 use Rattle.player.proofs.MapCalls.{command_mode}
 use Rattle.player.proofs.Placing.{moment_same, moment_within}
-use Rattle.record.specs.CommandRules.{MayAnswerAtOnce, HasTakenFew, enters, IsRight}
-use Rattle.record.specs.Replies.{IsFitting, IsReply}
-use Rattle.record.specs.LawfulRun.{OwesNothing, IsNext, AreLines}
+use Rattle.record.specs.Replies.{IsReply}
+use Rattle.record.specs.LawfulRun.{IsNext}
 use Rattle.player.specs.ClientView.{ClientView, client_view, no_hand, held, Tells, linked_by, Rests, IsClient, IsAtNextCall, Refuses}
 use Rattle.player.specs.BetweenTurns.{IsLawfulSoFar, AreOthers, IsTurnOf, AreBetweenTurns, IsMade, IsEnd, AreWins}
 use Rattle.player.proofs.Views.{TellsWon, client_by_others, stands_from, holds_from}
 use Rattle.record.proofs.Lemmas.{some_turn, start_kept, begin_within, won_within}
 use Rattle.player.proofs.MapEnds.{entered_none}
-use Rattle.ordered_map.specs.OrderedMap.{ManyPairs}
-use Rattle.script.specs.Commands.{mode_of}
 use Rattle.linearization.specs.Ordered.{FallFrom}
 use Rattle.linearization.proofs.Lemmas.{falls, nothing_taken}
 

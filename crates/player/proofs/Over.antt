@@ -1,27 +1,15 @@
 -- What a client has taken stays finished, except for the SCX-record that it has in hand.
 use Rattle.std.proofs.Common.{◌≡◌, ◌≢◌, ℕ, ◌+◌, ◌-◌, ◌*◌, ◌<◌, ◌≤◌, ◌⊎◌, inl, inr, ⊎_elim, sym, subst, arith}
 use native.Mathlib.Decide.{ℕ_discrete}
-use Rattle.arena.specs.declared.layout.Layout.{Layout}
-use Rattle.arena.specs.declared.step.Step.{Step as Ask}
-use Rattle.arena.specs.Share.{Remaining}
-use Rattle.arena.specs.History.{History, ◌⊳◌, Extends}
-use Rattle.arena.specs.Fills.{IsOwnScx, IsTakenNode, IsTakenScx}
-use Rattle.arena.specs.Machines.{Call, row_of}
-use Rattle.prims.specs.Cells.{AllowsAll}
+use Rattle.histories.specs.Common.{Layout, Step as Ask, Remaining, History, ◌⊳◌, Extends, IsOwnScx, IsTakenNode, IsTakenScx, Call, row_of}
+use Rattle.template.specs.Common.{AllowsAll, IsShare, most_nodes, most_scx, tries_since}
 use Rattle.prims.specs.Laws.Begun.{TakesOnly, takes_by_step, taken_since}
 use Rattle.prims.proofs.Lemmas.{put_takes, llx_fills_not, vlx_fills_not, untaken_node_by_step, put_untaken_node}
 use Rattle.player.specs.declared.run.Run.{Run}
 use Rattle.player.specs.declared.run.Run.TheVariants.{Llx, Scx, Vlx, Map}
-use Rattle.prims.specs.Shares.{IsShare}
 use Rattle.edits.specs.Known.{RestsWith}
-use Rattle.ordered_map.specs.CallRules.{most_nodes, most_scx}
-use Rattle.template.specs.Tries.{tries_since}
 use Rattle.dict.specs.Calls.{HasSpent}
-use Rattle.ordered_map.specs.OrderedMap.{MapCall}
-use Rattle.ordered_map.specs.Requests.{map_request}
-use Rattle.ordered_map.specs.declared.request.Request.{Request}
-use Rattle.script.specs.declared.command.Command.TheVariants.{Map as MapOf}
-use Rattle.record.specs.CommandRules.{HasTakenFew}
+use Rattle.record.specs.Common.{MapCall, map_request, Request, Map as MapOf, HasTakenFew}
 use Rattle.record.specs.Shares.{HasTakenAtMost, IsScxTakenSince}
 use Rattle.dict.specs.Laws.EachCall.{tries_take}
 use Rattle.player.specs.RunKnown.{RunWaits}

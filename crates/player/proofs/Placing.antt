@@ -1,19 +1,10 @@
 -- Where the moment of an answer lies.
 use Rattle.std.proofs.Common.{◌≡◌, ℕ, suc, ◌≤◌, Bool, true, false, List, Option, Some, None, refl, sym, ◌∙◌, subst, arith}
-use Rattle.arena.specs.declared.limits.Mode.TheVariants.{Tree}
-use Rattle.arena.specs.declared.layout.Layout.{Layout}
-use Rattle.arena.specs.History.{History}
-use Rattle.script.specs.declared.call.Call.{Call}
-use Rattle.script.specs.declared.command.Command.{Command}
-use Rattle.script.specs.declared.command.Command.TheVariants.{Scx, Set, Map}
-use Rattle.script.specs.Commands.{mode_of}
-use Rattle.ordered_map.specs.declared.reply.Reply.{Reply}
-use Rattle.ordered_map.specs.declared.request.Request.{Request}
+use Rattle.histories.specs.Common.{Tree, Layout, History}
+use Rattle.record.specs.Common.{Call, Command, Scx, Set, Map, mode_of, Reply, Request, HasItsEntry, MayAnswerAfterStep, IsRight, enters}
 use Rattle.record.specs.declared.record.Line.{Line}
 use Rattle.record.specs.declared.record.Answer.{Answer}
 use Rattle.record.specs.declared.record.Answer.TheVariants.{Snapshot, Finalized, Done, Same, Map as MapAnswer}
-use Rattle.record.specs.Answers.{HasItsEntry}
-use Rattle.record.specs.CommandRules.{MayAnswerAfterStep, IsRight, enters}
 use Rattle.record.proofs.Lemmas.{some_turn}
 use Rattle.linearization.specs.declared.places.Change.{Change}
 use Rattle.linearization.specs.Entries.{AreEntries}

@@ -2,14 +2,10 @@
 use Rattle.std.proofs.Common.{arith, ◌≡◌, ℕ, suc, ◌+◌, ◌<◌, ◌≤◌, List, [], ◌∷◌, ◌++◌, length, map, reverse, take, get_or, Option, Some, None, Result, Ok, Err, slice_get, All, inl, inr, refl, sym, ◌∙◌, ap, subst}
 use Rattle.std.specs.Prelude.{OnErr, OnOk}
 use Rattle.std.proofs.lemmas.List.{map_more, reverse-append, reverse-reverse}
-use Rattle.arena.specs.declared.layout.Layout.{Layout}
-use Rattle.arena.specs.PlainWords.{Contents, IsOpening}
-use Rattle.arena.specs.History.{value}
-use Rattle.arena.specs.Lawful.{Lawful}
-use Rattle.arena.specs.Shape.{Shaped}
+use Rattle.histories.specs.Common.{Layout, Contents, value, Lawful, Shaped}
+use Rattle.arena.specs.PlainWords.{IsOpening}
 use Rattle.histories.proofs.Lemmas.{fields_are, finalized_since, lawful_since, once}
-use Rattle.script.specs.declared.call.Call.{Call}
-use Rattle.script.specs.Commands.{mode_of}
+use Rattle.record.specs.Common.{Call, mode_of, history, clients, turns, AreLines, IsLawfulRun}
 use Rattle.player.proofs.Readings.{whole}
 use Rattle.player.specs.declared.client.Client.{Client}
 use Rattle.player.specs.declared.interleaving.Interleaving.{Interleaving}
@@ -18,10 +14,8 @@ use Rattle.record.specs.declared.record.Line.TheVariants.{Step, Log, Reply}
 use Rattle.record.specs.declared.record.TurnRow.{TurnRow}
 use Rattle.record.specs.declared.record.Entry.{Entry}
 use Rattle.record.specs.declared.record.Finished.{Finished}
-use Rattle.record.specs.Turns.{history, clients, turns}
 use Rattle.player.specs.Lines.{turn_lines, with_entry, with_reply, with_turn}
 use Rattle.player.specs.ClientView.{client_view, Rests}
-use Rattle.record.specs.LawfulRun.{AreLines, IsLawfulRun}
 use Rattle.player.specs.BetweenTurns.{AreBetweenTurns, HasMadeTurn, IsBetweenTurns, AreWins}
 use Rattle.player.specs.Core.{IsNextTurn, StandsAt, with_lines}
 use Rattle.player.specs.Player.{PlayerView, ScriptView, script_view, IsPlayed, IsTurnMore}

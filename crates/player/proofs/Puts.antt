@@ -1,13 +1,7 @@
 -- What the answers of an SCX with a fresh cell say of its SCX-record.
 use Rattle.std.proofs.Common.{◌≡◌}
-use Rattle.arena.specs.declared.number.NodeNo.{NodeNo}
-use Rattle.arena.specs.declared.number.ScxNo.{ScxNo}
-use Rattle.arena.specs.Words.{state}
-use Rattle.arena.specs.History.{History, value}
-use Rattle.arena.specs.Machines.{Call}
-use Rattle.prims.specs.Put.Known.{PutAnswers}
-use Rattle.prims.specs.declared.put.PutRun.{PutRun}
-use Rattle.prims.specs.declared.scx.Scx.TheVariants.{Done, Lost}
+use Rattle.histories.specs.Common.{NodeNo, ScxNo, state, History, value, Call}
+use Rattle.template.specs.Common.{PutAnswers, PutRun, Done, Lost}
 
 pub put_committed : (m : PutRun) (call : Call) (h : History) → PutAnswers m call h Done → value h (state m.scx.scx.0) ≡ 1
 put_committed m call h x = x.1.done.committed

@@ -1,34 +1,15 @@
 -- How an SCX begins: with the next records of the share, and with snapshots that may be used.
 use Rattle.std.proofs.Common.{◌≡◌, ℕ, ◌+◌, ◌<◌, ◌≤◌, ◌↔◌, map, ⊎_elim, true, cond, eqb, ne_eqb, List, [], ◌∷◌, length, if◌then◌else◌, Option, Some, None, slice_get, refl, sym, ◌∙◌, ap, subst, arith}
 use Rattle.std.proofs.Math.ListN.{set}
-use Rattle.arena.specs.TakenNodes.{taken_nodes}
-use Rattle.arena.specs.declared.layout.Layout.{Layout}
-use Rattle.arena.specs.declared.limits.Mode.TheVariants.{Records, Tree}
-use Rattle.arena.specs.declared.word.Side.{Side}
-use Rattle.arena.specs.Share.{Remaining, HasNode as HasOwnNode, HasScx, after_taking}
-use Rattle.arena.specs.declared.step.Kind.TheVariants.{LoadInfo}
-use Rattle.arena.specs.History.{History, Extends}
-use Rattle.arena.specs.Found.{IsLastStep}
+use Rattle.histories.specs.Common.{taken_nodes, Layout, Records, Tree, Side, Remaining, HasNode as HasOwnNode, HasScx, LoadInfo, History}
+use Rattle.histories.specs.Common.{Extends, IsLastStep, IsOwnScx, IsTakenScx, HasWon, NodeNo, plan_finalizes, side_of, Resource}
+use Rattle.arena.specs.Share.{after_taking}
 use Rattle.arena.proofs.Lemmas.{last_now, ends_self}
-use Rattle.arena.specs.Fills.{IsOwnScx, IsTakenScx}
-use Rattle.arena.specs.Lawful.{HasWon}
-use Rattle.arena.specs.declared.number.NodeNo.{NodeNo}
-use Rattle.arena.specs.ScxRecords.{plan_finalizes, side_of}
-use Rattle.prims.specs.Updates.{update_field_index}
-use Rattle.prims.specs.declared.update.Update.{Update}
-use Rattle.prims.specs.Snaps.{ListsNode}
-use Rattle.prims.specs.Scx.Known.{IsUpdateOver, nodes_of}
-use Rattle.prims.specs.Snap.{snap_at}
+use Rattle.template.specs.Common.{update_field_index, Update, ListsNode, IsUpdateOver, nodes_of, snap_at, Snap, LlxRun, PutRun, Llx as LlxAnswer, Snapshot as LlxSnapshot, IsShare}
 use Rattle.prims.specs.Put.Steps.{put_left}
-use Rattle.prims.specs.declared.snap.Snap.{Snap}
-use Rattle.prims.specs.declared.llx.LlxRun.{LlxRun}
-use Rattle.prims.specs.declared.put.PutRun.{PutRun}
-use Rattle.prims.specs.declared.llx.Llx.{Llx as LlxAnswer}
-use Rattle.prims.specs.declared.llx.Llx.TheVariants.{Snapshot as LlxSnapshot}
 use Rattle.prims.specs.declared.scx.ScxAt.TheVariants.{Start as ScxStart}
 use Rattle.prims.specs.declared.put.PutAt.TheVariants.{Start as PutStart}
-use Rattle.script.specs.declared.command.Command.{Command}
-use Rattle.script.specs.declared.command.Command.TheVariants.{Set as SetOf}
+use Rattle.record.specs.Common.{Command, Set as SetOf, commands, IsLastLook, command_steps}
 use Rattle.player.specs.declared.run.Run.TheVariants.{Llx, Scx}
 use Rattle.player.specs.declared.run.Ended.TheVariants as ended
 use Rattle.player.specs.declared.client.Client.{Client}
@@ -36,17 +17,12 @@ use Rattle.player.specs.declared.client.SetField.{SetField}
 use Rattle.player.specs.declared.kept.Kept.{Kept}
 use Rattle.record.specs.declared.record.Answer.{Answer}
 use Rattle.record.specs.declared.record.Answer.TheVariants.{Full}
-use Rattle.arena.specs.declared.fault.Resource.{Resource}
 use Rattle.player.specs.KeptSnaps.{IsUnspent, kept_of, node_of, found_of}
-use Rattle.record.specs.Commands.{commands}
-use Rattle.record.specs.Snapshots.{IsLastLook}
-use Rattle.record.specs.CommandRules.{command_steps}
 use Rattle.record.specs.Shares.{HasTooFew}
 use Rattle.player.proofs.Left.{full_left}
 use Rattle.player.specs.ClientView.{ClientView, IsSound, IsLlxOf, IsPutOf, no_hand, held, HoldsShare, IsClientState, Rests, Starts, Answered, HasBeenTold, TellsFull, CanPut, Puts, BeginsOrRefuses}
 use Rattle.prims.specs.Laws.Begun.{taken_since}
 use Rattle.prims.proofs.Lemmas.{taken_node_since, left_own_node, left_own_scx, taken_share, free_unnamed, all_over, put_ready_first}
-use Rattle.prims.specs.Shares.{IsShare}
 use Rattle.player.proofs.Over.{taken_nothing}
 use Rattle.player.proofs.Snapshots.{has_snap, dropped, kept_without, unkept_without}
 use Rattle.player.proofs.MapEnds.{entered_none}

@@ -2,37 +2,21 @@
 -- its entry, or in the turn that was found for it. All replies of a run on the tree are those of
 -- one map.
 use Rattle.std.proofs.Common.{◌≡◌, ℕ, suc, ◌≤◌, ⊎_elim, Bool, true, false, List, Option, Some, None, IfSome, IfNone, refl, sym, ◌∙◌, ap, subst, arith}
-use Rattle.arena.specs.declared.limits.Mode.{Mode}
-use Rattle.arena.specs.declared.limits.Mode.TheVariants.{Records, Tree}
-use Rattle.arena.specs.declared.layout.Layout.{Layout}
-use Rattle.arena.specs.PlainWords.{Contents}
-use Rattle.ordered_map.specs.declared.pair.Pair.{Pair}
-use Rattle.ordered_map.specs.OrderedMap.{MapCall, MapReply, OneValue, changes_map, get, reply as answer_on}
-use Rattle.ordered_map.specs.Requests.{map_request}
-use Rattle.script.specs.declared.call.Call.{Call}
-use Rattle.script.specs.declared.command.Command.{Command}
-use Rattle.script.specs.declared.command.Command.TheVariants.{Map}
-use Rattle.ordered_map.specs.declared.request.Request.{Request}
+use Rattle.histories.specs.Common.{Mode, Records, Tree, Layout, Contents}
+use Rattle.record.specs.Common.{Pair, MapCall, MapReply, OneValue, changes_map, get, reply as answer_on, map_request, Call, Command, Map, Request, Reply, number_reply, history, turns, answered}
+use Rattle.record.specs.Common.{begin, start, won, entry_owed, next_command, linked, HasItsEntry, IsRight, IsPlaced, enters, map_at, reply_told, IsGreatestTurn, IsPlacedOnMap, AreSpelled}
 use Rattle.record.specs.declared.record.Line.{Line}
 use Rattle.record.specs.declared.record.Finished.{Finished}
-use Rattle.ordered_map.specs.declared.reply.Reply.{Reply}
-use Rattle.ordered_map.specs.Replies.{number_reply}
 use Rattle.record.specs.declared.record.Answer.{Answer}
 use Rattle.record.specs.declared.record.Answer.TheVariants.{Map as MapAnswer}
-use Rattle.record.specs.Turns.{history, turns, answered, begin, start, won, entry_owed}
-use Rattle.record.specs.Commands.{next_command}
-use Rattle.record.specs.Linked.{linked}
-use Rattle.record.specs.Answers.{moment_of, HasItsEntry}
+use Rattle.record.specs.Answers.{moment_of}
 use Rattle.linearization.specs.declared.places.Change.{Change}
 use Rattle.linearization.specs.Entries.{AreEntries}
 use Rattle.linearization.specs.Ordered.{FallFrom, IsOrderedRead}
 use Rattle.player.specs.Moments.{IsMomentBy, IsOrderedMoment, IsReadMoment}
 use Rattle.player.specs.ClientView.{ClientView, client_view, IsToldBy, IsToldOfMap, IsToldReading, Tells}
-use Rattle.record.specs.CommandRules.{IsRight, IsPlaced, enters}
-use Rattle.record.specs.MapRecord.{map_at, reply_told}
-use Rattle.record.specs.Placed.{IsGreatestTurn, IsPlacedChangeOrReading, IsPlacedReading, IsPlacedOnMap}
+use Rattle.record.specs.Placed.{IsPlacedChangeOrReading, IsPlacedReading}
 use Rattle.record.specs.LawfulRun.{IsWhole}
-use Rattle.record.specs.SpelledMap.{AreSpelled}
 use Rattle.record.proofs.Lemmas.{begin_within, lawful_is_legal}
 use Rattle.player.specs.BetweenTurns.{IsLawfulSoFar}
 use Rattle.linearization.proofs.Lemmas.{IsRepliedIn, are_spelled, falls, ordered_placed, replied_turn}

@@ -1,9 +1,6 @@
 -- The machine of a call in a player's run: it does as the machine inside, in a run of its mode.
 use Rattle.std.proofs.Common.{◌≡◌, ◌≢◌, ℕ, Some}
-use Rattle.arena.specs.declared.step.Row.{Row}
-use Rattle.arena.specs.declared.step.Step.{Step}
-use Rattle.arena.specs.History.{History, ◌⊳◌, value}
-use Rattle.arena.specs.Machines.{Call, IsRun, IsTold, row_of}
+use Rattle.histories.specs.Common.{Row, Step, History, ◌⊳◌, value, Call, IsRun, IsTold, row_of}
 use Rattle.prims.specs.Cells.{AllowsAll}
 use Rattle.prims.specs.Llx.Laws.{llx_keeps, llx_lawful, llx_made}
 use Rattle.prims.specs.Vlx.Laws.{vlx_keeps, vlx_lawful, vlx_made}

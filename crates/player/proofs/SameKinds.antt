@@ -1,8 +1,7 @@
 -- Whether two kinds of step are the same.
 use Rattle.std.proofs.Common.{◌≡◌, eqb, Bool, Option, Some, refl, sym, ◌∙◌}
 use Rattle.std.specs.Option.{option_eq}
-use Rattle.arena.specs.declared.step.Kind.{Kind}
-use Rattle.arena.specs.declared.step.Kind.TheVariants.{Fill, LoadSettled, LoadInfo, LoadState, LoadMarked, LoadAllFrozen, LoadChild, Freeze, SetFrozen, Mark, Update, Commit, Abort}
+use Rattle.histories.specs.Common.{Kind, Fill, LoadSettled, LoadInfo, LoadState, LoadMarked, LoadAllFrozen, LoadChild, Freeze, SetFrozen, Mark, Update, Commit, Abort}
 use Rattle.arena.specs.contracts.step.Kind.{the_type}
 use denote.Enum.Bare.{sameb}
 use denote.Enum.Declared.{tag_of}

@@ -1,13 +1,8 @@
 -- A player's run as one of cells or of a dictionary, under whose shapes machines run, and back.
 use Rattle.std.proofs.Common.{◌≡◌, subst, sym}
-use Rattle.arena.specs.declared.limits.Mode.{Mode}
-use Rattle.arena.specs.declared.limits.Mode.TheVariants.{Records, Tree}
-use Rattle.arena.specs.declared.layout.Layout.{Layout}
-use Rattle.arena.specs.History.{History}
-use Rattle.arena.specs.Machines.{IsRun}
+use Rattle.histories.specs.Common.{Mode, Records, Tree, Layout, History, IsRun}
 use Rattle.arena.proofs.Lemmas.{run_as}
-use Rattle.prims.specs.Cells.{AllowsAll}
-use Rattle.ordered_map.specs.TreeShape.{TreeAllows}
+use Rattle.template.specs.Common.{AllowsAll, TreeAllows}
 use Rattle.dict.specs.Typed.{TypedAllows}
 use Rattle.dict.specs.Laws.TypedMaps.{typed_run}
 use Rattle.dict.specs.Words.{IsNumber, IsWideNumber}

@@ -5,12 +5,8 @@ use Rattle.std.specs.List.{list_any}
 use Rattle.std.proofs.lemmas.Bool.{or_left}
 use Rattle.arena.proofs.Lemmas.{or_right, or_split}
 use native.Mathlib.Decide.{ℕ_discrete}
-use Rattle.arena.specs.declared.layout.Layout.{Layout}
-use Rattle.arena.specs.History.{History}
-use Rattle.prims.specs.Snap.{snap_at}
-use Rattle.prims.specs.Snaps.{IsAmong}
-use Rattle.prims.specs.declared.snap.Snap.{Snap}
-use Rattle.prims.specs.declared.llx.Llx.{Llx}
+use Rattle.histories.specs.Common.{Layout, History}
+use Rattle.template.specs.Common.{snap_at, IsAmong, Snap, Llx}
 use Rattle.player.specs.declared.kept.KeptSnapshot.{KeptSnapshot}
 use Rattle.player.specs.declared.kept.Kept.{Kept}
 use Rattle.player.specs.KeptSnaps.{AreKept, AllKept, IsFirstUnkept, IsUnspent, kept_of, node_of, found_of, parts, snap_of}

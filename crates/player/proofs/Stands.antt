@@ -1,11 +1,8 @@
 -- How a turn begins: where the client that makes it is.
 use Rattle.std.proofs.Common.{◌≡◌, ◌≢◌, ℕ, suc, ◌<◌, ◌⊎◌, inl, inr, List, ◌∷◌, set, length, get_or, Option, Some, None, is_some, drop, slice_get, refl, sym, ◌∙◌, ap, subst, arith}
 use Rattle.std.proofs.lemmas.Option.{slice_get_read}
-use Rattle.arena.specs.declared.layout.Layout.{Layout}
-use Rattle.arena.specs.declared.number.PassNo.{PassNo}
-use Rattle.arena.specs.declared.step.Step.{Step as Ask}
-use Rattle.script.specs.declared.call.Call.{Call}
-use Rattle.script.specs.declared.command.Command.{Command}
+use Rattle.histories.specs.Common.{Layout, PassNo, Step as Ask}
+use Rattle.record.specs.Common.{Call, Command, commands, next_command, turns, begin, answered}
 use Rattle.record.specs.declared.record.Line.{Line}
 use Rattle.record.specs.declared.record.Line.TheVariants.{Step, Reply as ReplyLine}
 use Rattle.record.specs.declared.record.TurnRow.TheVariants.{Idle}
@@ -15,8 +12,6 @@ use Rattle.player.specs.declared.client.Client.{Client}
 use Rattle.player.specs.declared.client.NextAction.TheVariants.{Finished, Answers, Asks}
 use Rattle.player.specs.declared.interleaving.Interleaving.{Interleaving}
 use Rattle.player.specs.Place.{IsNextCallAt}
-use Rattle.record.specs.Commands.{commands, next_command}
-use Rattle.record.specs.Turns.{turns, begin, answered}
 use Rattle.player.specs.ClientView.{ClientView, client_view, Rests, Refuses, WaitsForStep, IsClient, IsNextAction, command_of}
 use Rattle.player.specs.BetweenTurns.{IsTurnOf, AreBetweenTurns, IsBetweenTurns, IsStepAsked, IsEnd, ArePlaces}
 use Rattle.linearization.specs.declared.places.Change.{Change}

@@ -1,40 +1,22 @@
 -- The turn of a client that makes a step.
 use Rattle.std.proofs.Common.{◌≡◌, ℕ, suc, true, ◌≤◌, ◌≢◌, ◌⊎◌, inl, inr, ⊎_elim, List, ◌∷◌, set, length, Option, Some, None, MatchOption, IsSome, All, get_or, slice_get, unwrap_or, refl, sym, ◌∙◌, ap, subst, eq-eqb, arith, [], IfSome}
 use native.Mathlib.Decide.{ℕ_discrete}
-use Rattle.arena.specs.Fills.{IsOwnScx}
-use Rattle.arena.specs.declared.layout.Layout.{Layout}
-use Rattle.arena.specs.declared.number.PassNo.{PassNo}
-use Rattle.arena.specs.declared.step.Row.{Row}
-use Rattle.arena.specs.declared.step.Step.{Step as Ask}
-use Rattle.arena.specs.declared.step.Kind.{Kind}
-use Rattle.arena.specs.declared.word.Word.{Word}
-use Rattle.arena.specs.Words.{word_after}
+use Rattle.histories.specs.Common.{IsOwnScx, Layout, PassNo, Row, Step as Ask, Kind, Word, word_after, Load, Store, Exchange, IsWord}
+use Rattle.histories.specs.Common.{Contents, word_at, IsChanged, ◌⊳◌, value, IsLawful, IsWin, IsRun, IsTold, Tree, taken_nodes}
 use Rattle.arena.specs.declared.step.Access.{Access}
-use Rattle.arena.specs.declared.step.Access.TheVariants.{Load, Store, Exchange}
-use Rattle.arena.specs.Layout.{IsWord}
-use Rattle.arena.specs.PlainWords.{Contents, word_at, IsChanged}
-use Rattle.arena.specs.History.{◌⊳◌, value}
-use Rattle.arena.specs.Lawful.{IsLawful, IsWin}
-use Rattle.arena.specs.Machines.{IsRun, IsTold}
 use Rattle.histories.proofs.Lemmas.{UpdateWins, facts_before, lawful_row, update_win}
-use Rattle.arena.specs.declared.limits.Mode.TheVariants.{Tree}
 use Rattle.player.specs.Allowed.{PlayedAllows}
 use Rattle.ordered_map.specs.FillOrder.{IsFillInOrder}
 use Rattle.player.proofs.InOrder.{run_in_order}
-use Rattle.ordered_map.specs.declared.pair.Pair.{Pair}
-use Rattle.ordered_map.specs.OrderedMap.{MapCall, MapEdit, edit_key, edit_of, get, reply, value_left}
-use Rattle.ordered_map.specs.Requests.{map_request}
+use Rattle.record.specs.Common.{Pair, MapCall, MapEdit, edit_key, edit_of, get, reply, value_left, map_request, map_call, map_call_of, map_of, written_log}
+use Rattle.record.specs.Common.{AreLines, Map, Call, Command, history, turns, answered, clients, begin, start, won, last_client, entry_of, entry_owed}
+use Rattle.record.specs.Common.{commands, MayAnswerAfterStep, HasTakenFew, enters, IsRight, IsEntryFor, linked, IsFitting, IsReplyOwed, IsWinOf}
 use Rattle.linearization.specs.declared.places.Change.{Change}
 use Rattle.linearization.specs.declared.places.Places.{Places}
 use Rattle.linearization.specs.Changed.{changed_key}
 use Rattle.linearization.specs.Places.{changes, Knows, HoldsOfKey}
 use Rattle.linearization.specs.Entries.{AreEntries, AreUpTo, IsChangeBy, IsChangeByEdit}
 use Rattle.linearization.proofs.Lemmas.{knows_told, map_now, spelled}
-use Rattle.record.specs.MapRecord.{map_call, map_call_of, map_of, written_log}
-use Rattle.record.specs.LawfulRun.{AreLines}
-use Rattle.script.specs.declared.command.Command.TheVariants.{Map}
-use Rattle.script.specs.declared.call.Call.{Call}
-use Rattle.script.specs.declared.command.Command.{Command}
 use Rattle.record.specs.declared.record.Line.{Line}
 use Rattle.record.specs.declared.record.Line.TheVariants.{Step, Log, Reply as ReplyLine}
 use Rattle.record.specs.declared.record.TurnRow.TheVariants.{Step as Made, Idle}
@@ -46,15 +28,8 @@ use Rattle.player.specs.declared.client.Running.{Running}
 use Rattle.player.specs.declared.interleaving.Interleaving.{Interleaving}
 use Rattle.player.specs.Lines.{with_entry}
 use Rattle.player.specs.Player.{ScriptView, script_view}
-use Rattle.arena.specs.TakenNodes.{taken_nodes}
-use Rattle.record.specs.Turns.{history, turns, answered, clients, begin, start, won, last_client, entry_of, entry_owed}
-use Rattle.record.specs.Commands.{commands}
-use Rattle.record.specs.CommandRules.{MayAnswerAfterStep, HasTakenFew, enters, IsRight, IsEntryFor}
-use Rattle.record.specs.Linked.{linked}
 use Rattle.player.proofs.Editing.{run_says}
 use Rattle.player.proofs.Placing.{done_enters}
-use Rattle.record.specs.Replies.{IsFitting, IsReplyOwed}
-use Rattle.record.specs.Entries.{IsWinOf}
 use Rattle.player.specs.RunKnown.{edit_in_hand}
 use Rattle.player.specs.ClientView.{ClientView, client_edit, client_view, running_edit, Tells, IsSound, Hears, IsClient, GoesOn, EndsCall, WaitsForStep, machine_call}
 use Rattle.player.specs.BetweenTurns.{IsLawfulSoFar, IsTurnOf, AreBetweenTurns, KnowsCounts, IsBetweenTurns, IsStepAsked, IsEnd, AreWins, ArePlaces, IsAtEdit, IsOwned, owners_edit}

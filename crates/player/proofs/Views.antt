@@ -1,27 +1,13 @@
 -- What each row leaves of what the clients know.
 use Rattle.std.proofs.Common.{◌≡◌, ◌≢◌, ℕ, suc, ◌<◌, ◌≤◌, ◌⊎◌, inl, inr, ⊎_elim, Option, Some, None, List, refl, sym, ◌∙◌, subst, arith}
-use Rattle.arena.specs.declared.layout.Layout.{Layout}
-use Rattle.arena.specs.declared.limits.Mode.TheVariants.{Tree}
-use Rattle.arena.specs.declared.step.Row.{Row}
-use Rattle.arena.specs.declared.step.Step.{Step as Ask}
-use Rattle.arena.specs.Share.{Remaining}
-use Rattle.arena.specs.Words.{word_after}
-use Rattle.arena.specs.History.{History, Start, ◌⊳◌, value, Extends}
-use Rattle.arena.specs.Blame.{IsMember, IsInProgress}
+use Rattle.histories.specs.Common.{Layout, Tree, Row, Step as Ask, Remaining, word_after, History, Start, ◌⊳◌, value, Extends, IsMember}
+use Rattle.histories.specs.Common.{IsInProgress, IsOwnNode, IsOwnScx, IsTakenNode, IsTakenScx, Lawful, HasWon, IsWin, Call, IsTold, row_of, LoadInfo}
 use Rattle.arena.proofs.Lemmas.{last_more, ends_self, ends_trans, taken_more}
-use Rattle.arena.specs.Fills.{IsOwnNode, IsOwnScx, IsTakenNode, IsTakenScx}
-use Rattle.arena.specs.Lawful.{Lawful, HasWon, IsWin}
-use Rattle.arena.specs.Machines.{Call, IsTold, row_of}
 use Rattle.histories.proofs.Lemmas.{Logs, UpdateWins, facts_before, logs, same as log_same, update_split, update_win, update_won, lawful_row, wins as log_wins, won_more}
-use Rattle.prims.specs.Cells.{AllowsAll}
-use Rattle.prims.specs.Moments.{AreFinished}
+use Rattle.template.specs.Common.{AllowsAll, AreFinished, IsAmong, snap_at, Snap, IsShare, PutRun}
 use Rattle.prims.specs.Laws.Begun.{TakesOnly, takes_by_others}
 use Rattle.prims.proofs.Lemmas.{alone_more, moment_more, over_more, put_covers, put_covers_then, share_by_others, share_by_step, share_by_put, own_in_hand, next_idle, wins_in_progress, usable_since, llx_fills_not, vlx_fills_not, put_looks_not, untaken_node_by_others}
-use Rattle.prims.specs.Snaps.{IsAmong}
-use Rattle.prims.specs.Snap.{snap_at}
-use Rattle.prims.specs.declared.snap.Snap.{Snap}
-use Rattle.script.specs.declared.command.Command.{Command}
-use Rattle.script.specs.declared.command.Command.TheVariants.{Llx as LlxOf, Scx as ScxOf, Vlx as VlxOf, Set as SetOf, Map as MapOf}
+use Rattle.record.specs.Common.{Command, Llx as LlxOf, Scx as ScxOf, Vlx as VlxOf, Set as SetOf, Map as MapOf}
 use Rattle.player.specs.declared.run.Run.{Run}
 use Rattle.player.specs.declared.run.Run.TheVariants.{Llx, Scx, Vlx, Map}
 use Rattle.player.specs.declared.client.Client.{Client}
@@ -33,10 +19,7 @@ use Rattle.record.specs.Answers.{HasRoom}
 use Rattle.player.specs.RunKnown.{RunWaits, RunIsReady, run_mode}
 use Rattle.player.proofs.RunLaws.{run_keeps, run_lawful, run_made}
 use Rattle.player.specs.ClientView.{ClientView, Hand, no_hand, in_hand, snaps_of, IsSound, HasNewest, IsStart, IsSource, IsMachineOf, HasTaken, HaveMoments, IsRoomy, IsWonAs, IsOwnWin, IsWonSince, IsWonBy, held, HoldsShare, Holds, TakesInHand, IsClientState, Rests, Works, WaitsForStep, Hears, IsClient, machine_call}
-use Rattle.prims.specs.Shares.{IsShare}
 use Rattle.player.proofs.Over.{IsOfCells, takes_by_own, nodes_by_own}
-use Rattle.prims.specs.declared.put.PutRun.{PutRun}
-use Rattle.arena.specs.declared.step.Kind.TheVariants.{LoadInfo}
 
 some_number : (a b : ℕ) → Some a ≡ Some b → a ≡ b
 some_number a b e = cc

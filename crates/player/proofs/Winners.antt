@@ -1,24 +1,10 @@
 -- The SCX-record whose update wins, its owner, and what an updating row leaves.
 use Rattle.std.proofs.Common.{◌≡◌, ◌≢◌, ℕ, suc, ◌+◌, ◌<◌, ◌≤◌, ◌⊎◌, inl, inr, Bool, true, false, cond, ◌&&◌, eqb, eqb-true, eq-eqb, ne_eqb, List, ◌∷◌, Option, Some, None, refl, sym, ◌∙◌, ap, subst, arith}
 use Rattle.std.proofs.Math.Nat.{div-eq_of_lt-le}
-use Rattle.arena.specs.declared.word.Side.{Side}
-use Rattle.arena.specs.declared.word.NodeWord.TheVariants.{Child, Info}
+use Rattle.histories.specs.Common.{Side, Child, Info, Layout, Row, Kind, Fill, Freeze, SetFrozen, Mark, Update, Commit, Abort, Word, IsOwnScx, all_scx}
+use Rattle.histories.specs.Common.{first_scx, scx, info, child, History, ◌⊳◌, value, plan, side_of, field_index, member, Lawful, owner, descriptor, IsStarted}
 use Rattle.arena.specs.declared.word.ScxWord.TheVariants.{Call}
-use Rattle.arena.specs.declared.layout.Layout.{Layout}
-use Rattle.arena.specs.declared.step.Row.{Row}
-use Rattle.arena.specs.declared.step.Kind.{Kind}
-use Rattle.arena.specs.declared.step.Kind.TheVariants.{Fill, Freeze, SetFrozen, Mark, Update, Commit, Abort}
-use Rattle.arena.specs.declared.word.Word.{Word}
-use Rattle.arena.specs.Fills.{IsOwnScx}
-use Rattle.arena.specs.Layout.{all_scx, first_scx}
-use Rattle.arena.specs.Words.{scx, info, child}
-use Rattle.arena.specs.History.{History, ◌⊳◌, value}
-use Rattle.arena.specs.ScxRecords.{plan, side_of, field_index, member}
-use Rattle.arena.specs.Lawful.{Lawful}
-use Rattle.arena.specs.Log.{owner}
 use Rattle.arena.proofs.Lemmas.{value_apart, node_word_apart}
-use Rattle.histories.specs.Descriptor.{descriptor}
-use Rattle.histories.specs.Progress.{IsStarted}
 use Rattle.histories.proofs.Lemmas.{Change, Facts, IsFlagged, IsOwned, UpdateWins, aborts, change, child_node, commits, facts, facts_before, fills_node, fills_scx, freezes, lawful_tail, marks, named_scx_inside, nothing, one_scx_owner, sets_frozen, some_is_real, update_changes, update_flagged, update_holds, updates}
 use Rattle.script.specs.declared.call.Call.{Call as CallOf}
 use Rattle.record.specs.declared.record.Line.{Line}

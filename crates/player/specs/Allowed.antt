@@ -1,9 +1,6 @@
 -- Which SCX-records the calls of a script may begin: those that the shape of its mode allows.
 use Rattle.std.specs.Prelude.{ℕ, ◌^◌, ◌<◌}
-use Rattle.arena.specs.declared.limits.Mode.{Mode}
-use Rattle.arena.specs.declared.limits.Mode.TheVariants.{Records, Tree}
-use Rattle.arena.specs.declared.layout.Layout.{Layout}
-use Rattle.arena.specs.History.{History}
+use Rattle.histories.specs.Common.{Mode, Records, Tree, Layout, History}
 use Rattle.dict.specs.Typed.{TypedAllows}
 use Rattle.dict.specs.Words.{IsNumber, IsWideNumber}
 use Rattle.prims.specs.Cells.{AllowsAll}

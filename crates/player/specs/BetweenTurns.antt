@@ -1,15 +1,7 @@
 -- What is true of an interleaving between two turns, and in the middle of one.
 use Rattle.std.specs.Prelude.{◌≡◌, ◌≢◌, ℕ, suc, ◌<◌, ◌⊎◌, List, ◌∷◌, set, Option, Some, None, MatchOption, slice_get, All}
-use Rattle.arena.specs.declared.layout.Layout.{Layout}
-use Rattle.arena.specs.declared.word.Word.{Word}
-use Rattle.arena.specs.Layout.{IsWord}
-use Rattle.arena.specs.PlainWords.{Contents, word_at}
-use Rattle.arena.specs.History.{value}
-use Rattle.arena.specs.Machines.{IsRun}
-use Rattle.script.specs.declared.call.Call.{Call}
-use Rattle.script.specs.Commands.{mode_of}
-use Rattle.arena.specs.declared.step.Step.{Step as Ask}
-use Rattle.arena.specs.declared.step.Row.{Row}
+use Rattle.histories.specs.Common.{Layout, Word, IsWord, Contents, word_at, value, IsRun, Step as Ask, Row, Tree}
+use Rattle.record.specs.Common.{Call, mode_of, AreFilledInOrder, history, begin, clients, entries, entry_owed, turns, won, MapEdit, edit_key, value_left, written_log, AreLines, OwesNothing}
 use Rattle.record.specs.declared.record.Line.{Line}
 use Rattle.record.specs.declared.record.Line.TheVariants.{Step}
 use Rattle.record.specs.declared.record.TurnRow.{TurnRow}
@@ -18,22 +10,16 @@ use Rattle.record.specs.declared.record.Finished.{Finished}
 use Rattle.record.specs.declared.record.Answer.{Answer}
 use Rattle.player.specs.declared.client.Running.{Running}
 use Rattle.player.specs.Allowed.{PlayedAllows}
-use Rattle.arena.specs.declared.limits.Mode.TheVariants.{Tree}
-use Rattle.ordered_map.specs.FillOrder.{AreFilledInOrder}
 use Rattle.player.specs.Lines.{turn_lines, with_entry, with_turn}
 use Rattle.player.specs.declared.client.Client.{Client}
 use Rattle.player.specs.Player.{script_view}
 use Rattle.player.specs.declared.interleaving.Interleaving.{Interleaving}
-use Rattle.record.specs.Turns.{history, begin, clients, entries, entry_owed, turns, won}
-use Rattle.ordered_map.specs.OrderedMap.{MapEdit, edit_key, value_left}
 use Rattle.record.specs.declared.record.Entry.{Entry}
-use Rattle.record.specs.MapRecord.{written_log}
 use Rattle.linearization.specs.declared.places.Change.{Change}
 use Rattle.linearization.specs.declared.places.Places.{Places}
 use Rattle.linearization.specs.Places.{changes, Knows, HoldsOfKey}
 use Rattle.linearization.specs.Entries.{AreEntries, IsChangeOf}
 use Rattle.player.specs.Moments.{IsMomentBy}
-use Rattle.record.specs.LawfulRun.{AreLines, OwesNothing}
 use Rattle.player.specs.ClientView.{client_edit, client_view, IsClient, WaitsForStep, IsAtNextCall}
 
 -- the words hold what the steps have left in them, the steps

@@ -1,41 +1,19 @@
 -- What a client knows at a moment of the run, and what a turn of it leaves.
 use Rattle.std.specs.Prelude.{◌≡◌, ◌≢◌, ℕ, suc, ◌+◌, ◌^◌, ◌<◌, ◌≤◌, ◌⊎◌, ◌↔◌, Bool, true, false, List, [], ◌∷◌, length, drop, Option, Some, None, slice_get, unwrap_or, IsSome}
 use Rattle.std.specs.List.{Contains}
-use Rattle.arena.specs.TakenNodes.{taken_nodes}
-use Rattle.arena.specs.declared.word.Side.{Side}
-use Rattle.arena.specs.declared.limits.Mode.TheVariants.{Records, Tree}
-use Rattle.arena.specs.declared.layout.Layout.{Layout}
-use Rattle.arena.specs.declared.step.Row.{Row}
-use Rattle.arena.specs.Share.{Remaining, IsFull}
-use Rattle.arena.specs.History.{History, ◌⊳◌, value, Extends}
-use Rattle.arena.specs.ScxRecords.{plan_finalizes, side_of}
-use Rattle.arena.specs.Lawful.{HasWon, IsWin}
-use Rattle.arena.specs.Fills.{IsOwnNode, IsOwnScx, IsTakenNode, IsTakenScx}
-use Rattle.arena.specs.Machines.{Call as MachineCall, IsRun}
+use Rattle.histories.specs.Common.{taken_nodes, Side, Records, Tree, Layout, Row, Remaining, History, ◌⊳◌, value, Extends, plan_finalizes}
+use Rattle.histories.specs.Common.{side_of, HasWon, IsWin, IsOwnNode, IsOwnScx, IsTakenNode, IsTakenScx, Call as MachineCall, IsRun}
+use Rattle.arena.specs.Share.{IsFull}
 use Rattle.dict.specs.Calls.{call_in}
 use Rattle.dict.specs.Known.{AsksFirst}
 use Rattle.dict.specs.declared.dict.DictRun.{DictRun}
-use Rattle.prims.specs.Moments.{IsMoment, AreLeftAlone, AreFinished, HasTakenOnly}
-use Rattle.prims.specs.Scx.Known.{nodes_of}
-use Rattle.prims.specs.Shares.{IsShare}
-use Rattle.prims.specs.Snap.{snap_at}
-use Rattle.prims.specs.Snaps.{IsAmong}
-use Rattle.prims.specs.Updates.{update_field_index}
-use Rattle.prims.specs.declared.put.PutRun.{PutRun}
-use Rattle.prims.specs.declared.snap.Snap.{Snap}
-use Rattle.record.specs.Replied.{HasReplied}
-use Rattle.ordered_map.specs.OrderedMap.{MapCall, MapEdit, MapReply, changes_map, reply}
-use Rattle.ordered_map.specs.Spelled.{Spells}
-use Rattle.ordered_map.specs.declared.pair.Pair.{Pair}
-use Rattle.script.specs.declared.call.Call.{Call}
-use Rattle.script.specs.declared.command.Command.{Command}
-use Rattle.script.specs.declared.command.Command.TheVariants.{Llx as LlxOf, Scx as ScxOf, Vlx as VlxOf, Set as SetOf, Map as MapOf}
-use Rattle.ordered_map.specs.Requests.{map_request}
-use Rattle.ordered_map.specs.declared.request.Request.{Request}
+use Rattle.template.specs.Common.{AreFinished, nodes_of, IsShare, snap_at, IsAmong, update_field_index, PutRun, Snap}
+use Rattle.prims.specs.Moments.{IsMoment, AreLeftAlone, HasTakenOnly}
+use Rattle.record.specs.Common.{HasReplied, MapCall, MapEdit, MapReply, changes_map, reply, Spells, Pair, Call, Command, Llx as LlxOf, Scx as ScxOf, Vlx as VlxOf, Set as SetOf}
+use Rattle.record.specs.Common.{Map as MapOf, map_request, Request, cells_of, update_cells, update_finalize, update_field, update_value, history, answered, start, steps}
+use Rattle.record.specs.Common.{won, commands, linked, reply_told, command_steps, MayAnswerAtOnce, MayAnswerAfterStep, HasTakenFew, enters, IsRight, IsLastLook, HasItsEntry}
 use Rattle.record.specs.declared.record.Line.{Line}
 use Rattle.record.specs.declared.record.Answer.{Answer}
-use Rattle.script.specs.Cells.{cells_of}
-use Rattle.script.specs.Update.{update_cells, update_finalize, update_field, update_value}
 use Rattle.record.specs.declared.record.Answer.TheVariants.{Full}
 use Rattle.player.specs.declared.run.Run.{Run}
 use Rattle.player.specs.declared.run.Run.TheVariants.{Llx, Scx, Vlx, Map}
@@ -50,13 +28,8 @@ use Rattle.player.specs.RunKnown.{RunIsReady, RunWaits, RunAnswers, edit_in_hand
 use Rattle.player.specs.RunSteps.{then_left, left_of}
 use Rattle.player.specs.KeptSnaps.{AreKept, IsUnspent, kept_of}
 use Rattle.player.specs.Place.{IsNextCallAt}
-use Rattle.record.specs.Turns.{history, answered, start, steps, won}
-use Rattle.record.specs.Commands.{commands}
-use Rattle.record.specs.Linked.{linked}
-use Rattle.record.specs.MapRecord.{reply_told}
-use Rattle.record.specs.CommandRules.{linked_then, command_steps, MayAnswerAtOnce, MayAnswerAfterStep, HasTakenFew, enters, IsRight}
-use Rattle.record.specs.Snapshots.{IsLastLook}
-use Rattle.record.specs.Answers.{HasRoom, HasItsEntry}
+use Rattle.record.specs.CommandRules.{linked_then}
+use Rattle.record.specs.Answers.{HasRoom}
 
 -- what the lines so far say to one client
 pub record ClientView : Type 0 where

@@ -1,13 +1,7 @@
 -- What a client keeps of the snapshots that it took.
 use Rattle.std.specs.Prelude.{◌≡◌, ℕ, ◌<◌, ◌≤◌, List, length, slice_index_or, Option, Some, None, IsSome}
-use Rattle.arena.specs.declared.layout.Layout.{Layout}
-use Rattle.arena.specs.History.{History}
-use Rattle.prims.specs.Moments.{IsLeftAlone}
-use Rattle.prims.specs.Shares.{IsUsable}
-use Rattle.prims.specs.Snap.{snap_at}
-use Rattle.prims.specs.declared.snap.Snap.{Snap}
-use Rattle.prims.specs.declared.llx.Llx.{Llx}
-use Rattle.prims.specs.declared.llx.Llx.TheVariants.{Snapshot, Finalized, Fail}
+use Rattle.histories.specs.Common.{Layout, History}
+use Rattle.template.specs.Common.{IsLeftAlone, IsUsable, snap_at, Snap, Llx, Snapshot, Finalized, Fail}
 use Rattle.record.specs.Snapshots.{IsBehindAll}
 use Rattle.player.specs.declared.kept.KeptSnapshot.{KeptSnapshot}
 use Rattle.player.specs.declared.kept.Kept.{Kept}

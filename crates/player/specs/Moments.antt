@@ -1,17 +1,11 @@
 -- Where a call took place, by what it has answered.
 use Rattle.std.specs.Prelude.{◌≡◌, ◌≢◌, ℕ, suc, ◌≤◌, Bool, true, false, List, Option, Some, None, IfSome, IfNone}
-use Rattle.ordered_map.specs.OrderedMap.{MapCall, MapReply, OneValue, get, reply as replies_on}
-use Rattle.ordered_map.specs.Requests.{key_told, tells_change}
-use Rattle.script.specs.declared.call.Call.{Call}
-use Rattle.script.specs.declared.command.Command.{Command}
-use Rattle.ordered_map.specs.Replies.{number_reply}
-use Rattle.ordered_map.specs.declared.reply.Reply.{Reply}
+use Rattle.record.specs.Common.{MapCall, MapReply, OneValue, get, reply as replies_on, tells_change, Call, Command, number_reply, Reply, map_at, map_call, IsGreatestTurn}
+use Rattle.ordered_map.specs.Requests.{key_told}
 use Rattle.record.specs.declared.record.Line.{Line}
 use Rattle.record.specs.declared.record.Answer.{Answer}
 use Rattle.record.specs.declared.record.Answer.TheVariants.{Map as MapAnswer}
 use Rattle.record.specs.Answers.{moment_of}
-use Rattle.record.specs.MapRecord.{map_at, map_call}
-use Rattle.record.specs.Placed.{IsGreatestTurn}
 use Rattle.linearization.specs.declared.places.Change.{Change}
 use Rattle.linearization.specs.Entries.{AreEntries}
 use Rattle.linearization.specs.Ordered.{FallFrom, IsOrderedRead}

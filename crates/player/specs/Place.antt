@@ -1,8 +1,6 @@
 -- Where a client's calls are in a script.
 use Rattle.std.specs.Prelude.{◌≡◌, ℕ, suc, List, [], ◌∷◌, drop, Option, Some, None, slice_get}
-use Rattle.script.specs.declared.call.Call.{Call}
-use Rattle.script.specs.declared.command.Command.{Command}
-use Rattle.record.specs.Commands.{commands}
+use Rattle.record.specs.Common.{Call, Command, commands}
 
 -- where the first of client c's commands that are still to be made
 -- is among the calls; nowhere if there is none

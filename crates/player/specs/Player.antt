@@ -6,14 +6,11 @@ use Rattle.arena.specs.contracts.limits.Limits as limits
 use Rattle.arena.specs.declared.layout.Layout.{Layout}
 use Rattle.arena.specs.declared.limits.Limits.{Limits}
 use Rattle.script.specs.contracts.call.Call as call
-use Rattle.script.specs.declared.call.Call.{Call}
-use Rattle.script.specs.declared.script.Script.{Script}
+use Rattle.record.specs.Common.{Call, Script, clients, IsLawfulRun}
 use Rattle.record.specs.contracts.record.Line as line
 use Rattle.record.specs.declared.record.Line.{Line}
 use Rattle.record.specs.declared.record.Line.TheVariants.{Step}
 use Rattle.record.specs.declared.record.TurnRow.{TurnRow}
-use Rattle.record.specs.Turns.{clients}
-use Rattle.record.specs.LawfulRun.{IsLawfulRun}
 
 -- what a script says
 pub record ScriptView : Type 0 where

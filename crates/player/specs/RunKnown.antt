@@ -1,12 +1,7 @@
 -- When the machine of a call may continue, what it waits for,
 -- and what its answer says: as the machine inside.
 use Rattle.std.specs.Prelude.{◌≡◌, ℕ, Option, Some, None}
-use Rattle.arena.specs.declared.limits.Mode.{Mode}
-use Rattle.arena.specs.declared.limits.Mode.TheVariants.{Records, Tree}
-use Rattle.arena.specs.declared.step.Step.{Step}
-use Rattle.arena.specs.History.{History}
-use Rattle.arena.specs.Machines.{Call}
-use Rattle.arena.specs.Share.{Remaining}
+use Rattle.histories.specs.Common.{Mode, Records, Tree, Step, History, Call, Remaining}
 use Rattle.dict.specs.Calls.{call_in, share_of}
 use Rattle.dict.specs.DictKnown.{DictIsReady, DictWaits, DictAnswers}
 use Rattle.dict.specs.Inner.{InnerRun, Update, edit_means, inner}
@@ -14,19 +9,12 @@ use Rattle.dict.specs.Known.{AsksFirst}
 use Rattle.edits.specs.Edits.{EditMeaning}
 use Rattle.edits.specs.declared.update.UpdateAt.{UpdateAt}
 use Rattle.edits.specs.declared.update.UpdateAt.TheVariants.{Scx as AtScx}
-use Rattle.prims.specs.Cells.{AllowsAll}
-use Rattle.prims.specs.Llx.Known.{LlxIsReady, LlxWaits, LlxAnswers}
-use Rattle.prims.specs.Vlx.Known.{VlxIsReady, VlxWaits, VlxAnswers}
-use Rattle.prims.specs.Put.Known.{PutIsReady, PutWaits, PutAnswers}
-use Rattle.prims.specs.declared.llx.Llx.TheVariants.{Snapshot as LlxSnapshot, Finalized as LlxFinalized, Fail as LlxFail}
-use Rattle.prims.specs.declared.scx.Scx.TheVariants.{Done as ScxDone, Lost as ScxLost}
-use Rattle.prims.specs.declared.vlx.Vlx.TheVariants.{Same as VlxSame, Changed as VlxChanged}
+use Rattle.template.specs.Common.{AllowsAll, LlxIsReady, LlxWaits, LlxAnswers, VlxIsReady, VlxWaits, VlxAnswers, PutIsReady, PutWaits, PutAnswers, Snapshot as LlxSnapshot}
+use Rattle.template.specs.Common.{Finalized as LlxFinalized, Fail as LlxFail, Done as ScxDone, Lost as ScxLost, Same as VlxSame, Changed as VlxChanged}
 use Rattle.record.specs.declared.record.Answer.{Answer}
 use Rattle.record.specs.declared.record.Answer.TheVariants.{Snapshot, Finalized, Fail, Done, Lost, Same, Changed, Map as MapAnswer}
 use Rattle.ordered_map.specs.CallRules.{TakesNothing}
-use Rattle.ordered_map.specs.OrderedMap.{MapEdit}
-use Rattle.ordered_map.specs.declared.request.Request.{Request}
-use Rattle.ordered_map.specs.declared.request.Request.TheVariants.{Range as RangeOf}
+use Rattle.record.specs.Common.{MapEdit, Request, Range as RangeOf}
 use Rattle.dict.specs.Words.{IsNumber, IsWideNumber}
 use Rattle.player.specs.Allowed.{FitsTwoWords, IsSmall}
 use Rattle.player.specs.declared.run.Run.{Run}

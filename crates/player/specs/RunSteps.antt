@@ -1,9 +1,8 @@
 -- How many steps a run may still ask for.
 use Rattle.std.specs.Prelude.{ℕ, ◌+◌, Option, Some, None}
 use Rattle.dict.specs.Steps.{map_left}
-use Rattle.prims.specs.Llx.Steps.{llx_left}
+use Rattle.template.specs.Common.{llx_left, vlx_left}
 use Rattle.prims.specs.Put.Steps.{put_left}
-use Rattle.prims.specs.Vlx.Steps.{vlx_left}
 use Rattle.player.specs.declared.client.SetField.{SetField}
 use Rattle.player.specs.declared.run.Run.{Run}
 use Rattle.player.specs.declared.run.Run.TheVariants.{Llx, Scx, Vlx, Map}

@@ -2,15 +2,7 @@
 -- its snapshots are left alone.
 use Rattle.std.proofs.Common.{◌≡◌, ◌≢◌, ℕ, inl, inr, arith}
 use native.Mathlib.Decide.{ℕ_discrete}
-use Rattle.arena.specs.declared.layout.Layout.{Layout}
-use Rattle.arena.specs.declared.step.Row.{Row}
-use Rattle.arena.specs.declared.step.Step.{Step}
-use Rattle.arena.specs.Words.{state}
-use Rattle.arena.specs.History.{History, ◌⊳◌, value, Extends}
-use Rattle.arena.specs.Fills.{IsOwnScx}
-use Rattle.arena.specs.Lawful.{Lawful}
-use Rattle.arena.specs.Blame.{IsMember, IsInProgress}
-use Rattle.arena.specs.Machines.{Call, row_of}
+use Rattle.histories.specs.Common.{Layout, Row, Step, state, History, ◌⊳◌, value, Extends, IsOwnScx, Lawful, IsMember, IsInProgress, Call, row_of}
 use Rattle.arena.proofs.Lemmas.{ends_self, same_moment}
 use Rattle.histories.proofs.Lemmas.{finished_stays}
 use Rattle.prims.specs.Laws.Idle.{IsIdle}

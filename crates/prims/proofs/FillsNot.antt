@@ -1,14 +1,6 @@
 -- LLX and VLX never ask for a fill.
 use Rattle.std.proofs.Common.{◌≡◌, ◌≢◌, ℕ, List, ap}
-use Rattle.arena.specs.declared.layout.Layout.{Layout}
-use Rattle.arena.specs.declared.step.Step.{Step}
-use Rattle.arena.specs.declared.step.Kind.{Kind}
-use Rattle.arena.specs.declared.step.Kind.TheVariants.{Fill, LoadInfo, LoadState, LoadMarked, LoadChild}
-use Rattle.arena.specs.declared.word.Word.{Word}
-use Rattle.arena.specs.declared.word.Side.TheVariants.{Left, Right}
-use Rattle.arena.specs.Words.{info, marked, child, state}
-use Rattle.arena.specs.History.{History}
-use Rattle.arena.specs.Machines.{Call}
+use Rattle.histories.specs.Common.{Layout, Step, Kind, Fill, LoadInfo, LoadState, LoadMarked, LoadChild, Word, Left, Right, info, marked, child, state, History, Call}
 use Rattle.help.specs.Laws.Help.Lawful.{help_fills_not}
 use Rattle.prims.specs.Llx.Known.{load, LlxHasAsked, LlxWaits}
 use Rattle.prims.specs.Vlx.Known.{VlxWaits}

@@ -1,13 +1,6 @@
 -- What LLX's answers say of other moments, and how a call of it begins.
 use Rattle.std.proofs.Common.{◌≡◌, ℕ, ◌<◌, ◌≤◌, inl, true, false, None, sym, subst, arith}
-use Rattle.arena.specs.declared.limits.Mode.TheVariants.{Records}
-use Rattle.arena.specs.declared.layout.Layout.{Layout}
-use Rattle.arena.specs.declared.number.ScxNo.{ScxNo}
-use Rattle.arena.specs.Layout.{opening_nodes}
-use Rattle.arena.specs.History.{History, Extends}
-use Rattle.arena.specs.Lawful.{Lawful}
-use Rattle.arena.specs.Log.{log, is_final}
-use Rattle.arena.specs.Machines.{Call}
+use Rattle.histories.specs.Common.{Records, Layout, ScxNo, opening_nodes, History, Extends, Lawful, log, is_final, Call}
 use Rattle.arena.proofs.Lemmas.{ends_self}
 use Rattle.prims.specs.Laws.Idle.{IsIdle, IsQuietSince, quiet_at_start}
 use Rattle.prims.specs.Laws.InTheWay.{open_before}

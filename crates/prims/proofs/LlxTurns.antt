@@ -1,18 +1,7 @@
 -- What a run of LLX knows and waits for after each of its turns.
-use Rattle.std.proofs.Common.{◌≡◌, ◌≢◌, ℕ, Bool, true, false, not, eqb, eq-eqb, ne_eqb, Option, Some, None, ◌⊎◌, inl, inr, refl, sym, ◌∙◌, arith}
-use Rattle.std.specs.Prelude.{unwrap_or}
+use Rattle.std.proofs.Common.{◌≡◌, ◌≢◌, ℕ, Bool, true, false, not, eqb, eq-eqb, ne_eqb, Option, Some, None, ◌⊎◌, inl, inr, refl, sym, ◌∙◌, arith, unwrap_or}
 use native.Mathlib.Decide.{ℕ_discrete}
-use Rattle.arena.specs.declared.layout.Layout.{Layout}
-use Rattle.arena.specs.declared.number.ScxNo.{ScxNo}
-use Rattle.arena.specs.declared.machine.Turn.{Turn}
-use Rattle.arena.specs.declared.machine.Turn.TheVariants.{Done}
-use Rattle.arena.specs.declared.step.Step.{Step}
-use Rattle.arena.specs.declared.step.Kind.TheVariants.{LoadInfo, LoadState, LoadMarked, LoadChild}
-use Rattle.arena.specs.declared.word.Side.{Side}
-use Rattle.arena.specs.declared.word.Side.TheVariants.{Left, Right}
-use Rattle.arena.specs.Words.{info, marked, child, state}
-use Rattle.arena.specs.History.{History, value, HasHeld, Extends}
-use Rattle.arena.specs.Machines.{IsRun, Call}
+use Rattle.histories.specs.Common.{Layout, ScxNo, Turn, Done, Step, LoadInfo, LoadState, LoadMarked, LoadChild, Side, Left, Right, info, marked, child, state, History, value, HasHeld, Extends, IsRun, Call}
 use Rattle.arena.proofs.Lemmas.{held_at}
 use Rattle.histories.proofs.Lemmas.{Facts, IsEnded, aborted_unmarked, by_final, committed_won, facts, fields_are, not_final}
 use Rattle.help.specs.Help.Known.{HelpAnswers}

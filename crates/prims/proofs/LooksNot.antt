@@ -1,11 +1,6 @@
 -- An SCX with a fresh cell looks at no info word.
 use Rattle.std.proofs.Common.{◌≡◌, ◌≢◌, ap, ℕ}
-use Rattle.arena.specs.declared.layout.Layout.{Layout}
-use Rattle.arena.specs.declared.step.Step.{Step}
-use Rattle.arena.specs.declared.step.Kind.{Kind}
-use Rattle.arena.specs.declared.step.Kind.TheVariants.{Fill, LoadInfo}
-use Rattle.arena.specs.History.{History}
-use Rattle.arena.specs.Machines.{Call}
+use Rattle.histories.specs.Common.{Layout, Step, Kind, Fill, LoadInfo, History, Call}
 use Rattle.help.specs.Laws.Help.Lawful.{help_looks_not}
 use Rattle.prims.specs.Scx.Known.{Job, job_of, FillWaits, ScxWaitsAt}
 use Rattle.prims.specs.Put.Known.{PutWaitsAt, PutWaits}

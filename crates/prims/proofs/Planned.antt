@@ -2,10 +2,8 @@
 use Rattle.std.proofs.Common.{◌≡◌, ℕ, zero, suc, ◌+◌, ◌*◌, ◌/◌, ◌%◌, ◌^◌, ◌<◌, ◌≤◌, ◌↔◌, ⊎_elim, subst, Bool, true, false, cond, ltb, lt-ltb, ltb-true, eqb, eqb-true, eq-eqb, List, [], ◌∷◌, length, get_or, refl, sym, ◌∙◌, ap, arith}
 use Rattle.std.proofs.lemmas.Bool.{or_left}
 use Rattle.std.specs.List.{Contains}
-use Rattle.arena.specs.declared.number.NodeNo.{NodeNo}
-use Rattle.arena.specs.declared.word.Side.{Side}
-use Rattle.arena.specs.Log.{has}
-use Rattle.arena.specs.ScxRecords.{IsPlan, count_of, plan_finalizes, field_index_of, side_of, side_no, removed_bits}
+use Rattle.histories.specs.Common.{NodeNo, Side, has, IsPlan, count_of, plan_finalizes, field_index_of, side_of}
+use Rattle.arena.specs.ScxRecords.{side_no, removed_bits}
 use Rattle.arena.proofs.Lemmas.{or_right, or_split, packed_count, packed_field, packed_side, packed_within, packed_removes}
 use Rattle.prims.specs.Snap.{child_of, snap_at}
 use Rattle.prims.specs.Snaps.{AreDistinct, IsAmong, ListsNode, has_node, finalizes}

@@ -2,15 +2,7 @@
 -- filled.
 use Rattle.std.proofs.Common.{◌≡◌, ◌≢◌, ℕ, ◌<◌, arith}
 use native.Mathlib.Decide.{ℕ_discrete}
-use Rattle.arena.specs.declared.layout.Layout.{Layout}
-use Rattle.arena.specs.declared.step.Row.{Row}
-use Rattle.arena.specs.declared.word.ScxWord.TheVariants.{New}
-use Rattle.arena.specs.Words.{state}
-use Rattle.arena.specs.History.{History, ◌⊳◌, value}
-use Rattle.arena.specs.Fills.{IsFillOfNode, IsOwnNode, IsOwnScx, IsTakenNode, IsTakenScx}
-use Rattle.arena.specs.Lawful.{Lawful}
-use Rattle.histories.specs.Descriptor.{Descriptor}
-use Rattle.histories.specs.Unmentioned.{IsUnmentioned}
+use Rattle.histories.specs.Common.{Layout, Row, New, state, History, ◌⊳◌, value, IsFillOfNode, IsOwnNode, IsOwnScx, IsTakenNode, IsTakenScx, Lawful, Descriptor, IsUnmentioned}
 use Rattle.histories.proofs.Lemmas.{finished_taken, named_scx_taken, unmentioned_unnamed}
 use Rattle.help.specs.Allowed.{IsLater, IsAllowed}
 use Rattle.prims.specs.Cells.{AllowsAll}

@@ -1,17 +1,7 @@
 -- What a run of SCX with a fresh cell has once an info word names its SCX-record: its words are
 -- filled, and as soon as it has won there is its entry.
 use Rattle.std.proofs.Common.{◌≡◌, ◌≢◌, ℕ, ◌<◌, length, Some, sym, ◌∙◌, ap, arith}
-use Rattle.arena.specs.declared.layout.Layout.{Layout}
-use Rattle.arena.specs.declared.step.Row.{Row}
-use Rattle.arena.specs.declared.step.Step.{Step}
-use Rattle.arena.specs.declared.word.Side.{Side}
-use Rattle.arena.specs.Words.{node, state, child, first_value}
-use Rattle.arena.specs.History.{History, ◌⊳◌, value, Extends}
-use Rattle.arena.specs.ScxRecords.{count_of}
-use Rattle.arena.specs.Fills.{IsNamedScx}
-use Rattle.arena.specs.Lawful.{IsWin, Lawful}
-use Rattle.arena.specs.Blame.{IsMember, IsInProgress}
-use Rattle.arena.specs.Machines.{Call}
+use Rattle.histories.specs.Common.{Layout, Row, Step, Side, node, state, child, first_value, History, ◌⊳◌, value, Extends, count_of, IsNamedScx, IsWin, Lawful, IsMember, IsInProgress, Call}
 use Rattle.histories.proofs.Lemmas.{facts, won_named, won_since}
 use Rattle.prims.specs.Snaps.{IsAmong}
 use Rattle.prims.specs.Laws.Wins.{won_by}

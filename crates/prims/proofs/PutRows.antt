@@ -1,17 +1,8 @@
 -- What the rows of an SCX with a fresh cell leave as it was: nodes that nothing mentions, except
 -- for its own, and SCX-records that are not taken, except for its own.
 use Rattle.std.proofs.Common.{◌≢◌, ℕ, ◌≤◌, inl, inr, refl, sym, arith, subst, length}
-use Rattle.arena.specs.declared.layout.Layout.{Layout}
-use Rattle.arena.specs.declared.step.Step.{Step}
-use Rattle.arena.specs.MemberIndex.{member_index}
-use Rattle.arena.specs.Layout.{opening_nodes}
-use Rattle.arena.specs.Words.{scx, child, first_value}
-use Rattle.arena.specs.History.{History, ◌⊳◌, HasHeld}
-use Rattle.arena.specs.ScxRecords.{field_index_of as field_of, side_of}
-use Rattle.arena.specs.Fills.{IsInField, IsTakenScx}
-use Rattle.arena.specs.Lawful.{Lawful}
-use Rattle.arena.specs.Machines.{Call, row_of}
-use Rattle.histories.specs.Unmentioned.{IsUnmentioned}
+use Rattle.histories.specs.Common.{Layout, Step, member_index, opening_nodes, scx, child, first_value, History, ◌⊳◌, HasHeld}
+use Rattle.histories.specs.Common.{field_index_of as field_of, side_of, IsInField, IsTakenScx, Lawful, Call, row_of, IsUnmentioned}
 use Rattle.histories.proofs.Lemmas.{IsMention, unmentioned_by_fill, unmentioned_by_step, untaken_by_node, untaken_by_other_fill, untaken_by_step}
 use Rattle.help.specs.Laws.Help.Lawful.{help_fills_not}
 use Rattle.prims.specs.Snap.{snap_at}

@@ -1,18 +1,6 @@
 -- What a run of SCX with a fresh cell knows and waits for after each of its turns.
 use Rattle.std.proofs.Common.{◌≡◌, ℕ, Option, Some, None, List, [], ◌∷◌, inr, refl, sym, ◌∙◌, ap, subst}
-use Rattle.arena.specs.declared.layout.Layout.{Layout}
-use Rattle.arena.specs.declared.machine.Turn.{Turn}
-use Rattle.arena.specs.declared.machine.Turn.TheVariants.{Ask, Done as End}
-use Rattle.arena.specs.declared.step.Row.{Row}
-use Rattle.arena.specs.declared.word.ScxWord.TheVariants.{New}
-use Rattle.arena.specs.declared.word.Side.{Side}
-use Rattle.arena.specs.Words.{node, scx, child, first_value}
-use Rattle.arena.specs.History.{History, ◌⊳◌, value, Extends}
-use Rattle.arena.specs.ScxRecords.{new}
-use Rattle.arena.specs.Fills.{IsNamed, by_scx}
-use Rattle.arena.specs.Lawful.{Lawful, HasWon}
-use Rattle.arena.specs.Log.{Entry}
-use Rattle.arena.specs.Machines.{Call, MatchTurn}
+use Rattle.histories.specs.Common.{Layout, Turn, Ask, Done as End, Row, New, Side, node, scx, child, first_value, History, ◌⊳◌, value, Extends, new, IsNamed, by_scx, Lawful, HasWon, Entry, Call, MatchTurn}
 use Rattle.arena.proofs.Lemmas.{ends_self, ends_trans, held_now}
 use Rattle.histories.proofs.Lemmas.{facts_before, lawful_row, lawful_since, node_since, update_is_first}
 use Rattle.prims.specs.BlankNodes.{WasBlank}

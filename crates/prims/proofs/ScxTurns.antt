@@ -1,21 +1,11 @@
 -- What a run of SCX knows and waits for after each of its turns.
 use Rattle.std.proofs.Common.{◌≡◌, ℕ, suc, ◌<◌, ◌≤◌, ◌%◌, Bool, true, false, Option, Some, None, ◌⊎◌, inl, inr, ⊎_elim, refl, sym, ◌∙◌, ap, arith, length, subst}
-use Rattle.arena.specs.declared.layout.Layout.{Layout}
-use Rattle.arena.specs.declared.number.MemberIndex.{MemberIndex}
+use Rattle.histories.specs.Common.{Layout, MemberIndex, Turn, ScxWord, Plan, New, Old, Member, Seen, member_index, info, state, child, History, ◌⊳◌, value, Extends}
+use Rattle.histories.specs.Common.{count_of, field_index_of, side_of, plan, member, seen, new, old, count, raw_count, IsRun, Call, Begins, descriptor, Lawful}
 use Rattle.arena.specs.declared.number.MemberIndex.TheVariants.{First}
-use Rattle.arena.specs.declared.machine.Turn.{Turn}
-use Rattle.arena.specs.declared.word.ScxWord.{ScxWord}
-use Rattle.arena.specs.declared.word.ScxWord.TheVariants.{Plan, New, Old, Member, Seen, Call as CallWord}
-use Rattle.arena.specs.MemberIndex.{member_index}
-use Rattle.arena.specs.Words.{info, state, child}
-use Rattle.arena.specs.History.{History, ◌⊳◌, value, Extends}
-use Rattle.arena.specs.ScxRecords.{count_of, field_index_of, side_of, plan, member, seen, new, old, count, raw_count}
-use Rattle.arena.specs.Machines.{IsRun, Call}
+use Rattle.arena.specs.declared.word.ScxWord.TheVariants.{Call as CallWord}
 use Rattle.arena.proofs.Lemmas.{plan_counted, ends_self, ends_trans}
-use Rattle.histories.specs.Begins.{Begins}
-use Rattle.histories.specs.Descriptor.{descriptor}
 use Rattle.histories.proofs.Lemmas.{aborted_no_entry, committed_won}
-use Rattle.arena.specs.Lawful.{Lawful}
 use Rattle.help.specs.Help.Known.{IsBlocked, HasNoted, node_at, blocked_at, reading, HelpAnswers}
 use Rattle.prims.proofs.LlxTurns.{committed_state}
 use Rattle.help.specs.declared.state.HelpRun.{HelpRun}

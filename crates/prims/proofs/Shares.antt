@@ -1,21 +1,10 @@
 -- What rows leave of a pass's share, and of the SCX-record that it has in hand.
 use Rattle.std.proofs.Common.{◌≡◌, ◌≢◌, ℕ, suc, ◌+◌, ◌-◌, ◌<◌, ◌≤◌, ◌⊎◌, ⊎_elim, refl, arith, subst}
 use native.Mathlib.Decide.{ℕ_discrete}
-use Rattle.arena.specs.declared.limits.Mode.{Mode}
-use Rattle.arena.specs.declared.layout.Layout.{Layout}
-use Rattle.arena.specs.declared.step.Row.{Row}
-use Rattle.arena.specs.declared.step.Step.{Step}
-use Rattle.arena.specs.declared.step.Kind.TheVariants.{Fill}
-use Rattle.arena.specs.Layout.{opening_nodes, first_node, first_scx}
-use Rattle.arena.specs.Share.{Remaining, whole_share, HasNode, HasScx, after_taking}
-use Rattle.arena.specs.History.{History, Start, ◌⊳◌}
-use Rattle.arena.specs.ScxRecords.{member}
-use Rattle.arena.specs.Blame.{IsInProgress}
-use Rattle.arena.specs.Fills.{IsOwnNode, IsOwnScx, IsTakenNode, IsTakenScx}
-use Rattle.arena.specs.Lawful.{Lawful, HasWon}
-use Rattle.arena.specs.Machines.{Call, row_of}
+use Rattle.histories.specs.Common.{Mode, Layout, Row, Step, Fill, opening_nodes, first_node, first_scx, Remaining, HasNode, HasScx, History, Start, ◌⊳◌}
+use Rattle.histories.specs.Common.{member, IsInProgress, IsOwnNode, IsOwnScx, IsTakenNode, IsTakenScx, Lawful, HasWon, Call, row_of, IsUnmentioned}
+use Rattle.arena.specs.Share.{whole_share, after_taking}
 use Rattle.arena.proofs.Lemmas.{taken_node_more, taken_scx_more}
-use Rattle.histories.specs.Unmentioned.{IsUnmentioned}
 use Rattle.histories.proofs.Lemmas.{Facts, UpdateWins, facts, facts_before, named_scx_taken, unmentioned_by_others, unmentioned_by_step, unmentioned_start, untaken_by_others, untaken_by_step, update_flagged, update_in_progress, won_named}
 use Rattle.prims.specs.Laws.Idle.{IsIdle, idle_if_over}
 use Rattle.prims.specs.Moments.{AreFinished}

@@ -1,18 +1,7 @@
 -- Nodes of a share that are not taken stay so, except for the fresh node of an SCX.
 use Rattle.std.proofs.Common.{◌≡◌, ◌≢◌, ℕ, inl, inr, sym, subst}
-use Rattle.arena.specs.declared.layout.Layout.{Layout}
-use Rattle.arena.specs.declared.word.NodeWord.{NodeWord}
-use Rattle.arena.specs.declared.word.NodeWord.TheVariants.{Settled, Child, Info, Marked}
-use Rattle.arena.specs.declared.word.Word.{Word}
-use Rattle.arena.specs.declared.word.Word.TheVariants.{Node, Scx as ScxOf}
-use Rattle.arena.specs.declared.step.Row.{Row}
-use Rattle.arena.specs.declared.step.Step.{Step}
-use Rattle.arena.specs.declared.step.Kind.TheVariants.{Fill}
-use Rattle.arena.specs.Words.{node, scx, first_value}
-use Rattle.arena.specs.History.{History, Start, ◌⊳◌, Extends}
-use Rattle.arena.specs.Fills.{IsOwnNode, IsFillOfNode, IsTakenNode, MayFill}
-use Rattle.arena.specs.Lawful.{Lawful, Obeys}
-use Rattle.arena.specs.Machines.{Call, row_of}
+use Rattle.histories.specs.Common.{Layout, NodeWord, Settled, Child, Info, Marked, Word, Node, Scx as ScxOf, Row, Step, Fill, node, scx, first_value}
+use Rattle.histories.specs.Common.{History, Start, ◌⊳◌, Extends, IsOwnNode, IsFillOfNode, IsTakenNode, MayFill, Lawful, Obeys, Call, row_of}
 use Rattle.arena.proofs.Lemmas.{taken_node_more}
 use Rattle.histories.proofs.Lemmas.{lawful_row, one_node_owner}
 use Rattle.help.specs.Laws.Help.Lawful.{help_fills_not}

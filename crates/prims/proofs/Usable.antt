@@ -1,10 +1,6 @@
 -- Snapshots that a pass may use, and how its calls over them begin.
 use Rattle.std.proofs.Common.{◌≡◌, ℕ, ◌<◌, List, length, None, refl}
-use Rattle.arena.specs.declared.layout.Layout.{Layout}
-use Rattle.arena.specs.History.{History, Extends}
-use Rattle.arena.specs.Fills.{IsOwnNode, IsOwnScx, IsTakenNode, IsTakenScx}
-use Rattle.arena.specs.Lawful.{Lawful}
-use Rattle.histories.specs.Unmentioned.{IsUnmentioned}
+use Rattle.histories.specs.Common.{Layout, History, Extends, IsOwnNode, IsOwnScx, IsTakenNode, IsTakenScx, Lawful, IsUnmentioned}
 use Rattle.prims.specs.Laws.Blamed.{moment_since}
 use Rattle.prims.specs.Cells.{AllowsAll}
 use Rattle.prims.specs.Laws.Linked.{linked_since}

@@ -1,11 +1,7 @@
 -- Nodes that are blank: their fields are 0, and only the SCX-record
 -- that is to put them into a field has named them.
 use Rattle.std.specs.Prelude.{◌≡◌, ◌≢◌, ℕ}
-use Rattle.arena.specs.declared.word.Side.{Side}
-use Rattle.arena.specs.declared.word.ScxWord.TheVariants.{New, Member}
-use Rattle.arena.specs.Words.{scx, child}
-use Rattle.arena.specs.History.{History, value, HasHeld, Extends}
-use Rattle.arena.specs.Lawful.{HasWon}
+use Rattle.histories.specs.Common.{Side, New, Member, scx, child, History, value, HasHeld, Extends, HasWon}
 
 -- the node n is blank: its fields are 0, no field has ever held it, no SCX-record has covered it,
 -- and none but s has ever had it as its `new`

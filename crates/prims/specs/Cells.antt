@@ -1,7 +1,6 @@
 -- Cells require nothing of an SCX-record.
 use Rattle.std.specs.Prelude.{ℕ}
-use Rattle.arena.specs.declared.layout.Layout.{Layout}
-use Rattle.arena.specs.History.{History}
+use Rattle.histories.specs.Common.{Layout, History}
 
 -- cells let every SCX-record begin
 abbrev pub AllowsAll : Layout → History → ℕ → Type 0

@@ -1,8 +1,6 @@
 -- What a pass has itself found in the info of a node.
 use Rattle.std.specs.Prelude.{◌≡◌, ℕ}
-use Rattle.arena.specs.declared.step.Row.{Row}
-use Rattle.arena.specs.Words.{info}
-use Rattle.arena.specs.History.{History, ◌⊳◌, value, Extends}
+use Rattle.histories.specs.Common.{Row, info, History, ◌⊳◌, value, Extends}
 
 -- since the moment `start` the pass c has itself found s in the info of n: it has made a step
 -- there, a load or an exchange, just before which the info was s

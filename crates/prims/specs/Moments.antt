@@ -1,14 +1,7 @@
 -- What snapshots say of moments: when a node was as its
 -- snapshot found it, and who was in the way since.
 use Rattle.std.specs.Prelude.{◌≡◌, ◌≢◌, ℕ, ◌<◌, false, List, length}
-use Rattle.arena.specs.declared.layout.Layout.{Layout}
-use Rattle.arena.specs.declared.step.Kind.{Kind}
-use Rattle.arena.specs.Words.{info, state}
-use Rattle.arena.specs.History.{History, value, Extends}
-use Rattle.arena.specs.Fills.{IsNamed, IsOwnScx, IsOthersScx, IsTakenScx}
-use Rattle.arena.specs.Log.{log, last, is_final}
-use Rattle.arena.specs.Blame.{IsMember, IsInProgress, WasInTheWay}
-use Rattle.arena.specs.Found.{HasFound}
+use Rattle.histories.specs.Common.{Layout, Kind, info, state, History, value, Extends, IsNamed, IsOwnScx, IsOthersScx, IsTakenScx, log, last, is_final, IsMember, IsInProgress, WasInTheWay, HasFound}
 use Rattle.prims.specs.Snap.{snap_at}
 use Rattle.prims.specs.declared.snap.Snap.{Snap}
 

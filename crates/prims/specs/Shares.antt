@@ -1,11 +1,6 @@
 -- What a pass has: what is left of its share, and snapshots that it may use.
 use Rattle.std.specs.Prelude.{◌≡◌, ℕ, ◌+◌, ◌<◌, ◌≤◌}
-use Rattle.arena.specs.declared.layout.Layout.{Layout}
-use Rattle.arena.specs.Layout.{first_node, first_scx}
-use Rattle.arena.specs.Share.{Remaining, HasNode, HasScx}
-use Rattle.arena.specs.History.{History}
-use Rattle.arena.specs.Fills.{IsOwnNode, IsOwnScx, IsTakenNode, IsTakenScx}
-use Rattle.histories.specs.Unmentioned.{IsUnmentioned}
+use Rattle.histories.specs.Common.{Layout, first_node, first_scx, Remaining, HasNode, HasScx, History, IsOwnNode, IsOwnScx, IsTakenNode, IsTakenScx, IsUnmentioned}
 use Rattle.prims.specs.Laws.Linked.{IsLinked}
 use Rattle.prims.specs.Moments.{IsMoment}
 use Rattle.prims.specs.declared.snap.Snap.{Snap}

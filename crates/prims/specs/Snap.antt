@@ -1,8 +1,6 @@
 -- Snapshots: their fields, and lists of them.
 use Rattle.std.specs.Prelude.{ℕ, List, slice_index_or}
-use Rattle.arena.specs.declared.number.NodeNo.{NodeNo}
-use Rattle.arena.specs.declared.word.Side.{Side}
-use Rattle.arena.specs.declared.word.Side.TheVariants.{Left, Right}
+use Rattle.histories.specs.Common.{NodeNo, Side, Left, Right}
 use Rattle.prims.specs.declared.snap.Snap.{Snap}
 
 -- the field on this side, as the snapshot found it

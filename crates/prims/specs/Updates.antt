@@ -1,8 +1,6 @@
 -- Updates.
 use Rattle.std.specs.Prelude.{◌≡◌, ℕ, List}
-use Rattle.arena.specs.declared.number.NodeNo.{NodeNo}
-use Rattle.arena.specs.declared.word.Side.{Side}
-use Rattle.arena.specs.ScxRecords.{field_index_of, side_of}
+use Rattle.histories.specs.Common.{NodeNo, Side, field_index_of, side_of}
 use Rattle.prims.specs.declared.snap.Snap.{Snap}
 use Rattle.prims.specs.declared.update.Update.{Update}
 use Rattle.prims.specs.Snap.{snap_at}

@@ -1,9 +1,8 @@
 -- What was written of a report is a beginning of it.
 use Rattle.std.proofs.Common.{◌≡◌, ◌⊎◌, inl, inr, ℕ, List, [], ◌∷◌, Option, refl, reverse, sym}
 use Rattle.texts.specs.Pages.{BeginsWith}
-use Rattle.script.specs.declared.call.Call.{Call}
+use Rattle.record.specs.Common.{Call, Script}
 use Rattle.script.specs.declared.schedule.Order.{Order}
-use Rattle.script.specs.declared.script.Script.{Script}
 use Rattle.record.specs.declared.record.Line.{Line}
 use Rattle.record.specs.OneClient.{AreMadeWhile}
 use Rattle.record.specs.Schedules.{AreOrdered}

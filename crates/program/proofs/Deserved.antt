@@ -1,9 +1,7 @@
 -- Faults of the texts are the program's faults.
-use Rattle.std.proofs.Common.{◌≡◌, ◌≢◌, ◌+◌, ◌-◌, ◌^◌, ◌↔◌, ◌⊎◌, ◌∙◌, inr, ⊎_elim, arith, min, refl, List, ℕ, Result, Ok, Err, IfErr, IsErrAnd}
-use Rattle.std.specs.Prelude.{OnOk}
-use Rattle.arena.specs.declared.layout.Layout.{Layout}
+use Rattle.std.proofs.Common.{◌≡◌, ◌≢◌, ◌+◌, ◌-◌, ◌^◌, ◌↔◌, ◌⊎◌, ◌∙◌, inr, ⊎_elim, arith, min, refl, List, ℕ, Result, Ok, Err, IfErr, IsErrAnd, OnOk}
+use Rattle.histories.specs.Common.{Layout, Mode}
 use Rattle.arena.specs.declared.limits.Limits.{Limits}
-use Rattle.arena.specs.declared.limits.Mode.{Mode}
 use Rattle.script.specs.Grammars.{IsScheduleFault, SayScript}
 use Rattle.texts.specs.Texts.{IfBad}
 use Rattle.script.specs.declared.call.Call.{Call}

@@ -1,9 +1,7 @@
 -- What is said of a report that the program finds lawful.
 use Rattle.std.specs.Prelude.{ℕ, ◌⊎◌, ⊤, List, codes, reverse}
-use Rattle.script.specs.declared.script.Script.{Script}
+use Rattle.record.specs.Common.{Script, IsLawfulRun, clients}
 use Rattle.record.specs.declared.record.Line.{Line}
-use Rattle.record.specs.LawfulRun.{IsLawfulRun}
-use Rattle.record.specs.Turns.{clients}
 use Rattle.record.specs.declared.record.Record.{Record}
 use Rattle.audit.specs.Faults.{MayBeAtFault}
 use Rattle.report.specs.RowFaults.{IsFirstBadRow, IsReportOf}

@@ -2,13 +2,11 @@
 use Rattle.std.specs.Prelude.{◌≡◌, ◌⊎◌, ℕ, List, [], Option, ⊤, reverse}
 use Rattle.std.specs.Io.KnownBytes.{Appends}
 use Rattle.texts.specs.Pages.{BeginsWith}
-use Rattle.arena.specs.declared.layout.Layout.{Layout}
+use Rattle.histories.specs.Common.{Layout, Mode}
 use Rattle.arena.specs.declared.limits.Limits.{Limits}
-use Rattle.arena.specs.declared.limits.Mode.{Mode}
 use Rattle.script.specs.Grammars.{IsScheduleFault, IsScriptFault, SayOrders, SayScript}
-use Rattle.script.specs.declared.call.Call.{Call}
+use Rattle.record.specs.Common.{Call, Script}
 use Rattle.script.specs.declared.schedule.Schedule.{Schedule}
-use Rattle.script.specs.declared.script.Script.{Script}
 use Rattle.record.specs.declared.record.Line.{Line}
 use Rattle.record.specs.Schedules.{IsRunOf}
 use Rattle.player.specs.Player.{IsPlayed, PlayerView, script_view}

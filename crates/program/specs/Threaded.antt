@@ -4,8 +4,7 @@ use Rattle.std.specs.Global.{Global}
 use Rattle.std.specs.Io.KnownBytes.{Appends}
 use Rattle.arena.specs.declared.limits.Mode.TheVariants.{Tree}
 use Rattle.script.specs.Grammars.{IsScriptFault, SayScript}
-use Rattle.script.specs.declared.script.Script.{Script}
-use Rattle.ordered_map.specs.declared.reply.Reply.{Reply}
+use Rattle.record.specs.Common.{Script, Reply}
 use Rattle.runner.specs.Gates.{IsGate}
 use Rattle.runner.specs.Outcomes.{IsOutcome}
 use Rattle.report.specs.Outcome.{outcome_text}

@@ -1,14 +1,12 @@
 -- What the lines so far say of the calls that run.
 use Rattle.std.proofs.Common.{◌≡◌, ℕ, suc, ◌≤◌, Bool, true, false, cond, ◌||◌, eqb, is_some, unwrap_or, List, [], ◌∷◌, Option, Some, None, refl, sym, ◌∙◌, arith}
-use Rattle.arena.specs.declared.limits.Mode.{Mode}
-use Rattle.arena.specs.declared.layout.Layout.{Layout}
-use Rattle.script.specs.declared.call.Call.{Call}
+use Rattle.histories.specs.Common.{Mode, Layout}
+use Rattle.record.specs.Common.{Call, client_of, history, turns, begin, start, won, entry_of, AreLines}
 use Rattle.record.specs.declared.record.Line.{Line}
 use Rattle.record.specs.declared.record.Line.TheVariants.{Step, Log, Reply as ReplyLine}
 use Rattle.record.specs.declared.record.TurnRow.{TurnRow}
 use Rattle.record.specs.declared.record.TurnRow.TheVariants.{Step as Made, Idle}
-use Rattle.record.specs.Turns.{client_of, number_of, history, turns, begin, start, won, entry_of, is_entry_of}
-use Rattle.record.specs.LawfulRun.{AreLines}
+use Rattle.record.specs.Turns.{number_of, is_entry_of}
 use Rattle.record.specs.Steps.{IsTurn}
 
 -- The begin of a call

@@ -2,32 +2,19 @@
 use Rattle.std.proofs.Common.{◌≡◌, ℕ, suc, ◌+◌, ◌*◌, ◌<◌, ◌≤◌, Bool, true, false, cond, ◌&&◌, eqb, List, [], ◌∷◌, refl, sym, ◌∙◌, ap, subst, arith, inl, inr, ⊎_elim}
 use Rattle.std.proofs.lemmas.Bool.{eqb-true, eq-eqb, eqb-false, ne_eqb, and_parts, cases_order}
 use Rattle.std.specs.Prelude.{Option, Some, None, is_none, slice_get, not}
-use Rattle.arena.specs.declared.layout.Layout.{Layout}
-use Rattle.arena.specs.declared.word.Word.{Word}
-use Rattle.arena.specs.declared.word.Word.TheVariants.{Node}
-use Rattle.arena.specs.declared.word.NodeWord.TheVariants.{Child}
-use Rattle.arena.specs.declared.step.Row.{Row as StepRow}
-use Rattle.arena.specs.History.{History}
-use Rattle.ordered_map.specs.OrderedMap.{MapCall}
-use Rattle.ordered_map.specs.Requests.{map_request}
-use Rattle.script.specs.declared.call.Call.{Call}
-use Rattle.script.specs.declared.command.Command.{Command}
-use Rattle.script.specs.declared.command.Command.TheVariants.{Llx, Scx as ScxOf, Vlx, Set, Map}
+use Rattle.histories.specs.Common.{Layout, Word, Node, Child, Row as StepRow, History}
+use Rattle.record.specs.Common.{MapCall, map_request, Call, Command, Llx, Scx as ScxOf, Vlx, Set, Map, history, turns, answered, won, entry_at, entry_of}
+use Rattle.record.specs.Common.{is_update, entries, map_call, map_call_of, reply_told, written_log, entries_of_call, IsPlaced, IsPlacedOnMap, commands, AreLines}
 use Rattle.record.specs.declared.record.Line.{Line}
 use Rattle.record.specs.declared.record.Line.TheVariants.{Step, Log, Reply as ReplyLine}
 use Rattle.record.specs.declared.record.TurnRow.TheVariants.{Step as Made, Idle}
 use Rattle.record.specs.declared.record.Entry.{Entry}
 use Rattle.record.specs.declared.record.Finished.{Finished}
 use Rattle.record.specs.declared.record.Answer.{Answer}
-use Rattle.record.specs.Turns.{history, turns, answered, won, entry_at, entry_of, is_entry_of, is_update, entries}
-use Rattle.record.specs.MapRecord.{map_call, map_call_of, reply_told, written_log, entries_of_call}
-use Rattle.record.specs.CommandRules.{IsPlaced}
-use Rattle.record.specs.Placed.{IsPlacedOnMap}
+use Rattle.record.specs.Turns.{is_entry_of}
 use Rattle.record.specs.Legal.{Event, Change, Read, event_client, event_call, event_place, with_reading, has_read, events, answer_to, times, unanswered, IsLegal}
-use Rattle.record.specs.Commands.{commands}
 use Rattle.record.specs.Entries.{IsLog}
 use Rattle.record.specs.Replies.{IsReply}
-use Rattle.record.specs.LawfulRun.{AreLines}
 use Rattle.record.proofs.Ordered.{AllUpTo, all_with, IsOrderlyEntry, IsOrderlyReply, AreOrderly, IsKept, onto, counted, kept, legal}
 
 -- the calls are of the map

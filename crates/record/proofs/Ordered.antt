@@ -3,17 +3,15 @@
 use Rattle.std.proofs.Common.{◌≡◌, ℕ, zero, suc, ◌+◌, ◌*◌, ◌≤◌, Bool, true, false, cond, ◌&&◌, eqb, ltb, leb, List, [], ◌∷◌, ◌++◌, refl, sym, ◌∙◌, ap, subst, arith}
 use Rattle.std.proofs.lemmas.Bool.{ltb-true, ltb-false, le-ltb, le-leb, lt-leb, eqb-true, eq-eqb, and_parts}
 use Rattle.std.specs.Prelude.{Option, Some, None, is_none, is_some}
-use Rattle.ordered_map.specs.declared.pair.Pair.{Pair}
-use Rattle.ordered_map.specs.OrderedMap.{MapCall, MapEdit, MapReply, reply, after, changes_map, edit_of}
+use Rattle.record.specs.Common.{Pair, MapCall, MapEdit, MapReply, reply, after, changes_map, edit_of, Call, map_call_of, reply_told, written_log, entries_until, map_of, map_at, entries_of_call, IsPlacedOnMap}
 use Rattle.ordered_map.proofs.Lemmas.{after_is}
-use Rattle.script.specs.declared.call.Call.{Call}
 use Rattle.record.specs.declared.record.Line.{Line}
 use Rattle.record.specs.declared.record.Line.TheVariants.{Step, Log, Reply as ReplyLine}
 use Rattle.record.specs.declared.record.Entry.{Entry}
 use Rattle.record.specs.declared.record.Finished.{Finished}
 use Rattle.record.specs.declared.record.Answer.{Answer}
-use Rattle.record.specs.MapRecord.{map_call_of, reply_told, after_maybe, written_log, entries_until, map_of, map_at, is_of_call, entries_of_call}
-use Rattle.record.specs.Placed.{IsPlacedChange, IsPlacedReading, IsRefused, IsPlacedChangeOrReading, IsPlacedOnMap}
+use Rattle.record.specs.MapRecord.{after_maybe, is_of_call}
+use Rattle.record.specs.Placed.{IsPlacedChange, IsPlacedReading, IsRefused, IsPlacedChangeOrReading}
 use Rattle.record.specs.Legal.{Event, Change, Read, event_client, event_call, event_place, with_event, events, answer_to, IsReplyOn, AreReplies, times, times_due, StandAsDue, StandOnce, unanswered, AreFewUnanswered, IsLegal}
 
 -- Events in order

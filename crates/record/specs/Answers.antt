@@ -1,14 +1,7 @@
 -- What answers say.
 use Rattle.std.specs.Prelude.{◌≡◌, ℕ, Bool, true, false, List, Option, Some, None}
 use Rattle.std.specs.List.{Contains}
-use Rattle.arena.specs.declared.layout.Layout.{Layout}
-use Rattle.arena.specs.declared.word.Side.TheVariants.{Left, Right}
-use Rattle.arena.specs.declared.step.Kind.{Kind}
-use Rattle.arena.specs.History.{History}
-use Rattle.arena.specs.Fills.{IsOwnNode, IsOwnScx, IsOthersScx, IsTakenNode, IsTakenScx}
-use Rattle.arena.specs.Blame.{WasInTheWay}
-use Rattle.arena.specs.Found.{HasFound}
-use Rattle.arena.specs.Log.{log, fields, last, is_final}
+use Rattle.histories.specs.Common.{Layout, Left, Right, Kind, History, IsOwnNode, IsOwnScx, IsOthersScx, IsTakenNode, IsTakenScx, WasInTheWay, HasFound, log, fields, last, is_final}
 use Rattle.ordered_map.specs.Tries.{HasLostTries}
 use Rattle.record.specs.declared.record.Line.{Line}
 use Rattle.record.specs.declared.record.Finished.{Finished}

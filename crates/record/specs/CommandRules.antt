@@ -1,9 +1,6 @@
 -- The rules of each command, and what follows by them.
 use Rattle.std.specs.Prelude.{ℕ, Bool, List, Option, Some, None}
-use Rattle.arena.specs.declared.layout.Layout.{Layout}
-use Rattle.arena.specs.declared.step.Kind.{Kind}
-use Rattle.arena.specs.History.{History, value}
-use Rattle.arena.specs.Log.{Entry as Entered}
+use Rattle.histories.specs.Common.{Layout, Kind, History, value, Entry as Entered}
 use Rattle.script.specs.declared.call.Call.{Call}
 use Rattle.script.specs.declared.command.Command.{Command}
 use Rattle.script.specs.declared.command.Command.TheVariants.{Llx, Scx, Vlx, Set, Map}

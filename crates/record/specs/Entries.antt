@@ -1,10 +1,6 @@
 -- Entries: what is written down where an update has won.
 use Rattle.std.specs.Prelude.{◌≡◌, ◌≢◌, List, ◌∷◌, Some, None, IsSome}
-use Rattle.arena.specs.declared.layout.Layout.{Layout}
-use Rattle.arena.specs.declared.step.Row.{Row as StepRow}
-use Rattle.arena.specs.History.{◌⊳◌}
-use Rattle.arena.specs.Lawful.{IsWin}
-use Rattle.arena.specs.Log.{Entry as Entered, log}
+use Rattle.histories.specs.Common.{Layout, Row as StepRow, ◌⊳◌, IsWin, Entry as Entered, log}
 use Rattle.script.specs.declared.call.Call.{Call}
 use Rattle.script.specs.declared.command.Command.{Command}
 use Rattle.record.specs.declared.record.Line.{Line}

@@ -18,3 +18,4 @@ pub mod Legal
 pub mod LawfulRun
 pub mod OneClient
 pub mod Schedules
+pub mod Common

@@ -1,7 +1,6 @@
 -- The snapshots that clients keep, by the lines.
 use Rattle.std.specs.Prelude.{ℕ, if◌then◌else◌, ◌==◌, List, [], ◌∷◌, Option, None}
-use Rattle.arena.specs.declared.limits.Mode.{Mode}
-use Rattle.arena.specs.History.{History}
+use Rattle.histories.specs.Common.{Mode, History}
 use Rattle.script.specs.declared.call.Call.{Call}
 use Rattle.record.specs.declared.record.Line.{Line}
 use Rattle.record.specs.declared.record.Line.TheVariants.{Step, Log, Reply as ReplyLine}

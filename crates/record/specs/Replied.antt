@@ -1,8 +1,6 @@
 -- What the map has replied within a call.
 use Rattle.std.specs.Prelude.{◌≡◌, List}
-use Rattle.arena.specs.declared.layout.Layout.{Layout}
-use Rattle.arena.specs.declared.step.Row.{Row}
-use Rattle.arena.specs.History.{History, ◌⊳◌, value, Extends}
+use Rattle.histories.specs.Common.{Layout, Row, History, ◌⊳◌, value, Extends}
 use Rattle.ordered_map.specs.declared.pair.Pair.{Pair}
 use Rattle.ordered_map.specs.OrderedMap.{MapCall, MapReply, reply}
 use Rattle.ordered_map.specs.Spelled.{Spells}

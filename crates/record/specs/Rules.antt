@@ -9,10 +9,7 @@ pub mod Neighbour
 pub mod Range
 pub mod Map
 use Rattle.std.specs.Prelude.{ℕ, Bool, List, Option}
-use Rattle.arena.specs.declared.layout.Layout.{Layout}
-use Rattle.arena.specs.declared.step.Kind.{Kind}
-use Rattle.arena.specs.History.{History}
-use Rattle.arena.specs.Log.{Entry as Entered}
+use Rattle.histories.specs.Common.{Layout, Kind, History, Entry as Entered}
 use Rattle.script.specs.declared.call.Call.{Call}
 use Rattle.record.specs.declared.record.Line.{Line}
 use Rattle.record.specs.declared.record.Finished.{Finished}

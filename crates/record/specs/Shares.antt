@@ -1,11 +1,7 @@
 -- What a call takes of its client's share, and what is left of that.
 use Rattle.std.specs.Prelude.{◌≡◌, ◌⊎◌, ℕ, ◌+◌, ◌*◌, ◌<◌, ◌≤◌, ◌↔◌}
-use Rattle.arena.specs.declared.layout.Layout.{Layout}
-use Rattle.arena.specs.declared.fault.Resource.{Resource}
-use Rattle.arena.specs.declared.fault.Resource.TheVariants.{Nodes, Scx as ScxRecords}
-use Rattle.arena.specs.Layout.{first_node, first_scx}
-use Rattle.arena.specs.History.{History}
-use Rattle.arena.specs.Fills.{IsOwnNode, IsOwnScx, IsTakenNode, IsTakenScx}
+use Rattle.histories.specs.Common.{Layout, Resource, Nodes, first_node, first_scx, History, IsOwnNode, IsOwnScx, IsTakenNode, IsTakenScx}
+use Rattle.arena.specs.declared.fault.Resource.TheVariants.{Scx as ScxRecords}
 use Rattle.record.specs.Answers.{WasBlockedBy}
 
 -- n is one of this many numbers that follow one another, from `first` on

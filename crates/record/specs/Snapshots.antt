@@ -1,10 +1,7 @@
 -- Snapshots that clients keep, and what calls ask of them.
 use Rattle.std.specs.Prelude.{◌≡◌, ℕ, ◌<◌, List, Option, Some, None, IsSome, slice_get, slice_index_or}
 use Rattle.std.specs.List.{Contains}
-use Rattle.arena.specs.declared.step.Row.{Row as StepRow}
-use Rattle.arena.specs.declared.step.Kind.TheVariants.{LoadInfo}
-use Rattle.arena.specs.History.{History, ◌⊳◌, Extends}
-use Rattle.arena.specs.Found.{IsLastStep}
+use Rattle.histories.specs.Common.{Row as StepRow, LoadInfo, History, ◌⊳◌, Extends, IsLastStep}
 use Rattle.record.specs.declared.record.Answer.{Answer}
 use Rattle.record.specs.declared.record.Answer.TheVariants.{Snapshot, Full}
 

@@ -1,7 +1,6 @@
 -- In tree mode the words spell the map so far after every step.
 use Rattle.std.specs.Prelude.{◌≡◌, List, [], ◌∷◌, None}
-use Rattle.arena.specs.declared.layout.Layout.{Layout}
-use Rattle.arena.specs.History.{value}
+use Rattle.histories.specs.Common.{Layout, value}
 use Rattle.ordered_map.specs.Spelled.{Spells}
 pub use Rattle.ordered_map.specs.FillOrder.{HasStoodInField, HasRisingLevels}
 use Rattle.script.specs.declared.call.Call.{Call}

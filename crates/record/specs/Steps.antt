@@ -1,12 +1,7 @@
 -- Turns: a step of a call, or a turn without one.
 use Rattle.std.specs.Prelude.{◌≡◌, ℕ, ◌<◌, suc, ◌⊎◌, List, length, Some, None}
-use Rattle.arena.specs.declared.layout.Layout.{Layout}
-use Rattle.arena.specs.declared.step.Row.{Row as StepRow}
-use Rattle.arena.specs.declared.step.Kind.TheVariants.{Fill}
+use Rattle.histories.specs.Common.{Layout, Row as StepRow, Fill, scx, IsLawful, taken_nodes}
 use Rattle.arena.specs.declared.word.ScxWord.TheVariants.{Call as CallWord}
-use Rattle.arena.specs.Words.{scx}
-use Rattle.arena.specs.Lawful.{IsLawful}
-use Rattle.arena.specs.TakenNodes.{taken_nodes}
 use Rattle.script.specs.declared.call.Call.{Call}
 use Rattle.script.specs.declared.command.Command.{Command}
 use Rattle.record.specs.declared.record.Line.{Line}

@@ -1,11 +1,6 @@
 -- What an entry does.
 use Rattle.std.specs.Prelude.{◌≡◌, ℕ, List}
-use Rattle.arena.specs.declared.layout.Layout.{Layout}
-use Rattle.arena.specs.declared.word.Side.{Side}
-use Rattle.arena.specs.Words.{node, child, first_value}
-use Rattle.arena.specs.History.{History, value}
-use Rattle.arena.specs.Fills.{IsOwnNode}
-use Rattle.arena.specs.Log.{Entry as Entered, has}
+use Rattle.histories.specs.Common.{Layout, Side, node, child, first_value, History, value, IsOwnNode, Entry as Entered, has}
 
 -- the entry covers these cells, finalizes those of them in the second list, and
 -- puts a fresh node of client c's into that field

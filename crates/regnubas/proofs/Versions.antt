@@ -1,9 +1,6 @@
 -- Which entries have come between two moments of a run, and what the map is then.
 use Rattle.std.proofs.Common.{◌≡◌, ◌<◌, ℕ, ◌+◌, ◌==◌, Bool, true, false, cond, inl, inr, List, [], ◌∷◌, ◌++◌, length, refl, sym, ◌∙◌, ap, subst, arith, eq-eqb}
-use Rattle.arena.specs.declared.layout.Layout.{Layout}
-use Rattle.arena.specs.History.{History, Start, ◌⊳◌, value, Extends}
-use Rattle.arena.specs.Lawful.{HasWon, Lawful}
-use Rattle.arena.specs.Log.{Entry, log, owner, IsEntered}
+use Rattle.histories.specs.Common.{Layout, History, Start, ◌⊳◌, value, Extends, HasWon, Lawful, Entry, log, owner, IsEntered}
 use Rattle.arena.proofs.Lemmas.{ends_trans, owner_is}
 use Rattle.histories.proofs.Lemmas.{Logs, entered_won, entry_of, facts, lawful_since, lawful_tail, logs, same as log_same, wins as log_wins, won_named, won_real}
 use Rattle.ordered_map.specs.declared.pair.Pair.{Pair}

@@ -1,12 +1,7 @@
 -- What follows from several calls of a dictionary together: where no pass has made an entry, the
 -- map is the same.
 use Rattle.std.specs.Prelude.{◌≡◌, ◌<◌, ℕ, List}
-use Rattle.arena.specs.declared.layout.Layout.{Layout}
-use Rattle.arena.specs.declared.limits.Mode.TheVariants.{Tree}
-use Rattle.arena.specs.History.{History, ◌⊳◌, value, Extends}
-use Rattle.arena.specs.Lawful.{Lawful}
-use Rattle.arena.specs.Log.{log}
-use Rattle.arena.specs.Machines.{IsRun}
+use Rattle.histories.specs.Common.{Layout, Tree, History, ◌⊳◌, value, Extends, Lawful, log, IsRun}
 use Rattle.ordered_map.specs.declared.pair.Pair.{Pair}
 use Rattle.ordered_map.specs.OrderedMap.{MapCall, MapEdit, MapReply}
 use Rattle.ordered_map.specs.Runs.{IsTreeRun}

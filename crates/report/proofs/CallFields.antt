@@ -2,12 +2,10 @@
 use Rattle.std.proofs.Common.{◌≡◌, ◌≢◌, ℕ, List, [], ◌∷◌, Bor, None, Result, Ok, Err, IfErr, inl, inr, ap, arith, codes, decimal, get_or, length, refl, rules, subst, sym}
 use Rattle.std.specs.Result.{result_ok}
 use Rattle.arena.specs.declared.limits.Mode.{Mode}
-use Rattle.ordered_map.specs.declared.request.Request.{Request}
+use Rattle.record.specs.Common.{Request, IsCommand, command_row, mode_of, texts, Command, Llx, Scx, Vlx, Set, Map}
 use Rattle.ordered_map.specs.declared.request.Request.TheVariants.{Insert}
 use Rattle.script.specs.Calls.{IsNoCommand, NamesCommand}
-use Rattle.script.specs.Commands.{IsCommand, NamesRequest, command_row, mode_of, request_name, texts}
-use Rattle.script.specs.declared.command.Command.{Command}
-use Rattle.script.specs.declared.command.Command.TheVariants.{Llx, Scx, Vlx, Set, Map}
+use Rattle.script.specs.Commands.{NamesRequest, request_name}
 use Rattle.script.specs.declared.fault.ScriptCause.{ScriptCause}
 use Rattle.script.specs.declared.fault.ScriptCause.TheVariants as cause
 use Rattle.report.specs.Report.{seven}

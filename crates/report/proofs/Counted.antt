@@ -1,14 +1,13 @@
 -- Counts of calls and replies.
 use Rattle.std.proofs.Common.{◌≡◌, ◌≢◌, List, [], ◌∷◌, ℕ, ◌+◌, ◌-◌, ◌^◌, ◌<◌, ◌≤◌, Bool, true, false, refl, sym, ◌∙◌, arith, length, min, suc, cond, eqb}
 use Rattle.std.proofs.lemmas.Bool.{eqb-true, eqb-false}
-use Rattle.script.specs.declared.call.Call.{Call}
+use Rattle.record.specs.Common.{Call, answered}
 use Rattle.report.specs.declared.count.Counts.{Counts}
 use Rattle.report.specs.Report.{calls_by}
 use Rattle.record.specs.declared.record.Line.{Line}
 use Rattle.record.specs.declared.record.Line.TheVariants.{Step, Log, Reply}
 use Rattle.record.specs.declared.record.TurnRow.TheVariants.{Step as Made, Idle}
 use Rattle.record.specs.declared.record.Finished.{Finished}
-use Rattle.record.specs.Turns.{answered}
 use Rattle.report.specs.Numbered.{AreNumbered, IsOfNextCall}
 use Rattle.report.specs.Counts.{HasCounted, HasCountedReplies, calls_counted}
 

@@ -2,8 +2,7 @@
 use Rattle.std.proofs.Common.{◌≡◌, ◌<◌, ◌^◌, ℕ, List, [], ◌∷◌, Bor, get_or, ap, length, refl, sym, arith, decimal, codes}
 use Rattle.arena.specs.Limits.{IsAccepted}
 use Rattle.arena.specs.declared.limits.Limits.{Limits}
-use Rattle.script.specs.Commands.{texts}
-use Rattle.script.specs.Rows.{limits_row}
+use Rattle.record.specs.Common.{texts, limits_row}
 use Rattle.report.specs.Report.{name_of, seven}
 use Rattle.texts.proofs.Lemmas.{same_number}
 

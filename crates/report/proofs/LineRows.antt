@@ -9,8 +9,7 @@ use Rattle.record.specs.declared.record.Line.{Line}
 use Rattle.record.specs.declared.record.Line.TheVariants.{Step, Log, Reply}
 use Rattle.record.specs.declared.record.TurnRow.{TurnRow}
 use Rattle.record.specs.declared.record.TurnRow.TheVariants.{Step as Made, Idle}
-use Rattle.script.specs.Commands.{texts}
-use Rattle.script.specs.Kinds.{kind_text}
+use Rattle.record.specs.Common.{texts, kind_text}
 use Rattle.report.specs.Answers.{answer_text}
 use Rattle.report.specs.Report.{line_row, moment_text, seven}
 use Rattle.report.specs.Spellings.{IsSpelledFinished, IsSpelledLine, IsSpelledTurn}

@@ -1,11 +1,8 @@
 -- The four parts of a text, as they are written one after another.
-use Rattle.std.proofs.Common.{◌≡◌, List, [], ◌∷◌, ◌++◌, ◌∙◌, ℕ, Bool, Option, Vec, ap, append-nil, length, map, subst, sym}
-use Rattle.std.specs.Global.{Global}
+use Rattle.std.proofs.Common.{◌≡◌, List, [], ◌∷◌, ◌++◌, ◌∙◌, ℕ, Bool, Option, Vec, ap, append-nil, length, map, subst, sym, Global}
 use Rattle.std.specs.Io.KnownBytes.{Appends}
-use Rattle.ordered_map.specs.declared.reply.Reply.{Reply}
-use Rattle.script.specs.declared.script.Script.{Script}
+use Rattle.record.specs.Common.{Reply, Script, limits_row}
 use Rattle.record.specs.declared.record.Line.{Line}
-use Rattle.script.specs.Rows.{limits_row}
 use Rattle.report.specs.Outcome.{client_rows, gate_row, outcome_end_row, outcome_text, outcome_title_row, pair_row, replies_counted}
 use Rattle.report.specs.Report.{call_rows, report_end_row, line_row, report_text, title_row}
 use Rattle.texts.specs.Pages.{BeginsWith, rows_text}

@@ -5,11 +5,9 @@ use Rattle.csv.specs.Records.{field_at}
 use Rattle.texts.specs.Fields.{field_of}
 use Rattle.texts.specs.declared.rows.Rows.{Rows}
 use Rattle.texts.specs.Texts.{AreRows, IsRow}
-use Rattle.script.specs.declared.call.Call.{Call}
+use Rattle.record.specs.Common.{Call, texts, limits_row}
 use Rattle.arena.specs.declared.limits.Limits.{Limits}
 use Rattle.arena.specs.declared.limits.Mode.{Mode}
-use Rattle.script.specs.Commands.{texts}
-use Rattle.script.specs.Rows.{limits_row}
 use Rattle.record.specs.declared.record.Line.{Line}
 use Rattle.report.specs.Report.{reported_call_row, call_rows, report_end_row, line_row, rows_of_calls, rows_of_lines, rows_told, title_in, seven}
 use Rattle.report.specs.RowFaults.{AreOfReport}

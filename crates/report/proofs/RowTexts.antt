@@ -27,19 +27,12 @@ use Rattle.arena.specs.declared.word.ScxWord.TheVariants.{State, AllFrozen, Plan
 use Rattle.arena.specs.declared.word.Word.{Word}
 use Rattle.arena.specs.declared.word.Word.TheVariants.{Node, Scx as ScxWordOf}
 use Rattle.arena.specs.Words.{IsScxWord}
-use Rattle.ordered_map.specs.declared.reply.Reply.{Reply}
-use Rattle.ordered_map.specs.declared.reply.Reply.TheVariants.{Value, Pair, Pairs, Contended, NoMemory, Full as FullShare}
-use Rattle.ordered_map.specs.declared.request.Request.{Request}
+use Rattle.record.specs.Common.{Reply, Value, Pairs, Contended, NoMemory, Full as FullShare, Request, IsCommand, command_row, kind_text, limits_row}
+use Rattle.record.specs.Common.{cells_of, update_cells, update_field, update_finalize, update_value, Call, Command, Llx, Scx, Vlx, Set, Map}
+use Rattle.ordered_map.specs.declared.reply.Reply.TheVariants.{Pair}
 use Rattle.ordered_map.specs.declared.request.Request.TheVariants.{Insert}
-use Rattle.script.specs.Commands.{IsArgument, IsCell, IsCommand, IsRequest, MapArgument, OfCount, OfKey, OfValue, argument_text, change_text, command_row, numbers_text, request_arguments, request_name, request_row, side_text, spaced}
-use Rattle.script.specs.Kinds.{kind_text}
-use Rattle.script.specs.Rows.{limits_row}
+use Rattle.script.specs.Commands.{IsArgument, IsCell, IsRequest, MapArgument, OfCount, OfKey, OfValue, argument_text, change_text, numbers_text, request_arguments, request_name, request_row, side_text, spaced}
 use Rattle.script.specs.Part.{is_subsequence}
-use Rattle.script.specs.Cells.{cells_of}
-use Rattle.script.specs.Update.{update_cells, update_field, update_finalize, update_value}
-use Rattle.script.specs.declared.call.Call.{Call}
-use Rattle.script.specs.declared.command.Command.{Command}
-use Rattle.script.specs.declared.command.Command.TheVariants.{Llx, Scx, Vlx, Set, Map}
 use Rattle.record.specs.declared.record.Answer.{Answer}
 use Rattle.record.specs.declared.record.Answer.TheVariants.{Snapshot, Finalized, Fail, Done, Lost, Same, Changed, Unlinked, Full, Map as MapAnswer}
 use Rattle.record.specs.declared.record.Line.{Line}

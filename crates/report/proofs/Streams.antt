@@ -3,14 +3,12 @@ use Rattle.std.proofs.Common.{◌≡◌, ◌+◌, ◌-◌, ◌^◌, ◌<◌, ◌
 use Rattle.std.proofs.lemmas.List.{map-append, reverse-append, reverse-reverse}
 use Rattle.std.specs.Io.KnownBytes.{Appends, Keeps}
 use Rattle.texts.specs.Pages.{BeginsWith, rows_text}
-use Rattle.script.specs.Rows.{limits_row}
-use Rattle.script.specs.declared.script.Script.{Script}
+use Rattle.record.specs.Common.{limits_row, Script, turns}
 use Rattle.record.specs.declared.record.Entry.{Entry}
 use Rattle.record.specs.declared.record.Finished.{Finished}
 use Rattle.record.specs.declared.record.Line.{Line}
 use Rattle.record.specs.declared.record.Line.TheVariants.{Step, Log, Reply}
 use Rattle.record.specs.declared.record.TurnRow.{TurnRow}
-use Rattle.record.specs.Turns.{turns}
 use Rattle.player.specs.Core.{IsNextTurn, with_lines}
 use Rattle.player.specs.Lines.{turn_lines}
 use Rattle.player.specs.Player.{PlayerView, ScriptView, script_view}

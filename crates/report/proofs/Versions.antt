@@ -7,11 +7,8 @@ use Rattle.arena.specs.declared.word.SettledPart.TheVariants.{Head, More, Key, V
 use Rattle.arena.specs.declared.word.Side.TheVariants.{Left, Right}
 use Rattle.arena.specs.declared.word.Slot.{Slot}
 use Rattle.arena.specs.declared.word.Slot.TheVariants.{First, Second, Third, Fourth}
-use Rattle.ordered_map.specs.declared.request.Request.{Request}
-use Rattle.ordered_map.specs.declared.request.Request.TheVariants.{PopFirst}
-use Rattle.script.specs.Commands.{IsArgument, IsCommand, MapArgument, OfCount, OfKey, OfValue, argument_text, command_row, mode_of, request_arguments, three_fields}
-use Rattle.script.specs.declared.command.Command.{Command}
-use Rattle.script.specs.declared.command.Command.TheVariants.{Map}
+use Rattle.record.specs.Common.{Request, PopFirst, IsCommand, command_row, mode_of, Command, Map}
+use Rattle.script.specs.Commands.{IsArgument, MapArgument, OfCount, OfKey, OfValue, argument_text, request_arguments, three_fields}
 use Rattle.std.proofs.lemmas.Fmt.{decimal_is_IsNumeral_wide}
 use Rattle.std.specs.Str.Parse.{digits_value}
 use Rattle.report.specs.Versions.{HasCommand, HasOneWord, HasPart, NamesFirstCall, value_limit, version_text}

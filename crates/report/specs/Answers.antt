@@ -3,18 +3,13 @@ use Rattle.std.specs.Prelude.{◌≡◌, ⊤, ℕ, ◌<◌, List, [], ◌∷◌,
 use denote.Ref.{Bor}
 use Rattle.arena.specs.declared.fault.Resource.{Resource}
 use Rattle.arena.specs.declared.fault.Resource.TheVariants.{Nodes, Scx}
-use Rattle.ordered_map.specs.declared.reply.Reply.{Reply}
-use Rattle.ordered_map.specs.declared.reply.Reply.TheVariants.{Value, Pair, Pairs, Contended, NoMemory, Full as FullShare}
-use Rattle.ordered_map.specs.declared.request.Request.{Request}
-use Rattle.ordered_map.specs.declared.request.Request.TheVariants.{Successor, Predecessor, PopFirst, PopLast}
-use Rattle.script.specs.declared.call.Call.{Call}
-use Rattle.script.specs.declared.command.Command.{Command}
-use Rattle.script.specs.declared.command.Command.TheVariants.{Map as MapCommand}
+use Rattle.record.specs.Common.{Reply, Value, Pairs, Contended, NoMemory, Full as FullShare, Request, Successor, Predecessor, PopFirst, Call, Command, Map as MapCommand, commands}
+use Rattle.ordered_map.specs.declared.reply.Reply.TheVariants.{Pair}
+use Rattle.ordered_map.specs.declared.request.Request.TheVariants.{PopLast}
 use Rattle.record.specs.declared.record.Answer.{Answer}
 use Rattle.record.specs.declared.record.Answer.TheVariants.{Snapshot, Finalized, Fail, Done, Lost, Same, Changed, Unlinked, Full, Map}
 use Rattle.record.specs.declared.record.Line.{Line}
 use Rattle.record.specs.declared.record.Line.TheVariants.{Step, Log, Reply as ReplyLine}
-use Rattle.record.specs.Commands.{commands}
 
 -- keys and values, each after a space
 unfoldable pub spaced_pairs : List (ℕ × ℕ) → List ℕ

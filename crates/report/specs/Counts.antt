@@ -2,9 +2,7 @@
 use Rattle.std.specs.Prelude.{◌≡◌, ◌<◌, ℕ, List, Some, slice_index_or, slice_get}
 use Rattle.std.specs.Option.{option_map}
 use Rattle.record.specs.declared.record.Line.{Line}
-use Rattle.record.specs.Turns.{answered}
-use Rattle.script.specs.declared.call.Call.{Call}
-use Rattle.record.specs.Commands.{commands}
+use Rattle.record.specs.Common.{answered, Call, commands}
 use Rattle.report.specs.declared.commands.Commands.{Commands}
 use Rattle.report.specs.declared.count.Counts.{Counts}
 use Rattle.report.specs.Report.{calls_by}

@@ -3,8 +3,7 @@ use Rattle.std.specs.Prelude.{ℕ, suc, ◌≡◌, ◌≤◌, ◌<◌, ◌^◌, 
 use Rattle.arena.specs.Limits.{IsAccepted}
 use Rattle.arena.specs.declared.limits.Limits.{Limits}
 use Rattle.arena.specs.declared.limits.Mode.{Mode}
-use Rattle.script.specs.declared.call.Call.{Call}
-use Rattle.script.specs.declared.script.Script.{Script}
+use Rattle.record.specs.Common.{Call, Script}
 use Rattle.record.specs.declared.record.Line.{Line}
 use Rattle.texts.specs.Texts.{AreRows, BeginWithRows}
 use Rattle.report.specs.Report.{version_rows, rows_told, seven}

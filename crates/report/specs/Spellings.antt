@@ -1,10 +1,8 @@
 -- What a report of a version can spell: its numbers fit the words that keep them.
 use Rattle.std.specs.Prelude.{ℕ, ◌≡◌, ◌≢◌, ◌<◌, ◌^◌, ⊤, List, All, Some, None, IfSome}
 use Rattle.arena.specs.declared.limits.Mode.{Mode}
-use Rattle.script.specs.Commands.{IsCommand, mode_of}
-use Rattle.script.specs.declared.call.Call.{Call}
-use Rattle.ordered_map.specs.declared.reply.Reply.{Reply}
-use Rattle.ordered_map.specs.declared.reply.Reply.TheVariants.{Value, Pair, Pairs, Contended, NoMemory, Full as FullShare}
+use Rattle.record.specs.Common.{IsCommand, mode_of, Call, Reply, Value, Pairs, Contended, NoMemory, Full as FullShare}
+use Rattle.ordered_map.specs.declared.reply.Reply.TheVariants.{Pair}
 use Rattle.record.specs.declared.record.Answer.{Answer}
 use Rattle.record.specs.declared.record.Answer.TheVariants.{Snapshot, Finalized, Fail, Done, Lost, Same, Changed, Unlinked, Full, Map}
 use Rattle.record.specs.declared.record.Entry.{Entry}

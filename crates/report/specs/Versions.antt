@@ -4,10 +4,8 @@ use Rattle.std.specs.List.{AllByRecursion}
 use Rattle.arena.specs.declared.word.NodeWord.{NodeWord}
 use Rattle.arena.specs.declared.word.NodeWord.TheVariants.{Settled}
 use Rattle.arena.specs.declared.word.SettledPart.TheVariants.{High}
-use Rattle.ordered_map.specs.declared.request.Request.{Request}
+use Rattle.record.specs.Common.{Request, Command, Map}
 use Rattle.script.specs.Commands.{MapArgument, OfValue, request_arguments, request_name}
-use Rattle.script.specs.declared.command.Command.{Command}
-use Rattle.script.specs.declared.command.Command.TheVariants.{Map}
 use Rattle.report.specs.declared.version.Version.{Version}
 use Rattle.report.specs.declared.version.Version.TheVariants.{One, Two}
 

@@ -2,12 +2,7 @@
 use Rattle.std.proofs.Common.{◌≡◌, ◌∙◌, ℕ, ◌+◌, ◌<◌, Bool, true, false, cond, eqb, List, [], ◌∷◌, ◌++◌, take, length, get_or, Some, refl, sym, ap, subst, append-nil}
 use Rattle.std.proofs.lemmas.List.{take_more}
 use Rattle.arena.proofs.Lemmas.{ends_self, ends_trans}
-use Rattle.ordered_map.specs.OrderedMap.{MapCall}
-use Rattle.ordered_map.specs.declared.reply.Reply.{Reply}
-use Rattle.script.specs.declared.call.Call.{Call}
-use Rattle.script.specs.declared.command.Command.{Command}
-use Rattle.record.specs.Commands.{commands}
-use Rattle.record.specs.MapRecord.{map_call}
+use Rattle.record.specs.Common.{MapCall, Reply, Call, Command, commands, map_call}
 use Rattle.forest.specs.Passes.{Ground, PassView, IsLaterView, run_of}
 use Rattle.runner.specs.Calls.{HasCalledNumbers, HaveReplies}
 

@@ -1,26 +1,13 @@
 -- What a run whose passes are all back leaves.
-use Rattle.std.proofs.Common.{◌≡◌, ◌∙◌, ℕ, zero, suc, List, [], ◌∷◌, map, slice_get, Some, refl, ap, subst}
-use Rattle.std.specs.Prelude.{Vec}
-use Rattle.std.specs.Global.{Global}
-use Rattle.arena.specs.declared.limits.Mode.TheVariants.{Tree}
-use Rattle.arena.specs.declared.layout.Layout.{Layout}
-use Rattle.arena.specs.declared.step.Row.{Row}
+use Rattle.std.proofs.Common.{◌≡◌, ◌∙◌, ℕ, zero, suc, List, [], ◌∷◌, map, slice_get, Some, refl, ap, subst, Vec, Global}
+use Rattle.histories.specs.Common.{Tree, Layout, Row, History, value, Extends, log, Contents}
 use Rattle.arena.specs.Limits.{IsLayoutOf}
-use Rattle.arena.specs.History.{History, value, Extends}
-use Rattle.arena.specs.Log.{log}
-use Rattle.arena.specs.PlainWords.{Contents}
 use Rattle.ordered_map.specs.Laws.{AreEdits}
-use Rattle.ordered_map.specs.OrderedMap.{MapEdit}
-use Rattle.ordered_map.specs.Runs.{IsTreeRun, map_of_log}
-use Rattle.ordered_map.specs.declared.pair.Pair.{Pair}
-use Rattle.ordered_map.specs.Spelled.{Spells}
+use Rattle.record.specs.Common.{MapEdit, IsTreeRun, Pair, Spells, word_pair, Reply, Script, commands}
+use Rattle.ordered_map.specs.Runs.{map_of_log}
 use Rattle.ordered_map.proofs.Lemmas.{log_edits, one_spelling, spells_log}
 use Rattle.arena.proofs.Lemmas.{ends_self}
 use Rattle.dict.specs.Laws.TypedMaps.{typed_run}
-use Rattle.ordered_map.specs.Replies.{word_pair}
-use Rattle.ordered_map.specs.declared.reply.Reply.{Reply}
-use Rattle.script.specs.declared.script.Script.{Script}
-use Rattle.record.specs.Commands.{commands}
 use Rattle.forest.specs.TableRule.{history_of}
 use Rattle.forest.specs.Passes.{Ground, PassView, AreNew, AreBegun, HoldsOfOwn, IsClosed, IsLook, new_pass, run_of, done_of}
 use Rattle.forest.specs.Shares.{entries_of}

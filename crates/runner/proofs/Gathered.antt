@@ -1,11 +1,8 @@
 -- What the threads of a run give back, one after the other.
-use Rattle.std.proofs.Common.{◌≡◌, ◌∙◌, ℕ, zero, suc, ◌<◌, List, [], ◌∷◌, ◌++◌, length, slice_get, Some, None, arith, map, refl, sym, ap, subst, append_assoc, append-nil}
-use Rattle.std.specs.Prelude.{Vec}
+use Rattle.std.proofs.Common.{◌≡◌, ◌∙◌, ℕ, zero, suc, ◌<◌, List, [], ◌∷◌, ◌++◌, length, slice_get, Some, None, arith, map, refl, sym, ap, subst, append_assoc, append-nil, Vec, Global}
 use Rattle.std.specs.List.{All}
 use Rattle.std.proofs.lemmas.List.Elements.{All-nil, All-cons, All-head, All-tail}
-use Rattle.std.specs.Global.{Global}
-use Rattle.ordered_map.specs.declared.reply.Reply.{Reply}
-use Rattle.script.specs.declared.call.Call.{Call}
+use Rattle.record.specs.Common.{Reply, Call}
 use Rattle.forest.specs.Passes.{Ground, PassView, IsOf, AreNew, AreAllBack, HasPass, new_pass}
 use Rattle.runner.specs.Calls.{HasWorked, HaveWorked}
 

@@ -1,16 +1,11 @@
 -- Where the calls of a client are in the history of the whole run.
 use Rattle.std.proofs.Common.{◌≡◌, ◌∙◌, ℕ, inr, List, [], ◌∷◌, Option, Some, None, refl, sym, ap, subst}
-use Rattle.arena.specs.declared.layout.Layout.{Layout}
-use Rattle.arena.specs.History.{History, ◌⊳◌, value, Extends}
+use Rattle.histories.specs.Common.{Layout, History, ◌⊳◌, value, Extends}
 use Rattle.arena.proofs.Lemmas.{ends_self, ends_trans}
-use Rattle.ordered_map.specs.declared.pair.Pair.{Pair}
-use Rattle.ordered_map.specs.OrderedMap.{MapCall, MapEdit, MapReply, after, edited, reply, edit_of}
-use Rattle.ordered_map.specs.Runs.{Makes}
+use Rattle.record.specs.Common.{Pair, MapCall, MapEdit, MapReply, after, edited, reply, edit_of, Makes, Reply, Command}
 use Rattle.ordered_map.proofs.Lemmas.{after_is, one_spelling}
 use Rattle.ordered_map.specs.Replies.{told_of}
-use Rattle.ordered_map.specs.declared.reply.Reply.{Reply}
 use Rattle.ordered_map.specs.declared.reply.Reply.TheVariants as replies
-use Rattle.script.specs.declared.command.Command.{Command}
 use Rattle.edits.specs.Tries.{HasOnlyLooked}
 use Rattle.dict.specs.Says.{HasMadeRow}
 use Rattle.forest.specs.Dictionary.{IsVersion, IsChange, IsChangeOrReading, IsReading, IsRefusalOf, IsToldOf}

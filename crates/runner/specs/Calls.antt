@@ -1,16 +1,10 @@
 -- The calls of a client, as its pass makes them one after the other.
 use Rattle.std.specs.Prelude.{◌≡◌, ℕ, ◌<◌, ◌^◌, List, [], ◌∷◌, Some, Vec}
 use Rattle.std.specs.Global.{Global}
-use Rattle.arena.specs.declared.layout.Layout.{Layout}
-use Rattle.arena.specs.History.{History}
-use Rattle.ordered_map.specs.OrderedMap.{MapCall}
+use Rattle.histories.specs.Common.{Layout, History}
+use Rattle.record.specs.Common.{MapCall, Reply, Call, Command, commands, map_call}
 use Rattle.dict.specs.Typed.{TypedAllows}
 use Rattle.dict.specs.Words.{IsNumber, IsWideNumber}
-use Rattle.ordered_map.specs.declared.reply.Reply.{Reply}
-use Rattle.script.specs.declared.call.Call.{Call}
-use Rattle.script.specs.declared.command.Command.{Command}
-use Rattle.record.specs.Commands.{commands}
-use Rattle.record.specs.MapRecord.{map_call}
 use Rattle.forest.specs.Dictionary.{HasCalled}
 use Rattle.forest.specs.Passes.{Ground, PassView, IsOf}
 

@@ -1,19 +1,11 @@
 -- The one history that contains all calls of a run.
 use Rattle.std.specs.Prelude.{◌<◌, ◌≡◌, ℕ, List, [], ◌∷◌, Option, Some, None}
-use Rattle.arena.specs.declared.layout.Layout.{Layout}
-use Rattle.arena.specs.declared.step.Row.{Row}
-use Rattle.arena.specs.History.{History, Start, ◌⊳◌, value, Extends}
-use Rattle.arena.specs.Log.{Entry, log}
-use Rattle.ordered_map.specs.declared.pair.Pair.{Pair}
-use Rattle.ordered_map.specs.OrderedMap.{MapCall, MapEdit, MapReply, after, reply, edit_of}
-use Rattle.ordered_map.specs.Runs.{Makes}
-use Rattle.ordered_map.specs.Spelled.{Spells}
+use Rattle.histories.specs.Common.{Layout, Row, History, Start, ◌⊳◌, value, Extends, Entry, log}
+use Rattle.record.specs.Common.{Pair, MapCall, MapEdit, MapReply, after, reply, edit_of, Makes, Spells, Reply}
 use Rattle.dict.specs.Calls.{AsksForPairs}
-use Rattle.ordered_map.specs.CallRules.{most_nodes}
+use Rattle.template.specs.Common.{most_nodes, told_of}
 use Rattle.edits.specs.Tries.{HasOnlyLooked}
 use Rattle.dict.specs.Says.{HasMadeRow}
-use Rattle.ordered_map.specs.Replies.{told_of}
-use Rattle.ordered_map.specs.declared.reply.Reply.{Reply}
 use Rattle.forest.specs.Passes.{Ground, PassView, run_of, done_of, taken_of}
 use Rattle.runner.specs.Calls.{HasCalledNumbers}
 

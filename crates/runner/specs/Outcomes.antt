@@ -1,18 +1,9 @@
 -- What the outcome of a run says.
 use Rattle.std.specs.Prelude.{◌≡◌, ℕ, List, Some, Vec, length, map, slice_get}
 use Rattle.std.specs.Global.{Global}
-use Rattle.arena.specs.declared.limits.Mode.TheVariants.{Tree}
+use Rattle.histories.specs.Common.{Tree, History, Extends, log, IsRun}
 use Rattle.arena.specs.Limits.{IsLayoutOf}
-use Rattle.arena.specs.History.{History, Extends}
-use Rattle.arena.specs.Log.{log}
-use Rattle.arena.specs.Machines.{IsRun}
-use Rattle.ordered_map.specs.OrderedMap.{IsRising}
-use Rattle.ordered_map.specs.declared.pair.Pair.{Pair}
-use Rattle.ordered_map.specs.Replies.{word_pair}
-use Rattle.ordered_map.specs.declared.reply.Reply.{Reply}
-use Rattle.script.specs.declared.command.Command.{Command}
-use Rattle.script.specs.declared.script.Script.{Script}
-use Rattle.record.specs.Commands.{commands}
+use Rattle.record.specs.Common.{IsRising, Pair, word_pair, Reply, Command, Script, commands}
 use Rattle.forest.specs.Passes.{Ground, PassView, HaveLeftShares, HoldsOfOwn, IsLook, new_pass, run_of, done_of}
 use Rattle.forest.specs.Shares.{entries_of}
 use Rattle.runner.specs.Calls.{NumbersAllow, HaveReplies}

@@ -1,10 +1,7 @@
 -- Which call waits for which.
 use Rattle.std.specs.Prelude.{ℕ, zero, suc, Bool, true, if◌then◌else◌, nat_lt, List, length, Option, Some, None}
-use Rattle.arena.specs.declared.number.PassNo.{PassNo}
-use Rattle.arena.specs.declared.step.Kind.{Kind}
-use Rattle.arena.specs.declared.step.Kind.TheVariants.{Freeze}
-use Rattle.script.specs.declared.call.Call.{Call}
-use Rattle.record.specs.Commands.{commands}
+use Rattle.histories.specs.Common.{PassNo, Kind, Freeze}
+use Rattle.record.specs.Common.{Call, commands}
 
 -- how many calls a client has
 abbrev pub call_count : List Call → ℕ → ℕ

@@ -2,28 +2,18 @@
 -- the call or has reached the node in it.
 use Rattle.std.proofs.Common.{◌≡◌, ◌≢◌, ℕ, List, inl, inr, ⊎_elim, sym, ◌∙◌, ap, subst, arith}
 use native.Mathlib.Decide.{ℕ_discrete}
-use Rattle.arena.specs.declared.layout.Layout.{Layout}
-use Rattle.arena.specs.declared.step.Kind.{Kind}
-use Rattle.arena.specs.declared.step.Kind.TheVariants.{LoadInfo}
-use Rattle.arena.specs.Words.{info, state}
-use Rattle.arena.specs.History.{History, Start, ◌⊳◌, value, HasHeld, Extends}
-use Rattle.arena.specs.ScxRecords.{member}
-use Rattle.arena.specs.Lawful.{Lawful}
-use Rattle.arena.specs.Blame.{WasInTheWay, HasFailed}
-use Rattle.arena.specs.Machines.{Call, begun_at}
+use Rattle.histories.specs.Common.{Layout, Kind, LoadInfo, info, state, History, Start, ◌⊳◌, value, HasHeld, Extends, member, Lawful, WasInTheWay, HasFailed, Call, begun_at}
 use Rattle.arena.proofs.Lemmas.{ends_self, ends_trans, held_at, held_since}
 use Rattle.histories.proofs.Lemmas.{Effect, Facts, committed_won, effect, facts_before, freeze, freeze_is_new, freeze_keeps_info, freeze_stores, lawful_since, lawful_tail, quiet, state_since, update, update_keeps_info}
 use Rattle.prims.specs.Laws.Blamed.{moment_since, way_since}
-use Rattle.prims.specs.FoundThere.{HasFoundThere}
+use Rattle.template.specs.Common.{HasFoundThere, IsLeftAlone, HasChanged, snap_at, Snap, WasNotFinal, IsContended}
 use Rattle.prims.specs.Laws.FoundThere.{found_there, there_later, there_wider}
 use Rattle.prims.specs.Laws.Idle.{IsQuietSince}
 use Rattle.prims.specs.Laws.InTheWay.{way_others}
 use Rattle.prims.specs.Llx.Known.{IsFinalBy}
-use Rattle.prims.specs.Moments.{IsMoment, IsLeftAlone, HasChanged}
-use Rattle.prims.specs.Snap.{snap_at}
-use Rattle.prims.specs.declared.snap.Snap.{Snap}
+use Rattle.prims.specs.Moments.{IsMoment}
 use Rattle.ordered_map.proofs.Lemmas.{blame_finalizer}
-use Rattle.template.specs.Blame.{WasNotFinal, HasCome, IsContended}
+use Rattle.template.specs.Blame.{HasCome}
 
 -- What has reached a node
 

@@ -1,32 +1,16 @@
 -- What a delete has filled makes its edit, whatever rows come until its SCX-record begins.
 use Rattle.std.proofs.Common.{◌≡◌, ◌≢◌, ℕ, zero, suc, ◌<◌, ◌^◌, false, Some, None, List, [], ◌∷◌, refl, sym, ◌∙◌, ap, arith, subst, eq-eqb, ne_eqb}
 use native.Mathlib.Decide.{ℕ_discrete}
-use Rattle.arena.specs.declared.word.Slot.TheVariants.{First}
-use Rattle.arena.specs.declared.word.Side.{Side}
-use Rattle.arena.specs.declared.word.Side.TheVariants.{Left, Right}
-use Rattle.arena.specs.Words.{child}
-use Rattle.arena.specs.History.{History, value}
-use Rattle.arena.specs.Fills.{IsNamed}
-use Rattle.arena.specs.Machines.{Call}
-use Rattle.histories.specs.Descriptor.{Descriptor}
-use Rattle.prims.specs.Snap.{child_of}
+use Rattle.histories.specs.Common.{First, Side, Left, Right, child, History, value, IsNamed, Call, Descriptor}
+use Rattle.template.specs.Common.{child_of, Snap, Delete, delete, get, WasOnPath, IsTreeRun, join_plan, sibling_place, class, is_leaf}
+use Rattle.template.specs.Common.{toward, pair_in, held_pairs, HasFoundLeaf, IsPromised, IsFresh, HasTurned, Pair, Key as ToKey}
 use Rattle.prims.specs.Laws.Linked.{in_field_named}
-use Rattle.prims.specs.declared.snap.Snap.{Snap}
 use Rattle.ordered_map.specs.Edits.{IsJoinBy}
-use Rattle.ordered_map.specs.OrderedMap.{Delete, delete, get}
-use Rattle.ordered_map.specs.Paths.{WasOnPath}
-use Rattle.ordered_map.specs.Runs.{IsTreeRun}
-use Rattle.ordered_map.specs.TreeShape.{join_plan, leaf_place, sibling_place}
-use Rattle.ordered_map.specs.TreeWords.{class, is_leaf, toward}
+use Rattle.ordered_map.specs.TreeShape.{leaf_place}
 use Rattle.ordered_map.proofs.Lemmas.{walk_named, held_alone, low_pairs}
-use Rattle.ordered_map.specs.Holding.{pair_in, held_pairs}
-use Rattle.template.specs.FoundLeaf.{HasFoundLeaf}
 use Rattle.template.specs.FreshNodes.{IsJoinAt, HasFreshCopy}
-use Rattle.template.specs.Promises.{IsPromised, IsFresh, IsSnapOf, WillTakeOut}
-use Rattle.template.specs.Trails.{HasTurned}
-use Rattle.ordered_map.specs.declared.pair.Pair.{Pair}
+use Rattle.template.specs.Promises.{IsSnapOf, WillTakeOut}
 use Rattle.template.specs.declared.walk.Found.{Found}
-use Rattle.ordered_map.specs.declared.rule.Goal.TheVariants.{Key as ToKey}
 use Rattle.template.proofs.Promised.{taken_out_promised}
 use Rattle.template.proofs.WalkBounds.{said_low, found_below}
 

@@ -3,28 +3,15 @@
 use Rattle.std.proofs.Common.{Bool, true, false, cond, eqb, ◌≡◌, ◌≢◌, ◌⊎◌, inl, inr, ℕ, ◌<◌, ◌≤◌, ◌^◌, eq-eqb, ne_eqb, lt-ltb, le-ltb, [], refl, sym, ◌∙◌, ap, arith, subst, Some, None}
 use Rattle.std.specs.Option.{option_map}
 use native.Mathlib.Decide.{ℕ_discrete}
-use Rattle.arena.specs.declared.word.NodeWord.TheVariants.{Settled}
-use Rattle.arena.specs.declared.word.SettledPart.TheVariants.{More, Key}
-use Rattle.arena.specs.declared.word.Side.{Side}
-use Rattle.arena.specs.declared.word.Side.TheVariants.{Left, Right}
-use Rattle.arena.specs.declared.word.Slot.{Slot}
-use Rattle.arena.specs.declared.word.Word.{Word}
-use Rattle.arena.specs.Words.{node, child}
-use Rattle.arena.specs.History.{History, value, Extends}
-use Rattle.arena.specs.Machines.{Call}
+use Rattle.histories.specs.Common.{Settled, More, Key, Side, Left, Right, Slot, Word, node, child, History, value, Extends, Call}
 use Rattle.histories.proofs.Lemmas.{node_since}
-use Rattle.ordered_map.specs.Holding.{IsWellCounted, end_slot, held_pairs, pair_in}
+use Rattle.template.specs.Common.{IsWellCounted, end_slot, held_pairs, pair_in, AllBelow, IsRising, pair, get, end_pair, Passed, IsTreeRun, class, is_leaf}
+use Rattle.template.specs.Common.{rank, toward, said, path_key, asked_in, HasFoundGoal, HasFoundLeaf, end_told, WasPassed, HasTurned, Goal, Key as ToKey, End}
 use Rattle.ordered_map.specs.MapLaws.{IsEndmost}
-use Rattle.ordered_map.specs.OrderedMap.{AllBelow, IsRising, pair, get, end_pair}
-use Rattle.ordered_map.specs.Paths.{Passed, IsEndAt, end_key, end_turn}
-use Rattle.ordered_map.specs.Runs.{IsTreeRun}
-use Rattle.ordered_map.specs.TreeWords.{class, is_leaf, rank, toward, said, leaf_pairs, end_said}
+use Rattle.ordered_map.specs.Paths.{IsEndAt, end_key, end_turn}
+use Rattle.ordered_map.specs.TreeWords.{leaf_pairs, end_said}
 use Rattle.ordered_map.proofs.Lemmas.{IsBeside, IsUpTo, beside_same, run_since, split_at, end_up, end_small, end_is, walk_holds, walk_beside, walk_turns, walk_end, walk_named, walk_next, walk_own, SameSettled, held_end, low_pairs, high_pairs, settled_rank, settled_leaf, settled_toward}
-use Rattle.template.specs.FoundLeaf.{path_key, asked_in, HasFoundGoal, HasFoundLeaf, end_told}
-use Rattle.template.specs.Trails.{WasPassed, HasTurned}
 use Rattle.template.specs.declared.walk.Found.{Found}
-use Rattle.ordered_map.specs.declared.rule.Goal.{Goal}
-use Rattle.ordered_map.specs.declared.rule.Goal.TheVariants.{Key as ToKey, End}
 
 -- the key k is on the side of a fork of this rank to which the search for the key at the end goes
 abbrev pub IsWithin : Side → ℕ → ℕ → Type 0

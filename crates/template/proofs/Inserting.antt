@@ -1,23 +1,12 @@
 -- What an edit of a leaf has filled makes the edit, whatever rows come until its SCX-record begins.
 use Rattle.std.proofs.Common.{◌≡◌, ◌≢◌, ℕ, ◌^◌, ◌<◌, false, None, sym, ◌∙◌, ap, arith, subst, length}
-use Rattle.arena.specs.History.{History, value}
-use Rattle.arena.specs.Fills.{IsNamed}
-use Rattle.arena.specs.Machines.{Call}
-use Rattle.histories.specs.Descriptor.{Descriptor}
-use Rattle.prims.specs.Scx.Known.{Job, Says}
-use Rattle.prims.specs.Snap.{snap_at}
-use Rattle.ordered_map.specs.OrderedMap.{MapEdit, edit_key, value_left}
-use Rattle.ordered_map.specs.Paths.{WasOnPath}
-use Rattle.ordered_map.specs.Runs.{IsTreeRun}
-use Rattle.ordered_map.specs.TreeShape.{leaf_plan}
-use Rattle.ordered_map.specs.TreeWords.{is_leaf, toward, said}
+use Rattle.histories.specs.Common.{History, value, IsNamed, Call, Descriptor}
+use Rattle.template.specs.Common.{Job, Says, snap_at, MapEdit, edit_key, WasOnPath, IsTreeRun, leaf_plan, is_leaf, toward, said, HasFoundLeaf, IsPromised, HasTurned, Key as ToKey}
+use Rattle.ordered_map.specs.OrderedMap.{value_left}
 use Rattle.ordered_map.proofs.Lemmas.{walk_named}
-use Rattle.template.specs.FoundLeaf.{HasFoundLeaf}
 use Rattle.template.specs.FreshNodes.{IsLeafEditAt}
-use Rattle.template.specs.Promises.{IsPromised, HasFreshEdit}
-use Rattle.template.specs.Trails.{HasTurned}
+use Rattle.template.specs.Promises.{HasFreshEdit}
 use Rattle.template.specs.declared.walk.Found.{Found}
-use Rattle.ordered_map.specs.declared.rule.Goal.TheVariants.{Key as ToKey}
 use Rattle.template.proofs.Promised.{leaf_edit_promised}
 use Rattle.template.proofs.WalkBounds.{found_below}
 

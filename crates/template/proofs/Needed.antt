@@ -1,19 +1,13 @@
 -- A call that begins a try only once all before it are lost has tried only as needed, row by row.
 use Rattle.std.proofs.Common.{◌≡◌, ◌≢◌, ℕ, suc, ◌+◌, ◌-◌, ◌<◌, ◌≤◌, Bool, true, false, inl, inr, ⊎_elim, refl, sym, ◌∙◌, ap, subst, arith}
 use Rattle.std.proofs.Math.Nat.{lt_of_not-le}
-use Rattle.arena.specs.declared.layout.Layout.{Layout}
-use Rattle.arena.specs.declared.step.Row.{Row}
-use Rattle.arena.specs.Blame.{WasInTheWay}
-use Rattle.arena.specs.Fills.{IsOthersScx}
-use Rattle.arena.specs.History.{History, Start, ◌⊳◌, Extends}
-use Rattle.arena.specs.Machines.{Call, begun_at}
+use Rattle.histories.specs.Common.{Layout, Row, WasInTheWay, IsOthersScx, History, Start, ◌⊳◌, Extends, Call, begun_at}
 use Rattle.arena.proofs.Lemmas.{ends_self, ends_trans}
 use Rattle.prims.specs.Laws.Blamed.{way_since}
 use Rattle.prims.specs.Laws.FoundThere.{there_later}
 use Rattle.prims.specs.Laws.Wins.{ends_either}
-use Rattle.ordered_map.specs.Tries.{begins_try, tries_begun, IsNewestTry}
-use Rattle.template.specs.Blame.{IsContended, HasLostTriesTo}
-use Rattle.template.specs.Tries.{tries_since, WasLost, HasBegunTry, HasLostAll, HasTriedAsNeeded, HasTriedAtMost, MayTryNext, IsInNewest, HasTriedAllBut}
+use Rattle.template.specs.Common.{begins_try, tries_begun, IsNewestTry, IsContended, HasLostTriesTo, tries_since, HasTriedAtMost, MayTryNext, HasTriedAllBut}
+use Rattle.template.specs.Tries.{WasLost, HasBegunTry, HasLostAll, HasTriedAsNeeded, IsInNewest}
 use Rattle.template.proofs.Tries.{tries_more, tries_begin, newest_more, newest_now}
 
 -- Moments

@@ -1,11 +1,7 @@
 -- Nodes that have been in the tree.
 use Rattle.std.specs.Prelude.{ℕ, ◌<◌}
-use Rattle.arena.specs.declared.layout.Layout.{Layout}
-use Rattle.arena.specs.History.{History}
-use Rattle.arena.specs.Layout.{all_nodes}
-use Rattle.prims.specs.Llx.Known.{IsOpened}
-use Rattle.ordered_map.specs.Paths.{WasInTree}
-use Rattle.ordered_map.specs.Runs.{IsTreeRun}
+use Rattle.histories.specs.Common.{Layout, History, all_nodes}
+use Rattle.template.specs.Common.{IsOpened, WasInTree, IsTreeRun}
 use Rattle.ordered_map.proofs.Lemmas.{run_since, stood_in_field, tree_inside}
 
 -- a node that has been in the tree is in the table

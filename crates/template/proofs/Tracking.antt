@@ -1,39 +1,19 @@
 -- Which edit an SCX-record has made, once it has won: what rows leave of what is tracked.
 use Rattle.std.proofs.Common.{◌≡◌, ◌≢◌, ℕ, inl, inr, ⊎_elim, zero, suc, refl, sym, ◌∙◌, ap, arith, subst}
 use native.Mathlib.Decide.{ℕ_discrete}
-use Rattle.arena.specs.declared.layout.Layout.{Layout}
-use Rattle.arena.specs.declared.step.Row.{Row}
-use Rattle.arena.specs.declared.step.Step.{Step}
-use Rattle.arena.specs.declared.number.MemberIndex.{MemberIndex}
-use Rattle.arena.specs.declared.number.ScxNo.{ScxNo}
-use Rattle.arena.specs.MemberIndex.{member_index}
-use Rattle.arena.specs.Words.{scx, info, state}
-use Rattle.arena.specs.History.{History, ◌⊳◌, value}
-use Rattle.arena.specs.ScxRecords.{member, seen}
-use Rattle.arena.specs.Fills.{IsOwnScx, IsNamedScx}
-use Rattle.arena.specs.Lawful.{AreFrozen, HasWon, Lawful}
-use Rattle.arena.specs.Shape.{IsBegin}
-use Rattle.arena.specs.Machines.{IsRun, Call, row_of}
+use Rattle.histories.specs.Common.{Layout, Row, Step, MemberIndex, ScxNo, member_index, scx, info, state, History, ◌⊳◌, value, member, seen, IsOwnScx}
+use Rattle.histories.specs.Common.{IsNamedScx, AreFrozen, HasWon, Lawful, IsBegin, IsRun, Call, row_of, Begins, Descriptor, descriptor, IsStarted}
 use Rattle.arena.proofs.Lemmas.{value_at, value_apart, held_at, exchange_won, exchange_lost, ends_self, named_scx_before}
-use Rattle.histories.specs.Begins.{Begins}
-use Rattle.histories.specs.Descriptor.{Descriptor, descriptor}
-use Rattle.histories.specs.Progress.{IsStarted}
 use Rattle.histories.proofs.Lemmas.{aborted_never_won, facts, state_stays, stays_free, won_named}
 use Rattle.help.specs.Allowed.{IsQuiet, MayComeBetween, IsPrepared}
 use Rattle.help.specs.Laws.Help.Allowing.{later_self, quiet_named_scx}
-use Rattle.help.specs.Help.Known.{Freezes, Reading, reading, HelpKnows, help_step, HelpWaits}
-use Rattle.help.specs.declared.state.HelpRun.{HelpRun}
+use Rattle.template.specs.Common.{HelpWaits, HelpRun, Job, job_of, Says, ScxWaitsAt, ScxWaits, ScxRun, ScxAt, MapEdit, Makes, TreeAllows, IsPromised, Tracks}
+use Rattle.help.specs.Help.Known.{Freezes, Reading, reading, HelpKnows, help_step}
 use Rattle.help.specs.declared.state.HelpAt.{HelpAt}
 use Rattle.help.specs.declared.state.HelpAt.TheVariants.{Start, Plan as AtPlan, Member as AtMember, Seen as AtSeen, Freeze as AtFreeze, AllFrozen as AtAllFrozen, Abort as AtAbort, SetFrozen as AtSetFrozen, Mark as AtMark, New as AtNew, Old as AtOld, Update as AtUpdate, Commit as AtCommit}
-use Rattle.prims.specs.Scx.Known.{Job, job_of, Says, HasFilled, part_at, fill_step, FillWaits, ScxWaitsAt, ScxWaits}
-use Rattle.prims.specs.declared.scx.ScxRun.{ScxRun}
-use Rattle.prims.specs.declared.scx.ScxAt.{ScxAt}
+use Rattle.prims.specs.Scx.Known.{HasFilled, part_at, fill_step, FillWaits}
 use Rattle.prims.specs.declared.scx.ScxAt.TheVariants.{Start as AtScxStart, Plan as AtFillPlan, New as AtFillNew, Old as AtFillOld, Member as AtFillMember, Seen as AtFillSeen, Call as AtFillCall, Help as AtHelp}
-use Rattle.ordered_map.specs.OrderedMap.{MapEdit}
-use Rattle.ordered_map.specs.Runs.{Makes}
-use Rattle.ordered_map.specs.TreeShape.{TreeAllows}
-use Rattle.template.specs.Promises.{IsPromised}
-use Rattle.template.specs.Tracked.{Tracks, waits, begun, over}
+use Rattle.template.specs.Tracked.{waits, begun, over}
 use Rattle.template.proofs.Promised.{promised_more}
 
 -- What a row of HELP does of an SCX-record that no info word names: it changes nothing, begins it,

@@ -1,40 +1,18 @@
 -- Which steps begin a try, and what a pass's tries are after one more row.
 use Rattle.std.proofs.Common.{◌≡◌, ◌≢◌, ℕ, suc, ◌<◌, ◌≤◌, Bool, true, false, ◌&&◌, eqb, eq-eqb, ne_eqb, List, length, Some, inl, inr, refl, ◌∙◌, subst, arith}
-use Rattle.arena.specs.declared.layout.Layout.{Layout}
-use Rattle.arena.specs.declared.step.Kind.{Kind}
-use Rattle.arena.specs.declared.step.Kind.TheVariants.{LoadSettled}
-use Rattle.arena.specs.declared.step.Row.{Row}
-use Rattle.arena.specs.declared.step.Step.{Step}
-use Rattle.arena.specs.declared.word.NodeWord.{NodeWord}
-use Rattle.arena.specs.declared.word.NodeWord.TheVariants.{Settled}
-use Rattle.arena.specs.declared.word.SettledPart.TheVariants.{Head as HeadWord}
-use Rattle.arena.specs.Words.{node, scx, same_word}
-use Rattle.arena.specs.History.{History, ◌⊳◌, value}
-use Rattle.arena.specs.Machines.{Call, IsRun, row_of}
-use Rattle.arena.specs.TakenNodes.{taken_nodes}
-use Rattle.help.specs.Help.Known.{HelpWaits, help_step}
+use Rattle.histories.specs.Common.{Layout, Kind, LoadSettled, Row, Step, NodeWord, Settled, Head as HeadWord, node, scx, same_word, History, ◌⊳◌, value, Call, IsRun, row_of, taken_nodes}
+use Rattle.template.specs.Common.{HelpWaits, HelpRun, load, LlxWaits, Job, job_of, ScxWaitsAt, ScxWaits, VlxWaits, LlxAt, LlxRun, ScxAt, ScxRun, Snap, IsTreeRun}
+use Rattle.template.specs.Common.{TreeAllows, level, begins_try, tries_begun, IsNewestTry, WalkIsTold, WalkKnows, WalkWaits, walk_step, IsPastRoot, WalkFits, walk_left}
+use Rattle.help.specs.Help.Known.{help_step}
 use Rattle.help.specs.declared.state.HelpAt.{HelpAt}
 use Rattle.help.specs.declared.state.HelpAt.TheVariants as at
-use Rattle.help.specs.declared.state.HelpRun.{HelpRun}
-use Rattle.prims.specs.Llx.Known.{load, LlxHasAsked, LlxWaits}
-use Rattle.prims.specs.Scx.Known.{Job, job_of, FillWaits, ScxWaitsAt, ScxWaits}
-use Rattle.prims.specs.Vlx.Known.{VlxWaits}
-use Rattle.prims.specs.declared.llx.LlxAt.{LlxAt}
+use Rattle.prims.specs.Llx.Known.{LlxHasAsked}
+use Rattle.prims.specs.Scx.Known.{FillWaits}
 use Rattle.prims.specs.declared.llx.LlxAt.TheVariants as llx
-use Rattle.prims.specs.declared.llx.LlxRun.{LlxRun}
-use Rattle.prims.specs.declared.scx.ScxAt.{ScxAt}
 use Rattle.prims.specs.declared.scx.ScxAt.TheVariants as scxs
-use Rattle.prims.specs.declared.scx.ScxRun.{ScxRun}
-use Rattle.prims.specs.declared.snap.Snap.{Snap}
-use Rattle.ordered_map.specs.Runs.{IsTreeRun}
-use Rattle.ordered_map.specs.TreeShape.{TreeAllows}
-use Rattle.ordered_map.specs.TreeWords.{level}
-use Rattle.ordered_map.specs.Tries.{is_settled_load, begins_try, tries_begun, IsNewestTry}
+use Rattle.ordered_map.specs.Tries.{is_settled_load}
 use Rattle.ordered_map.proofs.Lemmas.{root_head}
-use Rattle.template.specs.Walk.Known.{WalkIsTold, WalkKnows, WalkWaits, walk_step}
 use Rattle.template.specs.Walk.Laws.{walk_told}
-use Rattle.template.specs.Walk.Places.{IsPastRoot}
-use Rattle.template.specs.Walk.Steps.{WalkFits, walk_left}
 use Rattle.template.specs.declared.walk.WalkAt.{WalkAt}
 use Rattle.template.specs.declared.walk.WalkAt.TheVariants.{Start as WalkStart, Root, Head, Key, Child, More, Pair, Value, High}
 use Rattle.template.specs.declared.walk.WalkRun.{WalkRun}

@@ -2,41 +2,19 @@
 use Rattle.std.proofs.Common.{◌≡◌, ◌≢◌, ℕ, ◌+◌, ◌*◌, ◌%◌, ◌^◌, ◌<◌, ◌≤◌, length, arith, true, false, cond, eqb, ◌⊎◌, inl, inr, ne_eqb, Option, Some, None, refl, sym, ◌∙◌, ap, subst}
 use native.Mathlib.Decide.{ℕ_discrete}
 use Rattle.std.proofs.lemmas.Nat.{mul-le}
-use Rattle.arena.specs.declared.step.Row.{Row}
-use Rattle.arena.specs.declared.step.Step.{Step}
-use Rattle.arena.specs.declared.step.Access.TheVariants.{Load}
-use Rattle.arena.specs.declared.step.Kind.{Kind}
-use Rattle.arena.specs.declared.step.Kind.TheVariants.{Fill, LoadSettled, LoadChild}
-use Rattle.arena.specs.declared.word.Side.{Side}
-use Rattle.arena.specs.declared.word.NodeWord.TheVariants.{Settled}
-use Rattle.arena.specs.declared.word.SettledPart.TheVariants.{Head as HeadWord, More as MoreWord, Key as KeyWord}
-use Rattle.arena.specs.declared.word.Word.{Word}
-use Rattle.arena.specs.Heads.{head_of}
-use Rattle.arena.specs.Words.{node, info, child, first_key}
-use Rattle.arena.specs.History.{History, ◌⊳◌, value, Extends}
-use Rattle.arena.specs.Fills.{IsNamed}
-use Rattle.arena.specs.Blame.{WasInTheWay}
-use Rattle.arena.specs.Machines.{IsRun, Call}
-use Rattle.arena.specs.TakenNodes.{taken_nodes}
+use Rattle.histories.specs.Common.{Row, Step, Load, Kind, Fill, LoadSettled, LoadChild, Side, Settled, Head as HeadWord, More as MoreWord, Key as KeyWord}
+use Rattle.histories.specs.Common.{Word, head_of, node, info, child, first_key, History, ◌⊳◌, value, Extends, IsNamed, WasInTheWay, IsRun, Call, taken_nodes}
 use Rattle.arena.proofs.Lemmas.{ends_trans, taken_few, taken_more}
 use Rattle.histories.proofs.Lemmas.{node_stays}
-use Rattle.ordered_map.specs.Holding.{end_slot, held_pairs, IsWellCounted}
-use Rattle.ordered_map.specs.OrderedMap.{AllBelow, IsRising}
-use Rattle.ordered_map.specs.Paths.{IsAnswerAt}
-use Rattle.ordered_map.specs.Runs.{IsTreeRun}
-use Rattle.ordered_map.specs.TreeShape.{TreeAllows}
-use Rattle.ordered_map.specs.TreeWords.{class, is_leaf, said}
+use Rattle.template.specs.Common.{end_slot, held_pairs, IsWellCounted, AllBelow, IsRising, IsAnswerAt, IsTreeRun, TreeAllows, class, is_leaf, said}
+use Rattle.template.specs.Common.{Goal, Key as ToKey, End, path_key, asked_in, HasFoundGoal, HasFoundLeaf, HasTurned, WalkWaits, WalkIsReady}
 use Rattle.ordered_map.proofs.Lemmas.{walk_answers, walk_holds, walk_named, run_since, root_head, passed_blank, blame_field, SameSettled, settled_said, settled_leaf}
 use Rattle.template.specs.declared.walk.Found.{Found}
-use Rattle.ordered_map.specs.declared.rule.Goal.{Goal}
-use Rattle.ordered_map.specs.declared.rule.Goal.TheVariants.{Key as ToKey, End}
 use Rattle.template.specs.declared.walk.WalkRun.{WalkRun}
 use Rattle.template.specs.declared.walk.WalkAt.{WalkAt}
 use Rattle.template.specs.declared.walk.WalkAt.TheVariants.{Start, Root, Head, Key, Child, More, Pair, Value, High}
-use Rattle.template.specs.FoundLeaf.{path_key, asked_in, HasFoundGoal, HasFoundLeaf}
-use Rattle.template.specs.Trails.{HasTurned}
 use Rattle.template.specs.Walk.Laws.{trail_more}
-use Rattle.template.specs.Walk.Known.{walk_kind, WalkWaits, WalkIsReady}
+use Rattle.template.specs.Walk.Known.{walk_kind}
 use Rattle.template.proofs.WalkTurns.{own_since}
 
 -- Its steps

@@ -1,24 +1,11 @@
 -- From place to place of a walk.
 use Rattle.std.proofs.Common.{◌≡◌, ◌≢◌, ℕ, ◌^◌, ◌<◌, ◌⊎◌, true, false, cond, ltb, refl, None, Some}
 use Rattle.arena.specs.declared.head.Head.{Head as HeadParts}
-use Rattle.arena.specs.declared.machine.Turn.TheVariants.{Ask, Done}
-use Rattle.arena.specs.declared.step.Kind.TheVariants.{LoadSettled, LoadChild}
-use Rattle.arena.specs.declared.word.Side.{Side}
-use Rattle.arena.specs.declared.word.Side.TheVariants.{Left, Right}
-use Rattle.arena.specs.declared.word.NodeWord.TheVariants.{Settled, Child as ChildWord}
-use Rattle.arena.specs.declared.word.SettledPart.TheVariants.{Head as HeadWord, More as MoreWord, Key as KeyWord, Value as ValueWord, High as HighWord}
-use Rattle.arena.specs.declared.word.Slot.{Slot}
-use Rattle.arena.specs.Heads.{head_of}
-use Rattle.arena.specs.Words.{node, first_key}
-use Rattle.arena.specs.History.{History, Extends}
-use Rattle.arena.specs.Machines.{Call}
-use Rattle.prims.specs.Llx.Known.{load}
-use Rattle.ordered_map.specs.Holding.{slot_behind, wide_value}
-use Rattle.ordered_map.specs.Runs.{IsTreeRun}
-use Rattle.template.specs.FoundLeaf.{HasFoundGoal, asked_key, path_key}
-use Rattle.template.specs.Walk.Known.{asks_key, open_side, goal_slot, here, WalkIsTold, WalkWaits, WalkStands}
-use Rattle.template.specs.Walk.Places.{walk_at, walk_from, trail_below, LoadsHead}
-use Rattle.ordered_map.specs.declared.rule.Goal.{Goal}
+use Rattle.histories.specs.Common.{Ask, Done, LoadSettled, LoadChild, Side, Left, Right, Settled, Child as ChildWord, Head as HeadWord, More as MoreWord}
+use Rattle.histories.specs.Common.{Key as KeyWord, Value as ValueWord, High as HighWord, Slot, head_of, node, first_key, History, Extends, Call}
+use Rattle.template.specs.Common.{load, slot_behind, wide_value, IsTreeRun, HasFoundGoal, asked_key, path_key, WalkIsTold, WalkWaits, walk_at, walk_from, Goal}
+use Rattle.template.specs.Walk.Known.{asks_key, open_side, goal_slot, here, WalkStands}
+use Rattle.template.specs.Walk.Places.{trail_below, LoadsHead}
 use Rattle.template.specs.declared.walk.Trail.{Trail}
 use Rattle.template.specs.declared.walk.WalkAt.{WalkAt}
 use Rattle.template.specs.declared.walk.WalkAt.TheVariants.{Start, Root, Head, Key, Child, More, Pair, Value, High}

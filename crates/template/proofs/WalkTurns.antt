@@ -2,38 +2,21 @@
 use Rattle.std.proofs.Common.{◌≡◌, ◌≢◌, ℕ, ◌*◌, ◌+◌, ◌-◌, ◌^◌, ◌<◌, true, false, cond, ltb, length, eq-eqb, eqb-true, ne_eqb, lt-ltb, ◌⊎◌, inl, inr, refl, sym, ◌∙◌, ap, arith, subst, Option, Some, None}
 use Rattle.std.specs.Prelude.{unwrap_or}
 use Rattle.arena.specs.declared.head.Head.{Head as HeadParts}
-use Rattle.arena.specs.declared.machine.Turn.{Turn}
-use Rattle.arena.specs.declared.machine.Turn.TheVariants.{Ask, Done}
-use Rattle.arena.specs.declared.step.Step.{Step}
-use Rattle.arena.specs.declared.word.Side.{Side}
-use Rattle.arena.specs.declared.word.Side.TheVariants.{Left, Right}
-use Rattle.arena.specs.declared.word.NodeWord.TheVariants.{Settled, Child as ChildWord}
-use Rattle.arena.specs.declared.word.SettledPart.TheVariants.{Head as HeadWord, More as MoreWord, Key as KeyWord, Value as ValueWord, High as HighWord}
-use Rattle.arena.specs.Heads.{head_of}
-use Rattle.arena.specs.Words.{node, child, first_key}
-use Rattle.arena.specs.declared.word.Slot.{Slot}
-use Rattle.arena.specs.declared.word.Word.{Word}
-use Rattle.arena.specs.History.{History, value, Extends}
-use Rattle.arena.specs.Machines.{Call, MatchTurn}
-use Rattle.arena.specs.TakenNodes.{taken_nodes}
+use Rattle.histories.specs.Common.{Turn, Ask, Done, Step, Side, Left, Right, Settled, Child as ChildWord, Head as HeadWord, More as MoreWord, Key as KeyWord}
+use Rattle.histories.specs.Common.{Value as ValueWord, High as HighWord, head_of, node, child, first_key, Slot, Word, History, value, Extends, Call, MatchTurn, taken_nodes}
 use Rattle.arena.proofs.Lemmas.{ends_self}
 use Rattle.ordered_map.proofs.Lemmas.{walk_first, walk_holds, walk_next, walk_turns, walk_rises, below_root, passed_depth, end_is, held_end, low_pairs, from_rises, get_here, get_behind, get_nowhere}
-use Rattle.ordered_map.specs.Holding.{IsWellCounted, held_pairs, held_from, held_behind, slot_behind, end_slot, pair_in, wide_value}
-use Rattle.ordered_map.specs.OrderedMap.{AllBelow, IsRising, get}
+use Rattle.template.specs.Common.{IsWellCounted, held_pairs, held_from, held_behind, slot_behind, end_slot, pair_in, wide_value, AllBelow, IsRising, get, Passed, IsTreeRun, class, is_leaf}
+use Rattle.template.specs.Common.{level, rank, toward, said, IsOwnMoment, Goal, Key as ToKey, End, path_key, asked_key, asked_in, WalkKnows, walk_step, WalkIsReady, WalkIsTold, WalkEnds}
 use Rattle.ordered_map.specs.MapLaws.{IsEndmost}
-use Rattle.ordered_map.specs.Paths.{Passed, end_turn}
-use Rattle.ordered_map.specs.Runs.{IsTreeRun}
-use Rattle.ordered_map.specs.TreeWords.{class, is_leaf, level, rank, toward, said}
-use Rattle.template.specs.Trails.{OnTrail, IsOwnMoment}
+use Rattle.ordered_map.specs.Paths.{end_turn}
+use Rattle.template.specs.Trails.{OnTrail}
 use Rattle.template.specs.declared.walk.Trail.{Trail}
 use Rattle.template.specs.declared.walk.Found.{Found}
-use Rattle.ordered_map.specs.declared.rule.Goal.{Goal}
-use Rattle.ordered_map.specs.declared.rule.Goal.TheVariants.{Key as ToKey, End}
 use Rattle.template.specs.declared.walk.WalkRun.{WalkRun}
 use Rattle.template.specs.declared.walk.WalkAt.{WalkAt}
 use Rattle.template.specs.declared.walk.WalkAt.TheVariants.{Start, Root, Head, Key, Child, More, Pair, Value, High}
-use Rattle.template.specs.FoundLeaf.{path_key, asked_key, asked_in}
-use Rattle.template.specs.Walk.Known.{asks_key, open_side, goal_slot, here, WalkStandsAtLeaf, IsSlotFor, WalkKnows, walk_step, WalkIsReady, WalkIsTold, WalkTurn, WalkAsks, WalkEnds, WalkStands}
+use Rattle.template.specs.Walk.Known.{asks_key, open_side, goal_slot, here, WalkStandsAtLeaf, IsSlotFor, WalkTurn, WalkAsks, WalkStands}
 
 pub own_since : (c : Call) (h : History) → IsOwnMoment c h → Extends h c.start
 own_since c h b = subst (λ k. Extends k c.start) (sym b.is) (inr b.since)

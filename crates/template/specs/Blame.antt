@@ -1,11 +1,6 @@
 -- Who was in the way of a call on the tree.
 use Rattle.std.specs.Prelude.{◌≡◌, ◌≢◌, ◌⊎◌, ℕ, false}
-use Rattle.arena.specs.Blame.{WasInTheWay}
-use Rattle.arena.specs.Fills.{IsOthersScx}
-use Rattle.arena.specs.History.{History, value, HasHeld}
-use Rattle.arena.specs.Log.{log, is_final}
-use Rattle.arena.specs.Machines.{Call}
-use Rattle.arena.specs.Words.{info, state}
+use Rattle.histories.specs.Common.{WasInTheWay, IsOthersScx, History, value, HasHeld, log, is_final, Call, info, state}
 use Rattle.prims.specs.FoundThere.{HasFoundThere}
 use Rattle.prims.specs.Laws.InTheWay.{HasBeen}
 use Rattle.ordered_map.specs.Tries.{HasLostTries}

@@ -1,14 +1,7 @@
 -- What a call knows of the leaf that it has found on its way to a key, or to the one at an end.
 use Rattle.std.specs.Prelude.{◌≡◌, ◌≢◌, ℕ, ◌+◌, ◌<◌, true, if◌then◌else◌, ◌==◌, length, Option}
 use Rattle.std.specs.Option.{option_map}
-use Rattle.arena.specs.declared.word.NodeWord.TheVariants.{Settled}
-use Rattle.arena.specs.declared.word.SettledPart.TheVariants.{Head, More, Key}
-use Rattle.arena.specs.declared.word.Word.{Word}
-use Rattle.arena.specs.Heads.{head_of}
-use Rattle.arena.specs.Words.{node}
-use Rattle.arena.specs.History.{History, value}
-use Rattle.arena.specs.Machines.{Call}
-use Rattle.arena.specs.TakenNodes.{taken_nodes}
+use Rattle.histories.specs.Common.{Settled, Head, More, Key, Word, head_of, node, History, value, Call, taken_nodes}
 use Rattle.ordered_map.specs.declared.pair.Pair.{Pair}
 use Rattle.ordered_map.specs.Holding.{end_slot}
 use Rattle.ordered_map.specs.OrderedMap.{pair}

@@ -1,11 +1,7 @@
 -- What the SCX-record of an edit says once the leaf of its key is found, and the copy that is
 -- filled where a leaf is taken out.
 use Rattle.std.specs.Prelude.{◌≡◌, ℕ, false}
-use Rattle.arena.specs.declared.layout.Layout.{Layout}
-use Rattle.arena.specs.declared.word.Side.{Side}
-use Rattle.arena.specs.Words.{node, child, first_value}
-use Rattle.arena.specs.History.{History, value}
-use Rattle.histories.specs.Descriptor.{Descriptor}
+use Rattle.histories.specs.Common.{Layout, Side, node, child, first_value, History, value, Descriptor}
 use Rattle.prims.specs.Snap.{child_of}
 use Rattle.prims.specs.declared.snap.Snap.{Snap}
 use Rattle.ordered_map.specs.Edits.{IsCopyOf}

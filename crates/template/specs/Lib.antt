@@ -7,3 +7,4 @@ pub mod Tracked
 pub mod Blame
 pub mod Tries
 pub mod Laws
+pub mod Common

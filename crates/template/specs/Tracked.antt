@@ -1,11 +1,7 @@
 -- Which edit the SCX-record of an SCX makes: as promised before it begins, and for ever once it has
 -- begun.
 use Rattle.std.specs.Prelude.{◌≡◌, ℕ}
-use Rattle.arena.specs.declared.layout.Layout.{Layout}
-use Rattle.arena.specs.Words.{state}
-use Rattle.arena.specs.History.{History, value}
-use Rattle.arena.specs.Fills.{IsNamedScx}
-use Rattle.histories.specs.Descriptor.{Descriptor}
+use Rattle.histories.specs.Common.{Layout, state, History, value, IsNamedScx, Descriptor}
 use Rattle.prims.specs.Scx.Known.{Job, Says}
 use Rattle.ordered_map.specs.OrderedMap.{MapEdit}
 use Rattle.ordered_map.specs.Runs.{Makes}

@@ -1,10 +1,6 @@
 -- Which nodes a call has passed on its way down the tree.
 use Rattle.std.specs.Prelude.{◌≡◌, ◌≢◌, ℕ, true, false}
-use Rattle.arena.specs.declared.step.Row.{Row}
-use Rattle.arena.specs.declared.word.Side.{Side}
-use Rattle.arena.specs.Words.{child}
-use Rattle.arena.specs.History.{History, ◌⊳◌, value, Extends}
-use Rattle.arena.specs.Machines.{Call}
+use Rattle.histories.specs.Common.{Row, Side, child, History, ◌⊳◌, value, Extends, Call}
 use Rattle.ordered_map.specs.Paths.{Passed}
 use Rattle.ordered_map.specs.TreeWords.{class, is_leaf, toward}
 use Rattle.template.specs.declared.walk.Trail.{Trail}

@@ -1,11 +1,6 @@
 -- Which tries a call on the tree begins: the next only once all before it are lost.
 use Rattle.std.specs.Prelude.{◌≡◌, ℕ, suc, ◌+◌, ◌-◌, ◌≤◌, true}
-use Rattle.arena.specs.declared.layout.Layout.{Layout}
-use Rattle.arena.specs.declared.step.Row.{Row}
-use Rattle.arena.specs.Blame.{WasInTheWay}
-use Rattle.arena.specs.Fills.{IsOthersScx}
-use Rattle.arena.specs.History.{History, ◌⊳◌, Extends}
-use Rattle.arena.specs.Machines.{Call}
+use Rattle.histories.specs.Common.{Layout, Row, WasInTheWay, IsOthersScx, History, ◌⊳◌, Extends, Call}
 use Rattle.prims.specs.FoundThere.{HasFoundThere}
 use Rattle.ordered_map.specs.Tries.{begins_try, tries_begun, IsNewestTry}
 

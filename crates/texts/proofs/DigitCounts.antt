@@ -1,8 +1,7 @@
 -- How many digits numbers have.
-use Rattle.std.proofs.Common.{◌≡◌, ℕ, ◌+◌, ◌/◌, ◌<◌, ◌≤◌, ◌^◌, ◌∙◌, List, ◌++◌, ap, arith, drop, length, length-append, refl, take}
+use Rattle.std.proofs.Common.{◌≡◌, ℕ, ◌+◌, ◌/◌, ◌<◌, ◌≤◌, ◌^◌, ◌∙◌, List, ◌++◌, ap, arith, drop, length, length-append, refl, take, decimal}
 use Rattle.std.proofs.Math.Seq.{take-add, take-append_seam}
 use Rattle.std.proofs.lemmas.Fmt.{decimal_digit, decimal_step}
-use Rattle.std.specs.Prelude.{decimal}
 
 -- one digit
 pub one_digit : (n : ℕ) → n < 10 → length (decimal n) ≡ 1

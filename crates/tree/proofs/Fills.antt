@@ -1,30 +1,13 @@
 -- In which order the machines of the tree fill words: what all of them have in common.
-use Rattle.std.proofs.Common.{◌≡◌, ◌≢◌, ℕ, ◌/◌, ◌%◌, ◌<◌, inl, inr, true, eqb, sym, ap, subst, arith}
-use Rattle.std.proofs.lemmas.Bool.{eq-eqb}
-use Rattle.arena.specs.declared.layout.Layout.{Layout}
-use Rattle.arena.specs.declared.limits.Mode.{Mode}
-use Rattle.arena.specs.declared.limits.Mode.TheVariants.{Tree as TreeMode}
-use Rattle.arena.specs.declared.step.Kind.TheVariants.{Fill as FillKind, LoadSettled}
-use Rattle.arena.specs.declared.step.Step.{Step}
-use Rattle.arena.specs.declared.word.NodeWord.{NodeWord}
-use Rattle.arena.specs.declared.word.NodeWord.TheVariants.{Settled}
-use Rattle.arena.specs.declared.word.SettledPart.TheVariants.{Head}
-use Rattle.arena.specs.declared.word.ScxWord.{ScxWord}
-use Rattle.arena.specs.declared.word.Word.{Word}
-use Rattle.arena.specs.declared.word.Word.TheVariants.{Node, Scx as ScxOf}
-use Rattle.arena.specs.Fills.{IsOwnNode}
-use Rattle.arena.specs.History.{History}
-use Rattle.arena.specs.Layout.{opening_nodes}
-use Rattle.arena.specs.Machines.{Call, row_of, begun_at}
-use Rattle.arena.specs.Words.{node, scx, child}
+use Rattle.std.proofs.Common.{◌≡◌, ◌≢◌, ℕ, ◌/◌, ◌%◌, ◌<◌, inl, inr, true, eqb, sym, ap, subst, arith, eq-eqb}
+use Rattle.histories.specs.Common.{Layout, Mode, Tree as TreeMode, Fill as FillKind, LoadSettled, Step, NodeWord, Settled, Head, ScxWord, Word}
+use Rattle.histories.specs.Common.{Node, Scx as ScxOf, IsOwnNode, History, opening_nodes, Call, row_of, begun_at, node, scx, child, IsUnmentioned}
 use Rattle.help.specs.Laws.Help.Lawful.{help_fills_not}
-use Rattle.histories.specs.Unmentioned.{IsUnmentioned}
-use Rattle.prims.specs.Scx.Known.{Job, ScxWaitsAt, fill_step as scx_fill, job_of}
-use Rattle.prims.specs.declared.scx.ScxAt.{ScxAt}
+use Rattle.template.specs.Common.{Job, ScxWaitsAt, job_of, ScxAt, IsFillInOrder, TreeAllows}
+use Rattle.prims.specs.Scx.Known.{fill_step as scx_fill}
 use Rattle.prims.specs.declared.scx.ScxAt.TheVariants as scx_at
 use Rattle.prims.proofs.Lemmas.{llx_fills_not}
-use Rattle.ordered_map.specs.FillOrder.{HasStoodInField, IsFillInOrder}
-use Rattle.ordered_map.specs.TreeShape.{TreeAllows}
+use Rattle.ordered_map.specs.FillOrder.{HasStoodInField}
 use Rattle.template.specs.declared.walk.Found.{Found}
 use Rattle.template.proofs.Lemmas.{walk_fills_not}
 use Rattle.edits.specs.Edits.{EditMeaning}

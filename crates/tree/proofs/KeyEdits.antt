@@ -1,13 +1,8 @@
 -- In which order an edit fills its nodes: as what it does at its key.
 use Rattle.std.proofs.Common.{ℕ, ◌<◌, Option, Some, None, ◌∙◌, subst, arith}
-use Rattle.arena.specs.declared.step.Step.{Step}
-use Rattle.arena.specs.declared.word.NodeWord.{NodeWord}
-use Rattle.arena.specs.History.{History}
-use Rattle.arena.specs.Machines.{Call, row_of}
-use Rattle.ordered_map.specs.FillOrder.{AreFilledInOrder, IsFillInOrder}
-use Rattle.ordered_map.specs.OrderedMap.{leaves}
-use Rattle.ordered_map.specs.declared.rule.Goal.{Goal}
-use Rattle.ordered_map.specs.declared.rule.Rule.{Rule}
+use Rattle.histories.specs.Common.{Step, NodeWord, History, Call, row_of}
+use Rattle.template.specs.Common.{IsFillInOrder, leaves, Goal, Rule}
+use Rattle.ordered_map.specs.FillOrder.{AreFilledInOrder}
 use Rattle.template.specs.declared.walk.Found.{Found}
 use Rattle.tree.specs.declared.key_edit.KeyEdit.{KeyEdit}
 use Rattle.tree.specs.KeyEdit.Means.{key_at, key_means, leaving, part, putting, taking}

@@ -1,15 +1,8 @@
 -- An insert fills its nodes in order: the leaves before the fork over them, which nothing mentions.
 use Rattle.std.proofs.Common.{◌≡◌, ℕ, ◌+◌, ◌/◌, ◌%◌, ◌<◌, ◌≤◌, ◌⊎◌, inl, inr, Bool, true, false, lt-ltb, eqb, List, refl, sym, ◌∙◌, ap, subst, arith}
-use Rattle.arena.specs.declared.word.NodeWord.{NodeWord}
-use Rattle.arena.specs.declared.word.NodeWord.TheVariants.{Settled, Child}
-use Rattle.arena.specs.declared.word.SettledPart.TheVariants.{Head}
-use Rattle.arena.specs.declared.word.Side.{Side}
-use Rattle.arena.specs.History.{History, value}
-use Rattle.arena.specs.Machines.{Call, row_of}
-use Rattle.arena.specs.Words.{node, child}
-use Rattle.ordered_map.specs.declared.pair.Pair.{Pair}
-use Rattle.ordered_map.specs.FillOrder.{HasStoodInField, IsFillInOrder}
-use Rattle.ordered_map.specs.TreeWords.{is_leaf}
+use Rattle.histories.specs.Common.{NodeWord, Settled, Child, Head, Side, History, value, Call, row_of, node, child}
+use Rattle.template.specs.Common.{Pair, IsFillInOrder, is_leaf}
+use Rattle.ordered_map.specs.FillOrder.{HasStoodInField}
 use Rattle.template.specs.declared.walk.Found.{Found}
 use Rattle.tree.proofs.Fills.{leaf_head, same_number, same_part, unstood}
 use Rattle.tree.specs.declared.put.PutPair.{PutPair}

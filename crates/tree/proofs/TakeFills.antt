@@ -1,29 +1,13 @@
 -- A delete fills its copy in order: nothing mentions the copy, and its fields get what the
 -- sibling's held, which has been in the tree.
-use Rattle.std.proofs.Common.{◌≡◌, ℕ, ◌/◌, ◌%◌, ◌<◌, ◌≤◌, inl, inr, Bool, true, false, le-ltb, cond, eqb, Option, Some, None, refl, sym, ◌∙◌, ap, subst, arith}
-use Rattle.std.specs.Prelude.{unwrap_or}
-use Rattle.arena.specs.declared.limits.Mode.{Mode}
-use Rattle.arena.specs.declared.word.NodeWord.{NodeWord}
-use Rattle.arena.specs.declared.word.NodeWord.TheVariants.{Settled, Child}
-use Rattle.arena.specs.declared.word.SettledPart.TheVariants.{Head}
-use Rattle.arena.specs.declared.word.Side.{Side}
-use Rattle.arena.specs.Fills.{IsInField}
-use Rattle.arena.specs.Heads.{head_of}
-use Rattle.arena.specs.History.{History, value}
-use Rattle.arena.specs.Layout.{opening_nodes}
-use Rattle.arena.specs.Machines.{Call, row_of}
-use Rattle.arena.specs.Words.{node, child}
+use Rattle.std.proofs.Common.{◌≡◌, ℕ, ◌/◌, ◌%◌, ◌<◌, ◌≤◌, inl, inr, Bool, true, false, le-ltb, cond, eqb, Option, Some, None, refl, sym, ◌∙◌, ap, subst, arith, unwrap_or}
+use Rattle.histories.specs.Common.{Mode, NodeWord, Settled, Child, Head, Side, IsInField, head_of, History, value, opening_nodes, Call, row_of, node, child}
 use Rattle.histories.proofs.Lemmas.{node_since}
 use Rattle.prims.specs.Laws.Linked.{in_field_named}
-use Rattle.prims.specs.Snap.{child_of}
-use Rattle.prims.specs.declared.snap.Snap.{Snap}
-use Rattle.ordered_map.specs.FillOrder.{HasStoodInField, AreFilledInOrder, IsFillInOrder}
-use Rattle.ordered_map.specs.Paths.{WasInTree}
-use Rattle.ordered_map.specs.TreeShape.{sibling_place}
-use Rattle.ordered_map.specs.TreeWords.{is_leaf}
+use Rattle.template.specs.Common.{child_of, Snap, IsFillInOrder, WasInTree, sibling_place, is_leaf, Key as ToKey, delete}
+use Rattle.ordered_map.specs.FillOrder.{HasStoodInField, AreFilledInOrder}
 use Rattle.ordered_map.proofs.Lemmas.{held_stood}
 use Rattle.template.specs.declared.walk.Found.{Found}
-use Rattle.ordered_map.specs.declared.rule.Goal.TheVariants.{Key as ToKey}
 use Rattle.tree.specs.declared.take.TakePair.{TakePair}
 use Rattle.tree.specs.Take.Means.{copied_pairs, copy_with, take_means, take_piece, take_plan, work_by, has_more, join_looks, sibling_of}
 use Rattle.tree.specs.Laws.Take.Sound.{HasFour, copy_fields, few_places, has_four, looked_join, usable_at}
@@ -42,7 +26,6 @@ use Rattle.edits.specs.Pieces.{is_filled, nth_node, top_of, word_of}
 use Rattle.edits.specs.Readings.{next_read}
 use Rattle.edits.proofs.Lemmas.{head_read, piece_is}
 use Rattle.arena.specs.declared.head.Head.{Head as HeadParts}
-use Rattle.ordered_map.specs.OrderedMap.{delete}
 
 -- One fresh node
 

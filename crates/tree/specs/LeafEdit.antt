@@ -1,8 +1,7 @@
 -- What an edit of one leaf looks at and reads.
 use Rattle.std.specs.Prelude.{◌==◌, if◌then◌else◌, List, [], ◌∷◌}
 use Rattle.arena.specs.declared.number.NodeNo.{NodeNo}
-use Rattle.prims.specs.declared.snap.Snap.{Snap}
-use Rattle.prims.specs.Snap.{child_of}
+use Rattle.template.specs.Common.{Snap, child_of}
 use Rattle.template.specs.declared.walk.Found.{Found}
 use Rattle.edits.specs.declared.edit.Look.{Look}
 use Rattle.edits.specs.declared.edit.Look.TheVariants.{At, Differs, Enough}

@@ -1,17 +1,13 @@
 -- A call that has not begun may be called: its pass is at rest with the share that it has.
 use Rattle.std.proofs.Common.{◌≡◌, ℕ, ◌+◌, ◌<◌, ◌^◌, None, refl, sym, ◌∙◌, arith}
-use Rattle.arena.specs.declared.limits.Mode.TheVariants.{Tree as TreeMode}
-use Rattle.arena.specs.Machines.{Call, IsRun}
-use Rattle.arena.specs.Share.{Remaining}
+use Rattle.histories.specs.Common.{Tree as TreeMode, Call, IsRun, Remaining}
 use Rattle.arena.proofs.Lemmas.{ends_self}
 use Rattle.order.proofs.Lemmas.{read_ready_first}
 use Rattle.prims.specs.Laws.Idle.{quiet_at_start, idle_if_finished}
-use Rattle.ordered_map.specs.Runs.{IsTreeRun}
-use Rattle.template.specs.FoundLeaf.{path_key}
+use Rattle.template.specs.Common.{IsTreeRun, path_key, nodes_in_try}
 use Rattle.template.proofs.Lemmas.{next_first, walk_ready_first}
 use Rattle.edits.specs.Edits.{EditMeaning}
 use Rattle.edits.specs.Known.{RestsWith, UpdateIsReady}
-use Rattle.ordered_map.specs.CallRules.{nodes_in_try}
 use Rattle.edits.specs.Laws.Entered.{none_yet}
 use Rattle.edits.specs.Steps.{node_tries, scx_tries}
 use Rattle.edits.specs.declared.update.UpdateAt.TheVariants.{Start}

@@ -1,19 +1,10 @@
 -- The laws of the machine of a call of a dictionary: rows of others leave it waiting, its steps are
 -- lawful and begin edits of typed words alone, and what it is called with is right.
 use Rattle.std.proofs.Common.{◌≢◌, ℕ, ◌<◌, ◌≤◌, length, Option, Some, subst}
-use Rattle.arena.specs.declared.step.Kind.TheVariants.{Fill}
-use Rattle.arena.specs.declared.step.Row.{Row}
-use Rattle.arena.specs.declared.step.Step.{Step}
-use Rattle.arena.specs.History.{History, ◌⊳◌, value}
-use Rattle.arena.specs.Machines.{Call, IsRun, IsTold, begun_at, row_of}
-use Rattle.arena.specs.Share.{Remaining}
-use Rattle.arena.specs.TakenNodes.{taken_nodes}
+use Rattle.histories.specs.Common.{Fill, Row, Step, History, ◌⊳◌, value, Call, IsRun, IsTold, begun_at, row_of, Remaining, taken_nodes}
 use Rattle.arena.proofs.Lemmas.{ends_trans}
 use Rattle.order.specs.Laws.Run.{read_fills_not}
-use Rattle.ordered_map.specs.OrderedMap.{Edit}
-use Rattle.ordered_map.specs.TreeShape.{TreeAllows}
-use Rattle.ordered_map.specs.declared.rule.Goal.{Goal}
-use Rattle.ordered_map.specs.declared.rule.Rule.{Rule}
+use Rattle.template.specs.Common.{Edit, TreeAllows, Goal, Rule}
 use Rattle.tree.specs.declared.key_edit.KeyEdit.{KeyEdit}
 use Rattle.template.specs.declared.walk.Found.{Found}
 use Rattle.template.proofs.Lemmas.{walk_fills_not}

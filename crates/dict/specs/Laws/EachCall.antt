@@ -1,13 +1,11 @@
 -- What is shown of each call of the map by itself, with an arm for each: what it answers of a map,
 -- and what it may take. The other laws and proofs of this crate and of later ones are of any call.
 use Rattle.std.proofs.Common.{◌≡◌, ℕ, zero, suc, ◌≤◌, List, [], ◌∷◌, take, Bool, true, false, if◌then◌else◌, ◌==◌, nat_lt, nat_le, ◌&&◌, Option, Some, None, unwrap_or, refl, subst, arith}
-use Rattle.ordered_map.specs.CallRules.{MayReply, most_scx}
+use Rattle.template.specs.Common.{MayReply, most_scx, MapEdit, Insert, Delete, insert, delete, edited, edit_of, edit_to, MapCall, Edit, Get, Neighbour, Range, MapReply}
+use Rattle.template.specs.Common.{OneValue, OnePair, ManyPairs, applies, leaves, reply, get, end_pair, neighbour, between, pair, pair_or_none, Key, End, Pair}
 use Rattle.ordered_map.specs.CallRules as form
-use Rattle.arena.specs.declared.word.Side.{Side}
-use Rattle.arena.specs.declared.word.Side.TheVariants.{Left, Right}
-use Rattle.ordered_map.specs.OrderedMap.{MapEdit, Insert, Delete, insert, delete, edited, edit_of, edit_to, MapCall, Edit, Get, Neighbour, Range, MapReply, OneValue, OnePair, ManyPairs, applies, leaves, reply, get, last_pair, end_pair, successor, predecessor, neighbour, between, pair, pair_or_none}
-use Rattle.ordered_map.specs.declared.rule.Goal.TheVariants.{Key, End}
-use Rattle.ordered_map.specs.declared.pair.Pair.{Pair}
+use Rattle.histories.specs.Common.{Side, Left, Right}
+use Rattle.ordered_map.specs.OrderedMap.{last_pair, successor, predecessor}
 use Rattle.dict.specs.Calls.{most_tries}
 use Rattle.dict.specs.Says.{KeepsLists}
 use Rattle.dict.specs.Typed.{IsTypedEdit, IsTypedCall, AreTyped, IsTypedValue, IsTypedReply}

@@ -1,14 +1,9 @@
 -- What the leaf that was found says the map has replied, at a moment of the call.
 use Rattle.std.proofs.Common.{◌^◌, ◌<◌, ap}
-use Rattle.arena.specs.History.{History}
-use Rattle.arena.specs.Machines.{Call}
-use Rattle.ordered_map.specs.OrderedMap.{OneValue, pair_or_none}
-use Rattle.ordered_map.specs.Paths.{IsAnswerAt, IsEndAt}
-use Rattle.ordered_map.specs.Runs.{IsTreeRun}
-use Rattle.template.specs.FoundLeaf.{path_key, end_told, HasFoundGoal}
+use Rattle.histories.specs.Common.{History, Call}
+use Rattle.template.specs.Common.{OneValue, pair_or_none, IsAnswerAt, IsTreeRun, path_key, end_told, HasFoundGoal, Goal, Key as ToKey, End}
+use Rattle.ordered_map.specs.Paths.{IsEndAt}
 use Rattle.template.specs.declared.walk.Found.{Found}
-use Rattle.ordered_map.specs.declared.rule.Goal.{Goal}
-use Rattle.ordered_map.specs.declared.rule.Goal.TheVariants.{Key as ToKey, End}
 use Rattle.template.proofs.Lemmas.{found_gives, found_end}
 use Rattle.dict.specs.Goals.{leaf_told, IsGoalToldAt}
 

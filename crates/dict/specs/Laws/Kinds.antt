@@ -1,25 +1,15 @@
 -- What is so of an edit that runs inside of a call, and of each kind of ordered read.
-use Rattle.std.proofs.Common.{◌≡◌, ◌≢◌, ℕ, ◌+◌, ◌*◌, ◌^◌, ◌<◌, ◌≤◌, Bool, true, false, cond, List, Option, Some, None, Result, Ok, Err, Vec, inl, inr, refl, sym, ap, ◌∙◌, subst, arith}
-use Rattle.std.specs.Global.{Global}
+use Rattle.std.proofs.Common.{◌≡◌, ◌≢◌, ℕ, ◌+◌, ◌*◌, ◌^◌, ◌<◌, ◌≤◌, Bool, true, false, cond, List, Option, Some, None, Result, Ok, Err, Vec, inl, inr, refl, sym, ap, ◌∙◌, subst, arith, Global}
 use Rattle.std.specs.Option.{option_map}
-use Rattle.arena.specs.declared.word.Side.TheVariants.{Left, Right}
-use Rattle.arena.specs.declared.step.Kind.{Kind}
-use Rattle.arena.specs.declared.step.Kind.TheVariants.{Fill}
-use Rattle.arena.specs.History.{History}
-use Rattle.arena.specs.Machines.{Call}
-use Rattle.arena.specs.Share.{Remaining}
+use Rattle.histories.specs.Common.{Left, Right, Kind, Fill, History, Call, Remaining, Side}
 use Rattle.order.specs.declared.refused.Refused.{Refused}
 use Rattle.order.specs.declared.refused.Refused.TheVariants as refused
-use Rattle.ordered_map.specs.CallRules.{TakesNothing, nodes_at, nodes_there, steps_behind, call_rules, most_nodes, most_steps, need, MayReply}
-use Rattle.arena.specs.declared.word.Side.{Side}
-use Rattle.ordered_map.specs.OrderedMap.{MapCall, MapReply, Edit, Neighbour as NeighbourOf, Range as RangeOf, OneValue, applies, edit_key, edit_of, edit_there, edit_to, leaves, pair, pair_or_none, reply, spot}
-use Rattle.ordered_map.specs.declared.rule.Rule.{Rule}
+use Rattle.template.specs.Common.{call_rules, most_nodes, most_steps, need, MayReply, MapCall, MapReply, Edit, Neighbour as NeighbourOf, Range as RangeOf, OneValue}
+use Rattle.template.specs.Common.{applies, edit_key, edit_of, edit_to, leaves, pair, pair_or_none, reply, Rule, Pair, asked_key, path_key, Goal, Key as ToKey, End}
+use Rattle.ordered_map.specs.CallRules.{TakesNothing, nodes_at, nodes_there, steps_behind}
+use Rattle.ordered_map.specs.OrderedMap.{edit_there, spot}
 use Rattle.ordered_map.specs.declared.rule.Rule.TheVariants.{Take}
-use Rattle.ordered_map.specs.declared.pair.Pair.{Pair}
-use Rattle.template.specs.FoundLeaf.{asked_key, path_key}
 use Rattle.template.specs.declared.walk.Found.{Found}
-use Rattle.ordered_map.specs.declared.rule.Goal.{Goal}
-use Rattle.ordered_map.specs.declared.rule.Goal.TheVariants.{Key as ToKey, End}
 use Rattle.tree.specs.declared.key_edit.KeyEdit.{KeyEdit}
 use Rattle.tree.specs.KeyEdit.Means.{doing, key_means, wants}
 use Rattle.tree.specs.Laws.KeyEdit.{at_goal}

@@ -1,19 +1,10 @@
 -- The machine of a call of the map: rows of others leave it waiting, its steps are lawful, and what
 -- it gets is so, as of the machine inside.
 use Rattle.std.proofs.Common.{◌≡◌, ◌≢◌, ℕ, suc, ◌≤◌, length, inr, Option, Some, refl, sym, subst, arith}
-use Rattle.arena.specs.declared.step.Kind.TheVariants.{Fill}
-use Rattle.arena.specs.declared.step.Row.{Row}
-use Rattle.arena.specs.declared.step.Step.{Step}
-use Rattle.arena.specs.History.{History, ◌⊳◌, value}
-use Rattle.arena.specs.Machines.{Call, IsRun, IsTold, row_of}
-use Rattle.arena.specs.Share.{Remaining}
-use Rattle.arena.specs.TakenNodes.{taken_nodes}
+use Rattle.histories.specs.Common.{Fill, Row, Step, History, ◌⊳◌, value, Call, IsRun, IsTold, row_of, Remaining, taken_nodes}
 use Rattle.order.specs.Laws.Run.{read_keeps, read_lawful, read_made, read_told, read_fills_not}
-use Rattle.ordered_map.specs.TreeShape.{TreeAllows}
-use Rattle.ordered_map.specs.Tries.{tries_begun}
-use Rattle.template.specs.Walk.Known.{WalkKnows, WalkWaits}
+use Rattle.template.specs.Common.{TreeAllows, tries_begun, WalkKnows, WalkWaits, IsPastRoot}
 use Rattle.template.specs.Walk.Laws.{walk_keeps, walk_lawful, walk_made, walk_told}
-use Rattle.template.specs.Walk.Places.{IsPastRoot}
 use Rattle.template.specs.declared.walk.WalkAt.{WalkAt}
 use Rattle.template.specs.declared.walk.WalkAt.TheVariants.{Start, Root}
 use Rattle.template.specs.declared.walk.WalkRun.{WalkRun}

@@ -1,6 +1,5 @@
 -- Names by their words.
-use Rattle.std.specs.Prelude.{◌≡◌, ℕ, true}
-use Rattle.std.proofs.Common.{ap, subst}
+use Rattle.std.proofs.Common.{◌≡◌, ℕ, true, ap, subst}
 use Rattle.std.proofs.Props.{props}
 use Rattle.dict.specs.Names.{is_name_word}
 use Rattle.dict.specs.declared.name.Name8.{Name8}

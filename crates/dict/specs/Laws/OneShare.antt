@@ -1,9 +1,6 @@
 -- A pass at rest has one share left: two that it rests with are the same.
 use Rattle.std.proofs.Common.{◌≡◌, ℕ, ◌<◌, arith}
-use Rattle.arena.specs.declared.layout.Layout.{Layout}
-use Rattle.arena.specs.History.{History}
-use Rattle.arena.specs.Machines.{Call}
-use Rattle.arena.specs.Share.{Remaining, HasNode, HasScx}
+use Rattle.histories.specs.Common.{Layout, History, Call, Remaining, HasNode, HasScx}
 use Rattle.prims.specs.Shares.{IsShare}
 use Rattle.prims.proofs.Lemmas.{left_own_node, left_own_scx}
 use Rattle.edits.specs.Known.{RestsWith}

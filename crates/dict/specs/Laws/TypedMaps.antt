@@ -1,21 +1,10 @@
 -- Every run in which edits of typed words alone begin is one of the tree, and its words spell a map
 -- of such words.
 use Rattle.std.proofs.Common.{◌≡◌, ℕ, List, [], inl, inr, refl, sym, subst}
-use Rattle.arena.specs.declared.layout.Layout.{Layout}
-use Rattle.arena.specs.declared.limits.Mode.{Mode}
-use Rattle.arena.specs.declared.limits.Mode.TheVariants.{Tree as TreeMode}
-use Rattle.arena.specs.declared.step.Row.{Row}
-use Rattle.arena.specs.History.{History, Start, ◌⊳◌, value, Extends}
-use Rattle.arena.specs.Lawful.{Lawful}
-use Rattle.arena.specs.Log.{IsEntered}
-use Rattle.arena.specs.Machines.{IsRun}
+use Rattle.histories.specs.Common.{Layout, Mode, Tree as TreeMode, Row, History, Start, ◌⊳◌, value, Extends, Lawful, IsEntered, IsRun}
 use Rattle.arena.proofs.Lemmas.{ends_self, run_as}
 use Rattle.histories.proofs.Lemmas.{Logs, lawful_since, logs, same, shaped_since, wins}
-use Rattle.ordered_map.specs.OrderedMap.{MapEdit, edited}
-use Rattle.ordered_map.specs.Runs.{IsTreeRun, Makes}
-use Rattle.ordered_map.specs.Spelled.{Spells}
-use Rattle.ordered_map.specs.TreeShape.{TreeAllows}
-use Rattle.ordered_map.specs.declared.pair.Pair.{Pair}
+use Rattle.template.specs.Common.{MapEdit, edited, IsTreeRun, Makes, Spells, TreeAllows, Pair}
 use Rattle.ordered_map.proofs.Lemmas.{entered_begun, one_spelling, opening_spells, quiet_spells, update_makes}
 use Rattle.dict.specs.Laws.EachCall.{edited_typed}
 use Rattle.dict.specs.Typed.{AreTyped, TypedAllows, IsTypedThere}

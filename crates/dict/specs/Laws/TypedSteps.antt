@@ -1,30 +1,14 @@
 -- A row keeps a run one of a typed dictionary, if what it begins makes an edit of such words; a
 -- pass whose SCX-records are all finished begins none.
 use Rattle.std.proofs.Common.{◌≡◌, ◌≢◌, ℕ, ◌^◌, ◌<◌, inl, refl, sym, ◌∙◌, ap, subst, arith}
-use Rattle.arena.specs.declared.layout.Layout.{Layout}
+use Rattle.histories.specs.Common.{Layout, Load as LoadAccess, Store, Exchange, Kind, Fill as FillKind, Freeze, LoadSettled, SetFrozen, Mark, Update as UpdateKind, Commit}
+use Rattle.histories.specs.Common.{Abort, Row, Step, State, IsInProgress, History, ◌⊳◌, value, Extends, Lawful, Call, IsRun, IsTold, row_of, begun_at, IsBegin, state}
 use Rattle.arena.specs.declared.step.Access.{Access}
-use Rattle.arena.specs.declared.step.Access.TheVariants.{Load as LoadAccess, Store, Exchange}
-use Rattle.arena.specs.declared.step.Kind.{Kind}
-use Rattle.arena.specs.declared.step.Kind.TheVariants.{Fill as FillKind, Freeze, LoadSettled, SetFrozen, Mark, Update as UpdateKind, Commit, Abort}
-use Rattle.arena.specs.declared.step.Row.{Row}
-use Rattle.arena.specs.declared.step.Step.{Step}
-use Rattle.arena.specs.declared.word.ScxWord.TheVariants.{State}
-use Rattle.arena.specs.Blame.{IsInProgress}
-use Rattle.arena.specs.History.{History, ◌⊳◌, value, Extends}
-use Rattle.arena.specs.Lawful.{Lawful}
-use Rattle.arena.specs.Machines.{Call, IsRun, IsTold, row_of, begun_at}
-use Rattle.arena.specs.Shape.{IsBegin}
-use Rattle.arena.specs.Words.{state}
 use Rattle.histories.proofs.Lemmas.{Change, nothing, fills_node, fills_scx, freezes, sets_frozen, marks, updates, commits, aborts, change, IsFirst, facts_before, freeze_in_progress, freeze_keeps_scx, shaped_more}
-use Rattle.prims.specs.Moments.{AreFinished}
-use Rattle.prims.specs.Scx.Known.{Job, job_of, ScxWaitsAt}
+use Rattle.template.specs.Common.{AreFinished, Job, job_of, ScxWaitsAt, MapEdit, IsTreeRun, Makes, TreeAllows, path_key, HasFoundGoal, Tracks, ScxAt, ScxRun}
 use Rattle.prims.proofs.Lemmas.{own_in_hand}
-use Rattle.ordered_map.specs.OrderedMap.{MapEdit}
-use Rattle.ordered_map.specs.Runs.{IsTreeRun, Makes}
-use Rattle.ordered_map.specs.TreeShape.{TreeAllows}
 use Rattle.ordered_map.proofs.Lemmas.{begun_named, makes_at, run_since}
-use Rattle.template.specs.FoundLeaf.{path_key, HasFoundGoal}
-use Rattle.template.specs.Tracked.{Tracks, waits, begun, over}
+use Rattle.template.specs.Tracked.{waits, begun, over}
 use Rattle.template.specs.declared.walk.Found.{Found}
 use Rattle.edits.specs.Edits.{EditMeaning}
 use Rattle.edits.specs.Known.{Scxs, UpdateWaitsAt, UpdateIsToldAt, UpdateWaits}
@@ -32,9 +16,7 @@ use Rattle.edits.specs.Laws.Update.{update_lawful, update_made}
 use Rattle.edits.specs.declared.update.UpdateAt.{UpdateAt}
 use Rattle.edits.specs.declared.update.UpdateAt.TheVariants.{Start, Walk, Look, Read, Fill, Scx}
 use Rattle.edits.specs.declared.update.UpdateRun.{UpdateRun}
-use Rattle.prims.specs.declared.scx.ScxAt.{ScxAt}
 use Rattle.prims.specs.declared.scx.ScxAt.TheVariants.{Start as ScxStart, Help}
-use Rattle.prims.specs.declared.scx.ScxRun.{ScxRun}
 use Rattle.dict.specs.Typed.{IsTypedEdit, TypedAllows}
 use Rattle.dict.specs.Laws.TypedMaps.{typed_run}
 

@@ -1,24 +1,14 @@
 -- Who was in the way of a call at a node that it has passed, and whose snapshot it has taken.
 use Rattle.std.proofs.Common.{◌≡◌, ◌≢◌, ℕ, false, sym, ◌∙◌, subst}
-use Rattle.arena.specs.Blame.{WasInTheWay}
-use Rattle.arena.specs.History.{History, value}
-use Rattle.arena.specs.Log.{log, is_final}
-use Rattle.arena.specs.Machines.{Call}
-use Rattle.arena.specs.Words.{state}
-use Rattle.arena.specs.declared.word.Side.{Side}
+use Rattle.histories.specs.Common.{WasInTheWay, History, value, log, is_final, Call, state, Side}
 use Rattle.arena.proofs.Lemmas.{ends_self, ends_trans}
 use Rattle.histories.proofs.Lemmas.{state_since}
 use Rattle.prims.specs.Laws.Blamed.{way_since}
 use Rattle.prims.specs.Laws.FoundThere.{there_later}
 use Rattle.prims.specs.Laws.Idle.{IsQuietSince}
-use Rattle.prims.specs.Snap.{child_of}
-use Rattle.prims.specs.declared.snap.Snap.{Snap}
-use Rattle.ordered_map.specs.Runs.{IsTreeRun}
+use Rattle.template.specs.Common.{child_of, Snap, IsTreeRun, IsContended, WasNotFinal, HasTurned, WasPassed, Goal}
 use Rattle.ordered_map.proofs.Lemmas.{child_not_final, path_not_final, run_since, was_passed}
-use Rattle.template.specs.Blame.{IsContended, WasNotFinal}
-use Rattle.template.specs.Trails.{HasTurned, WasPassed}
 use Rattle.template.specs.declared.walk.Found.{Found}
-use Rattle.ordered_map.specs.declared.rule.Goal.{Goal}
 use Rattle.template.proofs.Lemmas.{own_since, turned_lost, way_contended}
 use Rattle.edits.specs.Known.{HasSnappedAfterWalk}
 

@@ -1,13 +1,7 @@
 -- What the pass of a call has entered since a moment: nothing while it is quiet, and nothing but
 -- its SCX-record in hand.
 use Rattle.std.proofs.Common.{◌≡◌, ◌≢◌, ℕ, suc, ◌⊎◌, inl, inr, sym, ap, subst, arith}
-use Rattle.arena.specs.declared.layout.Layout.{Layout}
-use Rattle.arena.specs.declared.step.Kind.TheVariants.{Fill}
-use Rattle.arena.specs.declared.step.Row.{Row}
-use Rattle.arena.specs.Blame.{IsInProgress}
-use Rattle.arena.specs.History.{History, Start, ◌⊳◌, value, Extends}
-use Rattle.arena.specs.Lawful.{Lawful, HasWon, IsWin}
-use Rattle.arena.specs.Words.{state}
+use Rattle.histories.specs.Common.{Layout, Fill, Row, IsInProgress, History, Start, ◌⊳◌, value, Extends, Lawful, HasWon, IsWin, state}
 use Rattle.arena.proofs.Lemmas.{ends_self, ends_trans, same_moment}
 use Rattle.histories.proofs.Lemmas.{aborted_never_won, lawful_since, won_since}
 use Rattle.prims.specs.Laws.Idle.{IsQuietSince}

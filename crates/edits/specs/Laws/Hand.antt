@@ -1,24 +1,13 @@
 -- Several fresh nodes in hand: what a pass knows of them while it fills them one after the other,
 -- and which rows leave that.
 use Rattle.std.proofs.Common.{◌≡◌, ◌≢◌, ℕ, ◌<◌, ◌≤◌, ◌⊎◌, Bool, true, false, suc, arith, inl, inr, ⊎_elim, refl, sym, ◌∙◌, ap, subst}
-use Rattle.arena.specs.declared.layout.Layout.{Layout}
-use Rattle.arena.specs.declared.step.Row.{Row}
-use Rattle.arena.specs.declared.step.Kind.TheVariants.{Fill}
-use Rattle.arena.specs.declared.word.NodeWord.{NodeWord}
-use Rattle.arena.specs.declared.word.NodeWord.TheVariants.{Settled, Child, Info, Marked}
-use Rattle.arena.specs.declared.word.Word.{Word}
-use Rattle.arena.specs.declared.word.Word.TheVariants.{Node, Scx as ScxOf}
-use Rattle.arena.specs.Share.{Remaining}
-use Rattle.arena.specs.Words.{node, scx, info, child, same_node_word}
-use Rattle.arena.specs.History.{History, ◌⊳◌, value}
-use Rattle.arena.specs.Fills.{IsOwnNode, IsOthersNode, IsOpenNode, IsNamed, opening_node, by_field, by_scx, IsInField, IsTakenNode, MayFill}
-use Rattle.arena.specs.Lawful.{Lawful}
+use Rattle.histories.specs.Common.{Layout, Row, Fill, NodeWord, Settled, Child, Info, Marked, Word, Node, Scx as ScxOf, Remaining, node, scx, info, child, same_node_word}
+use Rattle.histories.specs.Common.{History, ◌⊳◌, value, IsOwnNode, IsNamed, opening_node, by_field, by_scx, IsInField, IsTakenNode, MayFill, Lawful, IsUnmentioned}
+use Rattle.arena.specs.Fills.{IsOthersNode, IsOpenNode}
 use Rattle.arena.proofs.Lemmas.{value_at, held_back, taken_node_more, taken_scx_more, fill_takes_node}
-use Rattle.histories.specs.Unmentioned.{IsUnmentioned}
 use Rattle.histories.proofs.Lemmas.{IsMention, IsNodeFill, one_node_owner, stays_unnamed, unmentioned_by_fill, unmentioned_by_others, unmentioned_by_step, unnamed_stays, untaken_by_node}
-use Rattle.prims.specs.Moments.{AreFinished}
+use Rattle.template.specs.Common.{AreFinished, IsShare}
 use Rattle.prims.specs.Laws.Begun.{takes_by_others, takes_by_node, takes_by_step}
-use Rattle.prims.specs.Shares.{IsShare}
 use Rattle.prims.proofs.Lemmas.{left_own_node, over_more, share_by_others, share_by_step}
 use Rattle.edits.specs.declared.piece.Piece.{Piece}
 use Rattle.edits.specs.Pieces.{fill_place, word_of}

@@ -1,25 +1,14 @@
 -- From the last fill to the SCX: what the pass has in hand then.
 use Rattle.std.proofs.Common.{◌≡◌, ◌≢◌, ℕ, suc, ◌<◌, ◌-◌, ◌≤◌, ◌⊎◌, inl, inr, None, length, arith}
 use native.Mathlib.Decide.{ℕ_discrete}
-use Rattle.arena.specs.declared.layout.Layout.{Layout}
-use Rattle.arena.specs.declared.word.ScxWord.TheVariants.{New}
-use Rattle.arena.specs.Share.{Remaining, HasScx}
-use Rattle.arena.specs.Words.{state}
-use Rattle.arena.specs.History.{History, value}
-use Rattle.arena.specs.Fills.{IsOwnNode, IsTakenNode, IsOwnScx, IsTakenScx}
-use Rattle.arena.specs.Lawful.{Lawful}
-use Rattle.arena.specs.Machines.{Call, begun_at}
+use Rattle.histories.specs.Common.{Layout, New, Remaining, HasScx, state, History, value, IsOwnNode, IsTakenNode, IsOwnScx, IsTakenScx, Lawful, Call, begun_at, Descriptor}
 use Rattle.arena.proofs.Lemmas.{ends_self}
-use Rattle.histories.specs.Descriptor.{Descriptor}
 use Rattle.histories.proofs.Lemmas.{named_scx_taken, finished_taken}
 use Rattle.help.specs.Allowed.{IsAllowed}
-use Rattle.prims.specs.Shares.{IsShare, IsUsable}
-use Rattle.prims.specs.Snap.{snap_at}
-use Rattle.prims.specs.Scx.Known.{job_of, IsUpdateOver, Says, InHand, IsUnderWay, ScxIsReady}
-use Rattle.prims.specs.declared.scx.ScxRun.{ScxRun}
+use Rattle.template.specs.Common.{IsShare, IsUsable, snap_at, job_of, IsUpdateOver, Says, ScxIsReady, ScxRun, TreeAllows}
+use Rattle.prims.specs.Scx.Known.{InHand, IsUnderWay}
 use Rattle.prims.specs.declared.scx.ScxAt.TheVariants.{Start}
 use Rattle.prims.proofs.Lemmas.{left_own_scx}
-use Rattle.ordered_map.specs.TreeShape.{TreeAllows}
 use Rattle.edits.specs.declared.piece.Piece.{Piece}
 use Rattle.edits.specs.Laws.Hand.{HasFilledTo}
 

@@ -1,30 +1,13 @@
 -- What an update knows stays true after any row.
-use Rattle.std.proofs.Common.{◌≡◌, ◌≢◌, ℕ, Some, None, Option, List, ◌++◌, inr, refl, sym, ◌∙◌, ap}
-use Rattle.std.specs.Prelude.{IfSome}
-use Rattle.arena.specs.declared.number.NodeNo.{NodeNo}
-use Rattle.arena.specs.declared.step.Row.{Row}
-use Rattle.arena.specs.declared.step.Kind.TheVariants.{Fill}
-use Rattle.arena.specs.declared.word.NodeWord.TheVariants.{Settled}
-use Rattle.arena.specs.declared.word.SettledPart.TheVariants.{Head as HeadPart, More, Key, Value}
-use Rattle.arena.specs.declared.word.Slot.{Slot}
-use Rattle.arena.specs.declared.word.Word.{Word}
-use Rattle.arena.specs.Heads.{head_of}
-use Rattle.arena.specs.History.{History, ◌⊳◌, value}
-use Rattle.arena.specs.Lawful.{Lawful}
-use Rattle.arena.specs.Machines.{IsRun, Call}
-use Rattle.arena.specs.Share.{Remaining}
+use Rattle.std.proofs.Common.{◌≡◌, ◌≢◌, ℕ, Some, None, Option, List, ◌++◌, inr, refl, sym, ◌∙◌, ap, IfSome}
+use Rattle.histories.specs.Common.{NodeNo, Row, Fill, Settled, Head as HeadPart, More, Key, Value, Slot, Word, head_of, History, ◌⊳◌, value, Lawful, IsRun, Call, Remaining}
 use Rattle.histories.proofs.Lemmas.{named_more, node_stays}
 use Rattle.prims.specs.Laws.Begun.{takes_by_others, takes_by_step}
 use Rattle.prims.specs.Laws.Idle.{IsIdle, IsQuietSince, quiet_more, idle_if_finished}
-use Rattle.prims.specs.Shares.{IsUsable}
-use Rattle.prims.specs.declared.snap.Snap.{Snap}
+use Rattle.template.specs.Common.{IsUsable, Snap, held_behind, IsTreeRun, TreeAllows, Goal}
 use Rattle.prims.proofs.Lemmas.{over_more, share_by_others, share_by_step, usable_now, usable_since}
-use Rattle.ordered_map.specs.Holding.{held_behind}
-use Rattle.ordered_map.specs.Runs.{IsTreeRun}
-use Rattle.ordered_map.specs.TreeShape.{TreeAllows}
 use Rattle.ordered_map.proofs.Lemmas.{SameSettled, held_same, same_from}
 use Rattle.template.specs.declared.walk.Found.{Found}
-use Rattle.ordered_map.specs.declared.rule.Goal.{Goal}
 use Rattle.template.proofs.Lemmas.{found_more}
 use Rattle.edits.specs.declared.edit.Nth.{Nth}
 use Rattle.edits.specs.declared.reading.Reading.{Reading}

@@ -2,18 +2,8 @@
 -- words of all other nodes.
 use Rattle.std.proofs.Common.{◌≡◌, ◌≢◌, ℕ, false, refl}
 use native.Mathlib.Decide.{ℕ_discrete}
-use Rattle.arena.specs.declared.layout.Layout.{Layout}
-use Rattle.arena.specs.declared.step.Row.{Row}
-use Rattle.arena.specs.declared.step.Step.{Step}
-use Rattle.arena.specs.declared.step.Access.TheVariants.{Store}
-use Rattle.arena.specs.declared.step.Kind.TheVariants.{Fill}
-use Rattle.arena.specs.declared.word.NodeWord.{NodeWord}
-use Rattle.arena.specs.declared.word.NodeWord.TheVariants.{Child, Info}
-use Rattle.arena.specs.Words.{node, scx, info, child, same_node_word}
-use Rattle.arena.specs.History.{History, ◌⊳◌, value}
-use Rattle.arena.specs.Fills.{IsOwnNode, IsNamed, opening_node, by_field, by_scx, IsNamedScx, MayFill}
-use Rattle.arena.specs.Lawful.{Lawful}
-use Rattle.arena.specs.Machines.{IsRun, Call, row_of}
+use Rattle.histories.specs.Common.{Layout, Row, Step, Store, Fill, NodeWord, Child, Info, node, scx, info, child, same_node_word, History, ◌⊳◌}
+use Rattle.histories.specs.Common.{value, IsOwnNode, IsNamed, opening_node, by_field, by_scx, IsNamedScx, MayFill, Lawful, IsRun, Call, row_of}
 use Rattle.arena.proofs.Lemmas.{value_apart, held_back, node_apart, node_word_apart}
 use Rattle.histories.proofs.Lemmas.{IsNodeFill, lawful_more, own_node_inside, shaped_more}
 

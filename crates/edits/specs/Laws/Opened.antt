@@ -1,16 +1,10 @@
 -- Nodes that an LLX may look at: those that have been in the tree, as the leaf that a walk has
 -- found and its parent.
 use Rattle.std.proofs.Common.{ℕ}
-use Rattle.arena.specs.Fills.{IsNamed}
-use Rattle.arena.specs.History.{History}
-use Rattle.arena.specs.Machines.{Call}
-use Rattle.prims.specs.Llx.Known.{IsOpened}
-use Rattle.ordered_map.specs.Runs.{IsTreeRun}
+use Rattle.histories.specs.Common.{IsNamed, History, Call}
+use Rattle.template.specs.Common.{IsOpened, IsTreeRun, HasFoundGoal, path_key, WasPassed, Goal}
 use Rattle.ordered_map.proofs.Lemmas.{walk_named, was_passed}
-use Rattle.template.specs.FoundLeaf.{HasFoundGoal, path_key}
-use Rattle.template.specs.Trails.{WasPassed}
 use Rattle.template.specs.declared.walk.Found.{Found}
-use Rattle.ordered_map.specs.declared.rule.Goal.{Goal}
 use Rattle.template.proofs.Lemmas.{found_below, opened_if_stood}
 
 module _ (goal : Goal) (c : Call) (h : History) (run : IsTreeRun c.layout h) where

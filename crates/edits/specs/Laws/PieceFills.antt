@@ -2,22 +2,11 @@
 use Rattle.std.proofs.Common.{◌≡◌, ◌≢◌, ℕ, zero, suc, ◌+◌, ◌-◌, ◌*◌, ◌/◌, ◌%◌, ◌^◌, ◌<◌, ◌≤◌, ◌⊎◌, inl, inr, Bool, true, false, Some, None, Option, List, [], ◌∷◌, length, refl, sym, ◌∙◌, ap, subst, arith, lt-ltb, le-ltb}
 use Rattle.std.specs.Prelude.{if◌then◌else◌, min, nat_lt, slice_index_or, unwrap_or}
 use Rattle.std.proofs.Math.Decide.{dec_lt}
-use Rattle.arena.specs.declared.number.NodeNo.{NodeNo}
-use Rattle.arena.specs.declared.word.NodeWord.{NodeWord}
-use Rattle.arena.specs.declared.word.NodeWord.TheVariants.{Settled, Child, Info, Marked}
-use Rattle.arena.specs.declared.word.SettledPart.TheVariants.{Head, More, Key, Value, High}
-use Rattle.arena.specs.declared.word.Side.TheVariants.{Left, Right}
-use Rattle.arena.specs.declared.word.Slot.{Slot}
-use Rattle.arena.specs.declared.word.Slot.TheVariants.{First, Second, Third, Fourth}
-use Rattle.arena.specs.declared.word.Word.{Word}
-use Rattle.arena.specs.declared.word.Word.TheVariants.{Node, Scx as ScxOf}
-use Rattle.arena.specs.History.{History, value}
-use Rattle.arena.specs.Words.{node, same_node_word, slot_no, first_key}
+use Rattle.histories.specs.Common.{NodeNo, NodeWord, Settled, Child, Info, Marked, Head, More, Key, Value, High, Left, Right, Slot, First}
+use Rattle.histories.specs.Common.{Second, Third, Fourth, Word, Node, Scx as ScxOf, History, value, node, same_node_word, slot_no, first_key}
 use Rattle.arena.proofs.Lemmas.{word_refl, word_same}
 use Rattle.histories.proofs.Lemmas.{IsNodeFill}
-use Rattle.ordered_map.specs.declared.pair.Pair.{Pair}
-use Rattle.ordered_map.specs.Holding.{slot_behind}
-use Rattle.ordered_map.specs.OrderedMap.{pair}
+use Rattle.template.specs.Common.{Pair, slot_behind, pair}
 use Rattle.edits.specs.declared.piece.Piece.{Piece}
 use Rattle.edits.specs.declared.piece.Piece.TheVariants.{Leaf, Fork}
 use Rattle.edits.specs.Pairs.{pair_at}

@@ -1,18 +1,7 @@
 -- The tries of a call, row by row.
 use Rattle.std.proofs.Common.{◌≡◌, ℕ, inl, inr, true, false}
-use Rattle.arena.specs.declared.step.Row.{Row}
-use Rattle.arena.specs.declared.step.Step.{Step}
-use Rattle.arena.specs.declared.step.Kind.TheVariants.{LoadSettled}
-use Rattle.arena.specs.declared.word.NodeWord.TheVariants.{Settled}
-use Rattle.arena.specs.declared.word.SettledPart.TheVariants.{Head as HeadWord}
-use Rattle.arena.specs.History.{History, ◌⊳◌, Extends}
-use Rattle.arena.specs.Lawful.{Lawful}
-use Rattle.arena.specs.Machines.{Call, row_of}
-use Rattle.arena.specs.Share.{Remaining}
-use Rattle.arena.specs.Words.{node}
-use Rattle.prims.specs.Llx.Known.{load}
-use Rattle.ordered_map.specs.Tries.{begins_try}
-use Rattle.template.specs.Walk.Places.{IsPastRoot}
+use Rattle.histories.specs.Common.{Row, Step, LoadSettled, Settled, Head as HeadWord, History, ◌⊳◌, Extends, Lawful, Call, row_of, Remaining, node}
+use Rattle.template.specs.Common.{load, begins_try, IsPastRoot}
 use Rattle.template.specs.declared.walk.WalkAt.{WalkAt}
 use Rattle.template.specs.declared.walk.WalkAt.TheVariants.{Start, Root, Head, Key, Child, More, Pair, Value, High}
 use Rattle.template.proofs.Lemmas.{contended_later, in_newest_more, in_newest_now, next_more, own_begins}

@@ -1,42 +1,20 @@
 -- The laws of updates: rows of others leave them waiting, their steps are lawful, and what they
 -- get is so.
 use Rattle.std.proofs.Common.{◌≡◌, ◌≢◌, ℕ, ◌≤◌, false, Some, None, Option, length, inl, inr, refl, sym, ◌∙◌, ap, subst, arith}
-use Rattle.arena.specs.declared.layout.Layout.{Layout}
-use Rattle.arena.specs.declared.step.Row.{Row}
-use Rattle.arena.specs.declared.step.Step.{Step}
-use Rattle.arena.specs.declared.step.Kind.TheVariants.{Fill as FillKind, LoadSettled}
-use Rattle.arena.specs.declared.word.NodeWord.{NodeWord}
-use Rattle.arena.specs.declared.word.NodeWord.TheVariants.{Settled, Child, Info, Marked}
-use Rattle.arena.specs.declared.number.NodeNo.{NodeNo}
-use Rattle.arena.specs.declared.word.SettledPart.{SettledPart}
-use Rattle.arena.specs.declared.word.SettledPart.TheVariants.{Head}
-use Rattle.arena.specs.History.{History, ◌⊳◌, value}
-use Rattle.arena.specs.Fills.{IsTakenNode}
-use Rattle.arena.specs.declared.word.Word.{Word}
-use Rattle.arena.specs.Machines.{IsRun, Call, row_of, IsTold, begun_at}
-use Rattle.arena.specs.TakenNodes.{taken_nodes}
-use Rattle.arena.specs.Words.{node}
-use Rattle.arena.specs.Lawful.{Lawful}
+use Rattle.histories.specs.Common.{Layout, Row, Step, Fill as FillKind, LoadSettled, NodeWord, Settled, Child, Info, Marked, NodeNo, SettledPart}
+use Rattle.histories.specs.Common.{Head, History, ◌⊳◌, value, IsTakenNode, Word, IsRun, Call, row_of, IsTold, begun_at, taken_nodes, node, Lawful}
 use Rattle.arena.proofs.Lemmas.{ends_self, ends_trans, value_quiet}
 use Rattle.prims.specs.Laws.Begun.{takes_by_others}
 use Rattle.prims.specs.Laws.Linked.{in_field_more}
-use Rattle.prims.specs.Llx.Known.{load}
+use Rattle.template.specs.Common.{load, job_of, ScxWaits, LlxRun, ScxRun, TreeAllows, begins_try, WalkKnows, WalkIsReady, WalkWaits, walk_step, IsPastRoot, Goal}
 use Rattle.prims.specs.Llx.Laws.{llx_keeps, llx_lawful, llx_made, load_lawful, load_told}
 use Rattle.prims.specs.Scx.Laws.{scx_keeps, scx_lawful}
 use Rattle.prims.specs.Laws.Scx.Made.{scx_made}
-use Rattle.prims.specs.Scx.Known.{job_of, ScxWaits}
-use Rattle.prims.specs.declared.llx.LlxRun.{LlxRun}
-use Rattle.prims.specs.declared.scx.ScxRun.{ScxRun}
 use Rattle.prims.proofs.Lemmas.{llx_fills_not, over_more, share_by_others, share_by_scx, untaken_at}
 use Rattle.prims.specs.Laws.Idle.{idle_if_finished}
-use Rattle.ordered_map.specs.TreeShape.{TreeAllows}
-use Rattle.ordered_map.specs.Tries.{begins_try}
-use Rattle.template.specs.Walk.Known.{WalkKnows, WalkIsReady, WalkWaits, walk_step}
 use Rattle.template.specs.Walk.Laws.{walk_keeps, walk_lawful, walk_made, walk_told}
-use Rattle.template.specs.Walk.Places.{IsPastRoot}
 use Rattle.template.proofs.Lemmas.{tracks_by_others, tracks_by_scx, walk_fills_not, others_begin_none, own_begins_none, other_kind_begins_none, other_node_begins_none, llx_begins_none, scx_begins_none, walk_begins_none}
 use Rattle.template.specs.declared.walk.Found.{Found}
-use Rattle.ordered_map.specs.declared.rule.Goal.{Goal}
 use Rattle.template.specs.declared.walk.WalkAt.{WalkAt}
 use Rattle.template.specs.declared.walk.WalkAt.TheVariants as walks
 use Rattle.template.specs.declared.walk.WalkRun.{WalkRun}

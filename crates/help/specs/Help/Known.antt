@@ -1,27 +1,10 @@
 -- When a run of HELP may continue, what it waits for, and what its answer says.
 use Rattle.std.specs.Prelude.{◌≡◌, ◌≢◌, ℕ, suc, ◌<◌, ◌≤◌, true, false, Bool, ◌⊎◌, List, Option, Some, None, slice_index_or}
-use Rattle.arena.specs.declared.layout.Layout.{Layout}
-use Rattle.arena.specs.declared.number.NodeNo.{NodeNo}
-use Rattle.arena.specs.declared.number.MemberIndex.{MemberIndex}
-use Rattle.arena.specs.declared.number.ScxNo.{ScxNo}
-use Rattle.arena.specs.declared.machine.Turn.{Turn}
-use Rattle.arena.specs.declared.machine.Turn.TheVariants.{Ask}
-use Rattle.arena.specs.declared.step.Row.{Row}
-use Rattle.arena.specs.declared.step.Step.{Step}
-use Rattle.arena.specs.declared.step.Access.TheVariants.{Load, Store, Exchange}
-use Rattle.arena.specs.declared.step.Kind.TheVariants.{LoadSettled, LoadAllFrozen, Freeze, SetFrozen, Mark, Update, Commit, Abort}
-use Rattle.arena.specs.declared.word.ScxWord.{ScxWord}
-use Rattle.arena.specs.declared.word.ScxWord.TheVariants.{AllFrozen, Plan, New, Old, Member, Seen}
-use Rattle.arena.specs.MemberIndex.{member_index}
-use Rattle.arena.specs.Words.{scx, info, marked, state}
-use Rattle.arena.specs.History.{History, value}
-use Rattle.arena.specs.Found.{IsLastStep}
-use Rattle.arena.specs.ScxRecords.{plan, member, seen, new, old, count, scx_finalizes, field, raw_count, plan_finalizes}
-use Rattle.arena.specs.Fills.{IsNamed, IsNamedScx, IsOwnScx}
-use Rattle.arena.specs.Lawful.{AreFrozen, AllAreFrozen, HasWon}
-use Rattle.arena.specs.Log.{log, IsEntered}
-use Rattle.histories.specs.Descriptor.{descriptor}
-use Rattle.histories.specs.Progress.{IsOver, IsStarted, IsStuck}
+use Rattle.histories.specs.Common.{Layout, NodeNo, MemberIndex, ScxNo, Turn, Ask, Row, Step, Load, Store, Exchange, LoadSettled, LoadAllFrozen, Freeze}
+use Rattle.histories.specs.Common.{SetFrozen, Mark, Update, Commit, Abort, ScxWord, AllFrozen, Plan, New, Old, Member, Seen, member_index, scx, info}
+use Rattle.histories.specs.Common.{marked, state, History, value, IsLastStep, plan, member, seen, new, old, count, scx_finalizes, field, raw_count}
+use Rattle.histories.specs.Common.{plan_finalizes, IsNamed, IsNamedScx, IsOwnScx, AreFrozen, HasWon, log, IsEntered, descriptor, IsOver, IsStarted, IsStuck}
+use Rattle.arena.specs.Lawful.{AllAreFrozen}
 use Rattle.help.specs.Allowed.{IsPrepared}
 use Rattle.help.specs.declared.state.HelpRun.{HelpRun}
 use Rattle.help.specs.declared.state.HelpAt.{HelpAt}

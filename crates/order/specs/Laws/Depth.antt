@@ -1,18 +1,9 @@
 -- How deep the nodes are that an ordered read reaches.
 use Rattle.std.proofs.Common.{◌≡◌, ℕ, ◌+◌, ◌<◌, ◌≤◌, false, length, sym, ◌∙◌, ap, arith}
 use Rattle.arena.specs.declared.head.Head.{Head as HeadParts}
-use Rattle.arena.specs.declared.layout.Layout.{Layout}
-use Rattle.arena.specs.declared.word.NodeWord.TheVariants.{Settled}
-use Rattle.arena.specs.declared.word.SettledPart.TheVariants.{Head as HeadWord}
-use Rattle.arena.specs.declared.word.Side.TheVariants.{Left}
-use Rattle.arena.specs.Heads.{head_of}
-use Rattle.arena.specs.Words.{node, child}
-use Rattle.arena.specs.History.{History, value}
-use Rattle.arena.specs.TakenNodes.{taken_nodes}
+use Rattle.histories.specs.Common.{Layout, Settled, Head as HeadWord, Left, head_of, node, child, History, value, taken_nodes}
 use Rattle.arena.proofs.Lemmas.{ends_self}
-use Rattle.ordered_map.specs.Paths.{WasInTree}
-use Rattle.ordered_map.specs.Runs.{IsTreeRun}
-use Rattle.ordered_map.specs.TreeWords.{is_leaf, level}
+use Rattle.template.specs.Common.{WasInTree, IsTreeRun, is_leaf, level}
 use Rattle.ordered_map.proofs.Lemmas.{child_stood, levels_rise, run_since, stood_depth, stood_settled, tree_not_final, was_now, SameSettled, settled_leaf, settled_level}
 use Rattle.order.specs.Laws.Kept.{taken_nodes_grow}
 use Rattle.order.specs.Paths.{HeadFits}

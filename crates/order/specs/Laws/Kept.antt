@@ -1,30 +1,14 @@
 -- What an ordered read knows stays so, whatever row comes that takes nothing of its pass's share.
 use Rattle.std.proofs.Common.{◌≡◌, ◌≢◌, ℕ, ◌<◌, ◌≤◌, true, false, ◌==◌, length, List, [], inl, inr, refl, ap, subst, arith}
 use Rattle.std.proofs.Math.Bool.{and-false}
-use Rattle.arena.specs.declared.step.Row.{Row}
-use Rattle.arena.specs.declared.step.Step.{Step}
-use Rattle.arena.specs.declared.step.Kind.TheVariants.{LoadSettled}
-use Rattle.arena.specs.declared.word.NodeWord.{NodeWord}
-use Rattle.arena.specs.declared.word.NodeWord.TheVariants.{Settled}
-use Rattle.arena.specs.declared.word.SettledPart.TheVariants.{Head, More as MoreWord, Key as KeyWord, Value as ValueWord, High as HighWord}
-use Rattle.arena.specs.declared.word.Slot.TheVariants.{First}
-use Rattle.arena.specs.Words.{node, same_node_word}
-use Rattle.arena.specs.History.{History, Start, ◌⊳◌, value, Extends}
-use Rattle.arena.specs.Machines.{IsRun, Call, begun_at}
-use Rattle.arena.specs.TakenNodes.{taken_nodes}
+use Rattle.histories.specs.Common.{Row, Step, LoadSettled, NodeWord, Settled, Head, More as MoreWord, Key as KeyWord, Value as ValueWord}
+use Rattle.histories.specs.Common.{High as HighWord, First, node, same_node_word, History, Start, ◌⊳◌, value, Extends, IsRun, Call, begun_at, taken_nodes}
 use Rattle.arena.proofs.Lemmas.{ends_self, ends_trans, taken_more}
 use Rattle.prims.specs.Laws.Begun.{TakesOnly}
 use Rattle.prims.specs.Laws.Idle.{IsIdle, quiet_at_start, quiet_more, idle_if_finished}
 use Rattle.prims.specs.Laws.InTheWay.{been_more}
-use Rattle.prims.specs.Llx.Known.{load}
-use Rattle.prims.specs.Moments.{AreFinished}
-use Rattle.prims.specs.declared.snap.Snap.{Snap}
+use Rattle.template.specs.Common.{load, AreFinished, Snap, Passed, IsTreeRun, TreeAllows, level, begins_try}
 use Rattle.prims.proofs.Lemmas.{over_more}
-use Rattle.ordered_map.specs.Paths.{Passed}
-use Rattle.ordered_map.specs.Runs.{IsTreeRun}
-use Rattle.ordered_map.specs.TreeShape.{TreeAllows}
-use Rattle.ordered_map.specs.TreeWords.{level}
-use Rattle.ordered_map.specs.Tries.{begins_try}
 use Rattle.ordered_map.proofs.Lemmas.{path_not_final, root_head, run_since, stood_settled, walk_first, was_passed, SameSettled}
 use Rattle.template.proofs.Lemmas.{BeginsNoTry, newest_more, newest_now, next_more, other_node_begins_none}
 use Rattle.order.specs.Loads.{load_word}

@@ -1,37 +1,18 @@
 -- The laws of ordered reads: rows of others leave them waiting, their steps are lawful, and what
 -- they get is so.
 use Rattle.std.proofs.Common.{◌≡◌, ◌≢◌, ℕ, ◌+◌, ◌<◌, ◌≤◌, false, length, List, [], ◌∷◌, inl, inr, refl, sym, ◌∙◌, ap, subst, arith, Option, Some, None}
-use Rattle.arena.specs.declared.number.NodeNo.{NodeNo}
-use Rattle.arena.specs.declared.step.Row.{Row}
-use Rattle.arena.specs.declared.step.Step.{Step}
-use Rattle.arena.specs.declared.step.Kind.TheVariants.{Fill, LoadSettled}
-use Rattle.arena.specs.declared.word.NodeWord.TheVariants.{Settled}
-use Rattle.arena.specs.declared.word.SettledPart.{SettledPart}
-use Rattle.arena.specs.declared.word.Side.{Side}
+use Rattle.histories.specs.Common.{NodeNo, Row, Step, Fill, LoadSettled, Settled, SettledPart, Side, Head as HeadWord, More as MoreWord}
+use Rattle.histories.specs.Common.{Value as ValueWord, Word, head_of, node, History, ◌⊳◌, value, IsRun, Call, row_of, IsTold, begun_at, taken_nodes}
 use Rattle.arena.specs.declared.word.Side.TheVariants as sides
-use Rattle.arena.specs.declared.word.SettledPart.TheVariants.{Head as HeadWord, More as MoreWord, Value as ValueWord}
-use Rattle.arena.specs.declared.word.Word.{Word}
-use Rattle.arena.specs.Heads.{head_of}
-use Rattle.arena.specs.Words.{node}
-use Rattle.arena.specs.History.{History, ◌⊳◌, value}
-use Rattle.arena.specs.Machines.{IsRun, Call, row_of, IsTold, begun_at}
-use Rattle.arena.specs.TakenNodes.{taken_nodes}
 use Rattle.arena.proofs.Lemmas.{ends_self}
 use Rattle.prims.specs.Laws.Idle.{IsIdle, idle_if_finished}
 use Rattle.prims.specs.Laws.Begun.{TakesOnly, takes_by_others, takes_by_step}
-use Rattle.prims.specs.Llx.Known.{load}
+use Rattle.template.specs.Common.{load, IsTreeRun, TreeAllows, level, begins_try, IsOwnMoment, WalkKnows, WalkWaits, IsPastRoot}
 use Rattle.prims.specs.Llx.Laws.{llx_keeps, llx_lawful, llx_made, load_lawful, load_told}
 use Rattle.prims.specs.Vlx.Laws.{vlx_keeps, vlx_lawful, vlx_made}
 use Rattle.prims.proofs.Lemmas.{llx_fills_not, vlx_fills_not}
-use Rattle.ordered_map.specs.Runs.{IsTreeRun}
-use Rattle.ordered_map.specs.TreeShape.{TreeAllows}
-use Rattle.ordered_map.specs.TreeWords.{level}
-use Rattle.ordered_map.specs.Tries.{begins_try}
 use Rattle.ordered_map.proofs.Lemmas.{stood_settled, was_passed, walk_stays, SameSettled, settled_class, settled_leaf, settled_level, settled_toward}
-use Rattle.template.specs.Trails.{IsOwnMoment}
-use Rattle.template.specs.Walk.Known.{WalkKnows, WalkWaits}
 use Rattle.template.specs.Walk.Laws.{walk_keeps, walk_lawful, walk_made, walk_told}
-use Rattle.template.specs.Walk.Places.{IsPastRoot}
 use Rattle.template.specs.declared.walk.WalkAt.{WalkAt}
 use Rattle.template.specs.declared.walk.WalkAt.TheVariants as places
 use Rattle.template.specs.declared.walk.WalkRun.{WalkRun}

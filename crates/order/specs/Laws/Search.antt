@@ -1,13 +1,7 @@
 -- Where a search for the next key on a side of k has come to, in the tree that the words show.
 use Rattle.std.specs.Prelude.{◌≡◌, ℕ, ◌^◌, ◌<◌, Option, Some, None}
-use Rattle.arena.specs.declared.number.NodeNo.{NodeNo}
-use Rattle.arena.specs.declared.word.Side.{Side}
-use Rattle.arena.specs.History.{History, value}
-use Rattle.ordered_map.specs.declared.pair.Pair.{Pair}
-use Rattle.ordered_map.specs.Holding.{held_from}
-use Rattle.ordered_map.specs.OrderedMap.{AllBelow, IsRising, end_pair, neighbour}
-use Rattle.ordered_map.specs.Spelled.{IsTree}
-use Rattle.ordered_map.specs.TreeWords.{Tree, root, Shows, opposite}
+use Rattle.histories.specs.Common.{NodeNo, Side, History, value}
+use Rattle.template.specs.Common.{Pair, held_from, AllBelow, IsRising, end_pair, neighbour, IsTree, Tree, root, Shows, opposite}
 use Rattle.ordered_map.proofs.Lemmas.{items, low_pair, or_else}
 use Rattle.order.specs.Found.{more_at, place_key, place_pair}
 use Rattle.order.specs.declared.load.LeafPlace.{LeafPlace}

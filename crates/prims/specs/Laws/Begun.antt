@@ -1,16 +1,7 @@
 -- What a call over snapshots knows since its start stays, whatever rows come.
 use Rattle.std.proofs.Common.{◌≡◌, ◌≢◌, ℕ, inr, inl, ◌∙◌, subst, List}
-use Rattle.arena.specs.declared.layout.Layout.{Layout}
-use Rattle.arena.specs.declared.step.Row.{Row}
-use Rattle.arena.specs.declared.step.Kind.TheVariants.{Fill}
-use Rattle.arena.specs.declared.word.NodeWord.{NodeWord}
-use Rattle.arena.specs.declared.word.ScxWord.{ScxWord}
-use Rattle.arena.specs.declared.word.ScxWord.TheVariants.{Plan, New, Old, Member, Seen, Call as CallWord}
-use Rattle.arena.specs.Words.{node, scx}
-use Rattle.arena.specs.History.{History, Start, ◌⊳◌, value, Extends}
-use Rattle.arena.specs.Fills.{IsOwnScx, IsTakenScx}
-use Rattle.arena.specs.Lawful.{Lawful}
-use Rattle.arena.specs.Machines.{Call}
+use Rattle.histories.specs.Common.{Layout, Row, Fill, NodeWord, ScxWord, Plan, New, Old, Member, Seen, node, scx, History, Start, ◌⊳◌, value, Extends, IsOwnScx, IsTakenScx, Lawful, Call}
+use Rattle.arena.specs.declared.word.ScxWord.TheVariants.{Call as CallWord}
 use Rattle.arena.proofs.Lemmas.{taken_scx_more}
 use Rattle.histories.proofs.Lemmas.{IsScxFill, untaken_by_node, untaken_by_other_fill, untaken_by_others, untaken_by_step}
 use Rattle.prims.specs.Vlx.Known.{HasBegun}

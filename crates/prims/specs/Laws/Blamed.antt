@@ -1,14 +1,7 @@
 -- Who was in the way of a call over snapshots: an SCX-record of another
 -- pass, where this one had left the snapshot alone.
 use Rattle.std.proofs.Common.{◌≡◌, ◌≢◌, ℕ, ◌<◌, inr, ⊎_elim, sym, ◌∙◌, subst, arith, List, length}
-use Rattle.arena.specs.declared.layout.Layout.{Layout}
-use Rattle.arena.specs.Words.{info, state}
-use Rattle.arena.specs.History.{History, ◌⊳◌, value, Extends}
-use Rattle.arena.specs.ScxRecords.{count}
-use Rattle.arena.specs.Fills.{IsOwnScx, IsOthersScx, IsTakenScx}
-use Rattle.arena.specs.Lawful.{Lawful}
-use Rattle.arena.specs.Blame.{IsInProgress, WasInTheWay}
-use Rattle.arena.specs.Machines.{Call}
+use Rattle.histories.specs.Common.{Layout, info, state, History, ◌⊳◌, value, Extends, count, IsOwnScx, IsOthersScx, IsTakenScx, Lawful, IsInProgress, WasInTheWay, Call}
 use Rattle.arena.proofs.Lemmas.{ends_trans}
 use Rattle.histories.proofs.Lemmas.{blame_info, facts, lawful_since, named_scx_taken, named_since, planned_taken, state_since, still_since}
 use Rattle.prims.specs.Moments.{IsMoment, IsLeftAlone, IsBlamed}

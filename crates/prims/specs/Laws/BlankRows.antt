@@ -1,20 +1,9 @@
 -- Which rows leave a node blank until the update that is to put it into a field has won.
 use Rattle.std.proofs.Common.{◌≡◌, ◌≢◌, ℕ, ◌<◌, Bool, true, false, ◌⊎◌, inl, inr, refl, sym, ◌∙◌, ap, subst, arith}
 use native.Mathlib.Decide.{ℕ_discrete}
-use Rattle.arena.specs.declared.layout.Layout.{Layout}
-use Rattle.arena.specs.declared.step.Row.{Row}
-use Rattle.arena.specs.declared.step.Kind.TheVariants.{Fill}
-use Rattle.arena.specs.declared.word.Side.{Side}
-use Rattle.arena.specs.declared.word.Word.{Word}
-use Rattle.arena.specs.declared.word.Word.TheVariants.{Node, Scx}
-use Rattle.arena.specs.declared.word.NodeWord.TheVariants.{Child, Info, Marked}
-use Rattle.arena.specs.declared.word.ScxWord.{ScxWord}
-use Rattle.arena.specs.declared.word.ScxWord.TheVariants.{State, AllFrozen, New, Member}
-use Rattle.arena.specs.ScxRecords.{member, plan, side_of, field, field_index}
-use Rattle.arena.specs.Words.{same_word, node, scx, info, marked, state, child, first_value}
-use Rattle.arena.specs.History.{History, ◌⊳◌, value, HasHeld, Extends}
-use Rattle.arena.specs.Fills.{IsOwnNode, IsOthersNode, IsInField, MayFill}
-use Rattle.arena.specs.Lawful.{Obeys, Lawful, HasWon}
+use Rattle.histories.specs.Common.{Layout, Row, Fill, Side, Word, Node, Scx, Child, Info, Marked, ScxWord, State, AllFrozen, New, Member, member, plan, side_of, field, field_index}
+use Rattle.histories.specs.Common.{same_word, node, scx, info, marked, state, child, first_value, History, ◌⊳◌, value, HasHeld, Extends, IsOwnNode, IsInField, MayFill, Obeys, Lawful, HasWon}
+use Rattle.arena.specs.Fills.{IsOthersNode}
 use Rattle.arena.proofs.Lemmas.{word_same, value_at, value_quiet, value_apart, value_other, held_at, held_split, node_apart, node_word_apart, ends_self, same_moment}
 use Rattle.histories.proofs.Lemmas.{Change, nothing, fills_node, fills_scx, freezes, sets_frozen, marks, updates, commits, aborts, change, lawful_row, facts_before, UpdateWins, update_won, won_more, one_node_owner}
 use Rattle.prims.specs.BlankNodes.{IsBlank, WasBlank}

@@ -1,16 +1,9 @@
 -- An SCX-record whose words hold what an update wants, and which has
 -- won, has put the update's entry into the log.
 use Rattle.std.proofs.Common.{◌≡◌, ◌≢◌, ℕ, ◌+◌, ◌<◌, suc, false, List, [], ◌∷◌, length, refl, sym, ◌∙◌, ap, arith}
-use Rattle.arena.specs.declared.layout.Layout.{Layout}
-use Rattle.arena.specs.declared.word.ScxWord.TheVariants.{Plan, New, Member, Seen, Call as CallWord}
-use Rattle.arena.specs.declared.step.Row.{Row}
-use Rattle.arena.specs.Words.{info, state}
-use Rattle.arena.specs.History.{History, ◌⊳◌, value, Extends}
-use Rattle.arena.specs.ScxRecords.{count_of, side_of, field_index_of as field_of, plan, count, member, seen}
-use Rattle.arena.specs.Fills.{IsNamed}
-use Rattle.arena.specs.Lawful.{IsWin, HasWon, Lawful}
-use Rattle.arena.specs.Log.{Entry, log, last, is_final, members_from, finalized_from}
-use Rattle.arena.specs.Machines.{Call}
+use Rattle.histories.specs.Common.{Layout, Plan, New, Member, Seen, Row, info, state, History, ◌⊳◌, value, Extends, count_of, side_of, field_index_of as field_of}
+use Rattle.histories.specs.Common.{plan, count, member, seen, IsNamed, IsWin, HasWon, Lawful, Entry, log, last, is_final, members_from, finalized_from, Call}
+use Rattle.arena.specs.declared.word.ScxWord.TheVariants.{Call as CallWord}
 use Rattle.arena.proofs.Lemmas.{owner_is}
 use Rattle.histories.proofs.Lemmas.{entry_of, facts, lawful_since, named_scx_taken, won_named, won_real}
 use Rattle.prims.specs.Moments.{IsAsFound}

@@ -1,9 +1,6 @@
 -- What a pass has itself found in the info of a node it has found for ever.
 use Rattle.std.proofs.Common.{ℕ, inr}
-use Rattle.arena.specs.declared.step.Row.{Row}
-use Rattle.arena.specs.declared.step.Kind.{Kind}
-use Rattle.arena.specs.Found.{HasFound}
-use Rattle.arena.specs.History.{History, ◌⊳◌, Extends}
+use Rattle.histories.specs.Common.{Row, Kind, HasFound, History, ◌⊳◌, Extends}
 use Rattle.arena.proofs.Lemmas.{ends_trans}
 use Rattle.prims.specs.FoundThere.{HasFoundThere}
 

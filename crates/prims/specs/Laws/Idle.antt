@@ -1,20 +1,8 @@
 -- Passes that have no SCX-record of their own in progress: which rows leave them so.
 use Rattle.std.proofs.Common.{◌≡◌, ◌≢◌, ℕ, ◌⊎◌, inl, inr, ⊎_elim, refl, sym, ◌∙◌, ap, subst, arith}
 use native.Mathlib.Decide.{ℕ_discrete}
-use Rattle.arena.specs.declared.layout.Layout.{Layout}
-use Rattle.arena.specs.declared.word.NodeWord.TheVariants.{Child, Info, Marked}
-use Rattle.arena.specs.declared.word.ScxWord.TheVariants.{AllFrozen, Plan, New, Old, Member, Seen}
-use Rattle.arena.specs.declared.step.Row.{Row}
-use Rattle.arena.specs.declared.step.Step.{Step}
-use Rattle.arena.specs.declared.step.Kind.TheVariants.{Freeze}
-use Rattle.arena.specs.MemberIndex.{member_index}
-use Rattle.arena.specs.Words.{scx, info, marked, state}
-use Rattle.arena.specs.History.{History, ◌⊳◌, value, HasHeld, Extends}
-use Rattle.arena.specs.ScxRecords.{plan, side_of, field_index, member, seen}
-use Rattle.arena.specs.Fills.{IsOwnScx, IsNamedScx, IsTakenScx}
-use Rattle.arena.specs.Lawful.{IsExchange, Lawful}
-use Rattle.arena.specs.Blame.{IsInProgress}
-use Rattle.arena.specs.Machines.{Call, row_of}
+use Rattle.histories.specs.Common.{Layout, Child, Info, Marked, AllFrozen, Plan, New, Old, Member, Seen, Row, Step, Freeze, member_index, scx, info, marked, state, History, ◌⊳◌}
+use Rattle.histories.specs.Common.{value, HasHeld, Extends, plan, side_of, field_index, member, seen, IsOwnScx, IsNamedScx, IsTakenScx, IsExchange, Lawful, IsInProgress, Call, row_of}
 use Rattle.arena.proofs.Lemmas.{value_at, value_apart, node_apart, node_word_apart, held_at, held_split, held_back, same_moment}
 use Rattle.histories.proofs.Lemmas.{Effect, effect, facts_before, finished_stays, freeze, named_scx_back, named_scx_taken, one_scx_owner, quiet, update, update_keeps_info}
 use Rattle.help.specs.Help.Known.{help_step, HelpWaits}

@@ -1,16 +1,8 @@
 -- What a call saw at its moments, and who was in its way.
 use Rattle.std.proofs.Common.{◌≡◌, ◌≢◌, ℕ, Bool, true, false, inl, inr, ⊎_elim, refl, sym, ◌∙◌, subst, arith}
 use native.Mathlib.Decide.{ℕ_discrete}
-use Rattle.arena.specs.declared.layout.Layout.{Layout}
-use Rattle.arena.specs.declared.step.Row.{Row}
-use Rattle.arena.specs.Words.{info, marked, state}
-use Rattle.arena.specs.History.{History, ◌⊳◌, value, HasHeld, Extends}
-use Rattle.arena.specs.Fills.{IsNamed, IsOthersScx}
-use Rattle.arena.specs.Lawful.{Lawful}
-use Rattle.arena.specs.Log.{log, is_final}
-use Rattle.arena.specs.Blame.{IsMember, WasInTheWay}
+use Rattle.histories.specs.Common.{Layout, Row, info, marked, state, History, ◌⊳◌, value, HasHeld, Extends, IsNamed, IsOthersScx, Lawful, log, is_final, IsMember, WasInTheWay, descriptor}
 use Rattle.arena.proofs.Lemmas.{ends_self, ends_trans}
-use Rattle.histories.specs.Descriptor.{descriptor}
 use Rattle.histories.specs.Finalizing.{IsFinalizing}
 use Rattle.histories.proofs.Lemmas.{Facts, IsEnded, IsFinalizedBy, IsFlagged, IsOwned, blame_info, blame_mark, by_final, earlier, facts, final_by, finalized_by_stays, finished_stays, flagged_about, lawful_since, lawful_tail, marked_stays, member_of, not_final, since, still}
 use Rattle.prims.specs.Laws.Idle.{IsQuietSince}

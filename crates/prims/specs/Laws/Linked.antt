@@ -1,14 +1,7 @@
 -- Snapshots that an SCX may use: what they say of their node
 -- holds as long as its info is what they found.
 use Rattle.std.proofs.Common.{◌≡◌, ◌≢◌, ℕ, ◌<◌, inl, inr, sym, ◌∙◌, arith}
-use Rattle.arena.specs.declared.layout.Layout.{Layout}
-use Rattle.arena.specs.declared.step.Row.{Row}
-use Rattle.arena.specs.declared.word.Side.{Side}
-use Rattle.arena.specs.Layout.{all_nodes}
-use Rattle.arena.specs.Words.{info, marked, child, state}
-use Rattle.arena.specs.History.{History, ◌⊳◌, value, HasHeld, Extends}
-use Rattle.arena.specs.Fills.{IsNamed, opening_node, by_field, IsInField}
-use Rattle.arena.specs.Lawful.{Lawful}
+use Rattle.histories.specs.Common.{Layout, Row, Side, all_nodes, info, marked, child, state, History, ◌⊳◌, value, HasHeld, Extends, IsNamed, opening_node, by_field, IsInField, Lawful}
 use Rattle.arena.proofs.Lemmas.{held_more}
 use Rattle.histories.specs.Finalizing.{IsFinalizing}
 use Rattle.histories.proofs.Lemmas.{Facts, Still, all_frozen_stays, descriptor_stays, facts, facts_before, finished_stays, named_more, removed_stays, since, some_is_real, still}

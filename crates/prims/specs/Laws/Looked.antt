@@ -1,10 +1,6 @@
 -- A node whose info names what a usable snapshot found is as its snapshot found it.
 use Rattle.std.proofs.Common.{◌≡◌, ⊎_elim, sym}
-use Rattle.arena.specs.Words.{info}
-use Rattle.arena.specs.History.{History, value, Extends}
-use Rattle.arena.specs.Lawful.{Lawful}
-use Rattle.arena.specs.Log.{log, last}
-use Rattle.arena.specs.Machines.{Call}
+use Rattle.histories.specs.Common.{info, History, value, Extends, Lawful, log, last, Call}
 use Rattle.histories.proofs.Lemmas.{last_since, lawful_since, not_final}
 use Rattle.prims.specs.Moments.{IsMoment, IsAsFound}
 use Rattle.prims.specs.Laws.Linked.{IsLinked, in_field_named}

@@ -1,6 +1,5 @@
 -- Up to four snapshots in four slots.
-use Rattle.std.proofs.Common.{◌≡◌, ◌≤◌, List, [], ◌∷◌, length, take, sym, ap, arith}
-use Rattle.std.proofs.lemmas.List.{length-take-le}
+use Rattle.std.proofs.Common.{◌≡◌, ◌≤◌, List, [], ◌∷◌, length, take, sym, ap, arith, length-take-le}
 use Rattle.prims.specs.declared.snap.Snap.{Snap}
 use Rattle.prims.specs.declared.snaps.Snaps.TheInside.{Inside}
 use Rattle.prims.specs.Snap.{snap_at}

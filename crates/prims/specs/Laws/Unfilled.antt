@@ -1,19 +1,8 @@
 -- A row that fills no word of a record leaves the words of it that only fills store in.
 use Rattle.std.proofs.Common.{◌≡◌, ◌≢◌, ℕ, false, refl, subst}
 use native.Mathlib.Decide.{ℕ_discrete}
-use Rattle.arena.specs.declared.layout.Layout.{Layout}
-use Rattle.arena.specs.declared.step.Row.{Row}
-use Rattle.arena.specs.declared.step.Kind.TheVariants.{Fill}
-use Rattle.arena.specs.declared.word.Side.{Side}
-use Rattle.arena.specs.declared.word.NodeWord.{NodeWord}
-use Rattle.arena.specs.declared.word.NodeWord.TheVariants.{Child, Info, Marked}
-use Rattle.arena.specs.declared.word.ScxWord.{ScxWord}
-use Rattle.arena.specs.declared.word.ScxWord.TheVariants.{State, AllFrozen}
-use Rattle.arena.specs.ScxRecords.{member, side_of, plan, field, field_index}
-use Rattle.arena.specs.Words.{node, scx, info, marked, state, same_node_word, first_value}
-use Rattle.arena.specs.History.{History, ◌⊳◌, value}
-use Rattle.arena.specs.Fills.{IsOwnNode, IsOwnScx}
-use Rattle.arena.specs.Lawful.{Lawful}
+use Rattle.histories.specs.Common.{Layout, Row, Fill, Side, NodeWord, Child, Info, Marked, ScxWord, State, AllFrozen, member, side_of, plan, field}
+use Rattle.histories.specs.Common.{field_index, node, scx, info, marked, state, same_node_word, first_value, History, ◌⊳◌, value, IsOwnNode, IsOwnScx, Lawful}
 use Rattle.arena.proofs.Lemmas.{value_quiet, value_apart, node_apart, node_word_apart, scx_apart, scx_word_apart}
 use Rattle.histories.proofs.Lemmas.{Change, FillsNode, FillsScx, IsNodeFill, IsScxFill, UpdateWins, aborts, change, commits, fills_node, fills_scx, freezes, lawful_row, marks, not_flag, not_state, nothing, one_node_owner, one_scx_owner, sets_frozen, updates}
 

@@ -1,20 +1,9 @@
 -- The row at which an update has won: its entry, and the last entries of its nodes until then.
 use Rattle.std.proofs.Common.{◌≡◌, ◌≢◌, ℕ, ◌<◌, false, ◌⊎◌, inl, inr, ⊎_elim, ◌∷◌, refl, sym, ◌∙◌, ap, subst}
 use native.Mathlib.Decide.{ℕ_discrete}
-use Rattle.arena.specs.declared.layout.Layout.{Layout}
-use Rattle.arena.specs.declared.step.Row.{Row}
-use Rattle.arena.specs.declared.step.Kind.TheVariants.{Freeze, Update}
-use Rattle.arena.specs.declared.word.ScxWord.{ScxWord}
-use Rattle.arena.specs.declared.word.ScxWord.TheVariants.{Plan, Member, Seen}
-use Rattle.arena.specs.Words.{scx, info, state}
-use Rattle.arena.specs.History.{History, Start, ◌⊳◌, value, HasHeld, Extends}
-use Rattle.arena.specs.ScxRecords.{count, count_of, member, seen}
-use Rattle.arena.specs.Fills.{IsNamed, IsNamedScx}
-use Rattle.arena.specs.Lawful.{IsWin, HasWon, Lawful}
-use Rattle.arena.specs.Blame.{IsMember}
-use Rattle.arena.specs.Log.{log, last, is_final}
+use Rattle.histories.specs.Common.{Layout, Row, Freeze, Update, ScxWord, Plan, Member, Seen, scx, info, state, History, Start, ◌⊳◌, value, HasHeld, Extends}
+use Rattle.histories.specs.Common.{count, count_of, member, seen, IsNamed, IsNamedScx, IsWin, HasWon, Lawful, IsMember, log, last, is_final, descriptor}
 use Rattle.arena.proofs.Lemmas.{ends_self, ends_trans, held_at, held_since}
-use Rattle.histories.specs.Descriptor.{descriptor}
 use Rattle.histories.proofs.Lemmas.{About, Effect, Facts, FreezeWins, IsScxFill, UpdateWins, effect, entry_of, facts, facts_before, freeze, freeze_finds, freeze_keeps_info, freeze_keeps_scx, freeze_stores, holds_member, last_since, last_waits, lawful_row, lawful_since, lawful_tail, log_same, log_wins, quiet, scx_since, scx_stays, some_is_real, update, update_flagged, update_is_first, update_keeps_info, win_not_final, won_more, won_since}
 
 -- Moments

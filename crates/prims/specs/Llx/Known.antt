@@ -1,24 +1,7 @@
 -- When a run of LLX may continue, what it waits for, and what its answer says.
 use Rattle.std.specs.Prelude.{◌≡◌, ◌≢◌, ℕ, ◌<◌, Bool, true, false, ◌⊎◌, Option, Some, None}
-use Rattle.arena.specs.declared.layout.Layout.{Layout}
-use Rattle.arena.specs.declared.word.Side.TheVariants.{Left, Right}
-use Rattle.arena.specs.declared.word.Word.{Word}
-use Rattle.arena.specs.declared.step.Row.{Row}
-use Rattle.arena.specs.declared.step.Step.{Step}
-use Rattle.arena.specs.declared.step.Access.TheVariants.{Load}
-use Rattle.arena.specs.declared.step.Kind.{Kind}
-use Rattle.arena.specs.declared.step.Kind.TheVariants.{LoadInfo, LoadState, LoadMarked, LoadChild}
-use Rattle.arena.specs.Layout.{all_nodes}
-use Rattle.arena.specs.Words.{info, marked, child, state}
-use Rattle.arena.specs.History.{History, ◌⊳◌, value, HasHeld, Extends}
-use Rattle.arena.specs.Blame.{WasInTheWay, HasFailed}
-use Rattle.arena.specs.Found.{HasFound}
-use Rattle.arena.specs.Fills.{IsInField}
-use Rattle.arena.specs.Log.{log, fields, is_final}
-use Rattle.arena.specs.Machines.{Call, IsRun, MatchTurn}
-use Rattle.arena.specs.declared.machine.Turn.{Turn}
-use Rattle.arena.specs.declared.machine.Turn.TheVariants.{Ask, Done}
-use Rattle.arena.specs.declared.number.ScxNo.{ScxNo}
+use Rattle.histories.specs.Common.{Layout, Left, Right, Word, Row, Step, Load, Kind, LoadInfo, LoadState, LoadMarked, LoadChild, all_nodes, info, marked, child, state, History}
+use Rattle.histories.specs.Common.{◌⊳◌, value, HasHeld, Extends, WasInTheWay, HasFailed, HasFound, IsInField, log, fields, is_final, Call, IsRun, MatchTurn, Turn, Ask, Done, ScxNo}
 use Rattle.help.specs.declared.state.HelpRun.{HelpRun}
 use Rattle.histories.specs.Finalizing.{IsFinalizing}
 use Rattle.help.specs.Help.Known.{HelpIsReady, HelpWaits}

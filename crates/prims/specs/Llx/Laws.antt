@@ -1,19 +1,7 @@
 -- The laws of LLX.
 use Rattle.std.proofs.Common.{◌≡◌, ◌≢◌, ℕ, ◌<◌, Bool, false, Some, inr, refl, sym, ◌∙◌, ap}
-use Rattle.arena.specs.declared.layout.Layout.{Layout}
-use Rattle.arena.specs.declared.step.Row.{Row}
-use Rattle.arena.specs.declared.step.Step.{Step}
-use Rattle.arena.specs.declared.step.Kind.{Kind}
-use Rattle.arena.specs.declared.step.Kind.TheVariants.{Freeze, LoadInfo, LoadState, LoadMarked, LoadChild}
-use Rattle.arena.specs.declared.word.Word.{Word}
-use Rattle.arena.specs.declared.word.Side.TheVariants.{Left, Right}
-use Rattle.arena.specs.Layout.{all_nodes, IsWord}
-use Rattle.arena.specs.Words.{info, marked, child, state}
-use Rattle.arena.specs.History.{History, ◌⊳◌, value, HasHeld, Extends}
-use Rattle.arena.specs.Fills.{IsNamed}
-use Rattle.arena.specs.Lawful.{Lawful, Obeys}
-use Rattle.arena.specs.Machines.{IsRun, Call, row_of, IsTold}
-use Rattle.arena.specs.Found.{HasFound}
+use Rattle.histories.specs.Common.{Layout, Row, Step, Kind, Freeze, LoadInfo, LoadState, LoadMarked, LoadChild, Word, Left, Right, all_nodes, IsWord, info}
+use Rattle.histories.specs.Common.{marked, child, state, History, ◌⊳◌, value, HasHeld, Extends, IsNamed, Lawful, Obeys, IsRun, Call, row_of, IsTold, HasFound}
 use Rattle.arena.proofs.Lemmas.{last_now, found_more, value_at, held_more, ends_self}
 use Rattle.histories.proofs.Lemmas.{earlier, finished_stays, lawful_more, marked_stays, named_scx_inside, shaped_more, state_stays}
 use Rattle.help.specs.Laws.Help.Kept.{help_keeps}

@@ -1,16 +1,6 @@
 -- When a run of SCX with a fresh cell may continue, what it waits for, and what its answer says.
 use Rattle.std.specs.Prelude.{◌≡◌, ℕ, ◌<◌, Option, Some, None}
-use Rattle.arena.specs.declared.layout.Layout.{Layout}
-use Rattle.arena.specs.declared.step.Row.{Row}
-use Rattle.arena.specs.declared.step.Step.{Step}
-use Rattle.arena.specs.declared.step.Access.TheVariants.{Store}
-use Rattle.arena.specs.declared.step.Kind.TheVariants.{Fill}
-use Rattle.arena.specs.declared.word.Side.{Side}
-use Rattle.arena.specs.Words.{node, child, first_value}
-use Rattle.arena.specs.History.{History, ◌⊳◌, value}
-use Rattle.arena.specs.Fills.{IsOwnNode, IsTakenNode, IsTakenScx, IsFillOfNode}
-use Rattle.arena.specs.Machines.{Call}
-use Rattle.histories.specs.Descriptor.{Descriptor}
+use Rattle.histories.specs.Common.{Layout, Row, Step, Store, Fill, Side, node, child, first_value, History, ◌⊳◌, value, IsOwnNode, IsTakenNode, IsTakenScx, IsFillOfNode, Call, Descriptor}
 use Rattle.help.specs.Allowed.{IsLater, IsAllowed}
 use Rattle.prims.specs.BlankNodes.{IsBlank, WasBlank}
 use Rattle.prims.specs.Cells.{AllowsAll}

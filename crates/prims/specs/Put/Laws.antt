@@ -1,16 +1,6 @@
 -- The laws of SCX with a fresh cell.
 use Rattle.std.proofs.Common.{◌≡◌, ◌≢◌, ℕ, Some, inl, inr, refl, ◌∙◌}
-use Rattle.arena.specs.declared.layout.Layout.{Layout}
-use Rattle.arena.specs.declared.step.Row.{Row}
-use Rattle.arena.specs.declared.step.Step.{Step}
-use Rattle.arena.specs.declared.word.NodeWord.TheVariants.{Child, Info}
-use Rattle.arena.specs.declared.word.Side.{Side}
-use Rattle.arena.specs.declared.word.ScxWord.{ScxWord}
-use Rattle.arena.specs.declared.word.ScxWord.TheVariants.{State, New}
-use Rattle.arena.specs.Words.{node, scx, info, child, first_value}
-use Rattle.arena.specs.History.{History, ◌⊳◌, value}
-use Rattle.arena.specs.Lawful.{Lawful}
-use Rattle.arena.specs.Machines.{IsRun, Call, row_of, IsTold}
+use Rattle.histories.specs.Common.{Layout, Row, Step, Child, Info, Side, ScxWord, State, New, node, scx, info, child, first_value, History, ◌⊳◌, value, Lawful, IsRun, Call, row_of, IsTold}
 use Rattle.arena.proofs.Lemmas.{named_before, named_scx_before, value_at, value_apart, held_back, node_word_apart, taken_node_more, fill_takes_node}
 use Rattle.histories.proofs.Lemmas.{lawful_more, own_node_inside, shaped_more}
 use Rattle.help.specs.Laws.Help.Allowing.{later_self, later_trans}

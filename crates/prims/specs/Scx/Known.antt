@@ -1,27 +1,11 @@
 -- When a run of SCX may continue, what it waits for, and what its answer says.
 use Rattle.std.specs.Prelude.{◌≡◌, ◌≢◌, ◌⊎◌, ℕ, suc, ◌<◌, if◌then◌else◌, List, [], ◌∷◌, length, map, Option, Some, None}
-use Rattle.arena.specs.declared.layout.Layout.{Layout}
-use Rattle.arena.specs.declared.step.Row.{Row}
-use Rattle.arena.specs.declared.step.Step.{Step}
-use Rattle.arena.specs.declared.step.Access.TheVariants.{Store}
-use Rattle.arena.specs.declared.step.Kind.TheVariants.{Fill, Freeze}
-use Rattle.arena.specs.declared.word.Side.{Side}
-use Rattle.arena.specs.declared.word.ScxWord.{ScxWord}
-use Rattle.arena.specs.declared.word.ScxWord.TheVariants.{Plan, New, Old, Member, Seen, Call as CallWord}
-use Rattle.arena.specs.MemberIndex.{member_index}
-use Rattle.arena.specs.Words.{scx, state, child}
-use Rattle.arena.specs.History.{History, ◌⊳◌, value, HasHeld, Extends}
-use Rattle.arena.specs.ScxRecords.{IsPlan, count_of, plan_finalizes, side_of, field_index_of, plan, new, old, member, seen, raw_count}
-use Rattle.arena.specs.Fills.{IsOwnNode, IsOwnScx, IsOpenScx, IsNamed, IsTakenScx}
-use Rattle.arena.specs.Lawful.{IsWin, HasWon}
-use Rattle.arena.specs.Log.{Entry, log, IsEntered}
-use Rattle.arena.specs.declared.machine.Turn.{Turn}
-use Rattle.arena.specs.declared.machine.Turn.TheVariants.{Ask}
-use Rattle.arena.specs.declared.number.MemberIndex.{MemberIndex}
-use Rattle.arena.specs.declared.number.ScxNo.{ScxNo}
+use Rattle.histories.specs.Common.{Layout, Row, Step, Store, Fill, Freeze, Side, ScxWord, Plan, New, Old, Member, Seen, member_index, scx, state, child, History, ◌⊳◌}
+use Rattle.histories.specs.Common.{value, HasHeld, Extends, IsPlan, count_of, plan_finalizes, side_of, field_index_of, plan, new, old, member, seen, raw_count, IsOwnNode}
+use Rattle.histories.specs.Common.{IsOwnScx, IsNamed, IsTakenScx, IsWin, HasWon, Entry, log, IsEntered, Turn, Ask, MemberIndex, ScxNo, Call, IsRun, MatchTurn, Descriptor}
+use Rattle.arena.specs.declared.word.ScxWord.TheVariants.{Call as CallWord}
+use Rattle.arena.specs.Fills.{IsOpenScx}
 use Rattle.help.specs.declared.state.HelpRun.{HelpRun}
-use Rattle.arena.specs.Machines.{Call, IsRun, MatchTurn}
-use Rattle.histories.specs.Descriptor.{Descriptor}
 use Rattle.help.specs.Allowed.{IsAllowed}
 use Rattle.help.specs.Help.Known.{IsBlocked, HelpIsReady, HelpWaits}
 use Rattle.prims.specs.Snap.{child_of, snap_at}

@@ -1,23 +1,13 @@
 -- The laws of SCX.
 use Rattle.std.proofs.Common.{◌≡◌, ◌≢◌, ℕ, ◌<◌, inl, inr, ⊎_elim, refl, ◌∙◌, length}
-use Rattle.arena.specs.declared.layout.Layout.{Layout}
-use Rattle.arena.specs.declared.step.Row.{Row}
-use Rattle.arena.specs.declared.step.Step.{Step}
-use Rattle.arena.specs.declared.word.ScxWord.{ScxWord}
-use Rattle.arena.specs.declared.word.ScxWord.TheVariants.{State, New}
-use Rattle.arena.specs.MemberIndex.{member_index}
-use Rattle.arena.specs.Words.{scx, IsScxWord}
-use Rattle.arena.specs.History.{History, ◌⊳◌, value}
-use Rattle.arena.specs.ScxRecords.{field_index_of as field_of, side_of}
-use Rattle.arena.specs.Fills.{IsInField, IsTakenScx, MayFill}
-use Rattle.arena.specs.Lawful.{Lawful}
-use Rattle.arena.specs.Machines.{IsRun, Call, row_of}
+use Rattle.histories.specs.Common.{Layout, Row, Step, ScxWord, State, New, member_index, scx, History, ◌⊳◌, value}
+use Rattle.histories.specs.Common.{field_index_of as field_of, side_of, IsInField, IsTakenScx, MayFill, Lawful, IsRun, Call, row_of, Side}
+use Rattle.arena.specs.Words.{IsScxWord}
 use Rattle.histories.proofs.Lemmas.{IsScxFill, field_back, lawful_more, one_node_owner, own_scx_inside, own_words_stay, shaped_more, stays_free, stays_unnamed, word_back}
 use Rattle.help.specs.Laws.Help.Allowing.{allowed_more}
 use Rattle.help.specs.Laws.Help.Kept.{help_keeps}
 use Rattle.help.specs.Laws.Help.Lawful.{help_lawful, index_small}
 use Rattle.prims.specs.Laws.Linked.{linked_more, in_field_named}
-use Rattle.arena.specs.declared.word.Side.{Side}
 use Rattle.prims.specs.Snap.{child_of, snap_at}
 use Rattle.prims.specs.Laws.Unfilled.{own_words_unfilled}
 use Rattle.prims.specs.Laws.Begun.{takes_by_others, way_more, filled_more}

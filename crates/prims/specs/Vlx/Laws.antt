@@ -1,15 +1,7 @@
 -- The laws of VLX.
 use Rattle.std.proofs.Common.{◌≡◌, ◌≢◌, ℕ, suc, ◌<◌, ◌≤◌, Some, None, Option, ◌⊎◌, inl, inr, refl, sym, ◌∙◌, ap, arith, length, List}
 use native.Mathlib.Decide.{ℕ_discrete}
-use Rattle.arena.specs.declared.layout.Layout.{Layout}
-use Rattle.arena.specs.declared.step.Row.{Row}
-use Rattle.arena.specs.declared.step.Step.{Step}
-use Rattle.arena.specs.declared.step.Kind.TheVariants.{Fill, LoadInfo}
-use Rattle.arena.specs.declared.machine.Turn.{Turn}
-use Rattle.arena.specs.Words.{info}
-use Rattle.arena.specs.History.{History, ◌⊳◌, value}
-use Rattle.arena.specs.Lawful.{Lawful}
-use Rattle.arena.specs.Machines.{IsRun, Call, row_of, IsTold, MatchTurn}
+use Rattle.histories.specs.Common.{Layout, Row, Step, Fill, LoadInfo, Turn, info, History, ◌⊳◌, value, Lawful, IsRun, Call, row_of, IsTold, MatchTurn}
 use Rattle.arena.proofs.Lemmas.{ends_self}
 use Rattle.histories.proofs.Lemmas.{lawful_since, still_since}
 use Rattle.prims.specs.Laws.Linked.{in_field_named}

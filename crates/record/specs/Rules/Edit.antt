@@ -1,7 +1,6 @@
 -- The rules of an edit.
 use Rattle.std.specs.Prelude.{◌≡◌, ℕ, ◌<◌, Bool, true, false, List, Option, Some, None}
-use Rattle.arena.specs.declared.layout.Layout.{Layout}
-use Rattle.arena.specs.History.{History, value}
+use Rattle.histories.specs.Common.{Layout, History, value}
 use Rattle.ordered_map.specs.CallRules.{need}
 use Rattle.ordered_map.specs.OrderedMap.{MapCall, MapEdit, MapReply, changes_map, edit_of, reply}
 use Rattle.ordered_map.specs.Runs.{Makes}

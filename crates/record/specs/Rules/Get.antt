@@ -1,7 +1,6 @@
 -- The rules of `get`.
 use Rattle.std.specs.Prelude.{ℕ, Option}
-use Rattle.arena.specs.declared.layout.Layout.{Layout}
-use Rattle.arena.specs.History.{History}
+use Rattle.histories.specs.Common.{Layout, History}
 use Rattle.ordered_map.specs.Paths.{IsAnswerAt}
 use Rattle.ordered_map.specs.declared.reply.Reply.TheVariants.{Value}
 use Rattle.record.specs.declared.record.Answer.{Answer}

@@ -1,10 +1,6 @@
 -- The rules of `llx`.
 use Rattle.std.specs.Prelude.{◌≡◌, ◌≢◌, ℕ, true, false, if◌then◌else◌, ◌==◌, Option}
-use Rattle.arena.specs.declared.layout.Layout.{Layout}
-use Rattle.arena.specs.declared.step.Kind.TheVariants.{Fill}
-use Rattle.arena.specs.History.{History}
-use Rattle.arena.specs.Blame.{HasFailed}
-use Rattle.arena.specs.Log.{log, is_final}
+use Rattle.histories.specs.Common.{Layout, Fill, History, HasFailed, log, is_final}
 use Rattle.record.specs.declared.record.Answer.{Answer}
 use Rattle.record.specs.declared.record.Answer.TheVariants.{Snapshot, Finalized, Fail}
 use Rattle.record.specs.Answers.{IsSnapshotAt, IsPlacedCell}

@@ -1,7 +1,5 @@
 -- The rules of the calls of the map.
-use Rattle.arena.specs.declared.layout.Layout.{Layout}
-use Rattle.arena.specs.History.{History}
-use Rattle.arena.specs.Log.{Entry as Entered}
+use Rattle.histories.specs.Common.{Layout, History, Entry as Entered}
 use Rattle.ordered_map.specs.CallRules.{MayReply, call_rules, form_of, most_nodes, most_scx, most_steps}
 use Rattle.ordered_map.specs.OrderedMap.{MapCall, Edit, Get, Neighbour, Range}
 use Rattle.ordered_map.specs.Requests.{tells_change}

@@ -1,7 +1,6 @@
 -- The rules of `successor` and `predecessor`.
 use Rattle.std.specs.Prelude.{ℕ, Option}
-use Rattle.arena.specs.declared.layout.Layout.{Layout}
-use Rattle.arena.specs.History.{History}
+use Rattle.histories.specs.Common.{Layout, History}
 use Rattle.ordered_map.specs.declared.reply.Reply.TheVariants.{Pair, Contended, NoMemory}
 use Rattle.record.specs.declared.record.Answer.{Answer}
 use Rattle.record.specs.declared.record.Answer.TheVariants.{Map}

@@ -1,7 +1,6 @@
 -- The rules of `range`.
 use Rattle.std.specs.Prelude.{◌≡◌, ℕ, [], Option}
-use Rattle.arena.specs.declared.layout.Layout.{Layout}
-use Rattle.arena.specs.History.{History}
+use Rattle.histories.specs.Common.{Layout, History}
 use Rattle.ordered_map.specs.CallRules.{TakesNothing}
 use Rattle.ordered_map.specs.declared.reply.Reply.TheVariants.{Pairs, Contended, NoMemory}
 use Rattle.record.specs.declared.record.Answer.{Answer}

@@ -1,9 +1,6 @@
 -- The rules of `scx`.
 use Rattle.std.specs.Prelude.{◌≡◌, ℕ, Bool, true, false, if◌then◌else◌, ◌&&◌, Option, Some, None}
-use Rattle.arena.specs.declared.layout.Layout.{Layout}
-use Rattle.arena.specs.declared.step.Kind.TheVariants.{Freeze}
-use Rattle.arena.specs.History.{History}
-use Rattle.arena.specs.Log.{Entry as Entered, has}
+use Rattle.histories.specs.Common.{Layout, Freeze, History, Entry as Entered, has}
 use Rattle.script.specs.Update.{update_cells, update_finalize, update_field, update_value}
 use Rattle.record.specs.declared.record.Answer.{Answer}
 use Rattle.record.specs.declared.record.Answer.TheVariants.{Done, Lost, Unlinked, Full}

@@ -1,11 +1,6 @@
 -- The rules of `set`.
 use Rattle.std.specs.Prelude.{◌≡◌, ℕ, true, false, if◌then◌else◌, ◌==◌, [], ◌∷◌, Option}
-use Rattle.arena.specs.declared.layout.Layout.{Layout}
-use Rattle.arena.specs.declared.word.Side.{Side}
-use Rattle.arena.specs.declared.step.Kind.TheVariants.{Freeze}
-use Rattle.arena.specs.History.{History, value, Extends}
-use Rattle.arena.specs.Blame.{HasFailed}
-use Rattle.arena.specs.Log.{Entry as Entered, log, is_final}
+use Rattle.histories.specs.Common.{Layout, Side, Freeze, History, value, Extends, HasFailed, Entry as Entered, log, is_final}
 use Rattle.record.specs.declared.record.Answer.{Answer}
 use Rattle.record.specs.declared.record.Answer.TheVariants.{Finalized, Fail, Done, Lost, Full}
 use Rattle.record.specs.Answers.{IsUnchanged, IsInTheWay, HasRoom, is_done, IsPlacedCell}

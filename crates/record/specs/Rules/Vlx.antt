@@ -1,8 +1,6 @@
 -- The rules of `vlx`.
 use Rattle.std.specs.Prelude.{◌≡◌, ℕ, false, length, Option, Some}
-use Rattle.arena.specs.declared.layout.Layout.{Layout}
-use Rattle.arena.specs.declared.step.Kind.TheVariants.{LoadInfo}
-use Rattle.arena.specs.History.{History}
+use Rattle.histories.specs.Common.{Layout, LoadInfo, History}
 use Rattle.script.specs.Cells.{cells_of}
 use Rattle.record.specs.declared.record.Answer.{Answer}
 use Rattle.record.specs.declared.record.Answer.TheVariants.{Same, Changed, Unlinked}

@@ -1,12 +1,6 @@
 -- What every run under the shape of the tree keeps: the words are a tree.
 use Rattle.std.proofs.Common.{◌≡◌, List, refl}
-use Rattle.arena.specs.declared.limits.Mode.TheVariants.{Tree as TreeMode}
-use Rattle.arena.specs.declared.layout.Layout.{Layout}
-use Rattle.arena.specs.declared.step.Row.{Row}
-use Rattle.arena.specs.History.{History, Start, ◌⊳◌, value}
-use Rattle.arena.specs.Lawful.{Lawful}
-use Rattle.arena.specs.Shape.{Shaped}
-use Rattle.arena.specs.Machines.{IsRun}
+use Rattle.histories.specs.Common.{Tree as TreeMode, Layout, Row, History, Start, ◌⊳◌, value, Lawful, Shaped, IsRun}
 use Rattle.ordered_map.specs.declared.pair.Pair.{Pair}
 use Rattle.ordered_map.proofs.Lemmas.{run_spells}
 use Rattle.ordered_map.specs.Spelled.{Spells}

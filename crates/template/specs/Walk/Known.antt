@@ -1,23 +1,8 @@
 -- When a walk may continue, what it waits for, and what its answer says.
 use Rattle.std.specs.Prelude.{◌≡◌, ℕ, ◌^◌, ◌<◌, Bool, true, false, ◌==◌, Option, Some, None}
 use Rattle.arena.specs.declared.head.Head.{Head as HeadParts}
-use Rattle.arena.specs.declared.machine.Turn.{Turn}
-use Rattle.arena.specs.declared.machine.Turn.TheVariants.{Ask, Done}
-use Rattle.arena.specs.declared.step.Step.{Step}
-use Rattle.arena.specs.declared.step.Kind.{Kind}
-use Rattle.arena.specs.declared.step.Kind.TheVariants.{LoadSettled, LoadChild}
-use Rattle.arena.specs.declared.word.NodeWord.{NodeWord}
-use Rattle.arena.specs.declared.word.NodeWord.TheVariants.{Settled, Child as ChildWord}
-use Rattle.arena.specs.declared.word.SettledPart.TheVariants.{Head as HeadWord, More as MoreWord, Key as KeyWord, Value as ValueWord, High as HighWord}
-use Rattle.arena.specs.declared.word.Side.{Side}
-use Rattle.arena.specs.declared.word.Side.TheVariants.{Left}
-use Rattle.arena.specs.declared.word.Slot.{Slot}
-use Rattle.arena.specs.declared.word.Slot.TheVariants.{First}
-use Rattle.arena.specs.declared.word.Word.{Word}
-use Rattle.arena.specs.Heads.{head_of}
-use Rattle.arena.specs.Words.{node, first_key}
-use Rattle.arena.specs.History.{History, value, Extends}
-use Rattle.arena.specs.Machines.{Call, MatchTurn}
+use Rattle.histories.specs.Common.{Turn, Ask, Done, Step, Kind, LoadSettled, LoadChild, NodeWord, Settled, Child as ChildWord, Head as HeadWord, More as MoreWord, Key as KeyWord}
+use Rattle.histories.specs.Common.{Value as ValueWord, High as HighWord, Side, Left, Slot, First, Word, head_of, node, first_key, History, value, Extends, Call, MatchTurn}
 use Rattle.prims.specs.Llx.Known.{load}
 use Rattle.ordered_map.specs.Holding.{end_slot, held_pairs, held_from}
 use Rattle.ordered_map.specs.OrderedMap.{get}

@@ -1,24 +1,9 @@
 -- The laws of walks: rows of others leave them waiting, their steps are lawful, and what they
 -- get is so, and leads them no deeper than the taken nodes allow.
 use Rattle.std.proofs.Common.{◌≡◌, ◌≢◌, ℕ, ◌+◌, ◌<◌, ◌≤◌, length, Option, Some, None, inr, refl, sym, ◌∙◌, ap, arith, subst}
-use Rattle.arena.specs.declared.layout.Layout.{Layout}
-use Rattle.arena.specs.declared.limits.Mode.TheVariants.{Tree as TreeMode}
-use Rattle.arena.specs.declared.step.Row.{Row}
-use Rattle.arena.specs.declared.step.Step.{Step}
-use Rattle.arena.specs.declared.step.Kind.TheVariants.{LoadSettled, LoadChild}
-use Rattle.arena.specs.declared.word.Side.{Side}
-use Rattle.arena.specs.declared.word.NodeWord.TheVariants.{Settled, Child as ChildWord}
-use Rattle.arena.specs.declared.word.SettledPart.{SettledPart}
-use Rattle.arena.specs.declared.word.SettledPart.TheVariants.{Head as HeadWord, More as MoreWord, Key as KeyWord, Value as ValueWord, High as HighWord}
-use Rattle.arena.specs.declared.word.Slot.{Slot}
-use Rattle.arena.specs.declared.word.Slot.TheVariants.{First}
+use Rattle.histories.specs.Common.{Layout, Tree as TreeMode, Row, Step, LoadSettled, LoadChild, Side, Settled, Child as ChildWord, SettledPart, Head as HeadWord, More as MoreWord, Key as KeyWord}
+use Rattle.histories.specs.Common.{Value as ValueWord, High as HighWord, Slot, First, head_of, all_nodes, node, child, History, ◌⊳◌, value, IsRun, Call, row_of, IsTold, taken_nodes}
 use Rattle.arena.specs.declared.head.Head.{Head as HeadParts}
-use Rattle.arena.specs.Heads.{head_of}
-use Rattle.arena.specs.Layout.{all_nodes}
-use Rattle.arena.specs.Words.{node, child}
-use Rattle.arena.specs.History.{History, ◌⊳◌, value}
-use Rattle.arena.specs.Machines.{IsRun, Call, row_of, IsTold}
-use Rattle.arena.specs.TakenNodes.{taken_nodes}
 use Rattle.histories.proofs.Lemmas.{node_stays}
 use Rattle.prims.specs.Llx.Known.{load}
 use Rattle.prims.specs.Llx.Laws.{load_lawful, load_told}

@@ -1,7 +1,6 @@
 -- A walk to a goal, by its place.
 use Rattle.std.specs.Prelude.{ℕ}
-use Rattle.arena.specs.declared.word.Side.{Side}
-use Rattle.arena.specs.declared.word.Side.TheVariants.{Left}
+use Rattle.histories.specs.Common.{Side, Left}
 use Rattle.ordered_map.specs.declared.rule.Goal.{Goal}
 use Rattle.template.specs.declared.walk.Trail.{Trail}
 use Rattle.template.specs.declared.walk.WalkAt.{WalkAt}

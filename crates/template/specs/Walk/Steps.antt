@@ -1,8 +1,7 @@
 -- How many steps a walk may still ask for: three a node, of levels that rise, and five more at its
 -- leaf.
 use Rattle.std.specs.Prelude.{ℕ, ◌+◌, ◌-◌, ◌*◌, ◌<◌, Option, unwrap_or}
-use Rattle.arena.specs.Heads.{head_of}
-use Rattle.arena.specs.Words.{slot_no}
+use Rattle.histories.specs.Common.{head_of, slot_no}
 use Rattle.template.specs.declared.walk.WalkRun.{WalkRun}
 use Rattle.template.specs.declared.walk.WalkAt.{WalkAt}
 use Rattle.template.specs.declared.walk.WalkAt.TheVariants.{Start, Root, Head, Key, Child, More, Pair, Value, High}

@@ -1,12 +1,7 @@
 -- The bounds of an edit: those of what it does at a key, and one node, or three where its rule puts
 -- in what was absent.
 use Rattle.std.proofs.Common.{◌≡◌, ℕ, ◌<◌, ◌≤◌, Bool, true, false, cond, Option, Some, None, refl, sym, subst, arith}
-use Rattle.ordered_map.specs.CallRules.{nodes_in_try}
-use Rattle.ordered_map.specs.OrderedMap.{applies, leaves}
-use Rattle.ordered_map.specs.declared.rule.Goal.{Goal}
-use Rattle.ordered_map.specs.declared.rule.Goal.TheVariants.{Key, End}
-use Rattle.ordered_map.specs.declared.rule.Rule.{Rule}
-use Rattle.template.specs.FoundLeaf.{asked_key}
+use Rattle.template.specs.Common.{nodes_in_try, applies, leaves, Goal, Key, End, Rule, asked_key}
 use Rattle.template.specs.declared.walk.Found.{Found}
 use Rattle.tree.specs.KeyEdit.Means.{doing, key_at, key_means, leaving, part, putting, taking, wants}
 use Rattle.tree.specs.Put.Laws.{put_bounds}

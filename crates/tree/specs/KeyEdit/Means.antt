@@ -1,12 +1,7 @@
 -- What an edit needs, looks at, reads and fills: at the leaf that was found it does what puts a
 -- value at a key, or what takes a key out, by what its rule leaves.
 use Rattle.std.specs.Prelude.{ℕ, Bool, false, if◌then◌else◌, Option, Some, None}
-use Rattle.ordered_map.specs.CallRules.{nodes_in_try}
-use Rattle.ordered_map.specs.OrderedMap.{applies, edit_to, leaves}
-use Rattle.ordered_map.specs.declared.rule.Goal.{Goal}
-use Rattle.ordered_map.specs.declared.rule.Goal.TheVariants.{Key, End}
-use Rattle.ordered_map.specs.declared.rule.Rule.{Rule}
-use Rattle.template.specs.FoundLeaf.{asked_key}
+use Rattle.template.specs.Common.{nodes_in_try, applies, edit_to, leaves, Goal, Key, End, Rule, asked_key}
 use Rattle.template.specs.declared.walk.Found.{Found}
 use Rattle.tree.specs.declared.take.TakePair.{TakePair}
 use Rattle.tree.specs.declared.put.PutPair.{PutPair}

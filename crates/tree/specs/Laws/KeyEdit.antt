@@ -1,20 +1,9 @@
 -- What an edit looks at, reads and fills, and that it makes its edit: where it changes anything, it
 -- does at its key what leaves its value there.
 use Rattle.std.proofs.Common.{◌≡◌, ℕ, ◌^◌, ◌<◌, Bool, true, false, cond, List, Option, Some, None, refl, sym, ◌∙◌, ap, subst, arith}
-use Rattle.arena.specs.History.{History, value}
-use Rattle.arena.specs.Machines.{Call}
-use Rattle.arena.specs.declared.word.Side.{Side}
-use Rattle.prims.specs.Snap.{snap_at}
-use Rattle.prims.specs.Scx.Known.{IsUpdateOver}
-use Rattle.prims.specs.declared.snap.Snap.{Snap}
-use Rattle.ordered_map.specs.OrderedMap.{edit_key, edit_to, leaves}
-use Rattle.ordered_map.specs.Runs.{IsTreeRun}
-use Rattle.ordered_map.specs.TreeWords.{class}
-use Rattle.ordered_map.specs.declared.rule.Goal.{Goal}
-use Rattle.ordered_map.specs.declared.rule.Goal.TheVariants.{Key, End}
-use Rattle.ordered_map.specs.declared.rule.Rule.{Rule}
+use Rattle.histories.specs.Common.{History, value, Call, Side}
+use Rattle.template.specs.Common.{snap_at, IsUpdateOver, Snap, edit_key, edit_to, leaves, IsTreeRun, class, Goal, Key, End, Rule, HasFoundGoal, asked_key, asked_in, path_key}
 use Rattle.ordered_map.proofs.Lemmas.{run_since}
-use Rattle.template.specs.FoundLeaf.{HasFoundGoal, asked_key, asked_in, path_key}
 use Rattle.template.specs.declared.walk.Found.{Found}
 use Rattle.template.proofs.Lemmas.{found_own, found_small, said_low}
 use Rattle.tree.specs.declared.key_edit.KeyEdit.{KeyEdit}

@@ -1,8 +1,7 @@
 -- What the edits of the tree have in common: what their looks name, and how these go on behind a
 -- snapshot.
 use Rattle.std.proofs.Common.{◌≡◌, Bool, true, false, if◌then◌else◌, refl, ap}
-use Rattle.arena.specs.declared.number.NodeNo.{NodeNo}
-use Rattle.arena.specs.declared.number.ScxNo.{ScxNo}
+use Rattle.histories.specs.Common.{NodeNo, ScxNo}
 use Rattle.prims.specs.declared.snap.Snap.{Snap}
 use Rattle.edits.specs.declared.edit.Look.{Look}
 use Rattle.edits.specs.declared.edit.Look.TheVariants.{At, Differs, Enough}

@@ -1,9 +1,7 @@
 -- The bounds of an insert.
 use Rattle.std.proofs.Common.{◌≡◌, ℕ, ◌+◌, ◌*◌, ◌<◌, ◌≤◌, Bool, true, false, ◌==◌, if◌then◌else◌, List, [], ◌∷◌, length, take, drop, Some, None, subst, arith}
 use Rattle.arena.specs.declared.number.NodeNo.{NodeNo}
-use Rattle.prims.specs.declared.snap.Snap.{Snap}
-use Rattle.ordered_map.specs.declared.pair.Pair.{Pair}
-use Rattle.ordered_map.specs.OrderedMap.{pair, insert}
+use Rattle.template.specs.Common.{Snap, Pair, pair, insert}
 use Rattle.template.specs.declared.walk.Found.{Found}
 use Rattle.tree.specs.LeafEdit.{leaf_looks, leaf_reads}
 use Rattle.tree.specs.Put.Means.{put_means, put_need, put_reads, splits, lower, split_or_leaf, pairs_with, second_pairs}

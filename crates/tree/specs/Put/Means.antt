@@ -1,11 +1,8 @@
 -- What an insert needs, looks at, reads and fills.
 use Rattle.std.specs.Prelude.{ℕ, ◌+◌, ◌-◌, ◌^◌, min, nat_lt, ◌==◌, if◌then◌else◌, Bool, false, not, List, [], ◌∷◌, take, drop, Option, Some, None}
 use Rattle.arena.specs.declared.number.NodeNo.{NodeNo}
-use Rattle.ordered_map.specs.declared.pair.Pair.{Pair}
-use Rattle.ordered_map.specs.OrderedMap.{Insert as PutEdit, pair, insert}
-use Rattle.ordered_map.specs.TreeShape.{leaf_plan}
+use Rattle.template.specs.Common.{Pair, Insert as PutEdit, pair, insert, leaf_plan, Key as ToKey}
 use Rattle.template.specs.declared.walk.Found.{Found}
-use Rattle.ordered_map.specs.declared.rule.Goal.TheVariants.{Key as ToKey}
 use Rattle.tree.specs.LeafEdit.{leaf_looks, leaf_reads}
 use Rattle.tree.specs.declared.put.PutPair.{PutPair}
 use Rattle.edits.specs.declared.edit.Nodes.{Nodes}

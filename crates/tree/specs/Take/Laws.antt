@@ -1,11 +1,8 @@
 -- The bounds of a delete.
-use Rattle.std.proofs.Common.{◌≡◌, ℕ, ◌<◌, ◌≤◌, Bool, true, false, if◌then◌else◌, List, [], ◌∷◌, length, Option, Some, None, subst, arith}
-use Rattle.std.specs.Prelude.{unwrap_or}
+use Rattle.std.proofs.Common.{◌≡◌, ℕ, ◌<◌, ◌≤◌, Bool, true, false, if◌then◌else◌, List, [], ◌∷◌, length, Option, Some, None, subst, arith, unwrap_or}
 use Rattle.arena.specs.declared.head.Head.{Head}
-use Rattle.arena.specs.Heads.{head_of}
-use Rattle.arena.specs.declared.number.NodeNo.{NodeNo}
-use Rattle.prims.specs.declared.snap.Snap.{Snap}
-use Rattle.ordered_map.specs.OrderedMap.{delete}
+use Rattle.histories.specs.Common.{head_of, NodeNo}
+use Rattle.template.specs.Common.{Snap, delete}
 use Rattle.template.specs.declared.walk.Found.{Found}
 use Rattle.tree.specs.LeafEdit.{leaf_looks, leaf_reads}
 use Rattle.tree.specs.Put.Laws.{few_looks as few_leaf_looks}

@@ -1,16 +1,9 @@
 -- What a delete needs, looks at, reads and fills.
 use Rattle.std.specs.Prelude.{ℕ, ◌==◌, nat_lt, if◌then◌else◌, Bool, List, [], ◌∷◌, Option, Some, None, unwrap_or}
 use Rattle.arena.specs.declared.head.Head.{Head}
-use Rattle.arena.specs.declared.number.NodeNo.{NodeNo}
-use Rattle.arena.specs.declared.word.Side.{Side}
-use Rattle.arena.specs.Heads.{head_of}
-use Rattle.prims.specs.declared.snap.Snap.{Snap}
-use Rattle.prims.specs.Snap.{child_of, snap_at}
-use Rattle.ordered_map.specs.declared.pair.Pair.{Pair}
-use Rattle.ordered_map.specs.OrderedMap.{Delete as TakeEdit, delete, pair}
-use Rattle.ordered_map.specs.TreeShape.{join_plan, leaf_plan, sibling_place}
+use Rattle.histories.specs.Common.{NodeNo, Side, head_of}
+use Rattle.template.specs.Common.{Snap, child_of, snap_at, Pair, Delete as TakeEdit, delete, pair, join_plan, leaf_plan, sibling_place, Key as ToKey}
 use Rattle.template.specs.declared.walk.Found.{Found}
-use Rattle.ordered_map.specs.declared.rule.Goal.TheVariants.{Key as ToKey}
 use Rattle.tree.specs.LeafEdit.{leaf_looks, leaf_reads}
 use Rattle.tree.specs.declared.take.TakePair.{TakePair}
 use Rattle.edits.specs.declared.edit.Look.{Look}

@@ -1,9 +1,5 @@
 use Rattle.std.proofs.Common.{◌≡◌, ◌≢◌, ℕ, false, sym, subst, ◌∙◌, rules}
-use Rattle.arena.specs.Blame.{WasInTheWay, HasFailed}
-use Rattle.arena.specs.Fills.{IsOthersScx}
-use Rattle.arena.specs.History.{value}
-use Rattle.arena.specs.Log.{log, is_final}
-use Rattle.arena.specs.Words.{state}
+use Rattle.histories.specs.Common.{WasInTheWay, HasFailed, IsOthersScx, value, log, is_final, state}
 use Rattle.judge.specs.Histories.{seen_history}
 use Rattle.audit.specs.CellCalls.{IsLookAt}
 use Rattle.audit.proofs.CellCallFacts.{failed, cell_inside, not_false}

@@ -1,8 +1,6 @@
 use Rattle.std.proofs.Common.{◌≡◌, ℕ, false, [], ◌∷◌, sym, subst, ◌∙◌, rules}
-use Rattle.arena.specs.declared.step.Kind.TheVariants.{Freeze}
-use Rattle.arena.specs.Log.{log, is_final}
-use Rattle.record.specs.Answers.{IsInTheWay}
-use Rattle.record.specs.Snapshots.{IsLastLook}
+use Rattle.histories.specs.Common.{Freeze, log, is_final}
+use Rattle.record.specs.Common.{IsInTheWay, IsLastLook}
 use Rattle.judge.specs.Histories.{seen_history}
 use Rattle.audit.specs.CellCalls.{IsLookAt}
 use Rattle.audit.proofs.CellCallFacts.{lost, cell_inside}

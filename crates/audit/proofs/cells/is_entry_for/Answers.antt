@@ -1,9 +1,6 @@
 use Rattle.std.proofs.Common.{sym, subst}
 use Rattle.arena.specs.Log.{entry}
-use Rattle.script.specs.declared.command.Command.{Command}
-use Rattle.record.specs.CommandRules.{IsEntryFor}
-use Rattle.record.specs.Linked.{linked}
-use Rattle.record.specs.Turns.{start}
+use Rattle.record.specs.Common.{Command, IsEntryFor, linked, start}
 use Rattle.judge.specs.Histories.{seen_history}
 use Rattle.audit.proofs.cells.is_entry_for.Goals as goal
 

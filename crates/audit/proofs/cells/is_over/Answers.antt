@@ -1,6 +1,5 @@
 use Rattle.std.proofs.Common.{◌≡◌, ℕ, ◌<◌, length, get_or, sym, ap, subst, ◌∙◌, below_more, arith, rules}
-use Rattle.arena.specs.Log.{has}
-use Rattle.arena.specs.ScxRecords.{member, scx_finalizes, plan_finalizes, count, count_of}
+use Rattle.histories.specs.Common.{has, member, scx_finalizes, plan_finalizes, count, count_of}
 use Rattle.judge.specs.Histories.{seen_history}
 use Rattle.audit.proofs.CellLists.{over_cells, item_at}
 use Rattle.audit.proofs.cells.is_over.Goals as goal

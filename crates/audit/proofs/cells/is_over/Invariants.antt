@@ -1,6 +1,5 @@
 use Rattle.std.proofs.Common.{◌≡◌, ℕ, ◌<◌, get_or}
-use Rattle.arena.specs.Log.{has}
-use Rattle.arena.specs.ScxRecords.{member, scx_finalizes}
+use Rattle.histories.specs.Common.{has, member, scx_finalizes}
 use Rattle.judge.specs.Histories.{seen_history}
 use Rattle.audit.proofs.cells.is_over.Given as goal
 

@@ -1,11 +1,7 @@
 use Rattle.std.proofs.Common.{◌≡◌, ℕ, true, List, sym, subst, rules}
-use Rattle.arena.specs.declared.layout.Layout.{Layout}
-use Rattle.arena.specs.Log.{has, entry}
-use Rattle.arena.specs.ScxRecords.{member, plan, new, field_index, side_of}
-use Rattle.script.specs.Update.{update_cells, update_finalize, update_field, update_value}
+use Rattle.histories.specs.Common.{Layout, has, entry, member, plan, new, field_index, side_of}
+use Rattle.record.specs.Common.{update_cells, update_finalize, update_field, update_value, linked, IsEntryOver}
 use Rattle.record.specs.Answers.{AreUnchanged}
-use Rattle.record.specs.Linked.{linked}
-use Rattle.record.specs.Updates.{IsEntryOver}
 use Rattle.judge.specs.Histories.{seen_history}
 use Rattle.audit.specs.CellCalls.{IsOverCells, IsFreshWith}
 use Rattle.audit.proofs.CellEntries.{entry_over, snapshots_seen, own_memory}

@@ -1,13 +1,7 @@
 use Rattle.std.proofs.Common.{◌≡◌, ℕ, List, [], ◌∷◌, IsSome, is_some, sym, ap, subst, ◌∙◌, rules}
-use Rattle.arena.specs.declared.layout.Layout.{Layout}
-use Rattle.arena.specs.History.{History, Extends}
-use Rattle.arena.specs.Log.{entry}
-use Rattle.arena.specs.ScxRecords.{member, plan, new, field_index, side_of}
+use Rattle.histories.specs.Common.{Layout, History, Extends, entry, member, plan, new, field_index, side_of}
 use Rattle.record.specs.Answers.{IsUnchanged}
-use Rattle.record.specs.Linked.{linked}
-use Rattle.record.specs.Snapshots.{IsLastLook}
-use Rattle.record.specs.Turns.{start, begin}
-use Rattle.record.specs.Updates.{IsEntryOver}
+use Rattle.record.specs.Common.{linked, IsLastLook, start, begin, IsEntryOver}
 use Rattle.judge.specs.Histories.{seen_history}
 use Rattle.audit.specs.CellCalls.{IsOverCells, IsFreshWith, IsAsLooked}
 use Rattle.audit.proofs.CellEntries.{entry_over, call_seen, own_memory}

@@ -1,8 +1,5 @@
 use Rattle.std.proofs.Common.{◌≡◌, false, sym, ◌∙◌, eqb-true, rules}
-use Rattle.arena.specs.declared.word.Side.TheVariants.{Left, Right}
-use Rattle.arena.specs.History.{value}
-use Rattle.arena.specs.Log.{log, is_final}
-use Rattle.arena.specs.Words.{child}
+use Rattle.histories.specs.Common.{Left, Right, value, log, is_final, child}
 use Rattle.histories.proofs.Lemmas.{fields_are}
 use Rattle.judge.specs.Histories.{seen_history}
 use Rattle.audit.proofs.cells.is_snapshot.Goals as goal

@@ -1,14 +1,10 @@
 use Rattle.std.proofs.Common.{◌∙◌, sym, subst, ap, Some}
-use Rattle.arena.specs.declared.layout.Layout.{Layout}
-use Rattle.arena.specs.History.{History}
-use Rattle.script.specs.declared.command.Command.{Command}
-use Rattle.record.specs.CommandRules.{IsRight}
-use Rattle.record.specs.Linked.{linked}
+use Rattle.histories.specs.Common.{Layout, History}
+use Rattle.record.specs.Common.{Command, IsRight, linked, history, start}
 use Rattle.record.specs.Rules.Llx.{LlxIsRight}
 use Rattle.record.specs.Rules.Scx.{ScxIsRight}
 use Rattle.record.specs.Rules.Set.{SetIsRight}
 use Rattle.record.specs.Rules.Vlx.{VlxIsRight}
-use Rattle.record.specs.Turns.{history, start}
 use Rattle.audit.proofs.CellEntries.{steps_seen, call_seen, same_seen, own_memory, to_lines}
 use Rattle.audit.proofs.cells.is_true.Goals as goal
 

@@ -1,11 +1,9 @@
 use Rattle.std.proofs.Common.{◌≡◌, ℕ, true, List, Some, sym, subst, ◌∙◌, rules}
 use Rattle.std.proofs.lemmas.Bool.{false≢true}
-use Rattle.arena.specs.declared.number.NodeNo.{NodeNo}
-use Rattle.arena.specs.declared.step.Kind.TheVariants.{Freeze}
+use Rattle.histories.specs.Common.{NodeNo, Freeze}
 use Rattle.record.specs.declared.record.Answer.{Answer}
-use Rattle.record.specs.Answers.{IsInTheWay}
+use Rattle.record.specs.Common.{IsInTheWay, AreLinked, IsFirstUnlinked}
 use Rattle.record.specs.Rules.Scx.{ScxIsRight}
-use Rattle.record.specs.Snapshots.{AreLinked, IsFirstUnlinked}
 use Rattle.judge.specs.Histories.{seen_history}
 use Rattle.audit.proofs.CellCallFacts.{if_some}
 use Rattle.audit.proofs.cells.is_true_of_scx.Goals as goal

@@ -1,10 +1,8 @@
 use Rattle.std.proofs.Common.{◌≡◌, ℕ, true, false, [], ◌∷◌, sym, subst, ◌∙◌, eqb-true, rules}
-use Rattle.arena.specs.declared.step.Kind.TheVariants.{Freeze}
-use Rattle.arena.specs.Log.{log, is_final}
+use Rattle.histories.specs.Common.{Freeze, log, is_final}
 use Rattle.record.specs.declared.record.Answer.{Answer}
-use Rattle.record.specs.Answers.{IsInTheWay}
+use Rattle.record.specs.Common.{IsInTheWay, IsLastLook}
 use Rattle.record.specs.Rules.Set.{SetIsRight}
-use Rattle.record.specs.Snapshots.{IsLastLook}
 use Rattle.judge.specs.Histories.{seen_history}
 use Rattle.audit.proofs.cells.is_true_of_set.Goals as goal
 

@@ -1,7 +1,6 @@
 use Rattle.std.proofs.Common.{◌≡◌, ℕ, true, List, Some, sym, subst, ◌∙◌, rules}
 use Rattle.std.proofs.lemmas.Bool.{false≢true}
-use Rattle.arena.specs.declared.number.NodeNo.{NodeNo}
-use Rattle.arena.specs.declared.step.Kind.TheVariants.{LoadInfo}
+use Rattle.histories.specs.Common.{NodeNo, LoadInfo}
 use Rattle.record.specs.declared.record.Answer.{Answer}
 use Rattle.record.specs.Answers.{IsInTheWay, IsAsSnapped}
 use Rattle.record.specs.Rules.Vlx.{VlxIsRight}

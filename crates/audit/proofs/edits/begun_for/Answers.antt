@@ -1,10 +1,8 @@
 use Rattle.std.proofs.Common.{◌≡◌, ℕ, ◌^◌, ◌<◌, Some, inl, refl, sym, ◌∙◌, subst, rules}
 use Rattle.arena.specs.declared.limits.Mode.TheVariants.{Tree as TreeMode, Trie as TrieMode}
 use Rattle.arena.specs.ScxRecords.{member}
-use Rattle.ordered_map.specs.OrderedMap.{edit_key}
-use Rattle.ordered_map.specs.Paths.{Passed, WasOnPath}
-use Rattle.record.specs.MapRecord.{map_call}
-use Rattle.script.specs.declared.command.Command.{Command}
+use Rattle.record.specs.Common.{edit_key, Passed, map_call, Command}
+use Rattle.ordered_map.specs.Paths.{WasOnPath}
 use Rattle.judge.specs.Histories.{seen_history}
 use Rattle.audit.specs.Edits.{IsEditBy, edit_begun}
 use Rattle.audit.proofs.ListEdits.{key_of_edit}

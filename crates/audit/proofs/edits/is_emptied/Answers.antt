@@ -1,6 +1,5 @@
 use Rattle.std.proofs.Common.{◌≡◌, [], sym, ◌∙◌, ap, rules}
-use Rattle.ordered_map.specs.OrderedMap.{edited}
-use Rattle.record.specs.MapRecord.{number_pairs}
+use Rattle.record.specs.Common.{edited, number_pairs}
 use Rattle.audit.specs.Edits.{edit_begun}
 use Rattle.audit.proofs.edits.is_emptied.Goals as goal
 

@@ -1,6 +1,5 @@
 use Rattle.std.proofs.Common.{◌≡◌, ℕ, List, Some, subst, rules}
-use Rattle.ordered_map.specs.declared.pair.Pair.{Pair}
-use Rattle.ordered_map.specs.OrderedMap.{first_pair, pair}
+use Rattle.record.specs.Common.{Pair, first_pair, pair}
 use Rattle.audit.proofs.ListEdits.{first_at}
 use Rattle.audit.proofs.edits.is_first_key.Goals as goal
 

@@ -1,9 +1,6 @@
 use Rattle.std.proofs.Common.{◌≡◌, ℕ, false, sym, ◌∙◌, ap, subst, rules}
-use Rattle.arena.specs.declared.word.Side.{Side}
-use Rattle.arena.specs.History.{value}
-use Rattle.arena.specs.Words.{child}
-use Rattle.ordered_map.specs.Paths.{Passed}
-use Rattle.ordered_map.specs.TreeWords.{is_leaf, toward}
+use Rattle.histories.specs.Common.{Side, value, child}
+use Rattle.record.specs.Common.{Passed, is_leaf, toward}
 use Rattle.ordered_map.proofs.Lemmas.{walk_first, walk_next}
 use Rattle.judge.specs.Histories.{seen_history}
 use Rattle.audit.proofs.edits.is_on_path.Goals as goal

@@ -1,7 +1,6 @@
 use Rattle.std.proofs.Common.{◌≡◌, ◌++◌, sym, ◌∙◌, ap, rules}
-use Rattle.ordered_map.specs.OrderedMap.{edited}
+use Rattle.record.specs.Common.{edited, number_pairs}
 use Rattle.ordered_map.specs.TreeWords.{leaf_pairs}
-use Rattle.record.specs.MapRecord.{number_pairs}
 use Rattle.audit.specs.Edits.{edit_begun, word_now}
 use Rattle.audit.proofs.ListEdits.{IsSplitOfPairs, same_pairs, split_of}
 use Rattle.audit.proofs.edits.is_split.Goals as goal

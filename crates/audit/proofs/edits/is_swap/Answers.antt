@@ -1,10 +1,8 @@
 use Rattle.std.proofs.Common.{◌≡◌, sym, ◌∙◌, ap, rules}
 use Rattle.ordered_map.specs.Edits.{IsLowLeaf}
 use Rattle.ordered_map.specs.Holding.{held_pairs}
-use Rattle.ordered_map.specs.OrderedMap.{edited}
-use Rattle.ordered_map.specs.TreeWords.{class}
+use Rattle.record.specs.Common.{edited, class, number_pairs}
 use Rattle.ordered_map.proofs.Lemmas.{low_pairs}
-use Rattle.record.specs.MapRecord.{number_pairs}
 use Rattle.audit.specs.Edits.{edit_begun, word_now}
 use Rattle.audit.proofs.ListEdits.{same_pairs}
 use Rattle.audit.proofs.edits.is_swap.Goals as goal

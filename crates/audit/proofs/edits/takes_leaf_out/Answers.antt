@@ -1,8 +1,7 @@
 use Rattle.std.proofs.Common.{◌≡◌, ℕ, sym, ◌∙◌, subst, rules}
 use Rattle.arena.specs.ScxRecords.{plan, member}
-use Rattle.ordered_map.specs.OrderedMap.{edit_key}
+use Rattle.record.specs.Common.{edit_key, toward}
 use Rattle.ordered_map.specs.TreeShape.{TakesLeafOut, join_plan}
-use Rattle.ordered_map.specs.TreeWords.{toward}
 use Rattle.judge.specs.Histories.{seen_history}
 use Rattle.audit.specs.Edits.{edit_begun, word_now}
 use Rattle.audit.proofs.ListEdits.{key_of_edit}

@@ -1,6 +1,5 @@
 use Rattle.std.proofs.Common.{◌≡◌, drop}
-use Rattle.ordered_map.specs.OrderedMap.{get}
-use Rattle.record.specs.MapRecord.{number_pairs}
+use Rattle.record.specs.Common.{get, number_pairs}
 use Rattle.audit.proofs.leaves.said.Given as goal
 
 -- what the pairs that are left say

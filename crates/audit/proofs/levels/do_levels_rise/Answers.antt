@@ -1,6 +1,5 @@
 use Rattle.std.proofs.Common.{◌≡◌, sym}
-use Rattle.arena.specs.declared.word.NodeWord.TheVariants.{Settled, Child, Info, Marked}
-use Rattle.arena.specs.declared.word.SettledPart.TheVariants.{Head}
+use Rattle.histories.specs.Common.{Settled, Child, Info, Marked, Head}
 use Rattle.judge.specs.Histories.{seen_history}
 use Rattle.audit.proofs.RisingLevels.{rising_quiet, rising_field, of_part, of_settled, of_scx}
 use Rattle.audit.proofs.levels.do_levels_rise.Goals as goal

@@ -1,7 +1,5 @@
 use Rattle.std.proofs.Common.{ℕ, Some, sym, ◌∙◌, ap}
-use Rattle.ordered_map.specs.OrderedMap.{reply}
-use Rattle.ordered_map.specs.Requests.{map_request}
-use Rattle.record.specs.MapRecord.{map_at}
+use Rattle.record.specs.Common.{reply, map_request, map_at}
 use Rattle.audit.proofs.map.had_before.Goals as goal
 
 pub returns-in-Some : goal.returns-in-Some

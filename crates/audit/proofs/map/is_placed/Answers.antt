@@ -1,6 +1,5 @@
 use Rattle.std.proofs.Common.{◌≡◌, Some, ◌∙◌, ap, rules}
-use Rattle.script.specs.declared.command.Command.TheVariants.{Map as MapCommand}
-use Rattle.record.specs.MapRecord.{reply_told}
+use Rattle.record.specs.Common.{Map as MapCommand, reply_told}
 use Rattle.linearization.specs.Places.{changes}
 use Rattle.audit.proofs.EachCall.{change_answered, read_answered}
 use Rattle.audit.proofs.MapAnswers.{changes_fall, some_turns}

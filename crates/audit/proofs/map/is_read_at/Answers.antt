@@ -1,8 +1,5 @@
 use Rattle.std.proofs.Common.{◌≡◌, Some, refl, sym, subst, rules}
-use Rattle.ordered_map.specs.OrderedMap.{reply}
-use Rattle.ordered_map.specs.Requests.{map_request}
-use Rattle.record.specs.MapRecord.{map_at, reply_told}
-use Rattle.record.specs.Placed.{IsGreatestTurn}
+use Rattle.record.specs.Common.{reply, map_request, map_at, reply_told, IsGreatestTurn}
 use Rattle.audit.proofs.map.is_read_at.Goals as goal
 
 pub returns-then-eq : goal.returns-then-eq

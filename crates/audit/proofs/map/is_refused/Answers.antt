@@ -1,9 +1,6 @@
 use Rattle.std.proofs.Common.{sym, subst, ◌∙◌, ap}
-use Rattle.script.specs.declared.command.Command.TheVariants.{Map as MapCommand}
+use Rattle.record.specs.Common.{Map as MapCommand, IsRight, linked, history, start}
 use Rattle.record.specs.declared.record.Answer.TheVariants.{Map as MapAnswer}
-use Rattle.record.specs.CommandRules.{IsRight}
-use Rattle.record.specs.Linked.{linked}
-use Rattle.record.specs.Turns.{history, start}
 use Rattle.linearization.specs.Places.{changes}
 use Rattle.audit.proofs.Refusals.{right_contended, right_no_memory}
 use Rattle.audit.proofs.map.is_refused.Goals as goal

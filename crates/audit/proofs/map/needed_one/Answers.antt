@@ -1,6 +1,5 @@
 use Rattle.std.proofs.Common.{Some, sym, ◌∙◌}
-use Rattle.ordered_map.specs.Requests.{map_request}
-use Rattle.record.specs.MapRecord.{map_at}
+use Rattle.record.specs.Common.{map_request, map_at}
 use Rattle.audit.proofs.EachCall.{need_at}
 use Rattle.audit.proofs.map.needed_one.Goals as goal
 

@@ -1,7 +1,5 @@
 use Rattle.std.proofs.Common.{refl, sym, ◌∙◌}
-use Rattle.ordered_map.specs.Requests.{map_request}
-use Rattle.script.specs.declared.command.Command.TheVariants.{Map as MapCommand}
-use Rattle.record.specs.MapRecord.{map_at}
+use Rattle.record.specs.Common.{map_request, Map as MapCommand, map_at}
 use Rattle.linearization.specs.Places.{changes}
 use Rattle.linearization.proofs.Lemmas.{map_rises, reply_tells}
 use Rattle.audit.proofs.map.tells_at.Goals as goal

@@ -1,17 +1,8 @@
 -- What a pass has prepared for its SCX-record stays: rows of others keep it, and rows that change
 -- nothing.
 use Rattle.std.proofs.Common.{◌≡◌, ◌≢◌, ℕ, ◌<◌, ◌⊎◌, inl, inr, refl, sym, ◌∙◌, ap, subst}
-use Rattle.arena.specs.declared.layout.Layout.{Layout}
-use Rattle.arena.specs.declared.step.Row.{Row}
-use Rattle.arena.specs.declared.word.Word.{Word}
-use Rattle.arena.specs.Words.{scx, info, child}
-use Rattle.arena.specs.History.{History, Start, ◌⊳◌, value}
-use Rattle.arena.specs.ScxRecords.{plan, member, seen, new, old, field}
-use Rattle.arena.specs.Fills.{IsNamedScx}
-use Rattle.arena.specs.Lawful.{Lawful}
+use Rattle.histories.specs.Common.{Layout, Row, Word, scx, info, child, History, Start, ◌⊳◌, value, plan, member, seen, new, old, field, IsNamedScx, Lawful, Begins, Descriptor, descriptor, field_in}
 use Rattle.arena.proofs.Lemmas.{named_before, named_scx_before, value_quiet, held_back}
-use Rattle.histories.specs.Begins.{Begins}
-use Rattle.histories.specs.Descriptor.{Descriptor, descriptor, field_in}
 use Rattle.histories.proofs.Lemmas.{begins_kept, descriptor_same, lawful_row, named_more, own_words_stay}
 use Rattle.help.specs.Allowed.{IsQuiet, MayComeBetween, IsLater, IsAllowed, IsPrepared}
 

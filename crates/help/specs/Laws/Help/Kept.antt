@@ -1,20 +1,8 @@
 -- What a run of HELP knows stays: rows of others keep it, and rows that change nothing.
 use Rattle.std.proofs.Common.{◌≡◌, ◌≢◌, ℕ, suc, ◌<◌, ◌⊎◌, inl, inr, ⊎_elim, refl, sym, ◌∙◌, subst}
-use Rattle.arena.specs.declared.layout.Layout.{Layout}
-use Rattle.arena.specs.declared.step.Row.{Row}
-use Rattle.arena.specs.declared.step.Step.{Step}
-use Rattle.arena.specs.declared.step.Kind.TheVariants.{Freeze}
-use Rattle.arena.specs.MemberIndex.{member_index}
-use Rattle.arena.specs.Words.{info}
-use Rattle.arena.specs.History.{History, ◌⊳◌, HasHeld}
-use Rattle.arena.specs.Found.{IsLastStep}
-use Rattle.arena.specs.ScxRecords.{member, seen, count}
-use Rattle.arena.specs.Fills.{IsNamedScx}
-use Rattle.arena.specs.Lawful.{Lawful, AreFrozen}
-use Rattle.arena.specs.Machines.{IsRun, Call}
+use Rattle.histories.specs.Common.{Layout, Row, Step, Freeze, member_index, info, History, ◌⊳◌, HasHeld, IsLastStep, member}
+use Rattle.histories.specs.Common.{seen, count, IsNamedScx, Lawful, AreFrozen, IsRun, Call, descriptor, IsStarted, IsStuck}
 use Rattle.arena.proofs.Lemmas.{last_more, held_more}
-use Rattle.histories.specs.Descriptor.{descriptor}
-use Rattle.histories.specs.Progress.{IsStarted, IsStuck}
 use Rattle.histories.proofs.Lemmas.{all_frozen_stays, descriptor_same, descriptor_stays, finished_stays, lawful_row, marked_stays, named_more, over_stays, own_words_stay, passed_stays, started_more, stays_free, stuck_stays, won_more}
 use Rattle.help.specs.Laws.Help.Allowing.{IsOutside, same_plan, same_member, same_seen, same_new, same_old, same_field, free_words, prepared_more, quiet_words, quiet_named_scx}
 use Rattle.help.specs.Help.Known.{IsServed, HasReadMembers, node_at, Freezes, HasLostFirstFreeze, IsBlocked, Blocked, Aborts, Frozen, Marks, Reading, reading, HelpKnows, help_step, HelpWaits}

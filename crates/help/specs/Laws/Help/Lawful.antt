@@ -1,26 +1,11 @@
 -- The step that a run of HELP waits for is lawful, and begins only what the shape allows.
 use Rattle.std.proofs.Common.{◌≡◌, ◌≢◌, ℕ, suc, ◌<◌, ◌⊎◌, inl, inr, refl, sym, ◌∙◌, ap, arith}
 use native.Mathlib.Decide.{ℕ_discrete}
-use Rattle.arena.specs.declared.layout.Layout.{Layout}
-use Rattle.arena.specs.declared.number.MemberIndex.{MemberIndex}
+use Rattle.histories.specs.Common.{Layout, MemberIndex, Row, Step, Exchange, Kind, Fill, LoadInfo, LoadSettled, LoadAllFrozen, Freeze, SetFrozen, Mark, Update, Commit}
+use Rattle.histories.specs.Common.{Abort, AllFrozen, member_index, all_scx, all_nodes, scx, info, History, ◌⊳◌, value, member, seen, new, old, count, field_index, Lawful}
+use Rattle.histories.specs.Common.{IsLawful, IsExchange, IsFreeze, IsUpdate, IsAbort, AreFrozen, IsRun, Call, row_of, IsBegin, Shaped, descriptor, IsStarted, IsStuck}
 use Rattle.arena.specs.declared.number.MemberIndex.TheVariants.{First, Second, Third, Fourth}
-use Rattle.arena.specs.declared.step.Row.{Row}
-use Rattle.arena.specs.declared.step.Step.{Step}
-use Rattle.arena.specs.declared.step.Access.TheVariants.{Exchange}
-use Rattle.arena.specs.declared.step.Kind.{Kind}
-use Rattle.arena.specs.declared.step.Kind.TheVariants.{Fill, LoadInfo, LoadSettled, LoadAllFrozen, Freeze, SetFrozen, Mark, Update, Commit, Abort}
-use Rattle.arena.specs.declared.word.ScxWord.TheVariants.{AllFrozen}
-use Rattle.arena.specs.MemberIndex.{member_index}
-use Rattle.arena.specs.Layout.{all_scx, all_nodes}
-use Rattle.arena.specs.Words.{scx, info}
-use Rattle.arena.specs.History.{History, ◌⊳◌, value}
-use Rattle.arena.specs.ScxRecords.{member, seen, new, old, count, field_index}
-use Rattle.arena.specs.Lawful.{Lawful, IsLawful, IsExchange, IsFreeze, IsUpdate, IsAbort, AreFrozen}
-use Rattle.arena.specs.Machines.{IsRun, Call, row_of}
-use Rattle.arena.specs.Shape.{IsBegin, Shaped}
 use Rattle.arena.proofs.Lemmas.{exchange_won, exchange_lost}
-use Rattle.histories.specs.Descriptor.{descriptor}
-use Rattle.histories.specs.Progress.{IsStarted, IsStuck}
 use Rattle.histories.proofs.Lemmas.{IsFirst, about, facts, helper_freezes, helper_sets_frozen, lawful_more, named_scx_inside, over_aborts, own_scx_inside, owner_aborts, owner_freezes, shaped_more}
 use Rattle.help.specs.Allowed.{IsPrepared}
 use Rattle.help.specs.Laws.Help.Allowing.{later_self}

@@ -1,21 +1,9 @@
 -- Once the step is made, a run of HELP may continue with what that found.
 use Rattle.std.proofs.Common.{◌≡◌, ◌≢◌, ℕ, suc, ◌<◌, ◌⊎◌, inl, inr, refl, sym, ◌∙◌, ap, arith, Some}
 use native.Mathlib.Decide.{ℕ_discrete}
-use Rattle.arena.specs.declared.layout.Layout.{Layout}
-use Rattle.arena.specs.declared.number.MemberIndex.{MemberIndex}
-use Rattle.arena.specs.declared.step.Row.{Row}
-use Rattle.arena.specs.declared.step.Step.{Step}
-use Rattle.arena.specs.declared.step.Kind.TheVariants.{Freeze}
-use Rattle.arena.specs.declared.word.ScxWord.TheVariants.{State, AllFrozen}
-use Rattle.arena.specs.MemberIndex.{member_index}
-use Rattle.arena.specs.Words.{scx, info, marked, state}
-use Rattle.arena.specs.History.{History, ◌⊳◌, value, HasHeld}
-use Rattle.arena.specs.ScxRecords.{member, seen, count}
-use Rattle.arena.specs.Lawful.{Lawful, IsExchange, AreFrozen}
-use Rattle.arena.specs.Machines.{IsRun, Call, row_of, IsTold}
+use Rattle.histories.specs.Common.{Layout, MemberIndex, Row, Step, Freeze, State, AllFrozen, member_index, scx, info, marked, state, History, ◌⊳◌, value}
+use Rattle.histories.specs.Common.{HasHeld, member, seen, count, Lawful, IsExchange, AreFrozen, IsRun, Call, row_of, IsTold, descriptor, IsOver, IsStarted}
 use Rattle.arena.proofs.Lemmas.{last_now, last_more, value_at, value_apart, held_at, held_more, scx_word_apart}
-use Rattle.histories.specs.Descriptor.{descriptor}
-use Rattle.histories.specs.Progress.{IsOver, IsStarted}
 use Rattle.histories.proofs.Lemmas.{descriptor_same, is_over, lawful_tail, not_state, started_more, won_after}
 use Rattle.help.specs.Allowed.{IsPrepared, IsQuiet}
 use Rattle.help.specs.Laws.Help.Allowing.{IsOutside, same_plan, same_member, same_seen}

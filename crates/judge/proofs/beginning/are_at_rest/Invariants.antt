@@ -1,7 +1,5 @@
 use Rattle.std.proofs.Common.{◌≢◌, ℕ, ◌<◌}
-use Rattle.arena.specs.History.{value}
-use Rattle.arena.specs.ScxRecords.{seen}
-use Rattle.arena.specs.Words.{state}
+use Rattle.histories.specs.Common.{value, seen, state}
 use Rattle.judge.specs.Histories.{seen_history}
 use Rattle.judge.proofs.beginning.are_at_rest.Given as goal
 

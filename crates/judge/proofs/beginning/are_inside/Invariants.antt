@@ -1,6 +1,5 @@
 use Rattle.std.proofs.Common.{ℕ, ◌<◌}
-use Rattle.arena.specs.Layout.{all_nodes}
-use Rattle.arena.specs.ScxRecords.{member}
+use Rattle.histories.specs.Common.{all_nodes, member}
 use Rattle.judge.specs.Histories.{seen_history}
 use Rattle.judge.proofs.beginning.are_inside.Given as goal
 

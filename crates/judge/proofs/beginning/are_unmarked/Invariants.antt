@@ -1,7 +1,5 @@
 use Rattle.std.proofs.Common.{◌≡◌, ℕ, ◌<◌}
-use Rattle.arena.specs.History.{value}
-use Rattle.arena.specs.ScxRecords.{member, seen}
-use Rattle.arena.specs.Words.{info, marked}
+use Rattle.histories.specs.Common.{value, member, seen, info, marked}
 use Rattle.judge.specs.Histories.{seen_history}
 use Rattle.judge.proofs.beginning.are_unmarked.Given as goal
 

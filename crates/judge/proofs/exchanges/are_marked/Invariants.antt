@@ -1,7 +1,5 @@
 use Rattle.std.proofs.Common.{◌≡◌, ℕ, ◌<◌, true}
-use Rattle.arena.specs.History.{value}
-use Rattle.arena.specs.ScxRecords.{member, scx_finalizes}
-use Rattle.arena.specs.Words.{marked}
+use Rattle.histories.specs.Common.{value, member, scx_finalizes, marked}
 use Rattle.judge.specs.Histories.{seen_history}
 use Rattle.judge.proofs.exchanges.are_marked.Given as goal
 

@@ -1,7 +1,5 @@
 use Rattle.std.proofs.Common.{◌≡◌, ℕ, sym, ◌∙◌, subst}
-use Rattle.arena.specs.History.{value}
-use Rattle.arena.specs.Lawful.{IsMark}
-use Rattle.arena.specs.Words.{info}
+use Rattle.histories.specs.Common.{value, IsMark, info}
 use Rattle.judge.specs.Histories.{seen_history}
 use Rattle.judge.proofs.Found.{mark_found}
 use Rattle.judge.proofs.exchanges.is_some_mark.Goals as goal

@@ -1,7 +1,5 @@
 use Rattle.std.proofs.Common.{◌≡◌, ◌≢◌, ℕ, true, sym, ◌∙◌, subst, eqb-true}
-use Rattle.arena.specs.History.{value}
-use Rattle.arena.specs.Lawful.{IsUpdate}
-use Rattle.arena.specs.Words.{info}
+use Rattle.histories.specs.Common.{value, IsUpdate, info}
 use Rattle.judge.specs.Histories.{seen_history}
 use Rattle.judge.proofs.Found.{never_both, update_found}
 use Rattle.judge.proofs.exchanges.is_some_update.Goals.{then-is_update, else-is_update}

@@ -1,6 +1,5 @@
 use Rattle.std.proofs.Common.{◌≡◌, ◌∷◌, ap, rules}
-use Rattle.ordered_map.specs.Replies.{word_pair}
-use Rattle.record.specs.MapRecord.{number_pairs}
+use Rattle.record.specs.Common.{word_pair, number_pairs}
 use Rattle.linearization.proofs.ordered.behind.Goals as goal
 
 pub returns-then-first-value-clause-some : goal.returns-then-first-value-clause-some

@@ -1,5 +1,4 @@
-use Rattle.std.proofs.Common.{◌≡◌, ◌-◌, [], ◌++◌, ◌∙◌, ap, subst}
-use Rattle.std.specs.Prelude.{take}
+use Rattle.std.proofs.Common.{◌≡◌, ◌-◌, [], ◌++◌, ◌∙◌, ap, subst, take}
 use Rattle.ordered_map.proofs.Reading.{IsReading, reading_starts, reading_leaf, reading_fork, reading_fails, reading_ends, leaf_smaller, fork_smaller}
 use Rattle.ordered_map.proofs.reader.leaves.Goals as goal
 

@@ -1,5 +1,4 @@
-use Rattle.std.proofs.Common.{map, subst, ◌∙◌}
-use Rattle.std.proofs.lemmas.List.{take_all}
+use Rattle.std.proofs.Common.{map, subst, ◌∙◌, take_all}
 use Rattle.arena.specs.declared.number.PassNo.{PassNo}
 use Rattle.record.specs.LawfulRun.{IsLawfulRun}
 use Rattle.player.specs.Player.{ScriptView}

@@ -1,19 +1,7 @@
 -- Once the step is made, a run of SCX may continue with what that found.
 use Rattle.std.proofs.Common.{◌≡◌, ◌≢◌, ℕ, Bool, true, false, Some, ◌⊎◌, inl, inr, refl, sym, ◌∙◌, ap, length}
-use Rattle.arena.specs.declared.layout.Layout.{Layout}
-use Rattle.arena.specs.declared.step.Row.{Row}
-use Rattle.arena.specs.declared.step.Step.{Step}
-use Rattle.arena.specs.declared.word.Side.{Side}
-use Rattle.arena.specs.declared.word.Word.{Word}
-use Rattle.arena.specs.declared.word.Word.TheVariants.{Node, Scx}
-use Rattle.arena.specs.declared.word.ScxWord.{ScxWord}
-use Rattle.arena.specs.declared.word.ScxWord.TheVariants.{State, Plan, New, Member}
-use Rattle.arena.specs.MemberIndex.{member_index}
-use Rattle.arena.specs.Words.{same_word, node, scx, info, state, child, first_value}
-use Rattle.arena.specs.History.{History, ◌⊳◌, value}
-use Rattle.arena.specs.Fills.{IsNamed, IsNamedScx}
-use Rattle.arena.specs.Lawful.{Lawful}
-use Rattle.arena.specs.Machines.{IsRun, Call, row_of, IsTold}
+use Rattle.histories.specs.Common.{Layout, Row, Step, Side, Word, Node, Scx, ScxWord, State, Plan, New, Member, member_index, same_word, node, scx}
+use Rattle.histories.specs.Common.{info, state, child, first_value, History, ◌⊳◌, value, IsNamed, IsNamedScx, Lawful, IsRun, Call, row_of, IsTold}
 use Rattle.arena.proofs.Lemmas.{named_before, named_scx_before, word_same, value_at, value_other, value_apart, held_back, scx_apart, scx_word_apart}
 use Rattle.histories.proofs.Lemmas.{never_state}
 use Rattle.help.specs.Laws.Help.Allowing.{allowed_more}

@@ -1,5 +1,4 @@
-use Rattle.std.proofs.Common.{◌≡◌, ◌∙◌, List, [], ◌∷◌, ◌++◌, sym, subst}
-use Rattle.std.specs.Prelude.{IfOk}
+use Rattle.std.proofs.Common.{◌≡◌, ◌∙◌, List, [], ◌∷◌, ◌++◌, sym, subst, IfOk}
 use Rattle.script.specs.declared.call.Call.{Call}
 use Rattle.forest.specs.Passes.{Ground, PassView}
 use Rattle.runner.specs.Calls.{HasWorked, HaveWorked}

@@ -1,5 +1,4 @@
-use Rattle.std.proofs.Common.{◌≡◌, List, ◌++◌, map}
-use Rattle.std.specs.Prelude.{IfOk}
+use Rattle.std.proofs.Common.{◌≡◌, List, ◌++◌, map, IfOk}
 use Rattle.std.specs.List.{All}
 use Rattle.script.specs.declared.call.Call.{Call}
 use Rattle.forest.specs.Passes.{Ground, PassView}

@@ -1,5 +1,4 @@
-use Rattle.std.proofs.Common.{◌≡◌, ◌+◌, ◌≤◌, ◌++◌, map, length}
-use Rattle.std.specs.Prelude.{vec_capacity}
+use Rattle.std.proofs.Common.{◌≡◌, ◌+◌, ◌≤◌, ◌++◌, map, length, vec_capacity}
 use Rattle.std.specs.List.{All}
 use Rattle.forest.specs.Passes.{IsOf}
 use Rattle.runner.proofs.thread.start_all.Given as goal

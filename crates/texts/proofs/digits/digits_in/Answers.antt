@@ -1,6 +1,5 @@
-use Rattle.std.proofs.Common.{◌≤◌, arith, length}
+use Rattle.std.proofs.Common.{◌≤◌, arith, length, decimal}
 use Rattle.std.proofs.lemmas.Fmt.{length-decimal-le}
-use Rattle.std.specs.Prelude.{decimal}
 use Rattle.texts.proofs.DigitCounts.{four_more}
 use Rattle.texts.proofs.digits.digits_in.Goals as goal
 

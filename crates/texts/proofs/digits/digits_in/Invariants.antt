@@ -1,5 +1,4 @@
-use Rattle.std.proofs.Common.{◌≡◌, ◌+◌, length}
-use Rattle.std.specs.Prelude.{decimal}
+use Rattle.std.proofs.Common.{◌≡◌, ◌+◌, length, decimal}
 use Rattle.texts.proofs.digits.digits_in.Given as goal
 
 abbrev pub invariant-loop-left : goal.invariant-loop-left

@@ -1,20 +1,10 @@
 -- What a snapshot of a fork shows that a call has passed.
 use Rattle.std.proofs.Common.{◌≡◌, ◌≢◌, ℕ, ◌<◌, sym, ◌∙◌, subst, arith}
-use Rattle.arena.specs.declared.word.Side.{Side}
-use Rattle.arena.specs.declared.word.Side.TheVariants.{Left, Right}
-use Rattle.arena.specs.History.{History, value}
-use Rattle.arena.specs.Machines.{Call}
-use Rattle.arena.specs.Words.{child}
+use Rattle.histories.specs.Common.{Side, Left, Right, History, value, Call, child}
 use Rattle.arena.proofs.Lemmas.{ends_self}
-use Rattle.prims.specs.Snap.{child_of}
-use Rattle.prims.specs.declared.snap.Snap.{Snap}
-use Rattle.ordered_map.specs.Paths.{WasInTree}
-use Rattle.ordered_map.specs.Runs.{IsTreeRun}
-use Rattle.ordered_map.specs.TreeWords.{level}
+use Rattle.template.specs.Common.{child_of, Snap, WasInTree, IsTreeRun, level, HasTurned, Goal}
 use Rattle.ordered_map.proofs.Lemmas.{child_stood, children_apart, levels_rise, run_since, settled_level, stood_settled, was_passed}
-use Rattle.template.specs.Trails.{HasTurned}
 use Rattle.template.specs.declared.walk.Found.{Found}
-use Rattle.ordered_map.specs.declared.rule.Goal.{Goal}
 use Rattle.edits.specs.Known.{HasSnappedAfterWalk}
 
 module _ {goal : Goal} (c : Call) (h : History) (k : ℕ) (f : Found) (s : Snap) (turn : Side) (next : ℕ) (run : IsTreeRun c.layout h) (u : HasSnappedAfterWalk c h goal f s) (turned : HasTurned c u.moment k s.node.0 turn next) where

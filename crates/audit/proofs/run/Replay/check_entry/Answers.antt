@@ -1,12 +1,7 @@
 use Rattle.std.proofs.Common.{◌≡◌, Some, sym, ◌∙◌, ap, subst, refl, arith}
 use Rattle.std.proofs.lemmas.Option.{slice_get_within}
-use Rattle.arena.specs.declared.limits.Mode.TheVariants.{Tree}
-use Rattle.arena.specs.declared.layout.Layout.{Layout}
-use Rattle.script.specs.Commands.{mode_of}
-use Rattle.script.specs.declared.command.Command.{Command}
-use Rattle.arena.specs.History.{History}
-use Rattle.arena.specs.Lawful.{IsLawful}
-use Rattle.ordered_map.specs.Runs.{IsTreeRun}
+use Rattle.histories.specs.Common.{Tree, Layout, History, IsLawful}
+use Rattle.record.specs.Common.{mode_of, Command, IsTreeRun}
 use Rattle.judge.specs.Histories.{seen_history}
 use Rattle.audit.specs.After.{layout_of, lines_of}
 use Rattle.audit.proofs.MapLines.{map_entry, next_of_mode}

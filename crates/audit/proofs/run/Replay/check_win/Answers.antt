@@ -1,10 +1,5 @@
 use Rattle.std.proofs.Common.{◌≡◌, ℕ, ◌∷◌, Some, None, eqb-true, ◌∙◌, rules}
-use Rattle.arena.specs.declared.word.Side.{Side}
-use Rattle.arena.specs.declared.number.ScxNo.{ScxNo}
-use Rattle.arena.specs.History.{◌⊳◌, value}
-use Rattle.arena.specs.Lawful.{IsWin}
-use Rattle.arena.specs.Log.{log, entry}
-use Rattle.arena.specs.Words.{child, info}
+use Rattle.histories.specs.Common.{Side, ScxNo, ◌⊳◌, value, IsWin, log, entry, child, info}
 use Rattle.judge.specs.Histories.{seen_history}
 use Rattle.audit.proofs.Fitting.{win_fits, if_there}
 use Rattle.audit.proofs.run.Replay.check_win.Goals as goal

@@ -1,5 +1,4 @@
-use Rattle.std.proofs.Common.{◌≡◌, ◌+◌, ◌<◌, ◌∷◌, length, reverse, take, vec_len, refl, sym, subst, arith}
-use Rattle.std.specs.Prelude.{slice_index_or}
+use Rattle.std.proofs.Common.{◌≡◌, ◌+◌, ◌<◌, ◌∷◌, length, reverse, take, vec_len, refl, sym, subst, arith, slice_index_or}
 use Rattle.std.proofs.lemmas.Option.{slice_get_read}
 use Rattle.record.specs.declared.record.Line.{Line}
 use Rattle.audit.specs.declared.run.Replay.{Replay}

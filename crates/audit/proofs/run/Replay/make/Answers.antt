@@ -1,7 +1,5 @@
-use Rattle.std.proofs.Common.{refl, ◌∙◌, ap}
-use Rattle.std.proofs.lemmas.List.{length-set}
-use Rattle.arena.specs.History.{◌⊳◌}
-use Rattle.arena.specs.declared.number.PassNo.{PassNo}
+use Rattle.std.proofs.Common.{refl, ◌∙◌, ap, length-set}
+use Rattle.histories.specs.Common.{◌⊳◌, PassNo}
 use Rattle.judge.specs.Histories.{seen_history}
 use Rattle.audit.specs.declared.steps.Steps.{Steps}
 use Rattle.audit.proofs.RunMemories.{begun_of}

@@ -1,6 +1,5 @@
 use Rattle.std.proofs.Common.{ℕ, List, slice_get, ◌∙◌, ap}
-use Rattle.script.specs.declared.call.Call.{Call}
-use Rattle.record.specs.Commands.{commands}
+use Rattle.record.specs.Common.{Call, commands}
 use Rattle.audit.specs.Calls.{command_at}
 use Rattle.audit.specs.After.{calls_of}
 use Rattle.audit.proofs.NextCalls.{command_next}

@@ -2,8 +2,7 @@ use Rattle.std.proofs.Common.{◌≡◌, suc, Bool, true, false, not, sym, ◌�
 use Rattle.std.proofs.lemmas.Grind.{common_steps}
 use denote.Enum.Bare.{same_true}
 use Rattle.arena.specs.contracts.step.Kind.{the_type}
-use Rattle.arena.specs.declared.step.Kind.TheVariants.{Update}
-use Rattle.arena.specs.declared.word.NodeWord.TheVariants.{Child}
+use Rattle.histories.specs.Common.{Update, Child}
 use Rattle.audit.proofs.Fitting.{entry_made}
 use Rattle.audit.proofs.run.Replay.owed_by.Goals as goal
 

@@ -1,6 +1,5 @@
 use Rattle.std.proofs.Common.{subst}
-use Rattle.arena.specs.declared.layout.Layout.{Layout}
-use Rattle.arena.specs.Fills.{IsOthersScx}
+use Rattle.histories.specs.Common.{Layout, IsOthersScx}
 use Rattle.record.specs.Turns.{history, start}
 use Rattle.audit.proofs.CellEntries.{own_memory}
 use Rattle.audit.proofs.CountedTries.{all_lost}

@@ -1,7 +1,6 @@
 use Rattle.std.proofs.Common.{ℕ, ◌+◌, ◌-◌, ◌*◌, ◌<◌, ◌≤◌, subst, leb-true, arith}
 use Rattle.std.proofs.Math.Nat.{min-le_left}
-use Rattle.arena.specs.History.{History}
-use Rattle.arena.specs.declared.layout.Layout.{Layout}
+use Rattle.histories.specs.Common.{History, Layout}
 use Rattle.record.specs.Shares.{HasNodesLeft, HasScxLeft}
 use Rattle.audit.proofs.CellEntries.{own_memory, to_lines}
 use Rattle.audit.proofs.LeftShares.{taken_few}

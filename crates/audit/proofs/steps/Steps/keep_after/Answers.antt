@@ -2,9 +2,7 @@ use Rattle.std.proofs.Common.{◌≡◌, ℕ, set, Option, Some, IfSome, slice_g
 use Rattle.arena.specs.declared.number.PassNo.{PassNo}
 use Rattle.record.specs.declared.record.Answer.{Answer}
 use Rattle.record.specs.CommandRules.{linked_then}
-use Rattle.record.specs.Commands.{next_command}
-use Rattle.record.specs.Linked.{linked}
-use Rattle.record.specs.Turns.{history}
+use Rattle.record.specs.Common.{next_command, linked, history}
 use Rattle.audit.specs.declared.memory.Memory.{Memory}
 use Rattle.audit.specs.Remembered.{AreSnapshotsOf}
 use Rattle.audit.proofs.Remembering.{next_is, reply_to_none, reply_to_some}

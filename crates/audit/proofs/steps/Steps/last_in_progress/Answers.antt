@@ -1,7 +1,6 @@
 use Rattle.std.proofs.Common.{◌≡◌, ℕ, List, length, slice_get, Some, refl, sym, subst}
 use Rattle.std.proofs.lemmas.Option.{slice_get_read}
-use Rattle.arena.specs.Blame.{IsInProgress}
-use Rattle.arena.specs.History.{History}
+use Rattle.histories.specs.Common.{IsInProgress, History}
 use Rattle.arena.proofs.Lemmas.{ends_self}
 use Rattle.audit.proofs.steps.Steps.last_in_progress.Goals as goal
 

@@ -1,11 +1,5 @@
 use Rattle.std.proofs.Common.{◌≡◌, ℕ, suc, ◌+◌, List, length, ⊎_elim, inl, inr, slice_get, Option, IfSome, IfNone, sym, ◌∙◌, ap, subst, add-one, ltb-true, arith}
-use Rattle.arena.specs.declared.layout.Layout.{Layout}
-use Rattle.arena.specs.declared.number.ScxNo.{ScxNo}
-use Rattle.arena.specs.declared.step.Row.{Row}
-use Rattle.arena.specs.Blame.{IsInProgress}
-use Rattle.arena.specs.History.{History, ◌⊳◌}
-use Rattle.arena.specs.Lawful.{IsLawful}
-use Rattle.arena.specs.Log.{log}
+use Rattle.histories.specs.Common.{Layout, ScxNo, Row, IsInProgress, History, ◌⊳◌, IsLawful, log}
 use Rattle.record.specs.Turns.{history}
 use Rattle.judge.specs.Histories.{Judged, seen_history}
 use Rattle.audit.specs.declared.memory.Memory.{Memory}

@@ -1,8 +1,6 @@
 use Rattle.std.proofs.Common.{◌≡◌, ◌<◌, ℕ, Option, IfSome, refl, sym, ◌∙◌, subst}
-use Rattle.arena.specs.declared.layout.Layout.{Layout}
-use Rattle.arena.specs.History.{History}
-use Rattle.record.specs.Linked.{linked}
-use Rattle.record.specs.Turns.{history}
+use Rattle.histories.specs.Common.{Layout, History}
+use Rattle.record.specs.Common.{linked, history}
 use Rattle.judge.specs.Histories.{seen_history}
 use Rattle.audit.specs.declared.memory.Memory.{Memory}
 use Rattle.audit.specs.Remembered.{AreSnapshotsOf}

@@ -1,8 +1,5 @@
 use Rattle.std.proofs.Common.{◌≡◌, ℕ, List, Some, sym, ◌∙◌, ap, subst}
-use Rattle.script.specs.declared.cells.CellList.{CellList}
-use Rattle.script.specs.declared.command.Command.{Command}
-use Rattle.script.specs.declared.command.Command.TheVariants.{Vlx}
-use Rattle.script.specs.Cells.{cells_of}
+use Rattle.record.specs.Common.{CellList, Command, Vlx, cells_of}
 use Rattle.judge.specs.Histories.{seen_history}
 use Rattle.audit.specs.CellCalls.{AreSameAt}
 use Rattle.audit.proofs.steps.Steps.same_of.Goals as goal

@@ -1,7 +1,5 @@
 use Rattle.std.proofs.Common.{◌≡◌, Option, Some, ⊎_elim, refl, sym, ◌∙◌, ap, subst}
-use Rattle.arena.specs.declared.layout.Layout.{Layout}
-use Rattle.arena.specs.History.{History}
-use Rattle.arena.specs.Log.{log, last}
+use Rattle.histories.specs.Common.{Layout, History, log, last}
 use Rattle.arena.proofs.Lemmas.{ends_self}
 use Rattle.judge.specs.Histories.{seen_history}
 use Rattle.record.specs.declared.record.Answer.{Answer}

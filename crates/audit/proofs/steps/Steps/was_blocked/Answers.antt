@@ -1,8 +1,5 @@
 use Rattle.std.proofs.Common.{◌<◌, refl, subst, arith}
-use Rattle.arena.specs.Fills.{IsOthersScx}
-use Rattle.arena.specs.History.{History}
-use Rattle.arena.specs.declared.layout.Layout.{Layout}
-use Rattle.arena.specs.Lawful.{Lawful}
+use Rattle.histories.specs.Common.{IsOthersScx, History, Layout, Lawful}
 use Rattle.judge.specs.Histories.{seen_history}
 use Rattle.audit.proofs.RowMoments.{some_way}
 use Rattle.audit.proofs.steps.Steps.was_blocked.Goals as goal

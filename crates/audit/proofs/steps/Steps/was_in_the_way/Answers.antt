@@ -1,8 +1,5 @@
 use Rattle.std.proofs.Common.{◌<◌, ◌≤◌, ltb-true, sym, ◌∙◌, subst, arith}
-use Rattle.arena.specs.Blame.{IsMember}
-use Rattle.arena.specs.History.{History}
-use Rattle.arena.specs.declared.layout.Layout.{Layout}
-use Rattle.arena.specs.Lawful.{Lawful}
+use Rattle.histories.specs.Common.{IsMember, History, Layout, Lawful}
 use Rattle.judge.specs.Histories.{seen_history}
 use Rattle.audit.proofs.RowMoments.{way_since}
 use Rattle.audit.proofs.steps.Steps.was_in_the_way.Goals as goal

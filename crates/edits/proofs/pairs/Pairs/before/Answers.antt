@@ -1,5 +1,4 @@
-use Rattle.std.proofs.Common.{◌∙◌}
-use Rattle.std.specs.Prelude.{min}
+use Rattle.std.proofs.Common.{◌∙◌, min}
 use Rattle.edits.proofs.PairPlaces.{before_here}
 use Rattle.edits.proofs.pairs.Pairs.before.Goals as goal
 

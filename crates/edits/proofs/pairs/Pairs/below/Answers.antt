@@ -1,5 +1,4 @@
-use Rattle.std.proofs.Common.{◌∙◌}
-use Rattle.std.specs.Prelude.{min}
+use Rattle.std.proofs.Common.{◌∙◌, min}
 use Rattle.edits.proofs.PairPlaces.{below_here}
 use Rattle.edits.proofs.pairs.Pairs.below.Goals as goal
 

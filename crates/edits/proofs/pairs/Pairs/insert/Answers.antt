@@ -1,5 +1,4 @@
-use Rattle.std.proofs.Common.{◌≡◌, ◌∷◌, ◌++◌, take, drop, true, false, sym, ◌∙◌, ap, subst}
-use Rattle.std.specs.Prelude.{slice_set}
+use Rattle.std.proofs.Common.{◌≡◌, ◌∷◌, ◌++◌, take, drop, true, false, sym, ◌∙◌, ap, subst, slice_set}
 use Rattle.ordered_map.specs.OrderedMap.{pair}
 use Rattle.edits.specs.Pairs.{has_at}
 use Rattle.edits.proofs.PairPlaces.{few_listed, put_there, set_there}

@@ -1,6 +1,5 @@
 use Rattle.edits.specs.Laws.PairPlaces.{listed}
-use Rattle.std.proofs.Common.{◌≡◌, ◌-◌, ◌∙◌, rules}
-use Rattle.std.specs.Prelude.{nat_lt, if◌then◌else◌}
+use Rattle.std.proofs.Common.{◌≡◌, ◌-◌, ◌∙◌, rules, nat_lt, if◌then◌else◌}
 use Rattle.edits.proofs.PairPlaces.{out_is}
 use Rattle.edits.proofs.pairs.Pairs.without.Goals as goal
 

@@ -1,6 +1,5 @@
-use Rattle.arena.specs.Machines.{begun_at}
+use Rattle.histories.specs.Common.{begun_at, Done}
 use Rattle.edits.proofs.GoingOn.{still_nearer}
-use Rattle.arena.specs.declared.machine.Turn.TheVariants.{Done}
 use Rattle.std.proofs.Common.{sym, ◌∙◌, ap}
 use Rattle.edits.proofs.Nearer.{below, looked_on, from_look, to_tries}
 use Rattle.edits.specs.declared.edit.Look.TheVariants.{At}

@@ -1,6 +1,5 @@
 use Rattle.std.proofs.Common.{ap, ◌∙◌}
-use Rattle.arena.specs.declared.machine.Turn.TheVariants.{Done}
-use Rattle.arena.specs.Machines.{begun_at}
+use Rattle.histories.specs.Common.{Done, begun_at}
 use Rattle.edits.proofs.Nearer.{below, to_tries, less_scx}
 use Rattle.edits.proofs.Turns.{scx_asks, scx_done, scx_lost}
 use Rattle.edits.proofs.update.UpdateRun+E+UpdateAt.scx_on.Goals as goal

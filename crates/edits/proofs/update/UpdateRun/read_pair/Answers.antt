@@ -1,9 +1,5 @@
 use Rattle.std.proofs.Common.{◌≡◌, ◌<◌, ◌∙◌, Some, None, refl, sym}
-use Rattle.arena.specs.declared.word.SettledPart.TheVariants.{High, Key}
-use Rattle.arena.specs.History.{History, value}
-use Rattle.arena.specs.Machines.{Call, begun_at}
-use Rattle.arena.specs.Words.{node}
-use Rattle.arena.specs.declared.word.NodeWord.TheVariants.{Settled}
+use Rattle.histories.specs.Common.{High, Key, History, value, Call, begun_at, node, Settled}
 use Rattle.edits.specs.Known.{CanRead, Reads}
 use Rattle.edits.specs.Next.{half_told}
 use Rattle.edits.specs.Readings.{next_read, reads_left}

@@ -1,11 +1,8 @@
 use Rattle.std.proofs.Common.{◌≡◌, ◌<◌, ◌+◌, ◌-◌, refl, arith}
-use Rattle.arena.specs.declared.machine.Turn.TheVariants.{Ask}
+use Rattle.histories.specs.Common.{Ask, begun_at}
 use Rattle.prims.proofs.Lemmas.{turn_start}
-use Rattle.prims.specs.declared.scx.ScxRun.{ScxRun}
-use Rattle.prims.specs.declared.scx.ScxAt.{ScxAt}
+use Rattle.template.specs.Common.{ScxRun, ScxAt, TreeAllows}
 use Rattle.prims.specs.declared.scx.ScxAt.TheVariants.{Start, Plan}
-use Rattle.ordered_map.specs.TreeShape.{TreeAllows}
-use Rattle.arena.specs.Machines.{begun_at}
 use Rattle.edits.specs.Next.{next_step, update_of}
 use Rattle.edits.specs.declared.update.Next.TheVariants.{Change}
 use Rattle.edits.proofs.Beginning.{scx_begins}

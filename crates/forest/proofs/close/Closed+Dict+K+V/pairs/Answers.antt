@@ -1,13 +1,6 @@
-use Rattle.std.proofs.Common.{◌≡◌, ℕ, List, Result, Ok, Err, sym, subst, ◌∙◌}
-use Rattle.std.specs.Prelude.{IfOk}
-use Rattle.arena.specs.declared.layout.Layout.{Layout}
-use Rattle.arena.specs.declared.limits.Mode.TheVariants.{Tree}
-use Rattle.arena.specs.History.{History, value}
-use Rattle.arena.specs.Layout.{all_nodes}
-use Rattle.arena.specs.PlainWords.{Contents, word_at}
-use Rattle.arena.specs.Words.{node}
-use Rattle.ordered_map.specs.declared.pair.Pair.{Pair}
-use Rattle.ordered_map.specs.Spelled.{Spells}
+use Rattle.std.proofs.Common.{◌≡◌, ℕ, List, Result, Ok, Err, sym, subst, ◌∙◌, IfOk}
+use Rattle.histories.specs.Common.{Layout, Tree, History, value, all_nodes, Contents, word_at, node}
+use Rattle.template.specs.Common.{Pair, Spells}
 use Rattle.ordered_map.proofs.Lemmas.{one_spelling, run_spells}
 use Rattle.dict.specs.Typed.{AreTyped, TypedAllows}
 use Rattle.dict.specs.Laws.TypedMaps.{typed_map, typed_run}

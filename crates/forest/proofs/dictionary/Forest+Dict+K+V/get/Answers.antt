@@ -1,9 +1,8 @@
 use Rattle.std.proofs.Common.{◌^◌, ◌<◌, ◌∙◌, ℕ, refl, sym, ap, subst}
 use Rattle.ordered_map.specs.declared.reply.Reply.TheVariants.{Value}
-use Rattle.ordered_map.specs.declared.rule.Goal.TheVariants.{Key}
-use Rattle.ordered_map.specs.OrderedMap.{Get}
+use Rattle.template.specs.Common.{Key, Get, walk_at}
 use Rattle.dict.specs.declared.dict.DictRun.{DictRun}
-use Rattle.template.specs.Walk.Places.{root_trail, walk_at}
+use Rattle.template.specs.Walk.Places.{root_trail}
 use Rattle.template.specs.declared.walk.WalkAt.TheVariants.{Start}
 use Rattle.template.specs.declared.walk.WalkRun.{WalkRun}
 use Rattle.forest.specs.Passes.{taken_of}

@@ -1,13 +1,11 @@
 use Rattle.std.proofs.Common.{◌≡◌, ◌≤◌, ◌∙◌, arith, ℕ, true, refl, sym, ap, subst}
-use Rattle.arena.specs.Log.{is_final}
+use Rattle.histories.specs.Common.{is_final, Records, NodeNo}
 use Rattle.forest.specs.Passes.{PassView, seen_of, taken_of}
 use Rattle.forest.specs.PassInvariant.{pass_view, IsPass}
 use Rattle.forest.proofs.Passes.{HasOnlyLoaded, layout_of, call_of}
 use Rattle.forest.proofs.LlxCalls.{Answered, heard, llx_begins, llx_called, llx_goes_on, llx_kinds, llx_nothing, llx_says, llx_finalized, llx_pass}
-use Rattle.arena.specs.declared.limits.Mode.TheVariants.{Records}
 use Rattle.prims.specs.Cells.{AllowsAll}
 use Rattle.prims.specs.declared.llx.LlxAt.TheVariants.{Start as LlxStart}
-use Rattle.arena.specs.declared.number.NodeNo.{NodeNo}
 use Rattle.forest.specs.declared.pass.Pass.TheInside.{Inside}
 use Rattle.forest.specs.StepKinds.{HasFilledNothing}
 use Rattle.forest.specs.StraightLlx.{llx_at, SeatLlxBegins, SeatLlxEnds}

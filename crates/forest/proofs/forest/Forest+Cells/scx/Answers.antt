@@ -1,13 +1,10 @@
 use Rattle.std.proofs.Common.{◌≡◌, ◌∙◌, arith, ℕ, List, refl, sym, ap, subst}
-use Rattle.prims.specs.Cells.{AllowsAll}
+use Rattle.template.specs.Common.{AllowsAll, IsUpdateOver, Update, Snap}
 use Rattle.forest.specs.Passes.{PassView, CanUse, Each, taken_of}
 use Rattle.forest.specs.PassInvariant.{pass_view}
 use Rattle.forest.specs.Puts.{IsPutOver}
 use Rattle.forest.specs.StraightPut.{fresh_put, SeatPutBegins}
 use Rattle.forest.specs.declared.straight.put.PutTask.{PutTask}
-use Rattle.prims.specs.Scx.Known.{IsUpdateOver}
-use Rattle.prims.specs.declared.update.Update.{Update}
-use Rattle.prims.specs.declared.snap.Snap.{Snap}
 use Rattle.forest.specs.declared.pass.Pass.TheInside.{Inside}
 use Rattle.forest.proofs.Passes.{layout_of, call_of, goes_nowhere}
 use Rattle.forest.proofs.VlxCalls.{apart_at, among_at}

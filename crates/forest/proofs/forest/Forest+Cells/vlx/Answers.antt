@@ -1,7 +1,6 @@
 use Rattle.std.proofs.Common.{◌∙◌, ℕ, List, sym, ap, subst, arith}
 use denote.Bor.{Bor}
-use Rattle.prims.specs.Cells.{AllowsAll}
-use Rattle.prims.specs.declared.snap.Snap.{Snap}
+use Rattle.template.specs.Common.{AllowsAll, Snap}
 use Rattle.forest.specs.Passes.{PassView, VlxSays, CanUse, Each, taken_of}
 use Rattle.forest.specs.PassInvariant.{pass_view}
 use Rattle.forest.specs.StepKinds.{HasLoadedInfosAlone}

@@ -1,8 +1,7 @@
 use Rattle.std.proofs.Common.{sym, subst}
 use Rattle.std.specs.List.{All}
-use Rattle.arena.specs.PlainWords.{Contents}
+use Rattle.histories.specs.Common.{Contents, Layout}
 use Rattle.forest.specs.Passes.{Ground, IsOf, IsClosed}
-use Rattle.arena.specs.declared.layout.Layout.{Layout}
 use Rattle.atomic_table.specs.Table.{Final, Seen}
 use Rattle.forest.specs.TableRule.{TableIsLawful}
 use Rattle.forest.proofs.Closes.{closes}

@@ -1,8 +1,7 @@
 use Rattle.std.proofs.Common.{List, [], ◌∷◌, inl, refl, sym, subst}
 use Rattle.std.specs.List.{All}
 use Rattle.std.proofs.lemmas.List.Elements.{All-nil, All-cons}
-use Rattle.arena.specs.declared.layout.Layout.{Layout}
-use Rattle.arena.specs.PlainWords.{Contents}
+use Rattle.histories.specs.Common.{Layout, Contents}
 use Rattle.atomic_table.specs.Table.{Final, Seen}
 use Rattle.forest.specs.TableRule.{TableIsLawful}
 use Rattle.forest.specs.Passes.{PassView, Ground, IsOf, IsClosed}

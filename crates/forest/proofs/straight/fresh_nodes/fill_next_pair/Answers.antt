@@ -1,6 +1,5 @@
 use Rattle.std.proofs.Common.{◌≡◌, ◌∙◌, Some, ap}
-use Rattle.arena.specs.declared.word.NodeWord.TheVariants.{Settled}
-use Rattle.arena.specs.declared.word.SettledPart.TheVariants.{Key}
+use Rattle.histories.specs.Common.{Settled, Key}
 use Rattle.forest.proofs.straight.fresh_nodes.fill_next_pair.Given.{Over}
 use Rattle.forest.proofs.straight.fresh_nodes.fill_next_pair.Goals.{In-Some-Settled-Key}
 use Rattle.forest.proofs.straight.fresh_nodes.fill_next_pair.Goals as goal

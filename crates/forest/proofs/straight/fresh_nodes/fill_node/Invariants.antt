@@ -1,6 +1,5 @@
 use Rattle.std.proofs.Common.{◌<◌, Some}
-use Rattle.arena.specs.declared.word.NodeWord.TheVariants.{Settled}
-use Rattle.arena.specs.declared.word.SettledPart.TheVariants.{Head}
+use Rattle.histories.specs.Common.{Settled, Head}
 use Rattle.forest.specs.Leads.{steps_made}
 use Rattle.forest.specs.StraightUpdate.{FillGoesOn, fills_then}
 use Rattle.forest.proofs.straight.fresh_nodes.fill_node.Given as goal

@@ -1,6 +1,5 @@
 use Rattle.std.proofs.Common.{◌≡◌, ◌<◌, ◌∙◌, arith, sym}
-use Rattle.arena.specs.declared.word.NodeWord.TheVariants.{Settled}
-use Rattle.arena.specs.declared.word.SettledPart.TheVariants.{High}
+use Rattle.histories.specs.Common.{Settled, High}
 use Rattle.edits.specs.Pieces.{word_of}
 use Rattle.edits.proofs.Lemmas.{high_behind_value, key_behind_value, value_behind_key}
 use Rattle.forest.proofs.StraightTries.{fills_further}

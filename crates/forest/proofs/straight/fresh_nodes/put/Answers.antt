@@ -2,10 +2,7 @@ use Rattle.std.proofs.Common.{Some, subst, sym, ap, arith, refl}
 use Rattle.forest.specs.CallKinds.{calls}
 use Rattle.forest.specs.Hosts.{HostedWaits}
 use Rattle.forest.specs.StraightUpdate.{Updater, UpdaterFills}
-use Rattle.arena.specs.declared.step.Step.{Step}
-use Rattle.arena.specs.declared.step.Access.TheVariants.{Store}
-use Rattle.arena.specs.declared.step.Kind.TheVariants.{Fill as FillKind}
-use Rattle.arena.specs.declared.word.Word.TheVariants.{Node as NodeOf}
+use Rattle.histories.specs.Common.{Step, Store, Fill as FillKind, Node as NodeOf}
 use Rattle.edits.specs.Pieces.{part_behind}
 use Rattle.forest.proofs.StraightUpdate.{fewer_fills_then, fill_as, fill_steps, fills_on, filling}
 use Rattle.forest.proofs.straight.fresh_nodes.put.Given.{Over}

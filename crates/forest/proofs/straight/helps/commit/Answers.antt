@@ -1,9 +1,5 @@
 use Rattle.std.proofs.Common.{arith, rules}
-use Rattle.arena.specs.ScxRecords.{field_index_of, side_of}
-use Rattle.arena.specs.Words.{child, state}
-use Rattle.arena.specs.declared.step.Access.TheVariants.{Store, Exchange}
-use Rattle.arena.specs.declared.step.Kind.TheVariants.{Update, Commit}
-use Rattle.arena.specs.declared.word.ScxWord.TheVariants.{New, Old}
+use Rattle.histories.specs.Common.{field_index_of, side_of, child, state, Store, Exchange, Update, Commit, New, Old}
 use Rattle.help.specs.Help.Known.{node_at, settled_load}
 use Rattle.help.specs.declared.state.HelpAt.TheVariants.{SetFrozen as AtSetFrozen, New as AtNew, Old as AtOld, Update as AtUpdate, Commit as AtCommit}
 use Rattle.forest.specs.StraightHelp.{Helper, HelperMarks, SetsFlag}

@@ -1,11 +1,5 @@
-use Rattle.std.proofs.Common.{◌≡◌, ℕ, ap, arith, rules, subst}
-use Rattle.std.proofs.lemmas.List.{get_or-set_same}
-use Rattle.arena.specs.declared.number.NodeNo.{NodeNo}
-use Rattle.std.specs.Prelude.{slice_set}
-use Rattle.arena.specs.MemberIndex.{member_index}
-use Rattle.arena.specs.Words.{info}
-use Rattle.arena.specs.declared.step.Access.TheVariants.{Exchange}
-use Rattle.arena.specs.declared.step.Kind.TheVariants.{Freeze}
+use Rattle.std.proofs.Common.{◌≡◌, ℕ, ap, arith, rules, subst, get_or-set_same, slice_set}
+use Rattle.histories.specs.Common.{NodeNo, member_index, info, Exchange, Freeze}
 use Rattle.help.specs.Help.Known.{node_at}
 use Rattle.help.specs.declared.state.HelpAt.TheVariants.{Member as AtMember, Seen as AtSeen, Freeze as AtFreeze}
 use Rattle.help.specs.declared.state.HelpRun.{HelpRun}

@@ -1,5 +1,4 @@
-use Rattle.std.proofs.Common.{arith, rules}
-use Rattle.std.specs.Prelude.{Ok}
+use Rattle.std.proofs.Common.{arith, rules, Ok}
 use Rattle.arena.specs.declared.word.SettledPart.TheVariants.{High, Key, Value}
 use Rattle.edits.specs.Next.{half_told, placed, told}
 use Rattle.edits.specs.declared.update.Next.TheVariants.{Read}

@@ -1,5 +1,4 @@
-use Rattle.std.proofs.Common.{arith}
-use Rattle.std.specs.Prelude.{Ok}
+use Rattle.std.proofs.Common.{arith, Ok}
 use Rattle.edits.specs.Next.{placed}
 use Rattle.edits.specs.declared.update.Next.TheVariants.{Read}
 use Rattle.forest.specs.Traces.{shared_nodes}

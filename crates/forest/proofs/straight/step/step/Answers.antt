@@ -1,6 +1,5 @@
 use Rattle.std.proofs.Common.{subst}
-use Rattle.arena.specs.declared.layout.Layout.{Layout}
-use Rattle.arena.specs.Layout.{IsWord}
+use Rattle.histories.specs.Common.{Layout, IsWord}
 use Rattle.forest.proofs.Advances.{called_so, word_of}
 use Rattle.forest.proofs.straight.step.step.Goals as goal
 

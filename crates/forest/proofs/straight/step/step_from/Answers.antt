@@ -1,7 +1,5 @@
 use Rattle.std.proofs.Common.{Some, refl, sym, ap, subst}
-use Rattle.arena.specs.declared.layout.Layout.{Layout}
-use Rattle.arena.specs.Layout.{IsWord}
-use Rattle.arena.specs.History.{History}
+use Rattle.histories.specs.Common.{Layout, IsWord, History}
 use Rattle.forest.specs.TableRule.{IsPlaceOf, past_of, row}
 use Rattle.forest.specs.Traces.{Trace, known_of, others, makes}
 use Rattle.forest.proofs.Advances.{called_so, may, word_of, told, one_step}

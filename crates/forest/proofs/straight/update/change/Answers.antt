@@ -2,8 +2,7 @@ use Rattle.std.proofs.Common.{◌∙◌, ◌≡◌, arith, refl, subst, sym, rul
 use Rattle.arena.specs.declared.number.ScxNo.{ScxNo}
 use Rattle.help.specs.declared.state.HelpAt.TheVariants.{Commit}
 use Rattle.prims.specs.declared.scx.ScxAt.TheVariants.{Help}
-use Rattle.prims.specs.declared.scx.ScxRun.{ScxRun}
-use Rattle.prims.specs.declared.update.Update.{Update}
+use Rattle.template.specs.Common.{ScxRun, Update}
 use Rattle.edits.specs.Next.{update_of}
 use Rattle.edits.specs.declared.update.Next.TheVariants.{Change}
 use Rattle.forest.specs.Inside.{InnerWaits}

@@ -1,5 +1,4 @@
-use Rattle.std.proofs.Common.{ap}
-use Rattle.std.specs.Prelude.{Ok}
+use Rattle.std.proofs.Common.{ap, Ok}
 use Rattle.forest.proofs.StraightTries.{tries_as, tries_nearer, tries_on}
 use Rattle.forest.proofs.StraightUpdate.{handed_on}
 use Rattle.forest.proofs.straight.update.look_on.Goals as goal

@@ -1,5 +1,4 @@
-use Rattle.std.proofs.Common.{◌≡◌, ◌∙◌, ap}
-use Rattle.std.specs.Prelude.{Result, Ok, Err}
+use Rattle.std.proofs.Common.{◌≡◌, ◌∙◌, ap, Result, Ok, Err}
 use Rattle.forest.specs.StraightUpdate.{TryGoesOn}
 use Rattle.edits.specs.declared.update.Next.{Next}
 use Rattle.edits.specs.declared.update.Next.TheVariants.{Change}

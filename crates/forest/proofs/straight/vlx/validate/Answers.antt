@@ -1,9 +1,6 @@
 use Rattle.std.proofs.Common.{◌≡◌, ◌+◌, ◌∙◌, ℕ, suc, sym, ap, subst, arith}
-use Rattle.arena.specs.declared.step.Kind.TheVariants.{LoadInfo}
-use Rattle.arena.specs.Words.{info}
-use Rattle.prims.specs.Llx.Known.{load}
-use Rattle.prims.specs.Snap.{snap_at}
-use Rattle.prims.specs.declared.snap.Snap.{Snap}
+use Rattle.histories.specs.Common.{LoadInfo, info}
+use Rattle.template.specs.Common.{load, snap_at, Snap}
 use Rattle.forest.specs.StraightVlx.{Validator}
 use Rattle.forest.specs.CallKinds.{calls}
 use Rattle.forest.specs.Inside.{InnerIsTold, InnerWaits}

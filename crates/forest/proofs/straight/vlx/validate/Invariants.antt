@@ -1,12 +1,10 @@
 use Rattle.std.proofs.Common.{◌≡◌, ◌+◌, ◌-◌, ◌<◌, suc, length}
-use Rattle.arena.specs.declared.step.Kind.TheVariants.{LoadInfo}
-use Rattle.arena.specs.Words.{info}
+use Rattle.histories.specs.Common.{LoadInfo, info}
 use Rattle.forest.specs.StraightVlx.{Validator}
 use Rattle.forest.specs.Traces.{seat_steps}
 use Rattle.forest.specs.CallKinds.{calls}
 use Rattle.forest.specs.Inside.{InnerWaits}
-use Rattle.prims.specs.Llx.Known.{load}
-use Rattle.prims.specs.Snap.{snap_at}
+use Rattle.template.specs.Common.{load, snap_at}
 use Rattle.forest.proofs.straight.vlx.validate.Given as goal
 
 abbrev pub invariant-loop-hand : goal.invariant-loop-hand

@@ -1,9 +1,5 @@
 use Rattle.std.proofs.Common.{◌+◌, ◌<◌, ◌∙◌, sym, arith}
-use Rattle.arena.specs.declared.step.Kind.TheVariants.{LoadSettled}
-use Rattle.arena.specs.declared.word.NodeWord.TheVariants.{Settled}
-use Rattle.arena.specs.declared.word.SettledPart.TheVariants.{Head as HeadWord}
-use Rattle.arena.specs.Heads.{head_of}
-use Rattle.arena.specs.Words.{node}
+use Rattle.histories.specs.Common.{LoadSettled, Settled, Head as HeadWord, head_of, node}
 use Rattle.forest.specs.StraightWalk.{Walker, WalkerIsTold, WalkerWaits, WalksFromRoot}
 use Rattle.forest.specs.Traces.{shared_nodes}
 use Rattle.forest.specs.CallKinds.{calls}

@@ -1,15 +1,11 @@
 use Rattle.std.proofs.Common.{◌≡◌, ◌+◌, ◌*◌, ◌≤◌, suc}
-use Rattle.arena.specs.declared.step.Kind.TheVariants.{LoadSettled}
-use Rattle.arena.specs.declared.word.NodeWord.TheVariants.{Settled}
-use Rattle.arena.specs.declared.word.SettledPart.TheVariants.{Head}
+use Rattle.histories.specs.Common.{LoadSettled, Settled, Head, node}
 use Rattle.arena.specs.Layout.{node_start}
-use Rattle.arena.specs.Words.{node}
 use Rattle.forest.specs.StraightWalk.{Walker, WalkerWaits, WalksFromRoot}
 use Rattle.forest.specs.Traces.{seat_steps, shared_nodes}
 use Rattle.forest.specs.CallKinds.{calls}
-use Rattle.prims.specs.Llx.Known.{load}
-use Rattle.template.specs.Walk.Places.{walk_at, LoadsHead}
-use Rattle.template.specs.Walk.Steps.{walk_left}
+use Rattle.template.specs.Common.{load, walk_at, walk_left}
+use Rattle.template.specs.Walk.Places.{LoadsHead}
 use Rattle.forest.proofs.straight.walk.call.Given as goal
 
 abbrev pub invariant-loop-side : goal.invariant-loop-side

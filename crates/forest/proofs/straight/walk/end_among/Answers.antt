@@ -1,6 +1,5 @@
 use Rattle.std.proofs.Common.{◌≢◌, ◌∙◌, inl, inr, refl, sym, arith}
-use Rattle.template.specs.FoundLeaf.{asked_key}
-use Rattle.template.specs.Walk.Places.{walk_at}
+use Rattle.template.specs.Common.{asked_key, walk_at}
 use Rattle.template.specs.declared.walk.WalkAt.TheVariants.{More, Pair}
 use Rattle.order.specs.declared.last_turns.LastTurns.{LastTurns}
 use Rattle.forest.specs.CallKinds.{calls}

@@ -1,14 +1,10 @@
 use Rattle.std.proofs.Common.{◌≡◌, ◌+◌, ◌-◌, ◌≤◌}
-use Rattle.arena.specs.declared.step.Kind.TheVariants.{LoadSettled}
-use Rattle.arena.specs.declared.word.NodeWord.TheVariants.{Settled}
-use Rattle.arena.specs.declared.word.SettledPart.TheVariants.{Key}
-use Rattle.arena.specs.Words.{node, slot_no}
+use Rattle.histories.specs.Common.{LoadSettled, Settled, Key, node, slot_no}
 use Rattle.order.specs.declared.last_turns.LastTurns.{LastTurns}
 use Rattle.forest.specs.StraightWalk.{Walker, WalkerIsTold, WalkerWaits}
 use Rattle.forest.specs.Traces.{seat_steps}
 use Rattle.forest.specs.CallKinds.{calls}
-use Rattle.prims.specs.Llx.Known.{load}
-use Rattle.template.specs.Walk.Places.{walk_at}
+use Rattle.template.specs.Common.{load, walk_at}
 use Rattle.template.specs.declared.walk.WalkAt.TheVariants.{More, Pair}
 use Rattle.forest.proofs.straight.walk.end_among.Given as goal
 

@@ -1,14 +1,11 @@
 use Rattle.std.proofs.Common.{◌∙◌, refl, sym}
-use Rattle.arena.specs.Heads.{head_of}
-use Rattle.template.specs.Walk.Places.{walk_at}
+use Rattle.histories.specs.Common.{head_of, LoadSettled, node, first_key}
+use Rattle.template.specs.Common.{walk_at, load}
 use Rattle.template.specs.declared.walk.WalkAt.TheVariants.{Key}
 use Rattle.order.specs.declared.last_turns.LastTurns.{LastTurns}
 use Rattle.forest.specs.CallKinds.{calls}
 use Rattle.forest.specs.StraightWalk.{Walker, WalkerIsTold, WalkerWaits}
 use Rattle.forest.proofs.StraightWalk.{to_key, to_open, to_side}
-use Rattle.prims.specs.Llx.Known.{load}
-use Rattle.arena.specs.declared.step.Kind.TheVariants.{LoadSettled}
-use Rattle.arena.specs.Words.{node, first_key}
 use Rattle.forest.proofs.straight.walk.pass.Given.{Over}
 use Rattle.forest.proofs.straight.walk.pass.Goals.{Then-asks_key}
 use Rattle.forest.proofs.straight.walk.pass.Goals as goal

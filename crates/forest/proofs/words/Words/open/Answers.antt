@@ -1,8 +1,6 @@
 use Rattle.std.proofs.Common.{◌≡◌, ℕ, List, ◌∙◌, ap, slice_index}
-use Rattle.arena.specs.declared.layout.Layout.{Layout}
-use Rattle.arena.specs.declared.word.Word.{Word}
-use Rattle.arena.specs.Layout.{place, table_size, opening, IsWord}
-use Rattle.arena.specs.PlainWords.{Contents, IsOpening}
+use Rattle.histories.specs.Common.{Layout, Word, place, table_size, opening, IsWord, Contents}
+use Rattle.arena.specs.PlainWords.{IsOpening}
 use Rattle.forest.proofs.Deals.{opens}
 use Rattle.forest.proofs.words.Words.open.Goals as goal
 

@@ -1,12 +1,5 @@
-use Rattle.std.proofs.Common.{◌≡◌, ◌≢◌, ℕ, eqb-true, eq-eqb, true, false, ◌⊎◌, inl, inr, Bool, Option, None, Some, sym, ◌∙◌, arith}
-use Rattle.std.specs.Prelude.{unwrap_or}
-use Rattle.arena.specs.declared.layout.Layout.{Layout}
-use Rattle.arena.specs.declared.machine.Turn.{Turn}
-use Rattle.arena.specs.declared.number.MemberIndex.{MemberIndex}
-use Rattle.arena.specs.declared.step.Step.{Step}
-use Rattle.arena.specs.History.{History}
-use Rattle.arena.specs.Lawful.{Lawful}
-use Rattle.arena.specs.Machines.{MatchTurn}
+use Rattle.std.proofs.Common.{◌≡◌, ◌≢◌, ℕ, eqb-true, eq-eqb, true, false, ◌⊎◌, inl, inr, Bool, Option, None, Some, sym, ◌∙◌, arith, unwrap_or}
+use Rattle.histories.specs.Common.{Layout, Turn, MemberIndex, Step, History, Lawful, MatchTurn}
 use Rattle.help.specs.Help.Known.{Marks, HelpAsks, HasNext, IsLast, MarksNext, MarksNone, reading, HelpIsTold, HelpIsReady, HelpWaits, HelpWaitsAt, HelpAnswers}
 use Rattle.help.proofs.HelpTurns.{to_member, to_seen, to_freeze, to_next, to_set_frozen, to_all_frozen, to_abort, to_committed, to_aborted, to_mark, to_new, to_old, to_update, to_commit, place_behind}
 use Rattle.help.specs.declared.state.HelpRun.{HelpRun}

@@ -1,5 +1,4 @@
-use Rattle.std.proofs.Common.{◌≡◌, ◌+◌, true, length}
-use Rattle.std.specs.Prelude.{slice_set}
+use Rattle.std.proofs.Common.{◌≡◌, ◌+◌, true, length, slice_set}
 use Rattle.judge.specs.Entering.{last_after, finals_after}
 use Rattle.judge.proofs.entering.Entering.enter.Given as goal
 

@@ -1,7 +1,5 @@
 use Rattle.std.proofs.Common.{◌≡◌, [], sym, ◌∙◌, ap}
-use Rattle.arena.specs.declared.layout.Layout.{Layout}
-use Rattle.arena.specs.Layout.{opening}
-use Rattle.arena.specs.PlainWords.{word_at}
+use Rattle.histories.specs.Common.{Layout, opening, word_at}
 use Rattle.histories.proofs.Lemmas.{value_start}
 use Rattle.judge.proofs.Making.{lawful_start, stands_at}
 use Rattle.judge.proofs.judge.Judge.new.Goals as goal

@@ -1,8 +1,5 @@
 use Rattle.std.proofs.Common.{◌≡◌, ℕ, ◌∷◌, sym, ◌∙◌, ap, subst}
-use Rattle.arena.specs.History.{value}
-use Rattle.arena.specs.Lawful.{Lawful, IsWin}
-use Rattle.arena.specs.Log.{log, entry}
-use Rattle.arena.specs.Words.{info}
+use Rattle.histories.specs.Common.{value, Lawful, IsWin, log, entry, info}
 use Rattle.judge.specs.Histories.{seen_history}
 use Rattle.judge.proofs.Winners.{entering_row, entering_wins, entering_logs, quiet_logs, scx_enters_not, node_is}
 use Rattle.judge.proofs.judge.Judge.winner.Goals as goal

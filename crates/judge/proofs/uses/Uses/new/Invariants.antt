@@ -1,5 +1,4 @@
-use Rattle.std.proofs.Common.{◌≡◌, ◌↔◌, ℕ, ◌<◌, true, false, length}
-use Rattle.std.specs.Prelude.{slice_index_or}
+use Rattle.std.proofs.Common.{◌≡◌, ◌↔◌, ℕ, ◌<◌, true, false, length, slice_index_or}
 use Rattle.judge.proofs.uses.Uses.new.Given as goal
 
 abbrev pub invariant-loop-node : goal.invariant-loop-node

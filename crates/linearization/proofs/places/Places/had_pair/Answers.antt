@@ -1,10 +1,6 @@
 use Rattle.std.proofs.Common.{◌≡◌, ℕ, [], take, refl, sym, ◌∙◌, ap, reverse}
 use Rattle.std.specs.List.{filter}
-use Rattle.ordered_map.specs.OrderedMap.{get}
-use Rattle.ordered_map.specs.declared.request.Request.TheVariants.{PopFirst}
-use Rattle.script.specs.declared.command.Command.{Command}
-use Rattle.script.specs.declared.command.Command.TheVariants.{Map}
-use Rattle.record.specs.MapRecord.{map_at}
+use Rattle.record.specs.Common.{get, PopFirst, Command, Map, map_at}
 use Rattle.linearization.specs.Ordered.{looks_for, pairs_read}
 use Rattle.linearization.proofs.ReadPairs.{held, held_less, first_none, first_some, told_is}
 use Rattle.linearization.proofs.places.Places.had_pair.Goals as goal

@@ -1,8 +1,6 @@
 use Rattle.std.proofs.Common.{◌≡◌, ℕ, ◌≤◌, List}
-use Rattle.ordered_map.specs.OrderedMap.{get}
-use Rattle.script.specs.declared.call.Call.{Call}
+use Rattle.record.specs.Common.{get, Call, map_at}
 use Rattle.record.specs.declared.record.Line.{Line}
-use Rattle.record.specs.MapRecord.{map_at}
 use Rattle.linearization.specs.Entries.{AreEntries}
 use Rattle.linearization.specs.Places.{changes}
 use Rattle.linearization.proofs.ReadPairs.{held}

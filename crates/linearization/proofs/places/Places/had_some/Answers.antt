@@ -1,5 +1,4 @@
-use Rattle.std.proofs.Common.{◌≡◌, ◌≢◌, ℕ, ◌≤◌, get_or, Option, Some, true, rules, reverse, refl, sym, ◌∙◌, subst, arith}
-use Rattle.std.specs.Prelude.{is_some}
+use Rattle.std.proofs.Common.{◌≡◌, ◌≢◌, ℕ, ◌≤◌, get_or, Option, Some, true, rules, reverse, refl, sym, ◌∙◌, subst, arith, is_some}
 use Rattle.linearization.specs.declared.places.Place.{Place}
 use Rattle.linearization.proofs.Chains.{IsLookedFor, IsHere, look_here, look_within, look_fails, here_ends, here_older, here_nearer, here_map, nowhere_map, some_value, no_some}
 use Rattle.linearization.proofs.places.Places.had_some.Goals.{In-Some, else-place-turn-via-then-place-turn+else-is_some, else-place-turn-via-else-place-turn}

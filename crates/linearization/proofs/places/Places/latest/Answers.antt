@@ -1,5 +1,4 @@
-use Rattle.std.proofs.Common.{◌≡◌, ◌≢◌, ℕ, ◌≤◌, Option, Some, true, false, rules, reverse, sym, ◌∙◌, subst, arith}
-use Rattle.std.specs.Prelude.{is_none}
+use Rattle.std.proofs.Common.{◌≡◌, ◌≢◌, ℕ, ◌≤◌, Option, Some, true, false, rules, reverse, sym, ◌∙◌, subst, arith, is_none}
 use Rattle.linearization.proofs.Chains.{IsLookedFor, look_here, look_within, look_ends, look_fails, here_found, here_ends, here_older, here_nearer, values_same, values_differ, found_map, nowhere_map}
 use Rattle.linearization.proofs.places.Places.latest.Goals.{In-Some, else-place-until-via-then-place-until+else-eq, else-place-until-via-else-place-until}
 use Rattle.linearization.proofs.places.Places.latest.Goals as goal

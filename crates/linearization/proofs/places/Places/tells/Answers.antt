@@ -3,10 +3,8 @@ use Rattle.std.specs.List.{filter}
 use Rattle.std.specs.Ordering.{nat_cmp}
 use Rattle.std.specs.BTreeMap.{get as get_newest}
 use Rattle.std.proofs.lemmas.List.Elements.{All-rest}
-use Rattle.ordered_map.specs.OrderedMap.{get}
-use Rattle.script.specs.declared.call.Call.{Call}
+use Rattle.record.specs.Common.{get, Call, map_at, number_pairs}
 use Rattle.record.specs.declared.record.Line.{Line}
-use Rattle.record.specs.MapRecord.{map_at, number_pairs}
 use Rattle.linearization.specs.Entries.{AreEntries}
 use Rattle.linearization.specs.Ordered.{looks_for, most_told, pairs_read}
 use Rattle.linearization.specs.Places.{changes}

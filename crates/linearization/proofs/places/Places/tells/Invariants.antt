@@ -1,10 +1,8 @@
 use Rattle.std.proofs.Common.{◌≡◌, List, Some, All}
 use Rattle.std.specs.Ordering.{nat_cmp}
 use Rattle.std.specs.BTreeMap.{get as get_newest}
-use Rattle.ordered_map.specs.OrderedMap.{get}
-use Rattle.script.specs.declared.call.Call.{Call}
+use Rattle.record.specs.Common.{get, Call, map_at, number_pairs}
 use Rattle.record.specs.declared.record.Line.{Line}
-use Rattle.record.specs.MapRecord.{map_at, number_pairs}
 use Rattle.linearization.specs.Entries.{AreEntries}
 use Rattle.linearization.specs.Ordered.{most_told}
 use Rattle.linearization.specs.Places.{changes}

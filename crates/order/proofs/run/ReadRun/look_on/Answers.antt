@@ -1,6 +1,5 @@
 use Rattle.std.proofs.Common.{ap, ◌∙◌}
-use Rattle.arena.specs.declared.machine.Turn.TheVariants.{Done}
-use Rattle.arena.specs.Machines.{begun_at}
+use Rattle.histories.specs.Common.{Done, begun_at}
 use Rattle.order.proofs.Blaming.{try_as}
 use Rattle.order.proofs.Nearer.{below, less_look, from_looked, to_tries}
 use Rattle.order.proofs.Turns.{left_as, looks_on, snapped, finalized, failed}

@@ -1,7 +1,6 @@
 use Rattle.std.proofs.Common.{inl, refl}
-use Rattle.arena.specs.Machines.{begun_at}
+use Rattle.histories.specs.Common.{begun_at, LoadSettled}
 use Rattle.arena.specs.declared.step.Access.TheVariants as accesses
-use Rattle.arena.specs.declared.step.Kind.TheVariants.{LoadSettled}
 use Rattle.order.specs.Places.{RunComesNearer}
 use Rattle.order.specs.declared.read.ReadNext.TheVariants.{Load, Look}
 use Rattle.order.proofs.Blaming.{first_look}

@@ -1,6 +1,5 @@
 use Rattle.std.proofs.Common.{refl, sym, ◌∙◌, ap}
-use Rattle.arena.specs.Heads.{head_of}
-use Rattle.arena.specs.Machines.{begun_at}
+use Rattle.histories.specs.Common.{head_of, begun_at}
 use Rattle.order.proofs.Blaming.{keeps_wider, try_as}
 use Rattle.order.proofs.Nearer.{below, from_root}
 use Rattle.order.proofs.Turns.{at_start, at_walk, at_root, at_look, at_load, at_validate, fits_at, goes_read, goes_taken, left_as, left_at}

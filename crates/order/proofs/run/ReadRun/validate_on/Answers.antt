@@ -1,7 +1,6 @@
 use Rattle.std.proofs.Common.{◌≡◌, ap, ◌∙◌, Bor, List, refl}
 use Rattle.arena.specs.declared.machine.Turn.TheVariants.{Done}
-use Rattle.prims.specs.declared.vlx.Vlx.TheVariants.{Same, Changed}
-use Rattle.prims.specs.declared.snap.Snap.{Snap}
+use Rattle.template.specs.Common.{Same, Changed, Snap}
 use Rattle.order.proofs.Nearer.{below, less_vlx, to_tries}
 use Rattle.order.proofs.Turns.{vlx_turn, vlx_nearer, validates_on, told, changed}
 use Rattle.order.proofs.run.ReadRun.validate_on.Goals as goal

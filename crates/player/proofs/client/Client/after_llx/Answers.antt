@@ -1,6 +1,5 @@
 use Rattle.std.proofs.Common.{inl, inr, ◌⊎◌, ◌≡◌, ◌≢◌, None}
-use Rattle.prims.specs.declared.snap.Snap.{Snap}
-use Rattle.prims.specs.declared.llx.Llx.TheVariants.{Snapshot}
+use Rattle.template.specs.Common.{Snap, Snapshot}
 use Rattle.player.proofs.Ends.{ends_llx}
 use Rattle.player.proofs.Putting.{can_put, told_put, answered_put}
 use Rattle.player.proofs.client.Client.after_llx.Goals.{in_default-via-in-Snapshot+in_default, in_default-via-in_default}

@@ -1,9 +1,6 @@
 use Rattle.std.proofs.Common.{◌≡◌, ℕ, Bool, true, false, Option, refl, sym, ◌∙◌, ap, subst}
-use Rattle.ordered_map.specs.Replies.{number_reply}
-use Rattle.ordered_map.specs.Requests.{key_told, map_request, tells_change}
-use Rattle.script.specs.declared.call.Call.{Call}
-use Rattle.script.specs.declared.command.Command.{Command}
-use Rattle.script.specs.declared.command.Command.TheVariants.{Map}
+use Rattle.record.specs.Common.{number_reply, map_request, tells_change, Call, Command, Map}
+use Rattle.ordered_map.specs.Requests.{key_told}
 use Rattle.record.specs.declared.record.Answer.TheVariants.{Map as MapAnswer}
 use Rattle.linearization.specs.Places.{changes}
 use Rattle.player.specs.Moments.{IsMomentBy, IsReadingMoment, IsReplyMoment, IsWonOrRead}

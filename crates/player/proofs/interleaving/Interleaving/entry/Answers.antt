@@ -1,8 +1,7 @@
 use Rattle.std.proofs.Common.{arith, ◌≡◌, ◌+◌, Bool, true, false, not, sym, ◌∙◌, rules, refl}
 use denote.Enum.Bare.{same_true}
 use Rattle.arena.specs.contracts.step.Kind.{the_type}
-use Rattle.arena.specs.declared.step.Kind.TheVariants.{Update}
-use Rattle.arena.specs.declared.word.NodeWord.TheVariants.{Child}
+use Rattle.histories.specs.Common.{Update, Child}
 use Rattle.player.proofs.Middles.{made_few, made_info, made_winner, made_entry}
 use Rattle.player.proofs.interleaving.Interleaving.entry.Goals as goal
 

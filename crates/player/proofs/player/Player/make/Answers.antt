@@ -1,6 +1,4 @@
-use Rattle.std.proofs.Common.{arith, ◌≡◌, ◌-◌, ◌^◌, ◌<◌, ◌∙◌, ◌++◌, List, ap, refl, reverse, subst, sym}
-use Rattle.std.specs.Prelude.{Vec}
-use Rattle.std.specs.Global.{Global}
+use Rattle.std.proofs.Common.{arith, ◌≡◌, ◌-◌, ◌^◌, ◌<◌, ◌∙◌, ◌++◌, List, ap, refl, reverse, subst, sym, Vec, Global}
 use Rattle.std.proofs.lemmas.List.{length-reverse, reverse-append}
 use Rattle.record.specs.declared.record.Line.{Line}
 use Rattle.record.specs.Turns.{turns}

@@ -1,5 +1,4 @@
-use Rattle.std.proofs.Common.{◌≡◌, suc, subst}
-use Rattle.std.specs.Prelude.{OnErr, OnOk}
+use Rattle.std.proofs.Common.{◌≡◌, suc, subst, OnErr, OnOk}
 use Rattle.player.specs.Core.{IsNextTurn, StandsAt, with_lines}
 use Rattle.player.specs.Player.{PlayerView}
 use Rattle.player.specs.declared.interleaving.Interleaving.{Interleaving}

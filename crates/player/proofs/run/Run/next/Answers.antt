@@ -1,9 +1,6 @@
 use Rattle.std.proofs.Common.{◌≡◌, None}
 use Rattle.arena.specs.declared.limits.Mode.TheVariants.{Records, Tree}
-use Rattle.prims.specs.Cells.{AllowsAll}
-use Rattle.prims.specs.Llx.Known.{LlxIsReady}
-use Rattle.prims.specs.Put.Known.{PutIsReady}
-use Rattle.prims.specs.Vlx.Known.{VlxIsReady}
+use Rattle.template.specs.Common.{AllowsAll, LlxIsReady, PutIsReady, VlxIsReady}
 use Rattle.dict.specs.DictKnown.{DictIsReady}
 use Rattle.dict.specs.Laws.Dict.{dict_told}
 use Rattle.dict.specs.Words.{IsNumber, IsWideNumber}

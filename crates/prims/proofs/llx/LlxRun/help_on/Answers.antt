@@ -1,6 +1,5 @@
 use Rattle.std.proofs.Common.{◌≡◌, true, false, sym, ◌∙◌, arith}
-use Rattle.arena.specs.Words.{state}
-use Rattle.arena.specs.History.{value}
+use Rattle.histories.specs.Common.{state, value}
 use Rattle.prims.proofs.LlxTurns.{turn_helped, not_marked, committed_state, aborted_state}
 use Rattle.prims.proofs.llx.LlxRun.help_on.Goals.{then-marked, else-marked}
 use Rattle.prims.proofs.llx.LlxRun.help_on.Goals as goal

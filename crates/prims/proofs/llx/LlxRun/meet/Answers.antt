@@ -1,6 +1,5 @@
 use Rattle.std.proofs.Common.{◌≡◌, true, false, eqb, eqb-true, eq-eqb, sym, ◌∙◌}
-use Rattle.arena.specs.Words.{state}
-use Rattle.arena.specs.History.{value}
+use Rattle.histories.specs.Common.{state, value}
 use Rattle.prims.proofs.LlxTurns.{turn_helped, not_marked, new_help}
 use Rattle.prims.proofs.llx.LlxRun.meet.Goals.{then-marked, else-marked}
 use Rattle.prims.proofs.llx.LlxRun.meet.Goals as goal

@@ -1,6 +1,5 @@
 use Rattle.std.proofs.Common.{sym, subst, arith}
-use Rattle.arena.specs.declared.number.NodeNo.{NodeNo}
-use Rattle.arena.specs.declared.number.ScxNo.{ScxNo}
+use Rattle.histories.specs.Common.{NodeNo, ScxNo}
 use Rattle.prims.specs.Scx.Known.{IsLost}
 use Rattle.prims.proofs.ScxTurns.{done_at, lost_at}
 use Rattle.prims.proofs.scx.ScxRun.help_on.Goals as goal

@@ -1,5 +1,4 @@
-use Rattle.std.specs.Prelude.{None}
-use Rattle.std.proofs.Common.{arith, subst}
+use Rattle.std.proofs.Common.{None, arith, subst}
 use Rattle.template.specs.Walk.Known.{WalkEnds}
 use Rattle.template.proofs.WalkTurns.{ends_above}
 use Rattle.template.proofs.walk.WalkRun.read_leaf.Goals as goal

@@ -1,8 +1,5 @@
-use Rattle.std.specs.Prelude.{None}
-use Rattle.std.proofs.Common.{◌≡◌, ◌≢◌, ◌<◌, ◌⊎◌, inl, inr, sym, ◌∙◌, arith, subst}
-use Rattle.ordered_map.specs.Holding.{slot_behind}
-use Rattle.template.specs.FoundLeaf.{asked_key}
-use Rattle.template.specs.Walk.Known.{WalkEnds}
+use Rattle.std.proofs.Common.{None, ◌≡◌, ◌≢◌, ◌<◌, ◌⊎◌, inl, inr, sym, ◌∙◌, arith, subst}
+use Rattle.template.specs.Common.{slot_behind, asked_key, WalkEnds}
 use Rattle.template.proofs.WalkTurns.{asks_next, ends_without}
 use Rattle.template.proofs.walk.WalkRun.read_pair.Goals.{in_default-via-in-Some+else-key-asked, in_default-via-in_default}
 use Rattle.template.proofs.walk.WalkRun.read_pair.Goals as goal

@@ -1,9 +1,7 @@
-use Rattle.std.specs.Prelude.{Some}
-use Rattle.std.proofs.Common.{◌+◌, ◌<◌, sym, ◌∙◌, ap, subst}
+use Rattle.std.proofs.Common.{Some, ◌+◌, ◌<◌, sym, ◌∙◌, ap, subst}
 use Rattle.arena.specs.Heads.{head_of}
 use Rattle.template.specs.declared.walk.WalkAt.TheVariants.{Root, High}
-use Rattle.template.specs.Walk.Known.{WalkEnds}
-use Rattle.template.specs.Walk.Steps.{walk_left}
+use Rattle.template.specs.Common.{WalkEnds, walk_left}
 use Rattle.template.proofs.WalkTurns.{told_at, told_root, turn_high, nearer_root, nearer_below}
 use Rattle.template.proofs.walk.WalkRunMachineTree.next.Goals as goal
 

@@ -1,5 +1,4 @@
-use Rattle.std.proofs.Common.{arith}
-use Rattle.std.proofs.lemmas.List.{length-take-le}
+use Rattle.std.proofs.Common.{arith, length-take-le}
 use Rattle.texts.proofs.sheet.Sheet.clear.Goals as goal
 
 pub returns-clause-room : goal.returns-clause-room

@@ -1,8 +1,7 @@
-use Rattle.std.proofs.Common.{◌≡◌, ◌+◌, ◌≤◌, ◌∙◌, ap, arith, length, rules, sym, take}
+use Rattle.std.proofs.Common.{◌≡◌, ◌+◌, ◌≤◌, ◌∙◌, ap, arith, length, rules, sym, take, decimal}
 use Rattle.std.specs.Vec.{with_items}
 use Rattle.std.proofs.lemmas.Fmt.{length-decimal-le}
 use Rattle.std.proofs.lemmas.List.{with_items_is}
-use Rattle.std.specs.Prelude.{decimal}
 use Rattle.texts.proofs.DigitCounts.{digits_stand}
 use Rattle.texts.specs.Sheets.{sheet_text}
 use Rattle.texts.proofs.PlainRows.{plain_number}
