@@ -1,47 +1,14 @@
 -- When an update may continue, and what it waits for.
 use Rattle.std.specs.Prelude.{◌≡◌, ◌≢◌, ℕ, suc, ◌+◌, ◌-◌, ◌^◌, ◌<◌, ◌≤◌, ◌⊎◌, ◌==◌, if◌then◌else◌, min, true, List, ◌∷◌, length, take, Option, Some, None}
-use Rattle.arena.specs.declared.fault.Full.{Full}
-use Rattle.arena.specs.declared.fault.Resource.{Resource}
-use Rattle.arena.specs.declared.fault.Resource.TheVariants.{Nodes as FreshNodes, Scx as ScxRecords}
-use Rattle.arena.specs.declared.layout.Layout.{Layout}
-use Rattle.arena.specs.declared.machine.Turn.{Turn}
-use Rattle.arena.specs.declared.step.Row.{Row}
-use Rattle.arena.specs.declared.step.Step.{Step}
-use Rattle.arena.specs.declared.step.Kind.TheVariants.{LoadSettled}
-use Rattle.arena.specs.declared.word.NodeWord.{NodeWord}
-use Rattle.arena.specs.declared.word.NodeWord.TheVariants.{Settled}
-use Rattle.arena.specs.declared.word.SettledPart.{SettledPart}
-use Rattle.arena.specs.declared.number.NodeNo.{NodeNo}
-use Rattle.arena.specs.Fills.{IsNamed, IsOwnNode, IsOwnScx, IsTakenNode}
-use Rattle.arena.specs.History.{History, ◌⊳◌, value, Extends}
-use Rattle.arena.specs.Lawful.{IsWin}
-use Rattle.arena.specs.Layout.{all_nodes}
-use Rattle.arena.specs.Log.{Entry, log}
-use Rattle.arena.specs.Machines.{Call, MatchTurn, begun_at}
-use Rattle.arena.specs.Share.{Remaining}
-use Rattle.arena.specs.Words.{node}
-use Rattle.prims.specs.FoundThere.{HasFoundThere}
+use Rattle.histories.specs.Common.{Full, Resource, Nodes as FreshNodes, Layout, Turn, Row, Step, LoadSettled, NodeWord, Settled, SettledPart, NodeNo, IsNamed, IsOwnNode}
+use Rattle.histories.specs.Common.{IsOwnScx, IsTakenNode, History, ◌⊳◌, value, Extends, IsWin, all_nodes, Entry, log, Call, MatchTurn, begun_at, Remaining, node}
+use Rattle.arena.specs.declared.fault.Resource.TheVariants.{Scx as ScxRecords}
+use Rattle.template.specs.Common.{HasFoundThere, load, IsSnapshot, LlxIsReady, LlxWaits, AreFinished, ScxIsReady, ScxWaits, job_of, IsShare, snap_at, LlxRun}
+use Rattle.template.specs.Common.{ScxRun, Snap, MapEdit, edit_key, end_pair, get, IsTreeRun, Makes, Spells, TreeAllows, edit_leaf, Pair, path_key, end_told}
+use Rattle.template.specs.Common.{HasFoundGoal, IsFresh, Tracks, WalkIsReady, WalkWaits, Goal, Key as ToKey, End, IsContended, HasLostTriesTo, HasTriedAllBut}
 use Rattle.prims.specs.Laws.Idle.{IsQuietSince}
-use Rattle.prims.specs.Llx.Known.{load, IsSnapshot, LlxIsReady, LlxWaits}
-use Rattle.prims.specs.Moments.{AreFinished}
-use Rattle.prims.specs.Scx.Known.{ScxIsReady, ScxWaits, job_of}
-use Rattle.prims.specs.Shares.{IsShare}
-use Rattle.prims.specs.Snap.{snap_at}
-use Rattle.prims.specs.declared.llx.LlxRun.{LlxRun}
-use Rattle.prims.specs.declared.scx.ScxRun.{ScxRun}
-use Rattle.prims.specs.declared.snap.Snap.{Snap}
-use Rattle.ordered_map.specs.OrderedMap.{MapEdit, edit_key, end_pair, get}
-use Rattle.ordered_map.specs.Runs.{IsTreeRun, IsEditAt, Makes}
-use Rattle.ordered_map.specs.Spelled.{Spells}
-use Rattle.ordered_map.specs.TreeShape.{TreeAllows, edit_leaf}
-use Rattle.ordered_map.specs.declared.pair.Pair.{Pair}
-use Rattle.template.specs.FoundLeaf.{path_key, end_told, HasFoundGoal}
-use Rattle.template.specs.Promises.{IsFresh}
-use Rattle.template.specs.Tracked.{Tracks}
-use Rattle.template.specs.Walk.Known.{WalkIsReady, WalkWaits}
+use Rattle.ordered_map.specs.Runs.{IsEditAt}
 use Rattle.template.specs.declared.walk.Found.{Found}
-use Rattle.ordered_map.specs.declared.rule.Goal.{Goal}
-use Rattle.ordered_map.specs.declared.rule.Goal.TheVariants.{Key as ToKey, End}
 use Rattle.edits.specs.declared.edit.Look.{Look as LookOf}
 use Rattle.edits.specs.declared.edit.Look.TheVariants.{At, Enough}
 use Rattle.edits.specs.declared.edit.Nodes.{Nodes}
@@ -54,8 +21,6 @@ use Rattle.edits.specs.declared.update.Updated.TheVariants.{Done, Contended, Ful
 use Rattle.edits.specs.declared.update.UpdateAt.{UpdateAt}
 use Rattle.edits.specs.declared.update.UpdateAt.TheVariants.{Start, Walk, Look, Read, Fill, Scx}
 use Rattle.edits.specs.declared.update.UpdateRun.{UpdateRun}
-use Rattle.template.specs.Blame.{IsContended, HasLostTriesTo}
-use Rattle.template.specs.Tries.{HasTriedAllBut}
 use Rattle.edits.specs.Edits.{EditMeaning, says}
 use Rattle.edits.specs.Laws.Hand.{HasFilledTo, IsForField, FieldMay}
 use Rattle.edits.specs.Laws.NodeFills.{node_fill}

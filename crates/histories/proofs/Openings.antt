@@ -1,12 +1,7 @@
 -- What words hold at the start.
 use Rattle.std.proofs.Common.{◌≡◌, ℕ, ◌<◌, Bool, true, false, eqb, cond, refl, arith}
-use Rattle.arena.specs.declared.limits.Mode.{Mode}
-use Rattle.arena.specs.declared.word.Side.{Side}
-use Rattle.arena.specs.declared.word.Side.TheVariants.{Left, Right}
-use Rattle.arena.specs.declared.word.Word.{Word}
-use Rattle.arena.specs.Layout.{is_map, opening, opening_nodes, records_opening, tree_opening}
-use Rattle.arena.specs.Words.{child}
-use Rattle.arena.specs.History.{Start, value}
+use Rattle.histories.specs.Common.{Mode, Side, Left, Right, Word, opening, opening_nodes, child, Start, value}
+use Rattle.arena.specs.Layout.{is_map, records_opening, tree_opening}
 
 pub value_start : (mode : Mode) (w : Word) → value (Start mode) w ≡ opening mode w
 unfolding value

@@ -2,23 +2,13 @@
 -- not name it.
 use Rattle.std.proofs.Common.{◌≡◌, ◌≢◌, ℕ, ◌<◌, Bool, true, false, cond, ◌⊎◌, inl, inr, ⊎_elim, refl, sym, ◌∙◌, arith, subst, ne_eqb}
 use native.Mathlib.Decide.{ℕ_discrete}
-use Rattle.arena.specs.declared.limits.Mode.{Mode}
-use Rattle.arena.specs.declared.layout.Layout.{Layout}
-use Rattle.arena.specs.declared.word.Side.{Side}
-use Rattle.arena.specs.declared.word.Side.TheVariants.{Left, Right}
-use Rattle.arena.specs.declared.word.NodeWord.{NodeWord}
-use Rattle.arena.specs.declared.word.NodeWord.TheVariants.{Child, Info, Marked}
-use Rattle.arena.specs.declared.word.ScxWord.{ScxWord}
-use Rattle.arena.specs.declared.word.ScxWord.TheVariants.{State, AllFrozen, Plan, New, Old, Member, Seen, Call}
-use Rattle.arena.specs.declared.step.Row.{Row}
-use Rattle.arena.specs.Layout.{is_map, opening_nodes, records_opening, tree_opening}
-use Rattle.arena.specs.Words.{same_word, node, scx, info, marked, child, state}
-use Rattle.arena.specs.History.{History, Start, ◌⊳◌, value, HasHeld}
-use Rattle.arena.specs.ScxRecords.{plan, side_of, member, new, field_index, field}
-use Rattle.arena.specs.Fills.{IsOwnNode, IsOwnScx, IsOthersNode, NamesNode, IsNamed, opening_node, by_field, by_scx, IsInField, IsNamedScx, MayFill}
-use Rattle.arena.specs.Lawful.{Lawful}
+use Rattle.histories.specs.Common.{Mode, Layout, Side, Left, Right, NodeWord, Child, Info, Marked, ScxWord, State, AllFrozen, Plan, New, Old, Member, Seen, Row}
+use Rattle.histories.specs.Common.{opening_nodes, same_word, node, scx, info, marked, child, state, History, Start, ◌⊳◌, value, HasHeld, plan, side_of, member, new}
+use Rattle.histories.specs.Common.{field_index, field, IsOwnNode, IsOwnScx, IsNamed, opening_node, by_field, by_scx, IsInField, IsNamedScx, MayFill, Lawful, descriptor}
+use Rattle.arena.specs.declared.word.ScxWord.TheVariants.{Call}
+use Rattle.arena.specs.Layout.{is_map, records_opening, tree_opening}
+use Rattle.arena.specs.Fills.{IsOthersNode, NamesNode}
 use Rattle.arena.proofs.Lemmas.{word_same, value_at, value_quiet, value_apart, value_other, held_at, held_split, held_start, opening_scx, node_apart, scx_word_apart}
-use Rattle.histories.specs.Descriptor.{descriptor}
 use Rattle.histories.proofs.Changes.{Change, IsScxFill, nothing, fills_node, fills_scx, freezes, sets_frozen, marks, updates, commits, aborts, FreezeWins, change, lawful_tail, lawful_row}
 use Rattle.histories.proofs.Quiet.{not_flag, not_state}
 use Rattle.histories.proofs.Facts.{IsFlagged, Facts, member_named, child_node}

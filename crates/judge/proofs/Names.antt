@@ -1,21 +1,11 @@
 -- What the links of a history lead to.
-use Rattle.std.proofs.Common.{◌≡◌, ℕ, zero, suc, ◌+◌, ◌*◌, ◌<◌, ◌≤◌, ◌⊎◌, inl, inr, ⊎_elim, Bool, true, false, cond, ltb, List, [], ◌∷◌, ◌++◌, refl, sym, ◌∙◌, subst, arith}
-use Rattle.std.proofs.lemmas.Bool.{lt-ltb}
+use Rattle.std.proofs.Common.{◌≡◌, ℕ, zero, suc, ◌+◌, ◌*◌, ◌<◌, ◌≤◌, ◌⊎◌, inl, inr, ⊎_elim, Bool, true, false, cond, ltb, List, [], ◌∷◌, ◌++◌, refl, sym, ◌∙◌, subst, arith, lt-ltb}
 use borrow.Author.Tests.{ltb-true}
-use Rattle.arena.specs.declared.layout.Layout.{Layout}
-use Rattle.arena.specs.declared.limits.Mode.{Mode}
-use Rattle.arena.specs.declared.word.Side.{Side}
-use Rattle.arena.specs.declared.word.NodeWord.TheVariants.{Settled, Child, Info, Marked}
-use Rattle.arena.specs.declared.word.ScxWord.{ScxWord}
-use Rattle.arena.specs.declared.word.ScxWord.TheVariants.{State, AllFrozen, Plan, New, Old, Member, Seen, Call}
-use Rattle.arena.specs.declared.word.Word.{Word}
-use Rattle.arena.specs.declared.word.Word.TheVariants.{Node, Scx}
-use Rattle.arena.specs.declared.step.Row.{Row}
-use Rattle.arena.specs.Layout.{all_nodes, all_scx, opening_nodes, IsWord}
-use Rattle.arena.specs.Words.{same_word, same_scx_word, info, child, scx}
-use Rattle.arena.specs.History.{History, Start, ◌⊳◌, HasHeld}
-use Rattle.arena.specs.Fills.{IsNamed, opening_node, by_field, by_scx, IsNamedScx, IsInField, NamesNode}
-use Rattle.arena.specs.Lawful.{Lawful}
+use Rattle.histories.specs.Common.{Layout, Mode, Side, Settled, Child, Info, Marked, ScxWord, State, AllFrozen, Plan, New, Old, Member, Seen, Word, Node, Scx, Row, all_nodes, all_scx}
+use Rattle.histories.specs.Common.{opening_nodes, IsWord, same_word, info, child, scx, History, Start, ◌⊳◌, HasHeld, IsNamed, opening_node, by_field, by_scx, IsNamedScx, IsInField, Lawful}
+use Rattle.arena.specs.declared.word.ScxWord.TheVariants.{Call}
+use Rattle.arena.specs.Words.{same_scx_word}
+use Rattle.arena.specs.Fills.{NamesNode}
 use Rattle.arena.proofs.Lemmas.{word_same, value_at, value_other, held_at, held_more, held_back, held_split, held_start, opening_info, opening_scx}
 use Rattle.histories.proofs.Lemmas.{lawful_tail, lawful_row, value_start, opening_field, some_open, named_scx_inside}
 use Rattle.judge.specs.Graph.{IsLink, IsReached, first, along}

@@ -2,18 +2,10 @@
 use Rattle.std.proofs.Common.{◌≡◌, ◌≢◌, ◌↔◌, ℕ, zero, suc, ◌+◌, ◌<◌, ◌⊎◌, inl, inr, ⊎_elim, Bool, true, false, not, IsTrue, cond, eqb, List, length, replicate, refl, sym, ◌∙◌, ap, subst, arith, get_or-set_other, get_or-set_same, eq-eqb, ne_eqb}
 use Rattle.std.proofs.Math.ListN.{length-set}
 use Rattle.std.specs.Prelude.{slice_index_or}
-use Rattle.arena.specs.declared.layout.Layout.{Layout}
-use Rattle.arena.specs.declared.limits.Mode.{Mode}
-use Rattle.arena.specs.declared.word.Side.{Side}
-use Rattle.arena.specs.declared.word.Side.TheVariants.{Left, Right}
-use Rattle.arena.specs.declared.word.NodeWord.TheVariants.{Settled, Child, Info, Marked}
-use Rattle.arena.specs.declared.word.ScxWord.TheVariants.{State, AllFrozen, Plan, New, Old, Member, Seen, Call}
-use Rattle.arena.specs.declared.word.Word.{Word}
-use Rattle.arena.specs.declared.word.Word.TheVariants.{Node, Scx}
-use Rattle.arena.specs.declared.step.Row.{Row}
-use Rattle.arena.specs.Layout.{is_map, all_nodes, opening, tree_opening}
-use Rattle.arena.specs.Words.{child, scx}
-use Rattle.arena.specs.History.{History, Start, ◌⊳◌, HasHeld}
+use Rattle.histories.specs.Common.{Layout, Mode, Side, Left, Right, Settled, Child, Info, Marked, State, AllFrozen, Plan, New, Old}
+use Rattle.histories.specs.Common.{Member, Seen, Word, Node, Scx, Row, all_nodes, opening, child, scx, History, Start, ◌⊳◌, HasHeld}
+use Rattle.arena.specs.declared.word.ScxWord.TheVariants.{Call}
+use Rattle.arena.specs.Layout.{is_map, tree_opening}
 use Rattle.arena.proofs.Lemmas.{held_at, held_more, held_start, opening_scx}
 use Rattle.histories.proofs.Lemmas.{value_start}
 use Rattle.judge.specs.declared.uses.Users.{Users}

@@ -1,19 +1,8 @@
 -- What words hold that are not of the table, and after one more row.
 use Rattle.std.proofs.Common.{◌≡◌, ◌≢◌, ℕ, ◌<◌, ◌≤◌, Bool, true, false, cond, ne_eqb, refl, sym, ◌∙◌, ap, subst, arith}
-use Rattle.arena.specs.declared.layout.Layout.{Layout}
-use Rattle.arena.specs.declared.limits.Mode.{Mode}
-use Rattle.arena.specs.declared.word.Side.TheVariants.{Left, Right}
-use Rattle.arena.specs.declared.word.NodeWord.TheVariants.{Settled, Child}
-use Rattle.arena.specs.declared.word.SettledPart.TheVariants.{Head}
-use Rattle.arena.specs.declared.word.ScxWord.TheVariants.{State}
-use Rattle.arena.specs.declared.word.Word.{Word}
-use Rattle.arena.specs.declared.word.Word.TheVariants.{Node, Scx}
-use Rattle.arena.specs.declared.step.Row.{Row}
-use Rattle.arena.specs.Layout.{is_map, all_nodes, opening_nodes, opening, tree_opening, records_opening, IsWord}
-use Rattle.arena.specs.Words.{same_word}
-use Rattle.arena.specs.History.{History, Start, ◌⊳◌, value}
-use Rattle.arena.specs.Lawful.{Lawful}
-use Rattle.arena.specs.PlainWords.{Contents, word_at, IsChanged}
+use Rattle.histories.specs.Common.{Layout, Mode, Left, Right, Settled, Child, Head, State, Word, Node, Scx, Row, all_nodes, opening_nodes}
+use Rattle.histories.specs.Common.{opening, IsWord, same_word, History, Start, ◌⊳◌, value, Lawful, Contents, word_at, IsChanged}
+use Rattle.arena.specs.Layout.{is_map, tree_opening, records_opening}
 use Rattle.arena.proofs.Lemmas.{word_same, word_refl, value_at, value_other}
 use Rattle.histories.proofs.Lemmas.{lawful_row, lawful_tail, value_start}
 use Rattle.judge.proofs.Names.{start_is}

@@ -1,15 +1,7 @@
 -- Which nodes fields have held, and `new` words of SCX-records.
 use Rattle.std.specs.Prelude.{◌≡◌, ◌≢◌, ◌↔◌, ℕ, ◌<◌, if◌then◌else◌, ◌==◌, Bool, true, false, not, List, length, slice_index_or, slice_set}
-use Rattle.arena.specs.declared.layout.Layout.{Layout}
-use Rattle.arena.specs.declared.limits.Mode.{Mode}
-use Rattle.arena.specs.declared.word.Side.{Side}
-use Rattle.arena.specs.declared.word.NodeWord.TheVariants.{Child}
-use Rattle.arena.specs.declared.word.ScxWord.TheVariants.{New}
-use Rattle.arena.specs.declared.word.Word.{Word}
-use Rattle.arena.specs.declared.word.Word.TheVariants.{Node, Scx}
-use Rattle.arena.specs.Layout.{is_map, all_nodes}
-use Rattle.arena.specs.Words.{child, scx}
-use Rattle.arena.specs.History.{History, HasHeld}
+use Rattle.histories.specs.Common.{Layout, Mode, Side, Child, New, Word, Node, Scx, all_nodes, child, scx, History, HasHeld}
+use Rattle.arena.specs.Layout.{is_map}
 use Rattle.judge.specs.declared.uses.Users.{Users}
 use Rattle.judge.specs.declared.uses.Users.TheVariants.{Nobody, One, Several}
 use Rattle.judge.specs.declared.uses.Uses.{Uses}

@@ -4,15 +4,11 @@ use Rattle.std.specs.List.{filter}
 use Rattle.std.specs.Prelude.{unwrap_or}
 use Rattle.std.proofs.lemmas.Bool.{cases_lt, le-leb, lt-leb}
 use Rattle.std.proofs.lemmas.Bool.Decides.{leb_tells}
-use Rattle.ordered_map.specs.declared.pair.Pair.{Pair}
-use Rattle.ordered_map.specs.OrderedMap.{MapCall, call_pop_first, call_pop_last, call_successor, call_predecessor, Range, MapReply, OnePair, ManyPairs, pair_or_none, first_pair, last_pair, AllAbove, successor, predecessor, between, reply, get, IsRising}
-use Rattle.script.specs.declared.call.Call.{Call}
-use Rattle.script.specs.declared.command.Command.{Command}
-use Rattle.script.specs.declared.command.Command.TheVariants.{Map}
-use Rattle.ordered_map.specs.declared.request.Request.TheVariants.{PopFirst as PopOf, PopLast as PopLastOf, Successor as SuccessorOf, Predecessor as PredecessorOf, Range as RangeOf}
+use Rattle.record.specs.Common.{Pair, MapCall, MapReply, ManyPairs, pair_or_none, first_pair, AllAbove, reply, get, IsRising, Call, Command, Map, PopFirst as PopOf}
+use Rattle.record.specs.Common.{Successor as SuccessorOf, Predecessor as PredecessorOf, Range as RangeOf, map_call, map_at, written_log, IsGreatestTurn}
+use Rattle.ordered_map.specs.OrderedMap.{call_pop_first, call_pop_last, call_successor, call_predecessor, Range, OnePair, last_pair, successor, predecessor, between}
+use Rattle.ordered_map.specs.declared.request.Request.TheVariants.{PopLast as PopLastOf}
 use Rattle.record.specs.declared.record.Line.{Line}
-use Rattle.record.specs.MapRecord.{map_call, map_at, written_log}
-use Rattle.record.specs.Placed.{IsGreatestTurn}
 use Rattle.linearization.specs.declared.places.Change.{Change}
 use Rattle.linearization.specs.declared.places.Place.{Place}
 use Rattle.linearization.specs.Entries.{AreEntries}

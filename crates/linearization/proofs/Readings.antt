@@ -3,16 +3,12 @@
 use Rattle.std.proofs.Common.{◌≡◌, ℕ, zero, suc, ◌<◌, inl, inr, false, leb, List, [], ◌∷◌, take, arith, Some, None, refl, sym, ap, subst}
 use Rattle.std.proofs.lemmas.Bool.{cases_lt, lt-leb, and_right}
 use Rattle.arena.specs.declared.layout.Layout.{Layout}
-use Rattle.ordered_map.specs.declared.pair.Pair.{Pair}
-use Rattle.ordered_map.specs.OrderedMap.{MapCall, ManyPairs, Range, between, reply}
+use Rattle.record.specs.Common.{Pair, MapCall, ManyPairs, reply, Call, answered, won, reply_told, map_at, written_log, entries_of_call, IsGreatestTurn, AreLines}
+use Rattle.ordered_map.specs.OrderedMap.{Range, between}
 use Rattle.ordered_map.specs.CallRules.{TakesNothing}
-use Rattle.script.specs.declared.call.Call.{Call}
 use Rattle.record.specs.declared.record.Line.{Line}
 use Rattle.record.specs.declared.record.Finished.{Finished}
-use Rattle.record.specs.Turns.{answered, won}
-use Rattle.record.specs.MapRecord.{reply_told, map_at, written_log, entries_of_call}
-use Rattle.record.specs.Placed.{IsGreatestTurn, IsPlacedReading}
-use Rattle.record.specs.LawfulRun.{AreLines}
+use Rattle.record.specs.Placed.{IsPlacedReading}
 use Rattle.record.proofs.Lemmas.{entries_none}
 
 -- An ordered read

@@ -3,10 +3,8 @@ use Rattle.std.proofs.Common.{◌≡◌, ◌≢◌, ℕ, zero, suc, ◌<◌, ◌
 use Rattle.std.specs.Option.{option_eq}
 use Rattle.std.specs.List.{filter}
 use Rattle.std.proofs.lemmas.Bool.{eq-eqb, ne_eqb, le-leb, lt-leb, lt-ltb, le-ltb, cases_order, cases_eq, cases_lt, or_right, or_left, not-false}
-use Rattle.ordered_map.specs.declared.pair.Pair.{Pair}
-use Rattle.ordered_map.specs.OrderedMap.{get, AllAbove, IsRising}
+use Rattle.record.specs.Common.{Pair, get, AllAbove, IsRising, Command}
 use Rattle.ordered_map.proofs.Lemmas.{get_above}
-use Rattle.script.specs.declared.command.Command.{Command}
 use Rattle.linearization.specs.Ordered.{looks_for, most_told, AreReadPairs, reaches, is_unlike}
 use Rattle.linearization.proofs.Chains.{values_same}
 

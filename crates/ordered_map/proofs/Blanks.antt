@@ -1,18 +1,8 @@
 -- What was in the tree above all keys is blank.
 use Rattle.std.proofs.Common.{◌≡◌, ℕ, ◌<◌, ◌%◌, true, false, ◌⊎◌, inl, inr, refl, sym, ◌∙◌, ap, arith, subst}
-use Rattle.arena.specs.declared.limits.Mode.{Mode}
-use Rattle.arena.specs.declared.limits.Mode.TheVariants.{Tree as TreeMode}
+use Rattle.histories.specs.Common.{Mode, Tree as TreeMode, Side, Left, Right, Settled, Child, Word, Layout, Row, node, child, first_key, History, Start, ◌⊳◌}
+use Rattle.histories.specs.Common.{value, count_of, plan_finalizes, field_index_of, count, field_index, member, new, old, side_of, plan, scx_finalizes, IsNamed}
 use Rattle.arena.specs.Layout.{IsMap}
-use Rattle.arena.specs.declared.word.Side.{Side}
-use Rattle.arena.specs.declared.word.Side.TheVariants.{Left, Right}
-use Rattle.arena.specs.declared.word.NodeWord.TheVariants.{Settled, Child}
-use Rattle.arena.specs.declared.word.Word.{Word}
-use Rattle.arena.specs.declared.layout.Layout.{Layout}
-use Rattle.arena.specs.declared.step.Row.{Row}
-use Rattle.arena.specs.Words.{node, child, first_key}
-use Rattle.arena.specs.History.{History, Start, ◌⊳◌, value}
-use Rattle.arena.specs.ScxRecords.{count_of, plan_finalizes, field_index_of, count, field_index, member, new, old, side_of, plan, scx_finalizes}
-use Rattle.arena.specs.Fills.{IsNamed}
 use Rattle.arena.proofs.Lemmas.{node_word_apart}
 use Rattle.histories.proofs.Lemmas.{UpdateWins, node_stays, update_keeps_other}
 use Rattle.ordered_map.specs.OrderedMap.{MapEdit, edit_key}

@@ -2,26 +2,12 @@
 use Rattle.std.proofs.Common.{◌≡◌, ◌≢◌, ℕ, ◌<◌, ◌≤◌, ◌+◌, ◌*◌, ◌/◌, ◌%◌, ◌^◌, true, false, eqb, eq-eqb, ne_eqb, ltb, ◌⊎◌, inl, inr, ⊎_elim, List, ◌++◌, refl, sym, ◌∙◌, ap, arith, zero, suc, subst, lt-ltb, cond, Bool}
 use Rattle.std.specs.Prelude.{None}
 use native.Mathlib.Decide.{ℕ_discrete}
-use Rattle.arena.specs.declared.limits.Mode.TheVariants.{Tree as TreeMode, Trie as TrieMode}
-use Rattle.arena.specs.declared.word.Side.{Side}
-use Rattle.arena.specs.declared.word.Side.TheVariants.{Left, Right}
-use Rattle.arena.specs.declared.word.NodeWord.TheVariants.{Settled, Child}
-use Rattle.arena.specs.declared.word.SettledPart.TheVariants.{Head, Key}
-use Rattle.arena.specs.declared.word.Slot.TheVariants.{First}
-use Rattle.arena.specs.declared.word.ScxWord.TheVariants.{New}
-use Rattle.arena.specs.declared.word.Word.{Word}
-use Rattle.arena.specs.declared.layout.Layout.{Layout}
-use Rattle.arena.specs.declared.step.Row.{Row}
+use Rattle.histories.specs.Common.{Tree as TreeMode, Side, Left, Right, Settled, Child, Head, Key, First, New, Word, Layout, Row, node, scx, info, marked, child, state, same_word}
+use Rattle.histories.specs.Common.{History, ◌⊳◌, value, HasHeld, Extends, count_of, plan_finalizes, field_index_of, count, field_index, member, seen, new, old, field, side_of}
+use Rattle.histories.specs.Common.{plan, scx_finalizes, IsNamed, by_field, by_scx, HasWon, Lawful, log, Descriptor, descriptor, count_in, field_index_in, field_in, IsRemoved}
+use Rattle.arena.specs.declared.limits.Mode.TheVariants.{Trie as TrieMode}
 use Rattle.arena.specs.Layout.{IsMap}
-use Rattle.arena.specs.Words.{node, scx, info, marked, child, state, same_word}
-use Rattle.arena.specs.History.{History, ◌⊳◌, value, HasHeld, Extends}
-use Rattle.arena.specs.ScxRecords.{count_of, plan_finalizes, field_index_of, count, field_index, member, seen, new, old, field, side_of, plan, scx_finalizes}
-use Rattle.arena.specs.Fills.{IsNamed, by_field, by_scx}
-use Rattle.arena.specs.Lawful.{HasWon, Lawful}
-use Rattle.arena.specs.Log.{log}
 use Rattle.arena.proofs.Lemmas.{value_at, held_at, node_word_apart, node_apart, ends_self, ends_trans}
-use Rattle.histories.specs.Descriptor.{Descriptor, descriptor, count_in, field_index_in, field_in}
-use Rattle.histories.specs.Finalizing.{IsRemoved}
 use Rattle.histories.proofs.Lemmas.{Facts, IsFlagged, IsMarker, UpdateWins, child_node, lawful_since, lawful_tail, log_wins, named_since, node_since, node_stays, some_is_real, update_differs, update_finds, update_flagged, update_held, update_holds, update_in_progress, update_is_first, update_keeps_mark, update_keeps_other, update_keeps_scx, update_won, won_more}
 use Rattle.ordered_map.specs.declared.pair.Pair.{Pair}
 use Rattle.ordered_map.specs.OrderedMap.{MapEdit, edit_key, edited, get, AllAbove}

@@ -5,20 +5,9 @@ use Rattle.std.proofs.lemmas.List.Elements.{All-nil, All-cons}
 use Rattle.std.specs.Prelude.{All}
 use Rattle.ordered_map.proofs.Inside.{tree_inside}
 use native.Mathlib.Decide.{ℕ_discrete}
-use Rattle.arena.specs.declared.limits.Mode.TheVariants.{Tree as TreeMode}
-use Rattle.arena.specs.declared.word.Side.TheVariants.{Left, Right}
-use Rattle.arena.specs.declared.word.NodeWord.{NodeWord}
-use Rattle.arena.specs.declared.word.NodeWord.TheVariants.{Settled, Child}
-use Rattle.arena.specs.declared.word.SettledPart.TheVariants.{Head}
-use Rattle.arena.specs.declared.word.Word.{Word}
-use Rattle.arena.specs.declared.layout.Layout.{Layout}
+use Rattle.histories.specs.Common.{Tree as TreeMode, Left, Right, NodeWord, Settled, Child, Head, Word, Layout, node, child, first_key}
+use Rattle.histories.specs.Common.{History, Start, ◌⊳◌, value, field_index, member, plan, side_of, opening_node, IsSettled, log}
 use Rattle.arena.specs.Layout.{tree_opening}
-use Rattle.arena.specs.Words.{node, child, first_key}
-use Rattle.arena.specs.History.{History, Start, ◌⊳◌, value}
-use Rattle.arena.specs.ScxRecords.{field_index, member, plan, side_of}
-use Rattle.arena.specs.Fills.{opening_node}
-use Rattle.arena.specs.Lawful.{IsSettled}
-use Rattle.arena.specs.Log.{log}
 use Rattle.arena.proofs.Lemmas.{node_apart, node_word_apart}
 use Rattle.histories.proofs.Lemmas.{Effect, Facts, effect, facts_before, freeze, freeze_keeps_field, quiet, update, update_keeps_other}
 use Rattle.ordered_map.specs.declared.pair.Pair.{Pair}

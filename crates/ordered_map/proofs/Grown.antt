@@ -1,19 +1,8 @@
 -- What is known after every history of the tree.
 use Rattle.std.proofs.Common.{◌≡◌, ◌≢◌, ℕ, inl, inr, ◌++◌, refl, sym, ◌∙◌, ap, arith, subst}
-use Rattle.arena.specs.declared.limits.Mode.{Mode}
-use Rattle.arena.specs.declared.limits.Mode.TheVariants.{Tree as TreeMode}
-use Rattle.arena.specs.declared.layout.Layout.{Layout}
-use Rattle.arena.specs.declared.step.Row.{Row}
-use Rattle.arena.specs.declared.word.Side.{Side}
-use Rattle.arena.specs.declared.word.Side.TheVariants.{Left, Right}
+use Rattle.histories.specs.Common.{Mode, Tree as TreeMode, Layout, Row, Side, Left, Right, info, child, History, Start, ◌⊳◌, value, HasHeld, Extends, seen, Lawful, log, IsBegin, Shaped}
 use Rattle.arena.specs.Layout.{IsMap}
-use Rattle.arena.specs.Words.{info, child}
 use Rattle.ordered_map.specs.Bits.{Keeps, IsTrieFork}
-use Rattle.arena.specs.History.{History, Start, ◌⊳◌, value, HasHeld, Extends}
-use Rattle.arena.specs.ScxRecords.{seen}
-use Rattle.arena.specs.Lawful.{Lawful}
-use Rattle.arena.specs.Log.{log}
-use Rattle.arena.specs.Shape.{IsBegin, Shaped}
 use Rattle.arena.proofs.Lemmas.{held_start, map_opens, opening_info}
 use Rattle.histories.proofs.Lemmas.{Effect, Facts, FreezeWins, effect, facts_before, freeze, freeze_in_progress, freeze_rest, lawful_since, lawful_tail, quiet, shaped_begin, shaped_since, shaped_tail, start_mode, update}
 use Rattle.ordered_map.specs.OrderedMap.{MapEdit}

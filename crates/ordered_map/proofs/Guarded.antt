@@ -2,15 +2,7 @@
 -- what puts one there covers node 2. So a walk to an end of the map knows by the info of node 2 that
 -- what it has passed is on the path to that end still.
 use Rattle.std.proofs.Common.{◌≡◌, ◌≢◌, ℕ, ◌/◌, ◌%◌, ◌<◌, true, false, ◌⊎◌, inl, inr, ⊎_elim, eqb, sym, ◌∙◌, ap, arith, subst}
-use Rattle.arena.specs.declared.layout.Layout.{Layout}
-use Rattle.arena.specs.declared.step.Row.{Row}
-use Rattle.arena.specs.declared.word.NodeWord.TheVariants.{Settled, Child}
-use Rattle.arena.specs.declared.word.SettledPart.TheVariants.{Head}
-use Rattle.arena.specs.Words.{node, info, state}
-use Rattle.arena.specs.History.{History, Start, ◌⊳◌, value, Extends}
-use Rattle.arena.specs.Fills.{IsNamed, opening_node}
-use Rattle.arena.specs.Lawful.{Lawful}
-use Rattle.arena.specs.Log.{log, is_final}
+use Rattle.histories.specs.Common.{Layout, Row, Settled, Child, Head, node, info, state, History, Start, ◌⊳◌, value, Extends, IsNamed, opening_node, Lawful, log, is_final}
 use Rattle.histories.proofs.Lemmas.{Effect, UpdateWins, effect, finished_stays, freeze, freeze_keeps_field, lawful_tail, named_since, node_stays, passed_stays, quiet, update, update_in_progress}
 use Rattle.ordered_map.specs.OrderedMap.{MapEdit}
 use Rattle.ordered_map.specs.Paths.{IsOnPath}

@@ -1,15 +1,8 @@
 -- Every node that was in the tree is in the table.
 use Rattle.std.proofs.Common.{◌≡◌, ◌≢◌, ℕ, ◌<◌, Bool, true, false, cond, ◌⊎◌, inl, inr, ⊎_elim, refl, sym, ◌∙◌, arith, ne_eqb}
 use native.Mathlib.Decide.{ℕ_discrete}
-use Rattle.arena.specs.declared.limits.Mode.{Mode}
-use Rattle.arena.specs.declared.word.NodeWord.TheVariants.{Settled}
-use Rattle.arena.specs.declared.word.SettledPart.TheVariants.{Head}
-use Rattle.arena.specs.declared.word.Word.{Word}
-use Rattle.arena.specs.declared.layout.Layout.{Layout}
-use Rattle.arena.specs.Layout.{is_map, opening_nodes, all_nodes, opening, tree_opening, IsWord}
-use Rattle.arena.specs.Words.{node, same_word}
-use Rattle.arena.specs.History.{History, Start, ◌⊳◌, value}
-use Rattle.arena.specs.Lawful.{Lawful}
+use Rattle.histories.specs.Common.{Mode, Settled, Head, Word, Layout, opening_nodes, all_nodes, opening, IsWord, node, same_word, History, Start, ◌⊳◌, value, Lawful}
+use Rattle.arena.specs.Layout.{is_map, tree_opening}
 use Rattle.arena.proofs.Lemmas.{word_same, value_other}
 use Rattle.histories.proofs.Lemmas.{lawful_row, lawful_since, lawful_tail, value_start}
 use Rattle.ordered_map.proofs.Trees.{passes_has}

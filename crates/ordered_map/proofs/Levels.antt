@@ -1,17 +1,7 @@
 -- No node of a tree is deeper than the log is long.
 use Rattle.std.proofs.Common.{◌≡◌, ℕ, ◌<◌, ◌/◌, ◌≤◌, zero, suc, length, refl, ap, arith, subst}
-use Rattle.arena.specs.declared.limits.Mode.{Mode}
-use Rattle.arena.specs.declared.limits.Mode.TheVariants.{Tree as TreeMode}
+use Rattle.histories.specs.Common.{Mode, Tree as TreeMode, Settled, Child, Head, Layout, Row, node, History, Start, ◌⊳◌, value, field_index, member, side_of, plan, IsNamed, log}
 use Rattle.arena.specs.Layout.{IsMap}
-use Rattle.arena.specs.declared.word.NodeWord.TheVariants.{Settled, Child}
-use Rattle.arena.specs.declared.word.SettledPart.TheVariants.{Head}
-use Rattle.arena.specs.declared.layout.Layout.{Layout}
-use Rattle.arena.specs.declared.step.Row.{Row}
-use Rattle.arena.specs.Words.{node}
-use Rattle.arena.specs.History.{History, Start, ◌⊳◌, value}
-use Rattle.arena.specs.ScxRecords.{field_index, member, side_of, plan}
-use Rattle.arena.specs.Fills.{IsNamed}
-use Rattle.arena.specs.Log.{log}
 use Rattle.arena.proofs.Lemmas.{node_word_apart}
 use Rattle.histories.proofs.Lemmas.{Logs, UpdateWins, log_wins, logs, node_stays, same, update_keeps_other, wins}
 use Rattle.ordered_map.specs.OrderedMap.{MapEdit}

@@ -1,6 +1,6 @@
 -- What each edit makes of the subtree that it replaces, whatever its leaves hold.
-use Rattle.std.proofs.Common.{◌≡◌, ◌≢◌, ℕ, ◌+◌, ◌*◌, ◌/◌, ◌%◌, ◌^◌, ◌<◌, ◌≤◌, Bool, true, false, cond, ◌⊎◌, inl, inr, ⊎_elim, List, [], ◌∷◌, ◌++◌, refl, sym, ◌∙◌, ap, arith, eqb, ltb, le-ltb, lt-ltb, subst, append-nil}
-use Rattle.std.proofs.lemmas.Bool.{eqb-true}
+use Rattle.std.proofs.Common.{◌≡◌, ◌≢◌, ℕ, ◌+◌, ◌*◌, ◌/◌, ◌%◌, ◌^◌, ◌<◌, ◌≤◌, Bool, true, false, cond, ◌⊎◌, inl, inr, ⊎_elim, List, [], ◌∷◌, ◌++◌, refl, sym, ◌∙◌, ap, arith, eqb, ltb, le-ltb, lt-ltb, subst}
+use Rattle.std.proofs.Common.{append-nil, eqb-true, None}
 use native.Mathlib.Decide.{ℕ_discrete}
 use Rattle.histories.specs.Common.{Side, Left, Right, Settled, Child, SettledPart, Head, Key, First, Word, node, child, first_key}
 use Rattle.ordered_map.specs.declared.pair.Pair.{Pair}
@@ -11,7 +11,6 @@ use Rattle.ordered_map.specs.Edits.{IsLowLeaf, IsSwapBy, IsSplitBy, IsJoinBy, Ar
 use Rattle.ordered_map.specs.TrieShape.{IsAboveBy}
 use Rattle.ordered_map.specs.Bits.{side_from, side_to, Shares, Keeps}
 use Rattle.ordered_map.proofs.Lists.{above_from, below_more, edited_from, edited_below, from_left, below_right, rising_left, rising_right}
-use Rattle.std.specs.Prelude.{None}
 use Rattle.ordered_map.proofs.Searches.{get_below}
 use Rattle.ordered_map.proofs.Spanned.{AreForks, child_items, child_shares, low_from, low_to, narrow_from, narrow_to, node_low}
 use Rattle.ordered_map.proofs.Maps.{edited_rises, get_above}

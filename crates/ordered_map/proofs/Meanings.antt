@@ -2,21 +2,9 @@
 -- spell, what a winning update makes of it, and what walks find.
 use Rattle.std.proofs.Common.{◌≡◌, ◌≢◌, ℕ, ◌^◌, ◌<◌, true, false, cond, eq-eqb, ne_eqb, ◌⊎◌, inl, inr, ⊎_elim, List, [], refl, sym, ◌∙◌, ap, arith, subst}
 use native.Mathlib.Decide.{ℕ_discrete}
-use Rattle.arena.specs.declared.word.Side.{Side}
-use Rattle.arena.specs.declared.word.Side.TheVariants.{Left, Right}
-use Rattle.arena.specs.declared.word.ScxWord.TheVariants.{Plan}
-use Rattle.arena.specs.declared.word.Word.{Word}
-use Rattle.arena.specs.declared.layout.Layout.{Layout}
-use Rattle.arena.specs.declared.step.Row.{Row}
-use Rattle.arena.specs.Words.{info, scx, child}
-use Rattle.arena.specs.History.{History, Start, ◌⊳◌, value, Extends}
-use Rattle.arena.specs.Blame.{IsMember}
-use Rattle.arena.specs.declared.limits.Mode.TheVariants.{Tree as TreeMode, Trie as TrieMode}
-use Rattle.arena.specs.ScxRecords.{count, count_of, member, plan, plan_finalizes, scx_finalizes}
-use Rattle.arena.specs.Fills.{IsNamed, IsNamedScx}
-use Rattle.arena.specs.Lawful.{Lawful, IsWin, HasWon}
-use Rattle.arena.specs.Log.{log, IsEntered}
-use Rattle.arena.specs.Shape.{IsBegin, Shaped}
+use Rattle.histories.specs.Common.{Side, Left, Right, Plan, Word, Layout, Row, info, scx, child, History, Start, ◌⊳◌, value, Extends, IsMember, Tree as TreeMode, count}
+use Rattle.histories.specs.Common.{count_of, member, plan, plan_finalizes, scx_finalizes, IsNamed, IsNamedScx, Lawful, IsWin, HasWon, log, IsEntered, IsBegin, Shaped}
+use Rattle.arena.specs.declared.limits.Mode.TheVariants.{Trie as TrieMode}
 use Rattle.arena.proofs.Lemmas.{held_back, held_start, opening_info, ends_self, ends_trans, value_apart}
 use Rattle.histories.proofs.Lemmas.{Effect, Facts, IsFirst, Logs, begins_once, scx_since, logs, same, wins, UpdateWins, effect, entered_won, facts, facts_before, freeze, freeze_held, lawful_row, lawful_since, lawful_tail, named_since, quiet, shaped_begin, shaped_since, shaped_tail, start_mode, some_is_real, update, update_flagged, update_held, won_named, won_real}
 use Rattle.ordered_map.specs.declared.pair.Pair.{Pair}
@@ -27,7 +15,6 @@ use Rattle.ordered_map.specs.Paths.{Passed, IsAnswerAt}
 use Rattle.ordered_map.specs.Laws.{AreEdits, SpellsLog}
 use Rattle.ordered_map.specs.Runs.{IsTreeRun, Makes, map_of_log, IsEditAt}
 use Rattle.ordered_map.specs.Spelled.{Spells}
-use Rattle.ordered_map.specs.TrieShape.{Stays}
 use Rattle.ordered_map.specs.TreeShape.{IsEdit, TakesLeafOut, leaf_place, edit_leaf, TreeAllows}
 use Rattle.ordered_map.specs.TreeWords.{class, is_leaf, level, toward, pairs, said}
 use Rattle.ordered_map.proofs.TreeFacts.{TreeFacts}

@@ -1,11 +1,6 @@
 -- The facts of an edit go over to words that agree on its nodes.
 use Rattle.std.proofs.Common.{◌≡◌, ℕ, ◌+◌, ◌*◌, ◌/◌, ◌%◌, ◌^◌, false, eqb, inl, inr, ◌++◌, sym, ◌∙◌, ap, ltb, cond, subst}
-use Rattle.arena.specs.declared.word.Side.{Side}
-use Rattle.arena.specs.declared.word.Side.TheVariants.{Left, Right}
-use Rattle.arena.specs.declared.word.NodeWord.TheVariants.{Settled}
-use Rattle.arena.specs.declared.word.SettledPart.TheVariants.{Head}
-use Rattle.arena.specs.declared.word.Word.{Word}
-use Rattle.arena.specs.Words.{child, first_key}
+use Rattle.histories.specs.Common.{Side, Left, Right, Settled, Head, Word, child, first_key}
 use Rattle.ordered_map.specs.OrderedMap.{AllBelow, AllFrom, MapEdit, edit_key, edited, end_pair, get}
 use Rattle.ordered_map.specs.TreeWords.{class, is_leaf, level, rank, toward, opposite, said, end_said, leaf_items}
 use Rattle.ordered_map.proofs.Holding.{SameSettled, held_same, counted_same, same_items, same_pairs}

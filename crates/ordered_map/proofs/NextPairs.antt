@@ -1,11 +1,7 @@
 -- What the search for the next key on a side of k finds is what the pairs of the tree say: a leaf
 -- above all keys has no pair.
-use Rattle.std.proofs.Common.{◌≡◌, ℕ, ◌^◌, ◌<◌, ◌≤◌, Bool, true, false, cond, ltb, ◌⊎◌, inl, inr, List, [], ◌∷◌, refl, sym, ◌∙◌, ap, arith, lt-ltb, le-ltb}
-use Rattle.std.specs.Prelude.{Option, Some, None, unwrap_or}
-use Rattle.arena.specs.declared.layout.Layout.{Layout}
-use Rattle.arena.specs.declared.word.Side.{Side}
-use Rattle.arena.specs.declared.word.Side.TheVariants.{Left, Right}
-use Rattle.arena.specs.declared.word.Word.{Word}
+use Rattle.std.proofs.Common.{◌≡◌, ℕ, ◌^◌, ◌<◌, ◌≤◌, Bool, true, false, cond, ltb, ◌⊎◌, inl, inr, List, [], ◌∷◌, refl, sym, ◌∙◌, ap, arith, lt-ltb, le-ltb, Option, Some, None, unwrap_or}
+use Rattle.histories.specs.Common.{Layout, Side, Left, Right, Word}
 use Rattle.ordered_map.specs.declared.pair.Pair.{Pair}
 use Rattle.ordered_map.specs.OrderedMap.{AllAbove, IsRising, successor, predecessor, neighbour}
 use Rattle.ordered_map.specs.Spelled.{Spells}

@@ -4,10 +4,7 @@ use Rattle.std.proofs.Common.{◌≡◌, ◌≢◌, ℕ, ◌+◌, ◌-◌, ◌^�
 use Rattle.std.proofs.lemmas.Bool.{cases_lt, cases_order}
 use Rattle.std.proofs.Math.Pow.{pow_mono}
 use native.Mathlib.Decide.{ℕ_discrete}
-use Rattle.arena.specs.declared.word.Side.{Side}
-use Rattle.arena.specs.declared.word.Side.TheVariants.{Left, Right}
-use Rattle.arena.specs.declared.word.Word.{Word}
-use Rattle.arena.specs.Words.{node, first_key}
+use Rattle.histories.specs.Common.{Side, Left, Right, Word, node, first_key}
 use Rattle.ordered_map.specs.TreeWords.{class, is_leaf, level, rank, toward, opposite}
 use Rattle.ordered_map.specs.Bits.{room, side_from, side_to, Shares, IsParted, Keeps, IsForkKey, IsInSpan, PartsKeys}
 use Rattle.ordered_map.proofs.Bits.{key_is}

@@ -1,6 +1,5 @@
 -- The pairs of a leaf, parted at a key between the first and the last: each part has some of them.
-use Rattle.std.proofs.Common.{◌≡◌, ℕ, suc, ◌+◌, ◌<◌, ◌≤◌, List, [], ◌∷◌, ◌++◌, length, length-append, sym, ◌∙◌, ap, subst, arith, rules}
-use Rattle.std.specs.Prelude.{Some, unwrap_or}
+use Rattle.std.proofs.Common.{◌≡◌, ℕ, suc, ◌+◌, ◌<◌, ◌≤◌, List, [], ◌∷◌, ◌++◌, length, length-append, sym, ◌∙◌, ap, subst, arith, rules, Some, unwrap_or}
 use Rattle.ordered_map.specs.declared.pair.Pair.{Pair}
 use Rattle.arena.specs.declared.word.Side.TheVariants.{Right}
 use Rattle.ordered_map.specs.OrderedMap.{AllAbove, AllBelow, AllFrom, IsRising, first_pair, last_pair}

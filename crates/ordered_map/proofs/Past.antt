@@ -1,24 +1,11 @@
 -- A walk by child loads visits only nodes that were on the search path at a moment since its start.
-use Rattle.std.proofs.Common.{◌≡◌, ◌≢◌, ℕ, ◌<◌, ◌≤◌, ◌*◌, ◌/◌, ◌%◌, ◌^◌, true, false, eqb, ltb, ◌⊎◌, inl, inr, ⊎_elim, refl, sym, ◌∙◌, ap, arith, subst, cond}
-use Rattle.std.specs.Prelude.{Option}
+use Rattle.std.proofs.Common.{◌≡◌, ◌≢◌, ℕ, ◌<◌, ◌≤◌, ◌*◌, ◌/◌, ◌%◌, ◌^◌, true, false, eqb, ltb, ◌⊎◌, inl, inr, ⊎_elim, refl, sym, ◌∙◌, ap, arith, subst, cond, Option}
 use native.Mathlib.Decide.{ℕ_discrete}
-use Rattle.arena.specs.declared.limits.Mode.TheVariants.{Tree as TreeMode}
-use Rattle.arena.specs.declared.word.Side.{Side}
-use Rattle.arena.specs.declared.word.Side.TheVariants.{Left, Right}
-use Rattle.arena.specs.declared.word.NodeWord.TheVariants.{Settled, Child}
-use Rattle.arena.specs.declared.word.SettledPart.TheVariants.{Head}
-use Rattle.arena.specs.declared.word.Word.{Word}
-use Rattle.arena.specs.declared.layout.Layout.{Layout}
-use Rattle.arena.specs.declared.step.Row.{Row}
+use Rattle.histories.specs.Common.{Tree as TreeMode, Side, Left, Right, Settled, Child, Head, Word, Layout, Row, node, marked, child}
+use Rattle.histories.specs.Common.{History, Start, ◌⊳◌, value, Extends, field_index, member, plan, side_of, IsNamed, Lawful, log}
 use Rattle.arena.specs.Layout.{IsMap}
-use Rattle.arena.specs.Words.{node, marked, child}
 use Rattle.ordered_map.specs.TrieShape.{Stays}
 use Rattle.ordered_map.proofs.Spanned.{node_from, own_share, same_stays}
-use Rattle.arena.specs.History.{History, Start, ◌⊳◌, value, Extends}
-use Rattle.arena.specs.ScxRecords.{field_index, member, plan, side_of}
-use Rattle.arena.specs.Fills.{IsNamed}
-use Rattle.arena.specs.Lawful.{Lawful}
-use Rattle.arena.specs.Log.{log}
 use Rattle.arena.proofs.Lemmas.{node_apart, ends_self, ends_trans}
 use Rattle.histories.proofs.Lemmas.{Effect, Facts, effect, facts_before, freeze, freeze_keeps_field, lawful_tail, named_since, node_since, node_stays, quiet, update, update_keeps_mark, update_keeps_other}
 use Rattle.ordered_map.specs.OrderedMap.{MapEdit, get, AllAbove}

@@ -1,21 +1,10 @@
 -- What is kept of an SCX-record from its start to its update.
 use Rattle.std.proofs.Common.{◌≡◌, ◌≢◌, ℕ, ◌<◌, true, false, ◌⊎◌, inl, inr, ⊎_elim, refl, sym, ◌∙◌, subst}
 use native.Mathlib.Decide.{ℕ_discrete}
-use Rattle.arena.specs.declared.word.Side.{Side}
-use Rattle.arena.specs.declared.word.Side.TheVariants.{Left, Right}
-use Rattle.arena.specs.declared.word.NodeWord.{NodeWord}
-use Rattle.arena.specs.declared.word.NodeWord.TheVariants.{Settled, Child}
-use Rattle.arena.specs.declared.word.SettledPart.TheVariants.{Head}
-use Rattle.arena.specs.declared.word.ScxWord.TheVariants.{State, New, Member}
-use Rattle.arena.specs.declared.layout.Layout.{Layout}
-use Rattle.arena.specs.declared.step.Row.{Row}
-use Rattle.arena.specs.Words.{node, scx, info, child, state}
-use Rattle.arena.specs.History.{History, ◌⊳◌, value, HasHeld, Extends}
-use Rattle.arena.specs.ScxRecords.{count, field, field_index, member, seen, new, old, side_of, plan}
-use Rattle.arena.specs.Fills.{IsNamed, by_field, by_scx, IsNamedScx}
-use Rattle.arena.specs.Lawful.{IsSettled, Lawful}
+use Rattle.histories.specs.Common.{Side, Left, Right, NodeWord, Settled, Child, Head, State, New, Member, Layout, Row, node, scx, info, child}
+use Rattle.histories.specs.Common.{state, History, ◌⊳◌, value, HasHeld, Extends, count, field, field_index, member, seen, new, old, side_of, plan}
+use Rattle.histories.specs.Common.{IsNamed, by_field, by_scx, IsNamedScx, IsSettled, Lawful, Descriptor, descriptor, count_in, field_index_in}
 use Rattle.arena.proofs.Lemmas.{held_at, held_back, node_apart}
-use Rattle.histories.specs.Descriptor.{Descriptor, descriptor, count_in, field_index_in}
 use Rattle.histories.specs.Progress.{Froze}
 use Rattle.histories.proofs.Lemmas.{About, Facts, FreezeWins, Kept, UpdateWins, descriptor_same, freeze_descriptor, freeze_distinct, freeze_finds, freeze_held, freeze_in_progress, freeze_keeps_field, freeze_keeps_info, freeze_keeps_scx, freeze_stores, named_more, node_stays, stays_ended, update_descriptor, update_held, update_holds, update_in_progress, update_keeps_info, update_keeps_other, update_keeps_scx}
 use Rattle.ordered_map.specs.OrderedMap.{MapEdit}

@@ -1,14 +1,7 @@
 -- A node that was on a search path, and is not final, still is on it; so what was in the tree, and
 -- is not final, still is there.
 use Rattle.std.proofs.Common.{◌≡◌, ℕ, ◌<◌, ◌≤◌, ◌*◌, ◌^◌, true, false, Bool, ◌⊎◌, inl, inr, ⊎_elim, refl, sym, ◌∙◌, subst}
-use Rattle.arena.specs.declared.layout.Layout.{Layout}
-use Rattle.arena.specs.declared.step.Row.{Row}
-use Rattle.arena.specs.declared.word.NodeWord.TheVariants.{Child}
-use Rattle.arena.specs.History.{History, Start, ◌⊳◌, value, Extends}
-use Rattle.arena.specs.ScxRecords.{plan_finalizes, member}
-use Rattle.arena.specs.Log.{log, is_final}
-use Rattle.histories.specs.Descriptor.{Descriptor, count_in}
-use Rattle.histories.specs.Finalizing.{IsRemoved}
+use Rattle.histories.specs.Common.{Layout, Row, Child, History, Start, ◌⊳◌, value, Extends, plan_finalizes, member, log, is_final, Descriptor, count_in, IsRemoved, Tree as TreeMode, IsNamed}
 use Rattle.histories.proofs.Lemmas.{Effect, UpdateWins, by_final, descriptor_stays, effect, final_by, finalized_by_stays, freeze, freeze_keeps_field, lawful_tail, named_since, node_stays, quiet, removed_stays, some_is_real, update, update_flagged, update_won}
 use Rattle.ordered_map.specs.OrderedMap.{MapEdit}
 use Rattle.ordered_map.specs.Paths.{IsOnPath, WasInTree}
@@ -16,8 +9,6 @@ use Rattle.ordered_map.specs.Spelled.{IsTree}
 use Rattle.ordered_map.specs.TreeWords.{Tree, Has, Passes, is_leaf}
 use Rattle.ordered_map.specs.TrieShape.{Stays}
 use Rattle.ordered_map.proofs.Spanned.{same_stays}
-use Rattle.arena.specs.declared.limits.Mode.TheVariants.{Tree as TreeMode}
-use Rattle.arena.specs.Fills.{IsNamed}
 use Rattle.ordered_map.proofs.Trees.{passes_has}
 use Rattle.ordered_map.proofs.Edited.{IsCut, past, result, tree_now}
 use Rattle.ordered_map.proofs.Grown.{IsGrown, grown_tail}

@@ -2,23 +2,9 @@
 -- a node has been in the tree, or is a leaf.
 use Rattle.std.proofs.Common.{◌≡◌, ℕ, zero, suc, ◌<◌, ◌/◌, ◌%◌, ◌⊎◌, inl, inr, ⊎_elim, Bool, true, false, cond, eqb, refl, sym, ◌∙◌, ap, subst, arith}
 use native.Mathlib.Decide.{ℕ_discrete}
-use Rattle.arena.specs.declared.limits.Mode.{Mode}
-use Rattle.arena.specs.declared.limits.Mode.TheVariants.{Tree as TreeMode}
-use Rattle.arena.specs.declared.layout.Layout.{Layout}
-use Rattle.arena.specs.declared.step.Kind.TheVariants.{Fill}
-use Rattle.arena.specs.declared.step.Row.{Row}
-use Rattle.arena.specs.declared.word.Side.{Side}
-use Rattle.arena.specs.declared.word.Side.TheVariants.{Left, Right}
-use Rattle.arena.specs.declared.word.NodeWord.{NodeWord}
-use Rattle.arena.specs.declared.word.NodeWord.TheVariants.{Settled, Child, Info, Marked}
-use Rattle.arena.specs.declared.word.SettledPart.TheVariants.{Head}
-use Rattle.arena.specs.declared.word.ScxWord.TheVariants.{AllFrozen}
+use Rattle.histories.specs.Common.{Mode, Tree as TreeMode, Layout, Fill, Row, Side, Left, Right, NodeWord, Settled, Child, Info, Marked, Head, AllFrozen, node, scx, info}
+use Rattle.histories.specs.Common.{marked, child, state, same_word, History, Start, ◌⊳◌, value, Extends, HasHeld, log, is_final, Lawful, member, new, field, plan, side_of}
 use Rattle.arena.specs.Layout.{tree_opening, IsMap}
-use Rattle.arena.specs.Words.{node, scx, info, marked, child, state, same_word}
-use Rattle.arena.specs.History.{History, Start, ◌⊳◌, value, Extends, HasHeld}
-use Rattle.arena.specs.Log.{log, is_final}
-use Rattle.arena.specs.Lawful.{Lawful}
-use Rattle.arena.specs.ScxRecords.{member, new, field, plan, side_of}
 use Rattle.arena.proofs.Lemmas.{map_opens, held_at, held_split, held_start, node_apart, node_word_apart, value_apart, value_at, value_other, value_quiet, word_same}
 use Rattle.histories.proofs.Lemmas.{Change, UpdateWins, aborts, change, commits, fills_node, fills_scx, freezes, lawful_row, lawful_tail, marks, nothing, sets_frozen, shaped_tail, updates}
 use Rattle.ordered_map.specs.TreeShape.{TreeAllows}

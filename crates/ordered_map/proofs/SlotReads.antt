@@ -1,11 +1,6 @@
 -- What a leaf says of a key that is read slot by slot. Each slot has its pair, or leaves it to those behind it.
-use Rattle.std.proofs.Common.{◌≡◌, ◌≢◌, ℕ, ◌<◌, ◌≤◌, List, ◌∷◌, refl, ◌∙◌, ap, arith, subst, eq-eqb, ne_eqb}
-use Rattle.std.specs.Prelude.{Some, None}
-use Rattle.arena.specs.declared.word.NodeWord.TheVariants.{Settled}
-use Rattle.arena.specs.declared.word.SettledPart.TheVariants.{More, Key}
-use Rattle.arena.specs.declared.word.Slot.{Slot}
-use Rattle.arena.specs.declared.word.Word.{Word}
-use Rattle.arena.specs.Words.{node}
+use Rattle.std.proofs.Common.{◌≡◌, ◌≢◌, ℕ, ◌<◌, ◌≤◌, List, ◌∷◌, refl, ◌∙◌, ap, arith, subst, eq-eqb, ne_eqb, Some, None}
+use Rattle.histories.specs.Common.{Settled, More, Key, Slot, Word, node}
 use Rattle.ordered_map.specs.declared.pair.Pair.{Pair}
 use Rattle.ordered_map.specs.OrderedMap.{IsRising, get}
 use Rattle.ordered_map.specs.Holding.{slot_behind, pair_in, held_from, held_behind}

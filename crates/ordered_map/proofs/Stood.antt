@@ -1,15 +1,7 @@
 -- Which nodes ever were in the tree: each was there at the start, or an update has put it there.
 use Rattle.std.proofs.Common.{◌≡◌, ℕ, ◌<◌, ◌⊎◌, inl, inr, ⊎_elim, sym, ◌∙◌, arith, subst}
-use Rattle.arena.specs.declared.limits.Mode.{Mode}
-use Rattle.arena.specs.declared.word.Side.{Side}
-use Rattle.arena.specs.declared.word.NodeWord.TheVariants.{Settled, Child}
-use Rattle.arena.specs.declared.layout.Layout.{Layout}
-use Rattle.arena.specs.declared.step.Row.{Row}
+use Rattle.histories.specs.Common.{Mode, Side, Settled, Child, Layout, Row, child, History, Start, ◌⊳◌, value, Extends, IsNamed, Lawful}
 use Rattle.arena.specs.Layout.{IsMap}
-use Rattle.arena.specs.Words.{child}
-use Rattle.arena.specs.History.{History, Start, ◌⊳◌, value, Extends}
-use Rattle.arena.specs.Fills.{IsNamed}
-use Rattle.arena.specs.Lawful.{Lawful}
 use Rattle.arena.proofs.Lemmas.{ends_self}
 use Rattle.histories.proofs.Lemmas.{Effect, Facts, UpdateWins, effect, facts_before, freeze, freeze_keeps_field, named_since, node_stays, quiet, update}
 use Rattle.ordered_map.specs.OrderedMap.{MapEdit}

@@ -2,28 +2,11 @@
 -- allow.
 use Rattle.std.proofs.Common.{◌≡◌, ◌≢◌, ℕ, ◌+◌, ◌<◌, ◌≤◌, suc, Bool, true, false, cond, eqb, eq-eqb, ne_eqb, length, ◌⊎◌, inl, inr, ⊎_elim, List, [], ◌∷◌, refl, sym, ◌∙◌, ap, arith, subst}
 use native.Mathlib.Decide.{ℕ_discrete}
-use Rattle.arena.specs.declared.limits.Mode.{Mode}
-use Rattle.arena.specs.declared.limits.Mode.TheVariants.{Tree as TreeMode}
-use Rattle.arena.specs.declared.word.NodeWord.{NodeWord}
-use Rattle.arena.specs.declared.word.NodeWord.TheVariants.{Settled, Child, Info, Marked}
-use Rattle.arena.specs.declared.word.SettledPart.TheVariants.{Head}
-use Rattle.arena.specs.declared.word.ScxWord.TheVariants.{AllFrozen, New}
-use Rattle.arena.specs.declared.word.Word.{Word}
-use Rattle.arena.specs.declared.word.Word.TheVariants.{Node, Scx}
-use Rattle.arena.specs.declared.layout.Layout.{Layout}
-use Rattle.arena.specs.declared.step.Row.{Row}
-use Rattle.arena.specs.declared.step.Kind.{Kind}
-use Rattle.arena.specs.declared.step.Kind.TheVariants.{Fill}
-use Rattle.arena.specs.Layout.{opening_nodes}
-use Rattle.arena.specs.Words.{node, scx, info, marked, state}
-use Rattle.arena.specs.History.{History, Start, ◌⊳◌, value}
-use Rattle.arena.specs.ScxRecords.{member, new, field, field_index, side_of, plan}
-use Rattle.arena.specs.Fills.{IsTakenNode}
-use Rattle.arena.specs.Lawful.{HasWon, Lawful}
-use Rattle.arena.specs.Log.{Entry, log, has}
+use Rattle.histories.specs.Common.{Mode, Tree as TreeMode, NodeWord, Settled, Child, Info, Marked, Head, AllFrozen, New, Word, Node, Scx, Layout, Row, Kind, Fill, opening_nodes, node, scx}
+use Rattle.histories.specs.Common.{info, marked, state, History, Start, ◌⊳◌, value, member, new, field, field_index, side_of, plan, IsTakenNode, HasWon, Lawful, Entry, log, has, taken_nodes}
 use Rattle.arena.proofs.Lemmas.{value_quiet, value_apart, node_apart, node_word_apart, taken_node_more, fill_takes_node}
 use Rattle.histories.proofs.Lemmas.{Change, Facts, Logs, UpdateWins, aborts, change, commits, facts_before, fills_node, fills_scx, freezes, lawful_row, lawful_tail, logs, marks, nothing, same, scx_stays, sets_frozen, some_is_real, update_about, update_flagged, update_is_first, update_won, updates, value_start, wins, won_more, won_named, won_real}
-use Rattle.arena.specs.TakenNodes.{with_fill, taken_nodes}
+use Rattle.arena.specs.TakenNodes.{with_fill}
 use Rattle.ordered_map.specs.OrderedMap.{MapEdit}
 use Rattle.ordered_map.specs.Paths.{WasInTree}
 use Rattle.ordered_map.specs.TreeWords.{level}

@@ -2,23 +2,11 @@
 use Rattle.std.proofs.Common.{◌≡◌, ◌≢◌, ℕ, ◌<◌, false, ◌⊎◌, inl, inr, ⊎_elim, ◌++◌, refl, sym, ◌∙◌, ap, arith, subst}
 use native.Mathlib.Decide.{ℕ_discrete}
 use Rattle.arena.specs.declared.limits.Mode.TheVariants.{Trie as TrieMode}
-use Rattle.arena.specs.declared.word.Side.{Side}
-use Rattle.arena.specs.declared.word.NodeWord.{NodeWord}
-use Rattle.arena.specs.declared.word.NodeWord.TheVariants.{Settled, Child, Info, Marked}
-use Rattle.arena.specs.declared.word.SettledPart.TheVariants.{Head}
-use Rattle.arena.specs.declared.word.ScxWord.TheVariants.{New, Member}
-use Rattle.arena.specs.declared.layout.Layout.{Layout}
-use Rattle.arena.specs.declared.step.Row.{Row}
-use Rattle.arena.specs.declared.step.Kind.TheVariants.{Freeze, Update}
-use Rattle.arena.specs.Layout.{opening_nodes, tree_opening, IsMap}
-use Rattle.arena.specs.Words.{same_node_word, node, scx, info, marked, child}
-use Rattle.arena.specs.History.{History, Start, ◌⊳◌, value, HasHeld, Extends}
-use Rattle.arena.specs.ScxRecords.{count, member, seen, new}
-use Rattle.arena.specs.Fills.{IsNamed, opening_node, by_field, by_scx, IsNamedScx}
-use Rattle.arena.specs.Lawful.{MayBegin, IsSettled, HasWon, Lawful}
-use Rattle.arena.specs.Log.{log}
+use Rattle.histories.specs.Common.{Side, NodeWord, Settled, Child, Info, Marked, Head, New, Member, Layout, Row, Freeze, Update, opening_nodes}
+use Rattle.histories.specs.Common.{same_node_word, node, scx, info, marked, child, History, Start, ◌⊳◌, value, HasHeld, Extends, count, member, seen}
+use Rattle.histories.specs.Common.{new, IsNamed, opening_node, by_field, by_scx, IsNamedScx, MayBegin, IsSettled, HasWon, Lawful, log, descriptor}
+use Rattle.arena.specs.Layout.{tree_opening, IsMap}
 use Rattle.arena.proofs.Lemmas.{map_opens, value_apart, held_at, held_more, held_back, node_word_apart, ends_self}
-use Rattle.histories.specs.Descriptor.{descriptor}
 use Rattle.histories.proofs.Lemmas.{Facts, FreezeWins, Kept, Logs, first_frozen, freeze_descriptor, freeze_distinct, freeze_finds, freeze_held, freeze_is_new, freeze_keeps_field, freeze_keeps_info, freeze_keeps_mark, freeze_keeps_scx, freeze_real, freeze_stores, lawful_tail, log_same, logs, named_since, node_since, node_stays, same, start_mode, update_is_first, update_won, wins, won_more}
 use Rattle.ordered_map.specs.OrderedMap.{MapEdit}
 use Rattle.ordered_map.proofs.Pending.{AllowsGiven, tree_named, tree_field, Mine, Pending, Holds, pending_kept, pending_freeze}

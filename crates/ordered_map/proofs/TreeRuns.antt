@@ -1,18 +1,7 @@
 -- What a history of the tree keeps, whatever edits it makes: levels, how deep it is, what is blank,
 -- and which nodes are final.
 use Rattle.std.proofs.Common.{◌≡◌, ◌≢◌, ◌⊎◌, inl, inr, ⊎_elim, ◌+◌, ◌<◌, ◌≤◌, Bool, true, false, ℕ, length, refl, ◌∙◌, arith}
-use Rattle.arena.specs.declared.layout.Layout.{Layout}
-use Rattle.arena.specs.declared.word.Side.{Side}
-use Rattle.arena.specs.declared.word.Side.TheVariants.{Left, Right}
-use Rattle.arena.specs.declared.word.NodeWord.TheVariants.{Settled}
-use Rattle.arena.specs.declared.word.SettledPart.TheVariants.{Head}
-use Rattle.arena.specs.Words.{node, child, marked}
-use Rattle.arena.specs.declared.step.Row.{Row}
-use Rattle.arena.specs.ScxRecords.{new}
-use Rattle.arena.specs.History.{History, ◌⊳◌, value, Extends}
-use Rattle.arena.specs.Log.{log, is_final}
-use Rattle.arena.specs.Fills.{IsInField}
-use Rattle.arena.specs.TakenNodes.{taken_nodes}
+use Rattle.histories.specs.Common.{Layout, Side, Left, Right, Settled, Head, node, child, marked, Row, new, History, ◌⊳◌, value, Extends, log, is_final, IsInField, taken_nodes}
 use Rattle.histories.proofs.Lemmas.{Facts, UpdateWins, facts_before, node_since, not_final}
 use Rattle.ordered_map.specs.OrderedMap.{MapEdit}
 use Rattle.ordered_map.specs.TreeWords.{Tree, Has, is_leaf, level, IsBlankAboveKeys, root}

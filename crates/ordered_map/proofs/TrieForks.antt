@@ -2,19 +2,10 @@
 -- So no node is deeper than level 66.
 use Rattle.std.proofs.Common.{◌≡◌, ◌≢◌, ℕ, ◌/◌, ◌%◌, ◌+◌, ◌<◌, ◌≤◌, Bool, true, false, ◌⊎◌, inl, inr, ⊎_elim, length, refl, sym, ◌∙◌, ap, arith, eqb, subst}
 use native.Mathlib.Decide.{ℕ_discrete}
-use Rattle.arena.specs.declared.limits.Mode.{Mode}
-use Rattle.arena.specs.declared.limits.Mode.TheVariants.{Tree as TreeMode, Trie as TrieMode, Records}
-use Rattle.arena.specs.declared.layout.Layout.{Layout}
-use Rattle.arena.specs.declared.step.Row.{Row}
-use Rattle.arena.specs.declared.word.Side.{Side}
-use Rattle.arena.specs.declared.word.NodeWord.TheVariants.{Settled, Child}
-use Rattle.arena.specs.declared.word.SettledPart.TheVariants.{Head}
+use Rattle.histories.specs.Common.{Mode, Tree as TreeMode, Records, Layout, Row, Side, Settled, Child, Head, node, child, History}
+use Rattle.histories.specs.Common.{Start, ◌⊳◌, value, Extends, field_index, member, plan, side_of, IsNamed, by_field, taken_nodes}
+use Rattle.arena.specs.declared.limits.Mode.TheVariants.{Trie as TrieMode}
 use Rattle.arena.specs.Layout.{IsMap}
-use Rattle.arena.specs.Words.{node, child}
-use Rattle.arena.specs.History.{History, Start, ◌⊳◌, value, Extends}
-use Rattle.arena.specs.ScxRecords.{field_index, member, plan, side_of}
-use Rattle.arena.specs.Fills.{IsNamed, by_field}
-use Rattle.arena.specs.TakenNodes.{taken_nodes}
 use Rattle.arena.proofs.Lemmas.{held_at, node_apart}
 use Rattle.histories.proofs.Lemmas.{Effect, Facts, effect, facts_before, freeze, freeze_keeps_field, lawful_tail, named_since, node_since, node_stays, quiet, update, update_keeps_other}
 use Rattle.ordered_map.specs.OrderedMap.{MapEdit}

@@ -1,9 +1,6 @@
 -- What a history of a trie keeps, whatever edits it makes.
 use Rattle.std.proofs.Common.{◌≡◌, ℕ, ◌<◌, ◌≤◌, length, refl, subst, arith}
-use Rattle.arena.specs.declared.layout.Layout.{Layout}
-use Rattle.arena.specs.History.{History, value}
-use Rattle.arena.specs.Log.{log}
-use Rattle.arena.specs.TakenNodes.{taken_nodes}
+use Rattle.histories.specs.Common.{Layout, History, value, log, taken_nodes}
 use Rattle.ordered_map.specs.OrderedMap.{MapEdit}
 use Rattle.ordered_map.specs.TreeWords.{level}
 use Rattle.ordered_map.specs.Spelled.{Spells}

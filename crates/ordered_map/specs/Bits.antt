@@ -1,11 +1,7 @@
 -- The shape of a trie: a fork parts keys at a bit, the lowest that its key has, and what stands
 -- below it keeps to the keys of its side.
 use Rattle.std.specs.Prelude.{◌≡◌, ◌≢◌, ℕ, ◌+◌, ◌-◌, ◌*◌, ◌%◌, ◌^◌, ◌<◌, ◌≤◌, true, false, if◌then◌else◌, ◌==◌}
-use Rattle.arena.specs.declared.word.Side.{Side}
-use Rattle.arena.specs.declared.word.Side.TheVariants.{Left, Right}
-use Rattle.arena.specs.declared.word.Word.{Word}
-use Rattle.arena.specs.Words.{node, child, first_key}
-use Rattle.arena.specs.History.{History, value}
+use Rattle.histories.specs.Common.{Side, Left, Right, Word, node, child, first_key, History, value}
 use Rattle.ordered_map.specs.OrderedMap.{AllBelow, AllFrom}
 use Rattle.ordered_map.specs.Holding.{held_pairs}
 use Rattle.ordered_map.specs.TreeWords.{class, is_leaf, level}

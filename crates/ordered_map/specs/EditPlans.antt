@@ -1,8 +1,7 @@
 -- The plan words of edits, by the side of the field that they change, and where they cover a leaf that
 -- is taken out and its sibling.
 use Rattle.std.specs.Prelude.{ℕ}
-use Rattle.arena.specs.declared.word.Side.{Side}
-use Rattle.arena.specs.declared.word.Side.TheVariants.{Left, Right}
+use Rattle.histories.specs.Common.{Side, Left, Right}
 
 -- the plan word of an edit of a leaf, that changes the field on this side
 abbrev pub leaf_plan : Side → ℕ

@@ -1,12 +1,6 @@
 -- What the laws say of a history of the tree, in the map's own terms.
 use Rattle.std.specs.Prelude.{◌≡◌, ◌+◌, ◌<◌, ◌≤◌, ◌^◌, ℕ, true, false, length, List}
-use Rattle.arena.specs.declared.layout.Layout.{Layout}
-use Rattle.arena.specs.declared.step.Row.{Row}
-use Rattle.arena.specs.declared.word.Word.{Word}
-use Rattle.arena.specs.History.{History, ◌⊳◌, value, Extends}
-use Rattle.arena.specs.Lawful.{IsWin}
-use Rattle.arena.specs.Log.{log, IsEntered, is_final}
-use Rattle.arena.specs.TakenNodes.{taken_nodes}
+use Rattle.histories.specs.Common.{Layout, Row, Word, History, ◌⊳◌, value, Extends, IsWin, log, IsEntered, is_final, taken_nodes}
 use Rattle.ordered_map.specs.declared.pair.Pair.{Pair}
 use Rattle.ordered_map.specs.OrderedMap.{MapEdit}
 use Rattle.ordered_map.specs.TreeWords.{Tree, Has, is_leaf, level, said, IsBlankAboveKeys}

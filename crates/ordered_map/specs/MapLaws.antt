@@ -1,7 +1,6 @@
 -- What the calls of a map do, by its values.
 use Rattle.std.specs.Prelude.{◌≡◌, ◌≢◌, ℕ, ◌<◌, if◌then◌else◌, ◌&&◌, nat_le, List, [], ◌∷◌, Option, Some, None}
-use Rattle.arena.specs.declared.word.Side.{Side}
-use Rattle.arena.specs.declared.word.Side.TheVariants.{Left, Right}
+use Rattle.histories.specs.Common.{Side, Left, Right}
 use Rattle.ordered_map.specs.declared.pair.Pair.{Pair}
 use Rattle.ordered_map.specs.declared.rule.Goal.TheVariants.{Key}
 use Rattle.ordered_map.specs.declared.rule.Rule.{Rule}

@@ -1,12 +1,8 @@
 -- Which nodes a search for a key passes, and which are in the tree, now or at a moment before;
 -- and what a search may answer.
 use Rattle.std.specs.Prelude.{◌≡◌, ℕ, ◌+◌, ◌-◌, ◌^◌, if◌then◌else◌, ◌==◌, List, Option}
-use Rattle.arena.specs.declared.word.Side.{Side}
-use Rattle.arena.specs.declared.word.Side.TheVariants.{Left, Right}
-use Rattle.arena.specs.declared.limits.Mode.{Mode}
+use Rattle.histories.specs.Common.{Side, Left, Right, Mode, Layout, History, value, Extends}
 use Rattle.arena.specs.declared.limits.Mode.TheVariants.{Trie}
-use Rattle.arena.specs.declared.layout.Layout.{Layout}
-use Rattle.arena.specs.History.{History, value, Extends}
 use Rattle.ordered_map.specs.declared.pair.Pair.{Pair}
 use Rattle.ordered_map.specs.OrderedMap.{get, end_pair}
 use Rattle.ordered_map.specs.TreeWords.{Tree, Has, Passes}

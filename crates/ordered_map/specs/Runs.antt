@@ -1,12 +1,7 @@
 -- Histories of a map, the edits that their SCX-records make, and the map of their log.
 use Rattle.std.specs.Prelude.{◌≡◌, ℕ, List, [], ◌∷◌}
-use Rattle.arena.specs.declared.layout.Layout.{Layout}
-use Rattle.arena.specs.declared.limits.Mode.TheVariants.{Tree as TreeMode, Trie as TrieMode}
-use Rattle.arena.specs.declared.step.Row.{Row}
-use Rattle.arena.specs.History.{History, ◌⊳◌, value, Extends}
-use Rattle.arena.specs.Log.{Entry}
-use Rattle.arena.specs.Machines.{IsRun}
-use Rattle.arena.specs.Shape.{IsBegin}
+use Rattle.histories.specs.Common.{Layout, Tree as TreeMode, Row, History, ◌⊳◌, value, Extends, Entry, IsRun, IsBegin}
+use Rattle.arena.specs.declared.limits.Mode.TheVariants.{Trie as TrieMode}
 use Rattle.ordered_map.specs.declared.pair.Pair.{Pair}
 use Rattle.ordered_map.specs.OrderedMap.{MapEdit, edit_key, edited, get}
 use Rattle.ordered_map.specs.TreeWords.{said}

@@ -1,13 +1,7 @@
 -- Which SCX-records may begin in a tree or a trie: each makes an edit of the map.
 use Rattle.std.specs.Prelude.{◌≡◌, ◌≢◌, ℕ, ◌^◌, ◌<◌, true, false, if◌then◌else◌, ◌==◌, ◌⊎◌, None}
 use Rattle.arena.specs.declared.limits.Mode.TheVariants.{Trie as TrieMode}
-use Rattle.arena.specs.declared.word.Side.{Side}
-use Rattle.arena.specs.declared.word.Side.TheVariants.{Left, Right}
-use Rattle.arena.specs.declared.layout.Layout.{Layout}
-use Rattle.arena.specs.Words.{info, child}
-use Rattle.arena.specs.History.{History, value}
-use Rattle.arena.specs.ScxRecords.{plan, count, member, seen, new, old, scx_finalizes}
-use Rattle.arena.specs.Fills.{IsNamed}
+use Rattle.histories.specs.Common.{Side, Left, Right, Layout, info, child, History, value, plan, count, member, seen, new, old, scx_finalizes, IsNamed}
 use Rattle.ordered_map.specs.OrderedMap.{MapEdit, edit_key, value_left}
 use Rattle.ordered_map.specs.TreeWords.{is_leaf, toward, said}
 use Rattle.ordered_map.specs.Edits.{IsLeafEdit, IsJoinBy, HasFieldsOf}

@@ -1,13 +1,7 @@
 -- Which SCX-records may begin in a trie besides those that may in a tree, what each of them may put in
 -- there, and what stays where it is.
 use Rattle.std.specs.Prelude.{◌≡◌, ◌≢◌, ℕ, ◌<◌, false, ◌⊎◌, [], None}
-use Rattle.arena.specs.declared.layout.Layout.{Layout}
-use Rattle.arena.specs.declared.limits.Mode.TheVariants.{Tree as TreeMode}
-use Rattle.arena.specs.declared.word.Side.{Side}
-use Rattle.arena.specs.declared.word.Word.{Word}
-use Rattle.arena.specs.Words.{info, child}
-use Rattle.arena.specs.History.{History, value}
-use Rattle.arena.specs.ScxRecords.{plan, member, seen, new, old}
+use Rattle.histories.specs.Common.{Layout, Tree as TreeMode, Side, Word, info, child, History, value, plan, member, seen, new, old}
 use Rattle.ordered_map.specs.OrderedMap.{MapEdit, edit_key, edited, value_left}
 use Rattle.ordered_map.specs.Holding.{held_pairs}
 use Rattle.ordered_map.specs.TreeWords.{class, is_leaf, level, opposite, toward, said}

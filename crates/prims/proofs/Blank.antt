@@ -1,20 +1,9 @@
 -- A node of a share that is not taken, and that nothing mentions, is blank.
 use Rattle.std.proofs.Common.{◌≡◌, ℕ, ◌≤◌, Bool, true, false, cond, inl, inr, refl, ◌∙◌, ne_eqb, arith}
-use Rattle.arena.specs.declared.layout.Layout.{Layout}
-use Rattle.arena.specs.declared.limits.Mode.{Mode}
-use Rattle.arena.specs.declared.word.Side.{Side}
-use Rattle.arena.specs.declared.word.Side.TheVariants.{Left, Right}
-use Rattle.arena.specs.declared.word.NodeWord.{NodeWord}
-use Rattle.arena.specs.declared.word.NodeWord.TheVariants.{Child, Info, Marked}
-use Rattle.arena.specs.declared.word.ScxWord.TheVariants.{AllFrozen, New, Member}
-use Rattle.arena.specs.Layout.{is_map, opening_nodes, records_opening, tree_opening}
-use Rattle.arena.specs.Words.{node, scx, info, marked, child, state}
-use Rattle.arena.specs.History.{History, Start, ◌⊳◌, value}
-use Rattle.arena.specs.ScxRecords.{member, plan, side_of, field_index}
-use Rattle.arena.specs.Fills.{IsOwnNode, IsTakenNode}
-use Rattle.arena.specs.Lawful.{Lawful}
+use Rattle.histories.specs.Common.{Layout, Mode, Side, Left, Right, NodeWord, Child, Info, Marked, AllFrozen, New, Member, opening_nodes, node, scx, info, marked}
+use Rattle.histories.specs.Common.{child, state, History, Start, ◌⊳◌, value, member, plan, side_of, field_index, IsOwnNode, IsTakenNode, Lawful, IsUnmentioned}
+use Rattle.arena.specs.Layout.{is_map, records_opening, tree_opening}
 use Rattle.arena.proofs.Lemmas.{value_quiet, value_apart, held_at, held_more, node_apart, node_word_apart}
-use Rattle.histories.specs.Unmentioned.{IsUnmentioned}
 use Rattle.histories.proofs.Lemmas.{Change, nothing, fills_node, fills_scx, freezes, sets_frozen, marks, updates, commits, aborts, change, lawful_row}
 use Rattle.prims.specs.BlankNodes.{IsBlank}
 

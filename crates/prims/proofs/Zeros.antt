@@ -1,23 +1,10 @@
 -- What is not filled is 0: a node of a share that is not taken yet holds 0 in all its settled words
 -- and fields.
-use Rattle.std.proofs.Common.{◌≡◌, ℕ, ◌≤◌, true, false, cond, inl, refl, ◌∙◌, arith}
-use Rattle.std.proofs.lemmas.Bool.{ne_eqb}
-use Rattle.arena.specs.declared.layout.Layout.{Layout}
-use Rattle.arena.specs.declared.limits.Mode.{Mode}
-use Rattle.arena.specs.declared.word.Side.TheVariants.{Left, Right}
-use Rattle.arena.specs.declared.word.NodeWord.{NodeWord}
-use Rattle.arena.specs.declared.word.NodeWord.TheVariants.{Settled, Child, Info, Marked}
-use Rattle.arena.specs.declared.word.SettledPart.TheVariants.{Head}
-use Rattle.arena.specs.declared.word.ScxWord.TheVariants.{Member}
-use Rattle.arena.specs.declared.step.Row.{Row}
-use Rattle.arena.specs.Layout.{is_map, opening, opening_nodes, tree_opening}
-use Rattle.arena.specs.Share.{Remaining, HasNode}
-use Rattle.arena.specs.Words.{node, scx, child}
-use Rattle.arena.specs.History.{History, Start, ◌⊳◌, value}
-use Rattle.arena.specs.Fills.{IsOwnNode, IsFillOfNode, IsTakenNode}
-use Rattle.arena.specs.Lawful.{Lawful}
+use Rattle.std.proofs.Common.{◌≡◌, ℕ, ◌≤◌, true, false, cond, inl, refl, ◌∙◌, arith, ne_eqb}
+use Rattle.histories.specs.Common.{Layout, Mode, Left, Right, NodeWord, Settled, Child, Info, Marked, Head, Member, Row, opening, opening_nodes, Remaining}
+use Rattle.histories.specs.Common.{HasNode, node, scx, child, History, Start, ◌⊳◌, value, IsOwnNode, IsFillOfNode, IsTakenNode, Lawful, IsUnmentioned}
+use Rattle.arena.specs.Layout.{is_map, tree_opening}
 use Rattle.arena.proofs.Lemmas.{held_at, held_more, taken_node_more}
-use Rattle.histories.specs.Unmentioned.{IsUnmentioned}
 use Rattle.histories.proofs.Lemmas.{IsNodeFill, lawful_tail, start_mode, value_start}
 use Rattle.prims.specs.Laws.Unfilled.{node_unfilled}
 use Rattle.prims.specs.Shares.{IsShare}

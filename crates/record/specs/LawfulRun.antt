@@ -1,10 +1,8 @@
 -- What a record says: a run that was made turn by turn, in which every step is lawful.
 use Rattle.std.specs.Prelude.{◌≡◌, ℕ, List, [], ◌∷◌, None, reverse}
-use Rattle.arena.specs.declared.limits.Mode.{Mode}
-use Rattle.arena.specs.declared.limits.Mode.TheVariants.{Tree, Trie, Records}
-use Rattle.arena.specs.declared.layout.Layout.{Layout}
-use Rattle.arena.specs.Lawful.{Lawful}
-use Rattle.arena.specs.Log.{log, AreOnce}
+use Rattle.histories.specs.Common.{Mode, Tree, Records, Layout, Lawful, log}
+use Rattle.arena.specs.declared.limits.Mode.TheVariants.{Trie}
+use Rattle.arena.specs.Log.{AreOnce}
 use Rattle.histories.specs.Laws.{SpellFields, StaysFinalized}
 use Rattle.script.specs.declared.call.Call.{Call}
 use Rattle.record.specs.declared.record.Line.{Line}

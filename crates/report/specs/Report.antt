@@ -4,11 +4,7 @@ use Rattle.std.specs.Prelude.{◌≡◌, ⊤, ℕ, suc, List, [], ◌∷◌, ◌
 use Rattle.arena.specs.declared.limits.Limits.{Limits}
 use Rattle.arena.specs.declared.limits.Mode.{Mode}
 use Rattle.arena.specs.declared.limits.Mode.TheVariants.{Tree, Trie, Records}
-use Rattle.script.specs.Kinds.{kind_text}
-use Rattle.script.specs.Commands.{command_row}
-use Rattle.script.specs.Rows.{limits_row}
-use Rattle.script.specs.declared.call.Call.{Call}
-use Rattle.script.specs.declared.script.Script.{Script}
+use Rattle.record.specs.Common.{kind_text, command_row, limits_row, Call, Script}
 use Rattle.record.specs.declared.record.Line.{Line}
 use Rattle.record.specs.declared.record.Line.TheVariants.{Step, Log, Reply}
 use Rattle.record.specs.declared.record.TurnRow.TheVariants.{Step as Made, Idle}

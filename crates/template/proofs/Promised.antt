@@ -1,35 +1,18 @@
 -- What a pass has in hand for an edit allows its SCX-record, whatever rows come until that begins.
 use Rattle.std.proofs.Common.{◌≡◌, ◌≢◌, ℕ, ◌<◌, true, false, inl, inr, refl, sym, ◌∙◌, ap, arith, subst}
-use Rattle.arena.specs.declared.layout.Layout.{Layout}
-use Rattle.arena.specs.declared.limits.Mode.{Mode}
-use Rattle.arena.specs.declared.limits.Mode.TheVariants.{Tree as TreeMode, Trie as TrieMode}
-use Rattle.arena.specs.declared.word.Side.{Side}
-use Rattle.arena.specs.declared.word.Side.TheVariants.{Left, Right}
-use Rattle.arena.specs.declared.word.NodeWord.{NodeWord}
-use Rattle.arena.specs.declared.word.NodeWord.TheVariants.{Child, Info}
-use Rattle.arena.specs.declared.word.ScxWord.{ScxWord}
-use Rattle.arena.specs.declared.word.Word.{Word}
-use Rattle.arena.specs.declared.step.Row.{Row}
-use Rattle.arena.specs.Words.{node, scx, info, child}
-use Rattle.arena.specs.History.{History, Start, ◌⊳◌, value, Extends}
-use Rattle.arena.specs.ScxRecords.{plan, count, count_of, member, seen, new, old}
-use Rattle.arena.specs.Fills.{IsOwnNode, IsNamed, IsNamedScx}
-use Rattle.arena.specs.Lawful.{Lawful}
+use Rattle.histories.specs.Common.{Layout, Mode, Tree as TreeMode, Side, Left, Right, NodeWord, Child, Info, ScxWord, Word, Row, node, scx, info, child, History, Start}
+use Rattle.histories.specs.Common.{◌⊳◌, value, Extends, plan, count, count_of, member, seen, new, old, IsOwnNode, IsNamed, IsNamedScx, Lawful, Descriptor, descriptor}
+use Rattle.arena.specs.declared.limits.Mode.TheVariants.{Trie as TrieMode}
 use Rattle.arena.proofs.Lemmas.{value_quiet, value_apart, held_more, scx_apart, ends_trans, named_before}
-use Rattle.histories.specs.Descriptor.{Descriptor, descriptor}
 use Rattle.histories.proofs.Lemmas.{lawful_row, lawful_tail, node_since, stays_unnamed, unnamed_stays}
 use Rattle.help.specs.Allowed.{MayComeBetween, IsLater, IsAllowed}
 use Rattle.help.specs.Laws.Help.Allowing.{later_self, later_trans}
-use Rattle.prims.specs.declared.snap.Snap.{Snap}
-use Rattle.prims.specs.Snap.{child_of}
+use Rattle.template.specs.Common.{Snap, child_of, MapEdit, edit_key, WasOnPath, leaf_plan, join_plan, sibling_place, TreeAllows, is_leaf, toward, said, IsPromised, IsFresh}
 use Rattle.prims.specs.Laws.Linked.{IsLinked, linked_since}
-use Rattle.ordered_map.specs.OrderedMap.{MapEdit, edit_key}
-use Rattle.ordered_map.specs.Paths.{WasOnPath}
-use Rattle.ordered_map.specs.TreeShape.{leaf_plan, join_plan, leaf_place, sibling_place, TakesLeafOut, TreeAllows}
-use Rattle.ordered_map.specs.TreeWords.{is_leaf, toward, said}
+use Rattle.ordered_map.specs.TreeShape.{leaf_place, TakesLeafOut}
 use Rattle.ordered_map.specs.Edits.{IsLeafEdit, IsJoinBy, HasFieldsOf}
 use Rattle.ordered_map.proofs.Lemmas.{join_plan_says, SameSettled, settled_said, settled_toward, settled_leaf, move_leaf_edit, move_join_by}
-use Rattle.template.specs.Promises.{IsPromised, IsFresh, WillEditLeaf, IsSnapOf, WillTakeOut}
+use Rattle.template.specs.Promises.{WillEditLeaf, IsSnapOf, WillTakeOut}
 
 -- no mode is two
 apart : (mode : Mode) → mode ≡ TreeMode → mode ≢ TrieMode

@@ -1,15 +1,6 @@
 -- What has to be known for an edit's SCX-record to be allowed, whatever rows come until it begins.
 use Rattle.std.specs.Prelude.{◌≡◌, ◌≢◌, ℕ, ◌^◌, ◌<◌, false, None}
-use Rattle.arena.specs.declared.layout.Layout.{Layout}
-use Rattle.arena.specs.declared.limits.Mode.TheVariants.{Tree as TreeMode}
-use Rattle.arena.specs.declared.word.Side.{Side}
-use Rattle.arena.specs.Words.{info, child}
-use Rattle.arena.specs.History.{History, value}
-use Rattle.arena.specs.ScxRecords.{member, seen}
-use Rattle.arena.specs.Fills.{IsOwnNode, IsNamed}
-use Rattle.arena.specs.Machines.{IsRun}
-use Rattle.histories.specs.Begins.{Begins}
-use Rattle.histories.specs.Descriptor.{Descriptor, descriptor}
+use Rattle.histories.specs.Common.{Layout, Tree as TreeMode, Side, info, child, History, value, member, seen, IsOwnNode, IsNamed, IsRun, Begins, Descriptor, descriptor}
 use Rattle.help.specs.Allowed.{IsLater}
 use Rattle.prims.specs.Laws.Linked.{IsLinked}
 use Rattle.prims.specs.Snap.{child_of}

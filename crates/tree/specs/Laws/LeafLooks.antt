@@ -1,33 +1,13 @@
 -- An edit of one leaf: what it looks at, what it reads, and its SCX-record.
-use Rattle.std.proofs.Common.{◌≡◌, ◌≢◌, ℕ, ◌+◌, ◌^◌, ◌<◌, ◌⊎◌, inl, inr, true, false, ◌==◌, eqb-true, eq-eqb, ne_eqb, List, [], ◌∷◌, length, take, refl, sym, ◌∙◌, ap, subst, arith}
-use Rattle.std.specs.Prelude.{IsTrue, None}
+use Rattle.std.proofs.Common.{◌≡◌, ◌≢◌, ℕ, ◌+◌, ◌^◌, ◌<◌, ◌⊎◌, inl, inr, true, false, ◌==◌, eqb-true, eq-eqb, ne_eqb, List, [], ◌∷◌, length, take, refl, sym, ◌∙◌, ap, subst, arith, IsTrue, None}
 use native.Mathlib.Decide.{ℕ_discrete}
-use Rattle.arena.specs.declared.number.NodeNo.{NodeNo}
-use Rattle.arena.specs.declared.number.ScxNo.{ScxNo}
-use Rattle.arena.specs.declared.word.Side.{Side}
-use Rattle.arena.specs.declared.word.Side.TheVariants.{Left, Right}
-use Rattle.arena.specs.History.{History, value}
-use Rattle.arena.specs.Machines.{Call}
-use Rattle.arena.specs.ScxRecords.{IsPlan, count, count_of, field_index_of, side_of}
-use Rattle.histories.specs.Descriptor.{Descriptor}
+use Rattle.histories.specs.Common.{NodeNo, ScxNo, Side, Left, Right, History, value, Call, IsPlan, count, count_of, field_index_of, side_of, Descriptor}
 use Rattle.prims.specs.Laws.Idle.{IsQuietSince}
-use Rattle.prims.specs.Llx.Known.{IsOpened}
-use Rattle.prims.specs.Scx.Known.{IsUpdateOver, Job, Says}
-use Rattle.prims.specs.Snap.{child_of, snap_at}
-use Rattle.prims.specs.Snaps.{AreDistinct}
-use Rattle.prims.specs.declared.snap.Snap.{Snap}
-use Rattle.prims.specs.declared.update.Update.{Update}
-use Rattle.ordered_map.specs.Holding.{held_pairs, IsWellCounted}
-use Rattle.ordered_map.specs.OrderedMap.{AllBelow, IsRising, MapEdit}
-use Rattle.ordered_map.specs.Runs.{IsTreeRun}
-use Rattle.ordered_map.specs.TreeShape.{leaf_plan, edit_leaf}
-use Rattle.ordered_map.specs.TreeWords.{class, is_leaf}
+use Rattle.template.specs.Common.{IsOpened, IsUpdateOver, Job, Says, child_of, snap_at, AreDistinct, Snap, Update, held_pairs, IsWellCounted, AllBelow}
+use Rattle.template.specs.Common.{IsRising, MapEdit, IsTreeRun, leaf_plan, edit_leaf, class, is_leaf, HasTurned, Key as ToKey, IsContended, WasNotFinal}
 use Rattle.ordered_map.proofs.Lemmas.{held_count, run_since}
 use Rattle.template.specs.FreshNodes.{IsLeafEditAt}
-use Rattle.template.specs.Trails.{HasTurned}
 use Rattle.template.specs.declared.walk.Found.{Found}
-use Rattle.ordered_map.specs.declared.rule.Goal.TheVariants.{Key as ToKey}
-use Rattle.template.specs.Blame.{IsContended, WasNotFinal}
 use Rattle.template.proofs.Lemmas.{found_below, found_holds, leaf_edit_words}
 use Rattle.tree.specs.LeafEdit.{leaf_looks, leaf_reads}
 use Rattle.tree.specs.Laws.Looks.{same_node, goes_on, not_enough, is_other}

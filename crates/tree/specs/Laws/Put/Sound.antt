@@ -2,27 +2,15 @@
 use Rattle.std.proofs.Common.{◌≡◌, ◌≢◌, ℕ, ◌+◌, ◌^◌, ◌<◌, ◌≤◌, inl, inr, Bool, true, false, ◌==◌, eqb-true, eq-eqb, ne_eqb, lt-ltb, le-ltb, if◌then◌else◌, List, [], ◌∷◌, ◌++◌, length, take, drop, Option, Some, None, refl, sym, ◌∙◌, ap, subst, arith}
 use Rattle.std.proofs.Math.Decide.{dec_lt}
 use native.Mathlib.Decide.{ℕ_discrete}
-use Rattle.arena.specs.declared.number.NodeNo.{NodeNo}
-use Rattle.arena.specs.declared.word.NodeWord.TheVariants.{Child}
-use Rattle.arena.specs.declared.word.Side.{Side}
-use Rattle.arena.specs.declared.word.Side.TheVariants.{Left, Right}
-use Rattle.arena.specs.History.{History, value}
-use Rattle.arena.specs.Machines.{Call}
-use Rattle.arena.specs.Words.{node, child, first_key}
-use Rattle.histories.specs.Descriptor.{Descriptor}
-use Rattle.prims.specs.Scx.Known.{Job, Says}
-use Rattle.prims.specs.declared.snap.Snap.{Snap}
-use Rattle.ordered_map.specs.declared.pair.Pair.{Pair}
-use Rattle.ordered_map.specs.OrderedMap.{Insert as PutEdit, AllBelow, AllFrom, IsRising, insert, pair, get}
+use Rattle.histories.specs.Common.{NodeNo, Child, Side, Left, Right, History, value, Call, node, child, first_key, Descriptor}
+use Rattle.template.specs.Common.{Job, Says, Snap, Pair, Insert as PutEdit, AllBelow, IsRising, insert, pair, get, held_pairs}
+use Rattle.template.specs.Common.{IsWellCounted, IsTreeRun, class, level, rank, HasFoundLeaf, IsFresh, IsPromised, Key as ToKey}
+use Rattle.ordered_map.specs.OrderedMap.{AllFrom}
 use Rattle.ordered_map.specs.Edits.{HasTreeLevels, IsSplitBy}
-use Rattle.ordered_map.specs.Holding.{held_pairs, IsWellCounted}
-use Rattle.ordered_map.specs.Runs.{IsTreeRun}
-use Rattle.ordered_map.specs.TreeWords.{class, leaf_items, level, rank}
+use Rattle.ordered_map.specs.TreeWords.{leaf_items}
 use Rattle.ordered_map.proofs.Lemmas.{counted_few, edited_below, edited_rises, high_items, low_items, low_pairs, put_before}
-use Rattle.template.specs.FoundLeaf.{HasFoundLeaf}
-use Rattle.template.specs.Promises.{IsFresh, IsPromised, HasFreshEdit}
+use Rattle.template.specs.Promises.{HasFreshEdit}
 use Rattle.template.specs.declared.walk.Found.{Found}
-use Rattle.ordered_map.specs.declared.rule.Goal.TheVariants.{Key as ToKey}
 use Rattle.template.proofs.Lemmas.{edit_promised, found_blank, found_class, found_level, said_low}
 use Rattle.tree.specs.LeafEdit.{leaf_looks, leaf_reads}
 use Rattle.tree.specs.declared.put.PutPair.{PutPair}

@@ -1,51 +1,25 @@
 -- What a delete looks at, reads and fills, and that it makes the edit.
-use Rattle.std.proofs.Common.{◌≡◌, ◌≢◌, ℕ, zero, suc, ◌+◌, ◌*◌, ◌/◌, ◌%◌, ◌^◌, ◌<◌, ◌≤◌, ◌⊎◌, inl, inr, ⊎_elim, Bool, true, false, ◌==◌, eqb-true, eq-eqb, ne_eqb, lt-ltb, cond, if◌then◌else◌, List, [], ◌∷◌, length, take, Option, Some, None, refl, sym, ◌∙◌, ap, subst, arith, IsTrue}
-use Rattle.std.specs.Prelude.{unwrap_or, IfSome, IsTrue}
+use Rattle.std.proofs.Common.{◌≡◌, ◌≢◌, ℕ, zero, suc, ◌+◌, ◌*◌, ◌/◌, ◌%◌, ◌^◌, ◌<◌, ◌≤◌, ◌⊎◌, inl, inr, ⊎_elim, Bool, true, false, ◌==◌, eqb-true, eq-eqb, ne_eqb, lt-ltb, cond, if◌then◌else◌, List, [], ◌∷◌, length, take, Option, Some, None, refl, sym, ◌∙◌, ap, subst, arith}
+use Rattle.std.proofs.Common.{IsTrue, unwrap_or, IfSome, ltb-true}
 use Rattle.std.proofs.Math.Decide.{dec_lt}
-use Rattle.std.proofs.lemmas.Bool.{ltb-true}
 use Rattle.std.proofs.lemmas.Nat.{mul-le}
 use native.Mathlib.Decide.{ℕ_discrete}
 use Rattle.arena.specs.declared.head.Head.{Head as HeadParts}
-use Rattle.arena.specs.declared.number.NodeNo.{NodeNo}
-use Rattle.arena.specs.declared.number.ScxNo.{ScxNo}
-use Rattle.arena.specs.declared.word.NodeWord.TheVariants.{Settled, Child}
-use Rattle.arena.specs.declared.word.SettledPart.TheVariants.{Head, Key}
-use Rattle.arena.specs.declared.word.Side.{Side}
-use Rattle.arena.specs.declared.word.Side.TheVariants.{Left, Right}
-use Rattle.arena.specs.declared.word.Slot.{Slot}
-use Rattle.arena.specs.declared.word.Slot.TheVariants.{First as FirstSlot}
-use Rattle.arena.specs.Fills.{IsInField}
-use Rattle.arena.specs.Heads.{head_of, head_word}
-use Rattle.arena.specs.History.{History, value, Extends}
-use Rattle.arena.specs.Machines.{Call}
-use Rattle.arena.specs.ScxRecords.{IsPlan, bit, count, count_of, member}
-use Rattle.arena.specs.TakenNodes.{taken_nodes}
-use Rattle.arena.specs.Words.{node, child, first_key, first_value}
+use Rattle.histories.specs.Common.{NodeNo, ScxNo, Settled, Child, Head, Key, Side, Left, Right, Slot, First as FirstSlot, IsInField, head_of, History}
+use Rattle.histories.specs.Common.{value, Extends, Call, IsPlan, count, count_of, member, taken_nodes, node, child, first_key, first_value, Descriptor}
+use Rattle.arena.specs.Heads.{head_word}
+use Rattle.arena.specs.ScxRecords.{bit}
 use Rattle.arena.proofs.Lemmas.{taken_few}
-use Rattle.histories.specs.Descriptor.{Descriptor}
 use Rattle.prims.specs.Laws.Idle.{IsQuietSince}
 use Rattle.prims.specs.Laws.Linked.{IsLinked, in_field_named, linked_since}
-use Rattle.prims.specs.Llx.Known.{IsOpened}
-use Rattle.prims.specs.Scx.Known.{IsUpdateOver, Job, Says}
-use Rattle.prims.specs.Snap.{child_of, snap_at}
-use Rattle.prims.specs.Snaps.{AreDistinct}
-use Rattle.prims.specs.declared.snap.Snap.{Snap}
-use Rattle.prims.specs.declared.update.Update.{Update}
-use Rattle.ordered_map.specs.declared.pair.Pair.{Pair}
-use Rattle.ordered_map.specs.OrderedMap.{AllBelow, Delete as TakeEdit, IsRising, delete, pair}
-use Rattle.ordered_map.specs.Holding.{held_pairs, IsWellCounted}
-use Rattle.ordered_map.specs.Paths.{WasInTree}
-use Rattle.ordered_map.specs.Runs.{IsTreeRun, Makes}
-use Rattle.ordered_map.specs.TreeShape.{join_plan, leaf_plan, edit_leaf, leaf_place, sibling_place}
-use Rattle.ordered_map.specs.TreeWords.{class, is_leaf, level, toward}
+use Rattle.template.specs.Common.{IsOpened, IsUpdateOver, Job, Says, child_of, snap_at, AreDistinct, Snap, Update, Pair, AllBelow, Delete as TakeEdit}
+use Rattle.template.specs.Common.{IsRising, delete, pair, held_pairs, IsWellCounted, WasInTree, IsTreeRun, Makes, join_plan, leaf_plan, edit_leaf}
+use Rattle.template.specs.Common.{sibling_place, class, is_leaf, level, toward, HasFoundLeaf, IsPromised, HasTurned, Key as ToKey, IsContended, WasNotFinal}
+use Rattle.ordered_map.specs.TreeShape.{leaf_place}
 use Rattle.ordered_map.proofs.Lemmas.{counted_few, held_count, held_first, leaf_taken_out, root_head, run_since, settled_toward, stood_blank, stood_counted, stood_depth, stood_settled, was_passed}
-use Rattle.template.specs.FoundLeaf.{HasFoundLeaf}
 use Rattle.template.specs.FreshNodes.{IsJoinAt, HasFreshCopy}
-use Rattle.template.specs.Promises.{IsPromised, IsSnapOf, HasFreshEdit}
-use Rattle.template.specs.Trails.{HasTurned}
+use Rattle.template.specs.Promises.{IsSnapOf, HasFreshEdit}
 use Rattle.template.specs.declared.walk.Found.{Found}
-use Rattle.ordered_map.specs.declared.rule.Goal.TheVariants.{Key as ToKey}
-use Rattle.template.specs.Blame.{IsContended, WasNotFinal}
 use Rattle.template.proofs.Lemmas.{edit_promised, found_below, found_level, join_promised, said_low, opened_if_stood}
 use Rattle.tree.specs.LeafEdit.{leaf_looks, leaf_reads}
 use Rattle.tree.specs.declared.take.TakePair.{TakePair}

@@ -1,8 +1,5 @@
 use Rattle.std.proofs.Common.{List, subst}
-use Rattle.ordered_map.specs.Replies.{number_reply}
-use Rattle.ordered_map.specs.declared.pair.Pair.{Pair}
-use Rattle.record.specs.MapRecord.{map_at}
-use Rattle.record.specs.Placed.{IsGreatestTurn}
+use Rattle.record.specs.Common.{number_reply, Pair, map_at, IsGreatestTurn}
 use Rattle.linearization.specs.Ordered.{AreReadPairs}
 use Rattle.linearization.specs.Places.{changes}
 use Rattle.linearization.proofs.OrderedReads.{found_reply, map_rises}
