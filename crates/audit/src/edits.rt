@@ -91,7 +91,7 @@ fn edit_for(judge: &Judge, scx: u64, command: &Command, goal: Goal, rule: Rule) 
 /// four the child on that side, unless this is above all keys.
 fn taken_leaf(judge: &Judge, scx: u64, side: Side) -> u64 {
     let right = member(judge, scx, 3);
-    if covers_two(judge, scx) {
+    if covers(judge, scx) == 2 {
         member(judge, scx, 1)
     } else if side == Side::Right && head(judge, right).class == 0 {
         right
