@@ -1,6 +1,7 @@
 -- What is remembered of the map stays what the lines say.
 use Rattle.std.proofs.Common.{◌≡◌, ℕ, zero, suc, Bool, true, false, cond, eqb, List, [], ◌∷◌, Some, None, Option, IfSome, IsSome, slice_get, set, replicate, All, refl, sym, ◌∙◌, ap, subst, arith}
 use Rattle.std.proofs.lemmas.List.Elements.{All-tail}
+use Rattle.arena.specs.declared.limits.Mode.TheVariants.{Trie}
 use Rattle.histories.specs.Common.{Mode, Tree, Records, Layout, PassNo, Row as StepRow, History, ◌⊳◌, value, Lawful, IsLawful, IsWin, Entry as Entered, IsRun, Shaped, IsBegin}
 use Rattle.record.specs.Common.{HasRisingLevels, TreeAllows, Pair, MapCall, IsTreeRun, Spells, map_request, Call, Command, Llx as LlxOf, Scx as ScxOf, Vlx as VlxOf, Set as SetOf, Map, mode_of}
 use Rattle.record.specs.Common.{IsEntryFor, commands, next_command, IsWinOf, AreLines, map_call, map_call_of, map_of, written_log, AreSpelled, IsSpelledAfter, history, answered, entry_owed}

@@ -2,6 +2,7 @@
 -- its entry, or in the turn that was found for it. All replies of a run on the tree are those of
 -- one map.
 use Rattle.std.proofs.Common.{◌≡◌, ℕ, suc, ◌≤◌, ⊎_elim, Bool, true, false, List, Option, Some, None, IfSome, IfNone, refl, sym, ◌∙◌, ap, subst, arith}
+use Rattle.arena.specs.declared.limits.Mode.TheVariants.{Trie}
 use Rattle.histories.specs.Common.{Mode, Records, Tree, Layout, Contents}
 use Rattle.record.specs.Common.{Pair, MapCall, MapReply, OneValue, changes_map, get, reply as answer_on, map_request, Call, Command, Map, Request, Reply, number_reply, history, turns, answered}
 use Rattle.record.specs.Common.{begin, start, won, entry_owed, next_command, linked, HasItsEntry, IsRight, IsPlaced, enters, map_at, reply_told, IsGreatestTurn, IsPlacedOnMap, AreSpelled}
