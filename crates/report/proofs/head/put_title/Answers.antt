@@ -12,6 +12,14 @@ returns-in-Tree c =
     rw (c.put-in-Tree.ensures.text, c.put-2.ensures.text, c.name.ensures, c.put.ensures.text) (puts start (codes "report," ∷ codes "2" ∷ codes ",tree,,,,\n" ∷ [])) in
     rw c.in-Tree.is (put ∙ ap (λ text. start ++ text) (sym line))
 
+pub returns-in-Trie : goal.returns-in-Trie
+returns-in-Trie c =
+    let start = sheet_text c.args.sheet.now in
+    let line = plain_row (codes "report") (codes "2") (codes "trie" ∷ [] ∷ [] ∷ [] ∷ [] ∷ []) (refl, (refl, (refl, (refl, (refl, (refl, (refl, tt))))))) in
+    let put : sheet_text c.put-in-Trie.new.self ≡ start ++ plain_line (codes "report" ∷ codes "2" ∷ codes "trie" ∷ [] ∷ [] ∷ [] ∷ [] ∷ []) =
+    rw (c.put-in-Trie.ensures.text, c.put-2.ensures.text, c.name.ensures, c.put.ensures.text) (puts start (codes "report," ∷ codes "2" ∷ codes ",trie,,,,\n" ∷ [])) in
+    rw c.in-Trie.is (put ∙ ap (λ text. start ++ text) (sym line))
+
 pub returns-in-Records : goal.returns-in-Records
 returns-in-Records c =
     let start = sheet_text c.args.sheet.now in
