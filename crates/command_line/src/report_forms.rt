@@ -112,8 +112,8 @@ impl ReportSoFar {
     fn call_fields(&self, command: &str) -> [Field; 7] {
         let (commands, most) = match (self.mode, self.is_old) {
             (Mode::Records, _) => (CELL_CALLS, WORD),
-            (Mode::Tree, true) => (OLD_CALLS, WORD),
-            (Mode::Tree, false) => (CALLS, u128::MAX),
+            (Mode::Tree | Mode::Trie, true) => (OLD_CALLS, WORD),
+            (Mode::Tree | Mode::Trie, false) => (CALLS, u128::MAX),
         };
         let [a, b, c] = arguments(command, most);
         [
