@@ -11,8 +11,9 @@ pub(crate) fn scx_fault(
     row: &StringRecord,
     first: usize,
 ) -> Result<Option<(usize, String)>, AllocError> {
-    let field = |place: usize| row.get(first.saturating_add(place)).unwrap_or("");
-    let (cells, finalized, change) = (field(0), field(1), field(2));
+    let cells = field_at(row, first);
+    let finalized = field_at(row, first.saturating_add(1));
+    let change = field_at(row, first.saturating_add(2));
     if !are_cells(cells) {
         return Ok(None);
     }
@@ -32,6 +33,13 @@ pub(crate) fn scx_fault(
             "{shown} in place of one of the cells {cells}, left or right, and a number, with spaces between"
         )?,
     )))
+}
+
+fn field_at(row: &StringRecord, place: usize) -> &str {
+    match row.get(place) {
+        Some(field) => field,
+        None => "",
+    }
 }
 
 /// Whether `whole` gives `part`, where some of its cells are left out.

@@ -3,10 +3,9 @@ use crate::field::{Field, Wanted};
 use crate::forms::{
     CALLS, CELL_CALLS, WORD, arguments, client, nothing, one_of, script_fields, text, word,
 };
-use crate::sheet_rows::each_row_before;
 use crate::source::Source;
 use arena::Mode;
-use csv::StringRecord;
+use csv::{ReaderBuilder, StringRecord};
 use std::alloc::Global;
 use texts::number_of;
 
@@ -51,7 +50,17 @@ impl ReportSoFar {
             logs: 0,
         };
         let own = found.get(1).unwrap_or("");
-        each_row_before(alloc, source, row, |before| so_far.add(before, own));
+        let mut rows = ReaderBuilder::new()
+            .has_headers(false)
+            .flexible(true)
+            .from_reader(alloc, source.bytes.as_slice());
+        let mut before = StringRecord::new(alloc);
+        for _ in 1..row {
+            if !matches!(rows.read_record(&mut before), Ok(true)) {
+                break;
+            }
+            so_far.add(&before, own);
+        }
         so_far
     }
 

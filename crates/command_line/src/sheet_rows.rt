@@ -31,26 +31,6 @@ pub(crate) fn row_of(alloc: Global, source: &Source<'_>, row: u64) -> FoundRow {
     FoundRow::Row(found)
 }
 
-/// Calls a function with each row before this one.
-pub(crate) fn each_row_before<F: FnMut(&StringRecord)>(
-    alloc: Global,
-    source: &Source<'_>,
-    row: u64,
-    mut see: F,
-) {
-    let mut rows = ReaderBuilder::new()
-        .has_headers(false)
-        .flexible(true)
-        .from_reader(alloc, source.bytes.as_slice());
-    let mut found = StringRecord::new(alloc);
-    for _ in 1..row {
-        if !matches!(rows.read_record(&mut found), Ok(true)) {
-            return;
-        }
-        see(&found);
-    }
-}
-
 /// The row again.
 pub(crate) fn row_text(alloc: Global, row: &StringRecord) -> Result<String, AllocError> {
     let mut text = String::new(alloc);

@@ -1,4 +1,6 @@
 //! The texts that the program for people reads, and where it writes.
+ghost use Rattle.std.specs.Prelude.{◌≤◌, IfOk, length};
+
 use crate::complaint::Complaint;
 use clap::ArgMatches;
 use std::alloc::Global;
@@ -78,7 +80,9 @@ impl<'a, R: Files> LateFile<'a, R> {
         }
     }
 
-    fn write_late(&mut self, buf: &[u8]) -> io::Result<usize> {
+    fn write_late(&mut self, buf: &[u8]) -> io::Result<usize>
+        ensures { IfOk result (λ written. written ≤ length buf.now) }
+    {
         match &mut self.file {
             Some(file) => file.write(buf),
             None => {
