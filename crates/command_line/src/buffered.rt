@@ -46,7 +46,7 @@ pub(crate) fn play_buffered<S: Read + Drop, T: Read + Drop, W: Watch, O: Write, 
 ) -> u8
     ensures { result ≤ 4 }
 {
-    let watch = &mut *watch;
+    let (watch, out) = (&mut *watch, &mut *out);
     let mut to = match BufWriter::new(alloc, out) {
         Ok(inner) => {
             let flushed = 0;

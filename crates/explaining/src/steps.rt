@@ -1,11 +1,11 @@
 //! What is asked of each step.
 use crate::breach::{Objection, demand, object};
-use crate::edits::check_edit;
 use crate::fills::check_fill;
 use crate::freezes::check_freeze;
 use crate::levels::check_levels;
 use crate::lines_before::LinesBefore;
 use crate::loads::check_load;
+use crate::made_edit::check_edit;
 use crate::stores::{check_abort, check_commit, check_frozen, check_mark};
 use crate::updates::check_update;
 use crate::words::{call_words, name_of};
