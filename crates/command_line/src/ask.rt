@@ -51,7 +51,7 @@ fn play_files<R: Files + AllocGlobal, O: Write, E: Write>(
     match open_both(rt, script, schedule) {
         Ok((script, schedule)) => {
             let alloc = rt.alloc();
-            play_buffered(alloc, mode, script, schedule, &mut Unwatched, out, err)
+            play_buffered(alloc, mode, script, schedule, Unwatched, out, err)
         }
         Err(fault) => fault.print(err),
     }

@@ -13,13 +13,13 @@ use texts::Metered;
 /// is full, though each turn of a play is flushed by itself. Somebody is told how many turns have
 /// been flushed: the first flush is that of what is before them.
 #[derive(Drop)]
-struct Unflushed<'a, W, T> {
+struct Unflushed<W, T> {
     inner: W,
-    watch: &'a mut T,
+    watch: T,
     flushed: u64,
 }
 
-impl<W: Write, T: Watch> Write for Unflushed<'_, W, T> {
+impl<W: Write, T: Watch> Write for Unflushed<W, T> {
     ghost contents = { λ u. W.contents u.inner };
 
     fn write(&mut self, buf: &[u8]) -> io::Result<usize> {
@@ -35,18 +35,17 @@ impl<W: Write, T: Watch> Write for Unflushed<'_, W, T> {
 
 /// Plays a script by a schedule, as `play_over` does, with a buffer before `out`. It goes out in
 /// the end, also after a fault: then too `out` has a beginning of the report.
-pub(crate) fn play_buffered<S: Read + Drop, T: Read + Drop, W: Watch, O: Write, E: Write>(
+pub(crate) fn play_buffered<S: Read + Drop, T: Read + Drop, W: Watch + Drop, O: Write, E: Write>(
     alloc: Global,
     mode: Mode,
     script: S,
     schedule: T,
-    watch: &mut W,
+    watch: W,
     out: &mut O,
     err: &mut E,
 ) -> u8
     ensures { result ≤ 4 }
 {
-    let (watch, out) = (&mut *watch, &mut *out);
     let mut to = match BufWriter::new(alloc, out) {
         Ok(inner) => {
             let flushed = 0;

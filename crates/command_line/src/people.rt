@@ -109,13 +109,13 @@ fn play<R: Files + Input + Clock + AllocGlobal, O: Write, E: Write>(
     let schedule = Source::of(rt, given, "SCHEDULE")?;
     schedule_of(alloc, &script, &schedule)?;
     let (text, schedule) = (text.bytes.as_slice(), schedule.bytes.as_slice());
-    let mut watch = Progress::new(rt, err, given.get_flag("progress"), "turns", None);
+    let watch = Progress::new(rt, err, given.get_flag("progress"), "turns", None);
     ended(play_buffered(
         alloc,
         mode,
         text,
         schedule,
-        &mut watch,
+        watch,
         out,
         &mut Vec::new(alloc),
     ))
