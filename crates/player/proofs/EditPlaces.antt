@@ -16,7 +16,7 @@ use Rattle.record.specs.Placed.{IsPlacedChange, IsRefused}
 use Rattle.player.specs.Allowed.{PlayedAllows}
 use Rattle.linearization.specs.declared.places.Change.{Change}
 use Rattle.player.specs.Moments.{IsMomentBy}
-use Rattle.player.specs.ClientView.{client_view, Tells, IsToldChange}
+use Rattle.player.specs.ClientView.{client_view, AnswersRight, IsToldChange}
 use Rattle.record.proofs.Lemmas.{entries_none}
 use Rattle.linearization.specs.Entries.{AreEntries}
 use Rattle.linearization.proofs.Lemmas.{spelled}
@@ -174,7 +174,7 @@ pub record IsMapReply (lay : Layout) (tries : ℕ) (calls : List Call) (lines : 
   pub began : begin lines c ≡ Some r.begin
   pub ended : r.end ≡ turns lines
   pub right : IsRight lay tries c (history lay.mode lines) (start lay.mode lines c) (linked calls lay.mode lines c) command r.answer
-  pub tells : Tells (client_view lay tries calls lines c) c command r.answer
+  pub tells : AnswersRight (client_view lay tries calls lines c) c command r.answer
   pub entry : HasItsEntry (enters command r.answer) (won lay lines c)
   pub moment : IsMomentBy calls lines changes command r.answer r.begin r.end (won lay lines c) r.moment
 

@@ -32,7 +32,7 @@ use Rattle.player.proofs.MapEnds.{IsRightEnd, map_ends, entered_some, entered_no
 use Rattle.record.specs.Snapshots.{IsBehindAll}
 use Rattle.record.specs.Answers.{HasRoom}
 use Rattle.player.specs.RunKnown.{answer_of}
-use Rattle.player.specs.ClientView.{ClientView, IsSound, IsLlxOf, IsScxOf, IsVlxOf, Hand, no_hand, in_hand, held, HoldsShare, HaveMoments, Tells, command_of, IsClientState, Rests, Answered, EndsCall, machine_call, linked_by}
+use Rattle.player.specs.ClientView.{ClientView, IsSound, IsLlxOf, IsScxOf, IsVlxOf, Hand, no_hand, in_hand, held, HoldsShare, HaveMoments, AnswersRight, command_of, IsClientState, Rests, Answered, EndsCall, machine_call, linked_by}
 use Rattle.player.proofs.Puts.{put_committed, put_aborted}
 use Rattle.player.proofs.Snapshots.{has_snap, snap_there, snap_found, kept_after, unkept_after}
 use Rattle.player.proofs.Over.{taken_one, taken_nothing, map_took}
@@ -95,7 +95,7 @@ record IsOutcome (v : ClientView) (c : ℕ) (snaps : List Snap) (command : Comma
   answers : MayAnswerAfterStep command answer
   right : IsRight v.layout v.tries c v.past v.start v.linked command answer
   entry : HasItsEntry (enters command answer) v.won
-  tells : Tells v c command answer
+  tells : AnswersRight v c command answer
   took : HasTakenFew v.layout v.tries c v.past v.start command
   drops : IsDropped snaps v.linked (linked_by v command answer)
 
@@ -464,7 +464,7 @@ record IsLlxOutcome (v : ClientView) (c : ℕ) (command : Command) (a : LlxAnswe
   answers : MayAnswerAfterStep command (answer_of (ended.Llx a))
   right : IsRight v.layout v.tries c v.past v.start v.linked command (answer_of (ended.Llx a))
   entry : enters command (answer_of (ended.Llx a)) ≡ false
-  tells : Tells v c command (answer_of (ended.Llx a))
+  tells : AnswersRight v c command (answer_of (ended.Llx a))
   took : HasTakenFew v.layout v.tries c v.past v.start command
   said : (n : ℕ) → linked_by v command (answer_of (ended.Llx a)) n ≡ cond (eqb (node_of a) n) (moment_then a v.past) (v.linked n)
 

@@ -14,7 +14,7 @@ use Rattle.edits.specs.Tries.{HasEnteredNone}
 use Rattle.record.specs.declared.record.Answer.{Answer}
 use Rattle.record.specs.declared.record.Answer.TheVariants.{Map as MapAnswer}
 use Rattle.player.specs.declared.client.Client.{Client}
-use Rattle.player.specs.ClientView.{ClientView, IsOwnWin, IsToldBy, IsToldChange, IsToldOfMap, IsWonSince, Tells, machine_call}
+use Rattle.player.specs.ClientView.{ClientView, IsOwnWin, IsToldBy, IsToldChange, IsToldOfMap, IsWonSince, AnswersRight, machine_call}
 use Rattle.player.proofs.EachCall.{TookPlace, ByEntry, ByValue, ByReply, Nowhere, HasTakenPlace, TellsSo, answer_right, is_by_entry, replied, took_place}
 
 -- the answer is one that the command gives, it is right, and an update of the call has won if it
@@ -23,7 +23,7 @@ pub record IsRightEnd (v : ClientView) (c : ℕ) (command : Command) (answer : A
   pub answers : MayAnswerAfterStep command answer
   pub right : IsRight v.layout v.tries c v.past v.start v.linked command answer
   pub entry : HasItsEntry (enters command answer) v.won
-  pub tells : Tells v c command answer
+  pub tells : AnswersRight v c command answer
 
 pub entered_some : (won : Option ℕ) (turn : ℕ) → won ≡ Some turn → HasItsEntry true won
 entered_some (Some k) turn e = tt

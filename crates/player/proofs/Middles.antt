@@ -31,7 +31,7 @@ use Rattle.player.proofs.MapCalls.{command_mode}
 use Rattle.player.proofs.Placing.{moment_same, moment_within}
 use Rattle.record.specs.Replies.{IsReply}
 use Rattle.record.specs.LawfulRun.{IsNext}
-use Rattle.player.specs.ClientView.{ClientView, client_view, no_hand, held, Tells, linked_by, Rests, IsClient, IsAtNextCall, Refuses}
+use Rattle.player.specs.ClientView.{ClientView, client_view, no_hand, held, AnswersRight, linked_by, Rests, IsClient, IsAtNextCall, Refuses}
 use Rattle.player.specs.BetweenTurns.{IsLawfulSoFar, AreOthers, IsTurnOf, AreBetweenTurns, IsMade, IsEnd, AreWins}
 use Rattle.player.proofs.Views.{TellsWon, client_by_others, stands_from, holds_from}
 use Rattle.record.proofs.Lemmas.{some_turn, start_kept, begin_within, won_within}
@@ -196,7 +196,7 @@ pub record IsOver (lay : Layout) (tries : ℕ) (calls : List Call) (lines : List
   pub right : IsRight lay tries i (history lay.mode lines) (start lay.mode lines i) (linked calls lay.mode lines i) command answer
   pub entry : HasItsEntry (enters command answer) (won lay lines i)
   pub done : answer ≡ Done → enters command answer ≡ true
-  pub tells : Tells (client_view lay tries calls lines i) i command answer
+  pub tells : AnswersRight (client_view lay tries calls lines i) i command answer
   pub took : HasTakenFew lay tries i (history lay.mode lines) (start lay.mode lines i) command
   pub late : (turn : ℕ) → won lay lines i ≡ Some turn → c.begin ≤ turn
 
@@ -321,7 +321,7 @@ is_refusal v (Map (RangeOf low high most)) (MapAnswer NoMemory) x = record { lea
 is_refusal v command answer x = absurd x
 
 -- it answers a range that takes nothing
-refuses_tells : (v : ClientView) (c : ℕ) (command : Command) (answer : Answer) → MayAnswerAtOnce command answer → Tells v c command answer
+refuses_tells : (v : ClientView) (c : ℕ) (command : Command) (answer : Answer) → MayAnswerAtOnce command answer → AnswersRight v c command answer
 refuses_tells v c (LlxOf cell) answer x = tt
 refuses_tells v c (ScxOf update) answer x = tt
 refuses_tells v c (VlxOf cells) answer x = tt
@@ -361,7 +361,7 @@ refused_turn lay tries calls words clients lines c new number pass answer change
     is0 : pass.0 ≡ c.pass.0
     is0 = ap (λ (p : PassNo). p.0) is
 
-    tells : Tells (client_view lay tries calls (Step (Idle number pass) ∷ lines) c.pass.0) c.pass.0 r.command answer
+    tells : AnswersRight (client_view lay tries calls (Step (Idle number pass) ∷ lines) c.pass.0) c.pass.0 r.command answer
     tells = refuses_tells _ _ r.command answer r.refusal
 
     refusal : IsRefusal (client_view lay tries calls lines c.pass.0) r.command answer

@@ -15,7 +15,7 @@ use Rattle.linearization.specs.declared.places.Change.{Change}
 use Rattle.linearization.specs.Entries.{AreEntries}
 use Rattle.linearization.specs.Ordered.{FallFrom, IsOrderedRead}
 use Rattle.player.specs.Moments.{IsMomentBy, IsOrderedMoment, IsReadMoment}
-use Rattle.player.specs.ClientView.{ClientView, client_view, IsToldBy, IsToldOfMap, IsToldReading, Tells}
+use Rattle.player.specs.ClientView.{ClientView, client_view, IsToldBy, IsToldOfMap, IsToldReading, AnswersRight}
 use Rattle.record.specs.Placed.{IsPlacedChangeOrReading, IsPlacedReading}
 use Rattle.record.specs.LawfulRun.{IsWhole}
 use Rattle.record.proofs.Lemmas.{begin_within, lawful_is_legal}
@@ -103,7 +103,7 @@ module _ (lay : Layout) (tries : ℕ) (calls : List Call) (words : Contents) (li
       go Nowhere e m t = subst (λ (told : Option MapReply). IsPlacedOnMap told calls lines call reply) (sym t) (refused lay tries calls lines changes reply reply.client.0 (Map request) y e m)
 
 -- where the call of a reply took place
-pub placed : (lay : Layout) (tries : ℕ) (calls : List Call) (words : Contents) (lines : List Line) (changes : List Change) (reply : Finished) (c : ℕ) (command : Command) → IsLawfulSoFar lay tries calls words lines → (lay.mode ≡ Tree → AreEntries calls lines changes) → entry_owed lay lines ≡ None → reply.client.0 ≡ c → reply.call ≡ answered lines c → IsRight lay tries c (history lay.mode lines) (start lay.mode lines c) (linked calls lay.mode lines c) command reply.answer → Tells (client_view lay tries calls lines c) c command reply.answer → HasItsEntry (enters command reply.answer) (won lay lines c) → next_command calls lines c ≡ Some command → begin lines c ≡ Some reply.begin → reply.end ≡ turns lines
+pub placed : (lay : Layout) (tries : ℕ) (calls : List Call) (words : Contents) (lines : List Line) (changes : List Change) (reply : Finished) (c : ℕ) (command : Command) → IsLawfulSoFar lay tries calls words lines → (lay.mode ≡ Tree → AreEntries calls lines changes) → entry_owed lay lines ≡ None → reply.client.0 ≡ c → reply.call ≡ answered lines c → IsRight lay tries c (history lay.mode lines) (start lay.mode lines c) (linked calls lay.mode lines c) command reply.answer → AnswersRight (client_view lay tries calls lines c) c command reply.answer → HasItsEntry (enters command reply.answer) (won lay lines c) → next_command calls lines c ≡ Some command → begin lines c ≡ Some reply.begin → reply.end ≡ turns lines
     → IsMomentBy calls lines changes command reply.answer reply.begin reply.end (won lay lines c) reply.moment → IsPlaced lay calls lines reply command
 placed lay tries calls words lines changes reply c (Map request) x entries owed own called right tells entry is begin end moment =
     let mode = sym (command_mode lay.mode calls c _ (Map request) x.of_mode is) in

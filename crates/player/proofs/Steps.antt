@@ -31,7 +31,7 @@ use Rattle.player.specs.Player.{ScriptView, script_view}
 use Rattle.player.proofs.Editing.{run_says}
 use Rattle.player.proofs.Placing.{done_enters}
 use Rattle.player.specs.RunKnown.{edit_in_hand}
-use Rattle.player.specs.ClientView.{ClientView, client_edit, client_view, running_edit, Tells, IsSound, Hears, IsClient, GoesOn, EndsCall, WaitsForStep, machine_call}
+use Rattle.player.specs.ClientView.{ClientView, client_edit, client_view, running_edit, AnswersRight, IsSound, Hears, IsClient, GoesOn, EndsCall, WaitsForStep, machine_call}
 use Rattle.player.specs.BetweenTurns.{IsLawfulSoFar, IsTurnOf, AreBetweenTurns, KnowsCounts, IsBetweenTurns, IsStepAsked, IsEnd, AreWins, ArePlaces, IsAtEdit, IsOwned, owners_edit}
 use Rattle.player.proofs.Views.{own_row, step_sound, hears}
 use Rattle.player.proofs.Middles.{IsOver, get_there, others_step, others_log, so_far_same, step_made, turn_changed, turn_ends, replied}
@@ -379,7 +379,7 @@ heard_end lay tries calls words all lines changes c mid new q found number answe
       right = subst (λ (k : ℕ). IsRight lay tries k (history lay.mode lines) (start lay.mode lines c.pass.0) (linked calls lay.mode lines c.pass.0) g.command answer) pass0 g.right;
       entry = g.entry;
       done = λ z. subst (λ (a : Answer). enters g.command a ≡ true) (sym z) (done_enters g.command (subst (λ (a : Answer). MayAnswerAfterStep g.command a) z g.answers));
-      tells = subst (λ (k : ℕ). Tells (client_view lay tries calls lines c.pass.0) k g.command answer) pass0 g.tells;
+      tells = subst (λ (k : ℕ). AnswersRight (client_view lay tries calls lines c.pass.0) k g.command answer) pass0 g.tells;
       took = subst (λ (k : ℕ). HasTakenFew lay tries k (history lay.mode lines) (start lay.mode lines c.pass.0) g.command) pass0 g.took;
       late = g.late;
     }

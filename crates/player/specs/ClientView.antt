@@ -376,9 +376,9 @@ IsToldOfMap v c call None = Unit {0}
 IsToldOfMap v c call (Some told) = IsToldBy (changes_map call told) v c call told
 
 -- what a call of the map answers is right
-abbrev pub Tells : ClientView → ℕ → Command → Answer → Type 0
-Tells v c (MapOf request) answer = IsToldOfMap v c (map_request request) (reply_told answer)
-Tells v c command answer = Unit {0}
+abbrev pub AnswersRight : ClientView → ℕ → Command → Answer → Type 0
+AnswersRight v c (MapOf request) answer = IsToldOfMap v c (map_request request) (reply_told answer)
+AnswersRight v c command answer = Unit {0}
 
 -- the client's call is answered, and the answer is right
 pub record EndsCall (v : ClientView) (old new : Client) (answer : Answer) : Type 0 where
@@ -390,7 +390,7 @@ pub record EndsCall (v : ClientView) (old new : Client) (answer : Answer) : Type
   pub answers : MayAnswerAfterStep command answer
   pub right : IsRight v.layout v.tries new.pass.0 v.past v.start v.linked command answer
   pub entry : HasItsEntry (enters command answer) v.won
-  pub tells : Tells v new.pass.0 command answer
+  pub tells : AnswersRight v new.pass.0 command answer
   pub took : HasTakenFew v.layout v.tries new.pass.0 v.past v.start command
   pub late : (turn : ℕ) → v.won ≡ Some turn → new.begin ≤ turn
 

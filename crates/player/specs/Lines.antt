@@ -9,8 +9,8 @@ use Rattle.record.specs.declared.record.Entry.{Entry}
 use Rattle.record.specs.declared.record.Finished.{Finished}
 
 -- how many lines fit without a growth
-abbrev pub room : Vec Line Global → ℕ
-room list = vec_capacity list - vec_len list
+abbrev pub room_left : Vec Line Global → ℕ
+room_left list = vec_capacity list - vec_len list
 
 -- In order, the first line in front
 
@@ -21,8 +21,8 @@ reply_line (Some reply) = Reply reply ∷ []
 
 -- the entry, if there is one, and these lines after it
 abbrev pub entry_line : Option Entry → List Line → List Line
-entry_line None behind = behind
-entry_line (Some entry) behind = Log entry ∷ behind
+entry_line None rest = rest
+entry_line (Some entry) rest = Log entry ∷ rest
 
 -- the lines of a turn: its row, its entry, its reply
 abbrev pub turn_lines : TurnRow → Option Entry → Option Finished → List Line

@@ -3,7 +3,7 @@ ghost use Rattle.std.specs.Prelude.{◌≡◌, ◌<◌, ◌≤◌, ◌++◌, ◌
 ghost use Rattle.arrayvec.specs.ArrayVec.{array_vec_len};
 ghost use Rattle.record.specs.declared.record.Line.{Line};
 ghost use Rattle.record.specs.declared.record.TurnRow.{TurnRow};
-ghost use Rattle.player.specs.Lines.{room, turn_lines};
+ghost use Rattle.player.specs.Lines.{room_left, turn_lines};
 
 use arrayvec::ArrayVec;
 use record::{Entry, Line, TurnRow};
@@ -39,7 +39,7 @@ pub(crate) fn row_of(turn: &[Line]) -> TurnRow
 
 /// Moves the lines of a turn to the end of those before it, which must have room for them.
 pub(crate) fn append(list: &mut Vec<Line>, mut turn: Lines)
-    requires { 3 ≤ room list.old }
+    requires { 3 ≤ room_left list.old }
     ensures { list.new.items ≡ list.old.items ++ turn.items }
 {
     while let Some(line) = turn.pop_at(0) {
