@@ -126,7 +126,7 @@ fn pair_word(pair: (u64, u64)) -> u64 {
     pair.0.wrapping_add(pair.1).wrapping_add(1)
 }
 
-/// Notes what a successor or a predecessor has told.
+/// Notes what a successor or a predecessor has answered.
 pub fn told_pair(reply: Result<Option<(u64, u64)>, OrderFault>, tally: &mut Tally) -> End
     ensures { total tally.new ≡ total tally.old }
 {

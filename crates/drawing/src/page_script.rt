@@ -1,4 +1,4 @@
-//! The script of pages, in JavaScript. It reads the report that stands in the page, and shows what the
+//! The script of pages, in JavaScript. It reads the report that is in the page, and shows what the
 //! words of memory are at a turn.
 
 /// The script.

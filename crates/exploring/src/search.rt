@@ -42,7 +42,7 @@ pub fn explore(
     explore_watched(alloc, script, interruptions, most, &mut Unwatched)
 }
 
-/// The same, of which somebody is told how many schedules it has played.
+/// The same, and says how many schedules it has played.
 pub fn explore_watched<W: Watch>(
     alloc: Global,
     script: &Script,

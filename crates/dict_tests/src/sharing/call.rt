@@ -112,7 +112,7 @@ fn pair_told<K: WordKey, V: WordValue>(told: Result<Option<(K, V)>, UpdateFault>
     }
 }
 
-/// And what a search for a pair beside a key has told.
+/// And what a search for a pair beside a key has answered.
 fn found_told<K: WordKey, V: WordValue>(told: Result<Option<(K, V)>, OrderFault>) -> Reply<K, V> {
     match told {
         Ok(pair) => Reply::Pair(pair),

@@ -51,7 +51,7 @@ fn read(
     }
 }
 
-/// A successor tells the next pair, a predecessor the one before, and a range all; where one of them
+/// A successor answers the next pair, a predecessor the one before, a range all; where one of them
 /// had no memory, as soon as it is asked again. Nothing of the share is taken.
 fn all_look(alloc: Global, forest: &Forest<Numbers>, pass: &mut Pass<Numbers>) -> bool
     requires { IsOf forest.now pass.old }
