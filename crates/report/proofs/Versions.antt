@@ -67,7 +67,7 @@ same_part version part other is has = tt
 read_back : (n : ℕ) → n < 2 ^ 128 → digits_value 10 (decimal n) ≡ n
 read_back n fits = (decimal_is_IsNumeral_wide n (omega (arith, fits))).1
 
--- all that stands in the fields of arguments of one word has one word
+-- all that is in the fields of arguments of one word has one word
 field_is_short : (arguments : List MapArgument) (k : ℕ) → AllByRecursion IsArgument arguments → AllByRecursion HasOneWord arguments → digits_value 10 (get_or (map argument_text arguments) k []) < 2 ^ 64
 field_is_short [] k fits short = omega arith
 field_is_short (OfKey n ∷ rest) zero fits short = omega (arith, fits.0, read_back n (omega (arith, fits.0)))

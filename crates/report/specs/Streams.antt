@@ -1,5 +1,5 @@
 -- What a stream has written of its report, and which turns have led to it.
-use Rattle.std.specs.Prelude.{◌≡◌, ◌≢◌, ◌+◌, ◌-◌, ◌^◌, ◌≤◌, ◌⊎◌, ℕ, false, List, [], ◌∷◌, ◌++◌, Option, map, min, reverse}
+use Rattle.std.specs.Prelude.{◌≡◌, ◌≢◌, ◌+◌, ◌-◌, ◌^◌, ◌≤◌, ◌⊎◌, ℕ, false, List, [], ◌∷◌, ◌++◌, Option, IsTrue, Result, Err, OnOk, OnErr, IsErrOf, map, min, reverse}
 use Rattle.std.specs.Io.KnownBytes.{Appends}
 use Rattle.texts.specs.Pages.{BeginsWith, rows_text}
 use Rattle.script.specs.Rows.{limits_row}
@@ -38,6 +38,21 @@ pub record IsCutAt (old new : Option (List ℕ)) (p : PlayerView) (i : ℕ) : Ty
   pub turn : IsNextTurn p i more
   pub played : IsPlayed (with_lines p more)
   pub text : BeginsWith old new (text_so_far (with_lines p more))
+
+-- what a turn of client i leaves, of a stream that continued after these turns: its lines are
+-- written; or, after a fault before the turn, all is as it was; or, after a fault later, the stream
+-- has ended
+pub record HasTurned {T : Type 0} (stream : Stream) (old new : Option (List ℕ)) (p : PlayerView) (i : ℕ) (unwritten : Type 0) (result : Result T StreamFault) : Type 0 where
+  pub written : OnOk result (HasWritten stream old new (with_lines p stream.lines.items))
+  pub refused : OnErr result (stream.ended ≡ false → HasWritten stream old new p × unwritten)
+  pub cut : OnErr result (IsTrue stream.ended → IsCutAt old new p i)
+
+-- a failed write ends a stream; `Ended` is the answer of just those that had ended, and changes
+-- nothing
+pub record EndsByFaults {T : Type 0} (old new : Stream) (unwritten : Type 0) (result : Result T StreamFault) : Type 0 where
+  pub failed : IsErrOf result Write → IsTrue new.ended
+  pub over : IsTrue old.ended → (result ≡ Err Ended) × (new ≡ old) × unwritten
+  pub why : result ≡ Err Ended → IsTrue old.ended
 
 -- a turn was not made, or not written, for this fault: these turns are a lawful run, and after the
 -- old bytes is a beginning of its report, or of that with one turn more of some client, with which

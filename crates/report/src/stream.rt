@@ -82,7 +82,7 @@ pub struct Stream {
 }
 
 impl Stream {
-    ghost use Rattle.report.specs.Streams.{HasWritten, IsCutAt, text_so_far};
+    ghost use Rattle.report.specs.Streams.{EndsByFaults, HasTurned, HasWritten, text_so_far};
 
     /// Writes the rows before the first turn: those of the format, the limits and the calls. After
     /// a fault what was written is a beginning of them. The faults are `NoMemory` and `Write`.
@@ -123,22 +123,9 @@ impl Stream {
         requires steps { turns_made self.old.core < 2 ^ 64 - 1 }
         ensures turn { OnOk result ((p : PlayerView) → StandsAt self.old.core p →
             IsNextTurn p client.0 self.new.lines.items) }
-        ensures written { (start : Option (List ℕ)) (p : PlayerView) → HasWritten self.old start (W.contents to.old.inner) p →
-            OnOk result (HasWritten self.new start (W.contents to.new.inner) (with_lines p self.new.lines.items)) }
-
-        // A fault before the turn leaves all as it was.
-        ensures refused { (start : Option (List ℕ)) (p : PlayerView) → HasWritten self.old start (W.contents to.old.inner) p →
-            OnErr result (self.new.ended ≡ false → HasWritten self.new start (W.contents to.new.inner) p × to.new ≡ to.old) }
-
-        // A fault after it ends the stream.
-        ensures cut { (start : Option (List ℕ)) (p : PlayerView) → HasWritten self.old start (W.contents to.old.inner) p →
-            OnErr result (IsTrue self.new.ended → IsCutAt start (W.contents to.new.inner) p client.0) }
-        ensures failed { IsErrOf result StreamFault.Write → IsTrue self.new.ended }
-        ensures over { IsTrue self.old.ended → (result ≡ Err StreamFault.Ended) ×
-            (self.new ≡ self.old) × (to.new ≡ to.old) }
-        ensures why { result ≡ Err StreamFault.Ended → IsTrue self.old.ended }
-
-        ensures lawful { (p : PlayerView) → StandsAt self.new.core p → IsPlayed p }
+        ensures says { (start : Option (List ℕ)) (p : PlayerView) → HasWritten self.old start (W.contents to.old.inner) p →
+            HasTurned self.new start (W.contents to.new.inner) p client.0 (to.new ≡ to.old) result }
+        ensures ends { EndsByFaults self.old self.new (to.new ≡ to.old) result }
         ensures passes { passes_of self.new.core ≡ passes_of self.old.core }
         ensures counted { OnOk result (turns_made self.new.core ≡ suc (turns_made self.old.core)) }
         ensures failures { CountsStreamFault result to.old.failures to.new.failures }
