@@ -1,12 +1,12 @@
 //! The report of a run, written while the run is played.
-ghost use Rattle.std.specs.Prelude.{◌≡◌, ◌≢◌, false, ℕ, suc, ◌+◌, ◌-◌, ◌^◌, ◌<◌, List, [], Option, is_some, IfOk, IsErrOf, IsTrue, OnErr, OnOk, min, reverse};
+ghost use Rattle.std.specs.Prelude.{◌≡◌, ◌≢◌, ℕ, suc, ◌+◌, ◌-◌, ◌^◌, ◌<◌, List, [], Option, is_some, IfOk, IsTrue, OnErr, OnOk, min, reverse};
 ghost use Rattle.std.specs.Io.KnownBytes.{Appends, Keeps};
 ghost use Rattle.texts.specs.Pages.{BeginsWith};
 ghost use Rattle.record.specs.Commands.{next_command};
 ghost use Rattle.record.specs.Turns.{turns};
 ghost use Rattle.script.specs.declared.script.Script.{Script};
-ghost use Rattle.player.specs.Core.{IsNextTurn, StandsAt, passes_of, turns_made, with_lines};
-ghost use Rattle.player.specs.Player.{IsPlayed, PlayerView, script_view};
+ghost use Rattle.player.specs.Core.{IsNextTurn, StandsAt, passes_of, turns_made};
+ghost use Rattle.player.specs.Player.{PlayerView, script_view};
 ghost use Rattle.report.specs.Report.{report_text};
 ghost use Rattle.report.specs.StreamFaults.{CountsStreamFault, stream_fault_of};
 ghost use Rattle.report.specs.declared.stream.StreamFault.TheVariants as fault;
