@@ -3,8 +3,9 @@
 use Rattle.std.specs.Prelude.{◌≡◌, ℕ, ◌<◌, ◌≤◌, List, Option, Some, None}
 use Rattle.arena.specs.declared.layout.Layout.{Layout}
 use Rattle.record.specs.Common.{Pair, need, MapCall, Edit, get, reply, number_reply, Reply, Value, Call, Command, HasItsEntry, enters, next_command}
-use Rattle.record.specs.Common.{AreLines, map_at, map_call, reply_told, IsGreatestTurn, IsFitting, AreSpelled, turns, answered, begin, won, entry_owed}
+use Rattle.record.specs.Common.{IsRight, linked, history, start, AreLines, map_at, map_call, reply_told, IsGreatestTurn, IsFitting, AreSpelled, turns, answered, begin, won, entry_owed}
 use Rattle.record.specs.declared.record.Line.{Line}
+use Rattle.record.specs.declared.record.Answer.{Answer}
 use Rattle.record.specs.declared.record.Answer.TheVariants.{Map}
 use Rattle.record.specs.declared.record.Finished.{Finished}
 use Rattle.linearization.specs.declared.places.Change.{Change}
@@ -31,6 +32,11 @@ pub record IsAsked (lay : Layout) (tries : ℕ) (calls : List Call) (lines : Lis
   pub fits : IsFitting lines command r.answer
   -- an update of the call has won if the answer says so, and only then
   pub entry : HasItsEntry (enters command r.answer) (won lay lines r.client.0)
+
+-- the answer of client c's call of this command is right after these lines
+abbrev pub IsRightAfter : Layout → ℕ → List Call → List Line → ℕ → Command → Answer → Type 0
+IsRightAfter lay tries calls lines c command answer =
+    IsRight lay tries c (history lay.mode lines) (start lay.mode lines c) (linked calls lay.mode lines c) command answer
 
 -- after some turn of the call the map was one on which it needs this many nodes
 abbrev pub NeededWithin : List Call → List Line → MapCall → ℕ → Finished → Type 0

@@ -1,33 +1,18 @@
 //! Calls of cells: what their entries do, and what their answers say.
 ghost use Rattle.std.specs.Prelude.{◌≡◌, ℕ, ◌<◌, [], ◌∷◌, List, slice_get, true, false, Option, Some, IsSome, IfSome, IfNone, IsTrue};
-ghost use Rattle.arena.specs.declared.layout.Layout.{Layout};
-ghost use Rattle.arena.specs.declared.step.Row.{Row as StepRow};
-ghost use Rattle.arena.specs.declared.step.Kind.TheVariants.{Freeze};
-ghost use Rattle.arena.specs.declared.limits.Mode.TheVariants.{Records};
-ghost use Rattle.arena.specs.declared.word.Side.{Side as SideOf};
-ghost use Rattle.arena.specs.Blame.{HasFailed};
-ghost use Rattle.arena.specs.History.{History, value};
-ghost use Rattle.arena.specs.Lawful.{IsWin};
-ghost use Rattle.arena.specs.Log.{log, last, has, is_final, entry as entered};
-ghost use Rattle.arena.specs.ScxRecords.{plan as plan_of, member as member_of, new as new_of, side_of, field_index, plan_finalizes};
-ghost use Rattle.arena.specs.Words.{child, scx as scx_of};
-ghost use Rattle.script.specs.declared.call.Call.{Call as CallOf};
+ghost use Rattle.record.specs.Common.{Call as CallOf, cells_of, IsAsSnapped, IsInTheWay, IsEntryFor, IsPlaced, next_command, linked, AreLinked, IsFirstUnlinked, IsLastLook, begin, start};
+ghost use Rattle.histories.specs.Common.{Layout, Row as StepRow, Freeze, Records, Side as SideOf, HasFailed, History, value, IsWin, log, last, has, is_final, entry as entered, plan as plan_of, member as member_of, new as new_of, side_of, field_index, plan_finalizes, child, scx as scx_of, Kind as KindOf};
 ghost use Rattle.record.specs.declared.record.Line.{Line};
 ghost use Rattle.record.specs.declared.record.Finished.{Finished};
-ghost use Rattle.script.specs.Cells.{cells_of};
 ghost use Rattle.audit.specs.declared.memory.FoundInfo.{FoundInfo as LookOf};
-ghost use Rattle.arena.specs.declared.step.Kind.{Kind as KindOf};
-ghost use Rattle.record.specs.Answers.{AreUnchanged, HasRoom, IsAsSnapped, IsInTheWay, IsPlacedCell, IsSnapshotAt, moment_of as moment_in};
-ghost use Rattle.record.specs.CommandRules.{IsEntryFor, IsRight, IsPlaced};
-ghost use Rattle.record.specs.Commands.{next_command};
-ghost use Rattle.record.specs.Linked.{linked};
+ghost use Rattle.record.specs.Answers.{AreUnchanged, HasRoom, IsPlacedCell, IsSnapshotAt, moment_of as moment_in};
 ghost use Rattle.record.specs.Rules.Llx.{LlxIsRight};
 ghost use Rattle.record.specs.Rules.Scx.{ScxIsRight, IsScxEntry};
 ghost use Rattle.record.specs.Rules.Set.{SetIsRight, IsSetEntry};
 ghost use Rattle.record.specs.Rules.Vlx.{VlxIsRight};
-ghost use Rattle.record.specs.Snapshots.{AreLinked, IsBehindAll, IsFirstUnlinked, IsLastLook};
-ghost use Rattle.record.specs.Turns.{history, begin, start};
+ghost use Rattle.record.specs.Snapshots.{IsBehindAll};
 ghost use Rattle.judge.specs.Histories.{seen_history};
+ghost use Rattle.audit.specs.Asked.{IsRightAfter};
 ghost use Rattle.audit.specs.After.{IsClientAfter};
 ghost use Rattle.audit.specs.CellCalls.{AreSameAt, IsCallSeen, IsLookAt, IsOwnLook, IsAsLooked, IsOverCells, IsFreshWith};
 ghost use Rattle.audit.specs.Remembered.{AreStepsOf, AreRemembered, AreSnapshotsOf, IsLookOf};
@@ -285,9 +270,7 @@ pub(crate) fn is_right(
         AreRemembered lay calls lines steps.now →
         IsSome (begin lines client.now.pass.0) →
         next_command calls lines client.now.pass.0 ≡ Some command.now → IsTrue result →
-        IsRight lay tries client.now.pass.0 (history lay.mode lines)
-        (start lay.mode lines client.now.pass.0)
-        (linked calls lay.mode lines client.now.pass.0) command.now reply.now.answer }
+        IsRightAfter lay tries calls lines client.now.pass.0 command.now reply.now.answer }
     ensures placed { (lay : Layout) (calls : List CallOf) (lines : List Line) →
         IsClientAfter lay calls lines reply.now.client.0 client.now → IsTrue result →
         IsPlaced lay calls lines reply.now command.now }
@@ -316,9 +299,7 @@ fn is_true(steps: &Steps, pass: PassNo, command: &Command, answer: &Answer) -> b
         AreRemembered lay calls lines steps.now →
         IsSome (begin lines pass.0) →
         next_command calls lines pass.0 ≡ Some command.now → IsTrue result →
-        IsRight lay tries pass.0 (history lay.mode lines) (start lay.mode lines pass.0)
-        (linked calls lay.mode lines pass.0) command.now
-        answer.now }
+        IsRightAfter lay tries calls lines pass.0 command.now answer.now }
     ensures placed { (lay : Layout) (calls : List CallOf) (lines : List Line)
         (reply : Finished) → IsTrue result →
         IsPlacedCell lay lines reply → IsPlaced lay calls lines reply command.now }

@@ -1,7 +1,6 @@
 //! Where a client is in its calls.
 ghost use Rattle.std.specs.Prelude.{◌≡◌, ℕ, List, length, set, slice_get, ◌+◌, ◌<◌, ◌^◌, Some, None, IfSome, IsSome, IsTrue, drop, unwrap_or};
-ghost use Rattle.script.specs.declared.command.Command.{Command as CommandOf};
-ghost use Rattle.record.specs.Commands.{commands};
+ghost use Rattle.record.specs.Common.{Command as CommandOf, commands};
 ghost use Rattle.record.specs.declared.record.Entry.{Entry as EntryOf};
 ghost use Rattle.audit.specs.declared.client.ClientState.{ClientState as ClientOf};
 ghost use Rattle.audit.specs.Calls.{StandsNext, command_at};

@@ -1,8 +1,7 @@
 //! What each command may do.
 ghost use Rattle.std.specs.Prelude.{◌≡◌, ℕ, ◌+◌, ◌*◌, ◌≤◌, ◌↔◌, IsTrue};
-ghost use Rattle.record.specs.CommandRules.{command_steps, MayMake, MayAnswerAtOnce, MayAnswerAfterStep, enters};
-ghost use Rattle.record.specs.CommandRules.{rules};
-ghost use Rattle.script.specs.declared.command.Command.TheVariants.{Map as MapCommand};
+ghost use Rattle.record.specs.Common.{command_steps, MayAnswerAtOnce, MayAnswerAfterStep, enters, Map as MapCommand};
+ghost use Rattle.record.specs.CommandRules.{MayMake, rules};
 ghost use Rattle.record.specs.declared.record.Answer.TheVariants.{Map as MapAnswer};
 ghost use Rattle.record.specs.Rules.Llx.{LlxAfterStep};
 ghost use Rattle.ordered_map.specs.CallRules.{IsFormOfNeighbour, IsFormOfRange, TakesNothing, form_of};

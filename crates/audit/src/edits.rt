@@ -1,19 +1,13 @@
 //! Whether an SCX-record that begins makes the edit of its owner's call. What its leaves hold is
 //! read as lists of pairs, on which the edit is made.
 ghost use Rattle.std.specs.Prelude.{◌≡◌, ◌≢◌, ◌==◌, ◌+◌, ◌^◌, ◌<◌, ◌≤◌, ◌↔◌, ℕ, true, false, [], ◌++◌, length, set, Some, None, IfSome, IsSome, IsTrue};
-ghost use Rattle.arena.specs.ScxRecords.{count, member as member_of, seen as seen_at, new};
-ghost use Rattle.arena.specs.Fills.{IsNamed};
-ghost use Rattle.arena.specs.Words.{child as child_of, info, scx as scx_of};
-ghost use Rattle.arena.specs.declared.word.Side.{Side as SideOf};
-ghost use Rattle.arena.specs.declared.word.Side.TheVariants.{Left, Right};
+ghost use Rattle.record.specs.Common.{Passed, IsTreeRun, class, is_leaf, said, toward as toward_of, Edit, edit_key, edited, first_pair, pair, map_call, number_pairs};
+ghost use Rattle.histories.specs.Common.{count, member as member_of, seen as seen_at, new, IsNamed, child as child_of, info, scx as scx_of, Side as SideOf, Left, Right};
 ghost use Rattle.ordered_map.specs.Edits.{IsLastLeaf, IsSwapBy, IsSplitBy, HasTreeLevels, IsJoinBy, IsCopyOf, HasFieldsOf};
 ghost use Rattle.ordered_map.specs.Holding.{held_pairs, IsWellCounted};
-ghost use Rattle.ordered_map.specs.Paths.{Passed};
-ghost use Rattle.ordered_map.specs.Runs.{IsTreeRun};
 ghost use Rattle.ordered_map.specs.TreeShape.{EditsLeaf, TakesLeafOut, IsEdit, leaf_plan, join_plan, leaf_place as leaf_place_of, sibling_place as sibling_place_of, edit_leaf, leaf_out};
-ghost use Rattle.ordered_map.specs.TreeWords.{class, is_leaf, level, leaf_pairs, said, toward as toward_of};
-ghost use Rattle.ordered_map.specs.OrderedMap.{Edit, edit_key, edited, first_pair, last_pair, pair};
-ghost use Rattle.record.specs.MapRecord.{map_call, number_pairs};
+ghost use Rattle.ordered_map.specs.TreeWords.{level, leaf_pairs};
+ghost use Rattle.ordered_map.specs.OrderedMap.{last_pair};
 ghost use Rattle.audit.specs.Edits.{AreToward, IsAlike, IsEditBy, IsInFront, IsLeafFor, IsSuited, MayMakeEdit, edit_begun, key_in, word_now};
 ghost use Rattle.judge.specs.Histories.{seen_history};
 

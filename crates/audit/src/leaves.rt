@@ -1,14 +1,10 @@
 //! What leaves hold, read from the words that a judge has: pairs by rising key.
 ghost use Rattle.std.specs.Prelude.{◌≡◌, ◌^◌, ◌<◌, ◌≤◌, length, IsTrue};
-ghost use Rattle.arena.specs.Heads.{head_of};
-ghost use Rattle.arena.specs.Words.{first_key, node as node_of};
-ghost use Rattle.arena.specs.declared.word.NodeWord.TheVariants.{Settled};
-ghost use Rattle.arena.specs.declared.word.SettledPart.TheVariants.{Head as HeadWord};
+ghost use Rattle.record.specs.Common.{pair, class, said, number_pairs};
+ghost use Rattle.histories.specs.Common.{head_of, first_key, node as node_of, Settled, Head as HeadWord};
 ghost use Rattle.ordered_map.specs.Edits.{IsLowLeaf};
 ghost use Rattle.ordered_map.specs.Holding.{held_pairs, pair_in, IsWellCounted};
-ghost use Rattle.ordered_map.specs.OrderedMap.{pair};
-ghost use Rattle.ordered_map.specs.TreeWords.{class, leaf_pairs, said};
-ghost use Rattle.record.specs.MapRecord.{number_pairs};
+ghost use Rattle.ordered_map.specs.TreeWords.{leaf_pairs};
 ghost use Rattle.audit.specs.Edits.{word_now};
 
 use arena::{Head, NodeNo, NodeWord, SettledPart, Slot, Word};

@@ -1,12 +1,9 @@
 //! Whether levels rise from each fork that a field has ever held to its children.
 ghost use Rattle.std.specs.Prelude.{◌≡◌, ◌≢◌, ◌<◌, ◌⊎◌, false, true, IsTrue};
-ghost use Rattle.arena.specs.History.{◌⊳◌, value};
-ghost use Rattle.arena.specs.Lawful.{IsLawful};
-ghost use Rattle.arena.specs.Words.{child as child_of};
-ghost use Rattle.arena.specs.declared.word.SettledPart.TheVariants.{Head as HeadWord};
-ghost use Rattle.arena.specs.declared.word.Side.{Side as SideOf};
-ghost use Rattle.ordered_map.specs.FillOrder.{HasStoodInField, HasRisingLevels};
-ghost use Rattle.ordered_map.specs.TreeWords.{is_leaf, level};
+ghost use Rattle.record.specs.Common.{HasRisingLevels, is_leaf};
+ghost use Rattle.histories.specs.Common.{◌⊳◌, value, IsLawful, child as child_of, Head as HeadWord, Side as SideOf};
+ghost use Rattle.ordered_map.specs.FillOrder.{HasStoodInField};
+ghost use Rattle.ordered_map.specs.TreeWords.{level};
 ghost use Rattle.judge.specs.Histories.{seen_history};
 
 use crate::leaves::head;

@@ -1,23 +1,13 @@
 //! Calls of the map: where they took place, and what they answered there.
 ghost use Rattle.std.specs.Prelude.{◌≡◌, ℕ, suc, ◌-◌, ◌<◌, ◌≤◌, List, Some, None, IsTrue};
-ghost use Rattle.arena.specs.declared.layout.Layout.{Layout};
-ghost use Rattle.ordered_map.specs.OrderedMap.{OneValue, get, reply as reply_of};
-ghost use Rattle.ordered_map.specs.Replies.{number_reply};
-ghost use Rattle.ordered_map.specs.Requests.{map_request};
-ghost use Rattle.script.specs.declared.call.Call.{Call as CallOf};
-ghost use Rattle.script.specs.declared.command.Command.TheVariants.{Map as MapCommand};
-ghost use Rattle.ordered_map.specs.declared.reply.Reply.TheVariants.{Full as FullShare};
+ghost use Rattle.record.specs.Common.{OneValue, get, reply as reply_of, number_reply, map_request, Call as CallOf, Map as MapCommand, Full as FullShare, IsPlaced, map_at, reply_told, Pair as PairOf};
+ghost use Rattle.histories.specs.Common.{Layout};
 ghost use Rattle.record.specs.declared.record.Answer.TheVariants.{Map as MapAnswer};
 ghost use Rattle.record.specs.declared.record.Line.{Line};
-ghost use Rattle.record.specs.CommandRules.{IsRight, IsPlaced};
-ghost use Rattle.record.specs.Linked.{linked};
-ghost use Rattle.record.specs.MapRecord.{map_at, reply_told};
-ghost use Rattle.record.specs.Turns.{history, start};
 ghost use Rattle.linearization.specs.Entries.{AreEntries, HadFirstWithin, HadWithin};
-ghost use Rattle.ordered_map.specs.declared.pair.Pair.{Pair as PairOf};
 ghost use Rattle.linearization.specs.Ordered.{FallFrom, IsOrderedRead};
 ghost use Rattle.linearization.specs.Places.{changes};
-ghost use Rattle.audit.specs.Asked.{IsAsked, IsValueAt, IsReadAt, NeededSomething, NeededWithin, IsToldByPairs};
+ghost use Rattle.audit.specs.Asked.{IsAsked, IsRightAfter, IsValueAt, IsReadAt, NeededSomething, NeededWithin, IsToldByPairs};
 ghost use Rattle.audit.specs.Remembered.{AreRemembered};
 
 use crate::client::ClientState;
@@ -43,9 +33,7 @@ pub(crate) fn is_right(
         IsAsked lay tries calls lines (changes places.now) client.now command.now reply.now →
         AreRemembered lay calls lines steps.now →
         IsTrue result →
-        IsRight lay tries reply.now.client.0 (history lay.mode lines)
-        (start lay.mode lines reply.now.client.0)
-        (linked calls lay.mode lines reply.now.client.0) command.now reply.now.answer }
+        IsRightAfter lay tries calls lines reply.now.client.0 command.now reply.now.answer }
     ensures placed { (lay : Layout) (calls : List CallOf) (lines : List Line) →
         IsAsked lay tries calls lines
         (changes places.now) client.now command.now reply.now → IsTrue result →
@@ -80,9 +68,8 @@ fn is_placed(
     ensures right { (lay : Layout) (tries : ℕ) (calls : List CallOf) (lines : List Line) →
         IsAsked lay tries calls lines (changes places.now) client.now
         (MapCommand request.now) reply.now → IsTrue result →
-        IsRight lay tries reply.now.client.0 (history lay.mode lines)
-        (start lay.mode lines reply.now.client.0)
-        (linked calls lay.mode lines reply.now.client.0) (MapCommand request.now) reply.now.answer }
+        IsRightAfter lay tries calls lines reply.now.client.0
+        (MapCommand request.now) reply.now.answer }
     ensures placed { (lay : Layout) (tries : ℕ) (calls : List CallOf) (lines : List Line) →
         IsAsked lay tries calls lines (changes places.now) client.now
         (MapCommand request.now) reply.now → IsTrue result →
@@ -250,9 +237,8 @@ fn is_refused(
         IsAsked lay tries calls lines (changes places.now) client.now
         (MapCommand request.now) reply.now →
         AreRemembered lay calls lines steps.now → IsTrue result →
-        IsRight lay tries reply.now.client.0 (history lay.mode lines)
-        (start lay.mode lines reply.now.client.0)
-        (linked calls lay.mode lines reply.now.client.0) (MapCommand request.now) reply.now.answer }
+        IsRightAfter lay tries calls lines reply.now.client.0
+        (MapCommand request.now) reply.now.answer }
     ensures tells_nothing { IsTrue result → reply_told reply.now.answer ≡ None }
 {
     match told {
@@ -296,9 +282,7 @@ fn is_full(
         IsAsked lay tries calls lines (changes places.now) client.now
         (MapCommand request.now) reply.now →
         AreRemembered lay calls lines steps.now → IsTrue result →
-        IsRight lay tries reply.now.client.0 (history lay.mode lines)
-        (start lay.mode lines reply.now.client.0)
-        (linked calls lay.mode lines reply.now.client.0) (MapCommand request.now)
+        IsRightAfter lay tries calls lines reply.now.client.0 (MapCommand request.now)
         (MapAnswer (FullShare record { what = full.0; left = full.1 })) }
 {
     if steps.has_too_few_to_try(client.pass, 1, full) && needed_one(places, request, reply) {

@@ -1,7 +1,6 @@
 //! Where a client's calls are in a script.
 ghost use Rattle.std.specs.Prelude.{List, drop};
-ghost use Rattle.script.specs.declared.command.Command.{Command};
-ghost use Rattle.record.specs.Commands.{commands};
+ghost use Rattle.record.specs.Common.{Command, commands};
 ghost use Rattle.audit.specs.Calls.{StandsNext};
 
 use arena::PassNo;

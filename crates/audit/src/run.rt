@@ -44,38 +44,18 @@ pub(crate) struct Replay<'a> {
 }
 
 impl<'a> Replay<'a> {
-    ghost use Rattle.std.specs.Prelude.{◌≡◌, ℕ, suc, ◌+◌, ◌<◌, ◌∷◌, [], Some, None, true, false, IsTrue, IfOk, IfSome, OnOk, slice_get, vec_len};
-    ghost use Rattle.arena.specs.declared.step.Row.{Row as RowOf};
-    ghost use Rattle.arena.specs.Lawful.{IsLawful};
+    ghost use Rattle.std.specs.Prelude.{◌≡◌, ℕ, suc, ◌+◌, ◌<◌, ◌∷◌, [], Some, None, true, false, IsTrue, IfOk, IfSome, OnOk, slice_get, vec_len, length, reverse, Option};
+    ghost use Rattle.record.specs.Common.{next_command, IsWinOf, OwesNothing, IsLawfulRun, turns, clients, entry_of, entry_owed, HasRisingLevels, IsTreeRun, IsEntryFor, IsPlaced, linked, IsFitting, enters, start};
+    ghost use Rattle.histories.specs.Common.{Row as RowOf, IsLawful, Side, IsWin, entry as entered, child, Tree, Records, ◌⊳◌, value, IsBegin};
     ghost use Rattle.record.specs.declared.record.Line.{Line};
     ghost use Rattle.record.specs.declared.record.Entry.{Entry as EntryOf};
     ghost use Rattle.record.specs.declared.record.TurnRow.{TurnRow};
-    ghost use Rattle.record.specs.Commands.{next_command};
     ghost use Rattle.record.specs.Steps.{IsStep, IsIdleTurn};
-    ghost use Rattle.record.specs.Entries.{IsWinOf};
     ghost use Rattle.record.specs.Replies.{IsReply};
-    ghost use Rattle.record.specs.LawfulRun.{OwesNothing, IsLawfulRun};
-    ghost use Rattle.std.specs.Prelude.{length, reverse};
-    ghost use Rattle.record.specs.Turns.{turns, clients, entry_of, entry_owed};
-    ghost use Rattle.std.specs.Prelude.{Option};
-    ghost use Rattle.arena.specs.declared.word.Side.{Side};
-    ghost use Rattle.arena.specs.Lawful.{IsWin};
-    ghost use Rattle.arena.specs.Log.{entry as entered};
-    ghost use Rattle.arena.specs.Words.{child};
-    ghost use Rattle.arena.specs.declared.limits.Mode.TheVariants.{Tree, Records};
-    ghost use Rattle.arena.specs.History.{◌⊳◌, value};
-    ghost use Rattle.arena.specs.Shape.{IsBegin};
-    ghost use Rattle.ordered_map.specs.FillOrder.{HasRisingLevels};
     ghost use Rattle.linearization.specs.Places.{changes};
     ghost use Rattle.audit.specs.Trees.{HasChangedBy, IsChangeBegun, IsReadyFor};
-    ghost use Rattle.ordered_map.specs.Runs.{IsTreeRun};
     ghost use Rattle.audit.specs.Edits.{MayMakeEdit};
     ghost use Rattle.audit.specs.declared.edits.BegunEdit.{BegunEdit as BegunOf};
-    ghost use Rattle.record.specs.CommandRules.{IsEntryFor, IsPlaced};
-    ghost use Rattle.record.specs.Linked.{linked};
-    ghost use Rattle.record.specs.Replies.{IsFitting};
-    ghost use Rattle.record.specs.CommandRules.{enters};
-    ghost use Rattle.record.specs.Turns.{start};
     ghost use Rattle.judge.specs.Histories.{seen_history};
     ghost use Rattle.audit.specs.After.{layout_of, tries_of, calls_of, IsClientAfter, IsNextStep, IsReplyToNext, IsRightReply, TookFew};
 

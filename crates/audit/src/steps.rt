@@ -1,12 +1,11 @@
 //! The steps so far: their judge, how many there were, and until when each SCX-record was in
 //! progress.
 ghost use Rattle.std.specs.Prelude.{◌≡◌, ◌⊎◌, ℕ, IsTrue, OnOk, IfOk};
-ghost use Rattle.arena.specs.declared.layout.Layout.{Layout as LayoutOf};
-ghost use Rattle.arena.specs.History.{History as HistoryOf, Start, ◌⊳◌};
-ghost use Rattle.arena.specs.Lawful.{IsLawful};
+ghost use Rattle.record.specs.Common.{HasNodesLeft as NodesLeft, HasScxLeft as ScxLeft};
+ghost use Rattle.histories.specs.Common.{Layout as LayoutOf, History as HistoryOf, Start, ◌⊳◌, IsLawful};
 ghost use Rattle.record.specs.Rules.Scx.{has_run};
 ghost use Rattle.record.specs.Steps.{SaysItsCall};
-ghost use Rattle.record.specs.Shares.{HasNodesLeft as NodesLeft, HasScxLeft as ScxLeft, HasTooFew as TooFew};
+ghost use Rattle.record.specs.Shares.{HasTooFew as TooFew};
 ghost use Rattle.judge.specs.Histories.{seen_history};
 
 use crate::cells::same_cells;
@@ -37,27 +36,15 @@ pub(crate) struct Steps {
 
 impl Steps {
     ghost use Rattle.std.specs.Prelude.{ℕ, ◌+◌, ◌<◌, List, [], ◌∷◌, length, set, Option, Some, None, IsTrue, IsSome, IfSome, slice_get};
-    ghost use Rattle.arena.specs.declared.layout.Layout.{Layout};
-    ghost use Rattle.arena.specs.Blame.{IsInProgress, IsMember, WasInTheWay};
-    ghost use Rattle.arena.specs.Fills.{IsOthersScx};
-    ghost use Rattle.arena.specs.History.{History};
-    ghost use Rattle.arena.specs.Layout.{all_nodes};
-    ghost use Rattle.arena.specs.Log.{log, is_final};
-    ghost use Rattle.script.specs.declared.cells.CellList.{CellList};
-    ghost use Rattle.script.specs.declared.call.Call.{Call};
-    ghost use Rattle.script.specs.declared.command.Command.TheVariants.{Vlx};
-    ghost use Rattle.script.specs.Cells.{cells_of};
+    ghost use Rattle.record.specs.Common.{CellList, Call, Vlx, cells_of, HasLostAllTries, HasTakenFew, next_command, linked, HasNodesLeft, HasScxLeft, history, begin, start};
+    ghost use Rattle.histories.specs.Common.{Layout, IsInProgress, IsMember, WasInTheWay, IsOthersScx, History, all_nodes, log, is_final};
     ghost use Rattle.record.specs.declared.record.Line.{Line};
     ghost use Rattle.record.specs.declared.record.Line.TheVariants.{Step as Turn, Reply as ReplyLine};
     ghost use Rattle.record.specs.declared.record.TurnRow.TheVariants.{Step as Made};
     ghost use Rattle.record.specs.declared.record.Finished.{Finished};
-    ghost use Rattle.record.specs.Answers.{HasLostAllTries};
-    ghost use Rattle.record.specs.CommandRules.{HasTakenFew, linked_then};
-    ghost use Rattle.record.specs.Commands.{next_command};
-    ghost use Rattle.record.specs.Linked.{linked};
-    ghost use Rattle.record.specs.Shares.{HasNodesLeft, HasScxLeft, HasTooFew, HasTooFewToTry, WasBlocked};
+    ghost use Rattle.record.specs.CommandRules.{linked_then};
+    ghost use Rattle.record.specs.Shares.{HasTooFew, HasTooFewToTry, WasBlocked};
     ghost use Rattle.record.specs.Snapshots.{snapshot_of};
-    ghost use Rattle.record.specs.Turns.{history, begin, start};
     ghost use Rattle.audit.specs.declared.memory.Memory.{Memory};
     ghost use Rattle.audit.specs.After.{IsClientAfter};
     ghost use Rattle.audit.specs.CellCalls.{AreSameAt};

@@ -1,8 +1,7 @@
 //! The audit of a record.
 ghost use Rattle.std.specs.Prelude.{◌≡◌, ◌+◌, ℕ, Err, OnOk, length, reverse};
+ghost use Rattle.record.specs.Common.{IsLawfulRun, clients};
 ghost use Rattle.audit.specs.Faults.{MayBeAtFault};
-ghost use Rattle.record.specs.LawfulRun.{IsLawfulRun};
-ghost use Rattle.record.specs.Turns.{clients};
 
 use crate::fault::{AuditFault, LineFault};
 use crate::run::Replay;
@@ -26,7 +25,7 @@ pub fn audit(alloc: Global, record: &Record) -> Result<(), AuditFault>
     audit_watched(alloc, record, &mut Unwatched)
 }
 
-/// The same, of which somebody is told how many of the lines it has judged.
+/// The same, and says how many of the lines it has judged.
 pub fn audit_watched<W: Watch>(
     alloc: Global,
     record: &Record,
