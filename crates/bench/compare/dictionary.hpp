@@ -203,6 +203,12 @@ private:
         if (found.has) found.pair.value = value_at(found.leaf, found.index);
     }
 
+    [[gnu::always_inline]] static Found with_pair(Found found, Word index) {
+        found.index = index;
+        found.pair = pair_at(found.leaf, index);
+        return found;
+    }
+
     // The walk to the leaf of the least or of the greatest key, which reads no key on its way.
     template <Side END>
     [[gnu::always_inline]] static Found walk_to(Table table) {
@@ -211,14 +217,27 @@ private:
         for (;;) {
             found.head = Head(found.leaf.load(HEAD));
             if (found.head.leaf()) break;
-            follow(found, table, found.head.keyed() ? END : LEFT_SIDE);
+            if (END == LEFT_SIDE || !found.head.keyed()) {
+                follow(found, table, LEFT_SIDE);
+                continue;
+            }
+            // A loop of its own for the forks of class 0, where the side is known.
+            do {
+                follow(found, table, END);
+                found.head = Head(found.leaf.load(HEAD));
+            } while (!found.head.leaf() && found.head.keyed());
+            if (found.head.leaf()) break;
+            follow(found, table, LEFT_SIDE);
         }
         found.has = found.head.keyed();
         if (!found.has) return found;
         found.more = found.leaf.load(MORE);
-        found.index = END == LEFT_SIDE ? 0 : found.more;
-        found.pair = pair_at(found.leaf, found.index);
-        return found;
+        switch (END == LEFT_SIDE ? 0 : found.more) {
+            case 0: return with_pair(found, 0);
+            case 1: return with_pair(found, 1);
+            case 2: return with_pair(found, 2);
+            default: return with_pair(found, 3);
+        }
     }
 
     // Puts a pair in where `wants` says so of what the walk found.
