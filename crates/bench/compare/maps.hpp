@@ -88,9 +88,7 @@ void fill(const Map& map, Word number, Keys source, Word keys, Word pairs) {
     Pass pass = map.pass(number);
     for (Word done = 0; done < pairs;) {
         const Word key = source.key(keys);
-        if (map.get(key)) continue;
-        map.insert(pass, key, key);
-        done++;
+        if (!map.insert_new(pass, key, key).told) done++;
     }
 }
 
