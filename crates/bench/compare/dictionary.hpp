@@ -1,8 +1,9 @@
-// A dictionary on the tree: get, insert, insert_new, remove, remove_if, pop_first, pop_last, replace_if,
-// successor, predecessor, range.
+// A dictionary on a tree or a trie: get, insert, insert_new, remove, remove_if, pop_first, pop_last,
+// replace_if, successor, predecessor, range.
 #pragma once
 #include <optional>
 
+#include "bits.hpp"
 #include "forest.hpp"
 #include "list.hpp"
 
@@ -32,12 +33,15 @@ struct Head {
     Word level() const { return word / 8; }
     bool leaf() const { return word & 4; }
     bool keyed() const { return !(word & 3); }
+    // Whether it is that of a fork between keys.
+    bool parts() const { return !(word & 7); }
     Word class_() const { return word & 3; }
 };
 
 // What a walk ends with: the leaf, the two forks above it with the sides to which it went there, how many
 // pairs the leaf has behind its first, the place of the first pair whose key is not below the one that is
-// looked for, and the value, where that is the key.
+// looked for, and the value, where that is the key. In its place may be a fork that the key does not share,
+// and `strays` that one's key; else it is 0, which no fork of a trie has.
 struct Found {
     Word grand = 0, parent = 0;
     Node leaf;
@@ -46,9 +50,13 @@ struct Found {
     Word more = 0, index = 0;
     Pair pair;
     bool has = false;
+    Word strays = 0;
 
     // Whether a key that is not there goes into one more leaf beside this one.
     bool full() const { return !head.keyed() || (!has && more + 1 == Pairs::MOST); }
+
+    // How many nodes the edit takes that gives the key a value.
+    Word need() const { return strays ? 2 : full() ? 3 : 1; }
 };
 
 enum class End { done, contended, full, no_memory };
@@ -59,6 +67,10 @@ struct Reply {
     T told;
 };
 
+// What parts the keys below forks: in a tree the order in which they came, in a trie their bits.
+enum class Parting { order, bits };
+
+template <Parting PARTING>
 class Dictionary {
 public:
     static constexpr Word OPENING = 3;
@@ -85,16 +97,16 @@ public:
     }
 
     [[gnu::noinline]] Reply<std::optional<Value>> insert(Pass& pass, Word key, Value value) const {
-        return put_in(pass, key, value, [](const Found&) { return true; });
+        return put_in<BY_BITS>(pass, key, value, [](const Found&) { return true; });
     }
 
     [[gnu::noinline]] Reply<std::optional<Value>> insert_new(Pass& pass, Word key, Value value) const {
-        return put_in(pass, key, value, [](const Found& found) { return !found.has; });
+        return put_in<BY_BITS>(pass, key, value, [](const Found& found) { return !found.has; });
     }
 
     [[gnu::noinline]] Reply<std::optional<Value>> replace_if(Pass& pass, Word key, Value expected, Value value) const {
-        return put_in(pass, key, value,
-                      [=](const Found& found) { return found.has && found.pair.value == expected; });
+        return put_in<false>(pass, key, value,
+                             [=](const Found& found) { return found.has && found.pair.value == expected; });
     }
 
     [[gnu::noinline]] Reply<std::optional<Value>> remove(Pass& pass, Word key) const {
@@ -133,6 +145,12 @@ public:
     }
 
 private:
+    static constexpr bool BY_BITS = PARTING == Parting::bits;
+
+    // The node that a pop of a trie covers, and each edit that puts a fork above another: what is first or
+    // last in the trie stays so while no such edit is made.
+    static constexpr Word ORDER = 2;
+
     // What a VLX asks of a node that was looked at: whether its info is still this.
     struct Look {
         Shared* info;
@@ -166,7 +184,7 @@ private:
 
     // Where the path of a key goes at a fork.
     static Side toward(Node fork, Head head, Word key) {
-        return head.keyed() && key >= fork.load(KEY) ? RIGHT_SIDE : LEFT_SIDE;
+        return head.parts() && key >= fork.load(KEY) ? RIGHT_SIDE : LEFT_SIDE;
     }
 
     // Goes one node down.
@@ -177,17 +195,41 @@ private:
         found.parent = found.leaf.number;
         found.side = side;
         found.leaf = table.node(child);
+        found.head = Head(found.leaf.load(HEAD));
     }
 
+    // The walk to the leaf of a key, or, where that `ends` it, to the first fork that the key does not share.
+    template <bool ENDS = false>
     [[gnu::always_inline]] static Found walk(Table table, Word key) {
         Found found;
-        found.leaf = table.node(0);
+        Node node = table.node(0);
+        Word grand = 0, parent = 0;
+        Side grand_side = LEFT_SIDE, side = LEFT_SIDE;
+        Head head;
         for (;;) {
-            found.head = Head(found.leaf.load(HEAD));
-            if (found.head.leaf()) break;
-            follow(found, table, toward(found.leaf, found.head, key));
+            head = Head(node.load(HEAD));
+            Side to = LEFT_SIDE;
+            if (head.parts()) {
+                const Word fork = node.load(KEY);
+                if (ENDS && !shares(fork, key)) {
+                    found.strays = fork;
+                    break;
+                }
+                if (key >= fork) to = RIGHT_SIDE;
+            } else if (head.leaf()) break;
+            grand = parent;
+            grand_side = side;
+            parent = node.number;
+            side = to;
+            node = table.node(node.load(LEFT + to));
         }
-        if (found.head.keyed()) find(found, key);
+        found.grand = grand;
+        found.parent = parent;
+        found.leaf = node;
+        found.grand_side = grand_side;
+        found.side = side;
+        found.head = head;
+        if (!found.strays && head.keyed()) find(found, key);
         return found;
     }
 
@@ -203,34 +245,39 @@ private:
         if (found.has) found.pair.value = value_at(found.leaf, found.index);
     }
 
-    // The walk to the leaf of the least or of the greatest key, which reads no key on its way.
+    // The walk to the leaf of the least or of the greatest key, which reads no key on its way. In a trie it
+    // looks at the node of the order behind its first step. False where the try is lost.
     template <Side END>
-    [[gnu::always_inline]] static Found walk_to(Table table) {
-        Found found;
+    [[gnu::always_inline]] static bool walk_to(Table table, Found& found, Snap& order) {
         found.leaf = table.node(0);
+        found.head = Head(found.leaf.load(HEAD));
+        if (BY_BITS && !look(table, table.node(ORDER), order)) return false;
         for (;;) {
-            found.head = Head(found.leaf.load(HEAD));
+            // A loop of its own for the forks of class 0, where the side is known.
+            while (END == RIGHT_SIDE && found.head.parts()) follow(found, table, END);
             if (found.head.leaf()) break;
-            follow(found, table, found.head.keyed() ? END : LEFT_SIDE);
+            follow(found, table, LEFT_SIDE);
         }
         found.has = found.head.keyed();
-        if (!found.has) return found;
+        if (!found.has) return true;
         found.more = found.leaf.load(MORE);
         found.index = END == LEFT_SIDE ? 0 : found.more;
         found.pair = pair_at(found.leaf, found.index);
-        return found;
+        return true;
     }
 
     // Puts a pair in where `wants` says so of what the walk found.
-    template <class Wants>
+    template <bool ENDS, class Wants>
     [[gnu::always_inline]] Reply<std::optional<Value>> put_in(Pass& pass, Word key, Value value, Wants wants) const {
         const Table table = forest_.table();
         const Word call = pass.taken();
         for (Word tried = 0; tried < tries_; tried++) {
-            const Found found = walk(table, key);
+            const Found found = walk<ENDS>(table, key);
             if (!wants(found)) return told(found);
-            if (pass.nodes < (found.full() ? 3 : 1) || pass.scx == 0) return {End::full, {}};
-            if (put(table, pass, found, call, [&] { return grown(table, pass, found, {key, value}); })) return told(found);
+            if (pass.nodes < found.need() || pass.scx == 0) return {End::full, {}};
+            const bool done = found.strays ? put_above(table, pass, found, call, key, value)
+                                           : put(table, pass, found, call, key, value);
+            if (done) return told(found);
         }
         return {End::contended, {}};
     }
@@ -255,50 +302,98 @@ private:
         const Table table = forest_.table();
         const Word call = pass.taken();
         for (Word tried = 0; tried < tries_; tried++) {
-            const Found found = walk_to<END>(table);
+            Found found;
+            Snap order;
+            if (!walk_to<END>(table, found, order)) continue;
             if (!found.has) return {End::done, std::nullopt};
             if (pass.nodes < 1 || pass.scx == 0) return {End::full, {}};
-            if (taken_out(table, pass, found, call)) return {End::done, found.pair};
+            if (popped(table, pass, found, call, order)) return {End::done, found.pair};
         }
         return {End::contended, {}};
     }
 
-    // Puts a fresh node, which `make` fills, in the place of the leaf. False where the try is lost.
-    template <class Make>
-    [[gnu::always_inline]] static bool put(Table table, Pass& pass, const Found& found, Word call, Make make) {
+    // A snapshot of a node that has this child. False where the try is lost.
+    [[gnu::always_inline]] static bool look(Table table, Word number, Side side, Word child, Snap& snap) {
+        return table.llx(table.node(number), snap) == LlxEnd::snapshot && snap.child(side) == child;
+    }
+
+    [[gnu::always_inline]] static bool look(Table table, Node node, Snap& snap) {
+        return table.llx(node, snap) == LlxEnd::snapshot;
+    }
+
+    // Puts a pair into the place of the leaf. False where the try is lost.
+    [[gnu::always_inline]] static bool put(Table table, Pass& pass, const Found& found, Word call, Word key,
+                                           Value value) {
         std::array<Snap, 2> snaps;
         auto& [parent, leaf] = snaps;
-        if (table.llx(table.node(found.parent), parent) != LlxEnd::snapshot) return false;
-        if (parent.child(found.side) != found.leaf.number) return false;
-        if (table.llx(found.leaf, leaf) != LlxEnd::snapshot) return false;
-        const Word fresh = make();
+        if (!look(table, found.parent, found.side, found.leaf.number, parent)) return false;
+        if (!look(table, found.leaf, leaf)) return false;
+        const Word fresh = grown(table, pass, found, {key, value});
         return table.put<0b10>(pass.record(), snaps, found.side, fresh, found.leaf.number, call);
+    }
+
+    // Puts a fork that the key shares above the one at which the walk has ended. False where the try is lost.
+    [[gnu::always_inline]] static bool put_above(Table table, Pass& pass, const Found& found, Word call, Word key,
+                                                 Value value) {
+        std::array<Snap, 2> snaps;
+        auto& [parent, order] = snaps;
+        if (!look(table, found.parent, found.side, found.leaf.number, parent)) return false;
+        if (!look(table, table.node(ORDER), order)) return false;
+        const Word fresh = fork_above(table, pass, found, {key, value});
+        return table.put<0>(pass.record(), snaps, found.side, fresh, found.leaf.number, call);
     }
 
     // Takes the key out of its leaf, or the leaf out of the tree that has this key alone. False where the try
     // is lost.
     [[gnu::always_inline]] static bool taken_out(Table table, Pass& pass, const Found& found, Word call) {
         if (found.more == 0) return unlink(table, pass, found, call);
-        return put(table, pass, found, call, [&] {
-            Pairs pairs;
-            load_around(pairs, found);
-            pairs.count = found.more;
-            return low_leaf(table, pass, found.head.level(), pairs, 0, pairs.count);
-        });
+        std::array<Snap, 2> snaps;
+        auto& [parent, leaf] = snaps;
+        if (!look(table, found.parent, found.side, found.leaf.number, parent)) return false;
+        if (!look(table, found.leaf, leaf)) return false;
+        const Word fresh = shrunk(table, pass, found);
+        return table.put<0b10>(pass.record(), snaps, found.side, fresh, found.leaf.number, call);
     }
 
     // Puts a copy of the leaf's sibling in the place of their parent. False where the try is lost.
     [[gnu::always_inline]] static bool unlink(Table table, Pass& pass, const Found& found, Word call) {
         std::array<Snap, 4> snaps;
         auto& [grand, parent, left, right] = snaps;
-        if (table.llx(table.node(found.grand), grand) != LlxEnd::snapshot) return false;
-        if (grand.child(found.grand_side) != found.parent) return false;
-        if (table.llx(table.node(found.parent), parent) != LlxEnd::snapshot) return false;
-        if (parent.child(found.side) != found.leaf.number) return false;
-        if (table.llx(table.node(parent.left), left) != LlxEnd::snapshot) return false;
-        if (table.llx(table.node(parent.right), right) != LlxEnd::snapshot) return false;
+        if (!look(table, found.grand, found.grand_side, found.parent, grand)) return false;
+        if (!look(table, found.parent, found.side, found.leaf.number, parent)) return false;
+        if (!look(table, table.node(parent.left), left)) return false;
+        if (!look(table, table.node(parent.right), right)) return false;
         const Word fresh = copy(table, pass, found.side == LEFT_SIDE ? right : left);
         return table.put<0b1110>(pass.record(), snaps, found.grand_side, fresh, found.parent, call);
+    }
+
+    // Takes the first or the last pair out, which in a trie covers the node of the order too, as the last.
+    // False where the try is lost.
+    [[gnu::always_inline]] static bool popped(Table table, Pass& pass, const Found& found, Word call,
+                                              const Snap& order) {
+        if (!BY_BITS) return taken_out(table, pass, found, call);
+        if (found.more == 0) return unlink_end(table, pass, found, call, order);
+        std::array<Snap, 3> snaps;
+        auto& [parent, leaf, last] = snaps;
+        last = order;
+        if (!look(table, found.parent, found.side, found.leaf.number, parent)) return false;
+        if (!look(table, found.leaf, leaf)) return false;
+        const Word fresh = shrunk(table, pass, found);
+        return table.put<0b010>(pass.record(), snaps, found.side, fresh, found.leaf.number, call);
+    }
+
+    // The same by a copy of the leaf's sibling, in whose stead the leaf is not covered.
+    [[gnu::always_inline]] static bool unlink_end(Table table, Pass& pass, const Found& found, Word call,
+                                                  const Snap& order) {
+        std::array<Snap, 4> snaps;
+        auto& [grand, parent, sibling, last] = snaps;
+        last = order;
+        if (!look(table, found.grand, found.grand_side, found.parent, grand)) return false;
+        if (!look(table, found.parent, found.side, found.leaf.number, parent)) return false;
+        const Word beside = found.side == LEFT_SIDE ? parent.right : parent.left;
+        if (!look(table, table.node(beside), sibling)) return false;
+        const Word fresh = copy(table, pass, sibling);
+        return table.put<0b0110>(pass.record(), snaps, found.grand_side, fresh, found.parent, call);
     }
 
     // A leaf above all keys.
@@ -328,6 +423,12 @@ private:
         return node.number;
     }
 
+    [[gnu::always_inline]] static Word lone_leaf(Table table, Pass& pass, Word level, const Pair& pair) {
+        Pairs one;
+        one.items[0] = pair;
+        return low_leaf(table, pass, level, one, 0, 1);
+    }
+
     static Word fork(Table table, Pass& pass, Word level, Word class_, Word key, Word left, Word right) {
         const Node node = table.node(pass.fresh());
         node.store(HEAD, Head(level, false, class_).word);
@@ -350,6 +451,13 @@ private:
         }
     }
 
+    // What stands in the place of a leaf once its key is out: a leaf of the others.
+    [[gnu::always_inline]] static Word shrunk(Table table, Pass& pass, const Found& found) {
+        Pairs pairs;
+        load_around(pairs, found);
+        return low_leaf(table, pass, found.head.level(), pairs, 0, found.more);
+    }
+
     // What stands in the place of a leaf once it has the pair too: a leaf, or a fork over two.
     [[gnu::always_inline]] static Word grown(Table table, Pass& pass, const Found& found, const Pair& pair) {
         const Word level = found.head.level();
@@ -357,7 +465,7 @@ private:
         Pairs pairs;
         load_with(pairs, found, pair);
         if (pairs.count <= Pairs::MOST) return low_leaf(table, pass, level, pairs, 0, pairs.count);
-        return split(table, pass, level, pairs);
+        return BY_BITS ? part(table, pass, pairs) : split(table, pass, level, pairs);
     }
 
     // All pairs of a leaf, and this one at the place of its key.
@@ -373,7 +481,34 @@ private:
         pairs.count = found.more + 1 + !found.has;
     }
 
-    // Two leaves in the place of one.
+    // In a trie, two leaves in the place of one, parted at a bit.
+    [[gnu::noinline]] static Word part(Table table, Pass& pass, const Pairs& pairs) {
+        const ForkBetween between(pairs.items[0].key, pairs.items[4].key);
+        if (between.key <= pairs.items[1].key) return parted<1>(table, pass, pairs, between);
+        if (between.key <= pairs.items[2].key) return parted<2>(table, pass, pairs, between);
+        if (between.key <= pairs.items[3].key) return parted<3>(table, pass, pairs, between);
+        return parted<4>(table, pass, pairs, between);
+    }
+
+    // The first so many pairs are left of the fork.
+    template <Word COUNT>
+    [[gnu::always_inline]] static Word parted(Table table, Pass& pass, const Pairs& pairs, ForkBetween between) {
+        const Word first = low_leaf(table, pass, LEVEL_OF_LEAVES, pairs, 0, COUNT);
+        const Word second = low_leaf(table, pass, LEVEL_OF_LEAVES, pairs, COUNT, 5);
+        return fork(table, pass, between.level, 0, between.key, first, second);
+    }
+
+    // A fork over the one at which the walk has ended and a leaf of this pair.
+    [[gnu::always_inline]] static Word fork_above(Table table, Pass& pass, const Found& found, const Pair& pair) {
+        const bool below = pair.key < found.strays;
+        const ForkBetween between(below ? pair.key : found.strays, below ? found.strays : pair.key);
+        const Word leaf = lone_leaf(table, pass, LEVEL_OF_LEAVES, pair);
+        const Word left = below ? leaf : found.leaf.number;
+        const Word right = below ? found.leaf.number : leaf;
+        return fork(table, pass, between.level, 0, between.key, left, right);
+    }
+
+    // In a tree, two leaves in the place of one.
     [[gnu::noinline]] static Word split(Table table, Pass& pass, Word level, const Pairs& pairs) {
         const Word first = low_leaf(table, pass, level + 1, pairs, 0, 2);
         const Word second = low_leaf(table, pass, level + 1, pairs, 2, 5);
@@ -382,11 +517,10 @@ private:
 
     // A fork over a leaf of this pair and one that is above all keys.
     [[gnu::noinline, gnu::cold]] static Word first_pair(Table table, Pass& pass, Head head, const Pair& pair) {
-        Pairs one;
-        one.items[0] = pair;
-        const Word first = low_leaf(table, pass, head.level() + 1, one, 0, 1);
-        const Word second = high_leaf(table, pass, head.level() + 1, head.class_());
-        return fork(table, pass, head.level(), head.class_(), 0, first, second);
+        const Word level = BY_BITS ? 1 : head.level();
+        const Word first = lone_leaf(table, pass, BY_BITS ? LEVEL_OF_LEAVES : level + 1, pair);
+        const Word second = high_leaf(table, pass, level + 1, head.class_());
+        return fork(table, pass, level, head.class_(), 0, first, second);
     }
 
     // A copy of the sibling of a leaf that is removed.
@@ -424,7 +558,8 @@ private:
         return {End::contended, {}};
     }
 
-    // The last fork at which the walk of a key turns away from a side; the root where it never does.
+    // The last fork at which the walk of a key turns away from a side, in a trie of those that the key shares;
+    // the root where it never does.
     template <Side SIDE>
     [[gnu::always_inline]] static Node last_turn(Table table, Word key) {
         Node turn = table.node(0);
@@ -432,9 +567,13 @@ private:
         found.leaf = turn;
         for (;;) {
             found.head = Head(found.leaf.load(HEAD));
-            if (found.head.leaf()) break;
-            const Side side = toward(found.leaf, found.head, key);
-            if (side != SIDE) turn = found.leaf;
+            Side side = LEFT_SIDE;
+            if (found.head.parts()) {
+                const Word fork = found.leaf.load(KEY);
+                if (key >= fork) side = RIGHT_SIDE;
+                if (side != SIDE && (!BY_BITS || shares(fork, key))) turn = found.leaf;
+            } else if (found.head.leaf()) break;
+            else if (side != SIDE) turn = found.leaf;
             found.leaf = table.node(found.leaf.load(LEFT + side));
         }
         if (found.head.keyed()) find(found, key);
@@ -542,3 +681,6 @@ private:
     Forest forest_;
     Word tries_;
 };
+
+using Tree = Dictionary<Parting::order>;
+using Trie = Dictionary<Parting::bits>;

@@ -1,7 +1,7 @@
-// Makes the calls of a script of one client on the dictionary of the twin, and prints each atomic step: what
-// is done (`load`, `store` or `exchange`), the word, and what it held before and behind it.
+// Makes the calls of client 0 in a script on the twin's tree or trie, and prints each atomic step: what is
+// done (`load`, `store` or `exchange`), the word, and what it held before and behind it.
 //
-//     g++ -std=c++17 -O1 -o steps steps.cpp && ./steps <script.csv
+//     g++ -std=c++17 -O1 -o steps steps.cpp && ./steps tree <script.csv
 #include <atomic>
 #include <cstdint>
 #include <cstdio>
@@ -38,7 +38,7 @@ private:
 
 namespace {
 
-constexpr Word FIRST_SCX_WORD = NODE_WORDS * (Dictionary::OPENING + SHARE);
+constexpr Word FIRST_SCX_WORD = NODE_WORDS * (Tree::OPENING + SHARE);
 
 std::string name(Word at) {
     constexpr const char* of_node[] = {"head", "key", "value", "left", "right", "info", "marked", "more", "key1",
@@ -57,8 +57,9 @@ Value number(const char* digits) {
     return value;
 }
 
-// One row of a script. Other rows than calls of the tree do nothing.
-void make(const Dictionary& map, Pass& pass, const char* row) {
+// One row of a script. Other rows than calls of a map do nothing.
+template <class Map>
+void make(const Map& map, Pass& pass, const char* row) {
     char command[16], first[40] = "", second[40] = "", third[40] = "";
     if (std::sscanf(row, "0,%15[a-z_],%39[0-9],%39[0-9],%39[0-9]", command, first, second, third) < 1) return;
     const std::string word = command;
@@ -74,8 +75,21 @@ void make(const Dictionary& map, Pass& pass, const char* row) {
     if (word == "replace_if") map.replace_if(pass, a, b, c);
     if (word == "successor") map.successor(a);
     if (word == "predecessor") map.predecessor(a);
-    Dictionary::RangeRoom room;
+    typename Map::RangeRoom room;
     if (word == "range") map.range(a, Word(b), Word(c), room);
+}
+
+// All rows of a script; that of its limits says what the client's share is.
+template <class Map>
+void make_all() {
+    const Map map(1, 1000);
+    Pass pass = map.pass(0);
+    ToldWord::tells = true;
+    char row[256];
+    while (std::fgets(row, sizeof row, stdin)) {
+        std::sscanf(row, "limits,%*u,%ju,%ju", &pass.nodes, &pass.scx);
+        make(map, pass, row);
+    }
 }
 
 }  // namespace
@@ -85,10 +99,9 @@ std::uint64_t ToldWord::tell(const char* what, std::uint64_t before, std::uint64
     return before;
 }
 
-int main() {
-    const Dictionary map(1, 1000);
-    Pass pass = map.pass(0);
-    ToldWord::tells = true;
-    char row[256];
-    while (std::fgets(row, sizeof row, stdin)) make(map, pass, row);
+int main(int count, char** words) {
+    const std::string map = count > 1 ? words[1] : "";
+    if (map == "tree") make_all<Tree>();
+    else if (map == "trie") make_all<Trie>();
+    else return 2;
 }

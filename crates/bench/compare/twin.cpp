@@ -1,7 +1,7 @@
 // The C++ twin of the program `bench`: the same works, the same words, the same rows.
 //
 //     g++ -std=c++17 -O3 -march=x86-64-v2 -pthread -o twin twin.cpp
-//     ./twin WORK|cells|tree|peers|all [THREADS [CALLS [TIMES [KEYS]]]]
+//     ./twin WORK|cells|tree|peers|trie|all [THREADS [CALLS [TIMES [KEYS]]]]
 #include <algorithm>
 #include <charconv>
 #include <chrono>
@@ -13,72 +13,85 @@
 #include <vector>
 
 #include "cells.hpp"
-#include "tree.hpp"
+#include "maps.hpp"
 
 namespace {
 
-constexpr Word MOST_THREADS_ON_A_TREE = 8;
+constexpr Word MOST_THREADS_ON_A_MAP = 8;
 constexpr Word MOST_KEYS = 100000;
 constexpr Word USUAL_KEYS = 1000;
 constexpr Word KEYS_OF_PEERS = 10000;
 
 struct WorkRow {
-    const char* kind;
-    const char* name;
+    std::string kind, name;
     Word work;
     Word most_threads, most_calls, usual_calls;
 };
 
-constexpr WorkRow cell_row(cells::Work work, const char* name, Word threads, Word calls, Word usual) {
+WorkRow cell_row(cells::Work work, const char* name, Word threads, Word calls, Word usual) {
     return {"cells", name, static_cast<Word>(work), threads, calls, usual};
 }
 
-constexpr WorkRow tree_row(tree::Work work, const char* name, Word calls, Word usual) {
-    return {"tree", name, static_cast<Word>(work), MOST_THREADS_ON_A_TREE, calls, usual};
+WorkRow tree_row(maps::Work work, const char* name, Word calls, Word usual) {
+    return {"tree", name, static_cast<Word>(work), MOST_THREADS_ON_A_MAP, calls, usual};
 }
 
-constexpr WorkRow peer_row(tree::Work work, const char* name, Word calls, Word usual) {
-    return {"peers", name, static_cast<Word>(work), MOST_THREADS_ON_A_TREE, calls, usual};
+WorkRow peer_row(maps::Work work, const char* name, Word calls, Word usual) {
+    return {"peers", name, static_cast<Word>(work), MOST_THREADS_ON_A_MAP, calls, usual};
 }
 
-constexpr WorkRow WORKS[] = {
+const WorkRow WORKS[] = {
     cell_row(cells::Work::llx, "llx", cells::CELLS, UINT32_MAX, 1000000),
     cell_row(cells::Work::own, "own", cells::CELLS, SHARE, 30000),
     cell_row(cells::Work::two, "two", cells::CELLS / 2, SHARE, 30000),
     cell_row(cells::Work::shared, "shared", MOST_PASSES, SHARE, 30000),
-    tree_row(tree::Work::get, "get", UINT32_MAX, 100000),
-    tree_row(tree::Work::mix90, "mix90", 200000, 100000),
-    tree_row(tree::Work::mix50, "mix50", 40000, 20000),
-    tree_row(tree::Work::mix0, "mix0", 20000, 20000),
-    tree_row(tree::Work::insert, "insert", 10000, 10000),
-    tree_row(tree::Work::insert_new, "insert_new", 10000, 10000),
-    tree_row(tree::Work::remove, "delete", SHARE, 400),
-    tree_row(tree::Work::remove_if, "delete_if", SHARE, 400),
-    tree_row(tree::Work::pop, "pop", SHARE, 400),
-    tree_row(tree::Work::pop_last, "pop_last", SHARE, 400),
-    tree_row(tree::Work::replace, "replace", SHARE, 20000),
-    tree_row(tree::Work::succ, "succ", UINT32_MAX, 20000),
-    tree_row(tree::Work::pred, "pred", UINT32_MAX, 20000),
-    tree_row(tree::Work::range1, "range1", UINT32_MAX, 2000),
-    tree_row(tree::Work::range4, "range4", UINT32_MAX, 2000),
-    tree_row(tree::Work::range16, "range16", UINT32_MAX, 2000),
-    tree_row(tree::Work::range64, "range64", UINT32_MAX, 2000),
-    peer_row(tree::Work::get, "peer_get", UINT32_MAX, 100000),
-    peer_row(tree::Work::mix90, "peer_mix90", 200000, 100000),
-    peer_row(tree::Work::mix50, "peer_mix50", 40000, 20000),
-    peer_row(tree::Work::insert, "peer_insert", 10000, 10000),
-    peer_row(tree::Work::succ, "peer_succ", UINT32_MAX, 20000),
-    peer_row(tree::Work::range64, "peer_range64", UINT32_MAX, 2000),
+    tree_row(maps::Work::get, "get", UINT32_MAX, 100000),
+    tree_row(maps::Work::mix90, "mix90", 200000, 100000),
+    tree_row(maps::Work::mix50, "mix50", 40000, 20000),
+    tree_row(maps::Work::mix0, "mix0", 20000, 20000),
+    tree_row(maps::Work::insert, "insert", 10000, 10000),
+    tree_row(maps::Work::insert_new, "insert_new", 10000, 10000),
+    tree_row(maps::Work::remove, "delete", SHARE, 400),
+    tree_row(maps::Work::remove_if, "delete_if", SHARE, 400),
+    tree_row(maps::Work::pop, "pop", SHARE, 400),
+    tree_row(maps::Work::pop_last, "pop_last", SHARE, 400),
+    tree_row(maps::Work::replace, "replace", SHARE, 20000),
+    tree_row(maps::Work::succ, "succ", UINT32_MAX, 20000),
+    tree_row(maps::Work::pred, "pred", UINT32_MAX, 20000),
+    tree_row(maps::Work::range1, "range1", UINT32_MAX, 2000),
+    tree_row(maps::Work::range4, "range4", UINT32_MAX, 2000),
+    tree_row(maps::Work::range16, "range16", UINT32_MAX, 2000),
+    tree_row(maps::Work::range64, "range64", UINT32_MAX, 2000),
+    tree_row(maps::Work::rise_insert, "rise_insert", 10000, 1000),
+    tree_row(maps::Work::rise_get, "rise_get", UINT32_MAX, 10000),
+    tree_row(maps::Work::schedule, "schedule", 8000, 2000),
+    peer_row(maps::Work::get, "peer_get", UINT32_MAX, 100000),
+    peer_row(maps::Work::mix90, "peer_mix90", 200000, 100000),
+    peer_row(maps::Work::mix50, "peer_mix50", 40000, 20000),
+    peer_row(maps::Work::insert, "peer_insert", 10000, 10000),
+    peer_row(maps::Work::succ, "peer_succ", UINT32_MAX, 20000),
+    peer_row(maps::Work::range64, "peer_range64", UINT32_MAX, 2000),
 };
+
+// All works. What is done on a tree is done on a trie too, by a name that says so.
+std::vector<WorkRow> all_works() {
+    std::vector<WorkRow> works(std::begin(WORKS), std::end(WORKS));
+    for (WorkRow row : WORKS) {
+        if (row.kind != "tree") continue;
+        row.kind = "trie";
+        row.name = "trie_" + row.name;
+        works.push_back(row);
+    }
+    return works;
+}
 
 struct Task {
     WorkRow row;
     Word threads, calls, times, keys;
 
-    bool on_tree() const { return row.kind != std::string("cells"); }
-
-    tree::Deal deal() const {
-        return row.kind == std::string("peers") ? tree::Deal::halves : tree::Deal::remainders;
+    maps::Task on_map() const {
+        const maps::Deal deal = row.kind == "peers" ? maps::Deal::halves : maps::Deal::remainders;
+        return {static_cast<maps::Work>(row.work), deal, threads, calls, keys};
     }
 };
 
@@ -110,18 +123,22 @@ Repetition timed(Word threads, const F& rounds) {
     return {static_cast<Word>(took.count()), all};
 }
 
-Repetition run(const Task& task) {
-    if (task.on_tree()) {
-        const Dictionary map(task.threads + tree::fillers(task.keys), tree::TRIES);
-        const tree::Deal deal = task.deal();
-        tree::fill_half(map, task.threads, task.keys, deal);
-        const auto work = static_cast<tree::Work>(task.row.work);
-        return timed(task.threads,
-                     [&](Word thread) { return tree::rounds(map, work, deal, task.keys, task.calls, thread); });
-    }
+template <class Map>
+Repetition run_on_map(const maps::Task& task) {
+    const Map map(task.threads + task.fillers(), maps::TRIES);
+    maps::fill_up(map, task);
+    return timed(task.threads, [&](Word thread) { return maps::rounds(map, task, thread); });
+}
+
+Repetition run_on_cells(const Task& task) {
     const Forest forest(cells::OPENING, task.threads);
     const auto work = static_cast<cells::Work>(task.row.work);
     return timed(task.threads, [&](Word thread) { return cells::rounds(forest, work, task.calls, thread); });
+}
+
+Repetition run(const Task& task) {
+    if (task.row.kind == "cells") return run_on_cells(task);
+    return task.row.kind == "trie" ? run_on_map<Trie>(task.on_map()) : run_on_map<Tree>(task.on_map());
 }
 
 // In nanoseconds with one decimal. None is told where the task asks for none.
@@ -137,8 +154,8 @@ void measure(const Task& task) {
     const Repetition& best = made.front();
     const Repetition& median = made[made.size() / 2];
     const Tally& tally = best.tally;
-    std::printf("cpp,%s,%ju,%ju,%ju,%ju,%s,%s,%ju,%ju,%ju,%ju\n", task.row.name, task.keys, task.threads, task.calls,
-                task.times, per_call(median.nanos, task).c_str(), per_call(best.nanos, task).c_str(),
+    std::printf("cpp,%s,%ju,%ju,%ju,%ju,%s,%s,%ju,%ju,%ju,%ju\n", task.row.name.c_str(), task.keys, task.threads,
+                task.calls, task.times, per_call(median.nanos, task).c_str(), per_call(best.nanos, task).c_str(),
                 tally.done, tally.lost, tally.fail, tally.checksum);
     std::fflush(stdout);
 }
@@ -157,14 +174,13 @@ std::optional<Task> task_of(const WorkRow& row, int count, char** words) {
     const auto threads = number_at(count, words, 2, 1, row.most_threads, 1);
     const auto calls = number_at(count, words, 3, 1, row.most_calls, row.usual_calls);
     const auto times = number_at(count, words, 4, 0, UINT32_MAX, 15);
-    const bool of_peers = row.kind == std::string("peers");
-    const auto keys = number_at(count, words, 5, 1, MOST_KEYS, of_peers ? KEYS_OF_PEERS : USUAL_KEYS);
+    const auto keys = number_at(count, words, 5, 1, MOST_KEYS, row.kind == "peers" ? KEYS_OF_PEERS : USUAL_KEYS);
     if (!threads || !calls || !times || !keys || count > 6) return std::nullopt;
-    return Task{row, *threads, *calls, *times, row.kind == std::string("cells") ? 0 : *keys};
+    return Task{row, *threads, *calls, *times, row.kind == "cells" ? 0 : *keys};
 }
 
 int refuse() {
-    std::fputs("usage: twin WORK|cells|tree|peers|all [THREADS [CALLS [TIMES [KEYS]]]]\n", stderr);
+    std::fputs("usage: twin WORK|cells|tree|peers|trie|all [THREADS [CALLS [TIMES [KEYS]]]]\n", stderr);
     return 2;
 }
 
@@ -173,7 +189,7 @@ int refuse() {
 int main(int count, char** words) {
     const std::string name = count > 1 ? words[1] : "";
     std::vector<Task> tasks;
-    for (const WorkRow& row : WORKS) {
+    for (const WorkRow& row : all_works()) {
         if (name != "all" && name != row.kind && name != row.name) continue;
         const auto task = task_of(row, count, words);
         if (!task) return refuse();

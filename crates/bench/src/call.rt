@@ -3,10 +3,10 @@ ghost use Rattle.std.specs.Prelude.{◌≡◌};
 ghost use Rattle.forest.specs.Passes.{IsOf};
 ghost use Rattle.bench.specs.Tally.{total};
 
-use crate::draws::Draws;
+use crate::keys::Keys;
 use crate::tally::{End, Tally, with_reply};
 use crate::task::Task;
-use crate::work::TreeWork;
+use crate::work::MapWork;
 use dict::Dict;
 use forest::{Forest, OrderFault, Pass, UpdateFault};
 use std::alloc::Global;
@@ -22,16 +22,16 @@ pub fn rounds(
     alloc: Global,
     forest: &Forest<Numbers>,
     task: Task,
-    work: TreeWork,
+    work: MapWork,
     mut pass: Pass<Numbers>,
-    mut draws: Draws,
+    mut keys: Keys,
 ) -> Tally
     requires { IsOf forest.now pass }
     ensures { total result ≡ task.calls }
 {
     let mut tally = Tally::default();
     for call in 0..task.calls {
-        let (key, chance) = draws.round(task.keys, work.goes_by_chance());
+        let (key, chance) = keys.round(task.keys, work.goes_by_chance());
         let pair = (key, u64::from(call));
         let end = round(alloc, forest, work, &mut pass, chance, pair, &mut tally);
         tally.count(end);
@@ -43,7 +43,7 @@ pub fn rounds(
 fn round(
     alloc: Global,
     forest: &Forest<Numbers>,
-    work: TreeWork,
+    work: MapWork,
     pass: &mut Pass<Numbers>,
     chance: u64,
     pair: (u64, u64),
@@ -55,18 +55,21 @@ fn round(
 {
     let key = &pair.0;
     match work {
-        TreeWork::Get => told(Ok(forest.get(pass, key)), tally),
-        TreeWork::Mix { looks } => told(mix(forest, pass, chance, pair, looks), tally),
-        TreeWork::Insert => told(forest.insert(pass, pair.0, pair.1), tally),
-        TreeWork::InsertNew => told(forest.insert_new(pass, pair.0, pair.1), tally),
-        TreeWork::Delete => told(forest.delete(pass, key), tally),
-        TreeWork::DeleteIf => told(forest.delete_if(pass, key, key), tally),
-        TreeWork::Pop => told(key_and_value(forest.pop_first(pass)), tally),
-        TreeWork::PopLast => told(key_and_value(forest.pop_last(pass)), tally),
-        TreeWork::Replace => told(forest.replace_if(pass, pair.0, key, pair.0), tally),
-        TreeWork::Successor => told_pair(forest.successor(alloc, pass, key), tally),
-        TreeWork::Predecessor => told_pair(forest.predecessor(alloc, pass, key), tally),
-        TreeWork::Range { most } => {
+        MapWork::Get | MapWork::RiseGet => told(Ok(forest.get(pass, key)), tally),
+        MapWork::Mix { looks } => told(mix(forest, pass, chance, pair, looks), tally),
+        MapWork::Insert | MapWork::RiseInsert => {
+            told(forest.insert(pass, pair.0, pair.1), tally)
+        }
+        MapWork::InsertNew => told(forest.insert_new(pass, pair.0, pair.1), tally),
+        MapWork::Delete => told(forest.delete(pass, key), tally),
+        MapWork::DeleteIf => told(forest.delete_if(pass, key, key), tally),
+        MapWork::Pop => told(key_and_value(forest.pop_first(pass)), tally),
+        MapWork::PopLast => told(key_and_value(forest.pop_last(pass)), tally),
+        MapWork::Replace => told(forest.replace_if(pass, pair.0, key, pair.0), tally),
+        MapWork::Schedule => told(reschedule(forest, pass, pair), tally),
+        MapWork::Successor => told_pair(forest.successor(alloc, pass, key), tally),
+        MapWork::Predecessor => told_pair(forest.predecessor(alloc, pass, key), tally),
+        MapWork::Range { most } => {
             let most = most.min(MOST_PAIRS);
             told_pairs(forest.range(alloc, pass, key, &u64::MAX, most), tally)
         }
@@ -92,6 +95,20 @@ fn mix(
     } else {
         forest.delete(pass, &pair.0)
     }
+}
+
+/// Takes the first pair out, and puts this one in.
+fn reschedule(
+    forest: &Forest<Numbers>,
+    pass: &mut Pass<Numbers>,
+    pair: (u64, u64),
+) -> Result<Option<u64>, UpdateFault>
+    requires { IsOf forest.now pass.old }
+    ensures { IsOf forest.now pass.new }
+{
+    let first = key_and_value(forest.pop_first(pass))?;
+    let _ = forest.insert(pass, pair.0, pair.1)?;
+    Ok(first)
 }
 
 /// The sum of the key and the value of a pair that was taken out.

@@ -4,29 +4,26 @@ ghost use Rattle.std.specs.List.{All};
 ghost use Rattle.forest.specs.Passes.{IsOf};
 
 use crate::call::{Numbers, rounds};
-use crate::draws::Draws;
 use crate::fault::Fault;
+use crate::keys::Keys;
 use crate::repetition::{Repetition, nanos_since, now, numbered, sum};
 use crate::tally::Tally;
 use crate::task::Task;
-use crate::work::TreeWork;
+use crate::work::MapWork;
 use arena::Limits;
 use forest::{Forest, NewFault, Pass};
 use std::alloc::{AllocError, Global};
 use std::rt::Clock;
 use std::thread::{Threads, map_vec};
 
-/// How many pairs a pass puts into the map before the threads start.
-pub const PAIRS_OF_A_PASS: u32 = 10_000;
-
 /// Makes a dictionary and fills it, and lets the threads work in it.
 pub fn run<R: Threads + Sync + Clock + AllocGlobal>(
     rt: &R,
     task: Task,
-    work: TreeWork,
+    work: MapWork,
 ) -> Result<Repetition, Fault> {
     let (forest, passes) = open(rt.alloc(), task)?;
-    let passes = fill_half(&forest, task, passes);
+    let passes = fill_up(&forest, task, passes);
     let passes = numbered(rt.alloc(), &forest, passes)?;
     let start = now(rt)?;
     let tallies = crowd(rt, rt.alloc(), &forest, task, work, passes)?;
@@ -37,18 +34,13 @@ pub fn run<R: Threads + Sync + Clock + AllocGlobal>(
     })
 }
 
-/// How many passes fill the map.
-pub fn fillers(keys: u32) -> u32 {
-    (keys / 2).div_ceil(PAIRS_OF_A_PASS)
-}
-
 /// A dictionary with a pass for each thread, and after these the passes that fill it. Shares are
 /// whole ones.
 fn open(alloc: Global, task: Task) -> Result<(Forest<Numbers>, Vec<Pass<Numbers>>), Fault>
     ensures { IfOk result (λ r. All (IsOf r.0) r.1.items) }
 {
     let limits = Limits {
-        passes: task.threads.saturating_add(fillers(task.keys)),
+        passes: task.threads.saturating_add(task.fillers()),
         nodes: Limits::MOST_RECORDS,
         scx: Limits::MOST_RECORDS,
         tries: Limits::MOST_TRIES,
@@ -60,8 +52,8 @@ fn open(alloc: Global, task: Task) -> Result<(Forest<Numbers>, Vec<Pass<Numbers>
     }
 }
 
-/// Puts half of the task's keys into the map, by the last passes, and answers the others.
-fn fill_half(
+/// Puts the pairs of the start into the map, by the last passes, and answers the others.
+fn fill_up(
     forest: &Forest<Numbers>,
     task: Task,
     mut passes: Vec<Pass<Numbers>>,
@@ -69,23 +61,22 @@ fn fill_half(
     requires passes { All (IsOf forest.now) passes.items }
     ensures { All (IsOf forest.now) result.items }
 {
-    let mut left = task.keys / 2;
-    for stream in 0..fillers(task.keys) {
+    let mut left = task.pairs();
+    for filler in 0..task.fillers() {
         if let Some(pass) = passes.pop() {
-            let pairs = left.min(PAIRS_OF_A_PASS);
-            let draws = Draws::of(stream, task.work.deal());
-            fill(forest, pass, draws, task.keys, pairs);
+            let pairs = task.pairs_of_filler(left);
+            fill(forest, pass, task.keys_of_filler(filler), task.keys, pairs);
             left -= pairs;
         }
     }
     passes
 }
 
-/// Puts this many fresh keys of those that are drawn into the map.
+/// Puts this many fresh keys of the source into the map.
 fn fill(
     forest: &Forest<Numbers>,
     mut pass: Pass<Numbers>,
-    mut draws: Draws,
+    mut source: Keys,
     keys: u32,
     mut pairs: u32,
 )
@@ -96,10 +87,11 @@ fn fill(
         if pairs == 0 {
             return;
         }
-        let key = draws.key(keys);
-        if forest.get(&mut pass, &key).is_none() {
-            let _ = forest.insert(&mut pass, key, key);
-            pairs -= 1;
+        let key = source.key(keys);
+        match forest.insert_new(&mut pass, key, key) {
+            Ok(None) => pairs -= 1,
+            Ok(Some(_)) => {}
+            Err(_) => return,
         }
     }
 }
@@ -110,7 +102,7 @@ fn crowd<R: Threads + Sync>(
     alloc: Global,
     forest: &Forest<Numbers>,
     task: Task,
-    work: TreeWork,
+    work: MapWork,
     passes: Vec<(u32, Pass<Numbers>)>,
 ) -> Result<Vec<Tally>, AllocError>
     requires { All (λ p. IsOf forest.now p.1) passes.items }
@@ -119,8 +111,7 @@ fn crowd<R: Threads + Sync>(
         rt,
         passes,
         &|(number, pass): (u32, Pass<Numbers>)| {
-            let draws = Draws::of_thread(number, task.work.deal());
-            rounds(alloc, forest, task, work, pass, draws)
+            rounds(alloc, forest, task, work, pass, task.keys_of_thread(number))
         },
     )
 }

@@ -3,13 +3,12 @@ ghost use Rattle.std.specs.Prelude.{◌≡◌, ◌≤◌};
 ghost use Rattle.bench.specs.Tally.{total};
 
 use crate::call::{told, told_pair, told_pairs};
-use crate::dictionary::{PAIRS_OF_A_PASS, fillers};
-use crate::draws::Draws;
 use crate::fault::Fault;
+use crate::keys::Keys;
 use crate::repetition::{Repetition, nanos_since, now, sum};
 use crate::tally::{End, Tally};
 use crate::task::Task;
-use crate::work::TreeWork;
+use crate::work::MapWork;
 use forest::OrderFault;
 use std::alloc::{AllocError, Global};
 use std::collections::BTreeMap;
@@ -25,9 +24,9 @@ type Locked = Mutex<BTreeMap<u64, u64>>;
 pub fn run<R: Threads + Wait + Sync + Clock + AllocGlobal>(
     rt: &R,
     task: Task,
-    work: TreeWork,
+    work: MapWork,
 ) -> Result<Repetition, Fault> {
-    let map = Mutex::new(half_full(rt.alloc(), task)?);
+    let map = Mutex::new(filled(rt.alloc(), task)?);
     let numbers = numbers(rt.alloc(), task.threads)?;
     let start = now(rt)?;
     let tallies = crowd(rt, rt.alloc(), &map, task, work, numbers)?;
@@ -38,23 +37,22 @@ pub fn run<R: Threads + Wait + Sync + Clock + AllocGlobal>(
     })
 }
 
-/// A map with half of the task's keys: the pairs that a dictionary has at the start.
-fn half_full(alloc: Global, task: Task) -> Result<BTreeMap<u64, u64>, Fault> {
+/// A map with the pairs that a dictionary has at the start.
+fn filled(alloc: Global, task: Task) -> Result<BTreeMap<u64, u64>, Fault> {
     let mut map = BTreeMap::new(alloc);
-    let mut left = task.keys / 2;
-    for stream in 0..fillers(task.keys) {
-        let pairs = left.min(PAIRS_OF_A_PASS);
-        let draws = Draws::of(stream, task.work.deal());
-        fill(&mut map, draws, task.keys, pairs)?;
+    let mut left = task.pairs();
+    for filler in 0..task.fillers() {
+        let pairs = task.pairs_of_filler(left);
+        fill(&mut map, task.keys_of_filler(filler), task.keys, pairs)?;
         left -= pairs;
     }
     Ok(map)
 }
 
-/// Puts this many fresh keys of those that are drawn into the map.
+/// Puts this many fresh keys of the source into the map.
 fn fill(
     map: &mut BTreeMap<u64, u64>,
-    mut draws: Draws,
+    mut source: Keys,
     keys: u32,
     mut pairs: u32,
 ) -> Result<(), AllocError>
@@ -64,7 +62,7 @@ fn fill(
         if pairs == 0 {
             return Ok(());
         }
-        let key = draws.key(keys);
+        let key = source.key(keys);
         if map.insert(key, key)?.is_none() {
             pairs -= 1;
         }
@@ -87,15 +85,15 @@ fn crowd<R: Threads + Wait + Sync>(
     alloc: Global,
     map: &Locked,
     task: Task,
-    work: TreeWork,
+    work: MapWork,
     numbers: Vec<u32>,
 ) -> Result<Vec<Tally>, AllocError> {
     map_vec(
         rt,
         numbers,
         &|number: u32| {
-            let draws = Draws::of_thread(number, task.work.deal());
-            rounds(rt, alloc, map, task, work, draws)
+            let keys = task.keys_of_thread(number);
+            rounds(rt, alloc, map, task, work, keys)
         },
     )
 }
@@ -106,14 +104,14 @@ fn rounds<R: Wait>(
     alloc: Global,
     map: &Locked,
     task: Task,
-    work: TreeWork,
-    mut draws: Draws,
+    work: MapWork,
+    mut keys: Keys,
 ) -> Tally
     ensures { total result ≡ task.calls }
 {
     let mut tally = Tally::default();
     for call in 0..task.calls {
-        let (key, chance) = draws.round(task.keys, work.goes_by_chance());
+        let (key, chance) = keys.round(task.keys, work.goes_by_chance());
         let pair = (key, u64::from(call));
         let end = round(rt, alloc, map, work, chance, pair, &mut tally);
         tally.count(end);
@@ -126,7 +124,7 @@ fn round<R: Wait>(
     rt: &R,
     alloc: Global,
     map: &Locked,
-    work: TreeWork,
+    work: MapWork,
     chance: u64,
     pair: (u64, u64),
     tally: &mut Tally,
@@ -134,15 +132,15 @@ fn round<R: Wait>(
     ensures { total tally.new ≡ total tally.old }
 {
     match work {
-        TreeWork::Successor => {
+        MapWork::Successor => {
             let found = behind(&map.lock(rt), pair.0);
             told_pair(Ok(found), tally)
         }
-        TreeWork::Predecessor => {
+        MapWork::Predecessor => {
             let found = before(&map.lock(rt), pair.0);
             told_pair(Ok(found), tally)
         }
-        TreeWork::Range { most } => {
+        MapWork::Range { most } => {
             let found = pairs_from(alloc, &map.lock(rt), pair.0, most);
             told_pairs(found.map_err(|_| OrderFault::NoMemory), tally)
         }
@@ -159,22 +157,30 @@ fn round<R: Wait>(
 /// A call of one key, or of the first or the last pair.
 fn call(
     map: &mut BTreeMap<u64, u64>,
-    work: TreeWork,
+    work: MapWork,
     chance: u64,
     pair: (u64, u64),
 ) -> Result<Option<u64>, AllocError> {
     let (key, value) = pair;
     match work {
-        TreeWork::Mix { looks } => mix(map, chance, pair, looks),
-        TreeWork::Insert => Ok(map.insert(key, value)?),
-        TreeWork::InsertNew => insert_new(map, key, value),
-        TreeWork::Delete => Ok(map.remove(&key)),
-        TreeWork::DeleteIf => Ok(delete_if(map, key)),
-        TreeWork::Pop => Ok(map.pop_first().map(|(key, value)| key.wrapping_add(value))),
-        TreeWork::PopLast => Ok(map.pop_last().map(|(key, value)| key.wrapping_add(value))),
-        TreeWork::Replace => Ok(replace(map, key)),
+        MapWork::Mix { looks } => mix(map, chance, pair, looks),
+        MapWork::Insert | MapWork::RiseInsert => Ok(map.insert(key, value)?),
+        MapWork::InsertNew => insert_new(map, key, value),
+        MapWork::Delete => Ok(map.remove(&key)),
+        MapWork::DeleteIf => Ok(delete_if(map, key)),
+        MapWork::Pop => Ok(map.pop_first().map(|(key, value)| key.wrapping_add(value))),
+        MapWork::Schedule => reschedule(map, pair),
+        MapWork::PopLast => Ok(map.pop_last().map(|(key, value)| key.wrapping_add(value))),
+        MapWork::Replace => Ok(replace(map, key)),
         _ => Ok(map.get(&key).copied()),
     }
+}
+
+/// Takes the first pair out, and puts this one in.
+fn reschedule(map: &mut BTreeMap<u64, u64>, pair: (u64, u64)) -> Result<Option<u64>, AllocError> {
+    let first = map.pop_first().map(|(key, value)| key.wrapping_add(value));
+    let _ = map.insert(pair.0, pair.1)?;
+    Ok(first)
 }
 
 /// Looks a key up in `looks` of a hundred rounds; else puts it in or takes it out.

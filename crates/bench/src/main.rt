@@ -7,6 +7,7 @@ mod cells;
 mod dictionary;
 mod draws;
 mod fault;
+mod keys;
 mod locked;
 mod measure;
 mod pair;

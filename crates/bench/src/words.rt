@@ -18,7 +18,7 @@ const USUAL_THREADS: u32 = 1;
 
 const USUAL_TIMES: u32 = 15;
 
-/// The most keys: half of them fit the shares of five passes.
+/// The most keys: ten passes put all of them in.
 const MOST_KEYS: u32 = 100_000;
 
 /// The words that the program was given; the first is its own name.

@@ -3,6 +3,7 @@ ghost use Rattle.std.specs.Prelude.{◌≤◌};
 
 use crate::draws::Deal;
 use arena::Limits;
+use std::fmt;
 
 /// How many keys there are where the words do not say it.
 const USUAL_KEYS: u32 = 1_000;
@@ -16,11 +17,11 @@ pub enum Work {
     /// Calls on cells.
     Cells(CellWork),
     /// A call of a dictionary.
-    Tree(TreeWork),
+    Tree(MapWork),
     /// The same by the draws with which the maps of others were measured.
-    Peers(TreeWork),
+    Peers(MapWork),
     /// The same call of a map behind a lock, as a measure for the dictionary.
-    Locked(TreeWork),
+    Locked(MapWork),
 }
 
 /// What a thread does with cells.
@@ -36,9 +37,9 @@ pub enum CellWork {
     Shared,
 }
 
-/// What a thread does with a key that it draws.
+/// What a thread does on a map.
 #[derive(Clone, Copy)]
-pub enum TreeWork {
+pub enum MapWork {
     /// It looks the key up.
     Get,
     /// In `looks` of a hundred rounds it looks the key up; in one half of the others it puts it in,
@@ -64,6 +65,12 @@ pub enum TreeWork {
     Predecessor,
     /// It looks for the first `most` pairs from the key on.
     Range { most: usize },
+    /// It puts a key in behind all others, in a map whose keys came in order.
+    RiseInsert,
+    /// It looks a key up in such a map.
+    RiseGet,
+    /// It takes the first pair of such a map out, and puts one in behind all others.
+    Schedule,
 }
 
 /// How much of a work may be asked for, and how many calls are measured where none are asked for.
@@ -87,48 +94,54 @@ pub struct Bounds {
 
 impl Work {
     /// Each work once.
-    pub const ALL: [Work; 41] = [
+    pub const ALL: [Work; 47] = [
         Work::Cells(CellWork::Llx),
         Work::Cells(CellWork::Own),
         Work::Cells(CellWork::Two),
         Work::Cells(CellWork::Shared),
-        Work::Tree(TreeWork::Get),
-        Work::Tree(TreeWork::Mix { looks: 90 }),
-        Work::Tree(TreeWork::Mix { looks: 50 }),
-        Work::Tree(TreeWork::Mix { looks: 0 }),
-        Work::Tree(TreeWork::Insert),
-        Work::Tree(TreeWork::InsertNew),
-        Work::Tree(TreeWork::Delete),
-        Work::Tree(TreeWork::DeleteIf),
-        Work::Tree(TreeWork::Pop),
-        Work::Tree(TreeWork::PopLast),
-        Work::Tree(TreeWork::Replace),
-        Work::Tree(TreeWork::Successor),
-        Work::Tree(TreeWork::Predecessor),
-        Work::Tree(TreeWork::Range { most: 1 }),
-        Work::Tree(TreeWork::Range { most: 4 }),
-        Work::Tree(TreeWork::Range { most: 16 }),
-        Work::Tree(TreeWork::Range { most: 64 }),
-        Work::Peers(TreeWork::Get),
-        Work::Peers(TreeWork::Mix { looks: 90 }),
-        Work::Peers(TreeWork::Mix { looks: 50 }),
-        Work::Peers(TreeWork::Insert),
-        Work::Peers(TreeWork::Successor),
-        Work::Peers(TreeWork::Range { most: 64 }),
-        Work::Locked(TreeWork::Get),
-        Work::Locked(TreeWork::Mix { looks: 90 }),
-        Work::Locked(TreeWork::Mix { looks: 50 }),
-        Work::Locked(TreeWork::Mix { looks: 0 }),
-        Work::Locked(TreeWork::Insert),
-        Work::Locked(TreeWork::InsertNew),
-        Work::Locked(TreeWork::Delete),
-        Work::Locked(TreeWork::DeleteIf),
-        Work::Locked(TreeWork::Pop),
-        Work::Locked(TreeWork::PopLast),
-        Work::Locked(TreeWork::Replace),
-        Work::Locked(TreeWork::Successor),
-        Work::Locked(TreeWork::Predecessor),
-        Work::Locked(TreeWork::Range { most: 64 }),
+        Work::Tree(MapWork::Get),
+        Work::Tree(MapWork::Mix { looks: 90 }),
+        Work::Tree(MapWork::Mix { looks: 50 }),
+        Work::Tree(MapWork::Mix { looks: 0 }),
+        Work::Tree(MapWork::Insert),
+        Work::Tree(MapWork::InsertNew),
+        Work::Tree(MapWork::Delete),
+        Work::Tree(MapWork::DeleteIf),
+        Work::Tree(MapWork::Pop),
+        Work::Tree(MapWork::PopLast),
+        Work::Tree(MapWork::Replace),
+        Work::Tree(MapWork::Successor),
+        Work::Tree(MapWork::Predecessor),
+        Work::Tree(MapWork::Range { most: 1 }),
+        Work::Tree(MapWork::Range { most: 4 }),
+        Work::Tree(MapWork::Range { most: 16 }),
+        Work::Tree(MapWork::Range { most: 64 }),
+        Work::Tree(MapWork::RiseInsert),
+        Work::Tree(MapWork::RiseGet),
+        Work::Tree(MapWork::Schedule),
+        Work::Peers(MapWork::Get),
+        Work::Peers(MapWork::Mix { looks: 90 }),
+        Work::Peers(MapWork::Mix { looks: 50 }),
+        Work::Peers(MapWork::Insert),
+        Work::Peers(MapWork::Successor),
+        Work::Peers(MapWork::Range { most: 64 }),
+        Work::Locked(MapWork::Get),
+        Work::Locked(MapWork::Mix { looks: 90 }),
+        Work::Locked(MapWork::Mix { looks: 50 }),
+        Work::Locked(MapWork::Mix { looks: 0 }),
+        Work::Locked(MapWork::Insert),
+        Work::Locked(MapWork::InsertNew),
+        Work::Locked(MapWork::Delete),
+        Work::Locked(MapWork::DeleteIf),
+        Work::Locked(MapWork::Pop),
+        Work::Locked(MapWork::PopLast),
+        Work::Locked(MapWork::Replace),
+        Work::Locked(MapWork::Successor),
+        Work::Locked(MapWork::Predecessor),
+        Work::Locked(MapWork::Range { most: 64 }),
+        Work::Locked(MapWork::RiseInsert),
+        Work::Locked(MapWork::RiseGet),
+        Work::Locked(MapWork::Schedule),
     ];
 
     /// The word of the command line that asks for all works of its kind.
@@ -149,20 +162,30 @@ impl Work {
         }
     }
 
-    /// The word of the command line that asks for it, but if it is of a map behind a lock.
-    pub fn name(self) -> &'static str {
+    /// What stands before the name of what it does in its own.
+    fn prefix(self) -> &'static str {
         match self {
-            Work::Cells(work) => work.name(),
-            Work::Peers(work) => work.name_of_peer(),
-            Work::Tree(work) | Work::Locked(work) => work.name(),
+            Work::Peers(_) => "peer_",
+            Work::Cells(_) | Work::Tree(_) | Work::Locked(_) => "",
         }
     }
 
-    /// Whether a word of the command line asks for it: by its name, its kind, or for all.
+    /// The name of what it does.
+    fn deed(self) -> &'static str {
+        match self {
+            Work::Cells(work) => work.name(),
+            Work::Tree(work) | Work::Peers(work) | Work::Locked(work) => work.name(),
+        }
+    }
+
+    /// Whether a word of the command line asks for it: by its name, but if it is of a map behind a
+    /// lock, by its kind, or for all.
     pub fn is_asked_by(self, word: &str) -> bool {
         match self {
-            Work::Cells(_) | Work::Tree(_) | Work::Peers(_) if word == self.name() => true,
-            _ => word == "all" || word == self.kind(),
+            Work::Locked(_) => word == "all" || word == self.kind(),
+            _ => word == "all"
+                || word == self.kind()
+                || word.strip_prefix(self.prefix()) == Some(self.deed()),
         }
     }
 
@@ -180,6 +203,32 @@ impl Work {
             Work::Peers(_) => Deal::Halves,
             _ => Deal::Remainders,
         }
+    }
+
+    /// What is done, if it is done on a map.
+    fn on_map(self) -> Option<MapWork> {
+        match self {
+            Work::Cells(_) => None,
+            Work::Tree(work) | Work::Peers(work) | Work::Locked(work) => Some(work),
+        }
+    }
+
+    /// Whether its map has all keys at first, put in in order, and not half of them as drawn.
+    pub fn rises(self) -> bool {
+        self.puts_behind() || matches!(self.on_map(), Some(MapWork::RiseGet))
+    }
+
+    /// Whether its rounds put keys in behind all others.
+    pub fn puts_behind(self) -> bool {
+        matches!(self.on_map(), Some(MapWork::RiseInsert | MapWork::Schedule))
+    }
+}
+
+/// By its name.
+impl fmt::Display for Work {
+    fn fmt<W: fmt::Write>(&self, f: &mut fmt::Formatter<W>) -> fmt::Result {
+        let (prefix, deed) = (self.prefix(), self.deed());
+        write!(f, "{prefix}{deed}")
     }
 }
 
@@ -211,63 +260,59 @@ impl CellWork {
     }
 }
 
-impl TreeWork {
+impl MapWork {
     fn name(self) -> &'static str {
         match self {
-            TreeWork::Get => "get",
-            TreeWork::Mix { looks: 90 } => "mix90",
-            TreeWork::Mix { looks: 50 } => "mix50",
-            TreeWork::Mix { .. } => "mix0",
-            TreeWork::Insert => "insert",
-            TreeWork::InsertNew => "insert_new",
-            TreeWork::Delete => "delete",
-            TreeWork::DeleteIf => "delete_if",
-            TreeWork::Pop => "pop",
-            TreeWork::PopLast => "pop_last",
-            TreeWork::Replace => "replace",
-            TreeWork::Successor => "succ",
-            TreeWork::Predecessor => "pred",
-            TreeWork::Range { most: 1 } => "range1",
-            TreeWork::Range { most: 4 } => "range4",
-            TreeWork::Range { most: 16 } => "range16",
-            TreeWork::Range { .. } => "range64",
-        }
-    }
-
-    fn name_of_peer(self) -> &'static str {
-        match self {
-            TreeWork::Get => "peer_get",
-            TreeWork::Mix { looks: 90 } => "peer_mix90",
-            TreeWork::Mix { .. } => "peer_mix50",
-            TreeWork::Successor => "peer_succ",
-            TreeWork::Range { .. } => "peer_range64",
-            _ => "peer_insert",
+            MapWork::Get => "get",
+            MapWork::Mix { looks: 90 } => "mix90",
+            MapWork::Mix { looks: 50 } => "mix50",
+            MapWork::Mix { .. } => "mix0",
+            MapWork::Insert => "insert",
+            MapWork::InsertNew => "insert_new",
+            MapWork::Delete => "delete",
+            MapWork::DeleteIf => "delete_if",
+            MapWork::Pop => "pop",
+            MapWork::PopLast => "pop_last",
+            MapWork::Replace => "replace",
+            MapWork::Successor => "succ",
+            MapWork::Predecessor => "pred",
+            MapWork::Range { most: 1 } => "range1",
+            MapWork::Range { most: 4 } => "range4",
+            MapWork::Range { most: 16 } => "range16",
+            MapWork::Range { .. } => "range64",
+            MapWork::RiseInsert => "rise_insert",
+            MapWork::RiseGet => "rise_get",
+            MapWork::Schedule => "schedule",
         }
     }
 
     /// Whether a number below 100 decides what a round does.
     pub fn goes_by_chance(self) -> bool {
-        matches!(self, TreeWork::Mix { .. })
+        matches!(self, MapWork::Mix { .. })
     }
 
     /// An insert takes three nodes at most and another edit one, of the thread's share. There
-    /// are 500 pairs to take out if the words do not say how many keys there are.
+    /// are 500 pairs to take out if the words do not say how many keys there are. Where keys rise a
+    /// tree is a list: so its usual rounds are few.
     fn bounds(self, usual_keys: u32) -> Bounds
         requires some { 1 ≤ usual_keys }
         requires few { usual_keys ≤ 100000 }
     {
         let (calls, usual_calls) = match self {
-            TreeWork::Get => (u32::MAX, 100_000),
-            TreeWork::Mix { looks: 90 } => (200_000, 100_000),
-            TreeWork::Mix { looks: 50 } => (40_000, 20_000),
-            TreeWork::Mix { .. } => (20_000, 20_000),
-            TreeWork::Insert | TreeWork::InsertNew => (10_000, 10_000),
-            TreeWork::Delete | TreeWork::DeleteIf | TreeWork::Pop | TreeWork::PopLast => {
+            MapWork::Get => (u32::MAX, 100_000),
+            MapWork::Mix { looks: 90 } => (200_000, 100_000),
+            MapWork::Mix { looks: 50 } => (40_000, 20_000),
+            MapWork::Mix { .. } => (20_000, 20_000),
+            MapWork::Insert | MapWork::InsertNew => (10_000, 10_000),
+            MapWork::Delete | MapWork::DeleteIf | MapWork::Pop | MapWork::PopLast => {
                 (Limits::MOST_RECORDS, 400)
             }
-            TreeWork::Replace => (Limits::MOST_RECORDS, 20_000),
-            TreeWork::Successor | TreeWork::Predecessor => (u32::MAX, 20_000),
-            TreeWork::Range { .. } => (u32::MAX, 2_000),
+            MapWork::Replace => (Limits::MOST_RECORDS, 20_000),
+            MapWork::Successor | MapWork::Predecessor => (u32::MAX, 20_000),
+            MapWork::Range { .. } => (u32::MAX, 2_000),
+            MapWork::RiseInsert => (10_000, 1_000),
+            MapWork::RiseGet => (u32::MAX, 10_000),
+            MapWork::Schedule => (8_000, 2_000),
         };
         Bounds {
             threads: 8,

@@ -1,15 +1,22 @@
-// Rounds on a dictionary: `get`, `mix90`, `mix50`, `mix0`, `insert`, `insert_new`, `delete`, `delete_if`,
-// `pop`, `pop_last`, `replace`, `succ`, `pred`, `range1`, `range4`, `range16`, `range64`.
+// Rounds on a tree or a trie: `get`, `mix90`, `mix50`, `mix0`, `insert`, `insert_new`, `delete`, `delete_if`,
+// `pop`, `pop_last`, `replace`, `succ`, `pred`, `range1`, `range4`, `range16`, `range64`, `rise_insert`,
+// `rise_get`, `schedule`.
 #pragma once
 #include "dictionary.hpp"
 #include "tally.hpp"
 
-namespace tree {
+namespace maps {
 
 enum class Work {
     get, mix90, mix50, mix0, insert, insert_new, remove, remove_if, pop, pop_last, replace, succ, pred,
-    range1, range4, range16, range64
+    range1, range4, range16, range64, rise_insert, rise_get, schedule
 };
+
+// Whether rounds put keys in behind all others.
+inline bool puts_behind(Work work) { return work == Work::rise_insert || work == Work::schedule; }
+
+// Whether the map has all keys at first, put in in order, and not half of them as drawn.
+inline bool rises(Work work) { return puts_behind(work) || work == Work::rise_get; }
 
 // How many pairs a pass puts into the map before the threads start.
 constexpr Word PAIRS_OF_A_PASS = 10000;
@@ -46,26 +53,52 @@ struct Draws {
     Word chance() { return deal == Deal::remainders ? next() % 100 : (word & 0xffffffff) * 100 >> 32; }
 };
 
-// How many passes fill a map to half of so many keys.
-inline Word fillers(Word keys) { return (keys / 2 + PAIRS_OF_A_PASS - 1) / PAIRS_OF_A_PASS; }
+// The keys of a thread's rounds, or of those that fill a map: drawn, or in order.
+struct Keys {
+    Draws draws;
+    Word next = 0, apart = 0;
+
+    static Keys rising(Word next, Word apart) { return {Draws(0, Deal::remainders), next, apart}; }
+
+    Word key(Word keys) { return apart == 0 ? draws.key(keys) : (next += apart) - apart; }
+};
+
+// What the rounds of all threads are made of.
+struct Task {
+    Work work;
+    Deal deal;
+    Word threads, calls, keys;
+
+    // How many pairs the map has at the start, and how many passes put them in.
+    Word pairs() const { return rises(work) ? keys : keys / 2; }
+    Word fillers() const { return (pairs() + PAIRS_OF_A_PASS - 1) / PAIRS_OF_A_PASS; }
+
+    Keys keys_of_filler(Word filler) const {
+        return rises(work) ? Keys::rising(filler * PAIRS_OF_A_PASS, 1) : Keys{Draws(filler, deal)};
+    }
+
+    Keys keys_of_thread(Word thread) const {
+        return puts_behind(work) ? Keys::rising(keys + thread, threads) : Keys{Draws::of_thread(thread, deal)};
+    }
+};
 
 // Puts so many pairs of new keys into the map.
-inline void fill(const Dictionary& map, Word number, Draws draws, Word keys, Word pairs) {
+template <class Map>
+void fill(const Map& map, Word number, Keys source, Word keys, Word pairs) {
     Pass pass = map.pass(number);
     for (Word done = 0; done < pairs;) {
-        const Word key = draws.key(keys);
-        if (map.get(key)) continue;
-        map.insert(pass, key, key);
-        done++;
+        const Word key = source.key(keys);
+        if (!map.insert_new(pass, key, key).told) done++;
     }
 }
 
-// Half of so many keys, by the passes behind those of the threads, the last of them first.
-inline void fill_half(const Dictionary& map, Word threads, Word keys, Deal deal) {
-    Word left = keys / 2;
+// Puts the pairs of the start into the map, by the passes behind those of the threads, the last of them first.
+template <class Map>
+void fill_up(const Map& map, const Task& task) {
+    Word left = task.pairs();
     for (Word filler = 0; left > 0; filler++) {
         const Word pairs = left < PAIRS_OF_A_PASS ? left : PAIRS_OF_A_PASS;
-        fill(map, threads + fillers(keys) - 1 - filler, Draws(filler, deal), keys, pairs);
+        fill(map, task.threads + task.fillers() - 1 - filler, task.keys_of_filler(filler), task.keys, pairs);
         left -= pairs;
     }
 }
@@ -78,7 +111,8 @@ inline void count(Tally& tally, End end) {
 
 inline void tell(Tally& tally, const std::optional<Word>& value) { tally.tell(value ? *value + 1 : 0); }
 
-inline void look_up(const Dictionary& map, Word key, Tally& tally) {
+template <class Map>
+void look_up(const Map& map, Word key, Tally& tally) {
     tell(tally, map.get(key));
     tally.done++;
 }
@@ -93,8 +127,9 @@ inline void count_pair(Tally& tally, const Reply<std::optional<Pair>>& reply) {
     count(tally, reply.end);
 }
 
-inline void list(const Dictionary& map, Word key, Word most, Tally& tally) {
-    Dictionary::RangeRoom room;
+template <class Map>
+void list(const Map& map, Word key, Word most, Tally& tally) {
+    typename Map::RangeRoom room;
     const auto reply = map.range(key, UINT64_MAX, most, room);
     if (reply.end == End::done)
         for (const Pair& pair : reply.told) tally.tell(pair.key + pair.value + 1);
@@ -102,24 +137,37 @@ inline void list(const Dictionary& map, Word key, Word most, Tally& tally) {
 }
 
 // Looks a key up in so many of a hundred rounds; in half of the others puts it in, in half takes it out.
-inline void mix(const Dictionary& map, Pass& pass, Draws& draws, Word key, Word value, Word looks, Tally& tally) {
+template <class Map>
+void mix(const Map& map, Pass& pass, Draws& draws, Word key, Word value, Word looks, Tally& tally) {
     const Word chance = draws.chance();
     if (chance < looks) look_up(map, key, tally);
     else if (chance < looks + (100 - looks) / 2) count_value(tally, map.insert(pass, key, value));
     else count_value(tally, map.remove(pass, key));
 }
 
-inline Tally rounds(const Dictionary& map, Work work, Deal deal, Word keys, Word calls, Word thread) {
+// Takes the first pair out, and puts this one in.
+template <class Map>
+void reschedule(const Map& map, Pass& pass, Word key, Word value, Tally& tally) {
+    const auto first = map.pop_first(pass);
+    if (first.end != End::done) return count(tally, first.end);
+    const auto put = map.insert(pass, key, value);
+    count_pair(tally, put.end == End::done ? first : Reply<std::optional<Pair>>{put.end, {}});
+}
+
+template <class Map>
+Tally rounds(const Map& map, const Task& task, Word thread) {
     Pass pass = map.pass(thread);
-    Draws draws = Draws::of_thread(thread, deal);
+    Keys keys = task.keys_of_thread(thread);
     Tally tally;
-    for (Word call = 0; call < calls; call++) {
-        const Word key = draws.key(keys);
-        switch (work) {
+    for (Word call = 0; call < task.calls; call++) {
+        const Word key = keys.key(task.keys);
+        switch (task.work) {
+            case Work::rise_get:
             case Work::get: look_up(map, key, tally); break;
-            case Work::mix90: mix(map, pass, draws, key, call, 90, tally); break;
-            case Work::mix50: mix(map, pass, draws, key, call, 50, tally); break;
-            case Work::mix0: mix(map, pass, draws, key, call, 0, tally); break;
+            case Work::mix90: mix(map, pass, keys.draws, key, call, 90, tally); break;
+            case Work::mix50: mix(map, pass, keys.draws, key, call, 50, tally); break;
+            case Work::mix0: mix(map, pass, keys.draws, key, call, 0, tally); break;
+            case Work::rise_insert:
             case Work::insert: count_value(tally, map.insert(pass, key, call)); break;
             case Work::insert_new: count_value(tally, map.insert_new(pass, key, call)); break;
             case Work::remove: count_value(tally, map.remove(pass, key)); break;
@@ -133,9 +181,10 @@ inline Tally rounds(const Dictionary& map, Work work, Deal deal, Word keys, Word
             case Work::range4: list(map, key, 4, tally); break;
             case Work::range16: list(map, key, 16, tally); break;
             case Work::range64: list(map, key, 64, tally); break;
+            case Work::schedule: reschedule(map, pass, key, call, tally); break;
         }
     }
     return tally;
 }
 
-}  // namespace tree
+}  // namespace maps
