@@ -4,7 +4,7 @@
 use Rattle.std.proofs.Common.{◌≡◌, ◌≢◌, ℕ, ◌^◌, ◌<◌, ◌≤◌, Bool, true, false, cond, eqb, lt-ltb, le-ltb, eq-eqb, ne_eqb, inl, inr, List, [], ◌∷◌, ◌++◌, refl, sym, ◌∙◌, ap, arith, append_assoc, append-nil, subst}
 use Rattle.std.specs.Prelude.{Some, unwrap_or}
 use native.Mathlib.Decide.{ℕ_discrete}
-use Rattle.histories.specs.Common.{Layout, Tree as TreeMode, Side, Left, Right, Settled, Child, More, Key, Word, node, child, first_key, Row, History, ◌⊳◌, value, IsWin, log, is_final}
+use Rattle.histories.specs.Common.{Layout, Tree as TreeMode, Side, Left, Right, Settled, More, Key, Word, node, child, first_key, Row, History, ◌⊳◌, value, IsWin, log, is_final}
 use Rattle.arena.proofs.Lemmas.{ends_self}
 use Rattle.histories.proofs.Lemmas.{node_since, win_not_final}
 use Rattle.ordered_map.specs.declared.pair.Pair.{Pair}

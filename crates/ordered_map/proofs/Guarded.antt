@@ -3,7 +3,7 @@
 -- there knows, when it wins, that the forks which it has passed since are on that path still.
 use Rattle.std.proofs.Common.{◌≡◌, ◌≢◌, ℕ, ◌/◌, ◌%◌, ◌<◌, Bool, true, false, ◌⊎◌, inl, inr, ⊎_elim, eqb, refl, sym, ◌∙◌, ap, arith, subst}
 use native.Mathlib.Decide.{ℕ_discrete}
-use Rattle.histories.specs.Common.{Layout, Row, Settled, Child, Head, ScxWord, Plan, Member, Seen, node, scx, child, info, marked, state, History, Start, ◌⊳◌, value, Extends, HasHeld, HasWon, IsNamed, IsNamedScx, IsWin, opening_node, Lawful, log, is_final, count, count_of, member, seen}
+use Rattle.histories.specs.Common.{Layout, Row, Settled, Child, Head, ScxWord, Plan, Member, Seen, scx, child, info, marked, state, History, Start, ◌⊳◌, value, Extends, HasHeld, HasWon, IsNamed, IsNamedScx, IsWin, opening_node, Lawful, log, is_final, count, count_of, member, seen}
 use Rattle.arena.proofs.Lemmas.{ends_self, ends_trans, held_back}
 use Rattle.histories.proofs.Lemmas.{Effect, Facts, FreezeWins, IsScxFill, UpdateWins, effect, facts, finished_stays, freeze, freeze_finds, freeze_held, freeze_keeps_field, freeze_keeps_scx, final_by, lawful_since, lawful_tail, named_since, node_stays, passed_stays, quiet, scx_since, some_is_real, update, update_flagged, update_held, update_in_progress, update_is_first, update_about, update_won, won_since}
 use Rattle.ordered_map.specs.OrderedMap.{MapEdit}

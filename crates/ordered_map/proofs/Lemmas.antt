@@ -21,5 +21,6 @@ pub use Rattle.ordered_map.proofs.Lists.{above_less, edited_below}
 pub use Rattle.ordered_map.proofs.Children.{IsBeside, beside_same}
 pub use Rattle.ordered_map.proofs.EndLeaf.{IsUpTo, end_small, end_up}
 pub use Rattle.ordered_map.proofs.Parted.{key_of, IsOnSide, PartsFrom, shares_span, own_side, keeps_deeper, between_keeps, either_first, above_keeps, above_in}
+pub use Rattle.ordered_map.proofs.Bits.{place_rising, place_falling}
 pub use Rattle.ordered_map.proofs.PartedPairs.{some_first, some_last, parts_of_five}
 pub use Rattle.ordered_map.proofs.FreshForks.{parted_level, fits_swap, fits_split, fits_first, fits_join, fits_above}

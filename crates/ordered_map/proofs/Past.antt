@@ -1,5 +1,5 @@
 -- A walk by child loads visits only nodes that were on the search path at a moment since its start.
-use Rattle.std.proofs.Common.{◌≡◌, ◌≢◌, ℕ, ◌<◌, ◌≤◌, ◌*◌, ◌/◌, ◌%◌, ◌^◌, true, false, eqb, ltb, ◌⊎◌, inl, inr, ⊎_elim, refl, sym, ◌∙◌, ap, arith, subst, cond, Option}
+use Rattle.std.proofs.Common.{◌≡◌, ◌≢◌, ℕ, ◌<◌, ◌/◌, ◌%◌, ◌^◌, true, false, eqb, ltb, ◌⊎◌, inl, inr, ⊎_elim, refl, sym, ◌∙◌, ap, arith, subst, cond, Option}
 use native.Mathlib.Decide.{ℕ_discrete}
 use Rattle.histories.specs.Common.{Tree as TreeMode, Side, Left, Right, Settled, Child, Head, Word, Layout, Row, node, marked, child}
 use Rattle.histories.specs.Common.{History, Start, ◌⊳◌, value, Extends, field_index, member, plan, side_of, IsNamed, Lawful, log}

@@ -1,7 +1,6 @@
 -- Where the nodes of a tree are; and the spans of the forks of a trie: below a fork of class 0 all
 -- items are in its span, and each key that a fork there shares.
-use Rattle.std.proofs.Common.{◌≡◌, ℕ, ◌+◌, ◌-◌, ◌*◌, ◌/◌, ◌%◌, ◌^◌, ◌<◌, ◌≤◌, true, false, inl, inr, List, [], ◌∷◌, ◌++◌, refl, sym, ◌∙◌, ap, arith, eqb, eq-eqb, le-ltb, lt-ltb, subst, pow_pos}
-use native.Mathlib.Decide.{ℕ_discrete}
+use Rattle.std.proofs.Common.{◌≡◌, ℕ, ◌+◌, ◌-◌, ◌/◌, ◌%◌, ◌^◌, ◌<◌, ◌≤◌, true, false, inl, inr, List, [], ◌∷◌, ◌++◌, refl, sym, ◌∙◌, ap, arith, eqb, eq-eqb, le-ltb, lt-ltb, subst, pow_pos}
 use Rattle.histories.specs.Common.{Layout, Side, Left, Right, Settled, Head, Word, node, child, first_key}
 use Rattle.ordered_map.specs.declared.pair.Pair.{Pair}
 use Rattle.ordered_map.specs.OrderedMap.{AllBelow, AllFrom, get}

@@ -1,6 +1,6 @@
 -- Walks of a trie: where one comes to a fork that its key does not share, the map has no such key, and
 -- what is below is apart from the key.
-use Rattle.std.proofs.Common.{◌≡◌, ℕ, ◌^◌, ◌<◌, ◌≤◌, true, false, ◌⊎◌, inl, inr, ⊎_elim, List, [], ◌++◌, None, refl, sym, ◌∙◌, ap, arith, subst}
+use Rattle.std.proofs.Common.{◌≡◌, ℕ, ◌^◌, ◌<◌, ◌≤◌, true, false, ◌⊎◌, inl, inr, ⊎_elim, List, ◌++◌, None, refl, sym, ◌∙◌, ap, arith, subst}
 use native.Mathlib.Decide.{ℕ_discrete}
 use Rattle.histories.specs.Common.{Mode, Tree as TreeMode, Records, Layout, Side, Left, Right, Word, Row, child, History, ◌⊳◌, value, log}
 use Rattle.arena.specs.declared.limits.Mode.TheVariants.{Trie as TrieMode}

@@ -13,7 +13,7 @@ use Rattle.ordered_map.specs.Paths.{IsOnPath, WasInTree, WasOnPath, end_key}
 use Rattle.ordered_map.specs.Runs.{IsMapRun}
 use Rattle.ordered_map.specs.Spelled.{Spells}
 use Rattle.ordered_map.specs.TrieShape.{Stays}
-use Rattle.ordered_map.specs.TreeWords.{Tree, Leaf, Fork, Shows, Has, Passes, class, is_leaf, level, rank, toward, end_said, IsBlankAboveKeys}
+use Rattle.ordered_map.specs.TreeWords.{Tree, Leaf, Fork, Shows, Has, Passes, class, is_leaf, rank, toward, end_said, IsBlankAboveKeys}
 use Rattle.ordered_map.proofs.Trees.{EndsLow, part_of}
 use Rattle.ordered_map.proofs.Spanned.{AreForks, child_shares, last_left, low_from, low_to, node_from, same_stays}
 use Rattle.ordered_map.proofs.Children.{fork_low, run_low}
