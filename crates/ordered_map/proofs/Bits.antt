@@ -1,10 +1,10 @@
 -- The bit at which two keys part, as numbers: the highest in which they differ.
-use Rattle.std.proofs.Common.{min, ◌≡◌, ◌≢◌, ℕ, suc, ◌+◌, ◌-◌, ◌*◌, ◌/◌, ◌%◌, ◌^◌, ◌<◌, ◌≤◌, ◌↔◌, IsTrue, nat_le, sym, ◌∙◌, ap, arith, bit_xor, pow_pos, div-mul-le_self, mod-eq_of_lt, zero-mul, pos_of_ne-zero, div-add-mod', leb-true, le-leb}
+use Rattle.std.proofs.Common.{min, max, refl, subst, ◌≡◌, ◌≢◌, ℕ, suc, ◌+◌, ◌-◌, ◌*◌, ◌/◌, ◌%◌, ◌^◌, ◌<◌, ◌≤◌, ◌↔◌, IsTrue, nat_le, sym, ◌∙◌, ap, arith, bit_xor, pow_pos, div-mul-le_self, mod-eq_of_lt, zero-mul, pos_of_ne-zero, div-add-mod', leb-true, le-leb}
 use Rattle.std.proofs.Math.Nat.{div-eq_of_lt, div-eq_of_lt-le, div-div-eq-div-mul, pow-suc, mul_assoc, mul_comm, add-mul, one-mul, lt-div-mul-add}
-use Rattle.std.proofs.lemmas.Nat.{xor_shr, xor_lt, xor_block, le-div, mod-mul-add, leading_top}
+use Rattle.std.proofs.lemmas.Nat.{xor_comm, xor_shr, xor_lt, xor_block, le-div, mod-mul-add, leading_top}
 use Rattle.std.specs.Int.Bits.{xor_assoc, xor_self, xor_zero_l, xor_zero_r}
 use Rattle.std.specs.Int.Count.{count_leading_zeros}
-use Rattle.ordered_map.specs.Bits.{room_at, IsForkKey, IsInSpan, PartsKeys}
+use Rattle.ordered_map.specs.Bits.{room_at, IsForkKey, IsInSpan, PartsKeys, bit_between, place_between}
 
 -- Bits in which two numbers differ
 
@@ -102,6 +102,30 @@ parts j k zeros greater l small z g =
     let is : 63 - zeros ≡ b = omega (arith, z, top) in
     let whole = div-mul-le_self k (2 ^ b) in
     rw g (rw is (rw (mod-eq_of_lt {n = k / 2 ^ b * 2 ^ b} {m = 2 ^ 64} (omega (arith, whole, small))) (parts_at j k b (zeros + 2) l low high (omega arith) (omega (arith, z, top)))))
+
+-- where that is, as it is reckoned in 64 bits
+pub place_key : (j k zeros greater : ℕ) → j < 2 ^ 64 → k < 2 ^ 64 → zeros ≡ min (count_leading_zeros 64 (bit_xor j k)) 63 → greater ≡ max j k → greater / 2 ^ (63 - zeros) * 2 ^ (63 - zeros) % 2 ^ 64 ≡ (place_between j k).key
+place_key j k zeros greater a b z g =
+    let whole = div-mul-le_self greater (2 ^ (63 - zeros)) in
+    let bit : 63 - zeros ≡ bit_between j k = ap (λ v. 63 - v) z in
+    mod-eq_of_lt {n = greater / 2 ^ (63 - zeros) * 2 ^ (63 - zeros)} {m = 2 ^ 64} (omega (arith, whole, a, b, g)) ∙ (λ i. g i / 2 ^ bit i * 2 ^ bit i)
+
+pub place_level : (j k zeros : ℕ) → zeros ≡ min (count_leading_zeros 64 (bit_xor j k)) 63 → zeros + 2 ≡ (place_between j k).level
+place_level j k zeros z = omega (arith, z)
+
+pub place_rising : (j k : ℕ) → j < k → k < 2 ^ 64 → PartsKeys j k (place_between j k).key (place_between j k).level
+place_rising j k l small =
+    let zeros = min (count_leading_zeros 64 (bit_xor j k)) 63 in
+    let most : k ≡ max j k = omega (arith, l) in
+    subst (λ level. PartsKeys j k (place_between j k).key level) (place_level j k zeros refl)
+    (subst (λ key. PartsKeys j k key (zeros + 2)) (place_key j k zeros k (omega (arith, l, small)) small refl most) (parts j k zeros k l small refl refl))
+
+pub place_falling : (j k : ℕ) → k < j → j < 2 ^ 64 → PartsKeys k j (place_between j k).key (place_between j k).level
+place_falling j k l small =
+    let zeros = min (count_leading_zeros 64 (bit_xor j k)) 63 in
+    let most : j ≡ max j k = omega (arith, l) in
+    subst (λ level. PartsKeys k j (place_between j k).key level) (place_level j k zeros refl)
+    (subst (λ key. PartsKeys k j key (zeros + 2)) (place_key j k zeros j small (omega (arith, l, small)) refl most) (parts k j zeros j l small (ap (λ x. min (count_leading_zeros 64 x) 63) (xor_comm j k)) refl))
 
 -- Sharing a fork
 

@@ -4,27 +4,28 @@
 use Rattle.std.proofs.Common.{◌≡◌, ◌≢◌, ℕ, ◌^◌, ◌<◌, ◌≤◌, Bool, true, false, cond, eqb, lt-ltb, le-ltb, eq-eqb, ne_eqb, inl, inr, List, [], ◌∷◌, ◌++◌, refl, sym, ◌∙◌, ap, arith, append_assoc, append-nil, subst}
 use Rattle.std.specs.Prelude.{Some, unwrap_or}
 use native.Mathlib.Decide.{ℕ_discrete}
-use Rattle.histories.specs.Common.{Layout, Side, Left, Right, Settled, Child, More, Key, Word, node, child, first_key, Row, History, ◌⊳◌, value, IsWin, log, is_final}
+use Rattle.histories.specs.Common.{Layout, Tree as TreeMode, Side, Left, Right, Settled, More, Key, Word, node, child, first_key, Row, History, ◌⊳◌, value, IsWin, log, is_final}
 use Rattle.arena.proofs.Lemmas.{ends_self}
 use Rattle.histories.proofs.Lemmas.{node_since, win_not_final}
 use Rattle.ordered_map.specs.declared.pair.Pair.{Pair}
 use Rattle.ordered_map.specs.OrderedMap.{MapEdit, pair, first_pair, last_pair, end_pair, AllBelow, IsRising}
 use Rattle.ordered_map.specs.Holding.{end_slot, held_pairs, pair_in, IsWellCounted}
 use Rattle.ordered_map.specs.Paths.{IsOnPath, Passed, WasInTree, WasOnPath, IsEndAt, end_key, end_turn}
-use Rattle.ordered_map.specs.Runs.{IsTreeRun, Makes}
-use Rattle.ordered_map.specs.Spelled.{IsTree, Spells}
-use Rattle.ordered_map.specs.TreeWords.{Tree, Leaf, Fork, root, IsLeaf, Shows, Has, Passes, class, is_leaf, rank, toward, pairs, leaf_pairs, end_said}
+use Rattle.ordered_map.specs.Runs.{IsMapRun, Makes}
+use Rattle.ordered_map.specs.Spelled.{Spells}
+use Rattle.ordered_map.specs.TreeWords.{Tree, Leaf, Fork, IsLeaf, HasItems, Shows, Has, Passes, class, is_leaf, rank, toward, pairs, leaf_pairs, end_said}
 use Rattle.ordered_map.proofs.Spanned.{node_from, node_low}
-use Rattle.ordered_map.proofs.Trees.{EndsLow, last_leaf, has_last, open_between, node_below, same_tree, shown_leaf, passes_has, has_root, path_level}
+use Rattle.ordered_map.proofs.Trees.{EndsLow, open_between, node_below, shown_leaf, passes_has}
 use Rattle.ordered_map.specs.TreeShape.{edit_leaf}
-use Rattle.ordered_map.proofs.Holding.{SameSettled, counted_same, same_leaf, low_items, rank_from, held_first, held_end, low_pairs, high_pairs}
+use Rattle.ordered_map.proofs.Holding.{SameSettled, same_leaf, low_items, rank_from, held_first, held_end, low_pairs, high_pairs}
 use Rattle.ordered_map.proofs.Moved.{settled_rank, settled_class, settled_leaf, settled_toward, settled_end}
-use Rattle.ordered_map.proofs.TreeFacts.{path_now, all_named}
-use Rattle.ordered_map.proofs.Grown.{tree_facts, tree_map}
+use Rattle.ordered_map.proofs.TreeFacts.{path_now}
 use Rattle.ordered_map.proofs.Maps.{below_end, last_from, last_join}
-use Rattle.ordered_map.proofs.Past.{path_named, Latest, latest}
-use Rattle.ordered_map.proofs.Meanings.{edits_of, grown, run_spells, run_since, wins_of, leaf_covered}
-use Rattle.ordered_map.proofs.TreeRuns.{path_remains, stood_settled}
+use Rattle.ordered_map.proofs.Past.{path_named}
+use Rattle.ordered_map.proofs.Meanings.{run_spells, run_since, wins_of, leaf_covered}
+use Rattle.ordered_map.proofs.Stood.{was_passed}
+use Rattle.ordered_map.proofs.Children.{IsBeside, fork_low, run_low, has_child, had_beside}
+use Rattle.ordered_map.proofs.MapRuns.{path_remains, stood_settled}
 
 -- In a tree
 
@@ -37,43 +38,6 @@ fork_above f (Fork m a b) lo hi n s (inr (inr q)) d =
     let x : rank f m < rank f n = fork_above f b (rank f m) hi n s.2 q d in
     let y : lo < rank f m = open_between f a lo (rank f m) s.1 in
     omega (arith, x, y)
-
--- so is each fork of class 0
-fork_low : (f : Word → ℕ) (t : Tree) (lo hi n : ℕ) → Shows f lo hi t → EndsLow f t → Has t n → is_leaf f n ≡ false → class f n ≡ 0 → rank f n < 2 ^ 64
-fork_low f (Leaf m) lo hi n s w e d low = absurd (let x : true ≡ false = sym s.leaf ∙ rw (← e) at d in cc)
-fork_low f (Fork m a b) lo hi n s w (inl e) d low =
-    let z : class f m ≡ 0 = ap (class f) e ∙ low in
-    let x : rank f m ≤ rank f (last_leaf b) = node_from f b (rank f m) hi (last_leaf b) s.2 (has_last b) in
-    let y : rank f (last_leaf b) < 2 ^ 64 = node_low f b (rank f m) hi (last_leaf b) s.2 (w.0 z) (has_last b) in
-    rw (← e) (omega (arith, x, y))
-fork_low f (Fork m a b) lo hi n s w (inr (inl q)) d low = fork_low f a lo (rank f m) n s.1 w.1 q d low
-fork_low f (Fork m a b) lo hi n s w (inr (inr q)) d low = fork_low f b (rank f m) hi n s.2 w.2 q d low
-
--- where x is, seen from the fork n that it is below on this side: before it; or not before it, and
--- 2 ^ 64 if the fork is
-abbrev pub IsBeside : (Word → ℕ) → Side → ℕ → ℕ → Type 0
-IsBeside f Left n x = rank f x < rank f n
-IsBeside f Right n x = (rank f n ≤ rank f x) × (rank f n < 2 ^ 64 → rank f x < 2 ^ 64)
-
-pub beside_same : (b f : Word → ℕ) (side : Side) (n x : ℕ) → rank f n ≡ rank b n → rank f x ≡ rank b x → IsBeside b side n x → IsBeside f side n x
-beside_same b f Left n x e d y = rw (e, d) y
-beside_same b f Right n x e d y = (rw (e, d) y.0, λ z. rw d (y.1 (rw e at z)))
-
-child_beside : (f : Word → ℕ) (side : Side) (t : Tree) (lo hi n : ℕ) → Shows f lo hi t → EndsLow f t → Has t n → is_leaf f n ≡ false → IsBeside f side n (f (child n side))
-child_beside f side (Leaf m) lo hi n s w e d = absurd (let x : true ≡ false = sym s.leaf ∙ rw (← e) at d in cc)
-child_beside f Left (Fork m a b) lo hi n s w (inl e) d =
-    let q : f (child n Left) ≡ root a = rw (← e) s.0.left in
-    rw (q, ← e) (node_below f a lo (rank f m) (root a) s.1 (has_root a))
-child_beside f Right (Fork m a b) lo hi n s w (inl e) d =
-    subst (λ x. IsBeside f Right n x) (sym q) (subst (λ k. IsBeside f Right k (root b)) e (node_from f b (rank f m) hi (root b) s.2 (has_root b), low))
-  where
-    q : f (child n Right) ≡ root b
-    q = rw (← e) s.0.right
-
-    low : rank f m < 2 ^ 64 → rank f (root b) < 2 ^ 64
-    low x = node_low f b (rank f m) hi (root b) s.2 (w.0 (omega (arith, x))) (has_root b)
-child_beside f side (Fork m a b) lo hi n s w (inr (inl q)) d = child_beside f side a lo (rank f m) n s.1 w.1 q d
-child_beside f side (Fork m a b) lo hi n s w (inr (inr q)) d = child_beside f side b (rank f m) hi n s.2 w.2 q d
 
 same_left : (b : Bool) → Left ≡ cond b Left Left
 same_left true = refl
@@ -237,58 +201,37 @@ end_path Right f k t lo hi n s w p u = last_path f k t lo hi n s w p u.0 u.1
 
 -- In a run
 
--- below each fork of class 0 the last leaf is of class 0
-run_low : (lay : Layout) (h : History) (t : Tree) → IsTreeRun lay h → IsTree (value h) t → EndsLow (value h) t
-run_low lay h t g is =
-    let x = tree_facts (edits_of lay h g).edits lay h (grown lay h g) in
-    subst (EndsLow (value h)) (same_tree (value h) x.tree t _ _ _ _ x.is_tree.shows is.shows (x.is_tree.is ∙ sym is.is)) x.ends_low
-
 -- what was passed says what it said
-same_since : (lay : Layout) (h start : History) (k n : ℕ) → IsTreeRun lay h → (p : Passed h start k n) → SameSettled (value p.0) (value h) n
-same_since lay h start k n g p part i = node_since lay h p.0 n part g.1.lawful p.1 i (path_named lay p.0 k n (tree_map lay.mode g.0) p.3)
+same_since : (lay : Layout) (h start : History) (k n : ℕ) → IsMapRun lay h → (p : Passed h start k n) → SameSettled (value p.0) (value h) n
+same_since lay h start k n g p part i = node_since lay h p.0 n part g.1.lawful p.1 i (path_named lay p.0 k n g.0 p.3)
 
 -- where what is on a side of a fork that was passed is, seen from the fork
-pub walk_beside : (lay : Layout) (h start : History) (k n : ℕ) (side : Side) → IsTreeRun lay h → Passed h start k n → is_leaf (value h) n ≡ false → IsBeside (value h) side n (value h (child n side))
-walk_beside lay h start k n side g p fork =
-    let x : Latest h p.0 k n = latest (edits_of lay h g).edits lay h p.0 k n (grown lay h g) p.1 p.3 (inl g.0) in
-    let m : History = x.moment in
-    let at : Passed h m k n = (m, x.within, ends_self m, x.on_path) in
-    let same : SameSettled (value m) (value h) n = same_since lay h m k n g at in
-    let d : is_leaf (value m) n ≡ false = sym (settled_leaf (value m) (value h) n same) ∙ fork in
-    let has = passes_has (value m) k x.on_path.tree n x.on_path.passes in
-    let low : EndsLow (value m) x.on_path.tree = run_low lay m x.on_path.tree (run_since lay h m g x.within) x.on_path.is_tree in
-    let y : IsBeside (value m) side n (value m (child n side)) = child_beside (value m) side x.on_path.tree _ _ n x.on_path.is_tree.shows low has d in
-    let below : Has x.on_path.tree (value m (child n side)) = (path_level (value m) x.on_path.tree _ _ n side x.on_path.is_tree.shows has d).1 in
-    let there : SameSettled (value m) (value h) (value m (child n side)) = λ part i. node_since lay h m (value m (child n side)) part g.1.lawful x.within i (all_named lay m x.on_path.tree _ (tree_map lay.mode g.0) x.on_path.is_tree below) in
-    let c : value h (child n side) ≡ value m (child n side) = x.same (Child side) tt in
-    subst (IsBeside (value h) side n) (sym c) (beside_same (value m) (value h) side n (value m (child n side)) (settled_rank (value m) (value h) n same) (settled_rank (value m) (value h) (value m (child n side)) there) y)
+pub walk_beside : (lay : Layout) (h start : History) (k n : ℕ) (side : Side) → IsMapRun lay h → Passed h start k n → is_leaf (value h) n ≡ false → IsBeside (value h) side n (value h (child n side))
+walk_beside lay h start k n side g p fork = had_beside lay h n side (value h (child n side)) g (has_child h n side (was_passed h start k n p)) fork
 
--- a leaf that was passed has its items between some bounds
-walk_shown : (lay : Layout) (h start : History) (k n : ℕ) → IsTreeRun lay h → Passed h start k n → is_leaf (value h) n ≡ true → (low high : ℕ) × IsLeaf (value h) n low high
-walk_shown lay h start k n g p leaf =
-    let same : SameSettled (value p.0) (value h) n = same_since lay h start k n g p in
-    let tree = p.3 in
-    let x = shown_leaf (value p.0) tree.tree _ _ n tree.is_tree.shows (passes_has (value p.0) k tree.tree n tree.passes) (sym (settled_leaf (value p.0) (value h) n same) ∙ leaf) in
-    (x.0, x.1, same_leaf (value p.0) (value h) n x.0 x.1 same x.2)
+-- the keys of all pairs of a leaf of class 0 that was ever in the tree are keys of the map, and rise; and
+-- they are as many as a leaf may hold
+pub stood_holds : (lay : Layout) (h : History) (n : ℕ) → IsMapRun lay h → WasInTree h n → is_leaf (value h) n ≡ true → class (value h) n ≡ 0 → IsWellCounted (value h) n × AllBelow (2 ^ 64) (held_pairs (value h) n) × IsRising (held_pairs (value h) n)
+stood_holds lay h n g x leaf low = ((y.keys low).0, (y.keys low).1, subst IsRising (low_items (value h) n low) y.rising)
+  where
+    same : SameSettled (value x.moment) (value h) n
+    same = stood_settled lay h x.moment n g x.within record { moment = x.moment; within = ends_self x.moment; tree = x.tree; is_tree = x.is_tree; has = x.has }
 
--- and, if it is of class 0, the keys of all its pairs are, and rise; and they are as many as a leaf
--- may hold
-pub walk_holds : (lay : Layout) (h start : History) (k n : ℕ) → IsTreeRun lay h → Passed h start k n → is_leaf (value h) n ≡ true → class (value h) n ≡ 0 → IsWellCounted (value h) n × AllBelow (2 ^ 64) (held_pairs (value h) n) × IsRising (held_pairs (value h) n)
-walk_holds lay h start k n g p leaf low =
-    let x = walk_shown lay h start k n g p leaf in
-    let y = x.2.items in
-    ((y.keys low).0, (y.keys low).1, subst IsRising (low_items (value h) n low) y.rising)
+    shown : (lo hi : ℕ) × IsLeaf (value x.moment) n lo hi
+    shown = shown_leaf (value x.moment) x.tree _ _ n x.is_tree.shows x.has (sym (settled_leaf (value x.moment) (value h) n same) ∙ leaf)
 
--- so does each leaf of class 0 that was ever in the tree
-pub stood_counted : (lay : Layout) (h : History) (n : ℕ) → IsTreeRun lay h → WasInTree h n → is_leaf (value h) n ≡ true → class (value h) n ≡ 0 → IsWellCounted (value h) n
-stood_counted lay h n g x leaf low =
-    let then : WasInTree x.moment n = record { moment = x.moment; within = ends_self x.moment; tree = x.tree; is_tree = x.is_tree; has = x.has } in
-    let same : SameSettled (value x.moment) (value h) n = stood_settled lay h x.moment n g x.within then in
-    let shown = shown_leaf (value x.moment) x.tree _ _ n x.is_tree.shows x.has (sym (settled_leaf (value x.moment) (value h) n same) ∙ leaf) in
-    counted_same (value x.moment) (value h) n same (shown.2.items.keys (sym (settled_class (value x.moment) (value h) n same) ∙ low)).0
+    y : HasItems (value h) n shown.0 shown.1
+    y = (same_leaf (value x.moment) (value h) n shown.0 shown.1 same shown.2).items
+
+-- so it is with one that was passed
+pub walk_holds : (lay : Layout) (h start : History) (k n : ℕ) → IsMapRun lay h → Passed h start k n → is_leaf (value h) n ≡ true → class (value h) n ≡ 0 → IsWellCounted (value h) n × AllBelow (2 ^ 64) (held_pairs (value h) n) × IsRising (held_pairs (value h) n)
+walk_holds lay h start k n g p = stood_holds lay h n g (was_passed h start k n p)
+
+pub stood_counted : (lay : Layout) (h : History) (n : ℕ) → IsMapRun lay h → WasInTree h n → is_leaf (value h) n ≡ true → class (value h) n ≡ 0 → IsWellCounted (value h) n
+stood_counted lay h n g x leaf low = (stood_holds lay h n g x leaf low).0
 
 -- to which side a search for the key at an end goes
-pub walk_turns : (side : Side) (lay : Layout) (h start : History) (n : ℕ) → IsTreeRun lay h → Passed h start (end_key side) n → is_leaf (value h) n ≡ false → toward (value h) n (end_key side) ≡ end_turn side (class (value h) n)
+pub walk_turns : (side : Side) (lay : Layout) (h start : History) (n : ℕ) → IsMapRun lay h → Passed h start (end_key side) n → is_leaf (value h) n ≡ false → toward (value h) n (end_key side) ≡ end_turn side (class (value h) n)
 walk_turns side lay h start n g p fork =
     let same = same_since lay h start (end_key side) n g p in
     let tree = p.3 in
@@ -297,7 +240,7 @@ walk_turns side lay h start n g p fork =
     settled_toward (value p.0) (value h) n (end_key side) same ∙ x ∙ ap (end_turn side) (sym (settled_class (value p.0) (value h) n same))
 
 -- what it has passed it has passed on its way to each key between
-pub walk_own : (side : Side) (lay : Layout) (h start : History) (k n : ℕ) → IsTreeRun lay h → Passed h start (end_key side) n → IsUpTo side k (rank (value h) n) → Passed h start k n
+pub walk_own : (side : Side) (lay : Layout) (h start : History) (k n : ℕ) → IsMapRun lay h → Passed h start (end_key side) n → IsUpTo side k (rank (value h) n) → Passed h start k n
 walk_own side lay h start k n g p u =
     let tree = p.3 in
     let low = run_low lay p.0 tree.tree (run_since lay h p.0 g p.1) tree.is_tree in
@@ -305,15 +248,15 @@ walk_own side lay h start k n g p u =
     (p.0, p.1, p.2, record { tree = tree.tree; is_tree = tree.is_tree; passes = end_path side (value p.0) k tree.tree _ _ n tree.is_tree.shows low tree.passes up })
 
 -- the pair at an end of the map that words spell is what the leaf on the path there says
-spelled_end : (side : Side) (lay : Layout) (h : History) (n : ℕ) (ps : List Pair) → IsTreeRun lay h → Spells lay (value h) ps → IsOnPath h (end_key side) n → is_leaf (value h) n ≡ true → end_pair side ps ≡ end_said side (value h) n
+pub spelled_end : (side : Side) (lay : Layout) (h : History) (n : ℕ) (ps : List Pair) → IsMapRun lay h → Spells lay (value h) ps → IsOnPath h (end_key side) n → is_leaf (value h) n ≡ true → end_pair side ps ≡ end_said side (value h) n
 spelled_end side lay h n ps g s p leaf = ap (end_pair side) (sym s.pairs) ∙ pairs_end side (value h) s.tree _ _ n s.is_tree.shows (run_low lay h s.tree g s.is_tree) (path_now h s.tree (end_key side) n s.is_tree p) leaf
 
 -- the leaf where it ends says which pair was at that end of the map, at a moment since then
-pub walk_end : (side : Side) (lay : Layout) (h start : History) (n : ℕ) → IsTreeRun lay h → Passed h start (end_key side) n → is_leaf (value h) n ≡ true → IsEndAt side lay h start (end_said side (value h) n)
+pub walk_end : (side : Side) (lay : Layout) (h start : History) (n : ℕ) → IsMapRun lay h → Passed h start (end_key side) n → is_leaf (value h) n ≡ true → IsEndAt side lay h start (end_said side (value h) n)
 walk_end side lay h start n g p leaf =
     let m = p.0 in
     let same = same_since lay h start (end_key side) n g p in
-    let then_run : IsTreeRun lay m = run_since lay h m g p.1 in
+    let then_run : IsMapRun lay m = run_since lay h m g p.1 in
     let spelled : (ps : List Pair) × Spells lay (value m) ps = run_spells lay m then_run in
     let then : is_leaf (value m) n ≡ true = sym (settled_leaf (value m) (value h) n same) ∙ leaf in
     record {
@@ -327,11 +270,11 @@ walk_end side lay h start n g p leaf =
 
 -- Just before an SCX-record wins whose leaf was on the path to an end, that leaf says which pair is
 -- at that end of the map: it is not final, so it is on that path still.
-pub win_end : (side : Side) (lay : Layout) (h : History) (row : Row) (s : ℕ) (e : MapEdit) → IsTreeRun lay (row ⊳ h) → IsWin h row s → Makes lay h s e → WasOnPath h (end_key side) (edit_leaf h s e) → is_leaf (value h) (edit_leaf h s e) ≡ true → (ps : List Pair) → Spells lay (value h) ps → end_pair side ps ≡ end_said side (value h) (edit_leaf h s e)
-win_end side lay h row s e g won makes was leaf ps spells = spelled_end side lay h (edit_leaf h s e) ps run spells (path_remains lay h (end_key side) (edit_leaf h s e) run was not_final) leaf
+pub win_end : (side : Side) (lay : Layout) (h : History) (row : Row) (s : ℕ) (e : MapEdit) → lay.mode ≡ TreeMode → IsMapRun lay (row ⊳ h) → IsWin h row s → Makes lay h s e → WasOnPath h (end_key side) (edit_leaf h s e) → is_leaf (value h) (edit_leaf h s e) ≡ true → (ps : List Pair) → Spells lay (value h) ps → end_pair side ps ≡ end_said side (value h) (edit_leaf h s e)
+win_end side lay h row s e tree g won makes was leaf ps spells = spelled_end side lay h (edit_leaf h s e) ps run spells (path_remains lay h (end_key side) (edit_leaf h s e) run was (inl tree) not_final) leaf
   where
-    run : IsTreeRun lay h
+    run : IsMapRun lay h
     run = run_since lay (row ⊳ h) h g (inr (ends_self h))
 
     not_final : is_final (log lay h) (edit_leaf h s e) ≡ false
-    not_final = win_not_final lay h row s (edit_leaf h s e) g.1.lawful (wins_of lay h row s g.1.lawful won) (leaf_covered lay h s e run.1.lawful (inl g.0) makes)
+    not_final = win_not_final lay h row s (edit_leaf h s e) g.1.lawful (wins_of lay h row s g.1.lawful won) (leaf_covered lay h s e run.1.lawful (inl tree) makes)

@@ -7,7 +7,7 @@ use Rattle.ordered_map.specs.declared.pair.Pair.{Pair}
 use Rattle.ordered_map.specs.OrderedMap.{MapEdit, edit_key, edited, AllBelow, AllFrom, IsRising, first_pair, last_pair}
 use Rattle.ordered_map.specs.Holding.{held_pairs}
 use Rattle.ordered_map.specs.TreeWords.{class, is_leaf, level, rank, opposite, leaf_items}
-use Rattle.ordered_map.specs.Edits.{IsSwapBy, IsSplitBy, IsCopyOf, HasFieldsOf}
+use Rattle.ordered_map.specs.Edits.{IsSwapBy, IsSplitBy, IsCopyOf}
 use Rattle.ordered_map.specs.TrieShape.{FitsTrie, IsAboveBy}
 use Rattle.ordered_map.specs.Bits.{room, side_from, side_to, Shares, IsParted, Keeps, IsTrieFork, IsForkKey, PartsKeys}
 use Rattle.ordered_map.proofs.Holding.{low_items}
@@ -165,13 +165,14 @@ module _ (f : Word → ℕ) where
   same_sides_keep : (c z : ℕ) (at : Side) (m : ℕ) → side_from f c at ≡ side_from f z at → side_to f c at ≡ side_to f z at → Keeps f z at m → Keeps f c at m
   same_sides_keep c z at m from to k = record { fork = λ d l. rw (from, to) (k.fork d l); leaf = λ d l. rw (from, to) (k.leaf d l); last = k.last }
 
-  -- a copy of what stands below the fork q, in the place of q below the fork g
-  pub fits_join : (g : ℕ) (side : Side) (q : ℕ) (at : Side) (z c : ℕ) → is_leaf f q ≡ false → Keeps f g side q → (class f q ≢ 0 → class f z ≢ 0) → Keeps f q at z → IsTrieFork f z → IsCopyOf f c z → HasFieldsOf f c z → level f g < level f q → level f q < level f z → (is_leaf f z ≡ false → (below : Side) → level f z < level f (f (child z below))) → FitsTrie f g side c
-  fits_join g side q at z c fork outer order inner trie copy fields lower deeper rises = record {
+  -- a copy of what stands below the fork q, in the place of q below the fork g: its fields name what may
+  -- stand below the fork that it is a copy of
+  pub fits_join : (g : ℕ) (side : Side) (q : ℕ) (at : Side) (z c : ℕ) → is_leaf f q ≡ false → Keeps f g side q → (class f q ≢ 0 → class f z ≢ 0) → Keeps f q at z → IsCopyOf f c z → (is_leaf f z ≡ false → IsParted f z × ((to : Side) → Keeps f z to (f (child c to)) × (level f z < level f (f (child c to))))) → level f g < level f q → level f q < level f z → FitsTrie f g side c
+  fits_join g side q at z c fork outer order inner copy below lower deeper = record {
     keeps = record { fork = keeps_fork; leaf = keeps_leaf; last = keeps_last };
     fork = trie_fork;
     deeper = omega (arith, lower, deeper, same_level);
-    rises = λ d below. let y = ap (level f) (fields (sym same_leaf ∙ d) below) in let r = rises (sym same_leaf ∙ d) below in omega (arith, same_level, y, r);
+    rises = λ d to. let r = ((below (sym same_leaf ∙ d)).1 to).1 in omega (arith, same_level, r);
   }
     where
       same_leaf : is_leaf f c ≡ is_leaf f z
@@ -218,10 +219,10 @@ module _ (f : Word → ℕ) where
 
       trie_fork : IsTrieFork f c
       trie_fork d =
-          let t = trie (sym same_leaf ∙ d) in
+          let t = below (sym same_leaf ∙ d) in
           let h = copy.same_head in
           let y = copy.same_key in
-          (record { top = rw h t.0.top; key = rw (h, y) t.0.key }, λ to. same_sides_keep c z to (f (child c to)) (same_from to) (same_to to) (subst (Keeps f z to) (sym (fields (sym same_leaf ∙ d) to)) (t.1 to)))
+          (record { top = rw h t.0.top; key = rw (h, y) t.0.key }, λ to. same_sides_keep c z to (f (child c to)) (same_from to) (same_to to) (t.1 to).0)
 
   -- A fork above a fork
 

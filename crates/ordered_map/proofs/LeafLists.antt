@@ -17,7 +17,7 @@ use Rattle.ordered_map.proofs.Growing.{low, low_rises, pairs_low, items_rise, fr
 -- The leaves of a tree
 
 -- each is in the tree
-leaves_in : (t : Tree) → All (λ n. Has t n) (leaf_nodes t)
+pub leaves_in : (t : Tree) → All (λ n. Has t n) (leaf_nodes t)
 leaves_in (Leaf n) = All-cons (λ m. n ≡ m) n [] refl (All-nil (λ m. n ≡ m))
 leaves_in (Fork n a b) = All-append (λ m. Has (Fork n a b) m) (leaf_nodes a) (leaf_nodes b)
     (All-weaker (λ m. Has a m) (λ m. Has (Fork n a b) m) (λ m h. inr (inl h)) (leaf_nodes a) (leaves_in a))

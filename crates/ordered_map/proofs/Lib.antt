@@ -30,13 +30,19 @@ mod Taken
 mod TrieForks
 mod TrieRuns
 mod Guarded
-mod TreeRuns
+mod MapRuns
 mod Rising
+mod Children
+mod Strayed
+mod Fits
 mod EndLeaf
+mod TrieEnds
 mod Reading
 mod LeafLists
 mod Maps
 mod PartedPairs
 mod FreshForks
 mod SlotReads
+pub mod MapLemmas
+mod TreeRuns
 pub mod Lemmas

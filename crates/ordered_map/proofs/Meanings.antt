@@ -1,9 +1,10 @@
--- What a run under the shape of the tree says, whatever edits it makes: the map that the words
--- spell, what a winning update makes of it, and what walks find.
+-- What a run under the shape of a map says, in a tree or a trie, whatever edits it makes: the map that
+-- the words spell, what a winning update makes of it, and what walks find.
 use Rattle.std.proofs.Common.{◌≡◌, ◌≢◌, ℕ, ◌^◌, ◌<◌, true, false, cond, eq-eqb, ne_eqb, ◌⊎◌, inl, inr, ⊎_elim, List, [], refl, sym, ◌∙◌, ap, arith, subst}
 use native.Mathlib.Decide.{ℕ_discrete}
 use Rattle.histories.specs.Common.{Side, Left, Right, Plan, Word, Layout, Row, info, scx, child, History, Start, ◌⊳◌, value, Extends, IsMember, Tree as TreeMode, count}
 use Rattle.histories.specs.Common.{count_of, member, plan, plan_finalizes, scx_finalizes, IsNamed, IsNamedScx, Lawful, IsWin, HasWon, log, IsEntered, IsBegin, Shaped}
+use Rattle.arena.specs.Layout.{IsMap}
 use Rattle.arena.specs.declared.limits.Mode.TheVariants.{Trie as TrieMode}
 use Rattle.arena.proofs.Lemmas.{held_back, held_start, opening_info, ends_self, ends_trans, value_apart}
 use Rattle.histories.proofs.Lemmas.{Effect, Facts, IsFirst, Logs, begins_once, scx_since, logs, same, wins, UpdateWins, effect, entered_won, facts, facts_before, freeze, freeze_held, lawful_row, lawful_since, lawful_tail, named_since, quiet, shaped_begin, shaped_since, shaped_tail, start_mode, some_is_real, update, update_flagged, update_held, won_named, won_real}
@@ -13,8 +14,9 @@ use Rattle.ordered_map.proofs.Pending.{AllowsGiven}
 use Rattle.ordered_map.proofs.Trees.{same_tree}
 use Rattle.ordered_map.specs.Paths.{Passed, IsAnswerAt}
 use Rattle.ordered_map.specs.Laws.{AreEdits, SpellsLog}
-use Rattle.ordered_map.specs.Runs.{IsTreeRun, Makes, map_of_log, IsEditAt}
+use Rattle.ordered_map.specs.Runs.{IsMapRun, IsTreeRun, IsTrieRun, Makes, map_of_log, IsEditAt}
 use Rattle.ordered_map.specs.Spelled.{Spells}
+use Rattle.ordered_map.specs.TrieShape.{Stays}
 use Rattle.ordered_map.specs.TreeShape.{IsEdit, TakesLeafOut, leaf_place, edit_leaf, TreeAllows}
 use Rattle.ordered_map.specs.TreeWords.{class, is_leaf, level, toward, pairs, said}
 use Rattle.ordered_map.proofs.TreeFacts.{TreeFacts}
@@ -25,11 +27,18 @@ use Rattle.ordered_map.proofs.Stood.{was_passed}
 use Rattle.ordered_map.proofs.Growing.{spells, root_leaf, root_left}
 use Rattle.ordered_map.proofs.Runs.{HasEdits, begin_names, edit_told, has_edits, with_edit}
 
-pub edits_of : (lay : Layout) (h : History) → IsTreeRun lay h → HasEdits lay h
+-- histories of a tree and of a trie are such runs
+pub tree_run : (lay : Layout) (h : History) → IsTreeRun lay h → IsMapRun lay h
+tree_run lay h g = (tree_map lay.mode g.0, g.1)
+
+pub trie_run : (lay : Layout) (h : History) → IsTrieRun lay h → IsMapRun lay h
+trie_run lay h g = (rw g.0 refl, g.1)
+
+pub edits_of : (lay : Layout) (h : History) → IsMapRun lay h → HasEdits lay h
 edits_of lay h g = has_edits lay h g.1.lawful g.1.shaped
 
-pub grown : (lay : Layout) (h : History) (g : IsTreeRun lay h) → IsGrown (edits_of lay h g).edits lay h
-grown lay h g = record { mode = tree_map lay.mode g.0; lawful = g.1.lawful; shaped = (edits_of lay h g).shaped }
+pub grown : (lay : Layout) (h : History) (g : IsMapRun lay h) → IsGrown (edits_of lay h g).edits lay h
+grown lay h g = record { mode = g.0; lawful = g.1.lawful; shaped = (edits_of lay h g).shaped }
 
 -- One spelling
 
@@ -39,11 +48,11 @@ one_spelling lay f ps qs x y =
     sym x.pairs ∙ ap (pairs f) e ∙ y.pairs
 
 -- what words spell after a run
-pub run_spells : (lay : Layout) (h : History) → IsTreeRun lay h → (ps : List Pair) × Spells lay (value h) ps
+pub run_spells : (lay : Layout) (h : History) → IsMapRun lay h → (ps : List Pair) × Spells lay (value h) ps
 run_spells lay h g = (map_of_log (edits_of lay h g).edits (log lay h), spells (edits_of lay h g).edits lay h (grown lay h g))
 
 -- the opening words are a run, and spell the empty map
-pub opening_run : (lay : Layout) → lay.mode ≡ TreeMode → IsTreeRun lay (Start lay.mode)
+pub opening_run : (lay : Layout) → IsMap lay.mode → IsMapRun lay (Start lay.mode)
 unfolding Lawful Shaped
 opening_run lay mode = (mode, record { lawful = refl; shaped = tt })
 
@@ -51,9 +60,9 @@ opening_log : (calls : ℕ → MapEdit) (lay : Layout) → map_of_log calls (log
 unfolding log
 opening_log calls lay = refl
 
-pub opening_spells : (lay : Layout) → lay.mode ≡ TreeMode → Spells lay (value (Start lay.mode)) []
+pub opening_spells : (lay : Layout) → IsMap lay.mode → Spells lay (value (Start lay.mode)) []
 opening_spells lay mode =
-    let g : IsTreeRun lay (Start lay.mode) = opening_run lay mode in
+    let g : IsMapRun lay (Start lay.mode) = opening_run lay mode in
     subst (Spells lay (value (Start lay.mode))) (opening_log (edits_of lay (Start lay.mode) g).edits lay) (spells (edits_of lay (Start lay.mode) g).edits lay (Start lay.mode) (grown lay (Start lay.mode) g))
 
 -- What has begun
@@ -116,7 +125,7 @@ entered_more lay (r ⊳ h) m s l (inr e) x = go (logs lay h r l) (entered_more l
     go (wins u w q) y = subst (λ es. IsEntered es s) (sym q) (inr y)
 
 -- the edits of the log's entries
-pub log_edits : (lay : Layout) (h : History) → IsTreeRun lay h → (edits : ℕ → MapEdit) × AreEdits edits lay h
+pub log_edits : (lay : Layout) (h : History) → IsMapRun lay h → (edits : ℕ → MapEdit) × AreEdits edits lay h
 log_edits lay h g = (given.edits, makes)
   where
     given : HasEdits lay h
@@ -127,7 +136,7 @@ log_edits lay h g = (given.edits, makes)
         let x = entered_begun (AllowsGiven given.edits) lay h s g.1.lawful given.shaped p in
         record { row = x.row; before = x.before; within = x.within; begins = x.begins; edit = x.allowed }
 
-pub run_since : (lay : Layout) (h m : History) → IsTreeRun lay h → Extends h m → IsTreeRun lay m
+pub run_since : (lay : Layout) (h m : History) → IsMapRun lay h → Extends h m → IsMapRun lay m
 run_since lay h m g e = (g.0, record { lawful = lawful_since lay h m g.1.lawful e; shaped = shaped_since TreeAllows lay h m g.1.shaped e })
 
 -- A winning update
@@ -163,7 +172,7 @@ module _ (calls : ℕ → MapEdit) (lay : Layout) (h : History) (r : Row) (u : �
   win_given = record { makes = makes; changes = changing; replies = replying }
 
 -- other rows leave what is spelled
-pub quiet_spells : (lay : Layout) (h : History) (r : Row) (ps : List Pair) → IsTreeRun lay (r ⊳ h) → log lay (r ⊳ h) ≡ log lay h → Spells lay (value h) ps → Spells lay (value (r ⊳ h)) ps
+pub quiet_spells : (lay : Layout) (h : History) (r : Row) (ps : List Pair) → IsMapRun lay (r ⊳ h) → log lay (r ⊳ h) ≡ log lay h → Spells lay (value h) ps → Spells lay (value (r ⊳ h)) ps
 quiet_spells lay h r ps g e s =
     let calls : ℕ → MapEdit = (edits_of lay (r ⊳ h) g).edits in
     let now : IsGrown calls lay (r ⊳ h) = grown lay (r ⊳ h) g in
@@ -172,19 +181,19 @@ quiet_spells lay h r ps g e s =
 
 -- Walks
 
-pub walk_first : (lay : Layout) (h : History) (k : ℕ) → IsTreeRun lay h → Passed h h k 0
+pub walk_first : (lay : Layout) (h : History) (k : ℕ) → IsMapRun lay h → Passed h h k 0
 walk_first lay h k g = walk_begins (edits_of lay h g).edits lay h k (grown lay h g)
 
-pub walk_next : (lay : Layout) (h start : History) (k n : ℕ) → IsTreeRun lay h → Passed h start k n → is_leaf (value h) n ≡ false → Passed h start k (value h (child n (toward (value h) n k)))
-walk_next lay h start k n g p d = walk_goes_on (edits_of lay h g).edits lay h start k n (grown lay h g) p (inl g.0) d
+pub walk_next : (lay : Layout) (h start : History) (k n : ℕ) → IsMapRun lay h → Passed h start k n → Stays lay (value h) k n → is_leaf (value h) n ≡ false → Passed h start k (value h (child n (toward (value h) n k)))
+walk_next lay h start k n g p stay d = walk_goes_on (edits_of lay h g).edits lay h start k n (grown lay h g) p stay d
 
-pub walk_rises : (lay : Layout) (h start : History) (k n : ℕ) (side : Side) → IsTreeRun lay h → Passed h start k n → is_leaf (value h) n ≡ false → level (value h) n < level (value h) (value h (child n side))
+pub walk_rises : (lay : Layout) (h start : History) (k n : ℕ) (side : Side) → IsMapRun lay h → Passed h start k n → is_leaf (value h) n ≡ false → level (value h) n < level (value h) (value h (child n side))
 walk_rises lay h start k n side g p d = grown_rises (edits_of lay h g).edits lay h n side (grown lay h g) (was_passed h start k n p) d
 
-pub walk_named : (lay : Layout) (h start : History) (k n : ℕ) → IsTreeRun lay h → Passed h start k n → IsNamed lay h n
-walk_named lay h start k n g p = named_since lay h p.0 n g.1.lawful p.1 (path_named lay p.0 k n (tree_map lay.mode g.0) p.3)
+pub walk_named : (lay : Layout) (h start : History) (k n : ℕ) → IsMapRun lay h → Passed h start k n → IsNamed lay h n
+walk_named lay h start k n g p = named_since lay h p.0 n g.1.lawful p.1 (path_named lay p.0 k n g.0 p.3)
 
-pub walk_answers : (lay : Layout) (h start : History) (k n : ℕ) → k < 2 ^ 64 → IsTreeRun lay h → Passed h start k n → is_leaf (value h) n ≡ true → IsAnswerAt lay h start k (said (value h) k n)
+pub walk_answers : (lay : Layout) (h start : History) (k n : ℕ) → k < 2 ^ 64 → IsMapRun lay h → Passed h start k n → is_leaf (value h) n ≡ true → IsAnswerAt lay h start k (said (value h) k n)
 walk_answers lay h start k n small g p d =
     let calls : ℕ → MapEdit = (edits_of lay h g).edits in
     let x : Answered calls lay h start k (said (value h) k n) = walk_ends calls lay h start k n small (grown lay h g) p d in
@@ -203,7 +212,7 @@ pub wins_of : (lay : Layout) (before : History) (row : Row) (s : ℕ) → Lawful
 wins_of lay before row s l w = record { kind = w.kind; update = w.update; before = (lawful_row lay before row l).before; found = w.found; stored = w.update.exchange.won w.found }
 
 -- whatever edit it is said to make, it leaves the map that this edit leaves
-pub update_makes : (lay : Layout) (h before : History) (row : Row) (s : ℕ) (e : MapEdit) → IsTreeRun lay h → Extends h (row ⊳ before) → UpdateWins before row s → Makes lay h s e → IsEditAt lay before row s e
+pub update_makes : (lay : Layout) (h before : History) (row : Row) (s : ℕ) (e : MapEdit) → IsMapRun lay h → Extends h (row ⊳ before) → UpdateWins before row s → Makes lay h s e → IsEditAt lay before row s e
 update_makes lay h before row s e g w won x = subst (IsEditAt lay before row s) (ap (λ b. cond b e (given s)) (eq-eqb s s refl)) (win_given calls lay before row s (grown_since calls lay h (row ⊳ before) w whole) won)
   where
     given : ℕ → MapEdit
@@ -213,17 +222,17 @@ update_makes lay h before row s e g w won x = subst (IsEditAt lay before row s) 
     calls = with_edit s e given
 
     whole : IsGrown calls lay h
-    whole = record { mode = tree_map lay.mode g.0; lawful = g.1.lawful; shaped = edit_told lay h s e given g.1.lawful x (edits_of lay h g).shaped }
+    whole = record { mode = g.0; lawful = g.1.lawful; shaped = edit_told lay h s e given g.1.lawful x (edits_of lay h g).shaped }
 
-pub win_makes : (lay : Layout) (h before : History) (row : Row) (s : ℕ) (e : MapEdit) → IsTreeRun lay h → Extends h (row ⊳ before) → IsWin before row s → Makes lay h s e → IsEditAt lay before row s e
+pub win_makes : (lay : Layout) (h before : History) (row : Row) (s : ℕ) (e : MapEdit) → IsMapRun lay h → Extends h (row ⊳ before) → IsWin before row s → Makes lay h s e → IsEditAt lay before row s e
 win_makes lay h before row s e g w won x = update_makes lay h before row s e g w (wins_of lay before row s (lawful_since lay h (row ⊳ before) g.1.lawful w) won) x
 
 -- The map of the log
 
-spells_row : (lay : Layout) (h m : History) (r : Row) (edits : ℕ → MapEdit) → IsTreeRun lay h → AreEdits edits lay h → Extends h (r ⊳ m) → Spells lay (value m) (map_of_log edits (log lay m)) → Spells lay (value (r ⊳ m)) (map_of_log edits (log lay (r ⊳ m)))
+spells_row : (lay : Layout) (h m : History) (r : Row) (edits : ℕ → MapEdit) → IsMapRun lay h → AreEdits edits lay h → Extends h (r ⊳ m) → Spells lay (value m) (map_of_log edits (log lay m)) → Spells lay (value (r ⊳ m)) (map_of_log edits (log lay (r ⊳ m)))
 spells_row lay h m r edits g a e then = go (logs lay m r run.1.lawful)
   where
-    run : IsTreeRun lay (r ⊳ m)
+    run : IsMapRun lay (r ⊳ m)
     run = run_since lay h (r ⊳ m) g e
 
     go : Logs lay m r → Spells lay (value (r ⊳ m)) (map_of_log edits (log lay (r ⊳ m)))
@@ -234,14 +243,14 @@ spells_row lay h m r edits g a e then = go (logs lay m r run.1.lawful)
         subst (Spells lay (value (r ⊳ m))) (sym (ap (map_of_log edits) q)) (made.changes _ then)
 
 -- after each row the words spell the map of the log so far
-pub spells_log : (lay : Layout) (h : History) (edits : ℕ → MapEdit) → IsTreeRun lay h → AreEdits edits lay h → SpellsLog edits lay h
+pub spells_log : (lay : Layout) (h : History) (edits : ℕ → MapEdit) → IsMapRun lay h → AreEdits edits lay h → SpellsLog edits lay h
 spells_log lay h edits g a (Start mode) e =
     let same : mode ≡ lay.mode = start_mode lay mode (run_since lay h (Start mode) g e).1.lawful in
     subst (λ m. Spells lay (value (Start m)) (map_of_log edits (log lay (Start m)))) (sym same) (subst (Spells lay (value (Start lay.mode))) (sym (opening_log edits lay)) (opening_spells lay g.0))
 spells_log lay h edits g a (r ⊳ m) e = spells_row lay h m r edits g a e (spells_log lay h edits g a m (ends_trans h (r ⊳ m) m e (inr (ends_self m))))
 
 -- a leaf below the root is above all keys
-pub below_root : (lay : Layout) (h : History) (k : ℕ) → IsTreeRun lay h → k < 2 ^ 64 → is_leaf (value h) (value h (child 0 (toward (value h) 0 k))) ≡ true → class (value h) (value h (child 0 (toward (value h) 0 k))) ≡ 0 → ⊥
+pub below_root : (lay : Layout) (h : History) (k : ℕ) → IsMapRun lay h → k < 2 ^ 64 → is_leaf (value h) (value h (child 0 (toward (value h) 0 k))) ≡ true → class (value h) (value h (child 0 (toward (value h) 0 k))) ≡ 0 → ⊥
 below_root lay h k g small leaf low =
     let e : toward (value h) 0 k ≡ Left = root_left (edits_of lay h g).edits lay h k (grown lay h g) small in
     root_leaf (edits_of lay h g).edits lay h (grown lay h g) (subst (λ s. is_leaf (value h) (value h (child 0 s)) ≡ true) e leaf) (subst (λ s. class (value h) (value h (child 0 s)) ≡ 0) e low)

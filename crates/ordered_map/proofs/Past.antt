@@ -1,5 +1,5 @@
 -- A walk by child loads visits only nodes that were on the search path at a moment since its start.
-use Rattle.std.proofs.Common.{◌≡◌, ◌≢◌, ℕ, ◌<◌, ◌≤◌, ◌*◌, ◌/◌, ◌%◌, ◌^◌, true, false, eqb, ltb, ◌⊎◌, inl, inr, ⊎_elim, refl, sym, ◌∙◌, ap, arith, subst, cond, Option}
+use Rattle.std.proofs.Common.{◌≡◌, ◌≢◌, ℕ, ◌<◌, ◌/◌, ◌%◌, ◌^◌, true, false, eqb, ltb, ◌⊎◌, inl, inr, ⊎_elim, refl, sym, ◌∙◌, ap, arith, subst, cond, Option}
 use native.Mathlib.Decide.{ℕ_discrete}
 use Rattle.histories.specs.Common.{Tree as TreeMode, Side, Left, Right, Settled, Child, Head, Word, Layout, Row, node, marked, child}
 use Rattle.histories.specs.Common.{History, Start, ◌⊳◌, value, Extends, field_index, member, plan, side_of, IsNamed, Lawful, log}
@@ -59,9 +59,22 @@ same_refl f n a i = refl
 same_trans : (f g e : Word → ℕ) (n : ℕ) → Same f g n → Same g e n → Same f e n
 same_trans f g e n p q a i = q a i ∙ p a i
 
+-- it is this one
+pub latest_now : (h m : History) (k n : ℕ) → Extends h m → IsOnPath h k n → Latest h m k n
+latest_now h m k n e p = record { moment = h; within = ends_self h; since = e; on_path = p; same = same_refl (value h) n }
+
+-- a row after which the node is marked keeps it
+pub latest_more : (calls : ℕ → MapEdit) (lay : Layout) (h m : History) (r : Row) (k n : ℕ) → IsGrown calls lay (r ⊳ h) → IsNamed lay h n → value (r ⊳ h) (marked n) ≢ 0 → Latest h m k n → Latest (r ⊳ h) m k n
+latest_more calls lay h m r k n g named d x = record { moment = x.moment; within = inr x.within; since = x.since; on_path = x.on_path; same = same_trans (value x.moment) (value h) (value (r ⊳ h)) n x.same row_same }
+  where
+    row_same : Same (value h) (value (r ⊳ h)) n
+    row_same (Settled p) i = node_stays lay h r n (Settled p) g.lawful tt named
+    row_same (Child side) i = marked_keeps calls lay h r n g named d side
+    row_same _ i = absurd i
+
 pub latest : (calls : ℕ → MapEdit) (lay : Layout) (h m : History) (k n : ℕ) → IsGrown calls lay h → Extends h m → IsOnPath m k n → Stays lay (value h) k n → Latest h m k n
-latest calls lay (Start mode) m k n g e p stay = record { moment = Start mode; within = refl; since = rw e refl; on_path = rw e at p; same = same_refl (value (Start mode)) n }
-latest calls lay (r ⊳ h) m k n g (inl e) p stay = record { moment = r ⊳ h; within = inl refl; since = rw e (inl refl); on_path = rw e at p; same = same_refl (value (r ⊳ h)) n }
+latest calls lay (Start mode) m k n g e p stay = latest_now (Start mode) m k n e (rw e at p)
+latest calls lay (r ⊳ h) m k n g (inl e) p stay = latest_now (r ⊳ h) m k n (inl e) (rw e at p)
 latest calls lay (r ⊳ h) m k n g (inr e) p stay =
     go (latest calls lay h m k n (grown_tail calls lay h r g) e p (same_stays (value (r ⊳ h)) (value h) lay k n (λ a i. sym (node_stays lay h r n a g.lawful i named)) stay))
     (t.path m k n (inr e) p stay)
@@ -72,14 +85,9 @@ latest calls lay (r ⊳ h) m k n g (inr e) p stay =
     named : IsNamed lay h n
     named = named_since lay h m n (lawful_tail lay h r g.lawful) e (path_named lay m k n g.mode p)
 
-    row_same : value (r ⊳ h) (marked n) ≢ 0 → Same (value h) (value (r ⊳ h)) n
-    row_same d (Settled p) i = node_stays lay h r n (Settled p) g.lawful tt named
-    row_same d (Child side) i = marked_keeps calls lay h r n g named d side
-    row_same d _ i = absurd i
-
     go : Latest h m k n → Passes (value (r ⊳ h)) k t.tree n ⊎ (value (r ⊳ h) (marked n) ≢ 0) → Latest (r ⊳ h) m k n
-    go x (inl q) = record { moment = r ⊳ h; within = inl refl; since = inr e; on_path = record { tree = t.tree; is_tree = t.is_tree; passes = q }; same = same_refl (value (r ⊳ h)) n }
-    go x (inr d) = record { moment = x.moment; within = inr x.within; since = x.since; on_path = x.on_path; same = same_trans (value x.moment) (value h) (value (r ⊳ h)) n x.same (row_same d) }
+    go x (inl q) = latest_now (r ⊳ h) m k n (inr e) record { tree = t.tree; is_tree = t.is_tree; passes = q }
+    go x (inr d) = latest_more calls lay h m r k n g named d x
 
 -- At the start of a walk: node 0.
 pub walk_begins : (calls : ℕ → MapEdit) (lay : Layout) (h : History) (k : ℕ) → IsGrown calls lay h → Passed h h k 0
@@ -91,17 +99,24 @@ walk_begins calls lay h k g =
 pub walk_stays : (r : Row) (h start : History) (k n : ℕ) → Passed h start k n → Passed (r ⊳ h) start k n
 walk_stays r h start k n p = (p.0, inr p.1, p.2, p.3)
 
--- One more child load, of a node that stays on the path.
+-- What is on the path now goes on by what its field names now.
+pub path_next : (h : History) (k n : ℕ) → IsOnPath h k n → is_leaf (value h) n ≡ false → IsOnPath h k (value h (child n (toward (value h) n k)))
+path_next h k n p fork = record { tree = p.tree; is_tree = p.is_tree; passes = path_child (value h) k p.tree _ _ n p.is_tree.shows p.passes fork }
+
+-- One more child load, of a node whose fields are as at a moment when it was on the path: so is what is
+-- found there.
+pub latest_goes_on : (h m start : History) (k n : ℕ) → Latest h m k n → Extends m start → is_leaf (value h) n ≡ false → Passed h start k (value h (child n (toward (value h) n k)))
+latest_goes_on h m start k n x since fork =
+    let then : History = x.moment in
+    let head : value h (node n (Settled Head)) ≡ value then (node n (Settled Head)) = x.same (Settled Head) tt in
+    let side : toward (value h) n k ≡ toward (value then) n k = ap (λ v. cond (ltb k v) Left Right) (same_rank (value then) (value h) n x.same) in
+    let c : value h (child n (toward (value h) n k)) ≡ value then (child n (toward (value then) n k)) = ap (λ s. value h (child n s)) side ∙ x.same (Child (toward (value then) n k)) tt in
+    let q : IsOnPath then k (value then (child n (toward (value then) n k))) = path_next then k n x.on_path (ap (λ v. eqb (v / 4 % 2) 1) (sym head) ∙ fork) in
+    (then, x.within, ends_trans then m start x.since since, subst (IsOnPath then k) (sym c) q)
+
+-- A node that stays on the path is such a node.
 pub walk_goes_on : (calls : ℕ → MapEdit) (lay : Layout) (h start : History) (k n : ℕ) → IsGrown calls lay h → Passed h start k n → Stays lay (value h) k n → is_leaf (value h) n ≡ false → Passed h start k (value h (child n (toward (value h) n k)))
-walk_goes_on calls lay h start k n g p stay fork =
-    let x : Latest h p.0 k n = latest calls lay h p.0 k n g p.1 p.3 stay in
-    let m : History = x.moment in
-    let head : value h (node n (Settled Head)) ≡ value m (node n (Settled Head)) = x.same (Settled Head) tt in
-    let r : rank (value h) n ≡ rank (value m) n = same_rank (value m) (value h) n x.same in
-    let side : toward (value h) n k ≡ toward (value m) n k = ap (λ v. cond (ltb k v) Left Right) r in
-    let c : value h (child n (toward (value h) n k)) ≡ value m (child n (toward (value m) n k)) = ap (λ s. value h (child n s)) side ∙ x.same (Child (toward (value m) n k)) tt in
-    let q : Passes (value m) k x.on_path.tree (value m (child n (toward (value m) n k))) = path_child (value m) k x.on_path.tree _ _ n x.on_path.is_tree.shows x.on_path.passes (ap (λ v. eqb (v / 4 % 2) 1) (sym head) ∙ fork) in
-    (m, x.within, ends_trans m p.0 start x.since p.2, record { tree = x.on_path.tree; is_tree = x.on_path.is_tree; passes = rw c q })
+walk_goes_on calls lay h start k n g p stay fork = latest_goes_on h p.0 start k n (latest calls lay h p.0 k n g p.1 p.3 stay) p.2 fork
 
 -- The map at a moment since the start gives what the leaf says now.
 pub record Answered (calls : ℕ → MapEdit) (lay : Layout) (h start : History) (k : ℕ) (answer : Option ℕ) : Type 0 where

@@ -1,6 +1,6 @@
 -- A node that was on a search path, and is not final, still is on it; so what was in the tree, and
 -- is not final, still is there.
-use Rattle.std.proofs.Common.{◌≡◌, ℕ, ◌<◌, ◌≤◌, ◌*◌, ◌^◌, true, false, Bool, ◌⊎◌, inl, inr, ⊎_elim, refl, sym, ◌∙◌, subst}
+use Rattle.std.proofs.Common.{◌≡◌, ℕ, ◌<◌, true, false, Bool, ◌⊎◌, inl, inr, ⊎_elim, refl, sym, ◌∙◌, subst}
 use Rattle.histories.specs.Common.{Layout, Row, Child, History, Start, ◌⊳◌, value, Extends, plan_finalizes, member, log, is_final, Descriptor, count_in, IsRemoved, Tree as TreeMode, IsNamed}
 use Rattle.histories.proofs.Lemmas.{Effect, UpdateWins, by_final, descriptor_stays, effect, final_by, finalized_by_stays, freeze, freeze_keeps_field, lawful_tail, named_since, node_stays, quiet, removed_stays, some_is_real, update, update_flagged, update_won}
 use Rattle.ordered_map.specs.OrderedMap.{MapEdit}

@@ -10,13 +10,13 @@ use Rattle.histories.proofs.Lemmas.{Change, UpdateWins, aborts, change, commits,
 use Rattle.ordered_map.specs.TreeShape.{TreeAllows}
 use Rattle.ordered_map.specs.TreeWords.{Tree, Leaf, Fork, root, Has, is_leaf}
 use Rattle.ordered_map.specs.Paths.{WasInTree}
-use Rattle.ordered_map.specs.Runs.{IsTreeRun}
+use Rattle.ordered_map.specs.Runs.{IsMapRun}
 use Rattle.ordered_map.specs.Spelled.{Spells}
 use Rattle.ordered_map.specs.FillOrder.{HasStoodInField, HasRisingLevels, AreFilledInOrder}
 use Rattle.ordered_map.proofs.Meanings.{run_since, run_spells}
-use Rattle.ordered_map.proofs.Grown.{start_is, start_same, tree_map}
+use Rattle.ordered_map.proofs.Grown.{start_is, start_same}
 use Rattle.ordered_map.proofs.Stood.{was_more, was_now}
-use Rattle.ordered_map.proofs.TreeRuns.{child_stood, levels_rise, new_stood}
+use Rattle.ordered_map.proofs.MapRuns.{child_stood, levels_rise, new_stood}
 
 -- Heads
 
@@ -83,7 +83,7 @@ field_small : (n : ℕ) (side : Side) → tree_opening (child n side) < 3
 field_small n Left = small_if (eqb n 0) 1 (omega arith)
 field_small n Right = small_if (eqb n 0) 2 (omega arith)
 
-root_stood : (lay : Layout) (h : History) → IsTreeRun lay h → WasInTree h 0
+root_stood : (lay : Layout) (h : History) → IsMapRun lay h → WasInTree h 0
 root_stood lay h g = was_now h spelled.tree 0 spelled.is_tree (subst (λ k. Has spelled.tree k) spelled.is_tree.is (root_has spelled.tree))
   where
     spelled : Spells lay (value h) (run_spells lay h g).0
@@ -101,7 +101,7 @@ opening_leaf (suc zero) i j = refl
 opening_leaf (suc (suc zero)) i j = refl
 opening_leaf (suc (suc (suc n))) i j = absurd (omega (j, arith))
 
-opening_stood : (lay : Layout) (mode : Mode) (n : ℕ) → IsMap mode → IsTreeRun lay (Start mode) → n < 3 → StoodOrLeaf (Start mode) n
+opening_stood : (lay : Layout) (mode : Mode) (n : ℕ) → IsMap mode → IsMapRun lay (Start mode) → n < 3 → StoodOrLeaf (Start mode) n
 opening_stood lay mode zero is g i = inl (root_stood lay (Start mode) g)
 opening_stood lay mode (suc n) is g i = inr (subst (λ f. is_leaf f (suc n) ≡ true) (start_same mode is) (opening_leaf (suc n) (omega arith) i))
 
@@ -114,7 +114,7 @@ stood_more h r n same (inr e) = inr (ap (λ v. eqb (v / 4 % 2) 1) same ∙ e)
 stood_filled : (lay : Layout) (h : History) (r : Row) (n : ℕ) → Lawful lay (r ⊳ h) → (r.kind ≡ Fill → r.word ≡ node n (Settled Head) → (eqb (r.after / 4 % 2) 1 ≡ true) ⊎ (¬ HasStoodInField h n)) → HasStoodInField h n → StoodOrLeaf h n → StoodOrLeaf (r ⊳ h) n
 stood_filled lay h r n l order named x = ⊎_elim (λ e. stood_more h r n e x) (λ y. ⊎_elim (λ leaf. inr (ap (λ v. eqb (v / 4 % 2) 1) (value_at r h (node n (Settled Head)) y.1) ∙ leaf)) (λ none. absurd (none named)) (order y.0 y.1)) (head_came lay h r n l)
 
-came_stood : (lay : Layout) (h : History) (r : Row) (m : ℕ) (side : Side) (n : ℕ) → IsTreeRun lay (r ⊳ h) → AreFilledInOrder (r ⊳ h) → value (r ⊳ h) (child m side) ≡ n → (HasStoodInField h n → StoodOrLeaf h n) → HasStoodInField h n ⊎ StoodOrLeaf (r ⊳ h) n
+came_stood : (lay : Layout) (h : History) (r : Row) (m : ℕ) (side : Side) (n : ℕ) → IsMapRun lay (r ⊳ h) → AreFilledInOrder (r ⊳ h) → value (r ⊳ h) (child m side) ≡ n → (HasStoodInField h n → StoodOrLeaf h n) → HasStoodInField h n ⊎ StoodOrLeaf (r ⊳ h) n
 came_stood lay h r m side n g order q before = go (field_came lay h r m side n g.1.lawful q)
   where
     go : HasHeld h (child m side) n ⊎ (((r.kind ≡ Fill) × (r.word ≡ child m side) × (r.after ≡ n)) ⊎ ((u : ℕ) × UpdateWins h r u × (new h u ≡ n))) → HasStoodInField h n ⊎ StoodOrLeaf (r ⊳ h) n
@@ -122,7 +122,7 @@ came_stood lay h r m side n g order q before = go (field_came lay h r m side n g
     go (inr (inl x)) = inr (stood_more h r n (value_apart r h (child m side) (node n (Settled Head)) x.1 (node_word_apart m n (Child side) (Settled Head) refl)) (subst (StoodOrLeaf h) x.2 (order.1.field m side x.0 x.1)))
     go (inr (inr x)) = inr (inl (subst (WasInTree (r ⊳ h)) x.2 (new_stood lay h r x.0 g x.1)))
 
-row_stood : (lay : Layout) (h : History) (r : Row) (n : ℕ) → IsTreeRun lay (r ⊳ h) → AreFilledInOrder (r ⊳ h) → (HasStoodInField h n → StoodOrLeaf h n) → HasStoodInField (r ⊳ h) n → StoodOrLeaf (r ⊳ h) n
+row_stood : (lay : Layout) (h : History) (r : Row) (n : ℕ) → IsMapRun lay (r ⊳ h) → AreFilledInOrder (r ⊳ h) → (HasStoodInField h n → StoodOrLeaf h n) → HasStoodInField (r ⊳ h) n → StoodOrLeaf (r ⊳ h) n
 row_stood lay h r n g order before x = ⊎_elim (λ i. old (inl i)) (λ y. held y.0 y.1 (held_split r h (child y.0 y.1) n y.2)) x
   where
     old : HasStoodInField h n → StoodOrLeaf (r ⊳ h) n
@@ -132,19 +132,19 @@ row_stood lay h r n g order before x = ⊎_elim (λ i. old (inl i)) (λ y. held 
     held m side (inl q) = ⊎_elim old (λ y. y) (came_stood lay h r m side n g order q before)
     held m side (inr y) = old (inr (m, side, y))
 
-stood : (lay : Layout) (h : History) (n : ℕ) → IsTreeRun lay h → AreFilledInOrder h → HasStoodInField h n → StoodOrLeaf h n
+stood : (lay : Layout) (h : History) (n : ℕ) → IsMapRun lay h → AreFilledInOrder h → HasStoodInField h n → StoodOrLeaf h n
 stood lay (Start mode) n g order x = opening_stood lay mode n is g (⊎_elim (λ i. i) small x)
   where
     is : IsMap mode
-    is = start_is lay mode g.1.lawful (tree_map lay.mode g.0)
+    is = start_is lay mode g.1.lawful g.0
 
     small : ((m : ℕ) × (from : Side) × HasHeld (Start mode) (child m from) n) → n < 3
     small y = subst (λ k. k < 3) (sym (ap (λ f. f (child y.0 y.1)) (map_opens mode is)) ∙ held_start mode (child y.0 y.1) n y.2) (field_small y.0 y.1)
 stood lay (r ⊳ h) n g order x = row_stood lay h r n g order (stood lay h n (g.0, record { lawful = lawful_tail lay h r g.1.lawful; shaped = shaped_tail TreeAllows lay h r g.1.shaped }) order.0) x
 
--- Where the steps are a run of the tree whose nodes were filled in order, levels rise from each
+-- Where the steps are a run of a map whose nodes were filled in order, levels rise from each
 -- fork that a field has ever named.
-pub rising_levels : (lay : Layout) (h : History) → IsTreeRun lay h → AreFilledInOrder h → HasRisingLevels h
+pub rising_levels : (lay : Layout) (h : History) → IsMapRun lay h → AreFilledInOrder h → HasRisingLevels h
 rising_levels lay h g order n side named fork = ⊎_elim (λ x. levels_rise lay h n side g x fork) (λ e. let y : true ≡ false = sym e ∙ fork in absurd (cc)) (stood lay h n g order named)
 
 -- nodes were filled in order up to each moment before
@@ -154,5 +154,5 @@ filled_since (r ⊳ h) m (inl e) x = subst AreFilledInOrder (sym e) x
 filled_since (r ⊳ h) m (inr e) x = filled_since h m e x.0
 
 -- What such a fork has held in a field while it was not final has been in the tree.
-pub held_stood : (lay : Layout) (h m : History) (n : ℕ) (side : Side) → IsTreeRun lay h → AreFilledInOrder h → Extends h m → HasStoodInField m n → is_final (log lay m) n ≡ false → is_leaf (value m) n ≡ false → WasInTree h (value m (child n side))
+pub held_stood : (lay : Layout) (h m : History) (n : ℕ) (side : Side) → IsMapRun lay h → AreFilledInOrder h → Extends h m → HasStoodInField m n → is_final (log lay m) n ≡ false → is_leaf (value m) n ≡ false → WasInTree h (value m (child n side))
 held_stood lay h m n side g order e named not_final fork = ⊎_elim (λ x. child_stood lay h m n side g e x not_final fork) (λ leaf. let y : true ≡ false = sym leaf ∙ fork in absurd (cc)) (stood lay m n (run_since lay h m g e) (filled_since h m e order) named)

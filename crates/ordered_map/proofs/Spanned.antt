@@ -1,7 +1,6 @@
 -- Where the nodes of a tree are; and the spans of the forks of a trie: below a fork of class 0 all
 -- items are in its span, and each key that a fork there shares.
-use Rattle.std.proofs.Common.{◌≡◌, ℕ, ◌+◌, ◌-◌, ◌*◌, ◌/◌, ◌%◌, ◌^◌, ◌<◌, ◌≤◌, true, false, inl, inr, List, [], ◌∷◌, ◌++◌, refl, sym, ◌∙◌, ap, arith, eqb, eq-eqb, le-ltb, lt-ltb, subst, pow_pos}
-use native.Mathlib.Decide.{ℕ_discrete}
+use Rattle.std.proofs.Common.{◌≡◌, ℕ, ◌+◌, ◌-◌, ◌/◌, ◌%◌, ◌^◌, ◌<◌, ◌≤◌, true, false, inl, inr, List, [], ◌∷◌, ◌++◌, refl, sym, ◌∙◌, ap, arith, eqb, eq-eqb, le-ltb, lt-ltb, subst, pow_pos}
 use Rattle.histories.specs.Common.{Layout, Side, Left, Right, Settled, Head, Word, node, child, first_key}
 use Rattle.ordered_map.specs.declared.pair.Pair.{Pair}
 use Rattle.ordered_map.specs.OrderedMap.{AllBelow, AllFrom, get}
@@ -54,7 +53,7 @@ from_right k xs ys a = go xs a
     go [] a = a
     go (x ∷ xs) a = go xs a.1
 
-from_join : (k : ℕ) (xs ys : List Pair) → AllFrom k xs → AllFrom k ys → AllFrom k (xs ++ ys)
+pub from_join : (k : ℕ) (xs ys : List Pair) → AllFrom k xs → AllFrom k ys → AllFrom k (xs ++ ys)
 from_join k [] ys a b = b
 from_join k (x ∷ xs) ys a b = (a.0, from_join k xs ys a.1 b)
 
@@ -105,7 +104,7 @@ module _ (f : Word → ℕ) where
   low_of n small = omega (arith, small)
 
   -- the last leaf on the left is of class 0 too
-  last_left : (n lo hi : ℕ) (a b : Tree) → Shows f lo hi (Fork n a b) → class f (last_leaf b) ≡ 0 → class f (last_leaf a) ≡ 0
+  pub last_left : (n lo hi : ℕ) (a b : Tree) → Shows f lo hi (Fork n a b) → class f (last_leaf b) ≡ 0 → class f (last_leaf a) ≡ 0
   last_left n lo hi a b s low = low_of (last_leaf a) (node_low f (Fork n a b) lo hi (last_leaf a) s low (inr (inl (has_last a))))
 
   abbrev pub AreForks : Tree → Type 0

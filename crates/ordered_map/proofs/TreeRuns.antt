@@ -1,133 +1,147 @@
--- What a history of the tree keeps, whatever edits it makes: levels, how deep it is, what is blank,
--- and which nodes are final.
-use Rattle.std.proofs.Common.{◌≡◌, ◌≢◌, ◌⊎◌, inl, inr, ⊎_elim, ◌+◌, ◌<◌, ◌≤◌, Bool, true, false, ℕ, length, refl, ◌∙◌, arith}
-use Rattle.histories.specs.Common.{Layout, Side, Left, Right, Settled, Head, node, child, marked, Row, new, History, ◌⊳◌, value, Extends, log, is_final, IsInField, taken_nodes}
-use Rattle.histories.proofs.Lemmas.{Facts, UpdateWins, facts_before, node_since, not_final}
-use Rattle.ordered_map.specs.OrderedMap.{MapEdit}
-use Rattle.ordered_map.specs.TreeWords.{Tree, Has, is_leaf, level, IsBlankAboveKeys, root}
-use Rattle.arena.proofs.Lemmas.{held_at, held_since}
+-- What a history of a tree keeps, for the layers that speak of trees alone. It is what one of a map
+-- keeps, where every node stays on a path until it is final.
+use Rattle.std.proofs.Common.{◌≡◌, ◌≢◌, ℕ, ◌+◌, ◌^◌, ◌<◌, ◌≤◌, true, false, inl, List, [], length, subst}
+use Rattle.histories.specs.Common.{Layout, Tree as TreeMode, Side, Left, Right, Settled, Head, Row, node, child, marked, new, History, Start, ◌⊳◌, value, Extends, IsNamed, IsInField, IsWin, log, is_final, taken_nodes}
+use Rattle.histories.proofs.Lemmas.{UpdateWins}
+use Rattle.ordered_map.specs.declared.pair.Pair.{Pair}
+use Rattle.ordered_map.specs.OrderedMap.{MapEdit, AllBelow, IsRising, end_pair}
+use Rattle.ordered_map.specs.Holding.{held_pairs, IsWellCounted}
+use Rattle.ordered_map.specs.TreeWords.{Tree, Has, class, is_leaf, level, rank, toward, said, end_said, IsBlankAboveKeys}
 use Rattle.ordered_map.specs.Spelled.{IsTree, Spells}
-use Rattle.ordered_map.specs.Paths.{IsOnPath, Passed, WasInTree, WasOnPath}
-use Rattle.ordered_map.specs.Runs.{IsTreeRun}
-use Rattle.ordered_map.proofs.Past.{grown_rises}
-use Rattle.ordered_map.proofs.Removed.{grown_not_final}
-use Rattle.ordered_map.proofs.Blanks.{grown_blank}
-use Rattle.ordered_map.proofs.Remaining.{grown_on_path, grown_remains}
-use Rattle.ordered_map.proofs.Growing.{grown_root}
-use Rattle.ordered_map.proofs.Stood.{was_now, was_passed, was_named}
-use Rattle.ordered_map.proofs.TreeFacts.{TreeFacts}
-use Rattle.ordered_map.proofs.Edited.{result, tree_now, new_in}
-use Rattle.arena.specs.Layout.{IsMap}
-use Rattle.ordered_map.proofs.Grown.{tree_facts, tree_map, grown_tail}
-use Rattle.ordered_map.proofs.Trees.{passes_has, IsBelowFork, has_above, fields_apart, path_level}
+use Rattle.ordered_map.specs.Paths.{IsOnPath, Passed, WasInTree, WasOnPath, IsAnswerAt, IsEndAt, depth, end_key, end_turn}
+use Rattle.ordered_map.specs.FillOrder.{HasStoodInField, HasRisingLevels, AreFilledInOrder}
+use Rattle.ordered_map.specs.Laws.{AreEdits, SpellsLog}
+use Rattle.ordered_map.specs.Runs.{IsTreeRun, Makes, IsEditAt}
+use Rattle.ordered_map.specs.TreeShape.{edit_leaf}
 use Rattle.ordered_map.proofs.Holding.{SameSettled}
-use Rattle.ordered_map.proofs.Taken.{grown_log, grown_depth}
-use Rattle.ordered_map.proofs.Meanings.{edits_of, grown, run_since, run_spells}
+use Rattle.ordered_map.proofs.Children.{IsBeside}
+use Rattle.ordered_map.proofs.EndLeaf.{IsUpTo}
+use Rattle.ordered_map.proofs.Grown.{tree_map}
+use Rattle.ordered_map.proofs.Meanings.{tree_run}
+use Rattle.ordered_map.proofs.MapLemmas as maps
 
--- a node of the tree is not final
+pub opening_run : (lay : Layout) → lay.mode ≡ TreeMode → IsTreeRun lay (Start lay.mode)
+opening_run lay tree = (tree, (maps.opening_run lay (tree_map lay.mode tree)).1)
+
+pub opening_spells : (lay : Layout) → lay.mode ≡ TreeMode → Spells lay (value (Start lay.mode)) []
+opening_spells lay tree = maps.opening_spells lay (tree_map lay.mode tree)
+
+pub run_since : (lay : Layout) (h m : History) → IsTreeRun lay h → Extends h m → IsTreeRun lay m
+run_since lay h m g x = (g.0, (maps.run_since lay h m (tree_run lay h g) x).1)
+
+pub log_edits : (lay : Layout) (h : History) → IsTreeRun lay h → (edits : ℕ → MapEdit) × AreEdits edits lay h
+log_edits lay h g = maps.log_edits lay h (tree_run lay h g)
+
+pub spells_log : (lay : Layout) (h : History) (edits : ℕ → MapEdit) → IsTreeRun lay h → AreEdits edits lay h → SpellsLog edits lay h
+spells_log lay h edits g = maps.spells_log lay h edits (tree_run lay h g)
+
+pub run_spells : (lay : Layout) (h : History) → IsTreeRun lay h → (ps : List Pair) × Spells lay (value h) ps
+run_spells lay h g = maps.run_spells lay h (tree_run lay h g)
+
+pub update_makes : (lay : Layout) (h before : History) (row : Row) (s : ℕ) (e : MapEdit) → IsTreeRun lay h → Extends h (row ⊳ before) → UpdateWins before row s → Makes lay h s e → IsEditAt lay before row s e
+update_makes lay h before row s e g = maps.update_makes lay h before row s e (tree_run lay h g)
+
+pub win_makes : (lay : Layout) (h before : History) (row : Row) (s : ℕ) (e : MapEdit) → IsTreeRun lay h → Extends h (row ⊳ before) → IsWin before row s → Makes lay h s e → IsEditAt lay before row s e
+win_makes lay h before row s e g = maps.win_makes lay h before row s e (tree_run lay h g)
+
+pub quiet_spells : (lay : Layout) (h : History) (r : Row) (ps : List Pair) → IsTreeRun lay (r ⊳ h) → log lay (r ⊳ h) ≡ log lay h → Spells lay (value h) ps → Spells lay (value (r ⊳ h)) ps
+quiet_spells lay h r ps g = maps.quiet_spells lay h r ps (tree_run lay (r ⊳ h) g)
+
+pub below_root : (lay : Layout) (h : History) (k : ℕ) → IsTreeRun lay h → k < 2 ^ 64 → is_leaf (value h) (value h (child 0 (toward (value h) 0 k))) ≡ true → class (value h) (value h (child 0 (toward (value h) 0 k))) ≡ 0 → ⊥
+below_root lay h k g = maps.below_root lay h k (tree_run lay h g)
+
+pub walk_first : (lay : Layout) (h : History) (k : ℕ) → IsTreeRun lay h → Passed h h k 0
+walk_first lay h k g = maps.walk_first lay h k (tree_run lay h g)
+
+pub walk_next : (lay : Layout) (h start : History) (k n : ℕ) → IsTreeRun lay h → Passed h start k n → is_leaf (value h) n ≡ false → Passed h start k (value h (child n (toward (value h) n k)))
+walk_next lay h start k n g x = maps.walk_next lay h start k n (tree_run lay h g) x (inl g.0)
+
+pub walk_rises : (lay : Layout) (h start : History) (k n : ℕ) (side : Side) → IsTreeRun lay h → Passed h start k n → is_leaf (value h) n ≡ false → level (value h) n < level (value h) (value h (child n side))
+walk_rises lay h start k n side g = maps.walk_rises lay h start k n side (tree_run lay h g)
+
+pub walk_named : (lay : Layout) (h start : History) (k n : ℕ) → IsTreeRun lay h → Passed h start k n → IsNamed lay h n
+walk_named lay h start k n g = maps.walk_named lay h start k n (tree_run lay h g)
+
+pub walk_answers : (lay : Layout) (h start : History) (k n : ℕ) → k < 2 ^ 64 → IsTreeRun lay h → Passed h start k n → is_leaf (value h) n ≡ true → IsAnswerAt lay h start k (said (value h) k n)
+walk_answers lay h start k n x g = maps.walk_answers lay h start k n x (tree_run lay h g)
+
 pub tree_not_final : (lay : Layout) (h : History) (t : Tree) (n : ℕ) → IsTreeRun lay h → IsTree (value h) t → Has t n → is_final (log lay h) n ≡ false
-tree_not_final lay h t n g i p = go (is_final (log lay h) n) refl
-  where
-    go : (b : Bool) → is_final (log lay h) n ≡ b → b ≡ false
-    go false e = refl
-    go true e = absurd (grown_not_final (edits_of lay h g).edits lay h t n (grown lay h g) i p e)
+tree_not_final lay h t n g = maps.tree_not_final lay h t n (tree_run lay h g)
 
--- nor is one on a search path in the tree
 pub path_not_final : (lay : Layout) (h : History) (k n : ℕ) → IsTreeRun lay h → IsOnPath h k n → is_final (log lay h) n ≡ false
-path_not_final lay h k n g x = tree_not_final lay h x.tree n g x.is_tree (passes_has (value h) k x.tree n x.passes)
+path_not_final lay h k n g = maps.path_not_final lay h k n (tree_run lay h g)
 
--- a node that was in the tree and is not final is still there
 pub tree_remains : (lay : Layout) (h : History) (t : Tree) (n : ℕ) → IsTreeRun lay h → WasInTree h n → is_final (log lay h) n ≡ false → IsTree (value h) t → Has t n
-tree_remains lay h t n g x e i = grown_remains (edits_of lay h g).edits lay h t n (grown lay h g) x (inl g.0) e i
+tree_remains lay h t n g x = maps.tree_remains lay h t n (tree_run lay h g) x (inl g.0)
 
--- the new node of an update that has won is in the tree
 pub new_stood : (lay : Layout) (h : History) (r : Row) (u : ℕ) → IsTreeRun lay (r ⊳ h) → UpdateWins h r u → WasInTree (r ⊳ h) (new h u)
-new_stood lay h r u g w = was_now (r ⊳ h) (result edits lay h r u f w map g.1.lawful then).tree (new h u) (tree_now edits lay h r u f w map g.1.lawful then) (new_in edits lay h r u f w map g.1.lawful then)
-  where
-    map : IsMap lay.mode
-    map = tree_map lay.mode g.0
+new_stood lay h r u g = maps.new_stood lay h r u (tree_run lay (r ⊳ h) g)
 
-    edits : ℕ → MapEdit
-    edits = (edits_of lay (r ⊳ h) g).edits
-
-    f : Facts lay h
-    f = facts_before lay h r g.1.lawful
-
-    then : TreeFacts edits lay h
-    then = tree_facts edits lay h (grown_tail edits lay h r (grown lay (r ⊳ h) g))
-
--- the levels of a node that was ever in the tree and of its children rise for ever
 pub levels_rise : (lay : Layout) (h : History) (n : ℕ) (side : Side) → IsTreeRun lay h → WasInTree h n → is_leaf (value h) n ≡ false → level (value h) n < level (value h) (value h (child n side))
-levels_rise lay h n side g x fork = grown_rises (edits_of lay h g).edits lay h n side (grown lay h g) x fork
+levels_rise lay h n side g = maps.levels_rise lay h n side (tree_run lay h g)
 
--- what was ever in the tree above all keys is blank
 pub stood_blank : (lay : Layout) (h : History) (n : ℕ) → IsTreeRun lay h → WasInTree h n → IsBlankAboveKeys (value h) n
-stood_blank lay h n g x = grown_blank (edits_of lay h g).edits lay h (grown lay h g) n x
+stood_blank lay h n g = maps.stood_blank lay h n (tree_run lay h g)
 
--- so is a node that was passed
 pub passed_blank : (lay : Layout) (h start : History) (k n : ℕ) → IsTreeRun lay h → Passed h start k n → IsBlankAboveKeys (value h) n
-passed_blank lay h start k n g p = stood_blank lay h n g (was_passed h start k n p)
+passed_blank lay h start k n g = maps.passed_blank lay h start k n (tree_run lay h g)
 
--- the root's head is as at the start: a fork of class 2, whose level is 0
 pub root_head : (lay : Layout) (h : History) → IsTreeRun lay h → value h (node 0 (Settled Head)) ≡ 2
-root_head lay h g = grown_root (edits_of lay h g).edits lay h (grown lay h g)
+root_head lay h g = maps.root_head lay h (tree_run lay h g)
 
--- a node that was on a path is on it if it is not final
 pub path_remains : (lay : Layout) (h : History) (k n : ℕ) → IsTreeRun lay h → WasOnPath h k n → is_final (log lay h) n ≡ false → IsOnPath h k n
-path_remains lay h k n g p e = grown_on_path (edits_of lay h g).edits lay h p.0 k n (grown lay h g) p.1 p.2 (inl g.0) e
+path_remains lay h k n g x = maps.path_remains lay h k n (tree_run lay h g) x (inl g.0)
 
--- so is one that was passed and is not marked
 pub passed_unmarked : (lay : Layout) (h start : History) (k n : ℕ) → IsTreeRun lay h → Passed h start k n → value h (marked n) ≡ 0 → IsOnPath h k n
-passed_unmarked lay h start k n g p e = path_remains lay h k n g (p.0, p.1, p.3) (not_final lay h n g.1.lawful e)
+passed_unmarked lay h start k n g x = maps.passed_unmarked lay h start k n (tree_run lay h g) x (inl g.0)
 
--- the log is no longer than the taken nodes are many
 pub log_short : (lay : Layout) (h : History) → IsTreeRun lay h → length (log lay h) ≤ length (taken_nodes h)
-log_short lay h g = grown_log (edits_of lay h g).edits lay h (grown lay h g)
+log_short lay h g = maps.log_short lay h (tree_run lay h g)
 
--- a node of a tree that was there is not as deep as they are many, and two
 pub stood_depth : (lay : Layout) (h : History) (n : ℕ) → IsTreeRun lay h → WasInTree h n → level (value h) n < 2 + length (taken_nodes h)
-stood_depth lay h n g x = grown_depth (edits_of lay h g).edits lay h n g.0 (grown lay h g) x
+stood_depth lay h n g x = subst (λ mode. level (value h) n < depth mode (length (taken_nodes h))) g.0 (maps.stood_depth lay h n (tree_run lay h g) x)
 
--- and so is one that was passed
 pub passed_depth : (lay : Layout) (h start : History) (k n : ℕ) → IsTreeRun lay h → Passed h start k n → level (value h) n < 2 + length (taken_nodes h)
-passed_depth lay h start k n g p = stood_depth lay h n g (was_passed h start k n p)
+passed_depth lay h start k n g x = subst (λ mode. level (value h) n < depth mode (length (taken_nodes h))) g.0 (maps.passed_depth lay h start k n (tree_run lay h g) x)
 
--- the settled words of a node that was in the tree do not change
 pub stood_settled : (lay : Layout) (h m : History) (n : ℕ) → IsTreeRun lay h → Extends h m → WasInTree m n → SameSettled (value m) (value h) n
-stood_settled lay h m n g e x part i = node_since lay h m n part g.1.lawful e i (was_named lay m n (tree_map lay.mode g.0) (run_since lay h m g e).1.lawful x)
+stood_settled lay h m n g = maps.stood_settled lay h m n (tree_run lay h g)
 
--- a node that was in the tree is the root, or a field of the fork above it has held it
 pub stood_in_field : (lay : Layout) (h : History) (n : ℕ) → IsTreeRun lay h → WasInTree h n → IsInField lay h n
-stood_in_field lay h n g x = go (has_above (value x.moment) x.tree _ _ n x.is_tree.shows x.has)
-  where
-    go : (n ≡ root x.tree) ⊎ IsBelowFork (value x.moment) x.tree n → IsInField lay h n
-    go (inl e) = let z : n ≡ 0 = e ∙ x.is_tree.is in inl (rw g.0 (omega (arith, z)))
-    go (inr y) = inr (y.fork, y.side, was_named lay h y.fork (tree_map lay.mode g.0) g.1.lawful record { moment = x.moment; within = x.within; tree = x.tree; is_tree = x.is_tree; has = y.has }, held_since h x.moment (child y.fork y.side) n x.within (held_at x.moment (child y.fork y.side) n y.holds))
+stood_in_field lay h n g = maps.stood_in_field lay h n (tree_run lay h g)
 
--- the children of a fork that has been in the tree and is not final are in the tree
-child_has : (lay : Layout) (h : History) (t : Tree) (n : ℕ) (side : Side) → IsTreeRun lay h → IsTree (value h) t → WasInTree h n → is_final (log lay h) n ≡ false → is_leaf (value h) n ≡ false → Has t (value h (child n side))
-child_has lay h t n side g i x e fork = (path_level (value h) t _ _ n side i.shows (tree_remains lay h t n g x e i) fork).1
-
--- what a fork holds in its fields that has been in the tree and is not final is in the tree
 pub child_stood : (lay : Layout) (h m : History) (n : ℕ) (side : Side) → IsTreeRun lay h → Extends h m → WasInTree m n → is_final (log lay m) n ≡ false → is_leaf (value m) n ≡ false → WasInTree h (value m (child n side))
-child_stood lay h m n side g e x not_final fork = record { moment = m; within = e; tree = spelled.tree; is_tree = spelled.is_tree; has = child_has lay m spelled.tree n side run spelled.is_tree x not_final fork }
-  where
-    run : IsTreeRun lay m
-    run = run_since lay h m g e
+child_stood lay h m n side g = maps.child_stood lay h m n side (tree_run lay h g)
 
-    spelled : Spells lay (value m) (run_spells lay m run).0
-    spelled = (run_spells lay m run).1
-
--- its two children are different
 pub children_apart : (lay : Layout) (h : History) (n : ℕ) → IsTreeRun lay h → WasInTree h n → is_final (log lay h) n ≡ false → is_leaf (value h) n ≡ false → value h (child n Left) ≢ value h (child n Right)
-children_apart lay h n g x not_final fork = fields_apart (value h) spelled.tree _ _ n spelled.is_tree.shows (tree_remains lay h spelled.tree n g x not_final spelled.is_tree) fork
-  where
-    spelled : Spells lay (value h) (run_spells lay h g).0
-    spelled = (run_spells lay h g).1
+children_apart lay h n g = maps.children_apart lay h n (tree_run lay h g)
 
--- what such a fork holds is not final
 pub child_not_final : (lay : Layout) (h : History) (n : ℕ) (side : Side) → IsTreeRun lay h → WasInTree h n → is_final (log lay h) n ≡ false → is_leaf (value h) n ≡ false → is_final (log lay h) (value h (child n side)) ≡ false
-child_not_final lay h n side g x not_final fork = tree_not_final lay h spelled.tree (value h (child n side)) g spelled.is_tree (child_has lay h spelled.tree n side g spelled.is_tree x not_final fork)
-  where
-    spelled : Spells lay (value h) (run_spells lay h g).0
-    spelled = (run_spells lay h g).1
+child_not_final lay h n side g = maps.child_not_final lay h n side (tree_run lay h g)
+
+pub rising_levels : (lay : Layout) (h : History) → IsTreeRun lay h → AreFilledInOrder h → HasRisingLevels h
+rising_levels lay h g = maps.rising_levels lay h (tree_run lay h g)
+
+pub held_stood : (lay : Layout) (h m : History) (n : ℕ) (side : Side) → IsTreeRun lay h → AreFilledInOrder h → Extends h m → HasStoodInField m n → is_final (log lay m) n ≡ false → is_leaf (value m) n ≡ false → WasInTree h (value m (child n side))
+held_stood lay h m n side g = maps.held_stood lay h m n side (tree_run lay h g)
+
+pub stood_counted : (lay : Layout) (h : History) (n : ℕ) → IsTreeRun lay h → WasInTree h n → is_leaf (value h) n ≡ true → class (value h) n ≡ 0 → IsWellCounted (value h) n
+stood_counted lay h n g = maps.stood_counted lay h n (tree_run lay h g)
+
+pub walk_beside : (lay : Layout) (h start : History) (k n : ℕ) (side : Side) → IsTreeRun lay h → Passed h start k n → is_leaf (value h) n ≡ false → IsBeside (value h) side n (value h (child n side))
+walk_beside lay h start k n side g = maps.walk_beside lay h start k n side (tree_run lay h g)
+
+pub walk_holds : (lay : Layout) (h start : History) (k n : ℕ) → IsTreeRun lay h → Passed h start k n → is_leaf (value h) n ≡ true → class (value h) n ≡ 0 → IsWellCounted (value h) n × AllBelow (2 ^ 64) (held_pairs (value h) n) × IsRising (held_pairs (value h) n)
+walk_holds lay h start k n g = maps.walk_holds lay h start k n (tree_run lay h g)
+
+pub walk_turns : (side : Side) (lay : Layout) (h start : History) (n : ℕ) → IsTreeRun lay h → Passed h start (end_key side) n → is_leaf (value h) n ≡ false → toward (value h) n (end_key side) ≡ end_turn side (class (value h) n)
+walk_turns side lay h start n g = maps.walk_turns side lay h start n (tree_run lay h g)
+
+pub walk_own : (side : Side) (lay : Layout) (h start : History) (k n : ℕ) → IsTreeRun lay h → Passed h start (end_key side) n → IsUpTo side k (rank (value h) n) → Passed h start k n
+walk_own side lay h start k n g = maps.walk_own side lay h start k n (tree_run lay h g)
+
+pub walk_end : (side : Side) (lay : Layout) (h start : History) (n : ℕ) → IsTreeRun lay h → Passed h start (end_key side) n → is_leaf (value h) n ≡ true → IsEndAt side lay h start (end_said side (value h) n)
+walk_end side lay h start n g = maps.walk_end side lay h start n (tree_run lay h g)
+
+pub win_end : (side : Side) (lay : Layout) (h : History) (row : Row) (s : ℕ) (e : MapEdit) → IsTreeRun lay (row ⊳ h) → IsWin h row s → Makes lay h s e → WasOnPath h (end_key side) (edit_leaf h s e) → is_leaf (value h) (edit_leaf h s e) ≡ true → (ps : List Pair) → Spells lay (value h) ps → end_pair side ps ≡ end_said side (value h) (edit_leaf h s e)
+win_end side lay h row s e g = maps.win_end side lay h row s e g.0 (tree_run lay (row ⊳ h) g)

@@ -1,6 +1,8 @@
 -- The shape of a trie: a fork parts keys at a bit, the lowest that its key has, and what stands
 -- below it keeps to the keys of its side.
-use Rattle.std.specs.Prelude.{◌≡◌, ◌≢◌, ℕ, ◌+◌, ◌-◌, ◌*◌, ◌%◌, ◌^◌, ◌<◌, ◌≤◌, true, false, if◌then◌else◌, ◌==◌}
+use Rattle.std.specs.Prelude.{min, max, bit_xor, ◌≡◌, ◌≢◌, ℕ, ◌+◌, ◌-◌, ◌*◌, ◌/◌, ◌%◌, ◌^◌, ◌<◌, ◌≤◌, true, false, if◌then◌else◌, ◌==◌}
+use Rattle.std.specs.Int.Count.{count_leading_zeros}
+use Rattle.ordered_map.specs.declared.fork_place.ForkPlace.{ForkPlace}
 use Rattle.histories.specs.Common.{Side, Left, Right, Word, node, child, first_key, History, value}
 use Rattle.ordered_map.specs.OrderedMap.{AllBelow, AllFrom}
 use Rattle.ordered_map.specs.Holding.{held_pairs}
@@ -32,6 +34,14 @@ pub record PartsKeys (j k key level : ℕ) : Type 0 where
   pub above : key ≤ k
   pub first : IsInSpan key level j
   pub last : IsInSpan key level k
+
+-- the highest bit in which two keys differ; of one key twice the lowest
+abbrev pub bit_between : ℕ → ℕ → ℕ
+bit_between j k = 63 - min (count_leading_zeros 64 (bit_xor j k)) 63
+
+-- the fork between two keys goes by that bit, and has the greater of them without the bits below it
+abbrev pub place_between : ℕ → ℕ → ForkPlace
+place_between j k = record { key = max j k / 2 ^ bit_between j k * 2 ^ bit_between j k; level = 65 - bit_between j k }
 
 -- The forks that words show; `f` says what each word holds
 

@@ -9,6 +9,7 @@ pub mod Paths
 pub mod FillOrder
 pub mod Bits
 pub mod Edits
+pub mod Strays
 pub mod EditPlans
 pub mod TrieShape
 pub mod TreeShape

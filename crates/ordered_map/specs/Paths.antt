@@ -1,7 +1,7 @@
 -- Which nodes a search for a key passes, and which are in the tree, now or at a moment before;
 -- and what a search may answer.
 use Rattle.std.specs.Prelude.{◌≡◌, ℕ, ◌+◌, ◌-◌, ◌^◌, if◌then◌else◌, ◌==◌, List, Option}
-use Rattle.histories.specs.Common.{Side, Left, Right, Mode, Layout, History, value, Extends}
+use Rattle.histories.specs.Common.{Side, Left, Right, Mode, Layout, History, value, Extends, child}
 use Rattle.arena.specs.declared.limits.Mode.TheVariants.{Trie}
 use Rattle.ordered_map.specs.declared.pair.Pair.{Pair}
 use Rattle.ordered_map.specs.OrderedMap.{get, end_pair}
@@ -35,6 +35,13 @@ pub record WasInTree (h : History) (n : ℕ) : Type 0 where
   pub tree : Tree
   pub is_tree : IsTree (value moment) tree
   pub has : Has tree n
+
+-- n was in the tree at a moment of the history, and its field on this side named m then
+pub record HasHadChild (h : History) (n : ℕ) (side : Side) (m : ℕ) : Type 0 where
+  pub moment : History
+  pub within : Extends h moment
+  pub stood : WasInTree moment n
+  pub held : value moment (child n side) ≡ m
 
 -- at a moment of the history that is not before `start` the words spell a map that gives this value
 -- of k

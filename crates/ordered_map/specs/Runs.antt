@@ -1,12 +1,17 @@
 -- Histories of a map, the edits that their SCX-records make, and the map of their log.
 use Rattle.std.specs.Prelude.{◌≡◌, ℕ, List, [], ◌∷◌}
 use Rattle.histories.specs.Common.{Layout, Tree as TreeMode, Row, History, ◌⊳◌, value, Extends, Entry, IsRun, IsBegin}
+use Rattle.arena.specs.Layout.{IsMap}
 use Rattle.arena.specs.declared.limits.Mode.TheVariants.{Trie as TrieMode}
 use Rattle.ordered_map.specs.declared.pair.Pair.{Pair}
 use Rattle.ordered_map.specs.OrderedMap.{MapEdit, edit_key, edited, get}
 use Rattle.ordered_map.specs.TreeWords.{said}
 use Rattle.ordered_map.specs.Spelled.{Spells}
 use Rattle.ordered_map.specs.TreeShape.{MayEdit, TreeAllows, edit_leaf}
+
+-- a lawful history of a map, in a tree or a trie, in which only edits of the map begin
+abbrev pub IsMapRun : Layout → History → Type 0
+IsMapRun lay h = IsMap lay.mode × IsRun TreeAllows lay h
 
 -- a lawful history in tree mode, in which only edits of the map begin
 abbrev pub IsTreeRun : Layout → History → Type 0

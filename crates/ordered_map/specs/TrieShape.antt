@@ -1,12 +1,13 @@
 -- Which SCX-records may begin in a trie besides those that may in a tree, what each of them may put in
 -- there, and what stays where it is.
-use Rattle.std.specs.Prelude.{◌≡◌, ◌≢◌, ℕ, ◌<◌, false, ◌⊎◌, [], None}
-use Rattle.histories.specs.Common.{Layout, Tree as TreeMode, Side, Word, info, child, History, value, plan, member, seen, new, old}
-use Rattle.ordered_map.specs.OrderedMap.{MapEdit, edit_key, edited, value_left}
+use Rattle.std.specs.Prelude.{◌≡◌, ◌≢◌, ℕ, ◌<◌, false, ◌⊎◌, List, [], Some, None}
+use Rattle.histories.specs.Common.{Layout, Tree as TreeMode, Side, Word, info, node, child, first_key, History, value, plan, member, seen, new, old}
+use Rattle.ordered_map.specs.declared.pair.Pair.{Pair}
+use Rattle.ordered_map.specs.OrderedMap.{MapEdit, edit_key, edited, value_left, first_pair, last_pair}
 use Rattle.ordered_map.specs.Holding.{held_pairs}
 use Rattle.ordered_map.specs.TreeWords.{class, is_leaf, level, opposite, toward, said}
 use Rattle.ordered_map.specs.Edits.{IsLowLeaf, IsSwapBy, IsSplitBy, IsJoinBy, HasFieldsOf}
-use Rattle.ordered_map.specs.Bits.{Shares, Keeps, IsTrieFork}
+use Rattle.ordered_map.specs.Bits.{Shares, Keeps, IsTrieFork, PartsKeys}
 use Rattle.ordered_map.specs.EditPlans.{leaf_plan, end_leaf_plan, end_join_plan, above_plan}
 
 -- The node n stays on the search path of k until it is finalized: in a tree each node does; in a trie
@@ -21,6 +22,23 @@ pub record FitsTrie (f : Word → ℕ) (p : ℕ) (side : Side) (n : ℕ) : Type 
   pub fork : IsTrieFork f n
   pub deeper : level f p < level f n
   pub rises : is_leaf f n ≡ false → (below : Side) → level f n < level f (f (child n below))
+
+-- a fork of this key and level parts the first of these pairs from the last
+pub record PartsPairs (m : List Pair) (key level : ℕ) : Type 0 where
+  pub first : Pair
+  pub last : Pair
+  pub is_first : first_pair m ≡ Some first
+  pub is_last : last_pair m ≡ Some last
+  pub parts : PartsKeys first.key last.key key level
+
+-- Where the leaf l is replaced by the fork c over the leaves x and y, x is on level 66. If l is of class
+-- 0, y is there too, and the fork is that between the first and the last of the pairs that the edit
+-- leaves; above all keys the fork is on level 1, and y on 2.
+pub record HasTrieLevels (f : Word → ℕ) (e : MapEdit) (l c x y : ℕ) : Type 0 where
+  pub first : level f x ≡ 66
+  pub last : class f l ≡ 0 → level f y ≡ 66
+  pub parts : class f l ≡ 0 → PartsPairs (edited e (held_pairs f l)) (f (node c first_key)) (level f c)
+  pub high : class f l ≢ 0 → (level f c ≡ 1) × (level f y ≡ 2)
 
 -- A full leaf is replaced by a fork over two: its parent and it are covered, and it is finalized.
 pub record SplitsLeaf (h : History) (s : ℕ) (e : MapEdit) : Type 0 where

@@ -1,6 +1,6 @@
 //! Forks that part keys at a bit.
-ghost use Rattle.std.specs.Prelude.{ℕ, ◌<◌, ◌↔◌, IsTrue};
-ghost use Rattle.ordered_map.specs.Bits.{IsForkKey, IsInSpan, PartsKeys};
+ghost use Rattle.std.specs.Prelude.{ℕ, ◌≡◌, ◌<◌, ◌↔◌, IsTrue};
+ghost use Rattle.ordered_map.specs.Bits.{IsForkKey, IsInSpan, PartsKeys, place_between};
 
 /// The key and the level of a fork that parts keys at a bit.
 #[derive(Clone, Copy, Debug, PartialEq, Eq)]
@@ -13,6 +13,7 @@ pub struct ForkPlace {
 pub fn fork_between(one: u64, other: u64) -> ForkPlace
     ensures rising { one < other → PartsKeys one other result.key result.level }
     ensures falling { other < one → PartsKeys other one result.key result.level }
+    ensures is { result ≡ place_between one other }
 {
     // One key twice has no such bit: then it goes by the lowest.
     let zeros = (one ^ other).leading_zeros().min(63);

@@ -1,5 +1,5 @@
-use Rattle.ordered_map.proofs.Meanings.{log_edits, one_spelling, win_makes, walk_answers, spells_log}
-use Rattle.ordered_map.proofs.TreeRuns.{tree_not_final, tree_remains, stood_blank, passed_depth}
+use Rattle.ordered_map.proofs.Meanings.{one_spelling}
+use Rattle.ordered_map.proofs.TreeRuns.{log_edits, win_makes, walk_answers, spells_log, tree_not_final, tree_remains, stood_blank, passed_depth}
 use Rattle.ordered_map.proofs.laws.laws_hold.Goals as goal
 
 pub returns : goal.returns
