@@ -63,10 +63,9 @@ fn round(
         MapWork::InsertNew => told(forest.insert_new(pass, pair.0, pair.1), tally),
         MapWork::Delete => told(forest.delete(pass, key), tally),
         MapWork::DeleteIf => told(forest.delete_if(pass, key, key), tally),
-        MapWork::Pop => told(key_and_value(forest.pop_first(pass)), tally),
+        MapWork::Pop | MapWork::Schedule => told(pop(forest, work, pass, pair), tally),
         MapWork::PopLast => told(key_and_value(forest.pop_last(pass)), tally),
         MapWork::Replace => told(forest.replace_if(pass, pair.0, key, pair.0), tally),
-        MapWork::Schedule => told(reschedule(forest, pass, pair), tally),
         MapWork::Successor => told_pair(forest.successor(alloc, pass, key), tally),
         MapWork::Predecessor => told_pair(forest.predecessor(alloc, pass, key), tally),
         MapWork::Range { most } => {
@@ -97,9 +96,10 @@ fn mix(
     }
 }
 
-/// Takes the first pair out, and puts this one in.
-fn reschedule(
+/// Takes the first pair out; a scheduler puts this one in.
+fn pop(
     forest: &Forest<Numbers>,
+    work: MapWork,
     pass: &mut Pass<Numbers>,
     pair: (u64, u64),
 ) -> Result<Option<u64>, UpdateFault>
@@ -107,7 +107,9 @@ fn reschedule(
     ensures { IsOf forest.now pass.new }
 {
     let first = key_and_value(forest.pop_first(pass))?;
-    let _ = forest.insert(pass, pair.0, pair.1)?;
+    if matches!(work, MapWork::Schedule) {
+        let _ = forest.insert(pass, pair.0, pair.1)?;
+    }
     Ok(first)
 }
 
