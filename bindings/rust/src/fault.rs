@@ -48,7 +48,10 @@ impl Error for Fault {}
 ///
 /// let mut passes = make(2, Limits::for_changes(10, 10))?;
 /// let (last, other) = (passes.pop().unwrap(), passes.pop().unwrap());
-/// let Err(CloseFault::Shared(last)) = last.close() else { panic!("closed") };
+/// let last = match last.close() {
+///     Err(CloseFault::Shared(last)) => last,
+///     _ => panic!("closed"),
+/// };
 /// drop(other);
 /// assert!(last.close().is_ok());
 /// # Ok::<(), regnubas::Fault>(())

@@ -48,28 +48,33 @@ fn compare(pass: &mut Pass, map: &mut BTreeMap<u64, u128>, draws: &mut Draws) {
             }
             assert_eq!(pass.replace_if(key, value, value + 1), Ok(found));
         }
-        7 => assert_eq!(pass.pop_first(), Ok(map.pop_first())),
-        8 => assert_eq!(pass.pop_last(), Ok(map.pop_last())),
+        7 => {
+            let first = map.iter().next().map(pair);
+            first.map(|(key, _)| map.remove(&key));
+            assert_eq!(pass.pop_first(), Ok(first));
+        }
+        8 => {
+            let last = map.iter().next_back().map(pair);
+            last.map(|(key, _)| map.remove(&key));
+            assert_eq!(pass.pop_last(), Ok(last));
+        }
         _ => assert_eq!(pass.contains_key(key), map.contains_key(&key)),
     }
     assert_eq!(pass.get(key), map.get(&key).copied());
-    assert_eq!(
-        pass.first_key_value(),
-        Ok(map.first_key_value().map(|(&key, &value)| (key, value)))
-    );
+    assert_eq!(pass.first_key_value(), Ok(map.iter().next().map(pair)));
     let below = map.range(..key).next_back();
-    assert_eq!(pass.predecessor(key), Ok(below.map(|(&key, &value)| (key, value))));
+    assert_eq!(pass.predecessor(key), Ok(below.map(pair)));
     let above = map.range((Bound::Excluded(key), Bound::Unbounded)).next();
-    assert_eq!(pass.successor(key), Ok(above.map(|(&key, &value)| (key, value))));
+    assert_eq!(pass.successor(key), Ok(above.map(pair)));
+}
+
+fn pair((&key, &value): (&u64, &u128)) -> (u64, u128) {
+    (key, value)
 }
 
 fn has_same(pass: &mut Pass, map: &BTreeMap<u64, u128>, keys: impl RangeBounds<u64> + Clone) {
     let found: Vec<_> = pass.range(keys.clone()).map(Result::unwrap).collect();
-    let wanted: Vec<_> = map
-        .iter()
-        .map(|(&key, &value)| (key, value))
-        .filter(|pair| keys.contains(&pair.0))
-        .collect();
+    let wanted: Vec<_> = map.iter().map(pair).filter(|pair| keys.contains(&pair.0)).collect();
     assert_eq!(found, wanted);
     assert_eq!(pass.snapshot(keys, 9).unwrap(), wanted[..wanted.len().min(9)]);
 }

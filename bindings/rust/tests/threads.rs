@@ -51,7 +51,10 @@ fn four_threads_and_a_close() {
         .collect();
     let mut passes: Vec<Pass> = threads.into_iter().map(|t| t.join().unwrap()).collect();
     let last = passes.pop().unwrap();
-    let Err(CloseFault::Shared(mut last)) = last.close() else { panic!("closed while shared") };
+    let mut last = match last.close() {
+        Err(CloseFault::Shared(last)) => last,
+        _ => panic!("closed while shared"),
+    };
     drop(passes);
     let least = key_of(0, 1);
     assert_eq!(last.pop_first(), Ok(Some((least, value_of(least)))));
@@ -61,9 +64,8 @@ fn four_threads_and_a_close() {
         .collect();
     let greatest = keys[keys.len() - 1];
     assert_eq!(last.pop_last(), Ok(Some((greatest, value_of(greatest)))));
-    let Ok(pairs) = last.close() else { panic!("not closed") };
     assert_eq!(
-        pairs,
+        last.close().unwrap(),
         keys[1..keys.len() - 1].iter().map(|&key| (key, value_of(key))).collect::<Vec<_>>()
     );
 }

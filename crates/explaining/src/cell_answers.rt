@@ -1,10 +1,10 @@
 //! Answers of calls of cells.
-use crate::blame::check_blame;
+use crate::blame::{check_blame, check_failed, check_met};
 use crate::breach::{Objection, demand, object};
 use crate::lines_before::LinesBefore;
 use crate::map_answers::{check_left, check_moment_is, check_no_moment};
 use crate::replies::ANSWER;
-use arena::{Full, NodeNo, NodeWord, Side};
+use arena::{Full, Kind, NodeNo, NodeWord, Side};
 use record::{Answer, Finished};
 use script::{Cell, Command};
 
@@ -107,7 +107,13 @@ fn check_refused(
     match &reply.answer {
         Answer::Fail { node, scx } | Answer::Lost { node, scx } | Answer::Changed { node, scx } => {
             check_among(before, command, *node)?;
-            check_blame(before, reply, *node, *scx)
+            check_blame(before, reply, *node, *scx)?;
+            let blamed = (*node, *scx);
+            match &reply.answer {
+                Answer::Fail { .. } => check_failed(before, reply, blamed),
+                Answer::Lost { .. } => check_met(before, reply, Kind::Freeze, blamed),
+                _ => check_met(before, reply, Kind::LoadInfo, blamed),
+            }
         }
         Answer::Full { what, left } => {
             let (what, left) = (*what, *left);

@@ -102,18 +102,16 @@ fn check_value(before: &LinesBefore<'_>, row: &Row) -> Result<(), Objection> {
 /// is what is broken.
 fn check_known_node(before: &LinesBefore<'_>, row: &Row) -> Result<(), Objection> {
     let (alloc, node) = (before.alloc, row.after);
-    let is_lawful = before.judge.is_lawful(row);
-    let Some(owner) = other_owner(before.judge.layout(), row.pass, node) else {
-        return Ok(());
-    };
-    demand(
-        is_lawful,
-        AFTER,
-        format!(in alloc;
-            "n{node} is of client {}'s share, and no field of a named node has held it",
-            owner.0
-        ),
-    )
+    match other_owner(before.judge.layout(), row.pass, node) {
+        Some(owner) => Err(object(
+            AFTER,
+            format!(in alloc;
+                "n{node} is of client {}'s share, and no field of a named node has held it",
+                owner.0
+            ),
+        )),
+        None => Ok(()),
+    }
 }
 
 /// No node of another share.

@@ -70,24 +70,24 @@ fn check_earlier(before: &LinesBefore<'_>, scx: u64, place: u8) -> Result<(), Ob
     ))
 }
 
-/// One that changes nothing is lost, or there is no SCX-record for which it could be.
+/// One that changes nothing is lost for some SCX-record, which covers the node.
 fn check_lost(before: &LinesBefore<'_>, row: &Row, node: NodeNo) -> Result<(), Objection> {
     let (alloc, node) = (before.alloc, node.0);
-    let all = u64::from(before.judge.layout().all_scx());
-    let covers = (0..all).any(|scx| before.place_of(scx, node).is_some());
-    demand(
-        covers,
-        WORD,
-        format!(in alloc; "no SCX-record covers n{node}, so none freezes it"),
-    )?;
-    let is_lawful = before.judge.is_lawful(row);
-    demand(
-        is_lawful,
+    let Some(scx) = before.probable_scx(row.pass, row.word) else {
+        return Err(object(
+            WORD,
+            format!(in alloc; "no SCX-record covers n{node}, so none freezes it"),
+        ));
+    };
+    let Some(place) = before.place_of(scx, node) else {
+        return Ok(());
+    };
+    check_earlier(before, scx, place)?;
+    Err(object(
         AFTER,
         format!(in alloc;
-            "an exchange that finds {} is lost only for an SCX-record over n{node} that has seen another info \
-         there, and for which all its earlier nodes have been frozen",
-            row.before
+            "{} in place of {scx}, since the exchange wins: i{place} of s{scx} is {} too",
+            row.after, row.before
         ),
-    )
+    ))
 }

@@ -3,6 +3,7 @@
 #![tactic(auto)]
 
 mod begins;
+mod begun_edit;
 mod blame;
 mod breach;
 mod cell_answers;
@@ -13,6 +14,8 @@ mod explanation;
 mod fills;
 mod freezes;
 mod idle;
+mod leaf_edit;
+mod leaf_out;
 mod levels;
 mod lines_before;
 mod loads;

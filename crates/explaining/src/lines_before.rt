@@ -1,4 +1,5 @@
 //! The lines before the one that is refused.
+use crate::begins::field_of;
 use crate::breach::Objection;
 use crate::client_so_far::ClientSoFar;
 use arena::{Kind, NodeNo, NodeWord, PassNo, Plan, Row, ScxNo, ScxWord, Word};
@@ -191,6 +192,35 @@ impl<'a> LinesBefore<'a> {
     /// this one.
     pub(crate) fn first_unfrozen(&self, scx: u64, places: u8) -> Option<u8> {
         (0..places).find(|place| !self.was_frozen(self.member(scx, *place), scx))
+    }
+
+    /// The SCX-record for which a client probably exchanges a word, of those that could: the one that
+    /// it has looked at last, or else the first.
+    pub(crate) fn probable_scx(&self, pass: PassNo, word: Word) -> Option<u64> {
+        let looked_at = self.rows.iter().rev().find_map(|row| match row.word {
+            Word::Scx(scx, _) if row.pass == pass && self.may_exchange(scx.0, word) => Some(scx.0),
+            _ => None,
+        });
+        let all = u64::from(self.judge.layout().all_scx());
+        looked_at.or((0..all).find(|scx| self.may_exchange(*scx, word)))
+    }
+
+    /// Whether an SCX-record has this field, or covers the node of this info.
+    fn may_exchange(&self, scx: u64, word: Word) -> bool {
+        match word {
+            Word::Node(node, NodeWord::Info) => self.place_of(scx, node.0).is_some(),
+            _ => field_of(self, scx) == word,
+        }
+    }
+
+    /// How many steps there were up to the last one after which an SCX-record was in progress.
+    pub(crate) fn in_progress_until(&self, scx: ScxNo) -> usize {
+        if self.judge.is_in_progress(scx) {
+            return self.rows.len();
+        }
+        let state = Word::Scx(scx, ScxWord::State);
+        let ends = |row: &Row| row.word == state && row.before == 0 && row.after != 0;
+        self.rows.iter().position(ends).unwrap_or(0)
     }
 
     /// Whether an update of an SCX-record has won.

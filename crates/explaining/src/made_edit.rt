@@ -1,18 +1,17 @@
 //! Whether an SCX-record that begins makes the edit of its client's call.
-use crate::breach::{Objection, demand, object};
+use crate::begun_edit::BegunEdit;
+use crate::breach::{Objection, object};
+use crate::leaf_edit::check_leaf_edit;
+use crate::leaf_out::check_leaf_out;
 use crate::lines_before::LinesBefore;
-use crate::map_before::MapPairs;
 use crate::steps::AFTER;
 use crate::words::call_words;
-use arena::{Head, NodeWord, Row, ScxWord, SettledPart, Side, Slot};
-use ordered_map::{Goal, Rule, wide_value};
+use arena::{Row, Side};
+use ordered_map::Goal;
 use script::Command;
-use std::alloc::AllocError;
 
-const SLOTS: [Slot; 4] = [Slot::First, Slot::Second, Slot::Third, Slot::Fourth];
-
-/// On the tree an SCX-record that begins makes the edit of its client's call. This is asked last of
-/// a step that begins one, so it is what is broken.
+/// On the tree an SCX-record that begins makes the edit of its client's call: it puts something in
+/// the place of a leaf, or takes one out.
 pub(crate) fn check_edit(before: &LinesBefore<'_>, row: &Row) -> Result<(), Objection> {
     let (alloc, scx) = (before.alloc, row.after);
     if !before.judge.is_begin(row) {
@@ -29,124 +28,56 @@ pub(crate) fn check_edit(before: &LinesBefore<'_>, row: &Row) -> Result<(), Obje
             format!(in alloc; "s{scx} begins for {call}, which makes no edit"),
         ));
     };
-    if before.plan(scx).count() == 2 {
-        check_leaf(before, row, goal, rule)?;
-    }
-    Err(object(
-        AFTER,
-        format!(in alloc;
-            "s{scx} begins here, and does not make the edit of {call}: its nodes, its field, or the node that it \
-         puts there are others"
+    let mut edit = BegunEdit {
+        before,
+        scx,
+        call,
+        goal,
+        rule,
+        key: 0,
+    };
+    edit.key = key_of(&edit)?;
+    let many = before.plan(scx).count();
+    match many {
+        2 => check_leaf_edit(&edit),
+        4 => check_leaf_out(&edit),
+        _ => edit.demand(
+            false,
+            format!(in alloc;
+                "it covers {many} nodes, in place of two, or of four to take a leaf out"
+            ),
         ),
-    ))
+    }
 }
 
-/// The leaf that it replaces asks for the edit, and what it puts there has the pairs that this
-/// leaves.
-fn check_leaf(
-    before: &LinesBefore<'_>,
-    row: &Row,
-    goal: Goal,
-    rule: Rule,
-) -> Result<(), Objection> {
-    let (alloc, scx) = (before.alloc, row.after);
-    let call = call_words(before, row.pass)?;
-    let leaf = before.member(scx, 1);
-    let held = pairs_of(before, leaf)?;
-    let end = match goal {
-        Goal::End(Side::Right) => held.last(),
-        _ => held.first(),
+/// The key of the edit; at an end of the map it is that of the leaf there.
+fn key_of(edit: &BegunEdit<'_>) -> Result<u64, Objection> {
+    let alloc = edit.before.alloc;
+    let (leaf, end) = match edit.goal {
+        Goal::Key(key) => return Ok(key),
+        Goal::End(side) => (end_leaf(edit, side), side),
     };
-    let Some(key) = goal.key(end.map(|pair| pair.0)) else {
-        return Ok(());
+    let held = edit.pairs_of(leaf)?;
+    let pair = match end {
+        Side::Left => held.first(),
+        Side::Right => held.last(),
     };
-    let found = held.iter().find(|pair| pair.0 == key).map(|pair| pair.1);
-    let shown = pairs_words(before, &held)?;
-    demand(
-        rule.applies(found),
-        AFTER,
-        format!(in alloc;
-            "s{scx} begins for {call}, which has nothing to do at n{leaf}: that holds {shown}"
-        ),
+    edit.demand(
+        pair.is_some(),
+        format!(in alloc; "n{leaf} holds no pair to take out"),
     )?;
-    let put = pairs_put(before, before.scx_word(scx, ScxWord::New))?;
-    let wanted = pairs_left(before, &held, key, rule)?;
-    let (put, wanted) = (pairs_words(before, &put)?, pairs_words(before, &wanted)?);
-    demand(
-        put.as_str() == wanted.as_str(),
-        AFTER,
-        format!(in alloc;
-            "s{scx} begins for {call}, and puts {put} in place of {wanted}, which the call makes of {shown}"
-        ),
-    )
+    Ok(pair.map(|pair| pair.0).unwrap_or(0))
 }
 
-fn settled(before: &LinesBefore<'_>, node: u64, part: SettledPart) -> u64 {
-    before.node_word(node, NodeWord::Settled(part))
-}
-
-fn head(before: &LinesBefore<'_>, node: u64) -> Head {
-    Head::of(settled(before, node, SettledPart::Head))
-}
-
-/// The pairs of a leaf.
-fn pairs_of(before: &LinesBefore<'_>, leaf: u64) -> Result<MapPairs, AllocError> {
-    let mut pairs = Vec::new(before.alloc);
-    if !head(before, leaf).leaf || head(before, leaf).class > 0 {
-        return Ok(pairs);
+/// The leaf at an end from which it takes a pair: of two nodes the second, of four the child on
+/// that side, unless this is above all keys.
+fn end_leaf(edit: &BegunEdit<'_>, side: Side) -> u64 {
+    let right = edit.member(3);
+    if edit.before.plan(edit.scx).count() == 2 {
+        edit.member(1)
+    } else if side == Side::Right && edit.head(right).class == 0 {
+        right
+    } else {
+        edit.member(2)
     }
-    let more = settled(before, leaf, SettledPart::More);
-    for (place, slot) in SLOTS.iter().enumerate() {
-        if place as u64 <= more {
-            let low = settled(before, leaf, SettledPart::Value(*slot));
-            let high = settled(before, leaf, SettledPart::High(*slot));
-            let key = settled(before, leaf, SettledPart::Key(*slot));
-            pairs.push((key, wide_value(low, high)))?;
-        }
-    }
-    Ok(pairs)
-}
-
-/// The pairs of a node: of a leaf, or of the two leaves below a fork.
-fn pairs_put(before: &LinesBefore<'_>, node: u64) -> Result<MapPairs, AllocError> {
-    if head(before, node).leaf {
-        return pairs_of(before, node);
-    }
-    let mut pairs = pairs_of(before, before.node_word(node, NodeWord::Child(Side::Left)))?;
-    let right = pairs_of(before, before.node_word(node, NodeWord::Child(Side::Right)))?;
-    for pair in right.iter() {
-        pairs.push(*pair)?;
-    }
-    Ok(pairs)
-}
-
-/// What an edit at a key makes of pairs.
-fn pairs_left(
-    before: &LinesBefore<'_>,
-    held: &MapPairs,
-    key: u64,
-    rule: Rule,
-) -> Result<MapPairs, AllocError> {
-    let mut pairs = Vec::new(before.alloc);
-    for pair in held.iter() {
-        if pair.0 != key {
-            pairs.push(*pair)?;
-        }
-    }
-    if let Some(value) = rule.leaves() {
-        pairs.push((key, value))?;
-    }
-    pairs.sort()?;
-    Ok(pairs)
-}
-
-fn pairs_words(before: &LinesBefore<'_>, pairs: &MapPairs) -> Result<String, AllocError> {
-    let mut text = String::from_str(before.alloc, "pairs")?;
-    for (key, value) in pairs.iter() {
-        write!(text, " {key} {value}")?;
-    }
-    if pairs.is_empty() {
-        return String::from_str(before.alloc, "no pair");
-    }
-    Ok(text)
 }

@@ -1,5 +1,5 @@
 //! Answers of calls of the map.
-use crate::blame::check_blame;
+use crate::blame::{check_blame, check_since};
 use crate::breach::{Objection, demand, object};
 use crate::lines_before::LinesBefore;
 use crate::map_before::{needed_by, pairs_at, reply_of};
@@ -29,7 +29,9 @@ pub(crate) fn check_map_answer(
             check_no_moment(before, reply)?;
             check_tries(before, reply.client)?;
             check_needed(before, request, reply)?;
-            check_blame(before, reply, *node, *scx)
+            check_blame(before, reply, *node, *scx)?;
+            let newest = newest_try(before, reply.client);
+            check_since(before, *scx, newest, "the last try of the call began")
         }
         Reply::Full(full) => {
             check_no_moment(before, reply)?;
@@ -155,6 +157,12 @@ fn check_tries(before: &LinesBefore<'_>, pass: PassNo) -> Result<(), Objection> 
     )
 }
 
+/// How many steps there were before the newest try of a client.
+fn newest_try(before: &LinesBefore<'_>, pass: PassNo) -> usize {
+    let begins = |row: &arena::Row| row.pass == pass && begins_try(row);
+    before.rows.iter().rposition(begins).unwrap_or(0)
+}
+
 /// Whether a step begins a try: it loads the root's head.
 fn begins_try(row: &arena::Row) -> bool {
     match row.word {
@@ -219,12 +227,16 @@ fn check_full(
             ),
         )?;
     }
+    let (layout, client) = (before.judge.layout(), before.client(reply.client));
+    let (what, left) = match full.what {
+        Resource::Nodes => ("nodes", layout.nodes.saturating_sub(client.nodes)),
+        Resource::Scx => ("SCX-records", layout.scx.saturating_sub(client.scx)),
+    };
     Err(object(
         ANSWER,
-        String::from_str(
-            alloc,
-            "this was not so as the call began, or then it was enough, and since then no SCX-record of another \
-         client was in progress",
+        format!(in alloc;
+            "{left} {what} were left as the call began, and since then no SCX-record of another client was in \
+             progress, to which it could have lost a try"
         ),
     ))
 }

@@ -146,9 +146,10 @@ fn check_word(before: &LinesBefore<'_>, row: &Row) -> Result<(), Objection> {
     )
 }
 
-/// What is asked of its kind.
+/// What is asked of its kind. A step that is lawful does what its kind allows.
 fn check_kind(before: &LinesBefore<'_>, row: &Row) -> Result<(), Objection> {
     match row.kind {
+        _ if before.judge.is_lawful(row) => Ok(()),
         Kind::Fill => check_fill(before, row),
         Kind::Freeze => check_freeze(before, row),
         Kind::SetFrozen => check_frozen(before, row),

@@ -30,11 +30,17 @@ pub(crate) fn check_update(before: &LinesBefore<'_>, row: &Row) -> Result<(), Ob
             node.0
         ),
     )?;
+    check_ready(before, scx)?;
+    check_exchange(before, row, scx)
+}
+
+/// All its nodes are frozen, and what it finalizes is marked.
+fn check_ready(before: &LinesBefore<'_>, scx: u64) -> Result<(), Objection> {
     check_all_frozen(before, scx)?;
     for place in 0..before.plan(scx).count() {
         check_marked(before, scx, place)?;
     }
-    check_exchange(before, row, scx)
+    Ok(())
 }
 
 /// A node that it finalizes is marked.
@@ -73,22 +79,20 @@ fn check_exchange(before: &LinesBefore<'_>, row: &Row, scx: u64) -> Result<(), O
 /// One that changes nothing, and is not of the SCX-record that the info names, is lost by another.
 fn check_lost(before: &LinesBefore<'_>, row: &Row) -> Result<(), Objection> {
     let alloc = before.alloc;
-    let all = u64::from(before.judge.layout().all_scx());
     let word = word_text(alloc, row.word)?;
-    let has_field = (0..all).any(|scx| field_of(before, scx) == row.word);
-    demand(
-        has_field,
-        WORD,
-        format!(in alloc; "no SCX-record has the field {word}"),
-    )?;
-    let is_lawful = before.judge.is_lawful(row);
-    demand(
-        is_lawful,
+    let Some(scx) = before.probable_scx(row.pass, row.word) else {
+        return Err(object(
+            WORD,
+            format!(in alloc; "no SCX-record has the field {word}"),
+        ));
+    };
+    check_ready(before, scx)?;
+    let new = before.scx_word(scx, ScxWord::New);
+    Err(object(
         AFTER,
         format!(in alloc;
-            "an exchange that finds {} is lost only by an SCX-record with the field {word} that has another old, \
-         whose allfrozen is 1, and whose nodes to finalize are marked",
-            row.before
+            "{} in place of {new}, since the exchange wins: old of s{scx} is {} too",
+            row.after, row.before
         ),
-    )
+    ))
 }
