@@ -201,10 +201,28 @@ deleted_at k (p ∷ ps) = go (deleted_at k ps) (ℕ_discrete k p.key)
     go rest (yes e) = rw (eq-eqb k p.key e, eq-eqb p.key k (sym e)) refl
     go rest (no d) = rw (ne_eqb k p.key d, ne_eqb p.key k (λ e. d (sym e))) (ap (λ qs. p ∷ qs) rest)
 
--- and the first where that has the key
-pub deleted_first : (k : ℕ) (ps : List Pair) → has_at k 0 ps ≡ true → remove ps 0 ≡ delete k ps
-deleted_first k [] t = cc
-deleted_first k (p ∷ ps) t = ap (λ is. remove (p ∷ ps) (if not is then suc (before k ps) else 0)) (sym t) ∙ sym (deleted_at k (p ∷ ps))
+-- no place in front of this one has the key
+abbrev pub Misses : ℕ → ℕ → List Pair → Type 0
+Misses k i ps = (j : ℕ) → j < i → has_at k j ps ≡ false
+
+pub misses_none : (k : ℕ) (ps : List Pair) → Misses k 0 ps
+misses_none k ps j l = absurd (omega (arith, l))
+
+pub misses_more : (k i : ℕ) (ps : List Pair) → Misses k i ps → has_at k i ps ≡ false → Misses k (suc i) ps
+misses_more k i ps x f j l = go (ℕ_discrete j i)
+  where
+    go : Dec (j ≡ i) → has_at k j ps ≡ false
+    go (yes e) = subst (λ n. has_at k n ps ≡ false) (sym e) f
+    go (no d) = x j (omega (arith, l, d))
+
+-- so that it takes out the first that has the key
+pub deleted_here : (k i : ℕ) (ps : List Pair) → Misses k i ps → has_at k i ps ≡ true → remove ps i ≡ delete k ps
+deleted_here k i [] x t = cc
+deleted_here k zero (p ∷ ps) x t = ap (λ is. remove (p ∷ ps) (if not is then suc (before k ps) else 0)) (sym t) ∙ sym (deleted_at k (p ∷ ps))
+deleted_here k (suc i) (p ∷ ps) x t =
+    ap (λ qs. p ∷ qs) (deleted_here k i ps (λ j l. x (suc j) (omega (arith, l))) t ∙ deleted_at k ps)
+    ∙ ap (λ is. remove (p ∷ ps) (if not is then suc (before k ps) else 0)) (sym (x 0 (omega arith)))
+    ∙ sym (deleted_at k (p ∷ ps))
 
 -- a list that is short enough is taken whole
 pub take_whole : (n : ℕ) (ps : List Pair) → length ps ≤ n → take n ps ≡ ps

@@ -181,9 +181,18 @@ impl Pairs {
     pub fn delete(self, key: u64) -> Pairs
         ensures { result ≡ delete key self }
     {
-        // So it is of a pop, where nothing is searched and all move back.
+        // An arm for each place, in which the compiler knows what moves back.
         if self.has_at(0, key) {
             return self.without(0);
+        }
+        if self.has_at(1, key) {
+            return self.without(1);
+        }
+        if self.has_at(2, key) {
+            return self.without(2);
+        }
+        if self.has_at(3, key) {
+            return self.without(3);
         }
         let at = self.before(key);
         self.without(at)
