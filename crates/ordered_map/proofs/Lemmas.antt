@@ -12,7 +12,8 @@ pub use Rattle.ordered_map.proofs.Edited.{leaf_plan_says, join_plan_says}
 pub use Rattle.ordered_map.proofs.Trees.{items, same_tree, split_at, open_between, edited_local}
 pub use Rattle.ordered_map.proofs.Holding.{SameSettled, same_pair, same_from, held_same, few_counted, counted_few, held_slots, held_next, held_count, from_rises, held_first, held_end, held_alone, low_items, high_items, low_pairs, high_pairs, same_pairs, same_leaf, high_leaf, low_leaf, rank_from, rank_below}
 pub use Rattle.ordered_map.proofs.SlotReads.{get_here, get_behind, get_nowhere}
-pub use Rattle.ordered_map.proofs.Moved.{settled_rank, settled_toward, settled_class, settled_leaf, settled_level, settled_said, settled_end, move_leaf_edit, move_join_by}
+pub use Rattle.ordered_map.proofs.Moved.{settled_rank, settled_toward, settled_class, settled_leaf, settled_level, settled_said, settled_end, move_swap_by, move_split_by, move_levels, move_join_by, move_above}
+pub use Rattle.ordered_map.proofs.Spanned.{same_stays, same_keeps, same_fork}
 pub use Rattle.ordered_map.proofs.Next.{or_else, or_none, found_before, before_above, part_on, end_below, rest_below, search_below}
 pub use Rattle.ordered_map.proofs.NextPairs.{low_pair, pair_stays, pair_goes, search_tells}
 pub use Rattle.ordered_map.proofs.Maps.{get_above, put_before, inserted, insert_keeps, deleted, delete_keeps, edited_rises, same_values, end_is, end_had, below_end, after_insert, after_delete, after_pop, after_pop_last, after_rule, neighbour_is, between_gives, between_rises, edit_gives, after_is}
