@@ -1,7 +1,8 @@
 -- What a delete has filled makes its edit, whatever rows come until its SCX-record begins.
-use Rattle.std.proofs.Common.{◌≡◌, ◌≢◌, ℕ, zero, suc, ◌<◌, ◌^◌, false, Some, None, List, [], ◌∷◌, refl, sym, ◌∙◌, ap, arith, subst, eq-eqb, ne_eqb}
+use Rattle.std.proofs.Common.{◌≡◌, ◌≢◌, ℕ, zero, suc, ◌<◌, ◌^◌, false, inl, Some, None, List, [], ◌∷◌, refl, sym, ◌∙◌, ap, arith, subst, eq-eqb, ne_eqb}
 use native.Mathlib.Decide.{ℕ_discrete}
-use Rattle.histories.specs.Common.{First, Side, Left, Right, child, History, value, IsNamed, Call, Descriptor}
+use Rattle.arena.specs.declared.limits.Mode.TheVariants.{Trie as TrieMode}
+use Rattle.histories.specs.Common.{Tree as TreeMode, First, Side, Left, Right, child, History, value, IsNamed, Call, Descriptor}
 use Rattle.template.specs.Common.{child_of, Snap, Delete, delete, get, WasOnPath, IsTreeRun, join_plan, sibling_place, class, is_leaf}
 use Rattle.template.specs.Common.{toward, pair_in, held_pairs, HasFoundLeaf, IsPromised, IsFresh, HasTurned, Pair, Key as ToKey}
 use Rattle.prims.specs.Laws.Linked.{in_field_named}
@@ -79,7 +80,8 @@ module _ (c : Call) (h : History) (k old : ℕ) (f : Found) (d : Descriptor) (ab
 
   will_take_out : WillTakeOut c.layout c.pass h d (Delete k) f.trail.side
   will_take_out = record {
-    tree = run.0;
+    stays = inl run.0;
+    fits = λ trie. absurd (let x : TreeMode ≡ TrieMode = sym run.0 ∙ trie in cc);
     small = small;
     path = let p = grand.passed.passed in subst (WasOnPath h k) (sym i.grand) (p.0, p.1, p.3);
     fork = subst (λ m. is_leaf (value h) m ≡ false) (sym i.grand) grand.fork;

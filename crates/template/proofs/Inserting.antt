@@ -1,6 +1,7 @@
 -- What an edit of a leaf has filled makes the edit, whatever rows come until its SCX-record begins.
-use Rattle.std.proofs.Common.{◌≡◌, ◌≢◌, ℕ, ◌^◌, ◌<◌, false, None, sym, ◌∙◌, ap, arith, subst, length}
-use Rattle.histories.specs.Common.{History, value, IsNamed, Call, Descriptor}
+use Rattle.std.proofs.Common.{◌≡◌, ◌≢◌, ℕ, ◌^◌, ◌<◌, false, inl, None, sym, ◌∙◌, ap, arith, subst, length}
+use Rattle.histories.specs.Common.{Tree as TreeMode, History, value, IsNamed, Call, Descriptor}
+use Rattle.arena.specs.declared.limits.Mode.TheVariants.{Trie as TrieMode}
 use Rattle.template.specs.Common.{Job, Says, snap_at, MapEdit, edit_key, WasOnPath, IsTreeRun, leaf_plan, is_leaf, toward, said, HasFoundLeaf, IsPromised, HasTurned, Key as ToKey}
 use Rattle.ordered_map.specs.OrderedMap.{value_left}
 use Rattle.ordered_map.proofs.Lemmas.{walk_named}
@@ -23,7 +24,6 @@ leaf_edit_words m d f n x plan two parent leaf old new = record {
 -- An SCX-record that puts such a fresh node in place of the leaf that was found makes the edit.
 pub edit_promised : (c : Call) (h : History) (s : ℕ) (e : MapEdit) (f : Found) (d : Descriptor) (n : ℕ) → IsTreeRun c.layout h → (edit_key e) < 2 ^ 64 → HasFoundLeaf c h (edit_key e) f → IsLeafEditAt f d n → HasFreshEdit c.layout c.pass h e f.trail.node.0 n → (value_left e ≡ None → f.value ≢ None) → IsPromised c.layout c.pass h s d e
 edit_promised c h s e f d n run small a i w there = leaf_edit_promised c.layout c.pass s h d e c.is_pass record {
-  tree = run.0;
   small = small;
   path = let p = parent.passed.passed in subst (WasOnPath h (edit_key e)) (sym i.parent) (p.0, p.1, p.3);
   named = subst (IsNamed c.layout h) (sym i.parent) (walk_named c.layout h parent.passed.first (edit_key e) f.trail.parent.0 run parent.passed.passed);
@@ -32,6 +32,8 @@ edit_promised c h s e f d n run small a i w there = leaf_edit_promised c.layout 
   old = i.old ∙ sym i.leaf;
   leaf_named = subst (IsNamed c.layout h) (sym i.leaf) (walk_named c.layout h a.trail.node.first (edit_key e) f.trail.node.0 run a.trail.node.passed);
   edit = subst (HasFreshEdit c.layout c.pass h e (d.member 1)) (sym i.new) (subst (λ l. HasFreshEdit c.layout c.pass h e l n) (sym i.leaf) w);
+  stays = inl run.0;
+  fits = λ trie. absurd (let x : TreeMode ≡ TrieMode = sym run.0 ∙ trie in cc);
   there = λ none absent. there none (a.says ∙ ap (said (value h) (edit_key e)) (sym i.leaf) ∙ absent);
 }
   where

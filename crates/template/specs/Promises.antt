@@ -1,15 +1,18 @@
 -- What has to be known for an edit's SCX-record to be allowed, whatever rows come until it begins.
-use Rattle.std.specs.Prelude.{◌≡◌, ◌≢◌, ℕ, ◌^◌, ◌<◌, false, None}
-use Rattle.histories.specs.Common.{Layout, Tree as TreeMode, Side, info, child, History, value, member, seen, IsOwnNode, IsNamed, IsRun, Begins, Descriptor, descriptor}
+use Rattle.std.specs.Prelude.{◌≡◌, ◌≢◌, ◌⊎◌, ℕ, ◌^◌, ◌<◌, false, None}
+use Rattle.arena.specs.declared.limits.Mode.TheVariants.{Trie as TrieMode}
+use Rattle.histories.specs.Common.{Layout, Side, Word, info, child, History, value, member, seen, IsOwnNode, IsNamed, IsRun, Begins, Descriptor, descriptor}
 use Rattle.help.specs.Allowed.{IsLater}
 use Rattle.prims.specs.Laws.Linked.{IsLinked}
 use Rattle.prims.specs.Snap.{child_of}
 use Rattle.prims.specs.declared.snap.Snap.{Snap}
-use Rattle.ordered_map.specs.Edits.{IsLeafEdit, IsJoinBy}
+use Rattle.ordered_map.specs.EditPlans.{above_plan}
+use Rattle.ordered_map.specs.Edits.{IsSwapBy, IsSplitBy, HasTreeLevels, IsJoinBy}
 use Rattle.ordered_map.specs.OrderedMap.{MapEdit, edit_key, value_left}
 use Rattle.ordered_map.specs.Paths.{WasOnPath}
 use Rattle.ordered_map.specs.TreeShape.{MayEdit, TreeAllows, leaf_plan, join_plan, leaf_place, sibling_place}
 use Rattle.ordered_map.specs.TreeWords.{is_leaf, toward, said}
+use Rattle.ordered_map.specs.TrieShape.{Stays, FitsTrie, IsAboveBy}
 
 -- Whenever the pass c may begin s with these words, it makes the edit: after any run that extends
 -- h by such rows as may be added before, in which s still is ready and the first info still is
@@ -23,19 +26,28 @@ pub record IsFresh (lay : Layout) (c : ℕ) (h : History) (n : ℕ) : Type 0 whe
   pub own : IsOwnNode lay c n
   pub unnamed : ¬ IsNamed lay h n
 
+-- the leaf l is replaced by a leaf, or by a fork over two, that hold what the edit makes of its pairs; in
+-- a tree the three are on the levels that they should be on there
+abbrev pub IsReplacedBy : Layout → (Word → ℕ) → MapEdit → ℕ → ℕ → Type 0
+IsReplacedBy lay f e l n = IsSwapBy f e l n ⊎ ((x y : ℕ) × IsSplitBy f e l n x y × (HasTreeLevels f l n x y ⊎ (lay.mode ≡ TrieMode)))
+
 -- the fresh node n holds what the edit makes of the pairs of the leaf l: it is a leaf, or a fork
 -- over two fresh leaves
 pub record HasFreshEdit (lay : Layout) (c : ℕ) (h : History) (e : MapEdit) (l n : ℕ) : Type 0 where
   pub fresh : IsFresh lay c h n
-  pub edit : IsLeafEdit (value h) e l n
+  pub edit : IsReplacedBy lay (value h) e l n
   pub below : is_leaf (value h) n ≡ false → (side : Side) → IsFresh lay c h (value h (child n side))
 
--- What an edit of a leaf of a tree has in hand: a fork that was on the key's path, its leaf on the side of
--- the key, in which a delete finds it, and the fresh node that is to replace that.
+-- in a trie the new node fits below the first node that is covered, on the key's side of that
+abbrev pub WillFit : Layout → History → Descriptor → MapEdit → Type 0
+WillFit lay h d e = lay.mode ≡ TrieMode → FitsTrie (value h) (d.member 0) (toward (value h) (d.member 0) (edit_key e)) d.new
+
+-- What an edit of a leaf has in hand: a fork that was on the key's path, and stays there, its leaf on the
+-- side of the key, in which a delete finds it, and the fresh node that is to replace that.
 pub record WillEditLeaf (lay : Layout) (c : ℕ) (h : History) (d : Descriptor) (e : MapEdit) : Type 0 where
-  pub tree : lay.mode ≡ TreeMode
   pub small : edit_key e < 2 ^ 64
   pub path : WasOnPath h (edit_key e) (d.member 0)
+  pub stays : Stays lay (value h) (edit_key e) (d.member 0)
   pub named : IsNamed lay h (d.member 0)
   pub fork : is_leaf (value h) (d.member 0) ≡ false
   pub plan : d.plan ≡ leaf_plan (toward (value h) (d.member 0) (edit_key e))
@@ -43,6 +55,7 @@ pub record WillEditLeaf (lay : Layout) (c : ℕ) (h : History) (d : Descriptor) 
   pub leaf_named : IsNamed lay h (d.member 1)
   pub edit : HasFreshEdit lay c h e (d.member 1) d.new
   pub there : value_left e ≡ None → said (value h) (edit_key e) (d.member 1) ≢ None
+  pub fits : WillFit lay h d e
 
 -- the snapshot may be used, and is what the SCX-record has seen of its j-th node
 pub record IsSnapOf (lay : Layout) (h : History) (d : Descriptor) (j : ℕ) (snap : Snap) : Type 0 where
@@ -50,13 +63,13 @@ pub record IsSnapOf (lay : Layout) (h : History) (d : Descriptor) (j : ℕ) (sna
   pub node : snap.node.0 ≡ d.member j
   pub scx : snap.scx.0 ≡ d.seen j
 
--- What has in hand what is to take a leaf of a tree out, where the leaf of the key is on this side of its
+-- What has in hand what is to take a leaf out, where the leaf of the key is on this side of its
 -- parent: two forks that were on the key's path, the children of the lower one as its snapshot
 -- found them, one of which is the leaf, and a fresh copy of the other.
 pub record WillTakeOut (lay : Layout) (c : ℕ) (h : History) (d : Descriptor) (e : MapEdit) (side : Side) : Type 0 where
-  pub tree : lay.mode ≡ TreeMode
   pub small : edit_key e < 2 ^ 64
   pub path : WasOnPath h (edit_key e) (d.member 0)
+  pub stays : Stays lay (value h) (edit_key e) (d.member 0)
   pub fork : is_leaf (value h) (d.member 0) ≡ false
   pub plan : d.plan ≡ join_plan (toward (value h) (d.member 0) (edit_key e))
   pub old : d.old ≡ d.member 1
@@ -72,3 +85,23 @@ pub record WillTakeOut (lay : Layout) (c : ℕ) (h : History) (d : Descriptor) (
   pub sibling_is : IsSnapOf lay h d (sibling_place side) sibling
   -- the copy of a fork has the fields that the snapshot of the sibling found
   pub copied : is_leaf (value h) (d.member (sibling_place side)) ≡ false → (s : Side) → value h (child d.new s) ≡ (child_of sibling s).0
+  pub fits : WillFit lay h d e
+
+-- What has in hand what is to put a fork of a trie above the fork u, which the key does not share: the fork
+-- over u, which was on the key's path, and stays there, and the fresh fork over u and over a fresh leaf,
+-- which is on this side.
+pub record WillPutAbove (lay : Layout) (c : ℕ) (h : History) (d : Descriptor) (e : MapEdit) (u leaf : ℕ) (side : Side) : Type 0 where
+  pub trie : lay.mode ≡ TrieMode
+  pub small : edit_key e < 2 ^ 64
+  pub path : WasOnPath h (edit_key e) (d.member 0)
+  pub stays : Stays lay (value h) (edit_key e) (d.member 0)
+  pub named : IsNamed lay h (d.member 0)
+  pub fork : is_leaf (value h) (d.member 0) ≡ false
+  pub plan : d.plan ≡ above_plan (toward (value h) (d.member 0) (edit_key e))
+  pub guard : d.member 1 ≡ 2
+  pub old : d.old ≡ u
+  pub old_named : IsNamed lay h u
+  pub fresh : IsFresh lay c h d.new
+  pub fresh_leaf : IsFresh lay c h leaf
+  pub edit : IsAboveBy (value h) e u d.new leaf side
+  pub fits : WillFit lay h d e

@@ -182,7 +182,7 @@ module _ (ed : PutPair) (c : Call) (h : History) (f : Found) (snaps : List Snap)
     made : IsSplitBy (value h) (PutEdit ed.key ed.value) old_leaf fork_node x_node y_node → HasTreeLevels (value h) old_leaf fork_node x_node y_node → Made fork_node
     made split levels = record {
       fresh = (holds true grows Third (omega arith)).fresh;
-      edit = inr (x_node, y_node, split, levels);
+      edit = inr (x_node, y_node, split, inl levels);
       below = λ is_fork side. under side;
     }
       where
