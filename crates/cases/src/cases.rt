@@ -1,6 +1,7 @@
 //! All cases, one after another.
 use crate::case::Case;
 use crate::change::ReportChange;
+use crate::example::Example;
 use crate::files::list_of;
 use crate::finding::Finding;
 use crate::refusal::Refusal;
@@ -35,7 +36,7 @@ pub(crate) fn all<R: Files + Input + Print + Clock + AllocGlobal + Threads + Wai
 
 impl Told {
     /// Those that have folders.
-    fn cases<R: Files + Print + AllocGlobal + Threads + Wait + Sync>(
+    fn cases<R: Files + Input + Print + Clock + AllocGlobal + Threads + Wait + Sync>(
         &mut self,
         rt: &R,
     ) -> Result<()> {
@@ -44,6 +45,8 @@ impl Told {
                 let (count, case) = rest.split_once(' ').context(line)?;
                 let finding = self.numbered(rt, count.parse().ok().context(line)?, case)?;
                 self.tell(rt, line, finding)?;
+            } else if let Some(rest) = line.strip_prefix("example ") {
+                self.tell(rt, line, Example::of(rest)?.find(rt)?)?;
             } else if !line.starts_with('#') {
                 self.tell(rt, line, Case::of(line)?.find(rt)?)?;
             }

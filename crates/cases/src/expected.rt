@@ -42,6 +42,11 @@ impl Expected {
         })
     }
 
+    /// What a page of a folder's report has: the rows of that.
+    pub(crate) fn of_page<R: Files + AllocGlobal>(rt: &R, folder: &str) -> Result<Expected> {
+        Ok(Expected::Rows(text_of(rt, folder, "report.csv")?))
+    }
+
     /// How a command has ended, against this.
     pub(crate) fn compare(
         &self,

@@ -11,6 +11,7 @@ mod command;
 mod copy;
 mod devices;
 mod ended;
+mod example;
 mod expected;
 mod explored;
 mod files;

@@ -39,15 +39,14 @@ impl<'a> WordsCase<'a> {
         rt: &R,
     ) -> Result<Finding> {
         let alloc = rt.alloc();
-        let (mut out, mut err) = (Vec::new(alloc), Vec::new(alloc));
-        let status = if self.words.starts_with("rnb ") {
-            let words = all_words(alloc, "", self.words)?;
-            people_words(rt, words.as_slice(), &mut out, &mut err)
+        let ended = if self.words.starts_with("rnb ") {
+            people_end(rt, self.words)?
         } else {
+            let (mut out, mut err) = (Vec::new(alloc), Vec::new(alloc));
             let words = all_words(alloc, "regnubas ", self.words)?;
-            run_words(rt, words.as_slice(), &mut out, &mut err)
+            let status = run_words(rt, words.as_slice(), &mut out, &mut err);
+            ProgramEnd { status, out, err }
         };
-        let ended = ProgramEnd { status, out, err };
         Ok(self.expected(alloc)?.compare(alloc, &ended)?)
     }
 
@@ -60,6 +59,18 @@ impl<'a> WordsCase<'a> {
             Expected::Fault(format!(in alloc; "{lines}\n")?.into_bytes())
         })
     }
+}
+
+/// How `rnb` ends with these words, the first of which is its name.
+pub(crate) fn people_end<R: Files + Input + Clock + AllocGlobal + Threads + Wait + Sync>(
+    rt: &R,
+    words: &str,
+) -> Result<ProgramEnd<Vec<u8>>> {
+    let alloc = rt.alloc();
+    let (mut out, mut err) = (Vec::new(alloc), Vec::new(alloc));
+    let words = all_words(alloc, "", words)?;
+    let status = people_words(rt, words.as_slice(), &mut out, &mut err);
+    Ok(ProgramEnd { status, out, err })
 }
 
 /// All words of these two texts.

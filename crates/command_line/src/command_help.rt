@@ -6,8 +6,7 @@ use std::alloc::Global;
 const ABOUT: &str = "Regnubas for people: runs of a lock-free ordered dictionary, step by step";
 
 const AFTER: &str =
-    "The examples run in crates/cases/data/stories/late_helper_loses_the_update, that of `records` in the
-folder late_helper beside it. docs/FORMATS.md describes scripts, schedules, reports and outcomes.
+    "The examples run in crates/cases/data. docs/FORMATS.md describes scripts, schedules, reports and outcomes.
 Status: 0; 1 if a text is refused, 2 for words that do not fit, 3 for want of memory, 4 if a file fails.";
 
 const TEXT: &str = "The file to read, or `-` for standard input";
@@ -28,49 +27,49 @@ const HELPS: [CommandHelp; 7] = [
         about: "Play a script on the tree by a schedule, and print the report of every step",
         first: "SCRIPT",
         second: Some("SCHEDULE"),
-        example: "Example: rnb play script.csv schedule.csv -o played.csv",
+        example: "Example: rnb play stories/pop_is_helped/script.csv stories/pop_is_helped/schedule.csv",
     },
     CommandHelp {
         name: "records",
         about: "Play a script on single cells by a schedule, and print the report of every step",
         first: "SCRIPT",
         second: Some("SCHEDULE"),
-        example: "Example: rnb records script.csv schedule.csv",
+        example: "Example: rnb records stories/late_helper/script.csv stories/late_helper/schedule.csv",
     },
     CommandHelp {
         name: "run",
         about: "Run a script on the tree with a thread for each client, and print the outcome",
         first: "SCRIPT",
         second: None,
-        example: "Example: rnb run script.csv --gate hold",
+        example: "Example: rnb run runs/two_inserts/script.csv --gate hold",
     },
     CommandHelp {
         name: "audit",
         about: "Say whether a report is of a lawful run, or which row is not and why",
         first: "REPORT",
         second: None,
-        example: "Example: rnb play script.csv schedule.csv | rnb audit -",
+        example: "Example: rnb audit stories/pop_is_helped/report.csv --progress",
     },
     CommandHelp {
         name: "picture",
         about: "Draw a report as an SVG; whether its run is lawful is not asked",
         first: "REPORT",
         second: None,
-        example: "Example: rnb picture report.csv --from 95 --to 130 -o picture.svg",
+        example: "Example: rnb picture stories/pop_is_helped/report.csv >picture.svg",
     },
     CommandHelp {
         name: "page",
         about: "Make a page of a report, to step through its run in a browser",
         first: "REPORT",
         second: None,
-        example: "Example: rnb page report.csv -o run.html",
+        example: "Example: rnb page stories/pop_is_helped/report.csv >run.html",
     },
     CommandHelp {
         name: "outcomes",
         about: "List what a script on the tree can answer in schedules with few interruptions",
         first: "SCRIPT",
         second: None,
-        example: "Example: rnb outcomes script.csv --interruptions 1 --most 1000",
+        example: "Example: rnb outcomes outcomes/two_pops/script.csv --interruptions 1 --most 1000",
     },
 ];
 

@@ -449,6 +449,8 @@ function layOut(reached) {
       if (!ghost || (ghost.retired.has(node) && !reached.has(node))) points.push(place(node, level, ghost));
       const taken = ghost ? undefined : ghosts.get(word);
       const isGone = taken?.retired.has(taken.node) && !reached.has(taken.node);
+      // No fork stands between the new nodes and these, so they need room of their own.
+      if (isGone) x += 16;
       if (isGone) points.push(place(taken.node, level, taken));
     };
     grow("left");
@@ -537,13 +539,23 @@ const stepName = () => (now > 0 && turns[now - 1].kind !== "idle" ? nodeOf(turns
 const pointedName = () => pinned ?? stepName();
 const ring = (x, y, across, high) => rect(x, y, across, high, "ring");
 
+// Where the node is drawn that is pointed at, or the last one that the client of the step has looked at.
+function spotNow() {
+  if (pinned) return spotOf.get(pinned);
+  for (let at = now; at > 0 && now - at < 100; at--) {
+    const spot = turns[at - 1].client === turns[now - 1].client && spotOf.get(nodeOf(turns[at - 1].word));
+    if (spot) return spot;
+  }
+  return undefined;
+}
+
 // Rings the node that is pointed at, and brings it into sight.
 function drawRing() {
   shape.querySelector(".pointed")?.classList.remove("pointed");
   const name = pointedName();
   const node = name && shape.querySelector(`[data-name="${name}"]`);
   node?.classList.add("pointed");
-  const spot = name && spotOf.get(name);
+  const spot = spotNow();
   if (!spot) return;
   const [x, y] = spot;
   const tall = shape.clientHeight;
