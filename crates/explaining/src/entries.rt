@@ -18,63 +18,48 @@ const CALL: usize = 5;
 
 /// An entry comes after each update that wins, and is the only one of its call.
 pub(crate) fn check_entry(before: &LinesBefore<'_>, entry: &Entry) -> Result<(), Objection> {
-    let alloc = before.alloc;
     let Some(owed) = &before.owed else {
-        return Err(object(
-            0,
-            String::from_str(
-                alloc,
-                "an entry comes only after an update that wins, and the row before is none",
-            ),
-        ));
+        let text = "an entry comes only after an update that wins, and the row before is none";
+        return Err(object(0, String::from_str(before.alloc, text)));
     };
-    check_same(
-        before,
-        PLACE,
-        entry.place,
-        owed.place,
-        "the next place in the log",
-    )?;
-    check_same(
-        before,
-        STEP,
-        entry.step,
-        owed.step,
-        "the turn of the update",
-    )?;
-    check_same(
-        before,
-        SCX,
-        entry.scx.0,
-        owed.scx.0,
-        "the SCX-record that the node's info names",
-    )?;
-    let (client, owner) = (u64::from(entry.client.0), u64::from(owed.client.0));
-    check_same(before, CLIENT, client, owner, "the owner of the SCX-record")?;
-    check_same(
-        before,
-        CALL,
-        entry.call,
-        owed.call,
-        "the word call of the SCX-record",
-    )?;
+    check_fields(before, entry, owed)?;
     check_owner(before, entry)?;
     check_made(before, entry)
 }
 
-fn check_same(
-    before: &LinesBefore<'_>,
-    field: usize,
-    found: u64,
-    wanted: u64,
-    what: &str,
-) -> Result<(), Objection> {
-    let alloc = before.alloc;
-    demand(
-        found == wanted,
-        field,
-        format!(in alloc; "{found} in place of {wanted}, {what}"),
-    )
+/// Each field is that of the update.
+fn check_fields(before: &LinesBefore<'_>, entry: &Entry, owed: &Entry) -> Result<(), Objection> {
+    let (alloc, client, owner) = (before.alloc, entry.client.0, owed.client.0);
+    let fields = [
+        (PLACE, entry.place, owed.place, "the next place in the log"),
+        (STEP, entry.step, owed.step, "the turn of the update"),
+        (
+            SCX,
+            entry.scx.0,
+            owed.scx.0,
+            "the SCX-record that the node's info names",
+        ),
+        (
+            CLIENT,
+            u64::from(client),
+            u64::from(owner),
+            "the owner of the SCX-record",
+        ),
+        (
+            CALL,
+            entry.call,
+            owed.call,
+            "the word call of the SCX-record",
+        ),
+    ];
+    for (field, found, wanted, what) in fields {
+        demand(
+            found == wanted,
+            field,
+            format!(in alloc; "{found} in place of {wanted}, {what}"),
+        )?;
+    }
+    Ok(())
 }
 
 /// It is of the call that the owner is making, and the first of it.
