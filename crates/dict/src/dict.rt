@@ -66,6 +66,26 @@ impl<K: WordKey, V: WordValue> DictRun<K, V> {
     }
 }
 
+/// The word of a key.
+#[inline(always)]
+fn word_of<K: WordKey>(key: K) -> u64
+    ensures word { result ≡ K.word_of key }
+    ensures key { IsWordOf K.is_valid K.word_of result }
+{
+    key.valid();
+    key.word()
+}
+
+/// The number of a value.
+#[inline(always)]
+fn number_in<V: WordValue>(value: V) -> u128
+    ensures number { result ≡ V.word_of value }
+    ensures value { IsWordOf V.is_valid V.word_of result }
+{
+    value.valid();
+    number_of(&value)
+}
+
 /// The same call, in words.
 #[inline(always)]
 fn in_words<K: WordKey, V: WordValue>(request: Request<K, V>) -> Request<u64, u128>
@@ -74,31 +94,17 @@ fn in_words<K: WordKey, V: WordValue>(request: Request<K, V>) -> Request<u64, u1
 {
     match request {
         Request::Insert { key, value } => {
-            key.valid();
-            value.valid();
-            Request::Insert {
-                key: key.word(),
-                value: number_of(&value),
-            }
+            let (key, value) = (word_of(key), number_in(value));
+            Request::Insert { key, value }
         }
         Request::InsertNew { key, value } => {
-            key.valid();
-            value.valid();
-            Request::InsertNew {
-                key: key.word(),
-                value: number_of(&value),
-            }
+            let (key, value) = (word_of(key), number_in(value));
+            Request::InsertNew { key, value }
         }
-        Request::Delete { key } => {
-            key.valid();
-            Request::Delete { key: key.word() }
-        }
+        Request::Delete { key } => Request::Delete { key: word_of(key) },
         Request::DeleteIf { key, expected } => {
-            key.valid();
-            Request::DeleteIf {
-                key: key.word(),
-                expected: number_of(&expected),
-            }
+            let (key, expected) = (word_of(key), number_in(expected));
+            Request::DeleteIf { key, expected }
         }
         Request::PopFirst => Request::PopFirst,
         Request::PopLast => Request::PopLast,
@@ -107,22 +113,20 @@ fn in_words<K: WordKey, V: WordValue>(request: Request<K, V>) -> Request<u64, u1
             expected,
             value,
         } => {
-            key.valid();
-            value.valid();
+            let (key, expected, value) = (word_of(key), number_in(expected), number_in(value));
             Request::ReplaceIf {
-                key: key.word(),
-                expected: number_of(&expected),
-                value: number_of(&value),
+                key,
+                expected,
+                value,
             }
         }
-        Request::Get { key } => Request::Get { key: key.word() },
-        Request::Successor { key } => Request::Successor { key: key.word() },
-        Request::Predecessor { key } => Request::Predecessor { key: key.word() },
-        Request::Range { low, high, most } => Request::Range {
-            low: low.word(),
-            high: high.word(),
-            most,
-        },
+        Request::Get { key } => Request::Get { key: word_of(key) },
+        Request::Successor { key } => Request::Successor { key: word_of(key) },
+        Request::Predecessor { key } => Request::Predecessor { key: word_of(key) },
+        Request::Range { low, high, most } => {
+            let (low, high) = (word_of(low), word_of(high));
+            Request::Range { low, high, most }
+        }
     }
 }
 
