@@ -3,7 +3,8 @@ use Rattle.std.proofs.Common.{◌≡◌, ℕ, zero, suc, Bool, true, false, cond
 use Rattle.std.proofs.lemmas.List.Elements.{All-tail}
 use Rattle.histories.specs.Common.{Mode, Tree, Layout, Row, History, ◌⊳◌, IsRun}
 use Rattle.histories.proofs.Lemmas.{lawful_tail, shaped_tail}
-use Rattle.record.specs.Common.{MapCall, map_request, IsTreeRun, Call, Command, Llx as LlxOf, Scx as ScxOf, Vlx as VlxOf, Set as SetOf, Map, mode_of, commands, map_call}
+use Rattle.record.specs.Common.{MapCall, map_request, IsTreeRun, Call, Command, Llx as LlxOf, Scx as ScxOf, Vlx as VlxOf, Set as SetOf, Map, commands, map_call}
+use Rattle.player.specs.Modes.{mode_of}
 use Rattle.record.proofs.Lemmas.{AreMapCalls}
 use Rattle.player.specs.Allowed.{PlayedAllows}
 use Rattle.player.proofs.Shapes.{as_tree}

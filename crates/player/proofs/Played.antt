@@ -5,7 +5,8 @@ use Rattle.std.proofs.lemmas.List.{map_more, reverse-append, reverse-reverse}
 use Rattle.histories.specs.Common.{Layout, Contents, value, Lawful, Shaped}
 use Rattle.arena.specs.PlainWords.{IsOpening}
 use Rattle.histories.proofs.Lemmas.{fields_are, finalized_since, lawful_since, once}
-use Rattle.record.specs.Common.{Call, mode_of, history, clients, turns, AreLines, IsLawfulRun}
+use Rattle.record.specs.Common.{Call, history, clients, turns, AreLines, IsLawfulRun}
+use Rattle.player.specs.Modes.{mode_of}
 use Rattle.player.proofs.Readings.{whole}
 use Rattle.player.specs.declared.client.Client.{Client}
 use Rattle.player.specs.declared.interleaving.Interleaving.{Interleaving}

@@ -1,7 +1,8 @@
 -- What is true of an interleaving between two turns, and in the middle of one.
 use Rattle.std.specs.Prelude.{◌≡◌, ◌≢◌, ℕ, suc, ◌<◌, ◌⊎◌, List, ◌∷◌, set, Option, Some, None, MatchOption, slice_get, All}
 use Rattle.histories.specs.Common.{Layout, Word, IsWord, Contents, word_at, value, IsRun, Step as Ask, Row, Tree}
-use Rattle.record.specs.Common.{Call, mode_of, AreFilledInOrder, history, begin, clients, entries, entry_owed, turns, won, MapEdit, edit_key, value_left, written_log, AreLines, OwesNothing}
+use Rattle.record.specs.Common.{Call, AreFilledInOrder, history, begin, clients, entries, entry_owed, turns, won, MapEdit, edit_key, value_left, written_log, AreLines, OwesNothing}
+use Rattle.player.specs.Modes.{mode_of}
 use Rattle.record.specs.declared.record.Line.{Line}
 use Rattle.record.specs.declared.record.Line.TheVariants.{Step}
 use Rattle.record.specs.declared.record.TurnRow.{TurnRow}
