@@ -121,13 +121,14 @@ turn_ends lay tries calls words clients lines c settled is x = record { so_far =
 -- a line that no client waits for is written down
 pub so_far_same : (lay : Layout) (tries : ℕ) (calls : List Call) (words : Contents) (lines : List Line) (line : Line) → history lay.mode (line ∷ lines) ≡ history lay.mode lines → IsNext lay tries calls lines line → IsLawfulSoFar lay tries calls words lines → IsLawfulSoFar lay tries calls words (line ∷ lines)
 unfolding AreLines
-so_far_same lay tries calls words lines line e next x = record { layout = x.layout; holds = λ w i. x.holds w i ∙ ap (λ (h : History). value h w) (sym e); sound = rw e x.sound; in_order = (x.in_order, next); filled = λ tree. subst (λ (h : History). AreFilledInOrder h) (sym e) (x.filled tree); of_mode = x.of_mode }
+so_far_same lay tries calls words lines line e next x = record { layout = x.layout; holds = λ w i. x.holds w i ∙ ap (λ (h : History). value h w) (sym e); sound = rw e x.sound; in_order = (x.in_order, next); filled = λ tree. subst (λ (h : History). AreFilledInOrder h) (sym e) (x.filled tree); plays = x.plays; of_mode = x.of_mode }
 
 -- a step of the client: the words change as the row says
 pub step_made : (lay : Layout) (tries : ℕ) (calls : List Call) (old new : Contents) (lines : List Line) (number : ℕ) (row : Row) → IsChanged old new row.word row.after → IsRun PlayedAllows lay (row ⊳ history lay.mode lines) → IsNext lay tries calls lines (Step (Made number row)) → (lay.mode ≡ Tree → IsFillInOrder (history lay.mode lines) row) → IsLawfulSoFar lay tries calls old lines → IsLawfulSoFar lay tries calls new (Step (Made number row) ∷ lines)
 unfolding AreLines
 step_made lay tries calls old new lines number row changed run next order x = record {
   layout = changed.layout ∙ x.layout;
+  plays = x.plays;
   of_mode = x.of_mode;
   holds = λ w i. go w i (same_word row.word w) refl;
   sound = run;
