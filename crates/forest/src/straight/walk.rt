@@ -53,6 +53,41 @@ fn read<S: Shape, M: Machine<S>>(
     step_from::<S, M>(hand, seat, Step { kind, word, access }, start)
 }
 
+/// Loads the child on this side of a node that begins there. On the way to an end an arm for each
+/// side costs less than its place, and few forks are of another side than the one before.
+#[inline(always)]
+fn read_child<S: Shape, M: Machine<S>>(
+    hand: Hand<S>,
+    seat: &mut Seat<u8, SeatView>,
+    goal: Goal,
+    node: NodeNo,
+    start: usize,
+    side: Side,
+) -> u64
+    requires table { IsAt hand seat.old }
+    requires start { start ≡ node_start node }
+    requires waits { (w : Walker (hand_calls S.Shape M.Machine hand)) × (m : WalkRun)
+        × (turn : LastTurns)
+        × WalkerWaits w seat.old.me.0.passes m turn
+        (load Kind.LoadChild (Word.Node node (NodeWord.Child side))) }
+    ensures table { StaysAtTable seat.old seat.new }
+    ensures one { steps_made seat.new ≡ suc (steps_made seat.old) }
+    ensures told { (w : Walker (hand_calls S.Shape M.Machine hand.entry)) (m : WalkRun)
+        (turn : LastTurns)
+        → WalkerWaits w seat.old.me.0.passes m turn
+        (load Kind.LoadChild (Word.Node node (NodeWord.Child side)))
+        → WalkerIsTold w seat.new.me.0.passes m turn result }
+{
+    let kind = Kind::LoadChild;
+    if let Goal::Key(_) = goal {
+        return read::<S, M>(hand, seat, kind, node, start, NodeWord::Child(side));
+    }
+    match side {
+        Side::Left => read::<S, M>(hand, seat, kind, node, start, NodeWord::Child(Side::Left)),
+        Side::Right => read::<S, M>(hand, seat, kind, node, start, NodeWord::Child(Side::Right)),
+    }
+}
+
 /// On which side of a fork with this key the walk continues.
 #[inline(always)]
 fn side_of(goal: Goal, key: u64) -> Side
@@ -164,6 +199,52 @@ fn end_with<S: Shape, M: Machine<S>>(
     }
 }
 
+/// Ends among the pairs of a leaf, as below, from the first slot on, which the compiler knows.
+#[inline(always)]
+fn end_from<S: Shape, M: Machine<S>>(
+    hand: Hand<S>,
+    seat: &mut Seat<u8, SeatView>,
+    goal: Goal,
+    trail: Trail,
+    start: usize,
+    head: Head,
+    more: u64,
+    first: Slot,
+) -> Found
+    requires table { IsAt hand seat.old }
+    requires start { start ≡ node_start trail.node }
+    requires first { first ≡ goal_slot goal more }
+    requires told { (w : Walker (hand_calls S.Shape M.Machine hand)) × (turn : LastTurns)
+        × WalkerIsTold w seat.old.me.0.passes (walk_at goal trail (WalkAt.More head)) turn more }
+    ensures table { StaysAtTable seat.old seat.new }
+    ensures steps { steps_made seat.new ≤ steps_made seat.old + 6 }
+    ensures finds { (w : Walker (hand_calls S.Shape M.Machine hand.entry)) (turn : LastTurns)
+        → WalkerIsTold w seat.old.me.0.passes (walk_at goal trail (WalkAt.More head)) turn more
+        → WalkerFinds w seat.new.me.0.passes goal turn result }
+{
+    let mut slot = first;
+    loop {
+        let (kind, part) = (Kind::LoadSettled, NodeWord::Settled(SettledPart::Key(slot)));
+        let key = read::<S, M>(hand, seat, kind, trail.node, start, part);
+        let asked = asked_key(goal, key);
+        if asked == key {
+            return end_with::<S, M>(hand, seat, goal, trail, start, head, more, slot, key);
+        }
+        match slot_behind(more, slot) {
+            Some(next) if key < asked => slot = next,
+            _ => {
+                return Found {
+                    trail,
+                    head,
+                    more,
+                    key: asked,
+                    value: None,
+                };
+            }
+        }
+    }
+}
+
 /// Ends at a leaf of class 0 that begins there and has `more` pairs after its first: it loads the
 /// keys in order up to the first that is not below the walk's, or the last.
 #[inline(always)]
@@ -186,26 +267,11 @@ fn end_among<S: Shape, M: Machine<S>>(
         → WalkerIsTold w seat.old.me.0.passes (walk_at goal trail (WalkAt.More head)) turn more
         → WalkerFinds w seat.new.me.0.passes goal turn result }
 {
-    let mut slot = first_slot(goal, more);
-    loop {
-        let (kind, part) = (Kind::LoadSettled, NodeWord::Settled(SettledPart::Key(slot)));
-        let key = read::<S, M>(hand, seat, kind, trail.node, start, part);
-        let asked = asked_key(goal, key);
-        if asked == key {
-            return end_with::<S, M>(hand, seat, goal, trail, start, head, more, slot, key);
-        }
-        match slot_behind(more, slot) {
-            Some(next) if key < asked => slot = next,
-            _ => {
-                return Found {
-                    trail,
-                    head,
-                    more,
-                    key: asked,
-                    value: None,
-                };
-            }
-        }
+    match first_slot(goal, more) {
+        Slot::First => end_from::<S, M>(hand, seat, goal, trail, start, head, more, Slot::First),
+        Slot::Second => end_from::<S, M>(hand, seat, goal, trail, start, head, more, Slot::Second),
+        Slot::Third => end_from::<S, M>(hand, seat, goal, trail, start, head, more, Slot::Third),
+        Slot::Fourth => end_from::<S, M>(hand, seat, goal, trail, start, head, more, Slot::Fourth),
     }
 }
 
@@ -334,8 +400,7 @@ pub(crate) fn call<S: Shape, M: Machine<S>>(
             Ok(side) => side,
             Err(found) => return (found, turns),
         };
-        let (kind, part) = (Kind::LoadChild, NodeWord::Child(side));
-        let child = read::<S, M>(hand, seat, kind, node, start, part);
+        let child = read_child::<S, M>(hand, seat, goal, node, start, side);
         turns = turns.with(side, node);
         trail = Trail {
             grand: trail.parent,

@@ -5,9 +5,9 @@ use Rattle.order.specs.declared.last_turns.LastTurns.{LastTurns}
 use Rattle.forest.specs.CallKinds.{calls}
 use Rattle.forest.specs.StraightWalk.{Walker, WalkerIsTold}
 use Rattle.forest.proofs.StraightWalk.{to_first, to_next, finds_other, next_slot, few_slots}
-use Rattle.forest.proofs.straight.walk.end_among.Given.{Over}
-use Rattle.forest.proofs.straight.walk.end_among.Goals.{After-read-key, Else-asked-key}
-use Rattle.forest.proofs.straight.walk.end_among.Goals as goal
+use Rattle.forest.proofs.straight.walk.end_from.Given.{Over}
+use Rattle.forest.proofs.straight.walk.end_from.Goals.{After-read-key, Else-asked-key}
+use Rattle.forest.proofs.straight.walk.end_from.Goals as goal
 
 -- whichever call it is, it has got the key in this slot
 told : (g : Over) (c : After-read-key g) (w : Walker (calls g.S.Shape g.M.Machine c.args.hand.layout.now c.args.hand.number)) (turn : LastTurns)
@@ -20,7 +20,7 @@ other : (g : Over) (c : Else-asked-key g) → asked_key c.args.goal c.read-key.r
 other g c = λ z. c.if-asked-key.false (c.asked_key-asked.ensures ∙ z)
 
 pub loop-hand-init : goal.loop-hand-init
-loop-hand-init g c = record { here = (refl, refl); steps = omega arith; waits = λ w turn x. rw c.first_slot-slot.ensures (to_first w _ c.args.goal c.args.trail turn c.args.head c.args.more x) }
+loop-hand-init g c = record { here = (refl, refl); steps = omega arith; waits = λ w turn x. rw c.requires.first (to_first w _ c.args.goal c.args.trail turn c.args.head c.args.more x) }
 
 pub read-key-requires-clause-waits : goal.read-key-requires-clause-waits
 read-key-requires-clause-waits g c = let r = c.requires.told in (r.0, walk_at c.args.goal c.args.trail (Pair c.args.head c.args.more c.loop-hand.slot), r.1, c.loop-hand.invariant.waits r.0 r.1 r.2)
