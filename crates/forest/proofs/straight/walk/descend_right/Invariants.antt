@@ -7,8 +7,8 @@ use Rattle.template.specs.Common.{walk_at, walk_left}
 use Rattle.template.specs.Walk.Places.{LoadsHead}
 use Rattle.forest.proofs.straight.walk.descend_right.Given as goal
 
-abbrev pub invariant-loop-place : goal.invariant-loop-place
-invariant-loop-place g l = record {
+abbrev pub invariant-loop-goal : goal.invariant-loop-goal
+invariant-loop-goal g l = record {
   here : (l.seat.table_id ≡ l.fn.seat.table_id) × (l.seat.me.1 ≡ l.fn.seat.me.1);
   loads : LoadsHead l.place.at;
   start : l.place.start ≡ node_start l.place.trail.node;
@@ -19,5 +19,5 @@ invariant-loop-place g l = record {
       → WalkerIsTold w l.seat.me.0.passes (walk_at l.goal l.place.trail l.place.at) l.place.turns l.word;
 }
 
-abbrev pub decreases-loop-place : goal.decreases-loop-place
-decreases-loop-place g l = walk_left l.place.at (shared_nodes l.fn.hand.layout.now)
+abbrev pub decreases-loop-goal : goal.decreases-loop-goal
+decreases-loop-goal g l = walk_left l.place.at (shared_nodes l.fn.hand.layout.now)
