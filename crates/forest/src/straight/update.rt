@@ -16,13 +16,13 @@ use crate::straight::reads::read;
 use crate::straight::scx::{self, ScxTask};
 use crate::straight::{helps, resume, walk};
 use crate::view::SeatView;
-use arena::{Machine, NodeNo, ScxNo, Shape, Share, Side};
+use arena::{Machine, NodeNo, ScxNo, Shape, Share};
 use arrayvec::ArrayVec;
 use atomic_table::Seat;
 use edits::{Edit, Next, Nodes, Reading, Stop, UpdateRun, Updated, Work, copied};
 use help::HelpRun;
 use prims::Snap;
-use template::{Found, Goal, Trail, Tree};
+use template::{Found, Tree};
 
 /// Makes an edit in `tries` tries out of this share, and returns what is left of that. It is a
 /// function of its own, since the compiler inlines nothing into a function that would grow large,
@@ -81,20 +81,7 @@ fn call<S: Shape, M: Machine<S>, E: Edit + Copy>(
     let goal = run.edit.goal();
     let found = copied(&walk::call::<S, M>(hand, seat, goal).0);
     let next = run.test_share(&found);
-    if knows_sides(goal, &found.trail) {
-        return try_on::<S, M, E>(hand, seat, run, &found, next);
-    }
-    resume::from_next::<S, M, E>(hand, seat, run, &found, next)
-}
-
-/// Whether the sides of the two forks above the leaf are known. A walk to the last pair turned left
-/// at one of them in maps of a few pairs alone; elsewhere the compiler knows both from here on.
-#[inline(always)]
-fn knows_sides(goal: Goal, trail: &Trail) -> bool {
-    match goal {
-        Goal::End(Side::Right) => trail.side == Side::Right && trail.grand_side == Side::Right,
-        _ => true,
-    }
+    try_on::<S, M, E>(hand, seat, run, &found, next)
 }
 
 /// Makes what a try does next and all after it.

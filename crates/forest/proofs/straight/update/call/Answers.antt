@@ -26,19 +26,9 @@ call-requires-clause-waits g c = let r = c.requires.begins in (
 pub try_on-requires-clause-goes_on : goal.try_on-requires-clause-goes_on
 try_on-requires-clause-goes_on g c = let r = c.requires.begins in (r.0, goes_on g (goal.at.try_on-requires-clause-goes_on g c).After-test_share-next r.0 r.1)
 
-pub from_next-requires-clause-goes_on : goal.from_next-requires-clause-goes_on
-from_next-requires-clause-goes_on g c = let r = c.requires.begins in (r.0, goes_on g (goal.at.from_next-requires-clause-goes_on g c).After-test_share-next r.0 r.1)
-
-pub returns-then-knows_sides : goal.returns-then-knows_sides
-returns-then-knows_sides g c = record {
-  table = search rules;
-  to = λ u x. c.try_on.ensures.to u (goes_on g (goal.at.returns-then-knows_sides g c).After-test_share-next u x);
-  steps = both_steps _ _ _ c.try_on.ensures.steps (walk_steps _ _ _ _ _ _ c.call.ensures.steps (weighs_next g.E.Edit.means c.test_share-next.new.self c.copied-found.result c.test_share-next.result _ _ (c.test_share-next.ensures.nearer (shared_nodes c.args.hand.layout.now))));
-}
-
 pub returns : goal.returns
 returns g c = record {
   table = search rules;
-  to = λ u x. c.from_next.ensures.to u (goes_on g (goal.at.returns g c).After-test_share-next u x);
-  steps = both_steps _ _ _ c.from_next.ensures.steps (walk_steps _ _ _ _ _ _ c.call.ensures.steps (weighs_next g.E.Edit.means c.test_share-next.new.self c.copied-found.result c.test_share-next.result _ _ (c.test_share-next.ensures.nearer (shared_nodes c.args.hand.layout.now))));
+  to = λ u x. c.try_on.ensures.to u (goes_on g (goal.at.returns g c).After-test_share-next u x);
+  steps = both_steps _ _ _ c.try_on.ensures.steps (walk_steps _ _ _ _ _ _ c.call.ensures.steps (weighs_next g.E.Edit.means c.test_share-next.new.self c.copied-found.result c.test_share-next.result _ _ (c.test_share-next.ensures.nearer (shared_nodes c.args.hand.layout.now))));
 }
