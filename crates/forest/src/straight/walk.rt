@@ -1,5 +1,5 @@
 //! Walks down the tree, of whatever machine walks.
-ghost use Rattle.std.specs.Prelude.{◌≡◌, ◌≤◌, ◌+◌, ◌*◌, ℕ, suc, true, if◌then◌else◌, nat_lt, IfOk, IfErr, MatchResult};
+ghost use Rattle.std.specs.Prelude.{◌≡◌, ◌<◌, ◌≤◌, ◌+◌, ◌*◌, ℕ, suc, true, false, if◌then◌else◌, nat_lt, IfOk, IfErr, MatchResult};
 ghost use Rattle.arena.specs.Heads.{head_of};
 ghost use Rattle.arena.specs.Layout.{node_start};
 ghost use Rattle.arena.specs.declared.number.NodeNo.{NodeNo};
