@@ -395,14 +395,16 @@ fn descend<S: Shape, M: Machine<S>>(
     requires table { IsAt hand seat.old }
     requires start { place.start ≡ node_start place.trail.node }
     requires waits { (w : Walker (hand_calls S.Shape M.Machine hand))
-        × WalkerGoesDown w seat.old.me.0.passes goal place.trail (head_of word).level side place.turns }
+        × WalkerGoesDown w seat.old.me.0.passes goal place.trail (head_of word).level side
+        place.turns }
     ensures table { StaysAtTable seat.old seat.new }
     ensures one { steps_made seat.new ≡ suc (steps_made seat.old) }
     ensures at { result.at ≡ WalkAt.Head (head_of word).level }
     ensures start { result.start ≡ node_start result.trail.node }
     ensures deep { (head_of word).level + 1 < 2 + shared_nodes hand.entry.layout.now }
     ensures down { (w : Walker (hand_calls S.Shape M.Machine hand.entry))
-        → WalkerGoesDown w seat.old.me.0.passes goal place.trail (head_of word).level side place.turns
+        → WalkerGoesDown w seat.old.me.0.passes goal place.trail (head_of word).level side
+        place.turns
         → WalkerWaits w seat.new.me.0.passes (walk_at goal result.trail result.at) result.turns
         (load Kind.LoadSettled (Word.Node result.trail.node (NodeWord.Settled SettledPart.Head))) }
 {
