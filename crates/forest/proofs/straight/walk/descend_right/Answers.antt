@@ -15,7 +15,7 @@ use Rattle.forest.proofs.straight.walk.descend_right.Goals as goal
 down : (g : Over) (c : After-goes_right g) → c.goes_right.result ≡ true → (w : Walker (calls g.S.Shape g.M.Machine c.args.hand.layout.now c.args.hand.number))
     → WalkerIsTold w c.args.seat.now.me.0.passes (walk_at c.args.goal c.args.first.trail c.args.first.at) c.args.first.turns c.args.head
     → WalkerGoesDown w c.loop-goal.seat.me.0.passes c.args.goal c.loop-goal.place.trail (head_of c.loop-goal.word).level Right c.loop-goal.place.turns
-down g c yes w x = to_known w _ c.args.goal c.loop-goal.place.trail c.loop-goal.place.turns c.loop-goal.place.at c.loop-goal.word (head_of c.loop-goal.word) c.loop-goal.invariant.loads refl Right (c.goes_right.ensures.fork yes) (c.goes_right.ensures.asks yes) (c.goes_right.ensures.side yes) (c.loop-goal.invariant.told w x)
+down g c known w x = to_known w _ c.args.goal c.loop-goal.place.trail c.loop-goal.place.turns c.loop-goal.place.at c.loop-goal.word (head_of c.loop-goal.word) c.loop-goal.invariant.loads refl Right (c.goes_right.ensures.fork known) (c.goes_right.ensures.asks known) (c.goes_right.ensures.side known) (c.loop-goal.invariant.told w x)
 
 -- a node's head, and the child that is loaded after it, take at most three steps
 less : (g : Over) (c : After-descend-place g) → 3 + walk_left c.descend-place.result.at (shared_nodes c.args.hand.layout.now) ≤ walk_left c.loop-goal.place.at (shared_nodes c.args.hand.layout.now)
