@@ -466,10 +466,65 @@ fn descend_right<S: Shape, M: Machine<S>>(
     (place, word)
 }
 
-/// The walk from the root to the leaf where a key is, or would be, or to the first leaf, and
-/// the last forks where it turned.
+/// As below, of whatever goal.
 #[inline(always)]
-pub(crate) fn call<S: Shape, M: Machine<S>>(
+fn to_goal<S: Shape, M: Machine<S>>(
+    hand: Hand<S>,
+    seat: &mut Seat<u8, SeatView>,
+    goal: Goal,
+) -> (Found, LastTurns)
+    requires table { IsAt hand seat.old }
+    requires waits { (w : Walker (hand_calls S.Shape M.Machine hand))
+        × WalksFromRoot w seat.old.me.0.passes goal }
+    ensures table { StaysAtTable seat.old seat.new }
+    ensures steps { steps_made seat.new ≤ steps_made seat.old + (3 * (2 + shared_nodes
+        hand.entry.layout.now) + 5) }
+    ensures finds { (w : Walker (hand_calls S.Shape M.Machine hand.entry))
+        → WalksFromRoot w seat.old.me.0.passes goal
+        → WalkerFinds w seat.new.me.0.passes goal result.1 result.0 }
+{
+    let layout = *hand.layout;
+    let hand = Hand {
+        words: hand.words,
+        layout: &layout,
+        number: hand.number,
+    };
+    let root = NodeNo(0);
+    let mut trail = Trail {
+        grand: root,
+        grand_side: Side::Left,
+        parent: root,
+        side: Side::Left,
+        node: root,
+    };
+    let (mut at, mut turns) = (WalkAt::Root, LastTurns::none());
+    let mut start = 0;
+    loop {
+        let node = trail.node;
+        let (kind, part) = (Kind::LoadSettled, NodeWord::Settled(SettledPart::Head));
+        let word = read::<S, M>(hand, seat, kind, node, start, part);
+        let head = Head::of(word);
+        let side = match pass::<S, M>(hand, seat, goal, trail, start, at, word) {
+            Ok(side) => side,
+            Err(found) => return (found, turns),
+        };
+        let child = read_child::<S, M>(hand, seat, goal, node, start, side);
+        turns = turns.with(side, node);
+        trail = Trail {
+            grand: trail.parent,
+            grand_side: trail.side,
+            parent: node,
+            side,
+            node: NodeNo(child),
+        };
+        start = hand.layout.node_start(trail.node);
+        at = WalkAt::Head { above: head.level };
+    }
+}
+
+/// As below, for the last pair: forks at which it goes right without a key have a loop of their own.
+#[inline(always)]
+fn to_last<S: Shape, M: Machine<S>>(
     hand: Hand<S>,
     seat: &mut Seat<u8, SeatView>,
     goal: Goal,
@@ -512,5 +567,29 @@ pub(crate) fn call<S: Shape, M: Machine<S>>(
             Err(found) => return (found, last.turns),
         };
         place = descend::<S, M>(hand, seat, goal, last, word, side);
+    }
+}
+
+/// The walk from the root to the leaf where a key is, or would be, or to the first or the last leaf,
+/// and the last forks where it turned.
+#[inline(always)]
+pub(crate) fn call<S: Shape, M: Machine<S>>(
+    hand: Hand<S>,
+    seat: &mut Seat<u8, SeatView>,
+    goal: Goal,
+) -> (Found, LastTurns)
+    requires table { IsAt hand seat.old }
+    requires waits { (w : Walker (hand_calls S.Shape M.Machine hand))
+        × WalksFromRoot w seat.old.me.0.passes goal }
+    ensures table { StaysAtTable seat.old seat.new }
+    ensures steps { steps_made seat.new ≤ steps_made seat.old + (3 * (2 + shared_nodes
+        hand.entry.layout.now) + 5) }
+    ensures finds { (w : Walker (hand_calls S.Shape M.Machine hand.entry))
+        → WalksFromRoot w seat.old.me.0.passes goal
+        → WalkerFinds w seat.new.me.0.passes goal result.1 result.0 }
+{
+    match goal {
+        Goal::End(Side::Right) => to_last::<S, M>(hand, seat, goal),
+        _ => to_goal::<S, M>(hand, seat, goal),
     }
 }

@@ -6,7 +6,7 @@ use Rattle.forest.specs.Traces.{seat_steps, shared_nodes}
 use Rattle.forest.specs.CallKinds.{calls}
 use Rattle.template.specs.Common.{load, walk_at, walk_left}
 use Rattle.template.specs.Walk.Places.{LoadsHead}
-use Rattle.forest.proofs.straight.walk.call.Given as goal
+use Rattle.forest.proofs.straight.walk.to_last.Given as goal
 
 abbrev pub invariant-loop-side : goal.invariant-loop-side
 invariant-loop-side g l = record {

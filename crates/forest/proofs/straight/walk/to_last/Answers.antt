@@ -6,9 +6,9 @@ use Rattle.forest.specs.CallKinds.{calls}
 use Rattle.template.specs.Walk.Places.{walk_at, LoadsHead}
 use Rattle.template.specs.Walk.Steps.{WalkFitsAt, walk_left}
 use Rattle.forest.proofs.StraightWalk.{fits, fewer, some_left}
-use Rattle.forest.proofs.straight.walk.call.Given.{Over}
-use Rattle.forest.proofs.straight.walk.call.Goals.{After-read-head, After-descend_right-word, After-descend-place}
-use Rattle.forest.proofs.straight.walk.call.Goals as goal
+use Rattle.forest.proofs.straight.walk.to_last.Given.{Over}
+use Rattle.forest.proofs.straight.walk.to_last.Goals.{After-read-head, After-descend_right-word, After-descend-place}
+use Rattle.forest.proofs.straight.walk.to_last.Goals as goal
 
 -- whichever call it is, it has got the head of this node
 told : (g : Over) (c : After-read-head g) (w : Walker (calls g.S.Shape g.M.Machine c.args.hand.layout.now c.args.hand.number))
