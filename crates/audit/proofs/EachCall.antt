@@ -4,18 +4,22 @@
 use Rattle.std.proofs.Common.{◌≡◌, ℕ, ◌-◌, ◌<◌, ◌≤◌, ◌⊎◌, inr, Bool, true, false, cond, List, Option, Some, None, option_map, refl, sym, ◌∙◌, ap, subst, arith}
 use native.Mathlib.Decide.{ℕ_discrete}
 use Rattle.histories.specs.Common.{Layout, Resource, NodeNo, ScxNo, Row as StepRow, History, ◌⊳◌, value, IsWin, Entry as Entered, Side}
-use Rattle.arena.proofs.Lemmas.{ends_self}
+use Rattle.arena.proofs.Lemmas.{ends_self, same_moment}
 use Rattle.record.specs.Common.{need, MapCall, Edit, MapReply, OneValue, MapEdit, IsRising, changes_map, edit_key, edit_of, edit_to, edited, get, leaves, pair, pair_or_none, reply}
-use Rattle.record.specs.Common.{map_request, IsTreeRun, Makes, Spells, said, Pair, Value, Pairs, Contended, NoMemory, Full as FullOf, Request, Goal, Key, End, Call, Command, Map}
+use Rattle.record.specs.Common.{map_request, Makes, Spells, said, Pair, Value, Pairs, Contended, NoMemory, Full as FullOf, Request, Goal, Key, End, Call, Command, Map}
 use Rattle.record.specs.Common.{HasItsEntry, HasLostAllTries, enters, linked, map_at, map_call, reply_told, IsPlacedOnMap, IsFitting, tells_change, IsMapEntry, history, start, won}
 use Rattle.ordered_map.specs.CallRules.{nodes_at, nodes_there}
 use Rattle.ordered_map.specs.MapLaws.{IsEndmost}
 use Rattle.ordered_map.specs.OrderedMap.{Get, Neighbour, Range, Delete, applies, delete, edit_by, end_pair}
+use Rattle.ordered_map.specs.Paths.{IsOnPath, end_key}
 use Rattle.ordered_map.specs.Requests.{edit_in}
 use Rattle.ordered_map.specs.TreeShape.{edit_leaf}
+use Rattle.ordered_map.specs.TreeWords.{end_said, is_leaf}
 use Rattle.ordered_map.specs.declared.reply.Reply.TheVariants.{Pair as PairOf}
 use Rattle.ordered_map.specs.declared.rule.Rule.{Rule}
-use Rattle.ordered_map.proofs.Lemmas.{deleted, delete_keeps, end_had, end_is, makes_since, one_spelling, win_end, win_makes}
+use Rattle.ordered_map.proofs.Lemmas.{deleted, delete_keeps, end_had, end_is, makes_since, one_spelling}
+use Rattle.ordered_map.specs.Runs.{IsMapRun}
+use Rattle.ordered_map.proofs.MapLemmas.{run_since, walk_end, win_makes}
 use Rattle.record.specs.declared.record.Line.{Line}
 use Rattle.record.specs.declared.record.Finished.{Finished}
 use Rattle.record.specs.declared.record.Answer.{Answer}
@@ -212,8 +216,15 @@ key_left : (key : ℕ) (left : Option ℕ) → edit_key (edit_to key left) ≡ k
 key_left key None = refl
 key_left key (Some v) = refl
 
+-- the leaf that is now at an end says what the map that the words spell has there
+end_now : (side : Side) (lay : Layout) (h : History) (n : ℕ) (m : List Pair) → IsMapRun lay h → IsOnPath h (end_key side) n → is_leaf (value h) n ≡ true → Spells lay (value h) m → end_pair side m ≡ end_said side (value h) n
+end_now side lay h n m g p leaf s =
+    let x = walk_end side lay h h n g (h, ends_self h, ends_self h, p) leaf in
+    let here : Spells lay (value h) x.map = subst (λ (k : History). Spells lay (value k) x.map) (same_moment h x.moment x.within x.since) x.spelled in
+    ap (end_pair side) (one_spelling lay (value h) m x.map s here) ∙ x.is
+
 -- an entry of it is one that a call with its command makes
-module _ (lay : Layout) (h : History) (row : StepRow) (e : Entered) (run : IsTreeRun lay (row ⊳ h)) (won : IsWin h row e.scx) where
+module _ (lay : Layout) (h : History) (row : StepRow) (e : Entered) (run : IsMapRun lay (row ⊳ h)) (won : IsWin h row e.scx) where
   -- at a key
   made_at : (key : ℕ) (rule : Rule) (edit : MapEdit) → Makes lay h e.scx edit → edit ≡ edit_to key (leaves rule) → applies rule (said (value h) (edit_key edit) (edit_leaf h e.scx edit)) ≡ true → (map : List Pair) → Spells lay (value h) map → edit_of (Edit (Key key) rule) (reply (Edit (Key key) rule) map) ≡ Some edit
   made_at key rule edit x is suits map spells =
@@ -226,7 +237,7 @@ module _ (lay : Layout) (h : History) (row : StepRow) (e : Entered) (run : IsTre
   made_end : (side : Side) (key : ℕ) (rule : Rule) → Makes lay h e.scx (Delete key) → leaves rule ≡ None → applies rule (said (value h) key (edit_leaf h e.scx (Delete key))) ≡ true → IsEndLeaf side h (edit_leaf h e.scx (Delete key)) key → (map : List Pair) → Spells lay (value h) map → edit_of (Edit (End side) rule) (reply (Edit (End side) rule) map) ≡ Some (Delete key)
   made_end side key rule x left suits last map spells =
       let at = win_makes lay (row ⊳ h) h row e.scx (Delete key) run (ends_self (row ⊳ h)) won (makes_since lay (row ⊳ h) h e.scx (Delete key) (inr (ends_self h)) x) in
-      let is : end_pair side map ≡ Some (pair key last.there.0) = win_end side lay h row e.scx (Delete key) run won x (last.path.0, last.path.1, last.path.3) last.leaf map spells ∙ last.there.1 in
+      let is : end_pair side map ≡ Some (pair key last.there.0) = end_now side lay h (edit_leaf h e.scx (Delete key)) map (run_since lay (row ⊳ h) h run (inr (ends_self h))) last.path last.leaf spells ∙ last.there.1 in
       let found : said (value h) key (edit_leaf h e.scx (Delete key)) ≡ Some last.there.0 = end_found side map key last.there.0 (said (value h) key (edit_leaf h e.scx (Delete key))) spells.rising is (at.replies map spells) in
       ap (λ (o : Option Pair). edit_of (Edit (End side) rule) (pair_or_none o)) is ∙ applied rule key (Some last.there.0) (ap (applies rule) (sym found) ∙ suits) ∙ ap (λ (o : Option ℕ). Some (edit_to key o)) left
 
@@ -249,7 +260,7 @@ taken_key k key m rising had same = go (ℕ_discrete k key)
         absurd cc
 
 -- an entry of it is of the edit that it makes of the map which the words spell just before
-module _ (lay : Layout) (h : History) (row : StepRow) (e : Entered) (m : List Pair) (run : IsTreeRun lay (row ⊳ h)) (won : IsWin h row e.scx) (spells : Spells lay (value h) m) where
+module _ (lay : Layout) (h : History) (row : StepRow) (e : Entered) (m : List Pair) (run : IsMapRun lay (row ⊳ h)) (won : IsWin h row e.scx) (spells : Spells lay (value h) m) where
   left_by : (edit : MapEdit) → Makes lay h e.scx edit → Spells lay (value (row ⊳ h)) (edited edit m)
   left_by edit x = (win_makes lay (row ⊳ h) h row e.scx edit run (ends_self (row ⊳ h)) won (makes_since lay (row ⊳ h) h e.scx edit (inr (ends_self h)) x)).changes m spells
 

@@ -9,7 +9,7 @@ use Rattle.histories.specs.Common.{info, scx, first_scx, History, ◌⊳◌, val
 use Rattle.arena.specs.declared.word.ScxWord.TheVariants.{Call as CallWord}
 use Rattle.histories.proofs.Lemmas.{fields_are, finalized_since, lawful_since, once}
 use Rattle.std.proofs.Math.Nat.{div-eq_of_lt-le}
-use Rattle.record.specs.Common.{Call, Command, next_command, command_steps, MayAnswerAtOnce, MayAnswerAfterStep, IsRight, IsPlaced, HasTakenFew, IsEntryFor, enters, HasItsEntry}
+use Rattle.record.specs.Common.{Call, Command, next_command, command_steps, nodes_counted, MayAnswerAtOnce, MayAnswerAfterStep, IsRight, IsPlaced, HasTakenFew, IsEntryFor, enters, HasItsEntry}
 use Rattle.record.specs.Common.{linked, IsWinOf, AreLines, OwesNothing, IsLawfulRun, IsReplyOwed, IsFitting, history, clients, entries, start, entry_at, entry_of, is_update}
 use Rattle.record.specs.declared.record.Line.{Line}
 use Rattle.record.specs.declared.record.Line.TheVariants.{Step, Log, Reply as ReplyLine}
@@ -46,7 +46,7 @@ owner_is : (lay : Layout) (s p : ℕ) → first_scx lay p ≤ s → s < first_sc
 owner_is lay s p from below = div-eq_of_lt-le lay.scx (omega arith) (omega arith)
 
 -- what a lawful step of a client's call asks
-pub step_fits : (run : Replay) (number : ℕ) (row : StepRow) (client : ClientState) (command : Command) (most taken : ℕ) → IsAfter run (lines_of run) → client.pass ≡ row.pass → IsClientAfter (layout_of run) (calls_of run) (lines_of run) row.pass.0 client → next_command (calls_of run) (lines_of run) client.pass.0 ≡ Some command → suc run.turn ≡ number → row.call ≡ client.answered → client.steps < most → taken ≡ length (taken_nodes (seen_history run.steps.judge)) → ((all : ℕ) → taken ≤ all → most ≤ command_steps command (tries_of run) all) → MayMake command row.kind → SaysItsCall row → IsLawful run.steps.judge.layout (seen_history run.steps.judge) row → IsStep (layout_of run) (tries_of run) (calls_of run) (lines_of run) number row
+pub step_fits : (run : Replay) (number : ℕ) (row : StepRow) (client : ClientState) (command : Command) (most taken : ℕ) → IsAfter run (lines_of run) → client.pass ≡ row.pass → IsClientAfter (layout_of run) (calls_of run) (lines_of run) row.pass.0 client → next_command (calls_of run) (lines_of run) client.pass.0 ≡ Some command → suc run.turn ≡ number → row.call ≡ client.answered → client.steps < most → taken ≡ length (taken_nodes (seen_history run.steps.judge)) → ((all : ℕ) → taken ≤ all → most ≤ command_steps command (tries_of run) (nodes_counted (layout_of run).mode all)) → MayMake command row.kind → SaysItsCall row → IsLawful run.steps.judge.layout (seen_history run.steps.judge) row → IsStep (layout_of run) (tries_of run) (calls_of run) (lines_of run) number row
 step_fits run number row client command most taken x pass y is turn call few taken_is most_is may says lawful = record {
   in_turn = sym turn ∙ ap suc x.turn;
   lawful = subst (λ (h : History). IsLawful (layout_of run) h row) x.seen (subst (λ (l : Layout). IsLawful l (seen_history run.steps.judge) row) x.layout lawful);

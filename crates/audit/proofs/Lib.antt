@@ -24,3 +24,4 @@ mod CellEntries
 mod Asking
 mod EarlierLines
 mod ListEdits
+mod TrieShapes

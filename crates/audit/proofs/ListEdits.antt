@@ -4,15 +4,17 @@ use Rattle.std.specs.Cmp.Lexicographic.{pointwise}
 use Rattle.std.proofs.lemmas.Bool.{and_parts, eqb-true, ltb-true, ltb-false}
 use Rattle.std.proofs.lemmas.List.{map-append, length-append}
 use native.Mathlib.Decide.{ℕ_discrete}
-use Rattle.histories.specs.Common.{Settled, More, Side, Left, Right, Slot, First, Word, History, value, plan, member, new, old, node, child}
+use Rattle.histories.specs.Common.{Settled, More, Side, Left, Right, Slot, First, Word, History, value, plan, member, new, old, node, child, first_key}
 use Rattle.record.specs.Common.{Pair, MapEdit, AllAbove, pair, edit_key, edit_to, edited, first_pair, class, is_leaf, said, toward, number_pairs}
 use Rattle.ordered_map.specs.OrderedMap.{AllBelow, AllFrom, last_pair}
 use Rattle.ordered_map.specs.Holding.{slot_behind, pair_in, held_from, held_behind, held_pairs, IsWellCounted}
-use Rattle.ordered_map.specs.TreeWords.{level, rank, leaf_items, leaf_pairs}
-use Rattle.ordered_map.specs.Edits.{IsLowLeaf, IsLastLeaf, IsSplitBy, IsLeafEdit}
+use Rattle.ordered_map.specs.TreeWords.{rank, leaf_items, leaf_pairs}
+use Rattle.ordered_map.specs.EditPlans.{above_plan, end_leaf_plan}
+use Rattle.ordered_map.specs.Edits.{IsLowLeaf, IsLastLeaf, IsSwapBy, IsSplitBy, IsLeafEdit}
 use Rattle.ordered_map.specs.TreeShape.{EditsLeaf, leaf_plan}
+use Rattle.ordered_map.specs.TrieShape.{EditsEndLeaf, IsAboveBy, PutsAbove, SplitsLeaf}
 use Rattle.ordered_map.proofs.Lemmas.{edited_local, held_next, held_count, counted_few, low_items, high_items, low_pairs, high_pairs}
-use Rattle.audit.specs.Edits.{AreToward, IsAlike, IsInFront, key_in}
+use Rattle.audit.specs.Edits.{AreToward, IsInFront, key_in}
 
 -- The place of an edit
 
@@ -103,6 +105,21 @@ pub leaf_edit_of : (h : History) (s key : ℕ) (put : Option ℕ) → plan h s �
 leaf_edit_of h s key None plan old there edit = record { plan = plan; old = old; edit = edit; there = λ _. there refl }
 leaf_edit_of h s key (Some v) plan old there edit = record { plan = plan; old = old; edit = edit; there = λ none. absurd (let z : Some v ≡ None = none in cc) }
 
+-- and of a trie: where a leaf is split at a bit
+pub split_leaf_of : (h : History) (s key : ℕ) (put : Option ℕ) → plan h s ≡ leaf_plan (toward (value h) (member h s 0) key) → old h s ≡ member h s 1 → IsSplitBy (value h) (edit_to key put) (member h s 1) (new h s) (value h (child (new h s) Left)) (value h (child (new h s) Right)) → SplitsLeaf h s (edit_to key put)
+split_leaf_of h s key None plan old split = record { plan = plan; old = old; first = value h (child (new h s) Left); last = value h (child (new h s) Right); edit = split }
+split_leaf_of h s key (Some v) plan old split = record { plan = plan; old = old; first = value h (child (new h s) Left); last = value h (child (new h s) Right); edit = split }
+
+-- where a fork is put above a fork
+pub above_of : (h : History) (s key : ℕ) (put : Option ℕ) → plan h s ≡ above_plan (toward (value h) (member h s 0) key) → member h s 1 ≡ 2 → (leaf : ℕ) × (side : Side) × IsAboveBy (value h) (edit_to key put) (old h s) (new h s) leaf side → PutsAbove h s (edit_to key put)
+above_of h s key None plan guard (leaf, side, above) = record { plan = plan; guard = guard; leaf = leaf; side = side; edit = above }
+above_of h s key (Some v) plan guard (leaf, side, above) = record { plan = plan; guard = guard; leaf = leaf; side = side; edit = above }
+
+-- where the leaf at an end is replaced
+pub end_leaf_edit_of : (h : History) (s key : ℕ) (put : Option ℕ) → plan h s ≡ end_leaf_plan (toward (value h) (member h s 0) key) → old h s ≡ member h s 1 → member h s 2 ≡ 2 → (put ≡ None → said (value h) key (member h s 1) ≢ None) → IsSwapBy (value h) (edit_to key put) (member h s 1) (new h s) → EditsEndLeaf h s (edit_to key put)
+end_leaf_edit_of h s key None plan old guard there edit = record { plan = plan; old = old; guard = guard; edit = edit; there = λ _. there refl }
+end_leaf_edit_of h s key (Some v) plan old guard there edit = record { plan = plan; old = old; guard = guard; edit = edit; there = λ none. absurd (let z : Some v ≡ None = none in cc) }
+
 -- Leaves
 
 module _ (f : Word → ℕ) where
@@ -191,24 +208,22 @@ module _ (f : Word → ℕ) where
     pub fork : is_leaf f c ≡ false
     pub left : f (child c Left) ≡ x
     pub right : f (child c Right) ≡ y
-    pub between : IsAlike f c y
+    pub same_class : class f c ≡ class f y
+    pub same_key : class f y ≢ 0 → f (node c first_key) ≡ f (node y first_key)
     pub first : IsLowLeaf f x
     pub last : IsLastLeaf f y l
     pub pairs : leaf_pairs f x ++ leaf_pairs f y ≡ edited e (leaf_pairs f l)
     pub before : AreToward f c Left (leaf_pairs f x)
     pub behind : AreToward f c Right (leaf_pairs f y)
-    pub deep : level f c ≡ level f l
-    pub low : level f x ≡ level f c + 1
-    pub high : level f y ≡ level f c + 1
 
-  -- what is on the right of a fork of its own rank is at it or above: above all keys it is one item
-  last_behind : (c y : ℕ) → IsAlike f c y → AreToward f c Right (leaf_pairs f y) → AllFrom (rank f c) (leaf_items f y)
-  last_behind c y alike right = go (ℕ_discrete (class f y) 0)
+  -- what is on the right of such a fork is at it or above: above all keys it is one item
+  last_behind : (c y : ℕ) → class f c ≡ class f y → (class f y ≢ 0 → f (node c first_key) ≡ f (node y first_key)) → AreToward f c Right (leaf_pairs f y) → AllFrom (rank f c) (leaf_items f y)
+  last_behind c y same_class same_key right = go (ℕ_discrete (class f y) 0)
     where
       go : Dec (class f y ≡ 0) → AllFrom (rank f c) (leaf_items f y)
       go (yes low) = subst (AllFrom (rank f c)) (sym (low_both y low)) (toward_right c (leaf_pairs f y) right)
       go (no high) =
-          let same : rank f c ≡ rank f y = λ i. alike.class i * 2 ^ 64 + alike.key i in
+          let same : rank f c ≡ rank f y = λ i. same_class i * 2 ^ 64 + same_key high i in
           subst (AllFrom (rank f c)) (sym (high_items f y high)) (omega (arith, same), tt)
 
   pub split_of : (key : ℕ) (value : Option ℕ) (l c x y : ℕ) → key < 2 ^ 64 → IsSplitOfPairs (edit_to key value) l c x y → IsSplitBy f (edit_to key value) l c x y
@@ -222,7 +237,7 @@ module _ (f : Word → ℕ) where
     last = s.last;
     items = split_items (edit_to key value) l x y (rw (key_of_edit key value) small) s.first.class s.last s.pairs;
     before = subst (AllBelow (rank f c)) (sym (low_both x s.first.class)) (toward_left c (leaf_pairs f x) s.before);
-    behind = last_behind c y s.between s.behind;
-    same_class = s.between.class ∙ s.last.same_class;
-    key = λ d. s.between.key ∙ s.last.key (λ z. d (s.between.class ∙ z));
+    behind = last_behind c y s.same_class s.same_key s.behind;
+    same_class = s.same_class ∙ s.last.same_class;
+    key = λ d. s.same_key (λ z. d (s.same_class ∙ z)) ∙ s.last.key (λ z. d (s.same_class ∙ z));
   }

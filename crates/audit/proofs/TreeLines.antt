@@ -1,8 +1,9 @@
--- What is remembered of the tree stays what the lines say.
+-- What is remembered of a map's words stays what the lines say.
 use Rattle.std.proofs.Common.{◌≡◌, ℕ, zero, suc, ◌⊎◌, inl, inr, ⊎_elim, ◌∙◌, List, [], ◌∷◌, set, slice_get, Option, Some, None, refl, sym, ap, subst}
-use Rattle.histories.specs.Common.{Tree, Layout, PassNo, Row as StepRow, Kind, Freeze, Update, History, Start, ◌⊳◌, value, Extends, Lawful, IsLawful, IsWin, Entry as Entered, IsRun, Shaped, IsBegin}
+use Rattle.arena.specs.Opening.{IsMap}
+use Rattle.histories.specs.Common.{Layout, PassNo, Row as StepRow, Kind, Freeze, Update, History, Start, ◌⊳◌, value, Extends, Lawful, IsLawful, IsWin, Entry as Entered, IsRun, Shaped, IsBegin}
 use Rattle.arena.proofs.Lemmas.{ends_self}
-use Rattle.record.specs.Common.{Pair, Call, Command, Map, HasRisingLevels, MapCall, MapEdit, edit_key, edit_to, value_left, map_request, IsTreeRun}
+use Rattle.record.specs.Common.{Pair, Call, Command, Map, HasRisingLevels, MapCall, MapEdit, edit_key, edit_to, value_left, map_request}
 use Rattle.record.specs.Common.{Makes, Spells, TreeAllows, IsEntryFor, map_call, written_log, IsMapEntry, AreLines, AreSpelled, history}
 use Rattle.record.specs.declared.record.Line.{Line}
 use Rattle.record.specs.declared.record.Line.TheVariants.{Step, Log, Reply as ReplyLine}
@@ -12,11 +13,12 @@ use Rattle.record.specs.declared.record.Finished.{Finished}
 use Rattle.record.proofs.Lemmas.{AreMapCalls}
 use Rattle.linearization.specs.declared.places.Change.{Change}
 use Rattle.linearization.specs.Entries.{IsChangeBy, IsChangeByEdit, IsChangeOf}
-use Rattle.linearization.proofs.Lemmas.{spelled}
 use Rattle.audit.specs.Edits.{IsEditBy, IsSuited, Suits, MayMakeEdit, HasBegunWith, AreRememberedEdits, edit_begun}
 use Rattle.audit.specs.declared.edits.BegunEdit.{BegunEdit}
 use Rattle.audit.specs.Trees.{IsTreeSoFar}
 use Rattle.audit.proofs.EachCall.{entry_makes, makes_on}
+use Rattle.ordered_map.specs.Runs.{IsMapRun}
+use Rattle.linearization.proofs.Lemmas.{spelled}
 
 -- Edits
 
@@ -50,17 +52,17 @@ pub edit_allowed : (lay : Layout) (h : History) (s : ℕ) (begun : BegunEdit) �
 edit_allowed lay h s begun x = (edit_begun begun, x.edit)
 
 -- a win makes no SCX-record begin
-win_run : (lay : Layout) (h : History) (row : StepRow) (s : ℕ) → IsTreeRun lay h → IsLawful lay h row → IsWin h row s → IsTreeRun lay (row ⊳ h)
+win_run : (lay : Layout) (h : History) (row : StepRow) (s : ℕ) → IsMapRun lay h → IsLawful lay h row → IsWin h row s → IsMapRun lay (row ⊳ h)
 unfolding Lawful Shaped
 win_run lay h row s g lawful won = (g.0, record { lawful = (g.1.lawful, lawful); shaped = (g.1.shaped, λ t b. absurd (let z : Update ≡ Freeze = sym won.kind ∙ b.kind in cc)) })
 
 -- an entry of it is one that a call with its command makes
-module _ (lay : Layout) (h : History) (row : StepRow) (e : Entered) (run : IsTreeRun lay (row ⊳ h)) (won : IsWin h row e.scx) where
+module _ (lay : Layout) (h : History) (row : StepRow) (e : Entered) (run : IsMapRun lay (row ⊳ h)) (won : IsWin h row e.scx) where
   entry_by : (c : ℕ) (start : History) (linked : ℕ → Option History) (command : Command) (edit : MapEdit) → Makes lay h e.scx edit → IsEditBy (map_call (Some command)) edit → Suits (map_call (Some command)) h e.scx edit → IsEntryFor lay c h start linked e command
   entry_by c start linked (Map request) edit x is suited = entry_makes lay h row e run won (map_request request) edit x is suited
   entry_by c start linked command edit x is suited = absurd is
 
-pub edit_entry : (lay : Layout) (c : ℕ) (h start : History) (row : StepRow) (linked : ℕ → Option History) (e : Entered) (begun : BegunEdit) → IsTreeRun lay h → IsLawful lay h row → IsWin h row e.scx → HasBegunWith lay h e.scx begun → IsSuited h e.scx begun → IsEntryFor lay c h start linked e begun.command
+pub edit_entry : (lay : Layout) (c : ℕ) (h start : History) (row : StepRow) (linked : ℕ → Option History) (e : Entered) (begun : BegunEdit) → IsMapRun lay h → IsLawful lay h row → IsWin h row e.scx → HasBegunWith lay h e.scx begun → IsSuited h e.scx begun → IsEntryFor lay c h start linked e begun.command
 edit_entry lay c h start row linked e begun g lawful won x suited = entry_by lay h row e (win_run lay h row e.scx g lawful won) won c start linked begun.command (edit_begun begun) (made lay h e.scx begun x) x.makes.own suited
 
 -- the change of an edit
@@ -69,7 +71,7 @@ change_to key turn None own is = (sym (ap edit_key is), sym (ap value_left is))
 change_to key turn (Some v) own is = (sym (ap edit_key is), sym (ap value_left is))
 
 -- the change of an SCX-record that has begun for a call is that of the call's entry
-module _ (lay : Layout) (h : History) (row : StepRow) (e : Entered) (turn : ℕ) (m : List Pair) (begun : BegunEdit) (run : IsTreeRun lay (row ⊳ h)) (won : IsWin h row e.scx) (b : HasBegunWith lay h e.scx begun) (spells : Spells lay (value h) m) where
+module _ (lay : Layout) (h : History) (row : StepRow) (e : Entered) (turn : ℕ) (m : List Pair) (begun : BegunEdit) (run : IsMapRun lay (row ⊳ h)) (won : IsWin h row e.scx) (b : HasBegunWith lay h e.scx begun) (spells : Spells lay (value h) m) where
   -- which it makes of the map that the words spell just before
   pub change_made : (call : MapCall) → IsEditBy (Some call) (edit_begun begun) → IsMapEntry call lay h e → IsChangeBy (Some call) m record { turn = turn; key = begun.key; value = begun.value }
   change_made call by x = subst (λ (o : Option MapEdit). IsChangeByEdit o record { turn = turn; key = begun.key; value = begun.value }) (sym (makes_on lay h row e m run won spells call (edit_begun begun) by (made lay h e.scx begun b) x)) (change_to begun.key turn begun.value (edit_begun begun) refl)
@@ -100,8 +102,8 @@ edits_set lay h r edits s begun x b may t other is = ⊎_elim
 
 -- Lines
 
-module _ (lay : Layout) (tries : ℕ) (calls : List Call) (mode : lay.mode ≡ Tree) (all : AreMapCalls calls) (begun : List (Option BegunEdit)) (changed : List Change) (lines : List Line) (x : IsTreeSoFar lay calls begun changed lines) where
-  spelled_more : (line : Line) → AreLines lay tries calls (line ∷ lines) → IsTreeRun lay (history lay.mode (line ∷ lines)) → HasRisingLevels (history lay.mode (line ∷ lines)) → AreSpelled lay calls (line ∷ lines)
+module _ (lay : Layout) (tries : ℕ) (calls : List Call) (mode : IsMap lay.mode) (all : AreMapCalls calls) (begun : List (Option BegunEdit)) (changed : List Change) (lines : List Line) (x : IsTreeSoFar lay calls begun changed lines) where
+  spelled_more : (line : Line) → AreLines lay tries calls (line ∷ lines) → IsMapRun lay (history lay.mode (line ∷ lines)) → HasRisingLevels (history lay.mode (line ∷ lines)) → AreSpelled lay calls (line ∷ lines)
   unfolding AreSpelled
   spelled_more line a g rising = (x.spelled, λ owed. record { spelled = spelled lay tries calls mode all (line ∷ lines) a g owed; rising = rising })
 

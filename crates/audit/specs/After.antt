@@ -1,6 +1,7 @@
 -- What an audit remembers of the lines so far. Lines have the newest first here.
 use Rattle.std.specs.Prelude.{◌≡◌, ℕ, ◌<◌, Bool, true, false, List, ◌∷◌, length, reverse, take, slice_get, Option, Some, None, IfSome, is_some, drop}
-use Rattle.histories.specs.Common.{Layout, Tree, PassNo, Row, ◌⊳◌, IsBegin}
+use Rattle.arena.specs.Opening.{IsMap}
+use Rattle.histories.specs.Common.{Layout, PassNo, Row, ◌⊳◌, IsBegin}
 use Rattle.record.specs.Common.{HasRisingLevels, Call, Command, history, turns, entries, last_client, answered, begin, start, steps, won, entry_of, entry_owed}
 use Rattle.record.specs.Common.{enters, HasTakenFew, IsRight, commands, next_command, IsWinOf, AreLines, OwesNothing, linked, IsFitting, IsReplyOwed}
 use Rattle.record.specs.declared.record.Finished.{Finished}
@@ -98,9 +99,9 @@ pub record IsNextStep (run : Replay) (number : ℕ) (row : Row) (owed : Option E
   -- nothing is owed up to now, and the step fits the lines
   pub settled : OwesNothing (layout_of run) (calls_of run) (lines_of run)
   pub step : IsStep (layout_of run) (tries_of run) (calls_of run) (lines_of run) number row
-  -- on the tree levels still rise after it, and if it begins something, that makes an edit
-  pub rising : (layout_of run).mode ≡ Tree → HasRisingLevels (seen_history run.steps.judge) → HasRisingLevels (row ⊳ seen_history run.steps.judge)
-  pub edit : (layout_of run).mode ≡ Tree → IsBegin (seen_history run.steps.judge) row row.after → (begun : BegunEdit) × MayMakeEdit (layout_of run) (seen_history run.steps.judge) row.after begun
+  -- in a map levels still rise after it, and if it begins something, that makes an edit
+  pub rising : IsMap (layout_of run).mode → HasRisingLevels (seen_history run.steps.judge) → HasRisingLevels (row ⊳ seen_history run.steps.judge)
+  pub edit : IsMap (layout_of run).mode → IsBegin (seen_history run.steps.judge) row row.after → (begun : BegunEdit) × MayMakeEdit (layout_of run) (seen_history run.steps.judge) row.after begun
   -- the entry is that of the step, and of a client that there is
   pub is_owed : entry_of (layout_of run) (lines_of run) number row ≡ owed
   pub client : IfSome owed (λ e. e.client.0 < (layout_of run).passes)

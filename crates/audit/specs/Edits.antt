@@ -1,11 +1,12 @@
 -- Which edit of the map an SCX-record makes, and for which call.
 use Rattle.std.specs.Prelude.{◌≡◌, ◌≢◌, ℕ, ◌^◌, ◌<◌, true, List, [], ◌∷◌, Option, Some, None, IsTrue, option_map, slice_get}
 use Rattle.histories.specs.Common.{Layout, Row, Side, Word, node, first_key, History, ◌⊳◌, value, Extends, IsBegin}
-use Rattle.record.specs.Common.{MapCall, MapEdit, Edit, edit_key, edit_to, leaves, pair, Passed, Pair, Goal, Key, End, class, is_leaf, said, toward, map_call}
+use Rattle.record.specs.Common.{MapCall, MapEdit, Edit, edit_key, edit_to, leaves, pair, Pair, Goal, Key, End, class, is_leaf, said, toward, map_call}
 use Rattle.ordered_map.specs.OrderedMap.{Insert, Delete, applies, end_pair}
-use Rattle.ordered_map.specs.Paths.{end_key}
+use Rattle.ordered_map.specs.Paths.{IsOnPath, end_key}
+use Rattle.ordered_map.specs.Spelled.{IsTree}
 use Rattle.ordered_map.specs.TreeShape.{MayEdit, edit_leaf}
-use Rattle.ordered_map.specs.TreeWords.{leaf_pairs}
+use Rattle.ordered_map.specs.TreeWords.{Tree, leaf_pairs}
 use Rattle.judge.specs.declared.judge.Judge.{Judge}
 use Rattle.judge.specs.Histories.{seen_history}
 use Rattle.audit.specs.declared.edits.BegunEdit.{BegunEdit}
@@ -13,6 +14,10 @@ use Rattle.audit.specs.declared.edits.BegunEdit.{BegunEdit}
 -- what each word is after the rows that the judge has seen
 abbrev pub word_now : Judge → Word → ℕ
 word_now judge = value (seen_history judge)
+
+-- the words show a tree
+abbrev pub ShowsTree : History → Type 0
+ShowsTree h = (t : Tree) × IsTree (value h) t
 
 -- the edit that is remembered
 abbrev pub edit_begun : BegunEdit → MapEdit
@@ -28,11 +33,6 @@ IsInFront e None = ⊥
 IsInFront (Insert k v) (Some key) = key < k
 IsInFront (Delete k) (Some key) = key ≢ k
 
--- n has the class and the key of m
-pub record IsAlike (f : Word → ℕ) (n m : ℕ) : Type 0 where
-  pub class : class f n ≡ class f m
-  pub key : f (node n first_key) ≡ f (node m first_key)
-
 -- the keys of these pairs are words, and all are on this side of the fork n
 abbrev pub AreToward : (Word → ℕ) → ℕ → Side → List Pair → Type 0
 AreToward f n side [] = Unit {0}
@@ -46,7 +46,7 @@ IsEditBy _ edit = ⊥
 
 -- n is the leaf at this end of the tree, and this is its key there
 pub record IsEndLeaf (side : Side) (h : History) (n key : ℕ) : Type 0 where
-  pub path : Passed h h (end_key side) n
+  pub path : IsOnPath h (end_key side) n
   pub leaf : is_leaf (value h) n ≡ true
   pub there : (v : ℕ) × (end_pair side (leaf_pairs (value h) n) ≡ Some (pair key v))
 

@@ -1,6 +1,7 @@
--- What an audit of a record on the tree remembers of it. Lines have the newest first here.
+-- What an audit of a record of a map remembers of it. Lines have the newest first here.
 use Rattle.std.specs.Prelude.{◌≡◌, ℕ, List, ◌∷◌, Option, Some, slice_get}
-use Rattle.histories.specs.Common.{Tree, Layout, IsRun, History}
+use Rattle.arena.specs.Opening.{IsMap}
+use Rattle.histories.specs.Common.{Layout, IsRun, History}
 use Rattle.record.specs.Common.{Call, HasRisingLevels, TreeAllows, AreSpelled, history, next_command, Command}
 use Rattle.record.specs.declared.record.Line.{Line}
 use Rattle.record.specs.declared.record.Entry.{Entry}
@@ -20,9 +21,9 @@ pub record IsTreeSoFar (lay : Layout) (calls : List Call) (begun : List (Option 
   pub edits : AreRememberedEdits lay (history lay.mode lines) begun
   pub entries : AreEntries calls lines changed
 
--- on the tree what is remembered is what the lines say
+-- in a map's mode what is remembered is what the lines say
 pub record IsMapSoFar (lay : Layout) (calls : List Call) (begun : List (Option BegunEdit)) (places : Places) (lines : List Line) : Type 0 where
-  pub tree : lay.mode ≡ Tree → IsTreeSoFar lay calls begun (changes places) lines
+  pub tree : IsMap lay.mode → IsTreeSoFar lay calls begun (changes places) lines
 
 -- the change is that of the entry's SCX-record, as it is remembered, which has begun for the next
 -- call of the entry's client

@@ -1,6 +1,6 @@
 //! What each command may do.
 ghost use Rattle.std.specs.Prelude.{◌≡◌, ℕ, ◌+◌, ◌*◌, ◌≤◌, ◌↔◌, IsTrue};
-ghost use Rattle.record.specs.Common.{command_steps, MayAnswerAtOnce, MayAnswerAfterStep, enters, Map as MapCommand};
+ghost use Rattle.record.specs.Common.{command_steps, nodes_counted, MayAnswerAtOnce, MayAnswerAfterStep, enters, Map as MapCommand};
 ghost use Rattle.record.specs.CommandRules.{MayMake, rules};
 ghost use Rattle.record.specs.declared.record.Answer.TheVariants.{Map as MapAnswer};
 ghost use Rattle.record.specs.Rules.Llx.{LlxAfterStep};
@@ -8,7 +8,7 @@ ghost use Rattle.ordered_map.specs.CallRules.{IsFormOfNeighbour, IsFormOfRange, 
 ghost use Rattle.record.specs.Rules.Range.{RangeAtOnce};
 ghost use Rattle.record.specs.Rules.Set.{SetAfterStep};
 
-use arena::{Kind, Limits};
+use arena::{Kind, Limits, Mode};
 use ordered_map::{Reply, Request};
 use record::Answer;
 use script::Command;
@@ -39,10 +39,11 @@ fn takes_nothing(low: u64, high: u64, most: u32) -> bool
 
 /// How many steps a call may make at most, while this many nodes are taken; or fewer, if that is no
 /// number of this type.
-pub(crate) fn most_steps(command: &Command, limits: &Limits, taken: u64) -> u64
-    ensures { (all : ℕ) → taken ≤ all → result ≤ command_steps command.now limits.now.tries all }
+pub(crate) fn most_steps(command: &Command, mode: Mode, limits: &Limits, taken: u64) -> u64
+    ensures { (all : ℕ) → taken ≤ all →
+        result ≤ command_steps command.now limits.now.tries (nodes_counted mode all) }
 {
-    let levels = taken.saturating_add(2);
+    let levels = nodes_counted(mode, taken).saturating_add(2);
     let tries = u64::from(limits.tries);
     match command {
         Command::Llx { cell: _ } => 64,
@@ -50,6 +51,16 @@ pub(crate) fn most_steps(command: &Command, limits: &Limits, taken: u64) -> u64
         Command::Vlx { cells } => cells.as_slice().len() as u64,
         Command::Set { field: _, value: _ } => 104,
         Command::Map(request) => most_map_steps(request, tries, levels),
+    }
+}
+
+/// How many taken nodes count for a bound on steps: in a trie always as many.
+fn nodes_counted(mode: Mode, taken: u64) -> u64
+    ensures { (all : ℕ) → taken ≤ all → result ≤ nodes_counted mode all }
+{
+    match mode {
+        Mode::Trie => 65,
+        _ => taken,
     }
 }
 

@@ -1,21 +1,27 @@
 //! Whether an SCX-record that begins makes the edit of its owner's call. What its leaves hold is
 //! read as lists of pairs, on which the edit is made.
 ghost use Rattle.std.specs.Prelude.{◌≡◌, ◌≢◌, ◌==◌, ◌+◌, ◌^◌, ◌<◌, ◌≤◌, ◌↔◌, ℕ, true, false, [], ◌++◌, length, set, Some, None, IfSome, IsSome, IsTrue};
-ghost use Rattle.record.specs.Common.{Passed, IsTreeRun, class, is_leaf, said, toward as toward_of, Edit, edit_key, edited, first_pair, pair, map_call, number_pairs};
-ghost use Rattle.histories.specs.Common.{count, member as member_of, seen as seen_at, new, IsNamed, child as child_of, info, scx as scx_of, Side as SideOf, Left, Right};
+ghost use Rattle.arena.specs.Opening.{IsMap};
+ghost use Rattle.record.specs.Common.{class, is_leaf, said, toward as toward_of, Edit, edit_key, edited, first_pair, pair, map_call, number_pairs};
+ghost use Rattle.histories.specs.Common.{count, member as member_of, seen as seen_at, new, IsNamed, child as child_of, first_key, info, node as node_of, scx as scx_of, Side as SideOf, Left, Right};
+ghost use Rattle.ordered_map.specs.Bits.{Shares};
 ghost use Rattle.ordered_map.specs.Edits.{IsLastLeaf, IsSwapBy, IsSplitBy, HasTreeLevels, IsJoinBy, IsCopyOf, HasFieldsOf};
 ghost use Rattle.ordered_map.specs.Holding.{held_pairs, IsWellCounted};
+ghost use Rattle.ordered_map.specs.Paths.{IsOnPath};
+ghost use Rattle.ordered_map.specs.TrieShape.{FitsTrie};
 ghost use Rattle.ordered_map.specs.TreeShape.{EditsLeaf, TakesLeafOut, IsEdit, leaf_plan, join_plan, leaf_place as leaf_place_of, sibling_place as sibling_place_of, edit_leaf, leaf_out};
 ghost use Rattle.ordered_map.specs.TreeWords.{level, leaf_pairs};
 ghost use Rattle.ordered_map.specs.OrderedMap.{last_pair};
-ghost use Rattle.audit.specs.Edits.{AreToward, IsAlike, IsEditBy, IsInFront, IsLeafFor, IsSuited, MayMakeEdit, edit_begun, key_in, word_now};
+ghost use Rattle.audit.specs.Edits.{AreToward, IsEditBy, IsInFront, IsLeafFor, IsSuited, MayMakeEdit, ShowsTree, edit_begun, key_in, word_now};
 ghost use Rattle.judge.specs.Histories.{seen_history};
 
 use crate::leaves::{
     Pairs, head, held, is_leaf_copy, is_low_leaf, is_readable, is_well_counted, key_of, node_word,
     pairs_of_leaf, said, settled,
 };
-use arena::{MemberIndex, NodeNo, NodeWord, Plan, ScxNo, ScxWord, SettledPart, Side, Word};
+use crate::trie_edits::{edits_end_leaf, edits_in_trie, end_leaf_out, takes_end_leaf_out};
+use crate::trie_shape::{fits, shares};
+use arena::{MemberIndex, Mode, NodeNo, NodeWord, Plan, ScxNo, ScxWord, SettledPart, Side, Word};
 use judge::Judge;
 use ordered_map::{Goal, Rule, end_slot};
 use script::Command;
@@ -33,21 +39,55 @@ pub(crate) struct BegunEdit {
 /// key, and of a leaf that fits the call, unless it is to take the pair at an end out and can win
 /// no more.
 pub(crate) fn begun_for(judge: &Judge, scx: u64, command: &Command) -> Option<BegunEdit>
-    requires { IsTreeRun judge.now.layout (seen_history judge.now) }
+    requires mode { IsMap judge.now.layout.mode }
+    requires tree { ShowsTree (seen_history judge.now) }
     ensures command { IfSome result (λ begun. begun.command ≡ command.now) }
     ensures edit { IfSome result (MayMakeEdit judge.now.layout (seen_history judge.now) scx) }
 {
     let (goal, rule) = edit_in(command)?;
     let begun = edit_for(judge, scx, command, goal, rule)?;
-    let is_late = matches!(goal, Goal::End(_)) && !is_as_seen(judge, scx, 1);
-    if is_edit(judge, scx, &begun)
+    let is_late = is_late(judge, scx, goal);
+    if is_edit(judge, scx, goal, &begun)
         && is_fork_on_path(judge, begun.key, member(judge, scx, 0))
+        && keeps_to_bits(judge, scx, begun.key)
         && (is_late || covers_the_right_leaf(judge, scx, &begun))
     {
         Some(begun)
     } else {
         None
     }
+}
+
+/// Whether the table is a trie.
+pub(crate) fn is_trie(judge: &Judge) -> bool
+    ensures { IsTrue result ↔ (judge.now.layout.mode ≡ Mode.Trie) }
+{
+    judge.layout().mode == Mode::Trie
+}
+
+/// Whether an SCX-record that is to take the pair at an end out can win no more: the second node,
+/// or, in a trie, the last, by which it knows what is at that end, has changed since.
+fn is_late(judge: &Judge, scx: u64, goal: Goal) -> bool {
+    let guard = covers(judge, scx).saturating_sub(1);
+    matches!(goal, Goal::End(_))
+        && (!is_as_seen(judge, scx, 1) || (is_trie(judge) && !is_as_seen(judge, scx, guard)))
+}
+
+/// In a trie: whether the key of an SCX-record's edit may stand below the fork whose field it
+/// changes, and what it puts in there keeps to the keys of that side.
+fn keeps_to_bits(judge: &Judge, scx: u64, key: u64) -> bool
+    ensures shares { IsTrue result → judge.now.layout.mode ≡ Mode.Trie →
+        class (word_now judge.now) (member_of (seen_history judge.now) scx 0) ≡ 0 →
+        Shares (word_now judge.now) (member_of (seen_history judge.now) scx 0) key }
+    ensures fits { IsTrue result → judge.now.layout.mode ≡ Mode.Trie →
+        FitsTrie (word_now judge.now) (member_of (seen_history judge.now) scx 0)
+        (toward_of (word_now judge.now) (member_of (seen_history judge.now) scx 0) key)
+        (new (seen_history judge.now) scx) }
+{
+    let parent = member(judge, scx, 0);
+    let new = scx_word(judge, scx, ScxWord::New);
+    !is_trie(judge)
+        || (shares(judge, parent, key) && fits(judge, parent, toward(judge, parent, key), new))
 }
 
 /// Where a command goes and by which rule, if it is an edit.
@@ -81,12 +121,14 @@ fn edit_for(judge: &Judge, scx: u64, command: &Command, goal: Goal, rule: Rule) 
     })
 }
 
-/// The leaf whose key at an end may be taken by an SCX-record: of two nodes the second, of
+/// The leaf whose key at an end may be taken by an SCX-record: of two or three nodes the second, of
 /// four the child on that side, unless this is above all keys.
 fn taken_leaf(judge: &Judge, scx: u64, side: Side) -> u64 {
     let right = member(judge, scx, 3);
-    if covers(judge, scx) == 2 {
+    if covers(judge, scx) < 4 {
         member(judge, scx, 1)
+    } else if is_trie(judge) {
+        end_leaf_out(judge, scx, side)
     } else if side == Side::Right && head(judge, right).class == 0 {
         right
     } else {
@@ -106,7 +148,7 @@ fn end_key(judge: &Judge, scx: u64, side: Side) -> u64
 /// Whether the leaf that an SCX-record covers for its edit fits the call that it has begun for: the
 /// call changes what that says of the key, and, of the pair at an end, it is the tree's leaf there.
 pub(crate) fn covers_the_right_leaf(judge: &Judge, scx: u64, begun: &BegunEdit) -> bool
-    requires { IsTreeRun judge.now.layout (seen_history judge.now) }
+    requires { ShowsTree (seen_history judge.now) }
     ensures { IsTrue result → IsSuited (seen_history judge.now) scx begun.now }
 {
     let Some((goal, rule)) = edit_in(&begun.command) else {
@@ -121,7 +163,7 @@ pub(crate) fn covers_the_right_leaf(judge: &Judge, scx: u64, begun: &BegunEdit) 
 
 /// Whether a leaf is where an edit with this goal goes.
 fn is_leaf_for(judge: &Judge, goal: Goal, leaf: u64, key: u64) -> bool
-    requires tree { IsTreeRun judge.now.layout (seen_history judge.now) }
+    requires tree { ShowsTree (seen_history judge.now) }
     requires leaf { is_leaf (word_now judge.now) leaf ≡ true }
     requires readable { class (word_now judge.now) leaf ≡ 0 → IsWellCounted (word_now judge.now) leaf }
     ensures { IsTrue result → IsLeafFor goal (seen_history judge.now) leaf key }
@@ -134,8 +176,8 @@ fn is_leaf_for(judge: &Judge, goal: Goal, leaf: u64, key: u64) -> bool
     }
 }
 
-/// The leaf where the key of an SCX-record's edit is, or would be: the second of two nodes, or, of
-/// four, the one that is taken out.
+/// The leaf where the key of an SCX-record's edit is, or would be: the second of two or three nodes,
+/// or, of four, the one that is taken out.
 fn edit_leaf(judge: &Judge, scx: u64, begun: &BegunEdit) -> u64
     ensures { result ≡ edit_leaf (seen_history judge.now) scx (edit_begun begun.now) }
 {
@@ -187,7 +229,7 @@ fn is_last_key(judge: &Judge, leaf: u64, key: u64) -> bool
 }
 
 /// What the edit of an SCX-record makes of the pairs of a leaf.
-fn edited(begun: &BegunEdit, mut pairs: Pairs) -> Pairs
+pub(crate) fn edited(begun: &BegunEdit, mut pairs: Pairs) -> Pairs
     requires { length pairs.items ≤ 4 }
     ensures { number_pairs result.items ≡ edited (edit_begun begun.now) (number_pairs pairs.items) }
 {
@@ -237,26 +279,26 @@ fn joined(mut left: Pairs, right: &Pairs) -> Pairs
     left
 }
 
-fn scx_word(judge: &Judge, scx: u64, part: ScxWord) -> u64
+pub(crate) fn scx_word(judge: &Judge, scx: u64, part: ScxWord) -> u64
     ensures { result ≡ word_now judge.now (scx_of scx part) }
 {
     judge.get(Word::Scx(ScxNo(scx), part))
 }
 
-fn member(judge: &Judge, scx: u64, place: u8) -> u64
+pub(crate) fn member(judge: &Judge, scx: u64, place: u8) -> u64
     ensures { result ≡ member_of (seen_history judge.now) scx place }
 {
     scx_word(judge, scx, ScxWord::Member(place))
 }
 
-fn child(judge: &Judge, node: u64, side: Side) -> u64
+pub(crate) fn child(judge: &Judge, node: u64, side: Side) -> u64
     ensures { result ≡ word_now judge.now (child_of node side) }
 {
     node_word(judge, node, NodeWord::Child(side))
 }
 
 /// Whether the info word of the node at a place is as the SCX-record has seen it.
-fn is_as_seen(judge: &Judge, scx: u64, place: u8) -> bool
+pub(crate) fn is_as_seen(judge: &Judge, scx: u64, place: u8) -> bool
     ensures { IsTrue result ↔ (word_now judge.now
         (info (member_of (seen_history judge.now) scx place)) ≡ seen_at
         (seen_history judge.now) scx place) }
@@ -266,7 +308,7 @@ fn is_as_seen(judge: &Judge, scx: u64, place: u8) -> bool
 }
 
 /// On which side of a fork a key is: all classes above 0 are above all keys.
-fn toward(judge: &Judge, node: u64, key: u64) -> Side
+pub(crate) fn toward(judge: &Judge, node: u64, key: u64) -> Side
     ensures { result ≡ toward_of (word_now judge.now) node key }
 {
     if head(judge, node).class > 0 || key < key_of(judge, node) {
@@ -278,9 +320,8 @@ fn toward(judge: &Judge, node: u64, key: u64) -> Side
 
 /// Whether the search for a key passes this fork.
 fn is_fork_on_path(judge: &Judge, key: u64, fork: u64) -> bool
-    requires { IsTreeRun judge.now.layout (seen_history judge.now) }
-    ensures path { IsTrue result →
-        Passed (seen_history judge.now) (seen_history judge.now) key fork }
+    requires { ShowsTree (seen_history judge.now) }
+    ensures path { IsTrue result → IsOnPath (seen_history judge.now) key fork }
     ensures fork { IsTrue result → is_leaf (word_now judge.now) fork ≡ false }
 {
     is_on_path(judge, key, fork) && !head(judge, fork).leaf
@@ -288,8 +329,8 @@ fn is_fork_on_path(judge: &Judge, key: u64, fork: u64) -> bool
 
 /// Whether the search for a key passes this node. Levels rise, so that it ends.
 fn is_on_path(judge: &Judge, key: u64, sought: u64) -> bool
-    requires { IsTreeRun judge.now.layout (seen_history judge.now) }
-    ensures { IsTrue result → Passed (seen_history judge.now) (seen_history judge.now) key sought }
+    requires { ShowsTree (seen_history judge.now) }
+    ensures { IsTrue result → IsOnPath (seen_history judge.now) key sought }
 {
     let mut node = 0;
     let mut left = judge.layout().all_nodes();
@@ -300,25 +341,35 @@ fn is_on_path(judge: &Judge, key: u64, sought: u64) -> bool
     node == sought
 }
 
-/// Whether two nodes have the same class and key.
-fn are_alike(judge: &Judge, one: u64, other: u64) -> bool
-    ensures { IsTrue result → IsAlike (word_now judge.now) one other }
+/// Whether a node has the class of another, and, above all keys, its key.
+fn is_of_class(judge: &Judge, one: u64, other: u64) -> bool
+    ensures class { IsTrue result → class (word_now judge.now) one ≡ class (word_now judge.now) other }
+    ensures key { IsTrue result → class (word_now judge.now) other ≢ 0 →
+        word_now judge.now (node_of one first_key) ≡ word_now judge.now (node_of other first_key) }
 {
-    head(judge, one).class == head(judge, other).class && key_of(judge, one) == key_of(judge, other)
+    let class = head(judge, other).class;
+    head(judge, one).class == class && (class == 0 || key_of(judge, one) == key_of(judge, other))
 }
 
-/// Whether an SCX-record makes this edit: it edits a leaf, or takes one out.
-fn is_edit(judge: &Judge, scx: u64, begun: &BegunEdit) -> bool
+/// Whether an SCX-record makes this edit, for a call with this goal: it edits a leaf, or takes one
+/// out, or does what is done in a trie alone. There what takes the pair at an end out covers node 2
+/// besides.
+fn is_edit(judge: &Judge, scx: u64, goal: Goal, begun: &BegunEdit) -> bool
     requires { begun.now.key < 2 ^ 64 }
     ensures edit { IsTrue result → IsEdit judge.now.layout (seen_history judge.now) scx
         (edit_begun begun.now) }
     ensures fresh { IsTrue result → count (seen_history judge.now) scx ≡ 2 →
         is_leaf (word_now judge.now) (new (seen_history judge.now) scx) ≡ false → (side : SideOf) →
+        is_leaf (word_now judge.now)
+        (word_now judge.now (child_of (new (seen_history judge.now) scx) side)) ≡ true →
         IsNamed judge.now.layout (seen_history judge.now)
         (word_now judge.now (child_of (new (seen_history judge.now) scx) side)) → ⊥ }
 {
-    if covers(judge, scx) == 2 {
-        edits_leaf(judge, scx, begun)
+    let (few, trie) = (covers(judge, scx) == 2, is_trie(judge));
+    if trie && matches!(goal, Goal::End(_)) {
+        !few && (edits_end_leaf(judge, scx, begun) || takes_end_leaf_out(judge, scx, begun))
+    } else if few {
+        edits_leaf(judge, scx, begun) || (trie && edits_in_trie(judge, scx, begun))
     } else {
         takes_leaf_out(judge, scx, begun)
     }
@@ -343,11 +394,11 @@ fn edits_leaf(judge: &Judge, scx: u64, begun: &BegunEdit) -> bool
         && head(judge, new).level == head(judge, leaf).level
         && is_readable(judge, leaf)
         && may_edit(judge, leaf, begun)
-        && (is_swap(judge, leaf, new, begun) || is_split(judge, leaf, new, begun))
+        && (is_swap(judge, leaf, new, begun) || is_tree_split(judge, leaf, new, begun))
 }
 
 /// Whether an edit may be made of a leaf: a delete finds its key there.
-fn may_edit(judge: &Judge, leaf: u64, begun: &BegunEdit) -> bool
+pub(crate) fn may_edit(judge: &Judge, leaf: u64, begun: &BegunEdit) -> bool
     requires readable { class (word_now judge.now) leaf ≡ 0 →
         IsWellCounted (word_now judge.now) leaf }
     ensures { IsTrue result → begun.now.value ≡ None →
@@ -357,7 +408,7 @@ fn may_edit(judge: &Judge, leaf: u64, begun: &BegunEdit) -> bool
 }
 
 /// Whether a leaf is replaced by another one, which holds what the edit makes of its pairs.
-fn is_swap(judge: &Judge, leaf: u64, new: u64, begun: &BegunEdit) -> bool
+pub(crate) fn is_swap(judge: &Judge, leaf: u64, new: u64, begun: &BegunEdit) -> bool
     requires readable { class (word_now judge.now) leaf ≡ 0 →
         IsWellCounted (word_now judge.now) leaf }
     requires leaf { is_leaf (word_now judge.now) leaf ≡ true }
@@ -373,15 +424,14 @@ fn is_swap(judge: &Judge, leaf: u64, new: u64, begun: &BegunEdit) -> bool
 
 /// Whether a leaf is replaced by a fork over two fresh ones, which between them hold what the edit
 /// makes of its pairs, and between which the fork is.
-fn is_split(judge: &Judge, leaf: u64, fork: u64, begun: &BegunEdit) -> bool
+pub(crate) fn is_split(judge: &Judge, leaf: u64, fork: u64, begun: &BegunEdit) -> bool
     requires readable { class (word_now judge.now) leaf ≡ 0 →
         IsWellCounted (word_now judge.now) leaf }
     requires leaf { is_leaf (word_now judge.now) leaf ≡ true }
     requires small { begun.now.key < 2 ^ 64 }
-    requires deep { level (word_now judge.now) fork ≡ level (word_now judge.now) leaf }
-    ensures edit { IsTrue result → (x y : ℕ)
-        × IsSplitBy (word_now judge.now) (edit_begun begun.now) leaf fork x y
-        × HasTreeLevels (word_now judge.now) leaf fork x y }
+    ensures edit { IsTrue result →
+        IsSplitBy (word_now judge.now) (edit_begun begun.now) leaf fork
+        (word_now judge.now (child_of fork Left)) (word_now judge.now (child_of fork Right)) }
     ensures fresh { IsTrue result → (side : SideOf) →
         IsNamed judge.now.layout (seen_history judge.now)
         (word_now judge.now (child_of fork side)) → ⊥ }
@@ -391,9 +441,7 @@ fn is_split(judge: &Judge, leaf: u64, fork: u64, begun: &BegunEdit) -> bool
     if judge.is_named_node(NodeNo(left))
         || judge.is_named_node(NodeNo(right))
         || head(judge, fork).leaf
-        || !are_alike(judge, fork, right)
-        || !is_one_below(judge, left, fork)
-        || !is_one_below(judge, right, fork)
+        || !is_of_class(judge, fork, right)
         || !is_low_leaf(judge, left)
         || !is_last_leaf(judge, right, leaf)
     {
@@ -404,6 +452,41 @@ fn is_split(judge: &Judge, leaf: u64, fork: u64, begun: &BegunEdit) -> bool
     are_toward(judge, fork, Side::Left, low.as_slice())
         && are_toward(judge, fork, Side::Right, high.as_slice())
         && joined(low, &high) == edited(begun, pairs_of_leaf(judge, leaf))
+}
+
+/// Whether a leaf is split as in a tree.
+fn is_tree_split(judge: &Judge, leaf: u64, fork: u64, begun: &BegunEdit) -> bool
+    requires readable { class (word_now judge.now) leaf ≡ 0 →
+        IsWellCounted (word_now judge.now) leaf }
+    requires leaf { is_leaf (word_now judge.now) leaf ≡ true }
+    requires small { begun.now.key < 2 ^ 64 }
+    requires deep { level (word_now judge.now) fork ≡ level (word_now judge.now) leaf }
+    ensures edit { IsTrue result →
+        IsSplitBy (word_now judge.now) (edit_begun begun.now) leaf fork
+        (word_now judge.now (child_of fork Left)) (word_now judge.now (child_of fork Right)) }
+    ensures levels { IsTrue result → HasTreeLevels (word_now judge.now) leaf fork
+        (word_now judge.now (child_of fork Left)) (word_now judge.now (child_of fork Right)) }
+    ensures fresh { IsTrue result → (side : SideOf) →
+        IsNamed judge.now.layout (seen_history judge.now)
+        (word_now judge.now (child_of fork side)) → ⊥ }
+{
+    is_split(judge, leaf, fork, begun) && is_level_split(judge, leaf, fork)
+}
+
+/// Whether a fork over two leaves is as in a tree: with the key of the right one, on the level of the
+/// leaf that it replaces, and its leaves a level deeper.
+fn is_level_split(judge: &Judge, leaf: u64, fork: u64) -> bool
+    requires deep { level (word_now judge.now) fork ≡ level (word_now judge.now) leaf }
+    ensures { IsTrue result → HasTreeLevels (word_now judge.now) leaf fork
+        (word_now judge.now (child_of fork Left)) (word_now judge.now (child_of fork Right)) }
+{
+    let (left, right) = (
+        child(judge, fork, Side::Left),
+        child(judge, fork, Side::Right),
+    );
+    key_of(judge, fork) == key_of(judge, right)
+        && is_one_below(judge, left, fork)
+        && is_one_below(judge, right, fork)
 }
 
 /// Whether a node is a leaf that may be last in the place of another: of its class, and, above all
@@ -443,7 +526,7 @@ fn is_one_below(judge: &Judge, node: u64, fork: u64) -> bool
 }
 
 /// The plan word of an edit of a leaf, that changes the field on a side.
-fn leaf_plan(side: Side) -> u64
+pub(crate) fn leaf_plan(side: Side) -> u64
     ensures { result ≡ leaf_plan side }
 {
     match side {
@@ -491,29 +574,25 @@ fn takes_leaf_out(judge: &Judge, scx: u64, begun: &BegunEdit) -> bool
 {
     let plan = join_plan(toward(judge, member(judge, scx, 0), begun.key));
     let side = toward(judge, member(judge, scx, 1), begun.key);
+    let leaf = member(judge, scx, leaf_place(side));
     scx_word(judge, scx, ScxWord::Plan) == plan
         && scx_word(judge, scx, ScxWord::Old) == member(judge, scx, 1)
-        && is_join(judge, scx, side, begun)
+        && is_join(judge, scx, leaf, sibling_place(side), begun)
         && are_below(judge, scx)
 }
 
-/// Whether the parent is a fork, the child on this side a leaf of whose pairs the edit leaves none,
-/// and `new` a copy of the other child.
-fn is_join(judge: &Judge, scx: u64, side: Side, begun: &BegunEdit) -> bool
+/// Whether the parent is a fork, this a leaf of whose pairs the edit leaves none, and `new` a copy of
+/// the node at this place, its sibling.
+pub(crate) fn is_join(judge: &Judge, scx: u64, leaf: u64, place: u8, begun: &BegunEdit) -> bool
     ensures edit { IsTrue result → IsJoinBy (word_now judge.now) (edit_begun begun.now)
-        (member_of (seen_history judge.now) scx 1)
-        (member_of (seen_history judge.now) scx (leaf_place_of side))
-        (member_of (seen_history judge.now) scx (sibling_place_of side))
-        (new (seen_history judge.now) scx) }
+        (member_of (seen_history judge.now) scx 1) leaf
+        (member_of (seen_history judge.now) scx place) (new (seen_history judge.now) scx) }
     ensures copied { IsTrue result → word_now judge.now
-        (info (member_of (seen_history judge.now) scx (sibling_place_of side))) ≡ seen_at
-        (seen_history judge.now) scx
-        (sibling_place_of side) →
+        (info (member_of (seen_history judge.now) scx place)) ≡ seen_at
+        (seen_history judge.now) scx place →
         HasFieldsOf (word_now judge.now) (new (seen_history judge.now) scx)
-        (member_of (seen_history judge.now) scx (sibling_place_of side)) }
+        (member_of (seen_history judge.now) scx place) }
 {
-    let leaf = member(judge, scx, leaf_place(side));
-    let place = sibling_place(side);
     let (new, sibling) = (
         scx_word(judge, scx, ScxWord::New),
         member(judge, scx, place),

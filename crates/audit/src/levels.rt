@@ -72,7 +72,7 @@ fn rises_to(judge: &Judge, fork: u64, child: u64) -> bool
 }
 
 /// Whether the levels of a node's children are above its own, if it is a fork.
-fn rises(judge: &Judge, node: u64) -> bool
+pub(crate) fn rises(judge: &Judge, node: u64) -> bool
     ensures { IsTrue result → (side : SideOf) →
         is_leaf (value (seen_history judge.now)) node ≡ false →
         level (value (seen_history judge.now)) node < level (value (seen_history judge.now))

@@ -15,6 +15,8 @@ mod memory;
 mod place;
 mod run;
 mod steps;
+mod trie_edits;
+mod trie_shape;
 mod verdict;
 mod watch;
 

@@ -10,7 +10,7 @@ use crate::fault::{LineFault, require};
 use crate::levels::do_levels_rise;
 use crate::steps::{Steps, says_its_call};
 use crate::{cells, map};
-use arena::{Kind, Mode, NoMemory, NodeWord, PassNo, ScxNo, ScxWord, Word};
+use arena::{Kind, NoMemory, NodeWord, PassNo, ScxNo, ScxWord, Word};
 use linearization::{Change, Places};
 use record::{Entry, Finished, Line, Record, TurnRow};
 use script::{Call, Command, Script};
@@ -24,7 +24,7 @@ pub(crate) struct Replay<'a> {
     pub(crate) at: usize,
     pub(crate) steps: Steps,
     pub(crate) places: Places,
-    /// On the tree, by the numbers of SCX-records: those that have begun.
+    /// In a map, by the numbers of SCX-records: those that have begun.
     pub(crate) edits: Vec<Option<BegunEdit>>,
     pub(crate) clients: Vec<ClientState>,
     /// How many turns there were.
@@ -45,8 +45,9 @@ pub(crate) struct Replay<'a> {
 
 impl<'a> Replay<'a> {
     ghost use Rattle.std.specs.Prelude.{◌≡◌, ℕ, suc, ◌+◌, ◌<◌, ◌∷◌, [], Some, None, true, false, IsTrue, IfOk, IfSome, OnOk, slice_get, vec_len, length, reverse, Option};
-    ghost use Rattle.record.specs.Common.{next_command, IsWinOf, OwesNothing, IsLawfulRun, turns, clients, entry_of, entry_owed, HasRisingLevels, IsTreeRun, IsEntryFor, IsPlaced, linked, IsFitting, enters, start};
-    ghost use Rattle.histories.specs.Common.{Row as RowOf, IsLawful, Side, IsWin, entry as entered, child, Tree, Records, ◌⊳◌, value, IsBegin};
+    ghost use Rattle.record.specs.Common.{next_command, IsWinOf, OwesNothing, IsLawfulRun, clients, entry_of, entry_owed, HasRisingLevels, IsEntryFor, IsPlaced, linked, IsFitting, enters, start};
+    ghost use Rattle.histories.specs.Common.{Row as RowOf, IsLawful, Side, IsWin, entry as entered, child, ◌⊳◌, value, IsBegin};
+    ghost use Rattle.arena.specs.Opening.{IsMap, is_map};
     ghost use Rattle.record.specs.declared.record.Line.{Line};
     ghost use Rattle.record.specs.declared.record.Entry.{Entry as EntryOf};
     ghost use Rattle.record.specs.declared.record.TurnRow.{TurnRow};
@@ -54,7 +55,7 @@ impl<'a> Replay<'a> {
     ghost use Rattle.record.specs.Replies.{IsReply};
     ghost use Rattle.linearization.specs.Places.{changes};
     ghost use Rattle.audit.specs.Trees.{HasChangedBy, IsChangeBegun, IsReadyFor};
-    ghost use Rattle.audit.specs.Edits.{MayMakeEdit};
+    ghost use Rattle.audit.specs.Edits.{MayMakeEdit, ShowsTree};
     ghost use Rattle.audit.specs.declared.edits.BegunEdit.{BegunEdit as BegunOf};
     ghost use Rattle.judge.specs.Histories.{seen_history};
     ghost use Rattle.audit.specs.After.{layout_of, tries_of, calls_of, IsClientAfter, IsNextStep, IsReplyToNext, IsRightReply, TookFew};
@@ -191,8 +192,8 @@ impl<'a> Replay<'a> {
         let Some(command) = self.next(&client) else {
             return Err(LineFault::NotLawful);
         };
-        let limits = &self.record.script.limits;
-        let most = most_steps(&command, limits, u64::from(self.steps.judge.taken()));
+        let (limits, mode) = (&self.record.script.limits, self.record.script.layout.mode);
+        let most = most_steps(&command, mode, limits, u64::from(self.steps.judge.taken()));
         require(self.turn.checked_add(1) == Some(number))?;
         require(row.call == client.answered)?;
         require(client.steps < most)?;
@@ -357,26 +358,26 @@ impl<'a> Replay<'a> {
         }
     }
 
-    /// On the tree levels still rise after a step.
+    /// In a map levels still rise after a step.
     fn check_levels(&self, row: &arena::Row) -> Result<(), LineFault>
         requires after { IsAfter self.now (lines_of self.now) }
         requires found { row.now.before ≡ value (seen_history self.now.steps.judge) row.now.word }
-        ensures { OnOk result ((layout_of self.now).mode ≡ Tree →
+        ensures { OnOk result (IsMap (layout_of self.now).mode →
             HasRisingLevels (seen_history self.now.steps.judge) →
             HasRisingLevels (row.now ⊳ seen_history self.now.steps.judge)) }
     {
-        if self.record.script.layout.mode != Mode::Tree {
+        if !self.record.script.layout.mode.is_map() {
             return Ok(());
         }
         require(do_levels_rise(&self.steps.judge, row))?;
         Ok(())
     }
 
-    /// On the tree the SCX-record that a step begins, if it begins one, makes an edit for its
+    /// In a map the SCX-record that a step begins, if it begins one, makes an edit for its
     /// client's call.
     fn check_begun(&self, row: &arena::Row) -> Result<(), LineFault>
         requires { Remembers self.now (lines_of self.now) }
-        ensures { OnOk result ((layout_of self.now).mode ≡ Tree →
+        ensures { OnOk result (IsMap (layout_of self.now).mode →
             IsBegin (seen_history self.now.steps.judge) row.now row.now.after →
             (begun : BegunOf)
             × MayMakeEdit (layout_of self.now)
@@ -391,19 +392,19 @@ impl<'a> Replay<'a> {
         }
     }
 
-    /// Whether a step on the tree begins an SCX-record.
+    /// Whether a step in a map begins an SCX-record.
     fn begins(&self, row: &arena::Row) -> bool
         requires { IsAfter self.now (lines_of self.now) }
-        ensures tree { IsTrue result → (layout_of self.now).mode ≡ Tree }
+        ensures tree { IsTrue result → IsMap (layout_of self.now).mode }
         ensures begins { IsTrue result →
             IsBegin (seen_history self.now.steps.judge) row.now row.now.after }
-        ensures none { result ≡ false → (layout_of self.now).mode ≡ Tree →
+        ensures none { result ≡ false → IsMap (layout_of self.now).mode →
             IsBegin (seen_history self.now.steps.judge) row.now row.now.after → ⊥ }
     {
-        self.record.script.layout.mode == Mode::Tree && self.steps.judge.is_begin(row)
+        self.record.script.layout.mode.is_map() && self.steps.judge.is_begin(row)
     }
 
-    /// The SCX-record that a step on the tree begins, if it begins one, with the edit that it makes
+    /// The SCX-record that a step in a map begins, if it begins one, with the edit that it makes
     /// for its client's call.
     fn begun_by(&self, row: &arena::Row) -> Option<BegunEdit>
         requires { Remembers self.now (lines_of self.now) }
@@ -426,7 +427,7 @@ impl<'a> Replay<'a> {
 
     /// Whether an SCX-record that wins has begun for a call with this command, and fits it.
     fn is_ready(&self, command: &Command, scx: ScxNo) -> bool
-        requires { IsTreeRun self.now.steps.judge.layout (seen_history self.now.steps.judge) }
+        requires { ShowsTree (seen_history self.now.steps.judge) }
         ensures { IsTrue result →
             IsReadyFor self.now.edits.items (seen_history self.now.steps.judge) scx.0 command.now }
     {
@@ -500,15 +501,15 @@ impl<'a> Replay<'a> {
         Ok(())
     }
 
-    /// On the tree the map is changed by the SCX-record of an entry.
+    /// In a map's table the map is changed by the SCX-record of an entry.
     fn change(&mut self, entry: &Entry) -> Result<(), LineFault>
         requires { IsAfter self.old (lines_of self.old) }
         ensures rest { self.new ≡ record self.old { places = self.new.places } }
-        ensures change { OnOk result ((layout_of self.old).mode ≡ Tree →
+        ensures change { OnOk result (IsMap (layout_of self.old).mode →
             HasChangedBy (calls_of self.old) (lines_of self.old) entry.now
             self.old.edits.items (changes self.old.places) (changes self.new.places)) }
     {
-        if self.record.script.layout.mode != Mode::Tree {
+        if !self.record.script.layout.mode.is_map() {
             return Ok(());
         }
         let change = self.change_of(entry)?;
@@ -630,10 +631,10 @@ impl<'a> Replay<'a> {
     {
         let limits = &self.record.script.limits;
         require(self.steps.has_taken_few(client.pass, command, limits))?;
-        match self.record.script.layout.mode {
-            Mode::Tree => self.check_map_answer(client, command, reply),
-            Mode::Trie => Err(LineFault::NotLawful),
-            Mode::Records => self.check_cells_answer(client, command, reply),
+        if self.record.script.layout.mode.is_map() {
+            self.check_map_answer(client, command, reply)
+        } else {
+            self.check_cells_answer(client, command, reply)
         }
     }
 
@@ -645,7 +646,7 @@ impl<'a> Replay<'a> {
         reply: &Finished,
     ) -> Result<(), LineFault>
         requires remembers { Remembers self.now (lines_of self.now) }
-        requires mode { (layout_of self.now).mode ≡ Tree }
+        requires mode { IsMap (layout_of self.now).mode }
         requires next { IsReplyToNext self.now client.now command.now reply.now }
         ensures right { OnOk result (IsRightReply self.now reply.now command.now) }
         ensures placed { OnOk result
@@ -665,7 +666,7 @@ impl<'a> Replay<'a> {
         reply: &Finished,
     ) -> Result<(), LineFault>
         requires remembers { Remembers self.now (lines_of self.now) }
-        requires mode { (layout_of self.now).mode ≡ Records }
+        requires mode { is_map (layout_of self.now).mode ≡ false }
         requires next { IsReplyToNext self.now client.now command.now reply.now }
         ensures right { OnOk result (IsRightReply self.now reply.now command.now) }
         ensures placed { OnOk result

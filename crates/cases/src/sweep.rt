@@ -1,5 +1,7 @@
 //! Sweeps: a script by one schedule after another, as where a client stops after each of its steps
 //! in turn.
+ghost use Rattle.std.specs.Prelude.{◌≢◌, IfOk};
+
 use crate::files::lines_of;
 use crate::finding::Finding;
 use anyhow::{Context, Result, bail};
@@ -21,6 +23,7 @@ pub(crate) struct Sweep<'a> {
     numbers: (&'a str, &'a str),
     script: &'a str,
     schedule: &'a str,
+    ghost plays: { mode ≢ Mode.Trie },
 }
 
 impl<'a> Sweep<'a> {
@@ -77,7 +80,9 @@ impl<'a> Sweep<'a> {
     }
 }
 
-fn mode_of(word: &str) -> Result<Mode> {
+fn mode_of(word: &str) -> Result<Mode>
+    ensures { IfOk result (λ mode. mode ≢ Mode.Trie) }
+{
     match word {
         "tree" => Ok(Mode::Tree),
         "records" => Ok(Mode::Records),

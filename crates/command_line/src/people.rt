@@ -1,5 +1,5 @@
 //! What the program for people does with its words.
-ghost use Rattle.std.specs.Prelude.{◌≤◌};
+ghost use Rattle.std.specs.Prelude.{◌≢◌, ◌≤◌};
 
 use crate::buffered::play_buffered;
 use crate::command_help::whole_command;
@@ -101,7 +101,9 @@ fn play<R: Files + Input + Clock + AllocGlobal, O: Write, E: Write>(
     given: &ArgMatches<'_>,
     out: &mut O,
     err: &mut E,
-) -> Result<(), Complaint> {
+) -> Result<(), Complaint>
+    requires { mode ≢ Mode.Trie }
+{
     let alloc = rt.alloc();
     require_one_input(alloc, given)?;
     let text = Source::of(rt, given, "SCRIPT")?;

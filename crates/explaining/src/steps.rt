@@ -9,7 +9,7 @@ use crate::made_edit::check_edit;
 use crate::stores::{check_abort, check_commit, check_frozen, check_mark};
 use crate::updates::check_update;
 use crate::words::{call_words, name_of};
-use arena::{Kind, Mode, PassNo, Row, ScxWord, Word};
+use arena::{Kind, PassNo, Row, ScxWord, Word};
 use ordered_map::Request;
 use report::word_text;
 use script::Command;
@@ -37,7 +37,7 @@ pub(crate) fn check_step(
     check_call(before, row)?;
     check_word(before, row)?;
     check_kind(before, row)?;
-    if before.record.script.layout.mode == Mode::Tree {
+    if before.record.script.layout.mode.is_map() {
         check_levels(before, row)?;
         check_edit(before, row)?;
     }

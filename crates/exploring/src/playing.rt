@@ -1,4 +1,7 @@
 //! The play of a schedule.
+ghost use Rattle.std.specs.Prelude.{◌≢◌};
+ghost use Rattle.arena.specs.declared.limits.Mode.TheVariants.{Trie};
+
 use crate::stretch::{Begun, Stretch};
 use arena::{NoMemory, PassNo};
 use player::Player;
@@ -7,7 +10,9 @@ use script::{Order, Script};
 use std::alloc::Global;
 
 /// The record of a schedule that has begun so.
-pub(crate) fn play_on(alloc: Global, script: &Script, begun: &Begun) -> Result<Record, NoMemory> {
+pub(crate) fn play_on(alloc: Global, script: &Script, begun: &Begun) -> Result<Record, NoMemory>
+    requires { script.now.layout.mode ≢ Trie }
+{
     let passes = script.layout.passes;
     let mut player = Player::new(alloc, script)?;
     for stretch in begun.stretches.iter() {

@@ -1,4 +1,7 @@
 //! The search through all schedules.
+ghost use Rattle.std.specs.Prelude.{◌≢◌};
+ghost use Rattle.arena.specs.declared.limits.Mode.TheVariants.{Trie};
+
 use crate::branches::{Branches, calls_of};
 use crate::found::FoundOutcome;
 use crate::outcome::outcome_text;
@@ -38,7 +41,9 @@ pub fn explore(
     script: &Script,
     interruptions: u32,
     most: u64,
-) -> Result<Exploration, AuditFault> {
+) -> Result<Exploration, AuditFault>
+    requires { script.now.layout.mode ≢ Trie }
+{
     explore_watched(alloc, script, interruptions, most, &mut Unwatched)
 }
 
@@ -49,7 +54,9 @@ pub fn explore_watched<W: Watch>(
     interruptions: u32,
     most: u64,
     watch: &mut W,
-) -> Result<Exploration, AuditFault> {
+) -> Result<Exploration, AuditFault>
+    requires { script.now.layout.mode ≢ Trie }
+{
     let mut exploration = Exploration {
         played: 0,
         left: 0,
@@ -93,7 +100,9 @@ impl Exploration {
         begun: &Begun,
         interruptions: u32,
         most: u64,
-    ) -> Result<Option<Record>, NoMemory> {
+    ) -> Result<Option<Record>, NoMemory>
+        requires { script.now.layout.mode ≢ Trie }
+    {
         let record = play_on(alloc, script, begun)?;
         self.played = self.played.saturating_add(1);
         let mut branches = Branches::of(alloc, &record, begun)?;

@@ -1,13 +1,15 @@
 -- The words spell the map so far after every step of a run of calls of the map.
 use Rattle.std.proofs.Common.{◌≡◌, ℕ, suc, inr, true, false, eqb, List, [], ◌∷◌, Option, Some, None, slice_get, refl, sym, ◌∙◌, ap, subst, ne_eqb}
-use Rattle.histories.specs.Common.{Tree, Layout, Row as StepRow, History, ◌⊳◌, value, Lawful, log, field}
+use Rattle.arena.specs.Opening.{IsMap}
+use Rattle.histories.specs.Common.{Layout, Row as StepRow, History, ◌⊳◌, value, Lawful, log, field}
 use Rattle.arena.proofs.Lemmas.{ends_self}
 use Rattle.histories.proofs.Lemmas.{Logs, facts_before, logs, same, update_changes, wins}
-use Rattle.record.specs.Common.{Pair, MapCall, MapEdit, Edit, after, edited, AreFilledInOrder, IsTreeRun, Makes, Spells, Call, Command, Llx, Scx, Vlx}
+use Rattle.record.specs.Common.{Pair, MapCall, MapEdit, Edit, after, edited, AreFilledInOrder, IsMapRun, Makes, Spells, Call, Command, Llx, Scx, Vlx}
 use Rattle.record.specs.Common.{Set, Map, map_request, history, start, entry_at, entry_of, entry_owed, entries, is_update, commands, next_command}
 use Rattle.record.specs.Common.{IsEntryFor, IsMapEntry, IsWinOf, linked, map_call, map_call_of, written_log, map_of, AreSpelled, IsSpelledAfter, AreLines}
 use Rattle.ordered_map.specs.OrderedMap.{after_edit}
-use Rattle.ordered_map.proofs.Lemmas.{makes_since, opening_spells, quiet_spells, rising_levels, run_since, win_makes}
+use Rattle.ordered_map.proofs.Lemmas.{makes_since}
+use Rattle.ordered_map.proofs.MapLemmas.{opening_spells, quiet_spells, rising_levels, run_since, win_makes}
 use Rattle.record.specs.declared.record.Line.{Line}
 use Rattle.record.specs.declared.record.Line.TheVariants.{Step, Log, Reply as ReplyLine}
 use Rattle.record.specs.declared.record.TurnRow.TheVariants.{Step as Made, Idle}
@@ -27,12 +29,12 @@ no_entry lay lines n row l e = go (logs lay (history lay.mode lines) row l)
         let none : entry_at lay (history lay.mode lines) (suc (entries lines)) n (field (history lay.mode lines) u) ≡ None = rw (kind, differs, w.update.word) at e in
         absurd (cc)
 
-module _ (lay : Layout) (tries : ℕ) (calls : List Call) (mode : lay.mode ≡ Tree) (all : AreMapCalls calls) where
-  run_before : (h : History) (row : StepRow) → IsTreeRun lay (row ⊳ h) → IsTreeRun lay h
+module _ (lay : Layout) (tries : ℕ) (calls : List Call) (mode : IsMap lay.mode) (all : AreMapCalls calls) where
+  run_before : (h : History) (row : StepRow) → IsMapRun lay (row ⊳ h) → IsMapRun lay h
   run_before h row g = run_since lay (row ⊳ h) h g (inr (ends_self h))
 
   -- what an entry's call makes of the map
-  win_spells : (lines : List Line) (row : StepRow) (e : Entry) (ps : List Pair) → IsTreeRun lay (row ⊳ history lay.mode lines) → IsWinOf lay calls lines row e → Spells lay (value (history lay.mode lines)) ps → Spells lay (value (row ⊳ history lay.mode lines)) (after_maybe (map_call_of calls e.client.0 e.call) ps)
+  win_spells : (lines : List Line) (row : StepRow) (e : Entry) (ps : List Pair) → IsMapRun lay (row ⊳ history lay.mode lines) → IsWinOf lay calls lines row e → Spells lay (value (history lay.mode lines)) ps → Spells lay (value (row ⊳ history lay.mode lines)) (after_maybe (map_call_of calls e.client.0 e.call) ps)
   win_spells lines row e ps g x s = go x.command x.is x.does
     where
       call_is : (command : Command) → next_command calls lines e.client.0 ≡ Some command → map_call_of calls e.client.0 e.call ≡ map_call (Some command)
@@ -61,7 +63,7 @@ module _ (lay : Layout) (tries : ℕ) (calls : List Call) (mode : lay.mode ≡ T
       go (Set f v) is does = absurd (other (Set f v) is refl)
 
   -- the words spell the map of the entries, where none is owed
-  pub spelled : (lines : List Line) → AreLines lay tries calls lines → IsTreeRun lay (history lay.mode lines) → entry_owed lay lines ≡ None → Spells lay (value (history lay.mode lines)) (map_of calls (written_log lines))
+  pub spelled : (lines : List Line) → AreLines lay tries calls lines → IsMapRun lay (history lay.mode lines) → entry_owed lay lines ≡ None → Spells lay (value (history lay.mode lines)) (map_of calls (written_log lines))
   unfolding AreLines
   spelled [] a g owed = opening_spells lay mode
   spelled (Step (Made n row) ∷ lines) a g owed = quiet_spells lay (history lay.mode lines) row (map_of calls (written_log lines)) g (no_entry lay lines n row g.1.lawful owed) (spelled lines a.0 (run_before (history lay.mode lines) row g) a.1.0.entry)
@@ -73,11 +75,11 @@ module _ (lay : Layout) (tries : ℕ) (calls : List Call) (mode : lay.mode ≡ T
   spelled (Log e ∷ ReplyLine reply ∷ lines) a g owed = absurd a.1
   spelled (Log e ∷ []) a g owed = absurd a.1
 
-  spelled_after : (lines : List Line) → AreLines lay tries calls lines → IsTreeRun lay (history lay.mode lines) → AreFilledInOrder (history lay.mode lines) → entry_owed lay lines ≡ None → IsSpelledAfter lay calls lines
+  spelled_after : (lines : List Line) → AreLines lay tries calls lines → IsMapRun lay (history lay.mode lines) → AreFilledInOrder (history lay.mode lines) → entry_owed lay lines ≡ None → IsSpelledAfter lay calls lines
   spelled_after lines a g order owed = record { spelled = spelled lines a g owed; rising = rising_levels lay (history lay.mode lines) g order }
 
   -- so they do after each step, where nodes are filled in order
-  pub are_spelled : (lines : List Line) → AreLines lay tries calls lines → IsTreeRun lay (history lay.mode lines) → AreFilledInOrder (history lay.mode lines) → AreSpelled lay calls lines
+  pub are_spelled : (lines : List Line) → AreLines lay tries calls lines → IsMapRun lay (history lay.mode lines) → AreFilledInOrder (history lay.mode lines) → AreSpelled lay calls lines
   unfolding AreLines AreSpelled
   are_spelled [] a g order = spelled_after [] a g order refl
   are_spelled (Step (Made n row) ∷ lines) a g order = (are_spelled lines a.0 (run_before (history lay.mode lines) row g) order.0, λ owed. spelled_after (Step (Made n row) ∷ lines) a g order owed)

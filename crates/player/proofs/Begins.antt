@@ -1,6 +1,7 @@
 -- What calls need to begin.
 use Rattle.std.proofs.Common.{Vec, ◌≡◌, ◌≢◌, ℕ, suc, ◌+◌, ◌<◌, ◌≤◌, inl, List, Option, Some, None, refl, sym, ◌∙◌, ap, subst, arith, length, zero, [], ◌∷◌, ◌⊎◌, ⊎_elim, slice_index_or, slice_get, get_or, unwrap_or, nat_lt, map, AllPairs, Contains, MatchOption, Bool, true, false, All}
-use Rattle.record.specs.Common.{mode_of, cells_of, update_cells, update_finalize, update_field, update_value, AreLinked, Command, Llx as LlxCommand, Vlx as VlxCommand}
+use Rattle.record.specs.Common.{cells_of, update_cells, update_finalize, update_field, update_value, AreLinked, Command, Llx as LlxCommand, Vlx as VlxCommand}
+use Rattle.player.specs.Modes.{mode_of}
 use Rattle.record.specs.Common.{Scx as ScxCommand, Set as SetCommand, Map, Range as RangeCommand, command_steps, MapCall, map_request, Request, Call, Pairs}
 use Rattle.histories.specs.Common.{Mode, Records, Tree, History, value, Extends, NodeNo, Side, Remaining, IsOwnScx, IsTakenScx, Call as MachineCall}
 use Rattle.arena.proofs.Lemmas.{ends_self}

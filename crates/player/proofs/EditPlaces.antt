@@ -1,6 +1,7 @@
 -- Where a call of the map took place that has changed it: at its one entry, and it answers what the
 -- map had just before. One that is refused took place nowhere.
 use Rattle.std.proofs.Common.{◌≡◌, ℕ, suc, ◌⊎◌, inl, inr, ⊎_elim, Bool, true, false, cond, ◌&&◌, ◌||◌, eqb, eqb-true, eq-eqb, ne_eqb, is_some, List, [], ◌∷◌, ◌++◌, Option, Some, None, refl, sym, ◌∙◌, ap, subst}
+use Rattle.arena.specs.Opening.{is_map}
 use Rattle.histories.specs.Common.{Tree, Layout, Row, History, Start, ◌⊳◌, value, Extends, IsOwnScx, Lawful, IsWin, IsRun}
 use Rattle.histories.proofs.Lemmas.{UpdateWins, lawful_row, one_scx_owner}
 use Rattle.record.specs.Common.{MapCall, MapReply, Spells, Call, Command, HasItsEntry, enters, IsRight, AreLines, linked, map_of, written_log}
@@ -20,7 +21,7 @@ use Rattle.player.specs.ClientView.{client_view, AnswersRight, IsToldChange}
 use Rattle.record.proofs.Lemmas.{entries_none}
 use Rattle.linearization.specs.Entries.{AreEntries}
 use Rattle.linearization.proofs.Lemmas.{spelled}
-use Rattle.player.proofs.MapCalls.{AreOf, map_calls, run_before, tree_run}
+use Rattle.player.proofs.MapCalls.{AreOf, map_calls, map_run, run_before}
 use Rattle.player.proofs.Winners.{win_enters}
 
 -- a history without its newest row, and that row
@@ -125,7 +126,7 @@ module _ (lay : Layout) (tries : ℕ) (calls : List Call) (c : ℕ) where
               won_is = rw (x.1.0, eq-eqb e.client.0 c client) (ap (λ (k : ℕ). Some k) step);
               once = rw (eq-eqb c e.client.0 (sym client), eq-eqb (answered lines c) e.call (sym call)) (ap suc (entries_none lay tries calls lines x.0.0 c none));
               before_is = ap older (sym q);
-              spells = spelled lay tries calls mode (map_calls lay.mode calls mode all) lines x.0.0 (tree_run lay (history lay.mode lines) mode (run_before PlayedAllows lay (history lay.mode lines) r run)) x.0.1.0.entry;
+              spells = spelled lay tries calls (ap is_map mode) (map_calls lay.mode calls mode all) lines x.0.0 (map_run lay (history lay.mode lines) mode (run_before PlayedAllows lay (history lay.mode lines) r run)) x.0.1.0.entry;
             }
 
         later : IsFoundWin lines before → IsFoundWin (Log e ∷ Step (Made number r) ∷ lines) before

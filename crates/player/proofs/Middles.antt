@@ -12,7 +12,8 @@ use Rattle.player.specs.declared.interleaving.Interleaving.{Interleaving}
 use Rattle.arena.proofs.Lemmas.{word_same, word_apart, value_at, value_other}
 use Rattle.record.specs.Common.{Command, AreFilledInOrder, Call, Pairs, NoMemory, number_pairs, Llx as LlxOf, Scx as ScxOf, Vlx as VlxOf, Set as SetOf, Map, Successor as SuccessorOf}
 use Rattle.record.specs.Common.{Predecessor as PredecessorOf, Range as RangeOf, history, turns, entries, answered, begin, start, steps, won, last_client, entry_of, entry_owed, entry_at}
-use Rattle.record.specs.Common.{commands, next_command, linked, HasItsEntry, MayAnswerAtOnce, HasTakenFew, enters, IsRight, IsFitting, OwesNothing, AreLines, ManyPairs, mode_of}
+use Rattle.record.specs.Common.{commands, next_command, linked, HasItsEntry, MayAnswerAtOnce, HasTakenFew, enters, IsRight, IsFitting, OwesNothing, AreLines, ManyPairs}
+use Rattle.player.specs.Modes.{mode_of}
 use Rattle.player.proofs.Commands.{none_left, next_at, place_more, number_small}
 use Rattle.player.specs.Allowed.{PlayedAllows}
 use Rattle.ordered_map.specs.FillOrder.{IsFillInOrder}
@@ -120,13 +121,14 @@ turn_ends lay tries calls words clients lines c settled is x = record { so_far =
 -- a line that no client waits for is written down
 pub so_far_same : (lay : Layout) (tries : ℕ) (calls : List Call) (words : Contents) (lines : List Line) (line : Line) → history lay.mode (line ∷ lines) ≡ history lay.mode lines → IsNext lay tries calls lines line → IsLawfulSoFar lay tries calls words lines → IsLawfulSoFar lay tries calls words (line ∷ lines)
 unfolding AreLines
-so_far_same lay tries calls words lines line e next x = record { layout = x.layout; holds = λ w i. x.holds w i ∙ ap (λ (h : History). value h w) (sym e); sound = rw e x.sound; in_order = (x.in_order, next); filled = λ tree. subst (λ (h : History). AreFilledInOrder h) (sym e) (x.filled tree); of_mode = x.of_mode }
+so_far_same lay tries calls words lines line e next x = record { layout = x.layout; holds = λ w i. x.holds w i ∙ ap (λ (h : History). value h w) (sym e); sound = rw e x.sound; in_order = (x.in_order, next); filled = λ tree. subst (λ (h : History). AreFilledInOrder h) (sym e) (x.filled tree); plays = x.plays; of_mode = x.of_mode }
 
 -- a step of the client: the words change as the row says
 pub step_made : (lay : Layout) (tries : ℕ) (calls : List Call) (old new : Contents) (lines : List Line) (number : ℕ) (row : Row) → IsChanged old new row.word row.after → IsRun PlayedAllows lay (row ⊳ history lay.mode lines) → IsNext lay tries calls lines (Step (Made number row)) → (lay.mode ≡ Tree → IsFillInOrder (history lay.mode lines) row) → IsLawfulSoFar lay tries calls old lines → IsLawfulSoFar lay tries calls new (Step (Made number row) ∷ lines)
 unfolding AreLines
 step_made lay tries calls old new lines number row changed run next order x = record {
   layout = changed.layout ∙ x.layout;
+  plays = x.plays;
   of_mode = x.of_mode;
   holds = λ w i. go w i (same_word row.word w) refl;
   sound = run;

@@ -1,7 +1,8 @@
 -- Where the moment of an answer lies.
 use Rattle.std.proofs.Common.{◌≡◌, ℕ, suc, ◌≤◌, Bool, true, false, List, Option, Some, None, refl, sym, ◌∙◌, subst, arith}
 use Rattle.histories.specs.Common.{Tree, Layout, History}
-use Rattle.record.specs.Common.{Call, Command, Scx, Set, Map, mode_of, Reply, Request, HasItsEntry, MayAnswerAfterStep, IsRight, enters}
+use Rattle.record.specs.Common.{Call, Command, Scx, Set, Map, Reply, Request, HasItsEntry, MayAnswerAfterStep, IsRight, enters}
+use Rattle.player.specs.Modes.{mode_of}
 use Rattle.record.specs.declared.record.Line.{Line}
 use Rattle.record.specs.declared.record.Answer.{Answer}
 use Rattle.record.specs.declared.record.Answer.TheVariants.{Snapshot, Finalized, Done, Same, Map as MapAnswer}

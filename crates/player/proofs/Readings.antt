@@ -2,6 +2,7 @@
 -- its entry, or in the turn that was found for it. All replies of a run on the tree are those of
 -- one map.
 use Rattle.std.proofs.Common.{◌≡◌, ℕ, suc, ◌≤◌, ⊎_elim, Bool, true, false, List, Option, Some, None, IfSome, IfNone, refl, sym, ◌∙◌, ap, subst, arith}
+use Rattle.arena.specs.Opening.{is_map}
 use Rattle.arena.specs.declared.limits.Mode.TheVariants.{Trie}
 use Rattle.histories.specs.Common.{Mode, Records, Tree, Layout, Contents}
 use Rattle.record.specs.Common.{Pair, MapCall, MapReply, OneValue, changes_map, get, reply as answer_on, map_request, Call, Command, Map, Request, Reply, number_reply, history, turns, answered}
@@ -22,7 +23,7 @@ use Rattle.record.proofs.Lemmas.{begin_within, lawful_is_legal}
 use Rattle.player.specs.BetweenTurns.{IsLawfulSoFar}
 use Rattle.linearization.proofs.Lemmas.{IsRepliedIn, are_spelled, falls, ordered_placed, replied_turn}
 use Rattle.player.proofs.EachCall.{TookPlace, ByEntry, ByValue, ByReply, Nowhere, HasTakenPlace, IsMomentSo, TellsSo, is_by_entry, took_place}
-use Rattle.player.proofs.MapCalls.{command_mode, map_calls, tree_run}
+use Rattle.player.proofs.MapCalls.{command_mode, map_calls, map_run}
 use Rattle.player.proofs.EditPlaces.{IsMapReply, changed, refused, unwon_none}
 
 -- a call of cells replies nothing of the map, and its moment is that of its answer
@@ -32,7 +33,7 @@ cell_moment calls lines changes command answer first last won moment d x = x
 
 -- the words spell the map after each turn of a run on the tree
 spelled_so_far : (lay : Layout) (tries : ℕ) (calls : List Call) (words : Contents) (lines : List Line) → IsLawfulSoFar lay tries calls words lines → lay.mode ≡ Tree → AreSpelled lay calls lines
-spelled_so_far lay tries calls words lines x mode = are_spelled lay tries calls mode (map_calls lay.mode calls mode x.of_mode) lines x.in_order (tree_run lay (history lay.mode lines) mode x.sound) (x.filled mode)
+spelled_so_far lay tries calls words lines x mode = are_spelled lay tries calls (ap is_map mode) (map_calls lay.mode calls mode x.of_mode) lines x.in_order (map_run lay (history lay.mode lines) mode x.sound) (x.filled mode)
 
 -- the value of a reply that answers one
 some_value : (a b : Option ℕ) → Some (OneValue a) ≡ Some (OneValue b) → a ≡ b
@@ -134,5 +135,5 @@ whole lay tries calls words lines x = go lay.mode refl
   where
     go : (m : Mode) → lay.mode ≡ m → IsWhole m lay calls lines
     go Records e = tt
-    go Trie e = tt
+    go Trie e = absurd (x.plays e)
     go Tree e = (spelled_so_far lay tries calls words lines x e, lawful_is_legal lay tries calls lines (map_calls lay.mode calls e x.of_mode) x.in_order)

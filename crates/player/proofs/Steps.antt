@@ -3,6 +3,7 @@ use Rattle.std.proofs.Common.{◌≡◌, ℕ, suc, true, ◌≤◌, ◌≢◌, �
 use native.Mathlib.Decide.{ℕ_discrete}
 use Rattle.histories.specs.Common.{IsOwnScx, Layout, PassNo, Row, Step as Ask, Kind, Word, word_after, Load, Store, Exchange, IsWord}
 use Rattle.histories.specs.Common.{Contents, word_at, IsChanged, ◌⊳◌, value, IsLawful, IsWin, IsRun, IsTold, Tree, taken_nodes}
+use Rattle.arena.specs.Opening.{is_map}
 use Rattle.arena.specs.declared.step.Access.{Access}
 use Rattle.histories.proofs.Lemmas.{UpdateWins, facts_before, lawful_row, update_win}
 use Rattle.player.specs.Allowed.{PlayedAllows}
@@ -39,7 +40,7 @@ use Rattle.player.proofs.MayMakes.{may_make}
 use Rattle.record.proofs.Lemmas.{begin_within, log_step}
 use Rattle.player.proofs.EachCall.{edit_of_key}
 use Rattle.player.proofs.Keys.{command_key, some_edit}
-use Rattle.player.proofs.MapCalls.{map_calls, tree_run}
+use Rattle.player.proofs.MapCalls.{all_counted, map_calls, map_run}
 use Rattle.player.proofs.Winners.{IsEntryOfWin, entry_wins, tells_won, win_enters}
 use Rattle.player.proofs.Entered.{IsEditOfCall, IsEntryFrom, edit_entered, entry_by_others, entry_by_own, in_hand_tree, rest_wins_not}
 
@@ -133,7 +134,7 @@ module _ (p : Interleaving) (lines : List Line) (i number : ℕ) (step : Ask) (a
 
   pub asked_made : (words : Contents) → IsChanged p.words words made.word made.after → IsTurnOf lay tries calls words p.clients.items (Step (Made number made) ∷ lines) a.client
   asked_made words changed = record {
-    so_far = step_made lay tries calls p.words words lines number made changed sound (a.settled, record { in_turn = a.in_turn; lawful = lawful; call = a.waits.works.stands.number; command = a.waits.works.command; is = a.waits.works.is; few = let few = a.waits.few (length (taken_nodes (history lay.mode lines))) in omega arith; may = may_make a.waits.works.command a.client.number a.running.run a.running.then _ _ a.running.step a.waits.works.run_of a.waits.waits; says = λ s kind word. run_says a.waits.works.command a.running.run a.running.then (machine_call v a.client a.waits.works.is_pass a.waits.works.start) _ a.running.step s _ a.waits.works.run_of a.waits.waits kind word }) in_order a.turn.so_far;
+    so_far = step_made lay tries calls p.words words lines number made changed sound (a.settled, record { in_turn = a.in_turn; lawful = lawful; call = a.waits.works.stands.number; command = a.waits.works.command; is = a.waits.works.is; few = let taken = length (taken_nodes (history lay.mode lines)) in let few = a.waits.few taken in rw (all_counted lay.mode taken a.turn.so_far.plays) (omega arith); may = may_make a.waits.works.command a.client.number a.running.run a.running.then _ _ a.running.step a.waits.works.run_of a.waits.waits; says = λ s kind word. run_says a.waits.works.command a.running.run a.running.then (machine_call v a.client a.waits.works.is_pass a.waits.works.start) _ a.running.step s _ a.waits.works.run_of a.waits.waits kind word }) in_order a.turn.so_far;
     others = others_step lay tries calls p.clients.items lines a.client.pass.0 number made a.turn.so_far.sound sound refl a.in_turn a.turn.so_far.in_order a.turn.others;
     own = a.turn.own;
   }
@@ -261,7 +262,7 @@ module _ (p : Interleaving) (lines : List Line) (i number : ℕ) (step : Ask) (a
     map_before = map_of calls (written_log lines)
 
     gives : edit_of (map_request x.request) (reply (map_request x.request) map_before) ≡ Some x.edit
-    gives = x.gives map_before (spelled lay tries calls tree (map_calls lay.mode calls tree a.turn.so_far.of_mode) lines a.turn.so_far.in_order (tree_run lay (history lay.mode lines) tree a.turn.so_far.sound) a.settled.entry)
+    gives = x.gives map_before (spelled lay tries calls (ap is_map tree) (map_calls lay.mode calls tree a.turn.so_far.of_mode) lines a.turn.so_far.in_order (map_run lay (history lay.mode lines) tree a.turn.so_far.sound) a.settled.entry)
 
     place : slice_get (commands calls entry.client.0) entry.call ≡ Some (Map x.request)
     place = ap (λ (j : ℕ). slice_get (commands calls entry.client.0) j) (log_entry entry e).call ∙ ap (λ (k : ℕ). slice_get (commands calls k) (answered lines entry.client.0)) (sym o.pass) ∙ x.is

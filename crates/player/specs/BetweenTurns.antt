@@ -1,7 +1,9 @@
 -- What is true of an interleaving between two turns, and in the middle of one.
 use Rattle.std.specs.Prelude.{◌≡◌, ◌≢◌, ℕ, suc, ◌<◌, ◌⊎◌, List, ◌∷◌, set, Option, Some, None, MatchOption, slice_get, All}
 use Rattle.histories.specs.Common.{Layout, Word, IsWord, Contents, word_at, value, IsRun, Step as Ask, Row, Tree}
-use Rattle.record.specs.Common.{Call, mode_of, AreFilledInOrder, history, begin, clients, entries, entry_owed, turns, won, MapEdit, edit_key, value_left, written_log, AreLines, OwesNothing}
+use Rattle.record.specs.Common.{Call, AreFilledInOrder, history, begin, clients, entries, entry_owed, turns, won, MapEdit, edit_key, value_left, written_log, AreLines, OwesNothing}
+use Rattle.arena.specs.declared.limits.Mode.TheVariants.{Trie}
+use Rattle.player.specs.Modes.{mode_of}
 use Rattle.record.specs.declared.record.Line.{Line}
 use Rattle.record.specs.declared.record.Line.TheVariants.{Step}
 use Rattle.record.specs.declared.record.TurnRow.{TurnRow}
@@ -31,6 +33,8 @@ pub record IsLawfulSoFar (lay : Layout) (tries : ℕ) (calls : List Call) (words
   pub in_order : AreLines lay tries calls lines
   -- on the tree nodes are filled in order
   pub filled : lay.mode ≡ Tree → AreFilledInOrder (history lay.mode lines)
+  -- it is no run of a trie
+  pub plays : lay.mode ≢ Trie
   -- each call has a command of the mode
   pub of_mode : All (λ call. mode_of call.command ≡ lay.mode) calls
 

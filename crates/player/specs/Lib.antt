@@ -1,3 +1,4 @@
+pub mod Modes
 pub mod Allowed
 pub mod Moments
 pub mod RunSteps

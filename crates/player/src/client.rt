@@ -67,7 +67,8 @@ pub(crate) struct Client {
 
 impl Client {
     ghost use Rattle.std.specs.Prelude.{◌≡◌, ◌≢◌, ◌<◌, ◌≤◌, ◌+◌, ◌-◌, Option, Some, None, IsSome, IfSome, is_some, IfOk, OnOk, IfErr, List, [], length, map, slice_get, MatchOption, All};
-    ghost use Rattle.script.specs.Commands.{mode_of, AsksForFewPairs};
+    ghost use Rattle.player.specs.Modes.{mode_of};
+    ghost use Rattle.script.specs.Commands.{AsksForFewPairs};
     ghost use Rattle.arena.specs.declared.limits.Mode.TheVariants.{Records};
     ghost use Rattle.script.specs.declared.command.Command.TheVariants.{Scx as ScxCommand, Map as MapCommand};
     ghost use Rattle.ordered_map.specs.OrderedMap.{edit_key, value_left};

@@ -1,6 +1,7 @@
 -- The rules of each command, and what follows by them.
 use Rattle.std.specs.Prelude.{ℕ, Bool, List, Option, Some, None}
-use Rattle.histories.specs.Common.{Layout, Kind, History, value, Entry as Entered}
+use Rattle.arena.specs.declared.limits.Mode.TheVariants.{Trie}
+use Rattle.histories.specs.Common.{Mode, Layout, Kind, History, value, Entry as Entered}
 use Rattle.script.specs.declared.call.Call.{Call}
 use Rattle.script.specs.declared.command.Command.{Command}
 use Rattle.script.specs.declared.command.Command.TheVariants.{Llx, Scx, Vlx, Set, Map}
@@ -29,6 +30,12 @@ rules (Map request) = map_rules (map_request request)
 -- any client; those of cells make no more if nodes are taken
 abbrev pub command_steps : Command → ℕ → ℕ → ℕ
 command_steps command = (rules command).most_steps
+
+-- how many taken nodes count for that: two less than there may be levels, which in a trie are 67
+-- whatever is taken
+abbrev pub nodes_counted : Mode → ℕ → ℕ
+nodes_counted Trie taken = 65
+nodes_counted _ taken = taken
 
 -- since its start the call of client c, which may make `tries` tries, has taken no more of the
 -- client's share than it may

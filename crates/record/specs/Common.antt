@@ -5,7 +5,7 @@ pub use Rattle.ordered_map.specs.OrderedMap.{MapCall, get, reply, MapEdit, MapRe
 pub use Rattle.ordered_map.specs.Paths.{Passed}
 pub use Rattle.ordered_map.specs.Replies.{number_reply, word_pair}
 pub use Rattle.ordered_map.specs.Requests.{map_request, tells_change}
-pub use Rattle.ordered_map.specs.Runs.{IsTreeRun, Makes}
+pub use Rattle.ordered_map.specs.Runs.{IsMapRun, IsTreeRun, Makes}
 pub use Rattle.ordered_map.specs.Spelled.{Spells}
 pub use Rattle.ordered_map.specs.TreeShape.{TreeAllows}
 pub use Rattle.ordered_map.specs.TreeWords.{class, said, is_leaf, toward}
@@ -17,7 +17,7 @@ pub use Rattle.ordered_map.specs.declared.request.Request.TheVariants.{Range, Po
 pub use Rattle.ordered_map.specs.declared.rule.Goal.{Goal}
 pub use Rattle.ordered_map.specs.declared.rule.Goal.TheVariants.{Key, End}
 pub use Rattle.record.specs.Answers.{HasItsEntry, IsAsSnapped, IsInTheWay, HasLostAllTries}
-pub use Rattle.record.specs.CommandRules.{IsRight, enters, HasTakenFew, MayAnswerAfterStep, IsEntryFor, command_steps, IsPlaced, MayAnswerAtOnce}
+pub use Rattle.record.specs.CommandRules.{IsRight, enters, HasTakenFew, MayAnswerAfterStep, IsEntryFor, command_steps, nodes_counted, IsPlaced, MayAnswerAtOnce}
 pub use Rattle.record.specs.Commands.{commands, next_command}
 pub use Rattle.record.specs.Entries.{IsWinOf}
 pub use Rattle.record.specs.LawfulRun.{IsLawfulRun, OwesNothing}
@@ -35,7 +35,7 @@ unfoldable pub use Rattle.record.specs.SpelledMap.{AreSpelled}
 pub use Rattle.record.specs.Turns.{history, start, answered, turns, begin, won, entry_owed, entry_of, clients, entries, entry_at, is_update, client_of, steps, last_client}
 pub use Rattle.record.specs.Updates.{IsEntryOver}
 pub use Rattle.script.specs.Cells.{cells_of}
-pub use Rattle.script.specs.Commands.{mode_of, command_row, IsCommand, texts}
+pub use Rattle.script.specs.Commands.{asks_map, command_row, IsCommand, IsOfMode, texts}
 pub use Rattle.script.specs.Kinds.{kind_text}
 pub use Rattle.script.specs.Rows.{limits_row}
 pub use Rattle.script.specs.Update.{update_cells, update_finalize, update_field, update_value}

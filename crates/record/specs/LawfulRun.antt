@@ -1,7 +1,6 @@
 -- What a record says: a run that was made turn by turn, in which every step is lawful.
 use Rattle.std.specs.Prelude.{◌≡◌, ℕ, List, [], ◌∷◌, None, reverse}
-use Rattle.histories.specs.Common.{Mode, Tree, Records, Layout, Lawful, log}
-use Rattle.arena.specs.declared.limits.Mode.TheVariants.{Trie}
+use Rattle.histories.specs.Common.{Mode, Records, Layout, Lawful, log}
 use Rattle.arena.specs.Log.{AreOnce}
 use Rattle.histories.specs.Laws.{SpellFields, StaysFinalized}
 use Rattle.script.specs.declared.call.Call.{Call}
@@ -31,12 +30,11 @@ unfoldable pub AreLines : Layout → ℕ → List Call → List Line → Type 0
 AreLines lay tries calls [] = Unit {0}
 AreLines lay tries calls (line ∷ lines) = AreLines lay tries calls lines × IsNext lay tries calls lines line
 
--- What is said of the run of a mode besides its lines: on the tree the words spell the map so far
--- after every step, and all replies are those of one map. Of a trie no call can be asked yet.
+-- What is said of the run of a mode besides its lines: of a map's, in a tree or a trie, that the
+-- words spell the map so far after every step, and that all replies are those of one map.
 abbrev pub IsWhole : Mode → Layout → List Call → List Line → Type 0
-IsWhole Tree lay calls lines = AreSpelled lay calls lines × IsLegal calls lines
-IsWhole Trie lay calls lines = Unit {0}
 IsWhole Records lay calls lines = Unit {0}
+IsWhole _ lay calls lines = AreSpelled lay calls lines × IsLegal calls lines
 
 -- The main statement: the lines, the first in front, are a lawful run of the calls, in which turn i
 -- was made by the i-th of these clients, and each call may make `tries` tries. That the steps are a
@@ -53,5 +51,5 @@ pub record IsLawfulRun (lay : Layout) (tries : ℕ) (calls : List Call) (passes 
   pub once : AreOnce (log lay (history lay.mode (reverse lines)))
   -- once an SCX-record that finalizes a node is committed, no word of that node changes again
   pub finalized : StaysFinalized (history lay.mode (reverse lines))
-  -- in tree mode the words spell the map so far after every step, and all replies are its
+  -- in a map's mode the words spell the map so far after every step, and all replies are its
   pub whole : IsWhole lay.mode lay calls (reverse lines)

@@ -1,4 +1,4 @@
--- In tree mode the words spell the map so far after every step.
+-- In a map's mode the words spell the map so far after every step.
 use Rattle.std.specs.Prelude.{◌≡◌, List, [], ◌∷◌, None}
 use Rattle.histories.specs.Common.{Layout, value}
 use Rattle.ordered_map.specs.Spelled.{Spells}

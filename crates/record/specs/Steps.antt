@@ -8,7 +8,7 @@ use Rattle.record.specs.declared.record.Line.{Line}
 use Rattle.record.specs.declared.record.TurnRow.TheVariants.{Step as Made, Idle}
 use Rattle.record.specs.declared.record.TurnRow.{TurnRow}
 use Rattle.record.specs.Turns.{history, turns, answered, begin, steps}
-use Rattle.record.specs.CommandRules.{command_steps, MayMake}
+use Rattle.record.specs.CommandRules.{command_steps, nodes_counted, MayMake}
 use Rattle.record.specs.Commands.{next_command}
 
 -- a row that fills the word `call` of an SCX-record stores there the number of its own call
@@ -23,7 +23,7 @@ pub record IsStep (lay : Layout) (tries : ℕ) (calls : List Call) (lines : List
   pub call : row.call ≡ answered lines row.pass.0
   pub command : Command
   pub is : next_command calls lines row.pass.0 ≡ Some command
-  pub few : steps lines row.pass.0 < command_steps command tries (length (taken_nodes (history lay.mode lines)))
+  pub few : steps lines row.pass.0 < command_steps command tries (nodes_counted lay.mode (length (taken_nodes (history lay.mode lines))))
   pub may : MayMake command row.kind
   pub says : SaysItsCall row
 

@@ -1,8 +1,7 @@
 -- The fields of the row of a call.
-use Rattle.std.proofs.Common.{◌≡◌, ◌≢◌, ℕ, List, [], ◌∷◌, Bor, None, Result, Ok, Err, IfErr, inl, inr, ap, arith, codes, decimal, get_or, length, refl, rules, subst, sym}
+use Rattle.std.proofs.Common.{◌≡◌, ◌≢◌, ℕ, Bool, List, [], ◌∷◌, Bor, None, Result, Ok, Err, IfErr, inl, inr, ap, arith, codes, decimal, get_or, length, refl, rules, subst, sym}
 use Rattle.std.specs.Result.{result_ok}
-use Rattle.arena.specs.declared.limits.Mode.{Mode}
-use Rattle.record.specs.Common.{Request, IsCommand, command_row, mode_of, texts, Command, Llx, Scx, Vlx, Set, Map}
+use Rattle.record.specs.Common.{Request, IsCommand, asks_map, command_row, texts, Command, Llx, Scx, Vlx, Set, Map}
 use Rattle.ordered_map.specs.declared.request.Request.TheVariants.{Insert}
 use Rattle.script.specs.Calls.{IsNoCommand, NamesCommand}
 use Rattle.script.specs.Commands.{NamesRequest, request_name}
@@ -36,26 +35,26 @@ is_named (Insert key value) = inl refl
 is_named request = search rules
 
 -- the first field of a command's row names the command
-names_command : (mode : Mode) (name : List ℕ) (rest : List (List ℕ)) (command : Command) → mode_of command ≡ mode → name ∷ rest ≡ command_row command → NamesCommand mode name
-names_command mode name rest (Llx cell) of_mode is = rw (← of_mode) (inl cc)
-names_command mode name rest (Scx update) of_mode is = rw (← of_mode) (inr (inl cc))
-names_command mode name rest (Vlx cells) of_mode is = rw (← of_mode) (inr (inr (inl cc)))
-names_command mode name rest (Set field value) of_mode is = rw (← of_mode) (inr (inr (inr cc)))
-names_command mode name rest (Map request) of_mode is = rw (← of_mode) (subst NamesRequest (sym (ap (λ (row : List (List ℕ)). get_or row 0 []) is)) (is_named request))
+names_command : (of_map : Bool) (name : List ℕ) (rest : List (List ℕ)) (command : Command) → asks_map command ≡ of_map → name ∷ rest ≡ command_row command → NamesCommand of_map name
+names_command of_map name rest (Llx cell) of_mode is = rw (← of_mode) (inl cc)
+names_command of_map name rest (Scx update) of_mode is = rw (← of_mode) (inr (inl cc))
+names_command of_map name rest (Vlx cells) of_mode is = rw (← of_mode) (inr (inr (inl cc)))
+names_command of_map name rest (Set field value) of_mode is = rw (← of_mode) (inr (inr (inr cc)))
+names_command of_map name rest (Map request) of_mode is = rw (← of_mode) (subst NamesRequest (sym (ap (λ (row : List (List ℕ)). get_or row 0 []) is)) (is_named request))
 
-why_none : (mode : Mode) (name : List ℕ) (rest : List (List ℕ)) (why : ScriptCause) → IsNoCommand mode name rest why → (command : Command) → mode_of command ≡ mode → IsCommand command → name ∷ rest ≢ command_row command
-why_none mode name rest cause.Command none command of_mode valid is = none (names_command mode name rest command of_mode is)
-why_none mode name rest cause.Argument none command of_mode valid is = none.1 command valid is
-why_none mode name rest cause.Client none command of_mode valid is = none
-why_none mode name rest cause.Fields none command of_mode valid is = none
-why_none mode name rest cause.Limits none command of_mode valid is = none
-why_none mode name rest cause.End none command of_mode valid is = none
-why_none mode name rest cause.Long none command of_mode valid is = none
+why_none : (of_map : Bool) (name : List ℕ) (rest : List (List ℕ)) (why : ScriptCause) → IsNoCommand of_map name rest why → (command : Command) → asks_map command ≡ of_map → IsCommand command → name ∷ rest ≢ command_row command
+why_none of_map name rest cause.Command none command of_mode valid is = none (names_command of_map name rest command of_mode is)
+why_none of_map name rest cause.Argument none command of_mode valid is = none.1 command valid is
+why_none of_map name rest cause.Client none command of_mode valid is = none
+why_none of_map name rest cause.Fields none command of_mode valid is = none
+why_none of_map name rest cause.Limits none command of_mode valid is = none
+why_none of_map name rest cause.End none command of_mode valid is = none
+why_none of_map name rest cause.Long none command of_mode valid is = none
 
 -- no command has the row where a reader of commands has a cause against it
-pub no_command : (mode : Mode) (name : List ℕ) (rest : List (List ℕ)) (r : Result Command ScriptCause) → result_ok r ≡ None → IfErr r (IsNoCommand mode name rest) → (command : Command) → mode_of command ≡ mode → IsCommand command → name ∷ rest ≢ command_row command
-no_command mode name rest (Ok found) failed none = absurd cc
-no_command mode name rest (Err why) failed none = why_none mode name rest why none
+pub no_command : (of_map : Bool) (name : List ℕ) (rest : List (List ℕ)) (r : Result Command ScriptCause) → result_ok r ≡ None → IfErr r (IsNoCommand of_map name rest) → (command : Command) → asks_map command ≡ of_map → IsCommand command → name ∷ rest ≢ command_row command
+no_command of_map name rest (Ok found) failed none = absurd cc
+no_command of_map name rest (Err why) failed none = why_none of_map name rest why none
 
 -- the row of a call has no empty fields after the command's
 pub whole_row : (client number : ℕ) (command : Command) → seven (codes "call" ∷ decimal client ∷ decimal number ∷ command_row command) ≡ codes "call" ∷ decimal client ∷ decimal number ∷ command_row command

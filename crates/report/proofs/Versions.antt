@@ -7,7 +7,7 @@ use Rattle.arena.specs.declared.word.SettledPart.TheVariants.{Head, More, Key, V
 use Rattle.arena.specs.declared.word.Side.TheVariants.{Left, Right}
 use Rattle.arena.specs.declared.word.Slot.{Slot}
 use Rattle.arena.specs.declared.word.Slot.TheVariants.{First, Second, Third, Fourth}
-use Rattle.record.specs.Common.{Request, PopFirst, IsCommand, command_row, mode_of, Command, Map}
+use Rattle.record.specs.Common.{Request, PopFirst, IsCommand, asks_map, command_row, Command, Map}
 use Rattle.script.specs.Commands.{IsArgument, MapArgument, OfCount, OfKey, OfValue, argument_text, request_arguments, three_fields}
 use Rattle.std.proofs.lemmas.Fmt.{decimal_is_IsNumeral_wide}
 use Rattle.std.specs.Str.Parse.{digits_value}
@@ -98,7 +98,7 @@ few_arguments : (request : Request ℕ ℕ) → length (request_arguments reques
 few_arguments PopFirst = lit≤ tt
 few_arguments request = lit≤ tt
 
-pub same_command : (version : Version) (command other : Command) → mode_of command ≡ mode_of other → IsCommand command → IsCommand other → command_row command ≡ command_row other → HasCommand version other → HasCommand version command
+pub same_command : (version : Version) (command other : Command) → asks_map command ≡ asks_map other → IsCommand command → IsCommand other → command_row command ≡ command_row other → HasCommand version other → HasCommand version command
 same_command One (Map request) (Map other) modes fits small is has = (
   subst NamesFirstCall (sym (ap (λ (row : List (List ℕ)). get_or row 0 []) is)) has.0,
   same_arguments (request_arguments request) (request_arguments other) (few_arguments request) (ap (drop 1) is) fits small has.1,

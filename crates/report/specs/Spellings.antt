@@ -1,7 +1,7 @@
 -- What a report of a version can spell: its numbers fit the words that keep them.
 use Rattle.std.specs.Prelude.{ℕ, ◌≡◌, ◌≢◌, ◌<◌, ◌^◌, ⊤, List, All, Some, None, IfSome}
 use Rattle.arena.specs.declared.limits.Mode.{Mode}
-use Rattle.record.specs.Common.{IsCommand, mode_of, Call, Reply, Value, Pairs, Contended, NoMemory, Full as FullShare}
+use Rattle.record.specs.Common.{IsCommand, IsOfMode, Call, Reply, Value, Pairs, Contended, NoMemory, Full as FullShare}
 use Rattle.ordered_map.specs.declared.reply.Reply.TheVariants.{Pair}
 use Rattle.record.specs.declared.record.Answer.{Answer}
 use Rattle.record.specs.declared.record.Answer.TheVariants.{Snapshot, Finalized, Fail, Done, Lost, Same, Changed, Unlinked, Full, Map}
@@ -26,7 +26,7 @@ IsSpelledPair version p = (p.0 < 2 ^ 64) × (p.1 < value_limit version)
 
 -- a call that a report of this mode and of this many clients may have
 abbrev pub IsReported : Version → Mode → ℕ → Call → Type 0
-IsReported version mode passes call = (call.client.0 < passes) × (mode_of call.command ≡ mode) × IsCommand call.command × HasCommand version call.command
+IsReported version mode passes call = (call.client.0 < passes) × IsOfMode mode call.command × IsCommand call.command × HasCommand version call.command
 
 -- Replies and answers
 

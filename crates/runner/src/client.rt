@@ -1,9 +1,8 @@
 //! The calls of one client.
 ghost use Rattle.std.specs.Prelude.{◌≡◌, true, false, IfOk};
 ghost use Rattle.std.specs.List.{All};
-ghost use Rattle.arena.specs.declared.limits.Mode.TheVariants.{Tree};
 ghost use Rattle.ordered_map.specs.Requests.{AsksForFew, map_request};
-ghost use Rattle.script.specs.Commands.{mode_of};
+ghost use Rattle.script.specs.Commands.{asks_map};
 ghost use Rattle.forest.specs.Opened.{IsSameOpen};
 ghost use Rattle.forest.specs.Passes.{IsOf};
 ghost use Rattle.runner.specs.Calls.{HasCalledNumbers, HasWorked};
@@ -32,7 +31,7 @@ pub(crate) fn make_calls<G: Gate>(
     pass: Pass<Numbers>,
 ) -> Worked
     requires pass { IsOf forest.now pass }
-    requires tree { All (λ call. mode_of call.command ≡ Tree) calls.now }
+    requires tree { All (λ call. asks_map call.command ≡ true) calls.now }
     ensures { IfOk result (λ w. HasWorked forest.now calls.now pass w.0 w.1.items) }
 {
     let client = pass.number();

@@ -1,8 +1,8 @@
 //! A run of a script.
-ghost use Rattle.std.specs.Prelude.{◌≡◌, IfOk};
+ghost use Rattle.std.specs.Prelude.{◌≡◌, true, IfOk};
 ghost use Rattle.std.specs.List.{All};
 ghost use Rattle.arena.specs.declared.limits.Mode.TheVariants.{Tree};
-ghost use Rattle.script.specs.Commands.{mode_of};
+ghost use Rattle.script.specs.Commands.{asks_map};
 ghost use Rattle.forest.specs.Passes.{IsOf};
 ghost use Rattle.runner.specs.Calls.{HaveWorked};
 ghost use Rattle.runner.specs.Outcomes.{IsOutcome};
@@ -47,7 +47,7 @@ fn crowd<R: Threads + Wait + Sync, G: Gate>(
     passes: Vec<Pass<Numbers>>,
 ) -> Works
     requires passes { All (IsOf forest.now) passes.items }
-    requires tree { All (λ call. mode_of call.command ≡ Tree) calls.now }
+    requires tree { All (λ call. asks_map call.command ≡ true) calls.now }
     ensures { IfOk result (λ r. HaveWorked forest.now calls.now passes.items r.0.items r.1.items) }
 {
     scope(
@@ -55,7 +55,7 @@ fn crowd<R: Threads + Wait + Sync, G: Gate>(
         rt,
         move |scope| -> Works
             requires passes { All (IsOf forest.now) passes.items }
-            requires tree { All (λ call. mode_of call.command ≡ Tree) calls.now }
+            requires tree { All (λ call. asks_map call.command ≡ true) calls.now }
             ensures { IfOk result (λ r. HaveWorked forest.entry.now calls.entry.now passes.items r.0.items r.1.items) }
         {
             let (threads, all) = start_all(alloc, scope, forest, calls, gate, passes)?;

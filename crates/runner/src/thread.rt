@@ -1,8 +1,7 @@
 //! The threads of a run.
-ghost use Rattle.std.specs.Prelude.{◌≡◌, IsTrue, IfOk, List, [], ◌∷◌, ◌++◌, map};
+ghost use Rattle.std.specs.Prelude.{◌≡◌, true, IsTrue, IfOk, List, [], ◌∷◌, ◌++◌, map};
 ghost use Rattle.std.specs.List.{All};
-ghost use Rattle.arena.specs.declared.limits.Mode.TheVariants.{Tree};
-ghost use Rattle.script.specs.Commands.{mode_of};
+ghost use Rattle.script.specs.Commands.{asks_map};
 ghost use Rattle.script.specs.declared.call.Call.{Call};
 ghost use Rattle.forest.specs.Passes.{Ground, IsOf, PassView};
 ghost use Rattle.runner.specs.Calls.{HasWorked, HaveWorked};
@@ -50,7 +49,7 @@ pub(crate) fn start_all<'s, E, G: Gate>(
     passes: Vec<Pass<Numbers>>,
 ) -> Result<(Vec<Thread<'s>>, bool), NoMemory>
     requires passes { All (IsOf forest.now) passes.items }
-    requires tree { All (λ call. mode_of call.command ≡ Tree) calls.now }
+    requires tree { All (λ call. asks_map call.command ≡ true) calls.now }
     ensures duties { IfOk result (λ r. All (λ t. (t.promise.forest.now ≡ forest.now) × (t.promise.calls.now ≡ calls.now)) r.0.items) }
     ensures passes { IfOk result (λ r. IsTrue r.1 → map (λ t. t.promise.pass.value) r.0.items ≡ passes.items) }
 {
@@ -64,7 +63,7 @@ pub(crate) fn start_all<'s, E, G: Gate>(
         };
         let work = move || -> Worked
             requires pass { IsOf forest.now pass }
-            requires tree { All (λ call. mode_of call.command ≡ Tree) calls.now }
+            requires tree { All (λ call. asks_map call.command ≡ true) calls.now }
             ensures { IfOk result (λ w. HasWorked forest.entry.now calls.entry.now pass w.0 w.1.items) }
         { make_calls(alloc, forest, gate, calls, pass) };
         let Ok(thread) = scope.spawn_with(duty, work) else {

@@ -1,9 +1,9 @@
 -- Commands as fields of a row.
-use Rattle.std.specs.Prelude.{ℕ, ◌≢◌, ◌≡◌, ◌⊎◌, ◌≤◌, ◌<◌, ◌^◌, Option, Some, None, List, [], ◌∷◌, ◌++◌, All, codes, decimal, get_or, length, map}
+use Rattle.std.specs.Prelude.{ℕ, ◌≢◌, ◌≡◌, ◌⊎◌, ◌≤◌, ◌<◌, ◌^◌, Bool, true, false, Option, Some, None, List, [], ◌∷◌, ◌++◌, All, codes, decimal, get_or, length, map}
 use Rattle.std.specs.List.{AllByRecursion}
 use denote.Ref.{Bor}
 use Rattle.arena.specs.declared.limits.Mode.{Mode}
-use Rattle.arena.specs.declared.limits.Mode.TheVariants.{Records, Tree}
+use Rattle.arena.specs.Opening.{is_map}
 use Rattle.arena.specs.declared.word.Side.{Side}
 use Rattle.arena.specs.declared.word.Side.TheVariants.{Left, Right}
 use Rattle.ordered_map.specs.Requests.{AsksForFew}
@@ -104,10 +104,14 @@ command_row (Vlx cells) = codes "vlx" ∷ numbers_text (cells_of cells) ∷ [] �
 command_row (Set field value) = codes "set" ∷ decimal field.0 ∷ side_text field.1 ∷ decimal value ∷ []
 command_row (Map request) = request_row request
 
--- the mode whose scripts have the command
-abbrev pub mode_of : Command → Mode
-mode_of (Map request) = Tree
-mode_of _ = Records
+-- whether the command is a call of the map
+abbrev pub asks_map : Command → Bool
+asks_map (Map request) = true
+asks_map _ = false
+
+-- scripts of the mode have the command: those of a map its calls, those of cells the others
+abbrev pub IsOfMode : Mode → Command → Type 0
+IsOfMode mode command = asks_map command ≡ is_map mode
 
 -- a range on the map asks for at most 64 pairs
 abbrev pub AsksForFewPairs : Command → Type 0

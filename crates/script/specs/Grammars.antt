@@ -11,7 +11,7 @@ use Rattle.script.specs.declared.fault.ScriptCause.{ScriptCause}
 use Rattle.script.specs.declared.fault.ScriptCause.TheVariants as script
 use Rattle.script.specs.declared.schedule.Order.{Order}
 use Rattle.script.specs.Calls.{IsNoCall, call_row}
-use Rattle.script.specs.Commands.{IsCommand, mode_of}
+use Rattle.script.specs.Commands.{IsCommand, IsOfMode}
 use Rattle.script.specs.Orders.{IsNoOrder, IsOrder, order_row}
 use Rattle.script.specs.Rows.{limits_row}
 use Rattle.texts.specs.Texts.{AreRows, BeginWithRows, Grammar, IsFirstFault, IsRow, SayEntries}
@@ -35,7 +35,7 @@ IsScheduleFault passes bytes row cause = IsFirstFault (order_grammar passes) byt
 -- how a script says its calls, each of one of its clients: five fields a row, the rows of
 -- `call_row`, of commands of the mode
 abbrev pub call_grammar : Layout → Grammar Call ScriptCause
-call_grammar layout = record { width = 5; row_of = call_row; Accepts = λ call. (call.client.0 < layout.passes) × (mode_of call.command ≡ layout.mode) × IsCommand call.command; IsNoEntry = IsNoCall layout; fields = script.Fields; end = script.End; long = script.Long }
+call_grammar layout = record { width = 5; row_of = call_row; Accepts = λ call. (call.client.0 < layout.passes) × (IsOfMode layout.mode call.command) × IsCommand call.command; IsNoEntry = IsNoCall layout; fields = script.Fields; end = script.End; long = script.Long }
 
 -- the bytes say this script of the mode: its limits, its calls, and nothing else
 pub record SayScript (mode : Mode) (bytes : List ℕ) (limits : Limits) (layout : Layout) (calls : List Call) : Type 0 where

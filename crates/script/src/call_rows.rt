@@ -4,7 +4,7 @@ ghost use Rattle.csv.specs.Records.{fields_of};
 ghost use Rattle.script.specs.declared.call.Call.{Call};
 ghost use Rattle.script.specs.Calls.{call_row, IsNoCall};
 ghost use Rattle.script.specs.Grammars.{call_grammar};
-ghost use Rattle.script.specs.Commands.{mode_of, IsCommand};
+ghost use Rattle.script.specs.Commands.{IsCommand, IsOfMode};
 
 use crate::call::Call;
 use crate::client::client_of;
@@ -33,7 +33,7 @@ impl Format for CallRows {
 
     fn entry(&self, row: &StringRecord) -> Result<Call, ScriptCause>
         ensures accepted { IfOk result (λ call. (call.client.0 < self.now.layout.passes) ×
-            (mode_of call.command ≡ self.now.layout.mode) × IsCommand call.command) }
+            IsOfMode self.now.layout.mode call.command × IsCommand call.command) }
         ensures row { IfOk result (λ call. length (fields_of row.now) ≡ 5 →
             fields_of row.now ≡ call_row call) }
         ensures cause { IfErr result (λ cause. length (fields_of row.now) ≡ 5 →

@@ -1,12 +1,13 @@
 //! Commands as fields of a row, read and written.
-ghost use Rattle.std.specs.Prelude.{◌≡◌, ◌≢◌, ◌<◌, ◌≤◌, ◌^◌, ◌↔◌, ℕ, [], ◌∷◌, ◌++◌, All, Contains, length, map, decimal, codes, IsSome, IfSome, MatchOption, MatchResult, Option, Some, None, IfOk, IfErr, OnOk, string_bytes};
+ghost use Rattle.std.specs.Prelude.{◌≡◌, ◌≢◌, ◌<◌, ◌≤◌, ◌^◌, ◌↔◌, ℕ, true, false, [], ◌∷◌, ◌++◌, All, Contains, length, map, decimal, codes, IsSome, IfSome, MatchOption, MatchResult, Option, Some, None, IfOk, IfErr, OnOk, string_bytes};
 ghost use Rattle.std.specs.Option.{option_map_or};
+ghost use Rattle.arena.specs.Opening.{is_map};
 ghost use Rattle.arena.specs.declared.word.Side.{Side};
 ghost use Rattle.script.specs.declared.cells.CellList.{CellList};
 ghost use Rattle.script.specs.Calls.{IsNoCommand};
 ghost use Rattle.script.specs.Cells.{cells_of, maybe_cells_of};
 ghost use Rattle.texts.specs.Sheets.{ArePlain, IsPlain};
-ghost use Rattle.script.specs.Commands.{command_row, request_arguments, request_name, three_fields, mode_of, change_text, numbers_text, side_text, texts, AreCells, AsksForFewPairs, IsCell, IsCommand, IsCommandOf};
+ghost use Rattle.script.specs.Commands.{command_row, request_arguments, request_name, three_fields, asks_map, change_text, numbers_text, side_text, texts, AreCells, AsksForFewPairs, IsCell, IsCommand, IsCommandOf, IsOfMode};
 
 use crate::cells::{Cell, CellList};
 use crate::command::{CellUpdate, Command};
@@ -22,24 +23,22 @@ use texts::{number_of, small_number_of};
 /// arguments.
 #[tactic(auto, using(crate::proofs::Few::command_asks))]
 pub fn command_of(mode: Mode, name: &str, arguments: [&str; 3]) -> Result<Command, ScriptCause>
-    ensures command { IfOk result (λ command. (mode_of command ≡ mode) × IsCommand command ×
+    ensures command { IfOk result (λ command. IsOfMode mode command × IsCommand command ×
         (name.now ∷ texts arguments.entry ≡ command_row command)) }
     ensures few { IfOk result AsksForFewPairs }
-    ensures cause { IfErr result (IsNoCommand mode name.now (texts arguments.entry)) }
+    ensures cause { IfErr result (IsNoCommand (is_map mode) name.now (texts arguments.entry)) }
 {
     match mode {
+        Mode::Tree | Mode::Trie => map_command_of(name, arguments),
         Mode::Records => cells_command_of(name, arguments),
-        Mode::Tree => map_command_of(name, arguments),
-        // No call of a trie has come yet.
-        Mode::Trie => Err(ScriptCause::Command),
     }
 }
 
 /// The same of the commands on cells.
 fn cells_command_of(name: &str, arguments: [&str; 3]) -> Result<Command, ScriptCause>
-    ensures command { IfOk result (λ command. (mode_of command ≡ Mode.Records) ×
+    ensures command { IfOk result (λ command. (asks_map command ≡ false) ×
         IsCommand command × (name.now ∷ texts arguments.entry ≡ command_row command)) }
-    ensures cause { IfErr result (IsNoCommand Mode.Records name.now (texts arguments.entry)) }
+    ensures cause { IfErr result (IsNoCommand false name.now (texts arguments.entry)) }
 {
     match name {
         "llx" => or_argument(llx_of(arguments)),
@@ -52,9 +51,9 @@ fn cells_command_of(name: &str, arguments: [&str; 3]) -> Result<Command, ScriptC
 
 /// And of the calls of the map.
 fn map_command_of(name: &str, arguments: [&str; 3]) -> Result<Command, ScriptCause>
-    ensures command { IfOk result (λ command. (mode_of command ≡ Mode.Tree) × IsCommand command ×
+    ensures command { IfOk result (λ command. (asks_map command ≡ true) × IsCommand command ×
         (name.now ∷ texts arguments.entry ≡ command_row command)) }
-    ensures cause { IfErr result (IsNoCommand Mode.Tree name.now (texts arguments.entry)) }
+    ensures cause { IfErr result (IsNoCommand true name.now (texts arguments.entry)) }
 {
     match name {
         "insert" => or_argument(insert_of(arguments)),

@@ -5,7 +5,7 @@ ghost use Rattle.script.specs.Grammars.{IsHeadFault, IsScriptFault, SayScript};
 ghost use Rattle.texts.specs.Reads.{HasRead};
 ghost use Rattle.texts.specs.Texts.{IfBad};
 ghost use Rattle.arena.specs.Limits.{IsAccepted, IsLayoutOf};
-ghost use Rattle.script.specs.Commands.{mode_of};
+ghost use Rattle.script.specs.Commands.{IsOfMode};
 ghost use Rattle.csv.specs.Records.{fields_of};
 ghost use Rattle.script.specs.Rows.{limits_row};
 
@@ -31,7 +31,7 @@ pub struct Script {
     ghost few: { vec_len calls ≤ 65536 },
     ghost accepted: { IsAccepted limits },
     ghost of_limits: { IsLayoutOf limits layout.mode layout },
-    ghost of_mode: { All (λ call. mode_of call.command ≡ layout.mode) calls.items },
+    ghost of_mode: { All (λ call. IsOfMode layout.mode call.command) calls.items },
 }
 
 impl Script {

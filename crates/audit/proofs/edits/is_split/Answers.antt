@@ -13,4 +13,4 @@ returns-then-are_toward-2-clause-edit c same =
     let pairs : leaf_pairs f c.child-left.result ++ leaf_pairs f c.child-right.result ≡ edited (edit_begun begun) (leaf_pairs f c.args.leaf) =
     sym (c.joined.ensures ∙ (λ i. c.pairs_of_leaf-low.ensures.pairs i ++ c.pairs_of_leaf-high.ensures.pairs i)) ∙ made ∙ c.edited.ensures ∙ ap (edited (edit_begun begun)) c.pairs_of_leaf.ensures.pairs in
     let split : IsSplitOfPairs f (edit_begun begun) c.args.leaf c.args.fork c.child-left.result c.child-right.result = search rules in
-    (c.child-left.result, c.child-right.result, split_of f begun.key begun.value c.args.leaf c.args.fork c.child-left.result c.child-right.result c.requires.small split, record { deep = split.deep; low = split.low; high = split.high })
+    rw (c.child-left.ensures, c.child-right.ensures) at (split_of f begun.key begun.value c.args.leaf c.args.fork c.child-left.result c.child-right.result c.requires.small split)

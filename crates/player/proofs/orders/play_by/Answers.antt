@@ -11,7 +11,7 @@ use Rattle.player.proofs.orders.play_by.Goals.{In_ok-follow}
 use Rattle.player.proofs.orders.play_by.Goals as goal
 
 pub follow-requires : goal.follow-requires
-follow-requires c = rw c.as_slice.ensures.value (subst (λ (s : ScriptView). All (IsOrder s.layout.passes) c.args.schedule.now.orders.items) (sym c.in_ok-player.ensures.script) c.requires)
+follow-requires c = rw c.as_slice.ensures.value (subst (λ (s : ScriptView). All (IsOrder s.layout.passes) c.args.schedule.now.orders.items) (sym c.in_ok-player.ensures.script) c.requires.orders)
 
 -- the orders were followed from a new player on
 followed : (c : In_ok-follow) → HasFollowed record { script = script_view c.args.script.now; lines = [] } (AreOrdered c.args.script.now.calls.items c.args.schedule.now.orders.items []) (λ q. c.follow.new.player ≡ q)

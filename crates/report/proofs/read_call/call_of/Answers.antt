@@ -14,7 +14,7 @@ returns-in_err-number-clause-none c = rw c.from_residual-in_err-number.ensures (
 pub returns-in_err-ok-clause-none : goal.returns-in_err-ok-clause-none
 returns-in_err-ok-clause-none c = rw c.from_residual-in_err-ok.ensures (λ call number ok fits is.
     let failed : result_ok c.command_of.result ≡ None = search rules in
-    no_command c.args.layout.mode (get_or c.args.fields 3 blank).now ((get_or c.args.fields 4 blank).now ∷ (get_or c.args.fields 5 blank).now ∷ (get_or c.args.fields 6 blank).now ∷ []) c.command_of.result failed c.command_of.ensures.cause call.command ok.1 ok.2
+    no_command (is_map c.args.layout.mode) (get_or c.args.fields 3 blank).now ((get_or c.args.fields 4 blank).now ∷ (get_or c.args.fields 5 blank).now ∷ (get_or c.args.fields 6 blank).now ∷ []) c.command_of.result failed c.command_of.ensures.cause call.command ok.1 ok.2
     (call_fields_are c.args.fields (codes "call") (decimal call.client.0) (decimal number) (command_row call.command) (omega arith) is).command_is)
 
 pub returns-in_err-command-clause-none : goal.returns-in_err-command-clause-none

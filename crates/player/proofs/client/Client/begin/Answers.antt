@@ -1,5 +1,6 @@
 use Rattle.std.proofs.Common.{arith, ℕ, List, length, refl, ◌∙◌, ap, Some, None}
-use Rattle.record.specs.Common.{Command, mode_of}
+use Rattle.record.specs.Common.{Command}
+use Rattle.player.specs.Modes.{mode_of}
 use Rattle.player.proofs.Snapshots.{kept_linked}
 use Rattle.player.proofs.Begins.{llx_starts, vlx_starts, vlx_unlinked, rests_at, begins_run, some_snaps, as_many_snaps}
 use Rattle.player.proofs.client.Client.begin.Goals as goal

@@ -1,6 +1,5 @@
 use Rattle.std.proofs.Common.{[], ◌≡◌, ◌+◌, suc, List, ◌∷◌, ◌++◌, Some, None, slice_get, refl, sym, ◌∙◌, ap, arith}
 use Rattle.arena.specs.declared.number.PassNo.{PassNo}
-use Rattle.script.proofs.Lemmas.{calls_are_of_mode}
 use Rattle.record.specs.declared.record.Line.{Line}
 use Rattle.record.specs.declared.record.Line.TheVariants.{Step, Reply}
 use Rattle.record.specs.declared.record.TurnRow.TheVariants.{Idle}
@@ -30,7 +29,7 @@ module _ (c : After-next_action) (lines : List Line) (played : IsBetweenTurns c.
       let p = c.args.self.now in
       let i = c.args.client.0 in
       let client = is_client p lines i (p.turns + 1) c.index_mut.result.now c.next_action.new.self played there in
-      c.next_action.ensures (client_view p.script.layout p.script.limits.tries p.script.calls.items lines i) (begin lines i) played.between.so_far.sound p.script.accepted.some_try (calls_are_of_mode p.script) c.deref.ensures.value client
+      c.next_action.ensures (client_view p.script.layout p.script.limits.tries p.script.calls.items lines i) (begin lines i) played.between.so_far.sound p.script.accepted.some_try played.between.so_far.of_mode c.deref.ensures.value client
 
   -- and the places, except for their room
   roomy : ArePlaces c.args.self.now.script.layout c.args.self.now.script.calls.items lines c.reserve.new.self
