@@ -4,7 +4,8 @@ use Rattle.histories.specs.Common.{History, Call, IsRun, Remaining}
 use Rattle.order.specs.Known.{ReadAnswers}
 use Rattle.order.specs.declared.refused.Refused.{Refused}
 use Rattle.order.specs.declared.run.ReadRun.{ReadRun}
-use Rattle.template.specs.Common.{Get as GetOf, TreeAllows, HasTriedAtMost, HasTriedAllBut, Goal, Rule, tries_begun, Key as ToKey, HasFoundGoal, WalkIsReady, IsPastRoot, WalkFits, walk_left, nodes_in_try}
+use Rattle.template.specs.Common.{Get as GetOf, TreeAllows, HasTriedAtMost, HasTriedAllBut, Goal, Rule, tries_begun, Key as ToKey, HasFoundGoal, WalkIsReady, IsPastRoot, WalkFits, nodes_in_try}
+use Rattle.template.specs.Walk.Steps.{steps_left}
 use Rattle.tree.specs.declared.key_edit.KeyEdit.{KeyEdit}
 use Rattle.template.specs.declared.walk.Found.{Found}
 use Rattle.template.specs.declared.walk.WalkAt.{WalkAt}
@@ -49,9 +50,9 @@ tried_once None now then e = omega (arith, e)
 tried_once (Some v) now then i = i
 
 -- where its walk is once it has asked for a step
-pub stands_once : (c : Call) (h : History) (m now : WalkRun) (got : Option ℕ) (n s : ℕ) → IsRun TreeAllows c.layout h → WalkIsReady m c h got → HasTriedOnce got n s → ((nodes : ℕ) → WalkFits m got nodes → walk_left now.at nodes < walk_left m.at nodes) → HasTriedOnceAt now.at n s
-stands_once c h m now None n s run ready e nearer = none_tried now.at n s e
-stands_once c h m now (Some v) n s run ready i nearer = once_past now.at n s (walk_past_root m c h now v run ready nearer) i
+pub stands_once : (c : Call) (h : History) (m now : WalkRun) (got : Option ℕ) (n s : ℕ) → IsRun TreeAllows c.layout h → WalkIsReady m c h got → HasTriedOnce got n s → now.way ≡ m.way → ((nodes : ℕ) → WalkFits m got nodes → steps_left now nodes < steps_left m nodes) → HasTriedOnceAt now.at n s
+stands_once c h m now None n s run ready e way nearer = none_tried now.at n s e
+stands_once c h m now (Some v) n s run ready i way nearer = once_past now.at n s (walk_past_root m c h now v run ready way nearer) i
 
 -- Their answers
 

@@ -7,6 +7,7 @@ use Rattle.arena.proofs.Lemmas.{ends_self, ends_trans}
 use Rattle.order.specs.Replies.{IsReplyAt}
 use Rattle.template.specs.Common.{MapCall, MapReply, reply, goal_told, IsTreeRun, Spells, Pair, path_key, HasFoundGoal, IsOwnMoment, Goal, most_nodes, need}
 use Rattle.ordered_map.proofs.Lemmas.{run_spells}
+use Rattle.ordered_map.proofs.MapLemmas.{tree_run}
 use Rattle.template.specs.declared.walk.Found.{Found}
 use Rattle.template.proofs.Lemmas.{own_since}
 use Rattle.edits.specs.Known.{IsShort, IsUntouched}
@@ -60,7 +61,7 @@ module _ (c : Call) (h : History) where
   leaf_read call goal f walks small run found none only_looked =
       let first = found.trail.node.first in
       let own = found.trail.node.own in
-      let x = found_tells goal c h f small run found in
+      let x = found_tells goal c h f small (tree_run c.layout h run) found in
       record {
         read = record {
           moment = x.moment;
@@ -85,7 +86,7 @@ module _ (c : Call) (h : History) where
   leaf_needed call goal f want walks small run found needs some =
       let first = found.trail.node.first in
       let own = found.trail.node.own in
-      let x = found_tells goal c h f small run found in
+      let x = found_tells goal c h f small (tree_run c.layout h run) found in
       let few : want ≤ need call x.map = needs x.map (walks x.map ∙ x.gives) in
       record {
         needed = record {

@@ -7,6 +7,8 @@ use Rattle.prims.specs.Laws.Idle.{IsQuietSince}
 use Rattle.template.specs.Common.{IsTreeRun, Key as ToKey, tries_begun, WalkIsReady, WalkWaits, MayReply, nodes_in_try, Edit}
 use Rattle.template.specs.declared.walk.WalkAt.{WalkAt}
 use Rattle.template.specs.declared.walk.WalkAt.TheVariants.{Start as WalkStart, Root}
+use Rattle.template.specs.declared.walk.WalkRun.{WalkRun}
+use Rattle.template.specs.declared.walk.Way.TheVariants.{InTree}
 use Rattle.edits.specs.Known.{RestsWith, UpdateIsReady, UpdateWaits}
 use Rattle.edits.specs.Steps.{node_tries, scx_tries, Spends}
 use Rattle.edits.specs.declared.update.UpdateAt.TheVariants.{Start as UpdateStart}
@@ -56,6 +58,10 @@ pub record Goes (m : InnerRun) (tries : ℕ) (c : Call) : Type 0 where
   pub limit : HasTries m tries
   pub spent : HasSpentIn m tries c
 
+-- a walk goes to this key in a tree
+abbrev pub GoesTo : WalkRun → ℕ → Type 0
+GoesTo walk key = (walk.goal ≡ ToKey key) × (walk.way ≡ InTree)
+
 -- a get begins one try at most, and none before it gets anything: its pass has begun this many by
 -- now, and had begun that many as the call began
 abbrev pub HasTriedOnce : Option ℕ → ℕ → ℕ → Type 0
@@ -69,13 +75,13 @@ HasTriedOnceAt at now then = (now ≤ suc then) × (at ≡ Root → now ≡ then
 -- the machine inside may be called with this
 abbrev pub IsReadyInside : InnerRun → Call → History → Option ℕ → Type 0
 IsReadyInside (Update m) c h got = UpdateIsReady edit_means m c h got
-IsReadyInside (Get key walk share) c h got = (WalkIsReady walk c h got × (walk.goal ≡ ToKey key) × HasTriedOnce got (tries_begun c.pass h) (tries_begun c.pass c.start)) × HasRested c h share
+IsReadyInside (Get key walk share) c h got = (WalkIsReady walk c h got × GoesTo walk key × HasTriedOnce got (tries_begun c.pass h) (tries_begun c.pass c.start)) × HasRested c h share
 IsReadyInside (Read k m share) c h got = ReadIsReady k.means m c h got × HasRested c h share
 
 -- the machine inside waits for this step
 abbrev pub WaitsInside : InnerRun → Call → History → Step → Type 0
 WaitsInside (Update m) c h s = UpdateWaits edit_means m c h s
-WaitsInside (Get key walk share) c h s = (WalkWaits walk c h s × (walk.goal ≡ ToKey key) × HasTriedOnceAt walk.at (tries_begun c.pass h) (tries_begun c.pass c.start)) × HasRested c h share
+WaitsInside (Get key walk share) c h s = (WalkWaits walk c h s × GoesTo walk key × HasTriedOnceAt walk.at (tries_begun c.pass h) (tries_begun c.pass c.start)) × HasRested c h share
 WaitsInside (Read k m share) c h s = ReadWaits k.means m c h s × HasRested c h share
 
 -- the machine may be called with this
@@ -107,7 +113,7 @@ AsksFirst m = AsksForPairs (call_in m)
 -- the machine inside is at its start, with this many tries in all, in the call of this number
 abbrev pub StandsAtStart : InnerRun → ℕ → ℕ → Type 0
 StandsAtStart (Update m) tries call = (m.at ≡ UpdateStart) × (m.tries + 1 ≡ tries) × (m.call ≡ call) × IsSmallCall (Edit m.edit.goal m.edit.rule) × (m.limit ≡ tries)
-StandsAtStart (Get key walk share) tries call = (walk.at ≡ WalkStart) × (walk.trail.node.0 ≡ 0) × (walk.goal ≡ ToKey key) × (key < 2 ^ 64)
+StandsAtStart (Get key walk share) tries call = (walk.at ≡ WalkStart) × (walk.trail.node.0 ≡ 0) × GoesTo walk key × (key < 2 ^ 64)
 StandsAtStart (Read k m share) tries call = (m.at ≡ ReadStart) × (m.tries + 1 ≡ tries) × (m.snaps.items ≡ []) × (IsFewCall (k.means.call m.read) → k.means.suits (k.means.call m.read)) × (m.limit ≡ tries)
 
 -- so does the machine

@@ -2,7 +2,7 @@
 use Rattle.std.specs.Prelude.{ℕ, ◌<◌, Option}
 use Rattle.histories.specs.Common.{MatchTurn, Turn}
 use Rattle.order.specs.Steps.{ReadFits, read_left}
-use Rattle.template.specs.Walk.Steps.{walk_left, WalkFits}
+use Rattle.template.specs.Walk.Steps.{steps_left, WalkFits}
 use Rattle.edits.specs.Steps.{update_left, UpdateFits}
 use Rattle.dict.specs.declared.run.MapRun.{MapRun}
 use Rattle.dict.specs.Inner.{InnerRun, Update, Get, Read, edit_means, inner}
@@ -10,7 +10,7 @@ use Rattle.dict.specs.Inner.{InnerRun, Update, Get, Read, edit_means, inner}
 -- how many steps the inner machine may still ask for, where no more nodes than these are taken
 abbrev pub inner_left : InnerRun → ℕ → ℕ
 inner_left (Update m) nodes = update_left edit_means m nodes
-inner_left (Get key walk share) nodes = walk_left walk.at nodes
+inner_left (Get key walk share) nodes = steps_left walk nodes
 inner_left (Read k m share) nodes = read_left k.means m nodes
 
 -- how many the machine

@@ -44,13 +44,13 @@ module _ {E : Type 0} (e : EditMeaning E) {A : Type 0} (m : UpdateRun E A) (run 
   fresh : run.update.fresh.0 ≡ top m
   fresh = ap (λ (u : Update). u.fresh.0) is
 
-  usable : AreUsable c h (e.goal m.edit) f run.update.snaps
-  usable = subst (λ (xs : List Snap). AreUsable c h (e.goal m.edit) f xs) (sym covers) x.all.looked.usable
+  usable : AreUsable c h (e.way m.edit) (e.goal m.edit) f run.update.snaps
+  usable = subst (λ (xs : List Snap). AreUsable c h (e.way m.edit) (e.goal m.edit) f xs) (sym covers) x.all.looked.usable
 
   -- its SCX may begin
   pub scx_ready : ScxIsReady TreeAllows run (begun_at c h) h None
   scx_ready = hand_ready c h m.share m.nodes.first.0 (top m) (piece e m f) run x.run.1.lawful x.full x.some over
-      (λ i p. let u = usable i p in (u.moment, snapped_usable c h (e.goal m.edit) f (snap_at run.update.snaps i) x.run.1.lawful u)) at fresh is_scx
+      (λ i p. let u = usable i p in (u.moment, snapped_usable c h (e.way m.edit) (e.goal m.edit) f (snap_at run.update.snaps i) x.run.1.lawful u)) at fresh is_scx
       (λ d says. promised_allowed c.layout c.pass h run.scx.0 d (e.edit m.edit f) (sound.promised m.edit c h f m.snaps.items m.nodes m.read (job_of run) d x.run needed x.all says_so says))
 
   promised : (d : Descriptor) → Says d (job_of run) → IsPromised c.layout c.pass h run.scx.0 d (e.edit m.edit f)
@@ -79,11 +79,12 @@ module _ {E : Type 0} (e : EditMeaning E) {A : Type 0} (m : UpdateRun E A) (run 
     record {
       run = x.run;
       small = x.all.looked.small;
+      may = x.all.looked.may;
       call = is_call;
       found = x.all.looked.found;
       need = needed;
       only = λ row before t within since w own. absurd (none_quiet c.layout c.pass h c.start x.run.1.lawful x.quiet row before t within since w own);
-      usable = subst (λ (u : Update). AreUsable c h (e.goal m.edit) f u.snaps) (sym same_update) usable;
+      usable = subst (λ (u : Update). AreUsable c h (e.way m.edit) (e.goal m.edit) f u.snaps) (sym same_update) usable;
       quiet = x.quiet;
       leaf = leaf;
       now = x.since;

@@ -5,9 +5,10 @@ use Rattle.arena.proofs.Lemmas.{ends_trans}
 use Rattle.histories.proofs.Lemmas.{lawful_since}
 use Rattle.prims.specs.Laws.FoundThere.{there_wider}
 use Rattle.prims.specs.Laws.Idle.{IsQuietSince}
-use Rattle.template.specs.Common.{LlxAnswers, snap_at, Finalized, Fail, LlxRun, ScxRun, Snap, IsTreeRun, IsContended, Goal}
+use Rattle.template.specs.Common.{LlxAnswers, snap_at, Finalized, Fail, LlxRun, ScxRun, Snap, IsMapRun, IsContended, Goal}
 use Rattle.prims.specs.Scx.Known.{IsLost}
 use Rattle.template.specs.declared.walk.Found.{Found}
+use Rattle.template.specs.declared.walk.Way.{Way}
 use Rattle.template.proofs.Lemmas.{changed_contended, failed_contended, finalized_contended}
 use Rattle.edits.specs.declared.edit.Look.TheVariants.{At, Differs}
 use Rattle.edits.specs.Edits.{EditMeaning}
@@ -16,19 +17,19 @@ use Rattle.edits.specs.Laws.Kept.{snapped_usable}
 use Rattle.edits.specs.Sound.{LooksWell}
 
 -- its SCX, which begins at this moment of the try, is lost
-pub lost_contended : (c : Call) (begin h : History) (goal : Goal) (f : Found) (m : ScxRun) (n s : ℕ) → Lawful c.layout h → IsQuietSince c.layout c.pass c.start begin → AreUsable c begin goal f m.update.snaps → IsLost (begun_at c begin) h m n s → IsContended c h n s
-lost_contended c begin h goal f m n s l quiet usable x = changed_contended c Freeze begin h m.update.snaps n s l quiet x.changed snapped.moment snapped.since (snapped_usable c begin goal f (snap_at m.update.snaps i) then snapped).found
+pub lost_contended : (c : Call) (begin h : History) (way : Way) (goal : Goal) (f : Found) (m : ScxRun) (n s : ℕ) → Lawful c.layout h → IsQuietSince c.layout c.pass c.start begin → AreUsable c begin way goal f m.update.snaps → IsLost (begun_at c begin) h m n s → IsContended c h n s
+lost_contended c begin h way goal f m n s l quiet usable x = changed_contended c Freeze begin h m.update.snaps n s l quiet x.changed snapped.moment snapped.since (snapped_usable c begin way goal f (snap_at m.update.snaps i) then snapped).found
   where
     i : ℕ
     i = x.changed.index
 
-    snapped : HasSnappedAfterWalk c begin goal f (snap_at m.update.snaps i)
+    snapped : HasSnappedAfterWalk c begin way goal f (snap_at m.update.snaps i)
     snapped = usable i x.changed.within
 
     then : Lawful c.layout begin
     then = lawful_since c.layout h begin l (ends_trans h (x.changed.found.row ⊳ x.changed.found.before) begin x.changed.found.last.within (inr x.changed.found.since))
 
-module _ {E : Type 0} (e : EditMeaning E) (looks : LooksWell e) (ed : E) (c : Call) (h : History) (f : Found) (snaps : List Snap) (run : IsTreeRun c.layout h) (needed : 0 < (e.work ed f).need) (looked : HasLooked e c h ed f snaps) where
+module _ {E : Type 0} (e : EditMeaning E) (looks : LooksWell e) (ed : E) (c : Call) (h : History) (f : Found) (snaps : List Snap) (run : IsMapRun c.layout h) (needed : 0 < (e.work ed f).need) (looked : HasLooked e c h ed f snaps) where
   -- an LLX of what the edit looks at, begun in the try, ends without a snapshot
   module _ (llx : LlxRun) (begin : History) (since : Extends begin c.start) (named : e.looks ed f snaps ≡ At llx.node) (n : NodeNo) (s : ScxNo) where
     pub look_failed : LlxAnswers llx (begun_at c begin) h (Fail n s) → IsContended c h n.0 s.0

@@ -4,12 +4,13 @@ use Rattle.std.proofs.lemmas.List.{take-append-le}
 use Rattle.histories.specs.Common.{IsOwnNode, History, Extends, Lawful, Call, MatchTurn, begun_at, Remaining, HasNode, Turn, Ask, Done, Step}
 use Rattle.arena.proofs.Lemmas.{ends_self}
 use Rattle.histories.proofs.Lemmas.{unmentioned_unnamed}
-use Rattle.template.specs.Common.{HasFoundThere, IsSnapshot, LlxWaits, LlxAnswers, Llx, Snapshot, LlxRun, TreeAllows, snap_at, Snap, HasFoundGoal, Goal}
+use Rattle.template.specs.Common.{HasFoundThere, IsSnapshot, LlxWaits, LlxAnswers, Llx, Snapshot, LlxRun, TreeAllows, snap_at, Snap, FoundBy, Goal}
 use Rattle.prims.specs.Laws.FoundThere.{there_wider}
 use Rattle.prims.specs.Laws.Idle.{IsQuietSince}
 use Rattle.edits.specs.declared.update.UpdateAt.TheVariants.{Look}
 use Rattle.prims.proofs.Lemmas.{left_own_node, left_zero}
 use Rattle.template.specs.declared.walk.Found.{Found}
+use Rattle.template.specs.declared.walk.Way.{Way}
 use Rattle.edits.specs.declared.edit.Look.TheVariants.{At, Enough}
 use Rattle.edits.specs.declared.edit.Work.{Work}
 use Rattle.edits.specs.declared.piece.Piece.{Piece}
@@ -33,15 +34,15 @@ at_end (t ∷ snaps) s zero p = inl (omega arith, refl)
 at_end (t ∷ snaps) s (suc i) p = ⊎_elim (λ x. inl ((let y = x.0 in omega (arith, y)), x.1)) (λ x. inr ((let y = x.0 in omega (arith, y)), x.1)) (at_end snaps s i (omega (arith, p)))
 
 -- the pass may use a snapshot that it has just taken
-pub usable_one_more : (c : Call) (h : History) (goal : Goal) (f : Found) (snaps : List Snap) (s : Snap) (n : ℕ) → Extends h c.start → HasFoundGoal goal c h f → IsSnapshot c.layout h n s → HasFoundThere c.pass h c.start n s.scx.0 → AreUsable c h goal f snaps → AreUsable c h goal f (snaps ++ s ∷ [])
-usable_one_more c h goal f snaps s n since found is met x i p = go (at_end snaps s i p)
+pub usable_one_more : (c : Call) (h : History) (way : Way) (goal : Goal) (f : Found) (snaps : List Snap) (s : Snap) (n : ℕ) → Extends h c.start → FoundBy way goal c h f → IsSnapshot c.layout h n s → HasFoundThere c.pass h c.start n s.scx.0 → AreUsable c h way goal f snaps → AreUsable c h way goal f (snaps ++ s ∷ [])
+usable_one_more c h way goal f snaps s n since found is met x i p = go (at_end snaps s i p)
   where
-    now : HasSnappedAfterWalk c h goal f s
+    now : HasSnappedAfterWalk c h way goal f s
     now = record { moment = h; within = ends_self h; since = since; found = found; is = subst (λ m. IsSnapshot c.layout h m s) (sym is.node) is; met = subst (λ m. HasFoundThere c.pass h c.start m s.scx.0) (sym is.node) met }
 
-    go : ((i < length snaps) × (snap_at (snaps ++ s ∷ []) i ≡ snap_at snaps i)) ⊎ ((i ≡ length snaps) × (snap_at (snaps ++ s ∷ []) i ≡ s)) → HasSnappedAfterWalk c h goal f (snap_at (snaps ++ s ∷ []) i)
-    go (inl q) = subst (HasSnappedAfterWalk c h goal f) (sym q.1) (x i q.0)
-    go (inr q) = subst (HasSnappedAfterWalk c h goal f) (sym q.1) now
+    go : ((i < length snaps) × (snap_at (snaps ++ s ∷ []) i ≡ snap_at snaps i)) ⊎ ((i ≡ length snaps) × (snap_at (snaps ++ s ∷ []) i ≡ s)) → HasSnappedAfterWalk c h way goal f (snap_at (snaps ++ s ∷ []) i)
+    go (inl q) = subst (HasSnappedAfterWalk c h way goal f) (sym q.1) (x i q.0)
+    go (inr q) = subst (HasSnappedAfterWalk c h way goal f) (sym q.1) now
 
 take_all : (snaps : List Snap) → take (length snaps) snaps ≡ snaps
 take_all [] = refl
@@ -57,12 +58,13 @@ seen_one_more e ed f snaps s named x i p = go (at_end snaps s i p)
 
 pub looked_one_more : {E : Type 0} (e : EditMeaning E) {A : Type 0} (m now : UpdateRun E A) (c : Call) (h : History) (f : Found) (s : Snap) (n : ℕ) → now.edit ≡ m.edit → now.share ≡ m.share → now.work ≡ m.work → now.snaps.items ≡ m.snaps.items ++ s ∷ [] → e.looks m.edit f m.snaps.items ≡ At s.node → IsSnapshot c.layout h n s → HasFoundThere c.pass h c.start n s.scx.0 → CanLook e m c h f → CanLook e now c h f
 looked_one_more e m now c h f s n ed share work items named is met x = record {
-  begins = record { run = x.begins.run; small = rw ed x.begins.small; since = x.begins.since; rests = rw share x.begins.rests };
+  begins = record { run = x.begins.run; small = rw ed x.begins.small; may = rw ed x.begins.may; since = x.begins.since; rests = rw share x.begins.rests };
   quiet = x.quiet;
   looked = rw (ed, items) record {
     small = x.looked.small;
+    may = x.looked.may;
     found = x.looked.found;
-    usable = usable_one_more c h (e.goal m.edit) f m.snaps.items s n x.begins.since x.looked.found is met x.looked.usable;
+    usable = usable_one_more c h (e.way m.edit) (e.goal m.edit) f m.snaps.items s n x.begins.since x.looked.found is met x.looked.usable;
     seen = seen_one_more e m.edit f m.snaps.items s named x.looked.seen;
   };
   asked = rw (ed, work) x.asked;
@@ -72,12 +74,13 @@ looked_one_more e m now c h f s n ed share work items named is met x = record {
 -- The first look
 
 -- the walk has found its leaf, and nothing is looked at
-pub may_look : {E : Type 0} (e : EditMeaning E) {A : Type 0} (m now : UpdateRun E A) (c : Call) (h : History) (f : Found) → now.edit ≡ m.edit → now.share ≡ m.share → HasAsked e now f → now.snaps.items ≡ [] → MayBeginTry e m c h → IsQuietSince c.layout c.pass c.start h → HasFoundGoal (e.goal m.edit) c h f → HasNodesFor now.work.need m.share → CanLook e now c h f
+pub may_look : {E : Type 0} (e : EditMeaning E) {A : Type 0} (m now : UpdateRun E A) (c : Call) (h : History) (f : Found) → now.edit ≡ m.edit → now.share ≡ m.share → HasAsked e now f → now.snaps.items ≡ [] → MayBeginTry e m c h → IsQuietSince c.layout c.pass c.start h → FoundBy (e.way m.edit) (e.goal m.edit) c h f → HasNodesFor now.work.need m.share → CanLook e now c h f
 may_look e m now c h f ed share asked items b quiet found room = record {
-  begins = record { run = b.run; small = rw ed b.small; since = b.since; rests = rw share b.rests };
+  begins = record { run = b.run; small = rw ed b.small; may = rw ed b.may; since = b.since; rests = rw share b.rests };
   quiet = quiet;
   looked = rw (ed, items) record {
     small = b.small;
+    may = b.may;
     found = found;
     usable = λ i p. absurd (omega (arith, p));
     seen = λ i p. absurd (omega (arith, p));
@@ -178,7 +181,7 @@ module _ {E : Type 0} (e : EditMeaning E) {A : Type 0} (m : UpdateRun E A) (llx 
   )
 
   pub can_look : CanLook e m c h f
-  can_look = record { begins = record { run = x.run; small = x.looked.small; since = x.now; rests = x.rests }; quiet = x.quiet; looked = x.looked; asked = x.asked; room = x.room }
+  can_look = record { begins = record { run = x.run; small = x.looked.small; may = x.looked.may; since = x.now; rests = x.rests }; quiet = x.quiet; looked = x.looked; asked = x.asked; room = x.room }
 
   -- its LLX has taken a snapshot
   pub snapped : (snap : Snap) → turn ≡ Done (Snapshot snap) → (e.looks m.edit f m.snaps.items ≡ At snap.node) × IsSnapshot c.layout h snap.node.0 snap × HasFoundThere c.pass h c.start snap.node.0 snap.scx.0

@@ -1,21 +1,23 @@
 -- What the call has made once its SCX is done.
-use Rattle.std.proofs.Common.{◌≡◌, ℕ, zero, suc, ◌+◌, ◌<◌, true, inr, List, [], ◌∷◌, length, get_or, refl, sym, ◌∙◌, ap, subst, arith}
-use Rattle.histories.specs.Common.{ScxNo, Row, Word, IsOwnScx, History, ◌⊳◌, value, Extends, Lawful, HasWon, IsWin, Entry, log, members_from, Call, begun_at, member, count}
+use Rattle.std.proofs.Common.{◌≡◌, ℕ, zero, suc, ◌+◌, ◌<◌, ◌⊎◌, true, cond, inl, inr, List, [], ◌∷◌, length, get_or, refl, sym, ◌∙◌, ap, subst, arith}
+use Rattle.histories.specs.Common.{Tree as TreeMode, ScxNo, Row, Word, IsOwnScx, History, ◌⊳◌, value, Extends, Lawful, HasWon, IsWin, Entry, log, members_from, Call, begun_at, member, count}
 use Rattle.arena.proofs.Lemmas.{ends_self, ends_trans}
 use Rattle.histories.proofs.Lemmas.{entry_of, facts_before, lawful_since, log_wins, node_since}
-use Rattle.template.specs.Common.{job_of, nodes_of, snap_at, Snap, ScxRun, Update, edit_key, get, Spells, Pair, WasOnPath, IsTreeRun}
-use Rattle.template.specs.Common.{Makes, edit_leaf, is_leaf, said, path_key, asked_key, asked_in, HasFoundGoal, Goal, Key as ToKey, End}
+use Rattle.template.specs.Common.{job_of, nodes_of, snap_at, Snap, ScxRun, Update, edit_key, get, Spells, Pair, WasOnPath, IsMapRun}
+use Rattle.template.specs.Common.{Makes, edit_leaf, is_leaf, said, path_key, asked_key, asked_in, HasFoundGoal, HasFoundFork, FoundBy, Goal, Key as ToKey, End}
 use Rattle.prims.specs.Scx.Known.{IsDone, IsEntryAt, update_entry}
 use Rattle.ordered_map.specs.Paths.{end_key}
 use Rattle.ordered_map.specs.Runs.{IsEditAt}
 use Rattle.ordered_map.specs.TreeWords.{end_said}
-use Rattle.ordered_map.proofs.Lemmas.{SameSettled, run_since, settled_said, settled_end, settled_leaf, walk_named, win_end, win_makes, wins_of}
-use Rattle.template.proofs.Lemmas.{found_told, tracked_makes}
+use Rattle.ordered_map.proofs.Lemmas.{SameSettled, settled_said, settled_end, settled_leaf, win_end, wins_of}
+use Rattle.ordered_map.proofs.MapLemmas.{run_since, stood_settled, two_says_none, win_makes}
+use Rattle.arena.specs.declared.limits.Mode.TheVariants.{Trie as TrieMode}
+use Rattle.template.proofs.Lemmas.{found_either, found_stood, found_told, in_tree, tracked_makes}
 use Rattle.template.specs.declared.walk.Found.{Found}
 use Rattle.edits.specs.declared.update.UpdateRun.{UpdateRun}
 use Rattle.edits.specs.Edits.{EditMeaning}
 use Rattle.edits.specs.Sound.{IsAtFound}
-use Rattle.edits.specs.Known.{CoversLeaf, Scxs, HasMade, ToldEnd}
+use Rattle.edits.specs.Known.{covered, CoversLeaf, Scxs, HasMade, ToldEnd}
 use Rattle.edits.specs.Laws.Entered.{only_joined}
 use Rattle.edits.specs.Tries.{HasEnteredOnly, IsTry, CoversSnaps}
 
@@ -73,41 +75,52 @@ module _ (c : Call) (h : History) (m : ScxRun) (row : Row) (before : History) (l
 -- At the row at which the SCX-record of an edit wins that covers these snapshots, of a leaf that
 -- was found before.
 module _ {E : Type 0} (e : EditMeaning E) (ed : E) (c : Call) (f : Found) (begin before : History) (row : Row) (s : ℕ) (snaps : List Snap)
-    (now : IsTreeRun c.layout (row ⊳ before)) (since : Extends before begin) (won : IsWin before row s) (makes : Makes c.layout before s (e.edit ed f))
-    (found : HasFoundGoal (e.goal ed) c begin f) (covers_leaf : CoversLeaf e ed f c begin s snaps) (covers_snaps : CoversSnaps before s snaps) where
-  then : IsTreeRun c.layout before
+    (now : IsMapRun c.layout (row ⊳ before)) (since : Extends before begin) (won : IsWin before row s) (makes : Makes c.layout before s (e.edit ed f))
+    (found : FoundBy (e.way ed) (e.goal ed) c begin f) (covers_leaf : CoversLeaf e ed f c begin s snaps) (covers_snaps : CoversSnaps before s snaps) where
+  then : IsMapRun c.layout before
   then = run_since c.layout (row ⊳ before) before now (inr (ends_self before))
 
-  begun : IsTreeRun c.layout begin
+  begun : IsMapRun c.layout begin
   begun = run_since c.layout before begin then since
 
-  leaf : edit_leaf before s (e.edit ed f) ≡ f.trail.node.0
+  leaf : edit_leaf before s (e.edit ed f) ≡ covered f
   leaf = covers_leaf before then since covers_snaps makes
 
-  settled : SameSettled (value begin) (value before) f.trail.node.0
-  settled part i = node_since c.layout before begin f.trail.node.0 part then.1.lawful since i (walk_named c.layout begin found.trail.node.first (path_key (e.goal ed)) f.trail.node.0 begun found.trail.node.passed)
+  -- where that is a leaf
+  module _ (goal : Goal) (a : HasFoundGoal goal c begin f) where
+    covers_it : edit_leaf before s (e.edit ed f) ≡ f.trail.node.0
+    covers_it = leaf ∙ ap (λ b. cond b f.trail.node.0 2) (sym (ap (λ w. w.leaf) a.head) ∙ a.leaf)
+
+    settled : SameSettled (value begin) (value before) f.trail.node.0
+    settled = stood_settled c.layout before begin f.trail.node.0 then since (found_stood goal c begin f begun a)
 
   -- that leaf answered what the map had at the key
   leaf_told : IsAtFound e → IsEditAt c.layout before row s (e.edit ed f) → (map : List Pair) → Spells c.layout (value before) map → get (edit_key (e.edit ed f)) map ≡ f.value
-  leaf_told at_found edits map spells =
-      let k : ℕ = edit_key (e.edit ed f) in
-      edits.replies map spells ∙ ap (said (value before) k) leaf ∙ settled_said (value begin) (value before) k f.trail.node.0 settled ∙ ap (λ q. said (value begin) q f.trail.node.0) (at_found ed f ∙ ap (asked_key (e.goal ed)) (sym found.key) ∙ asked_again (e.goal ed) (value begin) f.trail.node.0) ∙ sym found.says
+  leaf_told at_found edits map spells = go (found_either (e.way ed) (e.goal ed) c begin f found)
+    where
+      k : ℕ
+      k = edit_key (e.edit ed f)
+
+      go : HasFoundGoal (e.goal ed) c begin f ⊎ HasFoundFork (e.goal ed) c begin f → get k map ≡ f.value
+      go (inl a) = edits.replies map spells ∙ ap (said (value before) k) (covers_it (e.goal ed) a) ∙ settled_said (value begin) (value before) k f.trail.node.0 (settled (e.goal ed) a) ∙ ap (λ q. said (value begin) q f.trail.node.0) (at_found ed f ∙ ap (asked_key (e.goal ed)) (sym a.key) ∙ asked_again (e.goal ed) (value begin) f.trail.node.0) ∙ sym a.says
+      go (inr a) = edits.replies map spells ∙ ap (said (value before) k) (leaf ∙ ap (λ b. cond b f.trail.node.0 2) (sym (ap (λ w. w.leaf) a.head) ∙ a.fork)) ∙ two_says_none c.layout before k then ∙ sym a.none
 
   -- and if the walk went to an end, the pair there
-  end_at : (goal : Goal) → HasFoundGoal goal c begin f → ToldEnd goal c.layout before f
+  end_at : (goal : Goal) → HasFoundGoal goal c begin f ⊎ HasFoundFork goal c begin f → ToldEnd goal c.layout before f
   end_at (ToKey key) x = tt
-  end_at (End side) x = λ map spells.
-      win_end side c.layout before row s (e.edit ed f) now won makes was is_leaf_then map spells
-      ∙ ap (end_said side (value before)) leaf ∙ settled_end side (value begin) (value before) f.trail.node.0 settled ∙ found_told side c begin f begun x
+  end_at (End side) (inr x) = absurd (let y : TreeMode ≡ TrieMode = sym x.may ∙ x.trie in cc)
+  end_at (End side) (inl x) = λ map spells.
+      win_end side c.layout before row s (e.edit ed f) (x.may, now.1) won makes was is_leaf_then map spells
+      ∙ ap (end_said side (value before)) (covers_it (End side) x) ∙ settled_end side (value begin) (value before) f.trail.node.0 (settled (End side) x) ∙ found_told side c begin f begun x
     where
       was : WasOnPath before (end_key side) (edit_leaf before s (e.edit ed f))
-      was = let p = x.trail.node.passed in subst (WasOnPath before (end_key side)) (sym leaf) (p.0, ends_trans before begin p.0 since p.1, p.3)
+      was = let p = in_tree c.layout begin x.trail.node.first (end_key side) f.trail.node.0 x.may x.trail.node.passed in subst (WasOnPath before (end_key side)) (sym (covers_it (End side) x)) (p.0, ends_trans before begin p.0 since p.1, p.3)
 
       is_leaf_then : is_leaf (value before) (edit_leaf before s (e.edit ed f)) ≡ true
-      is_leaf_then = ap (is_leaf (value before)) leaf ∙ settled_leaf (value begin) (value before) f.trail.node.0 settled ∙ found.leaf
+      is_leaf_then = ap (is_leaf (value before)) (covers_it (End side) x) ∙ settled_leaf (value begin) (value before) f.trail.node.0 (settled (End side) x) ∙ x.leaf
 
   pub told_end : ToldEnd (e.goal ed) c.layout before f
-  told_end = end_at (e.goal ed) found
+  told_end = end_at (e.goal ed) (found_either (e.way ed) (e.goal ed) c begin f found)
 
 module _ {E : Type 0} (e : EditMeaning E) (at_found : IsAtFound e) {A : Type 0} (m : UpdateRun E A) (scx after : ScxRun) (f : Found) (c : Call) (b begin h : History) (try : IsTry c b h m.limit m.tries) (x : Scxs e m (begun_at c b) h f scx begin)
     (same_scx : after.scx ≡ scx.scx) (same_update : after.update ≡ scx.update) (same_call : after.call ≡ scx.call) (done : IsDone (begun_at c begin) h after) where
@@ -127,7 +140,7 @@ module _ {E : Type 0} (e : EditMeaning E) (at_found : IsAtFound e) {A : Type 0} 
   edits : IsEditAt c.layout before row after.scx.0 (e.edit m.edit f)
   edits = win_makes c.layout h before row after.scx.0 (e.edit m.edit f) x.run y.within y.wins made
 
-  now : IsTreeRun c.layout (row ⊳ before)
+  now : IsMapRun c.layout (row ⊳ before)
   now = run_since c.layout h (row ⊳ before) x.run y.within
 
   covers_leaf : CoversLeaf e m.edit f c begin after.scx.0 scx.update.snaps

@@ -17,7 +17,7 @@ module _ {E : Type 0} (e : EditMeaning E) (m : UpdateRun E UpdateAt) (c : Call) 
   at_start None is r = (r.0, r.1, r.2)
   at_start (Some v) is r = absurd (subst (λ p. UpdateIsToldAt e m (begun_at c r.0) h v p) is r.3)
 
-  pub at_walk : (got : Option ℕ) (walk : WalkRun) → m.at ≡ Walk walk → UpdateIsReady e m c h got → (b : History) × IsTry c b h m.limit m.tries × IsUntouched c b m.share × Walks e m (begun_at c b) h walk.goal × (v : ℕ) × (got ≡ Some v) × WalkIsTold walk (begun_at c b) h v
+  pub at_walk : (got : Option ℕ) (walk : WalkRun) → m.at ≡ Walk walk → UpdateIsReady e m c h got → (b : History) × IsTry c b h m.limit m.tries × IsUntouched c b m.share × Walks e m (begun_at c b) h walk.way walk.goal × (v : ℕ) × (got ≡ Some v) × WalkIsTold walk (begun_at c b) h v
   at_walk None walk is r = absurd (let d : Walk walk ≡ Start = sym is ∙ r.3 in cc)
   at_walk (Some v) walk is r = let t = subst (λ p. UpdateIsToldAt e m (begun_at c r.0) h v p) is r.3 in (r.0, r.1, subst (λ p. FirstOrLost e m c r.0 p) is r.2, t.0, v, refl, t.1)
 

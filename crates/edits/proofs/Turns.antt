@@ -6,7 +6,7 @@ use Rattle.arena.proofs.Lemmas.{ends_self, ends_trans}
 use Rattle.histories.proofs.Lemmas.{finished_taken}
 use Rattle.prims.specs.Laws.Idle.{IsQuietSince, quiet_at_start}
 use Rattle.template.specs.Common.{IsOpened, load, AreFinished, Job, ScxWaits, IsShare, Scx as ScxAnswer, Done as ScxDone, Lost, ScxRun}
-use Rattle.template.specs.Common.{Update, TreeAllows, HasFoundGoal, Tracks, WalkIsTold, WalkWaits, IsPastRoot, IsContended, HasTriedAllBut}
+use Rattle.template.specs.Common.{Update, TreeAllows, FoundBy, Tracks, WalkIsTold, WalkWaits, IsPastRoot, IsContended, HasTriedAllBut}
 use Rattle.prims.specs.Scx.Known.{IsDone, IsLost, ScxAnswers}
 use Rattle.prims.specs.declared.llx.LlxAt.TheVariants.{Start as LlxStart, Marked as AtMarked}
 use Rattle.prims.proofs.Lemmas.{over_ends, turn_first}
@@ -33,7 +33,7 @@ use Rattle.edits.specs.Tries.{HasEnteredOnly, HasEnteredNone, MayTry, IsTry}
 use Rattle.edits.proofs.Blaming.{lost_contended}
 use Rattle.edits.proofs.Looking.{is_needed}
 use Rattle.edits.proofs.Making.{made_at_leaf}
-use Rattle.edits.proofs.Widened.{found_wider}
+use Rattle.edits.proofs.Widened.{found_by_wider}
 
 -- where the SCX-record in hand is finished, the pass is at rest again
 rests_again : (c : Call) (h : History) (left : Remaining) (m : ScxRun) → Lawful c.layout h → IsShare c.layout h c.pass left left.next_node m.scx.0 → left.next_scx ≡ suc m.scx.0 → AreFinished c.layout c.pass m.scx.0 h → m.scx.0 ≢ 0 → value h (state m.scx.0) ≢ 0 → RestsWith c h left
@@ -57,28 +57,28 @@ rests_again c h left m l share next over real finished = record {
 
 module _ {E : Type 0} (e : EditMeaning E) where
   -- its walk begins with the root's head, and a try with it
-  pub begins_walk : {A : Type 0} (m : UpdateRun E A) (walk : WalkRun) (c : Call) (h : History) → MayBeginTry e m c h → MayTry c h h m.limit m.tries → IsUntouched c h m.share → walk.goal ≡ e.goal m.edit → walk.trail.node.0 ≡ 0 → UpdateWaits e (standing m (Walk (record walk { at = Root }))) c h (load LoadSettled (node 0 (Settled HeadWord)))
-  begins_walk m walk c h b try first is root = (
+  pub begins_walk : {A : Type 0} (m : UpdateRun E A) (walk : WalkRun) (c : Call) (h : History) → MayBeginTry e m c h → MayTry c h h m.limit m.tries → IsUntouched c h m.share → walk.goal ≡ e.goal m.edit → walk.way ≡ e.way m.edit → walk.trail.node.0 ≡ 0 → UpdateWaits e (standing m (Walk (record walk { at = Root }))) c h (load LoadSettled (node 0 (Settled HeadWord)))
+  begins_walk m walk c h b try first is by root = (
     h,
     try,
     first,
     (
-      record { small = b.small; rests = record { share = b.rests.share; over = b.rests.over }; quiet = quiet_at_start c.layout c.pass h (idle_rests c h m.share b.run.1.lawful b.rests); none_filled = none_filled_yet c.pass h; same = is },
-      record { run = b.run; small = rw is b.small; since = ends_self h; known = root; asked = ap (λ n. load LoadSettled (node n (Settled HeadWord))) (sym root) },
+      record { small = b.small; may = b.may; rests = record { share = b.rests.share; over = b.rests.over }; quiet = quiet_at_start c.layout c.pass h (idle_rests c h m.share b.run.1.lawful b.rests); none_filled = none_filled_yet c.pass h; same = is; same_way = by },
+      record { run = b.run; may = rw (is, by) b.may; small = rw is b.small; since = ends_self h; known = root; sure = λ w. record { above = λ d. absurd (d root); leaves = λ x. absurd x }; asked = ap (λ n. load LoadSettled (node n (Settled HeadWord))) (sym root) },
     ),
   )
 
   -- its walk asks for a step, past the root's head
-  pub walks_on : {A : Type 0} (m : UpdateRun E A) (walk after : WalkRun) (c : Call) (b h : History) (turn : Turn Found) (step : Step) → IsTry c b h m.limit m.tries → IsUntouched c b m.share → Walks e m (begun_at c b) h walk.goal → after.goal ≡ walk.goal → IsPastRoot after.at → turn ≡ Ask step → MatchTurn turn (WalkWaits after (begun_at c b) h) (WalkAnswers after (begun_at c b) h) → UpdateWaits e (standing m (Walk after)) c h step
-  walks_on m walk after c b h turn step try first x same past asked w = (b, past_root after.at past try, first, (record { small = x.small; rests = x.rests; quiet = x.quiet; none_filled = x.none_filled; same = same ∙ x.same }, rw asked at w))
+  pub walks_on : {A : Type 0} (m : UpdateRun E A) (walk after : WalkRun) (c : Call) (b h : History) (turn : Turn Found) (step : Step) → IsTry c b h m.limit m.tries → IsUntouched c b m.share → Walks e m (begun_at c b) h walk.way walk.goal → (after.goal ≡ walk.goal) × (after.way ≡ walk.way) → IsPastRoot after.at → turn ≡ Ask step → MatchTurn turn (WalkWaits after (begun_at c b) h) (WalkAnswers after (begun_at c b) h) → UpdateWaits e (standing m (Walk after)) c h step
+  walks_on m walk after c b h turn step try first x same past asked w = (b, past_root after.at past try, first, (record { small = x.small; may = x.may; rests = x.rests; quiet = x.quiet; none_filled = x.none_filled; same = same.0 ∙ x.same; same_way = same.1 ∙ x.same_way }, rw asked at w))
 
   -- its walk gets something, at a moment of the call
-  pub walk_rests : {A : Type 0} (m : UpdateRun E A) (walk : WalkRun) (c : Call) (h : History) (v : ℕ) → Walks e m c h walk.goal → WalkIsTold walk c h v → MayBeginTry e m c h
-  walk_rests m walk c h v x told = record { run = told.run; small = x.small; since = own_since c h told.own; rests = x.rests }
+  pub walk_rests : {A : Type 0} (m : UpdateRun E A) (walk : WalkRun) (c : Call) (h : History) (v : ℕ) → Walks e m c h walk.way walk.goal → WalkIsTold walk c h v → MayBeginTry e m c h
+  walk_rests m walk c h v x told = record { run = told.run; small = x.small; may = x.may; since = own_since c h told.own; rests = x.rests }
 
   -- its walk has found a leaf
-  pub walk_found : {A : Type 0} (m : UpdateRun E A) (walk after : WalkRun) (c : Call) (h : History) (turn : Turn Found) (f : Found) → Walks e m c h walk.goal → after.goal ≡ walk.goal → turn ≡ Done f → MatchTurn turn (WalkWaits after c h) (WalkAnswers after c h) → HasFoundGoal (e.goal m.edit) c h f
-  walk_found m walk after c h turn f x same done w = subst (λ goal. HasFoundGoal goal c h f) (same ∙ x.same) (rw done at w)
+  pub walk_found : {A : Type 0} (m : UpdateRun E A) (walk after : WalkRun) (c : Call) (h : History) (turn : Turn Found) (f : Found) → Walks e m c h walk.way walk.goal → (after.goal ≡ walk.goal) × (after.way ≡ walk.way) → turn ≡ Done f → MatchTurn turn (WalkWaits after c h) (WalkAnswers after c h) → FoundBy (e.way m.edit) (e.goal m.edit) c h f
+  walk_found m walk after c h turn f x same done w = subst (λ way. FoundBy way (e.goal m.edit) c h f) (same.1 ∙ x.same_way) (subst (λ goal. FoundBy after.way goal c h f) (same.0 ∙ x.same) (rw done at w))
 
   -- its LLX may begin, and asks for the mark of its node
   pub looks_at : {A : Type 0} (m : UpdateRun E A) (f : Found) (n : NodeNo) (c : Call) (h : History) → IsRun TreeAllows c.layout h → CanLook e m c h f → e.looks m.edit f m.snaps.items ≡ At n → IsOpened c.layout h n.0 → TryWaits e (standing m (Look f (record { node = n; at = AtMarked }))) c h (load LoadMarked (marked n.0))
@@ -119,13 +119,14 @@ module _ {E : Type 0} (e : EditMeaning E) where
     record {
       run = x.run;
       small = x.small;
+      may = x.may;
       now = x.now;
       since = x.since;
       found = x.found;
       need = x.need;
       call = is_call ∙ x.call;
       only = subst (λ (s : ScxNo). HasEnteredOnly c.layout c.pass s.0 h c.start) (sym is_scx) x.only;
-      usable = subst (λ (u : Update). AreUsable c begin (e.goal m.edit) f u.snaps) (sym is_update) x.usable;
+      usable = subst (λ (u : Update). AreUsable c begin (e.way m.edit) (e.goal m.edit) f u.snaps) (sym is_update) x.usable;
       quiet = x.quiet;
       leaf = subst (λ (s : ScxNo). CoversLeaf e m.edit f c begin s.0 after.update.snaps) (sym is_scx) (subst (λ (u : Update). CoversLeaf e m.edit f c begin scx.scx.0 u.snaps) (sym is_update) x.leaf);
       share = subst (λ (s : ScxNo). IsShare c.layout h c.pass m.share m.share.next_node s.0) (sym is_scx) x.share;
@@ -156,7 +157,7 @@ module _ {E : Type 0} (e : EditMeaning E) where
         record {
           moment = begin;
           within = ends_trans h (is_done.entry.row ⊳ is_done.entry.before) begin is_done.entry.is.within (inr is_done.entry.is.since);
-          has_found = found_wider c b try.since begin (e.goal m.edit) f x.found;
+          has_found = found_by_wider c b try.since begin (e.way m.edit) (e.goal m.edit) f x.found;
           needed = x.need;
         },
         made.1,
@@ -177,11 +178,11 @@ module _ {E : Type 0} (e : EditMeaning E) where
   -- its SCX is lost: it may try again
   pub scx_lost : {A : Type 0} (m : UpdateRun E A) (scx after : ScxRun) (f : Found) (c : Call) (b begin h : History) (turn : Turn ScxAnswer) (n : NodeNo) (s : ScxNo) → IsTry c b h m.limit m.tries → Scxs e m (begun_at c b) h f scx begin → after.scx ≡ scx.scx → after.update ≡ scx.update → turn ≡ Done (Lost n s) → MatchTurn turn (ScxWaits TreeAllows after (begun_at c begin) h) (ScxAnswers after (begun_at c begin) h) → MayBeginTry e m c h × HasLostTry e m.edit c h m.limit m.tries n.0 s.0
   scx_lost m scx after f c b begin h turn n s try x is_scx is_update done w = (
-    record { run = x.run; small = x.small; since = since; rests = scx_rests m scx f c b begin h x finished },
+    record { run = x.run; small = x.small; may = x.may; since = since; rests = scx_rests m scx f c b begin h x finished },
     record {
       begin = b;
       try = try;
-      way = lost_contended (begun_at c b) begin h (e.goal m.edit) f after n.0 s.0 x.run.1.lawful x.quiet (subst (λ (u : Update). AreUsable (begun_at c b) begin (e.goal m.edit) f u.snaps) (sym is_update) x.usable) lost;
+      way = lost_contended (begun_at c b) begin h (e.way m.edit) (e.goal m.edit) f after n.0 s.0 x.run.1.lawful x.quiet (subst (λ (u : Update). AreUsable (begun_at c b) begin (e.way m.edit) (e.goal m.edit) f u.snaps) (sym is_update) x.usable) lost;
       none = none_joined c.layout c.pass h b c.start x.now try.none (none_lost c.layout c.pass scx.scx.0 h b x.run.1.lawful aborted x.only);
       found = f;
       needed = record { moment = begin; within = ends_trans h (lost.changed.found.row ⊳ lost.changed.found.before) begin lost.changed.found.last.within (inr lost.changed.found.since); has_found = x.found; needed = x.need };
@@ -207,7 +208,7 @@ module _ {E : Type 0} (e : EditMeaning E) where
   -- and its try is lost, if another was in its way
   pub look_lost : {A : Type 0} (m : UpdateRun E A) (c : Call) (b h : History) (f : Found) (n s : ℕ) → IsTry c b h m.limit m.tries → CanLook e m (begun_at c b) h f → IsContended (begun_at c b) h n s → MayBeginTry e m c h × HasLostTry e m.edit c h m.limit m.tries n s
   look_lost m c b h f n s try x way = (
-    record { run = begins.run; small = begins.small; since = ends_trans h b c.start begins.since try.since; rests = record { share = begins.rests.share; over = begins.rests.over } },
+    record { run = begins.run; small = begins.small; may = begins.may; since = ends_trans h b c.start begins.since try.since; rests = record { share = begins.rests.share; over = begins.rests.over } },
     record {
       begin = b;
       try = try;

@@ -7,11 +7,12 @@ use Rattle.arena.proofs.Lemmas.{ends_self, ends_trans}
 use Rattle.histories.proofs.Lemmas.{Facts, IsOwned, Logs, facts, facts_before, lawful_since, lawful_tail, logs, same, update_changes, update_is_first, wins, won_since}
 use Rattle.prims.specs.Laws.Idle.{out_by_others}
 use Rattle.prims.proofs.Lemmas.{wins_in_progress}
-use Rattle.template.specs.Common.{IsAnswerAt, said, MapEdit, edited, end_pair, get, IsTreeRun, Spells, Pair, HasFoundGoal, HasFoundLeaf, end_told, End, IsContended}
+use Rattle.template.specs.Common.{IsAnswerAt, said, MapEdit, edited, end_pair, get, IsMapRun, Spells, Pair, HasFoundGoal, HasFoundLeaf, end_told, End, IsContended}
 use Rattle.ordered_map.specs.Paths.{IsEndAt}
 use Rattle.ordered_map.specs.Laws.{AreEdits}
 use Rattle.ordered_map.specs.Runs.{map_of_log}
-use Rattle.ordered_map.proofs.Lemmas.{log_edits, one_spelling, spells_log, walk_answers, wins_of}
+use Rattle.ordered_map.proofs.Lemmas.{one_spelling, wins_of}
+use Rattle.ordered_map.proofs.MapLemmas.{log_edits, spells_log, walked_answers}
 use Rattle.template.proofs.Lemmas.{found_end, own_since}
 use Rattle.template.specs.declared.walk.Found.{Found}
 use Rattle.edits.specs.Known.{HasMade, ToldEnd}
@@ -32,13 +33,13 @@ log_still lay (r ⊳ h) start l (inr e) none = go (log_still lay h start (lawful
     go earlier (wins u w is) = absurd (none r h u (inl refl) e record { kind = w.kind; update = w.update; found = w.found; changed = update_changes (facts_before lay h r l) w })
 
 -- so the words spell the map that they did
-spells_still : (lay : Layout) (h k m : History) (map : List Pair) → IsTreeRun lay h → Extends h k → Extends k m → log lay k ≡ log lay m → Spells lay (value m) map → Spells lay (value k) map
+spells_still : (lay : Layout) (h k m : History) (map : List Pair) → IsMapRun lay h → Extends h k → Extends k m → log lay k ≡ log lay m → Spells lay (value m) map → Spells lay (value k) map
 spells_still lay h k m map run e f still x =
     let edits : (edits : ℕ → MapEdit) × AreEdits edits lay h = log_edits lay h run in
     let then : map ≡ map_of_log edits.0 (log lay m) = one_spelling lay (value m) map (map_of_log edits.0 (log lay m)) x (spells_log lay h edits.0 run edits.1 m (ends_trans h k m e f)) in
     subst (Spells lay (value k)) (ap (map_of_log edits.0) still ∙ sym then) (spells_log lay h edits.0 run edits.1 k e)
 
-module _ (c : Call) (h : History) (run : IsTreeRun c.layout h) (alone : IsUndisturbed c h) where
+module _ (c : Call) (h : History) (run : IsMapRun c.layout h) (alone : IsUndisturbed c h) where
   -- no other's SCX-record is in progress at any moment of the call
   others_rest : (k : History) → Extends h k → Extends k c.start → (t : ℕ) → IsOthersScx c.layout c.pass t → ¬ IsInProgress k t
   others_rest (Start mode) e f t o x = alone.rest t (subst (λ m. IsInProgress m t) (sym f) x)
@@ -92,7 +93,7 @@ module _ (c : Call) (h : History) (run : IsTreeRun c.layout h) (alone : IsUndist
       first = found.trail.node.first
 
       then : IsAnswerAt c.layout h first key (said (value h) key f.trail.node.0)
-      then = walk_answers c.layout h first key f.trail.node.0 small run found.trail.node.passed found.leaf
+      then = walked_answers c.layout h first key f.trail.node.0 small run found.trail.node.passed found.leaf
 
       answer : IsAnswerAt c.layout h c.start key (said (value h) key f.trail.node.0)
       answer = record { moment = then.moment; within = then.within; since = ends_trans then.moment first c.start then.since (own_since c first found.trail.node.own); map = then.map; spelled = then.spelled; gives = then.gives }

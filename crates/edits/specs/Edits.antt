@@ -3,6 +3,7 @@ use Rattle.std.specs.Prelude.{◌≡◌, ℕ, ◌<◌, ◌≤◌, List, length, 
 use Rattle.arena.specs.declared.number.NodeNo.{NodeNo}
 use Rattle.template.specs.Common.{Snap, MapEdit, Goal}
 use Rattle.template.specs.declared.walk.Found.{Found}
+use Rattle.template.specs.declared.walk.Way.{Way}
 use Rattle.edits.specs.declared.edit.Look.{Look}
 use Rattle.edits.specs.declared.edit.Look.TheVariants.{At}
 use Rattle.edits.specs.declared.edit.Nodes.{Nodes}
@@ -17,6 +18,8 @@ use Rattle.edits.specs.Readings.{reads_left}
 pub record EditMeaning (E : Type 0) : Type 0 where
   -- to which leaf it walks
   pub goal : E → Goal
+  -- and where
+  pub way : E → Way
   -- the edit of the map that it makes at the leaf that was found
   pub edit : E → Found → MapEdit
   -- what there is to do at the leaf that was found
@@ -40,6 +43,7 @@ pub record EditMeaning (E : Type 0) : Type 0 where
 abbrev pub through : {E F : Type 0} → EditMeaning E → (F → E) → EditMeaning F
 through m of = record {
   goal = λ e. m.goal (of e);
+  way = λ e. m.way (of e);
   edit = λ e f. m.edit (of e) f;
   work = λ e f. m.work (of e) f;
   most_nodes = λ e. m.most_nodes (of e);

@@ -4,11 +4,12 @@ use Rattle.histories.specs.Common.{Full, Resource, Nodes as FreshNodes, Layout, 
 use Rattle.histories.specs.Common.{IsOwnScx, IsTakenNode, History, ◌⊳◌, value, Extends, IsWin, all_nodes, Entry, log, Call, MatchTurn, begun_at, Remaining, node}
 use Rattle.arena.specs.declared.fault.Resource.TheVariants.{Scx as ScxRecords}
 use Rattle.template.specs.Common.{HasFoundThere, load, IsSnapshot, LlxIsReady, LlxWaits, AreFinished, ScxIsReady, ScxWaits, job_of, IsShare, snap_at, LlxRun}
-use Rattle.template.specs.Common.{ScxRun, Snap, MapEdit, edit_key, end_pair, get, IsTreeRun, Makes, Spells, TreeAllows, edit_leaf, Pair, path_key, end_told}
-use Rattle.template.specs.Common.{HasFoundGoal, IsFresh, Tracks, WalkIsReady, WalkWaits, Goal, Key as ToKey, End, IsContended, HasLostTriesTo, HasTriedAllBut}
+use Rattle.template.specs.Common.{ScxRun, Snap, MapEdit, edit_key, end_pair, get, IsMapRun, Makes, Spells, TreeAllows, edit_leaf, Pair, path_key, end_told}
+use Rattle.template.specs.Common.{FoundBy, MayGo, IsFresh, Tracks, WalkIsReady, WalkWaits, Goal, Key as ToKey, End, IsContended, HasLostTriesTo, HasTriedAllBut}
 use Rattle.prims.specs.Laws.Idle.{IsQuietSince}
 use Rattle.ordered_map.specs.Runs.{IsEditAt}
 use Rattle.template.specs.declared.walk.Found.{Found}
+use Rattle.template.specs.declared.walk.Way.{Way}
 use Rattle.edits.specs.declared.edit.Look.{Look as LookOf}
 use Rattle.edits.specs.declared.edit.Look.TheVariants.{At, Enough}
 use Rattle.edits.specs.declared.edit.Nodes.{Nodes}
@@ -57,19 +58,23 @@ IsShort need left ScxRecords k = (need ≤ left.nodes) × (left.scx ≡ 0) × (k
 
 -- What it has found
 
+-- the node that stands for what was found where an edit covers it: the leaf, or, where that is a fork, node 2
+abbrev pub covered : Found → ℕ
+covered f = if f.head.leaf then f.trail.node.0 else 2
+
 -- the snapshot was right at a moment of the call, by which that had found this leaf, to which its
 -- walk was to go, and the snapshot's SCX-record in the node's info
-pub record HasSnappedAfterWalk (c : Call) (h : History) (goal : Goal) (f : Found) (snap : Snap) : Type 0 where
+pub record HasSnappedAfterWalk (c : Call) (h : History) (way : Way) (goal : Goal) (f : Found) (snap : Snap) : Type 0 where
   pub moment : History
   pub within : Extends h moment
   pub since : Extends moment c.start
-  pub found : HasFoundGoal goal c moment f
+  pub found : FoundBy way goal c moment f
   pub is : IsSnapshot c.layout moment snap.node.0 snap
   pub met : HasFoundThere c.pass moment c.start snap.node.0 snap.scx.0
 
 -- each of these snapshots was, and so it may be used
-abbrev pub AreUsable : Call → History → Goal → Found → List Snap → Type 0
-AreUsable c h goal f snaps = (i : ℕ) → i < length snaps → HasSnappedAfterWalk c h goal f (snap_at snaps i)
+abbrev pub AreUsable : Call → History → Way → Goal → Found → List Snap → Type 0
+AreUsable c h way goal f snaps = (i : ℕ) → i < length snaps → HasSnappedAfterWalk c h way goal f (snap_at snaps i)
 
 -- what is read of this node is what it holds; every pass may know it, and it is not the root
 pub record MayRead (lay : Layout) (h : History) (n : ℕ) (read : Reading) : Type 0 where
@@ -159,10 +164,11 @@ abbrev pub AreSeen : (Found → List Snap → LookOf) → Found → List Snap �
 AreSeen looks f snaps = (i : ℕ) → i < length snaps → looks f (take i snaps) ≡ At (snap_at snaps i).node
 
 -- what is known of the leaf, to which the edit's walk was to go, and of the snapshots
-pub record HasLookedBy (looks : Found → List Snap → LookOf) (c : Call) (h : History) (goal : Goal) (f : Found) (snaps : List Snap) : Type 0 where
+pub record HasLookedBy (looks : Found → List Snap → LookOf) (c : Call) (h : History) (way : Way) (goal : Goal) (f : Found) (snaps : List Snap) : Type 0 where
   pub small : path_key goal < 2 ^ 64
-  pub found : HasFoundGoal goal c h f
-  pub usable : AreUsable c h goal f snaps
+  pub may : MayGo c.layout way goal
+  pub found : FoundBy way goal c h f
+  pub usable : AreUsable c h way goal f snaps
   pub seen : AreSeen looks f snaps
 
 -- this fresh node is one of those up to the last
@@ -175,10 +181,10 @@ abbrev pub top : {E A : Type 0} → UpdateRun E A → ℕ
 top m = top_of m.work.need m.nodes
 
 module _ {E : Type 0} (e : EditMeaning E) where
-  -- whenever the SCX-record s makes the edit of these snapshots later, the leaf of the edit is the one
-  -- that was found
+  -- whenever the SCX-record s makes the edit of these snapshots later, the leaf of the edit is what stands
+  -- for the one that was found
   abbrev pub CoversLeaf : E → Found → Call → History → ℕ → List Snap → Type 0
-  CoversLeaf ed f c begin s snaps = (k : History) → IsTreeRun c.layout k → Extends k begin → CoversSnaps k s snaps → Makes c.layout k s (e.edit ed f) → edit_leaf k s (e.edit ed f) ≡ f.trail.node.0
+  CoversLeaf ed f c begin s snaps = (k : History) → IsMapRun c.layout k → Extends k begin → CoversSnaps k s snaps → Makes c.layout k s (e.edit ed f) → edit_leaf k s (e.edit ed f) ≡ covered f
 
   -- what each fresh node is to hold
   abbrev pub piece : {A : Type 0} → UpdateRun E A → Found → ℕ → Piece
@@ -205,7 +211,7 @@ module _ {E : Type 0} (e : EditMeaning E) where
 module _ (e : EditMeaning (Unit {0})) where
   -- all is looked at, all is read, and its fresh nodes hold what they are to
   pub record HasFilledAs (c : Call) (h : History) (f : Found) (snaps : List Snap) (ns : Nodes) (read : Reading) : Type 0 where
-    pub looked : HasLookedBy (e.looks tt) c h (e.goal tt) f snaps
+    pub looked : HasLookedBy (e.looks tt) c h (e.way tt) (e.goal tt) f snaps
     pub enough : e.looks tt f snaps ≡ Enough
     pub in_order : StandInRow (e.work tt f).need ns
     pub right : MayReadAt c.layout h (e.reads tt f snaps) read
@@ -215,10 +221,10 @@ module _ (e : EditMeaning (Unit {0})) where
   module _ (m : UpdateRun (Unit {0}) (Unit {0})) where
     -- all is looked at, and this fresh node is needed
     pub record WorksAs (c : Call) (h : History) (f : Found) (nth : Nth) : Type 0 where
-      pub run : IsTreeRun c.layout h
+      pub run : IsMapRun c.layout h
       pub since : Extends h c.start
       pub quiet : IsQuietSince c.layout c.pass c.start h
-      pub looked : HasLookedBy (e.looks tt) c h (e.goal tt) f m.snaps.items
+      pub looked : HasLookedBy (e.looks tt) c h (e.way tt) (e.goal tt) f m.snaps.items
       pub enough : e.looks tt f m.snaps.items ≡ Enough
       pub asked : m.work ≡ e.work tt f
       pub need : IsNeeded m.work.need nth
@@ -227,8 +233,8 @@ module _ (e : EditMeaning (Unit {0})) where
 
     -- a step of an LLX, which has begun at a moment of the call
     pub record LooksAs (c : Call) (h : History) (f : Found) (llx : LlxRun) (begin : History) : Type 0 where
-      pub run : IsTreeRun c.layout h
-      pub looked : HasLookedBy (e.looks tt) c h (e.goal tt) f m.snaps.items
+      pub run : IsMapRun c.layout h
+      pub looked : HasLookedBy (e.looks tt) c h (e.way tt) (e.goal tt) f m.snaps.items
       pub rests : RestsWith c h m.share
       pub asked : m.work ≡ e.work tt f
       pub room : HasNodesFor m.work.need m.share
@@ -259,8 +265,9 @@ module _ (e : EditMeaning (Unit {0})) where
 
     -- a step of its SCX, which has the fresh nodes and an SCX-record in hand
     pub record ScxsAs (c : Call) (h : History) (f : Found) (scx : ScxRun) (begin : History) : Type 0 where
-      pub run : IsTreeRun c.layout h
+      pub run : IsMapRun c.layout h
       pub small : path_key (e.goal tt) < 2 ^ 64
+      pub may : MayGo c.layout (e.way tt) (e.goal tt)
       pub now : Extends h c.start
       pub since : Extends begin c.start
       pub share : IsShare c.layout h c.pass m.share m.share.next_node scx.scx.0
@@ -275,25 +282,28 @@ module _ (e : EditMeaning (Unit {0})) where
       pub only : HasEnteredOnly c.layout c.pass scx.scx.0 h c.start
       -- as it began the leaf was found, at which there is something to make, the snapshots could be
       -- used, and it covers that leaf
-      pub found : HasFoundGoal (e.goal tt) c begin f
+      pub found : FoundBy (e.way tt) (e.goal tt) c begin f
       pub need : 0 < (e.work tt f).need
-      pub usable : AreUsable c begin (e.goal tt) f scx.update.snaps
+      pub usable : AreUsable c begin (e.way tt) (e.goal tt) f scx.update.snaps
       pub quiet : IsQuietSince c.layout c.pass c.start begin
       pub leaf : CoversLeaf e tt f c begin scx.scx.0 scx.update.snaps
 
     -- the walk goes where the edit's is to go, the pass is at rest, and has filled nothing since
     -- the walk's start
-    pub record WalksAs (c : Call) (h : History) (goal : Goal) : Type 0 where
+    pub record WalksAs (c : Call) (h : History) (way : Way) (goal : Goal) : Type 0 where
       pub small : path_key (e.goal tt) < 2 ^ 64
+      pub may : MayGo c.layout (e.way tt) (e.goal tt)
       pub rests : RestsWith c h m.share
       pub quiet : IsQuietSince c.layout c.pass c.start h
       pub none_filled : HasFilledNone c.pass h c.start
       pub same : goal ≡ e.goal tt
+      pub same_way : way ≡ e.way tt
 
     -- it may begin a try
     pub record BeginsAs (c : Call) (h : History) : Type 0 where
-      pub run : IsTreeRun c.layout h
+      pub run : IsMapRun c.layout h
       pub small : path_key (e.goal tt) < 2 ^ 64
+      pub may : MayGo c.layout (e.way tt) (e.goal tt)
       pub since : Extends h c.start
       pub rests : RestsWith c h m.share
 
@@ -302,7 +312,7 @@ module _ (e : EditMeaning (Unit {0})) where
   -- there was nothing to make at the leaf that it answers, which it has found; the pass has entered
   -- nothing, and has only looked in its newest try
   pub record HasNothingToMake (c : Call) (h : History) (found : Found) : Type 0 where
-    pub has_found : HasFoundGoal (e.goal tt) c h found
+    pub has_found : FoundBy (e.way tt) (e.goal tt) c h found
     pub needless : (e.work tt found).need ≡ 0
     pub none : HasEnteredNone c.layout c.pass h c.start
     pub only_looked : HasOnlyLooked c.pass h c.start
@@ -313,7 +323,7 @@ module _ (e : EditMeaning (Unit {0})) where
   pub record IsFullFor (left : Remaining) (c : Call) (h : History) (full : Full) : Type 0 where
     pub only_looked : HasOnlyLooked c.pass h c.start
     pub found : Found
-    pub has_found : HasFoundGoal (e.goal tt) (begun_at c only_looked.begin) h found
+    pub has_found : FoundBy (e.way tt) (e.goal tt) (begun_at c only_looked.begin) h found
     pub needed : 0 < (e.work tt found).need
     pub short : IsShort (e.work tt found).need left full.what full.left
     pub first : IsUntouched c h left
@@ -323,7 +333,7 @@ module _ (e : EditMeaning (Unit {0})) where
   pub record WasNeeded (c : Call) (h : History) (found : Found) : Type 0 where
     pub moment : History
     pub within : Extends h moment
-    pub has_found : HasFoundGoal (e.goal tt) c moment found
+    pub has_found : FoundBy (e.way tt) (e.goal tt) c moment found
     pub needed : 0 < (e.work tt found).need
 
   -- All tries of the call, `limit` of them, were lost, the newest to the SCX-record s over the node
@@ -358,7 +368,7 @@ bare m = record { edit = tt; share = m.share; work = m.work; snaps = m.snaps; no
 module _ {E : Type 0} (e : EditMeaning E) where
   -- each of these is known of it, or of its update, as it is above of one that says the same
   abbrev pub HasLooked : Call → History → E → Found → List Snap → Type 0
-  HasLooked c h ed f snaps = HasLookedBy (e.looks ed) c h (e.goal ed) f snaps
+  HasLooked c h ed f snaps = HasLookedBy (e.looks ed) c h (e.way ed) (e.goal ed) f snaps
 
   abbrev pub HasFilledAll : Call → History → E → Found → List Snap → Nodes → Reading → Type 0
   HasFilledAll c h ed f snaps ns read = HasFilledAs (says e ed) c h f snaps ns read
@@ -378,8 +388,8 @@ module _ {E : Type 0} (e : EditMeaning E) where
   abbrev pub Scxs : {A : Type 0} → UpdateRun E A → Call → History → Found → ScxRun → History → Type 0
   Scxs m c h f scx begin = ScxsAs (says e m.edit) (bare m) c h f scx begin
 
-  abbrev pub Walks : {A : Type 0} → UpdateRun E A → Call → History → Goal → Type 0
-  Walks m c h goal = WalksAs (says e m.edit) (bare m) c h goal
+  abbrev pub Walks : {A : Type 0} → UpdateRun E A → Call → History → Way → Goal → Type 0
+  Walks m c h way goal = WalksAs (says e m.edit) (bare m) c h way goal
 
   abbrev pub MayBeginTry : {A : Type 0} → UpdateRun E A → Call → History → Type 0
   MayBeginTry m c h = BeginsAs (says e m.edit) (bare m) c h
@@ -395,7 +405,7 @@ module _ {E : Type 0} (e : EditMeaning E) where
   -- what holds while it waits for this step at this place
   abbrev pub UpdateWaitsAt : {A : Type 0} → UpdateRun E A → Call → History → Step → UpdateAt → Type 0
   UpdateWaitsAt m c h s Start = ⊥
-  UpdateWaitsAt m c h s (Walk walk) = Walks m c h walk.goal × WalkWaits walk c h s
+  UpdateWaitsAt m c h s (Walk walk) = Walks m c h walk.way walk.goal × WalkWaits walk c h s
   UpdateWaitsAt m c h s (Look f llx) = (begin : History) × Looks m c h f llx begin × LlxWaits TreeAllows llx (begun_at c begin) h s
   UpdateWaitsAt m c h s (Read f n part) = Reads m c h f n part × (s ≡ load LoadSettled (node n.0 (Settled part)))
   UpdateWaitsAt m c h s (Fill f nth part) = FillsPiece m c h f nth part × FieldMay part (IsForField c.layout h m.nodes.first.0 (top m) (word_of (piece e m f (nth_node m.nodes nth).0) part)) × HoldsBefore h (nth_node m.nodes nth).0 (piece_here e m f nth) part × (s ≡ piece_fill_step m f nth part)
@@ -404,7 +414,7 @@ module _ {E : Type 0} (e : EditMeaning E) where
   -- what holds once the step of this place has found v
   abbrev pub UpdateIsToldAt : {A : Type 0} → UpdateRun E A → Call → History → ℕ → UpdateAt → Type 0
   UpdateIsToldAt m c h v Start = ⊥
-  UpdateIsToldAt m c h v (Walk walk) = Walks m c h walk.goal × WalkIsReady walk c h (Some v)
+  UpdateIsToldAt m c h v (Walk walk) = Walks m c h walk.way walk.goal × WalkIsReady walk c h (Some v)
   UpdateIsToldAt m c h v (Look f llx) = (begin : History) × Looks m c h f llx begin × LlxIsReady TreeAllows llx (begun_at c begin) h (Some v)
   UpdateIsToldAt m c h v (Read f n part) = Reads m c h f n part × (value h (node n.0 (Settled part)) ≡ v)
   UpdateIsToldAt m c h v (Fill f nth part) = IsFilledUpTo m c h f nth part
@@ -476,7 +486,7 @@ module _ {E : Type 0} (e : EditMeaning E) where
 
   -- it may begin its SCX: all its fresh nodes are full
   pub record CanScx {A : Type 0} (m : UpdateRun E A) (c : Call) (h : History) (f : Found) : Type 0 where
-    pub run : IsTreeRun c.layout h
+    pub run : IsMapRun c.layout h
     pub since : Extends h c.start
     pub quiet : IsQuietSince c.layout c.pass c.start h
     pub asked : m.work ≡ e.work m.edit f

@@ -2,7 +2,7 @@
 use Rattle.std.specs.Prelude.{◌≡◌, ◌⊎◌, ℕ, ◌<◌, true, List, Some}
 use Rattle.histories.specs.Common.{NodeNo, ScxNo, Child, Side, IsInField, History, Call, Descriptor}
 use Rattle.prims.specs.Laws.Idle.{IsQuietSince}
-use Rattle.template.specs.Common.{IsOpened, IsUpdateOver, Job, Says, Snap, edit_key, IsTreeRun, IsContended, WasNotFinal, asked_key, IsPromised}
+use Rattle.template.specs.Common.{IsOpened, IsUpdateOver, Job, Says, Snap, edit_key, IsMapRun, IsContended, WasNotFinal, asked_key, IsPromised}
 use Rattle.template.specs.declared.walk.Found.{Found}
 use Rattle.edits.specs.declared.edit.Look.TheVariants.{At, Differs, Enough}
 use Rattle.edits.specs.declared.edit.Nodes.{Nodes}
@@ -17,23 +17,23 @@ use Rattle.edits.specs.Pieces.{is_filled, nth_node, update_for, word_of}
 -- was idle. What an edit reads every pass may know, it is not the root, and what is known of it
 -- before is right.
 pub record LooksWell {E : Type 0} (m : EditMeaning E) : Type 0 where
-  pub opens : (e : E) (c : Call) (h : History) (f : Found) (snaps : List Snap) (n : NodeNo) → IsTreeRun c.layout h → 0 < (m.work e f).need → HasLooked m c h e f snaps → m.looks e f snaps ≡ At n → IsOpened c.layout h n.0
-  pub stood : (e : E) (c : Call) (h : History) (f : Found) (snaps : List Snap) (n : NodeNo) → IsTreeRun c.layout h → 0 < (m.work e f).need → HasLooked m c h e f snaps → m.looks e f snaps ≡ At n → WasNotFinal c h n.0
-  pub differs : (e : E) (c : Call) (h : History) (f : Found) (snaps : List Snap) (n : NodeNo) (s : ScxNo) → IsTreeRun c.layout h → 0 < (m.work e f).need → HasLooked m c h e f snaps → m.looks e f snaps ≡ Differs n s → IsQuietSince c.layout c.pass c.start h → IsContended c h n.0 s.0
-  pub reads : (e : E) (c : Call) (h : History) (f : Found) (snaps : List Snap) (x : NodeNo × Reading) → IsTreeRun c.layout h → 0 < (m.work e f).need → HasLooked m c h e f snaps → m.looks e f snaps ≡ Enough → m.reads e f snaps ≡ Some x → MayRead c.layout h x.0.0 x.1
+  pub opens : (e : E) (c : Call) (h : History) (f : Found) (snaps : List Snap) (n : NodeNo) → IsMapRun c.layout h → 0 < (m.work e f).need → HasLooked m c h e f snaps → m.looks e f snaps ≡ At n → IsOpened c.layout h n.0
+  pub stood : (e : E) (c : Call) (h : History) (f : Found) (snaps : List Snap) (n : NodeNo) → IsMapRun c.layout h → 0 < (m.work e f).need → HasLooked m c h e f snaps → m.looks e f snaps ≡ At n → WasNotFinal c h n.0
+  pub differs : (e : E) (c : Call) (h : History) (f : Found) (snaps : List Snap) (n : NodeNo) (s : ScxNo) → IsMapRun c.layout h → 0 < (m.work e f).need → HasLooked m c h e f snaps → m.looks e f snaps ≡ Differs n s → IsQuietSince c.layout c.pass c.start h → IsContended c h n.0 s.0
+  pub reads : (e : E) (c : Call) (h : History) (f : Found) (snaps : List Snap) (x : NodeNo × Reading) → IsMapRun c.layout h → 0 < (m.work e f).need → HasLooked m c h e f snaps → m.looks e f snaps ≡ Enough → m.reads e f snaps ≡ Some x → MayRead c.layout h x.0.0 x.1
 
 -- a field of its fresh nodes is to hold a fresh node of a place before, or a node that a field has
 -- held
 pub record FillsWell {E : Type 0} (m : EditMeaning E) : Type 0 where
-  pub fields : (e : E) (c : Call) (h : History) (f : Found) (snaps : List Snap) (ns : Nodes) (read : Reading) (nth : Nth) (side : Side) → IsTreeRun c.layout h → HasLooked m c h e f snaps → m.looks e f snaps ≡ Enough → IsNeeded (m.work e f).need nth → is_filled (m.pieces e f snaps ns read nth) (Child side) ≡ true
+  pub fields : (e : E) (c : Call) (h : History) (f : Found) (snaps : List Snap) (ns : Nodes) (read : Reading) (nth : Nth) (side : Side) → IsMapRun c.layout h → HasLooked m c h e f snaps → m.looks e f snaps ≡ Enough → IsNeeded (m.work e f).need nth → is_filled (m.pieces e f snaps ns read nth) (Child side) ≡ true
       → ((i : Nth) × ComesBefore i nth × (word_of (m.pieces e f snaps ns read nth) (Child side) ≡ (nth_node ns i).0)) ⊎ IsInField c.layout h (word_of (m.pieces e f snaps ns read nth) (Child side))
 
 -- what an edit has to do its plan covers as it was looked at, and what it makes of that is its edit
 pub record MakesWell {E : Type 0} (m : EditMeaning E) : Type 0 where
-  pub over : (e : E) (c : Call) (h : History) (f : Found) (snaps : List Snap) (ns : Nodes) → IsTreeRun c.layout h → 0 < (m.work e f).need → HasLooked m c h e f snaps → m.looks e f snaps ≡ Enough → IsUpdateOver (update_for (m.work e f) snaps ns)
+  pub over : (e : E) (c : Call) (h : History) (f : Found) (snaps : List Snap) (ns : Nodes) → IsMapRun c.layout h → 0 < (m.work e f).need → HasLooked m c h e f snaps → m.looks e f snaps ≡ Enough → IsUpdateOver (update_for (m.work e f) snaps ns)
   -- and its leaf is the one that was found
-  pub leaf : (e : E) (c : Call) (h : History) (f : Found) (snaps : List Snap) (s : ℕ) → IsTreeRun c.layout h → 0 < (m.work e f).need → HasLooked m c h e f snaps → m.looks e f snaps ≡ Enough → CoversLeaf m e f c h s snaps
-  pub promised : (e : E) (c : Call) (h : History) (f : Found) (snaps : List Snap) (ns : Nodes) (read : Reading) (j : Job) (d : Descriptor) → IsTreeRun c.layout h → 0 < (m.work e f).need → HasFilledAll m c h e f snaps ns read → j.update ≡ update_for (m.work e f) snaps ns → Says d j → IsPromised c.layout c.pass h j.scx.0 d (m.edit e f)
+  pub leaf : (e : E) (c : Call) (h : History) (f : Found) (snaps : List Snap) (s : ℕ) → IsMapRun c.layout h → 0 < (m.work e f).need → HasLooked m c h e f snaps → m.looks e f snaps ≡ Enough → CoversLeaf m e f c h s snaps
+  pub promised : (e : E) (c : Call) (h : History) (f : Found) (snaps : List Snap) (ns : Nodes) (read : Reading) (j : Job) (d : Descriptor) → IsMapRun c.layout h → 0 < (m.work e f).need → HasFilledAll m c h e f snaps ns read → j.update ≡ update_for (m.work e f) snaps ns → Says d j → IsPromised c.layout c.pass h j.scx.0 d (m.edit e f)
 
 -- its edit is of the key whose value the leaf that was found answers
 abbrev pub IsAtFound : {E : Type 0} → EditMeaning E → Type 0

@@ -2,7 +2,8 @@
 -- that is left after it.
 use Rattle.std.specs.Prelude.{◌≡◌, ℕ, ◌+◌, ◌*◌, ◌-◌, ◌<◌, ◌≤◌, length, Option, Some}
 use Rattle.histories.specs.Common.{Turn, NodeWord, MatchTurn, Remaining}
-use Rattle.template.specs.Common.{llx_left, walk_left, WalkFits}
+use Rattle.template.specs.Common.{llx_left, WalkFits}
+use Rattle.template.specs.Walk.Steps.{room, steps_left}
 use Rattle.prims.specs.Scx.Steps.{scx_left}
 use Rattle.template.specs.declared.walk.Found.{Found}
 use Rattle.edits.specs.declared.edit.Nth.{Nth}
@@ -24,10 +25,10 @@ abbrev pub most_works : {E : Type 0} → EditMeaning E → E → ℕ
 most_works m e = m.most_reads e + m.most_fills e
 
 -- how many steps a try may ask for, where no more nodes than these are taken: the walk three for
--- each of them and for two more, and five at its leaf, each LLX 64, the loads and fills theirs, and
+-- each of them and for two more, or of a trie three for each of 67 levels, and five at its leaf, each LLX 64, the loads and fills theirs, and
 -- the SCX 39
 abbrev pub try_left : {E : Type 0} → EditMeaning E → E → ℕ → ℕ
-try_left m e nodes = 3 * (2 + nodes) + 5 + (64 * m.most_looks e + most_works m e + 39)
+try_left m e nodes = 3 * (2 + room (m.way e) nodes) + 5 + (64 * m.most_looks e + most_works m e + 39)
 
 -- what the fresh nodes are to hold
 abbrev pub pieces_now : {E A : Type 0} → EditMeaning E → UpdateRun E A → Found → Nth → Piece
@@ -40,7 +41,7 @@ fills_left e m f nth part = fills_behind (pieces_now e m f nth) part + fills_aft
 -- how many steps are left in this try, at this place
 abbrev pub phase_left : {E A : Type 0} → EditMeaning E → UpdateRun E A → ℕ → UpdateAt → ℕ
 phase_left e m nodes Start = try_left e m.edit nodes
-phase_left e m nodes (Walk walk) = walk_left walk.at nodes + (64 * e.most_looks m.edit + most_works e m.edit + 39)
+phase_left e m nodes (Walk walk) = steps_left walk nodes + (64 * e.most_looks m.edit + most_works e m.edit + 39)
 phase_left e m nodes (Look f llx) = llx_left llx.at + 64 * (e.most_looks m.edit - 1 - length m.snaps.items) + most_works e m.edit + 39
 phase_left e m nodes (Read f n part) = reads_left m.read - 1 + e.most_fills m.edit + 39
 phase_left e m nodes (Fill f nth part) = fills_left e m f nth part + 39

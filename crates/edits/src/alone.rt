@@ -7,7 +7,7 @@ ghost use Rattle.arena.specs.Undisturbed.{IsUndisturbed};
 ghost use Rattle.ordered_map.specs.declared.pair.Pair.{Pair};
 ghost use Rattle.ordered_map.specs.OrderedMap.{MapEdit, edited, end_pair, get};
 ghost use Rattle.ordered_map.specs.Paths.{IsAnswerAt};
-ghost use Rattle.ordered_map.specs.Runs.{IsTreeRun};
+ghost use Rattle.ordered_map.specs.Runs.{IsMapRun};
 ghost use Rattle.ordered_map.specs.Spelled.{Spells};
 ghost use Rattle.template.specs.FoundLeaf.{HasFoundGoal, HasFoundLeaf, end_told};
 ghost use Rattle.template.specs.declared.walk.Found.{Found};
@@ -25,22 +25,22 @@ ghost use Rattle.edits.specs.Tries.{HasEnteredNone};
 /// ever contended. It does nothing; a caller learns the laws from its contract.
 pub fn alone_holds()
     ensures made { (c : Call) (h : History) (edit : MapEdit) (number : ℕ) (old : Option ℕ) (map : List Pair)
-        → IsTreeRun c.layout h → IsUndisturbed c h → (made : HasMade edit c h number old) → Spells c.layout (value c.start) map
+        → IsMapRun c.layout h → IsUndisturbed c h → (made : HasMade edit c h number old) → Spells c.layout (value c.start) map
         → Spells c.layout (value made.before) map × Spells c.layout (value h) (edited edit map) }
-    ensures found { (c : Call) (h : History) (k : ℕ) (f : Found) (map : List Pair) → k < 2 ^ 64 → IsTreeRun c.layout h
+    ensures found { (c : Call) (h : History) (k : ℕ) (f : Found) (map : List Pair) → k < 2 ^ 64 → IsMapRun c.layout h
         → IsUndisturbed c h → HasFoundLeaf c h k f → HasEnteredNone c.layout c.pass h c.start
         → Spells c.layout (value c.start) map → f.value ≡ get k map }
     ensures made_end { (side : Side) (c : Call) (h : History) (edit : MapEdit) (number : ℕ) (old : Option ℕ) (f : Found)
-        (map : List Pair) → IsTreeRun c.layout h → IsUndisturbed c h → (made : HasMade edit c h number old)
+        (map : List Pair) → IsMapRun c.layout h → IsUndisturbed c h → (made : HasMade edit c h number old)
         → ToldEnd (End side) c.layout made.before f → Spells c.layout (value c.start) map → end_pair side map ≡ end_told f }
-    ensures found_end { (side : Side) (c : Call) (h : History) (f : Found) (map : List Pair) → IsTreeRun c.layout h
+    ensures found_end { (side : Side) (c : Call) (h : History) (f : Found) (map : List Pair) → IsMapRun c.layout h
         → IsUndisturbed c h → HasFoundGoal (End side) c h f → HasEnteredNone c.layout c.pass h c.start
         → Spells c.layout (value c.start) map → end_pair side map ≡ end_told f }
-    ensures read { (c : Call) (h : History) (k : ℕ) (told : Option ℕ) (map : List Pair) → IsTreeRun c.layout h
+    ensures read { (c : Call) (h : History) (k : ℕ) (told : Option ℕ) (map : List Pair) → IsMapRun c.layout h
         → IsUndisturbed c h → IsAnswerAt c.layout h c.start k told → HasEnteredNone c.layout c.pass h c.start
         → Spells c.layout (value c.start) map → told ≡ get k map }
-    ensures kept { (c : Call) (h : History) (map : List Pair) → IsTreeRun c.layout h → IsUndisturbed c h
+    ensures kept { (c : Call) (h : History) (map : List Pair) → IsMapRun c.layout h → IsUndisturbed c h
         → HasEnteredNone c.layout c.pass h c.start → Spells c.layout (value c.start) map → Spells c.layout (value h) map }
-    ensures undisturbed { (c : Call) (h : History) (n s : ℕ) → IsTreeRun c.layout h → IsUndisturbed c h → ¬ IsContended c h n s }
+    ensures undisturbed { (c : Call) (h : History) (n s : ℕ) → IsMapRun c.layout h → IsUndisturbed c h → ¬ IsContended c h n s }
     ensures one_pass { (c : Call) (h : History) (n s : ℕ) → c.layout.passes ≡ 1 → ¬ IsContended c h n s }
 {}

@@ -8,7 +8,7 @@ use crate::piece::Piece;
 use crate::reading::{Known, Reading};
 use arena::{NodeNo, Plan, ScxNo};
 use prims::Snap;
-use template::{Found, Goal};
+use template::{Found, Goal, Way};
 
 /// What a try has to do at the leaf that its walk has found.
 #[derive(Clone, Copy, Debug, PartialEq, Eq)]
@@ -117,6 +117,10 @@ pub trait Edit {
     /// To which leaf it walks.
     fn goal(&self) -> Goal
         ensures { result ≡ means.goal self.now };
+
+    /// And where.
+    fn way(&self) -> Way
+        ensures { result ≡ means.way self.now };
 
     /// What there is to do at this leaf.
     fn work(&self, found: &Found) -> Work

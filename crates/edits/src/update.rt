@@ -169,7 +169,7 @@ pub fn copied(found: &Found) -> Found
 
 impl<E: Edit + Drop> UpdateRun<E, UpdateAt> {
     ghost use Rattle.std.specs.Prelude.{◌≡◌, ℕ, ◌≤◌, ◌*◌, ◌+◌, ◌-◌, length};
-    ghost use Rattle.template.specs.Walk.Steps.{WalkFits, walk_left};
+    ghost use Rattle.template.specs.Walk.Steps.{WalkFits, steps_left};
     ghost use Rattle.prims.specs.Llx.Steps.{llx_left};
     ghost use Rattle.prims.specs.Scx.Steps.{scx_left};
     ghost use Rattle.std.specs.Prelude.{None, Some, Ok};
@@ -198,7 +198,7 @@ impl<E: Edit + Drop> UpdateRun<E, UpdateAt> {
         ensures spends { IsSpending E.means result self.old.share self.new (self.old.tries + 1) (self.old.tries + 1) }
         ensures tries { self.new.tries ≡ self.old.tries }
     {
-        let mut walk = WalkRun::new(self.edit.goal());
+        let mut walk = WalkRun::by(self.edit.way(), self.edit.goal());
         walk.at = WalkAt::Root;
         self.at = UpdateAt::Walk { walk };
         Turn::Ask(Step {
@@ -231,13 +231,13 @@ impl<E: Edit + Drop> UpdateRun<E, UpdateAt> {
     fn walk_on(&mut self, mut walk: WalkRun, got: Option<u64>) -> Turn<Updated>
         ensures turn { (c : Call) (b h : History) (v : ℕ) → got ≡ Some v → IsRun TreeAllows c.layout h
             → IsTry c b h self.old.limit self.old.tries → IsUntouched c b self.old.share
-            → Walks E.means self.old (begun_at c b) h walk.goal → WalkIsTold walk (begun_at c b) h v
+            → Walks E.means self.old (begun_at c b) h walk.way walk.goal → WalkIsTold walk (begun_at c b) h v
             → UpdateTurn E.means c h self.new result }
         ensures same { IsSameUpdate self.old self.new }
         ensures nearer { (nodes : ℕ) → WalkFits walk got nodes
             → IsNearer E.means self.new nodes result
             (self.old.tries * try_left E.means self.old.edit nodes +
-            (walk_left walk.at nodes + (64 * E.means.most_looks self.old.edit + most_works E.means self.old.edit + 39))) }
+            (steps_left walk nodes + (64 * E.means.most_looks self.old.edit + most_works E.means self.old.edit + 39))) }
         ensures spends { IsSpending E.means result self.old.share self.new (self.old.tries + 1) (self.old.tries + 1) }
         ensures tries { (self.old.tries ≤ self.new.tries + 1) × (self.new.tries ≤ self.old.tries) }
     {

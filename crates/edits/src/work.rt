@@ -13,7 +13,7 @@ use template::Found;
 impl<E: Edit + Drop, A: Drop> UpdateRun<E, A> {
     ghost use Rattle.std.specs.Prelude.{◌≡◌, ℕ, ◌<◌, ◌≤◌, ◌*◌, ◌+◌, ◌-◌, length};
     ghost use Rattle.std.specs.Prelude.{◌≢◌, IfNone, IfSome, None, Some, Ok, true};
-    ghost use Rattle.template.specs.FoundLeaf.{HasFoundGoal};
+    ghost use Rattle.template.specs.FoundLeaf.{FoundBy};
     ghost use Rattle.edits.specs.Known.{HasNodesFor, HasTakenNodes, IsShort, IsFilledUpTo, CanScx};
     ghost use Rattle.edits.specs.Pieces.{fills_after, part_behind, less_a_node};
     ghost use Rattle.edits.specs.Readings.{is_at_pair, next_read, reads_left};
@@ -104,7 +104,7 @@ impl<E: Edit + Drop, A: Drop> UpdateRun<E, A> {
     pub fn test_share(&mut self, found: &Found) -> Result<Next, Stop>
         ensures turn { (c : Call) (b h : History) → IsRun TreeAllows c.layout h → IsTry c b h self.old.limit self.old.tries
             → IsUntouched c b self.old.share → MayBeginTry E.means self.old (begun_at c b) h → IsQuietSince c.layout c.pass b h
-            → HasFilledNone c.pass h b → HasFoundGoal (E.means.goal self.old.edit) (begun_at c b) h found.now
+            → HasFilledNone c.pass h b → FoundBy (E.means.way self.old.edit) (E.means.goal self.old.edit) (begun_at c b) h found.now
             → UpdateGoesOn E.means c h self.new found.now result }
         ensures same { IsSameUpdate self.old self.new }
         ensures nearer { (nodes : ℕ) → ComesNearer E.means self.new found.now result nodes

@@ -8,6 +8,7 @@ use Rattle.template.specs.Walk.Places.{root_trail}
 use Rattle.template.specs.declared.walk.Found.{Found}
 use Rattle.template.specs.declared.walk.WalkAt.TheVariants.{Root, Start}
 use Rattle.template.specs.declared.walk.WalkRun.{WalkRun}
+use Rattle.template.specs.declared.walk.Way.TheVariants.{InTree}
 use Rattle.template.proofs.Lemmas.{walk_begins}
 use Rattle.dict.specs.DictKnown.{DictIsReady, DictWaits, DictAnswers}
 use Rattle.dict.specs.Typed.{IsTypedValue, TypedAllows}
@@ -58,7 +59,7 @@ module _ {K V : Type 0} (valid_key : K → Type 0) (key : K → ℕ) (valid_valu
       first = at (walk_at (ToKey wanted) root_trail Start);
       with_run = λ w. at w.0;
       tells = λ w h v run x. (c, x.1.1.0.0);
-      turns = λ old now h v s goes next run x. (x.0, (record { mode = x.1.0.mode; small = x.1.0.small; number = x.1.0.number; limit = tt; spent = x.1.0.spent }, ((next c x.1.1.0.0, goes.1 ∙ x.1.1.0.1, once_past now.0.at _ _ goes.0 x.1.1.0.2), x.1.1.1)));
+      turns = λ old now h v s goes next run x. (x.0, (record { mode = x.1.0.mode; small = x.1.0.small; number = x.1.0.number; limit = tt; spent = x.1.0.spent }, ((next c x.1.1.0.0, (goes.1.0 ∙ x.1.1.0.1.0, goes.1.1 ∙ x.1.1.0.1.1), once_past now.0.at _ _ goes.0 x.1.1.0.2), x.1.1.1)));
       stays = λ old now goes. (refl, refl, (omega arith, omega arith));
     }
 
@@ -70,8 +71,8 @@ module _ {K V : Type 0} (valid_key : K → Type 0) (key : K → ℕ) (valid_valu
       let first : DictRun K V = getting p.share tries wanted (walk_at (ToKey wanted) root_trail Start) in
       let c : Call = call_of p x (taken_of (pass_view p)) in
       starts allows ready waits same c p.seat.me.0.passes first (getting p.share tries wanted (walk_from (ToKey wanted))) _ (refl, refl, (omega arith, omega arith))
-      (λ h run r. (r.0, (record { mode = r.1.0.mode; small = r.1.0.small; number = r.1.0.number; limit = tt; spent = r.1.0.spent }, ((walk_begins (ToKey wanted) c h r.1.1.0.0.run r.1.1.0.0.small r.1.1.0.0.since, refl, none_tried Root _ _ r.1.1.0.2), r.1.1.1))))
-      (dict_starts valid_key key valid_value value_word p x first tt (refl, refl, refl, small) tt refl)
+      (λ h run r. (r.0, (record { mode = r.1.0.mode; small = r.1.0.small; number = r.1.0.number; limit = tt; spent = r.1.0.spent }, ((walk_begins InTree (ToKey wanted) c h r.1.1.0.0.run r.1.1.0.0.may r.1.1.0.0.small r.1.1.0.0.since, (refl, refl), none_tried Root _ _ r.1.1.0.2), r.1.1.1))))
+      (dict_starts valid_key key valid_value value_word p x first tt (refl, refl, (refl, refl), small) tt refl)
 
   -- the value of its word
   same_told : (told : Option ℕ) (v : Option V) → (IfSome told (IsWordOf valid_value value_word) → option_map value_word v ≡ told) → IsTypedValue (IsWordOf valid_value value_word) told → Some (OneValue (option_map value_word v)) ≡ Some (OneValue told)

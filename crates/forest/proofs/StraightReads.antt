@@ -267,7 +267,7 @@ module _ {M R A : Type 0} {o : Calls M} {means : ReadMeaning R A} (r : Reader o 
           let w = y.4.0 in
           let turned = last_turns now.0.at now.0.trail.node old.1 in
           subst (λ (t : LastTurns). o.waits (r.with_run (walking now.0 t)) r.call h s) (sym goes.2) (r.turns (walking old.0 old.1) (walking now.0 turned) h (Some v) s (itself means m) x
-          (walk_waits means m old.0 now.0 side old.1 r.call y.0 h y.1 y.2 w.key w.goal w.goes_to w.last goes.1 s goes.0 (next (begun_at r.call y.0) y.4.1)));
+          (walk_waits means m old.0 now.0 side old.1 r.call y.0 h y.1 y.2 w.key w.goal w.goes_to (goes.1.1 ∙ w.way) w.last goes.1.0 s goes.0 (next (begun_at r.call y.0) y.4.1)));
       stays = λ old now goes. r.stays (walking old.0 old.1) (walking now.0 now.1) (itself means m);
     }
 
@@ -275,7 +275,7 @@ module _ {M R A : Type 0} {o : Calls M} {means : ReadMeaning R A} (r : Reader o 
     pub walks : (ps : List SeatedPass) (old : ReadRun R) → IsSameRead means old m → m.tries ≡ old.tries → m.snaps.items ≡ [] → ReaderBegins r ps old → WalkerWaits walker ps (walk_from (ToKey key)) no_turns (load LoadSettled (node 0 (Settled HeadWord)))
     unfolding walker
     walks ps old is tries none x = told_on r ps old (walking (walk_from (ToKey key)) no_turns) None (Ask (load LoadSettled (node 0 (Settled HeadWord)))) is
-        (λ h run y. begins_walk means m old (walking (walk_from (ToKey key)) no_turns) r.call r.call.start h (Ask (load LoadSettled (node 0 (Settled HeadWord)))) is tries none y.2 y.0 (walk_from (ToKey key)) key side refl refl to refl refl) x
+        (λ h run y. begins_walk means m old (walking (walk_from (ToKey key)) no_turns) r.call r.call.start h (Ask (load LoadSettled (node 0 (Settled HeadWord)))) is tries none y.2 y.0 (walk_from (ToKey key)) key side refl refl refl to refl refl) x
 
     -- behind the leaf that it finds it looks at the last fork where it has turned to its side
     pub walk_looks : (ps : List SeatedPass) (f : Found) (turns : LastTurns) → WalkerFinds walker ps (ToKey key) turns f → ReaderWaits r ps m (LookNext (first_children side (turn_to side turns).0) 0 (turn_to side turns))

@@ -5,7 +5,7 @@ use Rattle.std.proofs.lemmas.Result.{err_from_is_err_and}
 use Rattle.histories.specs.Common.{Full, Layout, Turn, Ask, Done, NodeNo, LoadMarked, LoadSettled, LoadState, Settled, SettledPart, Head, High, Key, Value, Slot, Store}
 use Rattle.histories.specs.Common.{Fill as FillKind, NodeWord, Plan, Node as NodeOf, History, value, Call, IsRun, MatchTurn, begun_at, marked, node, state, ScxNo}
 use Rattle.help.specs.declared.state.HelpAt.TheVariants.{Commit as HelpCommit}
-use Rattle.template.specs.Common.{HelpRun, Done as ScxDone, ScxRun, HasFoundThere, load, IsSnapshot, LlxRun, Snap, TreeAllows, HasFoundGoal, WalkIsTold, walk_from, IsPastRoot, Goal, Update}
+use Rattle.template.specs.Common.{HelpRun, Done as ScxDone, ScxRun, HasFoundThere, load, IsSnapshot, LlxRun, Snap, TreeAllows, FoundBy, WalkIsTold, walk_from, IsPastRoot, Goal, Update}
 use Rattle.prims.specs.Scx.Steps.{scx_left}
 use Rattle.prims.specs.declared.scx.ScxAt.TheVariants.{Plan as AtPlan, Help}
 use Rattle.prims.proofs.Lemmas.{done_at}
@@ -27,6 +27,7 @@ use Rattle.template.specs.declared.walk.Found.{Found}
 use Rattle.template.specs.declared.walk.WalkAt.{WalkAt}
 use Rattle.template.specs.declared.walk.WalkAt.TheVariants.{Start as WalkStart, Root as WalkRoot}
 use Rattle.template.specs.declared.walk.WalkRun.{WalkRun}
+use Rattle.template.specs.declared.walk.Way.TheVariants.{InTree}
 use Rattle.template.proofs.Lemmas.{own_since, walk_begins}
 use Rattle.edits.specs.Edits.{EditMeaning}
 use Rattle.edits.specs.Known.{MayBeginTry, CanFill, CanLook, IsFilledUpTo, IsUntouched, Looks, Reads, UpdateAnswers, UpdateIsReady, UpdateWaits, UpdateTurn, Walks, done_at as done_with}
@@ -98,14 +99,14 @@ module _ {M E : Type 0} {o : Calls M} {e : EditMeaning E} (u : Updater o e) wher
         let y = u.tells (walking m old.0) h (Some v) x in
         let w = y.3.0 in
         u.turns (walking m old.0) (walking m now.0) h (Some v) s (moves m (Walk old.0) (Walk now.0) refl refl) x
-        (y.0, try_past u.call y.0 h m.limit m.tries now.0.at goes.0 y.1, y.2, (record { small = w.small; rests = w.rests; quiet = w.quiet; none_filled = w.none_filled; same = goes.1 ∙ w.same }, next (begun_at u.call y.0) y.3.1));
+        (y.0, try_past u.call y.0 h m.limit m.tries now.0.at goes.0 y.1, y.2, (record { small = w.small; rests = w.rests; quiet = w.quiet; none_filled = w.none_filled; may = w.may; same = goes.1.0 ∙ w.same; same_way = goes.1.1 ∙ w.same_way }, next (begun_at u.call y.0) y.3.1));
     stays = λ old now goes. u.stays (walking m old.0) (walking m now.0) (moves m (Walk old.0) (Walk now.0) refl refl);
   }
 
   -- an update that may begin begins its walk
-  pub walks : (ps : List SeatedPass) {A : Type 0} (m : UpdateRun E A) (goal : Goal) → goal ≡ e.goal m.edit → UpdaterBegins u ps m → WalkerWaits (walker m) ps (walk_from goal) no_turns (load LoadSettled (node 0 (Settled Head)))
+  pub walks : (ps : List SeatedPass) {A : Type 0} (m : UpdateRun E A) (goal : Goal) → goal ≡ e.goal m.edit → InTree ≡ e.way m.edit → UpdaterBegins u ps m → WalkerWaits (walker m) ps (walk_from goal) no_turns (load LoadSettled (node 0 (Settled Head)))
   unfolding walker
-  walks ps m goal is_goal x = record {
+  walks ps m goal is_goal is_way x = record {
     known = x.known;
     is = x.is;
     sound = x.sound;
@@ -122,8 +123,8 @@ module _ {M E : Type 0} {o : Calls M} {e : EditMeaning E} (u : Updater o e) wher
             r.1,
             inl r.2,
             (
-              record { small = b.small; rests = record { share = b.rests.share; over = b.rests.over }; quiet = quiet_at_start u.call.layout u.call.pass h (idle_if_finished u.call h b.run.1.lawful b.rests.over); none_filled = none_filled_yet u.call.pass h; same = is_goal },
-              walk_begins goal (begun_at u.call h) h b.run (rw is_goal b.small) (ends_self h),
+              record { small = b.small; rests = record { share = b.rests.share; over = b.rests.over }; quiet = quiet_at_start u.call.layout u.call.pass h (idle_if_finished u.call h b.run.1.lawful b.rests.over); none_filled = none_filled_yet u.call.pass h; may = b.may; same = is_goal; same_way = is_way },
+              walk_begins InTree goal (begun_at u.call h) h b.run (rw (is_goal, is_way) b.may) (rw is_goal b.small) (ends_self h),
             ),
           )
 
@@ -168,17 +169,17 @@ module _ {M E : Type 0} {o : Calls M} {e : EditMeaning E} (u : Updater o e) wher
     stops now stop (Done a) is fewer spent next x = record { known = x.known; is = x.is; sound = x.sound; so = record { old = x.so.old; got = x.so.got; was = x.so.was; goes = gone_behind x.so.old now now.tries now.tries is fewer spent x.so.tries x.so.goes; answers = next _ (u.runs _ x.sound) x.so.may; course = x.so.course } }
 
   -- after its walk it continues as its try does
-  pub finds : (ps : List SeatedPass) {A : Type 0} (m now : UpdateRun E A) (goal : Goal) (turn : LastTurns) (f : Found) (next : Result Next Stop) → goal ≡ e.goal m.edit → IsSameUpdate m now → now.tries ≡ m.tries → HasSpentForNext e m.share now f next (m.tries + 1) (m.tries + 1)
-      → ((b h : History) → IsRun TreeAllows u.call.layout h → IsTry u.call b h m.limit m.tries → IsUntouched u.call b m.share → MayBeginTry e m (begun_at u.call b) h → IsQuietSince u.call.layout u.call.pass b h → HasFilledNone u.call.pass h b → HasFoundGoal (e.goal m.edit) (begun_at u.call b) h f → UpdateGoesOn e u.call h now f next)
+  pub finds : (ps : List SeatedPass) {A : Type 0} (m now : UpdateRun E A) (goal : Goal) (turn : LastTurns) (f : Found) (next : Result Next Stop) → goal ≡ e.goal m.edit → InTree ≡ e.way m.edit → IsSameUpdate m now → now.tries ≡ m.tries → HasSpentForNext e m.share now f next (m.tries + 1) (m.tries + 1)
+      → ((b h : History) → IsRun TreeAllows u.call.layout h → IsTry u.call b h m.limit m.tries → IsUntouched u.call b m.share → MayBeginTry e m (begun_at u.call b) h → IsQuietSince u.call.layout u.call.pass b h → HasFilledNone u.call.pass h b → FoundBy (e.way m.edit) (e.goal m.edit) (begun_at u.call b) h f → UpdateGoesOn e u.call h now f next)
       → WalkerFinds (walker m) ps goal turn f → UpdaterGoesOn u ps now f next
   unfolding walker
-  finds ps m now goal turn f next is_goal is tries spent goes x =
-      goes_behind ps now f (walking m x.last) x.told next is tries spent x.so (goes y.0 _ (u.runs _ x.so.sound) y.1 y.2 record { run = w.1.run; small = w.0.small; since = own_since (begun_at u.call y.0) _ w.1.own; rests = record { share = w.0.rests.share; over = w.0.rests.over } } w.0.quiet w.0.none_filled (rw (← is_goal) (x.finds (begun_at u.call y.0) _ w.1)))
+  finds ps m now goal turn f next is_goal is_way is tries spent goes x =
+      goes_behind ps now f (walking m x.last) x.told next is tries spent x.so (goes y.0 _ (u.runs _ x.so.sound) y.1 y.2 record { run = w.1.run; small = w.0.small; may = w.0.may; since = own_since (begun_at u.call y.0) _ w.1.own; rests = record { share = w.0.rests.share; over = w.0.rests.over } } w.0.quiet w.0.none_filled (rw (← is_goal, ← is_way) (x.finds (begun_at u.call y.0) _ w.1)))
     where
       y : UpdateIsReady e (walking m x.last) u.call (history_of u.call.layout.mode x.so.known) (Some x.told)
       y = u.tells (walking m x.last) _ (Some x.told) x.so.so.0
 
-      w : Walks e (walking m x.last) (begun_at u.call y.0) (history_of u.call.layout.mode x.so.known) x.last.goal × WalkIsTold x.last (begun_at u.call y.0) (history_of u.call.layout.mode x.so.known) x.told
+      w : Walks e (walking m x.last) (begun_at u.call y.0) (history_of u.call.layout.mode x.so.known) x.last.way x.last.goal × WalkIsTold x.last (begun_at u.call y.0) (history_of u.call.layout.mode x.so.known) x.told
       w = y.3
 
   -- what it continues with is what its equal is
@@ -240,7 +241,7 @@ module _ {M E : Type 0} {o : Calls M} {e : EditMeaning E} (u : Updater o e) wher
       l = y.3.1
 
       can : CanLook e m (begun_at u.call y.0) h f
-      can = record { begins = record { run = l.run; small = l.looked.small; since = l.now; rests = record { share = l.rests.share; over = l.rests.over } }; quiet = l.quiet; looked = l.looked; asked = l.asked; room = l.room }
+      can = record { begins = record { run = l.run; small = l.looked.small; may = l.looked.may; since = l.now; rests = record { share = l.rests.share; over = l.rests.over } }; quiet = l.quiet; looked = l.looked; asked = l.asked; room = l.room }
 
       named : e.looks m.edit f m.snaps.items ≡ At snap.node
       named = l.named ∙ ap At (x.is_node ∙ sym x.of_node)

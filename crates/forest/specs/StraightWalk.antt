@@ -7,10 +7,15 @@ use Rattle.template.specs.declared.walk.Found.{Found}
 use Rattle.template.specs.declared.walk.Trail.{Trail}
 use Rattle.template.specs.declared.walk.WalkAt.TheVariants.{Child}
 use Rattle.template.specs.declared.walk.WalkRun.{WalkRun}
+use Rattle.template.specs.declared.walk.Way.TheVariants.{InTree}
 use Rattle.order.specs.declared.last_turns.LastTurns.{LastTurns}
 use Rattle.forest.specs.declared.view.SeatedPass.{SeatedPass}
 use Rattle.forest.specs.CallKinds.{Calls}
 use Rattle.forest.specs.Inside.{Inner, Inside, InnerIsTold, InnerWaits}
+
+-- the second walk goes to the same goal, by the same way
+abbrev pub GoesAs : WalkRun → WalkRun → Type 0
+GoesAs old now = (now.goal ≡ old.goal) × (now.way ≡ old.way)
 
 -- a walk in a call of its own, with the last forks where it has turned; it goes on past the root, to
 -- the same goal, and keeps a fork where it turns
@@ -19,7 +24,7 @@ inner_walk = record {
   Context = Call;
   told = λ d m h v. WalkIsTold m.0 d h v;
   waits = λ d m h s. WalkWaits m.0 d h s;
-  goes = λ old now. IsPastRoot now.0.at × (now.0.goal ≡ old.0.goal) × (now.1 ≡ last_turns now.0.at now.0.trail.node old.1);
+  goes = λ old now. IsPastRoot now.0.at × GoesAs old.0 now.0 × (now.1 ≡ last_turns now.0.at now.0.trail.node old.1);
 }
 
 -- a call of a machine that walks
@@ -49,6 +54,7 @@ module _ {M : Type 0} {o : Calls M} (w : Walker o) (ps : List SeatedPass) where
   pub record WalkerFinds (goal : Goal) (turn : LastTurns) (f : Found) : Type 0 where
     pub last : WalkRun
     pub is_goal : last.goal ≡ goal
+    pub is_way : last.way ≡ InTree
     pub told : ℕ
     pub finds : (d : Call) (h : History) → WalkIsTold last d h told → HasFoundGoal goal d h f
     pub so : WalkerIsTold last turn told

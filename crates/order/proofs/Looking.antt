@@ -11,7 +11,8 @@ use Rattle.prims.specs.Vlx.Known.{IsSame}
 use Rattle.prims.specs.declared.llx.LlxAt.TheVariants.{Start as LlxStart}
 use Rattle.ordered_map.proofs.Lemmas.{passed_unmarked, path_not_final, root_head, run_since, run_spells, stood_settled, walk_first, was_passed, settled_leaf, settled_toward}
 use Rattle.template.specs.declared.walk.Found.{Found}
-use Rattle.template.proofs.Lemmas.{own_since, opened_if_stood}
+use Rattle.ordered_map.proofs.MapLemmas.{tree_run}
+use Rattle.template.proofs.Lemmas.{in_tree, own_since, opened_if_stood}
 use Rattle.order.specs.Found.{GoesTo, IsReading, IsThere, Looks, Stands, WalksTo}
 use Rattle.order.specs.Known.{AreLastTurns, LastTurned, IsLastTurn, Validates}
 use Rattle.order.specs.Meaning.{ReadMeaning}
@@ -27,7 +28,7 @@ use Rattle.order.proofs.Snapping.{hold_before, some_more, reads_one_more, child_
 
 -- the root is a fork of class 2
 root_turned : (c : Call) (h : History) (k : ℕ) (f : Found) → IsTreeRun c.layout h → k < 2 ^ 64 → HasFoundLeaf c h k f → LastTurned c h k Left 0
-root_turned c h k f run small a = record { passed = record { first = a.trail.node.first; own = a.trail.node.own; passed = there }; fork = rw head refl; turn = rw (lt-ltb k (rank (value h) 0) high) refl }
+root_turned c h k f run small a = record { passed = record { first = a.trail.node.first; own = a.trail.node.own; passed = inl there }; fork = rw head refl; turn = rw (lt-ltb k (rank (value h) 0) high) refl }
   where
     head : value h (node 0 (Settled HeadWord)) ≡ 2
     head = root_head c.layout h run
@@ -37,7 +38,7 @@ root_turned c h k f run small a = record { passed = record { first = a.trail.nod
 
     there : Passed h a.trail.node.first k 0
     there =
-        let p = a.trail.node.passed in
+        let p = in_tree c.layout h a.trail.node.first k f.trail.node.0 run.0 a.trail.node.passed in
         let x : Passed p.0 p.0 k 0 = walk_first c.layout p.0 k (run_since c.layout h p.0 run p.1) in
         (x.0, ends_trans h p.0 x.0 p.1 x.1, ends_trans x.0 p.0 a.trail.node.first x.2 p.2, x.3)
 
@@ -54,7 +55,7 @@ last_turned c h k n Right f run small a last = go (ℕ_discrete n 0) last
 -- an LLX may begin at a node that has been in the tree
 pub look_ready : (c : Call) (h : History) (snaps : List Snap) (n : ℕ) (llx : LlxRun) → Reads c h snaps → HasStood c h n → llx.node.0 ≡ n → llx.at ≡ LlxStart → LlxIsReady TreeAllows llx (begun_at c h) h None
 look_ready c h snaps n llx reads stood is at = record {
-  opened = rw is (opened_if_stood c.layout h n reads.run stood.stood);
+  opened = rw is (opened_if_stood c.layout h n (tree_run c.layout h reads.run) stood.stood);
   since = ends_self h;
   quiet = quiet_at_start c.layout c.pass h (idle_if_finished c h reads.run.1.lawful reads.over);
   known = subst (LlxKnows (begun_at c h) h llx.node.0) (sym at) tt;
@@ -77,7 +78,7 @@ module _ {R A : Type 0} (means : ReadMeaning R A) (r : R) (snaps : List Snap) (c
   }
     where
       p : Passed h x.passed.first key n
-      p = x.passed.passed
+      p = in_tree c.layout h x.passed.first key n reading.reads.run.0 x.passed.passed
 
       stood : WasInTree h n
       stood = was_passed h x.passed.first key n p

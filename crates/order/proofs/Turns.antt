@@ -3,7 +3,7 @@ use Rattle.std.proofs.Common.{◌≡◌, ℕ, ◌+◌, ◌-◌, ◌*◌, ◌<◌
 use Rattle.histories.specs.Common.{Turn, Ask, Done, NodeNo, ScxNo, Step, LoadMarked, LoadSettled, Settled, Head as HeadWord, Side, marked, node, History, value, Extends, Call, IsRun, MatchTurn, begun_at}
 use Rattle.arena.specs.declared.word.Side.TheVariants as sides
 use Rattle.template.specs.Common.{load, IsSnapshot, LlxIsReady, LlxWaits, LlxAnswers, VlxIsReady, VlxWaits, VlxAnswers, vlx_left, Llx, Snapshot, Finalized, Fail, LlxAt, LlxRun, Snap}
-use Rattle.template.specs.Common.{Vlx, Same, Changed, TreeAllows, IsContended, path_key, HasFoundGoal, IsOwnMoment, WalkKnows, WalkIsReady, WalkWaits, IsPastRoot, Key as ToKey}
+use Rattle.template.specs.Common.{Vlx, Same, Changed, TreeAllows, IsContended, path_key, HasFoundGoal, FoundBy, IsOwnMoment, WalkKnows, WalkIsReady, WalkWaits, IsPastRoot, Key as ToKey}
 use Rattle.prims.specs.Vlx.Laws.{first_looked, looks_next}
 use Rattle.prims.specs.declared.llx.LlxAt.TheVariants.{Start as LlxStart, Marked}
 use Rattle.prims.proofs.Lemmas.{turn_first}
@@ -12,6 +12,8 @@ use Rattle.template.specs.declared.walk.Found.{Found}
 use Rattle.template.specs.declared.walk.WalkAt.{WalkAt}
 use Rattle.template.specs.declared.walk.WalkAt.TheVariants.{Start as WalkStart, Root as WalkRoot, Head as AtHead, Key as AtKey, Child, More as AtMore, Pair as AtPair, Value as AtValue, High as AtHigh}
 use Rattle.template.specs.declared.walk.WalkRun.{WalkRun}
+use Rattle.template.specs.declared.walk.Way.TheVariants.{InTree, Within}
+use Rattle.ordered_map.proofs.MapLemmas.{tree_run}
 use Rattle.order.specs.Found.{BeginsAtRoot, BeginsSo, IsReading, Looks, WalksTo}
 use Rattle.order.specs.Known.{AreLastTurns, LastTurned, IsLastTurn, IsSameRead, ReadAnswers, ReadGoes, ReadIsReady, ReadIsToldAt, ReadTurn, ReadWaits, RunStands, Validates, Walks, WalksInTry}
 use Rattle.order.specs.Laws.Kept.{root_there}
@@ -40,7 +42,7 @@ use Rattle.order.proofs.Looking.{look_ready, replies, validates, walk_found}
 module _ {R A : Type 0} (means : ReadMeaning R A) (m : ReadRun R) where
   -- Its walk
 
-  module _ (walk after : WalkRun) (side : Side) (turns : LastTurns) (c : Call) (begin h : History) (try : IsInTry c h begin m.limit m.tries) (goes : ReadGoes means m (begun_at c begin) h) (key : ℕ) (goal : walk.goal ≡ ToKey key) (to : WalksTo means m.read key side) (last : AreLastTurns (begun_at c begin) h key turns) (same : after.goal ≡ walk.goal) where
+  module _ (walk after : WalkRun) (side : Side) (turns : LastTurns) (c : Call) (begin h : History) (try : IsInTry c h begin m.limit m.tries) (goes : ReadGoes means m (begun_at c begin) h) (key : ℕ) (goal : walk.goal ≡ ToKey key) (to : WalksTo means m.read key side) (way : after.way ≡ InTree) (last : AreLastTurns (begun_at c begin) h key turns) (same : after.goal ≡ walk.goal) where
     abbrev Knows : WalkAt → Type 0
     Knows = WalkKnows (begun_at c begin) h after
 
@@ -78,25 +80,25 @@ module _ {R A : Type 0} (means : ReadMeaning R A) (m : ReadRun R) where
       begin,
       past (last_turns after.at after.trail.node turns) after.at p,
       goes,
-      (record { key = key; goal = same ∙ goal; goes_to = to; last = turned after.at waits.known }, waits),
+      (record { key = key; goal = same ∙ goal; way = way; goes_to = to; last = turned after.at waits.known }, waits),
     )
 
   -- after the leaf that it has found it looks at that fork
-  pub found_looks : (walk after : WalkRun) (side : Side) (turns : LastTurns) (c : Call) (h : History) (t : Turn Found) (f : Found) → ReadGoes means m c h → (key : ℕ) → walk.goal ≡ ToKey key → WalksTo means m.read key side → AreLastTurns c h key turns → after.goal ≡ walk.goal → t ≡ Done f → MatchTurn t (WalkWaits after c h) (WalkAnswers after c h) → Looks means m.read m.snaps.items c h (first_children side (turn_to side turns).0) 0 (turn_to side turns).0
-  found_looks walk after side turns c h t f goes key goal to last same done w = walk_found means m.read m.snaps.items c h goes key side turns f to last (subst (λ g. HasFoundGoal g c h f) (same ∙ goal) found)
+  pub found_looks : (walk after : WalkRun) (side : Side) (turns : LastTurns) (c : Call) (h : History) (t : Turn Found) (f : Found) → ReadGoes means m c h → (key : ℕ) → walk.goal ≡ ToKey key → after.way ≡ InTree → WalksTo means m.read key side → AreLastTurns c h key turns → after.goal ≡ walk.goal → t ≡ Done f → MatchTurn t (WalkWaits after c h) (WalkAnswers after c h) → Looks means m.read m.snaps.items c h (first_children side (turn_to side turns).0) 0 (turn_to side turns).0
+  found_looks walk after side turns c h t f goes key goal way to last same done w = walk_found means m.read m.snaps.items c h goes key side turns f to last (subst (λ g. HasFoundGoal g c h f) (same ∙ goal) found)
     where
       found : HasFoundGoal after.goal c h f
-      found = rw done at w
+      found = subst (λ by. FoundBy by after.goal c h f) way (rw done at w)
 
   -- it begins with the load of the root's head, as it walks
-  pub walks_first : (walk : WalkRun) (c : Call) (begin h : History) → BeginsTry c h m.limit m.tries → m.snaps.items ≡ [] → ReadGoes means m (begun_at c begin) h → (key : ℕ) (side : Side) → walk.goal ≡ ToKey key → walk.trail.node.0 ≡ 0 → WalksTo means m.read key side → ReadWaits means (record m { at = Walk (record walk { at = WalkRoot }) side no_turns }) c h (load LoadSettled (node 0 (Settled HeadWord)))
-  walks_first walk c begin h try none goes key side goal root to = (
+  pub walks_first : (walk : WalkRun) (c : Call) (begin h : History) → BeginsTry c h m.limit m.tries → m.snaps.items ≡ [] → ReadGoes means m (begun_at c begin) h → (key : ℕ) (side : Side) → walk.goal ≡ ToKey key → walk.way ≡ InTree → walk.trail.node.0 ≡ 0 → WalksTo means m.read key side → ReadWaits means (record m { at = Walk (record walk { at = WalkRoot }) side no_turns }) c h (load LoadSettled (node 0 (Settled HeadWord)))
+  walks_first walk c begin h try none goes key side goal way root to = (
     begin,
     ((try, none, to.waits), refl),
     goes,
     (
-      record { key = key; goal = goal; goes_to = to; last = no_turn (begun_at c begin) h key },
-      record { run = goes.reads.run; small = rw goal (to.small goes.suits); since = goes.reads.since; known = root; asked = ap (λ n. load LoadSettled (node n (Settled HeadWord))) (sym root) },
+      record { key = key; goal = goal; way = way; goes_to = to; last = no_turn (begun_at c begin) h key },
+      record { run = tree_run c.layout h goes.reads.run; may = rw way goes.reads.run.0; small = rw goal (to.small goes.suits); since = goes.reads.since; known = root; sure = λ within. absurd (let d : InTree ≡ Within = sym way ∙ within in cc); asked = ap (λ n. load LoadSettled (node n (Settled HeadWord))) (sym root) },
     ),
   )
 
@@ -121,8 +123,8 @@ module _ {R A : Type 0} (means : ReadMeaning R A) (m : ReadRun R) where
     try_now : BeginsTry c h m.limit m.tries
     try_now = rw (same.1, tries) try
 
-    pub begins_walk : (walk : WalkRun) (key : ℕ) (side : Side) → walk.goal ≡ ToKey key → walk.trail.node.0 ≡ 0 → WalksTo means m.read key side → now ≡ record m { at = Walk (record walk { at = WalkRoot }) side no_turns } → turn ≡ Ask (load LoadSettled (node 0 (Settled HeadWord))) → ReadTurn means c h now turn
-    begins_walk walk key side goal root to is asked = rw (asked, is) (walks_first walk c begin h try_now none (goes_again old (begun_at c begin) h same none goes) key side goal root to)
+    pub begins_walk : (walk : WalkRun) (key : ℕ) (side : Side) → walk.goal ≡ ToKey key → walk.way ≡ InTree → walk.trail.node.0 ≡ 0 → WalksTo means m.read key side → now ≡ record m { at = Walk (record walk { at = WalkRoot }) side no_turns } → turn ≡ Ask (load LoadSettled (node 0 (Settled HeadWord))) → ReadTurn means c h now turn
+    begins_walk walk key side goal way root to is asked = rw (asked, is) (walks_first walk c begin h try_now none (goes_again old (begun_at c begin) h same none goes) key side goal way root to)
 
     pub begins_root : BeginsAtRoot means m.read → now ≡ record m { at = Root } → turn ≡ Ask (load LoadSettled (node 0 (Settled HeadWord))) → ReadTurn means c h now turn
     begins_root x is asked = rw (asked, is) (roots_first c begin h try_now none (goes_again old (begun_at c begin) h same none goes) x)
@@ -138,8 +140,8 @@ module _ {R A : Type 0} (means : ReadMeaning R A) (m : ReadRun R) where
     all_same : tries_left means m nodes ≡ tries_left means old nodes
     all_same = λ i. tries i * means.try_left (same.0 i) nodes
 
-    pub walk_nearer : (walk : WalkRun) (side : Side) (turns : LastTurns) (key : ℕ) → now ≡ record m { at = Walk (record walk { at = WalkRoot }) side turns } → BeginsNear means m.read nodes (begins.Walk key side) → ReadIsNearer means now nodes turn (tries_left means old nodes + run_try_left means old nodes)
-    walk_nearer walk side turns key is near = let e = ap length none in let each = each_same in let all = all_same in rw (asked, is) (omega (arith, e, near, each, all))
+    pub walk_nearer : (walk : WalkRun) (side : Side) (turns : LastTurns) (key : ℕ) → walk.way ≡ InTree → now ≡ record m { at = Walk (record walk { at = WalkRoot }) side turns } → BeginsNear means m.read nodes (begins.Walk key side) → ReadIsNearer means now nodes turn (tries_left means old nodes + run_try_left means old nodes)
+    walk_nearer walk side turns key way is near = let e = ap length none in let each = each_same in let all = all_same in rw (asked, is, way) (omega (arith, e, near, each, all))
 
     pub root_nearer : now ≡ record m { at = Root } → BeginsNear means m.read nodes begins.Root → ReadIsNearer means now nodes turn (tries_left means old nodes + run_try_left means old nodes)
     root_nearer is near = let e = ap length none in let each = each_same in let all = all_same in rw (asked, is) (omega (arith, e, near, each, all))

@@ -6,6 +6,7 @@ use Rattle.template.specs.Common.{IsContended, HasLostTriesTo, IsOwnMoment, WasP
 use Rattle.template.specs.declared.walk.WalkAt.{WalkAt}
 use Rattle.template.specs.declared.walk.WalkAt.TheVariants as walks
 use Rattle.template.specs.declared.walk.WalkRun.{WalkRun}
+use Rattle.template.specs.declared.walk.Way.TheVariants.{InTree}
 use Rattle.order.specs.Found.{IsReading, IsRightAt, Looks, Stands, WalksTo}
 use Rattle.order.specs.Loads.{load_value, load_word}
 use Rattle.order.specs.Meaning.{ReadMeaning}
@@ -42,6 +43,7 @@ module _ {R A : Type 0} (means : ReadMeaning R A) where
   pub record Walks (r : R) (c : Call) (h : History) (walk : WalkRun) (side : Side) (turns : LastTurns) : Type 0 where
     pub key : ℕ
     pub goal : walk.goal ≡ ToKey key
+    pub way : walk.way ≡ InTree
     pub goes_to : WalksTo means r key side
     pub last : AreLastTurns c h key turns
 

@@ -12,7 +12,7 @@ use arena::{
 };
 use prims::{Llx, LlxAt, LlxRun, Snap, Vlx, VlxRun};
 use std::alloc::Global;
-use template::{Goal, Tree, WalkAt, WalkRun};
+use template::{Goal, Tree, WalkAt, WalkRun, Way};
 
 /// The step that a read has asked for.
 #[derive(Clone, Copy, Debug, PartialEq, Eq)]
@@ -70,7 +70,7 @@ impl<R: Read + Drop> ReadRun<R> {
     ghost use Rattle.ordered_map.specs.TreeShape.{TreeAllows};
     ghost use Rattle.template.specs.Blame.{IsContended};
     ghost use Rattle.template.specs.Walk.Known.{WalkIsReady};
-    ghost use Rattle.template.specs.Walk.Steps.{walk_left, WalkFits};
+    ghost use Rattle.template.specs.Walk.Steps.{steps_left, WalkFits};
     ghost use Rattle.template.specs.Trails.{IsOwnMoment};
     ghost use Rattle.order.specs.Found.{BeginsSo, WalksTo, IsReading, Looks};
     ghost use Rattle.order.specs.Known.{AreLastTurns, IsSameRead, ReadIsReady, ReadTurn, Validates};
@@ -181,13 +181,13 @@ impl<R: Read + Drop> ReadRun<R> {
     ) -> Turn<Result<R::Answer, Refused>>
         ensures turn { (c : Call) (begin h : History) (key v : ℕ) → got ≡ Some v → IsInTry c h begin self.old.limit self.old.tries
             → IsReading R.means self.old.read self.old.snaps.items (begun_at c begin) h → walk.goal ≡ Goal.Key key
-            → WalksTo R.means self.old.read key side → AreLastTurns (begun_at c begin) h key turns
+            → walk.way ≡ Way.InTree → WalksTo R.means self.old.read key side → AreLastTurns (begun_at c begin) h key turns
             → WalkIsReady walk (begun_at c begin) h (Some v) → ReadTurn R.means c h self.new result }
         ensures same { IsSameRead R.means self.old self.new }
         ensures nearer { (nodes : ℕ) → WalkFits walk got nodes
             → ReadIsNearer R.means self.new nodes result
             (tries_left R.means self.old nodes
-            + (walk_left walk.at nodes + length self.old.snaps.items + path_left nodes + R.means.behind self.old.read nodes)) }
+            + (steps_left walk nodes + length self.old.snaps.items + path_left nodes + R.means.behind self.old.read nodes)) }
         ensures tries { self.new.tries ≡ self.old.tries }
     {
         match Machine::<Tree>::next(&mut walk, got) {

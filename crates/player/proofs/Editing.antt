@@ -1,13 +1,14 @@
 -- A call of the map that runs: what its SCX-record in progress says, and the word `call` that it
 -- fills.
-use Rattle.std.proofs.Common.{◌≡◌, ℕ, ◌<◌, inr, List, Option, Some, None, refl, sym, ◌∙◌, ap, subst, arith}
-use Rattle.histories.specs.Common.{Layout, Row, Step, Fill as FillKind, LoadSettled, ScxWord, Word, scx as scx_word, word_after, History, ◌⊳◌}
+use Rattle.std.proofs.Common.{◌≡◌, ℕ, ◌<◌, inr, ⊎_elim, List, Option, Some, None, refl, sym, ◌∙◌, ap, subst, arith}
+use Rattle.arena.specs.declared.limits.Mode.TheVariants.{Trie}
+use Rattle.histories.specs.Common.{Tree, Layout, Row, Step, Fill as FillKind, LoadSettled, ScxWord, Word, scx as scx_word, word_after, History, ◌⊳◌}
 use Rattle.histories.specs.Common.{value, Extends, IsInProgress, count_of, IsOwnScx, IsNamedScx, Lawful, IsWin, Call as MachineCall, begun_at}
 use Rattle.arena.specs.declared.word.ScxWord.TheVariants.{Call as CallWord}
 use Rattle.arena.proofs.Lemmas.{ends_self}
 use Rattle.help.specs.Laws.Help.Lawful.{help_fills_not}
 use Rattle.histories.proofs.Lemmas.{node_since}
-use Rattle.template.specs.Common.{AllowsAll, Job, job_of, ScxWaitsAt, PutRun, ScxAt, ScxRun as ScxMachine, Snap, goal_told, asked_in, asked_key, path_key, HasFoundGoal, Tracks}
+use Rattle.template.specs.Common.{AllowsAll, Job, job_of, ScxWaitsAt, PutRun, ScxAt, ScxRun as ScxMachine, Snap, goal_told, asked_in, asked_key, path_key, HasFoundGoal, FoundBy, Tracks}
 use Rattle.prims.specs.Put.Known.{PutWaitsAt}
 use Rattle.prims.specs.Scx.Known.{HasFilled, part_at, fill_step}
 use Rattle.prims.specs.declared.put.PutAt.{PutAt}
@@ -23,11 +24,12 @@ use Rattle.order.specs.Laws.Run.{read_fills_not}
 use Rattle.record.specs.Common.{Pair, Edit, MapEdit, OneValue, edit_key, edit_of, get, pair_or_none, reply, IsTreeRun, Makes}
 use Rattle.record.specs.Common.{Spells, TreeAllows, said, Goal, Key as ToKey, End, Command, Scx as ScxOf, Set as SetOf}
 use Rattle.ordered_map.specs.Runs.{IsEditAt}
-use Rattle.ordered_map.proofs.Lemmas.{SameSettled, run_since, settled_said, walk_named, win_makes}
-use Rattle.template.proofs.Lemmas.{walk_fills_not}
+use Rattle.ordered_map.proofs.Lemmas.{SameSettled, run_since, settled_said, win_makes}
+use Rattle.ordered_map.proofs.MapLemmas.{tree_run}
+use Rattle.template.proofs.Lemmas.{found_either, passed_named, walk_fills_not}
 use Rattle.template.specs.declared.walk.Found.{Found}
 use Rattle.edits.specs.Edits.{EditMeaning}
-use Rattle.edits.specs.Known.{CoversLeaf, Scxs, ToldEnd, Tries, UpdateWaitsAt}
+use Rattle.edits.specs.Known.{covered, CoversLeaf, Scxs, ToldEnd, Tries, UpdateWaitsAt}
 use Rattle.edits.specs.Laws.Entered.{only_joined}
 use Rattle.edits.specs.Laws.Kept.{idle_rests}
 use Rattle.edits.specs.Sound.{IsAtFound}
@@ -96,11 +98,11 @@ module _ {E : Type 0} (means : EditMeaning E) (m : UpdateRun E UpdateAt) where
     tells : TellsAtWin found call.layout h t
 
   -- that leaf says what the map has at the key
-  leaf_value : IsAtFound means → (c : MachineCall) (f : Found) (begin h : History) (row : Row) (s : ℕ) (snaps : List Snap) → IsTreeRun c.layout (row ⊳ h) → Extends h begin → IsWin h row s → Makes c.layout h s (means.edit m.edit f) → HasFoundGoal (means.goal m.edit) c begin f → CoversLeaf means m.edit f c begin s snaps → CoversSnaps h s snaps
+  leaf_value : IsAtFound means → (c : MachineCall) (f : Found) (begin h : History) (row : Row) (s : ℕ) (snaps : List Snap) → IsTreeRun c.layout (row ⊳ h) → Extends h begin → IsWin h row s → Makes c.layout h s (means.edit m.edit f) → FoundBy (means.way m.edit) (means.goal m.edit) c begin f → CoversLeaf means m.edit f c begin s snaps → CoversSnaps h s snaps
       → (map : List Pair) → Spells c.layout (value h) map → get (edit_key (means.edit m.edit f)) map ≡ f.value
-  leaf_value at_found c f begin h row s snaps now since won makes found covers_leaf covers_snaps map spells =
+  leaf_value at_found c f begin h row s snaps now since won makes walked covers_leaf covers_snaps map spells =
       edits.replies map spells
-      ∙ ap (λ (n : ℕ). said (value h) key n) (covers_leaf h then since covers_snaps makes)
+      ∙ ap (λ (n : ℕ). said (value h) key n) (covers_leaf h (tree_run c.layout h then) since covers_snaps makes ∙ is_covered)
       ∙ settled_said (value begin) (value h) key f.trail.node.0 settled
       ∙ ap (λ (k : ℕ). said (value begin) k f.trail.node.0) (at_found m.edit f ∙ asked_still (means.goal m.edit) (value begin) f.trail.node.0 f.key found.key)
       ∙ sym found.says
@@ -108,11 +110,18 @@ module _ {E : Type 0} (means : EditMeaning E) (m : UpdateRun E UpdateAt) where
       key : ℕ
       key = edit_key (means.edit m.edit f)
 
+      -- in a tree it is a leaf
+      found : HasFoundGoal (means.goal m.edit) c begin f
+      found = ⊎_elim (λ x. x) (λ x. absurd (let y : Tree ≡ Trie = sym now.0 ∙ x.trie in cc)) (found_either (means.way m.edit) (means.goal m.edit) c begin f walked)
+
+      is_covered : covered f ≡ f.trail.node.0
+      is_covered = rw (sym (ap (λ w. w.leaf) found.head) ∙ found.leaf) refl
+
       then : IsTreeRun c.layout h
       then = run_since c.layout (row ⊳ h) h now (inr (ends_self h))
 
       settled : SameSettled (value begin) (value h) f.trail.node.0
-      settled part i = node_since c.layout h begin f.trail.node.0 part then.1.lawful since i (walk_named c.layout begin found.trail.node.first (path_key (means.goal m.edit)) f.trail.node.0 (run_since c.layout h begin then since) found.trail.node.passed)
+      settled part i = node_since c.layout h begin f.trail.node.0 part then.1.lawful since i (passed_named c begin (path_key (means.goal m.edit)) f.trail.node.0 (tree_run c.layout begin (run_since c.layout h begin then since)) found.trail.node)
 
       edits : IsEditAt c.layout h row s (means.edit m.edit f)
       edits = win_makes c.layout (row ⊳ h) h row s (means.edit m.edit f) now (ends_self (row ⊳ h)) won record { row = makes.row; before = makes.before; within = inr makes.within; begins = makes.begins; edit = makes.edit }
@@ -128,7 +137,7 @@ module _ {E : Type 0} (means : EditMeaning E) (m : UpdateRun E UpdateAt) where
     tells_at : (b begin : History) (f : Found) (scx : ScxMachine) → Scxs means m (begun_at call b) h f scx begin → HasFilled (begun_at (begun_at call b) begin) h scx.scx.0 scx.call scx.update → Makes call.layout h scx.scx.0 (means.edit m.edit f) → TellsAtWin f call.layout h scx.scx.0
     tells_at b begin f scx x filled makes = record {
       value_is = λ row now won map spells. leaf_value at_found (begun_at call b) f begin h row scx.scx.0 scx.update.snaps now filled.way.begun.since won makes x.found x.leaf covers map spells;
-      end_is = λ row now won. told_end means m.edit (begun_at call b) f begin h row scx.scx.0 scx.update.snaps now filled.way.begun.since won makes x.found x.leaf covers;
+      end_is = λ row now won. told_end means m.edit (begun_at call b) f begin h row scx.scx.0 scx.update.snaps (tree_run call.layout (row ⊳ h) now) filled.way.begun.since won makes x.found x.leaf covers;
     }
       where
         covers : CoversSnaps h scx.scx.0 scx.update.snaps

@@ -1,19 +1,21 @@
 -- What a delete has filled makes its edit, whatever rows come until its SCX-record begins.
 use Rattle.std.proofs.Common.{◌≡◌, ◌≢◌, ℕ, zero, suc, ◌<◌, ◌^◌, false, inl, Some, None, List, [], ◌∷◌, refl, sym, ◌∙◌, ap, arith, subst, eq-eqb, ne_eqb}
 use native.Mathlib.Decide.{ℕ_discrete}
-use Rattle.arena.specs.declared.limits.Mode.TheVariants.{Trie as TrieMode}
-use Rattle.histories.specs.Common.{Tree as TreeMode, First, Side, Left, Right, child, History, value, IsNamed, Call, Descriptor}
-use Rattle.template.specs.Common.{child_of, Snap, Delete, delete, get, WasOnPath, IsTreeRun, join_plan, sibling_place, class, is_leaf}
+use Rattle.histories.specs.Common.{First, Side, Left, Right, child, History, value, IsNamed, Call, Descriptor}
+use Rattle.template.specs.Common.{child_of, Snap, Delete, delete, get, WasOnPath, IsMapRun, join_plan, sibling_place, class, is_leaf}
 use Rattle.template.specs.Common.{toward, pair_in, held_pairs, HasFoundLeaf, IsPromised, IsFresh, HasTurned, Pair, Key as ToKey}
 use Rattle.prims.specs.Laws.Linked.{in_field_named}
 use Rattle.ordered_map.specs.Edits.{IsJoinBy}
 use Rattle.ordered_map.specs.TreeShape.{leaf_place}
-use Rattle.ordered_map.proofs.Lemmas.{walk_named, held_alone, low_pairs}
-use Rattle.template.specs.FreshNodes.{IsJoinAt, HasFreshCopy}
+use Rattle.ordered_map.proofs.Lemmas.{held_alone, low_pairs}
+use Rattle.template.specs.FreshNodes.{IsJoinAt, HasFreshCopy, FitsThere}
+use Rattle.template.specs.Trails.{IsSurelyOn}
+use Rattle.ordered_map.specs.TrieShape.{Stays, FitsTrie}
 use Rattle.template.specs.Promises.{IsSnapOf, WillTakeOut}
 use Rattle.template.specs.declared.walk.Found.{Found}
 use Rattle.template.proofs.Promised.{taken_out_promised}
-use Rattle.template.proofs.WalkBounds.{said_low, found_below}
+use Rattle.template.proofs.Inserting.{grand_surely, on_path}
+use Rattle.template.proofs.WalkBounds.{said_low, found_below, passed_named}
 
 -- without its only key nothing is left of a list
 only_taken : (k old : ℕ) (p : Pair) (ps : List Pair) → ps ≡ p ∷ [] → get k ps ≡ Some old → delete k ps ≡ []
@@ -24,9 +26,9 @@ only_taken k old p ps one there = ap (delete k) one ∙ go (ℕ_discrete k p.key
     go (no d) = absurd (let z : None ≡ Some old = sym (ap (get k) one ∙ rw (ne_eqb k p.key d) refl) ∙ there in cc)
 
 module _ (c : Call) (h : History) (k old : ℕ) (f : Found) (d : Descriptor) (above sibling : Snap) (n : ℕ)
-    (run : IsTreeRun c.layout h) (small : k < 2 ^ 64) (a : HasFoundLeaf c h k f) (found : f.value ≡ Some old) (alone : f.more ≡ 0)
+    (run : IsMapRun c.layout h) (small : k < 2 ^ 64) (a : HasFoundLeaf c h k f) (found : f.value ≡ Some old) (alone : f.more ≡ 0)
     (i : IsJoinAt f d above n) (above_is : IsSnapOf c.layout h d 1 above) (same : (child_of above f.trail.side).0 ≡ f.trail.node.0)
-    (sibling_is : IsSnapOf c.layout h d (sibling_place f.trail.side) sibling) (w : HasFreshCopy c.layout c.pass h sibling n) where
+    (sibling_is : IsSnapOf c.layout h d (sibling_place f.trail.side) sibling) (w : HasFreshCopy c.layout c.pass h sibling n) (fits : FitsThere c.layout h f.trail.grand.0 f.trail.grand_side n) where
   low : class (value h) f.trail.node.0 ≡ 0
   low = said_low (value h) k f.trail.node.0 old (sym found ∙ a.says)
 
@@ -40,6 +42,12 @@ module _ (c : Call) (h : History) (k old : ℕ) (f : Found) (d : Descriptor) (ab
   grand : HasTurned c h k f.trail.grand.0 f.trail.grand_side f.trail.parent.0
   grand = a.trail.grand below (λ z. a.trail.high below z a.leaf low)
 
+  surely : IsSurelyOn c h k f.trail.grand.0
+  surely = grand_surely c h k f small run a (λ none. let x : None ≡ Some old = sym none ∙ found in cc) (λ z. a.trail.high below z a.leaf low)
+
+  turn : toward (value h) (d.member 0) k ≡ f.trail.grand_side
+  turn = subst (λ m. toward (value h) m k ≡ f.trail.grand_side) (sym i.grand) grand.side_is
+
   leaf_at : d.member (leaf_place f.trail.side) ≡ f.trail.node.0
   leaf_at = go f.trail.side same
     where
@@ -49,14 +57,14 @@ module _ (c : Call) (h : History) (k old : ℕ) (f : Found) (d : Descriptor) (ab
 
   named : (j : ℕ) → j < 4 → IsNamed c.layout h (d.member j)
   named = go f.trail.side
-      (subst (IsNamed c.layout h) (sym leaf_at) (walk_named c.layout h a.trail.node.first k f.trail.node.0 run a.trail.node.passed))
+      (subst (IsNamed c.layout h) (sym leaf_at) (passed_named c h k f.trail.node.0 run a.trail.node))
       (subst (IsNamed c.layout h) sibling_is.node (in_field_named sibling.node.0 sibling_is.linked.in_field))
     where
       top : IsNamed c.layout h (d.member 0)
-      top = subst (IsNamed c.layout h) (sym i.grand) (walk_named c.layout h grand.passed.first k f.trail.grand.0 run grand.passed.passed)
+      top = subst (IsNamed c.layout h) (sym i.grand) (passed_named c h k f.trail.grand.0 run grand.passed)
 
       next : IsNamed c.layout h (d.member 1)
-      next = subst (IsNamed c.layout h) (sym i.parent) (walk_named c.layout h parent.passed.first k f.trail.parent.0 run parent.passed.passed)
+      next = subst (IsNamed c.layout h) (sym i.parent) (passed_named c h k f.trail.parent.0 run parent.passed)
 
       go : (side : Side) → IsNamed c.layout h (d.member (leaf_place side)) → IsNamed c.layout h (d.member (sibling_place side)) → (j : ℕ) → j < 4 → IsNamed c.layout h (d.member j)
       go side x y zero few = top
@@ -80,12 +88,12 @@ module _ (c : Call) (h : History) (k old : ℕ) (f : Found) (d : Descriptor) (ab
 
   will_take_out : WillTakeOut c.layout c.pass h d (Delete k) f.trail.side
   will_take_out = record {
-    stays = inl run.0;
-    fits = λ trie. absurd (let x : TreeMode ≡ TrieMode = sym run.0 ∙ trie in cc);
+    stays = subst (Stays c.layout (value h) k) (sym i.grand) surely.stays;
+    fits = λ trie. subst (λ z. FitsTrie (value h) (d.member 0) z d.new) (sym turn) (subst (λ z. FitsTrie (value h) z f.trail.grand_side d.new) (sym i.grand) (subst (FitsTrie (value h) f.trail.grand.0 f.trail.grand_side) (sym i.new) (fits trie)));
     small = small;
-    path = let p = grand.passed.passed in subst (WasOnPath h k) (sym i.grand) (p.0, p.1, p.3);
+    path = subst (WasOnPath h k) (sym i.grand) (on_path c h k f.trail.grand.0 surely);
     fork = subst (λ m. is_leaf (value h) m ≡ false) (sym i.grand) grand.fork;
-    plan = i.plan ∙ ap join_plan (sym (subst (λ m. toward (value h) m k ≡ f.trail.grand_side) (sym i.grand) grand.side_is));
+    plan = i.plan ∙ ap join_plan (sym turn);
     old = i.old ∙ sym i.parent;
     side_is = subst (λ m. toward (value h) m k ≡ f.trail.side) (sym i.parent) parent.side_is;
     named = named;
@@ -105,5 +113,5 @@ module _ (c : Call) (h : History) (k old : ℕ) (f : Found) (d : Descriptor) (ab
 
 -- An SCX-record that puts a fresh copy of the sibling of the key's leaf, which has no other pair,
 -- into the place of their parent deletes the key.
-pub join_promised : (c : Call) (h : History) (s k old : ℕ) (f : Found) (d : Descriptor) (above sibling : Snap) (n : ℕ) → IsTreeRun c.layout h → k < 2 ^ 64 → HasFoundLeaf c h k f → f.value ≡ Some old → f.more ≡ 0 → IsJoinAt f d above n → IsSnapOf c.layout h d 1 above → (child_of above f.trail.side).0 ≡ f.trail.node.0 → IsSnapOf c.layout h d (sibling_place f.trail.side) sibling → HasFreshCopy c.layout c.pass h sibling n → IsPromised c.layout c.pass h s d (Delete k)
-join_promised c h s k old f d above sibling n run small a found alone i above_is same sibling_is w = taken_out_promised c.layout c.pass s h d (Delete k) f.trail.side c.is_pass (will_take_out c h k old f d above sibling n run small a found alone i above_is same sibling_is w)
+pub join_promised : (c : Call) (h : History) (s k old : ℕ) (f : Found) (d : Descriptor) (above sibling : Snap) (n : ℕ) → IsMapRun c.layout h → k < 2 ^ 64 → HasFoundLeaf c h k f → f.value ≡ Some old → f.more ≡ 0 → IsJoinAt f d above n → IsSnapOf c.layout h d 1 above → (child_of above f.trail.side).0 ≡ f.trail.node.0 → IsSnapOf c.layout h d (sibling_place f.trail.side) sibling → HasFreshCopy c.layout c.pass h sibling n → FitsThere c.layout h f.trail.grand.0 f.trail.grand_side n → IsPromised c.layout c.pass h s d (Delete k)
+join_promised c h s k old f d above sibling n run small a found alone i above_is same sibling_is w fits = taken_out_promised c.layout c.pass s h d (Delete k) f.trail.side c.is_pass (will_take_out c h k old f d above sibling n run small a found alone i above_is same sibling_is w fits)

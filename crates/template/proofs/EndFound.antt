@@ -3,14 +3,15 @@
 use Rattle.std.proofs.Common.{Bool, true, false, cond, eqb, ◌≡◌, ◌≢◌, ◌⊎◌, inl, inr, ℕ, ◌<◌, ◌≤◌, ◌^◌, eq-eqb, ne_eqb, lt-ltb, le-ltb, [], refl, sym, ◌∙◌, ap, arith, subst, Some, None}
 use Rattle.std.specs.Option.{option_map}
 use native.Mathlib.Decide.{ℕ_discrete}
-use Rattle.histories.specs.Common.{Settled, More, Key, Side, Left, Right, Slot, Word, node, child, History, value, Extends, Call}
-use Rattle.histories.proofs.Lemmas.{node_since}
-use Rattle.template.specs.Common.{IsWellCounted, end_slot, held_pairs, pair_in, AllBelow, IsRising, pair, get, end_pair, Passed, IsTreeRun, class, is_leaf}
+use Rattle.histories.specs.Common.{Tree as TreeMode, Settled, More, Key, Side, Left, Right, Slot, Word, node, child, History, value, Extends, Call}
+use Rattle.template.specs.Common.{IsWellCounted, end_slot, held_pairs, pair_in, AllBelow, IsRising, pair, get, end_pair, Passed, IsMapRun, class, is_leaf}
 use Rattle.template.specs.Common.{rank, toward, said, path_key, asked_in, HasFoundGoal, HasFoundLeaf, end_told, WasPassed, HasTurned, Goal, Key as ToKey, End}
 use Rattle.ordered_map.specs.MapLaws.{IsEndmost}
 use Rattle.ordered_map.specs.Paths.{IsEndAt, end_key, end_turn}
 use Rattle.ordered_map.specs.TreeWords.{leaf_pairs, end_said}
-use Rattle.ordered_map.proofs.Lemmas.{IsBeside, IsUpTo, beside_same, run_since, split_at, end_up, end_small, end_is, walk_holds, walk_beside, walk_turns, walk_end, walk_named, walk_next, walk_own, SameSettled, held_end, low_pairs, high_pairs, settled_rank, settled_leaf, settled_toward}
+use Rattle.ordered_map.proofs.Lemmas.{IsBeside, IsUpTo, beside_same, split_at, end_up, end_small, end_is, was_passed, SameSettled, held_end, low_pairs, high_pairs, settled_rank, settled_leaf, settled_toward}
+use Rattle.ordered_map.proofs.MapLemmas.{run_since, stood_holds, stood_settled, walk_beside, walk_turns, walk_end, walk_next, walk_own, walked_stood}
+use Rattle.template.proofs.WalkTurns.{in_tree}
 use Rattle.template.specs.declared.walk.Found.{Found}
 
 -- the key k is on the side of a fork of this rank to which the search for the key at the end goes
@@ -31,28 +32,29 @@ within_toward Right f n k x = go (split_at (rank f n) (2 ^ 64))
     go (inr high) = let small = x.0 in rw (lt-ltb k (rank f n) (omega (arith, small, high)), lt-ltb (end_key Right) (rank f n) (omega (arith, high))) refl
 
 -- what was passed on the way to an end was passed on the way to each key between
-own_passed : (end : Side) (c : Call) (h : History) (k n : ℕ) → IsTreeRun c.layout h → WasPassed c h (end_key end) n → IsUpTo end k (rank (value h) n) → WasPassed c h k n
-own_passed end c h k n run x up = record { first = x.first; own = x.own; passed = walk_own end c.layout h x.first k n run x.passed up }
+own_passed : (end : Side) (c : Call) (h : History) (k n : ℕ) → IsMapRun c.layout h → c.layout.mode ≡ TreeMode → WasPassed c h (end_key end) n → IsUpTo end k (rank (value h) n) → WasPassed c h k n
+own_passed end c h k n run mode x up = record { first = x.first; own = x.own; passed = inl (walk_own end c.layout h x.first k n run (in_tree c.layout h x.first (end_key end) n mode x.passed) up) }
 
 -- what was passed by a moment says what it said
-passed_same : (c : Call) (h m : History) (k n : ℕ) → IsTreeRun c.layout h → Extends h m → WasPassed c m k n → SameSettled (value m) (value h) n
-passed_same c h m k n run e x part i = node_since c.layout h m n part run.1.lawful e i (walk_named c.layout m x.first k n (run_since c.layout h m run e) x.passed)
+passed_same : (c : Call) (h m : History) (k n : ℕ) → IsMapRun c.layout h → Extends h m → WasPassed c m k n → SameSettled (value m) (value h) n
+passed_same c h m k n run e x = stood_settled c.layout h m n run e (walked_stood c.layout m x.first k n x.passed)
 
-module _ (end : Side) (c : Call) (h : History) (n : ℕ) (side : Side) (next : ℕ) (run : IsTreeRun c.layout h) (x : HasTurned c h (end_key end) n side next) where
+module _ (end : Side) (c : Call) (h : History) (n : ℕ) (side : Side) (next : ℕ) (run : IsMapRun c.layout h) (mode : c.layout.mode ≡ TreeMode) (x : HasTurned c h (end_key end) n side next) where
   -- to which side a walk to an end has turned
   turned : side ≡ end_turn end (class (value h) n)
-  turned = sym x.side_is ∙ walk_turns end c.layout h x.passed.first n run x.passed.passed x.fork
+  turned = sym x.side_is ∙ walk_turns end c.layout h x.passed.first n run (in_tree c.layout h x.passed.first (end_key end) n mode x.passed.passed) x.fork
 
   -- and where what it has found there is, seen from the fork
   turned_beside : IsBeside (value h) side n next
   turned_beside =
       let s = x.shown in
-      let then : IsTreeRun c.layout s.moment = run_since c.layout h s.moment run s.within in
+      let then : IsMapRun c.layout s.moment = run_since c.layout h s.moment run s.within in
       let same : SameSettled (value s.moment) (value h) n = passed_same c h s.moment (end_key end) n run s.within s.passed in
       let fork : is_leaf (value s.moment) n ≡ false = sym (settled_leaf (value s.moment) (value h) n same) ∙ x.fork in
       let to : toward (value s.moment) n (end_key end) ≡ side = sym (settled_toward (value s.moment) (value h) n (end_key end) same) ∙ x.side_is in
-      let down : WasPassed c s.moment (end_key end) next = record { first = s.passed.first; own = s.passed.own; passed = subst (Passed s.moment s.passed.first (end_key end)) (ap (λ (q : Side). value s.moment (child n q)) to ∙ s.held) (walk_next c.layout s.moment s.passed.first (end_key end) n then s.passed.passed fork) } in
-      let beside : IsBeside (value s.moment) side n (value s.moment (child n side)) = walk_beside c.layout s.moment s.passed.first (end_key end) n side then s.passed.passed fork in
+      let here : Passed s.moment s.passed.first (end_key end) n = in_tree c.layout s.moment s.passed.first (end_key end) n mode s.passed.passed in
+      let down : WasPassed c s.moment (end_key end) next = record { first = s.passed.first; own = s.passed.own; passed = inl (subst (Passed s.moment s.passed.first (end_key end)) (ap (λ (q : Side). value s.moment (child n q)) to ∙ s.held) (walk_next c.layout s.moment s.passed.first (end_key end) n then here (inl mode) fork)) } in
+      let beside : IsBeside (value s.moment) side n (value s.moment (child n side)) = walk_beside c.layout s.moment s.passed.first (end_key end) n side then here fork in
       beside_same (value s.moment) (value h) side n next (settled_rank (value s.moment) (value h) n same) (settled_rank (value s.moment) (value h) next (passed_same c h s.moment (end_key end) next run s.within down)) (subst (IsBeside (value s.moment) side n) s.held beside)
 
   -- what is between the end and the node that was found there is on that side of the fork
@@ -80,7 +82,7 @@ module _ (end : Side) (c : Call) (h : History) (n : ℕ) (side : Side) (next : �
   -- so it is on the way to each key between
   own_turned : (k : ℕ) → IsWithin end k (rank (value h) n) → HasTurned c h k n side next
   own_turned k within = record {
-    passed = own_passed end c h k n run x.passed (within_up end k (rank (value h) n) within);
+    passed = own_passed end c h k n run mode x.passed (within_up end k (rank (value h) n) within);
     fork = x.fork;
     side_is = within_toward end (value h) n k within ∙ x.side_is;
     shown =
@@ -90,13 +92,13 @@ module _ (end : Side) (c : Call) (h : History) (n : ℕ) (side : Side) (next : �
           moment = s.moment;
           within = s.within;
           own = s.own;
-          passed = own_passed end c s.moment k n (run_since c.layout h s.moment run s.within) s.passed (subst (IsUpTo end k) e (within_up end k (rank (value h) n) within));
+          passed = own_passed end c s.moment k n (run_since c.layout h s.moment run s.within) mode s.passed (subst (IsUpTo end k) e (within_up end k (rank (value h) n) within));
           held = s.held;
         };
   }
 
 -- of the leaf at an end
-module _ (end : Side) (c : Call) (h : History) (f : Found) (run : IsTreeRun c.layout h) (a : HasFoundGoal (End end) c h f) where
+module _ (end : Side) (c : Call) (h : History) (f : Found) (run : IsMapRun c.layout h) (a : HasFoundGoal (End end) c h f) where
   abbrev leaf : ℕ
   leaf = f.trail.node.0
 
@@ -107,7 +109,7 @@ module _ (end : Side) (c : Call) (h : History) (f : Found) (run : IsTreeRun c.la
   slot = end_slot end (value h (node leaf (Settled More)))
 
   holds : f.head.class ≡ 0 → IsWellCounted (value h) leaf × AllBelow (2 ^ 64) (held_pairs (value h) leaf) × IsRising (held_pairs (value h) leaf)
-  holds low = walk_holds c.layout h a.trail.node.first (end_key end) leaf run a.trail.node.passed a.leaf (class_is ∙ low)
+  holds low = stood_holds c.layout h leaf run (walked_stood c.layout h a.trail.node.first (end_key end) leaf a.trail.node.passed) a.leaf (class_is ∙ low)
 
   key_low : f.head.class ≡ 0 → value h (node leaf (Settled (Key slot))) ≡ f.key
   key_low low =
@@ -131,10 +133,11 @@ module _ (end : Side) (c : Call) (h : History) (f : Found) (run : IsTreeRun c.la
   -- where the leaf has a key, it is the leaf of that
   pub found_own : f.head.class ≡ 0 → HasFoundLeaf c h f.key f
   found_own low = record {
+    may = tt;
     trail = record {
-      node = own_passed end c h f.key leaf run a.trail.node (own_key low);
-      parent = λ d. own_turned end c h f.trail.parent.0 f.trail.side leaf run (a.trail.parent d) f.key (at_parent d);
-      grand = λ d p. own_turned end c h f.trail.grand.0 f.trail.grand_side f.trail.parent.0 run (a.trail.grand d p) f.key (at_grand d p);
+      node = own_passed end c h f.key leaf run a.may a.trail.node (own_key low);
+      parent = λ d. own_turned end c h f.trail.parent.0 f.trail.side leaf run a.may (a.trail.parent d) f.key (at_parent d);
+      grand = λ d p. own_turned end c h f.trail.grand.0 f.trail.grand_side f.trail.parent.0 run a.may (a.trail.grand d p) f.key (at_grand d p);
       high = a.trail.high;
     };
     leaf = a.leaf;
@@ -147,10 +150,10 @@ module _ (end : Side) (c : Call) (h : History) (f : Found) (run : IsTreeRun c.la
   }
     where
       at_parent : leaf ≢ 0 → IsWithin end f.key (rank (value h) f.trail.parent.0)
-      at_parent d = turned_within end c h f.trail.parent.0 f.trail.side leaf run (a.trail.parent d) f.key (own_key low)
+      at_parent d = turned_within end c h f.trail.parent.0 f.trail.side leaf run a.may (a.trail.parent d) f.key (own_key low)
 
       at_grand : leaf ≢ 0 → f.trail.parent.0 ≢ 0 → IsWithin end f.key (rank (value h) f.trail.grand.0)
-      at_grand d p = turned_within end c h f.trail.grand.0 f.trail.grand_side f.trail.parent.0 run (a.trail.grand d p) f.key (within_up end f.key (rank (value h) f.trail.parent.0) (at_parent d))
+      at_grand d p = turned_within end c h f.trail.grand.0 f.trail.grand_side f.trail.parent.0 run a.may (a.trail.grand d p) f.key (within_up end f.key (rank (value h) f.trail.parent.0) (at_parent d))
 
   -- what its words say is what was said of it
   pub found_told : end_said end (value h) leaf ≡ end_told f
@@ -180,9 +183,9 @@ module _ (end : Side) (c : Call) (h : History) (f : Found) (run : IsTreeRun c.la
 
   -- so it answers the pair at that end of the map, at a moment of the call
   pub found_end : IsEndAt end c.layout h a.trail.node.first (end_told f)
-  found_end = subst (IsEndAt end c.layout h a.trail.node.first) found_told (walk_end end c.layout h a.trail.node.first leaf run a.trail.node.passed a.leaf)
+  found_end = subst (IsEndAt end c.layout h a.trail.node.first) found_told (walk_end end c.layout h a.trail.node.first leaf run (in_tree c.layout h a.trail.node.first (end_key end) leaf a.may a.trail.node.passed) a.leaf)
 
 -- the key that it answers is below 2 ^ 64
-pub found_small : (goal : Goal) (c : Call) (h : History) (f : Found) → IsTreeRun c.layout h → path_key goal < 2 ^ 64 → HasFoundGoal goal c h f → f.key < 2 ^ 64
+pub found_small : (goal : Goal) (c : Call) (h : History) (f : Found) → IsMapRun c.layout h → path_key goal < 2 ^ 64 → HasFoundGoal goal c h f → f.key < 2 ^ 64
 found_small (ToKey k) c h f run small a = subst (λ n. n < 2 ^ 64) a.key small
 found_small (End end) c h f run small a = small_end end c h f run a

@@ -1,8 +1,9 @@
 -- Which steps begin a try, and what a pass's tries are after one more row.
 use Rattle.std.proofs.Common.{◌≡◌, ◌≢◌, ℕ, suc, ◌<◌, ◌≤◌, Bool, true, false, ◌&&◌, eqb, eq-eqb, ne_eqb, List, length, Some, inl, inr, refl, ◌∙◌, subst, arith}
-use Rattle.histories.specs.Common.{Layout, Kind, LoadSettled, Row, Step, NodeWord, Settled, Head as HeadWord, node, same_word, History, ◌⊳◌, value, Call, IsRun, row_of, taken_nodes}
-use Rattle.template.specs.Common.{HelpWaits, HelpRun, load, LlxWaits, Job, job_of, ScxWaitsAt, ScxWaits, VlxWaits, LlxAt, LlxRun, ScxAt, ScxRun, Snap, IsTreeRun}
+use Rattle.histories.specs.Common.{Layout, Kind, LoadSettled, Row, Step, NodeWord, Settled, Head as HeadWord, node, scx, same_word, History, ◌⊳◌, value, Call, IsRun, row_of, taken_nodes}
+use Rattle.template.specs.Common.{HelpWaits, HelpRun, load, LlxWaits, Job, job_of, ScxWaitsAt, ScxWaits, VlxWaits, LlxAt, LlxRun, ScxAt, ScxRun, Snap, IsMapRun}
 use Rattle.template.specs.Common.{TreeAllows, level, begins_try, tries_begun, IsNewestTry, WalkIsTold, WalkKnows, WalkWaits, walk_step, IsPastRoot, WalkFits, walk_left}
+use Rattle.template.specs.Walk.Steps.{room, steps_left}
 use Rattle.help.specs.Help.Known.{help_step}
 use Rattle.help.specs.declared.state.HelpAt.{HelpAt}
 use Rattle.help.specs.declared.state.HelpAt.TheVariants as at
@@ -11,7 +12,7 @@ use Rattle.prims.specs.Scx.Known.{FillWaits}
 use Rattle.prims.specs.declared.llx.LlxAt.TheVariants as llx
 use Rattle.prims.specs.declared.scx.ScxAt.TheVariants as scxs
 use Rattle.ordered_map.specs.Tries.{is_settled_load}
-use Rattle.ordered_map.proofs.Lemmas.{root_head}
+use Rattle.ordered_map.proofs.MapLemmas.{root_head}
 use Rattle.template.specs.Walk.Laws.{walk_told}
 use Rattle.template.specs.declared.walk.WalkAt.{WalkAt}
 use Rattle.template.specs.declared.walk.WalkAt.TheVariants.{Start as WalkStart, Root, Head, Key, Child, More, Pair, Value, High}
@@ -139,7 +140,7 @@ scx_begins_none allows m c h s w = scx_at_begins_none allows c h (job_of m) m.at
 -- A walk
 
 module _ (m : WalkRun) (c : Call) (h : History) where
-  walk_step_begins_none : (p : WalkAt) → IsTreeRun c.layout h → IsPastRoot p → WalkKnows c h m p → BeginsNoTry (walk_step m p)
+  walk_step_begins_none : (p : WalkAt) → IsMapRun c.layout h → IsPastRoot p → WalkKnows c h m p → BeginsNoTry (walk_step m p)
   walk_step_begins_none WalkStart run past k = absurd past
   walk_step_begins_none Root run past k = absurd past
   walk_step_begins_none (Head above) run past k = other_node_begins_none (walk_step m (Head above)) m.trail.node.0 (Settled HeadWord) refl below
@@ -182,9 +183,9 @@ module _ (m : WalkRun) (c : Call) (h : History) where
   past_root (High head more slot key low) nodes fewer = tt
 
   -- once it has got something, and asks for a step, it is past the root's head
-  pub walk_past_root : (now : WalkRun) (v : ℕ) → IsRun TreeAllows c.layout h → WalkIsTold m c h v → ((nodes : ℕ) → WalkFits m (Some v) nodes → walk_left now.at nodes < walk_left m.at nodes) → IsPastRoot now.at
-  walk_past_root now v run x nearer =
+  pub walk_past_root : (now : WalkRun) (v : ℕ) → IsRun TreeAllows c.layout h → WalkIsTold m c h v → now.way ≡ m.way → ((nodes : ℕ) → WalkFits m (Some v) nodes → steps_left now nodes < steps_left m nodes) → IsPastRoot now.at
+  walk_past_root now v run x same nearer =
       let nodes : ℕ = length (taken_nodes h) in
-      let fewer = nearer nodes (walk_told m c h (Some v) nodes run x (omega arith)) in
-      let few = few_left m.at nodes x.known in
-      past_root now.at nodes (omega (arith, fewer, few))
+      let fewer : walk_left now.at (room m.way nodes) < walk_left m.at (room m.way nodes) = subst (λ way. walk_left now.at (room way nodes) < walk_left m.at (room m.way nodes)) same (nearer nodes (walk_told m c h (Some v) nodes run x (omega arith))) in
+      let few = few_left m.at (room m.way nodes) x.known in
+      past_root now.at (room m.way nodes) (omega (arith, fewer, few))

@@ -5,8 +5,10 @@ pub use Rattle.ordered_map.specs.Holding.{held_pairs, slot_behind, wide_value, p
 unfoldable pub use Rattle.ordered_map.specs.Holding.{IsWellCounted, held_from}
 pub use Rattle.ordered_map.specs.OrderedMap.{MapCall, pair, MapEdit, MapReply, reply, AllBelow, pair_or_none, get, OneValue, IsRising, ManyPairs, Edit, edit_key, Range, delete, edit_of, Get, Neighbour, leaves, end_pair, Delete, insert, neighbour, edited, Insert, applies, goal_told, edit_to, OnePair, between, range}
 pub use Rattle.ordered_map.specs.Paths.{WasInTree, IsAnswerAt, WasOnPath, IsOnPath, Passed}
+pub use Rattle.ordered_map.specs.Strays.{HasWalked}
 pub use Rattle.ordered_map.specs.Replies.{told_of}
 pub use Rattle.ordered_map.specs.Runs.{IsTreeRun, Makes}
+pub use Rattle.ordered_map.specs.Runs.{IsMapRun}
 pub use Rattle.ordered_map.specs.Spelled.{Spells, IsTree}
 pub use Rattle.ordered_map.specs.TreeShape.{TreeAllows, leaf_plan, sibling_place, edit_leaf, join_plan}
 pub use Rattle.ordered_map.specs.TreeWords.{is_leaf, class, level, toward, rank, said, Tree, root, Shows, opposite}
@@ -47,11 +49,11 @@ pub use Rattle.prims.specs.declared.vlx.Vlx.{Vlx}
 pub use Rattle.prims.specs.declared.vlx.Vlx.TheVariants.{Same, Changed}
 pub use Rattle.prims.specs.declared.vlx.VlxRun.{VlxRun}
 pub use Rattle.template.specs.Blame.{IsContended, HasLostTriesTo, WasNotFinal}
-pub use Rattle.template.specs.FoundLeaf.{HasFoundGoal, path_key, asked_key, HasFoundLeaf, asked_in, end_told}
+pub use Rattle.template.specs.FoundLeaf.{HasFoundGoal, HasFoundFork, FoundBy, path_key, asked_key, HasFoundLeaf, asked_in, end_told}
 pub use Rattle.template.specs.Promises.{IsPromised, IsFresh}
 pub use Rattle.template.specs.Tracked.{Tracks}
 pub use Rattle.template.specs.Trails.{IsOwnMoment, HasTurned, WasPassed}
 pub use Rattle.template.specs.Tries.{HasTriedAtMost, tries_since, HasTriedAllBut, MayTryNext}
-pub use Rattle.template.specs.Walk.Known.{WalkWaits, WalkIsTold, WalkIsReady, WalkKnows, walk_step, WalkEnds}
+pub use Rattle.template.specs.Walk.Known.{MayGo, WalkWaits, WalkIsTold, WalkIsReady, WalkKnows, walk_step, WalkEnds}
 pub use Rattle.template.specs.Walk.Places.{walk_at, IsPastRoot, walk_from}
 pub use Rattle.template.specs.Walk.Steps.{walk_left, WalkFits}

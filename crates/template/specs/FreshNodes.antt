@@ -1,14 +1,21 @@
 -- What the SCX-record of an edit says once the leaf of its key is found, and the copy that is
 -- filled where a leaf is taken out.
 use Rattle.std.specs.Prelude.{◌≡◌, ℕ, false}
+use Rattle.arena.specs.declared.limits.Mode.TheVariants.{Trie as TrieMode}
 use Rattle.histories.specs.Common.{Layout, Side, node, child, first_value, History, value, Descriptor}
+use Rattle.ordered_map.specs.TrieShape.{FitsTrie}
 use Rattle.prims.specs.Snap.{child_of}
 use Rattle.prims.specs.declared.snap.Snap.{Snap}
 use Rattle.ordered_map.specs.Edits.{IsCopyOf}
+use Rattle.ordered_map.specs.EditPlans.{above_plan}
 use Rattle.ordered_map.specs.TreeShape.{leaf_plan, join_plan}
 use Rattle.ordered_map.specs.TreeWords.{is_leaf}
 use Rattle.template.specs.Promises.{IsFresh}
 use Rattle.template.specs.declared.walk.Found.{Found}
+
+-- in a trie the node n fits below the fork p on this side
+abbrev pub FitsThere : Layout → History → ℕ → Side → ℕ → Type 0
+FitsThere lay h p side n = lay.mode ≡ TrieMode → FitsTrie (value h) p side n
 
 -- the words of an SCX-record that puts the fresh node n into the place of the leaf: it covers the
 -- leaf's parent and the leaf, and finalizes the leaf
@@ -16,6 +23,15 @@ pub record IsLeafEditAt (f : Found) (d : Descriptor) (n : ℕ) : Type 0 where
   pub plan : d.plan ≡ leaf_plan f.trail.side
   pub parent : d.member 0 ≡ f.trail.parent.0
   pub leaf : d.member 1 ≡ f.trail.node.0
+  pub old : d.old ≡ f.trail.node.0
+  pub new : d.new ≡ n
+
+-- the words of an SCX-record that puts the fresh fork n above the fork that was found: it covers the parent of
+-- that, and node 2, and finalizes none
+pub record IsAboveAt (f : Found) (d : Descriptor) (n : ℕ) : Type 0 where
+  pub plan : d.plan ≡ above_plan f.trail.side
+  pub parent : d.member 0 ≡ f.trail.parent.0
+  pub guard : d.member 1 ≡ 2
   pub old : d.old ≡ f.trail.node.0
   pub new : d.new ≡ n
 

@@ -2,6 +2,8 @@
 use Rattle.std.specs.Prelude.{◌≡◌, ◌≢◌, ℕ, true, false}
 use Rattle.histories.specs.Common.{Row, Side, child, History, ◌⊳◌, value, Extends, Call}
 use Rattle.ordered_map.specs.Paths.{Passed}
+use Rattle.ordered_map.specs.Strays.{HasWalked}
+use Rattle.ordered_map.specs.TrieShape.{Stays}
 use Rattle.ordered_map.specs.TreeWords.{class, is_leaf, toward}
 use Rattle.template.specs.declared.walk.Trail.{Trail}
 
@@ -13,12 +15,23 @@ pub record IsOwnMoment (c : Call) (h : History) : Type 0 where
   pub since : Extends before c.start
   pub own : row.pass.0 ≡ c.pass
 
--- node n was on the search path of k, in the tree, at a moment of the call that is not before its
--- first own row
+-- the call has walked to the node n on its way to k, since a moment that is not before its first own
+-- row
 pub record WasPassed (c : Call) (h : History) (k n : ℕ) : Type 0 where
   pub first : History
   pub own : IsOwnMoment c first
+  pub passed : HasWalked c.layout h first k n
+
+-- it has surely come to n on its way to k: n was on the path of k at a moment since then
+pub record WasOn (c : Call) (h : History) (k n : ℕ) : Type 0 where
+  pub first : History
+  pub own : IsOwnMoment c first
   pub passed : Passed h first k n
+
+-- and stays on it
+pub record IsSurelyOn (c : Call) (h : History) (k n : ℕ) : Type 0 where
+  pub on : WasOn c h k n
+  pub stays : Stays c.layout (value h) k n
 
 -- at an own moment of the call, by which it had passed n on its way to k, the field of n on this
 -- side held the node `next`

@@ -6,4 +6,4 @@ mod walk;
 
 pub use ordered_map::Goal;
 pub use shape::Tree;
-pub use walk::{Found, Trail, WalkAt, WalkRun};
+pub use walk::{Found, Trail, WalkAt, WalkRun, Way};

@@ -5,7 +5,7 @@ use crate::shape::Tree;
 use arena::{
     Access, Head, Kind, Machine, NodeNo, NodeWord, SettledPart, Side, Slot, Step, Turn, Word,
 };
-use ordered_map::{Goal, end_slot, slot_behind, wide_value};
+use ordered_map::{Goal, end_slot, shares, slot_behind, wide_value};
 
 /// The last nodes of a walk: the node that it has reached, and the two forks above it with the
 /// sides to which it has gone there. A walk at the root has no fork above it, and one
@@ -69,6 +69,7 @@ pub enum WalkAt {
 /// The leaf at which a walk has ended: its head, and how many pairs it has after its first, 0 if it
 /// is above all keys; the key whose value in the leaf the walk answers, and that value, if there is
 /// one. It is the walk's own key, or, of a walk to an end, the leaf's there, and 0 above all keys.
+/// A walk within may have ended at a fork: then its head, no pairs, its key, and no value.
 #[derive(Clone, Copy, Debug, PartialEq, Eq)]
 pub struct Found {
     pub trail: Trail,
@@ -76,6 +77,17 @@ pub struct Found {
     pub more: u64,
     pub key: u64,
     pub value: Option<u128>,
+}
+
+/// Where a walk goes.
+#[derive(Clone, Copy, Debug, PartialEq, Eq)]
+pub enum Way {
+    /// In a tree, to a leaf.
+    InTree,
+    /// In a trie, to a leaf.
+    InTrie,
+    /// In a trie, to a leaf, or to the first fork that its key does not share.
+    Within,
 }
 
 /// A walk from the root to the leaf where a key is, or would be, or to that at an end. On its
@@ -86,8 +98,10 @@ pub struct Found {
 /// the walk's; of the leaf at an end the key there and its value.
 #[derive(Clone, Copy, Debug, PartialEq, Eq)]
 pub struct WalkRun {
-    /// Where it goes.
+    /// To what it goes.
     pub goal: Goal,
+    /// Where it goes.
+    pub way: Way,
     /// The nodes that it has reached.
     pub trail: Trail,
     /// Where it is.
@@ -95,7 +109,7 @@ pub struct WalkRun {
 }
 
 impl WalkRun {
-    ghost use Rattle.std.specs.Prelude.{◌≡◌, ℕ, ◌+◌, ◌-◌, ◌*◌, ◌^◌, ◌<◌, ◌≤◌, true, false, if◌then◌else◌, ◌==◌, nat_lt};
+    ghost use Rattle.std.specs.Prelude.{◌≡◌, ◌≢◌, ℕ, ◌+◌, ◌-◌, ◌*◌, ◌^◌, ◌<◌, ◌≤◌, true, false, if◌then◌else◌, ◌==◌, nat_lt};
     ghost use Rattle.arena.specs.Heads.{head_of};
     ghost use Rattle.arena.specs.declared.word.NodeWord.TheVariants.{Settled, Child as ChildWord};
     ghost use Rattle.arena.specs.declared.word.SettledPart.TheVariants.{Head as HeadWord, More as MoreWord, Key as KeyWord};
@@ -103,14 +117,27 @@ impl WalkRun {
     ghost use Rattle.arena.specs.History.{History, value};
     ghost use Rattle.arena.specs.Machines.{MatchTurn, Call};
     ghost use Rattle.ordered_map.specs.TreeWords.{is_leaf, level, toward};
+    ghost use Rattle.ordered_map.specs.TrieShape.{Stays};
     ghost use Rattle.template.specs.FoundLeaf.{path_key, asked_key};
     ghost use Rattle.template.specs.Walk.Steps.{walk_left};
-    ghost use Rattle.template.specs.Walk.Known.{asks_key, open_side, goal_slot, WalkAsks, WalkEnds, WalkStands, WalkStandsAtLeaf, IsSlotFor, WalkTurn, here};
+    ghost use Rattle.template.specs.Walk.Known.{EndsAt, asks_key, open_side, goal_slot, WalkAsks, WalkEnds, WalkStands, WalkStandsAtLeaf, IsSlotFor, WalkTurn, here};
 
-    /// A walk that has not begun. It asks for at most three steps for each node that has been taken
-    /// when it ends, and for eleven more.
+    /// A walk in a tree that has not begun. It asks for at most three steps for each node that has
+    /// been taken when it ends, and for eleven more.
     pub fn new(goal: Goal) -> WalkRun
         ensures goal { result.goal ≡ goal }
+        ensures way { result.way ≡ Way.InTree }
+        ensures start { result.at ≡ WalkAt.Start }
+        ensures root { result.trail.node.0 ≡ 0 }
+        ensures bound { (nodes : ℕ) → walk_left result.at nodes ≤ 3 * (2 + nodes) + 5 }
+    {
+        WalkRun::by(Way::InTree, goal)
+    }
+
+    /// A walk by this way that has not begun. In a trie it asks for at most 206 steps.
+    pub fn by(way: Way, goal: Goal) -> WalkRun
+        ensures goal { result.goal ≡ goal }
+        ensures way { result.way ≡ way }
         ensures start { result.at ≡ WalkAt.Start }
         ensures root { result.trail.node.0 ≡ 0 }
         ensures bound { (nodes : ℕ) → walk_left result.at nodes ≤ 3 * (2 + nodes) + 5 }
@@ -119,6 +146,7 @@ impl WalkRun {
         let side = Side::Left;
         WalkRun {
             goal,
+            way,
             trail: Trail {
                 grand: root,
                 grand_side: side,
@@ -215,6 +243,26 @@ impl WalkRun {
         }
     }
 
+    /// Whether the walk ends at a fork of class 0 with this key.
+    fn ends_at(&self, key: u64) -> bool
+        ensures { EndsAt self.now key result }
+    {
+        match self.goal {
+            Goal::Key(wanted) => self.is_within() && !shares(key, wanted),
+            Goal::End(_) => false,
+        }
+    }
+
+    fn is_within(&self) -> bool
+        ensures yes { result ≡ true → self.now.way ≡ Way.Within }
+        ensures no { result ≡ false → self.now.way ≢ Way.Within }
+    {
+        match self.way {
+            Way::Within => true,
+            Way::InTree | Way::InTrie => false,
+        }
+    }
+
     /// The slot in which the walk begins at a leaf with `more` pairs after its first.
     fn first_slot(&self, more: u64) -> Slot
         ensures { result ≡ goal_slot self.now.goal more }
@@ -238,7 +286,7 @@ impl WalkRun {
     /// Continues with the head of the node.
     fn read_head(&mut self, head: Head) -> Turn<Found>
         ensures turn { (c : Call) (h : History) → WalkStands self.old c h → head_of (here h self.old (Settled HeadWord)) ≡ head → WalkTurn c h self.new result }
-        ensures same { self.new.goal ≡ self.old.goal }
+        ensures same { (self.new.goal ≡ self.old.goal) × (self.new.way ≡ self.old.way) }
         ensures nearer { (nodes : ℕ) → head.level < 2 + nodes
             → MatchTurn result (λ _. walk_left self.new.at nodes < 3 * (2 + nodes - head.level) + 4) (λ _. Unit {0}) }
     {
@@ -251,11 +299,26 @@ impl WalkRun {
         }
     }
 
+    /// Continues with the key of a fork of class 0.
+    fn read_key(&mut self, head: Head, key: u64) -> Turn<Found>
+        ensures turn { (c : Call) (h : History) → WalkStands self.old c h → head_of (here h self.old (Settled HeadWord)) ≡ head → head.class ≡ 0
+            → head.leaf ≡ false → here h self.old first_key ≡ key → WalkTurn c h self.new result }
+        ensures same { (self.new.goal ≡ self.old.goal) × (self.new.way ≡ self.old.way) }
+        ensures nearer { (nodes : ℕ) → head.level < 2 + nodes
+            → MatchTurn result (λ _. walk_left self.new.at nodes < walk_left (WalkAt.Key head) nodes) (λ _. Unit {0}) }
+    {
+        if self.ends_at(key) {
+            self.end(head, 0, key, None)
+        } else {
+            self.load_child(head.level, self.side(key))
+        }
+    }
+
     /// Continues with the head of a leaf: one above all keys has no pair.
     fn read_leaf(&mut self, head: Head) -> Turn<Found>
         requires { head.leaf ≡ true }
         ensures turn { (c : Call) (h : History) → WalkStands self.old c h → head_of (here h self.old (Settled HeadWord)) ≡ head → WalkTurn c h self.new result }
-        ensures same { self.new.goal ≡ self.old.goal }
+        ensures same { (self.new.goal ≡ self.old.goal) × (self.new.way ≡ self.old.way) }
         ensures nearer { (nodes : ℕ) → head.level < 2 + nodes
             → MatchTurn result (λ _. walk_left self.new.at nodes < 3 * (2 + nodes - head.level) + 4) (λ _. Unit {0}) }
     {
@@ -272,7 +335,7 @@ impl WalkRun {
         ensures turn { (c : Call) (h : History) → WalkStands self.old c h → WalkStandsAtLeaf c h self.old.goal self.old.trail head
             → here h self.old (Settled MoreWord) ≡ more → IsSlotFor self.old.goal (value h) self.old.trail.node.0 slot
             → here h self.old (Settled (KeyWord slot)) ≡ key → WalkTurn c h self.new result }
-        ensures same { self.new.goal ≡ self.old.goal }
+        ensures same { (self.new.goal ≡ self.old.goal) × (self.new.way ≡ self.old.way) }
         ensures nearer { (nodes : ℕ) → head.level < 2 + nodes
             → MatchTurn result (λ _. walk_left self.new.at nodes < walk_left (WalkAt.Pair head more slot) nodes) (λ _. Unit {0}) }
     {
@@ -297,8 +360,9 @@ impl WalkRun {
         ensures turn { (c : Call) (h : History) → WalkStands self.old c h → level (value h) self.old.trail.node.0 ≡ above
             → is_leaf (value h) self.old.trail.node.0 ≡ false
             → toward (value h) self.old.trail.node.0 (path_key self.old.goal) ≡ side → here h self.old (ChildWord side) ≡ child
+            → (self.old.way ≡ Way.Within → Stays c.layout (value h) (path_key self.old.goal) self.old.trail.node.0)
             → WalkTurn c h self.new result }
-        ensures same { self.new.goal ≡ self.old.goal }
+        ensures same { (self.new.goal ≡ self.old.goal) × (self.new.way ≡ self.old.way) }
         ensures nearer { (nodes : ℕ) → above + 1 < 2 + nodes
             → MatchTurn result (λ _. walk_left self.new.at nodes < walk_left (WalkAt.Child above side) nodes) (λ _. Unit {0}) }
     {
@@ -318,7 +382,7 @@ impl Machine<Tree> for WalkRun {
     type Answer = Found;
 
     ghost use Rattle.std.specs.Prelude.{◌≡◌, ℕ};
-    ghost use Rattle.template.specs.Walk.Steps.{walk_left, WalkFits};
+    ghost use Rattle.template.specs.Walk.Steps.{steps_left, WalkFits};
     ghost use Rattle.template.specs.Walk.Known.{WalkIsReady, WalkWaits, WalkAnswers};
     ghost use Rattle.template.specs.Walk.Laws.{walk_keeps, walk_lawful, walk_made, walk_told};
 
@@ -328,9 +392,9 @@ impl Machine<Tree> for WalkRun {
 
     ghost answers = { WalkAnswers };
 
-    ghost same = { λ old now. now.goal ≡ old.goal };
+    ghost same = { λ old now. (now.goal ≡ old.goal) × (now.way ≡ old.way) };
 
-    ghost left = { λ m nodes. walk_left m.at nodes };
+    ghost left = { λ m nodes. steps_left m nodes };
 
     ghost fits = { WalkFits };
 
@@ -342,7 +406,7 @@ impl Machine<Tree> for WalkRun {
             WalkAt::Start => self.load_settled(WalkAt::Root, SettledPart::Head),
             WalkAt::Root => self.read_head(Head::of(found)),
             WalkAt::Head { above: _ } => self.read_head(Head::of(found)),
-            WalkAt::Key { head } => self.load_child(head.level, self.side(found)),
+            WalkAt::Key { head } => self.read_key(head, found),
             WalkAt::Child { level, side } => self.go_down(level, side, found),
             WalkAt::More { head } => self.load_key(head, found, self.first_slot(found)),
             WalkAt::Pair { head, more, slot } => self.read_pair(head, more, slot, found),

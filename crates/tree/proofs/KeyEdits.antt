@@ -33,7 +33,7 @@ module _ (m : UpdateRun ℕ UpdateAt) (c : Call) (h : History) (f : Found) (nth 
       run = x.works.run;
       since = x.works.since;
       quiet = x.works.quiet;
-      looked = record { small = x.works.looked.small; found = x.works.looked.found; usable = x.works.looked.usable; seen = x.works.looked.seen };
+      looked = record { small = x.works.looked.small; may = x.works.looked.may; found = x.works.looked.found; usable = x.works.looked.usable; seen = x.works.looked.seen };
       enough = x.works.enough;
       asked = x.works.asked;
       need = x.works.need;
@@ -53,7 +53,7 @@ module _ (m : UpdateRun ℕ UpdateAt) (c : Call) (h : History) (f : Found) (nth 
       run = x.works.run;
       since = x.works.since;
       quiet = x.works.quiet;
-      looked = record { small = x.works.looked.small; found = x.works.looked.found; usable = x.works.looked.usable; seen = x.works.looked.seen };
+      looked = record { small = x.works.looked.small; may = x.works.looked.may; found = x.works.looked.found; usable = x.works.looked.usable; seen = x.works.looked.seen };
       enough = x.works.enough;
       asked = x.works.asked;
       need = x.works.need;

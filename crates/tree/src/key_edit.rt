@@ -10,7 +10,7 @@ use arena::{NodeNo, Share};
 use edits::{Edit, Known, Look, Nodes, Nth, Piece, Reading, UpdateAt, UpdateRun, Work};
 use ordered_map::Goal;
 use prims::Snap;
-use template::Found;
+use template::{Found, Way};
 
 /// An edit: this rule at this goal.
 #[derive(Clone, Copy, Debug, PartialEq, Eq)]
@@ -104,6 +104,10 @@ impl<G: EditGoal, R: EditRule> Edit for KeyEdit<G, R> {
 
     fn goal(&self) -> Goal {
         self.goal.goal()
+    }
+
+    fn way(&self) -> Way {
+        Way::InTree
     }
 
     #[inline(always)]

@@ -7,7 +7,7 @@ use arena::{NodeNo, Slot};
 use edits::{Edit, Known, Look, Nodes, Nth, Pairs, Piece, Reading, Work};
 use ordered_map::Pair;
 use prims::Snap;
-use template::{Found, Goal};
+use template::{Found, Goal, Way};
 
 /// Puts a value at a key.
 #[derive(Clone, Copy, Debug, PartialEq, Eq)]
@@ -111,6 +111,10 @@ impl Edit for PutPair {
 
     fn goal(&self) -> Goal {
         Goal::Key(self.key)
+    }
+
+    fn way(&self) -> Way {
+        Way::InTree
     }
 
     #[inline(always)]

@@ -7,7 +7,7 @@ use arena::{Head, MemberIndex, NodeNo, Plan, Side};
 use edits::{Edit, Known, Look, Nodes, Nth, Pairs, Piece, Reading, Work};
 use ordered_map::Pair;
 use prims::Snap;
-use template::{Found, Goal};
+use template::{Found, Goal, Way};
 
 /// Takes a key away.
 #[derive(Clone, Copy, Debug, PartialEq, Eq)]
@@ -119,6 +119,10 @@ impl Edit for TakePair {
 
     fn goal(&self) -> Goal {
         Goal::Key(self.key)
+    }
+
+    fn way(&self) -> Way {
+        Way::InTree
     }
 
     #[inline(always)]

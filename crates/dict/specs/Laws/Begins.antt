@@ -4,7 +4,8 @@ use Rattle.histories.specs.Common.{Tree as TreeMode, Call, IsRun, Remaining}
 use Rattle.arena.proofs.Lemmas.{ends_self}
 use Rattle.order.proofs.Lemmas.{read_ready_first}
 use Rattle.prims.specs.Laws.Idle.{quiet_at_start, idle_if_finished}
-use Rattle.template.specs.Common.{IsTreeRun, path_key, nodes_in_try}
+use Rattle.ordered_map.proofs.MapLemmas.{tree_run}
+use Rattle.template.specs.Common.{IsTreeRun, MayGo, path_key, nodes_in_try}
 use Rattle.template.proofs.Lemmas.{next_first, walk_ready_first}
 use Rattle.edits.specs.Edits.{EditMeaning}
 use Rattle.edits.specs.Known.{RestsWith, UpdateIsReady}
@@ -30,9 +31,9 @@ module _ (c : Call) (run : IsTreeRun c.layout c.start) where
 
   -- an update may begin
   module _ {E : Type 0} (e : EditMeaning E) (m : UpdateRun E UpdateAt) (at : m.at ≡ Start) (share : RestsWith c c.start m.share) where
-    update_ready : path_key (e.goal m.edit) < 2 ^ 64 → m.limit ≡ m.tries + 1 → UpdateIsReady e m c c.start None
-    update_ready small all = (
-      record { run = run; small = small; since = ends_self c.start; rests = share },
+    update_ready : MayGo c.layout (e.way m.edit) (e.goal m.edit) → path_key (e.goal m.edit) < 2 ^ 64 → m.limit ≡ m.tries + 1 → UpdateIsReady e m c c.start None
+    update_ready may small all = (
+      record { run = tree_run c.layout c.start run; may = may; small = small; since = ends_self c.start; rests = share },
       record { since = ends_self c.start; none = none_yet c.layout c.pass c.start; next = next_first c m.limit m.tries (omega (arith, all)) },
       share,
       at,
@@ -52,8 +53,8 @@ module _ (c : Call) (run : IsTreeRun c.layout c.start) where
   goes (Read k m share) tries kind x r = record { mode = run.0; small = kind.small m.read; number = tt; limit = x.4; spent = r }
 
   inside : (m : InnerRun) (tries : ℕ) → IsOfKind m → StandsAtStart m tries c.number → IsFewCall (inner_call m) → RestsWith c c.start (inner_share m) → IsReadyInside m c c.start None
-  inside (Update m) tries kind x few r = update_ready edit_means m x.0 r (edit_small m.edit.goal m.edit.rule x.3) (x.4 ∙ sym x.1)
-  inside (Get key walk share) tries kind x few r = ((walk_ready_first walk c c.start run (rw x.2 x.3) (ends_self c.start) x.0 x.1, x.2, refl), rests share r)
+  inside (Update m) tries kind x few r = update_ready edit_means m x.0 r run.0 (edit_small m.edit.goal m.edit.rule x.3) (x.4 ∙ sym x.1)
+  inside (Get key walk share) tries kind x few r = ((walk_ready_first walk c c.start (tree_run c.layout c.start run) (rw x.2.1 run.0) (rw x.2.0 x.3) (ends_self c.start) x.0 x.1, x.2, refl), rests share r)
   inside (Read k m share) tries kind x few r = (read_ready_first k.means m c c.start run refl (x.3 few) r.over x.0 x.2 (let e = x.4 in let f = x.1 in omega (arith, e, f)), rests share r)
 
   -- the machine may be called where the call begins

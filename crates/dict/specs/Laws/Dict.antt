@@ -33,7 +33,7 @@ module _ (keys values : ℕ → Type 0) where
   edit_found_typed e c h f run typed x needed =
       let y = found_tells e.goal (begun_at c x.begin) x.moment f x.small x.run x.found in
       let there : IsRun (TypedAllows keys values) c.layout y.moment = typed_since keys values c.layout h y.moment run (ends_trans h x.moment y.moment x.within y.within) in
-      let map : AreTyped keys values y.map = typed_map keys values c.layout y.moment x.run.0 there y.map y.spelled in
+      let map : AreTyped keys values y.map = typed_map keys values c.layout y.moment x.may there y.map y.spelled in
       let told : IsTypedReply keys values (leaf_told e.goal f) = subst (IsTypedReply keys values) y.gives (reply_typed keys values (Edit e.goal e.rule) y.map map) in
       edit_typed keys values (Edit e.goal e.rule) (leaf_told e.goal f) (edit_means.edit e f) (edit_changes e f needed) typed told
 

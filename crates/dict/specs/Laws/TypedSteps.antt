@@ -5,9 +5,10 @@ use Rattle.histories.specs.Common.{Layout, Load as LoadAccess, Store, Exchange, 
 use Rattle.histories.specs.Common.{Abort, Row, Step, State, IsInProgress, History, ◌⊳◌, value, Extends, Lawful, Call, IsRun, IsTold, row_of, begun_at, IsBegin, state}
 use Rattle.arena.specs.declared.step.Access.{Access}
 use Rattle.histories.proofs.Lemmas.{Change, nothing, fills_node, fills_scx, freezes, sets_frozen, marks, updates, commits, aborts, change, IsFirst, facts_before, freeze_in_progress, freeze_keeps_scx, shaped_more}
-use Rattle.template.specs.Common.{AreFinished, Job, job_of, ScxWaitsAt, MapEdit, IsTreeRun, Makes, TreeAllows, path_key, HasFoundGoal, Tracks, ScxAt, ScxRun}
+use Rattle.template.specs.Common.{AreFinished, Job, job_of, ScxWaitsAt, MapEdit, IsMapRun, Makes, TreeAllows, path_key, FoundBy, MayGo, Tracks, ScxAt, ScxRun}
 use Rattle.prims.proofs.Lemmas.{own_in_hand}
-use Rattle.ordered_map.proofs.Lemmas.{begun_named, makes_at, run_since}
+use Rattle.ordered_map.proofs.Lemmas.{begun_named, makes_at}
+use Rattle.ordered_map.proofs.MapLemmas.{run_since}
 use Rattle.template.specs.Tracked.{waits, begun, over}
 use Rattle.template.specs.declared.walk.Found.{Found}
 use Rattle.edits.specs.Edits.{EditMeaning}
@@ -45,11 +46,12 @@ begun_runs lay h r s l b = record { unfinished = go (change lay h r l); named = 
 pub record HasWalkedTo {E : Type 0} (e : EditMeaning E) (ed : E) (c : Call) (h : History) (f : Found) : Type 0 where
   pub moment : History
   pub within : Extends h moment
-  pub run : IsTreeRun c.layout moment
+  pub run : IsMapRun c.layout moment
   pub small : path_key (e.goal ed) < 2 ^ 64
+  pub may : MayGo c.layout (e.way ed) (e.goal ed)
   -- the try began here
   pub begin : History
-  pub found : HasFoundGoal (e.goal ed) (begun_at c begin) moment f
+  pub found : FoundBy (e.way ed) (e.goal ed) (begun_at c begin) moment f
 
 -- an SCX continues after its start
 scx_went_on : (m : Job) (c : Call) (h : History) (s : Step) (at : ScxAt) → ScxWaitsAt TreeAllows c h m at s → Extends h c.start
@@ -109,7 +111,7 @@ module _ (keys values : ℕ → Type 0) where
     scx_walked : (a : History) (f : Found) (scx : ScxRun) → UpdateWaitsAt e m (begun_at c a) h s (Scx f scx) → HasWalkedTo e m.edit c h f
     scx_walked a f scx (begin, x, w) =
         let within : Extends h begin = scx_went_on (job_of scx) (begun_at (begun_at c a) begin) h s scx.at w in
-        record { moment = begin; within = within; run = run_since c.layout h begin x.run within; small = x.small; begin = a; found = x.found }
+        record { moment = begin; within = within; run = run_since c.layout h begin x.run within; small = x.small; may = x.may; begin = a; found = x.found }
 
     lawful_at : (a b : History) (at : UpdateAt) → IsRun TreeAllows c.layout (row_of c s h ⊳ h) → UpdateWaitsAt e m (begun_at c a) h s at → UpdateIsToldAt e m (begun_at c b) (row_of c s h ⊳ h) (value h s.word) at → IsRun (TypedAllows keys values) c.layout (row_of c s h ⊳ h)
     lawful_at a b Start tree w x = absurd w

@@ -4,11 +4,12 @@ use Rattle.histories.specs.Common.{NodeNo, Row, Fill, Settled, Head as HeadPart,
 use Rattle.histories.proofs.Lemmas.{named_more, node_stays}
 use Rattle.prims.specs.Laws.Begun.{takes_by_others, takes_by_step}
 use Rattle.prims.specs.Laws.Idle.{IsIdle, IsQuietSince, quiet_more, idle_if_finished}
-use Rattle.template.specs.Common.{IsUsable, Snap, held_behind, IsTreeRun, TreeAllows, Goal}
+use Rattle.template.specs.Common.{IsUsable, Snap, held_behind, IsMapRun, TreeAllows, Goal}
 use Rattle.prims.proofs.Lemmas.{over_more, share_by_others, share_by_step, usable_now, usable_since}
 use Rattle.ordered_map.proofs.Lemmas.{SameSettled, held_same, same_from}
 use Rattle.template.specs.declared.walk.Found.{Found}
-use Rattle.template.proofs.Lemmas.{found_more}
+use Rattle.template.specs.declared.walk.Way.{Way}
+use Rattle.template.proofs.Lemmas.{found_by_more}
 use Rattle.edits.specs.declared.edit.Nth.{Nth}
 use Rattle.edits.specs.declared.reading.Reading.{Reading}
 use Rattle.edits.specs.declared.update.UpdateRun.{UpdateRun}
@@ -39,12 +40,12 @@ rests_by_step c h r left l no_fill x = record {
 }
 
 -- a snapshot that the call has taken may be used
-pub snapped_usable : (c : Call) (h : History) (goal : Goal) (f : Found) (snap : Snap) → Lawful c.layout h → (x : HasSnappedAfterWalk c h goal f snap) → IsUsable c.layout h snap x.moment
-snapped_usable c h goal f snap l x = usable_since c.layout h x.moment snap x.moment l x.within (usable_now c.layout x.moment snap.node.0 snap x.is)
+pub snapped_usable : (c : Call) (h : History) (way : Way) (goal : Goal) (f : Found) (snap : Snap) → Lawful c.layout h → (x : HasSnappedAfterWalk c h way goal f snap) → IsUsable c.layout h snap x.moment
+snapped_usable c h way goal f snap l x = usable_since c.layout h x.moment snap x.moment l x.within (usable_now c.layout x.moment snap.node.0 snap x.is)
 
 -- snapshots may be used for ever
-pub usable_more : (c : Call) (h : History) (r : Row) (goal : Goal) (f : Found) (snaps : List Snap) → AreUsable c h goal f snaps → AreUsable c (r ⊳ h) goal f snaps
-usable_more c h r goal f snaps x i p = let u = x i p in record { moment = u.moment; within = inr u.within; since = u.since; found = u.found; is = u.is; met = u.met }
+pub usable_more : (c : Call) (h : History) (r : Row) (way : Way) (goal : Goal) (f : Found) (snaps : List Snap) → AreUsable c h way goal f snaps → AreUsable c (r ⊳ h) way goal f snaps
+usable_more c h r way goal f snaps x i p = let u = x i p in record { moment = u.moment; within = inr u.within; since = u.since; found = u.found; is = u.is; met = u.met }
 
 -- what is read of a named node is what it holds for ever
 module _ (b f : Word → ℕ) (n : ℕ) (same : SameSettled b f n) where
@@ -79,11 +80,12 @@ read_more c h r None read l x = tt
 read_more c h r (Some y) read l x = may_read_more c h r y.0.0 read l x
 
 module _ {E : Type 0} (e : EditMeaning E) where
-  pub looked_more : (c : Call) (h : History) (r : Row) (ed : E) (f : Found) (snaps : List Snap) → IsTreeRun c.layout h → IsRun TreeAllows c.layout (r ⊳ h) → HasLooked e c h ed f snaps → HasLooked e c (r ⊳ h) ed f snaps
+  pub looked_more : (c : Call) (h : History) (r : Row) (ed : E) (f : Found) (snaps : List Snap) → IsMapRun c.layout h → IsRun TreeAllows c.layout (r ⊳ h) → HasLooked e c h ed f snaps → HasLooked e c (r ⊳ h) ed f snaps
   looked_more c h r ed f snaps g run x = record {
     small = x.small;
-    found = found_more c h r (e.goal ed) f g run x.found;
-    usable = usable_more c h r (e.goal ed) f snaps x.usable;
+    may = x.may;
+    found = found_by_more c h r (e.goal ed) f g run (e.way ed) x.found;
+    usable = usable_more c h r (e.way ed) (e.goal ed) f snaps x.usable;
     seen = x.seen;
   }
 

@@ -2,19 +2,19 @@
 -- found and its parent.
 use Rattle.std.proofs.Common.{ℕ}
 use Rattle.histories.specs.Common.{IsNamed, History, Call}
-use Rattle.template.specs.Common.{IsOpened, IsTreeRun, HasFoundGoal, path_key, WasPassed, Goal}
-use Rattle.ordered_map.proofs.Lemmas.{walk_named, was_passed}
+use Rattle.template.specs.Common.{IsOpened, IsMapRun, HasFoundGoal, path_key, WasPassed, Goal}
+use Rattle.ordered_map.proofs.MapLemmas.{walked_stood}
 use Rattle.template.specs.declared.walk.Found.{Found}
-use Rattle.template.proofs.Lemmas.{found_below, opened_if_stood}
+use Rattle.template.proofs.Lemmas.{found_below, opened_if_stood, passed_named}
 
-module _ (goal : Goal) (c : Call) (h : History) (run : IsTreeRun c.layout h) where
+module _ (goal : Goal) (c : Call) (h : History) (run : IsMapRun c.layout h) where
   passed_opened : (n : ℕ) → WasPassed c h (path_key goal) n → IsOpened c.layout h n
-  passed_opened n p = opened_if_stood c.layout h n run (was_passed h p.first (path_key goal) n p.passed)
+  passed_opened n p = opened_if_stood c.layout h n run (walked_stood c.layout h p.first (path_key goal) n p.passed)
 
   module _ (f : Found) (a : HasFoundGoal goal c h f) where
     -- passes other than its owner may know the leaf
     pub found_named : IsNamed c.layout h f.trail.node.0
-    found_named = walk_named c.layout h a.trail.node.first (path_key goal) f.trail.node.0 run a.trail.node.passed
+    found_named = passed_named c h (path_key goal) f.trail.node.0 run a.trail.node
 
     -- an LLX may look at the leaf
     pub found_opened : IsOpened c.layout h f.trail.node.0

@@ -7,6 +7,7 @@ use Rattle.arena.proofs.Lemmas.{ends_self, ends_trans, value_quiet}
 use Rattle.prims.specs.Laws.Begun.{takes_by_others}
 use Rattle.prims.specs.Laws.Linked.{in_field_more}
 use Rattle.template.specs.Common.{load, job_of, ScxWaits, LlxRun, ScxRun, TreeAllows, begins_try, WalkKnows, WalkIsReady, WalkWaits, walk_step, IsPastRoot, Goal}
+use Rattle.template.specs.declared.walk.Way.{Way}
 use Rattle.prims.specs.Llx.Laws.{llx_keeps, llx_lawful, llx_made, load_lawful, load_told}
 use Rattle.prims.specs.Scx.Laws.{scx_keeps, scx_lawful}
 use Rattle.prims.specs.Laws.Scx.Made.{scx_made}
@@ -50,10 +51,10 @@ field_may_more Marked P Q f x = tt
 module _ {E : Type 0} (e : EditMeaning E) where
   -- Rows of other passes
 
-  walks_by_others : (m : UpdateRun E UpdateAt) (c : Call) (h : History) (r : Row) (goal : Goal) → IsRun TreeAllows c.layout (r ⊳ h) → r.pass.0 ≢ c.pass → Walks e m c h goal → Walks e m c (r ⊳ h) goal
-  walks_by_others m c h r goal run other x =
+  walks_by_others : (m : UpdateRun E UpdateAt) (c : Call) (h : History) (r : Row) (way : Way) (goal : Goal) → IsRun TreeAllows c.layout (r ⊳ h) → r.pass.0 ≢ c.pass → Walks e m c h way goal → Walks e m c (r ⊳ h) way goal
+  walks_by_others m c h r way goal run other x =
       let rests : RestsWith c (r ⊳ h) m.share = rests_by_others c h r m.share run.lawful other x.rests in
-      record { small = x.small; rests = rests; quiet = quiet_rests c h r m.share run.lawful rests x.quiet; none_filled = none_filled_more c.pass h r c.start (λ own. absurd (other own)) x.none_filled; same = x.same }
+      record { small = x.small; may = x.may; rests = rests; quiet = quiet_rests c h r m.share run.lawful rests x.quiet; none_filled = none_filled_more c.pass h r c.start (λ own. absurd (other own)) x.none_filled; same = x.same; same_way = x.same_way }
 
   looks_by_others : (m : UpdateRun E UpdateAt) (c : Call) (h : History) (r : Row) (f : Found) (llx : LlxRun) (begin : History) → IsRun TreeAllows c.layout (r ⊳ h) → r.pass.0 ≢ c.pass → Looks e m c h f llx begin → Looks e m c (r ⊳ h) f llx begin
   looks_by_others m c h r f llx begin run other x = record {
@@ -78,6 +79,7 @@ module _ {E : Type 0} (e : EditMeaning E) where
   scxs_by_others m c h r f scx begin run other x = record {
     run = (x.run.0, run);
     small = x.small;
+    may = x.may;
     now = inr x.now;
     since = x.since;
     share = share_by_others c.layout h r c.pass m.share m.share.next_node scx.scx.0 run.lawful c.is_pass other x.share;
@@ -98,7 +100,7 @@ module _ {E : Type 0} (e : EditMeaning E) where
 
   kept_at : (m : UpdateRun E UpdateAt) (c : Call) (h : History) (s : Step) (r : Row) (at : UpdateAt) → IsRun TreeAllows c.layout (r ⊳ h) → r.pass.0 ≢ c.pass → UpdateWaitsAt e m c h s at → UpdateWaitsAt e m c (r ⊳ h) s at
   kept_at m c h s r Start run other w = w
-  kept_at m c h s r (Walk walk) run other w = (walks_by_others m c h r walk.goal run other w.0, walk_keeps walk c h s r run other w.1)
+  kept_at m c h s r (Walk walk) run other w = (walks_by_others m c h r walk.way walk.goal run other w.0, walk_keeps walk c h s r run other w.1)
   kept_at m c h s r (Look f llx) run other w = (w.0, looks_by_others m c h r f llx w.0 run other w.1, llx_keeps TreeAllows llx (begun_at c w.0) h s r run other w.2)
   kept_at m c h s r (Read f n part) run other w = (
     record {
@@ -159,10 +161,10 @@ module _ {E : Type 0} (e : EditMeaning E) where
 
   -- Its own row
 
-  walks_by_step : (m : UpdateRun E UpdateAt) (c : Call) (h : History) (r : Row) (goal : Goal) → IsRun TreeAllows c.layout (r ⊳ h) → r.kind ≢ FillKind → Walks e m c h goal → Walks e m c (r ⊳ h) goal
-  walks_by_step m c h r goal run no_fill x =
+  walks_by_step : (m : UpdateRun E UpdateAt) (c : Call) (h : History) (r : Row) (way : Way) (goal : Goal) → IsRun TreeAllows c.layout (r ⊳ h) → r.kind ≢ FillKind → Walks e m c h way goal → Walks e m c (r ⊳ h) way goal
+  walks_by_step m c h r way goal run no_fill x =
       let rests : RestsWith c (r ⊳ h) m.share = rests_by_step c h r m.share run.lawful no_fill x.rests in
-      record { small = x.small; rests = rests; quiet = quiet_rests c h r m.share run.lawful rests x.quiet; none_filled = none_filled_more c.pass h r c.start (λ own. no_fill) x.none_filled; same = x.same }
+      record { small = x.small; may = x.may; rests = rests; quiet = quiet_rests c h r m.share run.lawful rests x.quiet; none_filled = none_filled_more c.pass h r c.start (λ own. no_fill) x.none_filled; same = x.same; same_way = x.same_way }
 
   looks_by_step : (m : UpdateRun E UpdateAt) (c : Call) (h : History) (r : Row) (f : Found) (llx : LlxRun) (begin : History) → IsRun TreeAllows c.layout (r ⊳ h) → r.kind ≢ FillKind → Looks e m c h f llx begin → Looks e m c (r ⊳ h) f llx begin
   looks_by_step m c h r f llx begin run no_fill x = record {
@@ -237,6 +239,7 @@ module _ {E : Type 0} (e : EditMeaning E) where
   scxs_made m c h s f scx begin run x w = record {
     run = (x.run.0, run);
     small = x.small;
+    may = x.may;
     now = inr x.now;
     since = x.since;
     share = share_by_scx TreeAllows scx (begun_at c begin) h s m.share m.share.next_node scx.scx.0 run.lawful w (let a = x.next_node in omega (arith, a)) (let a = x.next_scx in omega (arith, a)) x.share;
@@ -256,15 +259,15 @@ module _ {E : Type 0} (e : EditMeaning E) where
   }
 
   -- once the load of the root's head is made, its try has begun just before it
-  module _ (m : UpdateRun E UpdateAt) (c : Call) (b h : History) (s : Step) (v : ℕ) (walk : WalkRun) (run : IsRun TreeAllows c.layout (row_of c s h ⊳ h)) (t : IsTold s.access (value h s.word) v) (first : IsUntouched c b m.share) (x : Walks e m (begun_at c b) h walk.goal) (w : WalkWaits walk (begun_at c b) h s) where
+  module _ (m : UpdateRun E UpdateAt) (c : Call) (b h : History) (s : Step) (v : ℕ) (walk : WalkRun) (run : IsRun TreeAllows c.layout (row_of c s h ⊳ h)) (t : IsTold s.access (value h s.word) v) (first : IsUntouched c b m.share) (x : Walks e m (begun_at c b) h walk.way walk.goal) (w : WalkWaits walk (begun_at c b) h s) where
     abbrev after : History
     after = row_of c s h ⊳ h
 
     abbrev WalkThen : Type 0
-    WalkThen = (begin : History) × IsTry c begin after m.limit m.tries × IsUntouched c begin m.share × (Walks e m (begun_at c begin) after walk.goal × WalkIsReady walk (begun_at c begin) after (Some v))
+    WalkThen = (begin : History) × IsTry c begin after m.limit m.tries × IsUntouched c begin m.share × (Walks e m (begun_at c begin) after walk.way walk.goal × WalkIsReady walk (begun_at c begin) after (Some v))
 
-    walks_then : Walks e m (begun_at c b) after walk.goal
-    walks_then = walks_by_step m (begun_at c b) h (row_of c s h) walk.goal run (walk_fills_not walk (begun_at c b) h s w) x
+    walks_then : Walks e m (begun_at c b) after walk.way walk.goal
+    walks_then = walks_by_step m (begun_at c b) h (row_of c s h) walk.way walk.goal run (walk_fills_not walk (begun_at c b) h s w) x
 
     -- past the root's head it continues
     goes_past : IsPastRoot walk.at → IsTry c b h m.limit m.tries → WalkThen
@@ -278,12 +281,14 @@ module _ {E : Type 0} (e : EditMeaning E) where
       (
         record {
           small = x.small;
+          may = x.may;
           rests = record { share = walks_then.rests.share; over = walks_then.rests.over };
           quiet = λ k e f. walks_then.quiet k e (ends_trans k h b f w.since);
           none_filled = λ row before within since own. walks_then.none_filled row before within (ends_trans before h b since w.since) own;
           same = x.same;
+          same_way = x.same_way;
         },
-        walk_made walk (begun_at c h) h s v run t record { run = w.run; small = w.small; since = ends_self h; known = subst (WalkKnows (begun_at c h) h walk) (sym at) root; asked = w.asked },
+        walk_made walk (begun_at c h) h s v run t record { run = w.run; may = w.may; small = w.small; since = ends_self h; sure = λ z. let y = w.sure z in record { above = y.above; leaves = y.leaves }; known = subst (WalkKnows (begun_at c h) h walk) (sym at) root; asked = w.asked },
       ),
     )
       where

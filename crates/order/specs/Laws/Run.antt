@@ -7,7 +7,7 @@ use Rattle.arena.specs.declared.word.Side.TheVariants as sides
 use Rattle.arena.proofs.Lemmas.{ends_self}
 use Rattle.prims.specs.Laws.Idle.{IsIdle, idle_if_finished}
 use Rattle.prims.specs.Laws.Begun.{TakesOnly, takes_by_others, takes_by_step}
-use Rattle.template.specs.Common.{load, IsTreeRun, TreeAllows, level, begins_try, IsOwnMoment, WalkKnows, WalkWaits, IsPastRoot}
+use Rattle.template.specs.Common.{load, IsTreeRun, TreeAllows, level, begins_try, IsOwnMoment, Passed, WalkKnows, WalkWaits, IsPastRoot}
 use Rattle.prims.specs.Llx.Laws.{llx_keeps, llx_lawful, llx_made, load_lawful, load_told}
 use Rattle.prims.specs.Vlx.Laws.{vlx_keeps, vlx_lawful, vlx_made}
 use Rattle.prims.proofs.Lemmas.{llx_fills_not, vlx_fills_not}
@@ -16,7 +16,9 @@ use Rattle.template.specs.Walk.Laws.{walk_keeps, walk_lawful, walk_made, walk_to
 use Rattle.template.specs.declared.walk.WalkAt.{WalkAt}
 use Rattle.template.specs.declared.walk.WalkAt.TheVariants as places
 use Rattle.template.specs.declared.walk.WalkRun.{WalkRun}
-use Rattle.template.proofs.Lemmas.{BeginsNoTry, llx_begins_none, others_begin_none, own_begins, own_begins_none, vlx_begins_none, walk_begins_none, walk_fills_not, stood_inside}
+use Rattle.ordered_map.proofs.MapLemmas.{tree_run}
+use Rattle.template.specs.declared.walk.Way.TheVariants.{InTree, Within}
+use Rattle.template.proofs.Lemmas.{BeginsNoTry, in_tree, llx_begins_none, others_begin_none, own_begins, own_begins_none, vlx_begins_none, walk_begins_none, walk_fills_not, stood_inside}
 use Rattle.order.specs.Found.{AreThere, IsAtLowFork, Looks, StandsIn, TakesPair, more_at}
 use Rattle.order.specs.Known.{AreLastTurns, BeginsHere, IsLastTurn, ReadGoes, ReadIsReady, ReadIsToldAt, ReadWaits, ReadWaitsAt, RunStands, StandsInTry, Validates, Walks, WalksInTry}
 use Rattle.order.specs.Laws.Depth.{fork_depth, head_fits}
@@ -57,16 +59,19 @@ module _ {R A : Type 0} (means : ReadMeaning R A) (m : ReadRun R) where
     last_more : (k : ℕ) (side : Side) (n : ℕ) → IsLastTurn c h k side n → IsLastTurn c (r ⊳ h) k side n
     last_more k side n (inl e) = inl e
     last_more k side n (inr x) = inr record {
-      passed = record { first = x.passed.first; own = x.passed.own; passed = walk_stays r h x.passed.first k n x.passed.passed };
+      passed = record { first = x.passed.first; own = x.passed.own; passed = inl (walk_stays r h x.passed.first k n there) };
       fork = settled_leaf (value h) (value (r ⊳ h)) n same ∙ x.fork;
       turn = settled_toward (value h) (value (r ⊳ h)) n k same ∙ x.turn;
     }
       where
+        there : Passed h x.passed.first k n
+        there = in_tree c.layout h x.passed.first k n g.0 x.passed.passed
+
         same : SameSettled (value h) (value (r ⊳ h)) n
-        same = stood_settled c.layout (r ⊳ h) h n (g.0, run) (inr (ends_self h)) (was_passed h x.passed.first k n x.passed.passed)
+        same = stood_settled c.layout (r ⊳ h) h n (g.0, run) (inr (ends_self h)) (was_passed h x.passed.first k n there)
 
     walks_more : (walk : WalkRun) (side : Side) (turns : LastTurns) → Walks means m.read c h walk side turns → Walks means m.read c (r ⊳ h) walk side turns
-    walks_more walk side turns x = record { key = x.key; goal = x.goal; goes_to = x.goes_to; last = λ s. last_more x.key s (turn_to s turns).0 (x.last s) }
+    walks_more walk side turns x = record { key = x.key; goal = x.goal; way = x.way; goes_to = x.goes_to; last = λ s. last_more x.key s (turn_to s turns).0 (x.last s) }
 
     stands_more : (n : ℕ) → RunStands means m c h n → RunStands means m c (r ⊳ h) n
     stands_more n x = record {
@@ -166,7 +171,7 @@ module _ {R A : Type 0} (means : ReadMeaning R A) (m : ReadRun R) where
 
   -- a load of a settled word of a node that has been in the tree continues the run
   load_on : (c : Call) (h : History) (s : Step) (n : ℕ) (part : SettledPart) → IsTreeRun c.layout h → HasStood c h n → s ≡ load LoadSettled (node n (Settled part)) → IsRun TreeAllows c.layout (row_of c s h ⊳ h)
-  load_on c h s n part g x asked = load_lawful TreeAllows c h LoadSettled (node n (Settled part)) s g.1 asked record { word = tt; same = refl } (λ q. cc) (stood_inside c.layout h n g x.stood)
+  load_on c h s n part g x asked = load_lawful TreeAllows c h LoadSettled (node n (Settled part)) s g.1 asked record { word = tt; same = refl } (λ q. cc) (stood_inside c.layout h n (tree_run c.layout h g) x.stood)
 
   load_stood : (c : Call) (h : History) (of : ReadLoad) → MayLoad means m.read m.snaps.items c h of → HasStood c h (load_node of).0
   load_stood c h (loads.Head above n) x = x.0.stood
@@ -278,7 +283,7 @@ module _ {R A : Type 0} (means : ReadMeaning R A) (m : ReadRun R) where
       root_begins w = begins_now Root w (record { stood = root_there (begun_at c h) h goes.reads.run (ends_self h); asks = w.0.asks; some = w.0.some; waits = rw try.2 tt; here = w.0.here }, w.1)
 
     walk_begins : (begin : History) (walk : WalkRun) (side : Side) (turns : LastTurns) → walk.at ≡ places.Root → WalksInTry means m c h begin turns places.Root → ReadGoes means m (begun_at c begin) h → ReadWaitsAt means m (begun_at c begin) h s (Walk walk side turns) → ReadyAt c made v (Walk walk side turns)
-    walk_begins begin walk side turns e try goes w = begins_now begin goes try.0 loads (Walk walk side turns) w (record { key = w.0.key; goal = w.0.goal; goes_to = w.0.goes_to; last = rw try.1 (no_turn (begun_at c h) h w.0.key) }, again)
+    walk_begins begin walk side turns e try goes w = begins_now begin goes try.0 loads (Walk walk side turns) w (record { key = w.0.key; goal = w.0.goal; way = w.0.way; goes_to = w.0.goes_to; last = rw try.1 (no_turn (begun_at c h) h w.0.key) }, again)
       where
         at_root : walk.trail.node.0 ≡ 0
         at_root = subst (WalkKnows (begun_at c begin) h walk) e w.1.known
@@ -287,7 +292,7 @@ module _ {R A : Type 0} (means : ReadMeaning R A) (m : ReadRun R) where
         loads = rw (e, at_root) at w.1.asked
 
         again : WalkWaits walk (begun_at c h) h s
-        again = record { run = w.1.run; small = w.1.small; since = ends_self h; known = subst (WalkKnows (begun_at c h) h walk) (sym e) at_root; asked = w.1.asked }
+        again = record { run = w.1.run; may = w.1.may; small = w.1.small; since = ends_self h; known = subst (WalkKnows (begun_at c h) h walk) (sym e) at_root; sure = λ within. absurd (let d : InTree ≡ Within = sym w.0.way ∙ within in cc); asked = w.1.asked }
 
     walk_told_in : (begin : History) (walk : WalkRun) (side : Side) (turns : LastTurns) (p : WalkAt) → walk.at ≡ p → WalksInTry means m c h begin turns p → ReadGoes means m (begun_at c begin) h → ReadWaitsAt means m (begun_at c begin) h s (Walk walk side turns) → ReadyAt c made v (Walk walk side turns)
     walk_told_in begin walk side turns places.Start e try goes w = absurd (subst (WalkKnows (begun_at c begin) h walk) e w.1.known)

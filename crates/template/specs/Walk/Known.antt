@@ -1,23 +1,35 @@
 -- When a walk may continue, what it waits for, and what its answer says.
-use Rattle.std.specs.Prelude.{◌≡◌, ℕ, ◌^◌, ◌<◌, Bool, true, false, ◌==◌, Option, Some, None}
+use Rattle.std.specs.Prelude.{◌≡◌, ◌≢◌, ℕ, ◌^◌, ◌<◌, Bool, true, false, ◌==◌, Option, Some, None}
+use Rattle.arena.specs.declared.limits.Mode.TheVariants.{Trie as TrieMode}
 use Rattle.arena.specs.declared.head.Head.{Head as HeadParts}
-use Rattle.histories.specs.Common.{Turn, Ask, Done, Step, Kind, LoadSettled, LoadChild, NodeWord, Settled, Child as ChildWord, Head as HeadWord, More as MoreWord, Key as KeyWord}
+use Rattle.histories.specs.Common.{Layout, Tree as TreeMode, Turn, Ask, Done, Step, Kind, LoadSettled, LoadChild, NodeWord, Settled, Child as ChildWord, Head as HeadWord, More as MoreWord, Key as KeyWord}
 use Rattle.histories.specs.Common.{Value as ValueWord, High as HighWord, Side, Left, Slot, First, Word, head_of, node, first_key, History, value, Extends, Call, MatchTurn}
 use Rattle.prims.specs.Llx.Known.{load}
 use Rattle.ordered_map.specs.Holding.{end_slot, held_pairs, held_from}
 use Rattle.ordered_map.specs.OrderedMap.{get}
 use Rattle.ordered_map.specs.Paths.{end_turn}
-use Rattle.ordered_map.specs.Runs.{IsTreeRun}
+use Rattle.ordered_map.specs.Runs.{IsMapRun}
+use Rattle.ordered_map.specs.Bits.{IsForkKey, IsInSpan}
 use Rattle.ordered_map.specs.TreeWords.{is_leaf, level, toward}
-use Rattle.template.specs.FoundLeaf.{path_key, asked_key, HasFoundGoal}
+use Rattle.ordered_map.specs.TrieShape.{Stays}
+use Rattle.template.specs.FoundLeaf.{path_key, asked_key, FoundBy}
 use Rattle.template.specs.Trails.{OnTrail, IsOwnMoment}
 use Rattle.template.specs.declared.walk.Trail.{Trail}
 use Rattle.template.specs.declared.walk.Found.{Found}
 use Rattle.ordered_map.specs.declared.rule.Goal.{Goal}
 use Rattle.ordered_map.specs.declared.rule.Goal.TheVariants.{Key as ToKey, End}
+use Rattle.template.specs.declared.walk.Way.{Way}
+use Rattle.template.specs.declared.walk.Way.TheVariants.{InTree, InTrie, Within}
 use Rattle.template.specs.declared.walk.WalkRun.{WalkRun}
 use Rattle.template.specs.declared.walk.WalkAt.{WalkAt}
 use Rattle.template.specs.declared.walk.WalkAt.TheVariants.{Start, Root, Head, Key, Child, More, Pair, Value, High}
+
+-- A walk may go to this goal by this way: in a tree to each, in a trie to a key.
+abbrev pub MayGo : Layout → Way → Goal → Type 0
+MayGo lay InTree goal = lay.mode ≡ TreeMode
+MayGo lay InTrie (ToKey k) = lay.mode ≡ TrieMode
+MayGo lay Within (ToKey k) = lay.mode ≡ TrieMode
+MayGo lay way (End side) = ⊥
 
 -- what a word of the node that the walk has reached holds
 abbrev pub here : History → WalkRun → NodeWord → ℕ
@@ -86,25 +98,44 @@ walk_kind _ = LoadSettled
 abbrev pub walk_step : WalkRun → WalkAt → Step
 walk_step m at = load (walk_kind at) (node m.trail.node.0 (walk_part at))
 
+-- the fork above its node stays on the path of its key
+abbrev pub StaysAbove : WalkRun → Call → History → Type 0
+StaysAbove m c h = m.trail.node.0 ≢ 0 → Stays c.layout (value h) (path_key m.goal) m.trail.parent.0
+
+-- at this place it loads a field
+abbrev pub LoadsChild : WalkAt → Type 0
+LoadsChild (Child low side) = Unit {0}
+LoadsChild _ = ⊥
+
+-- so does its node, where it leaves it
+pub record IsSure (m : WalkRun) (c : Call) (h : History) : Type 0 where
+  pub above : StaysAbove m c h
+  pub leaves : LoadsChild m.at → Stays c.layout (value h) (path_key m.goal) m.trail.node.0
+
 -- a walk waits for this step, at a moment of its call
 pub record WalkWaits (m : WalkRun) (c : Call) (h : History) (step : Step) : Type 0 where
-  pub run : IsTreeRun c.layout h
+  pub run : IsMapRun c.layout h
+  pub may : MayGo c.layout m.way m.goal
   pub small : path_key m.goal < 2 ^ 64
   pub since : Extends h c.start
   pub known : WalkKnows c h m m.at
+  pub sure : m.way ≡ Within → IsSure m c h
   pub asked : step ≡ walk_step m m.at
 
 -- an own row has found v, which is what the word of its place holds
 pub record WalkIsTold (m : WalkRun) (c : Call) (h : History) (v : ℕ) : Type 0 where
-  pub run : IsTreeRun c.layout h
+  pub run : IsMapRun c.layout h
+  pub may : MayGo c.layout m.way m.goal
   pub small : path_key m.goal < 2 ^ 64
   pub own : IsOwnMoment c h
   pub known : WalkKnows c h m m.at
+  pub sure : m.way ≡ Within → IsSure m c h
   pub told : here h m (walk_part m.at) ≡ v
 
 -- a walk may begin, at the root
 pub record WalkBegins (m : WalkRun) (c : Call) (h : History) : Type 0 where
-  pub run : IsTreeRun c.layout h
+  pub run : IsMapRun c.layout h
+  pub may : MayGo c.layout m.way m.goal
   pub small : path_key m.goal < 2 ^ 64
   pub since : Extends h c.start
   pub at : m.at ≡ Start
@@ -115,9 +146,9 @@ abbrev pub WalkIsReady : WalkRun → Call → History → Option ℕ → Type 0
 WalkIsReady m c h None = WalkBegins m c h
 WalkIsReady m c h (Some v) = WalkIsTold m c h v
 
--- the walk has found this leaf, to which it was to go
+-- the walk has found this leaf, to which it was to go, or this fork
 abbrev pub WalkAnswers : WalkRun → Call → History → Found → Type 0
-WalkAnswers m c h f = HasFoundGoal m.goal c h f
+WalkAnswers m c h f = FoundBy m.way m.goal c h f
 
 -- a walk waits for the step of the turn, or its answer is right
 abbrev pub WalkTurn : Call → History → WalkRun → Turn Found → Type 0
@@ -138,7 +169,15 @@ pub record WalkEnds (old now : WalkRun) (turn : Turn Found) (head : HeadParts) (
 -- what a walk knows when it gets something, apart from that: it is at a node that was
 -- on its path
 pub record WalkStands (m : WalkRun) (c : Call) (h : History) : Type 0 where
-  pub run : IsTreeRun c.layout h
+  pub run : IsMapRun c.layout h
+  pub may : MayGo c.layout m.way m.goal
   pub small : path_key m.goal < 2 ^ 64
   pub own : IsOwnMoment c h
   pub trail : OnTrail c h (path_key m.goal) m.trail
+  pub sure : m.way ≡ Within → StaysAbove m c h
+
+-- it ends at a fork of class 0 with this key just where it goes within, and its own key does not share that
+pub record EndsAt (m : WalkRun) (key : ℕ) (ends : Bool) : Type 0 where
+  pub within : ends ≡ true → m.way ≡ Within
+  pub outside : ends ≡ true → (level : ℕ) → IsForkKey key level → ¬ IsInSpan key level (path_key m.goal)
+  pub inside : ends ≡ false → m.way ≡ Within → (k : ℕ) → m.goal ≡ ToKey k → (level : ℕ) → IsForkKey key level → IsInSpan key level k

@@ -2,6 +2,8 @@
 -- leaf.
 use Rattle.std.specs.Prelude.{ℕ, ◌+◌, ◌-◌, ◌*◌, ◌<◌, Option, unwrap_or}
 use Rattle.histories.specs.Common.{head_of, slot_no}
+use Rattle.template.specs.declared.walk.Way.{Way}
+use Rattle.template.specs.declared.walk.Way.TheVariants.{InTree, InTrie, Within}
 use Rattle.template.specs.declared.walk.WalkRun.{WalkRun}
 use Rattle.template.specs.declared.walk.WalkAt.{WalkAt}
 use Rattle.template.specs.declared.walk.WalkAt.TheVariants.{Start, Root, Head, Key, Child, More, Pair, Value, High}
@@ -29,6 +31,17 @@ WalkFitsAt (Pair head more slot) v nodes = head.level < 2 + nodes
 WalkFitsAt (Value head more slot key) v nodes = head.level < 2 + nodes
 WalkFitsAt _ v nodes = Unit {0}
 
+-- what stands for this number of taken nodes in the bounds of a walk: in a tree it is that, in a trie, which has
+-- 67 levels at most, 65
+abbrev pub room : Way → ℕ → ℕ
+room InTree nodes = nodes
+room InTrie nodes = 65
+room Within nodes = 65
+
+-- how many steps a walk may still ask for, where no more nodes than these are taken
+abbrev pub steps_left : WalkRun → ℕ → ℕ
+steps_left m nodes = walk_left m.at (room m.way nodes)
+
 -- what a walk gets fits this number of taken nodes
 abbrev pub WalkFits : WalkRun → Option ℕ → ℕ → Type 0
-WalkFits m got nodes = WalkFitsAt m.at (unwrap_or got 0) nodes
+WalkFits m got nodes = WalkFitsAt m.at (unwrap_or got 0) (room m.way nodes)

@@ -3,6 +3,7 @@
 use Rattle.std.specs.Prelude.{ℕ, Bool, false, if◌then◌else◌, Option, Some, None}
 use Rattle.template.specs.Common.{nodes_in_try, applies, edit_to, leaves, Goal, Key, End, Rule, asked_key}
 use Rattle.template.specs.declared.walk.Found.{Found}
+use Rattle.template.specs.declared.walk.Way.TheVariants.{InTree}
 use Rattle.tree.specs.declared.take.TakePair.{TakePair}
 use Rattle.tree.specs.declared.put.PutPair.{PutPair}
 use Rattle.tree.specs.declared.key_edit.KeyEdit.{KeyEdit}
@@ -30,6 +31,7 @@ doing None = through take_means taking
 abbrev pub leaving : Option ℕ → EditMeaning ℕ
 leaving left = record {
   goal = λ key. Key key;
+  way = λ key. InTree;
   edit = λ key f. edit_to key left;
   work = (doing left).work;
   most_nodes = λ key. (doing left).most_nodes 0;
@@ -64,6 +66,7 @@ module _ {G R : Type 0} (goal : G → Goal) (rule : R → Rule) where
   abbrev pub key_means : EditMeaning (KeyEdit G R)
   key_means = record {
     goal = λ e. goal e.goal;
+    way = λ e. InTree;
     edit = λ e f. edit_to (key_at e f) (leaves (rule e.rule));
     work = λ e f. if wants (goal e.goal) (rule e.rule) f.value then (part e).work (key_at e f) f else no_work;
     most_nodes = λ e. nodes_in_try (rule e.rule);

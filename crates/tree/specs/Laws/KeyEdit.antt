@@ -2,9 +2,10 @@
 -- does at its key what leaves its value there.
 use Rattle.std.proofs.Common.{◌≡◌, ℕ, ◌^◌, ◌<◌, Bool, true, false, cond, List, Option, Some, None, refl, sym, ◌∙◌, ap, subst, arith}
 use Rattle.histories.specs.Common.{History, value, Call, Side}
-use Rattle.template.specs.Common.{snap_at, IsUpdateOver, Snap, edit_key, edit_to, leaves, IsTreeRun, class, Goal, Key, End, Rule, HasFoundGoal, asked_key, asked_in, path_key}
-use Rattle.ordered_map.proofs.Lemmas.{run_since}
+use Rattle.template.specs.Common.{snap_at, IsUpdateOver, Snap, edit_key, edit_to, leaves, IsMapRun, class, Goal, Key, End, Rule, HasFoundGoal, asked_key, asked_in, path_key}
+use Rattle.ordered_map.proofs.MapLemmas.{run_since}
 use Rattle.template.specs.declared.walk.Found.{Found}
+use Rattle.template.specs.declared.walk.Way.TheVariants.{InTree}
 use Rattle.template.proofs.Lemmas.{found_own, found_small, said_low}
 use Rattle.tree.specs.declared.key_edit.KeyEdit.{KeyEdit}
 use Rattle.tree.specs.KeyEdit.Laws.{key_bounds, leaving_bounds}
@@ -59,11 +60,11 @@ has_key side c f rule wanted m a =
     sym (ap (λ w. w.class) a.head) ∙ low
 
 -- a leaf that was found at a goal is that of its key
-own_found : (goal : Goal) (c : Call) (f : Found) (rule : Rule) → wants goal rule f.value ≡ true → (m : History) → IsTreeRun c.layout m → HasFoundGoal goal c m f → HasFoundGoal (Key (asked_key goal f.key)) c m f
+own_found : (goal : Goal) (c : Call) (f : Found) (rule : Rule) → wants goal rule f.value ≡ true → (m : History) → IsMapRun c.layout m → HasFoundGoal goal c m f → HasFoundGoal (Key (asked_key goal f.key)) c m f
 own_found (Key k) c f rule wanted m run a = a
 own_found (End side) c f rule wanted m run a = found_own side c m f run a (has_key side c f rule wanted m a)
 
-own_small : (goal : Goal) (c : Call) (f : Found) (h : History) → IsTreeRun c.layout h → path_key goal < 2 ^ 64 → HasFoundGoal goal c h f → asked_key goal f.key < 2 ^ 64
+own_small : (goal : Goal) (c : Call) (f : Found) (h : History) → IsMapRun c.layout h → path_key goal < 2 ^ 64 → HasFoundGoal goal c h f → asked_key goal f.key < 2 ^ 64
 own_small (Key k) c f h run small found = small
 own_small (End side) c f h run small found = found_small (End side) c h f run small found
 
@@ -99,18 +100,19 @@ module _ {G R : Type 0} (goal : G → Goal) (rule : R → Rule) where
     own_needed = subst (λ (w : Work). 0 < w.need) same_work needed
 
     -- what was looked at serves what it does there
-    pub own_looked : (c : Call) (h : History) (snaps : List Snap) → IsTreeRun c.layout h → HasLooked (key_means goal rule) c h e f snaps → HasLooked (does e) c h (at e f) f snaps
+    pub own_looked : (c : Call) (h : History) (snaps : List Snap) → IsMapRun c.layout h → HasLooked (key_means goal rule) c h e f snaps → HasLooked (does e) c h (at e f) f snaps
     own_looked c h snaps run x = record {
       small = own_small (goal e.goal) c f h run x.small x.found;
+      may = x.may;
       found = own_found (goal e.goal) c f (rule e.rule) wanted h run x.found;
       usable = λ i p. own_snapped (snap_at snaps i) (x.usable i p);
       seen = x.seen;
     }
       where
-        own_snapped : (s : Snap) → HasSnappedAfterWalk c h (goal e.goal) f s → HasSnappedAfterWalk c h (Key (at e f)) f s
+        own_snapped : (s : Snap) → HasSnappedAfterWalk c h InTree (goal e.goal) f s → HasSnappedAfterWalk c h InTree (Key (at e f)) f s
         own_snapped s u = record { moment = u.moment; within = u.within; since = u.since; found = own_found (goal e.goal) c f (rule e.rule) wanted u.moment (run_since c.layout h u.moment run u.within) u.found; is = u.is; met = u.met }
 
-    own_filled : (c : Call) (h : History) (snaps : List Snap) (ns : Nodes) (read : Reading) → IsTreeRun c.layout h → HasFilledAll (key_means goal rule) c h e f snaps ns read → HasFilledAll (does e) c h (at e f) f snaps ns read
+    own_filled : (c : Call) (h : History) (snaps : List Snap) (ns : Nodes) (read : Reading) → IsMapRun c.layout h → HasFilledAll (key_means goal rule) c h e f snaps ns read → HasFilledAll (does e) c h (at e f) f snaps ns read
     own_filled c h snaps ns read run x = record {
       looked = own_looked c h snaps run x.looked;
       enough = x.enough;

@@ -3,6 +3,7 @@ use Rattle.std.specs.Prelude.{ℕ, ◌+◌, ◌-◌, ◌^◌, min, nat_lt, ◌==
 use Rattle.arena.specs.declared.number.NodeNo.{NodeNo}
 use Rattle.template.specs.Common.{Pair, Insert as PutEdit, pair, insert, leaf_plan, Key as ToKey}
 use Rattle.template.specs.declared.walk.Found.{Found}
+use Rattle.template.specs.declared.walk.Way.TheVariants.{InTree}
 use Rattle.tree.specs.LeafEdit.{leaf_looks, leaf_reads}
 use Rattle.tree.specs.declared.put.PutPair.{PutPair}
 use Rattle.edits.specs.declared.edit.Nodes.{Nodes}
@@ -71,6 +72,7 @@ put_pieces k v f ns read nth = split_or_leaf (splits f) (pairs_with k v f read) 
 abbrev pub put_means : EditMeaning PutPair
 put_means = record {
   goal = λ e. ToKey e.key;
+  way = λ e. InTree;
   edit = λ e f. PutEdit e.key e.value;
   work = λ e f. put_work f;
   most_nodes = λ e. 3;

@@ -4,6 +4,7 @@ use Rattle.arena.specs.declared.head.Head.{Head}
 use Rattle.histories.specs.Common.{NodeNo, Side, head_of}
 use Rattle.template.specs.Common.{Snap, child_of, snap_at, Pair, Delete as TakeEdit, delete, pair, join_plan, leaf_plan, sibling_place, Key as ToKey}
 use Rattle.template.specs.declared.walk.Found.{Found}
+use Rattle.template.specs.declared.walk.Way.TheVariants.{InTree}
 use Rattle.tree.specs.LeafEdit.{leaf_looks, leaf_reads}
 use Rattle.tree.specs.declared.take.TakePair.{TakePair}
 use Rattle.edits.specs.declared.edit.Look.{Look}
@@ -80,6 +81,7 @@ take_piece k f snaps read =
 abbrev pub take_means : EditMeaning TakePair
 take_means = record {
   goal = λ e. ToKey e.key;
+  way = λ e. InTree;
   edit = λ e f. TakeEdit e.key;
   work = λ e f. take_work f;
   most_nodes = λ e. 1;

@@ -4,19 +4,20 @@ use Rattle.std.proofs.Math.Decide.{dec_lt}
 use native.Mathlib.Decide.{ℕ_discrete}
 use Rattle.histories.specs.Common.{NodeNo, Child, Side, Left, Right, History, value, Call, node, child, first_key, Descriptor}
 use Rattle.template.specs.Common.{Job, Says, Snap, Pair, Insert as PutEdit, AllBelow, IsRising, insert, pair, get, held_pairs}
-use Rattle.template.specs.Common.{IsWellCounted, IsTreeRun, class, level, rank, HasFoundLeaf, IsFresh, IsPromised, Key as ToKey}
+use Rattle.template.specs.Common.{IsWellCounted, IsMapRun, class, level, rank, HasFoundLeaf, IsFresh, IsPromised, Key as ToKey}
 use Rattle.ordered_map.specs.OrderedMap.{AllFrom}
 use Rattle.ordered_map.specs.Edits.{HasTreeLevels, IsSplitBy}
 use Rattle.ordered_map.specs.TreeWords.{leaf_items}
 use Rattle.ordered_map.proofs.Lemmas.{counted_few, edited_below, edited_rises, high_items, low_items, low_pairs, put_before}
 use Rattle.template.specs.Promises.{HasFreshEdit}
 use Rattle.template.specs.declared.walk.Found.{Found}
-use Rattle.template.proofs.Lemmas.{edit_promised, found_blank, found_class, found_level, said_low}
+use Rattle.template.specs.declared.walk.Way.TheVariants.{InTree}
+use Rattle.template.proofs.Lemmas.{edit_promised, found_below, found_blank, found_class, found_level, said_low}
 use Rattle.tree.specs.LeafEdit.{leaf_looks, leaf_reads}
 use Rattle.tree.specs.declared.put.PutPair.{PutPair}
 use Rattle.tree.specs.Put.Laws.{put_bounds}
 use Rattle.tree.specs.Put.Means.{put_means, put_need, put_reads, put_work, has_room, lower, pairs_with, split_or_leaf, second_pairs, splits, splits_by}
-use Rattle.tree.specs.Laws.LeafLooks.{HasBoth, class_is, has_both, held_is, is_leaf_edit, leaf_begins, leaf_covered, leaf_differs, leaf_opens, leaf_over, leaf_stood, many, pairs_are}
+use Rattle.tree.specs.Laws.LeafLooks.{HasBoth, class_is, found_leaf, has_both, held_is, is_leaf_edit, leaf_begins, leaf_covered, leaf_differs, leaf_opens, leaf_over, leaf_stood, many, no_trie, pairs_are, tree_surely}
 use Rattle.tree.specs.Laws.PairLists.{both_parts, first_below, first_long, insert_least, insert_most, insert_present, insert_some, parts_apart, rest_long}
 use Rattle.edits.specs.declared.edit.Nodes.{Nodes}
 use Rattle.edits.specs.declared.edit.Nth.{Nth}
@@ -32,7 +33,7 @@ use Rattle.edits.proofs.Lemmas.{IsForkWith, IsLeafWith, fork_with, leaf_with, ta
 
 -- What it looks at, and what it reads
 
-put_reads_well : (ed : PutPair) (c : Call) (h : History) (f : Found) (snaps : List Snap) (y : NodeNo × Reading) → IsTreeRun c.layout h → HasLooked put_means c h ed f snaps → put_reads f ≡ Some y → MayRead c.layout h y.0.0 y.1
+put_reads_well : (ed : PutPair) (c : Call) (h : History) (f : Found) (snaps : List Snap) (y : NodeNo × Reading) → IsMapRun c.layout h → HasLooked put_means c h ed f snaps → put_reads f ≡ Some y → MayRead c.layout h y.0.0 y.1
 put_reads_well ed c h f snaps y run x e = go (f.head.class == 0) refl e
   where
     go : (b : Bool) → (f.head.class == 0) ≡ b → (if b then Some (leaf_reads f) else None) ≡ Some y → MayRead c.layout h y.0.0 y.1
@@ -67,8 +68,8 @@ put_fills = record { fields = λ e c h f snaps ns read nth side run x enough n p
 lower_is : (deep : ℕ) → deep + 1 < 2 ^ 61 → lower deep ≡ deep + 1
 lower_is deep fits = omega (arith, fits)
 
-module _ (ed : PutPair) (c : Call) (h : History) (f : Found) (snaps : List Snap) (ns : Nodes) (read : Reading) (run : IsTreeRun c.layout h) (x : HasFilledAll put_means c h ed f snaps ns read) where
-  looked : HasLookedBy leaf_looks c h (ToKey ed.key) f snaps
+module _ (ed : PutPair) (c : Call) (h : History) (f : Found) (snaps : List Snap) (ns : Nodes) (read : Reading) (run : IsMapRun c.layout h) (x : HasFilledAll put_means c h ed f snaps ns read) where
+  looked : HasLookedBy leaf_looks c h InTree (ToKey ed.key) f snaps
   looked = x.looked
 
   abbrev found : HasFoundLeaf c h ed.key f
@@ -368,14 +369,15 @@ module _ (ed : PutPair) (c : Call) (h : History) (f : Found) (snaps : List Snap)
 
   put_is_promised : (j : Job) (d : Descriptor) → j.update ≡ update_for (put_work f) snaps ns → Says d j → IsPromised c.layout c.pass h j.scx.0 d (PutEdit ed.key ed.value)
   put_is_promised j d is says = edit_promised c h j.scx.0 (PutEdit ed.key ed.value) f d is_made.0 run x.looked.small found
-      (is_leaf_edit f snaps ns (put_work f) j d is_made.0 both refl is is_made.1 says) is_made.2
+      (tree_surely c h ed.key f.trail.parent.0 f.trail.side f.trail.node.0 x.looked.may (found.trail.parent (found_below (ToKey ed.key) c h f run found)))
+      (is_leaf_edit f snaps ns (put_work f) j d is_made.0 both refl is is_made.1 says) is_made.2 (no_trie x.looked.may)
       (λ e. absurd (let z : Some ed.value ≡ None = e in cc))
 
 -- its plan covers its two nodes, and what it has filled is promised to put the value at the key
 pub put_makes : MakesWell put_means
 put_makes = record {
   over = λ e c h f snaps ns run n x enough. leaf_over e.key c h f snaps ns (put_work f) run x enough refl;
-  leaf = λ e c h f snaps s run n x enough k later since covers makes. leaf_covered (PutEdit e.key e.value) f snaps k s (has_both f snaps enough x.seen) covers;
+  leaf = λ e c h f snaps s run n x enough k later since covers makes. leaf_covered (PutEdit e.key e.value) f snaps k s (found_leaf e.key c h f x.found) (has_both f snaps enough x.seen) covers;
   promised = λ e c h f snaps ns read j d run n x is says. put_is_promised e c h f snaps ns read run x j d is says;
 }
 

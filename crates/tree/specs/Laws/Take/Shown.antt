@@ -2,17 +2,19 @@
 use Rattle.std.proofs.Common.{◌≡◌, ◌≢◌, ℕ, ◌<◌, sym, ◌∙◌, subst, arith}
 use Rattle.histories.specs.Common.{Side, Left, Right, History, value, Call, child}
 use Rattle.arena.proofs.Lemmas.{ends_self}
-use Rattle.template.specs.Common.{child_of, Snap, WasInTree, IsTreeRun, level, HasTurned, Goal}
-use Rattle.ordered_map.proofs.Lemmas.{child_stood, children_apart, levels_rise, run_since, settled_level, stood_settled, was_passed}
+use Rattle.template.specs.Common.{child_of, Snap, WasInTree, IsMapRun, level, HasTurned, Goal}
+use Rattle.ordered_map.proofs.Lemmas.{settled_level}
+use Rattle.ordered_map.proofs.MapLemmas.{child_stood, children_apart, levels_rise, run_since, stood_settled, walked_stood}
 use Rattle.template.specs.declared.walk.Found.{Found}
+use Rattle.template.specs.declared.walk.Way.{Way}
 use Rattle.edits.specs.Known.{HasSnappedAfterWalk}
 
-module _ {goal : Goal} (c : Call) (h : History) (k : ℕ) (f : Found) (s : Snap) (turn : Side) (next : ℕ) (run : IsTreeRun c.layout h) (u : HasSnappedAfterWalk c h goal f s) (turned : HasTurned c u.moment k s.node.0 turn next) where
-  then : IsTreeRun c.layout u.moment
+module _ {way : Way} {goal : Goal} (c : Call) (h : History) (k : ℕ) (f : Found) (s : Snap) (turn : Side) (next : ℕ) (run : IsMapRun c.layout h) (u : HasSnappedAfterWalk c h way goal f s) (turned : HasTurned c u.moment k s.node.0 turn next) where
+  then : IsMapRun c.layout u.moment
   then = run_since c.layout h u.moment run u.within
 
   stood : WasInTree u.moment s.node.0
-  stood = was_passed u.moment turned.passed.first k s.node.0 turned.passed.passed
+  stood = walked_stood c.layout u.moment turned.passed.first k s.node.0 turned.passed.passed
 
   field_is : (side : Side) → value u.moment (child s.node.0 side) ≡ (child_of s side).0
   field_is side = u.is.linked.fields side u.is.info

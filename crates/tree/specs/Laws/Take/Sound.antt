@@ -5,7 +5,7 @@ use Rattle.std.proofs.Math.Decide.{dec_lt}
 use Rattle.std.proofs.lemmas.Nat.{mul-le}
 use native.Mathlib.Decide.{ℕ_discrete}
 use Rattle.arena.specs.declared.head.Head.{Head as HeadParts}
-use Rattle.histories.specs.Common.{NodeNo, ScxNo, Settled, Child, Head, Key, Side, Left, Right, Slot, First as FirstSlot, IsInField, head_of, History}
+use Rattle.histories.specs.Common.{Tree as TreeMode, NodeNo, ScxNo, Settled, Child, Head, Key, Side, Left, Right, Slot, First as FirstSlot, IsInField, head_of, History}
 use Rattle.histories.specs.Common.{value, Extends, Call, IsPlan, count, count_of, member, taken_nodes, node, child, first_key, first_value, Descriptor}
 use Rattle.arena.specs.Heads.{head_word}
 use Rattle.arena.specs.ScxRecords.{bit}
@@ -13,20 +13,23 @@ use Rattle.arena.proofs.Lemmas.{taken_few}
 use Rattle.prims.specs.Laws.Idle.{IsQuietSince}
 use Rattle.prims.specs.Laws.Linked.{IsLinked, in_field_named, linked_since}
 use Rattle.template.specs.Common.{IsOpened, IsUpdateOver, Job, Says, child_of, snap_at, AreDistinct, Snap, Update, Pair, AllBelow, Delete as TakeEdit}
-use Rattle.template.specs.Common.{IsRising, delete, pair, held_pairs, IsWellCounted, WasInTree, IsTreeRun, Makes, join_plan, leaf_plan, edit_leaf}
+use Rattle.template.specs.Common.{IsRising, delete, pair, held_pairs, IsWellCounted, WasInTree, IsMapRun, Makes, join_plan, leaf_plan, edit_leaf}
 use Rattle.template.specs.Common.{sibling_place, class, is_leaf, level, toward, HasFoundLeaf, IsPromised, HasTurned, Key as ToKey, IsContended, WasNotFinal}
 use Rattle.ordered_map.specs.TreeShape.{leaf_place}
-use Rattle.ordered_map.proofs.Lemmas.{counted_few, held_count, held_first, leaf_taken_out, root_head, run_since, settled_toward, stood_blank, stood_counted, stood_depth, stood_settled, was_passed}
+use Rattle.ordered_map.specs.Paths.{depth}
+use Rattle.ordered_map.proofs.Lemmas.{counted_few, held_count, held_first, leaf_taken_out, settled_toward}
+use Rattle.ordered_map.proofs.MapLemmas.{root_head, run_since, stood_blank, stood_counted, stood_depth, stood_settled, walked_stood}
 use Rattle.template.specs.FreshNodes.{IsJoinAt, HasFreshCopy}
 use Rattle.template.specs.Promises.{IsSnapOf, HasFreshEdit}
 use Rattle.template.specs.declared.walk.Found.{Found}
+use Rattle.template.specs.declared.walk.Way.TheVariants.{InTree}
 use Rattle.template.proofs.Lemmas.{edit_promised, found_below, found_level, join_promised, said_low, opened_if_stood}
 use Rattle.tree.specs.LeafEdit.{leaf_looks, leaf_reads}
 use Rattle.tree.specs.declared.take.TakePair.{TakePair}
 use Rattle.tree.specs.Take.Laws.{take_bounds}
 use Rattle.tree.specs.Take.Means.{copied_pairs, copy_with, take_means, take_plan, take_work, work_by, take_reads, has_more, join_looks, sibling_of, sibling_copy}
 use Rattle.tree.specs.Laws.Take.Shown.{shown_stood, shown_rises, shown_apart}
-use Rattle.tree.specs.Laws.LeafLooks.{HasBoth, class_is, has_both, held_is, is_leaf_edit, leaf_begins, field_shown, leaf_covered, leaf_differs, leaf_opens, leaf_over, leaf_stood, many, pairs_are}
+use Rattle.tree.specs.Laws.LeafLooks.{HasBoth, class_is, found_leaf, has_both, held_is, is_leaf_edit, leaf_begins, field_shown, leaf_covered, leaf_differs, leaf_opens, leaf_over, leaf_stood, many, no_trie, pairs_are, tree_surely, turned_not_final}
 use Rattle.tree.specs.Laws.Looks.{same_node, goes_on, not_enough, is_other}
 use Rattle.tree.specs.Laws.PairLists.{delete_least, delete_most}
 use Rattle.edits.specs.declared.edit.Look.TheVariants.{At, Differs, Enough}
@@ -34,8 +37,8 @@ use Rattle.edits.specs.declared.edit.Nodes.{Nodes}
 use Rattle.edits.specs.declared.edit.Nth.TheVariants.{First}
 use Rattle.edits.specs.declared.piece.Piece.TheVariants.{Leaf, Fork}
 use Rattle.edits.specs.declared.reading.Reading.{Reading}
-use Rattle.edits.specs.Known.{HasLookedBy, HasSnappedAfterWalk, HasLooked, HasFilledAll, HoldsPiece, MayRead}
-use Rattle.edits.specs.Laws.Contended.{passed_not_final, shown_not_final, turned_contended}
+use Rattle.edits.specs.Known.{HasLookedBy, HasSnappedAfterWalk, HasLooked, HasFilledAll, HoldsPiece, MayRead, covered}
+use Rattle.edits.specs.Laws.Contended.{shown_not_final, turned_contended}
 use Rattle.edits.specs.Laws.PieceFills.{HoldsWords, the_same}
 use Rattle.edits.specs.Pairs.{pair_at}
 use Rattle.edits.specs.Pieces.{is_filled, piece_head, top_of, update_for, word_of}
@@ -66,40 +69,40 @@ seen_parent ed f g p snaps x = goes_on ((child_of g f.trail.grand_side).0 == f.t
 seen_left : (ed : TakePair) (f : Found) (g p l : Snap) (snaps : List Snap) → JoinSeen f (g ∷ p ∷ l ∷ snaps) → IsTrue ((child_of p f.trail.side).0 == f.trail.node.0) × (p.left ≡ l.node)
 seen_left ed f g p l snaps x = goes_on ((child_of p f.trail.side).0 == f.trail.node.0) p.left p l.node (x 2 (omega arith))
 
-module _ (ed : TakePair) (c : Call) (h : History) (f : Found) (run : IsTreeRun c.layout h) (needed : 0 < (take_work f).need) where
+module _ (ed : TakePair) (c : Call) (h : History) (f : Found) (run : IsMapRun c.layout h) (needed : 0 < (take_work f).need) where
   there : (old : ℕ) × (f.value ≡ Some old)
   there = key_there f.value (take_plan f) needed
 
-  grand_turned : (m : History) → IsTreeRun c.layout m → HasFoundLeaf c m ed.key f → HasTurned c m ed.key f.trail.grand.0 f.trail.grand_side f.trail.parent.0
+  grand_turned : (m : History) → IsMapRun c.layout m → HasFoundLeaf c m ed.key f → HasTurned c m ed.key f.trail.grand.0 f.trail.grand_side f.trail.parent.0
   grand_turned m r a = a.trail.grand (found_below (ToKey ed.key) c m f r a) (λ z. a.trail.high (found_below (ToKey ed.key) c m f r a) z a.leaf (said_low (value m) ed.key f.trail.node.0 there.0 (sym there.1 ∙ a.says)))
 
-  parent_turned : (m : History) → IsTreeRun c.layout m → HasFoundLeaf c m ed.key f → HasTurned c m ed.key f.trail.parent.0 f.trail.side f.trail.node.0
+  parent_turned : (m : History) → IsMapRun c.layout m → HasFoundLeaf c m ed.key f → HasTurned c m ed.key f.trail.parent.0 f.trail.side f.trail.node.0
   parent_turned m r a = a.trail.parent (found_below (ToKey ed.key) c m f r a)
 
   -- the call had turned at both as it took their snapshots
-  grand_snap : (s : Snap) (u : HasSnappedAfterWalk c h (ToKey ed.key) f s) → s.node.0 ≡ f.trail.grand.0 → HasTurned c u.moment ed.key s.node.0 f.trail.grand_side f.trail.parent.0
+  grand_snap : (s : Snap) (u : HasSnappedAfterWalk c h InTree (ToKey ed.key) f s) → s.node.0 ≡ f.trail.grand.0 → HasTurned c u.moment ed.key s.node.0 f.trail.grand_side f.trail.parent.0
   grand_snap s u e = subst (λ n. HasTurned c u.moment ed.key n f.trail.grand_side f.trail.parent.0) (sym e) (grand_turned u.moment (run_since c.layout h u.moment run u.within) u.found)
 
-  parent_snap : (s : Snap) (u : HasSnappedAfterWalk c h (ToKey ed.key) f s) → s.node.0 ≡ f.trail.parent.0 → HasTurned c u.moment ed.key s.node.0 f.trail.side f.trail.node.0
+  parent_snap : (s : Snap) (u : HasSnappedAfterWalk c h InTree (ToKey ed.key) f s) → s.node.0 ≡ f.trail.parent.0 → HasTurned c u.moment ed.key s.node.0 f.trail.side f.trail.node.0
   parent_snap s u e = subst (λ n. HasTurned c u.moment ed.key n f.trail.side f.trail.node.0) (sym e) (parent_turned u.moment (run_since c.layout h u.moment run u.within) u.found)
 
   -- the children of the parent were in the tree
-  below_parent : (s : Snap) → HasSnappedAfterWalk c h (ToKey ed.key) f s → s.node.0 ≡ f.trail.parent.0 → (side : Side) → WasInTree h (child_of s side).0
+  below_parent : (s : Snap) → HasSnappedAfterWalk c h InTree (ToKey ed.key) f s → s.node.0 ≡ f.trail.parent.0 → (side : Side) → WasInTree h (child_of s side).0
   below_parent s u e side = shown_stood c h ed.key f s f.trail.side f.trail.node.0 run u (parent_snap s u e) side
 
   -- and were not final
-  not_final_below : (s : Snap) → HasSnappedAfterWalk c h (ToKey ed.key) f s → s.node.0 ≡ f.trail.parent.0 → (side : Side) → WasNotFinal c h (child_of s side).0
+  not_final_below : (s : Snap) → HasSnappedAfterWalk c h InTree (ToKey ed.key) f s → s.node.0 ≡ f.trail.parent.0 → (side : Side) → WasNotFinal c h (child_of s side).0
   not_final_below s u e side = shown_not_final c h ed.key f s f.trail.side side f.trail.node.0 run u (parent_snap s u e)
 
   same_no : (a b : NodeNo) → a ≡ b → b.0 ≡ a.0
   same_no a b e = ap (λ (n : NodeNo). n.0) (sym e)
 
   -- each node at which it looks was in the tree
-  looks_stood : (snaps : List Snap) (n : NodeNo) → HasLookedBy join_looks c h (ToKey ed.key) f snaps → join_looks f snaps ≡ At n → WasInTree h n.0
-  looks_stood [] n x e = let t = grand_turned h run x.found in subst (λ (k : NodeNo). WasInTree h k.0) (same_node f.trail.grand n e) (was_passed h t.passed.first ed.key f.trail.grand.0 t.passed.passed)
+  looks_stood : (snaps : List Snap) (n : NodeNo) → HasLookedBy join_looks c h InTree (ToKey ed.key) f snaps → join_looks f snaps ≡ At n → WasInTree h n.0
+  looks_stood [] n x e = let t = grand_turned h run x.found in subst (λ (k : NodeNo). WasInTree h k.0) (same_node f.trail.grand n e) (walked_stood c.layout h t.passed.first ed.key f.trail.grand.0 t.passed.passed)
   looks_stood (g ∷ []) n x e =
       let t = parent_turned h run x.found in
-      subst (λ (k : NodeNo). WasInTree h k.0) (goes_on ((child_of g f.trail.grand_side).0 == f.trail.parent.0) f.trail.parent g n e).1 (was_passed h t.passed.first ed.key f.trail.parent.0 t.passed.passed)
+      subst (λ (k : NodeNo). WasInTree h k.0) (goes_on ((child_of g f.trail.grand_side).0 == f.trail.parent.0) f.trail.parent g n e).1 (walked_stood c.layout h t.passed.first ed.key f.trail.parent.0 t.passed.passed)
   looks_stood (g ∷ p ∷ []) n x e =
       subst (λ (k : NodeNo). WasInTree h k.0) (goes_on ((child_of p f.trail.side).0 == f.trail.node.0) p.left p n e).1
       (below_parent p (x.usable 1 (omega arith)) (same_no f.trail.parent p.node (seen_parent ed f g p [] x.seen).1) Left)
@@ -109,11 +112,11 @@ module _ (ed : TakePair) (c : Call) (h : History) (f : Found) (run : IsTreeRun c
   looks_stood (g ∷ p ∷ l ∷ r ∷ snaps) n x e = absurd (let d : Enough ≡ At n = e in cc)
 
   -- and was not final
-  looks_not_final : (snaps : List Snap) (n : NodeNo) → HasLookedBy join_looks c h (ToKey ed.key) f snaps → join_looks f snaps ≡ At n → WasNotFinal c h n.0
-  looks_not_final [] n x e = subst (λ (k : NodeNo). WasNotFinal c h k.0) (same_node f.trail.grand n e) (passed_not_final c h ed.key f.trail.grand.0 run (grand_turned h run x.found).passed)
+  looks_not_final : (snaps : List Snap) (n : NodeNo) → HasLookedBy join_looks c h InTree (ToKey ed.key) f snaps → join_looks f snaps ≡ At n → WasNotFinal c h n.0
+  looks_not_final [] n x e = subst (λ (k : NodeNo). WasNotFinal c h k.0) (same_node f.trail.grand n e) (turned_not_final c h ed.key f.trail.grand.0 f.trail.grand_side f.trail.parent.0 run x.may (grand_turned h run x.found)).0
   looks_not_final (g ∷ []) n x e =
       subst (λ (k : NodeNo). WasNotFinal c h k.0) (goes_on ((child_of g f.trail.grand_side).0 == f.trail.parent.0) f.trail.parent g n e).1
-      (passed_not_final c h ed.key f.trail.parent.0 run (parent_turned h run x.found).passed)
+      (turned_not_final c h ed.key f.trail.parent.0 f.trail.side f.trail.node.0 run x.may (parent_turned h run x.found)).0
   looks_not_final (g ∷ p ∷ []) n x e =
       subst (λ (k : NodeNo). WasNotFinal c h k.0) (goes_on ((child_of p f.trail.side).0 == f.trail.node.0) p.left p n e).1
       (not_final_below p (x.usable 1 (omega arith)) (same_no f.trail.parent p.node (seen_parent ed f g p [] x.seen).1) Left)
@@ -126,15 +129,15 @@ module _ (ed : TakePair) (c : Call) (h : History) (f : Found) (run : IsTreeRun c
   other_child a b e q = let d : false ≡ true = sym e ∙ eq-eqb a b q in cc
 
   -- where one of the two forks has another child, its last SCX-record was in the way
-  looks_differ : (snaps : List Snap) (n : NodeNo) (s : ScxNo) → HasLookedBy join_looks c h (ToKey ed.key) f snaps → join_looks f snaps ≡ Differs n s → IsQuietSince c.layout c.pass c.start h → IsContended c h n.0 s.0
+  looks_differ : (snaps : List Snap) (n : NodeNo) (s : ScxNo) → HasLookedBy join_looks c h InTree (ToKey ed.key) f snaps → join_looks f snaps ≡ Differs n s → IsQuietSince c.layout c.pass c.start h → IsContended c h n.0 s.0
   looks_differ [] n s x e quiet = absurd (let d : At f.trail.grand ≡ Differs n s = e in cc)
   looks_differ (g ∷ []) n s x e quiet =
       let o = is_other ((child_of g f.trail.grand_side).0 == f.trail.parent.0) f.trail.parent g n s e in
-      let u : HasSnappedAfterWalk c h (ToKey ed.key) f g = x.usable 0 (omega arith) in
+      let u : HasSnappedAfterWalk c h InTree (ToKey ed.key) f g = x.usable 0 (omega arith) in
       rw (sym o.1, sym o.2) (turned_contended c h ed.key f g f.trail.grand_side f.trail.parent.0 run quiet u (grand_snap g u (same_no f.trail.grand g.node (seen_grand ed f g [] x.seen))) (other_child (child_of g f.trail.grand_side).0 f.trail.parent.0 o.0))
   looks_differ (g ∷ p ∷ []) n s x e quiet =
       let o = is_other ((child_of p f.trail.side).0 == f.trail.node.0) p.left p n s e in
-      let u : HasSnappedAfterWalk c h (ToKey ed.key) f p = x.usable 1 (omega arith) in
+      let u : HasSnappedAfterWalk c h InTree (ToKey ed.key) f p = x.usable 1 (omega arith) in
       rw (sym o.1, sym o.2) (turned_contended c h ed.key f p f.trail.side f.trail.node.0 run quiet u (parent_snap p u (same_no f.trail.parent p.node (seen_parent ed f g p [] x.seen).1)) (other_child (child_of p f.trail.side).0 f.trail.node.0 o.0))
   looks_differ (g ∷ p ∷ l ∷ []) n s x e quiet = absurd (let d : At p.right ≡ Differs n s = e in cc)
   looks_differ (g ∷ p ∷ l ∷ r ∷ snaps) n s x e quiet = absurd (let d : Enough ≡ Differs n s = e in cc)
@@ -174,14 +177,14 @@ few_places Left = omega arith
 few_places Right = omega arith
 
 -- a snapshot that is there may be used
-pub usable_at : (ed : TakePair) (c : Call) (h : History) (f : Found) (snaps : List Snap) (i : ℕ) → i < 4 → HasFour f snaps → HasLookedBy join_looks c h (ToKey ed.key) f snaps → HasSnappedAfterWalk c h (ToKey ed.key) f (snap_at snaps i)
+pub usable_at : (ed : TakePair) (c : Call) (h : History) (f : Found) (snaps : List Snap) (i : ℕ) → i < 4 → HasFour f snaps → HasLookedBy join_looks c h InTree (ToKey ed.key) f snaps → HasSnappedAfterWalk c h InTree (ToKey ed.key) f (snap_at snaps i)
 usable_at ed c h f snaps i p four x = x.usable i (rw four.four p)
 
-linked_at : (ed : TakePair) (c : Call) (h : History) (f : Found) (snaps : List Snap) (i : ℕ) → IsTreeRun c.layout h → i < 4 → HasFour f snaps → HasLookedBy join_looks c h (ToKey ed.key) f snaps → IsLinked c.layout h (snap_at snaps i)
+linked_at : (ed : TakePair) (c : Call) (h : History) (f : Found) (snaps : List Snap) (i : ℕ) → IsMapRun c.layout h → i < 4 → HasFour f snaps → HasLookedBy join_looks c h InTree (ToKey ed.key) f snaps → IsLinked c.layout h (snap_at snaps i)
 linked_at ed c h f snaps i run p four x = let u = usable_at ed c h f snaps i p four x in linked_since c.layout h u.moment (snap_at snaps i) run.1.lawful u.within u.is.linked
 
 -- the leaf's sibling was in the tree
-sibling_stood : (ed : TakePair) (c : Call) (h : History) (f : Found) (snaps : List Snap) → IsTreeRun c.layout h → 0 < (take_work f).need → HasFour f snaps → HasLookedBy join_looks c h (ToKey ed.key) f snaps → WasInTree h (sibling_of f snaps).node.0
+sibling_stood : (ed : TakePair) (c : Call) (h : History) (f : Found) (snaps : List Snap) → IsMapRun c.layout h → 0 < (take_work f).need → HasFour f snaps → HasLookedBy join_looks c h InTree (ToKey ed.key) f snaps → WasInTree h (sibling_of f snaps).node.0
 sibling_stood ed c h f snaps run d four x = go f.trail.side
   where
     shown : (side : Side) → WasInTree h (child_of (snap_at snaps 1) side).0
@@ -192,7 +195,7 @@ sibling_stood ed c h f snaps run d four x = go f.trail.side
     go Right = subst (WasInTree h) (sym four.left) (shown Left)
 
 -- and is not the root: it is below another node
-sibling_below : (ed : TakePair) (c : Call) (h : History) (f : Found) (snaps : List Snap) → IsTreeRun c.layout h → 0 < (take_work f).need → HasFour f snaps → HasLookedBy join_looks c h (ToKey ed.key) f snaps → (sibling_of f snaps).node.0 ≢ 0
+sibling_below : (ed : TakePair) (c : Call) (h : History) (f : Found) (snaps : List Snap) → IsMapRun c.layout h → 0 < (take_work f).need → HasFour f snaps → HasLookedBy join_looks c h InTree (ToKey ed.key) f snaps → (sibling_of f snaps).node.0 ≢ 0
 sibling_below ed c h f snaps run d four x = go f.trail.side
   where
     shown : (side : Side) → (child_of (snap_at snaps 1) side).0 ≢ 0
@@ -208,7 +211,7 @@ sibling_below ed c h f snaps run d four x = go f.trail.side
     go Right z = shown Left (sym four.left ∙ z)
 
 -- so it may be read from its head on
-sibling_begins : (ed : TakePair) (c : Call) (h : History) (f : Found) (snaps : List Snap) → IsTreeRun c.layout h → 0 < (take_work f).need → HasLookedBy join_looks c h (ToKey ed.key) f snaps → join_looks f snaps ≡ Enough → MayRead c.layout h (sibling_of f snaps).node.0 nothing_read
+sibling_begins : (ed : TakePair) (c : Call) (h : History) (f : Found) (snaps : List Snap) → IsMapRun c.layout h → 0 < (take_work f).need → HasLookedBy join_looks c h InTree (ToKey ed.key) f snaps → join_looks f snaps ≡ Enough → MayRead c.layout h (sibling_of f snaps).node.0 nothing_read
 sibling_begins ed c h f snaps run d x enough =
     let four : HasFour f snaps = has_four ed f snaps enough x.seen in
     let o : IsOpened c.layout h (sibling_of f snaps).node.0 = opened_if_stood c.layout h (sibling_of f snaps).node.0 run (sibling_stood ed c h f snaps run d four x) in
@@ -216,17 +219,17 @@ sibling_begins ed c h f snaps run d x enough =
 
 -- the levels rise from the fork above to the parent, and from there to its children, which are
 -- different
-module _ (ed : TakePair) (c : Call) (h : History) (f : Found) (snaps : List Snap) (run : IsTreeRun c.layout h) (needed : 0 < (take_work f).need) (four : HasFour f snaps) (x : HasLookedBy join_looks c h (ToKey ed.key) f snaps) where
+module _ (ed : TakePair) (c : Call) (h : History) (f : Found) (snaps : List Snap) (run : IsMapRun c.layout h) (needed : 0 < (take_work f).need) (four : HasFour f snaps) (x : HasLookedBy join_looks c h InTree (ToKey ed.key) f snaps) where
   abbrev at_place : ℕ → ℕ
   at_place i = (snap_at snaps i).node.0
 
   abbrev deep : ℕ → ℕ
   deep i = level (value h) (at_place i)
 
-  grand_used : HasSnappedAfterWalk c h (ToKey ed.key) f (snap_at snaps 0)
+  grand_used : HasSnappedAfterWalk c h InTree (ToKey ed.key) f (snap_at snaps 0)
   grand_used = usable_at ed c h f snaps 0 (omega arith) four x
 
-  parent_used : HasSnappedAfterWalk c h (ToKey ed.key) f (snap_at snaps 1)
+  parent_used : HasSnappedAfterWalk c h InTree (ToKey ed.key) f (snap_at snaps 1)
   parent_used = usable_at ed c h f snaps 1 (omega arith) four x
 
   at_grand : HasTurned c grand_used.moment ed.key (at_place 0) f.trail.grand_side f.trail.parent.0
@@ -267,16 +270,17 @@ module _ (ed : TakePair) (c : Call) (h : History) (f : Found) (snaps : List Snap
   four_apart i j p q d e = ⊎_elim (λ less. differ i j less (rw four.four at q) e) (λ less. differ j i less (rw four.four at p) (sym e)) (either i j d)
 
 -- it covers the leaf at its third or fourth place, on the side of the key
-join_covered : (ed : TakePair) (c : Call) (h : History) (f : Found) (snaps : List Snap) (k : History) (s : ℕ) → IsTreeRun c.layout h → HasFour f snaps → HasFoundLeaf c h ed.key f → IsTreeRun c.layout k → Extends k h → CoversSnaps k s snaps → Makes c.layout k s (TakeEdit ed.key) → edit_leaf k s (TakeEdit ed.key) ≡ f.trail.node.0
-join_covered ed c h f snaps k s run four found later since covers makes =
-    leaf_taken_out c.layout k s (TakeEdit ed.key) later.1.lawful later.0 makes (covers.count ∙ four.four)
+join_covered : (ed : TakePair) (c : Call) (h : History) (f : Found) (snaps : List Snap) (k : History) (s : ℕ) → IsMapRun c.layout h → c.layout.mode ≡ TreeMode → HasFour f snaps → HasFoundLeaf c h ed.key f → IsMapRun c.layout k → Extends k h → CoversSnaps k s snaps → Makes c.layout k s (TakeEdit ed.key) → edit_leaf k s (TakeEdit ed.key) ≡ covered f
+join_covered ed c h f snaps k s run mode four found later since covers makes =
+    leaf_taken_out c.layout k s (TakeEdit ed.key) later.1.lawful mode makes (covers.count ∙ four.four)
     ∙ (ap (λ side. member k s (leaf_place side)) side_is ∙ covers.members (leaf_place f.trail.side) (rw four.four (few f.trail.side)) ∙ place f.trail.side four.child)
+    ∙ sym (rw (found_leaf ed.key c h f found) refl)
   where
     parent : HasTurned c h ed.key f.trail.parent.0 f.trail.side f.trail.node.0
     parent = found.trail.parent (found_below (ToKey ed.key) c h f run found)
 
     stood : WasInTree h f.trail.parent.0
-    stood = was_passed h parent.passed.first ed.key f.trail.parent.0 parent.passed.passed
+    stood = walked_stood c.layout h parent.passed.first ed.key f.trail.parent.0 parent.passed.passed
 
     is_parent : member k s 1 ≡ f.trail.parent.0
     is_parent = covers.members 1 (rw four.four (omega arith)) ∙ four.parent
@@ -295,12 +299,12 @@ join_covered ed c h f snaps k s run four found later since covers makes =
 -- In one of two ways
 
 -- where the leaf has more than the pair, it looks as an edit of that leaf does
-pub looked_leaf : (ed : TakePair) (c : Call) (h : History) (f : Found) (snaps : List Snap) → has_more f ≡ true → HasLooked take_means c h ed f snaps → HasLookedBy leaf_looks c h (ToKey ed.key) f snaps
-looked_leaf ed c h f snaps t x = record { small = x.small; found = x.found; usable = x.usable; seen = λ i p. rw t at (x.seen i p) }
+pub looked_leaf : (ed : TakePair) (c : Call) (h : History) (f : Found) (snaps : List Snap) → has_more f ≡ true → HasLooked take_means c h ed f snaps → HasLookedBy leaf_looks c h InTree (ToKey ed.key) f snaps
+looked_leaf ed c h f snaps t x = record { small = x.small; may = x.may; found = x.found; usable = x.usable; seen = λ i p. rw t at (x.seen i p) }
 
 -- and else to take it out
-pub looked_join : (ed : TakePair) (c : Call) (h : History) (f : Found) (snaps : List Snap) → has_more f ≡ false → HasLooked take_means c h ed f snaps → HasLookedBy join_looks c h (ToKey ed.key) f snaps
-looked_join ed c h f snaps t x = record { small = x.small; found = x.found; usable = x.usable; seen = λ i p. rw t at (x.seen i p) }
+pub looked_join : (ed : TakePair) (c : Call) (h : History) (f : Found) (snaps : List Snap) → has_more f ≡ false → HasLooked take_means c h ed f snaps → HasLookedBy join_looks c h InTree (ToKey ed.key) f snaps
+looked_join ed c h f snaps t x = record { small = x.small; may = x.may; found = x.found; usable = x.usable; seen = λ i p. rw t at (x.seen i p) }
 
 -- the leaf of a key that is there is of class 0
 low_there : (k : ℕ) (c : Call) (h : History) (f : Found) → 0 < (take_work f).need → HasFoundLeaf c h k f → f.head.class ≡ 0
@@ -325,7 +329,7 @@ shown_grand : (side : Side) (snaps : List Snap) → field_shown (join_plan side)
 shown_grand Left snaps = refl
 shown_grand Right snaps = refl
 
-module _ (ed : TakePair) (c : Call) (h : History) (f : Found) (snaps : List Snap) (run : IsTreeRun c.layout h) (d : 0 < (take_work f).need) (x : HasLooked take_means c h ed f snaps) where
+module _ (ed : TakePair) (c : Call) (h : History) (f : Found) (snaps : List Snap) (run : IsMapRun c.layout h) (d : 0 < (take_work f).need) (x : HasLooked take_means c h ed f snaps) where
   take_opens : (n : NodeNo) → (b : Bool) → has_more f ≡ b → (if b then leaf_looks f snaps else join_looks f snaps) ≡ At n → IsOpened c.layout h n.0
   take_opens n true t at = leaf_opens ed.key c h f snaps run (looked_leaf ed c h f snaps t x) n at
   take_opens n false t at = opened_if_stood c.layout h n.0 run (looks_stood ed c h f run d snaps n (looked_join ed c h f snaps t x) at)
@@ -351,7 +355,7 @@ module _ (ed : TakePair) (c : Call) (h : History) (f : Found) (snaps : List Snap
     old = refl;
   }
     where
-      y : HasLookedBy join_looks c h (ToKey ed.key) f snaps
+      y : HasLookedBy join_looks c h InTree (ToKey ed.key) f snaps
       y = looked_join ed c h f snaps t x
 
       four : HasFour f snaps
@@ -360,9 +364,9 @@ module _ (ed : TakePair) (c : Call) (h : History) (f : Found) (snaps : List Snap
       plan : (take_work f).plan.0 ≡ join_plan f.trail.grand_side
       plan = plan_is f d false t
 
-  take_covered : (k : History) (s : ℕ) → IsTreeRun c.layout k → Extends k h → CoversSnaps k s snaps → Makes c.layout k s (TakeEdit ed.key) → (b : Bool) → has_more f ≡ b → (if b then leaf_looks f snaps else join_looks f snaps) ≡ Enough → edit_leaf k s (TakeEdit ed.key) ≡ f.trail.node.0
-  take_covered k s later since covers makes true t enough = leaf_covered (TakeEdit ed.key) f snaps k s (has_both f snaps enough (looked_leaf ed c h f snaps t x).seen) covers
-  take_covered k s later since covers makes false t enough = join_covered ed c h f snaps k s run (has_four ed f snaps enough (looked_join ed c h f snaps t x).seen) x.found later since covers makes
+  take_covered : (k : History) (s : ℕ) → IsMapRun c.layout k → Extends k h → CoversSnaps k s snaps → Makes c.layout k s (TakeEdit ed.key) → (b : Bool) → has_more f ≡ b → (if b then leaf_looks f snaps else join_looks f snaps) ≡ Enough → edit_leaf k s (TakeEdit ed.key) ≡ covered f
+  take_covered k s later since covers makes true t enough = leaf_covered (TakeEdit ed.key) f snaps k s (found_leaf ed.key c h f x.found) (has_both f snaps enough (looked_leaf ed c h f snaps t x).seen) covers
+  take_covered k s later since covers makes false t enough = join_covered ed c h f snaps k s run x.may (has_four ed f snaps enough (looked_join ed c h f snaps t x).seen) x.found later since covers makes
 
 -- an LLX may look at its nodes, which were not final, what it reads may be read, and where a fork
 -- has another child its last SCX-record was in the way
@@ -386,13 +390,13 @@ copy_fields s head read side p = go head.leaf side p
     go false Left p = refl
     go false Right p = refl
 
-join_fields : (ed : TakePair) (c : Call) (h : History) (f : Found) (snaps : List Snap) (read : Reading) (side : Side) → IsTreeRun c.layout h → HasLookedBy join_looks c h (ToKey ed.key) f snaps → join_looks f snaps ≡ Enough → is_filled (sibling_copy (sibling_of f snaps) read) (Child side) ≡ true → IsInField c.layout h (word_of (sibling_copy (sibling_of f snaps) read) (Child side))
+join_fields : (ed : TakePair) (c : Call) (h : History) (f : Found) (snaps : List Snap) (read : Reading) (side : Side) → IsMapRun c.layout h → HasLookedBy join_looks c h InTree (ToKey ed.key) f snaps → join_looks f snaps ≡ Enough → is_filled (sibling_copy (sibling_of f snaps) read) (Child side) ≡ true → IsInField c.layout h (word_of (sibling_copy (sibling_of f snaps) read) (Child side))
 join_fields ed c h f snaps read side run x enough p =
     let s : Snap = sibling_of f snaps in
     let l : IsLinked c.layout h s = linked_at ed c h f snaps (sibling_place f.trail.side) run (few_places f.trail.side) (has_four ed f snaps enough x.seen) x in
     subst (IsInField c.layout h) (copy_fields s (unwrap_or read.head (head_of 0)) read side p) (inr (s.node.0, side, in_field_named s.node.0 l.in_field, l.had side))
 
-take_fields : (ed : TakePair) (c : Call) (h : History) (f : Found) (snaps : List Snap) (read : Reading) (side : Side) → IsTreeRun c.layout h → HasLooked take_means c h ed f snaps → (b : Bool) → has_more f ≡ b → (if b then leaf_looks f snaps else join_looks f snaps) ≡ Enough
+take_fields : (ed : TakePair) (c : Call) (h : History) (f : Found) (snaps : List Snap) (read : Reading) (side : Side) → IsMapRun c.layout h → HasLooked take_means c h ed f snaps → (b : Bool) → has_more f ≡ b → (if b then leaf_looks f snaps else join_looks f snaps) ≡ Enough
     → is_filled (if b then Leaf f.head.level 0 (delete ed.key read.pairs) else sibling_copy (sibling_of f snaps) read) (Child side) ≡ true → IsInField c.layout h (word_of (if b then Leaf f.head.level 0 (delete ed.key read.pairs) else sibling_copy (sibling_of f snaps) read) (Child side))
 take_fields ed c h f snaps read side run x true t enough p = absurd (let z : false ≡ true = p in cc)
 take_fields ed c h f snaps read side run x false t enough p = join_fields ed c h f snaps read side run (looked_join ed c h f snaps t x) enough p
@@ -422,7 +426,7 @@ blank_key : (o : Option ℕ) (w : ℕ) → IfSome o (λ k. w ≡ k) → w ≡ 0 
 blank_key None w is e = refl
 blank_key (Some k) w is e = sym is ∙ e
 
-module _ (ed : TakePair) (c : Call) (h : History) (f : Found) (snaps : List Snap) (ns : Nodes) (read : Reading) (run : IsTreeRun c.layout h) (needed : 0 < (take_work f).need) (x : HasFilledAll take_means c h ed f snaps ns read) where
+module _ (ed : TakePair) (c : Call) (h : History) (f : Found) (snaps : List Snap) (ns : Nodes) (read : Reading) (run : IsMapRun c.layout h) (needed : 0 < (take_work f).need) (x : HasFilledAll take_means c h ed f snaps ns read) where
   present : (old : ℕ) × (f.value ≡ Some old)
   present = key_there f.value (take_plan f) needed
 
@@ -434,7 +438,7 @@ module _ (ed : TakePair) (c : Call) (h : History) (f : Found) (snaps : List Snap
 
   -- the pair goes out of its leaf
   module _ (t : has_more f ≡ true) where
-    looked : HasLookedBy leaf_looks c h (ToKey ed.key) f snaps
+    looked : HasLookedBy leaf_looks c h InTree (ToKey ed.key) f snaps
     looked = looked_leaf ed c h f snaps t x.looked
 
     abbrev old_leaf : ℕ
@@ -492,12 +496,13 @@ module _ (ed : TakePair) (c : Call) (h : History) (f : Found) (snaps : List Snap
 
     leaf_promised : (j : Job) (d : Descriptor) → j.update ≡ update_for (take_work f) snaps ns → Says d j → IsPromised c.layout c.pass h j.scx.0 d (TakeEdit ed.key)
     leaf_promised j d is says = edit_promised c h j.scx.0 (TakeEdit ed.key) f d ns.first.0 run x.looked.small x.looked.found
-        (is_leaf_edit f snaps ns (take_work f) j d ns.first.0 both (plan_is f needed true t) is top says) made
+        (tree_surely c h ed.key f.trail.parent.0 f.trail.side f.trail.node.0 x.looked.may (x.looked.found.trail.parent (found_below (ToKey ed.key) c h f run x.looked.found)))
+        (is_leaf_edit f snaps ns (take_work f) j d ns.first.0 both (plan_is f needed true t) is top says) made (no_trie x.looked.may)
         (λ e z. let y : Some present.0 ≡ None = sym present.1 ∙ z in cc)
 
   -- or the leaf out of the tree
   module _ (t : has_more f ≡ false) where
-    looked_so : HasLookedBy join_looks c h (ToKey ed.key) f snaps
+    looked_so : HasLookedBy join_looks c h InTree (ToKey ed.key) f snaps
     looked_so = looked_join ed c h f snaps t x.looked
 
     four : HasFour f snaps
@@ -534,7 +539,7 @@ module _ (ed : TakePair) (c : Call) (h : History) (f : Found) (snaps : List Snap
 
     fits : w / 8 < 2 ^ 61
     fits =
-        let deep : level (value h) z_node < 2 + length (taken_nodes h) = stood_depth c.layout h z_node run in_tree in
+        let deep : level (value h) z_node < 2 + length (taken_nodes h) = subst (λ mode. level (value h) z_node < depth mode (length (taken_nodes h))) x.looked.may (stood_depth c.layout h z_node run in_tree) in
         let few : length (taken_nodes h) ≤ c.layout.passes * c.layout.nodes = taken_few c.layout h run.1.lawful in
         let most : c.layout.passes * c.layout.nodes ≤ 32 * 32768 = mul-le c.layout.passes c.layout.nodes 32 32768 c.layout.passes_fit c.layout.nodes_fit in
         omega (arith, deep, few, most)
@@ -654,7 +659,7 @@ module _ (ed : TakePair) (c : Call) (h : History) (f : Found) (snaps : List Snap
       snap_is i p = record { linked = linked_at ed c h f snaps i run p four looked_so; node = sym (is_member i p); scx = sym (is_seen i p) }
 
       join_is_promised : IsPromised c.layout c.pass h j.scx.0 d (TakeEdit ed.key)
-      join_is_promised = join_promised c h j.scx.0 ed.key present.0 f d (snap_at snaps 1) sibling n_node run x.looked.small x.looked.found present.1 alone is_join (snap_is 1 (omega arith)) four.child (snap_is (sibling_place f.trail.side) (few_places f.trail.side)) copy
+      join_is_promised = join_promised c h j.scx.0 ed.key present.0 f d (snap_at snaps 1) sibling n_node run x.looked.small x.looked.found present.1 alone is_join (snap_is 1 (omega arith)) four.child (snap_is (sibling_place f.trail.side) (few_places f.trail.side)) copy (no_trie x.looked.may)
 
   take_is_promised : (j : Job) (d : Descriptor) → j.update ≡ update_for (take_work f) snaps ns → Says d j → IsPromised c.layout c.pass h j.scx.0 d (TakeEdit ed.key)
   take_is_promised j d is says = go (has_more f) refl

@@ -10,7 +10,7 @@ returns-in-Done-clause-nearer g c nodes fits = c.go_on.ensures.nearer nodes _ (s
 
 pub returns-in-Ask-clause-turn : goal.returns-in-Ask-clause-turn
 returns-in-Ask-clause-turn g c d b h v got run try first x told =
-    let past = walk_past_root c.args.walk (begun_at d b) h c.next.new.self v run told (λ nodes fits. rw c.in-Ask.is at c.next.ensures.nearer nodes (rw got fits)) in
+    let past = walk_past_root c.args.walk (begun_at d b) h c.next.new.self v run told c.next.ensures.same.1 (λ nodes fits. rw c.in-Ask.is at c.next.ensures.nearer nodes (rw got fits)) in
     walks_on g.E.Edit.means c.args.self.now c.args.walk c.next.new.self d b h c.next.result c.in-Ask.step try first x c.next.ensures.same past c.in-Ask.is (c.next.ensures.turn (begun_at d b) h run (rw got told))
 
 pub returns-in-Done-clause-turn : goal.returns-in-Done-clause-turn

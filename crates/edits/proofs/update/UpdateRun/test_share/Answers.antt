@@ -4,7 +4,7 @@ use Rattle.edits.proofs.Looking.{may_look}
 use Rattle.arena.specs.Machines.{begun_at}
 use Rattle.edits.specs.Laws.Trying.{untouched_later}
 use Rattle.edits.proofs.Turns.{at_rest, nothing_entered}
-use Rattle.edits.proofs.Widened.{found_wider}
+use Rattle.edits.proofs.Widened.{found_by_wider}
 use Rattle.edits.proofs.GoingOn.{still_nearer}
 use Rattle.edits.proofs.Nearer.{from_share}
 use Rattle.edits.proofs.update.UpdateRun.test_share.Goals as goal
@@ -26,7 +26,7 @@ returns-then-self-eq0-clause-turn g c d b h run try first x quiet filled found =
         is_key = refl;
         is_value = refl;
         is_done = inl record {
-          has_found = found_wider d b try.since h _ c.args.found.now found;
+          has_found = found_by_wider d b try.since h _ _ c.args.found.now found;
           needless = rw c.work-self.ensures at none;
           none = nothing_entered g.E.Edit.means c.args.self.now d b h try x quiet;
           only_looked = record { begin = b; since = try.since; newest = try.newest.newest; none = filled };

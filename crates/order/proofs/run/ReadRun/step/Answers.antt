@@ -16,7 +16,7 @@ returns-in-Walk-clause-turn g c d h r =
     let t = at_walk g.R.Read.means c.args.self.now d h c.args.got c.in-Walk.walk c.in-Walk.side c.in-Walk.turns c.in-Walk.is r in
     let w = t.2 in
     let walks = w.4.0 in
-    c.walk_on.ensures.turn d w.0 h walks.key t.0 t.1 w.1 w.2 walks.goal walks.goes_to walks.last w.4.1
+    c.walk_on.ensures.turn d w.0 h walks.key t.0 t.1 w.1 w.2 walks.goal walks.way walks.goes_to walks.last w.4.1
 
 pub returns-in-Walk-clause-nearer : goal.returns-in-Walk-clause-nearer
 returns-in-Walk-clause-nearer g c nodes fits = left_at g.R.Read.means c.args.self.now nodes c.walk_on.new.self c.walk_on.result _ c.in-Walk.is (c.walk_on.ensures.nearer nodes (fits_at g.R.Read.means c.args.self.now c.args.got nodes _ c.in-Walk.is fits))
