@@ -17,7 +17,7 @@ use Rattle.template.specs.declared.walk.Way.TheVariants.{InTree, Within}
 use Rattle.template.proofs.Lemmas.{head_to_key, head_to_more, head_ends, head_to_child, key_to_child, more_to_pair, pair_to_value, pair_to_pair, pair_ends, value_to_high, high_ends, child_to_head}
 use Rattle.order.specs.declared.last_turns.LastTurns.{LastTurns}
 use Rattle.forest.specs.declared.view.SeatedPass.{SeatedPass}
-use Rattle.forest.specs.StraightWalk.{GoesAs, Walker, WalkerWaits, WalkerIsTold, WalkerFinds}
+use Rattle.forest.specs.StraightWalk.{GoesAs, Walker, WalkerWaits, WalkerIsTold, WalkerGoesDown, WalkerFinds}
 use Rattle.forest.specs.Traces.{shared_nodes}
 use Rattle.forest.specs.CallKinds.{Calls}
 use Rattle.forest.proofs.Inside.{goes_to}
@@ -39,6 +39,9 @@ module _ {M : Type 0} {o : Calls M} (w : Walker o) (ps : List SeatedPass) where
 
       pub to_open : head.leaf ≡ false → asks_key goal head ≡ false → WalkerIsTold w ps (walk_at goal t p) turn v → WalkerWaits w ps (walk_at goal t (Child head.level (open_side goal head))) (last_turns (Child head.level (open_side goal head)) t.node turn) (load LoadChild (node t.node.0 (ChildWord (open_side goal head))))
       to_open fork asks = goes (walk_at goal t p) (walk_at goal t (Child head.level (open_side goal head))) turn v _ tt (refl, refl) (λ d h x. head_to_child InTree goal t d h p v head at is x fork asks)
+
+      pub to_known : (side : Side) → head.leaf ≡ false → asks_key goal head ≡ false → open_side goal head ≡ side → WalkerIsTold w ps (walk_at goal t p) turn v → WalkerGoesDown w ps goal t head.level side turn
+      to_known side fork asks is x = subst (λ s. WalkerGoesDown w ps goal t head.level s turn) is (to_open fork asks x)
 
       pub to_more : head.leaf ≡ true → head.class ≡ 0 → WalkerIsTold w ps (walk_at goal t p) turn v → WalkerWaits w ps (walk_at goal t (More head)) turn (load LoadSettled (node t.node.0 (Settled MoreWord)))
       to_more leaf low = goes (walk_at goal t p) (walk_at goal t (More head)) turn v _ tt (refl, refl) (λ d h x. head_to_more InTree goal t d h p v head at is x leaf low)

@@ -1,5 +1,5 @@
 //! Walks down the tree, of whatever machine walks.
-ghost use Rattle.std.specs.Prelude.{◌≡◌, ◌≤◌, ◌+◌, ◌*◌, ℕ, suc, true, if◌then◌else◌, nat_lt, IfOk, IfErr, MatchResult};
+ghost use Rattle.std.specs.Prelude.{◌≡◌, ◌<◌, ◌≤◌, ◌+◌, ◌*◌, ℕ, suc, true, false, if◌then◌else◌, nat_lt, IfOk, IfErr, MatchResult};
 ghost use Rattle.arena.specs.Heads.{head_of};
 ghost use Rattle.arena.specs.Layout.{node_start};
 ghost use Rattle.arena.specs.declared.number.NodeNo.{NodeNo};
@@ -13,7 +13,8 @@ ghost use Rattle.prims.specs.Llx.Known.{load};
 ghost use Rattle.template.specs.FoundLeaf.{asked_key, path_key};
 ghost use Rattle.template.specs.declared.walk.WalkRun.{WalkRun};
 ghost use Rattle.template.specs.Walk.Known.{asks_key, goal_slot, open_side};
-ghost use Rattle.template.specs.Walk.Places.{walk_at, LoadsHead};
+ghost use Rattle.template.specs.Walk.Places.{walk_at, trail_below, LoadsHead};
+ghost use Rattle.template.specs.Walk.Steps.{walk_left};
 
 use crate::straight::hand::Hand;
 use crate::straight::step::step_from;
@@ -51,6 +52,41 @@ fn read<S: Shape, M: Machine<S>>(
     let word = Word::Node(node, part);
     let access = Access::Load;
     step_from::<S, M>(hand, seat, Step { kind, word, access }, start)
+}
+
+/// Loads the child on this side of a node that begins there. On the way to an end an arm for each
+/// side costs less than its place, and few forks are of another side than the one before.
+#[inline(always)]
+fn read_child<S: Shape, M: Machine<S>>(
+    hand: Hand<S>,
+    seat: &mut Seat<u8, SeatView>,
+    goal: Goal,
+    node: NodeNo,
+    start: usize,
+    side: Side,
+) -> u64
+    requires table { IsAt hand seat.old }
+    requires start { start ≡ node_start node }
+    requires waits { (w : Walker (hand_calls S.Shape M.Machine hand)) × (m : WalkRun)
+        × (turn : LastTurns)
+        × WalkerWaits w seat.old.me.0.passes m turn
+        (load Kind.LoadChild (Word.Node node (NodeWord.Child side))) }
+    ensures table { StaysAtTable seat.old seat.new }
+    ensures one { steps_made seat.new ≡ suc (steps_made seat.old) }
+    ensures told { (w : Walker (hand_calls S.Shape M.Machine hand.entry)) (m : WalkRun)
+        (turn : LastTurns)
+        → WalkerWaits w seat.old.me.0.passes m turn
+        (load Kind.LoadChild (Word.Node node (NodeWord.Child side)))
+        → WalkerIsTold w seat.new.me.0.passes m turn result }
+{
+    let kind = Kind::LoadChild;
+    if let Goal::Key(_) = goal {
+        return read::<S, M>(hand, seat, kind, node, start, NodeWord::Child(side));
+    }
+    match side {
+        Side::Left => read::<S, M>(hand, seat, kind, node, start, NodeWord::Child(Side::Left)),
+        Side::Right => read::<S, M>(hand, seat, kind, node, start, NodeWord::Child(Side::Right)),
+    }
 }
 
 /// On which side of a fork with this key the walk continues.
@@ -164,6 +200,52 @@ fn end_with<S: Shape, M: Machine<S>>(
     }
 }
 
+/// Ends among the pairs of a leaf, as below, from the first slot on, which the compiler knows.
+#[inline(always)]
+fn end_from<S: Shape, M: Machine<S>>(
+    hand: Hand<S>,
+    seat: &mut Seat<u8, SeatView>,
+    goal: Goal,
+    trail: Trail,
+    start: usize,
+    head: Head,
+    more: u64,
+    first: Slot,
+) -> Found
+    requires table { IsAt hand seat.old }
+    requires start { start ≡ node_start trail.node }
+    requires first { first ≡ goal_slot goal more }
+    requires told { (w : Walker (hand_calls S.Shape M.Machine hand)) × (turn : LastTurns)
+        × WalkerIsTold w seat.old.me.0.passes (walk_at goal trail (WalkAt.More head)) turn more }
+    ensures table { StaysAtTable seat.old seat.new }
+    ensures steps { steps_made seat.new ≤ steps_made seat.old + 6 }
+    ensures finds { (w : Walker (hand_calls S.Shape M.Machine hand.entry)) (turn : LastTurns)
+        → WalkerIsTold w seat.old.me.0.passes (walk_at goal trail (WalkAt.More head)) turn more
+        → WalkerFinds w seat.new.me.0.passes goal turn result }
+{
+    let mut slot = first;
+    loop {
+        let (kind, part) = (Kind::LoadSettled, NodeWord::Settled(SettledPart::Key(slot)));
+        let key = read::<S, M>(hand, seat, kind, trail.node, start, part);
+        let asked = asked_key(goal, key);
+        if asked == key {
+            return end_with::<S, M>(hand, seat, goal, trail, start, head, more, slot, key);
+        }
+        match slot_behind(more, slot) {
+            Some(next) if key < asked => slot = next,
+            _ => {
+                return Found {
+                    trail,
+                    head,
+                    more,
+                    key: asked,
+                    value: None,
+                };
+            }
+        }
+    }
+}
+
 /// Ends at a leaf of class 0 that begins there and has `more` pairs after its first: it loads the
 /// keys in order up to the first that is not below the walk's, or the last.
 #[inline(always)]
@@ -186,26 +268,11 @@ fn end_among<S: Shape, M: Machine<S>>(
         → WalkerIsTold w seat.old.me.0.passes (walk_at goal trail (WalkAt.More head)) turn more
         → WalkerFinds w seat.new.me.0.passes goal turn result }
 {
-    let mut slot = first_slot(goal, more);
-    loop {
-        let (kind, part) = (Kind::LoadSettled, NodeWord::Settled(SettledPart::Key(slot)));
-        let key = read::<S, M>(hand, seat, kind, trail.node, start, part);
-        let asked = asked_key(goal, key);
-        if asked == key {
-            return end_with::<S, M>(hand, seat, goal, trail, start, head, more, slot, key);
-        }
-        match slot_behind(more, slot) {
-            Some(next) if key < asked => slot = next,
-            _ => {
-                return Found {
-                    trail,
-                    head,
-                    more,
-                    key: asked,
-                    value: None,
-                };
-            }
-        }
+    match first_slot(goal, more) {
+        Slot::First => end_from::<S, M>(hand, seat, goal, trail, start, head, more, Slot::First),
+        Slot::Second => end_from::<S, M>(hand, seat, goal, trail, start, head, more, Slot::Second),
+        Slot::Third => end_from::<S, M>(hand, seat, goal, trail, start, head, more, Slot::Third),
+        Slot::Fourth => end_from::<S, M>(hand, seat, goal, trail, start, head, more, Slot::Fourth),
     }
 }
 
@@ -290,11 +357,118 @@ fn pass<S: Shape, M: Machine<S>>(
     Ok(open_side(goal, word))
 }
 
-/// The walk from the root to the leaf where a key is, or would be, or to the first leaf, and
-/// the last forks where it turned. Where the words of a node begin is computed once, as soon as its
-/// parent is loaded.
+/// Whether the walk goes right at a fork with the head in this word, which it knows without a key:
+/// one to the last pair does so at forks of class 0, and mostly from each to the next.
 #[inline(always)]
-pub(crate) fn call<S: Shape, M: Machine<S>>(
+fn goes_right(goal: Goal, word: u64) -> bool
+    ensures fork { result ≡ true → (head_of word).leaf ≡ false }
+    ensures asks { result ≡ true → asks_key goal (head_of word) ≡ false }
+    ensures side { result ≡ true → open_side goal (head_of word) ≡ Side.Right }
+{
+    match goal {
+        Goal::End(Side::Right) => !is_leaf(word) && word % 4 == 0,
+        _ => false,
+    }
+}
+
+/// A node that a walk has reached: where it asks for its head, where its words begin, and the last
+/// forks at which it turned above.
+#[derive(Clone, Copy)]
+struct Place {
+    trail: Trail,
+    at: WalkAt,
+    turns: LastTurns,
+    start: usize,
+}
+
+/// Goes down from a fork with the head in this word to its child on this side. Where the words of
+/// the child begin is computed once, as soon as it is known.
+#[inline(always)]
+fn descend<S: Shape, M: Machine<S>>(
+    hand: Hand<S>,
+    seat: &mut Seat<u8, SeatView>,
+    goal: Goal,
+    place: Place,
+    word: u64,
+    side: Side,
+) -> Place
+    requires table { IsAt hand seat.old }
+    requires start { place.start ≡ node_start place.trail.node }
+    requires waits { (w : Walker (hand_calls S.Shape M.Machine hand))
+        × WalkerGoesDown w seat.old.me.0.passes goal place.trail (head_of word).level side
+        place.turns }
+    ensures table { StaysAtTable seat.old seat.new }
+    ensures one { steps_made seat.new ≡ suc (steps_made seat.old) }
+    ensures at { result.at ≡ WalkAt.Head (head_of word).level }
+    ensures start { result.start ≡ node_start result.trail.node }
+    ensures deep { (head_of word).level + 1 < 2 + shared_nodes hand.entry.layout.now }
+    ensures down { (w : Walker (hand_calls S.Shape M.Machine hand.entry))
+        → WalkerGoesDown w seat.old.me.0.passes goal place.trail (head_of word).level side
+        place.turns
+        → WalkerWaits w seat.new.me.0.passes (walk_at goal result.trail result.at) result.turns
+        (load Kind.LoadSettled (Word.Node result.trail.node (NodeWord.Settled SettledPart.Head))) }
+{
+    let node = place.trail.node;
+    let child = read_child::<S, M>(hand, seat, goal, node, place.start, side);
+    let trail = Trail {
+        grand: place.trail.parent,
+        grand_side: place.trail.side,
+        parent: node,
+        side,
+        node: NodeNo(child),
+    };
+    let turns = place.turns.with(side, node);
+    let start = hand.layout.node_start(trail.node);
+    let head = Head::of(word);
+    let at = WalkAt::Head { above: head.level };
+    Place {
+        trail,
+        at,
+        turns,
+        start,
+    }
+}
+
+/// Goes right as long as the walk does so without a key, in a loop of its own: there the compiler
+/// knows the side. Answers where it is then, and the head there.
+#[inline(always)]
+fn descend_right<S: Shape, M: Machine<S>>(
+    hand: Hand<S>,
+    seat: &mut Seat<u8, SeatView>,
+    goal: Goal,
+    first: Place,
+    head: u64,
+) -> (Place, u64)
+    requires place { LoadsHead first.at }
+    requires table { IsAt hand seat.old }
+    requires start { first.start ≡ node_start first.trail.node }
+    requires told { (w : Walker (hand_calls S.Shape M.Machine hand))
+        × WalkerIsTold w seat.old.me.0.passes (walk_at goal first.trail first.at) first.turns head }
+    ensures place { LoadsHead result.0.at }
+    ensures table { StaysAtTable seat.old seat.new }
+    ensures start { result.0.start ≡ node_start result.0.trail.node }
+    ensures nearer { walk_left result.0.at (shared_nodes hand.entry.layout.now)
+        ≤ walk_left first.at (shared_nodes hand.entry.layout.now) }
+    ensures steps { steps_made seat.new + walk_left result.0.at (shared_nodes
+        hand.entry.layout.now) ≤ steps_made seat.old + walk_left first.at (shared_nodes
+        hand.entry.layout.now) }
+    ensures told { (w : Walker (hand_calls S.Shape M.Machine hand.entry))
+        → WalkerIsTold w seat.old.me.0.passes (walk_at goal first.trail first.at) first.turns head
+        → WalkerIsTold w seat.new.me.0.passes (walk_at goal result.0.trail result.0.at)
+        result.0.turns result.1 }
+{
+    let (mut place, mut word) = (first, head);
+    while goes_right(goal, word) {
+        place = descend::<S, M>(hand, seat, goal, place, word, Side::Right);
+        let (kind, part) = (Kind::LoadSettled, NodeWord::Settled(SettledPart::Head));
+        word = read::<S, M>(hand, seat, kind, place.trail.node, place.start, part);
+    }
+    (place, word)
+}
+
+/// As below, of whatever goal.
+#[inline(always)]
+fn to_goal<S: Shape, M: Machine<S>>(
     hand: Hand<S>,
     seat: &mut Seat<u8, SeatView>,
     goal: Goal,
@@ -334,8 +508,7 @@ pub(crate) fn call<S: Shape, M: Machine<S>>(
             Ok(side) => side,
             Err(found) => return (found, turns),
         };
-        let (kind, part) = (Kind::LoadChild, NodeWord::Child(side));
-        let child = read::<S, M>(hand, seat, kind, node, start, part);
+        let child = read_child::<S, M>(hand, seat, goal, node, start, side);
         turns = turns.with(side, node);
         trail = Trail {
             grand: trail.parent,
@@ -346,5 +519,77 @@ pub(crate) fn call<S: Shape, M: Machine<S>>(
         };
         start = hand.layout.node_start(trail.node);
         at = WalkAt::Head { above: head.level };
+    }
+}
+
+/// As below, for the last pair: forks at which it goes right without a key have a loop of their own.
+#[inline(always)]
+fn to_last<S: Shape, M: Machine<S>>(
+    hand: Hand<S>,
+    seat: &mut Seat<u8, SeatView>,
+    goal: Goal,
+) -> (Found, LastTurns)
+    requires table { IsAt hand seat.old }
+    requires waits { (w : Walker (hand_calls S.Shape M.Machine hand))
+        × WalksFromRoot w seat.old.me.0.passes goal }
+    ensures table { StaysAtTable seat.old seat.new }
+    ensures steps { steps_made seat.new ≤ steps_made seat.old + (3 * (2 + shared_nodes
+        hand.entry.layout.now) + 5) }
+    ensures finds { (w : Walker (hand_calls S.Shape M.Machine hand.entry))
+        → WalksFromRoot w seat.old.me.0.passes goal
+        → WalkerFinds w seat.new.me.0.passes goal result.1 result.0 }
+{
+    let layout = *hand.layout;
+    let hand = Hand {
+        words: hand.words,
+        layout: &layout,
+        number: hand.number,
+    };
+    let root = NodeNo(0);
+    let mut place = Place {
+        trail: Trail {
+            grand: root,
+            grand_side: Side::Left,
+            parent: root,
+            side: Side::Left,
+            node: root,
+        },
+        at: WalkAt::Root,
+        turns: LastTurns::none(),
+        start: 0,
+    };
+    loop {
+        let (kind, part) = (Kind::LoadSettled, NodeWord::Settled(SettledPart::Head));
+        let head = read::<S, M>(hand, seat, kind, place.trail.node, place.start, part);
+        let (last, word) = descend_right::<S, M>(hand, seat, goal, place, head);
+        let side = match pass::<S, M>(hand, seat, goal, last.trail, last.start, last.at, word) {
+            Ok(side) => side,
+            Err(found) => return (found, last.turns),
+        };
+        place = descend::<S, M>(hand, seat, goal, last, word, side);
+    }
+}
+
+/// The walk from the root to the leaf where a key is, or would be, or to the first or the last leaf,
+/// and the last forks where it turned.
+#[inline(always)]
+pub(crate) fn call<S: Shape, M: Machine<S>>(
+    hand: Hand<S>,
+    seat: &mut Seat<u8, SeatView>,
+    goal: Goal,
+) -> (Found, LastTurns)
+    requires table { IsAt hand seat.old }
+    requires waits { (w : Walker (hand_calls S.Shape M.Machine hand))
+        × WalksFromRoot w seat.old.me.0.passes goal }
+    ensures table { StaysAtTable seat.old seat.new }
+    ensures steps { steps_made seat.new ≤ steps_made seat.old + (3 * (2 + shared_nodes
+        hand.entry.layout.now) + 5) }
+    ensures finds { (w : Walker (hand_calls S.Shape M.Machine hand.entry))
+        → WalksFromRoot w seat.old.me.0.passes goal
+        → WalkerFinds w seat.new.me.0.passes goal result.1 result.0 }
+{
+    match goal {
+        Goal::End(Side::Right) => to_last::<S, M>(hand, seat, goal),
+        _ => to_goal::<S, M>(hand, seat, goal),
     }
 }

@@ -1,63 +1,26 @@
-use Rattle.std.proofs.Common.{◌≢◌, ◌∙◌, inl, inr, refl, sym, arith}
-use Rattle.template.specs.Common.{asked_key, walk_at}
-use Rattle.template.specs.declared.walk.WalkAt.TheVariants.{More, Pair}
-use Rattle.order.specs.declared.last_turns.LastTurns.{LastTurns}
-use Rattle.forest.specs.CallKinds.{calls}
-use Rattle.forest.specs.StraightWalk.{Walker, WalkerIsTold}
-use Rattle.forest.proofs.StraightWalk.{to_first, to_next, finds_other, next_slot, few_slots}
-use Rattle.forest.proofs.straight.walk.end_among.Given.{Over}
-use Rattle.forest.proofs.straight.walk.end_among.Goals.{After-read-key, Else-asked-key}
+use Rattle.std.proofs.Common.{◌∙◌, sym}
 use Rattle.forest.proofs.straight.walk.end_among.Goals as goal
 
--- whichever call it is, it has got the key in this slot
-told : (g : Over) (c : After-read-key g) (w : Walker (calls g.S.Shape g.M.Machine c.args.hand.layout.now c.args.hand.number)) (turn : LastTurns)
-    → WalkerIsTold w c.args.seat.now.me.0.passes (walk_at c.args.goal c.args.trail (More c.args.head)) turn c.args.more
-    → WalkerIsTold w c.read-key.new.seat.me.0.passes (walk_at c.args.goal c.args.trail (Pair c.args.head c.args.more c.loop-hand.slot)) turn c.read-key.result
-told g c w turn x = c.read-key.ensures.told w (walk_at c.args.goal c.args.trail (Pair c.args.head c.args.more c.loop-hand.slot)) turn (c.loop-hand.invariant.waits w turn x)
+pub end_from-requires-clause-first : goal.end_from-requires-clause-first
+end_from-requires-clause-first g c = sym c.in-First.is ∙ c.first_slot.ensures
 
--- it is not the one whose value it answers
-other : (g : Over) (c : Else-asked-key g) → asked_key c.args.goal c.read-key.result ≢ c.read-key.result
-other g c = λ z. c.if-asked-key.false (c.asked_key-asked.ensures ∙ z)
+pub end_from-requires-clause-told : goal.end_from-requires-clause-told
+end_from-requires-clause-told g c = c.requires.told
 
-pub loop-hand-init : goal.loop-hand-init
-loop-hand-init g c = record { here = (refl, refl); steps = omega arith; waits = λ w turn x. rw c.first_slot-slot.ensures (to_first w _ c.args.goal c.args.trail turn c.args.head c.args.more x) }
+pub end_from-requires-in-Second-clause-first : goal.end_from-requires-in-Second-clause-first
+end_from-requires-in-Second-clause-first g c = sym c.in-Second.is ∙ c.first_slot.ensures
 
-pub read-key-requires-clause-waits : goal.read-key-requires-clause-waits
-read-key-requires-clause-waits g c = let r = c.requires.told in (r.0, walk_at c.args.goal c.args.trail (Pair c.args.head c.args.more c.loop-hand.slot), r.1, c.loop-hand.invariant.waits r.0 r.1 r.2)
+pub end_from-requires-in-Second-clause-told : goal.end_from-requires-in-Second-clause-told
+end_from-requires-in-Second-clause-told g c = c.requires.told
 
-pub end_with-requires-clause-asked : goal.end_with-requires-clause-asked
-end_with-requires-clause-asked g c = sym c.asked_key-asked.ensures ∙ c.if-asked-key.true
+pub end_from-requires-in-Third-clause-first : goal.end_from-requires-in-Third-clause-first
+end_from-requires-in-Third-clause-first g c = sym c.in-Third.is ∙ c.first_slot.ensures
 
-pub end_with-requires-clause-told : goal.end_with-requires-clause-told
-end_with-requires-clause-told g c = let r = c.requires.told in (r.0, r.1, told g (goal.at.end_with-requires-clause-told g c).After-read-key r.0 r.1 r.2)
+pub end_from-requires-in-Third-clause-told : goal.end_from-requires-in-Third-clause-told
+end_from-requires-in-Third-clause-told g c = c.requires.told
 
-pub returns-then-asked-key-clause-finds : goal.returns-then-asked-key-clause-finds
-returns-then-asked-key-clause-finds g c = λ w turn x. c.end_with.ensures.finds w turn (told g (goal.at.returns-then-asked-key-clause-finds g c).After-read-key w turn x)
+pub end_from-requires-in-Fourth-clause-first : goal.end_from-requires-in-Fourth-clause-first
+end_from-requires-in-Fourth-clause-first g c = sym c.in-Fourth.is ∙ c.first_slot.ensures
 
-pub returns-then-asked-key-clause-steps : goal.returns-then-asked-key-clause-steps
-returns-then-asked-key-clause-steps g c = let one = c.read-key.ensures.one in let two = c.end_with.ensures.steps in let old = c.loop-hand.invariant.steps in let few = few_slots c.loop-hand.slot in omega (arith, one, two, old, few)
-
-pub loop-hand-preserved : goal.loop-hand-preserved
-loop-hand-preserved g c = record {
-  here = (c.read-key.ensures.table.0 ∙ c.loop-hand.invariant.here.0, c.read-key.ensures.table.1 ∙ c.loop-hand.invariant.here.1);
-  steps = (let one = c.read-key.ensures.one in let old = c.loop-hand.invariant.steps in let next = next_slot c.args.more c.loop-hand.slot c.in-Some.next (sym c.slot_behind.ensures ∙ c.in-Some.is) in omega (arith, one, old, next));
-  waits = λ w turn x. to_next w _ c.args.goal c.args.trail turn c.args.head c.args.more c.loop-hand.slot c.read-key.result (other g (goal.at.loop-hand-preserved g c).Else-asked-key) c.in-Some.next (sym c.slot_behind.ensures ∙ c.in-Some.is) (told g (goal.at.loop-hand-preserved g c).After-read-key w turn x);
-}
-
-pub loop-hand-smaller : goal.loop-hand-smaller
-loop-hand-smaller g c = let next = next_slot c.args.more c.loop-hand.slot c.in-Some.next (sym c.slot_behind.ensures ∙ c.in-Some.is) in let few = few_slots c.in-Some.next in omega (arith, next, few)
-
-pub returns-in_default-clause-finds : goal.returns-in_default-clause-finds
-returns-in_default-clause-finds g c = λ w turn x.
-    let not = other g (goal.at.returns-in_default-clause-finds g c).Else-asked-key in
-    rw c.asked_key-asked.ensures (finds_other w _ c.args.goal c.args.trail turn c.args.head c.args.more c.loop-hand.slot c.read-key.result not (inr (omega (arith, not, c.asked_key-asked.ensures, c.if-key-asked.false))) (told g (goal.at.returns-in_default-clause-finds g c).After-read-key w turn x))
-
-pub returns-in_default-clause-steps : goal.returns-in_default-clause-steps
-returns-in_default-clause-steps g c = let one = c.read-key.ensures.one in let old = c.loop-hand.invariant.steps in let few = few_slots c.loop-hand.slot in omega (arith, one, old, few)
-
-pub returns-in_default-2-clause-finds : goal.returns-in_default-2-clause-finds
-returns-in_default-2-clause-finds g c = λ w turn x. rw c.asked_key-asked.ensures
-    (finds_other w _ c.args.goal c.args.trail turn c.args.head c.args.more c.loop-hand.slot c.read-key.result (other g (goal.at.returns-in_default-2-clause-finds g c).Else-asked-key) (inl (sym c.slot_behind.ensures ∙ c.in_default.is)) (told g (goal.at.returns-in_default-2-clause-finds g c).After-read-key w turn x))
-
-pub returns-in_default-2-clause-steps : goal.returns-in_default-2-clause-steps
-returns-in_default-2-clause-steps g c = let one = c.read-key.ensures.one in let old = c.loop-hand.invariant.steps in let few = few_slots c.loop-hand.slot in omega (arith, one, old, few)
+pub end_from-requires-in-Fourth-clause-told : goal.end_from-requires-in-Fourth-clause-told
+end_from-requires-in-Fourth-clause-told g c = c.requires.told

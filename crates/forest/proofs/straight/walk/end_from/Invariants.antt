@@ -6,7 +6,7 @@ use Rattle.forest.specs.Traces.{seat_steps}
 use Rattle.forest.specs.CallKinds.{calls}
 use Rattle.template.specs.Common.{load, walk_at}
 use Rattle.template.specs.declared.walk.WalkAt.TheVariants.{More, Pair}
-use Rattle.forest.proofs.straight.walk.end_among.Given as goal
+use Rattle.forest.proofs.straight.walk.end_from.Given as goal
 
 abbrev pub invariant-loop-hand : goal.invariant-loop-hand
 invariant-loop-hand g l = record {
