@@ -348,8 +348,8 @@ turn_key c h old now turn head side key k e low fork d by goes a =
     waits_at c h old now turn (Child head.level side) (walk_step old (Child head.level side)) k a (k.trail, level_is c h old k head e, fork_is c h old k head e fork, goes_by_key c h old k head e low key d ∙ sym by) (λ w x. stays_within c h old head key k e low fork d goes w) refl
 
 -- or it ends there
-pub ends_at_fork : (c : Call) (h : History) (old now : WalkRun) (turn : Turn Found) (head : HeadParts) (key : ℕ) → WalkStands old c h → head_of (here h old (Settled HeadWord)) ≡ head → head.class ≡ 0 → head.leaf ≡ false → here h old first_key ≡ key → EndsAt old key true → WalkEnds old now turn head 0 key None → WalkTurn c h now turn
-ends_at_fork c h old now turn head key k e low fork d ends a = rw (a.done, a.stands) (subst (λ way. FoundBy way old.goal c h (record { trail = old.trail; head = head; more = 0; key = key; value = None })) (sym w) (inr record {
+pub ends_at_fork : (c : Call) (h : History) (old now : WalkRun) (turn : Turn Found) (head : HeadParts) (key : ℕ) → WalkStands old c h → head_of (here h old (Settled HeadWord)) ≡ head → head.class ≡ 0 → head.leaf ≡ false → here h old first_key ≡ key → key < 2 ^ 64 → EndsAt old key true → WalkEnds old now turn head 0 key None → WalkTurn c h now turn
+ends_at_fork c h old now turn head key k e low fork d small ends a = rw (a.done, a.stands) (subst (λ way. FoundBy way old.goal c h (record { trail = old.trail; head = head; more = 0; key = key; value = None })) (sym w) (inr record {
   trie = is_trie c h old head key k e low fork d w;
   may = may_end c.layout old.way old.goal k.may;
   trail = k.trail;
@@ -359,6 +359,7 @@ ends_at_fork c h old now turn head key k e low fork d ends a = rw (a.done, a.sta
   head = e;
   low = low;
   key = d;
+  small = small;
   outside = not_shared c h old head key k e low fork d ends;
   none = refl;
 }))

@@ -1,1 +1,1 @@
-pub mod Sound
+pub mod Stands

@@ -7,7 +7,7 @@ use Rattle.template.proofs.walk.WalkRun.read_key.Goals as goal
 pub returns-then-ends_at-clause-turn : goal.returns-then-ends_at-clause-turn
 returns-then-ends_at-clause-turn c d h k e low fork at =
     let m = c.args.self.now in
-    ends_at_fork d h m c.end.new.self c.end.result c.args.head c.args.key k e low fork at (subst (EndsAt m c.args.key) c.if-ends_at.true c.ends_at.ensures) c.end.ensures
+    ends_at_fork d h m c.end.new.self c.end.result c.args.head c.args.key k e low fork at c.ranges.key.fits (subst (EndsAt m c.args.key) c.if-ends_at.true c.ends_at.ensures) c.end.ensures
 
 pub returns-else-ends_at-clause-turn : goal.returns-else-ends_at-clause-turn
 returns-else-ends_at-clause-turn c d h k e low fork at =
