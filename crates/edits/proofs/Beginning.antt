@@ -69,9 +69,8 @@ module _ {E : Type 0} (e : EditMeaning E) {A : Type 0} (m : UpdateRun E A) (run 
   here = record { from = omega arith; below = let s = x.some in omega (arith, s) }
 
   -- it covers the leaf that was found
-  leaf : CoversLeaf e m.edit f c h after.scx.0 after.update.snaps
-  leaf = subst (λ (u : Update). CoversLeaf e m.edit f c h after.scx.0 u.snaps) (sym same_update)
-      (subst (λ (xs : List Snap). CoversLeaf e m.edit f c h after.scx.0 xs) (sym covers) (sound.leaf m.edit c h f m.snaps.items after.scx.0 x.run needed x.all.looked x.all.enough))
+  leaf : CoversLeaf e m.edit f c h after.scx.0 after.update
+  leaf = subst (λ (u : Update). CoversLeaf e m.edit f c h after.scx.0 u) (sym (same_update ∙ says_so)) (sound.leaf m.edit c h f m.snaps.items m.nodes after.scx.0 x.run needed x.all.looked x.all.enough)
 
   first_waits : (turn : Turn ScxAnswer) (step : Step) → turn ≡ Ask step → MatchTurn turn (ScxWaits TreeAllows after (begun_at c h) h) (ScxAnswers after (begun_at c h) h) → TryWaits e (standing (record m { share = less_an_scx m.share }) (Scx f after)) c h step
   first_waits turn step asked w = (

@@ -4,7 +4,7 @@ use Rattle.std.proofs.lemmas.List.{take-append-le}
 use Rattle.histories.specs.Common.{IsOwnNode, History, Extends, Lawful, Call, MatchTurn, begun_at, Remaining, HasNode, Turn, Ask, Done, Step}
 use Rattle.arena.proofs.Lemmas.{ends_self}
 use Rattle.histories.proofs.Lemmas.{unmentioned_unnamed}
-use Rattle.template.specs.Common.{HasFoundThere, IsSnapshot, LlxWaits, LlxAnswers, Llx, Snapshot, LlxRun, TreeAllows, snap_at, Snap, FoundBy, Goal}
+use Rattle.template.specs.Common.{HasFoundThere, IsSnapshot, LlxWaits, LlxAnswers, Llx, Snapshot, LlxRun, TreeAllows, snap_at, Snap, FoundBy, Goal, WasInTree}
 use Rattle.prims.specs.Laws.FoundThere.{there_wider}
 use Rattle.prims.specs.Laws.Idle.{IsQuietSince}
 use Rattle.edits.specs.declared.update.UpdateAt.TheVariants.{Look}
@@ -34,11 +34,11 @@ at_end (t ∷ snaps) s zero p = inl (omega arith, refl)
 at_end (t ∷ snaps) s (suc i) p = ⊎_elim (λ x. inl ((let y = x.0 in omega (arith, y)), x.1)) (λ x. inr ((let y = x.0 in omega (arith, y)), x.1)) (at_end snaps s i (omega (arith, p)))
 
 -- the pass may use a snapshot that it has just taken
-pub usable_one_more : (c : Call) (h : History) (way : Way) (goal : Goal) (f : Found) (snaps : List Snap) (s : Snap) (n : ℕ) → Extends h c.start → FoundBy way goal c h f → IsSnapshot c.layout h n s → HasFoundThere c.pass h c.start n s.scx.0 → AreUsable c h way goal f snaps → AreUsable c h way goal f (snaps ++ s ∷ [])
-usable_one_more c h way goal f snaps s n since found is met x i p = go (at_end snaps s i p)
+pub usable_one_more : (c : Call) (h : History) (way : Way) (goal : Goal) (f : Found) (snaps : List Snap) (s : Snap) (n : ℕ) → Extends h c.start → FoundBy way goal c h f → WasInTree h s.node.0 → IsSnapshot c.layout h n s → HasFoundThere c.pass h c.start n s.scx.0 → AreUsable c h way goal f snaps → AreUsable c h way goal f (snaps ++ s ∷ [])
+usable_one_more c h way goal f snaps s n since found stood is met x i p = go (at_end snaps s i p)
   where
     now : HasSnappedAfterWalk c h way goal f s
-    now = record { moment = h; within = ends_self h; since = since; found = found; is = subst (λ m. IsSnapshot c.layout h m s) (sym is.node) is; met = subst (λ m. HasFoundThere c.pass h c.start m s.scx.0) (sym is.node) met }
+    now = record { moment = h; within = ends_self h; since = since; found = found; stood = stood; is = subst (λ m. IsSnapshot c.layout h m s) (sym is.node) is; met = subst (λ m. HasFoundThere c.pass h c.start m s.scx.0) (sym is.node) met }
 
     go : ((i < length snaps) × (snap_at (snaps ++ s ∷ []) i ≡ snap_at snaps i)) ⊎ ((i ≡ length snaps) × (snap_at (snaps ++ s ∷ []) i ≡ s)) → HasSnappedAfterWalk c h way goal f (snap_at (snaps ++ s ∷ []) i)
     go (inl q) = subst (HasSnappedAfterWalk c h way goal f) (sym q.1) (x i q.0)
@@ -56,15 +56,15 @@ seen_one_more e ed f snaps s named x i p = go (at_end snaps s i p)
     go (inl q) = rw (take-append-le i snaps (s ∷ []) (let y = q.0 in omega (arith, y)), q.1) (x i q.0)
     go (inr q) = rw (q.0, take-append-le (length snaps) snaps (s ∷ []) (omega arith), take_all snaps) (named ∙ ap (λ (t : Snap). At t.node) (sym (rw q.0 at q.1)))
 
-pub looked_one_more : {E : Type 0} (e : EditMeaning E) {A : Type 0} (m now : UpdateRun E A) (c : Call) (h : History) (f : Found) (s : Snap) (n : ℕ) → now.edit ≡ m.edit → now.share ≡ m.share → now.work ≡ m.work → now.snaps.items ≡ m.snaps.items ++ s ∷ [] → e.looks m.edit f m.snaps.items ≡ At s.node → IsSnapshot c.layout h n s → HasFoundThere c.pass h c.start n s.scx.0 → CanLook e m c h f → CanLook e now c h f
-looked_one_more e m now c h f s n ed share work items named is met x = record {
+pub looked_one_more : {E : Type 0} (e : EditMeaning E) {A : Type 0} (m now : UpdateRun E A) (c : Call) (h : History) (f : Found) (s : Snap) (n : ℕ) → now.edit ≡ m.edit → now.share ≡ m.share → now.work ≡ m.work → now.snaps.items ≡ m.snaps.items ++ s ∷ [] → e.looks m.edit f m.snaps.items ≡ At s.node → WasInTree h s.node.0 → IsSnapshot c.layout h n s → HasFoundThere c.pass h c.start n s.scx.0 → CanLook e m c h f → CanLook e now c h f
+looked_one_more e m now c h f s n ed share work items named stood is met x = record {
   begins = record { run = x.begins.run; small = rw ed x.begins.small; may = rw ed x.begins.may; since = x.begins.since; rests = rw share x.begins.rests };
   quiet = x.quiet;
   looked = rw (ed, items) record {
     small = x.looked.small;
     may = x.looked.may;
     found = x.looked.found;
-    usable = usable_one_more c h (e.way m.edit) (e.goal m.edit) f m.snaps.items s n x.begins.since x.looked.found is met x.looked.usable;
+    usable = usable_one_more c h (e.way m.edit) (e.goal m.edit) f m.snaps.items s n x.begins.since x.looked.found stood is met x.looked.usable;
     seen = seen_one_more e m.edit f m.snaps.items s named x.looked.seen;
   };
   asked = rw (ed, work) x.asked;

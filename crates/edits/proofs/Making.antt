@@ -63,8 +63,10 @@ module _ (c : Call) (h : History) (m : ScxRun) (row : Row) (before : History) (l
       wins = log_wins (facts_before c.layout before row here) (wins_of c.layout before row m.scx.0 here y.wins)
 
   -- the SCX-record covered the nodes of the snapshots when it won
-  covers : CoversSnaps before m.scx.0 m.update.snaps
+  covers : CoversSnaps before m.scx.0 m.update
   covers = record {
+    planned = y.planned;
+    saw = y.saw;
     count = members_many before m.scx.0 0 (count before m.scx.0) m.update.snaps all;
     members = λ j p. ap (member before m.scx.0) (let z : j ≡ j + 0 = omega arith in z) ∙ members_are before m.scx.0 0 (count before m.scx.0) m.update.snaps all j p;
   }
@@ -72,11 +74,11 @@ module _ (c : Call) (h : History) (m : ScxRun) (row : Row) (before : History) (l
       all : members_from before m.scx.0 0 (count before m.scx.0) ≡ nodes_of m.update.snaps
       all = ap (λ (e : Entry). e.members) entry_is
 
--- At the row at which the SCX-record of an edit wins that covers these snapshots, of a leaf that
--- was found before.
-module _ {E : Type 0} (e : EditMeaning E) (ed : E) (c : Call) (f : Found) (begin before : History) (row : Row) (s : ℕ) (snaps : List Snap)
+-- At the row at which the SCX-record of an edit wins that makes this update, at a leaf that was found
+-- before.
+module _ {E : Type 0} (e : EditMeaning E) (ed : E) (c : Call) (f : Found) (begin before : History) (row : Row) (s : ℕ) (u : Update)
     (now : IsMapRun c.layout (row ⊳ before)) (since : Extends before begin) (won : IsWin before row s) (makes : Makes c.layout before s (e.edit ed f))
-    (found : FoundBy (e.way ed) (e.goal ed) c begin f) (covers_leaf : CoversLeaf e ed f c begin s snaps) (covers_snaps : CoversSnaps before s snaps) where
+    (found : FoundBy (e.way ed) (e.goal ed) c begin f) (covers_leaf : CoversLeaf e ed f c begin s u) (covers_snaps : CoversSnaps before s u) where
   then : IsMapRun c.layout before
   then = run_since c.layout (row ⊳ before) before now (inr (ends_self before))
 
@@ -84,7 +86,7 @@ module _ {E : Type 0} (e : EditMeaning E) (ed : E) (c : Call) (f : Found) (begin
   begun = run_since c.layout before begin then since
 
   leaf : edit_leaf before s (e.edit ed f) ≡ covered f
-  leaf = covers_leaf before then since covers_snaps makes
+  leaf = covers_leaf before row now won since covers_snaps makes
 
   -- where that is a leaf
   module _ (goal : Goal) (a : HasFoundGoal goal c begin f) where
@@ -143,11 +145,11 @@ module _ {E : Type 0} (e : EditMeaning E) (at_found : IsAtFound e) {A : Type 0} 
   now : IsMapRun c.layout (row ⊳ before)
   now = run_since c.layout h (row ⊳ before) x.run y.within
 
-  covers_leaf : CoversLeaf e m.edit f c begin after.scx.0 scx.update.snaps
-  covers_leaf = subst (λ (s : ScxNo). CoversLeaf e m.edit f c begin s.0 scx.update.snaps) (sym same_scx) x.leaf
+  covers_leaf : CoversLeaf e m.edit f c begin after.scx.0 scx.update
+  covers_leaf = subst (λ (s : ScxNo). CoversLeaf e m.edit f c begin s.0 scx.update) (sym same_scx) x.leaf
 
-  covers_snaps : CoversSnaps before after.scx.0 scx.update.snaps
-  covers_snaps = subst (λ (u : Update). CoversSnaps before after.scx.0 u.snaps) same_update (covers (begun_at c begin) h after row before x.run.1.lawful y)
+  covers_snaps : CoversSnaps before after.scx.0 scx.update
+  covers_snaps = subst (λ (u : Update). CoversSnaps before after.scx.0 u) same_update (covers (begun_at c begin) h after row before x.run.1.lawful y)
 
   -- its edit is made by one entry, and just before that the leaf that was found answered what the
   -- map did
@@ -162,7 +164,7 @@ module _ {E : Type 0} (e : EditMeaning E) (at_found : IsAtFound e) {A : Type 0} 
     since = ends_trans before begin c.start y.since (ends_trans begin b c.start x.since try.since);
     wins = y.wins;
     edits = edits;
-    told = leaf_told e m.edit (begun_at c b) f begin before row after.scx.0 scx.update.snaps now y.since y.wins edits.makes x.found covers_leaf covers_snaps at_found edits;
+    told = leaf_told e m.edit (begun_at c b) f begin before row after.scx.0 scx.update now y.since y.wins edits.makes x.found covers_leaf covers_snaps at_found edits;
     entry = update_entry c.pass after;
     logged = y.logged;
     of_scx = refl;
@@ -173,4 +175,4 @@ module _ {E : Type 0} (e : EditMeaning E) (at_found : IsAtFound e) {A : Type 0} 
   -- and, if the walk went to an end, which pair was there
   pub made_at_leaf : (made : HasMade (e.edit m.edit f) c h m.call f.value) × ToldEnd (e.goal m.edit) c.layout made.before f
   unfolding has_made
-  made_at_leaf = (has_made, told_end e m.edit (begun_at c b) f begin before row after.scx.0 scx.update.snaps now y.since y.wins edits.makes x.found covers_leaf covers_snaps)
+  made_at_leaf = (has_made, told_end e m.edit (begun_at c b) f begin before row after.scx.0 scx.update now y.since y.wins edits.makes x.found covers_leaf covers_snaps)

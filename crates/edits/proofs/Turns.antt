@@ -128,7 +128,7 @@ module _ {E : Type 0} (e : EditMeaning E) where
       only = subst (λ (s : ScxNo). HasEnteredOnly c.layout c.pass s.0 h c.start) (sym is_scx) x.only;
       usable = subst (λ (u : Update). AreUsable c begin (e.way m.edit) (e.goal m.edit) f u.snaps) (sym is_update) x.usable;
       quiet = x.quiet;
-      leaf = subst (λ (s : ScxNo). CoversLeaf e m.edit f c begin s.0 after.update.snaps) (sym is_scx) (subst (λ (u : Update). CoversLeaf e m.edit f c begin scx.scx.0 u.snaps) (sym is_update) x.leaf);
+      leaf = subst (λ (s : ScxNo). CoversLeaf e m.edit f c begin s.0 after.update) (sym is_scx) (subst (λ (u : Update). CoversLeaf e m.edit f c begin scx.scx.0 u) (sym is_update) x.leaf);
       share = subst (λ (s : ScxNo). IsShare c.layout h c.pass m.share m.share.next_node s.0) (sym is_scx) x.share;
       next_node = x.next_node ∙ ap (λ (u : Update). suc u.fresh.0) (sym is_update);
       next_scx = x.next_scx ∙ ap (λ (s : ScxNo). suc s.0) (sym is_scx);

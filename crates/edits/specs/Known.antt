@@ -4,7 +4,7 @@ use Rattle.histories.specs.Common.{Full, Resource, Nodes as FreshNodes, Layout, 
 use Rattle.histories.specs.Common.{IsOwnScx, IsTakenNode, History, ◌⊳◌, value, Extends, IsWin, all_nodes, Entry, log, Call, MatchTurn, begun_at, Remaining, node}
 use Rattle.arena.specs.declared.fault.Resource.TheVariants.{Scx as ScxRecords}
 use Rattle.template.specs.Common.{HasFoundThere, load, IsSnapshot, LlxIsReady, LlxWaits, AreFinished, ScxIsReady, ScxWaits, job_of, IsShare, snap_at, LlxRun}
-use Rattle.template.specs.Common.{ScxRun, Snap, MapEdit, edit_key, end_pair, get, IsMapRun, Makes, Spells, TreeAllows, edit_leaf, Pair, path_key, end_told}
+use Rattle.template.specs.Common.{ScxRun, Snap, Update, MapEdit, edit_key, end_pair, get, IsMapRun, Makes, Spells, TreeAllows, edit_leaf, Pair, path_key, end_told, WasInTree}
 use Rattle.template.specs.Common.{FoundBy, MayGo, IsFresh, Tracks, WalkIsReady, WalkWaits, Goal, Key as ToKey, End, IsContended, HasLostTriesTo, HasTriedAllBut}
 use Rattle.prims.specs.Laws.Idle.{IsQuietSince}
 use Rattle.ordered_map.specs.Runs.{IsEditAt}
@@ -63,12 +63,13 @@ abbrev pub covered : Found → ℕ
 covered f = if f.head.leaf then f.trail.node.0 else 2
 
 -- the snapshot was right at a moment of the call, by which that had found this leaf, to which its
--- walk was to go, and the snapshot's SCX-record in the node's info
+-- walk was to go, and the snapshot's SCX-record in the node's info; the node had been in the tree
 pub record HasSnappedAfterWalk (c : Call) (h : History) (way : Way) (goal : Goal) (f : Found) (snap : Snap) : Type 0 where
   pub moment : History
   pub within : Extends h moment
   pub since : Extends moment c.start
   pub found : FoundBy way goal c moment f
+  pub stood : WasInTree moment snap.node.0
   pub is : IsSnapshot c.layout moment snap.node.0 snap
   pub met : HasFoundThere c.pass moment c.start snap.node.0 snap.scx.0
 
@@ -181,10 +182,10 @@ abbrev pub top : {E A : Type 0} → UpdateRun E A → ℕ
 top m = top_of m.work.need m.nodes
 
 module _ {E : Type 0} (e : EditMeaning E) where
-  -- whenever the SCX-record s makes the edit of these snapshots later, the leaf of the edit is what stands
-  -- for the one that was found
-  abbrev pub CoversLeaf : E → Found → Call → History → ℕ → List Snap → Type 0
-  CoversLeaf ed f c begin s snaps = (k : History) → IsMapRun c.layout k → Extends k begin → CoversSnaps k s snaps → Makes c.layout k s (e.edit ed f) → edit_leaf k s (e.edit ed f) ≡ covered f
+  -- whenever the SCX-record s wins later that makes the edit by this update, the leaf of the edit is what
+  -- stands for the one that was found
+  abbrev pub CoversLeaf : E → Found → Call → History → ℕ → Update → Type 0
+  CoversLeaf ed f c begin s u = (k : History) (row : Row) → IsMapRun c.layout (row ⊳ k) → IsWin k row s → Extends k begin → CoversSnaps k s u → Makes c.layout k s (e.edit ed f) → edit_leaf k s (e.edit ed f) ≡ covered f
 
   -- what each fresh node is to hold
   abbrev pub piece : {A : Type 0} → UpdateRun E A → Found → ℕ → Piece
@@ -286,7 +287,7 @@ module _ (e : EditMeaning (Unit {0})) where
       pub need : 0 < (e.work tt f).need
       pub usable : AreUsable c begin (e.way tt) (e.goal tt) f scx.update.snaps
       pub quiet : IsQuietSince c.layout c.pass c.start begin
-      pub leaf : CoversLeaf e tt f c begin scx.scx.0 scx.update.snaps
+      pub leaf : CoversLeaf e tt f c begin scx.scx.0 scx.update
 
     -- the walk goes where the edit's is to go, the pass is at rest, and has filled nothing since
     -- the walk's start

@@ -2,7 +2,7 @@
 use Rattle.std.specs.Prelude.{◌≡◌, ◌⊎◌, ℕ, ◌<◌, true, List, Some}
 use Rattle.histories.specs.Common.{NodeNo, ScxNo, Child, Side, IsInField, History, Call, Descriptor}
 use Rattle.prims.specs.Laws.Idle.{IsQuietSince}
-use Rattle.template.specs.Common.{IsOpened, IsUpdateOver, Job, Says, Snap, edit_key, IsMapRun, IsContended, WasNotFinal, asked_key, IsPromised}
+use Rattle.template.specs.Common.{IsUpdateOver, Job, Says, Snap, edit_key, IsMapRun, WasInTree, IsContended, WasNotFinal, asked_key, IsPromised}
 use Rattle.template.specs.declared.walk.Found.{Found}
 use Rattle.edits.specs.declared.edit.Look.TheVariants.{At, Differs, Enough}
 use Rattle.edits.specs.declared.edit.Nodes.{Nodes}
@@ -12,12 +12,12 @@ use Rattle.edits.specs.Edits.{EditMeaning, EditBounds}
 use Rattle.edits.specs.Known.{ComesBefore, CoversLeaf, IsNeeded, HasLooked, HasFilledAll, MayRead}
 use Rattle.edits.specs.Pieces.{is_filled, nth_node, update_for, word_of}
 
--- What an edit looks at an LLX may look at, and was not final at a moment of the call. If a
+-- What an edit looks at has been in the tree, and was not final at a moment of the call. If a
 -- snapshot differs from what the walk has found, what the edit names was in the way of a pass that
 -- was idle. What an edit reads every pass may know, it is not the root, and what is known of it
 -- before is right.
 pub record LooksWell {E : Type 0} (m : EditMeaning E) : Type 0 where
-  pub opens : (e : E) (c : Call) (h : History) (f : Found) (snaps : List Snap) (n : NodeNo) → IsMapRun c.layout h → 0 < (m.work e f).need → HasLooked m c h e f snaps → m.looks e f snaps ≡ At n → IsOpened c.layout h n.0
+  pub there : (e : E) (c : Call) (h : History) (f : Found) (snaps : List Snap) (n : NodeNo) → IsMapRun c.layout h → 0 < (m.work e f).need → HasLooked m c h e f snaps → m.looks e f snaps ≡ At n → WasInTree h n.0
   pub stood : (e : E) (c : Call) (h : History) (f : Found) (snaps : List Snap) (n : NodeNo) → IsMapRun c.layout h → 0 < (m.work e f).need → HasLooked m c h e f snaps → m.looks e f snaps ≡ At n → WasNotFinal c h n.0
   pub differs : (e : E) (c : Call) (h : History) (f : Found) (snaps : List Snap) (n : NodeNo) (s : ScxNo) → IsMapRun c.layout h → 0 < (m.work e f).need → HasLooked m c h e f snaps → m.looks e f snaps ≡ Differs n s → IsQuietSince c.layout c.pass c.start h → IsContended c h n.0 s.0
   pub reads : (e : E) (c : Call) (h : History) (f : Found) (snaps : List Snap) (x : NodeNo × Reading) → IsMapRun c.layout h → 0 < (m.work e f).need → HasLooked m c h e f snaps → m.looks e f snaps ≡ Enough → m.reads e f snaps ≡ Some x → MayRead c.layout h x.0.0 x.1
@@ -32,7 +32,7 @@ pub record FillsWell {E : Type 0} (m : EditMeaning E) : Type 0 where
 pub record MakesWell {E : Type 0} (m : EditMeaning E) : Type 0 where
   pub over : (e : E) (c : Call) (h : History) (f : Found) (snaps : List Snap) (ns : Nodes) → IsMapRun c.layout h → 0 < (m.work e f).need → HasLooked m c h e f snaps → m.looks e f snaps ≡ Enough → IsUpdateOver (update_for (m.work e f) snaps ns)
   -- and its leaf is the one that was found
-  pub leaf : (e : E) (c : Call) (h : History) (f : Found) (snaps : List Snap) (s : ℕ) → IsMapRun c.layout h → 0 < (m.work e f).need → HasLooked m c h e f snaps → m.looks e f snaps ≡ Enough → CoversLeaf m e f c h s snaps
+  pub leaf : (e : E) (c : Call) (h : History) (f : Found) (snaps : List Snap) (ns : Nodes) (s : ℕ) → IsMapRun c.layout h → 0 < (m.work e f).need → HasLooked m c h e f snaps → m.looks e f snaps ≡ Enough → CoversLeaf m e f c h s (update_for (m.work e f) snaps ns)
   pub promised : (e : E) (c : Call) (h : History) (f : Found) (snaps : List Snap) (ns : Nodes) (read : Reading) (j : Job) (d : Descriptor) → IsMapRun c.layout h → 0 < (m.work e f).need → HasFilledAll m c h e f snaps ns read → j.update ≡ update_for (m.work e f) snaps ns → Says d j → IsPromised c.layout c.pass h j.scx.0 d (m.edit e f)
 
 -- its edit is of the key whose value the leaf that was found answers

@@ -78,7 +78,7 @@ said_low f k n old e = go (ℕ_discrete (class f n) 0)
 -- What it has found
 
 -- no mode allows more levels than this
-no_deeper : (mode : Mode) (taken l : ℕ) → l < depth mode taken → l < 67 + taken
+pub no_deeper : (mode : Mode) (taken l : ℕ) → l < depth mode taken → l < 67 + taken
 no_deeper TrieMode taken l d = omega (arith, d)
 no_deeper TreeMode taken l d = omega (arith, d)
 no_deeper Records taken l d = omega (arith, d)

@@ -91,10 +91,11 @@ impl<G: EditGoal, R: EditRule> KeyEdit<G, R> {
     /// And where it leaves none.
     #[inline(always)]
     fn take(&self, found: &Found) -> TakePair
-        ensures { result ≡ taking (asked_key (G.goal self.now.goal) found.now.key) }
+        ensures { result ≡ taking (G.trie self.now.goal) (asked_key (G.goal self.now.goal) found.now.key) }
     {
         TakePair {
             key: self.key(found),
+            trie: self.goal.in_trie(),
         }
     }
 }
@@ -108,8 +109,7 @@ impl<G: EditGoal, R: EditRule> Edit for KeyEdit<G, R> {
         self.goal.goal()
     }
 
-    /// In a trie what puts in what was absent ends at a fork that its key does not share. Nothing is
-    /// taken out of one yet.
+    /// In a trie what puts in what was absent ends at a fork that its key does not share.
     #[inline(always)]
     fn way(&self) -> Way {
         if !self.goal.in_trie() {
@@ -117,8 +117,7 @@ impl<G: EditGoal, R: EditRule> Edit for KeyEdit<G, R> {
         }
         match self.rule.leaves() {
             Some(_) if self.rule.applies(None) => Way::Within,
-            Some(_) => Way::InTrie,
-            None => Way::InTree,
+            _ => Way::InTrie,
         }
     }
 

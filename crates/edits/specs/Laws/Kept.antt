@@ -45,7 +45,7 @@ snapped_usable c h way goal f snap l x = usable_since c.layout h x.moment snap x
 
 -- snapshots may be used for ever
 pub usable_more : (c : Call) (h : History) (r : Row) (way : Way) (goal : Goal) (f : Found) (snaps : List Snap) → AreUsable c h way goal f snaps → AreUsable c (r ⊳ h) way goal f snaps
-usable_more c h r way goal f snaps x i p = let u = x i p in record { moment = u.moment; within = inr u.within; since = u.since; found = u.found; is = u.is; met = u.met }
+usable_more c h r way goal f snaps x i p = let u = x i p in record { moment = u.moment; within = inr u.within; since = u.since; found = u.found; stood = u.stood; is = u.is; met = u.met }
 
 -- what is read of a named node is what it holds for ever
 module _ (b f : Word → ℕ) (n : ℕ) (same : SameSettled b f n) where

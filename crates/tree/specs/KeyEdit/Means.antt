@@ -22,13 +22,13 @@ abbrev pub putting : Bool → ℕ → ℕ → PutPair
 putting trie key value = record { key = key; value = value; trie = trie }
 
 -- what takes the key out
-abbrev pub taking : ℕ → TakePair
-taking key = record { key = key }
+abbrev pub taking : Bool → ℕ → TakePair
+taking trie key = record { key = key; trie = trie }
 
 -- what leaves this value to a key does what puts it there; what leaves none, what takes the key out
 abbrev pub doing : Bool → Option ℕ → EditMeaning ℕ
 doing trie (Some value) = through put_means (λ key. putting trie key value)
-doing trie None = through take_means taking
+doing trie None = through take_means (taking trie)
 
 -- the edit that leaves this to a key
 abbrev pub leaving : Bool → Option ℕ → EditMeaning ℕ
@@ -55,11 +55,11 @@ wants (Key k) rule found = applies rule found
 wants (End side) rule (Some value) = applies rule (Some value)
 wants (End side) rule None = false
 
--- where what leaves this walks in a trie, which takes nothing out yet: what puts in what was absent ends at a
--- fork that its key does not share
+-- where what leaves this walks: in a trie what puts in what was absent ends at a fork that its key does not
+-- share
 abbrev pub way_by : Bool → Option ℕ → Bool → Way
 way_by false left absent = InTree
-way_by true None absent = InTree
+way_by true None absent = InTrie
 way_by true (Some value) absent = if absent then Within else InTrie
 
 abbrev pub way_of : Bool → Rule → Way
