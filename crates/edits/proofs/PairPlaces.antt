@@ -161,7 +161,13 @@ left_at (a ∷ b ∷ c ∷ d ∷ e ∷ f ∷ ps) few at i = absurd (omega (arith
 pub last_at : (ps : List Pair) → pair_at ps (length ps - 1) ≡ unwrap_or (last_pair ps) (pair 0 0)
 last_at [] = refl
 last_at (p ∷ []) = refl
-last_at (p ∷ q ∷ ps) = last_at (q ∷ ps) ∙ refl
+last_at (p ∷ q ∷ ps) = ap (pair_at (p ∷ q ∷ ps)) here ∙ ap (pair_at (q ∷ ps)) there ∙ last_at (q ∷ ps)
+  where
+    here : length (p ∷ q ∷ ps) - 1 ≡ suc (length ps)
+    here = omega arith
+
+    there : length ps ≡ length (q ∷ ps) - 1
+    there = omega arith
 
 -- The place of a key
 

@@ -8,12 +8,11 @@ use Rattle.histories.specs.Common.{Value as ValueWord, High as HighWord, head_of
 use Rattle.arena.proofs.Lemmas.{ends_self}
 use Rattle.ordered_map.proofs.Lemmas.{shares_span, end_is, held_end, low_pairs, from_rises, get_here, get_behind, get_nowhere}
 use Rattle.ordered_map.proofs.MapLemmas.{below_root, levels_rise, root_head, stood_depth, stood_holds, stood_parted, walk_first, walk_turns, walked_next, walked_stood}
-use Rattle.template.specs.Common.{IsWellCounted, held_pairs, held_from, held_behind, slot_behind, end_slot, pair_in, wide_value, AllBelow, IsRising, get, Passed, HasWalked, WasInTree, IsMapRun, class, is_leaf}
+use Rattle.template.specs.Common.{IsWellCounted, held_pairs, held_from, held_behind, slot_behind, end_slot, pair_in, wide_value, AllBelow, IsRising, get, Passed, HasWalked, IsMapRun, class, is_leaf}
 use Rattle.template.specs.Common.{level, rank, toward, said, IsOwnMoment, Goal, Key as ToKey, End, path_key, asked_key, asked_in, HasFoundGoal, FoundBy, MayGo, WalkKnows, walk_step, WalkIsReady, WalkIsTold, WalkEnds}
 use Rattle.ordered_map.specs.MapLaws.{IsEndmost}
 use Rattle.ordered_map.specs.Bits.{IsForkKey, IsInSpan, Shares}
 use Rattle.ordered_map.specs.Paths.{depth, end_turn}
-use Rattle.ordered_map.specs.Strays.{HasStrayed}
 use Rattle.ordered_map.specs.TrieShape.{Stays}
 use Rattle.template.specs.FoundLeaf.{MayEnd}
 use Rattle.template.specs.Trails.{OnTrail}
@@ -23,8 +22,8 @@ use Rattle.template.specs.declared.walk.Way.{Way}
 use Rattle.template.specs.declared.walk.Way.TheVariants.{InTree, InTrie, Within}
 use Rattle.template.specs.declared.walk.WalkRun.{WalkRun}
 use Rattle.template.specs.declared.walk.WalkAt.{WalkAt}
-use Rattle.template.specs.declared.walk.WalkAt.TheVariants.{Start, Root, Head, Key, Child, More, Pair, Value, High}
-use Rattle.template.specs.Walk.Known.{StaysAbove, LoadsChild, IsSure, EndsAt, asks_key, open_side, goal_slot, here, WalkStandsAtLeaf, IsSlotFor, WalkTurn, WalkAsks, WalkStands}
+use Rattle.template.specs.declared.walk.WalkAt.TheVariants.{Start, Root, Head, Child, More, Pair, Value, High}
+use Rattle.template.specs.Walk.Known.{LoadsChild, EndsAt, asks_key, open_side, goal_slot, here, WalkStandsAtLeaf, IsSlotFor, WalkTurn, WalkAsks, WalkStands}
 
 pub own_since : (c : Call) (h : History) → IsOwnMoment c h → Extends h c.start
 own_since c h b = subst (λ k. Extends k c.start) (sym b.is) (inr b.since)

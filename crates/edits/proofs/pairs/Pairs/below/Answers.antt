@@ -1,4 +1,4 @@
-use Rattle.std.proofs.Common.{◌∙◌, min, ◌≤◌, subst, sym, length, arith}
+use Rattle.std.proofs.Common.{◌∙◌, min, arith}
 use Rattle.edits.proofs.PairPlaces.{below_few, below_here, few_listed}
 use Rattle.edits.proofs.pairs.Pairs.below.Goals as goal
 

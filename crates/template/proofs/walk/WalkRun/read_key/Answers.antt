@@ -1,6 +1,5 @@
-use Rattle.std.proofs.Common.{◌≡◌, true, false, sym, ◌∙◌, subst}
-use Rattle.template.specs.declared.walk.WalkAt.TheVariants.{Child}
-use Rattle.template.specs.Walk.Known.{EndsAt, walk_step}
+use Rattle.std.proofs.Common.{subst}
+use Rattle.template.specs.Walk.Known.{EndsAt}
 use Rattle.template.proofs.WalkTurns.{turn_key, ends_at_fork}
 use Rattle.template.proofs.walk.WalkRun.read_key.Goals as goal
 
