@@ -27,8 +27,8 @@ taking key = record { key = key }
 
 -- what leaves this value to a key does what puts it there; what leaves none, what takes the key out
 abbrev pub doing : Bool → Option ℕ → EditMeaning ℕ
-doing trie (Some value) = through put_means (λ key. putting trie key value)
-doing trie None = through take_means taking
+doing in_trie (Some value) = through put_means (λ key. putting in_trie key value)
+doing in_trie None = through take_means taking
 
 -- the edit that leaves this to a key
 abbrev pub leaving : Bool → Option ℕ → EditMeaning ℕ
@@ -63,7 +63,7 @@ way_by true None absent = InTree
 way_by true (Some value) absent = if absent then Within else InTrie
 
 abbrev pub way_of : Bool → Rule → Way
-way_of trie rule = way_by trie (leaves rule) (applies rule None)
+way_of in_trie rule = way_by in_trie (leaves rule) (applies rule None)
 
 -- `goal`, `trie` and `rule` are the edit's as values
 module _ {G R : Type 0} (goal : G → Goal) (trie : G → Bool) (rule : R → Rule) where

@@ -36,8 +36,8 @@ module _ {E F : Type 0} (m : EditMeaning E) (of : F → E) (laws : EditLaws m) w
 
 -- what leaves this to a key
 pub leaving_laws : (trie : Bool) (left : Option ℕ) → EditLaws (leaving trie left)
-leaving_laws trie (Some value) = laws_through put_means (λ key. putting trie key value) put_laws (leaving_bounds trie (Some value))
-leaving_laws trie None = laws_through take_means taking take_laws (leaving_bounds trie None)
+leaving_laws in_trie (Some value) = laws_through put_means (λ key. putting in_trie key value) put_laws (leaving_bounds in_trie (Some value))
+leaving_laws in_trie None = laws_through take_means taking take_laws (leaving_bounds in_trie None)
 
 -- At a goal
 
@@ -88,7 +88,7 @@ module _ (c : Call) (f : Found) (rule : Rule) where
   own_may (End side) true (Some v) false may = absurd may
 
   own_small : (goal : Goal) (trie : Bool) (left : Option ℕ) (absent : Bool) (h : History) → IsMapRun c.layout h → path_key goal < 2 ^ 64 → MayGo c.layout (way_by trie left absent) goal → FoundBy (way_by trie left absent) goal c h f → asked_key goal f.key < 2 ^ 64
-  own_small (Key k) trie left absent h run small may found = small
+  own_small (Key k) in_trie left absent h run small may found = small
   own_small (End side) false left absent h run small may found = found_small (End side) c h f run small found
   own_small (End side) true None absent h run small may found = found_small (End side) c h f run small found
   own_small (End side) true (Some v) true h run small may found = absurd may

@@ -6,7 +6,7 @@ use Rattle.std.proofs.lemmas.Nat.{mul-le}
 use native.Mathlib.Decide.{ℕ_discrete}
 use Rattle.arena.specs.declared.head.Head.{Head as HeadParts}
 use Rattle.histories.specs.Common.{Tree as TreeMode, NodeNo, ScxNo, Settled, Child, Head, Key, Side, Left, Right, Slot, First as FirstSlot, IsInField, head_of, History}
-use Rattle.histories.specs.Common.{value, Extends, Call, IsPlan, count, count_of, member, taken_nodes, node, child, first_key, first_value, Descriptor}
+use Rattle.histories.specs.Common.{value, Extends, Call, IsPlan, count_of, member, taken_nodes, node, child, first_key, first_value, Descriptor}
 use Rattle.arena.specs.Heads.{head_word}
 use Rattle.arena.specs.ScxRecords.{bit}
 use Rattle.arena.proofs.Lemmas.{taken_few}
