@@ -44,7 +44,7 @@ impl Balance for ByOrder {
 }
 
 impl FixedBalance for ByOrder {
-    ghost the = { ByOrder };
+    ghost the = { record {} };
 
     #[inline(always)]
     fn the() -> ByOrder {
@@ -66,7 +66,7 @@ impl Balance for ByBits {
 }
 
 impl FixedBalance for ByBits {
-    ghost the = { ByBits };
+    ghost the = { record {} };
 
     #[inline(always)]
     fn the() -> ByBits {
