@@ -1,8 +1,7 @@
 -- An insert fills its nodes in order: the leaves before the fork over them, which nothing mentions.
-use Rattle.std.proofs.Common.{◌≡◌, ℕ, ◌+◌, ◌/◌, ◌%◌, ◌<◌, ◌≤◌, ◌⊎◌, inl, inr, ⊎_elim, Bool, true, false, if◌then◌else◌, ◌==◌, ne_eqb, le-ltb, lt-ltb, eqb, List, refl, sym, ◌∙◌, ap, subst, arith}
+use Rattle.std.proofs.Common.{◌≡◌, ℕ, ◌/◌, ◌%◌, ◌<◌, ◌≤◌, ◌⊎◌, inl, inr, ⊎_elim, Bool, true, false, ◌==◌, ne_eqb, le-ltb, lt-ltb, eqb, List, refl, sym, ◌∙◌, ap, subst, arith}
 use Rattle.histories.specs.Common.{NodeWord, Settled, Child, Head, Side, History, value, Call, row_of, node, child}
-use Rattle.template.specs.Common.{Pair, IsFillInOrder, WasInTree, is_leaf, leaf_plan}
-use Rattle.ordered_map.specs.EditPlans.{above_plan}
+use Rattle.template.specs.Common.{Pair, IsFillInOrder, WasInTree, is_leaf}
 use Rattle.ordered_map.specs.FillOrder.{HasStoodInField}
 use Rattle.ordered_map.proofs.MapLemmas.{walked_stood}
 use Rattle.template.specs.declared.walk.Found.{Found}
@@ -36,13 +35,15 @@ abbrev IsLeafOrTop : (Nth → Piece) → ℕ → Nodes → Nth → Type 0
 IsLeafOrTop pieces need ns nth = IsLeafPiece (pieces nth) ⊎ ((nth_node ns nth).0 ≡ top_of need ns)
 
 parted_kind : (low : Bool) (ps : List Pair) (f : Found) (ns : Nodes) (nth : Nth) → IsLeafOrTop (parts_by low ps f ns) 3 ns nth
-parted_kind low ps f ns First = inl (leaf_head 66 0)
+parted_kind true ps f ns First = inl (leaf_head 66 0)
+parted_kind false ps f ns First = inl (leaf_head 66 0)
 parted_kind true ps f ns Second = inl (leaf_head 66 0)
 parted_kind false ps f ns Second = inl (leaf_head 2 f.head.class)
-parted_kind low ps f ns Third = inr refl
+parted_kind true ps f ns Third = inr refl
+parted_kind false ps f ns Third = inr refl
 
 split_kind : (trie split : Bool) (ps : List Pair) (f : Found) (ns : Nodes) (nth : Nth) → IsLeafOrTop (split_or_leaf trie split ps f ns) (put_need split) ns nth
-split_kind trie false ps f ns nth = inl (leaf_head f.head.level 0)
+split_kind in_trie false ps f ns nth = inl (leaf_head f.head.level 0)
 split_kind true true ps f ns nth = parted_kind (f.head.class == 0) ps f ns nth
 split_kind false true ps f ns First = inl (leaf_head (lower f.head.level) 0)
 split_kind false true ps f ns Second = inl (leaf_head (lower f.head.level) f.head.class)

@@ -41,7 +41,7 @@ impl<G: EditGoal, R: EditRule> KeyEdit<G, R> {
         ensures tries { result.tries ≡ tries - 1 }
         ensures limit { result.limit ≡ tries }
         ensures steps { (nodes : ℕ) → 0 < tries → update_left (key_means G.goal G.trie R.rule) result nodes
-            ≡ tries * (3 * (2 + room (way_of (G.trie self.goal) (R.rule self.rule)) nodes) + steps_behind (leaves (R.rule self.rule))) }
+            ≡ tries * (3 * (2 + room (way_of (G.goal self.goal) (G.trie self.goal) (R.rule self.rule)) nodes) + steps_behind (leaves (R.rule self.rule))) }
     {
         UpdateRun::new(self, share, tries, call, UpdateAt::Start)
     }
@@ -109,16 +109,25 @@ impl<G: EditGoal, R: EditRule> Edit for KeyEdit<G, R> {
         self.goal.goal()
     }
 
-    /// In a trie what puts in what was absent ends at a fork that its key does not share.
+    /// In a trie what puts in what was absent ends at a fork that its key does not share. Nothing is
+    /// done at an end of one yet.
     #[inline(always)]
     fn way(&self) -> Way {
         if !self.goal.in_trie() {
             return Way::InTree;
         }
-        match self.rule.leaves() {
-            Some(_) if self.rule.applies(None) => Way::Within,
-            _ => Way::InTrie,
+        match self.goal.goal() {
+            Goal::Key(_) => match self.rule.leaves() {
+                Some(_) if self.rule.applies(None) => Way::Within,
+                _ => Way::InTrie,
+            },
+            Goal::End(_) => Way::Within,
         }
+    }
+
+    #[inline(always)]
+    fn guard(&self) -> bool {
+        false
     }
 
     #[inline(always)]

@@ -1,6 +1,6 @@
 //! What puts a value at a key.
 ghost use Rattle.std.specs.Prelude.{◌≡◌};
-ghost use Rattle.tree.specs.Put.Means.{put_means, has_room, splits, strays, next_node, pairs_with, second_pairs, split_pieces, fork_over, above_pieces, parted_pieces};
+ghost use Rattle.tree.specs.Put.Means.{put_means, has_room, splits, strays, next_node, pairs_with, second_pairs, split_pieces, fork_over, above_pieces, low_parts, high_parts, parted_pieces};
 
 use crate::leaf;
 use arena::{NodeNo, Slot};
@@ -103,7 +103,9 @@ impl PutPair {
         }
     }
 
-    fn part_low(pairs: Pairs, nodes: &Nodes, nth: Nth) -> Piece {
+    fn part_low(pairs: Pairs, nodes: &Nodes, nth: Nth) -> Piece
+        ensures { result ≡ low_parts pairs nodes.now nth }
+    {
         let ForkPlace { key, level } = fork_between(pairs.at(Slot::First).key, pairs.last().key);
         match nth {
             Nth::First => Piece::Leaf {
@@ -126,7 +128,9 @@ impl PutPair {
         }
     }
 
-    fn part_high(found: &Found, pairs: Pairs, nodes: &Nodes, nth: Nth) -> Piece {
+    fn part_high(found: &Found, pairs: Pairs, nodes: &Nodes, nth: Nth) -> Piece
+        ensures { result ≡ high_parts pairs found.now.head.class nodes.now nth }
+    {
         let class = found.head.class;
         match nth {
             Nth::First => Piece::Leaf {
@@ -226,6 +230,10 @@ impl Edit for PutPair {
 
     fn way(&self) -> Way {
         if self.trie { Way::Within } else { Way::InTree }
+    }
+
+    fn guard(&self) -> bool {
+        false
     }
 
     #[inline(always)]

@@ -127,6 +127,10 @@ impl Edit for TakePair {
         if self.trie { Way::InTrie } else { Way::InTree }
     }
 
+    fn guard(&self) -> bool {
+        false
+    }
+
     #[inline(always)]
     fn work(&self, found: &Found) -> Work {
         match found.value {

@@ -5,7 +5,7 @@ use Rattle.template.specs.Common.{nodes_in_try, applies, leaves, Goal, Key, End,
 use Rattle.template.specs.declared.walk.Found.{Found}
 use Rattle.tree.specs.KeyEdit.Means.{doing, key_at, key_means, leaving, part, putting, taking, wants}
 use Rattle.tree.specs.Put.Laws.{put_bounds}
-use Rattle.tree.specs.Put.Means.{has_room, put_means, put_need, splits_by}
+use Rattle.tree.specs.Put.Means.{put_means}
 use Rattle.tree.specs.Take.Laws.{take_bounds}
 use Rattle.tree.specs.Take.Means.{take_means}
 use Rattle.edits.specs.declared.edit.Nth.{Nth}
@@ -27,8 +27,8 @@ bounds_through m of b = record {
 
 -- what leaves this to a key
 pub leaving_bounds : (trie : Bool) (left : Option ℕ) → EditBounds (leaving trie left)
-leaving_bounds trie (Some value) = bounds_through put_means (λ key. putting trie key value) put_bounds
-leaving_bounds trie None = bounds_through take_means (taking trie) take_bounds
+leaving_bounds in_trie (Some value) = bounds_through put_means (λ key. putting in_trie key value) put_bounds
+leaving_bounds in_trie None = bounds_through take_means (taking in_trie) take_bounds
 
 -- a try takes some node
 some_nodes : (b : Bool) → 0 < cond b 3 (let one : ℕ = 1 in one)
@@ -37,18 +37,18 @@ some_nodes false = omega arith
 
 -- where there is a value one is enough
 pub one_needed : (trie : Bool) (left : Option ℕ) (key value : ℕ) (f : Found) → f.value ≡ Some value → ((doing trie left).work key f).need ≤ 1
-one_needed trie None key value f is = take_bounds.few_nodes (taking trie key) f
-one_needed trie (Some v) key value f is = rw is (omega arith)
+one_needed in_trie None key value f is = take_bounds.few_nodes (taking in_trie key) f
+one_needed in_trie (Some v) key value f is = rw is (omega arith)
 
 -- and three always are
 pub three_needed : (trie : Bool) (left : Option ℕ) (key : ℕ) (f : Found) → ((doing trie left).work key f).need ≤ 3
-three_needed trie (Some v) key f = put_bounds.few_nodes (putting trie key v) f
-three_needed trie None key f = let few = take_bounds.few_nodes (taking trie key) f in omega (arith, few)
+three_needed in_trie (Some v) key f = put_bounds.few_nodes (putting in_trie key v) f
+three_needed in_trie None key f = let few = take_bounds.few_nodes (taking in_trie key) f in omega (arith, few)
 
 few_nodes : (trie : Bool) (rule : Rule) (left : Option ℕ) (key : ℕ) (f : Found) (value : Option ℕ) → f.value ≡ value → (b : Bool) → (b ≡ true → value ≡ None → applies rule None ≡ true) → (cond b ((doing trie left).work key f) no_work).need ≤ nodes_in_try rule
-few_nodes trie rule left key f value is false absent = omega arith
-few_nodes trie rule left key f (Some v) is true absent = let few = one_needed trie left key v f is in let some = some_nodes (applies rule None) in omega (arith, few, some)
-few_nodes trie rule left key f None is true absent = subst (λ (b : Bool). ((doing trie left).work key f).need ≤ cond b 3 1) (sym (absent refl refl)) (three_needed trie left key f)
+few_nodes in_trie rule left key f value is false absent = omega arith
+few_nodes in_trie rule left key f (Some v) is true absent = let few = one_needed in_trie left key v f is in let some = some_nodes (applies rule None) in omega (arith, few, some)
+few_nodes in_trie rule left key f None is true absent = subst (λ (b : Bool). ((doing in_trie left).work key f).need ≤ cond b 3 1) (sym (absent refl refl)) (three_needed in_trie left key f)
 
 -- and where there is none it puts in what was absent
 wants_absent : (goal : Goal) (rule : Rule) (value : Option ℕ) → wants goal rule value ≡ true → value ≡ None → applies rule None ≡ true

@@ -64,7 +64,7 @@ insert_absent k v (p ∷ ps) e = go (λ none. insert_absent k v ps none) (ℕ_di
   where
     other : (get k ps ≡ None → length (insert k v ps) ≡ 1 + length ps) → k ≢ p.key → Dec (k < p.key) → length (insert k v (p ∷ ps)) ≡ 1 + length (p ∷ ps)
     other rest d (yes l) = rw (lt-ltb k p.key l) (omega arith)
-    other rest d (no n) = rw (le-ltb k p.key (omega (arith, n)), ne_eqb k p.key d) (ap suc (rest (rw (ne_eqb k p.key d) at e)))
+    other rest d (no n) = let one : length (insert k v ps) ≡ 1 + length ps = rest (rw (ne_eqb k p.key d) at e) in rw (le-ltb k p.key (omega (arith, n)), ne_eqb k p.key d) (omega (arith, one))
 
     go : (get k ps ≡ None → length (insert k v ps) ≡ 1 + length ps) → Dec (k ≡ p.key) → length (insert k v (p ∷ ps)) ≡ 1 + length (p ∷ ps)
     go rest (yes is) = absurd (let z : Some p.value ≡ None = rw (eq-eqb k p.key is) at e in cc)
@@ -124,15 +124,15 @@ parts_apart (a ∷ b ∷ c ∷ ps) l r = ((r.0.1.0, (r.1.0.0, tt)), (omega arith
 -- a key is between those in front that are below it and the others
 pub below_apart : (k : ℕ) (ps : List Pair) → IsRising ps → AllBelow k (take (below k ps) ps) × AllFrom k (drop (below k ps) ps)
 below_apart k [] r = (tt, tt)
-below_apart k (p ∷ ps) r = go (dec_lt p.key k)
+below_apart k (p ∷ ps) r = go (below_apart k ps r.1) (dec_lt p.key k)
   where
     above : k ≤ p.key → (qs : List Pair) → AllAbove p.key qs → AllFrom k qs
     above l [] a = tt
     above l (q ∷ qs) a = (let b = a.0 in omega (arith, b, l), above l qs a.1)
 
-    go : Dec (p.key < k) → AllBelow k (take (below k (p ∷ ps)) (p ∷ ps)) × AllFrom k (drop (below k (p ∷ ps)) (p ∷ ps))
-    go (yes l) = let rest = below_apart k ps r.1 in rw (lt-ltb p.key k l) ((l, rest.0), rest.1)
-    go (no n) = rw (le-ltb p.key k (omega (arith, n))) (tt, (omega (arith, n), above (omega (arith, n)) ps r.0))
+    go : AllBelow k (take (below k ps) ps) × AllFrom k (drop (below k ps) ps) → Dec (p.key < k) → AllBelow k (take (below k (p ∷ ps)) (p ∷ ps)) × AllFrom k (drop (below k (p ∷ ps)) (p ∷ ps))
+    go rest (yes l) = rw (lt-ltb p.key k l) ((l, rest.0), rest.1)
+    go rest (no n) = rw (le-ltb p.key k (omega (arith, n))) (tt, (omega (arith, n), above (omega (arith, n)) ps r.0))
 
 -- where keys rise, the first of two or more is below the last
 pub ends_of : (ps : List Pair) → 2 ≤ length ps → IsRising ps → (first_pair ps ≡ Some (pair_at ps 0)) × (last_pair ps ≡ Some (unwrap_or (last_pair ps) (pair 0 0))) × ((pair_at ps 0).key < (unwrap_or (last_pair ps) (pair 0 0)).key)

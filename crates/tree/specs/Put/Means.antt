@@ -50,10 +50,13 @@ abbrev pub next_node : Bool → Found → NodeNo
 next_node trie f = if strays trie f then record { 0 = 2 } else f.trail.node
 
 -- a leaf and a fork over it go above a fork, and nothing is finalized
+abbrev pub put_work_by : Bool → Bool → Found → Work
+put_work_by above split f =
+    if above then record { need = 2; plan = record { 0 = above_plan f.trail.side } }
+    else record { need = put_need split; plan = record { 0 = leaf_plan f.trail.side } }
+
 abbrev pub put_work : Bool → Found → Work
-put_work trie f =
-    if strays trie f then record { need = 2; plan = record { 0 = above_plan f.trail.side } }
-    else record { need = put_need (splits f); plan = record { 0 = leaf_plan f.trail.side } }
+put_work trie f = put_work_by (strays trie f) (splits f) f
 
 -- it reads the pairs of a leaf of class 0
 abbrev pub put_reads : Bool → Found → Option (NodeNo × Reading)
@@ -87,12 +90,20 @@ above_pieces k v f ns nth = Fork (place_between k f.key).level 0 (place_between 
 abbrev pub place_of : List Pair → ForkPlace
 place_of ps = place_between (pair_at ps 0).key (unwrap_or (last_pair ps) (pair 0 0)).key
 
--- three that hold these pairs: those below its key, the others, and it; above all keys the fork is on level 1,
--- a leaf of class 0 on 66, the other on 2
+-- three nodes that hold these pairs: those below its key, the others, and it
+abbrev pub low_parts : List Pair → Nodes → Nth → Piece
+low_parts ps ns First = Leaf 66 0 (take (below (place_of ps).key ps) ps)
+low_parts ps ns Second = Leaf 66 0 (drop (below (place_of ps).key ps) ps)
+low_parts ps ns Third = Fork (place_of ps).level 0 (place_of ps).key ns.first ns.second
+
+-- and where the map is empty: they, a copy of the leaf above all keys, and a fork of its class
+abbrev pub high_parts : List Pair → ℕ → Nodes → Nth → Piece
+high_parts ps class ns First = Leaf 66 0 ps
+high_parts ps class ns Second = Leaf 2 class (pair 0 0 ∷ [])
+high_parts ps class ns Third = Fork 1 class 0 ns.first ns.second
+
 abbrev pub parts_by : Bool → List Pair → Found → Nodes → Nth → Piece
-parts_by low ps f ns First = Leaf 66 0 (if low then take (below (place_of ps).key ps) ps else ps)
-parts_by low ps f ns Second = if low then Leaf 66 0 (drop (below (place_of ps).key ps) ps) else Leaf 2 f.head.class (pair 0 0 ∷ [])
-parts_by low ps f ns Third = if low then Fork (place_of ps).level 0 (place_of ps).key ns.first ns.second else Fork 1 f.head.class 0 ns.first ns.second
+parts_by low ps f ns nth = if low then low_parts ps ns nth else high_parts ps f.head.class ns nth
 
 abbrev pub parted_pieces : List Pair → Found → Nodes → Nth → Piece
 parted_pieces ps f ns nth = parts_by (f.head.class == 0) ps f ns nth
@@ -125,6 +136,7 @@ abbrev pub put_means : EditMeaning PutPair
 put_means = record {
   goal = λ e. ToKey e.key;
   way = λ e. put_way e.trie;
+  guard = λ e. false;
   edit = λ e f. PutEdit e.key e.value;
   work = λ e f. put_work e.trie f;
   most_nodes = λ e. 3;

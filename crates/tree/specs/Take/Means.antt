@@ -1,5 +1,5 @@
 -- What a delete needs, looks at, reads and fills.
-use Rattle.std.specs.Prelude.{ℕ, ◌==◌, nat_lt, if◌then◌else◌, Bool, List, [], ◌∷◌, Option, Some, None, unwrap_or}
+use Rattle.std.specs.Prelude.{ℕ, ◌==◌, nat_lt, if◌then◌else◌, Bool, false, List, [], ◌∷◌, Option, Some, None, unwrap_or}
 use Rattle.arena.specs.declared.head.Head.{Head}
 use Rattle.histories.specs.Common.{NodeNo, Side, head_of}
 use Rattle.template.specs.Common.{Snap, child_of, snap_at, Pair, Delete as TakeEdit, delete, pair, join_plan, leaf_plan, sibling_place, Key as ToKey}
@@ -87,6 +87,7 @@ abbrev pub take_means : EditMeaning TakePair
 take_means = record {
   goal = λ e. ToKey e.key;
   way = λ e. take_way e.trie;
+  guard = λ e. false;
   edit = λ e f. TakeEdit e.key;
   work = λ e f. take_work f;
   most_nodes = λ e. 1;

@@ -6,7 +6,7 @@ use native.Mathlib.Decide.{ℕ_discrete}
 use Rattle.arena.specs.declared.limits.Mode.TheVariants.{Trie as TrieMode}
 use Rattle.histories.specs.Common.{Tree as TreeMode, NodeNo, Child, Side, Left, Right, History, value, Call, IsInField, node, child, first_key, Descriptor}
 use Rattle.template.specs.Common.{Job, Says, Snap, Pair, Insert as PutEdit, AllBelow, IsRising, insert, pair, get, held_pairs, leaf_plan}
-use Rattle.template.specs.Common.{IsUpdateOver, IsWellCounted, IsMapRun, class, level, rank, HasFoundLeaf, HasTurned, IsFresh, IsPromised, MayGo, Key as ToKey}
+use Rattle.template.specs.Common.{IsUpdateOver, IsWellCounted, IsMapRun, class, level, rank, HasFoundLeaf, HasTurned, IsFresh, IsPromised, MayGo, Key as ToKey, End}
 use Rattle.ordered_map.specs.OrderedMap.{AllFrom, first_pair, last_pair}
 use Rattle.ordered_map.specs.Bits.{PartsKeys, place_between}
 use Rattle.ordered_map.specs.declared.fork_place.ForkPlace.{ForkPlace}
@@ -23,7 +23,7 @@ use Rattle.template.proofs.Lemmas.{edit_promised, found_below, found_blank, foun
 use Rattle.tree.specs.LeafEdit.{leaf_looks, leaf_reads}
 use Rattle.tree.specs.declared.put.PutPair.{PutPair}
 use Rattle.tree.specs.Put.Laws.{put_bounds}
-use Rattle.tree.specs.Put.Means.{above_pieces, put_means, put_need, put_pieces, put_reads, put_way, put_work, has_room, lower, next_node, pairs_with, parts_by, place_of, split_or_leaf, second_pairs, splits, splits_by}
+use Rattle.tree.specs.Put.Means.{above_pieces, put_means, put_need, put_pieces, put_reads, put_way, put_work, has_room, lower, next_node, pairs_with, parts_by, place_of, split_or_leaf, split_pieces, second_pairs, splits, splits_by}
 use Rattle.tree.specs.Laws.LeafLooks.{HasBoth, IsCovering, above_over, class_is, has_both, held_is, is_above_edit, is_leaf_edit, leaf_begins, leaf_covered, leaf_differs, leaf_over, leaf_stood, leaf_there, many, no_trie, pairs_are}
 use Rattle.tree.specs.Laws.PairLists.{below_apart, both_parts, ends_of, first_below, first_long, insert_absent, insert_least, insert_most, insert_present, insert_some, last_of, parts_apart, parts_long}
 use Rattle.tree.specs.Laws.Put.Stands.{IsAtFork, IsAtLeaf, StandsAt, stands_at, stands_covered, stands_covering}
@@ -76,7 +76,8 @@ abbrev pub IsLeafBefore : Nodes → Nth → ℕ → Type 0
 IsLeafBefore ns nth n = (i : Nth) × ComesBefore i nth × (n ≡ (nth_node ns i).0)
 
 parted_fields : (low : Bool) (ps : List Pair) (f : Found) (ns : Nodes) (nth : Nth) (side : Side) → is_filled (parts_by low ps f ns nth) (Child side) ≡ true → IsLeafBefore ns nth (word_of (parts_by low ps f ns nth) (Child side))
-parted_fields low ps f ns First side p = absurd (let z : false ≡ true = p in cc)
+parted_fields true ps f ns First side p = absurd (let z : false ≡ true = p in cc)
+parted_fields false ps f ns First side p = absurd (let z : false ≡ true = p in cc)
 parted_fields true ps f ns Second side p = absurd (let z : false ≡ true = p in cc)
 parted_fields false ps f ns Second side p = absurd (let z : false ≡ true = p in cc)
 parted_fields true ps f ns Third Left p = (First, omega arith, refl)
@@ -85,7 +86,7 @@ parted_fields false ps f ns Third Left p = (First, omega arith, refl)
 parted_fields false ps f ns Third Right p = (Second, omega arith, refl)
 
 pub split_fields : (trie split : Bool) (ps : List Pair) (f : Found) (ns : Nodes) (nth : Nth) (side : Side) → is_filled (split_or_leaf trie split ps f ns nth) (Child side) ≡ true → IsLeafBefore ns nth (word_of (split_or_leaf trie split ps f ns nth) (Child side))
-split_fields trie false ps f ns nth side p = absurd (let z : false ≡ true = p in cc)
+split_fields in_trie false ps f ns nth side p = absurd (let z : false ≡ true = p in cc)
 split_fields true true ps f ns nth side p = parted_fields (f.head.class == 0) ps f ns nth side p
 split_fields false true ps f ns First side p = absurd (let z : false ≡ true = p in cc)
 split_fields false true ps f ns Second side p = absurd (let z : false ≡ true = p in cc)
@@ -251,6 +252,13 @@ module _ (ed : PutPair) (c : Call) (h : History) (f : Found) (snaps : List Snap)
       holds_piece : (i : Nth) → IsNeeded 3 i → HoldsPiece c h (nth_node ns i).0 (split_or_leaf ed.trie true all f ns i)
       holds_piece i n = holds true grows i n
 
+      -- in a tree, and in a trie, for a leaf of class 0 or the other
+      tree_piece : ed.trie ≡ false → (i : Nth) → IsNeeded 3 i → HoldsWords h (nth_node ns i).0 (split_pieces all f ns i)
+      tree_piece tree i n = subst (λ (b : Bool). HoldsWords h (nth_node ns i).0 (split_or_leaf b true all f ns i)) tree (holds_piece i n).words
+
+      trie_piece : ed.trie ≡ true → (low : Bool) → (f.head.class == 0) ≡ low → (i : Nth) → IsNeeded 3 i → HoldsWords h (nth_node ns i).0 (parts_by low all f ns i)
+      trie_piece is_trie low is i n = subst (λ (b : Bool). HoldsWords h (nth_node ns i).0 (parts_by b all f ns i)) is (subst (λ (b : Bool). HoldsWords h (nth_node ns i).0 (split_or_leaf b true all f ns i)) is_trie (holds_piece i n).words)
+
       -- what holds of the three, whatever their levels
       fresh_split : Split → (HasTreeLevels (value h) old_leaf fork_node x_node y_node ⊎ (c.layout.mode ≡ TrieMode)) → HasFreshEdit c.layout c.pass h (PutEdit ed.key ed.value) old_leaf fork_node
       fresh_split split levels = record {
@@ -316,16 +324,16 @@ module _ (ed : PutPair) (c : Call) (h : History) (f : Found) (snaps : List Snap)
           three = parts_long 2 all
 
           xs : IsLeafWith (value h) x_node (f.head.level + 1) 0 (take 2 all)
-          xs = leaf_with h x_node (lower f.head.level) (f.head.level + 1) 0 (take 2 all) below fits (omega arith) (rw tree at (holds_piece First (omega arith)).words) (let t = two in omega (arith, t)) (let t = two in omega (arith, t))
+          xs = leaf_with h x_node (lower f.head.level) (f.head.level + 1) 0 (take 2 all) below fits (omega arith) (tree_piece tree First (omega arith)) (let t = two in omega (arith, t)) (let t = two in omega (arith, t))
 
           ys : IsLeafWith (value h) y_node (f.head.level + 1) f.head.class (drop 2 all)
           ys = leaf_with h y_node (lower f.head.level) (f.head.level + 1) f.head.class (drop 2 all) below fits small
-              (subst (λ ps. HoldsWords h y_node (Leaf (lower f.head.level) f.head.class ps)) second_is (rw tree at (holds_piece Second (omega arith)).words))
+              (subst (λ ps. HoldsWords h y_node (Leaf (lower f.head.level) f.head.class ps)) second_is (tree_piece tree Second (omega arith)))
               (let t = two in let s = three in let a = least in omega (arith, t, s, a)) (let t = two in let s = three in let a = most in omega (arith, t, s, a))
 
           fork : IsForkWith (value h) fork_node f.head.level f.head.class (pair_at (drop 2 all) 0).key x_node y_node
           fork = fork_with h fork_node f.head.level f.head.class (pair_at (drop 2 all) 0).key ns.first ns.second (let a = fits in omega (arith, a)) small
-              (subst (λ ps. HoldsWords h fork_node (Fork f.head.level f.head.class (pair_at ps 0).key ns.first ns.second)) second_is (rw tree at (holds_piece Third (omega arith)).words))
+              (subst (λ ps. HoldsWords h fork_node (Fork f.head.level f.head.class (pair_at ps 0).key ns.first ns.second)) second_is (tree_piece tree Third (omega arith)))
 
           tree_low : c.layout.mode ≡ TreeMode → Made fork_node
           tree_low mode = (
@@ -369,35 +377,35 @@ module _ (ed : PutPair) (c : Call) (h : History) (f : Found) (snaps : List Snap)
               let same = both_parts cut all in
               parts_of_five place.key (take cut all) (drop cut all) first last (ap length same ∙ full) (ap first_pair same ∙ ends.0) (ap last_pair same ∙ ends.1) parts.below parts.above apart.0 apart.1
 
-          xs : IsLeafWith (value h) x_node 66 0 (take cut all)
-          xs = leaf_with h x_node 66 66 0 (take cut all) refl (omega arith) (omega arith) (rw (is_trie, eq-eqb f.head.class 0 low) at (holds_piece First (omega arith)).words) long.0 long.1
+          x_part : IsLeafWith (value h) x_node 66 0 (take cut all)
+          x_part = leaf_with h x_node 66 66 0 (take cut all) refl (omega arith) (omega arith) (trie_piece is_trie true (eq-eqb f.head.class 0 low) First (omega arith)) long.0 long.1
 
-          ys : IsLeafWith (value h) y_node 66 f.head.class (drop cut all)
-          ys = subst (λ n. IsLeafWith (value h) y_node 66 n (drop cut all)) (sym low) (leaf_with h y_node 66 66 0 (drop cut all) refl (omega arith) (omega arith) (rw (is_trie, eq-eqb f.head.class 0 low) at (holds_piece Second (omega arith)).words) long.2 long.3)
+          y_part : IsLeafWith (value h) y_node 66 f.head.class (drop cut all)
+          y_part = subst (λ n. IsLeafWith (value h) y_node 66 n (drop cut all)) (sym low) (leaf_with h y_node 66 66 0 (drop cut all) refl (omega arith) (omega arith) (trie_piece is_trie true (eq-eqb f.head.class 0 low) Second (omega arith)) long.2 long.3)
 
-          fork : IsForkWith (value h) fork_node place.level f.head.class place.key x_node y_node
-          fork = subst (λ n. IsForkWith (value h) fork_node place.level n place.key x_node y_node) (sym low)
-              (fork_with h fork_node place.level 0 place.key ns.first ns.second (let d = parts.fork.deep in omega (arith, d)) (omega arith) (rw (is_trie, eq-eqb f.head.class 0 low) at (holds_piece Third (omega arith)).words))
+          fork_part : IsForkWith (value h) fork_node place.level f.head.class place.key x_node y_node
+          fork_part = subst (λ n. IsForkWith (value h) fork_node place.level n place.key x_node y_node) (sym low)
+              (fork_with h fork_node place.level 0 place.key ns.first ns.second (let d = parts.fork.deep in omega (arith, d)) (omega arith) (trie_piece is_trie true (eq-eqb f.head.class 0 low) Third (omega arith)))
 
-          split : Split
-          split = parted_low low 66 66 place.level place.key cut fork xs ys apart
+          split_part : Split
+          split_part = parted_low low 66 66 place.level place.key cut fork_part x_part y_part apart
 
           levels : HasTrieLevels (value h) (PutEdit ed.key ed.value) old_leaf fork_node x_node y_node
           levels = record {
-            first = xs.level;
-            last = λ _. ys.level;
+            first = x_part.level;
+            last = λ _. y_part.level;
             parts = λ _. subst (λ ps. PartsPairs ps (value h (node fork_node first_key)) (level (value h) fork_node)) (all_is low) record {
               first = first;
               last = last;
               is_first = ends.0;
               is_last = ends.1;
-              parts = subst (λ k. PartsKeys first.key last.key k (level (value h) fork_node)) (sym fork.key) (subst (PartsKeys first.key last.key place.key) (sym fork.level) parts);
+              parts = subst (λ k. PartsKeys first.key last.key k (level (value h) fork_node)) (sym fork_part.key) (subst (PartsKeys first.key last.key place.key) (sym fork_part.level) parts);
             };
             high = λ high. absurd (high (was low));
           }
 
           trie_low : Made fork_node
-          trie_low = (fresh_split split (inr mode), split_fits_there c h (PutEdit ed.key ed.value) f fork_node run small_key parent a.parent.stays x_node y_node split levels)
+          trie_low = (fresh_split split_part (inr mode), split_fits_there c h (PutEdit ed.key ed.value) f fork_node run small_key parent a.parent.stays x_node y_node split_part levels)
 
       -- of a leaf above all keys
       module _ (high : f.head.class ≢ 0) (lx ly lc : ℕ) (fork : IsForkWith (value h) fork_node lc f.head.class 0 x_node y_node)
@@ -408,14 +416,14 @@ module _ (ed : PutPair) (c : Call) (h : History) (f : Found) (snaps : List Snap)
         old_high : class (value h) old_leaf ≢ 0
         old_high z = high (sym same_class ∙ z)
 
-        x_items : leaf_items (value h) x_node ≡ pair ed.key ed.value ∷ []
-        x_items = low_items (value h) x_node xs.class ∙ xs.pairs
+        x_high_items : leaf_items (value h) x_node ≡ pair ed.key ed.value ∷ []
+        x_high_items = low_items (value h) x_node xs.class ∙ xs.pairs
 
         same_rank : rank (value h) y_node ≡ rank (value h) old_leaf
         same_rank = let a = ys.class in let b = ys.key in let p = same_class in let q = blank in omega (arith, a, b, p, q)
 
-        y_items : leaf_items (value h) y_node ≡ pair (rank (value h) old_leaf) 0 ∷ []
-        y_items = high_items (value h) y_node (λ z. high (sym ys.class ∙ z)) ∙ (λ i. pair (same_rank i) 0 ∷ [])
+        y_high_items : leaf_items (value h) y_node ≡ pair (rank (value h) old_leaf) 0 ∷ []
+        y_high_items = high_items (value h) y_node (λ z. high (sym ys.class ∙ z)) ∙ (λ i. pair (same_rank i) 0 ∷ [])
 
         at_leaf : rank (value h) fork_node ≡ rank (value h) old_leaf
         at_leaf = let a = fork.class in let b = fork.key in let p = same_class in let q = blank in omega (arith, a, b, p, q)
@@ -432,9 +440,9 @@ module _ (ed : PutPair) (c : Call) (h : History) (f : Found) (snaps : List Snap)
           first = record { leaf = xs.leaf; class = xs.class; counted = xs.counted };
           small = subst (AllBelow (2 ^ 64)) (sym xs.pairs) (small_key, tt);
           last = record { leaf = ys.leaf; same_class = ys.class ∙ sym same_class; counted = λ _. ys.counted; key = λ _. ys.key ∙ sym blank };
-          items = (λ i. (x_items i) ++ (y_items i)) ∙ sym (put_before ed.key ed.value (rank (value h) old_leaf) 0 lower_key) ∙ ap (insert ed.key ed.value) (sym (high_items (value h) old_leaf old_high));
-          before = subst (AllBelow (rank (value h) fork_node)) (sym x_items) (let a = at_leaf in let b = lower_key in omega (arith, a, b), tt);
-          behind = subst (AllFrom (rank (value h) fork_node)) (sym y_items) (let a = at_leaf in omega (arith, a), tt);
+          items = (λ i. (x_high_items i) ++ (y_high_items i)) ∙ sym (put_before ed.key ed.value (rank (value h) old_leaf) 0 lower_key) ∙ ap (insert ed.key ed.value) (sym (high_items (value h) old_leaf old_high));
+          before = subst (AllBelow (rank (value h) fork_node)) (sym x_high_items) (let a = at_leaf in let b = lower_key in omega (arith, a, b), tt);
+          behind = subst (AllFrom (rank (value h) fork_node)) (sym y_high_items) (let a = at_leaf in omega (arith, a), tt);
           same_class = fork.class ∙ sym same_class;
           key = λ _. fork.key ∙ sym blank;
         }
@@ -450,15 +458,15 @@ module _ (ed : PutPair) (c : Call) (h : History) (f : Found) (snaps : List Snap)
 
           x_high : IsLeafWith (value h) x_node (f.head.level + 1) 0 (pair ed.key ed.value ∷ [])
           x_high = leaf_with h x_node (lower f.head.level) (f.head.level + 1) 0 (pair ed.key ed.value ∷ []) below fits (omega arith)
-              (subst (λ ps. HoldsWords h x_node (Leaf (lower f.head.level) 0 (take 2 ps))) all_high (rw tree at (holds_piece First (omega arith)).words)) (omega arith) (omega arith)
+              (subst (λ ps. HoldsWords h x_node (Leaf (lower f.head.level) 0 (take 2 ps))) all_high (tree_piece tree First (omega arith))) (omega arith) (omega arith)
 
           y_high : IsLeafWith (value h) y_node (f.head.level + 1) f.head.class (pair 0 0 ∷ [])
           y_high = leaf_with h y_node (lower f.head.level) (f.head.level + 1) f.head.class (pair 0 0 ∷ []) below fits small
-              (subst (λ ps. HoldsWords h y_node (Leaf (lower f.head.level) f.head.class ps)) second_high (rw tree at (holds_piece Second (omega arith)).words)) (omega arith) (omega arith)
+              (subst (λ ps. HoldsWords h y_node (Leaf (lower f.head.level) f.head.class ps)) second_high (tree_piece tree Second (omega arith))) (omega arith) (omega arith)
 
           fork_high : IsForkWith (value h) fork_node f.head.level f.head.class 0 x_node y_node
           fork_high = fork_with h fork_node f.head.level f.head.class 0 ns.first ns.second (let a = fits in omega (arith, a)) small
-              (subst (λ ps. HoldsWords h fork_node (Fork f.head.level f.head.class (pair_at ps 0).key ns.first ns.second)) second_high (rw tree at (holds_piece Third (omega arith)).words))
+              (subst (λ ps. HoldsWords h fork_node (Fork f.head.level f.head.class (pair_at ps 0).key ns.first ns.second)) second_high (tree_piece tree Third (omega arith)))
 
           tree_high : c.layout.mode ≡ TreeMode → Made fork_node
           tree_high mode = (
@@ -475,13 +483,13 @@ module _ (ed : PutPair) (c : Call) (h : History) (f : Found) (snaps : List Snap)
         module _ (is_trie : ed.trie ≡ true) (mode : c.layout.mode ≡ TrieMode) where
           x_top : IsLeafWith (value h) x_node 66 0 (pair ed.key ed.value ∷ [])
           x_top = leaf_with h x_node 66 66 0 (pair ed.key ed.value ∷ []) refl (omega arith) (omega arith)
-              (subst (λ ps. HoldsWords h x_node (Leaf 66 0 ps)) all_high (rw (is_trie, ne_eqb f.head.class 0 high) at (holds_piece First (omega arith)).words)) (omega arith) (omega arith)
+              (subst (λ ps. HoldsWords h x_node (Leaf 66 0 ps)) all_high (trie_piece is_trie false (ne_eqb f.head.class 0 high) First (omega arith))) (omega arith) (omega arith)
 
           y_top : IsLeafWith (value h) y_node 2 f.head.class (pair 0 0 ∷ [])
-          y_top = leaf_with h y_node 2 2 f.head.class (pair 0 0 ∷ []) refl (omega arith) small (rw (is_trie, ne_eqb f.head.class 0 high) at (holds_piece Second (omega arith)).words) (omega arith) (omega arith)
+          y_top = leaf_with h y_node 2 2 f.head.class (pair 0 0 ∷ []) refl (omega arith) small (trie_piece is_trie false (ne_eqb f.head.class 0 high) Second (omega arith)) (omega arith) (omega arith)
 
           fork_top : IsForkWith (value h) fork_node 1 f.head.class 0 x_node y_node
-          fork_top = fork_with h fork_node 1 f.head.class 0 ns.first ns.second (omega arith) small (rw (is_trie, ne_eqb f.head.class 0 high) at (holds_piece Third (omega arith)).words)
+          fork_top = fork_with h fork_node 1 f.head.class 0 ns.first ns.second (omega arith) small (trie_piece is_trie false (ne_eqb f.head.class 0 high) Third (omega arith))
 
           split_top : Split
           split_top = parted_high high 66 2 1 fork_top x_top y_top
@@ -584,7 +592,8 @@ module _ (ed : PutPair) (c : Call) (h : History) (f : Found) (snaps : List Snap)
 
     -- the fork over it and the other, by the side of the key
     above_fork : spot.level < 2 ^ 61 → (b : Bool) → nat_lt ed.key f.key ≡ b → IsForkWith (value h) ns.second.0 spot.level 0 spot.key (if b then ns.first else f.trail.node).0 (if b then f.trail.node else ns.first).0
-    above_fork few b is = fork_with h ns.second.0 spot.level 0 spot.key (if b then ns.first else f.trail.node) (if b then f.trail.node else ns.first) few (omega arith) (rw is at (above_holds Second (omega arith)).words)
+    above_fork few b is = fork_with h ns.second.0 spot.level 0 spot.key (if b then ns.first else f.trail.node) (if b then f.trail.node else ns.first) few (omega arith)
+        (subst (λ (b : Bool). HoldsWords h ns.second.0 (Fork spot.level 0 spot.key (if b then ns.first else f.trail.node) (if b then f.trail.node else ns.first))) is (above_holds Second (omega arith)).words)
 
     few_levels : spot.level < 2 ^ 61
     few_levels = omega arith
@@ -659,11 +668,12 @@ put_over ed c h f snaps ns run x enough (inr a) = above_over ed.key c h f (next_
 -- its plan covers its two nodes, and what it has filled is promised to put the value at the key
 pub put_makes : MakesWell put_means
 put_makes = record {
-  over = λ e c h f snaps ns run n x enough. put_over e c h f snaps ns run x enough (stands e c h f snaps run x);
-  leaf = λ e c h f snaps ns s run n x enough k row later won since covers makes. leaf_covered (PutEdit e.key e.value) f (next_node e.trie f) snaps ns (put_work e.trie f) k s (has_both f (next_node e.trie f) snaps enough x.seen) covers ∙ stands_covered e.trie e.key c h f (stands e c h f snaps run x);
-  promised = λ e c h f snaps ns read j d run n x is says. put_is_promised e c h f snaps ns read run x (stands e c h f snaps run x.looked) j d is says;
+  over = λ e c h f snaps guard ns run n x enough two. put_over e c h f snaps ns run x enough (stands e c h f snaps run x);
+  leaf = λ e c h f snaps guard ns s run n x enough k row later won since covers makes. leaf_covered (PutEdit e.key e.value) f (next_node e.trie f) snaps ns (put_work e.trie f) k s (has_both f (next_node e.trie f) snaps enough x.seen) covers ∙ stands_covered e.trie e.key c h f (stands e c h f snaps run x);
+  ends = λ e c h f snaps guard ns s run n x enough is. absurd (let z : false ≡ true = is in cc);
+  promised = λ e c h f snaps guard ns read j d run n x two is says. put_is_promised e c h f snaps ns read run x (stands e c h f snaps run x.looked) j d is says;
 }
 
 -- an insert is an edit that an update can make
 pub put_laws : EditLaws put_means
-put_laws = record { at_found = λ e f. refl; bounds = put_bounds; looks = put_look; fills = put_fills; makes = put_makes }
+put_laws = record { at_found = λ e f. refl; at_end = λ e side is. absurd (let z : ToKey e.key ≡ End side = is in cc); bounds = put_bounds; looks = put_look; fills = put_fills; makes = put_makes }

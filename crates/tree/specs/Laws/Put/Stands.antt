@@ -1,7 +1,7 @@
 -- Where an insert stands once its walk has ended: at a leaf, or in a trie at a fork that its key does not share. The
 -- fork above is surely on the path of its key.
 use Rattle.std.proofs.Common.{◌≡◌, ℕ, ◌⊎◌, inl, inr, Bool, true, false, Option, Some, None, refl, sym, ◌∙◌, ap, subst}
-use Rattle.histories.specs.Common.{History, Call, NodeNo}
+use Rattle.histories.specs.Common.{History, Call}
 use Rattle.template.specs.Common.{IsMapRun, HasFoundFork, HasFoundLeaf, FoundBy, MayGo, Key as ToKey}
 use Rattle.template.specs.Trails.{IsSurelyOn}
 use Rattle.template.specs.declared.walk.Found.{Found}
@@ -46,16 +46,16 @@ stands_at true k c h f run may (inr a) = inr record { strays = rw (found_fork k 
 
 -- the leaf besides that fork, or node 2, may be covered
 pub stands_covering : (trie : Bool) (k : ℕ) (c : Call) (h : History) (f : Found) → IsMapRun c.layout h → StandsAt trie k c h f → IsCovering k c h f (next_node trie f)
-stands_covering trie k c h f run (inl x) = subst (IsCovering k c h f) (sym (next_leaf trie f x.stays)) (covering_leaf k c h f run x.found x.parent)
+stands_covering in_trie k c h f run (inl x) = subst (IsCovering k c h f) (sym (next_leaf in_trie f x.stays)) (covering_leaf k c h f run x.found x.parent)
   where
     next_leaf : (trie : Bool) (f : Found) → strays trie f ≡ false → next_node trie f ≡ f.trail.node
-    next_leaf trie f e = rw e refl
-stands_covering trie k c h f run (inr x) = subst (IsCovering k c h f) (sym (next_two trie f x.strays)) (covering_two k c h f run x.found)
+    next_leaf in_trie f e = rw e refl
+stands_covering in_trie k c h f run (inr x) = subst (IsCovering k c h f) (sym (next_two in_trie f x.strays)) (covering_two k c h f run x.found)
   where
     next_two : (trie : Bool) (f : Found) → strays trie f ≡ true → next_node trie f ≡ record { 0 = 2 }
-    next_two trie f e = rw e refl
+    next_two in_trie f e = rw e refl
 
 -- and it stands for what was found
 pub stands_covered : (trie : Bool) (k : ℕ) (c : Call) (h : History) (f : Found) → StandsAt trie k c h f → (next_node trie f).0 ≡ covered f
-stands_covered trie k c h f (inl x) = rw (x.stays, found_leaf k c h f x.found) refl
-stands_covered trie k c h f (inr x) = rw (x.strays, found_fork k c h f x.found) refl
+stands_covered in_trie k c h f (inl x) = rw (x.stays, found_leaf k c h f x.found) refl
+stands_covered in_trie k c h f (inr x) = rw (x.strays, found_fork k c h f x.found) refl

@@ -14,7 +14,7 @@ use Rattle.prims.specs.Laws.Idle.{IsQuietSince}
 use Rattle.prims.specs.Laws.Linked.{IsLinked, in_field_named, linked_since}
 use Rattle.template.specs.Common.{IsOpened, IsUpdateOver, Job, Says, child_of, snap_at, AreDistinct, Snap, Update, Pair, AllBelow, Delete as TakeEdit}
 use Rattle.template.specs.Common.{IsRising, delete, pair, held_pairs, IsWellCounted, WasInTree, IsMapRun, join_plan, leaf_plan, edit_leaf}
-use Rattle.template.specs.Common.{sibling_place, class, is_leaf, level, opposite, toward, FoundBy, HasFoundLeaf, IsPromised, HasTurned, Key as ToKey, IsContended, WasNotFinal}
+use Rattle.template.specs.Common.{sibling_place, class, is_leaf, level, opposite, toward, FoundBy, HasFoundLeaf, IsPromised, HasTurned, Key as ToKey, End, IsContended, WasNotFinal}
 use Rattle.ordered_map.specs.TreeShape.{leaf_place}
 use Rattle.ordered_map.specs.Edits.{IsSwapBy}
 use Rattle.ordered_map.specs.Paths.{HasHadChild}
@@ -58,11 +58,11 @@ JoinSeen f snaps = (i : ℕ) → i < length snaps → join_looks f (take i snaps
 -- What it looks at
 
 -- what is known of the leaf, by whatever way it was found, and of the snapshots
-record LooksToTake (looks : Found → List Snap → LookOf) (c : Call) (h : History) (k : ℕ) (f : Found) (snaps : List Snap) : Type 0 where
-  small : k < 2 ^ 64
-  found : HasFoundLeaf c h k f
-  usable : AreUsable c h InTree (ToKey k) f snaps
-  seen : AreSeen looks f snaps
+pub record LooksToTake (looks : Found → List Snap → LookOf) (c : Call) (h : History) (k : ℕ) (f : Found) (snaps : List Snap) : Type 0 where
+  pub small : k < 2 ^ 64
+  pub found : HasFoundLeaf c h k f
+  pub usable : AreUsable c h InTree (ToKey k) f snaps
+  pub seen : AreSeen looks f snaps
 
 -- by both ways it finds a leaf
 pub take_found : (trie : Bool) (k : ℕ) (c : Call) (h : History) (f : Found) → FoundBy (take_way trie) (ToKey k) c h f → HasFoundLeaf c h k f
@@ -749,11 +749,12 @@ module _ (ed : TakePair) (c : Call) (h : History) (f : Found) (snaps : List Snap
 -- its plan covers its nodes, and what it has filled is promised to delete the key
 pub take_makes : MakesWell take_means
 take_makes = record {
-  over = λ e c h f snaps ns run n x enough. take_over e c h f snaps run n x ns (has_more f) refl enough;
-  leaf = λ e c h f snaps ns s run n x enough k row later won since covers makes. take_covered e c h f snaps run n x ns k s (run_since c.layout (row ⊳ k) k later (inr (ends_self k))) since covers (has_more f) refl enough;
-  promised = λ e c h f snaps ns read j d run n x is says. take_is_promised e c h f snaps ns read run n x j d is says;
+  over = λ e c h f snaps guard ns run n x enough two. take_over e c h f snaps run n x ns (has_more f) refl enough;
+  leaf = λ e c h f snaps guard ns s run n x enough k row later won since covers makes. take_covered e c h f snaps run n x ns k s (run_since c.layout (row ⊳ k) k later (inr (ends_self k))) since covers (has_more f) refl enough;
+  ends = λ e c h f snaps guard ns s run n x enough is. absurd (let z : false ≡ true = is in cc);
+  promised = λ e c h f snaps guard ns read j d run n x two is says. take_is_promised e c h f snaps ns read run n x j d is says;
 }
 
 -- a delete is an edit that an update can make
 pub take_laws : EditLaws take_means
-take_laws = record { at_found = λ e f. refl; bounds = take_bounds; looks = take_look; fills = take_fills; makes = take_makes }
+take_laws = record { at_found = λ e f. refl; at_end = λ e side is. absurd (let z : ToKey e.key ≡ End side = is in cc); bounds = take_bounds; looks = take_look; fills = take_fills; makes = take_makes }
