@@ -22,7 +22,7 @@ use Rattle.order.specs.declared.last_turns.LastTurns.{LastTurns}
 
 module _ (c : Call) (h : History) (k n : ℕ) (g : IsMapRun c.layout h) (x : WasPassed c h k n) (fork : is_leaf (value h) n ≡ false) where
   parted : c.layout.mode ≡ TrieMode → IsParted (value h) n
-  parted trie = stood_parted c.layout h n trie g (walked_stood c.layout h x.first k n x.passed) fork
+  parted trie = (stood_parted c.layout h n trie g (walked_stood c.layout h x.first k n x.passed) fork).0
 
   -- a fork on the first two levels is above all keys
   pub stays_high : level (value h) n < 2 → Stays c.layout (value h) k n

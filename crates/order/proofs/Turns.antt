@@ -1,9 +1,9 @@
 -- What an ordered read waits for after each of its turns.
 use Rattle.std.proofs.Common.{◌≡◌, ℕ, ◌+◌, ◌-◌, ◌*◌, ◌<◌, Bool, true, false, List, [], length, inl, inr, refl, sym, ◌∙◌, ap, subst, arith, Option, Some, None, Result, Ok, Err, IfOk, unwrap_or, Vec, Global}
-use Rattle.histories.specs.Common.{Turn, Ask, Done, NodeNo, ScxNo, Step, LoadMarked, LoadSettled, Settled, Head as HeadWord, Side, marked, node, History, value, Extends, Call, IsRun, MatchTurn, begun_at}
+use Rattle.histories.specs.Common.{Layout, Turn, Ask, Done, NodeNo, ScxNo, Step, LoadMarked, LoadSettled, Settled, Head as HeadWord, Side, marked, node, History, value, Extends, Call, IsRun, MatchTurn, begun_at}
 use Rattle.arena.specs.declared.word.Side.TheVariants as sides
 use Rattle.template.specs.Common.{load, IsSnapshot, LlxIsReady, LlxWaits, LlxAnswers, VlxIsReady, VlxWaits, VlxAnswers, vlx_left, Llx, Snapshot, Finalized, Fail, LlxAt, LlxRun, Snap}
-use Rattle.template.specs.Common.{Vlx, Same, Changed, TreeAllows, IsContended, MayGo, WalkFits, walk_left, HasFoundGoal, FoundBy, IsOwnMoment, WalkIsReady, WalkWaits, IsPastRoot, Key as ToKey}
+use Rattle.template.specs.Common.{Vlx, Same, Changed, TreeAllows, IsContended, Goal, MayGo, WalkFits, walk_left, HasFoundGoal, FoundBy, IsOwnMoment, WalkIsReady, WalkWaits, IsPastRoot, Key as ToKey}
 use Rattle.prims.specs.Vlx.Laws.{first_looked, looks_next}
 use Rattle.prims.specs.declared.llx.LlxAt.TheVariants.{Start as LlxStart, Marked}
 use Rattle.prims.proofs.Lemmas.{turn_first}
@@ -86,7 +86,7 @@ module _ {R A : Type 0} (means : ReadMeaning R A) (m : ReadRun R) where
 
   -- after the leaf that it has found it looks at that fork
   pub found_looks : (walk after : WalkRun) (side : Side) (turns : LastTurns) (c : Call) (h : History) (t : Turn Found) (f : Found) → ReadGoes means m c h → (key : ℕ) → walk.goal ≡ ToKey key → after.way ≡ leaf_way m.trie → WalksTo means m.read key side → AreLastTurns c h key turns → after.goal ≡ walk.goal → t ≡ Done f → MatchTurn t (WalkWaits after c h) (WalkAnswers after c h) → Looks means m.read m.snaps.items c h (first_children side (turn_to side turns).0) 0 (turn_to side turns).0
-  found_looks walk after side turns c h t f goes key goal way to last same done w = walk_found means m.read m.snaps.items c h (reading means m c h goes) key side turns f to last (subst (λ g. HasFoundGoal g c h f) (same ∙ goal) (found_leaf m.trie after.goal c h f (subst (λ by. FoundBy by after.goal c h f) way (rw done at w))))
+  found_looks walk after side turns c h t f goes key goal way to last same done w = walk_found means m.read m.snaps.items c h (reading c h goes) key side turns f to last (subst (λ g. HasFoundGoal g c h f) (same ∙ goal) (found_leaf m.trie after.goal c h f (subst (λ by. FoundBy by after.goal c h f) way (rw done at w))))
 
   -- it begins with the load of the root's head, as it walks
   pub walks_first : (walk : WalkRun) (c : Call) (begin h : History) → BeginsTry c h m.limit m.tries → m.snaps.items ≡ [] → ReadGoes means m (begun_at c begin) h → (key : ℕ) (side : Side) → walk.goal ≡ ToKey key → walk.way ≡ leaf_way m.trie → walk.trail.node.0 ≡ 0 → WalksTo means m.read key side → ReadWaits means (record m { at = Walk (record walk { at = WalkRoot }) side no_turns }) c h (load LoadSettled (node 0 (Settled HeadWord)))
@@ -203,7 +203,7 @@ module _ {R A : Type 0} (means : ReadMeaning R A) (m : ReadRun R) where
     where
       llx : LlxAt → LlxRun
       llx at = record { node = n; at = at }
-  next_waits c h next.Validate (begin, try, on) = validates_on c begin h h on.0 (validates means m.read m.snaps.items (begun_at c begin) h on.0 on.1) 1 (Ask _) _ (looks_next (begun_at c h) h m.snaps.items 0 (first_looked (begun_at c h) h m.snaps.items 0 (first_look (begun_at c begin) h m.snaps.items on.0.reads on.1.some)) on.1.some) refl try
+  next_waits c h next.Validate (begin, try, on) = validates_on c begin h h on.0 (validates means m.read m.snaps.items (begun_at c begin) h (reading (begun_at c begin) h on.0) on.1) 1 (Ask _) _ (looks_next (begun_at c h) h m.snaps.items 0 (first_looked (begun_at c h) h m.snaps.items 0 (first_look (begun_at c begin) h m.snaps.items on.0.reads on.1.some)) on.1.some) refl try
 
   pub stands_there : (now : ReadRun R) (c : Call) (h : History) (turn : Turn (Result A Refused)) (next : ReadNext) → now ≡ placed m next → turn ≡ Ask (next_step m next) → MayGoOn means c h m next → ReadTurn means c h now turn
   stands_there now c h turn next is asked x = rw (asked, is) (next_waits c h next x)

@@ -40,6 +40,12 @@ abbrev pub AreLastTurns : Call → History → ℕ → LastTurns → Type 0
 AreLastTurns c h k turns = (side : Side) → IsLastTurn c h k side (turn_to side turns).0
 
 module _ {R A : Type 0} (means : ReadMeaning R A) where
+  -- what a read with these snapshots knows all the way, in a trie or in a tree
+  pub record ReadsIn (trie : Bool) (r : R) (snaps : List Snap) (c : Call) (h : History) : Type 0 where
+    pub reads : Reads c h snaps
+    pub suits : means.suits (means.call r)
+    pub mode : c.layout.mode ≡ map_mode trie
+
   -- it walks to a key, from the last fork where that turns to this side it goes down
   pub record Walks (r : R) (trie : Bool) (c : Call) (h : History) (walk : WalkRun) (side : Side) (turns : LastTurns) : Type 0 where
     pub key : ℕ
@@ -64,11 +70,8 @@ module _ {R A : Type 0} (means : ReadMeaning R A) where
   module _ (m : ReadRun R) (c : Call) (h : History) where
     -- What it waits for
 
-    -- what it knows all the way, in a map of its mode
-    pub record ReadGoes : Type 0 where
-      pub reads : Reads c h m.snaps.items
-      pub suits : means.suits (means.call m.read)
-      pub mode : c.layout.mode ≡ map_mode m.trie
+    abbrev pub ReadGoes : Type 0
+    ReadGoes = ReadsIn m.trie m.read m.snaps.items c h
 
     abbrev pub RunStands : ℕ → Type 0
     RunStands n = Stands means m.read m.snaps.items c h n

@@ -1,5 +1,6 @@
 //! The machine of an ordered read of the tree.
 ghost use Rattle.std.specs.Prelude.{◌≡◌, true};
+ghost use Rattle.template.specs.Balance.{leaf_way};
 ghost use Rattle.order.specs.LastTurns.{Counts, TurnsSo};
 
 use crate::known_load::{HeadLoad, HighLoad, KeyLoad, KnownLoad, MoreLoad, PairLoad, ValueLoad};
@@ -73,7 +74,7 @@ impl<R: Read + Drop> ReadRun<R> {
     ghost use Rattle.ordered_map.specs.TreeShape.{TreeAllows};
     ghost use Rattle.template.specs.Blame.{IsContended};
     ghost use Rattle.template.specs.Walk.Known.{WalkIsReady};
-    ghost use Rattle.template.specs.Balance.{leaf_way, nodes_by};
+    ghost use Rattle.template.specs.Balance.{nodes_by};
     ghost use Rattle.template.specs.Walk.Steps.{walk_left, WalkFitsAt};
     ghost use Rattle.template.specs.Trails.{IsOwnMoment};
     ghost use Rattle.order.specs.Found.{BeginsSo, WalksTo, Looks};
@@ -132,13 +133,6 @@ impl<R: Read + Drop> ReadRun<R> {
         self.read.begin()
     }
 
-    /// The way of its walk.
-    fn way(&self) -> Way
-        ensures { result ≡ leaf_way self.now.trie }
-    {
-        if self.trie { Way::InTrie } else { Way::InTree }
-    }
-
     /// Begins a try; where there is nothing to be found, it ends.
     fn begin(&mut self) -> Turn<Result<R::Answer, Refused>>
         ensures turn { (c : Call) (begin h : History) → BeginsTry c h self.old.limit self.old.tries
@@ -154,7 +148,7 @@ impl<R: Read + Drop> ReadRun<R> {
         let head = Word::Node(root, NodeWord::Settled(SettledPart::Head));
         match self.start() {
             ReadBegin::Walk { key, side } => {
-                let mut walk = WalkRun::by(self.way(), Goal::Key(key));
+                let mut walk = WalkRun::by(leaf_way(self.trie), Goal::Key(key));
                 walk.at = WalkAt::Root;
                 let turns = LastTurns::none();
                 self.load(ReadAt::Walk { walk, side, turns }, kind, head)
@@ -471,6 +465,14 @@ impl<R: Read + Drop> Machine<Tree> for ReadRun<R> {
     ghost made = { read_made R.means };
 
     ghost told = { read_told R.means };
+}
+
+/// The way of a walk to a leaf, in a trie or in a tree.
+#[inline(always)]
+pub fn leaf_way(trie: bool) -> Way
+    ensures { result ≡ leaf_way trie }
+{
+    if trie { Way::InTrie } else { Way::InTree }
 }
 
 /// The last forks that count where a walk has turned, where they were these before the step that has

@@ -3,7 +3,7 @@ use Rattle.order.proofs.Turns.{answers_all, begins_root, begins_walk, root_neare
 use Rattle.order.proofs.run.ReadRun.begin.Goals as goal
 
 pub returns-in-Walk-clause-turn : goal.returns-in-Walk-clause-turn
-returns-in-Walk-clause-turn g c d begin h try goes = begins_walk g.R.Read.means c.start.new.self c.args.self.now c.load.new.self d begin h c.load.result c.start.ensures.same c.start.ensures.tries c.start.ensures.empty try goes c.by-walk.result c.in-Walk.key c.in-Walk.side c.by-walk.ensures.goal (c.by-walk.ensures.way ∙ c.way.ensures) c.by-walk.ensures.root (rw c.in-Walk.is at c.start.ensures.begins) (rw c.none-turns.ensures at c.load.ensures.stands) c.load.ensures.asked
+returns-in-Walk-clause-turn g c d begin h try goes = begins_walk g.R.Read.means c.start.new.self c.args.self.now c.load.new.self d begin h c.load.result c.start.ensures.same c.start.ensures.tries c.start.ensures.empty try goes c.by-walk.result c.in-Walk.key c.in-Walk.side c.by-walk.ensures.goal (c.by-walk.ensures.way ∙ c.leaf_way.ensures) c.by-walk.ensures.root (rw c.in-Walk.is at c.start.ensures.begins) (rw c.none-turns.ensures at c.load.ensures.stands) c.load.ensures.asked
 
 pub returns-in-Root-clause-turn : goal.returns-in-Root-clause-turn
 returns-in-Root-clause-turn g c d begin h try goes = begins_root g.R.Read.means c.start.new.self c.args.self.now c.load-in-Root.new.self d begin h c.load-in-Root.result c.start.ensures.same c.start.ensures.tries c.start.ensures.empty try goes (rw c.in-Root.is at c.start.ensures.begins) c.load-in-Root.ensures.stands c.load-in-Root.ensures.asked

@@ -2,6 +2,7 @@ use Rattle.std.proofs.Common.{◌∙◌, ap, arith}
 use Rattle.arena.specs.Machines.{begun_at}
 use Rattle.template.proofs.Lemmas.{walk_past_root}
 use Rattle.order.proofs.Nearer.{less_walk}
+use Rattle.template.specs.Balance.{nodes_by}
 use Rattle.template.specs.Common.{path_key}
 use Rattle.order.proofs.Turning.{turned_so}
 use Rattle.order.proofs.Turns.{walk_less, found_looks, stands_there, stands_nearer, walk_waits}
@@ -24,4 +25,4 @@ returns-in-Done-clause-turn g c d begin h key v got try goes goal way to last re
     (begin, try, (goes, found_looks g.R.Read.means c.args.self.now c.args.walk c.next.new.self c.args.side c.args.turns (begun_at d begin) h c.next.result _ goes key goal (c.next.ensures.same.1 ∙ way) to last c.next.ensures.same.0 c.in-Done.is (c.next.ensures.turn (begun_at d begin) h goes.reads.run.1 (rw got ready))))
 
 pub returns-in-Done-clause-nearer : goal.returns-in-Done-clause-nearer
-returns-in-Done-clause-nearer g c nodes way fits = stands_nearer g.R.Read.means c.args.self.now c.look.new.self c.look.result (Look (first_children c.args.side (turn_to c.args.side c.args.turns).0) 0 (turn_to c.args.side c.args.turns)) _ nodes _ (rw (c.children.ensures, c.to.ensures) at c.look.ensures.stands) (rw c.to.ensures at c.look.ensures.asked) (omega arith) (omega arith, omega arith)
+returns-in-Done-clause-nearer g c nodes way fits = stands_nearer g.R.Read.means c.args.self.now c.look.new.self c.look.result (Look (first_children c.args.side (turn_to c.args.side c.args.turns).0) 0 (turn_to c.args.side c.args.turns)) _ (nodes_by c.args.self.now.trie nodes) _ (rw (c.children.ensures, c.to.ensures) at c.look.ensures.stands) (rw c.to.ensures at c.look.ensures.asked) (omega arith) (omega arith, omega arith)
