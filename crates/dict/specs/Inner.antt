@@ -1,7 +1,7 @@
 -- What runs inside of the machine of a call of the map: an update for a call that may edit, the
 -- walk of a get, or an ordered read, whichever that is.
 use Rattle.std.specs.Global.{Global}
-use Rattle.std.specs.Prelude.{ℕ, Option, Vec}
+use Rattle.std.specs.Prelude.{ℕ, false, Option, Vec}
 use Rattle.arena.specs.Share.{Remaining}
 use Rattle.order.specs.Meaning.{ReadMeaning}
 use Rattle.order.specs.Range.{range_means}
@@ -20,9 +20,9 @@ use Rattle.dict.specs.declared.run.MapRun.{MapRun}
 use Rattle.dict.specs.declared.run.MapRun.TheVariants as runs
 use Rattle.dict.specs.WordReplies.{WordReply}
 
--- what an edit says whose goal and rule are values
+-- what an edit says whose goal and rule are values, in a tree
 abbrev pub edit_means : EditMeaning (KeyEdit Goal Rule)
-edit_means = key_means (λ (g : Goal). g) (λ (r : Rule). r)
+edit_means = key_means (λ (g : Goal). g) (λ (g : Goal). false) (λ (r : Rule). r)
 
 -- an update whose edit has these values in place of its goal and its rule
 abbrev pub by_values : {G R : Type 0} → (G → Goal) → (R → Rule) → UpdateRun (KeyEdit G R) UpdateAt → UpdateRun (KeyEdit Goal Rule) UpdateAt

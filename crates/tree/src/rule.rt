@@ -10,6 +10,7 @@ ghost use Rattle.ordered_map.specs.declared.rule.Rule.TheVariants as rules;
 
 use arena::Side;
 use ordered_map::{Goal, Rule};
+use template::Balance;
 
 /// Where an edit goes.
 pub trait EditGoal: Copy {
@@ -28,16 +29,17 @@ pub trait EditGoal: Copy {
         ensures { result ≡ trie self.now };
 }
 
-/// To the same in a trie.
+/// To the same in a tree or in a trie, as its balance says.
 #[derive(Clone, Copy, Debug, PartialEq, Eq)]
-pub struct OfTrie<G> {
+pub struct GoalIn<G, B> {
     pub goal: G,
+    pub balance: B,
 }
 
-impl<G: EditGoal> EditGoal for OfTrie<G> {
+impl<G: EditGoal, B: Balance> EditGoal for GoalIn<G, B> {
     ghost goal = { λ g. G.goal g.goal };
 
-    ghost trie = { λ g. true };
+    ghost trie = { λ g. B.trie g.balance };
 
     #[inline(always)]
     fn goal(&self) -> Goal {
@@ -46,7 +48,7 @@ impl<G: EditGoal> EditGoal for OfTrie<G> {
 
     #[inline(always)]
     fn in_trie(&self) -> bool {
-        true
+        self.balance.in_trie()
     }
 }
 

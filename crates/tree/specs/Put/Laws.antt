@@ -5,7 +5,7 @@ use Rattle.std.proofs.Math.Decide.{dec_lt}
 use Rattle.template.specs.Common.{Snap, Pair, pair, insert}
 use Rattle.template.specs.declared.walk.Found.{Found}
 use Rattle.tree.specs.LeafEdit.{leaf_looks, leaf_reads}
-use Rattle.tree.specs.Put.Means.{put_means, put_need, put_pieces, put_reads, put_work, work_by, above_pieces, next_node, parted_pieces, parts_by, place_of, splits, strays, lower, split_or_leaf, split_pieces, pairs_with, second_pairs}
+use Rattle.tree.specs.Put.Means.{put_means, put_need, put_pieces, put_reads, put_work, put_work_by, above_pieces, next_node, parted_pieces, parts_by, place_of, splits, strays, lower, split_or_leaf, split_pieces, pairs_with, second_pairs}
 use Rattle.tree.specs.Laws.PairLists.{parts_long}
 use Rattle.edits.specs.declared.edit.Look.TheVariants.{At, Enough}
 use Rattle.edits.specs.declared.edit.Nodes.{Nodes}
@@ -31,9 +31,18 @@ few_by_split false = omega arith
 pub few_nodes : (trie : Bool) (f : Found) → (put_work trie f).need ≤ 3
 few_nodes trie f = go (strays trie f)
   where
-    go : (b : Bool) → (work_by b (splits f) f).need ≤ 3
+    go : (b : Bool) → (put_work_by b (splits f) f).need ≤ 3
     go true = omega arith
     go false = few_by_split (splits f)
+
+-- and some
+pub some_needed : (trie : Bool) (f : Found) → 0 < (put_work trie f).need
+some_needed trie f = go (strays trie f) (splits f)
+  where
+    go : (a b : Bool) → 0 < (put_work_by a b f).need
+    go true b = omega arith
+    go false true = omega arith
+    go false false = omega arith
 
 few_reads : (trie : Bool) (f : Found) (x : NodeNo × Reading) → put_reads trie f ≡ Some x → reads_left x.1 ≤ 12
 few_reads trie f x e = go (strays trie f) (f.head.class == 0) e
@@ -112,7 +121,7 @@ above_fills k v f ns = let a = leaf_by 66 0 (pair k v ∷ []) in omega (arith, a
 few_fills : (trie : Bool) (k v : ℕ) (f : Found) (ns : Nodes) (read : Reading) → all_fills (put_work trie f).need (put_pieces k v trie f ns read) ≤ 23
 few_fills trie k v f ns read = go (strays trie f) (splits f) trie
   where
-    go : (a b t : Bool) → all_fills (work_by a b f).need (λ (nth : Nth). if a then above_pieces k v f ns nth else split_or_leaf t b (pairs_with k v f read) f ns nth) ≤ 23
+    go : (a b t : Bool) → all_fills (put_work_by a b f).need (λ (nth : Nth). if a then above_pieces k v f ns nth else split_or_leaf t b (pairs_with k v f read) f ns nth) ≤ 23
     go true b t = above_fills k v f ns
     go false false t = let a = any_leaf f.head.level 0 (pairs_with k v f read) in omega (arith, a)
     go false true true = parted_fills k v f ns read

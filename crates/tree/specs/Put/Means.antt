@@ -50,13 +50,13 @@ abbrev pub next_node : Bool → Found → NodeNo
 next_node trie f = if strays trie f then record { 0 = 2 } else f.trail.node
 
 -- a leaf and a fork over it go above a fork, and nothing is finalized
-abbrev pub work_by : Bool → Bool → Found → Work
-work_by above split f =
+abbrev pub put_work_by : Bool → Bool → Found → Work
+put_work_by above split f =
     if above then record { need = 2; plan = record { 0 = above_plan f.trail.side } }
     else record { need = put_need split; plan = record { 0 = leaf_plan f.trail.side } }
 
 abbrev pub put_work : Bool → Found → Work
-put_work trie f = work_by (strays trie f) (splits f) f
+put_work trie f = put_work_by (strays trie f) (splits f) f
 
 -- it reads the pairs of a leaf of class 0
 abbrev pub put_reads : Bool → Found → Option (NodeNo × Reading)
