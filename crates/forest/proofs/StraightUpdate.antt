@@ -5,7 +5,7 @@ use Rattle.std.proofs.lemmas.Result.{err_from_is_err_and}
 use Rattle.histories.specs.Common.{Full, Layout, Turn, Ask, Done, NodeNo, LoadMarked, LoadSettled, LoadState, Settled, SettledPart, Head, High, Key, Value, Slot, Store}
 use Rattle.histories.specs.Common.{Fill as FillKind, NodeWord, Plan, Node as NodeOf, History, value, Call, IsRun, MatchTurn, begun_at, marked, node, state, ScxNo}
 use Rattle.help.specs.declared.state.HelpAt.TheVariants.{Commit as HelpCommit}
-use Rattle.template.specs.Common.{HelpRun, Done as ScxDone, ScxRun, HasFoundThere, load, IsSnapshot, LlxRun, Snap, TreeAllows, FoundBy, WalkIsTold, walk_from, IsPastRoot, Goal, Update}
+use Rattle.template.specs.Common.{HelpRun, Done as ScxDone, ScxRun, HasFoundThere, load, IsSnapshot, LlxRun, Snap, TreeAllows, FoundBy, MayGo, WalkIsTold, walk_from, IsPastRoot, Goal, Update}
 use Rattle.prims.specs.Scx.Steps.{scx_left}
 use Rattle.prims.specs.declared.scx.ScxAt.TheVariants.{Plan as AtPlan, Help}
 use Rattle.prims.proofs.Lemmas.{done_at}
@@ -27,6 +27,7 @@ use Rattle.template.specs.declared.walk.Found.{Found}
 use Rattle.template.specs.declared.walk.WalkAt.{WalkAt}
 use Rattle.template.specs.declared.walk.WalkAt.TheVariants.{Start as WalkStart, Root as WalkRoot}
 use Rattle.template.specs.declared.walk.WalkRun.{WalkRun}
+use Rattle.template.specs.declared.walk.Way.{Way}
 use Rattle.template.specs.declared.walk.Way.TheVariants.{InTree}
 use Rattle.template.proofs.Lemmas.{own_since, walk_begins}
 use Rattle.edits.specs.Edits.{EditMeaning}
@@ -103,6 +104,10 @@ module _ {M E : Type 0} {o : Calls M} {e : EditMeaning E} (u : Updater o e) wher
     stays = λ old now goes. u.stays (walking m old.0) (walking m now.0) (moves m (Walk old.0) (Walk now.0) refl refl);
   }
 
+  -- in a tree it may go to each goal
+  may_walk : (lay : Layout) (goal other : Goal) (way : Way) → InTree ≡ way → MayGo lay way other → MayGo lay InTree goal
+  may_walk lay goal other way is x = subst (λ w. MayGo lay w other) (sym is) x
+
   -- an update that may begin begins its walk
   pub walks : (ps : List SeatedPass) {A : Type 0} (m : UpdateRun E A) (goal : Goal) → goal ≡ e.goal m.edit → InTree ≡ e.way m.edit → UpdaterBegins u ps m → WalkerWaits (walker m) ps (walk_from goal) no_turns (load LoadSettled (node 0 (Settled Head)))
   unfolding walker
@@ -124,7 +129,7 @@ module _ {M E : Type 0} {o : Calls M} {e : EditMeaning E} (u : Updater o e) wher
             inl r.2,
             (
               record { small = b.small; rests = record { share = b.rests.share; over = b.rests.over }; quiet = quiet_at_start u.call.layout u.call.pass h (idle_if_finished u.call h b.run.1.lawful b.rests.over); none_filled = none_filled_yet u.call.pass h; may = b.may; same = is_goal; same_way = is_way },
-              walk_begins InTree goal (begun_at u.call h) h b.run (rw (is_goal, is_way) b.may) (rw is_goal b.small) (ends_self h),
+              walk_begins InTree goal (begun_at u.call h) h b.run (may_walk u.call.layout goal (e.goal m.edit) (e.way m.edit) is_way b.may) (rw is_goal b.small) (ends_self h),
             ),
           )
 
