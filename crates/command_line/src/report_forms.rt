@@ -151,15 +151,10 @@ impl ReportSoFar {
                 [head, number, client, kind, table_word, before, after]
             }
             "log" => [head, word("place"), word("step"), scx(), client, call, rest],
-            "reply" => [
-                head,
-                client,
-                number,
-                word("begin"),
-                word("end"),
-                moment(),
-                text("answer"),
-            ],
+            "reply" => {
+                let (begin, end, answer) = (word("begin"), word("end"), text("answer"));
+                [head, client, number, begin, end, moment(), answer]
+            }
             "end" => self.end_fields(),
             _ => [head, rest, rest, rest, rest, rest, rest],
         }
