@@ -152,7 +152,7 @@ leaf_covered e f next snaps ns w k s both covers =
     rw (ne_eqb (count k s) 4 (λ four. omega (arith, two, four))) (covers.members 1 (let few = both.two in omega (arith, few)) ∙ both.leaf)
 
 -- the parent is a fork, and so is not the leaf
-leaf_distinct : (k : ℕ) (c : Call) (h : History) (f : Found) (next : NodeNo) (snaps : List Snap) → IsCovering k c h f next → HasBoth f next snaps → AreDistinct snaps
+pub leaf_distinct : (k : ℕ) (c : Call) (h : History) (f : Found) (next : NodeNo) (snaps : List Snap) → IsCovering k c h f next → HasBoth f next snaps → AreDistinct snaps
 leaf_distinct k c h f next snaps x both i j p q d e = go (two_places i j (rw both.two at p) (rw both.two at q) d)
   where
     apart : f.trail.parent.0 ≢ next.0
