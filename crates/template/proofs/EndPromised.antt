@@ -1,4 +1,5 @@
--- What takes a pair at an end of a trie out makes its edit, whatever rows come until its SCX-record begins.
+-- What takes a pair at an end of a trie out makes its edit, whatever rows come until its SCX-record
+-- begins.
 use Rattle.std.proofs.Common.{◌≡◌, ◌≢◌, ℕ, zero, suc, ◌<◌, ◌^◌, ◌/◌, ◌%◌, true, false, eqb, Some, None, inl, inr, refl, sym, ◌∙◌, ap, arith, subst}
 use Rattle.arena.specs.declared.limits.Mode.TheVariants.{Trie as TrieMode}
 use Rattle.histories.specs.Common.{Layout, First, Side, Child, info, child, History, value, Extends, by_field, count, count_of, member, seen, new, old, IsNamed, Call, Descriptor}
@@ -151,8 +152,8 @@ end_edit_promised c h s e f d n trie run small a surely i fresh swap fits there 
     turn : toward (value h) (d.member 0) (edit_key e) ≡ f.trail.side
     turn = subst (λ m. toward (value h) m (edit_key e) ≡ f.trail.side) (sym i.parent) parent.side_is
 
--- One that puts a fresh copy of the sibling into the place of the parent, where the leaf has no other pair, takes
--- the key out.
+-- One that puts a fresh copy of the sibling into the place of the parent, where the leaf has no
+-- other pair, takes the key out.
 pub end_join_promised : (c : Call) (h : History) (s k old : ℕ) (f : Found) (d : Descriptor) (above sibling : Snap) (n : ℕ) → c.layout.mode ≡ TrieMode → IsMapRun c.layout h → k < 2 ^ 64 → HasFoundLeaf c h k f → f.value ≡ Some old → f.more ≡ 0 → IsEndJoinAt f d n → IsSnapOf c.layout h d 1 above → (child_of above f.trail.side).0 ≡ f.trail.node.0 → IsSnapOf c.layout h d 2 sibling
     → (child_of above (opposite f.trail.side)).0 ≡ sibling.node.0 → HasFreshCopy c.layout c.pass h sibling n → FitsThere c.layout h f.trail.grand.0 f.trail.grand_side n → IsPromised c.layout c.pass h s d (Delete k)
 end_join_promised c h s k old f d above sibling n trie run small a found alone i above_is same sibling_is other w fits = end_out_promised c.layout c.pass s h d (Delete k) f.trail.side f.trail.node.0 c.is_pass record {

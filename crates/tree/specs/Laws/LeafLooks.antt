@@ -35,8 +35,9 @@ no_trie tree trie = absurd (let x : TreeMode ≡ TrieMode = sym tree ∙ trie in
 
 -- What it looks at
 
--- What is known of what was found at a key, and of this leaf, which is covered besides the fork above
--- that: that fork is surely on the path of the key, and the leaf was in the tree, and not final.
+-- What is known of what was found at a key, and of this leaf, which is covered besides the fork
+-- above that: that fork is surely on the path of the key, and the leaf was in the tree, and not
+-- final.
 pub record IsCovering (k : ℕ) (c : Call) (h : History) (f : Found) (next : NodeNo) : Type 0 where
   pub trail : OnTrail c h k f.trail
   pub below : f.trail.node.0 ≢ 0

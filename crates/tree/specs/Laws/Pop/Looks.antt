@@ -24,8 +24,8 @@ still_needed (Some v) p q d = omega arith
 pub number : (a b : NodeNo) → a ≡ b → b.0 ≡ a.0
 number a b e = ap (λ (n : NodeNo). n.0) (sym e)
 
--- the snapshots are those of the fork above the parent, which still is its child, of the parent, whose
--- child the leaf still is, and of that one's other child
+-- the snapshots are those of the fork above the parent, which still is its child, of the parent,
+-- whose child the leaf still is, and of that one's other child
 pub end_grand : (f : Found) (g : Snap) (snaps : List Snap) → AreSeen end_looks f (g ∷ snaps) → f.trail.grand ≡ g.node
 end_grand f g snaps x = same_node f.trail.grand g.node (x 0 (omega arith))
 
@@ -74,8 +74,8 @@ module _ (ed : TakePair) (c : Call) (h : History) (f : Found) (run : IsMapRun c.
       rw (sym o.1, sym o.2) (turned_contended c h ed.key f p f.trail.side f.trail.node.0 run quiet u (parent_snap ed c h f run needed p u (number f.trail.parent p.node (end_parent f g p [] x.seen).1)) (other_child (child_of p f.trail.side).0 f.trail.node.0 o.0))
   end_differs (g ∷ p ∷ z ∷ snaps) n s x e quiet = absurd (let d : Enough ≡ Differs n s = e in cc)
 
--- once it has looked at enough, it has snapshots of the two forks, in whose fields are the parent and the
--- leaf, and of the other child that the parent's shows
+-- once it has looked at enough, it has snapshots of the two forks, in whose fields are the parent
+-- and the leaf, and of the other child that the parent's shows
 pub record HasThree (f : Found) (snaps : List Snap) : Type 0 where
   pub three : length snaps ≡ 3
   pub grand : (snap_at snaps 0).node.0 ≡ f.trail.grand.0

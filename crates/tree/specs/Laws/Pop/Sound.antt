@@ -170,8 +170,8 @@ module _ (e : PopPair) (c : Call) (h : History) (f : Found) (snaps : List Snap) 
           ∙ (pop_ends false t enough).1
           ∙ is_covered
 
--- its nodes were in the trie, and not final, what it reads may be read, and where a fork has another child its
--- last SCX-record was in the way
+-- its nodes were in the trie, and not final, what it reads may be read, and where a fork has
+-- another child its last SCX-record was in the way
 pub pop_look : LooksWell pop_means
 pop_look = record {
   there = λ e c h f snaps n run d x at. pop_there e c h f snaps run d x n (has_more f) refl at;

@@ -1,5 +1,5 @@
--- What a pop of a trie covers: node 2 behind what it has looked at, each of which is another node. Where it
--- takes a leaf out, that is the fork above the parent, the parent and the leaf's sibling.
+-- What a pop of a trie covers: node 2 behind what it has looked at, each of which is another node.
+-- Where it takes a leaf out, that is the fork above the parent, the parent and the leaf's sibling.
 use Rattle.std.proofs.Common.{◌≡◌, ◌≢◌, ℕ, zero, suc, ◌<◌, ◌≤◌, ◌⊎◌, inl, inr, ⊎_elim, true, false, List, [], ◌∷◌, ◌++◌, length, refl, sym, ◌∙◌, ap, subst, arith}
 use Rattle.histories.specs.Common.{Row, History, ◌⊳◌, value, Extends, Call, Side, Left, Right, IsWin, IsPlan, count, count_of, member, seen, child}
 use Rattle.arena.proofs.Lemmas.{ends_self, ends_trans}
