@@ -1,6 +1,6 @@
 -- What the layers above know of maps, and of histories of the tree, exported from one place: outside
 -- this module and `MapLemmas` alone can be named. Declares nothing.
-pub use Rattle.ordered_map.proofs.Meanings.{one_spelling, entered_begun, wins_of, makes_since, leaf_covered, leaf_taken_out}
+pub use Rattle.ordered_map.proofs.Meanings.{one_spelling, entered_begun, wins_of, makes_since, leaf_covered, leaf_taken_out, leaf_taken_at_end}
 pub use Rattle.ordered_map.proofs.Stood.{was_now, was_passed}
 pub use Rattle.ordered_map.proofs.Past.{walk_stays, path_next}
 pub use Rattle.ordered_map.proofs.Inside.{tree_inside, walk_inside}

@@ -136,6 +136,7 @@ abbrev pub put_means : EditMeaning PutPair
 put_means = record {
   goal = λ e. ToKey e.key;
   way = λ e. put_way e.trie;
+  guard = λ e. false;
   edit = λ e f. PutEdit e.key e.value;
   work = λ e f. put_work e.trie f;
   most_nodes = λ e. 3;

@@ -6,7 +6,7 @@ use native.Mathlib.Decide.{ℕ_discrete}
 use Rattle.arena.specs.declared.limits.Mode.TheVariants.{Trie as TrieMode}
 use Rattle.histories.specs.Common.{Tree as TreeMode, NodeNo, Child, Side, Left, Right, History, value, Call, IsInField, node, child, first_key, Descriptor}
 use Rattle.template.specs.Common.{Job, Says, Snap, Pair, Insert as PutEdit, AllBelow, IsRising, insert, pair, get, held_pairs, leaf_plan}
-use Rattle.template.specs.Common.{IsUpdateOver, IsWellCounted, IsMapRun, class, level, rank, HasFoundLeaf, HasTurned, IsFresh, IsPromised, MayGo, Key as ToKey}
+use Rattle.template.specs.Common.{IsUpdateOver, IsWellCounted, IsMapRun, class, level, rank, HasFoundLeaf, HasTurned, IsFresh, IsPromised, MayGo, Key as ToKey, End}
 use Rattle.ordered_map.specs.OrderedMap.{AllFrom, first_pair, last_pair}
 use Rattle.ordered_map.specs.Bits.{PartsKeys, place_between}
 use Rattle.ordered_map.specs.declared.fork_place.ForkPlace.{ForkPlace}
@@ -24,7 +24,7 @@ use Rattle.tree.specs.LeafEdit.{leaf_looks, leaf_reads}
 use Rattle.tree.specs.declared.put.PutPair.{PutPair}
 use Rattle.tree.specs.Put.Laws.{put_bounds}
 use Rattle.tree.specs.Put.Means.{above_pieces, put_means, put_need, put_pieces, put_reads, put_way, put_work, has_room, lower, next_node, pairs_with, parts_by, place_of, split_or_leaf, split_pieces, second_pairs, splits, splits_by}
-use Rattle.tree.specs.Laws.LeafLooks.{HasBoth, IsCovering, above_over, class_is, has_both, held_is, is_above_edit, is_leaf_edit, leaf_begins, leaf_covered, leaf_differs, leaf_opens, leaf_over, leaf_stood, many, no_trie, pairs_are}
+use Rattle.tree.specs.Laws.LeafLooks.{HasBoth, IsCovering, above_over, class_is, has_both, held_is, is_above_edit, is_leaf_edit, leaf_begins, leaf_covered, leaf_differs, leaf_over, leaf_stood, leaf_there, many, no_trie, pairs_are}
 use Rattle.tree.specs.Laws.PairLists.{below_apart, both_parts, ends_of, first_below, first_long, insert_absent, insert_least, insert_most, insert_present, insert_some, last_of, parts_apart, parts_long}
 use Rattle.tree.specs.Laws.Put.Stands.{IsAtFork, IsAtLeaf, StandsAt, stands_at, stands_covered, stands_covering}
 use Rattle.edits.specs.declared.edit.Look.TheVariants.{Enough}
@@ -63,7 +63,7 @@ put_reads_well ed c h f y run (inr a) e = absurd (let z : None ≡ Some y = rw a
 -- has another child its last SCX-record was in the way
 pub put_look : LooksWell put_means
 put_look = record {
-  opens = λ e c h f snaps n run d x at. leaf_opens e.key c h f (next_node e.trie f) snaps run (covering e c h f snaps run x) n at;
+  there = λ e c h f snaps n run d x at. leaf_there e.key c h f (next_node e.trie f) snaps run (covering e c h f snaps run x) n at;
   stood = λ e c h f snaps n run d x at. leaf_stood e.key c h f (next_node e.trie f) snaps run (covering e c h f snaps run x) n at;
   differs = λ e c h f snaps n s run d x at quiet. leaf_differs e.key c h (put_way e.trie) f (next_node e.trie f) snaps n s run (record { small = x.small; may = x.may; found = x.found; usable = x.usable; seen = x.seen }) at quiet;
   reads = λ e c h f snaps y run d x enough is. put_reads_well e c h f y run (stands e c h f snaps run x) is;
@@ -668,11 +668,12 @@ put_over ed c h f snaps ns run x enough (inr a) = above_over ed.key c h f (next_
 -- its plan covers its two nodes, and what it has filled is promised to put the value at the key
 pub put_makes : MakesWell put_means
 put_makes = record {
-  over = λ e c h f snaps ns run n x enough. put_over e c h f snaps ns run x enough (stands e c h f snaps run x);
-  leaf = λ e c h f snaps s run n x enough k later since covers makes. leaf_covered (PutEdit e.key e.value) f (next_node e.trie f) snaps k s (has_both f (next_node e.trie f) snaps enough x.seen) covers ∙ stands_covered e.trie e.key c h f (stands e c h f snaps run x);
-  promised = λ e c h f snaps ns read j d run n x is says. put_is_promised e c h f snaps ns read run x (stands e c h f snaps run x.looked) j d is says;
+  over = λ e c h f snaps guard ns run n x enough two. put_over e c h f snaps ns run x enough (stands e c h f snaps run x);
+  leaf = λ e c h f snaps guard ns s run n x enough k row later won since covers makes. leaf_covered (PutEdit e.key e.value) f (next_node e.trie f) snaps ns (put_work e.trie f) k s (has_both f (next_node e.trie f) snaps enough x.seen) covers ∙ stands_covered e.trie e.key c h f (stands e c h f snaps run x);
+  ends = λ e c h f snaps guard ns s run n x enough is. absurd (let z : false ≡ true = is in cc);
+  promised = λ e c h f snaps guard ns read j d run n x two is says. put_is_promised e c h f snaps ns read run x (stands e c h f snaps run x.looked) j d is says;
 }
 
 -- an insert is an edit that an update can make
 pub put_laws : EditLaws put_means
-put_laws = record { at_found = λ e f. refl; bounds = put_bounds; looks = put_look; fills = put_fills; makes = put_makes }
+put_laws = record { at_found = λ e f. refl; at_end = λ e side is. absurd (let z : ToKey e.key ≡ End side = is in cc); bounds = put_bounds; looks = put_look; fills = put_fills; makes = put_makes }

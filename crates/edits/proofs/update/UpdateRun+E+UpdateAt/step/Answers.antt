@@ -1,6 +1,6 @@
 use Rattle.std.proofs.Common.{◌≡◌, sym, ◌∙◌, inl}
 use Rattle.edits.specs.declared.update.UpdateAt.TheVariants.{Start, Walk, Look, Read, Fill, Scx}
-use Rattle.edits.proofs.Stepping.{at_start, at_walk, at_look, at_read, at_fill, at_scx}
+use Rattle.edits.proofs.Stepping.{at_start, at_walk, at_guard, past_guard, at_look, at_read, at_fill, at_scx}
 use Rattle.edits.proofs.update.UpdateRun+E+UpdateAt.step.Goals as goal
 
 pub returns-in-Start-clause-turn : goal.returns-in-Start-clause-turn
