@@ -154,7 +154,7 @@ module _ {E : Type 0} (e : EditMeaning E) (ed : E) (c : Call) (f : Found) (begin
         own = turned.passed.own
 
         earlier : Extends (y.kept.row ⊳ y.moment) first → Extends first (y.kept.row ⊳ y.moment)
-        earlier (inl q) = subst (λ k. Extends k (y.kept.row ⊳ y.moment)) q (ends_self (y.kept.row ⊳ y.moment))
+        earlier (inl q) = subst (λ k. Extends k (y.kept.row ⊳ y.moment)) (sym q) (ends_self (y.kept.row ⊳ y.moment))
         earlier (inr q) = absurd (no_row y.moment own.row own.before (subst (λ k. Extends y.moment k) own.is q) own.since)
 
         go : Extends first (y.kept.row ⊳ y.moment) ⊎ Extends (y.kept.row ⊳ y.moment) first → Extends first (y.kept.row ⊳ y.moment)

@@ -1,5 +1,5 @@
 -- That each turn of an update leaves fewer steps, and takes no more of the share than it may.
-use Rattle.std.proofs.Common.{◌≡◌, ◌≢◌, ℕ, zero, suc, ◌+◌, ◌*◌, ◌-◌, ◌<◌, ◌≤◌, ◌⊎◌, Bool, true, false, refl, sym, arith, inl, inr, ap, subst, Some, Result, Ok, Err, OnOk, OnErr}
+use Rattle.std.proofs.Common.{◌≡◌, ◌≢◌, ◌∙◌, ℕ, zero, suc, ◌+◌, ◌*◌, ◌-◌, ◌<◌, ◌≤◌, ◌⊎◌, Bool, true, false, refl, sym, arith, inl, inr, ap, subst, Some, Result, Ok, Err, OnOk, OnErr}
 use Rattle.std.proofs.Math.Nat.{suc-mul}
 use Rattle.histories.specs.Common.{Turn, Ask, Done, MatchTurn, NodeWord}
 use Rattle.edits.specs.declared.piece.Piece.{Piece}
@@ -15,7 +15,7 @@ use Rattle.template.specs.declared.walk.WalkRun.{WalkRun}
 use Rattle.template.specs.declared.walk.WalkAt.{WalkAt}
 use Rattle.template.specs.declared.walk.WalkAt.TheVariants.{Start, Root, Head, Key, Child, More, Pair, Value, High}
 use Rattle.edits.specs.Edits.{EditBounds, EditMeaning, all_looks}
-use Rattle.edits.specs.Steps.{HasAsked, looks_from, looks_on, pieces_now}
+use Rattle.edits.specs.Steps.{HasAsked, is_for_guard, looks_from, looks_on, pieces_now}
 
 -- what is below a number is below a greater one
 pub below : (turn : Turn Updated) (x a b : ℕ) → MatchTurn turn (λ _. x < a) (λ _. Unit {0}) → a ≤ b → MatchTurn turn (λ _. x < b) (λ _. Unit {0})
@@ -70,8 +70,24 @@ pub behind_root : (b : Bool) (at : WalkAt) → at ≡ Root → (t left steps loo
 behind_root true at is t left steps looks works = rw is (omega arith)
 behind_root false at is t left steps looks works = omega arith
 
-pub to_guard : (t steps looks works : ℕ) → t + (53 + steps + (64 * looks + works + 39)) < t + (steps + (64 * suc looks + works + 39))
-to_guard t steps looks works = omega arith
+pub to_guard_from : (b : Bool) (at : WalkAt) → at ≡ Root → b ≡ true → (t steps looks works : ℕ) → t + (53 + steps + (64 * looks + works + 39)) < t + (steps + (64 * looks_from b at looks + works + 39))
+to_guard_from true at is guard t steps looks works = rw is (omega arith)
+to_guard_from false at is guard t steps looks works = absurd (let z : false ≡ true = guard in cc)
+
+-- it continues with its guard behind the root's head alone
+pub begins_here : (b : Bool) (at : WalkAt) → (is_for_guard b at ≡ true → (at ≡ Root) × (b ≡ true)) × (is_for_guard b at ≡ false → at ≡ Root → b ≡ false)
+begins_here b at = (λ e. yes at e, λ e is. sym (ap (is_for_guard b) is) ∙ e)
+  where
+    yes : (at : WalkAt) → is_for_guard b at ≡ true → (at ≡ Root) × (b ≡ true)
+    yes Start e = absurd (let z : false ≡ true = e in cc)
+    yes Root e = (refl, e)
+    yes (Head above) e = absurd (let z : false ≡ true = e in cc)
+    yes (Key head) e = absurd (let z : false ≡ true = e in cc)
+    yes (Child level side) e = absurd (let z : false ≡ true = e in cc)
+    yes (More head) e = absurd (let z : false ≡ true = e in cc)
+    yes (Pair head more slot) e = absurd (let z : false ≡ true = e in cc)
+    yes (Value head more slot key) e = absurd (let z : false ≡ true = e in cc)
+    yes (High head more slot key low) e = absurd (let z : false ≡ true = e in cc)
 
 -- without its guard it looks at no more
 pub few_alone : {E : Type 0} (e : EditMeaning E) → EditBounds e → (ed : E) → e.most_looks ed ≤ 4

@@ -72,15 +72,15 @@ module _ {E : Type 0} (e : EditMeaning E) where
   )
 
   -- its walk asks for a step, past the root's head
-  pub walks_on : {A : Type 0} (m : UpdateRun E A) (walk after : WalkRun) (c : Call) (b h : History) (v : ℕ) (turn : Turn Found) (step : Step) → IsTry c b h m.limit m.tries → IsUntouched c b m.share → Walks e m (begun_at c b) h walk.way walk.goal → (after.goal ≡ walk.goal) × (after.way ≡ walk.way) → IsPastRoot after.at → turn ≡ Ask step → ((k : Call) → WalkIsTold walk k h v → MatchTurn turn (WalkWaits after k h) (WalkAnswers after k h)) → WalkIsTold walk (begun_at c b) h v → Guarded e m.edit (begun_at c b) h m.guard (λ k. WalkIsTold walk k h v) → UpdateWaits e (standing m (Walk after)) c h step
+  pub walks_on : {A : Type 0} (m : UpdateRun E A) (walk after : WalkRun) (c : Call) (b h : History) (v : ℕ) (turn : Turn Found) (step : Step) → IsTry c b h m.limit m.tries → IsUntouched c b m.share → Walks e m (begun_at c b) h walk.way walk.goal → (after.goal ≡ walk.goal) × (after.way ≡ walk.way) → IsPastRoot after.at → turn ≡ Ask step → ((g : History) → WalkIsTold walk (begun_at c g) h v → MatchTurn turn (WalkWaits after (begun_at c g) h) (WalkAnswers after (begun_at c g) h)) → WalkIsTold walk (begun_at c b) h v → Guarded e m.edit (begun_at c b) h m.guard (λ k. WalkIsTold walk k h v) → UpdateWaits e (standing m (Walk after)) c h step
   walks_on m walk after c b h v turn step try first x same past asked w told guarded = (
     b,
     past_root after.at past try,
     first,
     (
       record { small = x.small; may = x.may; rests = x.rests; quiet = x.quiet; none_filled = x.none_filled; same = same.0 ∙ x.same; same_way = same.1 ∙ x.same_way },
-      rw asked at (w (begun_at c b) told),
-      λ _ is. let y = guarded is in (y.0, y.1, rw asked at (w (begun_at (begun_at c b) y.0) y.2)),
+      rw asked at (w b told),
+      λ _ is. let y = guarded is in (y.0, y.1, rw asked at (w y.0 y.2)),
     ),
   )
 
@@ -142,8 +142,8 @@ module _ {E : Type 0} (e : EditMeaning E) where
     pub guard_asks : (step : Step) → turn ≡ Ask step → UpdateWaits e (standing m (Guard walk head after)) c h step
     guard_asks step asked = (b, try, first, (begin, record { run = x.run; small = x.small; may = x.may; rests = x.rests; quiet = x.quiet; none_filled = x.none_filled; same = x.same; same_way = x.same_way; asked = x.asked; at = x.at; root = x.root; told = x.told; is_two = two; now = x.now; since = x.since }, rw asked at w))
 
-    pub guard_walks : Walks e m d h walk.way walk.goal
-    guard_walks = record { small = x.small; may = x.may; rests = x.rests; quiet = x.quiet; none_filled = x.none_filled; same = x.same; same_way = x.same_way }
+    pub guard_walks : (snap : Snap) → Walks e (record m { guard = snap }) d h walk.way walk.goal
+    guard_walks snap = record { small = x.small; may = x.may; rests = x.rests; quiet = x.quiet; none_filled = x.none_filled; same = x.same; same_way = x.same_way }
 
     -- the walk continues with the root's head, as one of the call or of that from its guard on
     told_then : (k : Call) → k.layout ≡ c.layout → IsOwnMoment k h → WalkIsTold walk k h head
@@ -166,10 +166,10 @@ module _ {E : Type 0} (e : EditMeaning E) where
       own.before,
       record {
         row = own.row;
-        within = inl own.is;
+        within = subst (λ k. Extends k (own.row ⊳ own.before)) (sym own.is) (ends_self (own.row ⊳ own.before));
         since = own.since;
         is = subst (λ k. IsSnapshot c.layout k 2 snap) own.is (subst (λ n. IsSnapshot c.layout h n snap) two (rw done at w).0);
-        met = subst (λ k. HasFoundThere c.pass k b 2 snap.scx.0) own.is (there_wider c.pass h begin b 2 snap.scx.0 x.since (subst (λ n. HasFoundThere c.pass h begin n snap.scx.0) two (rw done at w).1));
+        met = subst (λ k. HasFoundThere c.pass k b 2 snap.scx.0) own.is (there_wider c.pass h begin b 2 snap.scx.0 x.since (subst (λ n. HasFoundThere c.pass h begin n snap.scx.0) two (rw done at w).2));
       },
       told_then (begun_at d own.before) refl record { row = own.row; before = own.before; is = own.is; since = ends_self own.before; own = own.own },
     )

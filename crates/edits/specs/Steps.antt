@@ -39,6 +39,11 @@ looks_from true walks.Start n = suc n
 looks_from true walks.Root n = suc n
 looks_from true _ n = n
 
+-- whether it continues with its guard behind this place
+abbrev pub is_for_guard : Bool → WalkAt → Bool
+is_for_guard guard walks.Root = guard
+is_for_guard guard _ = false
+
 -- and once it goes on from this place: only from its start it comes to the root's head
 abbrev pub looks_on : Bool → WalkAt → ℕ → ℕ
 looks_on true walks.Start n = suc n

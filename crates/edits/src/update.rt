@@ -184,8 +184,8 @@ impl<E: Edit + Drop> UpdateRun<E, UpdateAt> {
     ghost use Rattle.std.specs.Prelude.{None, Some, Ok};
     ghost use Rattle.template.specs.Walk.Known.{WalkIsTold};
     ghost use Rattle.template.specs.Trails.{IsOwnMoment};
-    ghost use Rattle.edits.specs.Known.{Guarded, Guards, Walks, IsFilledUpTo, UpdateIsReady};
-    ghost use Rattle.edits.specs.Steps.{UpdateFits, fills_left, looks_on, pieces_now};
+    ghost use Rattle.edits.specs.Known.{Guarded, Guards, Walks, WalksGuarded, IsFilledUpTo, UpdateIsReady};
+    ghost use Rattle.edits.specs.Steps.{UpdateFits, fills_left, is_for_guard, looks_from, looks_on, pieces_now};
     ghost use Rattle.arena.specs.History.{History};
     ghost use Rattle.arena.specs.Machines.{Call, IsRun, begun_at};
     ghost use Rattle.prims.specs.Llx.Known.{LlxIsReady};
@@ -235,6 +235,40 @@ impl<E: Edit + Drop> UpdateRun<E, UpdateAt> {
         }
         self.tries -= 1;
         self.begin_walk()
+    }
+
+    /// Whether it continues with its guard behind this step of its walk.
+    fn begins_guard(&self, walk: &WalkRun) -> bool
+        ensures { result ≡ is_for_guard (E.means.guard self.now.edit) walk.now.at }
+    {
+        match walk.at {
+            WalkAt::Root => self.edit.guard(),
+            _ => false,
+        }
+    }
+
+    /// Continues with what the last step of the walk found: behind the root's head with its guard, if
+    /// it has one.
+    fn walked(&mut self, walk: WalkRun, got: Option<u64>) -> Turn<Updated>
+        ensures turn { (c : Call) (b h : History) (v : ℕ) → got ≡ Some v → IsRun TreeAllows c.layout h
+            → IsTry c b h self.old.limit self.old.tries → IsUntouched c b self.old.share
+            → Walks E.means self.old (begun_at c b) h walk.way walk.goal → WalkIsTold walk (begun_at c b) h v
+            → WalksGuarded E.means self.old (begun_at c b) h walk.at (λ (k : Call). WalkIsTold walk k h v)
+            → UpdateTurn E.means c h self.new result }
+        ensures same { IsSameUpdate self.old self.new }
+        ensures nearer { (nodes : ℕ) → WalkFits walk got nodes
+            → IsNearer E.means self.new nodes result
+            (self.old.tries * try_left E.means self.old.edit nodes +
+            (steps_left walk nodes + (64 * looks_from (E.means.guard self.old.edit) walk.at (E.means.most_looks self.old.edit)
+            + most_works E.means self.old.edit + 39))) }
+        ensures spends { IsSpending E.means result self.old.share self.new (self.old.tries + 1) (self.old.tries + 1) }
+        ensures tries { (self.old.tries ≤ self.new.tries + 1) × (self.new.tries ≤ self.old.tries) }
+    {
+        if self.begins_guard(&walk) {
+            self.begin_guard(walk, got.unwrap_or(0))
+        } else {
+            self.walk_on(walk, got)
+        }
     }
 
     /// Begins the LLX of its guard, where the load of the root's head has found this.
@@ -541,10 +575,7 @@ impl<E: Edit + Drop> UpdateRun<E, UpdateAt> {
     {
         match self.at {
             UpdateAt::Start => self.begin_walk(),
-            UpdateAt::Walk { walk } => match walk.at {
-                WalkAt::Root if self.edit.guard() => self.begin_guard(walk, got.unwrap_or(0)),
-                _ => self.walk_on(walk, got),
-            },
+            UpdateAt::Walk { walk } => self.walked(walk, got),
             UpdateAt::Guard { walk, head, llx } => self.guard_on(walk, head, llx, got),
             UpdateAt::Look { found, llx } => self.look_on(found, llx, got),
             UpdateAt::Read { found, node, part } => {

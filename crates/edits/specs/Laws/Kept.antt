@@ -74,7 +74,7 @@ guarded_more e ed c h r snap P Q go x is = let y = x is in (y.0, kept_more c h r
 
 -- as the leaf is that it has found
 pub found_guarded_more : {E : Type 0} (e : EditMeaning E) (ed : E) (c : Call) (h : History) (r : Row) (snap : Snap) (f : Found) → IsMapRun c.layout h → IsRun TreeAllows c.layout (r ⊳ h) → Guarded e ed c h snap (λ k. FoundBy (e.way ed) (e.goal ed) k h f) → Guarded e ed c (r ⊳ h) snap (λ k. FoundBy (e.way ed) (e.goal ed) k (r ⊳ h) f)
-found_guarded_more e ed c h r snap f run run_now = guarded_more e ed c h r snap _ _ (λ g. found_by_more (begun_at c g) h r (e.goal ed) f run run_now (e.way ed))
+found_guarded_more e ed c h r snap f run run_now = guarded_more e ed c h r snap (λ k. FoundBy (e.way ed) (e.goal ed) k h f) (λ k. FoundBy (e.way ed) (e.goal ed) k (r ⊳ h) f) (λ g. found_by_more (begun_at c g) h r (e.goal ed) f run run_now (e.way ed))
 
 -- snapshots may be used for ever
 pub usable_more : (c : Call) (h : History) (r : Row) (way : Way) (goal : Goal) (f : Found) (snaps : List Snap) → AreUsable c h way goal f snaps → AreUsable c (r ⊳ h) way goal f snaps

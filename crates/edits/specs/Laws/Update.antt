@@ -129,7 +129,7 @@ module _ {E : Type 0} (e : EditMeaning E) where
   kept_at m c h s r (Walk walk) run other w = (
     walks_by_others m c h r walk.way walk.goal run other w.0,
     walk_keeps walk c h s r run other w.1,
-    λ past. guarded_more e m.edit c h r m.guard _ _ (λ g. walk_keeps walk (begun_at c g) h s r run other) (w.2 past),
+    λ past. guarded_more e m.edit c h r m.guard (λ k. WalkWaits walk k h s) (λ k. WalkWaits walk k (r ⊳ h) s) (λ g. walk_keeps walk (begun_at c g) h s r run other) (w.2 past),
   )
   kept_at m c h s r (Guard walk head llx) run other w = (w.0, guards_more m c h r walk head llx w.0 run (rests_by_others c h r m.share run.lawful other w.1.rests) (λ own. absurd (other own)) w.1, llx_keeps TreeAllows llx (begun_at c w.0) h s r run other w.2)
   kept_at m c h s r (Look f llx) run other w = (w.0, looks_by_others m c h r f llx w.0 run other w.1, llx_keeps TreeAllows llx (begun_at c w.0) h s r run other w.2)
@@ -308,7 +308,7 @@ module _ {E : Type 0} (e : EditMeaning E) where
 
     -- past the root's head it continues
     goes_past : IsPastRoot walk.at → IsTry c b h m.limit m.tries → WalkThen
-    goes_past past try = (b, try_more c b h (row_of c s h) m.limit m.tries (own_begins_none c s h (walk_begins_none walk (begun_at c b) h s past w)) try, first, (walks_then, walk_made walk (begun_at c b) h s v run t w, λ past. guarded_more e m.edit (begun_at c b) h (row_of c s h) m.guard _ _ (λ g. walk_made walk (begun_at (begun_at c b) g) h s v run t) (guarded past)))
+    goes_past past try = (b, try_more c b h (row_of c s h) m.limit m.tries (own_begins_none c s h (walk_begins_none walk (begun_at c b) h s past w)) try, first, (walks_then, walk_made walk (begun_at c b) h s v run t w, λ past. guarded_more e m.edit (begun_at c b) h (row_of c s h) m.guard (λ k. WalkWaits walk k h s) (λ k. WalkIsReady walk k after (Some v)) (λ g. walk_made walk (begun_at (begun_at c b) g) h s v run t) (guarded past)))
 
     begins_try_now : walk.at ≡ walks.Root → MayTry c b h m.limit m.tries → WalkThen
     begins_try_now at may = (

@@ -35,8 +35,8 @@ no_trie tree trie = absurd (let x : TreeMode ≡ TrieMode = sym tree ∙ trie in
 
 -- What it looks at
 
--- What is known of what was found at a key, and of this leaf, which is covered besides the fork above that:
--- that fork is surely on the path of the key, and the leaf was in the tree, and not final.
+-- What is known of what was found at a key, and of this leaf, which is covered besides the fork above
+-- that: that fork is surely on the path of the key, and the leaf was in the tree, and not final.
 pub record IsCovering (k : ℕ) (c : Call) (h : History) (f : Found) (next : NodeNo) : Type 0 where
   pub trail : OnTrail c h k f.trail
   pub below : f.trail.node.0 ≢ 0
@@ -123,8 +123,8 @@ leaf_differs k c h way f next (p ∷ []) n s run x e quiet = rw (sym other.1, sy
     apart : (child_of p f.trail.side).0 ≢ f.trail.node.0
     apart q = let d : false ≡ true = sym other.0 ∙ eq-eqb (child_of p f.trail.side).0 f.trail.node.0 q in cc
 
--- once it has looked at enough, it has a snapshot of the parent and one of the leaf, and what was found is
--- still the parent's child
+-- once it has looked at enough, it has a snapshot of the parent and one of the leaf, and what was
+-- found is still the parent's child
 pub record HasBoth (f : Found) (next : NodeNo) (snaps : List Snap) : Type 0 where
   pub two : length snaps ≡ 2
   pub parent : (snap_at snaps 0).node.0 ≡ f.trail.parent.0

@@ -1,40 +1,37 @@
 -- What a delete looks at, reads and fills, and that it makes the edit.
-use Rattle.std.proofs.Common.{◌≡◌, ◌≢◌, ℕ, zero, suc, ◌+◌, ◌*◌, ◌/◌, ◌%◌, ◌^◌, ◌<◌, ◌≤◌, ◌⊎◌, inl, inr, ⊎_elim, Bool, true, false, ◌==◌, eqb-true, eq-eqb, ne_eqb, lt-ltb, cond, if◌then◌else◌, List, [], ◌∷◌, length, take, Option, Some, None, refl, sym, ◌∙◌, ap, subst, arith}
-use Rattle.std.proofs.Common.{IsTrue, unwrap_or, IfSome, ltb-true}
+use Rattle.std.proofs.Common.{◌≡◌, ◌≢◌, ℕ, zero, suc, ◌+◌, ◌^◌, ◌<◌, ◌≤◌, ◌⊎◌, inl, inr, ⊎_elim, Bool, true, false, ◌==◌, eqb-true, eq-eqb, ne_eqb, lt-ltb, cond, if◌then◌else◌, List, [], ◌∷◌, length, take, Option, Some, None, refl, sym, ◌∙◌, ap, subst, arith}
+use Rattle.std.proofs.Common.{IsTrue, unwrap_or, ltb-true}
 use Rattle.std.proofs.Math.Decide.{dec_lt}
-use Rattle.std.proofs.lemmas.Nat.{mul-le}
 use native.Mathlib.Decide.{ℕ_discrete}
 use Rattle.arena.specs.declared.head.Head.{Head as HeadParts}
 use Rattle.histories.specs.Common.{NodeNo, ScxNo, Settled, Child, Head, Key, Side, Left, Right, Slot, First as FirstSlot, IsInField, head_of, History, ◌⊳◌}
 use Rattle.histories.specs.Common.{value, Extends, Call, IsPlan, count, count_of, member, taken_nodes, node, child, first_key, first_value, Descriptor}
-use Rattle.arena.specs.Heads.{head_word}
-use Rattle.arena.specs.ScxRecords.{bit}
-use Rattle.arena.proofs.Lemmas.{ends_self, taken_few}
+use Rattle.arena.proofs.Lemmas.{ends_self}
 use Rattle.prims.specs.Laws.Idle.{IsQuietSince}
 use Rattle.prims.specs.Laws.Linked.{IsLinked, in_field_named, linked_since}
-use Rattle.template.specs.Common.{IsOpened, IsUpdateOver, Job, Says, child_of, snap_at, AreDistinct, Snap, Update, Pair, AllBelow, Delete as TakeEdit}
-use Rattle.template.specs.Common.{IsRising, delete, pair, held_pairs, IsWellCounted, WasInTree, IsMapRun, join_plan, leaf_plan, edit_leaf}
+use Rattle.template.specs.Common.{IsOpened, IsUpdateOver, Job, Says, child_of, snap_at, AreDistinct, Snap, Update, Delete as TakeEdit}
+use Rattle.template.specs.Common.{delete, WasInTree, IsMapRun, join_plan, leaf_plan, edit_leaf}
 use Rattle.template.specs.Common.{sibling_place, class, is_leaf, level, opposite, toward, FoundBy, HasFoundLeaf, IsPromised, HasTurned, Key as ToKey, End, IsContended, WasNotFinal}
 use Rattle.ordered_map.specs.TreeShape.{leaf_place}
 use Rattle.ordered_map.specs.Edits.{IsSwapBy}
 use Rattle.ordered_map.specs.Paths.{HasHadChild}
-use Rattle.ordered_map.proofs.Lemmas.{counted_few, held_count, held_first, leaf_taken_out, settled_toward}
-use Rattle.ordered_map.proofs.MapLemmas.{root_head, run_since, stood_blank, stood_counted, stood_depth, stood_settled, walked_stood}
+use Rattle.ordered_map.proofs.Lemmas.{leaf_taken_out, settled_toward}
+use Rattle.ordered_map.proofs.MapLemmas.{root_head, run_since, stood_settled, walked_stood}
 use Rattle.template.specs.FreshNodes.{IsJoinAt, FitsThere, HasFreshCopy}
 use Rattle.template.specs.Promises.{IsSnapOf, HasFreshEdit}
 use Rattle.template.specs.declared.walk.Found.{Found}
 use Rattle.template.specs.declared.walk.Way.TheVariants.{InTree}
 use Rattle.template.specs.Trails.{IsSurelyOn}
-use Rattle.template.proofs.Lemmas.{edit_promised, found_below, found_level, grand_surely, join_fits_there, join_promised, no_deeper, opened_if_stood, parent_surely, said_low, swap_fits_there}
+use Rattle.template.proofs.Lemmas.{edit_promised, found_below, grand_surely, join_fits_there, join_promised, opened_if_stood, parent_surely, said_low, swap_fits_there}
 use Rattle.tree.specs.LeafEdit.{leaf_looks, leaf_reads}
 use Rattle.tree.specs.declared.take.TakePair.{TakePair}
 use Rattle.tree.specs.Take.Laws.{take_bounds}
 use Rattle.tree.specs.Take.Means.{copied_pairs, copy_with, take_means, take_plan, take_way, take_work, work_by, take_reads, has_more, join_looks, sibling_of, sibling_copy}
 use Rattle.tree.specs.Laws.Take.Shown.{shown_stood, shown_rises, shown_apart}
-use Rattle.tree.specs.Laws.LeafLooks.{HasBoth, IsCovering, class_is, covering_leaf, has_both, held_is, is_leaf_edit, leaf_begins, field_shown, leaf_covered, leaf_differs, leaf_over, leaf_stood, leaf_there, many, pairs_are}
+use Rattle.tree.specs.Laws.LeafLooks.{HasBoth, IsCovering, covering_leaf, has_both, is_leaf_edit, leaf_begins, field_shown, leaf_covered, leaf_differs, leaf_over, leaf_stood, leaf_there}
 use Rattle.tree.specs.Laws.Put.Stands.{found_leaf}
 use Rattle.tree.specs.Laws.Looks.{same_node, goes_on, not_enough, is_other}
-use Rattle.tree.specs.Laws.PairLists.{delete_least, delete_most}
+use Rattle.tree.specs.Laws.Take.Made.{fresh_copy, fresh_swap}
 use Rattle.edits.specs.declared.edit.Look.{Look as LookOf}
 use Rattle.edits.specs.declared.edit.Look.TheVariants.{At, Differs, Enough}
 use Rattle.edits.specs.declared.edit.Nodes.{Nodes}
@@ -43,13 +40,12 @@ use Rattle.edits.specs.declared.piece.Piece.TheVariants.{Leaf, Fork}
 use Rattle.edits.specs.declared.reading.Reading.{Reading}
 use Rattle.edits.specs.Known.{AreSeen, AreUsable, HasSnappedAfterWalk, HasLooked, HasFilledAll, HoldsPiece, MayRead, covered}
 use Rattle.edits.specs.Laws.Contended.{passed_not_final, shown_not_final, turned_contended}
-use Rattle.edits.specs.Laws.PieceFills.{HoldsWords, the_same}
-use Rattle.edits.specs.Pairs.{pair_at}
-use Rattle.edits.specs.Pieces.{is_filled, piece_head, top_of, update_for, word_of}
-use Rattle.edits.specs.Readings.{is_leaf_read, next_read, nothing_read, slot_read}
+use Rattle.edits.specs.Laws.PieceFills.{the_same}
+use Rattle.edits.specs.Pieces.{is_filled, top_of, update_for, word_of}
+use Rattle.edits.specs.Readings.{nothing_read}
 use Rattle.edits.specs.Tries.{CoversSnaps}
 use Rattle.edits.specs.Sound.{LooksWell, FillsWell, MakesWell, EditLaws}
-use Rattle.edits.proofs.Lemmas.{IsLeafWith, fork_read, head_is, head_read, leaf_read, leaf_with, unread}
+use Rattle.edits.proofs.Lemmas.{unread}
 
 -- the snapshots are of the nodes that the looks name which are to take a leaf out
 abbrev JoinSeen : Found → List Snap → Type 0
@@ -446,25 +442,6 @@ take_fills = record { fields = λ e c h f snaps ns read nth side run x enough n 
 
 -- What it makes
 
--- the word of a head that was read is that word
-bit_back : (b : ℕ) → b < 2 → bit (b == 1) ≡ b
-bit_back b few = go (ℕ_discrete b 1)
-  where
-    go : Dec (b ≡ 1) → bit (b == 1) ≡ b
-    go (yes e) = rw e refl
-    go (no d) = rw (ne_eqb b 1 d) (omega (arith, few, d))
-
-head_back : (w : ℕ) → w / 8 < 2 ^ 61 → piece_head (w / 8) (w / 4 % 2 == 1) (w % 4) ≡ w
-head_back w fits = head_is (w / 8) (w % 4) (w / 4 % 2 == 1) fits (omega arith) ∙ whole
-  where
-    whole : head_word (head_of w) ≡ w
-    whole = let b : bit (w / 4 % 2 == 1) ≡ w / 4 % 2 = bit_back (w / 4 % 2) (omega arith) in omega (arith, b)
-
--- what is not read of a key that is 0 is taken to be 0
-blank_key : (o : Option ℕ) (w : ℕ) → IfSome o (λ k. w ≡ k) → w ≡ 0 → unwrap_or o 0 ≡ 0
-blank_key None w is e = refl
-blank_key (Some k) w is e = sym is ∙ e
-
 module _ (ed : TakePair) (c : Call) (h : History) (f : Found) (snaps : List Snap) (ns : Nodes) (read : Reading) (run : IsMapRun c.layout h) (needed : 0 < (take_work f).need) (x : HasFilledAll take_means c h ed f snaps ns read) where
   present : (old : ℕ) × (f.value ≡ Some old)
   present = key_there f.value (take_plan f) needed
@@ -486,57 +463,20 @@ module _ (ed : TakePair) (c : Call) (h : History) (f : Found) (snaps : List Snap
     abbrev old_leaf : ℕ
     old_leaf = f.trail.node.0
 
-    abbrev old_pairs : List Pair
-    old_pairs = held_pairs (value h) old_leaf
-
     both : HasBoth f f.trail.node snaps
     both = has_both f f.trail.node snaps (rw t at x.enough) looked.seen
-
-    read_is : read.pairs ≡ old_pairs
-    read_is = pairs_are ed.key c h f run found low read (rw t at x.right) x.whole
-
-    held : IsWellCounted (value h) old_leaf × AllBelow (2 ^ 64) old_pairs × IsRising old_pairs
-    held = held_is ed.key c h f run found low
-
-    -- as many are left as a leaf may hold
-    least : 0 < length (delete ed.key old_pairs)
-    least =
-        let m : length old_pairs ≡ 1 + f.more = many ed.key c h f run found low in
-        let some : 0 < f.more = ltb-true 0 f.more t in
-        let l = delete_least ed.key old_pairs in
-        omega (arith, m, some, l)
-
-    most : length (delete ed.key old_pairs) ≤ 4
-    most =
-        let m = held_count (value h) old_leaf held.0 in
-        let few = counted_few (value h) old_leaf held.0 in
-        let l = delete_most ed.key old_pairs in
-        omega (arith, m, few, l)
 
     p : HoldsPiece c h ns.first.0 (Leaf f.head.level 0 (delete ed.key read.pairs))
     p = rw t at (x.holds First needed)
 
-    pairs_left : delete ed.key read.pairs ≡ delete ed.key old_pairs
-    pairs_left = ap (delete ed.key) read_is
-
-    now : IsLeafWith (value h) ns.first.0 f.head.level 0 (delete ed.key read.pairs)
-    now = leaf_with h ns.first.0 f.head.level f.head.level 0 (delete ed.key read.pairs) refl (let a = found_level (ToKey ed.key) c h f run found in omega (arith, a)) (omega arith) p.words
-        (subst (λ ps. 0 < length ps) (sym pairs_left) least) (subst (λ ps. length ps ≤ 4) (sym pairs_left) most)
-
     swap : IsSwapBy (value h) (TakeEdit ed.key) old_leaf ns.first.0
-    swap = record {
-      leaf = found.leaf;
-      class = class_is ed.key c h f run found low;
-      new = record { leaf = now.leaf; class = now.class; counted = now.counted };
-      pairs = now.pairs ∙ pairs_left;
-      deep = now.level ∙ sym (ap (λ w. w.level) found.head);
-    }
+    swap = fresh_swap ed.key c h f read ns.first.0 run found low (ltb-true 0 f.more t) (rw t at x.right) x.whole p
 
     made : HasFreshEdit c.layout c.pass h (TakeEdit ed.key) old_leaf ns.first.0
     made = record {
       fresh = p.fresh;
       edit = inl swap;
-      below = λ fork. absurd (let z : true ≡ false = sym now.leaf ∙ fork in cc);
+      below = λ fork. absurd (let z : true ≡ false = sym swap.new.leaf ∙ fork in cc);
     }
 
     surely : IsSurelyOn c h ed.key f.trail.parent.0
@@ -575,106 +515,8 @@ module _ (ed : TakePair) (c : Call) (h : History) (f : Found) (snaps : List Snap
         go (no n) = omega (arith, n)
 
     -- the copy
-    abbrev w : ℕ
-    w = value h (node z_node (Settled Head))
-
-    right : MayRead c.layout h z_node read
-    right = rw t at x.right
-
-    whole : next_read read ≡ None
-    whole = x.whole
-
-    fits : w / 8 < 2 ^ 61
-    fits =
-        let deep : level (value h) z_node < 67 + length (taken_nodes h) = no_deeper c.layout.mode (length (taken_nodes h)) (level (value h) z_node) (stood_depth c.layout h z_node run in_tree) in
-        let few : length (taken_nodes h) ≤ c.layout.passes * c.layout.nodes = taken_few c.layout h run.1.lawful in
-        let most : c.layout.passes * c.layout.nodes ≤ 32 * 32768 = mul-le c.layout.passes c.layout.nodes 32 32768 c.layout.passes_fit c.layout.nodes_fit in
-        omega (arith, deep, few, most)
-
-    is_head : read.head ≡ Some (head_of w)
-    is_head = head_read (value h) z_node read right.is whole
-
-    copied : HoldsPiece c h n_node (copy_with sibling (head_of w) read)
-    copied = subst (λ (o : Option HeadParts). HoldsPiece c h n_node (copy_with sibling (unwrap_or o (head_of 0)) read)) is_head (rw t at (x.holds First needed))
-
-    blank : class (value h) z_node ≢ 0 → value h (node z_node first_key) ≡ 0
-    blank high = stood_blank c.layout h z_node run in_tree high
-
-    -- of a leaf
-    module _ (leaf : is_leaf (value h) z_node ≡ true) where
-      abbrev ps : List Pair
-      ps = copied_pairs (w % 4) read
-
-      leaf_words : HoldsWords h n_node (Leaf (w / 8) (w % 4) ps)
-      leaf_words = rw leaf at copied.words
-
-      low_copied : class (value h) z_node ≡ 0 → ps ≡ read.pairs
-      low_copied is_low = rw (eq-eqb (w % 4) 0 is_low) refl
-
-      high_copied : class (value h) z_node ≢ 0 → ps ≡ pair 0 0 ∷ []
-      high_copied high = rw (ne_eqb (w % 4) 0 high) refl
-
-      low_pairs_are : class (value h) z_node ≡ 0 → ps ≡ held_pairs (value h) z_node
-      low_pairs_are is_low = low_copied is_low ∙ leaf_read (value h) z_node read right.is whole is_low leaf
-
-      leaf_copied : class (value h) z_node ≡ 0 → IsLeafWith (value h) n_node (w / 8) (w % 4) ps
-      leaf_copied is_low =
-          let counted = stood_counted c.layout h z_node run in_tree leaf is_low in
-          let m = held_count (value h) z_node counted in
-          let few = counted_few (value h) z_node counted in
-          leaf_with h n_node (w / 8) (w / 8) (w % 4) ps refl fits (omega arith) leaf_words
-          (subst (λ qs. 0 < length qs) (sym (low_pairs_are is_low)) (omega (arith, m))) (subst (λ qs. length qs ≤ 4) (sym (low_pairs_are is_low)) (omega (arith, m, few)))
-
-      leaf_key : Dec (class (value h) z_node ≡ 0) → value h (node n_node first_key) ≡ value h (node z_node first_key)
-      leaf_key (yes is_low) = (leaf_copied is_low).key ∙ ap (λ qs. (pair_at qs 0).key) (low_pairs_are is_low ∙ (held_first (value h) z_node).is)
-      leaf_key (no high) = leaf_words first_key tt ∙ ap (λ qs. (pair_at qs 0).key) (high_copied high) ∙ sym (blank high)
-
-      leaf_copy : HasFreshCopy c.layout c.pass h sibling n_node
-      leaf_copy = record {
-        fresh = copied.fresh;
-        copy = record {
-          same_head = leaf_words (Settled Head) tt ∙ ap (λ b. piece_head (w / 8) b (w % 4)) (sym leaf) ∙ head_back w fits;
-          same_key = leaf_key (ℕ_discrete (class (value h) z_node) 0);
-          same_pairs = λ _ is_low. ((leaf_copied is_low).counted, (leaf_copied is_low).pairs ∙ low_pairs_are is_low);
-        };
-        fields = λ fork side. absurd (let y : true ≡ false = sym leaf ∙ fork in cc);
-        unfilled = λ fork. absurd (let y : true ≡ false = sym leaf ∙ fork in cc);
-      }
-
-    -- or of a fork
-    module _ (fork : is_leaf (value h) z_node ≡ false) where
-      fork_words : HoldsWords h n_node (Fork (w / 8) (w % 4) (unwrap_or read.key 0) sibling.left sibling.right)
-      fork_words = rw fork at copied.words
-
-      at_first : slot_read read ≡ FirstSlot
-      at_first = ap (λ o. unwrap_or o FirstSlot) (right.is.first (ap is_leaf_read is_head ∙ fork))
-
-      fork_key : Dec (class (value h) z_node ≡ 0) → unwrap_or read.key 0 ≡ value h (node z_node first_key)
-      fork_key (yes is_low) = fork_read (value h) z_node read right.is whole is_low fork
-      fork_key (no high) = blank_key read.key (value h (node z_node first_key)) (subst (λ (s : Slot). IfSome read.key (λ k. value h (node z_node (Settled (Key s))) ≡ k)) at_first right.is.key) (blank high) ∙ sym (blank high)
-
-      field_is : (side : Side) → value h (child n_node side) ≡ (child_of sibling side).0
-      field_is Left = fork_words (Child Left) tt
-      field_is Right = fork_words (Child Right) tt
-
-      fork_copy : HasFreshCopy c.layout c.pass h sibling n_node
-      fork_copy = record {
-        fresh = copied.fresh;
-        copy = record {
-          same_head = fork_words (Settled Head) tt ∙ ap (λ b. piece_head (w / 8) b (w % 4)) (sym fork) ∙ head_back w fits;
-          same_key = fork_words first_key tt ∙ fork_key (ℕ_discrete (class (value h) z_node) 0);
-          same_pairs = λ leaf _. absurd (let y : true ≡ false = sym leaf ∙ fork in cc);
-        };
-        fields = λ _ side. field_is side;
-        unfilled = λ _. fork_words first_value tt;
-      }
-
     copy : HasFreshCopy c.layout c.pass h sibling n_node
-    copy = go (is_leaf (value h) z_node) refl
-      where
-        go : (b : Bool) → is_leaf (value h) z_node ≡ b → HasFreshCopy c.layout c.pass h sibling n_node
-        go true leaf = leaf_copy leaf
-        go false fork = fork_copy fork
+    copy = fresh_copy c h sibling read n_node run in_tree (rw t at x.right) x.whole (rw t at (x.holds First needed))
 
     -- it fits where the parent is
     parent_used_then : HasSnappedAfterWalk c h InTree (ToKey ed.key) f (snap_at snaps 1)

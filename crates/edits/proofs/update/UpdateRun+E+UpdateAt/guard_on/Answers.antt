@@ -1,4 +1,8 @@
-use Rattle.std.proofs.Common.{◌∙◌, ap, refl}
+use Rattle.std.proofs.Common.{◌∙◌, ap, refl, subst, sym}
+use Rattle.template.specs.Common.{WalkIsTold}
+use Rattle.edits.specs.Known.{Guarded, IsUntouched, Walks}
+use Rattle.edits.specs.Tries.{IsTry}
+use Rattle.edits.specs.declared.update.UpdateRun.{UpdateRun}
 use Rattle.histories.specs.Common.{begun_at, Done}
 use Rattle.edits.proofs.Blaming.{guard_failed, guard_finalized}
 use Rattle.edits.proofs.Nearer.{behind_root, below, guard_nearer, to_tries}
@@ -9,7 +13,7 @@ pub returns-in-Ask-clause-nearer : goal.returns-in-Ask-clause-nearer
 returns-in-Ask-clause-nearer g c nodes at fits = guard_nearer _ _ _ _ _ (rw c.in-Ask.is at c.next.ensures.nearer nodes tt)
 
 pub returns-in-Done-Snapshot-clause-nearer : goal.returns-in-Done-Snapshot-clause-nearer
-returns-in-Done-Snapshot-clause-nearer g c nodes at fits = below c.walk_on.result _ _ _ (c.walk_on.ensures.nearer nodes fits) (behind_root (g.E.Edit.means.guard c.args.self.now.edit) c.args.walk.at at _ _ _ _ _)
+returns-in-Done-Snapshot-clause-nearer g c nodes at fits = below c.walk_on.result _ _ _ (rw c.guarded.ensures at (c.walk_on.ensures.nearer nodes fits)) (behind_root (g.E.Edit.means.guard c.args.self.now.edit) c.args.walk.at at _ _ _ _ _)
 
 pub returns-in-Done-Finalized-clause-nearer : goal.returns-in-Done-Finalized-clause-nearer
 returns-in-Done-Finalized-clause-nearer g c nodes at fits = below c.lost.result _ _ _ (c.lost.ensures.nearer nodes) (to_tries _ _)
@@ -26,10 +30,11 @@ returns-in-Done-Snapshot-clause-turn g c d b begin h run try first x ready own =
     let w = c.next.ensures.turn (begun_at (begun_at d b) begin) h run ready in
     let m = c.args.self.now in
     let kept = guard_kept g.E.Edit.means m c.args.walk c.args.head c.args.llx c.next.new.self d b begin h c.next.result try first x c.next.ensures.same w c.in-Done-Snapshot.snap (c.in-Done-Snapshot.is ∙ ap (λ a. Done a) c.in-Done-Snapshot.field-0-is) own in
-    c.walk_on.ensures.turn d b h c.args.head refl run try first
-    (guard_walks g.E.Edit.means m c.args.walk c.args.head c.args.llx c.next.new.self d b begin h c.next.result try first x c.next.ensures.same w)
+    let same = sym c.guarded.ensures in
+    c.walk_on.ensures.turn d b h c.args.head refl run (subst (λ (n : UpdateRun _ _). IsTry d b h n.limit n.tries) same try) (subst (λ (n : UpdateRun _ _). IsUntouched d b n.share) same first)
+    (subst (λ (n : UpdateRun _ _). Walks g.E.Edit.means n (begun_at d b) h c.args.walk.way c.args.walk.goal) same (guard_walks g.E.Edit.means m c.args.walk c.args.head c.args.llx c.next.new.self d b begin h c.next.result try first x c.next.ensures.same w _))
     (guard_told g.E.Edit.means m c.args.walk c.args.head c.args.llx c.next.new.self d b begin h c.next.result try first x c.next.ensures.same w own)
-    (rw (← c.in-Done-Snapshot.snap-is) at kept)
+    (subst (λ (n : UpdateRun _ _). Guarded g.E.Edit.means n.edit (begun_at d b) h n.guard (λ k. WalkIsTold c.args.walk k h c.args.head)) same (rw (← c.in-Done-Snapshot.snap-is) at kept))
 
 pub returns-in-Done-Finalized-clause-turn : goal.returns-in-Done-Finalized-clause-turn
 returns-in-Done-Finalized-clause-turn g c d b begin h run try first x ready own =

@@ -14,7 +14,7 @@ returns-in-Ask-clause-nearer g c nodes fits = walked_on (g.E.Edit.means.guard c.
 pub returns-in-Ask-clause-turn : goal.returns-in-Ask-clause-turn
 returns-in-Ask-clause-turn g c d b h v got run try first x told guarded =
     let past = walk_past_root c.args.walk (begun_at d b) h c.next.new.self v run told c.next.ensures.same.1 (λ nodes fits. rw c.in-Ask.is at c.next.ensures.nearer nodes (rw got fits)) in
-    walks_on g.E.Edit.means c.args.self.now c.args.walk c.next.new.self d b h v c.next.result c.in-Ask.step try first x c.next.ensures.same past c.in-Ask.is (λ k told. c.next.ensures.turn k h run (rw got told)) told guarded
+    walks_on g.E.Edit.means c.args.self.now c.args.walk c.next.new.self d b h v c.next.result c.in-Ask.step try first x c.next.ensures.same past c.in-Ask.is (λ k told. c.next.ensures.turn (begun_at d k) h run (rw got told)) told guarded
 
 pub returns-in-Done-clause-turn : goal.returns-in-Done-clause-turn
 returns-in-Done-clause-turn g c d b h v got run try first x told guarded = c.go_on.ensures.turn d h run (c.test_share-next.ensures.turn d b h run try first

@@ -1,10 +1,11 @@
-use Rattle.std.proofs.Common.{◌≡◌, ◌<◌, ◌≤◌, ◌+◌, ◌-◌, List, length, Ok, refl, sym, ap, subst, arith}
+use Rattle.std.proofs.Common.{◌≡◌, ◌<◌, ◌≤◌, ◌+◌, ◌-◌, ◌*◌, List, length, Ok, refl, sym, ap, subst, arith}
 use Rattle.histories.specs.Common.{Ask, begun_at}
 use Rattle.prims.proofs.Lemmas.{turn_start}
 use Rattle.template.specs.Common.{ScxRun, ScxAt, Snap, TreeAllows}
 use Rattle.prims.specs.declared.scx.ScxAt.TheVariants.{Start, Plan}
 use Rattle.edits.specs.Edits.{all_looks}
-use Rattle.edits.specs.Next.{next_step, UpdateGoesOn}
+use Rattle.edits.specs.Next.{next_step, ComesNearer, HasSpentForNext, UpdateGoesOn}
+use Rattle.edits.specs.Steps.{try_left}
 use Rattle.edits.specs.Pieces.{update_for}
 use Rattle.edits.specs.declared.update.UpdateRun.{UpdateRun}
 use Rattle.edits.specs.declared.update.Next.TheVariants.{Change}
@@ -14,7 +15,7 @@ use Rattle.edits.proofs.Nearer.{scx_left_now, scx_for_nodes}
 use Rattle.edits.proofs.update.UpdateRun.take_scx.Goals as goal
 
 pub returns-in-Some-clause-nearer : goal.returns-in-Some-clause-nearer
-returns-in-Some-clause-nearer g c nodes = scx_left_now _
+returns-in-Some-clause-nearer g c nodes = subst (λ (n : UpdateRun _ _). ComesNearer g.E.Edit.means n c.args.found.now (Ok (Change c.in-Some.scx)) nodes (c.args.self.now.tries * try_left g.E.Edit.means c.args.self.now.edit nodes + 39)) (sym c.cover.ensures.same) (scx_left_now _)
 
 pub returns-in-Some-clause-turn : goal.returns-in-Some-clause-turn
 returns-in-Some-clause-turn g c d b h run try x = subst (λ (n : UpdateRun _ _). UpdateGoesOn g.E.Edit.means d h n c.args.found.now (Ok (Change c.in-Some.scx))) (sym c.cover.ensures.same) (
@@ -44,7 +45,7 @@ returns-in-None-clause-turn g c d b h run try x = absurd (let z = (rw c.in-None.
 pub returns-in-Some-clause-spends : goal.returns-in-Some-clause-spends
 returns-in-Some-clause-spends g c left =
     let taken = rw c.in-Some.is at c.scx.ensures.after_taking in
-    rw taken.2 (omega arith, omega (arith, left), scx_for_nodes (g.E.Edit.means.most_nodes c.args.self.now.edit) c.args.self.now.share.nodes c.args.self.now.share.scx c.args.self.now.tries left)
+    subst (λ (n : UpdateRun _ _). HasSpentForNext g.E.Edit.means c.args.self.now.share n c.args.found.now (Ok (Change c.in-Some.scx)) c.args.self.now.tries (c.args.self.now.tries + 1)) (sym c.cover.ensures.same) (rw taken.2 (omega arith, omega (arith, left), scx_for_nodes (g.E.Edit.means.most_nodes c.args.self.now.edit) c.args.self.now.share.nodes c.args.self.now.share.scx c.args.self.now.tries left))
 
 pub returns-in-None-clause-spends : goal.returns-in-None-clause-spends
 returns-in-None-clause-spends g c left = absurd (let z = (rw c.in-None.is at c.scx.ensures.empty).0 in omega (arith, z, left))
