@@ -1,28 +1,27 @@
 -- What words hold at the start.
-use Rattle.std.proofs.Common.{◌≡◌, ℕ, ◌<◌, Bool, true, false, eqb, cond, refl, arith}
-use Rattle.histories.specs.Common.{Mode, Side, Left, Right, Word, opening, opening_nodes, child, Start, value}
-use Rattle.arena.specs.Layout.{is_map, records_opening, tree_opening}
+use Rattle.std.proofs.Common.{◌≡◌, ℕ, ◌<◌, ◌+◌, Bool, true, false, cond, refl, arith, ap, ◌∙◌}
+use Rattle.histories.specs.Common.{Mode, Layout, Word, Opening, opening_nodes, nodes_at_start, History, Opened, value, Lawful}
+use Rattle.arena.specs.Layout.{is_map, IsMap}
 
-pub value_start : (mode : Mode) (w : Word) → value (Start mode) w ≡ opening mode w
+pub value_start : (o : Opening) (w : Word) → value (Opened o) w ≡ o.words w
 unfolding value
-value_start mode w = refl
+value_start o w = refl
 
--- a field mentions a node that was there from the start, and so do the words of SCX-records
-pub opening_field : (mode : Mode) (n : ℕ) (side : Side) → opening mode (child n side) < opening_nodes mode
-opening_field mode n side = of (is_map mode) side
-  where
-    one : (root : Bool) → cond root 1 0 < 3
-    one true = omega arith
-    one false = omega arith
+pub some_open : (mode : Mode) (planted : ℕ) → 0 < nodes_at_start mode planted
+some_open mode planted = elim (is_map mode) as (λ is. 0 < cond is (3 + planted) 9) [ true ↦ omega arith | false ↦ omega arith ]
 
-    two : (root : Bool) → cond root 2 0 < 3
-    two true = omega arith
-    two false = omega arith
+-- a map opens with three nodes and those that are planted
+pub map_nodes : (lay : Layout) → IsMap lay.mode → opening_nodes lay ≡ 3 + lay.planted
+map_nodes lay map = rw map refl
 
-    of : (map : Bool) (side : Side) → cond map (tree_opening (child n side)) (records_opening (child n side)) < cond map 3 9
-    of true Left = one (eqb n 0)
-    of true Right = two (eqb n 0)
-    of false side = omega arith
+-- an opening is one of the layout's mode, with as many planted nodes
+pub start_mode : (lay : Layout) (o : Opening) → Lawful lay (Opened o) → o.mode ≡ lay.mode
+unfolding Lawful
+start_mode lay o l = l.0
 
-pub some_open : (mode : Mode) → 0 < opening_nodes mode
-some_open mode = elim (is_map mode) as (λ is. 0 < cond is 3 9) [ true ↦ omega arith | false ↦ omega arith ]
+pub start_planted : (lay : Layout) (o : Opening) → Lawful lay (Opened o) → o.planted ≡ lay.planted
+unfolding Lawful
+start_planted lay o l = l.1
+
+pub start_nodes : (lay : Layout) (o : Opening) → Lawful lay (Opened o) → nodes_at_start o.mode o.planted ≡ opening_nodes lay
+start_nodes lay o l = ap (λ mode. nodes_at_start mode o.planted) (start_mode lay o l) ∙ ap (nodes_at_start lay.mode) (start_planted lay o l)

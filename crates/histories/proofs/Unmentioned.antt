@@ -44,10 +44,10 @@ unmentioned_by_others lay h r c n l is_pass other own u = record {
 -- At the start
 
 -- at the start no word names a node that is not there yet
-pub unmentioned_start : (mode : Mode) (n : ℕ) → opening_nodes mode ≤ n → IsUnmentioned (Start mode) n
-unmentioned_start mode n late = record {
-  in_no_field = λ m side p. let e = sym (value_start mode (child m side)) ∙ held_start mode (child m side) n p in let i = opening_field mode m side in omega arith;
-  in_no_scx = λ s part i p. let e = sym (opening_scx mode s part (not_state part (names_fill part i))) ∙ held_start mode (scx s part) n p in let some = some_open mode in omega arith;
+pub unmentioned_start : (o : Opening) (n : ℕ) → nodes_at_start o.mode o.planted ≤ n → IsUnmentioned (Opened o) n
+unmentioned_start o n late = record {
+  in_no_field = λ m side p. let e = sym (value_start o (child m side)) ∙ held_start o (child m side) n p in let i = o.fields m side in omega (arith, e, i, late);
+  in_no_scx = λ s part i p. let e = sym (opening_scx o s part (not_state part (names_fill part i))) ∙ held_start o (scx s part) n p in let some = some_open o.mode o.planted in omega (arith, e, some, late);
 }
 
 -- Any row
