@@ -1,7 +1,7 @@
 -- The fields of a node are those that the log says.
 use Rattle.std.proofs.Common.{◌≡◌, ◌≢◌, ℕ, Bool, true, false, cond, ◌&&◌, List, ◌∷◌, refl, sym, ◌∙◌, ap, eq-eqb, ne_eqb}
 use native.Mathlib.Decide.{ℕ_discrete}
-use Rattle.histories.specs.Common.{Mode, Side, Child, Info, Marked, AllFrozen, Word, Node, Layout, Row, Kind, Fill, Freeze, SetFrozen, Mark, Update, Commit, Abort, same_word, node, scx, info}
+use Rattle.histories.specs.Common.{Side, Child, Info, Marked, AllFrozen, Word, Node, Layout, Row, Kind, Fill, Freeze, SetFrozen, Mark, Update, Commit, Abort, same_word, node, scx, info}
 use Rattle.histories.specs.Common.{marked, child, state, History, Opening, Opened, ◌⊳◌, value, plan, side_of, field_index, member, new, field, IsNamed, HasWon, Lawful, Entry, entry, log, is_fill, fields}
 use Rattle.arena.specs.Log.{with_row, filled, field_after}
 use Rattle.arena.proofs.Lemmas.{value_apart, value_quiet, node_word_apart, node_apart}

@@ -19,6 +19,6 @@ pub use Rattle.histories.proofs.Begins.{begins_kept, free_unset, owner_aborts, o
 pub use Rattle.histories.proofs.Shapes.{IsFirst, begins_once, shaped_begin, shaped_more, shaped_since, shaped_tail}
 pub use Rattle.histories.proofs.Unmentioned.{IsMention, unmentioned_by_fill, unmentioned_by_others, unmentioned_by_step, unmentioned_start, unmentioned_unnamed}
 pub use Rattle.histories.proofs.Taking.{finished_taken, named_scx_taken, planned_taken, untaken_by_node, untaken_by_other_fill, untaken_by_others, untaken_by_step}
-pub use Rattle.histories.proofs.Openings.{map_nodes, some_open, start_mode, start_nodes, start_planted, value_start}
+pub use Rattle.histories.proofs.Openings.{map_nodes, some_at_start, some_open, start_mode, start_nodes, start_planted, value_start}
 pub use Rattle.histories.proofs.Keeps.{Kept, stays_ended}
 pub use Rattle.histories.proofs.Members.{is_removed_of}

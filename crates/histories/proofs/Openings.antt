@@ -7,8 +7,11 @@ pub value_start : (o : Opening) (w : Word) → value (Opened o) w ≡ o.words w
 unfolding value
 value_start o w = refl
 
-pub some_open : (mode : Mode) (planted : ℕ) → 0 < nodes_at_start mode planted
-some_open mode planted = elim (is_map mode) as (λ is. 0 < cond is (3 + planted) 9) [ true ↦ omega arith | false ↦ omega arith ]
+pub some_at_start : (mode : Mode) (planted : ℕ) → 0 < nodes_at_start mode planted
+some_at_start mode planted = elim (is_map mode) as (λ is. 0 < cond is (3 + planted) 9) [ true ↦ omega arith | false ↦ omega arith ]
+
+pub some_open : (lay : Layout) → 0 < opening_nodes lay
+some_open lay = some_at_start lay.mode lay.planted
 
 -- a map opens with three nodes and those that are planted
 pub map_nodes : (lay : Layout) → IsMap lay.mode → opening_nodes lay ≡ 3 + lay.planted

@@ -1,7 +1,7 @@
 -- A node of a pass's own share that is not named is its own: rows of others leave its words, and do
 -- not name it.
 use Rattle.std.proofs.Common.{◌≡◌, ◌≢◌, ℕ, ◌<◌, Bool, true, false, ◌⊎◌, inl, inr, ⊎_elim, refl, sym, ◌∙◌, arith, subst}
-use native.Mathlib.Decide.{ℕ_discrete}
+use native.Mathlib.Decide.{ℕ_discrete, dec_lt}
 use Rattle.histories.specs.Common.{Layout, Side, NodeWord, Child, Info, Marked, ScxWord, State, AllFrozen, Plan, New, Old, Member, Seen, Row}
 use Rattle.histories.specs.Common.{nodes_at_start, same_word, node, scx, info, marked, child, state, History, Opening, Opened, ◌⊳◌, value, HasHeld, plan, side_of, member, new}
 use Rattle.histories.specs.Common.{field_index, field, IsOwnNode, IsOwnScx, IsNamed, opening_node, by_field, by_scx, IsInField, IsNamedScx, MayFill, Lawful, descriptor}
@@ -36,7 +36,11 @@ written_more r m n (inr (inr x)) = inr (inr (x.0, x.1, λ o. named_more r (x.2 o
 -- a field that is not 0 at the start is of a node that is there
 opening_field : (o : Opening) (m : ℕ) (side : Side) → (value (Opened o) (child m side) ≡ 0) ⊎ (m < nodes_at_start o.mode o.planted)
 unfolding value
-opening_field o m side = ⊎_elim inr (λ late. inl (o.beyond m (Child side) late)) (lt_or_le m (nodes_at_start o.mode o.planted))
+opening_field o m side = go (dec_lt m (nodes_at_start o.mode o.planted))
+  where
+    go : Dec (m < nodes_at_start o.mode o.planted) → (o.words (child m side) ≡ 0) ⊎ (m < nodes_at_start o.mode o.planted)
+    go (yes i) = inr i
+    go (no d) = inl (o.beyond m (Child side) (omega (arith, d)))
 
 pub field_written : (lay : Layout) (h : History) (m : ℕ) (side : Side) (n : ℕ) → Lawful lay h → HasHeld h (child m side) n → IsWritten lay h m n
 field_written lay (Opened o) m side n l p =
@@ -131,7 +135,7 @@ module _ (lay : Layout) (h : History) (r : Row) (c : ℕ) (l : Lawful lay (r ⊳
   others d n e o = record { pass = c; is_pass = is_pass; is_other = λ q. e (sym q); owns = o }
 
   zero_named : (n : ℕ) → n ≡ 0 → IsNamed lay h n
-  zero_named n e = opening_node (rw e (some_open lay.mode lay.planted))
+  zero_named n e = opening_node (rw e (some_open lay))
 
   -- a field of another comes to name a node only where the node was named, or was in that field
   -- before
