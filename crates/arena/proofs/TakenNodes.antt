@@ -85,7 +85,7 @@ few_at_start mode planted = elim (is_map mode) as (λ is. (cond is (3 + 0) 9 ≤
 
 are_taken : (lay : Layout) (h : History) → Lawful lay h → AreTaken (nodes_at_start lay.mode 0) (most_taken lay) (taken_nodes h)
 unfolding Lawful taken_nodes
-are_taken lay (Opened o) l = subst (λ mode. AreTaken (nodes_at_start mode 0) (most_taken lay) (first_planted (nodes_at_start o.mode 0) o.deep)) l.0 record { between = planted_between (nodes_at_start o.mode 0) o.deep (most_taken lay) (let few = o.few in let same = l.1 in omega (arith, few, same)); distinct = planted_distinct (nodes_at_start o.mode 0) o.deep }
+are_taken lay (Opened o) l = subst (λ mode. AreTaken (nodes_at_start mode 0) (most_taken lay) (first_planted (nodes_at_start o.mode 0) o.deep)) l.0 record { between = planted_between (nodes_at_start o.mode 0) o.deep (most_taken lay) (let few = o.few in let room = l.1 in let most = (few_at_start o.mode o.planted).1 in omega (arith, few, room, most)); distinct = planted_distinct (nodes_at_start o.mode 0) o.deep }
 are_taken lay (r ⊳ h) l = go r.kind r.word refl l.1.obeys (are_taken lay h l.0)
   where
     go : (k : Kind) (w : Word) → r.word ≡ w → Obeys lay h r k → AreTaken (nodes_at_start lay.mode 0) (most_taken lay) (taken_nodes h) → AreTaken (nodes_at_start lay.mode 0) (most_taken lay) (with_fill k w (taken_nodes h))

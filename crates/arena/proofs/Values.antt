@@ -10,7 +10,7 @@ use Rattle.arena.specs.declared.step.Access.TheVariants.{Exchange}
 use Rattle.arena.specs.Layout.{is_map, tree_opening, records_opening, IsMap}
 use Rattle.arena.specs.Openings.{Opening}
 use Rattle.arena.specs.Words.{same_word, same_node_word, same_scx_word, node, scx, info, marked, state, word_after}
-use Rattle.arena.specs.History.{History, Start, Opened, ◌⊳◌, value, HasHeld, Extends, rows_after}
+use Rattle.arena.specs.History.{History, Start, Opened, ◌⊳◌, value, HasHeld, Extends, opening_of, rows_after}
 use Rattle.arena.proofs.SameWords.{word_same, word_refl}
 
 pub value_at : (r : Row) (h : History) (w : Word) → r.word ≡ w → value (r ⊳ h) w ≡ r.after
@@ -131,6 +131,12 @@ pub ends_trans : (h m l : History) → Extends h m → Extends m l → Extends h
 ends_trans (Opened o) m l e f = rw e at f
 ends_trans (r ⊳ h) m l (inl e) f = rw e at f
 ends_trans (r ⊳ h) m l (inr e) f = inr (ends_trans h m l e f)
+
+-- a history is over the opening of each of its moments
+pub same_opening : (h m : History) → Extends h m → opening_of m ≡ opening_of h
+same_opening (Opened o) m e = ap opening_of e
+same_opening (r ⊳ h) m (inl e) = ap opening_of e
+same_opening (r ⊳ h) m (inr e) = same_opening h m e
 
 -- how many rows a history has
 length_of : History → ℕ

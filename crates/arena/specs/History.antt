@@ -35,6 +35,11 @@ abbrev pub Extends : History → History → Type 0
 Extends (Opened o) m = m ≡ Opened o
 Extends (r ⊳ h) m = (m ≡ r ⊳ h) ⊎ Extends h m
 
+-- what the history is over
+abbrev pub opening_of : History → Opening
+opening_of (Opened o) = o
+opening_of (r ⊳ h) = opening_of h
+
 -- the history with these rows after it, the first of the list made first
 abbrev pub rows_after : History → List Row → History
 rows_after h [] = h

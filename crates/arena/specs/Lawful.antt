@@ -1,5 +1,5 @@
 -- Which rows are lawful after a history: one condition for each of the 13 kinds of step.
-use Rattle.std.specs.Prelude.{◌≡◌, ◌≢◌, ℕ, ◌<◌, true, ◌⊎◌}
+use Rattle.std.specs.Prelude.{◌≡◌, ◌≢◌, ℕ, ◌<◌, ◌≤◌, true, ◌⊎◌}
 use Rattle.arena.specs.declared.word.Side.{Side}
 use Rattle.arena.specs.declared.word.NodeWord.TheVariants.{Settled, Child, Info, Marked}
 use Rattle.arena.specs.declared.word.ScxWord.TheVariants.{State, AllFrozen, New}
@@ -188,7 +188,7 @@ pub record IsLawful (lay : Layout) (h : History) (r : Row) : Type 0 where
   pub word : IsWord lay r.word
 
 -- each row of the history is lawful after those before it, over
--- an opening of the layout's mode with as many planted nodes
+-- an opening of the layout's mode, for which there is room
 unfoldable pub Lawful : Layout → History → Type 0
-Lawful lay (Opened o) = (o.mode ≡ lay.mode) × (o.planted ≡ lay.planted)
+Lawful lay (Opened o) = (o.mode ≡ lay.mode) × (o.planted ≤ lay.planted)
 Lawful lay (r ⊳ h) = Lawful lay h × IsLawful lay h r

@@ -33,15 +33,17 @@ records_opening _ = 0
 abbrev pub opening : Mode → Word → ℕ
 opening mode w = if is_map mode then tree_opening w else records_opening w
 
--- How a table begins: its mode, how many nodes were planted with a map's first pairs, and what each
--- word holds. No node has been frozen or marked, no SCX-record filled, and what fields name is there.
+-- How a table begins: its mode, the pairs of the map, by key and value, how many nodes were planted
+-- with them, and what each word holds. No node has been frozen or marked, no SCX-record filled, and
+-- what fields name is there.
 pub record Opening : Type 0 where
   pub mode : Mode
+  pub pairs : List (ℕ × ℕ)
   pub planted : ℕ
   -- how many of the planted nodes count as taken: as many as the tree has levels more than an empty one
   pub deep : ℕ
   pub words : Word → ℕ
-  pub few : deep ≤ planted
+  pub few : nodes_at_start mode 0 + deep ≤ nodes_at_start mode planted
   pub at_rest : (n : ℕ) → words (info n) ≡ 0
   pub unmarked : (n : ℕ) → words (marked n) ≡ 0
   pub records : (s : ℕ) (part : ScxWord) → words (scx s part) ≡ records_opening (scx s part)
@@ -110,6 +112,7 @@ cells_open mode e w = rw e refl
 abbrev pub empty : Mode → Opening
 empty mode = record {
   mode = mode;
+  pairs = [];
   planted = 0;
   deep = 0;
   words = opening mode;

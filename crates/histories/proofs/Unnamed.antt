@@ -44,7 +44,7 @@ opening_field o m side = go (dec_lt m (nodes_at_start o.mode o.planted))
 
 pub field_written : (lay : Layout) (h : History) (m : ℕ) (side : Side) (n : ℕ) → Lawful lay h → HasHeld h (child m side) n → IsWritten lay h m n
 field_written lay (Opened o) m side n l p =
-    ⊎_elim (λ e. inl (sym (held_start o (child m side) n p) ∙ e)) (λ i. inr (inl (opening_node (rw (start_nodes lay o l) at i)))) (opening_field o m side)
+    ⊎_elim (λ e. inl (sym (held_start o (child m side) n p) ∙ e)) (λ i. inr (inl (opening_node (let few = start_nodes lay o l in omega (arith, i, few))))) (opening_field o m side)
 field_written lay (r ⊳ h) m side n l p = go (held_split r h (child m side) n p) (λ q. written_more r m n (field_written lay h m side n (lawful_tail lay h r l) q))
   where
     by_word : value (r ⊳ h) (child m side) ≡ n → (HasHeld h (child m side) n → IsWritten lay (r ⊳ h) m n) → r.word ≡ child m side → Change lay h r → IsWritten lay (r ⊳ h) m n

@@ -4,7 +4,7 @@ pub use Rattle.arena.specs.Fills.{IsOwnScx, IsNamed, IsOwnNode, IsNamedScx, IsOt
 unfoldable pub use Rattle.arena.specs.Fills.{IsTakenScx, IsTakenNode}
 pub use Rattle.arena.specs.Found.{HasFound, IsLastStep}
 pub use Rattle.arena.specs.Heads.{head_of}
-pub use Rattle.arena.specs.History.{History, ◌⊳◌, Extends, Start, Opened}
+pub use Rattle.arena.specs.History.{History, ◌⊳◌, Extends, Start, Opened, opening_of}
 unfoldable pub use Rattle.arena.specs.History.{value, HasHeld}
 pub use Rattle.arena.specs.Lawful.{IsWin, IsLawful, IsFreeze, IsUpdate, AreFrozen, IsExchange, IsAbort, IsMark, Obeys, IsSettled, MayBegin, IsFrozen}
 unfoldable pub use Rattle.arena.specs.Lawful.{Lawful, HasWon}

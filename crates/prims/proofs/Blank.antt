@@ -14,7 +14,7 @@ empty_start o n side late = o.beyond n (Child side) late
 -- those of a node that is not taken, and that nothing mentions, stay 0
 empty_untaken : (lay : Layout) (h : History) (n : ℕ) (side : Side) → Lawful lay h → opening_nodes lay ≤ n → IsUnmentioned h n → ¬ IsTakenNode h n → value h (child n side) ≡ 0
 unfolding Lawful IsTakenNode
-empty_untaken lay (Opened o) n side l late u free = empty_start o n side (rw (start_nodes lay o l) late)
+empty_untaken lay (Opened o) n side l late u free = empty_start o n side (let few = start_nodes lay o l in omega (arith, few, late))
 empty_untaken lay (r ⊳ h) n side l late u free = same (change lay h r l) ∙ empty_untaken lay h n side l.0 late
     record { in_no_field = λ m a p. u.in_no_field m a (held_more r h (child m a) n p); in_no_scx = λ s part i p. u.in_no_scx s part i (held_more r h (scx s part) n p) }
     (λ t. free (inr t))

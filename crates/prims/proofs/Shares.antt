@@ -28,7 +28,7 @@ whole_untouched lay o c l = record {
   to_scx = refl;
   taken_nodes = λ n own less. absurd (let a = own.from in omega arith);
   taken_scx = λ s own less. absurd (let a = own.from in omega arith);
-  unmentioned = λ n p. unmentioned_start o n (rw (start_nodes lay o l) (let a = p.from in omega (arith, a)));
+  unmentioned = λ n p. unmentioned_start o n (let few = start_nodes lay o l in let a = p.from in omega (arith, few, a));
   untaken_nodes = λ n p t. t;
   untaken = λ s p t. t;
 }

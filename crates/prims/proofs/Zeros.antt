@@ -22,7 +22,7 @@ taken_now h r n x = inl x
 
 -- a node of a pass's own that is not taken, and that nothing mentions
 untaken_zero : (lay : Layout) (h : History) (c n : ℕ) (part : NodeWord) → Lawful lay h → IsOwnNode lay c n → IsUnmentioned h n → ¬ IsTakenNode h n → IsNodeFill part → value h (node n part) ≡ 0
-untaken_zero lay (Opened o) c n part l own u free fill = value_start o (node n part) ∙ o.beyond n part (rw (start_nodes lay o l) (let a = own.from in omega (arith, a)))
+untaken_zero lay (Opened o) c n part l own u free fill = value_start o (node n part) ∙ o.beyond n part (let few = start_nodes lay o l in let a = own.from in omega (arith, few, a))
 untaken_zero lay (r ⊳ h) c n part l own u free fill =
     let before : IsUnmentioned h n = unmentioned_before h r n u in
     node_unfilled lay h r n part l (λ q x. free (taken_now h r n (q, x.kind, x.word))) fill (λ side e t j z. before.in_no_scx t (Member j) tt (held_at h (scx t (Member j)) n z))

@@ -1,18 +1,18 @@
 -- A delete fills its copy in order: nothing mentions the copy, and its fields get what the
 -- sibling's held, which has been in the tree.
 use Rattle.std.proofs.Common.{◌≡◌, ℕ, ◌/◌, ◌%◌, ◌<◌, ◌≤◌, inl, inr, Bool, true, false, le-ltb, cond, eqb, Option, Some, None, refl, sym, ◌∙◌, ap, subst, arith, unwrap_or}
-use Rattle.histories.specs.Common.{NodeWord, Settled, Child, Head, Side, IsInField, head_of, History, value, Call, row_of, node, child}
+use Rattle.histories.specs.Common.{NodeWord, Settled, Child, Head, Side, head_of, History, value, Call, row_of, node, child}
 use Rattle.histories.proofs.Lemmas.{node_since}
 use Rattle.prims.specs.Laws.Linked.{in_field_named}
 use Rattle.template.specs.Common.{child_of, Snap, IsFillInOrder, WasInTree, sibling_place, is_leaf, Key as ToKey, delete}
 use Rattle.ordered_map.specs.FillOrder.{HasStoodInField, AreFilledInOrder}
-use Rattle.ordered_map.proofs.MapLemmas.{held_stood}
+use Rattle.ordered_map.proofs.MapLemmas.{child_stood}
 use Rattle.template.specs.declared.walk.Found.{Found}
 use Rattle.template.specs.declared.walk.Way.TheVariants.{InTree}
 use Rattle.tree.specs.declared.take.TakePair.{TakePair}
 use Rattle.tree.specs.Take.Means.{copied_pairs, copy_with, take_means, take_piece, take_plan, work_by, has_more, join_looks, sibling_of}
 use Rattle.tree.specs.Laws.Take.Sound.{HasFour, copy_fields, few_places, has_four, looked_join, usable_at}
-use Rattle.tree.proofs.Fills.{opens_three, same_number, same_part, unstood}
+use Rattle.tree.proofs.Fills.{same_number, same_part, unstood}
 use Rattle.edits.specs.declared.edit.Nodes.{Nodes}
 use Rattle.edits.specs.declared.edit.Nth.{Nth}
 use Rattle.edits.specs.declared.edit.Work.{Work}
@@ -76,7 +76,7 @@ module _ (m : UpdateRun TakePair UpdateAt) (c : Call) (h : History) (f : Found) 
 
     -- what a field of the sibling held has been in the tree
     field_stood : (side : Side) → AreFilledInOrder h → is_leaf (value h) sibling.node.0 ≡ false → WasInTree h (child_of sibling side).0
-    field_stood side filled fork = subst (WasInTree h) (u.is.linked.fields side u.is.info) (held_stood c.layout h u.moment sibling.node.0 side x.works.run filled u.within (named u.is.linked.in_field) u.is.not_final then)
+    field_stood side filled fork = subst (WasInTree h) (u.is.linked.fields side u.is.info) (child_stood c.layout h u.moment sibling.node.0 side x.works.run u.within u.stood u.is.not_final then)
       where
         looked : HasLookedBy join_looks c h InTree (ToKey m.edit.key) f m.snaps.items
         looked = looked_join m.edit c h f m.snaps.items t x.works.looked
@@ -86,10 +86,6 @@ module _ (m : UpdateRun TakePair UpdateAt) (c : Call) (h : History) (f : Found) 
 
         u : HasSnappedAfterWalk c h InTree (ToKey m.edit.key) f sibling
         u = usable_at m.edit c h f m.snaps.items (sibling_place f.trail.side) (few_places f.trail.side) four looked
-
-        named : IsInField c.layout u.moment sibling.node.0 → HasStoodInField u.moment sibling.node.0
-        named (inl i) = inl (subst (λ n. sibling.node.0 < n) (opens_three c.layout.mode x.works.run.0) i)
-        named (inr y) = inr (y.0, y.1, y.3)
 
         then : is_leaf (value u.moment) sibling.node.0 ≡ false
         then = ap (λ w. eqb (w / 4 % 2) 1) (sym (node_since c.layout h u.moment sibling.node.0 (Settled Head) x.works.run.1.lawful u.within tt (in_field_named sibling.node.0 u.is.linked.in_field))) ∙ fork
