@@ -1,5 +1,5 @@
 -- What was in the tree above all keys is blank.
-use Rattle.std.proofs.Common.{◌≡◌, ℕ, ◌%◌, true, false, ◌⊎◌, inl, inr, refl, sym, ◌∙◌, ap, arith, subst}
+use Rattle.std.proofs.Common.{◌≡◌, ℕ, ◌<◌, ◌%◌, true, false, ◌⊎◌, inl, inr, refl, sym, ◌∙◌, ap, arith, subst}
 use Rattle.histories.specs.Common.{Side, Left, Right, Settled, Child, Word, Layout, Row, node, child, first_key, History, Opening, Opened, ◌⊳◌}
 use Rattle.histories.specs.Common.{value, count_of, plan_finalizes, field_index_of, count, field_index, member, new, old, side_of, plan, scx_finalizes, IsNamed}
 use Rattle.arena.proofs.Lemmas.{node_word_apart}

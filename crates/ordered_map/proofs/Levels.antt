@@ -1,5 +1,5 @@
 -- No node of a tree is deeper than the log is long and the tree was at the start.
-use Rattle.std.proofs.Common.{◌≡◌, ℕ, ◌+◌, ◌/◌, ◌≤◌, suc, length, ap, arith}
+use Rattle.std.proofs.Common.{◌≡◌, ℕ, ◌+◌, ◌/◌, ◌≤◌, suc, length, refl, ap, arith}
 use Rattle.histories.specs.Common.{Tree as TreeMode, Settled, Child, Head, Layout, Row, node, History, Opening, Opened, opening_of, ◌⊳◌, value, taken_nodes, field_index, member, side_of, plan, IsNamed, log}
 use Rattle.arena.proofs.Lemmas.{node_word_apart}
 use Rattle.histories.proofs.Lemmas.{Logs, UpdateWins, log_wins, logs, node_stays, same, update_keeps_other, wins}

@@ -1,7 +1,7 @@
 -- Nodes of a share that are not taken stay so, except for the fresh node of an SCX.
 use Rattle.std.proofs.Common.{◌≡◌, ◌≢◌, ℕ, inl, inr, sym, subst}
 use Rattle.histories.specs.Common.{Layout, NodeWord, Settled, Child, Info, Marked, Word, Node, Scx as ScxOf, Row, Step, Fill, node, scx, first_value}
-use Rattle.histories.specs.Common.{History, Start, Opened, ◌⊳◌, Extends, IsOwnNode, IsFillOfNode, IsTakenNode, MayFill, Lawful, Obeys, Call, row_of}
+use Rattle.histories.specs.Common.{History, Opened, ◌⊳◌, Extends, IsOwnNode, IsFillOfNode, IsTakenNode, MayFill, Lawful, Obeys, Call, row_of}
 use Rattle.arena.proofs.Lemmas.{taken_node_more}
 use Rattle.histories.proofs.Lemmas.{lawful_row, one_node_owner}
 use Rattle.help.specs.Laws.Help.Lawful.{help_fills_not}
