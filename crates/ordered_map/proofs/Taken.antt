@@ -175,8 +175,8 @@ module _ (calls : ℕ → MapEdit) (lay : Layout) (h : History) (r : Row) (g : I
     fresh p = ⊎_elim
         (λ early. let late = own_late in omega (arith, early, late))
         (λ y.
-            let e : y.0 ≡ u = t.one_new y.0 u _ _ (won_real y.0 f y.1) (some_is_real f (update_flagged f w).some) (won_named y.0 f y.1).1 ((update_flagged f w).frozen 0 (update_flagged f w).some) y.2 in
-            update_is_first f w (rw e at y.1))
+        let e : y.0 ≡ u = t.one_new y.0 u _ _ (won_real y.0 f y.1) (some_is_real f (update_flagged f w).some) (won_named y.0 f y.1).1 ((update_flagged f w).frozen 0 (update_flagged f w).some) y.2 in
+        update_is_first f w (rw e at y.1))
         (x.won (new h u) p)
 
     new_taken : IsTakenNode (r ⊳ h) (new h u)
@@ -214,7 +214,7 @@ no_news lay o l = record {
       let few = o.few in
       let room = start_nodes lay o l in
       omega (arith, i, few, room)
-  );
+      );
   distinct = planted_distinct (nodes_at_start o.mode 0) o.deep;
   taken = λ k p. p;
 }
