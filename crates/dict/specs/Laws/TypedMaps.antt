@@ -1,6 +1,6 @@
 -- Every run in which edits of typed words alone begin is one of a map, and its words spell a map
 -- of such words.
-use Rattle.std.proofs.Common.{◌≡◌, ◌⊎◌, ⊎_elim, ℕ, List, inl, inr, sym, subst}
+use Rattle.std.proofs.Common.{◌≡◌, ◌⊎◌, ⊎_elim, ℕ, List, inl, inr, refl, sym, subst}
 use Rattle.histories.specs.Common.{Layout, Row, History, Opening, empty, Opened, ◌⊳◌, value, Extends, IsEntered, IsRun, Shaped}
 use Rattle.arena.specs.Layout.{IsMap}
 use Rattle.arena.proofs.Lemmas.{ends_self, run_as}
