@@ -1,0 +1,4 @@
+//! Trees that are planted with the first pairs of a map.
+#![tactic(auto)]
+
+mod few;
