@@ -19,8 +19,8 @@ above_leaves f n parted = go (ℕ_discrete (class f n) 0)
     go (yes z) = let deep = (parted.key z).deep in omega (arith, deep)
     go (no d) = let top = parted.top d in omega (arith, top)
 
-pub leaf_grove : (trie : Bool) (f : Word → ℕ) (n deep : ℕ) (p : Pair) (ps : List Pair) → IsLeafWith f n deep 0 (p ∷ ps) → IsRising (p ∷ ps) → AllBelow (2 ^ 64) (p ∷ ps) → (trie ≡ true → deep ≡ 66) → IsGrove trie f (p ∷ ps) deep 0 n 1 n
-leaf_grove trie f n deep p ps x rises small trie_deep = record {
+pub leaf_grove : (trie : Bool) (f : Word → ℕ) (n deep here tall : ℕ) (p : Pair) (ps : List Pair) → IsLeafWith f n here 0 (p ∷ ps) → IsRising (p ∷ ps) → AllBelow (2 ^ 64) (p ∷ ps) → (trie ≡ false → here ≡ deep) → (trie ≡ true → here ≡ 66) → IsGrove trie f (p ∷ ps) deep tall n 1 n
+leaf_grove trie f n deep here tall p ps x rises small tree_deep trie_deep = record {
   tree = Leaf n;
   is = refl;
   there = λ m e. (omega (arith, e), omega (arith, e));
@@ -29,8 +29,8 @@ leaf_grove trie f n deep p ps x rises small trie_deep = record {
       (let first = from.0 in let key = x.key in let kind = x.class in omega (arith, first, key, kind));
   items = low_items f n x.class ∙ x.pairs;
   low = λ m e. ap (class f) (sym e) ∙ x.class;
-  deep_at = λ _. x.level;
-  tall_most = λ _ m e. let same : level f m ≡ level f n = ap (level f) (sym e) in let at = x.level in omega (arith, same, at);
+  deep_at = λ is. x.level ∙ tree_deep is;
+  tall_most = λ is m e. let same : level f m ≡ level f n = ap (level f) (sym e) in let at = x.level in let top = tree_deep is in omega (arith, same, at, top);
   forks = λ _ m e fork. absurd (let z : true ≡ false = sym x.leaf ∙ ap (is_leaf f) e ∙ fork in cc);
   keeps = λ is m side parted from below. (
       record {
@@ -71,11 +71,11 @@ below_higher : (j k : ℕ) (xs : List Pair) → j ≤ k → AllBelow j xs → Al
 below_higher j k [] l a = tt
 below_higher j k (x ∷ xs) l a = ((let m = a.0 in omega (arith, l, m)), below_higher j k xs l a.1)
 
-module _ (trie : Bool) (f : Word → ℕ) (ls rs : List Pair) (at a b deep tall tl tr dl dr key x y : ℕ)
-    (left : IsGrove trie f ls dl tl at a x) (right : IsGrove trie f rs dr tr (at + a) b y) (w : IsForkWith f (at + a + b) deep 0 key x y)
+module _ (trie : Bool) (f : Word → ℕ) (ls rs : List Pair) (at a b deep here tall tl tr dl dr key x y : ℕ)
+    (left : IsGrove trie f ls dl tl at a x) (right : IsGrove trie f rs dr tr (at + a) b y) (w : IsForkWith f (at + a + b) here 0 key x y)
     (below : AllBelow key ls) (from : AllFrom key rs)
-    (in_tree : trie ≡ false → (dl ≡ deep + 1) × (dr ≡ deep + 1) × (tl ≤ tall) × (tr ≤ tall))
-    (in_trie : trie ≡ true → IsParting ls rs key deep) where
+    (in_tree : trie ≡ false → (here ≡ deep) × (dl ≡ deep + 1) × (dr ≡ deep + 1) × (tl ≤ tall) × (tr ≤ tall))
+    (in_trie : trie ≡ true → IsParting ls rs key here) where
   abbrev c : ℕ
   c = at + a + b
 
@@ -83,7 +83,7 @@ module _ (trie : Bool) (f : Word → ℕ) (ls rs : List Pair) (at a b deep tall 
   rank_is = let kind = w.class in let k = w.key in omega (arith, kind, k)
 
   module _ (is : trie ≡ true) where
-    p : IsParting ls rs key deep
+    p : IsParting ls rs key here
     p = in_trie is
 
     parted : IsParted f c
@@ -91,7 +91,7 @@ module _ (trie : Bool) (f : Word → ℕ) (ls rs : List Pair) (at a b deep tall 
 
     left_on : AllFrom (side_from f c Left) ls × AllBelow (side_to f c Left) ls
     left_on =
-        let start : side_from f c Left ≡ key - room_at deep = rw (w.class, w.key, w.level) refl in
+        let start : side_from f c Left ≡ key - room_at here = rw (w.class, w.key, w.level) refl in
         let end : side_to f c Left ≡ key = rw (w.class, w.key) refl in
         let span = p.parts.first in
         (from_lower (side_from f c Left) p.first ls (omega (arith, start, span)) p.from, subst (λ k. AllBelow k ls) (sym end) below)
@@ -99,7 +99,7 @@ module _ (trie : Bool) (f : Word → ℕ) (ls rs : List Pair) (at a b deep tall 
     right_on : AllFrom (side_from f c Right) rs × AllBelow (side_to f c Right) rs
     right_on =
         let start : side_from f c Right ≡ key = rw (w.class, w.key) refl in
-        let end : side_to f c Right ≡ key + room_at deep = rw (w.class, w.key, w.level) refl in
+        let end : side_to f c Right ≡ key + room_at here = rw (w.class, w.key, w.level) refl in
         let span = p.parts.last in
         (subst (λ k. AllFrom k rs) (sym start) from, below_higher (suc p.last) (side_to f c Right) rs (omega (arith, end, span)) p.below)
 
@@ -130,8 +130,8 @@ module _ (trie : Bool) (f : Word → ℕ) (ls rs : List Pair) (at a b deep tall 
           let t = in_tree is in
           let l = left.deep_at is in
           let r = right.deep_at is in
-          let here = w.level in
-          (omega (arith, t, l, here), omega (arith, t, r, here))
+          let lv = w.level in
+          (omega (arith, t, l, lv), omega (arith, t, r, lv))
 
   pub fork_grove : IsGrove trie f (ls ++ rs) deep (suc tall) at (a + b + 1) c
   fork_grove = record {
@@ -152,7 +152,7 @@ module _ (trie : Bool) (f : Word → ℕ) (ls rs : List Pair) (at a b deep tall 
     );
     items = λ i. left.items i ++ right.items i;
     low = low;
-    deep_at = λ _. w.level;
+    deep_at = λ is. w.level ∙ (in_tree is).0;
     tall_most = tall_most;
     forks = forks;
     keeps = keeps_all;
@@ -177,7 +177,7 @@ module _ (trie : Bool) (f : Word → ℕ) (ls rs : List Pair) (at a b deep tall 
       low n (inr (inr h)) = right.low n h
 
       tall_most : trie ≡ false → (n : ℕ) → Has (Fork c left.tree right.tree) n → level f n ≤ deep + suc tall
-      tall_most is n (inl e) = let same : level f n ≡ level f c = ap (level f) (sym e) in let here = w.level in omega (arith, same, here)
+      tall_most is n (inl e) = let same : level f n ≡ level f c = ap (level f) (sym e) in let lv = w.level in let t = in_tree is in omega (arith, same, lv, t)
       tall_most is n (inr (inl h)) = let m = left.tall_most is n h in let t = in_tree is in omega (arith, m, t)
       tall_most is n (inr (inr h)) = let m = right.tall_most is n h in let t = in_tree is in omega (arith, m, t)
 
