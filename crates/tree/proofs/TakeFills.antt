@@ -1,17 +1,17 @@
 -- A delete fills its copy in order: nothing mentions the copy, and its fields get what the
 -- sibling's held, which has been in the tree.
-use Rattle.std.proofs.Common.{◌≡◌, ℕ, ◌/◌, ◌%◌, ◌<◌, ◌≤◌, inl, inr, ⊎_elim, Bool, true, false, le-ltb, cond, eqb, Option, Some, None, refl, sym, ◌∙◌, ap, subst, arith, unwrap_or}
+use Rattle.std.proofs.Common.{◌≡◌, ℕ, ◌/◌, ◌%◌, ◌<◌, ◌≤◌, inl, inr, Bool, true, false, le-ltb, cond, eqb, Option, Some, None, refl, sym, ◌∙◌, ap, subst, arith, unwrap_or}
 use Rattle.histories.specs.Common.{NodeWord, Settled, Child, Head, Side, head_of, History, value, Call, row_of, node, child}
 use Rattle.histories.proofs.Lemmas.{node_since}
 use Rattle.prims.specs.Laws.Linked.{in_field_named}
 use Rattle.template.specs.Common.{child_of, Snap, IsFillInOrder, WasInTree, sibling_place, is_leaf, Key as ToKey, delete}
 use Rattle.ordered_map.specs.FillOrder.{HasStoodInField, AreFilledInOrder}
-use Rattle.ordered_map.proofs.MapLemmas.{early_held, held_stood}
+use Rattle.ordered_map.proofs.MapLemmas.{child_stood}
 use Rattle.template.specs.declared.walk.Found.{Found}
 use Rattle.template.specs.declared.walk.Way.TheVariants.{InTree}
 use Rattle.tree.specs.declared.take.TakePair.{TakePair}
 use Rattle.tree.specs.Take.Means.{copied_pairs, copy_with, take_means, take_piece, take_plan, work_by, has_more, join_looks, sibling_of}
-use Rattle.tree.specs.Laws.Take.Sound.{HasFour, copy_fields, few_places, has_four, looked_join, usable_at}
+use Rattle.tree.specs.Laws.Take.Sound.{HasFour, LooksToTake, copy_fields, few_places, has_four, looked_join, usable_at}
 use Rattle.tree.proofs.Fills.{same_number, same_part, unstood}
 use Rattle.edits.specs.declared.edit.Nodes.{Nodes}
 use Rattle.edits.specs.declared.edit.Nth.{Nth}
@@ -22,7 +22,7 @@ use Rattle.edits.specs.declared.piece.Piece.TheVariants.{Leaf, Fork}
 use Rattle.edits.specs.declared.reading.Reading.{Reading}
 use Rattle.edits.specs.declared.update.UpdateAt.{UpdateAt}
 use Rattle.edits.specs.declared.update.UpdateRun.{UpdateRun}
-use Rattle.edits.specs.Known.{HasLookedBy, HasSnappedAfterWalk, IsNeeded, FillsPiece, MayRead, piece_fill_step, piece, top}
+use Rattle.edits.specs.Known.{HasSnappedAfterWalk, IsNeeded, FillsPiece, MayRead, piece_fill_step, piece, top}
 use Rattle.edits.specs.Pieces.{is_filled, nth_node, top_of, word_of}
 use Rattle.edits.specs.Readings.{next_read}
 use Rattle.edits.proofs.Lemmas.{head_read, piece_is}
@@ -76,9 +76,9 @@ module _ (m : UpdateRun TakePair UpdateAt) (c : Call) (h : History) (f : Found) 
 
     -- what a field of the sibling held has been in the tree
     field_stood : (side : Side) → AreFilledInOrder h → is_leaf (value h) sibling.node.0 ≡ false → WasInTree h (child_of sibling side).0
-    field_stood side filled fork = subst (WasInTree h) (u.is.linked.fields side u.is.info) (⊎_elim (λ i. early_held c.layout h u.moment sibling.node.0 side x.works.run u.within i u.is.not_final then) (λ y. held_stood c.layout h u.moment sibling.node.0 side x.works.run filled u.within (inr (y.0, y.1, y.3)) u.is.not_final then) u.is.linked.in_field)
+    field_stood side filled fork = subst (WasInTree h) (u.is.linked.fields side u.is.info) (child_stood c.layout h u.moment sibling.node.0 side x.works.run u.within u.stood u.is.not_final then)
       where
-        looked : HasLookedBy join_looks c h InTree (ToKey m.edit.key) f m.snaps.items
+        looked : LooksToTake join_looks c h m.edit.key f m.snaps.items
         looked = looked_join m.edit c h f m.snaps.items t x.works.looked
 
         four : HasFour f m.snaps.items

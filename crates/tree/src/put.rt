@@ -234,6 +234,10 @@ impl Edit for PutPair {
         if self.trie { Way::Within } else { Way::InTree }
     }
 
+    fn guard(&self) -> bool {
+        false
+    }
+
     #[inline(always)]
     fn work(&self, found: &Found) -> Work {
         if self.strays(found) {
