@@ -3,7 +3,7 @@
 use Rattle.std.proofs.Common.{◌≡◌, ◌≢◌, ◌⊎◌, inl, inr, ◌/◌, ◌%◌, ◌<◌, ◌≤◌, Bool, true, false, eqb, ℕ, List, [], ◌∷◌, ◌++◌, None, length, refl, ◌∙◌, ap, arith, subst}
 use Rattle.std.specs.Prelude.{All}
 use Rattle.std.proofs.lemmas.List.Elements.{All-head, All-tail}
-use Rattle.histories.specs.Common.{Layout, Tree as TreeMode, Side, Left, Right, Settled, Head, node, child, marked, Row, field_index, member, new, History, ◌⊳◌, value, Extends, log, is_final, IsInField, taken_nodes}
+use Rattle.histories.specs.Common.{Layout, Tree as TreeMode, Side, Left, Right, Settled, Head, node, child, marked, Row, new, History, ◌⊳◌, value, Extends, log, is_final, IsInField, taken_nodes}
 use Rattle.histories.proofs.Lemmas.{Facts, UpdateWins, facts_before, node_since, not_final}
 use Rattle.ordered_map.specs.OrderedMap.{MapEdit, get}
 use Rattle.ordered_map.specs.TreeWords.{Tree, Has, class, is_leaf, level, said, IsBlankAboveKeys, root}
@@ -19,7 +19,7 @@ use Rattle.ordered_map.proofs.Remaining.{grown_on_path, grown_remains}
 use Rattle.ordered_map.proofs.Growing.{grown_root}
 use Rattle.ordered_map.proofs.Stood.{was_now, was_passed, was_named}
 use Rattle.ordered_map.proofs.TreeFacts.{TreeFacts}
-use Rattle.ordered_map.proofs.Edited.{result, tree_now, new_in, spot_in}
+use Rattle.ordered_map.proofs.Edited.{result, tree_now, new_in}
 use Rattle.arena.specs.Layout.{IsMap}
 use Rattle.ordered_map.proofs.Grown.{tree_facts, grown_tail}
 use Rattle.ordered_map.proofs.Trees.{passes_has, IsBelowFork, has_above, fields_apart, path_level}
@@ -57,16 +57,6 @@ new_stood lay h r u g w = was_now (r ⊳ h) (result edits lay h r u f w map g.1.
 
     f : Facts lay h
     f = facts_before lay h r g.1.lawful
-
-    then : TreeFacts edits lay h
-    then = tree_facts edits lay h (grown_tail edits lay h r (grown lay (r ⊳ h) g))
-
--- the node of the field that it changes was in the tree
-pub spot_stood : (lay : Layout) (h : History) (r : Row) (u : ℕ) → IsMapRun lay (r ⊳ h) → UpdateWins h r u → WasInTree h (member h u (field_index h u))
-spot_stood lay h r u g w = was_now h then.tree (member h u (field_index h u)) then.is_tree (spot_in edits lay h r u (facts_before lay h r g.1.lawful) w g.0 g.1.lawful then)
-  where
-    edits : ℕ → MapEdit
-    edits = (edits_of lay (r ⊳ h) g).edits
 
     then : TreeFacts edits lay h
     then = tree_facts edits lay h (grown_tail edits lay h r (grown lay (r ⊳ h) g))

@@ -1,22 +1,21 @@
 -- Levels rise from each fork that a field has ever named, where machines fill nodes in order: such
 -- a node has been in the tree, or is a leaf.
 use Rattle.std.proofs.Common.{◌≡◌, ℕ, ◌<◌, ◌/◌, ◌%◌, ◌⊎◌, inl, inr, ⊎_elim, Bool, true, false, eqb, refl, sym, ◌∙◌, ap, subst, arith}
-use native.Mathlib.Decide.{ℕ_discrete, dec_lt}
-use Rattle.histories.specs.Common.{Layout, nodes_at_start, opening_nodes, MayFill, Obeys, Fill, Row, Side, Left, Right, NodeWord, Settled, Child, Info, Marked, Head, AllFrozen, node, scx, info}
+use native.Mathlib.Decide.{ℕ_discrete}
+use Rattle.histories.specs.Common.{Layout, nodes_at_start, Fill, Row, Side, Left, Right, NodeWord, Settled, Child, Info, Marked, Head, AllFrozen, node, scx, info}
 use Rattle.histories.specs.Common.{marked, child, state, same_word, History, Opening, Opened, ◌⊳◌, value, Extends, HasHeld, log, is_final, Lawful, member, new, field, plan, side_of}
 use Rattle.arena.proofs.Lemmas.{held_at, held_split, held_start, node_apart, node_word_apart, value_apart, value_at, value_other, value_quiet, word_same}
-use Rattle.histories.proofs.Lemmas.{Change, UpdateWins, aborts, change, child_node, commits, fills_node, fills_scx, freezes, lawful_row, lawful_tail, marks, nothing, sets_frozen, shaped_tail, start_mode, updates, value_start}
+use Rattle.histories.proofs.Lemmas.{Change, UpdateWins, aborts, change, commits, fills_node, fills_scx, freezes, lawful_row, lawful_tail, marks, nothing, sets_frozen, shaped_tail, start_mode, updates, value_start}
 use Rattle.ordered_map.specs.TreeShape.{TreeAllows}
-use Rattle.ordered_map.specs.TreeWords.{Tree, Leaf, Fork, root, Has, is_leaf}
+use Rattle.ordered_map.specs.TreeWords.{is_leaf}
 use Rattle.ordered_map.specs.Paths.{WasInTree}
 use Rattle.ordered_map.specs.Runs.{IsMapRun}
 use Rattle.ordered_map.specs.Planted.{IsPlanted}
-use Rattle.ordered_map.specs.Spelled.{Spells}
 use Rattle.ordered_map.specs.FillOrder.{HasStoodInField, HasRisingLevels, AreFilledInOrder}
-use Rattle.ordered_map.proofs.Meanings.{edits_of, grown, run_since, run_spells}
+use Rattle.ordered_map.proofs.Meanings.{edits_of, grown, run_since}
 use Rattle.ordered_map.proofs.Grown.{planted}
 use Rattle.ordered_map.proofs.Stood.{was_more, was_now}
-use Rattle.ordered_map.proofs.MapRuns.{child_stood, levels_rise, new_stood, spot_stood}
+use Rattle.ordered_map.proofs.MapRuns.{child_stood, levels_rise, new_stood}
 
 -- Heads
 
@@ -47,16 +46,16 @@ head_came lay h r n l = go (change lay h r l)
 
 -- what a field holds after a row: what it held, what the row has filled in, or the new node of an
 -- update that has won
-field_came : (lay : Layout) (h : History) (r : Row) (m : ℕ) (side : Side) (n : ℕ) → Lawful lay (r ⊳ h) → value (r ⊳ h) (child m side) ≡ n → HasHeld h (child m side) n ⊎ (((r.kind ≡ Fill) × (r.word ≡ child m side) × (r.after ≡ n)) ⊎ ((u : ℕ) × UpdateWins h r u × (new h u ≡ n) × (r.word ≡ child m side)))
+field_came : (lay : Layout) (h : History) (r : Row) (m : ℕ) (side : Side) (n : ℕ) → Lawful lay (r ⊳ h) → value (r ⊳ h) (child m side) ≡ n → HasHeld h (child m side) n ⊎ (((r.kind ≡ Fill) × (r.word ≡ child m side) × (r.after ≡ n)) ⊎ ((u : ℕ) × UpdateWins h r u × (new h u ≡ n)))
 field_came lay h r m side n l q = test (same_word r.word (child m side)) refl
   where
     stored : r.word ≡ child m side → r.after ≡ n
     stored e = sym (value_at r h (child m side) e) ∙ q
 
-    by_word : r.word ≡ child m side → Change lay h r → HasHeld h (child m side) n ⊎ (((r.kind ≡ Fill) × (r.word ≡ child m side) × (r.after ≡ n)) ⊎ ((u : ℕ) × UpdateWins h r u × (new h u ≡ n) × (r.word ≡ child m side)))
+    by_word : r.word ≡ child m side → Change lay h r → HasHeld h (child m side) n ⊎ (((r.kind ≡ Fill) × (r.word ≡ child m side) × (r.after ≡ n)) ⊎ ((u : ℕ) × UpdateWins h r u × (new h u ≡ n)))
     by_word e (nothing i a) = inl (held_at h _ _ (sym (value_quiet r h (lawful_row lay h r l).before a (child m side)) ∙ q))
     by_word e (fills_node k part x) = inr (inl (x.kind, e, stored e))
-    by_word e (updates u w) = inr (inr (u, w, sym w.stored ∙ stored e, e))
+    by_word e (updates u w) = inr (inr (u, w, sym w.stored ∙ stored e))
     by_word e (fills_scx u part x) = let y : scx u part ≡ child m side = sym x.word ∙ e in cc
     by_word e (freezes u j w) = let y : info (member h u j) ≡ child m side = sym w.freeze.word ∙ e in cc
     by_word e (sets_frozen u k x) = let y : scx u AllFrozen ≡ child m side = sym x.word ∙ e in cc
@@ -64,7 +63,7 @@ field_came lay h r m side n l q = test (same_word r.word (child m side)) refl
     by_word e (commits u k x) = let y : state u ≡ child m side = sym x.word ∙ e in cc
     by_word e (aborts u j k x) = let y : state u ≡ child m side = sym x.word ∙ e in cc
 
-    test : (t : Bool) → same_word r.word (child m side) ≡ t → HasHeld h (child m side) n ⊎ (((r.kind ≡ Fill) × (r.word ≡ child m side) × (r.after ≡ n)) ⊎ ((u : ℕ) × UpdateWins h r u × (new h u ≡ n) × (r.word ≡ child m side)))
+    test : (t : Bool) → same_word r.word (child m side) ≡ t → HasHeld h (child m side) n ⊎ (((r.kind ≡ Fill) × (r.word ≡ child m side) × (r.after ≡ n)) ⊎ ((u : ℕ) × UpdateWins h r u × (new h u ≡ n)))
     test false e = inl (held_at h _ _ (sym (value_other r h (child m side) e) ∙ q))
     test true e = by_word (word_same r.word (child m side) e) (change lay h r l)
 
@@ -93,7 +92,7 @@ stood_filled lay h r n l order named x = ⊎_elim (λ e. stood_more h r n e x) (
 came_stood : (lay : Layout) (h : History) (r : Row) (m : ℕ) (side : Side) (n : ℕ) → IsMapRun lay (r ⊳ h) → AreFilledInOrder (r ⊳ h) → value (r ⊳ h) (child m side) ≡ n → (HasStoodInField h n → StoodOrLeaf h n) → HasStoodInField h n ⊎ StoodOrLeaf (r ⊳ h) n
 came_stood lay h r m side n g order q before = go (field_came lay h r m side n g.1.lawful q)
   where
-    go : HasHeld h (child m side) n ⊎ (((r.kind ≡ Fill) × (r.word ≡ child m side) × (r.after ≡ n)) ⊎ ((u : ℕ) × UpdateWins h r u × (new h u ≡ n) × (r.word ≡ child m side))) → HasStoodInField h n ⊎ StoodOrLeaf (r ⊳ h) n
+    go : HasHeld h (child m side) n ⊎ (((r.kind ≡ Fill) × (r.word ≡ child m side) × (r.after ≡ n)) ⊎ ((u : ℕ) × UpdateWins h r u × (new h u ≡ n))) → HasStoodInField h n ⊎ StoodOrLeaf (r ⊳ h) n
     go (inl x) = inl (inr (m, side, x))
     go (inr (inl x)) = inr (stood_more h r n (value_apart r h (child m side) (node n (Settled Head)) x.1 (node_word_apart m n (Child side) (Settled Head) refl)) (subst (StoodOrLeaf h) x.2 (order.1.field m side x.0 x.1)))
     go (inr (inr x)) = inr (inl (subst (WasInTree (r ⊳ h)) x.2 (new_stood lay h r x.0 g x.1)))
@@ -132,44 +131,3 @@ filled_since (r ⊳ h) m (inr e) x = filled_since h m e x.0
 -- What such a fork has held in a field while it was not final has been in the tree.
 pub held_stood : (lay : Layout) (h m : History) (n : ℕ) (side : Side) → IsMapRun lay h → AreFilledInOrder h → Extends h m → HasStoodInField m n → is_final (log lay m) n ≡ false → is_leaf (value m) n ≡ false → WasInTree h (value m (child n side))
 held_stood lay h m n side g order e named not_final fork = ⊎_elim (λ x. child_stood lay h m n side g e x not_final fork) (λ leaf. let y : true ≡ false = sym leaf ∙ fork in absurd (cc)) (stood lay m n (run_since lay h m g e) (filled_since h m e order) named)
-
--- Nodes that are there from the start
-
-root_stood : (lay : Layout) (h : History) → IsMapRun lay h → WasInTree h 0
-root_stood lay h g = was_now h spelled.tree 0 spelled.is_tree (subst (λ k. Has spelled.tree k) spelled.is_tree.is (root_has spelled.tree))
-  where
-    spelled : Spells lay (value h) (run_spells lay h g).0
-    spelled = (run_spells lay h g).1
-
-    root_has : (t : Tree) → Has t (root t)
-    root_has (Leaf n) = refl
-    root_has (Fork n a b) = inl refl
-
--- such a node has been in the tree, or its fields have held nothing
-early_stood : (lay : Layout) (h : History) (n : ℕ) (side : Side) → IsMapRun lay h → n < opening_nodes lay → WasInTree h n ⊎ ((v : ℕ) → HasHeld h (child n side) v → v ≡ 0)
-early_stood lay (Opened o) n side g i = go (dec_lt n (nodes_at_start o.mode o.planted))
-  where
-    x : IsPlanted lay (Opened o) 0
-    x = planted (edits_of lay (Opened o) g).edits lay o (grown lay (Opened o) g)
-
-    go : Dec (n < nodes_at_start o.mode o.planted) → WasInTree (Opened o) n ⊎ ((v : ℕ) → HasHeld (Opened o) (child n side) v → v ≡ 0)
-    go (yes few) = inl (was_now (Opened o) x.tree n x.is_tree (x.whole n (subst (λ mode. n < nodes_at_start mode o.planted) (start_mode lay o g.1.lawful) few)))
-    go (no late) = inr (λ v p. sym (held_start o (child n side) v p) ∙ value_start o (child n side) ∙ o.beyond n (Child side) (omega (arith, late)))
-early_stood lay (r ⊳ h) n side g i = ⊎_elim (λ x. inl (was_more h r n x)) (λ none. by_row none (field_came lay h r n side (value (r ⊳ h) (child n side)) g.1.lawful refl)) (early_stood lay h n side (g.0, record { lawful = lawful_tail lay h r g.1.lawful; shaped = shaped_tail TreeAllows lay h r g.1.shaped }) i)
-  where
-    now : ℕ
-    now = value (r ⊳ h) (child n side)
-
-    by_row : ((v : ℕ) → HasHeld h (child n side) v → v ≡ 0) → HasHeld h (child n side) now ⊎ (((r.kind ≡ Fill) × (r.word ≡ child n side) × (r.after ≡ now)) ⊎ ((u : ℕ) × UpdateWins h r u × (new h u ≡ now) × (r.word ≡ child n side))) → WasInTree (r ⊳ h) n ⊎ ((v : ℕ) → HasHeld (r ⊳ h) (child n side) v → v ≡ 0)
-    by_row none (inl p) = inr (λ v q. ⊎_elim (λ e. sym e ∙ none now p) (none v) (held_split r h (child n side) v q))
-    by_row none (inr (inl x)) =
-        let may : MayFill lay h r.pass.0 (child n side) r.after = subst (λ w. MayFill lay h r.pass.0 w r.after) x.1 (subst (λ k. Obeys lay h r k) x.0 (lawful_row lay h r g.1.lawful).obeys) in
-        absurd (let own = may.0.own.from in omega (arith, own, i))
-    by_row none (inr (inr x)) = inl (was_more h r n (subst (WasInTree h) (child_node _ _ _ _ (sym x.1.update.word ∙ x.3)) (spot_stood lay h r x.0 g x.1)))
-
--- so what such a fork has held in a field while it was not final has been in the tree
-pub early_held : (lay : Layout) (h m : History) (n : ℕ) (side : Side) → IsMapRun lay h → Extends h m → n < opening_nodes lay → is_final (log lay m) n ≡ false → is_leaf (value m) n ≡ false → WasInTree h (value m (child n side))
-early_held lay h m n side g e i not_final fork = ⊎_elim
-    (λ x. child_stood lay h m n side g e x not_final fork)
-    (λ none. subst (WasInTree h) (sym (none (value m (child n side)) (held_at m (child n side) (value m (child n side)) refl))) (root_stood lay h g))
-    (early_stood lay m n side (run_since lay h m g e) i)
