@@ -6,10 +6,10 @@ use Rattle.ordered_map.specs.declared.pair.Pair.{Pair}
 use Rattle.ordered_map.specs.OrderedMap.{AllBelow, AllFrom, IsRising}
 use Rattle.ordered_map.specs.TreeWords.{Tree, Leaf, Fork, root, Shows, Has, class, is_leaf, level, rank}
 use Rattle.ordered_map.specs.Planted.{items}
-use Rattle.ordered_map.specs.Bits.{IsParted, IsTrieFork, Keeps, PartsKeys, side_from, side_to, room_at}
+use Rattle.ordered_map.specs.Bits.{IsParted, IsTrieFork, Keeps, side_from, side_to, room_at}
 use Rattle.ordered_map.proofs.Lemmas.{between_keeps, low_items, low_leaf}
 use Rattle.edits.proofs.Lemmas.{IsLeafWith, IsForkWith}
-use Rattle.planting.specs.Groves.{IsGrove}
+use Rattle.planting.specs.Groves.{IsGrove, IsParting}
 
 -- no fork is deeper than level 65
 above_leaves : (f : Word → ℕ) (n : ℕ) → IsParted f n → level f n < 66
@@ -42,32 +42,23 @@ leaf_grove trie f n deep here tall p ps x rises small tree_deep trie_deep = reco
   );
 }
 
--- how a fork of a trie parts its pairs: from the first key to the last
-pub record IsParting (ls rs : List Pair) (key deep : ℕ) : Type 0 where
-  pub first : ℕ
-  pub last : ℕ
-  pub parts : PartsKeys first last key deep
-  pub from : AllFrom first ls
-  pub below : AllBelow (suc last) rs
-  pub between : (lo hi : ℕ) → AllFrom lo (ls ++ rs) → AllBelow hi (ls ++ rs) → (lo ≤ first) × (first < hi) × (lo ≤ last) × (last < hi)
-
-from_right : (k : ℕ) (xs ys : List Pair) → AllFrom k (xs ++ ys) → AllFrom k ys
+pub from_right : (k : ℕ) (xs ys : List Pair) → AllFrom k (xs ++ ys) → AllFrom k ys
 from_right k [] ys a = a
 from_right k (x ∷ xs) ys a = from_right k xs ys a.1
 
-from_front : (k : ℕ) (xs ys : List Pair) → AllFrom k (xs ++ ys) → AllFrom k xs
+pub from_front : (k : ℕ) (xs ys : List Pair) → AllFrom k (xs ++ ys) → AllFrom k xs
 from_front k [] ys a = tt
 from_front k (x ∷ xs) ys a = (a.0, from_front k xs ys a.1)
 
-below_back : (k : ℕ) (xs ys : List Pair) → AllBelow k (xs ++ ys) → AllBelow k ys
+pub below_back : (k : ℕ) (xs ys : List Pair) → AllBelow k (xs ++ ys) → AllBelow k ys
 below_back k [] ys a = a
 below_back k (x ∷ xs) ys a = below_back k xs ys a.1
 
-from_lower : (j k : ℕ) (xs : List Pair) → j ≤ k → AllFrom k xs → AllFrom j xs
+pub from_lower : (j k : ℕ) (xs : List Pair) → j ≤ k → AllFrom k xs → AllFrom j xs
 from_lower j k [] l a = tt
 from_lower j k (x ∷ xs) l a = ((let m = a.0 in omega (arith, l, m)), from_lower j k xs l a.1)
 
-below_higher : (j k : ℕ) (xs : List Pair) → j ≤ k → AllBelow j xs → AllBelow k xs
+pub below_higher : (j k : ℕ) (xs : List Pair) → j ≤ k → AllBelow j xs → AllBelow k xs
 below_higher j k [] l a = tt
 below_higher j k (x ∷ xs) l a = ((let m = a.0 in omega (arith, l, m)), below_higher j k xs l a.1)
 
@@ -185,3 +176,7 @@ module _ (trie : Bool) (f : Word → ℕ) (ls rs : List Pair) (at a b deep here 
       forks is n (inl e) = subst (IsTrieFork f) e (fork_is is)
       forks is n (inr (inl h)) = left.forks is n h
       forks is n (inr (inr h)) = right.forks is n h
+
+-- how tall it is says nothing in a trie
+pub any_tall : (f : Word → ℕ) (ps : List Pair) (deep tall other at many top : ℕ) → IsGrove true f ps deep tall at many top → IsGrove true f ps deep other at many top
+any_tall f ps deep tall other at many top x = record { tree = x.tree; is = x.is; there = x.there; whole = x.whole; shows = x.shows; items = x.items; low = x.low; deep_at = x.deep_at; tall_most = λ is. absurd (let z : true ≡ false = is in cc); forks = x.forks; keeps = x.keeps }

@@ -2,3 +2,7 @@
 #![tactic(auto)]
 
 mod few;
+mod grow;
+mod part;
+
+pub use grow::grow;
