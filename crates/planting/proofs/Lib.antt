@@ -1,0 +1,2 @@
+mod Groves
+mod Crowns
