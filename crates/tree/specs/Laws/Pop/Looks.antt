@@ -1,5 +1,5 @@
 -- What a pop looks at where it takes a leaf out of a trie.
-use Rattle.std.proofs.Common.{◌≡◌, ◌≢◌, ℕ, ◌<◌, Bool, true, false, ◌==◌, eqb-true, eq-eqb, List, [], ◌∷◌, length, Option, Some, None, refl, sym, ◌∙◌, ap, subst, arith}
+use Rattle.std.proofs.Common.{◌≡◌, ◌≢◌, ℕ, ◌<◌, true, false, ◌==◌, eqb-true, eq-eqb, List, [], ◌∷◌, length, Option, Some, None, refl, sym, ◌∙◌, ap, subst, arith}
 use Rattle.std.proofs.Common.{IsTrue}
 use Rattle.histories.specs.Common.{NodeNo, ScxNo, History, Call}
 use Rattle.prims.specs.Laws.Idle.{IsQuietSince}
