@@ -157,7 +157,7 @@ two_stood lay h g =
 
 -- on level 1
 pub two_level : (lay : Layout) (h : History) → IsMapRun lay h → level (value h) 2 ≡ 1
-two_level lay h g = ap (λ v. v / 8) (opening_head lay h g.1.lawful g.0)
+two_level lay h g = ap (λ v. v / 8) (tree_facts (edits_of lay h g).edits lay h (grown lay h g)).last_head
 
 -- never final
 pub two_not_final : (lay : Layout) (h : History) → IsMapRun lay h → is_final (log lay h) 2 ≡ false
