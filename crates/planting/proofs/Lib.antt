@@ -1,2 +1,0 @@
-mod Groves
-mod Crowns
