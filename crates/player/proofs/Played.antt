@@ -29,7 +29,7 @@ opening_between lay tries calls words rests same opening plays all each = record
   so_far = record {
     layout = same;
     holds = λ w i. opening w (rw same i) ∙ rw same refl;
-    sound = record { lawful = refl; shaped = tt };
+    sound = record { lawful = (refl, omega arith); shaped = inl refl };
     in_order = tt;
     filled = λ tree. tt;
     plays = plays;
