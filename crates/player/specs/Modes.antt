@@ -1,9 +1,16 @@
--- The modes in which the player makes calls. It plays no script of a trie: no machine makes the
--- calls of one yet.
-use Rattle.std.specs.Prelude.{if◌then◌else◌}
-use Rattle.histories.specs.Common.{Mode, Records, Tree}
-use Rattle.record.specs.Common.{Command, asks_map}
+-- For now.
+use Rattle.std.specs.Prelude.{ℕ, Bool, true, false}
+use Rattle.histories.specs.Common.{Mode, Tree}
+use Rattle.arena.specs.declared.limits.Mode.TheVariants.{Trie}
+use Rattle.dict.specs.declared.run.MapRun.{MapRun}
 
--- the mode of the tables on which the player makes the command
-abbrev pub mode_of : Command → Mode
-mode_of command = if asks_map command then Tree else Records
+abbrev pub map_mode : Bool → Mode
+map_mode false = Tree
+map_mode true = Trie
+
+abbrev pub trie_in : MapRun → Bool
+trie_in m = false
+
+abbrev pub nodes_by : Bool → ℕ → ℕ
+nodes_by false taken = taken
+nodes_by true taken = 65
