@@ -2,7 +2,7 @@
 use Rattle.std.proofs.Common.{Vec, ◌≡◌, ◌≢◌, ℕ, suc, ◌+◌, ◌<◌, ◌≤◌, inl, List, Option, Some, None, refl, sym, ◌∙◌, ap, subst, arith, length, zero, [], ◌∷◌, ◌⊎◌, ⊎_elim, slice_index_or, slice_get, get_or, unwrap_or, nat_lt, map, AllPairs, Contains, MatchOption, Bool, true, false, All}
 use Rattle.record.specs.Common.{cells_of, update_cells, update_finalize, update_field, update_value, AreLinked, Command, Llx as LlxCommand, Vlx as VlxCommand}
 use Rattle.arena.specs.Opening.{IsMap}
-use Rattle.player.specs.Modes.{map_mode, nodes_by, trie_in}
+use Rattle.template.specs.Balance.{map_mode, nodes_by}
 use Rattle.record.specs.Common.{Scx as ScxCommand, Set as SetCommand, Map, Range as RangeCommand, command_steps, nodes_counted, IsOfMode, MapCall, map_request, Request, Call, Pairs}
 use Rattle.histories.specs.Common.{Mode, Records, History, value, Extends, NodeNo, Side, Remaining, IsOwnScx, IsTakenScx, Call as MachineCall}
 use Rattle.arena.proofs.Lemmas.{ends_self}
@@ -27,7 +27,7 @@ use Rattle.record.specs.declared.record.Answer.TheVariants.{Unlinked, Map as Map
 use Rattle.edits.specs.Known.{RestsWith}
 use Rattle.edits.specs.Laws.Entered.{none_yet}
 use Rattle.dict.specs.Laws.Begins.{dict_begins}
-use Rattle.dict.specs.Calls.{AsksForPairs, IsFewCall, call_in, share_of}
+use Rattle.dict.specs.Calls.{AsksForPairs, call_in, IsFewCall, share_of, trie_in}
 use Rattle.dict.specs.Known.{IsUnbegun as IsFresh}
 use Rattle.dict.specs.Steps.{map_left}
 use Rattle.dict.specs.Typed.{IsTypedCall}

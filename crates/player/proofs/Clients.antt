@@ -13,7 +13,7 @@ use Rattle.player.specs.declared.client.Running.{Running}
 use Rattle.player.specs.declared.client.SetField.{SetField}
 use Rattle.record.specs.declared.record.Answer.{Answer}
 use Rattle.player.specs.RunKnown.{RunWaits, RunAnswers, IsSameMachine, run_mode, share_behind}
-use Rattle.player.specs.Modes.{map_mode}
+use Rattle.template.specs.Balance.{map_mode}
 use Rattle.player.specs.RunSteps.{run_left, then_left, left_of}
 use Rattle.player.specs.ClientView.{ClientView, Hand, in_hand, snaps_of, IsStart, IsPutOf, IsScxOf, held, HoldsShare, Holds, TakesInHand, HasNewest, IsMachineOf, IsRoomy, MayTryAll, IsWonBy, IsClientState, Works, Hears, Answered, machine_call, GoesOn, HasBeenTold, call_steps}
 use Rattle.player.specs.Hearing.{HasAnswered, HasHeard}

@@ -161,7 +161,7 @@ module _ (call : MachineCall) (h : History) (t : ℕ) (l : Lawful call.layout h)
         edit = edit_means.edit m.edit x.found;
         is = x.is;
         hand = subst (λ (n : ℕ). IsHandOf n (edit_means.edit m.edit x.found) call h t) number x.hand;
-        gives = λ row now won map spells. ap (edit_of (Edit m.edit.goal m.edit.rule)) (goal_is m.edit.goal x.found call.layout h (edit_key (edit_means.edit m.edit x.found)) map (edit_at_found m.edit x.found) (x.tells.value_is row now won map spells) (x.tells.end_is row now won) spells) ∙ edit_changes m.edit x.found x.needed;
+        gives = λ row now won map spells. ap (edit_of (Edit m.edit.goal.goal m.edit.rule)) (goal_is m.edit.goal.goal x.found call.layout h (edit_key (edit_means.edit m.edit x.found)) map (edit_at_found m.edit x.found) (x.tells.value_is row now won map spells) (x.tells.end_is row now won) spells) ∙ edit_changes m.edit x.found x.needed;
       }
   map_hand m number w = absurd (idle_rests call h (inner_share m) l w.1.now t own p)
 

@@ -26,13 +26,12 @@ use Rattle.player.specs.Allowed.{PlayedAllows}
 use Rattle.player.specs.RunKnown.{RunWaits, RunIsReady, edit_in_hand, run_mode}
 use Rattle.player.proofs.RunLaws.{run_keeps, run_made}
 use Rattle.player.specs.ClientView.{ClientView, IsSound, IsMachineOf, IsMapOf, IsPutOf, IsScxOf, IsStart, IsOwnWin, IsWonSince, held, HoldsShare, HaveMoments, no_hand, Rests, Works, WaitsForStep, machine_call, command_of}
-use Rattle.dict.specs.Calls.{call_in}
+use Rattle.dict.specs.Calls.{call_in, trie_in}
 use Rattle.dict.specs.Inner.{inner}
 use Rattle.dict.specs.declared.dict.DictRun.{DictRun}
 use Rattle.ordered_map.proofs.MapLemmas.{run_spells}
 use Rattle.player.proofs.MapCalls.{map_run}
 use Rattle.player.proofs.Shapes.{of_map}
-use Rattle.player.specs.Modes.{trie_in}
 use Rattle.edits.specs.Tries.{HasEnteredOnly}
 use Rattle.player.proofs.Editing.{IsEditHand, map_hand}
 use Rattle.player.proofs.Winners.{owner_is}

@@ -2,10 +2,10 @@
 use Rattle.std.proofs.Common.{◌≡◌, ◌≢◌, true, false}
 use Rattle.arena.specs.Opening.{IsMap}
 use Rattle.histories.specs.Common.{Fill, Step, History, Call, row_of}
-use Rattle.dict.specs.Inner.{InnerRun, Update, Get, Read, inner}
+use Rattle.dict.specs.Inner.{GoalBy, InnerRun, Update, Get, Read, inner}
 use Rattle.dict.specs.Known.{WaitsInside}
 use Rattle.order.specs.Laws.Run.{read_fills_not}
-use Rattle.template.specs.Common.{IsFillInOrder, Goal, Rule}
+use Rattle.template.specs.Common.{IsFillInOrder, Rule}
 use Rattle.ordered_map.specs.FillOrder.{AreFilledInOrder}
 use Rattle.template.proofs.Lemmas.{walk_fills_not}
 use Rattle.tree.proofs.Lemmas.{key_in_order}
@@ -18,7 +18,7 @@ no_fill : (call : Call) (h : History) (s : Step) → s.kind ≢ Fill → IsFillI
 no_fill call h s none = record { head = λ n fill. absurd (none fill); field = λ n side fill. absurd (none fill) }
 
 map_in_order : (m : InnerRun) (call : Call) (h : History) (s : Step) → AreFilledInOrder h → WaitsInside m call h s → IsFillInOrder h (row_of call s h)
-map_in_order (Update m) call h s filled w = key_in_order (λ (g : Goal). g) (λ (r : Rule). r) m call h s filled w
+map_in_order (Update m) call h s filled w = key_in_order (λ (g : GoalBy). g.goal) (λ (g : GoalBy). g.balance) (λ (r : Rule). r) m call h s filled w
 map_in_order (Get key walk share) call h s filled w = no_fill call h s (walk_fills_not walk call h s w.0.0)
 map_in_order (Read k m share) call h s filled w = no_fill call h s (read_fills_not k.means m call h s w.0)
 

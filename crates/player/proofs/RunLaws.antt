@@ -10,7 +10,7 @@ use Rattle.player.specs.declared.run.Run.{Run}
 use Rattle.player.specs.declared.run.Run.TheVariants.{Llx, Scx, Vlx, Map}
 use Rattle.dict.specs.Words.{IsNumber, IsWideNumber}
 use Rattle.player.specs.Allowed.{PlayedAllows}
-use Rattle.player.specs.Modes.{trie_in}
+use Rattle.dict.specs.Calls.{trie_in}
 use Rattle.player.specs.RunKnown.{RunIsReady, RunWaits, run_mode}
 use Rattle.player.proofs.Shapes.{as_cells, as_played, as_numbers, as_played_numbers, of_map}
 

@@ -9,7 +9,7 @@ use Rattle.dict.specs.Typed.{TypedAllows}
 use Rattle.dict.specs.Laws.TypedMaps.{typed_run}
 use Rattle.dict.specs.Words.{IsNumber, IsWideNumber}
 use Rattle.player.specs.Allowed.{AllowsIn, PlayedAllows}
-use Rattle.player.specs.Modes.{map_mode}
+use Rattle.template.specs.Balance.{map_mode}
 
 -- cells ask nothing
 pub as_cells : (lay : Layout) (h : History) → lay.mode ≡ Records → IsRun PlayedAllows lay h → IsRun AllowsAll lay h

@@ -17,7 +17,7 @@ use Rattle.player.specs.declared.client.SetField.{SetField}
 use Rattle.player.specs.declared.kept.KeptSnapshot.{KeptSnapshot}
 use Rattle.player.specs.KeptSnaps.{IsUnspent, kept_of, snap_of}
 use Rattle.record.specs.Answers.{HasRoom}
-use Rattle.player.specs.Modes.{trie_in}
+use Rattle.dict.specs.Calls.{trie_in}
 use Rattle.player.proofs.Shapes.{of_map}
 use Rattle.player.specs.RunKnown.{RunWaits, RunIsReady, run_mode}
 use Rattle.player.proofs.RunLaws.{run_keeps, run_lawful, run_made}

@@ -7,7 +7,7 @@ use Rattle.arena.specs.Opening.{IsMap}
 use Rattle.arena.specs.Share.{IsFull}
 use Rattle.dict.specs.Calls.{call_in}
 use Rattle.dict.specs.Known.{AsksFirst}
-use Rattle.player.specs.Modes.{map_mode}
+use Rattle.template.specs.Balance.{map_mode}
 use Rattle.dict.specs.declared.dict.DictRun.{DictRun}
 use Rattle.template.specs.Common.{AreFinished, nodes_of, IsShare, snap_at, IsAmong, update_field_index, PutRun, Snap}
 use Rattle.prims.specs.Moments.{IsMoment, AreLeftAlone, HasTakenOnly}

@@ -2,7 +2,7 @@
 -- and what its answer says: as the machine inside.
 use Rattle.std.specs.Prelude.{◌≡◌, ℕ, Option, Some, None}
 use Rattle.histories.specs.Common.{Mode, Records, Step, History, Call, Remaining}
-use Rattle.dict.specs.Calls.{call_in, share_of}
+use Rattle.dict.specs.Calls.{call_in, share_of, trie_in}
 use Rattle.dict.specs.DictKnown.{DictIsReady, DictWaits, DictAnswers}
 use Rattle.dict.specs.Inner.{InnerRun, Update, edit_means, inner}
 use Rattle.dict.specs.Known.{AsksFirst}
@@ -17,7 +17,7 @@ use Rattle.ordered_map.specs.CallRules.{TakesNothing}
 use Rattle.record.specs.Common.{MapEdit, Request, Range as RangeOf}
 use Rattle.dict.specs.Words.{IsNumber, IsWideNumber}
 use Rattle.player.specs.Allowed.{FitsTwoWords, IsSmall}
-use Rattle.player.specs.Modes.{map_mode, trie_in}
+use Rattle.template.specs.Balance.{map_mode}
 use Rattle.player.specs.declared.run.Run.{Run}
 use Rattle.player.specs.declared.run.Run.TheVariants.{Llx, Scx, Vlx, Map}
 use Rattle.player.specs.declared.run.Ended.{Ended}

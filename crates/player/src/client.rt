@@ -2,7 +2,7 @@
 ghost use Rattle.std.specs.Prelude.{◌≡◌, Some, ℕ, ◌+◌, ◌<◌, ◌≤◌, length, map, IfOk, MatchBool};
 ghost use Rattle.arena.specs.Opening.{IsMap};
 ghost use Rattle.dict.specs.Calls.{AsksForPairs};
-ghost use Rattle.player.specs.Modes.{map_mode};
+ghost use Rattle.template.specs.Balance.{map_mode};
 ghost use Rattle.player.specs.RunKnown.{IsForNothing};
 ghost use Rattle.ordered_map.specs.Requests.{map_request};
 ghost use Rattle.player.specs.declared.client.Client.{Client};
@@ -212,7 +212,14 @@ impl Client {
             return Some(Answer::Map(Reply::Pairs(Vec::new(self.alloc))));
         }
         let share = self.share.take()?;
-        let run = DictRun::new(Some(self.alloc), request, share, self.tries, self.number);
+        let run = DictRun::new(
+            Some(self.alloc),
+            request,
+            share,
+            self.tries,
+            self.number,
+            self.trie,
+        );
         self.run(Run::Map(run), None)
     }
 

@@ -5,7 +5,7 @@ use Rattle.dict.specs.DictKnown.{DictIsReady}
 use Rattle.dict.specs.Laws.Dict.{dict_told}
 use Rattle.dict.specs.Words.{IsNumber, IsWideNumber}
 use Rattle.arena.specs.Opening.{IsMap}
-use Rattle.player.specs.Modes.{trie_in}
+use Rattle.dict.specs.Calls.{trie_in}
 use Rattle.player.proofs.Shapes.{as_cells, as_numbers, of_map}
 use Rattle.player.proofs.run.Run.next.Goals as goal
 
