@@ -128,7 +128,6 @@ pub step_made : (lay : Layout) (tries : ℕ) (calls : List Call) (old new : Cont
 unfolding AreLines
 step_made lay tries calls old new lines number row changed run next order x = record {
   layout = changed.layout ∙ x.layout;
- 
   of_mode = x.of_mode;
   holds = λ w i. go w i (same_word row.word w) refl;
   sound = run;
