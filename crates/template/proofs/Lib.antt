@@ -2,9 +2,10 @@ mod WalkTurns
 mod WalkBounds
 mod WalkEdges
 mod Stood
-mod EndFound
 mod Promised
 mod Inserting
+mod EndOfTrie
+mod EndFound
 mod Deleting
 mod Tracking
 mod Contending

@@ -1,12 +1,12 @@
 -- In which order an edit fills its nodes: as what it does at its key.
-use Rattle.std.proofs.Common.{ℕ, Bool, ◌<◌, Option, Some, None, ◌∙◌, subst, arith}
+use Rattle.std.proofs.Common.{◌≡◌, ℕ, Bool, true, false, ◌<◌, Option, Some, None, ◌∙◌, subst, arith}
 use Rattle.histories.specs.Common.{Step, NodeWord, History, Call, row_of}
 use Rattle.template.specs.Common.{IsFillInOrder, leaves, Goal, Rule}
 use Rattle.ordered_map.specs.FillOrder.{AreFilledInOrder}
 use Rattle.template.specs.declared.walk.Found.{Found}
 use Rattle.tree.specs.declared.key_edit.KeyEdit.{KeyEdit}
 use Rattle.tree.specs.KeyEdit.Means.{key_at, key_means, leaving, part, putting, taking}
-use Rattle.tree.specs.Laws.KeyEdit.{own_looked, same_work}
+use Rattle.tree.specs.Laws.KeyEdit.{own_guarded, own_looked, same_work}
 use Rattle.tree.specs.Put.Means.{put_means}
 use Rattle.tree.specs.Take.Means.{take_means}
 use Rattle.tree.proofs.Fills.{update_in_order}
@@ -20,7 +20,7 @@ use Rattle.edits.specs.Known.{FillsPiece, UpdateWaits, piece_fill_step}
 
 -- the same update of another edit
 abbrev of_edit : {E F : Type 0} → F → UpdateRun E UpdateAt → UpdateRun F UpdateAt
-of_edit e m = record { edit = e; share = m.share; work = m.work; snaps = m.snaps; nodes = m.nodes; read = m.read; tries = m.tries; limit = m.limit; call = m.call; at = m.at }
+of_edit e m = record { edit = e; share = m.share; work = m.work; guard = m.guard; snaps = m.snaps; nodes = m.nodes; read = m.read; tries = m.tries; limit = m.limit; call = m.call; at = m.at }
 
 -- what leaves this to a key fills in order
 module _ (trie : Bool) (m : UpdateRun ℕ UpdateAt) (c : Call) (h : History) (f : Found) (nth : Nth) (word : NodeWord) where
@@ -39,6 +39,7 @@ module _ (trie : Bool) (m : UpdateRun ℕ UpdateAt) (c : Call) (h : History) (f 
       need = x.works.need;
       in_order = x.works.in_order;
       some = x.works.some;
+      guarded = λ is. absurd (let z : false ≡ true = is in cc);
     };
     full = x.full;
     hand = record { lowest = x.hand.lowest; highest = x.hand.highest };
@@ -47,7 +48,7 @@ module _ (trie : Bool) (m : UpdateRun ℕ UpdateAt) (c : Call) (h : History) (f 
     part_is = x.part_is;
   }
 
-  takes : FillsIn None → FillsPiece take_means (of_edit (taking m.edit) m) c h f nth word
+  takes : FillsIn None → FillsPiece take_means (of_edit (taking trie m.edit) m) c h f nth word
   takes x = record {
     works = record {
       run = x.works.run;
@@ -59,6 +60,7 @@ module _ (trie : Bool) (m : UpdateRun ℕ UpdateAt) (c : Call) (h : History) (f 
       need = x.works.need;
       in_order = x.works.in_order;
       some = x.works.some;
+      guarded = λ is. absurd (let z : false ≡ true = is in cc);
     };
     full = x.full;
     hand = record { lowest = x.hand.lowest; highest = x.hand.highest };
@@ -69,7 +71,7 @@ module _ (trie : Bool) (m : UpdateRun ℕ UpdateAt) (c : Call) (h : History) (f 
 
   leaving_in_order : (left : Option ℕ) → AreFilledInOrder h → FillsIn left → IsFillInOrder h (row_of c (piece_fill_step (leaving trie left) m f nth word) h)
   leaving_in_order (Some value) filled x = put_fill_in_order (of_edit (putting trie m.edit value) m) c h f nth word (puts value x)
-  leaving_in_order None filled x = take_fill_in_order (of_edit (taking m.edit) m) c h f nth word (takes x) filled
+  leaving_in_order None filled x = take_fill_in_order (of_edit (taking trie m.edit) m) c h f nth word (takes x) filled
 
 module _ {G R : Type 0} (goal : G → Goal) (trie : G → Bool) (rule : R → Rule) where
   -- what it does at its key
@@ -85,6 +87,7 @@ module _ {G R : Type 0} (goal : G → Goal) (trie : G → Bool) (rule : R → Ru
       need = x.works.need;
       in_order = x.works.in_order;
       some = x.works.some;
+      guarded = own_guarded goal trie rule m.edit f needed c h m.guard x.works.run x.works.looked x.works.guarded;
     };
     full = x.full;
     hand = record { lowest = x.hand.lowest; highest = x.hand.highest };

@@ -11,7 +11,7 @@ use Rattle.template.specs.declared.walk.Found.{Found}
 use Rattle.template.specs.declared.walk.Way.TheVariants.{InTree}
 use Rattle.tree.specs.declared.take.TakePair.{TakePair}
 use Rattle.tree.specs.Take.Means.{copied_pairs, copy_with, take_means, take_piece, take_plan, work_by, has_more, join_looks, sibling_of}
-use Rattle.tree.specs.Laws.Take.Sound.{HasFour, copy_fields, few_places, has_four, looked_join, usable_at}
+use Rattle.tree.specs.Laws.Take.Sound.{HasFour, LooksToTake, copy_fields, few_places, has_four, looked_join, usable_at}
 use Rattle.tree.proofs.Fills.{opens_three, same_number, same_part, unstood}
 use Rattle.edits.specs.declared.edit.Nodes.{Nodes}
 use Rattle.edits.specs.declared.edit.Nth.{Nth}
@@ -22,7 +22,7 @@ use Rattle.edits.specs.declared.piece.Piece.TheVariants.{Leaf, Fork}
 use Rattle.edits.specs.declared.reading.Reading.{Reading}
 use Rattle.edits.specs.declared.update.UpdateAt.{UpdateAt}
 use Rattle.edits.specs.declared.update.UpdateRun.{UpdateRun}
-use Rattle.edits.specs.Known.{HasLookedBy, HasSnappedAfterWalk, IsNeeded, FillsPiece, MayRead, piece_fill_step, piece, top}
+use Rattle.edits.specs.Known.{HasSnappedAfterWalk, IsNeeded, FillsPiece, MayRead, piece_fill_step, piece, top}
 use Rattle.edits.specs.Pieces.{is_filled, nth_node, top_of, word_of}
 use Rattle.edits.specs.Readings.{next_read}
 use Rattle.edits.proofs.Lemmas.{head_read, piece_is}
@@ -78,7 +78,7 @@ module _ (m : UpdateRun TakePair UpdateAt) (c : Call) (h : History) (f : Found) 
     field_stood : (side : Side) → AreFilledInOrder h → is_leaf (value h) sibling.node.0 ≡ false → WasInTree h (child_of sibling side).0
     field_stood side filled fork = subst (WasInTree h) (u.is.linked.fields side u.is.info) (held_stood c.layout h u.moment sibling.node.0 side x.works.run filled u.within (named u.is.linked.in_field) u.is.not_final then)
       where
-        looked : HasLookedBy join_looks c h InTree (ToKey m.edit.key) f m.snaps.items
+        looked : LooksToTake join_looks c h m.edit.key f m.snaps.items
         looked = looked_join m.edit c h f m.snaps.items t x.works.looked
 
         four : HasFour f m.snaps.items

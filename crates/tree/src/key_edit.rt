@@ -31,7 +31,8 @@ impl<G: EditGoal, R: EditRule> KeyEdit<G, R> {
     /// An edit with `tries` tries, in the caller's call of this number; it takes fresh nodes and
     /// SCX-records out of the share, at most one SCX-record in a try, and one node, or three where
     /// its rule puts in what was absent. Where `nodes` are taken when it ends, it makes at most
-    /// `tries * (3 * (2 + nodes) + n)` steps, n being 207 if it leaves a value, and else 328.
+    /// `tries * (3 * (2 + nodes) + n)` steps, n being 207 if it leaves a value, and else 328; in a trie
+    /// 67 stands for `2 + nodes`.
     #[inline(always)]
     pub fn run(self, share: Share, tries: u32, call: u64) -> KeyEditRun<G, R>
         ensures start { result.at ≡ UpdateAt.Start }
@@ -41,7 +42,7 @@ impl<G: EditGoal, R: EditRule> KeyEdit<G, R> {
         ensures tries { result.tries ≡ tries - 1 }
         ensures limit { result.limit ≡ tries }
         ensures steps { (nodes : ℕ) → 0 < tries → update_left (key_means G.goal G.trie R.rule) result nodes
-            ≡ tries * (3 * (2 + room (way_of (G.trie self.goal) (R.rule self.rule)) nodes) + steps_behind (leaves (R.rule self.rule))) }
+            ≡ tries * (3 * (2 + room (way_of (G.goal self.goal) (G.trie self.goal) (R.rule self.rule)) nodes) + steps_behind (leaves (R.rule self.rule))) }
     {
         UpdateRun::new(self, share, tries, call, UpdateAt::Start)
     }
@@ -91,10 +92,11 @@ impl<G: EditGoal, R: EditRule> KeyEdit<G, R> {
     /// And where it leaves none.
     #[inline(always)]
     fn take(&self, found: &Found) -> TakePair
-        ensures { result ≡ taking (asked_key (G.goal self.now.goal) found.now.key) }
+        ensures { result ≡ taking (G.trie self.now.goal) (asked_key (G.goal self.now.goal) found.now.key) }
     {
         TakePair {
             key: self.key(found),
+            trie: self.goal.in_trie(),
         }
     }
 }
@@ -109,17 +111,24 @@ impl<G: EditGoal, R: EditRule> Edit for KeyEdit<G, R> {
     }
 
     /// In a trie what puts in what was absent ends at a fork that its key does not share. Nothing is
-    /// taken out of one yet.
+    /// done at an end of one yet.
     #[inline(always)]
     fn way(&self) -> Way {
         if !self.goal.in_trie() {
             return Way::InTree;
         }
-        match self.rule.leaves() {
-            Some(_) if self.rule.applies(None) => Way::Within,
-            Some(_) => Way::InTrie,
-            None => Way::InTree,
+        match self.goal.goal() {
+            Goal::Key(_) => match self.rule.leaves() {
+                Some(_) if self.rule.applies(None) => Way::Within,
+                _ => Way::InTrie,
+            },
+            Goal::End(_) => Way::Within,
         }
+    }
+
+    #[inline(always)]
+    fn guard(&self) -> bool {
+        false
     }
 
     #[inline(always)]

@@ -13,6 +13,8 @@ use template::{Found, Goal, Way};
 #[derive(Clone, Copy, Debug, PartialEq, Eq)]
 pub(crate) struct TakePair {
     pub key: u64,
+    /// Whether it is in a trie.
+    pub trie: bool,
 }
 
 impl TakePair {
@@ -122,7 +124,11 @@ impl Edit for TakePair {
     }
 
     fn way(&self) -> Way {
-        Way::InTree
+        if self.trie { Way::InTrie } else { Way::InTree }
+    }
+
+    fn guard(&self) -> bool {
+        false
     }
 
     #[inline(always)]

@@ -1,34 +1,36 @@
 -- What is so of an edit that runs inside of a call, and of each kind of ordered read.
 use Rattle.std.proofs.Common.{◌≡◌, ◌≢◌, ℕ, ◌+◌, ◌*◌, ◌^◌, ◌<◌, ◌≤◌, Bool, true, false, cond, List, Option, Some, None, Result, Ok, Err, Vec, inl, inr, refl, sym, ap, ◌∙◌, subst, arith, Global}
 use Rattle.std.specs.Option.{option_map}
-use Rattle.histories.specs.Common.{Left, Right, Kind, Fill, History, Call, Remaining, Side}
+use Rattle.histories.specs.Common.{Layout, Left, Right, Kind, Fill, History, Call, Remaining, Side}
 use Rattle.order.specs.declared.refused.Refused.{Refused}
 use Rattle.order.specs.declared.refused.Refused.TheVariants as refused
 use Rattle.template.specs.Common.{call_rules, most_nodes, most_steps, need, MayReply, MapCall, MapReply, Edit, Neighbour as NeighbourOf, Range as RangeOf, OneValue}
-use Rattle.template.specs.Common.{applies, edit_key, edit_of, edit_to, leaves, pair, pair_or_none, reply, Rule, Pair, asked_key, path_key, Goal, Key as ToKey, End}
+use Rattle.template.specs.Common.{applies, edit_key, edit_of, edit_to, leaves, pair, pair_or_none, end_pair, reply, Rule, Pair, asked_key, path_key, Goal, Key as ToKey, End}
 use Rattle.ordered_map.specs.CallRules.{TakesNothing, nodes_at, nodes_there, steps_behind}
 use Rattle.ordered_map.specs.OrderedMap.{edit_there, spot}
+use Rattle.ordered_map.specs.Requests.{edit_in, map_request}
+use Rattle.ordered_map.specs.declared.request.Request.{Request}
+use Rattle.ordered_map.specs.declared.request.Request.TheVariants as requests
 use Rattle.ordered_map.specs.declared.rule.Rule.TheVariants.{Take}
 use Rattle.template.specs.declared.walk.Found.{Found}
 use Rattle.tree.specs.declared.key_edit.KeyEdit.{KeyEdit}
-use Rattle.tree.specs.KeyEdit.Means.{doing, key_means, wants, way_of}
+use Rattle.tree.specs.KeyEdit.Means.{doing, leaving, key_means, wants, way_by, way_of}
 use Rattle.tree.specs.Laws.KeyEdit.{at_goal}
 use Rattle.tree.specs.KeyEdit.Laws.{one_needed, three_needed}
 use Rattle.tree.specs.Put.Laws.{some_needed as put_needs}
 use Rattle.tree.specs.Take.Means.{take_plan, work_by}
+use Rattle.edits.specs.Edits.{all_looks}
 use Rattle.edits.specs.Pieces.{no_work}
 use Rattle.edits.specs.Steps.{most_works, try_left}
 use Rattle.edits.specs.declared.update.Updated.{Updated}
 use Rattle.edits.specs.declared.update.Updated.TheVariants.{Done, Contended, Full}
-use Rattle.template.specs.Balance.{nodes_by}
+use Rattle.template.specs.Balance.{map_mode, nodes_by}
 use Rattle.template.specs.Walk.Steps.{room}
-use Rattle.template.specs.declared.walk.Way.{Way}
-use Rattle.template.specs.declared.walk.Way.TheVariants.{InTree, InTrie, Within}
-use Rattle.dict.specs.Calls.{AsksForPairs, IsServed, IsSmallCall, IsWayTo, most_tries}
+use Rattle.dict.specs.Calls.{AsksForPairs, IsSmallCall, most_tries}
 use Rattle.dict.specs.Goals.{leaf_told}
 use Rattle.dict.specs.WordReplies.{edit_reply, range_reply, read_reply, neighbour_reply, told_in, word_form}
 use Rattle.dict.specs.Inner.{GoalBy, ReadKind, InnerRun, Read, edit_means, inner, range_kind, neighbour_kind}
-use Rattle.dict.specs.Says.{IsRefusal, KeepsLists}
+use Rattle.dict.specs.Says.{IsRefusal, KeepsLists, WalksFirst}
 use Rattle.dict.specs.declared.run.MapRun.{MapRun}
 use Rattle.dict.specs.declared.run.MapRun.TheVariants as runs
 
@@ -47,17 +49,28 @@ told_by (ToKey k) key value = OneValue value
 told_by (End side) key value = pair_or_none (option_map (pair key) value)
 
 -- how many steps it makes after its walk, at most
-steps_by : (trie : Bool) (left : Option ℕ) (nodes : ℕ) → 3 * (2 + nodes) + 5 + (64 * (doing trie left).most_looks 0 + ((doing trie left).most_reads 0 + (doing trie left).most_fills 0) + 39) ≡ 3 * (2 + nodes) + steps_behind left
+steps_by : (trie : Bool) (left : Option ℕ) (nodes : ℕ) → 3 * (2 + nodes) + 5 + (64 * all_looks ((doing trie left).guard 0) ((doing trie left).most_looks 0) + ((doing trie left).most_reads 0 + (doing trie left).most_fills 0) + 39) ≡ 3 * (2 + nodes) + steps_behind left
 steps_by in_trie None nodes = omega arith
 steps_by in_trie (Some v) nodes = omega arith
 
 -- its way there has the bounds of its map
-pub room_on : (trie : Bool) (goal : Goal) (way : Way) (nodes : ℕ) → IsWayTo trie goal way → room way nodes ≡ nodes_by trie nodes
-room_on false goal way nodes is = rw is refl
-room_on true (ToKey k) InTree nodes is = absurd (is refl)
-room_on true (ToKey k) InTrie nodes is = refl
-room_on true (ToKey k) Within nodes is = refl
-room_on true (End side) way nodes is = absurd is
+pub room_on : (goal : Goal) (trie : Bool) (rule : Rule) (nodes : ℕ) → room (way_of goal trie rule) nodes ≡ nodes_by trie nodes
+room_on goal false rule nodes = refl
+room_on (End side) true rule nodes = refl
+room_on (ToKey k) true rule nodes = by_left (leaves rule) (applies rule None)
+  where
+    by_left : (left : Option ℕ) (absent : Bool) → room (way_by (ToKey k) true left absent) nodes ≡ nodes_by true nodes
+    by_left None absent = refl
+    by_left (Some value) true = refl
+    by_left (Some value) false = refl
+
+-- in a tree, and to a key, it has no guard
+pub no_guard : (lay : Layout) (goal : Goal) (trie : Bool) (rule : Rule) → lay.mode ≡ map_mode trie → WalksFirst lay (Edit goal rule) → edit_means.guard (record { goal = record { goal = goal; balance = trie }; rule = rule }) ≡ false
+no_guard lay goal trie rule mode walks = by_left (leaves rule)
+  where
+    by_left : (left : Option ℕ) → (leaving trie left).guard 0 ≡ false
+    by_left None = refl
+    by_left (Some v) = refl
 
 -- so it makes no more steps than its call may
 pub few_steps : (tries r most behind steps : ℕ) → steps ≡ tries * (3 * (2 + r) + behind) → r ≡ most → steps ≤ tries * (3 * (2 + most) + behind)
@@ -124,6 +137,24 @@ edit_small (ToKey k) rule small = small
 edit_small (End Left) rule small = omega arith
 edit_small (End Right) rule small = omega arith
 
+-- a request that goes to an end takes what is there
+takes_at_end : (r : Request ℕ ℕ) (side : Side) (rule : Rule) → edit_in (map_request r) ≡ Some (End side, rule) → rule ≡ Take
+takes_at_end requests.PopFirst side rule e = let x : Some (End Left, Take) ≡ Some (End side, rule) = e in cc
+takes_at_end requests.PopLast side rule e = let x : Some (End Right, Take) ≡ Some (End side, rule) = e in cc
+takes_at_end (requests.Insert k v) side rule e = absurd cc
+takes_at_end (requests.Delete k) side rule e = absurd cc
+takes_at_end (requests.ReplaceIf k f v) side rule e = absurd cc
+takes_at_end (requests.InsertNew k v) side rule e = absurd cc
+takes_at_end (requests.DeleteIf k f) side rule e = absurd cc
+takes_at_end (requests.Get k) side rule e = absurd cc
+takes_at_end (requests.Successor k) side rule e = absurd cc
+takes_at_end (requests.Predecessor k) side rule e = absurd cc
+takes_at_end (requests.Range low high most) side rule e = absurd cc
+
+pub request_small : (r : Request ℕ ℕ) (goal : Goal) (rule : Rule) → edit_in (map_request r) ≡ Some (goal, rule) → ((k : ℕ) → goal ≡ ToKey k → k < 2 ^ 64) → IsSmallCall (Edit goal rule)
+request_small r (ToKey k) rule e small = small k refl
+request_small r (End side) rule e small = takes_at_end r side rule e
+
 -- what the map replies to an edit, if the leaf says that
 same_told : (goal : Goal) (f : Found) → leaf_told goal f ≡ told_by goal f.key f.value
 same_told (ToKey k) f = refl
@@ -134,15 +165,19 @@ pub edit_at_found : (e : KeyEdit GoalBy Rule) (f : Found) → edit_key (edit_mea
 edit_at_found e f = at_goal (leaves e.rule) (asked_key e.goal.goal f.key)
 
 -- it makes as many steps as its call may
-pub edit_steps : {G R : Type 0} (goal : G → Goal) (trie : G → Bool) (rule : R → Rule) (e : KeyEdit G R) (tries nodes : ℕ) → IsServed (trie e.goal) (Edit (goal e.goal) (rule e.rule)) → tries * try_left (key_means goal trie rule) e nodes ≡ most_steps (Edit (goal e.goal) (rule e.rule)) tries (nodes_by (trie e.goal) nodes)
-edit_steps goal trie rule e tries nodes served =
-    let same : room (way_of (trie e.goal) (rule e.rule)) nodes ≡ nodes_by (trie e.goal) nodes = room_on (trie e.goal) (goal e.goal) (way_of (trie e.goal) (rule e.rule)) nodes served in
-    ap (λ (r : ℕ). tries * (3 * (2 + r) + 5 + (64 * (key_means goal trie rule).most_looks e + most_works (key_means goal trie rule) e + 39))) same ∙ ap (λ (k : ℕ). tries * k) (steps_by (trie e.goal) (leaves (rule e.rule)) (nodes_by (trie e.goal) nodes))
+pub edit_steps : {G R : Type 0} (goal : G → Goal) (trie : G → Bool) (rule : R → Rule) (e : KeyEdit G R) (tries nodes : ℕ) → tries * try_left (key_means goal trie rule) e nodes ≡ most_steps (Edit (goal e.goal) (rule e.rule)) tries (nodes_by (trie e.goal) nodes)
+edit_steps goal trie rule e tries nodes =
+    ap (λ (r : ℕ). tries * (3 * (2 + r) + 5 + (64 * all_looks ((key_means goal trie rule).guard e) ((key_means goal trie rule).most_looks e) + most_works (key_means goal trie rule) e + 39))) (room_on (goal e.goal) (trie e.goal) (rule e.rule) nodes)
+    ∙ ap (λ (k : ℕ). tries * k) (steps_by (trie e.goal) (leaves (rule e.rule)) (nodes_by (trie e.goal) nodes))
 
 module _ (e : KeyEdit GoalBy Rule) (f : Found) where
   -- it needs no more nodes than its call may on a map that replies what its leaf says
   pub edit_needs : (map : List Pair) → reply (Edit e.goal.goal e.rule) map ≡ leaf_told e.goal.goal f → (edit_means.work e f).need ≤ need (Edit e.goal.goal e.rule) map
   edit_needs map is = subst (λ (told : MapReply). (edit_means.work e f).need ≤ nodes_there e.rule (spot e.goal.goal told)) (sym (is ∙ same_told e.goal.goal f)) (key_many e.goal.balance f e.rule e.goal.goal f.value refl)
+
+  -- so it needs no more on a map that has a pair, if it takes that at an end
+  pub end_needs : (side : Side) (v : ℕ) (map : List Pair) → e.goal.goal ≡ End side → e.rule ≡ Take → f.value ≡ Some v → (p : Pair) × (end_pair side map ≡ Some p) → (edit_means.work e f).need ≤ need (Edit e.goal.goal e.rule) map
+  end_needs side v map at takes is end = subst (λ (goal : Goal). (cond (wants goal e.rule f.value) ((doing e.goal.balance (leaves e.rule)).work (asked_key goal f.key) f) no_work).need ≤ need (Edit goal e.rule) map) (sym at) (rw (is, takes, end.1) (one_needed e.goal.balance None f.key v f is))
 
   made_by : edit_of (Edit e.goal.goal e.rule) (leaf_told e.goal.goal f) ≡ edit_there e.rule (spot e.goal.goal (told_by e.goal.goal f.key f.value))
   made_by = ap (λ (told : MapReply). edit_there e.rule (spot e.goal.goal told)) (same_told e.goal.goal f)

@@ -28,7 +28,7 @@ bounds_through m of b = record {
 -- what leaves this to a key
 pub leaving_bounds : (trie : Bool) (left : Option ℕ) → EditBounds (leaving trie left)
 leaving_bounds in_trie (Some value) = bounds_through put_means (λ key. putting in_trie key value) put_bounds
-leaving_bounds in_trie None = bounds_through take_means taking take_bounds
+leaving_bounds in_trie None = bounds_through take_means (taking in_trie) take_bounds
 
 -- a try takes some node
 some_nodes : (b : Bool) → 0 < cond b 3 (let one : ℕ = 1 in one)
@@ -37,13 +37,13 @@ some_nodes false = omega arith
 
 -- where there is a value one is enough
 pub one_needed : (trie : Bool) (left : Option ℕ) (key value : ℕ) (f : Found) → f.value ≡ Some value → ((doing trie left).work key f).need ≤ 1
-one_needed in_trie None key value f is = take_bounds.few_nodes (taking key) f
+one_needed in_trie None key value f is = take_bounds.few_nodes (taking in_trie key) f
 one_needed in_trie (Some v) key value f is = rw is (omega arith)
 
 -- and three always are
 pub three_needed : (trie : Bool) (left : Option ℕ) (key : ℕ) (f : Found) → ((doing trie left).work key f).need ≤ 3
 three_needed in_trie (Some v) key f = put_bounds.few_nodes (putting in_trie key v) f
-three_needed in_trie None key f = let few = take_bounds.few_nodes (taking key) f in omega (arith, few)
+three_needed in_trie None key f = let few = take_bounds.few_nodes (taking in_trie key) f in omega (arith, few)
 
 few_nodes : (trie : Bool) (rule : Rule) (left : Option ℕ) (key : ℕ) (f : Found) (value : Option ℕ) → f.value ≡ value → (b : Bool) → (b ≡ true → value ≡ None → applies rule None ≡ true) → (cond b ((doing trie left).work key f) no_work).need ≤ nodes_in_try rule
 few_nodes in_trie rule left key f value is false absent = omega arith

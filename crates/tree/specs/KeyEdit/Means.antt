@@ -22,19 +22,20 @@ abbrev pub putting : Bool → ℕ → ℕ → PutPair
 putting trie key value = record { key = key; value = value; trie = trie }
 
 -- what takes the key out
-abbrev pub taking : ℕ → TakePair
-taking key = record { key = key }
+abbrev pub taking : Bool → ℕ → TakePair
+taking trie key = record { key = key; trie = trie }
 
 -- what leaves this value to a key does what puts it there; what leaves none, what takes the key out
 abbrev pub doing : Bool → Option ℕ → EditMeaning ℕ
 doing in_trie (Some value) = through put_means (λ key. putting in_trie key value)
-doing in_trie None = through take_means taking
+doing in_trie None = through take_means (taking in_trie)
 
 -- the edit that leaves this to a key
 abbrev pub leaving : Bool → Option ℕ → EditMeaning ℕ
 leaving trie left = record {
   goal = λ key. Key key;
   way = λ key. (doing trie left).way key;
+  guard = λ key. (doing trie left).guard 0;
   edit = λ key f. edit_to key left;
   work = (doing trie left).work;
   most_nodes = λ key. (doing trie left).most_nodes 0;
@@ -55,15 +56,16 @@ wants (Key k) rule found = applies rule found
 wants (End side) rule (Some value) = applies rule (Some value)
 wants (End side) rule None = false
 
--- where what leaves this walks in a trie, which takes nothing out yet: what puts in what was absent ends at a
--- fork that its key does not share
-abbrev pub way_by : Bool → Option ℕ → Bool → Way
-way_by false left absent = InTree
-way_by true None absent = InTree
-way_by true (Some value) absent = if absent then Within else InTrie
+-- where what leaves this walks: in a trie what puts in what was absent ends at a fork that its key does not
+-- share; nothing is done at an end of one yet
+abbrev pub way_by : Goal → Bool → Option ℕ → Bool → Way
+way_by goal false left absent = InTree
+way_by (Key k) true None absent = InTrie
+way_by (Key k) true (Some value) absent = if absent then Within else InTrie
+way_by (End side) true left absent = Within
 
-abbrev pub way_of : Bool → Rule → Way
-way_of in_trie rule = way_by in_trie (leaves rule) (applies rule None)
+abbrev pub way_of : Goal → Bool → Rule → Way
+way_of goal in_trie rule = way_by goal in_trie (leaves rule) (applies rule None)
 
 -- `goal`, `trie` and `rule` are the edit's as values
 module _ {G R : Type 0} (goal : G → Goal) (trie : G → Bool) (rule : R → Rule) where
@@ -79,7 +81,8 @@ module _ {G R : Type 0} (goal : G → Goal) (trie : G → Bool) (rule : R → Ru
   abbrev pub key_means : EditMeaning (KeyEdit G R)
   key_means = record {
     goal = λ e. goal e.goal;
-    way = λ e. way_of (trie e.goal) (rule e.rule);
+    way = λ e. way_of (goal e.goal) (trie e.goal) (rule e.rule);
+    guard = λ e. (part e).guard 0;
     edit = λ e f. edit_to (key_at e f) (leaves (rule e.rule));
     work = λ e f. if wants (goal e.goal) (rule e.rule) f.value then (part e).work (key_at e f) f else no_work;
     most_nodes = λ e. nodes_in_try (rule e.rule);
