@@ -44,11 +44,11 @@ module _ (keys values : ℕ → Type 0) where
   -- a key that it has is such a key, with such a value
   pub got_typed : (k v : ℕ) (m : List Pair) → AreTyped keys values m → get k m ≡ Some v → keys k × values v
   got_typed k v [] x is = absurd (let z : None ≡ Some v = is in cc)
-  got_typed k v (p ∷ ps) x is = go (k == p.key) refl is
+  got_typed k v (p ∷ ps) x is = go (k == p.key) refl (got_typed k v ps x.2) is
     where
-      go : (b : Bool) → (k == p.key) ≡ b → (if b then Some p.value else get k ps) ≡ Some v → keys k × values v
-      go true e found = (subst keys (sym (eqb-true k p.key e)) x.0, subst values (let z : Some p.value ≡ Some v = found in cc) x.1)
-      go false e found = got_typed k v ps x.2 found
+      go : (b : Bool) → (k == p.key) ≡ b → (get k ps ≡ Some v → keys k × values v) → (if b then Some p.value else get k ps) ≡ Some v → keys k × values v
+      go true e behind found = (subst keys (sym (eqb-true k p.key e)) x.0, subst values (let z : Some p.value ≡ Some v = found in cc) x.1)
+      go false e behind found = behind found
 
   if_pair : (b : Bool) (p q : Option Pair) → IsTypedReply keys values (pair_or_none p) → IsTypedReply keys values (pair_or_none q) → IsTypedReply keys values (pair_or_none (if b then p else q))
   if_pair true p q x y = x

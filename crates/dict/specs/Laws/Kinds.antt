@@ -137,19 +137,31 @@ edit_small (ToKey k) rule small = small
 edit_small (End Left) rule small = omega arith
 edit_small (End Right) rule small = omega arith
 
+-- the parts of an edit, if it is one
+abbrev goal_in : Option (Goal × Rule) → Goal
+goal_in (Some x) = x.0
+goal_in None = End Left
+
+abbrev rule_in : Option (Goal × Rule) → Rule
+rule_in (Some x) = x.1
+rule_in None = Take
+
+no_end : (k : ℕ) (rule other : Rule) (side : Side) → ◌≡◌ {A = Option (Goal × Rule)} (Some (ToKey k, rule)) (Some (End side, other)) → other ≡ Take
+no_end k rule other side e = absurd (let y : ToKey k ≡ End side = ap goal_in e in cc)
+
 -- a request that goes to an end takes what is there
 takes_at_end : (r : Request ℕ ℕ) (side : Side) (rule : Rule) → edit_in (map_request r) ≡ Some (End side, rule) → rule ≡ Take
-takes_at_end requests.PopFirst side rule e = let x : Some (End Left, Take) ≡ Some (End side, rule) = e in cc
-takes_at_end requests.PopLast side rule e = let x : Some (End Right, Take) ≡ Some (End side, rule) = e in cc
-takes_at_end (requests.Insert k v) side rule e = absurd cc
-takes_at_end (requests.Delete k) side rule e = absurd cc
-takes_at_end (requests.ReplaceIf k f v) side rule e = absurd cc
-takes_at_end (requests.InsertNew k v) side rule e = absurd cc
-takes_at_end (requests.DeleteIf k f) side rule e = absurd cc
-takes_at_end (requests.Get k) side rule e = absurd cc
-takes_at_end (requests.Successor k) side rule e = absurd cc
-takes_at_end (requests.Predecessor k) side rule e = absurd cc
-takes_at_end (requests.Range low high most) side rule e = absurd cc
+takes_at_end requests.PopFirst side rule e = sym (ap rule_in e)
+takes_at_end requests.PopLast side rule e = sym (ap rule_in e)
+takes_at_end (requests.Insert k v) side rule e = no_end k _ rule side e
+takes_at_end (requests.Delete k) side rule e = no_end k _ rule side e
+takes_at_end (requests.ReplaceIf k f v) side rule e = no_end k _ rule side e
+takes_at_end (requests.InsertNew k v) side rule e = no_end k _ rule side e
+takes_at_end (requests.DeleteIf k f) side rule e = no_end k _ rule side e
+takes_at_end (requests.Get k) side rule e = absurd (let y : None ≡ Some (End side, rule) = e in cc)
+takes_at_end (requests.Successor k) side rule e = absurd (let y : None ≡ Some (End side, rule) = e in cc)
+takes_at_end (requests.Predecessor k) side rule e = absurd (let y : None ≡ Some (End side, rule) = e in cc)
+takes_at_end (requests.Range low high most) side rule e = absurd (let y : None ≡ Some (End side, rule) = e in cc)
 
 pub request_small : (r : Request ℕ ℕ) (goal : Goal) (rule : Rule) → edit_in (map_request r) ≡ Some (goal, rule) → ((k : ℕ) → goal ≡ ToKey k → k < 2 ^ 64) → IsSmallCall (Edit goal rule)
 request_small r (ToKey k) rule e small = small k refl
@@ -177,7 +189,7 @@ module _ (e : KeyEdit GoalBy Rule) (f : Found) where
 
   -- so it needs no more on a map that has a pair, if it takes that at an end
   pub end_needs : (side : Side) (v : ℕ) (map : List Pair) → e.goal.goal ≡ End side → e.rule ≡ Take → f.value ≡ Some v → (p : Pair) × (end_pair side map ≡ Some p) → (edit_means.work e f).need ≤ need (Edit e.goal.goal e.rule) map
-  end_needs side v map at takes is end = subst (λ (goal : Goal). (cond (wants goal e.rule f.value) ((doing e.goal.balance (leaves e.rule)).work (asked_key goal f.key) f) no_work).need ≤ need (Edit goal e.rule) map) (sym at) (rw (is, takes, end.1) (one_needed e.goal.balance None f.key v f is))
+  end_needs side v map at takes is end = subst (λ (goal : Goal). (cond (wants goal e.rule f.value) ((doing e.goal.balance (leaves e.rule)).work (asked_key goal f.key) f) no_work).need ≤ need (Edit goal e.rule) map) (sym at) (rw (is, takes, end.1) (omega arith))
 
   made_by : edit_of (Edit e.goal.goal e.rule) (leaf_told e.goal.goal f) ≡ edit_there e.rule (spot e.goal.goal (told_by e.goal.goal f.key f.value))
   made_by = ap (λ (told : MapReply). edit_there e.rule (spot e.goal.goal told)) (same_told e.goal.goal f)

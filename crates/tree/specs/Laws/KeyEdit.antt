@@ -8,9 +8,11 @@ use Rattle.template.specs.declared.walk.Found.{Found}
 use Rattle.template.proofs.Lemmas.{found_own, found_small, parent_surely, said_low}
 use Rattle.tree.specs.declared.key_edit.KeyEdit.{KeyEdit}
 use Rattle.tree.specs.KeyEdit.Laws.{key_bounds, leaving_bounds}
-use Rattle.tree.specs.KeyEdit.Means.{doing, key_at, key_means, leaving, part, putting, taking, wants, way_by, way_of}
+use Rattle.tree.specs.KeyEdit.Means.{doing, is_trie_end, key_at, key_means, leaving, part, popping, putting, taking, wants, way_by, way_of}
+use Rattle.tree.specs.Laws.Pop.Sound.{pop_laws}
 use Rattle.tree.specs.Laws.Put.Sound.{put_laws}
 use Rattle.tree.specs.Laws.Take.Sound.{take_laws}
+use Rattle.tree.specs.Pop.Means.{pop_means}
 use Rattle.tree.specs.Put.Means.{put_means}
 use Rattle.tree.specs.Take.Means.{take_means}
 use Rattle.edits.specs.declared.edit.Nodes.{Nodes}
@@ -36,9 +38,10 @@ module _ {E F : Type 0} (m : EditMeaning E) (of : F → E) (laws : EditLaws m) w
   laws_through bounds = record { at_found = λ e. laws.at_found (of e); at_end = λ e. laws.at_end (of e); bounds = bounds; looks = looks_through; fills = record { fields = λ e. laws.fills.fields (of e) }; makes = makes_through }
 
 -- what leaves this to a key
-pub leaving_laws : (trie : Bool) (left : Option ℕ) → EditLaws (leaving trie left)
-leaving_laws in_trie (Some value) = laws_through put_means (λ key. putting in_trie key value) put_laws (leaving_bounds in_trie (Some value))
-leaving_laws in_trie None = laws_through take_means (taking in_trie) take_laws (leaving_bounds in_trie None)
+pub leaving_laws : (end trie : Bool) (left : Option ℕ) → EditLaws (leaving end trie left)
+leaving_laws end in_trie (Some value) = laws_through put_means (λ key. putting in_trie key value) put_laws (leaving_bounds end in_trie (Some value))
+leaving_laws false in_trie None = laws_through take_means (taking in_trie) take_laws (leaving_bounds false in_trie None)
+leaving_laws true in_trie None = laws_through pop_means popping pop_laws (leaving_bounds true in_trie None)
 
 -- At a goal
 
@@ -70,38 +73,40 @@ found_there k rule f wanted absent none = let x : true ≡ false = sym (subst (�
 
 -- so it is by the way of what it does at that key
 module _ (c : Call) (f : Found) (rule : Rule) where
-  own_found : (goal : Goal) (trie : Bool) (left : Option ℕ) (absent : Bool) → applies rule None ≡ absent → wants goal rule f.value ≡ true → (m : History) → IsMapRun c.layout m → path_key goal < 2 ^ 64 → MayGo c.layout (way_by goal trie left absent) goal → FoundBy (way_by goal trie left absent) goal c m f → FoundBy ((doing trie left).way (asked_key goal f.key)) (Key (asked_key goal f.key)) c m f
-  own_found goal false None absent is wanted m run small may a = own_leaf goal c f rule wanted m run a
-  own_found goal false (Some v) absent is wanted m run small may a = own_leaf goal c f rule wanted m run a
+  own_found : (goal : Goal) (trie : Bool) (left : Option ℕ) (absent : Bool) → applies rule None ≡ absent → wants goal rule f.value ≡ true → (m : History) → IsMapRun c.layout m → path_key goal < 2 ^ 64 → MayGo c.layout (way_by goal trie left absent) goal → FoundBy (way_by goal trie left absent) goal c m f → FoundBy ((doing (is_trie_end goal trie) trie left).way (asked_key goal f.key)) (Key (asked_key goal f.key)) c m f
+  own_found (Key k) false None absent is wanted m run small may a = a
+  own_found (Key k) false (Some v) absent is wanted m run small may a = a
   own_found (Key k) true None absent is wanted m run small may a = a
-  own_found (End side) true None absent is wanted m run small may a = absurd may
   own_found (Key k) true (Some v) true is wanted m run small may a = a
   own_found (Key k) true (Some v) false is wanted m run small may a = inl record { found = a; stays = λ d. (parent_surely c m k f small run a (found_there k rule f wanted is)).stays }
-  own_found (End side) true (Some v) true is wanted m run small may a = absurd may
-  own_found (End side) true (Some v) false is wanted m run small may a = absurd may
+  own_found (End side) false None absent is wanted m run small may a = own_leaf (End side) c f rule wanted m run a
+  own_found (End side) false (Some v) absent is wanted m run small may a = own_leaf (End side) c f rule wanted m run a
+  own_found (End side) true None absent is wanted m run small may a = own_leaf (End side) c f rule wanted m run a
+  own_found (End side) true (Some v) absent is wanted m run small may a = absurd may
 
-  own_may : (goal : Goal) (trie : Bool) (left : Option ℕ) (absent : Bool) → MayGo c.layout (way_by goal trie left absent) goal → MayGo c.layout ((doing trie left).way (asked_key goal f.key)) (Key (asked_key goal f.key))
-  own_may goal false None absent may = may
-  own_may goal false (Some v) absent may = may
+  own_may : (goal : Goal) (trie : Bool) (left : Option ℕ) (absent : Bool) → MayGo c.layout (way_by goal trie left absent) goal → MayGo c.layout ((doing (is_trie_end goal trie) trie left).way (asked_key goal f.key)) (Key (asked_key goal f.key))
+  own_may (Key k) false None absent may = may
+  own_may (Key k) false (Some v) absent may = may
   own_may (Key k) true None absent may = may
-  own_may (End side) true None absent may = absurd may
   own_may (Key k) true (Some v) true may = may
   own_may (Key k) true (Some v) false may = may
-  own_may (End side) true (Some v) true may = absurd may
-  own_may (End side) true (Some v) false may = absurd may
+  own_may (End side) false None absent may = may
+  own_may (End side) false (Some v) absent may = may
+  own_may (End side) true None absent may = may
+  own_may (End side) true (Some v) absent may = absurd may
 
   own_small : (goal : Goal) (trie : Bool) (left : Option ℕ) (absent : Bool) (h : History) → IsMapRun c.layout h → path_key goal < 2 ^ 64 → MayGo c.layout (way_by goal trie left absent) goal → FoundBy (way_by goal trie left absent) goal c h f → asked_key goal f.key < 2 ^ 64
   own_small (Key k) in_trie left absent h run small may found = small
   own_small (End side) false left absent h run small may found = found_small (End side) c h f run small found
-  own_small (End side) true None absent h run small may found = absurd may
-  own_small (End side) true (Some v) true h run small may found = absurd may
-  own_small (End side) true (Some v) false h run small may found = absurd may
+  own_small (End side) true None absent h run small may found = found_small (End side) c h f run small found
+  own_small (End side) true (Some v) absent h run small may found = absurd may
 
--- at an end of a trie nothing is done
-not_there : {A : Type 0} (goal : Goal) (trie : Bool) (left : Option ℕ) (absent : Bool) (side : Side) → goal ≡ End side → way_by goal trie left absent ≡ InTrie → A
-not_there (Key k) in_trie left absent side is by = absurd (let x : Key k ≡ End side = is in cc)
-not_there (End end) false left absent side is by = absurd (let x : InTree ≡ InTrie = by in cc)
-not_there (End end) true left absent side is by = absurd (let x : Within ≡ InTrie = by in cc)
+-- at an end of a trie it has a guard
+end_guarded : (goal : Goal) (trie : Bool) (left : Option ℕ) (absent : Bool) (side : Side) → goal ≡ End side → way_by goal trie left absent ≡ InTrie → (leaving (is_trie_end goal trie) trie left).guard 0 ≡ true
+end_guarded (Key k) in_trie left absent side is by = absurd (let x : Key k ≡ End side = is in cc)
+end_guarded (End end) false left absent side is by = absurd (let x : InTree ≡ InTrie = by in cc)
+end_guarded (End end) true None absent side is by = refl
+end_guarded (End end) true (Some v) absent side is by = absurd (let x : Within ≡ InTrie = by in cc)
 
 -- what there is to do where something is wanted
 is_wanted : (b : Bool) (work : Work) → 0 < (cond b work no_work).need → b ≡ true
@@ -119,7 +124,7 @@ module _ {G R : Type 0} (goal : G → Goal) (trie : G → Bool) (rule : R → Ru
   does e = part goal trie rule e
 
   abbrev laws_of : (e : Edit) → EditLaws (part goal trie rule e)
-  laws_of e = leaving_laws (trie e.goal) (leaves (rule e.rule))
+  laws_of e = leaving_laws (is_trie_end (goal e.goal) (trie e.goal)) (trie e.goal) (leaves (rule e.rule))
 
   abbrev IsNeeding : Edit → Found → Type 0
   IsNeeding e f = 0 < ((key_means goal trie rule).work e f).need
@@ -189,4 +194,4 @@ module _ {G R : Type 0} (goal : G → Goal) (trie : G → Bool) (rule : R → Ru
 
   -- it is an edit that an update can make
   pub key_laws : EditLaws (key_means goal trie rule)
-  key_laws = record { at_found = λ e f. at_goal (leaves (rule e.rule)) (at e f); at_end = λ e side is by. not_there (goal e.goal) (trie e.goal) (leaves (rule e.rule)) (applies (rule e.rule) None) side is by; bounds = key_bounds goal trie rule; looks = key_looks; fills = key_fills; makes = key_makes }
+  key_laws = record { at_found = λ e f. at_goal (leaves (rule e.rule)) (at e f); at_end = λ e side is by. end_guarded (goal e.goal) (trie e.goal) (leaves (rule e.rule)) (applies (rule e.rule) None) side is by; bounds = key_bounds goal trie rule; looks = key_looks; fills = key_fills; makes = key_makes }
