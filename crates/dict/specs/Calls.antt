@@ -71,11 +71,6 @@ IsSmallCall (Edit (Key k) rule) = k < 2 ^ 64
 IsSmallCall (Edit (End side) rule) = rule ≡ Take
 IsSmallCall _ = Unit {0}
 
--- a trie has no calls yet that go to an end
-abbrev pub HasSuchCall : Bool → MapCall → Type 0
-HasSuchCall true (Edit (End side) rule) = ⊥
-HasSuchCall _ _ = Unit {0}
-
 -- What a call may try and take
 
 -- how many tries it may begin, if the limits allow this many: a get has one alone

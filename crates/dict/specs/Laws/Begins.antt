@@ -17,7 +17,7 @@ use Rattle.edits.specs.Steps.{node_tries, scx_tries}
 use Rattle.edits.specs.declared.update.UpdateAt.TheVariants.{Start}
 use Rattle.edits.specs.declared.update.UpdateAt.{UpdateAt}
 use Rattle.edits.specs.declared.update.UpdateRun.{UpdateRun}
-use Rattle.dict.specs.Calls.{call_in, inner_call, inner_share, inner_trie, is_in_trie, share_of, trie_in, HasSuchCall, IsFewCall}
+use Rattle.dict.specs.Calls.{call_in, inner_call, inner_share, inner_trie, is_in_trie, share_of, trie_in, IsFewCall, IsSmallCall}
 use Rattle.dict.specs.DictKnown.{DictIsReady}
 use Rattle.dict.specs.Known.{HasRested, Goes, HasSpentSo, IsReadyInside, IsUnbegun, StandsAtStart, MapIsReady}
 use Rattle.dict.specs.Typed.{IsTypedCall, TypedAllows}
@@ -33,7 +33,7 @@ dict_mode mode false e = rw e refl
 dict_mode mode true e = rw e refl
 
 -- an edit may walk there
-edit_may : (lay : Layout) (goal : Goal) (trie : Bool) (rule : Rule) → lay.mode ≡ map_mode trie → HasSuchCall trie (Edit goal rule) → MayGo lay (way_of goal trie rule) goal
+edit_may : (lay : Layout) (goal : Goal) (trie : Bool) (rule : Rule) → lay.mode ≡ map_mode trie → IsSmallCall (Edit goal rule) → MayGo lay (way_of goal trie rule) goal
 edit_may lay (ToKey k) false rule mode small = mode
 edit_may lay (End side) false rule mode small = mode
 edit_may lay (ToKey k) true rule mode small = by_left (leaves rule) (applies rule None)
@@ -42,7 +42,7 @@ edit_may lay (ToKey k) true rule mode small = by_left (leaves rule) (applies rul
     by_left None absent = mode
     by_left (Some value) true = mode
     by_left (Some value) false = mode
-edit_may lay (End side) true rule mode small = absurd small
+edit_may lay (End side) true rule mode small = rw small mode
 
 -- so may a get
 get_may : (lay : Layout) (trie : Bool) (k : ℕ) → lay.mode ≡ map_mode trie → MayGo lay (leaf_way trie) (ToKey k)
@@ -78,7 +78,7 @@ module _ (c : Call) (run : IsMapRun c.layout c.start) where
   goes (Read k m share) tries mode kind x r = record { mode = mode; small = kind.small m.read; number = tt; limit = x.4; spent = r }
 
   inside : (m : InnerRun) (tries : ℕ) → c.layout.mode ≡ map_mode (inner_trie m) → IsOfKind m → StandsAtStart m tries c.number → IsFewCall (inner_call m) → RestsWith c c.start (inner_share m) → IsReadyInside m c c.start None
-  inside (Update m) tries mode kind x few r = update_ready edit_means m x.0 r (edit_may c.layout m.edit.goal.goal m.edit.goal.balance m.edit.rule mode x.5) (edit_small m.edit.goal.goal m.edit.rule x.3) (x.4 ∙ sym x.1)
+  inside (Update m) tries mode kind x few r = update_ready edit_means m x.0 r (edit_may c.layout m.edit.goal.goal m.edit.goal.balance m.edit.rule mode x.3) (edit_small m.edit.goal.goal m.edit.rule x.3) (x.4 ∙ sym x.1)
   inside (Get key walk share) tries mode kind x few r = ((walk_ready_first walk c c.start run (rw (x.2.1, x.2.0) (get_may c.layout (is_in_trie walk.way) key mode)) (rw x.2.0 x.3) (ends_self c.start) x.0 x.1, x.2, refl), rests share r)
   inside (Read k m share) tries mode kind x few r = (read_ready_first k.means m c c.start run mode refl (x.3 few) r.over x.0 x.2 (let e = x.4 in let f = x.1 in omega (arith, e, f)), rests share r)
 
