@@ -1,7 +1,7 @@
 -- What is remembered of a map's words stays what the lines say.
 use Rattle.std.proofs.Common.{◌≡◌, ℕ, zero, suc, ◌⊎◌, inl, inr, ⊎_elim, ◌∙◌, List, [], ◌∷◌, set, slice_get, Option, Some, None, refl, sym, ap, subst}
 use Rattle.arena.specs.Opening.{IsMap}
-use Rattle.histories.specs.Common.{Layout, PassNo, Row as StepRow, Kind, Freeze, Update, History, Start, ◌⊳◌, value, Extends, Lawful, IsLawful, IsWin, Entry as Entered, IsRun, Shaped, IsBegin}
+use Rattle.histories.specs.Common.{Layout, PassNo, Row as StepRow, Kind, Freeze, Update, History, Opened, ◌⊳◌, value, Extends, Lawful, IsLawful, IsWin, Entry as Entered, IsRun, Shaped, IsBegin}
 use Rattle.arena.proofs.Lemmas.{ends_self}
 use Rattle.record.specs.Common.{Pair, Call, Command, Map, HasRisingLevels, MapCall, MapEdit, edit_key, edit_to, value_left, map_request}
 use Rattle.record.specs.Common.{Makes, Spells, TreeAllows, IsEntryFor, map_call, written_log, IsMapEntry, AreLines, AreSpelled, history}
@@ -18,13 +18,13 @@ use Rattle.audit.specs.declared.edits.BegunEdit.{BegunEdit}
 use Rattle.audit.specs.Trees.{IsTreeSoFar}
 use Rattle.audit.proofs.EachCall.{entry_makes, makes_on}
 use Rattle.ordered_map.specs.Runs.{IsMapRun}
-use Rattle.linearization.proofs.Lemmas.{spelled}
+use Rattle.linearization.proofs.Lemmas.{spelled, trie_low}
 
 -- Edits
 
 -- the kind of the newest row
 abbrev kind_of : History → Kind
-kind_of (Start mode) = Freeze
+kind_of (Opened o) = Freeze
 kind_of (row ⊳ h) = row.kind
 
 -- what has begun makes its edit
@@ -49,7 +49,7 @@ begun_before_win lay h row s begun won x = record { row = x.row; before = x.befo
 
 -- the shape of the tree allows it
 pub edit_allowed : (lay : Layout) (h : History) (s : ℕ) (begun : BegunEdit) → MayMakeEdit lay h s begun → TreeAllows lay h s
-edit_allowed lay h s begun x = (edit_begun begun, x.edit)
+edit_allowed lay h s begun x = inl (edit_begun begun, x.edit)
 
 -- a win makes no SCX-record begin
 win_run : (lay : Layout) (h : History) (row : StepRow) (s : ℕ) → IsMapRun lay h → IsLawful lay h row → IsWin h row s → IsMapRun lay (row ⊳ h)
@@ -105,7 +105,7 @@ edits_set lay h r edits s begun x b may t other is = ⊎_elim
 module _ (lay : Layout) (tries : ℕ) (calls : List Call) (mode : IsMap lay.mode) (all : AreMapCalls calls) (begun : List (Option BegunEdit)) (changed : List Change) (lines : List Line) (x : IsTreeSoFar lay calls begun changed lines) where
   spelled_more : (line : Line) → AreLines lay tries calls (line ∷ lines) → IsMapRun lay (history lay.mode (line ∷ lines)) → HasRisingLevels (history lay.mode (line ∷ lines)) → AreSpelled lay calls (line ∷ lines)
   unfolding AreSpelled
-  spelled_more line a g rising = (x.spelled, λ owed. record { spelled = spelled lay tries calls mode all (line ∷ lines) a g owed; rising = rising })
+  spelled_more line a g rising = (x.spelled, λ owed. record { spelled = spelled lay tries calls mode all (line ∷ lines) a g owed; rising = rising; low = trie_low lay (history lay.mode (line ∷ lines)) g })
 
   pub tree_idle : (number : ℕ) (pass : PassNo) → AreLines lay tries calls (Step (Idle number pass) ∷ lines) → IsTreeSoFar lay calls begun changed (Step (Idle number pass) ∷ lines)
   tree_idle number pass a = record { run = x.run; rising = x.rising; spelled = spelled_more (Step (Idle number pass)) a (mode, x.run) x.rising; edits = x.edits; entries = x.entries }

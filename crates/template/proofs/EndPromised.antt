@@ -6,7 +6,6 @@ use Rattle.histories.specs.Common.{Layout, First, Side, Child, info, child, Hist
 use Rattle.template.specs.Common.{child_of, Snap, Delete, get, MapEdit, edit_key, WasOnPath, IsMapRun, class, is_leaf, opposite}
 use Rattle.template.specs.Common.{toward, said, pair_in, held_pairs, HasFoundLeaf, IsPromised, IsFresh, HasTurned, Key as ToKey}
 use Rattle.prims.specs.Laws.Linked.{IsLinked, in_field_named, linked_since}
-use Rattle.ordered_map.specs.OrderedMap.{value_left}
 use Rattle.ordered_map.specs.Edits.{IsJoinBy, IsSwapBy, HasFieldsOf}
 use Rattle.ordered_map.specs.EditPlans.{end_join_plan, end_leaf_plan}
 use Rattle.ordered_map.specs.TrieShape.{Stays, FitsTrie, EditsEndLeaf, TakesEndLeafOut}

@@ -1,12 +1,12 @@
 -- What a pop of a trie looks at, reads and fills, and that it makes the edit.
-use Rattle.std.proofs.Common.{◌≡◌, ◌≢◌, ℕ, suc, ◌^◌, ◌<◌, inr, Bool, true, false, eqb, ne_eqb, lt-ltb, cond, if◌then◌else◌, List, [], ◌∷◌, ◌++◌, length, Option, Some, None, refl, sym, ◌∙◌, ap, subst, arith}
+use Rattle.std.proofs.Common.{◌≡◌, ℕ, suc, ◌<◌, inr, Bool, true, false, ne_eqb, lt-ltb, cond, if◌then◌else◌, List, [], ◌∷◌, ◌++◌, length, Some, None, refl, sym, ◌∙◌, ap, subst, arith}
 use Rattle.std.proofs.Common.{unwrap_or, ltb-true}
 use Rattle.std.proofs.Math.Decide.{dec_lt}
 use Rattle.histories.specs.Common.{NodeNo, ScxNo, Child, Side, IsInField, head_of, Row, History, ◌⊳◌, value, Extends, IsWin, IsMember, Call, IsPlan, count, count_of, member, child, Descriptor}
 use Rattle.arena.proofs.Lemmas.{ends_self}
 use Rattle.prims.specs.Laws.Idle.{IsQuietSince}
 use Rattle.prims.specs.Laws.Linked.{IsLinked, in_field_named}
-use Rattle.template.specs.Common.{IsUpdateOver, Job, Says, child_of, snap_at, Snap, Update, Delete as TakeEdit, Makes}
+use Rattle.template.specs.Common.{IsUpdateOver, Job, Says, child_of, snap_at, Snap, Update, Delete as TakeEdit}
 use Rattle.template.specs.Common.{delete, WasInTree, IsMapRun, edit_leaf, class, is_leaf, opposite, toward, HasFoundLeaf, IsPromised, HasTurned, Key as ToKey, End, IsContended, WasNotFinal}
 use Rattle.ordered_map.specs.EditPlans.{end_join_plan, end_leaf_plan}
 use Rattle.ordered_map.specs.Edits.{IsSwapBy}
@@ -31,14 +31,12 @@ use Rattle.tree.specs.Laws.Pop.Three.{all_apart, both_apart, covers_many, covers
 use Rattle.tree.specs.Laws.Put.Stands.{found_leaf}
 use Rattle.tree.specs.Laws.Take.Made.{fresh_copy, fresh_swap}
 use Rattle.tree.specs.Laws.Take.Sound.{LooksToTake, copy_fields, grand_on, grand_turned, key_there, low_there, parent_on, parent_turned, take_usable}
-use Rattle.edits.specs.declared.edit.Look.{Look as LookOf}
 use Rattle.edits.specs.declared.edit.Look.TheVariants.{At, Differs, Enough}
 use Rattle.edits.specs.declared.edit.Nodes.{Nodes}
 use Rattle.edits.specs.declared.edit.Nth.TheVariants.{First}
 use Rattle.edits.specs.declared.piece.Piece.TheVariants.{Leaf}
 use Rattle.edits.specs.declared.reading.Reading.{Reading}
-use Rattle.edits.specs.Edits.{covering}
-use Rattle.edits.specs.Known.{CoversEnd, HasFilledAll, HasLooked, HasSnappedAfterWalk, HoldsPiece, MayRead, covered}
+use Rattle.edits.specs.Known.{HasFilledAll, HasLooked, HasSnappedAfterWalk, HoldsPiece, MayRead, covered}
 use Rattle.edits.specs.Laws.PieceFills.{the_same}
 use Rattle.edits.specs.Pieces.{is_filled, top_of, update_for, word_of}
 use Rattle.edits.specs.Readings.{nothing_read}

@@ -1,11 +1,11 @@
 -- What a pop of a trie covers: node 2 behind what it has looked at, each of which is another node.
 -- Where it takes a leaf out, that is the fork above the parent, the parent and the leaf's sibling.
-use Rattle.std.proofs.Common.{◌≡◌, ◌≢◌, ℕ, zero, suc, ◌<◌, ◌≤◌, ◌⊎◌, inl, inr, ⊎_elim, true, false, List, [], ◌∷◌, ◌++◌, length, refl, sym, ◌∙◌, ap, subst, arith}
+use Rattle.std.proofs.Common.{◌≡◌, ◌≢◌, ℕ, zero, suc, ◌<◌, ◌⊎◌, inl, inr, ⊎_elim, true, false, List, [], ◌∷◌, ◌++◌, length, refl, sym, ◌∙◌, ap, subst, arith}
 use Rattle.histories.specs.Common.{Row, History, ◌⊳◌, value, Extends, Call, Side, Left, Right, IsWin, IsPlan, count, count_of, member, seen, child}
-use Rattle.arena.proofs.Lemmas.{ends_self, ends_trans}
+use Rattle.arena.proofs.Lemmas.{ends_trans}
 use Rattle.prims.specs.Laws.Kept.{won_shows}
 use Rattle.prims.specs.Laws.Linked.{IsLinked, in_field_named, linked_since}
-use Rattle.template.specs.Common.{IsOpened, child_of, snap_at, AreDistinct, Snap, WasInTree, IsMapRun, class, is_leaf, level, opposite, HasTurned, Key as ToKey}
+use Rattle.template.specs.Common.{IsOpened, child_of, snap_at, AreDistinct, Snap, WasInTree, IsMapRun, class, is_leaf, level, opposite, Key as ToKey}
 use Rattle.ordered_map.specs.EditPlans.{end_join_plan, end_leaf_plan}
 use Rattle.ordered_map.proofs.MapLemmas.{root_head, two_level, two_stood}
 use Rattle.template.specs.declared.walk.Found.{Found}

@@ -1,11 +1,10 @@
 -- What a delete looks at, reads and fills, and that it makes the edit.
-use Rattle.std.proofs.Common.{◌≡◌, ◌≢◌, ℕ, zero, suc, ◌+◌, ◌^◌, ◌<◌, ◌≤◌, ◌⊎◌, inl, inr, ⊎_elim, Bool, true, false, ◌==◌, eqb-true, eq-eqb, ne_eqb, lt-ltb, cond, if◌then◌else◌, List, [], ◌∷◌, length, take, Option, Some, None, refl, sym, ◌∙◌, ap, subst, arith}
+use Rattle.std.proofs.Common.{◌≡◌, ◌≢◌, ℕ, zero, suc, ◌^◌, ◌<◌, ◌⊎◌, inl, inr, ⊎_elim, Bool, true, false, ◌==◌, eqb-true, eq-eqb, lt-ltb, cond, if◌then◌else◌, List, [], ◌∷◌, length, take, Option, Some, None, refl, sym, ◌∙◌, ap, subst, arith}
 use Rattle.std.proofs.Common.{IsTrue, unwrap_or, ltb-true}
 use Rattle.std.proofs.Math.Decide.{dec_lt}
-use native.Mathlib.Decide.{ℕ_discrete}
 use Rattle.arena.specs.declared.head.Head.{Head as HeadParts}
-use Rattle.histories.specs.Common.{NodeNo, ScxNo, Settled, Child, Head, Key, Side, Left, Right, Slot, First as FirstSlot, IsInField, head_of, History, ◌⊳◌}
-use Rattle.histories.specs.Common.{value, Extends, Call, IsPlan, count, count_of, member, taken_nodes, node, child, first_key, first_value, Descriptor}
+use Rattle.histories.specs.Common.{NodeNo, ScxNo, Child, Side, Left, Right, IsInField, head_of, History, ◌⊳◌}
+use Rattle.histories.specs.Common.{value, Extends, Call, IsPlan, count, count_of, member, node, child, Descriptor}
 use Rattle.arena.proofs.Lemmas.{ends_self}
 use Rattle.prims.specs.Laws.Idle.{IsQuietSince}
 use Rattle.prims.specs.Laws.Linked.{IsLinked, in_field_named, linked_since}
