@@ -42,6 +42,7 @@ pub(crate) fn make<K: WordKey, V: WordValue, G: EditGoal, R: EditRule>(
     requires table { IsAt hand seat.old }
     requires tries { 0 < tries }
     requires small { IsSmallCall (edit_call G.goal R.rule edit) }
+    requires tree { G.trie edit.goal ≡ false }
     requires begins { (c : Call) × IsCallOf hand c
         × SeatCallBegins K.is_valid K.word_of V.is_valid V.word_of c
         seat.old.me.0.passes (edit_call G.goal R.rule edit) share tries hand.number }
@@ -76,7 +77,7 @@ fn range_run(alloc: Global, low: u64, high: u64, most: usize, tries: u32) -> Ran
     ensures bound { (nodes : ℕ) → 0 < tries → read_left range_means result nodes
         ≤ tries * range_try_left most nodes }
 {
-    let mut run = Range::run(alloc, low, high, most, tries);
+    let mut run = Range::run(alloc, low, high, most, tries, false);
     let pairs = most.min(64);
     let _ = run.read.taken.reserve(pairs);
     let _ = run.snaps.reserve(pairs + DEEP);
@@ -97,7 +98,7 @@ fn neighbour_run(alloc: Global, key: u64, side: Side, tries: u32) -> NeighbourRu
     ensures bound { (nodes : ℕ) → 0 < tries → read_left neighbour_means result nodes
         ≤ tries * neighbour_try_left nodes }
 {
-    let mut run = Neighbour::run(alloc, key, side, tries);
+    let mut run = Neighbour::run(alloc, key, side, tries, false);
     let _ = run.snaps.reserve(DEEP);
     run
 }
