@@ -103,6 +103,7 @@ impl PutPair {
         }
     }
 
+    /// Those of five pairs.
     fn part_low(pairs: Pairs, nodes: &Nodes, nth: Nth) -> Piece
         ensures { result ≡ low_parts pairs nodes.now nth }
     {
@@ -128,6 +129,7 @@ impl PutPair {
         }
     }
 
+    /// Those of the first pair of all.
     fn part_high(found: &Found, pairs: Pairs, nodes: &Nodes, nth: Nth) -> Piece
         ensures { result ≡ high_parts pairs found.now.head.class nodes.now nth }
     {
