@@ -1,5 +1,5 @@
 //! Edits and ordered reads of a dictionary.
-ghost use Rattle.std.specs.Prelude.{◌≡◌, ◌≤◌, ◌<◌, ◌+◌, ◌-◌, ◌*◌, ℕ, []};
+ghost use Rattle.std.specs.Prelude.{◌≡◌, ◌≤◌, ◌<◌, ◌+◌, ◌-◌, ◌*◌, ℕ, false, []};
 ghost use Rattle.arena.specs.Machines.{Call};
 ghost use Rattle.arena.specs.Share.{Remaining};
 ghost use Rattle.dict.specs.Calls.{AsksForPairs, IsSmallCall, edit_call};
@@ -74,6 +74,7 @@ fn range_run(alloc: Global, low: u64, high: u64, most: usize, tries: u32) -> Ran
     ensures snaps { result.snaps.items ≡ [] }
     ensures limit { result.limit ≡ tries }
     ensures tries { result.tries ≡ tries - 1 }
+    ensures tree { result.trie ≡ false }
     ensures bound { (nodes : ℕ) → 0 < tries → read_left range_means result nodes
         ≤ tries * range_try_left most nodes }
 {
@@ -95,6 +96,7 @@ fn neighbour_run(alloc: Global, key: u64, side: Side, tries: u32) -> NeighbourRu
     ensures snaps { result.snaps.items ≡ [] }
     ensures limit { result.limit ≡ tries }
     ensures tries { result.tries ≡ tries - 1 }
+    ensures tree { result.trie ≡ false }
     ensures bound { (nodes : ℕ) → 0 < tries → read_left neighbour_means result nodes
         ≤ tries * neighbour_try_left nodes }
 {
