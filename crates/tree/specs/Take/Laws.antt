@@ -32,9 +32,9 @@ few_looks f snaps n e = go (has_more f) e
     go true d = let l = few_leaf_looks f f.trail.node snaps n d in omega (arith, l)
     go false d = few_join_looks f snaps n d
 
-few_nodes : (o : Option ℕ) (plan : ℕ) → (work_by o plan).need ≤ 1
-few_nodes None plan = omega arith
-few_nodes (Some v) plan = omega arith
+pub one_node : (o : Option ℕ) (plan : ℕ) → (work_by o plan).need ≤ 1
+one_node None plan = omega arith
+one_node (Some v) plan = omega arith
 
 few_reads : (f : Found) (snaps : List Snap) (x : NodeNo × Reading) → Some (take_reads f snaps) ≡ Some x → reads_left x.1 ≤ 14
 few_reads f snaps x e = subst (λ (y : NodeNo × Reading). reads_left y.1 ≤ 14) (the_same (take_reads f snaps) x e) (go (has_more f))
@@ -43,7 +43,7 @@ few_reads f snaps x e = subst (λ (y : NodeNo × Reading). reads_left y.1 ≤ 14
     go true = let l = begun_left f.head f.more in omega (arith, l)
     go false = omega arith
 
-copy_fills : (s : Snap) (head : Head) (read : Reading) → many_fills (copy_with s head read) ≤ 14
+pub copy_fills : (s : Snap) (head : Head) (read : Reading) → many_fills (copy_with s head read) ≤ 14
 copy_fills s head read = go head.leaf
   where
     go : (leaf : Bool) → many_fills (if leaf then Leaf head.level head.class (copied_pairs head.class read) else Fork head.level head.class (unwrap_or read.key 0) s.left s.right) ≤ 14
@@ -57,7 +57,7 @@ piece_fills k f snaps read = go (has_more f)
     go true = omega arith
     go false = copy_fills (sibling_of f snaps) (unwrap_or read.head (head_of 0)) read
 
-few_fills : (o : Option ℕ) (plan : ℕ) (p : Piece) → many_fills p ≤ 14 → all_fills (work_by o plan).need (λ (nth : Nth). p) ≤ 14
+pub few_fills : (o : Option ℕ) (plan : ℕ) (p : Piece) → many_fills p ≤ 14 → all_fills (work_by o plan).need (λ (nth : Nth). p) ≤ 14
 few_fills None plan p few = omega (arith, few)
 few_fills (Some v) plan p few = omega (arith, few)
 
@@ -67,7 +67,7 @@ pub take_bounds : EditBounds take_means
 take_bounds = record {
   few_looks = λ e f snaps n d. few_looks f snaps n d;
   small = omega arith;
-  few_nodes = λ e f. few_nodes f.value (take_plan f);
+  few_nodes = λ e f. one_node f.value (take_plan f);
   some_nodes = omega arith;
   few_reads = λ e f snaps x d. few_reads f snaps x d;
   few_fills = λ e f snaps ns read. few_fills f.value (take_plan f) (take_piece e.key f snaps read) (piece_fills e.key f snaps read);
