@@ -1,10 +1,9 @@
 -- Whole calls of a dictionary whose updates are straight.
 use Rattle.std.specs.Prelude.{Bool, false}
 use Rattle.template.specs.Balance.{map_mode}
-use Rattle.dict.specs.Calls.{IsServed, inner_trie}
+use Rattle.dict.specs.Calls.{inner_trie}
 use Rattle.dict.specs.Inner.{GoalBy}
-use Rattle.dict.specs.Laws.Begins.{is_map}
-use Rattle.ordered_map.specs.OrderedMap.{Edit as EditOf, Get as GetOf, Neighbour as NeighbourOf, Range as RangeOf}
+use Rattle.dict.specs.Laws.Begins.{dict_mode}
 use Rattle.std.proofs.Common.{Global, Result, Vec, ◌≡◌, ℕ, zero, suc, ◌+◌, ◌*◌, ◌-◌, ◌<◌, ◌≤◌, List, [], Option, None, refl, sym, subst, ap, arith, ◌∙◌}
 use Rattle.histories.specs.Common.{Layout, Step, History, Call, Remaining, NodeNo}
 use Rattle.template.specs.Common.{Snap, Pair, MapCall, Goal, Rule, Reply}
@@ -147,7 +146,7 @@ module _ {K V : Type 0} (valid_key : K → Type 0) (key : K → ℕ) (valid_valu
             is = x.is;
             sound = x.sound;
             so = (
-              (is_map c.layout.mode (trie y.old.edit.goal) went.mode, subst (λ (w : Goal). InnerAnswers machine.tries (Update (valued (standing m Start))) c (history_of c.layout.mode x.known) (edit_reply w a)) walk (edit_ends machine.tries c _ (valued y.old) (valued (standing m Start)) a (typed_run keys values c.layout _ x.sound) went (same_edit y.old (standing m Start) y.goes.edit) y.goes.called y.goes.limit y.goes.spends y.answers)),
+              (dict_mode c.layout.mode (trie y.old.edit.goal) went.mode, subst (λ (w : Goal). InnerAnswers machine.tries (Update (valued (standing m Start))) c (history_of c.layout.mode x.known) (edit_reply w a)) walk (edit_ends machine.tries c _ (valued y.old) (valued (standing m Start)) a (typed_run keys values c.layout _ x.sound) went (same_edit y.old (standing m Start) y.goes.edit) y.goes.called y.goes.limit y.goes.spends y.answers)),
               goes_on (editing y.old) (same_call y.old (standing m Start) y.goes.edit, refl, (y.goes.tries.1, y.goes.tries.0), same_mode y.old (standing m Start) y.goes.edit) y.course,
             );
           }
@@ -201,7 +200,7 @@ module _ {K V : Type 0} (valid_key : K → Type 0) (key : K → ℕ) (valid_valu
             is = x.is;
             sound = x.sound;
             so = (
-              (is_map c.layout.mode y.old.trie was.0.mode, subst (λ (i : InnerRun). InnerAnswers machine.tries i c h (read_reply d.kind.tells a)) (sym (d.inside m share)) (read_ends machine.tries c h d.kind d.is m share a was.1.1 was.0.spent (y.goes.1 ∙ was.0.limit) y.answers)),
+              (dict_mode c.layout.mode y.old.trie was.0.mode, subst (λ (i : InnerRun). InnerAnswers machine.tries i c h (read_reply d.kind.tells a)) (sym (d.inside m share)) (read_ends machine.tries c h d.kind d.is m share a was.1.1 was.0.spent (y.goes.1 ∙ was.0.limit) y.answers)),
               goes_on (reading y.old) (same_read y.old m y.goes) y.course,
             );
           }
@@ -217,16 +216,6 @@ module _ {K V : Type 0} (valid_key : K → Type 0) (key : K → ℕ) (valid_valu
 
 -- Machines that have not begun
 
--- each call is served in a tree
-pub served : (call : MapCall) → IsServed false call
-served (EditOf goal rule) = refl
-served (GetOf key) = tt
-served (NeighbourOf side key) = tt
-served (RangeOf low high most) = tt
-
-all_tries : (left tries : ℕ) → 0 < tries → left ≡ tries - 1 → left + 1 ≡ tries
-all_tries left tries some is = omega (arith, some, is)
-
 module _ {K V A G R : Type 0} (goal : G → Goal) (trie : G → Bool) (rule : R → Rule) where
   -- the machine of an edit
   abbrev pub edit_machine : ℕ → UpdateRun (KeyEdit G R) A → DictRun K V
@@ -236,7 +225,7 @@ module _ {K V A G R : Type 0} (goal : G → Goal) (trie : G → Bool) (rule : R 
   edit_fresh share tries number some m ed is_edit is_share is_call is_tries is_limit small tree = record {
     is_call = ap (edit_call goal rule) is_edit;
     has_tries = refl;
-    unbegun = (refl, all_tries m.tries tries some is_tries, is_call, subst (λ (e : KeyEdit G R). IsSmallCall (edit_call goal rule e)) (sym is_edit) small, is_limit, subst (λ t. IsServed t (edit_call goal rule m.edit)) (sym (ap (λ (e : KeyEdit G R). trie e.goal) is_edit ∙ tree)) (served (edit_call goal rule m.edit)));
+    unbegun = (refl, all_tries m.tries tries some is_tries, is_call, subst (λ (e : KeyEdit G R). IsSmallCall (edit_call goal rule e)) (sym is_edit) small, is_limit);
     has_share = is_share;
     in_tree = ap (λ (e : KeyEdit G R). trie e.goal) is_edit ∙ tree;
   }

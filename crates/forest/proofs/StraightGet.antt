@@ -3,7 +3,7 @@ use Rattle.arena.specs.Layout.{IsMap}
 use Rattle.template.specs.Balance.{leaf_way, map_mode}
 use Rattle.template.specs.Common.{FoundBy}
 use Rattle.dict.specs.Calls.{is_in_trie}
-use Rattle.dict.specs.Laws.Begins.{is_map}
+use Rattle.dict.specs.Laws.Begins.{dict_mode}
 use Rattle.std.proofs.Common.{◌≡◌, ℕ, List, ◌^◌, ◌<◌, Option, None, Some, IfSome, inl, false, refl, sym, subst, ◌∙◌, ap, arith}
 use Rattle.std.specs.Option.{option_map}
 use Rattle.histories.specs.Common.{Layout, Tree, LoadSettled, Step, Settled, Head, History, Call, IsRun, Remaining, node}
@@ -106,4 +106,4 @@ module _ {K V : Type 0} (valid_key : K → Type 0) (key : K → ℕ) (valid_valu
   get_over p x s tries wanted number layout is_layout is_number small turn f v valid same_word finds =
       let c : Call = call_of p x (taken_of (pass_view p)) in
       let found = finds (walker p.share tries wanted c layout number is_layout is_number) (get_walks p x tries wanted number layout is_layout is_number small) in
-      (found.last, get_ended p.share tries wanted number layout c is_layout is_number s.me.0.passes turn f v (is_map p.layout.mode false x.is_mode) valid same_word found)
+      (found.last, get_ended p.share tries wanted number layout c is_layout is_number s.me.0.passes turn f v (dict_mode p.layout.mode false x.is_mode) valid same_word found)

@@ -1,4 +1,3 @@
-use Rattle.forest.proofs.StraightCalls.{served}
 use Rattle.std.proofs.Common.{◌≡◌, ◌∙◌, ◌≤◌, None, refl, sym, ap, subst, arith}
 use Rattle.histories.specs.Common.{Layout, MatchTurn}
 use Rattle.dict.specs.Calls.{call_in, AsksForPairs}
@@ -29,7 +28,7 @@ named g c = c.taken-call.ensures ∙ sym (ap taken_of c.pass.view_is)
 starts : (g : Over) (c : goal.After-next-turn g) → CallBegins (TypedAllows (IsWordOf g.K.WordKey.is_valid g.K.WordKey.word_of) (IsWordOf g.V.WordValue.is_valid g.V.WordValue.word_of)) (DictIsReady (IsWordOf g.K.WordKey.is_valid g.K.WordKey.word_of) (IsWordOf g.V.WordValue.is_valid g.V.WordValue.word_of)) (call_of c.pass.inside c.pass.invariant (taken_of (pass_view c.pass.inside))) c.pass.inside.seat.me.0.passes c.new-run.result
 starts g c =
     let made = c.new-run.ensures in
-    request_starts g.K.WordKey.is_valid g.K.WordKey.word_of g.V.WordValue.is_valid g.V.WordValue.word_of c.pass.inside c.pass.invariant c.new-run.result c.args.request c.self.inside.tries c.taken-call.result (sym (named g c)) made.call made.trie made.typed made.tries (made.fresh c.self.invariant.3 (served (call_in c.new-run.result.run))) c.requires.few made.share
+    request_starts g.K.WordKey.is_valid g.K.WordKey.word_of g.V.WordValue.is_valid g.V.WordValue.word_of c.pass.inside c.pass.invariant c.new-run.result c.args.request c.self.inside.tries c.taken-call.result (sym (named g c)) made.call made.trie made.typed made.tries (made.fresh c.self.invariant.3) c.requires.few made.share
 
 -- its first turn has been made
 first_turn : (g : Over) (c : goal.After-next-turn g) → DictStands g.K.WordKey.is_valid g.K.WordKey.word_of g.V.WordValue.is_valid g.V.WordValue.word_of (call_of c.pass.inside c.pass.invariant (taken_of (pass_view c.pass.inside))) c.pass.inside.seat.me.0.passes c.new-run.result c.next-turn.new.self c.next-turn.result
@@ -43,7 +42,7 @@ few_steps g c =
     let begun = starts g c in
     let near = c.next-turn.ensures.nearer (shared_nodes lay) (dict_told (IsWordOf g.K.WordKey.is_valid g.K.WordKey.word_of) (IsWordOf g.V.WordValue.is_valid g.V.WordValue.word_of) c.new-run.result (call_of c.pass.inside c.pass.invariant (taken_of (pass_view c.pass.inside))) _ None (shared_nodes lay) begun.sound begun.so.1 (few_taken (TypedAllows (IsWordOf g.K.WordKey.is_valid g.K.WordKey.word_of) (IsWordOf g.V.WordValue.is_valid g.V.WordValue.word_of)) lay (call_of c.pass.inside c.pass.invariant (taken_of (pass_view c.pass.inside))) _ refl begun.sound)) in
     let less : weight c.next-turn.result (map_left c.next-turn.new.self.run (shared_nodes lay)) ≤ map_left c.new-run.result.run (shared_nodes lay) = weighs c.next-turn.result _ _ near in
-    let most : map_left c.new-run.result.run (shared_nodes lay) ≤ most_steps (call_in c.new-run.result.run) c.new-run.result.tries (shared_nodes lay) = rw made.tries (made.steps (shared_nodes lay) c.self.invariant.3 (served (call_in c.new-run.result.run))) in
+    let most : map_left c.new-run.result.run (shared_nodes lay) ≤ most_steps (call_in c.new-run.result.run) c.new-run.result.tries (shared_nodes lay) = rw made.tries (made.steps (shared_nodes lay) c.self.invariant.3) in
     rw (c.next-turn.ensures.same.0, c.next-turn.ensures.same.1) (omega (arith, less, most))
 
 -- one that asks for pairs has not answered

@@ -1,5 +1,4 @@
 use Rattle.std.proofs.Common.{◌≡◌, ◌+◌, ◌≤◌, ◌∙◌, ap, refl, sym, subst}
-use Rattle.dict.specs.Calls.{IsServed}
 use Rattle.ordered_map.specs.CallRules.{most_steps}
 use Rattle.template.specs.Balance.{nodes_by}
 use Rattle.arena.specs.Machines.{Call}
@@ -14,7 +13,7 @@ use Rattle.dict.specs.WordReplies.{edit_reply}
 use Rattle.dict.specs.declared.dict.DictRun.{DictRun}
 use Rattle.forest.specs.StraightCalls.{IsFreshCall, SeatCallBegins}
 use Rattle.forest.specs.StraightUpdate.{UpdaterBegins, new_update}
-use Rattle.forest.proofs.StraightCalls.{served, editor, edit_begins, edit_ended, edit_fresh, edit_machine, replies, tries_steps}
+use Rattle.forest.proofs.StraightCalls.{editor, edit_begins, edit_ended, edit_fresh, edit_machine, replies, tries_steps}
 use Rattle.forest.proofs.straight.calls.make.Given.{Over}
 use Rattle.forest.proofs.straight.calls.make.Goals.{After-goal-goal}
 use Rattle.forest.proofs.straight.calls.make.Goals as goal
@@ -40,7 +39,7 @@ pub returns-clause-steps : goal.returns-clause-steps
 returns-clause-steps g c =
     let nodes = shared_nodes c.args.hand.layout.now in
     let call = edit_call g.G.EditGoal.goal g.R.EditRule.rule c.args.edit in
-    let all = edit_steps g.G.EditGoal.goal g.G.EditGoal.trie g.R.EditRule.rule c.args.edit c.args.tries nodes (subst (λ t. IsServed t call) (sym c.requires.tree) (served call)) in
+    let all = edit_steps g.G.EditGoal.goal g.G.EditGoal.trie g.R.EditRule.rule c.args.edit c.args.tries nodes in
     subst (λ n. seat_steps c.make-updated.new.seat.me.0.passes ≤ seat_steps c.args.seat.now.me.0.passes + n) (all ∙ ap (λ t. most_steps call c.args.tries (nodes_by t nodes)) c.requires.tree)
     (tries_steps _ _ _ c.args.tries (try_left (key_means g.G.EditGoal.goal g.G.EditGoal.trie g.R.EditRule.rule) c.args.edit nodes) c.requires.tries refl c.make-updated.ensures.steps)
 
