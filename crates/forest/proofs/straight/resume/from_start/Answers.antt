@@ -1,4 +1,5 @@
-use Rattle.std.proofs.Common.{◌≡◌, None, arith, sym, subst}
+use Rattle.std.proofs.Common.{None, ap, arith, sym, subst}
+use Rattle.edits.specs.Steps.{update_left}
 use Rattle.edits.specs.declared.update.UpdateAt.{UpdateAt}
 use Rattle.edits.specs.declared.update.UpdateRun.{UpdateRun}
 use Rattle.forest.specs.Hosts.{HostedBegins, HostedStands}
@@ -28,5 +29,5 @@ pub returns : goal.returns
 returns g c = record {
   table = c.finish-updated.ensures.table;
   to = λ u x. c.finish-updated.ensures.to u (stands g (goal.at.returns g c).After-step-turn u x);
-  steps = (let w = weighs c.step-turn.result _ _ (c.step-turn.ensures.nearer (shared_nodes c.args.hand.layout.now) (rw c.take_run-machine.ensures tt)) in let s = c.finish-updated.ensures.steps in let m = c.take_run-machine.ensures in rw m at (omega (arith, w, s)));
+  steps = (let n = shared_nodes c.args.hand.layout.now in let w = weighs c.step-turn.result _ _ (c.step-turn.ensures.nearer n (rw c.take_run-machine.ensures tt)) in let s = c.finish-updated.ensures.steps in let m = ap (λ (r : UpdateRun g.row.E.Denot UpdateAt). update_left g.E.Edit.means r n) c.take_run-machine.ensures in omega (arith, w, s, m));
 }
