@@ -8,10 +8,8 @@ use Rattle.std.proofs.Common.{Global, Result, Vec, ◌≡◌, ℕ, zero, suc, �
 use Rattle.histories.specs.Common.{Layout, Step, History, Call, Remaining, NodeNo}
 use Rattle.template.specs.Common.{Snap, Pair, MapCall, Goal, Rule, Reply}
 use Rattle.order.specs.Known.{IsSameRead, ReadIsReady, ReadWaits}
-use Rattle.order.specs.Neighbour.{neighbour_means}
 use Rattle.order.specs.Range.{range_means}
 use Rattle.order.specs.Steps.{phase_left, read_left, tries_left}
-use Rattle.order.specs.declared.neighbour.Neighbour.{Neighbour as NeighbourRead}
 use Rattle.order.specs.declared.range.Range.{Range as RangeRead}
 use Rattle.order.specs.declared.refused.Refused.{Refused}
 use Rattle.order.specs.declared.run.ReadAt.TheVariants.{Start as ReadStart}
@@ -215,6 +213,9 @@ module _ {K V : Type 0} (valid_key : K → Type 0) (key : K → ℕ) (valid_valu
   }
 
 -- Machines that have not begun
+
+all_tries : (left tries : ℕ) → 0 < tries → left ≡ tries - 1 → left + 1 ≡ tries
+all_tries left tries some is = omega (arith, some, is)
 
 module _ {K V A G R : Type 0} (goal : G → Goal) (trie : G → Bool) (rule : R → Rule) where
   -- the machine of an edit

@@ -8,7 +8,7 @@ use Rattle.std.proofs.Common.{◌≡◌, ℕ, List, ◌^◌, ◌<◌, Option, No
 use Rattle.std.specs.Option.{option_map}
 use Rattle.histories.specs.Common.{Layout, Tree, LoadSettled, Step, Settled, Head, History, Call, IsRun, Remaining, node}
 use Rattle.atomic_table.specs.declared.shared.Seat.{Seat}
-use Rattle.template.specs.Common.{load, OneValue, HasFoundGoal, WalkIsTold, walk_at, walk_from, Key as ToKey}
+use Rattle.template.specs.Common.{load, OneValue, WalkIsTold, walk_at, walk_from, Key as ToKey}
 use Rattle.template.specs.Walk.Places.{root_trail}
 use Rattle.template.specs.declared.walk.Found.{Found}
 use Rattle.template.specs.declared.walk.WalkAt.TheVariants.{Root, Start}

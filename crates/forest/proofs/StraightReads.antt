@@ -3,8 +3,7 @@ use Rattle.template.specs.Balance.{leaf_way, map_mode, nodes_by}
 use Rattle.order.specs.Known.{AreLastTurns}
 use Rattle.order.proofs.Lemmas.{turned}
 use Rattle.template.specs.Common.{path_key}
-use Rattle.std.specs.Prelude.{false}
-use Rattle.std.proofs.Common.{◌≡◌, ◌∙◌, ℕ, suc, ◌+◌, ◌-◌, ◌*◌, ◌<◌, ◌≤◌, Bool, List, None, Some, Result, Ok, length, [], refl, sym, ap, subst, arith, Err}
+use Rattle.std.proofs.Common.{◌≡◌, ◌∙◌, ℕ, suc, ◌+◌, ◌-◌, ◌*◌, ◌<◌, ◌≤◌, Bool, false, List, None, Some, Result, Ok, length, [], inl, refl, sym, ap, subst, arith, Err}
 use Rattle.histories.specs.Common.{Turn, Ask, Done, Side, NodeNo, ScxNo, LoadInfo, LoadMarked, LoadSettled, LoadState, Settled}
 use Rattle.histories.specs.Common.{Head as HeadWord, head_of, History, Call, IsRun, MatchTurn, begun_at, info, marked, node, state}
 use Rattle.order.specs.Found.{BeginsAtRoot, BeginsSo, IsReading, Looks, Stands, WalksTo, head_at}
@@ -34,13 +33,13 @@ use Rattle.template.specs.declared.walk.Found.{Found}
 use Rattle.template.specs.declared.walk.WalkRun.{WalkRun}
 use Rattle.template.specs.declared.walk.Way.TheVariants.{InTree}
 use Rattle.order.specs.declared.last_turns.LastTurns.{LastTurns}
-use Rattle.order.specs.LastTurns.{first_children, last_turns, no_turns, turn_to}
+use Rattle.order.specs.LastTurns.{first_children, no_turns, turn_to}
 use Rattle.forest.specs.declared.view.SeatedPass.{SeatedPass}
 use Rattle.forest.specs.CallKinds.{Calls}
 use Rattle.forest.specs.Hosts.{HostedIsTold, HostedStands, HostedWaits}
 use Rattle.forest.specs.Inside.{InnerIsTold, InnerWaits}
 use Rattle.forest.specs.StraightLlx.{llx_at, Looker, LookerSnaps}
-use Rattle.forest.specs.StraightReads.{Reader, ReaderBegins, ReaderEnds, ReaderLooksAgain, ReaderRoots, ReaderWaits, at_root, root_left}
+use Rattle.forest.specs.StraightReads.{Reader, ReaderBegins, ReaderEnds, ReaderLooksAgain, ReaderRoots, ReaderWaits, at_root}
 use Rattle.forest.specs.StraightVlx.{Validator}
 use Rattle.forest.specs.StraightWalk.{Walker, WalkerFinds, WalkerWaits}
 use Rattle.forest.specs.TableRule.{history_of}

@@ -2,7 +2,7 @@
 use Rattle.arena.specs.Layout.{IsMap}
 use Rattle.std.specs.Prelude.{false}
 use Rattle.std.specs.Prelude.{◌≡◌, ℕ, List, Option}
-use Rattle.histories.specs.Common.{Layout, Tree, Step, History, Call, Remaining}
+use Rattle.histories.specs.Common.{Layout, Step, History, Call, Remaining}
 use Rattle.dict.specs.Calls.{KeepsTriesButOne, call_in, share_of, trie_in}
 use Rattle.dict.specs.DictKnown.{DictIsReady, DictWaits, DictAnswers}
 use Rattle.dict.specs.Known.{IsUnbegun, MapAnswers}

@@ -1,4 +1,4 @@
-use Rattle.std.proofs.Common.{◌≡◌, ◌+◌, ◌≤◌, ◌∙◌, ap, refl, sym, subst}
+use Rattle.std.proofs.Common.{◌≡◌, ◌+◌, ◌≤◌, ◌∙◌, ap, refl, subst}
 use Rattle.ordered_map.specs.CallRules.{most_steps}
 use Rattle.template.specs.Balance.{nodes_by}
 use Rattle.arena.specs.Machines.{Call}
