@@ -248,7 +248,7 @@ module _ (p : Interleaving) (lines : List Line) (i number : ℕ) (step : Ask) (a
   has_edit : (entry : Entry) (o : IsOwner entry) (edit : MapEdit) → edit_in_hand o.running.run ≡ Some edit → owners_edit p.clients.items entry.client.0 ≡ Some edit
   has_edit entry o edit is = ap client_edit o.there ∙ ap running_edit o.runs ∙ is
 
-  -- on the tree the entry is of the edit that its client has in hand, which its call makes of the
+  -- of a map the entry is of the edit that its client has in hand, which its call makes of the
   -- map just before
   module _ (entry : Entry) (e : entry_of lay lines number made ≡ Some entry) (map : IsMap lay.mode) where
     o : IsOwner entry

@@ -98,7 +98,7 @@ leaves_hand v c h hand l over covers x n found e s own p m =
     let e2 : kept_of c.kept n ≡ Some found = e in
     cc
 
--- on the tree nothing is kept
+-- of a map nothing is kept
 leaves_map : (v : ClientView) (c : Client) (h : History) (hand : Hand) → IsMap v.layout.mode → IsClientState v c hand → LeavesKept v c h
 leaves_map v c h hand mode x n found e s own p m =
     let none : kept_of c.kept n ≡ None = x.free mode n in
