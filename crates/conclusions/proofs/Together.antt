@@ -7,7 +7,8 @@ use Rattle.regnubas.specs.Lawful.{Lawful}
 use Rattle.regnubas.specs.Log.{log}
 use Rattle.regnubas.specs.Machines.{IsRun}
 use Rattle.regnubas.specs.OrderedMap.{Get, Insert, MapReply, OneValue, call_insert, get, insert, reply}
-use Rattle.regnubas.specs.Runs.{IsTreeRun}
+use Rattle.regnubas.specs.Layout.{IsMap}
+use Rattle.regnubas.specs.Runs.{IsMapRun, IsTreeRun}
 use Rattle.regnubas.specs.Spelled.{Spells}
 use Rattle.regnubas.specs.Dictionary.{IsChange, IsReading}
 use Rattle.regnubas.specs.Passes.{PassView, IsLaterView, run_of, done_of}
@@ -59,6 +60,9 @@ module _ (lay : Layout) where
   tree_run : {allows : Layout → History → ℕ → Type 0} → VersionLaws allows → lay.mode ≡ Tree → (p : PassView) → p.layout ≡ lay → IsRun allows p.layout (run_of p) → IsTreeRun lay (run_of p)
   tree_run {allows} laws tree p e run = laws.runs lay (run_of p) tree (subst (λ (x : Layout). IsRun allows x (run_of p)) e run)
 
+  map_run : {h : History} → IsTreeRun lay h → IsMapRun lay h
+  map_run run = (subst IsMap (sym run.0) tt, run.1)
+
   -- A change by which k has the value v. At a later moment, up to which no pass has made another
   -- entry, k still has it.
   module _ {allows : Layout → History → ℕ → Type 0} (laws : VersionLaws allows) (inserted : (k v : ℕ) (m : List Pair) → get k (insert k v m) ≡ Some v) (old new : PassView) (k v : ℕ) (told : MapReply) (c : IsChange old new (call_insert k v) told (Insert k v)) (at : new.layout ≡ lay) where
@@ -69,7 +73,7 @@ module _ (lay : Layout) where
     pub found_there : (h moment : History) → IsTreeRun lay h → Extends h moment → Extends moment set_at → ((d : ℕ) → d < lay.passes → EntersNothing lay d moment set_at) → (m : List Pair) → Spells lay (value moment) m → get k m ≡ Some v
     found_there h moment run e f quiet m s =
         let was : Spells lay (value set_at) (insert k v c.map) = subst (λ (x : Layout). Spells x (value set_at) (insert k v c.map)) at c.is in
-        ap (get k) (laws.stays lay h moment set_at run e f quiet (insert k v c.map) m was s) ∙ inserted k v c.map
+        ap (get k) (laws.stays lay h moment set_at (map_run run) e f quiet (insert k v c.map) m was s) ∙ inserted k v c.map
 
     -- the pass itself has made no other entry in the call
     pub quiet_call : Lawful lay (run_of new) → IsLaterView old new → EntersNothing lay new.number (run_of new) set_at

@@ -1,5 +1,8 @@
 -- What a call of a dictionary leaves of its pass.
-use Rattle.std.proofs.Common.{◌≡◌, ◌∙◌, arith, ℕ, suc, ◌+◌, ◌*◌, ◌<◌, ◌≤◌, ◌∷◌, List, Option, Some, None, refl, sym, subst}
+use Rattle.std.specs.Prelude.{false}
+use Rattle.template.specs.Balance.{map_mode}
+use Rattle.dict.specs.Calls.{trie_in}
+use Rattle.std.proofs.Common.{◌≡◌, ◌∙◌, arith, ℕ, suc, ◌+◌, ◌*◌, ◌<◌, ◌≤◌, ◌∷◌, List, Option, Some, None, refl, ap, sym, subst}
 use Rattle.std.proofs.Math.Nat.{lt_of_not-le}
 use Rattle.atomic_table.specs.declared.shared.Seat.{Seat}
 use Rattle.histories.specs.Common.{Layout, Tree, History, Extends, Remaining}
@@ -82,12 +85,12 @@ module _ {K V : Type 0} (valid_key : K → Type 0) (key : K → ℕ) (valid_valu
   IsSameCall old now = (call_in now.run ≡ call_in old.run) × (now.tries ≡ old.tries)
 
   -- a call that has not begun may begin, with the pass's share
-  pub dict_starts : {T : Type 0} (p : Inside T) (x : IsPass allows Tree p) (m : DictRun K V) → IsTypedCall keys values (call_in m.run) → IsUnbegun m.run m.tries (taken_of (pass_view p)) → IsFewCall (call_in m.run) → share_of m.run ≡ p.share → CallBegins allows (DictIsReady keys values) (call_of p x (taken_of (pass_view p))) p.seat.me.0.passes m
-  dict_starts p x m typed unbegun few share = record {
+  pub dict_starts : {T : Type 0} (p : Inside T) (x : IsPass allows Tree p) (m : DictRun K V) → trie_in m.run ≡ false → IsTypedCall keys values (call_in m.run) → IsUnbegun m.run m.tries (taken_of (pass_view p)) → IsFewCall (call_in m.run) → share_of m.run ≡ p.share → CallBegins allows (DictIsReady keys values) (call_of p x (taken_of (pass_view p))) p.seat.me.0.passes m
+  dict_starts p x m tree typed unbegun few share = record {
     known = known_of p.seat.me.0.passes;
     is = x.seat;
     sound = x.sound;
-    so = (refl, dict_begins keys values m (call_of p x (taken_of (pass_view p))) x.is_mode x.sound typed unbegun few (rw share rests));
+    so = (refl, dict_begins keys values m (call_of p x (taken_of (pass_view p))) (x.is_mode ∙ ap map_mode (sym tree)) x.sound typed unbegun few (rw share rests));
   }
     where
       rests : RestsWith (call_of p x (taken_of (pass_view p))) (call_of p x (taken_of (pass_view p))).start p.share
@@ -101,12 +104,12 @@ module _ {K V : Type 0} (valid_key : K → Type 0) (key : K → ℕ) (valid_valu
   typed_read (Get key) x = absurd x
 
   -- so may the machine of a request
-  pub request_starts : {T : Type 0} (p : Inside T) (x : IsPass allows Tree p) (m : DictRun K V) (request : Request K V) (tries number : ℕ) → taken_of (pass_view p) ≡ number → call_in m.run ≡ as_map_call key value_word request → IsTypedCall keys values (call_in m.run) → m.tries ≡ tries → IsUnbegun m.run tries number → AsksForFew request → share_of m.run ≡ p.share → CallBegins allows (DictIsReady keys values) (call_of p x (taken_of (pass_view p))) p.seat.me.0.passes m
-  request_starts p x m request tries number named call typed same fresh few share = dict_starts p x m typed (rw (same, named) fresh) (few_of key value_word request (call_in m.run) call few) share
+  pub request_starts : {T : Type 0} (p : Inside T) (x : IsPass allows Tree p) (m : DictRun K V) (request : Request K V) (tries number : ℕ) → taken_of (pass_view p) ≡ number → call_in m.run ≡ as_map_call key value_word request → trie_in m.run ≡ false → IsTypedCall keys values (call_in m.run) → m.tries ≡ tries → IsUnbegun m.run tries number → AsksForFew request → share_of m.run ≡ p.share → CallBegins allows (DictIsReady keys values) (call_of p x (taken_of (pass_view p))) p.seat.me.0.passes m
+  request_starts p x m request tries number named call tree typed same fresh few share = dict_starts p x m tree typed (rw (same, named) fresh) (few_of key value_word request (call_in m.run) call few) share
 
   -- and so may a machine of a call of its own
   pub call_starts : {T : Type 0} (p : Inside T) (x : IsPass allows Tree p) (m : DictRun K V) (call : MapCall) (tries number : ℕ) → taken_of (pass_view p) ≡ number → IsTypedCall keys values call → IsFewCall call → IsFreshCall call p.share tries number m → CallBegins allows (DictIsReady keys values) (call_of p x (taken_of (pass_view p))) p.seat.me.0.passes m
-  call_starts p x m call tries number named typed few fresh = dict_starts p x m (rw fresh.is_call typed) (rw (fresh.has_tries, named) fresh.unbegun) (rw fresh.is_call few) fresh.has_share
+  call_starts p x m call tries number named typed few fresh = dict_starts p x m fresh.in_tree (rw fresh.is_call typed) (rw (fresh.has_tries, named) fresh.unbegun) (rw fresh.is_call few) fresh.has_share
 
   -- so may any machine of an ordered read that has not begun
   pub read_starts : {T : Type 0} (p : Inside T) (x : IsPass allows Tree p) (request : Request K V) (tries number : ℕ) → taken_of (pass_view p) ≡ number → KeepsLists (as_map_call key value_word request) → AsksForFew request → SeatCallBegins valid_key key valid_value value_word (call_of p x (taken_of (pass_view p))) p.seat.me.0.passes (as_map_call key value_word request) p.share tries number

@@ -1,4 +1,5 @@
 -- A call that is held open begins.
+use Rattle.template.specs.declared.balance.ByOrder.{ByOrder}
 use Rattle.std.proofs.Common.{◌≡◌, ◌≤◌, ℕ, false, refl, sym, subst, arith}
 use Rattle.std.specs.declared.snapshot.Snapshot.{Snapshot}
 use Rattle.histories.specs.Common.{Tree, Turn, Ask, Done, MatchTurn}
@@ -18,7 +19,7 @@ use Rattle.forest.specs.Traces.{seat_steps, shared_nodes, weight}
 use Rattle.forest.proofs.OpenSteps.{DictStands, differ}
 use Rattle.forest.proofs.Passes.{call_of, steps_are}
 
-module _ {K V : Type 0} (valid_key : K → Type 0) (key : K → ℕ) (valid_value : V → Type 0) (value : V → ℕ) (p : pass.Inside (Dict K V)) (x : IsPass (TypedAllows (IsWordOf valid_key key) (IsWordOf valid_value value)) Tree p) where
+module _ {K V : Type 0} (valid_key : K → Type 0) (key : K → ℕ) (valid_value : V → Type 0) (value : V → ℕ) (p : pass.Inside (Dict K V ByOrder)) (x : IsPass (TypedAllows (IsWordOf valid_key key) (IsWordOf valid_value value)) Tree p) where
   -- a call of this pass, of this number, which began as it was seen then
   abbrev pub opened : DictRun K V → Turn (Reply K V) → ℕ → Snapshot PassView → Inside K V
   opened m turn number seen = record { number = p.number; layout = p.layout; seat = p.seat; blamed = p.blamed; call = number; run = m; turn = turn; over = false; began = seen }

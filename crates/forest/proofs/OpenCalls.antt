@@ -1,4 +1,5 @@
 -- What a call that was held open leaves of its pass, once it has answered.
+use Rattle.template.specs.declared.balance.ByOrder.{ByOrder}
 use Rattle.std.proofs.Common.{◌≡◌, ◌+◌, ◌-◌, ℕ, List, refl, sym, ap, subst, arith}
 use Rattle.histories.specs.Common.{Tree, Done, PassNo, Remaining}
 use Rattle.dict.specs.Calls.{call_in, share_of}
@@ -24,7 +25,7 @@ numbered n = record { 0 = n }
 
 module _ {K V : Type 0} (valid_key : K → Type 0) (key : K → ℕ) (valid_value : V → Type 0) (value_word : V → ℕ) (o : Inside K V) (x : IsOpen valid_key key valid_value value_word o) (reply : Reply K V) (is : o.turn ≡ Done reply) where
   -- the pass as the call began
-  abbrev was : pass.Inside (Dict K V)
+  abbrev was : pass.Inside (Dict K V ByOrder)
   was = pass_as o.began.value o.seat
 
   ends : SeatDictEnds valid_key key valid_value value_word (next_call o.began.value x.pass.is_pass) o.seat.me.0.passes x.first o.run reply
@@ -32,7 +33,7 @@ module _ {K V : Type 0} (valid_key : K → Type 0) (key : K → ℕ) (valid_valu
 
   module _ (left : Remaining) (blamed : List ℕ) (gives : left ≡ share_of o.run.run) (blames : blamed ≡ blamed_by_reply reply o.blamed) where
     -- the pass that is given back
-    abbrev pub back : pass.Inside (Dict K V)
+    abbrev pub back : pass.Inside (Dict K V ByOrder)
     back = record { number = o.number; layout = o.layout; share = left; seat = o.seat; blamed = blamed; shape = record {} }
 
     number_is : o.number ≡ record { 0 = o.began.value.number }

@@ -1,12 +1,15 @@
 -- Whole calls of a dictionary whose updates are straight.
+use Rattle.std.specs.Prelude.{Bool, false}
+use Rattle.template.specs.Balance.{map_mode}
+use Rattle.dict.specs.Calls.{inner_trie}
+use Rattle.dict.specs.Inner.{GoalBy}
+use Rattle.dict.specs.Laws.Begins.{dict_mode}
 use Rattle.std.proofs.Common.{Global, Result, Vec, ◌≡◌, ℕ, zero, suc, ◌+◌, ◌*◌, ◌-◌, ◌<◌, ◌≤◌, List, [], Option, None, refl, sym, subst, ap, arith, ◌∙◌}
 use Rattle.histories.specs.Common.{Layout, Step, History, Call, Remaining, NodeNo}
 use Rattle.template.specs.Common.{Snap, Pair, MapCall, Goal, Rule, Reply}
 use Rattle.order.specs.Known.{IsSameRead, ReadIsReady, ReadWaits}
-use Rattle.order.specs.Neighbour.{neighbour_means}
 use Rattle.order.specs.Range.{range_means}
 use Rattle.order.specs.Steps.{phase_left, read_left, tries_left}
-use Rattle.order.specs.declared.neighbour.Neighbour.{Neighbour as NeighbourRead}
 use Rattle.order.specs.declared.range.Range.{Range as RangeRead}
 use Rattle.order.specs.declared.refused.Refused.{Refused}
 use Rattle.order.specs.declared.run.ReadAt.TheVariants.{Start as ReadStart}
@@ -85,24 +88,27 @@ module _ {K V : Type 0} (valid_key : K → Type 0) (key : K → ℕ) (valid_valu
     -- Edits
 
     -- `goal` and `rule` give an edit's goal and rule as values, which its machine has
-    module _ {G R : Type 0} (goal : G → Goal) (rule : R → Rule) where
-      abbrev valued : UpdateRun (KeyEdit G R) UpdateAt → UpdateRun (KeyEdit Goal Rule) UpdateAt
-      valued = by_values goal rule
+    module _ {G R : Type 0} (goal : G → Goal) (trie : G → Bool) (rule : R → Rule) where
+      abbrev valued : UpdateRun (KeyEdit G R) UpdateAt → UpdateRun (KeyEdit GoalBy Rule) UpdateAt
+      valued = by_values goal trie rule
 
       abbrev pub editing : UpdateRun (KeyEdit G R) UpdateAt → DictRun K V
       editing m = record machine { run = Edit (valued m) }
 
       -- it stays of the same edit, and so of the same call
       same_edit : (old now : UpdateRun (KeyEdit G R) UpdateAt) → now.edit ≡ old.edit → (valued now).edit ≡ (valued old).edit
-      same_edit old now e = ap (λ (d : KeyEdit G R). let v : KeyEdit Goal Rule = record { goal = goal d.goal; rule = rule d.rule } in v) e
+      same_edit old now e = ap (λ (d : KeyEdit G R). let v : KeyEdit GoalBy Rule = record { goal = record { goal = goal d.goal; balance = trie d.goal }; rule = rule d.rule } in v) e
 
       same_call : (old now : UpdateRun (KeyEdit G R) UpdateAt) → now.edit ≡ old.edit → edit_call goal rule now.edit ≡ edit_call goal rule old.edit
       same_call old now e = ap (edit_call goal rule) e
 
-      goes : (old now : UpdateRun (KeyEdit G R) UpdateAt) → HasUpdateGoneOn (key_means goal rule) old now (node_tries now now.at) (scx_tries now now.at) → Goes (Update (valued old)) machine.tries c → Goes (Update (valued now)) machine.tries c
+      same_mode : (old now : UpdateRun (KeyEdit G R) UpdateAt) → now.edit ≡ old.edit → trie now.edit.goal ≡ trie old.edit.goal
+      same_mode old now e = ap (λ (d : KeyEdit G R). trie d.goal) e
+
+      goes : (old now : UpdateRun (KeyEdit G R) UpdateAt) → HasUpdateGoneOn (key_means goal trie rule) old now (node_tries now now.at) (scx_tries now now.at) → Goes (Update (valued old)) machine.tries c → Goes (Update (valued now)) machine.tries c
       goes old now on x = edit_goes machine.tries c (valued old) (valued now) x (same_edit old now on.edit) on.called on.limit on.spends
 
-      pub editor : Updater (dict_calls layout number) (key_means goal rule)
+      pub editor : Updater (dict_calls layout number) (key_means goal trie rule)
       editor = record {
         call = c;
         is_layout = is_layout;
@@ -113,7 +119,7 @@ module _ {K V : Type 0} (valid_key : K → Type 0) (key : K → ℕ) (valid_valu
         opens = λ m h s x. x.1.1;
         tells = λ m h got x. x.1.1;
         turns = λ old now h got s on x w. (subst (IsTypedCall keys values) (sym (same_call old now on.edit)) x.0, (goes old now on x.1.0, w));
-        stays = λ old now on. (same_call old now on.edit, refl, (on.tries.1, on.tries.0));
+        stays = λ old now on. (same_call old now on.edit, refl, (on.tries.1, on.tries.0), same_mode old now on.edit);
       }
 
       pub edit_begins : (ps : List SeatedPass) {A : Type 0} (m : UpdateRun (KeyEdit G R) A) → machine.run ≡ Edit (valued (standing m Start)) → SeatDictBegins valid_key key valid_value value_word c ps machine → UpdaterBegins editor ps m
@@ -138,8 +144,8 @@ module _ {K V : Type 0} (valid_key : K → Type 0) (key : K → ℕ) (valid_valu
             is = x.is;
             sound = x.sound;
             so = (
-              (went.mode, subst (λ (w : Goal). InnerAnswers machine.tries (Update (valued (standing m Start))) c (history_of c.layout.mode x.known) (edit_reply w a)) walk (edit_ends machine.tries c _ (valued y.old) (valued (standing m Start)) a (typed_run keys values c.layout _ x.sound) went (same_edit y.old (standing m Start) y.goes.edit) y.goes.called y.goes.limit y.goes.spends y.answers)),
-              goes_on (editing y.old) (same_call y.old (standing m Start) y.goes.edit, refl, (y.goes.tries.1, y.goes.tries.0)) y.course,
+              (dict_mode c.layout.mode (trie y.old.edit.goal) went.mode, subst (λ (w : Goal). InnerAnswers machine.tries (Update (valued (standing m Start))) c (history_of c.layout.mode x.known) (edit_reply w a)) walk (edit_ends machine.tries c _ (valued y.old) (valued (standing m Start)) a (typed_run keys values c.layout _ x.sound) went (same_edit y.old (standing m Start) y.goes.edit) y.goes.called y.goes.limit y.goes.spends y.answers)),
+              goes_on (editing y.old) (same_call y.old (standing m Start) y.goes.edit, refl, (y.goes.tries.1, y.goes.tries.0), same_mode y.old (standing m Start) y.goes.edit) y.course,
             );
           }
 
@@ -150,7 +156,7 @@ module _ {K V : Type 0} (valid_key : K → Type 0) (key : K → ℕ) (valid_valu
       reading m = record machine { run = d.around m share }
 
       same_read : (old now : ReadRun d.kind.R) → IsSameRead d.kind.means old now → same (reading old) (reading now)
-      same_read old now x = rw (d.inside old share, d.inside now share) (x.0, refl, (x.2, x.3))
+      same_read old now x = rw (d.inside old share, d.inside now share) (x.0, refl, (x.2, x.3), x.4)
 
       -- what it gets, and what it then waits for, its machine does
       told_inside : (m : ReadRun d.kind.R) (h : History) (got : Option ℕ) → ready (reading m) c h got → Goes (Read d.kind m share) machine.tries c × (ReadIsReady d.kind.means m c h got × HasRested c h share)
@@ -172,7 +178,7 @@ module _ {K V : Type 0} (valid_key : K → Type 0) (key : K → ℕ) (valid_valu
         turns = λ old now h got s is x w.
             let y = told_inside old h got x in (
               subst (IsTypedCall keys values) (sym (same_read old now is).0) x.0,
-              waits_so now h s (record { mode = y.0.mode; small = d.is.small now.read; number = tt; limit = is.1 ∙ y.0.limit; spent = y.0.spent }, (w, y.1.1)),
+              waits_so now h s (record { mode = y.0.mode ∙ ap map_mode (sym is.4); small = d.is.small now.read; number = tt; limit = is.1 ∙ y.0.limit; spent = y.0.spent }, (w, y.1.1)),
             );
         stays = same_read;
       }
@@ -192,7 +198,7 @@ module _ {K V : Type 0} (valid_key : K → Type 0) (key : K → ℕ) (valid_valu
             is = x.is;
             sound = x.sound;
             so = (
-              (was.0.mode, subst (λ (i : InnerRun). InnerAnswers machine.tries i c h (read_reply d.kind.tells a)) (sym (d.inside m share)) (read_ends machine.tries c h d.kind d.is m share a was.1.1 was.0.spent (y.goes.1 ∙ was.0.limit) y.answers)),
+              (dict_mode c.layout.mode y.old.trie was.0.mode, subst (λ (i : InnerRun). InnerAnswers machine.tries i c h (read_reply d.kind.tells a)) (sym (d.inside m share)) (read_ends machine.tries c h d.kind d.is m share a was.1.1 was.0.spent (y.goes.1 ∙ was.0.limit) y.answers)),
               goes_on (reading y.old) (same_read y.old m y.goes) y.course,
             );
           }
@@ -211,17 +217,18 @@ module _ {K V : Type 0} (valid_key : K → Type 0) (key : K → ℕ) (valid_valu
 all_tries : (left tries : ℕ) → 0 < tries → left ≡ tries - 1 → left + 1 ≡ tries
 all_tries left tries some is = omega (arith, some, is)
 
-module _ {K V A G R : Type 0} (goal : G → Goal) (rule : R → Rule) where
+module _ {K V A G R : Type 0} (goal : G → Goal) (trie : G → Bool) (rule : R → Rule) where
   -- the machine of an edit
   abbrev pub edit_machine : ℕ → UpdateRun (KeyEdit G R) A → DictRun K V
-  edit_machine tries m = record { run = Edit (by_values goal rule (standing m Start)); tries = tries; types = record {} }
+  edit_machine tries m = record { run = Edit (by_values goal trie rule (standing m Start)); tries = tries; types = record {} }
 
-  pub edit_fresh : (share : Remaining) (tries number : ℕ) → 0 < tries → (m : UpdateRun (KeyEdit G R) A) (ed : KeyEdit G R) → m.edit ≡ ed → m.share ≡ share → m.call ≡ number → m.tries ≡ tries - 1 → m.limit ≡ tries → IsSmallCall (edit_call goal rule ed) → IsFreshCall (edit_call goal rule ed) share tries number (edit_machine tries m)
-  edit_fresh share tries number some m ed is_edit is_share is_call is_tries is_limit small = record {
+  pub edit_fresh : (share : Remaining) (tries number : ℕ) → 0 < tries → (m : UpdateRun (KeyEdit G R) A) (ed : KeyEdit G R) → m.edit ≡ ed → m.share ≡ share → m.call ≡ number → m.tries ≡ tries - 1 → m.limit ≡ tries → IsSmallCall (edit_call goal rule ed) → trie ed.goal ≡ false → IsFreshCall (edit_call goal rule ed) share tries number (edit_machine tries m)
+  edit_fresh share tries number some m ed is_edit is_share is_call is_tries is_limit small tree = record {
     is_call = ap (edit_call goal rule) is_edit;
     has_tries = refl;
     unbegun = (refl, all_tries m.tries tries some is_tries, is_call, subst (λ (e : KeyEdit G R). IsSmallCall (edit_call goal rule e)) (sym is_edit) small, is_limit);
     has_share = is_share;
+    in_tree = ap (λ (e : KeyEdit G R). trie e.goal) is_edit ∙ tree;
   }
 
 module _ {K V : Type 0} (d : DictRead) where
@@ -229,12 +236,13 @@ module _ {K V : Type 0} (d : DictRead) where
   abbrev pub read_machine : ℕ → Remaining → ReadRun d.kind.R → DictRun K V
   read_machine tries share m = record { run = d.around m share; tries = tries; types = record {} }
 
-  pub read_fresh : (share : Remaining) (tries number : ℕ) (call : MapCall) → 0 < tries → (m : ReadRun d.kind.R) → d.kind.means.call m.read ≡ call → m.at ≡ ReadStart → m.snaps.items ≡ [] → m.tries ≡ tries - 1 → m.limit ≡ tries → (IsFewCall call → d.kind.means.suits call) → IsFreshCall call share tries number (read_machine tries share m)
-  read_fresh share tries number call some m is_call at none is_tries is_limit suits = record {
+  pub read_fresh : (share : Remaining) (tries number : ℕ) (call : MapCall) → 0 < tries → (m : ReadRun d.kind.R) → d.kind.means.call m.read ≡ call → m.at ≡ ReadStart → m.snaps.items ≡ [] → m.tries ≡ tries - 1 → m.limit ≡ tries → (IsFewCall call → d.kind.means.suits call) → m.trie ≡ false → IsFreshCall call share tries number (read_machine tries share m)
+  read_fresh share tries number call some m is_call at none is_tries is_limit suits tree = record {
     is_call = ap inner_call (d.inside m share) ∙ is_call;
     has_tries = refl;
     has_share = ap inner_share (d.inside m share);
     unbegun = subst (λ (i : InnerRun). StandsAtStart i tries number) (sym (d.inside m share)) (at, all_tries m.tries tries some is_tries, none, rw is_call suits, is_limit);
+    in_tree = ap inner_trie (d.inside m share) ∙ tree;
   }
 
 -- A whole ordered read: it begins with that machine, and as that has answered it has ended.

@@ -1,9 +1,14 @@
 -- A get of a dictionary whose walk is straight.
-use Rattle.std.proofs.Common.{◌≡◌, ℕ, List, ◌^◌, ◌<◌, Option, None, Some, IfSome, inl, refl, ◌∙◌, ap, arith}
+use Rattle.arena.specs.Layout.{IsMap}
+use Rattle.template.specs.Balance.{leaf_way, map_mode}
+use Rattle.template.specs.Common.{FoundBy}
+use Rattle.dict.specs.Calls.{is_in_trie}
+use Rattle.dict.specs.Laws.Begins.{dict_mode}
+use Rattle.std.proofs.Common.{◌≡◌, ℕ, List, ◌^◌, ◌<◌, Option, None, Some, IfSome, inl, false, refl, sym, subst, ◌∙◌, ap, arith}
 use Rattle.std.specs.Option.{option_map}
 use Rattle.histories.specs.Common.{Layout, Tree, LoadSettled, Step, Settled, Head, History, Call, IsRun, Remaining, node}
 use Rattle.atomic_table.specs.declared.shared.Seat.{Seat}
-use Rattle.template.specs.Common.{load, OneValue, HasFoundGoal, WalkIsTold, walk_at, walk_from, Key as ToKey}
+use Rattle.template.specs.Common.{load, OneValue, WalkIsTold, walk_at, walk_from, Key as ToKey}
 use Rattle.template.specs.Walk.Places.{root_trail}
 use Rattle.template.specs.declared.walk.Found.{Found}
 use Rattle.template.specs.declared.walk.WalkAt.TheVariants.{Root, Start}
@@ -59,8 +64,8 @@ module _ {K V : Type 0} (valid_key : K → Type 0) (key : K → ℕ) (valid_valu
       first = at (walk_at (ToKey wanted) root_trail Start);
       with_run = λ w. at w.0;
       tells = λ w h v run x. (c, x.1.1.0.0);
-      turns = λ old now h v s goes next run x. (x.0, (record { mode = x.1.0.mode; small = x.1.0.small; number = x.1.0.number; limit = tt; spent = x.1.0.spent }, ((next c x.1.1.0.0, (goes.1.0 ∙ x.1.1.0.1.0, goes.1.1 ∙ x.1.1.0.1.1), once_past now.0.at _ _ goes.0 x.1.1.0.2), x.1.1.1)));
-      stays = λ old now goes. (refl, refl, (omega arith, omega arith));
+      turns = λ old now h v s goes next run x. (x.0, (record { mode = x.1.0.mode ∙ ap (λ w. map_mode (is_in_trie w)) (sym goes.1.1); small = x.1.0.small; number = x.1.0.number; limit = tt; spent = x.1.0.spent }, ((next c x.1.1.0.0, (goes.1.0 ∙ x.1.1.0.1.0, subst (λ w. w ≡ leaf_way (is_in_trie w)) (sym goes.1.1) x.1.1.0.1.1), once_past now.0.at _ _ goes.0 x.1.1.0.2), x.1.1.1)));
+      stays = λ old now goes. (refl, refl, (omega arith, omega arith), ap is_in_trie goes.1.1);
     }
 
   -- its machine waits for the head of the root
@@ -70,9 +75,9 @@ module _ {K V : Type 0} (valid_key : K → Type 0) (key : K → ℕ) (valid_valu
   get_walks p x tries wanted number layout is_layout is_number small =
       let first : DictRun K V = getting p.share tries wanted (walk_at (ToKey wanted) root_trail Start) in
       let c : Call = call_of p x (taken_of (pass_view p)) in
-      starts allows ready waits same c p.seat.me.0.passes first (getting p.share tries wanted (walk_from (ToKey wanted))) _ (refl, refl, (omega arith, omega arith))
+      starts allows ready waits same c p.seat.me.0.passes first (getting p.share tries wanted (walk_from (ToKey wanted))) _ (refl, refl, (omega arith, omega arith), refl)
       (λ h run r. (r.0, (record { mode = r.1.0.mode; small = r.1.0.small; number = r.1.0.number; limit = tt; spent = r.1.0.spent }, ((walk_begins InTree (ToKey wanted) c h r.1.1.0.0.run r.1.1.0.0.may r.1.1.0.0.small r.1.1.0.0.since, (refl, refl), none_tried Root _ _ r.1.1.0.2), r.1.1.1))))
-      (dict_starts valid_key key valid_value value_word p x first tt (refl, refl, (refl, refl), small) tt refl)
+      (dict_starts valid_key key valid_value value_word p x first refl tt (refl, refl, (refl, refl), small) tt refl)
 
   -- the value of its word
   same_told : (told : Option ℕ) (v : Option V) → (IfSome told (IsWordOf valid_value value_word) → option_map value_word v ≡ told) → IsTypedValue (IsWordOf valid_value value_word) told → Some (OneValue (option_map value_word v)) ≡ Some (OneValue told)
@@ -80,7 +85,7 @@ module _ {K V : Type 0} (valid_key : K → Type 0) (key : K → ℕ) (valid_valu
   same_told (Some w) v e t = ap (λ (o : Option ℕ). Some (OneValue o)) (e t)
 
   -- what its walk finds, it answers
-  pub get_ended : (share : Remaining) (tries wanted number : ℕ) (layout : Layout) (c : Call) (is_layout : c.layout ≡ layout) (is_number : c.number ≡ number) (ps : List SeatedPass) (turn : LastTurns) (f : Found) (v : Option V) → c.layout.mode ≡ Tree → IfSome v valid_value → (IfSome f.value (IsWordOf valid_value value_word) → option_map value_word v ≡ f.value)
+  pub get_ended : (share : Remaining) (tries wanted number : ℕ) (layout : Layout) (c : Call) (is_layout : c.layout ≡ layout) (is_number : c.number ≡ number) (ps : List SeatedPass) (turn : LastTurns) (f : Found) (v : Option V) → IsMap c.layout.mode → IfSome v valid_value → (IfSome f.value (IsWordOf valid_value value_word) → option_map value_word v ≡ f.value)
       → (x : WalkerFinds (walker share tries wanted c layout number is_layout is_number) ps InTree (ToKey wanted) turn f)
       → HoldsForCall allows ps c (λ h. DictAnswers valid_key key valid_value value_word (getting share tries wanted x.last) c h (replies.Value v) × Trace allows waits same c (getting share tries wanted (walk_at (ToKey wanted) root_trail Start)) (getting share tries wanted x.last) h)
   unfolding walker
@@ -90,7 +95,7 @@ module _ {K V : Type 0} (valid_key : K → Type 0) (key : K → ℕ) (valid_valu
       answers : (h : History) → IsRun allows c.layout h → ready (getting share tries wanted x.last) c h (Some x.told) → DictAnswers valid_key key valid_value value_word (getting share tries wanted x.last) c h (replies.Value v)
       answers h run r =
           let t : WalkIsTold x.last c h x.told = r.1.1.0.0 in
-          let found : HasFoundGoal (ToKey wanted) c h f = x.finds c h t in
+          let found : FoundBy x.last.way (ToKey wanted) c h f = subst (λ way. FoundBy way (ToKey wanted) c h f) (sym x.is_way) (x.finds c h t) in
           dict_ends valid_key key valid_value value_word (getting share tries wanted x.last) c h (WordReply.Value f.value) (replies.Value v) mode run
           (get_ends tries c h wanted x.last share f (rw x.is_goal at t.small) r.1.1.1 r.1.0.spent found r.1.1.0.2) record { valid = valid; says = λ typed. same_told f.value v same_word typed; form = inl refl }
 
@@ -101,4 +106,4 @@ module _ {K V : Type 0} (valid_key : K → Type 0) (key : K → ℕ) (valid_valu
   get_over p x s tries wanted number layout is_layout is_number small turn f v valid same_word finds =
       let c : Call = call_of p x (taken_of (pass_view p)) in
       let found = finds (walker p.share tries wanted c layout number is_layout is_number) (get_walks p x tries wanted number layout is_layout is_number small) in
-      (found.last, get_ended p.share tries wanted number layout c is_layout is_number s.me.0.passes turn f v x.is_mode valid same_word found)
+      (found.last, get_ended p.share tries wanted number layout c is_layout is_number s.me.0.passes turn f v (dict_mode p.layout.mode false x.is_mode) valid same_word found)

@@ -1,5 +1,9 @@
 -- From place to place of an ordered read, of whatever machine makes one.
-use Rattle.std.proofs.Common.{◌≡◌, ◌∙◌, ℕ, suc, ◌+◌, ◌-◌, ◌*◌, ◌<◌, ◌≤◌, Bool, List, None, Some, Result, Ok, length, [], refl, sym, ap, subst, arith, Err}
+use Rattle.template.specs.Balance.{leaf_way, map_mode, nodes_by}
+use Rattle.order.specs.Known.{AreLastTurns}
+use Rattle.order.proofs.Lemmas.{turned}
+use Rattle.template.specs.Common.{path_key}
+use Rattle.std.proofs.Common.{◌≡◌, ◌∙◌, ℕ, suc, ◌+◌, ◌-◌, ◌*◌, ◌<◌, ◌≤◌, Bool, false, List, None, Some, Result, Ok, length, [], inl, refl, sym, ap, subst, arith, Err}
 use Rattle.histories.specs.Common.{Turn, Ask, Done, Side, NodeNo, ScxNo, LoadInfo, LoadMarked, LoadSettled, LoadState, Settled}
 use Rattle.histories.specs.Common.{Head as HeadWord, head_of, History, Call, IsRun, MatchTurn, begun_at, info, marked, node, state}
 use Rattle.order.specs.Found.{BeginsAtRoot, BeginsSo, IsReading, Looks, Stands, WalksTo, head_at}
@@ -29,13 +33,13 @@ use Rattle.template.specs.declared.walk.Found.{Found}
 use Rattle.template.specs.declared.walk.WalkRun.{WalkRun}
 use Rattle.template.specs.declared.walk.Way.TheVariants.{InTree}
 use Rattle.order.specs.declared.last_turns.LastTurns.{LastTurns}
-use Rattle.order.specs.LastTurns.{first_children, last_turns, no_turns, turn_to}
+use Rattle.order.specs.LastTurns.{first_children, no_turns, turn_to}
 use Rattle.forest.specs.declared.view.SeatedPass.{SeatedPass}
 use Rattle.forest.specs.CallKinds.{Calls}
 use Rattle.forest.specs.Hosts.{HostedIsTold, HostedStands, HostedWaits}
 use Rattle.forest.specs.Inside.{InnerIsTold, InnerWaits}
 use Rattle.forest.specs.StraightLlx.{llx_at, Looker, LookerSnaps}
-use Rattle.forest.specs.StraightReads.{Reader, ReaderBegins, ReaderEnds, ReaderLooksAgain, ReaderRoots, ReaderWaits, at_root, root_left}
+use Rattle.forest.specs.StraightReads.{Reader, ReaderBegins, ReaderEnds, ReaderLooksAgain, ReaderRoots, ReaderWaits, at_root}
 use Rattle.forest.specs.StraightVlx.{Validator}
 use Rattle.forest.specs.StraightWalk.{Walker, WalkerFinds, WalkerWaits}
 use Rattle.forest.specs.TableRule.{history_of}
@@ -53,9 +57,13 @@ last_steps before mid after left less one i more = omega (arith, one, i, more)
 
 module _ {R A : Type 0} (means : ReadMeaning R A) where
   itself : (m : ReadRun R) → IsSameRead means m m
-  itself m = (refl, refl, omega arith, omega arith)
+  itself m = (refl, refl, omega arith, omega arith, refl)
 
 module _ {M R A : Type 0} {o : Calls M} {means : ReadMeaning R A} (r : Reader o means) where
+  -- what it knows, apart from its mode
+  reading : (m : ReadRun R) (c : Call) (h : History) → ReadGoes means m c h → IsReading means m.read m.snaps.items c h
+  reading m c h x = record { reads = x.reads; suits = x.suits }
+
   -- its step has found this
   abbrev IsTold : List SeatedPass → ReadRun R → ℕ → Type 0
   IsTold ps m v = HostedIsTold r ps m v
@@ -65,7 +73,7 @@ module _ {M R A : Type 0} {o : Calls M} {means : ReadMeaning R A} (r : Reader o 
   on_to ps old m next v is know x = told_on r ps old (placed m next) (Some v) (Ask (next_step m next)) is (λ h run y. next_waits means m r.call h next (know h run y)) x
 
   -- what it gets fits the taken nodes
-  pub told_fits : (ps : List SeatedPass) (m : ReadRun R) (v : ℕ) → IsTold ps m v → ReadFits means m (Some v) (shared_nodes o.layout)
+  pub told_fits : (ps : List SeatedPass) (m : ReadRun R) (v : ℕ) → IsTold ps m v → ReadFits means m (Some v) (nodes_by m.trie (shared_nodes o.layout))
   told_fits ps m v x = read_told means m r.call _ (Some v) (shared_nodes o.layout) (r.runs _ x.sound) (r.tells m _ (Some v) x.so.0) (few_taken o.allows o.layout r.call _ r.is_layout x.sound)
 
   -- After its loads: the read has continued
@@ -74,17 +82,17 @@ module _ {M R A : Type 0} {o : Calls M} {means : ReadMeaning R A} (r : Reader o 
     now = record m { read = read }
 
     reads_on : (c : Call) (h : History) → ReadGoes means m c h → ReadGoes means now c h
-    reads_on c h x = record { reads = x.reads; suits = rw same x.suits }
+    reads_on c h x = record { reads = x.reads; suits = rw same x.suits; mode = x.mode }
 
     is_same : IsSameRead means m now
-    is_same = (same, refl, omega arith, omega arith)
+    is_same = (same, refl, omega arith, omega arith, refl)
 
     -- what is known then of what comes next, at its node
     abbrev Knows : ReadNext → ((h : History) → Type 0) → ℕ → Type 0
     Knows next known n = (snaps : List Snap) (c : Call) (h : History) → IsReading means m.read snaps c h → IsOwnMoment c h → Stands means m.read snaps c h n → known h → MayDo means read snaps c h next
 
     pub root_goes_on : (ps : List SeatedPass) (v : ℕ) (next : ReadNext) → Knows next (λ h. head_at h 0 ≡ head_of v) 0 → IsTold ps (at_root m) v → ReaderWaits r ps now next
-    root_goes_on ps v next goes = on_to ps (at_root m) now next v is_same (λ h run y. let c = begun_at r.call y.0 in (y.0, y.1, (reads_on c h y.2, goes m.snaps.items c h y.2 y.3 y.4.0 (ap head_of y.4.1))))
+    root_goes_on ps v next goes = on_to ps (at_root m) now next v is_same (λ h run y. let c = begun_at r.call y.0 in (y.0, y.1, (reads_on c h y.2, goes m.snaps.items c h (reading (at_root m) c h y.2) y.3 y.4.0 (ap head_of y.4.1))))
 
     -- and has fewer steps left
     some_left : (c : Call) (h : History) (next : ReadNext) (nodes n : ℕ) → MayDo means read m.snaps.items c h next → ComesNearer means read nodes next n → 0 < length m.snaps.items + n
@@ -95,20 +103,20 @@ module _ {M R A : Type 0} {o : Calls M} {means : ReadMeaning R A} (r : Reader o 
     lighter : (c : Call) (h : History) (next : ReadNext) (nodes n : ℕ) → MayDo means read m.snaps.items c h next → ComesNearer means read nodes next n → read_left means (placed now next) nodes < tries_left means m nodes + (length m.snaps.items + n)
     lighter c h next nodes n may near = subst (λ k. read_left means (placed now next) nodes < m.tries * means.try_left k nodes + (length m.snaps.items + n)) same (placed_nearer means now next nodes (length m.snaps.items + n) (some_left c h next nodes n may near) (near.0, (let i = near.1 in omega (arith, i))))
 
-    pub root_lighter : (ps : List SeatedPass) (v : ℕ) (next : ReadNext) → Knows next (λ h. head_at h 0 ≡ head_of v) 0 → ((nodes : ℕ) → HeadFits (head_of v) nodes → ComesNearer means read nodes next (67 * (2 + nodes - (head_of v).level) - 1 + means.behind m.read nodes)) → IsTold ps (at_root m) v → read_left means (placed now next) (shared_nodes o.layout) < read_left means (at_root m) (shared_nodes o.layout)
+    pub root_lighter : (ps : List SeatedPass) (v : ℕ) (next : ReadNext) → Knows next (λ h. head_at h 0 ≡ head_of v) 0 → ((nodes : ℕ) → HeadFits (head_of v) nodes → ComesNearer means read nodes next (67 * (2 + nodes - (head_of v).level) - 1 + means.behind m.read nodes)) → IsTold ps (at_root m) v → read_left means (placed now next) (nodes_by m.trie (shared_nodes o.layout)) < read_left means (at_root m) (nodes_by m.trie (shared_nodes o.layout))
     root_lighter ps v next goes near x =
         let y = r.tells (at_root m) _ (Some v) x.so.0 in
         let c = begun_at r.call y.0 in
         let f = told_fits ps (at_root m) v x in
         let i = f.0 in
-        let p = lighter c _ next (shared_nodes o.layout) _ (goes m.snaps.items c _ y.2 y.3 y.4.0 (ap head_of y.4.1)) (near (shared_nodes o.layout) f) in
+        let p = lighter c _ next (nodes_by m.trie (shared_nodes o.layout)) _ (goes m.snaps.items c _ (reading (at_root m) c _ y.2) y.3 y.4.0 (ap head_of y.4.1)) (near (nodes_by m.trie (shared_nodes o.layout)) f) in
         omega (arith, i, p)
 
   -- After a load: the run has continued
   module _ (m now : ReadRun R) (of : ReadLoad) (is : IsSameRead means m now) (tries : now.tries ≡ m.tries) where
     -- what is known of it then
     abbrev Loads : ℕ → Result ReadNext Refused → Type 0
-    Loads v next = (c : Call) (h : History) → IsReading means m.read m.snaps.items c h → IsOwnMoment c h → MayLoad means m.read m.snaps.items c h of → load_value h of ≡ v → GoesOn means c h now next
+    Loads v next = (c : Call) (h : History) → ReadGoes means m c h → IsOwnMoment c h → MayLoad means m.read m.snaps.items c h of → load_value h of ≡ v → GoesOn means c h now next
 
     pub load_goes_on : (ps : List SeatedPass) (v : ℕ) (next : ReadNext) → Loads v (Ok next) → IsTold ps (placed m (LoadNext of)) v → ReaderWaits r ps now next
     load_goes_on ps v next goes = on_to ps (placed m (LoadNext of)) now next v is (λ h run y. (y.0, rw (is.1, tries) y.1, goes (begun_at r.call y.0) h y.2 y.3 y.4.0 y.4.1))
@@ -123,17 +131,21 @@ module _ {M R A : Type 0} {o : Calls M} {means : ReadMeaning R A} (r : Reader o 
     some_then c h (LookNext children level l) nodes n y e = let j = e.1 in omega (arith, j)
     some_then c h ValidateNext nodes n y e = let i = y.1.some in let j = e.1 in omega (arith, i, j)
 
-    pub load_lighter : (ps : List SeatedPass) (v : ℕ) (next : ReadNext) → Loads v (Ok next) → ((nodes : ℕ) → LoadFits v nodes of → RunComesNearer means now nodes next (length m.snaps.items + load_left means m.read nodes of - 1)) → IsTold ps (placed m (LoadNext of)) v → read_left means (placed now next) (shared_nodes o.layout) < read_left means (placed m (LoadNext of)) (shared_nodes o.layout)
-    load_lighter ps v next goes near x = subst (λ t. read_left means (placed now next) (shared_nodes o.layout) < t + (length m.snaps.items + load_left means m.read (shared_nodes o.layout) of - 1)) (λ i. tries i * means.try_left (is.0 i) (shared_nodes o.layout)) fewer
+    pub load_lighter : (ps : List SeatedPass) (v : ℕ) (next : ReadNext) → Loads v (Ok next) → ((nodes : ℕ) → LoadFits v nodes of → RunComesNearer means now nodes next (length m.snaps.items + load_left means m.read nodes of - 1)) → IsTold ps (placed m (LoadNext of)) v → read_left means (placed now next) (nodes_by now.trie (shared_nodes o.layout)) < read_left means (placed m (LoadNext of)) (nodes_by m.trie (shared_nodes o.layout))
+    load_lighter ps v next goes near x = subst (λ t. read_left means (placed now next) (nodes_by t (shared_nodes o.layout)) < read_left means (placed m (LoadNext of)) nodes) (sym is.4)
+        (subst (λ t. read_left means (placed now next) nodes < t + (length m.snaps.items + load_left means m.read nodes of - 1)) (λ i. tries i * means.try_left (is.0 i) nodes) fewer)
       where
+        nodes : ℕ
+        nodes = nodes_by m.trie (shared_nodes o.layout)
+
         y : ReadIsReady means (placed m (LoadNext of)) r.call (history_of r.call.layout.mode x.known) (Some v)
         y = r.tells (placed m (LoadNext of)) _ (Some v) x.so.0
 
-        nearer : RunComesNearer means now (shared_nodes o.layout) next (length m.snaps.items + load_left means m.read (shared_nodes o.layout) of - 1)
-        nearer = near (shared_nodes o.layout) (told_fits ps (placed m (LoadNext of)) v x)
+        nearer : RunComesNearer means now nodes next (length m.snaps.items + load_left means m.read nodes of - 1)
+        nearer = near nodes (told_fits ps (placed m (LoadNext of)) v x)
 
-        fewer : read_left means (placed now next) (shared_nodes o.layout) < tries_left means now (shared_nodes o.layout) + (length m.snaps.items + load_left means m.read (shared_nodes o.layout) of - 1)
-        fewer = placed_nearer means now next (shared_nodes o.layout) _ (some_then (begun_at r.call y.0) _ next (shared_nodes o.layout) _ (goes (begun_at r.call y.0) _ y.2 y.3 y.4.0 y.4.1) nearer) nearer
+        fewer : read_left means (placed now next) nodes < tries_left means now nodes + (length m.snaps.items + load_left means m.read nodes of - 1)
+        fewer = placed_nearer means now next nodes _ (some_then (begun_at r.call y.0) _ next nodes _ (goes (begun_at r.call y.0) _ y.2 y.3 y.4.0 y.4.1) nearer) nearer
 
   -- It looks
   module _ (m : ReadRun R) (children : Children) (level : ℕ) where
@@ -184,7 +196,7 @@ module _ {M R A : Type 0} {o : Calls M} {means : ReadMeaning R A} (r : Reader o 
 
     -- what is known of the run that keeps the snapshot
     abbrev Keeps : ReadRun R → Snap → Result ReadNext Refused → Type 0
-    Keeps now snap next = (c : Call) (h : History) → IsReading means m.read m.snaps.items c h → Looks means m.read m.snaps.items c h children level snap.node.0 → IsSnapshot c.layout h snap.node.0 snap → GoesOn means c h now next
+    Keeps now snap next = (c : Call) (h : History) → ReadGoes means m c h → Looks means m.read m.snaps.items c h children level snap.node.0 → IsSnapshot c.layout h snap.node.0 snap → GoesOn means c h now next
 
     pub looks_on : (ps : List SeatedPass) (now : ReadRun R) (n : NodeNo) (snap : Snap) (next : ReadNext) → now.tries ≡ m.tries → IsSameRead means m now → Keeps now snap (Ok next) → LookerSnaps looker ps n snap → ReaderWaits r ps now next
     looks_on ps now n snap next tries is goes = looked ps (placed now next) n snap (Ask (next_step now next)) is (λ begin h try g l s. next_waits means now r.call h next (begin, rw (is.1, tries) try, goes (begun_at r.call begin) h g l s))
@@ -193,7 +205,7 @@ module _ {M R A : Type 0} {o : Calls M} {means : ReadMeaning R A} (r : Reader o 
     looks_last ps now n snap a is goes = looked ps now n snap (Done (Err a)) is (λ begin h try g l s. ends_refused means now r.call begin h a m.tries (rw is.1 try) (goes (begun_at r.call begin) h g l s))
 
     -- its fork is no deeper than the taken nodes allow
-    pub level_fits : (ps : List SeatedPass) (n : NodeNo) (snap : Snap) → LookerSnaps looker ps n snap → level + 1 < 2 + shared_nodes o.layout
+    pub level_fits : (ps : List SeatedPass) (n : NodeNo) (snap : Snap) → LookerSnaps looker ps n snap → level + 1 < 2 + nodes_by m.trie (shared_nodes o.layout)
     unfolding looker
     level_fits ps n snap x = told_fits ps (at x.last) x.told x.so
 
@@ -236,9 +248,9 @@ module _ {M R A : Type 0} {o : Calls M} {means : ReadMeaning R A} (r : Reader o 
     told_vlx ps n v x = x
 
     -- where the last info was what its snapshot found, what it has read is its answer
-    pub answers_found : (ps : List SeatedPass) (now : ReadRun R) (n asked v : ℕ) (answer : A) → means.call now.read ≡ means.call m.read → now.limit ≡ m.limit → now.tries ≡ m.tries → means.told answer ≡ means.found m.read → suc n ≡ asked → (snap_at snaps n).scx.0 ≡ v → asked ≡ length snaps → InnerIsTold validator ps asked v → ReaderEnds r ps now (Ok answer)
+    pub answers_found : (ps : List SeatedPass) (now : ReadRun R) (n asked v : ℕ) (answer : A) → means.call now.read ≡ means.call m.read → now.limit ≡ m.limit → now.tries ≡ m.tries → now.trie ≡ m.trie → means.told answer ≡ means.found m.read → suc n ≡ asked → (snap_at snaps n).scx.0 ≡ v → asked ≡ length snaps → InnerIsTold validator ps asked v → ReaderEnds r ps now (Ok answer)
     unfolding validator
-    answers_found ps now n asked v answer call limit tries tells is found all x = told_on r ps (asking asked) now (Some v) (Done (Ok answer)) (call, limit, omega (arith, tries), omega (arith, tries)) ends x
+    answers_found ps now n asked v answer call limit tries trie tells is found all x = told_on r ps (asking asked) now (Some v) (Done (Ok answer)) (call, limit, omega (arith, tries), omega (arith, tries), trie) ends x
       where
         same : (d : Call) (h : History) → IsRun TreeAllows d.layout h → VlxIsTold m.snaps.items asked d h v → VlxAnswers m.snaps.items d h Same
         same d h run y = all_same d h m.snaps.items run.lawful
@@ -250,10 +262,14 @@ module _ {M R A : Type 0} {o : Calls M} {means : ReadMeaning R A} (r : Reader o 
     pub some_snap : (ps : List SeatedPass) → ReaderWaits r ps m ValidateNext → 0 < length snaps
     some_snap ps x = let w = r.opens (placed m ValidateNext) _ _ x.so.0 in let i = w.3.2.looks.within in rw e (omega (arith, i))
 
-  -- It walks to a key
-  module _ (m : ReadRun R) (key : ℕ) (side : Side) (to : WalksTo means m.read key side) where
+  -- It walks to a key in a tree, where each fork counts
+  module _ (m : ReadRun R) (key : ℕ) (side : Side) (to : WalksTo means m.read key side) (tree : m.trie ≡ false) where
     abbrev walking : WalkRun → LastTurns → ReadRun R
     walking walk turns = record m { at = Walk walk side turns }
+
+    -- by the way of its map
+    by_way : InTree ≡ leaf_way m.trie
+    by_way = ap leaf_way (sym tree)
 
     pub walker : Walker o
     walker = record {
@@ -266,9 +282,12 @@ module _ {M R A : Type 0} {o : Calls M} {means : ReadMeaning R A} (r : Reader o 
       turns = λ old now h v s goes next run x.
           let y = r.tells (walking old.0 old.1) h (Some v) x in
           let w = y.4.0 in
-          let turned = last_turns now.0.at now.0.trail.node old.1 in
-          subst (λ (t : LastTurns). o.waits (r.with_run (walking now.0 t)) r.call h s) (sym goes.2) (r.turns (walking old.0 old.1) (walking now.0 turned) h (Some v) s (itself means m) x
-          (walk_waits means m old.0 now.0 side old.1 r.call y.0 h y.1 y.2 w.key w.goal w.goes_to (goes.1.1 ∙ w.way) w.last goes.1.0 s goes.0 (next (begun_at r.call y.0) y.4.1)));
+          let c = begun_at r.call y.0 in
+          let waits = next c y.4.1 in
+          r.turns (walking old.0 old.1) (walking now.0 now.1) h (Some v) s (itself means m) x
+          (walk_waits means m old.0 now.0 side r.call y.0 h y.1 y.2 w.key w.goal w.goes_to (goes.1.1 ∙ w.way) goes.1.0 now.1
+          (subst (AreLastTurns c h w.key) (sym goes.2) (turned c h w.key now.0 old.1 (ap path_key (goes.1.0 ∙ w.goal)) w.last now.0.at waits.known (λ leaves. inl (y.2.mode ∙ ap map_mode tree))))
+          s goes.0 waits);
       stays = λ old now goes. r.stays (walking old.0 old.1) (walking now.0 now.1) (itself means m);
     }
 
@@ -276,13 +295,13 @@ module _ {M R A : Type 0} {o : Calls M} {means : ReadMeaning R A} (r : Reader o 
     pub walks : (ps : List SeatedPass) (old : ReadRun R) → IsSameRead means old m → m.tries ≡ old.tries → m.snaps.items ≡ [] → ReaderBegins r ps old → WalkerWaits walker ps (walk_from (ToKey key)) no_turns (load LoadSettled (node 0 (Settled HeadWord)))
     unfolding walker
     walks ps old is tries none x = told_on r ps old (walking (walk_from (ToKey key)) no_turns) None (Ask (load LoadSettled (node 0 (Settled HeadWord)))) is
-        (λ h run y. begins_walk means m old (walking (walk_from (ToKey key)) no_turns) r.call r.call.start h (Ask (load LoadSettled (node 0 (Settled HeadWord)))) is tries none y.2 y.0 (walk_from (ToKey key)) key side refl refl refl to refl refl) x
+        (λ h run y. begins_walk means m old (walking (walk_from (ToKey key)) no_turns) r.call r.call.start h (Ask (load LoadSettled (node 0 (Settled HeadWord)))) is tries none y.2 y.0 (walk_from (ToKey key)) key side refl by_way refl to refl refl) x
 
     -- behind the leaf that it finds it looks at the last fork where it has turned to its side
     pub walk_looks : (ps : List SeatedPass) (f : Found) (turns : LastTurns) → WalkerFinds walker ps InTree (ToKey key) turns f → ReaderWaits r ps m (LookNext (first_children side (turn_to side turns).0) 0 (turn_to side turns))
     unfolding walker
     walk_looks ps f turns x = on_to ps (walking x.last turns) m (LookNext (first_children side (turn_to side turns).0) 0 (turn_to side turns)) x.told (itself means m)
-        (λ h run y. let c = begun_at r.call y.0 in let w = y.4.0 in (y.0, y.1, (y.2, walk_found means m.read m.snaps.items c h y.2 w.key side turns f w.goes_to w.last (subst (λ g. HasFoundGoal g c h f) (sym x.is_goal ∙ w.goal) (x.finds c h y.4.1))))) x.so
+        (λ h run y. let c = begun_at r.call y.0 in let w = y.4.0 in (y.0, y.1, (y.2, walk_found means m.read m.snaps.items c h (reading m c h y.2) w.key side turns f w.goes_to w.last (subst (λ g. HasFoundGoal g c h f) (sym x.is_goal ∙ w.goal) (x.finds c h y.4.1))))) x.so
 
   -- A try that has begun otherwise
   module _ (ps : List SeatedPass) (old m : ReadRun R) (is : IsSameRead means old m) where
@@ -307,5 +326,5 @@ module _ {R A : Type 0} (means : ReadMeaning R A) (old m : ReadRun R) (is : IsSa
   walk_in_try children turn key mid side near walks rest = in_try (let e = ap length none in omega (arith, e, near, walks, rest))
 
   -- or all from the root on
-  pub root_in_try : BeginsNear means m.read nodes AtRoot → after ≤ before + suc (root_left means m nodes) → after ≤ before + read_left means old nodes
+  pub root_in_try : BeginsNear means m.read nodes AtRoot → after ≤ before + suc (read_left means (at_root m) nodes) → after ≤ before + read_left means old nodes
   root_in_try near rest = in_try (let e = ap length none in omega (arith, e, near, rest))

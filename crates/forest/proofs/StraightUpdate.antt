@@ -1,5 +1,5 @@
 -- From place to place of an update, of whatever machine updates.
-use Rattle.std.proofs.Common.{◌≡◌, ℕ, suc, Bool, true, ap, subst, ◌+◌, ◌-◌, ◌*◌, ◌<◌, ◌≤◌, List, Option, None, Some, inl, refl, sym, arith, ◌∙◌, Result, Ok, Err, IfSome}
+use Rattle.std.proofs.Common.{◌≡◌, ℕ, suc, Bool, true, false, ap, subst, ◌+◌, ◌-◌, ◌*◌, ◌<◌, ◌≤◌, List, Option, None, Some, inl, refl, sym, arith, ◌∙◌, Result, Ok, Err, IfSome}
 use Rattle.std.specs.Result.{IsErrAnd}
 use Rattle.std.proofs.lemmas.Result.{err_from_is_err_and}
 use Rattle.histories.specs.Common.{Full, Layout, Turn, Ask, Done, NodeNo, LoadMarked, LoadSettled, LoadState, Settled, SettledPart, Head, High, Key, Value, Slot, Store}
@@ -14,7 +14,7 @@ use Rattle.edits.specs.declared.edit.Nth.{Nth}
 use Rattle.edits.specs.declared.piece.Piece.{Piece}
 use Rattle.edits.specs.Pieces.{is_filled, nth_node, part_behind, word_of}
 use Rattle.edits.specs.Readings.{is_at_pair, next_read, read_with}
-use Rattle.edits.specs.Sound.{FillsWell, IsAtFound}
+use Rattle.edits.specs.Sound.{FillsWell, HasGuardAtEnd, IsAtFound}
 use Rattle.edits.proofs.Lemmas.{behind_filled, fewer_fills, fills_next, fills_word, joined_spends, key_then_value, placed_same, scx_asks, scx_done, told_spends, told_turn, value_then_high}
 use Rattle.order.specs.LastTurns.{no_turns}
 use Rattle.order.specs.declared.last_turns.LastTurns.{LastTurns}
@@ -30,9 +30,10 @@ use Rattle.template.specs.declared.walk.WalkAt.TheVariants.{Start as WalkStart, 
 use Rattle.template.specs.declared.walk.WalkRun.{WalkRun}
 use Rattle.template.specs.declared.walk.Way.{Way}
 use Rattle.template.proofs.Lemmas.{own_since, walk_begins}
-use Rattle.edits.specs.Edits.{EditMeaning}
-use Rattle.edits.specs.Known.{MayBeginTry, CanFill, CanLook, IsFilledUpTo, IsUntouched, Looks, Reads, UpdateAnswers, UpdateIsReady, UpdateWaits, UpdateTurn, Walks, done_at as done_with}
-use Rattle.edits.specs.Steps.{HasAsked, IsSpending, MaySpend, Spends, UpdateFits, node_tries, pieces_now, scx_tries, try_left, update_left}
+use Rattle.edits.specs.Edits.{EditMeaning, all_looks}
+use Rattle.template.specs.Walk.Steps.{room}
+use Rattle.edits.specs.Known.{Guarded, MayBeginTry, CanFill, CanLook, IsFilledUpTo, IsUntouched, Looks, Reads, UpdateAnswers, UpdateIsReady, UpdateWaits, UpdateTurn, Walks, done_at as done_with}
+use Rattle.edits.specs.Steps.{HasAsked, IsSpending, MaySpend, Spends, UpdateFits, node_tries, pieces_now, scx_tries, most_works, try_left, update_left}
 use Rattle.edits.specs.Tries.{IsTry, IsTryAt, HasFilledNone}
 use Rattle.edits.specs.Next.{IsSameUpdate, told, placed, standing, next_step, fills, update_of, MayStop, UpdateGoesOn, HasSpentForNext, left_then}
 use Rattle.edits.specs.declared.update.Stop.{Stop}
@@ -51,7 +52,7 @@ use Rattle.edits.specs.declared.update.Updated.{Updated}
 use Rattle.prims.specs.Laws.Idle.{IsQuietSince}
 use Rattle.forest.specs.declared.view.SeatedPass.{SeatedPass}
 use Rattle.forest.specs.StraightLlx.{llx_at, Looker, LookerSnaps}
-use Rattle.forest.specs.Hosts.{HostedEnds, HostedIsTold, HostedStands, HostedWaits}
+use Rattle.forest.specs.Hosts.{HostedBegins, HostedEnds, HostedIsTold, HostedStands, HostedWaits}
 use Rattle.forest.specs.StraightUpdate.{Updater, HasUpdateGoneOn, inner_update, UpdaterBegins, UpdaterEnds, UpdaterFills, UpdaterGoesOn, UpdaterIsBlocked, UpdaterStops, UpdaterTries, fills_then}
 use Rattle.forest.specs.StraightWalk.{Walker, WalkerWaits, WalkerFinds}
 use Rattle.forest.specs.TableRule.{history_of}
@@ -87,9 +88,13 @@ module _ {M E : Type 0} {o : Calls M} {e : EditMeaning E} (u : Updater o e) wher
   abbrev pub walking : {A : Type 0} → UpdateRun E A → WalkRun → UpdateRun E UpdateAt
   walking m walk = standing m (Walk walk)
 
+  -- an edit without a guard has none
+  unguarded : {P : Type 0} {b : Bool} → b ≡ false → b ≡ true → P
+  unguarded plain is = absurd (let x : false ≡ true = sym plain ∙ is in cc)
+
   -- a machine that updates walks, and keeps no fork
-  pub walker : {A : Type 0} → UpdateRun E A → Walker o
-  walker m = record {
+  pub walker : {A : Type 0} (m : UpdateRun E A) → e.guard m.edit ≡ false → Walker o
+  walker m plain = record {
     call = u.call;
     is_layout = u.is_layout;
     is_number = u.is_number;
@@ -100,7 +105,7 @@ module _ {M E : Type 0} {o : Calls M} {e : EditMeaning E} (u : Updater o e) wher
         let y = u.tells (walking m old.0) h (Some v) x in
         let w = y.3.0 in
         u.turns (walking m old.0) (walking m now.0) h (Some v) s (moves m (Walk old.0) (Walk now.0) refl refl) x
-        (y.0, try_past u.call y.0 h m.limit m.tries now.0.at goes.0 y.1, y.2, (record { small = w.small; rests = w.rests; quiet = w.quiet; none_filled = w.none_filled; may = w.may; same = goes.1.0 ∙ w.same; same_way = goes.1.1 ∙ w.same_way }, next (begun_at u.call y.0) y.3.1));
+        (y.0, try_past u.call y.0 h m.limit m.tries now.0.at goes.0 y.1, y.2, (record { small = w.small; rests = w.rests; quiet = w.quiet; none_filled = w.none_filled; may = w.may; same = goes.1.0 ∙ w.same; same_way = goes.1.1 ∙ w.same_way }, next (begun_at u.call y.0) y.3.1, λ past is. unguarded plain is));
     stays = λ old now goes. u.stays (walking m old.0) (walking m now.0) (moves m (Walk old.0) (Walk now.0) refl refl);
   }
 
@@ -109,9 +114,9 @@ module _ {M E : Type 0} {o : Calls M} {e : EditMeaning E} (u : Updater o e) wher
   may_walk lay way by goal end is_way is_goal x = subst (λ w. MayGo lay w goal) (sym is_way) (subst (MayGo lay by) (sym is_goal) x)
 
   -- an update that may begin begins its walk
-  pub walks : (ps : List SeatedPass) {A : Type 0} (m : UpdateRun E A) (way : Way) (goal : Goal) → way ≡ e.way m.edit → goal ≡ e.goal m.edit → UpdaterBegins u ps m → WalkerWaits (walker m) ps (way_from way goal) no_turns (load LoadSettled (node 0 (Settled Head)))
+  pub walks : (ps : List SeatedPass) {A : Type 0} (m : UpdateRun E A) (plain : e.guard m.edit ≡ false) (way : Way) (goal : Goal) → way ≡ e.way m.edit → goal ≡ e.goal m.edit → UpdaterBegins u ps m → WalkerWaits (walker m plain) ps (way_from way goal) no_turns (load LoadSettled (node 0 (Settled Head)))
   unfolding walker
-  walks ps m way goal is_way is_goal x = record {
+  walks ps m plain way goal is_way is_goal x = record {
     known = x.known;
     is = x.is;
     sound = x.sound;
@@ -130,6 +135,7 @@ module _ {M E : Type 0} {o : Calls M} {e : EditMeaning E} (u : Updater o e) wher
             (
               record { small = b.small; rests = record { share = b.rests.share; over = b.rests.over }; quiet = quiet_at_start u.call.layout u.call.pass h (idle_if_finished u.call h b.run.1.lawful b.rests.over); none_filled = none_filled_yet u.call.pass h; may = b.may; same = is_goal; same_way = is_way },
               walk_begins way goal (begun_at u.call h) h b.run (may_walk u.call.layout way (e.way m.edit) goal (e.goal m.edit) is_way is_goal b.may) (rw is_goal b.small) (ends_self h),
+              λ past is. unguarded plain is,
             ),
           )
 
@@ -174,18 +180,18 @@ module _ {M E : Type 0} {o : Calls M} {e : EditMeaning E} (u : Updater o e) wher
     stops now stop (Done a) is fewer spent next x = record { known = x.known; is = x.is; sound = x.sound; so = record { old = x.so.old; got = x.so.got; was = x.so.was; goes = gone_behind x.so.old now now.tries now.tries is fewer spent x.so.tries x.so.goes; answers = next _ (u.runs _ x.sound) x.so.may; course = x.so.course } }
 
   -- after its walk it continues as its try does
-  pub finds : (ps : List SeatedPass) {A : Type 0} (m now : UpdateRun E A) (way : Way) (goal : Goal) (turn : LastTurns) (f : Found) (next : Result Next Stop) → way ≡ e.way m.edit → goal ≡ e.goal m.edit → IsSameUpdate m now → now.tries ≡ m.tries → HasSpentForNext e m.share now f next (m.tries + 1) (m.tries + 1)
-      → ((b h : History) → IsRun TreeAllows u.call.layout h → IsTry u.call b h m.limit m.tries → IsUntouched u.call b m.share → MayBeginTry e m (begun_at u.call b) h → IsQuietSince u.call.layout u.call.pass b h → HasFilledNone u.call.pass h b → FoundBy (e.way m.edit) (e.goal m.edit) (begun_at u.call b) h f → UpdateGoesOn e u.call h now f next)
-      → WalkerFinds (walker m) ps way goal turn f → UpdaterGoesOn u ps now f next
+  pub finds : (ps : List SeatedPass) {A : Type 0} (m now : UpdateRun E A) (plain : e.guard m.edit ≡ false) (way : Way) (goal : Goal) (turn : LastTurns) (f : Found) (next : Result Next Stop) → way ≡ e.way m.edit → goal ≡ e.goal m.edit → IsSameUpdate m now → now.tries ≡ m.tries → HasSpentForNext e m.share now f next (m.tries + 1) (m.tries + 1)
+      → ((b h : History) → IsRun TreeAllows u.call.layout h → IsTry u.call b h m.limit m.tries → IsUntouched u.call b m.share → MayBeginTry e m (begun_at u.call b) h → IsQuietSince u.call.layout u.call.pass b h → HasFilledNone u.call.pass h b → FoundBy (e.way m.edit) (e.goal m.edit) (begun_at u.call b) h f → Guarded e m.edit (begun_at u.call b) h m.guard (λ k. FoundBy (e.way m.edit) (e.goal m.edit) k h f) → UpdateGoesOn e u.call h now f next)
+      → WalkerFinds (walker m plain) ps way goal turn f → UpdaterGoesOn u ps now f next
   unfolding walker
-  finds ps m now way goal turn f next is_way is_goal is tries spent goes x =
-      goes_behind ps now f (walking m x.last) x.told next is tries spent x.so (goes y.0 _ (u.runs _ x.so.sound) y.1 y.2 record { run = w.1.run; small = w.0.small; may = w.0.may; since = own_since (begun_at u.call y.0) _ w.1.own; rests = record { share = w.0.rests.share; over = w.0.rests.over } } w.0.quiet w.0.none_filled (rw (← is_goal, ← is_way) (x.finds (begun_at u.call y.0) _ w.1)))
+  finds ps m now plain way goal turn f next is_way is_goal is tries spent goes x =
+      goes_behind ps now f (walking m x.last) x.told next is tries spent x.so (goes y.0 _ (u.runs _ x.so.sound) y.1 y.2 record { run = w.1.run; small = w.0.small; may = w.0.may; since = own_since (begun_at u.call y.0) _ w.1.own; rests = record { share = w.0.rests.share; over = w.0.rests.over } } w.0.quiet w.0.none_filled (rw (← is_goal, ← is_way) (x.finds (begun_at u.call y.0) _ w.1)) (λ is. unguarded plain is))
     where
       y : UpdateIsReady e (walking m x.last) u.call (history_of u.call.layout.mode x.so.known) (Some x.told)
       y = u.tells (walking m x.last) _ (Some x.told) x.so.so.0
 
       w : Walks e (walking m x.last) (begun_at u.call y.0) (history_of u.call.layout.mode x.so.known) x.last.way x.last.goal × WalkIsTold x.last (begun_at u.call y.0) (history_of u.call.layout.mode x.so.known) x.told
-      w = y.3
+      w = (y.3.0, y.3.1)
 
   -- what it continues with is what its equal is
   pub goes_as : (ps : List SeatedPass) {A : Type 0} (m : UpdateRun E A) (f : Found) (next equal : Result Next Stop) → next ≡ equal → UpdaterGoesOn u ps m f next → UpdaterGoesOn u ps m f equal
@@ -213,7 +219,7 @@ module _ {M E : Type 0} {o : Calls M} {e : EditMeaning E} (u : Updater o e) wher
           tt,
           (
             y.3.0,
-            record { run = l.run; looked = l.looked; rests = record { share = l.rests.share; over = l.rests.over }; asked = l.asked; room = l.room; named = l.named ∙ ap At (sym node); now = l.now; quiet = l.quiet; since = l.since },
+            record { run = l.run; looked = l.looked; rests = record { share = l.rests.share; over = l.rests.over }; asked = l.asked; room = l.room; named = l.named ∙ ap At (sym node); now = l.now; quiet = l.quiet; since = l.since; guarded = l.guarded },
             turn (begun_at (begun_at u.call y.0) y.3.0) (u.runs h run, y.3.2),
           ),
         );
@@ -246,7 +252,7 @@ module _ {M E : Type 0} {o : Calls M} {e : EditMeaning E} (u : Updater o e) wher
       l = y.3.1
 
       can : CanLook e m (begun_at u.call y.0) h f
-      can = record { begins = record { run = l.run; small = l.looked.small; may = l.looked.may; since = l.now; rests = record { share = l.rests.share; over = l.rests.over } }; quiet = l.quiet; looked = l.looked; asked = l.asked; room = l.room }
+      can = record { begins = record { run = l.run; small = l.looked.small; may = l.looked.may; since = l.now; rests = record { share = l.rests.share; over = l.rests.over } }; quiet = l.quiet; looked = l.looked; asked = l.asked; room = l.room; guarded = l.guarded }
 
       named : e.looks m.edit f m.snaps.items ≡ At snap.node
       named = l.named ∙ ap At (x.is_node ∙ sym x.of_node)
@@ -302,6 +308,11 @@ module _ {M E : Type 0} {o : Calls M} {e : EditMeaning E} (u : Updater o e) wher
   pub goes_told : (ps : List SeatedPass) (m now : UpdateRun E UpdateAt) (v : ℕ) (turn : Turn Updated) → IsSameUpdate m now → (m.tries ≤ now.tries + 1) × (now.tries ≤ m.tries) → (MaySpend e m m.at → IsSpending e turn m.share now (node_tries m m.at) (scx_tries m m.at)) → HostedIsTold u ps m v → MatchTurn turn (λ _. (inner_update e).goes m now) (λ _. (inner_update e).ends m now)
   goes_told ps m now v (Ask s) is fewer spent x = record { edit = is.0; called = is.1; limit = is.2; tries = fewer; spends = spent (may_spend ps m v x) }
   goes_told ps m now v (Done a) is fewer spent x = record { edit = is.0; called = is.1; limit = is.2; tries = fewer; spends = spent (may_spend ps m v x) }
+
+  -- and so it is with its first turn
+  pub goes_begun : (ps : List SeatedPass) (m now : UpdateRun E UpdateAt) (turn : Turn Updated) → IsSameUpdate m now → (m.tries ≤ now.tries + 1) × (now.tries ≤ m.tries) → (MaySpend e m m.at → IsSpending e turn m.share now (node_tries m m.at) (scx_tries m m.at)) → HostedBegins u ps m → MatchTurn turn (λ _. (inner_update e).goes m now) (λ _. (inner_update e).ends m now)
+  goes_begun ps m now (Ask s) is fewer spent x = record { edit = is.0; called = is.1; limit = is.2; tries = fewer; spends = spent (update_spends e m u.call _ None (u.tells m _ None x.so.0)) }
+  goes_begun ps m now (Done a) is fewer spent x = record { edit = is.0; called = is.1; limit = is.2; tries = fewer; spends = spent (update_spends e m u.call _ None (u.tells m _ None x.so.0)) }
 
   -- what it gets fits the taken nodes
   pub told_fits : (ps : List SeatedPass) (m : UpdateRun E UpdateAt) (v : ℕ) → HostedIsTold u ps m v → UpdateFits e m (Some v) (shared_nodes o.layout)
@@ -421,9 +432,9 @@ module _ {M E : Type 0} {o : Calls M} {e : EditMeaning E} (u : Updater o e) wher
       is = update_is (update_of m) snaps plan old fresh is_snaps is_plan is_old is_fresh
 
   -- once that is done it has answered
-  pub changed : (ps : List SeatedPass) {A : Type 0} (m : UpdateRun E A) (f : Found) (snaps : List Snap) (change : ScxTask) (help : HelpRun) (v : ℕ) → IsAtFound e → InnerIsTold (changer m f) ps (changing_at snaps change (Help (record help { at = HelpCommit }))) v → UpdaterEnds u ps m (done_with f)
+  pub changed : (ps : List SeatedPass) {A : Type 0} (m : UpdateRun E A) (f : Found) (snaps : List Snap) (change : ScxTask) (help : HelpRun) (v : ℕ) → IsAtFound e → HasGuardAtEnd e → InnerIsTold (changer m f) ps (changing_at snaps change (Help (record help { at = HelpCommit }))) v → UpdaterEnds u ps m (done_with f)
   unfolding changer
-  changed ps m f snaps change help v sound x = record {
+  changed ps m f snaps change help v sound at_end x = record {
     known = x.known;
     is = x.is;
     sound = x.sound;
@@ -443,7 +454,7 @@ module _ {M E : Type 0} {o : Calls M} {e : EditMeaning E} (u : Updater o e) wher
       y = u.tells here h (Some v) x.so.0
 
       answers : UpdateAnswers e m u.call h (done_with f)
-      answers = scx_done e sound here scx scx f u.call y.0 y.3.0 h (Done ScxDone) y.1 y.3.1 refl refl refl refl
+      answers = scx_done e sound at_end here scx scx f u.call y.0 y.3.0 h (Done ScxDone) y.1 y.3.1 refl refl refl refl
           (let k = y.3.2 in done_at (begun_at (begun_at u.call y.0) y.3.0) h scx (record help { at = HelpCommit }) (u.runs h x.sound).lawful k.2 k.1 true (record help { at = HelpCommit }) k.0 refl refl)
 
   -- where a node could not be frozen, it waits to look whether all were
@@ -454,6 +465,10 @@ module _ {M E : Type 0} {o : Calls M} {e : EditMeaning E} (u : Updater o e) wher
 -- its steps are those of its walk, and those that are left after it
 pub walk_steps : (now old walk left tries rest : ℕ) → now ≤ old + walk → left ≤ tries + rest → now + left ≤ old + (tries + (walk + rest))
 walk_steps now old walk left tries rest a b = omega (arith, a, b)
+
+-- of an edit without a guard a try is its walk and what is left after it
+pub plain_left : {E : Type 0} (e : EditMeaning E) {A : Type 0} (m : UpdateRun E A) (nodes : ℕ) → e.guard m.edit ≡ false → m.tries * try_left e m.edit nodes + (3 * (2 + room (e.way m.edit) nodes) + 5 + (64 * e.most_looks m.edit + most_works e m.edit + 39)) ≡ update_left e (standing m Start) nodes
+plain_left e m nodes plain = ap (λ b. m.tries * try_left e m.edit nodes + (3 * (2 + room (e.way m.edit) nodes) + 5 + (64 * all_looks b (e.most_looks m.edit) + most_works e m.edit + 39))) (sym plain)
 
 -- an LLX takes at most seven steps
 pub look_steps : (now old left tries looks works : ℕ) → now ≤ old + 7 → left ≤ tries + (looks + works + 39) → now + left ≤ old + suc (tries + (53 + looks + works + 39))

@@ -1,5 +1,5 @@
 -- From place to place of a walk, of whatever machine walks.
-use Rattle.std.proofs.Common.{if◌then◌else◌, ◌≡◌, ◌≢◌, ℕ, suc, ◌+◌, ◌<◌, ◌≤◌, ◌⊎◌, Bool, true, false, cond, ltb, List, None, Some, unwrap_or, refl, ap, subst, arith}
+use Rattle.std.proofs.Common.{if◌then◌else◌, ◌≡◌, ◌≢◌, ℕ, suc, ◌+◌, ◌^◌, ◌<◌, ◌≤◌, ◌⊎◌, Bool, true, false, cond, ltb, List, None, Some, unwrap_or, refl, ap, subst, arith}
 use Rattle.arena.specs.declared.head.Head.{Head as HeadParts}
 use Rattle.histories.specs.Common.{LoadSettled, LoadChild, Step, Side, Left, Right, Settled, Child as ChildWord, Head as HeadWord, More as MoreWord, Key as KeyWord}
 use Rattle.histories.specs.Common.{Value as ValueWord, High as HighWord, Slot, First, Second, Third, Fourth, head_of, History, Call, node, first_key, slot_no}
@@ -52,8 +52,8 @@ module _ {M : Type 0} {o : Calls M} (w : Walker o) (ps : List SeatedPass) where
     pub to_side : (head : HeadParts) (low : ℕ) (side : Side) → EndsAt (way_from way goal) low false → side ≡ cond (ltb (path_key goal) low) Left Right → WalkerIsTold w ps (way_at way goal t (Key head)) turn low → WalkerWaits w ps (way_at way goal t (Child head.level side)) (last_turns (Child head.level side) t.node turn) (load LoadChild (node t.node.0 (ChildWord side)))
     to_side head low side goes_on is = goes (way_at way goal t (Key head)) (way_at way goal t (Child head.level side)) turn low _ tt (refl, refl) (λ d h x. key_to_child way goal t d h head low side x (ends_there head low false goes_on) is)
 
-    pub finds_fork : (head : HeadParts) (low : ℕ) → EndsAt (way_from way goal) low true → WalkerIsTold w ps (way_at way goal t (Key head)) turn low → WalkerFinds w ps way goal turn record { trail = t; head = head; more = 0; key = low; value = None }
-    finds_fork head low ends x = record { last = way_at way goal t (Key head); is_goal = refl; is_way = refl; told = low; finds = λ d h y. key_ends way goal t d h head low y (ends_there head low true ends); so = x }
+    pub finds_fork : (head : HeadParts) (low : ℕ) → low < 2 ^ 64 → EndsAt (way_from way goal) low true → WalkerIsTold w ps (way_at way goal t (Key head)) turn low → WalkerFinds w ps way goal turn record { trail = t; head = head; more = 0; key = low; value = None }
+    finds_fork head low small ends x = record { last = way_at way goal t (Key head); is_goal = refl; is_way = refl; told = low; finds = λ d h y. key_ends way goal t d h head low y small (ends_there head low true ends); so = x }
 
     pub to_first : (head : HeadParts) (more : ℕ) → WalkerIsTold w ps (way_at way goal t (More head)) turn more → WalkerWaits w ps (way_at way goal t (Pair head more (goal_slot goal more))) turn (load LoadSettled (node t.node.0 (Settled (KeyWord (goal_slot goal more)))))
     to_first head more = goes (way_at way goal t (More head)) (way_at way goal t (Pair head more (goal_slot goal more))) turn more _ tt (refl, refl) (λ d h x. more_to_pair way goal t d h head more x)

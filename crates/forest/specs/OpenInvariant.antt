@@ -1,4 +1,5 @@
 -- What is true of the fields of every call that is held open.
+use Rattle.template.specs.declared.balance.ByOrder.{ByOrder}
 use Rattle.std.specs.Prelude.{◌≡◌, ◌+◌, ◌-◌, ◌<◌, ◌≤◌, ℕ, true, false, [], ◌∷◌}
 use Rattle.atomic_table.specs.declared.shared.Seat.{Seat}
 use Rattle.histories.specs.Common.{Tree, Call, MatchTurn}
@@ -50,7 +51,7 @@ next_call p is_pass = record { layout = p.layout; pass = p.number; is_pass = is_
 -- what holds of every call that is held open
 pub record IsOpen {K V : Type 0} (valid_key : K → Type 0) (key : K → ℕ) (valid_value : V → Type 0) (value : V → ℕ) (o : Inside K V) : Type 0 where
   -- as it began its pass was one between two calls
-  pub pass : IsPass (TypedAllows (IsWordOf valid_key key) (IsWordOf valid_value value)) Tree (pass_as {T = Dict K V} o.began.value o.seat)
+  pub pass : IsPass (TypedAllows (IsWordOf valid_key key) (IsWordOf valid_value value)) Tree (pass_as {T = Dict K V ByOrder} o.began.value o.seat)
   -- only the seat and the share of it have changed
   pub table : o.seat.table_id ≡ o.began.value.table
   pub bare : o.seat.me.1 ≡ []

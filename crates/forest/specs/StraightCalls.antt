@@ -1,7 +1,9 @@
 -- Whole calls of a dictionary.
+use Rattle.arena.specs.Layout.{IsMap}
+use Rattle.std.specs.Prelude.{false}
 use Rattle.std.specs.Prelude.{◌≡◌, ℕ, List, Option}
-use Rattle.histories.specs.Common.{Layout, Tree, Step, History, Call, Remaining}
-use Rattle.dict.specs.Calls.{KeepsTriesButOne, call_in, share_of}
+use Rattle.histories.specs.Common.{Layout, Step, History, Call, Remaining}
+use Rattle.dict.specs.Calls.{KeepsTriesButOne, call_in, share_of, trie_in}
 use Rattle.dict.specs.DictKnown.{DictIsReady, DictWaits, DictAnswers}
 use Rattle.dict.specs.Known.{IsUnbegun, MapAnswers}
 use Rattle.dict.specs.Typed.{TypedAllows}
@@ -19,6 +21,8 @@ pub record IsFreshCall {K V : Type 0} (call : MapCall) (share : Remaining) (trie
   pub has_tries : m.tries ≡ tries
   pub has_share : share_of m.run ≡ share
   pub unbegun : IsUnbegun m.run tries number
+  -- and is in a tree
+  pub in_tree : trie_in m.run ≡ false
 
 -- `valid` says of a key or a value whether it is one of its type, `word` which its word is.
 module _ {K V : Type 0} (valid_key : K → Type 0) (key : K → ℕ) (valid_value : V → Type 0) (value : V → ℕ) where
@@ -36,7 +40,7 @@ module _ {K V : Type 0} (valid_key : K → Type 0) (key : K → ℕ) (valid_valu
 
   -- the second machine is of the same call as the first, and has given up one try at most
   abbrev pub IsSameDictCall : DictRun K V → DictRun K V → Type 0
-  IsSameDictCall old now = (call_in now.run ≡ call_in old.run) × (now.tries ≡ old.tries) × KeepsTriesButOne old.run now.run
+  IsSameDictCall old now = (call_in now.run ≡ call_in old.run) × (now.tries ≡ old.tries) × KeepsTriesButOne old.run now.run × (trie_in now.run ≡ trie_in old.run)
 
   module _ (c : Call) (ps : List SeatedPass) (first : DictRun K V) where
     -- a call begins with the machine `first`
@@ -45,7 +49,7 @@ module _ {K V : Type 0} (valid_key : K → Type 0) (key : K → ℕ) (valid_valu
 
     -- the machine inside has ended with this reply, in words
     abbrev pub SeatWordEnds : DictRun K V → WordReply → Type 0
-    SeatWordEnds m w = HoldsForCall DictAllows ps c (λ h. ((c.layout.mode ≡ Tree) × MapAnswers m.tries m.run c h w) × Trace DictAllows DictCallWaits IsSameDictCall c first m h)
+    SeatWordEnds m w = HoldsForCall DictAllows ps c (λ h. (IsMap c.layout.mode × MapAnswers m.tries m.run c h w) × Trace DictAllows DictCallWaits IsSameDictCall c first m h)
 
     -- the call has ended with this reply
     abbrev pub SeatDictEnds : DictRun K V → Reply K V → Type 0

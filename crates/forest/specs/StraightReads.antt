@@ -4,6 +4,7 @@ use Rattle.std.specs.Prelude.{ℕ, suc, ◌+◌, ◌≤◌, Bool, List, Result, 
 use Rattle.atomic_table.specs.declared.shared.Seat.{Seat}
 use Rattle.histories.specs.Common.{Ghosts as Machine, NodeNo, ScxNo, LoadSettled, LoadState, Settled, Head as HeadWord, node, state}
 use Rattle.arena.specs.declared.machine.Shape.{Ghosts as Shape}
+use Rattle.template.specs.Balance.{nodes_by}
 use Rattle.template.specs.Common.{load, TreeAllows}
 use Rattle.prims.specs.declared.llx.LlxAt.TheVariants.{StateAgain}
 use Rattle.order.specs.Known.{IsSameRead, ReadAnswers, ReadIsReady, ReadWaits}
@@ -71,16 +72,16 @@ module _ {M R A : Type 0} {o : Calls M} {means : ReadMeaning R A} (r : Reader o 
 module _ {R A : Type 0} (means : ReadMeaning R A) where
   -- how many steps are left to it then
   abbrev pub left_then : ℕ → ReadRun R → Result ReadNext (Result A Refused) → ℕ
-  left_then nodes m (Ok next) = suc (read_left means (placed m next) nodes)
+  left_then nodes m (Ok next) = suc (read_left means (placed m next) (nodes_by m.trie nodes))
   left_then nodes m (Err a) = 0
 
   -- after the load of the root's head
   abbrev pub root_left : ReadRun R → ℕ → ℕ
-  root_left m nodes = read_left means (at_root m) nodes
+  root_left m nodes = read_left means (at_root m) (nodes_by m.trie nodes)
 
   -- where it asks again for that state
   abbrev pub again_left : ReadRun R → Children → ℕ → NodeNo → Bool → ScxNo → ℕ → ℕ
-  again_left m children level n marked scx nodes = read_left means (looking_again m children level n marked scx) nodes
+  again_left m children level n marked scx nodes = read_left means (looking_again m children level n marked scx) (nodes_by m.trie nodes)
 
 module _ {S T M R A B : Type 0} (s : Shape T) (m : Machine M T B) (means : ReadMeaning R A) (hand : Hand S) where
   -- in a call of the hand, a read has begun what comes next

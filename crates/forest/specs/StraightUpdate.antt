@@ -49,6 +49,7 @@ new_update edit share tries call = record {
   edit = edit;
   share = share;
   work = no_work;
+  guard = record { node = record { 0 = 0 }; scx = record { 0 = 0 }; left = record { 0 = 0 }; right = record { 0 = 0 } };
   snaps = record { items = [] };
   nodes = record { first = record { 0 = 0 }; second = record { 0 = 0 }; third = record { 0 = 0 } };
   read = nothing_read;

@@ -1,5 +1,5 @@
 //! A dictionary that threads share.
-ghost use Rattle.std.specs.Prelude.{◌≡◌, ◌≤◌, ◌↔◌, Err, IfOk, OnOk};
+ghost use Rattle.std.specs.Prelude.{◌≡◌, ◌≤◌, ◌↔◌, false, Err, IfOk, OnOk};
 ghost use Rattle.arena.specs.Limits.{IsAccepted, IsLayoutOf};
 ghost use Rattle.arena.specs.declared.limits.Mode.TheVariants.{Tree};
 ghost use Rattle.ordered_map.specs.declared.rule.Goal.TheVariants.{Key};
@@ -322,6 +322,7 @@ impl<K: WordKey, V: WordValue> Forest<Dict<K, V>> {
         requires typed { IsTypedCall (IsWordOf K.is_valid K.word_of) (IsWordOf V.is_valid V.word_of)
             (edit_call G.goal R.rule edit) }
         requires small { IsSmallCall (edit_call G.goal R.rule edit) }
+        requires tree { G.trie edit.goal ≡ false }
         ensures { HasCalled K.is_valid K.word_of V.is_valid V.word_of self.now
             pass.old pass.new (edit_call G.goal R.rule edit) result }
     {

@@ -91,8 +91,8 @@ impl<K: WordKey, V: WordValue> Forest<Dict<K, V>> {
             blamed,
             shape: _,
         } = pass;
-        let mut run = DictRun::new(Some(alloc), request, share, self.tries, call);
-        let turn = run.next(None);
+        let mut run = DictRun::new(Some(alloc), request, share, self.tries, call, false);
+        let turn = Machine::<Dict<K, V>>::next(&mut run, None);
         OpenCall {
             number,
             layout,

@@ -15,8 +15,20 @@ use Rattle.template.specs.declared.walk.WalkAt.TheVariants.{Start, Root, Head, K
 use Rattle.template.specs.declared.walk.WalkRun.{WalkRun}
 use Rattle.template.proofs.Lemmas.{either_mode, surely_on}
 use Rattle.order.specs.Known.{AreLastTurns, IsLastTurn, LastTurned}
-use Rattle.order.specs.LastTurns.{Counts, LoadsKey, TurnsSo, last_turns, turn_to, with_last_turn}
+use Rattle.order.specs.LastTurns.{Counts, CountsNot, IfTurns, LoadsKey, TurnsSo, last_turns, turn_to, with_last_turn}
 use Rattle.order.specs.declared.last_turns.LastTurns.{LastTurns}
+
+-- What a turn leaves
+
+-- one that counts is the last now
+pub turn_counts : (trie : Bool) (before : WalkRun) (found : ℕ) (after : WalkRun) (turns : LastTurns) (low : ℕ) (side : Side) → after.at ≡ Child low side → (trie ≡ true → Counts before found low after.trail.node) → TurnsSo trie before found after turns (with_last_turn side after.trail.node turns)
+turn_counts false before found after turns low side at counts = rw at refl
+turn_counts true before found after turns low side at counts = inl (rw at refl, rw at (counts refl))
+
+-- another leaves the last as they were
+pub turn_kept : (trie : Bool) (before : WalkRun) (found : ℕ) (after : WalkRun) (turns : LastTurns) (low : ℕ) (side : Side) → after.at ≡ Child low side → (trie ≡ true) × CountsNot before found low after.trail.node → TurnsSo trie before found after turns turns
+turn_kept false before found after turns low side at not = absurd (let x : false ≡ true = not.0 in cc)
+turn_kept true before found after turns low side at not = inr (refl, rw at not.1)
 
 -- Where it stays on the path
 
@@ -80,19 +92,23 @@ module _ (c : Call) (h : History) (k : ℕ) (after : WalkRun) (turns : LastTurns
     stays_if low turn x (inl high) = stays_high c h k after.trail.node.0 g (rw goal at x.0.node) x.2 (rw x.1 high)
     stays_if low turn x (inr y) = stays_shared c h k after.trail.node.0 g (rw goal at x.0.node) x.2 v (subst (λ n. value h (node n first_key) ≡ v) y.0 (key_told before.at refl y.1)) (λ l is. y.2 k l before_goal is)
 
-    stays_so : (t : Bool) → trie ≡ t → (at : WalkAt) → after.at ≡ at → WalkKnows c h after at → (trie ≡ true → (low : ℕ) (turn : Side) → after.at ≡ Child low turn → Counts before v low after.trail.node) → LoadsChild at → Stays c.layout (value h) k after.trail.node.0
-    stays_so false e at is x counts child = inl (mode ∙ ap map_mode e)
-    stays_so true e (Child low turn) is x counts child = stays_if low turn x (counts e low turn is)
-    stays_so true e Start is x counts child = absurd child
-    stays_so true e Root is x counts child = absurd child
-    stays_so true e (Head above) is x counts child = absurd child
-    stays_so true e (Key head) is x counts child = absurd child
-    stays_so true e (More head) is x counts child = absurd child
-    stays_so true e (Pair head more slot) is x counts child = absurd child
-    stays_so true e (Value head more slot found) is x counts child = absurd child
-    stays_so true e (High head more slot found low) is x counts child = absurd child
+    -- in a tree each fork stays, in a trie one that counts
+    stays_so : (at : WalkAt) → WalkKnows c h after at → IfTurns at (λ low. Counts before v low after.trail.node) → LoadsChild at → Stays c.layout (value h) k after.trail.node.0
+    stays_so (Child low turn) x counts child = stays_if low turn x counts
+    stays_so Start x counts child = absurd child
+    stays_so Root x counts child = absurd child
+    stays_so (Head above) x counts child = absurd child
+    stays_so (Key head) x counts child = absurd child
+    stays_so (More head) x counts child = absurd child
+    stays_so (Pair head more slot) x counts child = absurd child
+    stays_so (Value head more slot found) x counts child = absurd child
+    stays_so (High head more slot found low) x counts child = absurd child
 
     -- so they are after a step that has found v
     pub turned_so : (now : LastTurns) → WalkKnows c h after after.at → TurnsSo trie before v after turns now → AreLastTurns c h k now
-    turned_so now x (inl e) = subst (AreLastTurns c h k) (sym e) last
-    turned_so now x (inr y) = subst (AreLastTurns c h k) (sym y.0) (turned after.at x (stays_so trie refl after.at refl x y.1))
+    turned_so now x so = go trie refl so
+      where
+        go : (t : Bool) → trie ≡ t → TurnsSo t before v after turns now → AreLastTurns c h k now
+        go false e is = subst (AreLastTurns c h k) (sym is) (turned after.at x (λ child. inl (mode ∙ ap map_mode e)))
+        go true e (inl y) = subst (AreLastTurns c h k) (sym y.0) (turned after.at x (stays_so after.at x y.1))
+        go true e (inr y) = subst (AreLastTurns c h k) (sym y.0) last

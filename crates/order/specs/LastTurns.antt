@@ -1,5 +1,5 @@
 -- The forks at which a walk has turned.
-use Rattle.std.specs.Prelude.{◌≡◌, ◌⊎◌, ℕ, ◌<◌, Bool, true, if◌then◌else◌, ◌==◌}
+use Rattle.std.specs.Prelude.{◌≡◌, ◌⊎◌, ℕ, ◌<◌, ◌≤◌, Bool, true, false, if◌then◌else◌, ◌==◌}
 use Rattle.histories.specs.Common.{NodeNo, Side}
 use Rattle.arena.specs.declared.word.Side.TheVariants as sides
 use Rattle.template.specs.declared.walk.WalkAt.{WalkAt}
@@ -35,14 +35,34 @@ abbrev pub LoadsKey : WalkAt → Type 0
 LoadsKey (Key head) = Unit {0}
 LoadsKey _ = ⊥
 
+-- the walk's key shares this key of a fork, whichever level that is on; or it does not
+abbrev pub SharesKey : WalkRun → ℕ → Type 0
+SharesKey walk found = (k level : ℕ) → walk.goal ≡ ToKey k → IsForkKey found level → IsInSpan found level k
+
+abbrev pub SharesNoKey : WalkRun → ℕ → Type 0
+SharesNoKey walk found = (k level : ℕ) → walk.goal ≡ ToKey k → IsForkKey found level → ¬ IsInSpan found level k
+
 -- In a trie the fork n of this level counts, where a walk turns that was here before it has found this: it is
 -- above all keys, or the walk has found the fork's key, and its own shares that.
 abbrev pub Counts : WalkRun → ℕ → ℕ → NodeNo → Type 0
-Counts before found low n = (low < 2) ⊎ ((before.trail.node.0 ≡ n.0) × LoadsKey before.at × ((k level : ℕ) → before.goal ≡ ToKey k → IsForkKey found level → IsInSpan found level k))
+Counts before found low n = (low < 2) ⊎ ((before.trail.node.0 ≡ n.0) × LoadsKey before.at × SharesKey before found)
 
--- so a walk that was here, has found this, and is there now, keeps the last turns of its map
+-- it does not count: it is below those, and if the walk has found its key, its own does not share that
+abbrev pub CountsNot : WalkRun → ℕ → ℕ → NodeNo → Type 0
+CountsNot before found low n = (2 ≤ low) × (before.trail.node.0 ≡ n.0 → LoadsKey before.at → SharesNoKey before found)
+
+-- so it is with the fork where the walk turns, if it does
+abbrev pub IfTurns : WalkAt → (ℕ → Type 0) → Type 0
+IfTurns (Child low side) P = P low
+IfTurns _ P = Unit {0}
+
+-- The last turns of a walk that was here, has found this, and is there now: in a tree each fork counts where it
+-- turns, and in a trie those that do.
 abbrev pub TurnsSo : Bool → WalkRun → ℕ → WalkRun → LastTurns → LastTurns → Type 0
-TurnsSo trie before found after turns now = (now ≡ turns) ⊎ ((now ≡ last_turns after.at after.trail.node turns) × (trie ≡ true → (low : ℕ) (side : Side) → after.at ≡ Child low side → Counts before found low after.trail.node))
+TurnsSo false before found after turns now = now ≡ last_turns after.at after.trail.node turns
+TurnsSo true before found after turns now =
+    ((now ≡ last_turns after.at after.trail.node turns) × IfTurns after.at (λ low. Counts before found low after.trail.node))
+    ⊎ ((now ≡ turns) × IfTurns after.at (λ low. CountsNot before found low after.trail.node))
 
 -- to which side a walk has turned at its last turn to this side, or at the root if it had none: there
 -- it turns to the left

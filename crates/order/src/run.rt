@@ -1,7 +1,7 @@
 //! The machine of an ordered read of the tree.
-ghost use Rattle.std.specs.Prelude.{◌≡◌, true};
+ghost use Rattle.std.specs.Prelude.{◌≡◌, true, false};
 ghost use Rattle.template.specs.Balance.{leaf_way};
-ghost use Rattle.order.specs.LastTurns.{Counts, TurnsSo};
+ghost use Rattle.order.specs.LastTurns.{Counts, CountsNot, TurnsSo};
 
 use crate::known_load::{HeadLoad, HighLoad, KeyLoad, KnownLoad, MoreLoad, PairLoad, ValueLoad};
 use crate::last_turns::LastTurns;
@@ -487,21 +487,31 @@ fn last_turns(
     ensures { TurnsSo trie before.now found walk.now turns result }
 {
     match walk.at {
-        WalkAt::Child { level, side } if !trie || counts(before, walk, level, found) => {
-            turns.with(side, walk.trail.node)
+        WalkAt::Child { level, side } => {
+            if counts(trie, before, walk, level, found) {
+                turns.with(side, walk.trail.node)
+            } else {
+                turns
+            }
         }
         _ => turns,
     }
 }
 
-/// Whether the fork of this level counts where a walk of a trie turns: it is above all keys, or the
-/// walk has just found its key, which its own shares.
-fn counts(before: &WalkRun, walk: &WalkRun, level: u64, found: u64) -> bool
-    ensures { result ≡ true → Counts before.now found level walk.now.trail.node }
+/// Whether the fork of this level counts where a walk turns.
+fn counts(trie: bool, before: &WalkRun, walk: &WalkRun, level: u64, found: u64) -> bool
+    ensures yes { result ≡ true → trie ≡ true → Counts before.now found level walk.now.trail.node }
+    ensures no { result ≡ false → (trie ≡ true) × CountsNot before.now found level walk.now.trail.node }
 {
+    // In a tree each does.
+    if !trie {
+        return true;
+    }
+    // These are above all keys.
     if level < 2 {
         return true;
     }
+    // The walk has just found its key, which has to share that.
     match (before.at, before.goal) {
         (WalkAt::Key { head: _ }, Goal::Key(key)) => {
             before.trail.node.0 == walk.trail.node.0 && shares(found, key)

@@ -6,7 +6,7 @@ use Rattle.dict.specs.Typed.{TypedAllows}
 use Rattle.dict.specs.Words.{IsNumber, IsWideNumber}
 use Rattle.prims.specs.Cells.{AllowsAll}
 
--- a number that fits a word: the tree of a script is a dictionary whose keys are such
+-- a number that fits a word: the map of a script is a dictionary whose keys are such
 abbrev pub IsSmall : ℕ → Type 0
 IsSmall n = n < 2 ^ 64
 

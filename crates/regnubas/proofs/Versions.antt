@@ -1,17 +1,19 @@
 -- Which entries have come between two moments of a run, and what the map is then.
 use Rattle.std.proofs.Common.{◌≡◌, ◌<◌, ℕ, ◌+◌, ◌==◌, Bool, true, false, cond, inl, inr, List, [], ◌∷◌, ◌++◌, length, refl, sym, ◌∙◌, ap, subst, arith, eq-eqb}
-use Rattle.histories.specs.Common.{Layout, History, Opening, Opened, opening_of, ◌⊳◌, value, Extends, HasWon, Lawful, Entry, log, owner, IsEntered}
+use Rattle.histories.specs.Common.{Mode, Layout, Row, History, Opening, Opened, opening_of, ◌⊳◌, value, Extends, HasWon, Lawful, Entry, log, owner, IsEntered}
 use Rattle.arena.proofs.Lemmas.{ends_trans, owner_is, same_opening}
 use Rattle.histories.proofs.Lemmas.{Logs, entered_won, entry_of, facts, lawful_since, lawful_tail, logs, same as log_same, wins as log_wins, won_named, won_real}
 use Rattle.ordered_map.specs.declared.pair.Pair.{Pair}
 use Rattle.ordered_map.specs.OrderedMap.{MapCall, MapEdit, MapReply}
 use Rattle.ordered_map.specs.Planted.{pairs_of}
-use Rattle.ordered_map.specs.Runs.{IsTreeRun, map_of_log, first_pairs}
+use Rattle.ordered_map.specs.Runs.{IsMapRun, map_of_log, first_pairs}
 use Rattle.ordered_map.specs.Spelled.{Spells}
-use Rattle.ordered_map.proofs.Lemmas.{log_edits, one_spelling, spells_log}
+use Rattle.ordered_map.proofs.Lemmas.{one_spelling}
+use Rattle.ordered_map.proofs.MapLemmas.{log_edits, spells_log}
 use Rattle.forest.specs.Dictionary.{IsChange}
 use Rattle.forest.specs.Passes.{PassView, IsLaterView, run_of}
 use Rattle.forest.specs.Shares.{entries_of}
+use Rattle.forest.specs.TableRule.{history_of}
 use Rattle.regnubas.specs.Versions.{EntersNothing}
 
 -- Entries of one pass among others
@@ -136,7 +138,7 @@ log_stays lay h before l e quiet =
     λ c i. nothing_more (entries_of c x.more) (entries_of c (log lay before)) (ap length (sym (entries_append c x.more (log lay before)) ∙ ap (entries_of c) (sym x.is) ∙ quiet c i)) in
     x.is ∙ ap (λ more. more ++ log lay before) (nobody lay.passes x.more (below_front lay.passes x.more (log lay before) (subst (AreBelow lay.passes) x.is (owners_below lay h l))) none)
 
-pub version_stays : (lay : Layout) (h moment before : History) → IsTreeRun lay h → Extends h moment → Extends moment before → ((c : ℕ) → c < lay.passes → EntersNothing lay c moment before) → (m n : List Pair) → Spells lay (value before) m → Spells lay (value moment) n → n ≡ m
+pub version_stays : (lay : Layout) (h moment before : History) → IsMapRun lay h → Extends h moment → Extends moment before → ((c : ℕ) → c < lay.passes → EntersNothing lay c moment before) → (m n : List Pair) → Spells lay (value before) m → Spells lay (value moment) n → n ≡ m
 version_stays lay h moment before run e f quiet m n sm sn =
     let found = log_edits lay h run in
     let same = log_stays lay moment before (lawful_since lay h moment run.1.lawful e) f quiet in
@@ -144,3 +146,8 @@ version_stays lay h moment before run e f quiet m n sm sn =
     one_spelling lay (value moment) n (map_of_log found.0 (first_pairs moment) (log lay moment)) sn (spells_log lay h found.0 run found.1 moment e)
     ∙ (λ i. map_of_log found.0 (pairs_of (sym first i).pairs) (same i))
     ∙ sym (one_spelling lay (value before) m (map_of_log found.0 (first_pairs before) (log lay before)) sm (spells_log lay h found.0 run found.1 before (ends_trans h moment before e f)))
+
+-- every run of a forest begins with the empty map
+pub begun_empty : (mode : Mode) (rows : List Row) → first_pairs (history_of mode rows) ≡ []
+begun_empty mode [] = refl
+begun_empty mode (r ∷ rs) = begun_empty mode rs

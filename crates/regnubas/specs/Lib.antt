@@ -13,15 +13,18 @@ pub use Rattle.arena.specs.TakenNodes
 pub use Rattle.arena.specs.Words as TableWords
 pub use Rattle.prims.specs.Cells
 pub use Rattle.prims.specs.Snaps
+pub use Rattle.ordered_map.specs.Bits
 pub use Rattle.ordered_map.specs.CallRules
 pub use Rattle.ordered_map.specs.Laws
 pub use Rattle.ordered_map.specs.MapLaws
 pub use Rattle.ordered_map.specs.OrderedMap
 pub use Rattle.ordered_map.specs.Paths
+pub use Rattle.ordered_map.specs.Planted
 pub use Rattle.ordered_map.specs.Replies
 pub use Rattle.ordered_map.specs.Requests
 pub use Rattle.ordered_map.specs.Runs
 pub use Rattle.ordered_map.specs.Spelled
+pub use Rattle.ordered_map.specs.Strays
 pub use Rattle.ordered_map.specs.TreeWords
 pub use Rattle.dict.specs.Calls
 pub use Rattle.dict.specs.Names

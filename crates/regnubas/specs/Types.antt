@@ -1,7 +1,7 @@
 -- The types that contracts name, exported from one place. Declares nothing.
 pub use Rattle.arena.specs.declared.layout.Layout.{Layout}
 pub use Rattle.arena.specs.declared.limits.Mode.{Mode}
-pub use Rattle.arena.specs.declared.limits.Mode.TheVariants.{Tree, Records}
+pub use Rattle.arena.specs.declared.limits.Mode.TheVariants.{Tree, Trie, Records}
 pub use Rattle.arena.specs.declared.step.Row.{Row}
 pub use Rattle.arena.specs.declared.word.Side.{Side}
 pub use Rattle.arena.specs.declared.word.Side.TheVariants.{Left, Right}

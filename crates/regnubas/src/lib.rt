@@ -45,5 +45,5 @@ pub use arena::{
 pub use dict::{Dict, Name8, Reply, Request, WordKey, WordValue};
 pub use forest::{Closed, Forest, NewFault, OpenCall, OrderFault, Pass, Stepped, UpdateFault};
 pub use laws::version_laws_hold;
-pub use ordered_map::{laws_hold, map_laws_hold};
+pub use ordered_map::{laws_hold, map_laws_hold, trie_laws_hold};
 pub use prims::{Cells, Llx, Scx, Snap, Vlx};

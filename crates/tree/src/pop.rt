@@ -11,7 +11,8 @@ use template::{Found, Goal, Way};
 
 /// Takes the pair at an end of a trie out, whose key was found there. It looks at node 2 before it
 /// walks on from the root, and covers it last, as do inserts that put a fork above a fork: so none
-/// has come between.
+/// has come between. What it does is not marked `inline(always)`: beside what puts and what takes it
+/// would make the functions of `KeyEdit` too large for that.
 #[derive(Clone, Copy, Debug, PartialEq, Eq)]
 pub(crate) struct PopPair {
     pub key: u64,
@@ -93,7 +94,6 @@ impl Edit for PopPair {
         true
     }
 
-    #[inline(always)]
     fn work(&self, found: &Found) -> Work {
         match found.value {
             Some(_) => Work {
@@ -104,7 +104,6 @@ impl Edit for PopPair {
         }
     }
 
-    #[inline(always)]
     fn look(&self, found: &Found, snaps: &[Snap]) -> Look {
         if 0 < found.more {
             leaf::look(found, found.trail.node, snaps)
@@ -113,7 +112,6 @@ impl Edit for PopPair {
         }
     }
 
-    #[inline(always)]
     fn reads(&self, found: &Found, snaps: &[Snap]) -> Option<(NodeNo, Known)> {
         if 0 < found.more {
             Some(leaf::reads(found))
@@ -122,7 +120,6 @@ impl Edit for PopPair {
         }
     }
 
-    #[inline(always)]
     fn piece(
         &self,
         found: &Found,

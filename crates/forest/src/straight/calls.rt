@@ -1,5 +1,5 @@
 //! Edits and ordered reads of a dictionary.
-ghost use Rattle.std.specs.Prelude.{◌≡◌, ◌≤◌, ◌<◌, ◌+◌, ◌-◌, ◌*◌, ℕ, []};
+ghost use Rattle.std.specs.Prelude.{◌≡◌, ◌≤◌, ◌<◌, ◌+◌, ◌-◌, ◌*◌, ℕ, false, []};
 ghost use Rattle.arena.specs.Machines.{Call};
 ghost use Rattle.arena.specs.Share.{Remaining};
 ghost use Rattle.dict.specs.Calls.{AsksForPairs, IsSmallCall, edit_call};
@@ -41,6 +41,7 @@ pub(crate) fn make<K: WordKey, V: WordValue, G: EditGoal, R: EditRule>(
     requires table { IsAt hand seat.old }
     requires tries { 0 < tries }
     requires small { IsSmallCall (edit_call G.goal R.rule edit) }
+    requires tree { G.trie edit.goal ≡ false }
     requires begins { (c : Call) × IsCallOf hand c
         × SeatCallBegins K.is_valid K.word_of V.is_valid V.word_of c
         seat.old.me.0.passes (edit_call G.goal R.rule edit) share tries hand.number }
@@ -72,10 +73,11 @@ fn range_run(alloc: Global, low: u64, high: u64, most: usize, tries: u32) -> Ran
     ensures snaps { result.snaps.items ≡ [] }
     ensures limit { result.limit ≡ tries }
     ensures tries { result.tries ≡ tries - 1 }
+    ensures tree { result.trie ≡ false }
     ensures bound { (nodes : ℕ) → 0 < tries → read_left range_means result nodes
         ≤ tries * range_try_left most nodes }
 {
-    let mut run = Range::run(alloc, low, high, most, tries);
+    let mut run = Range::run(alloc, low, high, most, tries, false);
     let pairs = most.min(64);
     let _ = run.read.taken.reserve(pairs);
     let _ = run.snaps.reserve(pairs + DEEP);
@@ -110,7 +112,7 @@ fn neighbour<K: WordKey, V: WordValue>(
         (shared_nodes hand.entry.layout.now) }
 {
     key.valid();
-    let mut run = Neighbour::run(alloc, key.word(), side, tries);
+    let mut run = Neighbour::run(alloc, key.word(), side, tries, false);
     let told = ordered_read::call::<Dict<K, V>, DictRun<K, V>, Neighbour>(hand, seat, &mut run);
     of_neighbour(told)
 }

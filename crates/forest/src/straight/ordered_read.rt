@@ -1,13 +1,14 @@
 //! Ordered reads, of whatever machine makes one: the first try inline, as long as nothing is in its
 //! way. If something is, or has happened between, the machine of the read continues from there;
 //! until then its place is left as it was.
-ghost use Rattle.std.specs.Prelude.{◌≡◌, suc, Ok};
+ghost use Rattle.std.specs.Prelude.{◌≡◌, suc, false, Ok};
 ghost use Rattle.forest.specs.StraightReads.{ReadEnds, ReadGoesOn, Reader, ReaderBegins, ReaderEnds, ReaderLooksAgain, ReaderRoots, StandsToRead, again_left, root_left};
 ghost use Rattle.forest.specs.Hands.{IsAt, hand_calls};
 ghost use Rattle.forest.specs.Hosts.{Host, HostedEnds, HostedIsTold, HostedWaits, inner_machine};
 ghost use Rattle.forest.specs.Leads.{Leads, steps_made};
 ghost use Rattle.forest.specs.Seats.{StaysAtTable};
 ghost use Rattle.forest.specs.Traces.{shared_nodes};
+ghost use Rattle.template.specs.Balance.{nodes_by};
 ghost use Rattle.order.specs.Steps.{read_left};
 ghost use Rattle.order.specs.declared.load.ReadLoad.{ReadLoad};
 ghost use Rattle.order.specs.declared.read.ReadNext.{ReadNext};
@@ -457,8 +458,9 @@ pub(crate) fn call<S: Shape, M: Machine<S>, R: Read + Drop>(
     requires table { IsAt hand seat.old }
     requires begins { (r : Reader (hand_calls S.Shape M.Machine hand) R.means)
         × ReaderBegins r seat.old.me.0.passes run.old }
+    requires tree { run.old.trie ≡ false }
     ensures leads { Leads seat.old seat.new (read_left R.means run.old
-        (shared_nodes hand.entry.layout.now))
+        (nodes_by run.old.trie (shared_nodes hand.entry.layout.now)))
         (λ (r : Reader (hand_calls S.Shape M.Machine hand.entry) R.means) ps.
         ReaderBegins r ps run.old)
         (λ r ps. ReaderEnds r ps run.new result) }

@@ -4,7 +4,7 @@ ghost use Rattle.forest.specs.Hosts.{HostedStands};
 ghost use Rattle.forest.specs.Hands.{IsAt, hand_calls};
 ghost use Rattle.forest.specs.Leads.{Leads};
 ghost use Rattle.forest.specs.Traces.{shared_nodes, weight};
-ghost use Rattle.forest.specs.StraightUpdate.{StandsToTry, TryEnds, Updater, UpdaterEnds, UpdaterIsBlocked, left_at_block};
+ghost use Rattle.forest.specs.StraightUpdate.{StandsToTry, TryEnds, Updater, UpdaterBegins, UpdaterEnds, UpdaterIsBlocked, left_at_block};
 ghost use Rattle.edits.specs.Next.{standing};
 ghost use Rattle.edits.specs.Steps.{update_left};
 ghost use Rattle.edits.specs.declared.update.UpdateAt.{UpdateAt as Places};
@@ -58,6 +58,28 @@ fn finish<S: Shape, M: Machine<S>, E: Edit + Copy>(
             }
         }
     }
+}
+
+/// Makes a whole update, as its machine does.
+pub(crate) fn from_start<S: Shape, M: Machine<S>, E: Edit + Copy>(
+    hand: Hand<S>,
+    seat: &mut Seat<u8, SeatView>,
+    run: &mut UpdateRun<E, ()>,
+) -> Updated
+    requires table { IsAt hand seat.old }
+    requires begins { (u : Updater (hand_calls S.Shape M.Machine hand) E.means)
+        × UpdaterBegins u seat.old.me.0.passes run.old }
+    ensures { Leads seat.old seat.new (update_left E.means (standing run.old Places.Start)
+        (shared_nodes hand.entry.layout.now))
+        (λ (u : Updater (hand_calls S.Shape M.Machine hand.entry) E.means) ps.
+        UpdaterBegins u ps run.old)
+        (λ u ps. UpdaterEnds u ps run.new result) }
+{
+    let mut machine = take_run(run, hand.layout);
+    let turn = machine.step(None);
+    let (updated, rest) = finish::<S, M, E>(hand, seat, machine, turn);
+    *run = rest;
+    updated
 }
 
 /// Makes the rest of an update from what its try does next on.

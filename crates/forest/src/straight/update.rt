@@ -49,6 +49,7 @@ pub(crate) fn make<S: Shape, M: Machine<S>, E: Edit + Copy>(
         edit,
         share,
         work: Work::none(),
+        guard: Snap::default(),
         snaps: ArrayVec::new(),
         nodes: Nodes::default(),
         read: Reading::new(),
@@ -62,7 +63,8 @@ pub(crate) fn make<S: Shape, M: Machine<S>, E: Edit + Copy>(
 }
 
 /// Makes an update: its first try inline, as long as nothing is in its way. If something is,
-/// its machine continues from there; until then the update has no place.
+/// its machine continues from there; until then the update has no place. One with a guard its machine
+/// makes from its start on.
 #[inline(always)]
 fn call<S: Shape, M: Machine<S>, E: Edit + Copy>(
     hand: Hand<S>,
@@ -78,6 +80,9 @@ fn call<S: Shape, M: Machine<S>, E: Edit + Copy>(
         UpdaterBegins u ps run.old)
         (λ u ps. UpdaterEnds u ps run.new result) }
 {
+    if run.edit.guard() {
+        return resume::from_start::<S, M, E>(hand, seat, run);
+    }
     let way = run.edit.way();
     let goal = run.edit.goal();
     let found = copied(&walk::call::<S, M, E>(hand, seat, way, goal).0);

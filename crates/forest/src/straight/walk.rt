@@ -1,5 +1,5 @@
 //! Walks down the tree, of whatever machine walks.
-ghost use Rattle.std.specs.Prelude.{◌≡◌, ◌≢◌, ◌<◌, ◌≤◌, ◌+◌, ◌*◌, ℕ, suc, true, false, if◌then◌else◌, nat_lt, IfOk, IfErr, MatchResult};
+ghost use Rattle.std.specs.Prelude.{◌≡◌, ◌≢◌, ◌<◌, ◌≤◌, ◌+◌, ◌*◌, ◌^◌, ℕ, suc, true, false, if◌then◌else◌, nat_lt, IfOk, IfErr, MatchResult};
 ghost use Rattle.arena.specs.Heads.{head_of};
 ghost use Rattle.arena.specs.Layout.{node_start};
 ghost use Rattle.arena.specs.declared.number.NodeNo.{NodeNo};
@@ -328,7 +328,8 @@ fn is_within(way: Way) -> bool
 /// Whether the walk ends at a fork of class 0 with this key.
 #[inline(always)]
 fn ends_at(way: Way, goal: Goal, key: u64) -> bool
-    ensures { EndsAt (way_from way goal) key result }
+    ensures ends { EndsAt (way_from way goal) key result }
+    ensures small { key < 2 ^ 64 }
 {
     match goal {
         Goal::Key(wanted) => is_within(way) && !shares(key, wanted),

@@ -1,3 +1,5 @@
+use Rattle.std.specs.Prelude.{false}
+use Rattle.dict.specs.Laws.Begins.{dict_mode}
 use Rattle.std.proofs.Common.{◌≡◌, ℕ, List, Result, Ok, Err, sym, subst, ◌∙◌, IfOk}
 use Rattle.histories.specs.Common.{Layout, Tree, History, value, all_nodes, Contents, word_at, node}
 use Rattle.template.specs.Common.{Pair, Spells}
@@ -32,7 +34,7 @@ module _ (keys values : ℕ → Type 0) (words copy : Contents) (tree : words.la
   map_of = run_spells lay run (tree_there, typed_run keys values lay run c.sound)
 
   typed : AreTyped keys values map_of.0
-  typed = typed_map keys values lay run tree_there c.sound map_of.0 map_of.1
+  typed = typed_map keys values lay run (dict_mode lay.mode false tree_there) c.sound map_of.0 map_of.1
 
   -- which the copy spells too
   copy_is : Spells copy.layout (word_at copy) map_of.0

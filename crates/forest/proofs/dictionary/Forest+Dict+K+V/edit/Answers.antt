@@ -38,3 +38,6 @@ returns g c =
     (whole_call g.K.WordKey.is_valid g.K.WordKey.word_of g.V.WordValue.is_valid g.V.WordValue.word_of c.pass.inside c.pass.invariant c.make-told.new.seat e.first e.last c.make-told.result.0 e.ends c.make-told.result.1 c.note_reply.new.self e.is_left c.note_reply.ensures
     _ (rw (← c.pass.view_is, ← c.self.view_is) at c.requires.pass) _ (same.0 ∙ e.fresh.is_call) (same.1 ∙ e.fresh.has_tries) c.make-told.ensures.table.0 c.make-told.ensures.steps
     (λ none. absurd (none tt)))
+
+pub make-told-requires-clause-tree : goal.make-told-requires-clause-tree
+make-told-requires-clause-tree g c = c.requires.tree

@@ -28,7 +28,7 @@ named g c = c.taken-call.ensures ∙ sym (ap taken_of c.pass.view_is)
 starts : (g : Over) (c : goal.After-next-turn g) → CallBegins (TypedAllows (IsWordOf g.K.WordKey.is_valid g.K.WordKey.word_of) (IsWordOf g.V.WordValue.is_valid g.V.WordValue.word_of)) (DictIsReady (IsWordOf g.K.WordKey.is_valid g.K.WordKey.word_of) (IsWordOf g.V.WordValue.is_valid g.V.WordValue.word_of)) (call_of c.pass.inside c.pass.invariant (taken_of (pass_view c.pass.inside))) c.pass.inside.seat.me.0.passes c.new-run.result
 starts g c =
     let made = c.new-run.ensures in
-    request_starts g.K.WordKey.is_valid g.K.WordKey.word_of g.V.WordValue.is_valid g.V.WordValue.word_of c.pass.inside c.pass.invariant c.new-run.result c.args.request c.self.inside.tries c.taken-call.result (sym (named g c)) made.call made.typed made.tries (made.fresh c.self.invariant.3) c.requires.few made.share
+    request_starts g.K.WordKey.is_valid g.K.WordKey.word_of g.V.WordValue.is_valid g.V.WordValue.word_of c.pass.inside c.pass.invariant c.new-run.result c.args.request c.self.inside.tries c.taken-call.result (sym (named g c)) made.call made.trie made.typed made.tries (made.fresh c.self.invariant.3) c.requires.few made.share
 
 -- its first turn has been made
 first_turn : (g : Over) (c : goal.After-next-turn g) → DictStands g.K.WordKey.is_valid g.K.WordKey.word_of g.V.WordValue.is_valid g.V.WordValue.word_of (call_of c.pass.inside c.pass.invariant (taken_of (pass_view c.pass.inside))) c.pass.inside.seat.me.0.passes c.new-run.result c.next-turn.new.self c.next-turn.result

@@ -9,7 +9,7 @@ use Rattle.forest.proofs.straight.calls.neighbour.Goals as goal
 
 -- its machine has not begun
 searches : (g : Over) (c : After-run-run g) (share : Remaining) → IsFreshCall {K = g.row.K.Denot} {V = g.row.V.Denot} (Neighbour c.args.side (g.K.WordKey.word_of c.args.key)) share c.args.tries c.args.hand.number (read_machine neighbours c.args.tries share c.run-run.result)
-searches g c share = read_fresh neighbours share c.args.tries c.args.hand.number (Neighbour c.args.side (g.K.WordKey.word_of c.args.key)) c.requires.tries c.run-run.result (λ i. Neighbour (c.run-run.ensures.side i) ((c.run-run.ensures.key ∙ c.word.ensures) i)) c.run-run.ensures.start c.run-run.ensures.snaps c.run-run.ensures.tries c.run-run.ensures.limit (λ few. g.met.K.WordKey.fits c.args.key c.valid.ensures)
+searches g c share = read_fresh neighbours share c.args.tries c.args.hand.number (Neighbour c.args.side (g.K.WordKey.word_of c.args.key)) c.requires.tries c.run-run.result (λ i. Neighbour (c.run-run.ensures.side i) ((c.run-run.ensures.key ∙ c.word.ensures) i)) c.run-run.ensures.start c.run-run.ensures.snaps c.run-run.ensures.tries c.run-run.ensures.limit (λ few. g.met.K.WordKey.fits c.args.key c.valid.ensures) c.run-run.ensures.trie
 
 pub call-told-requires-clause-begins : goal.call-told-requires-clause-begins
 call-told-requires-clause-begins g c =
@@ -22,3 +22,6 @@ returns-clause-ends g c = λ call share fits x.
     let fresh = searches g (goal.at.returns-clause-ends g c).After-run-run share in
     made_ended g.K.WordKey.is_valid g.K.WordKey.word_of g.V.WordValue.is_valid g.V.WordValue.word_of neighbours call c.args.hand.layout.now c.args.hand.number fits c.args.tries _ share c.run-run.result fresh _ c.call-told.new.run c.call-told.result c.of_neighbour.result c.of_neighbour.ensures
     (c.call-told.ensures.leads.to (made_by g.K.WordKey.is_valid g.K.WordKey.word_of g.V.WordValue.is_valid g.V.WordValue.word_of neighbours call c.args.hand.layout.now c.args.hand.number fits c.args.tries _ share c.run-run.result fresh) (made_begins g.K.WordKey.is_valid g.K.WordKey.word_of g.V.WordValue.is_valid g.V.WordValue.word_of neighbours call c.args.hand.layout.now c.args.hand.number fits c.args.tries _ share c.run-run.result fresh _ x))
+
+pub call-told-requires-clause-tree : goal.call-told-requires-clause-tree
+call-told-requires-clause-tree g c = c.run-run.ensures.trie

@@ -1,6 +1,7 @@
 use Rattle.std.proofs.Common.{Ok}
 use Rattle.forest.specs.StraightReads.{ReadGoesOn}
 use Rattle.forest.specs.Traces.{shared_nodes}
+use Rattle.template.specs.Balance.{nodes_by}
 use Rattle.order.specs.Places.{placed}
 use Rattle.order.specs.Steps.{read_left}
 use Rattle.order.specs.declared.load.ReadLoad.TheVariants.{Pair}
@@ -13,4 +14,4 @@ invariant-loop-next g l = record {
 }
 
 abbrev pub decreases-loop-next : goal.decreases-loop-next
-decreases-loop-next g l = read_left g.R.Read.means (placed l.run (Load (Pair l.place))) (shared_nodes l.hand.layout.now)
+decreases-loop-next g l = read_left g.R.Read.means (placed l.run (Load (Pair l.place))) (nodes_by l.run.trie (shared_nodes l.hand.layout.now))

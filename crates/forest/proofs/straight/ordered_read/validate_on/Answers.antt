@@ -25,7 +25,7 @@ returns-then-told-last g c = record {
   to = λ r x.
       let some = c.validate-asked.ensures.within.0 in
       let found = ap (λ (s : Snap). s.scx.0) (sym c.get-last.ensures) ∙ sym c.if-told-last.true in
-      answers_found r c.args.run.now c.as_slice-snaps.result.now c.as_slice-snaps.ensures.value _ (record c.args.run.now { read = c.answer.new.self }) (c.validate-asked.result.0 - 1) c.validate-asked.result.0 c.validate-asked.result.1 c.answer.result c.answer.ensures.same refl refl c.answer.ensures.told (omega (arith, some)) found (c.validate-asked.ensures.all (c.validate-asked.result.0 - 1) (omega (arith, some)) found)
+      answers_found r c.args.run.now c.as_slice-snaps.result.now c.as_slice-snaps.ensures.value _ (record c.args.run.now { read = c.answer.new.self }) (c.validate-asked.result.0 - 1) c.validate-asked.result.0 c.validate-asked.result.1 c.answer.result c.answer.ensures.same refl refl refl c.answer.ensures.told (omega (arith, some)) found (c.validate-asked.ensures.all (c.validate-asked.result.0 - 1) (omega (arith, some)) found)
       (c.validate-asked.ensures.told (validator r c.args.run.now c.as_slice-snaps.result.now c.as_slice-snaps.ensures.value) (begins_vlx r c.args.run.now c.as_slice-snaps.result.now c.as_slice-snaps.ensures.value _ x));
   steps = search rules;
 }

@@ -46,7 +46,7 @@ returns-then-begin g c = record {
   to = λ u x. let b = (goal.at.returns-then-begin g c).After-fill_all in
       let k = changer u c.args.run.now c.args.found.now in
       let t = c.commit.ensures.to (helper k c.as_slice-snaps.result.now (change_of g b)) ((c.begin.ensures.leads.to (helper k c.as_slice-snaps.result.now (change_of g b)) (helps g b u x)).frozen c.if-begin.true) in
-      rw c.at.ensures (changed u _ c.args.run.now c.args.found.now c.as_slice-snaps.result.now (change_of g b) c.begin.new.run t.0 g.met.E.Edit.laws.at_found (help_told k c.as_slice-snaps.result.now (change_of g b) _ (record c.begin.new.run { at = Commit }) t.0 t.1));
+      rw c.at.ensures (changed u _ c.args.run.now c.args.found.now c.as_slice-snaps.result.now (change_of g b) c.begin.new.run t.0 g.met.E.Edit.laws.at_found g.met.E.Edit.laws.at_end (help_told k c.as_slice-snaps.result.now (change_of g b) _ (record c.begin.new.run { at = Commit }) t.0 t.1));
   steps = (let fills = c.fill_all.ensures.steps in let begins = c.begin.ensures.leads.steps in let commits = c.commit.ensures.steps in omega (arith, fills, begins, commits));
 }
 

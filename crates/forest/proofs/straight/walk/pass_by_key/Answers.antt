@@ -22,11 +22,11 @@ told : (g : Over) (c : After-read-key g) (w : Walker (calls g.S.Shape g.M.Machin
 told g c w turn x = c.read-key.ensures.told w (way_at c.args.way c.args.goal c.args.trail (Key (head_of c.args.word))) turn (to_key w _ c.args.way c.args.goal c.args.trail turn c.args.at c.args.word (head_of c.args.word) c.requires.place refl c.requires.fork c.requires.asks x)
 
 pub returns-then-ends_at-clause-finds : goal.returns-then-ends_at-clause-finds
-returns-then-ends_at-clause-finds g c = λ w turn x. rw c.of-head.ensures (finds_fork w _ c.args.way c.args.goal c.args.trail turn (head_of c.args.word) c.read-key.result
-    (subst (EndsAt (way_from c.args.way c.args.goal) c.read-key.result) c.if-ends_at.true c.ends_at.ensures)
+returns-then-ends_at-clause-finds g c = λ w turn x. rw c.of-head.ensures (finds_fork w _ c.args.way c.args.goal c.args.trail turn (head_of c.args.word) c.read-key.result c.ends_at.ensures.small
+    (subst (EndsAt (way_from c.args.way c.args.goal) c.read-key.result) c.if-ends_at.true c.ends_at.ensures.ends)
     (told g (goal.at.returns-then-ends_at-clause-finds g c).After-read-key w turn x))
 
 pub returns-clause-down : goal.returns-clause-down
 returns-clause-down g c = λ w turn x. to_side w _ c.args.way c.args.goal c.args.trail turn (head_of c.args.word) c.read-key.result c.side_of.result
-    (subst (EndsAt (way_from c.args.way c.args.goal) c.read-key.result) c.if-ends_at.false c.ends_at.ensures) c.side_of.ensures
+    (subst (EndsAt (way_from c.args.way c.args.goal) c.read-key.result) c.if-ends_at.false c.ends_at.ensures.ends) c.side_of.ensures
     (told g (goal.at.returns-clause-down g c).After-read-key w turn x)
