@@ -21,13 +21,20 @@ struct CommandHelp {
     example: &'static str,
 }
 
-const HELPS: [CommandHelp; 7] = [
+const HELPS: [CommandHelp; 8] = [
     CommandHelp {
         name: "play",
         about: "Play a script on the tree by a schedule, and print the report of every step",
         first: "SCRIPT",
         second: Some("SCHEDULE"),
         example: "Example: rnb play stories/pop_is_helped/script.csv stories/pop_is_helped/schedule.csv",
+    },
+    CommandHelp {
+        name: "trie",
+        about: "Play such a script on a trie, which stays low whatever the keys",
+        first: "SCRIPT",
+        second: Some("SCHEDULE"),
+        example: "Example: rnb trie tries/rising_keys/script.csv tries/rising_keys/schedule.csv",
     },
     CommandHelp {
         name: "records",
@@ -105,7 +112,7 @@ fn command_of<'a>(alloc: Global, help: &CommandHelp) -> Result<Command<'a>, Erro
 /// A command with the options that it alone has.
 fn with_options<'a>(alloc: Global, name: &str, command: Command<'a>) -> Result<Command<'a>, Error> {
     Ok(match name {
-        "play" | "records" | "audit" => command.arg(progress(alloc))?,
+        "play" | "trie" | "records" | "audit" => command.arg(progress(alloc))?,
         "run" => {
             let gate = option(alloc, "gate")
                 .value_parser(["open", "alternate", "hold", "freeze"].as_slice())

@@ -1,5 +1,5 @@
 //! What the program for people does with its words.
-ghost use Rattle.std.specs.Prelude.{◌≢◌, ◌≤◌};
+ghost use Rattle.std.specs.Prelude.{◌≤◌};
 
 use crate::buffered::play_buffered;
 use crate::command_help::whole_command;
@@ -88,6 +88,7 @@ fn do_command<R: Files + Input + Clock + AllocGlobal + Threads + Wait + Sync, O:
 ) -> Result<(), Complaint> {
     match name {
         "play" => play(rt, Mode::Tree, given, out, err),
+        "trie" => play(rt, Mode::Trie, given, out, err),
         "records" => play(rt, Mode::Records, given, out, err),
         "run" => run(rt, given, out),
         "outcomes" => list_outcomes(rt, given, out, err),
@@ -101,9 +102,7 @@ fn play<R: Files + Input + Clock + AllocGlobal, O: Write, E: Write>(
     given: &ArgMatches<'_>,
     out: &mut O,
     err: &mut E,
-) -> Result<(), Complaint>
-    requires { mode ≢ Mode.Trie }
-{
+) -> Result<(), Complaint> {
     let alloc = rt.alloc();
     require_one_input(alloc, given)?;
     let text = Source::of(rt, given, "SCRIPT")?;
