@@ -137,15 +137,23 @@ fn edit_for(
 /// The leaf whose key at an end may be taken by an SCX-record: of two or three nodes the second, of
 /// four the child on that side, unless this is above all keys.
 fn taken_leaf(judge: &Judge, scx: u64, side: Side, found: FoundLeaves) -> u64 {
-    let right = member(judge, scx, 3);
+    let (second, right) = (member(judge, scx, 1), member(judge, scx, 3));
     if covers(judge, scx) < 4 {
-        member(judge, scx, 1)
+        second
     } else if is_trie(judge) {
-        end_leaf_out(judge, scx, side, found)
+        end_leaf_out(judge, scx, toward(judge, second, end_key_of(side)), found)
     } else if side == Side::Right && head(judge, right).class == 0 {
         right
     } else {
         member(judge, scx, 2)
+    }
+}
+
+/// The key that is at this end of all keys.
+fn end_key_of(side: Side) -> u64 {
+    match side {
+        Side::Left => 0,
+        Side::Right => u64::MAX,
     }
 }
 

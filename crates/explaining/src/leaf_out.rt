@@ -55,23 +55,23 @@ fn check_copy(edit: &BegunEdit<'_>, place: u8) -> Result<(), Objection> {
     check_part(edit, place, "head", edit.head(new) == edit.head(node))?;
     check_part(edit, place, "key", edit.key_of(new) == edit.key_of(node))?;
     if edit.head(node).leaf {
-        edit.check_leaf(new)?;
-        edit.check_leaf(node)?;
-        let (put, wanted) = (
-            edit.words(&edit.pairs_of(new)?)?,
-            edit.words(&edit.pairs_of(node)?)?,
-        );
-        return check_part(edit, place, "pairs", put.as_str() == wanted.as_str());
+        return check_pairs(edit, place, new, node);
     }
     let has_fields = [Side::Left, Side::Right]
         .iter()
         .all(|side| edit.child(new, *side) == edit.child(node, *side));
-    check_part(
-        edit,
-        place,
-        "fields",
-        has_fields || !edit.before.is_as_seen(edit.scx, place),
-    )
+    let is_same = has_fields || !edit.before.is_as_seen(edit.scx, place);
+    check_part(edit, place, "fields", is_same)
+}
+
+fn check_pairs(edit: &BegunEdit<'_>, place: u8, new: u64, node: u64) -> Result<(), Objection> {
+    edit.check_leaf(new)?;
+    edit.check_leaf(node)?;
+    let (put, wanted) = (
+        edit.words(&edit.pairs_of(new)?)?,
+        edit.words(&edit.pairs_of(node)?)?,
+    );
+    check_part(edit, place, "pairs", put.as_str() == wanted.as_str())
 }
 
 /// This part of `new` is that of the node at a place.

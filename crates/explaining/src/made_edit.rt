@@ -15,16 +15,26 @@ use script::Command;
 /// Of a map an SCX-record that begins makes the edit of its client's call: it puts something in the
 /// place of a leaf, or takes one out.
 pub(crate) fn check_edit(before: &LinesBefore<'_>, row: &Row) -> Result<(), Objection> {
-    let (alloc, scx) = (before.alloc, row.after);
     if !before.judge.is_begin(row) {
         return Ok(());
     }
-    let call = call_words(before, row.pass)?;
-    let edit = match before.next(row.pass) {
+    let edit = begun_edit(before, row)?;
+    if edit.is_in_trie() {
+        check_in_trie(&edit)?;
+        check_keys(&edit)
+    } else {
+        check_in_tree(&edit)
+    }
+}
+
+/// The edit of the client's call for which an SCX-record begins.
+fn begun_edit<'a>(before: &'a LinesBefore<'a>, row: &Row) -> Result<BegunEdit<'a>, Objection> {
+    let (alloc, scx, call) = (before.alloc, row.after, call_words(before, row.pass)?);
+    let asked = match before.next(row.pass) {
         Some(Command::Map(request)) => request.edit(),
         _ => None,
     };
-    let Some((goal, rule)) = edit else {
+    let Some((goal, rule)) = asked else {
         return Err(object(
             AFTER,
             format!(in alloc; "s{scx} begins for {call}, which makes no edit"),
@@ -39,12 +49,7 @@ pub(crate) fn check_edit(before: &LinesBefore<'_>, row: &Row) -> Result<(), Obje
         key: 0,
     };
     edit.key = key_of(&edit)?;
-    if edit.is_in_trie() {
-        check_in_trie(&edit)?;
-        check_keys(&edit)
-    } else {
-        check_in_tree(&edit)
-    }
+    Ok(edit)
 }
 
 /// In a tree it changes a leaf, or takes one out.
@@ -104,11 +109,19 @@ fn key_of(edit: &BegunEdit<'_>) -> Result<u64, Objection> {
 /// The leaf at an end from which it takes a pair: of two nodes, or three in a trie, the second, of
 /// four the child on that side, unless this is above all keys.
 fn end_leaf(edit: &BegunEdit<'_>, side: Side) -> u64 {
-    let (many, right) = (edit.before.plan(edit.scx).count(), edit.member(3));
+    let (many, second, right) = (
+        edit.before.plan(edit.scx).count(),
+        edit.member(1),
+        edit.member(3),
+    );
+    let end = match side {
+        Side::Left => 0,
+        Side::Right => u64::MAX,
+    };
     if many == 2 || (many == 3 && edit.is_in_trie()) {
-        edit.member(1)
+        second
     } else if edit.is_in_trie() {
-        end_leaf_out(edit, side)
+        end_leaf_out(edit, edit.toward(second, end))
     } else if side == Side::Right && edit.head(right).class == 0 {
         right
     } else {
