@@ -135,7 +135,7 @@ fn with_limits<'a>(alloc: Global, command: Command<'a>) -> Result<Command<'a>, E
         .value_parser(value_parser!(u64))
         .value_name("M")
         .help("How many schedules are played at most [default: 1000000]");
-    command.arg(interruptions)?.arg(most)
+    Ok(command.arg(interruptions)?.arg(most)?)
 }
 
 fn gate<'a>(alloc: Global) -> Arg<'a> {
