@@ -2,9 +2,9 @@
 use Rattle.std.proofs.Common.{◌≡◌, ℕ, zero, suc, ◌+◌, ◌<◌, ◌⊎◌, true, cond, inl, inr, List, [], ◌∷◌, length, get_or, refl, sym, ◌∙◌, ap, subst, arith}
 use Rattle.histories.specs.Common.{Tree as TreeMode, ScxNo, Row, Word, IsOwnScx, History, ◌⊳◌, value, Extends, Lawful, HasWon, IsWin, Entry, log, members_from, Call, begun_at, member, count}
 use Rattle.arena.proofs.Lemmas.{ends_self, ends_trans}
-use Rattle.histories.proofs.Lemmas.{entry_of, facts_before, lawful_since, log_wins, node_since}
+use Rattle.histories.proofs.Lemmas.{entry_of, facts_before, lawful_since, log_wins}
 use Rattle.template.specs.Common.{job_of, nodes_of, snap_at, Snap, ScxRun, Update, edit_key, get, Spells, Pair, WasOnPath, IsMapRun}
-use Rattle.template.specs.Common.{Makes, edit_leaf, is_leaf, said, path_key, asked_key, asked_in, HasFoundGoal, HasFoundFork, FoundBy, Goal, Key as ToKey, End}
+use Rattle.template.specs.Common.{Makes, edit_leaf, is_leaf, said, asked_key, asked_in, HasFoundGoal, HasFoundFork, FoundBy, Goal, Key as ToKey, End}
 use Rattle.prims.specs.Scx.Known.{IsDone, IsEntryAt, update_entry}
 use Rattle.ordered_map.specs.Paths.{end_key}
 use Rattle.ordered_map.specs.Runs.{IsEditAt}

@@ -1,10 +1,11 @@
 -- What becomes of up to five pairs in their places.
 use Rattle.std.proofs.Common.{◌≡◌, ◌≢◌, ℕ, zero, suc, ◌+◌, ◌-◌, ◌<◌, ◌≤◌, Bool, true, false, not, ◌==◌, List, [], ◌∷◌, ◌++◌, length, take, drop, refl, sym, ◌∙◌, ap, subst, arith, eq-eqb, ne_eqb, lt-ltb, le-ltb}
-use Rattle.std.specs.Prelude.{min, nat_lt, slice_set, if◌then◌else◌}
+use Rattle.std.specs.Prelude.{min, nat_lt, unwrap_or, slice_set, if◌then◌else◌}
 use Rattle.std.specs.List.{remove}
 use native.Mathlib.Decide.{ℕ_discrete}
 use Rattle.std.proofs.Math.Decide.{dec_lt}
 use Rattle.template.specs.Common.{Pair, pair, insert, delete}
+use Rattle.ordered_map.specs.OrderedMap.{last_pair}
 use Rattle.edits.specs.declared.pairs.Pairs.TheInside.{Inside}
 use Rattle.edits.specs.Laws.PairPlaces.{listed, placed_pairs}
 use Rattle.edits.specs.Pairs.{pair_at, below, before, has_at, run, moved_on, moved_back}
@@ -94,6 +95,80 @@ out_at (a ∷ b ∷ c ∷ d ∷ e ∷ []) few (suc (suc (suc (suc (suc zero)))))
 out_at (a ∷ b ∷ c ∷ d ∷ e ∷ []) few (suc (suc (suc (suc (suc (suc at)))))) i = absurd (omega (arith, i))
 out_at (a ∷ b ∷ c ∷ d ∷ e ∷ f ∷ ps) few at i = absurd (omega (arith, few))
 
+-- those before a place are kept
+pub kept_at : (ps : List Pair) → length ps ≤ 5 → (at : ℕ) → at ≤ length ps → record { first = moved_back at 0 (pair_at ps 0) (pair 0 0); second = moved_back at 1 (pair_at ps 1) (pair 0 0); third = moved_back at 2 (pair_at ps 2) (pair 0 0); fourth = moved_back at 3 (pair_at ps 3) (pair 0 0); fifth = moved_back at 4 (pair_at ps 4) (pair 0 0); count = at } ≡ placed_pairs (take at ps)
+kept_at [] few zero i = refl
+kept_at [] few (suc at) i = absurd (omega (arith, i))
+kept_at (a ∷ []) few zero i = refl
+kept_at (a ∷ []) few (suc zero) i = refl
+kept_at (a ∷ []) few (suc (suc at)) i = absurd (omega (arith, i))
+kept_at (a ∷ b ∷ []) few zero i = refl
+kept_at (a ∷ b ∷ []) few (suc zero) i = refl
+kept_at (a ∷ b ∷ []) few (suc (suc zero)) i = refl
+kept_at (a ∷ b ∷ []) few (suc (suc (suc at))) i = absurd (omega (arith, i))
+kept_at (a ∷ b ∷ c ∷ []) few zero i = refl
+kept_at (a ∷ b ∷ c ∷ []) few (suc zero) i = refl
+kept_at (a ∷ b ∷ c ∷ []) few (suc (suc zero)) i = refl
+kept_at (a ∷ b ∷ c ∷ []) few (suc (suc (suc zero))) i = refl
+kept_at (a ∷ b ∷ c ∷ []) few (suc (suc (suc (suc at)))) i = absurd (omega (arith, i))
+kept_at (a ∷ b ∷ c ∷ d ∷ []) few zero i = refl
+kept_at (a ∷ b ∷ c ∷ d ∷ []) few (suc zero) i = refl
+kept_at (a ∷ b ∷ c ∷ d ∷ []) few (suc (suc zero)) i = refl
+kept_at (a ∷ b ∷ c ∷ d ∷ []) few (suc (suc (suc zero))) i = refl
+kept_at (a ∷ b ∷ c ∷ d ∷ []) few (suc (suc (suc (suc zero)))) i = refl
+kept_at (a ∷ b ∷ c ∷ d ∷ []) few (suc (suc (suc (suc (suc at))))) i = absurd (omega (arith, i))
+kept_at (a ∷ b ∷ c ∷ d ∷ e ∷ []) few zero i = refl
+kept_at (a ∷ b ∷ c ∷ d ∷ e ∷ []) few (suc zero) i = refl
+kept_at (a ∷ b ∷ c ∷ d ∷ e ∷ []) few (suc (suc zero)) i = refl
+kept_at (a ∷ b ∷ c ∷ d ∷ e ∷ []) few (suc (suc (suc zero))) i = refl
+kept_at (a ∷ b ∷ c ∷ d ∷ e ∷ []) few (suc (suc (suc (suc zero)))) i = refl
+kept_at (a ∷ b ∷ c ∷ d ∷ e ∷ []) few (suc (suc (suc (suc (suc zero))))) i = refl
+kept_at (a ∷ b ∷ c ∷ d ∷ e ∷ []) few (suc (suc (suc (suc (suc (suc at)))))) i = absurd (omega (arith, i))
+kept_at (a ∷ b ∷ c ∷ d ∷ e ∷ f ∷ ps) few at i = absurd (omega (arith, few))
+
+-- or those from there on
+pub left_at : (ps : List Pair) → length ps ≤ 5 → (at : ℕ) → at ≤ length ps → record { first = pair_at ps at; second = pair_at ps (at + 1); third = pair_at ps (at + 2); fourth = pair_at ps (at + 3); fifth = pair_at ps (at + 4); count = length ps - at } ≡ placed_pairs (drop at ps)
+left_at [] few zero i = refl
+left_at [] few (suc at) i = absurd (omega (arith, i))
+left_at (a ∷ []) few zero i = refl
+left_at (a ∷ []) few (suc zero) i = refl
+left_at (a ∷ []) few (suc (suc at)) i = absurd (omega (arith, i))
+left_at (a ∷ b ∷ []) few zero i = refl
+left_at (a ∷ b ∷ []) few (suc zero) i = refl
+left_at (a ∷ b ∷ []) few (suc (suc zero)) i = refl
+left_at (a ∷ b ∷ []) few (suc (suc (suc at))) i = absurd (omega (arith, i))
+left_at (a ∷ b ∷ c ∷ []) few zero i = refl
+left_at (a ∷ b ∷ c ∷ []) few (suc zero) i = refl
+left_at (a ∷ b ∷ c ∷ []) few (suc (suc zero)) i = refl
+left_at (a ∷ b ∷ c ∷ []) few (suc (suc (suc zero))) i = refl
+left_at (a ∷ b ∷ c ∷ []) few (suc (suc (suc (suc at)))) i = absurd (omega (arith, i))
+left_at (a ∷ b ∷ c ∷ d ∷ []) few zero i = refl
+left_at (a ∷ b ∷ c ∷ d ∷ []) few (suc zero) i = refl
+left_at (a ∷ b ∷ c ∷ d ∷ []) few (suc (suc zero)) i = refl
+left_at (a ∷ b ∷ c ∷ d ∷ []) few (suc (suc (suc zero))) i = refl
+left_at (a ∷ b ∷ c ∷ d ∷ []) few (suc (suc (suc (suc zero)))) i = refl
+left_at (a ∷ b ∷ c ∷ d ∷ []) few (suc (suc (suc (suc (suc at))))) i = absurd (omega (arith, i))
+left_at (a ∷ b ∷ c ∷ d ∷ e ∷ []) few zero i = refl
+left_at (a ∷ b ∷ c ∷ d ∷ e ∷ []) few (suc zero) i = refl
+left_at (a ∷ b ∷ c ∷ d ∷ e ∷ []) few (suc (suc zero)) i = refl
+left_at (a ∷ b ∷ c ∷ d ∷ e ∷ []) few (suc (suc (suc zero))) i = refl
+left_at (a ∷ b ∷ c ∷ d ∷ e ∷ []) few (suc (suc (suc (suc zero)))) i = refl
+left_at (a ∷ b ∷ c ∷ d ∷ e ∷ []) few (suc (suc (suc (suc (suc zero))))) i = refl
+left_at (a ∷ b ∷ c ∷ d ∷ e ∷ []) few (suc (suc (suc (suc (suc (suc at)))))) i = absurd (omega (arith, i))
+left_at (a ∷ b ∷ c ∷ d ∷ e ∷ f ∷ ps) few at i = absurd (omega (arith, few))
+
+-- the last is in the place before their number
+pub last_at : (ps : List Pair) → pair_at ps (length ps - 1) ≡ unwrap_or (last_pair ps) (pair 0 0)
+last_at [] = refl
+last_at (p ∷ []) = refl
+last_at (p ∷ q ∷ ps) = ap (pair_at (p ∷ q ∷ ps)) here ∙ ap (pair_at (q ∷ ps)) there ∙ last_at (q ∷ ps)
+  where
+    here : length (p ∷ q ∷ ps) - 1 ≡ suc (length ps)
+    here = omega arith
+
+    there : length ps ≡ length (q ∷ ps) - 1
+    there = omega arith
+
 -- The place of a key
 
 -- how many pairs pass a test before the first that does not
@@ -164,6 +239,14 @@ below_is k ps few = leading_is (λ (p : Pair). nat_lt p.key k) ps few ∙ same p
     same : (ps : List Pair) → leading (λ (p : Pair). nat_lt p.key k) ps ≡ below k ps
     same [] = refl
     same (p ∷ ps) = ap (λ n. if nat_lt p.key k then suc n else 0) (same ps)
+
+pub below_few : (k : ℕ) (ps : List Pair) → below k ps ≤ length ps
+below_few k [] = omega arith
+below_few k (p ∷ ps) = go (nat_lt p.key k) (below_few k ps)
+  where
+    go : (t : Bool) → below k ps ≤ length ps → (if t then suc (below k ps) else 0) ≤ suc (length ps)
+    go true i = omega (arith, i)
+    go false i = omega arith
 
 pub before_is : (k : ℕ) (ps : List Pair) → length ps ≤ 5 → min (run (not ((pair_at ps 0).key == k)) (not ((pair_at ps 1).key == k)) (not ((pair_at ps 2).key == k)) (not ((pair_at ps 3).key == k)) (not ((pair_at ps 4).key == k))) (length ps) ≡ before k ps
 before_is k ps few = leading_is (λ (p : Pair). not (p.key == k)) ps few ∙ same ps
@@ -260,6 +343,11 @@ take_few zero ps = omega arith
 take_few (suc n) [] = omega arith
 take_few (suc n) (p ∷ ps) = let i = take_few n ps in omega (arith, i)
 
+drop_few : (n : ℕ) (ps : List Pair) → length (drop n ps) ≤ length ps
+drop_few zero ps = omega arith
+drop_few (suc n) [] = omega arith
+drop_few (suc n) (p ∷ ps) = let i = drop_few n ps in omega (arith, i)
+
 out_few : (ps : List Pair) (at : ℕ) → length (remove ps at) ≤ length ps
 out_few [] zero = omega arith
 out_few [] (suc at) = omega arith
@@ -282,6 +370,16 @@ module _ (s : Inside) (ps : List Pair) (is : listed s ≡ ps) (placed : s ≡ pl
   out_is at i n e = rw e
       (subst (λ (t : Inside). listed (record { first = moved_back at 0 t.first t.second; second = moved_back at 1 t.second t.third; third = moved_back at 2 t.third t.fourth; fourth = moved_back at 3 t.fourth t.fifth; fifth = moved_back at 4 t.fifth (pair 0 0); count = (if nat_lt at t.count then t.count - 1 else t.count) }) ≡ remove ps at) places
       (ap listed (out_at ps few_listed at i) ∙ listed_again (remove ps at) (let a = out_few ps at in let b = few_listed in omega (arith, a, b))))
+
+  pub kept_is : (at : ℕ) → at ≤ length ps → listed (record { first = moved_back at 0 s.first (pair 0 0); second = moved_back at 1 s.second (pair 0 0); third = moved_back at 2 s.third (pair 0 0); fourth = moved_back at 3 s.fourth (pair 0 0); fifth = moved_back at 4 s.fifth (pair 0 0); count = at }) ≡ take at ps
+  kept_is at i =
+      subst (λ (t : Inside). listed (record { first = moved_back at 0 t.first (pair 0 0); second = moved_back at 1 t.second (pair 0 0); third = moved_back at 2 t.third (pair 0 0); fourth = moved_back at 3 t.fourth (pair 0 0); fifth = moved_back at 4 t.fifth (pair 0 0); count = at }) ≡ take at ps) places
+      (ap listed (kept_at ps few_listed at i) ∙ listed_again (take at ps) (let a = take_few at ps in let b = few_listed in omega (arith, a, b, i)))
+
+  pub left_is : (at : ℕ) → at ≤ length ps → listed (record { first = pair_at ps at; second = pair_at ps (at + 1); third = pair_at ps (at + 2); fourth = pair_at ps (at + 3); fifth = pair_at ps (at + 4); count = s.count - at }) ≡ drop at ps
+  left_is at i =
+      subst (λ (t : Inside). listed (record { first = pair_at ps at; second = pair_at ps (at + 1); third = pair_at ps (at + 2); fourth = pair_at ps (at + 3); fifth = pair_at ps (at + 4); count = t.count - at }) ≡ drop at ps) places
+      (ap listed (left_at ps few_listed at i) ∙ listed_again (drop at ps) (let a = drop_few at ps in let b = few_listed in omega (arith, a, b)))
 
   pub below_here : (k : ℕ) → min (run (nat_lt s.first.key k) (nat_lt s.second.key k) (nat_lt s.third.key k) (nat_lt s.fourth.key k) (nat_lt s.fifth.key k)) s.count ≡ below k ps
   below_here k = subst (λ (t : Inside). min (run (nat_lt t.first.key k) (nat_lt t.second.key k) (nat_lt t.third.key k) (nat_lt t.fourth.key k) (nat_lt t.fifth.key k)) t.count ≡ below k ps) places (below_is k ps few_listed)

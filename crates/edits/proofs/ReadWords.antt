@@ -9,7 +9,7 @@ use Rattle.template.specs.Common.{slot_behind, wide_value, held_from, held_behin
 use Rattle.ordered_map.proofs.Lemmas.{held_next}
 use Rattle.template.specs.declared.walk.Found.{Found}
 use Rattle.edits.specs.declared.edit.Nth.{Nth}
-use Rattle.edits.specs.declared.edit.Nth.TheVariants.{First, Second, Third}
+use Rattle.edits.specs.declared.edit.Nth.TheVariants.{First}
 use Rattle.edits.specs.declared.piece.Piece.{Piece}
 use Rattle.edits.specs.declared.reading.Reading.{Reading}
 use Rattle.edits.specs.declared.update.UpdateAt.TheVariants.{Read}

@@ -62,6 +62,7 @@ module _ (c : Call) (b : History) (since : Extends b c.start) where
     head = x.head;
     low = x.low;
     key = x.key;
+    small = x.small;
     outside = x.outside;
     none = x.none;
   }

@@ -38,10 +38,10 @@ impl Model for Pairs {
 }
 
 impl Pairs {
-    ghost use Rattle.std.specs.Prelude.{nat_lt, ◌≡◌, ℕ, ◌+◌, ◌-◌, ◌<◌, ◌≤◌, List, [], ◌∷◌, ◌++◌, length, take, drop, slice_set};
+    ghost use Rattle.std.specs.Prelude.{nat_lt, ◌≡◌, ℕ, ◌+◌, ◌-◌, ◌<◌, ◌≤◌, List, [], ◌∷◌, ◌++◌, length, take, drop, slice_set, unwrap_or};
     ghost use Rattle.std.specs.List.{remove};
     ghost use Rattle.arena.specs.Words.{slot_no};
-    ghost use Rattle.ordered_map.specs.OrderedMap.{pair, insert, delete};
+    ghost use Rattle.ordered_map.specs.OrderedMap.{pair, insert, delete, last_pair};
     ghost use Rattle.edits.specs.Pairs.{pair_at, below, before, has_at};
 
     /// None.
@@ -228,6 +228,46 @@ impl Pairs {
         }
     }
 
+    /// Those in front with a key below this one.
+    #[inline(always)]
+    pub fn keep_below(self, key: u64) -> Pairs
+        ensures { result ≡ take (below key self) self }
+    {
+        let at = self.below(key);
+        Pairs {
+            first: moved_back(at, 0, self.first, BLANK),
+            second: moved_back(at, 1, self.second, BLANK),
+            third: moved_back(at, 2, self.third, BLANK),
+            fourth: moved_back(at, 3, self.fourth, BLANK),
+            fifth: moved_back(at, 4, self.fifth, BLANK),
+            count: at,
+        }
+    }
+
+    /// The others.
+    #[inline(always)]
+    pub fn keep_from(self, key: u64) -> Pairs
+        ensures { result ≡ drop (below key self) self }
+    {
+        let at = self.below(key);
+        Pairs {
+            first: self.place(at),
+            second: self.place(at + 1),
+            third: self.place(at + 2),
+            fourth: self.place(at + 3),
+            fifth: self.place(at + 4),
+            count: self.count.saturating_sub(at),
+        }
+    }
+
+    /// The last one, which is blank if there is none.
+    #[inline(always)]
+    pub fn last(&self) -> Pair
+        ensures { result ≡ unwrap_or (last_pair self.now) (pair 0 0) }
+    {
+        self.place(self.len().saturating_sub(1))
+    }
+
     /// The pair at this place, which is blank after the last.
     #[inline(always)]
     fn place(&self, at: usize) -> Pair
@@ -258,7 +298,8 @@ impl Pairs {
     /// How many in front have a key below this one.
     #[inline(always)]
     fn below(&self, key: u64) -> usize
-        ensures { result ≡ below key self.now }
+        ensures is { result ≡ below key self.now }
+        ensures few { result ≤ 5 }
     {
         run(
             self.first.key < key,

@@ -1,5 +1,5 @@
 -- What a delete has filled makes its edit, whatever rows come until its SCX-record begins.
-use Rattle.std.proofs.Common.{◌≡◌, ◌≢◌, ℕ, zero, suc, ◌<◌, ◌^◌, false, inl, Some, None, List, [], ◌∷◌, refl, sym, ◌∙◌, ap, arith, subst, eq-eqb, ne_eqb}
+use Rattle.std.proofs.Common.{◌≡◌, ◌≢◌, ℕ, zero, suc, ◌<◌, ◌^◌, false, Some, None, List, [], ◌∷◌, refl, sym, ◌∙◌, ap, arith, subst, eq-eqb, ne_eqb}
 use native.Mathlib.Decide.{ℕ_discrete}
 use Rattle.histories.specs.Common.{First, Side, Left, Right, child, History, value, IsNamed, Call, Descriptor}
 use Rattle.template.specs.Common.{child_of, Snap, Delete, delete, get, WasOnPath, IsMapRun, join_plan, sibling_place, class, is_leaf}

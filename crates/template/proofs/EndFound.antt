@@ -9,7 +9,7 @@ use Rattle.template.specs.Common.{rank, toward, said, path_key, asked_in, HasFou
 use Rattle.ordered_map.specs.MapLaws.{IsEndmost}
 use Rattle.ordered_map.specs.Paths.{IsEndAt, end_key, end_turn}
 use Rattle.ordered_map.specs.TreeWords.{leaf_pairs, end_said}
-use Rattle.ordered_map.proofs.Lemmas.{IsBeside, IsUpTo, beside_same, split_at, end_up, end_small, end_is, was_passed, SameSettled, held_end, low_pairs, high_pairs, settled_rank, settled_leaf, settled_toward}
+use Rattle.ordered_map.proofs.Lemmas.{IsBeside, IsUpTo, beside_same, split_at, end_up, end_small, end_is, SameSettled, held_end, low_pairs, high_pairs, settled_rank, settled_leaf, settled_toward}
 use Rattle.ordered_map.proofs.MapLemmas.{run_since, stood_holds, stood_settled, walk_beside, walk_turns, walk_end, walk_next, walk_own, walked_stood}
 use Rattle.template.proofs.WalkTurns.{in_tree}
 use Rattle.template.specs.declared.walk.Found.{Found}

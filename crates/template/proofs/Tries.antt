@@ -1,6 +1,6 @@
 -- Which steps begin a try, and what a pass's tries are after one more row.
 use Rattle.std.proofs.Common.{◌≡◌, ◌≢◌, ℕ, suc, ◌<◌, ◌≤◌, Bool, true, false, ◌&&◌, eqb, eq-eqb, ne_eqb, List, length, Some, inl, inr, refl, ◌∙◌, subst, arith}
-use Rattle.histories.specs.Common.{Layout, Kind, LoadSettled, Row, Step, NodeWord, Settled, Head as HeadWord, node, scx, same_word, History, ◌⊳◌, value, Call, IsRun, row_of, taken_nodes}
+use Rattle.histories.specs.Common.{Layout, Kind, LoadSettled, Row, Step, NodeWord, Settled, Head as HeadWord, node, same_word, History, ◌⊳◌, value, Call, IsRun, row_of, taken_nodes}
 use Rattle.template.specs.Common.{HelpWaits, HelpRun, load, LlxWaits, Job, job_of, ScxWaitsAt, ScxWaits, VlxWaits, LlxAt, LlxRun, ScxAt, ScxRun, Snap, IsMapRun}
 use Rattle.template.specs.Common.{TreeAllows, level, begins_try, tries_begun, IsNewestTry, WalkIsTold, WalkKnows, WalkWaits, walk_step, IsPastRoot, WalkFits, walk_left}
 use Rattle.template.specs.Walk.Steps.{room, steps_left}

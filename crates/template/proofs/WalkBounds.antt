@@ -168,6 +168,7 @@ module _ (c : Call) (h : History) (r : Row) (goal : Goal) (f : Found) (run : IsM
     head = ap head_of (same (Settled HeadWord) tt) ∙ a.head;
     low = a.low;
     key = same first_key tt ∙ a.key;
+    small = a.small;
     outside = λ x. a.outside (same_shares (value (r ⊳ h)) (value h) f.trail.node.0 (path_key goal) (λ part i. sym (same part i)) x);
     none = a.none;
   }

@@ -59,8 +59,8 @@ module _ (way : Way) (goal : Goal) (t : Trail) (d : Call) (h : History) where
   pub key_to_child : (head : HeadParts) (low : ℕ) (side : Side) → WalkIsTold (way_at way goal t (Key head)) d h low → EndsAt (way_at way goal t (Key head)) low false → side ≡ cond (ltb (path_key goal) low) Left Right → WalkWaits (way_at way goal t (Child head.level side)) d h (load LoadChild (node t.node.0 (ChildWord side)))
   key_to_child head low side w goes is = let m = way_at way goal t (Key head) in turn_key d h m (way_at way goal t (Child head.level side)) (Ask _) head side low (stands_by m d h low w w.known.0) w.known.1 w.known.2 w.known.3 w.told is goes record { stands = refl; asked = refl }
 
-  pub key_ends : (head : HeadParts) (low : ℕ) → WalkIsTold (way_at way goal t (Key head)) d h low → EndsAt (way_at way goal t (Key head)) low true → FoundBy way goal d h record { trail = t; head = head; more = 0; key = low; value = None }
-  key_ends head low w ends = let m = way_at way goal t (Key head) in ends_at_fork d h m m (Done _) head low (stands_by m d h low w w.known.0) w.known.1 w.known.2 w.known.3 w.told ends record { stands = refl; done = refl }
+  pub key_ends : (head : HeadParts) (low : ℕ) → WalkIsTold (way_at way goal t (Key head)) d h low → low < 2 ^ 64 → EndsAt (way_at way goal t (Key head)) low true → FoundBy way goal d h record { trail = t; head = head; more = 0; key = low; value = None }
+  key_ends head low w small ends = let m = way_at way goal t (Key head) in ends_at_fork d h m m (Done _) head low (stands_by m d h low w w.known.0) w.known.1 w.known.2 w.known.3 w.told small ends record { stands = refl; done = refl }
 
   -- of a leaf it loads the key in the slot with which it begins
   pub more_to_pair : (head : HeadParts) (more : ℕ) → WalkIsTold (way_at way goal t (More head)) d h more → WalkWaits (way_at way goal t (Pair head more (goal_slot goal more))) d h (load LoadSettled (node t.node.0 (Settled (KeyWord (goal_slot goal more)))))

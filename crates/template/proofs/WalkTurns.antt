@@ -8,12 +8,11 @@ use Rattle.histories.specs.Common.{Value as ValueWord, High as HighWord, head_of
 use Rattle.arena.proofs.Lemmas.{ends_self}
 use Rattle.ordered_map.proofs.Lemmas.{shares_span, end_is, held_end, low_pairs, from_rises, get_here, get_behind, get_nowhere}
 use Rattle.ordered_map.proofs.MapLemmas.{below_root, levels_rise, root_head, stood_depth, stood_holds, stood_parted, walk_first, walk_turns, walked_next, walked_stood}
-use Rattle.template.specs.Common.{IsWellCounted, held_pairs, held_from, held_behind, slot_behind, end_slot, pair_in, wide_value, AllBelow, IsRising, get, Passed, HasWalked, WasInTree, IsMapRun, class, is_leaf}
+use Rattle.template.specs.Common.{IsWellCounted, held_pairs, held_from, held_behind, slot_behind, end_slot, pair_in, wide_value, AllBelow, IsRising, get, Passed, HasWalked, IsMapRun, class, is_leaf}
 use Rattle.template.specs.Common.{level, rank, toward, said, IsOwnMoment, Goal, Key as ToKey, End, path_key, asked_key, asked_in, HasFoundGoal, FoundBy, MayGo, WalkKnows, walk_step, WalkIsReady, WalkIsTold, WalkEnds}
 use Rattle.ordered_map.specs.MapLaws.{IsEndmost}
 use Rattle.ordered_map.specs.Bits.{IsForkKey, IsInSpan, Shares}
 use Rattle.ordered_map.specs.Paths.{depth, end_turn}
-use Rattle.ordered_map.specs.Strays.{HasStrayed}
 use Rattle.ordered_map.specs.TrieShape.{Stays}
 use Rattle.template.specs.FoundLeaf.{MayEnd}
 use Rattle.template.specs.Trails.{OnTrail}
@@ -23,8 +22,8 @@ use Rattle.template.specs.declared.walk.Way.{Way}
 use Rattle.template.specs.declared.walk.Way.TheVariants.{InTree, InTrie, Within}
 use Rattle.template.specs.declared.walk.WalkRun.{WalkRun}
 use Rattle.template.specs.declared.walk.WalkAt.{WalkAt}
-use Rattle.template.specs.declared.walk.WalkAt.TheVariants.{Start, Root, Head, Key, Child, More, Pair, Value, High}
-use Rattle.template.specs.Walk.Known.{StaysAbove, LoadsChild, IsSure, EndsAt, asks_key, open_side, goal_slot, here, WalkStandsAtLeaf, IsSlotFor, WalkTurn, WalkAsks, WalkStands}
+use Rattle.template.specs.declared.walk.WalkAt.TheVariants.{Start, Root, Head, Child, More, Pair, Value, High}
+use Rattle.template.specs.Walk.Known.{LoadsChild, EndsAt, asks_key, open_side, goal_slot, here, WalkStandsAtLeaf, IsSlotFor, WalkTurn, WalkAsks, WalkStands}
 
 pub own_since : (c : Call) (h : History) → IsOwnMoment c h → Extends h c.start
 own_since c h b = subst (λ k. Extends k c.start) (sym b.is) (inr b.since)
@@ -348,8 +347,8 @@ turn_key c h old now turn head side key k e low fork d by goes a =
     waits_at c h old now turn (Child head.level side) (walk_step old (Child head.level side)) k a (k.trail, level_is c h old k head e, fork_is c h old k head e fork, goes_by_key c h old k head e low key d ∙ sym by) (λ w x. stays_within c h old head key k e low fork d goes w) refl
 
 -- or it ends there
-pub ends_at_fork : (c : Call) (h : History) (old now : WalkRun) (turn : Turn Found) (head : HeadParts) (key : ℕ) → WalkStands old c h → head_of (here h old (Settled HeadWord)) ≡ head → head.class ≡ 0 → head.leaf ≡ false → here h old first_key ≡ key → EndsAt old key true → WalkEnds old now turn head 0 key None → WalkTurn c h now turn
-ends_at_fork c h old now turn head key k e low fork d ends a = rw (a.done, a.stands) (subst (λ way. FoundBy way old.goal c h (record { trail = old.trail; head = head; more = 0; key = key; value = None })) (sym w) (inr record {
+pub ends_at_fork : (c : Call) (h : History) (old now : WalkRun) (turn : Turn Found) (head : HeadParts) (key : ℕ) → WalkStands old c h → head_of (here h old (Settled HeadWord)) ≡ head → head.class ≡ 0 → head.leaf ≡ false → here h old first_key ≡ key → key < 2 ^ 64 → EndsAt old key true → WalkEnds old now turn head 0 key None → WalkTurn c h now turn
+ends_at_fork c h old now turn head key k e low fork d small ends a = rw (a.done, a.stands) (subst (λ way. FoundBy way old.goal c h (record { trail = old.trail; head = head; more = 0; key = key; value = None })) (sym w) (inr record {
   trie = is_trie c h old head key k e low fork d w;
   may = may_end c.layout old.way old.goal k.may;
   trail = k.trail;
@@ -359,6 +358,7 @@ ends_at_fork c h old now turn head key k e low fork d ends a = rw (a.done, a.sta
   head = e;
   low = low;
   key = d;
+  small = small;
   outside = not_shared c h old head key k e low fork d ends;
   none = refl;
 }))

@@ -1,5 +1,5 @@
 -- What a call knows of the leaf that it has found on its way to a key, or to the one at an end.
-use Rattle.std.specs.Prelude.{◌≡◌, ◌≢◌, ◌⊎◌, ℕ, ◌<◌, true, false, if◌then◌else◌, ◌==◌, length, Option, None}
+use Rattle.std.specs.Prelude.{◌≡◌, ◌≢◌, ◌⊎◌, ℕ, ◌^◌, ◌<◌, true, false, if◌then◌else◌, ◌==◌, length, Option, None}
 use Rattle.std.specs.Option.{option_map}
 use Rattle.histories.specs.Common.{Layout, Tree as TreeMode, Settled, Head, More, Key, Word, head_of, node, first_key, History, value, Call, taken_nodes}
 use Rattle.arena.specs.declared.limits.Mode.TheVariants.{Trie as TrieMode}
@@ -69,6 +69,7 @@ pub record HasFoundFork (goal : Goal) (c : Call) (h : History) (f : Found) : Typ
   pub head : head_of (value h (node f.trail.node.0 (Settled Head))) ≡ f.head
   pub low : f.head.class ≡ 0
   pub key : value h (node f.trail.node.0 first_key) ≡ f.key
+  pub small : f.key < 2 ^ 64
   pub outside : ¬ Shares (value h) f.trail.node.0 (path_key goal)
   pub none : f.value ≡ None
 

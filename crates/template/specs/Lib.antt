@@ -1,3 +1,4 @@
+pub mod Balance
 pub mod Trails
 pub mod FoundLeaf
 pub mod Walk

@@ -1,5 +1,5 @@
 -- In which order the machines of the tree fill words: what all of them have in common.
-use Rattle.std.proofs.Common.{◌≡◌, ◌≢◌, ℕ, ◌/◌, ◌%◌, ◌<◌, inl, inr, ⊎_elim, true, eqb, sym, ap, subst, arith, eq-eqb}
+use Rattle.std.proofs.Common.{◌≡◌, ◌≢◌, ℕ, ◌/◌, ◌%◌, inl, inr, ⊎_elim, true, eqb, sym, ap, subst, arith, eq-eqb}
 use Rattle.histories.specs.Common.{Layout, Mode, Fill as FillKind, LoadSettled, Step, NodeWord, Settled, Head, ScxWord, Word}
 use Rattle.arena.specs.Layout.{IsMap}
 use Rattle.histories.specs.Common.{Node, Scx as ScxOf, IsOwnNode, History, opening_nodes, Call, row_of, begun_at, node, scx, child, IsUnmentioned}

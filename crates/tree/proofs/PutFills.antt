@@ -1,91 +1,158 @@
 -- An insert fills its nodes in order: the leaves before the fork over them, which nothing mentions.
-use Rattle.std.proofs.Common.{◌≡◌, ℕ, ◌+◌, ◌/◌, ◌%◌, ◌<◌, ◌≤◌, ◌⊎◌, inl, inr, Bool, true, false, lt-ltb, eqb, List, refl, sym, ◌∙◌, ap, subst, arith}
+use Rattle.std.proofs.Common.{◌≡◌, ℕ, ◌/◌, ◌%◌, ◌<◌, ◌≤◌, ◌⊎◌, inl, inr, ⊎_elim, Bool, true, false, ◌==◌, ne_eqb, le-ltb, lt-ltb, eqb, List, refl, sym, ◌∙◌, ap, subst, arith}
 use Rattle.histories.specs.Common.{NodeWord, Settled, Child, Head, Side, History, value, Call, row_of, node, child}
-use Rattle.template.specs.Common.{Pair, IsFillInOrder, is_leaf}
+use Rattle.template.specs.Common.{Pair, IsFillInOrder, WasInTree, is_leaf}
 use Rattle.ordered_map.specs.FillOrder.{HasStoodInField}
+use Rattle.ordered_map.proofs.MapLemmas.{walked_stood}
 use Rattle.template.specs.declared.walk.Found.{Found}
 use Rattle.tree.proofs.Fills.{leaf_head, same_number, same_part, unstood}
 use Rattle.tree.specs.declared.put.PutPair.{PutPair}
-use Rattle.tree.specs.Put.Means.{put_means, put_pieces, lower, pairs_with, split_or_leaf, splits}
-use Rattle.tree.specs.Laws.Put.Sound.{put_fields}
+use Rattle.tree.specs.Put.Means.{above_pieces, put_means, put_need, put_pieces, put_work, lower, pairs_with, parts_by, split_or_leaf, splits}
+use Rattle.tree.specs.Laws.Put.Sound.{IsLeafBefore, above_fields, split_fields, stands}
+use Rattle.tree.specs.Laws.Put.Stands.{StandsAt}
 use Rattle.edits.specs.declared.edit.Nodes.{Nodes}
 use Rattle.edits.specs.declared.edit.Nth.{Nth}
 use Rattle.edits.specs.declared.edit.Nth.TheVariants.{First, Second, Third}
+use Rattle.edits.specs.declared.edit.Work.{Work}
 use Rattle.edits.specs.declared.piece.Piece.{Piece}
+use Rattle.edits.specs.declared.piece.Piece.TheVariants.{Fork, Leaf}
+use Rattle.std.proofs.Math.Decide.{dec_lt}
 use Rattle.edits.specs.declared.update.UpdateAt.{UpdateAt}
 use Rattle.edits.specs.declared.update.UpdateRun.{UpdateRun}
-use Rattle.edits.specs.Known.{ComesBefore, IsNeeded, FillsPiece, piece_fill_step, piece, top}
+use Rattle.edits.specs.Known.{ComesBefore, IsNeeded, StandInRow, FillsPiece, piece_fill_step, piece, top}
 use Rattle.edits.specs.Laws.PieceFills.{HoldsWords}
 use Rattle.edits.proofs.Lemmas.{piece_is}
-use Rattle.edits.specs.Pieces.{is_filled, nth_node, top_of, word_of}
+use Rattle.edits.specs.Pieces.{is_filled, nth_node, piece_head, top_of, word_of}
 
--- Three fresh nodes
+-- What stands where
 
-all_needed : (need : ℕ) → IsNeeded need Third → (i : Nth) → IsNeeded need i
-all_needed need x First = omega (arith, x)
-all_needed need x Second = omega (arith, x)
-all_needed need x Third = x
+-- a piece is a leaf by its head
+abbrev IsLeafPiece : Piece → Type 0
+IsLeafPiece p = eqb (word_of p (Settled Head) / 4 % 2) 1 ≡ true
 
-third_top : (need : ℕ) (ns : Nodes) → IsNeeded need Third → top_of need ns ≡ ns.third.0
-third_top need ns x = rw (lt-ltb 2 need x) refl
+-- a fresh node is a leaf, or the last of those that are needed
+abbrev IsLeafOrTop : (Nth → Piece) → ℕ → Nodes → Nth → Type 0
+IsLeafOrTop pieces need ns nth = IsLeafPiece (pieces nth) ⊎ ((nth_node ns nth).0 ≡ top_of need ns)
 
--- what has fields is the third of three
-has_fields : (split : Bool) (ps : List Pair) (f : Found) (ns : Nodes) (nth : Nth) (side : Side) → is_filled (split_or_leaf split ps f ns nth) (Child side) ≡ true → nth ≡ Third
-has_fields false ps f ns nth side p = absurd (let z : false ≡ true = p in cc)
-has_fields true ps f ns First side p = absurd (let z : false ≡ true = p in cc)
-has_fields true ps f ns Second side p = absurd (let z : false ≡ true = p in cc)
-has_fields true ps f ns Third side p = refl
+parted_kind : (low : Bool) (ps : List Pair) (f : Found) (ns : Nodes) (nth : Nth) → IsLeafOrTop (parts_by low ps f ns) 3 ns nth
+parted_kind true ps f ns First = inl (leaf_head 66 0)
+parted_kind false ps f ns First = inl (leaf_head 66 0)
+parted_kind true ps f ns Second = inl (leaf_head 66 0)
+parted_kind false ps f ns Second = inl (leaf_head 2 f.head.class)
+parted_kind true ps f ns Third = inr refl
+parted_kind false ps f ns Third = inr refl
 
--- those before it are leaves
-leaf_first : (split : Bool) (ps : List Pair) (f : Found) (ns : Nodes) → eqb (word_of (split_or_leaf split ps f ns First) (Settled Head) / 4 % 2) 1 ≡ true
-leaf_first false ps f ns = leaf_head f.head.level 0
-leaf_first true ps f ns = leaf_head (lower f.head.level) 0
+split_kind : (trie split : Bool) (ps : List Pair) (f : Found) (ns : Nodes) (nth : Nth) → IsLeafOrTop (split_or_leaf trie split ps f ns) (put_need split) ns nth
+split_kind in_trie false ps f ns nth = inl (leaf_head f.head.level 0)
+split_kind true true ps f ns nth = parted_kind (f.head.class == 0) ps f ns nth
+split_kind false true ps f ns First = inl (leaf_head (lower f.head.level) 0)
+split_kind false true ps f ns Second = inl (leaf_head (lower f.head.level) f.head.class)
+split_kind false true ps f ns Third = inr refl
 
-leaf_second : (split : Bool) (ps : List Pair) (f : Found) (ns : Nodes) → eqb (word_of (split_or_leaf split ps f ns Second) (Settled Head) / 4 % 2) 1 ≡ true
-leaf_second false ps f ns = leaf_head f.head.level 0
-leaf_second true ps f ns = leaf_head (lower f.head.level) f.head.class
+above_kind : (k v : ℕ) (f : Found) (ns : Nodes) (nth : Nth) → IsNeeded 2 nth → IsLeafOrTop (above_pieces k v f ns) 2 ns nth
+above_kind k v f ns First n = inl (leaf_head 66 0)
+above_kind k v f ns Second n = inr refl
+above_kind k v f ns Third n = absurd (omega (arith, n))
+
+-- of nodes in a row an earlier one has a lower number
+row_order : (need : ℕ) (ns : Nodes) (i nth : Nth) → StandInRow need ns → IsNeeded need nth → ComesBefore i nth → (ns.first.0 ≤ (nth_node ns i).0) × ((nth_node ns i).0 < (nth_node ns nth).0) × IsNeeded need i
+row_order need ns First Second row n b = let e = row Second n in (omega arith, omega (arith, e), omega (arith, n))
+row_order need ns First Third row n b = let e = row Third n in (omega arith, omega (arith, e), omega (arith, n))
+row_order need ns Second Third row n b = let d = row Second (omega (arith, n)) in let e = row Third n in (omega (arith, d), omega (arith, d, e), omega (arith, n))
+row_order need ns First First row n b = absurd (omega (arith, b))
+row_order need ns Second First row n b = absurd (omega (arith, b))
+row_order need ns Second Second row n b = absurd (omega (arith, b))
+row_order need ns Third First row n b = absurd (omega (arith, b))
+row_order need ns Third Second row n b = absurd (omega (arith, b))
+row_order need ns Third Third row n b = absurd (omega (arith, b))
+
+-- what has fields is no leaf
+no_fields : (p : Piece) (side : Side) → IsLeafPiece p → is_filled p (Child side) ≡ true → ⊥
+no_fields (Leaf level class ps) side leaf q = let z : false ≡ true = q in cc
+no_fields (Fork level class key left right) side leaf q = let z : false ≡ true = sym (ne_eqb (piece_head level false class / 4 % 2) 1 (λ e. omega (arith, e))) ∙ leaf in cc
+
+-- the last that is needed has the greatest number
+top_last : (need : ℕ) (ns : Nodes) (nth : Nth) → StandInRow need ns → IsNeeded need nth → (nth_node ns nth).0 ≤ top_of need ns
+top_last need ns nth row n = go (dec_lt 2 need) (dec_lt 1 need)
+  where
+    go : Dec (2 < need) → Dec (1 < need) → (nth_node ns nth).0 ≤ top_of need ns
+    go (yes three) two = rw (lt-ltb 2 need three) (third nth)
+      where
+        third : (i : Nth) → (nth_node ns i).0 ≤ ns.third.0
+        third First = let b = row Third three in omega (arith, b)
+        third Second = let a = row Second (omega (arith, three)) in let b = row Third three in omega (arith, a, b)
+        third Third = omega arith
+    go (no few) (yes two) = rw (le-ltb 2 need (omega (arith, few)), lt-ltb 1 need two) (second nth n)
+      where
+        second : (i : Nth) → IsNeeded need i → (nth_node ns i).0 ≤ ns.second.0
+        second First y = let a = row Second two in omega (arith, a)
+        second Second y = omega arith
+        second Third y = absurd (omega (arith, y, few))
+    go (no few) (no one) = rw (le-ltb 2 need (omega (arith, few)), le-ltb 1 need (omega (arith, one))) (first nth n)
+      where
+        first : (i : Nth) → IsNeeded need i → (nth_node ns i).0 ≤ ns.first.0
+        first First y = omega arith
+        first Second y = absurd (omega (arith, y, one))
+        first Third y = absurd (omega (arith, y, few))
 
 module _ (m : UpdateRun PutPair UpdateAt) (c : Call) (h : History) (f : Found) where
   abbrev said : Nth → Piece
-  said nth = put_pieces m.edit.key m.edit.value f m.nodes m.read nth
+  said nth = put_pieces m.edit.key m.edit.value m.edit.trie f m.nodes m.read nth
 
-  -- what a node at hand is to hold
-  said_is : (nth : Nth) (part : NodeWord) → FillsPiece put_means m c h f nth part → piece put_means m f (nth_node m.nodes nth).0 ≡ said nth
-  said_is nth part x = piece_is (λ i. said i) m.nodes m.work.need nth x.works.need x.works.in_order
+  module _ (nth : Nth) (part : NodeWord) (x : FillsPiece put_means m c h f nth part) where
+    standing : StandsAt m.edit.trie m.edit.key c h f
+    standing = stands m.edit c h f m.snaps.items x.works.run x.works.looked
 
-  -- the leaves before the fork are full
-  leaf_full : (part : NodeWord) (i : Nth) → FillsPiece put_means m c h f Third part → eqb (word_of (said i) (Settled Head) / 4 % 2) 1 ≡ true → m.nodes.first.0 ≤ (nth_node m.nodes i).0 → (nth_node m.nodes i).0 < m.nodes.third.0 → is_leaf (value h) (nth_node m.nodes i).0 ≡ true
-  leaf_full part i x is low high =
-      let third : top m ≡ m.nodes.third.0 = third_top m.work.need m.nodes x.works.need in
-      let w : HoldsWords h (nth_node m.nodes i).0 (piece put_means m f (nth_node m.nodes i).0) = x.full.full (nth_node m.nodes i).0 low high (omega (third, high, arith)) in
-      let same : piece put_means m f (nth_node m.nodes i).0 ≡ said i = piece_is (λ j. said j) m.nodes m.work.need i (all_needed m.work.need x.works.need i) x.works.in_order in
-      ap (λ u. eqb (u / 4 % 2) 1) (w (Settled Head) tt ∙ ap (λ (p : Piece). word_of p (Settled Head)) same) ∙ is
+    -- what a node at hand is to hold
+    said_is : (i : Nth) → IsNeeded m.work.need i → piece put_means m f (nth_node m.nodes i).0 ≡ said i
+    said_is i n = piece_is (λ j. said j) m.nodes m.work.need i n x.works.in_order
 
-  in_row : (part : NodeWord) → FillsPiece put_means m c h f Third part → (m.nodes.second.0 ≡ m.nodes.first.0 + 1) × (m.nodes.third.0 ≡ m.nodes.first.0 + 2)
-  in_row part x = (x.works.in_order Second (all_needed m.work.need x.works.need Second), x.works.in_order Third x.works.need)
+    kind_by : StandsAt m.edit.trie m.edit.key c h f → (i : Nth) → IsNeeded (put_work m.edit.trie f).need i → IsLeafOrTop said (put_work m.edit.trie f).need m.nodes i
+    kind_by (inl a) i n = rw a.stays (split_kind m.edit.trie (splits f) (pairs_with m.edit.key m.edit.value f m.read) f m.nodes i)
+    kind_by (inr a) i n = rw a.strays (above_kind m.edit.key m.edit.value f m.nodes i (rw a.strays at n))
 
-  before_third : (part : NodeWord) (i : Nth) → FillsPiece put_means m c h f Third part → ComesBefore i Third → is_leaf (value h) (nth_node m.nodes i).0 ≡ true
-  before_third part First x b = let o = in_row part x in leaf_full part First x (leaf_first (splits f) (pairs_with m.edit.key m.edit.value f m.read) f m.nodes) (omega arith) (omega (o.0, o.1, arith))
-  before_third part Second x b = let o = in_row part x in leaf_full part Second x (leaf_second (splits f) (pairs_with m.edit.key m.edit.value f m.read) f m.nodes) (omega (o.0, arith)) (omega (o.1, arith))
-  before_third part Third x b = absurd (omega (arith, b))
+    kind : (i : Nth) → IsNeeded m.work.need i → IsLeafOrTop said m.work.need m.nodes i
+    kind i n = subst (λ (w : Work). IsLeafOrTop said w.need m.nodes i) (sym x.works.asked) (kind_by standing i (subst (λ (w : Work). IsNeeded w.need i) x.works.asked n))
 
-  head_ordered : (nth : Nth) (part : NodeWord) (k : ℕ) → FillsPiece put_means m c h f nth part → node (nth_node m.nodes nth).0 part ≡ node k (Settled Head) → (eqb (word_of (piece put_means m f (nth_node m.nodes nth).0) part / 4 % 2) 1 ≡ true) ⊎ (¬ HasStoodInField h k)
-  head_ordered First part k x e = inl (rw (same_part m.nodes.first.0 k part (Settled Head) e, said_is First part x) (leaf_first (splits f) (pairs_with m.edit.key m.edit.value f m.read) f m.nodes))
-  head_ordered Second part k x e = inl (rw (same_part m.nodes.second.0 k part (Settled Head) e, said_is Second part x) (leaf_second (splits f) (pairs_with m.edit.key m.edit.value f m.read) f m.nodes))
-  head_ordered Third part k x e = inr (subst (λ n. ¬ HasStoodInField h n) (sym third ∙ same_number m.nodes.third.0 k part (Settled Head) e) (unstood c.layout h c.pass (top m) x.works.run.0 (x.full.hand.own (top m) x.full.some (omega arith)) x.full.hand.unmentioned))
-    where
-      third : m.nodes.third.0 ≡ top m
-      third = sym (third_top m.work.need m.nodes x.works.need)
+    -- the leaves before the top are full
+    leaf_full : (i : Nth) → (nth_node m.nodes nth).0 ≡ top m → ComesBefore i nth → IsLeafPiece (said i) → is_leaf (value h) (nth_node m.nodes i).0 ≡ true
+    leaf_full i is_top before is =
+        let o = row_order m.work.need m.nodes i nth x.works.in_order x.works.need before in
+        let w : HoldsWords h (nth_node m.nodes i).0 (piece put_means m f (nth_node m.nodes i).0) = x.full.full (nth_node m.nodes i).0 o.0 o.1 (let t = is_top in let l = o.1 in omega (t, l, arith)) in
+        ap (λ u. eqb (u / 4 % 2) 1) (w (Settled Head) tt ∙ ap (λ (p : Piece). word_of p (Settled Head)) (said_is i o.2)) ∙ is
 
-  field_ordered : (nth : Nth) (part : NodeWord) (k : ℕ) (side : Side) → FillsPiece put_means m c h f nth part → node (nth_node m.nodes nth).0 part ≡ child k side → is_leaf (value h) (word_of (piece put_means m f (nth_node m.nodes nth).0) part) ≡ true
-  field_ordered nth part k side x e =
-      let p : part ≡ Child side = same_part (nth_node m.nodes nth).0 k part (Child side) e in
-      let q : is_filled (said nth) (Child side) ≡ true = subst (λ (a : Piece). is_filled a (Child side) ≡ true) (said_is nth part x) (subst (λ (a : NodeWord). is_filled (piece put_means m f (nth_node m.nodes nth).0) a ≡ true) p x.part_is) in
-      let y = put_fields (splits f) (pairs_with m.edit.key m.edit.value f m.read) f m.nodes nth side q in
-      let third : nth ≡ Third = has_fields (splits f) (pairs_with m.edit.key m.edit.value f m.read) f m.nodes nth side q in
-      let w : word_of (piece put_means m f (nth_node m.nodes nth).0) part ≡ (nth_node m.nodes y.0).0 = ap (λ (a : NodeWord). word_of (piece put_means m f (nth_node m.nodes nth).0) a) p ∙ ap (λ (a : Piece). word_of a (Child side)) (said_is nth part x) ∙ y.2 in
-      subst (λ n. is_leaf (value h) n ≡ true) (sym w) (before_third part y.0 (subst (λ i. FillsPiece put_means m c h f i part) third x) (subst (λ i. ComesBefore y.0 i) third y.1))
+    head_ordered : (k : ℕ) → node (nth_node m.nodes nth).0 part ≡ node k (Settled Head) → (eqb (word_of (piece put_means m f (nth_node m.nodes nth).0) part / 4 % 2) 1 ≡ true) ⊎ (¬ HasStoodInField h k)
+    head_ordered k e = ⊎_elim
+        (λ leaf. inl (rw (same_part (nth_node m.nodes nth).0 k part (Settled Head) e, said_is nth x.works.need) leaf))
+        (λ is_top. inr (subst (λ n. ¬ HasStoodInField h n) (sym is_top ∙ same_number (nth_node m.nodes nth).0 k part (Settled Head) e) (unstood c.layout h c.pass (top m) x.works.run.0 (x.full.hand.own (top m) x.full.some (omega arith)) x.full.hand.unmentioned)))
+        (kind nth x.works.need)
 
-  -- a fill of its nodes is in order
-  pub fill_in_order : (nth : Nth) (part : NodeWord) → FillsPiece put_means m c h f nth part → IsFillInOrder h (row_of c (piece_fill_step put_means m f nth part) h)
-  fill_in_order nth part x = record { head = λ k kind e. head_ordered nth part k x e; field = λ k side kind e. inr (field_ordered nth part k side x e) }
+    fields_by : StandsAt m.edit.trie m.edit.key c h f → (side : Side) → is_filled (said nth) (Child side) ≡ true → IsLeafBefore m.nodes nth (word_of (said nth) (Child side)) ⊎ WasInTree h (word_of (said nth) (Child side))
+    fields_by (inl a) side p = inl (rw a.stays (split_fields m.edit.trie (splits f) (pairs_with m.edit.key m.edit.value f m.read) f m.nodes nth side (rw a.stays at p)))
+    fields_by (inr a) side p =
+        let t = a.found.trail.node in
+        rw a.strays (⊎_elim inl (λ e. inr (subst (WasInTree h) (sym e) (walked_stood c.layout h t.first m.edit.key f.trail.node.0 t.passed))) (above_fields m.edit.key m.edit.value f m.nodes nth side (rw a.strays at p)))
+
+    -- a leaf has none
+    is_top : (side : Side) → is_filled (said nth) (Child side) ≡ true → (nth_node m.nodes nth).0 ≡ top m
+    is_top side q = ⊎_elim (λ leaf. absurd (no_fields (said nth) side leaf q)) (λ e. e) (kind nth x.works.need)
+
+    -- each of those before it is one
+    before_leaf : (i : Nth) → ComesBefore i nth → IsLeafPiece (said i)
+    before_leaf i before =
+        let o = row_order m.work.need m.nodes i nth x.works.in_order x.works.need before in
+        ⊎_elim (λ leaf. leaf) (λ e. absurd (let l = o.1 in let t = top_last m.work.need m.nodes nth x.works.in_order x.works.need in omega (arith, e, l, t))) (kind i o.2)
+
+    field_ordered : (k : ℕ) (side : Side) → node (nth_node m.nodes nth).0 part ≡ child k side → WasInTree h (word_of (piece put_means m f (nth_node m.nodes nth).0) part) ⊎ (is_leaf (value h) (word_of (piece put_means m f (nth_node m.nodes nth).0) part) ≡ true)
+    field_ordered k side e =
+        let p : part ≡ Child side = same_part (nth_node m.nodes nth).0 k part (Child side) e in
+        let q : is_filled (said nth) (Child side) ≡ true = subst (λ (a : Piece). is_filled a (Child side) ≡ true) (said_is nth x.works.need) (subst (λ (a : NodeWord). is_filled (piece put_means m f (nth_node m.nodes nth).0) a ≡ true) p x.part_is) in
+        let w : word_of (piece put_means m f (nth_node m.nodes nth).0) part ≡ word_of (said nth) (Child side) = ap (λ (a : NodeWord). word_of (piece put_means m f (nth_node m.nodes nth).0) a) p ∙ ap (λ (a : Piece). word_of a (Child side)) (said_is nth x.works.need) in
+        ⊎_elim
+        (λ y. inr (subst (λ n. is_leaf (value h) n ≡ true) (sym (w ∙ y.2)) (leaf_full y.0 (is_top side q) y.1 (before_leaf y.0 y.1))))
+        (λ y. inl (subst (WasInTree h) (sym w) y))
+        (fields_by standing side q)
+
+    -- a fill of its nodes is in order
+    pub fill_in_order : IsFillInOrder h (row_of c (piece_fill_step put_means m f nth part) h)
+    fill_in_order = record { head = λ k kind e. head_ordered k e; field = λ k side kind e. field_ordered k side e }

@@ -8,13 +8,13 @@ use Rattle.edits.specs.declared.edit.Look.TheVariants.{At, Differs, Enough}
 use Rattle.edits.specs.declared.reading.Reading.{Reading}
 use Rattle.edits.specs.Readings.{leaf_begun}
 
--- it looks at the leaf's parent, and then at the leaf if that is still the child
-abbrev pub leaf_looks : Found → List Snap → Look
-leaf_looks f [] = At f.trail.parent
-leaf_looks f (p ∷ []) =
-    if (child_of p f.trail.side).0 == f.trail.node.0 then At f.trail.node
+-- it looks at the parent of what was found, and then at this node if that is still the child
+abbrev pub leaf_looks : Found → NodeNo → List Snap → Look
+leaf_looks f next [] = At f.trail.parent
+leaf_looks f next (p ∷ []) =
+    if (child_of p f.trail.side).0 == f.trail.node.0 then At next
     else Differs p.node p.scx
-leaf_looks f (p ∷ l ∷ snaps) = Enough
+leaf_looks f next (p ∷ l ∷ snaps) = Enough
 
 -- it reads the leaf, whose head and count the walk has found
 abbrev pub leaf_reads : Found → NodeNo × Reading

@@ -1,7 +1,8 @@
 //! Edits of the map: what a rule makes of what it finds at a goal.
 ghost use Rattle.std.specs.Prelude.{◌≡◌, ℕ, ◌+◌, ◌*◌, ◌-◌, ◌<◌};
 ghost use Rattle.edits.specs.Steps.{update_left};
-ghost use Rattle.tree.specs.KeyEdit.Means.{key_means, putting, taking, wants};
+ghost use Rattle.tree.specs.KeyEdit.Means.{key_means, putting, taking, wants, way_of};
+ghost use Rattle.template.specs.Walk.Steps.{room};
 
 use crate::put::PutPair;
 use crate::rule::{EditGoal, EditRule};
@@ -30,7 +31,8 @@ impl<G: EditGoal, R: EditRule> KeyEdit<G, R> {
     /// An edit with `tries` tries, in the caller's call of this number; it takes fresh nodes and
     /// SCX-records out of the share, at most one SCX-record in a try, and one node, or three where
     /// its rule puts in what was absent. Where `nodes` are taken when it ends, it makes at most
-    /// `tries * (3 * (2 + nodes) + n)` steps, n being 207 if it leaves a value, and else 328.
+    /// `tries * (3 * (2 + nodes) + n)` steps, n being 207 if it leaves a value, and else 328; in a trie
+    /// 67 stands for `2 + nodes`.
     #[inline(always)]
     pub fn run(self, share: Share, tries: u32, call: u64) -> KeyEditRun<G, R>
         ensures start { result.at ≡ UpdateAt.Start }
@@ -39,8 +41,8 @@ impl<G: EditGoal, R: EditRule> KeyEdit<G, R> {
         ensures call { result.call ≡ call }
         ensures tries { result.tries ≡ tries - 1 }
         ensures limit { result.limit ≡ tries }
-        ensures steps { (nodes : ℕ) → 0 < tries → update_left (key_means G.goal R.rule) result nodes
-            ≡ tries * (3 * (2 + nodes) + steps_behind (leaves (R.rule self.rule))) }
+        ensures steps { (nodes : ℕ) → 0 < tries → update_left (key_means G.goal G.trie R.rule) result nodes
+            ≡ tries * (3 * (2 + room (way_of (G.trie self.goal) (R.rule self.rule)) nodes) + steps_behind (leaves (R.rule self.rule))) }
     {
         UpdateRun::new(self, share, tries, call, UpdateAt::Start)
     }
@@ -58,8 +60,8 @@ impl<G: EditGoal, R: EditRule> KeyEdit<G, R> {
 
     /// The key that it changes there, and the value that it leaves, if it leaves one.
     pub fn change(&self, found: &Found) -> (u64, Option<u128>)
-        ensures key { result.0 ≡ edit_key ((key_means G.goal R.rule).edit self.now found.now) }
-        ensures left { result.1 ≡ value_left ((key_means G.goal R.rule).edit self.now found.now) }
+        ensures key { result.0 ≡ edit_key ((key_means G.goal G.trie R.rule).edit self.now found.now) }
+        ensures left { result.1 ≡ value_left ((key_means G.goal G.trie R.rule).edit self.now found.now) }
     {
         (self.key(found), self.rule.leaves())
     }
@@ -78,11 +80,12 @@ impl<G: EditGoal, R: EditRule> KeyEdit<G, R> {
     /// What it does there, where it leaves this value.
     #[inline(always)]
     fn put(&self, found: &Found, value: u128) -> PutPair
-        ensures { result ≡ putting (asked_key (G.goal self.now.goal) found.now.key) value }
+        ensures { result ≡ putting (G.trie self.now.goal) (asked_key (G.goal self.now.goal) found.now.key) value }
     {
         PutPair {
             key: self.key(found),
             value,
+            trie: self.goal.in_trie(),
         }
     }
 
@@ -100,14 +103,24 @@ impl<G: EditGoal, R: EditRule> KeyEdit<G, R> {
 impl<G: EditGoal, R: EditRule> Edit for KeyEdit<G, R> {
     ghost use Rattle.tree.specs.Laws.KeyEdit.{key_laws};
 
-    ghost means = { key_means G.goal R.rule };
+    ghost means = { key_means G.goal G.trie R.rule };
 
     fn goal(&self) -> Goal {
         self.goal.goal()
     }
 
+    /// In a trie what puts in what was absent ends at a fork that its key does not share. Nothing is
+    /// taken out of one yet.
+    #[inline(always)]
     fn way(&self) -> Way {
-        Way::InTree
+        if !self.goal.in_trie() {
+            return Way::InTree;
+        }
+        match self.rule.leaves() {
+            Some(_) if self.rule.applies(None) => Way::Within,
+            Some(_) => Way::InTrie,
+            None => Way::InTree,
+        }
     }
 
     #[inline(always)]
@@ -152,5 +165,5 @@ impl<G: EditGoal, R: EditRule> Edit for KeyEdit<G, R> {
         }
     }
 
-    ghost laws = { key_laws G.goal R.rule };
+    ghost laws = { key_laws G.goal G.trie R.rule };
 }

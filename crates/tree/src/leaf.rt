@@ -2,6 +2,7 @@
 ghost use Rattle.std.specs.Prelude.{◌≡◌, Some};
 ghost use Rattle.edits.specs.Readings.{known_reads};
 ghost use Rattle.ordered_map.specs.TreeShape.{leaf_plan};
+ghost use Rattle.ordered_map.specs.EditPlans.{above_plan};
 ghost use Rattle.tree.specs.LeafEdit.{leaf_looks, leaf_reads};
 
 use arena::{MemberIndex, NodeNo, Plan};
@@ -18,16 +19,26 @@ pub(crate) fn plan(found: &Found) -> Plan
     Plan::new(2, removed, MemberIndex::First, found.trail.side)
 }
 
-/// The leaf's parent, and then the leaf, if that is still the child.
+/// It covers the parent of the fork that was found, and node 2, finalizes none, and changes the
+/// parent's field.
 #[inline(always)]
-pub(crate) fn look(found: &Found, snaps: &[Snap]) -> Look
-    ensures { result ≡ leaf_looks found.now snaps.now }
+pub(crate) fn plan_above(found: &Found) -> Plan
+    ensures { result.0 ≡ above_plan found.now.trail.side }
+{
+    let removed = [false, false, false, false];
+    Plan::new(2, removed, MemberIndex::First, found.trail.side)
+}
+
+/// The parent of what was found, and then this node, if that is still the child.
+#[inline(always)]
+pub(crate) fn look(found: &Found, next: NodeNo, snaps: &[Snap]) -> Look
+    ensures { result ≡ leaf_looks found.now next snaps.now }
 {
     match snaps {
         [] => Look::At(found.trail.parent),
         [parent] => {
             if parent.child(found.trail.side).0 == found.trail.node.0 {
-                Look::At(found.trail.node)
+                Look::At(next)
             } else {
                 Look::Differs {
                     node: parent.node,

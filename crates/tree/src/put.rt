@@ -1,11 +1,11 @@
 //! What puts a value at a key.
 ghost use Rattle.std.specs.Prelude.{◌≡◌};
-ghost use Rattle.tree.specs.Put.Means.{put_means, has_room, splits, pairs_with, second_pairs, split_pieces, fork_over};
+ghost use Rattle.tree.specs.Put.Means.{put_means, has_room, splits, strays, next_node, pairs_with, second_pairs, split_pieces, fork_over, above_pieces, low_parts, high_parts, parted_pieces};
 
 use crate::leaf;
 use arena::{NodeNo, Slot};
 use edits::{Edit, Known, Look, Nodes, Nth, Pairs, Piece, Reading, Work};
-use ordered_map::Pair;
+use ordered_map::{ForkPlace, Pair, fork_between};
 use prims::Snap;
 use template::{Found, Goal, Way};
 
@@ -14,6 +14,8 @@ use template::{Found, Goal, Way};
 pub(crate) struct PutPair {
     pub key: u64,
     pub value: u128,
+    /// Whether it is in a trie.
+    pub trie: bool,
 }
 
 impl PutPair {
@@ -35,6 +37,121 @@ impl PutPair {
         match found.value {
             Some(_) => false,
             None => !PutPair::has_room(found),
+        }
+    }
+
+    /// Whether a fork was found, which its key does not share.
+    #[inline(always)]
+    fn strays(&self, found: &Found) -> bool
+        ensures { result ≡ strays self.now.trie found.now }
+    {
+        match found.value {
+            Some(_) => false,
+            None => self.trie && !found.head.leaf,
+        }
+    }
+
+    /// What it covers besides the parent: the leaf, or node 2 where it puts a fork above a fork.
+    #[inline(always)]
+    fn next(&self, found: &Found) -> NodeNo
+        ensures { result ≡ next_node self.now.trie found.now }
+    {
+        if self.strays(found) {
+            NodeNo(2)
+        } else {
+            found.trail.node
+        }
+    }
+
+    /// One of two fresh nodes: a leaf with the pair alone, or the fork over it and the fork that was
+    /// found.
+    fn above(&self, found: &Found, nodes: &Nodes, nth: Nth) -> Piece
+        ensures { result ≡ above_pieces self.now.key self.now.value found.now nodes.now nth }
+    {
+        let (key, value) = (self.key, self.value);
+        let old = found.trail.node;
+        match nth {
+            Nth::First => Piece::Leaf {
+                level: 66,
+                class: 0,
+                pairs: Pairs::one(Pair { key, value }),
+            },
+            _ => {
+                let place = fork_between(key, found.key);
+                let below = key < found.key;
+                Piece::Fork {
+                    level: place.level,
+                    class: 0,
+                    key: place.key,
+                    left: if below { nodes.first } else { old },
+                    right: if below { old } else { nodes.first },
+                }
+            }
+        }
+    }
+
+    /// One of three fresh nodes that hold five pairs in a trie: those below the key of the fork
+    /// between the first and the last of them, the others, and that fork; or, where the map is
+    /// empty, the one pair, and a copy of the leaf above all keys.
+    fn part(found: &Found, pairs: Pairs, nodes: &Nodes, nth: Nth) -> Piece
+        ensures { result ≡ parted_pieces pairs found.now nodes.now nth }
+    {
+        if found.head.class == 0 {
+            PutPair::part_low(pairs, nodes, nth)
+        } else {
+            PutPair::part_high(found, pairs, nodes, nth)
+        }
+    }
+
+    /// Those of five pairs.
+    fn part_low(pairs: Pairs, nodes: &Nodes, nth: Nth) -> Piece
+        ensures { result ≡ low_parts pairs nodes.now nth }
+    {
+        let ForkPlace { key, level } = fork_between(pairs.at(Slot::First).key, pairs.last().key);
+        match nth {
+            Nth::First => Piece::Leaf {
+                level: 66,
+                class: 0,
+                pairs: pairs.keep_below(key),
+            },
+            Nth::Second => Piece::Leaf {
+                level: 66,
+                class: 0,
+                pairs: pairs.keep_from(key),
+            },
+            Nth::Third => Piece::Fork {
+                level,
+                class: 0,
+                key,
+                left: nodes.first,
+                right: nodes.second,
+            },
+        }
+    }
+
+    /// Those of the first pair of all.
+    fn part_high(found: &Found, pairs: Pairs, nodes: &Nodes, nth: Nth) -> Piece
+        ensures { result ≡ high_parts pairs found.now.head.class nodes.now nth }
+    {
+        let class = found.head.class;
+        match nth {
+            Nth::First => Piece::Leaf {
+                level: 66,
+                class: 0,
+                pairs,
+            },
+            Nth::Second => Piece::Leaf {
+                level: 2,
+                class,
+                pairs: Pairs::one(Pair { key: 0, value: 0 }),
+            },
+            Nth::Third => Piece::Fork {
+                level: 1,
+                class,
+                key: 0,
+                left: nodes.first,
+                right: nodes.second,
+            },
         }
     }
 
@@ -114,11 +231,15 @@ impl Edit for PutPair {
     }
 
     fn way(&self) -> Way {
-        Way::InTree
+        if self.trie { Way::Within } else { Way::InTree }
     }
 
     #[inline(always)]
     fn work(&self, found: &Found) -> Work {
+        if self.strays(found) {
+            let plan = leaf::plan_above(found);
+            return Work { need: 2, plan };
+        }
         let need = if PutPair::splits(found) { 3 } else { 1 };
         let plan = leaf::plan(found);
         Work { need, plan }
@@ -126,12 +247,12 @@ impl Edit for PutPair {
 
     #[inline(always)]
     fn look(&self, found: &Found, snaps: &[Snap]) -> Look {
-        leaf::look(found, snaps)
+        leaf::look(found, self.next(found), snaps)
     }
 
     #[inline(always)]
     fn reads(&self, found: &Found, snaps: &[Snap]) -> Option<(NodeNo, Known)> {
-        if found.head.class == 0 {
+        if !self.strays(found) && found.head.class == 0 {
             Some(leaf::reads(found))
         } else {
             None
@@ -147,9 +268,16 @@ impl Edit for PutPair {
         read: &Reading,
         nth: Nth,
     ) -> Piece {
+        if self.strays(found) {
+            return self.above(found, nodes, nth);
+        }
         let pairs = self.pairs(found, read);
         if PutPair::splits(found) {
-            PutPair::split(found, pairs, nodes, nth)
+            if self.trie {
+                PutPair::part(found, pairs, nodes, nth)
+            } else {
+                PutPair::split(found, pairs, nodes, nth)
+            }
         } else {
             Piece::Leaf {
                 level: found.head.level,

@@ -1,6 +1,6 @@
 //! Goals and rules of edits: as values, and as types, so that one that is known when the program is
 //! built costs nothing.
-ghost use Rattle.std.specs.Prelude.{◌≡◌};
+ghost use Rattle.std.specs.Prelude.{◌≡◌, Bool, true, false};
 ghost use Rattle.arena.specs.declared.word.Side.TheVariants.{Left, Right};
 ghost use Rattle.ordered_map.specs.OrderedMap.{applies, leaves};
 ghost use Rattle.ordered_map.specs.declared.rule.Goal.{Goal as GoalOf};
@@ -10,22 +10,59 @@ ghost use Rattle.ordered_map.specs.declared.rule.Rule.TheVariants as rules;
 
 use arena::Side;
 use ordered_map::{Goal, Rule};
+use template::Balance;
 
 /// Where an edit goes.
 pub trait EditGoal: Copy {
     /// As a value.
     ghost goal: { Self → GoalOf };
 
+    /// Whether that is in a trie.
+    ghost trie: { Self → Bool };
+
     /// As a value.
     fn goal(&self) -> Goal
         ensures { result ≡ goal self.now };
+
+    /// Whether that is in a trie.
+    fn in_trie(&self) -> bool
+        ensures { result ≡ trie self.now };
+}
+
+/// To the same in a tree or in a trie, as its balance says.
+#[derive(Clone, Copy, Debug, PartialEq, Eq)]
+pub struct GoalIn<G, B> {
+    pub goal: G,
+    pub balance: B,
+}
+
+impl<G: EditGoal, B: Balance> EditGoal for GoalIn<G, B> {
+    ghost goal = { λ g. G.goal g.goal };
+
+    ghost trie = { λ g. B.trie g.balance };
+
+    #[inline(always)]
+    fn goal(&self) -> Goal {
+        self.goal.goal()
+    }
+
+    #[inline(always)]
+    fn in_trie(&self) -> bool {
+        self.balance.in_trie()
+    }
 }
 
 impl EditGoal for Goal {
     ghost goal = { λ g. g };
 
+    ghost trie = { λ g. false };
+
     fn goal(&self) -> Goal {
         *self
+    }
+
+    fn in_trie(&self) -> bool {
+        false
     }
 }
 
@@ -35,6 +72,13 @@ pub struct AtKey(pub u64);
 
 impl EditGoal for AtKey {
     ghost goal = { λ g. goals.Key g.0 };
+
+    ghost trie = { λ g. false };
+
+    #[inline(always)]
+    fn in_trie(&self) -> bool {
+        false
+    }
 
     #[inline(always)]
     fn goal(&self) -> Goal {
@@ -49,6 +93,13 @@ pub struct AtLeast;
 impl EditGoal for AtLeast {
     ghost goal = { λ g. goals.End Left };
 
+    ghost trie = { λ g. false };
+
+    #[inline(always)]
+    fn in_trie(&self) -> bool {
+        false
+    }
+
     #[inline(always)]
     fn goal(&self) -> Goal {
         Goal::End(Side::Left)
@@ -61,6 +112,13 @@ pub struct AtGreatest;
 
 impl EditGoal for AtGreatest {
     ghost goal = { λ g. goals.End Right };
+
+    ghost trie = { λ g. false };
+
+    #[inline(always)]
+    fn in_trie(&self) -> bool {
+        false
+    }
 
     #[inline(always)]
     fn goal(&self) -> Goal {

@@ -139,7 +139,7 @@ impl Edit for TakePair {
     #[inline(always)]
     fn look(&self, found: &Found, snaps: &[Snap]) -> Look {
         if 0 < found.more {
-            leaf::look(found, snaps)
+            leaf::look(found, found.trail.node, snaps)
         } else {
             TakePair::look_to_join(found, snaps)
         }

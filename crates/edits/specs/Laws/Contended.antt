@@ -6,7 +6,7 @@ use Rattle.histories.proofs.Lemmas.{state_since}
 use Rattle.prims.specs.Laws.Blamed.{way_since}
 use Rattle.prims.specs.Laws.FoundThere.{there_later}
 use Rattle.prims.specs.Laws.Idle.{IsQuietSince}
-use Rattle.template.specs.Common.{child_of, Snap, IsMapRun, IsContended, WasNotFinal, HasTurned, WasPassed, Goal}
+use Rattle.template.specs.Common.{child_of, Snap, IsMapRun, IsContended, WasNotFinal, HasTurned, Goal}
 use Rattle.ordered_map.proofs.MapLemmas.{child_not_final, path_not_final, run_since, walked_stood}
 use Rattle.template.specs.Trails.{WasOn}
 use Rattle.template.specs.declared.walk.Found.{Found}

@@ -1,7 +1,7 @@
 -- The laws of walks: rows of others leave them waiting, their steps are lawful, and what they
 -- get is so, and leads them no deeper than the taken nodes allow.
 use Rattle.std.proofs.Common.{◌≡◌, ◌≢◌, ℕ, ◌+◌, ◌^◌, ◌<◌, ◌≤◌, length, ⊎_elim, inl, Option, Some, None, inr, refl, sym, ◌∙◌, ap, arith, subst}
-use Rattle.histories.specs.Common.{Layout, Tree as TreeMode, Row, Step, LoadSettled, LoadChild, Side, Settled, Child as ChildWord, SettledPart, Head as HeadWord, More as MoreWord, Key as KeyWord}
+use Rattle.histories.specs.Common.{Layout, Row, Step, LoadSettled, LoadChild, Side, Settled, Child as ChildWord, SettledPart, Head as HeadWord, More as MoreWord, Key as KeyWord}
 use Rattle.histories.specs.Common.{Value as ValueWord, High as HighWord, Slot, First, head_of, all_nodes, node, child, History, ◌⊳◌, value, IsRun, Call, row_of, IsTold, taken_nodes}
 use Rattle.arena.specs.declared.head.Head.{Head as HeadParts}
 use Rattle.arena.specs.Layout.{IsMap}
@@ -16,7 +16,7 @@ use Rattle.ordered_map.specs.Strays.{HasWalked}
 use Rattle.ordered_map.specs.TreeShape.{TreeAllows}
 use Rattle.ordered_map.specs.TreeWords.{level, toward}
 use Rattle.ordered_map.specs.TrieShape.{Stays}
-use Rattle.ordered_map.proofs.Lemmas.{walk_stays, was_passed, tree_inside, SameSettled, same_from, same_stays, held_same, settled_leaf, settled_toward, settled_class, settled_level}
+use Rattle.ordered_map.proofs.Lemmas.{walk_stays, tree_inside, SameSettled, same_from, same_stays, held_same, settled_leaf, settled_toward, settled_class, settled_level}
 use Rattle.ordered_map.proofs.MapLemmas.{levels_rise, run_since, stood_depth, stood_settled, strayed_more, walk_first, walked_next, walked_stood}
 use Rattle.template.specs.FoundLeaf.{path_key}
 use Rattle.template.specs.Trails.{WasPassed, HasTurned, OnTrail}

@@ -5,7 +5,7 @@ use Rattle.template.specs.Common.{nodes_in_try, applies, leaves, Goal, Key, End,
 use Rattle.template.specs.declared.walk.Found.{Found}
 use Rattle.tree.specs.KeyEdit.Means.{doing, key_at, key_means, leaving, part, putting, taking, wants}
 use Rattle.tree.specs.Put.Laws.{put_bounds}
-use Rattle.tree.specs.Put.Means.{has_room, put_means, put_need, splits_by}
+use Rattle.tree.specs.Put.Means.{put_means}
 use Rattle.tree.specs.Take.Laws.{take_bounds}
 use Rattle.tree.specs.Take.Means.{take_means}
 use Rattle.edits.specs.declared.edit.Nth.{Nth}
@@ -26,9 +26,9 @@ bounds_through m of b = record {
 }
 
 -- what leaves this to a key
-pub leaving_bounds : (left : Option ℕ) → EditBounds (leaving left)
-leaving_bounds (Some value) = bounds_through put_means (λ key. putting key value) put_bounds
-leaving_bounds None = bounds_through take_means taking take_bounds
+pub leaving_bounds : (trie : Bool) (left : Option ℕ) → EditBounds (leaving trie left)
+leaving_bounds in_trie (Some value) = bounds_through put_means (λ key. putting in_trie key value) put_bounds
+leaving_bounds in_trie None = bounds_through take_means taking take_bounds
 
 -- a try takes some node
 some_nodes : (b : Bool) → 0 < cond b 3 (let one : ℕ = 1 in one)
@@ -36,19 +36,19 @@ some_nodes true = omega arith
 some_nodes false = omega arith
 
 -- where there is a value one is enough
-pub one_needed : (left : Option ℕ) (key value : ℕ) (f : Found) → f.value ≡ Some value → ((doing left).work key f).need ≤ 1
-one_needed None key value f is = take_bounds.few_nodes (taking key) f
-one_needed (Some v) key value f is = subst (λ (o : Option ℕ). put_need (splits_by o (has_room f)) ≤ 1) (sym is) (omega arith)
+pub one_needed : (trie : Bool) (left : Option ℕ) (key value : ℕ) (f : Found) → f.value ≡ Some value → ((doing trie left).work key f).need ≤ 1
+one_needed in_trie None key value f is = take_bounds.few_nodes (taking key) f
+one_needed in_trie (Some v) key value f is = rw is (omega arith)
 
 -- and three always are
-pub three_needed : (left : Option ℕ) (key : ℕ) (f : Found) → ((doing left).work key f).need ≤ 3
-three_needed (Some v) key f = put_bounds.few_nodes (putting key v) f
-three_needed None key f = let few = take_bounds.few_nodes (taking key) f in omega (arith, few)
+pub three_needed : (trie : Bool) (left : Option ℕ) (key : ℕ) (f : Found) → ((doing trie left).work key f).need ≤ 3
+three_needed in_trie (Some v) key f = put_bounds.few_nodes (putting in_trie key v) f
+three_needed in_trie None key f = let few = take_bounds.few_nodes (taking key) f in omega (arith, few)
 
-few_nodes : (rule : Rule) (left : Option ℕ) (key : ℕ) (f : Found) (value : Option ℕ) → f.value ≡ value → (b : Bool) → (b ≡ true → value ≡ None → applies rule None ≡ true) → (cond b ((doing left).work key f) no_work).need ≤ nodes_in_try rule
-few_nodes rule left key f value is false absent = omega arith
-few_nodes rule left key f (Some v) is true absent = let few = one_needed left key v f is in let some = some_nodes (applies rule None) in omega (arith, few, some)
-few_nodes rule left key f None is true absent = subst (λ (b : Bool). ((doing left).work key f).need ≤ cond b 3 1) (sym (absent refl refl)) (three_needed left key f)
+few_nodes : (trie : Bool) (rule : Rule) (left : Option ℕ) (key : ℕ) (f : Found) (value : Option ℕ) → f.value ≡ value → (b : Bool) → (b ≡ true → value ≡ None → applies rule None ≡ true) → (cond b ((doing trie left).work key f) no_work).need ≤ nodes_in_try rule
+few_nodes in_trie rule left key f value is false absent = omega arith
+few_nodes in_trie rule left key f (Some v) is true absent = let few = one_needed in_trie left key v f is in let some = some_nodes (applies rule None) in omega (arith, few, some)
+few_nodes in_trie rule left key f None is true absent = subst (λ (b : Bool). ((doing in_trie left).work key f).need ≤ cond b 3 1) (sym (absent refl refl)) (three_needed in_trie left key f)
 
 -- and where there is none it puts in what was absent
 wants_absent : (goal : Goal) (rule : Rule) (value : Option ℕ) → wants goal rule value ≡ true → value ≡ None → applies rule None ≡ true
@@ -61,12 +61,12 @@ fewer_fills : (b : Bool) (work : Work) (pieces : Nth → Piece) (n : ℕ) → al
 fewer_fills true work pieces n few = few
 fewer_fills false work pieces n few = omega (arith, few)
 
-pub key_bounds : {G R : Type 0} (goal : G → Goal) (rule : R → Rule) → EditBounds (key_means goal rule)
-key_bounds goal rule = record {
-  few_looks = λ e f snaps n at. (leaving_bounds (leaves (rule e.rule))).few_looks (key_at goal rule e f) f snaps n at;
-  small = λ e. (leaving_bounds (leaves (rule e.rule))).small 0;
-  few_nodes = λ e f. few_nodes (rule e.rule) (leaves (rule e.rule)) (asked_key (goal e.goal) f.key) f f.value refl (wants (goal e.goal) (rule e.rule) f.value) (wants_absent (goal e.goal) (rule e.rule) f.value);
+pub key_bounds : {G R : Type 0} (goal : G → Goal) (trie : G → Bool) (rule : R → Rule) → EditBounds (key_means goal trie rule)
+key_bounds goal trie rule = record {
+  few_looks = λ e f snaps n at. (leaving_bounds (trie e.goal) (leaves (rule e.rule))).few_looks (key_at goal trie rule e f) f snaps n at;
+  small = λ e. (leaving_bounds (trie e.goal) (leaves (rule e.rule))).small 0;
+  few_nodes = λ e f. few_nodes (trie e.goal) (rule e.rule) (leaves (rule e.rule)) (asked_key (goal e.goal) f.key) f f.value refl (wants (goal e.goal) (rule e.rule) f.value) (wants_absent (goal e.goal) (rule e.rule) f.value);
   some_nodes = λ e. some_nodes (applies (rule e.rule) None);
-  few_reads = λ e f snaps x is. (leaving_bounds (leaves (rule e.rule))).few_reads (key_at goal rule e f) f snaps x is;
-  few_fills = λ e f snaps ns read. fewer_fills (wants (goal e.goal) (rule e.rule) f.value) ((part goal rule e).work (key_at goal rule e f) f) ((part goal rule e).pieces (key_at goal rule e f) f snaps ns read) ((part goal rule e).most_fills 0) ((leaving_bounds (leaves (rule e.rule))).few_fills (key_at goal rule e f) f snaps ns read);
+  few_reads = λ e f snaps x is. (leaving_bounds (trie e.goal) (leaves (rule e.rule))).few_reads (key_at goal trie rule e f) f snaps x is;
+  few_fills = λ e f snaps ns read. fewer_fills (wants (goal e.goal) (rule e.rule) f.value) ((part goal trie rule e).work (key_at goal trie rule e f) f) ((part goal trie rule e).pieces (key_at goal trie rule e f) f snaps ns read) ((part goal trie rule e).most_fills 0) ((leaving_bounds (trie e.goal) (leaves (rule e.rule))).few_fills (key_at goal trie rule e f) f snaps ns read);
 }

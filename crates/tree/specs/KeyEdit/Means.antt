@@ -1,9 +1,10 @@
 -- What an edit needs, looks at, reads and fills: at the leaf that was found it does what puts a
 -- value at a key, or what takes a key out, by what its rule leaves.
-use Rattle.std.specs.Prelude.{ℕ, Bool, false, if◌then◌else◌, Option, Some, None}
+use Rattle.std.specs.Prelude.{ℕ, Bool, true, false, if◌then◌else◌, Option, Some, None}
 use Rattle.template.specs.Common.{nodes_in_try, applies, edit_to, leaves, Goal, Key, End, Rule, asked_key}
 use Rattle.template.specs.declared.walk.Found.{Found}
-use Rattle.template.specs.declared.walk.Way.TheVariants.{InTree}
+use Rattle.template.specs.declared.walk.Way.{Way}
+use Rattle.template.specs.declared.walk.Way.TheVariants.{InTree, InTrie, Within}
 use Rattle.tree.specs.declared.take.TakePair.{TakePair}
 use Rattle.tree.specs.declared.put.PutPair.{PutPair}
 use Rattle.tree.specs.declared.key_edit.KeyEdit.{KeyEdit}
@@ -14,33 +15,35 @@ use Rattle.edits.specs.Pieces.{no_work}
 
 -- At a key
 
+-- `trie` says whether it is in a trie
+
 -- what puts this value at the key
-abbrev pub putting : ℕ → ℕ → PutPair
-putting key value = record { key = key; value = value }
+abbrev pub putting : Bool → ℕ → ℕ → PutPair
+putting trie key value = record { key = key; value = value; trie = trie }
 
 -- what takes the key out
 abbrev pub taking : ℕ → TakePair
 taking key = record { key = key }
 
 -- what leaves this value to a key does what puts it there; what leaves none, what takes the key out
-abbrev pub doing : Option ℕ → EditMeaning ℕ
-doing (Some value) = through put_means (λ key. putting key value)
-doing None = through take_means taking
+abbrev pub doing : Bool → Option ℕ → EditMeaning ℕ
+doing in_trie (Some value) = through put_means (λ key. putting in_trie key value)
+doing in_trie None = through take_means taking
 
 -- the edit that leaves this to a key
-abbrev pub leaving : Option ℕ → EditMeaning ℕ
-leaving left = record {
+abbrev pub leaving : Bool → Option ℕ → EditMeaning ℕ
+leaving trie left = record {
   goal = λ key. Key key;
-  way = λ key. InTree;
+  way = λ key. (doing trie left).way key;
   edit = λ key f. edit_to key left;
-  work = (doing left).work;
-  most_nodes = λ key. (doing left).most_nodes 0;
-  looks = (doing left).looks;
-  most_looks = λ key. (doing left).most_looks 0;
-  reads = (doing left).reads;
-  most_reads = λ key. (doing left).most_reads 0;
-  pieces = (doing left).pieces;
-  most_fills = λ key. (doing left).most_fills 0;
+  work = (doing trie left).work;
+  most_nodes = λ key. (doing trie left).most_nodes 0;
+  looks = (doing trie left).looks;
+  most_looks = λ key. (doing trie left).most_looks 0;
+  reads = (doing trie left).reads;
+  most_reads = λ key. (doing trie left).most_reads 0;
+  pieces = (doing trie left).pieces;
+  most_fills = λ key. (doing trie left).most_fills 0;
 }
 
 -- At a goal
@@ -52,21 +55,31 @@ wants (Key k) rule found = applies rule found
 wants (End side) rule (Some value) = applies rule (Some value)
 wants (End side) rule None = false
 
--- `goal` and `rule` are the edit's as values
-module _ {G R : Type 0} (goal : G → Goal) (rule : R → Rule) where
+-- where what leaves this walks in a trie, which takes nothing out yet: what puts in what was absent ends at a
+-- fork that its key does not share
+abbrev pub way_by : Bool → Option ℕ → Bool → Way
+way_by false left absent = InTree
+way_by true None absent = InTree
+way_by true (Some value) absent = if absent then Within else InTrie
+
+abbrev pub way_of : Bool → Rule → Way
+way_of in_trie rule = way_by in_trie (leaves rule) (applies rule None)
+
+-- `goal`, `trie` and `rule` are the edit's as values
+module _ {G R : Type 0} (goal : G → Goal) (trie : G → Bool) (rule : R → Rule) where
   -- the key at which it is, at the leaf that was found
   abbrev pub key_at : KeyEdit G R → Found → ℕ
   key_at e f = asked_key (goal e.goal) f.key
 
   -- what it does at that key
   abbrev pub part : KeyEdit G R → EditMeaning ℕ
-  part e = leaving (leaves (rule e.rule))
+  part e = leaving (trie e.goal) (leaves (rule e.rule))
 
   -- it does so where it changes anything
   abbrev pub key_means : EditMeaning (KeyEdit G R)
   key_means = record {
     goal = λ e. goal e.goal;
-    way = λ e. InTree;
+    way = λ e. way_of (trie e.goal) (rule e.rule);
     edit = λ e f. edit_to (key_at e f) (leaves (rule e.rule));
     work = λ e f. if wants (goal e.goal) (rule e.rule) f.value then (part e).work (key_at e f) f else no_work;
     most_nodes = λ e. nodes_in_try (rule e.rule);

@@ -28,8 +28,8 @@ few_join_looks f (g ∷ p ∷ l ∷ r ∷ snaps) n e = absurd (let d : Enough �
 few_looks : (f : Found) (snaps : List Snap) (n : NodeNo) → take_looks f snaps ≡ At n → length snaps < 4
 few_looks f snaps n e = go (has_more f) e
   where
-    go : (b : Bool) → (if b then leaf_looks f snaps else join_looks f snaps) ≡ At n → length snaps < 4
-    go true d = let l = few_leaf_looks f snaps n d in omega (arith, l)
+    go : (b : Bool) → (if b then leaf_looks f f.trail.node snaps else join_looks f snaps) ≡ At n → length snaps < 4
+    go true d = let l = few_leaf_looks f f.trail.node snaps n d in omega (arith, l)
     go false d = few_join_looks f snaps n d
 
 few_nodes : (o : Option ℕ) (plan : ℕ) → (work_by o plan).need ≤ 1

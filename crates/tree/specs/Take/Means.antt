@@ -35,7 +35,7 @@ abbrev pub has_more : Found → Bool
 has_more f = nat_lt 0 f.more
 
 abbrev pub take_looks : Found → List Snap → Look
-take_looks f snaps = if has_more f then leaf_looks f snaps else join_looks f snaps
+take_looks f snaps = if has_more f then leaf_looks f f.trail.node snaps else join_looks f snaps
 
 -- its plan word
 abbrev pub take_plan : Found → ℕ

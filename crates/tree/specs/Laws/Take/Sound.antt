@@ -6,7 +6,7 @@ use Rattle.std.proofs.lemmas.Nat.{mul-le}
 use native.Mathlib.Decide.{ℕ_discrete}
 use Rattle.arena.specs.declared.head.Head.{Head as HeadParts}
 use Rattle.histories.specs.Common.{Tree as TreeMode, NodeNo, ScxNo, Settled, Child, Head, Key, Side, Left, Right, Slot, First as FirstSlot, IsInField, head_of, History}
-use Rattle.histories.specs.Common.{value, Extends, Call, IsPlan, count, count_of, member, taken_nodes, node, child, first_key, first_value, Descriptor}
+use Rattle.histories.specs.Common.{value, Extends, Call, IsPlan, count_of, member, taken_nodes, node, child, first_key, first_value, Descriptor}
 use Rattle.arena.specs.Heads.{head_word}
 use Rattle.arena.specs.ScxRecords.{bit}
 use Rattle.arena.proofs.Lemmas.{taken_few}
@@ -23,13 +23,15 @@ use Rattle.template.specs.FreshNodes.{IsJoinAt, HasFreshCopy}
 use Rattle.template.specs.Promises.{IsSnapOf, HasFreshEdit}
 use Rattle.template.specs.declared.walk.Found.{Found}
 use Rattle.template.specs.declared.walk.Way.TheVariants.{InTree}
-use Rattle.template.proofs.Lemmas.{edit_promised, found_below, found_level, join_promised, said_low, opened_if_stood}
+use Rattle.template.specs.Trails.{IsSurelyOn}
+use Rattle.template.proofs.Lemmas.{child_on, edit_promised, found_below, found_level, join_promised, said_low, opened_if_stood, surely_on}
 use Rattle.tree.specs.LeafEdit.{leaf_looks, leaf_reads}
 use Rattle.tree.specs.declared.take.TakePair.{TakePair}
 use Rattle.tree.specs.Take.Laws.{take_bounds}
 use Rattle.tree.specs.Take.Means.{copied_pairs, copy_with, take_means, take_plan, take_work, work_by, take_reads, has_more, join_looks, sibling_of, sibling_copy}
 use Rattle.tree.specs.Laws.Take.Shown.{shown_stood, shown_rises, shown_apart}
-use Rattle.tree.specs.Laws.LeafLooks.{HasBoth, class_is, found_leaf, has_both, held_is, is_leaf_edit, leaf_begins, field_shown, leaf_covered, leaf_differs, leaf_opens, leaf_over, leaf_stood, many, no_trie, pairs_are, tree_surely, turned_not_final}
+use Rattle.tree.specs.Laws.LeafLooks.{HasBoth, IsCovering, class_is, covering_leaf, has_both, held_is, is_leaf_edit, leaf_begins, field_shown, leaf_covered, leaf_differs, leaf_opens, leaf_over, leaf_stood, many, no_trie, pairs_are}
+use Rattle.tree.specs.Laws.Put.Stands.{found_leaf}
 use Rattle.tree.specs.Laws.Looks.{same_node, goes_on, not_enough, is_other}
 use Rattle.tree.specs.Laws.PairLists.{delete_least, delete_most}
 use Rattle.edits.specs.declared.edit.Look.TheVariants.{At, Differs, Enough}
@@ -38,7 +40,7 @@ use Rattle.edits.specs.declared.edit.Nth.TheVariants.{First}
 use Rattle.edits.specs.declared.piece.Piece.TheVariants.{Leaf, Fork}
 use Rattle.edits.specs.declared.reading.Reading.{Reading}
 use Rattle.edits.specs.Known.{HasLookedBy, HasSnappedAfterWalk, HasLooked, HasFilledAll, HoldsPiece, MayRead, covered}
-use Rattle.edits.specs.Laws.Contended.{shown_not_final, turned_contended}
+use Rattle.edits.specs.Laws.Contended.{passed_not_final, shown_not_final, turned_contended}
 use Rattle.edits.specs.Laws.PieceFills.{HoldsWords, the_same}
 use Rattle.edits.specs.Pairs.{pair_at}
 use Rattle.edits.specs.Pieces.{is_filled, piece_head, top_of, update_for, word_of}
@@ -52,6 +54,14 @@ abbrev JoinSeen : Found → List Snap → Type 0
 JoinSeen f snaps = (i : ℕ) → i < length snaps → join_looks f (take i snaps) ≡ At (snap_at snaps i).node
 
 -- What it looks at
+
+-- in a tree a fork by which the call went down is surely on the path of its key
+tree_surely : (c : Call) (h : History) (k n : ℕ) (side : Side) (next : ℕ) → c.layout.mode ≡ TreeMode → HasTurned c h k n side next → IsSurelyOn c h k n
+tree_surely c h k n side next mode t = surely_on c h k n t.passed t.fork (inl mode)
+
+-- so it was not final, nor what was found there
+turned_not_final : (c : Call) (h : History) (k n : ℕ) (side : Side) (next : ℕ) → IsMapRun c.layout h → c.layout.mode ≡ TreeMode → HasTurned c h k n side next → WasNotFinal c h n × WasNotFinal c h next
+turned_not_final c h k n side next run mode t = (passed_not_final c h k n run (tree_surely c h k n side next mode t).on, passed_not_final c h k next run (child_on c h k n side next run t (inl mode)))
 
 -- where a delete has something to do, the key has a value
 pub key_there : (o : Option ℕ) (plan : ℕ) → 0 < (work_by o plan).need → (old : ℕ) × (o ≡ Some old)
@@ -299,7 +309,7 @@ join_covered ed c h f snaps k s run mode four found later since covers makes =
 -- In one of two ways
 
 -- where the leaf has more than the pair, it looks as an edit of that leaf does
-pub looked_leaf : (ed : TakePair) (c : Call) (h : History) (f : Found) (snaps : List Snap) → has_more f ≡ true → HasLooked take_means c h ed f snaps → HasLookedBy leaf_looks c h InTree (ToKey ed.key) f snaps
+pub looked_leaf : (ed : TakePair) (c : Call) (h : History) (f : Found) (snaps : List Snap) → has_more f ≡ true → HasLooked take_means c h ed f snaps → HasLookedBy (λ g. leaf_looks g f.trail.node) c h InTree (ToKey ed.key) f snaps
 looked_leaf ed c h f snaps t x = record { small = x.small; may = x.may; found = x.found; usable = x.usable; seen = λ i p. rw t at (x.seen i p) }
 
 -- and else to take it out
@@ -330,24 +340,27 @@ shown_grand Left snaps = refl
 shown_grand Right snaps = refl
 
 module _ (ed : TakePair) (c : Call) (h : History) (f : Found) (snaps : List Snap) (run : IsMapRun c.layout h) (d : 0 < (take_work f).need) (x : HasLooked take_means c h ed f snaps) where
-  take_opens : (n : NodeNo) → (b : Bool) → has_more f ≡ b → (if b then leaf_looks f snaps else join_looks f snaps) ≡ At n → IsOpened c.layout h n.0
-  take_opens n true t at = leaf_opens ed.key c h f snaps run (looked_leaf ed c h f snaps t x) n at
+  take_covering : IsCovering ed.key c h f f.trail.node
+  take_covering = covering_leaf ed.key c h f run x.found (tree_surely c h ed.key f.trail.parent.0 f.trail.side f.trail.node.0 x.may (x.found.trail.parent (found_below (ToKey ed.key) c h f run x.found)))
+
+  take_opens : (n : NodeNo) → (b : Bool) → has_more f ≡ b → (if b then leaf_looks f f.trail.node snaps else join_looks f snaps) ≡ At n → IsOpened c.layout h n.0
+  take_opens n true t at = leaf_opens ed.key c h f f.trail.node snaps run take_covering n at
   take_opens n false t at = opened_if_stood c.layout h n.0 run (looks_stood ed c h f run d snaps n (looked_join ed c h f snaps t x) at)
 
-  take_stood : (n : NodeNo) → (b : Bool) → has_more f ≡ b → (if b then leaf_looks f snaps else join_looks f snaps) ≡ At n → WasNotFinal c h n.0
-  take_stood n true t at = leaf_stood ed.key c h f snaps run (looked_leaf ed c h f snaps t x) n at
+  take_stood : (n : NodeNo) → (b : Bool) → has_more f ≡ b → (if b then leaf_looks f f.trail.node snaps else join_looks f snaps) ≡ At n → WasNotFinal c h n.0
+  take_stood n true t at = leaf_stood ed.key c h f f.trail.node snaps run take_covering n at
   take_stood n false t at = looks_not_final ed c h f run d snaps n (looked_join ed c h f snaps t x) at
 
-  take_differs : (n : NodeNo) (s : ScxNo) → IsQuietSince c.layout c.pass c.start h → (b : Bool) → has_more f ≡ b → (if b then leaf_looks f snaps else join_looks f snaps) ≡ Differs n s → IsContended c h n.0 s.0
-  take_differs n s quiet true t at = leaf_differs ed.key c h f snaps n s run (looked_leaf ed c h f snaps t x) at quiet
+  take_differs : (n : NodeNo) (s : ScxNo) → IsQuietSince c.layout c.pass c.start h → (b : Bool) → has_more f ≡ b → (if b then leaf_looks f f.trail.node snaps else join_looks f snaps) ≡ Differs n s → IsContended c h n.0 s.0
+  take_differs n s quiet true t at = leaf_differs ed.key c h InTree f f.trail.node snaps n s run (looked_leaf ed c h f snaps t x) at quiet
   take_differs n s quiet false t at = looks_differ ed c h f run d snaps n s (looked_join ed c h f snaps t x) at quiet
 
-  take_reads_well : (b : Bool) → has_more f ≡ b → (if b then leaf_looks f snaps else join_looks f snaps) ≡ Enough → let y : NodeNo × Reading = (if b then leaf_reads f else ((sibling_of f snaps).node, nothing_read)) in MayRead c.layout h y.0.0 y.1
-  take_reads_well true t enough = leaf_begins ed.key c h f snaps run (looked_leaf ed c h f snaps t x) (low_there ed.key c h f d x.found)
+  take_reads_well : (b : Bool) → has_more f ≡ b → (if b then leaf_looks f f.trail.node snaps else join_looks f snaps) ≡ Enough → let y : NodeNo × Reading = (if b then leaf_reads f else ((sibling_of f snaps).node, nothing_read)) in MayRead c.layout h y.0.0 y.1
+  take_reads_well true t enough = leaf_begins ed.key c h f run x.found (low_there ed.key c h f d x.found)
   take_reads_well false t enough = sibling_begins ed c h f snaps run d (looked_join ed c h f snaps t x) enough
 
-  take_over : (ns : Nodes) (b : Bool) → has_more f ≡ b → (if b then leaf_looks f snaps else join_looks f snaps) ≡ Enough → IsUpdateOver (update_for (take_work f) snaps ns)
-  take_over ns true t enough = leaf_over ed.key c h f snaps ns (take_work f) run (looked_leaf ed c h f snaps t x) enough (plan_is f d true t)
+  take_over : (ns : Nodes) (b : Bool) → has_more f ≡ b → (if b then leaf_looks f f.trail.node snaps else join_looks f snaps) ≡ Enough → IsUpdateOver (update_for (take_work f) snaps ns)
+  take_over ns true t enough = leaf_over ed.key c h f f.trail.node snaps ns (take_work f) take_covering (has_both f f.trail.node snaps enough (looked_leaf ed c h f snaps t x).seen) (plan_is f d true t)
   take_over ns false t enough = record {
     planned = subst IsPlan (sym plan) (join_planned f.trail.grand_side);
     count = ap count_of plan ∙ four_planned f.trail.grand_side ∙ sym four.four;
@@ -364,8 +377,8 @@ module _ (ed : TakePair) (c : Call) (h : History) (f : Found) (snaps : List Snap
       plan : (take_work f).plan.0 ≡ join_plan f.trail.grand_side
       plan = plan_is f d false t
 
-  take_covered : (k : History) (s : ℕ) → IsMapRun c.layout k → Extends k h → CoversSnaps k s snaps → Makes c.layout k s (TakeEdit ed.key) → (b : Bool) → has_more f ≡ b → (if b then leaf_looks f snaps else join_looks f snaps) ≡ Enough → edit_leaf k s (TakeEdit ed.key) ≡ covered f
-  take_covered k s later since covers makes true t enough = leaf_covered (TakeEdit ed.key) f snaps k s (found_leaf ed.key c h f x.found) (has_both f snaps enough (looked_leaf ed c h f snaps t x).seen) covers
+  take_covered : (k : History) (s : ℕ) → IsMapRun c.layout k → Extends k h → CoversSnaps k s snaps → Makes c.layout k s (TakeEdit ed.key) → (b : Bool) → has_more f ≡ b → (if b then leaf_looks f f.trail.node snaps else join_looks f snaps) ≡ Enough → edit_leaf k s (TakeEdit ed.key) ≡ covered f
+  take_covered k s later since covers makes true t enough = leaf_covered (TakeEdit ed.key) f f.trail.node snaps k s (has_both f f.trail.node snaps enough (looked_leaf ed c h f snaps t x).seen) covers ∙ sym (rw (found_leaf ed.key c h f x.found) refl)
   take_covered k s later since covers makes false t enough = join_covered ed c h f snaps k s run x.may (has_four ed f snaps enough (looked_join ed c h f snaps t x).seen) x.found later since covers makes
 
 -- an LLX may look at its nodes, which were not final, what it reads may be read, and where a fork
@@ -396,7 +409,7 @@ join_fields ed c h f snaps read side run x enough p =
     let l : IsLinked c.layout h s = linked_at ed c h f snaps (sibling_place f.trail.side) run (few_places f.trail.side) (has_four ed f snaps enough x.seen) x in
     subst (IsInField c.layout h) (copy_fields s (unwrap_or read.head (head_of 0)) read side p) (inr (s.node.0, side, in_field_named s.node.0 l.in_field, l.had side))
 
-take_fields : (ed : TakePair) (c : Call) (h : History) (f : Found) (snaps : List Snap) (read : Reading) (side : Side) → IsMapRun c.layout h → HasLooked take_means c h ed f snaps → (b : Bool) → has_more f ≡ b → (if b then leaf_looks f snaps else join_looks f snaps) ≡ Enough
+take_fields : (ed : TakePair) (c : Call) (h : History) (f : Found) (snaps : List Snap) (read : Reading) (side : Side) → IsMapRun c.layout h → HasLooked take_means c h ed f snaps → (b : Bool) → has_more f ≡ b → (if b then leaf_looks f f.trail.node snaps else join_looks f snaps) ≡ Enough
     → is_filled (if b then Leaf f.head.level 0 (delete ed.key read.pairs) else sibling_copy (sibling_of f snaps) read) (Child side) ≡ true → IsInField c.layout h (word_of (if b then Leaf f.head.level 0 (delete ed.key read.pairs) else sibling_copy (sibling_of f snaps) read) (Child side))
 take_fields ed c h f snaps read side run x true t enough p = absurd (let z : false ≡ true = p in cc)
 take_fields ed c h f snaps read side run x false t enough p = join_fields ed c h f snaps read side run (looked_join ed c h f snaps t x) enough p
@@ -438,7 +451,7 @@ module _ (ed : TakePair) (c : Call) (h : History) (f : Found) (snaps : List Snap
 
   -- the pair goes out of its leaf
   module _ (t : has_more f ≡ true) where
-    looked : HasLookedBy leaf_looks c h InTree (ToKey ed.key) f snaps
+    looked : HasLookedBy (λ g. leaf_looks g f.trail.node) c h InTree (ToKey ed.key) f snaps
     looked = looked_leaf ed c h f snaps t x.looked
 
     abbrev old_leaf : ℕ
@@ -447,19 +460,19 @@ module _ (ed : TakePair) (c : Call) (h : History) (f : Found) (snaps : List Snap
     abbrev old_pairs : List Pair
     old_pairs = held_pairs (value h) old_leaf
 
-    both : HasBoth f snaps
-    both = has_both f snaps (rw t at x.enough) looked.seen
+    both : HasBoth f f.trail.node snaps
+    both = has_both f f.trail.node snaps (rw t at x.enough) looked.seen
 
     read_is : read.pairs ≡ old_pairs
-    read_is = pairs_are ed.key c h f snaps run looked low read (rw t at x.right) x.whole
+    read_is = pairs_are ed.key c h f run x.looked.found low read (rw t at x.right) x.whole
 
     held : IsWellCounted (value h) old_leaf × AllBelow (2 ^ 64) old_pairs × IsRising old_pairs
-    held = held_is ed.key c h f snaps run looked low
+    held = held_is ed.key c h f run x.looked.found low
 
     -- as many are left as a leaf may hold
     least : 0 < length (delete ed.key old_pairs)
     least =
-        let m : length old_pairs ≡ 1 + f.more = many ed.key c h f snaps run looked low in
+        let m : length old_pairs ≡ 1 + f.more = many ed.key c h f run x.looked.found low in
         let some : 0 < f.more = ltb-true 0 f.more t in
         let l = delete_least ed.key old_pairs in
         omega (arith, m, some, l)
@@ -486,7 +499,7 @@ module _ (ed : TakePair) (c : Call) (h : History) (f : Found) (snaps : List Snap
       fresh = p.fresh;
       edit = inl record {
         leaf = x.looked.found.leaf;
-        class = class_is ed.key c h f snaps run looked low;
+        class = class_is ed.key c h f run x.looked.found low;
         new = record { leaf = now.leaf; class = now.class; counted = now.counted };
         pairs = now.pairs ∙ pairs_left;
         deep = now.level ∙ sym (ap (λ w. w.level) x.looked.found.head);
