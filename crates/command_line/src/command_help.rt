@@ -73,7 +73,7 @@ const HELPS: [CommandHelp; 8] = [
     },
     CommandHelp {
         name: "outcomes",
-        about: "List what a script on the tree can answer in schedules with few interruptions",
+        about: "List what a script of a map can answer in schedules with few interruptions",
         first: "SCRIPT",
         second: None,
         example: "Example: rnb outcomes outcomes/two_pops/script.csv --interruptions 1 --most 1000",
@@ -119,7 +119,7 @@ fn with_options<'a>(alloc: Global, name: &str, command: Command<'a>) -> Result<C
             let to = turn(alloc, "to", "The last turn that is drawn");
             command.arg(from)?.arg(to)?
         }
-        "outcomes" => with_limits(alloc, command)?.arg(progress(alloc))?,
+        "outcomes" => with_limits(alloc, command.arg(map(alloc))?)?.arg(progress(alloc))?,
         _ => command,
     })
 }
@@ -136,6 +136,12 @@ fn with_limits<'a>(alloc: Global, command: Command<'a>) -> Result<Command<'a>, E
         .value_name("M")
         .help("How many schedules are played at most [default: 1000000]");
     Ok(command.arg(interruptions)?.arg(most)?)
+}
+
+fn map<'a>(alloc: Global) -> Arg<'a> {
+    option(alloc, "map")
+        .value_parser(["tree", "trie"].as_slice())
+        .help("What the map is kept in [default: tree]")
 }
 
 fn gate<'a>(alloc: Global) -> Arg<'a> {

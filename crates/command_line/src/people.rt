@@ -161,9 +161,9 @@ fn list_outcomes<R: Files + Input + Clock + AllocGlobal, O: Write, E: Write>(
     out: &mut O,
     err: &mut E,
 ) -> Result<(), Complaint> {
-    let alloc = rt.alloc();
+    let (alloc, mode) = (rt.alloc(), map_of(given));
     let script = Source::of(rt, given, "SCRIPT")?;
-    script_of(alloc, Mode::Tree, &script)?;
+    script_of(alloc, mode, &script)?;
     let interruptions = given.get_one::<u32>("interruptions").unwrap_or(2);
     let most = given.get_one::<u64>("most").unwrap_or(1_000_000);
     let (mut script, mut out) = (script.bytes.as_slice(), Metered::new(out));
@@ -171,6 +171,7 @@ fn list_outcomes<R: Files + Input + Clock + AllocGlobal, O: Write, E: Write>(
     let mut watch = Progress::new(rt, err, asked, "schedules at most", Some(most));
     let left = explore_to(
         alloc,
+        mode,
         &mut script,
         interruptions,
         most,
@@ -179,6 +180,14 @@ fn list_outcomes<R: Files + Input + Clock + AllocGlobal, O: Write, E: Write>(
     )?;
     let _ = err.write_all(left.as_bytes());
     Ok(())
+}
+
+/// The mode of the map that is asked for.
+fn map_of(given: &ArgMatches<'_>) -> Mode {
+    match given.get_str("map") {
+        Some("trie") => Mode::Trie,
+        _ => Mode::Tree,
+    }
 }
 
 /// Audits a report, draws it, or makes a page of it.
