@@ -375,13 +375,7 @@ fn is_of_class(judge: &Judge, one: u64, other: u64) -> bool
 /// Whether an SCX-record makes this edit, for a call with this goal: it edits a leaf, or takes one
 /// out, or does what is done in a trie alone. There what takes the pair at an end out covers node 2
 /// besides.
-fn is_edit(
-    judge: &Judge,
-    scx: u64,
-    goal: Goal,
-    begun: &BegunEdit,
-    found: FoundLeaves,
-) -> bool
+fn is_edit(judge: &Judge, scx: u64, goal: Goal, begun: &BegunEdit, found: FoundLeaves) -> bool
     requires { begun.now.key < 2 ^ 64 }
     ensures edit { IsTrue result → IsEdit judge.now.layout (seen_history judge.now) scx
         (edit_begun begun.now) }

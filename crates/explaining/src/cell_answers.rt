@@ -137,7 +137,8 @@ fn check_disturbed(
 /// So much is left of the share. That the call knows is asked last, so it is what is broken.
 fn check_full(before: &LinesBefore<'_>, pass: PassNo, full: &Full) -> Result<(), Objection> {
     check_left(before, pass, full)?;
-    let text = "the call cannot know that its share has too little: it has not looked at its cell, or keeps no \
+    let text =
+        "the call cannot know that its share has too little: it has not looked at its cell, or keeps no \
                  snapshot of one";
     Err(object_to_answer(before, text))
 }

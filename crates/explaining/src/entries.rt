@@ -29,14 +29,23 @@ pub(crate) fn check_entry(before: &LinesBefore<'_>, entry: &Entry) -> Result<(),
 
 /// Each field is that of the update.
 fn check_fields(before: &LinesBefore<'_>, entry: &Entry, owed: &Entry) -> Result<(), Objection> {
-    let (scx, owed_scx) = (entry.scx.0, owed.scx.0);
-    let (client, owner) = (u64::from(entry.client.0), u64::from(owed.client.0));
+    let (place, step) = ("the next place in the log", "the turn of the update");
+    check_same(before, PLACE, entry.place, owed.place, place)?;
+    check_same(before, STEP, entry.step, owed.step, step)?;
+    check_named(before, entry, owed)?;
     let call = "the word call of the SCX-record";
-    check_same(before, PLACE, entry.place, owed.place, "the next place in the log")?;
-    check_same(before, STEP, entry.step, owed.step, "the turn of the update")?;
-    check_same(before, SCX, scx, owed_scx, "the SCX-record that the node's info names")?;
-    check_same(before, CLIENT, client, owner, "the owner of the SCX-record")?;
     check_same(before, CALL, entry.call, owed.call, call)
+}
+
+/// The SCX-record and its owner.
+fn check_named(before: &LinesBefore<'_>, entry: &Entry, owed: &Entry) -> Result<(), Objection> {
+    let (scx, owner) = (
+        "the SCX-record that the node's info names",
+        "the owner of the SCX-record",
+    );
+    let (client, wanted) = (u64::from(entry.client.0), u64::from(owed.client.0));
+    check_same(before, SCX, entry.scx.0, owed.scx.0, scx)?;
+    check_same(before, CLIENT, client, wanted, owner)
 }
 
 fn check_same(
@@ -76,7 +85,10 @@ fn check_owner(before: &LinesBefore<'_>, entry: &Entry) -> Result<(), Objection>
 
 fn check_first(before: &LinesBefore<'_>, entry: &Entry) -> Result<(), Objection> {
     let (alloc, call) = (before.alloc, call_words(before, entry.client)?);
-    let own = before.entries.iter().filter(|past| past.client == entry.client);
+    let own = before
+        .entries
+        .iter()
+        .filter(|past| past.client == entry.client);
     let is_first = own.last().is_none_or(|past| past.call != entry.call);
     demand(
         is_first,

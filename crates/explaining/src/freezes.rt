@@ -42,12 +42,7 @@ fn check_won(before: &LinesBefore<'_>, row: &Row, node: NodeNo) -> Result<(), Ob
 }
 
 /// It has found what the node's info was.
-fn check_wins(
-    before: &LinesBefore<'_>,
-    row: &Row,
-    scx: u64,
-    place: u8,
-) -> Result<(), Objection> {
+fn check_wins(before: &LinesBefore<'_>, row: &Row, scx: u64, place: u8) -> Result<(), Objection> {
     let (alloc, seen) = (before.alloc, before.scx_word(scx, ScxWord::Seen(place)));
     demand(
         row.before == seen,

@@ -64,7 +64,10 @@ fn check_in_tree(edit: &BegunEdit<'_>) -> Result<(), Objection> {
 /// In a trie it does so too, or puts a fork above a fork; at an end of the map it covers node 2
 /// besides.
 fn check_in_trie(edit: &BegunEdit<'_>) -> Result<(), Objection> {
-    let (many, old) = (edit.before.plan(edit.scx).count(), edit.before.scx_word(edit.scx, ScxWord::Old));
+    let (many, old) = (
+        edit.before.plan(edit.scx).count(),
+        edit.before.scx_word(edit.scx, ScxWord::Old),
+    );
     match (edit.goal, many) {
         (Goal::End(_), 3) => check_end_leaf_edit(edit),
         (Goal::End(_), 4) => check_end_leaf_out(edit),

@@ -84,10 +84,7 @@ fn check_begin(before: &LinesBefore<'_>, reply: &Finished) -> Result<(), Objecti
     let Some(begun) = before.client(client).begun else {
         return Err(object(
             CLIENT,
-            format!(in alloc;
-                "client {} has made no turn since its last reply",
-                client.0
-            ),
+            format!(in alloc; "client {} has made no turn since its last reply", client.0),
         ));
     };
     demand(

@@ -42,14 +42,16 @@ pub(crate) fn end_leaf_out(edit: &BegunEdit<'_>, side: Side) -> u64 {
         return edit.child(edit.member(1), side);
     }
     let owner = edit.before.judge.layout().owner(ScxNo(edit.scx));
-    let mut found = edit.before.rows.iter().rev().filter_map(|row| match row.word {
-        Word::Node(node, NodeWord::Settled(SettledPart::More))
-            if row.kind == Kind::LoadSettled && Some(row.pass) == owner =>
-        {
-            Some(node.0)
-        }
-        _ => None,
-    });
+    let mut found = edit
+        .before
+        .rows
+        .iter()
+        .rev()
+        .filter_map(|row| match row.word {
+            Word::Node(node, NodeWord::Settled(SettledPart::More))
+                if row.kind == Kind::LoadSettled && Some(row.pass) == owner => { Some(node.0) }
+            _ => None,
+        });
     let newest = found.next().unwrap_or(0);
     match found.next() {
         Some(leaf) if may_take_out(edit, leaf) => leaf,

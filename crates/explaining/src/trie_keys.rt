@@ -22,7 +22,7 @@ fn span_of(edit: &BegunEdit<'_>, fork: u64) -> Span {
         Span {
             low: key.saturating_sub(room),
             middle: key,
-            high: key + room,
+            high: key.saturating_add(room),
         }
     } else {
         Span {
@@ -34,9 +34,7 @@ fn span_of(edit: &BegunEdit<'_>, fork: u64) -> Span {
 }
 
 /// How many keys each side of a fork of class 0 on this level has room for.
-fn room_at(level: u64) -> u128
-    ensures { result < 2 ^ 66 }
-{
+fn room_at(level: u64) -> u128 {
     1 << (65u64.saturating_sub(level) as u32)
 }
 
@@ -72,7 +70,11 @@ pub(crate) fn check_keys(edit: &BegunEdit<'_>) -> Result<(), Objection> {
 
 /// A node is deeper than the fork above it.
 fn check_deeper(edit: &BegunEdit<'_>, fork: u64, node: u64) -> Result<(), Objection> {
-    let (alloc, above, level) = (edit.before.alloc, edit.head(fork).level, edit.head(node).level);
+    let (alloc, above, level) = (
+        edit.before.alloc,
+        edit.head(fork).level,
+        edit.head(node).level,
+    );
     edit.demand(
         above < level,
         format!(in alloc; "n{node} of level {level} comes below n{fork} of level {above}"),
@@ -143,7 +145,7 @@ fn check_parted(edit: &BegunEdit<'_>, fork: u64) -> Result<(), Objection> {
         format!(in alloc; "n{fork} has level {level}, and forks of class 0 have 2 to 65"),
     )?;
     edit.demand(
-        class > 0 || u128::from(key) % (2 * room) == room,
+        class > 0 || u128::from(key).checked_rem(room.saturating_mul(2)) == Some(room),
         format!(in alloc;
             "n{fork} has level {level}, so the lowest bit of its key is {room}, and {key} has another"
         ),
