@@ -1,9 +1,10 @@
 -- What calls need to begin.
 use Rattle.std.proofs.Common.{Vec, ◌≡◌, ◌≢◌, ℕ, suc, ◌+◌, ◌<◌, ◌≤◌, inl, List, Option, Some, None, refl, sym, ◌∙◌, ap, subst, arith, length, zero, [], ◌∷◌, ◌⊎◌, ⊎_elim, slice_index_or, slice_get, get_or, unwrap_or, nat_lt, map, AllPairs, Contains, MatchOption, Bool, true, false, All}
 use Rattle.record.specs.Common.{cells_of, update_cells, update_finalize, update_field, update_value, AreLinked, Command, Llx as LlxCommand, Vlx as VlxCommand}
-use Rattle.player.specs.Modes.{mode_of}
-use Rattle.record.specs.Common.{Scx as ScxCommand, Set as SetCommand, Map, Range as RangeCommand, command_steps, MapCall, map_request, Request, Call, Pairs}
-use Rattle.histories.specs.Common.{Mode, Records, Tree, History, value, Extends, NodeNo, Side, Remaining, IsOwnScx, IsTakenScx, Call as MachineCall}
+use Rattle.arena.specs.Opening.{IsMap}
+use Rattle.template.specs.Balance.{map_mode, nodes_by}
+use Rattle.record.specs.Common.{Scx as ScxCommand, Set as SetCommand, Map, Range as RangeCommand, command_steps, nodes_counted, IsOfMode, MapCall, map_request, Request, Call, Pairs}
+use Rattle.histories.specs.Common.{Mode, Records, History, value, Extends, NodeNo, Side, Remaining, IsOwnScx, IsTakenScx, Call as MachineCall}
 use Rattle.arena.proofs.Lemmas.{ends_self}
 use Rattle.template.specs.Common.{AllowsAll, AreDistinct, IsAmong, Snap, llx_left, vlx_left, snap_at, LlxRun, VlxRun, AreFinished, most_steps as most_map_steps, nodes_of}
 use Rattle.prims.proofs.Lemmas.{ready_at_start, cell_opened, all_over, all_idle, vlx_ready_first, among}
@@ -26,7 +27,7 @@ use Rattle.record.specs.declared.record.Answer.TheVariants.{Unlinked, Map as Map
 use Rattle.edits.specs.Known.{RestsWith}
 use Rattle.edits.specs.Laws.Entered.{none_yet}
 use Rattle.dict.specs.Laws.Begins.{dict_begins}
-use Rattle.dict.specs.Calls.{AsksForPairs, IsFewCall, call_in, share_of}
+use Rattle.dict.specs.Calls.{AsksForPairs, call_in, IsFewCall, share_of, trie_in}
 use Rattle.dict.specs.Known.{IsUnbegun as IsFresh}
 use Rattle.dict.specs.Steps.{map_left}
 use Rattle.dict.specs.Typed.{IsTypedCall}
@@ -36,7 +37,7 @@ use Rattle.dict.specs.Words.{IsNumber, IsWideNumber}
 use Rattle.player.specs.RunKnown.{IsForNothing, RunAsksFirst}
 use Rattle.player.proofs.Shapes.{as_numbers}
 use Rattle.player.specs.RunSteps.{then_left}
-use Rattle.player.specs.ClientView.{ClientView, no_hand, held, IsSound, Rests, Refuses, Starts, IsLlxOf, IsMachineOf, IsNextCallUnbegun, command_of, machine_call, GoesOn, IsSameCall, CanPut, Puts, BeginsOrRefuses, IsNextAction}
+use Rattle.player.specs.ClientView.{ClientView, no_hand, held, IsSound, Rests, Refuses, Starts, IsLlxOf, IsMachineOf, IsNextCallUnbegun, command_of, machine_call, GoesOn, IsSameCall, CanPut, Puts, BeginsOrRefuses, IsNextAction, call_steps}
 use Rattle.player.specs.declared.client.NextAction.{NextAction}
 use Rattle.player.specs.declared.client.NextAction.TheVariants.{Finished, Answers, Asks}
 use Rattle.std.proofs.lemmas.Option.{slice_get_read, slice_get_within, get_or_from_slice_get}
@@ -62,7 +63,7 @@ llx_starts v began c m then command sound mode r u start i is f = record {
   works = record { mode = mode; stands = r.stands; holds = r.holds; newest = tt; command = command; is = is; run_of = (i, f); limit = tt; is_pass = r.stands.is_pass; start = v.past; since = ends_self v.past; begun = sym u.start; moments = λ j p. absurd (omega arith); alone = λ j p. absurd (omega arith); room = tt; took = taken_none v c.pass.0 (no_hand (held c)) u.start; won = u.won; late = λ turn e. none_late v.won turn c.begin u.won e };
   none = r.none;
   ready = ready_at_start AllowsAll m (machine_call v c r.stands.is_pass v.past) v.past refl start (cell_opened v.layout v.past m.node.0 mode i) (all_idle v.layout v.past c.pass.0 (held c) _ _ sound.lawful r.holds.share r.holds.over);
-  few = λ taken i. let few = llx_few v.tries command m.node.0 then f taken in rw (u.steps, start) (omega arith);
+  few = λ taken i. let few = llx_few v.tries command m.node.0 then f (nodes_counted v.layout.mode taken) in rw (u.steps, start) (omega arith);
 }
 
 -- a VLX of unspent snapshots
@@ -87,9 +88,10 @@ map_refuses v began c (RangeCommand low high most) found r u is nothing none = r
 }
 map_refuses v began c request found r u is nothing none = absurd nothing
 
--- it makes no more steps than its command may
-map_few : (request : Request ℕ ℕ) (tries taken : ℕ) → most_map_steps (map_request request) tries taken ≡ command_steps (Map request) tries taken
-map_few request tries taken = refl
+-- the taken nodes count as records say
+counted : (mode : Mode) (trie : Bool) (taken : ℕ) → mode ≡ map_mode trie → nodes_by trie taken ≡ nodes_counted mode taken
+counted mode false taken e = ap (λ (m : Mode). nodes_counted m taken) (sym e)
+counted mode true taken e = ap (λ (m : Mode). nodes_counted m taken) (sym e)
 
 -- a client at rest rests with its share
 rests_with : (v : ClientView) (c : Client) (r : Rests v c) → RestsWith (machine_call v c r.stands.is_pass v.past) v.past (held c)
@@ -107,15 +109,16 @@ pub record IsMadeOf (v : ClientView) (c : Client) (request : Request ℕ ℕ) (m
   pub typed : IsTypedCall IsNumber IsWideNumber (call_in m.run)
   pub share : Some (share_of m.run) ≡ c.share
   pub tries : m.tries ≡ v.tries
+  pub trie : trie_in m.run ≡ c.trie
   pub fresh : IsFresh m.run v.tries c.number
-  pub steps : (nodes : ℕ) → map_left m.run nodes ≤ most_map_steps (call_in m.run) v.tries nodes
+  pub steps : (nodes : ℕ) → map_left m.run nodes ≤ most_map_steps (call_in m.run) v.tries (nodes_by (trie_in m.run) nodes)
 
 -- a call of the map from its start, to which the client gives its share
-pub map_starts : (v : ClientView) (began : Option ℕ) (c : Client) (m : DictRun ℕ ℕ) (request : Request ℕ ℕ) → IsSound v → v.layout.mode ≡ Tree → Rests v c → IsNextCallUnbegun v began → AsksForFew request → AsksForPairs (map_request request) → IsMadeOf v c request m → command_of v c ≡ Some (Map request) → Starts v (record c { share = None }) (MapRun m) None
-map_starts v began c m request sound mode r u few asks made is = record {
+pub map_starts : (v : ClientView) (began : Option ℕ) (c : Client) (m : DictRun ℕ ℕ) (request : Request ℕ ℕ) → IsSound v → IsMap v.layout.mode → Rests v c → IsNextCallUnbegun v began → AsksForFew request → AsksForPairs (map_request request) → IsMadeOf v c request m → command_of v c ≡ Some (Map request) → Starts v (record c { share = None }) (MapRun m) None
+map_starts v began c m request sound map r u few asks made is = record {
   works = record {
     mode = mode;
-    stands = record { is_pass = r.stands.is_pass; tries = r.stands.tries; number = r.stands.number; place = r.stands.place; kept = r.stands.kept; unkept = r.stands.unkept; dropped = r.stands.dropped; free = r.stands.free };
+    stands = record { is_pass = r.stands.is_pass; tries = r.stands.tries; number = r.stands.number; place = r.stands.place; kept = r.stands.kept; unkept = r.stands.unkept; dropped = r.stands.dropped; free = r.stands.free; trie = r.stands.trie };
     holds = tt;
     newest = tt;
     command = Map request;
@@ -134,10 +137,13 @@ map_starts v began c m request sound mode r u few asks made is = record {
     late = λ turn e. none_late v.won turn c.begin u.won e;
   };
   none = r.none;
-  ready = let call : MachineCall = machine_call v c r.stands.is_pass v.past in dict_begins IsNumber IsWideNumber m call mode (as_numbers v.layout v.past mode sound) made.typed (subst (λ (n : ℕ). IsFresh m.run n c.number) (sym made.tries) made.fresh) (subst IsFewCall (sym made.called) (few_pairs request few)) (subst (RestsWith call v.past) has (rests_with v c r));
-  few = λ taken i. rw u.steps (let left = made.steps taken in let most = map_few request v.tries taken in let same : most_map_steps (call_in m.run) v.tries taken ≡ most_map_steps (map_request request) v.tries taken = ap (λ (k : MapCall). most_map_steps k v.tries taken) made.called in omega (arith, left, most, same));
+  ready = let call : MachineCall = machine_call v c r.stands.is_pass v.past in dict_begins IsNumber IsWideNumber m call mode (as_numbers v.layout v.past map sound) made.typed (subst (λ (n : ℕ). IsFresh m.run n c.number) (sym made.tries) made.fresh) (subst IsFewCall (sym made.called) (few_pairs request few)) (subst (RestsWith call v.past) has (rests_with v c r));
+  few = λ taken i. rw u.steps (let left = made.steps taken in let same : most_map_steps (call_in m.run) v.tries (nodes_by (trie_in m.run) taken) ≡ call_steps v (Map request) taken = ap (λ (k : MapCall). most_map_steps k v.tries (nodes_by (trie_in m.run) taken)) made.called ∙ ap (most_map_steps (map_request request) v.tries) (counted v.layout.mode (trie_in m.run) taken mode) in omega (arith, left, same));
 }
   where
+    mode : v.layout.mode ≡ map_mode (trie_in m.run)
+    mode = r.stands.trie map ∙ ap map_mode (sym made.trie)
+
     has : held c ≡ share_of m.run
     has = ap (λ (o : Option Remaining). unwrap_or o record { next_node = 0; nodes = 0; next_scx = 0; scx = 0 }) (sym made.share)
 
@@ -181,7 +187,7 @@ among_snaps snaps cells n e x = go (has_snap snaps n) refl
 
 -- what is known of a client does not ask when its call began
 pub rests_at : (v : ClientView) (c : Client) (turn : ℕ) → Rests v c → Rests v (record c { begin = turn })
-rests_at v c turn r = record { holds = record { some = r.holds.some; share = r.holds.share; over = r.holds.over }; stands = record { is_pass = r.stands.is_pass; tries = r.stands.tries; number = r.stands.number; place = r.stands.place; kept = r.stands.kept; unkept = r.stands.unkept; dropped = r.stands.dropped; free = r.stands.free }; none = r.none }
+rests_at v c turn r = record { holds = record { some = r.holds.some; share = r.holds.share; over = r.holds.over }; stands = record { is_pass = r.stands.is_pass; tries = r.stands.tries; number = r.stands.number; place = r.stands.place; kept = r.stands.kept; unkept = r.stands.unkept; dropped = r.stands.dropped; free = r.stands.free; trie = r.stands.trie }; none = r.none }
 
 -- a call that runs has begun
 pub begins_so : (v : ClientView) (old new : Client) → GoesOn v old new → BeginsOrRefuses v old.begin old new None
@@ -257,8 +263,8 @@ next_is v c calls at call r e is get =
     rw (sym r.stands.number) (x.3 ∙ ap (λ (k : Command). Some k) (sym (ap (λ (k : Call). k.command) (some_call call _ y))))
 
 -- a call of a script whose calls are of its mode
-pub mode_there : (mode : Mode) (calls : List Call) (at : ℕ) (call : Call) → All (λ (k : Call). mode_of k.command ≡ mode) calls → slice_get calls at ≡ Some call → mode ≡ mode_of call.command
-mode_there mode calls at call all e = sym (subst (λ (k : Call). mode_of k.command ≡ mode) (get_or_from_slice_get calls at call call e) (all at call (slice_get_within calls at call e)))
+pub mode_there : (mode : Mode) (calls : List Call) (at : ℕ) (call : Call) → All (λ (k : Call). IsOfMode mode k.command) calls → slice_get calls at ≡ Some call → IsOfMode mode call.command
+mode_there mode calls at call all e = subst (λ (k : Call). IsOfMode mode k.command) (get_or_from_slice_get calls at call call e) (all at call (slice_get_within calls at call e))
 
 -- what a lookup found
 pub get_there : (calls : List Call) (at : ℕ) (call : Call) → true ≡ nat_lt at (length calls) → call ≡ get_or calls at call → slice_get calls at ≡ Some call

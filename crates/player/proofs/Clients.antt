@@ -1,8 +1,8 @@
 -- What a client's machine leaves of what it has.
-use Rattle.std.proofs.Common.{◌≡◌, ℕ, ◌+◌, ◌<◌, ◌≤◌, List, length, Option, Some, None, refl, sym, ◌∙◌, subst, arith}
+use Rattle.std.proofs.Common.{◌≡◌, ℕ, ◌+◌, ◌<◌, ◌≤◌, List, length, Option, Some, None, refl, sym, ◌∙◌, ap, subst, arith}
 use Rattle.histories.specs.Common.{Layout, taken_nodes, Side, Step, Remaining, History}
 use Rattle.dict.specs.Calls.{AsksForPairs}
-use Rattle.record.specs.Common.{Command, Llx as LlxOf, Scx as ScxOf, Vlx as VlxOf, Set as SetOf, Map as MapOf, command_steps}
+use Rattle.record.specs.Common.{Command, Llx as LlxOf, Scx as ScxOf, Vlx as VlxOf, Set as SetOf, Map as MapOf}
 use Rattle.template.specs.Common.{PutRun, LlxRun, Llx as LlxAnswer}
 use Rattle.player.specs.declared.run.Run.{Run}
 use Rattle.player.specs.declared.run.Run.TheVariants.{Llx, Scx, Vlx, Map}
@@ -13,8 +13,9 @@ use Rattle.player.specs.declared.client.Running.{Running}
 use Rattle.player.specs.declared.client.SetField.{SetField}
 use Rattle.record.specs.declared.record.Answer.{Answer}
 use Rattle.player.specs.RunKnown.{RunWaits, RunAnswers, IsSameMachine, run_mode, share_behind}
+use Rattle.template.specs.Balance.{map_mode}
 use Rattle.player.specs.RunSteps.{run_left, then_left, left_of}
-use Rattle.player.specs.ClientView.{ClientView, Hand, in_hand, snaps_of, IsStart, IsPutOf, IsScxOf, held, HoldsShare, Holds, TakesInHand, HasNewest, IsMachineOf, IsRoomy, MayTryAll, IsWonBy, IsClientState, Works, Hears, Answered, machine_call, GoesOn, HasBeenTold}
+use Rattle.player.specs.ClientView.{ClientView, Hand, in_hand, snaps_of, IsStart, IsPutOf, IsScxOf, held, HoldsShare, Holds, TakesInHand, HasNewest, IsMachineOf, IsRoomy, MayTryAll, IsWonBy, IsClientState, Works, Hears, Answered, machine_call, GoesOn, HasBeenTold, call_steps}
 use Rattle.player.specs.Hearing.{HasAnswered, HasHeard}
 
 -- what does not change while a machine continues
@@ -56,7 +57,7 @@ is_kept left (Map a) (Map b) x = record {
   won = λ v c p. p;
   room = λ v c p. p;
   limit = λ tries p. x.1 ∙ p;
-  mode = λ lay e. e;
+  mode = λ lay e. e ∙ ap map_mode (sym x.2);
   holds = λ v c p. p;
   took = λ v c p. p;
 }
@@ -64,7 +65,7 @@ is_kept left old now x = absurd x
 
 -- what a client has in hand does not ask whether a machine runs
 stands_so : (v : ClientView) (c : Client) (running : Option Running) (hand : Hand) → IsClientState v c hand → IsClientState v (record c { running = running }) hand
-stands_so v c running hand x = record { is_pass = x.is_pass; tries = x.tries; number = x.number; place = x.place; kept = x.kept; unkept = x.unkept; dropped = x.dropped; free = x.free }
+stands_so v c running hand x = record { is_pass = x.is_pass; tries = x.tries; number = x.number; place = x.place; kept = x.kept; unkept = x.unkept; dropped = x.dropped; free = x.free; trie = x.trie }
 
 -- nor what it holds of its share
 so_held : (v : ClientView) (c : Client) (running : Option Running) (hand : Hand) → HoldsShare v c hand → HoldsShare v (record c { running = running }) hand
@@ -103,7 +104,7 @@ works_so v c running old now then same w =
     }
 
 -- a machine that asks for a step waits for it, and has fewer steps left
-pub goes_on : (v : ClientView) (c : Client) (old now : Run) (then : Option SetField) (step : Step) (w : Works v c old then) → IsSameMachine old now → RunWaits now (machine_call v c w.is_pass w.start) v.past step → ((taken : ℕ) → length (taken_nodes v.past) ≤ taken → v.steps + left_of old then taken ≤ command_steps w.command v.tries taken) → ((taken : ℕ) → length (taken_nodes v.past) ≤ taken → run_left now taken < run_left old taken) → GoesOn v c (record c { running = Some (record { run = now; then = then; step = step }) })
+pub goes_on : (v : ClientView) (c : Client) (old now : Run) (then : Option SetField) (step : Step) (w : Works v c old then) → IsSameMachine old now → RunWaits now (machine_call v c w.is_pass w.start) v.past step → ((taken : ℕ) → length (taken_nodes v.past) ≤ taken → v.steps + left_of old then taken ≤ call_steps v w.command taken) → ((taken : ℕ) → length (taken_nodes v.past) ≤ taken → run_left now taken < run_left old taken) → GoesOn v c (record c { running = Some (record { run = now; then = then; step = step }) })
 unfolding works_so
 goes_on v c old now then step w same waits few nearer = record {
   same = record { pass = refl; number = refl; next = refl };
@@ -135,13 +136,13 @@ is_itself : (run : Run) → IsSameMachine run run
 is_itself (Llx m) = refl
 is_itself (Scx m) = (refl, refl, refl, refl)
 is_itself (Vlx m) = refl
-is_itself (Map m) = (refl, refl)
+is_itself (Map m) = (refl, refl, refl)
 
 -- with its share back, the client is the same
 back_so : (v : ClientView) (c : Client) (run : Run) (then : Option SetField) → Works v c run then → Works v (record c { share = share_behind run c.share }) run then
 back_so v c (Map m) then w = record {
   mode = w.mode;
-  stands = record { is_pass = w.stands.is_pass; tries = w.stands.tries; number = w.stands.number; place = w.stands.place; kept = w.stands.kept; unkept = w.stands.unkept; dropped = w.stands.dropped; free = w.stands.free };
+  stands = record { is_pass = w.stands.is_pass; tries = w.stands.tries; number = w.stands.number; place = w.stands.place; kept = w.stands.kept; unkept = w.stands.unkept; dropped = w.stands.dropped; free = w.stands.free; trie = w.stands.trie };
   holds = tt;
   newest = tt;
   command = w.command;
@@ -161,7 +162,7 @@ back_so v c (Map m) then w = record {
 }
 back_so v c run then w = w
 
-answered_back : (v : ClientView) (c : Client) (run : Run) (then : Option SetField) (end : Ended) (w : Works v c run then) → c.running ≡ None → RunAnswers run (machine_call v c w.is_pass w.start) v.past end → ((taken : ℕ) → length (taken_nodes v.past) ≤ taken → v.steps + then_left then ≤ command_steps w.command v.tries taken) → Answered v (record c { share = share_behind run c.share }) run then end
+answered_back : (v : ClientView) (c : Client) (run : Run) (then : Option SetField) (end : Ended) (w : Works v c run then) → c.running ≡ None → RunAnswers run (machine_call v c w.is_pass w.start) v.past end → ((taken : ℕ) → length (taken_nodes v.past) ≤ taken → v.steps + then_left then ≤ call_steps v w.command taken) → Answered v (record c { share = share_behind run c.share }) run then end
 unfolding back_so
 answered_back v c (Map m) then end w none a few = record { works = back_so v c (Map m) then w; none = none; answers = a; back = refl; few = few }
 answered_back v c run then end w none a few = record { works = back_so v c run then w; none = none; answers = a; back = refl; few = few }

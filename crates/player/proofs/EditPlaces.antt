@@ -1,8 +1,8 @@
 -- Where a call of the map took place that has changed it: at its one entry, and it answers what the
 -- map had just before. One that is refused took place nowhere.
 use Rattle.std.proofs.Common.{◌≡◌, ℕ, suc, ◌⊎◌, inl, inr, ⊎_elim, Bool, true, false, cond, ◌&&◌, ◌||◌, eqb, eqb-true, eq-eqb, ne_eqb, is_some, List, [], ◌∷◌, ◌++◌, Option, Some, None, refl, sym, ◌∙◌, ap, subst}
-use Rattle.arena.specs.Opening.{is_map}
-use Rattle.histories.specs.Common.{Tree, Layout, Row, History, Start, ◌⊳◌, value, Extends, IsOwnScx, Lawful, IsWin, IsRun}
+use Rattle.arena.specs.Opening.{IsMap}
+use Rattle.histories.specs.Common.{Layout, Row, History, Start, ◌⊳◌, value, Extends, IsOwnScx, Lawful, IsWin, IsRun}
 use Rattle.histories.proofs.Lemmas.{UpdateWins, lawful_row, one_scx_owner}
 use Rattle.record.specs.Common.{MapCall, MapReply, Spells, Call, Command, HasItsEntry, enters, IsRight, AreLines, linked, map_of, written_log}
 use Rattle.record.specs.Common.{entries_of_call, reply_told, next_command, AreSpelled, history, turns, answered, begin, start, won, entry_owed, client_of}
@@ -66,7 +66,7 @@ module _ (lay : Layout) (tries : ℕ) (calls : List Call) (c : ℕ) where
     before_is : history lay.mode rest ≡ before
     spells : Spells lay (value (history lay.mode rest)) (map_of calls (written_log rest))
 
-  module _ (mode : lay.mode ≡ Tree) (all : AreOf lay.mode calls) (row : Row) (before : History) (s : ℕ) (win : IsWin before row s) (own : IsOwnScx lay c s) where
+  module _ (mode : IsMap lay.mode) (all : AreOf lay.mode calls) (row : Row) (before : History) (s : ℕ) (win : IsWin before row s) (own : IsOwnScx lay c s) where
     -- the row is after the moment that it is after
     not_before : (h : History) → Extends h (row ⊳ before) → Extends before h → ⊥
     not_before h within since = none_yet lay c h row before s within since win own
@@ -126,7 +126,7 @@ module _ (lay : Layout) (tries : ℕ) (calls : List Call) (c : ℕ) where
               won_is = rw (x.1.0, eq-eqb e.client.0 c client) (ap (λ (k : ℕ). Some k) step);
               once = rw (eq-eqb c e.client.0 (sym client), eq-eqb (answered lines c) e.call (sym call)) (ap suc (entries_none lay tries calls lines x.0.0 c none));
               before_is = ap older (sym q);
-              spells = spelled lay tries calls (ap is_map mode) (map_calls lay.mode calls mode all) lines x.0.0 (map_run lay (history lay.mode lines) mode (run_before PlayedAllows lay (history lay.mode lines) r run)) x.0.1.0.entry;
+              spells = spelled lay tries calls mode (map_calls lay.mode calls mode all) lines x.0.0 (map_run lay (history lay.mode lines) mode (run_before PlayedAllows lay (history lay.mode lines) r run)) x.0.1.0.entry;
             }
 
         later : IsFoundWin lines before → IsFoundWin (Log e ∷ Step (Made number r) ∷ lines) before
@@ -162,7 +162,7 @@ unwon_none (Some k) x = absurd x
 
 -- what is known of a reply that a call of the map has given
 pub record IsMapReply (lay : Layout) (tries : ℕ) (calls : List Call) (lines : List Line) (changes : List Change) (r : Finished) (c : ℕ) (command : Command) : Type 0 where
-  pub mode : lay.mode ≡ Tree
+  pub mode : IsMap lay.mode
   pub all : AreOf lay.mode calls
   pub run : IsRun PlayedAllows lay (history lay.mode lines)
   pub lines_are : AreLines lay tries calls lines

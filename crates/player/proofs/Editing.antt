@@ -1,8 +1,7 @@
 -- A call of the map that runs: what its SCX-record in progress says, and the word `call` that it
 -- fills.
 use Rattle.std.proofs.Common.{◌≡◌, ℕ, ◌<◌, inr, ⊎_elim, List, Option, Some, None, refl, sym, ◌∙◌, ap, subst, arith}
-use Rattle.arena.specs.declared.limits.Mode.TheVariants.{Trie}
-use Rattle.histories.specs.Common.{Tree, Layout, Row, Step, Fill as FillKind, LoadSettled, ScxWord, Word, scx as scx_word, word_after, History, ◌⊳◌}
+use Rattle.histories.specs.Common.{Layout, Row, Step, Fill as FillKind, LoadSettled, ScxWord, Word, scx as scx_word, word_after, History, ◌⊳◌}
 use Rattle.histories.specs.Common.{value, Extends, IsInProgress, count_of, IsOwnScx, IsNamedScx, Lawful, IsWin, Call as MachineCall, begun_at}
 use Rattle.arena.specs.declared.word.ScxWord.TheVariants.{Call as CallWord}
 use Rattle.arena.proofs.Lemmas.{ends_self}
@@ -21,11 +20,10 @@ use Rattle.dict.specs.Goals.{leaf_told}
 use Rattle.dict.specs.Inner.{InnerRun, Update, Get, Read, edit_means, inner}
 use Rattle.dict.specs.Laws.Kinds.{edit_at_found, edit_changes}
 use Rattle.order.specs.Laws.Run.{read_fills_not}
-use Rattle.record.specs.Common.{Pair, Edit, MapEdit, OneValue, edit_key, edit_of, get, pair_or_none, reply, IsTreeRun, Makes}
+use Rattle.record.specs.Common.{Pair, Edit, MapEdit, OneValue, edit_key, edit_of, get, pair_or_none, reply, IsMapRun, Makes}
 use Rattle.record.specs.Common.{Spells, TreeAllows, said, Goal, Key as ToKey, End, Command, Scx as ScxOf, Set as SetOf}
 use Rattle.ordered_map.specs.Runs.{IsEditAt}
-use Rattle.ordered_map.proofs.Lemmas.{SameSettled, run_since, settled_said, win_makes}
-use Rattle.ordered_map.proofs.MapLemmas.{tree_run}
+use Rattle.ordered_map.proofs.MapLemmas.{win_makes}
 use Rattle.template.proofs.Lemmas.{found_either, passed_named, walk_fills_not}
 use Rattle.template.specs.declared.walk.Found.{Found}
 use Rattle.edits.specs.Edits.{EditMeaning}
@@ -34,7 +32,7 @@ use Rattle.edits.specs.Laws.Entered.{only_joined}
 use Rattle.edits.specs.Laws.Kept.{idle_rests}
 use Rattle.edits.specs.Sound.{IsAtFound}
 use Rattle.edits.specs.Tries.{CoversSnaps, HasEnteredOnly}
-use Rattle.edits.proofs.Lemmas.{told_end}
+use Rattle.edits.proofs.Lemmas.{told_end, leaf_told as value_told}
 use Rattle.edits.specs.declared.update.UpdateAt.{UpdateAt}
 use Rattle.edits.specs.declared.update.UpdateAt.TheVariants.{Start, Walk, Look, Read as ReadWord, Fill, Scx}
 use Rattle.edits.specs.declared.update.UpdateRun.{UpdateRun}
@@ -76,7 +74,7 @@ pub record IsEditHand (m : InnerRun) (call : MachineCall) (h : History) (t : ℕ
   pub edit : MapEdit
   pub is : edit_inside m ≡ Some edit
   pub hand : IsHandOf call.number edit call h t
-  pub gives : (row : Row) → IsTreeRun call.layout (row ⊳ h) → IsWin h row t → (map : List Pair) → Spells call.layout (value h) map → edit_of (inner_call m) (reply (inner_call m) map) ≡ Some edit
+  pub gives : (row : Row) → IsMapRun call.layout (row ⊳ h) → IsWin h row t → (map : List Pair) → Spells call.layout (value h) map → edit_of (inner_call m) (reply (inner_call m) map) ≡ Some edit
 
 -- what is asked of the key that a walk answers is what it was to ask
 asked_still : (goal : Goal) (f : Word → ℕ) (n key : ℕ) → asked_in goal f n ≡ key → asked_key goal key ≡ asked_in goal f n
@@ -86,8 +84,8 @@ asked_still (End side) f n key e = sym e
 module _ {E : Type 0} (means : EditMeaning E) (m : UpdateRun E UpdateAt) where
   -- if a row makes the update win, the leaf that was found says what the map has just before
   record TellsAtWin (f : Found) (lay : Layout) (h : History) (t : ℕ) : Type 0 where
-    value_is : (row : Row) → IsTreeRun lay (row ⊳ h) → IsWin h row t → (map : List Pair) → Spells lay (value h) map → get (edit_key (means.edit m.edit f)) map ≡ f.value
-    end_is : (row : Row) → IsTreeRun lay (row ⊳ h) → IsWin h row t → ToldEnd (means.goal m.edit) lay h f
+    value_is : (row : Row) → IsMapRun lay (row ⊳ h) → IsWin h row t → (map : List Pair) → Spells lay (value h) map → get (edit_key (means.edit m.edit f)) map ≡ f.value
+    end_is : (row : Row) → IsMapRun lay (row ⊳ h) → IsWin h row t → ToldEnd (means.goal m.edit) lay h f
 
   -- what its SCX-record says, which it makes for this leaf
   record IsHandAt (at : UpdateAt) (call : MachineCall) (h : History) (t : ℕ) : Type 0 where
@@ -96,35 +94,6 @@ module _ {E : Type 0} (means : EditMeaning E) (m : UpdateRun E UpdateAt) where
     needed : 0 < (means.work m.edit found).need
     hand : IsHandOf m.call (means.edit m.edit found) call h t
     tells : TellsAtWin found call.layout h t
-
-  -- that leaf says what the map has at the key
-  leaf_value : IsAtFound means → (c : MachineCall) (f : Found) (begin h : History) (row : Row) (s : ℕ) (snaps : List Snap) → IsTreeRun c.layout (row ⊳ h) → Extends h begin → IsWin h row s → Makes c.layout h s (means.edit m.edit f) → FoundBy (means.way m.edit) (means.goal m.edit) c begin f → CoversLeaf means m.edit f c begin s snaps → CoversSnaps h s snaps
-      → (map : List Pair) → Spells c.layout (value h) map → get (edit_key (means.edit m.edit f)) map ≡ f.value
-  leaf_value at_found c f begin h row s snaps now since won makes walked covers_leaf covers_snaps map spells =
-      edits.replies map spells
-      ∙ ap (λ (n : ℕ). said (value h) key n) (covers_leaf h (tree_run c.layout h then) since covers_snaps makes ∙ is_covered)
-      ∙ settled_said (value begin) (value h) key f.trail.node.0 settled
-      ∙ ap (λ (k : ℕ). said (value begin) k f.trail.node.0) (at_found m.edit f ∙ asked_still (means.goal m.edit) (value begin) f.trail.node.0 f.key found.key)
-      ∙ sym found.says
-    where
-      key : ℕ
-      key = edit_key (means.edit m.edit f)
-
-      -- in a tree it is a leaf
-      found : HasFoundGoal (means.goal m.edit) c begin f
-      found = ⊎_elim (λ x. x) (λ x. absurd (let y : Tree ≡ Trie = sym now.0 ∙ x.trie in cc)) (found_either (means.way m.edit) (means.goal m.edit) c begin f walked)
-
-      is_covered : covered f ≡ f.trail.node.0
-      is_covered = rw (sym (ap (λ w. w.leaf) found.head) ∙ found.leaf) refl
-
-      then : IsTreeRun c.layout h
-      then = run_since c.layout (row ⊳ h) h now (inr (ends_self h))
-
-      settled : SameSettled (value begin) (value h) f.trail.node.0
-      settled part i = node_since c.layout h begin f.trail.node.0 part then.1.lawful since i (passed_named c begin (path_key (means.goal m.edit)) f.trail.node.0 (tree_run c.layout begin (run_since c.layout h begin then since)) found.trail.node)
-
-      edits : IsEditAt c.layout h row s (means.edit m.edit f)
-      edits = win_makes c.layout (row ⊳ h) h row s (means.edit m.edit f) now (ends_self (row ⊳ h)) won record { row = makes.row; before = makes.before; within = inr makes.within; begins = makes.begins; edit = makes.edit }
 
   module _ (at_found : IsAtFound means) (call : MachineCall) (h : History) (t : ℕ) (l : Lawful call.layout h) (own : IsOwnScx call.layout call.pass t) (p : IsInProgress h t) where
     -- what it makes if it is not aborted
@@ -136,8 +105,9 @@ module _ {E : Type 0} (means : EditMeaning E) (m : UpdateRun E UpdateAt) where
     -- so does the leaf that its SCX covers
     tells_at : (b begin : History) (f : Found) (scx : ScxMachine) → Scxs means m (begun_at call b) h f scx begin → HasFilled (begun_at (begun_at call b) begin) h scx.scx.0 scx.call scx.update → Makes call.layout h scx.scx.0 (means.edit m.edit f) → TellsAtWin f call.layout h scx.scx.0
     tells_at b begin f scx x filled makes = record {
-      value_is = λ row now won map spells. leaf_value at_found (begun_at call b) f begin h row scx.scx.0 scx.update.snaps now filled.way.begun.since won makes x.found x.leaf covers map spells;
-      end_is = λ row now won. told_end means m.edit (begun_at call b) f begin h row scx.scx.0 scx.update.snaps (tree_run call.layout (row ⊳ h) now) filled.way.begun.since won makes x.found x.leaf covers;
+      value_is = λ row now won. value_told means m.edit (begun_at call b) f begin h row scx.scx.0 scx.update.snaps now filled.way.begun.since won makes x.found x.leaf covers at_found
+          (win_makes call.layout (row ⊳ h) h row scx.scx.0 (means.edit m.edit f) now (ends_self (row ⊳ h)) won record { row = makes.row; before = makes.before; within = inr makes.within; begins = makes.begins; edit = makes.edit });
+      end_is = λ row now won. told_end means m.edit (begun_at call b) f begin h row scx.scx.0 scx.update.snaps now filled.way.begun.since won makes x.found x.leaf covers;
     }
       where
         covers : CoversSnaps h scx.scx.0 scx.update.snaps
@@ -191,7 +161,7 @@ module _ (call : MachineCall) (h : History) (t : ℕ) (l : Lawful call.layout h)
         edit = edit_means.edit m.edit x.found;
         is = x.is;
         hand = subst (λ (n : ℕ). IsHandOf n (edit_means.edit m.edit x.found) call h t) number x.hand;
-        gives = λ row now won map spells. ap (edit_of (Edit m.edit.goal m.edit.rule)) (goal_is m.edit.goal x.found call.layout h (edit_key (edit_means.edit m.edit x.found)) map (edit_at_found m.edit x.found) (x.tells.value_is row now won map spells) (x.tells.end_is row now won) spells) ∙ edit_changes m.edit x.found x.needed;
+        gives = λ row now won map spells. ap (edit_of (Edit m.edit.goal.goal m.edit.rule)) (goal_is m.edit.goal.goal x.found call.layout h (edit_key (edit_means.edit m.edit x.found)) map (edit_at_found m.edit x.found) (x.tells.value_is row now won map spells) (x.tells.end_is row now won) spells) ∙ edit_changes m.edit x.found x.needed;
       }
   map_hand m number w = absurd (idle_rests call h (inner_share m) l w.1.now t own p)
 

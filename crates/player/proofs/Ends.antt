@@ -2,7 +2,8 @@
 use Rattle.std.proofs.Common.{◌≡◌, ◌≢◌, ℕ, zero, suc, ◌<◌, ◌≤◌, ◌⊎◌, inl, inr, ⊎_elim, Bool, true, false, cond, ◌||◌, eqb, List, [], ◌∷◌, length, get_or, slice_get, Option, Some, None, IsSome, refl, sym, ◌∙◌, ap, subst, arith}
 use Rattle.std.proofs.Math.ListN.{set}
 use Rattle.std.specs.List.{Contains}
-use Rattle.histories.specs.Common.{NodeNo, ScxNo, state, Kind, Freeze, LoadInfo, IsTakenScx, History, value, Extends, WasInTheWay, HasFailed, log, is_final, has, Records, Tree, Remaining}
+use Rattle.arena.specs.Opening.{is_map}
+use Rattle.histories.specs.Common.{NodeNo, ScxNo, state, Kind, Freeze, LoadInfo, IsTakenScx, History, value, Extends, WasInTheWay, HasFailed, log, is_final, has, Records, Remaining}
 use Rattle.arena.proofs.Lemmas.{found_wider, ends_self}
 use Rattle.histories.proofs.Lemmas.{aborted_never_won, committed_won, finished_taken}
 use Rattle.template.specs.Common.{HasChanged, IsAmong, PutAnswers, snap_at, VlxAnswers, Snap, LlxRun, PutRun, VlxRun, Llx as LlxAnswer, Scx as ScxAnswer, Vlx as VlxAnswer, Snapshot as LlxSnapshot}
@@ -183,6 +184,7 @@ stands_scx v c m linked drops y = record {
   unkept = λ n i e. ⊎_elim (λ z. inr (drops.gone n z)) (λ z. inr (unkept n i e z)) (y.unkept n i e);
   dropped = λ n z. absurd (among_none n z);
   free = y.free;
+  trie = y.trie;
 }
   where
     -- what is still kept is not of those snapshots
@@ -312,6 +314,7 @@ rests_as v c linked drops x = record {
   unkept = λ n i e. ⊎_elim (λ z. inl z) (λ z. inr (drops.others n (among_none n) ∙ z)) (x.unkept n i e);
   dropped = x.dropped;
   free = x.free;
+  trie = x.trie;
 }
 
 -- nor does what it holds of its share
@@ -433,7 +436,8 @@ rests_kept v c kept m then a linked sound x e said = record {
     kept = kept_after c.kept kept a v.linked linked (moment_then a v.past) e small said v.layout c.pass.0 v.past y.kept (unspent a x);
     unkept = λ n i d. inr (unkept_after c.kept kept a v.linked linked (moment_then a v.past) e small said (λ n i d. ⊎_elim (λ z. absurd (among_none n z)) (λ z. z) (y.unkept n i d)) (none a) n i d);
     dropped = λ n z. absurd (among_none n z);
-    free = λ tree. absurd (let z : Records ≡ Tree = sym x.works.mode ∙ tree in cc);
+    free = λ map. absurd (let z : false ≡ true = sym (ap is_map x.works.mode) ∙ map in cc);
+    trie = x.works.stands.trie;
   };
   holds = record { some = x.works.holds.some; share = x.works.holds.share; over = x.works.holds.over };
   none = x.none;

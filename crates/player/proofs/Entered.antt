@@ -2,8 +2,9 @@
 -- has in hand.
 use Rattle.std.proofs.Common.{◌≡◌, ◌≢◌, ℕ, zero, suc, ◌<◌, inl, ⊎_elim, Bool, true, false, cond, eqb, eqb-true, eq-eqb, ◌↔◌, List, [], ◌∷◌, length, Option, Some, None, refl, sym, ◌∙◌, ap, subst, arith}
 use Rattle.std.specs.List.{Contains}
+use Rattle.arena.specs.Opening.{is_map, IsMap}
 use Rattle.histories.specs.Common.{Row, Side, node, scx, child, first_value, History, ◌⊳◌, value, IsInProgress, IsOwnNode, IsOwnScx, IsNamedScx}
-use Rattle.histories.specs.Common.{Lawful, IsWin, HasWon, Entry as Entered, log, has, Call as MachineCall, IsRun, IsTold, Records, Tree}
+use Rattle.histories.specs.Common.{Lawful, IsWin, HasWon, Entry as Entered, log, has, Call as MachineCall, IsRun, IsTold}
 use Rattle.arena.specs.declared.word.ScxWord.TheVariants.{Call as CallWord}
 use Rattle.std.proofs.lemmas.Bool.{or_left}
 use Rattle.arena.proofs.Lemmas.{or_right, or_split}
@@ -25,11 +26,12 @@ use Rattle.player.specs.Allowed.{PlayedAllows}
 use Rattle.player.specs.RunKnown.{RunWaits, RunIsReady, edit_in_hand, run_mode}
 use Rattle.player.proofs.RunLaws.{run_keeps, run_made}
 use Rattle.player.specs.ClientView.{ClientView, IsSound, IsMachineOf, IsMapOf, IsPutOf, IsScxOf, IsStart, IsOwnWin, IsWonSince, held, HoldsShare, HaveMoments, no_hand, Rests, Works, WaitsForStep, machine_call, command_of}
-use Rattle.dict.specs.Calls.{call_in}
+use Rattle.dict.specs.Calls.{call_in, trie_in}
 use Rattle.dict.specs.Inner.{inner}
 use Rattle.dict.specs.declared.dict.DictRun.{DictRun}
-use Rattle.ordered_map.proofs.Lemmas.{run_spells}
-use Rattle.player.proofs.MapCalls.{tree_run}
+use Rattle.ordered_map.proofs.MapLemmas.{run_spells}
+use Rattle.player.proofs.MapCalls.{map_run}
+use Rattle.player.proofs.Shapes.{of_map}
 use Rattle.edits.specs.Tries.{HasEnteredOnly}
 use Rattle.player.proofs.Editing.{IsEditHand, map_hand}
 use Rattle.player.proofs.Winners.{owner_is}
@@ -171,13 +173,13 @@ module _ (v : ClientView) (c : Client) (sound : IsSound v) (row : Row) (s : ℕ)
   abbrev Gives : MapCall → MapEdit → Type 0
   Gives of edit = (map : List Pair) → Spells v.layout (value v.past) map → edit_of of (reply of map) ≡ Some edit
 
-  module _ (m : DictRun ℕ ℕ) (is_pass : c.pass.0 < v.layout.passes) (tree : v.layout.mode ≡ Tree) (run : IsRun PlayedAllows v.layout (row ⊳ v.past)) (x : IsEditHand (inner m.run) (machine_call v c is_pass v.start) v.past s) where
+  module _ (m : DictRun ℕ ℕ) (is_pass : c.pass.0 < v.layout.passes) (map_there : IsMap v.layout.mode) (run : IsRun PlayedAllows v.layout (row ⊳ v.past)) (x : IsEditHand (inner m.run) (machine_call v c is_pass v.start) v.past s) where
     hand_gives : Gives (call_in m.run) x.edit
-    hand_gives map spells = x.gives row (tree_run v.layout (row ⊳ v.past) tree run) is_win map spells
+    hand_gives map spells = x.gives row (map_run v.layout (row ⊳ v.past) map_there run) is_win map spells
 
     -- there is such a map
     spelled : (map : List Pair) × Spells v.layout (value v.past) map
-    spelled = run_spells v.layout v.past (tree_run v.layout v.past tree sound)
+    spelled = run_spells v.layout v.past (map_run v.layout v.past map_there sound)
 
     -- so its entry is one that the call makes
     entry_is : IsMapEntry (call_in m.run) v.layout v.past (entry_of v.layout v.past s)
@@ -196,7 +198,7 @@ module _ (v : ClientView) (c : Client) (sound : IsSound v) (row : Row) (s : ℕ)
     same_call = h.hand.called;
     called = h.hand.called;
     does = subst (λ (k : Command). IsEntryFor v.layout c.pass.0 v.past v.start v.linked (entry_of v.layout v.past s) k) (sym x.run_of.is)
-        (subst (λ (k : MapCall). IsMapEntry k v.layout v.past (entry_of v.layout v.past s)) x.run_of.called (entry_is m x.is_pass x.mode run h));
+        (subst (λ (k : MapCall). IsMapEntry k v.layout v.past (entry_of v.layout v.past s)) x.run_of.called (entry_is m x.is_pass (of_map v.layout.mode (trie_in m.run) x.mode) run h));
   }
 
   from_run : (run : Run) (then : Option SetField) (x : Works v c run then) → ((m : PutRun) → run ≡ Scx m → m.scx.scx.0 ≡ s → IsOfPut v c row m x.start x.is_pass) → ((m : DictRun ℕ ℕ) → run ≡ Map m → IsEditHand (inner m.run) (machine_call v c x.is_pass v.start) v.past s) → IsRun PlayedAllows v.layout (row ⊳ v.past) → IsEntryFrom v c row s
@@ -254,8 +256,8 @@ pub record IsEditOfCall (v : ClientView) (c : Client) (q : Running) : Type 0 whe
   pub in_hand : edit_in_hand q.run ≡ Some edit
   pub gives : (map : List Pair) → Spells v.layout (value v.past) map → edit_of (map_request request) (reply (map_request request) map) ≡ Some edit
 
-pub edit_entered : (v : ClientView) (c : Client) (q : Running) (row : Row) (s : ℕ) → IsSound v → WaitsForStep v c q → IsRun PlayedAllows v.layout (row ⊳ v.past) → UpdateWins v.past row s → IsOwnScx v.layout c.pass.0 s → v.layout.mode ≡ Tree → IsEditOfCall v c q
-edit_entered v c q row s sound w run wins own tree = go q.run refl
+pub edit_entered : (v : ClientView) (c : Client) (q : Running) (row : Row) (s : ℕ) → IsSound v → WaitsForStep v c q → IsRun PlayedAllows v.layout (row ⊳ v.past) → UpdateWins v.past row s → IsOwnScx v.layout c.pass.0 s → IsMap v.layout.mode → IsEditOfCall v c q
+edit_entered v c q row s sound w run wins own map_there = go q.run refl
   where
     go : (run_is : Run) → q.run ≡ run_is → IsEditOfCall v c q
     go (Map m) e =
@@ -266,18 +268,18 @@ edit_entered v c q row s sound w run wins own tree = go q.run refl
           is = w.works.is ∙ ap (λ (k : Command). Some k) of.is;
           edit = h.edit;
           in_hand = ap (λ (k : Run). edit_in_hand k) e ∙ h.is;
-          gives = λ map spells. subst (λ (k : MapCall). edit_of k (reply k map) ≡ Some h.edit) of.called (hand_gives v c sound row s run.lawful wins own m w.works.is_pass tree run h map spells);
+          gives = λ map spells. subst (λ (k : MapCall). edit_of k (reply k map) ≡ Some h.edit) of.called (hand_gives v c sound row s run.lawful wins own m w.works.is_pass map_there run h map spells);
         }
-    go (Llx m) e = absurd (let z : Tree ≡ Records = sym tree ∙ w.works.mode ∙ ap (λ (k : Run). run_mode k) e in cc)
-    go (Scx m) e = absurd (let z : Tree ≡ Records = sym tree ∙ w.works.mode ∙ ap (λ (k : Run). run_mode k) e in cc)
-    go (Vlx m) e = absurd (let z : Tree ≡ Records = sym tree ∙ w.works.mode ∙ ap (λ (k : Run). run_mode k) e in cc)
+    go (Llx m) e = absurd (let z : true ≡ false = sym map_there ∙ ap is_map (w.works.mode ∙ ap (λ (k : Run). run_mode k) e) in cc)
+    go (Scx m) e = absurd (let z : true ≡ false = sym map_there ∙ ap is_map (w.works.mode ∙ ap (λ (k : Run). run_mode k) e) in cc)
+    go (Vlx m) e = absurd (let z : true ≡ false = sym map_there ∙ ap is_map (w.works.mode ∙ ap (λ (k : Run). run_mode k) e) in cc)
 
--- a machine that has an edit in hand is one of the tree
-pub in_hand_tree : (v : ClientView) (c : Client) (q : Running) (edit : MapEdit) → WaitsForStep v c q → edit_in_hand q.run ≡ Some edit → v.layout.mode ≡ Tree
-in_hand_tree v c q edit w is = w.works.mode ∙ go q.run is
+-- a machine that has an edit in hand is one of a map
+pub in_hand_map : (v : ClientView) (c : Client) (q : Running) (edit : MapEdit) → WaitsForStep v c q → edit_in_hand q.run ≡ Some edit → IsMap v.layout.mode
+in_hand_map v c q edit w is = ap is_map w.works.mode ∙ go q.run is
   where
-    go : (run : Run) → edit_in_hand run ≡ Some edit → run_mode run ≡ Tree
-    go (Map m) is = refl
+    go : (run : Run) → edit_in_hand run ≡ Some edit → IsMap (run_mode run)
+    go (Map m) is = of_map (run_mode (Map m)) (trie_in m.run) refl
     go (Llx m) is = cc
     go (Scx m) is = cc
     go (Vlx m) is = cc

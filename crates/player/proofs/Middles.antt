@@ -4,16 +4,16 @@ use Rattle.std.proofs.lemmas.Option.{slice_get_within}
 use native.Mathlib.Decide.{ℕ_discrete}
 use Rattle.player.proofs.Readings.{placed}
 use Rattle.histories.specs.Common.{Mode, Layout, PassNo, Row, Word, IsWord, all_nodes, all_scx, first_scx, NodeNo, Side, NodeWord, Child, Node, Update}
-use Rattle.histories.specs.Common.{IsLawful, owner, same_word, info, scx as scx_word, Contents, word_at, IsChanged, History, ◌⊳◌, value, IsRun, Tree}
+use Rattle.histories.specs.Common.{IsLawful, owner, same_word, info, scx as scx_word, Contents, word_at, IsChanged, History, ◌⊳◌, value, IsRun}
 use Rattle.arena.specs.declared.word.ScxWord.TheVariants.{Call as CallWord}
 use Rattle.histories.proofs.Lemmas.{lawful_row}
 use Rattle.player.proofs.Winners.{tells_won, winner_holds, owner_is, info_kept, call_kept}
 use Rattle.player.specs.declared.interleaving.Interleaving.{Interleaving}
 use Rattle.arena.proofs.Lemmas.{word_same, word_apart, value_at, value_other}
-use Rattle.record.specs.Common.{Command, AreFilledInOrder, Call, Pairs, NoMemory, number_pairs, Llx as LlxOf, Scx as ScxOf, Vlx as VlxOf, Set as SetOf, Map, Successor as SuccessorOf}
+use Rattle.record.specs.Common.{Command, asks_map, AreFilledInOrder, Call, Pairs, NoMemory, number_pairs, Llx as LlxOf, Scx as ScxOf, Vlx as VlxOf, Set as SetOf, Map, Successor as SuccessorOf}
 use Rattle.record.specs.Common.{Predecessor as PredecessorOf, Range as RangeOf, history, turns, entries, answered, begin, start, steps, won, last_client, entry_of, entry_owed, entry_at}
 use Rattle.record.specs.Common.{commands, next_command, linked, HasItsEntry, MayAnswerAtOnce, HasTakenFew, enters, IsRight, IsFitting, OwesNothing, AreLines, ManyPairs}
-use Rattle.player.specs.Modes.{mode_of}
+use Rattle.arena.specs.Opening.{IsMap}
 use Rattle.player.proofs.Commands.{none_left, next_at, place_more, number_small}
 use Rattle.player.specs.Allowed.{PlayedAllows}
 use Rattle.ordered_map.specs.FillOrder.{IsFillInOrder}
@@ -121,14 +121,13 @@ turn_ends lay tries calls words clients lines c settled is x = record { so_far =
 -- a line that no client waits for is written down
 pub so_far_same : (lay : Layout) (tries : ℕ) (calls : List Call) (words : Contents) (lines : List Line) (line : Line) → history lay.mode (line ∷ lines) ≡ history lay.mode lines → IsNext lay tries calls lines line → IsLawfulSoFar lay tries calls words lines → IsLawfulSoFar lay tries calls words (line ∷ lines)
 unfolding AreLines
-so_far_same lay tries calls words lines line e next x = record { layout = x.layout; holds = λ w i. x.holds w i ∙ ap (λ (h : History). value h w) (sym e); sound = rw e x.sound; in_order = (x.in_order, next); filled = λ tree. subst (λ (h : History). AreFilledInOrder h) (sym e) (x.filled tree); plays = x.plays; of_mode = x.of_mode }
+so_far_same lay tries calls words lines line e next x = record { layout = x.layout; holds = λ w i. x.holds w i ∙ ap (λ (h : History). value h w) (sym e); sound = rw e x.sound; in_order = (x.in_order, next); filled = λ tree. subst (λ (h : History). AreFilledInOrder h) (sym e) (x.filled tree); of_mode = x.of_mode }
 
 -- a step of the client: the words change as the row says
-pub step_made : (lay : Layout) (tries : ℕ) (calls : List Call) (old new : Contents) (lines : List Line) (number : ℕ) (row : Row) → IsChanged old new row.word row.after → IsRun PlayedAllows lay (row ⊳ history lay.mode lines) → IsNext lay tries calls lines (Step (Made number row)) → (lay.mode ≡ Tree → IsFillInOrder (history lay.mode lines) row) → IsLawfulSoFar lay tries calls old lines → IsLawfulSoFar lay tries calls new (Step (Made number row) ∷ lines)
+pub step_made : (lay : Layout) (tries : ℕ) (calls : List Call) (old new : Contents) (lines : List Line) (number : ℕ) (row : Row) → IsChanged old new row.word row.after → IsRun PlayedAllows lay (row ⊳ history lay.mode lines) → IsNext lay tries calls lines (Step (Made number row)) → (IsMap lay.mode → IsFillInOrder (history lay.mode lines) row) → IsLawfulSoFar lay tries calls old lines → IsLawfulSoFar lay tries calls new (Step (Made number row) ∷ lines)
 unfolding AreLines
 step_made lay tries calls old new lines number row changed run next order x = record {
   layout = changed.layout ∙ x.layout;
-  plays = x.plays;
   of_mode = x.of_mode;
   holds = λ w i. go w i (same_word row.word w) refl;
   sound = run;
@@ -181,6 +180,7 @@ behind lay tries calls lines old new command said few r is b = go old.next refl
             unkept = r.stands.unkept;
             dropped = r.stands.dropped;
             free = r.stands.free;
+            trie = r.stands.trie;
           };
           holds = record { some = r.holds.some; share = r.holds.share; over = r.holds.over };
           none = r.none;
@@ -226,7 +226,7 @@ some_command : (a b : Command) → Some a ≡ Some b → a ≡ b
 some_command a b e = cc
 
 -- the reply to a call that has ended
-pub replied : (lay : Layout) (tries : ℕ) (calls : List Call) (words : Contents) (clients : List Client) (lines : List Line) (changes : List Change) (old new : Client) (answer : Answer) (said : Option ℕ) (reply : Finished) (command : Command) (number : ℕ) → (lay.mode ≡ Tree → AreEntries calls lines changes) → length calls ≤ 65536 → IsTurnOf lay tries calls words clients lines old → IsOver lay tries calls lines old.pass.0 old command answer → ((turn : ℕ) → won lay lines old.pass.0 ≡ Some turn → said ≡ Some turn) → number ≡ turns lines → IsEnd calls lines changes old new number answer said reply → AreBetweenTurns lay tries calls words (set clients old.pass.0 new) (ReplyLine reply ∷ lines)
+pub replied : (lay : Layout) (tries : ℕ) (calls : List Call) (words : Contents) (clients : List Client) (lines : List Line) (changes : List Change) (old new : Client) (answer : Answer) (said : Option ℕ) (reply : Finished) (command : Command) (number : ℕ) → (IsMap lay.mode → AreEntries calls lines changes) → length calls ≤ 65536 → IsTurnOf lay tries calls words clients lines old → IsOver lay tries calls lines old.pass.0 old command answer → ((turn : ℕ) → won lay lines old.pass.0 ≡ Some turn → said ≡ Some turn) → number ≡ turns lines → IsEnd calls lines changes old new number answer said reply → AreBetweenTurns lay tries calls words (set clients old.pass.0 new) (ReplyLine reply ∷ lines)
 replied lay tries calls words clients lines changes old new answer said reply command number entries few x o wins n e =
     turn_ends lay tries calls words (set clients old.pass.0 new) (ReplyLine reply ∷ lines) new
     record { entry = refl; reply = λ y. y }
@@ -282,11 +282,11 @@ replied lay tries calls words clients lines changes old new answer said reply co
             moment_same lay tries old.pass.0 (history lay.mode lines) (start lay.mode lines old.pass.0) (linked calls lay.mode lines old.pass.0) calls lines changes command answer old.begin number said (won lay lines old.pass.0) reply.moment o.right o.done o.entry wins
             (subst (λ (k : Command). IsMomentBy calls lines changes k answer old.begin number said reply.moment) same (e.moment there.0 at q there.1))
 
-    of_tree : mode_of command ≡ Tree → lay.mode ≡ Tree
-    of_tree tree = sym (command_mode lay.mode calls old.pass.0 _ command x.so_far.of_mode o.is) ∙ tree
+    of_map : asks_map command ≡ true → IsMap lay.mode
+    of_map map = sym (command_mode lay.mode calls old.pass.0 _ command x.so_far.of_mode o.is) ∙ map
 
     within : (m : ℕ) → reply.moment ≡ Some m → (reply.begin ≤ m) × (m ≤ reply.end)
-    within m q = moment_within calls lines changes reply.begin reply.end m (won lay lines old.pass.0) reply.moment (rw (e.begin, e.end, n) begins) (λ turn w. (rw e.begin (o.late turn w), rw (e.end, n) (won_within lay tries calls lines old.pass.0 turn x.so_far.in_order w))) q lay tries old.pass.0 (history lay.mode lines) (start lay.mode lines old.pass.0) (linked calls lay.mode lines old.pass.0) command reply.answer (rw e.answers o.right) (λ tree. entries (of_tree tree)) (λ tree. subst (λ (k : ℕ). FallFrom (suc k) changes) (sym (e.end ∙ n)) (falls lay tries calls lines changes x.so_far.in_order (entries (of_tree tree)))) moment
+    within m q = moment_within calls lines changes reply.begin reply.end m (won lay lines old.pass.0) reply.moment (rw (e.begin, e.end, n) begins) (λ turn w. (rw e.begin (o.late turn w), rw (e.end, n) (won_within lay tries calls lines old.pass.0 turn x.so_far.in_order w))) q lay tries old.pass.0 (history lay.mode lines) (start lay.mode lines old.pass.0) (linked calls lay.mode lines old.pass.0) command reply.answer (rw e.answers o.right) (λ map. entries (of_map map)) (λ map. subst (λ (k : ℕ). FallFrom (suc k) changes) (sym (e.end ∙ n)) (falls lay tries calls lines changes x.so_far.in_order (entries (of_map map)))) moment
 
     is_reply : IsReply lay tries calls lines reply
     is_reply = record {
@@ -334,7 +334,7 @@ refuses_tells v c (Map (RangeOf low high most)) (MapAnswer (Pairs found)) x = in
 refuses_tells v c (Map (RangeOf low high most)) (MapAnswer NoMemory) x = tt
 refuses_tells v c command answer x = absurd x
 
-pub refused_turn : (lay : Layout) (tries : ℕ) (calls : List Call) (words : Contents) (clients : List Client) (lines : List Line) (c new : Client) (number : ℕ) (pass : PassNo) (answer : Answer) (changes : List Change) (said : Option ℕ) (reply : Finished) → (lay.mode ≡ Tree → AreEntries calls lines changes) → length calls ≤ 65536 → OwesNothing lay calls lines → IsTurnOf lay tries calls words clients lines c → Refuses (client_view lay tries calls lines c.pass.0) c answer → begin lines c.pass.0 ≡ None → c.begin ≡ number → number ≡ suc (turns lines) → pass ≡ c.pass → IsEnd calls (Step (Idle number pass) ∷ lines) changes c new number answer said reply → AreBetweenTurns lay tries calls words (set clients c.pass.0 new) (ReplyLine reply ∷ Step (Idle number pass) ∷ lines)
+pub refused_turn : (lay : Layout) (tries : ℕ) (calls : List Call) (words : Contents) (clients : List Client) (lines : List Line) (c new : Client) (number : ℕ) (pass : PassNo) (answer : Answer) (changes : List Change) (said : Option ℕ) (reply : Finished) → (IsMap lay.mode → AreEntries calls lines changes) → length calls ≤ 65536 → OwesNothing lay calls lines → IsTurnOf lay tries calls words clients lines c → Refuses (client_view lay tries calls lines c.pass.0) c answer → begin lines c.pass.0 ≡ None → c.begin ≡ number → number ≡ suc (turns lines) → pass ≡ c.pass → IsEnd calls (Step (Idle number pass) ∷ lines) changes c new number answer said reply → AreBetweenTurns lay tries calls words (set clients c.pass.0 new) (ReplyLine reply ∷ Step (Idle number pass) ∷ lines)
 refused_turn lay tries calls words clients lines c new number pass answer changes said reply entries few settled x r unbegun begins n is e =
     replied lay tries calls words clients (Step (Idle number pass) ∷ lines) changes c new answer said reply r.command number entries few
     record {

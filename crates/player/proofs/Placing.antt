@@ -1,8 +1,7 @@
 -- Where the moment of an answer lies.
 use Rattle.std.proofs.Common.{◌≡◌, ℕ, suc, ◌≤◌, Bool, true, false, List, Option, Some, None, refl, sym, ◌∙◌, subst, arith}
-use Rattle.histories.specs.Common.{Tree, Layout, History}
-use Rattle.record.specs.Common.{Call, Command, Scx, Set, Map, Reply, Request, HasItsEntry, MayAnswerAfterStep, IsRight, enters}
-use Rattle.player.specs.Modes.{mode_of}
+use Rattle.histories.specs.Common.{Layout, History}
+use Rattle.record.specs.Common.{Call, Command, asks_map, Scx, Set, Map, Reply, Request, HasItsEntry, MayAnswerAfterStep, IsRight, enters}
 use Rattle.record.specs.declared.record.Line.{Line}
 use Rattle.record.specs.declared.record.Answer.{Answer}
 use Rattle.record.specs.declared.record.Answer.TheVariants.{Snapshot, Finalized, Done, Same, Map as MapAnswer}
@@ -70,7 +69,7 @@ module _ (calls : List Call) (lines : List Line) (changes : List Change) (first 
       go (ByReply given) x = ordered_within (Map request) given falls x
       go Nowhere x = nowhere x
 
-  pub moment_within : (lay : Layout) (tries c : ℕ) (now start : History) (linked : ℕ → Option History) (command : Command) (answer : Answer) → IsRight lay tries c now start linked command answer → (mode_of command ≡ Tree → AreEntries calls lines changes) → (mode_of command ≡ Tree → FallFrom (suc last) changes) → IsMomentBy calls lines changes command answer first last won moment → (first ≤ m) × (m ≤ last)
+  pub moment_within : (lay : Layout) (tries c : ℕ) (now start : History) (linked : ℕ → Option History) (command : Command) (answer : Answer) → IsRight lay tries c now start linked command answer → (asks_map command ≡ true → AreEntries calls lines changes) → (asks_map command ≡ true → FallFrom (suc last) changes) → IsMomentBy calls lines changes command answer first last won moment → (first ≤ m) × (m ≤ last)
   moment_within lay tries c now start linked (Map request) answer right entries falls x = map_within request answer (took_place lay tries c now start linked request answer right) (entries refl) (falls refl) x
   moment_within lay tries c now start linked command (MapAnswer reply) right entries falls x = absurd right
   moment_within lay tries c now start linked command Done right entries falls x = between m (sym x ∙ is)

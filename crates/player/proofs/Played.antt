@@ -1,13 +1,11 @@
 -- What is true of a player before its first turn and after its last.
-use Rattle.std.proofs.Common.{arith, ◌≡◌, ◌≢◌, ℕ, suc, ◌+◌, ◌<◌, ◌≤◌, List, [], ◌∷◌, ◌++◌, length, map, reverse, take, get_or, Option, Some, None, Result, Ok, Err, slice_get, All, inl, inr, refl, sym, ◌∙◌, ap, subst}
+use Rattle.std.proofs.Common.{arith, ◌≡◌, ℕ, suc, ◌+◌, ◌<◌, ◌≤◌, List, [], ◌∷◌, ◌++◌, length, map, reverse, take, get_or, Option, Some, None, Result, Ok, Err, slice_get, All, inl, inr, refl, sym, ◌∙◌, ap, subst}
 use Rattle.std.specs.Prelude.{OnErr, OnOk}
 use Rattle.std.proofs.lemmas.List.{map_more, reverse-append, reverse-reverse}
-use Rattle.arena.specs.declared.limits.Mode.TheVariants.{Trie}
 use Rattle.histories.specs.Common.{Layout, Contents, value, Lawful, Shaped}
 use Rattle.arena.specs.PlainWords.{IsOpening}
 use Rattle.histories.proofs.Lemmas.{fields_are, finalized_since, lawful_since, once}
-use Rattle.record.specs.Common.{Call, history, clients, turns, AreLines, IsLawfulRun}
-use Rattle.player.specs.Modes.{mode_of}
+use Rattle.record.specs.Common.{Call, history, clients, turns, AreLines, IsLawfulRun, IsOfMode}
 use Rattle.player.proofs.Readings.{whole}
 use Rattle.player.specs.declared.client.Client.{Client}
 use Rattle.player.specs.declared.interleaving.Interleaving.{Interleaving}
@@ -23,16 +21,15 @@ use Rattle.player.specs.Core.{IsNextTurn, StandsAt, with_lines}
 use Rattle.player.specs.Player.{PlayerView, ScriptView, script_view, IsPlayed, IsTurnMore}
 
 -- words as they are at the start, and clients that rest, are between two turns
-pub opening_between : (lay : Layout) (tries : ℕ) (calls : List Call) (words : Contents) (all : List Client) → words.layout ≡ lay → IsOpening words → lay.mode ≢ Trie → All (λ (call : Call). mode_of call.command ≡ lay.mode) calls → ((j : ℕ) (d : Client) → slice_get all j ≡ Some d → (d.pass.0 ≡ j) × Rests (client_view lay tries calls [] j) d) → AreBetweenTurns lay tries calls words all []
+pub opening_between : (lay : Layout) (tries : ℕ) (calls : List Call) (words : Contents) (all : List Client) → words.layout ≡ lay → IsOpening words → All (λ (call : Call). IsOfMode lay.mode call.command) calls → ((j : ℕ) (d : Client) → slice_get all j ≡ Some d → (d.pass.0 ≡ j) × Rests (client_view lay tries calls [] j) d) → AreBetweenTurns lay tries calls words all []
 unfolding value Lawful Shaped AreLines
-opening_between lay tries calls words rests same opening plays all each = record {
+opening_between lay tries calls words rests same opening all each = record {
   so_far = record {
     layout = same;
     holds = λ w i. opening w (rw same i) ∙ rw same refl;
     sound = record { lawful = refl; shaped = tt };
     in_order = tt;
-    filled = λ tree. tt;
-    plays = plays;
+    filled = λ map. tt;
     of_mode = all;
   };
   settled = record { entry = refl; reply = λ y. y };

@@ -1,7 +1,8 @@
 -- How an SCX begins: with the next records of the share, and with snapshots that may be used.
-use Rattle.std.proofs.Common.{◌≡◌, ℕ, ◌+◌, ◌<◌, ◌≤◌, ◌↔◌, map, ⊎_elim, true, cond, eqb, ne_eqb, List, [], ◌∷◌, length, if◌then◌else◌, Option, Some, None, slice_get, refl, sym, ◌∙◌, ap, subst, arith}
+use Rattle.std.proofs.Common.{◌≡◌, ℕ, ◌+◌, ◌<◌, ◌≤◌, ◌↔◌, map, ⊎_elim, true, false, cond, eqb, ne_eqb, List, [], ◌∷◌, length, if◌then◌else◌, Option, Some, None, slice_get, refl, sym, ◌∙◌, ap, subst, arith}
 use Rattle.std.proofs.Math.ListN.{set}
-use Rattle.histories.specs.Common.{taken_nodes, Layout, Records, Tree, Side, Remaining, HasNode as HasOwnNode, HasScx, LoadInfo, History}
+use Rattle.arena.specs.Opening.{is_map}
+use Rattle.histories.specs.Common.{taken_nodes, Layout, Records, Side, Remaining, HasNode as HasOwnNode, HasScx, LoadInfo, History}
 use Rattle.histories.specs.Common.{Extends, IsLastStep, IsOwnScx, IsTakenScx, HasWon, NodeNo, plan_finalizes, side_of, Resource}
 use Rattle.arena.specs.Share.{after_taking}
 use Rattle.arena.proofs.Lemmas.{last_now, ends_self}
@@ -20,7 +21,7 @@ use Rattle.record.specs.declared.record.Answer.TheVariants.{Full}
 use Rattle.player.specs.KeptSnaps.{IsUnspent, kept_of, node_of, found_of}
 use Rattle.record.specs.Shares.{HasTooFew}
 use Rattle.player.proofs.Left.{full_left}
-use Rattle.player.specs.ClientView.{ClientView, IsSound, IsLlxOf, IsPutOf, no_hand, held, HoldsShare, IsClientState, Rests, Starts, Answered, HasBeenTold, TellsFull, CanPut, Puts, BeginsOrRefuses}
+use Rattle.player.specs.ClientView.{call_steps, ClientView, IsSound, IsLlxOf, IsPutOf, no_hand, held, HoldsShare, IsClientState, Rests, Starts, Answered, HasBeenTold, TellsFull, CanPut, Puts, BeginsOrRefuses}
 use Rattle.prims.specs.Laws.Begun.{taken_since}
 use Rattle.prims.proofs.Lemmas.{taken_node_since, left_own_node, left_own_scx, taken_share, free_unnamed, all_over, put_ready_first}
 use Rattle.player.proofs.Over.{taken_nothing}
@@ -65,7 +66,7 @@ can_put v old kept m put snap sound x e = go x.works.command x.works.is x.works.
     unspent : IsUnspent v.layout old.pass.0 v.past snap v.past
     unspent = snapshot_unspent v old m (Some put) snap sound x
 
-    go : (command : Command) → slice_get (commands v.calls old.pass.0) v.answered ≡ Some command → IsLlxOf command m.node.0 (Some put) → ((taken : ℕ) → length (taken_nodes v.past) ≤ taken → v.steps + 40 ≤ command_steps command v.tries taken) → CanPut v (linked_now v command) (record old { kept = kept }) (snap ∷ []) [] (snap.node.0, put.side) put.value
+    go : (command : Command) → slice_get (commands v.calls old.pass.0) v.answered ≡ Some command → IsLlxOf command m.node.0 (Some put) → ((taken : ℕ) → length (taken_nodes v.past) ≤ taken → v.steps + 40 ≤ call_steps v command taken) → CanPut v (linked_now v command) (record old { kept = kept }) (snap ∷ []) [] (snap.node.0, put.side) put.value
     go (SetOf field y) is f few = record {
       mode = x.works.mode;
       rests = rests_kept v old kept m (Some put) (LlxSnapshot snap) (linked_now v (SetOf field y)) sound x e (λ n. rw (x.answers.0.node ∙ f.0) refl);
@@ -143,7 +144,8 @@ put_starts v linked c snaps removed field x kept m sound can some_node some_scx 
       kept = kept_without c.kept kept snaps left v.layout c.pass.0 v.past linked v.linked can.others y.kept;
       unkept = λ n i d. rw is (unkept_without c.kept kept snaps left linked v.linked can.others (λ n i d. ⊎_elim (λ z. absurd (among_none n z)) (λ z. z) (y.unkept n i d)) n i d);
       dropped = λ n z. dropped c.kept kept snaps left n (rw is at z);
-      free = λ tree. absurd (let z : Records ≡ Tree = sym can.mode ∙ tree in cc);
+      free = λ map. absurd (let z : false ≡ true = sym (ap is_map can.mode) ∙ map in cc);
+      trie = can.rests.stands.trie;
     };
     holds = record {
       some = refl;

@@ -1,8 +1,8 @@
 -- Where the calls of a run took place: those of cells where their answer says; a call of the map at
--- its entry, or in the turn that was found for it. All replies of a run on the tree are those of
+-- its entry, or in the turn that was found for it. All replies of a run on a map are those of
 -- one map.
 use Rattle.std.proofs.Common.{◌≡◌, ℕ, suc, ◌≤◌, ⊎_elim, Bool, true, false, List, Option, Some, None, IfSome, IfNone, refl, sym, ◌∙◌, ap, subst, arith}
-use Rattle.arena.specs.Opening.{is_map}
+use Rattle.arena.specs.Opening.{is_map, IsMap}
 use Rattle.arena.specs.declared.limits.Mode.TheVariants.{Trie}
 use Rattle.histories.specs.Common.{Mode, Records, Tree, Layout, Contents}
 use Rattle.record.specs.Common.{Pair, MapCall, MapReply, OneValue, changes_map, get, reply as answer_on, map_request, Call, Command, Map, Request, Reply, number_reply, history, turns, answered}
@@ -19,6 +19,7 @@ use Rattle.player.specs.Moments.{IsMomentBy, IsOrderedMoment, IsReadMoment}
 use Rattle.player.specs.ClientView.{ClientView, client_view, IsToldBy, IsToldOfMap, IsToldReading, AnswersRight}
 use Rattle.record.specs.Placed.{IsPlacedChangeOrReading, IsPlacedReading}
 use Rattle.record.specs.LawfulRun.{IsWhole}
+use Rattle.record.specs.Legal.{IsLegal}
 use Rattle.record.proofs.Lemmas.{begin_within, lawful_is_legal}
 use Rattle.player.specs.BetweenTurns.{IsLawfulSoFar}
 use Rattle.linearization.proofs.Lemmas.{IsRepliedIn, are_spelled, falls, ordered_placed, replied_turn}
@@ -31,9 +32,9 @@ cell_moment : (calls : List Call) (lines : List Line) (changes : List Change) (c
 cell_moment calls lines changes command (MapAnswer reply) first last won moment d x = absurd (d reply refl)
 cell_moment calls lines changes command answer first last won moment d x = x
 
--- the words spell the map after each turn of a run on the tree
-spelled_so_far : (lay : Layout) (tries : ℕ) (calls : List Call) (words : Contents) (lines : List Line) → IsLawfulSoFar lay tries calls words lines → lay.mode ≡ Tree → AreSpelled lay calls lines
-spelled_so_far lay tries calls words lines x mode = are_spelled lay tries calls (ap is_map mode) (map_calls lay.mode calls mode x.of_mode) lines x.in_order (map_run lay (history lay.mode lines) mode x.sound) (x.filled mode)
+-- the words spell the map after each turn of a run on a map
+spelled_so_far : (lay : Layout) (tries : ℕ) (calls : List Call) (words : Contents) (lines : List Line) → IsLawfulSoFar lay tries calls words lines → IsMap lay.mode → AreSpelled lay calls lines
+spelled_so_far lay tries calls words lines x mode = are_spelled lay tries calls mode (map_calls lay.mode calls mode x.of_mode) lines x.in_order (map_run lay (history lay.mode lines) mode x.sound) (x.filled mode)
 
 -- the value of a reply that answers one
 some_value : (a b : Option ℕ) → Some (OneValue a) ≡ Some (OneValue b) → a ≡ b
@@ -104,7 +105,7 @@ module _ (lay : Layout) (tries : ℕ) (calls : List Call) (words : Contents) (li
       go Nowhere e m t = subst (λ (told : Option MapReply). IsPlacedOnMap told calls lines call reply) (sym t) (refused lay tries calls lines changes reply reply.client.0 (Map request) y e m)
 
 -- where the call of a reply took place
-pub placed : (lay : Layout) (tries : ℕ) (calls : List Call) (words : Contents) (lines : List Line) (changes : List Change) (reply : Finished) (c : ℕ) (command : Command) → IsLawfulSoFar lay tries calls words lines → (lay.mode ≡ Tree → AreEntries calls lines changes) → entry_owed lay lines ≡ None → reply.client.0 ≡ c → reply.call ≡ answered lines c → IsRight lay tries c (history lay.mode lines) (start lay.mode lines c) (linked calls lay.mode lines c) command reply.answer → AnswersRight (client_view lay tries calls lines c) c command reply.answer → HasItsEntry (enters command reply.answer) (won lay lines c) → next_command calls lines c ≡ Some command → begin lines c ≡ Some reply.begin → reply.end ≡ turns lines
+pub placed : (lay : Layout) (tries : ℕ) (calls : List Call) (words : Contents) (lines : List Line) (changes : List Change) (reply : Finished) (c : ℕ) (command : Command) → IsLawfulSoFar lay tries calls words lines → (IsMap lay.mode → AreEntries calls lines changes) → entry_owed lay lines ≡ None → reply.client.0 ≡ c → reply.call ≡ answered lines c → IsRight lay tries c (history lay.mode lines) (start lay.mode lines c) (linked calls lay.mode lines c) command reply.answer → AnswersRight (client_view lay tries calls lines c) c command reply.answer → HasItsEntry (enters command reply.answer) (won lay lines c) → next_command calls lines c ≡ Some command → begin lines c ≡ Some reply.begin → reply.end ≡ turns lines
     → IsMomentBy calls lines changes command reply.answer reply.begin reply.end (won lay lines c) reply.moment → IsPlaced lay calls lines reply command
 placed lay tries calls words lines changes reply c (Map request) x entries owed own called right tells entry is begin end moment =
     let mode = sym (command_mode lay.mode calls c _ (Map request) x.of_mode is) in
@@ -133,7 +134,10 @@ placed lay tries calls words lines changes reply c command x entries owed own ca
 pub whole : (lay : Layout) (tries : ℕ) (calls : List Call) (words : Contents) (lines : List Line) → IsLawfulSoFar lay tries calls words lines → IsWhole lay.mode lay calls lines
 whole lay tries calls words lines x = go lay.mode refl
   where
+    of_map : IsMap lay.mode → AreSpelled lay calls lines × IsLegal calls lines
+    of_map map = (spelled_so_far lay tries calls words lines x map, lawful_is_legal lay tries calls lines (map_calls lay.mode calls map x.of_mode) x.in_order)
+
     go : (m : Mode) → lay.mode ≡ m → IsWhole m lay calls lines
     go Records e = tt
-    go Trie e = absurd (x.plays e)
-    go Tree e = (spelled_so_far lay tries calls words lines x e, lawful_is_legal lay tries calls lines (map_calls lay.mode calls e x.of_mode) x.in_order)
+    go Tree e = of_map (ap is_map e)
+    go Trie e = of_map (ap is_map e)

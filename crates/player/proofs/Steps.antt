@@ -2,8 +2,8 @@
 use Rattle.std.proofs.Common.{◌≡◌, ℕ, suc, true, ◌≤◌, ◌≢◌, ◌⊎◌, inl, inr, ⊎_elim, List, ◌∷◌, set, length, Option, Some, None, MatchOption, IsSome, All, get_or, slice_get, unwrap_or, refl, sym, ◌∙◌, ap, subst, eq-eqb, arith, [], IfSome}
 use native.Mathlib.Decide.{ℕ_discrete}
 use Rattle.histories.specs.Common.{IsOwnScx, Layout, PassNo, Row, Step as Ask, Kind, Word, word_after, Load, Store, Exchange, IsWord}
-use Rattle.histories.specs.Common.{Contents, word_at, IsChanged, ◌⊳◌, value, IsLawful, IsWin, IsRun, IsTold, Tree, taken_nodes}
-use Rattle.arena.specs.Opening.{is_map}
+use Rattle.histories.specs.Common.{Contents, word_at, IsChanged, ◌⊳◌, value, IsLawful, IsWin, IsRun, IsTold, taken_nodes}
+use Rattle.arena.specs.Opening.{is_map, IsMap}
 use Rattle.arena.specs.declared.step.Access.{Access}
 use Rattle.histories.proofs.Lemmas.{UpdateWins, facts_before, lawful_row, update_win}
 use Rattle.player.specs.Allowed.{PlayedAllows}
@@ -40,9 +40,9 @@ use Rattle.player.proofs.MayMakes.{may_make}
 use Rattle.record.proofs.Lemmas.{begin_within, log_step}
 use Rattle.player.proofs.EachCall.{edit_of_key}
 use Rattle.player.proofs.Keys.{command_key, some_edit}
-use Rattle.player.proofs.MapCalls.{all_counted, map_calls, map_run}
+use Rattle.player.proofs.MapCalls.{map_calls, map_run}
 use Rattle.player.proofs.Winners.{IsEntryOfWin, entry_wins, tells_won, win_enters}
-use Rattle.player.proofs.Entered.{IsEditOfCall, IsEntryFrom, edit_entered, entry_by_others, entry_by_own, in_hand_tree, rest_wins_not}
+use Rattle.player.proofs.Entered.{IsEditOfCall, IsEntryFrom, edit_entered, entry_by_others, entry_by_own, in_hand_map, rest_wins_not}
 
 -- the client that makes the turn is about to hear what its step found; turn number `number` has
 -- been written down in full
@@ -129,12 +129,12 @@ module _ (p : Interleaving) (lines : List Line) (i number : ℕ) (step : Ask) (a
   asked_word = rw (a.turn.so_far.layout, sym a.asks) lawful.word
 
   -- and fills in order
-  in_order : lay.mode ≡ Tree → IsFillInOrder (history lay.mode lines) made
-  in_order tree = run_in_order a.running.run _ (history lay.mode lines) a.running.step (sym a.waits.works.mode ∙ tree) (a.turn.so_far.filled tree) a.waits.waits
+  in_order : IsMap lay.mode → IsFillInOrder (history lay.mode lines) made
+  in_order map = run_in_order a.running.run _ (history lay.mode lines) a.running.step (sym (ap is_map a.waits.works.mode) ∙ map) (a.turn.so_far.filled map) a.waits.waits
 
   pub asked_made : (words : Contents) → IsChanged p.words words made.word made.after → IsTurnOf lay tries calls words p.clients.items (Step (Made number made) ∷ lines) a.client
   asked_made words changed = record {
-    so_far = step_made lay tries calls p.words words lines number made changed sound (a.settled, record { in_turn = a.in_turn; lawful = lawful; call = a.waits.works.stands.number; command = a.waits.works.command; is = a.waits.works.is; few = let taken = length (taken_nodes (history lay.mode lines)) in let few = a.waits.few taken in rw (all_counted lay.mode taken a.turn.so_far.plays) (omega arith); may = may_make a.waits.works.command a.client.number a.running.run a.running.then _ _ a.running.step a.waits.works.run_of a.waits.waits; says = λ s kind word. run_says a.waits.works.command a.running.run a.running.then (machine_call v a.client a.waits.works.is_pass a.waits.works.start) _ a.running.step s _ a.waits.works.run_of a.waits.waits kind word }) in_order a.turn.so_far;
+    so_far = step_made lay tries calls p.words words lines number made changed sound (a.settled, record { in_turn = a.in_turn; lawful = lawful; call = a.waits.works.stands.number; command = a.waits.works.command; is = a.waits.works.is; few = let few = a.waits.few (length (taken_nodes (history lay.mode lines))) in omega arith; may = may_make a.waits.works.command a.client.number a.running.run a.running.then _ _ a.running.step a.waits.works.run_of a.waits.waits; says = λ s kind word. run_says a.waits.works.command a.running.run a.running.then (machine_call v a.client a.waits.works.is_pass a.waits.works.start) _ a.running.step s _ a.waits.works.run_of a.waits.waits kind word }) in_order a.turn.so_far;
     others = others_step lay tries calls p.clients.items lines a.client.pass.0 number made a.turn.so_far.sound sound refl a.in_turn a.turn.so_far.in_order a.turn.others;
     own = a.turn.own;
   }
@@ -250,19 +250,19 @@ module _ (p : Interleaving) (lines : List Line) (i number : ℕ) (step : Ask) (a
 
   -- on the tree the entry is of the edit that its client has in hand, which its call makes of the
   -- map just before
-  module _ (entry : Entry) (e : entry_of lay lines number made ≡ Some entry) (tree : lay.mode ≡ Tree) where
+  module _ (entry : Entry) (e : entry_of lay lines number made ≡ Some entry) (map : IsMap lay.mode) where
     o : IsOwner entry
     o = owner_of entry e
 
     x : IsEditOfCall (client_view lay tries calls lines entry.client.0) o.client o.running
-    x = edit_entered (client_view lay tries calls lines entry.client.0) o.client o.running made o.scx a.turn.so_far.sound o.waits sound o.wins o.own tree
+    x = edit_entered (client_view lay tries calls lines entry.client.0) o.client o.running made o.scx a.turn.so_far.sound o.waits sound o.wins o.own map
 
     -- the map just before
     abbrev map_before : List Pair
     map_before = map_of calls (written_log lines)
 
     gives : edit_of (map_request x.request) (reply (map_request x.request) map_before) ≡ Some x.edit
-    gives = x.gives map_before (spelled lay tries calls (ap is_map tree) (map_calls lay.mode calls tree a.turn.so_far.of_mode) lines a.turn.so_far.in_order (map_run lay (history lay.mode lines) tree a.turn.so_far.sound) a.settled.entry)
+    gives = x.gives map_before (spelled lay tries calls map (map_calls lay.mode calls map a.turn.so_far.of_mode) lines a.turn.so_far.in_order (map_run lay (history lay.mode lines) map a.turn.so_far.sound) a.settled.entry)
 
     place : slice_get (commands calls entry.client.0) entry.call ≡ Some (Map x.request)
     place = ap (λ (j : ℕ). slice_get (commands calls entry.client.0) j) (log_entry entry e).call ∙ ap (λ (k : ℕ). slice_get (commands calls k) (answered lines entry.client.0)) (sym o.pass) ∙ x.is
@@ -281,7 +281,7 @@ module _ (p : Interleaving) (lines : List Line) (i number : ℕ) (step : Ask) (a
 
     key_known : (places : Places) → ArePlaces lay calls lines places → Knows places (edit_key x.edit)
     key_known places y =
-        ⊎_elim (λ z. subst (λ (k : Option ℕ). IfSome k (Knows places)) z (command_key calls entry.client.0 entry.call (Knows places) (Map x.request) y.keys place)) (λ z. knows_told places calls lines (turns lines) (edit_key x.edit) z.0 (y.entries tree) (ap (get (edit_key x.edit)) (map_now lay tries calls lines a.turn.so_far.in_order) ∙ z.1))
+        ⊎_elim (λ z. subst (λ (k : Option ℕ). IfSome k (Knows places)) z (command_key calls entry.client.0 entry.call (Knows places) (Map x.request) y.keys place)) (λ z. knows_told places calls lines (turns lines) (edit_key x.edit) z.0 (y.entries map) (ap (get (edit_key x.edit)) (map_now lay tries calls lines a.turn.so_far.in_order) ∙ z.1))
         (edit_of_key (map_request x.request) x.edit map_before gives)
 
     asked_edit : IsAtEdit lay calls lines p.clients.items entry
@@ -293,10 +293,10 @@ module _ (p : Interleaving) (lines : List Line) (i number : ℕ) (step : Ask) (a
     }
 
   -- and on cells none has one
-  asked_tree : (entry : Entry) → entry_of lay lines number made ≡ Some entry → (edit : MapEdit) → owners_edit p.clients.items entry.client.0 ≡ Some edit → lay.mode ≡ Tree
-  asked_tree entry e edit is =
+  asked_of_map : (entry : Entry) → entry_of lay lines number made ≡ Some entry → (edit : MapEdit) → owners_edit p.clients.items entry.client.0 ≡ Some edit → IsMap lay.mode
+  asked_of_map entry e edit is =
       let o = owner_of entry e in
-      in_hand_tree (client_view lay tries calls lines entry.client.0) o.client o.running edit o.waits (sym (ap client_edit o.there ∙ ap running_edit o.runs) ∙ is)
+      in_hand_map (client_view lay tries calls lines entry.client.0) o.client o.running edit o.waits (sym (ap client_edit o.there ∙ ap running_edit o.runs) ∙ is)
 
   -- with the row that the player writes down
   pub asked_owner : (row : Row) (after : List Line) → row ≡ made → after ≡ Step (Made number row) ∷ lines → (entry : Entry) → entry_owed lay after ≡ Some entry → IsOwned lay calls after p.clients.items entry
@@ -304,8 +304,8 @@ module _ (p : Interleaving) (lines : List Line) (i number : ℕ) (step : Ask) (a
       let there : entry_of lay lines number made ≡ Some entry = ap (λ (r : Row). entry_of lay lines number r) (sym e) ∙ ap (λ (l : List Line). entry_owed lay l) (sym is) ∙ owed in
       subst (λ (l : List Line). IsOwned lay calls l p.clients.items entry) (sym is)
       record {
-        edits = λ tree. let x = asked_edit entry there tree in record { edit = x.edit; is = x.is; by = x.by; known = λ places y. x.known places record { entries = y.entries; keys = y.keys } };
-        tree = asked_tree entry there;
+        edits = λ map. let x = asked_edit entry there map in record { edit = x.edit; is = x.is; by = x.by; known = λ places y. x.known places record { entries = y.entries; keys = y.keys } };
+        of_map = asked_of_map entry there;
       }
 
   -- with its entry written down, if there is one, the client hears
@@ -356,7 +356,7 @@ heard_on lay tries calls words all lines c new q found number x g =
     (turn_changed lay tries calls words all lines c new g.same.pass x.turn)
 
 -- its call ends, and the reply is written down
-pub heard_end : (lay : Layout) (tries : ℕ) (calls : List Call) (words : Contents) (all : List Client) (lines : List Line) (changes : List Change) (c mid new : Client) (q : Running) (found number : ℕ) (answer : Answer) (said : Option ℕ) (reply : Finished) → (lay.mode ≡ Tree → AreEntries calls lines changes) → length calls ≤ 65536 → IsHeard lay tries calls words all lines c q found number → EndsCall (client_view lay tries calls lines c.pass.0) c mid answer → ((turn : ℕ) → won lay lines c.pass.0 ≡ Some turn → said ≡ Some turn) → IsEnd calls lines changes mid new number answer said reply → AreBetweenTurns lay tries calls words (set (set all c.pass.0 mid) c.pass.0 new) (ReplyLine reply ∷ lines)
+pub heard_end : (lay : Layout) (tries : ℕ) (calls : List Call) (words : Contents) (all : List Client) (lines : List Line) (changes : List Change) (c mid new : Client) (q : Running) (found number : ℕ) (answer : Answer) (said : Option ℕ) (reply : Finished) → (IsMap lay.mode → AreEntries calls lines changes) → length calls ≤ 65536 → IsHeard lay tries calls words all lines c q found number → EndsCall (client_view lay tries calls lines c.pass.0) c mid answer → ((turn : ℕ) → won lay lines c.pass.0 ≡ Some turn → said ≡ Some turn) → IsEnd calls lines changes mid new number answer said reply → AreBetweenTurns lay tries calls words (set (set all c.pass.0 mid) c.pass.0 new) (ReplyLine reply ∷ lines)
 heard_end lay tries calls words all lines changes c mid new q found number answer said reply entries few x g wins e =
     subst (λ (k : ℕ). AreBetweenTurns lay tries calls words (set (set all c.pass.0 mid) k new) (ReplyLine reply ∷ lines)) pass0
     (replied lay tries calls words (set all c.pass.0 mid) lines changes mid new answer said reply g.command number entries few
@@ -407,14 +407,14 @@ keys_kept old new calls more all i d less = go (changed_key (get_or calls i d).c
 
 -- room for more leaves the places
 pub places_roomy : (lay : Layout) (calls : List Call) (lines : List Line) (old new : Places) → changes new ≡ changes old → ((key : ℕ) → Knows old key → Knows new key) → ArePlaces lay calls lines old → ArePlaces lay calls lines new
-places_roomy lay calls lines old new same more x = record { entries = λ tree. rw same (x.entries tree); keys = keys_kept old new calls more x.keys }
+places_roomy lay calls lines old new same more x = record { entries = λ map. rw same (x.entries map); keys = keys_kept old new calls more x.keys }
 
 -- an entry is kept with the change of its edit
 pub places_logged : (lay : Layout) (calls : List Call) (clients : List Client) (lines : List Line) (e : Entry) (old new : Places) → IsOwned lay calls lines clients e → ((edit : MapEdit) → owners_edit clients e.client.0 ≡ Some edit → changes new ≡ change_of e.step edit ∷ changes old) → ((key : ℕ) → Knows old key → Knows new key) → ArePlaces lay calls lines old → ArePlaces lay calls (Log e ∷ lines) new
-places_logged lay calls clients lines e old new owned change more p = record { entries = λ tree. entries tree (owned.edits tree); keys = keys_kept old new calls more p.keys }
+places_logged lay calls clients lines e old new owned change more p = record { entries = λ map. entries map (owned.edits map); keys = keys_kept old new calls more p.keys }
   where
-    entries : lay.mode ≡ Tree → IsAtEdit lay calls lines clients e → AreEntries calls (Log e ∷ lines) (changes new)
-    entries tree x = rw (change x.edit x.is) (x.by, p.entries tree)
+    entries : IsMap lay.mode → IsAtEdit lay calls lines clients e → AreEntries calls (Log e ∷ lines) (changes new)
+    entries map x = rw (change x.edit x.is) (x.by, p.entries map)
 
 -- its key may be changed
 pub place_known : (lay : Layout) (calls : List Call) (clients : List Client) (lines : List Line) (e : Entry) (places : Places) → IsOwned lay calls lines clients e → ArePlaces lay calls lines places → IfSome (owners_edit clients e.client.0) (λ (edit : MapEdit). Knows places (edit_key edit))
@@ -423,7 +423,7 @@ place_known _ _ clients _ e places owned p = go (owners_edit clients e.client.0)
     go : (edit : Option MapEdit) → owners_edit clients e.client.0 ≡ edit → IfSome edit (λ (d : MapEdit). Knows places (edit_key d))
     go None is = tt
     go (Some edit) is =
-        let x = owned.edits (owned.tree edit is) in
+        let x = owned.edits (owned.of_map edit is) in
         subst (λ (d : MapEdit). Knows places (edit_key d)) (some_edit x.edit edit (sym x.is ∙ is)) (x.known places p)
 
 -- the entry after the newest line leaves who made the turns, and how many they are

@@ -1,6 +1,7 @@
 -- What each row leaves of what the clients know.
 use Rattle.std.proofs.Common.{◌≡◌, ◌≢◌, ℕ, suc, ◌<◌, ◌≤◌, ◌⊎◌, inl, inr, ⊎_elim, Option, Some, None, List, refl, sym, ◌∙◌, subst, arith}
-use Rattle.histories.specs.Common.{Layout, Tree, Row, Step as Ask, Remaining, word_after, History, Start, ◌⊳◌, value, Extends, IsMember}
+use Rattle.arena.specs.Opening.{IsMap}
+use Rattle.histories.specs.Common.{Layout, Row, Step as Ask, Remaining, word_after, History, Start, ◌⊳◌, value, Extends, IsMember}
 use Rattle.histories.specs.Common.{IsInProgress, IsOwnNode, IsOwnScx, IsTakenNode, IsTakenScx, Lawful, HasWon, IsWin, Call, IsTold, row_of, LoadInfo}
 use Rattle.arena.proofs.Lemmas.{last_more, ends_self, ends_trans, taken_more}
 use Rattle.histories.proofs.Lemmas.{Logs, UpdateWins, facts_before, logs, same as log_same, update_split, update_win, update_won, lawful_row, wins as log_wins, won_more}
@@ -16,6 +17,8 @@ use Rattle.player.specs.declared.client.SetField.{SetField}
 use Rattle.player.specs.declared.kept.KeptSnapshot.{KeptSnapshot}
 use Rattle.player.specs.KeptSnaps.{IsUnspent, kept_of, snap_of}
 use Rattle.record.specs.Answers.{HasRoom}
+use Rattle.dict.specs.Calls.{trie_in}
+use Rattle.player.proofs.Shapes.{of_map}
 use Rattle.player.specs.RunKnown.{RunWaits, RunIsReady, run_mode}
 use Rattle.player.proofs.RunLaws.{run_keeps, run_lawful, run_made}
 use Rattle.player.specs.ClientView.{ClientView, Hand, no_hand, in_hand, snaps_of, IsSound, HasNewest, IsStart, IsSource, IsMachineOf, HasTaken, HaveMoments, IsRoomy, IsWonAs, IsOwnWin, IsWonSince, IsWonBy, held, HoldsShare, Holds, TakesInHand, IsClientState, Rests, Works, WaitsForStep, Hears, IsClient, machine_call}
@@ -52,7 +55,7 @@ own_row v c step = record { pass = record { 0 = c.pass.0 }; call = c.number; kin
 
 -- what a client has does not ask when its call began, nor whether an update has won
 pub stands_from : (v : ClientView) (c : Client) (start : History) (won : Option ℕ) (hand : Hand) → IsClientState v c hand → IsClientState (record v { start = start; won = won }) c hand
-stands_from v c start won hand x = record { is_pass = x.is_pass; tries = x.tries; number = x.number; place = x.place; kept = x.kept; unkept = x.unkept; dropped = x.dropped; free = x.free }
+stands_from v c start won hand x = record { is_pass = x.is_pass; tries = x.tries; number = x.number; place = x.place; kept = x.kept; unkept = x.unkept; dropped = x.dropped; free = x.free; trie = x.trie }
 
 pub holds_from : (v : ClientView) (c : Client) (start : History) (won : Option ℕ) (hand : Hand) → HoldsShare v c hand → HoldsShare (record v { start = start; won = won }) c hand
 holds_from v c start won hand x = record { some = x.some; share = x.share; over = x.over }
@@ -96,8 +99,8 @@ leaves_hand v c h hand l over covers x n found e s own p m =
     cc
 
 -- on the tree nothing is kept
-leaves_tree : (v : ClientView) (c : Client) (h : History) (hand : Hand) → v.layout.mode ≡ Tree → IsClientState v c hand → LeavesKept v c h
-leaves_tree v c h hand mode x n found e s own p m =
+leaves_map : (v : ClientView) (c : Client) (h : History) (hand : Hand) → IsMap v.layout.mode → IsClientState v c hand → LeavesKept v c h
+leaves_map v c h hand mode x n found e s own p m =
     let none : kept_of c.kept n ≡ None = x.free mode n in
     let e2 : kept_of c.kept n ≡ Some found = e in
     absurd cc
@@ -113,6 +116,7 @@ stands_more v c r start steps won hand run alone x = record {
   unkept = x.unkept;
   dropped = x.dropped;
   free = x.free;
+  trie = x.trie;
 }
 
 -- and what it holds of its share, if that is untouched and what it has taken finished
@@ -277,7 +281,7 @@ module _ (v : ClientView) (c : Client) (r : Row) (number : ℕ) (start : History
   hand_then hand covers x h = stands_more v c r start v.steps won hand run (leaves_hand v c (r ⊳ v.past) hand run.lawful (share_then hand h).over covers x) x
 
   still_stands : (q : Run) (step : Ask) (p : c.pass.0 < v.layout.passes) (start : History) → RunWaits q (machine_call v c p start) (r ⊳ v.past) step → v.layout.mode ≡ run_mode q → IsClientState v c (in_hand (held c) q) → Holds v c q → StillStands q
-  still_stands (Map m) step p start w mode x h = record { stands = stands_more v c r _ v.steps won (in_hand (held c) (Map m)) run (leaves_tree v c (r ⊳ v.past) _ mode x) x; holds = tt; leaves = tt }
+  still_stands (Map m) step p start w mode x h = record { stands = stands_more v c r _ v.steps won (in_hand (held c) (Map m)) run (leaves_map v c (r ⊳ v.past) _ (of_map v.layout.mode (trie_in m.run) mode) x) x; holds = tt; leaves = tt }
   still_stands q step p start w mode x h = record { stands = hand_then _ (covers_waits q (machine_call v c p start) (r ⊳ v.past) step (held c) tt run.lawful w (share_then _ h).share) x h; holds = share_then _ h; leaves = (takes_by_others v.layout c.pass.0 _ v.past r run.lawful other, λ n own d. nodes_then n own) }
 
   rests_by_others : Rests v c → Rests (after_row v r start v.steps won) c
@@ -325,7 +329,7 @@ module _ (v : ClientView) (c : Client) (q : Running) (sound : IsSound v) (w : Wa
       )
 
   stands_then : (won : Option ℕ) (run : Run) (found : ℕ) → RunWaits run call v.past q.step → RunIsReady run call (own_row v c q.step ⊳ v.past) (Some found) → v.layout.mode ≡ run_mode run → HasNewest (held c) run → IsClientState v c (in_hand (held c) run) → Holds v c run → StandsThen won run
-  stands_then won (Map m) found waits ready mode newest x h = record { stands = stands_more v c (own_row v c q.step) v.start (suc v.steps) won (in_hand (held c) (Map m)) (step_sound won) (leaves_tree v c (own_row v c q.step ⊳ v.past) _ mode x) x; holds = tt; leaves = tt }
+  stands_then won (Map m) found waits ready mode newest x h = record { stands = stands_more v c (own_row v c q.step) v.start (suc v.steps) won (in_hand (held c) (Map m)) (step_sound won) (leaves_map v c (own_row v c q.step ⊳ v.past) _ (of_map v.layout.mode (trie_in m.run) mode) x) x; holds = tt; leaves = tt }
   stands_then won run found waits ready mode newest x h = let y = hand_stands won run found tt waits ready newest x h in record { stands = y.0; holds = y.1; leaves = (y.2, y.3) }
 
   -- the machine may get what the step found

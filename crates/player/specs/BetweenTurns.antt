@@ -1,9 +1,8 @@
 -- What is true of an interleaving between two turns, and in the middle of one.
 use Rattle.std.specs.Prelude.{◌≡◌, ◌≢◌, ℕ, suc, ◌<◌, ◌⊎◌, List, ◌∷◌, set, Option, Some, None, MatchOption, slice_get, All}
-use Rattle.histories.specs.Common.{Layout, Word, IsWord, Contents, word_at, value, IsRun, Step as Ask, Row, Tree}
-use Rattle.record.specs.Common.{Call, AreFilledInOrder, history, begin, clients, entries, entry_owed, turns, won, MapEdit, edit_key, value_left, written_log, AreLines, OwesNothing}
-use Rattle.arena.specs.declared.limits.Mode.TheVariants.{Trie}
-use Rattle.player.specs.Modes.{mode_of}
+use Rattle.histories.specs.Common.{Layout, Word, IsWord, Contents, word_at, value, IsRun, Step as Ask, Row}
+use Rattle.record.specs.Common.{Call, AreFilledInOrder, history, begin, clients, entries, entry_owed, turns, won, MapEdit, edit_key, value_left, written_log, AreLines, IsOfMode, OwesNothing}
+use Rattle.arena.specs.Opening.{IsMap}
 use Rattle.record.specs.declared.record.Line.{Line}
 use Rattle.record.specs.declared.record.Line.TheVariants.{Step}
 use Rattle.record.specs.declared.record.TurnRow.{TurnRow}
@@ -31,12 +30,10 @@ pub record IsLawfulSoFar (lay : Layout) (tries : ℕ) (calls : List Call) (words
   pub holds : (w : Word) → IsWord lay w → word_at words w ≡ value (history lay.mode lines) w
   pub sound : IsRun PlayedAllows lay (history lay.mode lines)
   pub in_order : AreLines lay tries calls lines
-  -- on the tree nodes are filled in order
-  pub filled : lay.mode ≡ Tree → AreFilledInOrder (history lay.mode lines)
-  -- it is no run of a trie
-  pub plays : lay.mode ≢ Trie
+  -- of a map nodes are filled in order
+  pub filled : IsMap lay.mode → AreFilledInOrder (history lay.mode lines)
   -- each call has a command of the mode
-  pub of_mode : All (λ call. mode_of call.command ≡ lay.mode) calls
+  pub of_mode : All (λ call. IsOfMode lay.mode call.command) calls
 
 -- each client but the i-th is as the lines say
 abbrev pub AreOthers : Layout → ℕ → List Call → List Client → List Line → ℕ → Type 0
@@ -59,9 +56,9 @@ pub record AreBetweenTurns (lay : Layout) (tries : ℕ) (calls : List Call) (wor
 abbrev pub AreWins : Layout → List Line → List (Option ℕ) → Type 0
 AreWins lay lines wins = (c turn : ℕ) → won lay lines c ≡ Some turn → slice_get wins c ≡ Some (Some turn)
 
--- on the tree the changes are those of the log, and each key of an edit may be changed
+-- of a map the changes are those of the log, and each key of an edit may be changed
 pub record ArePlaces (lay : Layout) (calls : List Call) (lines : List Line) (places : Places) : Type 0 where
-  pub entries : lay.mode ≡ Tree → AreEntries calls lines (changes places)
+  pub entries : IsMap lay.mode → AreEntries calls lines (changes places)
   pub keys : All (λ call. HoldsOfKey (Knows places) call.command) calls
 
 -- the interleaving knows how many of the lines are turns, and how many are entries of the log
@@ -125,10 +122,10 @@ pub record IsAtEdit (lay : Layout) (calls : List Call) (lines : List Line) (clie
   pub by : IsChangeOf calls (written_log lines) e record { turn = e.step; key = edit_key edit; value = value_left edit }
   pub known : (places : Places) → ArePlaces lay calls lines places → Knows places (edit_key edit)
 
--- so it is on the tree; on cells no machine has an edit in hand
+-- so it is of a map; on cells no machine has an edit in hand
 pub record IsOwned (lay : Layout) (calls : List Call) (lines : List Line) (clients : List Client) (e : Entry) : Type 0 where
-  pub edits : lay.mode ≡ Tree → IsAtEdit lay calls lines clients e
-  pub tree : (edit : MapEdit) → owners_edit clients e.client.0 ≡ Some edit → lay.mode ≡ Tree
+  pub edits : IsMap lay.mode → IsAtEdit lay calls lines clients e
+  pub of_map : (edit : MapEdit) → owners_edit clients e.client.0 ≡ Some edit → IsMap lay.mode
 
 -- the reply ends the client's call in this turn; `won` is the turn of its last update that has won
 pub record IsEnd (calls : List Call) (lines : List Line) (changes : List Change) (old new : Client) (turn : ℕ) (answer : Answer) (won : Option ℕ) (reply : Finished) : Type 0 where

@@ -1,17 +1,19 @@
 -- What a client knows at a moment of the run, and what a turn of it leaves.
 use Rattle.std.specs.Prelude.{◌≡◌, ◌≢◌, ℕ, suc, ◌+◌, ◌^◌, ◌<◌, ◌≤◌, ◌⊎◌, ◌↔◌, Bool, true, false, List, [], ◌∷◌, length, drop, Option, Some, None, slice_get, unwrap_or, IsSome}
 use Rattle.std.specs.List.{Contains}
-use Rattle.histories.specs.Common.{taken_nodes, Side, Records, Tree, Layout, Row, Remaining, History, ◌⊳◌, value, Extends, plan_finalizes}
+use Rattle.histories.specs.Common.{taken_nodes, Side, Records, Layout, Row, Remaining, History, ◌⊳◌, value, Extends, plan_finalizes}
 use Rattle.histories.specs.Common.{side_of, HasWon, IsWin, IsOwnNode, IsOwnScx, IsTakenNode, IsTakenScx, Call as MachineCall, IsRun}
+use Rattle.arena.specs.Opening.{IsMap}
 use Rattle.arena.specs.Share.{IsFull}
 use Rattle.dict.specs.Calls.{call_in}
 use Rattle.dict.specs.Known.{AsksFirst}
+use Rattle.template.specs.Balance.{map_mode}
 use Rattle.dict.specs.declared.dict.DictRun.{DictRun}
 use Rattle.template.specs.Common.{AreFinished, nodes_of, IsShare, snap_at, IsAmong, update_field_index, PutRun, Snap}
 use Rattle.prims.specs.Moments.{IsMoment, AreLeftAlone, HasTakenOnly}
 use Rattle.record.specs.Common.{HasReplied, MapCall, MapEdit, MapReply, changes_map, reply, Spells, Pair, Call, Command, Llx as LlxOf, Scx as ScxOf, Vlx as VlxOf, Set as SetOf}
 use Rattle.record.specs.Common.{Map as MapOf, map_request, Request, cells_of, update_cells, update_finalize, update_field, update_value, history, answered, start, steps}
-use Rattle.record.specs.Common.{won, commands, linked, reply_told, command_steps, MayAnswerAtOnce, MayAnswerAfterStep, HasTakenFew, enters, IsRight, IsLastLook, HasItsEntry}
+use Rattle.record.specs.Common.{won, commands, linked, reply_told, command_steps, nodes_counted, MayAnswerAtOnce, MayAnswerAfterStep, HasTakenFew, enters, IsRight, IsLastLook, HasItsEntry}
 use Rattle.record.specs.declared.record.Line.{Line}
 use Rattle.record.specs.declared.record.Answer.{Answer}
 use Rattle.record.specs.declared.record.Answer.TheVariants.{Full}
@@ -53,6 +55,10 @@ pub record ClientView : Type 0 where
 -- what these lines, the newest first, say to client c
 abbrev pub client_view : Layout → ℕ → List Call → List Line → ℕ → ClientView
 client_view lay tries calls lines c = record { layout = lay; tries = tries; calls = calls; past = history lay.mode lines; answered = answered lines c; start = start lay.mode lines c; steps = steps lines c; won = won lay lines c; linked = linked calls lay.mode lines c }
+
+-- how many steps a call may make where this many nodes are taken
+abbrev pub call_steps : ClientView → Command → ℕ → ℕ
+call_steps v command taken = command_steps command v.tries (nodes_counted v.layout.mode taken)
 
 -- the steps so far are a lawful run, and begin only what the mode allows
 abbrev pub IsSound : ClientView → Type 0
@@ -131,6 +137,8 @@ IsMachineOf command number (Map m) then = IsMapOf command m then
 pub record IsClientState (v : ClientView) (c : Client) (hand : Hand) : Type 0 where
   pub is_pass : c.pass.0 < v.layout.passes
   pub tries : c.tries ≡ v.tries
+  -- it knows whether its map is a trie
+  pub trie : IsMap v.layout.mode → v.layout.mode ≡ map_mode c.trie
   pub number : c.number ≡ v.answered
   pub place : IsNextCallAt v.calls c.pass.0 (drop c.number (commands v.calls c.pass.0)) c.next
   -- what it keeps are snapshots that the lines say
@@ -138,8 +146,8 @@ pub record IsClientState (v : ClientView) (c : Client) (hand : Hand) : Type 0 wh
   -- of other cells the lines say none, but of those that it has in hand
   pub unkept : (n : ℕ) → n ≤ 8 → kept_of c.kept n ≡ None → IsAmong hand.snaps n ⊎ (v.linked n ≡ None)
   pub dropped : (n : ℕ) → IsAmong hand.snaps n → kept_of c.kept n ≡ None
-  -- on the tree it keeps none
-  pub free : v.layout.mode ≡ Tree → (n : ℕ) → kept_of c.kept n ≡ None
+  -- of a map it keeps none
+  pub free : IsMap v.layout.mode → (n : ℕ) → kept_of c.kept n ≡ None
 
 -- a client that holds its share
 pub record HoldsShare (v : ClientView) (c : Client) (hand : Hand) : Type 0 where
@@ -287,7 +295,7 @@ pub record Starts (v : ClientView) (c : Client) (run : Run) (then : Option SetFi
   pub works : Works v c run then
   pub none : c.running ≡ None
   pub ready : RunIsReady run (machine_call v c works.is_pass works.start) v.past None
-  pub few : (taken : ℕ) → length (taken_nodes v.past) ≤ taken → v.steps + left_of run then taken ≤ command_steps works.command v.tries taken
+  pub few : (taken : ℕ) → length (taken_nodes v.past) ≤ taken → v.steps + left_of run then taken ≤ call_steps v works.command taken
 
 -- the machine has answered
 pub record Answered (v : ClientView) (c : Client) (run : Run) (then : Option SetField) (ended : Ended) : Type 0 where
@@ -296,19 +304,19 @@ pub record Answered (v : ClientView) (c : Client) (run : Run) (then : Option Set
   pub answers : RunAnswers run (machine_call v c works.is_pass works.start) v.past ended
   -- the share is the client's again
   pub back : c.share ≡ share_behind run c.share
-  pub few : (taken : ℕ) → length (taken_nodes v.past) ≤ taken → v.steps + then_left then ≤ command_steps works.command v.tries taken
+  pub few : (taken : ℕ) → length (taken_nodes v.past) ≤ taken → v.steps + then_left then ≤ call_steps v works.command taken
 
 -- the machine waits for a step
 pub record WaitsForStep (v : ClientView) (c : Client) (running : Running) : Type 0 where
   pub works : Works v c running.run running.then
   pub waits : RunWaits running.run (machine_call v c works.is_pass works.start) v.past running.step
-  pub few : (taken : ℕ) → length (taken_nodes v.past) ≤ taken → suc (v.steps + left_of running.run running.then taken) ≤ command_steps works.command v.tries taken
+  pub few : (taken : ℕ) → length (taken_nodes v.past) ≤ taken → suc (v.steps + left_of running.run running.then taken) ≤ call_steps v works.command taken
 
 -- the machine may be called with what its step has found
 pub record Hears (v : ClientView) (c : Client) (running : Running) (found : ℕ) : Type 0 where
   pub works : Works v c running.run running.then
   pub ready : RunIsReady running.run (machine_call v c works.is_pass works.start) v.past (Some found)
-  pub few : (taken : ℕ) → length (taken_nodes v.past) ≤ taken → v.steps + left_of running.run running.then taken ≤ command_steps works.command v.tries taken
+  pub few : (taken : ℕ) → length (taken_nodes v.past) ≤ taken → v.steps + left_of running.run running.then taken ≤ call_steps v works.command taken
 
 -- the client's next call has not begun
 pub record IsNextCallUnbegun (v : ClientView) (began : Option ℕ) : Type 0 where
@@ -424,7 +432,7 @@ pub record CanPut (v : ClientView) (linked : ℕ → Option History) (c : Client
   -- the client's command is one that such an SCX serves
   pub serves : (m : PutRun) → IsPutOf m c.number (nodes_of snaps) removed field x → IsScxOf command c.number m None
   -- it may make as many steps more
-  pub few : (taken : ℕ) → v.steps + 40 ≤ command_steps command v.tries taken
+  pub few : (taken : ℕ) → v.steps + 40 ≤ call_steps v command taken
 
 -- the answer names what the share has none of
 abbrev pub TellsFull : Remaining → Answer → Type 0

@@ -1,4 +1,3 @@
-pub mod Modes
 pub mod Allowed
 pub mod Moments
 pub mod RunSteps

@@ -1,8 +1,8 @@
 -- When the machine of a call may continue, what it waits for,
 -- and what its answer says: as the machine inside.
 use Rattle.std.specs.Prelude.{◌≡◌, ℕ, Option, Some, None}
-use Rattle.histories.specs.Common.{Mode, Records, Tree, Step, History, Call, Remaining}
-use Rattle.dict.specs.Calls.{call_in, share_of}
+use Rattle.histories.specs.Common.{Mode, Records, Step, History, Call, Remaining}
+use Rattle.dict.specs.Calls.{call_in, share_of, trie_in}
 use Rattle.dict.specs.DictKnown.{DictIsReady, DictWaits, DictAnswers}
 use Rattle.dict.specs.Inner.{InnerRun, Update, edit_means, inner}
 use Rattle.dict.specs.Known.{AsksFirst}
@@ -17,6 +17,7 @@ use Rattle.ordered_map.specs.CallRules.{TakesNothing}
 use Rattle.record.specs.Common.{MapEdit, Request, Range as RangeOf}
 use Rattle.dict.specs.Words.{IsNumber, IsWideNumber}
 use Rattle.player.specs.Allowed.{FitsTwoWords, IsSmall}
+use Rattle.template.specs.Balance.{map_mode}
 use Rattle.player.specs.declared.run.Run.{Run}
 use Rattle.player.specs.declared.run.Run.TheVariants.{Llx, Scx, Vlx, Map}
 use Rattle.player.specs.declared.run.Ended.{Ended}
@@ -70,12 +71,12 @@ abbrev pub IsSameMachine : Run → Run → Type 0
 IsSameMachine (Llx old) (Llx now) = now.node ≡ old.node
 IsSameMachine (Scx old) (Scx now) = (now.scx.scx ≡ old.scx.scx) × (now.scx.update ≡ old.scx.update) × (now.scx.call ≡ old.scx.call) × (now.value ≡ old.value)
 IsSameMachine (Vlx old) (Vlx now) = now.snaps ≡ old.snaps
-IsSameMachine (Map old) (Map now) = (call_in now.run ≡ call_in old.run) × (now.tries ≡ old.tries)
+IsSameMachine (Map old) (Map now) = (call_in now.run ≡ call_in old.run) × (now.tries ≡ old.tries) × (trie_in now.run ≡ trie_in old.run)
 IsSameMachine _ _ = ⊥
 
 -- the mode in whose scripts the machine runs
 abbrev pub run_mode : Run → Mode
-run_mode (Map m) = Tree
+run_mode (Map m) = map_mode (trie_in m.run)
 run_mode _ = Records
 
 -- the share that the machine has, if it has one: a call of the map has its client's

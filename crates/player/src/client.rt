@@ -1,6 +1,8 @@
 //! A client of the player: what it owns and what it is in the middle of.
 ghost use Rattle.std.specs.Prelude.{◌≡◌, Some, ℕ, ◌+◌, ◌<◌, ◌≤◌, length, map, IfOk, MatchBool};
+ghost use Rattle.arena.specs.Opening.{IsMap};
 ghost use Rattle.dict.specs.Calls.{AsksForPairs};
+ghost use Rattle.template.specs.Balance.{map_mode};
 ghost use Rattle.player.specs.RunKnown.{IsForNothing};
 ghost use Rattle.ordered_map.specs.Requests.{map_request};
 ghost use Rattle.player.specs.declared.client.Client.{Client};
@@ -11,7 +13,7 @@ ghost use Rattle.player.specs.Hearing.{HasHeard};
 use crate::kept::Kept;
 use crate::place::next_call;
 use crate::run::{Ended, Run};
-use arena::{Fresh, Full, Layout, NodeNo, PassNo, Resource, ScxNo, Share, Side, Step, Turn};
+use arena::{Fresh, Full, Layout, Mode, NodeNo, PassNo, Resource, ScxNo, Share, Side, Step, Turn};
 use arrayvec::ArrayVec;
 use dict::DictRun;
 use linearization::Places;
@@ -53,6 +55,8 @@ pub(crate) struct Client {
     pass: PassNo,
     /// How often a call may try.
     tries: u32,
+    /// Whether the map of the script is a trie.
+    trie: bool,
     /// None while a call of the map runs, which has it.
     share: Option<Share>,
     kept: Kept,
@@ -67,8 +71,7 @@ pub(crate) struct Client {
 
 impl Client {
     ghost use Rattle.std.specs.Prelude.{◌≡◌, ◌≢◌, ◌<◌, ◌≤◌, ◌+◌, ◌-◌, Option, Some, None, IsSome, IfSome, is_some, IfOk, OnOk, IfErr, List, [], length, map, slice_get, MatchOption, All};
-    ghost use Rattle.player.specs.Modes.{mode_of};
-    ghost use Rattle.script.specs.Commands.{AsksForFewPairs};
+    ghost use Rattle.script.specs.Commands.{AsksForFewPairs, IsOfMode};
     ghost use Rattle.arena.specs.declared.limits.Mode.TheVariants.{Records};
     ghost use Rattle.script.specs.declared.command.Command.TheVariants.{Scx as ScxCommand, Map as MapCommand};
     ghost use Rattle.ordered_map.specs.OrderedMap.{edit_key, value_left};
@@ -76,6 +79,7 @@ impl Client {
     ghost use Rattle.ordered_map.specs.Requests.{AsksForFew};
     ghost use Rattle.std.specs.Option.{option_map};
     ghost use Rattle.arena.specs.History.{History};
+    ghost use Rattle.arena.specs.Opening.{IsMap};
     ghost use Rattle.prims.specs.declared.snap.Snap.{Snap};
     ghost use Rattle.player.specs.declared.run.Run.{Run};
     ghost use Rattle.prims.specs.Snaps.{AreDistinct, IsAmong};
@@ -83,7 +87,6 @@ impl Client {
     ghost use Rattle.player.specs.declared.run.Run.TheVariants.{Llx as LlxOf};
     ghost use Rattle.player.specs.declared.run.Ended.TheVariants.{Llx as LlxEnded};
     ghost use Rattle.player.specs.declared.client.Running.{Running};
-    ghost use Rattle.arena.specs.declared.limits.Mode.TheVariants.{Tree};
     ghost use Rattle.script.specs.declared.call.Call.{Call as ScriptCall};
     ghost use Rattle.arena.specs.Share.{IsFull, after_taking};
     ghost use Rattle.record.specs.declared.record.Line.{Line};
@@ -109,6 +112,7 @@ impl Client {
             alloc,
             pass,
             tries,
+            trie: is_trie(layout.mode),
             share: Some(Share::of(layout, pass)),
             kept: Kept::new(),
             next: next_call(calls, 0, pass),
@@ -133,7 +137,7 @@ impl Client {
     /// How the client is at this turn, with its next call begun.
     pub(crate) fn next_action(&mut self, calls: &[Call], turn: u64) -> NextAction
         ensures { (v : ClientView) (began : Option ℕ) → IsSound v → 0 < v.tries →
-            All (λ call. mode_of call.command ≡ v.layout.mode) v.calls → calls.now ≡ v.calls →
+            All (λ call. IsOfMode v.layout.mode call.command) v.calls → calls.now ≡ v.calls →
             IsClient v began self.old → IsNextAction v turn self.old self.new result }
     {
         if self.running.is_some() {
@@ -155,7 +159,7 @@ impl Client {
     /// Begins the next call, if there is one.
     fn begin_next(&mut self, calls: &[Call], turn: u64) -> NextAction
         ensures { (v : ClientView) (began : Option ℕ) → IsSound v → 0 < v.tries →
-            All (λ call. mode_of call.command ≡ v.layout.mode) v.calls → calls.now ≡ v.calls → Rests v self.old →
+            All (λ call. IsOfMode v.layout.mode call.command) v.calls → calls.now ≡ v.calls → Rests v self.old →
             (self.old.next ≢ None → IsNextCallUnbegun v began) → IsNextAction v turn self.old self.new result }
     {
         let Some(at) = self.next else {
@@ -173,7 +177,7 @@ impl Client {
     /// Begins a call, which answers at once or asks for a step.
     fn begin(&mut self, command: Command, turn: u64) -> Option<Answer>
         requires { AsksForFewPairs command }
-        ensures { (v : ClientView) (began : Option ℕ) → IsSound v → 0 < v.tries → v.layout.mode ≡ mode_of command →
+        ensures { (v : ClientView) (began : Option ℕ) → IsSound v → 0 < v.tries → IsOfMode v.layout.mode command →
             Rests v self.old → IsNextCallUnbegun v began → command_of v self.old ≡ Some command →
             BeginsOrRefuses v turn self.old self.new result }
     {
@@ -200,7 +204,7 @@ impl Client {
     /// Begins a call of the map, which runs with the share; one for nothing answers at once.
     fn begin_request(&mut self, request: Request<u64, u128>) -> Option<Answer>
         requires { AsksForFew request }
-        ensures { (v : ClientView) (began : Option ℕ) → IsSound v → 0 < v.tries → v.layout.mode ≡ Tree →
+        ensures { (v : ClientView) (began : Option ℕ) → IsSound v → 0 < v.tries → IsMap v.layout.mode →
             Rests v self.old → IsNextCallUnbegun v began → command_of v self.old ≡ Some (MapCommand request) →
             BeginsOrRefuses v self.old.begin self.old self.new result }
     {
@@ -208,7 +212,14 @@ impl Client {
             return Some(Answer::Map(Reply::Pairs(Vec::new(self.alloc))));
         }
         let share = self.share.take()?;
-        let run = DictRun::new(Some(self.alloc), request, share, self.tries, self.number);
+        let run = DictRun::new(
+            Some(self.alloc),
+            request,
+            share,
+            self.tries,
+            self.number,
+            self.trie,
+        );
         self.run(Run::Map(run), None)
     }
 
@@ -486,6 +497,16 @@ fn hear(running: &mut Option<Running>, found: u64) -> Option<Ended>
             Turn::Done(ended) => Some(ended),
         },
         None => None,
+    }
+}
+
+/// Whether a map of this mode is a trie.
+fn is_trie(mode: Mode) -> bool
+    ensures { IsMap mode → mode ≡ map_mode result }
+{
+    match mode {
+        Mode::Trie => true,
+        Mode::Tree | Mode::Records => false,
     }
 }
 

@@ -1,6 +1,5 @@
 //! An interleaving of a script's calls.
 ghost use Rattle.std.specs.Prelude.{◌≡◌, ◌≢◌, ℕ, ◌≤◌, [], Some, vec_len, slice_get, IfOk};
-ghost use Rattle.arena.specs.declared.limits.Mode.TheVariants.{Trie};
 ghost use Rattle.player.specs.declared.client.Client.{Client};
 ghost use Rattle.player.specs.ClientView.{client_view, Rests};
 
@@ -45,7 +44,6 @@ impl Interleaving {
     /// An interleaving of a copy of the script, with no turn made. The only error is want of
     /// memory.
     pub(crate) fn new(alloc: Global, script: &Script) -> Result<Interleaving, NoMemory>
-        requires { script.now.layout.mode ≢ Trie }
         ensures script { IfOk result (λ t. script_view t.script ≡ script_view script.now) }
         ensures no_turns { IfOk result (λ t. IsBetweenTurns t []) }
     {

@@ -1,6 +1,5 @@
 //! Orders that are followed, whatever plays the script.
 ghost use Rattle.std.specs.Prelude.{◌≡◌, ◌≢◌, ◌+◌, ◌<◌, ◌≤◌, ◌↔◌, List, All, IfErr, IfOk, IsTrue, OnErr, OnOk, is_some};
-ghost use Rattle.arena.specs.declared.limits.Mode.TheVariants.{Trie};
 ghost use Rattle.script.specs.Orders.{IsOrder};
 ghost use Rattle.script.specs.declared.call.Call.{Call};
 ghost use Rattle.record.specs.Commands.{next_command};
@@ -22,7 +21,6 @@ use std::alloc::Global;
 /// Plays the script by the schedule: the record is that of a lawful run, whose turns are those that
 /// the schedule means. The only error is want of memory.
 pub fn play_by(alloc: Global, script: &Script, schedule: &Schedule) -> Result<Record, NoMemory>
-    requires mode { script.now.layout.mode ≢ Trie }
     requires orders { All (IsOrder script.now.layout.passes) schedule.now.orders.items }
     ensures script { IfOk result (λ r. script_view r.script ≡ script_view script.now) }
     ensures run { IfOk result (λ r. IsRunOf script.now schedule.now r.lines.items) }

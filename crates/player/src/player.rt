@@ -1,6 +1,5 @@
 //! The player.
 ghost use Rattle.std.specs.Prelude.{◌≡◌, ◌≢◌, ◌<◌, map, IfOk, All};
-ghost use Rattle.arena.specs.declared.limits.Mode.TheVariants.{Trie};
 ghost use Rattle.record.specs.LawfulRun.{IsLawfulRun};
 ghost use Rattle.player.specs.Player.{script_view};
 
@@ -46,7 +45,6 @@ impl Player {
 
     /// A player of a copy of the script, with no turn made. The only error is want of memory.
     pub fn new(alloc: Global, script: &Script) -> Result<Player, NoMemory>
-        requires { script.now.layout.mode ≢ Trie }
         ensures script { IfOk result (λ p. p.script ≡ script_view script.now) }
         ensures no_turns { IfOk result (λ p. p.lines ≡ []) }
     {
@@ -135,7 +133,6 @@ impl fmt::Debug for Player {
 /// The record of a script whose clients make these turns, one after another. The only error is want
 /// of memory.
 pub fn play(alloc: Global, script: &Script, turns: &[PassNo]) -> Result<Record, NoMemory>
-    requires mode { script.now.layout.mode ≢ Trie }
     requires turns { All (λ pass. pass.0 < script.now.layout.passes) turns.now }
     ensures script { IfOk result (λ r. script_view r.script ≡ script_view script.now) }
     ensures lawful { IfOk result (λ r. IsLawfulRun script.now.layout script.now.limits.tries script.now.calls.items (map (λ p. p.0) turns.now) r.lines.items) }

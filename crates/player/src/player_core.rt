@@ -1,6 +1,5 @@
 //! The player without a list of its lines.
 ghost use Rattle.std.specs.Prelude.{◌≡◌, ◌≢◌};
-ghost use Rattle.arena.specs.declared.limits.Mode.TheVariants.{Trie};
 
 use crate::interleaving::Interleaving;
 use crate::lines::Lines;
@@ -43,7 +42,6 @@ impl Core {
 
     /// A core that plays a copy of the script, with no turn made. The only error is want of memory.
     pub fn new(alloc: Global, script: &Script) -> Result<Core, NoMemory>
-        requires { script.now.layout.mode ≢ Trie }
         ensures { IfOk result (λ core. StandsAt core record { script = script_view script.now; lines = [] }) }
     {
         Ok(Core {

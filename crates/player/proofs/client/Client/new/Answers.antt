@@ -14,7 +14,8 @@ returns-clause-rests c = record {
     kept = λ n found e. nothing_kept (c.new.ensures n) e;
     unkept = λ n i e. inr refl;
     dropped = λ n x. absurd (among_none n x);
-    free = λ tree n. c.new.ensures n;
+    free = λ map n. c.new.ensures n;
+    trie = c.is_trie.ensures;
   };
   holds = record {
     some = refl;

@@ -1,10 +1,12 @@
 use Rattle.std.proofs.Common.{◌≡◌, None}
-use Rattle.arena.specs.declared.limits.Mode.TheVariants.{Records, Tree}
+use Rattle.arena.specs.declared.limits.Mode.TheVariants.{Records}
 use Rattle.template.specs.Common.{AllowsAll, LlxIsReady, PutIsReady, VlxIsReady}
 use Rattle.dict.specs.DictKnown.{DictIsReady}
 use Rattle.dict.specs.Laws.Dict.{dict_told}
 use Rattle.dict.specs.Words.{IsNumber, IsWideNumber}
-use Rattle.player.proofs.Shapes.{as_cells, as_numbers}
+use Rattle.arena.specs.Opening.{IsMap}
+use Rattle.dict.specs.Calls.{trie_in}
+use Rattle.player.proofs.Shapes.{as_cells, as_numbers, of_map}
 use Rattle.player.proofs.run.Run.next.Goals as goal
 
 pub returns-in-Ask-clause-turn : goal.returns-in-Ask-clause-turn
@@ -59,18 +61,18 @@ returns-in-Done-next-2-clause-begins c none asks d h ready =
 
 pub returns-in-Ask-next-3-clause-turn : goal.returns-in-Ask-next-3-clause-turn
 returns-in-Ask-next-3-clause-turn c d h mode run ready =
-    let tree : d.layout.mode ≡ Tree = rw c.in-Map.is at mode in
+    let map : IsMap d.layout.mode = of_map d.layout.mode (trie_in c.in-Map.run'.run) (rw c.in-Map.is at mode) in
     let r : DictIsReady IsNumber IsWideNumber c.in-Map.run' d h c.args.got = rw c.in-Map.is at ready in
-    c.in-Ask-next-3.ensures.turn d h (as_numbers d.layout h tree run) r
+    c.in-Ask-next-3.ensures.turn d h (as_numbers d.layout h map run) r
 
 pub returns-in-Done-next-3-clause-turn : goal.returns-in-Done-next-3-clause-turn
 returns-in-Done-next-3-clause-turn c d h mode run ready =
-    let tree : d.layout.mode ≡ Tree = rw c.in-Map.is at mode in
+    let map : IsMap d.layout.mode = of_map d.layout.mode (trie_in c.in-Map.run'.run) (rw c.in-Map.is at mode) in
     let r : DictIsReady IsNumber IsWideNumber c.in-Map.run' d h c.args.got = rw c.in-Map.is at ready in
-    c.in-Done-next-3.ensures.turn d h (as_numbers d.layout h tree run) r
+    c.in-Done-next-3.ensures.turn d h (as_numbers d.layout h map run) r
 
 pub returns-in-Ask-next-3-clause-nearer : goal.returns-in-Ask-next-3-clause-nearer
 returns-in-Ask-next-3-clause-nearer c d h nodes mode run ready few =
-    let tree : d.layout.mode ≡ Tree = rw c.in-Map.is at mode in
+    let map : IsMap d.layout.mode = of_map d.layout.mode (trie_in c.in-Map.run'.run) (rw c.in-Map.is at mode) in
     let r : DictIsReady IsNumber IsWideNumber c.in-Map.run' d h c.args.got = rw c.in-Map.is at ready in
-    rw c.in-Map.is (c.in-Ask-next-3.ensures.nearer nodes (dict_told IsNumber IsWideNumber c.in-Map.run' d h c.args.got nodes (as_numbers d.layout h tree run) r few))
+    rw c.in-Map.is (c.in-Ask-next-3.ensures.nearer nodes (dict_told IsNumber IsWideNumber c.in-Map.run' d h c.args.got nodes (as_numbers d.layout h map run) r few))
