@@ -18,7 +18,7 @@ use Rattle.audit.specs.declared.edits.BegunEdit.{BegunEdit}
 use Rattle.audit.specs.Trees.{IsTreeSoFar}
 use Rattle.audit.proofs.EachCall.{entry_makes, makes_on}
 use Rattle.ordered_map.specs.Runs.{IsMapRun}
-use Rattle.linearization.proofs.Lemmas.{spelled}
+use Rattle.linearization.proofs.Lemmas.{spelled, trie_low}
 
 -- Edits
 
@@ -105,7 +105,7 @@ edits_set lay h r edits s begun x b may t other is = ⊎_elim
 module _ (lay : Layout) (tries : ℕ) (calls : List Call) (mode : IsMap lay.mode) (all : AreMapCalls calls) (begun : List (Option BegunEdit)) (changed : List Change) (lines : List Line) (x : IsTreeSoFar lay calls begun changed lines) where
   spelled_more : (line : Line) → AreLines lay tries calls (line ∷ lines) → IsMapRun lay (history lay.mode (line ∷ lines)) → HasRisingLevels (history lay.mode (line ∷ lines)) → AreSpelled lay calls (line ∷ lines)
   unfolding AreSpelled
-  spelled_more line a g rising = (x.spelled, λ owed. record { spelled = spelled lay tries calls mode all (line ∷ lines) a g owed; rising = rising })
+  spelled_more line a g rising = (x.spelled, λ owed. record { spelled = spelled lay tries calls mode all (line ∷ lines) a g owed; rising = rising; low = trie_low lay (history lay.mode (line ∷ lines)) g })
 
   pub tree_idle : (number : ℕ) (pass : PassNo) → AreLines lay tries calls (Step (Idle number pass) ∷ lines) → IsTreeSoFar lay calls begun changed (Step (Idle number pass) ∷ lines)
   tree_idle number pass a = record { run = x.run; rising = x.rising; spelled = spelled_more (Step (Idle number pass)) a (mode, x.run) x.rising; edits = x.edits; entries = x.entries }
