@@ -1,14 +1,14 @@
 -- What the answers of the machines inside say of the call, in words.
-use Rattle.std.proofs.Common.{◌≡◌, ℕ, ◌+◌, ◌-◌, ◌*◌, ◌^◌, ◌<◌, ◌≤◌, inl, inr, List, Option, Result, Ok, Err, refl, sym, ◌∙◌, ap, subst, arith}
+use Rattle.std.proofs.Common.{◌≡◌, ℕ, ◌+◌, ◌-◌, ◌*◌, ◌^◌, ◌<◌, ◌≤◌, false, inl, inr, List, Option, Some, None, Result, Ok, Err, refl, sym, ◌∙◌, ap, subst, arith}
 use Rattle.std.proofs.Math.Nat.{mul-add, mul-le-mul_left}
 use Rattle.std.specs.Option.{option_map}
-use Rattle.histories.specs.Common.{History, ◌⊳◌, value, Extends, Call, begun_at, Remaining}
+use Rattle.histories.specs.Common.{Side, History, ◌⊳◌, value, Extends, Call, begun_at, Remaining}
 use Rattle.arena.proofs.Lemmas.{ends_self, ends_trans}
 use Rattle.order.specs.Known.{HasReplied, ReadAnswers}
 use Rattle.order.specs.declared.refused.Refused.{Refused}
 use Rattle.order.specs.declared.refused.Refused.TheVariants as refused
 use Rattle.order.specs.declared.run.ReadRun.{ReadRun}
-use Rattle.template.specs.Common.{MapCall, MapEdit, Edit, Get, OneValue, edit_key, get, pair, pair_or_none, reply, goal_told, IsMapRun, Spells, Pair, IsContended}
+use Rattle.template.specs.Common.{MapCall, MapEdit, Edit, Get, OneValue, edit_key, edit_of, need, get, pair, pair_or_none, reply, goal_told, IsMapRun, Spells, Pair, IsContended}
 use Rattle.template.specs.Common.{HasLostTriesTo, asked_key, FoundBy, HasTriedAtMost, HasTriedAllBut, Goal, Key as ToKey, End, Rule, most_nodes, nodes_in_try}
 use Rattle.ordered_map.proofs.MapLemmas.{run_since, run_spells}
 use Rattle.template.proofs.Lemmas.{tried_few}
@@ -27,10 +27,12 @@ use Rattle.dict.specs.Calls.{most_tries, HasSpent, IsSmallCall}
 use Rattle.dict.specs.Goals.{leaf_told}
 use Rattle.dict.specs.Inner.{GoalBy, ReadKind, edit_means}
 use Rattle.dict.specs.Known.{HasRested, HasSpentSo}
-use Rattle.dict.specs.Says.{WordSays, IsRefusal, HasLost, HasMadeEdit, HasNeeded, HasReadMap, HasTold, HasToldBy, TellsOfMap}
-use Rattle.dict.specs.Laws.Kinds.{IsReadKind, edit_at_found, edit_changes, edit_needs, edit_reads, edit_small}
+use Rattle.template.specs.Balance.{map_mode}
+use Rattle.dict.specs.Says.{WalksFirst, WordSays, IsRefusal, HasLost, HasMadeEdit, HasNeeded, HasReadMap, HasTold, HasToldBy, TellsOfMap}
+use Rattle.dict.specs.Laws.Kinds.{IsReadKind, edit_at_found, edit_changes, edit_needs, edit_reads, edit_small, end_needs, no_guard}
 use Rattle.dict.specs.WordReplies.{WordReply, goal_reply, edit_reply, read_reply, told_in}
-use Rattle.dict.proofs.Readings.{NeededAs, none_entered, reply_read, always_read, leaf_read, leaf_needed, ran_out}
+use Rattle.dict.specs.Laws.Found.{found_held, reading_sure, some_end}
+use Rattle.dict.proofs.Readings.{NeededAs, none_entered, reply_read, always_read, leaf_read, given_needed, ran_out}
 
 module _ (tries : ℕ) (c : Call) (h : History) where
   -- just before an edit is made its leaf says what the map replies
@@ -66,7 +68,7 @@ module _ (tries : ℕ) (c : Call) (h : History) where
     none = none;
   }
 
-  module _ (m : UpdateRun (KeyEdit GoalBy Rule) UpdateAt) (run : IsMapRun c.layout h) (small : IsSmallCall (Edit m.edit.goal.goal m.edit.rule)) where
+  module _ (m : UpdateRun (KeyEdit GoalBy Rule) UpdateAt) (mode : c.layout.mode ≡ map_mode m.edit.goal.balance) (run : IsMapRun c.layout h) (small : IsSmallCall (Edit m.edit.goal.goal m.edit.rule)) where
     abbrev call : MapCall
     call = Edit m.edit.goal.goal m.edit.rule
 
@@ -77,12 +79,12 @@ module _ (tries : ℕ) (c : Call) (h : History) where
     way = edit_means.way m.edit
 
     -- the leaf that it has found says what the map replied
-    edit_read : (f : Found) → FoundBy way goal c h f → HasEnteredNone c.layout c.pass h c.start → HasOnlyLooked c.pass h c.start → HasReadMap c h call (leaf_told goal f)
-    edit_read f found none only_looked = leaf_read c h call way goal f (λ map. refl) (edit_small m.edit.goal.goal m.edit.rule small) run found none (λ some. only_looked)
+    edit_read : (f : Found) → edit_of call (leaf_told goal f) ≡ None → FoundBy way goal c h f → HasEnteredNone c.layout c.pass h c.start → HasOnlyLooked c.pass h c.start → HasReadMap c h call (leaf_told goal f)
+    edit_read f reads found none only_looked = leaf_read c h call way goal f (λ map. refl) (edit_small m.edit.goal.goal m.edit.rule small) run (reading_sure c goal m.edit.rule f small reads) found none (λ some. only_looked)
 
     -- an edit that is done has changed the map, or has read it
     edit_done : (f : Found) → m.call ≡ c.number → IsDoneAt (says edit_means m.edit) m.call c h f → HasTold c h call (leaf_told goal f)
-    edit_done f number (inl x) = subst (λ made. HasToldBy made c h call (leaf_told goal f)) (sym (edit_reads m.edit f x.needless)) (edit_read f x.has_found x.none x.only_looked)
+    edit_done f number (inl x) = subst (λ made. HasToldBy made c h call (leaf_told goal f)) (sym (edit_reads m.edit f x.needless)) (edit_read f (edit_reads m.edit f x.needless) x.has_found x.none x.only_looked)
     edit_done f number (inr x) =
         let edit : MapEdit = edit_means.edit m.edit f in
         let made : (made : HasMade edit c h c.number f.value) × ToldEnd goal c.layout made.before f = subst (λ n. (made : HasMade edit c h n f.value) × ToldEnd goal c.layout made.before f) number (x.0, x.2) in
@@ -90,20 +92,38 @@ module _ (tries : ℕ) (c : Call) (h : History) where
 
     -- what it needs at a leaf that it has found, the map needs at a moment of the call
     edit_needed : (then : Call) (moment : History) → IsMapRun then.layout moment → (f : Found) → FoundBy way goal then moment f → 0 < (edit_means.work m.edit f).need → NeededAs then.layout then.pass moment then.start call (edit_means.work m.edit f).need
-    edit_needed then moment so f found needed = leaf_needed then moment call way goal f (edit_means.work m.edit f).need (λ map. refl) (edit_small m.edit.goal.goal m.edit.rule small) so found (edit_needs m.edit f) needed
+    edit_needed then moment so f found needed = given_needed then moment call (edit_means.work m.edit f).need (asked_key goal f.key) f.value (found_held way goal then moment f (edit_small goal m.edit.rule small) so (λ side at. some_there side at) found) (λ map given. needs goal refl map given) needed
+      where
+        -- at an end there is a pair
+        some_there : (side : Side) → goal ≡ End side → (v : ℕ) × (f.value ≡ Some v)
+        some_there side at = go f.value refl
+          where
+            go : (value : Option ℕ) → f.value ≡ value → (v : ℕ) × (f.value ≡ Some v)
+            go (Some v) is = (v, is)
+            go None is = absurd (let none : 0 < 0 = rw (at, is) at needed in omega (arith, none))
+
+        needs : (of : Goal) → goal ≡ of → (map : List Pair) → get (asked_key of f.key) map ≡ f.value → (edit_means.work m.edit f).need ≤ need call map
+        needs (ToKey k) at map given = edit_needs m.edit f map (rw at (ap OneValue given))
+        needs (End side) at map given =
+            let there = some_there side at in
+            end_needs m.edit f side there.0 map at (rw at at small) there.1 (some_end side map f.key there.0 (given ∙ there.1))
+
+    -- one that walks first has no guard
+    unguarded : WalksFirst c.layout call → edit_means.guard m.edit ≡ false
+    unguarded walks = no_guard c.layout goal m.edit.goal.balance m.edit.rule mode walks
 
     -- one that has lost all its tries had something to do in the newest
     edit_lost : (n s : ℕ) → m.limit ≡ tries → HasLostEveryTry (says edit_means m.edit) c h m.limit n s → HasLost c h call tries n s
-    edit_lost n s limit x = subst (λ t. HasLost c h call t n s) limit record { lost = record { others = x.way.others; all = x.all; over_or_new = x.way.over_or_new; needed = λ some. needed }; none = x.none }
+    edit_lost n s limit x = subst (λ t. HasLost c h call t n s) limit record { lost = record { others = x.way.others; all = x.all; over_or_new = x.way.over_or_new; needed = needed }; none = x.none }
       where
         begin : History
         begin = x.all.lost.begin
 
-        moment : History
-        moment = x.needed.moment
-
-        needed : HasNeeded c.layout c.pass h begin call
-        needed = let y = (edit_needed (begun_at c begin) moment (run_since c.layout h moment run x.needed.within) x.found x.needed.has_found x.needed.needed).needed in record { moment = y.moment; within = ends_trans h moment y.moment x.needed.within y.within; since = y.since; own = y.own; map = y.map; spelled = y.spelled; some = y.some }
+        needed : 0 < most_nodes call → WalksFirst c.layout call → HasNeeded c.layout c.pass h begin call
+        needed some walks =
+            let z = x.needed (unguarded walks) in
+            let y = (edit_needed (begun_at c begin) z.1.moment (run_since c.layout h z.1.moment run z.1.within) z.0 z.1.has_found z.1.needed).needed in
+            record { moment = y.moment; within = ends_trans h z.1.moment y.moment z.1.within y.within; since = y.since; own = y.own; map = y.map; spelled = y.spelled; some = y.some }
 
     pub edit_says : (a : Updated) → m.call ≡ c.number → m.limit ≡ tries → IsUpdateAnswer edit_means m c h a → WordSays c h call m.share tries (edit_reply goal a)
     edit_says (Done key old) number limit x = (done_says goal call x.found key old x.is_key x.is_value (edit_done x.found number x.is_done), done_refuses goal call m.share key old)
@@ -115,7 +135,7 @@ module _ (tries : ℕ) (c : Call) (h : History) where
 
   -- a get has read what its leaf says
   pub get_says : (key : ℕ) (way : Way) (share : Remaining) (f : Found) → key < 2 ^ 64 → HasRested c h share → FoundBy way (ToKey key) c h f → WordSays c h (Get key) share tries (WordReply.Value f.value)
-  get_says key way share f small x found = (leaf_read c h (Get key) way (ToKey key) f (λ map. refl) small x.run found (none_entered c h share x) (λ some. absurd (omega (arith, some))), tt)
+  get_says key way share f small x found = (leaf_read c h (Get key) way (ToKey key) f (λ map. refl) small x.run tt found (none_entered c h share x) (λ some. absurd (omega (arith, some))), tt)
 
   -- so has an ordered read, or it answers what every map replies
   module _ (k : ReadKind) (is : IsReadKind k) (m : ReadRun k.R) (share : Remaining) (x : HasRested c h share) (limit : m.limit ≡ tries) where

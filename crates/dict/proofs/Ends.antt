@@ -19,7 +19,7 @@ use Rattle.edits.specs.declared.update.Updated.{Updated}
 use Rattle.dict.specs.Known.{HasRested, HasTriedOnce, HasTriedOnceAt, Goes, InnerAnswers}
 use Rattle.dict.specs.WordReplies.{WordReply, edit_reply, read_reply}
 use Rattle.dict.specs.Inner.{GoalBy, ReadKind, Update, Get, Read, edit_means}
-use Rattle.dict.specs.Laws.Begins.{is_map}
+use Rattle.dict.specs.Laws.Begins.{dict_mode}
 use Rattle.dict.specs.Laws.Kinds.{IsReadKind, edit_form}
 use Rattle.dict.proofs.Endings.{edit_says, get_says, read_says, read_spent, edit_spends, edit_spent}
 
@@ -65,7 +65,7 @@ module _ (tries : ℕ) (c : Call) (h : History) where
         (rw edit (edit_spends c (nodes_in_try old.edit.rule) old.share now.share tries (node_tries old old.at) now.tries (scx_tries old old.at) now.tries goes.spent (rw edit at spends)))
         (subst (λ n. HasTriedAllBut c h n now.tries) (limit ∙ goes.limit) x.2);
     form = edit_form now.edit.goal.goal now.edit.rule a;
-    says = edit_says tries c h now (is_map c.layout.mode old.edit.goal.balance goes.mode, run) (rw edit goes.small) a (call ∙ goes.number) (limit ∙ goes.limit) x.1;
+    says = edit_says tries c h now (rw edit goes.mode) (dict_mode c.layout.mode old.edit.goal.balance goes.mode, run) (rw edit goes.small) a (call ∙ goes.number) (limit ∙ goes.limit) x.1;
   }
 
   pub get_ends : (key : ℕ) (walk : WalkRun) (share : Remaining) (f : Found) → key < 2 ^ 64 → HasRested c h share → RestsWith c c.start share → FoundBy walk.way (ToKey key) c h f → tries_begun c.pass h ≤ suc (tries_begun c.pass c.start) → InnerAnswers tries (Get key walk share) c h (WordReply.Value f.value)

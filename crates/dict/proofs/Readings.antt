@@ -1,11 +1,11 @@
 -- What a reply of the map comes from: the moment of a read, the leaf that an edit has found, the
 -- edit that it has made.
-use Rattle.std.proofs.Common.{◌≡◌, ℕ, ◌^◌, ◌<◌, ◌≤◌, List, ◌∙◌, subst, arith}
+use Rattle.std.proofs.Common.{◌≡◌, ℕ, ◌^◌, ◌<◌, ◌≤◌, List, Option, ◌∙◌, subst, arith}
 use Rattle.histories.specs.Common.{Full as FullOf, Resource, Nodes, Layout, History, value, Extends, Call, Remaining}
 use Rattle.arena.specs.declared.fault.Resource.TheVariants.{Scx as ScxRecords}
 use Rattle.arena.proofs.Lemmas.{ends_self, ends_trans}
 use Rattle.order.specs.Replies.{IsReplyAt}
-use Rattle.template.specs.Common.{MapCall, MapReply, reply, goal_told, IsMapRun, Spells, Pair, path_key, FoundBy, IsOwnMoment, Goal, most_nodes, need}
+use Rattle.template.specs.Common.{MapCall, MapReply, reply, get, goal_told, IsMapRun, Spells, Pair, path_key, FoundBy, IsOwnMoment, Goal, most_nodes, need}
 use Rattle.ordered_map.proofs.MapLemmas.{run_spells}
 use Rattle.template.specs.declared.walk.Found.{Found}
 use Rattle.template.specs.declared.walk.Way.{Way}
@@ -16,7 +16,7 @@ use Rattle.edits.specs.Tries.{HasEnteredNone, HasOnlyLooked}
 use Rattle.dict.specs.Calls.{AsksForPairs}
 use Rattle.dict.specs.Goals.{leaf_told}
 use Rattle.dict.specs.Known.{HasRested}
-use Rattle.dict.specs.Laws.Found.{found_tells}
+use Rattle.dict.specs.Laws.Found.{IsSure, HasGiven, found_tells}
 use Rattle.dict.specs.Says.{HasMadeRow, HasNeeded, HasReadMap, HasTooLittle, HasRunOut}
 
 -- since the moment `begin` the call has needed something, and as many nodes as this or more
@@ -57,9 +57,9 @@ module _ (c : Call) (h : History) where
       record { read = record { moment = h; within = ends_self h; since = since; own = λ asks. absurd (asks_not asks); map = map.0; spelled = map.1; gives = gives map.0; only_looked = λ some. absurd (omega (arith, some, reads)) }; none = none }
 
   -- what was found says what the map replied at a moment of the call
-  pub leaf_read : (call : MapCall) (way : Way) (goal : Goal) (f : Found) → ((map : List Pair) → reply call map ≡ goal_told goal map) → path_key goal < 2 ^ 64 → IsMapRun c.layout h → FoundBy way goal c h f → HasEnteredNone c.layout c.pass h c.start → (0 < most_nodes call → HasOnlyLooked c.pass h c.start) → HasReadMap c h call (leaf_told goal f)
-  leaf_read call way goal f walks small run found none only_looked =
-      let y = found_tells way goal c h f small run found in
+  pub leaf_read : (call : MapCall) (way : Way) (goal : Goal) (f : Found) → ((map : List Pair) → reply call map ≡ goal_told goal map) → path_key goal < 2 ^ 64 → IsMapRun c.layout h → IsSure c goal f → FoundBy way goal c h f → HasEnteredNone c.layout c.pass h c.start → (0 < most_nodes call → HasOnlyLooked c.pass h c.start) → HasReadMap c h call (leaf_told goal f)
+  leaf_read call way goal f walks small run sure found none only_looked =
+      let y = found_tells way goal c h f small run sure found in
       let first = y.first in
       let own = y.own in
       let x = y.told in
@@ -82,20 +82,17 @@ module _ (c : Call) (h : History) where
   short_of want many left Nodes k few some x = (let i = x.0 in omega (arith, i, few), x.1)
   short_of want many left ScxRecords k few some x = (let i = x.0 in omega (arith, i, some), x.1, x.2)
 
-  -- so it says what an edit needed at a moment of the call, if it needed nodes
-  pub leaf_needed : (call : MapCall) (way : Way) (goal : Goal) (f : Found) (want : ℕ) → ((map : List Pair) → reply call map ≡ goal_told goal map) → path_key goal < 2 ^ 64 → IsMapRun c.layout h → FoundBy way goal c h f → ((map : List Pair) → reply call map ≡ leaf_told goal f → want ≤ need call map) → 0 < want → NeededAs c.layout c.pass h c.start call want
-  leaf_needed call way goal f want walks small run found needs some =
-      let y = found_tells way goal c h f small run found in
-      let first = y.first in
-      let own = y.own in
-      let x = y.told in
-      let few : want ≤ need call x.map = needs x.map (walks x.map ∙ x.gives) in
+  -- what the map had at the key says what an edit needed at a moment of the call, if it needed nodes
+  pub given_needed : (call : MapCall) (want k : ℕ) (told : Option ℕ) → HasGiven c h k told → ((map : List Pair) → get k map ≡ told → want ≤ need call map) → 0 < want → NeededAs c.layout c.pass h c.start call want
+  given_needed call want k told y needs some =
+      let x = y.given in
+      let few : want ≤ need call x.map = needs x.map x.gives in
       record {
         needed = record {
           moment = x.moment;
           within = x.within;
-          since = ends_trans x.moment first c.start x.since (own_since c first own);
-          own = behind_own x.moment first own x.since;
+          since = ends_trans x.moment y.first c.start x.since (own_since c y.first y.own);
+          own = behind_own x.moment y.first y.own x.since;
           map = x.map;
           spelled = x.spelled;
           some = omega (arith, few, some);

@@ -1,11 +1,11 @@
 -- The machine of a call of the map: what it is a call of, what it has left, and what such a call
 -- may take of its share.
-use Rattle.std.specs.Prelude.{◌≡◌, ◌≢◌, ℕ, ◌*◌, ◌+◌, ◌^◌, ◌<◌, ◌≤◌, Bool, true, false}
+use Rattle.std.specs.Prelude.{◌≡◌, ℕ, ◌*◌, ◌+◌, ◌^◌, ◌<◌, ◌≤◌, Bool, true, false}
 use Rattle.histories.specs.Common.{History, Call, Remaining}
 use Rattle.template.specs.Common.{most_nodes, most_scx, MapCall, Edit, Get, Range, Goal, Key, End, Rule, tries_since, HasTriedAtMost}
 use Rattle.template.specs.declared.walk.Way.{Way}
 use Rattle.template.specs.declared.walk.Way.TheVariants.{InTree, InTrie, Within}
-use Rattle.tree.specs.KeyEdit.Means.{way_of}
+use Rattle.ordered_map.specs.declared.rule.Rule.TheVariants.{Take}
 use Rattle.tree.specs.declared.key_edit.KeyEdit.{KeyEdit}
 use Rattle.edits.specs.Known.{RestsWith}
 use Rattle.dict.specs.declared.run.MapRun.{MapRun}
@@ -65,21 +65,11 @@ tries_behind m = inner_tries (inner m)
 abbrev pub KeepsTriesButOne : MapRun → MapRun → Type 0
 KeepsTriesButOne old now = (tries_behind now ≤ tries_behind old) × (tries_behind old ≤ tries_behind now + 1)
 
--- the key of a call that may edit it, if it names one, is one of a word
+-- the key of a call that may edit it, if it names one, is one of a word; at an end it takes what is there
 abbrev pub IsSmallCall : MapCall → Type 0
 IsSmallCall (Edit (Key k) rule) = k < 2 ^ 64
+IsSmallCall (Edit (End side) rule) = rule ≡ Take
 IsSmallCall _ = Unit {0}
-
--- this way leads to a goal in a tree, or in a trie
-abbrev pub IsWayTo : Bool → Goal → Way → Type 0
-IsWayTo false goal way = way ≡ InTree
-IsWayTo true (Key k) way = way ≢ InTree
-IsWayTo true (End side) way = ⊥
-
--- an edit has such a way there
-abbrev pub IsServed : Bool → MapCall → Type 0
-IsServed in_trie (Edit goal rule) = IsWayTo in_trie goal (way_of in_trie rule)
-IsServed in_trie _ = Unit {0}
 
 -- What a call may try and take
 

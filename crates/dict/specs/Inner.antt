@@ -31,7 +31,7 @@ edit_means = key_means (λ (g : GoalBy). g.goal) (λ (g : GoalBy). g.balance) (�
 
 -- an update whose edit has these values in place of its goal and its rule
 abbrev pub by_values : {G R : Type 0} → (G → Goal) → (G → Bool) → (R → Rule) → UpdateRun (KeyEdit G R) UpdateAt → UpdateRun (KeyEdit GoalBy Rule) UpdateAt
-by_values goal trie rule m = record { edit = record { goal = record { goal = goal m.edit.goal; balance = trie m.edit.goal }; rule = rule m.edit.rule }; share = m.share; work = m.work; snaps = m.snaps; nodes = m.nodes; read = m.read; tries = m.tries; limit = m.limit; call = m.call; at = m.at }
+by_values goal trie rule m = record { edit = record { goal = record { goal = goal m.edit.goal; balance = trie m.edit.goal }; rule = rule m.edit.rule }; share = m.share; work = m.work; guard = m.guard; snaps = m.snaps; nodes = m.nodes; read = m.read; tries = m.tries; limit = m.limit; call = m.call; at = m.at }
 
 -- a kind of ordered read: what it says to its machine, and what its answers are in words
 pub record ReadKind : Type 1 where

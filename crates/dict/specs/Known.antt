@@ -12,7 +12,7 @@ use Rattle.edits.specs.Known.{RestsWith, UpdateIsReady, UpdateWaits}
 use Rattle.edits.specs.Steps.{node_tries, scx_tries, Spends}
 use Rattle.edits.specs.declared.update.UpdateAt.TheVariants.{Start as UpdateStart}
 use Rattle.template.specs.Balance.{leaf_way, map_mode}
-use Rattle.dict.specs.Calls.{call_in, inner_call, inner_share, inner_trie, is_in_trie, AsksForPairs, IsFewCall, IsServed, IsSmallCall, HasSpent}
+use Rattle.dict.specs.Calls.{call_in, inner_call, inner_share, inner_trie, is_in_trie, AsksForPairs, IsFewCall, IsSmallCall, HasSpent}
 use Rattle.dict.specs.Says.{WordSays}
 use Rattle.dict.specs.declared.run.MapRun.{MapRun}
 use Rattle.dict.specs.Inner.{InnerRun, Update, Get, Read, edit_means, inner}
@@ -112,7 +112,7 @@ AsksFirst m = AsksForPairs (call_in m)
 
 -- the machine inside is at its start, with this many tries in all, in the call of this number
 abbrev pub StandsAtStart : InnerRun → ℕ → ℕ → Type 0
-StandsAtStart (Update m) tries call = (m.at ≡ UpdateStart) × (m.tries + 1 ≡ tries) × (m.call ≡ call) × IsSmallCall (Edit m.edit.goal.goal m.edit.rule) × (m.limit ≡ tries) × IsServed m.edit.goal.balance (Edit m.edit.goal.goal m.edit.rule)
+StandsAtStart (Update m) tries call = (m.at ≡ UpdateStart) × (m.tries + 1 ≡ tries) × (m.call ≡ call) × IsSmallCall (Edit m.edit.goal.goal m.edit.rule) × (m.limit ≡ tries)
 StandsAtStart (Get key walk share) tries call = (walk.at ≡ WalkStart) × (walk.trail.node.0 ≡ 0) × IsWalkTo walk key × (key < 2 ^ 64)
 StandsAtStart (Read k m share) tries call = (m.at ≡ ReadStart) × (m.tries + 1 ≡ tries) × (m.snaps.items ≡ []) × (IsFewCall (k.means.call m.read) → k.means.suits (k.means.call m.read)) × (m.limit ≡ tries)
 

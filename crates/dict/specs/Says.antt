@@ -1,8 +1,8 @@
 -- What the reply of a call of the map says, in words.
 use Rattle.std.specs.Prelude.{◌≡◌, ℕ, ◌<◌, List, Option, Some, None}
-use Rattle.histories.specs.Common.{Full as FullOf, Resource, Nodes, Layout, Row, IsOthersScx, History, ◌⊳◌, value, Extends, Call, Remaining}
+use Rattle.histories.specs.Common.{Tree as TreeMode, Full as FullOf, Resource, Nodes, Layout, Row, IsOthersScx, History, ◌⊳◌, value, Extends, Call, Remaining}
 use Rattle.arena.specs.declared.fault.Resource.TheVariants.{Scx as ScxRecords}
-use Rattle.template.specs.Common.{MapEdit, MapCall, Neighbour, Range, MapReply, reply, edit_of, Spells, Pair, HasLostTriesTo, most_nodes, need}
+use Rattle.template.specs.Common.{MapEdit, MapCall, Edit, End, Neighbour, Range, MapReply, reply, edit_of, Spells, Pair, HasLostTriesTo, most_nodes, need}
 use Rattle.template.specs.Blame.{IsOverOrNew}
 use Rattle.edits.specs.Known.{HasMade, IsUntouched}
 use Rattle.edits.specs.Tries.{HasEnteredNone, HasOnlyLooked}
@@ -64,15 +64,20 @@ pub record HasNeeded (lay : Layout) (pass : ℕ) (now begin : History) (call : M
   pub spelled : Spells lay (value moment) map
   pub some : 0 < need call map
 
+-- a call walks before it looks at a node: all do, but in a trie those that go to an end, which look at node 2
+abbrev pub WalksFirst : Layout → MapCall → Type 0
+WalksFirst lay (Edit (End side) rule) = lay.mode ≡ TreeMode
+WalksFirst lay _ = Unit {0}
+
 -- Since the moment `begin` the pass has begun `tries` tries of the call, and lost them all. The
 -- SCX-record s, which is another pass's, was in the way of the last over the node n, and in that
 -- try the pass has itself found s in the info of n. It is finished now, or has reached n since
--- `begin`. A call that may take nodes had something to do in that try.
+-- `begin`. A call that may take nodes had something to do in that try, if it walks first.
 pub record HasLostSince (lay : Layout) (pass : ℕ) (now begin : History) (call : MapCall) (tries n s : ℕ) : Type 0 where
   pub others : IsOthersScx lay pass s
   pub all : HasLostTriesTo pass now begin tries n s
   pub over_or_new : IsOverOrNew now begin n s
-  pub needed : 0 < most_nodes call → HasNeeded lay pass now all.lost.begin call
+  pub needed : 0 < most_nodes call → WalksFirst lay call → HasNeeded lay pass now all.lost.begin call
 
 -- The call has lost all its `tries` tries, and its pass has entered nothing since it began.
 pub record HasLost (c : Call) (h : History) (call : MapCall) (tries n s : ℕ) : Type 0 where

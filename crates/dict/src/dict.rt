@@ -1,6 +1,6 @@
 //! The machine of a call of a dictionary.
 ghost use Rattle.std.specs.Prelude.{◌≡◌, ◌<◌, ◌≤◌, ℕ, IsSome};
-ghost use Rattle.dict.specs.Calls.{IsServed, KeepsTriesButOne, call_in, share_of, trie_in};
+ghost use Rattle.dict.specs.Calls.{KeepsTriesButOne, call_in, share_of, trie_in};
 ghost use Rattle.template.specs.Balance.{nodes_by};
 ghost use Rattle.dict.specs.Known.{AsksFirst, IsUnbegun};
 ghost use Rattle.dict.specs.Says.{KeepsLists};
@@ -52,8 +52,8 @@ impl<K: WordKey, V: WordValue> DictRun<K, V> {
         ensures share { share_of result.run ≡ share }
         ensures tries { result.tries ≡ tries }
         ensures trie { trie_in result.run ≡ trie }
-        ensures fresh { 0 < tries → IsServed trie (call_in result.run) → IsUnbegun result.run tries call }
-        ensures steps { (nodes : ℕ) → 0 < tries → IsServed trie (call_in result.run) → map_left result.run nodes ≤ most_steps (call_in result.run) tries (nodes_by trie nodes) }
+        ensures fresh { 0 < tries → IsUnbegun result.run tries call }
+        ensures steps { (nodes : ℕ) → 0 < tries → map_left result.run nodes ≤ most_steps (call_in result.run) tries (nodes_by trie nodes) }
     {
         DictRun {
             run: MapRun::new(alloc, in_words(request), share, tries, call, trie),

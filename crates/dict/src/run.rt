@@ -3,7 +3,7 @@ ghost use Rattle.std.specs.Prelude.{◌≡◌, ◌<◌, ◌≤◌, ℕ, None, Is
 ghost use Rattle.arena.specs.History.{History};
 ghost use Rattle.arena.specs.Machines.{Call, IsRun, MatchTurn};
 ghost use Rattle.ordered_map.specs.TreeShape.{TreeAllows};
-ghost use Rattle.dict.specs.Calls.{IsServed, KeepsTriesButOne, call_in, share_of, trie_in};
+ghost use Rattle.dict.specs.Calls.{KeepsTriesButOne, call_in, share_of, trie_in};
 ghost use Rattle.template.specs.Balance.{nodes_by};
 ghost use Rattle.dict.specs.Known.{AsksFirst, IsUnbegun, MapIsReady, MapWaits};
 ghost use Rattle.dict.specs.Says.{KeepsLists};
@@ -60,8 +60,8 @@ impl MapRun {
         ensures call { call_in result ≡ as_map_call (λ k. k) (λ v. v) request }
         ensures share { share_of result ≡ share }
         ensures trie { trie_in result ≡ trie }
-        ensures fresh { 0 < tries → IsServed trie (call_in result) → IsUnbegun result tries call }
-        ensures steps { (nodes : ℕ) → 0 < tries → IsServed trie (call_in result) → map_left result nodes ≤ most_steps (call_in result) tries (nodes_by trie nodes) }
+        ensures fresh { 0 < tries → IsUnbegun result tries call }
+        ensures steps { (nodes : ℕ) → 0 < tries → map_left result nodes ≤ most_steps (call_in result) tries (nodes_by trie nodes) }
     {
         match (request.edit(), request, alloc) {
             (Some((goal, rule)), _, _) => {

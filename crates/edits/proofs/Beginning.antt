@@ -1,7 +1,7 @@
 -- What an update's SCX is to do, and what the update waits for as that begins.
-use Rattle.std.proofs.Common.{◌≡◌, ℕ, suc, ◌+◌, ◌-◌, ◌<◌, List, None, sym, ◌∙◌, ap, subst, arith}
-use Rattle.histories.specs.Common.{Turn, Ask, ScxNo, Step, IsOwnNode, IsOwnScx, History, Call, MatchTurn, begun_at, Remaining, HasScx, Descriptor}
-use Rattle.template.specs.Common.{Job, job_of, Says, IsUpdateOver, ScxIsReady, ScxWaits, IsShare, snap_at, Scx as ScxAnswer, ScxRun, Snap, Update, TreeAllows, IsPromised, Tracks}
+use Rattle.std.proofs.Common.{◌≡◌, ℕ, suc, ◌+◌, ◌-◌, ◌<◌, Bool, true, false, List, length, None, sym, ◌∙◌, ap, subst, arith}
+use Rattle.histories.specs.Common.{Turn, Ask, ScxNo, Step, IsOwnNode, IsOwnScx, IsNamedScx, History, Call, MatchTurn, begun_at, Remaining, HasScx, Descriptor}
+use Rattle.template.specs.Common.{FoundBy, Job, job_of, Says, IsUpdateOver, ScxIsReady, ScxWaits, IsShare, snap_at, Scx as ScxAnswer, ScxRun, Snap, Update, TreeAllows, IsPromised, Tracks}
 use Rattle.prims.specs.Scx.Known.{ScxAnswers}
 use Rattle.prims.specs.declared.scx.ScxAt.TheVariants.{Start as ScxStart}
 use Rattle.prims.proofs.Lemmas.{left_own_scx, over_begins}
@@ -11,14 +11,15 @@ use Rattle.template.proofs.Lemmas.{promised_allowed}
 use Rattle.edits.specs.declared.edit.Work.{Work}
 use Rattle.edits.specs.declared.update.UpdateAt.TheVariants.{Scx}
 use Rattle.edits.specs.declared.update.UpdateRun.{UpdateRun}
-use Rattle.edits.specs.Next.{standing, update_of}
-use Rattle.edits.specs.Edits.{EditMeaning}
-use Rattle.edits.specs.Known.{AreUsable, CoversLeaf, CanScx, TryWaits, piece, top}
+use Rattle.edits.specs.Next.{standing}
+use Rattle.edits.specs.Edits.{EditMeaning, covering}
+use Rattle.edits.specs.Known.{AreSnapped, CoversEnd, CoversLeaf, CanScx, HasGuard, HasSnapped, IsKept, TryWaits, piece, top}
+use Rattle.edits.specs.Laws.SnapLists.{last_is, last_there}
 use Rattle.edits.specs.Laws.Entered.{none_quiet}
 use Rattle.edits.specs.Laws.HandScx.{hand_ready, hand_share}
-use Rattle.edits.specs.Laws.Kept.{snapped_usable}
+use Rattle.edits.specs.Laws.Kept.{covering_snapped, kept_snapped, snapped_usable}
 use Rattle.edits.specs.Pieces.{update_for}
-use Rattle.edits.specs.Sound.{MakesWell}
+use Rattle.edits.specs.Sound.{IsOfTwo, MakesWell}
 
 plus_one : (n : ℕ) → n + 1 ≡ suc n
 plus_one n = omega arith
@@ -27,34 +28,44 @@ plus_one n = omega arith
 abbrev less_an_scx : Remaining → Remaining
 less_an_scx left = record left { next_scx = suc left.next_scx; scx = left.scx - 1 }
 
-module _ {E : Type 0} (e : EditMeaning E) {A : Type 0} (m : UpdateRun E A) (run after : ScxRun) (f : Found) (c : Call) (h : History) (sound : MakesWell e) (x : CanScx e m c h f)
-    (is : run.update ≡ update_of m) (at : run.at ≡ ScxStart) (is_scx : run.scx.0 ≡ m.share.next_scx) (same_scx : after.scx ≡ run.scx) (same_update : after.update ≡ run.update) (same_call : after.call ≡ run.call) (is_call : after.call ≡ m.call) where
-  says_so : run.update ≡ update_for (e.work m.edit f) m.snaps.items m.nodes
-  says_so = is ∙ ap (λ (w : Work). update_for w m.snaps.items m.nodes) x.asked
+module _ {E : Type 0} (e : EditMeaning E) {A : Type 0} (m now : UpdateRun E A) (run after : ScxRun) (f : Found) (c : Call) (h : History) (sound : MakesWell e) (x : CanScx e m c h f)
+    (is : run.update ≡ update_for m.work (covering (e.guard m.edit) m.snaps.items m.guard) m.nodes) (at : run.at ≡ ScxStart) (is_scx : run.scx.0 ≡ m.share.next_scx) (same_scx : after.scx ≡ run.scx) (same_update : after.update ≡ run.update) (same_call : after.call ≡ run.call) (is_call : after.call ≡ m.call) where
+  abbrev all : List Snap
+  all = covering (e.guard m.edit) m.snaps.items m.guard
+
+  says_so : run.update ≡ update_for (e.work m.edit f) all m.nodes
+  says_so = is ∙ ap (λ (w : Work). update_for w all m.nodes) x.asked
+
+  -- what is kept of its guard
+  of_two : IsOfTwo e m.edit m.guard
+  of_two guard = (x.guarded guard).1.is.node
+
+  kept : e.guard m.edit ≡ true → HasSnapped c h m.guard
+  kept guard = let y = x.guarded guard in kept_snapped c h y.0 m.guard x.run y.1
 
   needed : 0 < (e.work m.edit f).need
   needed = subst (λ (w : Work). 0 < w.need) x.asked x.need
 
   over : IsUpdateOver run.update
-  over = subst IsUpdateOver (sym says_so) (sound.over m.edit c h f m.snaps.items m.nodes x.run needed x.all.looked x.all.enough)
+  over = subst IsUpdateOver (sym says_so) (sound.over m.edit c h f m.snaps.items m.guard m.nodes x.run needed x.all.looked x.all.enough of_two)
 
-  covers : run.update.snaps ≡ m.snaps.items
+  covers : run.update.snaps ≡ all
   covers = ap (λ (u : Update). u.snaps) is
 
   fresh : run.update.fresh.0 ≡ top m
   fresh = ap (λ (u : Update). u.fresh.0) is
 
-  usable : AreUsable c h (e.way m.edit) (e.goal m.edit) f run.update.snaps
-  usable = subst (λ (xs : List Snap). AreUsable c h (e.way m.edit) (e.goal m.edit) f xs) (sym covers) x.all.looked.usable
+  usable : AreSnapped c h run.update.snaps
+  usable = subst (AreSnapped c h) (sym covers) (covering_snapped c h (e.way m.edit) (e.goal m.edit) f (e.guard m.edit) m.snaps.items m.guard x.all.looked.usable kept)
 
   -- its SCX may begin
   pub scx_ready : ScxIsReady TreeAllows run (begun_at c h) h None
   scx_ready = hand_ready c h m.share m.nodes.first.0 (top m) (piece e m f) run x.run.1.lawful x.full x.some over
-      (λ i p. let u = usable i p in (u.moment, snapped_usable c h (e.way m.edit) (e.goal m.edit) f (snap_at run.update.snaps i) x.run.1.lawful u)) at fresh is_scx
-      (λ d says. promised_allowed c.layout c.pass h run.scx.0 d (e.edit m.edit f) (sound.promised m.edit c h f m.snaps.items m.nodes m.read (job_of run) d x.run needed x.all says_so says))
+      (λ i p. let u = usable i p in (u.moment, snapped_usable c h (snap_at run.update.snaps i) x.run.1.lawful u)) at fresh is_scx
+      (λ d says. promised_allowed c.layout c.pass h run.scx.0 d (e.edit m.edit f) (sound.promised m.edit c h f m.snaps.items m.guard m.nodes m.read (job_of run) d x.run needed x.all of_two says_so says))
 
   promised : (d : Descriptor) → Says d (job_of run) → IsPromised c.layout c.pass h run.scx.0 d (e.edit m.edit f)
-  promised d says = sound.promised m.edit c h f m.snaps.items m.nodes m.read (job_of run) d x.run needed x.all says_so says
+  promised d says = sound.promised m.edit c h f m.snaps.items m.guard m.nodes m.read (job_of run) d x.run needed x.all of_two says_so says
 
   tracked : Tracks c.layout c.pass h (job_of run) (e.edit m.edit f)
   tracked = waits promised scx_ready.1.is_open.unnamed
@@ -69,11 +80,27 @@ module _ {E : Type 0} (e : EditMeaning E) {A : Type 0} (m : UpdateRun E A) (run 
   here = record { from = omega arith; below = let s = x.some in omega (arith, s) }
 
   -- it covers the leaf that was found
-  leaf : CoversLeaf e m.edit f c h after.scx.0 after.update.snaps
-  leaf = subst (λ (u : Update). CoversLeaf e m.edit f c h after.scx.0 u.snaps) (sym same_update)
-      (subst (λ (xs : List Snap). CoversLeaf e m.edit f c h after.scx.0 xs) (sym covers) (sound.leaf m.edit c h f m.snaps.items after.scx.0 x.run needed x.all.looked x.all.enough))
+  leaf : CoversLeaf e m.edit f c h after.scx.0 after.update
+  leaf = subst (λ (u : Update). CoversLeaf e m.edit f c h after.scx.0 u) (sym (same_update ∙ says_so)) (sound.leaf m.edit c h f m.snaps.items m.guard m.nodes after.scx.0 x.run needed x.all.looked x.all.enough)
 
-  first_waits : (turn : Turn ScxAnswer) (step : Step) → turn ≡ Ask step → MatchTurn turn (ScxWaits TreeAllows after (begun_at c h) h) (ScxAnswers after (begun_at c h) h) → TryWaits e (standing (record m { share = less_an_scx m.share }) (Scx f after)) c h step
+  -- where it has a guard, that is the last that it covers
+  last_kept : (b : Bool) → b ≡ true → (u : Update) → u.snaps ≡ covering b m.snaps.items m.guard → (g : History) → IsKept c h g m.guard → FoundBy (e.way m.edit) (e.goal m.edit) (begun_at c g) h f → HasGuard c h (e.way m.edit) (e.goal m.edit) f u
+  last_kept false is u same g y found = absurd (let z : false ≡ true = is in cc)
+  last_kept true is u same g y found = record {
+    place = length m.snaps.items;
+    within = subst (λ (xs : List Snap). length m.snaps.items < length xs) (sym same) (last_there m.snaps.items m.guard);
+    moment = g;
+    kept = subst (λ (s : Snap). IsKept c h g s) (sym (ap (λ (xs : List Snap). snap_at xs (length m.snaps.items)) same ∙ last_is m.snaps.items m.guard)) y;
+    found = found;
+  }
+
+  has_guard : e.guard m.edit ≡ true → HasGuard c h (e.way m.edit) (e.goal m.edit) f after.update
+  has_guard guard = let y = x.guarded guard in last_kept (e.guard m.edit) guard after.update (ap (λ (u : Update). u.snaps) same_update ∙ covers) y.0 y.1 y.2
+
+  ends : e.guard m.edit ≡ true → CoversEnd f c h after.scx.0 after.update
+  ends guard = subst (λ (u : Update). CoversEnd f c h after.scx.0 u) (sym (same_update ∙ says_so)) (sound.ends m.edit c h f m.snaps.items m.guard m.nodes after.scx.0 x.run needed x.all.looked x.all.enough guard)
+
+  first_waits : (turn : Turn ScxAnswer) (step : Step) → turn ≡ Ask step → MatchTurn turn (ScxWaits TreeAllows after (begun_at c h) h) (ScxAnswers after (begun_at c h) h) → TryWaits e (standing (record m { share = less_an_scx m.share; snaps = now.snaps }) (Scx f after)) c h step
   first_waits turn step asked w = (
     h,
     record {
@@ -84,7 +111,10 @@ module _ {E : Type 0} (e : EditMeaning E) {A : Type 0} (m : UpdateRun E A) (run 
       found = x.all.looked.found;
       need = needed;
       only = λ row before t within since w own. absurd (none_quiet c.layout c.pass h c.start x.run.1.lawful x.quiet row before t within since w own);
-      usable = subst (λ (u : Update). AreUsable c h (e.way m.edit) (e.goal m.edit) f u.snaps) (sym same_update) usable;
+      usable = subst (λ (u : Update). AreSnapped c h u.snaps) (sym same_update) usable;
+      unnamed = subst (λ (s : ScxNo). ¬ IsNamedScx h s.0) (sym same_scx) scx_ready.1.is_open.unnamed;
+      guard = has_guard;
+      ends = ends;
       quiet = x.quiet;
       leaf = leaf;
       now = x.since;
@@ -102,7 +132,7 @@ module _ {E : Type 0} (e : EditMeaning E) {A : Type 0} (m : UpdateRun E A) (run 
 
   -- it waits for the first step of its SCX
   pub scx_begins : (share : Remaining) (turn : Turn ScxAnswer) (step : Step) → share ≡ record m.share { next_scx = m.share.next_scx + 1; scx = m.share.scx - 1 } → turn ≡ Ask step
-      → (ScxIsReady TreeAllows run (begun_at c h) h None → MatchTurn turn (ScxWaits TreeAllows after (begun_at c h) h) (ScxAnswers after (begun_at c h) h)) → TryWaits e (standing (record m { share = share }) (Scx f after)) c h step
+      → (ScxIsReady TreeAllows run (begun_at c h) h None → MatchTurn turn (ScxWaits TreeAllows after (begun_at c h) h) (ScxAnswers after (begun_at c h) h)) → TryWaits e (standing (record m { share = share; snaps = now.snaps }) (Scx f after)) c h step
   scx_begins share turn step less asked w =
-      subst (λ (s : Remaining). TryWaits e (standing (record m { share = s }) (Scx f after)) c h step) (sym (less ∙ (λ i. record m.share { next_scx = plus_one m.share.next_scx i; scx = m.share.scx - 1 })))
+      subst (λ (s : Remaining). TryWaits e (standing (record m { share = s; snaps = now.snaps }) (Scx f after)) c h step) (sym (less ∙ (λ i. record m.share { next_scx = plus_one m.share.next_scx i; scx = m.share.scx - 1 })))
       (first_waits turn step asked (w scx_ready))

@@ -8,5 +8,5 @@ pub use Rattle.edits.proofs.PairFills.{behind_filled, value_behind_key, high_beh
 pub use Rattle.edits.proofs.FilledNodes.{IsLeafWith, IsForkWith, head_is, leaf_with, fork_with}
 pub use Rattle.edits.proofs.NodePlaces.{piece_is}
 pub use Rattle.edits.proofs.PairPlaces.{take_whole}
-pub use Rattle.edits.proofs.Making.{told_end}
+pub use Rattle.edits.proofs.Making.{leaf_told, told_end}
 pub use Rattle.edits.proofs.Turns.{fills_word, scx_asks, scx_done}

@@ -1,10 +1,10 @@
 -- What an update knows once a node more is looked at, and as it takes its fresh nodes.
-use Rattle.std.proofs.Common.{◌≡◌, ℕ, zero, suc, ◌+◌, ◌-◌, ◌<◌, ◌≤◌, ◌⊎◌, List, [], ◌∷◌, ◌++◌, length, inl, inr, ⊎_elim, refl, sym, ◌∙◌, ap, subst, arith, min, take, Result, Ok, Err, OnOk, OnErr}
+use Rattle.std.proofs.Common.{◌≡◌, ℕ, zero, suc, ◌+◌, ◌-◌, ◌<◌, ◌≤◌, ◌⊎◌, Bool, true, false, List, [], ◌∷◌, ◌++◌, length, inl, inr, refl, sym, ◌∙◌, ap, subst, arith, min, take, Result, Ok, Err, OnOk, OnErr}
 use Rattle.std.proofs.lemmas.List.{take-append-le}
 use Rattle.histories.specs.Common.{IsOwnNode, History, Extends, Lawful, Call, MatchTurn, begun_at, Remaining, HasNode, Turn, Ask, Done, Step}
 use Rattle.arena.proofs.Lemmas.{ends_self}
 use Rattle.histories.proofs.Lemmas.{unmentioned_unnamed}
-use Rattle.template.specs.Common.{HasFoundThere, IsSnapshot, LlxWaits, LlxAnswers, Llx, Snapshot, LlxRun, TreeAllows, snap_at, Snap, FoundBy, Goal}
+use Rattle.template.specs.Common.{HasFoundThere, IsSnapshot, LlxWaits, LlxAnswers, Llx, Snapshot, LlxRun, TreeAllows, snap_at, Snap, FoundBy, Goal, WasInTree}
 use Rattle.prims.specs.Laws.FoundThere.{there_wider}
 use Rattle.prims.specs.Laws.Idle.{IsQuietSince}
 use Rattle.edits.specs.declared.update.UpdateAt.TheVariants.{Look}
@@ -16,29 +16,23 @@ use Rattle.edits.specs.declared.edit.Work.{Work}
 use Rattle.edits.specs.declared.piece.Piece.{Piece}
 use Rattle.edits.specs.declared.update.UpdateRun.{UpdateRun}
 use Rattle.edits.specs.Next.{standing}
-use Rattle.edits.specs.Edits.{EditMeaning}
-use Rattle.edits.specs.Known.{RestsWith, MayBeginTry, HasNodesFor, HasTakenNodes, without, HasSnappedAfterWalk, AreUsable, AreSeen, CanLook, CanWork, Looks, TryWaits, piece}
+use Rattle.edits.specs.Edits.{EditBounds, EditMeaning, all_looks}
+use Rattle.edits.specs.Known.{RestsWith, MayBeginTry, HasNodesFor, HasTakenNodes, without, HasSnappedAfterWalk, AreUsable, AreSeen, Guarded, CanLook, CanWork, Looks, TryWaits, piece}
 use Rattle.edits.specs.Pieces.{top_of}
 use Rattle.edits.specs.Steps.{HasAsked}
 use Rattle.edits.specs.Laws.Hand.{HasFilledTo}
+use Rattle.edits.specs.Laws.SnapLists.{at_end}
 use Rattle.edits.specs.Tries.{IsTry}
 use Rattle.edits.proofs.NodePlaces.{top_is}
 
 -- A snapshot more
 
--- a place in the longer list is one of the shorter, or the last
-at_end : (snaps : List Snap) (s : Snap) (i : ℕ) → i < length (snaps ++ s ∷ []) → ((i < length snaps) × (snap_at (snaps ++ s ∷ []) i ≡ snap_at snaps i)) ⊎ ((i ≡ length snaps) × (snap_at (snaps ++ s ∷ []) i ≡ s))
-at_end [] s zero p = inr (refl, refl)
-at_end [] s (suc i) p = absurd (omega (arith, p))
-at_end (t ∷ snaps) s zero p = inl (omega arith, refl)
-at_end (t ∷ snaps) s (suc i) p = ⊎_elim (λ x. inl ((let y = x.0 in omega (arith, y)), x.1)) (λ x. inr ((let y = x.0 in omega (arith, y)), x.1)) (at_end snaps s i (omega (arith, p)))
-
 -- the pass may use a snapshot that it has just taken
-pub usable_one_more : (c : Call) (h : History) (way : Way) (goal : Goal) (f : Found) (snaps : List Snap) (s : Snap) (n : ℕ) → Extends h c.start → FoundBy way goal c h f → IsSnapshot c.layout h n s → HasFoundThere c.pass h c.start n s.scx.0 → AreUsable c h way goal f snaps → AreUsable c h way goal f (snaps ++ s ∷ [])
-usable_one_more c h way goal f snaps s n since found is met x i p = go (at_end snaps s i p)
+pub usable_one_more : (c : Call) (h : History) (way : Way) (goal : Goal) (f : Found) (snaps : List Snap) (s : Snap) (n : ℕ) → Extends h c.start → FoundBy way goal c h f → WasInTree h s.node.0 → IsSnapshot c.layout h n s → HasFoundThere c.pass h c.start n s.scx.0 → AreUsable c h way goal f snaps → AreUsable c h way goal f (snaps ++ s ∷ [])
+usable_one_more c h way goal f snaps s n since found stood is met x i p = go (at_end snaps s i p)
   where
     now : HasSnappedAfterWalk c h way goal f s
-    now = record { moment = h; within = ends_self h; since = since; found = found; is = subst (λ m. IsSnapshot c.layout h m s) (sym is.node) is; met = subst (λ m. HasFoundThere c.pass h c.start m s.scx.0) (sym is.node) met }
+    now = record { moment = h; within = ends_self h; since = since; found = found; stood = stood; is = subst (λ m. IsSnapshot c.layout h m s) (sym is.node) is; met = subst (λ m. HasFoundThere c.pass h c.start m s.scx.0) (sym is.node) met }
 
     go : ((i < length snaps) × (snap_at (snaps ++ s ∷ []) i ≡ snap_at snaps i)) ⊎ ((i ≡ length snaps) × (snap_at (snaps ++ s ∷ []) i ≡ s)) → HasSnappedAfterWalk c h way goal f (snap_at (snaps ++ s ∷ []) i)
     go (inl q) = subst (HasSnappedAfterWalk c h way goal f) (sym q.1) (x i q.0)
@@ -56,26 +50,47 @@ seen_one_more e ed f snaps s named x i p = go (at_end snaps s i p)
     go (inl q) = rw (take-append-le i snaps (s ∷ []) (let y = q.0 in omega (arith, y)), q.1) (x i q.0)
     go (inr q) = rw (q.0, take-append-le (length snaps) snaps (s ∷ []) (omega arith), take_all snaps) (named ∙ ap (λ (t : Snap). At t.node) (sym (rw q.0 at q.1)))
 
-pub looked_one_more : {E : Type 0} (e : EditMeaning E) {A : Type 0} (m now : UpdateRun E A) (c : Call) (h : History) (f : Found) (s : Snap) (n : ℕ) → now.edit ≡ m.edit → now.share ≡ m.share → now.work ≡ m.work → now.snaps.items ≡ m.snaps.items ++ s ∷ [] → e.looks m.edit f m.snaps.items ≡ At s.node → IsSnapshot c.layout h n s → HasFoundThere c.pass h c.start n s.scx.0 → CanLook e m c h f → CanLook e now c h f
-looked_one_more e m now c h f s n ed share work items named is met x = record {
+pub looked_one_more : {E : Type 0} (e : EditMeaning E) {A : Type 0} (m now : UpdateRun E A) (c : Call) (h : History) (f : Found) (s : Snap) (n : ℕ) → now.edit ≡ m.edit → now.share ≡ m.share → now.work ≡ m.work → now.guard ≡ m.guard → now.snaps.items ≡ m.snaps.items ++ s ∷ [] → e.looks m.edit f m.snaps.items ≡ At s.node → WasInTree h s.node.0 → IsSnapshot c.layout h n s → HasFoundThere c.pass h c.start n s.scx.0 → CanLook e m c h f → CanLook e now c h f
+looked_one_more e m now c h f s n ed share work guard items named stood is met x = record {
   begins = record { run = x.begins.run; small = rw ed x.begins.small; may = rw ed x.begins.may; since = x.begins.since; rests = rw share x.begins.rests };
   quiet = x.quiet;
   looked = rw (ed, items) record {
     small = x.looked.small;
     may = x.looked.may;
     found = x.looked.found;
-    usable = usable_one_more c h (e.way m.edit) (e.goal m.edit) f m.snaps.items s n x.begins.since x.looked.found is met x.looked.usable;
+    usable = usable_one_more c h (e.way m.edit) (e.goal m.edit) f m.snaps.items s n x.begins.since x.looked.found stood is met x.looked.usable;
     seen = seen_one_more e m.edit f m.snaps.items s named x.looked.seen;
   };
   asked = rw (ed, work) x.asked;
   room = rw (work, share) x.room;
+  guarded = rw (ed, guard) x.guarded;
 }
+
+take_length : (n : ℕ) (snaps : List Snap) → n ≤ length snaps → length (take n snaps) ≡ n
+take_length zero snaps few = refl
+take_length (suc n) [] few = absurd (omega (arith, few))
+take_length (suc n) (s ∷ snaps) few = ap suc (take_length n snaps (omega (arith, few)))
+
+-- there is room for the snapshot of its guard
+pub few_with_guard : {E : Type 0} (e : EditMeaning E) → EditBounds e → (ed : E) (f : Found) (snaps : List Snap) → AreSeen (e.looks ed) f snaps → all_looks (e.guard ed) (length snaps) ≤ 4
+few_with_guard e bounds ed f snaps seen = with (e.guard ed) (bounds.small ed)
+  where
+    last : (n : ℕ) → length snaps ≡ suc n → n < e.most_looks ed
+    last n is = subst (λ k. k < e.most_looks ed) (take_length n snaps (omega (arith, is))) (bounds.few_looks ed f (take n snaps) (snap_at snaps n).node (seen n (omega (arith, is))))
+
+    few : (k : ℕ) → length snaps ≡ k → k ≤ e.most_looks ed
+    few zero is = omega arith
+    few (suc n) is = let l = last n is in omega (arith, l)
+
+    with : (b : Bool) → all_looks b (e.most_looks ed) ≤ 4 → all_looks b (length snaps) ≤ 4
+    with true small = let l = few (length snaps) refl in omega (arith, small, l)
+    with false small = let l = few (length snaps) refl in omega (arith, small, l)
 
 -- The first look
 
 -- the walk has found its leaf, and nothing is looked at
-pub may_look : {E : Type 0} (e : EditMeaning E) {A : Type 0} (m now : UpdateRun E A) (c : Call) (h : History) (f : Found) → now.edit ≡ m.edit → now.share ≡ m.share → HasAsked e now f → now.snaps.items ≡ [] → MayBeginTry e m c h → IsQuietSince c.layout c.pass c.start h → FoundBy (e.way m.edit) (e.goal m.edit) c h f → HasNodesFor now.work.need m.share → CanLook e now c h f
-may_look e m now c h f ed share asked items b quiet found room = record {
+pub may_look : {E : Type 0} (e : EditMeaning E) {A : Type 0} (m now : UpdateRun E A) (c : Call) (h : History) (f : Found) → now.edit ≡ m.edit → now.share ≡ m.share → now.guard ≡ m.guard → HasAsked e now f → now.snaps.items ≡ [] → MayBeginTry e m c h → IsQuietSince c.layout c.pass c.start h → FoundBy (e.way m.edit) (e.goal m.edit) c h f → Guarded e m.edit c h m.guard (λ k. FoundBy (e.way m.edit) (e.goal m.edit) k h f) → HasNodesFor now.work.need m.share → CanLook e now c h f
+may_look e m now c h f ed share guard asked items b quiet found guarded room = record {
   begins = record { run = b.run; small = rw ed b.small; may = rw ed b.may; since = b.since; rests = rw share b.rests };
   quiet = quiet;
   looked = rw (ed, items) record {
@@ -87,6 +102,7 @@ may_look e m now c h f ed share asked items b quiet found room = record {
   };
   asked = asked;
   room = rw share room;
+  guarded = rw (ed, guard) guarded;
 }
 
 -- The fresh nodes are taken
@@ -151,6 +167,7 @@ module _ {E : Type 0} (e : EditMeaning E) {A : Type 0} (m now : UpdateRun E A) (
       need = x.room.some;
       in_order = t.in_order;
       some = subst (λ (s : Remaining). 0 < s.scx) (sym t.share) x.room.scx;
+      guarded = x.guarded;
     };
     full = in_hand c h m.share now.share now.nodes.first.0 (top_of m.work.need now.nodes) (min m.work.need 3 - 1) _ x.begins.run.1.lawful (let n = x.room.some in let k = x.room.nodes in omega (arith, n, k)) x.begins.rests
         (t.share ∙ ap (without m.share) (let n = x.room.some in omega (arith, n))) t.first (let a = t.first in let b = last in omega (arith, a, b));
@@ -176,12 +193,12 @@ module _ {E : Type 0} (e : EditMeaning E) {A : Type 0} (m : UpdateRun E A) (llx 
   pub looks_on : (step : Step) → turn ≡ Ask step → TryWaits e (standing m (Look f after)) c h step
   looks_on step asked = (
     begin,
-    record { run = x.run; looked = x.looked; rests = x.rests; asked = x.asked; room = x.room; named = x.named ∙ ap At (sym same); now = x.now; quiet = x.quiet; since = x.since },
+    record { run = x.run; looked = x.looked; rests = x.rests; asked = x.asked; room = x.room; named = x.named ∙ ap At (sym same); now = x.now; quiet = x.quiet; since = x.since; guarded = x.guarded },
     rw asked at w,
   )
 
   pub can_look : CanLook e m c h f
-  can_look = record { begins = record { run = x.run; small = x.looked.small; may = x.looked.may; since = x.now; rests = x.rests }; quiet = x.quiet; looked = x.looked; asked = x.asked; room = x.room }
+  can_look = record { begins = record { run = x.run; small = x.looked.small; may = x.looked.may; since = x.now; rests = x.rests }; quiet = x.quiet; looked = x.looked; asked = x.asked; room = x.room; guarded = x.guarded }
 
   -- its LLX has taken a snapshot
   pub snapped : (snap : Snap) → turn ≡ Done (Snapshot snap) → (e.looks m.edit f m.snaps.items ≡ At snap.node) × IsSnapshot c.layout h snap.node.0 snap × HasFoundThere c.pass h c.start snap.node.0 snap.scx.0

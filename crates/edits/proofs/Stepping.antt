@@ -1,15 +1,17 @@
 -- What an update knows when it gets something, by its place.
-use Rattle.std.proofs.Common.{◌≡◌, ℕ, Option, Some, None, unwrap_or, refl, sym, ◌∙◌, subst}
+use Rattle.std.proofs.Common.{◌≡◌, ℕ, true, false, Option, Some, None, unwrap_or, refl, sym, ◌∙◌, subst}
 use Rattle.histories.specs.Common.{NodeNo, NodeWord, Settled, SettledPart, History, value, Call, begun_at, node}
-use Rattle.template.specs.Common.{LlxIsReady, ScxIsReady, LlxRun, ScxRun, TreeAllows, WalkIsTold}
+use Rattle.template.specs.Common.{IsOwnMoment, IsPastRoot, LlxIsReady, ScxIsReady, LlxRun, ScxRun, TreeAllows, WalkIsTold, WalkKnows}
 use Rattle.template.specs.declared.walk.Found.{Found}
+use Rattle.template.specs.declared.walk.WalkAt.{WalkAt}
+use Rattle.template.specs.declared.walk.WalkAt.TheVariants as walks
 use Rattle.template.specs.declared.walk.WalkRun.{WalkRun}
 use Rattle.edits.specs.declared.edit.Nth.{Nth}
 use Rattle.edits.specs.declared.update.UpdateAt.{UpdateAt}
-use Rattle.edits.specs.declared.update.UpdateAt.TheVariants.{Start, Walk, Look, Read, Fill, Scx}
+use Rattle.edits.specs.declared.update.UpdateAt.TheVariants.{Start, Walk, Guard, Look, Read, Fill, Scx}
 use Rattle.edits.specs.declared.update.UpdateRun.{UpdateRun}
 use Rattle.edits.specs.Edits.{EditMeaning}
-use Rattle.edits.specs.Known.{RestsWith, IsUntouched, FirstOrLost, MayBeginTry, Walks, Looks, Reads, Scxs, IsFilledUpTo, UpdateIsToldAt, UpdateIsReady}
+use Rattle.edits.specs.Known.{RestsWith, IsUntouched, FirstOrLost, Guarded, Guards, IsKept, MayBeginTry, Walks, WalksGuarded, Looks, Reads, Scxs, IsFilledUpTo, UpdateIsToldAt, UpdateIsReady}
 use Rattle.edits.specs.Tries.{MayTry, IsTry}
 
 module _ {E : Type 0} (e : EditMeaning E) (m : UpdateRun E UpdateAt) (c : Call) (h : History) where
@@ -17,9 +19,28 @@ module _ {E : Type 0} (e : EditMeaning E) (m : UpdateRun E UpdateAt) (c : Call) 
   at_start None is r = (r.0, r.1, r.2)
   at_start (Some v) is r = absurd (subst (λ p. UpdateIsToldAt e m (begun_at c r.0) h v p) is r.3)
 
-  pub at_walk : (got : Option ℕ) (walk : WalkRun) → m.at ≡ Walk walk → UpdateIsReady e m c h got → (b : History) × IsTry c b h m.limit m.tries × IsUntouched c b m.share × Walks e m (begun_at c b) h walk.way walk.goal × (v : ℕ) × (got ≡ Some v) × WalkIsTold walk (begun_at c b) h v
+  pub at_walk : (got : Option ℕ) (walk : WalkRun) → m.at ≡ Walk walk → UpdateIsReady e m c h got → (b : History) × IsTry c b h m.limit m.tries × IsUntouched c b m.share × Walks e m (begun_at c b) h walk.way walk.goal × (v : ℕ) × (got ≡ Some v) × WalkIsTold walk (begun_at c b) h v × WalksGuarded e m (begun_at c b) h walk.at (λ k. WalkIsTold walk k h v)
   at_walk None walk is r = absurd (let d : Walk walk ≡ Start = sym is ∙ r.3 in cc)
-  at_walk (Some v) walk is r = let t = subst (λ p. UpdateIsToldAt e m (begun_at c r.0) h v p) is r.3 in (r.0, r.1, subst (λ p. FirstOrLost e m c r.0 p) is r.2, t.0, v, refl, t.1)
+  at_walk (Some v) walk is r = let t = subst (λ p. UpdateIsToldAt e m (begun_at c r.0) h v p) is r.3 in (r.0, r.1, subst (λ p. FirstOrLost e m c r.0 p) is r.2, t.0, v, refl, t.1, t.2)
+
+  -- where it has no guard, or has that behind it
+  pub past_guard : (d : Call) (walk : WalkRun) (v : ℕ) → (walk.at ≡ walks.Root → e.guard m.edit ≡ false) → WalkIsTold walk d h v → WalksGuarded e m d h walk.at (λ k. WalkIsTold walk k h v) → Guarded e m.edit d h m.guard (λ k. WalkIsTold walk k h v)
+  past_guard d walk v none told guarded is = go walk.at refl
+    where
+      go : (at : WalkAt) → walk.at ≡ at → (g : History) × IsKept d h g m.guard × WalkIsTold walk (begun_at d g) h v
+      go walks.Start e = absurd (subst (WalkKnows d h walk) e told.known)
+      go walks.Root e = absurd (let z : true ≡ false = sym is ∙ none e in cc)
+      go (walks.Head above) e = guarded (subst IsPastRoot (sym e) tt) is
+      go (walks.Key head) e = guarded (subst IsPastRoot (sym e) tt) is
+      go (walks.Child level side) e = guarded (subst IsPastRoot (sym e) tt) is
+      go (walks.More head) e = guarded (subst IsPastRoot (sym e) tt) is
+      go (walks.Pair head more slot) e = guarded (subst IsPastRoot (sym e) tt) is
+      go (walks.Value head more slot key) e = guarded (subst IsPastRoot (sym e) tt) is
+      go (walks.High head more slot key low) e = guarded (subst IsPastRoot (sym e) tt) is
+
+  pub at_guard : (got : Option ℕ) (walk : WalkRun) (head : ℕ) (llx : LlxRun) → m.at ≡ Guard walk head llx → UpdateIsReady e m c h got → (b : History) × IsTry c b h m.limit m.tries × IsUntouched c b m.share × (begin : History) × Guards e m (begun_at c b) h walk head llx begin × LlxIsReady TreeAllows llx (begun_at (begun_at c b) begin) h got × IsOwnMoment (begun_at c b) h
+  at_guard None walk head llx is r = absurd (let d : Guard walk head llx ≡ Start = sym is ∙ r.3 in cc)
+  at_guard (Some v) walk head llx is r = let t = subst (λ p. UpdateIsToldAt e m (begun_at c r.0) h v p) is r.3 in (r.0, r.1, subst (λ p. FirstOrLost e m c r.0 p) is r.2, t.0, t.1, t.2, t.3)
 
   pub at_look : (got : Option ℕ) (f : Found) (llx : LlxRun) → m.at ≡ Look f llx → UpdateIsReady e m c h got → (b : History) × IsTry c b h m.limit m.tries × (begin : History) × Looks e m (begun_at c b) h f llx begin × LlxIsReady TreeAllows llx (begun_at (begun_at c b) begin) h got
   at_look None f llx is r = absurd (let d : Look f llx ≡ Start = sym is ∙ r.3 in cc)

@@ -1,7 +1,7 @@
 -- What a call by itself finds and leaves: it has the map to itself.
-use Rattle.std.proofs.Common.{◌≡◌, ◌≢◌, ℕ, ◌^◌, ◌<◌, inl, inr, List, Option, refl, sym, ◌∙◌, ap, subst, arith}
+use Rattle.std.proofs.Common.{◌≡◌, ◌≢◌, ◌⊎◌, ℕ, ◌^◌, ◌<◌, inl, inr, List, Option, None, refl, sym, ◌∙◌, ap, subst, arith}
 use native.Mathlib.Decide.{ℕ_discrete}
-use Rattle.histories.specs.Common.{Layout, Row, Side, IsInProgress, IsOwnScx, IsOthersScx, History, Start, ◌⊳◌, value, Extends, Lawful, HasWon, IsWin, log, Call, state, descriptor}
+use Rattle.histories.specs.Common.{Tree as TreeMode, Layout, Row, Side, IsInProgress, IsOwnScx, IsOthersScx, History, Start, ◌⊳◌, value, Extends, Lawful, HasWon, IsWin, log, Call, state, descriptor}
 use Rattle.arena.specs.Undisturbed.{IsUndisturbed}
 use Rattle.arena.proofs.Lemmas.{ends_self, ends_trans}
 use Rattle.histories.proofs.Lemmas.{Facts, IsOwned, Logs, facts, facts_before, lawful_since, lawful_tail, logs, same, update_changes, update_is_first, wins, won_since}
@@ -99,10 +99,11 @@ module _ (c : Call) (h : History) (run : IsMapRun c.layout h) (alone : IsUndistu
       answer = record { moment = then.moment; within = then.within; since = ends_trans then.moment first c.start then.since (own_since c first found.trail.node.own); map = then.map; spelled = then.spelled; gives = then.gives }
 
   -- on its way to an end it has found the pair there
-  pub alone_found_end : (side : Side) (f : Found) (map : List Pair) → HasFoundGoal (End side) c h f → HasEnteredNone c.layout c.pass h c.start → Spells c.layout (value c.start) map → end_pair side map ≡ end_told f
-  alone_found_end side f map found none spells =
-      let x : IsEndAt side c.layout h found.trail.node.first (end_told f) = found_end side c h f run found in
-      let since : Extends x.moment c.start = ends_trans x.moment found.trail.node.first c.start x.since (own_since c found.trail.node.first found.trail.node.own) in
+  pub alone_found_end : (side : Side) (f : Found) (map : List Pair) → HasFoundGoal (End side) c h f → (c.layout.mode ≡ TreeMode) ⊎ (f.value ≡ None) → HasEnteredNone c.layout c.pass h c.start → Spells c.layout (value c.start) map → end_pair side map ≡ end_told f
+  alone_found_end side f map found sure none spells =
+      let at = found_end side c h f run found sure in
+      let x : IsEndAt side c.layout h at.0 (end_told f) = at.2 in
+      let since : Extends x.moment c.start = ends_trans x.moment at.0 c.start x.since (own_since c at.0 at.1) in
       ap (end_pair side) (one_spelling c.layout (value x.moment) map x.map (alone_keeps x.moment map x.within since none spells) x.spelled) ∙ x.is
 
   -- what it has made it has made of the map that was there

@@ -40,7 +40,6 @@ module _ (c : Call) (b : History) (since : Extends b c.start) where
 
   pub found_wider : (h : History) (goal : Goal) (f : Found) → HasFoundGoal goal (begun_at c b) h f → HasFoundGoal goal c h f
   found_wider h goal f x = record {
-    may = x.may;
     trail = trail_wider h (path_key goal) f.trail x.trail;
     leaf = x.leaf;
     head = x.head;
@@ -54,7 +53,7 @@ module _ (c : Call) (b : History) (since : Extends b c.start) where
   fork_wider : (h : History) (goal : Goal) (f : Found) → HasFoundFork goal (begun_at c b) h f → HasFoundFork goal c h f
   fork_wider h goal f x = record {
     trie = x.trie;
-    may = x.may;
+    to_key = x.to_key;
     trail = trail_wider h (path_key goal) f.trail x.trail;
     below = x.below;
     stays = x.stays;

@@ -1,5 +1,5 @@
 -- What an edit of the tree says to the machine that makes it.
-use Rattle.std.specs.Prelude.{◌≡◌, ℕ, ◌<◌, ◌≤◌, List, length, Option, Some}
+use Rattle.std.specs.Prelude.{◌≡◌, ℕ, suc, ◌<◌, ◌≤◌, Bool, true, false, List, [], ◌∷◌, ◌++◌, length, Option, Some}
 use Rattle.arena.specs.declared.number.NodeNo.{NodeNo}
 use Rattle.template.specs.Common.{Snap, MapEdit, Goal}
 use Rattle.template.specs.declared.walk.Found.{Found}
@@ -20,6 +20,9 @@ pub record EditMeaning (E : Type 0) : Type 0 where
   pub goal : E → Goal
   -- and where
   pub way : E → Way
+  -- whether node 2 is its guard: it looks at that behind the load of the root's head, and covers it
+  -- last
+  pub guard : E → Bool
   -- the edit of the map that it makes at the leaf that was found
   pub edit : E → Found → MapEdit
   -- what there is to do at the leaf that was found
@@ -28,7 +31,7 @@ pub record EditMeaning (E : Type 0) : Type 0 where
   pub most_nodes : E → ℕ
   -- what it looks at next, with these snapshots
   pub looks : E → Found → List Snap → Look
-  -- how many nodes at most
+  -- how many nodes at most, besides its guard
   pub most_looks : E → ℕ
   -- the node whose settled words it reads, if it reads any, and what is known of that before
   pub reads : E → Found → List Snap → Option (NodeNo × Reading)
@@ -44,6 +47,7 @@ abbrev pub through : {E F : Type 0} → EditMeaning E → (F → E) → EditMean
 through m of = record {
   goal = λ e. m.goal (of e);
   way = λ e. m.way (of e);
+  guard = λ e. m.guard (of e);
   edit = λ e f. m.edit (of e) f;
   work = λ e f. m.work (of e) f;
   most_nodes = λ e. m.most_nodes (of e);
@@ -59,10 +63,20 @@ through m of = record {
 abbrev pub says : {E : Type 0} → EditMeaning E → E → EditMeaning (Unit {0})
 says m e = through m (λ none. e)
 
+-- how many nodes it looks at, with its guard, if it has one
+abbrev pub all_looks : Bool → ℕ → ℕ
+all_looks true n = suc n
+all_looks false n = n
+
+-- what its SCX covers: what it has looked at, and its guard behind that
+abbrev pub covering : Bool → List Snap → Snap → List Snap
+covering true snaps guard = snaps ++ guard ∷ []
+covering false snaps guard = snaps
+
 -- the bounds of an edit are right
 pub record EditBounds {E : Type 0} (m : EditMeaning E) : Type 0 where
   pub few_looks : (e : E) (f : Found) (snaps : List Snap) (n : NodeNo) → m.looks e f snaps ≡ At n → length snaps < m.most_looks e
-  pub small : (e : E) → m.most_looks e ≤ 4
+  pub small : (e : E) → all_looks (m.guard e) (m.most_looks e) ≤ 4
   pub few_nodes : (e : E) (f : Found) → (m.work e f).need ≤ m.most_nodes e
   pub some_nodes : (e : E) → 0 < m.most_nodes e
   pub few_reads : (e : E) (f : Found) (snaps : List Snap) (x : NodeNo × Reading) → m.reads e f snaps ≡ Some x → reads_left x.1 ≤ m.most_reads e

@@ -1,15 +1,18 @@
 -- When an update may continue, and what it waits for.
-use Rattle.std.specs.Prelude.{◌≡◌, ◌≢◌, ℕ, suc, ◌+◌, ◌-◌, ◌^◌, ◌<◌, ◌≤◌, ◌⊎◌, ◌==◌, if◌then◌else◌, min, true, List, ◌∷◌, length, take, Option, Some, None}
+use Rattle.std.specs.Prelude.{◌≡◌, ◌≢◌, ℕ, suc, ◌+◌, ◌-◌, ◌^◌, ◌<◌, ◌≤◌, ◌⊎◌, ◌==◌, if◌then◌else◌, min, true, false, List, ◌∷◌, length, take, Option, Some, None}
 use Rattle.histories.specs.Common.{Full, Resource, Nodes as FreshNodes, Layout, Turn, Row, Step, LoadSettled, NodeWord, Settled, SettledPart, NodeNo, IsNamed, IsOwnNode}
-use Rattle.histories.specs.Common.{IsOwnScx, IsTakenNode, History, ◌⊳◌, value, Extends, IsWin, all_nodes, Entry, log, Call, MatchTurn, begun_at, Remaining, node}
+use Rattle.histories.specs.Common.{Head, IsMember, IsNamedScx, child, IsOwnScx, IsTakenNode, History, ◌⊳◌, value, Extends, IsWin, all_nodes, Entry, log, Call, MatchTurn, begun_at, Remaining, node}
 use Rattle.arena.specs.declared.fault.Resource.TheVariants.{Scx as ScxRecords}
 use Rattle.template.specs.Common.{HasFoundThere, load, IsSnapshot, LlxIsReady, LlxWaits, AreFinished, ScxIsReady, ScxWaits, job_of, IsShare, snap_at, LlxRun}
-use Rattle.template.specs.Common.{ScxRun, Snap, MapEdit, edit_key, end_pair, get, IsMapRun, Makes, Spells, TreeAllows, edit_leaf, Pair, path_key, end_told}
-use Rattle.template.specs.Common.{FoundBy, MayGo, IsFresh, Tracks, WalkIsReady, WalkWaits, Goal, Key as ToKey, End, IsContended, HasLostTriesTo, HasTriedAllBut}
+use Rattle.template.specs.Common.{ScxRun, Snap, Update, MapEdit, edit_key, end_pair, get, IsMapRun, Makes, Spells, TreeAllows, edit_leaf, Pair, path_key, end_told, WasInTree}
+use Rattle.template.specs.Common.{FoundBy, MayGo, IsFresh, Tracks, WalkIsReady, WalkWaits, Goal, Key as ToKey, End, IsOwnMoment, IsPastRoot, IsContended, HasLostTriesTo, HasTriedAllBut}
 use Rattle.prims.specs.Laws.Idle.{IsQuietSince}
 use Rattle.ordered_map.specs.Runs.{IsEditAt}
 use Rattle.template.specs.declared.walk.Found.{Found}
 use Rattle.template.specs.declared.walk.Way.{Way}
+use Rattle.template.specs.declared.walk.WalkAt.{WalkAt}
+use Rattle.template.specs.declared.walk.WalkAt.TheVariants.{Root}
+use Rattle.template.specs.declared.walk.WalkRun.{WalkRun}
 use Rattle.edits.specs.declared.edit.Look.{Look as LookOf}
 use Rattle.edits.specs.declared.edit.Look.TheVariants.{At, Enough}
 use Rattle.edits.specs.declared.edit.Nodes.{Nodes}
@@ -20,7 +23,7 @@ use Rattle.edits.specs.declared.reading.Reading.{Reading}
 use Rattle.edits.specs.declared.update.Updated.{Updated}
 use Rattle.edits.specs.declared.update.Updated.TheVariants.{Done, Contended, Full as FullAnswer}
 use Rattle.edits.specs.declared.update.UpdateAt.{UpdateAt}
-use Rattle.edits.specs.declared.update.UpdateAt.TheVariants.{Start, Walk, Look, Read, Fill, Scx}
+use Rattle.edits.specs.declared.update.UpdateAt.TheVariants.{Start, Walk, Guard, Look, Read, Fill, Scx}
 use Rattle.edits.specs.declared.update.UpdateRun.{UpdateRun}
 use Rattle.edits.specs.Edits.{EditMeaning, says}
 use Rattle.edits.specs.Laws.Hand.{HasFilledTo, IsForField, FieldMay}
@@ -58,19 +61,59 @@ IsShort need left ScxRecords k = (need ≤ left.nodes) × (left.scx ≡ 0) × (k
 
 -- What it has found
 
--- the node that stands for what was found where an edit covers it: the leaf, or, where that is a fork, node 2
+-- the node that stands for what was found where an edit covers it: the leaf, or, where that is a
+-- fork, node 2
 abbrev pub covered : Found → ℕ
 covered f = if f.head.leaf then f.trail.node.0 else 2
 
 -- the snapshot was right at a moment of the call, by which that had found this leaf, to which its
--- walk was to go, and the snapshot's SCX-record in the node's info
+-- walk was to go, and the snapshot's SCX-record in the node's info; the node had been in the tree
 pub record HasSnappedAfterWalk (c : Call) (h : History) (way : Way) (goal : Goal) (f : Found) (snap : Snap) : Type 0 where
   pub moment : History
   pub within : Extends h moment
   pub since : Extends moment c.start
   pub found : FoundBy way goal c moment f
+  pub stood : WasInTree moment snap.node.0
   pub is : IsSnapshot c.layout moment snap.node.0 snap
   pub met : HasFoundThere c.pass moment c.start snap.node.0 snap.scx.0
+
+-- the snapshot was right at a moment of the call, whatever it had found by then
+pub record HasSnapped (c : Call) (h : History) (snap : Snap) : Type 0 where
+  pub moment : History
+  pub within : Extends h moment
+  pub since : Extends moment c.start
+  pub stood : WasInTree moment snap.node.0
+  pub is : IsSnapshot c.layout moment snap.node.0 snap
+  pub met : HasFoundThere c.pass moment c.start snap.node.0 snap.scx.0
+
+abbrev pub AreSnapped : Call → History → List Snap → Type 0
+AreSnapped c h snaps = (i : ℕ) → i < length snaps → HasSnapped c h (snap_at snaps i)
+
+-- right behind the moment g this was the snapshot of node 2
+pub record IsKept (c : Call) (h g : History) (snap : Snap) : Type 0 where
+  pub row : Row
+  pub within : Extends h (row ⊳ g)
+  pub since : Extends g c.start
+  pub is : IsSnapshot c.layout (row ⊳ g) 2 snap
+  pub met : HasFoundThere c.pass (row ⊳ g) c.start 2 snap.scx.0
+
+-- Of an edit with a guard: that is kept, and this is so of the call from then on
+abbrev pub Guarded : {E : Type 0} → EditMeaning E → E → Call → History → Snap → (Call → Type 0) → Type 0
+Guarded e ed c h snap P = e.guard ed ≡ true → (g : History) × IsKept c h g snap × P (begun_at c g)
+
+-- the snapshot of its guard is among those of this update, and what was found is so of the call
+-- from then on
+pub record HasGuard (c : Call) (h : History) (way : Way) (goal : Goal) (f : Found) (u : Update) : Type 0 where
+  pub place : ℕ
+  pub within : place < length u.snaps
+  pub moment : History
+  pub kept : IsKept c h moment (snap_at u.snaps place)
+  pub found : FoundBy way goal (begun_at c moment) h f
+
+-- whenever the SCX-record s wins later that makes this update, it covers the parent of the leaf
+-- that was found, which is still its child
+abbrev pub CoversEnd : Found → Call → History → ℕ → Update → Type 0
+CoversEnd f c begin s u = (k : History) (row : Row) → IsMapRun c.layout (row ⊳ k) → IsWin k row s → Extends k begin → CoversSnaps k s u → IsMember k s f.trail.parent.0 × (value k (child f.trail.parent.0 f.trail.side) ≡ f.trail.node.0)
 
 -- each of these snapshots was, and so it may be used
 abbrev pub AreUsable : Call → History → Way → Goal → Found → List Snap → Type 0
@@ -181,10 +224,10 @@ abbrev pub top : {E A : Type 0} → UpdateRun E A → ℕ
 top m = top_of m.work.need m.nodes
 
 module _ {E : Type 0} (e : EditMeaning E) where
-  -- whenever the SCX-record s makes the edit of these snapshots later, the leaf of the edit is what stands
-  -- for the one that was found
-  abbrev pub CoversLeaf : E → Found → Call → History → ℕ → List Snap → Type 0
-  CoversLeaf ed f c begin s snaps = (k : History) → IsMapRun c.layout k → Extends k begin → CoversSnaps k s snaps → Makes c.layout k s (e.edit ed f) → edit_leaf k s (e.edit ed f) ≡ covered f
+  -- whenever the SCX-record s wins later that makes the edit by this update, the leaf of the edit
+  -- is what stands for the one that was found
+  abbrev pub CoversLeaf : E → Found → Call → History → ℕ → Update → Type 0
+  CoversLeaf ed f c begin s u = (k : History) (row : Row) → IsMapRun c.layout (row ⊳ k) → IsWin k row s → Extends k begin → CoversSnaps k s u → Makes c.layout k s (e.edit ed f) → edit_leaf k s (e.edit ed f) ≡ covered f
 
   -- what each fresh node is to hold
   abbrev pub piece : {A : Type 0} → UpdateRun E A → Found → ℕ → Piece
@@ -230,6 +273,26 @@ module _ (e : EditMeaning (Unit {0})) where
       pub need : IsNeeded m.work.need nth
       pub in_order : StandInRow m.work.need m.nodes
       pub some : 0 < m.share.scx
+      pub guarded : Guarded e tt c h m.guard (λ k. FoundBy (e.way tt) (e.goal tt) k h f)
+
+    -- a step of the LLX of its guard, which has begun at a moment of the call; the walk is still at
+    -- the root, whose head is this
+    pub record GuardsAs (c : Call) (h : History) (walk : WalkRun) (head : ℕ) (llx : LlxRun) (begin : History) : Type 0 where
+      pub run : IsMapRun c.layout h
+      pub small : path_key (e.goal tt) < 2 ^ 64
+      pub may : MayGo c.layout (e.way tt) (e.goal tt)
+      pub rests : RestsWith c h m.share
+      pub quiet : IsQuietSince c.layout c.pass c.start h
+      pub none_filled : HasFilledNone c.pass h c.start
+      pub same : walk.goal ≡ e.goal tt
+      pub same_way : walk.way ≡ e.way tt
+      pub asked : e.guard tt ≡ true
+      pub at : walk.at ≡ Root
+      pub root : walk.trail.node.0 ≡ 0
+      pub told : value h (node 0 (Settled Head)) ≡ head
+      pub is_two : llx.node.0 ≡ 2
+      pub now : Extends h c.start
+      pub since : Extends begin c.start
 
     -- a step of an LLX, which has begun at a moment of the call
     pub record LooksAs (c : Call) (h : History) (f : Found) (llx : LlxRun) (begin : History) : Type 0 where
@@ -242,6 +305,7 @@ module _ (e : EditMeaning (Unit {0})) where
       pub now : Extends h c.start
       pub quiet : IsQuietSince c.layout c.pass c.start h
       pub since : Extends begin c.start
+      pub guarded : Guarded e tt c h m.guard (λ k. FoundBy (e.way tt) (e.goal tt) k h f)
 
     -- the load of a word of the node that is read
     pub record ReadsAs (c : Call) (h : History) (f : Found) (node : NodeNo) (part : SettledPart) : Type 0 where
@@ -284,9 +348,14 @@ module _ (e : EditMeaning (Unit {0})) where
       -- used, and it covers that leaf
       pub found : FoundBy (e.way tt) (e.goal tt) c begin f
       pub need : 0 < (e.work tt f).need
-      pub usable : AreUsable c begin (e.way tt) (e.goal tt) f scx.update.snaps
+      pub usable : AreSnapped c begin scx.update.snaps
       pub quiet : IsQuietSince c.layout c.pass c.start begin
-      pub leaf : CoversLeaf e tt f c begin scx.scx.0 scx.update.snaps
+      pub leaf : CoversLeaf e tt f c begin scx.scx.0 scx.update
+      -- the SCX-record had no name then, and if the edit has a guard, it covers that and the leaf's
+      -- parent
+      pub unnamed : ¬ IsNamedScx begin scx.scx.0
+      pub guard : e.guard tt ≡ true → HasGuard c begin (e.way tt) (e.goal tt) f scx.update
+      pub ends : e.guard tt ≡ true → CoversEnd f c begin scx.scx.0 scx.update
 
     -- the walk goes where the edit's is to go, the pass is at rest, and has filled nothing since
     -- the walk's start
@@ -337,14 +406,13 @@ module _ (e : EditMeaning (Unit {0})) where
     pub needed : 0 < (e.work tt found).need
 
   -- All tries of the call, `limit` of them, were lost, the newest to the SCX-record s over the node
-  -- n; in it the call has found a leaf at which there was something to make. The pass has entered
-  -- nothing.
+  -- n; in it the call has found a leaf at which there was something to make, unless it has a guard,
+  -- to whose look it may be lost before. The pass has entered nothing.
   pub record HasLostEveryTry (c : Call) (h : History) (limit n s : ℕ) : Type 0 where
     pub way : IsContended c h n s
     pub none : HasEnteredNone c.layout c.pass h c.start
     pub all : HasLostTriesTo c.pass h c.start limit n s
-    pub found : Found
-    pub needed : WasNeeded (begun_at c all.lost.begin) h found
+    pub needed : e.guard tt ≡ false → (found : Found) × WasNeeded (begun_at c all.lost.begin) h found
 
   -- There was nothing to make at this leaf, or the edit is made there. If the walk goes to an end,
   -- the leaf has the pair at that end of the map just before the entry.
@@ -363,7 +431,7 @@ module _ (e : EditMeaning (Unit {0})) where
 
 -- what an update has, whatever the type of its edit is, and whatever its place
 abbrev pub bare : {E A : Type 0} → UpdateRun E A → UpdateRun (Unit {0}) (Unit {0})
-bare m = record { edit = tt; share = m.share; work = m.work; snaps = m.snaps; nodes = m.nodes; read = m.read; tries = 0; limit = 0; call = m.call; at = tt }
+bare m = record { edit = tt; share = m.share; work = m.work; guard = m.guard; snaps = m.snaps; nodes = m.nodes; read = m.read; tries = 0; limit = 0; call = m.call; at = tt }
 
 module _ {E : Type 0} (e : EditMeaning E) where
   -- each of these is known of it, or of its update, as it is above of one that says the same
@@ -375,6 +443,9 @@ module _ {E : Type 0} (e : EditMeaning E) where
 
   abbrev pub WorksAtNode : {A : Type 0} → UpdateRun E A → Call → History → Found → Nth → Type 0
   WorksAtNode m c h f nth = WorksAs (says e m.edit) (bare m) c h f nth
+
+  abbrev pub Guards : {A : Type 0} → UpdateRun E A → Call → History → WalkRun → ℕ → LlxRun → History → Type 0
+  Guards m c h walk head llx begin = GuardsAs (says e m.edit) (bare m) c h walk head llx begin
 
   abbrev pub Looks : {A : Type 0} → UpdateRun E A → Call → History → Found → LlxRun → History → Type 0
   Looks m c h f llx begin = LooksAs (says e m.edit) (bare m) c h f llx begin
@@ -398,6 +469,10 @@ module _ {E : Type 0} (e : EditMeaning E) where
   abbrev pub IsFilledUpTo : {A : Type 0} → UpdateRun E A → Call → History → Found → Nth → NodeWord → Type 0
   IsFilledUpTo m c h f nth part = FillsPiece m c h f nth part × HoldsUpTo h (nth_node m.nodes nth).0 (piece_here e m f nth) part × IsTakenNode h (nth_node m.nodes nth).0
 
+  -- where it has a guard, a walk past the root's head has that behind it
+  abbrev pub WalksGuarded : {A : Type 0} → UpdateRun E A → Call → History → WalkAt → (Call → Type 0) → Type 0
+  WalksGuarded m c h at P = IsPastRoot at → Guarded e m.edit c h m.guard P
+
   -- the word that is filled
   abbrev pub piece_fill_step : {A : Type 0} → UpdateRun E A → Found → Nth → NodeWord → Step
   piece_fill_step m f nth part = node_fill (nth_node m.nodes nth).0 part (word_of (piece e m f (nth_node m.nodes nth).0) part)
@@ -405,7 +480,8 @@ module _ {E : Type 0} (e : EditMeaning E) where
   -- what holds while it waits for this step at this place
   abbrev pub UpdateWaitsAt : {A : Type 0} → UpdateRun E A → Call → History → Step → UpdateAt → Type 0
   UpdateWaitsAt m c h s Start = ⊥
-  UpdateWaitsAt m c h s (Walk walk) = Walks m c h walk.way walk.goal × WalkWaits walk c h s
+  UpdateWaitsAt m c h s (Walk walk) = Walks m c h walk.way walk.goal × WalkWaits walk c h s × WalksGuarded m c h walk.at (λ k. WalkWaits walk k h s)
+  UpdateWaitsAt m c h s (Guard walk head llx) = (begin : History) × Guards m c h walk head llx begin × LlxWaits TreeAllows llx (begun_at c begin) h s
   UpdateWaitsAt m c h s (Look f llx) = (begin : History) × Looks m c h f llx begin × LlxWaits TreeAllows llx (begun_at c begin) h s
   UpdateWaitsAt m c h s (Read f n part) = Reads m c h f n part × (s ≡ load LoadSettled (node n.0 (Settled part)))
   UpdateWaitsAt m c h s (Fill f nth part) = FillsPiece m c h f nth part × FieldMay part (IsForField c.layout h m.nodes.first.0 (top m) (word_of (piece e m f (nth_node m.nodes nth).0) part)) × HoldsBefore h (nth_node m.nodes nth).0 (piece_here e m f nth) part × (s ≡ piece_fill_step m f nth part)
@@ -414,7 +490,8 @@ module _ {E : Type 0} (e : EditMeaning E) where
   -- what holds once the step of this place has found v
   abbrev pub UpdateIsToldAt : {A : Type 0} → UpdateRun E A → Call → History → ℕ → UpdateAt → Type 0
   UpdateIsToldAt m c h v Start = ⊥
-  UpdateIsToldAt m c h v (Walk walk) = Walks m c h walk.way walk.goal × WalkIsReady walk c h (Some v)
+  UpdateIsToldAt m c h v (Walk walk) = Walks m c h walk.way walk.goal × WalkIsReady walk c h (Some v) × WalksGuarded m c h walk.at (λ k. WalkIsReady walk k h (Some v))
+  UpdateIsToldAt m c h v (Guard walk head llx) = (begin : History) × Guards m c h walk head llx begin × LlxIsReady TreeAllows llx (begun_at c begin) h (Some v) × IsOwnMoment c h
   UpdateIsToldAt m c h v (Look f llx) = (begin : History) × Looks m c h f llx begin × LlxIsReady TreeAllows llx (begun_at c begin) h (Some v)
   UpdateIsToldAt m c h v (Read f n part) = Reads m c h f n part × (value h (node n.0 (Settled part)) ≡ v)
   UpdateIsToldAt m c h v (Fill f nth part) = IsFilledUpTo m c h f nth part
@@ -423,6 +500,7 @@ module _ {E : Type 0} (e : EditMeaning E) where
   -- while it walks in its first try nothing of its share is taken
   abbrev pub FirstOrLost : {A : Type 0} → UpdateRun E A → Call → History → UpdateAt → Type 0
   FirstOrLost m c begin (Walk walk) = IsUntouched c begin m.share
+  FirstOrLost m c begin (Guard walk head llx) = IsUntouched c begin m.share
   FirstOrLost m c begin _ = Unit {0}
 
   -- the try that began at this moment is its pass's newest; while its walk waits for the root's
@@ -453,6 +531,7 @@ module _ {E : Type 0} (e : EditMeaning E) where
     pub looked : HasLooked c h m.edit f m.snaps.items
     pub asked : m.work ≡ e.work m.edit f
     pub room : HasNodesFor m.work.need m.share
+    pub guarded : Guarded e m.edit c h m.guard (λ k. FoundBy (e.way m.edit) (e.goal m.edit) k h f)
 
   -- it may begin to read, or to fill its fresh nodes: it has taken them
   pub record CanWork {A : Type 0} (m : UpdateRun E A) (c : Call) (h : History) (f : Found) : Type 0 where
@@ -493,20 +572,20 @@ module _ {E : Type 0} (e : EditMeaning E) where
     pub need : 0 < m.work.need
     pub some : 0 < m.share.scx
     pub all : HasFilledAll c h m.edit f m.snaps.items m.nodes m.read
+    pub guarded : Guarded e m.edit c h m.guard (λ k. FoundBy (e.way m.edit) (e.goal m.edit) k h f)
     pub full : HasFilledTo c.layout h c.pass m.share m.nodes.first.0 (top m) (suc (top m)) (piece e m f)
 
   -- What it answers
 
   -- The try that began at the moment `begin` is lost: in it the SCX-record s was in the way over
-  -- the node n, and in it the call has found a leaf at which there was something to make. The pass
-  -- has entered nothing.
+  -- the node n, and in it the call has found a leaf at which there was something to make, unless it
+  -- has a guard. The pass has entered nothing.
   pub record HasLostTry (ed : E) (c : Call) (now : History) (limit left n s : ℕ) : Type 0 where
     pub begin : History
     pub try : IsTry c begin now limit left
     pub way : IsContended (begun_at c begin) now n s
     pub none : HasEnteredNone c.layout c.pass now c.start
-    pub found : Found
-    pub needed : WasNeeded (says e ed) (begun_at c begin) now found
+    pub needed : e.guard ed ≡ false → (found : Found) × WasNeeded (says e ed) (begun_at c begin) now found
 
   -- what its answer says
   abbrev pub IsUpdateAnswer : {A : Type 0} → UpdateRun E A → Call → History → Updated → Type 0

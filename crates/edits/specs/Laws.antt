@@ -3,6 +3,7 @@ pub mod NodeFills
 pub mod PieceFills
 pub mod Hand
 pub mod HandScx
+pub mod SnapLists
 pub mod Kept
 pub mod Entered
 pub mod Trying

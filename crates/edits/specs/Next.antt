@@ -3,6 +3,7 @@ use Rattle.std.specs.Prelude.{◌≡◌, ℕ, suc, ◌*◌, ◌<◌, ◌≤◌, 
 use Rattle.histories.specs.Common.{Ask, Load as LoadAccess, Store, LoadMarked, LoadState, LoadSettled, Fill as FillKind, Step, NodeWord, Settled, Marked as MarkedWord}
 use Rattle.histories.specs.Common.{SettledPart, Head, Key, Value, Slot, Plan as PlanWord, State as StateWord, Node as NodeOf, Scx as ScxOf, History, Call, Remaining}
 use Rattle.prims.specs.declared.llx.LlxAt.TheVariants.{Marked, StateAgain}
+use Rattle.prims.specs.declared.llx.LlxRun.{LlxRun}
 use Rattle.prims.specs.declared.scx.ScxAt.TheVariants.{Plan as AtPlan}
 use Rattle.prims.specs.declared.update.Update.{Update}
 use Rattle.template.specs.declared.walk.Found.{Found}
@@ -23,7 +24,7 @@ use Rattle.edits.specs.declared.update.Updated.TheVariants.{Full as FullAnswer}
 
 -- the update at this place, or at none
 abbrev pub standing : {E A B : Type 0} → UpdateRun E A → B → UpdateRun E B
-standing m at = record { edit = m.edit; share = m.share; work = m.work; snaps = m.snaps; nodes = m.nodes; read = m.read; tries = m.tries; limit = m.limit; call = m.call; at = at }
+standing m at = record { edit = m.edit; share = m.share; work = m.work; guard = m.guard; snaps = m.snaps; nodes = m.nodes; read = m.read; tries = m.tries; limit = m.limit; call = m.call; at = at }
 
 -- it makes the same edit, in the same call, which may try as often
 abbrev pub IsSameUpdate : {E A B : Type 0} → UpdateRun E A → UpdateRun E B → Type 0
@@ -40,6 +41,13 @@ half_told m slot key low = told (told m (Key slot) key) (Value slot) low
 -- what its SCX is to do
 abbrev pub update_of : {E A : Type 0} → UpdateRun E A → Update
 update_of m = update_for m.work m.snaps.items m.nodes
+
+-- the LLX of its guard, node 2, which has asked for its first step
+abbrev pub guard_begun : LlxRun
+guard_begun = record { node = record { 0 = 2 }; at = Marked }
+
+abbrev pub guard_step : Step
+guard_step = record { kind = LoadMarked; word = NodeOf (record { 0 = 2 }) MarkedWord; access = LoadAccess }
 
 module _ {E : Type 0} (e : EditMeaning E) where
   -- the fill of a word of the fresh node of this place

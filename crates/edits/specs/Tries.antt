@@ -1,7 +1,7 @@
 -- The tries of a call, and what its pass has entered into the log since it began.
-use Rattle.std.specs.Prelude.{◌≡◌, ◌≢◌, ℕ, ◌<◌, List, length}
-use Rattle.histories.specs.Common.{Layout, Fill, Row, IsOwnScx, History, ◌⊳◌, Extends, IsWin, Call, count, member}
-use Rattle.template.specs.Common.{snap_at, Snap, IsNewestTry, MayTryNext}
+use Rattle.std.specs.Prelude.{◌≡◌, ◌≢◌, ℕ, ◌<◌, length}
+use Rattle.histories.specs.Common.{Layout, Fill, Row, IsOwnScx, History, ◌⊳◌, Extends, IsWin, Call, plan, count, member, seen}
+use Rattle.template.specs.Common.{snap_at, Update, IsNewestTry, MayTryNext}
 use Rattle.template.specs.Tries.{IsInNewest}
 use Rattle.template.specs.declared.walk.WalkAt.{WalkAt}
 use Rattle.template.specs.declared.walk.WalkAt.TheVariants.{Root}
@@ -43,7 +43,10 @@ abbrev pub IsTryAt : Call → History → History → ℕ → ℕ → WalkAt →
 IsTryAt c begin now limit left Root = MayTry c begin now limit left
 IsTryAt c begin now limit left _ = IsTry c begin now limit left
 
--- the SCX-record covers the nodes of these snapshots, and no other
-pub record CoversSnaps (h : History) (s : ℕ) (snaps : List Snap) : Type 0 where
-  pub count : count h s ≡ length snaps
-  pub members : (j : ℕ) → j < length snaps → member h s j ≡ (snap_at snaps j).node.0
+-- the SCX-record has the plan of this update, covers the nodes of its snapshots, and no other, and
+-- has seen of each what its snapshot found
+pub record CoversSnaps (h : History) (s : ℕ) (u : Update) : Type 0 where
+  pub planned : plan h s ≡ u.plan.0
+  pub count : count h s ≡ length u.snaps
+  pub members : (j : ℕ) → j < length u.snaps → member h s j ≡ (snap_at u.snaps j).node.0
+  pub saw : (j : ℕ) → j < length u.snaps → seen h s j ≡ (snap_at u.snaps j).scx.0

@@ -86,6 +86,13 @@ pub enum UpdateAt {
     Walk {
         walk: WalkRun,
     },
+    /// A step of the LLX of node 2, its guard, before the walk continues with the root's head,
+    /// which is this.
+    Guard {
+        walk: WalkRun,
+        head: u64,
+        llx: LlxRun,
+    },
     /// A step of an LLX.
     Look {
         found: Found,
@@ -123,7 +130,9 @@ pub struct UpdateRun<E, A> {
     pub share: Share,
     /// What this try has to do at the leaf that it has found.
     pub work: Work,
-    /// What the LLXs of this try have found.
+    /// What the LLX of its guard has found in this try, if it has one.
+    pub guard: Snap,
+    /// What the LLXs of this try have found; with its SCX that of its guard is the last.
     pub snaps: ArrayVec<Snap, 4>,
     /// The fresh nodes of this try.
     pub nodes: Nodes,
@@ -174,8 +183,9 @@ impl<E: Edit + Drop> UpdateRun<E, UpdateAt> {
     ghost use Rattle.prims.specs.Scx.Steps.{scx_left};
     ghost use Rattle.std.specs.Prelude.{None, Some, Ok};
     ghost use Rattle.template.specs.Walk.Known.{WalkIsTold};
-    ghost use Rattle.edits.specs.Known.{Walks, IsFilledUpTo, UpdateIsReady};
-    ghost use Rattle.edits.specs.Steps.{UpdateFits, fills_left, pieces_now};
+    ghost use Rattle.template.specs.Trails.{IsOwnMoment};
+    ghost use Rattle.edits.specs.Known.{Guarded, Guards, Walks, WalksGuarded, IsFilledUpTo, UpdateIsReady};
+    ghost use Rattle.edits.specs.Steps.{UpdateFits, fills_left, is_for_guard, looks_from, looks_on, pieces_now};
     ghost use Rattle.arena.specs.History.{History};
     ghost use Rattle.arena.specs.Machines.{Call, IsRun, begun_at};
     ghost use Rattle.prims.specs.Llx.Known.{LlxIsReady};
@@ -183,7 +193,7 @@ impl<E: Edit + Drop> UpdateRun<E, UpdateAt> {
     ghost use Rattle.ordered_map.specs.TreeShape.{TreeAllows};
     ghost use Rattle.edits.specs.Known.{MayBeginTry, HasLostTry, IsUntouched, Looks, Scxs, UpdateTurn};
     ghost use Rattle.edits.specs.Steps.{HasAsked, MaySpend, IsSpending, node_tries, scx_tries};
-    ghost use Rattle.edits.specs.Next.{IsSameUpdate, placed, next_step, fills, update_of, MayStop, UpdateGoesOn, ComesNearer, HasSpentForNext};
+    ghost use Rattle.edits.specs.Next.{IsSameUpdate, guard_begun, guard_step, placed, next_step, fills, update_of, MayStop, UpdateGoesOn, ComesNearer, HasSpentForNext};
     ghost use Rattle.arena.specs.Share.{Remaining};
     ghost use Rattle.edits.specs.Tries.{MayTry, IsTry};
 
@@ -227,17 +237,100 @@ impl<E: Edit + Drop> UpdateRun<E, UpdateAt> {
         self.begin_walk()
     }
 
-    /// Continues with what the last step of the walk found.
-    fn walk_on(&mut self, mut walk: WalkRun, got: Option<u64>) -> Turn<Updated>
+    /// Whether it continues with its guard behind this step of its walk.
+    fn begins_guard(&self, walk: &WalkRun) -> bool
+        ensures { result ≡ is_for_guard (E.means.guard self.now.edit) walk.now.at }
+    {
+        match walk.at {
+            WalkAt::Root => self.edit.guard(),
+            _ => false,
+        }
+    }
+
+    /// Continues with what the last step of the walk found: behind the root's head with its guard,
+    /// if it has one.
+    fn walked(&mut self, walk: WalkRun, got: Option<u64>) -> Turn<Updated>
         ensures turn { (c : Call) (b h : History) (v : ℕ) → got ≡ Some v → IsRun TreeAllows c.layout h
             → IsTry c b h self.old.limit self.old.tries → IsUntouched c b self.old.share
             → Walks E.means self.old (begun_at c b) h walk.way walk.goal → WalkIsTold walk (begun_at c b) h v
+            → WalksGuarded E.means self.old (begun_at c b) h walk.at (λ (k : Call). WalkIsTold walk k h v)
             → UpdateTurn E.means c h self.new result }
         ensures same { IsSameUpdate self.old self.new }
         ensures nearer { (nodes : ℕ) → WalkFits walk got nodes
             → IsNearer E.means self.new nodes result
             (self.old.tries * try_left E.means self.old.edit nodes +
-            (steps_left walk nodes + (64 * E.means.most_looks self.old.edit + most_works E.means self.old.edit + 39))) }
+            (steps_left walk nodes + (64 * looks_from (E.means.guard self.old.edit) walk.at (E.means.most_looks self.old.edit)
+            + most_works E.means self.old.edit + 39))) }
+        ensures spends { IsSpending E.means result self.old.share self.new (self.old.tries + 1) (self.old.tries + 1) }
+        ensures tries { (self.old.tries ≤ self.new.tries + 1) × (self.new.tries ≤ self.old.tries) }
+    {
+        if self.begins_guard(&walk) {
+            self.begin_guard(walk, got.unwrap_or(0))
+        } else {
+            self.walk_on(walk, got)
+        }
+    }
+
+    /// Begins the LLX of its guard, where the load of the root's head has found this.
+    fn begin_guard(&mut self, walk: WalkRun, head: u64) -> Turn<Updated>
+        ensures place { self.new ≡ record self.old { at = UpdateAt.Guard walk head guard_begun } }
+        ensures asks { result ≡ Turn.Ask guard_step }
+    {
+        let (node, at) = (NodeNo(2), LlxAt::Marked);
+        let llx = LlxRun { node, at };
+        self.at = UpdateAt::Guard { walk, head, llx };
+        Turn::Ask(Step {
+            kind: Kind::LoadMarked,
+            word: Word::Node(node, NodeWord::Marked),
+            access: Access::Load,
+        })
+    }
+
+    /// Continues with what the last step of that LLX found; behind it with the walk.
+    fn guard_on(
+        &mut self,
+        walk: WalkRun,
+        head: u64,
+        mut llx: LlxRun,
+        got: Option<u64>,
+    ) -> Turn<Updated>
+        ensures turn { (c : Call) (b begin h : History) → IsRun TreeAllows c.layout h → IsTry c b h self.old.limit self.old.tries
+            → IsUntouched c b self.old.share → Guards E.means self.old (begun_at c b) h walk head llx begin
+            → LlxIsReady TreeAllows llx (begun_at (begun_at c b) begin) h got → IsOwnMoment (begun_at c b) h → UpdateTurn E.means c h self.new result }
+        ensures same { IsSameUpdate self.old self.new }
+        ensures nearer { (nodes : ℕ) → walk.at ≡ WalkAt.Root → WalkFits walk (Some head) nodes → IsNearer E.means self.new nodes result
+            (self.old.tries * try_left E.means self.old.edit nodes +
+            (llx_left llx.at + steps_left walk nodes + (64 * E.means.most_looks self.old.edit + most_works E.means self.old.edit + 39))) }
+        ensures spends { IsSpending E.means result self.old.share self.new (self.old.tries + 1) (self.old.tries + 1) }
+        ensures tries { (self.old.tries ≤ self.new.tries + 1) × (self.new.tries ≤ self.old.tries) }
+    {
+        match Machine::<Tree>::next(&mut llx, got) {
+            Turn::Ask(step) => {
+                self.at = UpdateAt::Guard { walk, head, llx };
+                Turn::Ask(step)
+            }
+            Turn::Done(Llx::Snapshot(snap)) => {
+                self.guarded(snap);
+                self.walk_on(walk, Some(head))
+            }
+            Turn::Done(Llx::Finalized { node, scx }) => self.lost(node, scx),
+            Turn::Done(Llx::Fail { node, scx }) => self.lost(node, scx),
+        }
+    }
+
+    /// Continues with what the last step of the walk found.
+    fn walk_on(&mut self, mut walk: WalkRun, got: Option<u64>) -> Turn<Updated>
+        ensures turn { (c : Call) (b h : History) (v : ℕ) → got ≡ Some v → IsRun TreeAllows c.layout h
+            → IsTry c b h self.old.limit self.old.tries → IsUntouched c b self.old.share
+            → Walks E.means self.old (begun_at c b) h walk.way walk.goal → WalkIsTold walk (begun_at c b) h v
+            → Guarded E.means self.old.edit (begun_at c b) h self.old.guard (λ (k : Call). WalkIsTold walk k h v)
+            → UpdateTurn E.means c h self.new result }
+        ensures same { IsSameUpdate self.old self.new }
+        ensures nearer { (nodes : ℕ) → WalkFits walk got nodes
+            → IsNearer E.means self.new nodes result
+            (self.old.tries * try_left E.means self.old.edit nodes +
+            (steps_left walk nodes + (64 * looks_on (E.means.guard self.old.edit) walk.at (E.means.most_looks self.old.edit)
+            + most_works E.means self.old.edit + 39))) }
         ensures spends { IsSpending E.means result self.old.share self.new (self.old.tries + 1) (self.old.tries + 1) }
         ensures tries { (self.old.tries ≤ self.new.tries + 1) × (self.new.tries ≤ self.old.tries) }
     {
@@ -482,7 +575,8 @@ impl<E: Edit + Drop> UpdateRun<E, UpdateAt> {
     {
         match self.at {
             UpdateAt::Start => self.begin_walk(),
-            UpdateAt::Walk { walk } => self.walk_on(walk, got),
+            UpdateAt::Walk { walk } => self.walked(walk, got),
+            UpdateAt::Guard { walk, head, llx } => self.guard_on(walk, head, llx, got),
             UpdateAt::Look { found, llx } => self.look_on(found, llx, got),
             UpdateAt::Read { found, node, part } => {
                 let next = self.read_on(&found, node, part, got.unwrap_or(0));

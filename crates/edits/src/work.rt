@@ -22,7 +22,8 @@ impl<E: Edit + Drop, A: Drop> UpdateRun<E, A> {
     ghost use Rattle.prims.specs.FoundThere.{HasFoundThere};
     ghost use Rattle.prims.specs.Llx.Known.{IsSnapshot};
     ghost use Rattle.ordered_map.specs.TreeShape.{TreeAllows};
-    ghost use Rattle.edits.specs.Known.{MayBeginTry, IsUntouched, CanLook, CanWork, CanRead, Reads};
+    ghost use Rattle.edits.specs.Edits.{all_looks, covering};
+    ghost use Rattle.edits.specs.Known.{Guarded, MayBeginTry, IsUntouched, CanLook, CanWork, CanRead, Reads};
     ghost use Rattle.arena.specs.declared.word.NodeWord.{NodeWord};
     ghost use Rattle.arena.specs.declared.word.SettledPart.{SettledPart};
     ghost use Rattle.arena.specs.declared.word.Word.{Word};
@@ -44,6 +45,7 @@ impl<E: Edit + Drop, A: Drop> UpdateRun<E, A> {
             edit,
             share,
             work: Work::none(),
+            guard: Snap::default(),
             snaps: ArrayVec::new(),
             nodes: Nodes::default(),
             read: Reading::new(),
@@ -63,6 +65,7 @@ impl<E: Edit + Drop, A: Drop> UpdateRun<E, A> {
             edit: self.edit,
             share: self.share,
             work: self.work,
+            guard: self.guard,
             snaps: self.snaps,
             nodes: self.nodes,
             read: self.read,
@@ -79,6 +82,14 @@ impl<E: Edit + Drop, A: Drop> UpdateRun<E, A> {
         ensures { result ≡ self.share }
     {
         self.share
+    }
+
+    /// Keeps the snapshot of its guard.
+    #[inline(always)]
+    pub fn guarded(&mut self, snap: Snap)
+        ensures { self.new ≡ record self.old { guard = snap } }
+    {
+        self.guard = snap;
     }
 
     /// What the share lacks of the fresh nodes that are needed and an SCX-record.
@@ -105,6 +116,7 @@ impl<E: Edit + Drop, A: Drop> UpdateRun<E, A> {
         ensures turn { (c : Call) (b h : History) → IsRun TreeAllows c.layout h → IsTry c b h self.old.limit self.old.tries
             → IsUntouched c b self.old.share → MayBeginTry E.means self.old (begun_at c b) h → IsQuietSince c.layout c.pass b h
             → HasFilledNone c.pass h b → FoundBy (E.means.way self.old.edit) (E.means.goal self.old.edit) (begun_at c b) h found.now
+            → Guarded E.means self.old.edit (begun_at c b) h self.old.guard (λ (k : Call). FoundBy (E.means.way self.old.edit) (E.means.goal self.old.edit) k h found.now)
             → UpdateGoesOn E.means c h self.new found.now result }
         ensures same { IsSameUpdate self.old self.new }
         ensures nearer { (nodes : ℕ) → ComesNearer E.means self.new found.now result nodes
@@ -321,7 +333,19 @@ impl<E: Edit + Drop, A: Drop> UpdateRun<E, A> {
         }
     }
 
-    /// Takes an SCX-record.
+    /// Puts the snapshot of its guard behind the others, if it has one.
+    #[inline(always)]
+    fn cover(&mut self)
+        ensures same { self.new ≡ record self.old { snaps = self.new.snaps } }
+        ensures all { all_looks (E.means.guard self.old.edit) (length self.old.snaps.items) ≤ 4
+            → self.new.snaps.items ≡ covering (E.means.guard self.old.edit) self.old.snaps.items self.old.guard }
+    {
+        if self.edit.guard() {
+            let _fits = self.snaps.try_push(self.guard);
+        }
+    }
+
+    /// Takes an SCX-record, once its snapshots are all there.
     #[inline(always)]
     fn take_scx(&mut self, found: &Found) -> Result<Next, Stop>
         ensures turn { (c : Call) (b h : History) → IsRun TreeAllows c.layout h → IsTry c b h self.old.limit self.old.tries
@@ -332,7 +356,10 @@ impl<E: Edit + Drop, A: Drop> UpdateRun<E, A> {
         ensures tries { self.new.tries ≡ self.old.tries }
     {
         match self.share.scx() {
-            Some(scx) => Ok(Next::Change(scx)),
+            Some(scx) => {
+                self.cover();
+                Ok(Next::Change(scx))
+            }
             None => {
                 let what = Resource::Scx;
                 Err(Stop::Full(Full { what, left: 0 }))

@@ -1,12 +1,12 @@
 -- What the forks of a tree have for children, now or when they were there: where each is, seen from its
 -- fork, and that in a trie it keeps to its side.
-use Rattle.std.proofs.Common.{◌≡◌, ◌≢◌, ℕ, ◌^◌, ◌<◌, ◌≤◌, Bool, true, false, inl, inr, refl, sym, ◌∙◌, ap, arith, subst}
-use Rattle.histories.specs.Common.{Layout, Side, Left, Right, Child, Word, child, History, value, Extends}
+use Rattle.std.proofs.Common.{◌≡◌, ◌≢◌, ℕ, ◌/◌, ◌%◌, ◌^◌, ◌<◌, ◌≤◌, Bool, true, false, eqb, inl, inr, refl, sym, ◌∙◌, ap, arith, subst}
+use Rattle.histories.specs.Common.{Layout, Side, Left, Right, Child, Settled, Head, Word, child, History, value, Extends}
 use Rattle.arena.specs.declared.limits.Mode.TheVariants.{Trie as TrieMode}
 use Rattle.arena.proofs.Lemmas.{ends_self, ends_trans}
 use Rattle.histories.proofs.Lemmas.{node_since}
 use Rattle.ordered_map.specs.Bits.{Keeps, IsTrieFork}
-use Rattle.ordered_map.specs.Paths.{WasInTree, HasHadChild}
+use Rattle.ordered_map.specs.Paths.{StoodSince, WasInTree, HasHadChild}
 use Rattle.ordered_map.specs.Runs.{IsMapRun}
 use Rattle.ordered_map.specs.Spelled.{IsTree}
 use Rattle.ordered_map.specs.TreeWords.{Tree, Leaf, Fork, root, Shows, Has, class, is_leaf, level, rank}
@@ -85,6 +85,28 @@ had_child_since h m n side c e x = record { moment = x.moment; within = ends_tra
 -- what a fork has now that was ever in the tree
 pub has_child : (h : History) (n : ℕ) (side : Side) → WasInTree h n → HasHadChild h n side (value h (child n side))
 has_child h n side x = record { moment = h; within = ends_self h; stood = x; held = refl }
+
+-- what a fork has now that was in the tree since some moment was there since then too
+pub stood_next : (lay : Layout) (h start : History) (n : ℕ) (side : Side) → IsMapRun lay h → StoodSince h start n → is_leaf (value h) n ≡ false → StoodSince h start (value h (child n side))
+stood_next lay h start n side g (x, since) fork = (
+  record { moment = l.moment; within = l.within; tree = l.on_path.tree; is_tree = l.on_path.is_tree; has = subst (λ c. Has l.on_path.tree c) (sym (l.same (Child side) tt)) below },
+  ends_trans l.moment x.moment start l.since since,
+)
+  where
+    own : Reached lay h x.moment n
+    own = reach (edits_of lay h g).edits lay h n (grown lay h g) x (inr fork)
+
+    l : Latest h x.moment own.key n
+    l = latest (edits_of lay h g).edits lay h x.moment own.key n (grown lay h g) x.within own.path own.stays
+
+    has : Has l.on_path.tree n
+    has = passes_has (value l.moment) own.key l.on_path.tree n l.on_path.passes
+
+    fork_then : is_leaf (value l.moment) n ≡ false
+    fork_then = ap (λ v. eqb (v / 4 % 2) 1) (sym (l.same (Settled Head) tt)) ∙ fork
+
+    below : Has l.on_path.tree (value l.moment (child n side))
+    below = (path_level (value l.moment) l.on_path.tree _ _ n side l.on_path.is_tree.shows has fork_then).1
 
 -- a moment at which the fork n was in the tree, with the child m on this side; both are as they were
 record IsShownBelow (h : History) (n : ℕ) (side : Side) (m : ℕ) : Type 0 where

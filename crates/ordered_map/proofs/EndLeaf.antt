@@ -230,14 +230,18 @@ walk_holds lay h start k n g p = stood_holds lay h n g (was_passed h start k n p
 pub stood_counted : (lay : Layout) (h : History) (n : ℕ) → IsMapRun lay h → WasInTree h n → is_leaf (value h) n ≡ true → class (value h) n ≡ 0 → IsWellCounted (value h) n
 stood_counted lay h n g x leaf low = (stood_holds lay h n g x leaf low).0
 
--- to which side a search for the key at an end goes
+-- to which side a search for the key at an end goes at a fork that was ever in the tree
+pub stood_turns : (side : Side) (lay : Layout) (h : History) (n : ℕ) → IsMapRun lay h → WasInTree h n → is_leaf (value h) n ≡ false → toward (value h) n (end_key side) ≡ end_turn side (class (value h) n)
+stood_turns side lay h n g t fork =
+    let m : History = t.moment in
+    let same : SameSettled (value m) (value h) n = stood_settled lay h m n g t.within record { moment = m; within = ends_self m; tree = t.tree; is_tree = t.is_tree; has = t.has } in
+    let low = run_low lay m t.tree (run_since lay h m g t.within) t.is_tree in
+    let x : toward (value m) n (end_key side) ≡ end_turn side (class (value m) n) = fork_turn (value m) side t.tree _ _ n t.is_tree.shows low t.has (sym (settled_leaf (value m) (value h) n same) ∙ fork) in
+    settled_toward (value m) (value h) n (end_key side) same ∙ x ∙ ap (end_turn side) (sym (settled_class (value m) (value h) n same))
+
+-- so at each that such a search has passed
 pub walk_turns : (side : Side) (lay : Layout) (h start : History) (n : ℕ) → IsMapRun lay h → Passed h start (end_key side) n → is_leaf (value h) n ≡ false → toward (value h) n (end_key side) ≡ end_turn side (class (value h) n)
-walk_turns side lay h start n g p fork =
-    let same = same_since lay h start (end_key side) n g p in
-    let tree = p.3 in
-    let low = run_low lay p.0 tree.tree (run_since lay h p.0 g p.1) tree.is_tree in
-    let x : toward (value p.0) n (end_key side) ≡ end_turn side (class (value p.0) n) = fork_turn (value p.0) side tree.tree _ _ n tree.is_tree.shows low (passes_has (value p.0) (end_key side) tree.tree n tree.passes) (sym (settled_leaf (value p.0) (value h) n same) ∙ fork) in
-    settled_toward (value p.0) (value h) n (end_key side) same ∙ x ∙ ap (end_turn side) (sym (settled_class (value p.0) (value h) n same))
+walk_turns side lay h start n g p fork = stood_turns side lay h n g (was_passed h start (end_key side) n p) fork
 
 -- what it has passed it has passed on its way to each key between
 pub walk_own : (side : Side) (lay : Layout) (h start : History) (k n : ℕ) → IsMapRun lay h → Passed h start (end_key side) n → IsUpTo side k (rank (value h) n) → Passed h start k n

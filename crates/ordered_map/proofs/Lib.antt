@@ -36,6 +36,7 @@ mod MapRuns
 mod Rising
 mod Children
 mod Strayed
+mod Nearby
 mod Fits
 mod EndLeaf
 mod TrieEnds

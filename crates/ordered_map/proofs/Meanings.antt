@@ -17,6 +17,7 @@ use Rattle.ordered_map.specs.Laws.{AreEdits, SpellsLog}
 use Rattle.ordered_map.specs.Runs.{IsMapRun, IsTreeRun, IsTrieRun, Makes, map_of_log, IsEditAt}
 use Rattle.ordered_map.specs.Spelled.{Spells}
 use Rattle.ordered_map.specs.TrieShape.{Stays}
+use Rattle.ordered_map.specs.EditPlans.{join_plan, end_join_plan}
 use Rattle.ordered_map.specs.TreeShape.{IsEdit, TakesLeafOut, leaf_place, edit_leaf, TreeAllows}
 use Rattle.ordered_map.specs.TreeWords.{class, is_leaf, level, toward, pairs, said}
 use Rattle.ordered_map.proofs.TreeFacts.{TreeFacts}
@@ -267,19 +268,13 @@ begun_plan lay h s e l x =
     let named : IsNamedScx (x.row ⊳ x.before) s = (member x.before s 0, begin_names x.before x.row s x.begins) in
     scx_since lay h (x.row ⊳ x.before) s l x.within real named Plan tt ∙ value_apart x.row x.before (info (member x.before s 0)) (scx s Plan) x.begins.word refl
 
--- of the four nodes that it covers in a tree the leaf is one of the last two
-pub leaf_taken_out : (lay : Layout) (h : History) (s : ℕ) (e : MapEdit) → Lawful lay h → lay.mode ≡ TreeMode → Makes lay h s e → count h s ≡ 4 → edit_leaf h s e ≡ member h s (leaf_place (toward (value h) (member h s 1) (edit_key e)))
-leaf_taken_out lay h s e l tree x four = go x.edit.edit
-  where
-    same : plan h s ≡ plan x.before s
-    same = begun_plan lay h s e l x
+-- of the four nodes that it covers to take a leaf out the leaf is one of the last two
+pub leaf_taken_out : (h : History) (s : ℕ) (e : MapEdit) (side : Side) → plan h s ≡ join_plan side → edit_leaf h s e ≡ member h s (leaf_place (toward (value h) (member h s 1) (edit_key e)))
+leaf_taken_out h s e side p = let says = join_plan_says (plan h s) side p in rw (says.3, says.6) refl
 
-    go : IsEdit lay x.before s e → edit_leaf h s e ≡ member h s (leaf_place (toward (value h) (member h s 1) (edit_key e)))
-    go (inl y) = absurd (let two : count h s ≡ 2 = ap count_of same ∙ (leaf_plan_says _ _ y.plan).3 in omega (arith, two, four))
-    go (inr (inl y)) =
-        let last : scx_finalizes h s 3 ≡ true = ap (λ p. plan_finalizes p 3) same ∙ (join_plan_says _ _ y.plan).6 in
-        rw (eq-eqb (count h s) 4 four, last) refl
-    go (inr (inr y)) = absurd (let q : TreeMode ≡ TrieMode = sym tree ∙ y.0 in cc)
+-- where node 2 is the last of them, it is what the second has on its side
+pub leaf_taken_at_end : (h : History) (s : ℕ) (e : MapEdit) (side : Side) → plan h s ≡ end_join_plan side → edit_leaf h s e ≡ value h (child (member h s 1) (toward (value h) (member h s 1) (edit_key e)))
+leaf_taken_at_end h s e side p = let says = end_join_plan_says (plan h s) side p in rw (says.3, says.6) refl
 
 -- it covers the leaf of its edit; but one that takes the leaf at an end of a trie out does not
 pub leaf_covered : (lay : Layout) (h : History) (s : ℕ) (e : MapEdit) → Lawful lay h → (lay.mode ≡ TreeMode) ⊎ (count h s ≢ 4) → Makes lay h s e → IsMember h s (edit_leaf h s e)

@@ -5,7 +5,7 @@ use Rattle.arena.specs.Layout.{IsMap}
 use Rattle.arena.proofs.Lemmas.{ends_self}
 use Rattle.histories.proofs.Lemmas.{Effect, Facts, UpdateWins, effect, facts_before, freeze, freeze_keeps_field, named_since, node_stays, quiet, update}
 use Rattle.ordered_map.specs.OrderedMap.{MapEdit}
-use Rattle.ordered_map.specs.Paths.{IsOnPath, Passed, WasInTree}
+use Rattle.ordered_map.specs.Paths.{IsOnPath, Passed, StoodSince, WasInTree}
 use Rattle.ordered_map.specs.Spelled.{IsTree}
 use Rattle.ordered_map.specs.TreeWords.{Tree, Leaf, Fork, Has, Passes}
 use Rattle.ordered_map.proofs.Trees.{Same, frame, frame_path, same_tree, passes_has}
@@ -33,6 +33,13 @@ was_now h t n i x = record { moment = h; within = ends_self h; tree = t; is_tree
 -- a node that was passed was there
 pub was_passed : (h start : History) (k n : ℕ) → Passed h start k n → WasInTree h n
 was_passed h start k n p = record { moment = p.0; within = p.1; tree = p.3.tree; is_tree = p.3.is_tree; has = passes_has (value p.0) k p.3.tree n p.3.passes }
+
+-- so since the walk began
+pub passed_since : (h start : History) (k n : ℕ) → Passed h start k n → StoodSince h start n
+passed_since h start k n p = (record { moment = p.0; within = p.1; tree = p.3.tree; is_tree = p.3.is_tree; has = passes_has (value p.0) k p.3.tree n p.3.passes }, p.2)
+
+pub since_more : (h start : History) (r : Row) (n : ℕ) → StoodSince h start n → StoodSince (r ⊳ h) start n
+since_more h start r n (x, since) = (record { moment = x.moment; within = inr x.within; tree = x.tree; is_tree = x.is_tree; has = x.has }, since)
 
 -- a node that was in the tree was named
 pub was_named : (lay : Layout) (h : History) (n : ℕ) → IsMap lay.mode → Lawful lay h → WasInTree h n → IsNamed lay h n

@@ -1,18 +1,18 @@
 -- Walks of a trie: where one comes to a fork that its key does not share, the map has no such key, and
 -- what is below is apart from the key.
-use Rattle.std.proofs.Common.{◌≡◌, ℕ, ◌^◌, ◌<◌, ◌≤◌, true, false, ◌⊎◌, inl, inr, ⊎_elim, List, ◌++◌, None, refl, sym, ◌∙◌, ap, arith, subst}
+use Rattle.std.proofs.Common.{◌≡◌, ◌≢◌, ℕ, ◌^◌, ◌<◌, ◌≤◌, true, false, ◌⊎◌, inl, inr, ⊎_elim, List, ◌++◌, None, refl, sym, ◌∙◌, ap, arith, subst}
 use native.Mathlib.Decide.{ℕ_discrete}
-use Rattle.histories.specs.Common.{Mode, Tree as TreeMode, Records, Layout, Side, Left, Right, Word, Row, child, History, ◌⊳◌, value, log}
+use Rattle.histories.specs.Common.{Mode, Tree as TreeMode, Records, Layout, Side, Left, Right, Word, Row, info, child, History, ◌⊳◌, value, Extends, log}
 use Rattle.arena.specs.declared.limits.Mode.TheVariants.{Trie as TrieMode}
 use Rattle.arena.specs.Layout.{IsMap}
-use Rattle.arena.proofs.Lemmas.{ends_self}
+use Rattle.arena.proofs.Lemmas.{ends_self, ends_trans}
 use Rattle.ordered_map.specs.declared.pair.Pair.{Pair}
 use Rattle.ordered_map.specs.OrderedMap.{AllAbove, AllBelow, AllFrom, MapEdit, get}
 use Rattle.ordered_map.specs.Holding.{held_pairs}
 use Rattle.ordered_map.specs.Bits.{side_from, side_to, Shares, Keeps}
-use Rattle.ordered_map.specs.Paths.{Passed, WasInTree, HasHadChild, IsAnswerAt}
+use Rattle.ordered_map.specs.Paths.{Passed, StoodSince, WasInTree, HasHadChild, IsAnswerAt}
 use Rattle.ordered_map.specs.Runs.{IsMapRun, map_of_log}
-use Rattle.ordered_map.specs.Strays.{IsApart, HasStrayed, HasWalked}
+use Rattle.ordered_map.specs.Strays.{IsApart, HasStrayed, HasWalked, IsGuardedOn, IsUnguarded}
 use Rattle.ordered_map.specs.TrieShape.{Stays}
 use Rattle.ordered_map.specs.TreeWords.{Tree, Leaf, Fork, root, Shows, class, is_leaf, rank, toward, said}
 use Rattle.ordered_map.proofs.Holding.{SameSettled, low_pairs}
@@ -26,10 +26,12 @@ use Rattle.ordered_map.proofs.Moved.{settled_class, settled_leaf, settled_said}
 use Rattle.ordered_map.proofs.TreeFacts.{TreeFacts, path_now}
 use Rattle.ordered_map.proofs.Grown.{IsGrown, tree_facts}
 use Rattle.ordered_map.proofs.Growing.{spells}
-use Rattle.ordered_map.proofs.Stood.{was_more, was_passed}
+use Rattle.ordered_map.proofs.Stood.{passed_since, since_more, was_passed}
 use Rattle.ordered_map.proofs.Meanings.{edits_of, grown, run_since, walk_next, walk_answers}
 use Rattle.ordered_map.proofs.MapRuns.{stood_settled}
-use Rattle.ordered_map.proofs.Children.{has_child, had_stood, had_low, had_keeps}
+use Rattle.ordered_map.proofs.Children.{has_child, had_low, had_keeps, stood_next}
+use Rattle.ordered_map.proofs.Guarded.{guarded_next}
+use Rattle.ordered_map.proofs.Past.{walk_stays}
 
 -- What words show
 
@@ -59,7 +61,7 @@ part_none f k u (Fork n a b) lo hi s w all e d low out =
     (λ x. out (subst (λ v. Shares f v k) e x))
 
 -- a key shares a fork or does not
-shares_or_not : (f : Word → ℕ) (n k : ℕ) → Shares f n k ⊎ ¬ Shares f n k
+pub shares_or_not : (f : Word → ℕ) (n k : ℕ) → Shares f n k ⊎ ¬ Shares f n k
 shares_or_not f n k = go (split_at k (side_from f n Left)) (split_at k (side_to f n Right))
   where
     go : (k < side_from f n Left) ⊎ (side_from f n Left ≤ k) → (k < side_to f n Right) ⊎ (side_to f n Right ≤ k) → Shares f n k ⊎ ¬ Shares f n k
@@ -95,26 +97,27 @@ stays_on_side lay f k n small trie stay = own_side f n k small (stays_shares lay
 
 -- In a run
 
--- what a fork has had below it is apart from a key where the fork is
-apart_below : (lay : Layout) (h : History) (k n : ℕ) (side : Side) (m : ℕ) → lay.mode ≡ TrieMode → IsMapRun lay h → is_leaf (value h) n ≡ false → HasHadChild h n side m → IsApart (value h) n k → IsApart (value h) m k
-apart_below lay h k n side m trie g fork x apart = record {
+-- what a fork of class 0 has had below it on a side is apart from each key that is not on that side
+pub apart_outside : (lay : Layout) (h : History) (k n : ℕ) (side : Side) (m : ℕ) → lay.mode ≡ TrieMode → IsMapRun lay h → is_leaf (value h) n ≡ false → HasHadChild h n side m → class (value h) n ≡ 0 → ¬ IsOnSide (value h) n side k → IsApart (value h) m k
+apart_outside lay h k n side m trie g fork x zero outside = record {
   fork = λ d. (low, λ s. let a = keeps.fork d low in outside (omega (arith, a, s), omega (arith, a, s)));
   leaf = λ d.
       let held = keeps.leaf d low in
       ap (get k) (low_pairs (value h) m low) ∙ get_outside (side_from (value h) n side) (side_to (value h) n side) k (held_pairs (value h) m) held.1 held.2 outside;
 }
   where
-    zero : class (value h) n ≡ 0
-    zero = (apart.fork fork).0
-
     low : class (value h) m ≡ 0
     low = had_low lay h n side m g x fork zero
 
     keeps : Keeps (value h) n side m
     keeps = had_keeps lay h n side m g x fork trie
 
-    outside : ¬ IsOnSide (value h) n side k
-    outside s = let a = side_in (value h) n side zero in (apart.fork fork).1 (omega (arith, a, s), omega (arith, a, s))
+-- so it is from each that the fork is apart from
+pub apart_below : (lay : Layout) (h : History) (k n : ℕ) (side : Side) (m : ℕ) → lay.mode ≡ TrieMode → IsMapRun lay h → is_leaf (value h) n ≡ false → HasHadChild h n side m → IsApart (value h) n k → IsApart (value h) m k
+apart_below lay h k n side m trie g fork x apart =
+    let zero = (apart.fork fork).0 in
+    let a = side_in (value h) n side zero in
+    apart_outside lay h k n side m trie g fork x zero (λ s. (apart.fork fork).1 (omega (arith, a, s), omega (arith, a, s)))
 
 -- Where a walk comes to a fork of class 0 that its key does not share, the map had no such key when
 -- the fork was passed.
@@ -122,7 +125,8 @@ pub walk_strays : (lay : Layout) (h start : History) (k n : ℕ) → k < 2 ^ 64 
 walk_strays lay h start k n small g trie p fork low out = record {
   trie = trie;
   absent = record { moment = m; within = p.1; since = p.2; map = map_of_log calls (log lay m); spelled = spells calls lay m now; gives = gives };
-  stood = was_passed h start k n p;
+  stood = passed_since h start k n p;
+  guarded = λ guard done. inl p;
   apart = record { fork = λ _. (low, out); leaf = λ d. absurd (let x : true ≡ false = sym d ∙ fork in cc) };
 }
   where
@@ -173,29 +177,35 @@ stays_or_strays lay h start k n small g p fork = by_mode lay.mode refl g.0
     by_mode TrieMode e is = by_class e (ℕ_discrete (class (value h) n) 0)
     by_mode Records e is = absurd (let x : false ≡ true = is in cc)
 
--- where it has strayed it goes on to whatever side
-pub strayed_next : (lay : Layout) (h start : History) (k n : ℕ) (side : Side) → IsMapRun lay h → HasStrayed lay h start k n → is_leaf (value h) n ≡ false → HasStrayed lay h start k (value h (child n side))
-strayed_next lay h start k n side g x fork = record {
+-- where it has strayed it goes on all the same
+pub strayed_next : (lay : Layout) (h start : History) (k n : ℕ) → IsMapRun lay h → HasStrayed lay h start k n → is_leaf (value h) n ≡ false → HasStrayed lay h start k (value h (child n (toward (value h) n k)))
+strayed_next lay h start k n g x fork = record {
   trie = x.trie;
   absent = x.absent;
-  stood = had_stood lay h n side (value h (child n side)) g (has_child h n side x.stood) fork;
-  apart = apart_below lay h k n side (value h (child n side)) x.trie g fork (has_child h n side x.stood) x.apart;
+  stood = stood_next lay h start n (toward (value h) n k) g x.stood fork;
+  guarded = λ guard done. ⊎_elim (λ p. on guard (ends_trans h p.0 start p.1 p.2) (guarded_next lay h start k n guard g done p fork)) inr (x.guarded guard done);
+  apart = apart_below lay h k n (toward (value h) n k) (value h (child n (toward (value h) n k))) x.trie g fork (has_child h n (toward (value h) n k) x.stood.0) x.apart;
 }
+  where
+    on : (guard : ℕ) → Extends h start → Passed h start k (value h (child n (toward (value h) n k))) ⊎ (value h (info 2) ≢ guard) → Passed h start k (value h (child n (toward (value h) n k))) ⊎ IsUnguarded h start guard
+    on guard since (inl p) = inl p
+    on guard since (inr d) = inr (h, ends_self h, since, d)
 
 -- a row more keeps that
 pub strayed_more : (lay : Layout) (h start : History) (r : Row) (k n : ℕ) → IsMapRun lay (r ⊳ h) → HasStrayed lay h start k n → HasStrayed lay (r ⊳ h) start k n
 strayed_more lay h start r k n g x = record {
   trie = x.trie;
   absent = let a = x.absent in record { moment = a.moment; within = inr a.within; since = a.since; map = a.map; spelled = a.spelled; gives = a.gives };
-  stood = was_more h r n x.stood;
-  apart = same_apart (value h) (value (r ⊳ h)) n k (stood_settled lay (r ⊳ h) h n g (inr (ends_self h)) x.stood) x.apart;
+  stood = since_more h start r n x.stood;
+  guarded = λ guard done. ⊎_elim (λ p. inl (walk_stays r h start k n p)) (λ u. inr (u.0, inr u.1, u.2, u.3)) (x.guarded guard done);
+  apart = same_apart (value h) (value (r ⊳ h)) n k (stood_settled lay (r ⊳ h) h n g (inr (ends_self h)) x.stood.0) x.apart;
 }
 
 -- Walks by the steps of a tree's
 
 pub walked_next : (lay : Layout) (h start : History) (k n : ℕ) → k < 2 ^ 64 → IsMapRun lay h → HasWalked lay h start k n → is_leaf (value h) n ≡ false → HasWalked lay h start k (value h (child n (toward (value h) n k)))
-walked_next lay h start k n small g (inl p) fork = ⊎_elim (λ stay. inl (walk_next lay h start k n g p stay fork)) (λ s. inr (strayed_next lay h start k n (toward (value h) n k) g s fork)) (stays_or_strays lay h start k n small g p fork)
-walked_next lay h start k n small g (inr s) fork = inr (strayed_next lay h start k n (toward (value h) n k) g s fork)
+walked_next lay h start k n small g (inl p) fork = ⊎_elim (λ stay. inl (walk_next lay h start k n g p stay fork)) (λ s. inr (strayed_next lay h start k n g s fork)) (stays_or_strays lay h start k n small g p fork)
+walked_next lay h start k n small g (inr s) fork = inr (strayed_next lay h start k n g s fork)
 
 pub walked_answers : (lay : Layout) (h start : History) (k n : ℕ) → k < 2 ^ 64 → IsMapRun lay h → HasWalked lay h start k n → is_leaf (value h) n ≡ true → IsAnswerAt lay h start k (said (value h) k n)
 walked_answers lay h start k n small g (inl p) leaf = walk_answers lay h start k n small g p leaf
@@ -203,7 +213,16 @@ walked_answers lay h start k n small g (inr s) leaf = subst (IsAnswerAt lay h st
 
 pub walked_stood : (lay : Layout) (h start : History) (k n : ℕ) → HasWalked lay h start k n → WasInTree h n
 walked_stood lay h start k n (inl p) = was_passed h start k n p
-walked_stood lay h start k n (inr s) = s.stood
+walked_stood lay h start k n (inr s) = s.stood.0
+
+-- what it has come to was in the tree since the walk began, and on the path, or node 2 has changed since
+pub walked_since : (lay : Layout) (h start : History) (k n : ℕ) → HasWalked lay h start k n → StoodSince h start n
+walked_since lay h start k n (inl p) = passed_since h start k n p
+walked_since lay h start k n (inr s) = s.stood
+
+pub walked_guarded : (lay : Layout) (h start : History) (k n : ℕ) → HasWalked lay h start k n → IsGuardedOn h start k n
+walked_guarded lay h start k n (inl p) guard done = inl p
+walked_guarded lay h start k n (inr s) guard done = s.guarded guard done
 
 -- A fork whose field has named a node that is not apart from the key has not strayed, and stays.
 pub walked_above : (lay : Layout) (h start : History) (k n m : ℕ) (side : Side) → k < 2 ^ 64 → lay.mode ≡ TrieMode → IsMapRun lay h → HasWalked lay h start k n → is_leaf (value h) n ≡ false → HasHadChild h n side m → ¬ IsApart (value h) m k → Passed h start k n × Stays lay (value h) k n

@@ -9,7 +9,7 @@ use Rattle.histories.proofs.Lemmas.{win_not_final}
 use Rattle.ordered_map.specs.declared.pair.Pair.{Pair}
 use Rattle.ordered_map.specs.OrderedMap.{end_pair}
 use Rattle.ordered_map.specs.Bits.{Shares, Keeps}
-use Rattle.ordered_map.specs.Paths.{IsOnPath, WasInTree, WasOnPath, end_key}
+use Rattle.ordered_map.specs.Paths.{IsOnPath, Passed, StoodSince, WasInTree, end_key}
 use Rattle.ordered_map.specs.Runs.{IsMapRun}
 use Rattle.ordered_map.specs.Spelled.{Spells}
 use Rattle.ordered_map.specs.TrieShape.{Stays}
@@ -64,9 +64,9 @@ module _ (f : Word → ℕ) (k n : ℕ) (small : k < 2 ^ 64) (fork : is_leaf f n
           omega (arith, x, at, zero)
       go (no high) = absurd (none high (ℕ_discrete (class f n) 0))
 
--- so each that was in the trie, and at which a key stays, was on its path
-pub stays_was_on_path : (lay : Layout) (h : History) (k n : ℕ) → k < 2 ^ 64 → lay.mode ≡ TrieMode → IsMapRun lay h → WasInTree h n → Stays lay (value h) k n → WasOnPath h k n
-stays_was_on_path lay h k n small trie g x stay = (m, x.within, record { tree = x.tree; is_tree = x.is_tree; passes = shared_path (value m) k n small (stays_fork lay (value m) k n trie then) (stays_shares lay (value m) k n small trie then) (stood_blank lay m n run was) x.tree _ _ x.is_tree.shows (run_low lay m x.tree run x.is_tree) (λ j q. stood_parted lay m j trie run (was_now m x.tree j x.is_tree q)) x.has })
+-- so each that was in the trie, and at which a key stays, was on its path then
+pub stays_passed : (lay : Layout) (h start : History) (k n : ℕ) → k < 2 ^ 64 → lay.mode ≡ TrieMode → IsMapRun lay h → StoodSince h start n → Stays lay (value h) k n → Passed h start k n
+stays_passed lay h start k n small trie g (x, since) stay = (m, x.within, since, record { tree = x.tree; is_tree = x.is_tree; passes = shared_path (value m) k n small (stays_fork lay (value m) k n trie then) (stays_shares lay (value m) k n small trie then) (stood_blank lay m n run was) x.tree _ _ x.is_tree.shows (run_low lay m x.tree run x.is_tree) (λ j q. stood_parted lay m j trie run (was_now m x.tree j x.is_tree q)) x.has })
   where
     m : History
     m = x.moment

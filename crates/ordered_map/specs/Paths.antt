@@ -36,6 +36,10 @@ pub record WasInTree (h : History) (n : ℕ) : Type 0 where
   pub is_tree : IsTree (value moment) tree
   pub has : Has tree n
 
+-- n was in the tree at a moment that is not before `start`
+abbrev pub StoodSince : History → History → ℕ → Type 0
+StoodSince h start n = (x : WasInTree h n) × Extends x.moment start
+
 -- n was in the tree at a moment of the history, and its field on this side named m then
 pub record HasHadChild (h : History) (n : ℕ) (side : Side) (m : ℕ) : Type 0 where
   pub moment : History

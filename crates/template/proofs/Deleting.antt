@@ -18,7 +18,7 @@ use Rattle.template.proofs.Inserting.{grand_surely, on_path}
 use Rattle.template.proofs.WalkBounds.{said_low, found_below, passed_named}
 
 -- without its only key nothing is left of a list
-only_taken : (k old : ℕ) (p : Pair) (ps : List Pair) → ps ≡ p ∷ [] → get k ps ≡ Some old → delete k ps ≡ []
+pub only_taken : (k old : ℕ) (p : Pair) (ps : List Pair) → ps ≡ p ∷ [] → get k ps ≡ Some old → delete k ps ≡ []
 only_taken k old p ps one there = ap (delete k) one ∙ go (ℕ_discrete k p.key)
   where
     go : Dec (k ≡ p.key) → delete k (p ∷ []) ≡ []

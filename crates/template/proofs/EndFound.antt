@@ -1,17 +1,24 @@
 -- What the walk to an end has found: the leaf on the path of its own key there, and the pair at
 -- that end of the map.
-use Rattle.std.proofs.Common.{Bool, true, false, cond, eqb, ◌≡◌, ◌≢◌, ◌⊎◌, inl, inr, ℕ, ◌<◌, ◌≤◌, ◌^◌, eq-eqb, ne_eqb, lt-ltb, le-ltb, [], refl, sym, ◌∙◌, ap, arith, subst, Some, None}
+use Rattle.std.proofs.Common.{Bool, true, false, cond, eqb, ◌≡◌, ◌≢◌, ◌⊎◌, inl, inr, ⊎_elim, ℕ, ◌<◌, ◌≤◌, ◌^◌, eq-eqb, ne_eqb, lt-ltb, le-ltb, [], refl, sym, ◌∙◌, ap, arith, subst, Some, None}
 use Rattle.std.specs.Option.{option_map}
 use native.Mathlib.Decide.{ℕ_discrete}
 use Rattle.histories.specs.Common.{Tree as TreeMode, Settled, More, Key, Side, Left, Right, Slot, Word, node, child, History, value, Extends, Call}
 use Rattle.template.specs.Common.{IsWellCounted, end_slot, held_pairs, pair_in, AllBelow, IsRising, pair, get, end_pair, Passed, IsMapRun, class, is_leaf}
-use Rattle.template.specs.Common.{rank, toward, said, path_key, asked_in, HasFoundGoal, HasFoundLeaf, end_told, WasPassed, HasTurned, Goal, Key as ToKey, End}
+use Rattle.arena.specs.declared.limits.Mode.TheVariants.{Trie as TrieMode}
+use Rattle.arena.proofs.Lemmas.{ends_trans}
+use Rattle.template.specs.Common.{IsOwnMoment, level, rank, toward, said, path_key, asked_in, HasFoundGoal, HasFoundLeaf, end_told, WasPassed, HasTurned, Goal, Key as ToKey, End}
 use Rattle.ordered_map.specs.MapLaws.{IsEndmost}
-use Rattle.ordered_map.specs.Paths.{IsEndAt, end_key, end_turn}
+use Rattle.ordered_map.specs.Paths.{HasHadChild, IsEndAt, end_key, end_turn}
+use Rattle.ordered_map.specs.Strays.{IsApart}
 use Rattle.ordered_map.specs.TreeWords.{leaf_pairs, end_said}
-use Rattle.ordered_map.proofs.Lemmas.{IsBeside, IsUpTo, beside_same, split_at, end_up, end_small, end_is, SameSettled, held_end, low_pairs, high_pairs, settled_rank, settled_leaf, settled_toward}
-use Rattle.ordered_map.proofs.MapLemmas.{run_since, stood_holds, stood_settled, walk_beside, walk_turns, walk_end, walk_next, walk_own, walked_stood}
+use Rattle.ordered_map.proofs.Lemmas.{IsBeside, IsUpTo, beside_same, split_at, end_up, end_small, end_is, SameSettled, held_end, low_pairs, high_pairs, settled_class, settled_rank, settled_leaf, settled_toward}
+use Rattle.ordered_map.proofs.MapLemmas.{had_beside, had_deeper, had_low, parent_stood, run_since, stood_blank, stood_holds, stood_parted, stood_settled, walk_beside, walk_turns, walk_end, walk_first, walk_next, walk_own, walked_stood}
+use Rattle.template.specs.Trails.{OnTrail}
 use Rattle.template.proofs.WalkTurns.{in_tree}
+use Rattle.template.proofs.WalkBounds.{found_below}
+use Rattle.template.proofs.Inserting.{child_on, either_mode}
+use Rattle.template.proofs.EndOfTrie.{had, stays_at, still_near, to_left, turned_in_trie}
 use Rattle.template.specs.declared.walk.Found.{Found}
 
 -- the key k is on the side of a fork of this rank to which the search for the key at the end goes
@@ -130,16 +137,55 @@ module _ (end : Side) (c : Call) (h : History) (f : Found) (run : IsMapRun c.lay
   own_key : f.head.class ≡ 0 → IsUpTo end f.key (rank (value h) leaf)
   own_key low = subst (λ k. IsUpTo end k (rank (value h) leaf)) (key_low low) (end_up end (value h) leaf (class_is ∙ low) (holds low).2 (holds low).1)
 
+  -- the value that it answers then is in the leaf
+  end_there : f.head.class ≡ 0 → f.value ≡ Some (pair_in (value h) leaf slot).value
+  end_there z =
+      let own = value h (node leaf (Settled (Key slot))) in
+      let got : get own (held_pairs (value h) leaf) ≡ Some (pair_in (value h) leaf slot).value = (subst (IsEndmost end (held_pairs (value h) leaf)) (held_end end (value h) leaf) (end_is end (held_pairs (value h) leaf) (holds z).2)).0 in
+      a.says ∙ ap (λ k. said (value h) k leaf) (a.key ∙ sym (key_low z)) ∙ ap (get own) (low_pairs (value h) leaf (class_is ∙ z)) ∙ got
+
+  -- in a tree it has come to the leaf on the way of its key
+  module _ (mode : c.layout.mode ≡ TreeMode) (low : f.head.class ≡ 0) where
+    at_parent : leaf ≢ 0 → IsWithin end f.key (rank (value h) f.trail.parent.0)
+    at_parent d = turned_within end c h f.trail.parent.0 f.trail.side leaf run mode (a.trail.parent d) f.key (own_key low)
+
+    at_grand : leaf ≢ 0 → f.trail.parent.0 ≢ 0 → IsWithin end f.key (rank (value h) f.trail.grand.0)
+    at_grand d p = turned_within end c h f.trail.grand.0 f.trail.grand_side f.trail.parent.0 run mode (a.trail.grand d p) f.key (within_up end f.key (rank (value h) f.trail.parent.0) (at_parent d))
+
+    own_in_tree : OnTrail c h f.key f.trail
+    own_in_tree = record {
+      node = own_passed end c h f.key leaf run mode a.trail.node (own_key low);
+      parent = λ d. own_turned end c h f.trail.parent.0 f.trail.side leaf run mode (a.trail.parent d) f.key (at_parent d);
+      grand = λ d p. own_turned end c h f.trail.grand.0 f.trail.grand_side f.trail.parent.0 run mode (a.trail.grand d p) f.key (at_grand d p);
+      high = a.trail.high;
+    }
+
+  -- and in a trie
+  module _ (trie : c.layout.mode ≡ TrieMode) (low : f.head.class ≡ 0) where
+    near : ¬ IsApart (value h) leaf f.key
+    near x = let y : None ≡ Some (pair_in (value h) leaf slot).value = sym (a.says ∙ ap (λ k. said (value h) k leaf) a.key ∙ x.leaf a.leaf) ∙ end_there low in cc
+
+    parent_turned : HasTurned c h (end_key end) f.trail.parent.0 f.trail.side leaf
+    parent_turned = a.trail.parent (found_below (End end) c h f run a)
+
+    parent_near : ¬ IsApart (value h) f.trail.parent.0 f.key
+    parent_near = still_near end c h f.key f.trail.parent.0 f.trail.side leaf small_end run parent_turned trie near
+
+    own_parent : HasTurned c h f.key f.trail.parent.0 f.trail.side leaf
+    own_parent = turned_in_trie end c h f.key f.trail.parent.0 f.trail.side leaf small_end run parent_turned trie near
+
+    own_in_trie : OnTrail c h f.key f.trail
+    own_in_trie = record {
+      node = let x = child_on c h f.key f.trail.parent.0 f.trail.side leaf run own_parent (stays_at end c h f.key f.trail.parent.0 f.trail.side leaf small_end run parent_turned trie near) in record { first = x.first; own = x.own; passed = inl x.passed };
+      parent = λ d. own_parent;
+      grand = λ d p. turned_in_trie end c h f.key f.trail.grand.0 f.trail.grand_side f.trail.parent.0 small_end run (a.trail.grand d p) trie parent_near;
+      high = a.trail.high;
+    }
+
   -- where the leaf has a key, it is the leaf of that
   pub found_own : f.head.class ≡ 0 → HasFoundLeaf c h f.key f
   found_own low = record {
-    may = tt;
-    trail = record {
-      node = own_passed end c h f.key leaf run a.may a.trail.node (own_key low);
-      parent = λ d. own_turned end c h f.trail.parent.0 f.trail.side leaf run a.may (a.trail.parent d) f.key (at_parent d);
-      grand = λ d p. own_turned end c h f.trail.grand.0 f.trail.grand_side f.trail.parent.0 run a.may (a.trail.grand d p) f.key (at_grand d p);
-      high = a.trail.high;
-    };
+    trail = ⊎_elim (λ mode. own_in_tree mode low) (λ trie. own_in_trie trie low) (either_mode c.layout.mode run.0);
     leaf = a.leaf;
     head = a.head;
     deep = a.deep;
@@ -148,12 +194,6 @@ module _ (end : Side) (c : Call) (h : History) (f : Found) (run : IsMapRun c.lay
     key = refl;
     says = a.says ∙ ap (λ k. said (value h) k leaf) a.key;
   }
-    where
-      at_parent : leaf ≢ 0 → IsWithin end f.key (rank (value h) f.trail.parent.0)
-      at_parent d = turned_within end c h f.trail.parent.0 f.trail.side leaf run a.may (a.trail.parent d) f.key (own_key low)
-
-      at_grand : leaf ≢ 0 → f.trail.parent.0 ≢ 0 → IsWithin end f.key (rank (value h) f.trail.grand.0)
-      at_grand d p = turned_within end c h f.trail.grand.0 f.trail.grand_side f.trail.parent.0 run a.may (a.trail.grand d p) f.key (within_up end f.key (rank (value h) f.trail.parent.0) (at_parent d))
 
   -- what its words say is what was said of it
   pub found_told : end_said end (value h) leaf ≡ end_told f
@@ -161,12 +201,9 @@ module _ (end : Side) (c : Call) (h : History) (f : Found) (run : IsMapRun c.lay
     where
       at_low : f.head.class ≡ 0 → end_said end (value h) leaf ≡ end_told f
       at_low z =
-          let own = value h (node leaf (Settled (Key slot))) in
           let held = low_pairs (value h) leaf (class_is ∙ z) in
           let there : end_pair end (held_pairs (value h) leaf) ≡ Some (pair_in (value h) leaf slot) = held_end end (value h) leaf in
-          let got : get own (held_pairs (value h) leaf) ≡ Some (pair_in (value h) leaf slot).value = (subst (IsEndmost end (held_pairs (value h) leaf)) there (end_is end (held_pairs (value h) leaf) (holds z).2)).0 in
-          let says : f.value ≡ Some (pair_in (value h) leaf slot).value = a.says ∙ ap (λ k. said (value h) k leaf) (a.key ∙ sym (key_low z)) ∙ ap (get own) held ∙ got in
-          ap (end_pair end) held ∙ there ∙ ap (λ k. Some (pair k (pair_in (value h) leaf slot).value)) (key_low z) ∙ sym (ap (option_map (pair f.key)) says)
+          ap (end_pair end) held ∙ there ∙ ap (λ k. Some (pair k (pair_in (value h) leaf slot).value)) (key_low z) ∙ sym (ap (option_map (pair f.key)) (end_there z))
 
       empty : (e : Side) → end_pair e [] ≡ None
       empty Left = refl
@@ -181,9 +218,87 @@ module _ (end : Side) (c : Call) (h : History) (f : Found) (run : IsMapRun c.lay
       go (yes z) = at_low z
       go (no d) = at_high d
 
-  -- so it answers the pair at that end of the map, at a moment of the call
-  pub found_end : IsEndAt end c.layout h a.trail.node.first (end_told f)
-  found_end = subst (IsEndAt end c.layout h a.trail.node.first) found_told (walk_end end c.layout h a.trail.node.first leaf run (in_tree c.layout h a.trail.node.first (end_key end) leaf a.may a.trail.node.passed) a.leaf)
+  -- In a trie a leaf that has no pair is below the root, since the walk has turned to the left
+  module _ (trie : c.layout.mode ≡ TrieMode) (none : f.value ≡ None) where
+    high : class (value h) leaf ≢ 0
+    high z = let x : None ≡ Some (pair_in (value h) leaf slot).value = sym none ∙ end_there (sym class_is ∙ z) in cc
+
+    below : HasTurned c h (end_key end) f.trail.parent.0 f.trail.side leaf
+    below = a.trail.parent (found_below (End end) c h f run a)
+
+    has_leaf : HasHadChild h f.trail.parent.0 f.trail.side leaf
+    has_leaf = had end c h 0 f.trail.parent.0 f.trail.side leaf (omega arith) run below
+
+    above : class (value h) f.trail.parent.0 ≢ 0
+    above z = high (had_low c.layout h f.trail.parent.0 f.trail.side leaf run has_leaf below.fork z)
+
+    on_left : f.trail.side ≡ Left
+    on_left = to_left end c h 0 f.trail.parent.0 f.trail.side leaf (omega arith) run below above
+
+    under : rank (value h) leaf < rank (value h) f.trail.parent.0
+    under = subst (λ s. IsBeside (value h) s f.trail.parent.0 leaf) on_left (had_beside c.layout h f.trail.parent.0 f.trail.side leaf run has_leaf below.fork)
+
+    top : level (value h) f.trail.parent.0 ≡ 0
+    top =
+        let p = parent_stood h f.trail.parent.0 f.trail.side leaf has_leaf in
+        let parted = ((stood_parted c.layout h f.trail.parent.0 trie run p) below.fork).0.top above in
+        let blank = stood_blank c.layout h f.trail.parent.0 run p above in
+        omega (arith, high, under, parted, blank)
+
+    is_root : f.trail.parent.0 ≡ 0
+    is_root = go (ℕ_discrete f.trail.parent.0 0)
+      where
+        deeper : f.trail.parent.0 ≢ 0 → ⊥
+        deeper d =
+            let x = a.trail.grand (found_below (End end) c h f run a) d in
+            let low = had_deeper c.layout h f.trail.grand.0 f.trail.grand_side f.trail.parent.0 run (had end c h 0 f.trail.grand.0 f.trail.grand_side f.trail.parent.0 (omega arith) run x) x.fork in
+            omega (arith, low, top)
+
+        go : Dec (f.trail.parent.0 ≡ 0) → f.trail.parent.0 ≡ 0
+        go (yes z) = z
+        go (no d) = absurd (deeper d)
+
+    -- so it was on the path there when its field was read
+    abbrev moment : History
+    moment = below.shown.moment
+
+    at_leaf : Passed h moment (end_key end) leaf
+    at_leaf = let p = there in (p.0, ends_trans h moment p.0 below.shown.within p.1, p.2, p.3)
+      where
+        run_then : IsMapRun c.layout moment
+        run_then = run_since c.layout h moment run below.shown.within
+
+        same : SameSettled (value moment) (value h) f.trail.parent.0
+        same = passed_same c h moment (end_key end) f.trail.parent.0 run below.shown.within below.shown.passed
+
+        fork : is_leaf (value moment) f.trail.parent.0 ≡ false
+        fork = sym (settled_leaf (value moment) (value h) f.trail.parent.0 same) ∙ below.fork
+
+        turn : toward (value moment) f.trail.parent.0 (end_key end) ≡ f.trail.side
+        turn = sym (settled_toward (value moment) (value h) f.trail.parent.0 (end_key end) same) ∙ below.side_is
+
+        at_root : Passed moment moment (end_key end) f.trail.parent.0
+        at_root = subst (Passed moment moment (end_key end)) (sym is_root) (walk_first c.layout moment (end_key end) run_then)
+
+        there : Passed moment moment (end_key end) leaf
+        there = subst (Passed moment moment (end_key end)) (ap (λ z. value moment (child f.trail.parent.0 z)) turn ∙ below.shown.held)
+            (walk_next c.layout moment moment (end_key end) f.trail.parent.0 run_then at_root (inr (fork, λ low. absurd (above (settled_class (value moment) (value h) f.trail.parent.0 same ∙ low)))) fork)
+
+    none_at_end : IsEndAt end c.layout h moment (end_told f)
+    none_at_end = subst (IsEndAt end c.layout h moment) found_told (walk_end end c.layout h moment leaf run at_leaf a.leaf)
+
+  -- So it answers the pair at that end of the map, at a moment of the call; in a trie, where a fork that was put
+  -- above another may have led it astray, if it answers that there is none.
+  pub found_end : (c.layout.mode ≡ TreeMode) ⊎ (f.value ≡ None) → (first : History) × IsOwnMoment c first × IsEndAt end c.layout h first (end_told f)
+  found_end sure = go sure (either_mode c.layout.mode run.0)
+    where
+      in_a_tree : c.layout.mode ≡ TreeMode → (first : History) × IsOwnMoment c first × IsEndAt end c.layout h first (end_told f)
+      in_a_tree mode = (a.trail.node.first, a.trail.node.own, subst (IsEndAt end c.layout h a.trail.node.first) found_told (walk_end end c.layout h a.trail.node.first leaf run (in_tree c.layout h a.trail.node.first (end_key end) leaf mode a.trail.node.passed) a.leaf))
+
+      go : (c.layout.mode ≡ TreeMode) ⊎ (f.value ≡ None) → (c.layout.mode ≡ TreeMode) ⊎ (c.layout.mode ≡ TrieMode) → (first : History) × IsOwnMoment c first × IsEndAt end c.layout h first (end_told f)
+      go (inl mode) which = in_a_tree mode
+      go (inr none) (inl mode) = in_a_tree mode
+      go (inr none) (inr trie) = (moment trie none, (below trie none).shown.own, none_at_end trie none)
 
 -- the key that it answers is below 2 ^ 64
 pub found_small : (goal : Goal) (c : Call) (h : History) (f : Found) → IsMapRun c.layout h → path_key goal < 2 ^ 64 → HasFoundGoal goal c h f → f.key < 2 ^ 64

@@ -3,18 +3,18 @@ use Rattle.std.proofs.Common.{◌≡◌, ◌≢◌, ℕ, ◌^◌, ◌<◌, ◌�
 use Rattle.arena.specs.Layout.{IsMap}
 use Rattle.arena.specs.declared.limits.Mode.TheVariants.{Records, Trie as TrieMode}
 use Rattle.histories.specs.Common.{Mode, Tree as TreeMode, Layout, Side, Word, child, History, value, IsNamed, Call, Descriptor}
-use Rattle.template.specs.Common.{Job, Says, snap_at, MapEdit, edit_key, WasOnPath, HasWalked, Passed, IsMapRun, leaf_plan, is_leaf, level, toward, said, HasFoundLeaf, HasFoundFork, IsFresh, IsPromised, HasTurned, WasPassed, Key as ToKey}
+use Rattle.template.specs.Common.{Job, Says, snap_at, MapEdit, edit_key, WasOnPath, HasWalked, Passed, IsMapRun, leaf_plan, is_leaf, level, opposite, toward, said, HasFoundLeaf, HasFoundFork, IsFresh, IsPromised, HasTurned, WasPassed, Key as ToKey}
 use Rattle.ordered_map.specs.OrderedMap.{value_left}
 use Rattle.ordered_map.specs.Strays.{IsApart}
 use Rattle.ordered_map.specs.Bits.{Shares}
-use Rattle.ordered_map.specs.Edits.{IsSwapBy, IsSplitBy}
+use Rattle.ordered_map.specs.Edits.{IsCopyOf, IsSwapBy, IsSplitBy}
 use Rattle.ordered_map.specs.EditPlans.{above_plan}
 use Rattle.ordered_map.specs.Paths.{HasHadChild}
 use Rattle.ordered_map.specs.TrieShape.{Stays, FitsTrie, IsAboveBy}
 use Rattle.ordered_map.specs.TrieShape.{HasTrieLevels}
 use Rattle.arena.proofs.Lemmas.{ends_trans}
 use Rattle.ordered_map.proofs.Lemmas.{PartsFrom, SameSettled, same_stays, settled_leaf, settled_toward}
-use Rattle.ordered_map.proofs.MapLemmas.{above_fits, run_since, split_fits, stood_settled, swap_fits, walk_next, walked_above, walked_stood}
+use Rattle.ordered_map.proofs.MapLemmas.{above_fits, join_fits, run_since, split_fits, stood_settled, swap_fits, walk_next, walked_above, walked_stood}
 use Rattle.template.specs.FreshNodes.{IsLeafEditAt, IsAboveAt, FitsThere}
 use Rattle.template.specs.Trails.{WasOn, IsSurelyOn}
 use Rattle.template.specs.Promises.{HasFreshEdit}
@@ -152,6 +152,12 @@ module _ (c : Call) (h : History) (e : MapEdit) (f : Found) (n : ℕ) (run : IsM
   -- a fork above the fork
   pub above_fits_there : (x : ℕ) (at : Side) → ¬ Shares (value h) f.trail.node.0 (edit_key e) → IsAboveBy (value h) e f.trail.node.0 n x at → PartsFrom (value h) f.trail.node.0 n (edit_key e) → level (value h) x ≡ 66 → FitsThere c.layout h f.trail.parent.0 f.trail.side n
   above_fits_there x at outside s parts deep trie = on_side (above_fits c.layout h trie run e small f.trail.parent.0 stays f.trail.node.0 n x at (had_child c h (edit_key e) f.trail.parent.0 f.trail.side f.trail.node.0 t) outside s parts deep)
+
+-- a copy of what the leaf's parent had on its other side, in the place of the parent
+pub join_fits_there : (c : Call) (h : History) (e : MapEdit) (f : Found) (z n : ℕ) → IsMapRun c.layout h → edit_key e < 2 ^ 64 → HasTurned c h (edit_key e) f.trail.grand.0 f.trail.grand_side f.trail.parent.0 → Stays c.layout (value h) (edit_key e) f.trail.grand.0 → is_leaf (value h) f.trail.parent.0 ≡ false
+    → HasHadChild h f.trail.parent.0 (opposite (toward (value h) f.trail.parent.0 (edit_key e))) z → IsCopyOf (value h) n z → (is_leaf (value h) z ≡ false → (to : Side) → HasHadChild h z to (value h (child n to))) → FitsThere c.layout h f.trail.grand.0 f.trail.grand_side n
+join_fits_there c h e f z n run small t stays fork beside copy fields trie = subst (λ side. FitsTrie (value h) f.trail.grand.0 side n) t.side_is
+    (join_fits c.layout h trie run e small f.trail.grand.0 stays f.trail.parent.0 z n (had_child c h (edit_key e) f.trail.grand.0 f.trail.grand_side f.trail.parent.0 t) fork beside copy fields)
 
 -- An SCX-record that puts such a fresh fork above the fork that was found makes the edit.
 pub put_above_promised : (c : Call) (h : History) (s : ℕ) (e : MapEdit) (f : Found) (d : Descriptor) (n leaf : ℕ) (side : Side) → IsMapRun c.layout h → edit_key e < 2 ^ 64 → HasFoundFork (ToKey (edit_key e)) c h f → IsAboveAt f d n → IsFresh c.layout c.pass h n → IsFresh c.layout c.pass h leaf → IsAboveBy (value h) e f.trail.node.0 n leaf side → PartsFrom (value h) f.trail.node.0 n (edit_key e) → level (value h) leaf ≡ 66 → IsPromised c.layout c.pass h s d e

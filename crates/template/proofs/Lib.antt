@@ -2,10 +2,12 @@ mod WalkTurns
 mod WalkBounds
 mod WalkEdges
 mod Stood
-mod EndFound
 mod Promised
 mod Inserting
+mod EndOfTrie
+mod EndFound
 mod Deleting
+mod EndPromised
 mod Tracking
 mod Contending
 mod Tries

@@ -26,7 +26,7 @@ promised_more lay c h r s d e b x k later = x k (later_trans c s h (r ⊳ h) k l
 
 -- Later histories
 
-later_extends : (c s : ℕ) (h k : History) → IsLater c s h k → Extends k h
+pub later_extends : (c s : ℕ) (h k : History) → IsLater c s h k → Extends k h
 later_extends c s h (Start mode) x = x
 later_extends c s h (r ⊳ k) (inl e) = inl e
 later_extends c s h (r ⊳ k) (inr x) = inr (later_extends c s h k x.1)
@@ -36,9 +36,9 @@ free_before : (h : History) (r : Row) (s : ℕ) → ¬ IsNamedScx (r ⊳ h) s �
 free_before h r s free p = free (p.0, held_more r h _ s p.1)
 
 -- the words of a fresh node stay, and nothing names it
-record StaysFresh (lay : Layout) (h k : History) (n : ℕ) : Type 0 where
-  unnamed : ¬ IsNamed lay k n
-  words : (part : NodeWord) → value k (node n part) ≡ value h (node n part)
+pub record StaysFresh (lay : Layout) (h k : History) (n : ℕ) : Type 0 where
+  pub unnamed : ¬ IsNamed lay k n
+  pub words : (part : NodeWord) → value k (node n part) ≡ value h (node n part)
 
 stays_step : (lay : Layout) (c s : ℕ) (h k : History) (r : Row) (n : ℕ) → c < lay.passes → Lawful lay (r ⊳ k) → MayComeBetween c s r → ¬ IsNamedScx k s → IsOwnNode lay c n → StaysFresh lay h k n → StaysFresh lay h (r ⊳ k) n
 stays_step lay c s h k r n i l (inl other) free own x = record {
@@ -63,7 +63,7 @@ stays_step lay c s h k r n i l (inr (inr q)) free own x = record {
     same : (w : Word) → value (r ⊳ k) w ≡ value k w
     same w = value_quiet r k (lawful_row lay k r l).before q.same w
 
-stays_later : (lay : Layout) (c s : ℕ) (h k : History) (n : ℕ) → c < lay.passes → Lawful lay k → IsLater c s h k → ¬ IsNamedScx k s → IsOwnNode lay c n → ¬ IsNamed lay h n → StaysFresh lay h k n
+pub stays_later : (lay : Layout) (c s : ℕ) (h k : History) (n : ℕ) → c < lay.passes → Lawful lay k → IsLater c s h k → ¬ IsNamedScx k s → IsOwnNode lay c n → ¬ IsNamed lay h n → StaysFresh lay h k n
 stays_later lay c s h (Start mode) n i l x free own d = subst (λ m. StaysFresh lay m (Start mode) n) (sym x) record { unnamed = rw x at d; words = λ part. refl }
 stays_later lay c s h (r ⊳ k) n i l (inl e) free own d = subst (λ m. StaysFresh lay m (r ⊳ k) n) (sym e) record { unnamed = rw e at d; words = λ part. refl }
 stays_later lay c s h (r ⊳ k) n i l (inr x) free own d =
@@ -71,10 +71,10 @@ stays_later lay c s h (r ⊳ k) n i l (inr x) free own d =
     stays_step lay c s h k r n i l x.0 f own (stays_later lay c s h k n i (lawful_tail lay k r l) x.1 f own d)
 
 -- the settled words of a named node stay
-named_words : (lay : Layout) (h k : History) (n : ℕ) → Lawful lay k → Extends k h → IsNamed lay h n → SameSettled (value h) (value k) n
+pub named_words : (lay : Layout) (h k : History) (n : ℕ) → Lawful lay k → Extends k h → IsNamed lay h n → SameSettled (value h) (value k) n
 named_words lay h k n l e p a i = node_since lay k h n a l e i p
 
-fresh_words : {lay : Layout} {h k : History} {n : ℕ} → StaysFresh lay h k n → SameSettled (value h) (value k) n
+pub fresh_words : {lay : Layout} {h k : History} {n : ℕ} → StaysFresh lay h k n → SameSettled (value h) (value k) n
 fresh_words x a i = x.words a
 
 was_on_path_since : (h k : History) (key n : ℕ) → Extends k h → WasOnPath h key n → WasOnPath k key n
@@ -83,19 +83,19 @@ was_on_path_since h k key n e p = (p.0, ends_trans k h p.0 e p.1, p.2)
 -- The words of an SCX-record whose descriptor is d
 
 module _ (k : History) (s : ℕ) (d : Descriptor) (e : descriptor k s ≡ d) where
-  abbrev is_plan : plan k s ≡ d.plan
+  abbrev pub is_plan : plan k s ≡ d.plan
   is_plan = ap (λ (x : Descriptor). x.plan) e
 
-  abbrev is_member : (j : ℕ) → member k s j ≡ d.member j
+  abbrev pub is_member : (j : ℕ) → member k s j ≡ d.member j
   is_member j = ap (λ (x : Descriptor). x.member j) e
 
-  abbrev is_seen : (j : ℕ) → seen k s j ≡ d.seen j
+  abbrev pub is_seen : (j : ℕ) → seen k s j ≡ d.seen j
   is_seen j = ap (λ (x : Descriptor). x.seen j) e
 
-  abbrev is_new : new k s ≡ d.new
+  abbrev pub is_new : new k s ≡ d.new
   is_new = ap (λ (x : Descriptor). x.new) e
 
-  abbrev is_old : old k s ≡ d.old
+  abbrev pub is_old : old k s ≡ d.old
   is_old = ap (λ (x : Descriptor). x.old) e
 
 -- The words of a new node at a later moment
@@ -109,7 +109,7 @@ move_replaced lay b f e l c el ec below fields (inr s) =
     inr (s.0, s.1, move_split_by b f e l c s.0 s.1 el ec ex ey fields s.2, ⊎_elim (λ x. inl (move_levels b f l c s.0 s.1 el ec ex ey x)) inr s.3)
 
 -- what fits still does
-move_fits : (b f : Word → ℕ) (p : ℕ) (side : Side) (n : ℕ) → SameSettled b f p → SameSettled b f n → (is_leaf b n ≡ false → (at : Side) → SameSettled b f (b (child n at))) → ((at : Side) → f (child n at) ≡ b (child n at)) → FitsTrie b p side n → FitsTrie f p side n
+pub move_fits : (b f : Word → ℕ) (p : ℕ) (side : Side) (n : ℕ) → SameSettled b f p → SameSettled b f n → (is_leaf b n ≡ false → (at : Side) → SameSettled b f (b (child n at))) → ((at : Side) → f (child n at) ≡ b (child n at)) → FitsTrie b p side n → FitsTrie f p side n
 move_fits b f p side n ep en below fields s = record {
   keeps = same_keeps b f p side n ep en s.keeps;
   fork = same_fork b f n en (λ fork at x. subst (Keeps f n at) (sym (fields at)) (same_keeps b f n at (b (child n at)) en (below fork at) x)) s.fork;
@@ -143,19 +143,19 @@ module _ (lay : Layout) (c s : ℕ) (h : History) (d : Descriptor) (e : MapEdit)
   abbrev made : StaysFresh lay h k d.new
   made = stays d.new fresh
 
-  path_then : WasOnPath h (edit_key e) (d.member 0) → WasOnPath k (edit_key e) (member k s 0)
+  pub path_then : WasOnPath h (edit_key e) (d.member 0) → WasOnPath k (edit_key e) (member k s 0)
   path_then p = subst (WasOnPath k (edit_key e)) (sym (at 0)) (was_on_path_since h k (edit_key e) (d.member 0) ends p)
 
-  stays_then : Stays lay (value h) (edit_key e) (d.member 0) → Stays lay (value k) (edit_key e) (member k s 0)
+  pub stays_then : Stays lay (value h) (edit_key e) (d.member 0) → Stays lay (value k) (edit_key e) (member k s 0)
   stays_then x = subst (Stays lay (value k) (edit_key e)) (sym (at 0)) (same_stays (value h) (value k) lay (edit_key e) (d.member 0) (words (d.member 0) named) x)
 
-  fork_then : is_leaf (value h) (d.member 0) ≡ false → is_leaf (value k) (member k s 0) ≡ false
+  pub fork_then : is_leaf (value h) (d.member 0) ≡ false → is_leaf (value k) (member k s 0) ≡ false
   fork_then x = subst (λ n. is_leaf (value k) n ≡ false) (sym (at 0)) (settled_leaf (value h) (value k) (d.member 0) (words (d.member 0) named) ∙ x)
 
-  side_then : toward (value h) (d.member 0) (edit_key e) ≡ toward (value k) (member k s 0) (edit_key e)
+  pub side_then : toward (value h) (d.member 0) (edit_key e) ≡ toward (value k) (member k s 0) (edit_key e)
   side_then = sym (settled_toward (value h) (value k) (d.member 0) (edit_key e) (words (d.member 0) named)) ∙ ap (λ n. toward (value k) n (edit_key e)) (sym (at 0))
 
-  fits_then : (is_leaf (value h) d.new ≡ false → (side : Side) → SameSettled (value h) (value k) (value h (child d.new side))) → FitsTrie (value h) (d.member 0) (toward (value h) (d.member 0) (edit_key e)) d.new → FitsTrie (value k) (member k s 0) (toward (value k) (member k s 0) (edit_key e)) (new k s)
+  pub fits_then : (is_leaf (value h) d.new ≡ false → (side : Side) → SameSettled (value h) (value k) (value h (child d.new side))) → FitsTrie (value h) (d.member 0) (toward (value h) (d.member 0) (edit_key e)) d.new → FitsTrie (value k) (member k s 0) (toward (value k) (member k s 0) (edit_key e)) (new k s)
   fits_then below x =
       subst (FitsTrie (value k) (member k s 0) (toward (value k) (member k s 0) (edit_key e))) (sym (is_new k s d same))
       (subst (λ side. FitsTrie (value k) (member k s 0) side d.new) side_then

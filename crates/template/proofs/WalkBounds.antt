@@ -78,7 +78,7 @@ said_low f k n old e = go (ℕ_discrete (class f n) 0)
 -- What it has found
 
 -- no mode allows more levels than this
-no_deeper : (mode : Mode) (taken l : ℕ) → l < depth mode taken → l < 67 + taken
+pub no_deeper : (mode : Mode) (taken l : ℕ) → l < depth mode taken → l < 67 + taken
 no_deeper TrieMode taken l d = omega (arith, d)
 no_deeper TreeMode taken l d = omega (arith, d)
 no_deeper Records taken l d = omega (arith, d)
@@ -132,7 +132,6 @@ settled_asked (End side) b f n e = λ i. cond (eqb (e (Settled HeadWord) tt i % 
 -- what a call has found it has found, whatever row comes
 pub found_more : (c : Call) (h : History) (r : Row) (goal : Goal) (f : Found) → IsMapRun c.layout h → IsRun TreeAllows c.layout (r ⊳ h) → HasFoundGoal goal c h f → HasFoundGoal goal c (r ⊳ h) f
 found_more c h r goal f run run_now a = record {
-  may = a.may;
   trail = trail_more c h r run run_now (path_key goal) f.trail a.trail;
   leaf = settled_leaf (value h) (value (r ⊳ h)) f.trail.node.0 same ∙ a.leaf;
   head = ap head_of (same (Settled HeadWord) tt) ∙ a.head;
@@ -160,7 +159,7 @@ module _ (c : Call) (h : History) (r : Row) (goal : Goal) (f : Found) (run : IsM
   fork_more : HasFoundFork goal c h f → HasFoundFork goal c (r ⊳ h) f
   fork_more a = record {
     trie = a.trie;
-    may = a.may;
+    to_key = a.to_key;
     trail = trail_more c h r run run_now (path_key goal) f.trail a.trail;
     below = a.below;
     stays = stays_more a.trail a.below a.stays;

@@ -7,14 +7,14 @@ use Rattle.histories.specs.Common.{Layout, Tree as TreeMode, Turn, Ask, Done, St
 use Rattle.histories.specs.Common.{Value as ValueWord, High as HighWord, head_of, node, child, first_key, Slot, Word, History, value, Extends, Call, MatchTurn, taken_nodes}
 use Rattle.arena.proofs.Lemmas.{ends_self}
 use Rattle.ordered_map.proofs.Lemmas.{shares_span, end_is, held_end, low_pairs, from_rises, get_here, get_behind, get_nowhere}
-use Rattle.ordered_map.proofs.MapLemmas.{below_root, levels_rise, root_head, stood_depth, stood_holds, stood_parted, walk_first, walk_turns, walked_next, walked_stood}
+use Rattle.ordered_map.proofs.MapLemmas.{below_root, levels_rise, root_head, stood_depth, stood_holds, stood_parted, stood_turns, walk_first, walked_next, walked_stood}
 use Rattle.template.specs.Common.{IsWellCounted, held_pairs, held_from, held_behind, slot_behind, end_slot, pair_in, wide_value, AllBelow, IsRising, get, Passed, HasWalked, IsMapRun, class, is_leaf}
 use Rattle.template.specs.Common.{level, rank, toward, said, IsOwnMoment, Goal, Key as ToKey, End, path_key, asked_key, asked_in, HasFoundGoal, FoundBy, MayGo, WalkKnows, walk_step, WalkIsReady, WalkIsTold, WalkEnds}
 use Rattle.ordered_map.specs.MapLaws.{IsEndmost}
 use Rattle.ordered_map.specs.Bits.{IsForkKey, IsInSpan, Shares}
 use Rattle.ordered_map.specs.Paths.{depth, end_turn}
 use Rattle.ordered_map.specs.TrieShape.{Stays}
-use Rattle.template.specs.FoundLeaf.{MayEnd}
+use Rattle.template.specs.FoundLeaf.{IsToKey}
 use Rattle.template.specs.Trails.{OnTrail}
 use Rattle.template.specs.declared.walk.Trail.{Trail}
 use Rattle.template.specs.declared.walk.Found.{Found}
@@ -32,14 +32,12 @@ own_since c h b = subst (λ k. Extends k c.start) (sym b.is) (inr b.since)
 pub waits_at : (c : Call) (h : History) (old now : WalkRun) (turn : Turn Found) (at : WalkAt) (step : Step) → WalkStands old c h → WalkAsks old now turn at step → WalkKnows c h (record old { at = at }) at → (old.way ≡ Within → LoadsChild at → Stays c.layout (value h) (path_key old.goal) old.trail.node.0) → step ≡ walk_step old at → WalkTurn c h now turn
 waits_at c h old now turn at step k a known leaves e = rw (a.asked, a.stands) record { run = k.run; may = k.may; small = k.small; since = own_since c h k.own; known = known; sure = λ w. record { above = k.sure w; leaves = leaves w }; asked = e }
 
--- a walk to an end goes in a tree
-pub may_end : (lay : Layout) (way : Way) (goal : Goal) → MayGo lay way goal → MayEnd lay goal
-may_end lay way (ToKey k) may = tt
-may_end lay InTree (End side) may = may
-may_end lay InTrie (End side) may = absurd may
-may_end lay Within (End side) may = absurd may
+-- a walk within goes to a key
+within_to_key : (lay : Layout) (goal : Goal) → MayGo lay Within goal → IsToKey goal
+within_to_key lay (ToKey k) may = tt
+within_to_key lay (End side) may = absurd may
 
--- so it never strays
+-- a walk in a tree never strays
 pub in_tree : (lay : Layout) (h start : History) (k n : ℕ) → lay.mode ≡ TreeMode → HasWalked lay h start k n → Passed h start k n
 in_tree lay h start k n mode (inl p) = p
 in_tree lay h start k n mode (inr s) = absurd (let x : TreeMode ≡ TrieMode = sym mode ∙ s.trie in cc)
@@ -55,7 +53,7 @@ answers_at : (c : Call) (h : History) (old now : WalkRun) (turn : Turn Found) (h
     → (head.class ≡ 0 → here h old (Settled MoreWord) ≡ more) → (head.class ≢ 0 → more ≡ 0) → asked_in old.goal (value h) old.trail.node.0 ≡ key → found ≡ said (value h) (asked_in old.goal (value h) old.trail.node.0) old.trail.node.0 → WalkTurn c h now turn
 answers_at c h old now turn head more key found k a leaf e many none d says =
     let deep : head.level < depth c.layout.mode (length (taken_nodes h)) = subst (λ w. w.level < depth c.layout.mode (length (taken_nodes h))) e (stood_depth c.layout h old.trail.node.0 k.run (walked_stood c.layout h k.trail.node.first (path_key old.goal) old.trail.node.0 k.trail.node.passed)) in
-    rw (a.done, a.stands) (found_by old.way old.goal c h (record { trail = old.trail; head = head; more = more; key = key; value = found }) record { may = may_end c.layout old.way old.goal k.may; trail = k.trail; leaf = leaf; head = e; deep = deep; more = many; none = none; key = d; says = says } k.sure)
+    rw (a.done, a.stands) (found_by old.way old.goal c h (record { trail = old.trail; head = head; more = more; key = key; value = found }) record { trail = k.trail; leaf = leaf; head = e; deep = deep; more = many; none = none; key = d; says = says } k.sure)
 
 module _ (c : Call) (h : History) (m : WalkRun) (k : WalkStands m c h) (head : HeadParts) (e : head_of (here h m (Settled HeadWord)) ≡ head) where
   abbrev n : ℕ
@@ -208,10 +206,7 @@ unasked_turn c h m head k e asks fork = go m.goal refl
   where
     go : (goal : Goal) → m.goal ≡ goal → toward (value h) m.trail.node.0 (path_key m.goal) ≡ open_side m.goal head
     go (ToKey key) is = left_above c h m k head e (λ z. let x : true ≡ false = sym (eq-eqb head.class 0 z) ∙ (rw is at asks) in cc) ∙ sym (ap (λ g. open_side g head) is)
-    go (End side) is =
-        let mode : MayEnd c.layout (End side) = subst (MayEnd c.layout) is (may_end c.layout m.way m.goal k.may) in
-        let passed : Passed h k.trail.node.first (path_key (End side)) m.trail.node.0 = in_tree c.layout h k.trail.node.first (path_key (End side)) m.trail.node.0 mode (rw is at k.trail.node.passed) in
-        rw is (walk_turns side c.layout h k.trail.node.first m.trail.node.0 k.run passed (fork_is c h m k head e fork) ∙ ap (end_turn side) (class_is c h m k head e))
+    go (End side) is = rw is (stood_turns side c.layout h m.trail.node.0 k.run (walked_stood c.layout h k.trail.node.first (path_key m.goal) m.trail.node.0 k.trail.node.passed) (fork_is c h m k head e fork) ∙ ap (end_turn side) (class_is c h m k head e))
 
 -- which stays on the path, since it is above all keys
 pub stays_unasked : (c : Call) (h : History) (m : WalkRun) (head : HeadParts) → WalkStands m c h → head_of (here h m (Settled HeadWord)) ≡ head → asks_key m.goal head ≡ false → head.leaf ≡ false → m.way ≡ Within → Stays c.layout (value h) (path_key m.goal) m.trail.node.0
@@ -220,7 +215,7 @@ stays_unasked c h m head k e asks fork w = go m.goal m.way refl refl
     go : (goal : Goal) (way : Way) → m.goal ≡ goal → m.way ≡ way → Stays c.layout (value h) (path_key m.goal) m.trail.node.0
     go (ToKey key) way is by = inr (fork_is c h m k head e fork, λ z. absurd (let x : true ≡ false = sym (eq-eqb head.class 0 (sym (class_is c h m k head e) ∙ z)) ∙ (rw is at asks) in cc))
     go (End side) InTree is by = absurd (let x : InTree ≡ Within = sym by ∙ w in cc)
-    go (End side) InTrie is by = absurd (subst (λ way. MayGo c.layout way (End side)) by (subst (MayGo c.layout m.way) is k.may))
+    go (End side) InTrie is by = absurd (let x : InTrie ≡ Within = sym by ∙ w in cc)
     go (End side) Within is by = absurd (subst (λ way. MayGo c.layout way (End side)) by (subst (MayGo c.layout m.way) is k.may))
 
 -- the root was passed
@@ -325,7 +320,7 @@ module _ (c : Call) (h : History) (m : WalkRun) (head : HeadParts) (key : ℕ) (
         where
           no_end : (way : Way) → way ≡ Within → MayGo c.layout way (End side) → ⊥
           no_end InTree w may = let y : InTree ≡ Within = w in cc
-          no_end InTrie w may = may
+          no_end InTrie w may = let y : InTrie ≡ Within = w in cc
           no_end Within w may = may
 
   -- where it ends, it does not
@@ -350,7 +345,7 @@ turn_key c h old now turn head side key k e low fork d by goes a =
 pub ends_at_fork : (c : Call) (h : History) (old now : WalkRun) (turn : Turn Found) (head : HeadParts) (key : ℕ) → WalkStands old c h → head_of (here h old (Settled HeadWord)) ≡ head → head.class ≡ 0 → head.leaf ≡ false → here h old first_key ≡ key → key < 2 ^ 64 → EndsAt old key true → WalkEnds old now turn head 0 key None → WalkTurn c h now turn
 ends_at_fork c h old now turn head key k e low fork d small ends a = rw (a.done, a.stands) (subst (λ way. FoundBy way old.goal c h (record { trail = old.trail; head = head; more = 0; key = key; value = None })) (sym w) (inr record {
   trie = is_trie c h old head key k e low fork d w;
-  may = may_end c.layout old.way old.goal k.may;
+  to_key = within_to_key c.layout old.goal (subst (λ way. MayGo c.layout way old.goal) w k.may);
   trail = k.trail;
   below = below_top c h old head key k e low fork d;
   stays = k.sure w (below_top c h old head key k e low fork d);

@@ -1,7 +1,7 @@
 -- What a call knows of the leaf that it has found on its way to a key, or to the one at an end.
 use Rattle.std.specs.Prelude.{◌≡◌, ◌≢◌, ◌⊎◌, ℕ, ◌^◌, ◌<◌, true, false, if◌then◌else◌, ◌==◌, length, Option, None}
 use Rattle.std.specs.Option.{option_map}
-use Rattle.histories.specs.Common.{Layout, Tree as TreeMode, Settled, Head, More, Key, Word, head_of, node, first_key, History, value, Call, taken_nodes}
+use Rattle.histories.specs.Common.{Settled, Head, More, Key, Word, head_of, node, first_key, History, value, Call, taken_nodes}
 use Rattle.arena.specs.declared.limits.Mode.TheVariants.{Trie as TrieMode}
 use Rattle.ordered_map.specs.declared.pair.Pair.{Pair}
 use Rattle.ordered_map.specs.Holding.{end_slot}
@@ -32,15 +32,14 @@ abbrev pub asked_in : Goal → (Word → ℕ) → ℕ → ℕ
 asked_in (ToKey k) f n = k
 asked_in (End side) f n = if class f n == 0 then f (node n (Settled (Key (end_slot side (f (node n (Settled More))))))) else 0
 
--- a walk to an end goes in a tree
-abbrev pub MayEnd : Layout → Goal → Type 0
-MayEnd lay (ToKey k) = Unit {0}
-MayEnd lay (End side) = lay.mode ≡ TreeMode
+-- a walk goes to a key
+abbrev pub IsToKey : Goal → Type 0
+IsToKey (ToKey k) = Unit {0}
+IsToKey (End side) = ⊥
 
 -- The call has found the leaf to which its walk was to go: what its words say, and what it says of
 -- the key asked for.
 pub record HasFoundGoal (goal : Goal) (c : Call) (h : History) (f : Found) : Type 0 where
-  pub may : MayEnd c.layout goal
   pub trail : OnTrail c h (path_key goal) f.trail
   pub leaf : is_leaf (value h) f.trail.node.0 ≡ true
   pub head : head_of (value h (node f.trail.node.0 (Settled Head))) ≡ f.head
@@ -61,7 +60,7 @@ pub record HasFoundBelow (goal : Goal) (c : Call) (h : History) (f : Found) : Ty
 -- no such key. The fork above stays on the key's path.
 pub record HasFoundFork (goal : Goal) (c : Call) (h : History) (f : Found) : Type 0 where
   pub trie : c.layout.mode ≡ TrieMode
-  pub may : MayEnd c.layout goal
+  pub to_key : IsToKey goal
   pub trail : OnTrail c h (path_key goal) f.trail
   pub below : f.trail.node.0 ≢ 0
   pub stays : Stays c.layout (value h) (path_key goal) f.trail.parent.0

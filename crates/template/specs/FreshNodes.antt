@@ -7,7 +7,7 @@ use Rattle.ordered_map.specs.TrieShape.{FitsTrie}
 use Rattle.prims.specs.Snap.{child_of}
 use Rattle.prims.specs.declared.snap.Snap.{Snap}
 use Rattle.ordered_map.specs.Edits.{IsCopyOf}
-use Rattle.ordered_map.specs.EditPlans.{above_plan}
+use Rattle.ordered_map.specs.EditPlans.{above_plan, end_join_plan, end_leaf_plan}
 use Rattle.ordered_map.specs.TreeShape.{leaf_plan, join_plan}
 use Rattle.ordered_map.specs.TreeWords.{is_leaf}
 use Rattle.template.specs.Promises.{IsFresh}
@@ -44,6 +44,25 @@ pub record IsJoinAt (f : Found) (d : Descriptor) (snap : Snap) (n : ℕ) : Type 
   pub parent : d.member 1 ≡ f.trail.parent.0
   pub left : d.member 2 ≡ snap.left.0
   pub right : d.member 3 ≡ snap.right.0
+  pub old : d.old ≡ f.trail.parent.0
+  pub new : d.new ≡ n
+
+-- the same in a trie where that takes a pair at an end out: behind both it covers node 2
+pub record IsEndLeafEditAt (f : Found) (d : Descriptor) (n : ℕ) : Type 0 where
+  pub plan : d.plan ≡ end_leaf_plan f.trail.side
+  pub parent : d.member 0 ≡ f.trail.parent.0
+  pub leaf : d.member 1 ≡ f.trail.node.0
+  pub guard : d.member 2 ≡ 2
+  pub old : d.old ≡ f.trail.node.0
+  pub new : d.new ≡ n
+
+-- or where no other pair is left: it covers the fork above the parent, the parent and the leaf's sibling,
+-- finalizes the latter two, and covers node 2 behind all
+pub record IsEndJoinAt (f : Found) (d : Descriptor) (n : ℕ) : Type 0 where
+  pub plan : d.plan ≡ end_join_plan f.trail.grand_side
+  pub grand : d.member 0 ≡ f.trail.grand.0
+  pub parent : d.member 1 ≡ f.trail.parent.0
+  pub guard : d.member 3 ≡ 2
   pub old : d.old ≡ f.trail.parent.0
   pub new : d.new ≡ n
 

@@ -6,12 +6,12 @@ use Rattle.help.specs.Allowed.{IsLater}
 use Rattle.prims.specs.Laws.Linked.{IsLinked}
 use Rattle.prims.specs.Snap.{child_of}
 use Rattle.prims.specs.declared.snap.Snap.{Snap}
-use Rattle.ordered_map.specs.EditPlans.{above_plan}
+use Rattle.ordered_map.specs.EditPlans.{above_plan, end_join_plan, end_leaf_plan}
 use Rattle.ordered_map.specs.Edits.{IsSwapBy, IsSplitBy, HasTreeLevels, IsJoinBy}
 use Rattle.ordered_map.specs.OrderedMap.{MapEdit, edit_key, value_left}
 use Rattle.ordered_map.specs.Paths.{WasOnPath}
 use Rattle.ordered_map.specs.TreeShape.{MayEdit, TreeAllows, leaf_plan, join_plan, leaf_place, sibling_place}
-use Rattle.ordered_map.specs.TreeWords.{is_leaf, toward, said}
+use Rattle.ordered_map.specs.TreeWords.{is_leaf, opposite, toward, said}
 use Rattle.ordered_map.specs.TrieShape.{Stays, FitsTrie, IsAboveBy}
 
 -- Whenever the pass c may begin s with these words, it makes the edit: after any run that extends
@@ -85,6 +85,50 @@ pub record WillTakeOut (lay : Layout) (c : ℕ) (h : History) (d : Descriptor) (
   pub sibling_is : IsSnapOf lay h d (sibling_place side) sibling
   -- the copy of a fork has the fields that the snapshot of the sibling found
   pub copied : is_leaf (value h) (d.member (sibling_place side)) ≡ false → (s : Side) → value h (child d.new s) ≡ (child_of sibling s).0
+  pub fits : WillFit lay h d e
+
+-- What has in hand what is to take a pair at an end of a trie out of its leaf, which has others: as an
+-- edit of a leaf, with node 2 behind all else.
+pub record WillEditEndLeaf (lay : Layout) (c : ℕ) (h : History) (d : Descriptor) (e : MapEdit) : Type 0 where
+  pub trie : lay.mode ≡ TrieMode
+  pub small : edit_key e < 2 ^ 64
+  pub path : WasOnPath h (edit_key e) (d.member 0)
+  pub stays : Stays lay (value h) (edit_key e) (d.member 0)
+  pub named : IsNamed lay h (d.member 0)
+  pub fork : is_leaf (value h) (d.member 0) ≡ false
+  pub plan : d.plan ≡ end_leaf_plan (toward (value h) (d.member 0) (edit_key e))
+  pub old : d.old ≡ d.member 1
+  pub guard : d.member 2 ≡ 2
+  pub leaf_named : IsNamed lay h (d.member 1)
+  pub fresh : IsFresh lay c h d.new
+  pub edit : IsSwapBy (value h) e (d.member 1) d.new
+  pub there : value_left e ≡ None → said (value h) (edit_key e) (d.member 1) ≢ None
+  pub fits : WillFit lay h d e
+
+-- What has in hand what is to take that leaf out, which has no other pair and is on this side of its
+-- parent: two forks that were on the key's path, the leaf and its sibling as the snapshot of the lower
+-- one found them, a fresh copy of the sibling, and node 2.
+pub record WillTakeEndOut (lay : Layout) (c : ℕ) (h : History) (d : Descriptor) (e : MapEdit) (side : Side) (leaf : ℕ) : Type 0 where
+  pub trie : lay.mode ≡ TrieMode
+  pub small : edit_key e < 2 ^ 64
+  pub path : WasOnPath h (edit_key e) (d.member 0)
+  pub stays : Stays lay (value h) (edit_key e) (d.member 0)
+  pub fork : is_leaf (value h) (d.member 0) ≡ false
+  pub plan : d.plan ≡ end_join_plan (toward (value h) (d.member 0) (edit_key e))
+  pub old : d.old ≡ d.member 1
+  pub side_is : toward (value h) (d.member 1) (edit_key e) ≡ side
+  pub guard : d.member 3 ≡ 2
+  pub named : (j : ℕ) → j < 3 → IsNamed lay h (d.member j)
+  pub leaf_named : IsNamed lay h leaf
+  pub fresh : IsFresh lay c h d.new
+  pub edit : IsJoinBy (value h) e (d.member 1) leaf (d.member 2) d.new
+  pub parent : Snap
+  pub parent_is : IsSnapOf lay h d 1 parent
+  pub shown : ((child_of parent side).0 ≡ leaf) × ((child_of parent (opposite side)).0 ≡ d.member 2)
+  pub sibling : Snap
+  pub sibling_is : IsSnapOf lay h d 2 sibling
+  -- the copy of a fork has the fields that the snapshot of the sibling found
+  pub copied : is_leaf (value h) (d.member 2) ≡ false → (s : Side) → value h (child d.new s) ≡ (child_of sibling s).0
   pub fits : WillFit lay h d e
 
 -- What has in hand what is to put a fork of a trie above the fork u, which the key does not share: the fork

@@ -14,7 +14,7 @@ use Rattle.template.proofs.Lemmas.{either_mode, walk_fills_not}
 use Rattle.edits.specs.Edits.{EditMeaning}
 use Rattle.edits.specs.declared.edit.Nth.{Nth}
 use Rattle.edits.specs.declared.update.UpdateAt.{UpdateAt}
-use Rattle.edits.specs.declared.update.UpdateAt.TheVariants.{Start, Walk, Look, Read, Fill, Scx}
+use Rattle.edits.specs.declared.update.UpdateAt.TheVariants.{Start, Walk, Guard, Look, Read, Fill, Scx}
 use Rattle.edits.specs.declared.update.UpdateRun.{UpdateRun}
 use Rattle.edits.specs.Known.{FillsPiece, UpdateWaits, UpdateWaitsAt, piece_fill_step}
 use Rattle.edits.specs.Pieces.{piece_head}
@@ -77,6 +77,7 @@ update_in_order means m c h s fills x = go m.at x.3
     go : (at : UpdateAt) → UpdateWaitsAt means m (begun_at c x.0) h s at → IsFillInOrder h (row_of c s h)
     go Start w = absurd w
     go (Walk walk) w = no_fill c h s (walk_fills_not walk (begun_at c x.0) h s w.1)
+    go (Guard walk head llx) w = no_fill c h s (llx_fills_not TreeAllows llx (begun_at (begun_at c x.0) w.0) h s w.2)
     go (Look f llx) w = no_fill c h s (llx_fills_not TreeAllows llx (begun_at (begun_at c x.0) w.0) h s w.2)
     go (Read f n part) w = no_fill c h s (λ k. let e : s.kind ≡ LoadSettled = ap (λ (t : Step). t.kind) w.1 in cc)
     go (Fill f nth part) w = subst (λ (t : Step). IsFillInOrder h (row_of c t h)) (sym w.3) (fills (begun_at c x.0) f nth part w.0)

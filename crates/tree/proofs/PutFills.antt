@@ -9,7 +9,7 @@ use Rattle.tree.proofs.Fills.{leaf_head, same_number, same_part, unstood}
 use Rattle.tree.specs.declared.put.PutPair.{PutPair}
 use Rattle.tree.specs.Put.Means.{above_pieces, put_means, put_need, put_pieces, put_work, lower, pairs_with, parts_by, split_or_leaf, splits}
 use Rattle.tree.specs.Laws.Put.Sound.{IsLeafBefore, above_fields, split_fields, stands}
-use Rattle.tree.specs.Laws.Put.Stands.{StandsAt}
+use Rattle.tree.specs.Laws.Put.Stands.{PutStands}
 use Rattle.edits.specs.declared.edit.Nodes.{Nodes}
 use Rattle.edits.specs.declared.edit.Nth.{Nth}
 use Rattle.edits.specs.declared.edit.Nth.TheVariants.{First, Second, Third}
@@ -100,14 +100,14 @@ module _ (m : UpdateRun PutPair UpdateAt) (c : Call) (h : History) (f : Found) w
   said nth = put_pieces m.edit.key m.edit.value m.edit.trie f m.nodes m.read nth
 
   module _ (nth : Nth) (part : NodeWord) (x : FillsPiece put_means m c h f nth part) where
-    standing : StandsAt m.edit.trie m.edit.key c h f
+    standing : PutStands m.edit.trie m.edit.key c h f
     standing = stands m.edit c h f m.snaps.items x.works.run x.works.looked
 
     -- what a node at hand is to hold
     said_is : (i : Nth) → IsNeeded m.work.need i → piece put_means m f (nth_node m.nodes i).0 ≡ said i
     said_is i n = piece_is (λ j. said j) m.nodes m.work.need i n x.works.in_order
 
-    kind_by : StandsAt m.edit.trie m.edit.key c h f → (i : Nth) → IsNeeded (put_work m.edit.trie f).need i → IsLeafOrTop said (put_work m.edit.trie f).need m.nodes i
+    kind_by : PutStands m.edit.trie m.edit.key c h f → (i : Nth) → IsNeeded (put_work m.edit.trie f).need i → IsLeafOrTop said (put_work m.edit.trie f).need m.nodes i
     kind_by (inl a) i n = rw a.stays (split_kind m.edit.trie (splits f) (pairs_with m.edit.key m.edit.value f m.read) f m.nodes i)
     kind_by (inr a) i n = rw a.strays (above_kind m.edit.key m.edit.value f m.nodes i (rw a.strays at n))
 
@@ -127,7 +127,7 @@ module _ (m : UpdateRun PutPair UpdateAt) (c : Call) (h : History) (f : Found) w
         (λ is_top. inr (subst (λ n. ¬ HasStoodInField h n) (sym is_top ∙ same_number (nth_node m.nodes nth).0 k part (Settled Head) e) (unstood c.layout h c.pass (top m) x.works.run.0 (x.full.hand.own (top m) x.full.some (omega arith)) x.full.hand.unmentioned)))
         (kind nth x.works.need)
 
-    fields_by : StandsAt m.edit.trie m.edit.key c h f → (side : Side) → is_filled (said nth) (Child side) ≡ true → IsLeafBefore m.nodes nth (word_of (said nth) (Child side)) ⊎ WasInTree h (word_of (said nth) (Child side))
+    fields_by : PutStands m.edit.trie m.edit.key c h f → (side : Side) → is_filled (said nth) (Child side) ≡ true → IsLeafBefore m.nodes nth (word_of (said nth) (Child side)) ⊎ WasInTree h (word_of (said nth) (Child side))
     fields_by (inl a) side p = inl (rw a.stays (split_fields m.edit.trie (splits f) (pairs_with m.edit.key m.edit.value f m.read) f m.nodes nth side (rw a.stays at p)))
     fields_by (inr a) side p =
         let t = a.found.trail.node in

@@ -1,9 +1,10 @@
 //! Edits of the map: what a rule makes of what it finds at a goal.
 ghost use Rattle.std.specs.Prelude.{◌≡◌, ℕ, ◌+◌, ◌*◌, ◌-◌, ◌<◌};
 ghost use Rattle.edits.specs.Steps.{update_left};
-ghost use Rattle.tree.specs.KeyEdit.Means.{key_means, putting, taking, wants, way_of};
+ghost use Rattle.tree.specs.KeyEdit.Means.{key_means, is_trie_end, popping, putting, taking, wants, way_of};
 ghost use Rattle.template.specs.Walk.Steps.{room};
 
+use crate::pop::PopPair;
 use crate::put::PutPair;
 use crate::rule::{EditGoal, EditRule};
 use crate::take::TakePair;
@@ -31,8 +32,8 @@ impl<G: EditGoal, R: EditRule> KeyEdit<G, R> {
     /// An edit with `tries` tries, in the caller's call of this number; it takes fresh nodes and
     /// SCX-records out of the share, at most one SCX-record in a try, and one node, or three where
     /// its rule puts in what was absent. Where `nodes` are taken when it ends, it makes at most
-    /// `tries * (3 * (2 + nodes) + n)` steps, n being 207 if it leaves a value, and else 328; in a trie
-    /// 67 stands for `2 + nodes`.
+    /// `tries * (3 * (2 + nodes) + n)` steps, n being 207 if it leaves a value, and else 328; in a
+    /// trie 67 stands for `2 + nodes`.
     #[inline(always)]
     pub fn run(self, share: Share, tries: u32, call: u64) -> KeyEditRun<G, R>
         ensures start { result.at ≡ UpdateAt.Start }
@@ -42,7 +43,7 @@ impl<G: EditGoal, R: EditRule> KeyEdit<G, R> {
         ensures tries { result.tries ≡ tries - 1 }
         ensures limit { result.limit ≡ tries }
         ensures steps { (nodes : ℕ) → 0 < tries → update_left (key_means G.goal G.trie R.rule) result nodes
-            ≡ tries * (3 * (2 + room (way_of (G.trie self.goal) (R.rule self.rule)) nodes) + steps_behind (leaves (R.rule self.rule))) }
+            ≡ tries * (3 * (2 + room (way_of (G.goal self.goal) (G.trie self.goal) (R.rule self.rule)) nodes) + steps_behind (leaves (R.rule self.rule))) }
     {
         UpdateRun::new(self, share, tries, call, UpdateAt::Start)
     }
@@ -89,13 +90,35 @@ impl<G: EditGoal, R: EditRule> KeyEdit<G, R> {
         }
     }
 
-    /// And where it leaves none.
+    /// Whether it is at an end of a trie.
+    #[inline(always)]
+    fn is_at_trie_end(&self) -> bool
+        ensures { result ≡ is_trie_end (G.goal self.now.goal) (G.trie self.now.goal) }
+    {
+        match self.goal.goal() {
+            Goal::Key(_) => false,
+            Goal::End(_) => self.goal.in_trie(),
+        }
+    }
+
+    /// And where it leaves none at an end of a trie.
+    #[inline(always)]
+    fn pop(&self, found: &Found) -> PopPair
+        ensures { result ≡ popping (asked_key (G.goal self.now.goal) found.now.key) }
+    {
+        PopPair {
+            key: self.key(found),
+        }
+    }
+
+    /// And elsewhere.
     #[inline(always)]
     fn take(&self, found: &Found) -> TakePair
-        ensures { result ≡ taking (asked_key (G.goal self.now.goal) found.now.key) }
+        ensures { result ≡ taking (G.trie self.now.goal) (asked_key (G.goal self.now.goal) found.now.key) }
     {
         TakePair {
             key: self.key(found),
+            trie: self.goal.in_trie(),
         }
     }
 }
@@ -109,17 +132,25 @@ impl<G: EditGoal, R: EditRule> Edit for KeyEdit<G, R> {
         self.goal.goal()
     }
 
-    /// In a trie what puts in what was absent ends at a fork that its key does not share. Nothing is
-    /// taken out of one yet.
+    /// In a trie what puts in what was absent ends at a fork that its key does not share; nothing
+    /// is put in at an end of one.
     #[inline(always)]
     fn way(&self) -> Way {
         if !self.goal.in_trie() {
             return Way::InTree;
         }
+        match (self.rule.leaves(), self.goal.goal()) {
+            (None, _) => Way::InTrie,
+            (Some(_), Goal::Key(_)) if !self.rule.applies(None) => Way::InTrie,
+            (Some(_), _) => Way::Within,
+        }
+    }
+
+    #[inline(always)]
+    fn guard(&self) -> bool {
         match self.rule.leaves() {
-            Some(_) if self.rule.applies(None) => Way::Within,
-            Some(_) => Way::InTrie,
-            None => Way::InTree,
+            Some(_) => false,
+            None => self.is_at_trie_end(),
         }
     }
 
@@ -130,6 +161,7 @@ impl<G: EditGoal, R: EditRule> Edit for KeyEdit<G, R> {
         }
         match self.rule.leaves() {
             Some(value) => self.put(found, value).work(found),
+            None if self.is_at_trie_end() => self.pop(found).work(found),
             None => self.take(found).work(found),
         }
     }
@@ -138,6 +170,7 @@ impl<G: EditGoal, R: EditRule> Edit for KeyEdit<G, R> {
     fn look(&self, found: &Found, snaps: &[Snap]) -> Look {
         match self.rule.leaves() {
             Some(value) => self.put(found, value).look(found, snaps),
+            None if self.is_at_trie_end() => self.pop(found).look(found, snaps),
             None => self.take(found).look(found, snaps),
         }
     }
@@ -146,6 +179,7 @@ impl<G: EditGoal, R: EditRule> Edit for KeyEdit<G, R> {
     fn reads(&self, found: &Found, snaps: &[Snap]) -> Option<(NodeNo, Known)> {
         match self.rule.leaves() {
             Some(value) => self.put(found, value).reads(found, snaps),
+            None if self.is_at_trie_end() => self.pop(found).reads(found, snaps),
             None => self.take(found).reads(found, snaps),
         }
     }
@@ -161,6 +195,9 @@ impl<G: EditGoal, R: EditRule> Edit for KeyEdit<G, R> {
     ) -> Piece {
         match self.rule.leaves() {
             Some(value) => self.put(found, value).piece(found, snaps, nodes, read, nth),
+            None if self.is_at_trie_end() => {
+                self.pop(found).piece(found, snaps, nodes, read, nth)
+            }
             None => self.take(found).piece(found, snaps, nodes, read, nth),
         }
     }

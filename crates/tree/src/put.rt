@@ -63,8 +63,8 @@ impl PutPair {
         }
     }
 
-    /// One of two fresh nodes: a leaf with the pair alone, or the fork over it and the fork that was
-    /// found.
+    /// One of two fresh nodes: a leaf with the pair alone, or the fork over it and the fork that
+    /// was found.
     fn above(&self, found: &Found, nodes: &Nodes, nth: Nth) -> Piece
         ensures { result ≡ above_pieces self.now.key self.now.value found.now nodes.now nth }
     {
@@ -232,6 +232,10 @@ impl Edit for PutPair {
 
     fn way(&self) -> Way {
         if self.trie { Way::Within } else { Way::InTree }
+    }
+
+    fn guard(&self) -> bool {
+        false
     }
 
     #[inline(always)]

@@ -13,6 +13,8 @@ use template::{Found, Goal, Way};
 #[derive(Clone, Copy, Debug, PartialEq, Eq)]
 pub(crate) struct TakePair {
     pub key: u64,
+    /// Whether it is in a trie.
+    pub trie: bool,
 }
 
 impl TakePair {
@@ -33,7 +35,7 @@ impl TakePair {
     }
 
     /// Looks at the next node, where the snapshot still shows the child that the walk has found.
-    fn past(snap: &Snap, side: Side, child: NodeNo, next: NodeNo) -> Look
+    pub(crate) fn past(snap: &Snap, side: Side, child: NodeNo, next: NodeNo) -> Look
         ensures { result ≡ past snap.now side child next }
     {
         if snap.child(side).0 == child.0 {
@@ -90,7 +92,7 @@ impl TakePair {
 
     /// A copy of the sibling, as it was read and as its snapshot shows it.
     #[inline(always)]
-    fn copy(sibling: &Snap, read: &Reading) -> Piece
+    pub(crate) fn copy(sibling: &Snap, read: &Reading) -> Piece
         ensures { result ≡ sibling_copy sibling.now read.now }
     {
         let Head { level, leaf, class } = read.head.unwrap_or(Head::of(0));
@@ -122,7 +124,11 @@ impl Edit for TakePair {
     }
 
     fn way(&self) -> Way {
-        Way::InTree
+        if self.trie { Way::InTrie } else { Way::InTree }
+    }
+
+    fn guard(&self) -> bool {
+        false
     }
 
     #[inline(always)]

@@ -1,5 +1,5 @@
 -- A call that has not begun may be called: its pass is at rest with the share that it has.
-use Rattle.std.proofs.Common.{◌≡◌, ℕ, ◌+◌, ◌<◌, ◌^◌, Bool, true, false, None, refl, sym, ◌∙◌, arith}
+use Rattle.std.proofs.Common.{◌≡◌, ℕ, ◌+◌, ◌<◌, ◌^◌, Bool, true, false, Option, Some, None, refl, sym, ◌∙◌, arith}
 use Rattle.arena.specs.Layout.{IsMap}
 use Rattle.arena.specs.declared.limits.Mode.{Mode}
 use Rattle.histories.specs.Common.{Layout, Call, IsRun, Remaining}
@@ -7,9 +7,8 @@ use Rattle.arena.proofs.Lemmas.{ends_self}
 use Rattle.order.proofs.Lemmas.{read_ready_first}
 use Rattle.prims.specs.Laws.Idle.{quiet_at_start, idle_if_finished}
 use Rattle.template.specs.Balance.{leaf_way, map_mode}
-use Rattle.template.specs.Common.{IsMapRun, MayGo, path_key, nodes_in_try, Goal, Key as ToKey, End}
-use Rattle.template.specs.declared.walk.Way.{Way}
-use Rattle.template.specs.declared.walk.Way.TheVariants.{InTree, InTrie, Within}
+use Rattle.template.specs.Common.{IsMapRun, MayGo, path_key, nodes_in_try, applies, leaves, Goal, Key as ToKey, End, Edit, Rule}
+use Rattle.tree.specs.KeyEdit.Means.{way_by, way_of}
 use Rattle.template.proofs.Lemmas.{next_first, walk_ready_first}
 use Rattle.edits.specs.Edits.{EditMeaning}
 use Rattle.edits.specs.Known.{RestsWith, UpdateIsReady}
@@ -18,7 +17,7 @@ use Rattle.edits.specs.Steps.{node_tries, scx_tries}
 use Rattle.edits.specs.declared.update.UpdateAt.TheVariants.{Start}
 use Rattle.edits.specs.declared.update.UpdateAt.{UpdateAt}
 use Rattle.edits.specs.declared.update.UpdateRun.{UpdateRun}
-use Rattle.dict.specs.Calls.{call_in, inner_call, inner_share, inner_trie, is_in_trie, share_of, trie_in, IsFewCall, IsWayTo}
+use Rattle.dict.specs.Calls.{call_in, inner_call, inner_share, inner_trie, is_in_trie, share_of, trie_in, IsFewCall, IsSmallCall}
 use Rattle.dict.specs.DictKnown.{DictIsReady}
 use Rattle.dict.specs.Known.{HasRested, Goes, HasSpentSo, IsReadyInside, IsUnbegun, StandsAtStart, MapIsReady}
 use Rattle.dict.specs.Typed.{IsTypedCall, TypedAllows}
@@ -29,17 +28,21 @@ use Rattle.dict.specs.Inner.{InnerRun, Update, Get, Read, edit_means, inner}
 use Rattle.dict.specs.Laws.Kinds.{IsOfKind, edit_small, is_of_kind}
 
 -- what is a tree, or a trie, is a map
-pub is_map : (mode : Mode) (trie : Bool) → mode ≡ map_mode trie → IsMap mode
-is_map mode false e = rw e refl
-is_map mode true e = rw e refl
+pub dict_mode : (mode : Mode) (trie : Bool) → mode ≡ map_mode trie → IsMap mode
+dict_mode mode false e = rw e refl
+dict_mode mode true e = rw e refl
 
 -- an edit may walk there
-way_may : (lay : Layout) (trie : Bool) (goal : Goal) (way : Way) → lay.mode ≡ map_mode trie → IsWayTo trie goal way → MayGo lay way goal
-way_may lay false goal way mode is = rw is mode
-way_may lay true (ToKey k) InTree mode is = absurd (is refl)
-way_may lay true (ToKey k) InTrie mode is = mode
-way_may lay true (ToKey k) Within mode is = mode
-way_may lay true (End side) way mode is = absurd is
+edit_may : (lay : Layout) (goal : Goal) (trie : Bool) (rule : Rule) → lay.mode ≡ map_mode trie → IsSmallCall (Edit goal rule) → MayGo lay (way_of goal trie rule) goal
+edit_may lay (ToKey k) false rule mode small = mode
+edit_may lay (End side) false rule mode small = mode
+edit_may lay (ToKey k) true rule mode small = by_left (leaves rule) (applies rule None)
+  where
+    by_left : (left : Option ℕ) (absent : Bool) → MayGo lay (way_by (ToKey k) true left absent) (ToKey k)
+    by_left None absent = mode
+    by_left (Some value) true = mode
+    by_left (Some value) false = mode
+edit_may lay (End side) true rule mode small = rw small mode
 
 -- so may a get
 get_may : (lay : Layout) (trie : Bool) (k : ℕ) → lay.mode ≡ map_mode trie → MayGo lay (leaf_way trie) (ToKey k)
@@ -75,7 +78,7 @@ module _ (c : Call) (run : IsMapRun c.layout c.start) where
   goes (Read k m share) tries mode kind x r = record { mode = mode; small = kind.small m.read; number = tt; limit = x.4; spent = r }
 
   inside : (m : InnerRun) (tries : ℕ) → c.layout.mode ≡ map_mode (inner_trie m) → IsOfKind m → StandsAtStart m tries c.number → IsFewCall (inner_call m) → RestsWith c c.start (inner_share m) → IsReadyInside m c c.start None
-  inside (Update m) tries mode kind x few r = update_ready edit_means m x.0 r (way_may c.layout m.edit.goal.balance m.edit.goal.goal _ mode x.5) (edit_small m.edit.goal.goal m.edit.rule x.3) (x.4 ∙ sym x.1)
+  inside (Update m) tries mode kind x few r = update_ready edit_means m x.0 r (edit_may c.layout m.edit.goal.goal m.edit.goal.balance m.edit.rule mode x.3) (edit_small m.edit.goal.goal m.edit.rule x.3) (x.4 ∙ sym x.1)
   inside (Get key walk share) tries mode kind x few r = ((walk_ready_first walk c c.start run (rw (x.2.1, x.2.0) (get_may c.layout (is_in_trie walk.way) key mode)) (rw x.2.0 x.3) (ends_self c.start) x.0 x.1, x.2, refl), rests share r)
   inside (Read k m share) tries mode kind x few r = (read_ready_first k.means m c c.start run mode refl (x.3 few) r.over x.0 x.2 (let e = x.4 in let f = x.1 in omega (arith, e, f)), rests share r)
 
@@ -85,4 +88,4 @@ module _ (c : Call) (run : IsMapRun c.layout c.start) where
 
 -- so may that of a dictionary
 pub dict_begins : (keys values : ℕ → Type 0) {K V : Type 0} (m : DictRun K V) (c : Call) → c.layout.mode ≡ map_mode (trie_in m.run) → IsRun (TypedAllows keys values) c.layout c.start → IsTypedCall keys values (call_in m.run) → IsUnbegun m.run m.tries c.number → IsFewCall (call_in m.run) → RestsWith c c.start (share_of m.run) → DictIsReady keys values m c c.start None
-dict_begins keys values m c mode run typed x few r = (typed, map_begins c (is_map c.layout.mode (trie_in m.run) mode, typed_run keys values c.layout c.start run) m.run m.tries mode x few r)
+dict_begins keys values m c mode run typed x few r = (typed, map_begins c (dict_mode c.layout.mode (trie_in m.run) mode, typed_run keys values c.layout c.start run) m.run m.tries mode x few r)

@@ -1,10 +1,10 @@
 -- The laws of the machine of a call of a dictionary: rows of others leave it waiting, its steps are
 -- lawful and begin edits of typed words alone, and what it is called with is right.
-use Rattle.std.proofs.Common.{◌≢◌, ℕ, ◌<◌, ◌≤◌, length, Option, Some, subst}
+use Rattle.std.proofs.Common.{◌≢◌, ◌≡◌, ◌∙◌, ◌^◌, refl, ℕ, ◌<◌, ◌≤◌, length, Option, Some, None, subst}
 use Rattle.histories.specs.Common.{Fill, Row, Step, History, ◌⊳◌, value, Call, IsRun, IsTold, begun_at, row_of, Remaining, taken_nodes}
-use Rattle.arena.proofs.Lemmas.{ends_trans}
 use Rattle.order.specs.Laws.Run.{read_fills_not}
-use Rattle.template.specs.Common.{Edit, TreeAllows, Rule}
+use Rattle.template.specs.Common.{Edit, TreeAllows, Goal, Key as ToKey, End, Rule, FoundBy, IsMapRun, path_key}
+use Rattle.template.specs.declared.walk.Way.{Way}
 use Rattle.tree.specs.declared.key_edit.KeyEdit.{KeyEdit}
 use Rattle.template.specs.declared.walk.Found.{Found}
 use Rattle.template.proofs.Lemmas.{walk_fills_not}
@@ -12,11 +12,11 @@ use Rattle.dict.specs.Calls.{inner_call}
 use Rattle.dict.specs.DictKnown.{DictIsReady, DictWaits}
 use Rattle.dict.specs.Goals.{leaf_told}
 use Rattle.dict.specs.Known.{HasRested, WaitsInside}
-use Rattle.dict.specs.Laws.Found.{found_tells}
+use Rattle.dict.specs.Laws.Found.{found_held, found_tells}
 use Rattle.dict.specs.Laws.Map.{map_keeps, inner_lawful, map_made, map_told, on}
 use Rattle.dict.specs.Steps.{MapFits}
 use Rattle.dict.specs.Typed.{AreTyped, IsTypedCall, IsTypedEdit, IsTypedReply, TypedAllows}
-use Rattle.dict.specs.Laws.EachCall.{reply_typed, edit_typed}
+use Rattle.dict.specs.Laws.EachCall.{reply_typed, edit_typed, got_typed}
 use Rattle.dict.specs.Laws.TypedMaps.{typed_run, typed_since, typed_map}
 use Rattle.dict.specs.Laws.TypedSteps.{HasWalkedTo, typed_quiet, typed_update_lawful}
 use Rattle.dict.specs.declared.dict.DictRun.{DictRun}
@@ -28,13 +28,25 @@ module _ (keys values : ℕ → Type 0) where
   read_lawful : (c : Call) (h : History) (s : Step) (share : Remaining) → s.kind ≢ Fill → IsRun (TypedAllows keys values) c.layout h → IsRun TreeAllows c.layout (row_of c s h ⊳ h) → HasRested c h share → IsRun (TypedAllows keys values) c.layout (row_of c s h ⊳ h)
   read_lawful c h s share fills_not run tree x = typed_quiet keys values c.layout h (row_of c s h) run tree (on c h (row_of c s h) share tree fills_not x).now.over
 
+  -- what was found says something of such words
+  told_typed : (way : Way) (goal : Goal) (rule : Rule) (c : Call) (h : History) (f : Found) → path_key goal < 2 ^ 64 → IsMapRun c.layout h → IsRun (TypedAllows keys values) c.layout h → FoundBy way goal c h f → IsTypedReply keys values (leaf_told goal f)
+  told_typed way (ToKey k) rule c h f small run typed x =
+      let y = (found_tells way (ToKey k) c h f small run tt x).told in
+      let map : AreTyped keys values y.map = typed_map keys values c.layout y.moment run.0 (typed_since keys values c.layout h y.moment typed y.within) y.map y.spelled in
+      subst (IsTypedReply keys values) y.gives (reply_typed keys values (Edit (ToKey k) rule) y.map map)
+  told_typed way (End side) rule c h f small run typed x = go f.value refl
+    where
+      go : (value : Option ℕ) → f.value ≡ value → IsTypedReply keys values (leaf_told (End side) f)
+      go None is = rw is tt
+      go (Some v) is =
+          let y = (found_held way (End side) c h f small run (λ s e. (v, is)) x).given in
+          let map : AreTyped keys values y.map = typed_map keys values c.layout y.moment run.0 (typed_since keys values c.layout h y.moment typed y.within) y.map y.spelled in
+          rw is (got_typed keys values f.key v y.map map (y.gives ∙ is))
+
   -- what an edit makes at a leaf to which it has walked is of such words
   edit_found_typed : (e : KeyEdit GoalBy Rule) (c : Call) (h : History) (f : Found) → IsRun (TypedAllows keys values) c.layout h → IsTypedCall keys values (Edit e.goal.goal e.rule) → HasWalkedTo edit_means e c h f → 0 < (edit_means.work e f).need → IsTypedEdit keys values (edit_means.edit e f)
   edit_found_typed e c h f run typed x needed =
-      let y = (found_tells (edit_means.way e) e.goal.goal (begun_at c x.begin) x.moment f x.small x.run x.found).told in
-      let there : IsRun (TypedAllows keys values) c.layout y.moment = typed_since keys values c.layout h y.moment run (ends_trans h x.moment y.moment x.within y.within) in
-      let map : AreTyped keys values y.map = typed_map keys values c.layout y.moment x.run.0 there y.map y.spelled in
-      let told : IsTypedReply keys values (leaf_told e.goal.goal f) = subst (IsTypedReply keys values) y.gives (reply_typed keys values (Edit e.goal.goal e.rule) y.map map) in
+      let told = told_typed (edit_means.way e) e.goal.goal e.rule (begun_at c x.begin) x.moment f x.small x.run (typed_since keys values c.layout h x.moment run x.within) x.found in
       edit_typed keys values (Edit e.goal.goal e.rule) (leaf_told e.goal.goal f) (edit_means.edit e f) (edit_changes e f needed) typed told
 
   -- the step of the machine inside continues a run of the dictionary

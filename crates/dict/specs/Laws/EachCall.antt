@@ -1,6 +1,6 @@
 -- What is shown of each call of the map by itself, with an arm for each: what it answers of a map,
 -- and what it may take. The other laws and proofs of this crate and of later ones are of any call.
-use Rattle.std.proofs.Common.{◌≡◌, ℕ, zero, suc, ◌≤◌, List, [], ◌∷◌, take, Bool, true, false, if◌then◌else◌, ◌==◌, nat_lt, nat_le, ◌&&◌, Option, Some, None, unwrap_or, refl, subst, arith}
+use Rattle.std.proofs.Common.{◌≡◌, ℕ, zero, suc, ◌≤◌, List, [], ◌∷◌, take, Bool, true, false, if◌then◌else◌, ◌==◌, nat_lt, nat_le, ◌&&◌, Option, Some, None, unwrap_or, refl, sym, subst, arith, eqb-true}
 use Rattle.template.specs.Common.{MayReply, most_scx, MapEdit, Insert, Delete, insert, delete, edited, edit_of, edit_to, MapCall, Edit, Get, Neighbour, Range, MapReply}
 use Rattle.template.specs.Common.{OneValue, OnePair, ManyPairs, applies, leaves, reply, get, end_pair, neighbour, between, pair, pair_or_none, Key, End, Pair}
 use Rattle.ordered_map.specs.CallRules as form
@@ -40,6 +40,15 @@ module _ (keys values : ℕ → Type 0) where
   get_typed : (k : ℕ) (m : List Pair) → AreTyped keys values m → IsTypedValue values (get k m)
   get_typed k [] x = tt
   get_typed k (p ∷ ps) x = if_value (k == p.key) (Some p.value) (get k ps) x.1 (get_typed k ps x.2)
+
+  -- a key that it has is such a key, with such a value
+  pub got_typed : (k v : ℕ) (m : List Pair) → AreTyped keys values m → get k m ≡ Some v → keys k × values v
+  got_typed k v [] x is = absurd (let z : None ≡ Some v = is in cc)
+  got_typed k v (p ∷ ps) x is = go (k == p.key) refl (got_typed k v ps x.2) is
+    where
+      go : (b : Bool) → (k == p.key) ≡ b → (get k ps ≡ Some v → keys k × values v) → (if b then Some p.value else get k ps) ≡ Some v → keys k × values v
+      go true e behind found = (subst keys (sym (eqb-true k p.key e)) x.0, subst values (let z : Some p.value ≡ Some v = found in cc) x.1)
+      go false e behind found = behind found
 
   if_pair : (b : Bool) (p q : Option Pair) → IsTypedReply keys values (pair_or_none p) → IsTypedReply keys values (pair_or_none q) → IsTypedReply keys values (pair_or_none (if b then p else q))
   if_pair true p q x y = x

@@ -15,7 +15,7 @@ use Rattle.edits.specs.Edits.{EditMeaning}
 use Rattle.edits.specs.Known.{Scxs, UpdateWaitsAt, UpdateIsToldAt, UpdateWaits}
 use Rattle.edits.specs.Laws.Update.{update_lawful, update_made}
 use Rattle.edits.specs.declared.update.UpdateAt.{UpdateAt}
-use Rattle.edits.specs.declared.update.UpdateAt.TheVariants.{Start, Walk, Look, Read, Fill, Scx}
+use Rattle.edits.specs.declared.update.UpdateAt.TheVariants.{Start, Walk, Guard, Look, Read, Fill, Scx}
 use Rattle.edits.specs.declared.update.UpdateRun.{UpdateRun}
 use Rattle.prims.specs.declared.scx.ScxAt.TheVariants.{Start as ScxStart, Help}
 use Rattle.dict.specs.Typed.{IsTypedEdit, TypedAllows}
@@ -116,6 +116,7 @@ module _ (keys values : ℕ → Type 0) where
     lawful_at : (a b : History) (at : UpdateAt) → IsRun TreeAllows c.layout (row_of c s h ⊳ h) → UpdateWaitsAt e m (begun_at c a) h s at → UpdateIsToldAt e m (begun_at c b) (row_of c s h ⊳ h) (value h s.word) at → IsRun (TypedAllows keys values) c.layout (row_of c s h ⊳ h)
     lawful_at a b Start tree w x = absurd w
     lawful_at a b (Walk walk) tree w x = typed_quiet c.layout h (row_of c s h) run tree x.0.rests.over
+    lawful_at a b (Guard walk head llx) tree w x = typed_quiet c.layout h (row_of c s h) run tree x.1.rests.over
     lawful_at a b (Look f llx) tree w x = typed_quiet c.layout h (row_of c s h) run tree x.1.rests.over
     lawful_at a b (Read f n part) tree w x = typed_no_freeze c.layout h (row_of c s h) run tree (λ q. let z : LoadSettled ≡ Freeze = sym (ap (λ (t : Step). t.kind) w.1) ∙ q in cc)
     lawful_at a b (Fill f nth part) tree w x = typed_no_freeze c.layout h (row_of c s h) run tree (λ q. let z : FillKind ≡ Freeze = sym (ap (λ (t : Step). t.kind) w.3) ∙ q in cc)

@@ -17,7 +17,7 @@ rows (Start mode) = 0
 rows (r ⊳ h) = suc (rows h)
 
 -- no row is between a moment and itself
-no_row : (h : History) (row : Row) (before : History) → Extends h (row ⊳ before) → Extends before h → ⊥
+pub no_row : (h : History) (row : Row) (before : History) → Extends h (row ⊳ before) → Extends before h → ⊥
 unfolding rows
 no_row h row before within since =
     let e : before ≡ row ⊳ before = sym (same_moment before (row ⊳ before) (ends_trans before h (row ⊳ before) since within) (inr (ends_self before))) in

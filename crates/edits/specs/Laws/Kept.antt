@@ -1,10 +1,11 @@
 -- What an update knows stays true after any row.
-use Rattle.std.proofs.Common.{◌≡◌, ◌≢◌, ℕ, Some, None, Option, List, ◌++◌, inr, refl, sym, ◌∙◌, ap, IfSome}
-use Rattle.histories.specs.Common.{NodeNo, Row, Fill, Settled, Head as HeadPart, More, Key, Value, Slot, Word, head_of, History, ◌⊳◌, value, Lawful, IsRun, Call, Remaining}
+use Rattle.std.proofs.Common.{◌≡◌, ◌≢◌, ℕ, Some, None, Option, Bool, true, false, List, ◌++◌, inr, ⊎_elim, refl, sym, ◌∙◌, ap, subst, IfSome}
+use Rattle.histories.specs.Common.{NodeNo, Row, Fill, Settled, Head as HeadPart, More, Key, Value, Slot, Word, head_of, History, ◌⊳◌, value, Lawful, IsRun, Call, begun_at, Remaining}
 use Rattle.histories.proofs.Lemmas.{named_more, node_stays}
 use Rattle.prims.specs.Laws.Begun.{takes_by_others, takes_by_step}
 use Rattle.prims.specs.Laws.Idle.{IsIdle, IsQuietSince, quiet_more, idle_if_finished}
-use Rattle.template.specs.Common.{IsUsable, Snap, held_behind, IsMapRun, TreeAllows, Goal}
+use Rattle.template.specs.Common.{FoundBy, HasFoundThere, IsSnapshot, IsUsable, Snap, snap_at, held_behind, IsMapRun, TreeAllows, WasInTree, Goal}
+use Rattle.ordered_map.proofs.MapLemmas.{run_since, two_stood}
 use Rattle.prims.proofs.Lemmas.{over_more, share_by_others, share_by_step, usable_now, usable_since}
 use Rattle.ordered_map.proofs.Lemmas.{SameSettled, held_same, same_from}
 use Rattle.template.specs.declared.walk.Found.{Found}
@@ -13,8 +14,9 @@ use Rattle.template.proofs.Lemmas.{found_by_more}
 use Rattle.edits.specs.declared.edit.Nth.{Nth}
 use Rattle.edits.specs.declared.reading.Reading.{Reading}
 use Rattle.edits.specs.declared.update.UpdateRun.{UpdateRun}
-use Rattle.edits.specs.Edits.{EditMeaning}
-use Rattle.edits.specs.Known.{RestsWith, HasSnappedAfterWalk, AreUsable, HasLooked, MayRead, MayReadAt, WorksAtNode}
+use Rattle.edits.specs.Edits.{EditMeaning, covering}
+use Rattle.edits.specs.Laws.SnapLists.{at_end}
+use Rattle.edits.specs.Known.{RestsWith, HasSnapped, HasSnappedAfterWalk, AreSnapped, AreUsable, Guarded, IsKept, HasLooked, MayRead, MayReadAt, WorksAtNode}
 use Rattle.edits.specs.Readings.{IsRead, slot_read}
 
 -- a pass at rest is idle
@@ -40,12 +42,43 @@ rests_by_step c h r left l no_fill x = record {
 }
 
 -- a snapshot that the call has taken may be used
-pub snapped_usable : (c : Call) (h : History) (way : Way) (goal : Goal) (f : Found) (snap : Snap) → Lawful c.layout h → (x : HasSnappedAfterWalk c h way goal f snap) → IsUsable c.layout h snap x.moment
-snapped_usable c h way goal f snap l x = usable_since c.layout h x.moment snap x.moment l x.within (usable_now c.layout x.moment snap.node.0 snap x.is)
+pub snapped_usable : (c : Call) (h : History) (snap : Snap) → Lawful c.layout h → (x : HasSnapped c h snap) → IsUsable c.layout h snap x.moment
+snapped_usable c h snap l x = usable_since c.layout h x.moment snap x.moment l x.within (usable_now c.layout x.moment snap.node.0 snap x.is)
+
+-- one that it has taken behind its walk is one that it has taken
+pub has_snapped : (c : Call) (h : History) (way : Way) (goal : Goal) (f : Found) (snap : Snap) → HasSnappedAfterWalk c h way goal f snap → HasSnapped c h snap
+has_snapped c h way goal f snap u = record { moment = u.moment; within = u.within; since = u.since; stood = u.stood; is = u.is; met = u.met }
+
+-- so is that of its guard
+pub kept_snapped : (c : Call) (h g : History) (snap : Snap) → IsMapRun c.layout h → IsKept c h g snap → HasSnapped c h snap
+kept_snapped c h g snap run x = record {
+  moment = x.row ⊳ g;
+  within = x.within;
+  since = inr x.since;
+  stood = subst (WasInTree (x.row ⊳ g)) (sym x.is.node) (two_stood c.layout (x.row ⊳ g) (run_since c.layout h (x.row ⊳ g) run x.within)).0;
+  is = subst (λ n. IsSnapshot c.layout (x.row ⊳ g) n snap) (sym x.is.node) x.is;
+  met = subst (λ n. HasFoundThere c.pass (x.row ⊳ g) c.start n snap.scx.0) (sym x.is.node) x.met;
+}
+
+-- what it covers it has taken
+pub covering_snapped : (c : Call) (h : History) (way : Way) (goal : Goal) (f : Found) (guard : Bool) (snaps : List Snap) (kept : Snap) → AreUsable c h way goal f snaps → (guard ≡ true → HasSnapped c h kept) → AreSnapped c h (covering guard snaps kept)
+covering_snapped c h way goal f false snaps kept x y i p = has_snapped c h way goal f (snap_at snaps i) (x i p)
+covering_snapped c h way goal f true snaps kept x y i p = ⊎_elim (λ q. subst (HasSnapped c h) (sym q.1) (has_snapped c h way goal f (snap_at snaps i) (x i q.0))) (λ q. subst (HasSnapped c h) (sym q.1) (y refl)) (at_end snaps kept i p)
+
+-- what is kept of its guard is kept
+pub kept_more : (c : Call) (h : History) (r : Row) (g : History) (snap : Snap) → IsKept c h g snap → IsKept c (r ⊳ h) g snap
+kept_more c h r g snap x = record { row = x.row; within = inr x.within; since = x.since; is = x.is; met = x.met }
+
+pub guarded_more : {E : Type 0} (e : EditMeaning E) (ed : E) (c : Call) (h : History) (r : Row) (snap : Snap) (P Q : Call → Type 0) → ((g : History) → P (begun_at c g) → Q (begun_at c g)) → Guarded e ed c h snap P → Guarded e ed c (r ⊳ h) snap Q
+guarded_more e ed c h r snap P Q go x is = let y = x is in (y.0, kept_more c h r y.0 snap y.1, go y.0 y.2)
+
+-- as the leaf is that it has found
+pub found_guarded_more : {E : Type 0} (e : EditMeaning E) (ed : E) (c : Call) (h : History) (r : Row) (snap : Snap) (f : Found) → IsMapRun c.layout h → IsRun TreeAllows c.layout (r ⊳ h) → Guarded e ed c h snap (λ k. FoundBy (e.way ed) (e.goal ed) k h f) → Guarded e ed c (r ⊳ h) snap (λ k. FoundBy (e.way ed) (e.goal ed) k (r ⊳ h) f)
+found_guarded_more e ed c h r snap f run run_now = guarded_more e ed c h r snap (λ k. FoundBy (e.way ed) (e.goal ed) k h f) (λ k. FoundBy (e.way ed) (e.goal ed) k (r ⊳ h) f) (λ g. found_by_more (begun_at c g) h r (e.goal ed) f run run_now (e.way ed))
 
 -- snapshots may be used for ever
 pub usable_more : (c : Call) (h : History) (r : Row) (way : Way) (goal : Goal) (f : Found) (snaps : List Snap) → AreUsable c h way goal f snaps → AreUsable c (r ⊳ h) way goal f snaps
-usable_more c h r way goal f snaps x i p = let u = x i p in record { moment = u.moment; within = inr u.within; since = u.since; found = u.found; is = u.is; met = u.met }
+usable_more c h r way goal f snaps x i p = let u = x i p in record { moment = u.moment; within = inr u.within; since = u.since; found = u.found; stood = u.stood; is = u.is; met = u.met }
 
 -- what is read of a named node is what it holds for ever
 module _ (b f : Word → ℕ) (n : ℕ) (same : SameSettled b f n) where
@@ -100,4 +133,5 @@ module _ {E : Type 0} (e : EditMeaning E) where
     need = x.need;
     in_order = x.in_order;
     some = x.some;
+    guarded = found_guarded_more e m.edit c h r m.guard f x.run run x.guarded;
   }

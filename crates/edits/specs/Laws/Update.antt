@@ -13,6 +13,8 @@ use Rattle.prims.specs.Scx.Laws.{scx_keeps, scx_lawful}
 use Rattle.prims.specs.Laws.Scx.Made.{scx_made}
 use Rattle.prims.proofs.Lemmas.{llx_fills_not, over_more, share_by_others, share_by_scx, untaken_at}
 use Rattle.prims.specs.Laws.Idle.{idle_if_finished}
+use Rattle.template.specs.Walk.Steps.{WalkFitsAt, room}
+use Rattle.ordered_map.proofs.MapLemmas.{root_head}
 use Rattle.template.specs.Walk.Laws.{walk_keeps, walk_lawful, walk_made, walk_told}
 use Rattle.template.proofs.Lemmas.{tracks_by_others, tracks_by_scx, walk_fills_not, others_begin_none, own_begins_none, other_kind_begins_none, other_node_begins_none, llx_begins_none, scx_begins_none, walk_begins_none}
 use Rattle.template.specs.declared.walk.Found.{Found}
@@ -23,14 +25,14 @@ use Rattle.edits.specs.declared.edit.Nth.{Nth}
 use Rattle.edits.specs.declared.edit.Nth.TheVariants.{First}
 use Rattle.edits.specs.declared.piece.Piece.{Piece}
 use Rattle.edits.specs.declared.update.UpdateAt.{UpdateAt}
-use Rattle.edits.specs.declared.update.UpdateAt.TheVariants.{Start, Walk, Look, Read, Fill, Scx}
+use Rattle.edits.specs.declared.update.UpdateAt.TheVariants.{Start, Walk, Guard, Look, Read, Fill, Scx}
 use Rattle.edits.specs.declared.update.UpdateRun.{UpdateRun}
 use Rattle.edits.specs.Edits.{EditMeaning}
 use Rattle.edits.specs.Steps.{MaySpend, UpdateFitsAt, UpdateFits}
 use Rattle.edits.specs.Pieces.{nth_node, word_of}
-use Rattle.edits.specs.Known.{RestsWith, IsUntouched, AreFull, Looks, Reads, FillsPiece, Scxs, Walks, WorksAtNode, FirstOrLost, Tries, piece_fill_step, UpdateWaitsAt, UpdateIsToldAt, UpdateWaits, UpdateIsReady, piece, piece_here, top}
+use Rattle.edits.specs.Known.{RestsWith, IsUntouched, AreFull, Guards, WalksGuarded, Looks, Reads, FillsPiece, Scxs, Walks, WorksAtNode, FirstOrLost, Tries, piece_fill_step, UpdateWaitsAt, UpdateIsToldAt, UpdateWaits, UpdateIsReady, piece, piece_here, top}
 use Rattle.edits.specs.Laws.Hand.{HasFilledTo, IsForField, FieldMay, by_others, by_load, blank_by_others, before_by_others, filled_to_more, words_more, taken_now, may_fill}
-use Rattle.edits.specs.Laws.Kept.{quiet_rests, rests_by_others, rests_by_step, looked_more, may_read_more, read_more, works_more}
+use Rattle.edits.specs.Laws.Kept.{found_guarded_more, guarded_more, quiet_rests, rests_by_others, rests_by_step, looked_more, may_read_more, read_more, works_more}
 use Rattle.edits.specs.Laws.Entered.{none_filled_more, none_joined, none_quiet, only_more}
 use Rattle.edits.specs.Laws.NodeFills.{fill_lawful}
 use Rattle.edits.specs.Laws.PieceFills.{HoldsBefore, HoldsUpTo, piece_fill}
@@ -67,6 +69,27 @@ module _ {E : Type 0} (e : EditMeaning E) where
     now = inr x.now;
     quiet = quiet_rests c h r m.share run.lawful (rests_by_others c h r m.share run.lawful other x.rests) x.quiet;
     since = x.since;
+    guarded = found_guarded_more e m.edit c h r m.guard f x.run run x.guarded;
+  }
+
+  -- what it knows at its guard stays so where it stays at rest, and is filled no more
+  guards_more : (m : UpdateRun E UpdateAt) (c : Call) (h : History) (r : Row) (walk : WalkRun) (head : ℕ) (llx : LlxRun) (begin : History) → IsRun TreeAllows c.layout (r ⊳ h) → RestsWith c (r ⊳ h) m.share → (r.pass.0 ≡ c.pass → r.kind ≢ FillKind) → Guards e m c h walk head llx begin → Guards e m c (r ⊳ h) walk head llx begin
+  guards_more m c h r walk head llx begin run rests no_fill x = record {
+    run = (x.run.0, run);
+    small = x.small;
+    may = x.may;
+    rests = rests;
+    quiet = quiet_rests c h r m.share run.lawful rests x.quiet;
+    none_filled = none_filled_more c.pass h r c.start no_fill x.none_filled;
+    same = x.same;
+    same_way = x.same_way;
+    asked = x.asked;
+    at = x.at;
+    root = x.root;
+    told = root_head c.layout (r ⊳ h) (x.run.0, run) ∙ sym (root_head c.layout h x.run) ∙ x.told;
+    is_two = x.is_two;
+    now = inr x.now;
+    since = x.since;
   }
 
   full_by_others : (m : UpdateRun E UpdateAt) (c : Call) (h : History) (r : Row) (f : Found) (nth : Nth) → IsRun TreeAllows c.layout (r ⊳ h) → r.pass.0 ≢ c.pass → HasFilledTo c.layout h c.pass m.share m.nodes.first.0 (top m) (nth_node m.nodes nth).0 (piece e m f) → HasFilledTo c.layout (r ⊳ h) c.pass m.share m.nodes.first.0 (top m) (nth_node m.nodes nth).0 (piece e m f)
@@ -96,11 +119,19 @@ module _ {E : Type 0} (e : EditMeaning E) where
     usable = x.usable;
     quiet = x.quiet;
     leaf = x.leaf;
+    unnamed = x.unnamed;
+    guard = x.guard;
+    ends = x.ends;
   }
 
   kept_at : (m : UpdateRun E UpdateAt) (c : Call) (h : History) (s : Step) (r : Row) (at : UpdateAt) → IsRun TreeAllows c.layout (r ⊳ h) → r.pass.0 ≢ c.pass → UpdateWaitsAt e m c h s at → UpdateWaitsAt e m c (r ⊳ h) s at
   kept_at m c h s r Start run other w = w
-  kept_at m c h s r (Walk walk) run other w = (walks_by_others m c h r walk.way walk.goal run other w.0, walk_keeps walk c h s r run other w.1)
+  kept_at m c h s r (Walk walk) run other w = (
+    walks_by_others m c h r walk.way walk.goal run other w.0,
+    walk_keeps walk c h s r run other w.1,
+    λ past. guarded_more e m.edit c h r m.guard (λ k. WalkWaits walk k h s) (λ k. WalkWaits walk k (r ⊳ h) s) (λ g. walk_keeps walk (begun_at c g) h s r run other) (w.2 past),
+  )
+  kept_at m c h s r (Guard walk head llx) run other w = (w.0, guards_more m c h r walk head llx w.0 run (rests_by_others c h r m.share run.lawful other w.1.rests) (λ own. absurd (other own)) w.1, llx_keeps TreeAllows llx (begun_at c w.0) h s r run other w.2)
   kept_at m c h s r (Look f llx) run other w = (w.0, looks_by_others m c h r f llx w.0 run other w.1, llx_keeps TreeAllows llx (begun_at c w.0) h s r run other w.2)
   kept_at m c h s r (Read f n part) run other w = (
     record {
@@ -134,6 +165,7 @@ module _ {E : Type 0} (e : EditMeaning E) where
   tries_more : (m : UpdateRun E UpdateAt) (c : Call) (b h : History) (r : Row) (at : UpdateAt) → begins_try c.pass r ≡ false → Tries e m c b h at → Tries e m c b (r ⊳ h) at
   tries_more m c b h r Start none x = try_more c b h r m.limit m.tries none x
   tries_more m c b h r (Walk walk) none x = try_at_more c b h r m.limit m.tries none walk.at x
+  tries_more m c b h r (Guard walk head llx) none x = try_more c b h r m.limit m.tries none x
   tries_more m c b h r (Look f llx) none x = try_more c b h r m.limit m.tries none x
   tries_more m c b h r (Read f n part) none x = try_more c b h r m.limit m.tries none x
   tries_more m c b h r (Fill f nth part) none x = try_more c b h r m.limit m.tries none x
@@ -148,6 +180,7 @@ module _ {E : Type 0} (e : EditMeaning E) where
   lawful_at : (m : UpdateRun E UpdateAt) (c : Call) (h : History) (s : Step) (at : UpdateAt) → IsRun TreeAllows c.layout h → UpdateWaitsAt e m c h s at → IsRun TreeAllows c.layout (row_of c s h ⊳ h)
   lawful_at m c h s Start run w = absurd w
   lawful_at m c h s (Walk walk) run w = walk_lawful walk c h s run w.1
+  lawful_at m c h s (Guard walk head llx) run w = llx_lawful TreeAllows llx (begun_at c w.0) h s run w.2
   lawful_at m c h s (Look f llx) run w = llx_lawful TreeAllows llx (begun_at c w.0) h s run w.2
   lawful_at m c h s (Read f n part) run w = load_lawful TreeAllows c h LoadSettled (node n.0 (Settled part)) s run w.1 record { word = tt; same = refl } (λ q. cc) w.0.read.inside.1
   lawful_at m c h s (Fill f nth part) run w = fill_lawful TreeAllows c h (nth_node m.nodes nth).0 part (word_of (piece e m f (nth_node m.nodes nth).0) part) s run w.3
@@ -177,6 +210,7 @@ module _ {E : Type 0} (e : EditMeaning E) where
     now = inr x.now;
     quiet = quiet_rests c h r m.share run.lawful (rests_by_step c h r m.share run.lawful no_fill x.rests) x.quiet;
     since = x.since;
+    guarded = found_guarded_more e m.edit c h r m.guard f x.run run x.guarded;
   }
 
   -- a load changes nothing
@@ -256,22 +290,25 @@ module _ {E : Type 0} (e : EditMeaning E) where
     usable = x.usable;
     quiet = x.quiet;
     leaf = x.leaf;
+    unnamed = x.unnamed;
+    guard = x.guard;
+    ends = x.ends;
   }
 
   -- once the load of the root's head is made, its try has begun just before it
-  module _ (m : UpdateRun E UpdateAt) (c : Call) (b h : History) (s : Step) (v : ℕ) (walk : WalkRun) (run : IsRun TreeAllows c.layout (row_of c s h ⊳ h)) (t : IsTold s.access (value h s.word) v) (first : IsUntouched c b m.share) (x : Walks e m (begun_at c b) h walk.way walk.goal) (w : WalkWaits walk (begun_at c b) h s) where
+  module _ (m : UpdateRun E UpdateAt) (c : Call) (b h : History) (s : Step) (v : ℕ) (walk : WalkRun) (run : IsRun TreeAllows c.layout (row_of c s h ⊳ h)) (t : IsTold s.access (value h s.word) v) (first : IsUntouched c b m.share) (x : Walks e m (begun_at c b) h walk.way walk.goal) (w : WalkWaits walk (begun_at c b) h s) (guarded : WalksGuarded e m (begun_at c b) h walk.at (λ k. WalkWaits walk k h s)) where
     abbrev after : History
     after = row_of c s h ⊳ h
 
     abbrev WalkThen : Type 0
-    WalkThen = (begin : History) × IsTry c begin after m.limit m.tries × IsUntouched c begin m.share × (Walks e m (begun_at c begin) after walk.way walk.goal × WalkIsReady walk (begun_at c begin) after (Some v))
+    WalkThen = (begin : History) × IsTry c begin after m.limit m.tries × IsUntouched c begin m.share × (Walks e m (begun_at c begin) after walk.way walk.goal × WalkIsReady walk (begun_at c begin) after (Some v) × WalksGuarded e m (begun_at c begin) after walk.at (λ k. WalkIsReady walk k after (Some v)))
 
     walks_then : Walks e m (begun_at c b) after walk.way walk.goal
     walks_then = walks_by_step m (begun_at c b) h (row_of c s h) walk.way walk.goal run (walk_fills_not walk (begun_at c b) h s w) x
 
     -- past the root's head it continues
     goes_past : IsPastRoot walk.at → IsTry c b h m.limit m.tries → WalkThen
-    goes_past past try = (b, try_more c b h (row_of c s h) m.limit m.tries (own_begins_none c s h (walk_begins_none walk (begun_at c b) h s past w)) try, first, (walks_then, walk_made walk (begun_at c b) h s v run t w))
+    goes_past past try = (b, try_more c b h (row_of c s h) m.limit m.tries (own_begins_none c s h (walk_begins_none walk (begun_at c b) h s past w)) try, first, (walks_then, walk_made walk (begun_at c b) h s v run t w, λ past. guarded_more e m.edit (begun_at c b) h (row_of c s h) m.guard (λ k. WalkWaits walk k h s) (λ k. WalkIsReady walk k after (Some v)) (λ g. walk_made walk (begun_at (begun_at c b) g) h s v run t) (guarded past)))
 
     begins_try_now : walk.at ≡ walks.Root → MayTry c b h m.limit m.tries → WalkThen
     begins_try_now at may = (
@@ -289,6 +326,7 @@ module _ {E : Type 0} (e : EditMeaning E) where
           same_way = x.same_way;
         },
         walk_made walk (begun_at c h) h s v run t record { run = w.run; may = w.may; small = w.small; since = ends_self h; sure = λ z. let y = w.sure z in record { above = y.above; leaves = y.leaves }; known = subst (WalkKnows (begun_at c h) h walk) (sym at) root; asked = w.asked },
+        λ past. absurd (subst IsPastRoot at past),
       ),
     )
       where
@@ -318,7 +356,19 @@ module _ {E : Type 0} (e : EditMeaning E) where
 
   made_at : (m : UpdateRun E UpdateAt) (c : Call) (b h : History) (s : Step) (v : ℕ) (at : UpdateAt) → IsRun TreeAllows c.layout (row_of c s h ⊳ h) → IsTold s.access (value h s.word) v → Tries e m c b h at → FirstOrLost e m c b at → UpdateWaitsAt e m (begun_at c b) h s at → ToldThen m c (row_of c s h ⊳ h) v at
   made_at m c b h s v Start run t try first w = absurd w
-  made_at m c b h s v (Walk walk) run t try first w = walk_goes m c b h s v walk run t first w.0 w.1 walk.at refl try
+  made_at m c b h s v (Walk walk) run t try first w = walk_goes m c b h s v walk run t first w.0 w.1 w.2 walk.at refl try
+  made_at m c b h s v (Guard walk head llx) run t try first w =
+      let no_fill = llx_fills_not TreeAllows llx (begun_at (begun_at c b) w.0) h s w.2 in (
+        b,
+        try_more c b h (row_of c s h) m.limit m.tries (own_begins_none c s h (llx_begins_none TreeAllows llx (begun_at (begun_at c b) w.0) h s w.2)) try,
+        first,
+        (
+          w.0,
+          guards_more m (begun_at c b) h (row_of c s h) walk head llx w.0 run (rests_by_step (begun_at c b) h (row_of c s h) m.share run.lawful no_fill w.1.rests) (λ own. no_fill) w.1,
+          llx_made TreeAllows llx (begun_at (begun_at c b) w.0) h s v run t w.2,
+          record { row = row_of c s h; before = h; is = refl; since = w.1.now; own = refl },
+        ),
+      )
   made_at m c b h s v (Look f llx) run t try first w = (
     b,
     try_more c b h (row_of c s h) m.limit m.tries (own_begins_none c s h (llx_begins_none TreeAllows llx (begun_at (begun_at c b) w.0) h s w.2)) try,
@@ -351,6 +401,7 @@ module _ {E : Type 0} (e : EditMeaning E) where
   spends_at : (m : UpdateRun E UpdateAt) (c : Call) (h : History) (v : ℕ) (at : UpdateAt) → UpdateIsToldAt e m c h v at → MaySpend e m at
   spends_at m c h v Start x = tt
   spends_at m c h v (Walk walk) x = tt
+  spends_at m c h v (Guard walk head llx) x = tt
   spends_at m c h v (Look f llx) x = x.1.asked
   spends_at m c h v (Read f n part) x = tt
   spends_at m c h v (Fill f nth part) x = x.0.works.some
@@ -366,6 +417,7 @@ module _ {E : Type 0} (e : EditMeaning E) where
   fits_at : (m : UpdateRun E UpdateAt) (c : Call) (h : History) (v nodes : ℕ) (at : UpdateAt) → IsRun TreeAllows c.layout h → UpdateIsToldAt e m c h v at → length (taken_nodes h) ≤ nodes → UpdateFitsAt e m (Some v) nodes at
   fits_at m c h v nodes Start run x few = absurd x
   fits_at m c h v nodes (Walk walk) run x few = walk_told walk c h (Some v) nodes run x.1 few
+  fits_at m c h v nodes (Guard walk head llx) run x few = (x.1.at, subst (λ at. WalkFitsAt at head (room walk.way nodes)) (sym x.1.at) (let top = root_head c.layout h x.1.run in let told = x.1.told in omega (arith, top, told)))
   fits_at m c h v nodes (Look f llx) run x few = x.1.asked
   fits_at m c h v nodes (Read f n part) run x few = (x.0.works.asked, x.0.next)
   fits_at m c h v nodes (Fill f nth part) run x few = tt

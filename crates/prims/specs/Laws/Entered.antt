@@ -44,7 +44,9 @@ filled_entry_at c h m row before l x e w = record {
   since = won_since_start c.layout h m.scx.0 l y c.start x.way.begun.since not_won;
   wins = w;
   logged = rw (← entry) (won_logged c.layout h m.scx.0 l y);
-  found = λ i p. as_found c.layout h before (snap_at m.update.snaps i) (member before m.scx.0 i) (seen before m.scx.0 i) (members i p) (sym (won_words c.layout h m.scx.0 l y (Seen i) tt) ∙ x.found i p) (won_not_final c.layout h m.scx.0 l y i (within i p)) (won_last c.layout h m.scx.0 l y i (within i p));
+  found = λ i p. as_found c.layout h before (snap_at m.update.snaps i) (member before m.scx.0 i) (seen before m.scx.0 i) (members i p) (saw i p) (won_not_final c.layout h m.scx.0 l y i (within i p)) (won_last c.layout h m.scx.0 l y i (within i p));
+  planned = planned;
+  saw = saw;
 }
   where
     y : IsWonAt c.layout h m.scx.0
@@ -57,6 +59,9 @@ filled_entry_at c h m row before l x e w = record {
 
     planned : plan before m.scx.0 ≡ m.update.plan.0
     planned = sym (won_words c.layout h m.scx.0 l y Plan tt) ∙ x.planned
+
+    saw : (i : ℕ) → i < length m.update.snaps → seen before m.scx.0 i ≡ (snap_at m.update.snaps i).scx.0
+    saw i p = sym (won_words c.layout h m.scx.0 l y (Seen i) tt) ∙ x.found i p
 
     counts : count before m.scx.0 ≡ length m.update.snaps
     counts = ap count_of planned ∙ x.over.count

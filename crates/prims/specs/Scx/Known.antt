@@ -200,14 +200,16 @@ update_entry c m =
       new = m.update.fresh.0;
     }
 
--- this row, made since the call's start, has put the update's entry into the log; just before it
--- each node was as its snapshot found it
+-- This row, made since the call's start, has put the update's entry into the log. Just before it
+-- each node was as its snapshot found it, and the SCX-record said what the update is to do.
 pub record IsEntryAt (c : Call) (h : History) (m : ScxRun) (row : Row) (before : History) : Type 0 where
   pub within : Extends h (row ⊳ before)
   pub since : Extends before c.start
   pub wins : IsWin before row m.scx.0
   pub logged : log c.layout (row ⊳ before) ≡ update_entry c.pass m ∷ log c.layout before
   pub found : (i : ℕ) → i < length m.update.snaps → IsAsFound c.layout h before (snap_at m.update.snaps i)
+  pub planned : plan before m.scx.0 ≡ m.update.plan.0
+  pub saw : (i : ℕ) → i < length m.update.snaps → seen before m.scx.0 i ≡ (snap_at m.update.snaps i).scx.0
 
 -- the update's entry is in the log
 pub record HasEntry (c : Call) (h : History) (m : ScxRun) : Type 0 where

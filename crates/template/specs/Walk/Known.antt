@@ -24,12 +24,12 @@ use Rattle.template.specs.declared.walk.WalkRun.{WalkRun}
 use Rattle.template.specs.declared.walk.WalkAt.{WalkAt}
 use Rattle.template.specs.declared.walk.WalkAt.TheVariants.{Start, Root, Head, Key, Child, More, Pair, Value, High}
 
--- A walk may go to this goal by this way: in a tree to each, in a trie to a key.
+-- A walk may go to this goal by this way: within to a key alone.
 abbrev pub MayGo : Layout → Way → Goal → Type 0
 MayGo lay InTree goal = lay.mode ≡ TreeMode
-MayGo lay InTrie (ToKey k) = lay.mode ≡ TrieMode
+MayGo lay InTrie goal = lay.mode ≡ TrieMode
 MayGo lay Within (ToKey k) = lay.mode ≡ TrieMode
-MayGo lay way (End side) = ⊥
+MayGo lay Within (End side) = ⊥
 
 -- what a word of the node that the walk has reached holds
 abbrev pub here : History → WalkRun → NodeWord → ℕ

@@ -196,9 +196,8 @@ walk_made m c h s v run t w = record {
 -- no node that was walked to is deeper than the taken nodes allow, or a trie
 deep_by : (lay : Layout) (way : Way) (goal : Goal) (taken nodes l : ℕ) → MayGo lay way goal → taken ≤ nodes → l < depth_in lay.mode taken → l < 2 + room way nodes
 deep_by lay InTree goal taken nodes l may few deep = let d : l < 2 + taken = subst (λ mode. l < depth_in mode taken) may deep in omega (arith, d, few)
-deep_by lay InTrie (ToKey k) taken nodes l may few deep = subst (λ mode. l < depth_in mode taken) may deep
+deep_by lay InTrie goal taken nodes l may few deep = subst (λ mode. l < depth_in mode taken) may deep
 deep_by lay Within (ToKey k) taken nodes l may few deep = subst (λ mode. l < depth_in mode taken) may deep
-deep_by lay InTrie (End side) taken nodes l may few deep = absurd may
 deep_by lay Within (End side) taken nodes l may few deep = absurd may
 
 module _ (m : WalkRun) (c : Call) (h : History) (nodes : ℕ) (g : IsMapRun c.layout h) (may : MayGo c.layout m.way m.goal) (few : length (taken_nodes h) ≤ nodes) where

@@ -5,10 +5,12 @@ use Rattle.template.specs.Common.{nodes_in_try, applies, edit_to, leaves, Goal, 
 use Rattle.template.specs.declared.walk.Found.{Found}
 use Rattle.template.specs.declared.walk.Way.{Way}
 use Rattle.template.specs.declared.walk.Way.TheVariants.{InTree, InTrie, Within}
+use Rattle.tree.specs.declared.pop.PopPair.{PopPair}
 use Rattle.tree.specs.declared.take.TakePair.{TakePair}
 use Rattle.tree.specs.declared.put.PutPair.{PutPair}
 use Rattle.tree.specs.declared.key_edit.KeyEdit.{KeyEdit}
 use Rattle.tree.specs.Take.Means.{take_means}
+use Rattle.tree.specs.Pop.Means.{pop_means}
 use Rattle.tree.specs.Put.Means.{put_means}
 use Rattle.edits.specs.Edits.{EditMeaning, through}
 use Rattle.edits.specs.Pieces.{no_work}
@@ -22,28 +24,35 @@ abbrev pub putting : Bool → ℕ → ℕ → PutPair
 putting trie key value = record { key = key; value = value; trie = trie }
 
 -- what takes the key out
-abbrev pub taking : ℕ → TakePair
-taking key = record { key = key }
+abbrev pub taking : Bool → ℕ → TakePair
+taking trie key = record { key = key; trie = trie }
 
--- what leaves this value to a key does what puts it there; what leaves none, what takes the key out
-abbrev pub doing : Bool → Option ℕ → EditMeaning ℕ
-doing in_trie (Some value) = through put_means (λ key. putting in_trie key value)
-doing in_trie None = through take_means taking
+-- and what takes out the one that was found at an end of a trie
+abbrev pub popping : ℕ → PopPair
+popping key = record { key = key }
+
+-- what leaves this value to a key does what puts it there; what leaves none, what takes the key
+-- out: `end` says whether that is at an end of a trie
+abbrev pub doing : Bool → Bool → Option ℕ → EditMeaning ℕ
+doing end in_trie (Some value) = through put_means (λ key. putting in_trie key value)
+doing false in_trie None = through take_means (taking in_trie)
+doing true in_trie None = through pop_means popping
 
 -- the edit that leaves this to a key
-abbrev pub leaving : Bool → Option ℕ → EditMeaning ℕ
-leaving trie left = record {
+abbrev pub leaving : Bool → Bool → Option ℕ → EditMeaning ℕ
+leaving end trie left = record {
   goal = λ key. Key key;
-  way = λ key. (doing trie left).way key;
+  way = λ key. (doing end trie left).way key;
+  guard = λ key. (doing end trie left).guard 0;
   edit = λ key f. edit_to key left;
-  work = (doing trie left).work;
-  most_nodes = λ key. (doing trie left).most_nodes 0;
-  looks = (doing trie left).looks;
-  most_looks = λ key. (doing trie left).most_looks 0;
-  reads = (doing trie left).reads;
-  most_reads = λ key. (doing trie left).most_reads 0;
-  pieces = (doing trie left).pieces;
-  most_fills = λ key. (doing trie left).most_fills 0;
+  work = (doing end trie left).work;
+  most_nodes = λ key. (doing end trie left).most_nodes 0;
+  looks = (doing end trie left).looks;
+  most_looks = λ key. (doing end trie left).most_looks 0;
+  reads = (doing end trie left).reads;
+  most_reads = λ key. (doing end trie left).most_reads 0;
+  pieces = (doing end trie left).pieces;
+  most_fills = λ key. (doing end trie left).most_fills 0;
 }
 
 -- At a goal
@@ -55,15 +64,21 @@ wants (Key k) rule found = applies rule found
 wants (End side) rule (Some value) = applies rule (Some value)
 wants (End side) rule None = false
 
--- where what leaves this walks in a trie, which takes nothing out yet: what puts in what was absent ends at a
--- fork that its key does not share
-abbrev pub way_by : Bool → Option ℕ → Bool → Way
-way_by false left absent = InTree
-way_by true None absent = InTree
-way_by true (Some value) absent = if absent then Within else InTrie
+-- whether a goal is an end of a trie
+abbrev pub is_trie_end : Goal → Bool → Bool
+is_trie_end (Key k) in_trie = false
+is_trie_end (End side) in_trie = in_trie
 
-abbrev pub way_of : Bool → Rule → Way
-way_of in_trie rule = way_by in_trie (leaves rule) (applies rule None)
+-- where what leaves this walks: in a trie what puts in what was absent ends at a fork that its key
+-- does not share; at an end of one nothing is put in
+abbrev pub way_by : Goal → Bool → Option ℕ → Bool → Way
+way_by goal false left absent = InTree
+way_by goal true None absent = InTrie
+way_by (Key k) true (Some value) absent = if absent then Within else InTrie
+way_by (End side) true (Some value) absent = Within
+
+abbrev pub way_of : Goal → Bool → Rule → Way
+way_of goal in_trie rule = way_by goal in_trie (leaves rule) (applies rule None)
 
 -- `goal`, `trie` and `rule` are the edit's as values
 module _ {G R : Type 0} (goal : G → Goal) (trie : G → Bool) (rule : R → Rule) where
@@ -73,13 +88,14 @@ module _ {G R : Type 0} (goal : G → Goal) (trie : G → Bool) (rule : R → Ru
 
   -- what it does at that key
   abbrev pub part : KeyEdit G R → EditMeaning ℕ
-  part e = leaving (trie e.goal) (leaves (rule e.rule))
+  part e = leaving (is_trie_end (goal e.goal) (trie e.goal)) (trie e.goal) (leaves (rule e.rule))
 
   -- it does so where it changes anything
   abbrev pub key_means : EditMeaning (KeyEdit G R)
   key_means = record {
     goal = λ e. goal e.goal;
-    way = λ e. way_of (trie e.goal) (rule e.rule);
+    way = λ e. way_of (goal e.goal) (trie e.goal) (rule e.rule);
+    guard = λ e. (part e).guard 0;
     edit = λ e f. edit_to (key_at e f) (leaves (rule e.rule));
     work = λ e f. if wants (goal e.goal) (rule e.rule) f.value then (part e).work (key_at e f) f else no_work;
     most_nodes = λ e. nodes_in_try (rule e.rule);

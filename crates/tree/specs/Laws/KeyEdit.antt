@@ -1,23 +1,26 @@
 -- What an edit looks at, reads and fills, and that it makes its edit: where it changes anything, it
 -- does at its key what leaves its value there.
 use Rattle.std.proofs.Common.{◌≡◌, ◌≢◌, ℕ, ◌^◌, ◌<◌, inl, Bool, true, false, cond, List, Option, Some, None, refl, sym, ◌∙◌, ap, subst, arith}
-use Rattle.histories.specs.Common.{History, value, Call, Side}
-use Rattle.template.specs.Common.{snap_at, IsUpdateOver, Snap, edit_key, edit_to, leaves, IsMapRun, class, Goal, Key, End, Rule, FoundBy, HasFoundGoal, MayGo, applies, asked_key, asked_in, path_key}
+use Rattle.histories.specs.Common.{History, value, Call, Side, begun_at}
+use Rattle.template.specs.Common.{snap_at, IsUpdateOver, Snap, Update, edit_key, edit_to, leaves, IsMapRun, class, Goal, Key, End, Rule, FoundBy, HasFoundGoal, MayGo, applies, asked_key, asked_in, path_key}
 use Rattle.ordered_map.proofs.MapLemmas.{run_since}
 use Rattle.template.specs.declared.walk.Found.{Found}
 use Rattle.template.proofs.Lemmas.{found_own, found_small, parent_surely, said_low}
 use Rattle.tree.specs.declared.key_edit.KeyEdit.{KeyEdit}
 use Rattle.tree.specs.KeyEdit.Laws.{key_bounds, leaving_bounds}
-use Rattle.tree.specs.KeyEdit.Means.{doing, key_at, key_means, leaving, part, putting, taking, wants, way_by, way_of}
+use Rattle.tree.specs.KeyEdit.Means.{doing, is_trie_end, key_at, key_means, leaving, part, popping, putting, taking, wants, way_by, way_of}
+use Rattle.tree.specs.Laws.Pop.Sound.{pop_laws}
 use Rattle.tree.specs.Laws.Put.Sound.{put_laws}
 use Rattle.tree.specs.Laws.Take.Sound.{take_laws}
+use Rattle.tree.specs.Pop.Means.{pop_means}
 use Rattle.tree.specs.Put.Means.{put_means}
 use Rattle.tree.specs.Take.Means.{take_means}
 use Rattle.edits.specs.declared.edit.Nodes.{Nodes}
 use Rattle.edits.specs.declared.edit.Work.{Work}
 use Rattle.edits.specs.declared.reading.Reading.{Reading}
-use Rattle.edits.specs.Edits.{EditBounds, EditMeaning, through}
-use Rattle.edits.specs.Known.{HasFilledAll, HasLooked, HasSnappedAfterWalk, IsNeeded, StandInRow}
+use Rattle.edits.specs.Edits.{EditBounds, EditMeaning, covering, through}
+use Rattle.template.specs.declared.walk.Way.TheVariants.{InTree, InTrie, Within}
+use Rattle.edits.specs.Known.{CoversEnd, CoversLeaf, Guarded, HasFilledAll, HasLooked, HasSnappedAfterWalk, IsNeeded, StandInRow}
 use Rattle.edits.specs.Pieces.{no_work, update_for}
 use Rattle.edits.specs.Sound.{EditLaws, FillsWell, LooksWell, MakesWell}
 
@@ -26,18 +29,19 @@ use Rattle.edits.specs.Sound.{EditLaws, FillsWell, LooksWell, MakesWell}
 -- what does at each of its keys what another edit does has its laws: `of` is the other one there
 module _ {E F : Type 0} (m : EditMeaning E) (of : F → E) (laws : EditLaws m) where
   looks_through : LooksWell (through m of)
-  looks_through = record { opens = λ e. laws.looks.opens (of e); stood = λ e. laws.looks.stood (of e); differs = λ e. laws.looks.differs (of e); reads = λ e. laws.looks.reads (of e) }
+  looks_through = record { there = λ e. laws.looks.there (of e); stood = λ e. laws.looks.stood (of e); differs = λ e. laws.looks.differs (of e); reads = λ e. laws.looks.reads (of e) }
 
   makes_through : MakesWell (through m of)
-  makes_through = record { over = λ e. laws.makes.over (of e); leaf = λ e. laws.makes.leaf (of e); promised = λ e. laws.makes.promised (of e) }
+  makes_through = record { over = λ e. laws.makes.over (of e); leaf = λ e. laws.makes.leaf (of e); ends = λ e. laws.makes.ends (of e); promised = λ e. laws.makes.promised (of e) }
 
   laws_through : EditBounds (through m of) → EditLaws (through m of)
-  laws_through bounds = record { at_found = λ e. laws.at_found (of e); bounds = bounds; looks = looks_through; fills = record { fields = λ e. laws.fills.fields (of e) }; makes = makes_through }
+  laws_through bounds = record { at_found = λ e. laws.at_found (of e); at_end = λ e. laws.at_end (of e); bounds = bounds; looks = looks_through; fills = record { fields = λ e. laws.fills.fields (of e) }; makes = makes_through }
 
 -- what leaves this to a key
-pub leaving_laws : (trie : Bool) (left : Option ℕ) → EditLaws (leaving trie left)
-leaving_laws in_trie (Some value) = laws_through put_means (λ key. putting in_trie key value) put_laws (leaving_bounds in_trie (Some value))
-leaving_laws in_trie None = laws_through take_means taking take_laws (leaving_bounds in_trie None)
+pub leaving_laws : (end trie : Bool) (left : Option ℕ) → EditLaws (leaving end trie left)
+leaving_laws end in_trie (Some value) = laws_through put_means (λ key. putting in_trie key value) put_laws (leaving_bounds end in_trie (Some value))
+leaving_laws false in_trie None = laws_through take_means (taking in_trie) take_laws (leaving_bounds false in_trie None)
+leaving_laws true in_trie None = laws_through pop_means popping pop_laws (leaving_bounds true in_trie None)
 
 -- At a goal
 
@@ -69,30 +73,40 @@ found_there k rule f wanted absent none = let x : true ≡ false = sym (subst (�
 
 -- so it is by the way of what it does at that key
 module _ (c : Call) (f : Found) (rule : Rule) where
-  own_found : (goal : Goal) (trie : Bool) (left : Option ℕ) (absent : Bool) → applies rule None ≡ absent → wants goal rule f.value ≡ true → (m : History) → IsMapRun c.layout m → path_key goal < 2 ^ 64 → MayGo c.layout (way_by trie left absent) goal → FoundBy (way_by trie left absent) goal c m f → FoundBy ((doing trie left).way (asked_key goal f.key)) (Key (asked_key goal f.key)) c m f
-  own_found goal false None absent is wanted m run small may a = own_leaf goal c f rule wanted m run a
-  own_found goal false (Some v) absent is wanted m run small may a = own_leaf goal c f rule wanted m run a
-  own_found goal true None absent is wanted m run small may a = own_leaf goal c f rule wanted m run a
+  own_found : (goal : Goal) (trie : Bool) (left : Option ℕ) (absent : Bool) → applies rule None ≡ absent → wants goal rule f.value ≡ true → (m : History) → IsMapRun c.layout m → path_key goal < 2 ^ 64 → MayGo c.layout (way_by goal trie left absent) goal → FoundBy (way_by goal trie left absent) goal c m f → FoundBy ((doing (is_trie_end goal trie) trie left).way (asked_key goal f.key)) (Key (asked_key goal f.key)) c m f
+  own_found (Key k) false None absent is wanted m run small may a = a
+  own_found (Key k) false (Some v) absent is wanted m run small may a = a
+  own_found (Key k) true None absent is wanted m run small may a = a
   own_found (Key k) true (Some v) true is wanted m run small may a = a
   own_found (Key k) true (Some v) false is wanted m run small may a = inl record { found = a; stays = λ d. (parent_surely c m k f small run a (found_there k rule f wanted is)).stays }
-  own_found (End side) true (Some v) true is wanted m run small may a = absurd may
-  own_found (End side) true (Some v) false is wanted m run small may a = absurd may
+  own_found (End side) false None absent is wanted m run small may a = own_leaf (End side) c f rule wanted m run a
+  own_found (End side) false (Some v) absent is wanted m run small may a = own_leaf (End side) c f rule wanted m run a
+  own_found (End side) true None absent is wanted m run small may a = own_leaf (End side) c f rule wanted m run a
+  own_found (End side) true (Some v) absent is wanted m run small may a = absurd may
 
-  own_may : (goal : Goal) (trie : Bool) (left : Option ℕ) (absent : Bool) → MayGo c.layout (way_by trie left absent) goal → MayGo c.layout ((doing trie left).way (asked_key goal f.key)) (Key (asked_key goal f.key))
-  own_may goal false None absent may = may
-  own_may goal false (Some v) absent may = may
-  own_may goal true None absent may = may
+  own_may : (goal : Goal) (trie : Bool) (left : Option ℕ) (absent : Bool) → MayGo c.layout (way_by goal trie left absent) goal → MayGo c.layout ((doing (is_trie_end goal trie) trie left).way (asked_key goal f.key)) (Key (asked_key goal f.key))
+  own_may (Key k) false None absent may = may
+  own_may (Key k) false (Some v) absent may = may
+  own_may (Key k) true None absent may = may
   own_may (Key k) true (Some v) true may = may
   own_may (Key k) true (Some v) false may = may
-  own_may (End side) true (Some v) true may = absurd may
-  own_may (End side) true (Some v) false may = absurd may
+  own_may (End side) false None absent may = may
+  own_may (End side) false (Some v) absent may = may
+  own_may (End side) true None absent may = may
+  own_may (End side) true (Some v) absent may = absurd may
 
-  own_small : (goal : Goal) (trie : Bool) (left : Option ℕ) (absent : Bool) (h : History) → IsMapRun c.layout h → path_key goal < 2 ^ 64 → MayGo c.layout (way_by trie left absent) goal → FoundBy (way_by trie left absent) goal c h f → asked_key goal f.key < 2 ^ 64
+  own_small : (goal : Goal) (trie : Bool) (left : Option ℕ) (absent : Bool) (h : History) → IsMapRun c.layout h → path_key goal < 2 ^ 64 → MayGo c.layout (way_by goal trie left absent) goal → FoundBy (way_by goal trie left absent) goal c h f → asked_key goal f.key < 2 ^ 64
   own_small (Key k) in_trie left absent h run small may found = small
   own_small (End side) false left absent h run small may found = found_small (End side) c h f run small found
   own_small (End side) true None absent h run small may found = found_small (End side) c h f run small found
-  own_small (End side) true (Some v) true h run small may found = absurd may
-  own_small (End side) true (Some v) false h run small may found = absurd may
+  own_small (End side) true (Some v) absent h run small may found = absurd may
+
+-- at an end of a trie it has a guard
+end_guarded : (goal : Goal) (trie : Bool) (left : Option ℕ) (absent : Bool) (side : Side) → goal ≡ End side → way_by goal trie left absent ≡ InTrie → (leaving (is_trie_end goal trie) trie left).guard 0 ≡ true
+end_guarded (Key k) in_trie left absent side is by = absurd (let x : Key k ≡ End side = is in cc)
+end_guarded (End end) false left absent side is by = absurd (let x : InTree ≡ InTrie = by in cc)
+end_guarded (End end) true None absent side is by = refl
+end_guarded (End end) true (Some v) absent side is by = absurd (let x : Within ≡ InTrie = by in cc)
 
 -- what there is to do where something is wanted
 is_wanted : (b : Bool) (work : Work) → 0 < (cond b work no_work).need → b ≡ true
@@ -110,7 +124,7 @@ module _ {G R : Type 0} (goal : G → Goal) (trie : G → Bool) (rule : R → Ru
   does e = part goal trie rule e
 
   abbrev laws_of : (e : Edit) → EditLaws (part goal trie rule e)
-  laws_of e = leaving_laws (trie e.goal) (leaves (rule e.rule))
+  laws_of e = leaving_laws (is_trie_end (goal e.goal) (trie e.goal)) (trie e.goal) (leaves (rule e.rule))
 
   abbrev IsNeeding : Edit → Found → Type 0
   IsNeeding e f = 0 < ((key_means goal trie rule).work e f).need
@@ -135,8 +149,12 @@ module _ {G R : Type 0} (goal : G → Goal) (trie : G → Bool) (rule : R → Ru
       seen = x.seen;
     }
       where
-        own_snapped : (s : Snap) → HasSnappedAfterWalk c h (way_of (trie e.goal) (rule e.rule)) (goal e.goal) f s → HasSnappedAfterWalk c h ((does e).way (at e f)) (Key (at e f)) f s
-        own_snapped s u = record { moment = u.moment; within = u.within; since = u.since; found = own_found c f (rule e.rule) (goal e.goal) (trie e.goal) (leaves (rule e.rule)) (applies (rule e.rule) None) refl wanted u.moment (run_since c.layout h u.moment run u.within) x.small x.may u.found; is = u.is; met = u.met }
+        own_snapped : (s : Snap) → HasSnappedAfterWalk c h (way_of (goal e.goal) (trie e.goal) (rule e.rule)) (goal e.goal) f s → HasSnappedAfterWalk c h ((does e).way (at e f)) (Key (at e f)) f s
+        own_snapped s u = record { moment = u.moment; within = u.within; since = u.since; found = own_found c f (rule e.rule) (goal e.goal) (trie e.goal) (leaves (rule e.rule)) (applies (rule e.rule) None) refl wanted u.moment (run_since c.layout h u.moment run u.within) x.small x.may u.found; stood = u.stood; is = u.is; met = u.met }
+
+    -- and so is what was found of the call from its guard on
+    pub own_guarded : (c : Call) (h : History) (snap : Snap) {snaps : List Snap} → IsMapRun c.layout h → HasLooked (key_means goal trie rule) c h e f snaps → Guarded (key_means goal trie rule) e c h snap (λ k. FoundBy (way_of (goal e.goal) (trie e.goal) (rule e.rule)) (goal e.goal) k h f) → Guarded (does e) (at e f) c h snap (λ k. FoundBy ((does e).way (at e f)) (Key (at e f)) k h f)
+    own_guarded c h snap run x guarded is = let y = guarded is in (y.0, y.1, own_found (begun_at c y.0) f (rule e.rule) (goal e.goal) (trie e.goal) (leaves (rule e.rule)) (applies (rule e.rule) None) refl wanted h run x.small x.may y.2)
 
     own_filled : (c : Call) (h : History) (snaps : List Snap) (ns : Nodes) (read : Reading) → IsMapRun c.layout h → HasFilledAll (key_means goal trie rule) c h e f snaps ns read → HasFilledAll (does e) c h (at e f) f snaps ns read
     own_filled c h snaps ns read run x = record {
@@ -153,7 +171,7 @@ module _ {G R : Type 0} (goal : G → Goal) (trie : G → Bool) (rule : R → Ru
 
   key_looks : LooksWell (key_means goal trie rule)
   key_looks = record {
-    opens = λ e c h f snaps n run d x is. (laws_of e).looks.opens (at e f) c h f snaps n run (own_needed e f d) (own_looked e f d c h snaps run x) is;
+    there = λ e c h f snaps n run d x is. (laws_of e).looks.there (at e f) c h f snaps n run (own_needed e f d) (own_looked e f d c h snaps run x) is;
     stood = λ e c h f snaps n run d x is. (laws_of e).looks.stood (at e f) c h f snaps n run (own_needed e f d) (own_looked e f d c h snaps run x) is;
     differs = λ e c h f snaps n s run d x is quiet. (laws_of e).looks.differs (at e f) c h f snaps n s run (own_needed e f d) (own_looked e f d c h snaps run x) is quiet;
     reads = λ e c h f snaps y run d x enough is. (laws_of e).looks.reads (at e f) c h f snaps y run (own_needed e f d) (own_looked e f d c h snaps run x) enough is;
@@ -168,11 +186,12 @@ module _ {G R : Type 0} (goal : G → Goal) (trie : G → Bool) (rule : R → Ru
 
   key_makes : MakesWell (key_means goal trie rule)
   key_makes = record {
-    over = λ e c h f snaps ns run d x enough. subst IsUpdateOver (sym (own_update e f d snaps ns)) ((laws_of e).makes.over (at e f) c h f snaps ns run (own_needed e f d) (own_looked e f d c h snaps run x) enough);
-    leaf = λ e c h f snaps s run d x enough. (laws_of e).makes.leaf (at e f) c h f snaps s run (own_needed e f d) (own_looked e f d c h snaps run x) enough;
-    promised = λ e c h f snaps ns read j d run n x is says. (laws_of e).makes.promised (at e f) c h f snaps ns read j d run (own_needed e f n) (own_filled e f n c h snaps ns read run x) (is ∙ own_update e f n snaps ns) says;
+    over = λ e c h f snaps guard ns run d x enough two. subst IsUpdateOver (sym (own_update e f d (covering ((does e).guard 0) snaps guard) ns)) ((laws_of e).makes.over (at e f) c h f snaps guard ns run (own_needed e f d) (own_looked e f d c h snaps run x) enough two);
+    leaf = λ e c h f snaps guard ns s run d x enough. subst (λ (u : Update). CoversLeaf (key_means goal trie rule) e f c h s u) (sym (own_update e f d (covering ((does e).guard 0) snaps guard) ns)) ((laws_of e).makes.leaf (at e f) c h f snaps guard ns s run (own_needed e f d) (own_looked e f d c h snaps run x) enough);
+    ends = λ e c h f snaps guard ns s run d x enough is. subst (λ (u : Update). CoversEnd f c h s u) (sym (own_update e f d (covering ((does e).guard 0) snaps guard) ns)) ((laws_of e).makes.ends (at e f) c h f snaps guard ns s run (own_needed e f d) (own_looked e f d c h snaps run x) enough is);
+    promised = λ e c h f snaps guard ns read j d run n x two is says. (laws_of e).makes.promised (at e f) c h f snaps guard ns read j d run (own_needed e f n) (own_filled e f n c h snaps ns read run x) two (is ∙ own_update e f n (covering ((does e).guard 0) snaps guard) ns) says;
   }
 
   -- it is an edit that an update can make
   pub key_laws : EditLaws (key_means goal trie rule)
-  key_laws = record { at_found = λ e f. at_goal (leaves (rule e.rule)) (at e f); bounds = key_bounds goal trie rule; looks = key_looks; fills = key_fills; makes = key_makes }
+  key_laws = record { at_found = λ e f. at_goal (leaves (rule e.rule)) (at e f); at_end = λ e side is by. end_guarded (goal e.goal) (trie e.goal) (leaves (rule e.rule)) (applies (rule e.rule) None) side is by; bounds = key_bounds goal trie rule; looks = key_looks; fills = key_fills; makes = key_makes }

@@ -5,7 +5,7 @@ use Rattle.arena.specs.declared.limits.Mode.TheVariants.{Trie as TrieMode}
 use Rattle.histories.specs.Common.{Mode, Tree as TreeMode, NodeNo, ScxNo, Side, Left, Right, History, value, Extends, Call, IsPlan, count, count_of, field_index_of, side_of, Descriptor}
 use Rattle.arena.proofs.Lemmas.{ends_self, ends_trans}
 use Rattle.prims.specs.Laws.Idle.{IsQuietSince}
-use Rattle.template.specs.Common.{IsOpened, IsUpdateOver, Job, Says, child_of, snap_at, AreDistinct, Snap, Update, held_pairs, IsWellCounted, AllBelow}
+use Rattle.template.specs.Common.{IsUpdateOver, Job, Says, child_of, snap_at, AreDistinct, Snap, Update, held_pairs, IsWellCounted, AllBelow}
 use Rattle.template.specs.Common.{IsRising, MapEdit, WasInTree, IsMapRun, leaf_plan, edit_leaf, class, is_leaf, HasTurned, HasFoundLeaf, HasFoundFork, Key as ToKey, IsContended, WasNotFinal}
 use Rattle.ordered_map.specs.EditPlans.{above_plan}
 use Rattle.ordered_map.proofs.Lemmas.{held_count}
@@ -14,7 +14,7 @@ use Rattle.template.specs.FreshNodes.{IsLeafEditAt, IsAboveAt}
 use Rattle.template.specs.Trails.{OnTrail, IsSurelyOn}
 use Rattle.template.specs.declared.walk.Found.{Found}
 use Rattle.template.specs.declared.walk.Way.{Way}
-use Rattle.template.proofs.Lemmas.{child_on, found_below, found_holds, found_trail, found_under, leaf_edit_words, opened_if_stood, own_since, surely_on}
+use Rattle.template.proofs.Lemmas.{child_on, found_below, found_holds, found_stood, found_trail, found_under, leaf_edit_words, own_since, surely_on}
 use Rattle.tree.specs.LeafEdit.{leaf_looks, leaf_reads}
 use Rattle.tree.specs.Laws.Looks.{same_node, goes_on, not_enough, is_other}
 use Rattle.edits.specs.declared.edit.Look.TheVariants.{At, Differs, Enough}
@@ -35,13 +35,14 @@ no_trie tree trie = absurd (let x : TreeMode ≡ TrieMode = sym tree ∙ trie in
 
 -- What it looks at
 
--- What is known of what was found at a key, and of this leaf, which is covered besides the fork above that:
--- that fork is surely on the path of the key, and an LLX may look at the leaf, which was not final.
+-- What is known of what was found at a key, and of this leaf, which is covered besides the fork
+-- above that: that fork is surely on the path of the key, and the leaf was in the tree, and not
+-- final.
 pub record IsCovering (k : ℕ) (c : Call) (h : History) (f : Found) (next : NodeNo) : Type 0 where
   pub trail : OnTrail c h k f.trail
   pub below : f.trail.node.0 ≢ 0
   pub parent : IsSurelyOn c h k f.trail.parent.0
-  pub opened : IsOpened c.layout h next.0
+  pub there : WasInTree h next.0
   pub not_final : WasNotFinal c h next.0
   pub leaf : is_leaf (value h) next.0 ≡ true
 
@@ -51,7 +52,7 @@ covering_leaf k c h f run a parent = record {
   trail = a.trail;
   below = found_below (ToKey k) c h f run a;
   parent = parent;
-  opened = found_opened (ToKey k) c h run f a;
+  there = found_stood (ToKey k) c h f run a;
   not_final = passed_not_final c h k f.trail.node.0 run (child_on c h k f.trail.parent.0 f.trail.side f.trail.node.0 run (a.trail.parent (found_below (ToKey k) c h f run a)) parent.stays);
   leaf = a.leaf;
 }
@@ -62,7 +63,7 @@ covering_two k c h f run a = record {
   trail = a.trail;
   below = a.below;
   parent = parent;
-  opened = opened_if_stood c.layout h 2 run two.0;
+  there = two.0;
   not_final = record { moment = h; within = ends_self h; since = since; was = two_not_final c.layout h run };
   leaf = two.1;
 }
@@ -83,15 +84,15 @@ looks_at f next (p ∷ []) n e = inr (goes_on ((child_of p f.trail.side).0 == f.
 looks_at f next (p ∷ l ∷ snaps) n e = absurd (let d : Enough ≡ At n = e in cc)
 
 module _ (k : ℕ) (c : Call) (h : History) (f : Found) (next : NodeNo) (snaps : List Snap) (run : IsMapRun c.layout h) (x : IsCovering k c h f next) where
-  pub leaf_opens : (n : NodeNo) → leaf_looks f next snaps ≡ At n → IsOpened c.layout h n.0
-  leaf_opens n e = go (looks_at f next snaps n e)
+  pub leaf_there : (n : NodeNo) → leaf_looks f next snaps ≡ At n → WasInTree h n.0
+  leaf_there n e = go (looks_at f next snaps n e)
     where
-      parent : IsOpened c.layout h f.trail.parent.0
-      parent = let t = (x.trail.parent x.below).passed in opened_if_stood c.layout h f.trail.parent.0 run (walked_stood c.layout h t.first k f.trail.parent.0 t.passed)
+      parent : WasInTree h f.trail.parent.0
+      parent = let t = (x.trail.parent x.below).passed in walked_stood c.layout h t.first k f.trail.parent.0 t.passed
 
-      go : (f.trail.parent ≡ n) ⊎ (next ≡ n) → IsOpened c.layout h n.0
-      go (inl q) = subst (λ (m : NodeNo). IsOpened c.layout h m.0) q parent
-      go (inr q) = subst (λ (m : NodeNo). IsOpened c.layout h m.0) q x.opened
+      go : (f.trail.parent ≡ n) ⊎ (next ≡ n) → WasInTree h n.0
+      go (inl q) = subst (λ (m : NodeNo). WasInTree h m.0) q parent
+      go (inr q) = subst (λ (m : NodeNo). WasInTree h m.0) q x.there
 
   -- neither was final
   pub leaf_stood : (n : NodeNo) → leaf_looks f next snaps ≡ At n → WasNotFinal c h n.0
@@ -123,8 +124,8 @@ leaf_differs k c h way f next (p ∷ []) n s run x e quiet = rw (sym other.1, sy
     apart : (child_of p f.trail.side).0 ≢ f.trail.node.0
     apart q = let d : false ≡ true = sym other.0 ∙ eq-eqb (child_of p f.trail.side).0 f.trail.node.0 q in cc
 
--- once it has looked at enough, it has a snapshot of the parent and one of the leaf, and what was found is
--- still the parent's child
+-- once it has looked at enough, it has a snapshot of the parent and one of the leaf, and what was
+-- found is still the parent's child
 pub record HasBoth (f : Found) (next : NodeNo) (snaps : List Snap) : Type 0 where
   pub two : length snaps ≡ 2
   pub parent : (snap_at snaps 0).node.0 ≡ f.trail.parent.0
@@ -146,13 +147,13 @@ has_both f next (p ∷ l ∷ []) e x =
 has_both f next (p ∷ l ∷ s ∷ snaps) e x = absurd (let d : Enough ≡ At s.node = x 2 (omega arith) in cc)
 
 -- the SCX-record of both covers that leaf at its second place
-pub leaf_covered : (e : MapEdit) (f : Found) (next : NodeNo) (snaps : List Snap) (k : History) (s : ℕ) → HasBoth f next snaps → CoversSnaps k s snaps → edit_leaf k s e ≡ next.0
-leaf_covered e f next snaps k s both covers =
+pub leaf_covered : (e : MapEdit) (f : Found) (next : NodeNo) (snaps : List Snap) (ns : Nodes) (w : Work) (k : History) (s : ℕ) → HasBoth f next snaps → CoversSnaps k s (update_for w snaps ns) → edit_leaf k s e ≡ next.0
+leaf_covered e f next snaps ns w k s both covers =
     let two : count k s ≡ 2 = covers.count ∙ both.two in
     rw (ne_eqb (count k s) 4 (λ four. omega (arith, two, four))) (covers.members 1 (let few = both.two in omega (arith, few)) ∙ both.leaf)
 
 -- the parent is a fork, and so is not the leaf
-leaf_distinct : (k : ℕ) (c : Call) (h : History) (f : Found) (next : NodeNo) (snaps : List Snap) → IsCovering k c h f next → HasBoth f next snaps → AreDistinct snaps
+pub leaf_distinct : (k : ℕ) (c : Call) (h : History) (f : Found) (next : NodeNo) (snaps : List Snap) → IsCovering k c h f next → HasBoth f next snaps → AreDistinct snaps
 leaf_distinct k c h f next snaps x both i j p q d e = go (two_places i j (rw both.two at p) (rw both.two at q) d)
   where
     apart : f.trail.parent.0 ≢ next.0

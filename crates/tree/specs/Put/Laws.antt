@@ -5,7 +5,7 @@ use Rattle.std.proofs.Math.Decide.{dec_lt}
 use Rattle.template.specs.Common.{Snap, Pair, pair, insert}
 use Rattle.template.specs.declared.walk.Found.{Found}
 use Rattle.tree.specs.LeafEdit.{leaf_looks, leaf_reads}
-use Rattle.tree.specs.Put.Means.{put_means, put_need, put_pieces, put_reads, put_work, put_work_by, above_pieces, next_node, parted_pieces, parts_by, place_of, splits, strays, lower, split_or_leaf, split_pieces, pairs_with, second_pairs}
+use Rattle.tree.specs.Put.Means.{put_means, put_need, put_pieces, put_reads, put_work, put_work_by, above_pieces, next_node, parted_pieces, parts_by, place_among, splits, strays, lower, split_or_leaf, split_pieces, pairs_with, second_pairs}
 use Rattle.tree.specs.Laws.PairLists.{parts_long}
 use Rattle.edits.specs.declared.edit.Look.TheVariants.{At, Enough}
 use Rattle.edits.specs.declared.edit.Nodes.{Nodes}
@@ -107,7 +107,7 @@ parted_fills k v f ns read = go (f.head.class == 0)
     go : (b : Bool) → let ps : List Pair = (if b then take 5 (insert k v read.pairs) else pair k v ∷ []) in all_fills 3 (parts_by b ps f ns) ≤ 23
     go true =
         let ps : List Pair = take 5 (insert k v read.pairs) in
-        let n : ℕ = below (place_of ps).key ps in
+        let n : ℕ = below (place_among ps).key ps in
         let a = leaf_by 66 0 (take n ps) in
         let b = leaf_by 66 0 (drop n ps) in
         let all = parts_long n ps in

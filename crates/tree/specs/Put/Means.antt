@@ -80,21 +80,21 @@ fork_over second f ns = Fork f.head.level f.head.class (pair_at second 0).key ns
 
 -- In a trie
 
--- two nodes: a leaf with the pair alone, and the fork over it and the fork that was found, between whose keys
--- it is
+-- two nodes: a leaf with the pair alone, and the fork over it and the fork that was found, between
+-- whose keys it is
 abbrev pub above_pieces : ℕ → ℕ → Found → Nodes → Nth → Piece
 above_pieces k v f ns First = Leaf 66 0 (pair k v ∷ [])
 above_pieces k v f ns nth = Fork (place_between k f.key).level 0 (place_between k f.key).key (if nat_lt k f.key then ns.first else f.trail.node) (if nat_lt k f.key then f.trail.node else ns.first)
 
 -- the fork between the first and the last of these pairs
-abbrev pub place_of : List Pair → ForkPlace
-place_of ps = place_between (pair_at ps 0).key (unwrap_or (last_pair ps) (pair 0 0)).key
+abbrev pub place_among : List Pair → ForkPlace
+place_among ps = place_between (pair_at ps 0).key (unwrap_or (last_pair ps) (pair 0 0)).key
 
 -- three nodes that hold these pairs: those below its key, the others, and it
 abbrev pub low_parts : List Pair → Nodes → Nth → Piece
-low_parts ps ns First = Leaf 66 0 (take (below (place_of ps).key ps) ps)
-low_parts ps ns Second = Leaf 66 0 (drop (below (place_of ps).key ps) ps)
-low_parts ps ns Third = Fork (place_of ps).level 0 (place_of ps).key ns.first ns.second
+low_parts ps ns First = Leaf 66 0 (take (below (place_among ps).key ps) ps)
+low_parts ps ns Second = Leaf 66 0 (drop (below (place_among ps).key ps) ps)
+low_parts ps ns Third = Fork (place_among ps).level 0 (place_among ps).key ns.first ns.second
 
 -- and where the map is empty: they, a copy of the leaf above all keys, and a fork of its class
 abbrev pub high_parts : List Pair → ℕ → Nodes → Nth → Piece
@@ -136,6 +136,7 @@ abbrev pub put_means : EditMeaning PutPair
 put_means = record {
   goal = λ e. ToKey e.key;
   way = λ e. put_way e.trie;
+  guard = λ e. false;
   edit = λ e f. PutEdit e.key e.value;
   work = λ e f. put_work e.trie f;
   most_nodes = λ e. 3;

@@ -32,7 +32,7 @@ few_looks f snaps n e = go (has_more f) e
     go true d = let l = few_leaf_looks f f.trail.node snaps n d in omega (arith, l)
     go false d = few_join_looks f snaps n d
 
-few_nodes : (o : Option ℕ) (plan : ℕ) → (work_by o plan).need ≤ 1
+pub few_nodes : (o : Option ℕ) (plan : ℕ) → (work_by o plan).need ≤ 1
 few_nodes None plan = omega arith
 few_nodes (Some v) plan = omega arith
 
@@ -43,7 +43,7 @@ few_reads f snaps x e = subst (λ (y : NodeNo × Reading). reads_left y.1 ≤ 14
     go true = let l = begun_left f.head f.more in omega (arith, l)
     go false = omega arith
 
-copy_fills : (s : Snap) (head : Head) (read : Reading) → many_fills (copy_with s head read) ≤ 14
+pub copy_fills : (s : Snap) (head : Head) (read : Reading) → many_fills (copy_with s head read) ≤ 14
 copy_fills s head read = go head.leaf
   where
     go : (leaf : Bool) → many_fills (if leaf then Leaf head.level head.class (copied_pairs head.class read) else Fork head.level head.class (unwrap_or read.key 0) s.left s.right) ≤ 14
@@ -57,7 +57,7 @@ piece_fills k f snaps read = go (has_more f)
     go true = omega arith
     go false = copy_fills (sibling_of f snaps) (unwrap_or read.head (head_of 0)) read
 
-few_fills : (o : Option ℕ) (plan : ℕ) (p : Piece) → many_fills p ≤ 14 → all_fills (work_by o plan).need (λ (nth : Nth). p) ≤ 14
+pub few_fills : (o : Option ℕ) (plan : ℕ) (p : Piece) → many_fills p ≤ 14 → all_fills (work_by o plan).need (λ (nth : Nth). p) ≤ 14
 few_fills None plan p few = omega (arith, few)
 few_fills (Some v) plan p few = omega (arith, few)
 

@@ -1,10 +1,11 @@
 -- What a delete needs, looks at, reads and fills.
-use Rattle.std.specs.Prelude.{ℕ, ◌==◌, nat_lt, if◌then◌else◌, Bool, List, [], ◌∷◌, Option, Some, None, unwrap_or}
+use Rattle.std.specs.Prelude.{ℕ, ◌==◌, nat_lt, if◌then◌else◌, Bool, false, List, [], ◌∷◌, Option, Some, None, unwrap_or}
 use Rattle.arena.specs.declared.head.Head.{Head}
 use Rattle.histories.specs.Common.{NodeNo, Side, head_of}
 use Rattle.template.specs.Common.{Snap, child_of, snap_at, Pair, Delete as TakeEdit, delete, pair, join_plan, leaf_plan, sibling_place, Key as ToKey}
 use Rattle.template.specs.declared.walk.Found.{Found}
-use Rattle.template.specs.declared.walk.Way.TheVariants.{InTree}
+use Rattle.template.specs.declared.walk.Way.{Way}
+use Rattle.template.specs.declared.walk.Way.TheVariants.{InTree, InTrie}
 use Rattle.tree.specs.LeafEdit.{leaf_looks, leaf_reads}
 use Rattle.tree.specs.declared.take.TakePair.{TakePair}
 use Rattle.edits.specs.declared.edit.Look.{Look}
@@ -77,11 +78,16 @@ take_piece k f snaps read =
     if has_more f then Leaf f.head.level 0 (delete k read.pairs)
     else sibling_copy (sibling_of f snaps) read
 
+-- where it walks
+abbrev pub take_way : Bool → Way
+take_way trie = if trie then InTrie else InTree
+
 -- the edit that a delete is
 abbrev pub take_means : EditMeaning TakePair
 take_means = record {
   goal = λ e. ToKey e.key;
-  way = λ e. InTree;
+  way = λ e. take_way e.trie;
+  guard = λ e. false;
   edit = λ e f. TakeEdit e.key;
   work = λ e f. take_work f;
   most_nodes = λ e. 1;

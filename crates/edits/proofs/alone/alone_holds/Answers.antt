@@ -12,7 +12,7 @@ pub returns-clause-made_end : goal.returns-clause-made_end
 returns-clause-made_end g side c h edit number old f map run alone made told spells = alone_made_end c h run alone edit number old map made spells side f told
 
 pub returns-clause-found_end : goal.returns-clause-found_end
-returns-clause-found_end g side c h f map run alone found none spells = alone_found_end c h run alone side f map found none spells
+returns-clause-found_end g side c h f map run alone found sure none spells = alone_found_end c h run alone side f map found sure none spells
 
 pub returns-clause-read : goal.returns-clause-read
 returns-clause-read g c h k told map run alone x none spells = alone_reads c h run alone k told map x none spells

@@ -6,7 +6,7 @@ use native.Mathlib.Decide.{ℕ_discrete}
 use Rattle.arena.specs.declared.limits.Mode.TheVariants.{Trie as TrieMode}
 use Rattle.histories.specs.Common.{Tree as TreeMode, NodeNo, Child, Side, Left, Right, History, value, Call, IsInField, node, child, first_key, Descriptor}
 use Rattle.template.specs.Common.{Job, Says, Snap, Pair, Insert as PutEdit, AllBelow, IsRising, insert, pair, get, held_pairs, leaf_plan}
-use Rattle.template.specs.Common.{IsUpdateOver, IsWellCounted, IsMapRun, class, level, rank, HasFoundLeaf, HasTurned, IsFresh, IsPromised, MayGo, Key as ToKey}
+use Rattle.template.specs.Common.{IsUpdateOver, IsWellCounted, IsMapRun, class, level, rank, HasFoundLeaf, HasTurned, IsFresh, IsPromised, MayGo, Key as ToKey, End}
 use Rattle.ordered_map.specs.OrderedMap.{AllFrom, first_pair, last_pair}
 use Rattle.ordered_map.specs.Bits.{PartsKeys, place_between}
 use Rattle.ordered_map.specs.declared.fork_place.ForkPlace.{ForkPlace}
@@ -23,10 +23,10 @@ use Rattle.template.proofs.Lemmas.{edit_promised, found_below, found_blank, foun
 use Rattle.tree.specs.LeafEdit.{leaf_looks, leaf_reads}
 use Rattle.tree.specs.declared.put.PutPair.{PutPair}
 use Rattle.tree.specs.Put.Laws.{put_bounds}
-use Rattle.tree.specs.Put.Means.{above_pieces, put_means, put_need, put_pieces, put_reads, put_way, put_work, has_room, lower, next_node, pairs_with, parts_by, place_of, split_or_leaf, split_pieces, second_pairs, splits, splits_by}
-use Rattle.tree.specs.Laws.LeafLooks.{HasBoth, IsCovering, above_over, class_is, has_both, held_is, is_above_edit, is_leaf_edit, leaf_begins, leaf_covered, leaf_differs, leaf_opens, leaf_over, leaf_stood, many, no_trie, pairs_are}
+use Rattle.tree.specs.Put.Means.{above_pieces, put_means, put_need, put_pieces, put_reads, put_way, put_work, has_room, lower, next_node, pairs_with, parts_by, place_among, split_or_leaf, split_pieces, second_pairs, splits, splits_by}
+use Rattle.tree.specs.Laws.LeafLooks.{HasBoth, IsCovering, above_over, class_is, has_both, held_is, is_above_edit, is_leaf_edit, leaf_begins, leaf_covered, leaf_differs, leaf_over, leaf_stood, leaf_there, many, no_trie, pairs_are}
 use Rattle.tree.specs.Laws.PairLists.{below_apart, both_parts, ends_of, first_below, first_long, insert_absent, insert_least, insert_most, insert_present, insert_some, last_of, parts_apart, parts_long}
-use Rattle.tree.specs.Laws.Put.Stands.{IsAtFork, IsAtLeaf, StandsAt, stands_at, stands_covered, stands_covering}
+use Rattle.tree.specs.Laws.Put.Stands.{IsAtFork, IsAtLeaf, PutStands, stands_at, stands_covered, stands_covering}
 use Rattle.edits.specs.declared.edit.Look.TheVariants.{Enough}
 use Rattle.edits.specs.declared.edit.Nodes.{Nodes}
 use Rattle.edits.specs.declared.edit.Nth.{Nth}
@@ -45,13 +45,13 @@ use Rattle.edits.proofs.Lemmas.{IsForkWith, IsLeafWith, fork_with, leaf_with, ta
 -- What it looks at, and what it reads
 
 -- where it stands
-pub stands : (ed : PutPair) (c : Call) (h : History) (f : Found) (snaps : List Snap) → IsMapRun c.layout h → HasLooked put_means c h ed f snaps → StandsAt ed.trie ed.key c h f
+pub stands : (ed : PutPair) (c : Call) (h : History) (f : Found) (snaps : List Snap) → IsMapRun c.layout h → HasLooked put_means c h ed f snaps → PutStands ed.trie ed.key c h f
 stands ed c h f snaps run x = stands_at ed.trie ed.key c h f run x.may x.found
 
 covering : (ed : PutPair) (c : Call) (h : History) (f : Found) (snaps : List Snap) → IsMapRun c.layout h → HasLooked put_means c h ed f snaps → IsCovering ed.key c h f (next_node ed.trie f)
 covering ed c h f snaps run x = stands_covering ed.trie ed.key c h f run (stands ed c h f snaps run x)
 
-put_reads_well : (ed : PutPair) (c : Call) (h : History) (f : Found) (y : NodeNo × Reading) → IsMapRun c.layout h → StandsAt ed.trie ed.key c h f → put_reads ed.trie f ≡ Some y → MayRead c.layout h y.0.0 y.1
+put_reads_well : (ed : PutPair) (c : Call) (h : History) (f : Found) (y : NodeNo × Reading) → IsMapRun c.layout h → PutStands ed.trie ed.key c h f → put_reads ed.trie f ≡ Some y → MayRead c.layout h y.0.0 y.1
 put_reads_well ed c h f y run (inl a) e = go (f.head.class == 0) refl (rw a.stays at e)
   where
     go : (b : Bool) → (f.head.class == 0) ≡ b → (if b then Some (leaf_reads f) else None) ≡ Some y → MayRead c.layout h y.0.0 y.1
@@ -63,7 +63,7 @@ put_reads_well ed c h f y run (inr a) e = absurd (let z : None ≡ Some y = rw a
 -- has another child its last SCX-record was in the way
 pub put_look : LooksWell put_means
 put_look = record {
-  opens = λ e c h f snaps n run d x at. leaf_opens e.key c h f (next_node e.trie f) snaps run (covering e c h f snaps run x) n at;
+  there = λ e c h f snaps n run d x at. leaf_there e.key c h f (next_node e.trie f) snaps run (covering e c h f snaps run x) n at;
   stood = λ e c h f snaps n run d x at. leaf_stood e.key c h f (next_node e.trie f) snaps run (covering e c h f snaps run x) n at;
   differs = λ e c h f snaps n s run d x at quiet. leaf_differs e.key c h (put_way e.trie) f (next_node e.trie f) snaps n s run (record { small = x.small; may = x.may; found = x.found; usable = x.usable; seen = x.seen }) at quiet;
   reads = λ e c h f snaps y run d x enough is. put_reads_well e c h f y run (stands e c h f snaps run x) is;
@@ -111,7 +111,7 @@ above_fields k v f ns Third side p = three (nat_lt k f.key) side
     three false Left = inr refl
     three false Right = inl (First, omega arith, refl)
 
-put_fields : (ed : PutPair) (c : Call) (h : History) (f : Found) (ns : Nodes) (read : Reading) (nth : Nth) (side : Side) → IsMapRun c.layout h → StandsAt ed.trie ed.key c h f → is_filled (put_pieces ed.key ed.value ed.trie f ns read nth) (Child side) ≡ true
+put_fields : (ed : PutPair) (c : Call) (h : History) (f : Found) (ns : Nodes) (read : Reading) (nth : Nth) (side : Side) → IsMapRun c.layout h → PutStands ed.trie ed.key c h f → is_filled (put_pieces ed.key ed.value ed.trie f ns read nth) (Child side) ≡ true
     → IsLeafBefore ns nth (word_of (put_pieces ed.key ed.value ed.trie f ns read nth) (Child side)) ⊎ IsInField c.layout h (word_of (put_pieces ed.key ed.value ed.trie f ns read nth) (Child side))
 put_fields ed c h f ns read nth side run (inl a) p = inl (rw a.stays (split_fields ed.trie (splits f) (pairs_with ed.key ed.value f read) f ns nth side (rw a.stays at p)))
 put_fields ed c h f ns read nth side run (inr a) p = rw a.strays (⊎_elim inl (λ e. inr (subst (IsInField c.layout h) (sym e) in_field)) (above_fields ed.key ed.value f ns nth side (rw a.strays at p)))
@@ -349,7 +349,7 @@ module _ (ed : PutPair) (c : Call) (h : History) (f : Found) (snaps : List Snap)
         -- in a trie: there are five
         module _ (is_trie : ed.trie ≡ true) (mode : c.layout.mode ≡ TrieMode) (full : length all ≡ 5) where
           abbrev place : ForkPlace
-          place = place_of all
+          place = place_among all
 
           abbrev cut : ℕ
           cut = below_key place.key all
@@ -657,22 +657,23 @@ module _ (ed : PutPair) (c : Call) (h : History) (f : Found) (snaps : List Snap)
         (is_above_edit f snaps ns (put_work ed.trie f) j d ns.second.0 (rw a.strays at both) (ap (λ (w : Work). w.plan.0) above_work) is (ap (λ (w : Work). top_of w.need ns) above_work) says)
         (above_holds Second (omega arith)).fresh (above_holds First (omega arith)).fresh made.1 parts_from above_leaf.level
 
-  put_is_promised : StandsAt ed.trie ed.key c h f → (j : Job) (d : Descriptor) → j.update ≡ update_for (put_work ed.trie f) snaps ns → Says d j → IsPromised c.layout c.pass h j.scx.0 d (PutEdit ed.key ed.value)
+  put_is_promised : PutStands ed.trie ed.key c h f → (j : Job) (d : Descriptor) → j.update ≡ update_for (put_work ed.trie f) snaps ns → Says d j → IsPromised c.layout c.pass h j.scx.0 d (PutEdit ed.key ed.value)
   put_is_promised (inl a) j d is says = leaf_promised a j d is says
   put_is_promised (inr a) j d is says = above_promised a a.found.small j d is says
 
-put_over : (ed : PutPair) (c : Call) (h : History) (f : Found) (snaps : List Snap) (ns : Nodes) → IsMapRun c.layout h → HasLooked put_means c h ed f snaps → leaf_looks f (next_node ed.trie f) snaps ≡ Enough → StandsAt ed.trie ed.key c h f → IsUpdateOver (update_for (put_work ed.trie f) snaps ns)
+put_over : (ed : PutPair) (c : Call) (h : History) (f : Found) (snaps : List Snap) (ns : Nodes) → IsMapRun c.layout h → HasLooked put_means c h ed f snaps → leaf_looks f (next_node ed.trie f) snaps ≡ Enough → PutStands ed.trie ed.key c h f → IsUpdateOver (update_for (put_work ed.trie f) snaps ns)
 put_over ed c h f snaps ns run x enough (inl a) = leaf_over ed.key c h f (next_node ed.trie f) snaps ns (put_work ed.trie f) (covering ed c h f snaps run x) (has_both f (next_node ed.trie f) snaps enough x.seen) (rw a.stays refl)
 put_over ed c h f snaps ns run x enough (inr a) = above_over ed.key c h f (next_node ed.trie f) snaps ns (put_work ed.trie f) (covering ed c h f snaps run x) (has_both f (next_node ed.trie f) snaps enough x.seen) (rw a.strays refl)
 
 -- its plan covers its two nodes, and what it has filled is promised to put the value at the key
 pub put_makes : MakesWell put_means
 put_makes = record {
-  over = λ e c h f snaps ns run n x enough. put_over e c h f snaps ns run x enough (stands e c h f snaps run x);
-  leaf = λ e c h f snaps s run n x enough k later since covers makes. leaf_covered (PutEdit e.key e.value) f (next_node e.trie f) snaps k s (has_both f (next_node e.trie f) snaps enough x.seen) covers ∙ stands_covered e.trie e.key c h f (stands e c h f snaps run x);
-  promised = λ e c h f snaps ns read j d run n x is says. put_is_promised e c h f snaps ns read run x (stands e c h f snaps run x.looked) j d is says;
+  over = λ e c h f snaps guard ns run n x enough two. put_over e c h f snaps ns run x enough (stands e c h f snaps run x);
+  leaf = λ e c h f snaps guard ns s run n x enough k row later won since covers makes. leaf_covered (PutEdit e.key e.value) f (next_node e.trie f) snaps ns (put_work e.trie f) k s (has_both f (next_node e.trie f) snaps enough x.seen) covers ∙ stands_covered e.trie e.key c h f (stands e c h f snaps run x);
+  ends = λ e c h f snaps guard ns s run n x enough is. absurd (let z : false ≡ true = is in cc);
+  promised = λ e c h f snaps guard ns read j d run n x two is says. put_is_promised e c h f snaps ns read run x (stands e c h f snaps run x.looked) j d is says;
 }
 
 -- an insert is an edit that an update can make
 pub put_laws : EditLaws put_means
-put_laws = record { at_found = λ e f. refl; bounds = put_bounds; looks = put_look; fills = put_fills; makes = put_makes }
+put_laws = record { at_found = λ e f. refl; at_end = λ e side is. absurd (let z : ToKey e.key ≡ End side = is in cc); bounds = put_bounds; looks = put_look; fills = put_fills; makes = put_makes }

@@ -1,5 +1,5 @@
--- Where an insert stands once its walk has ended: at a leaf, or in a trie at a fork that its key does not share. The
--- fork above is surely on the path of its key.
+-- Where an insert stands once its walk has ended: at a leaf, or in a trie at a fork that its key
+-- does not share. The fork above is surely on the path of its key.
 use Rattle.std.proofs.Common.{◌≡◌, ℕ, ◌⊎◌, inl, inr, Bool, true, false, Option, Some, None, refl, sym, ◌∙◌, ap, subst}
 use Rattle.histories.specs.Common.{History, Call}
 use Rattle.template.specs.Common.{IsMapRun, HasFoundFork, HasFoundLeaf, FoundBy, MayGo, Key as ToKey}
@@ -19,8 +19,8 @@ pub record IsAtFork (trie : Bool) (k : ℕ) (c : Call) (h : History) (f : Found)
   pub strays : strays trie f ≡ true
   pub found : HasFoundFork (ToKey k) c h f
 
-abbrev pub StandsAt : Bool → ℕ → Call → History → Found → Type 0
-StandsAt trie k c h f = IsAtLeaf trie k c h f ⊎ IsAtFork trie k c h f
+abbrev pub PutStands : Bool → ℕ → Call → History → Found → Type 0
+PutStands trie k c h f = IsAtLeaf trie k c h f ⊎ IsAtFork trie k c h f
 
 -- what was found at a key is a leaf by its head
 pub found_leaf : (k : ℕ) (c : Call) (h : History) (f : Found) → HasFoundLeaf c h k f → f.head.leaf ≡ true
@@ -34,7 +34,7 @@ no_strays : (o : Option ℕ) → strays_by o false ≡ false
 no_strays (Some v) = refl
 no_strays None = refl
 
-pub stands_at : (trie : Bool) (k : ℕ) (c : Call) (h : History) (f : Found) → IsMapRun c.layout h → MayGo c.layout (put_way trie) (ToKey k) → FoundBy (put_way trie) (ToKey k) c h f → StandsAt trie k c h f
+pub stands_at : (trie : Bool) (k : ℕ) (c : Call) (h : History) (f : Found) → IsMapRun c.layout h → MayGo c.layout (put_way trie) (ToKey k) → FoundBy (put_way trie) (ToKey k) c h f → PutStands trie k c h f
 stands_at false k c h f run may a =
     let t = a.trail.parent (found_below (ToKey k) c h f run a) in
     inl record { stays = no_strays f.value; found = a; parent = surely_on c h k f.trail.parent.0 t.passed t.fork (inl may) }
@@ -45,7 +45,7 @@ stands_at true k c h f run may (inl a) =
 stands_at true k c h f run may (inr a) = inr record { strays = rw (found_fork k c h f a, a.none) refl; found = a }
 
 -- the leaf besides that fork, or node 2, may be covered
-pub stands_covering : (trie : Bool) (k : ℕ) (c : Call) (h : History) (f : Found) → IsMapRun c.layout h → StandsAt trie k c h f → IsCovering k c h f (next_node trie f)
+pub stands_covering : (trie : Bool) (k : ℕ) (c : Call) (h : History) (f : Found) → IsMapRun c.layout h → PutStands trie k c h f → IsCovering k c h f (next_node trie f)
 stands_covering in_trie k c h f run (inl x) = subst (IsCovering k c h f) (sym (next_leaf in_trie f x.stays)) (covering_leaf k c h f run x.found x.parent)
   where
     next_leaf : (trie : Bool) (f : Found) → strays trie f ≡ false → next_node trie f ≡ f.trail.node
@@ -56,6 +56,6 @@ stands_covering in_trie k c h f run (inr x) = subst (IsCovering k c h f) (sym (n
     next_two in_trie f e = rw e refl
 
 -- and it stands for what was found
-pub stands_covered : (trie : Bool) (k : ℕ) (c : Call) (h : History) (f : Found) → StandsAt trie k c h f → (next_node trie f).0 ≡ covered f
+pub stands_covered : (trie : Bool) (k : ℕ) (c : Call) (h : History) (f : Found) → PutStands trie k c h f → (next_node trie f).0 ≡ covered f
 stands_covered in_trie k c h f (inl x) = rw (x.stays, found_leaf k c h f x.found) refl
 stands_covered in_trie k c h f (inr x) = rw (x.strays, found_fork k c h f x.found) refl

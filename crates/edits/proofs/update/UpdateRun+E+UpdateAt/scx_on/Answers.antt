@@ -22,4 +22,4 @@ returns-in-Done-Lost-clause-turn g c d b begin h run try x ready =
     c.lost.ensures.turn d h run t.0 (rw (← c.in-Done-Lost.node-is, ← c.in-Done-Lost.scx-is) at t.1)
 
 pub returns-in-Done-Done-clause-turn : goal.returns-in-Done-Done-clause-turn
-returns-in-Done-Done-clause-turn g c d b begin h run try x ready = rw c.at.ensures (scx_done g.E.Edit.means g.met.E.Edit.laws.at_found c.args.self.now c.args.scx c.next.new.self c.args.found d b begin h c.next.result try x c.next.ensures.same.0 c.next.ensures.same.1 c.next.ensures.same.2 (c.in-Done-Done.is ∙ ap (λ a. Done a) c.in-Done-Done.field-0-is) (c.next.ensures.turn (begun_at (begun_at d b) begin) h run ready))
+returns-in-Done-Done-clause-turn g c d b begin h run try x ready = rw c.at.ensures (scx_done g.E.Edit.means g.met.E.Edit.laws.at_found g.met.E.Edit.laws.at_end c.args.self.now c.args.scx c.next.new.self c.args.found d b begin h c.next.result try x c.next.ensures.same.0 c.next.ensures.same.1 c.next.ensures.same.2 (c.in-Done-Done.is ∙ ap (λ a. Done a) c.in-Done-Done.field-0-is) (c.next.ensures.turn (begun_at (begun_at d b) begin) h run ready))

@@ -1,6 +1,6 @@
 use Rattle.std.proofs.Common.{◌≡◌, sym, ◌∙◌, inl}
-use Rattle.edits.specs.declared.update.UpdateAt.TheVariants.{Start, Walk, Look, Read, Fill, Scx}
-use Rattle.edits.proofs.Stepping.{at_start, at_walk, at_look, at_read, at_fill, at_scx}
+use Rattle.edits.specs.declared.update.UpdateAt.TheVariants.{Start, Walk, Guard, Look, Read, Fill, Scx}
+use Rattle.edits.proofs.Stepping.{at_start, at_walk, at_guard, at_look, at_read, at_fill, at_scx}
 use Rattle.edits.proofs.update.UpdateRun+E+UpdateAt.step.Goals as goal
 
 pub returns-in-Start-clause-turn : goal.returns-in-Start-clause-turn
@@ -10,7 +10,12 @@ returns-in-Start-clause-turn g c d h run r = let t = at_start g.E.Edit.means c.a
 pub returns-in-Walk-clause-turn : goal.returns-in-Walk-clause-turn
 returns-in-Walk-clause-turn g c d h run r =
     let t = at_walk g.E.Edit.means c.args.self.now d h c.args.got c.in-Walk.walk c.in-Walk.is r in
-    c.walk_on.ensures.turn d t.0 h t.4 t.5 run t.1 t.2 t.3 t.6
+    c.walked.ensures.turn d t.0 h t.4 t.5 run t.1 t.2 t.3 t.6 t.7
+
+pub returns-in-Guard-clause-turn : goal.returns-in-Guard-clause-turn
+returns-in-Guard-clause-turn g c d h run r =
+    let t = at_guard g.E.Edit.means c.args.self.now d h c.args.got c.in-Guard.walk c.in-Guard.head c.in-Guard.llx c.in-Guard.is r in
+    c.guard_on.ensures.turn d t.0 t.3 h run t.1 t.2 t.4 t.5 t.6
 
 pub returns-in-Look-clause-turn : goal.returns-in-Look-clause-turn
 returns-in-Look-clause-turn g c d h run r =
@@ -37,6 +42,9 @@ returns-in-Start-clause-begins g c none d h r = c.begin_walk.ensures.begins
 
 pub returns-in-Walk-clause-begins : goal.returns-in-Walk-clause-begins
 returns-in-Walk-clause-begins g c none d h r = absurd (let z : Walk c.in-Walk.walk ≡ Start = sym c.in-Walk.is ∙ r.3 in cc)
+
+pub returns-in-Guard-clause-begins : goal.returns-in-Guard-clause-begins
+returns-in-Guard-clause-begins g c none d h r = absurd (let z : Guard c.in-Guard.walk c.in-Guard.head c.in-Guard.llx ≡ Start = sym c.in-Guard.is ∙ r.3 in cc)
 
 pub returns-in-Look-clause-begins : goal.returns-in-Look-clause-begins
 returns-in-Look-clause-begins g c none d h r = absurd (let z : Look c.in-Look.found c.in-Look.llx ≡ Start = sym c.in-Look.is ∙ r.3 in cc)

@@ -1,6 +1,7 @@
 use Rattle.std.proofs.Common.{◌≡◌, sym, ◌∙◌}
 use Rattle.edits.specs.declared.edit.Look.TheVariants.{At}
 use Rattle.arena.specs.Machines.{begun_at}
+use Rattle.template.proofs.Lemmas.{opened_if_stood}
 use Rattle.edits.proofs.Looking.{is_needed}
 use Rattle.edits.proofs.Blaming.{look_differs}
 use Rattle.edits.proofs.Turns.{look_lost, looks_at}
@@ -24,7 +25,7 @@ returns-in-Differs-clause-turn g c d b h run try x =
     (t.0, t.1)
 
 pub returns-in-At-clause-turn : goal.returns-in-At-clause-turn
-returns-in-At-clause-turn g c d b h run try x = (b, try, tt, looks_at g.E.Edit.means c.args.self.now c.args.found.now c.in-At.node (begun_at d b) h run x named (g.met.E.Edit.laws.looks.opens c.args.self.now.edit (begun_at d b) h c.args.found.now c.args.self.now.snaps.items c.in-At.node x.begins.run (is_needed g.E.Edit.means c.args.self.now (begun_at d b) h c.args.found.now x) x.looked named))
+returns-in-At-clause-turn g c d b h run try x = (b, try, tt, looks_at g.E.Edit.means c.args.self.now c.args.found.now c.in-At.node (begun_at d b) h run x named (opened_if_stood d.layout h c.in-At.node.0 x.begins.run (g.met.E.Edit.laws.looks.there c.args.self.now.edit (begun_at d b) h c.args.found.now c.args.self.now.snaps.items c.in-At.node x.begins.run (is_needed g.E.Edit.means c.args.self.now (begun_at d b) h c.args.found.now x) x.looked named)))
   where
     named : g.E.Edit.means.looks c.args.self.now.edit c.args.found.now c.args.self.now.snaps.items ≡ At c.in-At.node
     named = rw (sym c.as_slice.ensures.value) (sym c.look.ensures ∙ c.in-At.is)

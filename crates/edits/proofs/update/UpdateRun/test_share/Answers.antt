@@ -13,12 +13,12 @@ pub returns-clause-nearer : goal.returns-clause-nearer
 returns-clause-nearer g c nodes = still_nearer g.E.Edit.means c.look.new.self c.args.found.now c.look.result nodes _ _ (c.look.ensures.nearer c.work-self.ensures nodes) (from_share _ _ _ _)
 
 pub returns-clause-turn : goal.returns-clause-turn
-returns-clause-turn g c d b h run try first x quiet filled found =
+returns-clause-turn g c d b h run try first x quiet filled found guarded =
     let some : 0 < c.work-self.result.need = search rules in
-    c.look.ensures.turn d b h run try (may_look g.E.Edit.means c.args.self.now _ (begun_at d b) h c.args.found.now refl refl c.work-self.ensures c.clear.ensures x quiet found (rw c.in_default.is at c.lacks.ensures.enough some))
+    c.look.ensures.turn d b h run try (may_look g.E.Edit.means c.args.self.now _ (begun_at d b) h c.args.found.now refl refl refl c.work-self.ensures c.clear.ensures x quiet found guarded (rw c.in_default.is at c.lacks.ensures.enough some))
 
 pub returns-then-self-eq0-clause-turn : goal.returns-then-self-eq0-clause-turn
-returns-then-self-eq0-clause-turn g c d b h run try first x quiet filled found =
+returns-then-self-eq0-clause-turn g c d b h run try first x quiet filled found guarded =
     let none : c.work-self.result.need ≡ 0 = search rules in (
       at_rest g.E.Edit.means c.args.self.now d b h x,
       record {
@@ -36,7 +36,7 @@ returns-then-self-eq0-clause-turn g c d b h run try first x quiet filled found =
     )
 
 pub returns-in-Some-clause-turn : goal.returns-in-Some-clause-turn
-returns-in-Some-clause-turn g c d b h run try first x quiet filled found =
+returns-in-Some-clause-turn g c d b h run try first x quiet filled found guarded =
     let some : 0 < c.work-self.result.need = search rules in (
       at_rest g.E.Edit.means c.args.self.now d b h x,
       record {
