@@ -14,10 +14,9 @@ use Rattle.ordered_map.specs.CallRules.{IsFormOfEdit}
 use Rattle.ordered_map.specs.Requests.{AsksForFew, key_told}
 use Rattle.ordered_map.proofs.Lemmas.{end_had}
 use Rattle.ordered_map.specs.declared.reply.Reply.TheVariants.{Pair as PairOf}
-use Rattle.ordered_map.specs.declared.request.Request.TheVariants.{Insert as InsertOf, InsertNew as InsertNewOf, Delete as DeleteOf, DeleteIf as DeleteIfOf, PopFirst as PopFirstOf, PopLast as PopLastOf}
-use Rattle.ordered_map.specs.declared.request.Request.TheVariants.{ReplaceIf as ReplaceIfOf, Get as GetOf, Successor as SuccessorOf, Predecessor as PredecessorOf}
+use Rattle.ordered_map.specs.declared.request.Request.TheVariants.{Get as GetOf}
 use Rattle.edits.specs.Known.{RestsWith, IsUntouched}
-use Rattle.dict.specs.Calls.{AsksForPairs, IsFewCall, IsServed}
+use Rattle.dict.specs.Calls.{AsksForPairs, IsFewCall}
 use Rattle.dict.specs.DictKnown.{DictRefuses}
 use Rattle.dict.specs.Says.{HasLost, HasNeeded, HasReadMap, HasRunOut, HasTold, HasToldBy, TellsOfMap}
 use Rattle.record.specs.declared.record.Line.{Line}
@@ -75,31 +74,6 @@ entry_makes lay before s (Range low high most) edit map spells gives makes = abs
 pub few_pairs : (request : Request ℕ ℕ) → AsksForFew request → IsFewCall (map_request request)
 few_pairs (RangeOf low high most) few = few
 few_pairs request few = tt
-
--- a dictionary has a machine for each, as a tree and as a trie
-pub all_served : (trie : Bool) (request : Request ℕ ℕ) → IsServed trie (map_request request)
-all_served false (InsertOf key value) = refl
-all_served false (InsertNewOf key value) = refl
-all_served false (DeleteOf key) = refl
-all_served false (DeleteIfOf key expected) = refl
-all_served false PopFirstOf = refl
-all_served false PopLastOf = refl
-all_served false (ReplaceIfOf key expected value) = refl
-all_served false (GetOf key) = tt
-all_served false (SuccessorOf key) = tt
-all_served false (PredecessorOf key) = tt
-all_served false (RangeOf low high most) = tt
-all_served true (InsertOf key value) = λ e. cc
-all_served true (InsertNewOf key value) = λ e. cc
-all_served true (DeleteOf key) = λ e. cc
-all_served true (DeleteIfOf key expected) = λ e. cc
-all_served true PopFirstOf = refl
-all_served true PopLastOf = refl
-all_served true (ReplaceIfOf key expected value) = λ e. cc
-all_served true (GetOf key) = tt
-all_served true (SuccessorOf key) = tt
-all_served true (PredecessorOf key) = tt
-all_served true (RangeOf low high most) = tt
 
 -- Where a call took place
 

@@ -7,7 +7,7 @@ use Rattle.arena.specs.declared.word.ScxWord.TheVariants.{Call as CallWord}
 use Rattle.arena.proofs.Lemmas.{ends_self}
 use Rattle.help.specs.Laws.Help.Lawful.{help_fills_not}
 use Rattle.histories.proofs.Lemmas.{node_since}
-use Rattle.template.specs.Common.{AllowsAll, Job, job_of, ScxWaitsAt, PutRun, ScxAt, ScxRun as ScxMachine, Snap, goal_told, asked_in, asked_key, path_key, HasFoundGoal, FoundBy, Tracks}
+use Rattle.template.specs.Common.{AllowsAll, Job, job_of, ScxWaitsAt, PutRun, ScxAt, ScxRun as ScxMachine, Snap, goal_told, asked_in, asked_key, Rule, Tracks}
 use Rattle.prims.specs.Put.Known.{PutWaitsAt}
 use Rattle.prims.specs.Scx.Known.{HasFilled, part_at, fill_step}
 use Rattle.prims.specs.declared.put.PutAt.{PutAt}
@@ -17,24 +17,25 @@ use Rattle.prims.proofs.Lemmas.{llx_fills_not, vlx_fills_not, own_in_hand}
 use Rattle.dict.specs.Calls.{inner_call, inner_share}
 use Rattle.dict.specs.Known.{IsNumbered, WaitsInside}
 use Rattle.dict.specs.Goals.{leaf_told}
-use Rattle.dict.specs.Inner.{InnerRun, Update, Get, Read, edit_means, inner}
+use Rattle.tree.specs.Laws.KeyEdit.{key_laws}
+use Rattle.dict.specs.Inner.{GoalBy, InnerRun, Update, Get, Read, edit_means, inner}
 use Rattle.dict.specs.Laws.Kinds.{edit_at_found, edit_changes}
 use Rattle.order.specs.Laws.Run.{read_fills_not}
 use Rattle.record.specs.Common.{Pair, Edit, MapEdit, OneValue, edit_key, edit_of, get, pair_or_none, reply, IsMapRun, Makes}
 use Rattle.record.specs.Common.{Spells, TreeAllows, said, Goal, Key as ToKey, End, Command, Scx as ScxOf, Set as SetOf}
 use Rattle.ordered_map.specs.Runs.{IsEditAt}
 use Rattle.ordered_map.proofs.MapLemmas.{win_makes}
-use Rattle.template.proofs.Lemmas.{found_either, passed_named, walk_fills_not}
+use Rattle.template.proofs.Lemmas.{walk_fills_not}
 use Rattle.template.specs.declared.walk.Found.{Found}
 use Rattle.edits.specs.Edits.{EditMeaning}
 use Rattle.edits.specs.Known.{covered, CoversLeaf, Scxs, ToldEnd, Tries, UpdateWaitsAt}
 use Rattle.edits.specs.Laws.Entered.{only_joined}
 use Rattle.edits.specs.Laws.Kept.{idle_rests}
-use Rattle.edits.specs.Sound.{IsAtFound}
+use Rattle.edits.specs.Sound.{HasGuardAtEnd, IsAtFound}
 use Rattle.edits.specs.Tries.{CoversSnaps, HasEnteredOnly}
 use Rattle.edits.proofs.Lemmas.{told_end, leaf_told as value_told}
 use Rattle.edits.specs.declared.update.UpdateAt.{UpdateAt}
-use Rattle.edits.specs.declared.update.UpdateAt.TheVariants.{Start, Walk, Look, Read as ReadWord, Fill, Scx}
+use Rattle.edits.specs.declared.update.UpdateAt.TheVariants.{Start, Walk, Guard, Look, Read as ReadWord, Fill, Scx}
 use Rattle.edits.specs.declared.update.UpdateRun.{UpdateRun}
 use Rattle.player.specs.declared.client.SetField.{SetField}
 use Rattle.player.specs.declared.run.Run.{Run}
@@ -95,7 +96,7 @@ module _ {E : Type 0} (means : EditMeaning E) (m : UpdateRun E UpdateAt) where
     hand : IsHandOf m.call (means.edit m.edit found) call h t
     tells : TellsAtWin found call.layout h t
 
-  module _ (at_found : IsAtFound means) (call : MachineCall) (h : History) (t : ℕ) (l : Lawful call.layout h) (own : IsOwnScx call.layout call.pass t) (p : IsInProgress h t) where
+  module _ (at_found : IsAtFound means) (at_end : HasGuardAtEnd means) (call : MachineCall) (h : History) (t : ℕ) (l : Lawful call.layout h) (own : IsOwnScx call.layout call.pass t) (p : IsInProgress h t) where
     -- what it makes if it is not aborted
     makes_it : (edit : MapEdit) (j : Job) → j.scx.0 ≡ t → Tracks call.layout call.pass h j edit → Makes call.layout h t edit
     makes_it edit j e (Tracks.waits f free) = absurd (free (rw e p.named))
@@ -105,18 +106,19 @@ module _ {E : Type 0} (means : EditMeaning E) (m : UpdateRun E UpdateAt) where
     -- so does the leaf that its SCX covers
     tells_at : (b begin : History) (f : Found) (scx : ScxMachine) → Scxs means m (begun_at call b) h f scx begin → HasFilled (begun_at (begun_at call b) begin) h scx.scx.0 scx.call scx.update → Makes call.layout h scx.scx.0 (means.edit m.edit f) → TellsAtWin f call.layout h scx.scx.0
     tells_at b begin f scx x filled makes = record {
-      value_is = λ row now won. value_told means m.edit (begun_at call b) f begin h row scx.scx.0 scx.update.snaps now filled.way.begun.since won makes x.found x.leaf covers at_found
+      value_is = λ row now won. value_told means m.edit (begun_at call b) f begin h row scx.scx.0 scx.update now filled.way.begun.since won makes x.found x.leaf covers at_found
           (win_makes call.layout (row ⊳ h) h row scx.scx.0 (means.edit m.edit f) now (ends_self (row ⊳ h)) won record { row = makes.row; before = makes.before; within = inr makes.within; begins = makes.begins; edit = makes.edit });
-      end_is = λ row now won. told_end means m.edit (begun_at call b) f begin h row scx.scx.0 scx.update.snaps now filled.way.begun.since won makes x.found x.leaf covers;
+      end_is = λ row now won. told_end means m.edit (begun_at call b) f begin h row scx.scx.0 scx.update now filled.way.begun.since won makes x.found x.leaf covers at_end x.may x.unnamed x.guard x.ends;
     }
       where
-        covers : CoversSnaps h scx.scx.0 scx.update.snaps
-        covers = record { count = ap count_of filled.planned ∙ filled.over.count; members = filled.members }
+        covers : CoversSnaps h scx.scx.0 scx.update
+        covers = record { planned = filled.planned; saw = filled.found; count = ap count_of filled.planned ∙ filled.over.count; members = filled.members }
 
     -- while its SCX runs, and in no other place
     hand_at : (b : History) (s : Step) (at : UpdateAt) → Tries means m call b h at → UpdateWaitsAt means m (begun_at call b) h s at → IsHandAt at call h t
     hand_at b s Start try w = absurd w
     hand_at b s (Walk walk) try w = absurd (idle_rests (begun_at call b) h m.share l w.0.rests t own p)
+    hand_at b s (Guard walk head llx) try w = absurd (idle_rests (begun_at call b) h m.share l w.1.rests t own p)
     hand_at b s (Look f llx) try w = absurd (idle_rests (begun_at call b) h m.share l w.1.rests t own p)
     hand_at b s (ReadWord f n part) try w = absurd (w.0.works.quiet h (ends_self h) w.0.works.since t own p)
     hand_at b s (Fill f nth part) try w = absurd (w.0.works.quiet h (ends_self h) w.0.works.since t own p)
@@ -141,6 +143,7 @@ module _ {E : Type 0} (means : EditMeaning E) (m : UpdateRun E UpdateAt) where
   update_says_at : (call : MachineCall) (h : History) (s : Step) (t v : ℕ) (at : UpdateAt) → UpdateWaitsAt means m call h s at → s.kind ≡ FillKind → s.word ≡ scx_word t CallWord → word_after s.access v ≡ m.call
   update_says_at call h s t v Start w kind word = absurd w
   update_says_at call h s t v (Walk walk) w kind word = absurd (walk_fills_not walk call h s w.1 kind)
+  update_says_at call h s t v (Guard walk head llx) w kind word = absurd (llx_fills_not TreeAllows llx (begun_at call w.0) h s w.2 kind)
   update_says_at call h s t v (Look f llx) w kind word = absurd (llx_fills_not TreeAllows llx (begun_at call w.0) h s w.2 kind)
   update_says_at call h s t v (ReadWord f n part) w kind word = absurd (let z : LoadSettled ≡ FillKind = ap (λ (q : Step). q.kind) (sym w.1) ∙ kind in cc)
   update_says_at call h s t v (Fill f nth part) w kind word = absurd (let z = ap (λ (q : Step). q.word) (sym w.3) ∙ word in cc)
@@ -156,7 +159,7 @@ goal_is (End side) f lay h key map same value_is end_is spells = ap pair_or_none
 module _ (call : MachineCall) (h : History) (t : ℕ) (l : Lawful call.layout h) (own : IsOwnScx call.layout call.pass t) (p : IsInProgress h t) (s : Step) where
   pub map_hand : (m : InnerRun) → IsNumbered m call.number → WaitsInside m call h s → IsEditHand m call h t
   map_hand (Update m) number w =
-      let x = hand_at edit_means m edit_at_found call h t l own p w.0 s m.at w.1 w.3 in
+      let x = hand_at edit_means m edit_at_found (key_laws (λ (g : GoalBy). g.goal) (λ (g : GoalBy). g.balance) (λ (r : Rule). r)).at_end call h t l own p w.0 s m.at w.1 w.3 in
       record {
         edit = edit_means.edit m.edit x.found;
         is = x.is;
