@@ -1,12 +1,12 @@
 //! Edits that put another leaf, or a fork over two, in the place of a leaf.
-use crate::begun_edit::BegunEdit;
 use crate::breach::Objection;
+use crate::claimed_edit::ClaimedEdit;
 use crate::map_before::MapPairs;
 use arena::{NodeNo, Side};
 use std::alloc::AllocError;
 
 /// It covers a fork and a leaf below it, and `new` holds what the call makes of the leaf.
-pub(crate) fn check_leaf_edit(edit: &BegunEdit<'_>) -> Result<(), Objection> {
+pub(crate) fn check_leaf_edit(edit: &ClaimedEdit<'_>) -> Result<(), Objection> {
     let (leaf, new) = (edit.member(1), edit.new_node());
     edit.check_place(18, 530, "retires its second node")?;
     edit.check_leaf(leaf)?;
@@ -19,7 +19,7 @@ pub(crate) fn check_leaf_edit(edit: &BegunEdit<'_>) -> Result<(), Objection> {
 }
 
 /// `new` is on the level of the leaf in whose place it comes.
-fn check_level(edit: &BegunEdit<'_>, leaf: u64, new: u64) -> Result<(), Objection> {
+fn check_level(edit: &ClaimedEdit<'_>, leaf: u64, new: u64) -> Result<(), Objection> {
     let alloc = edit.before.alloc;
     let (level, wanted) = (edit.head(new).level, edit.head(leaf).level);
     edit.demand(
@@ -29,7 +29,7 @@ fn check_level(edit: &BegunEdit<'_>, leaf: u64, new: u64) -> Result<(), Objectio
 }
 
 /// Another leaf comes in the place of a leaf that has pairs.
-pub(crate) fn check_swap(edit: &BegunEdit<'_>, leaf: u64, new: u64) -> Result<(), Objection> {
+pub(crate) fn check_swap(edit: &ClaimedEdit<'_>, leaf: u64, new: u64) -> Result<(), Objection> {
     let alloc = edit.before.alloc;
     check_level(edit, leaf, new)?;
     edit.demand(
@@ -43,7 +43,7 @@ pub(crate) fn check_swap(edit: &BegunEdit<'_>, leaf: u64, new: u64) -> Result<()
 }
 
 /// The pairs are those that the call makes of a leaf.
-fn check_pairs(edit: &BegunEdit<'_>, leaf: u64, put: &MapPairs) -> Result<(), Objection> {
+fn check_pairs(edit: &ClaimedEdit<'_>, leaf: u64, put: &MapPairs) -> Result<(), Objection> {
     let (alloc, put) = (edit.before.alloc, edit.words(put)?);
     let shown = edit.words(&edit.pairs_of(leaf)?)?;
     let wanted = edit.words(&edit.pairs_left(leaf)?)?;
@@ -55,7 +55,7 @@ fn check_pairs(edit: &BegunEdit<'_>, leaf: u64, put: &MapPairs) -> Result<(), Ob
 
 /// A fork comes in the place of a leaf, over two fresh ones: between them they have what the call
 /// makes of its pairs, and the right one is a leaf of the same class. In a tree the fork has its key.
-fn check_split(edit: &BegunEdit<'_>, leaf: u64, fork: u64) -> Result<(), Objection> {
+fn check_split(edit: &ClaimedEdit<'_>, leaf: u64, fork: u64) -> Result<(), Objection> {
     let (left, right) = (edit.child(fork, Side::Left), edit.child(fork, Side::Right));
     let is_high = edit.head(leaf).class > 0;
     if !edit.is_in_trie() {
@@ -82,7 +82,7 @@ fn joined(mut low: MapPairs, high: &MapPairs) -> Result<MapPairs, AllocError> {
 }
 
 /// A node below the fork is named by no word yet, and, in a tree, one level below it.
-fn check_fresh(edit: &BegunEdit<'_>, fork: u64, node: u64) -> Result<(), Objection> {
+fn check_fresh(edit: &ClaimedEdit<'_>, fork: u64, node: u64) -> Result<(), Objection> {
     let alloc = edit.before.alloc;
     check_unnamed(edit, fork, node)?;
     let (level, above) = (edit.head(node).level, edit.head(fork).level);
@@ -94,7 +94,7 @@ fn check_fresh(edit: &BegunEdit<'_>, fork: u64, node: u64) -> Result<(), Objecti
 }
 
 /// A node below the fork is named by no word yet.
-pub(crate) fn check_unnamed(edit: &BegunEdit<'_>, fork: u64, node: u64) -> Result<(), Objection> {
+pub(crate) fn check_unnamed(edit: &ClaimedEdit<'_>, fork: u64, node: u64) -> Result<(), Objection> {
     let alloc = edit.before.alloc;
     edit.demand(
         !edit.before.judge.is_named_node(NodeNo(node)),
@@ -104,7 +104,7 @@ pub(crate) fn check_unnamed(edit: &BegunEdit<'_>, fork: u64, node: u64) -> Resul
 
 /// Two nodes are of one class, and have one key if that is asked.
 fn check_alike(
-    edit: &BegunEdit<'_>,
+    edit: &ClaimedEdit<'_>,
     node: u64,
     other: u64,
     has_its_key: bool,
@@ -124,7 +124,7 @@ fn check_alike(
 
 /// The keys of a leaf are on its side of the fork.
 fn check_side(
-    edit: &BegunEdit<'_>,
+    edit: &ClaimedEdit<'_>,
     fork: u64,
     leaf: u64,
     side: Side,

@@ -1,11 +1,11 @@
 //! Edits that take a leaf out.
-use crate::begun_edit::BegunEdit;
 use crate::breach::Objection;
+use crate::claimed_edit::ClaimedEdit;
 use arena::Side;
 
 /// It covers two forks, one below the other, and the two children of the second: one is a leaf of
 /// which the call leaves nothing, and `new` is a copy of the other.
-pub(crate) fn check_leaf_out(edit: &BegunEdit<'_>) -> Result<(), Objection> {
+pub(crate) fn check_leaf_out(edit: &ClaimedEdit<'_>) -> Result<(), Objection> {
     let (alloc, fork) = (edit.before.alloc, edit.member(1));
     edit.check_place(116, 628, "retires all nodes but the first")?;
     edit.demand(
@@ -21,7 +21,7 @@ pub(crate) fn check_leaf_out(edit: &BegunEdit<'_>) -> Result<(), Objection> {
 }
 
 /// The call leaves nothing of the leaf, and `new` is a copy of the node at this place.
-pub(crate) fn check_taken(edit: &BegunEdit<'_>, leaf: u64, place: u8) -> Result<(), Objection> {
+pub(crate) fn check_taken(edit: &ClaimedEdit<'_>, leaf: u64, place: u8) -> Result<(), Objection> {
     let alloc = edit.before.alloc;
     edit.check_low_leaf(leaf)?;
     edit.check_asks(leaf)?;
@@ -35,7 +35,7 @@ pub(crate) fn check_taken(edit: &BegunEdit<'_>, leaf: u64, place: u8) -> Result<
 }
 
 /// The last two nodes are the children of the second, where this is as it was seen.
-fn check_children(edit: &BegunEdit<'_>, fork: u64) -> Result<(), Objection> {
+fn check_children(edit: &ClaimedEdit<'_>, fork: u64) -> Result<(), Objection> {
     let alloc = edit.before.alloc;
     for (side, place) in [(Side::Left, 2), (Side::Right, 3)] {
         let (child, node) = (edit.child(fork, side), edit.member(place));
@@ -49,7 +49,7 @@ fn check_children(edit: &BegunEdit<'_>, fork: u64) -> Result<(), Objection> {
 
 /// `new` has the head and the key of the node at a place, and its pairs, or, where that is as it
 /// was seen, its fields.
-fn check_copy(edit: &BegunEdit<'_>, place: u8) -> Result<(), Objection> {
+fn check_copy(edit: &ClaimedEdit<'_>, place: u8) -> Result<(), Objection> {
     let node = edit.member(place);
     let new = edit.new_node();
     check_part(edit, place, "head", edit.head(new) == edit.head(node))?;
@@ -64,7 +64,7 @@ fn check_copy(edit: &BegunEdit<'_>, place: u8) -> Result<(), Objection> {
     check_part(edit, place, "fields", is_same)
 }
 
-fn check_pairs(edit: &BegunEdit<'_>, place: u8, new: u64, node: u64) -> Result<(), Objection> {
+fn check_pairs(edit: &ClaimedEdit<'_>, place: u8, new: u64, node: u64) -> Result<(), Objection> {
     edit.check_leaf(new)?;
     edit.check_leaf(node)?;
     let (put, wanted) = (
@@ -75,7 +75,12 @@ fn check_pairs(edit: &BegunEdit<'_>, place: u8, new: u64, node: u64) -> Result<(
 }
 
 /// This part of `new` is that of the node at a place.
-fn check_part(edit: &BegunEdit<'_>, place: u8, part: &str, is_same: bool) -> Result<(), Objection> {
+fn check_part(
+    edit: &ClaimedEdit<'_>,
+    place: u8,
+    part: &str,
+    is_same: bool,
+) -> Result<(), Objection> {
     let (alloc, node) = (edit.before.alloc, edit.member(place));
     let new = edit.new_node();
     edit.demand(

@@ -3,11 +3,11 @@
 #![tactic(auto)]
 
 mod begins;
-mod begun_edit;
 mod blame;
 mod breach;
 mod cell_answers;
 mod cell_entries;
+mod claimed_edit;
 mod client_so_far;
 mod entries;
 mod explanation;

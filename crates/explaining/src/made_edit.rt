@@ -1,6 +1,6 @@
 //! Whether an SCX-record that begins makes the edit of its client's call.
-use crate::begun_edit::BegunEdit;
 use crate::breach::{Objection, object};
+use crate::claimed_edit::ClaimedEdit;
 use crate::leaf_edit::check_leaf_edit;
 use crate::leaf_out::check_leaf_out;
 use crate::lines_before::LinesBefore;
@@ -18,7 +18,7 @@ pub(crate) fn check_edit(before: &LinesBefore<'_>, row: &Row) -> Result<(), Obje
     if !before.judge.is_begin(row) {
         return Ok(());
     }
-    let edit = begun_edit(before, row)?;
+    let edit = claimed_edit(before, row)?;
     if edit.is_in_trie() {
         check_in_trie(&edit)?;
         check_keys(&edit)
@@ -28,7 +28,7 @@ pub(crate) fn check_edit(before: &LinesBefore<'_>, row: &Row) -> Result<(), Obje
 }
 
 /// The edit of the client's call for which an SCX-record begins.
-fn begun_edit<'a>(before: &'a LinesBefore<'a>, row: &Row) -> Result<BegunEdit<'a>, Objection> {
+fn claimed_edit<'a>(before: &'a LinesBefore<'a>, row: &Row) -> Result<ClaimedEdit<'a>, Objection> {
     let (alloc, scx, call) = (before.alloc, row.after, call_words(before, row.pass)?);
     let asked = match before.next(row.pass) {
         Some(Command::Map(request)) => request.edit(),
@@ -40,7 +40,7 @@ fn begun_edit<'a>(before: &'a LinesBefore<'a>, row: &Row) -> Result<BegunEdit<'a
             format!(in alloc; "s{scx} begins for {call}, which makes no edit"),
         ));
     };
-    let mut edit = BegunEdit {
+    let mut edit = ClaimedEdit {
         before,
         scx,
         call,
@@ -53,7 +53,7 @@ fn begun_edit<'a>(before: &'a LinesBefore<'a>, row: &Row) -> Result<BegunEdit<'a
 }
 
 /// In a tree it changes a leaf, or takes one out.
-fn check_in_tree(edit: &BegunEdit<'_>) -> Result<(), Objection> {
+fn check_in_tree(edit: &ClaimedEdit<'_>) -> Result<(), Objection> {
     match edit.before.plan(edit.scx).count() {
         2 => check_leaf_edit(edit),
         4 => check_leaf_out(edit),
@@ -63,7 +63,7 @@ fn check_in_tree(edit: &BegunEdit<'_>) -> Result<(), Objection> {
 
 /// In a trie it does so too, or puts a fork above a fork; at an end of the map it covers node 2
 /// besides.
-fn check_in_trie(edit: &BegunEdit<'_>) -> Result<(), Objection> {
+fn check_in_trie(edit: &ClaimedEdit<'_>) -> Result<(), Objection> {
     let (many, old) = (
         edit.before.plan(edit.scx).count(),
         edit.before.scx_word(edit.scx, ScxWord::Old),
@@ -80,7 +80,7 @@ fn check_in_trie(edit: &BegunEdit<'_>) -> Result<(), Objection> {
 }
 
 /// It covers neither so many nodes nor four.
-fn refuse_count(edit: &BegunEdit<'_>, many: u8, few: &str) -> Result<(), Objection> {
+fn refuse_count(edit: &ClaimedEdit<'_>, many: u8, few: &str) -> Result<(), Objection> {
     let alloc = edit.before.alloc;
     edit.demand(
         false,
@@ -91,7 +91,7 @@ fn refuse_count(edit: &BegunEdit<'_>, many: u8, few: &str) -> Result<(), Objecti
 }
 
 /// The key of the edit; at an end of the map it is that of the leaf there.
-fn key_of(edit: &BegunEdit<'_>) -> Result<u64, Objection> {
+fn key_of(edit: &ClaimedEdit<'_>) -> Result<u64, Objection> {
     let alloc = edit.before.alloc;
     let (leaf, end) = match edit.goal {
         Goal::Key(key) => return Ok(key),
@@ -111,7 +111,7 @@ fn key_of(edit: &BegunEdit<'_>) -> Result<u64, Objection> {
 
 /// The leaf at an end from which it takes a pair: of two nodes, or three in a trie, the second, of
 /// four the child on that side, unless this is above all keys.
-fn end_leaf(edit: &BegunEdit<'_>, side: Side) -> u64 {
+fn end_leaf(edit: &ClaimedEdit<'_>, side: Side) -> u64 {
     let (many, second, right) = (
         edit.before.plan(edit.scx).count(),
         edit.member(1),

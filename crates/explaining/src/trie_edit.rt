@@ -1,13 +1,13 @@
 //! Edits that are made in a trie alone. They cover node 2 as the last.
-use crate::begun_edit::BegunEdit;
 use crate::breach::Objection;
+use crate::claimed_edit::ClaimedEdit;
 use crate::leaf_edit::{check_swap, check_unnamed};
 use crate::leaf_out::check_taken;
 use crate::trie_keys::shares;
 use arena::{Kind, NodeWord, ScxNo, ScxWord, SettledPart, Side, Word};
 
 /// It covers a fork, the leaf at an end and node 2, and `new` is a leaf of what the call leaves.
-pub(crate) fn check_end_leaf_edit(edit: &BegunEdit<'_>) -> Result<(), Objection> {
+pub(crate) fn check_end_leaf_edit(edit: &ClaimedEdit<'_>) -> Result<(), Objection> {
     let leaf = edit.member(1);
     edit.check_place(19, 531, "retires its second node")?;
     check_guard(edit, 2)?;
@@ -18,7 +18,7 @@ pub(crate) fn check_end_leaf_edit(edit: &BegunEdit<'_>) -> Result<(), Objection>
 
 /// It covers two forks, one below the other, a child of the second and node 2: the other child is
 /// the leaf at an end, of which the call leaves nothing, and `new` is a copy of the first.
-pub(crate) fn check_end_leaf_out(edit: &BegunEdit<'_>) -> Result<(), Objection> {
+pub(crate) fn check_end_leaf_out(edit: &ClaimedEdit<'_>) -> Result<(), Objection> {
     let (alloc, fork) = (edit.before.alloc, edit.member(1));
     edit.check_place(52, 564, "retires its second and its third node")?;
     check_guard(edit, 3)?;
@@ -37,7 +37,7 @@ pub(crate) fn check_end_leaf_out(edit: &BegunEdit<'_>) -> Result<(), Objection> 
 
 /// The leaf at an end that it takes out: what its second node names on this side. If that has changed
 /// since it was seen, it can win no more, and the leaf is one that its client has found.
-pub(crate) fn end_leaf_out(edit: &BegunEdit<'_>, side: Side) -> u64 {
+pub(crate) fn end_leaf_out(edit: &ClaimedEdit<'_>, side: Side) -> u64 {
     if edit.before.is_as_seen(edit.scx, 1) {
         return edit.child(edit.member(1), side);
     }
@@ -60,7 +60,7 @@ pub(crate) fn end_leaf_out(edit: &BegunEdit<'_>, side: Side) -> u64 {
 }
 
 /// Whether a node is a leaf of one pair, whose key may stand where its field is.
-fn may_take_out(edit: &BegunEdit<'_>, node: u64) -> bool {
+fn may_take_out(edit: &ClaimedEdit<'_>, node: u64) -> bool {
     let (head, key, fork) = (edit.head(node), edit.key_of(node), edit.member(0));
     head.leaf
         && head.class == 0
@@ -71,7 +71,7 @@ fn may_take_out(edit: &BegunEdit<'_>, node: u64) -> bool {
 
 /// It covers a fork and node 2, and `new` is a fork over the one that stood there and a fresh leaf of
 /// the call's pair.
-pub(crate) fn check_above(edit: &BegunEdit<'_>) -> Result<(), Objection> {
+pub(crate) fn check_above(edit: &ClaimedEdit<'_>) -> Result<(), Objection> {
     let (alloc, fork) = (edit.before.alloc, edit.new_node());
     let old = edit.before.scx_word(edit.scx, ScxWord::Old);
     edit.check_field(2, 514, "retires no node")?;
@@ -88,7 +88,7 @@ pub(crate) fn check_above(edit: &BegunEdit<'_>) -> Result<(), Objection> {
 }
 
 /// A leaf below the fork is fresh, and holds just what the call puts in.
-fn check_lone_leaf(edit: &BegunEdit<'_>, fork: u64, leaf: u64) -> Result<(), Objection> {
+fn check_lone_leaf(edit: &ClaimedEdit<'_>, fork: u64, leaf: u64) -> Result<(), Objection> {
     let alloc = edit.before.alloc;
     check_unnamed(edit, fork, leaf)?;
     edit.check_low_leaf(leaf)?;
@@ -102,7 +102,7 @@ fn check_lone_leaf(edit: &BegunEdit<'_>, fork: u64, leaf: u64) -> Result<(), Obj
 }
 
 /// A node is a fork that is not above all keys.
-fn check_low_fork(edit: &BegunEdit<'_>, node: u64) -> Result<(), Objection> {
+fn check_low_fork(edit: &ClaimedEdit<'_>, node: u64) -> Result<(), Objection> {
     let (alloc, head) = (edit.before.alloc, edit.head(node));
     edit.demand(
         !head.leaf && head.class == 0,
@@ -111,7 +111,7 @@ fn check_low_fork(edit: &BegunEdit<'_>, node: u64) -> Result<(), Objection> {
 }
 
 /// Its node at this place, the last, is node 2.
-fn check_guard(edit: &BegunEdit<'_>, place: u8) -> Result<(), Objection> {
+fn check_guard(edit: &ClaimedEdit<'_>, place: u8) -> Result<(), Objection> {
     let (alloc, last) = (edit.before.alloc, edit.member(place));
     edit.demand(
         last == 2,

@@ -1,6 +1,6 @@
 //! Which keys may stand where in a trie.
-use crate::begun_edit::BegunEdit;
 use crate::breach::Objection;
+use crate::claimed_edit::ClaimedEdit;
 use arena::Side;
 
 /// How many keys there are.
@@ -9,23 +9,23 @@ const ALL_KEYS: u128 = 1 << 64;
 /// The keys that may stand below a fork: on its left from `low` to below `middle`, on its right from
 /// there to below `high`. Above all keys they are all on the left.
 #[derive(Clone, Copy)]
-struct Span {
+struct KeySpan {
     low: u128,
     middle: u128,
     high: u128,
 }
 
-fn span_of(edit: &BegunEdit<'_>, fork: u64) -> Span {
+fn span_of(edit: &ClaimedEdit<'_>, fork: u64) -> KeySpan {
     let (head, key) = (edit.head(fork), u128::from(edit.key_of(fork)));
     let room = room_at(head.level);
     if head.class == 0 {
-        Span {
+        KeySpan {
             low: key.saturating_sub(room),
             middle: key,
             high: key.saturating_add(room),
         }
     } else {
-        Span {
+        KeySpan {
             low: 0,
             middle: ALL_KEYS,
             high: ALL_KEYS,
@@ -39,13 +39,13 @@ fn room_at(level: u64) -> u128 {
 }
 
 /// Whether a key may stand below a fork.
-pub(crate) fn shares(edit: &BegunEdit<'_>, fork: u64, key: u64) -> bool {
+pub(crate) fn shares(edit: &ClaimedEdit<'_>, fork: u64, key: u64) -> bool {
     let (span, key) = (span_of(edit, fork), u128::from(key));
     edit.head(fork).class > 0 || (span.low <= key && key < span.high)
 }
 
 /// The key may stand below the first node, and what comes there keeps to the keys of that side.
-pub(crate) fn check_keys(edit: &BegunEdit<'_>) -> Result<(), Objection> {
+pub(crate) fn check_keys(edit: &ClaimedEdit<'_>) -> Result<(), Objection> {
     let (alloc, key, fork) = (edit.before.alloc, edit.key, edit.member(0));
     let (new, span) = (edit.new_node(), span_of(edit, fork));
     edit.demand(
@@ -69,7 +69,7 @@ pub(crate) fn check_keys(edit: &BegunEdit<'_>) -> Result<(), Objection> {
 }
 
 /// A node is deeper than the fork above it.
-fn check_deeper(edit: &BegunEdit<'_>, fork: u64, node: u64) -> Result<(), Objection> {
+fn check_deeper(edit: &ClaimedEdit<'_>, fork: u64, node: u64) -> Result<(), Objection> {
     let (alloc, above, level) = (
         edit.before.alloc,
         edit.head(fork).level,
@@ -83,7 +83,7 @@ fn check_deeper(edit: &BegunEdit<'_>, fork: u64, node: u64) -> Result<(), Object
 
 /// A node keeps to the keys of a fork's side: a fork with all that may stand below it, a leaf with
 /// those of its pairs.
-fn check_keeps(edit: &BegunEdit<'_>, fork: u64, side: Side, node: u64) -> Result<(), Objection> {
+fn check_keeps(edit: &ClaimedEdit<'_>, fork: u64, side: Side, node: u64) -> Result<(), Objection> {
     let (head, span) = (edit.head(node), span_of(edit, fork));
     let (from, to) = match side {
         Side::Left => (span.low, span.middle),
@@ -104,7 +104,7 @@ fn check_keeps(edit: &BegunEdit<'_>, fork: u64, side: Side, node: u64) -> Result
 
 /// A leaf has its level, and no key but those from one to below another.
 fn check_leaf_keeps(
-    edit: &BegunEdit<'_>,
+    edit: &ClaimedEdit<'_>,
     fork: u64,
     leaf: u64,
     from: u128,
@@ -132,7 +132,7 @@ fn check_leaf_keeps(
 }
 
 /// A fork is on the level of the lowest bit of its key; above all keys, on that of its class.
-fn check_parted(edit: &BegunEdit<'_>, fork: u64) -> Result<(), Objection> {
+fn check_parted(edit: &ClaimedEdit<'_>, fork: u64) -> Result<(), Objection> {
     let (alloc, head) = (edit.before.alloc, edit.head(fork));
     let (level, key, class) = (head.level, edit.key_of(fork), head.class);
     let room = room_at(level);

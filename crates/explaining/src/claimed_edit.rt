@@ -12,7 +12,7 @@ const SLOTS: [Slot; 4] = [Slot::First, Slot::Second, Slot::Third, Slot::Fourth];
 /// The SCX-record, the call for which it begins, in words, and the edit of that: where it goes, by
 /// which rule, and at which key.
 #[derive(Drop)]
-pub(crate) struct BegunEdit<'a> {
+pub(crate) struct ClaimedEdit<'a> {
     pub(crate) before: &'a LinesBefore<'a>,
     pub(crate) scx: u64,
     pub(crate) call: String,
@@ -21,7 +21,7 @@ pub(crate) struct BegunEdit<'a> {
     pub(crate) key: u64,
 }
 
-impl BegunEdit<'_> {
+impl ClaimedEdit<'_> {
     /// Objects to it in these words, unless this holds.
     pub(crate) fn demand(
         &self,
