@@ -18,12 +18,12 @@ use Rattle.ordered_map.specs.declared.request.Request.TheVariants.{Get as GetOf}
 use Rattle.edits.specs.Known.{RestsWith, IsUntouched}
 use Rattle.dict.specs.Calls.{AsksForPairs, IsFewCall}
 use Rattle.dict.specs.DictKnown.{DictRefuses}
-use Rattle.dict.specs.Says.{HasLost, HasNeeded, HasReadMap, HasRunOut, HasTold, HasToldBy, TellsOfMap}
+use Rattle.dict.specs.Says.{HasLost, HasNeeded, HasReadMap, HasRunOut, HasTold, HasToldBy, TellsOfMap, WalksFirst}
 use Rattle.record.specs.declared.record.Line.{Line}
 use Rattle.record.specs.declared.record.Answer.{Answer}
 use Rattle.record.specs.declared.record.Answer.TheVariants.{Map as MapAnswer}
 use Rattle.record.specs.Rules.Map.{map_rules}
-use Rattle.record.specs.Rules.Edit.{EditIsRight, EditTells, HadToChange, HasChangedOrReplied}
+use Rattle.record.specs.Rules.Edit.{EditIsRight, EditTells, FindsFirst, HadToChange, HasChangedOrReplied}
 use Rattle.record.specs.Shares.{HasTooFew, HasTooFewToTry, WasBlocked}
 use Rattle.record.proofs.Lemmas.{value_told}
 use Rattle.linearization.specs.declared.places.Change.{Change}
@@ -69,6 +69,11 @@ entry_makes lay before s (Neighbour side key) edit map spells gives makes = absu
 entry_makes lay before s (Range low high most) edit map spells gives makes = absurd (let e = gives map spells in cc)
 
 -- What steps a call may make
+
+-- one that finds first what it has to change walks first
+walks_first : (lay : Layout) (goal : Goal) (rule : Rule) → FindsFirst lay (Edit goal rule) → WalksFirst lay (Edit goal rule)
+walks_first lay (Key k) rule finds = tt
+walks_first lay (End side) rule finds = finds
 
 -- a request for few pairs is a call that asks for few
 pub few_pairs : (request : Request ℕ ℕ) → AsksForFew request → IsFewCall (map_request request)
@@ -303,9 +308,10 @@ module _ (v : ClientView) (c : Client) (is_pass : c.pass.0 < v.layout.passes) wh
     edit_right (Value told) share rests form tells why = tells_right (OneValue (option_map (λ n. n) told)) tells
     edit_right (PairOf found) share rests form tells why = tells_right (pair_or_none (option_map (word_pair (λ n. n) (λ n. n)) found)) tells
     edit_right (Pairs found) share rests form tells why = tells_right (ManyPairs (number_pairs found.items)) tells
-    edit_right (Contended node scx) share rests form tells why =
-        let needed = why.lost.needed (some_nodes (applies rule None)) in
-        (need of needed.map, had_to of why.lost.all.lost.begin why.lost.all.lost.since needed, lost of node.0 scx.0 why)
+    edit_right (Contended node scx) share rests form tells why = (
+      λ finds. let needed = why.lost.needed (some_nodes (applies rule None)) (walks_first v.layout goal rule finds) in (need of needed.map, had_to of why.lost.all.lost.begin why.lost.all.lost.since needed),
+      lost of node.0 scx.0 why,
+    )
     edit_right (Full full) share rests form tells why =
         let short = why.short in
         (need of short.needed.map, had_to of short.only_looked.begin short.only_looked.since short.needed, too_few of share full rests why)

@@ -1,12 +1,13 @@
 -- The rules of an edit.
 use Rattle.std.specs.Prelude.{◌≡◌, ℕ, ◌<◌, Bool, true, false, List, Option, Some, None}
-use Rattle.histories.specs.Common.{Layout, History, value}
+use Rattle.histories.specs.Common.{Layout, Tree, History, value}
 use Rattle.ordered_map.specs.CallRules.{need}
-use Rattle.ordered_map.specs.OrderedMap.{MapCall, MapEdit, MapReply, changes_map, edit_of, reply}
+use Rattle.ordered_map.specs.OrderedMap.{MapCall, Edit, MapEdit, MapReply, changes_map, edit_of, reply}
 use Rattle.ordered_map.specs.Runs.{Makes}
 use Rattle.ordered_map.specs.Spelled.{Spells}
 use Rattle.ordered_map.specs.declared.pair.Pair.{Pair}
 use Rattle.ordered_map.specs.declared.reply.Reply.TheVariants.{Contended, Full}
+use Rattle.ordered_map.specs.declared.rule.Goal.TheVariants.{End}
 use Rattle.record.specs.declared.record.Answer.{Answer}
 use Rattle.record.specs.declared.record.Answer.TheVariants.{Map}
 use Rattle.record.specs.Answers.{HasLostAllTries}
@@ -33,10 +34,16 @@ abbrev pub EditTells : MapCall → Layout → History → History → Option Map
 EditTells call lay now start (Some told) = HasChangedOrReplied (changes_map call told) lay now start call told
 EditTells call lay now start None = ⊥
 
+-- A try of the call is lost only where it has found something to change; but one that goes to an end
+-- of a trie looks at node 2 first, and may be lost there.
+abbrev pub FindsFirst : Layout → MapCall → Type 0
+FindsFirst lay (Edit (End side) rule) = lay.mode ≡ Tree
+FindsFirst lay _ = Unit {0}
+
 -- what its answers say
 abbrev pub EditIsRight : MapCall → Layout → ℕ → ℕ → History → History → (ℕ → Option History) → Answer → Type 0
--- there was something to change, and all tries were lost
-EditIsRight call lay tries c now start linked (Map (Contended node scx)) = (nodes : ℕ) × HadToChange lay now start call nodes × HasLostAllTries lay tries c now start node.0 scx.0
+-- all tries were lost, and there was something to change, if that is found first
+EditIsRight call lay tries c now start linked (Map (Contended node scx)) = (FindsFirst lay call → (nodes : ℕ) × HadToChange lay now start call nodes) × HasLostAllTries lay tries c now start node.0 scx.0
 -- there was something to change, for which the share has too little: already as the call began, or
 -- another client was in the way since
 EditIsRight call lay tries c now start linked (Map (Full full)) = (nodes : ℕ) × HadToChange lay now start call nodes × HasTooFewToTry lay c now start nodes full.what full.left
