@@ -8,8 +8,9 @@ use Rattle.arena.specs.declared.word.Word.{Word}
 use Rattle.arena.specs.declared.step.Row.{Row}
 use Rattle.arena.specs.declared.step.Access.TheVariants.{Exchange}
 use Rattle.arena.specs.Layout.{is_map, tree_opening, records_opening, IsMap}
+use Rattle.arena.specs.Openings.{Opening}
 use Rattle.arena.specs.Words.{same_word, same_node_word, same_scx_word, node, scx, info, marked, state, word_after}
-use Rattle.arena.specs.History.{History, Start, ◌⊳◌, value, HasHeld, Extends, rows_after}
+use Rattle.arena.specs.History.{History, Start, Opened, ◌⊳◌, value, HasHeld, Extends, opening_of, rows_after}
 use Rattle.arena.proofs.SameWords.{word_same, word_refl}
 
 pub value_at : (r : Row) (h : History) (w : Word) → r.word ≡ w → value (r ⊳ h) w ≡ r.after
@@ -37,7 +38,7 @@ value_quiet r h b a w = go (same_word r.word w) refl
 
 pub held_at : (h : History) (w : Word) (v : ℕ) → value h w ≡ v → HasHeld h w v
 unfolding HasHeld
-held_at (Start mode) w v e = e
+held_at (Opened o) w v e = e
 held_at (r ⊳ h) w v e = inl e
 
 pub held_now : (h : History) (w : Word) → HasHeld h w (value h w)
@@ -51,9 +52,9 @@ pub held_split : (r : Row) (h : History) (w : Word) (v : ℕ) → HasHeld (r ⊳
 unfolding HasHeld
 held_split r h w v p = p
 
-pub held_start : (mode : Mode) (w : Word) (v : ℕ) → HasHeld (Start mode) w v → value (Start mode) w ≡ v
+pub held_start : (o : Opening) (w : Word) (v : ℕ) → HasHeld (Opened o) w v → value (Opened o) w ≡ v
 unfolding HasHeld
-held_start mode w v p = p
+held_start o w v p = p
 
 -- a row that leaves the word
 pub held_back : (r : Row) (h : History) (w : Word) (v : ℕ) → value (r ⊳ h) w ≡ value h w → HasHeld (r ⊳ h) w v → HasHeld h w v
@@ -65,34 +66,34 @@ held_back r h w v e p = go (held_split r h w v p)
 
 -- The opening words
 
--- a map opens word for word as a tree
+-- an empty map opens word for word as a tree
 pub map_opens : (mode : Mode) → IsMap mode → value (Start mode) ≡ tree_opening
 unfolding value
 map_opens mode e =
     let opens : Bool → Word → ℕ = λ is w. cond is (tree_opening w) (records_opening w) in
     ap opens e
 
--- what a map and cells open with alike
-opens_alike : (mode : Mode) (w : Word) (v : ℕ) → tree_opening w ≡ v → records_opening w ≡ v → value (Start mode) w ≡ v
+pub opening_info : (o : Opening) (n : ℕ) → value (Opened o) (info n) ≡ 0
 unfolding value
-opens_alike mode w v map cells = elim (is_map mode) as (λ is. cond is (tree_opening w) (records_opening w) ≡ v) [ true ↦ map | false ↦ cells ]
+opening_info o n = o.at_rest n
 
-pub opening_info : (mode : Mode) (n : ℕ) → value (Start mode) (info n) ≡ 0
-opening_info mode n = opens_alike mode (info n) 0 refl refl
-
-pub opening_marked : (mode : Mode) (n : ℕ) → value (Start mode) (marked n) ≡ 0
-opening_marked mode n = opens_alike mode (marked n) 0 refl refl
+pub opening_marked : (o : Opening) (n : ℕ) → value (Opened o) (marked n) ≡ 0
+unfolding value
+opening_marked o n = o.unmarked n
 
 -- of an SCX-record's words only the dummy's state is not zero
-pub opening_scx : (mode : Mode) (s : ℕ) (part : ScxWord) → same_scx_word State part ≡ false → value (Start mode) (scx s part) ≡ 0
-opening_scx mode s State e = cc
-opening_scx mode s part e = opens_alike mode (scx s part) 0 refl refl
+pub opening_scx : (o : Opening) (s : ℕ) (part : ScxWord) → same_scx_word State part ≡ false → value (Opened o) (scx s part) ≡ 0
+unfolding value
+opening_scx o s State e = cc
+opening_scx o s part e = o.records s part
 
-pub opening_dummy : (mode : Mode) → value (Start mode) (state 0) ≡ 2
-opening_dummy mode = opens_alike mode (state 0) 2 refl refl
+pub opening_dummy : (o : Opening) → value (Opened o) (state 0) ≡ 2
+unfolding value
+opening_dummy o = o.records 0 State
 
-pub opening_state : (mode : Mode) (s : ℕ) → s ≢ 0 → value (Start mode) (state s) ≡ 0
-opening_state mode s d = opens_alike mode (state s) 0 (rw (ne_eqb s 0 d) refl) (rw (ne_eqb s 0 d) refl)
+pub opening_state : (o : Opening) (s : ℕ) → s ≢ 0 → value (Opened o) (state s) ≡ 0
+unfolding value
+opening_state o s d = o.records s State ∙ rw (ne_eqb s 0 d) refl
 
 -- Words that differ
 
@@ -123,30 +124,36 @@ exchange_lost e v f p = rw (ne_eqb f e p) refl
 -- Moments
 
 pub ends_self : (h : History) → Extends h h
-ends_self (Start mode) = refl
+ends_self (Opened o) = refl
 ends_self (r ⊳ h) = inl refl
 
 pub ends_trans : (h m l : History) → Extends h m → Extends m l → Extends h l
-ends_trans (Start mode) m l e f = rw e at f
+ends_trans (Opened o) m l e f = rw e at f
 ends_trans (r ⊳ h) m l (inl e) f = rw e at f
 ends_trans (r ⊳ h) m l (inr e) f = inr (ends_trans h m l e f)
 
+-- a history is over the opening of each of its moments
+pub same_opening : (h m : History) → Extends h m → opening_of m ≡ opening_of h
+same_opening (Opened o) m e = ap opening_of e
+same_opening (r ⊳ h) m (inl e) = ap opening_of e
+same_opening (r ⊳ h) m (inr e) = same_opening h m e
+
 -- how many rows a history has
 length_of : History → ℕ
-length_of (Start mode) = zero
+length_of (Opened o) = zero
 length_of (r ⊳ h) = suc (length_of h)
 
 -- a moment has no more rows than the history
 shorter : (h m : History) → Extends h m → length_of m ≤ length_of h
 unfolding length_of
-shorter (Start mode) m e = rw e (omega arith)
+shorter (Opened o) m e = rw e (omega arith)
 shorter (r ⊳ h) m (inl e) = rw e (omega arith)
 shorter (r ⊳ h) m (inr e) = let x = shorter h m e in omega arith
 
 -- of two moments each of the other there is one
 pub same_moment : (h m : History) → Extends h m → Extends m h → m ≡ h
 unfolding length_of
-same_moment (Start mode) m e f = e
+same_moment (Opened o) m e f = e
 same_moment (r ⊳ h) m (inl e) f = e
 same_moment (r ⊳ h) m (inr e) f = absurd (let x = shorter h m e in let y = shorter m (r ⊳ h) f in omega arith)
 
@@ -157,7 +164,7 @@ no_row_behind h k r e f = let x = shorter h (r ⊳ k) e in let y = shorter k h f
 
 -- what a word held at a moment it has held
 pub held_since : (h m : History) (w : Word) (v : ℕ) → Extends h m → HasHeld m w v → HasHeld h w v
-held_since (Start mode) m w v e p = rw e at p
+held_since (Opened o) m w v e p = rw e at p
 held_since (r ⊳ h) m w v (inl e) p = rw e at p
 held_since (r ⊳ h) m w v (inr e) p = held_more r h w v (held_since h m w v e p)
 

@@ -13,7 +13,7 @@ use Rattle.arena.specs.declared.step.Kind.TheVariants.{Fill}
 use Rattle.arena.specs.Layout.{opening_nodes}
 use Rattle.arena.specs.Share.{whole_share, HasNode, HasScx}
 use Rattle.arena.specs.Words.{node, scx, info, child}
-use Rattle.arena.specs.History.{History, Start, ◌⊳◌, HasHeld}
+use Rattle.arena.specs.History.{History, Opened, ◌⊳◌, HasHeld}
 
 -- Shares
 
@@ -55,7 +55,7 @@ NamesNode _ = ⊥
 -- the node is named: passes other than its owner may know it. What is named stays named
 pub data IsNamed (lay : Layout) (h : History) : ℕ → Type 0 where
   -- it was there from the start
-  opening_node : {n : ℕ} → n < opening_nodes lay.mode → IsNamed lay h n
+  opening_node : {n : ℕ} → n < opening_nodes lay → IsNamed lay h n
   -- a field of a named node holds it, or has held it
   by_field : {n : ℕ} (m : ℕ) (side : Side) → IsNamed lay h m → HasHeld h (child m side) n → IsNamed lay h n
   -- a word of a named SCX-record that names nodes holds it, or has held it
@@ -63,7 +63,7 @@ pub data IsNamed (lay : Layout) (h : History) : ℕ → Type 0 where
 
 -- the node was there from the start, or a field of a named node holds it or has held it
 abbrev pub IsInField : Layout → History → ℕ → Type 0
-IsInField lay h n = (n < opening_nodes lay.mode) ⊎ ((m : ℕ) × (side : Side) × IsNamed lay h m × HasHeld h (child m side) n)
+IsInField lay h n = (n < opening_nodes lay) ⊎ ((m : ℕ) × (side : Side) × IsNamed lay h m × HasHeld h (child m side) n)
 
 -- Fills
 
@@ -77,12 +77,12 @@ IsFillOfScx s r = (part : ScxWord) × (r.kind ≡ Fill) × (r.word ≡ scx s par
 
 -- the node is taken: some row has filled a word of it
 unfoldable pub IsTakenNode : History → ℕ → Type 0
-IsTakenNode (Start mode) n = ⊥
+IsTakenNode (Opened o) n = ⊥
 IsTakenNode (r ⊳ h) n = IsFillOfNode n r ⊎ IsTakenNode h n
 
 -- the SCX-record is taken: some row has filled a word of it
 unfoldable pub IsTakenScx : History → ℕ → Type 0
-IsTakenScx (Start mode) s = ⊥
+IsTakenScx (Opened o) s = ⊥
 IsTakenScx (r ⊳ h) s = IsFillOfScx s r ⊎ IsTakenScx h s
 
 -- a node of the pass's share that it has taken or takes next, and that is not named yet

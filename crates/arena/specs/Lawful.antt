@@ -1,5 +1,5 @@
 -- Which rows are lawful after a history: one condition for each of the 13 kinds of step.
-use Rattle.std.specs.Prelude.{◌≡◌, ◌≢◌, ℕ, ◌<◌, true, ◌⊎◌}
+use Rattle.std.specs.Prelude.{◌≡◌, ◌≢◌, ℕ, ◌<◌, ◌≤◌, true, ◌⊎◌}
 use Rattle.arena.specs.declared.word.Side.{Side}
 use Rattle.arena.specs.declared.word.NodeWord.TheVariants.{Settled, Child, Info, Marked}
 use Rattle.arena.specs.declared.word.ScxWord.TheVariants.{State, AllFrozen, New}
@@ -11,7 +11,7 @@ use Rattle.arena.specs.declared.step.Kind.{Kind}
 use Rattle.arena.specs.declared.step.Kind.TheVariants.{Fill, LoadSettled, LoadInfo, LoadState, LoadMarked, LoadAllFrozen, LoadChild, Freeze, SetFrozen, Mark, Update, Commit, Abort}
 use Rattle.arena.specs.Layout.{all_nodes, IsWord}
 use Rattle.arena.specs.Words.{scx, info, marked, child, state}
-use Rattle.arena.specs.History.{History, Start, ◌⊳◌, value, HasHeld}
+use Rattle.arena.specs.History.{History, Opened, ◌⊳◌, value, HasHeld}
 use Rattle.arena.specs.ScxRecords.{IsPlan, plan, member, seen, new, old, count, scx_finalizes, field_index, field}
 use Rattle.arena.specs.Fills.{IsOwnNode, IsOwnScx, MayFill}
 
@@ -139,7 +139,7 @@ pub record IsWin (h : History) (r : Row) (s : ℕ) : Type 0 where
 
 -- some row of the history is an update of s that won
 unfoldable pub HasWon : History → ℕ → Type 0
-HasWon (Start mode) s = ⊥
+HasWon (Opened o) s = ⊥
 HasWon (r ⊳ h) s = IsWin h r s ⊎ HasWon h s
 
 -- the row commits s, one of whose update exchanges has won
@@ -187,8 +187,8 @@ pub record IsLawful (lay : Layout) (h : History) (r : Row) : Type 0 where
   pub pass : r.pass.0 < lay.passes
   pub word : IsWord lay r.word
 
--- each row of the history is lawful after those before
--- it, over the opening words of the layout's mode
+-- each row of the history is lawful after those before it, over
+-- an opening of the layout's mode, for which there is room
 unfoldable pub Lawful : Layout → History → Type 0
-Lawful lay (Start mode) = mode ≡ lay.mode
+Lawful lay (Opened o) = (o.mode ≡ lay.mode) × (o.planted ≤ lay.planted)
 Lawful lay (r ⊳ h) = Lawful lay h × IsLawful lay h r

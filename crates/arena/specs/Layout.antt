@@ -1,5 +1,4 @@
--- The table of a layout: how many words it has, where each is, what each
--- holds at the start, and which pass owns what.
+-- The table of a layout: how many words it has, where each is, and which pass owns what.
 use Rattle.std.specs.Prelude.{ℕ, ◌+◌, ◌*◌, ◌<◌, if◌then◌else◌, ◌==◌}
 use Rattle.arena.specs.declared.limits.Mode.{Mode}
 use Rattle.arena.specs.declared.layout.Layout.{Layout}
@@ -11,12 +10,17 @@ use Rattle.arena.specs.declared.word.SettledPart.TheVariants.{Head}
 use Rattle.arena.specs.declared.word.ScxWord.TheVariants.{State}
 use Rattle.arena.specs.declared.word.Word.{Word}
 use Rattle.arena.specs.declared.word.Word.TheVariants.{Node, Scx}
-pub use Rattle.arena.specs.Opening.{is_map, opening_nodes, IsMap}
+pub use Rattle.arena.specs.Opening.{is_map, nodes_at_start, IsMap}
+pub use Rattle.arena.specs.Openings.{tree_opening, records_opening, opening}
 use Rattle.arena.specs.Words.{node_place, scx_place, IsScxWord}
+
+-- how many nodes there are from the start
+abbrev pub opening_nodes : Layout → ℕ
+opening_nodes lay = nodes_at_start lay.mode lay.planted
 
 -- how many nodes there are: those of the start, and the share of each pass
 abbrev pub all_nodes : Layout → ℕ
-all_nodes lay = opening_nodes lay.mode + lay.passes * lay.nodes
+all_nodes lay = opening_nodes lay + lay.passes * lay.nodes
 
 -- how many SCX-records there are: the dummy, number 0,
 -- which is nobody's, and the share of each pass
@@ -26,7 +30,7 @@ all_scx lay = 1 + lay.passes * lay.scx
 -- the first node of pass c's share: after the nodes of
 -- the start and the shares of the passes before
 abbrev pub first_node : Layout → ℕ → ℕ
-first_node lay c = opening_nodes lay.mode + c * lay.nodes
+first_node lay c = opening_nodes lay + c * lay.nodes
 
 -- the first SCX-record of pass c's share: after the dummy and the shares of the passes before it
 abbrev pub first_scx : Layout → ℕ → ℕ
@@ -58,23 +62,3 @@ place lay (Scx s part) = 18 * all_nodes lay + 14 * s.0 + scx_place part
 abbrev pub IsWord : Layout → Word → Type 0
 IsWord lay (Node n part) = n.0 < all_nodes lay
 IsWord lay (Scx s part) = (s.0 < all_scx lay) × IsScxWord part
-
--- what a word holds at the start in a map: node 0 is a root of class 2, over a leaf of class 1 on
--- its left and a leaf of class 2 on its right; the dummy is aborted; all else is 0
-abbrev pub tree_opening : Word → ℕ
-tree_opening (Node n (Settled Head)) =
-    if n.0 == 0 then 2
-    else (if n.0 == 1 then 13 else (if n.0 == 2 then 14 else 0))
-tree_opening (Node n (Child Left)) = if n.0 == 0 then 1 else 0
-tree_opening (Node n (Child Right)) = if n.0 == 0 then 2 else 0
-tree_opening (Scx s State) = if s.0 == 0 then 2 else 0
-tree_opening _ = 0
-
--- what a word holds at the start in cells: 0, but that the dummy is aborted
-abbrev pub records_opening : Word → ℕ
-records_opening (Scx s State) = if s.0 == 0 then 2 else 0
-records_opening _ = 0
-
--- what a word holds before the first row, in a table of this mode
-abbrev pub opening : Mode → Word → ℕ
-opening mode w = if is_map mode then tree_opening w else records_opening w

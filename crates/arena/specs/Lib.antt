@@ -1,5 +1,6 @@
 pub mod Words
 pub mod Opening
+pub mod Openings
 pub mod Limits
 pub mod Layout
 pub mod Machines

@@ -14,9 +14,10 @@ pub record IsAccepted (limits : Limits) : Type 0 where
   pub some_try : 1 ≤ limits.tries
   pub tries : limits.tries ≤ 1000
 
--- the layout has these limits and is for this mode
+-- the layout has these limits and is for this mode, and begins empty
 pub record IsLayoutOf (limits : Limits) (mode : Mode) (layout : Layout) : Type 0 where
   pub mode_is : layout.mode ≡ mode
   pub passes : layout.passes ≡ limits.passes
   pub nodes : layout.nodes ≡ limits.nodes
   pub scx : layout.scx ≡ limits.scx
+  pub none_planted : layout.planted ≡ 0

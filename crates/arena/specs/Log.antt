@@ -10,9 +10,8 @@ use Rattle.arena.specs.declared.layout.Layout.{Layout}
 use Rattle.arena.specs.declared.step.Row.{Row}
 use Rattle.arena.specs.declared.step.Kind.{Kind}
 use Rattle.arena.specs.declared.step.Kind.TheVariants.{Fill, Update}
-use Rattle.arena.specs.Layout.{opening}
 use Rattle.arena.specs.Words.{same_word, same_side, scx, info, child}
-use Rattle.arena.specs.History.{History, Start, ◌⊳◌, value}
+use Rattle.arena.specs.History.{History, Opened, ◌⊳◌, value}
 use Rattle.arena.specs.ScxRecords.{count, member, scx_finalizes}
 
 -- the pass whose share has the SCX-record s, for s from 1 on
@@ -70,7 +69,7 @@ with_row lay h r _ _ es = es
 -- the updates that have won, the newest first; the place
 -- of an entry is the number of entries up to it
 unfoldable pub log : Layout → History → List Entry
-log lay (Start mode) = []
+log lay (Opened o) = []
 log lay (r ⊳ h) = with_row lay h r r.kind r.word (log lay h)
 
 -- whether a step of this kind is a fill
@@ -80,7 +79,7 @@ is_fill _ = false
 
 -- what the last fill of a word left in it, or its opening word
 unfoldable pub filled : History → Word → ℕ
-filled (Start mode) w = opening mode w
+filled (Opened o) w = o.words w
 filled (r ⊳ h) w = if is_fill r.kind && same_word r.word w then r.after else filled h w
 
 -- what the field on this side of n holds after the entries, if it held `start` before them

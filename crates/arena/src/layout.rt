@@ -1,6 +1,6 @@
 //! Where each word is in the table.
 ghost use Rattle.std.specs.Prelude.{◌≡◌, ℕ, ◌+◌, ◌*◌, ◌<◌, ◌≤◌, ◌↔◌, IsTrue, IsSome, IfSome};
-ghost use Rattle.arena.specs.Opening.{opening_nodes};
+ghost use Rattle.arena.specs.Opening.{nodes_at_start};
 
 use crate::limits::{Limits, Mode};
 use crate::number::{NodeNo, PassNo, ScxNo};
@@ -16,21 +16,25 @@ pub struct Layout {
     pub nodes: u32,
     /// How many SCX-records each pass owns: at most 32,768.
     pub scx: u32,
+    /// How many nodes a map has from the start beyond the three of an empty one: those that were
+    /// planted with its first pairs, at most 67,108,864.
+    pub planted: u32,
     /// How many words the nodes have. Those of the SCX-records are after them: computed once,
     /// since each step on such a word needs it.
     node_words: u32,
     ghost passes_fit: { passes ≤ 32 },
     ghost nodes_fit: { nodes ≤ 32768 },
     ghost scx_fit: { scx ≤ 32768 },
-    ghost counted: { node_words ≡ 18 * (opening_nodes mode + passes * nodes) },
+    ghost planted_fit: { planted ≤ 67108864 },
+    ghost counted: { node_words ≡ 18 * (nodes_at_start mode planted + passes * nodes) },
 }
 
 impl Layout {
     ghost use Rattle.arena.specs.Limits.{IsAccepted, IsLayoutOf};
-    ghost use Rattle.arena.specs.Layout.{all_nodes, all_scx, first_node, first_scx, table_size, node_start, scx_start, start_of, place, IsWord};
+    ghost use Rattle.arena.specs.Layout.{opening_nodes, all_nodes, all_scx, first_node, first_scx, table_size, node_start, scx_start, start_of, place, IsWord};
     ghost use Rattle.arena.specs.declared.word.Word.{Word};
 
-    /// The table of this mode within limits.
+    /// The empty table of this mode within limits.
     pub(crate) fn of(limits: Limits, mode: Mode) -> Layout
         requires { IsAccepted limits }
         ensures { IsLayoutOf limits mode result }
@@ -46,22 +50,23 @@ impl Layout {
             passes,
             nodes,
             scx,
-            node_words: 18 * (opening(mode) + passes * nodes),
+            planted: 0,
+            node_words: 18 * (nodes_at_start(mode, 0) + passes * nodes),
         }
     }
 
-    /// How many nodes there are from the start: the tree's
-    /// first three, or node 0 and the cells 1 to 8.
+    /// How many nodes there are from the start: the three of an empty tree and those that are
+    /// planted, or node 0 and the cells 1 to 8.
     pub fn opening(&self) -> u32
-        ensures { result ≡ opening_nodes self.now.mode }
+        ensures { result ≡ opening_nodes self.now }
     {
-        opening(self.mode)
+        nodes_at_start(self.mode, self.planted)
     }
 
     /// How many nodes there are in all.
     pub fn all_nodes(&self) -> u32
         ensures nodes { result ≡ all_nodes self.now }
-        ensures fits { result ≤ 1048585 }
+        ensures fits { result ≤ 68157449 }
     {
         self.opening() + self.passes * self.nodes
     }
@@ -184,11 +189,12 @@ impl Layout {
     }
 }
 
-/// How many nodes a mode has from the start.
-fn opening(mode: Mode) -> u32
-    ensures { result ≡ opening_nodes mode }
+/// How many nodes a mode has from the start, so many of them planted.
+fn nodes_at_start(mode: Mode, planted: u32) -> u32
+    requires { planted ≤ 67108864 }
+    ensures { result ≡ nodes_at_start mode planted }
 {
-    if mode.is_map() { 3 } else { 9 }
+    if mode.is_map() { 3 + planted } else { 9 }
 }
 
 ghost use Rattle.arena.specs.Words.{node_place, settled_place, slot_no, scx_place, IsScxWord};

@@ -2,7 +2,8 @@
 ghost use Rattle.std.specs.Prelude.{◌≡◌, ◌≢◌, ℕ, ◌<◌, ◌≤◌, length, Option, Some, None};
 ghost use Rattle.arena.specs.declared.layout.Layout.{Layout};
 ghost use Rattle.arena.specs.declared.limits.Mode.{Mode};
-ghost use Rattle.arena.specs.History.{History, Start, value, ◌⊳◌};
+ghost use Rattle.arena.specs.History.{History, Opened, value, ◌⊳◌};
+ghost use Rattle.arena.specs.Openings.{Opening};
 ghost use Rattle.arena.specs.declared.step.Row.{Row};
 ghost use Rattle.arena.specs.declared.step.Step.{Step};
 ghost use Rattle.arena.specs.TakenNodes.{taken_nodes};
@@ -45,7 +46,7 @@ pub trait Shape {
     ghost holds: { Layout → History → Type 0 };
 
     /// It is true before the first row.
-    ghost opens: { (lay : Layout) → holds lay (Start lay.mode) };
+    ghost opens: { (lay : Layout) (o : Opening) → IsRun allows lay (Opened o) → holds lay (Opened o) };
 
     /// Every row of such a run keeps it true.
     ghost stays: { (lay : Layout) (h : History) (r : Row) → IsRun allows lay (r ⊳ h) → holds lay h → holds lay (r ⊳ h) };

@@ -3,7 +3,7 @@ use Rattle.std.proofs.Common.{◌≡◌, ◌≢◌, ℕ, ◌+◌, ◌*◌, ◌<�
 use Rattle.std.specs.List.{Contains}
 use Rattle.std.proofs.lemmas.Bool.{false≢true}
 use Rattle.histories.specs.Common.{Layout, Kind, Freeze, Records, all_nodes, WasInTheWay, HasFailed, IsOthersScx, HasFound, History, value, log, last, is_final, state}
-use Rattle.arena.specs.Opening.{opening_nodes}
+use Rattle.arena.specs.Layout.{opening_nodes, nodes_at_start}
 use Rattle.record.specs.Common.{IsInTheWay, IsLastLook, IsFirstUnlinked, AreLinked}
 use Rattle.audit.specs.CellCalls.{IsCallSeen, IsLookAt, IsOwnLook, IsAsLooked}
 use Rattle.audit.specs.Remembered.{row_count, IsMomentAt, IsLookOf, AreSnapshotsOf}
@@ -107,4 +107,4 @@ beyond : (a b n : ℕ) → a ≡ 9 → n ≤ 8 → n < a + b
 beyond a b n e p = omega arith
 
 pub cell_inside : (lay : Layout) (n : ℕ) → lay.mode ≡ Records → n ≤ 8 → n < all_nodes lay
-cell_inside lay n e p = beyond (opening_nodes lay.mode) (lay.passes * lay.nodes) n (ap opening_nodes e) p
+cell_inside lay n e p = beyond (opening_nodes lay) (lay.passes * lay.nodes) n (ap (λ mode. nodes_at_start mode lay.planted) e) p

@@ -1,6 +1,6 @@
 -- The tries of a client's call are those that its lines show.
 use Rattle.std.proofs.Common.{◌≡◌, ℕ, suc, ◌<◌, ◌≤◌, Bool, true, false, cond, inr, refl, sym, ◌∙◌, ap, subst, arith, ne_eqb}
-use Rattle.histories.specs.Common.{Layout, Row, WasInTheWay, IsOthersScx, History, Start, ◌⊳◌, Extends}
+use Rattle.histories.specs.Common.{Layout, Row, WasInTheWay, IsOthersScx, History, Opened, ◌⊳◌, Extends}
 use Rattle.arena.proofs.Lemmas.{ends_self}
 use Rattle.ordered_map.specs.Tries.{begins_try, tries_begun}
 use Rattle.record.specs.Answers.{HasLostAllTries}
@@ -15,7 +15,7 @@ others_row c r other = rw (ne_eqb r.pass.0 c other) refl
 -- each try begins with a row
 pub few_tries : (c : ℕ) (h : History) → tries_begun c h ≤ row_count h
 unfolding tries_begun
-few_tries c (Start mode) = omega arith
+few_tries c (Opened o) = omega arith
 few_tries c (r ⊳ h) = go (begins_try c r) (few_tries c h)
   where
     go : (b : Bool) → tries_begun c h ≤ row_count h → cond b (suc (tries_begun c h)) (tries_begun c h) ≤ suc (row_count h)

@@ -1,5 +1,5 @@
 -- What is remembered of the map stays what the lines say.
-use Rattle.std.proofs.Common.{◌≡◌, ℕ, zero, suc, Bool, true, false, cond, eqb, List, [], ◌∷◌, Some, None, Option, IfSome, IsSome, slice_get, set, replicate, All, refl, sym, ◌∙◌, ap, subst, arith}
+use Rattle.std.proofs.Common.{◌≡◌, ℕ, zero, suc, Bool, true, false, cond, eqb, List, [], ◌∷◌, Some, None, Option, IfSome, IsSome, slice_get, set, replicate, All, refl, sym, ◌∙◌, ap, subst, arith, inl}
 use Rattle.std.proofs.lemmas.List.Elements.{All-tail}
 use Rattle.arena.specs.Opening.{IsMap, is_map}
 use Rattle.arena.specs.declared.limits.Mode.TheVariants.{Trie}
@@ -199,7 +199,7 @@ map_start lay tries calls begun places n of_mode none unchanged = record { tree 
     }
       where
         run : IsRun TreeAllows lay (history lay.mode [])
-        run = record { lawful = refl; shaped = tt }
+        run = record { lawful = (refl, omega arith); shaped = inl refl }
 
         spelled : AreSpelled lay calls []
         spelled = are_spelled lay tries calls mode (map_calls lay.mode calls mode of_mode) [] tt (mode, run) tt

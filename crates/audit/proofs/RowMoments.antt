@@ -1,19 +1,19 @@
 -- Moments of a history, by how many rows there were.
 use Rattle.std.proofs.Common.{◌≡◌, ◌≢◌, ℕ, suc, ◌<◌, ◌≤◌, inl, inr, refl, sym, ◌∙◌, ap, subst, arith}
-use Rattle.histories.specs.Common.{Layout, Row, Plan, Member, state, IsMember, IsInProgress, WasInTheWay, History, Start, ◌⊳◌, Extends, value, Lawful, count_of, member}
+use Rattle.histories.specs.Common.{Layout, Row, Plan, Member, state, IsMember, IsInProgress, WasInTheWay, History, Opened, ◌⊳◌, Extends, value, Lawful, count_of, member}
 use Rattle.arena.proofs.Lemmas.{ends_self, ends_trans}
 use Rattle.histories.proofs.Lemmas.{facts, lawful_since, scx_since}
 use Rattle.audit.specs.Remembered.{row_count, IsMomentAt, WasRunningAt}
 
 -- a moment has no more rows than the history
 pub rows_within : (h g : History) → Extends h g → row_count g ≤ row_count h
-rows_within (Start mode) g e = rw e (omega arith)
+rows_within (Opened o) g e = rw e (omega arith)
 rows_within (r ⊳ h) g (inl e) = rw e (omega arith)
 rows_within (r ⊳ h) g (inr e) = let x = rows_within h g e in omega arith
 
 -- of two moments that with no more rows is one of the other
 pub moment_before : (h m g : History) → Extends h m → Extends h g → row_count g ≤ row_count m → Extends m g
-moment_before (Start mode) m g e f i = subst (λ (k : History). Extends k g) (sym e) f
+moment_before (Opened o) m g e f i = subst (λ (k : History). Extends k g) (sym e) f
 moment_before (r ⊳ h) m g (inl e) f i = subst (λ (k : History). Extends k g) (sym e) f
 moment_before (r ⊳ h) m g (inr e) (inr f) i = moment_before h m g e f i
 moment_before (r ⊳ h) m g (inr e) (inl f) i =
@@ -28,7 +28,7 @@ pub record HasRow (m : History) : Type 0 where
   pub is : m ≡ row ⊳ before
 
 pub some_row : (m : History) → 0 < row_count m → HasRow m
-some_row (Start mode) i = absurd (omega arith)
+some_row (Opened o) i = absurd (omega arith)
 some_row (r ⊳ h) i = record { row = r; before = h; is = refl }
 
 -- an SCX-record in progress is not the dummy

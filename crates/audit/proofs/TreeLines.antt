@@ -1,7 +1,7 @@
 -- What is remembered of a map's words stays what the lines say.
 use Rattle.std.proofs.Common.{◌≡◌, ℕ, zero, suc, ◌⊎◌, inl, inr, ⊎_elim, ◌∙◌, List, [], ◌∷◌, set, slice_get, Option, Some, None, refl, sym, ap, subst}
 use Rattle.arena.specs.Opening.{IsMap}
-use Rattle.histories.specs.Common.{Layout, PassNo, Row as StepRow, Kind, Freeze, Update, History, Start, ◌⊳◌, value, Extends, Lawful, IsLawful, IsWin, Entry as Entered, IsRun, Shaped, IsBegin}
+use Rattle.histories.specs.Common.{Layout, PassNo, Row as StepRow, Kind, Freeze, Update, History, Opened, ◌⊳◌, value, Extends, Lawful, IsLawful, IsWin, Entry as Entered, IsRun, Shaped, IsBegin}
 use Rattle.arena.proofs.Lemmas.{ends_self}
 use Rattle.record.specs.Common.{Pair, Call, Command, Map, HasRisingLevels, MapCall, MapEdit, edit_key, edit_to, value_left, map_request}
 use Rattle.record.specs.Common.{Makes, Spells, TreeAllows, IsEntryFor, map_call, written_log, IsMapEntry, AreLines, AreSpelled, history}
@@ -24,7 +24,7 @@ use Rattle.linearization.proofs.Lemmas.{spelled, trie_low}
 
 -- the kind of the newest row
 abbrev kind_of : History → Kind
-kind_of (Start mode) = Freeze
+kind_of (Opened o) = Freeze
 kind_of (row ⊳ h) = row.kind
 
 -- what has begun makes its edit
@@ -49,7 +49,7 @@ begun_before_win lay h row s begun won x = record { row = x.row; before = x.befo
 
 -- the shape of the tree allows it
 pub edit_allowed : (lay : Layout) (h : History) (s : ℕ) (begun : BegunEdit) → MayMakeEdit lay h s begun → TreeAllows lay h s
-edit_allowed lay h s begun x = (edit_begun begun, x.edit)
+edit_allowed lay h s begun x = inl (edit_begun begun, x.edit)
 
 -- a win makes no SCX-record begin
 win_run : (lay : Layout) (h : History) (row : StepRow) (s : ℕ) → IsMapRun lay h → IsLawful lay h row → IsWin h row s → IsMapRun lay (row ⊳ h)

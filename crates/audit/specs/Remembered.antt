@@ -1,7 +1,7 @@
 -- What an audit remembers of the steps, for the answers of calls. Lines have the newest
 -- first here.
 use Rattle.std.specs.Prelude.{◌≡◌, ℕ, suc, ◌+◌, ◌<◌, ◌≤◌, ◌↔◌, List, length, slice_get, Option, Some, None, IsSome, true}
-use Rattle.histories.specs.Common.{Layout, Kind, LoadInfo, Freeze, Row, IsInProgress, IsLastStep, History, Start, ◌⊳◌, Extends, value, all_nodes, all_scx, log, last, is_final, info}
+use Rattle.histories.specs.Common.{Layout, Kind, LoadInfo, Freeze, Row, IsInProgress, IsLastStep, History, Opened, ◌⊳◌, Extends, value, all_nodes, all_scx, log, last, is_final, info}
 use Rattle.ordered_map.specs.Tries.{tries_begun, IsNewestTry}
 use Rattle.record.specs.Common.{Call, CellList, Command, Vlx, cells_of, IsAsSnapped, next_command, linked, HasNodesLeft, HasScxLeft, history, begin, start}
 use Rattle.record.specs.declared.record.Line.{Line}
@@ -14,7 +14,7 @@ use Rattle.audit.specs.declared.steps.Steps.{Steps}
 
 -- how many rows a history has
 abbrev pub row_count : History → ℕ
-row_count (Start mode) = 0
+row_count (Opened o) = 0
 row_count (row ⊳ h) = suc (row_count h)
 
 -- g is the moment of h after its first `rows` rows

@@ -2,7 +2,7 @@
 use Rattle.std.proofs.Common.{◌≡◌, ◌≢◌, ◌<◌, ℕ, inl, inr, List, Option, Some, None, refl, sym, ◌∙◌, ap, subst, arith}
 use native.Mathlib.Decide.{ℕ_discrete}
 use Rattle.std.specs.Option.{option_map}
-use Rattle.regnubas.specs.History.{History, Start, ◌⊳◌, value, Extends}
+use Rattle.regnubas.specs.History.{History, Opened, ◌⊳◌, value, Extends}
 use Rattle.regnubas.specs.Lawful.{Lawful}
 use Rattle.regnubas.specs.Log.{log}
 use Rattle.regnubas.specs.Machines.{IsRun}
@@ -17,12 +17,12 @@ use Rattle.regnubas.specs.Versions.{EntersNothing, VersionLaws}
 
 -- a moment of a moment is one
 back : (h m g : History) → Extends h m → Extends m g → Extends h g
-back (Start mode) m g e f = subst (λ x. Extends x g) e f
+back (Opened o) m g e f = subst (λ x. Extends x g) e f
 back (r ⊳ h) m g (inl e) f = subst (λ x. Extends x g) e f
 back (r ⊳ h) m g (inr e) f = inr (back h m g e f)
 
 self : (h : History) → Extends h h
-self (Start mode) = refl
+self (Opened o) = refl
 self (r ⊳ h) = inl refl
 
 -- a pass is later than itself, and than what it is later than

@@ -1,9 +1,10 @@
 -- A dictionary of typed keys and values, seen by their words: its SCX-records make edits of such
 -- words alone, so its map has no others.
-use Rattle.std.specs.Prelude.{ℕ, List, [], ◌∷◌, Option, Some, None}
+use Rattle.std.specs.Prelude.{◌⊎◌, ℕ, List, [], ◌∷◌, Option, Some, None}
 use Rattle.arena.specs.Layout.{IsMap}
 use Rattle.histories.specs.Common.{Layout, History, value}
 use Rattle.template.specs.Common.{MapEdit, Insert, Delete, MapCall, Edit, MapReply, OneValue, OnePair, ManyPairs, leaves, Goal, Key, End, Spells, Pair}
+use Rattle.ordered_map.specs.Planted.{IsPlanted, first_pairs}
 use Rattle.ordered_map.specs.TreeShape.{MayEdit}
 
 -- `keys` and `values` say of a word whether it is one of a key, or of a value.
@@ -39,9 +40,14 @@ IsTypedReply keys values (OneValue told) = IsTypedValue values told
 IsTypedReply keys values (OnePair p) = keys p.key × values p.value
 IsTypedReply keys values (ManyPairs ps) = AreTyped keys values ps
 
--- the shape of a typed dictionary: each SCX-record that begins makes an edit of such words
+-- the SCX-record makes an edit of such words
+abbrev pub MakesTyped : (ℕ → Type 0) → (ℕ → Type 0) → Layout → History → ℕ → Type 0
+MakesTyped keys values lay h s = (e : MapEdit) × MayEdit lay h s e × IsTypedEdit keys values e
+
+-- the shape of a typed dictionary: so does each that begins, and what a table begins with is planted,
+-- with such pairs
 abbrev pub TypedAllows : (ℕ → Type 0) → (ℕ → Type 0) → Layout → History → ℕ → Type 0
-TypedAllows keys values lay h s = (e : MapEdit) × MayEdit lay h s e × IsTypedEdit keys values e
+TypedAllows keys values lay h s = MakesTyped keys values lay h s ⊎ (IsPlanted lay h s × AreTyped keys values (first_pairs h))
 
 -- in a dictionary's mode the words spell a map of such pairs
 abbrev pub IsTypedThere : (ℕ → Type 0) → (ℕ → Type 0) → Layout → History → Type 0

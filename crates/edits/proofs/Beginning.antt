@@ -13,7 +13,7 @@ use Rattle.edits.specs.declared.update.UpdateAt.TheVariants.{Scx}
 use Rattle.edits.specs.declared.update.UpdateRun.{UpdateRun}
 use Rattle.edits.specs.Next.{standing}
 use Rattle.edits.specs.Edits.{EditMeaning, covering}
-use Rattle.edits.specs.Known.{AreSnapped, CoversEnd, CoversLeaf, CanScx, HasGuard, HasSnapped, IsKept, TryWaits, piece, top}
+use Rattle.edits.specs.Known.{AreSnappedInCall, CoversEnd, CoversLeaf, CanScx, HasGuard, HasSnappedInCall, IsGuardSnap, TryWaits, piece, top}
 use Rattle.edits.specs.Laws.SnapLists.{last_is, last_there}
 use Rattle.edits.specs.Laws.Entered.{none_quiet}
 use Rattle.edits.specs.Laws.HandScx.{hand_ready, hand_share}
@@ -40,7 +40,7 @@ module _ {E : Type 0} (e : EditMeaning E) {A : Type 0} (m now : UpdateRun E A) (
   of_two : IsOfTwo e m.edit m.guard
   of_two guard = (x.guarded guard).1.is.node
 
-  kept : e.guard m.edit ≡ true → HasSnapped c h m.guard
+  kept : e.guard m.edit ≡ true → HasSnappedInCall c h m.guard
   kept guard = let y = x.guarded guard in kept_snapped c h y.0 m.guard x.run y.1
 
   needed : 0 < (e.work m.edit f).need
@@ -55,8 +55,8 @@ module _ {E : Type 0} (e : EditMeaning E) {A : Type 0} (m now : UpdateRun E A) (
   fresh : run.update.fresh.0 ≡ top m
   fresh = ap (λ (u : Update). u.fresh.0) is
 
-  usable : AreSnapped c h run.update.snaps
-  usable = subst (AreSnapped c h) (sym covers) (covering_snapped c h (e.way m.edit) (e.goal m.edit) f (e.guard m.edit) m.snaps.items m.guard x.all.looked.usable kept)
+  usable : AreSnappedInCall c h run.update.snaps
+  usable = subst (AreSnappedInCall c h) (sym covers) (covering_snapped c h (e.way m.edit) (e.goal m.edit) f (e.guard m.edit) m.snaps.items m.guard x.all.looked.usable kept)
 
   -- its SCX may begin
   pub scx_ready : ScxIsReady TreeAllows run (begun_at c h) h None
@@ -84,13 +84,13 @@ module _ {E : Type 0} (e : EditMeaning E) {A : Type 0} (m now : UpdateRun E A) (
   leaf = subst (λ (u : Update). CoversLeaf e m.edit f c h after.scx.0 u) (sym (same_update ∙ says_so)) (sound.leaf m.edit c h f m.snaps.items m.guard m.nodes after.scx.0 x.run needed x.all.looked x.all.enough)
 
   -- where it has a guard, that is the last that it covers
-  last_kept : (b : Bool) → b ≡ true → (u : Update) → u.snaps ≡ covering b m.snaps.items m.guard → (g : History) → IsKept c h g m.guard → FoundBy (e.way m.edit) (e.goal m.edit) (begun_at c g) h f → HasGuard c h (e.way m.edit) (e.goal m.edit) f u
+  last_kept : (b : Bool) → b ≡ true → (u : Update) → u.snaps ≡ covering b m.snaps.items m.guard → (g : History) → IsGuardSnap c h g m.guard → FoundBy (e.way m.edit) (e.goal m.edit) (begun_at c g) h f → HasGuard c h (e.way m.edit) (e.goal m.edit) f u
   last_kept false is u same g y found = absurd (let z : false ≡ true = is in cc)
   last_kept true is u same g y found = record {
     place = length m.snaps.items;
     within = subst (λ (xs : List Snap). length m.snaps.items < length xs) (sym same) (last_there m.snaps.items m.guard);
     moment = g;
-    kept = subst (λ (s : Snap). IsKept c h g s) (sym (ap (λ (xs : List Snap). snap_at xs (length m.snaps.items)) same ∙ last_is m.snaps.items m.guard)) y;
+    kept = subst (λ (s : Snap). IsGuardSnap c h g s) (sym (ap (λ (xs : List Snap). snap_at xs (length m.snaps.items)) same ∙ last_is m.snaps.items m.guard)) y;
     found = found;
   }
 
@@ -111,7 +111,7 @@ module _ {E : Type 0} (e : EditMeaning E) {A : Type 0} (m now : UpdateRun E A) (
       found = x.all.looked.found;
       need = needed;
       only = λ row before t within since w own. absurd (none_quiet c.layout c.pass h c.start x.run.1.lawful x.quiet row before t within since w own);
-      usable = subst (λ (u : Update). AreSnapped c h u.snaps) (sym same_update) usable;
+      usable = subst (λ (u : Update). AreSnappedInCall c h u.snaps) (sym same_update) usable;
       unnamed = subst (λ (s : ScxNo). ¬ IsNamedScx h s.0) (sym same_scx) scx_ready.1.is_open.unnamed;
       guard = has_guard;
       ends = ends;

@@ -12,18 +12,18 @@ use Rattle.ordered_map.proofs.MapLemmas.{two_not_final}
 use Rattle.template.proofs.Lemmas.{changed_contended, failed_contended, finalized_contended}
 use Rattle.edits.specs.declared.edit.Look.TheVariants.{At, Differs}
 use Rattle.edits.specs.Edits.{EditMeaning}
-use Rattle.edits.specs.Known.{HasSnapped, AreSnapped, HasLooked}
+use Rattle.edits.specs.Known.{HasSnappedInCall, AreSnappedInCall, HasLooked}
 use Rattle.edits.specs.Laws.Kept.{snapped_usable}
 use Rattle.edits.specs.Sound.{LooksWell}
 
 -- its SCX, which begins at this moment of the try, is lost
-pub lost_contended : (c : Call) (begin h : History) (m : ScxRun) (n s : ℕ) → Lawful c.layout h → IsQuietSince c.layout c.pass c.start begin → AreSnapped c begin m.update.snaps → IsLost (begun_at c begin) h m n s → IsContended c h n s
+pub lost_contended : (c : Call) (begin h : History) (m : ScxRun) (n s : ℕ) → Lawful c.layout h → IsQuietSince c.layout c.pass c.start begin → AreSnappedInCall c begin m.update.snaps → IsLost (begun_at c begin) h m n s → IsContended c h n s
 lost_contended c begin h m n s l quiet usable x = changed_contended c Freeze begin h m.update.snaps n s l quiet x.changed snapped.moment snapped.since (snapped_usable c begin (snap_at m.update.snaps i) then snapped).found
   where
     i : ℕ
     i = x.changed.index
 
-    snapped : HasSnapped c begin (snap_at m.update.snaps i)
+    snapped : HasSnappedInCall c begin (snap_at m.update.snaps i)
     snapped = usable i x.changed.within
 
     then : Lawful c.layout begin

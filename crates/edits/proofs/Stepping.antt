@@ -11,7 +11,7 @@ use Rattle.edits.specs.declared.update.UpdateAt.{UpdateAt}
 use Rattle.edits.specs.declared.update.UpdateAt.TheVariants.{Start, Walk, Guard, Look, Read, Fill, Scx}
 use Rattle.edits.specs.declared.update.UpdateRun.{UpdateRun}
 use Rattle.edits.specs.Edits.{EditMeaning}
-use Rattle.edits.specs.Known.{RestsWith, IsUntouched, FirstOrLost, Guarded, Guards, IsKept, MayBeginTry, Walks, WalksGuarded, Looks, Reads, Scxs, IsFilledUpTo, UpdateIsToldAt, UpdateIsReady}
+use Rattle.edits.specs.Known.{RestsWith, IsUntouched, FirstOrLost, Guarded, Guards, IsGuardSnap, MayBeginTry, Walks, WalksGuarded, Looks, Reads, Scxs, IsFilledUpTo, UpdateIsToldAt, UpdateIsReady}
 use Rattle.edits.specs.Tries.{MayTry, IsTry}
 
 module _ {E : Type 0} (e : EditMeaning E) (m : UpdateRun E UpdateAt) (c : Call) (h : History) where
@@ -27,7 +27,7 @@ module _ {E : Type 0} (e : EditMeaning E) (m : UpdateRun E UpdateAt) (c : Call) 
   pub past_guard : (d : Call) (walk : WalkRun) (v : ℕ) → (walk.at ≡ walks.Root → e.guard m.edit ≡ false) → WalkIsTold walk d h v → WalksGuarded e m d h walk.at (λ k. WalkIsTold walk k h v) → Guarded e m.edit d h m.guard (λ k. WalkIsTold walk k h v)
   past_guard d walk v none told guarded is = go walk.at refl
     where
-      go : (at : WalkAt) → walk.at ≡ at → (g : History) × IsKept d h g m.guard × WalkIsTold walk (begun_at d g) h v
+      go : (at : WalkAt) → walk.at ≡ at → (g : History) × IsGuardSnap d h g m.guard × WalkIsTold walk (begun_at d g) h v
       go walks.Start e = absurd (subst (WalkKnows d h walk) e told.known)
       go walks.Root e = absurd (let z : true ≡ false = sym is ∙ none e in cc)
       go (walks.Head above) e = guarded (subst IsPastRoot (sym e) tt) is

@@ -26,7 +26,7 @@ use Rattle.edits.specs.declared.update.UpdateRun.{UpdateRun}
 use Rattle.edits.specs.Next.{guard_begun, guard_step, standing}
 use Rattle.edits.specs.Edits.{EditMeaning, says}
 use Rattle.edits.specs.Sound.{HasGuardAtEnd, IsAtFound}
-use Rattle.edits.specs.Known.{RestsWith, AreSnapped, CoversEnd, CoversLeaf, Guarded, Guards, HasGuard, MayBeginTry, Walks, CanLook, CanFill, Scxs, IsUntouched, HasLostTry, HasLostEveryTry, TryWaits, UpdateWaits, UpdateAnswers, HasMade, ToldEnd, done_at}
+use Rattle.edits.specs.Known.{RestsWith, AreSnappedInCall, CoversEnd, CoversLeaf, Guarded, Guards, HasGuard, MayBeginTry, Walks, CanLook, CanFill, Scxs, IsUntouched, HasLostTry, HasLostEveryTry, TryWaits, UpdateWaits, UpdateAnswers, HasMade, ToldEnd, done_at}
 use Rattle.edits.specs.Laws.Entered.{none_filled_yet, none_joined, none_lost, none_quiet}
 use Rattle.edits.specs.Laws.Kept.{idle_rests}
 use Rattle.edits.specs.Laws.Trying.{past_root}
@@ -228,7 +228,7 @@ module _ {E : Type 0} (e : EditMeaning E) where
       need = x.need;
       call = is_call ∙ x.call;
       only = subst (λ (s : ScxNo). HasEnteredOnly c.layout c.pass s.0 h c.start) (sym is_scx) x.only;
-      usable = subst (λ (u : Update). AreSnapped c begin u.snaps) (sym is_update) x.usable;
+      usable = subst (λ (u : Update). AreSnappedInCall c begin u.snaps) (sym is_update) x.usable;
       unnamed = subst (λ (s : ScxNo). ¬ IsNamedScx begin s.0) (sym is_scx) x.unnamed;
       guard = λ is. subst (λ (u : Update). HasGuard c begin (e.way m.edit) (e.goal m.edit) f u) (sym is_update) (x.guard is);
       ends = λ is. subst (λ (s : ScxNo). CoversEnd f c begin s.0 after.update) (sym is_scx) (subst (λ (u : Update). CoversEnd f c begin scx.scx.0 u) (sym is_update) (x.ends is));
@@ -287,7 +287,7 @@ module _ {E : Type 0} (e : EditMeaning E) where
     record {
       begin = b;
       try = try;
-      way = lost_contended (begun_at c b) begin h after n.0 s.0 x.run.1.lawful x.quiet (subst (λ (u : Update). AreSnapped (begun_at c b) begin u.snaps) (sym is_update) x.usable) lost;
+      way = lost_contended (begun_at c b) begin h after n.0 s.0 x.run.1.lawful x.quiet (subst (λ (u : Update). AreSnappedInCall (begun_at c b) begin u.snaps) (sym is_update) x.usable) lost;
       none = none_joined c.layout c.pass h b c.start x.now try.none (none_lost c.layout c.pass scx.scx.0 h b x.run.1.lawful aborted x.only);
       needed = λ _. (f, record { moment = begin; within = ends_trans h (lost.changed.found.row ⊳ lost.changed.found.before) begin lost.changed.found.last.within (inr lost.changed.found.since); has_found = x.found; needed = x.need });
     },

@@ -1,16 +1,17 @@
 -- What a call by itself finds and leaves: it has the map to itself.
 use Rattle.std.proofs.Common.{◌≡◌, ◌≢◌, ◌⊎◌, ℕ, ◌^◌, ◌<◌, inl, inr, List, Option, None, refl, sym, ◌∙◌, ap, subst, arith}
 use native.Mathlib.Decide.{ℕ_discrete}
-use Rattle.histories.specs.Common.{Tree as TreeMode, Layout, Row, Side, IsInProgress, IsOwnScx, IsOthersScx, History, Start, ◌⊳◌, value, Extends, Lawful, HasWon, IsWin, log, Call, state, descriptor}
+use Rattle.histories.specs.Common.{Tree as TreeMode, Layout, Row, Side, IsInProgress, IsOwnScx, IsOthersScx, History, Opened, opening_of, ◌⊳◌, value, Extends, Lawful, HasWon, IsWin, log, Call, state, descriptor}
 use Rattle.arena.specs.Undisturbed.{IsUndisturbed}
-use Rattle.arena.proofs.Lemmas.{ends_self, ends_trans}
+use Rattle.arena.proofs.Lemmas.{ends_self, ends_trans, same_opening}
 use Rattle.histories.proofs.Lemmas.{Facts, IsOwned, Logs, facts, facts_before, lawful_since, lawful_tail, logs, same, update_changes, update_is_first, wins, won_since}
 use Rattle.prims.specs.Laws.Idle.{out_by_others}
 use Rattle.prims.proofs.Lemmas.{wins_in_progress}
 use Rattle.template.specs.Common.{IsAnswerAt, said, MapEdit, edited, end_pair, get, IsMapRun, Spells, Pair, HasFoundGoal, HasFoundLeaf, end_told, End, IsContended}
 use Rattle.ordered_map.specs.Paths.{IsEndAt}
 use Rattle.ordered_map.specs.Laws.{AreEdits}
-use Rattle.ordered_map.specs.Runs.{map_of_log}
+use Rattle.ordered_map.specs.Planted.{pairs_of}
+use Rattle.ordered_map.specs.Runs.{map_of_log, first_pairs}
 use Rattle.ordered_map.proofs.Lemmas.{one_spelling, wins_of}
 use Rattle.ordered_map.proofs.MapLemmas.{log_edits, spells_log, walked_answers}
 use Rattle.template.proofs.Lemmas.{found_end, own_since}
@@ -24,7 +25,7 @@ HasNoWin h start = (row : Row) (before : History) (t : ℕ) → Extends h (row �
 
 -- where no update wins the log stays as it was
 log_still : (lay : Layout) (h start : History) → Lawful lay h → Extends h start → HasNoWin h start → log lay h ≡ log lay start
-log_still lay (Start mode) start l e none = ap (log lay) (sym e)
+log_still lay (Opened o) start l e none = ap (log lay) (sym e)
 log_still lay (r ⊳ h) start l (inl e) none = ap (log lay) (sym e)
 log_still lay (r ⊳ h) start l (inr e) none = go (log_still lay h start (lawful_tail lay h r l) e (λ row before t within since w. none row before t (inr within) since w)) (logs lay h r l)
   where
@@ -36,13 +37,14 @@ log_still lay (r ⊳ h) start l (inr e) none = go (log_still lay h start (lawful
 spells_still : (lay : Layout) (h k m : History) (map : List Pair) → IsMapRun lay h → Extends h k → Extends k m → log lay k ≡ log lay m → Spells lay (value m) map → Spells lay (value k) map
 spells_still lay h k m map run e f still x =
     let edits : (edits : ℕ → MapEdit) × AreEdits edits lay h = log_edits lay h run in
-    let then : map ≡ map_of_log edits.0 (log lay m) = one_spelling lay (value m) map (map_of_log edits.0 (log lay m)) x (spells_log lay h edits.0 run edits.1 m (ends_trans h k m e f)) in
-    subst (Spells lay (value k)) (ap (map_of_log edits.0) still ∙ sym then) (spells_log lay h edits.0 run edits.1 k e)
+    let first : opening_of m ≡ opening_of k = same_opening k m f in
+    let then : map ≡ map_of_log edits.0 (first_pairs m) (log lay m) = one_spelling lay (value m) map (map_of_log edits.0 (first_pairs m) (log lay m)) x (spells_log lay h edits.0 run edits.1 m (ends_trans h k m e f)) in
+    subst (Spells lay (value k)) ((λ i. map_of_log edits.0 (pairs_of (sym first i).pairs) (still i)) ∙ sym then) (spells_log lay h edits.0 run edits.1 k e)
 
 module _ (c : Call) (h : History) (run : IsMapRun c.layout h) (alone : IsUndisturbed c h) where
   -- no other's SCX-record is in progress at any moment of the call
   others_rest : (k : History) → Extends h k → Extends k c.start → (t : ℕ) → IsOthersScx c.layout c.pass t → ¬ IsInProgress k t
-  others_rest (Start mode) e f t o x = alone.rest t (subst (λ m. IsInProgress m t) (sym f) x)
+  others_rest (Opened opening) e f t o x = alone.rest t (subst (λ m. IsInProgress m t) (sym f) x)
   others_rest (r ⊳ k) e (inl f) t o x = alone.rest t (subst (λ m. IsInProgress m t) (sym f) x)
   others_rest (r ⊳ k) e (inr f) t o x = out_by_others c.layout o.pass k r t (lawful_since c.layout h (r ⊳ k) run.1.lawful e) (λ q. o.is_other (sym q ∙ alone.own r k e f)) o.owns
       (others_rest k (ends_trans h (r ⊳ k) k e (inr (ends_self k))) f t o) x

@@ -78,7 +78,7 @@ pub record HasSnappedAfterWalk (c : Call) (h : History) (way : Way) (goal : Goal
   pub met : HasFoundThere c.pass moment c.start snap.node.0 snap.scx.0
 
 -- the snapshot was right at a moment of the call, whatever it had found by then
-pub record HasSnapped (c : Call) (h : History) (snap : Snap) : Type 0 where
+pub record HasSnappedInCall (c : Call) (h : History) (snap : Snap) : Type 0 where
   pub moment : History
   pub within : Extends h moment
   pub since : Extends moment c.start
@@ -86,11 +86,11 @@ pub record HasSnapped (c : Call) (h : History) (snap : Snap) : Type 0 where
   pub is : IsSnapshot c.layout moment snap.node.0 snap
   pub met : HasFoundThere c.pass moment c.start snap.node.0 snap.scx.0
 
-abbrev pub AreSnapped : Call → History → List Snap → Type 0
-AreSnapped c h snaps = (i : ℕ) → i < length snaps → HasSnapped c h (snap_at snaps i)
+abbrev pub AreSnappedInCall : Call → History → List Snap → Type 0
+AreSnappedInCall c h snaps = (i : ℕ) → i < length snaps → HasSnappedInCall c h (snap_at snaps i)
 
 -- right behind the moment g this was the snapshot of node 2
-pub record IsKept (c : Call) (h g : History) (snap : Snap) : Type 0 where
+pub record IsGuardSnap (c : Call) (h g : History) (snap : Snap) : Type 0 where
   pub row : Row
   pub within : Extends h (row ⊳ g)
   pub since : Extends g c.start
@@ -99,7 +99,7 @@ pub record IsKept (c : Call) (h g : History) (snap : Snap) : Type 0 where
 
 -- Of an edit with a guard: that is kept, and this is so of the call from then on
 abbrev pub Guarded : {E : Type 0} → EditMeaning E → E → Call → History → Snap → (Call → Type 0) → Type 0
-Guarded e ed c h snap P = e.guard ed ≡ true → (g : History) × IsKept c h g snap × P (begun_at c g)
+Guarded e ed c h snap P = e.guard ed ≡ true → (g : History) × IsGuardSnap c h g snap × P (begun_at c g)
 
 -- the snapshot of its guard is among those of this update, and what was found is so of the call
 -- from then on
@@ -107,7 +107,7 @@ pub record HasGuard (c : Call) (h : History) (way : Way) (goal : Goal) (f : Foun
   pub place : ℕ
   pub within : place < length u.snaps
   pub moment : History
-  pub kept : IsKept c h moment (snap_at u.snaps place)
+  pub kept : IsGuardSnap c h moment (snap_at u.snaps place)
   pub found : FoundBy way goal (begun_at c moment) h f
 
 -- whenever the SCX-record s wins later that makes this update, it covers the parent of the leaf
@@ -348,7 +348,7 @@ module _ (e : EditMeaning (Unit {0})) where
       -- used, and it covers that leaf
       pub found : FoundBy (e.way tt) (e.goal tt) c begin f
       pub need : 0 < (e.work tt f).need
-      pub usable : AreSnapped c begin scx.update.snaps
+      pub usable : AreSnappedInCall c begin scx.update.snaps
       pub quiet : IsQuietSince c.layout c.pass c.start begin
       pub leaf : CoversLeaf e tt f c begin scx.scx.0 scx.update
       -- the SCX-record had no name then, and if the edit has a guard, it covers that and the leaf's

@@ -1,6 +1,6 @@
 -- What holds of each own row of a call, as that it carries the number of the call.
 use Rattle.std.proofs.Common.{◌≡◌, ℕ, zero, suc, ◌≤◌, inl, inr, List, [], ◌∷◌, ◌++◌, refl, sym, subst, arith}
-use Rattle.histories.specs.Common.{Layout, Row, Step, Mode, History, Start, ◌⊳◌, Extends, Call, row_of}
+use Rattle.histories.specs.Common.{Layout, Row, Step, Mode, History, Opened, ◌⊳◌, Extends, Call, row_of}
 use Rattle.arena.proofs.Lemmas.{ends_trans}
 use Rattle.forest.specs.TableRule.{history_of, ByOthers}
 use Rattle.forest.specs.Traces.{Trace, begins, others, makes, goes_on}
@@ -8,12 +8,12 @@ use Rattle.forest.specs.Passes.{AreOfCall, HoldsOfOwn}
 
 -- no history ends with a longer one
 rows_in : History → ℕ
-rows_in (Start mode) = zero
+rows_in (Opened o) = zero
 rows_in (r ⊳ h) = suc (rows_in h)
 
 shorter : (h m : History) → Extends h m → rows_in m ≤ rows_in h
 unfolding rows_in
-shorter (Start mode) m e = rw e (omega arith)
+shorter (Opened o) m e = rw e (omega arith)
 shorter (r ⊳ h) m (inl e) = rw e (omega arith)
 shorter (r ⊳ h) m (inr e) = let z = shorter h m e in omega arith
 

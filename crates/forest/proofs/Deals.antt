@@ -135,7 +135,7 @@ module _ (allows : Layout → History → ℕ → Type 0) (lay : Layout) where
     run = [];
     size = size;
     holds = holds;
-    sound = record { lawful = refl; shaped = tt };
+    sound = record { lawful = (refl, omega arith); shaped = inl refl };
     owner = λ _. 0;
     passes = λ j u e. ⊎_elim
         (λ (t : get_elem? {A = SeatView} [] j ≡ some u). absurd (some-ne-none u (sym t)))

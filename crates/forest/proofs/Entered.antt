@@ -2,7 +2,7 @@
 -- both are known of the call's end alone, without its course.
 use Rattle.std.proofs.Common.{◌≡◌, ◌≢◌, ◌≤◌, ◌+◌, ℕ, inl, inr, List, ◌∷◌, [], Option, refl, sym, ◌∙◌, ap, subst, arith}
 use Rattle.atomic_table.specs.declared.shared.Seat.{Seat}
-use Rattle.histories.specs.Common.{Layout, Mode, Row, Step, Remaining, History, Start, ◌⊳◌, Extends, IsOwnScx, HasWon, IsWin, Lawful, log, owner, Call, IsRun, descriptor}
+use Rattle.histories.specs.Common.{Layout, Mode, Row, Step, Remaining, History, Opened, ◌⊳◌, Extends, IsOwnScx, HasWon, IsWin, Lawful, log, owner, Call, IsRun, descriptor}
 use Rattle.arena.proofs.Lemmas.{ends_self, ends_trans, owner_is}
 use Rattle.histories.proofs.Lemmas.{IsOwned, Logs, UpdateWins, entry_of, facts_before, lawful_row, lawful_since, lawful_tail, logs, same as log_same, update_about, update_is_first, update_win, wins as log_wins, won_since}
 use Rattle.prims.proofs.Lemmas.{over_begins}
@@ -47,7 +47,7 @@ module _ (lay : Layout) (c : ℕ) where
 
   -- the pass has as many entries as at the start, where no update of it has won since
   pub none_entered : (h start : History) → Lawful lay h → Extends h start → HasEnteredNone lay c h start → entries_of c (log lay h) ≡ entries_of c (log lay start)
-  none_entered (Start mode) start l e x = ap (λ k. entries_of c (log lay k)) (sym e)
+  none_entered (Opened o) start l e x = ap (λ k. entries_of c (log lay k)) (sym e)
   none_entered (r ⊳ h) start l (inl e) x = ap (λ k. entries_of c (log lay k)) (sym e)
   none_entered (r ⊳ h) start l (inr e) x = leaves h r l (λ t w. x r h t (ends_self (r ⊳ h)) e w) ∙ none_entered h start (lawful_tail lay h r l) e (λ row before t p q w. x row before t (inr p) q w)
 

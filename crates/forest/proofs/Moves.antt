@@ -80,7 +80,7 @@ module _ (allows : Layout → History → ℕ → Type 0) (lay : Layout) (slots 
 
 -- it is of a word of the table
 pub head_inside : (lay : Layout) → IsWord lay (node 0 (Settled Head))
-head_inside lay = let some = some_open lay.mode in omega arith
+head_inside lay = let some = some_open lay in omega arith
 
 -- it may always be made
 pub look_lawful : (allows : Layout → History → ℕ → Type 0) (lay : Layout) (h : History) (c : ℕ) → c < lay.passes → IsRun allows lay h → IsRun allows lay (row c look h ⊳ h)

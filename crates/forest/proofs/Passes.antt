@@ -1,7 +1,7 @@
 -- What a call leaves of a pass.
-use Rattle.std.proofs.Common.{◌≡◌, ◌≢◌, ℕ, ◌+◌, ◌≤◌, List, [], ◌∷◌, refl, sym, ◌∙◌, ap, subst, arith}
+use Rattle.std.proofs.Common.{◌≡◌, ◌≢◌, ℕ, ◌+◌, ◌≤◌, List, [], ◌∷◌, inl, refl, sym, ◌∙◌, ap, subst, arith}
 use Rattle.atomic_table.specs.declared.shared.Seat.{Seat}
-use Rattle.histories.specs.Common.{Layout, Step, Fill, History, Start, Lawful, Call, IsRun, Shaped, Mode}
+use Rattle.histories.specs.Common.{Layout, Step, Fill, History, Start, empty, Lawful, Call, IsRun, Shaped, Mode}
 use Rattle.arena.specs.Share.{whole_share}
 use Rattle.arena.proofs.Lemmas.{ends_self}
 use Rattle.prims.specs.declared.snap.Snap.{Snap}
@@ -19,13 +19,17 @@ use Rattle.forest.proofs.Calls.{quiet_goes}
 use Rattle.forest.proofs.Called.{own_start, course_calls}
 use Rattle.forest.proofs.Blames.{blamed_later}
 
+begins_lawful : (lay : Layout) → Lawful lay (Start lay.mode)
+unfolding Lawful
+begins_lawful lay = (refl, omega arith)
+
 -- a pass with its whole share is at rest at the start
 pub begins_at_rest : (lay : Layout) (c : ℕ) → IsBetweenCalls lay c (Start lay.mode) (whole_share lay c)
-begins_at_rest lay c = record { share = whole_untouched lay c; over = λ s own d t. absurd (none_taken lay.mode s t) }
+begins_at_rest lay c = record { share = whole_untouched lay (empty lay.mode) c (begins_lawful lay); over = λ s own d t. absurd (none_taken (empty lay.mode) s t) }
 
 pub begins_sound : (allows : Layout → History → ℕ → Type 0) (lay : Layout) → IsRun allows lay (Start lay.mode)
-unfolding Lawful Shaped
-begins_sound allows lay = record { lawful = refl; shaped = tt }
+unfolding Shaped
+begins_sound allows lay = record { lawful = begins_lawful lay; shaped = inl refl }
 
 -- the pass of a forest has its layout
 pub layout_of : {v w : PassView} {g f : Ground} → v ≡ w → g ≡ f → IsOf f w → v.layout ≡ g.layout

@@ -1,7 +1,7 @@
 -- What a call of `scx` says.
 use Rattle.std.proofs.Common.{◌≡◌, ◌<◌, ◌≤◌, ◌+◌, ◌⊎◌, ◌↔◌, ℕ, inl, inr, Bool, true, false, cond, eqb, List, [], ◌∷◌, length, None, refl, sym, ◌∙◌, ap, subst, arith}
 use Rattle.atomic_table.specs.declared.shared.Seat.{Seat}
-use Rattle.histories.specs.Common.{Layout, NodeNo, Side, state, value, History, Start, ◌⊳◌, Extends, IsOwnNode, IsOwnScx, IsTakenScx, Lawful, HasWon, Entry, log, has, IsEntered, Freeze, Records}
+use Rattle.histories.specs.Common.{Layout, NodeNo, Side, state, value, History, Opened, ◌⊳◌, Extends, IsOwnNode, IsOwnScx, IsTakenScx, Lawful, HasWon, Entry, log, has, IsEntered, Freeze, Records}
 use Rattle.arena.specs.Log.{AreOnce}
 use Rattle.histories.proofs.Lemmas.{IsIn, Logs, aborted_never_won, lawful_tail, logs, newest, older, once, same as log_same, wins as log_wins}
 use Rattle.template.specs.Common.{AllowsAll, HasChanged, IsAmong, ListsNode, update_field_index, snap_at, nodes_of, PutIsReady, PutWaits, PutAnswers, Snap, Scx, Done, Lost, PutRun}
@@ -52,7 +52,7 @@ once_same a b (x ∷ es) o e i j = go (split a i) (split b j) (once_same a b es 
 
 -- an entry of the log stays
 in_since : (lay : Layout) (h m : History) (e : Entry) → Lawful lay h → Extends h m → IsIn e (log lay m) → IsIn e (log lay h)
-in_since lay (Start mode) m e l p i = subst (λ k. IsIn e (log lay k)) p i
+in_since lay (Opened o) m e l p i = subst (λ k. IsIn e (log lay k)) p i
 in_since lay (r ⊳ h) m e l (inl p) i = subst (λ k. IsIn e (log lay k)) p i
 in_since lay (r ⊳ h) m e l (inr p) i = go (logs lay h r l) (in_since lay h m e (lawful_tail lay h r l) p i)
   where

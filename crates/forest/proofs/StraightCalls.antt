@@ -258,10 +258,6 @@ module _ {K V : Type 0} (valid_key : K → Type 0) (key : K → ℕ) (valid_valu
 pub as_many_steps : (m : ReadRun RangeRead) (snaps : Vec Snap Global) (waiting : Vec NodeNo Global) (taken : Vec Pair Global) (nodes bound : ℕ) → m.at ≡ ReadStart → read_left range_means m nodes ≤ bound → read_left range_means (record m { read = record m.read { waiting = waiting; taken = taken }; snaps = snaps }) nodes ≤ bound
 as_many_steps m snaps waiting taken nodes bound at few = subst (λ a. tries_left range_means m nodes + phase_left range_means (record m { read = record m.read { waiting = waiting; taken = taken }; snaps = snaps }) nodes a ≤ bound) (sym at) (subst (λ a. tries_left range_means m nodes + phase_left range_means m nodes a ≤ bound) at few)
 
--- nor has a search with another list
-pub as_many_looks : (m : ReadRun NeighbourRead) (snaps : Vec Snap Global) (nodes bound : ℕ) → m.at ≡ ReadStart → read_left neighbour_means m nodes ≤ bound → read_left neighbour_means (record m { snaps = snaps }) nodes ≤ bound
-as_many_looks m snaps nodes bound at few = subst (λ a. tries_left neighbour_means m nodes + phase_left neighbour_means (record m { snaps = snaps }) nodes a ≤ bound) (sym at) (subst (λ a. tries_left neighbour_means m nodes + phase_left neighbour_means m nodes a ≤ bound) at few)
-
 -- all tries have as many steps as each of them, times their number
 pub tries_steps : (now old left tries each : ℕ) → 0 < tries → left ≡ tries - 1 → now ≤ old + (left * each + each) → now ≤ old + tries * each
 tries_steps now old left tries each some is small = subst (λ n. now ≤ old + n) (whole tries some is) small

@@ -2,7 +2,7 @@
 -- pass has taken since, by a row of its own.
 use Rattle.std.proofs.Common.{◌≡◌, ◌≢◌, ◌<◌, ◌≤◌, ℕ, ◌⊎◌, inl, inr, ⊎_elim, Option, sym, ◌∙◌, subst, arith}
 use native.Mathlib.Decide.{ℕ_discrete}
-use Rattle.histories.specs.Common.{Layout, IsInProgress, IsOwnScx, IsTakenScx, History, Start, ◌⊳◌, Extends, Lawful, Call, Remaining}
+use Rattle.histories.specs.Common.{Layout, IsInProgress, IsOwnScx, IsTakenScx, History, Opened, ◌⊳◌, Extends, Lawful, Call, Remaining}
 use Rattle.arena.proofs.Lemmas.{ends_self, ends_trans}
 use Rattle.histories.proofs.Lemmas.{lawful_row, lawful_since, lawful_tail, named_scx_taken, state_since, untaken_by_others}
 use Rattle.prims.specs.Laws.Begun.{taken_since}
@@ -13,7 +13,7 @@ use Rattle.dict.specs.Says.{HasMadeRow}
 
 -- until the pass makes a row, an SCX-record of its share that was fresh stays so
 row_or_fresh : (lay : Layout) (c s : ℕ) (start h : History) → IsOwnScx lay c s → ¬ IsTakenScx start s → Lawful lay h → Extends h start → HasMadeRow c start h ⊎ (¬ IsTakenScx h s)
-row_or_fresh lay c s start (Start mode) own fresh l e = inr (subst (λ k. ¬ IsTakenScx k s) e fresh)
+row_or_fresh lay c s start (Opened o) own fresh l e = inr (subst (λ k. ¬ IsTakenScx k s) e fresh)
 row_or_fresh lay c s start (r ⊳ h) own fresh l (inl e) = inr (subst (λ k. ¬ IsTakenScx k s) e fresh)
 row_or_fresh lay c s start (r ⊳ h) own fresh l (inr e) = go (ℕ_discrete r.pass.0 c) (row_or_fresh lay c s start h own fresh (lawful_tail lay h r l) e)
   where

@@ -1,6 +1,6 @@
 -- The course of a call: the rows that the run has got while it was made.
 use Rattle.std.specs.Prelude.{◌≡◌, ◌≢◌, ◌==◌, if◌then◌else◌, ℕ, suc, ◌*◌, List, [], ◌∷◌, Option, Some, None}
-use Rattle.histories.specs.Common.{Layout, Row, Step, History, ◌⊳◌, Call, IsRun, MatchTurn, row_of, Turn, Ask, Done}
+use Rattle.histories.specs.Common.{Layout, Row, Step, History, ◌⊳◌, Call, IsRun, MatchTurn, row_of, Turn, Ask, Done, most_taken}
 use Rattle.forest.specs.declared.view.SeatedPass.{SeatedPass}
 use Rattle.forest.specs.TableRule.{history_of, seated_pass}
 
@@ -55,9 +55,9 @@ abbrev pub seat_steps : List SeatedPass → ℕ
 seat_steps [] = 0
 seat_steps (p ∷ ps) = rows_of p.number.0 p.known
 
--- how many nodes the shares of all passes have together
+-- how many nodes are taken at most: those that were planted, and the shares of all passes
 abbrev pub shared_nodes : Layout → ℕ
-shared_nodes lay = lay.passes * lay.nodes
+shared_nodes lay = most_taken lay
 
 -- how many turns a machine that has this many steps left may still take
 abbrev pub weight : {A : Type 0} → Turn A → ℕ → ℕ

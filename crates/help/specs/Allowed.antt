@@ -1,7 +1,7 @@
 -- What the layer above allows of an SCX-record that its owner
 -- has not begun, whatever rows come until then.
 use Rattle.std.specs.Prelude.{◌≡◌, ◌≢◌, ℕ, false, ◌⊎◌}
-use Rattle.histories.specs.Common.{Layout, Row, info, History, Start, ◌⊳◌, value, member, seen, is_fill, IsRun, Begins, Descriptor, descriptor}
+use Rattle.histories.specs.Common.{Layout, Row, info, History, Opened, ◌⊳◌, value, member, seen, is_fill, IsRun, Begins, Descriptor, descriptor}
 use Rattle.arena.specs.Fills.{IsFillOfScx}
 
 -- the row changes nothing
@@ -16,7 +16,7 @@ MayComeBetween c s r = (r.pass.0 ≢ c) ⊎ (IsFillOfScx s r ⊎ IsQuiet r)
 
 -- the history k extends h, with no rows between but such as may precede c's beginning of s
 abbrev pub IsLater : ℕ → ℕ → History → History → Type 0
-IsLater c s h (Start mode) = h ≡ Start mode
+IsLater c s h (Opened o) = h ≡ Opened o
 IsLater c s h (r ⊳ k) = (h ≡ r ⊳ k) ⊎ (MayComeBetween c s r × IsLater c s h k)
 
 -- the layer above allows s with these words whenever its owner's first freeze

@@ -1,6 +1,6 @@
 -- What holds after every lawful history.
 use Rattle.std.proofs.Common.{◌≡◌, ◌≢◌, ℕ, inr, refl, sym, ◌∙◌}
-use Rattle.histories.specs.Common.{Mode, Layout, Row, AllFrozen, Plan, info, state, History, Start, ◌⊳◌, value, HasHeld, HasWon, IsLawful, Lawful}
+use Rattle.histories.specs.Common.{Layout, Row, AllFrozen, Plan, info, state, History, Opening, Opened, ◌⊳◌, value, HasHeld, HasWon, IsLawful, Lawful}
 use Rattle.arena.proofs.Lemmas.{opening_info, opening_marked, opening_scx, opening_dummy, opening_state, held_start}
 use native.Mathlib.Decide.{ℕ_discrete}
 use Rattle.histories.proofs.Changes.{Change, nothing, fills_node, fills_scx, freezes, sets_frozen, marks, updates, commits, aborts, FreezeWins, UpdateWins, change_of, lawful_tail, lawful_row}
@@ -35,32 +35,32 @@ after lay h r f (quiet k) = keeps f k
 after lay h r f (freeze s j x) = after_freeze f x
 after lay h r f (update s x) = after_update f x
 
-opened : (mode : Mode) (s n : ℕ) → s ≢ 0 → HasHeld (Start mode) (info n) s → ⊥
-opened mode s n d p = d (sym (held_start mode (info n) s p) ∙ opening_info mode n)
+opened : (o : Opening) (s n : ℕ) → s ≢ 0 → HasHeld (Opened o) (info n) s → ⊥
+opened o s n d p = d (sym (held_start o (info n) s p) ∙ opening_info o n)
 
-at_start : (lay : Layout) (mode : Mode) → Facts lay (Start mode)
+at_start : (lay : Layout) (o : Opening) → Facts lay (Opened o)
 unfolding HasWon
-at_start lay mode = record {
-  dummy = opening_dummy mode;
-  empty = opening_scx mode 0 Plan refl;
+at_start lay o = record {
+  dummy = opening_dummy o;
+  empty = opening_scx o 0 Plan refl;
   ended = λ s d. ended s d (ℕ_discrete s 0);
-  flag = λ s e. absurd (e (opening_scx mode s AllFrozen refl));
-  flagged = λ s e. absurd (e (opening_scx mode s AllFrozen refl));
+  flag = λ s e. absurd (e (opening_scx o s AllFrozen refl));
+  flagged = λ s e. absurd (e (opening_scx o s AllFrozen refl));
   winner = λ s w. absurd w;
-  finalizes = λ s e. absurd (e (opening_scx mode s AllFrozen refl));
-  cell = λ s n d p. absurd (opened mode s n d p);
-  about = λ s n d p. absurd (opened mode s n d p);
-  mark = λ n d. absurd (d (opening_marked mode n));
-  marked = λ n d. absurd (d (opening_marked mode n));
+  finalizes = λ s e. absurd (e (opening_scx o s AllFrozen refl));
+  cell = λ s n d p. absurd (opened o s n d p);
+  about = λ s n d p. absurd (opened o s n d p);
+  mark = λ n d. absurd (d (opening_marked o n));
+  marked = λ n d. absurd (d (opening_marked o n));
   all_marked = λ s w. absurd w;
 }
   where
-    ended : (s : ℕ) → value (Start mode) (state s) ≢ 0 → Dec (s ≡ 0) → IsEnded (Start mode) s (value (Start mode) (state s))
-    ended s d (yes e) = inr (rw e (opening_dummy mode), λ w. w)
-    ended s d (no z) = absurd (d (opening_state mode s z))
+    ended : (s : ℕ) → value (Opened o) (state s) ≢ 0 → Dec (s ≡ 0) → IsEnded (Opened o) s (value (Opened o) (state s))
+    ended s d (yes e) = inr (rw e (opening_dummy o), λ w. w)
+    ended s d (no z) = absurd (d (opening_state o s z))
 
 pub facts : (lay : Layout) (h : History) → Lawful lay h → Facts lay h
-facts lay (Start mode) l = at_start lay mode
+facts lay (Opened o) l = at_start lay o
 facts lay (r ⊳ h) l =
     let f : Facts lay h = facts lay h (lawful_tail lay h r l) in
     after lay h r f (effect_of lay h r f (lawful_row lay h r l))

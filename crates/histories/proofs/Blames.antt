@@ -2,7 +2,7 @@
 -- in the way.
 use Rattle.std.proofs.Common.{◌≡◌, ◌≢◌, ℕ, Bool, true, false, inl, inr, ⊎_elim, refl, sym, ◌∙◌, ap, subst, arith}
 use native.Mathlib.Decide.{ℕ_discrete}
-use Rattle.histories.specs.Common.{Layout, Word, State, AllFrozen, Row, same_word, info, marked, scx, state, History, Start, ◌⊳◌, value, HasHeld, Extends, member, Lawful, IsMember, WasInTheWay, descriptor}
+use Rattle.histories.specs.Common.{Layout, Word, State, AllFrozen, Row, same_word, info, marked, scx, state, History, Opened, ◌⊳◌, value, HasHeld, Extends, member, Lawful, IsMember, WasInTheWay, descriptor}
 use Rattle.arena.proofs.Lemmas.{value_apart, value_other, held_at, held_now, held_more, word_same}
 use Rattle.histories.proofs.Changes.{lawful_tail}
 use Rattle.histories.proofs.Facts.{IsCell, Facts, some_is_real}
@@ -22,7 +22,7 @@ member_of h s n c = record { index = c.index; within = c.within; is = c.is }
 
 -- the info of the node is no longer what it was
 pub blame_info : (lay : Layout) (h m : History) (n : ℕ) → Lawful lay h → Extends h m → value h (info n) ≢ value m (info n) → WasInTheWay h m n (value h (info n))
-blame_info lay (Start mode) m n l e d = absurd (d (ap (λ k. value k (info n)) (sym e)))
+blame_info lay (Opened o) m n l e d = absurd (d (ap (λ k. value k (info n)) (sym e)))
 blame_info lay (r ⊳ h) m n l (inl e) d = absurd (d (ap (λ k. value k (info n)) (sym e)))
 blame_info lay (r ⊳ h) m n l (inr e) d = go (effect lay h r l) (blame_info lay h m n (lawful_tail lay h r l) e)
   where
@@ -61,7 +61,7 @@ changed_word r h w d = go (same_word r.word w) refl
 
 -- the node is marked and was not: its info names what marked it
 pub blame_mark : (lay : Layout) (h m : History) (n : ℕ) → Lawful lay h → Extends h m → value m (marked n) ≡ 0 → value h (marked n) ≢ 0 → WasInTheWay h m n (value h (info n))
-blame_mark lay (Start mode) m n l e z d = absurd (d (ap (λ k. value k (marked n)) (sym e) ∙ z))
+blame_mark lay (Opened o) m n l e z d = absurd (d (ap (λ k. value k (marked n)) (sym e) ∙ z))
 blame_mark lay (r ⊳ h) m n l (inl e) z d = absurd (d (ap (λ k. value k (marked n)) (sym e) ∙ z))
 blame_mark lay (r ⊳ h) m n l (inr e) z d = go (ℕ_discrete (value h (marked n)) 0) (blame_mark lay h m n (lawful_tail lay h r l) e z)
   where

@@ -1,6 +1,6 @@
 -- The log has one entry for each SCX-record whose update has won, and none for any other.
 use Rattle.std.proofs.Common.{◌≡◌, ◌≢◌, ℕ, true, cond, ◌⊎◌, inl, inr, ⊎_elim, List, [], ◌∷◌, zero, suc, refl, sym, ◌∙◌, ap, arith}
-use Rattle.histories.specs.Common.{Mode, Layout, Row, History, Start, ◌⊳◌, plan, plan_finalizes, side_of, count, member, IsNamedScx, HasWon, Lawful, Entry, owner}
+use Rattle.histories.specs.Common.{Layout, Row, History, Opening, Opened, ◌⊳◌, plan, plan_finalizes, side_of, count, member, IsNamedScx, HasWon, Lawful, Entry, owner}
 use Rattle.histories.specs.Common.{log, members_from, finalized_from, has, is_final, IsEntered, Descriptor, descriptor, count_in, field_index_in, IsRemoved}
 use Rattle.arena.proofs.Lemmas.{or_right, or_split}
 use Rattle.arena.specs.Log.{AreOnce}
@@ -67,17 +67,17 @@ pub data IsIn (e : Entry) : List Entry → Type 0 where
   newest : (es : List Entry) → IsIn e (e ∷ es)
   older : (x : Entry) (es : List Entry) → IsIn e es → IsIn e (x ∷ es)
 
-empty_log : (lay : Layout) (mode : Mode) → log lay (Start mode) ≡ []
+empty_log : (lay : Layout) (o : Opening) → log lay (Opened o) ≡ []
 unfolding log
-empty_log lay mode = refl
+empty_log lay o = refl
 
-none_won : (mode : Mode) (s : ℕ) → HasWon (Start mode) s → ⊥
+none_won : (o : Opening) (s : ℕ) → HasWon (Opened o) s → ⊥
 unfolding HasWon
-none_won mode s w = w
+none_won o s w = w
 
 -- an SCX-record whose update has won has its entry in the log
 pub won_is_in : (lay : Layout) (h : History) (s : ℕ) → Lawful lay h → HasWon h s → IsIn (entry_of lay h s) (log lay h)
-won_is_in lay (Start mode) s l w = absurd (none_won mode s w)
+won_is_in lay (Opened o) s l w = absurd (none_won o s w)
 won_is_in lay (r ⊳ h) s l w = go (logs lay h r l) (won_is_in lay h s (lawful_tail lay h r l))
   where
     f : Facts lay h
@@ -97,7 +97,7 @@ won_is_in lay (r ⊳ h) s l w = go (logs lay h r l) (won_is_in lay h s (lawful_t
 
 -- and the log has no other entries
 pub entered_won : (lay : Layout) (h : History) (s : ℕ) → Lawful lay h → IsEntered (log lay h) s → HasWon h s
-entered_won lay (Start mode) s l i = absurd (rw (empty_log lay mode) at i)
+entered_won lay (Opened o) s l i = absurd (rw (empty_log lay o) at i)
 entered_won lay (r ⊳ h) s l i = go (logs lay h r l) (entered_won lay h s (lawful_tail lay h r l))
   where
     go : Logs lay h r → (IsEntered (log lay h) s → HasWon h s) → HasWon (r ⊳ h) s
@@ -118,7 +118,7 @@ won_entered lay h s l w = entered (entry_of lay h s) (log lay h) (won_is_in lay 
 
 -- no SCX-record has two entries
 pub once : (lay : Layout) (h : History) → Lawful lay h → AreOnce (log lay h)
-once lay (Start mode) l = rw (empty_log lay mode) tt
+once lay (Opened o) l = rw (empty_log lay o) tt
 once lay (r ⊳ h) l = go (logs lay h r l) (once lay h (lawful_tail lay h r l))
   where
     go : Logs lay h r → AreOnce (log lay h) → AreOnce (log lay (r ⊳ h))
@@ -144,7 +144,7 @@ finalized_by_stays lay h r n s l x =
     record { won = won_more r h s x.won; removed = removed_stays h (r ⊳ h) n s (descriptor_stays lay h r s l (won_real s f x.won) (won_named s f x.won)) x.removed }
 
 pub final_by : (lay : Layout) (h : History) (n : ℕ) → Lawful lay h → is_final (log lay h) n ≡ true → (s : ℕ) × IsFinalizedBy h n s
-final_by lay (Start mode) n l e = let x : is_final [] n ≡ true = rw (empty_log lay mode) at e in cc
+final_by lay (Opened o) n l e = let x : is_final [] n ≡ true = rw (empty_log lay o) at e in cc
 final_by lay (r ⊳ h) n l e = go (logs lay h r l) (final_by lay h n (lawful_tail lay h r l))
   where
     f : Facts lay h

@@ -1,8 +1,8 @@
 -- The fields of a node are those that the log says.
 use Rattle.std.proofs.Common.{◌≡◌, ◌≢◌, ℕ, Bool, true, false, cond, ◌&&◌, List, ◌∷◌, refl, sym, ◌∙◌, ap, eq-eqb, ne_eqb}
 use native.Mathlib.Decide.{ℕ_discrete}
-use Rattle.histories.specs.Common.{Mode, Side, Child, Info, Marked, AllFrozen, Word, Node, Layout, Row, Kind, Fill, Freeze, SetFrozen, Mark, Update, Commit, Abort, same_word, node, scx, info}
-use Rattle.histories.specs.Common.{marked, child, state, History, Start, ◌⊳◌, value, plan, side_of, field_index, member, new, field, IsNamed, HasWon, Lawful, Entry, entry, log, is_fill, fields}
+use Rattle.histories.specs.Common.{Side, Child, Info, Marked, AllFrozen, Word, Node, Layout, Row, Kind, Fill, Freeze, SetFrozen, Mark, Update, Commit, Abort, same_word, node, scx, info}
+use Rattle.histories.specs.Common.{marked, child, state, History, Opening, Opened, ◌⊳◌, value, plan, side_of, field_index, member, new, field, IsNamed, HasWon, Lawful, Entry, entry, log, is_fill, fields}
 use Rattle.arena.specs.Log.{with_row, filled, field_after}
 use Rattle.arena.proofs.Lemmas.{value_apart, value_quiet, node_word_apart, node_apart}
 use Rattle.histories.proofs.Changes.{Change, nothing, fills_node, fills_scx, freezes, sets_frozen, marks, updates, commits, aborts, UpdateWins, change, lawful_tail, lawful_row}
@@ -84,17 +84,17 @@ value_cond : (h : History) (r : Row) (u w : Word) → r.word ≡ u → value (r 
 unfolding value
 value_cond h r u w e = rw e refl
 
-empty_log : (lay : Layout) (mode : Mode) (n : ℕ) (side : Side) (x : ℕ) → field_after x (log lay (Start mode)) n side ≡ x
+empty_log : (lay : Layout) (o : Opening) (n : ℕ) (side : Side) (x : ℕ) → field_after x (log lay (Opened o)) n side ≡ x
 unfolding log
-empty_log lay mode n side x = refl
+empty_log lay o n side x = refl
 
-fields_at_start : (lay : Layout) (mode : Mode) (n : ℕ) (side : Side) → value (Start mode) (child n side) ≡ fields lay (Start mode) n side
+fields_at_start : (lay : Layout) (o : Opening) (n : ℕ) (side : Side) → value (Opened o) (child n side) ≡ fields lay (Opened o) n side
 unfolding log value filled
-fields_at_start lay mode n side = refl
+fields_at_start lay o n side = refl
 
 -- a node that nothing names has no entry
 unnamed : (lay : Layout) (h : History) (n : ℕ) (side : Side) (x : ℕ) → Lawful lay h → ¬ IsNamed lay h n → field_after x (log lay h) n side ≡ x
-unnamed lay (Start mode) n side x l d = empty_log lay mode n side x
+unnamed lay (Opened o) n side x l d = empty_log lay o n side x
 unnamed lay (r ⊳ h) n side x l d = go (logs lay h r l) (unnamed lay h n side x (lawful_tail lay h r l) (λ p. d (named_more r p)))
   where
     f : Facts lay h
@@ -108,7 +108,7 @@ unnamed lay (r ⊳ h) n side x l d = go (logs lay h r l) (unnamed lay h n side x
         rw (e, ne_eqb (member h u (field_index h u)) n other) p
 
 pub fields_are : (lay : Layout) (h : History) (n : ℕ) (side : Side) → Lawful lay h → value h (child n side) ≡ fields lay h n side
-fields_are lay (Start mode) n side l = fields_at_start lay mode n side
+fields_are lay (Opened o) n side l = fields_at_start lay o n side
 fields_are lay (r ⊳ h) n side l = go (change lay h r l) (fields_are lay h n side (lawful_tail lay h r l))
   where
     f : Facts lay h

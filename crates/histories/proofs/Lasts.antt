@@ -1,7 +1,7 @@
 -- The last entry of a node, and whether it is final, stay while its info names one finished
 -- SCX-record, and while one that holds it has not won.
 use Rattle.std.proofs.Common.{◌≡◌, ◌≢◌, ℕ, Bool, true, false, cond, ◌||◌, inl, inr, List, ◌∷◌, length, suc, refl, sym, ◌∙◌, subst}
-use Rattle.histories.specs.Common.{Layout, Row, info, state, History, Start, ◌⊳◌, value, Extends, IsNamed, HasWon, Lawful, IsMember, Entry, log, last, is_final, has, IsRemoved}
+use Rattle.histories.specs.Common.{Layout, Row, info, state, History, Opened, ◌⊳◌, value, Extends, IsNamed, HasWon, Lawful, IsMember, Entry, log, last, is_final, has, IsRemoved}
 use Rattle.histories.proofs.Changes.{UpdateWins, lawful_tail}
 use Rattle.histories.proofs.Facts.{Facts}
 use Rattle.histories.proofs.Updates.{update_about, update_flagged, update_in_progress, update_keeps_info, update_won}
@@ -65,7 +65,7 @@ last_waits lay h r n s l here waits = unless lay h r n l never
 
 -- since a moment at which the info of the node named what it still names and what was finished then
 pub last_since : (lay : Layout) (h m : History) (n s : ℕ) → Lawful lay h → Extends h m → IsNamed lay m n → value m (state s) ≢ 0 → value h (info n) ≡ s → Same (log lay h) (log lay m) n
-last_since lay (Start mode) m n s l e p d here = subst (λ k. Same (log lay (Start mode)) (log lay k) n) (sym e) record { last = refl; final = refl }
+last_since lay (Opened o) m n s l e p d here = subst (λ k. Same (log lay (Opened o)) (log lay k) n) (sym e) record { last = refl; final = refl }
 last_since lay (r ⊳ h) m n s l (inl e) p d here = subst (λ k. Same (log lay (r ⊳ h)) (log lay k) n) (sym e) record { last = refl; final = refl }
 last_since lay (r ⊳ h) m n s l (inr e) p d here =
     let b : Lawful lay h = lawful_tail lay h r l in

@@ -14,11 +14,11 @@ pub use Rattle.histories.proofs.Finals.{aborted_unmarked, finalized_since, not_f
 pub use Rattle.histories.proofs.Helping.{aborted_never_won, aborted_no_entry, about, committed_won, helper_freezes, helper_sets_frozen, is_over, over_aborts, over_committed, over_stays, started_more, stuck_stays, won_after}
 pub use Rattle.histories.proofs.Blames.{blame_info, blame_mark, earlier, member_of}
 pub use Rattle.histories.proofs.Owners.{named_scx_back, named_scx_inside, one_node_owner, one_scx_owner, own_node_inside, own_scx_inside, own_words_stay, stays_free}
-pub use Rattle.histories.proofs.Unnamed.{field_back, start_mode, stays_unnamed, unnamed_stays, word_back}
+pub use Rattle.histories.proofs.Unnamed.{field_back, stays_unnamed, unnamed_stays, word_back}
 pub use Rattle.histories.proofs.Begins.{begins_kept, free_unset, owner_aborts, owner_freezes, passed_stays}
 pub use Rattle.histories.proofs.Shapes.{IsFirst, begins_once, shaped_begin, shaped_more, shaped_since, shaped_tail}
 pub use Rattle.histories.proofs.Unmentioned.{IsMention, unmentioned_by_fill, unmentioned_by_others, unmentioned_by_step, unmentioned_start, unmentioned_unnamed}
 pub use Rattle.histories.proofs.Taking.{finished_taken, named_scx_taken, planned_taken, untaken_by_node, untaken_by_other_fill, untaken_by_others, untaken_by_step}
-pub use Rattle.histories.proofs.Openings.{opening_field, some_open, value_start}
+pub use Rattle.histories.proofs.Openings.{map_nodes, some_at_start, some_open, start_mode, start_nodes, start_planted, value_start}
 pub use Rattle.histories.proofs.Keeps.{Kept, stays_ended}
 pub use Rattle.histories.proofs.Members.{is_removed_of}

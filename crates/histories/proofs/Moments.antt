@@ -2,7 +2,7 @@
 use Rattle.std.proofs.Common.{◌≡◌, ◌≢◌, ℕ, false, inl, inr, ⊎_elim, refl, sym, ◌∙◌, subst}
 use native.Mathlib.Decide.{ℕ_discrete}
 use Rattle.histories.specs.Common.{Side, NodeWord, Settled, Child, Info, Marked, ScxWord, State, AllFrozen, Layout, Row, same_node_word, node, scx, info, marked, child, state, History}
-use Rattle.histories.specs.Common.{Start, ◌⊳◌, value, Extends, plan, side_of, field_index, member, IsNamed, opening_node, by_field, by_scx, IsNamedScx, IsSettled, HasWon, Lawful, descriptor}
+use Rattle.histories.specs.Common.{Opened, ◌⊳◌, value, Extends, plan, side_of, field_index, member, IsNamed, opening_node, by_field, by_scx, IsNamedScx, IsSettled, HasWon, Lawful, descriptor}
 use Rattle.arena.proofs.Lemmas.{value_apart, held_more, node_word_apart, node_apart}
 use Rattle.histories.proofs.Changes.{IsNodeFill, IsScxFill, lawful_tail}
 use Rattle.histories.proofs.Facts.{Facts, descriptor_same, won_more}
@@ -162,12 +162,12 @@ sealed lay h r n s l m e = go (effect lay h r l)
 
 -- what each lawful row keeps, a moment hands on to all later ones
 pub since : (P : History → Type 0) (lay : Layout) → ((h : History) (r : Row) → Lawful lay (r ⊳ h) → P h → P (r ⊳ h)) → (h m : History) → Lawful lay h → Extends h m → P m → P h
-since P lay step (Start mode) m l e p = subst P e p
+since P lay step (Opened o) m l e p = subst P e p
 since P lay step (r ⊳ h) m l (inl e) p = subst P e p
 since P lay step (r ⊳ h) m l (inr e) p = step h r l (since P lay step h m (lawful_tail lay h r l) e p)
 
 pub lawful_since : (lay : Layout) (h m : History) → Lawful lay h → Extends h m → Lawful lay m
-lawful_since lay (Start mode) m l e = subst (Lawful lay) (sym e) l
+lawful_since lay (Opened o) m l e = subst (Lawful lay) (sym e) l
 lawful_since lay (r ⊳ h) m l (inl e) = subst (Lawful lay) (sym e) l
 lawful_since lay (r ⊳ h) m l (inr e) = lawful_since lay h m (lawful_tail lay h r l) e
 
@@ -191,7 +191,7 @@ node_since lay h m n a l e i p =
 -- At rest nothing moves: an info word that names at the end what was finished at a moment, named it
 -- ever since.
 pub still_since : (lay : Layout) (h m : History) (n s : ℕ) → Lawful lay h → Extends h m → IsNamed lay m n → value m (state s) ≢ 0 → value h (info n) ≡ s → Still m h n s
-still_since lay (Start mode) m n s l e p d here = subst (λ k. Still k (Start mode) n s) (sym e) record { info = here; fields = λ side. refl; mark = refl }
+still_since lay (Opened o) m n s l e p d here = subst (λ k. Still k (Opened o) n s) (sym e) record { info = here; fields = λ side. refl; mark = refl }
 still_since lay (r ⊳ h) m n s l (inl e) p d here = subst (λ k. Still k (r ⊳ h) n s) (sym e) record { info = here; fields = λ side. refl; mark = refl }
 still_since lay (r ⊳ h) m n s l (inr e) p d here =
     let b : Lawful lay h = lawful_tail lay h r l in

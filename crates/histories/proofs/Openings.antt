@@ -1,28 +1,33 @@
 -- What words hold at the start.
-use Rattle.std.proofs.Common.{◌≡◌, ℕ, ◌<◌, Bool, true, false, eqb, cond, refl, arith}
-use Rattle.histories.specs.Common.{Mode, Side, Left, Right, Word, opening, opening_nodes, child, Start, value}
-use Rattle.arena.specs.Layout.{is_map, records_opening, tree_opening}
+use Rattle.std.proofs.Common.{◌≡◌, ℕ, ◌<◌, ◌≤◌, ◌+◌, true, false, cond, refl, sym, arith, subst}
+use Rattle.histories.specs.Common.{Mode, Layout, Word, Opening, opening_nodes, nodes_at_start, History, Opened, value, Lawful}
+use Rattle.arena.specs.Layout.{is_map, IsMap}
 
-pub value_start : (mode : Mode) (w : Word) → value (Start mode) w ≡ opening mode w
+pub value_start : (o : Opening) (w : Word) → value (Opened o) w ≡ o.words w
 unfolding value
-value_start mode w = refl
+value_start o w = refl
 
--- a field mentions a node that was there from the start, and so do the words of SCX-records
-pub opening_field : (mode : Mode) (n : ℕ) (side : Side) → opening mode (child n side) < opening_nodes mode
-opening_field mode n side = of (is_map mode) side
-  where
-    one : (root : Bool) → cond root 1 0 < 3
-    one true = omega arith
-    one false = omega arith
+pub some_at_start : (mode : Mode) (planted : ℕ) → 0 < nodes_at_start mode planted
+some_at_start mode planted = elim (is_map mode) as (λ is. 0 < cond is (3 + planted) 9) [ true ↦ omega arith | false ↦ omega arith ]
 
-    two : (root : Bool) → cond root 2 0 < 3
-    two true = omega arith
-    two false = omega arith
+pub some_open : (lay : Layout) → 0 < opening_nodes lay
+some_open lay = some_at_start lay.mode lay.planted
 
-    of : (map : Bool) (side : Side) → cond map (tree_opening (child n side)) (records_opening (child n side)) < cond map 3 9
-    of true Left = one (eqb n 0)
-    of true Right = two (eqb n 0)
-    of false side = omega arith
+-- a map opens with three nodes and those that are planted
+pub map_nodes : (lay : Layout) → IsMap lay.mode → opening_nodes lay ≡ 3 + lay.planted
+map_nodes lay map = rw map refl
 
-pub some_open : (mode : Mode) → 0 < opening_nodes mode
-some_open mode = elim (is_map mode) as (λ is. 0 < cond is 3 9) [ true ↦ omega arith | false ↦ omega arith ]
+-- an opening is one of the layout's mode, for which there is room
+pub start_mode : (lay : Layout) (o : Opening) → Lawful lay (Opened o) → o.mode ≡ lay.mode
+unfolding Lawful
+start_mode lay o l = l.0
+
+pub start_planted : (lay : Layout) (o : Opening) → Lawful lay (Opened o) → o.planted ≤ lay.planted
+unfolding Lawful
+start_planted lay o l = l.1
+
+more_planted : (mode : Mode) (few many : ℕ) → few ≤ many → nodes_at_start mode few ≤ nodes_at_start mode many
+more_planted mode few many i = elim (is_map mode) as (λ is. cond is (3 + few) 9 ≤ cond is (3 + many) 9) [ true ↦ omega (arith, i) | false ↦ omega arith ]
+
+pub start_nodes : (lay : Layout) (o : Opening) → Lawful lay (Opened o) → nodes_at_start o.mode o.planted ≤ opening_nodes lay
+start_nodes lay o l = subst (λ mode. nodes_at_start mode o.planted ≤ opening_nodes lay) (sym (start_mode lay o l)) (more_planted lay.mode o.planted lay.planted (start_planted lay o l))

@@ -26,7 +26,7 @@ one_node_owner lay c d n p q = go (ℕ_discrete c d)
   where
     go : Dec (c ≡ d) → c ≡ d
     go (yes e) = e
-    go (no e) = absurd (overlap (opening_nodes lay.mode) lay.nodes c d n p.from p.below q.from q.below e)
+    go (no e) = absurd (overlap (opening_nodes lay) lay.nodes c d n p.from p.below q.from q.below e)
 
 -- The records of a pass are in the table
 
@@ -37,7 +37,7 @@ pub own_scx_inside : (lay : Layout) (c s : ℕ) → c < lay.passes → IsOwnScx 
 own_scx_inside lay c s i p = in_product 1 lay.passes lay.scx c s i p.below
 
 pub own_node_inside : (lay : Layout) (c n : ℕ) → c < lay.passes → IsOwnNode lay c n → n < all_nodes lay
-own_node_inside lay c n i p = in_product (opening_nodes lay.mode) lay.passes lay.nodes c n i p.below
+own_node_inside lay c n i p = in_product (opening_nodes lay) lay.passes lay.nodes c n i p.below
 
 -- an SCX-record that an info word names is one of the table
 pub named_scx_inside : (lay : Layout) (h : History) (s : ℕ) → Lawful lay h → IsNamedScx h s → s < all_scx lay

@@ -2,7 +2,7 @@
 -- of the shape.
 use Rattle.std.proofs.Common.{◌≡◌, ℕ, inl, inr, sym, ◌∙◌, ap, arith, subst}
 use native.Mathlib.Decide.{ℕ_discrete}
-use Rattle.histories.specs.Common.{Layout, Row, Kind, Fill, Freeze, SetFrozen, Mark, Update, Commit, Abort, info, History, Start, ◌⊳◌, Extends, member, IsOwnScx, IsNamedScx, Lawful, IsBegin, Shaped}
+use Rattle.histories.specs.Common.{Layout, Row, Kind, Fill, Freeze, SetFrozen, Mark, Update, Commit, Abort, info, History, Opened, ◌⊳◌, Extends, member, IsOwnScx, IsNamedScx, Lawful, IsBegin, Shaped}
 use Rattle.histories.proofs.Changes.{Change, nothing, fills_node, fills_scx, freezes, sets_frozen, marks, updates, commits, aborts, change}
 use Rattle.histories.proofs.Facts.{Facts, info_node}
 use Rattle.histories.proofs.Freezes.{first_frozen, freeze_real, freeze_distinct, freeze_is_new}
@@ -61,6 +61,6 @@ unfolding Shaped
 shaped_begin allows lay h r s p g = p.1 s g
 
 pub shaped_since : (allows : Layout → History → ℕ → Type 0) (lay : Layout) (h m : History) → Shaped allows lay h → Extends h m → Shaped allows lay m
-shaped_since allows lay (Start mode) m p e = subst (Shaped allows lay) (sym e) p
+shaped_since allows lay (Opened o) m p e = subst (Shaped allows lay) (sym e) p
 shaped_since allows lay (r ⊳ h) m p (inl e) = subst (Shaped allows lay) (sym e) p
 shaped_since allows lay (r ⊳ h) m p (inr e) = shaped_since allows lay h m (shaped_tail allows lay h r p) e

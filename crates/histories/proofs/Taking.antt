@@ -3,7 +3,7 @@
 use Rattle.std.proofs.Common.{◌≡◌, ◌≢◌, ℕ, ◌<◌, Bool, true, false, ◌⊎◌, inl, inr, refl, sym, ◌∙◌, arith, subst}
 use native.Mathlib.Decide.{ℕ_discrete}
 use Rattle.histories.specs.Common.{Layout, Word, Node, Scx, NodeWord, ScxWord, State, AllFrozen, Plan, New, Old, Member, Seen, Row, Fill, same_word, node, scx, info, marked}
-use Rattle.histories.specs.Common.{state, History, Start, ◌⊳◌, value, count_of, plan, member, count, field, IsOwnScx, IsNamedScx, IsTakenScx, MayFill, Obeys, Lawful}
+use Rattle.histories.specs.Common.{state, History, Opened, ◌⊳◌, value, count_of, plan, member, count, field, IsOwnScx, IsNamedScx, IsTakenScx, MayFill, Obeys, Lawful}
 use Rattle.arena.specs.declared.word.ScxWord.TheVariants.{Call}
 use Rattle.arena.specs.Fills.{IsFillOfScx}
 use Rattle.arena.proofs.Lemmas.{word_same, taken_scx_more, fill_takes_scx, value_quiet, value_apart, opening_scx, opening_state, scx_apart, scx_word_apart}
@@ -22,7 +22,7 @@ taken_split r h s t = t
 
 -- an SCX-record that covers a node is taken, since only a fill changes its plan
 pub planned_taken : (lay : Layout) (h : History) (s : ℕ) → Lawful lay h → 0 < count h s → IsTakenScx h s
-planned_taken lay (Start mode) s l some = let e : value (Start mode) (scx s Plan) ≡ 0 = opening_scx mode s Plan refl in absurd (let x : 0 < count_of 0 = rw e at some in omega arith)
+planned_taken lay (Opened o) s l some = let e : value (Opened o) (scx s Plan) ≡ 0 = opening_scx o s Plan refl in absurd (let x : 0 < count_of 0 = rw e at some in omega arith)
 planned_taken lay (r ⊳ h) s l some = go (change lay h r l) (λ e. taken_scx_more r h s (planned_taken lay h s (lawful_tail lay h r l) (let P : ℕ → Type 0 = λ p. 0 < count_of p in subst P e some)))
   where
     by_fill : (t : ℕ) (part : ScxWord) → r.kind ≡ Fill → r.word ≡ scx t part → (b : Bool) → same_word (scx t part) (scx s Plan) ≡ b → (plan (r ⊳ h) s ≡ plan h s → IsTakenScx (r ⊳ h) s) → IsTakenScx (r ⊳ h) s
@@ -46,7 +46,7 @@ named_scx_taken lay h s l real p = planned_taken lay h s l ((facts lay h l).abou
 
 -- one that is finished
 pub finished_taken : (lay : Layout) (h : History) (s : ℕ) → Lawful lay h → s ≢ 0 → value h (state s) ≢ 0 → IsTakenScx h s
-finished_taken lay (Start mode) s l real d = absurd (d (opening_state mode s real))
+finished_taken lay (Opened o) s l real d = absurd (d (opening_state o s real))
 finished_taken lay (r ⊳ h) s l real d = go (change lay h r l) (λ e. taken_scx_more r h s (finished_taken lay h s (lawful_tail lay h r l) real (λ z. d (e ∙ z))))
   where
     f : Facts lay h

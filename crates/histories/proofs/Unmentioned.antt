@@ -1,12 +1,12 @@
 -- A node that no field and no SCX-record has ever named: rows of others leave it so, and so do rows
 -- that do not store its number and all rows but fills.
 use Rattle.std.proofs.Common.{◌≡◌, ◌≢◌, ℕ, ◌<◌, ◌≤◌, Bool, true, false, ◌⊎◌, inl, inr, ⊎_elim, refl, sym, ◌∙◌, arith, subst}
-use Rattle.histories.specs.Common.{Layout, Side, Mode, Child, Info, Marked, Word, Node, Scx, ScxWord, State, AllFrozen, New, Row, Fill, opening_nodes, same_word, scx, info, marked}
-use Rattle.histories.specs.Common.{child, state, History, Start, ◌⊳◌, value, HasHeld, member, new, IsOwnNode, IsNamed, opening_node, by_field, by_scx, Lawful, IsUnmentioned}
+use Rattle.histories.specs.Common.{Layout, Side, Child, Info, Marked, Word, Node, Scx, ScxWord, State, AllFrozen, New, Row, Fill, nodes_at_start, same_word, scx, info, marked}
+use Rattle.histories.specs.Common.{child, state, History, Opening, Opened, ◌⊳◌, value, HasHeld, member, new, IsOwnNode, IsNamed, opening_node, by_field, by_scx, Lawful, IsUnmentioned}
 use Rattle.arena.specs.Fills.{NamesNode}
 use Rattle.arena.proofs.Lemmas.{word_same, value_at, value_quiet, value_apart, value_other, held_at, held_now, held_split, held_back, held_start, opening_scx, node_word_apart, scx_word_apart}
 use Rattle.histories.proofs.Changes.{Change, nothing, fills_node, fills_scx, freezes, sets_frozen, marks, updates, commits, aborts, change, lawful_row}
-use Rattle.histories.proofs.Openings.{opening_field, some_open, value_start}
+use Rattle.histories.proofs.Openings.{some_at_start, value_start}
 use Rattle.histories.proofs.Quiet.{not_flag, not_state}
 use Rattle.histories.proofs.Unnamed.{field_back, names_fill, word_back}
 
@@ -44,10 +44,10 @@ unmentioned_by_others lay h r c n l is_pass other own u = record {
 -- At the start
 
 -- at the start no word names a node that is not there yet
-pub unmentioned_start : (mode : Mode) (n : ℕ) → opening_nodes mode ≤ n → IsUnmentioned (Start mode) n
-unmentioned_start mode n late = record {
-  in_no_field = λ m side p. let e = sym (value_start mode (child m side)) ∙ held_start mode (child m side) n p in let i = opening_field mode m side in omega arith;
-  in_no_scx = λ s part i p. let e = sym (opening_scx mode s part (not_state part (names_fill part i))) ∙ held_start mode (scx s part) n p in let some = some_open mode in omega arith;
+pub unmentioned_start : (o : Opening) (n : ℕ) → nodes_at_start o.mode o.planted ≤ n → IsUnmentioned (Opened o) n
+unmentioned_start o n late = record {
+  in_no_field = λ m side p. let e = sym (value_start o (child m side)) ∙ held_start o (child m side) n p in let i = o.fields m side in omega (arith, e, i, late);
+  in_no_scx = λ s part i p. let e = sym (opening_scx o s part (not_state part (names_fill part i))) ∙ held_start o (scx s part) n p in let some = some_at_start o.mode o.planted in omega (arith, e, some, late);
 }
 
 -- Any row

@@ -1,12 +1,11 @@
 -- A node of a pass's own share that is not named is its own: rows of others leave its words, and do
 -- not name it.
-use Rattle.std.proofs.Common.{◌≡◌, ◌≢◌, ℕ, ◌<◌, Bool, true, false, cond, ◌⊎◌, inl, inr, ⊎_elim, refl, sym, ◌∙◌, arith, subst, ne_eqb}
-use native.Mathlib.Decide.{ℕ_discrete}
-use Rattle.histories.specs.Common.{Mode, Layout, Side, Left, Right, NodeWord, Child, Info, Marked, ScxWord, State, AllFrozen, Plan, New, Old, Member, Seen, Row}
-use Rattle.histories.specs.Common.{opening_nodes, same_word, node, scx, info, marked, child, state, History, Start, ◌⊳◌, value, HasHeld, plan, side_of, member, new}
+use Rattle.std.proofs.Common.{◌≡◌, ◌≢◌, ℕ, ◌<◌, Bool, true, false, ◌⊎◌, inl, inr, ⊎_elim, refl, sym, ◌∙◌, arith, subst}
+use native.Mathlib.Decide.{ℕ_discrete, dec_lt}
+use Rattle.histories.specs.Common.{Layout, Side, NodeWord, Child, Info, Marked, ScxWord, State, AllFrozen, Plan, New, Old, Member, Seen, Row}
+use Rattle.histories.specs.Common.{nodes_at_start, same_word, node, scx, info, marked, child, state, History, Opening, Opened, ◌⊳◌, value, HasHeld, plan, side_of, member, new}
 use Rattle.histories.specs.Common.{field_index, field, IsOwnNode, IsOwnScx, IsNamed, opening_node, by_field, by_scx, IsInField, IsNamedScx, MayFill, Lawful, descriptor}
 use Rattle.arena.specs.declared.word.ScxWord.TheVariants.{Call}
-use Rattle.arena.specs.Layout.{is_map, records_opening, tree_opening}
 use Rattle.arena.specs.Fills.{IsOthersNode, NamesNode}
 use Rattle.arena.proofs.Lemmas.{word_same, value_at, value_quiet, value_apart, value_other, held_at, held_split, held_start, opening_scx, node_apart, scx_word_apart}
 use Rattle.histories.proofs.Changes.{Change, IsScxFill, nothing, fills_node, fills_scx, freezes, sets_frozen, marks, updates, commits, aborts, FreezeWins, change, lawful_tail, lawful_row}
@@ -14,7 +13,7 @@ use Rattle.histories.proofs.Quiet.{not_flag, not_state}
 use Rattle.histories.proofs.Facts.{IsFlagged, Facts, member_named, child_node}
 use Rattle.histories.proofs.Updates.{update_flagged}
 use Rattle.histories.proofs.Always.{facts_before}
-use Rattle.histories.proofs.Openings.{some_open}
+use Rattle.histories.proofs.Openings.{some_open, start_nodes}
 use Rattle.histories.proofs.Moments.{named_more}
 use Rattle.histories.proofs.Owners.{one_scx_owner, one_node_owner, named_scx_back}
 
@@ -34,23 +33,18 @@ written_more r m n (inl e) = inl e
 written_more r m n (inr (inl p)) = inr (inl (named_more r p))
 written_more r m n (inr (inr x)) = inr (inr (x.0, x.1, λ o. named_more r (x.2 o)))
 
-opening_field : (mode : Mode) (m : ℕ) (side : Side) → (value (Start mode) (child m side) ≡ 0) ⊎ (m < opening_nodes mode)
+-- a field that is not 0 at the start is of a node that is there
+opening_field : (o : Opening) (m : ℕ) (side : Side) → (value (Opened o) (child m side) ≡ 0) ⊎ (m < nodes_at_start o.mode o.planted)
 unfolding value
-opening_field mode m side = of (is_map mode) (ℕ_discrete m 0) side
+opening_field o m side = go (dec_lt m (nodes_at_start o.mode o.planted))
   where
-    of : (map : Bool) → Dec (m ≡ 0) → (side : Side) → (cond map (tree_opening (child m side)) (records_opening (child m side)) ≡ 0) ⊎ (m < cond map 3 9)
-    of true (yes e) side = inr (omega arith)
-    of true (no d) Left = inl (rw (ne_eqb m 0 d) refl)
-    of true (no d) Right = inl (rw (ne_eqb m 0 d) refl)
-    of false d side = inl refl
-
-pub start_mode : (lay : Layout) (mode : Mode) → Lawful lay (Start mode) → mode ≡ lay.mode
-unfolding Lawful
-start_mode lay mode l = l
+    go : Dec (m < nodes_at_start o.mode o.planted) → (o.words (child m side) ≡ 0) ⊎ (m < nodes_at_start o.mode o.planted)
+    go (yes i) = inr i
+    go (no d) = inl (o.beyond m (Child side) (omega (arith, d)))
 
 pub field_written : (lay : Layout) (h : History) (m : ℕ) (side : Side) (n : ℕ) → Lawful lay h → HasHeld h (child m side) n → IsWritten lay h m n
-field_written lay (Start mode) m side n l p =
-    ⊎_elim (λ e. inl (sym (held_start mode (child m side) n p) ∙ e)) (λ i. inr (inl (opening_node (rw (start_mode lay mode l) at i)))) (opening_field mode m side)
+field_written lay (Opened o) m side n l p =
+    ⊎_elim (λ e. inl (sym (held_start o (child m side) n p) ∙ e)) (λ i. inr (inl (opening_node (let few = start_nodes lay o l in omega (arith, i, few))))) (opening_field o m side)
 field_written lay (r ⊳ h) m side n l p = go (held_split r h (child m side) n p) (λ q. written_more r m n (field_written lay h m side n (lawful_tail lay h r l) q))
   where
     by_word : value (r ⊳ h) (child m side) ≡ n → (HasHeld h (child m side) n → IsWritten lay (r ⊳ h) m n) → r.word ≡ child m side → Change lay h r → IsWritten lay (r ⊳ h) m n
@@ -104,7 +98,7 @@ names_fill AllFrozen i = absurd i
 names_fill _ i = tt
 
 pub scx_written : (lay : Layout) (h : History) (s : ℕ) (part : ScxWord) (n : ℕ) → Lawful lay h → NamesNode part → HasHeld h (scx s part) n → IsScxWritten lay h s n
-scx_written lay (Start mode) s part n l i p = inl (sym (held_start mode (scx s part) n p) ∙ opening_scx mode s part (not_state part (names_fill part i)))
+scx_written lay (Opened o) s part n l i p = inl (sym (held_start o (scx s part) n p) ∙ opening_scx o s part (not_state part (names_fill part i)))
 scx_written lay (r ⊳ h) s part n l i p = go (held_split r h (scx s part) n p) (λ q. scx_written_more r s n (scx_written lay h s part n (lawful_tail lay h r l) i q))
   where
     go : (value (r ⊳ h) (scx s part) ≡ n) ⊎ HasHeld h (scx s part) n → (HasHeld h (scx s part) n → IsScxWritten lay (r ⊳ h) s n) → IsScxWritten lay (r ⊳ h) s n
@@ -141,7 +135,7 @@ module _ (lay : Layout) (h : History) (r : Row) (c : ℕ) (l : Lawful lay (r ⊳
   others d n e o = record { pass = c; is_pass = is_pass; is_other = λ q. e (sym q); owns = o }
 
   zero_named : (n : ℕ) → n ≡ 0 → IsNamed lay h n
-  zero_named n e = opening_node (rw e (some_open lay.mode))
+  zero_named n e = opening_node (rw e (some_open lay))
 
   -- a field of another comes to name a node only where the node was named, or was in that field
   -- before

@@ -4,21 +4,23 @@ pub use Rattle.arena.specs.Fills.{IsOwnScx, IsNamed, IsOwnNode, IsNamedScx, IsOt
 unfoldable pub use Rattle.arena.specs.Fills.{IsTakenScx, IsTakenNode}
 pub use Rattle.arena.specs.Found.{HasFound, IsLastStep}
 pub use Rattle.arena.specs.Heads.{head_of}
-pub use Rattle.arena.specs.History.{History, ◌⊳◌, Extends, Start}
+pub use Rattle.arena.specs.History.{History, ◌⊳◌, Extends, Start, Opened, opening_of}
 unfoldable pub use Rattle.arena.specs.History.{value, HasHeld}
 pub use Rattle.arena.specs.Lawful.{IsWin, IsLawful, IsFreeze, IsUpdate, AreFrozen, IsExchange, IsAbort, IsMark, Obeys, IsSettled, MayBegin, IsFrozen}
 unfoldable pub use Rattle.arena.specs.Lawful.{Lawful, HasWon}
-pub use Rattle.arena.specs.Layout.{all_nodes, IsWord, opening_nodes, all_scx, opening, first_scx, first_node, place, table_size}
+pub use Rattle.arena.specs.Layout.{all_nodes, IsWord, opening_nodes, nodes_at_start, all_scx, opening, first_scx, first_node, place, table_size}
 pub use Rattle.arena.specs.Log.{is_final, Entry, has, last, entry, finalized_from, IsEntered, owner, members_from, fields, is_fill}
 unfoldable pub use Rattle.arena.specs.Log.{log}
 pub use Rattle.arena.specs.Machines.{Call, IsRun, begun_at, row_of, MatchTurn, IsTold}
 pub use Rattle.arena.specs.MemberIndex.{member_index}
+pub use Rattle.arena.specs.Openings.{Opening, empty}
 pub use Rattle.arena.specs.PlainWords.{Contents, word_at, IsChanged}
 pub use Rattle.arena.specs.ScxRecords.{member, plan, side_of, count, field_index, seen, new, count_of, plan_finalizes, old, field_index_of, field, scx_finalizes, raw_count, IsPlan}
 pub use Rattle.arena.specs.Shape.{IsBegin}
 unfoldable pub use Rattle.arena.specs.Shape.{Shaped}
 pub use Rattle.arena.specs.Share.{Remaining, HasScx, HasNode}
 unfoldable pub use Rattle.arena.specs.TakenNodes.{taken_nodes}
+pub use Rattle.arena.specs.TakenNodes.{most_taken}
 pub use Rattle.arena.specs.Words.{node, child, info, state, scx, marked, first_key, same_word, first_value, slot_no, same_node_word, word_after}
 pub use Rattle.arena.specs.declared.fault.Full.{Full}
 pub use Rattle.arena.specs.declared.fault.Resource.{Resource}

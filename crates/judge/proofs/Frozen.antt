@@ -3,7 +3,7 @@ use Rattle.std.proofs.Common.{◌≡◌, ◌≢◌, ◌↔◌, ℕ, zero, suc, �
 use Rattle.std.proofs.Math.ListN.{length-set}
 use Rattle.std.specs.Prelude.{◌&&◌, not, slice_set}
 use Rattle.histories.specs.Common.{Layout, NodeWord, Info, Marked, Child, ScxWord, State, AllFrozen, Plan, Member, Row, Kind, Fill, SetFrozen, Mark, Update, Commit, Abort, all_scx}
-use Rattle.histories.specs.Common.{node, scx, info, same_node_word, History, Start, ◌⊳◌, value, HasHeld, IsNamedScx, Lawful, IsFrozen, count, count_of, plan, member, seen, field_index}
+use Rattle.histories.specs.Common.{node, scx, info, same_node_word, History, Start, empty, ◌⊳◌, value, HasHeld, IsNamedScx, Lawful, IsFrozen, count, count_of, plan, member, seen, field_index}
 use Rattle.arena.specs.Words.{same_scx_word}
 use Rattle.arena.proofs.Lemmas.{value_at, value_apart, value_quiet, held_at, held_back, held_more, opening_scx, node_word_apart, scx_word_apart, scx_apart, plan_counted}
 use Rattle.histories.proofs.Lemmas.{Change, FreezeWins, IsNodeFill, nothing, fills_node, fills_scx, freezes, sets_frozen, marks, updates, commits, aborts, change, facts_before, Facts, lawful_row, named_scx_inside, named_scx_more, freeze_is_new, freeze_held, freeze_distinct, freeze_keeps_scx, freeze_rest, freeze_in_progress}
@@ -237,6 +237,6 @@ may_freeze lay h r frozen l n = (after_row lay h r frozen l n (change lay h r l)
 pub frozen_start : (lay : Layout) (frozen : List ℕ) → length frozen ≡ all_scx lay → ((s : ℕ) → frozen_of frozen s ≡ 0) → FreezingStands lay (Start lay.mode) frozen
 frozen_start lay frozen size zeros = record {
   size = size;
-  first = λ s j l. absurd (let z : count (Start lay.mode) s ≡ 0 = ap count_of (opening_scx lay.mode s Plan refl) in omega (l, z, arith));
+  first = λ s j l. absurd (let z : count (Start lay.mode) s ≡ 0 = ap count_of (opening_scx (empty lay.mode) s Plan refl) in omega (l, z, arith));
   none = λ s d. zeros s;
 }

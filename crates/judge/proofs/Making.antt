@@ -1,5 +1,5 @@
 -- One more lawful row.
-use Rattle.std.proofs.Common.{◌≡◌, ℕ, ◌+◌, cond, ◌++◌, List, vec_len, true, refl, sym, ◌∙◌, subst, slice_set}
+use Rattle.std.proofs.Common.{◌≡◌, ℕ, ◌+◌, cond, ◌++◌, List, vec_len, true, refl, sym, ◌∙◌, arith, subst, slice_set}
 use Rattle.histories.specs.Common.{Layout, Row, History, Start, ◌⊳◌, Lawful, IsLawful, IsChanged, count_of}
 use Rattle.histories.proofs.Lemmas.{lawful_more}
 use Rattle.judge.specs.Histories.{history_of_rows}
@@ -72,4 +72,4 @@ stands_at lay rows j e f s = subst (λ (l : Layout). StandsFor l (history_of_row
 
 pub lawful_start : (lay : Layout) → Lawful lay (Start lay.mode)
 unfolding Lawful
-lawful_start lay = refl
+lawful_start lay = (refl, omega arith)

@@ -1,13 +1,13 @@
 -- What the links of a history lead to.
 use Rattle.std.proofs.Common.{◌≡◌, ℕ, zero, suc, ◌+◌, ◌*◌, ◌<◌, ◌≤◌, ◌⊎◌, inl, inr, ⊎_elim, Bool, true, false, cond, ltb, List, [], ◌∷◌, ◌++◌, refl, sym, ◌∙◌, subst, arith, lt-ltb}
 use borrow.Author.Tests.{ltb-true}
-use Rattle.histories.specs.Common.{Layout, Mode, Side, Settled, Child, Info, Marked, ScxWord, State, AllFrozen, Plan, New, Old, Member, Seen, Word, Node, Scx, Row, all_nodes, all_scx}
-use Rattle.histories.specs.Common.{opening_nodes, IsWord, same_word, info, child, scx, History, Start, ◌⊳◌, HasHeld, IsNamed, opening_node, by_field, by_scx, IsNamedScx, IsInField, Lawful}
+use Rattle.histories.specs.Common.{Layout, Side, Settled, Child, Info, Marked, ScxWord, State, AllFrozen, Plan, New, Old, Member, Seen, Word, Node, Scx, Row, all_nodes, all_scx}
+use Rattle.histories.specs.Common.{opening_nodes, IsWord, same_word, info, child, scx, History, Opened, ◌⊳◌, HasHeld, IsNamed, opening_node, by_field, by_scx, IsNamedScx, IsInField, Lawful}
 use Rattle.arena.specs.declared.word.ScxWord.TheVariants.{Call}
 use Rattle.arena.specs.Words.{same_scx_word}
 use Rattle.arena.specs.Fills.{NamesNode}
 use Rattle.arena.proofs.Lemmas.{word_same, value_at, value_other, held_at, held_more, held_back, held_split, held_start, opening_info, opening_scx}
-use Rattle.histories.proofs.Lemmas.{lawful_tail, lawful_row, value_start, opening_field, some_open, named_scx_inside}
+use Rattle.histories.proofs.Lemmas.{lawful_tail, lawful_row, value_start, start_nodes, some_open, named_scx_inside}
 use Rattle.judge.specs.Graph.{IsLink, IsReached, first, along}
 use Rattle.judge.proofs.Spreading.{same_or}
 use Rattle.judge.specs.Naming.{word_links, scx_links, opening_links, named_links}
@@ -45,8 +45,8 @@ link_parts (k ∷ more) links u v (inr l) = ⊎_elim (λ a. inl (inr a)) (λ a. 
 
 -- a node of the start, the dummy, or what a word has held
 data Origin (lay : Layout) (h : History) (u v : ℕ) : Type 0 where
-  of_start : (v < opening_nodes lay.mode) → Origin lay h u v
-  of_shown : (n : ℕ) → n < opening_nodes lay.mode → v ≡ all_nodes lay + n → Origin lay h u v
+  of_start : (v < opening_nodes lay) → Origin lay h u v
+  of_shown : (n : ℕ) → n < opening_nodes lay → v ≡ all_nodes lay + n → Origin lay h u v
   of_dummy : v ≡ 2 * all_nodes lay + 0 → Origin lay h u v
   of_field : (m : ℕ) (side : Side) (n : ℕ) → HasHeld h (child m side) n → u ≡ m → n < all_nodes lay → (v ≡ n) ⊎ (v ≡ all_nodes lay + n) → m < all_nodes lay → Origin lay h u v
   of_info : (m s : ℕ) → HasHeld h (info m) s → s < all_scx lay → v ≡ 2 * all_nodes lay + s → Origin lay h u v
@@ -60,12 +60,12 @@ origin_more lay r h u v (of_field m side n p e l d k) = of_field m side n (held_
 origin_more lay r h u v (of_info m s p l e) = of_info m s (held_more r h (info m) s p) l e
 origin_more lay r h u v (of_scx s part n q p k e d l) = of_scx s part n q (held_more r h (scx s part) n p) k e d l
 
-origin_start : (lay : Layout) (k : ℕ) (u v : ℕ) → k ≤ opening_nodes lay.mode → IsLink (opening_links (all_nodes lay) k) u v → Origin lay (Start lay.mode) u v
-origin_start lay zero u v l (inl e) = of_dummy (omega (e.1, arith))
-origin_start lay zero u v l (inr p) = absurd p
-origin_start lay (suc k) u v l (inl e) = of_shown k (omega (l, arith)) (sym e.1)
-origin_start lay (suc k) u v l (inr (inl e)) = of_start (omega (e.1, l, arith))
-origin_start lay (suc k) u v l (inr (inr p)) = origin_start lay k u v (omega (l, arith)) p
+origin_start : (lay : Layout) (k : ℕ) (u v : ℕ) → k ≤ opening_nodes lay → IsLink (opening_links (all_nodes lay) k) u v → (h : History) → Origin lay h u v
+origin_start lay zero u v l (inl e) h = of_dummy (omega (e.1, arith))
+origin_start lay zero u v l (inr p) h = absurd p
+origin_start lay (suc k) u v l (inl e) h = of_shown k (omega (l, arith)) (sym e.1)
+origin_start lay (suc k) u v l (inr (inl e)) h = of_start (omega (e.1, l, arith))
+origin_start lay (suc k) u v l (inr (inr p)) h = origin_start lay k u v (omega (l, arith)) p h
 
 -- a link that is there where a test holds
 under_test : (t : Bool) (links : List (ℕ × ℕ)) (u v : ℕ) → IsLink (cond t links []) u v → (t ≡ true) × IsLink links u v
@@ -101,13 +101,9 @@ module _ (lay : Layout) (r : Row) (h : History) (word : IsWord lay r.word) (u v 
   word_origin (Scx s (Seen j)) e i l = absurd l
   word_origin (Scx s Call) e i l = absurd l
 
-pub start_is : (lay : Layout) (mode : Mode) → Lawful lay (Start mode) → mode ≡ lay.mode
-unfolding Lawful
-start_is lay mode l = l
-
 origin : (lay : Layout) (h : History) (u v : ℕ) → Lawful lay h → IsLink (named_links lay h) u v → Origin lay h u v
 unfolding named_links
-origin lay (Start mode) u v l p = subst (λ (m : Mode). Origin lay (Start m) u v) (sym (start_is lay mode l)) (origin_start lay (opening_nodes lay.mode) u v (omega arith) p)
+origin lay (Opened o) u v l p = origin_start lay (opening_nodes lay) u v (omega arith) p (Opened o)
 origin lay (r ⊳ h) u v l p = ⊎_elim
     (λ q. word_origin lay r h (lawful_row lay h r l).word u v r.word refl (lawful_row lay h r l).word q)
     (λ q. origin_more lay r h u v (origin lay h u v (lawful_tail lay h r l) q))
@@ -125,10 +121,10 @@ start_named lay h p = (0, p)
 
 -- the dummy is named from the start
 info_opened : (h : History) → HasHeld h (info 0) 0
-info_opened (Start mode) = held_at (Start mode) (info 0) 0 (opening_info mode 0)
+info_opened (Opened o) = held_at (Opened o) (info 0) 0 (opening_info o 0)
 info_opened (r ⊳ h) = held_more r h (info 0) 0 (info_opened h)
 
-some_nodes : (lay : Layout) → opening_nodes lay.mode ≤ all_nodes lay
+some_nodes : (lay : Layout) → opening_nodes lay ≤ all_nodes lay
 some_nodes lay = omega arith
 
 module _ (lay : Layout) (h : History) (lawful : Lawful lay h) where
@@ -144,7 +140,7 @@ module _ (lay : Layout) (h : History) (lawful : Lawful lay h) where
     begun = λ s f. absurd (let t = some_nodes lay in omega (e, d, f, t, arith));
   }
   origin_means u v (of_dummy e) m =
-      let o = some_open lay.mode in
+      let o = some_open lay in
       let t = some_nodes lay in
       record {
         node = λ l. absurd (omega (l, e, o, t, arith));
@@ -178,7 +174,7 @@ module _ (lay : Layout) (h : History) (lawful : Lawful lay h) where
 
   means : (p : ℕ) → IsReached (named_links lay h) p → Means lay h p
   means p first =
-      let o = some_open lay.mode in
+      let o = some_open lay in
       let t = some_nodes lay in
       record {
         node = λ l. opening_node o;
@@ -213,26 +209,26 @@ opened_dummy nodes zero = inl (refl, refl)
 opened_dummy nodes (suc k) = inr (inr (opened_dummy nodes k))
 
 abbrev StartLink : Layout → History → Type 0
-StartLink lay h = ((j : ℕ) → j < opening_nodes lay.mode → IsLink (named_links lay h) 0 j × IsLink (named_links lay h) 0 (all_nodes lay + j)) × IsLink (named_links lay h) 0 (2 * all_nodes lay)
+StartLink lay h = ((j : ℕ) → j < opening_nodes lay → IsLink (named_links lay h) 0 j × IsLink (named_links lay h) 0 (all_nodes lay + j)) × IsLink (named_links lay h) 0 (2 * all_nodes lay)
 
 start_links : (lay : Layout) (h : History) → StartLink lay h
 unfolding named_links
-start_links lay (Start mode) = (λ j l. opened_link (all_nodes lay) (opening_nodes lay.mode) j l, opened_dummy (all_nodes lay) (opening_nodes lay.mode))
+start_links lay (Opened o) = (λ j l. opened_link (all_nodes lay) (opening_nodes lay) j l, opened_dummy (all_nodes lay) (opening_nodes lay))
 start_links lay (r ⊳ h) =
     let more = start_links lay h in
     (λ j l. let m = more.0 j l in (old_link lay r h 0 j m.0, old_link lay r h 0 (all_nodes lay + j) m.1), old_link lay r h 0 (2 * all_nodes lay) more.1)
 
 -- a field holds it
 abbrev FieldLink : Layout → History → ℕ → ℕ → Type 0
-FieldLink lay h m n = (n < opening_nodes lay.mode) ⊎ ((m < all_nodes lay) × IsLink (named_links lay h) m n × IsLink (named_links lay h) m (all_nodes lay + n))
+FieldLink lay h m n = (n < opening_nodes lay) ⊎ ((m < all_nodes lay) × IsLink (named_links lay h) m n × IsLink (named_links lay h) m (all_nodes lay + n))
 
 field_link : (lay : Layout) (h : History) (m : ℕ) (side : Side) (n : ℕ) → Lawful lay h → n < all_nodes lay → HasHeld h (child m side) n → FieldLink lay h m n
-field_link lay (Start mode) m side n l i p =
-    let o = opening_field mode m side in
-    let e = held_start mode (child m side) n p in
-    let f = value_start mode (child m side) in
-    let k : n < opening_nodes mode = omega (o, e, f, arith) in
-    inl (subst (λ (x : Mode). n < opening_nodes x) (start_is lay mode l) k)
+field_link lay (Opened o) m side n l i p =
+    let small = o.fields m side in
+    let few = start_nodes lay o l in
+    let e = held_start o (child m side) n p in
+    let f = value_start o (child m side) in
+    inl (omega (small, few, e, f, arith))
 field_link lay (r ⊳ h) m side n l i p = ⊎_elim
     (λ e.
     let inside : IsWord lay (child m side) = subst (λ (w : Word). IsWord lay w) e.0 (lawful_row lay h r l).word in
@@ -249,9 +245,9 @@ field_link lay (r ⊳ h) m side n l i p = ⊎_elim
     (held_by_row r h (child m side) n p)
 
 info_link : (lay : Layout) (h : History) (m s : ℕ) → Lawful lay h → s < all_scx lay → HasHeld h (info m) s → IsLink (named_links lay h) 0 (2 * all_nodes lay + s)
-info_link lay (Start mode) m s l i p =
-    let z : s ≡ 0 = sym (held_start mode (info m) s p) ∙ opening_info mode m in
-    let one = (start_links lay (Start mode)).1 in
+info_link lay (Opened o) m s l i p =
+    let z : s ≡ 0 = sym (held_start o (info m) s p) ∙ opening_info o m in
+    let one = (start_links lay (Opened o)).1 in
     let at : 2 * all_nodes lay + s ≡ 2 * all_nodes lay = omega (z, arith) in
     rw at one
 info_link lay (r ⊳ h) m s l i p = ⊎_elim
@@ -277,13 +273,13 @@ names_links nodes scxs s v (Seen j) p = absurd p
 names_links nodes scxs s v Call p = absurd p
 
 abbrev ScxLink : Layout → History → ℕ → ℕ → Type 0
-ScxLink lay h s n = (n < opening_nodes lay.mode) ⊎ IsLink (named_links lay h) (2 * all_nodes lay + s) n
+ScxLink lay h s n = (n < opening_nodes lay) ⊎ IsLink (named_links lay h) (2 * all_nodes lay + s) n
 
 scx_link : (lay : Layout) (h : History) (s : ℕ) (part : ScxWord) (n : ℕ) → Lawful lay h → NamesNode part → n < all_nodes lay → HasHeld h (scx s part) n → ScxLink lay h s n
-scx_link lay (Start mode) s part n l names i p =
-    let z : n ≡ 0 = sym (held_start mode (scx s part) n p) ∙ opening_scx mode s part (names_other part names) in
-    let o = some_open lay.mode in
-    inl (omega (z, o, arith))
+scx_link lay (Opened o) s part n l names i p =
+    let z : n ≡ 0 = sym (held_start o (scx s part) n p) ∙ opening_scx o s part (names_other part names) in
+    let some = some_open lay in
+    inl (omega (z, some, arith))
 scx_link lay (r ⊳ h) s part n l names i p = ⊎_elim
     (λ e.
     let from : ℕ = 2 * all_nodes lay + s in
@@ -295,7 +291,7 @@ scx_link lay (r ⊳ h) s part n l names i p = ⊎_elim
     (held_by_row r h (scx s part) n p)
 
 module _ (lay : Layout) (h : History) (lawful : Lawful lay h) where
-  open_reached : (n : ℕ) → n < opening_nodes lay.mode → IsReached (named_links lay h) n
+  open_reached : (n : ℕ) → n < opening_nodes lay → IsReached (named_links lay h) n
   open_reached n e = along 0 first ((start_links lay h).0 n e).0
 
   scx_reached : (s : ℕ) → s < all_scx lay → IsNamedScx h s → IsReached (named_links lay h) (2 * all_nodes lay + s)

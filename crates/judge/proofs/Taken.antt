@@ -4,11 +4,12 @@ use Rattle.std.proofs.Math.ListN.{length-set}
 use Rattle.std.proofs.lemmas.Bool.{or_left}
 use Rattle.histories.specs.Common.{Layout, Mode, NodeWord, ScxWord, Word, Node, Scx, Kind, Fill, LoadSettled, LoadInfo, LoadState, LoadMarked}
 use Rattle.histories.specs.Common.{LoadAllFrozen, LoadChild, Freeze, SetFrozen, Mark, Update, Commit, Abort, Row, first_node, first_scx, node, scx}
-use Rattle.histories.specs.Common.{History, Start, ◌⊳◌, has, is_fill, IsOwnNode, IsOwnScx, IsFillOfNode, IsTakenNode, IsTakenScx, Lawful, taken_nodes}
+use Rattle.histories.specs.Common.{History, Start, Opened, ◌⊳◌, opening_nodes, nodes_at_start, has, is_fill, IsOwnNode, IsOwnScx, IsFillOfNode, IsTakenNode, IsTakenScx, Lawful, taken_nodes}
 use Rattle.arena.specs.Fills.{IsFillOfScx}
+use Rattle.arena.specs.Openings.{first_planted}
 use Rattle.arena.specs.TakenNodes.{with_fill}
 use Rattle.arena.proofs.Lemmas.{fill_takes_node, fill_takes_scx, taken_node_more, taken_scx_more, taken_few, or_split, or_right}
-use Rattle.histories.proofs.Lemmas.{Change, FillsNode, FillsScx, nothing, fills_node, fills_scx, freezes, sets_frozen, marks, updates, commits, aborts, change, lawful_row, lawful_tail, one_node_owner, one_scx_owner}
+use Rattle.histories.proofs.Lemmas.{Change, FillsNode, FillsScx, nothing, fills_node, fills_scx, freezes, sets_frozen, marks, updates, commits, aborts, change, lawful_row, lawful_tail, one_node_owner, one_scx_owner, start_nodes}
 use Rattle.judge.specs.Taking.{taken_by, one_more, takes_node, takes_scx, MayTake, TakingStands}
 use Rattle.judge.specs.declared.taking.Taking.{Taking}
 use Rattle.judge.proofs.Spreading.{same_or}
@@ -135,11 +136,16 @@ other_list : (r : Row) (h : History) → is_fill r.kind ≡ false → taken_node
 unfolding taken_nodes
 other_list r h e = not_fill_list r.kind r.word (taken_nodes h) e
 
--- each node of the list is taken, and no other
-both_taken : (h : History) (n : ℕ) → (has (taken_nodes h) n ≡ true) ↔ IsTakenNode h n
+-- the planted nodes are below all shares
+planted_below : (first k n : ℕ) → has (first_planted first k) n ≡ true → n < first + k
+planted_below first zero n e = absurd (cc)
+planted_below first (suc k) n e = ⊎_elim (λ q. let z = eqb-true (first + k) n q in omega (z, arith)) (λ q. let i = planted_below first k n q in omega (i, arith)) (or_split (eqb (first + k) n) (has (first_planted first k) n) e)
+
+-- each node of a share that is in the list is taken, and no other
+both_taken : (lay : Layout) (h : History) (n : ℕ) → Lawful lay h → opening_nodes lay ≤ n → (has (taken_nodes h) n ≡ true) ↔ IsTakenNode h n
 unfolding taken_nodes IsTakenNode
-both_taken (Start mode) n = (λ e. absurd (cc), λ t. absurd t)
-both_taken (r ⊳ h) n = by_row (both_taken h n) (is_fill_or r.kind) r.word refl
+both_taken lay (Opened o) n l late = (λ e. absurd (let i = planted_below (nodes_at_start o.mode 0) o.deep n e in let few = o.few in let room = start_nodes lay o l in omega (i, few, room, late, arith)), λ t. absurd t)
+both_taken lay (r ⊳ h) n l late = by_row (both_taken lay h n (lawful_tail lay h r l) late) (is_fill_or r.kind) r.word refl
   where
     by_row : (has (taken_nodes h) n ≡ true) ↔ IsTakenNode h n → (r.kind ≡ Fill) ⊎ (is_fill r.kind ≡ false) → (w : Word) → r.word ≡ w → (has (taken_nodes (r ⊳ h)) n ≡ true) ↔ IsTakenNode (r ⊳ h) n
     by_row more (inr e) w d =
@@ -221,11 +227,11 @@ module _ (lay : Layout) (h : History) (r : Row) (lawful : Lawful lay (r ⊳ h)) 
     all_fill : cond (eqb m (first_node lay r.pass.0 + taken_by t.nodes.items r.pass.0)) (t.all_nodes + 1) t.all_nodes ≡ length (taken_nodes (r ⊳ h))
     all_fill = ⊎_elim
         (λ e.
-        let fresh : has (taken_nodes h) m ≡ false = not_true (has (taken_nodes h) m) (λ q. let z = (old.nodes r.pass.0 m inside x.is_open.own).0 ((both_taken h m).0 q) in omega (z, e, arith)) in
+        let fresh : has (taken_nodes h) m ≡ false = not_true (has (taken_nodes h) m) (λ q. let z = (old.nodes r.pass.0 m inside x.is_open.own).0 ((both_taken lay h m (lawful_tail lay h r lawful) (let own = x.is_open.own.from in omega (own, arith))).0 q) in omega (z, e, arith)) in
         let list : taken_nodes (r ⊳ h) ≡ m ∷ taken_nodes h = fill_list r h x.kind (node m part) x.word ∙ rw fresh refl in
         let z = old.all in let longer : t.all_nodes + 1 ≡ suc (length (taken_nodes h)) = omega (z, arith) in rw (eq-eqb m (first_node lay r.pass.0 + taken_by t.nodes.items r.pass.0) e, list) longer)
         (λ d.
-        let known : has (taken_nodes h) m ≡ true = (both_taken h m).1 ((old.nodes r.pass.0 m inside x.is_open.own).1 (let most = at_most (first_node lay r.pass.0) lay.nodes (taken_by t.nodes.items r.pass.0) m (IsTakenNode h) (IsTakenNode (r ⊳ h)) (nodes_counted r.pass.0 inside) x.is_open.own.from x.is_open.own.below
+        let known : has (taken_nodes h) m ≡ true = (both_taken lay h m (lawful_tail lay h r lawful) (let own = x.is_open.own.from in omega (own, arith))).1 ((old.nodes r.pass.0 m inside x.is_open.own).1 (let most = at_most (first_node lay r.pass.0) lay.nodes (taken_by t.nodes.items r.pass.0) m (IsTakenNode h) (IsTakenNode (r ⊳ h)) (nodes_counted r.pass.0 inside) x.is_open.own.from x.is_open.own.below
         (λ n a b. x.is_open.in_order n (record { from = a; below = let z = x.is_open.own.below in omega (b, z, arith) }) b)
         (λ n q. ⊎_elim (λ f. inl (one_node n f)) (λ y. inr y) (taken_node_split r h n q))
         (fill_takes_node r h m part x.kind x.word)

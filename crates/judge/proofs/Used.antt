@@ -3,7 +3,7 @@ use Rattle.std.proofs.Common.{◌≡◌, ◌≢◌, ◌↔◌, ℕ, zero, suc, �
 use Rattle.std.proofs.Math.ListN.{length-set}
 use Rattle.std.specs.Prelude.{slice_index_or}
 use Rattle.histories.specs.Common.{Layout, Mode, Side, Left, Right, Settled, Child, Info, Marked, State, AllFrozen, Plan, New, Old}
-use Rattle.histories.specs.Common.{Member, Seen, Word, Node, Scx, Row, all_nodes, opening, child, scx, History, Start, ◌⊳◌, HasHeld}
+use Rattle.histories.specs.Common.{Member, Seen, Word, Node, Scx, Row, all_nodes, opening, child, scx, History, Start, empty, ◌⊳◌, HasHeld}
 use Rattle.arena.specs.declared.word.ScxWord.TheVariants.{Call}
 use Rattle.arena.specs.Layout.{is_map, tree_opening}
 use Rattle.arena.proofs.Lemmas.{held_at, held_more, held_start, opening_scx}
@@ -173,7 +173,7 @@ field_held mode m side = elim (is_map mode) as (λ is. cond is (tree_opening (ch
     held Right = either (eqb m 0) (omega arith) (omega arith)
 
 held_by_start : (mode : Mode) (m : ℕ) (side : Side) (n : ℕ) → opening mode (child m side) ≡ n → WasInField (Start mode) n
-held_by_start mode m side n e = (m, side, held_at (Start mode) (child m side) n (value_start mode (child m side) ∙ e))
+held_by_start mode m side n e = (m, side, held_at (Start mode) (child m side) n (value_start (empty mode) (child m side) ∙ e))
 
 start_held : (mode : Mode) (n : ℕ) → n < held_nodes mode → WasInField (Start mode) n
 start_held mode = go (is_map mode) refl
@@ -189,16 +189,16 @@ start_held mode = go (is_map mode) refl
 start_back : (mode : Mode) (n : ℕ) → WasInField (Start mode) n → n < held_nodes mode
 start_back mode n x =
     let o = field_held mode x.0 x.1 in
-    let e = held_start mode (child x.0 x.1) n x.2 in
-    let v = value_start mode (child x.0 x.1) in
+    let e = held_start (empty mode) (child x.0 x.1) n x.2 in
+    let v = value_start (empty mode) (child x.0 x.1) in
     omega (o, e, v, arith)
 
 new_is_none : (mode : Mode) (s n : ℕ) → HasHeld (Start mode) (scx s New) n → n ≡ 0
-new_is_none mode s n p = sym (held_start mode (scx s New) n p) ∙ opening_scx mode s New refl
+new_is_none mode s n p = sym (held_start (empty mode) (scx s New) n p) ∙ opening_scx (empty mode) s New refl
 
 -- `new` holds 0 at the start, of each SCX-record
 zero_users : (mode : Mode) (n : ℕ) → n ≡ 0 → AreUsers (Start mode) n Several
-zero_users mode n e = λ s. (s + 1, (λ q. omega (q, arith)), held_at (Start mode) (scx (s + 1) New) n (opening_scx mode (s + 1) New refl ∙ sym e))
+zero_users mode n e = λ s. (s + 1, (λ q. omega (q, arith)), held_at (Start mode) (scx (s + 1) New) n (opening_scx (empty mode) (s + 1) New refl ∙ sym e))
 
 users_at : (mode : Mode) (n : ℕ) (o : Users) → (n ≡ 0 → o ≡ Several) → (n ≢ 0 → o ≡ Nobody) → AreUsers (Start mode) n o
 users_at mode n o a b = ⊎_elim

@@ -1,6 +1,6 @@
 -- What is named, as places that links lead to.
 use Rattle.std.specs.Prelude.{◌≡◌, ℕ, zero, suc, ◌+◌, ◌*◌, ◌<◌, ◌≤◌, if◌then◌else◌, nat_lt, List, [], ◌∷◌, ◌++◌, length}
-use Rattle.histories.specs.Common.{Layout, Child, Info, New, Old, Member, Word, Node, Scx, all_nodes, all_scx, opening_nodes, History, Start, ◌⊳◌}
+use Rattle.histories.specs.Common.{Layout, Child, Info, New, Old, Member, Word, Node, Scx, all_nodes, all_scx, opening_nodes, History, Opened, ◌⊳◌}
 use Rattle.judge.specs.Graph.{IsGraph, links_of}
 use Rattle.judge.specs.declared.naming.Naming.{Naming}
 
@@ -39,7 +39,7 @@ opening_links nodes (suc k) = (0, nodes + k) ∷ (0, k) ∷ opening_links nodes 
 
 -- the links of a history
 unfoldable pub named_links : Layout → History → List (ℕ × ℕ)
-named_links lay (Start mode) = opening_links (all_nodes lay) (opening_nodes lay.mode)
+named_links lay (Opened o) = opening_links (all_nodes lay) (opening_nodes lay)
 named_links lay (r ⊳ h) = word_links (all_nodes lay) (all_scx lay) r.word r.after ++ named_links lay h
 
 -- a graph of these places
@@ -47,7 +47,7 @@ pub record IsNaming (n : Naming) : Type 0 where
   pub graph : IsGraph n.graph
   pub size : length n.graph.reached.items ≡ 2 * n.nodes + n.scxs
   pub some_nodes : 0 < n.nodes
-  pub few_nodes : n.nodes ≤ 1048585
+  pub few_nodes : n.nodes ≤ 68157449
   pub few_scxs : n.scxs ≤ 1048577
 
 -- the word is one of these nodes or SCX-records

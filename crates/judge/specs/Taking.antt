@@ -1,6 +1,6 @@
 -- How much is taken of the shares.
 use Rattle.std.specs.Prelude.{◌≡◌, ◌↔◌, ℕ, ◌+◌, ◌*◌, ◌<◌, ◌≤◌, ◌==◌, Bool, false, List, length, slice_index_or, slice_set}
-use Rattle.histories.specs.Common.{Layout, Word, Node, Scx, Kind, Fill, first_node, first_scx, History, IsOwnNode, IsOwnScx, IsTakenNode, IsTakenScx, taken_nodes}
+use Rattle.histories.specs.Common.{Layout, Word, Node, Scx, Kind, Fill, first_node, first_scx, History, IsOwnNode, IsOwnScx, IsTakenNode, IsTakenScx, taken_nodes, most_taken}
 use Rattle.judge.specs.declared.taking.Taking.{Taking}
 
 -- how many a pass has taken, by the list of these numbers
@@ -28,7 +28,7 @@ pub record MayTake (lay : Layout) (t : Taking) (c : ℕ) : Type 0 where
   pub scx_size : length t.scx.items ≡ lay.passes
   pub nodes_fit : taken_by t.nodes.items c ≤ lay.nodes
   pub scx_fit : taken_by t.scx.items c ≤ lay.scx
-  pub all_fit : t.all_nodes ≤ lay.passes * lay.nodes
+  pub all_fit : t.all_nodes ≤ most_taken lay
 
 -- what is taken is remembered
 pub record TakingStands (lay : Layout) (h : History) (t : Taking) : Type 0 where

@@ -2,7 +2,7 @@
 -- record has after that turn.
 use Rattle.std.proofs.Common.{◌≡◌, ℕ, suc, ◌≤◌, ◌⊎◌, inl, inr, ⊎_elim, Bool, true, false, cond, ◌&&◌, eqb, not, List, [], ◌∷◌, Option, Some, None, refl, sym, ◌∙◌, ap, subst, arith, nat_le as leb}
 use Rattle.std.proofs.Common.{eqb-true, leb-true}
-use Rattle.histories.specs.Common.{Layout, Kind, Row as StepRow, History, Start, ◌⊳◌, value, Extends}
+use Rattle.histories.specs.Common.{Layout, Kind, Row as StepRow, History, Opened, ◌⊳◌, value, Extends}
 use Rattle.arena.proofs.Lemmas.{ends_self, ends_trans, same_moment}
 use Rattle.record.specs.Common.{Pair, MapCall, MapReply, reply, Spells, Call, Command, client_of, history, turns, begin, start, entry_at, entry_of, entry_owed, entries}
 use Rattle.record.specs.Common.{is_update, next_command, map_call_of, written_log, entries_until, map_of, map_at, AreSpelled, IsSpelledAfter, AreLines, HasReplied}
@@ -49,7 +49,7 @@ map_now lay tries calls lines a = ap (map_of calls) (until_now lay tries calls l
 -- Moments
 
 tail_of : History → History
-tail_of (Start mode) = Start mode
+tail_of (Opened o) = Opened o
 tail_of (r ⊳ h) = h
 
 same_tail : (a b : History) (r t : StepRow) → r ⊳ a ≡ t ⊳ b → a ≡ b
@@ -58,7 +58,7 @@ same_tail a b r t e = ap tail_of e
 
 -- no moment is after itself
 never_behind : (h : History) (row : StepRow) → Extends h (row ⊳ h) → ⊥
-never_behind (Start mode) row e = absurd (let y : row ⊳ Start mode ≡ Start mode = e in cc)
+never_behind (Opened o) row e = absurd (let y : row ⊳ Opened o ≡ Opened o = e in cc)
 never_behind (r ⊳ h) row (inl e) = never_behind h r (subst (λ (k : History). Extends h k) (sym (same_tail (r ⊳ h) h row r e)) (ends_self h))
 never_behind (r ⊳ h) row (inr e) = never_behind h r (ends_trans h (row ⊳ (r ⊳ h)) (r ⊳ h) e (inr (ends_self (r ⊳ h))))
 

@@ -1,7 +1,7 @@
 -- A call by itself: nobody is in its way, and what it reads is the map that was there as it began.
 use Rattle.std.proofs.Common.{◌≡◌, ◌≢◌, ℕ, ◌+◌, ◌*◌, ◌<◌, List, [], Option, Some, None, Result, Ok, Err, Vec, inl, inr, refl, sym, ◌∙◌, ap, subst, arith, Global}
 use native.Mathlib.Decide.{ℕ_discrete}
-use Rattle.histories.specs.Common.{IsInProgress, IsOthersScx, History, Start, ◌⊳◌, value, Extends, Lawful, log, Call, MatchTurn, state, Turn, Ask, Done, Row, descriptor, Side}
+use Rattle.histories.specs.Common.{IsInProgress, IsOthersScx, History, Opened, ◌⊳◌, value, Extends, Lawful, log, Call, MatchTurn, state, Turn, Ask, Done, Row, descriptor, Side}
 use Rattle.arena.specs.Undisturbed.{IsUndisturbed}
 use Rattle.arena.proofs.Lemmas.{ends_self, ends_trans}
 use Rattle.histories.proofs.Lemmas.{Facts, IsOwned, Logs, facts, lawful_since, logs, same, wins}
@@ -57,7 +57,7 @@ less a b t x y e i = drop (a * t) (rw e at i)
 module _ (c : Call) (h : History) (run : IsMapRun c.layout h) (alone : IsUndisturbed c h) where
   -- no other's SCX-record is in progress at any moment of the call
   others_rest : (k : History) → Extends h k → Extends k c.start → (t : ℕ) → IsOthersScx c.layout c.pass t → ¬ IsInProgress k t
-  others_rest (Start mode) e f t o x = alone.rest t (subst (λ m. IsInProgress m t) (sym f) x)
+  others_rest (Opened opening) e f t o x = alone.rest t (subst (λ m. IsInProgress m t) (sym f) x)
   others_rest (r ⊳ k) e (inl f) t o x = alone.rest t (subst (λ m. IsInProgress m t) (sym f) x)
   others_rest (r ⊳ k) e (inr f) t o x = out_by_others c.layout o.pass k r t (lawful_since c.layout h (r ⊳ k) run.1.lawful e) (λ q. o.is_other (sym q ∙ alone.own r k e f)) o.owns
       (others_rest k (ends_trans h (r ⊳ k) k e (inr (ends_self k))) f t o) x
@@ -111,7 +111,7 @@ module _ (c : Call) (h : History) (run : IsMapRun c.layout h) (alone : IsUndistu
 
     -- at each moment of the call the log and the map are what they were
     pub still : (map : List Pair) → Spells c.layout (value c.start) map → (k : History) → Extends h k → Extends k c.start → HasLeftAll c k map
-    still map x (Start mode) e f = subst (λ m. HasLeftAll c m map) f record { entries = refl; spelled = x }
+    still map x (Opened o) e f = subst (λ m. HasLeftAll c m map) f record { entries = refl; spelled = x }
     still map x (r ⊳ k) e (inl f) = subst (λ m. HasLeftAll c m map) f record { entries = refl; spelled = x }
     still map x (r ⊳ k) e (inr f) =
         let before : HasLeftAll c k map = still map x k (ends_trans h (r ⊳ k) k e (inr (ends_self k))) f in

@@ -1,7 +1,7 @@
 -- A node that a walk has passed and that is final at the end: what finalized it was in the way of
 -- the walk's call.
 use Rattle.std.proofs.Common.{◌≡◌, ℕ, Bool, true, false, ◌||◌, inl, inr, refl, sym, ◌∙◌, ap, subst}
-use Rattle.histories.specs.Common.{Layout, Row, State, History, Start, ◌⊳◌, Extends, member, count, IsNamedScx, Lawful, WasInTheWay, log, has, is_final, finalized_from, IsRemoved}
+use Rattle.histories.specs.Common.{Layout, Row, State, History, Opened, ◌⊳◌, Extends, member, count, IsNamedScx, Lawful, WasInTheWay, log, has, is_final, finalized_from, IsRemoved}
 use Rattle.histories.proofs.Lemmas.{Facts, IsFinalizedBy, Logs, UpdateWins, by_final, descriptor_stays, earlier, facts, facts_before, final_by, finalized_by_stays, is_removed_of, lawful_tail, logs, named_scx_more, one_finalizer, removed_stays, same, some_is_real, update_flagged, update_in_progress, update_keeps_scx, update_won, wins}
 
 -- at the row at which it becomes final
@@ -49,6 +49,6 @@ module _ (lay : Layout) (h m : History) (r : Row) (n s : ℕ) (l : Lawful lay (r
       go false q = here (logs lay h r l) q
 
 pub blame_finalizer : (lay : Layout) (h m : History) (n s : ℕ) → Lawful lay h → Extends h m → is_final (log lay m) n ≡ false → IsFinalizedBy h n s → WasInTheWay h m n s
-blame_finalizer lay (Start mode) m n s l e z x = absurd (let q : true ≡ false = sym (by_final lay (Start mode) n s l x) ∙ ap (λ k. is_final (log lay k) n) (sym e) ∙ z in cc)
+blame_finalizer lay (Opened o) m n s l e z x = absurd (let q : true ≡ false = sym (by_final lay (Opened o) n s l x) ∙ ap (λ k. is_final (log lay k) n) (sym e) ∙ z in cc)
 blame_finalizer lay (r ⊳ h) m n s l (inl e) z x = absurd (let q : true ≡ false = sym (by_final lay (r ⊳ h) n s l x) ∙ ap (λ k. is_final (log lay k) n) (sym e) ∙ z in cc)
 blame_finalizer lay (r ⊳ h) m n s l (inr e) z x = step lay h m r n s l e x (λ u y. blame_finalizer lay h m n u (lawful_tail lay h r l) e z y)

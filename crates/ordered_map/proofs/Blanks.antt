@@ -1,8 +1,7 @@
 -- What was in the tree above all keys is blank.
 use Rattle.std.proofs.Common.{◌≡◌, ℕ, ◌<◌, ◌%◌, true, false, ◌⊎◌, inl, inr, refl, sym, ◌∙◌, ap, arith, subst}
-use Rattle.histories.specs.Common.{Mode, Tree as TreeMode, Side, Left, Right, Settled, Child, Word, Layout, Row, node, child, first_key, History, Start, ◌⊳◌}
+use Rattle.histories.specs.Common.{Side, Left, Right, Settled, Child, Word, Layout, Row, node, child, first_key, History, Opening, Opened, ◌⊳◌}
 use Rattle.histories.specs.Common.{value, count_of, plan_finalizes, field_index_of, count, field_index, member, new, old, side_of, plan, scx_finalizes, IsNamed}
-use Rattle.arena.specs.Layout.{IsMap}
 use Rattle.arena.proofs.Lemmas.{node_word_apart}
 use Rattle.histories.proofs.Lemmas.{UpdateWins, node_stays, update_keeps_other}
 use Rattle.ordered_map.specs.OrderedMap.{MapEdit, edit_key}
@@ -10,6 +9,7 @@ use Rattle.ordered_map.specs.Paths.{WasInTree}
 use Rattle.ordered_map.specs.EditPlans.{leaf_plan, sibling_place}
 use Rattle.ordered_map.specs.TrieShape.{IsAboveBy}
 use Rattle.ordered_map.specs.TreeShape.{IsEdit}
+use Rattle.ordered_map.specs.Planted.{IsPlanted}
 use Rattle.ordered_map.specs.TreeWords.{Has, class, is_leaf, toward, IsBlankAboveKeys}
 use Rattle.ordered_map.specs.Edits.{IsLastLeaf, IsSwapBy, IsSplitBy, IsCopyOf, IsLeafEdit}
 use Rattle.ordered_map.proofs.Holding.{SameSettled}
@@ -17,7 +17,7 @@ use Rattle.ordered_map.proofs.Moved.{settled_class, settled_leaf}
 use Rattle.ordered_map.proofs.Pending.{Mine, Pending}
 use Rattle.ordered_map.proofs.EditPlans.{leaf_plan_says, join_plan_says, end_join_plan_says}
 use Rattle.ordered_map.proofs.Edited.{past, result}
-use Rattle.ordered_map.proofs.Grown.{IsGrown, start_same}
+use Rattle.ordered_map.proofs.Grown.{IsGrown}
 use Rattle.ordered_map.proofs.Stood.{facts_then, tree_then, PutThere, of_all_stood}
 
 -- The edits
@@ -133,12 +133,8 @@ module _ (calls : ℕ → MapEdit) (lay : Layout) where
   abbrev IsBlankThen : History → ℕ → Type 0
   IsBlankThen h n = IsBlankAboveKeys (value h) n
 
-  in_tree : (n : ℕ) → IsBlankThen (Start TreeMode) n
-  unfolding value
-  in_tree n d = refl
-
-  opens : (mode : Mode) (n : ℕ) → IsMap mode → n < 3 → IsBlankThen (Start mode) n
-  opens mode n is i = subst (λ f. IsBlankAboveKeys f n) (start_same mode is) (in_tree n)
+  opens : (o : Opening) (x : IsPlanted lay (Opened o) 0) (n : ℕ) → Has x.tree n → IsBlankThen (Opened o) n
+  opens o x n i = x.blank n i
 
   stays : (h : History) (r : Row) (n : ℕ) → IsGrown calls lay (r ⊳ h) → IsNamed lay h n → IsBlankThen h n → IsBlankThen (r ⊳ h) n
   stays h r n g named x = settled_blank (value h) (value (r ⊳ h)) n (λ a i. node_stays lay h r n a g.lawful i named) x

@@ -2,7 +2,7 @@
 -- since then.
 use Rattle.std.proofs.Common.{◌≡◌, ◌≢◌, ℕ, inl, inr, refl, sym, ◌∙◌, ap, subst}
 use native.Mathlib.Decide.{ℕ_discrete}
-use Rattle.histories.specs.Common.{Layout, Row, Side, Child, State, Plan, Member, info, child, History, Start, ◌⊳◌, value, Extends, field_index, member, plan, side_of, IsNamed, Lawful, WasInTheWay}
+use Rattle.histories.specs.Common.{Layout, Row, Side, Child, State, Plan, Member, info, child, History, Opened, ◌⊳◌, value, Extends, field_index, member, plan, side_of, IsNamed, Lawful, WasInTheWay}
 use Rattle.arena.proofs.Lemmas.{node_apart, ends_self, ends_trans}
 use Rattle.histories.proofs.Lemmas.{Effect, Facts, UpdateWins, blame_info, earlier, effect, facts_before, freeze, freeze_keeps_field, lawful_tail, named_scx_more, named_since, quiet, update, update_about, update_flagged, update_holds, update_in_progress, update_keeps_info, update_keeps_other, update_keeps_scx}
 
@@ -49,7 +49,7 @@ module _ (lay : Layout) (h m : History) (r : Row) (n : ℕ) (side : Side) (l : L
       go (no q) = wider (value (r ⊳ h) (info n)) (blame_info lay (r ⊳ h) h n l (inr (ends_self h)) q)
 
 pub blame_field : (lay : Layout) (h m : History) (n : ℕ) (side : Side) → Lawful lay h → Extends h m → IsNamed lay m n → value h (child n side) ≢ value m (child n side) → WasInTheWay h m n (value h (info n))
-blame_field lay (Start mode) m n side l e named d = absurd (d (ap (λ k. value k (child n side)) (sym e)))
+blame_field lay (Opened o) m n side l e named d = absurd (d (ap (λ k. value k (child n side)) (sym e)))
 blame_field lay (r ⊳ h) m n side l (inl e) named d = absurd (d (ap (λ k. value k (child n side)) (sym e)))
 blame_field lay (r ⊳ h) m n side l (inr e) named d = go (ℕ_discrete (value h (child n side)) (value m (child n side))) (blame_field lay h m n side (lawful_tail lay h r l) e named)
   where

@@ -13,7 +13,7 @@ use Rattle.ordered_map.specs.OrderedMap.{MapEdit, edit_key, edited, AllAbove}
 use Rattle.ordered_map.proofs.Pending.{Mine, IsMadeBy, Pending, Holds, pending_update}
 use Rattle.ordered_map.proofs.Trees.{items, ends, EndsLow, Replaced, replace, IsLocal, edited_local, passes_has, path_level}
 use Rattle.ordered_map.specs.Paths.{IsOnPath, WasOnPath}
-use Rattle.ordered_map.specs.Runs.{map_of_log}
+use Rattle.ordered_map.specs.Runs.{map_of_log, first_pairs}
 use Rattle.ordered_map.specs.Spelled.{IsTree}
 use Rattle.ordered_map.specs.EditPlans.{leaf_plan, join_plan, end_leaf_plan, end_join_plan, above_plan, leaf_place, sibling_place}
 use Rattle.ordered_map.specs.TreeShape.{EditsLeaf, TakesLeafOut, IsEdit}
@@ -26,7 +26,7 @@ use Rattle.ordered_map.proofs.Spanned.{same_fork, same_keeps, same_stays}
 use Rattle.ordered_map.proofs.Searches.{path_child}
 use Rattle.ordered_map.proofs.Holding.{SameSettled}
 use Rattle.ordered_map.proofs.Moved.{settled_toward, settled_leaf, settled_level, move_swap_by, move_split_by, move_levels, move_join_by, move_above}
-use Rattle.ordered_map.proofs.TreeFacts.{TreeFacts, all_named, path_now}
+use Rattle.ordered_map.proofs.TreeFacts.{TreeFacts, all_named, early_stays, path_now}
 use Rattle.ordered_map.proofs.EditPlans.{leaf_plan_says, join_plan_says, end_leaf_plan_says, end_join_plan_says, above_plan_says}
 
 weaken : {f g : Word → ℕ} {change : List Pair → List Pair} {Stays : ℕ → ℕ → Type 0} {Gone Lost Made Born : ℕ → Type 0} {new lo hi : ℕ} {a : Tree} → ((j n : ℕ) → Stays j n → Gone n → Lost n) → ((n : ℕ) → Lost n → Gone n) → ((n : ℕ) → Made n → Born n) → Replaced f g change Stays Gone Made new lo hi a → Replaced f g change Stays Lost Born new lo hi a
@@ -592,14 +592,14 @@ module _ (calls : ℕ → MapEdit) (lay : Layout) (h : History) (r : Row) (u : �
   is_spot : IsSpot (edit_key called)
   is_spot = spot_for called past.allowed.edit
 
-  pub content_now : map_of_log calls (log lay (r ⊳ h)) ≡ edited called (map_of_log calls (log lay h))
-  content_now = ap (map_of_log calls) (log_wins f z)
+  pub content_now : map_of_log calls (first_pairs (r ⊳ h)) (log lay (r ⊳ h)) ≡ edited called (map_of_log calls (first_pairs h) (log lay h))
+  content_now = ap (map_of_log calls (first_pairs h)) (log_wins f z)
 
   pub above_ends : AllAbove (edit_key called) ends
   above_ends = let s = past.allowed.small in (omega (arith, s), (omega (arith, s), tt))
 
-  items_now : items (value (r ⊳ h)) result.tree ≡ map_of_log calls (log lay (r ⊳ h)) ++ ends
-  items_now = result.items ∙ ap (edited called) t.items ∙ (edited_local called).left (map_of_log calls (log lay h)) ends above_ends ∙ ap (λ w. w ++ ends) (sym content_now)
+  items_now : items (value (r ⊳ h)) result.tree ≡ map_of_log calls (first_pairs (r ⊳ h)) (log lay (r ⊳ h)) ++ ends
+  items_now = result.items ∙ ap (edited called) t.items ∙ (edited_local called).left (map_of_log calls (first_pairs h) (log lay h)) ends above_ends ∙ ap (λ w. w ++ ends) (sym content_now)
 
   pub tree_now : IsTree (value (r ⊳ h)) result.tree
   tree_now = record { shows = result.shows; is = result.is ∙ t.is_tree.is }
@@ -704,7 +704,7 @@ module _ (calls : ℕ → MapEdit) (lay : Layout) (h : History) (r : Row) (u : �
       new (inr b) = λ d. absurd (let q : true ≡ false = sym b.3 ∙ ap (λ v. eqb (v / 4 % 2) 1) (sym (settled_now n (Settled Head) tt)) ∙ d in cc)
 
   pub tree_updated : TreeFacts calls lay (r ⊳ h)
-  tree_updated = record { tree = result.tree; is_tree = tree_now; items = items_now; ends_low = result.low; pending = pending_then; one_new = one_new_then; unborn = unborn_then; path = path_then; forks = forks_then }
+  tree_updated = record { tree = result.tree; is_tree = tree_now; items = items_now; ends_low = result.low; pending = pending_then; one_new = one_new_then; unborn = unborn_then; path = path_then; forks = forks_then; root_head = early_stays lay h r 0 Head l o (omega arith) ∙ t.root_head; last_head = early_stays lay h r 2 Head l o (omega arith) ∙ t.last_head; last_key = early_stays lay h r 2 (Key First) l o (omega arith) ∙ t.last_key }
 
   -- the node of the field that it changes is in the tree
   pub spot_unmarked : value h (marked (member h u (field_index h u))) ≢ 0 → ⊥

@@ -6,12 +6,12 @@ use Rattle.histories.specs.Common.{History, ◌⊳◌, value, HasHeld, count_of,
 use Rattle.histories.specs.Common.{plan, scx_finalizes, Lawful, log, descriptor, count_in}
 use Rattle.arena.specs.declared.limits.Mode.TheVariants.{Trie as TrieMode}
 use Rattle.arena.specs.Layout.{IsMap}
-use Rattle.histories.proofs.Lemmas.{Facts, IsFlagged, UpdateWins, lawful_tail}
+use Rattle.histories.proofs.Lemmas.{Facts, IsFlagged, UpdateWins}
 use Rattle.ordered_map.specs.declared.pair.Pair.{Pair}
 use Rattle.ordered_map.specs.OrderedMap.{MapEdit, edit_key, edited, get, AllAbove}
 use Rattle.ordered_map.proofs.Pending.{Mine, Pending}
 use Rattle.ordered_map.proofs.Trees.{items, ends}
-use Rattle.ordered_map.specs.Runs.{map_of_log}
+use Rattle.ordered_map.specs.Runs.{map_of_log, first_pairs}
 use Rattle.ordered_map.specs.EditPlans.{leaf_plan, join_plan, end_leaf_plan, end_join_plan, above_plan, leaf_place, sibling_place}
 use Rattle.ordered_map.specs.TreeShape.{EditsLeaf, TakesLeafOut, IsEdit, leaf_out, edit_leaf}
 use Rattle.ordered_map.specs.TrieShape.{TakesEndLeafOut, IsAboveBy, PutsAbove}
@@ -23,7 +23,7 @@ use Rattle.ordered_map.proofs.Spanned.{PathPart, path_part}
 use Rattle.ordered_map.proofs.Searches.{told, told_said, path_child, get_left, get_leaf}
 use Rattle.ordered_map.proofs.Holding.{SameSettled, high_pairs}
 use Rattle.ordered_map.proofs.Moved.{settled_toward, settled_leaf, settled_level}
-use Rattle.ordered_map.proofs.TreeFacts.{TreeFacts, opening_head}
+use Rattle.ordered_map.proofs.TreeFacts.{TreeFacts}
 use Rattle.ordered_map.proofs.EditPlans.{leaf_plan_says, join_plan_says, end_leaf_plan_says, end_join_plan_says}
 use Rattle.ordered_map.proofs.Edited
 
@@ -235,7 +235,7 @@ module _ (calls : ℕ → MapEdit) (lay : Layout) (h : History) (r : Row) (u : �
   -- node 2 says nothing of a key
   two_says : (x : ℕ) → x < 2 ^ 64 → None ≡ told (value h) x 2
   two_says x small =
-      let head : value h (node 2 (Settled Head)) ≡ 14 = opening_head lay h (lawful_tail lay h r l) o in
+      let head : value h (node 2 (Settled Head)) ≡ 14 = t.last_head in
       let high : class (value h) 2 ≢ 0 = λ q. omega (arith, head, q) in
       sym (told_said (value h) x 2 small ∙ ap (get x) (high_pairs (value h) 2 high))
 
@@ -266,8 +266,8 @@ module _ (calls : ℕ → MapEdit) (lay : Layout) (h : History) (r : Row) (u : �
   says c small p fork (inr (inr (m, inr (inr (inr e))))) = says_above c m small p fork e
 
   -- the leaf of its edit says what the key had just before
-  pub replies : get (edit_key called) (map_of_log calls (log lay h)) ≡ said (value h) (edit_key called) (edit_leaf h u called)
-  replies = sym (get_left (edit_key called) (map_of_log calls (log lay h)) ends above_ends) ∙ ap (get (edit_key called)) (sym t.items) ∙ says called past.allowed.small comes past.allowed.fork past.allowed.edit
+  pub replies : get (edit_key called) (map_of_log calls (first_pairs h) (log lay h)) ≡ said (value h) (edit_key called) (edit_leaf h u called)
+  replies = sym (get_left (edit_key called) (map_of_log calls (first_pairs h) (log lay h)) ends above_ends) ∙ ap (get (edit_key called)) (sym t.items) ∙ says called past.allowed.small comes past.allowed.fork past.allowed.edit
       ∙ told_said (value h) (edit_key called) (edit_leaf h u called) past.allowed.small
 
   -- how deep the nodes are that it puts into the tree: at most one deeper than one that it removes

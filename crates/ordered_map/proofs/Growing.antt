@@ -5,24 +5,23 @@ use Rattle.std.proofs.lemmas.List.Elements.{All-nil, All-cons}
 use Rattle.std.specs.Prelude.{All}
 use Rattle.ordered_map.proofs.Inside.{tree_inside}
 use native.Mathlib.Decide.{ℕ_discrete}
-use Rattle.histories.specs.Common.{Tree as TreeMode, Left, Right, NodeWord, Settled, Child, Head, Word, Layout, node, child, first_key}
-use Rattle.histories.specs.Common.{History, Start, ◌⊳◌, value, field_index, member, plan, side_of, opening_node, IsSettled, log}
-use Rattle.arena.specs.Layout.{tree_opening}
+use Rattle.histories.specs.Common.{Left, Right, Settled, Child, Head, Word, Layout, node, child, first_key}
+use Rattle.histories.specs.Common.{History, Opened, ◌⊳◌, value, field_index, member, plan, side_of, opening_node, log}
 use Rattle.arena.proofs.Lemmas.{node_apart, node_word_apart}
 use Rattle.histories.proofs.Lemmas.{Effect, Facts, effect, facts_before, freeze, freeze_keeps_field, quiet, update, update_keeps_other}
 use Rattle.ordered_map.specs.declared.pair.Pair.{Pair}
 use Rattle.ordered_map.specs.OrderedMap.{pair, MapEdit, get, IsRising, AllAbove, AllBelow}
 use Rattle.ordered_map.proofs.Trees.{items, ends, items_above, items_below, passes_has, shown_leaf}
-use Rattle.ordered_map.specs.Runs.{map_of_log}
+use Rattle.ordered_map.specs.Runs.{map_of_log, first_pairs}
 use Rattle.ordered_map.specs.Spelled.{IsTree, Spells}
 use Rattle.ordered_map.specs.TreeWords.{Tree, Leaf, Fork, Shows, Passes, class, is_leaf, toward, rank, leaf_pairs, leaf_items, pairs, leaf_nodes}
 use Rattle.ordered_map.specs.Holding.{held_pairs}
 use Rattle.ordered_map.proofs.Lists.{above_split, below_left, below_right, rising_join}
 use Rattle.ordered_map.proofs.Holding.{held_first, low_items, high_items, low_pairs, high_pairs}
 use Rattle.ordered_map.proofs.Searches.{passes_root, path_child, get_leaf, get_below}
-use Rattle.ordered_map.proofs.TreeFacts.{TreeFacts, opening_settled}
+use Rattle.ordered_map.proofs.TreeFacts.{TreeFacts}
 use Rattle.ordered_map.proofs.Edited.{root_side}
-use Rattle.ordered_map.proofs.Grown.{IsGrown, start_is, start_same, tree_facts, grown_tail}
+use Rattle.ordered_map.proofs.Grown.{IsGrown, planted, tree_facts, grown_tail}
 
 -- the pairs are the items below 2 ^ 64
 unfoldable pub low : List Pair → List Pair
@@ -90,21 +89,13 @@ rising_split (x ∷ xs) ys y r =
     let a : AllAbove x.key xs × AllAbove x.key (y ∷ ys) = above_split x.key xs (y ∷ ys) r.0 in
     ((a.0, q.0), (a.1.0, q.1))
 
--- the right field of node 0 never changes
-right_start : value (Start TreeMode) (child 0 Right) ≡ 2
-unfolding value
-right_start = refl
-
--- the settled words of the opening nodes stay
-opening_stays : (calls : ℕ → MapEdit) (lay : Layout) (h : History) (n : ℕ) (a : NodeWord) → IsGrown calls lay h → n < 3 → IsSettled (node n a) → value h (node n a) ≡ tree_opening (node n a)
-opening_stays calls lay h n a g i s = opening_settled lay h n a g.lawful g.mode i s
-
--- so node 0 is a fork above all keys
+-- node 0 is a fork above all keys
 pub grown_root : (calls : ℕ → MapEdit) (lay : Layout) (h : History) → IsGrown calls lay h → value h (node 0 (Settled Head)) ≡ 2
-grown_root calls lay h g = opening_stays calls lay h 0 (Settled Head) g (omega arith) tt
+grown_root calls lay h g = (tree_facts calls lay h g).root_head
 
+-- its right field never changes
 right_stays : (calls : ℕ → MapEdit) (lay : Layout) (h : History) → IsGrown calls lay h → value h (child 0 Right) ≡ 2
-right_stays calls lay (Start mode) g = ap (λ f. f (child 0 Right)) (sym (start_same mode (start_is lay mode g.lawful g.mode))) ∙ right_start
+right_stays calls lay (Opened o) g = (planted calls lay o g).right
 right_stays calls lay (r ⊳ h) g = go (effect lay h r g.lawful) (right_stays calls lay h (grown_tail calls lay h r g))
   where
     f : Facts lay h
@@ -225,12 +216,12 @@ last_leaf f (Fork n a b) lo hi s =
       keys = x.keys;
     }
 
-pub spells : (calls : ℕ → MapEdit) (lay : Layout) (h : History) → IsGrown calls lay h → Spells lay (value h) (map_of_log calls (log lay h))
+pub spells : (calls : ℕ → MapEdit) (lay : Layout) (h : History) → IsGrown calls lay h → Spells lay (value h) (map_of_log calls (first_pairs h) (log lay h))
 spells calls lay h g = record {
   tree = t.tree;
   is_tree = t.is_tree;
   inside = tree_inside lay h t.tree g.lawful t.is_tree;
-  pairs = pairs_low (value h) t.tree _ _ t.is_tree.shows ∙ ap low t.items ∙ low_join (map_of_log calls (log lay h)) ends ∙ (λ i. low_all (map_of_log calls (log lay h)) risen.1 i ++ low_ends i) ∙ append-nil (map_of_log calls (log lay h));
+  pairs = pairs_low (value h) t.tree _ _ t.is_tree.shows ∙ ap low t.items ∙ low_join (map_of_log calls (first_pairs h) (log lay h)) ends ∙ (λ i. low_all (map_of_log calls (first_pairs h) (log lay h)) risen.1 i ++ low_ends i) ∙ append-nil (map_of_log calls (first_pairs h) (log lay h));
   rising = risen.0;
   others = end.others;
   one = end.node_no;
@@ -243,17 +234,17 @@ spells calls lay h g = record {
     t : TreeFacts calls lay h
     t = tree_facts calls lay h g
 
-    risen : IsRising (map_of_log calls (log lay h)) × AllBelow (2 ^ 64) (map_of_log calls (log lay h))
-    risen = rising_split (map_of_log calls (log lay h)) (pair (2 * 2 ^ 64) 0 ∷ []) (pair (2 ^ 64) 0) (rw t.items at (items_rise (value h) t.tree _ _ t.is_tree.shows))
+    risen : IsRising (map_of_log calls (first_pairs h) (log lay h)) × AllBelow (2 ^ 64) (map_of_log calls (first_pairs h) (log lay h))
+    risen = rising_split (map_of_log calls (first_pairs h) (log lay h)) (pair (2 * 2 ^ 64) 0 ∷ []) (pair (2 ^ 64) 0) (rw t.items at (items_rise (value h) t.tree _ _ t.is_tree.shows))
 
     head_0 : (value h) (node 0 (Settled Head)) ≡ 2
     head_0 = grown_root calls lay h g
 
     head_2 : (value h) (node 2 (Settled Head)) ≡ 14
-    head_2 = opening_stays calls lay h 2 (Settled Head) g (omega arith) tt
+    head_2 = t.last_head
 
     key_2 : (value h) (node 2 first_key) ≡ 0
-    key_2 = opening_stays calls lay h 2 first_key g (omega arith) tt
+    key_2 = t.last_key
 
     item_2 : leaf_items (value h) 2 ≡ pair (2 * 2 ^ 64) 0 ∷ []
     item_2 = high_items (value h) 2 (λ z. omega (arith, z, head_2)) ∙ (λ i. pair (head_2 i % 4 * 2 ^ 64 + key_2 i) 0 ∷ [])
@@ -264,12 +255,12 @@ spells calls lay h g = record {
     end : LastLeaf (value h) c.left
     end = last_leaf (value h) c.left _ _ c.shows
 
-    left_items : items (value h) c.left ≡ (map_of_log calls (log lay h)) ++ (pair (2 ^ 64) 0 ∷ [])
+    left_items : items (value h) c.left ≡ (map_of_log calls (first_pairs h) (log lay h)) ++ (pair (2 ^ 64) 0 ∷ [])
     left_items =
-        let x : items (value h) c.left ++ (pair (2 * 2 ^ 64) 0 ∷ []) ≡ (map_of_log calls (log lay h)) ++ ends = ap (λ z. items (value h) c.left ++ z) (sym item_2) ∙ sym (ap (items (value h)) c.is) ∙ t.items in
-        append_cancel_right (items (value h) c.left) ((map_of_log calls (log lay h)) ++ (pair (2 ^ 64) 0 ∷ [])) (pair (2 * 2 ^ 64) 0 ∷ []) (x ∙ sym (append_assoc (map_of_log calls (log lay h)) (pair (2 ^ 64) 0 ∷ []) (pair (2 * 2 ^ 64) 0 ∷ [])))
+        let x : items (value h) c.left ++ (pair (2 * 2 ^ 64) 0 ∷ []) ≡ (map_of_log calls (first_pairs h) (log lay h)) ++ ends = ap (λ z. items (value h) c.left ++ z) (sym item_2) ∙ sym (ap (items (value h)) c.is) ∙ t.items in
+        append_cancel_right (items (value h) c.left) ((map_of_log calls (first_pairs h) (log lay h)) ++ (pair (2 ^ 64) 0 ∷ [])) (pair (2 * 2 ^ 64) 0 ∷ []) (x ∙ sym (append_assoc (map_of_log calls (first_pairs h) (log lay h)) (pair (2 ^ 64) 0 ∷ []) (pair (2 * 2 ^ 64) 0 ∷ [])))
 
-    end_items : items_of (value h) end.others ++ leaf_items (value h) end.node_no ≡ map_of_log calls (log lay h) ++ (pair (2 ^ 64) 0 ∷ [])
+    end_items : items_of (value h) end.others ++ leaf_items (value h) end.node_no ≡ map_of_log calls (first_pairs h) (log lay h) ++ (pair (2 ^ 64) 0 ∷ [])
     end_items =
         ap (λ z. items_of (value h) end.others ++ z) (sym (append-nil (leaf_items (value h) end.node_no)))
         ∙ sym (items_of_join (value h) end.others (end.node_no ∷ [])) ∙ ap (items_of (value h)) (sym end.leaves_are) ∙ sym (items_leaves (value h) c.left) ∙ left_items
@@ -279,22 +270,22 @@ spells calls lay h g = record {
     high_one z =
         let x = held_first (value h) end.node_no in
         let first : Pair = pair (value h (node end.node_no first_key)) x.value in
-        let e : items_of (value h) end.others ++ first ∷ x.rest ≡ map_of_log calls (log lay h) ++ pair (2 ^ 64) 0 ∷ [] = ap (λ ps. items_of (value h) end.others ++ ps) (sym (low_items (value h) end.node_no z ∙ x.is)) ∙ end_items in
+        let e : items_of (value h) end.others ++ first ∷ x.rest ≡ map_of_log calls (first_pairs h) (log lay h) ++ pair (2 ^ 64) 0 ∷ [] = ap (λ ps. items_of (value h) end.others ++ ps) (sym (low_items (value h) end.node_no z ∙ x.is)) ∙ end_items in
         let l : last_key 0 (items_of (value h) end.others ++ first ∷ x.rest) < 2 ^ 64 = last_below 0 (2 ^ 64) (items_of (value h) end.others) first x.rest (subst (AllBelow (2 ^ 64)) x.is (end.keys z)) in
-        let q : last_key 0 (items_of (value h) end.others ++ first ∷ x.rest) ≡ 2 ^ 64 = ap (last_key 0) e ∙ last_is 0 (map_of_log calls (log lay h)) (pair (2 ^ 64) 0) in
+        let q : last_key 0 (items_of (value h) end.others ++ first ∷ x.rest) ≡ 2 ^ 64 = ap (last_key 0) e ∙ last_is 0 (map_of_log calls (first_pairs h) (log lay h)) (pair (2 ^ 64) 0) in
         omega (arith, l, q)
 
-    one_item_left : items_of (value h) end.others ++ pair (rank (value h) end.node_no) 0 ∷ [] ≡ map_of_log calls (log lay h) ++ pair (2 ^ 64) 0 ∷ []
+    one_item_left : items_of (value h) end.others ++ pair (rank (value h) end.node_no) 0 ∷ [] ≡ map_of_log calls (first_pairs h) (log lay h) ++ pair (2 ^ 64) 0 ∷ []
     one_item_left = ap (λ ps. items_of (value h) end.others ++ ps) (sym (high_items (value h) end.node_no high_one)) ∙ end_items
 
-    others_items : items_of (value h) end.others ≡ map_of_log calls (log lay h)
-    others_items = front_same (items_of (value h) end.others) (map_of_log calls (log lay h)) (pair (rank (value h) end.node_no) 0) (pair (2 ^ 64) 0) one_item_left
+    others_items : items_of (value h) end.others ≡ map_of_log calls (first_pairs h) (log lay h)
+    others_items = front_same (items_of (value h) end.others) (map_of_log calls (first_pairs h) (log lay h)) (pair (rank (value h) end.node_no) 0) (pair (2 ^ 64) 0) one_item_left
 
     rank_one : rank (value h) end.node_no ≡ 2 ^ 64
     rank_one =
         sym (last_is 0 (items_of (value h) end.others) (pair (rank (value h) end.node_no) 0))
         ∙ ap (last_key 0) one_item_left
-        ∙ last_is 0 (map_of_log calls (log lay h)) (pair (2 ^ 64) 0)
+        ∙ last_is 0 (map_of_log calls (first_pairs h) (log lay h)) (pair (2 ^ 64) 0)
 
     class_one : class (value h) end.node_no ≡ 1
     class_one = let r = rank_one in let k = end.small in omega (arith, r, k)
@@ -311,7 +302,7 @@ some_found k v (x ∷ xs) ys e = go (eqb k x.key) e (some_found k v xs ys)
 
 -- where the root's left child is a leaf, it is that of class 1
 pub root_leaf : (calls : ℕ → MapEdit) (lay : Layout) (h : History) → IsGrown calls lay h → is_leaf (value h) (value h (child 0 Left)) ≡ true → class (value h) (value h (child 0 Left)) ≡ 0 → ⊥
-root_leaf calls lay h g leaf low = some_found (2 ^ 64) 0 (map_of_log calls (log lay h)) (pair (2 * 2 ^ 64) 0 ∷ []) none
+root_leaf calls lay h g leaf low = some_found (2 ^ 64) 0 (map_of_log calls (first_pairs h) (log lay h)) (pair (2 * 2 ^ 64) 0 ∷ []) none
   where
     t : TreeFacts calls lay h
     t = tree_facts calls lay h g
@@ -336,7 +327,7 @@ root_leaf calls lay h g leaf low = some_found (2 ^ 64) 0 (map_of_log calls (log 
         let x = shown_leaf (value h) t.tree _ _ _ t.is_tree.shows (passes_has (value h) (2 ^ 64) t.tree _ at_child) leaf in
         (x.2.items.keys low).1
 
-    none : get (2 ^ 64) (map_of_log calls (log lay h) ++ pair (2 ^ 64) 0 ∷ pair (2 * 2 ^ 64) 0 ∷ []) ≡ None
+    none : get (2 ^ 64) (map_of_log calls (first_pairs h) (log lay h) ++ pair (2 ^ 64) 0 ∷ pair (2 * 2 ^ 64) 0 ∷ []) ≡ None
     none =
         ap (get (2 ^ 64)) (sym t.items) ∙ get_leaf (value h) (2 ^ 64) t.tree _ _ (value h (child 0 Left)) t.is_tree.shows at_child leaf
         ∙ ap (get (2 ^ 64)) (low_items (value h) (value h (child 0 Left)) low) ∙ get_below (2 ^ 64) (held_pairs (value h) (value h (child 0 Left))) keys

@@ -1,17 +1,20 @@
 -- What is known after every history of the tree.
-use Rattle.std.proofs.Common.{◌≡◌, ◌≢◌, ℕ, inl, inr, ◌++◌, refl, sym, ◌∙◌, ap, arith, subst}
-use Rattle.histories.specs.Common.{Mode, Tree as TreeMode, Layout, Row, Side, Left, Right, info, child, History, Start, ◌⊳◌, value, HasHeld, Extends, seen, Lawful, log, IsBegin, Shaped}
+use Rattle.std.proofs.Common.{◌≡◌, ◌≢◌, ℕ, ◌<◌, ◌≤◌, ◌⊎◌, inl, inr, zero, suc, ◌++◌, refl, sym, ◌∙◌, ap, arith, subst}
+use Rattle.histories.specs.Common.{Mode, Tree as TreeMode, Layout, Row, Side, Left, Right, Settled, Head, Plan, node, info, child, first_key, History, Opening, empty, Start, Opened, ◌⊳◌, value, HasHeld, Extends, plan, count, count_of, seen, Lawful, log, IsBegin, Shaped}
 use Rattle.arena.specs.Layout.{IsMap}
 use Rattle.ordered_map.specs.Bits.{Keeps, IsTrieFork}
-use Rattle.arena.proofs.Lemmas.{held_start, map_opens, opening_info}
+use Rattle.arena.proofs.Lemmas.{held_start, map_opens, opening_info, opening_scx}
 use Rattle.histories.proofs.Lemmas.{Effect, Facts, FreezeWins, effect, facts_before, freeze, freeze_in_progress, freeze_rest, lawful_since, lawful_tail, quiet, shaped_begin, shaped_since, shaped_tail, start_mode, update}
 use Rattle.ordered_map.specs.OrderedMap.{MapEdit}
-use Rattle.ordered_map.proofs.Pending.{AllowsGiven}
+use Rattle.ordered_map.specs.Planted.{IsPlanted}
+use Rattle.ordered_map.specs.TreeShape.{MayEdit, IsEdit}
+use Rattle.ordered_map.proofs.EditPlans.{leaf_plan_says, join_plan_says, end_leaf_plan_says, end_join_plan_says, above_plan_says}
+use Rattle.ordered_map.proofs.Pending.{AllowsGiven, GivenAllows, begun_edit}
 use Rattle.ordered_map.proofs.Holding.{high_leaf}
 use Rattle.ordered_map.proofs.Trees.{items, ends, EndsLow}
-use Rattle.ordered_map.specs.Runs.{map_of_log}
+use Rattle.ordered_map.specs.Runs.{map_of_log, first_pairs}
 use Rattle.ordered_map.specs.Spelled.{IsTree}
-use Rattle.ordered_map.specs.TreeWords.{Leaf, Fork, Has}
+use Rattle.ordered_map.specs.TreeWords.{Leaf, Fork, Has, level}
 use Rattle.ordered_map.proofs.TreeFacts.{TreeFacts, path_now, tree_kept, tree_frozen}
 use Rattle.ordered_map.proofs.Edited.{tree_updated}
 
@@ -19,7 +22,7 @@ use Rattle.ordered_map.proofs.Edited.{tree_updated}
 pub record IsGrown (calls : ℕ → MapEdit) (lay : Layout) (h : History) : Type 0 where
   pub mode : IsMap lay.mode
   pub lawful : Lawful lay h
-  pub shaped : Shaped (AllowsGiven calls) lay h
+  pub shaped : Shaped (GivenAllows calls) lay h
 
 -- a tree's mode is a map's
 pub tree_map : (mode : Mode) → mode ≡ TreeMode → IsMap mode
@@ -51,10 +54,6 @@ opening_items : items (value (Start TreeMode)) (Fork 0 (Leaf 1) (Leaf 2)) ≡ en
 unfolding value
 opening_items = refl
 
-opening_log : (calls : ℕ → MapEdit) (lay : Layout) (mode : Mode) → map_of_log calls (log lay (Start mode)) ++ ends ≡ ends
-unfolding log
-opening_log calls lay mode = refl
-
 opening_forks : (n : ℕ) → Has (Fork 0 (Leaf 1) (Leaf 2)) n → IsTrieFork (value (Start TreeMode)) n
 unfolding value
 opening_forks n (inl e) = subst (IsTrieFork (value (Start TreeMode))) e (λ d. (record { top = λ z. refl; key = λ z. absurd (cc) }, keeps))
@@ -65,21 +64,91 @@ opening_forks n (inl e) = subst (IsTrieFork (value (Start TreeMode))) e (λ d. (
 opening_forks n (inr (inl e)) = subst (IsTrieFork (value (Start TreeMode))) e (λ d. absurd (cc))
 opening_forks n (inr (inr e)) = subst (IsTrieFork (value (Start TreeMode))) e (λ d. absurd (cc))
 
--- no info word names anything but the dummy at the start
-opened : (mode : Mode) (s n : ℕ) → s ≢ 0 → HasHeld (Start mode) (info n) s → ⊥
-opened mode s n d p = d (sym (held_start mode (info n) s p) ∙ opening_info mode n)
+opening_level : (n : ℕ) → n < 3 → level (value (Start TreeMode)) n ≤ 1
+unfolding value
+opening_level zero i = omega arith
+opening_level (suc zero) i = omega arith
+opening_level (suc (suc zero)) i = omega arith
+opening_level (suc (suc (suc n))) i = absurd (omega (arith, i))
 
-tree_at_start : (calls : ℕ → MapEdit) (lay : Layout) (mode : Mode) → IsMap mode → TreeFacts calls lay (Start mode)
-tree_at_start calls lay mode is = record {
+first_three : (n : ℕ) → Has (Fork 0 (Leaf 1) (Leaf 2)) n → n < 3
+first_three n (inl e) = omega (arith, e)
+first_three n (inr (inl e)) = omega (arith, e)
+first_three n (inr (inr e)) = omega (arith, e)
+
+three_first : (n : ℕ) → n < 3 → Has (Fork 0 (Leaf 1) (Leaf 2)) n
+three_first zero i = inl refl
+three_first (suc zero) i = inr (inl refl)
+three_first (suc (suc zero)) i = inr (inr refl)
+three_first (suc (suc (suc n))) i = absurd (omega (arith, i))
+
+-- an empty map is planted
+pub empty_planted : (lay : Layout) → IsMap lay.mode → IsPlanted lay (Start lay.mode) 0
+empty_planted lay is = record {
+  dummy = refl;
   tree = Fork 0 (Leaf 1) (Leaf 2);
-  is_tree = opening_tree mode is;
-  items = ap (λ f. items f (Fork 0 (Leaf 1) (Leaf 2))) (sym (start_same mode is)) ∙ opening_items ∙ sym (opening_log calls lay mode);
-  ends_low = subst (λ f. EndsLow f (Fork 0 (Leaf 1) (Leaf 2))) (start_same mode is) opening_low;
-  pending = λ s n d p w. absurd (opened mode s n d p);
-  one_new = λ s u m n d c p q e. absurd (opened mode s m d p);
-  unborn = λ s n d p w e. absurd (opened mode s n d p);
-  path = λ m k n e p stay. inl (path_now (Start mode) (Fork 0 (Leaf 1) (Leaf 2)) k n (opening_tree mode is) (rw e at p));
-  forks = λ m n h. subst (λ f. IsTrieFork f n) (start_same mode is) (opening_forks n h);
+  is_tree = opening_tree lay.mode is;
+  items = ap (λ f. items f (Fork 0 (Leaf 1) (Leaf 2))) (sym (start_same lay.mode is)) ∙ opening_items;
+  ends_low = subst (λ f. EndsLow f (Fork 0 (Leaf 1) (Leaf 2))) (start_same lay.mode is) opening_low;
+  whole = λ n i. three_first n (rw is at i);
+  there = λ n p. rw is (let few = first_three n p in omega (arith, few));
+  root = ap (λ f. f (node 0 (Settled Head))) (map_opens lay.mode is);
+  last = ap (λ f. f (node 2 (Settled Head))) (map_opens lay.mode is);
+  right = ap (λ f. f (child 0 Right)) (map_opens lay.mode is);
+  blank = λ n p d. ap (λ f. f (node n first_key)) (map_opens lay.mode is);
+  deep = λ tree n p. let low : level (value (Start lay.mode)) n ≤ 1 = subst (λ f. level f n ≤ 1) (start_same lay.mode is) (opening_level n (first_three n p)) in omega (arith, low);
+  forks = λ m n p. subst (λ f. IsTrieFork f n) (start_same lay.mode is) (opening_forks n p);
+}
+
+-- no edit is made of the dummy as a table begins: it has no plan
+pub none_edited : (lay : Layout) (o : Opening) (e : MapEdit) → MayEdit lay (Opened o) 0 e → ⊥
+none_edited lay o e x = go x.edit
+  where
+    none : (n : ℕ) → count (Opened o) 0 ≡ n → 0 < n → ⊥
+    none n q i =
+        let zero : plan (Opened o) 0 ≡ 0 = opening_scx o 0 Plan refl in
+        let z : count_of 0 ≡ n = rw zero at q in omega (arith, z, i)
+
+    go : IsEdit lay (Opened o) 0 e → ⊥
+    go (inl y) = none 2 (leaf_plan_says _ _ y.plan).3 (omega arith)
+    go (inr (inl y)) = none 4 (join_plan_says _ _ y.plan).3 (omega arith)
+    go (inr (inr (m, inl y))) = none 2 (leaf_plan_says _ _ y.plan).3 (omega arith)
+    go (inr (inr (m, inr (inl y)))) = none 3 (end_leaf_plan_says _ _ y.plan).3 (omega arith)
+    go (inr (inr (m, inr (inr (inl y))))) = none 4 (end_join_plan_says _ _ y.plan).3 (omega arith)
+    go (inr (inr (m, inr (inr (inr y))))) = none 2 (above_plan_says _ _ y.plan).3 (omega arith)
+
+-- what a history of a map begins with is planted
+pub planted : (calls : ℕ → MapEdit) (lay : Layout) (o : Opening) → IsGrown calls lay (Opened o) → IsPlanted lay (Opened o) 0
+unfolding Shaped
+planted calls lay o g = go g.shaped
+  where
+    go : (o ≡ empty o.mode) ⊎ GivenAllows calls lay (Opened o) 0 → IsPlanted lay (Opened o) 0
+    go (inl e) = subst (λ x. IsPlanted lay (Opened x) 0) (sym (e ∙ ap empty (start_mode lay o g.lawful))) (empty_planted lay g.mode)
+    go (inr (inl x)) = absurd (none_edited lay o (calls 0) x)
+    go (inr (inr p)) = p
+
+-- no info word names anything but the dummy at the start
+opened : (o : Opening) (s n : ℕ) → s ≢ 0 → HasHeld (Opened o) (info n) s → ⊥
+opened o s n d p = d (sym (held_start o (info n) s p) ∙ opening_info o n)
+
+start_log : (calls : ℕ → MapEdit) (lay : Layout) (o : Opening) → map_of_log calls (first_pairs (Opened o)) (log lay (Opened o)) ≡ first_pairs (Opened o)
+unfolding log
+start_log calls lay o = refl
+
+tree_at_start : (calls : ℕ → MapEdit) (lay : Layout) (o : Opening) → IsMap lay.mode → IsPlanted lay (Opened o) 0 → TreeFacts calls lay (Opened o)
+tree_at_start calls lay o is x = record {
+  tree = x.tree;
+  is_tree = x.is_tree;
+  items = x.items ∙ ap (λ ps. ps ++ ends) (sym (start_log calls lay o));
+  ends_low = x.ends_low;
+  pending = λ s n d p w. absurd (opened o s n d p);
+  one_new = λ s u m n d c p q e. absurd (opened o s m d p);
+  unborn = λ s n d p w e. absurd (opened o s n d p);
+  path = λ m k n e p stay. inl (path_now (Opened o) x.tree k n x.is_tree (rw e at p));
+  forks = x.forks;
+  root_head = x.root;
+  last_head = x.last;
+  last_key = x.blank 2 (x.whole 2 (rw is (omega arith))) (λ z. let head = x.last in omega (arith, z, head));
 }
 
 -- the first freezing exchange of an SCX-record that wins begins it
@@ -102,18 +171,14 @@ tree_step calls lay h r o l allowed t = go (effect lay h r l)
     go (freeze s j w) = tree_frozen calls lay h r s j f w o l t (λ q. allowed s (first_begins lay h r s j f w q))
     go (update s w) = tree_updated calls lay h r s f w o l t
 
--- the mode is a map's from the start
-pub start_is : (lay : Layout) (mode : Mode) → Lawful lay (Start mode) → IsMap lay.mode → IsMap mode
-start_is lay mode l e = subst IsMap (sym (start_mode lay mode l)) e
-
 pub tree_facts : (calls : ℕ → MapEdit) (lay : Layout) (h : History) → IsGrown calls lay h → TreeFacts calls lay h
-tree_facts calls lay (Start mode) g = tree_at_start calls lay mode (start_is lay mode g.lawful g.mode)
+tree_facts calls lay (Opened o) g = tree_at_start calls lay o g.mode (planted calls lay o g)
 tree_facts calls lay (r ⊳ h) g =
-    tree_step calls lay h r g.mode g.lawful (λ s b. shaped_begin (AllowsGiven calls) lay h r s g.shaped b)
-    (tree_facts calls lay h record { mode = g.mode; lawful = lawful_tail lay h r g.lawful; shaped = shaped_tail (AllowsGiven calls) lay h r g.shaped })
+    tree_step calls lay h r g.mode g.lawful (λ s b. begun_edit (AllowsGiven calls lay h s) lay h r s g.lawful b (shaped_begin (GivenAllows calls) lay h r s g.shaped b))
+    (tree_facts calls lay h record { mode = g.mode; lawful = lawful_tail lay h r g.lawful; shaped = shaped_tail (GivenAllows calls) lay h r g.shaped })
 
 pub grown_tail : (calls : ℕ → MapEdit) (lay : Layout) (h : History) (r : Row) → IsGrown calls lay (r ⊳ h) → IsGrown calls lay h
-grown_tail calls lay h r g = record { mode = g.mode; lawful = lawful_tail lay h r g.lawful; shaped = shaped_tail (AllowsGiven calls) lay h r g.shaped }
+grown_tail calls lay h r g = record { mode = g.mode; lawful = lawful_tail lay h r g.lawful; shaped = shaped_tail (GivenAllows calls) lay h r g.shaped }
 
 pub grown_since : (calls : ℕ → MapEdit) (lay : Layout) (h m : History) → Extends h m → IsGrown calls lay h → IsGrown calls lay m
-grown_since calls lay h m e g = record { mode = g.mode; lawful = lawful_since lay h m g.lawful e; shaped = shaped_since (AllowsGiven calls) lay h m g.shaped e }
+grown_since calls lay h m e g = record { mode = g.mode; lawful = lawful_since lay h m g.lawful e; shaped = shaped_since (GivenAllows calls) lay h m g.shaped e }

@@ -3,7 +3,7 @@
 -- there knows, when it wins, that the forks which it has passed since are on that path still.
 use Rattle.std.proofs.Common.{◌≡◌, ◌≢◌, ℕ, ◌/◌, ◌%◌, ◌<◌, Bool, true, false, ◌⊎◌, inl, inr, ⊎_elim, eqb, refl, sym, ◌∙◌, ap, arith, subst}
 use native.Mathlib.Decide.{ℕ_discrete}
-use Rattle.histories.specs.Common.{Layout, Row, Settled, Child, Head, ScxWord, Plan, Member, Seen, scx, child, info, marked, state, History, Start, ◌⊳◌, value, Extends, HasHeld, HasWon, IsNamed, IsNamedScx, IsWin, opening_node, Lawful, log, is_final, count, count_of, member, seen}
+use Rattle.histories.specs.Common.{Layout, Row, Settled, Child, Head, ScxWord, Plan, Member, Seen, scx, child, info, marked, state, History, Opened, ◌⊳◌, value, Extends, HasHeld, HasWon, IsNamed, IsNamedScx, IsWin, opening_node, Lawful, log, is_final, count, count_of, member, seen}
 use Rattle.arena.proofs.Lemmas.{ends_self, ends_trans, held_back}
 use Rattle.histories.proofs.Lemmas.{Effect, Facts, FreezeWins, IsScxFill, UpdateWins, effect, facts, finished_stays, freeze, freeze_finds, freeze_held, freeze_keeps_field, freeze_keeps_scx, final_by, lawful_since, lawful_tail, named_since, node_stays, passed_stays, quiet, scx_since, some_is_real, update, update_flagged, update_held, update_in_progress, update_is_first, update_about, update_won, won_since}
 use Rattle.ordered_map.specs.OrderedMap.{MapEdit}
@@ -21,7 +21,7 @@ use Rattle.ordered_map.proofs.TreeFacts.{path_now}
 
 -- an SCX-record that is finished stays so
 finished_since : (lay : Layout) (h m : History) (s : ℕ) → Lawful lay h → Extends h m → value m (state s) ≢ 0 → value h (state s) ≢ 0
-finished_since lay (Start mode) m s l e d = subst (λ x. value x (state s) ≢ 0) e d
+finished_since lay (Opened o) m s l e d = subst (λ x. value x (state s) ≢ 0) e d
 finished_since lay (r ⊳ h) m s l (inl e) d = subst (λ x. value x (state s) ≢ 0) e d
 finished_since lay (r ⊳ h) m s l (inr e) d = finished_stays lay h r s l (finished_since lay h m s (lawful_tail lay h r l) e d)
 
@@ -121,7 +121,7 @@ module _ (calls : ℕ → MapEdit) (lay : Layout) (k n guard s : ℕ) (top : His
   -- A fork that was on a path once the guard was finished is on it still, if it is not final; or the info of
   -- node 2 is no longer the guard, and s can freeze it no more.
   grown_guarded : (h m : History) → Extends top h → IsGrown calls lay h → Extends h m → value m (state guard) ≢ 0 → IsOnPath m k n → is_leaf (value h) n ≡ false → is_final (log lay h) n ≡ false → IsGuarded h
-  grown_guarded (Start mode) m w g e done p fork kept = inl (subst (λ x. IsOnPath x k n) e p)
+  grown_guarded (Opened o) m w g e done p fork kept = inl (subst (λ x. IsOnPath x k n) e p)
   grown_guarded (r ⊳ h) m w g (inl e) done p fork kept = inl (subst (λ x. IsOnPath x k n) e p)
   grown_guarded (r ⊳ h) m w g (inr e) done p fork kept =
       let before : IsGrown calls lay h = grown_tail calls lay h r g in
@@ -132,7 +132,7 @@ module _ (calls : ℕ → MapEdit) (lay : Layout) (k n guard s : ℕ) (top : His
 
   -- what is past stays so
   past_since : (h m : History) → Extends top h → IsGrown calls lay h → Extends h m → value m (state guard) ≢ 0 → IsPast m → IsPast h
-  past_since (Start mode) m w g e done d = subst IsPast e d
+  past_since (Opened o) m w g e done d = subst IsPast e d
   past_since (r ⊳ h) m w g (inl e) done d = subst IsPast e d
   past_since (r ⊳ h) m w g (inr e) done d =
       let before : IsGrown calls lay h = grown_tail calls lay h r g in
@@ -148,7 +148,7 @@ module _ (calls : ℕ → MapEdit) (lay : Layout) (k n guard s : ℕ) (top : His
         omega (arith, z, q)
 
   grown_latest : (h m : History) → Extends top h → IsGrown calls lay h → Extends h m → value m (state guard) ≢ 0 → IsOnPath m k n → is_leaf (value h) n ≡ false → Latest h m k n ⊎ IsPast h
-  grown_latest (Start mode) m w g e done p fork = inl (latest_now (Start mode) m k n e (subst (λ x. IsOnPath x k n) e p))
+  grown_latest (Opened o) m w g e done p fork = inl (latest_now (Opened o) m k n e (subst (λ x. IsOnPath x k n) e p))
   grown_latest (r ⊳ h) m w g (inl e) done p fork = inl (latest_now (r ⊳ h) m k n (inl e) (subst (λ x. IsOnPath x k n) e p))
   grown_latest (r ⊳ h) m w g (inr e) done p fork = go (is_final (log lay (r ⊳ h)) n) refl (grown_latest h m (ends_trans top (r ⊳ h) h w (inr (ends_self h))) before e done p was)
     where

@@ -1,32 +1,23 @@
 -- Every node that was in the tree is in the table.
-use Rattle.std.proofs.Common.{◌≡◌, ◌≢◌, ℕ, ◌<◌, Bool, true, false, cond, ◌⊎◌, inl, inr, ⊎_elim, refl, sym, ◌∙◌, arith, ne_eqb}
-use native.Mathlib.Decide.{ℕ_discrete}
-use Rattle.histories.specs.Common.{Mode, Settled, Head, Word, Layout, opening_nodes, all_nodes, opening, IsWord, node, same_word, History, Start, ◌⊳◌, value, Lawful}
-use Rattle.arena.specs.Layout.{is_map, tree_opening}
+use Rattle.std.proofs.Common.{◌≡◌, ◌≢◌, ℕ, ◌<◌, Bool, true, false, ◌⊎◌, inl, inr, ⊎_elim, refl, sym, ◌∙◌, arith}
+use native.Mathlib.Decide.{dec_lt}
+use Rattle.histories.specs.Common.{Settled, Head, Word, Layout, nodes_at_start, all_nodes, IsWord, node, same_word, History, Opened, ◌⊳◌, value, Lawful}
 use Rattle.arena.proofs.Lemmas.{word_same, value_other}
-use Rattle.histories.proofs.Lemmas.{lawful_row, lawful_since, lawful_tail, value_start}
+use Rattle.histories.proofs.Lemmas.{lawful_row, lawful_since, lawful_tail, some_open, start_nodes, value_start}
 use Rattle.ordered_map.proofs.Trees.{passes_has}
 use Rattle.ordered_map.specs.Paths.{Passed}
 use Rattle.ordered_map.specs.Spelled.{IsTree}
 use Rattle.ordered_map.specs.TreeWords.{Tree, Leaf, Fork, root, Shows, Has, level}
 
-pub no_head : (mode : Mode) (n : ℕ) → n ≢ 0 → n ≢ 1 → n ≢ 2 → opening mode (node n (Settled Head)) ≡ 0
-no_head mode n a b c = elim (is_map mode) as (λ is. cond is (tree_opening (node n (Settled Head))) 0 ≡ 0) [ true ↦ rw (ne_eqb n 0 a, ne_eqb n 1 b, ne_eqb n 2 c) refl | false ↦ refl ]
-
-some_nodes : (mode : Mode) → 2 < opening_nodes mode
-some_nodes mode = elim (is_map mode) as (λ is. 2 < cond is 3 9) [ true ↦ omega arith | false ↦ omega arith ]
+some_nodes : (lay : Layout) → 0 < all_nodes lay
+some_nodes lay = let some = some_open lay in omega (arith, some)
 
 pub head_inside : (lay : Layout) (h : History) (n : ℕ) → Lawful lay h → value h (node n (Settled Head)) ≢ 0 → n < all_nodes lay
-head_inside lay (Start mode) n l d = go (ℕ_discrete n 0) (ℕ_discrete n 1) (ℕ_discrete n 2)
+head_inside lay (Opened o) n l d = go (dec_lt n (nodes_at_start o.mode o.planted))
   where
-    few : n < 3 → n < all_nodes lay
-    few i = let x = some_nodes lay.mode in omega arith
-
-    go : Dec (n ≡ 0) → Dec (n ≡ 1) → Dec (n ≡ 2) → n < all_nodes lay
-    go (yes e) _ _ = few (omega arith)
-    go (no a) (yes e) _ = few (omega arith)
-    go (no a) (no b) (yes e) = few (omega arith)
-    go (no a) (no b) (no c) = absurd (d (value_start mode (node n (Settled Head)) ∙ no_head mode n a b c))
+    go : Dec (n < nodes_at_start o.mode o.planted) → n < all_nodes lay
+    go (yes i) = let few = start_nodes lay o l in omega (arith, i, few)
+    go (no late) = absurd (d (value_start o (node n (Settled Head)) ∙ o.beyond n (Settled Head) (omega (arith, late))))
 head_inside lay (r ⊳ h) n l d = go (same_word r.word (node n (Settled Head))) refl (head_inside lay h n (lawful_tail lay h r l))
   where
     go : (b : Bool) → same_word r.word (node n (Settled Head)) ≡ b → (value h (node n (Settled Head)) ≢ 0 → n < all_nodes lay) → n < all_nodes lay
@@ -44,7 +35,7 @@ has_head f (Fork m a b) lo hi n s (inr (inr x)) = ⊎_elim (λ e. inr (λ z. let
 pub tree_inside : (lay : Layout) (h : History) (t : Tree) → Lawful lay h → IsTree (value h) t → (n : ℕ) → Has t n → n < all_nodes lay
 tree_inside lay h t l i n p =
     ⊎_elim
-    (λ e. let x = some_nodes lay.mode in let q : n ≡ 0 = e ∙ i.is in omega (arith, x, q))
+    (λ e. let x = some_nodes lay in let q : n ≡ 0 = e ∙ i.is in omega (arith, x, q))
     (λ d. head_inside lay h n l d)
     (has_head (value h) t _ _ n i.shows p)
 

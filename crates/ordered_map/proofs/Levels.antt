@@ -1,32 +1,29 @@
--- No node of a tree is deeper than the log is long.
-use Rattle.std.proofs.Common.{◌≡◌, ℕ, ◌<◌, ◌/◌, ◌≤◌, zero, suc, length, refl, ap, arith, subst}
-use Rattle.histories.specs.Common.{Mode, Tree as TreeMode, Settled, Child, Head, Layout, Row, node, History, Start, ◌⊳◌, value, field_index, member, side_of, plan, IsNamed, log}
-use Rattle.arena.specs.Layout.{IsMap}
+-- No node of a tree is deeper than the log is long and the tree was at the start.
+use Rattle.std.proofs.Common.{◌≡◌, ℕ, ◌+◌, ◌/◌, ◌≤◌, suc, length, refl, ap, arith}
+use Rattle.histories.specs.Common.{Tree as TreeMode, Settled, Child, Head, Layout, Row, node, History, Opening, Opened, opening_of, ◌⊳◌, value, taken_nodes, field_index, member, side_of, plan, IsNamed, log}
 use Rattle.arena.proofs.Lemmas.{node_word_apart}
 use Rattle.histories.proofs.Lemmas.{Logs, UpdateWins, log_wins, logs, node_stays, same, update_keeps_other, wins}
 use Rattle.ordered_map.specs.OrderedMap.{MapEdit}
 use Rattle.ordered_map.specs.Paths.{WasInTree}
+use Rattle.ordered_map.specs.Planted.{IsPlanted}
 use Rattle.ordered_map.specs.TreeWords.{Has, level}
 use Rattle.ordered_map.proofs.Edited.{result}
 use Rattle.ordered_map.proofs.EditedPaths.{born_level}
-use Rattle.ordered_map.proofs.Grown.{IsGrown, start_same}
+use Rattle.ordered_map.proofs.Grown.{IsGrown}
 use Rattle.ordered_map.proofs.Stood.{facts_then, tree_then, PutThere, of_all_stood}
+
+-- how many nodes counted as taken as the history began
+abbrev pub deep : History → ℕ
+deep h = length (taken_nodes (Opened (opening_of h)))
 
 module _ (calls : ℕ → MapEdit) (lay : Layout) (tree : lay.mode ≡ TreeMode) where
   -- the node is at most this deep
   abbrev IsWithin : History → ℕ → Type 0
-  IsWithin h n = level (value h) n ≤ suc (length (log lay h))
+  IsWithin h n = level (value h) n ≤ suc (deep h + length (log lay h))
 
-  in_tree : (n : ℕ) → n < 3 → level (value (Start TreeMode)) n ≤ 1
-  unfolding value
-  in_tree zero i = omega arith
-  in_tree (suc zero) i = omega arith
-  in_tree (suc (suc zero)) i = omega arith
-  in_tree (suc (suc (suc n))) i = absurd (omega arith)
-
-  opens : (mode : Mode) (n : ℕ) → IsMap mode → n < 3 → IsWithin (Start mode) n
+  opens : (o : Opening) (x : IsPlanted lay (Opened o) 0) (n : ℕ) → Has x.tree n → IsWithin (Opened o) n
   unfolding log
-  opens mode n is i = subst (λ f. level f n ≤ 1) (start_same mode is) (in_tree n i)
+  opens o x n i = let low = x.deep tree n i in omega (arith, low)
 
   stays : (h : History) (r : Row) (n : ℕ) → IsGrown calls lay (r ⊳ h) → IsNamed lay h n → IsWithin h n → IsWithin (r ⊳ h) n
   stays h r n g named x = go (logs lay h r g.lawful)
@@ -44,10 +41,10 @@ module _ (calls : ℕ → MapEdit) (lay : Layout) (tree : lay.mode ≡ TreeMode)
       let t = tree_then calls lay h r g in
       let y = born_level calls lay h r u f w g.mode g.lawful t tree n b in
       let e : level (value (r ⊳ h)) n ≡ level (value h) n = ap (λ v. v / 8) (update_keeps_other f w (node n (Settled Head)) (node_word_apart (member h u (field_index h u)) n (Child (side_of (plan h u))) (Settled Head) refl)) in
-      let d : level (value h) y.0 ≤ suc (length (log lay h)) = before y.0 ((result calls lay h r u f w g.mode g.lawful t).out y.0 y.1).0 in
+      let d : level (value h) y.0 ≤ suc (deep h + length (log lay h)) = before y.0 ((result calls lay h r u f w g.mode g.lawful t).out y.0 y.1).0 in
       let c = y.2 in
       rw (log_wins f w) (omega (arith, e, d, c))
 
   -- a node that was in the tree is at most that deep
-  pub grown_level : (h : History) → IsGrown calls lay h → (n : ℕ) → WasInTree h n → level (value h) n ≤ suc (length (log lay h))
+  pub grown_level : (h : History) → IsGrown calls lay h → (n : ℕ) → WasInTree h n → level (value h) n ≤ suc (deep h + length (log lay h))
   grown_level = of_all_stood calls lay IsWithin opens stays begins

@@ -18,7 +18,7 @@ use Rattle.ordered_map.proofs.Blanks.{grown_blank}
 use Rattle.ordered_map.proofs.Remaining.{grown_on_path, grown_remains}
 use Rattle.ordered_map.proofs.Growing.{grown_root}
 use Rattle.ordered_map.proofs.Stood.{was_now, was_passed, was_named}
-use Rattle.ordered_map.proofs.TreeFacts.{TreeFacts, opening_head}
+use Rattle.ordered_map.proofs.TreeFacts.{TreeFacts}
 use Rattle.ordered_map.proofs.Edited.{result, tree_now, new_in}
 use Rattle.arena.specs.Layout.{IsMap}
 use Rattle.ordered_map.proofs.Grown.{tree_facts, grown_tail}
@@ -152,12 +152,12 @@ two_there lay h g =
 -- of class 2
 pub two_stood : (lay : Layout) (h : History) → IsMapRun lay h → WasInTree h 2 × (is_leaf (value h) 2 ≡ true) × (class (value h) 2 ≡ 2)
 two_stood lay h g =
-    let head = opening_head lay h g.1.lawful g.0 in
+    let head = (tree_facts (edits_of lay h g).edits lay h (grown lay h g)).last_head in
     (was_now h (run_spells lay h g).1.tree 2 (run_spells lay h g).1.is_tree (two_there lay h g), ap (λ v. eqb (v / 4 % 2) 1) head, ap (λ v. v % 4) head)
 
 -- on level 1
 pub two_level : (lay : Layout) (h : History) → IsMapRun lay h → level (value h) 2 ≡ 1
-two_level lay h g = ap (λ v. v / 8) (opening_head lay h g.1.lawful g.0)
+two_level lay h g = ap (λ v. v / 8) (tree_facts (edits_of lay h g).edits lay h (grown lay h g)).last_head
 
 -- never final
 pub two_not_final : (lay : Layout) (h : History) → IsMapRun lay h → is_final (log lay h) 2 ≡ false

@@ -2,19 +2,19 @@
 -- the words spell, what a winning update makes of it, and what walks find.
 use Rattle.std.proofs.Common.{◌≡◌, ◌≢◌, ℕ, ◌^◌, ◌<◌, true, false, cond, eq-eqb, ne_eqb, ◌⊎◌, inl, inr, ⊎_elim, List, [], refl, sym, ◌∙◌, ap, arith, subst}
 use native.Mathlib.Decide.{ℕ_discrete}
-use Rattle.histories.specs.Common.{Side, Left, Right, Plan, Word, Layout, Row, info, scx, child, History, Start, ◌⊳◌, value, Extends, IsMember, Tree as TreeMode, count}
+use Rattle.histories.specs.Common.{Side, Left, Right, Plan, Word, Layout, Row, info, scx, child, History, Opening, Start, Opened, ◌⊳◌, value, Extends, IsMember, Tree as TreeMode, count}
 use Rattle.histories.specs.Common.{count_of, member, plan, plan_finalizes, scx_finalizes, IsNamed, IsNamedScx, Lawful, IsWin, HasWon, log, IsEntered, IsBegin, Shaped}
 use Rattle.arena.specs.Layout.{IsMap}
 use Rattle.arena.specs.declared.limits.Mode.TheVariants.{Trie as TrieMode}
 use Rattle.arena.proofs.Lemmas.{held_back, held_start, opening_info, ends_self, ends_trans, value_apart}
-use Rattle.histories.proofs.Lemmas.{Effect, Facts, IsFirst, Logs, begins_once, scx_since, logs, same, wins, UpdateWins, effect, entered_won, facts, facts_before, freeze, freeze_held, lawful_row, lawful_since, lawful_tail, named_since, quiet, shaped_begin, shaped_since, shaped_tail, start_mode, some_is_real, update, update_flagged, update_held, won_named, won_real}
+use Rattle.histories.proofs.Lemmas.{Effect, Facts, IsFirst, Logs, begins_once, scx_since, logs, same, wins, UpdateWins, effect, entered_won, facts, facts_before, freeze, freeze_held, lawful_row, lawful_since, lawful_tail, named_since, quiet, shaped_begin, shaped_since, shaped_tail, some_is_real, update, update_flagged, update_held, won_named, won_real}
 use Rattle.ordered_map.specs.declared.pair.Pair.{Pair}
 use Rattle.ordered_map.specs.OrderedMap.{MapEdit, edit_key, edited, get}
-use Rattle.ordered_map.proofs.Pending.{AllowsGiven}
+use Rattle.ordered_map.proofs.Pending.{AllowsGiven, GivenAllows, begun_edit}
 use Rattle.ordered_map.proofs.Trees.{same_tree}
 use Rattle.ordered_map.specs.Paths.{Passed, IsAnswerAt}
 use Rattle.ordered_map.specs.Laws.{AreEdits, SpellsLog}
-use Rattle.ordered_map.specs.Runs.{IsMapRun, IsTreeRun, IsTrieRun, Makes, map_of_log, IsEditAt}
+use Rattle.ordered_map.specs.Runs.{IsMapRun, IsTreeRun, IsTrieRun, Makes, map_of_log, first_pairs, IsEditAt}
 use Rattle.ordered_map.specs.Spelled.{Spells}
 use Rattle.ordered_map.specs.TrieShape.{Stays}
 use Rattle.ordered_map.specs.EditPlans.{join_plan, end_join_plan}
@@ -52,14 +52,14 @@ one_spelling lay f ps qs x y =
 
 -- what words spell after a run
 pub run_spells : (lay : Layout) (h : History) → IsMapRun lay h → (ps : List Pair) × Spells lay (value h) ps
-run_spells lay h g = (map_of_log (edits_of lay h g).edits (log lay h), spells (edits_of lay h g).edits lay h (grown lay h g))
+run_spells lay h g = (map_of_log (edits_of lay h g).edits (first_pairs h) (log lay h), spells (edits_of lay h g).edits lay h (grown lay h g))
 
--- the opening words are a run, and spell the empty map
+-- an empty map is a run, and spells no pair
 pub opening_run : (lay : Layout) → IsMap lay.mode → IsMapRun lay (Start lay.mode)
 unfolding Lawful Shaped
-opening_run lay mode = (mode, record { lawful = refl; shaped = tt })
+opening_run lay mode = (mode, record { lawful = (refl, omega arith); shaped = inl refl })
 
-opening_log : (calls : ℕ → MapEdit) (lay : Layout) → map_of_log calls (log lay (Start lay.mode)) ≡ []
+opening_log : (calls : ℕ → MapEdit) (lay : Layout) → map_of_log calls (first_pairs (Start lay.mode)) (log lay (Start lay.mode)) ≡ []
 unfolding log
 opening_log calls lay = refl
 
@@ -67,6 +67,14 @@ pub opening_spells : (lay : Layout) → IsMap lay.mode → Spells lay (value (St
 opening_spells lay mode =
     let g : IsMapRun lay (Start lay.mode) = opening_run lay mode in
     subst (Spells lay (value (Start lay.mode))) (opening_log (edits_of lay (Start lay.mode) g).edits lay) (spells (edits_of lay (Start lay.mode) g).edits lay (Start lay.mode) (grown lay (Start lay.mode) g))
+
+-- a run begins with the words of the pairs of its opening
+start_log : (calls : ℕ → MapEdit) (lay : Layout) (o : Opening) → map_of_log calls (first_pairs (Opened o)) (log lay (Opened o)) ≡ first_pairs (Opened o)
+unfolding log
+start_log calls lay o = refl
+
+pub start_spells : (lay : Layout) (o : Opening) → IsMapRun lay (Opened o) → Spells lay (value (Opened o)) (first_pairs (Opened o))
+start_spells lay o g = subst (Spells lay (value (Opened o))) (start_log (edits_of lay (Opened o) g).edits lay o) (spells (edits_of lay (Opened o) g).edits lay (Opened o) (grown lay (Opened o) g))
 
 -- What has begun
 
@@ -102,7 +110,7 @@ begun_step A lay h r s l p earlier named = go (effect lay h r l)
 
 -- an SCX-record that an info word has named has begun
 pub has_begun : (A : Layout → History → ℕ → Type 0) (lay : Layout) (h : History) (s : ℕ) → Lawful lay h → Shaped A lay h → s ≢ 0 → IsNamedScx h s → HasBegun A lay h s
-has_begun A lay (Start m) s l p d q = absurd (d (sym (held_start m (info q.0) s q.1) ∙ opening_info m q.0))
+has_begun A lay (Opened o) s l p d q = absurd (d (sym (held_start o (info q.0) s q.1) ∙ opening_info o q.0))
 has_begun A lay (r ⊳ h) s l p d q = begun_step A lay h r s l p (has_begun A lay h s (lawful_tail lay h r l) (shaped_tail A lay h r p) d) q
 
 -- Entries
@@ -114,12 +122,15 @@ entered_begun A lay h s l p x =
     let w : HasWon h s = entered_won lay h s l x in
     has_begun A lay h s l p (won_real s f w) (won_named s f w)
 
+begun_makes : (calls : ℕ → MapEdit) (lay : Layout) (h : History) (s : ℕ) → Lawful lay h → HasBegun (GivenAllows calls) lay h s → Makes lay h s (calls s)
+begun_makes calls lay h s l x = record { row = x.row; before = x.before; within = x.within; begins = x.begins; edit = begun_edit (AllowsGiven calls lay x.before s) lay x.before x.row s (lawful_since lay h (x.row ⊳ x.before) l x.within) x.begins x.allowed }
+
 pub makes_since : (lay : Layout) (h m : History) (s : ℕ) (e : MapEdit) → Extends h m → Makes lay m s e → Makes lay h s e
 makes_since lay h m s e w x = record { row = x.row; before = x.before; within = ends_trans h m (x.row ⊳ x.before) w x.within; begins = x.begins; edit = x.edit }
 
 -- an SCX-record with an entry keeps it
 entered_more : (lay : Layout) (h m : History) (s : ℕ) → Lawful lay h → Extends h m → IsEntered (log lay m) s → IsEntered (log lay h) s
-entered_more lay (Start mode) m s l e x = subst (λ k. IsEntered (log lay k) s) e x
+entered_more lay (Opened o) m s l e x = subst (λ k. IsEntered (log lay k) s) e x
 entered_more lay (r ⊳ h) m s l (inl e) x = subst (λ k. IsEntered (log lay k) s) e x
 entered_more lay (r ⊳ h) m s l (inr e) x = go (logs lay h r l) (entered_more lay h m s (lawful_tail lay h r l) e x)
   where
@@ -136,8 +147,8 @@ log_edits lay h g = (given.edits, makes)
 
     makes : AreEdits given.edits lay h
     makes s p =
-        let x = entered_begun (AllowsGiven given.edits) lay h s g.1.lawful given.shaped p in
-        record { row = x.row; before = x.before; within = x.within; begins = x.begins; edit = x.allowed }
+        let x = entered_begun (GivenAllows given.edits) lay h s g.1.lawful given.shaped p in
+        begun_makes given.edits lay h s g.1.lawful x
 
 pub run_since : (lay : Layout) (h m : History) → IsMapRun lay h → Extends h m → IsMapRun lay m
 run_since lay h m g e = (g.0, record { lawful = lawful_since lay h m g.1.lawful e; shaped = shaped_since TreeAllows lay h m g.1.shaped e })
@@ -154,17 +165,17 @@ module _ (calls : ℕ → MapEdit) (lay : Layout) (h : History) (r : Row) (u : �
   t : TreeFacts calls lay h
   t = tree_facts calls lay h grown_then
 
-  map_then : (ps : List Pair) → Spells lay (value h) ps → ps ≡ map_of_log calls (log lay h)
-  map_then ps s = one_spelling lay (value h) ps (map_of_log calls (log lay h)) s (spells calls lay h grown_then)
+  map_then : (ps : List Pair) → Spells lay (value h) ps → ps ≡ map_of_log calls (first_pairs h) (log lay h)
+  map_then ps s = one_spelling lay (value h) ps (map_of_log calls (first_pairs h) (log lay h)) s (spells calls lay h grown_then)
 
   makes : Makes lay h u (calls u)
   makes =
-      let x : HasBegun (AllowsGiven calls) lay h u = has_begun (AllowsGiven calls) lay h u grown_then.lawful grown_then.shaped (some_is_real f (update_flagged f w).some) (member h u 0, (update_flagged f w).frozen 0 (update_flagged f w).some) in
-      record { row = x.row; before = x.before; within = x.within; begins = x.begins; edit = x.allowed }
+      let x : HasBegun (GivenAllows calls) lay h u = has_begun (GivenAllows calls) lay h u grown_then.lawful grown_then.shaped (some_is_real f (update_flagged f w).some) (member h u 0, (update_flagged f w).frozen 0 (update_flagged f w).some) in
+      begun_makes calls lay h u grown_then.lawful x
 
   changing : (ps : List Pair) → Spells lay (value h) ps → Spells lay (value (r ⊳ h)) (edited (calls u) ps)
   changing ps s =
-      let d : map_of_log calls (log lay (r ⊳ h)) ≡ edited (calls u) (map_of_log calls (log lay h)) = content_now calls lay h r u f w now.mode now.lawful t in
+      let d : map_of_log calls (first_pairs (r ⊳ h)) (log lay (r ⊳ h)) ≡ edited (calls u) (map_of_log calls (first_pairs h) (log lay h)) = content_now calls lay h r u f w now.mode now.lawful t in
       subst (Spells lay (value (r ⊳ h))) (d ∙ ap (edited (calls u)) (sym (map_then ps s))) (spells calls lay (r ⊳ h) now)
 
   replying : (ps : List Pair) → Spells lay (value h) ps → get (edit_key (calls u)) ps ≡ said (value h) (edit_key (calls u)) (edit_leaf h u (calls u))
@@ -179,8 +190,8 @@ pub quiet_spells : (lay : Layout) (h : History) (r : Row) (ps : List Pair) → I
 quiet_spells lay h r ps g e s =
     let calls : ℕ → MapEdit = (edits_of lay (r ⊳ h) g).edits in
     let now : IsGrown calls lay (r ⊳ h) = grown lay (r ⊳ h) g in
-    let d : ps ≡ map_of_log calls (log lay h) = one_spelling lay (value h) ps (map_of_log calls (log lay h)) s (spells calls lay h (grown_tail calls lay h r now)) in
-    subst (Spells lay (value (r ⊳ h))) (ap (map_of_log calls) e ∙ sym d) (spells calls lay (r ⊳ h) now)
+    let d : ps ≡ map_of_log calls (first_pairs h) (log lay h) = one_spelling lay (value h) ps (map_of_log calls (first_pairs h) (log lay h)) s (spells calls lay h (grown_tail calls lay h r now)) in
+    subst (Spells lay (value (r ⊳ h))) (ap (map_of_log calls (first_pairs h)) e ∙ sym d) (spells calls lay (r ⊳ h) now)
 
 -- Walks
 
@@ -204,7 +215,7 @@ walk_answers lay h start k n small g p d =
       moment = x.moment;
       within = x.within;
       since = x.since;
-      map = map_of_log calls (log lay x.moment);
+      map = map_of_log calls (first_pairs x.moment) (log lay x.moment);
       spelled = spells calls lay x.moment (grown_since calls lay h x.moment x.within (grown lay h g));
       gives = x.gives;
     }
@@ -232,24 +243,22 @@ win_makes lay h before row s e g w won x = update_makes lay h before row s e g w
 
 -- The map of the log
 
-spells_row : (lay : Layout) (h m : History) (r : Row) (edits : ℕ → MapEdit) → IsMapRun lay h → AreEdits edits lay h → Extends h (r ⊳ m) → Spells lay (value m) (map_of_log edits (log lay m)) → Spells lay (value (r ⊳ m)) (map_of_log edits (log lay (r ⊳ m)))
+spells_row : (lay : Layout) (h m : History) (r : Row) (edits : ℕ → MapEdit) → IsMapRun lay h → AreEdits edits lay h → Extends h (r ⊳ m) → Spells lay (value m) (map_of_log edits (first_pairs m) (log lay m)) → Spells lay (value (r ⊳ m)) (map_of_log edits (first_pairs (r ⊳ m)) (log lay (r ⊳ m)))
 spells_row lay h m r edits g a e then = go (logs lay m r run.1.lawful)
   where
     run : IsMapRun lay (r ⊳ m)
     run = run_since lay h (r ⊳ m) g e
 
-    go : Logs lay m r → Spells lay (value (r ⊳ m)) (map_of_log edits (log lay (r ⊳ m)))
-    go (same q _) = subst (Spells lay (value (r ⊳ m))) (sym (ap (map_of_log edits) q)) (quiet_spells lay m r _ run q then)
+    go : Logs lay m r → Spells lay (value (r ⊳ m)) (map_of_log edits (first_pairs (r ⊳ m)) (log lay (r ⊳ m)))
+    go (same q _) = subst (Spells lay (value (r ⊳ m))) (sym (ap (map_of_log edits (first_pairs m)) q)) (quiet_spells lay m r _ run q then)
     go (wins u w q) =
         let entry : IsEntered (log lay (r ⊳ m)) u = subst (λ es. IsEntered es u) (sym q) (inl refl) in
         let made = update_makes lay h m r u (edits u) g e w (a u (entered_more lay h (r ⊳ m) u g.1.lawful e entry)) in
-        subst (Spells lay (value (r ⊳ m))) (sym (ap (map_of_log edits) q)) (made.changes _ then)
+        subst (Spells lay (value (r ⊳ m))) (sym (ap (map_of_log edits (first_pairs m)) q)) (made.changes _ then)
 
 -- after each row the words spell the map of the log so far
 pub spells_log : (lay : Layout) (h : History) (edits : ℕ → MapEdit) → IsMapRun lay h → AreEdits edits lay h → SpellsLog edits lay h
-spells_log lay h edits g a (Start mode) e =
-    let same : mode ≡ lay.mode = start_mode lay mode (run_since lay h (Start mode) g e).1.lawful in
-    subst (λ m. Spells lay (value (Start m)) (map_of_log edits (log lay (Start m)))) (sym same) (subst (Spells lay (value (Start lay.mode))) (sym (opening_log edits lay)) (opening_spells lay g.0))
+spells_log lay h edits g a (Opened o) e = subst (Spells lay (value (Opened o))) (sym (start_log edits lay o)) (start_spells lay o (run_since lay h (Opened o) g e))
 spells_log lay h edits g a (r ⊳ m) e = spells_row lay h m r edits g a e (spells_log lay h edits g a m (ends_trans h (r ⊳ m) m e (inr (ends_self m))))
 
 -- a leaf below the root is above all keys

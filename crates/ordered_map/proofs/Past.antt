@@ -2,7 +2,7 @@
 use Rattle.std.proofs.Common.{◌≡◌, ◌≢◌, ℕ, ◌<◌, ◌/◌, ◌%◌, ◌^◌, true, false, eqb, ltb, ◌⊎◌, inl, inr, ⊎_elim, refl, sym, ◌∙◌, ap, arith, subst, cond, Option}
 use native.Mathlib.Decide.{ℕ_discrete}
 use Rattle.histories.specs.Common.{Tree as TreeMode, Side, Left, Right, Settled, Child, Head, Word, Layout, Row, node, marked, child}
-use Rattle.histories.specs.Common.{History, Start, ◌⊳◌, value, Extends, field_index, member, plan, side_of, IsNamed, Lawful, log}
+use Rattle.histories.specs.Common.{History, Opened, ◌⊳◌, value, Extends, field_index, member, plan, side_of, IsNamed, Lawful, log}
 use Rattle.arena.specs.Layout.{IsMap}
 use Rattle.ordered_map.specs.TrieShape.{Stays}
 use Rattle.ordered_map.proofs.Spanned.{node_from, own_share, same_stays}
@@ -13,7 +13,7 @@ use Rattle.ordered_map.proofs.Trees.{items, ends, Same, same_rank, passes_has, p
 use Rattle.ordered_map.proofs.Holding.{SameSettled, same_items}
 use Rattle.ordered_map.proofs.Moved.{settled_rank}
 use Rattle.ordered_map.specs.Paths.{IsOnPath, Passed, WasInTree}
-use Rattle.ordered_map.specs.Runs.{map_of_log}
+use Rattle.ordered_map.specs.Runs.{map_of_log, first_pairs}
 use Rattle.ordered_map.specs.TreeWords.{Tree, Leaf, Fork, Shows, Has, Passes, is_leaf, level, rank, toward, said}
 use Rattle.ordered_map.proofs.Searches.{told, told_said, passes_root, path_child, get_left, get_leaf}
 use Rattle.ordered_map.proofs.TreeFacts.{TreeFacts, all_named, path_now}
@@ -73,7 +73,7 @@ latest_more calls lay h m r k n g named d x = record { moment = x.moment; within
     row_same _ i = absurd i
 
 pub latest : (calls : ℕ → MapEdit) (lay : Layout) (h m : History) (k n : ℕ) → IsGrown calls lay h → Extends h m → IsOnPath m k n → Stays lay (value h) k n → Latest h m k n
-latest calls lay (Start mode) m k n g e p stay = latest_now (Start mode) m k n e (rw e at p)
+latest calls lay (Opened o) m k n g e p stay = latest_now (Opened o) m k n e (rw e at p)
 latest calls lay (r ⊳ h) m k n g (inl e) p stay = latest_now (r ⊳ h) m k n (inl e) (rw e at p)
 latest calls lay (r ⊳ h) m k n g (inr e) p stay =
     go (latest calls lay h m k n (grown_tail calls lay h r g) e p (same_stays (value (r ⊳ h)) (value h) lay k n (λ a i. sym (node_stays lay h r n a g.lawful i named)) stay))
@@ -123,7 +123,7 @@ pub record Answered (calls : ℕ → MapEdit) (lay : Layout) (h start : History)
   pub moment : History
   pub within : Extends h moment
   pub since : Extends moment start
-  pub gives : get k (map_of_log calls (log lay moment)) ≡ answer
+  pub gives : get k (map_of_log calls (first_pairs moment) (log lay moment)) ≡ answer
 
 -- its settled words are those of the moment when it was passed
 passed_settled : (lay : Layout) (h start : History) (k n : ℕ) → Lawful lay h → IsMap lay.mode → (p : Passed h start k n) → SameSettled (value p.0) (value h) n
@@ -144,7 +144,7 @@ walk_ends calls lay h start k n small g p leaf =
       moment = m;
       within = p.1;
       since = p.2;
-      gives = sym (get_left k (map_of_log calls (log lay m)) ends a) ∙ ap (get k) (sym t.items) ∙ e ∙ same_told ∙ told_said (value h) k n small;
+      gives = sym (get_left k (map_of_log calls (first_pairs m) (log lay m)) ends a) ∙ ap (get k) (sym t.items) ∙ e ∙ same_told ∙ told_said (value h) k n small;
     }
 
 -- Levels rise, in the tree and in removed nodes.

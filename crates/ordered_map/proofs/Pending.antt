@@ -1,19 +1,28 @@
 -- What is kept of an SCX-record from its start to its update.
-use Rattle.std.proofs.Common.{◌≡◌, ◌≢◌, ℕ, ◌<◌, true, false, ◌⊎◌, inl, inr, ⊎_elim, refl, sym, ◌∙◌, subst}
+use Rattle.std.proofs.Common.{◌≡◌, ◌≢◌, ℕ, ◌<◌, true, false, ◌⊎◌, inl, inr, ⊎_elim, refl, sym, ◌∙◌, arith, subst}
 use native.Mathlib.Decide.{ℕ_discrete}
 use Rattle.histories.specs.Common.{Side, Left, Right, NodeWord, Settled, Child, Head, State, New, Member, Layout, Row, node, scx, info, child}
 use Rattle.histories.specs.Common.{state, History, ◌⊳◌, value, HasHeld, Extends, count, field, field_index, member, seen, new, old, side_of, plan}
-use Rattle.histories.specs.Common.{IsNamed, by_field, by_scx, IsNamedScx, IsSettled, Lawful, Descriptor, descriptor, count_in, field_index_in}
+use Rattle.histories.specs.Common.{IsNamed, by_field, by_scx, IsNamedScx, IsSettled, Lawful, IsBegin, Descriptor, descriptor, count_in, field_index_in}
 use Rattle.arena.proofs.Lemmas.{held_at, held_back, node_apart}
 use Rattle.histories.specs.Progress.{Froze}
-use Rattle.histories.proofs.Lemmas.{About, Facts, FreezeWins, Kept, UpdateWins, descriptor_same, freeze_descriptor, freeze_distinct, freeze_finds, freeze_held, freeze_in_progress, freeze_keeps_field, freeze_keeps_info, freeze_keeps_scx, freeze_stores, named_more, node_stays, stays_ended, update_descriptor, update_held, update_holds, update_in_progress, update_keeps_info, update_keeps_other, update_keeps_scx}
+use Rattle.histories.proofs.Lemmas.{About, Facts, FreezeWins, Kept, UpdateWins, begins_once, descriptor_same, freeze_descriptor, freeze_distinct, freeze_finds, freeze_held, freeze_in_progress, freeze_keeps_field, freeze_keeps_info, freeze_keeps_scx, freeze_stores, named_more, node_stays, stays_ended, update_descriptor, update_held, update_holds, update_in_progress, update_keeps_info, update_keeps_other, update_keeps_scx}
 use Rattle.ordered_map.specs.OrderedMap.{MapEdit}
+use Rattle.ordered_map.specs.Planted.{IsPlanted}
 use Rattle.ordered_map.specs.TreeShape.{MayEdit}
 use Rattle.ordered_map.specs.TreeWords.{Tree, Leaf, Fork, root, Shows, Has, is_leaf}
 
 -- each makes the edit that `calls` gives of its number
 abbrev pub AllowsGiven : (ℕ → MapEdit) → Layout → History → ℕ → Type 0
 AllowsGiven calls lay h s = MayEdit lay h s (calls s)
+
+-- and what the table begins with is planted
+abbrev pub GivenAllows : (ℕ → MapEdit) → Layout → History → ℕ → Type 0
+GivenAllows calls lay h s = AllowsGiven calls lay h s ⊎ IsPlanted lay h s
+
+-- what begins is not the dummy, so it makes an edit
+pub begun_edit : (A : Type 0) (lay : Layout) (h : History) (r : Row) (s : ℕ) → Lawful lay (r ⊳ h) → IsBegin h r s → A ⊎ IsPlanted lay h s → A
+begun_edit A lay h r s l b x = ⊎_elim (λ a. a) (λ p. absurd (let own = (begins_once lay h r s l b).own.from in let zero = p.dummy in omega (arith, own, zero))) x
 
 -- every node of the tree is named
 pub tree_named : (lay : Layout) (h : History) (t : Tree) (lo hi n : ℕ) → Shows (value h) lo hi t → IsNamed lay h (root t) → Has t n → IsNamed lay h n

@@ -1,7 +1,7 @@
 -- A node that was on a search path, and is not final, still is on it; so what was in the tree, and
 -- is not final, still is there.
 use Rattle.std.proofs.Common.{◌≡◌, ℕ, ◌<◌, true, false, Bool, ◌⊎◌, inl, inr, ⊎_elim, refl, sym, ◌∙◌, subst}
-use Rattle.histories.specs.Common.{Layout, Row, Child, History, Start, ◌⊳◌, value, Extends, plan_finalizes, member, log, is_final, Descriptor, count_in, IsRemoved, Tree as TreeMode, IsNamed}
+use Rattle.histories.specs.Common.{Layout, Row, Child, History, Opened, ◌⊳◌, value, Extends, plan_finalizes, member, log, is_final, Descriptor, count_in, IsRemoved, Tree as TreeMode, IsNamed}
 use Rattle.histories.proofs.Lemmas.{Effect, UpdateWins, by_final, descriptor_stays, effect, final_by, finalized_by_stays, freeze, freeze_keeps_field, lawful_tail, named_since, node_stays, quiet, removed_stays, some_is_real, update, update_flagged, update_won}
 use Rattle.ordered_map.specs.OrderedMap.{MapEdit}
 use Rattle.ordered_map.specs.Paths.{IsOnPath, WasInTree}
@@ -66,7 +66,7 @@ module _ (calls : ℕ → MapEdit) (lay : Layout) (h : History) (r : Row) (g : I
       go (update u w) = after_update u w k e stay q
 
 pub grown_on_path : (calls : ℕ → MapEdit) (lay : Layout) (h m : History) (k n : ℕ) → IsGrown calls lay h → Extends h m → IsOnPath m k n → Stays lay (value h) k n → is_final (log lay h) n ≡ false → IsOnPath h k n
-grown_on_path calls lay (Start mode) m k n g w p stay e = subst (λ x. IsOnPath x k n) w p
+grown_on_path calls lay (Opened o) m k n g w p stay e = subst (λ x. IsOnPath x k n) w p
 grown_on_path calls lay (r ⊳ h) m k n g (inl w) p stay e = subst (λ x. IsOnPath x k n) w p
 grown_on_path calls lay (r ⊳ h) m k n g (inr w) p stay e =
     let named : IsNamed lay h n = named_since lay h m n (lawful_tail lay h r g.lawful) w (path_named lay m k n g.mode p) in

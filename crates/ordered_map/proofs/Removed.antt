@@ -1,12 +1,12 @@
 -- A node that an entry finalizes was in the tree, and is there no more.
 use Rattle.std.proofs.Common.{◌≡◌, ◌≢◌, ℕ, ◌/◌, ◌%◌, true, false, ◌⊎◌, inl, inr, ⊎_elim, refl, sym, ◌∙◌, ap, arith, eqb, subst}
 use native.Mathlib.Decide.{ℕ_discrete}
-use Rattle.histories.specs.Common.{Mode, Side, Settled, Child, Info, Head, Plan, New, Layout, Row, Freeze, Update, opening_nodes, node, scx, info, child, History, Start, ◌⊳◌, value, HasHeld}
+use Rattle.histories.specs.Common.{Side, Settled, Child, Info, Head, Plan, New, Layout, Row, Freeze, Update, node, scx, info, child, History, Opening, Opened, ◌⊳◌, value, HasHeld}
 use Rattle.histories.specs.Common.{count, count_of, field_index, member, new, side_of, plan, IsNamed, by_field, by_scx, IsNamedScx, MayBegin, HasWon, log, has, is_final, finalized_from}
 use Rattle.arena.proofs.Lemmas.{value_apart, held_at, held_back, held_since, held_start, opening_info, node_apart, node_word_apart, or_split}
-use Rattle.histories.proofs.Lemmas.{Effect, Facts, FreezeWins, Kept, Logs, UpdateWins, effect, freeze, freeze_held, freeze_keeps_field, freeze_keeps_scx, is_removed_of, log_same, log_wins, logs, node_stays, quiet, same, shaped_begin, some_is_real, update, update_flagged, update_held, update_is_first, update_keeps_other, update_keeps_scx, update_won, wins, won_more}
+use Rattle.histories.proofs.Lemmas.{Effect, Facts, FreezeWins, Kept, Logs, UpdateWins, effect, freeze, freeze_held, freeze_keeps_field, freeze_keeps_scx, is_removed_of, log_same, log_wins, logs, map_nodes, node_stays, quiet, same, shaped_begin, some_is_real, update, update_flagged, update_held, update_is_first, update_keeps_other, update_keeps_scx, update_won, wins, won_more}
 use Rattle.ordered_map.specs.OrderedMap.{MapEdit}
-use Rattle.ordered_map.proofs.Pending.{AllowsGiven, IsMadeBy, tree_field}
+use Rattle.ordered_map.proofs.Pending.{GivenAllows, begun_edit, IsMadeBy, tree_field}
 use Rattle.ordered_map.specs.Spelled.{IsTree}
 use Rattle.ordered_map.specs.TreeShape.{MayEdit}
 use Rattle.ordered_map.specs.TreeWords.{Tree, Has, is_leaf}
@@ -98,7 +98,7 @@ module _ (calls : ℕ → MapEdit) (lay : Layout) (h : History) (r : Row) (g : I
     may_begin e = (w.freeze.may_win w.found).1 e
 
     may_edit : j ≡ 0 → MayEdit lay h u (calls u)
-    may_edit e = shaped_begin (AllowsGiven calls) lay h r u g.shaped (first_begins lay h r u j f w e)
+    may_edit e = let b = first_begins lay h r u j f w e in begun_edit (MayEdit lay h u (calls u)) lay h r u g.lawful b (shaped_begin (GivenAllows calls) lay h r u g.shaped b)
 
     -- it begins now, or was pending before
     now_or_before : (s : ℕ) → IsPending (r ⊳ h) s → ((s ≡ u) × (j ≡ 0)) ⊎ IsPending h s
@@ -133,7 +133,7 @@ module _ (calls : ℕ → MapEdit) (lay : Layout) (h : History) (r : Row) (g : I
     begins_unborn : (n : ℕ) → j ≡ 0 → (n ≡ new h u) ⊎ ¬ IsNamed lay h n → ¬ WasInTree h n
     begins_unborn n e (inr d) y = d (was_named lay h n g.mode before.lawful y)
     begins_unborn n e (inl m) y = ⊎_elim
-        (λ z. let a : new h u ≡ 0 = sym m ∙ z in let b = (may_begin e).new_own.from in let c : opening_nodes lay.mode ≡ 3 = rw g.mode refl in omega (arith, a, b, c))
+        (λ z. let a : new h u ≡ 0 = sym m ∙ z in let b = (may_begin e).new_own.from in let c = map_nodes lay g.mode in omega (arith, a, b, c))
         (λ z. (may_begin e).new_in_no_field z.0 z.1 (subst (HasHeld h (child z.0 z.1)) m z.2))
         (was_field h n y)
 
@@ -222,19 +222,19 @@ module _ (calls : ℕ → MapEdit) (lay : Layout) (h : History) (r : Row) (g : I
   step_facts (freeze u j w) = freeze_facts u j w
   step_facts (update u w) = update_facts u w
 
-no_final : (lay : Layout) (mode : Mode) (n : ℕ) → is_final (log lay (Start mode)) n ≡ false
+no_final : (lay : Layout) (o : Opening) (n : ℕ) → is_final (log lay (Opened o)) n ≡ false
 unfolding log
-no_final lay mode n = refl
+no_final lay o n = refl
 
 pub node_facts : (calls : ℕ → MapEdit) (lay : Layout) (h : History) → IsGrown calls lay h → NodeFacts lay h
-node_facts calls lay (Start mode) g = record {
+node_facts calls lay (Opened o) g = record {
   unborn = λ s n p m. absurd (none s p);
-  once = λ s u n p q d m o. absurd (none s p);
-  gone = λ n e. absurd (let z : true ≡ false = sym e ∙ no_final lay mode n in cc);
+  once = λ s u n p q d m made. absurd (none s p);
+  gone = λ n e. absurd (let z : true ≡ false = sym e ∙ no_final lay o n in cc);
 }
   where
-    none : (s : ℕ) → IsPending (Start mode) s → ⊥
-    none s p = p.real (sym (held_start mode (info p.named.0) s p.named.1) ∙ opening_info mode p.named.0)
+    none : (s : ℕ) → IsPending (Opened o) s → ⊥
+    none s p = p.real (sym (held_start o (info p.named.0) s p.named.1) ∙ opening_info o p.named.0)
 node_facts calls lay (r ⊳ h) g = step_facts calls lay h r g (node_facts calls lay h (grown_tail calls lay h r g)) (effect lay h r g.lawful)
 
 -- a node of the tree is not final

@@ -1,20 +1,19 @@
 -- Levels rise from each fork that a field has ever named, where machines fill nodes in order: such
 -- a node has been in the tree, or is a leaf.
-use Rattle.std.proofs.Common.{◌≡◌, ℕ, zero, suc, ◌<◌, ◌/◌, ◌%◌, ◌⊎◌, inl, inr, ⊎_elim, Bool, true, false, cond, eqb, refl, sym, ◌∙◌, ap, subst, arith}
+use Rattle.std.proofs.Common.{◌≡◌, ℕ, ◌<◌, ◌/◌, ◌%◌, ◌⊎◌, inl, inr, ⊎_elim, Bool, true, false, eqb, refl, sym, ◌∙◌, ap, subst, arith}
 use native.Mathlib.Decide.{ℕ_discrete}
-use Rattle.histories.specs.Common.{Mode, Tree as TreeMode, Layout, Fill, Row, Side, Left, Right, NodeWord, Settled, Child, Info, Marked, Head, AllFrozen, node, scx, info}
-use Rattle.histories.specs.Common.{marked, child, state, same_word, History, Start, ◌⊳◌, value, Extends, HasHeld, log, is_final, Lawful, member, new, field, plan, side_of}
-use Rattle.arena.specs.Layout.{tree_opening, IsMap}
-use Rattle.arena.proofs.Lemmas.{map_opens, held_at, held_split, held_start, node_apart, node_word_apart, value_apart, value_at, value_other, value_quiet, word_same}
-use Rattle.histories.proofs.Lemmas.{Change, UpdateWins, aborts, change, commits, fills_node, fills_scx, freezes, lawful_row, lawful_tail, marks, nothing, sets_frozen, shaped_tail, updates}
+use Rattle.histories.specs.Common.{Layout, nodes_at_start, Fill, Row, Side, Left, Right, NodeWord, Settled, Child, Info, Marked, Head, AllFrozen, node, scx, info}
+use Rattle.histories.specs.Common.{marked, child, state, same_word, History, Opening, Opened, ◌⊳◌, value, Extends, HasHeld, log, is_final, Lawful, member, new, field, plan, side_of}
+use Rattle.arena.proofs.Lemmas.{held_at, held_split, held_start, node_apart, node_word_apart, value_apart, value_at, value_other, value_quiet, word_same}
+use Rattle.histories.proofs.Lemmas.{Change, UpdateWins, aborts, change, commits, fills_node, fills_scx, freezes, lawful_row, lawful_tail, marks, nothing, sets_frozen, shaped_tail, start_mode, updates, value_start}
 use Rattle.ordered_map.specs.TreeShape.{TreeAllows}
-use Rattle.ordered_map.specs.TreeWords.{Tree, Leaf, Fork, root, Has, is_leaf}
+use Rattle.ordered_map.specs.TreeWords.{is_leaf}
 use Rattle.ordered_map.specs.Paths.{WasInTree}
 use Rattle.ordered_map.specs.Runs.{IsMapRun}
-use Rattle.ordered_map.specs.Spelled.{Spells}
+use Rattle.ordered_map.specs.Planted.{IsPlanted}
 use Rattle.ordered_map.specs.FillOrder.{HasStoodInField, HasRisingLevels, AreFilledInOrder}
-use Rattle.ordered_map.proofs.Meanings.{run_since, run_spells}
-use Rattle.ordered_map.proofs.Grown.{start_is, start_same}
+use Rattle.ordered_map.proofs.Meanings.{edits_of, grown, run_since}
+use Rattle.ordered_map.proofs.Grown.{planted}
 use Rattle.ordered_map.proofs.Stood.{was_more, was_now}
 use Rattle.ordered_map.proofs.MapRuns.{child_stood, levels_rise, new_stood}
 
@@ -74,36 +73,12 @@ field_came lay h r m side n l q = test (same_word r.word (child m side)) refl
 abbrev StoodOrLeaf : History → ℕ → Type 0
 StoodOrLeaf h n = WasInTree h n ⊎ (is_leaf (value h) n ≡ true)
 
-small_if : (b : Bool) (k : ℕ) → k < 3 → cond b k 0 < 3
-small_if true k i = i
-small_if false k i = omega arith
-
--- the fields of the opening tree name opening nodes
-field_small : (n : ℕ) (side : Side) → tree_opening (child n side) < 3
-field_small n Left = small_if (eqb n 0) 1 (omega arith)
-field_small n Right = small_if (eqb n 0) 2 (omega arith)
-
-root_stood : (lay : Layout) (h : History) → IsMapRun lay h → WasInTree h 0
-root_stood lay h g = was_now h spelled.tree 0 spelled.is_tree (subst (λ k. Has spelled.tree k) spelled.is_tree.is (root_has spelled.tree))
+-- all nodes that are there from the start are in the tree then
+opening_stood : (lay : Layout) (o : Opening) (n : ℕ) → IsMapRun lay (Opened o) → n < nodes_at_start o.mode o.planted → StoodOrLeaf (Opened o) n
+opening_stood lay o n g i = inl (was_now (Opened o) x.tree n x.is_tree (x.whole n (subst (λ mode. n < nodes_at_start mode o.planted) (start_mode lay o g.1.lawful) i)))
   where
-    spelled : Spells lay (value h) (run_spells lay h g).0
-    spelled = (run_spells lay h g).1
-
-    root_has : (t : Tree) → Has t (root t)
-    root_has (Leaf n) = refl
-    root_has (Fork n a b) = inl refl
-
--- both others are leaves
-opening_leaf : (n : ℕ) → 0 < n → n < 3 → is_leaf (value (Start TreeMode)) n ≡ true
-unfolding value
-opening_leaf zero i j = absurd (omega (i, arith))
-opening_leaf (suc zero) i j = refl
-opening_leaf (suc (suc zero)) i j = refl
-opening_leaf (suc (suc (suc n))) i j = absurd (omega (j, arith))
-
-opening_stood : (lay : Layout) (mode : Mode) (n : ℕ) → IsMap mode → IsMapRun lay (Start mode) → n < 3 → StoodOrLeaf (Start mode) n
-opening_stood lay mode zero is g i = inl (root_stood lay (Start mode) g)
-opening_stood lay mode (suc n) is g i = inr (subst (λ f. is_leaf f (suc n) ≡ true) (start_same mode is) (opening_leaf (suc n) (omega arith) i))
+    x : IsPlanted lay (Opened o) 0
+    x = planted (edits_of lay (Opened o) g).edits lay o (grown lay (Opened o) g)
 
 -- a row that leaves its head leaves it so
 stood_more : (h : History) (r : Row) (n : ℕ) → value (r ⊳ h) (node n (Settled Head)) ≡ value h (node n (Settled Head)) → StoodOrLeaf h n → StoodOrLeaf (r ⊳ h) n
@@ -133,13 +108,13 @@ row_stood lay h r n g order before x = ⊎_elim (λ i. old (inl i)) (λ y. held 
     held m side (inr y) = old (inr (m, side, y))
 
 stood : (lay : Layout) (h : History) (n : ℕ) → IsMapRun lay h → AreFilledInOrder h → HasStoodInField h n → StoodOrLeaf h n
-stood lay (Start mode) n g order x = opening_stood lay mode n is g (⊎_elim (λ i. i) small x)
+stood lay (Opened o) n g order x = opening_stood lay o n g (⊎_elim early small x)
   where
-    is : IsMap mode
-    is = start_is lay mode g.1.lawful g.0
+    early : n < 3 → n < nodes_at_start o.mode o.planted
+    early i = subst (λ mode. n < nodes_at_start mode o.planted) (sym (start_mode lay o g.1.lawful)) (rw g.0 (omega (arith, i)))
 
-    small : ((m : ℕ) × (from : Side) × HasHeld (Start mode) (child m from) n) → n < 3
-    small y = subst (λ k. k < 3) (sym (ap (λ f. f (child y.0 y.1)) (map_opens mode is)) ∙ held_start mode (child y.0 y.1) n y.2) (field_small y.0 y.1)
+    small : ((m : ℕ) × (from : Side) × HasHeld (Opened o) (child m from) n) → n < nodes_at_start o.mode o.planted
+    small y = subst (λ k. k < nodes_at_start o.mode o.planted) (held_start o (child y.0 y.1) n y.2) (subst (λ k. k < nodes_at_start o.mode o.planted) (sym (value_start o (child y.0 y.1))) (o.fields y.0 y.1))
 stood lay (r ⊳ h) n g order x = row_stood lay h r n g order (stood lay h n (g.0, record { lawful = lawful_tail lay h r g.1.lawful; shaped = shaped_tail TreeAllows lay h r g.1.shaped }) order.0) x
 
 -- Where the steps are a run of a map whose nodes were filled in order, levels rise from each
@@ -149,7 +124,7 @@ rising_levels lay h g order n side named fork = ⊎_elim (λ x. levels_rise lay 
 
 -- nodes were filled in order up to each moment before
 filled_since : (h m : History) → Extends h m → AreFilledInOrder h → AreFilledInOrder m
-filled_since (Start mode) m e x = subst AreFilledInOrder (sym e) x
+filled_since (Opened o) m e x = subst AreFilledInOrder (sym e) x
 filled_since (r ⊳ h) m (inl e) x = subst AreFilledInOrder (sym e) x
 filled_since (r ⊳ h) m (inr e) x = filled_since h m e x.0
 

@@ -1,15 +1,16 @@
 -- Runs under the shape of the tree: each SCX-record that begins does so once, so that an edit can
 -- be named for each; where more than one would do, any.
-use Rattle.std.proofs.Common.{◌≡◌, ℕ, true, false, cond, eqb, eq-eqb, ne_eqb, inl, inr, refl, sym, ◌∙◌, ap, arith, subst}
+use Rattle.std.proofs.Common.{◌≡◌, ℕ, true, false, cond, eqb, eq-eqb, ne_eqb, ⊎_elim, inl, inr, refl, sym, ◌∙◌, ap, arith, subst}
 use native.Mathlib.Decide.{ℕ_discrete}
-use Rattle.histories.specs.Common.{Mode, Layout, Row, Freeze, Update, info, History, Start, ◌⊳◌, HasHeld, Extends, member, IsNamedScx, Lawful, IsBegin, Shaped}
+use Rattle.histories.specs.Common.{Layout, Row, Freeze, Update, info, History, Opening, Opened, opening_of, ◌⊳◌, HasHeld, Extends, member, IsNamedScx, Lawful, IsBegin, Shaped}
 use Rattle.arena.proofs.Lemmas.{value_at, held_at, held_since}
 use Rattle.histories.proofs.Lemmas.{Effect, begins_once, effect, facts_before, freeze, lawful_row, lawful_tail, quiet, shaped_begin, shaped_tail, update}
 use Rattle.ordered_map.specs.OrderedMap.{MapEdit, Delete}
-use Rattle.ordered_map.proofs.Pending.{AllowsGiven}
+use Rattle.ordered_map.proofs.Pending.{AllowsGiven, GivenAllows, begun_edit}
 use Rattle.ordered_map.specs.Runs.{Makes}
-use Rattle.ordered_map.specs.TreeShape.{MayEdit, TreeAllows}
-use Rattle.ordered_map.proofs.Grown.{first_begins}
+use Rattle.ordered_map.specs.Planted.{IsPlanted}
+use Rattle.ordered_map.specs.TreeShape.{MakesEdit, MayEdit, TreeAllows}
+use Rattle.ordered_map.proofs.Grown.{first_begins, none_edited}
 
 -- One begin
 
@@ -21,7 +22,7 @@ pub begun_named : (h m : History) (r : Row) (s : ℕ) → Extends h (r ⊳ m) �
 begun_named h m r s e b = (member m s 0, held_since h (r ⊳ m) (info (member m s 0)) s e (begin_names m r s b))
 
 tail_of : History → History
-tail_of (Start mode) = Start mode
+tail_of (Opened o) = Opened o
 tail_of (r ⊳ h) = h
 
 newer : (lay : Layout) (h : History) (z : Row) (m : History) (r : Row) (s : ℕ) → Lawful lay (z ⊳ h) → r ⊳ m ≡ z ⊳ h → IsBegin m r s → ¬ IsNamedScx h s
@@ -33,7 +34,7 @@ newer lay h z m r s l e b p =
 
 -- it begins once
 pub begins_at_one : (lay : Layout) (h m k : History) (r t : Row) (s : ℕ) → Lawful lay h → Extends h (r ⊳ m) → Extends h (t ⊳ k) → IsBegin m r s → IsBegin k t s → r ⊳ m ≡ t ⊳ k
-begins_at_one lay (Start mode) m k r t s l p q b d = absurd (let x : r ⊳ m ≡ Start mode = p in cc)
+begins_at_one lay (Opened o) m k r t s l p q b d = absurd (let x : r ⊳ m ≡ Opened o = p in cc)
 begins_at_one lay (z ⊳ h) m k r t s l (inl p) (inl q) b d = p ∙ sym q
 begins_at_one lay (z ⊳ h) m k r t s l (inl p) (inr q) b d = absurd (newer lay h z m r s l p b (begun_named h k t s q d))
 begins_at_one lay (z ⊳ h) m k r t s l (inr p) (inl q) b d = absurd (newer lay h z k t s l q d (begun_named h m r s p b))
@@ -48,19 +49,23 @@ makes_at lay h m r s e l w b x =
 
 -- The edits of a run
 
--- a history that keeps to one shape keeps to another that allows what began in it
-pub shaped_change : (A B : Layout → History → ℕ → Type 0) (lay : Layout) (h : History) → Shaped A lay h → ((m : History) (r : Row) (s : ℕ) → Extends h (r ⊳ m) → IsBegin m r s → A lay m s → B lay m s) → Shaped B lay h
+-- a history that keeps to one shape keeps to another that allows what began in it, and its opening
+pub shaped_change : (A B : Layout → History → ℕ → Type 0) (lay : Layout) (h : History) → Shaped A lay h → (A lay (Opened (opening_of h)) 0 → B lay (Opened (opening_of h)) 0) → ((m : History) (r : Row) (s : ℕ) → Extends h (r ⊳ m) → IsBegin m r s → A lay m s → B lay m s) → Shaped B lay h
 unfolding Shaped
-shaped_change A B lay (Start mode) p f = tt
-shaped_change A B lay (r ⊳ h) p f = (shaped_change A B lay h p.0 (λ m t s e b x. f m t s (inr e) b x), λ s b. f h r s (inl refl) b (p.1 s b))
+shaped_change A B lay (Opened o) p first f = ⊎_elim inl (λ a. inr (first a)) p
+shaped_change A B lay (r ⊳ h) p first f = (shaped_change A B lay h p.0 first (λ m t s e b x. f m t s (inr e) b x), λ s b. f h r s (inl refl) b (p.1 s b))
 
 shaped_both : (A : Layout → History → ℕ → Type 0) (lay : Layout) (h : History) (r : Row) → Shaped A lay h → ((s : ℕ) → IsBegin h r s → A lay h s) → Shaped A lay (r ⊳ h)
 unfolding Shaped
 shaped_both A lay h r p b = (p, b)
 
-shaped_start : (A : Layout → History → ℕ → Type 0) (lay : Layout) (m : Mode) → Shaped A lay (Start m)
+-- no edit is made of the dummy as a table begins
+only_planted : (edits : ℕ → MapEdit) (lay : Layout) (o : Opening) → GivenAllows edits lay (Opened o) 0 → IsPlanted lay (Opened o) 0
+only_planted edits lay o x = ⊎_elim (λ e. absurd (none_edited lay o (edits 0) e)) (λ p. p) x
+
+edits_start : (edits : ℕ → MapEdit) (lay : Layout) (o : Opening) → Shaped TreeAllows lay (Opened o) → Shaped (GivenAllows edits) lay (Opened o)
 unfolding Shaped
-shaped_start A lay m = tt
+edits_start edits lay o p = ⊎_elim inl (λ x. ⊎_elim (λ e. absurd (none_edited lay o e.0 e.1)) (λ y. inr (inr y)) x) p
 
 -- the edits, where that of u is e
 abbrev pub with_edit : ℕ → MapEdit → (ℕ → MapEdit) → ℕ → MapEdit
@@ -69,20 +74,20 @@ with_edit u e edits s = cond (eqb s u) e (edits s)
 -- the edits that the SCX-records of a run make, by their numbers
 pub record HasEdits (lay : Layout) (h : History) : Type 0 where
   pub edits : ℕ → MapEdit
-  pub shaped : Shaped (AllowsGiven edits) lay h
+  pub shaped : Shaped (GivenAllows edits) lay h
 
 -- one row more
 edits_more : (lay : Layout) (h : History) (r : Row) → Lawful lay (r ⊳ h) → Shaped TreeAllows lay (r ⊳ h) → HasEdits lay h → HasEdits lay (r ⊳ h)
 edits_more lay h r l p x = go (effect lay h r l)
   where
     not_begun : ((s : ℕ) → ¬ IsBegin h r s) → HasEdits lay (r ⊳ h)
-    not_begun none = record { edits = x.edits; shaped = shaped_both (AllowsGiven x.edits) lay h r x.shaped (λ s b. absurd (none s b)) }
+    not_begun none = record { edits = x.edits; shaped = shaped_both (GivenAllows x.edits) lay h r x.shaped (λ s b. absurd (none s b)) }
 
     now : (u : ℕ) → IsBegin h r u → HasEdits lay (r ⊳ h)
-    now u b = record { edits = with_edit u made.0 x.edits; shaped = shaped_both (AllowsGiven (with_edit u made.0 x.edits)) lay h r old at }
+    now u b = record { edits = with_edit u made.0 x.edits; shaped = shaped_both (GivenAllows (with_edit u made.0 x.edits)) lay h r old (λ s c. inl (at s c)) }
       where
-        made : TreeAllows lay h u
-        made = shaped_begin TreeAllows lay h r u p b
+        made : MakesEdit lay h u
+        made = begun_edit (MakesEdit lay h u) lay h r u l b (shaped_begin TreeAllows lay h r u p b)
 
         free : ¬ IsNamedScx h u
         free = (begins_once lay h r u l b).never
@@ -92,8 +97,8 @@ edits_more lay h r l p x = go (effect lay h r l)
             let d : eqb s u ≡ false = ne_eqb s u (λ q. free (rw q at (begun_named h m t s w c))) in
             subst (MayEdit lay m s) (sym (rw d refl)) y
 
-        old : Shaped (AllowsGiven (with_edit u made.0 x.edits)) lay h
-        old = shaped_change (AllowsGiven x.edits) (AllowsGiven (with_edit u made.0 x.edits)) lay h x.shaped keep
+        old : Shaped (GivenAllows (with_edit u made.0 x.edits)) lay h
+        old = shaped_change (GivenAllows x.edits) (GivenAllows (with_edit u made.0 x.edits)) lay h x.shaped (λ y. inr (only_planted x.edits lay (opening_of h) y)) (λ m t s w c y. ⊎_elim (λ e. inl (keep m t s w c e)) inr y)
 
         at : (s : ℕ) → IsBegin h r s → AllowsGiven (with_edit u made.0 x.edits) lay h s
         at s c =
@@ -111,12 +116,12 @@ edits_more lay h r l p x = go (effect lay h r l)
         at_place (no q) = not_begun (λ u b. let e : u ≡ s = sym b.stored ∙ w.stored in (begins_once lay h r u l b).never (rw e (member h s 0, w.freeze.earlier 0 (omega arith))))
 
 pub has_edits : (lay : Layout) (h : History) → Lawful lay h → Shaped TreeAllows lay h → HasEdits lay h
-has_edits lay (Start m) l p = record { edits = λ s. Delete 0; shaped = shaped_start (AllowsGiven (λ s. Delete 0)) lay m }
+has_edits lay (Opened o) l p = record { edits = λ s. Delete 0; shaped = edits_start (λ s. Delete 0) lay o p }
 has_edits lay (r ⊳ h) l p = edits_more lay h r l p (has_edits lay h (lawful_tail lay h r l) (shaped_tail TreeAllows lay h r p))
 
 -- any edit that an SCX-record makes may be the one that it is said to make
-pub edit_told : (lay : Layout) (h : History) (u : ℕ) (e : MapEdit) (edits : ℕ → MapEdit) → Lawful lay h → Makes lay h u e → Shaped (AllowsGiven edits) lay h → Shaped (AllowsGiven (with_edit u e edits)) lay h
-edit_told lay h u e edits l x p = shaped_change (AllowsGiven edits) (AllowsGiven (with_edit u e edits)) lay h p told
+pub edit_told : (lay : Layout) (h : History) (u : ℕ) (e : MapEdit) (edits : ℕ → MapEdit) → Lawful lay h → Makes lay h u e → Shaped (GivenAllows edits) lay h → Shaped (GivenAllows (with_edit u e edits)) lay h
+edit_told lay h u e edits l x p = shaped_change (GivenAllows edits) (GivenAllows (with_edit u e edits)) lay h p (λ y. inr (only_planted edits lay (opening_of h) y)) (λ m r s w b y. ⊎_elim (λ z. inl (told m r s w b z)) inr y)
   where
     told : (m : History) (r : Row) (s : ℕ) → Extends h (r ⊳ m) → IsBegin m r s → AllowsGiven edits lay m s → AllowsGiven (with_edit u e edits) lay m s
     told m r s w b y = at_number (ℕ_discrete s u)

@@ -1,17 +1,18 @@
 -- Which nodes ever were in the tree: each was there at the start, or an update has put it there.
-use Rattle.std.proofs.Common.{◌≡◌, ℕ, ◌<◌, ◌⊎◌, inl, inr, ⊎_elim, sym, ◌∙◌, arith, subst}
-use Rattle.histories.specs.Common.{Mode, Side, Settled, Child, Layout, Row, child, History, Start, ◌⊳◌, value, Extends, IsNamed, Lawful}
+use Rattle.std.proofs.Common.{◌≡◌, ℕ, ◌⊎◌, inl, inr, ⊎_elim, sym, ◌∙◌, subst}
+use Rattle.histories.specs.Common.{Side, Settled, Child, Layout, Row, child, History, Opening, Opened, ◌⊳◌, value, Extends, IsNamed, Lawful}
 use Rattle.arena.specs.Layout.{IsMap}
 use Rattle.arena.proofs.Lemmas.{ends_self}
 use Rattle.histories.proofs.Lemmas.{Effect, Facts, UpdateWins, effect, facts_before, freeze, freeze_keeps_field, named_since, node_stays, quiet, update}
 use Rattle.ordered_map.specs.OrderedMap.{MapEdit}
 use Rattle.ordered_map.specs.Paths.{IsOnPath, Passed, StoodSince, WasInTree}
 use Rattle.ordered_map.specs.Spelled.{IsTree}
-use Rattle.ordered_map.specs.TreeWords.{Tree, Leaf, Fork, Has, Passes}
+use Rattle.ordered_map.specs.Planted.{IsPlanted}
+use Rattle.ordered_map.specs.TreeWords.{Tree, Has, Passes}
 use Rattle.ordered_map.proofs.Trees.{Same, frame, frame_path, same_tree, passes_has}
 use Rattle.ordered_map.proofs.TreeFacts.{TreeFacts, all_named}
 use Rattle.ordered_map.proofs.Edited.{Born, result, tree_now}
-use Rattle.ordered_map.proofs.Grown.{IsGrown, opening_tree, start_is, tree_facts, grown_tail}
+use Rattle.ordered_map.proofs.Grown.{IsGrown, planted, tree_facts, grown_tail}
 
 pub one_tree : (h : History) (t u : Tree) → IsTree (value h) t → IsTree (value h) u → t ≡ u
 one_tree h t u a b = same_tree (value h) t u _ _ _ _ a.shows b.shows (a.is ∙ sym b.is)
@@ -99,16 +100,11 @@ module _ (calls : ℕ → MapEdit) (lay : Layout) (h : History) (r : Row) (g : I
 -- What is true of the opening nodes and of each node as it is put into the tree, and stays so, is
 -- true of each node that ever was there.
 module _ (calls : ℕ → MapEdit) (lay : Layout) (P : History → ℕ → Type 0)
-    (opens : (mode : Mode) (n : ℕ) → IsMap mode → n < 3 → P (Start mode) n)
+    (opens : (o : Opening) (x : IsPlanted lay (Opened o) 0) (n : ℕ) → Has x.tree n → P (Opened o) n)
     (stays : (h : History) (r : Row) (n : ℕ) → IsGrown calls lay (r ⊳ h) → IsNamed lay h n → P h n → P (r ⊳ h) n)
     (begins : (h : History) (r : Row) (u : ℕ) (g : IsGrown calls lay (r ⊳ h)) (w : UpdateWins h r u) → ((n : ℕ) → Has (tree_then calls lay h r g).tree n → P h n) → (n : ℕ) → PutThere calls lay h r g u w n → P (r ⊳ h) n) where
-  at_start : (mode : Mode) → IsMap mode → (n : ℕ) → WasInTree (Start mode) n → P (Start mode) n
-  at_start mode is n x = opens mode n is (go n (subst (λ u. Has u n) (one_tree (Start mode) x.tree (Fork 0 (Leaf 1) (Leaf 2)) (subst (λ m. IsTree (value m) x.tree) x.within x.is_tree) (opening_tree mode is)) x.has))
-    where
-      go : (n : ℕ) → Has (Fork 0 (Leaf 1) (Leaf 2)) n → n < 3
-      go n (inl e) = omega (arith, e)
-      go n (inr (inl e)) = omega (arith, e)
-      go n (inr (inr e)) = omega (arith, e)
+  at_start : (o : Opening) → IsPlanted lay (Opened o) 0 → (n : ℕ) → WasInTree (Opened o) n → P (Opened o) n
+  at_start o x n was = opens o x n (subst (λ u. Has u n) (one_tree (Opened o) was.tree x.tree (subst (λ m. IsTree (value m) was.tree) was.within was.is_tree) x.is_tree) was.has)
 
   step : (h : History) (r : Row) → IsGrown calls lay (r ⊳ h) → ((n : ℕ) → WasInTree h n → P h n) → (n : ℕ) → WasInTree (r ⊳ h) n → P (r ⊳ h) n
   step h r g before n x = ⊎_elim old (λ y. ⊎_elim (λ q. old (was_now h then.tree n then.is_tree q)) (λ b. begins h r b.0 g b.1 (λ m q. before m (was_now h then.tree m then.is_tree q)) n b.2) (came calls lay h r g y.0 n y.1 y.2)) (was_split h r n x)
@@ -120,5 +116,5 @@ module _ (calls : ℕ → MapEdit) (lay : Layout) (P : History → ℕ → Type 
       old y = stays h r n g (was_named lay h n g.mode (grown_tail calls lay h r g).lawful y) (before n y)
 
   pub of_all_stood : (h : History) → IsGrown calls lay h → (n : ℕ) → WasInTree h n → P h n
-  of_all_stood (Start mode) g = at_start mode (start_is lay mode g.lawful g.mode)
+  of_all_stood (Opened o) g = at_start o (planted calls lay o g)
   of_all_stood (r ⊳ h) g = step h r g (of_all_stood h (grown_tail calls lay h r g))

@@ -11,7 +11,7 @@ use Rattle.ordered_map.specs.OrderedMap.{AllAbove, AllBelow, AllFrom, MapEdit, g
 use Rattle.ordered_map.specs.Holding.{held_pairs}
 use Rattle.ordered_map.specs.Bits.{side_from, side_to, Shares, Keeps}
 use Rattle.ordered_map.specs.Paths.{Passed, StoodSince, WasInTree, HasHadChild, IsAnswerAt}
-use Rattle.ordered_map.specs.Runs.{IsMapRun, map_of_log}
+use Rattle.ordered_map.specs.Runs.{IsMapRun, map_of_log, first_pairs}
 use Rattle.ordered_map.specs.Strays.{IsApart, HasStrayed, HasWalked, IsGuardedOn, IsUnguarded}
 use Rattle.ordered_map.specs.TrieShape.{Stays}
 use Rattle.ordered_map.specs.TreeWords.{Tree, Leaf, Fork, root, Shows, class, is_leaf, rank, toward, said}
@@ -124,7 +124,7 @@ apart_below lay h k n side m trie g fork x apart =
 pub walk_strays : (lay : Layout) (h start : History) (k n : ℕ) → k < 2 ^ 64 → IsMapRun lay h → lay.mode ≡ TrieMode → Passed h start k n → is_leaf (value h) n ≡ false → class (value h) n ≡ 0 → ¬ Shares (value h) n k → HasStrayed lay h start k n
 walk_strays lay h start k n small g trie p fork low out = record {
   trie = trie;
-  absent = record { moment = m; within = p.1; since = p.2; map = map_of_log calls (log lay m); spelled = spells calls lay m now; gives = gives };
+  absent = record { moment = m; within = p.1; since = p.2; map = map_of_log calls (first_pairs m) (log lay m); spelled = spells calls lay m now; gives = gives };
   stood = passed_since h start k n p;
   guarded = λ guard done. inl p;
   apart = record { fork = λ _. (low, out); leaf = λ d. absurd (let x : true ≡ false = sym d ∙ fork in cc) };
@@ -157,8 +157,8 @@ walk_strays lay h start k n small g trie p fork low out = record {
     above : AllAbove k ends
     above = (omega (arith, small), (omega (arith, small), tt))
 
-    gives : get k (map_of_log calls (log lay m)) ≡ None
-    gives = sym (get_left k (map_of_log calls (log lay m)) ends above) ∙ ap (get k) (sym t.items) ∙ none
+    gives : get k (map_of_log calls (first_pairs m) (log lay m)) ≡ None
+    gives = sym (get_left k (map_of_log calls (first_pairs m) (log lay m)) ends above) ∙ ap (get k) (sym t.items) ∙ none
 
 -- at each fork of its path a walk goes on there, or strays
 pub stays_or_strays : (lay : Layout) (h start : History) (k n : ℕ) → k < 2 ^ 64 → IsMapRun lay h → Passed h start k n → is_leaf (value h) n ≡ false → Stays lay (value h) k n ⊎ HasStrayed lay h start k n

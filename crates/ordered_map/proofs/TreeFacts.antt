@@ -2,12 +2,12 @@
 use Rattle.std.proofs.Common.{◌≡◌, ◌≢◌, ℕ, ◌<◌, false, ◌⊎◌, inl, inr, ⊎_elim, ◌++◌, refl, sym, ◌∙◌, ap, arith, subst}
 use native.Mathlib.Decide.{ℕ_discrete}
 use Rattle.arena.specs.declared.limits.Mode.TheVariants.{Trie as TrieMode}
-use Rattle.histories.specs.Common.{Side, NodeWord, Settled, Child, Info, Marked, Head, New, Member, Layout, Row, Freeze, Update, opening_nodes}
-use Rattle.histories.specs.Common.{same_node_word, node, scx, info, marked, child, History, Start, ◌⊳◌, value, HasHeld, Extends, count, member, seen}
+use Rattle.histories.specs.Common.{Side, NodeWord, SettledPart, Settled, Child, Info, Marked, Head, Key, First, New, Member, Layout, Row, Freeze, Update}
+use Rattle.histories.specs.Common.{same_node_word, node, scx, info, marked, child, first_key, History, ◌⊳◌, value, HasHeld, Extends, count, member, seen}
 use Rattle.histories.specs.Common.{new, IsNamed, opening_node, by_field, by_scx, IsNamedScx, MayBegin, IsSettled, HasWon, Lawful, log, descriptor}
-use Rattle.arena.specs.Layout.{tree_opening, IsMap}
-use Rattle.arena.proofs.Lemmas.{map_opens, value_apart, held_at, held_more, held_back, node_word_apart, ends_self}
-use Rattle.histories.proofs.Lemmas.{Facts, FreezeWins, Kept, Logs, first_frozen, freeze_descriptor, freeze_distinct, freeze_finds, freeze_held, freeze_is_new, freeze_keeps_field, freeze_keeps_info, freeze_keeps_mark, freeze_keeps_scx, freeze_real, freeze_stores, lawful_tail, log_same, logs, named_since, node_since, node_stays, same, start_mode, update_is_first, update_won, wins, won_more}
+use Rattle.arena.specs.Layout.{IsMap}
+use Rattle.arena.proofs.Lemmas.{value_apart, held_at, held_more, held_back, node_word_apart, ends_self}
+use Rattle.histories.proofs.Lemmas.{Facts, FreezeWins, Kept, Logs, first_frozen, freeze_descriptor, freeze_distinct, freeze_finds, freeze_held, freeze_is_new, freeze_keeps_field, freeze_keeps_info, freeze_keeps_mark, freeze_keeps_scx, freeze_real, freeze_stores, lawful_tail, log_same, logs, map_nodes, named_since, node_stays, same, update_is_first, update_won, wins, won_more}
 use Rattle.ordered_map.specs.OrderedMap.{MapEdit}
 use Rattle.ordered_map.proofs.Pending.{AllowsGiven, tree_named, tree_field, Mine, Pending, Holds, pending_kept, pending_freeze}
 use Rattle.ordered_map.proofs.Trees.{items, ends, EndsLow, Same, frame, frame_items, frame_low, frame_path, passes_has, path_level, same_tree, settled_same}
@@ -15,7 +15,7 @@ use Rattle.ordered_map.proofs.Spanned.{same_fork, same_keeps, same_stays}
 use Rattle.ordered_map.specs.Bits.{Keeps, IsTrieFork}
 use Rattle.ordered_map.specs.TrieShape.{Stays}
 use Rattle.ordered_map.specs.Paths.{IsOnPath}
-use Rattle.ordered_map.specs.Runs.{map_of_log}
+use Rattle.ordered_map.specs.Runs.{map_of_log, first_pairs}
 use Rattle.ordered_map.specs.Spelled.{IsTree}
 use Rattle.ordered_map.specs.TreeWords.{Tree, root, Has, Passes, is_leaf}
 
@@ -23,13 +23,17 @@ use Rattle.ordered_map.specs.TreeWords.{Tree, root, Has, Passes, is_leaf}
 pub record TreeFacts (calls : ℕ → MapEdit) (lay : Layout) (h : History) : Type 0 where
   pub tree : Tree
   pub is_tree : IsTree (value h) tree
-  pub items : items (value h) tree ≡ map_of_log calls (log lay h) ++ ends
+  pub items : items (value h) tree ≡ map_of_log calls (first_pairs h) (log lay h) ++ ends
   pub ends_low : EndsLow (value h) tree
   pub pending : (s n : ℕ) → s ≢ 0 → HasHeld h (info n) s → ¬ HasWon h s → Pending calls lay h s
   pub one_new : (s u m n : ℕ) → s ≢ 0 → u ≢ 0 → HasHeld h (info m) s → HasHeld h (info n) u → new h s ≡ new h u → s ≡ u
   pub unborn : (s n : ℕ) → s ≢ 0 → HasHeld h (info n) s → ¬ HasWon h s → is_leaf (value h) (new h s) ≡ false → ¬ Has tree (new h s)
   pub path : (m : History) (k n : ℕ) → Extends h m → IsOnPath m k n → Stays lay (value h) k n → Passes (value h) k tree n ⊎ (value h (marked n) ≢ 0)
   pub forks : lay.mode ≡ TrieMode → (n : ℕ) → Has tree n → IsTrieFork (value h) n
+  -- node 0 is a fork above all keys, and node 2 a leaf of class 2 on level 1, with the key 0
+  pub root_head : value h (node 0 (Settled Head)) ≡ 2
+  pub last_head : value h (node 2 (Settled Head)) ≡ 14
+  pub last_key : value h (node 2 first_key) ≡ 0
 
 pub path_now : (h : History) (t : Tree) (k n : ℕ) → IsTree (value h) t → IsOnPath h k n → Passes (value h) k t n
 path_now h t k n i p =
@@ -42,18 +46,9 @@ root_named lay h t o i = opening_node (rw (i.is, o) (omega arith))
 pub all_named : (lay : Layout) (h : History) (t : Tree) (n : ℕ) → IsMap lay.mode → IsTree (value h) t → Has t n → IsNamed lay h n
 all_named lay h t n o i p = tree_named lay h t _ _ n i.shows (root_named lay h t o i) p
 
--- every history is over the opening words
-pub since_start : (lay : Layout) (h : History) → Lawful lay h → Extends h (Start lay.mode)
-since_start lay (Start mode) l = ap Start (sym (start_mode lay mode l))
-since_start lay (r ⊳ h) l = inr (since_start lay h (lawful_tail lay h r l))
-
--- the settled words of the opening nodes stay
-pub opening_settled : (lay : Layout) (h : History) (n : ℕ) (a : NodeWord) → Lawful lay h → IsMap lay.mode → n < 3 → IsSettled (node n a) → value h (node n a) ≡ tree_opening (node n a)
-opening_settled lay h n a l o i s = node_since lay h (Start lay.mode) n a l (since_start lay h l) s (opening_node (rw o i)) ∙ ap (λ f. f (node n a)) (map_opens lay.mode o)
-
--- so node 2 is a leaf of class 2 on level 1
-pub opening_head : (lay : Layout) (h : History) → Lawful lay h → IsMap lay.mode → value h (node 2 (Settled Head)) ≡ 14
-opening_head lay h l o = opening_settled lay h 2 (Settled Head) l o (omega arith) tt
+-- the settled words of the first three nodes stay
+pub early_stays : (lay : Layout) (h : History) (r : Row) (n : ℕ) (part : SettledPart) → Lawful lay (r ⊳ h) → IsMap lay.mode → n < 3 → value (r ⊳ h) (node n (Settled part)) ≡ value h (node n (Settled part))
+early_stays lay h r n part l o i = node_stays lay h r n (Settled part) l tt (opening_node (rw o (omega (arith, i))))
 
 -- a row that leaves the fields of named nodes leaves the tree
 module _ (calls : ℕ → MapEdit) (lay : Layout) (h : History) (r : Row) (o : IsMap lay.mode) (l : Lawful lay (r ⊳ h)) (t : TreeFacts calls lay h)
@@ -71,7 +66,7 @@ module _ (calls : ℕ → MapEdit) (lay : Layout) (h : History) (r : Row) (o : I
   tree_stays : IsTree (value (r ⊳ h)) t.tree
   tree_stays = record { shows = frame (value h) (value (r ⊳ h)) t.tree _ _ in_tree t.is_tree.shows; is = t.is_tree.is }
 
-  items_stay : items (value (r ⊳ h)) t.tree ≡ map_of_log calls (log lay (r ⊳ h)) ++ ends
+  items_stay : items (value (r ⊳ h)) t.tree ≡ map_of_log calls (first_pairs (r ⊳ h)) (log lay (r ⊳ h)) ++ ends
   items_stay = frame_items (value h) (value (r ⊳ h)) t.tree in_tree ∙ rw same_log t.items
 
   low_stays : EndsLow (value (r ⊳ h)) t.tree
@@ -105,6 +100,9 @@ tree_kept calls lay h r f o l t k = record {
   pending = λ s n d p w. pending_kept calls f k s n l d (back n s p) (t.pending s n d (back n s p) (λ x. w (won_more r h s x)));
   one_new = λ s u m n d b p q x. t.one_new s u m n d b (back m s p) (back n u q) (sym (new_same s m d (back m s p)) ∙ x ∙ new_same u n b (back n u q));
   unborn = λ s n d p w x. unborn s n d (back n s p) (λ y. w (won_more r h s y)) x;
+  root_head = early_stays lay h r 0 Head l o (omega arith) ∙ t.root_head;
+  last_head = early_stays lay h r 2 Head l o (omega arith) ∙ t.last_head;
+  last_key = early_stays lay h r 2 (Key First) l o (omega arith) ∙ t.last_key;
 }
   where
     fields : (n : ℕ) (side : Side) → IsNamed lay h n → value (r ⊳ h) (child n side) ≡ value h (child n side)
@@ -234,7 +232,7 @@ module _ (calls : ℕ → MapEdit) (lay : Layout) (h : History) (r : Row) (u j :
 
       new_not : j ≡ 0 → ¬ Has t.tree (new h u)
       new_not e q = ⊎_elim
-          (λ c. let c1 : new h u ≡ 0 = c ∙ t.is_tree.is in let c2 = (may_begin e).new_own.from in let c3 : opening_nodes lay.mode ≡ 3 = rw o refl in omega (arith, c1, c2, c3))
+          (λ c. let c1 : new h u ≡ 0 = c ∙ t.is_tree.is in let c2 = (may_begin e).new_own.from in let c3 = map_nodes lay o in omega (arith, c1, c2, c3))
           (λ c. (may_begin e).new_in_no_field c.0 c.1 (held_at h _ _ c.2))
           (tree_field h t.tree _ _ (new h u) t.is_tree.shows q)
 
@@ -253,6 +251,9 @@ module _ (calls : ℕ → MapEdit) (lay : Layout) (h : History) (r : Row) (u j :
     pending = pending_now;
     one_new = one_new_now;
     unborn = unborn_now;
+    root_head = early_stays lay h r 0 Head l o (omega arith) ∙ t.root_head;
+    last_head = early_stays lay h r 2 Head l o (omega arith) ∙ t.last_head;
+    last_key = early_stays lay h r 2 (Key First) l o (omega arith) ∙ t.last_key;
   }
     where
       stays : (n : ℕ) (side : Side) → IsNamed lay h n → value (r ⊳ h) (child n side) ≡ value h (child n side)

@@ -1,7 +1,7 @@
 -- What a history of a tree keeps, for the layers that speak of trees alone. It is what one of a map
 -- keeps, where every node stays on a path until it is final.
 use Rattle.std.proofs.Common.{◌≡◌, ◌≢◌, ℕ, ◌+◌, ◌^◌, ◌<◌, ◌≤◌, true, false, inl, List, [], length, subst}
-use Rattle.histories.specs.Common.{Layout, Tree as TreeMode, Side, Left, Right, Settled, Head, Row, node, child, marked, new, History, Start, ◌⊳◌, value, Extends, IsNamed, IsInField, IsWin, log, is_final, taken_nodes}
+use Rattle.histories.specs.Common.{Layout, Tree as TreeMode, Side, Left, Right, Settled, Head, Row, node, child, marked, new, History, Opening, Start, Opened, ◌⊳◌, value, Extends, IsNamed, IsInField, IsWin, log, is_final, taken_nodes}
 use Rattle.histories.proofs.Lemmas.{UpdateWins}
 use Rattle.ordered_map.specs.declared.pair.Pair.{Pair}
 use Rattle.ordered_map.specs.OrderedMap.{MapEdit, AllBelow, IsRising, end_pair}
@@ -11,7 +11,7 @@ use Rattle.ordered_map.specs.Spelled.{IsTree, Spells}
 use Rattle.ordered_map.specs.Paths.{IsOnPath, Passed, WasInTree, WasOnPath, IsAnswerAt, IsEndAt, depth, end_key, end_turn}
 use Rattle.ordered_map.specs.FillOrder.{HasStoodInField, HasRisingLevels, AreFilledInOrder}
 use Rattle.ordered_map.specs.Laws.{AreEdits, SpellsLog}
-use Rattle.ordered_map.specs.Runs.{IsTreeRun, Makes, IsEditAt}
+use Rattle.ordered_map.specs.Runs.{IsTreeRun, Makes, IsEditAt, first_pairs}
 use Rattle.ordered_map.specs.TreeShape.{edit_leaf}
 use Rattle.ordered_map.proofs.Holding.{SameSettled}
 use Rattle.ordered_map.proofs.Children.{IsBeside}
@@ -25,6 +25,9 @@ opening_run lay tree = (tree, (maps.opening_run lay (tree_map lay.mode tree)).1)
 
 pub opening_spells : (lay : Layout) → lay.mode ≡ TreeMode → Spells lay (value (Start lay.mode)) []
 opening_spells lay tree = maps.opening_spells lay (tree_map lay.mode tree)
+
+pub start_spells : (lay : Layout) (o : Opening) → IsTreeRun lay (Opened o) → Spells lay (value (Opened o)) (first_pairs (Opened o))
+start_spells lay o g = maps.start_spells lay o (tree_run lay (Opened o) g)
 
 pub run_since : (lay : Layout) (h m : History) → IsTreeRun lay h → Extends h m → IsTreeRun lay m
 run_since lay h m g x = (g.0, (maps.run_since lay h m (tree_run lay h g) x).1)

@@ -7,18 +7,10 @@ use Rattle.ordered_map.specs.declared.pair.Pair.{Pair}
 use Rattle.ordered_map.specs.OrderedMap.{pair, AllAbove, AllBelow, insert, delete, MapEdit, Insert, Delete, edit_key, edited}
 use Rattle.ordered_map.proofs.Lists.{above_join, below_join, above_from, below_more}
 use Rattle.ordered_map.proofs.Holding.{SameSettled, rank_from, rank_below, wider_leaf, same_leaf, same_items}
+pub use Rattle.ordered_map.specs.Planted.{items, ends, last_leaf, EndsLow}
 use Rattle.ordered_map.specs.TreeWords.{class, is_leaf, level, rank, toward, leaf_items, Tree, Leaf, Fork, root, IsForkOver, IsLeaf, Shows, Has, Passes}
 
 -- what is proved of the pairs is proved of all items first
-
--- the items of the leaves from left to right
-abbrev pub items : (Word → ℕ) → Tree → List Pair
-items f (Leaf n) = leaf_items f n
-items f (Fork n a b) = items f a ++ items f b
-
--- the two last leaves
-abbrev pub ends : List Pair
-ends = pair (2 ^ 64) 0 ∷ pair (2 * 2 ^ 64) 0 ∷ []
 
 pub split_at : (k m : ℕ) → (k < m) ⊎ (m ≤ k)
 split_at k m = grind arith
@@ -170,19 +162,9 @@ passes_has f k (Fork n a b) m (inl p) = inl p
 passes_has f k (Fork n a b) m (inr (inl p)) = inr (inl (passes_has f k a m p.1))
 passes_has f k (Fork n a b) m (inr (inr p)) = inr (inr (passes_has f k b m p.1))
 
--- the last leaf of a tree
-abbrev pub last_leaf : Tree → ℕ
-last_leaf (Leaf n) = n
-last_leaf (Fork n a b) = last_leaf b
-
 pub has_last : (t : Tree) → Has t (last_leaf t)
 has_last (Leaf n) = refl
 has_last (Fork n a b) = inr (inr (has_last b))
-
--- below each fork of class 0 the last leaf is of class 0
-abbrev pub EndsLow : (Word → ℕ) → Tree → Type 0
-EndsLow f (Leaf n) = Unit {0}
-EndsLow f (Fork n a b) = (class f n ≡ 0 → class f (last_leaf b) ≡ 0) × EndsLow f a × EndsLow f b
 
 pub same_class : (f g : Word → ℕ) (n : ℕ) → Same f g n → class g n ≡ class f n
 same_class f g n e = ap (λ v. v % 4) (e (Settled Head) tt)

@@ -3,7 +3,7 @@
 use Rattle.std.proofs.Common.{◌≡◌, ℕ, ◌/◌, ◌%◌, ◌<◌, ◌≤◌, Bool, true, false, ◌⊎◌, inl, inr, length, refl, sym, ◌∙◌, ap, arith, eqb, subst}
 use native.Mathlib.Decide.{ℕ_discrete}
 use Rattle.histories.specs.Common.{Mode, Tree as TreeMode, Records, Layout, Row, Side, Settled, Child, Head, child, History}
-use Rattle.histories.specs.Common.{Start, ◌⊳◌, value, Extends, field_index, member, plan, side_of, IsNamed, by_field, taken_nodes}
+use Rattle.histories.specs.Common.{Opened, ◌⊳◌, value, Extends, field_index, member, plan, side_of, IsNamed, by_field, taken_nodes}
 use Rattle.arena.specs.declared.limits.Mode.TheVariants.{Trie as TrieMode}
 use Rattle.arena.specs.Layout.{IsMap}
 use Rattle.arena.proofs.Lemmas.{held_at, node_apart}
@@ -17,7 +17,7 @@ use Rattle.ordered_map.proofs.Holding.{SameSettled}
 use Rattle.ordered_map.proofs.Moved.{settled_level}
 use Rattle.ordered_map.proofs.Spanned.{same_fork, same_keeps}
 use Rattle.ordered_map.proofs.Trees.{IsBelowFork, has_above}
-use Rattle.ordered_map.proofs.TreeFacts.{TreeFacts, all_named, opening_settled}
+use Rattle.ordered_map.proofs.TreeFacts.{TreeFacts, all_named}
 use Rattle.ordered_map.proofs.Edited.{spot_fork_then}
 use Rattle.ordered_map.proofs.Grown.{IsGrown, tree_facts, grown_tail, grown_since}
 use Rattle.ordered_map.proofs.Stood.{one_tree}
@@ -59,7 +59,7 @@ module _ (calls : ℕ → MapEdit) (lay : Layout) (trie : lay.mode ≡ TrieMode)
 
   -- a fork that was ever in the tree
   pub grown_fork : (h m : History) (t : Tree) (n : ℕ) → IsGrown calls lay h → Extends h m → IsTree (value m) t → Has t n → IsTrieFork (value h) n
-  grown_fork (Start mode) m t n g e i p = fork_now (Start mode) t n g (subst (λ x. IsTree (value x) t) e i) p
+  grown_fork (Opened o) m t n g e i p = fork_now (Opened o) t n g (subst (λ x. IsTree (value x) t) e i) p
   grown_fork (r ⊳ h) m t n g (inl e) i p = fork_now (r ⊳ h) t n g (subst (λ x. IsTree (value x) t) e i) p
   grown_fork (r ⊳ h) m t n g (inr e) i p =
       fork_stays h r g n (named_since lay h m n (lawful_tail lay h r g.lawful) e (all_named lay m t n g.mode i p)) (grown_fork h m t n (grown_tail calls lay h r g) e i p)
@@ -94,7 +94,7 @@ module _ (calls : ℕ → MapEdit) (lay : Layout) (trie : lay.mode ≡ TrieMode)
           root_fork : n ≡ root t → is_leaf (value h) n ≡ true → ⊥
           root_fork e leaf =
               let zero : n ≡ 0 = e ∙ i.is in
-              let head = opening_settled lay h 0 (Settled Head) g.lawful g.mode (omega arith) tt in
+              let head = (tree_facts calls lay h g).root_head in
               let q : true ≡ false = sym leaf ∙ ap (is_leaf (value h)) zero ∙ ap (λ v. eqb (v / 4 % 2) 1) head in cc
       go (inr y) true leaf = kept_deep h y.fork n y.side (subst (Keeps (value h) y.fork y.side) y.holds ((fork_now h t y.fork g i y.has y.kind).1 y.side)) mine
 

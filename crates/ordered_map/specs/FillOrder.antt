@@ -1,7 +1,7 @@
 -- Which nodes fields have named, how the levels of such forks rise, and in which order machines
 -- fill the words of nodes so that they do: the table of kinds leaves that open.
 use Rattle.std.specs.Prelude.{◌≡◌, ℕ, ◌/◌, ◌%◌, ◌<◌, true, false, ◌⊎◌, ◌==◌, IsTrue}
-use Rattle.histories.specs.Common.{Side, Settled, Head, Fill, Row, node, child, History, Start, ◌⊳◌, value, HasHeld}
+use Rattle.histories.specs.Common.{Side, Settled, Head, Fill, Row, node, child, History, Opened, ◌⊳◌, value, HasHeld}
 use Rattle.ordered_map.specs.TreeWords.{is_leaf, level}
 use Rattle.ordered_map.specs.Paths.{WasInTree}
 
@@ -21,5 +21,5 @@ pub record IsFillInOrder (h : History) (r : Row) : Type 0 where
 
 -- each fill of the history is in order
 abbrev pub AreFilledInOrder : History → Type 0
-AreFilledInOrder (Start mode) = Unit {0}
+AreFilledInOrder (Opened o) = Unit {0}
 AreFilledInOrder (r ⊳ h) = AreFilledInOrder h × IsFillInOrder h r

@@ -1,6 +1,6 @@
 -- What the laws say of a history of the tree, in the map's own terms.
 use Rattle.std.specs.Prelude.{◌≡◌, ◌+◌, ◌<◌, ◌≤◌, ◌^◌, ℕ, true, false, length, List, None}
-use Rattle.histories.specs.Common.{Layout, Row, Word, child, History, ◌⊳◌, value, Extends, IsWin, log, IsEntered, is_final, taken_nodes}
+use Rattle.histories.specs.Common.{Layout, Row, Word, child, History, Opening, Opened, ◌⊳◌, value, Extends, IsWin, log, IsEntered, is_final, taken_nodes}
 use Rattle.ordered_map.specs.declared.pair.Pair.{Pair}
 use Rattle.ordered_map.specs.OrderedMap.{MapEdit}
 use Rattle.ordered_map.specs.TreeWords.{Tree, Has, class, is_leaf, level, toward, said, IsBlankAboveKeys}
@@ -8,20 +8,23 @@ use Rattle.ordered_map.specs.Spelled.{IsTree, Spells}
 use Rattle.ordered_map.specs.Paths.{Passed, WasInTree, IsAnswerAt}
 use Rattle.ordered_map.specs.Bits.{Shares, IsTrieFork}
 use Rattle.ordered_map.specs.Strays.{HasWalked}
-use Rattle.ordered_map.specs.Runs.{IsTreeRun, IsTrieRun, Makes, IsEditAt, map_of_log}
+use Rattle.ordered_map.specs.Runs.{IsTreeRun, IsTrieRun, Makes, IsEditAt, map_of_log, first_pairs}
 
 -- `edits` gives of each SCX-record with an entry an edit that it may be said to have made
 abbrev pub AreEdits : (ℕ → MapEdit) → Layout → History → Type 0
 AreEdits edits lay h = (s : ℕ) → IsEntered (log lay h) s → Makes lay h s (edits s)
 
--- after each row the words spell the map that these edits of the log so far make of the empty map
+-- after each row the words spell the map that these edits of the log so far make of the pairs with
+-- which the history began
 abbrev pub SpellsLog : (ℕ → MapEdit) → Layout → History → Type 0
-SpellsLog edits lay h = (moment : History) → Extends h moment → Spells lay (value moment) (map_of_log edits (log lay moment))
+SpellsLog edits lay h = (moment : History) → Extends h moment → Spells lay (value moment) (map_of_log edits (first_pairs moment) (log lay moment))
 
 -- what holds in every history of the tree in which only edits of the map begin
 pub record TreeLaws : Type 0 where
   -- each SCX-record with an entry may be said to make some edit
   pub edits : (lay : Layout) (h : History) → IsTreeRun lay h → (edits : ℕ → MapEdit) × AreEdits edits lay h
+  -- before the first row the words spell the pairs with which the history begins
+  pub opens : (lay : Layout) (o : Opening) → IsTreeRun lay (Opened o) → Spells lay (value (Opened o)) (first_pairs (Opened o))
   -- whichever is said, the only one or not, the words spell the map of the log so far
   pub spelled : (lay : Layout) (h : History) (edits : ℕ → MapEdit) → IsTreeRun lay h → AreEdits edits lay h → SpellsLog edits lay h
   -- which is one map
@@ -44,6 +47,8 @@ pub record TreeLaws : Type 0 where
 pub record TrieLaws : Type 0 where
   -- each SCX-record with an entry may be said to make some edit
   pub edits : (lay : Layout) (h : History) → IsTrieRun lay h → (edits : ℕ → MapEdit) × AreEdits edits lay h
+  -- before the first row the words spell the pairs with which the history begins
+  pub opens : (lay : Layout) (o : Opening) → IsTrieRun lay (Opened o) → Spells lay (value (Opened o)) (first_pairs (Opened o))
   -- whichever is said, the words spell the map of the log so far
   pub spelled : (lay : Layout) (h : History) (edits : ℕ → MapEdit) → IsTrieRun lay h → AreEdits edits lay h → SpellsLog edits lay h
   -- an update leaves the map that its edit leaves, and its leaf has the old value

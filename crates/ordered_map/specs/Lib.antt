@@ -8,6 +8,7 @@ pub mod Spelled
 pub mod Paths
 pub mod FillOrder
 pub mod Bits
+pub mod Planted
 pub mod Edits
 pub mod Strays
 pub mod EditPlans

@@ -44,7 +44,7 @@ by_rule rule k m = if applies rule (get k m) then edited (edit_to k (leaves rule
 
 -- an edit changes the value of its key alone, and keeps the keys rising; maps of the same values are
 -- the same list
-pub record EditLaws : Type 0 where
+pub record ChangeLaws : Type 0 where
   pub inserted : (k v : ℕ) (m : List Pair) → get k (insert k v m) ≡ Some v
   pub insert_keeps : (j k v : ℕ) (m : List Pair) → j ≢ k → get j (insert k v m) ≡ get j m
   pub deleted : (k : ℕ) (m : List Pair) → IsRising m → get k (delete k m) ≡ None

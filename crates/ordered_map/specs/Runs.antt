@@ -5,6 +5,7 @@ use Rattle.arena.specs.Layout.{IsMap}
 use Rattle.arena.specs.declared.limits.Mode.TheVariants.{Trie as TrieMode}
 use Rattle.ordered_map.specs.declared.pair.Pair.{Pair}
 use Rattle.ordered_map.specs.OrderedMap.{MapEdit, edit_key, edited, get}
+pub use Rattle.ordered_map.specs.Planted.{first_pairs}
 use Rattle.ordered_map.specs.TreeWords.{said}
 use Rattle.ordered_map.specs.Spelled.{Spells}
 use Rattle.ordered_map.specs.TreeShape.{MayEdit, TreeAllows, edit_leaf}
@@ -29,11 +30,11 @@ pub record Makes (lay : Layout) (h : History) (s : ℕ) (e : MapEdit) : Type 0 w
   pub begins : IsBegin before row s
   pub edit : MayEdit lay before s e
 
--- the map that these entries make of the empty map, the newest coming first, where `edits` says
+-- the map that these entries make of the first pairs, the newest coming first, where `edits` says
 -- an edit of each SCX-record
-abbrev pub map_of_log : (ℕ → MapEdit) → List Entry → List Pair
-map_of_log edits [] = []
-map_of_log edits (e ∷ es) = edited (edits e.scx) (map_of_log edits es)
+abbrev pub map_of_log : (ℕ → MapEdit) → List Pair → List Entry → List Pair
+map_of_log edits first [] = first
+map_of_log edits first (e ∷ es) = edited (edits e.scx) (map_of_log edits first es)
 
 -- The row makes this edit of s: it leaves the map that the edit leaves, and just before it the leaf
 -- of the edit's key says what the map does.

@@ -7,6 +7,7 @@ use Rattle.ordered_map.specs.TreeWords.{is_leaf, toward, said}
 use Rattle.ordered_map.specs.Edits.{IsLeafEdit, IsJoinBy, HasFieldsOf}
 use Rattle.ordered_map.specs.Paths.{WasOnPath}
 use Rattle.ordered_map.specs.TrieShape.{Stays, FitsTrie, IsTrieEdit}
+use Rattle.ordered_map.specs.Planted.{IsPlanted}
 pub use Rattle.ordered_map.specs.EditPlans.{leaf_plan, join_plan, leaf_place, sibling_place}
 
 -- An edit of a leaf covers the parent and the leaf, and finalizes the leaf: the field of the parent
@@ -45,9 +46,13 @@ pub record MayEdit (lay : Layout) (h : History) (s : ℕ) (e : MapEdit) : Type 0
   -- the leaves below a new fork are fresh
   pub fresh : count h s ≡ 2 → is_leaf (value h) (new h s) ≡ false → (side : Side) → is_leaf (value h) (value h (child (new h s) side)) ≡ true → ¬ IsNamed lay h (value h (child (new h s) side))
 
--- the shape of a map: each SCX-record that begins makes an edit
+-- the SCX-record may make some edit
+abbrev pub MakesEdit : Layout → History → ℕ → Type 0
+MakesEdit lay h s = (e : MapEdit) × MayEdit lay h s e
+
+-- the shape of a map: each SCX-record that begins makes an edit, and what a table begins with is planted
 abbrev pub TreeAllows : Layout → History → ℕ → Type 0
-TreeAllows lay h s = (e : MapEdit) × MayEdit lay h s e
+TreeAllows lay h s = MakesEdit lay h s ⊎ IsPlanted lay h s
 
 -- the leaf that is taken out, on this side of the second of four nodes: it is one of the last two, or,
 -- where node 2 is the last, which is not finalized, what the second names there

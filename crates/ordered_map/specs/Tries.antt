@@ -2,7 +2,7 @@
 -- makes nowhere else: so a history shows how many tries a pass has
 -- begun, and where the newest began.
 use Rattle.std.specs.Prelude.{◌≡◌, ℕ, suc, ◌+◌, Bool, true, false, if◌then◌else◌, ◌&&◌, ◌==◌}
-use Rattle.histories.specs.Common.{Row, Kind, LoadSettled, Settled, Head, WasInTheWay, History, Start, ◌⊳◌, Extends, node, same_word}
+use Rattle.histories.specs.Common.{Row, Kind, LoadSettled, Settled, Head, WasInTheWay, History, Opened, ◌⊳◌, Extends, node, same_word}
 
 -- whether a step of this kind loads a settled word
 abbrev pub is_settled_load : Kind → Bool
@@ -15,7 +15,7 @@ begins_try c r = r.pass.0 == c && (is_settled_load r.kind && same_word r.word (n
 
 -- how many tries the pass c has begun
 unfoldable pub tries_begun : ℕ → History → ℕ
-tries_begun c (Start mode) = 0
+tries_begun c (Opened o) = 0
 tries_begun c (r ⊳ h) = if begins_try c r then suc (tries_begun c h) else tries_begun c h
 
 -- the newest try of the pass c began right after the moment `begin`

@@ -27,7 +27,7 @@ opening_between lay tries calls words rests same opening all each = record {
   so_far = record {
     layout = same;
     holds = λ w i. opening w (rw same i) ∙ rw same refl;
-    sound = record { lawful = refl; shaped = tt };
+    sound = record { lawful = (refl, omega arith); shaped = inl refl };
     in_order = tt;
     filled = λ map. tt;
     of_mode = all;

@@ -1,26 +1,20 @@
 -- A node of a share that is not taken, and that nothing mentions, is blank.
-use Rattle.std.proofs.Common.{◌≡◌, ℕ, ◌≤◌, Bool, true, false, cond, inl, inr, refl, ◌∙◌, ne_eqb, arith}
-use Rattle.histories.specs.Common.{Layout, Mode, Side, Left, Right, NodeWord, Child, Info, Marked, AllFrozen, New, Member, opening_nodes, node, scx, info, marked}
-use Rattle.histories.specs.Common.{child, state, History, Start, ◌⊳◌, value, member, plan, side_of, field_index, IsOwnNode, IsTakenNode, Lawful, IsUnmentioned}
-use Rattle.arena.specs.Layout.{is_map, records_opening, tree_opening}
+use Rattle.std.proofs.Common.{◌≡◌, ℕ, ◌≤◌, inl, inr, refl, ◌∙◌, arith}
+use Rattle.histories.specs.Common.{Layout, Side, NodeWord, Child, Info, Marked, AllFrozen, New, Member, nodes_at_start, opening_nodes, node, scx, info, marked}
+use Rattle.histories.specs.Common.{child, state, History, Opening, Opened, ◌⊳◌, value, member, plan, side_of, field_index, IsOwnNode, IsTakenNode, Lawful, IsUnmentioned}
 use Rattle.arena.proofs.Lemmas.{value_quiet, value_apart, held_at, held_more, node_apart, node_word_apart}
-use Rattle.histories.proofs.Lemmas.{Change, nothing, fills_node, fills_scx, freezes, sets_frozen, marks, updates, commits, aborts, change, lawful_row}
+use Rattle.histories.proofs.Lemmas.{Change, nothing, fills_node, fills_scx, freezes, sets_frozen, marks, updates, commits, aborts, change, lawful_row, start_nodes}
 use Rattle.prims.specs.BlankNodes.{IsBlank}
 
 -- at the start the fields of the nodes that come later are 0
-empty_start : (mode : Mode) (n : ℕ) (side : Side) → opening_nodes mode ≤ n → value (Start mode) (child n side) ≡ 0
+empty_start : (o : Opening) (n : ℕ) (side : Side) → nodes_at_start o.mode o.planted ≤ n → value (Opened o) (child n side) ≡ 0
 unfolding value
-empty_start mode n side late = of (is_map mode) late side
-  where
-    of : (map : Bool) → cond map 3 9 ≤ n → (side : Side) → cond map (tree_opening (child n side)) (records_opening (child n side)) ≡ 0
-    of true late Left = rw (ne_eqb n 0 (λ e. omega (late, e, arith))) refl
-    of true late Right = rw (ne_eqb n 0 (λ e. omega (late, e, arith))) refl
-    of false late side = refl
+empty_start o n side late = o.beyond n (Child side) late
 
 -- those of a node that is not taken, and that nothing mentions, stay 0
-empty_untaken : (lay : Layout) (h : History) (n : ℕ) (side : Side) → Lawful lay h → opening_nodes lay.mode ≤ n → IsUnmentioned h n → ¬ IsTakenNode h n → value h (child n side) ≡ 0
+empty_untaken : (lay : Layout) (h : History) (n : ℕ) (side : Side) → Lawful lay h → opening_nodes lay ≤ n → IsUnmentioned h n → ¬ IsTakenNode h n → value h (child n side) ≡ 0
 unfolding Lawful IsTakenNode
-empty_untaken lay (Start mode) n side l late u free = empty_start mode n side (rw l late)
+empty_untaken lay (Opened o) n side l late u free = empty_start o n side (let few = start_nodes lay o l in omega (arith, few, late))
 empty_untaken lay (r ⊳ h) n side l late u free = same (change lay h r l) ∙ empty_untaken lay h n side l.0 late
     record { in_no_field = λ m a p. u.in_no_field m a (held_more r h (child m a) n p); in_no_scx = λ s part i p. u.in_no_scx s part i (held_more r h (scx s part) n p) }
     (λ t. free (inr t))

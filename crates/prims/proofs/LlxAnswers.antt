@@ -31,7 +31,7 @@ ready_at_start allows m c h e a o idle = record {
 pub cell_opened : (lay : Layout) (h : History) (n : ℕ) → lay.mode ≡ Records → n ≤ 8 → IsOpened lay h n
 cell_opened lay h n e i = record { in_field = inl early; inside = let a = early in omega arith }
   where
-    early : n < opening_nodes lay.mode
+    early : n < opening_nodes lay
     early = rw e (omega arith)
 
 -- What the answers say

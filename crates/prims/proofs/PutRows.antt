@@ -16,7 +16,7 @@ use Rattle.prims.specs.declared.put.PutAt.TheVariants.{Start, Fill as AtFill, Sc
 
 -- Nodes that nothing mentions
 
-module _ (allows : Layout → History → ℕ → Type 0) (m : Job) (c : Call) (h : History) (n : ℕ) (late : opening_nodes c.layout.mode ≤ n) (other : n ≢ m.update.fresh.0) (u : IsUnmentioned h n) where
+module _ (allows : Layout → History → ℕ → Type 0) (m : Job) (c : Call) (h : History) (n : ℕ) (late : opening_nodes c.layout ≤ n) (other : n ≢ m.update.fresh.0) (u : IsUnmentioned h n) where
   -- what a word that names nodes is to hold is another node: the fresh one, or one that a field has
   -- held
   not_wanted : (at : ScxAt) → Fills allows c h m at → IsMention (scx m.scx.0 (part_at at)) → wanted m (part_at at) ≢ n
@@ -55,13 +55,13 @@ module _ (allows : Layout → History → ℕ → Type 0) (m : Job) (c : Call) (
   unmentioned_at AtCall s l w = unmentioned_fill AtCall s w
 
 -- a row at a place
-unmentioned_put : (allows : Layout → History → ℕ → Type 0) (m : PutRun) (c : Call) (h : History) (s : Step) (n : ℕ) (at : PutAt) → Lawful c.layout (row_of c s h ⊳ h) → PutWaitsAt allows c h m at s → opening_nodes c.layout.mode ≤ n → n ≢ m.scx.update.fresh.0 → IsUnmentioned h n → IsUnmentioned (row_of c s h ⊳ h) n
+unmentioned_put : (allows : Layout → History → ℕ → Type 0) (m : PutRun) (c : Call) (h : History) (s : Step) (n : ℕ) (at : PutAt) → Lawful c.layout (row_of c s h ⊳ h) → PutWaitsAt allows c h m at s → opening_nodes c.layout ≤ n → n ≢ m.scx.update.fresh.0 → IsUnmentioned h n → IsUnmentioned (row_of c s h ⊳ h) n
 unmentioned_put allows m c h s n Start l w late other u = absurd w
 unmentioned_put allows m c h s n AtFill l w late other u = rw w.2 (unmentioned_by_fill h (row_of c (put_step m) h) n (λ i. absurd i) u)
 unmentioned_put allows m c h s n Scx l w late other u = unmentioned_at allows (job_of m.scx) c h n late other u m.scx.at s l w.1
 
 -- a row of its leaves every node but its own that nothing mentions so
-pub put_unmentioned : (allows : Layout → History → ℕ → Type 0) (m : PutRun) (c : Call) (h : History) (s : Step) (n : ℕ) → Lawful c.layout (row_of c s h ⊳ h) → PutWaits allows m c h s → opening_nodes c.layout.mode ≤ n → n ≢ m.scx.update.fresh.0 → IsUnmentioned h n → IsUnmentioned (row_of c s h ⊳ h) n
+pub put_unmentioned : (allows : Layout → History → ℕ → Type 0) (m : PutRun) (c : Call) (h : History) (s : Step) (n : ℕ) → Lawful c.layout (row_of c s h ⊳ h) → PutWaits allows m c h s → opening_nodes c.layout ≤ n → n ≢ m.scx.update.fresh.0 → IsUnmentioned h n → IsUnmentioned (row_of c s h ⊳ h) n
 put_unmentioned allows m c h s n l w late other u = unmentioned_put allows m c h s n m.at l w late other u
 
 -- SCX-records that are not taken

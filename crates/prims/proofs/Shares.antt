@@ -1,11 +1,11 @@
 -- What rows leave of a pass's share, and of the SCX-record that it has in hand.
 use Rattle.std.proofs.Common.{◌≡◌, ◌≢◌, ℕ, suc, ◌+◌, ◌-◌, ◌<◌, ◌≤◌, ◌⊎◌, ⊎_elim, refl, arith, subst}
 use native.Mathlib.Decide.{ℕ_discrete}
-use Rattle.histories.specs.Common.{Mode, Layout, Row, Step, Fill, opening_nodes, first_node, first_scx, Remaining, HasNode, HasScx, History, Start, ◌⊳◌}
+use Rattle.histories.specs.Common.{Layout, Row, Step, Fill, opening_nodes, first_node, first_scx, Remaining, HasNode, HasScx, History, Opening, Opened, ◌⊳◌}
 use Rattle.histories.specs.Common.{member, IsInProgress, IsOwnNode, IsOwnScx, IsTakenNode, IsTakenScx, Lawful, HasWon, Call, row_of, IsUnmentioned}
 use Rattle.arena.specs.Share.{whole_share, after_taking}
 use Rattle.arena.proofs.Lemmas.{taken_node_more, taken_scx_more}
-use Rattle.histories.proofs.Lemmas.{Facts, UpdateWins, facts, facts_before, named_scx_taken, unmentioned_by_others, unmentioned_by_step, unmentioned_start, untaken_by_others, untaken_by_step, update_flagged, update_in_progress, won_named}
+use Rattle.histories.proofs.Lemmas.{Facts, UpdateWins, facts, facts_before, named_scx_taken, start_nodes, unmentioned_by_others, unmentioned_by_step, unmentioned_start, untaken_by_others, untaken_by_step, update_flagged, update_in_progress, won_named}
 use Rattle.prims.specs.Laws.Idle.{IsIdle, idle_if_over}
 use Rattle.prims.specs.Moments.{AreFinished}
 use Rattle.prims.specs.Put.Known.{PutWaits}
@@ -19,24 +19,24 @@ use Rattle.prims.proofs.UntakenNodes.{not_filled, fills_no_node, untaken_node_by
 -- Shares
 
 -- nothing of a whole share is touched at the start
-pub whole_untouched : (lay : Layout) (c : ℕ) → IsShare lay (Start lay.mode) c (whole_share lay c) (first_node lay c) (first_scx lay c)
+pub whole_untouched : (lay : Layout) (o : Opening) (c : ℕ) → Lawful lay (Opened o) → IsShare lay (Opened o) c (whole_share lay c) (first_node lay c) (first_scx lay c)
 unfolding IsTakenNode IsTakenScx
-whole_untouched lay c = record {
+whole_untouched lay o c l = record {
   from_node = omega arith;
   to_node = refl;
   from_scx = omega arith;
   to_scx = refl;
   taken_nodes = λ n own less. absurd (let a = own.from in omega arith);
   taken_scx = λ s own less. absurd (let a = own.from in omega arith);
-  unmentioned = λ n p. unmentioned_start lay.mode n (let a = p.from in omega arith);
+  unmentioned = λ n p. unmentioned_start o n (let few = start_nodes lay o l in let a = p.from in omega (arith, few, a));
   untaken_nodes = λ n p t. t;
   untaken = λ s p t. t;
 }
 
 -- and nothing is taken
-pub none_taken : (mode : Mode) (s : ℕ) → ¬ IsTakenScx (Start mode) s
+pub none_taken : (o : Opening) (s : ℕ) → ¬ IsTakenScx (Opened o) s
 unfolding IsTakenScx
-none_taken mode s t = t
+none_taken o s t = t
 
 -- what a share still has is the pass's own
 pub left_own_node : (lay : Layout) (h : History) (c : ℕ) (left : Remaining) (node scx n : ℕ) → IsShare lay h c left node scx → HasNode left n → IsOwnNode lay c n
@@ -46,7 +46,7 @@ pub left_own_scx : (lay : Layout) (h : History) (c : ℕ) (left : Remaining) (no
 left_own_scx lay h c left node scx s x p = record { from = let a = x.from_scx in let b = p.from in omega arith; below = let a = x.to_scx in let b = p.below in omega arith }
 
 -- a row that touches nothing of what is left
-share_kept : (lay : Layout) (h : History) (r : Row) (c : ℕ) (left : Remaining) (node scx : ℕ) → ((n : ℕ) → HasNode left n → opening_nodes lay.mode ≤ n → IsUnmentioned h n → IsUnmentioned (r ⊳ h) n) → ((n : ℕ) → HasNode left n → ¬ IsTakenNode h n → ¬ IsTakenNode (r ⊳ h) n) → ((s : ℕ) → HasScx left s → ¬ IsTakenScx h s → ¬ IsTakenScx (r ⊳ h) s) → IsShare lay h c left node scx → IsShare lay (r ⊳ h) c left node scx
+share_kept : (lay : Layout) (h : History) (r : Row) (c : ℕ) (left : Remaining) (node scx : ℕ) → ((n : ℕ) → HasNode left n → opening_nodes lay ≤ n → IsUnmentioned h n → IsUnmentioned (r ⊳ h) n) → ((n : ℕ) → HasNode left n → ¬ IsTakenNode h n → ¬ IsTakenNode (r ⊳ h) n) → ((s : ℕ) → HasScx left s → ¬ IsTakenScx h s → ¬ IsTakenScx (r ⊳ h) s) → IsShare lay h c left node scx → IsShare lay (r ⊳ h) c left node scx
 share_kept lay h r c left node scx f t g x = record {
   from_node = x.from_node;
   to_node = x.to_node;

@@ -1,7 +1,7 @@
 -- Nodes of a share that are not taken stay so, except for the fresh node of an SCX.
 use Rattle.std.proofs.Common.{◌≡◌, ◌≢◌, ℕ, inl, inr, sym, subst}
 use Rattle.histories.specs.Common.{Layout, NodeWord, Settled, Child, Info, Marked, Word, Node, Scx as ScxOf, Row, Step, Fill, node, scx, first_value}
-use Rattle.histories.specs.Common.{History, Start, ◌⊳◌, Extends, IsOwnNode, IsFillOfNode, IsTakenNode, MayFill, Lawful, Obeys, Call, row_of}
+use Rattle.histories.specs.Common.{History, Opened, ◌⊳◌, Extends, IsOwnNode, IsFillOfNode, IsTakenNode, MayFill, Lawful, Obeys, Call, row_of}
 use Rattle.arena.proofs.Lemmas.{taken_node_more}
 use Rattle.histories.proofs.Lemmas.{lawful_row, one_node_owner}
 use Rattle.help.specs.Laws.Help.Lawful.{help_fills_not}
@@ -21,7 +21,7 @@ not_filled h r n d free (inr x) = free x
 
 -- a taken node stays taken
 pub taken_node_since : (h m : History) (n : ℕ) → Extends h m → IsTakenNode m n → IsTakenNode h n
-taken_node_since (Start mode) m n e t = subst (λ k. IsTakenNode k n) e t
+taken_node_since (Opened o) m n e t = subst (λ k. IsTakenNode k n) e t
 taken_node_since (r ⊳ h) m n (inl e) t = subst (λ k. IsTakenNode k n) e t
 taken_node_since (r ⊳ h) m n (inr e) t = taken_node_more r h n (taken_node_since h m n e t)
 

@@ -15,7 +15,7 @@ impl Shape for Cells {
 
     ghost holds = { λ lay h. Unit {0} };
 
-    ghost opens = { λ lay. tt };
+    ghost opens = { λ lay o run. tt };
 
     ghost stays = { λ lay h r run held. tt };
 }

@@ -1,11 +1,12 @@
 -- Which entries have come between two moments of a run, and what the map is then.
 use Rattle.std.proofs.Common.{◌≡◌, ◌<◌, ℕ, ◌+◌, ◌==◌, Bool, true, false, cond, inl, inr, List, [], ◌∷◌, ◌++◌, length, refl, sym, ◌∙◌, ap, subst, arith, eq-eqb}
-use Rattle.histories.specs.Common.{Layout, History, Start, ◌⊳◌, value, Extends, HasWon, Lawful, Entry, log, owner, IsEntered}
-use Rattle.arena.proofs.Lemmas.{ends_trans, owner_is}
+use Rattle.histories.specs.Common.{Layout, History, Opening, Opened, opening_of, ◌⊳◌, value, Extends, HasWon, Lawful, Entry, log, owner, IsEntered}
+use Rattle.arena.proofs.Lemmas.{ends_trans, owner_is, same_opening}
 use Rattle.histories.proofs.Lemmas.{Logs, entered_won, entry_of, facts, lawful_since, lawful_tail, logs, same as log_same, wins as log_wins, won_named, won_real}
 use Rattle.ordered_map.specs.declared.pair.Pair.{Pair}
 use Rattle.ordered_map.specs.OrderedMap.{MapCall, MapEdit, MapReply}
-use Rattle.ordered_map.specs.Runs.{IsTreeRun, map_of_log}
+use Rattle.ordered_map.specs.Planted.{pairs_of}
+use Rattle.ordered_map.specs.Runs.{IsTreeRun, map_of_log, first_pairs}
 use Rattle.ordered_map.specs.Spelled.{Spells}
 use Rattle.ordered_map.proofs.Lemmas.{log_edits, one_spelling, spells_log}
 use Rattle.forest.specs.Dictionary.{IsChange}
@@ -42,7 +43,7 @@ record Grows (es fs : List Entry) : Type 0 where
   is : es ≡ more ++ fs
 
 log_grows : (lay : Layout) (h before : History) → Lawful lay h → Extends h before → Grows (log lay h) (log lay before)
-log_grows lay (Start mode) before l e = record { more = []; is = ap (log lay) (sym e) }
+log_grows lay (Opened o) before l e = record { more = []; is = ap (log lay) (sym e) }
 log_grows lay (r ⊳ h) before l (inl e) = record { more = []; is = ap (log lay) (sym e) }
 log_grows lay (r ⊳ h) before l (inr e) = go (logs lay h r l) (log_grows lay h before (lawful_tail lay h r l) e)
   where
@@ -99,9 +100,9 @@ abbrev AreBelow : ℕ → List Entry → Type 0
 AreBelow n [] = Unit {0}
 AreBelow n (e ∷ es) = (e.owner < n) × AreBelow n es
 
-opening_log : (lay : Layout) (mode : _) → AreBelow lay.passes (log lay (Start mode))
+opening_log : (lay : Layout) (o : Opening) → AreBelow lay.passes (log lay (Opened o))
 unfolding log
-opening_log lay mode = tt
+opening_log lay o = tt
 
 of_a_pass : (lay : Layout) (h : History) (s : ℕ) → Lawful lay h → HasWon h s → owner lay s < lay.passes
 of_a_pass lay h s l w =
@@ -110,7 +111,7 @@ of_a_pass lay h s l w =
     subst (λ n. n < lay.passes) (sym (owner_is lay owned.pass s owned.scx)) owned.is_pass
 
 owners_below : (lay : Layout) (h : History) → Lawful lay h → AreBelow lay.passes (log lay h)
-owners_below lay (Start mode) l = opening_log lay mode
+owners_below lay (Opened o) l = opening_log lay o
 owners_below lay (r ⊳ h) l = go (logs lay h r l) (owners_below lay h (lawful_tail lay h r l))
   where
     go : Logs lay h r → AreBelow lay.passes (log lay h) → AreBelow lay.passes (log lay (r ⊳ h))
@@ -139,6 +140,7 @@ pub version_stays : (lay : Layout) (h moment before : History) → IsTreeRun lay
 version_stays lay h moment before run e f quiet m n sm sn =
     let found = log_edits lay h run in
     let same = log_stays lay moment before (lawful_since lay h moment run.1.lawful e) f quiet in
-    one_spelling lay (value moment) n (map_of_log found.0 (log lay moment)) sn (spells_log lay h found.0 run found.1 moment e)
-    ∙ ap (map_of_log found.0) same
-    ∙ sym (one_spelling lay (value before) m (map_of_log found.0 (log lay before)) sm (spells_log lay h found.0 run found.1 before (ends_trans h moment before e f)))
+    let first : opening_of before ≡ opening_of moment = same_opening moment before f in
+    one_spelling lay (value moment) n (map_of_log found.0 (first_pairs moment) (log lay moment)) sn (spells_log lay h found.0 run found.1 moment e)
+    ∙ (λ i. map_of_log found.0 (pairs_of (sym first i).pairs) (same i))
+    ∙ sym (one_spelling lay (value before) m (map_of_log found.0 (first_pairs before) (log lay before)) sm (spells_log lay h found.0 run found.1 before (ends_trans h moment before e f)))

@@ -4,7 +4,7 @@ use Rattle.histories.specs.Common.{Tree, Layout, Row, History, value, Extends, l
 use Rattle.arena.specs.Limits.{IsLayoutOf}
 use Rattle.ordered_map.specs.Laws.{AreEdits}
 use Rattle.record.specs.Common.{MapEdit, IsTreeRun, Pair, Spells, word_pair, Reply, Script, commands}
-use Rattle.ordered_map.specs.Runs.{map_of_log}
+use Rattle.ordered_map.specs.Runs.{map_of_log, first_pairs}
 use Rattle.ordered_map.proofs.Lemmas.{log_edits, one_spelling, spells_log}
 use Rattle.arena.proofs.Lemmas.{ends_self}
 use Rattle.dict.specs.Laws.TypedMaps.{typed_run}
@@ -43,14 +43,14 @@ module _ (script : Script) (f : Ground) (layout : IsLayoutOf script.limits Tree 
 
   -- the map at each moment
   abbrev versions : History → List Pair
-  versions moment = map_of_log edits.0 (log f.layout moment)
+  versions moment = map_of_log edits.0 (first_pairs moment) (log f.layout moment)
 
   are : AreVersions f.layout whole versions
   unfolding log
   are = record {
     spelled = spells_log f.layout whole edits.0 tree edits.1;
     opens = refl;
-    stays = λ row before within same. ap (map_of_log edits.0) same;
+    stays = λ row before within same. ap (map_of_log edits.0 (first_pairs before)) same;
   }
 
   client : (c : ℕ) (own : Vec (Reply ℕ ℕ) Global) → slice_get owns c ≡ Some own → IsClientOfRun f whole versions news c (commands script.calls.items c) own.items

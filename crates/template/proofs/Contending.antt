@@ -2,7 +2,7 @@
 -- the call or has reached the node in it.
 use Rattle.std.proofs.Common.{◌≡◌, ◌≢◌, ℕ, List, inl, inr, ⊎_elim, sym, ◌∙◌, ap, subst, arith}
 use native.Mathlib.Decide.{ℕ_discrete}
-use Rattle.histories.specs.Common.{Layout, Kind, LoadInfo, info, state, History, Start, ◌⊳◌, value, HasHeld, Extends, member, Lawful, WasInTheWay, HasFailed, Call, begun_at}
+use Rattle.histories.specs.Common.{Layout, Kind, LoadInfo, info, state, History, Opened, ◌⊳◌, value, HasHeld, Extends, member, Lawful, WasInTheWay, HasFailed, Call, begun_at}
 use Rattle.arena.proofs.Lemmas.{ends_self, ends_trans, held_at, held_since}
 use Rattle.histories.proofs.Lemmas.{Effect, Facts, committed_won, effect, facts_before, freeze, freeze_is_new, freeze_keeps_info, freeze_stores, lawful_since, lawful_tail, quiet, state_since, update, update_keeps_info}
 use Rattle.prims.specs.Laws.Blamed.{moment_since, way_since}
@@ -19,7 +19,7 @@ use Rattle.template.specs.Blame.{HasCome}
 
 -- an info that is no longer what it was names an SCX-record that it had never named by then
 come_info : (lay : Layout) (h m : History) (n : ℕ) → Lawful lay h → Extends h m → value h (info n) ≢ value m (info n) → ¬ HasHeld m (info n) (value h (info n))
-come_info lay (Start mode) m n l e d = absurd (d (ap (λ k. value k (info n)) (sym e)))
+come_info lay (Opened o) m n l e d = absurd (d (ap (λ k. value k (info n)) (sym e)))
 come_info lay (r ⊳ h) m n l (inl e) d = absurd (d (ap (λ k. value k (info n)) (sym e)))
 come_info lay (r ⊳ h) m n l (inr e) d = go (effect lay h r l) (come_info lay h m n (lawful_tail lay h r l) e)
   where

@@ -1,7 +1,7 @@
 -- A call that begins a try only once all before it are lost has tried only as needed, row by row.
 use Rattle.std.proofs.Common.{◌≡◌, ◌≢◌, ℕ, suc, ◌+◌, ◌-◌, ◌<◌, ◌≤◌, Bool, true, false, inl, inr, ⊎_elim, refl, sym, ◌∙◌, ap, subst, arith}
 use Rattle.std.proofs.Math.Nat.{lt_of_not-le}
-use Rattle.histories.specs.Common.{Layout, Row, WasInTheWay, IsOthersScx, History, Start, ◌⊳◌, Extends, Call, begun_at}
+use Rattle.histories.specs.Common.{Layout, Row, WasInTheWay, IsOthersScx, History, Opened, ◌⊳◌, Extends, Call, begun_at}
 use Rattle.arena.proofs.Lemmas.{ends_self, ends_trans}
 use Rattle.prims.specs.Laws.Blamed.{way_since}
 use Rattle.prims.specs.Laws.FoundThere.{there_later}
@@ -19,7 +19,7 @@ module _ (c : ℕ) where
 
   -- by a later moment no fewer are begun
   pub tries_grow : (h m : History) → Extends h m → tries_begun c m ≤ tries_begun c h
-  tries_grow (Start mode) m e = rw e (omega arith)
+  tries_grow (Opened o) m e = rw e (omega arith)
   tries_grow (r ⊳ h) m (inl e) = rw e (omega arith)
   tries_grow (r ⊳ h) m (inr e) = let more = tries_grow h m e in let one = begun_by r h (begins_try c r) refl in omega (arith, more, one)
 
@@ -168,7 +168,7 @@ module _ (c : ℕ) where
 
   -- where one is begun there is such a try
   newest_since : (now start : History) → Extends now start → tries_begun c start < tries_begun c now → NewestSince now start
-  newest_since (Start mode) start e some = absurd (let same : tries_begun c start ≡ tries_begun c (Start mode) = ap (tries_begun c) e in omega (arith, same, some))
+  newest_since (Opened o) start e some = absurd (let same : tries_begun c start ≡ tries_begun c (Opened o) = ap (tries_begun c) e in omega (arith, same, some))
   newest_since (r ⊳ h) start (inl e) some = absurd (let same : tries_begun c start ≡ tries_begun c (r ⊳ h) = ap (tries_begun c) e in omega (arith, same, some))
   newest_since (r ⊳ h) start (inr e) some = go (begins_try c r) refl (newest_since h start e)
     where

@@ -1,6 +1,6 @@
 -- What a pass has in hand for an edit allows its SCX-record, whatever rows come until that begins.
 use Rattle.std.proofs.Common.{◌≡◌, ◌≢◌, ℕ, ◌<◌, ◌/◌, ◌%◌, true, false, eqb, ◌⊎◌, inl, inr, ⊎_elim, refl, sym, ◌∙◌, ap, arith, subst}
-use Rattle.histories.specs.Common.{Layout, Side, Left, Right, NodeWord, Child, Info, ScxWord, Word, Row, node, scx, info, child, History, Start}
+use Rattle.histories.specs.Common.{Layout, Side, Left, Right, NodeWord, Child, Info, ScxWord, Word, Row, node, scx, info, child, History, Opened}
 use Rattle.histories.specs.Common.{◌⊳◌, value, Extends, plan, count, count_of, member, seen, new, old, IsOwnNode, IsNamed, by_field, IsNamedScx, Lawful, Descriptor, descriptor}
 use Rattle.arena.proofs.Lemmas.{value_quiet, value_apart, held_more, scx_apart, ends_trans, named_before}
 use Rattle.histories.proofs.Lemmas.{lawful_row, lawful_tail, node_since, stays_unnamed, unnamed_stays}
@@ -18,7 +18,7 @@ use Rattle.template.specs.Promises.{IsReplacedBy, WillEditLeaf, IsSnapOf, WillTa
 
 -- what is promised is allowed
 pub promised_allowed : (lay : Layout) (c : ℕ) (h : History) (s : ℕ) (d : Descriptor) (e : MapEdit) → IsPromised lay c h s d e → IsAllowed TreeAllows lay c h s d
-promised_allowed lay c h s d e x k later run same begins now = (e, x k later run same begins now)
+promised_allowed lay c h s d e x k later run same begins now = inl (e, x k later run same begins now)
 
 -- what is promised of s stays promised after a row that may come before it begins
 pub promised_more : (lay : Layout) (c : ℕ) (h : History) (r : Row) (s : ℕ) (d : Descriptor) (e : MapEdit) → MayComeBetween c s r → IsPromised lay c h s d e → IsPromised lay c (r ⊳ h) s d e
@@ -27,7 +27,7 @@ promised_more lay c h r s d e b x k later = x k (later_trans c s h (r ⊳ h) k l
 -- Later histories
 
 pub later_extends : (c s : ℕ) (h k : History) → IsLater c s h k → Extends k h
-later_extends c s h (Start mode) x = x
+later_extends c s h (Opened o) x = x
 later_extends c s h (r ⊳ k) (inl e) = inl e
 later_extends c s h (r ⊳ k) (inr x) = inr (later_extends c s h k x.1)
 
@@ -64,7 +64,7 @@ stays_step lay c s h k r n i l (inr (inr q)) free own x = record {
     same w = value_quiet r k (lawful_row lay k r l).before q.same w
 
 pub stays_later : (lay : Layout) (c s : ℕ) (h k : History) (n : ℕ) → c < lay.passes → Lawful lay k → IsLater c s h k → ¬ IsNamedScx k s → IsOwnNode lay c n → ¬ IsNamed lay h n → StaysFresh lay h k n
-stays_later lay c s h (Start mode) n i l x free own d = subst (λ m. StaysFresh lay m (Start mode) n) (sym x) record { unnamed = rw x at d; words = λ part. refl }
+stays_later lay c s h (Opened o) n i l x free own d = subst (λ m. StaysFresh lay m (Opened o) n) (sym x) record { unnamed = rw x at d; words = λ part. refl }
 stays_later lay c s h (r ⊳ k) n i l (inl e) free own d = subst (λ m. StaysFresh lay m (r ⊳ k) n) (sym e) record { unnamed = rw e at d; words = λ part. refl }
 stays_later lay c s h (r ⊳ k) n i l (inr x) free own d =
     let f : ¬ IsNamedScx k s = free_before k r s free in

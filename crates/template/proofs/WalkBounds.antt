@@ -4,7 +4,7 @@ use native.Mathlib.Decide.{ℕ_discrete}
 use Rattle.arena.specs.declared.limits.Mode.TheVariants.{Records, Trie as TrieMode}
 use Rattle.std.proofs.lemmas.Nat.{mul-le}
 use Rattle.histories.specs.Common.{Mode, Tree as TreeMode, Row, Step, Load, Kind, Fill, LoadSettled, LoadChild, Side, Settled, Head as HeadWord, More as MoreWord, Key as KeyWord}
-use Rattle.histories.specs.Common.{Word, head_of, node, info, child, first_key, History, ◌⊳◌, value, Extends, IsNamed, WasInTheWay, IsRun, Call, taken_nodes}
+use Rattle.histories.specs.Common.{Word, head_of, node, info, child, first_key, History, ◌⊳◌, value, Extends, IsNamed, WasInTheWay, IsRun, Call, taken_nodes, most_taken}
 use Rattle.arena.proofs.Lemmas.{ends_self, ends_trans, taken_few, taken_more}
 use Rattle.ordered_map.specs.Paths.{depth}
 use Rattle.prims.specs.Laws.Linked.{in_field_named}
@@ -117,9 +117,10 @@ module _ (goal : Goal) (c : Call) (h : History) (f : Found) (run : IsMapRun c.la
   pub found_level : f.head.level + 1 < 2 ^ 61
   found_level =
       let deep : f.head.level < 67 + length (taken_nodes h) = no_deeper c.layout.mode (length (taken_nodes h)) f.head.level a.deep in
-      let few : length (taken_nodes h) ≤ c.layout.passes * c.layout.nodes = taken_few c.layout h run.1.lawful in
+      let few : length (taken_nodes h) ≤ most_taken c.layout = taken_few c.layout h run.1.lawful in
+      let planted : c.layout.planted ≤ 67108864 = c.layout.planted_fit in
       let most : c.layout.passes * c.layout.nodes ≤ 32 * 32768 = mul-le c.layout.passes c.layout.nodes 32 32768 c.layout.passes_fit c.layout.nodes_fit in
-      omega (arith, deep, few, most)
+      omega (arith, deep, few, planted, most)
 
 -- what a leaf answers does not change with its settled words
 pub settled_asked : (goal : Goal) (b f : Word → ℕ) (n : ℕ) → SameSettled b f n → asked_in goal f n ≡ asked_in goal b n

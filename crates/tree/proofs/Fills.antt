@@ -1,8 +1,8 @@
 -- In which order the machines of the tree fill words: what all of them have in common.
 use Rattle.std.proofs.Common.{◌≡◌, ◌≢◌, ℕ, ◌/◌, ◌%◌, inl, inr, ⊎_elim, true, eqb, sym, ap, subst, arith, eq-eqb}
-use Rattle.histories.specs.Common.{Layout, Mode, Fill as FillKind, LoadSettled, Step, NodeWord, Settled, Head, ScxWord, Word}
+use Rattle.histories.specs.Common.{Layout, Fill as FillKind, LoadSettled, Step, NodeWord, Settled, Head, ScxWord, Word}
 use Rattle.arena.specs.Layout.{IsMap}
-use Rattle.histories.specs.Common.{Node, Scx as ScxOf, IsOwnNode, History, opening_nodes, Call, row_of, begun_at, node, scx, child, IsUnmentioned}
+use Rattle.histories.specs.Common.{Node, Scx as ScxOf, IsOwnNode, History, Call, row_of, begun_at, node, scx, child, IsUnmentioned}
 use Rattle.help.specs.Laws.Help.Lawful.{help_fills_not}
 use Rattle.template.specs.Common.{Job, ScxWaitsAt, job_of, ScxAt, IsFillInOrder, TreeAllows}
 use Rattle.prims.specs.Scx.Known.{fill_step as scx_fill}
@@ -10,7 +10,8 @@ use Rattle.prims.specs.declared.scx.ScxAt.TheVariants as scx_at
 use Rattle.prims.proofs.Lemmas.{llx_fills_not}
 use Rattle.ordered_map.specs.FillOrder.{HasStoodInField}
 use Rattle.template.specs.declared.walk.Found.{Found}
-use Rattle.template.proofs.Lemmas.{either_mode, walk_fills_not}
+use Rattle.template.proofs.Lemmas.{walk_fills_not}
+use Rattle.histories.proofs.Lemmas.{map_nodes}
 use Rattle.edits.specs.Edits.{EditMeaning}
 use Rattle.edits.specs.declared.edit.Nth.{Nth}
 use Rattle.edits.specs.declared.update.UpdateAt.{UpdateAt}
@@ -41,15 +42,11 @@ pub same_number : (n k : ℕ) (a b : NodeWord) → node n a ≡ node k b → n �
 unfolding word_number
 same_number n k a b e = ap word_number e
 
--- a map opens with three nodes
-pub opens_three : (mode : Mode) → IsMap mode → opening_nodes mode ≡ 3
-opens_three mode map = ⊎_elim (ap opening_nodes) (ap opening_nodes) (either_mode mode map)
-
 -- what nothing mentions has been in no field
 pub unstood : (lay : Layout) (h : History) (c n : ℕ) → IsMap lay.mode → IsOwnNode lay c n → IsUnmentioned h n → ¬ HasStoodInField h n
 unstood lay h c n map own u (inl i) =
     let a = own.from in
-    let b : opening_nodes lay.mode ≡ 3 = opens_three lay.mode map in
+    let b = map_nodes lay map in
     omega (a, b, i, arith)
 unstood lay h c n map own u (inr x) = u.in_no_field x.0 x.1 x.2
 

@@ -1,12 +1,12 @@
 -- What takes a key out fills its copy in order: nothing mentions the copy, and its fields get what
 -- the sibling's held, which has been in the tree.
 use Rattle.std.proofs.Common.{◌≡◌, ℕ, ◌/◌, ◌%◌, ◌<◌, ◌≤◌, ◌==◌, inl, inr, List, [], ◌∷◌, length, Bool, true, false, le-ltb, cond, eqb, Option, Some, None, refl, sym, ◌∙◌, ap, subst, arith, unwrap_or}
-use Rattle.histories.specs.Common.{NodeWord, Settled, Child, Head, Side, IsInField, head_of, History, value, Call, row_of, node, child}
+use Rattle.histories.specs.Common.{NodeWord, Settled, Child, Head, Side, head_of, History, value, Call, row_of, node, child}
 use Rattle.histories.proofs.Lemmas.{node_since}
 use Rattle.prims.specs.Laws.Linked.{in_field_named}
 use Rattle.template.specs.Common.{child_of, snap_at, Snap, IsFillInOrder, WasInTree, opposite, sibling_place, is_leaf, Goal, Key as ToKey, delete}
 use Rattle.ordered_map.specs.FillOrder.{HasStoodInField, AreFilledInOrder}
-use Rattle.ordered_map.proofs.MapLemmas.{held_stood}
+use Rattle.ordered_map.proofs.MapLemmas.{child_stood}
 use Rattle.template.specs.declared.walk.Found.{Found}
 use Rattle.template.specs.declared.walk.Way.{Way}
 use Rattle.template.specs.declared.walk.Way.TheVariants.{InTree, InTrie}
@@ -18,7 +18,7 @@ use Rattle.tree.specs.Laws.Looks.{not_enough}
 use Rattle.edits.specs.declared.edit.Look.TheVariants.{At, Enough}
 use Rattle.edits.specs.Edits.{EditMeaning}
 use Rattle.tree.specs.Laws.Take.Sound.{HasFour, LooksToTake, copy_fields, few_places, has_four, looked_join, usable_at}
-use Rattle.tree.proofs.Fills.{opens_three, same_number, same_part, unstood}
+use Rattle.tree.proofs.Fills.{same_number, same_part, unstood}
 use Rattle.edits.specs.declared.edit.Nodes.{Nodes}
 use Rattle.edits.specs.declared.edit.Nth.{Nth}
 use Rattle.edits.specs.declared.edit.Work.{Work}
@@ -80,14 +80,10 @@ module _ {E : Type 0} {way : Way} {goal : Goal} (means : EditMeaning E) (m : Upd
 
     -- what a field of the sibling held has been in the tree
     field_stood : (side : Side) → AreFilledInOrder h → is_leaf (value h) sibling.node.0 ≡ false → WasInTree h (child_of sibling side).0
-    field_stood side filled fork = subst (WasInTree h) (u.is.linked.fields side u.is.info) (held_stood c.layout h u.moment sibling.node.0 side x.works.run filled u.within (named u.is.linked.in_field) u.is.not_final then)
+    field_stood side filled fork = subst (WasInTree h) (u.is.linked.fields side u.is.info) (child_stood c.layout h u.moment sibling.node.0 side x.works.run u.within u.stood u.is.not_final then)
       where
         u : HasSnappedAfterWalk c h way goal f sibling
         u = used t
-
-        named : IsInField c.layout u.moment sibling.node.0 → HasStoodInField u.moment sibling.node.0
-        named (inl i) = inl (subst (λ n. sibling.node.0 < n) (opens_three c.layout.mode x.works.run.0) i)
-        named (inr y) = inr (y.0, y.1, y.3)
 
         then : is_leaf (value u.moment) sibling.node.0 ≡ false
         then = ap (λ w. eqb (w / 4 % 2) 1) (sym (node_since c.layout h u.moment sibling.node.0 (Settled Head) x.works.run.1.lawful u.within tt (in_field_named sibling.node.0 u.is.linked.in_field))) ∙ fork

@@ -1,20 +1,21 @@
 -- Every run in which edits of typed words alone begin is one of a map, and its words spell a map
 -- of such words.
-use Rattle.std.proofs.Common.{◌≡◌, ℕ, List, [], inl, inr, refl, sym, subst}
-use Rattle.histories.specs.Common.{Layout, Mode, Row, History, Start, ◌⊳◌, value, Extends, Lawful, IsEntered, IsRun}
+use Rattle.std.proofs.Common.{◌≡◌, ◌⊎◌, ⊎_elim, ℕ, List, inl, inr, refl, sym, subst}
+use Rattle.histories.specs.Common.{Layout, Row, History, Opening, empty, Opened, ◌⊳◌, value, Extends, IsEntered, IsRun, Shaped}
 use Rattle.arena.specs.Layout.{IsMap}
 use Rattle.arena.proofs.Lemmas.{ends_self, run_as}
 use Rattle.histories.proofs.Lemmas.{Logs, lawful_since, logs, same, shaped_since, wins}
 use Rattle.template.specs.Common.{MapEdit, edited, IsMapRun, Makes, Spells, TreeAllows, Pair}
-use Rattle.ordered_map.proofs.Lemmas.{entered_begun, one_spelling}
-use Rattle.ordered_map.proofs.MapLemmas.{opening_spells, quiet_spells, update_makes}
+use Rattle.ordered_map.proofs.Lemmas.{begun_edit, entered_begun, none_edited, one_spelling}
+use Rattle.ordered_map.proofs.MapLemmas.{quiet_spells, start_spells, update_makes}
 use Rattle.dict.specs.Laws.EachCall.{edited_typed}
-use Rattle.dict.specs.Typed.{AreTyped, TypedAllows, IsTypedThere}
+use Rattle.ordered_map.specs.Planted.{first_pairs}
+use Rattle.dict.specs.Typed.{AreTyped, MakesTyped, TypedAllows, IsTypedThere}
 
 module _ (keys values : ℕ → Type 0) where
   -- a run of a typed dictionary is one of a map
   pub typed_run : (lay : Layout) (h : History) → IsRun (TypedAllows keys values) lay h → IsRun TreeAllows lay h
-  typed_run lay h run = run_as (TypedAllows keys values) TreeAllows lay (λ k s a. (a.0, a.1)) h run
+  typed_run lay h run = run_as (TypedAllows keys values) TreeAllows lay (λ k s a. ⊎_elim (λ x. inl (x.0, x.1)) (λ p. inr p.0) a) h run
 
   -- and so are its beginnings
   pub typed_since : (lay : Layout) (h m : History) → IsRun (TypedAllows keys values) lay h → Extends h m → IsRun (TypedAllows keys values) lay m
@@ -36,22 +37,32 @@ module _ (keys values : ℕ → Type 0) where
       go (same q _) = (then.0, quiet_spells lay h r then.0 tree q then.1, then.2)
       go (wins u w q) =
           let x = entered_begun (TypedAllows keys values) lay (r ⊳ h) u run.lawful run.shaped (subst (λ es. IsEntered es u) (sym q) (inl refl)) in
-          let edit : MapEdit = x.allowed.0 in
-          let makes : Makes lay (r ⊳ h) u edit = record { row = x.row; before = x.before; within = x.within; begins = x.begins; edit = x.allowed.1 } in
-          let made = update_makes lay (r ⊳ h) h r u edit tree (ends_self (r ⊳ h)) w makes in
-          (edited edit then.0, made.changes then.0 then.1, edited_typed keys values edit then.0 x.allowed.2 then.2)
+          let made : MakesTyped keys values lay x.before u = begun_edit (MakesTyped keys values lay x.before u) lay x.before x.row u (lawful_since lay (r ⊳ h) (x.row ⊳ x.before) run.lawful x.within) x.begins (⊎_elim inl (λ p. inr p.0) x.allowed) in
+          let edit : MapEdit = made.0 in
+          let makes : Makes lay (r ⊳ h) u edit = record { row = x.row; before = x.before; within = x.within; begins = x.begins; edit = made.1 } in
+          let left = update_makes lay (r ⊳ h) h r u edit tree (ends_self (r ⊳ h)) w makes in
+          (edited edit then.0, left.changes then.0 then.1, edited_typed keys values edit then.0 made.2 then.2)
+
+  -- the first pairs are of such words
+  first_typed : (lay : Layout) (o : Opening) → IsRun (TypedAllows keys values) lay (Opened o) → AreTyped keys values (first_pairs (Opened o))
+  unfolding Shaped
+  first_typed lay o run = go run.shaped
+    where
+      go : (o ≡ empty o.mode) ⊎ TypedAllows keys values lay (Opened o) 0 → AreTyped keys values (first_pairs (Opened o))
+      go (inl e) = subst (λ x. AreTyped keys values (first_pairs (Opened x))) (sym e) tt
+      go (inr (inl x)) = absurd (none_edited lay o x.0 x.1)
+      go (inr (inr p)) = p.1
 
   -- the words spell such a map at the start
-  pub typed_opens : (lay : Layout) → IsTypedThere keys values lay (Start lay.mode)
-  typed_opens lay mode = ([], opening_spells lay mode, tt)
+  pub typed_opens : (lay : Layout) (o : Opening) → IsRun (TypedAllows keys values) lay (Opened o) → IsTypedThere keys values lay (Opened o)
+  typed_opens lay o run mode = (first_pairs (Opened o), start_spells lay o (mode, typed_run lay (Opened o) run), first_typed lay o run)
 
   -- and after every row of a run in which only such edits start
   pub typed_stays : (lay : Layout) (h : History) (r : Row) → IsRun (TypedAllows keys values) lay (r ⊳ h) → IsTypedThere keys values lay h → IsTypedThere keys values lay (r ⊳ h)
   typed_stays lay h r run there mode = typed_row lay h r mode run there
 
   pub typed_there : (lay : Layout) (h : History) → IsRun (TypedAllows keys values) lay h → IsTypedThere keys values lay h
-  unfolding Lawful
-  typed_there lay (Start mode) run = subst (λ (m : Mode). IsTypedThere keys values lay (Start m)) (sym run.lawful) (typed_opens lay)
+  typed_there lay (Opened o) run = typed_opens lay o run
   typed_there lay (r ⊳ h) run = typed_stays lay h r run (typed_there lay h (typed_since lay (r ⊳ h) h run (inr (ends_self h))))
 
   -- so each map that they spell is of such words

@@ -73,7 +73,7 @@ module _ (keys values : ℕ → Type 0) where
       allowed : (s : ℕ) → IsFirst lay h r s → IsBegin h r s → TypedAllows keys values lay h s
       allowed s first b =
           let m : (e : MapEdit) × Makes lay (r ⊳ h) s e × IsTypedEdit keys values e = makes s first b in
-          (m.0, makes_at lay (r ⊳ h) h r s m.0 tree.lawful (inl refl) b m.1, m.2)
+          inl (m.0, makes_at lay (r ⊳ h) h r s m.0 tree.lawful (inl refl) b m.1, m.2)
 
   -- a row that is no freeze begins none
   pub typed_no_freeze : (lay : Layout) (h : History) (r : Row) → IsRun (TypedAllows keys values) lay h → IsRun TreeAllows lay (r ⊳ h) → r.kind ≢ Freeze → IsRun (TypedAllows keys values) lay (r ⊳ h)

@@ -1,7 +1,7 @@
 -- What the pass of a call has entered since a moment: nothing while it is quiet, and nothing but
 -- its SCX-record in hand.
 use Rattle.std.proofs.Common.{◌≡◌, ◌≢◌, ℕ, suc, ◌⊎◌, inl, inr, sym, ap, subst, arith}
-use Rattle.histories.specs.Common.{Layout, Fill, Row, IsInProgress, History, Start, ◌⊳◌, value, Extends, Lawful, HasWon, IsWin, state}
+use Rattle.histories.specs.Common.{Layout, Fill, Row, IsInProgress, History, Opened, ◌⊳◌, value, Extends, Lawful, HasWon, IsWin, state}
 use Rattle.arena.proofs.Lemmas.{ends_self, ends_trans, same_moment}
 use Rattle.histories.proofs.Lemmas.{aborted_never_won, lawful_since, won_since}
 use Rattle.prims.specs.Laws.Idle.{IsQuietSince}
@@ -13,7 +13,7 @@ use Rattle.edits.specs.Tries.{HasEnteredOnly, HasEnteredNone, HasFilledNone}
 
 -- how many rows a history has
 rows : History → ℕ
-rows (Start mode) = 0
+rows (Opened o) = 0
 rows (r ⊳ h) = suc (rows h)
 
 -- no row is between a moment and itself
@@ -57,7 +57,7 @@ module _ (lay : Layout) (c : ℕ) where
       own_in_hand lay h c t s (lawful_since lay (r ⊳ h) h l (inr (ends_self h))) over own (subst (λ k. IsInProgress k t) same (running before row t now w))
     where
       older : History → History → History
-      older k (Start mode) = k
+      older k (Opened o) = k
       older k (q ⊳ j) = j
 
   -- what is entered after two moments, one later than the other

@@ -16,7 +16,7 @@ use Rattle.edits.specs.declared.reading.Reading.{Reading}
 use Rattle.edits.specs.declared.update.UpdateRun.{UpdateRun}
 use Rattle.edits.specs.Edits.{EditMeaning, covering}
 use Rattle.edits.specs.Laws.SnapLists.{at_end}
-use Rattle.edits.specs.Known.{RestsWith, HasSnapped, HasSnappedAfterWalk, AreSnapped, AreUsable, Guarded, IsKept, HasLooked, MayRead, MayReadAt, WorksAtNode}
+use Rattle.edits.specs.Known.{RestsWith, HasSnappedInCall, HasSnappedAfterWalk, AreSnappedInCall, AreUsable, Guarded, IsGuardSnap, HasLooked, MayRead, MayReadAt, WorksAtNode}
 use Rattle.edits.specs.Readings.{IsRead, slot_read}
 
 -- a pass at rest is idle
@@ -42,15 +42,15 @@ rests_by_step c h r left l no_fill x = record {
 }
 
 -- a snapshot that the call has taken may be used
-pub snapped_usable : (c : Call) (h : History) (snap : Snap) → Lawful c.layout h → (x : HasSnapped c h snap) → IsUsable c.layout h snap x.moment
+pub snapped_usable : (c : Call) (h : History) (snap : Snap) → Lawful c.layout h → (x : HasSnappedInCall c h snap) → IsUsable c.layout h snap x.moment
 snapped_usable c h snap l x = usable_since c.layout h x.moment snap x.moment l x.within (usable_now c.layout x.moment snap.node.0 snap x.is)
 
 -- one that it has taken behind its walk is one that it has taken
-pub has_snapped : (c : Call) (h : History) (way : Way) (goal : Goal) (f : Found) (snap : Snap) → HasSnappedAfterWalk c h way goal f snap → HasSnapped c h snap
+pub has_snapped : (c : Call) (h : History) (way : Way) (goal : Goal) (f : Found) (snap : Snap) → HasSnappedAfterWalk c h way goal f snap → HasSnappedInCall c h snap
 has_snapped c h way goal f snap u = record { moment = u.moment; within = u.within; since = u.since; stood = u.stood; is = u.is; met = u.met }
 
 -- so is that of its guard
-pub kept_snapped : (c : Call) (h g : History) (snap : Snap) → IsMapRun c.layout h → IsKept c h g snap → HasSnapped c h snap
+pub kept_snapped : (c : Call) (h g : History) (snap : Snap) → IsMapRun c.layout h → IsGuardSnap c h g snap → HasSnappedInCall c h snap
 kept_snapped c h g snap run x = record {
   moment = x.row ⊳ g;
   within = x.within;
@@ -61,12 +61,12 @@ kept_snapped c h g snap run x = record {
 }
 
 -- what it covers it has taken
-pub covering_snapped : (c : Call) (h : History) (way : Way) (goal : Goal) (f : Found) (guard : Bool) (snaps : List Snap) (kept : Snap) → AreUsable c h way goal f snaps → (guard ≡ true → HasSnapped c h kept) → AreSnapped c h (covering guard snaps kept)
+pub covering_snapped : (c : Call) (h : History) (way : Way) (goal : Goal) (f : Found) (guard : Bool) (snaps : List Snap) (kept : Snap) → AreUsable c h way goal f snaps → (guard ≡ true → HasSnappedInCall c h kept) → AreSnappedInCall c h (covering guard snaps kept)
 covering_snapped c h way goal f false snaps kept x y i p = has_snapped c h way goal f (snap_at snaps i) (x i p)
-covering_snapped c h way goal f true snaps kept x y i p = ⊎_elim (λ q. subst (HasSnapped c h) (sym q.1) (has_snapped c h way goal f (snap_at snaps i) (x i q.0))) (λ q. subst (HasSnapped c h) (sym q.1) (y refl)) (at_end snaps kept i p)
+covering_snapped c h way goal f true snaps kept x y i p = ⊎_elim (λ q. subst (HasSnappedInCall c h) (sym q.1) (has_snapped c h way goal f (snap_at snaps i) (x i q.0))) (λ q. subst (HasSnappedInCall c h) (sym q.1) (y refl)) (at_end snaps kept i p)
 
 -- what is kept of its guard is kept
-pub kept_more : (c : Call) (h : History) (r : Row) (g : History) (snap : Snap) → IsKept c h g snap → IsKept c (r ⊳ h) g snap
+pub kept_more : (c : Call) (h : History) (r : Row) (g : History) (snap : Snap) → IsGuardSnap c h g snap → IsGuardSnap c (r ⊳ h) g snap
 kept_more c h r g snap x = record { row = x.row; within = inr x.within; since = x.since; is = x.is; met = x.met }
 
 pub guarded_more : {E : Type 0} (e : EditMeaning E) (ed : E) (c : Call) (h : History) (r : Row) (snap : Snap) (P Q : Call → Type 0) → ((g : History) → P (begun_at c g) → Q (begun_at c g)) → Guarded e ed c h snap P → Guarded e ed c (r ⊳ h) snap Q

@@ -7,7 +7,6 @@ ghost use Rattle.dict.specs.Says.{KeepsLists};
 ghost use Rattle.ordered_map.specs.CallRules.{most_steps};
 ghost use Rattle.ordered_map.specs.OrderedMap.{Neighbour as NeighbourOf};
 ghost use Rattle.ordered_map.specs.Requests.{as_map_call};
-ghost use Rattle.order.specs.Neighbour.{neighbour_means, neighbour_try_left};
 ghost use Rattle.order.specs.Range.{range_means, range_try_left};
 ghost use Rattle.order.specs.Steps.{read_left};
 ghost use Rattle.order.specs.declared.run.ReadAt.{ReadAt};
@@ -23,7 +22,7 @@ use crate::view::SeatView;
 use arena::{Share, Side};
 use atomic_table::Seat;
 use dict::{Dict, DictRun, Reply, Request, WordKey, WordValue, of_neighbour, of_range, of_update};
-use order::{Neighbour, NeighbourRun, Range, RangeRun};
+use order::{Neighbour, Range, RangeRun};
 use std::alloc::Global;
 use tree::{EditGoal, EditRule, KeyEdit};
 
@@ -84,24 +83,6 @@ fn range_run(alloc: Global, low: u64, high: u64, most: usize, tries: u32) -> Ran
     run
 }
 
-/// A search beside a key that has not begun, with room for the forks that it looks at as a rule.
-/// Where that is refused, the list grows as it is filled.
-#[inline(always)]
-fn neighbour_run(alloc: Global, key: u64, side: Side, tries: u32) -> NeighbourRun
-    ensures key { result.read.key ≡ key }
-    ensures side { result.read.side ≡ side }
-    ensures start { result.at ≡ ReadAt.Start }
-    ensures snaps { result.snaps.items ≡ [] }
-    ensures limit { result.limit ≡ tries }
-    ensures tries { result.tries ≡ tries - 1 }
-    ensures bound { (nodes : ℕ) → 0 < tries → read_left neighbour_means result nodes
-        ≤ tries * neighbour_try_left nodes }
-{
-    let mut run = Neighbour::run(alloc, key, side, tries);
-    let _ = run.snaps.reserve(DEEP);
-    run
-}
-
 /// Looks with so many tries for the pair beside a key on this side, and takes nothing of a share. What
 /// it keeps grows with this allocator.
 #[inline(always)]
@@ -129,7 +110,7 @@ fn neighbour<K: WordKey, V: WordValue>(
         (shared_nodes hand.entry.layout.now) }
 {
     key.valid();
-    let mut run = neighbour_run(alloc, key.word(), side, tries);
+    let mut run = Neighbour::run(alloc, key.word(), side, tries);
     let told = ordered_read::call::<Dict<K, V>, DictRun<K, V>, Neighbour>(hand, seat, &mut run);
     of_neighbour(told)
 }

@@ -8,6 +8,8 @@ ghost use Rattle.forest.specs.Hands.{IsAt, hand_calls};
 ghost use Rattle.forest.specs.Seats.{StaysAtTable};
 ghost use Rattle.forest.specs.Traces.{shared_nodes};
 ghost use Rattle.forest.specs.StraightWalk.{Walker, WalkerFinds, WalkerGoesDown, WalkerIsTold, WalkerWaits, WalksFromRoot};
+ghost use Rattle.ordered_map.specs.Holding.{end_slot};
+ghost use Rattle.ordered_map.specs.declared.rule.Goal.{Goal};
 ghost use Rattle.order.specs.declared.last_turns.LastTurns.{LastTurns};
 ghost use Rattle.prims.specs.Llx.Known.{load};
 ghost use Rattle.template.specs.FoundLeaf.{asked_key, path_key};
@@ -55,41 +57,6 @@ fn read<S: Shape, M: Machine<S>>(
     step_from::<S, M>(hand, seat, Step { kind, word, access }, start)
 }
 
-/// Loads the child on this side of a node that begins there. On the way to an end an arm for each
-/// side costs less than its place, and few forks are of another side than the one before.
-#[inline(always)]
-fn read_child<S: Shape, M: Machine<S>>(
-    hand: Hand<S>,
-    seat: &mut Seat<u8, SeatView>,
-    goal: Goal,
-    node: NodeNo,
-    start: usize,
-    side: Side,
-) -> u64
-    requires table { IsAt hand seat.old }
-    requires start { start ≡ node_start node }
-    requires waits { (w : Walker (hand_calls S.Shape M.Machine hand)) × (m : WalkRun)
-        × (turn : LastTurns)
-        × WalkerWaits w seat.old.me.0.passes m turn
-        (load Kind.LoadChild (Word.Node node (NodeWord.Child side))) }
-    ensures table { StaysAtTable seat.old seat.new }
-    ensures one { steps_made seat.new ≡ suc (steps_made seat.old) }
-    ensures told { (w : Walker (hand_calls S.Shape M.Machine hand.entry)) (m : WalkRun)
-        (turn : LastTurns)
-        → WalkerWaits w seat.old.me.0.passes m turn
-        (load Kind.LoadChild (Word.Node node (NodeWord.Child side)))
-        → WalkerIsTold w seat.new.me.0.passes m turn result }
-{
-    let kind = Kind::LoadChild;
-    if let Goal::Key(_) = goal {
-        return read::<S, M>(hand, seat, kind, node, start, NodeWord::Child(side));
-    }
-    match side {
-        Side::Left => read::<S, M>(hand, seat, kind, node, start, NodeWord::Child(Side::Left)),
-        Side::Right => read::<S, M>(hand, seat, kind, node, start, NodeWord::Child(Side::Right)),
-    }
-}
-
 /// On which side of a fork with this key the walk continues.
 #[inline(always)]
 fn side_of(goal: Goal, key: u64) -> Side
@@ -135,17 +102,6 @@ fn open_side(goal: Goal, word: u64) -> Side
     match goal {
         Goal::Key(_) => Side::Left,
         Goal::End(side) => { if word % 4 == 0 { side } else { Side::Left } }
-    }
-}
-
-/// The slot in which the walk begins at a leaf with `more` pairs after its first.
-#[inline(always)]
-fn first_slot(goal: Goal, more: u64) -> Slot
-    ensures { result ≡ goal_slot goal more }
-{
-    match goal {
-        Goal::Key(_) => Slot::First,
-        Goal::End(side) => end_slot(side, more),
     }
 }
 
@@ -202,7 +158,7 @@ fn end_with<S: Shape, M: Machine<S>>(
     }
 }
 
-/// Ends among the pairs of a leaf, as below, from the first slot on, which the compiler knows.
+/// Ends among the pairs of a leaf, as below, from this slot on.
 #[inline(always)]
 fn end_from<S: Shape, M: Machine<S>>(
     hand: Hand<S>,
@@ -249,8 +205,73 @@ fn end_from<S: Shape, M: Machine<S>>(
     }
 }
 
+/// Ends at the pair at this end of a leaf, as below, which is in this slot.
+#[inline(always)]
+fn end_at<S: Shape, M: Machine<S>>(
+    hand: Hand<S>,
+    seat: &mut Seat<u8, SeatView>,
+    way: Way,
+    side: Side,
+    trail: Trail,
+    start: usize,
+    head: Head,
+    more: u64,
+    slot: Slot,
+) -> Found
+    requires table { IsAt hand seat.old }
+    requires start { start ≡ node_start trail.node }
+    requires slot { slot ≡ end_slot side more }
+    requires told { (w : Walker (hand_calls S.Shape M.Machine hand)) × (turn : LastTurns)
+        × WalkerIsTold w seat.old.me.0.passes (way_at way (Goal.End side) trail (WalkAt.More head)) turn
+        more }
+    ensures table { StaysAtTable seat.old seat.new }
+    ensures steps { steps_made seat.new ≡ steps_made seat.old + 3 }
+    ensures finds { (w : Walker (hand_calls S.Shape M.Machine hand.entry)) (turn : LastTurns)
+        → WalkerIsTold w seat.old.me.0.passes (way_at way (Goal.End side) trail (WalkAt.More head)) turn
+        more
+        → WalkerFinds w seat.new.me.0.passes way (Goal.End side) turn result }
+{
+    let (kind, part) = (Kind::LoadSettled, NodeWord::Settled(SettledPart::Key(slot)));
+    let key = read::<S, M>(hand, seat, kind, trail.node, start, part);
+    let goal = Goal::End(side);
+    end_with::<S, M>(hand, seat, way, goal, trail, start, head, more, slot, key)
+}
+
+/// Ends at the pair at this end of a leaf, as below. The first slot has places apart from those of the
+/// others.
+#[inline(always)]
+fn end_at_side<S: Shape, M: Machine<S>>(
+    hand: Hand<S>,
+    seat: &mut Seat<u8, SeatView>,
+    way: Way,
+    side: Side,
+    trail: Trail,
+    start: usize,
+    head: Head,
+    more: u64,
+) -> Found
+    requires table { IsAt hand seat.old }
+    requires start { start ≡ node_start trail.node }
+    requires told { (w : Walker (hand_calls S.Shape M.Machine hand)) × (turn : LastTurns)
+        × WalkerIsTold w seat.old.me.0.passes (way_at way (Goal.End side) trail (WalkAt.More head)) turn
+        more }
+    ensures table { StaysAtTable seat.old seat.new }
+    ensures steps { steps_made seat.new ≡ steps_made seat.old + 3 }
+    ensures finds { (w : Walker (hand_calls S.Shape M.Machine hand.entry)) (turn : LastTurns)
+        → WalkerIsTold w seat.old.me.0.passes (way_at way (Goal.End side) trail (WalkAt.More head)) turn
+        more
+        → WalkerFinds w seat.new.me.0.passes way (Goal.End side) turn result }
+{
+    match end_slot(side, more) {
+        Slot::First => {
+            end_at::<S, M>(hand, seat, way, side, trail, start, head, more, Slot::First)
+        }
+        slot => end_at::<S, M>(hand, seat, way, side, trail, start, head, more, slot),
+    }
+}
+
 /// Ends at a leaf of class 0 that begins there and has `more` pairs after its first: it loads the
-/// keys in order up to the first that is not below the walk's, or the last.
+/// keys in order up to the first that is not below the walk's, or the last; or that at an end.
 #[inline(always)]
 fn end_among<S: Shape, M: Machine<S>>(
     hand: Hand<S>,
@@ -272,51 +293,11 @@ fn end_among<S: Shape, M: Machine<S>>(
         → WalkerIsTold w seat.old.me.0.passes (way_at way goal trail (WalkAt.More head)) turn more
         → WalkerFinds w seat.new.me.0.passes way goal turn result }
 {
-    match first_slot(goal, more) {
-        Slot::First => end_from::<S, M>(
-            hand,
-            seat,
-            way,
-            goal,
-            trail,
-            start,
-            head,
-            more,
-            Slot::First,
-        ),
-        Slot::Second => end_from::<S, M>(
-            hand,
-            seat,
-            way,
-            goal,
-            trail,
-            start,
-            head,
-            more,
-            Slot::Second,
-        ),
-        Slot::Third => end_from::<S, M>(
-            hand,
-            seat,
-            way,
-            goal,
-            trail,
-            start,
-            head,
-            more,
-            Slot::Third,
-        ),
-        Slot::Fourth => end_from::<S, M>(
-            hand,
-            seat,
-            way,
-            goal,
-            trail,
-            start,
-            head,
-            more,
-            Slot::Fourth,
-        ),
+    match goal {
+        Goal::Key(_) => {
+            end_from::<S, M>(hand, seat, way, goal, trail, start, head, more, Slot::First)
+        }
+        Goal::End(side) => end_at_side::<S, M>(hand, seat, way, side, trail, start, head, more),
     }
 }
 
@@ -523,7 +504,8 @@ fn descend<S: Shape, M: Machine<S>>(
         (load Kind.LoadSettled (Word.Node result.trail.node (NodeWord.Settled SettledPart.Head))) }
 {
     let node = place.trail.node;
-    let child = read_child::<S, M>(hand, seat, goal, node, place.start, side);
+    let part = NodeWord::Child(side);
+    let child = read::<S, M>(hand, seat, Kind::LoadChild, node, place.start, part);
     let trail = Trail {
         grand: place.trail.parent,
         grand_side: place.trail.side,
@@ -621,7 +603,8 @@ fn to_goal<S: Shape, M: Machine<S>>(
             Ok(side) => side,
             Err(found) => return (found, turns),
         };
-        let child = read_child::<S, M>(hand, seat, goal, node, start, side);
+        let part = NodeWord::Child(side);
+        let child = read::<S, M>(hand, seat, Kind::LoadChild, node, start, part);
         turns = turns.with(side, node);
         trail = Trail {
             grand: trail.parent,

@@ -2,7 +2,7 @@
 use Rattle.std.proofs.Common.{◌≡◌, ◌≢◌, ℕ, ◌<◌, ◌≤◌, true, false, ◌==◌, length, List, [], inl, inr, refl, ap, subst, arith}
 use Rattle.std.proofs.Math.Bool.{and-false}
 use Rattle.histories.specs.Common.{Row, Step, LoadSettled, NodeWord, Settled, Head, More as MoreWord, Key as KeyWord, Value as ValueWord}
-use Rattle.histories.specs.Common.{High as HighWord, First, node, same_node_word, History, Start, ◌⊳◌, value, Extends, IsRun, Call, begun_at, taken_nodes}
+use Rattle.histories.specs.Common.{High as HighWord, First, node, same_node_word, History, Opened, ◌⊳◌, value, Extends, IsRun, Call, begun_at, taken_nodes}
 use Rattle.arena.proofs.Lemmas.{ends_self, ends_trans, taken_more}
 use Rattle.prims.specs.Laws.Begun.{TakesOnly}
 use Rattle.prims.specs.Laws.Idle.{IsIdle, quiet_at_start, quiet_more, idle_if_finished}
@@ -42,7 +42,7 @@ reads_anew c h snaps none run over = rw none record {
 
 -- no node that was taken is untaken
 pub taken_nodes_grow : (h m : History) → Extends h m → length (taken_nodes m) ≤ length (taken_nodes h)
-taken_nodes_grow (Start mode) m e = rw e (omega arith)
+taken_nodes_grow (Opened o) m e = rw e (omega arith)
 taken_nodes_grow (r ⊳ h) m (inl e) = rw e (omega arith)
 taken_nodes_grow (r ⊳ h) m (inr e) =
     let x : length (taken_nodes m) ≤ length (taken_nodes h) = taken_nodes_grow h m e in

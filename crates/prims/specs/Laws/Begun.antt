@@ -1,6 +1,6 @@
 -- What a call over snapshots knows since its start stays, whatever rows come.
 use Rattle.std.proofs.Common.{◌≡◌, ◌≢◌, ℕ, inr, inl, ◌∙◌, subst, List}
-use Rattle.histories.specs.Common.{Layout, Row, Fill, NodeWord, ScxWord, Plan, New, Old, Member, Seen, node, scx, History, Start, ◌⊳◌, value, Extends, IsOwnScx, IsTakenScx, Lawful, Call}
+use Rattle.histories.specs.Common.{Layout, Row, Fill, NodeWord, ScxWord, Plan, New, Old, Member, Seen, node, scx, History, Opened, ◌⊳◌, value, Extends, IsOwnScx, IsTakenScx, Lawful, Call}
 use Rattle.arena.specs.declared.word.ScxWord.TheVariants.{Call as CallWord}
 use Rattle.arena.proofs.Lemmas.{taken_scx_more}
 use Rattle.histories.proofs.Lemmas.{IsScxFill, untaken_by_node, untaken_by_other_fill, untaken_by_others, untaken_by_step}
@@ -11,7 +11,7 @@ use Rattle.prims.specs.declared.update.Update.{Update}
 
 -- an SCX-record that was taken at a moment is taken ever after
 pub taken_since : (h k : History) (s : ℕ) → Extends h k → IsTakenScx k s → IsTakenScx h s
-taken_since (Start mode) k s e t = subst (λ m. IsTakenScx m s) e t
+taken_since (Opened o) k s e t = subst (λ m. IsTakenScx m s) e t
 taken_since (r ⊳ h) k s (inl e) t = subst (λ m. IsTakenScx m s) e t
 taken_since (r ⊳ h) k s (inr e) t = taken_scx_more r h s (taken_since h k s e t)
 

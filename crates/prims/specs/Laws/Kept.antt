@@ -1,7 +1,7 @@
 -- What a snapshot has shown stays in its node's fields until the SCX-record wins that covers the node.
 use Rattle.std.proofs.Common.{◌≡◌, ◌≢◌, ℕ, ◌<◌, inl, inr, refl, sym, ◌∙◌, ap, subst}
 use native.Mathlib.Decide.{ℕ_discrete}
-use Rattle.histories.specs.Common.{Layout, Row, Side, Child, ScxWord, Plan, Member, Seen, scx, info, child, History, Start, ◌⊳◌, value, Extends}
+use Rattle.histories.specs.Common.{Layout, Row, Side, Child, ScxWord, Plan, Member, Seen, scx, info, child, History, Opened, ◌⊳◌, value, Extends}
 use Rattle.histories.specs.Common.{count, count_of, field_index, member, seen, side_of, plan, IsNamed, by_scx, IsWin, HasWon, Lawful, descriptor}
 use Rattle.arena.proofs.Lemmas.{held_at, node_apart}
 use Rattle.histories.proofs.Lemmas.{About, Effect, Facts, FreezeWins, IsScxFill, UpdateWins, effect, facts, facts_before, freeze, freeze_finds, freeze_keeps_field, freeze_keeps_info, freeze_keeps_scx, freeze_stores, holds_member, lawful_row, lawful_tail, quiet, scx_stays, some_is_real, update, update_flagged, update_holds, update_is_first, update_keeps_info, update_keeps_other, update_won, won_more}
@@ -93,7 +93,7 @@ module _ (lay : Layout) (h : History) (r : Row) (s i : ℕ) (snap : Snap) (side 
 
 -- so the fields are as at each moment at which the info was what it has seen
 held_shows : (lay : Layout) (h m : History) (s i : ℕ) (snap : Snap) (side : Side) → Lawful lay h → s ≢ 0 → HoldsSnap h s i snap → Extends h m → IsLinked lay m snap → value m (info snap.node.0) ≡ snap.scx.0 → value h (child snap.node.0 side) ≡ (child_of snap side).0
-held_shows lay (Start mode) m s i snap side l real x e linked here = subst (λ k. value k (child snap.node.0 side) ≡ (child_of snap side).0) e (linked.fields side here)
+held_shows lay (Opened o) m s i snap side l real x e linked here = subst (λ k. value k (child snap.node.0 side) ≡ (child_of snap side).0) e (linked.fields side here)
 held_shows lay (r ⊳ h) m s i snap side l real x (inl e) linked here = subst (λ k. value k (child snap.node.0 side) ≡ (child_of snap side).0) e (linked.fields side here)
 held_shows lay (r ⊳ h) m s i snap side l real x (inr e) linked here =
     shows_next lay h r s i snap side l real x (linked_since lay h m snap (lawful_tail lay h r l) e linked) (ℕ_discrete (value h (info snap.node.0)) s)

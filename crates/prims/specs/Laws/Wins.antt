@@ -1,7 +1,7 @@
 -- The row at which an update has won: its entry, and the last entries of its nodes until then.
 use Rattle.std.proofs.Common.{◌≡◌, ◌≢◌, ℕ, ◌<◌, false, ◌⊎◌, inl, inr, ⊎_elim, ◌∷◌, refl, sym, ◌∙◌, ap, subst}
 use native.Mathlib.Decide.{ℕ_discrete}
-use Rattle.histories.specs.Common.{Layout, Row, Freeze, Update, ScxWord, Plan, Member, Seen, scx, info, state, History, Start, ◌⊳◌, value, HasHeld, Extends}
+use Rattle.histories.specs.Common.{Layout, Row, Freeze, Update, ScxWord, Plan, Member, Seen, scx, info, state, History, Opened, ◌⊳◌, value, HasHeld, Extends}
 use Rattle.histories.specs.Common.{count, count_of, member, seen, IsNamed, IsNamedScx, IsWin, HasWon, Lawful, IsMember, log, last, is_final, descriptor}
 use Rattle.arena.proofs.Lemmas.{ends_self, ends_trans, held_at, held_since}
 use Rattle.histories.proofs.Lemmas.{About, Effect, Facts, FreezeWins, IsScxFill, UpdateWins, effect, entry_of, facts, facts_before, freeze, freeze_finds, freeze_keeps_info, freeze_keeps_scx, freeze_stores, holds_member, last_since, last_waits, lawful_row, lawful_since, lawful_tail, log_same, log_wins, quiet, scx_since, scx_stays, some_is_real, update, update_flagged, update_is_first, update_keeps_info, win_not_final, won_more, won_since}
@@ -10,7 +10,7 @@ use Rattle.histories.proofs.Lemmas.{About, Effect, Facts, FreezeWins, IsScxFill,
 
 -- of two moments one comes before the other
 pub ends_either : (h a b : History) → Extends h a → Extends h b → Extends a b ⊎ Extends b a
-ends_either (Start mode) a b p q = inl (subst (λ k. Extends k b) (sym p) q)
+ends_either (Opened o) a b p q = inl (subst (λ k. Extends k b) (sym p) q)
 ends_either (r ⊳ h) a b (inl p) q = inl (subst (λ k. Extends k b) (sym p) q)
 ends_either (r ⊳ h) a b (inr p) (inl q) = inr (subst (λ k. Extends k a) (sym q) (inr p))
 ends_either (r ⊳ h) a b (inr p) (inr q) = ends_either h a b p q
@@ -20,7 +20,7 @@ ends_either (r ⊳ h) a b (inr p) (inr q) = ends_either h a b p q
 -- before an update of s has won, and while s holds its i-th node n, the last entry of n is that of
 -- each moment at which the info of n was what the snapshot found there
 pub last_held : (lay : Layout) (h m : History) (s i n q : ℕ) → Lawful lay h → s ≢ 0 → i < count h s → member h s i ≡ n → seen h s i ≡ q → value h (info n) ≡ s → ¬ HasWon h s → Extends h m → IsNamed lay m n → value m (state q) ≢ 0 → value m (info n) ≡ q → last (log lay h) n ≡ last (log lay m) n
-last_held lay (Start mode) m s i n q l real w is_n is_q held waits e named rest here = ap (λ k. last (log lay k) n) (sym e)
+last_held lay (Opened o) m s i n q l real w is_n is_q held waits e named rest here = ap (λ k. last (log lay k) n) (sym e)
 last_held lay (r ⊳ h) m s i n q l real w is_n is_q held waits (inl e) named rest here = ap (λ k. last (log lay k) n) (sym e)
 last_held lay (r ⊳ h) m s i n q l real w is_n is_q held waits (inr e) named rest here = go (ℕ_discrete (value h (info n)) s) (λ w' is_n' is_q' held' waits'. last_held lay h m s i n q (lawful_tail lay h r l) real w' is_n' is_q' held' waits' e named rest here)
   where
@@ -76,7 +76,7 @@ won_by r h s w = inl w
 -- where s has won, there is such a row
 pub won_at : (lay : Layout) (h : History) (s : ℕ) → HasWon h s → IsWonAt lay h s
 unfolding HasWon
-won_at lay (Start mode) s w = absurd w
+won_at lay (Opened o) s w = absurd w
 won_at lay (r ⊳ h) s (inl w) = record { row = r; before = h; within = inl refl; wins = w }
 won_at lay (r ⊳ h) s (inr w) = let x = won_at lay h s w in record { row = x.row; before = x.before; within = inr x.within; wins = x.wins }
 

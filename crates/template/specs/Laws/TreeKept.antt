@@ -1,6 +1,6 @@
 -- What every run under the shape of the tree keeps: the words are a tree.
-use Rattle.std.proofs.Common.{◌≡◌, List, refl}
-use Rattle.histories.specs.Common.{Tree as TreeMode, Layout, Row, History, Start, ◌⊳◌, value, Lawful, Shaped, IsRun}
+use Rattle.std.proofs.Common.{◌≡◌, List}
+use Rattle.histories.specs.Common.{Tree as TreeMode, Layout, Row, History, Opening, Opened, ◌⊳◌, value, IsRun}
 use Rattle.ordered_map.specs.declared.pair.Pair.{Pair}
 use Rattle.ordered_map.proofs.Lemmas.{run_spells}
 use Rattle.ordered_map.specs.Spelled.{Spells}
@@ -11,9 +11,8 @@ abbrev pub IsTreeThere : Layout → History → Type 0
 IsTreeThere lay h = lay.mode ≡ TreeMode → (m : List Pair) × Spells lay (value h) m
 
 -- they do so at the start
-pub tree_opens : (lay : Layout) → IsTreeThere lay (Start lay.mode)
-unfolding Lawful Shaped
-tree_opens lay mode = run_spells lay (Start lay.mode) (mode, record { lawful = refl; shaped = tt })
+pub tree_opens : (lay : Layout) (o : Opening) → IsRun TreeAllows lay (Opened o) → IsTreeThere lay (Opened o)
+tree_opens lay o run mode = run_spells lay (Opened o) (mode, run)
 
 -- and after every row of a run in which only edits of the tree begin
 pub tree_stays : (lay : Layout) (h : History) (r : Row) → IsRun TreeAllows lay (r ⊳ h) → IsTreeThere lay h → IsTreeThere lay (r ⊳ h)

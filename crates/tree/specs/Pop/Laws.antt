@@ -5,7 +5,7 @@ use Rattle.template.specs.Common.{Snap, delete, snap_at}
 use Rattle.template.specs.declared.walk.Found.{Found}
 use Rattle.tree.specs.LeafEdit.{leaf_looks, leaf_reads}
 use Rattle.tree.specs.Put.Laws.{few_looks as few_leaf_looks}
-use Rattle.tree.specs.Take.Laws.{copy_fills, few_fills, few_nodes}
+use Rattle.tree.specs.Take.Laws.{copy_fills, few_fills, one_node}
 use Rattle.tree.specs.Take.Means.{has_more, sibling_copy}
 use Rattle.tree.specs.Pop.Means.{end_looks, pop_looks, pop_means, pop_piece, pop_plan, pop_reads}
 use Rattle.edits.specs.declared.edit.Look.TheVariants.{At, Enough}
@@ -50,7 +50,7 @@ pub pop_bounds : EditBounds pop_means
 pop_bounds = record {
   few_looks = λ e f snaps n d. few_looks f snaps n d;
   small = omega arith;
-  few_nodes = λ e f. few_nodes f.value (pop_plan f);
+  few_nodes = λ e f. one_node f.value (pop_plan f);
   some_nodes = omega arith;
   few_reads = λ e f snaps x d. few_reads f snaps x d;
   few_fills = λ e f snaps ns read. few_fills f.value (pop_plan f) (pop_piece e.key f snaps read) (piece_fills e.key f snaps read);

@@ -32,9 +32,9 @@ few_looks f snaps n e = go (has_more f) e
     go true d = let l = few_leaf_looks f f.trail.node snaps n d in omega (arith, l)
     go false d = few_join_looks f snaps n d
 
-pub few_nodes : (o : Option ℕ) (plan : ℕ) → (work_by o plan).need ≤ 1
-few_nodes None plan = omega arith
-few_nodes (Some v) plan = omega arith
+pub one_node : (o : Option ℕ) (plan : ℕ) → (work_by o plan).need ≤ 1
+one_node None plan = omega arith
+one_node (Some v) plan = omega arith
 
 few_reads : (f : Found) (snaps : List Snap) (x : NodeNo × Reading) → Some (take_reads f snaps) ≡ Some x → reads_left x.1 ≤ 14
 few_reads f snaps x e = subst (λ (y : NodeNo × Reading). reads_left y.1 ≤ 14) (the_same (take_reads f snaps) x e) (go (has_more f))
@@ -67,7 +67,7 @@ pub take_bounds : EditBounds take_means
 take_bounds = record {
   few_looks = λ e f snaps n d. few_looks f snaps n d;
   small = omega arith;
-  few_nodes = λ e f. few_nodes f.value (take_plan f);
+  few_nodes = λ e f. one_node f.value (take_plan f);
   some_nodes = omega arith;
   few_reads = λ e f snaps x d. few_reads f snaps x d;
   few_fills = λ e f snaps ns read. few_fills f.value (take_plan f) (take_piece e.key f snaps read) (piece_fills e.key f snaps read);

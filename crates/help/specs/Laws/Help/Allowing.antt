@@ -1,7 +1,7 @@
 -- What a pass has prepared for its SCX-record stays: rows of others keep it, and rows that change
 -- nothing.
 use Rattle.std.proofs.Common.{◌≡◌, ◌≢◌, ℕ, ◌<◌, ◌⊎◌, inl, inr, refl, sym, ◌∙◌, ap, subst}
-use Rattle.histories.specs.Common.{Layout, Row, Word, scx, info, child, History, Start, ◌⊳◌, value, plan, member, seen, new, old, field, IsNamedScx, Lawful, Begins, Descriptor, descriptor, field_in}
+use Rattle.histories.specs.Common.{Layout, Row, Word, scx, info, child, History, Opened, ◌⊳◌, value, plan, member, seen, new, old, field, IsNamedScx, Lawful, Begins, Descriptor, descriptor, field_in}
 use Rattle.arena.proofs.Lemmas.{named_before, named_scx_before, value_quiet, held_back}
 use Rattle.histories.proofs.Lemmas.{begins_kept, descriptor_same, lawful_row, named_more, own_words_stay}
 use Rattle.help.specs.Allowed.{IsQuiet, MayComeBetween, IsLater, IsAllowed, IsPrepared}
@@ -10,12 +10,12 @@ use Rattle.help.specs.Allowed.{IsQuiet, MayComeBetween, IsLater, IsAllowed, IsPr
 
 -- a history extends itself, with no row between
 pub later_self : (c s : ℕ) (h : History) → IsLater c s h h
-later_self c s (Start mode) = refl
+later_self c s (Opened o) = refl
 later_self c s (r ⊳ h) = inl refl
 
 -- what extends an extension of h extends h
 pub later_trans : (c s : ℕ) (h m k : History) → IsLater c s m k → IsLater c s h m → IsLater c s h k
-later_trans c s h m (Start mode) e p = rw e at p
+later_trans c s h m (Opened o) e p = rw e at p
 later_trans c s h m (r ⊳ k) (inl e) p = rw e at p
 later_trans c s h m (r ⊳ k) (inr x) p = inr (x.0, later_trans c s h m k x.1 p)
 

@@ -21,8 +21,8 @@ pub still_needed : (o : Option ℕ) (p q : ℕ) → 0 < (work_by o p).need → 0
 still_needed None p q d = d
 still_needed (Some v) p q d = omega arith
 
-pub number : (a b : NodeNo) → a ≡ b → b.0 ≡ a.0
-number a b e = ap (λ (n : NodeNo). n.0) (sym e)
+pub number_is : (a b : NodeNo) → a ≡ b → b.0 ≡ a.0
+number_is a b e = ap (λ (n : NodeNo). n.0) (sym e)
 
 -- the snapshots are those of the fork above the parent, which still is its child, of the parent,
 -- whose child the leaf still is, and of that one's other child
@@ -44,7 +44,7 @@ module _ (ed : TakePair) (c : Call) (h : History) (f : Found) (run : IsMapRun c.
       subst (λ (k : NodeNo). WasInTree h k.0) (goes_on ((child_of g f.trail.grand_side).0 == f.trail.parent.0) f.trail.parent g n e).1 (walked_stood c.layout h t.passed.first ed.key f.trail.parent.0 t.passed.passed)
   end_there (g ∷ p ∷ []) n x e =
       subst (λ (k : NodeNo). WasInTree h k.0) (goes_on ((child_of p f.trail.side).0 == f.trail.node.0) (child_of p (opposite f.trail.side)) p n e).1
-      (below_parent ed c h f run needed p (x.usable 1 (omega arith)) (number f.trail.parent p.node (end_parent f g p [] x.seen).1) (opposite f.trail.side))
+      (below_parent ed c h f run needed p (x.usable 1 (omega arith)) (number_is f.trail.parent p.node (end_parent f g p [] x.seen).1) (opposite f.trail.side))
   end_there (g ∷ p ∷ z ∷ snaps) n x e = absurd (let d : Enough ≡ At n = e in cc)
 
   -- and was not final
@@ -55,7 +55,7 @@ module _ (ed : TakePair) (c : Call) (h : History) (f : Found) (run : IsMapRun c.
       (passed_not_final c h ed.key f.trail.parent.0 run (parent_on ed c h f run needed x.small x.found).on)
   end_not_final (g ∷ p ∷ []) n x e =
       subst (λ (k : NodeNo). WasNotFinal c h k.0) (goes_on ((child_of p f.trail.side).0 == f.trail.node.0) (child_of p (opposite f.trail.side)) p n e).1
-      (not_final_below ed c h f run needed p (x.usable 1 (omega arith)) (number f.trail.parent p.node (end_parent f g p [] x.seen).1) (opposite f.trail.side))
+      (not_final_below ed c h f run needed p (x.usable 1 (omega arith)) (number_is f.trail.parent p.node (end_parent f g p [] x.seen).1) (opposite f.trail.side))
   end_not_final (g ∷ p ∷ z ∷ snaps) n x e = absurd (let d : Enough ≡ At n = e in cc)
 
   other_child : (a b : ℕ) → (a == b) ≡ false → a ≢ b
@@ -67,11 +67,11 @@ module _ (ed : TakePair) (c : Call) (h : History) (f : Found) (run : IsMapRun c.
   end_differs (g ∷ []) n s x e quiet =
       let o = is_other ((child_of g f.trail.grand_side).0 == f.trail.parent.0) f.trail.parent g n s e in
       let u : HasSnappedAfterWalk c h InTree (ToKey ed.key) f g = x.usable 0 (omega arith) in
-      rw (sym o.1, sym o.2) (turned_contended c h ed.key f g f.trail.grand_side f.trail.parent.0 run quiet u (grand_snap ed c h f run needed g u (number f.trail.grand g.node (end_grand f g [] x.seen))) (other_child (child_of g f.trail.grand_side).0 f.trail.parent.0 o.0))
+      rw (sym o.1, sym o.2) (turned_contended c h ed.key f g f.trail.grand_side f.trail.parent.0 run quiet u (grand_snap ed c h f run needed g u (number_is f.trail.grand g.node (end_grand f g [] x.seen))) (other_child (child_of g f.trail.grand_side).0 f.trail.parent.0 o.0))
   end_differs (g ∷ p ∷ []) n s x e quiet =
       let o = is_other ((child_of p f.trail.side).0 == f.trail.node.0) (child_of p (opposite f.trail.side)) p n s e in
       let u : HasSnappedAfterWalk c h InTree (ToKey ed.key) f p = x.usable 1 (omega arith) in
-      rw (sym o.1, sym o.2) (turned_contended c h ed.key f p f.trail.side f.trail.node.0 run quiet u (parent_snap ed c h f run needed p u (number f.trail.parent p.node (end_parent f g p [] x.seen).1)) (other_child (child_of p f.trail.side).0 f.trail.node.0 o.0))
+      rw (sym o.1, sym o.2) (turned_contended c h ed.key f p f.trail.side f.trail.node.0 run quiet u (parent_snap ed c h f run needed p u (number_is f.trail.parent p.node (end_parent f g p [] x.seen).1)) (other_child (child_of p f.trail.side).0 f.trail.node.0 o.0))
   end_differs (g ∷ p ∷ z ∷ snaps) n s x e quiet = absurd (let d : Enough ≡ Differs n s = e in cc)
 
 -- once it has looked at enough, it has snapshots of the two forks, in whose fields are the parent
@@ -90,10 +90,10 @@ has_three f (g ∷ []) e x = absurd (not_enough ((child_of g f.trail.grand_side)
 has_three f (g ∷ p ∷ []) e x = absurd (not_enough ((child_of p f.trail.side).0 == f.trail.node.0) (child_of p (opposite f.trail.side)) p e)
 has_three f (g ∷ p ∷ z ∷ []) e x = record {
   three = refl;
-  grand = number f.trail.grand g.node (end_grand f g (p ∷ z ∷ []) x);
+  grand = number_is f.trail.grand g.node (end_grand f g (p ∷ z ∷ []) x);
   held = eqb-true (child_of g f.trail.grand_side).0 f.trail.parent.0 (end_parent f g p (z ∷ []) x).0;
-  parent = number f.trail.parent p.node (end_parent f g p (z ∷ []) x).1;
+  parent = number_is f.trail.parent p.node (end_parent f g p (z ∷ []) x).1;
   child = eqb-true (child_of p f.trail.side).0 f.trail.node.0 (end_sibling f g p z [] x).0;
-  sibling = number (child_of p (opposite f.trail.side)) z.node (end_sibling f g p z [] x).1;
+  sibling = number_is (child_of p (opposite f.trail.side)) z.node (end_sibling f g p z [] x).1;
 }
 has_three f (g ∷ p ∷ z ∷ s ∷ snaps) e x = absurd (let d : Enough ≡ At s.node = x 3 (omega arith) in cc)

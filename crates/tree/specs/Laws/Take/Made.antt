@@ -4,7 +4,7 @@ use Rattle.std.proofs.Common.{unwrap_or, IfSome}
 use Rattle.std.proofs.lemmas.Nat.{mul-le}
 use native.Mathlib.Decide.{ℕ_discrete}
 use Rattle.arena.specs.declared.head.Head.{Head as HeadParts}
-use Rattle.histories.specs.Common.{Settled, Child, Head, Key, Side, Left, Right, Slot, First as FirstSlot, head_of, History, value, Call, taken_nodes, node, child, first_key, first_value}
+use Rattle.histories.specs.Common.{Settled, Child, Head, Key, Side, Left, Right, Slot, First as FirstSlot, head_of, History, value, Call, taken_nodes, most_taken, node, child, first_key, first_value}
 use Rattle.arena.specs.Heads.{head_word}
 use Rattle.arena.specs.ScxRecords.{bit}
 use Rattle.arena.proofs.Lemmas.{taken_few}
@@ -100,9 +100,10 @@ module _ (c : Call) (h : History) (sibling : Snap) (read : Reading) (n_node : �
   fits : w / 8 < 2 ^ 61
   fits =
       let deep : level (value h) z_node < 67 + length (taken_nodes h) = no_deeper c.layout.mode (length (taken_nodes h)) (level (value h) z_node) (stood_depth c.layout h z_node run in_tree) in
-      let few : length (taken_nodes h) ≤ c.layout.passes * c.layout.nodes = taken_few c.layout h run.1.lawful in
+      let few : length (taken_nodes h) ≤ most_taken c.layout = taken_few c.layout h run.1.lawful in
+      let planted : c.layout.planted ≤ 67108864 = c.layout.planted_fit in
       let most : c.layout.passes * c.layout.nodes ≤ 32 * 32768 = mul-le c.layout.passes c.layout.nodes 32 32768 c.layout.passes_fit c.layout.nodes_fit in
-      omega (arith, deep, few, most)
+      omega (arith, deep, few, planted, most)
 
   is_head : read.head ≡ Some (head_of w)
   is_head = head_read (value h) z_node read right.is whole

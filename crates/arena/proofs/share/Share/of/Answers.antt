@@ -4,7 +4,7 @@ use Rattle.arena.proofs.share.Share.of.Goals as goal
 
 pub returns-clause-apart_nodes : goal.returns-clause-apart_nodes
 returns-clause-apart_nodes c other n apart own others =
-    overlap (opening_nodes c.args.layout.now.mode) c.args.layout.now.nodes other c.args.pass.0 n others.from others.below (rw c.first_node.ensures at own.from) (rw c.first_node.ensures at own.below) apart
+    overlap (opening_nodes c.args.layout.now) c.args.layout.now.nodes other c.args.pass.0 n others.from others.below (rw c.first_node.ensures at own.from) (rw c.first_node.ensures at own.below) apart
 
 pub returns-clause-apart_scx : goal.returns-clause-apart_scx
 returns-clause-apart_scx c other s apart own others =

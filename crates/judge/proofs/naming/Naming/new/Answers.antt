@@ -8,11 +8,11 @@ pub returns : goal.returns
 unfolding named_links
 returns c =
     let lay = c.args.layout.now in
-    let some = some_open lay.mode in
+    let some = some_open lay in
     let inv = c.loop-node.invariant in
     let nodes : c.from-nodes.result ≡ all_nodes lay = c.from-nodes.ensures ∙ c.all_nodes.ensures.nodes in
     let scxs : c.from-scxs.result ≡ all_scx lay = c.from-scxs.ensures ∙ c.all_scx.ensures.scx in
-    let done : c.loop-node.node ≡ opening_nodes lay.mode = omega (c.loop-node-test.false, c.loop-node.auto.node-end, c.opening-node-end.ensures, arith) in
+    let done : c.loop-node.node ≡ opening_nodes lay = omega (c.loop-node-test.false, c.loop-node.auto.node-end, c.opening-node-end.ensures, arith) in
     record {
       naming = record {
         graph = inv.graph;
@@ -23,5 +23,5 @@ returns c =
       };
       nodes = nodes;
       scxs = scxs;
-      links = inv.links ∙ ap (opening_links c.from-nodes.result) done ∙ ap (λ n. opening_links n (opening_nodes lay.mode)) nodes;
+      links = inv.links ∙ ap (opening_links c.from-nodes.result) done ∙ ap (λ n. opening_links n (opening_nodes lay)) nodes;
     }

@@ -10,7 +10,7 @@ use Rattle.judge.proofs.uses.Uses.new.Goals as goal
 pub returns : goal.returns
 returns c =
     let lay = c.args.layout.now in
-    let some = some_open lay.mode in
+    let some = some_open lay in
     let fits : 0 < all_nodes lay = omega (some, arith) in
     let fresh : c.in_ok-users.users.items ≡ replicate c.all_nodes-size.result Nobody = c.in_ok-users.ensures.items_if_clones_equal (λ y p. search (rules, p)) in
     let inside : 0 < length c.in_ok-users.users.items = rw (fresh, length-replicate) (omega (fits, c.all_nodes-size.ensures.nodes, arith)) in

@@ -1,8 +1,13 @@
-use Rattle.std.proofs.Common.{refl, inr}
+use Rattle.std.proofs.Common.{refl, inr, arith}
+use Rattle.histories.specs.Common.{Layout, Start, empty, Lawful}
 use Rattle.prims.proofs.Lemmas.{whole_untouched, none_taken}
 use Rattle.player.proofs.Begins.{nothing_kept}
 use Rattle.player.proofs.Ends.{among_none}
 use Rattle.player.proofs.client.Client.new.Goals as goal
+
+lawful : (lay : Layout) → Lawful lay (Start lay.mode)
+unfolding Lawful
+lawful lay = (refl, omega arith)
 
 pub returns-clause-rests : goal.returns-clause-rests
 returns-clause-rests c = record {
@@ -19,8 +24,8 @@ returns-clause-rests c = record {
   };
   holds = record {
     some = refl;
-    share = rw c.of.ensures.whole (whole_untouched c.args.layout.now c.args.pass.0);
-    over = λ s own d t. absurd (none_taken c.args.layout.now.mode s t);
+    share = rw c.of.ensures.whole (whole_untouched c.args.layout.now (empty c.args.layout.now.mode) c.args.pass.0 (lawful c.args.layout.now));
+    over = λ s own d t. absurd (none_taken (empty c.args.layout.now.mode) s t);
   };
   none = refl;
 }
