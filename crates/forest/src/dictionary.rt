@@ -233,7 +233,7 @@ impl<K: WordKey, V: WordValue> Forest<Dict<K, V>> {
         };
         let seat = &mut pass.seat;
         let goal = Goal::Key(key.word());
-        let found = walk::call::<Dict<K, V>, DictRun<K, V>>(hand, seat, Way::InTree, goal).0;
+        let found = walk::to_goal::<Dict<K, V>, DictRun<K, V>>(hand, seat, Way::InTree, goal).0;
         value_of(found.value)
     }
 

@@ -466,7 +466,7 @@ pub(crate) fn call<S: Shape, M: Machine<S>, R: Read + Drop>(
 {
     match run.start() {
         ReadBegin::Walk { key, side } => {
-            let (_, turns) = walk::call::<S, M>(hand, seat, Way::InTree, Goal::Key(key));
+            let (_, turns) = walk::to_goal::<S, M>(hand, seat, Way::InTree, Goal::Key(key));
             let children = turns.children(side);
             let node = turns.to(side);
             let level = 0;

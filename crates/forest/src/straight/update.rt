@@ -80,7 +80,7 @@ fn call<S: Shape, M: Machine<S>, E: Edit + Copy>(
 {
     let way = run.edit.way();
     let goal = run.edit.goal();
-    let found = copied(&walk::call::<S, M>(hand, seat, way, goal).0);
+    let found = copied(&walk::call::<S, M, E>(hand, seat, way, goal).0);
     let next = run.test_share(&found);
     try_on::<S, M, E>(hand, seat, run, &found, next)
 }

@@ -26,6 +26,7 @@ use arena::{
     Access, Head, Kind, Machine, NodeNo, NodeWord, SettledPart, Shape, Side, Slot, Step, Word,
 };
 use atomic_table::Seat;
+use edits::Edit;
 use order::LastTurns;
 use ordered_map::{end_slot, shares, slot_behind, wide_value};
 use template::{Found, Goal, Trail, WalkAt, Way};
@@ -158,7 +159,8 @@ fn end_with<S: Shape, M: Machine<S>>(
     }
 }
 
-/// Ends among the pairs of a leaf, as below, from this slot on.
+/// Ends among the pairs of a leaf of class 0 that begins there and has `more` pairs after its first: it
+/// loads the keys in order from this slot on, up to the first that is not below the walk's, or the last.
 #[inline(always)]
 fn end_from<S: Shape, M: Machine<S>>(
     hand: Hand<S>,
@@ -270,37 +272,6 @@ fn end_at_side<S: Shape, M: Machine<S>>(
     }
 }
 
-/// Ends at a leaf of class 0 that begins there and has `more` pairs after its first: it loads the
-/// keys in order up to the first that is not below the walk's, or the last; or that at an end.
-#[inline(always)]
-fn end_among<S: Shape, M: Machine<S>>(
-    hand: Hand<S>,
-    seat: &mut Seat<u8, SeatView>,
-    way: Way,
-    goal: Goal,
-    trail: Trail,
-    start: usize,
-    head: Head,
-    more: u64,
-) -> Found
-    requires table { IsAt hand seat.old }
-    requires start { start ≡ node_start trail.node }
-    requires told { (w : Walker (hand_calls S.Shape M.Machine hand)) × (turn : LastTurns)
-        × WalkerIsTold w seat.old.me.0.passes (way_at way goal trail (WalkAt.More head)) turn more }
-    ensures table { StaysAtTable seat.old seat.new }
-    ensures steps { steps_made seat.new ≤ steps_made seat.old + 6 }
-    ensures finds { (w : Walker (hand_calls S.Shape M.Machine hand.entry)) (turn : LastTurns)
-        → WalkerIsTold w seat.old.me.0.passes (way_at way goal trail (WalkAt.More head)) turn more
-        → WalkerFinds w seat.new.me.0.passes way goal turn result }
-{
-    match goal {
-        Goal::Key(_) => {
-            end_from::<S, M>(hand, seat, way, goal, trail, start, head, more, Slot::First)
-        }
-        Goal::End(side) => end_at_side::<S, M>(hand, seat, way, side, trail, start, head, more),
-    }
-}
-
 /// Ends at a leaf that begins there: among its pairs, or at once where it is above all keys.
 #[inline(always)]
 fn end<S: Shape, M: Machine<S>>(
@@ -313,6 +284,7 @@ fn end<S: Shape, M: Machine<S>>(
     at: WalkAt,
     word: u64,
 ) -> Found
+    requires first { (more : ℕ) → goal_slot goal more ≡ Slot.First }
     requires place { LoadsHead at }
     requires table { IsAt hand seat.old }
     requires start { start ≡ node_start trail.node }
@@ -329,7 +301,8 @@ fn end<S: Shape, M: Machine<S>>(
     if head.class == 0 {
         let (kind, part) = (Kind::LoadSettled, NodeWord::Settled(SettledPart::More));
         let more = read::<S, M>(hand, seat, kind, trail.node, start, part);
-        return end_among::<S, M>(hand, seat, way, goal, trail, start, head, more);
+        let first = Slot::First;
+        return end_from::<S, M>(hand, seat, way, goal, trail, start, head, more, first);
     }
     Found {
         trail,
@@ -425,6 +398,7 @@ fn pass<S: Shape, M: Machine<S>>(
     at: WalkAt,
     word: u64,
 ) -> Result<Side, Found>
+    requires first { (more : ℕ) → goal_slot goal more ≡ Slot.First }
     requires place { LoadsHead at }
     requires table { IsAt hand seat.old }
     requires start { start ≡ node_start trail.node }
@@ -449,6 +423,82 @@ fn pass<S: Shape, M: Machine<S>>(
         return pass_by_key::<S, M>(hand, seat, way, goal, trail, start, at, word);
     }
     Ok(open_side(goal, word))
+}
+
+/// Ends at a leaf that begins there, of a walk to this end: at the pair there, or at once where it is
+/// above all keys.
+#[inline(always)]
+fn end_last<S: Shape, M: Machine<S>>(
+    hand: Hand<S>,
+    seat: &mut Seat<u8, SeatView>,
+    way: Way,
+    side: Side,
+    trail: Trail,
+    start: usize,
+    at: WalkAt,
+    word: u64,
+) -> Found
+    requires place { LoadsHead at }
+    requires table { IsAt hand seat.old }
+    requires start { start ≡ node_start trail.node }
+    requires leaf { (head_of word).leaf ≡ true }
+    requires told { (w : Walker (hand_calls S.Shape M.Machine hand)) × (turn : LastTurns)
+        × WalkerIsTold w seat.old.me.0.passes (way_at way (Goal.End side) trail at) turn word }
+    ensures table { StaysAtTable seat.old seat.new }
+    ensures steps { steps_made seat.new ≤ steps_made seat.old + 7 }
+    ensures finds { (w : Walker (hand_calls S.Shape M.Machine hand.entry)) (turn : LastTurns)
+        → WalkerIsTold w seat.old.me.0.passes (way_at way (Goal.End side) trail at) turn word
+        → WalkerFinds w seat.new.me.0.passes way (Goal.End side) turn result }
+{
+    let head = Head::of(word);
+    if head.class == 0 {
+        let (kind, part) = (Kind::LoadSettled, NodeWord::Settled(SettledPart::More));
+        let more = read::<S, M>(hand, seat, kind, trail.node, start, part);
+        return end_at_side::<S, M>(hand, seat, way, side, trail, start, head, more);
+    }
+    Found {
+        trail,
+        head,
+        more: 0,
+        key: 0,
+        value: None,
+    }
+}
+
+/// Continues after the head of a node that begins there: on a side of a fork, or to the end at a
+/// leaf, of a walk to this end.
+#[inline(always)]
+fn pass_last<S: Shape, M: Machine<S>>(
+    hand: Hand<S>,
+    seat: &mut Seat<u8, SeatView>,
+    way: Way,
+    side: Side,
+    trail: Trail,
+    start: usize,
+    at: WalkAt,
+    word: u64,
+) -> Result<Side, Found>
+    requires place { LoadsHead at }
+    requires table { IsAt hand seat.old }
+    requires start { start ≡ node_start trail.node }
+    requires told { (w : Walker (hand_calls S.Shape M.Machine hand)) × (turn : LastTurns)
+        × WalkerIsTold w seat.old.me.0.passes (way_at way (Goal.End side) trail at) turn word }
+    ensures table { StaysAtTable seat.old seat.new }
+    ensures steps { MatchResult result (λ _. steps_made seat.new ≡ steps_made seat.old)
+        (λ _. steps_made seat.new ≤ steps_made seat.old + 7) }
+    ensures down { IfOk result (λ to.
+        (w : Walker (hand_calls S.Shape M.Machine hand.entry)) (turn : LastTurns)
+        → WalkerIsTold w seat.old.me.0.passes (way_at way (Goal.End side) trail at) turn word
+        → WalkerGoesDown w seat.new.me.0.passes way (Goal.End side) trail (head_of word).level to turn) }
+    ensures finds { IfErr result (λ found.
+        (w : Walker (hand_calls S.Shape M.Machine hand.entry)) (turn : LastTurns)
+        → WalkerIsTold w seat.old.me.0.passes (way_at way (Goal.End side) trail at) turn word
+        → WalkerFinds w seat.new.me.0.passes way (Goal.End side) turn found) }
+{
+    if is_leaf(word) {
+        return Err(end_last::<S, M>(hand, seat, way, side, trail, start, at, word));
+    }
+    Ok(open_side(Goal::End(side), word))
 }
 
 /// Whether the walk goes right at a fork with the head in this word, which it knows without a key:
@@ -561,14 +611,16 @@ fn descend_right<S: Shape, M: Machine<S>>(
     (place, word)
 }
 
-/// As below, of whatever goal.
+/// The walk by this way from the root to the leaf where a key is, or would be, or to the first leaf,
+/// and the last forks where it turned.
 #[inline(always)]
-fn to_goal<S: Shape, M: Machine<S>>(
+pub(crate) fn to_goal<S: Shape, M: Machine<S>>(
     hand: Hand<S>,
     seat: &mut Seat<u8, SeatView>,
     way: Way,
     goal: Goal,
 ) -> (Found, LastTurns)
+    requires first { (more : ℕ) → goal_slot goal more ≡ Slot.First }
     requires table { IsAt hand seat.old }
     requires waits { (w : Walker (hand_calls S.Shape M.Machine hand))
         × WalksFromRoot w seat.old.me.0.passes way goal }
@@ -618,22 +670,22 @@ fn to_goal<S: Shape, M: Machine<S>>(
     }
 }
 
-/// As below, for the last pair: forks at which it goes right without a key have a loop of their own.
+/// The walk by this way from the root to the last leaf: forks at which it goes right have a loop of
+/// their own.
 #[inline(always)]
-fn to_last<S: Shape, M: Machine<S>>(
+pub(crate) fn to_last<S: Shape, M: Machine<S>>(
     hand: Hand<S>,
     seat: &mut Seat<u8, SeatView>,
     way: Way,
-    goal: Goal,
 ) -> (Found, LastTurns)
     requires table { IsAt hand seat.old }
     requires waits { (w : Walker (hand_calls S.Shape M.Machine hand))
-        × WalksFromRoot w seat.old.me.0.passes way goal }
+        × WalksFromRoot w seat.old.me.0.passes way (Goal.End Side.Right) }
     ensures table { StaysAtTable seat.old seat.new }
     ensures steps { steps_made seat.new ≤ steps_made seat.old + (3 * (2 + room way (shared_nodes hand.entry.layout.now)) + 5) }
     ensures finds { (w : Walker (hand_calls S.Shape M.Machine hand.entry))
-        → WalksFromRoot w seat.old.me.0.passes way goal
-        → WalkerFinds w seat.new.me.0.passes way goal result.1 result.0 }
+        → WalksFromRoot w seat.old.me.0.passes way (Goal.End Side.Right)
+        → WalkerFinds w seat.new.me.0.passes way (Goal.End Side.Right) result.1 result.0 }
 {
     let layout = *hand.layout;
     let hand = Hand {
@@ -657,21 +709,36 @@ fn to_last<S: Shape, M: Machine<S>>(
     loop {
         let (kind, part) = (Kind::LoadSettled, NodeWord::Settled(SettledPart::Head));
         let head = read::<S, M>(hand, seat, kind, place.trail.node, place.start, part);
-        let (last, word) = descend_right::<S, M>(hand, seat, way, goal, place, head);
-        let side = match pass::<S, M>(
-            hand, seat, way, goal, last.trail, last.start, last.at, word,
+        let (last, word) = descend_right::<S, M>(
+            hand,
+            seat,
+            way,
+            Goal::End(Side::Right),
+            place,
+            head,
+        );
+        let side = match pass_last::<S, M>(
+            hand,
+            seat,
+            way,
+            Side::Right,
+            last.trail,
+            last.start,
+            last.at,
+            word,
         ) {
             Ok(side) => side,
             Err(found) => return (found, last.turns),
         };
-        place = descend::<S, M>(hand, seat, way, goal, last, word, side);
+        place = descend::<S, M>(hand, seat, way, Goal::End(Side::Right), last, word, side);
     }
 }
 
-/// The walk by this way from the root to the leaf where a key is, or would be, or to the first or the
-/// last leaf, and the last forks where it turned.
+/// The walk of an edit, to its goal: one of the two above. It is a function for each type of edit, so
+/// that the compiler has it once, and puts it in its place: what is called from several places it
+/// would not, as both walks are too much for `inline(always)`.
 #[inline(always)]
-pub(crate) fn call<S: Shape, M: Machine<S>>(
+pub(crate) fn call<S: Shape, M: Machine<S>, E: Edit>(
     hand: Hand<S>,
     seat: &mut Seat<u8, SeatView>,
     way: Way,
@@ -687,7 +754,10 @@ pub(crate) fn call<S: Shape, M: Machine<S>>(
         → WalkerFinds w seat.new.me.0.passes way goal result.1 result.0 }
 {
     match goal {
-        Goal::End(Side::Right) => to_last::<S, M>(hand, seat, way, goal),
-        _ => to_goal::<S, M>(hand, seat, way, goal),
+        Goal::Key(_) => to_goal::<S, M>(hand, seat, way, goal),
+        Goal::End(side) => match side {
+            Side::Left => to_goal::<S, M>(hand, seat, way, goal),
+            Side::Right => to_last::<S, M>(hand, seat, way),
+        },
     }
 }

@@ -15,8 +15,8 @@ use Rattle.forest.proofs.dictionary.Forest+Dict+K+V.get.Given.{Over}
 use Rattle.forest.proofs.dictionary.Forest+Dict+K+V.get.Goals.{After-value_of}
 use Rattle.forest.proofs.dictionary.Forest+Dict+K+V.get.Goals as goal
 
-pub call-requires-clause-waits : goal.call-requires-clause-waits
-call-requires-clause-waits g c =
+pub to_goal-requires-clause-waits : goal.to_goal-requires-clause-waits
+to_goal-requires-clause-waits g c =
     let named = ap taken_of c.pass.view_is ∙ sym c.taken-number.ensures in
     let lay = layout_of c.pass.view_is c.self.view_is c.requires.pass in
     let small = subst (λ (n : ℕ). n < 2 ^ 64) (sym c.word.ensures) (g.met.K.WordKey.fits c.args.key.now c.valid.ensures) in (
@@ -29,19 +29,22 @@ abbrev at : (g : Over) (c : After-value_of g) → WalkRun → DictRun g.row.K.De
 at g c = getting c.pass.inside.share c.self.inside.tries c.word.result
 
 -- how it has ended
-over : (g : Over) (c : After-value_of g) → (last : WalkRun) × IsOver g.K.WordKey.is_valid g.K.WordKey.word_of g.V.WordValue.is_valid g.V.WordValue.word_of c.pass.inside c.pass.invariant c.call.new.seat (at g c (walk_at (Key c.word.result) root_trail Start)) (at g c last) (Value c.value_of.result)
-over g c = get_over g.K.WordKey.is_valid g.K.WordKey.word_of g.V.WordValue.is_valid g.V.WordValue.word_of c.pass.inside c.pass.invariant c.call.new.seat c.self.inside.tries c.word.result c.taken-number.result c.self.inside.layout
+over : (g : Over) (c : After-value_of g) → (last : WalkRun) × IsOver g.K.WordKey.is_valid g.K.WordKey.word_of g.V.WordValue.is_valid g.V.WordValue.word_of c.pass.inside c.pass.invariant c.to_goal.new.seat (at g c (walk_at (Key c.word.result) root_trail Start)) (at g c last) (Value c.value_of.result)
+over g c = get_over g.K.WordKey.is_valid g.K.WordKey.word_of g.V.WordValue.is_valid g.V.WordValue.word_of c.pass.inside c.pass.invariant c.to_goal.new.seat c.self.inside.tries c.word.result c.taken-number.result c.self.inside.layout
     (layout_of c.pass.view_is c.self.view_is c.requires.pass) (ap taken_of c.pass.view_is ∙ sym c.taken-number.ensures) (subst (λ (n : ℕ). n < 2 ^ 64) (sym c.word.ensures) (g.met.K.WordKey.fits c.args.key.now c.valid.ensures))
-    c.call.result.1 c.call.result.0 c.value_of.result c.value_of.ensures.valid c.value_of.ensures.number c.call.ensures.finds
+    c.to_goal.result.1 c.to_goal.result.0 c.value_of.result c.value_of.ensures.valid c.value_of.ensures.number c.to_goal.ensures.finds
 
 pub invariant_of-pass : goal.invariant_of-pass
 invariant_of-pass g c =
     let e = over g c in
-    whole_pass g.K.WordKey.is_valid g.K.WordKey.word_of g.V.WordValue.is_valid g.V.WordValue.word_of c.pass.inside c.pass.invariant c.call.new.seat _ (at g c e.0) (Value c.value_of.result) e.1 c.pass.inside.share c.pass.inside.blamed refl refl c.call.ensures.table.1
+    whole_pass g.K.WordKey.is_valid g.K.WordKey.word_of g.V.WordValue.is_valid g.V.WordValue.word_of c.pass.inside c.pass.invariant c.to_goal.new.seat _ (at g c e.0) (Value c.value_of.result) e.1 c.pass.inside.share c.pass.inside.blamed refl refl c.to_goal.ensures.table.1
 
 pub returns : goal.returns
 returns g c =
     let e = over g c in
     rw (← c.pass.view_is, ← c.self.view_is)
-    (whole_call g.K.WordKey.is_valid g.K.WordKey.word_of g.V.WordValue.is_valid g.V.WordValue.word_of c.pass.inside c.pass.invariant c.call.new.seat _ (at g c e.0) (Value c.value_of.result) e.1 c.pass.inside.share c.pass.inside.blamed refl refl
-    _ (rw (← c.pass.view_is, ← c.self.view_is) at c.requires.pass) (Get (g.K.WordKey.word_of c.args.key.now)) (ap Get c.word.ensures) refl c.call.ensures.table.0 c.call.ensures.steps (λ none. absurd (none tt)))
+    (whole_call g.K.WordKey.is_valid g.K.WordKey.word_of g.V.WordValue.is_valid g.V.WordValue.word_of c.pass.inside c.pass.invariant c.to_goal.new.seat _ (at g c e.0) (Value c.value_of.result) e.1 c.pass.inside.share c.pass.inside.blamed refl refl
+    _ (rw (← c.pass.view_is, ← c.self.view_is) at c.requires.pass) (Get (g.K.WordKey.word_of c.args.key.now)) (ap Get c.word.ensures) refl c.to_goal.ensures.table.0 c.to_goal.ensures.steps (λ none. absurd (none tt)))
+
+pub to_goal-requires-clause-first : goal.to_goal-requires-clause-first
+to_goal-requires-clause-first g c = λ more. refl

@@ -2,17 +2,17 @@ use Rattle.std.proofs.Common.{◌∙◌, arith, refl}
 use Rattle.forest.proofs.StraightReads.{ends_at_once, root_in_try, roots, walk_in_try, walk_looks, walker, walks}
 use Rattle.forest.proofs.straight.ordered_read.call.Goals as goal
 
-pub call-requires-clause-waits : goal.call-requires-clause-waits
-call-requires-clause-waits g c = let b = c.requires.begins in (walker b.0 c.start.new.self c.in-Walk.key c.in-Walk.side c.in-Walk.ensures.begins, walks b.0 c.start.new.self c.in-Walk.key c.in-Walk.side c.in-Walk.ensures.begins _ c.args.run.now c.start.ensures.same c.start.ensures.tries c.start.ensures.empty b.1)
+pub to_goal-requires-clause-waits : goal.to_goal-requires-clause-waits
+to_goal-requires-clause-waits g c = let b = c.requires.begins in (walker b.0 c.start.new.self c.in-Walk.key c.in-Walk.side c.in-Walk.ensures.begins, walks b.0 c.start.new.self c.in-Walk.key c.in-Walk.side c.in-Walk.ensures.begins _ c.args.run.now c.start.ensures.same c.start.ensures.tries c.start.ensures.empty b.1)
 
 pub go_on-requires-clause-waits : goal.go_on-requires-clause-waits
-go_on-requires-clause-waits g c = let b = c.requires.begins in (b.0, rw (c.children-children.ensures, c.to-node.ensures) (walk_looks b.0 c.start.new.self c.in-Walk.key c.in-Walk.side c.in-Walk.ensures.begins _ c.call.result.0 c.call.result.1 (c.call.ensures.finds (walker b.0 c.start.new.self c.in-Walk.key c.in-Walk.side c.in-Walk.ensures.begins) (walks b.0 c.start.new.self c.in-Walk.key c.in-Walk.side c.in-Walk.ensures.begins _ c.args.run.now c.start.ensures.same c.start.ensures.tries c.start.ensures.empty b.1))))
+go_on-requires-clause-waits g c = let b = c.requires.begins in (b.0, rw (c.children-children.ensures, c.to-node.ensures) (walk_looks b.0 c.start.new.self c.in-Walk.key c.in-Walk.side c.in-Walk.ensures.begins _ c.to_goal.result.0 c.to_goal.result.1 (c.to_goal.ensures.finds (walker b.0 c.start.new.self c.in-Walk.key c.in-Walk.side c.in-Walk.ensures.begins) (walks b.0 c.start.new.self c.in-Walk.key c.in-Walk.side c.in-Walk.ensures.begins _ c.args.run.now c.start.ensures.same c.start.ensures.tries c.start.ensures.empty b.1))))
 
 pub returns-in-Walk-clause-leads : goal.returns-in-Walk-clause-leads
 returns-in-Walk-clause-leads g c = record {
-  table = (c.go_on.ensures.table.0 ∙ c.call.ensures.table.0, c.go_on.ensures.table.1 ∙ c.call.ensures.table.1);
-  to = λ r x. c.go_on.ensures.to r (rw (c.children-children.ensures, c.to-node.ensures) (walk_looks r c.start.new.self c.in-Walk.key c.in-Walk.side c.in-Walk.ensures.begins _ c.call.result.0 c.call.result.1 (c.call.ensures.finds (walker r c.start.new.self c.in-Walk.key c.in-Walk.side c.in-Walk.ensures.begins) (walks r c.start.new.self c.in-Walk.key c.in-Walk.side c.in-Walk.ensures.begins _ c.args.run.now c.start.ensures.same c.start.ensures.tries c.start.ensures.empty x))));
-  steps = (let b = c.requires.begins in walk_in_try g.R.Read.means c.args.run.now c.start.new.self c.start.ensures.same c.start.ensures.tries c.start.ensures.empty (b.0.tells c.args.run.now _ _ b.1.so.0).1 _ _ _ c.children-children.result c.to-node.result c.in-Walk.key _ c.in-Walk.side (c.in-Walk.ensures.nearer _) c.call.ensures.steps c.go_on.ensures.steps);
+  table = (c.go_on.ensures.table.0 ∙ c.to_goal.ensures.table.0, c.go_on.ensures.table.1 ∙ c.to_goal.ensures.table.1);
+  to = λ r x. c.go_on.ensures.to r (rw (c.children-children.ensures, c.to-node.ensures) (walk_looks r c.start.new.self c.in-Walk.key c.in-Walk.side c.in-Walk.ensures.begins _ c.to_goal.result.0 c.to_goal.result.1 (c.to_goal.ensures.finds (walker r c.start.new.self c.in-Walk.key c.in-Walk.side c.in-Walk.ensures.begins) (walks r c.start.new.self c.in-Walk.key c.in-Walk.side c.in-Walk.ensures.begins _ c.args.run.now c.start.ensures.same c.start.ensures.tries c.start.ensures.empty x))));
+  steps = (let b = c.requires.begins in walk_in_try g.R.Read.means c.args.run.now c.start.new.self c.start.ensures.same c.start.ensures.tries c.start.ensures.empty (b.0.tells c.args.run.now _ _ b.1.so.0).1 _ _ _ c.children-children.result c.to-node.result c.in-Walk.key _ c.in-Walk.side (c.in-Walk.ensures.nearer _) c.to_goal.ensures.steps c.go_on.ensures.steps);
 }
 
 pub returns-in-Walk-clause-nothing : goal.returns-in-Walk-clause-nothing
@@ -37,3 +37,6 @@ returns-in-Answer-clause-leads g c = record {
   to = λ r x. ends_at_once r _ c.args.run.now c.start.new.self c.start.ensures.same c.in-Answer.answer c.in-Answer.ensures.begins x;
   steps = omega arith;
 }
+
+pub to_goal-requires-clause-first : goal.to_goal-requires-clause-first
+to_goal-requires-clause-first g c = λ more. refl

@@ -22,14 +22,17 @@ pub read-more-requires-clause-waits : goal.read-more-requires-clause-waits
 read-more-requires-clause-waits g c = let r = c.requires.told in
     (r.0, way_at c.args.way c.args.goal c.args.trail (More c.of-head.result), r.1, to_more r.0 _ c.args.way c.args.goal c.args.trail r.1 c.args.at c.args.word c.of-head.result c.requires.place (sym c.of-head.ensures) (leaf g (goal.at.read-more-requires-clause-waits g c).After-of-head) c.if-head-eq0.true r.2)
 
-pub end_among-requires-clause-told : goal.end_among-requires-clause-told
-end_among-requires-clause-told g c = let r = c.requires.told in (r.0, r.1, told g (goal.at.end_among-requires-clause-told g c).After-read-more r.0 r.1 r.2)
+pub end_from-requires-clause-told : goal.end_from-requires-clause-told
+end_from-requires-clause-told g c = let r = c.requires.told in (r.0, r.1, told g (goal.at.end_from-requires-clause-told g c).After-read-more r.0 r.1 r.2)
 
 pub returns-then-head-eq0-clause-finds : goal.returns-then-head-eq0-clause-finds
-returns-then-head-eq0-clause-finds g c = λ w turn x. c.end_among.ensures.finds w turn (told g (goal.at.returns-then-head-eq0-clause-finds g c).After-read-more w turn x)
+returns-then-head-eq0-clause-finds g c = λ w turn x. c.end_from.ensures.finds w turn (told g (goal.at.returns-then-head-eq0-clause-finds g c).After-read-more w turn x)
 
 pub returns-then-head-eq0-clause-steps : goal.returns-then-head-eq0-clause-steps
-returns-then-head-eq0-clause-steps g c = let one = c.read-more.ensures.one in let more = c.end_among.ensures.steps in omega (arith, one, more)
+returns-then-head-eq0-clause-steps g c = let one = c.read-more.ensures.one in let more = c.end_from.ensures.steps in omega (arith, one, more)
 
 pub returns-clause-finds : goal.returns-clause-finds
 returns-clause-finds g c = λ w turn x. rw c.asked_key.ensures (finds_none w _ c.args.way c.args.goal c.args.trail turn c.args.at c.args.word c.of-head.result c.requires.place (sym c.of-head.ensures) (leaf g (goal.at.returns-clause-finds g c).After-of-head) c.if-head-eq0.false x)
+
+pub end_from-requires-clause-first : goal.end_from-requires-clause-first
+end_from-requires-clause-first g c = sym (c.requires.first c.read-more.result)

@@ -84,3 +84,6 @@ loop-side-preserved g c = record {
       );
   waits = λ w x. to_head w _ c.args.way c.args.goal c.loop-side.trail c.with-turns.result c.of-head.result.level c.in-Ok.side c.read-child.result (rw (c.with-turns.ensures, c.of-head.ensures) (told_child g (goal.at.loop-side-preserved g c).After-read-child w x));
 }
+
+pub pass-requires-clause-first : goal.pass-requires-clause-first
+pass-requires-clause-first g c = c.requires.first

@@ -1,3 +1,5 @@
+use Rattle.histories.specs.Common.{Right}
+use Rattle.template.specs.Common.{End}
 use Rattle.std.proofs.Common.{◌+◌, ◌≤◌, ◌∙◌, refl, sym, subst, arith}
 use Rattle.histories.specs.Common.{head_of}
 use Rattle.forest.specs.StraightWalk.{Walker, WalkerIsTold, WalksFromRoot}
@@ -12,18 +14,18 @@ use Rattle.forest.proofs.straight.walk.to_last.Goals as goal
 
 -- whichever call it is, it has got the head of this node
 told : (g : Over) (c : After-read-head g) (w : Walker (calls g.S.Shape g.M.Machine c.args.hand.layout.now c.args.hand.number))
-    → WalksFromRoot w c.args.seat.now.me.0.passes c.args.way c.args.goal
-    → WalkerIsTold w c.read-head.new.seat.me.0.passes (way_at c.args.way c.args.goal c.loop-side.place.trail c.loop-side.place.at) c.loop-side.place.turns c.read-head.result
-told g c w x = c.read-head.ensures.told w (way_at c.args.way c.args.goal c.loop-side.place.trail c.loop-side.place.at) c.loop-side.place.turns (c.loop-side.invariant.waits w x)
+    → WalksFromRoot w c.args.seat.now.me.0.passes c.args.way (End Right)
+    → WalkerIsTold w c.read-head.new.seat.me.0.passes (way_at c.args.way (End Right) c.loop-side.place.trail c.loop-side.place.at) c.loop-side.place.turns c.read-head.result
+told g c w x = c.read-head.ensures.told w (way_at c.args.way (End Right) c.loop-side.place.trail c.loop-side.place.at) c.loop-side.place.turns (c.loop-side.invariant.waits w x)
 
 -- and that of the node where it may not go right without a key
 told_last : (g : Over) (c : After-descend_right-word g) (w : Walker (calls g.S.Shape g.M.Machine c.args.hand.layout.now c.args.hand.number))
-    → WalksFromRoot w c.args.seat.now.me.0.passes c.args.way c.args.goal
-    → WalkerIsTold w c.descend_right-word.new.seat.me.0.passes (way_at c.args.way c.args.goal c.descend_right-word.result.0.trail c.descend_right-word.result.0.at) c.descend_right-word.result.0.turns c.descend_right-word.result.1
+    → WalksFromRoot w c.args.seat.now.me.0.passes c.args.way (End Right)
+    → WalkerIsTold w c.descend_right-word.new.seat.me.0.passes (way_at c.args.way (End Right) c.descend_right-word.result.0.trail c.descend_right-word.result.0.at) c.descend_right-word.result.0.turns c.descend_right-word.result.1
 told_last g c w x = c.descend_right-word.ensures.told w (told g (goal.at.descend_right-word-requires-clause-told g c.before).After-read-head w x)
 
 head_fits : (g : Over) (c : After-descend_right-word g) → WalkFitsAt c.descend_right-word.result.0.at c.descend_right-word.result.1 (room c.args.way (shared_nodes c.args.hand.layout.now))
-head_fits g c = let r = c.requires.waits in fits r.0 _ (way_at c.args.way c.args.goal c.descend_right-word.result.0.trail c.descend_right-word.result.0.at) c.descend_right-word.result.0.turns c.descend_right-word.result.1 (told_last g c r.0 r.1)
+head_fits g c = let r = c.requires.waits in fits r.0 _ (way_at c.args.way (End Right) c.descend_right-word.result.0.trail c.descend_right-word.result.0.at) c.descend_right-word.result.0.turns c.descend_right-word.result.1 (told_last g c r.0 r.1)
 
 -- a node's head, and what is loaded after it, take at most three steps
 less : (g : Over) (c : After-descend-place g) → 3 + walk_left c.descend-place.result.at (room c.args.way (shared_nodes c.args.hand.layout.now)) ≤ walk_left c.loop-side.place.at (room c.args.way (shared_nodes c.args.hand.layout.now))
@@ -33,13 +35,13 @@ less g c =
     subst (λ p. 3 + walk_left p (room c.args.way (shared_nodes c.args.hand.layout.now)) ≤ walk_left c.loop-side.place.at (room c.args.way (shared_nodes c.args.hand.layout.now))) (sym c.descend-place.ensures.at) (omega (arith, few, near))
 
 pub read-head-requires-clause-waits : goal.read-head-requires-clause-waits
-read-head-requires-clause-waits g c = let r = c.requires.waits in (r.0, way_at c.args.way c.args.goal c.loop-side.place.trail c.loop-side.place.at, c.loop-side.place.turns, c.loop-side.invariant.waits r.0 r.1)
+read-head-requires-clause-waits g c = let r = c.requires.waits in (r.0, way_at c.args.way (End Right) c.loop-side.place.trail c.loop-side.place.at, c.loop-side.place.turns, c.loop-side.invariant.waits r.0 r.1)
 
 pub descend_right-word-requires-clause-told : goal.descend_right-word-requires-clause-told
 descend_right-word-requires-clause-told g c = let r = c.requires.waits in (r.0, told g (goal.at.descend_right-word-requires-clause-told g c).After-read-head r.0 r.1)
 
-pub pass-requires-clause-told : goal.pass-requires-clause-told
-pass-requires-clause-told g c = let r = c.requires.waits in (r.0, c.descend_right-word.result.0.turns, told_last g (goal.at.pass-requires-clause-told g c).After-descend_right-word r.0 r.1)
+pub pass_last-requires-clause-told : goal.pass_last-requires-clause-told
+pass_last-requires-clause-told g c = let r = c.requires.waits in (r.0, c.descend_right-word.result.0.turns, told_last g (goal.at.pass_last-requires-clause-told g c).After-descend_right-word r.0 r.1)
 
 pub returns-in-Err-clause-steps : goal.returns-in-Err-clause-steps
 returns-in-Err-clause-steps g c =

@@ -1,3 +1,5 @@
+use Rattle.histories.specs.Common.{Right}
+use Rattle.template.specs.Common.{End}
 use Rattle.std.proofs.Common.{◌≡◌, ◌+◌, ◌*◌, ◌≤◌, suc}
 use Rattle.histories.specs.Common.{LoadSettled, Settled, Head, node}
 use Rattle.arena.specs.Layout.{node_start}
@@ -16,8 +18,8 @@ invariant-loop-side g l = record {
   start : l.place.start ≡ node_start l.place.trail.node;
   steps : seat_steps l.seat.me.0.passes + suc (walk_left l.place.at (room l.way (shared_nodes l.fn.hand.layout.now))) ≤ seat_steps l.fn.seat.me.0.passes + (3 * (2 + room l.way (shared_nodes l.fn.hand.layout.now)) + 5);
   waits : (w : Walker (calls g.S.Shape g.M.Machine l.fn.hand.layout.now l.fn.hand.number))
-      → WalksFromRoot w l.fn.seat.me.0.passes l.way l.goal
-      → WalkerWaits w l.seat.me.0.passes (way_at l.way l.goal l.place.trail l.place.at) l.place.turns (load LoadSettled (node l.place.trail.node.0 (Settled Head)));
+      → WalksFromRoot w l.fn.seat.me.0.passes l.way (End Right)
+      → WalkerWaits w l.seat.me.0.passes (way_at l.way (End Right) l.place.trail l.place.at) l.place.turns (load LoadSettled (node l.place.trail.node.0 (Settled Head)));
 }
 
 abbrev pub decreases-loop-side : goal.decreases-loop-side
