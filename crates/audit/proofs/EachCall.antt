@@ -3,6 +3,7 @@
 -- of this crate speak of any call.
 use Rattle.std.proofs.Common.{◌≡◌, ℕ, ◌-◌, ◌<◌, ◌≤◌, ◌⊎◌, inr, Bool, true, false, cond, List, Option, Some, None, option_map, refl, sym, ◌∙◌, ap, subst, arith}
 use native.Mathlib.Decide.{ℕ_discrete}
+use Rattle.arena.specs.declared.limits.Mode.TheVariants.{Tree, Trie}
 use Rattle.histories.specs.Common.{Layout, Resource, NodeNo, ScxNo, Row as StepRow, History, ◌⊳◌, value, IsWin, Entry as Entered, Side}
 use Rattle.arena.proofs.Lemmas.{ends_self, same_moment}
 use Rattle.record.specs.Common.{need, MapCall, Edit, MapReply, OneValue, MapEdit, IsRising, changes_map, edit_key, edit_of, edit_to, edited, get, leaves, pair, pair_or_none, reply}
@@ -25,7 +26,7 @@ use Rattle.record.specs.declared.record.Finished.{Finished}
 use Rattle.record.specs.declared.record.Answer.{Answer}
 use Rattle.record.specs.declared.record.Answer.TheVariants.{Map as MapAnswer}
 use Rattle.record.specs.Placed.{IsPlacedChangeOrReading}
-use Rattle.record.specs.Rules.Edit.{EditIsRight, EditTells, HasChangedOrReplied}
+use Rattle.record.specs.Rules.Edit.{EditIsRight, EditTells, FindsFirst, HadToChange, HasChangedOrReplied}
 use Rattle.record.specs.Rules.Map.{RepliesAfterStep, own_rules}
 use Rattle.record.specs.Shares.{HasTooFewToTry}
 use Rattle.record.proofs.Lemmas.{value_told}
@@ -56,6 +57,13 @@ need_at call goal rule key m found is at had does = ap (λ (k : MapCall). need k
 pub needed_any : (calls : List Call) (lines : List Line) (r : Finished) (call : MapCall) (nodes : ℕ) → 0 < nodes → NeededWithin calls lines call nodes r → NeededSomething calls lines call r
 needed_any calls lines r (Edit goal rule) nodes some x = (nodes, some, x)
 needed_any calls lines r call nodes some x = tt
+
+-- an edit that goes to an end of a trie may lose its tries before it finds something
+pub looks_first : (lay : Layout) (call : MapCall) (side : Side) (rule : Rule) → edit_in call ≡ Some (End side, rule) → lay.mode ≡ Trie → FindsFirst lay call → ⊥
+looks_first lay call side rule is trie finds =
+    let tree : lay.mode ≡ Tree = subst (FindsFirst lay) (edit_is call (End side) rule is) finds in
+    let same : Trie ≡ Tree = sym trie ∙ tree in
+    cc
 
 -- Entries
 
@@ -151,14 +159,18 @@ module _ (lay : Layout) (tries : ℕ) (calls : List Call) (lines : List Line) (c
   spelled_by : (call : MapCall) → map_request request ≡ call → ((own_rules call).IsAtOnce r.answer → ⊥) → (m : ℕ) → r.begin ≤ m → m ≤ r.end → HasSpelled lay now begun (map_at calls lines m)
   spelled_by call is never = spelled_within lay tries calls lines changed client (Map request) r x (λ may. never (subst (λ (k : MapCall). (own_rules k).IsAtOnce r.answer) is may))
 
-  contended_by : (call : MapCall) (node : NodeNo) (scx : ScxNo) → map_request request ≡ call → Fits call (MapAnswer (Contended node scx)) → HasLostAllTries lay tries r.client.0 now begun node.0 scx.0 → NeededSomething calls lines call r → RightBy call (MapAnswer (Contended node scx))
-  contended_by (Edit goal rule) node scx is fits lost (nodes, some, (m, from, to, needs)) = (nodes, to_change_by lay now begun (map_at calls lines m) (spelled_by (Edit goal rule) is (λ z. z) m from to) (Edit goal rule) nodes some needs, lost)
+  contended_by : (call : MapCall) (node : NodeNo) (scx : ScxNo) → map_request request ≡ call → Fits call (MapAnswer (Contended node scx)) → HasLostAllTries lay tries r.client.0 now begun node.0 scx.0 → (FindsFirst lay call → NeededSomething calls lines call r) → RightBy call (MapAnswer (Contended node scx))
+  contended_by (Edit goal rule) node scx is fits lost needed = (λ finds. found (needed finds), lost)
+    where
+      found : NeededSomething calls lines (Edit goal rule) r → (nodes : ℕ) × HadToChange lay now begun (Edit goal rule) nodes
+      found (nodes, some, (m, from, to, needs)) = (nodes, to_change_by lay now begun (map_at calls lines m) (spelled_by (Edit goal rule) is (λ z. z) m from to) (Edit goal rule) nodes some needs)
   contended_by (Get key) node scx is fits lost needed = neither fits
   contended_by (Neighbour side key) node scx is fits lost needed = lost
   contended_by (Range low high most) node scx is fits lost needed = lost
 
-  -- one that fits is right where all tries were lost, and the call needed something
-  pub contended_right : (node : NodeNo) (scx : ScxNo) → r.answer ≡ MapAnswer (Contended node scx) → HasLostAllTries lay tries r.client.0 now begun node.0 scx.0 → NeededSomething calls lines (map_request request) r → RightBy (map_request request) (MapAnswer (Contended node scx))
+  -- one that fits is right where all tries were lost, and the call needed something, if that is found
+  -- first
+  pub contended_right : (node : NodeNo) (scx : ScxNo) → r.answer ≡ MapAnswer (Contended node scx) → HasLostAllTries lay tries r.client.0 now begun node.0 scx.0 → (FindsFirst lay (map_request request) → NeededSomething calls lines (map_request request) r) → RightBy (map_request request) (MapAnswer (Contended node scx))
   contended_right node scx answers lost needed = contended_by (map_request request) node scx refl (either_fits lines (Map request) (MapAnswer (Contended node scx)) (subst (IsFitting lines (Map request)) answers x.fits)) lost needed
 
   full_by : (call : MapCall) (nodes : ℕ) (what : Resource) (left : ℕ) → map_request request ≡ call → 0 < nodes → NeededWithin calls lines call nodes r → HasTooFewToTry lay r.client.0 now begun nodes what left → RightBy call (MapAnswer (FullOf record { what = what; left = left }))

@@ -7,6 +7,7 @@ use Rattle.record.specs.declared.record.Line.{Line}
 use Rattle.record.specs.declared.record.Finished.{Finished}
 use Rattle.record.specs.declared.record.Answer.{Answer}
 use Rattle.record.specs.declared.record.Answer.TheVariants.{Map as MapAnswer}
+use Rattle.record.specs.Rules.Edit.{FindsFirst}
 use Rattle.record.specs.Shares.{HasTooFewToTry}
 use Rattle.linearization.specs.declared.places.Change.{Change}
 use Rattle.audit.specs.Asked.{IsAsked, NeededSomething, NeededWithin}
@@ -23,7 +24,7 @@ module _ (lay : Layout) (tries : ℕ) (calls : List Call) (lines : List Line) (c
   abbrev RightIs : Answer → Type 0
   RightIs = IsRight lay tries r.client.0 (history lay.mode lines) (start lay.mode lines r.client.0) (linked calls lay.mode lines r.client.0) (Map request)
 
-  pub right_contended : (node : NodeNo) (scx : ScxNo) → r.answer ≡ MapAnswer (Contended node scx) → (IsSome (begin lines client.pass.0) → HasLostAllTries lay tries client.pass.0 (history lay.mode lines) (start lay.mode lines client.pass.0) node.0 scx.0) → NeededSomething calls lines (map_request request) r → RightIs r.answer
+  pub right_contended : (node : NodeNo) (scx : ScxNo) → r.answer ≡ MapAnswer (Contended node scx) → (IsSome (begin lines client.pass.0) → HasLostAllTries lay tries client.pass.0 (history lay.mode lines) (start lay.mode lines client.pass.0) node.0 scx.0) → (FindsFirst lay (map_request request) → NeededSomething calls lines (map_request request) r) → RightIs r.answer
   right_contended node scx answers lost needed =
       let own = subst (λ (n : ℕ). HasLostAllTries lay tries n (history lay.mode lines) (start lay.mode lines n) node.0 scx.0) x.pass (lost begun_now) in
       subst RightIs (sym answers) (contended_right lay tries calls lines changed client request r x node scx answers own needed)

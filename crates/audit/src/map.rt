@@ -9,8 +9,10 @@ ghost use Rattle.linearization.specs.Ordered.{FallFrom, IsOrderedRead};
 ghost use Rattle.linearization.specs.Places.{changes};
 ghost use Rattle.audit.specs.Asked.{IsAsked, IsRightAfter, IsValueAt, IsReadAt, NeededSomething, NeededWithin, IsToldByPairs};
 ghost use Rattle.audit.specs.Remembered.{AreRemembered};
+ghost use Rattle.record.specs.Rules.Edit.{FindsFirst};
 
 use crate::client::ClientState;
+use crate::edits::is_trie;
 use crate::steps::Steps;
 use arena::Resource;
 use linearization::{Places, pairs_told};
@@ -244,13 +246,40 @@ fn is_refused(
     match told {
         Reply::Contended { node, scx } => {
             steps.has_lost_all_tries(client.pass, tries, (*node, *scx))
-                && needed_something(places, request, reply)
+                && found_something(steps, places, request, reply)
         }
         Reply::Full(full) => {
             let full = (full.what, full.left);
             is_full(steps, places, client, request, reply, full)
         }
         Reply::NoMemory => true,
+        _ => false,
+    }
+}
+
+/// Whether an edit found something to change after some turn of its call, unless it is one that may
+/// lose its tries before it finds anything.
+fn found_something(
+    steps: &Steps,
+    places: &Places,
+    request: &Request<u64, u128>,
+    reply: &Finished,
+) -> bool
+    ensures { (lay : Layout) (calls : List CallOf) (lines : List Line) →
+        AreRemembered lay calls lines steps.now → AreEntries calls lines (changes places.now) →
+        IsTrue result → FindsFirst lay (map_request request.now) →
+        NeededSomething calls lines (map_request request.now) reply.now }
+{
+    looks_first(steps, request) || needed_something(places, request, reply)
+}
+
+/// Whether an edit goes to an end of a trie, where it looks at node 2 first.
+#[tactic(auto, using(crate::proofs::EachCall::looks_first))]
+fn looks_first(steps: &Steps, request: &Request<u64, u128>) -> bool
+    ensures { IsTrue result → FindsFirst steps.now.judge.layout (map_request request.now) → ⊥ }
+{
+    match request.edit() {
+        Some((Goal::End(_), _)) => is_trie(&steps.judge),
         _ => false,
     }
 }

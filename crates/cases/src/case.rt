@@ -56,8 +56,7 @@ impl<'a> Case<'a> {
         }
         match self.command {
             _ if self.fails => Ok(failing(rt, self.command, &texts, ended.out.as_slice())),
-            Action::Play | Action::Records if ended.status == 0 => {
-                let mode = self.command.mode();
+            Action::Play(mode) if ended.status == 0 => {
                 replayed(rt, mode, texts.first.as_slice(), ended.out.as_slice())
             }
             _ => Ok(Finding::AsExpected),

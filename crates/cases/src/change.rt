@@ -5,6 +5,7 @@ use crate::files::{file_of, has_file, lines_of};
 use crate::finding::Finding;
 use crate::inputs::Inputs;
 use anyhow::{Context, Result};
+use arena::Mode;
 use std::alloc::Global;
 use std::rt::Files;
 use std::sync::Wait;
@@ -58,7 +59,7 @@ fn report_of<R: Files + AllocGlobal + Threads + Wait + Sync>(
     if has_file(rt, folder, "report.csv")? {
         return file_of(rt, folder, "report.csv");
     }
-    let command = Action::Play;
+    let command = Action::Play(Mode::Tree);
     Ok(Inputs::of(rt, command, folder)?.over(rt, command).out)
 }
 

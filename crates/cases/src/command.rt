@@ -1,7 +1,5 @@
 //! The commands of the program, one that copies a report, one that draws it, and one that lists the
 //! outcomes of a script.
-ghost use Rattle.std.specs.Prelude.{◌≢◌};
-
 use crate::copy::copy_over;
 use crate::ended::ProgramEnd;
 use crate::explored::outcomes_over;
@@ -18,10 +16,8 @@ use texts::Metered;
 /// What is done with one text or two.
 #[derive(Clone, Copy, Debug, PartialEq, Eq)]
 pub(crate) enum Action<'a> {
-    /// To play a script of a tree by a schedule.
-    Play,
-    /// To play one of cells.
-    Records,
+    /// To play a script by a schedule.
+    Play(Mode),
     /// To run a script with threads, at the gate of this name.
     Run { gate: &'a str },
     /// To audit a report.
@@ -38,8 +34,9 @@ impl<'a> Action<'a> {
     /// The command that these words ask for.
     pub(crate) fn of(words: &'a str) -> Result<Action<'a>> {
         match (words, words.split_once(' ')) {
-            ("play", _) => Ok(Action::Play),
-            ("records", _) => Ok(Action::Records),
+            ("play", _) => Ok(Action::Play(Mode::Tree)),
+            ("trie", _) => Ok(Action::Play(Mode::Trie)),
+            ("records", _) => Ok(Action::Play(Mode::Records)),
             ("audit", _) => Ok(Action::Audit),
             ("copy", _) => Ok(Action::Copy),
             ("picture", _) => Ok(Action::Picture),
@@ -58,16 +55,6 @@ impl<'a> Action<'a> {
         })
     }
 
-    /// The mode of the scripts that it plays.
-    pub(crate) fn mode(self) -> Mode
-        ensures { result ≢ Mode.Trie }
-    {
-        match self {
-            Action::Records => Mode::Records,
-            _ => Mode::Tree,
-        }
-    }
-
     /// How it ends over these readers (only a play has two) and this writer.
     pub(crate) fn over<R: Threads + Wait + Sync + AllocGlobal, S: Read, T: Read, O: Write>(
         self,
@@ -79,8 +66,7 @@ impl<'a> Action<'a> {
         let alloc = rt.alloc();
         let (mut out, mut err) = (Metered::new(out), Vec::new(alloc));
         let status = match self {
-            Action::Play | Action::Records => {
-                let mode = self.mode();
+            Action::Play(mode) => {
                 let (mut script, mut schedule) = (Metered::new(first), Metered::new(second));
                 play_over(alloc, mode, &mut script, &mut schedule, &mut out, &mut err)
             }

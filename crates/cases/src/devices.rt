@@ -55,7 +55,7 @@ fn other_read<R: Threads + Wait + Sync + AllocGlobal>(
             return Some(bytes);
         }
     }
-    if let Action::Play | Action::Records = command {
+    if let Action::Play(_) = command {
         for bytes in 0..=texts.second.len() {
             if !fails_to_read(rt, command, texts, (usize::MAX, bytes)) {
                 return Some(bytes);

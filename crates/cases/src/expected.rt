@@ -31,13 +31,11 @@ impl Expected {
             return Ok(Expected::Fault(file_of(rt, folder, "fault.txt")?));
         }
         Ok(match command {
-            Action::Play | Action::Records if has_file(rt, folder, "rows.csv")? => {
+            Action::Play(_) if has_file(rt, folder, "rows.csv")? => {
                 Expected::Rows(text_of(rt, folder, "rows.csv")?)
             }
             Action::Outcomes { .. } => Expected::Rows(text_of(rt, folder, "rows.csv")?),
-            Action::Play | Action::Records | Action::Copy => {
-                Expected::Output(file_of(rt, folder, "report.csv")?)
-            }
+            Action::Play(_) | Action::Copy => Expected::Output(file_of(rt, folder, "report.csv")?),
             Action::Run { gate: _ } => Expected::Output(file_of(rt, folder, "outcome.csv")?),
             Action::Picture => Expected::Output(file_of(rt, folder, "picture.svg")?),
             Action::Audit => Expected::Output(b"lawful\n".to_vec(rt.alloc())?),

@@ -1,4 +1,5 @@
 //! Scripts whose outcomes are listed.
+use arena::Mode;
 use command_line::explore_over;
 use program::Fault;
 use std::alloc::Global;
@@ -14,7 +15,7 @@ pub(crate) fn outcomes_over<R: Read, O: Write>(
     most: u64,
     out: &mut Metered<O>,
 ) -> Result<(), Fault> {
-    let left = explore_over(alloc, script, interruptions, most, out)?;
+    let left = explore_over(alloc, Mode::Tree, script, interruptions, most, out)?;
     send(left.as_bytes(), out)?;
     Ok(())
 }

@@ -24,7 +24,7 @@ impl Inputs {
     ) -> Result<Inputs> {
         let none = Vec::new(rt.alloc());
         let (first, second) = match command {
-            Action::Play | Action::Records => {
+            Action::Play(_) => {
                 (
                     file_of(rt, folder, "script.csv")?,
                     file_of(rt, folder, "schedule.csv")?,

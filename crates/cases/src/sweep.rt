@@ -1,7 +1,5 @@
 //! Sweeps: a script by one schedule after another, as where a client stops after each of its steps
 //! in turn.
-ghost use Rattle.std.specs.Prelude.{◌≢◌, IfOk};
-
 use crate::files::lines_of;
 use crate::finding::Finding;
 use anyhow::{Context, Result, bail};
@@ -23,7 +21,6 @@ pub(crate) struct Sweep<'a> {
     numbers: (&'a str, &'a str),
     script: &'a str,
     schedule: &'a str,
-    ghost plays: { mode ≢ Mode.Trie },
 }
 
 impl<'a> Sweep<'a> {
@@ -80,11 +77,10 @@ impl<'a> Sweep<'a> {
     }
 }
 
-fn mode_of(word: &str) -> Result<Mode>
-    ensures { IfOk result (λ mode. mode ≢ Mode.Trie) }
-{
+fn mode_of(word: &str) -> Result<Mode> {
     match word {
         "tree" => Ok(Mode::Tree),
+        "trie" => Ok(Mode::Trie),
         "records" => Ok(Mode::Records),
         _ => bail!("no mode: {word}"),
     }

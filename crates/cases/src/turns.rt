@@ -1,5 +1,5 @@
 //! Plays that are made again, turn by turn.
-ghost use Rattle.std.specs.Prelude.{◌≢◌, ◌<◌, All, IfOk};
+ghost use Rattle.std.specs.Prelude.{◌<◌, All, IfOk};
 
 use crate::command::Action;
 use crate::finding::Finding;
@@ -22,9 +22,7 @@ pub(crate) fn replayed<R: AllocGlobal + Threads + Wait + Sync>(
     mode: Mode,
     script: &[u8],
     report: &[u8],
-) -> Result<Finding>
-    requires { mode ≢ Mode.Trie }
-{
+) -> Result<Finding> {
     let alloc = rt.alloc();
     let (first, second) = (report.to_vec(alloc)?, Vec::new(alloc));
     let given = Inputs { first, second };
@@ -43,9 +41,7 @@ pub(crate) fn replayed<R: AllocGlobal + Threads + Wait + Sync>(
 }
 
 /// The report of the turns of a report.
-fn again(alloc: Global, mode: Mode, script: &[u8], report: &[u8]) -> Result<Vec<u8>>
-    requires { mode ≢ Mode.Trie }
-{
+fn again(alloc: Global, mode: Mode, script: &[u8], report: &[u8]) -> Result<Vec<u8>> {
     let script = read_script(alloc, mode, &mut Metered::new(script))?;
     let record = read_record(alloc, &mut Metered::new(report))?;
     let turns = turns_of(alloc, &record, script.layout.passes)?;

@@ -1,5 +1,6 @@
 //! The words of the program that plays, runs and audits.
 use crate::words::{file, given_to, option};
+use arena::Mode;
 use clap::{ArgMatches, Command, Error};
 use program::Fault;
 use std::alloc::Global;
@@ -8,14 +9,21 @@ use std::convert::AsStr;
 /// What the words ask for.
 #[derive(Clone, Copy, Debug, PartialEq, Eq)]
 pub(crate) enum Invocation<'a> {
-    /// To play the calls of a script on the tree.
-    Play { script: &'a str, schedule: &'a str },
-    /// To play those of a script on cells.
-    Records { script: &'a str, schedule: &'a str },
+    /// To play the calls of a script: on the tree, on a trie, or on cells.
+    Play {
+        mode: Mode,
+        script: &'a str,
+        schedule: &'a str,
+    },
     /// To run the calls of a script on the tree, with a thread for each client and a gate.
-    Run { gate: &'a str, script: &'a str },
+    Run {
+        gate: &'a str,
+        script: &'a str,
+    },
     /// To audit a report.
-    Audit { report: &'a str },
+    Audit {
+        report: &'a str,
+    },
 }
 
 /// What these words ask for; the first is the program's own name.
@@ -30,23 +38,18 @@ pub(crate) fn read_words<'a, S: AsStr>(
 fn request_of<'a>(matches: &ArgMatches<'a>) -> Option<Invocation<'a>> {
     let (name, given) = matches.subcommand()?;
     match name {
-        "play" => play_of(given),
-        "records" => records_of(given),
+        "play" => play_of(given, Mode::Tree),
+        "trie" => play_of(given, Mode::Trie),
+        "records" => play_of(given, Mode::Records),
         "run" => run_of(given),
         "audit" => audit_of(given),
         _ => None,
     }
 }
 
-fn play_of<'a>(given: &ArgMatches<'a>) -> Option<Invocation<'a>> {
+fn play_of<'a>(given: &ArgMatches<'a>, mode: Mode) -> Option<Invocation<'a>> {
     Some(Invocation::Play {
-        script: given.get_str("SCRIPT")?,
-        schedule: given.get_str("SCHEDULE")?,
-    })
-}
-
-fn records_of<'a>(given: &ArgMatches<'a>) -> Option<Invocation<'a>> {
-    Some(Invocation::Records {
+        mode,
         script: given.get_str("SCRIPT")?,
         schedule: given.get_str("SCHEDULE")?,
     })
@@ -71,6 +74,7 @@ fn command<'a>(alloc: Global) -> Result<Command<'a>, Error> {
         Command::new(alloc, "regnubas")
             .subcommand_required(true)
             .subcommand(playing(alloc, "play")?)?
+            .subcommand(playing(alloc, "trie")?)?
             .subcommand(playing(alloc, "records")?)?
             .subcommand(running(alloc, "run")?)?
             .subcommand(Command::new(alloc, "audit").arg(file(alloc, "REPORT"))?)?,

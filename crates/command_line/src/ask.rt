@@ -1,5 +1,5 @@
 //! What the program does with its words.
-ghost use Rattle.std.specs.Prelude.{◌≢◌, ◌≤◌};
+ghost use Rattle.std.specs.Prelude.{◌≤◌};
 
 use crate::args::{Invocation, read_words};
 use crate::buffered::play_buffered;
@@ -24,12 +24,13 @@ pub fn run_words<R: Files + AllocGlobal + Threads + Wait + Sync, O: Write, E: Wr
     ensures { result ≤ 4 }
 {
     match read_words(rt.alloc(), words) {
-        Ok(Invocation::Play { script, schedule }) => {
-            play_files(rt, Mode::Tree, script, schedule, out, err)
-        }
-        Ok(Invocation::Records { script, schedule }) => {
-            play_files(rt, Mode::Records, script, schedule, out, err)
-        }
+        Ok(
+            Invocation::Play {
+                mode,
+                script,
+                schedule,
+            },
+        ) => play_files(rt, mode, script, schedule, out, err),
         Ok(Invocation::Run { gate, script }) => run_file(rt, gate, script, out, err),
         Ok(Invocation::Audit { report }) => audit_file(rt, report, out, err),
         Err(fault) => fault.print(err),
@@ -45,7 +46,6 @@ fn play_files<R: Files + AllocGlobal, O: Write, E: Write>(
     out: &mut O,
     err: &mut E,
 ) -> u8
-    requires { mode ≢ Mode.Trie }
     ensures { result ≤ 4 }
 {
     match open_both(rt, script, schedule) {

@@ -1,5 +1,5 @@
 //! A report that goes out in large pieces.
-ghost use Rattle.std.specs.Prelude.{◌≢◌, ◌≤◌};
+ghost use Rattle.std.specs.Prelude.{◌≤◌};
 
 use arena::Mode;
 use audit::Watch;
@@ -44,7 +44,6 @@ pub(crate) fn play_buffered<S: Read + Drop, T: Read + Drop, W: Watch + Drop, O: 
     out: &mut O,
     err: &mut E,
 ) -> u8
-    requires { mode ≢ Mode.Trie }
     ensures { result ≤ 4 }
 {
     let mut to = match BufWriter::new(alloc, out) {

@@ -21,13 +21,20 @@ struct CommandHelp {
     example: &'static str,
 }
 
-const HELPS: [CommandHelp; 7] = [
+const HELPS: [CommandHelp; 8] = [
     CommandHelp {
         name: "play",
         about: "Play a script on the tree by a schedule, and print the report of every step",
         first: "SCRIPT",
         second: Some("SCHEDULE"),
         example: "Example: rnb play stories/pop_is_helped/script.csv stories/pop_is_helped/schedule.csv",
+    },
+    CommandHelp {
+        name: "trie",
+        about: "Play such a script on a trie, which stays low whatever the keys",
+        first: "SCRIPT",
+        second: Some("SCHEDULE"),
+        example: "Example: rnb trie plays/rising_keys/script.csv plays/rising_keys/schedule.csv",
     },
     CommandHelp {
         name: "records",
@@ -66,7 +73,7 @@ const HELPS: [CommandHelp; 7] = [
     },
     CommandHelp {
         name: "outcomes",
-        about: "List what a script on the tree can answer in schedules with few interruptions",
+        about: "List what a script of a map can answer in schedules with few interruptions",
         first: "SCRIPT",
         second: None,
         example: "Example: rnb outcomes outcomes/two_pops/script.csv --interruptions 1 --most 1000",
@@ -105,14 +112,14 @@ fn command_of<'a>(alloc: Global, help: &CommandHelp) -> Result<Command<'a>, Erro
 /// A command with the options that it alone has.
 fn with_options<'a>(alloc: Global, name: &str, command: Command<'a>) -> Result<Command<'a>, Error> {
     Ok(match name {
-        "play" | "records" | "audit" => command.arg(progress(alloc))?,
+        "play" | "trie" | "records" | "audit" => command.arg(progress(alloc))?,
         "run" => command.arg(gate(alloc))?,
         "picture" => {
             let from = turn(alloc, "from", "The first turn that is drawn");
             let to = turn(alloc, "to", "The last turn that is drawn");
             command.arg(from)?.arg(to)?
         }
-        "outcomes" => with_limits(alloc, command)?.arg(progress(alloc))?,
+        "outcomes" => with_limits(alloc, command.arg(map(alloc))?)?.arg(progress(alloc))?,
         _ => command,
     })
 }
@@ -129,6 +136,12 @@ fn with_limits<'a>(alloc: Global, command: Command<'a>) -> Result<Command<'a>, E
         .value_name("M")
         .help("How many schedules are played at most [default: 1000000]");
     Ok(command.arg(interruptions)?.arg(most)?)
+}
+
+fn map<'a>(alloc: Global) -> Arg<'a> {
+    option(alloc, "map")
+        .value_parser(["tree", "trie"].as_slice())
+        .help("What the map is kept in [default: tree]")
 }
 
 fn gate<'a>(alloc: Global) -> Arg<'a> {

@@ -12,24 +12,26 @@ use texts::{Metered, send};
 /// this many schedules, and answers the line that says how many are left.
 pub fn explore_over<R: Read, O: Write>(
     alloc: Global,
+    mode: Mode,
     script: &mut R,
     interruptions: u32,
     most: u64,
     out: &mut Metered<O>,
 ) -> Result<String, Fault> {
-    explore_to(alloc, script, interruptions, most, &mut Unwatched, out)
+    explore_to(alloc, mode, script, interruptions, most, &mut Unwatched, out)
 }
 
 /// The same, of which somebody is told how many schedules are played.
 pub(crate) fn explore_to<R: Read, W: Watch, O: Write>(
     alloc: Global,
+    mode: Mode,
     script: &mut R,
     interruptions: u32,
     most: u64,
     watch: &mut W,
     out: &mut Metered<O>,
 ) -> Result<String, Fault> {
-    let script = read_script(alloc, Mode::Tree, &mut Metered::new(script))?;
+    let script = read_script(alloc, mode, &mut Metered::new(script))?;
     let found = explore_watched(alloc, &script, interruptions, most, watch)?;
     send(outcomes_text(alloc, &found)?.as_bytes(), out)?;
     Ok(left_text(alloc, &found)?)

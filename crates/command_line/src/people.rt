@@ -1,5 +1,5 @@
 //! What the program for people does with its words.
-ghost use Rattle.std.specs.Prelude.{◌≢◌, ◌≤◌};
+ghost use Rattle.std.specs.Prelude.{◌≤◌};
 
 use crate::buffered::play_buffered;
 use crate::command_help::whole_command;
@@ -88,6 +88,7 @@ fn do_command<R: Files + Input + Clock + AllocGlobal + Threads + Wait + Sync, O:
 ) -> Result<(), Complaint> {
     match name {
         "play" => play(rt, Mode::Tree, given, out, err),
+        "trie" => play(rt, Mode::Trie, given, out, err),
         "records" => play(rt, Mode::Records, given, out, err),
         "run" => run(rt, given, out),
         "outcomes" => list_outcomes(rt, given, out, err),
@@ -101,9 +102,7 @@ fn play<R: Files + Input + Clock + AllocGlobal, O: Write, E: Write>(
     given: &ArgMatches<'_>,
     out: &mut O,
     err: &mut E,
-) -> Result<(), Complaint>
-    requires { mode ≢ Mode.Trie }
-{
+) -> Result<(), Complaint> {
     let alloc = rt.alloc();
     require_one_input(alloc, given)?;
     let text = Source::of(rt, given, "SCRIPT")?;
@@ -162,9 +161,9 @@ fn list_outcomes<R: Files + Input + Clock + AllocGlobal, O: Write, E: Write>(
     out: &mut O,
     err: &mut E,
 ) -> Result<(), Complaint> {
-    let alloc = rt.alloc();
+    let (alloc, mode) = (rt.alloc(), map_of(given));
     let script = Source::of(rt, given, "SCRIPT")?;
-    script_of(alloc, Mode::Tree, &script)?;
+    script_of(alloc, mode, &script)?;
     let interruptions = given.get_one::<u32>("interruptions").unwrap_or(2);
     let most = given.get_one::<u64>("most").unwrap_or(1_000_000);
     let (mut script, mut out) = (script.bytes.as_slice(), Metered::new(out));
@@ -172,6 +171,7 @@ fn list_outcomes<R: Files + Input + Clock + AllocGlobal, O: Write, E: Write>(
     let mut watch = Progress::new(rt, err, asked, "schedules at most", Some(most));
     let left = explore_to(
         alloc,
+        mode,
         &mut script,
         interruptions,
         most,
@@ -180,6 +180,14 @@ fn list_outcomes<R: Files + Input + Clock + AllocGlobal, O: Write, E: Write>(
     )?;
     let _ = err.write_all(left.as_bytes());
     Ok(())
+}
+
+/// The mode of the map that is asked for.
+fn map_of(given: &ArgMatches<'_>) -> Mode {
+    match given.get_str("map") {
+        Some("trie") => Mode::Trie,
+        _ => Mode::Tree,
+    }
 }
 
 /// Audits a report, draws it, or makes a page of it.

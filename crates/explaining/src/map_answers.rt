@@ -4,8 +4,8 @@ use crate::breach::{Objection, demand, object};
 use crate::lines_before::LinesBefore;
 use crate::map_before::{needed_by, pairs_at, reply_of};
 use crate::replies::{ANSWER, MOMENT};
-use arena::{Full, Kind, NodeNo, NodeWord, PassNo, Resource, ScxNo, SettledPart, Word};
-use ordered_map::{Reply, Request};
+use arena::{Full, Kind, Mode, NodeNo, NodeWord, PassNo, Resource, ScxNo, SettledPart, Word};
+use ordered_map::{Goal, Reply, Request};
 use record::{Answer, Finished};
 use report::answer_text;
 
@@ -34,7 +34,8 @@ pub(crate) fn check_map_answer(
     }
 }
 
-/// All tries were begun, there was something to do, and the SCX-record was in the way of the last.
+/// All tries were begun, there was something to do, if that is found first, and the SCX-record was in
+/// the way of the last.
 fn check_contended(
     before: &LinesBefore<'_>,
     request: &Request<u64, u128>,
@@ -43,10 +44,18 @@ fn check_contended(
 ) -> Result<(), Objection> {
     check_no_moment(before, reply)?;
     check_tries(before, reply.client)?;
-    check_needed(before, request, reply)?;
+    if !looks_first(before, request) {
+        check_needed(before, request, reply)?;
+    }
     check_blame(before, reply, node, scx)?;
     let newest = newest_try(before, reply.client);
     check_since(before, scx, newest, "the last try of the call began")
+}
+
+/// Whether an edit goes to an end of a trie, where it looks at node 2 first.
+fn looks_first(before: &LinesBefore<'_>, request: &Request<u64, u128>) -> bool {
+    before.record.script.layout.mode == Mode::Trie
+        && matches!(request.edit(), Some((Goal::End(_), _)))
 }
 
 /// What the map replies after a turn, as text.

@@ -1,7 +1,4 @@
 //! The play of a schedule.
-ghost use Rattle.std.specs.Prelude.{◌≢◌};
-ghost use Rattle.arena.specs.declared.limits.Mode.TheVariants.{Trie};
-
 use crate::stretch::{Begun, Stretch};
 use arena::{NoMemory, PassNo};
 use player::Player;
@@ -10,9 +7,7 @@ use script::{Order, Script};
 use std::alloc::Global;
 
 /// The record of a schedule that has begun so.
-pub(crate) fn play_on(alloc: Global, script: &Script, begun: &Begun) -> Result<Record, NoMemory>
-    requires { script.now.layout.mode ≢ Trie }
-{
+pub(crate) fn play_on(alloc: Global, script: &Script, begun: &Begun) -> Result<Record, NoMemory> {
     let passes = script.layout.passes;
     let mut player = Player::new(alloc, script)?;
     for stretch in begun.stretches.iter() {

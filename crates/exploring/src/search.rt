@@ -1,7 +1,4 @@
 //! The search through all schedules.
-ghost use Rattle.std.specs.Prelude.{◌≢◌};
-ghost use Rattle.arena.specs.declared.limits.Mode.TheVariants.{Trie};
-
 use crate::branches::{Branches, calls_of};
 use crate::found::FoundOutcome;
 use crate::outcome::outcome_text;
@@ -41,9 +38,7 @@ pub fn explore(
     script: &Script,
     interruptions: u32,
     most: u64,
-) -> Result<Exploration, AuditFault>
-    requires { script.now.layout.mode ≢ Trie }
-{
+) -> Result<Exploration, AuditFault> {
     explore_watched(alloc, script, interruptions, most, &mut Unwatched)
 }
 
@@ -54,9 +49,7 @@ pub fn explore_watched<W: Watch>(
     interruptions: u32,
     most: u64,
     watch: &mut W,
-) -> Result<Exploration, AuditFault>
-    requires { script.now.layout.mode ≢ Trie }
-{
+) -> Result<Exploration, AuditFault> {
     let mut exploration = Exploration {
         played: 0,
         left: 0,
@@ -100,9 +93,7 @@ impl Exploration {
         begun: &Begun,
         interruptions: u32,
         most: u64,
-    ) -> Result<Option<Record>, NoMemory>
-        requires { script.now.layout.mode ≢ Trie }
-    {
+    ) -> Result<Option<Record>, NoMemory> {
         let record = play_on(alloc, script, begun)?;
         self.played = self.played.saturating_add(1);
         let mut branches = Branches::of(alloc, &record, begun)?;

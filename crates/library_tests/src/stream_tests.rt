@@ -1,6 +1,5 @@
 //! Reports that are written turn by turn, to writers that fail.
 ghost use Rattle.std.specs.Prelude.{◌≡◌, ◌≢◌, ◌<◌, Some};
-ghost use Rattle.arena.specs.declared.limits.Mode.TheVariants.{Trie};
 ghost use Rattle.player.specs.Core.{passes_of};
 
 use arena::{Mode, PassNo};
@@ -159,9 +158,7 @@ fn write(
     alloc: Global,
     script: &Script,
     to: &mut Metered<FailOnce<Vec<u8>>>,
-) -> Result<(), StreamFault>
-    requires { script.now.layout.mode ≢ Trie }
-{
+) -> Result<(), StreamFault> {
     let mut stream = Stream::new(alloc, script, to)?;
     for client in 0..script.layout.passes {
         if let Err(fault) = finish(rt, &mut stream, PassNo(client), to) {
@@ -178,9 +175,7 @@ fn fails_at_each_byte(
     alloc: Global,
     mode: Mode,
     texts: (&str, &str),
-) -> Result<(), Fail>
-    requires { mode ≢ Trie }
-{
+) -> Result<(), Fail> {
     let script = read_script(alloc, mode, &mut Metered::new(texts.0.as_bytes()))?;
     let whole = texts.1.as_bytes();
     for bytes in 0..=whole.len() {

@@ -24,8 +24,6 @@ pub fn play_over<S: Read, T: Read, O: Write, E: Write>(
     out: &mut Metered<O>,
     err: &mut E,
 ) -> u8
-    requires { mode ≢ Mode.Trie }
-
     // Of readers whose bytes are known: what is printed, and why a text is refused.
     ensures printed { (said ordered : List ℕ) →
         S.remaining script.old.inner ≡ Some said → T.remaining schedule.old.inner ≡ Some ordered →
@@ -61,7 +59,6 @@ fn play<S: Read, T: Read, O: Write>(
     schedule: &mut Metered<T>,
     out: &mut Metered<O>,
 ) -> Result<(), Fault>
-    requires { mode ≢ Mode.Trie }
     ensures printed { (said ordered : List ℕ) →
         S.remaining script.old.inner ≡ Some said → T.remaining schedule.old.inner ≡ Some ordered →
         OnOk result (HasPrinted mode said ordered (O.contents out.old.inner) (O.contents out.new.inner)) }

@@ -1,6 +1,5 @@
 //! The report of a run, written while the run is played.
 ghost use Rattle.std.specs.Prelude.{◌≡◌, ◌≢◌, ℕ, suc, ◌+◌, ◌-◌, ◌^◌, ◌<◌, List, [], Option, is_some, IfOk, IsTrue, OnErr, OnOk, min, reverse};
-ghost use Rattle.arena.specs.declared.limits.Mode.TheVariants.{Trie};
 ghost use Rattle.std.specs.Io.KnownBytes.{Appends, Keeps};
 ghost use Rattle.texts.specs.Pages.{BeginsWith};
 ghost use Rattle.record.specs.Commands.{next_command};
@@ -92,7 +91,6 @@ impl Stream {
         script: &Script,
         to: &mut Metered<W>,
     ) -> Result<Stream, StreamFault>
-        requires { script.now.layout.mode ≢ Trie }
         ensures begun { IfOk result (λ stream. HasWritten stream (W.contents to.old.inner) (W.contents to.new.inner)
             record { script = script_view script.now; lines = [] }) }
         ensures beginning { OnErr result (BeginsWith (W.contents to.old.inner) (W.contents to.new.inner)
