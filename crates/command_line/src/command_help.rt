@@ -119,7 +119,7 @@ fn with_options<'a>(alloc: Global, name: &str, command: Command<'a>) -> Result<C
             let to = turn(alloc, "to", "The last turn that is drawn");
             command.arg(from)?.arg(to)?
         }
-        "outcomes" => with_limits(alloc, command.arg(map(alloc))?)?.arg(progress(alloc))?,
+        "outcomes" => with_limits(alloc, command.arg(map_kind(alloc))?)?.arg(progress(alloc))?,
         _ => command,
     })
 }
@@ -138,7 +138,7 @@ fn with_limits<'a>(alloc: Global, command: Command<'a>) -> Result<Command<'a>, E
     Ok(command.arg(interruptions)?.arg(most)?)
 }
 
-fn map<'a>(alloc: Global) -> Arg<'a> {
+fn map_kind<'a>(alloc: Global) -> Arg<'a> {
     option(alloc, "map")
         .value_parser(["tree", "trie"].as_slice())
         .help("What the map is kept in [default: tree]")

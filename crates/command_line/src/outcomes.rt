@@ -18,7 +18,15 @@ pub fn explore_over<R: Read, O: Write>(
     most: u64,
     out: &mut Metered<O>,
 ) -> Result<String, Fault> {
-    explore_to(alloc, mode, script, interruptions, most, &mut Unwatched, out)
+    explore_to(
+        alloc,
+        mode,
+        script,
+        interruptions,
+        most,
+        &mut Unwatched,
+        out,
+    )
 }
 
 /// The same, of which somebody is told how many schedules are played.

@@ -1,5 +1,5 @@
 //! Reports that are written turn by turn, to writers that fail.
-ghost use Rattle.std.specs.Prelude.{◌≡◌, ◌≢◌, ◌<◌, Some};
+ghost use Rattle.std.specs.Prelude.{◌≡◌, ◌<◌, Some};
 ghost use Rattle.player.specs.Core.{passes_of};
 
 use arena::{Mode, PassNo};
