@@ -13,7 +13,7 @@ invariant_of-script g c =
       clients = λ k d lt. (c.in_ok-calls.ensures.accepted k d lt).0;
       few = c.in_ok-calls.ensures.few;
       accepted = c.in-Some-limits_of.ensures.accepted;
-      of_limits = record { mode_is = refl; passes = of_limits.passes; nodes = of_limits.nodes; scx = of_limits.scx };
+      of_limits = record { mode_is = refl; passes = of_limits.passes; nodes = of_limits.nodes; scx = of_limits.scx; none_planted = of_limits.none_planted };
       of_mode = λ k d lt. (c.in_ok-calls.ensures.accepted k d lt).1;
     }
 
@@ -69,7 +69,7 @@ returns-in_err-calls-clause-fault g c = λ bytes none zero.
     let head = row_read _ bytes (seven (title_in c.in-Some.version layout.mode) ∷ []) c.next_row-2.new.rows c.row_fields-2.result _ two (c.row_fields-2.ensures two.row.0) c.in-Some-limits_of.ensures.row in
     let three = c.in_ok-next_row-3.ensures.row bytes (head_rows c.in-Some.version layout.mode limits) head in
     passed_on c.calls_of.result c.from_residual-in_err-calls.result c.in_err-calls.field-0.0 c.in_err-calls.was (search rules) (λ row cause why. why)
-    (c.calls_of.ensures.fault bytes limits c.in-Some-limits_of.ensures.accepted (record { mode_is = refl; passes = of_limits.passes; nodes = of_limits.nodes; scx = of_limits.scx }) three
+    (c.calls_of.ensures.fault bytes limits c.in-Some-limits_of.ensures.accepted (record { mode_is = refl; passes = of_limits.passes; nodes = of_limits.nodes; scx = of_limits.scx; none_planted = of_limits.none_planted }) three
     (omega (arith, c.next_row.ensures.number, c.next_row-2.ensures.number, c.next_row-3.ensures.number, zero)))
 
 pub returns-clause-rows : goal.returns-clause-rows
