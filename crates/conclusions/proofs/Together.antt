@@ -61,7 +61,7 @@ module _ (lay : Layout) where
   tree_run {allows} laws tree p e run = laws.runs lay (run_of p) tree (subst (λ (x : Layout). IsRun allows x (run_of p)) e run)
 
   map_run : {h : History} → IsTreeRun lay h → IsMapRun lay h
-  map_run run = (subst IsMap (sym run.0) tt, run.1)
+  map_run run = (subst IsMap (sym run.0) refl, run.1)
 
   -- A change by which k has the value v. At a later moment, up to which no pass has made another
   -- entry, k still has it.
