@@ -23,5 +23,3 @@ returns-clause-ends g c = λ call share fits x.
     made_ended g.K.WordKey.is_valid g.K.WordKey.word_of g.V.WordValue.is_valid g.V.WordValue.word_of neighbours call c.args.hand.layout.now c.args.hand.number fits c.args.tries _ share c.run-run.result fresh _ c.call-told.new.run c.call-told.result c.of_neighbour.result c.of_neighbour.ensures
     (c.call-told.ensures.leads.to (made_by g.K.WordKey.is_valid g.K.WordKey.word_of g.V.WordValue.is_valid g.V.WordValue.word_of neighbours call c.args.hand.layout.now c.args.hand.number fits c.args.tries _ share c.run-run.result fresh) (made_begins g.K.WordKey.is_valid g.K.WordKey.word_of g.V.WordValue.is_valid g.V.WordValue.word_of neighbours call c.args.hand.layout.now c.args.hand.number fits c.args.tries _ share c.run-run.result fresh _ x))
 
-pub call-told-requires-clause-tree : goal.call-told-requires-clause-tree
-call-told-requires-clause-tree g c = c.run-run.ensures.trie

@@ -35,5 +35,3 @@ neighbour-requires-clause-begins g c = rw c.in-Successor.is at c.requires.begins
 pub neighbour-requires-in-Predecessor-clause-begins : goal.neighbour-requires-in-Predecessor-clause-begins
 neighbour-requires-in-Predecessor-clause-begins g c = rw c.in-Predecessor.is at c.requires.begins
 
-pub call-told-requires-clause-tree : goal.call-told-requires-clause-tree
-call-told-requires-clause-tree g c = c.range_run-run.ensures.tree
