@@ -1,4 +1,6 @@
 -- Which kinds of step a call of a dictionary makes; a range that asks for no pairs makes none.
+use Rattle.std.specs.Prelude.{Bool}
+use Rattle.template.specs.Balance.{map_mode}
 use Rattle.std.proofs.Common.{◌≡◌, ◌∙◌, ℕ, List, refl, sym, ap, subst}
 use Rattle.atomic_table.specs.Seated.{TableId}
 use Rattle.atomic_table.specs.declared.shared.Seat.{Seat}
@@ -63,7 +65,7 @@ module _ {K V : Type 0} (valid_key : K → Type 0) (key : K → ℕ) (valid_valu
   pub waits_asks : (m : DictRun K V) (c : Call) (h : History) (s : Step) → waits m c h s → AsksForPairs (call_in m.run)
   waits_asks m c h s w = asks_inside (inner m.run) (is_of_kind m.run) c h s w.1.1
 
-  module _ {T : Type 0} (p : Inside T) (x : IsPass allows Tree p) (s : Seat ℕ SeatView) (m : DictRun K V) (reply : Reply K V) where
+  module _ {trie : Bool} {T : Type 0} (p : Inside T) (x : IsPass allows (map_mode trie) p) (s : Seat ℕ SeatView) (m : DictRun K V) (reply : Reply K V) where
     abbrev call : Call
     call = call_of p x (taken_of (pass_view p))
 

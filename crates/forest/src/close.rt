@@ -28,6 +28,7 @@ use arena::{
 };
 use atomic_table::Seat;
 use dict::{Dict, WordKey, WordValue, pairs_of};
+use template::FixedBalance;
 use ordered_map::spelled;
 use prims::Cells;
 use std::alloc::Global;
@@ -66,7 +67,7 @@ impl Closed<Cells> {
     }
 }
 
-impl<K: WordKey, V: WordValue> Closed<Dict<K, V>> {
+impl<K: WordKey, V: WordValue, B: FixedBalance> Closed<Dict<K, V, B>> {
     /// The pairs of the map, by rising key, as its run has left them. The only error is want of
     /// memory: it copies the words of all nodes first.
     pub fn pairs(&self, alloc: Global) -> Result<Vec<(K, V)>, NoMemory>
