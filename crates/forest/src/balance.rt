@@ -18,5 +18,9 @@ pub(crate) fn in_trie<B: FixedBalance>() -> bool
 pub(crate) fn mode<B: FixedBalance>() -> Mode
     ensures { result ≡ map_mode (B.trie B.the) }
 {
-    if in_trie::<B>() { Mode::Trie } else { Mode::Tree }
+    if in_trie::<B>() {
+        Mode::Trie
+    } else {
+        Mode::Tree
+    }
 }

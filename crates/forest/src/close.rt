@@ -28,12 +28,12 @@ use arena::{
 };
 use atomic_table::Seat;
 use dict::{Dict, WordKey, WordValue, pairs_of};
-use template::FixedBalance;
 use ordered_map::spelled;
 use prims::Cells;
 use std::alloc::Global;
 use std::fmt;
 use std::marker::{Brand, Model, PhantomData};
+use template::FixedBalance;
 
 /// The words of a forest that no thread shares any more.
 pub struct Closed<S: Shape> {

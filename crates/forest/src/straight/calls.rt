@@ -152,8 +152,17 @@ pub(crate) fn read<K: WordKey, V: WordValue, B: FixedBalance>(
         Request::Predecessor { key } => neighbour(hand, seat, alloc, tries, key, Side::Left),
         Request::Range { low, high, most } => {
             high.valid();
-            let mut run = range_run(alloc, low.word(), high.word(), most as usize, tries, in_trie::<B>());
-            let told = ordered_read::call::<Dict<K, V, B>, DictRun<K, V>, Range>(hand, seat, &mut run);
+            let mut run = range_run(
+                alloc,
+                low.word(),
+                high.word(),
+                most as usize,
+                tries,
+                in_trie::<B>(),
+            );
+            let told = ordered_read::call::<Dict<K, V, B>, DictRun<K, V>, Range>(
+                hand, seat, &mut run,
+            );
             of_range(alloc, told)
         }
         // Never: its callers make ordered reads alone, by the clause `ordered`.

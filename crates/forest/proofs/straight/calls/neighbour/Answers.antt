@@ -22,4 +22,3 @@ returns-clause-ends g c = λ call share fits x.
     let fresh = searches g (goal.at.returns-clause-ends g c).After-run-run share in
     made_ended g.K.WordKey.is_valid g.K.WordKey.word_of g.V.WordValue.is_valid g.V.WordValue.word_of neighbours call c.args.hand.layout.now c.args.hand.number fits c.args.tries _ share c.run-run.result (g.B.Balance.trie g.B.FixedBalance.the) fresh _ c.call-told.new.run c.call-told.result c.of_neighbour.result c.of_neighbour.ensures
     (c.call-told.ensures.leads.to (made_by g.K.WordKey.is_valid g.K.WordKey.word_of g.V.WordValue.is_valid g.V.WordValue.word_of neighbours call c.args.hand.layout.now c.args.hand.number fits c.args.tries _ share c.run-run.result (g.B.Balance.trie g.B.FixedBalance.the) fresh) (made_begins g.K.WordKey.is_valid g.K.WordKey.word_of g.V.WordValue.is_valid g.V.WordValue.word_of neighbours call c.args.hand.layout.now c.args.hand.number fits c.args.tries _ share c.run-run.result (g.B.Balance.trie g.B.FixedBalance.the) fresh _ x))
-

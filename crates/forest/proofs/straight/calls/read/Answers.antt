@@ -34,4 +34,3 @@ neighbour-requires-clause-begins g c = rw c.in-Successor.is at c.requires.begins
 
 pub neighbour-requires-in-Predecessor-clause-begins : goal.neighbour-requires-in-Predecessor-clause-begins
 neighbour-requires-in-Predecessor-clause-begins g c = rw c.in-Predecessor.is at c.requires.begins
-
