@@ -65,7 +65,7 @@ module _ {K V : Type 0} (valid_key : K → Type 0) (key : K → ℕ) (valid_valu
       with_run = λ w. at w.0;
       tells = λ w h v run x. (c, x.1.1.0.0);
       turns = λ old now h v s goes next run x. (x.0, (record { mode = x.1.0.mode ∙ ap (λ w. map_mode (is_in_trie w)) (sym goes.1.1); small = x.1.0.small; number = x.1.0.number; limit = tt; spent = x.1.0.spent }, ((next c x.1.1.0.0, (goes.1.0 ∙ x.1.1.0.1.0, subst (λ w. w ≡ leaf_way (is_in_trie w)) (sym goes.1.1) x.1.1.0.1.1), once_past now.0.at _ _ goes.0 x.1.1.0.2), x.1.1.1)));
-      stays = λ old now goes. (refl, refl, (omega arith, omega arith), ap is_in_trie goes.1.1);
+      stays = λ old now v goes. (refl, refl, (omega arith, omega arith), ap is_in_trie goes.1.1);
     }
 
   -- its machine waits for the head of the root

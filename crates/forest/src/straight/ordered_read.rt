@@ -28,10 +28,10 @@ use arena::{
 use atomic_table::Seat;
 use order::{
     Children, HeadLoad, HighLoad, KeyLoad, KnownLoad, LeafPlace, MoreLoad, PairLoad, Read, ReadAt,
-    ReadBegin, ReadLoad, ReadNext, ReadRun, Refused, ValueLoad,
+    ReadBegin, ReadLoad, ReadNext, ReadRun, Refused, ValueLoad, leaf_way,
 };
 use prims::{LlxAt, LlxRun, Snap, SnapList};
-use template::{Goal, Tree, Way};
+use template::{FixedBalance, Goal, Tree};
 
 /// Loads a settled word.
 #[inline(always)]
@@ -450,7 +450,7 @@ fn from_root<S: Shape, M: Machine<S>, R: Read + Drop>(
 
 /// Makes an ordered read: its first try inline. A function of its own, as that of an update.
 #[inline(never)]
-pub(crate) fn call<S: Shape, M: Machine<S>, R: Read + Drop>(
+pub(crate) fn call<S: Shape, M: Machine<S>, R: Read + Drop, B: FixedBalance>(
     hand: Hand<S>,
     seat: &mut Seat<u8, SeatView>,
     run: &mut ReadRun<R>,
@@ -458,7 +458,7 @@ pub(crate) fn call<S: Shape, M: Machine<S>, R: Read + Drop>(
     requires table { IsAt hand seat.old }
     requires begins { (r : Reader (hand_calls S.Shape M.Machine hand) R.means)
         × ReaderBegins r seat.old.me.0.passes run.old }
-    requires tree { run.old.trie ≡ false }
+    requires trie { run.old.trie ≡ B.trie B.the }
     ensures leads { Leads seat.old seat.new (read_left R.means run.old
         (nodes_by run.old.trie (shared_nodes hand.entry.layout.now)))
         (λ (r : Reader (hand_calls S.Shape M.Machine hand.entry) R.means) ps.
@@ -468,7 +468,8 @@ pub(crate) fn call<S: Shape, M: Machine<S>, R: Read + Drop>(
 {
     match run.start() {
         ReadBegin::Walk { key, side } => {
-            let (_, turns) = walk::to_goal::<S, M>(hand, seat, Way::InTree, Goal::Key(key));
+            let way = leaf_way(B::the().in_trie());
+            let (_, turns) = walk::to_goal::<S, M>(hand, seat, way, Goal::Key(key));
             let children = turns.children(side);
             let node = turns.to(side);
             let level = 0;
