@@ -7,17 +7,18 @@ use Rattle.arena.specs.Limits.{IsAccepted, IsLayoutOf}
 use Rattle.arena.specs.declared.limits.Limits.{Limits}
 use Rattle.arena.specs.declared.limits.Mode.TheVariants.{Tree}
 use Rattle.forest.specs.Passes.{Ground, PassView, AreNew}
+use Rattle.capi.specs.Owned.{owner_of, pass_of}
 use Rattle.capi.specs.declared.client.OwnedPass.{OwnedPass}
 use Rattle.capi.specs.declared.handle.HandleSlot.{HandleSlot}
 
 -- there is a pass, and its forest is this one
 abbrev pub IsHeldOf : Ground → Option OwnedPass → Type 0
 IsHeldOf f None = ⊥
-IsHeldOf f (Some c) = arc_value c.forest ≡ f
+IsHeldOf f (Some c) = arc_value (owner_of c) ≡ f
 
 -- the pass that a handle holds, if there is one
 abbrev pub pass_at : HandleSlot → Option PassView
-pass_at place = option_map (λ (c : OwnedPass). c.pass) place.handle.value
+pass_at place = option_map pass_of place.handle.value
 
 -- The limits are accepted, and there is one forest of them. The handles hold all its passes, in
 -- order, before their first steps.

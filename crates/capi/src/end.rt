@@ -5,9 +5,10 @@ ghost use Rattle.std.specs.List.{All};
 ghost use Rattle.forest.specs.Passes.{Ground, IsOf};
 ghost use Rattle.capi.specs.Left.{AreLeftByAll};
 ghost use Rattle.capi.specs.Made.{IsHeldOf};
+ghost use Rattle.capi.specs.Owned.{owner_of, pass_of};
 ghost use Rattle.capi.specs.Ends.{AreHeld, AreOfOne, HaveEndedWith, IsEmpty, IsIn, held_in, pass_in};
 
-use crate::client::{Numbers, OwnedPass};
+use crate::client::{Held, Numbers, OwnedPass};
 use crate::handle::{Handle, HandleSlot};
 use regnubas::{Forest, NoMemory, Pass};
 use std::alloc::Global;
@@ -109,17 +110,27 @@ fn take_apart(
         let Some(client) = handle.into_box() else {
             return None;
         };
-        let OwnedPass {
+        let Held {
             forest,
             pass,
             all: _,
-        } = Box::into_inner(client);
+        } = held_by(Box::into_inner(client));
         let Ok(()) = passes.push(pass) else {
             return None;
         };
         owner = Some(forest);
     }
     Some((owner, passes))
+}
+
+/// What a client holds.
+fn held_by(client: OwnedPass) -> Held
+    ensures pass { result.pass ≡ pass_of client }
+    ensures owner { result.forest ≡ owner_of client }
+{
+    match client {
+        OwnedPass::Tree(held) | OwnedPass::Trie(held) => held,
+    }
 }
 
 /// Ends a forest by its passes, if all are there, and answers its pairs.

@@ -31,6 +31,25 @@ use std::alloc::Global;
 pub extern "C" fn regnubas_make(alloc: Global, each: PassLimits, passes: &mut [HandleSlot]) -> u32
     ensures { MakeSays each passes.old passes.new result }
 {
+    make(alloc, each, passes, false)
+}
+
+/// The same of a trie.
+#[unsafe(no_mangle)]
+pub extern "C" fn regnubas_make_trie(
+    alloc: Global,
+    each: PassLimits,
+    passes: &mut [HandleSlot],
+) -> u32
+    ensures { MakeSays each passes.old passes.new result }
+{
+    make(alloc, each, passes, true)
+}
+
+/// Makes a dictionary, a trie or a tree.
+fn make(alloc: Global, each: PassLimits, passes: &mut [HandleSlot], trie: bool) -> u32
+    ensures { MakeSays each passes.old passes.new result }
+{
     if passes.len() > 32 {
         return LIMITS;
     }
@@ -40,7 +59,7 @@ pub extern "C" fn regnubas_make(alloc: Global, each: PassLimits, passes: &mut [H
         scx: each.scx,
         tries: each.tries,
     };
-    match open(alloc, limits) {
+    match open(alloc, limits, trie) {
         Ok(mut places) => {
             passes.swap_with_slice(&mut places);
             NONE

@@ -13,5 +13,5 @@ mod open;
 mod tests;
 
 pub use answer::{Count, KeyValue, Left, PassLimits, Value, ValueAnswer};
-pub use client::{Closing, Numbers, OwnedPass};
+pub use client::{Closing, Held, Numbers, OwnedPass};
 pub use handle::{Handle, HandleSlot};

@@ -6,15 +6,16 @@ ghost use Rattle.std.specs.Arc.{arc_value};
 ghost use Rattle.arena.specs.Limits.{IsAccepted};
 ghost use Rattle.forest.specs.Passes.{IsOf};
 ghost use Rattle.capi.specs.Made.{IsHeldOf, AreMade, pass_at};
+ghost use Rattle.capi.specs.Owned.{pass_of};
 
-use crate::client::{Numbers, OwnedPass};
+use crate::client::{Held, Numbers, OwnedPass};
 use crate::handle::{Handle, HandleSlot};
 use regnubas::{Forest, Limits, NewFault, NoMemory, Pass};
 use std::alloc::Global;
 use std::sync::Arc;
 
 /// A place for each pass of a new dictionary, with a handle that holds it.
-pub(crate) fn open(alloc: Global, limits: Limits) -> Result<Vec<HandleSlot>, NewFault>
+pub(crate) fn open(alloc: Global, limits: Limits, trie: bool) -> Result<Vec<HandleSlot>, NewFault>
     ensures refused { (result ≡ Err NewFault.Limits) ↔ (¬ IsAccepted limits) }
     ensures made { IfOk result (λ places. AreMade limits places.items) }
     ensures count { IfOk result (λ places. vec_len places ≡ limits.passes) }
@@ -23,7 +24,7 @@ pub(crate) fn open(alloc: Global, limits: Limits) -> Result<Vec<HandleSlot>, New
         Ok(opened) => opened,
         Err(fault) => return Err(fault),
     };
-    match hand_out(alloc, forest, passes, limits.passes) {
+    match hand_out(alloc, forest, passes, limits.passes, trie) {
         Ok(places) => Ok(places),
         Err(NoMemory) => Err(NewFault::NoMemory),
     }
@@ -35,6 +36,7 @@ fn hand_out(
     forest: Forest<Numbers>,
     passes: Vec<Pass<Numbers>>,
     all: u32,
+    trie: bool,
 ) -> Result<Vec<HandleSlot>, NoMemory>
     requires passes { All (IsOf forest) passes.items }
     requires all { all ≡ forest.layout.passes }
@@ -45,7 +47,7 @@ fn hand_out(
     let forest = Arc::new(alloc, forest)?;
     let mut places = Vec::new(alloc);
     for pass in passes {
-        places.push(HandleSlot::of(hand(alloc, &forest, pass, all)?))?;
+        places.push(HandleSlot::of(hand(alloc, &forest, pass, all, trie)?))?;
     }
     Ok(places)
 }
@@ -56,16 +58,22 @@ fn hand(
     forest: &Arc<Forest<Numbers>>,
     pass: Pass<Numbers>,
     all: u32,
+    trie: bool,
 ) -> Result<Handle, NoMemory>
     requires pass { IsOf (arc_value forest.now) pass }
     requires all { all ≡ (arc_value forest.now).layout.passes }
     ensures of_forest { IfOk result (λ h. IsHeldOf (arc_value forest.now) h.value) }
-    ensures held { IfOk result (λ h. option_map (λ c. c.pass) h.value ≡ Some pass) }
+    ensures held { IfOk result (λ h. option_map pass_of h.value ≡ Some pass) }
 {
-    let client = OwnedPass {
+    let held = Held {
         forest: Arc::try_clone(forest)?,
         pass,
         all,
+    };
+    let client = if trie {
+        OwnedPass::Trie(held)
+    } else {
+        OwnedPass::Tree(held)
     };
     Ok(Handle::holding(Box::new(alloc, client)?))
 }
