@@ -63,7 +63,7 @@ module _ (ys : List HandleSlot) (place : HandleSlot) (client : OwnedPass) (is : 
   pub listed : (passes : List PassView) → map pass_in (held_in ys) ≡ map Some passes → map pass_in (held_in (ys ++ place ∷ [])) ≡ map Some (passes ++ pass_of client ∷ [])
   listed passes are =
       ap (map pass_in) (map-append value_of ys (place ∷ [])) ∙ map-append pass_in (held_in ys) (place.handle.value ∷ [])
-      ∙ ap₂ (λ (l r : List (Option PassView)). l ++ r) are (ap (λ (v : Option OwnedPass). pass_in v ∷ []) (sym is)) ∙ sym (map-append Some passes (client.pass ∷ []))
+      ∙ ap₂ (λ (l r : List (Option PassView)). l ++ r) are (ap (λ (v : Option OwnedPass). pass_in v ∷ []) (sym is)) ∙ sym (map-append Some passes (pass_of client ∷ []))
 
   -- all of these and that one are of a forest
   pub of_both : (f : Ground) → All (IsIn f) (held_in (ys ++ place ∷ [])) → All (IsIn f) (held_in ys) × (arc_value (owner_of client) ≡ f)

@@ -1,5 +1,5 @@
 -- What is held of a dictionary, a tree or a trie: a pass, and an owner of its forest.
-use Rattle.std_alloc.specs.declared.arc.Arc.{Arc}
+use Rattle.std.specs.declared.sync.Arc.{Arc}
 use Rattle.std.specs.Global.{Global}
 use Rattle.forest.specs.Passes.{Ground, PassView}
 use Rattle.capi.specs.declared.client.OwnedPass.{OwnedPass}
