@@ -5,6 +5,7 @@ use Rattle.std.specs.Global.{Vec}
 use Rattle.std.specs.Option.{option_map}
 use Rattle.arena.specs.Limits.{IsAccepted}
 use Rattle.arena.specs.declared.limits.Limits.{Limits}
+use Rattle.arena.specs.declared.limits.Mode.{Mode}
 use Rattle.ordered_map.specs.Holding.{wide_value}
 use Rattle.ordered_map.specs.OrderedMap.{MapCall, Get, Range}
 use Rattle.ordered_map.specs.declared.reply.Reply.{Reply}
@@ -152,5 +153,5 @@ pub record IsNotMade (each : PassLimits) (before after : List HandleSlot) (statu
   pub why : ((status ≡ 5) × (¬ IsAccepted (limits_of each (length before)))) ⊎ (status ≡ 4)
 
 -- what `make` answers, and what handles hold: those of a new dictionary, or what they held
-abbrev pub MakeSays : PassLimits → List HandleSlot → List HandleSlot → ℕ → Type 0
-MakeSays each before after status = ((status ≡ 0) × AreMade (limits_of each (length before)) after) ⊎ IsNotMade each before after status
+abbrev pub MakeSays : Mode → PassLimits → List HandleSlot → List HandleSlot → ℕ → Type 0
+MakeSays mode each before after status = ((status ≡ 0) × AreMade mode (limits_of each (length before)) after) ⊎ IsNotMade each before after status

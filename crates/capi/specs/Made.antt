@@ -5,7 +5,7 @@ use Rattle.std.specs.Arc.{arc_value}
 use Rattle.std.specs.Option.{option_map}
 use Rattle.arena.specs.Limits.{IsAccepted, IsLayoutOf}
 use Rattle.arena.specs.declared.limits.Limits.{Limits}
-use Rattle.arena.specs.declared.limits.Mode.TheVariants.{Tree}
+use Rattle.arena.specs.declared.limits.Mode.{Mode}
 use Rattle.forest.specs.Passes.{Ground, PassView, AreNew}
 use Rattle.capi.specs.Owned.{owner_of, pass_of}
 use Rattle.capi.specs.declared.client.OwnedPass.{OwnedPass}
@@ -20,12 +20,12 @@ IsHeldOf f (Some c) = arc_value (owner_of c) ≡ f
 abbrev pub pass_at : HandleSlot → Option PassView
 pass_at place = option_map pass_of place.handle.value
 
--- The limits are accepted, and there is one forest of them. The handles hold all its passes, in
+-- The limits are accepted, and there is one forest of them, of this mode. The handles hold all its passes, in
 -- order, before their first steps.
-pub record AreMade (limits : Limits) (places : List HandleSlot) : Type 0 where
+pub record AreMade (mode : Mode) (limits : Limits) (places : List HandleSlot) : Type 0 where
   pub accepted : IsAccepted limits
   pub forest : Ground
-  pub layout : IsLayoutOf limits Tree forest.layout
+  pub layout : IsLayoutOf limits mode forest.layout
   pub tries : forest.tries ≡ limits.tries
   pub of_forest : All (λ p. IsHeldOf forest p.handle.value) places
   pub passes : List PassView

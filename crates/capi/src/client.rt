@@ -3,33 +3,19 @@ ghost use Rattle.std.specs.Prelude.{◌≡◌, ◌≤◌, IfOk, length, min, vec
 ghost use Rattle.std.specs.Arc.{arc_value};
 ghost use Rattle.ordered_map.specs.OrderedMap.{call_insert, call_insert_new, call_delete, call_delete_if, call_pop_first, call_pop_last, call_replace_if, call_successor, call_predecessor, Get, Range};
 ghost use Rattle.ordered_map.specs.declared.reply.Reply.TheVariants as replies;
-ghost use Rattle.forest.specs.Passes.{IsOf};
 ghost use Rattle.forest.specs.Dictionary.{order_reply, update_reply};
 
 use crate::answer::{Count, KeyValue};
-use regnubas::{Dict, Forest, NoMemory, OrderFault, Pass, UpdateFault};
+use crate::held::Held;
+use regnubas::{ByBits, ByOrder, OrderFault, UpdateFault};
 use std::alloc::Global;
 use std::sync::Arc;
-
-/// A dictionary from numbers of 64 bits to numbers of 128.
-pub type Numbers = Dict<u64, u128>;
-
-/// A pass, and one owner of its forest.
-#[derive(Drop)]
-pub struct Held {
-    pub(crate) forest: Arc<Forest<Numbers>>,
-    pub(crate) pass: Pass<Numbers>,
-    /// How many passes the forest has.
-    pub(crate) all: u32,
-    ghost of: { IsOf (arc_value forest) pass },
-    ghost counted: { all ≡ (arc_value forest).layout.passes },
-}
 
 /// A pass of a tree or of a trie, and one owner of its forest.
 #[derive(Drop)]
 pub enum OwnedPass {
-    Tree(Held),
-    Trie(Held),
+    Tree(Held<ByOrder>),
+    Trie(Held<ByBits>),
 }
 
 impl OwnedPass {
@@ -210,6 +196,11 @@ impl OwnedPass {
         }
     }
 
+    /// Whether it is of a trie.
+    pub fn is_trie(&self) -> bool {
+        matches!(self, OwnedPass::Trie(_))
+    }
+
     /// How many passes the dictionary has.
     pub fn all(&self) -> u32
         ensures { result ≡ (arc_value (owner_of self.now)).layout.passes }
@@ -241,24 +232,6 @@ impl Closing {
         match left {
             Some(pairs) => Closing::Pairs(pairs),
             None => Closing::NoMemory,
-        }
-    }
-}
-
-impl Held {
-    ghost use Rattle.capi.specs.Left.{IsClosingOf};
-
-    /// Ends the forest, if this is its last client.
-    fn close(self, alloc: Global) -> Result<Option<Vec<(u64, u128)>>, Held>
-        ensures { IsClosingOf self result }
-    {
-        let Held { forest, pass, all } = self;
-        match Arc::try_unwrap(forest) {
-            Ok(forest) => match forest.end(pass).pairs(alloc) {
-                Ok(pairs) => Ok(Some(pairs)),
-                Err(NoMemory) => Ok(None),
-            },
-            Err(forest) => Err(Held { forest, pass, all }),
         }
     }
 }

@@ -7,36 +7,36 @@ ghost use Rattle.arena.specs.Limits.{IsAccepted};
 ghost use Rattle.forest.specs.Passes.{IsOf};
 ghost use Rattle.capi.specs.Made.{IsHeldOf, AreMade, pass_at};
 ghost use Rattle.capi.specs.Owned.{pass_of};
+ghost use Rattle.template.specs.Balance.{map_mode};
 
-use crate::client::{Held, Numbers, OwnedPass};
 use crate::handle::{Handle, HandleSlot};
+use crate::held::{Held, Kind, Numbers};
 use regnubas::{Forest, Limits, NewFault, NoMemory, Pass};
 use std::alloc::Global;
 use std::sync::Arc;
 
 /// A place for each pass of a new dictionary, with a handle that holds it.
-pub(crate) fn open(alloc: Global, limits: Limits, trie: bool) -> Result<Vec<HandleSlot>, NewFault>
+pub(crate) fn open<B: Kind>(alloc: Global, limits: Limits) -> Result<Vec<HandleSlot>, NewFault>
     ensures refused { (result ≡ Err NewFault.Limits) ↔ (¬ IsAccepted limits) }
-    ensures made { IfOk result (λ places. AreMade limits places.items) }
+    ensures made { IfOk result (λ places. AreMade (map_mode (B.trie B.the)) limits places.items) }
     ensures count { IfOk result (λ places. vec_len places ≡ limits.passes) }
 {
-    let (forest, passes) = match Forest::<Numbers>::new(alloc, limits) {
+    let (forest, passes) = match Forest::<Numbers<B>>::new(alloc, limits) {
         Ok(opened) => opened,
         Err(fault) => return Err(fault),
     };
-    match hand_out(alloc, forest, passes, limits.passes, trie) {
+    match hand_out(alloc, forest, passes, limits.passes) {
         Ok(places) => Ok(places),
         Err(NoMemory) => Err(NewFault::NoMemory),
     }
 }
 
 /// A place for each of these passes of a forest.
-fn hand_out(
+fn hand_out<B: Kind>(
     alloc: Global,
-    forest: Forest<Numbers>,
-    passes: Vec<Pass<Numbers>>,
+    forest: Forest<Numbers<B>>,
+    passes: Vec<Pass<Numbers<B>>>,
     all: u32,
-    trie: bool,
 ) -> Result<Vec<HandleSlot>, NoMemory>
     requires passes { All (IsOf forest) passes.items }
     requires all { all ≡ forest.layout.passes }
@@ -47,33 +47,27 @@ fn hand_out(
     let forest = Arc::new(alloc, forest)?;
     let mut places = Vec::new(alloc);
     for pass in passes {
-        places.push(HandleSlot::of(hand(alloc, &forest, pass, all, trie)?))?;
+        places.push(HandleSlot::of(hand(alloc, &forest, pass, all)?))?;
     }
     Ok(places)
 }
 
 /// A handle of this pass.
-fn hand(
+fn hand<B: Kind>(
     alloc: Global,
-    forest: &Arc<Forest<Numbers>>,
-    pass: Pass<Numbers>,
+    forest: &Arc<Forest<Numbers<B>>>,
+    pass: Pass<Numbers<B>>,
     all: u32,
-    trie: bool,
 ) -> Result<Handle, NoMemory>
     requires pass { IsOf (arc_value forest.now) pass }
     requires all { all ≡ (arc_value forest.now).layout.passes }
     ensures of_forest { IfOk result (λ h. IsHeldOf (arc_value forest.now) h.value) }
     ensures held { IfOk result (λ h. option_map pass_of h.value ≡ Some pass) }
 {
-    let held = Held {
+    let client = B::client(Held {
         forest: Arc::try_clone(forest)?,
         pass,
         all,
-    };
-    let client = if trie {
-        OwnedPass::Trie(held)
-    } else {
-        OwnedPass::Tree(held)
-    };
+    });
     Ok(Handle::holding(Box::new(alloc, client)?))
 }
