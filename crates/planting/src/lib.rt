@@ -1,8 +1,8 @@
 //! Trees that are planted with the first pairs of a map.
 #![tactic(auto)]
 
-mod few;
-mod grow;
-mod part;
+mod leaf;
+mod parting;
+mod trees;
 
-pub use grow::grow;
+pub use trees::grow;

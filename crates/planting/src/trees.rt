@@ -4,8 +4,8 @@ ghost use Rattle.ordered_map.specs.OrderedMap.{AllBelow, IsRising};
 ghost use Rattle.edits.specs.declared.piece.Piece.{Piece};
 ghost use Rattle.planting.specs.Groves.{HasGrown};
 
-use crate::few::few;
-use crate::part::part;
+use crate::leaf::few;
+use crate::parting::part;
 use arena::{NoMemory, NodeNo};
 use edits::Piece;
 use ordered_map::Pair;
@@ -54,8 +54,7 @@ fn leaf(pairs: &[Pair], trie: bool, level: u64) -> Piece
 /// Adds a node to a row that begins at node 3, and answers its number.
 fn push(row: &mut Vec<Piece>, piece: Piece) -> Result<u64, NoMemory>
     requires { length row.old.items < 67108864 }
-    ensures top { IfOk result (λ top. top ≡ 3 + length row.old.items) }
-    ensures items { IfOk result (λ _. row.new.items ≡ row.old.items ++ piece ∷ []) }
+    ensures { IfOk result (λ top. (top ≡ 3 + length row.old.items) × (row.new.items ≡ row.old.items ++ piece ∷ [])) }
 {
     let top = 3 + row.len() as u64;
     row.push(piece)?;
