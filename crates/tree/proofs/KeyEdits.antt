@@ -2,7 +2,6 @@
 use Rattle.std.proofs.Common.{◌≡◌, ℕ, Bool, true, false, ◌<◌, Option, Some, None, ◌∙◌, subst, arith}
 use Rattle.histories.specs.Common.{Step, NodeWord, History, Call, row_of}
 use Rattle.template.specs.Common.{IsFillInOrder, leaves, Goal, Rule}
-use Rattle.ordered_map.specs.FillOrder.{AreFilledInOrder}
 use Rattle.template.specs.declared.walk.Found.{Found}
 use Rattle.tree.specs.declared.key_edit.KeyEdit.{KeyEdit}
 use Rattle.tree.specs.KeyEdit.Means.{is_trie_end, key_at, key_means, leaving, part, popping, putting, taking}
@@ -47,10 +46,10 @@ fills_through means of m c h f nth word x = record {
 }
 
 -- what leaves this to a key fills in order
-leaving_in_order : (end trie : Bool) (left : Option ℕ) (m : UpdateRun ℕ UpdateAt) (c : Call) (h : History) (f : Found) (nth : Nth) (word : NodeWord) → AreFilledInOrder h → FillsPiece (leaving end trie left) m c h f nth word → IsFillInOrder h (row_of c (piece_fill_step (leaving end trie left) m f nth word) h)
-leaving_in_order end in_trie (Some value) m c h f nth word filled x = put_fill_in_order (of_edit (putting in_trie m.edit value) m) c h f nth word (fills_through put_means (λ key. putting in_trie key value) m c h f nth word x)
-leaving_in_order false in_trie None m c h f nth word filled x = take_fill_in_order (of_edit (taking in_trie m.edit) m) c h f nth word (fills_through take_means (taking in_trie) m c h f nth word x) filled
-leaving_in_order true in_trie None m c h f nth word filled x = pop_fill_in_order (of_edit (popping m.edit) m) c h f nth word (fills_through pop_means popping m c h f nth word x) filled
+leaving_in_order : (end trie : Bool) (left : Option ℕ) (m : UpdateRun ℕ UpdateAt) (c : Call) (h : History) (f : Found) (nth : Nth) (word : NodeWord) → FillsPiece (leaving end trie left) m c h f nth word → IsFillInOrder h (row_of c (piece_fill_step (leaving end trie left) m f nth word) h)
+leaving_in_order end in_trie (Some value) m c h f nth word x = put_fill_in_order (of_edit (putting in_trie m.edit value) m) c h f nth word (fills_through put_means (λ key. putting in_trie key value) m c h f nth word x)
+leaving_in_order false in_trie None m c h f nth word x = take_fill_in_order (of_edit (taking in_trie m.edit) m) c h f nth word (fills_through take_means (taking in_trie) m c h f nth word x)
+leaving_in_order true in_trie None m c h f nth word x = pop_fill_in_order (of_edit (popping m.edit) m) c h f nth word (fills_through pop_means popping m c h f nth word x)
 
 module _ {G R : Type 0} (goal : G → Goal) (trie : G → Bool) (rule : R → Rule) where
   -- what it does at its key
@@ -78,8 +77,8 @@ module _ {G R : Type 0} (goal : G → Goal) (trie : G → Bool) (rule : R → Ru
       needed : 0 < ((key_means goal trie rule).work m.edit f).need
       needed = subst (λ (w : Work). 0 < w.need) x.works.asked (let n = x.works.need in omega (arith, n))
 
-  -- whatever step an edit waits for, where nodes were filled in order before
-  pub key_in_order : (m : UpdateRun (KeyEdit G R) UpdateAt) (c : Call) (h : History) (s : Step) → AreFilledInOrder h → UpdateWaits (key_means goal trie rule) m c h s → IsFillInOrder h (row_of c s h)
-  key_in_order m c h s filled x =
+  -- whatever step an edit waits for
+  pub key_in_order : (m : UpdateRun (KeyEdit G R) UpdateAt) (c : Call) (h : History) (s : Step) → UpdateWaits (key_means goal trie rule) m c h s → IsFillInOrder h (row_of c s h)
+  key_in_order m c h s x =
       update_in_order (key_means goal trie rule) m c h s
-      (λ d f nth word y. leaving_in_order (is_trie_end (goal m.edit.goal) (trie m.edit.goal)) (trie m.edit.goal) (leaves (rule m.edit.rule)) (of_edit (key_at goal trie rule m.edit f) m) d h f nth word filled (own_fills m d h f nth word y)) x
+      (λ d f nth word y. leaving_in_order (is_trie_end (goal m.edit.goal) (trie m.edit.goal)) (trie m.edit.goal) (leaves (rule m.edit.rule)) (of_edit (key_at goal trie rule m.edit f) m) d h f nth word (own_fills m d h f nth word y)) x

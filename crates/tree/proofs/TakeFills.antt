@@ -1,12 +1,12 @@
 -- What takes a key out fills its copy in order: nothing mentions the copy, and its fields get what
 -- the sibling's held, which has been in the tree.
 use Rattle.std.proofs.Common.{◌≡◌, ℕ, ◌/◌, ◌%◌, ◌<◌, ◌≤◌, ◌==◌, inl, inr, List, [], ◌∷◌, length, Bool, true, false, le-ltb, cond, eqb, Option, Some, None, refl, sym, ◌∙◌, ap, subst, arith, unwrap_or}
-use Rattle.histories.specs.Common.{NodeWord, Settled, Child, Head, Side, IsInField, head_of, History, value, Call, row_of, node, child}
+use Rattle.histories.specs.Common.{NodeWord, Settled, Child, Head, Side, head_of, History, value, Call, row_of, node, child}
 use Rattle.histories.proofs.Lemmas.{node_since}
 use Rattle.prims.specs.Laws.Linked.{in_field_named}
 use Rattle.template.specs.Common.{child_of, snap_at, Snap, IsFillInOrder, WasInTree, opposite, sibling_place, is_leaf, Goal, Key as ToKey, delete}
-use Rattle.ordered_map.specs.FillOrder.{HasStoodInField, AreFilledInOrder}
-use Rattle.ordered_map.proofs.MapLemmas.{held_stood}
+use Rattle.ordered_map.specs.FillOrder.{HasStoodInField}
+use Rattle.ordered_map.proofs.MapLemmas.{child_stood}
 use Rattle.template.specs.declared.walk.Found.{Found}
 use Rattle.template.specs.declared.walk.Way.{Way}
 use Rattle.template.specs.declared.walk.Way.TheVariants.{InTree, InTrie}
@@ -18,7 +18,7 @@ use Rattle.tree.specs.Laws.Looks.{not_enough}
 use Rattle.edits.specs.declared.edit.Look.TheVariants.{At, Enough}
 use Rattle.edits.specs.Edits.{EditMeaning}
 use Rattle.tree.specs.Laws.Take.Sound.{HasFour, LooksToTake, copy_fields, few_places, has_four, looked_join, usable_at}
-use Rattle.tree.proofs.Fills.{opens_three, same_number, same_part, unstood}
+use Rattle.tree.proofs.Fills.{same_number, same_part, unstood}
 use Rattle.edits.specs.declared.edit.Nodes.{Nodes}
 use Rattle.edits.specs.declared.edit.Nth.{Nth}
 use Rattle.edits.specs.declared.edit.Work.{Work}
@@ -78,41 +78,37 @@ module _ {E : Type 0} {way : Way} {goal : Goal} (means : EditMeaning E) (m : Upd
     head_is = ap (λ o. unwrap_or o (head_of 0)) (head_read (value h) sibling.node.0 m.read (right t).is whole)
 
     -- what a field of the sibling held has been in the tree
-    field_stood : (side : Side) → AreFilledInOrder h → is_leaf (value h) sibling.node.0 ≡ false → WasInTree h (child_of sibling side).0
-    field_stood side filled fork = subst (WasInTree h) (u.is.linked.fields side u.is.info) (held_stood c.layout h u.moment sibling.node.0 side x.works.run filled u.within (named u.is.linked.in_field) u.is.not_final then)
+    field_stood : (side : Side) → is_leaf (value h) sibling.node.0 ≡ false → WasInTree h (child_of sibling side).0
+    field_stood side fork = subst (WasInTree h) (u.is.linked.fields side u.is.info) (child_stood c.layout h u.moment sibling.node.0 side x.works.run u.within u.stood u.is.not_final then)
       where
         u : HasSnappedAfterWalk c h way goal f sibling
         u = used t
 
-        named : IsInField c.layout u.moment sibling.node.0 → HasStoodInField u.moment sibling.node.0
-        named (inl i) = inl (subst (λ n. sibling.node.0 < n) (opens_three c.layout.mode x.works.run.0) i)
-        named (inr y) = inr (y.0, y.1, y.3)
-
         then : is_leaf (value u.moment) sibling.node.0 ≡ false
         then = ap (λ w. eqb (w / 4 % 2) 1) (sym (node_since c.layout h u.moment sibling.node.0 (Settled Head) x.works.run.1.lawful u.within tt (in_field_named sibling.node.0 u.is.linked.in_field))) ∙ fork
 
-    join_ordered : (side : Side) → AreFilledInOrder h → is_filled (copy_with sibling (unwrap_or m.read.head (head_of 0)) m.read) (Child side) ≡ true → WasInTree h (word_of (copy_with sibling (unwrap_or m.read.head (head_of 0)) m.read) (Child side))
-    join_ordered side filled q =
+    join_ordered : (side : Side) → is_filled (copy_with sibling (unwrap_or m.read.head (head_of 0)) m.read) (Child side) ≡ true → WasInTree h (word_of (copy_with sibling (unwrap_or m.read.head (head_of 0)) m.read) (Child side))
+    join_ordered side q =
         let fork : (unwrap_or m.read.head (head_of 0)).leaf ≡ false = fork_there sibling (unwrap_or m.read.head (head_of 0)) m.read side q in
-        subst (WasInTree h) (copy_fields sibling (unwrap_or m.read.head (head_of 0)) m.read side q) (field_stood side filled (sym (ap (λ (y : HeadParts). y.leaf) head_is) ∙ fork))
+        subst (WasInTree h) (copy_fields sibling (unwrap_or m.read.head (head_of 0)) m.read side q) (field_stood side (sym (ap (λ (y : HeadParts). y.leaf) head_is) ∙ fork))
 
-  field_ordered : (k : ℕ) (side : Side) → AreFilledInOrder h → node (nth_node m.nodes nth).0 part ≡ child k side → WasInTree h (word_of (piece means m f (nth_node m.nodes nth).0) part)
-  field_ordered k side filled e =
+  field_ordered : (k : ℕ) (side : Side) → node (nth_node m.nodes nth).0 part ≡ child k side → WasInTree h (word_of (piece means m f (nth_node m.nodes nth).0) part)
+  field_ordered k side e =
       let p : part ≡ Child side = same_part (nth_node m.nodes nth).0 k part (Child side) e in
       let q : is_filled said (Child side) ≡ true = subst (λ (a : Piece). is_filled a (Child side) ≡ true) said_is (subst (λ (a : NodeWord). is_filled (piece means m f (nth_node m.nodes nth).0) a ≡ true) p x.part_is) in
       let t : has_more f ≡ false = joined (has_more f) f.head.level key m.read (copy_with sibling (unwrap_or m.read.head (head_of 0)) m.read) side q in
       let copy : said ≡ copy_with sibling (unwrap_or m.read.head (head_of 0)) m.read = rw t refl in
       let same : word_of (piece means m f (nth_node m.nodes nth).0) part ≡ word_of said (Child side) = ap (λ (a : NodeWord). word_of (piece means m f (nth_node m.nodes nth).0) a) p ∙ ap (λ (a : Piece). word_of a (Child side)) said_is in
-      subst (WasInTree h) (sym (same ∙ ap (λ (a : Piece). word_of a (Child side)) copy)) (join_ordered t side filled (subst (λ (a : Piece). is_filled a (Child side) ≡ true) copy q))
+      subst (WasInTree h) (sym (same ∙ ap (λ (a : Piece). word_of a (Child side)) copy)) (join_ordered t side (subst (λ (a : Piece). is_filled a (Child side) ≡ true) copy q))
 
   -- a fill of its node is in order
-  copy_in_order : AreFilledInOrder h → IsFillInOrder h (row_of c (piece_fill_step means m f nth part) h)
-  copy_in_order filled = record { head = λ k kind e. inr (head_ordered k e); field = λ k side kind e. inl (field_ordered k side filled e) }
+  copy_in_order : IsFillInOrder h (row_of c (piece_fill_step means m f nth part) h)
+  copy_in_order = record { head = λ k kind e. inr (head_ordered k e); field = λ k side kind e. inl (field_ordered k side e) }
 
 -- so it is with a delete
-pub take_fill_in_order : (m : UpdateRun TakePair UpdateAt) (c : Call) (h : History) (f : Found) (nth : Nth) (part : NodeWord) → FillsPiece take_means m c h f nth part → AreFilledInOrder h → IsFillInOrder h (row_of c (piece_fill_step take_means m f nth part) h)
-take_fill_in_order m c h f nth part x filled =
-    copy_in_order take_means m c h f nth part x m.edit.key (sibling_of f m.snaps.items) (subst (λ (w : Work). w.need ≤ 1) (sym x.works.asked) (one_needed f.value (take_plan f))) (λ i. refl) right x.whole used filled
+pub take_fill_in_order : (m : UpdateRun TakePair UpdateAt) (c : Call) (h : History) (f : Found) (nth : Nth) (part : NodeWord) → FillsPiece take_means m c h f nth part → IsFillInOrder h (row_of c (piece_fill_step take_means m f nth part) h)
+take_fill_in_order m c h f nth part x =
+    copy_in_order take_means m c h f nth part x m.edit.key (sibling_of f m.snaps.items) (subst (λ (w : Work). w.need ≤ 1) (sym x.works.asked) (one_needed f.value (take_plan f))) (λ i. refl) right x.whole used
   where
     right : has_more f ≡ false → MayRead c.layout h (sibling_of f m.snaps.items).node.0 m.read
     right t = rw t at x.read
@@ -130,9 +126,9 @@ end_long f (g ∷ []) e = absurd (not_enough ((child_of g f.trail.grand_side).0 
 end_long f (g ∷ p ∷ []) e = absurd (not_enough ((child_of p f.trail.side).0 == f.trail.node.0) (child_of p (opposite f.trail.side)) p e)
 end_long f (g ∷ p ∷ z ∷ snaps) e = omega arith
 
-pub pop_fill_in_order : (m : UpdateRun PopPair UpdateAt) (c : Call) (h : History) (f : Found) (nth : Nth) (part : NodeWord) → FillsPiece pop_means m c h f nth part → AreFilledInOrder h → IsFillInOrder h (row_of c (piece_fill_step pop_means m f nth part) h)
-pop_fill_in_order m c h f nth part x filled =
-    copy_in_order pop_means m c h f nth part x m.edit.key (snap_at m.snaps.items 2) (subst (λ (w : Work). w.need ≤ 1) (sym x.works.asked) (one_needed f.value (pop_plan f))) (λ i. refl) right x.whole used filled
+pub pop_fill_in_order : (m : UpdateRun PopPair UpdateAt) (c : Call) (h : History) (f : Found) (nth : Nth) (part : NodeWord) → FillsPiece pop_means m c h f nth part → IsFillInOrder h (row_of c (piece_fill_step pop_means m f nth part) h)
+pop_fill_in_order m c h f nth part x =
+    copy_in_order pop_means m c h f nth part x m.edit.key (snap_at m.snaps.items 2) (subst (λ (w : Work). w.need ≤ 1) (sym x.works.asked) (one_needed f.value (pop_plan f))) (λ i. refl) right x.whole used
   where
     right : has_more f ≡ false → MayRead c.layout h (snap_at m.snaps.items 2).node.0 m.read
     right t = rw t at x.read
