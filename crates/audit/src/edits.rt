@@ -15,6 +15,7 @@ ghost use Rattle.ordered_map.specs.OrderedMap.{last_pair};
 ghost use Rattle.audit.specs.Edits.{AreToward, IsEditBy, IsInFront, IsLeafFor, IsSuited, MayMakeEdit, ShowsTree, edit_begun, key_in, word_now};
 ghost use Rattle.judge.specs.Histories.{seen_history};
 
+use crate::found::FoundLeaves;
 use crate::leaves::{
     Pairs, head, held, is_leaf_copy, is_low_leaf, is_readable, is_well_counted, key_of, node_word,
     pairs_of_leaf, said, settled,
@@ -35,19 +36,24 @@ pub(crate) struct BegunEdit {
     pub(crate) value: Option<u128>,
 }
 
-/// The edit that an SCX-record is about to make for a call: below a fork on the search path of its
-/// key, and of a leaf that fits the call, unless it is to take the pair at an end out and can win
-/// no more.
-pub(crate) fn begun_for(judge: &Judge, scx: u64, command: &Command) -> Option<BegunEdit>
+/// The edit that an SCX-record is about to make for a call, whose client has found these leaves:
+/// below a fork on the search path of its key, and of a leaf that fits the call, unless it is to take
+/// the pair at an end out and can win no more.
+pub(crate) fn begun_for(
+    judge: &Judge,
+    scx: u64,
+    command: &Command,
+    found: FoundLeaves,
+) -> Option<BegunEdit>
     requires mode { IsMap judge.now.layout.mode }
     requires tree { ShowsTree (seen_history judge.now) }
     ensures command { IfSome result (λ begun. begun.command ≡ command.now) }
     ensures edit { IfSome result (MayMakeEdit judge.now.layout (seen_history judge.now) scx) }
 {
     let (goal, rule) = edit_in(command)?;
-    let begun = edit_for(judge, scx, command, goal, rule)?;
+    let begun = edit_for(judge, scx, command, goal, rule, found)?;
     let is_late = is_late(judge, scx, goal);
-    if is_edit(judge, scx, goal, &begun)
+    if is_edit(judge, scx, goal, &begun, found)
         && is_fork_on_path(judge, begun.key, member(judge, scx, 0))
         && keeps_to_bits(judge, scx, begun.key)
         && (is_late || covers_the_right_leaf(judge, scx, &begun))
@@ -102,7 +108,14 @@ fn edit_in(command: &Command) -> Option<(Goal, Rule)>
 
 /// The edit that a call with this command is to make by an SCX-record: of the pair at an end, which
 /// it may only take out, the key is the one at that end of its leaf.
-fn edit_for(judge: &Judge, scx: u64, command: &Command, goal: Goal, rule: Rule) -> Option<BegunEdit>
+fn edit_for(
+    judge: &Judge,
+    scx: u64,
+    command: &Command,
+    goal: Goal,
+    rule: Rule,
+    found: FoundLeaves,
+) -> Option<BegunEdit>
     requires { map_call (Some command.now) ≡ Some (Edit goal rule) }
     ensures command { IfSome result (λ begun. begun.command ≡ command.now) }
     ensures own { IfSome result
@@ -111,7 +124,7 @@ fn edit_for(judge: &Judge, scx: u64, command: &Command, goal: Goal, rule: Rule) 
 {
     let key = match goal {
         Goal::Key(key) => key,
-        Goal::End(side) if rule.leaves().is_none() => end_key(judge, scx, side),
+        Goal::End(side) if rule.leaves().is_none() => end_key(judge, scx, side, found),
         Goal::End(_) => return None,
     };
     Some(BegunEdit {
@@ -123,12 +136,12 @@ fn edit_for(judge: &Judge, scx: u64, command: &Command, goal: Goal, rule: Rule) 
 
 /// The leaf whose key at an end may be taken by an SCX-record: of two or three nodes the second, of
 /// four the child on that side, unless this is above all keys.
-fn taken_leaf(judge: &Judge, scx: u64, side: Side) -> u64 {
-    let right = member(judge, scx, 3);
+fn taken_leaf(judge: &Judge, scx: u64, side: Side, found: FoundLeaves) -> u64 {
+    let (second, right) = (member(judge, scx, 1), member(judge, scx, 3));
     if covers(judge, scx) < 4 {
-        member(judge, scx, 1)
+        second
     } else if is_trie(judge) {
-        end_leaf_out(judge, scx, side)
+        end_leaf_out(judge, scx, toward(judge, second, end_key_of(side)), found)
     } else if side == Side::Right && head(judge, right).class == 0 {
         right
     } else {
@@ -136,11 +149,19 @@ fn taken_leaf(judge: &Judge, scx: u64, side: Side) -> u64 {
     }
 }
 
+/// The key that is at this end of all keys.
+fn end_key_of(side: Side) -> u64 {
+    match side {
+        Side::Left => 0,
+        Side::Right => u64::MAX,
+    }
+}
+
 /// The key at this end of the leaf from which an SCX-record may take it.
-fn end_key(judge: &Judge, scx: u64, side: Side) -> u64
+fn end_key(judge: &Judge, scx: u64, side: Side, found: FoundLeaves) -> u64
     ensures { result < 2 ^ 64 }
 {
-    let leaf = taken_leaf(judge, scx, side);
+    let leaf = taken_leaf(judge, scx, side, found);
     let slot = end_slot(side, settled(judge, leaf, SettledPart::More));
     settled(judge, leaf, SettledPart::Key(slot))
 }
@@ -354,7 +375,13 @@ fn is_of_class(judge: &Judge, one: u64, other: u64) -> bool
 /// Whether an SCX-record makes this edit, for a call with this goal: it edits a leaf, or takes one
 /// out, or does what is done in a trie alone. There what takes the pair at an end out covers node 2
 /// besides.
-fn is_edit(judge: &Judge, scx: u64, goal: Goal, begun: &BegunEdit) -> bool
+fn is_edit(
+    judge: &Judge,
+    scx: u64,
+    goal: Goal,
+    begun: &BegunEdit,
+    found: FoundLeaves,
+) -> bool
     requires { begun.now.key < 2 ^ 64 }
     ensures edit { IsTrue result → IsEdit judge.now.layout (seen_history judge.now) scx
         (edit_begun begun.now) }
@@ -367,7 +394,7 @@ fn is_edit(judge: &Judge, scx: u64, goal: Goal, begun: &BegunEdit) -> bool
 {
     let (few, trie) = (covers(judge, scx) == 2, is_trie(judge));
     if trie && matches!(goal, Goal::End(_)) {
-        !few && (edits_end_leaf(judge, scx, begun) || takes_end_leaf_out(judge, scx, begun))
+        !few && (edits_end_leaf(judge, scx, begun) || takes_end_leaf_out(judge, scx, begun, found))
     } else if few {
         edits_leaf(judge, scx, begun) || (trie && edits_in_trie(judge, scx, begun))
     } else {

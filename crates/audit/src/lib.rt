@@ -8,6 +8,7 @@ mod client;
 mod commands;
 mod edits;
 mod fault;
+mod found;
 mod leaves;
 mod levels;
 mod map;

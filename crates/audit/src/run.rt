@@ -7,6 +7,7 @@ use crate::client::{ClientState, has_begun, note_win};
 use crate::commands::{enters, may_answer_after_step, may_answer_at_once, may_make, most_steps};
 use crate::edits::{BegunEdit, begun_for, covers_the_right_leaf, is_begun_for, note_begun};
 use crate::fault::{LineFault, require};
+use crate::found::{FoundLeaves, found_by, note_found};
 use crate::levels::do_levels_rise;
 use crate::steps::{Steps, says_its_call};
 use crate::{cells, map};
@@ -26,6 +27,8 @@ pub(crate) struct Replay<'a> {
     pub(crate) places: Places,
     /// In a map, by the numbers of SCX-records: those that have begun.
     pub(crate) edits: Vec<Option<BegunEdit>>,
+    /// Which leaves each client has found.
+    pub(crate) found: Vec<FoundLeaves>,
     pub(crate) clients: Vec<ClientState>,
     /// How many turns there were.
     pub(crate) turn: u64,
@@ -72,6 +75,7 @@ impl<'a> Replay<'a> {
             steps: Steps::new(alloc, &judged.script.layout)?,
             places: Places::new(alloc, judged.script.calls.as_slice())?,
             edits: vec![in alloc; None; judged.script.layout.all_scx() as usize]?,
+            found: vec![in alloc; FoundLeaves::NONE; judged.script.layout.passes as usize]?,
             clients: clients(alloc, &judged.script)?,
             turn: 0,
             entries: 0,
@@ -420,7 +424,10 @@ impl<'a> Replay<'a> {
             return None;
         };
         match self.next(&client) {
-            Some(command) => begun_for(&self.steps.judge, row.after, &command),
+            Some(command) => {
+                let found = found_by(self.found.as_slice(), row.pass);
+                begun_for(&self.steps.judge, row.after, &command, found)
+            }
             None => None,
         }
     }
@@ -471,6 +478,7 @@ impl<'a> Replay<'a> {
             .begin(&client, self.record.script.calls.as_slice());
         self.steps.make(row)?;
         note_begun(&mut self.edits, row.after, begun);
+        note_found(&mut self.found, row);
         self.clients[row.pass.0 as usize] = client.stepped(number);
         note_win(&mut self.clients, number, &owed);
         self.turn = number;

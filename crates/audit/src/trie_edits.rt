@@ -16,6 +16,7 @@ use crate::edits::{
     BegunEdit, child, edited, is_as_seen, is_join, is_split, is_swap, leaf_plan, may_edit, member,
     scx_word, toward,
 };
+use crate::found::FoundLeaves;
 use crate::leaves::{head, held, is_low_leaf, is_readable, key_of, settled};
 use crate::trie_shape::{is_low_fork, shares};
 use arena::{NodeNo, Plan, ScxWord, SettledPart, Side};
@@ -121,14 +122,19 @@ pub(crate) fn edits_end_leaf(judge: &Judge, scx: u64, begun: &BegunEdit) -> bool
 /// Whether an SCX-record covers a grandparent, a parent, the sibling of the leaf at an end and node
 /// 2, finalizes the parent and the sibling, and puts a copy of this into the grandparent's field
 /// towards the key.
-pub(crate) fn takes_end_leaf_out(judge: &Judge, scx: u64, begun: &BegunEdit) -> bool
+pub(crate) fn takes_end_leaf_out(
+    judge: &Judge,
+    scx: u64,
+    begun: &BegunEdit,
+    found: FoundLeaves,
+) -> bool
     ensures { IsTrue result → TakesEndLeafOut (seen_history judge.now) scx (edit_begun begun.now)
         (toward_of (word_now judge.now) (member_of (seen_history judge.now) scx 1)
         (edit_key (edit_begun begun.now))) }
 {
     let plan = end_join_plan(toward(judge, member(judge, scx, 0), begun.key));
     let side = toward(judge, member(judge, scx, 1), begun.key);
-    let leaf = end_leaf_out(judge, scx, side);
+    let leaf = end_leaf_out(judge, scx, side, found);
     scx_word(judge, scx, ScxWord::Plan) == plan
         && scx_word(judge, scx, ScxWord::Old) == member(judge, scx, 1)
         && member(judge, scx, 3) == 2
@@ -149,35 +155,28 @@ fn is_sibling(judge: &Judge, scx: u64, side: Side) -> bool
 }
 
 /// The leaf at an end that an SCX-record takes out: what its second node names on this side. If that
-/// has changed since it was seen, it is any that the SCX-record may be said to take out: it can win
-/// no more.
-pub(crate) fn end_leaf_out(judge: &Judge, scx: u64, side: Side) -> u64
+/// has changed since it was seen, the SCX-record can win no more, and it is one that its client has
+/// found.
+pub(crate) fn end_leaf_out(judge: &Judge, scx: u64, side: Side, found: FoundLeaves) -> u64
     ensures { word_now judge.now (info (member_of (seen_history judge.now) scx 1)) ≡ seen_at (seen_history judge.now) scx 1 →
         result ≡ word_now judge.now (child_of (member_of (seen_history judge.now) scx 1) side) }
 {
-    let parent = member(judge, scx, 1);
-    if !is_as_seen(judge, scx, 1) {
-        return lone_leaf(judge, scx);
+    if is_as_seen(judge, scx, 1) {
+        child(judge, member(judge, scx, 1), side)
+    } else if may_take_out(judge, scx, found.before) {
+        found.before
+    } else {
+        found.newest
     }
-    child(judge, parent, side)
 }
 
-/// A leaf of one pair whose key may stand where an SCX-record changes a field, or node 0.
-fn lone_leaf(judge: &Judge, scx: u64) -> u64 {
-    let fork = member(judge, scx, 0);
-    let side = Plan(scx_word(judge, scx, ScxWord::Plan)).side();
-    for node in 0..judge.layout().all_nodes() {
-        let node = u64::from(node);
-        let key = key_of(judge, node);
-        if is_low_leaf(judge, node)
-            && settled(judge, node, SettledPart::More) == 0
-            && shares(judge, fork, key)
-            && toward(judge, fork, key) == side
-        {
-            return node;
-        }
-    }
-    0
+/// Whether a node is a leaf of one pair, whose key may stand where an SCX-record changes a field.
+fn may_take_out(judge: &Judge, scx: u64, node: u64) -> bool {
+    let (fork, key) = (member(judge, scx, 0), key_of(judge, node));
+    is_low_leaf(judge, node)
+        && settled(judge, node, SettledPart::More) == 0
+        && shares(judge, fork, key)
+        && toward(judge, fork, key) == Plan(scx_word(judge, scx, ScxWord::Plan)).side()
 }
 
 /// The plan word of an edit of the leaf at an end, that changes the field on a side.

@@ -8,7 +8,7 @@ use Rattle.ordered_map.specs.Replies.{word_pair}
 use Rattle.ordered_map.specs.declared.reply.Reply.TheVariants.{Pairs}
 use Rattle.forest.specs.declared.fault.OrderFault.{OrderFault}
 use Rattle.forest.specs.Passes.{Ground, PassView}
-use Rattle.forest.specs.Dictionary.{HasCalled, read_reply}
+use Rattle.forest.specs.Dictionary.{HasCalled, order_reply}
 
 pairs_in : MapReply → List Pair
 pairs_in (OneValue v) = []
@@ -18,7 +18,7 @@ pairs_in (ManyPairs ps) = ps
 below : (n m k : ℕ) → k ≡ min n m → k ≤ n
 below n m k e = omega (arith, e)
 
-pub range_few : (valid_key : ℕ → Type 0) (key : ℕ → ℕ) (valid_value : ℕ → Type 0) (value : ℕ → ℕ) (f : Ground) (old new : PassView) (low high most : ℕ) (told : Result (Vec (ℕ × ℕ)) OrderFault) → HasCalled valid_key key valid_value value f old new (Range low high most) (read_reply Pairs told) → IfOk told (λ pairs. vec_len pairs ≤ most)
+pub range_few : (valid_key : ℕ → Type 0) (key : ℕ → ℕ) (valid_value : ℕ → Type 0) (value : ℕ → ℕ) (f : Ground) (old new : PassView) (low high most : ℕ) (told : Result (Vec (ℕ × ℕ)) OrderFault) → HasCalled valid_key key valid_value value f old new (Range low high most) (order_reply Pairs told) → IfOk told (λ pairs. vec_len pairs ≤ most)
 unfolding pairs_in
 range_few valid_key key valid_value value f old new low high most (Ok found) says =
     let read = says.told.read in

@@ -13,7 +13,7 @@ use Rattle.forest.specs.declared.fault.OrderFault.{OrderFault}
 use Rattle.forest.specs.declared.fault.OrderFault.TheVariants as reads
 use Rattle.forest.specs.declared.fault.UpdateFault.{UpdateFault}
 use Rattle.forest.specs.declared.fault.UpdateFault.TheVariants as updates
-use Rattle.forest.specs.Dictionary.{HasCalled, read_reply, update_reply}
+use Rattle.forest.specs.Dictionary.{HasCalled, order_reply, update_reply}
 use Rattle.capi.specs.Left.{AreLeft}
 use Rattle.capi.specs.Made.{AreMade}
 use Rattle.capi.specs.declared.answer.ValueAnswer.{ValueAnswer}
@@ -33,8 +33,8 @@ abbrev pub number : Value → ℕ
 number v = wide_value v.low v.high
 
 -- an answer with no value
-abbrev pub bare : ℕ → ValueAnswer
-bare status = record { value = record { low = 0; high = 0 }; status = status }
+abbrev pub no_value : ℕ → ValueAnswer
+no_value status = record { value = record { low = 0; high = 0 }; status = status }
 
 -- an answer with no number of pairs
 abbrev pub no_count : ℕ → Count
@@ -46,7 +46,7 @@ counted n = record { pairs = n; status = 1 }
 
 -- what `get` answers
 abbrev pub IsValueAnswer : Option ℕ → ValueAnswer → Type 0
-IsValueAnswer None a = a ≡ bare 0
+IsValueAnswer None a = a ≡ no_value 0
 IsValueAnswer (Some v) a = (number a.value ≡ v) × (a.status ≡ 1)
 
 -- why an edit was refused
@@ -62,7 +62,7 @@ order_status reads.NoMemory = 4
 -- what an edit of a key answers
 abbrev pub IsUpdateAnswer : Result (Option ℕ) UpdateFault → ValueAnswer → Type 0
 IsUpdateAnswer (Ok old) a = IsValueAnswer old a
-IsUpdateAnswer (Err fault) a = a ≡ bare (update_status fault)
+IsUpdateAnswer (Err fault) a = a ≡ no_value (update_status fault)
 
 -- the pair that C has
 abbrev pub pair_of : KeyValue → ℕ × ℕ
@@ -114,11 +114,11 @@ TakenSays call room old new status = (told : Result (Option (ℕ × ℕ)) Update
 
 -- what `successor` and `predecessor` say, which leave the pair that they have found in this room
 abbrev pub FoundSays : MapCall → KeyValue → OwnedPass → OwnedPass → ℕ → Type 0
-FoundSays call room old new status = (told : Result (Option (ℕ × ℕ)) OrderFault) × IsFoundAnswer order_status told room status × HasClientCalled old new call (read_reply replies.Pair told)
+FoundSays call room old new status = (told : Result (Option (ℕ × ℕ)) OrderFault) × IsFoundAnswer order_status told room status × HasClientCalled old new call (order_reply replies.Pair told)
 
 -- what `range` says, which may answer this many pairs, and leaves them in this room
 abbrev pub BetweenSays : ℕ → ℕ → ℕ → List KeyValue → OwnedPass → OwnedPass → Count → Type 0
-BetweenSays low high most room old new a = (told : Result (Vec (ℕ × ℕ)) OrderFault) × IsCountOfRange told room a × HasClientCalled old new (Range low high most) (read_reply replies.Pairs told)
+BetweenSays low high most room old new a = (told : Result (Vec (ℕ × ℕ)) OrderFault) × IsCountOfRange told room a × HasClientCalled old new (Range low high most) (order_reply replies.Pairs told)
 
 -- what `left` answers
 abbrev pub LeftSays : Option OwnedPass → Left → Type 0

@@ -1,6 +1,6 @@
 //! What calls take from C and answer to it.
 ghost use Rattle.std.specs.Prelude.{◌≡◌, ◌≤◌, length, vec_len, IfOk, take};
-ghost use Rattle.capi.specs.Answers.{number, bare, no_count, counted, update_status, order_status, IsValueAnswer, IsUpdateAnswer, IsPairAnswer, IsCountOfRange, StandIn};
+ghost use Rattle.capi.specs.Answers.{number, no_value, no_count, counted, update_status, order_status, IsValueAnswer, IsUpdateAnswer, IsPairAnswer, IsCountOfRange, StandIn};
 
 use ordered_map::{halves, wide_value};
 use regnubas::{OrderFault, UpdateFault};
@@ -133,8 +133,8 @@ pub(crate) fn tell_pair(found: Option<(u64, u128)>, room: &mut KeyValue) -> u32
 
 impl ValueAnswer {
     /// An answer with no value.
-    pub(crate) fn bare(status: u32) -> ValueAnswer
-        ensures { result ≡ bare status }
+    pub(crate) fn no_value(status: u32) -> ValueAnswer
+        ensures { result ≡ no_value status }
     {
         ValueAnswer {
             value: Value { low: 0, high: 0 },
@@ -151,7 +151,7 @@ impl ValueAnswer {
                 value: Value::of(value),
                 status: SOME,
             },
-            None => ValueAnswer::bare(NONE),
+            None => ValueAnswer::no_value(NONE),
         }
     }
 
@@ -161,7 +161,7 @@ impl ValueAnswer {
     {
         match told {
             Ok(old) => ValueAnswer::of_value(old),
-            Err(fault) => ValueAnswer::bare(status_of_edit(fault)),
+            Err(fault) => ValueAnswer::no_value(status_of_edit(fault)),
         }
     }
 }

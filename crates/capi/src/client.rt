@@ -4,7 +4,7 @@ ghost use Rattle.std.specs.Arc.{arc_value};
 ghost use Rattle.ordered_map.specs.OrderedMap.{call_insert, call_insert_new, call_delete, call_delete_if, call_pop_first, call_pop_last, call_replace_if, call_successor, call_predecessor, Get, Range};
 ghost use Rattle.ordered_map.specs.declared.reply.Reply.TheVariants as replies;
 ghost use Rattle.forest.specs.Passes.{IsOf};
-ghost use Rattle.forest.specs.Dictionary.{read_reply, update_reply};
+ghost use Rattle.forest.specs.Dictionary.{order_reply, update_reply};
 
 use crate::answer::{Count, KeyValue};
 use regnubas::{Dict, Forest, NoMemory, OrderFault, Pass, UpdateFault};
@@ -109,7 +109,7 @@ impl OwnedPass {
     pub fn successor(&mut self, alloc: Global, key: u64) -> Result<Option<(u64, u128)>, OrderFault>
         ensures same { self.new.forest ≡ self.old.forest }
         ensures called { HasClientCalled self.old self.new (call_successor key)
-            (read_reply replies.Pair result) }
+            (order_reply replies.Pair result) }
     {
         self.forest.successor(alloc, &mut self.pass, &key)
     }
@@ -122,7 +122,7 @@ impl OwnedPass {
     ) -> Result<Option<(u64, u128)>, OrderFault>
         ensures same { self.new.forest ≡ self.old.forest }
         ensures called { HasClientCalled self.old self.new (call_predecessor key)
-            (read_reply replies.Pair result) }
+            (order_reply replies.Pair result) }
     {
         self.forest.predecessor(alloc, &mut self.pass, &key)
     }
@@ -140,7 +140,7 @@ impl OwnedPass {
         ensures few { IfOk result (λ pairs. vec_len pairs ≤ most) }
         ensures same { self.new.forest ≡ self.old.forest }
         ensures called { HasClientCalled self.old self.new (Range low high most)
-            (read_reply replies.Pairs result) }
+            (order_reply replies.Pairs result) }
     {
         self.forest.range(alloc, &mut self.pass, &low, &high, most)
     }

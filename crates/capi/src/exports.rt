@@ -13,7 +13,7 @@
 ghost use Rattle.std.specs.Prelude.{◌≡◌, None, length, min};
 ghost use Rattle.ordered_map.specs.OrderedMap.{call_insert, call_insert_new, call_delete, call_delete_if, call_pop_first, call_pop_last, call_replace_if, call_successor, call_predecessor};
 ghost use Rattle.capi.specs.Ends.{AreOfOne, EndSays, held_in};
-ghost use Rattle.capi.specs.Answers.{number, bare, no_count, CallSays, GetSays, EditSays, TakenSays, FoundSays, BetweenSays, LeftSays, CloseSays, MakeSays};
+ghost use Rattle.capi.specs.Answers.{number, no_value, no_count, CallSays, GetSays, EditSays, TakenSays, FoundSays, BetweenSays, LeftSays, CloseSays, MakeSays};
 
 use crate::answer::{
     Count, KeyValue, LIMITS, Left, NO_MEMORY, NO_PASS, NONE, PassLimits, SHARED, Value,
@@ -53,10 +53,10 @@ pub extern "C" fn regnubas_make(alloc: Global, each: PassLimits, passes: &mut [H
 /// The value of a key.
 #[unsafe(no_mangle)]
 pub extern "C" fn regnubas_get(alloc: Global, pass: &mut HandleSlot, key: u64) -> ValueAnswer
-    ensures { CallSays (bare 6) (GetSays key) pass.old.handle.value pass.new.handle.value result }
+    ensures { CallSays (no_value 6) (GetSays key) pass.old.handle.value pass.new.handle.value result }
 {
     let Some(mut client) = pass.handle.take(alloc) else {
-        return ValueAnswer::bare(NO_PASS);
+        return ValueAnswer::no_value(NO_PASS);
     };
     let answer = ValueAnswer::of_value(client.get(key));
     pass.handle.put(client);
@@ -71,10 +71,10 @@ pub extern "C" fn regnubas_insert(
     key: u64,
     value: Value,
 ) -> ValueAnswer
-    ensures { CallSays (bare 6) (EditSays (call_insert key (number value))) pass.old.handle.value pass.new.handle.value result }
+    ensures { CallSays (no_value 6) (EditSays (call_insert key (number value))) pass.old.handle.value pass.new.handle.value result }
 {
     let Some(mut client) = pass.handle.take(alloc) else {
-        return ValueAnswer::bare(NO_PASS);
+        return ValueAnswer::no_value(NO_PASS);
     };
     let answer = ValueAnswer::of_update(client.insert(key, value.number()));
     pass.handle.put(client);
@@ -89,10 +89,10 @@ pub extern "C" fn regnubas_insert_new(
     key: u64,
     value: Value,
 ) -> ValueAnswer
-    ensures { CallSays (bare 6) (EditSays (call_insert_new key (number value))) pass.old.handle.value pass.new.handle.value result }
+    ensures { CallSays (no_value 6) (EditSays (call_insert_new key (number value))) pass.old.handle.value pass.new.handle.value result }
 {
     let Some(mut client) = pass.handle.take(alloc) else {
-        return ValueAnswer::bare(NO_PASS);
+        return ValueAnswer::no_value(NO_PASS);
     };
     let answer = ValueAnswer::of_update(client.insert_new(key, value.number()));
     pass.handle.put(client);
@@ -102,10 +102,10 @@ pub extern "C" fn regnubas_insert_new(
 /// Removes a key, and returns the value that it had.
 #[unsafe(no_mangle)]
 pub extern "C" fn regnubas_delete(alloc: Global, pass: &mut HandleSlot, key: u64) -> ValueAnswer
-    ensures { CallSays (bare 6) (EditSays (call_delete key)) pass.old.handle.value pass.new.handle.value result }
+    ensures { CallSays (no_value 6) (EditSays (call_delete key)) pass.old.handle.value pass.new.handle.value result }
 {
     let Some(mut client) = pass.handle.take(alloc) else {
-        return ValueAnswer::bare(NO_PASS);
+        return ValueAnswer::no_value(NO_PASS);
     };
     let answer = ValueAnswer::of_update(client.delete(key));
     pass.handle.put(client);
@@ -120,10 +120,10 @@ pub extern "C" fn regnubas_delete_if(
     key: u64,
     expected: Value,
 ) -> ValueAnswer
-    ensures { CallSays (bare 6) (EditSays (call_delete_if key (number expected))) pass.old.handle.value pass.new.handle.value result }
+    ensures { CallSays (no_value 6) (EditSays (call_delete_if key (number expected))) pass.old.handle.value pass.new.handle.value result }
 {
     let Some(mut client) = pass.handle.take(alloc) else {
-        return ValueAnswer::bare(NO_PASS);
+        return ValueAnswer::no_value(NO_PASS);
     };
     let answer = ValueAnswer::of_update(client.delete_if(key, expected.number()));
     pass.handle.put(client);
@@ -179,10 +179,10 @@ pub extern "C" fn regnubas_replace_if(
     expected: Value,
     value: Value,
 ) -> ValueAnswer
-    ensures { CallSays (bare 6) (EditSays (call_replace_if key (number expected) (number value))) pass.old.handle.value pass.new.handle.value result }
+    ensures { CallSays (no_value 6) (EditSays (call_replace_if key (number expected) (number value))) pass.old.handle.value pass.new.handle.value result }
 {
     let Some(mut client) = pass.handle.take(alloc) else {
-        return ValueAnswer::bare(NO_PASS);
+        return ValueAnswer::no_value(NO_PASS);
     };
     let told = client.replace_if(key, expected.number(), value.number());
     let answer = ValueAnswer::of_update(told);

@@ -85,14 +85,8 @@ impl<'a> Action<'a> {
                 play_over(alloc, mode, &mut script, &mut schedule, &mut out, &mut err)
             }
             Action::Run { gate } => {
-                run_over(
-                    rt,
-                    alloc,
-                    gate,
-                    &mut Metered::new(first),
-                    &mut out,
-                    &mut err,
-                )
+                let mut script = Metered::new(first);
+                run_over(rt, alloc, gate, &mut script, &mut out, &mut err)
             }
             Action::Audit => audit_over(alloc, &mut Metered::new(first), &mut out, &mut err),
             Action::Copy => exit_status(copy_over(alloc, first, &mut out), &mut err),
@@ -102,10 +96,10 @@ impl<'a> Action<'a> {
             Action::Outcomes {
                 interruptions,
                 most,
-            } => exit_status(
-                outcomes_over(alloc, first, interruptions, most, &mut out),
-                &mut err,
-            ),
+            } => {
+                let done = outcomes_over(alloc, first, interruptions, most, &mut out);
+                exit_status(done, &mut err)
+            }
         };
         let out = out.inner;
         ProgramEnd { status, out, err }

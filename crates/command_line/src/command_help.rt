@@ -106,31 +106,35 @@ fn command_of<'a>(alloc: Global, help: &CommandHelp) -> Result<Command<'a>, Erro
 fn with_options<'a>(alloc: Global, name: &str, command: Command<'a>) -> Result<Command<'a>, Error> {
     Ok(match name {
         "play" | "records" | "audit" => command.arg(progress(alloc))?,
-        "run" => {
-            let gate = option(alloc, "gate")
-                .value_parser(["open", "alternate", "hold", "freeze"].as_slice())
-                .help("Which calls wait for others [default: open]");
-            command.arg(gate)?
-        }
+        "run" => command.arg(gate(alloc))?,
         "picture" => {
             let from = turn(alloc, "from", "The first turn that is drawn");
             let to = turn(alloc, "to", "The last turn that is drawn");
             command.arg(from)?.arg(to)?
         }
-        "outcomes" => {
-            let interruptions = option(alloc, "interruptions")
-                .value_parser(value_parser!(u32))
-                .value_name("N")
-                .help("How often a client is interrupted at most [default: 2]")
-                .alias("preemptions")?;
-            let most = option(alloc, "most")
-                .value_parser(value_parser!(u64))
-                .value_name("M")
-                .help("How many schedules are played at most [default: 1000000]");
-            command.arg(interruptions)?.arg(most)?.arg(progress(alloc))?
-        }
+        "outcomes" => with_limits(alloc, command)?.arg(progress(alloc))?,
         _ => command,
     })
+}
+
+/// A command with the limits of a search.
+fn with_limits<'a>(alloc: Global, command: Command<'a>) -> Result<Command<'a>, Error> {
+    let interruptions = option(alloc, "interruptions")
+        .value_parser(value_parser!(u32))
+        .value_name("N")
+        .help("How often a client is interrupted at most [default: 2]")
+        .alias("preemptions")?;
+    let most = option(alloc, "most")
+        .value_parser(value_parser!(u64))
+        .value_name("M")
+        .help("How many schedules are played at most [default: 1000000]");
+    command.arg(interruptions)?.arg(most)
+}
+
+fn gate<'a>(alloc: Global) -> Arg<'a> {
+    option(alloc, "gate")
+        .value_parser(["open", "alternate", "hold", "freeze"].as_slice())
+        .help("Which calls wait for others [default: open]")
 }
 
 fn progress<'a>(alloc: Global) -> Arg<'a> {

@@ -69,11 +69,10 @@ impl ReportSoFar {
         let count = match row.get(0) {
             Some("report") => {
                 self.is_old = second == "1";
-                let is_of_cells = row.get(2) == Some("records");
-                self.mode = if is_of_cells {
-                    Mode::Records
-                } else {
-                    Mode::Tree
+                self.mode = match row.get(2) {
+                    Some("records") => Mode::Records,
+                    Some("trie") => Mode::Trie,
+                    _ => Mode::Tree,
                 };
                 return;
             }
@@ -103,7 +102,7 @@ impl ReportSoFar {
             (1, _) => [
                 one_of("first field", "report"),
                 one_of("version", "1 2"),
-                one_of("mode", "records tree"),
+                one_of("mode", "records tree trie"),
                 rest,
                 rest,
                 rest,
@@ -152,15 +151,10 @@ impl ReportSoFar {
                 [head, number, client, kind, table_word, before, after]
             }
             "log" => [head, word("place"), word("step"), scx(), client, call, rest],
-            "reply" => [
-                head,
-                client,
-                number,
-                word("begin"),
-                word("end"),
-                moment(),
-                text("answer"),
-            ],
+            "reply" => {
+                let (begin, end, answer) = (word("begin"), word("end"), text("answer"));
+                [head, client, number, begin, end, moment(), answer]
+            }
             "end" => self.end_fields(),
             _ => [head, rest, rest, rest, rest, rest, rest],
         }

@@ -1,7 +1,8 @@
 -- What the machine of a call of a dictionary has answered is right, where its reply is that of the
 -- map in words.
 use Rattle.std.proofs.Common.{◌≡◌, ℕ, List, Option, Some, None, inl, inr, sym, subst}
-use Rattle.histories.specs.Common.{Tree as TreeMode, History, ◌⊳◌, value, Extends, Call, IsRun, MatchTurn, Turn, Ask, Done, Remaining}
+use Rattle.arena.specs.Layout.{IsMap}
+use Rattle.histories.specs.Common.{History, ◌⊳◌, value, Extends, Call, IsRun, MatchTurn, Turn, Ask, Done, Remaining}
 use Rattle.arena.proofs.Lemmas.{ends_self, ends_trans}
 use Rattle.template.specs.Common.{MapCall, MapEdit, MapReply, OneValue, ManyPairs, edit_of, pair_or_none, reply, Spells, Pair, MayReply, form_of, told_of, Reply}
 use Rattle.edits.specs.Tries.{HasEnteredNone}
@@ -22,7 +23,7 @@ use Rattle.ordered_map.specs.declared.reply.Reply.TheVariants as replies
 
 module _ (keys values : ℕ → Type 0) where
   -- what a call answers in a run of the dictionary
-  module _ (c : Call) (h : History) (mode : c.layout.mode ≡ TreeMode) (run : IsRun (TypedAllows keys values) c.layout h) where
+  module _ (c : Call) (h : History) (mode : IsMap c.layout.mode) (run : IsRun (TypedAllows keys values) c.layout h) where
     map_typed : (moment : History) (m : List Pair) → Extends h moment → Spells c.layout (value moment) m → AreTyped keys values m
     map_typed moment m within x = typed_map keys values c.layout moment mode (typed_since keys values c.layout h moment run within) m x
 
@@ -89,13 +90,13 @@ may_reply call w r (inl e) x = subst (MayReply call) (sym e) x
 may_reply call w r (inr e) x = subst (MayReply call) (sym e.1) (may_lack call (subst (MayReply call) e.0 x))
 
 module _ {K V : Type 0} (valid_key : K → Type 0) (key : K → ℕ) (valid_value : V → Type 0) (value_of : V → ℕ) where
-  pub dict_ends : (m : DictRun K V) (c : Call) (h : History) (w : WordReply) (r : Reply K V) → c.layout.mode ≡ TreeMode → IsRun (TypedAllows (IsWordOf valid_key key) (IsWordOf valid_value value_of)) c.layout h → MapAnswers m.tries m.run c h w → IsReplyOf valid_key key valid_value value_of w r → DictAnswers valid_key key valid_value value_of m c h r
+  pub dict_ends : (m : DictRun K V) (c : Call) (h : History) (w : WordReply) (r : Reply K V) → IsMap c.layout.mode → IsRun (TypedAllows (IsWordOf valid_key key) (IsWordOf valid_value value_of)) c.layout h → MapAnswers m.tries m.run c h w → IsReplyOf valid_key key valid_value value_of w r → DictAnswers valid_key key valid_value value_of m c h r
   dict_ends m c h w r mode run x of =
       let e : SaysSame key value_of w r = of.says (told_typed (IsWordOf valid_key key) (IsWordOf valid_value value_of) c h mode run (call_in m.run) (told_in w) x.says.0) in
       let y = says_right c h key value_of (call_in m.run) (share_of m.run) m.tries w r e x.says in
       record { rests = x.rests; spent = x.spent; form = may_reply (call_in m.run) w r of.form x.form; valid = of.valid; tells = y.0; refuses = y.1 }
 
   -- so is its turn, where that of the machine of words is
-  pub dict_turn : (m : DictRun K V) (c : Call) (h : History) (turn : Turn (Reply K V)) → c.layout.mode ≡ TreeMode → IsRun (TypedAllows (IsWordOf valid_key key) (IsWordOf valid_value value_of)) c.layout h → IsTypedCall (IsWordOf valid_key key) (IsWordOf valid_value value_of) (call_in m.run) → MatchTurn turn (MapWaits m.tries m.run c h) (MapReplies valid_key key valid_value value_of m.tries m.run c h) → MatchTurn turn (DictWaits (IsWordOf valid_key key) (IsWordOf valid_value value_of) m c h) (DictAnswers valid_key key valid_value value_of m c h)
+  pub dict_turn : (m : DictRun K V) (c : Call) (h : History) (turn : Turn (Reply K V)) → IsMap c.layout.mode → IsRun (TypedAllows (IsWordOf valid_key key) (IsWordOf valid_value value_of)) c.layout h → IsTypedCall (IsWordOf valid_key key) (IsWordOf valid_value value_of) (call_in m.run) → MatchTurn turn (MapWaits m.tries m.run c h) (MapReplies valid_key key valid_value value_of m.tries m.run c h) → MatchTurn turn (DictWaits (IsWordOf valid_key key) (IsWordOf valid_value value_of) m c h) (DictAnswers valid_key key valid_value value_of m c h)
   dict_turn m c h (Ask step) mode run typed x = (typed, x)
   dict_turn m c h (Done reply) mode run typed x = dict_ends m c h x.0 reply mode run x.1 x.2

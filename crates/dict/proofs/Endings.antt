@@ -8,11 +8,12 @@ use Rattle.order.specs.Known.{HasReplied, ReadAnswers}
 use Rattle.order.specs.declared.refused.Refused.{Refused}
 use Rattle.order.specs.declared.refused.Refused.TheVariants as refused
 use Rattle.order.specs.declared.run.ReadRun.{ReadRun}
-use Rattle.template.specs.Common.{MapCall, MapEdit, Edit, Get, OneValue, edit_key, get, pair, pair_or_none, reply, goal_told, IsTreeRun, Spells, Pair, IsContended}
-use Rattle.template.specs.Common.{HasLostTriesTo, asked_key, HasFoundGoal, HasTriedAtMost, HasTriedAllBut, Goal, Key as ToKey, End, Rule, most_nodes, nodes_in_try}
-use Rattle.ordered_map.proofs.Lemmas.{run_since, run_spells}
+use Rattle.template.specs.Common.{MapCall, MapEdit, Edit, Get, OneValue, edit_key, get, pair, pair_or_none, reply, goal_told, IsMapRun, Spells, Pair, IsContended}
+use Rattle.template.specs.Common.{HasLostTriesTo, asked_key, FoundBy, HasTriedAtMost, HasTriedAllBut, Goal, Key as ToKey, End, Rule, most_nodes, nodes_in_try}
+use Rattle.ordered_map.proofs.MapLemmas.{run_since, run_spells}
 use Rattle.template.proofs.Lemmas.{tried_few}
 use Rattle.template.specs.declared.walk.Found.{Found}
+use Rattle.template.specs.declared.walk.Way.{Way}
 use Rattle.tree.specs.declared.key_edit.KeyEdit.{KeyEdit}
 use Rattle.edits.specs.Edits.{says}
 use Rattle.edits.specs.Known.{RestsWith, HasLostEveryTry, HasMade, IsDoneAt, IsUpdateAnswer, ToldEnd}
@@ -24,7 +25,7 @@ use Rattle.edits.specs.declared.update.Updated.{Updated}
 use Rattle.edits.specs.declared.update.Updated.TheVariants.{Done, Contended, Full}
 use Rattle.dict.specs.Calls.{most_tries, HasSpent, IsSmallCall}
 use Rattle.dict.specs.Goals.{leaf_told}
-use Rattle.dict.specs.Inner.{ReadKind, edit_means}
+use Rattle.dict.specs.Inner.{GoalBy, ReadKind, edit_means}
 use Rattle.dict.specs.Known.{HasRested, HasSpentSo}
 use Rattle.dict.specs.Says.{WordSays, IsRefusal, HasLost, HasMadeEdit, HasNeeded, HasReadMap, HasTold, HasToldBy, TellsOfMap}
 use Rattle.dict.specs.Laws.Kinds.{IsReadKind, edit_at_found, edit_changes, edit_needs, edit_reads, edit_small}
@@ -38,7 +39,7 @@ module _ (tries : ℕ) (c : Call) (h : History) where
   made_told (End side) e number f at x first map s = ap pair_or_none (first map s)
 
   -- so does the call that it serves
-  made_edit : (call : MapCall) (goal : Goal) (e : MapEdit) (f : Found) → ((map : List Pair) → reply call map ≡ goal_told goal map) → edit_key e ≡ asked_key goal f.key → IsTreeRun c.layout h → (x : HasMade e c h c.number f.value) → ToldEnd goal c.layout x.before f → HasMadeEdit c h call (leaf_told goal f) e
+  made_edit : (call : MapCall) (goal : Goal) (e : MapEdit) (f : Found) → ((map : List Pair) → reply call map ≡ goal_told goal map) → edit_key e ≡ asked_key goal f.key → IsMapRun c.layout h → (x : HasMade e c h c.number f.value) → ToldEnd goal c.layout x.before f → HasMadeEdit c h call (leaf_told goal f) e
   made_edit call goal e f walks at run x first =
       let within : Extends h x.before = ends_trans h (x.row ⊳ x.before) x.before x.within (inr (ends_self x.before)) in
       let map : (m : List Pair) × Spells c.layout (value x.before) m = run_spells c.layout x.before (run_since c.layout h x.before run within) in
@@ -65,16 +66,19 @@ module _ (tries : ℕ) (c : Call) (h : History) where
     none = none;
   }
 
-  module _ (m : UpdateRun (KeyEdit Goal Rule) UpdateAt) (run : IsTreeRun c.layout h) (small : IsSmallCall (Edit m.edit.goal m.edit.rule)) where
+  module _ (m : UpdateRun (KeyEdit GoalBy Rule) UpdateAt) (run : IsMapRun c.layout h) (small : IsSmallCall (Edit m.edit.goal.goal m.edit.rule)) where
     abbrev call : MapCall
-    call = Edit m.edit.goal m.edit.rule
+    call = Edit m.edit.goal.goal m.edit.rule
 
     abbrev goal : Goal
-    goal = m.edit.goal
+    goal = m.edit.goal.goal
+
+    abbrev way : Way
+    way = edit_means.way m.edit
 
     -- the leaf that it has found says what the map replied
-    edit_read : (f : Found) → HasFoundGoal goal c h f → HasEnteredNone c.layout c.pass h c.start → HasOnlyLooked c.pass h c.start → HasReadMap c h call (leaf_told goal f)
-    edit_read f found none only_looked = leaf_read c h call goal f (λ map. refl) (edit_small m.edit.goal m.edit.rule small) run found none (λ some. only_looked)
+    edit_read : (f : Found) → FoundBy way goal c h f → HasEnteredNone c.layout c.pass h c.start → HasOnlyLooked c.pass h c.start → HasReadMap c h call (leaf_told goal f)
+    edit_read f found none only_looked = leaf_read c h call way goal f (λ map. refl) (edit_small m.edit.goal.goal m.edit.rule small) run found none (λ some. only_looked)
 
     -- an edit that is done has changed the map, or has read it
     edit_done : (f : Found) → m.call ≡ c.number → IsDoneAt (says edit_means m.edit) m.call c h f → HasTold c h call (leaf_told goal f)
@@ -85,8 +89,8 @@ module _ (tries : ℕ) (c : Call) (h : History) where
         subst (λ made. HasToldBy made c h call (leaf_told goal f)) (sym (edit_changes m.edit f x.1.needed)) (made_edit call goal edit f (λ map. refl) (edit_at_found m.edit f) run made.0 made.1)
 
     -- what it needs at a leaf that it has found, the map needs at a moment of the call
-    edit_needed : (then : Call) (moment : History) → IsTreeRun then.layout moment → (f : Found) → HasFoundGoal goal then moment f → 0 < (edit_means.work m.edit f).need → NeededAs then.layout then.pass moment then.start call (edit_means.work m.edit f).need
-    edit_needed then moment so f found needed = leaf_needed then moment call goal f (edit_means.work m.edit f).need (λ map. refl) (edit_small m.edit.goal m.edit.rule small) so found (edit_needs m.edit f) needed
+    edit_needed : (then : Call) (moment : History) → IsMapRun then.layout moment → (f : Found) → FoundBy way goal then moment f → 0 < (edit_means.work m.edit f).need → NeededAs then.layout then.pass moment then.start call (edit_means.work m.edit f).need
+    edit_needed then moment so f found needed = leaf_needed then moment call way goal f (edit_means.work m.edit f).need (λ map. refl) (edit_small m.edit.goal.goal m.edit.rule small) so found (edit_needs m.edit f) needed
 
     -- one that has lost all its tries had something to do in the newest
     edit_lost : (n s : ℕ) → m.limit ≡ tries → HasLostEveryTry (says edit_means m.edit) c h m.limit n s → HasLost c h call tries n s
@@ -110,8 +114,8 @@ module _ (tries : ℕ) (c : Call) (h : History) where
     )
 
   -- a get has read what its leaf says
-  pub get_says : (key : ℕ) (share : Remaining) (f : Found) → key < 2 ^ 64 → HasRested c h share → HasFoundGoal (ToKey key) c h f → WordSays c h (Get key) share tries (WordReply.Value f.value)
-  get_says key share f small x found = (leaf_read c h (Get key) (ToKey key) f (λ map. refl) small x.run found (none_entered c h share x) (λ some. absurd (omega (arith, some))), tt)
+  pub get_says : (key : ℕ) (way : Way) (share : Remaining) (f : Found) → key < 2 ^ 64 → HasRested c h share → FoundBy way (ToKey key) c h f → WordSays c h (Get key) share tries (WordReply.Value f.value)
+  get_says key way share f small x found = (leaf_read c h (Get key) way (ToKey key) f (λ map. refl) small x.run found (none_entered c h share x) (λ some. absurd (omega (arith, some))), tt)
 
   -- so has an ordered read, or it answers what every map replies
   module _ (k : ReadKind) (is : IsReadKind k) (m : ReadRun k.R) (share : Remaining) (x : HasRested c h share) (limit : m.limit ≡ tries) where

@@ -5,10 +5,10 @@ use Rattle.histories.specs.Common.{Full as FullOf, Resource, Nodes, Layout, Hist
 use Rattle.arena.specs.declared.fault.Resource.TheVariants.{Scx as ScxRecords}
 use Rattle.arena.proofs.Lemmas.{ends_self, ends_trans}
 use Rattle.order.specs.Replies.{IsReplyAt}
-use Rattle.template.specs.Common.{MapCall, MapReply, reply, goal_told, IsTreeRun, Spells, Pair, path_key, HasFoundGoal, IsOwnMoment, Goal, most_nodes, need}
-use Rattle.ordered_map.proofs.Lemmas.{run_spells}
-use Rattle.ordered_map.proofs.MapLemmas.{tree_run}
+use Rattle.template.specs.Common.{MapCall, MapReply, reply, goal_told, IsMapRun, Spells, Pair, path_key, FoundBy, IsOwnMoment, Goal, most_nodes, need}
+use Rattle.ordered_map.proofs.MapLemmas.{run_spells}
 use Rattle.template.specs.declared.walk.Found.{Found}
+use Rattle.template.specs.declared.walk.Way.{Way}
 use Rattle.template.proofs.Lemmas.{own_since}
 use Rattle.edits.specs.Known.{IsShort, IsUntouched}
 use Rattle.edits.specs.Laws.Entered.{none_quiet}
@@ -51,17 +51,18 @@ module _ (c : Call) (h : History) where
   }
 
   -- and what every map replies, of a range that takes no pair
-  pub always_read : (call : MapCall) (told : MapReply) → most_nodes call ≡ 0 → IsTreeRun c.layout h → Extends h c.start → ¬ AsksForPairs call → ((map : List Pair) → reply call map ≡ told) → HasEnteredNone c.layout c.pass h c.start → HasReadMap c h call told
+  pub always_read : (call : MapCall) (told : MapReply) → most_nodes call ≡ 0 → IsMapRun c.layout h → Extends h c.start → ¬ AsksForPairs call → ((map : List Pair) → reply call map ≡ told) → HasEnteredNone c.layout c.pass h c.start → HasReadMap c h call told
   always_read call told reads run since asks_not gives none =
       let map : (ps : List Pair) × Spells c.layout (value h) ps = run_spells c.layout h run in
       record { read = record { moment = h; within = ends_self h; since = since; own = λ asks. absurd (asks_not asks); map = map.0; spelled = map.1; gives = gives map.0; only_looked = λ some. absurd (omega (arith, some, reads)) }; none = none }
 
-  -- the leaf that was found says what the map replied at a moment of the call
-  pub leaf_read : (call : MapCall) (goal : Goal) (f : Found) → ((map : List Pair) → reply call map ≡ goal_told goal map) → path_key goal < 2 ^ 64 → IsTreeRun c.layout h → HasFoundGoal goal c h f → HasEnteredNone c.layout c.pass h c.start → (0 < most_nodes call → HasOnlyLooked c.pass h c.start) → HasReadMap c h call (leaf_told goal f)
-  leaf_read call goal f walks small run found none only_looked =
-      let first = found.trail.node.first in
-      let own = found.trail.node.own in
-      let x = found_tells goal c h f small (tree_run c.layout h run) found in
+  -- what was found says what the map replied at a moment of the call
+  pub leaf_read : (call : MapCall) (way : Way) (goal : Goal) (f : Found) → ((map : List Pair) → reply call map ≡ goal_told goal map) → path_key goal < 2 ^ 64 → IsMapRun c.layout h → FoundBy way goal c h f → HasEnteredNone c.layout c.pass h c.start → (0 < most_nodes call → HasOnlyLooked c.pass h c.start) → HasReadMap c h call (leaf_told goal f)
+  leaf_read call way goal f walks small run found none only_looked =
+      let y = found_tells way goal c h f small run found in
+      let first = y.first in
+      let own = y.own in
+      let x = y.told in
       record {
         read = record {
           moment = x.moment;
@@ -81,12 +82,13 @@ module _ (c : Call) (h : History) where
   short_of want many left Nodes k few some x = (let i = x.0 in omega (arith, i, few), x.1)
   short_of want many left ScxRecords k few some x = (let i = x.0 in omega (arith, i, some), x.1, x.2)
 
-  -- the leaf that was found says what an edit needed at a moment of the call, if it needed nodes
-  pub leaf_needed : (call : MapCall) (goal : Goal) (f : Found) (want : ℕ) → ((map : List Pair) → reply call map ≡ goal_told goal map) → path_key goal < 2 ^ 64 → IsTreeRun c.layout h → HasFoundGoal goal c h f → ((map : List Pair) → reply call map ≡ leaf_told goal f → want ≤ need call map) → 0 < want → NeededAs c.layout c.pass h c.start call want
-  leaf_needed call goal f want walks small run found needs some =
-      let first = found.trail.node.first in
-      let own = found.trail.node.own in
-      let x = found_tells goal c h f small (tree_run c.layout h run) found in
+  -- so it says what an edit needed at a moment of the call, if it needed nodes
+  pub leaf_needed : (call : MapCall) (way : Way) (goal : Goal) (f : Found) (want : ℕ) → ((map : List Pair) → reply call map ≡ goal_told goal map) → path_key goal < 2 ^ 64 → IsMapRun c.layout h → FoundBy way goal c h f → ((map : List Pair) → reply call map ≡ leaf_told goal f → want ≤ need call map) → 0 < want → NeededAs c.layout c.pass h c.start call want
+  leaf_needed call way goal f want walks small run found needs some =
+      let y = found_tells way goal c h f small run found in
+      let first = y.first in
+      let own = y.own in
+      let x = y.told in
       let few : want ≤ need call x.map = needs x.map (walks x.map ∙ x.gives) in
       record {
         needed = record {

@@ -3,19 +3,20 @@ use Rattle.std.proofs.Common.{◌≡◌, ◌∙◌, ◌<◌, ℕ, inl, inr, List
 use Rattle.histories.specs.Common.{History, ◌⊳◌, value, Extends, Call, Full as FullOf, Remaining}
 use Rattle.arena.specs.Undisturbed.{IsUndisturbed}
 use Rattle.arena.proofs.Lemmas.{ends_self, ends_trans}
-use Rattle.template.specs.Common.{Pair, MapCall, MapEdit, MapReply, reply, edit_of, edited, IsTreeRun, Spells, IsContended, need}
+use Rattle.template.specs.Common.{Pair, MapCall, MapEdit, MapReply, reply, edit_of, edited, IsMapRun, Spells, IsContended, need}
 use Rattle.ordered_map.specs.OrderedMap.{after, after_edit}
-use Rattle.ordered_map.proofs.Lemmas.{after_is, one_spelling, run_since}
+use Rattle.ordered_map.proofs.Lemmas.{after_is, one_spelling}
+use Rattle.ordered_map.proofs.MapLemmas.{run_since}
 use Rattle.edits.specs.Known.{HasMade, RestsWith, IsUntouched}
 use Rattle.edits.specs.Tries.{HasEnteredNone}
 use Rattle.dict.specs.Says.{HasLost, HasToldBy, HasRunOut, HasTooLittle}
 
 -- what a made edit leaves, and what a call by itself that has entered nothing leaves
 abbrev pub Makes : Type 0
-Makes = (c : Call) (h : History) (edit : MapEdit) (number : ℕ) (old : Option ℕ) (map : List Pair) → IsTreeRun c.layout h → IsUndisturbed c h → (made : HasMade edit c h number old) → Spells c.layout (value c.start) map → Spells c.layout (value made.before) map × Spells c.layout (value h) (edited edit map)
+Makes = (c : Call) (h : History) (edit : MapEdit) (number : ℕ) (old : Option ℕ) (map : List Pair) → IsMapRun c.layout h → IsUndisturbed c h → (made : HasMade edit c h number old) → Spells c.layout (value c.start) map → Spells c.layout (value made.before) map × Spells c.layout (value h) (edited edit map)
 
 abbrev pub Keeps : Type 0
-Keeps = (c : Call) (h : History) (map : List Pair) → IsTreeRun c.layout h → IsUndisturbed c h → HasEnteredNone c.layout c.pass h c.start → Spells c.layout (value c.start) map → Spells c.layout (value h) map
+Keeps = (c : Call) (h : History) (map : List Pair) → IsMapRun c.layout h → IsUndisturbed c h → HasEnteredNone c.layout c.pass h c.start → Spells c.layout (value c.start) map → Spells c.layout (value h) map
 
 -- a call that has lost its tries was contended
 pub was_contended : (c : Call) (h : History) (call : MapCall) (tries n s : ℕ) → HasLost c h call tries n s → IsContended c h n s
@@ -39,7 +40,7 @@ untouched c h share never (inr lost) = absurd (never lost.0 lost.1 lost.2)
 pub full_by_one : (c : Call) (h : History) (call : MapCall) (share : Remaining) (full : FullOf) → ((n t : ℕ) → ¬ IsContended c h n t) → HasRunOut c h call share full → RestsWith c c.start share
 full_by_one c h call share full never x = untouched c h share never x.first
 
-module _ (makes : Makes) (keeps : Keeps) (c : Call) (h : History) (map : List Pair) (run : IsTreeRun c.layout h) (alone : IsUndisturbed c h) (s : Spells c.layout (value c.start) map) where
+module _ (makes : Makes) (keeps : Keeps) (c : Call) (h : History) (map : List Pair) (run : IsMapRun c.layout h) (alone : IsUndisturbed c h) (s : Spells c.layout (value c.start) map) where
   -- the map at any moment of a call that has entered nothing
   keeps_at : (moment : History) → Extends h moment → Extends moment c.start → HasEnteredNone c.layout c.pass h c.start → Spells c.layout (value moment) map
   keeps_at moment e f none = keeps c moment map (run_since c.layout h moment run e)

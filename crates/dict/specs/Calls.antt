@@ -1,8 +1,11 @@
 -- The machine of a call of the map: what it is a call of, what it has left, and what such a call
 -- may take of its share.
-use Rattle.std.specs.Prelude.{ℕ, ◌*◌, ◌+◌, ◌^◌, ◌<◌, ◌≤◌}
+use Rattle.std.specs.Prelude.{◌≡◌, ◌≢◌, ℕ, ◌*◌, ◌+◌, ◌^◌, ◌<◌, ◌≤◌, Bool, true, false}
 use Rattle.histories.specs.Common.{History, Call, Remaining}
-use Rattle.template.specs.Common.{most_nodes, most_scx, MapCall, Edit, Get, Range, Goal, Key, Rule, tries_since, HasTriedAtMost}
+use Rattle.template.specs.Common.{most_nodes, most_scx, MapCall, Edit, Get, Range, Goal, Key, End, Rule, tries_since, HasTriedAtMost}
+use Rattle.template.specs.declared.walk.Way.{Way}
+use Rattle.template.specs.declared.walk.Way.TheVariants.{InTree, InTrie, Within}
+use Rattle.tree.specs.KeyEdit.Means.{way_of}
 use Rattle.tree.specs.declared.key_edit.KeyEdit.{KeyEdit}
 use Rattle.edits.specs.Known.{RestsWith}
 use Rattle.dict.specs.declared.run.MapRun.{MapRun}
@@ -14,13 +17,29 @@ edit_call goal rule e = Edit (goal e.goal) (rule e.rule)
 
 -- what a call is of whose inner machine this is
 abbrev pub inner_call : InnerRun → MapCall
-inner_call (Update m) = Edit m.edit.goal m.edit.rule
+inner_call (Update m) = Edit m.edit.goal.goal m.edit.rule
 inner_call (GetWalk key walk share) = Get key
 inner_call (OrderedRead k m share) = k.means.call m.read
 
 -- what it is a call of
 abbrev pub call_in : MapRun → MapCall
 call_in m = inner_call (inner m)
+
+-- whether a walk to a leaf is in a trie
+abbrev pub is_in_trie : Way → Bool
+is_in_trie InTree = false
+is_in_trie InTrie = true
+is_in_trie Within = true
+
+-- whether a call with this inner machine is
+abbrev pub inner_trie : InnerRun → Bool
+inner_trie (Update m) = m.edit.goal.balance
+inner_trie (GetWalk key walk share) = is_in_trie walk.way
+inner_trie (OrderedRead k m share) = m.trie
+
+-- whether it is a call in a trie
+abbrev pub trie_in : MapRun → Bool
+trie_in m = inner_trie (inner m)
 
 -- what is left of the share of a call with this inner machine
 abbrev pub inner_share : InnerRun → Remaining
@@ -50,6 +69,17 @@ KeepsTriesButOne old now = (tries_behind now ≤ tries_behind old) × (tries_beh
 abbrev pub IsSmallCall : MapCall → Type 0
 IsSmallCall (Edit (Key k) rule) = k < 2 ^ 64
 IsSmallCall _ = Unit {0}
+
+-- this way leads to a goal in a tree, or in a trie
+abbrev pub IsWayTo : Bool → Goal → Way → Type 0
+IsWayTo false goal way = way ≡ InTree
+IsWayTo true (Key k) way = way ≢ InTree
+IsWayTo true (End side) way = ⊥
+
+-- an edit has such a way there
+abbrev pub IsServed : Bool → MapCall → Type 0
+IsServed in_trie (Edit goal rule) = IsWayTo in_trie goal (way_of in_trie rule)
+IsServed in_trie _ = Unit {0}
 
 -- What a call may try and take
 

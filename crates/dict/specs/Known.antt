@@ -1,18 +1,18 @@
 -- When the machine of a call of the map may continue, what it waits for, and what its answer says.
 use Rattle.std.specs.Prelude.{◌≡◌, ℕ, suc, ◌+◌, ◌^◌, ◌<◌, ◌≤◌, Option, Some, None, []}
-use Rattle.histories.specs.Common.{Tree as TreeMode, Step, History, Extends, Call, Remaining}
+use Rattle.histories.specs.Common.{Step, History, Extends, Call, Remaining}
 use Rattle.order.specs.Known.{ReadIsReady, ReadWaits}
 use Rattle.order.specs.declared.run.ReadAt.TheVariants.{Start as ReadStart}
 use Rattle.prims.specs.Laws.Idle.{IsQuietSince}
-use Rattle.template.specs.Common.{IsTreeRun, Key as ToKey, tries_begun, WalkIsReady, WalkWaits, MayReply, nodes_in_try, Edit}
+use Rattle.template.specs.Common.{IsMapRun, Key as ToKey, tries_begun, WalkIsReady, WalkWaits, MayReply, nodes_in_try, Edit}
 use Rattle.template.specs.declared.walk.WalkAt.{WalkAt}
 use Rattle.template.specs.declared.walk.WalkAt.TheVariants.{Start as WalkStart, Root}
 use Rattle.template.specs.declared.walk.WalkRun.{WalkRun}
-use Rattle.template.specs.declared.walk.Way.TheVariants.{InTree}
 use Rattle.edits.specs.Known.{RestsWith, UpdateIsReady, UpdateWaits}
 use Rattle.edits.specs.Steps.{node_tries, scx_tries, Spends}
 use Rattle.edits.specs.declared.update.UpdateAt.TheVariants.{Start as UpdateStart}
-use Rattle.dict.specs.Calls.{call_in, inner_call, inner_share, AsksForPairs, IsFewCall, IsSmallCall, HasSpent}
+use Rattle.template.specs.Balance.{leaf_way, map_mode}
+use Rattle.dict.specs.Calls.{call_in, inner_call, inner_share, inner_trie, is_in_trie, AsksForPairs, IsFewCall, IsServed, IsSmallCall, HasSpent}
 use Rattle.dict.specs.Says.{WordSays}
 use Rattle.dict.specs.declared.run.MapRun.{MapRun}
 use Rattle.dict.specs.Inner.{InnerRun, Update, Get, Read, edit_means, inner}
@@ -21,7 +21,7 @@ use Rattle.dict.specs.WordReplies.{WordReply, word_form}
 -- A read rests all the way: its share is untouched, all its pass's SCX-records are finished, and
 -- none was in progress since the call began.
 pub record HasRested (c : Call) (h : History) (share : Remaining) : Type 0 where
-  pub run : IsTreeRun c.layout h
+  pub run : IsMapRun c.layout h
   pub since : Extends h c.start
   pub now : RestsWith c h share
   pub quiet : IsQuietSince c.layout c.pass c.start h
@@ -52,15 +52,15 @@ HasTries (Read k m share) tries = m.limit ≡ tries
 
 -- what holds of the machine inside throughout its call, which has this many tries
 pub record Goes (m : InnerRun) (tries : ℕ) (c : Call) : Type 0 where
-  pub mode : c.layout.mode ≡ TreeMode
+  pub mode : c.layout.mode ≡ map_mode (inner_trie m)
   pub small : IsSmallCall (inner_call m)
   pub number : IsNumbered m c.number
   pub limit : HasTries m tries
   pub spent : HasSpentIn m tries c
 
--- a walk goes to this key in a tree
-abbrev pub GoesTo : WalkRun → ℕ → Type 0
-GoesTo walk key = (walk.goal ≡ ToKey key) × (walk.way ≡ InTree)
+-- a walk goes to the leaf where this key is, or would be
+abbrev pub IsWalkTo : WalkRun → ℕ → Type 0
+IsWalkTo walk key = (walk.goal ≡ ToKey key) × (walk.way ≡ leaf_way (is_in_trie walk.way))
 
 -- a get begins one try at most, and none before it gets anything: its pass has begun this many by
 -- now, and had begun that many as the call began
@@ -75,13 +75,13 @@ HasTriedOnceAt at now then = (now ≤ suc then) × (at ≡ Root → now ≡ then
 -- the machine inside may be called with this
 abbrev pub IsReadyInside : InnerRun → Call → History → Option ℕ → Type 0
 IsReadyInside (Update m) c h got = UpdateIsReady edit_means m c h got
-IsReadyInside (Get key walk share) c h got = (WalkIsReady walk c h got × GoesTo walk key × HasTriedOnce got (tries_begun c.pass h) (tries_begun c.pass c.start)) × HasRested c h share
+IsReadyInside (Get key walk share) c h got = (WalkIsReady walk c h got × IsWalkTo walk key × HasTriedOnce got (tries_begun c.pass h) (tries_begun c.pass c.start)) × HasRested c h share
 IsReadyInside (Read k m share) c h got = ReadIsReady k.means m c h got × HasRested c h share
 
 -- the machine inside waits for this step
 abbrev pub WaitsInside : InnerRun → Call → History → Step → Type 0
 WaitsInside (Update m) c h s = UpdateWaits edit_means m c h s
-WaitsInside (Get key walk share) c h s = (WalkWaits walk c h s × GoesTo walk key × HasTriedOnceAt walk.at (tries_begun c.pass h) (tries_begun c.pass c.start)) × HasRested c h share
+WaitsInside (Get key walk share) c h s = (WalkWaits walk c h s × IsWalkTo walk key × HasTriedOnceAt walk.at (tries_begun c.pass h) (tries_begun c.pass c.start)) × HasRested c h share
 WaitsInside (Read k m share) c h s = ReadWaits k.means m c h s × HasRested c h share
 
 -- the machine may be called with this
@@ -112,8 +112,8 @@ AsksFirst m = AsksForPairs (call_in m)
 
 -- the machine inside is at its start, with this many tries in all, in the call of this number
 abbrev pub StandsAtStart : InnerRun → ℕ → ℕ → Type 0
-StandsAtStart (Update m) tries call = (m.at ≡ UpdateStart) × (m.tries + 1 ≡ tries) × (m.call ≡ call) × IsSmallCall (Edit m.edit.goal m.edit.rule) × (m.limit ≡ tries)
-StandsAtStart (Get key walk share) tries call = (walk.at ≡ WalkStart) × (walk.trail.node.0 ≡ 0) × GoesTo walk key × (key < 2 ^ 64)
+StandsAtStart (Update m) tries call = (m.at ≡ UpdateStart) × (m.tries + 1 ≡ tries) × (m.call ≡ call) × IsSmallCall (Edit m.edit.goal.goal m.edit.rule) × (m.limit ≡ tries) × IsServed m.edit.goal.balance (Edit m.edit.goal.goal m.edit.rule)
+StandsAtStart (Get key walk share) tries call = (walk.at ≡ WalkStart) × (walk.trail.node.0 ≡ 0) × IsWalkTo walk key × (key < 2 ^ 64)
 StandsAtStart (Read k m share) tries call = (m.at ≡ ReadStart) × (m.tries + 1 ≡ tries) × (m.snaps.items ≡ []) × (IsFewCall (k.means.call m.read) → k.means.suits (k.means.call m.read)) × (m.limit ≡ tries)
 
 -- so does the machine

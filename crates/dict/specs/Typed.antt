@@ -1,7 +1,8 @@
 -- A dictionary of typed keys and values, seen by their words: its SCX-records make edits of such
 -- words alone, so its map has no others.
-use Rattle.std.specs.Prelude.{◌≡◌, ℕ, List, [], ◌∷◌, Option, Some, None}
-use Rattle.histories.specs.Common.{Layout, Tree as TreeMode, History, value}
+use Rattle.std.specs.Prelude.{ℕ, List, [], ◌∷◌, Option, Some, None}
+use Rattle.arena.specs.Layout.{IsMap}
+use Rattle.histories.specs.Common.{Layout, History, value}
 use Rattle.template.specs.Common.{MapEdit, Insert, Delete, MapCall, Edit, MapReply, OneValue, OnePair, ManyPairs, leaves, Goal, Key, End, Spells, Pair}
 use Rattle.ordered_map.specs.TreeShape.{MayEdit}
 
@@ -42,6 +43,6 @@ IsTypedReply keys values (ManyPairs ps) = AreTyped keys values ps
 abbrev pub TypedAllows : (ℕ → Type 0) → (ℕ → Type 0) → Layout → History → ℕ → Type 0
 TypedAllows keys values lay h s = (e : MapEdit) × MayEdit lay h s e × IsTypedEdit keys values e
 
--- in tree mode the words spell a map of such pairs
+-- in a dictionary's mode the words spell a map of such pairs
 abbrev pub IsTypedThere : (ℕ → Type 0) → (ℕ → Type 0) → Layout → History → Type 0
-IsTypedThere keys values lay h = lay.mode ≡ TreeMode → (m : List Pair) × Spells lay (value h) m × AreTyped keys values m
+IsTypedThere keys values lay h = IsMap lay.mode → (m : List Pair) × Spells lay (value h) m × AreTyped keys values m

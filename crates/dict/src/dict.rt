@@ -1,6 +1,7 @@
 //! The machine of a call of a dictionary.
 ghost use Rattle.std.specs.Prelude.{◌≡◌, ◌<◌, ◌≤◌, ℕ, IsSome};
-ghost use Rattle.dict.specs.Calls.{KeepsTriesButOne, call_in, share_of};
+ghost use Rattle.dict.specs.Calls.{IsServed, KeepsTriesButOne, call_in, share_of, trie_in};
+ghost use Rattle.template.specs.Balance.{nodes_by};
 ghost use Rattle.dict.specs.Known.{AsksFirst, IsUnbegun};
 ghost use Rattle.dict.specs.Says.{KeepsLists};
 ghost use Rattle.ordered_map.specs.CallRules.{most_steps};
@@ -18,6 +19,7 @@ use arena::{Machine, Share, Turn};
 use ordered_map::{Reply, Request};
 use std::alloc::Global;
 use std::marker::PhantomData;
+use template::FixedBalance;
 
 /// A call of a dictionary that has begun. It has its pass's share until it has answered.
 #[derive(Debug, Drop)]
@@ -30,7 +32,8 @@ pub struct DictRun<K, V> {
 }
 
 impl<K: WordKey, V: WordValue> DictRun<K, V> {
-    /// A call that has not begun, with `tries` tries, in the caller's call of this number. The
+    /// A call of a trie, or of a tree, that has not begun, with `tries` tries, in the caller's call of
+    /// this number. The
     /// pairs of its reply, and what an ordered read keeps, grow with this allocator; other calls
     /// need none. What is said of its turns holds for at least one try, and of a range for at most
     /// 64 pairs.
@@ -41,17 +44,19 @@ impl<K: WordKey, V: WordValue> DictRun<K, V> {
         share: Share,
         tries: u32,
         call: u64,
+        trie: bool,
     ) -> DictRun<K, V>
         requires memory { KeepsLists (as_map_call K.word_of V.word_of request) → IsSome alloc }
         ensures call { call_in result.run ≡ as_map_call K.word_of V.word_of request }
         ensures typed { IsTypedCall (IsWordOf K.is_valid K.word_of) (IsWordOf V.is_valid V.word_of) (call_in result.run) }
         ensures share { share_of result.run ≡ share }
         ensures tries { result.tries ≡ tries }
-        ensures fresh { 0 < tries → IsUnbegun result.run tries call }
-        ensures steps { (nodes : ℕ) → 0 < tries → map_left result.run nodes ≤ most_steps (call_in result.run) tries nodes }
+        ensures trie { trie_in result.run ≡ trie }
+        ensures fresh { 0 < tries → IsServed trie (call_in result.run) → IsUnbegun result.run tries call }
+        ensures steps { (nodes : ℕ) → 0 < tries → IsServed trie (call_in result.run) → map_left result.run nodes ≤ most_steps (call_in result.run) tries (nodes_by trie nodes) }
     {
         DictRun {
-            run: MapRun::new(alloc, in_words(request), share, tries, call),
+            run: MapRun::new(alloc, in_words(request), share, tries, call, trie),
             tries,
             types: PhantomData,
         }
@@ -130,7 +135,7 @@ fn in_words<K: WordKey, V: WordValue>(request: Request<K, V>) -> Request<u64, u1
     }
 }
 
-impl<K: WordKey, V: WordValue> Machine<Dict<K, V>> for DictRun<K, V> {
+impl<K: WordKey, V: WordValue, B: FixedBalance> Machine<Dict<K, V, B>> for DictRun<K, V> {
     type Answer = Reply<K, V>;
 
     ghost use Rattle.dict.specs.DictKnown.{DictIsReady, DictWaits, DictAnswers};
@@ -142,7 +147,7 @@ impl<K: WordKey, V: WordValue> Machine<Dict<K, V>> for DictRun<K, V> {
 
     ghost answers = { DictAnswers K.is_valid K.word_of V.is_valid V.word_of };
 
-    ghost same = { λ old now. (call_in now.run ≡ call_in old.run) × (now.tries ≡ old.tries) × KeepsTriesButOne old.run now.run };
+    ghost same = { λ old now. (call_in now.run ≡ call_in old.run) × (now.tries ≡ old.tries) × KeepsTriesButOne old.run now.run × (trie_in now.run ≡ trie_in old.run) };
 
     ghost left = { λ m nodes. map_left m.run nodes };
 

@@ -3,7 +3,8 @@ ghost use Rattle.std.specs.Prelude.{◌≡◌, ◌<◌, ◌≤◌, ℕ, None, Is
 ghost use Rattle.arena.specs.History.{History};
 ghost use Rattle.arena.specs.Machines.{Call, IsRun, MatchTurn};
 ghost use Rattle.ordered_map.specs.TreeShape.{TreeAllows};
-ghost use Rattle.dict.specs.Calls.{KeepsTriesButOne, call_in, share_of};
+ghost use Rattle.dict.specs.Calls.{IsServed, KeepsTriesButOne, call_in, share_of, trie_in};
+ghost use Rattle.template.specs.Balance.{nodes_by};
 ghost use Rattle.dict.specs.Known.{AsksFirst, IsUnbegun, MapIsReady, MapWaits};
 ghost use Rattle.dict.specs.Says.{KeepsLists};
 ghost use Rattle.ordered_map.specs.CallRules.{most_steps};
@@ -17,17 +18,17 @@ use crate::told::{of_neighbour, of_range, of_update, of_value};
 use crate::value::WordValue;
 use arena::{Machine, Share, Side, Turn};
 use edits::Updated;
-use order::{Neighbour, NeighbourRun, Range, RangeRun};
+use order::{Neighbour, NeighbourRun, Range, RangeRun, leaf_way};
 use ordered_map::{Goal, Reply, Request, Rule};
 use std::alloc::Global;
 use template::{Tree, WalkRun};
-use tree::{KeyEdit, KeyEditRun};
+use tree::{GoalIn, KeyEdit, KeyEditRun};
 
 /// A call that has begun. It has its pass's share until it has answered; a read takes nothing
 /// of it.
 #[derive(Debug, Drop)]
 pub enum MapRun {
-    Edit(KeyEditRun<Goal, Rule>),
+    Edit(KeyEditRun<GoalIn<Goal, bool>, Rule>),
     Get {
         key: u64,
         walk: WalkRun,
@@ -44,8 +45,8 @@ pub enum MapRun {
 }
 
 impl MapRun {
-    /// A call that has not begun, with `tries` tries, in the caller's call of this number. What it
-    /// keeps grows with this allocator.
+    /// A call of a trie, or of a tree, that has not begun, with `tries` tries, in the caller's call of
+    /// this number. What it keeps grows with this allocator.
     #[inline(always)]
     pub fn new(
         alloc: Option<Global>,
@@ -53,32 +54,38 @@ impl MapRun {
         share: Share,
         tries: u32,
         call: u64,
+        trie: bool,
     ) -> MapRun
         requires memory { KeepsLists (as_map_call (λ k. k) (λ v. v) request) → IsSome alloc }
         ensures call { call_in result ≡ as_map_call (λ k. k) (λ v. v) request }
         ensures share { share_of result ≡ share }
-        ensures fresh { 0 < tries → IsUnbegun result tries call }
-        ensures steps { (nodes : ℕ) → 0 < tries → map_left result nodes ≤ most_steps (call_in result) tries nodes }
+        ensures trie { trie_in result ≡ trie }
+        ensures fresh { 0 < tries → IsServed trie (call_in result) → IsUnbegun result tries call }
+        ensures steps { (nodes : ℕ) → 0 < tries → IsServed trie (call_in result) → map_left result nodes ≤ most_steps (call_in result) tries (nodes_by trie nodes) }
     {
         match (request.edit(), request, alloc) {
             (Some((goal, rule)), _, _) => {
+                let goal = GoalIn {
+                    goal,
+                    balance: trie,
+                };
                 MapRun::Edit(KeyEdit { goal, rule }.run(share, tries, call))
             }
             (_, Request::Get { key }, _) => MapRun::Get {
                 key,
-                walk: WalkRun::new(Goal::Key(key)),
+                walk: WalkRun::by(leaf_way(trie), Goal::Key(key)),
                 share,
             },
             (_, Request::Successor { key }, Some(alloc)) => MapRun::Neighbour {
-                run: Neighbour::run(alloc, key, Side::Right, tries),
+                run: Neighbour::run(alloc, key, Side::Right, tries, trie),
                 share,
             },
             (_, Request::Predecessor { key }, Some(alloc)) => MapRun::Neighbour {
-                run: Neighbour::run(alloc, key, Side::Left, tries),
+                run: Neighbour::run(alloc, key, Side::Left, tries, trie),
                 share,
             },
             (_, Request::Range { low, high, most }, Some(alloc)) => MapRun::Range {
-                run: Range::run(alloc, low, high, most as usize, tries),
+                run: Range::run(alloc, low, high, most as usize, tries, trie),
                 share,
             },
             _ => unreachable!(),
@@ -93,13 +100,14 @@ impl MapRun {
         ensures begins { got ≡ None → AsksFirst self.old → (tries : ℕ) (c : Call) (h : History) → MapIsReady tries self.old c h None
             → MatchTurn result (λ _. Unit {0}) (λ _. ⊥) }
         ensures same { call_in self.new ≡ call_in self.old }
+        ensures trie { trie_in self.new ≡ trie_in self.old }
         ensures tries { KeepsTriesButOne self.old self.new }
         ensures nearer { (nodes : ℕ) → MapFits self.old got nodes → HasComeNearer self.old self.new nodes result }
     {
         match self {
             MapRun::Edit(run) => match run.step(got) {
                 Turn::Ask(step) => Turn::Ask(step),
-                Turn::Done(updated) => Turn::Done(of_edit(run.edit.goal, updated)),
+                Turn::Done(updated) => Turn::Done(of_edit(run.edit.goal.goal, updated)),
             },
             MapRun::Get {
                 key: _,

@@ -74,18 +74,13 @@ fn draw_remarks(canvas: &mut Canvas) {
 
 /// What was run, in numbers.
 fn title_of(alloc: Global, run: &ShownRun, window: Window) -> Result<String, AllocError> {
-    let mode = match run.layout.mode {
-        Mode::Tree => "tree",
-        Mode::Trie => "trie",
-        Mode::Records => "cells",
-    };
     let (clients, calls) = callers_of(run);
     let answered = run.calls.iter().filter(|call| call.is_answered).count();
     let (steps, updates) = (run.turns.len() as u64, run.entries.len() as u64);
     let mut title = joined(
         alloc,
         &[
-            Text(mode),
+            Text(mode_of(run)),
             Text(" · clients: "),
             Number(clients as u64),
             Text(" · calls answered: "),
@@ -106,6 +101,14 @@ fn title_of(alloc: Global, run: &ShownRun, window: Window) -> Result<String, All
         )?;
     }
     Ok(title)
+}
+
+fn mode_of(run: &ShownRun) -> &'static str {
+    match run.layout.mode {
+        Mode::Tree => "tree",
+        Mode::Trie => "trie",
+        Mode::Records => "cells",
+    }
 }
 
 /// How many clients have calls, and how many calls these are.

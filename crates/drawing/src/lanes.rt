@@ -166,26 +166,7 @@ fn draw_call(
         return Ok(());
     };
     let colour = Text(colour_of(call.client));
-    let open = Text(if call.is_answered { "" } else { " open" });
-    let (begin, end) = (Number(call.begin), Number(call.end));
-    let told = [
-        Text(call.text.as_str()),
-        Text(", turns "),
-        begin,
-        Text(" to "),
-        end,
-    ];
-    let (corner, size) = (
-        Spot {
-            x: left,
-            y: lane.top,
-        },
-        Spot {
-            x: right - left,
-            y: BOX,
-        },
-    );
-    canvas.rectangle(corner, size, &[colour, Text(" call"), open], &told);
+    draw_box(canvas, lane, call, left, right);
     let y = lane.top - 4.0 - ROW * nearest_usize_to_f64(row);
     if row > 0 {
         let x = left + 1.0;
@@ -199,6 +180,25 @@ fn draw_call(
         text.as_str(),
     );
     Ok(())
+}
+
+fn draw_box(canvas: &mut Canvas, lane: Lane, call: &ShownCall, left: f64, right: f64) {
+    let colour = Text(colour_of(call.client));
+    let open = Text(if call.is_answered { "" } else { " open" });
+    let (begin, end) = (Number(call.begin), Number(call.end));
+    let told = [
+        Text(call.text.as_str()),
+        Text(", turns "),
+        begin,
+        Text(" to "),
+        end,
+    ];
+    let (x, y) = (left, lane.top);
+    let size = Spot {
+        x: right - left,
+        y: BOX,
+    };
+    canvas.rectangle(Spot { x, y }, size, &[colour, Text(" call"), open], &told);
 }
 
 /// Draws the turns of a group.

@@ -125,18 +125,11 @@ pub(crate) fn draw_tree(
         );
     }
     let mut nodes = Vec::new(alloc);
-    for (place, branch) in tree.branches.iter().enumerate() {
-        let is_new = !earlier.is_empty() && !earlier.contains(&branch.node);
-        let shown = table.get(branch.node);
-        draw_node(
-            alloc,
-            canvas,
-            &shown,
-            branch.node,
-            is_new,
-            tree.spot(place, corner),
-        )?;
-        nodes.push(branch.node)?;
+    for (place, Branch { node, y: _ }) in tree.branches.iter().enumerate() {
+        let is_new = !earlier.is_empty() && !earlier.contains(node);
+        let (shown, spot) = (table.get(*node), tree.spot(place, corner));
+        draw_node(alloc, canvas, &shown, *node, is_new, spot)?;
+        nodes.push(*node)?;
     }
     Ok(nodes)
 }
@@ -213,11 +206,8 @@ fn draw_texts(canvas: &mut Canvas, shown: &ShownNode, at: Spot) {
         return;
     }
     let mut y = at.y;
-    for pair in shown
-        .pairs
-        .iter()
-        .take(shown.pairs_behind().saturating_add(1))
-    {
+    let many = shown.pairs_behind().saturating_add(1);
+    for pair in shown.pairs.iter().take(many) {
         draw_pair(canvas, *pair, Spot { x: at.x, y });
         y = y + PAIR;
     }

@@ -81,15 +81,9 @@ impl Updates {
             && self.count < MOST
         {
             self.count = self.count.saturating_add(1);
-            let caption = joined(
-                alloc,
-                &[
-                    Text("after update "),
-                    Number(entry.place),
-                    Text(", turn "),
-                    Number(number),
-                ],
-            )?;
+            let (place, turn_number) = (Number(entry.place), Number(number));
+            let told = [Text("after update "), place, Text(", turn "), turn_number];
+            let caption = joined(alloc, &told)?;
             let changed = turn.step.map(|row| row.word);
             self.draw(alloc, canvas, changed, caption.as_str())?;
         }

@@ -77,8 +77,8 @@ module _ (c : Call) (h : History) (m : ScxRun) (row : Row) (before : History) (l
       all : members_from before m.scx.0 0 (count before m.scx.0) ≡ nodes_of m.update.snaps
       all = ap (λ (e : Entry). e.members) entry_is
 
--- At the row at which the SCX-record of an edit wins that makes this update, at a leaf that was found
--- before.
+-- At the row at which the SCX-record of an edit wins that makes this update, at a leaf that was
+-- found before.
 module _ {E : Type 0} (e : EditMeaning E) (ed : E) (c : Call) (f : Found) (begin before : History) (row : Row) (s : ℕ) (u : Update)
     (now : IsMapRun c.layout (row ⊳ before)) (since : Extends before begin) (won : IsWin before row s) (makes : Makes c.layout before s (e.edit ed f))
     (found : FoundBy (e.way ed) (e.goal ed) c begin f) (covers_leaf : CoversLeaf e ed f c begin s u) (covers_snaps : CoversSnaps before s u) where

@@ -1,5 +1,5 @@
 -- What an update waits for after each of its turns.
-use Rattle.std.proofs.Common.{◌≡◌, ◌≢◌, ℕ, suc, ◌-◌, ◌<◌, ◌⊎◌, true, false, inl, inr, refl, ⊎_elim, sym, ◌∙◌, ap, subst, arith}
+use Rattle.std.proofs.Common.{◌≡◌, ◌≢◌, ℕ, suc, ◌-◌, ◌<◌, ◌⊎◌, true, false, inr, refl, ⊎_elim, sym, ◌∙◌, ap, subst, arith}
 use Rattle.histories.specs.Common.{Turn, Ask, Done, NodeNo, ScxNo, Step, Store, Fill as FillKind, LoadMarked, LoadSettled, NodeWord, Settled, Head as HeadWord, Node as NodeOf}
 use Rattle.histories.specs.Common.{History, ◌⊳◌, value, Extends, IsNamedScx, IsOwnNode, IsOwnScx, Lawful, Call, IsRun, MatchTurn, begun_at, Remaining, marked, node, state}
 use Rattle.arena.proofs.Lemmas.{ends_self, ends_trans}

@@ -20,7 +20,8 @@ pub record EditMeaning (E : Type 0) : Type 0 where
   pub goal : E → Goal
   -- and where
   pub way : E → Way
-  -- whether node 2 is its guard: it looks at that behind the load of the root's head, and covers it last
+  -- whether node 2 is its guard: it looks at that behind the load of the root's head, and covers it
+  -- last
   pub guard : E → Bool
   -- the edit of the map that it makes at the leaf that was found
   pub edit : E → Found → MapEdit

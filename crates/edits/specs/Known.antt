@@ -61,7 +61,8 @@ IsShort need left ScxRecords k = (need ≤ left.nodes) × (left.scx ≡ 0) × (k
 
 -- What it has found
 
--- the node that stands for what was found where an edit covers it: the leaf, or, where that is a fork, node 2
+-- the node that stands for what was found where an edit covers it: the leaf, or, where that is a
+-- fork, node 2
 abbrev pub covered : Found → ℕ
 covered f = if f.head.leaf then f.trail.node.0 else 2
 
@@ -100,7 +101,8 @@ pub record IsKept (c : Call) (h g : History) (snap : Snap) : Type 0 where
 abbrev pub Guarded : {E : Type 0} → EditMeaning E → E → Call → History → Snap → (Call → Type 0) → Type 0
 Guarded e ed c h snap P = e.guard ed ≡ true → (g : History) × IsKept c h g snap × P (begun_at c g)
 
--- the snapshot of its guard is among those of this update, and what was found is so of the call from then on
+-- the snapshot of its guard is among those of this update, and what was found is so of the call
+-- from then on
 pub record HasGuard (c : Call) (h : History) (way : Way) (goal : Goal) (f : Found) (u : Update) : Type 0 where
   pub place : ℕ
   pub within : place < length u.snaps
@@ -108,8 +110,8 @@ pub record HasGuard (c : Call) (h : History) (way : Way) (goal : Goal) (f : Foun
   pub kept : IsKept c h moment (snap_at u.snaps place)
   pub found : FoundBy way goal (begun_at c moment) h f
 
--- whenever the SCX-record s wins later that makes this update, it covers the parent of the leaf that was
--- found, which is still its child
+-- whenever the SCX-record s wins later that makes this update, it covers the parent of the leaf
+-- that was found, which is still its child
 abbrev pub CoversEnd : Found → Call → History → ℕ → Update → Type 0
 CoversEnd f c begin s u = (k : History) (row : Row) → IsMapRun c.layout (row ⊳ k) → IsWin k row s → Extends k begin → CoversSnaps k s u → IsMember k s f.trail.parent.0 × (value k (child f.trail.parent.0 f.trail.side) ≡ f.trail.node.0)
 
@@ -222,8 +224,8 @@ abbrev pub top : {E A : Type 0} → UpdateRun E A → ℕ
 top m = top_of m.work.need m.nodes
 
 module _ {E : Type 0} (e : EditMeaning E) where
-  -- whenever the SCX-record s wins later that makes the edit by this update, the leaf of the edit is what
-  -- stands for the one that was found
+  -- whenever the SCX-record s wins later that makes the edit by this update, the leaf of the edit
+  -- is what stands for the one that was found
   abbrev pub CoversLeaf : E → Found → Call → History → ℕ → Update → Type 0
   CoversLeaf ed f c begin s u = (k : History) (row : Row) → IsMapRun c.layout (row ⊳ k) → IsWin k row s → Extends k begin → CoversSnaps k s u → Makes c.layout k s (e.edit ed f) → edit_leaf k s (e.edit ed f) ≡ covered f
 
@@ -273,8 +275,8 @@ module _ (e : EditMeaning (Unit {0})) where
       pub some : 0 < m.share.scx
       pub guarded : Guarded e tt c h m.guard (λ k. FoundBy (e.way tt) (e.goal tt) k h f)
 
-    -- a step of the LLX of its guard, which has begun at a moment of the call; the walk is still at the root,
-    -- whose head is this
+    -- a step of the LLX of its guard, which has begun at a moment of the call; the walk is still at
+    -- the root, whose head is this
     pub record GuardsAs (c : Call) (h : History) (walk : WalkRun) (head : ℕ) (llx : LlxRun) (begin : History) : Type 0 where
       pub run : IsMapRun c.layout h
       pub small : path_key (e.goal tt) < 2 ^ 64
@@ -349,7 +351,8 @@ module _ (e : EditMeaning (Unit {0})) where
       pub usable : AreSnapped c begin scx.update.snaps
       pub quiet : IsQuietSince c.layout c.pass c.start begin
       pub leaf : CoversLeaf e tt f c begin scx.scx.0 scx.update
-      -- the SCX-record had no name then, and if the edit has a guard, it covers that and the leaf's parent
+      -- the SCX-record had no name then, and if the edit has a guard, it covers that and the leaf's
+      -- parent
       pub unnamed : ¬ IsNamedScx begin scx.scx.0
       pub guard : e.guard tt ≡ true → HasGuard c begin (e.way tt) (e.goal tt) f scx.update
       pub ends : e.guard tt ≡ true → CoversEnd f c begin scx.scx.0 scx.update
@@ -403,8 +406,8 @@ module _ (e : EditMeaning (Unit {0})) where
     pub needed : 0 < (e.work tt found).need
 
   -- All tries of the call, `limit` of them, were lost, the newest to the SCX-record s over the node
-  -- n; in it the call has found a leaf at which there was something to make, unless it has a guard, to whose
-  -- look it may be lost before. The pass has entered nothing.
+  -- n; in it the call has found a leaf at which there was something to make, unless it has a guard,
+  -- to whose look it may be lost before. The pass has entered nothing.
   pub record HasLostEveryTry (c : Call) (h : History) (limit n s : ℕ) : Type 0 where
     pub way : IsContended c h n s
     pub none : HasEnteredNone c.layout c.pass h c.start
@@ -575,8 +578,8 @@ module _ {E : Type 0} (e : EditMeaning E) where
   -- What it answers
 
   -- The try that began at the moment `begin` is lost: in it the SCX-record s was in the way over
-  -- the node n, and in it the call has found a leaf at which there was something to make, unless it has a
-  -- guard. The pass has entered nothing.
+  -- the node n, and in it the call has found a leaf at which there was something to make, unless it
+  -- has a guard. The pass has entered nothing.
   pub record HasLostTry (ed : E) (c : Call) (now : History) (limit left n s : ℕ) : Type 0 where
     pub begin : History
     pub try : IsTry c begin now limit left

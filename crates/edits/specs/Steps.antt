@@ -27,8 +27,8 @@ abbrev pub most_works : {E : Type 0} → EditMeaning E → E → ℕ
 most_works m e = m.most_reads e + m.most_fills e
 
 -- how many steps a try may ask for, where no more nodes than these are taken: the walk three for
--- each of them and for two more, or of a trie three for each of 67 levels, and five at its leaf, each LLX 64, the loads and fills theirs, and
--- the SCX 39
+-- each of them and for two more, or of a trie three for each of 67 levels, and five at its leaf,
+-- each LLX 64, the loads and fills theirs, and the SCX 39
 abbrev pub try_left : {E : Type 0} → EditMeaning E → E → ℕ → ℕ
 try_left m e nodes = 3 * (2 + room (m.way e) nodes) + 5 + (64 * all_looks (m.guard e) (m.most_looks e) + most_works m e + 39)
 

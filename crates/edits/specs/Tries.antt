@@ -43,8 +43,8 @@ abbrev pub IsTryAt : Call → History → History → ℕ → ℕ → WalkAt →
 IsTryAt c begin now limit left Root = MayTry c begin now limit left
 IsTryAt c begin now limit left _ = IsTry c begin now limit left
 
--- the SCX-record has the plan of this update, covers the nodes of its snapshots, and no other, and has seen
--- of each what its snapshot found
+-- the SCX-record has the plan of this update, covers the nodes of its snapshots, and no other, and
+-- has seen of each what its snapshot found
 pub record CoversSnaps (h : History) (s : ℕ) (u : Update) : Type 0 where
   pub planned : plan h s ≡ u.plan.0
   pub count : count h s ≡ length u.snaps

@@ -20,10 +20,11 @@ ghost use Rattle.edits.specs.Tries.{HasEnteredNone};
 /// What an update's answers say of a call by itself: nothing was in progress as it began, and no
 /// other pass makes a row while it runs. It is never contended. What it has made it has made of the
 /// map that was there as it began, which was there just before it, and leaves the map that its edit
-/// leaves. If it has made nothing, the leaf that it has found says what the map has, and the
-/// map stays; what a reading says of the map at a moment of its call it says of that map. On its
-/// way to an end it answers the pair at that end of that map, made or not; in a trie where it has made
-/// nothing, if it answers that there is none. With one pass no call is ever contended. It does nothing; a caller learns the laws from its contract.
+/// leaves. If it has made nothing, the leaf that it has found says what the map has, and the map
+/// stays; what a reading says of the map at a moment of its call it says of that map. On its way to
+/// an end it answers the pair at that end of that map, made or not; in a trie where it has made
+/// nothing, if it answers that there is none. With one pass no call is ever contended. It does
+/// nothing; a caller learns the laws from its contract.
 pub fn alone_holds()
     ensures made { (c : Call) (h : History) (edit : MapEdit) (number : ℕ) (old : Option ℕ) (map : List Pair)
         → IsMapRun c.layout h → IsUndisturbed c h → (made : HasMade edit c h number old) → Spells c.layout (value c.start) map

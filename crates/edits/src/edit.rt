@@ -122,7 +122,8 @@ pub trait Edit {
     fn way(&self) -> Way
         ensures { result ≡ means.way self.now };
 
-    /// Whether it looks at node 2, its guard, behind the load of the root's head, and covers that last.
+    /// Whether it looks at node 2, its guard, behind the load of the root's head, and covers that
+    /// last.
     fn guard(&self) -> bool
         ensures { result ≡ means.guard self.now };
 

@@ -86,8 +86,8 @@ pub enum UpdateAt {
     Walk {
         walk: WalkRun,
     },
-    /// A step of the LLX of node 2, its guard, before the walk continues with the root's head, which is
-    /// this.
+    /// A step of the LLX of node 2, its guard, before the walk continues with the root's head,
+    /// which is this.
     Guard {
         walk: WalkRun,
         head: u64,
@@ -247,8 +247,8 @@ impl<E: Edit + Drop> UpdateRun<E, UpdateAt> {
         }
     }
 
-    /// Continues with what the last step of the walk found: behind the root's head with its guard, if
-    /// it has one.
+    /// Continues with what the last step of the walk found: behind the root's head with its guard,
+    /// if it has one.
     fn walked(&mut self, walk: WalkRun, got: Option<u64>) -> Turn<Updated>
         ensures turn { (c : Call) (b h : History) (v : ℕ) → got ≡ Some v → IsRun TreeAllows c.layout h
             → IsTry c b h self.old.limit self.old.tries → IsUntouched c b self.old.share

@@ -20,7 +20,16 @@ pub(crate) fn check_beginning(before: &LinesBefore<'_>, row: &Row) -> Result<(),
             row.pass.0
         ),
     )?;
-    let plan = before.plan(scx);
+    check_plan(before, scx)?;
+    for place in 0..before.plan(scx).count() {
+        check_node(before, scx, place)?;
+    }
+    check_field(before, scx)?;
+    check_new(before, row)
+}
+
+fn check_plan(before: &LinesBefore<'_>, scx: u64) -> Result<(), Objection> {
+    let (alloc, plan) = (before.alloc, before.plan(scx));
     demand(
         plan.is_valid(),
         AFTER,
@@ -29,12 +38,7 @@ pub(crate) fn check_beginning(before: &LinesBefore<'_>, row: &Row) -> Result<(),
          among them",
             plan.0
         ),
-    )?;
-    for place in 0..plan.count() {
-        check_node(before, scx, place)?;
-    }
-    check_field(before, scx)?;
-    check_new(before, row)
+    )
 }
 
 /// A node that it covers is in the table, differs from the earlier ones, and is at rest.
@@ -50,6 +54,12 @@ fn check_node(before: &LinesBefore<'_>, scx: u64, place: u8) -> Result<(), Objec
         AFTER,
         format!(in alloc; "s{scx} covers n{node} twice"),
     )?;
+    check_at_rest(before, scx, place)
+}
+
+/// What the node's info was is finished, and if it still is, the node is not marked.
+fn check_at_rest(before: &LinesBefore<'_>, scx: u64, place: u8) -> Result<(), Objection> {
+    let (alloc, node) = (before.alloc, before.member(scx, place));
     let seen = before.scx_word(scx, ScxWord::Seen(place));
     demand(
         before.scx_word(seen, ScxWord::State) != 0,
@@ -106,8 +116,12 @@ fn check_new(before: &LinesBefore<'_>, row: &Row) -> Result<(), Objection> {
         AFTER,
         format!(in alloc; "new of s{scx} is n{new}, which a field has held already"),
     )?;
-    let other = other_user(before, ScxNo(scx), new);
-    match other {
+    check_unused(before, scx, new)
+}
+
+fn check_unused(before: &LinesBefore<'_>, scx: u64, new: u64) -> Result<(), Objection> {
+    let alloc = before.alloc;
+    match other_user(before, ScxNo(scx), new) {
         Some(other) => Err(object(
             AFTER,
             format!(in alloc;

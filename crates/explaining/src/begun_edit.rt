@@ -3,7 +3,7 @@ use crate::breach::{Objection, demand};
 use crate::lines_before::LinesBefore;
 use crate::map_before::MapPairs;
 use crate::steps::AFTER;
-use arena::{Head, NodeWord, ScxWord, SettledPart, Side, Slot};
+use arena::{Head, Mode, NodeWord, ScxWord, SettledPart, Side, Slot};
 use ordered_map::{Goal, Rule, wide_value};
 use std::alloc::AllocError;
 
@@ -37,11 +37,21 @@ impl BegunEdit<'_> {
         )
     }
 
-    /// Its plan is this one for an edit on the left of the first node, and that on the right, `old`
-    /// is its second node, and the search for the key passes the first, which is a fork.
+    /// Its plan and its first node are as `check_field` says, and `old` is its second node.
     pub(crate) fn check_place(&self, left: u64, right: u64, does: &str) -> Result<(), Objection> {
-        let (alloc, key) = (self.before.alloc, self.key);
-        let (fork, second) = (self.member(0), self.member(1));
+        self.check_field(left, right, does)?;
+        let (alloc, second) = (self.before.alloc, self.member(1));
+        let old = self.before.scx_word(self.scx, ScxWord::Old);
+        self.demand(
+            old == second,
+            format!(in alloc; "its old is n{old} in place of n{second}, its second node"),
+        )
+    }
+
+    /// Its plan is this one for an edit on the left of the first node, and that on the right, and
+    /// the search for the key passes the first, which is a fork.
+    pub(crate) fn check_field(&self, left: u64, right: u64, does: &str) -> Result<(), Objection> {
+        let (alloc, key, fork) = (self.before.alloc, self.key, self.member(0));
         self.demand(
             self.is_on_path(key, fork),
             format!(in alloc; "the search for {key} does not pass n{fork}, its first node"),
@@ -60,11 +70,6 @@ impl BegunEdit<'_> {
             format!(in alloc;
                 "its plan is {plan} in place of {wanted}, which {does} and changes the field of n{fork} towards {key}"
             ),
-        )?;
-        let old = self.before.scx_word(self.scx, ScxWord::Old);
-        self.demand(
-            old == second,
-            format!(in alloc; "its old is n{old} in place of n{second}, its second node"),
         )
     }
 
@@ -105,9 +110,21 @@ impl BegunEdit<'_> {
             Goal::End(Side::Right) => ("last", u64::MAX),
         };
         self.demand(
-            !self.before.is_as_seen(self.scx, 1) || self.is_on_path(bound, leaf),
+            self.is_late() || self.is_on_path(bound, leaf),
             format!(in alloc; "n{leaf} is not the {end} leaf of the tree"),
         )
+    }
+
+    pub(crate) fn is_in_trie(&self) -> bool {
+        self.before.record.script.layout.mode == Mode::Trie
+    }
+
+    /// Whether it can win no more: its second node, or, in a trie, its last, has changed since it was
+    /// seen.
+    fn is_late(&self) -> bool {
+        let last = self.before.plan(self.scx).count().saturating_sub(1);
+        !self.before.is_as_seen(self.scx, 1)
+            || (self.is_in_trie() && !self.before.is_as_seen(self.scx, last))
     }
 
     /// The pairs that the edit makes of those of a leaf.
@@ -189,7 +206,11 @@ impl BegunEdit<'_> {
         self.before.member(self.scx, place)
     }
 
-    fn settled(&self, node: u64, part: SettledPart) -> u64 {
+    pub(crate) fn new_node(&self) -> u64 {
+        self.before.scx_word(self.scx, ScxWord::New)
+    }
+
+    pub(crate) fn settled(&self, node: u64, part: SettledPart) -> u64 {
         self.before.node_word(node, NodeWord::Settled(part))
     }
 }

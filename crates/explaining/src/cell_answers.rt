@@ -4,7 +4,7 @@ use crate::breach::{Objection, demand, object};
 use crate::lines_before::LinesBefore;
 use crate::map_answers::{check_left, check_moment_is, check_no_moment};
 use crate::replies::ANSWER;
-use arena::{Full, Kind, NodeNo, NodeWord, Side};
+use arena::{Full, Kind, NodeNo, NodeWord, PassNo, ScxNo, Side};
 use record::{Answer, Finished};
 use script::{Cell, Command};
 
@@ -14,7 +14,6 @@ pub(crate) fn check_cell_answer(
     command: &Command,
     reply: &Finished,
 ) -> Result<(), Objection> {
-    let alloc = before.alloc;
     match &reply.answer {
         Answer::Snapshot { left, right } => {
             check_moment_is(before, reply, reply.end, "the last turn of the call")?;
@@ -24,32 +23,33 @@ pub(crate) fn check_cell_answer(
             check_moment_is(before, reply, reply.end, "the last turn of the call")?;
             check_final(before, command)
         }
-        Answer::Same => {
-            check_moment_is(before, reply, reply.begin, "the first turn of the call")?;
-            Err(object(
-                ANSWER,
-                String::from_str(
-                    alloc,
-                    "a cell was not as its snapshot found it when the call began",
-                ),
-            ))
-        }
-        Answer::Done => {
-            let turn = before.client(reply.client).won.unwrap_or(reply.end);
-            check_moment_is(before, reply, turn, "the turn of the call's update")?;
-            Err(object(
-                ANSWER,
-                String::from_str(
-                    alloc,
-                    "the share had no room for an update when the call began",
-                ),
-            ))
-        }
+        Answer::Same => check_same(before, reply),
+        Answer::Done => check_done(before, reply),
         _ => {
             check_no_moment(before, reply)?;
             check_refused(before, command, reply)
         }
     }
+}
+
+/// An objection to the answer, in words that name nothing.
+fn object_to_answer(before: &LinesBefore<'_>, text: &str) -> Objection {
+    object(ANSWER, String::from_str(before.alloc, text))
+}
+
+/// All cells were as their snapshots found them. That is asked last, so it is what is broken.
+fn check_same(before: &LinesBefore<'_>, reply: &Finished) -> Result<(), Objection> {
+    check_moment_is(before, reply, reply.begin, "the first turn of the call")?;
+    let text = "a cell was not as its snapshot found it when the call began";
+    Err(object_to_answer(before, text))
+}
+
+/// An update has won. That there was room for it is asked last, so it is what is broken.
+fn check_done(before: &LinesBefore<'_>, reply: &Finished) -> Result<(), Objection> {
+    let turn = before.client(reply.client).won.unwrap_or(reply.end);
+    check_moment_is(before, reply, turn, "the turn of the call's update")?;
+    let text = "the share had no room for an update when the call began";
+    Err(object_to_answer(before, text))
 }
 
 /// The cell that an `llx` or a `set` is of.
@@ -103,42 +103,55 @@ fn check_refused(
     command: &Command,
     reply: &Finished,
 ) -> Result<(), Objection> {
-    let alloc = before.alloc;
     match &reply.answer {
         Answer::Fail { node, scx } | Answer::Lost { node, scx } | Answer::Changed { node, scx } => {
             check_among(before, command, *node)?;
-            check_blame(before, reply, *node, *scx)?;
-            let blamed = (*node, *scx);
-            match &reply.answer {
-                Answer::Fail { .. } => check_failed(before, reply, blamed),
-                Answer::Lost { .. } => check_met(before, reply, Kind::Freeze, blamed),
-                _ => check_met(before, reply, Kind::LoadInfo, blamed),
-            }
+            check_disturbed(before, reply, (*node, *scx))
         }
         Answer::Full { what, left } => {
             let (what, left) = (*what, *left);
-            check_left(before, reply.client, &Full { what, left })?;
-            Err(object(
-                ANSWER,
-                String::from_str(
-                    alloc,
-                    "the call cannot know that its share has too little: it has not looked at its cell, or keeps no \
-                 snapshot of one",
-                ),
-            ))
+            check_full(before, reply.client, &Full { what, left })
         }
         Answer::Unlinked { node } => {
             check_among(before, command, *node)?;
-            Err(object(
-                ANSWER,
-                format!(in alloc;
-                    "n{} is not the first cell of the call without a kept snapshot",
-                    node.0
-                ),
-            ))
+            check_unlinked(before, *node)
         }
         _ => Ok(()),
     }
+}
+
+/// The SCX-record was in the call's way.
+fn check_disturbed(
+    before: &LinesBefore<'_>,
+    reply: &Finished,
+    blamed: (NodeNo, ScxNo),
+) -> Result<(), Objection> {
+    check_blame(before, reply, blamed.0, blamed.1)?;
+    match &reply.answer {
+        Answer::Fail { .. } => check_failed(before, reply, blamed),
+        Answer::Lost { .. } => check_met(before, reply, Kind::Freeze, blamed),
+        _ => check_met(before, reply, Kind::LoadInfo, blamed),
+    }
+}
+
+/// So much is left of the share. That the call knows is asked last, so it is what is broken.
+fn check_full(before: &LinesBefore<'_>, pass: PassNo, full: &Full) -> Result<(), Objection> {
+    check_left(before, pass, full)?;
+    let text = "the call cannot know that its share has too little: it has not looked at its cell, or keeps no \
+                 snapshot of one";
+    Err(object_to_answer(before, text))
+}
+
+/// A cell without a snapshot. That it is the first is asked last, so it is what is broken.
+fn check_unlinked(before: &LinesBefore<'_>, node: NodeNo) -> Result<(), Objection> {
+    let alloc = before.alloc;
+    Err(object(
+        ANSWER,
+        format!(in alloc;
+            "n{} is not the first cell of the call without a kept snapshot",
+            node.0
+        ),
+    ))
 }
 
 /// The node is a cell of the call.

@@ -29,43 +29,34 @@ pub(crate) fn check_entry(before: &LinesBefore<'_>, entry: &Entry) -> Result<(),
 
 /// Each field is that of the update.
 fn check_fields(before: &LinesBefore<'_>, entry: &Entry, owed: &Entry) -> Result<(), Objection> {
-    let (alloc, client, owner) = (before.alloc, entry.client.0, owed.client.0);
-    let fields = [
-        (PLACE, entry.place, owed.place, "the next place in the log"),
-        (STEP, entry.step, owed.step, "the turn of the update"),
-        (
-            SCX,
-            entry.scx.0,
-            owed.scx.0,
-            "the SCX-record that the node's info names",
-        ),
-        (
-            CLIENT,
-            u64::from(client),
-            u64::from(owner),
-            "the owner of the SCX-record",
-        ),
-        (
-            CALL,
-            entry.call,
-            owed.call,
-            "the word call of the SCX-record",
-        ),
-    ];
-    for (field, found, wanted, what) in fields {
-        demand(
-            found == wanted,
-            field,
-            format!(in alloc; "{found} in place of {wanted}, {what}"),
-        )?;
-    }
-    Ok(())
+    let (scx, owed_scx) = (entry.scx.0, owed.scx.0);
+    let (client, owner) = (u64::from(entry.client.0), u64::from(owed.client.0));
+    let call = "the word call of the SCX-record";
+    check_same(before, PLACE, entry.place, owed.place, "the next place in the log")?;
+    check_same(before, STEP, entry.step, owed.step, "the turn of the update")?;
+    check_same(before, SCX, scx, owed_scx, "the SCX-record that the node's info names")?;
+    check_same(before, CLIENT, client, owner, "the owner of the SCX-record")?;
+    check_same(before, CALL, entry.call, owed.call, call)
+}
+
+fn check_same(
+    before: &LinesBefore<'_>,
+    field: usize,
+    found: u64,
+    wanted: u64,
+    what: &str,
+) -> Result<(), Objection> {
+    let alloc = before.alloc;
+    demand(
+        found == wanted,
+        field,
+        format!(in alloc; "{found} in place of {wanted}, {what}"),
+    )
 }
 
 /// It is of the call that the owner is making, and the first of it.
 fn check_owner(before: &LinesBefore<'_>, entry: &Entry) -> Result<(), Objection> {
-    let (alloc, owner) = (before.alloc, entry.client);
-    let client = before.client(owner);
+    let (alloc, owner, client) = (before.alloc, entry.client, before.client(entry.client));
     let has_begun = client.begun.is_some() && before.next(owner).is_some();
     demand(
         has_begun,
@@ -80,8 +71,12 @@ fn check_owner(before: &LinesBefore<'_>, entry: &Entry) -> Result<(), Objection>
             entry.call, client.answered, owner.0
         ),
     )?;
-    let call = call_words(before, owner)?;
-    let own = before.entries.iter().filter(|past| past.client == owner);
+    check_first(before, entry)
+}
+
+fn check_first(before: &LinesBefore<'_>, entry: &Entry) -> Result<(), Objection> {
+    let (alloc, call) = (before.alloc, call_words(before, entry.client)?);
+    let own = before.entries.iter().filter(|past| past.client == entry.client);
     let is_first = own.last().is_none_or(|past| past.call != entry.call);
     demand(
         is_first,

@@ -48,12 +48,17 @@ fn check_own_node(before: &LinesBefore<'_>, pass: PassNo, node: NodeNo) -> Resul
         WORD,
         format!(in alloc; "n{node} is not of client {client}'s share, which is {share}"),
     )?;
-    let next = first.saturating_add(before.judge.nodes_taken(pass));
+    let next = u64::from(first.saturating_add(before.judge.nodes_taken(pass)));
     demand(
-        node <= u64::from(next),
+        node <= next,
         WORD,
         format!(in alloc; "n{node} in place of n{next}, the next node of the share"),
     )?;
+    check_unnamed_node(before, node)
+}
+
+fn check_unnamed_node(before: &LinesBefore<'_>, node: u64) -> Result<(), Objection> {
+    let alloc = before.alloc;
     demand(
         !before.judge.is_named_node(NodeNo(node)),
         WORD,
@@ -73,12 +78,17 @@ fn check_own_scx(before: &LinesBefore<'_>, pass: PassNo, scx: ScxNo) -> Result<(
         WORD,
         format!(in alloc; "s{scx} is not of client {client}'s share, which is {share}"),
     )?;
-    let next = first.saturating_add(before.judge.scx_taken(pass));
+    let next = u64::from(first.saturating_add(before.judge.scx_taken(pass)));
     demand(
-        scx <= u64::from(next),
+        scx <= next,
         WORD,
         format!(in alloc; "s{scx} in place of s{next}, the next SCX-record of the share"),
     )?;
+    check_unnamed_scx(before, scx)
+}
+
+fn check_unnamed_scx(before: &LinesBefore<'_>, scx: u64) -> Result<(), Objection> {
+    let alloc = before.alloc;
     demand(
         !before.judge.is_named(ScxNo(scx)),
         WORD,

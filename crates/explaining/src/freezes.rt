@@ -32,7 +32,23 @@ fn check_won(before: &LinesBefore<'_>, row: &Row, node: NodeNo) -> Result<(), Ob
             format!(in alloc; "s{scx} does not cover n{node}, so it does not freeze it"),
         ));
     };
-    let seen = before.scx_word(scx, ScxWord::Seen(place));
+    check_wins(before, row, scx, place)?;
+    check_earlier(before, scx, place)?;
+    check_unfinished(before, scx)?;
+    if place == 0 {
+        check_beginning(before, row)?;
+    }
+    Ok(())
+}
+
+/// It has found what the node's info was.
+fn check_wins(
+    before: &LinesBefore<'_>,
+    row: &Row,
+    scx: u64,
+    place: u8,
+) -> Result<(), Objection> {
+    let (alloc, seen) = (before.alloc, before.scx_word(scx, ScxWord::Seen(place)));
     demand(
         row.before == seen,
         AFTER,
@@ -40,18 +56,16 @@ fn check_won(before: &LinesBefore<'_>, row: &Row, node: NodeNo) -> Result<(), Ob
             "{scx} in place of {}, since the exchange is lost: i{place} of s{scx} is {seen}",
             row.before
         ),
-    )?;
-    check_earlier(before, scx, place)?;
-    let state = before.scx_word(scx, ScxWord::State);
+    )
+}
+
+fn check_unfinished(before: &LinesBefore<'_>, scx: u64) -> Result<(), Objection> {
+    let (alloc, state) = (before.alloc, before.scx_word(scx, ScxWord::State));
     demand(
         state == 0,
         AFTER,
         format!(in alloc; "s{scx} is finished, since its state is {state}, so it freezes no more"),
-    )?;
-    if place == 0 {
-        check_beginning(before, row)?;
-    }
-    Ok(())
+    )
 }
 
 /// All earlier nodes have been frozen.

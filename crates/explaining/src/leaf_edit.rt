@@ -2,21 +2,15 @@
 use crate::begun_edit::BegunEdit;
 use crate::breach::Objection;
 use crate::map_before::MapPairs;
-use arena::{NodeNo, ScxWord, Side};
+use arena::{NodeNo, Side};
 use std::alloc::AllocError;
 
 /// It covers a fork and a leaf below it, and `new` holds what the call makes of the leaf.
 pub(crate) fn check_leaf_edit(edit: &BegunEdit<'_>) -> Result<(), Objection> {
-    let alloc = edit.before.alloc;
-    let (leaf, new) = (edit.member(1), edit.before.scx_word(edit.scx, ScxWord::New));
+    let (leaf, new) = (edit.member(1), edit.new_node());
     edit.check_place(18, 530, "retires its second node")?;
     edit.check_leaf(leaf)?;
     edit.check_asks(leaf)?;
-    let (level, wanted) = (edit.head(new).level, edit.head(leaf).level);
-    edit.demand(
-        level == wanted,
-        format!(in alloc; "n{new} has level {level} in place of {wanted}, that of n{leaf}"),
-    )?;
     if edit.head(new).leaf {
         check_swap(edit, leaf, new)
     } else {
@@ -24,9 +18,20 @@ pub(crate) fn check_leaf_edit(edit: &BegunEdit<'_>) -> Result<(), Objection> {
     }
 }
 
-/// Another leaf comes in the place of a leaf that has pairs.
-fn check_swap(edit: &BegunEdit<'_>, leaf: u64, new: u64) -> Result<(), Objection> {
+/// `new` is on the level of the leaf in whose place it comes.
+fn check_level(edit: &BegunEdit<'_>, leaf: u64, new: u64) -> Result<(), Objection> {
     let alloc = edit.before.alloc;
+    let (level, wanted) = (edit.head(new).level, edit.head(leaf).level);
+    edit.demand(
+        level == wanted,
+        format!(in alloc; "n{new} has level {level} in place of {wanted}, that of n{leaf}"),
+    )
+}
+
+/// Another leaf comes in the place of a leaf that has pairs.
+pub(crate) fn check_swap(edit: &BegunEdit<'_>, leaf: u64, new: u64) -> Result<(), Objection> {
+    let alloc = edit.before.alloc;
+    check_level(edit, leaf, new)?;
     edit.demand(
         edit.head(leaf).class == 0,
         format!(in alloc;
@@ -49,15 +54,19 @@ fn check_pairs(edit: &BegunEdit<'_>, leaf: u64, put: &MapPairs) -> Result<(), Ob
 }
 
 /// A fork comes in the place of a leaf, over two fresh ones: between them they have what the call
-/// makes of its pairs, and the right one is a leaf of the same class.
+/// makes of its pairs, and the right one is a leaf of the same class. In a tree the fork has its key.
 fn check_split(edit: &BegunEdit<'_>, leaf: u64, fork: u64) -> Result<(), Objection> {
     let (left, right) = (edit.child(fork, Side::Left), edit.child(fork, Side::Right));
+    let is_high = edit.head(leaf).class > 0;
+    if !edit.is_in_trie() {
+        check_level(edit, leaf, fork)?;
+    }
     check_fresh(edit, fork, left)?;
     check_fresh(edit, fork, right)?;
     edit.check_low_leaf(left)?;
     edit.check_leaf(right)?;
-    check_alike(edit, right, leaf, edit.head(leaf).class > 0)?;
-    check_alike(edit, fork, right, true)?;
+    check_alike(edit, right, leaf, is_high)?;
+    check_alike(edit, fork, right, is_high || !edit.is_in_trie())?;
     let (low, high) = (edit.pairs_of(left)?, edit.pairs_of(right)?);
     check_side(edit, fork, left, Side::Left, &low)?;
     check_side(edit, fork, right, Side::Right, &high)?;
@@ -72,18 +81,24 @@ fn joined(mut low: MapPairs, high: &MapPairs) -> Result<MapPairs, AllocError> {
     Ok(low)
 }
 
-/// A node below the fork is named by no word yet, and one level below it.
+/// A node below the fork is named by no word yet, and, in a tree, one level below it.
 fn check_fresh(edit: &BegunEdit<'_>, fork: u64, node: u64) -> Result<(), Objection> {
+    let alloc = edit.before.alloc;
+    check_unnamed(edit, fork, node)?;
+    let (level, above) = (edit.head(node).level, edit.head(fork).level);
+    let wanted = above.saturating_add(1);
+    edit.demand(
+        level == wanted || edit.is_in_trie(),
+        format!(in alloc; "n{node} has level {level} in place of {wanted}, just below n{fork}"),
+    )
+}
+
+/// A node below the fork is named by no word yet.
+pub(crate) fn check_unnamed(edit: &BegunEdit<'_>, fork: u64, node: u64) -> Result<(), Objection> {
     let alloc = edit.before.alloc;
     edit.demand(
         !edit.before.judge.is_named_node(NodeNo(node)),
         format!(in alloc; "n{node}, below n{fork}, is named already"),
-    )?;
-    let (level, above) = (edit.head(node).level, edit.head(fork).level);
-    let wanted = above.saturating_add(1);
-    edit.demand(
-        level == wanted,
-        format!(in alloc; "n{node} has level {level} in place of {wanted}, just below n{fork}"),
     )
 }
 

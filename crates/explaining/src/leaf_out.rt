@@ -1,7 +1,7 @@
 //! Edits that take a leaf out.
 use crate::begun_edit::BegunEdit;
 use crate::breach::Objection;
-use arena::{ScxWord, Side};
+use arena::Side;
 
 /// It covers two forks, one below the other, and the two children of the second: one is a leaf of
 /// which the call leaves nothing, and `new` is a copy of the other.
@@ -17,6 +17,12 @@ pub(crate) fn check_leaf_out(edit: &BegunEdit<'_>) -> Result<(), Objection> {
         Side::Left => (edit.member(2), 3),
         Side::Right => (edit.member(3), 2),
     };
+    check_taken(edit, leaf, place)
+}
+
+/// The call leaves nothing of the leaf, and `new` is a copy of the node at this place.
+pub(crate) fn check_taken(edit: &BegunEdit<'_>, leaf: u64, place: u8) -> Result<(), Objection> {
+    let alloc = edit.before.alloc;
     edit.check_low_leaf(leaf)?;
     edit.check_asks(leaf)?;
     let left = edit.pairs_left(leaf)?;
@@ -45,33 +51,33 @@ fn check_children(edit: &BegunEdit<'_>, fork: u64) -> Result<(), Objection> {
 /// was seen, its fields.
 fn check_copy(edit: &BegunEdit<'_>, place: u8) -> Result<(), Objection> {
     let node = edit.member(place);
-    let new = edit.before.scx_word(edit.scx, ScxWord::New);
+    let new = edit.new_node();
     check_part(edit, place, "head", edit.head(new) == edit.head(node))?;
     check_part(edit, place, "key", edit.key_of(new) == edit.key_of(node))?;
     if edit.head(node).leaf {
-        edit.check_leaf(new)?;
-        edit.check_leaf(node)?;
-        let (put, wanted) = (
-            edit.words(&edit.pairs_of(new)?)?,
-            edit.words(&edit.pairs_of(node)?)?,
-        );
-        return check_part(edit, place, "pairs", put.as_str() == wanted.as_str());
+        return check_pairs(edit, place, new, node);
     }
     let has_fields = [Side::Left, Side::Right]
         .iter()
         .all(|side| edit.child(new, *side) == edit.child(node, *side));
-    check_part(
-        edit,
-        place,
-        "fields",
-        has_fields || !edit.before.is_as_seen(edit.scx, place),
-    )
+    let is_same = has_fields || !edit.before.is_as_seen(edit.scx, place);
+    check_part(edit, place, "fields", is_same)
+}
+
+fn check_pairs(edit: &BegunEdit<'_>, place: u8, new: u64, node: u64) -> Result<(), Objection> {
+    edit.check_leaf(new)?;
+    edit.check_leaf(node)?;
+    let (put, wanted) = (
+        edit.words(&edit.pairs_of(new)?)?,
+        edit.words(&edit.pairs_of(node)?)?,
+    );
+    check_part(edit, place, "pairs", put.as_str() == wanted.as_str())
 }
 
 /// This part of `new` is that of the node at a place.
 fn check_part(edit: &BegunEdit<'_>, place: u8, part: &str, is_same: bool) -> Result<(), Objection> {
     let (alloc, node) = (edit.before.alloc, edit.member(place));
-    let new = edit.before.scx_word(edit.scx, ScxWord::New);
+    let new = edit.new_node();
     edit.demand(
         is_same,
         format!(in alloc; "its new, n{new}, is no copy of n{node}, which has another {part}"),

@@ -25,6 +25,8 @@ mod map_before;
 mod replies;
 mod steps;
 mod stores;
+mod trie_edit;
+mod trie_keys;
 mod updates;
 mod words;
 

@@ -4,7 +4,7 @@ use crate::breach::{Objection, demand, object};
 use crate::lines_before::LinesBefore;
 use crate::map_before::{needed_by, pairs_at, reply_of};
 use crate::replies::{ANSWER, MOMENT};
-use arena::{Full, Kind, NodeWord, PassNo, Resource, SettledPart, Word};
+use arena::{Full, Kind, NodeNo, NodeWord, PassNo, Resource, ScxNo, SettledPart, Word};
 use ordered_map::{Reply, Request};
 use record::{Answer, Finished};
 use report::answer_text;
@@ -25,20 +25,28 @@ pub(crate) fn check_map_answer(
                 None => check_reading(before, request, reply),
             }
         }
-        Reply::Contended { node, scx } => {
-            check_no_moment(before, reply)?;
-            check_tries(before, reply.client)?;
-            check_needed(before, request, reply)?;
-            check_blame(before, reply, *node, *scx)?;
-            let newest = newest_try(before, reply.client);
-            check_since(before, *scx, newest, "the last try of the call began")
-        }
+        Reply::Contended { node, scx } => check_contended(before, request, reply, (*node, *scx)),
         Reply::Full(full) => {
             check_no_moment(before, reply)?;
             check_full(before, request, reply, full)
         }
         Reply::NoMemory => check_no_moment(before, reply),
     }
+}
+
+/// All tries were begun, there was something to do, and the SCX-record was in the way of the last.
+fn check_contended(
+    before: &LinesBefore<'_>,
+    request: &Request<u64, u128>,
+    reply: &Finished,
+    (node, scx): (NodeNo, ScxNo),
+) -> Result<(), Objection> {
+    check_no_moment(before, reply)?;
+    check_tries(before, reply.client)?;
+    check_needed(before, request, reply)?;
+    check_blame(before, reply, node, scx)?;
+    let newest = newest_try(before, reply.client);
+    check_since(before, scx, newest, "the last try of the call began")
 }
 
 /// What the map replies after a turn, as text.
@@ -81,34 +89,40 @@ fn check_reading(
 ) -> Result<(), Objection> {
     let alloc = before.alloc;
     let answer = answer_text(alloc, &reply.answer)?;
+    let (begin, end) = (reply.begin, reply.end);
+    let what = "the latest turn of the call after which the map replies so";
+    if let Some(latest) = latest_such(before, request, reply, answer.as_str())? {
+        return check_moment_is(before, reply, latest, what);
+    }
+    let last = reply_at(before, request, end)?;
+    Err(object(
+        ANSWER,
+        format!(in alloc;
+            "{answer} in place of {last}, which the map replies after turn {end}, the call's last, and from turn \
+             {begin} on it never replies {answer}"
+        ),
+    ))
+}
+
+/// The latest turn of a call after which the map replies this, if there is one.
+fn latest_such(
+    before: &LinesBefore<'_>,
+    request: &Request<u64, u128>,
+    reply: &Finished,
+    answer: &str,
+) -> Result<Option<u64>, Objection> {
+    if reply_at(before, request, reply.end)?.as_str() == answer {
+        return Ok(Some(reply.end));
+    }
     let mut latest = None;
     let turns = before.entries.iter().map(|entry| entry.step);
     for turn in turns.filter(|turn| *turn <= reply.end) {
         let until = turn.saturating_sub(1);
-        if reply.begin < turn && reply_at(before, request, until)?.as_str() == answer.as_str() {
+        if reply.begin < turn && reply_at(before, request, until)?.as_str() == answer {
             latest = Some(until);
         }
     }
-    let last = reply_at(before, request, reply.end)?;
-    if last.as_str() == answer.as_str() {
-        latest = Some(reply.end);
-    }
-    let (begin, end) = (reply.begin, reply.end);
-    let Some(latest) = latest else {
-        return Err(object(
-            ANSWER,
-            format!(in alloc;
-                "{answer} in place of {last}, which the map replies after turn {end}, the call's last, and from turn \
-             {begin} on it never replies {answer}"
-            ),
-        ));
-    };
-    check_moment_is(
-        before,
-        reply,
-        latest,
-        "the latest turn of the call after which the map replies so",
-    )
+    Ok(latest)
 }
 
 /// The moment is this turn.
@@ -214,20 +228,13 @@ fn check_full(
     reply: &Finished,
     full: &Full,
 ) -> Result<(), Objection> {
-    let (alloc, told) = (before.alloc, full.left);
     check_left(before, reply.client, full)?;
     check_needed(before, request, reply)?;
-    let needed = most_needed(before, request, reply)?;
     if full.what == Resource::Nodes {
-        demand(
-            told < needed,
-            ANSWER,
-            format!(in alloc;
-                "{told} nodes are enough for the call, which needed {needed} at most"
-            ),
-        )?;
+        check_too_few(before, request, reply, full.left)?;
     }
-    let (layout, client) = (before.judge.layout(), before.client(reply.client));
+    let (alloc, layout) = (before.alloc, before.judge.layout());
+    let client = before.client(reply.client);
     let (what, left) = match full.what {
         Resource::Nodes => ("nodes", layout.nodes.saturating_sub(client.nodes)),
         Resource::Scx => ("SCX-records", layout.scx.saturating_sub(client.scx)),
@@ -241,6 +248,21 @@ fn check_full(
     ))
 }
 
+/// So many nodes are too few for the edit.
+fn check_too_few(
+    before: &LinesBefore<'_>,
+    request: &Request<u64, u128>,
+    reply: &Finished,
+    told: u32,
+) -> Result<(), Objection> {
+    let (alloc, needed) = (before.alloc, most_needed(before, request, reply)?);
+    demand(
+        told < needed,
+        ANSWER,
+        format!(in alloc; "{told} nodes are enough for the call, which needed {needed} at most"),
+    )
+}
+
 /// What is left of the share: so many nodes, or no SCX-record, and some node.
 pub(crate) fn check_left(
     before: &LinesBefore<'_>,
@@ -250,26 +272,20 @@ pub(crate) fn check_left(
     let (alloc, layout, taken) = (before.alloc, before.judge.layout(), before.taken(pass));
     let nodes = layout.nodes.saturating_sub(taken.0);
     let scx = layout.scx.saturating_sub(taken.1);
-    if full.what == Resource::Nodes {
-        return demand(
-            full.left == nodes,
-            ANSWER,
-            format!(in alloc;
-                "{} in place of {nodes}, the nodes that are left of the share",
-                full.left
-            ),
-        );
-    }
+    let (left, what) = match full.what {
+        Resource::Nodes => (nodes, "nodes"),
+        Resource::Scx => (scx, "SCX-records"),
+    };
     demand(
-        full.left == scx,
+        full.left == left,
         ANSWER,
         format!(in alloc;
-            "{} in place of {scx}, the SCX-records that are left of the share",
+            "{} in place of {left}, the {what} that are left of the share",
             full.left
         ),
     )?;
     demand(
-        scx == 0 && nodes > 0,
+        full.what == Resource::Nodes || (scx == 0 && nodes > 0),
         ANSWER,
         format!(in alloc; "{scx} SCX-records and {nodes} nodes are left: none and some are wanted"),
     )

@@ -60,21 +60,33 @@ fn check_newest(before: &LinesBefore<'_>, client: PassNo) -> Result<(), Objectio
 
 /// The number of the call, and its first and last turn.
 fn check_turns(before: &LinesBefore<'_>, reply: &Finished) -> Result<(), Objection> {
-    let (alloc, client) = (before.alloc, before.client(reply.client));
+    check_number(before, reply)?;
+    check_begin(before, reply)?;
+    let (alloc, newest) = (before.alloc, before.turn);
     demand(
-        reply.call == client.answered,
+        reply.end == newest,
+        END,
+        format!(in alloc; "{} in place of {newest}, the newest turn", reply.end),
+    )
+}
+
+fn check_number(before: &LinesBefore<'_>, reply: &Finished) -> Result<(), Objection> {
+    let (alloc, next) = (before.alloc, before.client(reply.client).answered);
+    demand(
+        reply.call == next,
         NUMBER,
-        format!(in alloc;
-            "{} in place of {}, the client's next call",
-            reply.call, client.answered
-        ),
-    )?;
-    let Some(begun) = client.begun else {
+        format!(in alloc; "{} in place of {next}, the client's next call", reply.call),
+    )
+}
+
+fn check_begin(before: &LinesBefore<'_>, reply: &Finished) -> Result<(), Objection> {
+    let (alloc, client) = (before.alloc, reply.client);
+    let Some(begun) = before.client(client).begun else {
         return Err(object(
             CLIENT,
             format!(in alloc;
                 "client {} has made no turn since its last reply",
-                reply.client.0
+                client.0
             ),
         ));
     };
@@ -84,14 +96,6 @@ fn check_turns(before: &LinesBefore<'_>, reply: &Finished) -> Result<(), Objecti
         format!(in alloc;
             "{} in place of {begun}, the first turn of the call",
             reply.begin
-        ),
-    )?;
-    demand(
-        reply.end == before.turn,
-        END,
-        format!(in alloc;
-            "{} in place of {}, the newest turn",
-            reply.end, before.turn
         ),
     )
 }
@@ -172,11 +176,7 @@ fn check_changed(
     reply: &Finished,
 ) -> Result<(), Objection> {
     let (alloc, answer) = (before.alloc, answer_text(before.alloc, &reply.answer)?);
-    let says = match (command, &reply.answer) {
-        (Command::Scx(_) | Command::Set { .. }, Answer::Done) => true,
-        (Command::Map(request), Answer::Map(reply)) => request.changes(reply),
-        _ => false,
-    };
+    let says = says_change(command, &reply.answer);
     match before.client(reply.client).won {
         Some(turn) => demand(
             says,
@@ -192,6 +192,14 @@ fn check_changed(
                 "{answer} says that the call has made a change, but it has no entry in the log"
             ),
         ),
+    }
+}
+
+fn says_change(command: &Command, answer: &Answer) -> bool {
+    match (command, answer) {
+        (Command::Scx(_) | Command::Set { .. }, Answer::Done) => true,
+        (Command::Map(request), Answer::Map(reply)) => request.changes(reply),
+        _ => false,
     }
 }
 
@@ -219,15 +227,7 @@ fn check_share(
         taken.0.saturating_sub(client.nodes),
         taken.1.saturating_sub(client.scx),
     );
-    let tries = before.record.script.limits.tries;
-    let (each, most) = match command {
-        Command::Scx(_) | Command::Set { .. } => (1, 1),
-        Command::Map(request) => match request.edit() {
-            Some((_, rule)) => (rule.nodes_in_try(), tries),
-            None => (0, 0),
-        },
-        _ => (0, 0),
-    };
+    let (each, most) = most_taken(command, before.record.script.limits.tries);
     demand(
         scx <= most,
         ANSWER,
@@ -241,4 +241,16 @@ fn check_share(
             "the call has taken {nodes} nodes of its share, and may take {most} with {scx} SCX-records"
         ),
     )
+}
+
+/// How many nodes a call may take with each SCX-record, and how many of these.
+fn most_taken(command: &Command, tries: u32) -> (u32, u32) {
+    match command {
+        Command::Scx(_) | Command::Set { .. } => (1, 1),
+        Command::Map(request) => match request.edit() {
+            Some((_, rule)) => (rule.nodes_in_try(), tries),
+            None => (0, 0),
+        },
+        _ => (0, 0),
+    }
 }

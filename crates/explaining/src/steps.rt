@@ -83,7 +83,12 @@ fn check_call(before: &LinesBefore<'_>, row: &Row) -> Result<(), Objection> {
         KIND,
         format!(in alloc; "{kind} by {call}, which makes {kinds}"),
     )?;
-    let number = before.client(pass).answered;
+    check_call_word(before, row)
+}
+
+/// A fill of `call` stores the number of the client's call.
+fn check_call_word(before: &LinesBefore<'_>, row: &Row) -> Result<(), Objection> {
+    let (alloc, number) = (before.alloc, before.client(row.pass).answered);
     let is_call = row.kind == Kind::Fill && matches!(row.word, Word::Scx(_, ScxWord::Call));
     demand(
         !is_call || row.after == number,

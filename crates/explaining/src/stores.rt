@@ -45,17 +45,14 @@ pub(crate) fn check_frozen(before: &LinesBefore<'_>, row: &Row) -> Result<(), Ob
         WORD,
         format!(in alloc; "s{} covers no node", scx.0),
     )?;
-    match before.first_unfrozen(scx.0, many) {
-        Some(place) => Err(object(
-            WORD,
-            format!(in alloc;
-                "n{}, which s{} covers, was never frozen for it",
-                before.member(scx.0, place),
-                scx.0
-            ),
-        )),
-        None => Ok(()),
-    }
+    let Some(place) = before.first_unfrozen(scx.0, many) else {
+        return Ok(());
+    };
+    let node = before.member(scx.0, place);
+    Err(object(
+        WORD,
+        format!(in alloc; "n{node}, which s{} covers, was never frozen for it", scx.0),
+    ))
 }
 
 /// Stores 1 into the mark of a node that an SCX-record finalizes whose nodes are all frozen.
@@ -127,6 +124,12 @@ pub(crate) fn check_abort(before: &LinesBefore<'_>, row: &Row) -> Result<(), Obj
         format!(in alloc; "allfrozen of s{scx} is 1, so it is not aborted"),
     )?;
     check_aborter(before, row, scx)?;
+    check_overtaken(before, scx)
+}
+
+/// The first node that was never frozen for it has another info since.
+fn check_overtaken(before: &LinesBefore<'_>, scx: u64) -> Result<(), Objection> {
+    let alloc = before.alloc;
     let Some(place) = before.first_unfrozen(scx, before.plan(scx).count()) else {
         return Err(object(
             WORD,

@@ -19,11 +19,12 @@ pub(crate) fn check_update(before: &LinesBefore<'_>, row: &Row) -> Result<(), Ob
         ));
     };
     let scx = before.node_word(node.0, NodeWord::Info);
-    if row.before == row.after && field_of(before, scx) != row.word {
+    let is_its_field = field_of(before, scx) == row.word;
+    if row.before == row.after && !is_its_field {
         return check_lost(before, row);
     }
     demand(
-        field_of(before, scx) == row.word,
+        is_its_field,
         WORD,
         format!(in alloc;
             "the info of n{} names s{scx}, whose field is not {word}",

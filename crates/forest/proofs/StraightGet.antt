@@ -81,7 +81,7 @@ module _ {K V : Type 0} (valid_key : K → Type 0) (key : K → ℕ) (valid_valu
 
   -- what its walk finds, it answers
   pub get_ended : (share : Remaining) (tries wanted number : ℕ) (layout : Layout) (c : Call) (is_layout : c.layout ≡ layout) (is_number : c.number ≡ number) (ps : List SeatedPass) (turn : LastTurns) (f : Found) (v : Option V) → c.layout.mode ≡ Tree → IfSome v valid_value → (IfSome f.value (IsWordOf valid_value value_word) → option_map value_word v ≡ f.value)
-      → (x : WalkerFinds (walker share tries wanted c layout number is_layout is_number) ps (ToKey wanted) turn f)
+      → (x : WalkerFinds (walker share tries wanted c layout number is_layout is_number) ps InTree (ToKey wanted) turn f)
       → HoldsForCall allows ps c (λ h. DictAnswers valid_key key valid_value value_word (getting share tries wanted x.last) c h (replies.Value v) × Trace allows waits same c (getting share tries wanted (walk_at (ToKey wanted) root_trail Start)) (getting share tries wanted x.last) h)
   unfolding walker
   get_ended share tries wanted number layout c is_layout is_number ps turn f v mode valid same_word x =
@@ -96,7 +96,7 @@ module _ {K V : Type 0} (valid_key : K → Type 0) (key : K → ℕ) (valid_valu
 
   -- and so it has ended, where a walk that waits for the head of the root finds that
   pub get_over : {T : Type 0} (p : Inside T) (x : IsPass allows Tree p) (s : Seat ℕ SeatView) (tries wanted number : ℕ) (layout : Layout) → p.layout ≡ layout → taken_of (pass_view p) ≡ number → wanted < 2 ^ 64 → (turn : LastTurns) (f : Found) (v : Option V) → IfSome v valid_value → (IfSome f.value (IsWordOf valid_value value_word) → option_map value_word v ≡ f.value)
-      → ((w : Walker (dict_calls valid_key key valid_value value_word layout number)) → WalksFromRoot w p.seat.me.0.passes (ToKey wanted) → WalkerFinds w s.me.0.passes (ToKey wanted) turn f)
+      → ((w : Walker (dict_calls valid_key key valid_value value_word layout number)) → WalksFromRoot w p.seat.me.0.passes InTree (ToKey wanted) → WalkerFinds w s.me.0.passes InTree (ToKey wanted) turn f)
       → (last : WalkRun) × HoldsForCall allows s.me.0.passes (call_of p x (taken_of (pass_view p))) (λ h. Answered valid_key key valid_value value_word p x s (getting p.share tries wanted last) (replies.Value v) h × Trace allows waits same (call_of p x (taken_of (pass_view p))) (getting p.share tries wanted (walk_at (ToKey wanted) root_trail Start)) (getting p.share tries wanted last) h)
   get_over p x s tries wanted number layout is_layout is_number small turn f v valid same_word finds =
       let c : Call = call_of p x (taken_of (pass_view p)) in

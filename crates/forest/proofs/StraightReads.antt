@@ -27,6 +27,7 @@ use Rattle.prims.specs.Vlx.Laws.{all_same, looked_on}
 use Rattle.prims.specs.declared.llx.LlxAt.TheVariants.{Marked, StateAgain}
 use Rattle.template.specs.declared.walk.Found.{Found}
 use Rattle.template.specs.declared.walk.WalkRun.{WalkRun}
+use Rattle.template.specs.declared.walk.Way.TheVariants.{InTree}
 use Rattle.order.specs.declared.last_turns.LastTurns.{LastTurns}
 use Rattle.order.specs.LastTurns.{first_children, last_turns, no_turns, turn_to}
 use Rattle.forest.specs.declared.view.SeatedPass.{SeatedPass}
@@ -278,7 +279,7 @@ module _ {M R A : Type 0} {o : Calls M} {means : ReadMeaning R A} (r : Reader o 
         (λ h run y. begins_walk means m old (walking (walk_from (ToKey key)) no_turns) r.call r.call.start h (Ask (load LoadSettled (node 0 (Settled HeadWord)))) is tries none y.2 y.0 (walk_from (ToKey key)) key side refl refl refl to refl refl) x
 
     -- behind the leaf that it finds it looks at the last fork where it has turned to its side
-    pub walk_looks : (ps : List SeatedPass) (f : Found) (turns : LastTurns) → WalkerFinds walker ps (ToKey key) turns f → ReaderWaits r ps m (LookNext (first_children side (turn_to side turns).0) 0 (turn_to side turns))
+    pub walk_looks : (ps : List SeatedPass) (f : Found) (turns : LastTurns) → WalkerFinds walker ps InTree (ToKey key) turns f → ReaderWaits r ps m (LookNext (first_children side (turn_to side turns).0) 0 (turn_to side turns))
     unfolding walker
     walk_looks ps f turns x = on_to ps (walking x.last turns) m (LookNext (first_children side (turn_to side turns).0) 0 (turn_to side turns)) x.told (itself means m)
         (λ h run y. let c = begun_at r.call y.0 in let w = y.4.0 in (y.0, y.1, (y.2, walk_found means m.read m.snaps.items c h y.2 w.key side turns f w.goes_to w.last (subst (λ g. HasFoundGoal g c h f) (sym x.is_goal ∙ w.goal) (x.finds c h y.4.1))))) x.so

@@ -5,7 +5,8 @@ use Rattle.std.proofs.lemmas.Result.{err_from_is_err_and}
 use Rattle.histories.specs.Common.{Full, Layout, Turn, Ask, Done, NodeNo, LoadMarked, LoadSettled, LoadState, Settled, SettledPart, Head, High, Key, Value, Slot, Store}
 use Rattle.histories.specs.Common.{Fill as FillKind, NodeWord, Plan, Node as NodeOf, History, value, Call, IsRun, MatchTurn, begun_at, marked, node, state, ScxNo}
 use Rattle.help.specs.declared.state.HelpAt.TheVariants.{Commit as HelpCommit}
-use Rattle.template.specs.Common.{HelpRun, Done as ScxDone, ScxRun, HasFoundThere, load, IsSnapshot, LlxRun, Snap, TreeAllows, FoundBy, WalkIsTold, walk_from, IsPastRoot, Goal, Update}
+use Rattle.template.specs.Common.{HelpRun, Done as ScxDone, ScxRun, HasFoundThere, load, IsSnapshot, LlxRun, Snap, TreeAllows, FoundBy, MayGo, WalkIsTold, IsPastRoot, Goal, Update}
+use Rattle.template.specs.Walk.Places.{way_from}
 use Rattle.prims.specs.Scx.Steps.{scx_left}
 use Rattle.prims.specs.declared.scx.ScxAt.TheVariants.{Plan as AtPlan, Help}
 use Rattle.prims.proofs.Lemmas.{done_at}
@@ -27,7 +28,7 @@ use Rattle.template.specs.declared.walk.Found.{Found}
 use Rattle.template.specs.declared.walk.WalkAt.{WalkAt}
 use Rattle.template.specs.declared.walk.WalkAt.TheVariants.{Start as WalkStart, Root as WalkRoot}
 use Rattle.template.specs.declared.walk.WalkRun.{WalkRun}
-use Rattle.template.specs.declared.walk.Way.TheVariants.{InTree}
+use Rattle.template.specs.declared.walk.Way.{Way}
 use Rattle.template.proofs.Lemmas.{own_since, walk_begins}
 use Rattle.edits.specs.Edits.{EditMeaning}
 use Rattle.edits.specs.Known.{MayBeginTry, CanFill, CanLook, IsFilledUpTo, IsUntouched, Looks, Reads, UpdateAnswers, UpdateIsReady, UpdateWaits, UpdateTurn, Walks, done_at as done_with}
@@ -103,20 +104,24 @@ module _ {M E : Type 0} {o : Calls M} {e : EditMeaning E} (u : Updater o e) wher
     stays = λ old now goes. u.stays (walking m old.0) (walking m now.0) (moves m (Walk old.0) (Walk now.0) refl refl);
   }
 
+  -- it may go where it goes
+  may_walk : (lay : Layout) (way by : Way) (goal end : Goal) → way ≡ by → goal ≡ end → MayGo lay by end → MayGo lay way goal
+  may_walk lay way by goal end is_way is_goal x = subst (λ w. MayGo lay w goal) (sym is_way) (subst (MayGo lay by) (sym is_goal) x)
+
   -- an update that may begin begins its walk
-  pub walks : (ps : List SeatedPass) {A : Type 0} (m : UpdateRun E A) (goal : Goal) → goal ≡ e.goal m.edit → InTree ≡ e.way m.edit → UpdaterBegins u ps m → WalkerWaits (walker m) ps (walk_from goal) no_turns (load LoadSettled (node 0 (Settled Head)))
+  pub walks : (ps : List SeatedPass) {A : Type 0} (m : UpdateRun E A) (way : Way) (goal : Goal) → way ≡ e.way m.edit → goal ≡ e.goal m.edit → UpdaterBegins u ps m → WalkerWaits (walker m) ps (way_from way goal) no_turns (load LoadSettled (node 0 (Settled Head)))
   unfolding walker
-  walks ps m goal is_goal is_way x = record {
+  walks ps m way goal is_way is_goal x = record {
     known = x.known;
     is = x.is;
     sound = x.sound;
     so = (
-      u.turns (standing m Start) (walking m (walk_from goal)) _ None _ (moves m Start (Walk (walk_from goal)) refl refl) x.so.0 (waiting _ (u.tells (standing m Start) _ None x.so.0)),
-      goes_on (u.with_run (standing m Start)) (u.stays (standing m Start) (walking m (walk_from goal)) (moves m Start (Walk (walk_from goal)) refl refl)) x.so.1,
+      u.turns (standing m Start) (walking m (way_from way goal)) _ None _ (moves m Start (Walk (way_from way goal)) refl refl) x.so.0 (waiting _ (u.tells (standing m Start) _ None x.so.0)),
+      goes_on (u.with_run (standing m Start)) (u.stays (standing m Start) (walking m (way_from way goal)) (moves m Start (Walk (way_from way goal)) refl refl)) x.so.1,
     );
   }
     where
-      waiting : (h : History) → UpdateIsReady e (standing m Start) u.call h None → UpdateWaits e (walking m (walk_from goal)) u.call h (load LoadSettled (node 0 (Settled Head)))
+      waiting : (h : History) → UpdateIsReady e (standing m Start) u.call h None → UpdateWaits e (walking m (way_from way goal)) u.call h (load LoadSettled (node 0 (Settled Head)))
       waiting h r =
           let b = r.0 in (
             h,
@@ -124,7 +129,7 @@ module _ {M E : Type 0} {o : Calls M} {e : EditMeaning E} (u : Updater o e) wher
             inl r.2,
             (
               record { small = b.small; rests = record { share = b.rests.share; over = b.rests.over }; quiet = quiet_at_start u.call.layout u.call.pass h (idle_if_finished u.call h b.run.1.lawful b.rests.over); none_filled = none_filled_yet u.call.pass h; may = b.may; same = is_goal; same_way = is_way },
-              walk_begins InTree goal (begun_at u.call h) h b.run (rw (is_goal, is_way) b.may) (rw is_goal b.small) (ends_self h),
+              walk_begins way goal (begun_at u.call h) h b.run (may_walk u.call.layout way (e.way m.edit) goal (e.goal m.edit) is_way is_goal b.may) (rw is_goal b.small) (ends_self h),
             ),
           )
 
@@ -169,11 +174,11 @@ module _ {M E : Type 0} {o : Calls M} {e : EditMeaning E} (u : Updater o e) wher
     stops now stop (Done a) is fewer spent next x = record { known = x.known; is = x.is; sound = x.sound; so = record { old = x.so.old; got = x.so.got; was = x.so.was; goes = gone_behind x.so.old now now.tries now.tries is fewer spent x.so.tries x.so.goes; answers = next _ (u.runs _ x.sound) x.so.may; course = x.so.course } }
 
   -- after its walk it continues as its try does
-  pub finds : (ps : List SeatedPass) {A : Type 0} (m now : UpdateRun E A) (goal : Goal) (turn : LastTurns) (f : Found) (next : Result Next Stop) → goal ≡ e.goal m.edit → InTree ≡ e.way m.edit → IsSameUpdate m now → now.tries ≡ m.tries → HasSpentForNext e m.share now f next (m.tries + 1) (m.tries + 1)
+  pub finds : (ps : List SeatedPass) {A : Type 0} (m now : UpdateRun E A) (way : Way) (goal : Goal) (turn : LastTurns) (f : Found) (next : Result Next Stop) → way ≡ e.way m.edit → goal ≡ e.goal m.edit → IsSameUpdate m now → now.tries ≡ m.tries → HasSpentForNext e m.share now f next (m.tries + 1) (m.tries + 1)
       → ((b h : History) → IsRun TreeAllows u.call.layout h → IsTry u.call b h m.limit m.tries → IsUntouched u.call b m.share → MayBeginTry e m (begun_at u.call b) h → IsQuietSince u.call.layout u.call.pass b h → HasFilledNone u.call.pass h b → FoundBy (e.way m.edit) (e.goal m.edit) (begun_at u.call b) h f → UpdateGoesOn e u.call h now f next)
-      → WalkerFinds (walker m) ps goal turn f → UpdaterGoesOn u ps now f next
+      → WalkerFinds (walker m) ps way goal turn f → UpdaterGoesOn u ps now f next
   unfolding walker
-  finds ps m now goal turn f next is_goal is_way is tries spent goes x =
+  finds ps m now way goal turn f next is_way is_goal is tries spent goes x =
       goes_behind ps now f (walking m x.last) x.told next is tries spent x.so (goes y.0 _ (u.runs _ x.so.sound) y.1 y.2 record { run = w.1.run; small = w.0.small; may = w.0.may; since = own_since (begun_at u.call y.0) _ w.1.own; rests = record { share = w.0.rests.share; over = w.0.rests.over } } w.0.quiet w.0.none_filled (rw (← is_goal, ← is_way) (x.finds (begun_at u.call y.0) _ w.1)))
     where
       y : UpdateIsReady e (walking m x.last) u.call (history_of u.call.layout.mode x.so.known) (Some x.told)

@@ -1,20 +1,20 @@
 -- From place to place of a walk, of whatever machine walks.
-use Rattle.std.proofs.Common.{if◌then◌else◌, ◌≡◌, ◌≢◌, ℕ, suc, ◌+◌, ◌<◌, ◌≤◌, ◌⊎◌, Bool, true, false, cond, ltb, List, None, Some, unwrap_or, refl, sym, ◌∙◌, ap, subst, arith}
+use Rattle.std.proofs.Common.{if◌then◌else◌, ◌≡◌, ◌≢◌, ℕ, suc, ◌+◌, ◌<◌, ◌≤◌, ◌⊎◌, Bool, true, false, cond, ltb, List, None, Some, unwrap_or, refl, ap, subst, arith}
 use Rattle.arena.specs.declared.head.Head.{Head as HeadParts}
 use Rattle.histories.specs.Common.{LoadSettled, LoadChild, Step, Side, Left, Right, Settled, Child as ChildWord, Head as HeadWord, More as MoreWord, Key as KeyWord}
 use Rattle.histories.specs.Common.{Value as ValueWord, High as HighWord, Slot, First, Second, Third, Fourth, head_of, History, Call, node, first_key, slot_no}
-use Rattle.template.specs.Common.{slot_behind, wide_value, load, asked_key, path_key, WalkIsTold, WalkWaits, walk_at, IsPastRoot, walk_left, Goal}
+use Rattle.template.specs.Common.{slot_behind, wide_value, load, asked_key, path_key, WalkIsTold, WalkWaits, IsPastRoot, walk_left, Goal}
 use Rattle.order.specs.LastTurns.{last_turns}
 use Rattle.template.specs.Walk.Known.{EndsAt, asks_key, goal_slot, open_side}
 use Rattle.template.specs.Walk.Laws.{walk_told}
-use Rattle.template.specs.Walk.Places.{trail_below, LoadsHead}
+use Rattle.template.specs.Walk.Places.{way_at, way_from, trail_below, LoadsHead}
 use Rattle.template.specs.Walk.Steps.{WalkFitsAt, room}
 use Rattle.template.specs.declared.walk.Trail.{Trail}
 use Rattle.template.specs.declared.walk.WalkAt.{WalkAt}
 use Rattle.template.specs.declared.walk.WalkAt.TheVariants.{Start, Root, Head, Key, Child, More, Pair, Value, High}
 use Rattle.template.specs.declared.walk.WalkRun.{WalkRun}
-use Rattle.template.specs.declared.walk.Way.TheVariants.{InTree, Within}
-use Rattle.template.proofs.Lemmas.{head_to_key, head_to_more, head_ends, head_to_child, key_to_child, more_to_pair, pair_to_value, pair_to_pair, pair_ends, value_to_high, high_ends, child_to_head}
+use Rattle.template.specs.declared.walk.Way.{Way}
+use Rattle.template.proofs.Lemmas.{head_to_key, head_to_more, head_ends, head_to_child, key_ends, key_to_child, more_to_pair, pair_to_value, pair_to_pair, pair_ends, value_to_high, high_ends, child_to_head}
 use Rattle.order.specs.declared.last_turns.LastTurns.{LastTurns}
 use Rattle.forest.specs.declared.view.SeatedPass.{SeatedPass}
 use Rattle.forest.specs.StraightWalk.{GoesAs, Walker, WalkerWaits, WalkerIsTold, WalkerGoesDown, WalkerFinds}
@@ -24,55 +24,58 @@ use Rattle.forest.proofs.Inside.{goes_to}
 use Rattle.forest.proofs.Advances.{few_taken}
 
 module _ {M : Type 0} {o : Calls M} (w : Walker o) (ps : List SeatedPass) where
-  -- in a tree it ends at no fork
-  goes_on : (m : WalkRun) (key : ℕ) → m.way ≡ InTree → EndsAt m key false
-  goes_on m key way = record { within = λ ends. absurd cc; outside = λ ends. absurd cc; inside = λ ends within. absurd (let x : InTree ≡ Within = sym way ∙ within in cc) }
-
   -- an edge takes it from place to place
   goes : (m now : WalkRun) (turn : LastTurns) (v : ℕ) (s : Step) → IsPastRoot now.at → GoesAs m now → ((d : Call) (h : History) → WalkIsTold m d h v → WalkWaits now d h s) → WalkerIsTold w ps m turn v → WalkerWaits w ps now (last_turns now.at now.trail.node turn) s
   goes m now turn v s past goal edge = goes_to w ps (m, turn) (now, last_turns now.at now.trail.node turn) v s (past, goal, refl) edge
 
-  module _ (goal : Goal) (t : Trail) (turn : LastTurns) where
+  module _ (way : Way) (goal : Goal) (t : Trail) (turn : LastTurns) where
+    -- where it ends does not depend on its place
+    ends_there : (head : HeadParts) (low : ℕ) (ends : Bool) → EndsAt (way_from way goal) low ends → EndsAt (way_at way goal t (Key head)) low ends
+    ends_there head low ends x = record { within = x.within; outside = x.outside; inside = x.inside }
+
     module _ (p : WalkAt) (v : ℕ) (head : HeadParts) (at : LoadsHead p) (is : head_of v ≡ head) where
-      pub to_key : head.leaf ≡ false → asks_key goal head ≡ true → WalkerIsTold w ps (walk_at goal t p) turn v → WalkerWaits w ps (walk_at goal t (Key head)) turn (load LoadSettled (node t.node.0 first_key))
-      to_key fork asks = goes (walk_at goal t p) (walk_at goal t (Key head)) turn v _ tt (refl, refl) (λ d h x. head_to_key InTree goal t d h p v head at is x fork asks)
+      pub to_key : head.leaf ≡ false → asks_key goal head ≡ true → WalkerIsTold w ps (way_at way goal t p) turn v → WalkerWaits w ps (way_at way goal t (Key head)) turn (load LoadSettled (node t.node.0 first_key))
+      to_key fork asks = goes (way_at way goal t p) (way_at way goal t (Key head)) turn v _ tt (refl, refl) (λ d h x. head_to_key way goal t d h p v head at is x fork asks)
 
-      pub to_open : head.leaf ≡ false → asks_key goal head ≡ false → WalkerIsTold w ps (walk_at goal t p) turn v → WalkerWaits w ps (walk_at goal t (Child head.level (open_side goal head))) (last_turns (Child head.level (open_side goal head)) t.node turn) (load LoadChild (node t.node.0 (ChildWord (open_side goal head))))
-      to_open fork asks = goes (walk_at goal t p) (walk_at goal t (Child head.level (open_side goal head))) turn v _ tt (refl, refl) (λ d h x. head_to_child InTree goal t d h p v head at is x fork asks)
+      pub to_open : head.leaf ≡ false → asks_key goal head ≡ false → WalkerIsTold w ps (way_at way goal t p) turn v → WalkerWaits w ps (way_at way goal t (Child head.level (open_side goal head))) (last_turns (Child head.level (open_side goal head)) t.node turn) (load LoadChild (node t.node.0 (ChildWord (open_side goal head))))
+      to_open fork asks = goes (way_at way goal t p) (way_at way goal t (Child head.level (open_side goal head))) turn v _ tt (refl, refl) (λ d h x. head_to_child way goal t d h p v head at is x fork asks)
 
-      pub to_known : (side : Side) → head.leaf ≡ false → asks_key goal head ≡ false → open_side goal head ≡ side → WalkerIsTold w ps (walk_at goal t p) turn v → WalkerGoesDown w ps goal t head.level side turn
-      to_known side fork asks is x = subst (λ s. WalkerGoesDown w ps goal t head.level s turn) is (to_open fork asks x)
+      pub to_known : (side : Side) → head.leaf ≡ false → asks_key goal head ≡ false → open_side goal head ≡ side → WalkerIsTold w ps (way_at way goal t p) turn v → WalkerGoesDown w ps way goal t head.level side turn
+      to_known side fork asks is x = subst (λ s. WalkerGoesDown w ps way goal t head.level s turn) is (to_open fork asks x)
 
-      pub to_more : head.leaf ≡ true → head.class ≡ 0 → WalkerIsTold w ps (walk_at goal t p) turn v → WalkerWaits w ps (walk_at goal t (More head)) turn (load LoadSettled (node t.node.0 (Settled MoreWord)))
-      to_more leaf low = goes (walk_at goal t p) (walk_at goal t (More head)) turn v _ tt (refl, refl) (λ d h x. head_to_more InTree goal t d h p v head at is x leaf low)
+      pub to_more : head.leaf ≡ true → head.class ≡ 0 → WalkerIsTold w ps (way_at way goal t p) turn v → WalkerWaits w ps (way_at way goal t (More head)) turn (load LoadSettled (node t.node.0 (Settled MoreWord)))
+      to_more leaf low = goes (way_at way goal t p) (way_at way goal t (More head)) turn v _ tt (refl, refl) (λ d h x. head_to_more way goal t d h p v head at is x leaf low)
 
-      pub finds_none : head.leaf ≡ true → head.class ≢ 0 → WalkerIsTold w ps (walk_at goal t p) turn v → WalkerFinds w ps goal turn record { trail = t; head = head; more = 0; key = asked_key goal 0; value = None }
-      finds_none leaf high x = record { last = walk_at goal t p; is_goal = refl; is_way = refl; told = v; finds = λ d h y. head_ends InTree goal t d h p v head at is y leaf high; so = x }
+      pub finds_none : head.leaf ≡ true → head.class ≢ 0 → WalkerIsTold w ps (way_at way goal t p) turn v → WalkerFinds w ps way goal turn record { trail = t; head = head; more = 0; key = asked_key goal 0; value = None }
+      finds_none leaf high x = record { last = way_at way goal t p; is_goal = refl; is_way = refl; told = v; finds = λ d h y. head_ends way goal t d h p v head at is y leaf high; so = x }
 
-    pub to_side : (head : HeadParts) (low : ℕ) (side : Side) → side ≡ cond (ltb (path_key goal) low) Left Right → WalkerIsTold w ps (walk_at goal t (Key head)) turn low → WalkerWaits w ps (walk_at goal t (Child head.level side)) (last_turns (Child head.level side) t.node turn) (load LoadChild (node t.node.0 (ChildWord side)))
-    to_side head low side is = goes (walk_at goal t (Key head)) (walk_at goal t (Child head.level side)) turn low _ tt (refl, refl) (λ d h x. key_to_child InTree goal t d h head low side x (goes_on (walk_at goal t (Key head)) low refl) is)
+    pub to_side : (head : HeadParts) (low : ℕ) (side : Side) → EndsAt (way_from way goal) low false → side ≡ cond (ltb (path_key goal) low) Left Right → WalkerIsTold w ps (way_at way goal t (Key head)) turn low → WalkerWaits w ps (way_at way goal t (Child head.level side)) (last_turns (Child head.level side) t.node turn) (load LoadChild (node t.node.0 (ChildWord side)))
+    to_side head low side goes_on is = goes (way_at way goal t (Key head)) (way_at way goal t (Child head.level side)) turn low _ tt (refl, refl) (λ d h x. key_to_child way goal t d h head low side x (ends_there head low false goes_on) is)
 
-    pub to_first : (head : HeadParts) (more : ℕ) → WalkerIsTold w ps (walk_at goal t (More head)) turn more → WalkerWaits w ps (walk_at goal t (Pair head more (goal_slot goal more))) turn (load LoadSettled (node t.node.0 (Settled (KeyWord (goal_slot goal more)))))
-    to_first head more = goes (walk_at goal t (More head)) (walk_at goal t (Pair head more (goal_slot goal more))) turn more _ tt (refl, refl) (λ d h x. more_to_pair InTree goal t d h head more x)
+    pub finds_fork : (head : HeadParts) (low : ℕ) → EndsAt (way_from way goal) low true → WalkerIsTold w ps (way_at way goal t (Key head)) turn low → WalkerFinds w ps way goal turn record { trail = t; head = head; more = 0; key = low; value = None }
+    finds_fork head low ends x = record { last = way_at way goal t (Key head); is_goal = refl; is_way = refl; told = low; finds = λ d h y. key_ends way goal t d h head low y (ends_there head low true ends); so = x }
+
+    pub to_first : (head : HeadParts) (more : ℕ) → WalkerIsTold w ps (way_at way goal t (More head)) turn more → WalkerWaits w ps (way_at way goal t (Pair head more (goal_slot goal more))) turn (load LoadSettled (node t.node.0 (Settled (KeyWord (goal_slot goal more)))))
+    to_first head more = goes (way_at way goal t (More head)) (way_at way goal t (Pair head more (goal_slot goal more))) turn more _ tt (refl, refl) (λ d h x. more_to_pair way goal t d h head more x)
 
     module _ (head : HeadParts) (more : ℕ) (slot : Slot) (key : ℕ) where
-      pub to_next : asked_key goal key ≢ key → (next : Slot) → slot_behind more slot ≡ Some next → WalkerIsTold w ps (walk_at goal t (Pair head more slot)) turn key → WalkerWaits w ps (walk_at goal t (Pair head more next)) turn (load LoadSettled (node t.node.0 (Settled (KeyWord next))))
-      to_next other next behind = goes (walk_at goal t (Pair head more slot)) (walk_at goal t (Pair head more next)) turn key _ tt (refl, refl) (λ d h x. pair_to_pair InTree goal t d h head more slot key x other next behind)
+      pub to_next : asked_key goal key ≢ key → (next : Slot) → slot_behind more slot ≡ Some next → WalkerIsTold w ps (way_at way goal t (Pair head more slot)) turn key → WalkerWaits w ps (way_at way goal t (Pair head more next)) turn (load LoadSettled (node t.node.0 (Settled (KeyWord next))))
+      to_next other next behind = goes (way_at way goal t (Pair head more slot)) (way_at way goal t (Pair head more next)) turn key _ tt (refl, refl) (λ d h x. pair_to_pair way goal t d h head more slot key x other next behind)
 
-      pub finds_other : asked_key goal key ≢ key → (slot_behind more slot ≡ None) ⊎ (asked_key goal key < key) → WalkerIsTold w ps (walk_at goal t (Pair head more slot)) turn key → WalkerFinds w ps goal turn record { trail = t; head = head; more = more; key = asked_key goal key; value = None }
-      finds_other other none x = record { last = walk_at goal t (Pair head more slot); is_goal = refl; is_way = refl; told = key; finds = λ d h y. pair_ends InTree goal t d h head more slot key y other none; so = x }
+      pub finds_other : asked_key goal key ≢ key → (slot_behind more slot ≡ None) ⊎ (asked_key goal key < key) → WalkerIsTold w ps (way_at way goal t (Pair head more slot)) turn key → WalkerFinds w ps way goal turn record { trail = t; head = head; more = more; key = asked_key goal key; value = None }
+      finds_other other none x = record { last = way_at way goal t (Pair head more slot); is_goal = refl; is_way = refl; told = key; finds = λ d h y. pair_ends way goal t d h head more slot key y other none; so = x }
 
-      pub to_value : asked_key goal key ≡ key → WalkerIsTold w ps (walk_at goal t (Pair head more slot)) turn key → WalkerWaits w ps (walk_at goal t (Value head more slot key)) turn (load LoadSettled (node t.node.0 (Settled (ValueWord slot))))
-      to_value same = goes (walk_at goal t (Pair head more slot)) (walk_at goal t (Value head more slot key)) turn key _ tt (refl, refl) (λ d h x. pair_to_value InTree goal t d h head more slot key x same)
+      pub to_value : asked_key goal key ≡ key → WalkerIsTold w ps (way_at way goal t (Pair head more slot)) turn key → WalkerWaits w ps (way_at way goal t (Value head more slot key)) turn (load LoadSettled (node t.node.0 (Settled (ValueWord slot))))
+      to_value same = goes (way_at way goal t (Pair head more slot)) (way_at way goal t (Value head more slot key)) turn key _ tt (refl, refl) (λ d h x. pair_to_value way goal t d h head more slot key x same)
 
-      pub to_high : (low : ℕ) → WalkerIsTold w ps (walk_at goal t (Value head more slot key)) turn low → WalkerWaits w ps (walk_at goal t (High head more slot key low)) turn (load LoadSettled (node t.node.0 (Settled (HighWord slot))))
-      to_high low = goes (walk_at goal t (Value head more slot key)) (walk_at goal t (High head more slot key low)) turn low _ tt (refl, refl) (λ d h x. value_to_high InTree goal t d h head more slot key low x)
+      pub to_high : (low : ℕ) → WalkerIsTold w ps (way_at way goal t (Value head more slot key)) turn low → WalkerWaits w ps (way_at way goal t (High head more slot key low)) turn (load LoadSettled (node t.node.0 (Settled (HighWord slot))))
+      to_high low = goes (way_at way goal t (Value head more slot key)) (way_at way goal t (High head more slot key low)) turn low _ tt (refl, refl) (λ d h x. value_to_high way goal t d h head more slot key low x)
 
-      pub finds_value : (low high : ℕ) → WalkerIsTold w ps (walk_at goal t (High head more slot key low)) turn high → WalkerFinds w ps goal turn record { trail = t; head = head; more = more; key = key; value = Some (wide_value low high) }
-      finds_value low high x = record { last = walk_at goal t (High head more slot key low); is_goal = refl; is_way = refl; told = high; finds = λ d h y. high_ends InTree goal t d h head more slot key low high y; so = x }
+      pub finds_value : (low high : ℕ) → WalkerIsTold w ps (way_at way goal t (High head more slot key low)) turn high → WalkerFinds w ps way goal turn record { trail = t; head = head; more = more; key = key; value = Some (wide_value low high) }
+      finds_value low high x = record { last = way_at way goal t (High head more slot key low); is_goal = refl; is_way = refl; told = high; finds = λ d h y. high_ends way goal t d h head more slot key low high y; so = x }
 
-    pub to_head : (level : ℕ) (side : Side) (n : ℕ) → WalkerIsTold w ps (walk_at goal t (Child level side)) turn n → WalkerWaits w ps (walk_at goal (trail_below t side n) (Head level)) turn (load LoadSettled (node n (Settled HeadWord)))
-    to_head level side n = goes (walk_at goal t (Child level side)) (walk_at goal (trail_below t side n) (Head level)) turn n _ tt (refl, refl) (λ d h x. child_to_head InTree goal t d h level side n x)
+    pub to_head : (level : ℕ) (side : Side) (n : ℕ) → WalkerIsTold w ps (way_at way goal t (Child level side)) turn n → WalkerWaits w ps (way_at way goal (trail_below t side n) (Head level)) turn (load LoadSettled (node n (Settled HeadWord)))
+    to_head level side n = goes (way_at way goal t (Child level side)) (way_at way goal (trail_below t side n) (Head level)) turn n _ tt (refl, refl) (λ d h x. child_to_head way goal t d h level side n x)
 
   -- what it gets leads it no deeper than the taken nodes allow
   pub fits : (m : WalkRun) (turn : LastTurns) (v : ℕ) → WalkerIsTold w ps m turn v → WalkFitsAt m.at v (room m.way (shared_nodes o.layout))

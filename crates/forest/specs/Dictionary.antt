@@ -151,7 +151,7 @@ update_reply told (Err (updates.Contended node scx)) = Contended node scx
 update_reply told (Err (updates.Full full)) = Full full
 
 -- and that of an ordered read
-abbrev pub read_reply : {A K V : Type 0} → (A → Reply K V) → Result A OrderFault → Reply K V
-read_reply told (Ok answer) = told answer
-read_reply told (Err (reads.Contended node scx)) = Contended node scx
-read_reply told (Err reads.NoMemory) = NoMemory
+abbrev pub order_reply : {A K V : Type 0} → (A → Reply K V) → Result A OrderFault → Reply K V
+order_reply told (Ok answer) = told answer
+order_reply told (Err (reads.Contended node scx)) = Contended node scx
+order_reply told (Err reads.NoMemory) = NoMemory

@@ -1,13 +1,14 @@
 -- Calls that are at a place of a walk, of whatever machine that walks.
 use Rattle.std.specs.Prelude.{◌≡◌, ℕ, List}
 use Rattle.histories.specs.Common.{Step, History, Call, LoadChild, LoadSettled, Settled, Head as HeadWord, Side, child, node}
-use Rattle.template.specs.Common.{load, HasFoundGoal, WalkIsTold, WalkWaits, IsPastRoot, walk_at, walk_from, Goal}
+use Rattle.template.specs.Common.{load, FoundBy, WalkIsTold, WalkWaits, IsPastRoot, Goal}
+use Rattle.template.specs.Walk.Places.{way_at, way_from}
 use Rattle.order.specs.LastTurns.{last_turns, no_turns}
 use Rattle.template.specs.declared.walk.Found.{Found}
 use Rattle.template.specs.declared.walk.Trail.{Trail}
 use Rattle.template.specs.declared.walk.WalkAt.TheVariants.{Child}
 use Rattle.template.specs.declared.walk.WalkRun.{WalkRun}
-use Rattle.template.specs.declared.walk.Way.TheVariants.{InTree}
+use Rattle.template.specs.declared.walk.Way.{Way}
 use Rattle.order.specs.declared.last_turns.LastTurns.{LastTurns}
 use Rattle.forest.specs.declared.view.SeatedPass.{SeatedPass}
 use Rattle.forest.specs.CallKinds.{Calls}
@@ -40,21 +41,21 @@ module _ {M : Type 0} {o : Calls M} (w : Walker o) (ps : List SeatedPass) where
   abbrev pub WalkerIsTold : WalkRun → LastTurns → ℕ → Type 0
   WalkerIsTold m turn v = InnerIsTold w ps (m, turn) v
 
-  -- its walk to this goal waits for the child on this side of the node that its trail has reached,
+  -- its walk by this way to this goal waits for the child on this side of the node that its trail has reached,
   -- whose head is of this level; it had turned last at these forks before that
-  abbrev pub WalkerGoesDown : Goal → Trail → ℕ → Side → LastTurns → Type 0
-  WalkerGoesDown goal trail level side turn = WalkerWaits (walk_at goal trail (Child level side)) (last_turns (Child level side) trail.node turn) (load LoadChild (child trail.node.0 side))
+  abbrev pub WalkerGoesDown : Way → Goal → Trail → ℕ → Side → LastTurns → Type 0
+  WalkerGoesDown way goal trail level side turn = WalkerWaits (way_at way goal trail (Child level side)) (last_turns (Child level side) trail.node turn) (load LoadChild (child trail.node.0 side))
 
-  -- its walk to this goal waits for the head of the root, with which it begins
-  abbrev pub WalksFromRoot : Goal → Type 0
-  WalksFromRoot goal = WalkerWaits (walk_from goal) no_turns (load LoadSettled (node 0 (Settled HeadWord)))
+  -- its walk by this way to this goal waits for the head of the root, with which it begins
+  abbrev pub WalksFromRoot : Way → Goal → Type 0
+  WalksFromRoot way goal = WalkerWaits (way_from way goal) no_turns (load LoadSettled (node 0 (Settled HeadWord)))
 
-  -- the last step of its walk to a goal has found what makes this leaf the one that it has found,
+  -- the last step of its walk by a way to a goal has found what makes this the one that it has found,
   -- and these forks are the last where it has turned
-  pub record WalkerFinds (goal : Goal) (turn : LastTurns) (f : Found) : Type 0 where
+  pub record WalkerFinds (way : Way) (goal : Goal) (turn : LastTurns) (f : Found) : Type 0 where
     pub last : WalkRun
     pub is_goal : last.goal ≡ goal
-    pub is_way : last.way ≡ InTree
+    pub is_way : last.way ≡ way
     pub told : ℕ
-    pub finds : (d : Call) (h : History) → WalkIsTold last d h told → HasFoundGoal goal d h f
+    pub finds : (d : Call) (h : History) → WalkIsTold last d h told → FoundBy way goal d h f
     pub so : WalkerIsTold last turn told

@@ -10,7 +10,7 @@ ghost use Rattle.ordered_map.specs.Requests.{AsksForFew, as_map_call};
 ghost use Rattle.dict.specs.Says.{KeepsLists};
 ghost use Rattle.dict.specs.Typed.{IsTypedCall};
 ghost use Rattle.dict.specs.Words.{IsWordOf};
-ghost use Rattle.forest.specs.Dictionary.{HasCalled, read_reply, update_reply};
+ghost use Rattle.forest.specs.Dictionary.{HasCalled, order_reply, update_reply};
 ghost use Rattle.forest.specs.Passes.{IsOf, AreNew};
 
 use crate::fault::{NewFault, OrderFault, UpdateFault};
@@ -22,7 +22,7 @@ use arena::{Limits, Mode, NoMemory, Share};
 use dict::{Dict, DictRun, Reply, Request, WordKey, WordValue, number_of, value_of};
 use std::alloc::Global;
 use std::mem::replace;
-use template::Goal;
+use template::{Goal, Way};
 use tree::{
     AtGreatest, AtKey, AtLeast, EditGoal, EditRule, KeyEdit, PutNewRule, PutRule, SwapRule,
     TakeIfRule, TakeRule,
@@ -70,7 +70,7 @@ fn told_neighbour<K: WordKey, V: WordValue>(
     reply: Reply<K, V>,
 ) -> Result<Option<(K, V)>, OrderFault>
     requires form { IsFormOfNeighbour (form_of reply) }
-    ensures { reply ≡ read_reply Reply.Pair result }
+    ensures { reply ≡ order_reply Reply.Pair result }
 {
     match reply {
         Reply::Pair(pair) => Ok(pair),
@@ -233,7 +233,7 @@ impl<K: WordKey, V: WordValue> Forest<Dict<K, V>> {
         };
         let seat = &mut pass.seat;
         let goal = Goal::Key(key.word());
-        let found = walk::call::<Dict<K, V>, DictRun<K, V>>(hand, seat, goal).0;
+        let found = walk::call::<Dict<K, V>, DictRun<K, V>>(hand, seat, Way::InTree, goal).0;
         value_of(found.value)
     }
 
@@ -247,7 +247,7 @@ impl<K: WordKey, V: WordValue> Forest<Dict<K, V>> {
     ) -> Result<Option<(K, V)>, OrderFault>
         requires pass { IsOf self.now pass.old }
         ensures { HasCalled K.is_valid K.word_of V.is_valid V.word_of self.now
-            pass.old pass.new (call_successor (K.word_of key.now)) (read_reply Reply.Pair result) }
+            pass.old pass.new (call_successor (K.word_of key.now)) (order_reply Reply.Pair result) }
     {
         told_neighbour(self.read(alloc, pass, Request::Successor { key: *key }))
     }
@@ -262,7 +262,7 @@ impl<K: WordKey, V: WordValue> Forest<Dict<K, V>> {
     ) -> Result<Option<(K, V)>, OrderFault>
         requires pass { IsOf self.now pass.old }
         ensures { HasCalled K.is_valid K.word_of V.is_valid V.word_of self.now
-            pass.old pass.new (call_predecessor (K.word_of key.now)) (read_reply Reply.Pair result) }
+            pass.old pass.new (call_predecessor (K.word_of key.now)) (order_reply Reply.Pair result) }
     {
         told_neighbour(self.read(alloc, pass, Request::Predecessor { key: *key }))
     }
@@ -282,7 +282,7 @@ impl<K: WordKey, V: WordValue> Forest<Dict<K, V>> {
         requires few { most ≤ 64 }
         ensures { HasCalled K.is_valid K.word_of V.is_valid V.word_of self.now
             pass.old pass.new (Range (K.word_of low.now) (K.word_of high.now) most)
-            (read_reply Reply.Pairs result) }
+            (order_reply Reply.Pairs result) }
     {
         let (low, high, most) = (*low, *high, most as u32);
         match self.read(alloc, pass, Request::Range { low, high, most }) {

@@ -9,5 +9,6 @@ mod Falls
 mod Keys
 mod Turns
 mod Readings
+mod Depths
 mod Spelled
 pub mod Lemmas

@@ -16,6 +16,7 @@ use Rattle.record.specs.declared.record.TurnRow.TheVariants.{Step as Made, Idle}
 use Rattle.record.specs.declared.record.Entry.{Entry}
 use Rattle.record.specs.MapRecord.{after_maybe}
 use Rattle.record.proofs.Lemmas.{AreMapCalls}
+use Rattle.linearization.proofs.Depths.{trie_low}
 
 -- a step that owes no entry leaves the log
 no_entry : (lay : Layout) (lines : List Line) (n : ℕ) (row : StepRow) → Lawful lay (row ⊳ history lay.mode lines) → entry_of lay lines n row ≡ None → log lay (row ⊳ history lay.mode lines) ≡ log lay (history lay.mode lines)
@@ -76,7 +77,7 @@ module _ (lay : Layout) (tries : ℕ) (calls : List Call) (mode : IsMap lay.mode
   spelled (Log e ∷ []) a g owed = absurd a.1
 
   spelled_after : (lines : List Line) → AreLines lay tries calls lines → IsMapRun lay (history lay.mode lines) → AreFilledInOrder (history lay.mode lines) → entry_owed lay lines ≡ None → IsSpelledAfter lay calls lines
-  spelled_after lines a g order owed = record { spelled = spelled lines a g owed; rising = rising_levels lay (history lay.mode lines) g order }
+  spelled_after lines a g order owed = record { spelled = spelled lines a g owed; rising = rising_levels lay (history lay.mode lines) g order; low = trie_low lay (history lay.mode lines) g }
 
   -- so they do after each step, where nodes are filled in order
   pub are_spelled : (lines : List Line) → AreLines lay tries calls lines → IsMapRun lay (history lay.mode lines) → AreFilledInOrder (history lay.mode lines) → AreSpelled lay calls lines

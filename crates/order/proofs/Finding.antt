@@ -4,8 +4,9 @@ use native.Mathlib.Decide.{ℕ_discrete}
 use Rattle.arena.specs.declared.head.Head.{Head as HeadParts}
 use Rattle.histories.specs.Common.{NodeNo, Settled, More as MoreWord, Key as KeyWord, Side, child, marked, History, value, Extends, Call}
 use Rattle.arena.specs.declared.word.Side.TheVariants as sides
-use Rattle.template.specs.Common.{Snap, Pair as MapPair, neighbour, pair_or_none, IsOnPath, IsTreeRun, class, is_leaf, level, opposite, rank, toward, IsOwnMoment}
-use Rattle.ordered_map.proofs.Lemmas.{or_else, pair_stays, stood_settled, SameSettled, settled_class, settled_leaf, settled_toward}
+use Rattle.template.specs.Common.{Snap, Pair as MapPair, neighbour, pair_or_none, IsOnPath, IsMapRun, class, is_leaf, level, opposite, rank, toward, IsOwnMoment}
+use Rattle.ordered_map.proofs.Lemmas.{or_else, pair_stays, SameSettled, settled_class, settled_leaf, settled_toward}
+use Rattle.ordered_map.proofs.MapLemmas.{stood_settled}
 use Rattle.order.specs.Found.{AreThere, GoesTo, IsAtLowFork, IsReading, IsThere, Looks, Stands, StandsIn, TakesPair, WalksTo, head_at, key_at, more_at, pairs_behind, place_key, place_pair, place_value}
 use Rattle.order.specs.Laws.Search.{Finds, FindsNone, IsAnswer, IsBeside, IsSearched, IsSearchedIn}
 use Rattle.order.specs.Loads.{first_in_leaf, place_behind}
@@ -139,7 +140,7 @@ asks_not head e z = let y : true ≡ false = sym (eq-eqb head.class 0 z) ∙ e i
 -- At a node
 
 module _ (r : Neighbour) (snaps : List Snap) (c : Call) (h : History) (n : NodeNo) (reading : IsReading neighbour_means r snaps c h) (x : Stands neighbour_means r snaps c h n.0) where
-  same_then : (b : History) → IsTreeRun c.layout b → Extends b h → SameSettled (value h) (value b) n.0
+  same_then : (b : History) → IsMapRun c.layout b → Extends b h → SameSettled (value h) (value b) n.0
   same_then b run e = stood_settled c.layout b h n.0 run e x.stood.stood
 
   -- a fork
@@ -199,7 +200,7 @@ module _ (r : Neighbour) (snaps : List Snap) (c : Call) (h : History) (n : NodeN
       starts_at : (p : LeafPlace) → p.node ≡ n → Whenever c.layout h snaps (λ b. IsInLeaf r.side r.route b r.key p) → StandsIn neighbour_means r snaps c h p
       starts_at p is here = record { stood = subst (λ (m : NodeNo). HasStood c h m.0) (sym is) x.stood; asks = tt; some = some_taken neighbour_means r snaps c h reading n.0 x leaf; waits = x.waits; here = here }
 
-      in_leaf : (b : History) → IsTreeRun c.layout b → Extends b h → (side : Side) (route : Route) → IsOnRoute side route b r.key n.0 → IsInLeaf side route b r.key (record { node = n; more = more_at h n.0; slot = start_slot side route (more_at h n.0) })
+      in_leaf : (b : History) → IsMapRun c.layout b → Extends b h → (side : Side) (route : Route) → IsOnRoute side route b r.key n.0 → IsInLeaf side route b r.key (record { node = n; more = more_at h n.0; slot = start_slot side route (more_at h n.0) })
       in_leaf b run e side route y = go route y
         where
           same : SameSettled (value h) (value b) n.0
@@ -283,7 +284,7 @@ leaves_high r snaps c h n reading x leaf own high = leaves_to (record r { route 
 -- At the key of a pair
 
 module _ (r : Neighbour) (snaps : List Snap) (c : Call) (h : History) (p : LeafPlace) (key : ℕ) (reading : IsReading neighbour_means r snaps c h) (x : StandsIn neighbour_means r snaps c h p) (key_is : place_key h p ≡ key) where
-  key_then : (b : History) → IsTreeRun c.layout b → Extends b h → place_key b p ≡ key
+  key_then : (b : History) → IsMapRun c.layout b → Extends b h → place_key b p ≡ key
   key_then b run e = stood_settled c.layout b h p.node.0 run e x.stood.stood (Settled (KeyWord p.slot)) tt ∙ key_is
 
   -- it is the answer

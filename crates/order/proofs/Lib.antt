@@ -4,6 +4,7 @@ mod Searching
 mod Blaming
 mod Snapping
 mod Looking
+mod Turning
 mod Turns
 mod Nearer
 mod Undisturbed

@@ -1,18 +1,18 @@
 -- What an ordered read knows one place further, whichever it is.
 use Rattle.std.proofs.Common.{◌≡◌, ℕ, ◌^◌, ◌<◌, true, false, List, [], ◌∷◌, ◌++◌, length, inl, inr, ⊎_elim, refl, sym, ◌∙◌, subst, arith, lt-ltb, ne_eqb, None}
 use native.Mathlib.Decide.{ℕ_discrete}
-use Rattle.histories.specs.Common.{NodeNo, Settled, Head as HeadWord, Side, Left, Right, node, History, value, Call, begun_at}
+use Rattle.histories.specs.Common.{NodeNo, Settled, Head as HeadWord, Side, Left, Right, node, History, value, Extends, Call, begun_at}
 use Rattle.arena.proofs.Lemmas.{ends_self, ends_trans}
 use Rattle.prims.specs.Laws.Idle.{quiet_at_start, idle_if_finished}
-use Rattle.template.specs.Common.{IsSnapshot, LlxIsReady, child_of, LlxRun, Snap, Pair, MapReply, Passed, WasInTree, IsTreeRun}
-use Rattle.template.specs.Common.{Spells, TreeAllows, is_leaf, level, rank, HasFoundGoal, HasFoundLeaf, Key as ToKey}
+use Rattle.template.specs.Common.{IsSnapshot, LlxIsReady, child_of, LlxRun, Snap, Pair, MapReply, Passed, WasInTree, IsMapRun}
+use Rattle.template.specs.Common.{Spells, TreeAllows, class, is_leaf, level, rank, HasWalked, HasFoundGoal, HasFoundLeaf, Key as ToKey}
 use Rattle.prims.specs.Llx.Known.{LlxKnows}
 use Rattle.prims.specs.Vlx.Known.{IsSame}
 use Rattle.prims.specs.declared.llx.LlxAt.TheVariants.{Start as LlxStart}
-use Rattle.ordered_map.proofs.Lemmas.{passed_unmarked, path_not_final, root_head, run_since, run_spells, stood_settled, walk_first, was_passed, settled_leaf, settled_toward}
+use Rattle.ordered_map.proofs.Lemmas.{was_passed, same_stays, settled_leaf, settled_toward}
+use Rattle.ordered_map.proofs.MapLemmas.{passed_unmarked, path_not_final, root_head, run_since, run_spells, stood_settled, walk_first}
 use Rattle.template.specs.declared.walk.Found.{Found}
-use Rattle.ordered_map.proofs.MapLemmas.{tree_run}
-use Rattle.template.proofs.Lemmas.{in_tree, own_since, opened_if_stood}
+use Rattle.template.proofs.Lemmas.{own_since, opened_if_stood}
 use Rattle.order.specs.Found.{GoesTo, IsReading, IsThere, Looks, Stands, WalksTo}
 use Rattle.order.specs.Known.{AreLastTurns, LastTurned, IsLastTurn, Validates}
 use Rattle.order.specs.Meaning.{ReadMeaning}
@@ -27,22 +27,39 @@ use Rattle.order.proofs.Snapping.{hold_before, some_more, reads_one_more, child_
 -- The fork where the search begins
 
 -- the root is a fork of class 2
-root_turned : (c : Call) (h : History) (k : ℕ) (f : Found) → IsTreeRun c.layout h → k < 2 ^ 64 → HasFoundLeaf c h k f → LastTurned c h k Left 0
-root_turned c h k f run small a = record { passed = record { first = a.trail.node.first; own = a.trail.node.own; passed = inl there }; fork = rw head refl; turn = rw (lt-ltb k (rank (value h) 0) high) refl }
+root_turned : (c : Call) (h : History) (k : ℕ) (f : Found) → IsMapRun c.layout h → k < 2 ^ 64 → HasFoundLeaf c h k f → LastTurned c h k Left 0
+root_turned c h k f run small a = record {
+  sure = record { on = record { first = first; own = a.trail.node.own; passed = there a.trail.node.passed }; stays = inr (fork, λ low. absurd (let two = class_is in omega (arith, two, low))) };
+  fork = fork;
+  turn = rw (lt-ltb k (rank (value h) 0) high) refl;
+}
   where
+    first : History
+    first = a.trail.node.first
+
     head : value h (node 0 (Settled HeadWord)) ≡ 2
     head = root_head c.layout h run
+
+    fork : is_leaf (value h) 0 ≡ false
+    fork = rw head refl
+
+    class_is : class (value h) 0 ≡ 2
+    class_is = rw head refl
 
     high : k < rank (value h) 0
     high = let e = head in omega (arith, small, e)
 
-    there : Passed h a.trail.node.first k 0
-    there =
-        let p = in_tree c.layout h a.trail.node.first k f.trail.node.0 run.0 a.trail.node.passed in
-        let x : Passed p.0 p.0 k 0 = walk_first c.layout p.0 k (run_since c.layout h p.0 run p.1) in
-        (x.0, ends_trans h p.0 x.0 p.1 x.1, ends_trans x.0 p.0 a.trail.node.first x.2 p.2, x.3)
+    at : (m : History) → Extends h m → Extends m first → Passed h first k 0
+    at m within since =
+        let x : Passed m m k 0 = walk_first c.layout m k (run_since c.layout h m run within) in
+        (x.0, ends_trans h m x.0 within x.1, ends_trans x.0 m first x.2 since, x.3)
 
-last_turned : (c : Call) (h : History) (k n : ℕ) (side : Side) (f : Found) → IsTreeRun c.layout h → k < 2 ^ 64 → HasFoundLeaf c h k f → IsLastTurn c h k side n → LastTurned c h k (turned_at side n) n
+    -- at the moment at which the leaf was on the path, or the map had no such key
+    there : HasWalked c.layout h first k f.trail.node.0 → Passed h first k 0
+    there (inl p) = at p.0 p.1 p.2
+    there (inr s) = at s.absent.moment s.absent.within s.absent.since
+
+last_turned : (c : Call) (h : History) (k n : ℕ) (side : Side) (f : Found) → IsMapRun c.layout h → k < 2 ^ 64 → HasFoundLeaf c h k f → IsLastTurn c h k side n → LastTurned c h k (turned_at side n) n
 last_turned c h k n Left f run small a (inl e) = rw e (root_turned c h k f run small a)
 last_turned c h k n Left f run small a (inr x) = x
 last_turned c h k n Right f run small a last = go (ℕ_discrete n 0) last
@@ -55,7 +72,7 @@ last_turned c h k n Right f run small a last = go (ℕ_discrete n 0) last
 -- an LLX may begin at a node that has been in the tree
 pub look_ready : (c : Call) (h : History) (snaps : List Snap) (n : ℕ) (llx : LlxRun) → Reads c h snaps → HasStood c h n → llx.node.0 ≡ n → llx.at ≡ LlxStart → LlxIsReady TreeAllows llx (begun_at c h) h None
 look_ready c h snaps n llx reads stood is at = record {
-  opened = rw is (opened_if_stood c.layout h n (tree_run c.layout h reads.run) stood.stood);
+  opened = rw is (opened_if_stood c.layout h n reads.run stood.stood);
   since = ends_self h;
   quiet = quiet_at_start c.layout c.pass h (idle_if_finished c h reads.run.1.lawful reads.over);
   known = subst (LlxKnows (begun_at c h) h llx.node.0) (sym at) tt;
@@ -68,20 +85,22 @@ module _ {R A : Type 0} (means : ReadMeaning R A) (r : R) (snaps : List Snap) (c
   looks_first key side n w x = record {
     stood = record {
       stood = stood;
-      not_final = record { moment = p.0; within = p.1; since = ends_trans p.0 x.passed.first c.start p.2 (own_since c x.passed.first x.passed.own); was = path_not_final c.layout p.0 key n (run_since c.layout h p.0 reading.reads.run p.1) p.3 };
+      not_final = record { moment = p.0; within = p.1; since = ends_trans p.0 x.sure.on.first c.start p.2 (own_since c x.sure.on.first x.sure.on.own); was = path_not_final c.layout p.0 key n (run_since c.layout h p.0 reading.reads.run p.1) p.3 };
     };
     asks = w.asks;
     fork = x.fork;
     deep = omega arith;
     waits = rw w.waits tt;
-    here = λ b run e hold. w.turned b n (λ unmarked. passed_unmarked c.layout b x.passed.first key n run (p.0, ends_trans b h p.0 e p.1, p.2, p.3) unmarked) (settled_toward (value h) (value b) n key (stood_settled c.layout b h n run e stood) ∙ x.turn);
+    here = λ b run e hold.
+        let same = stood_settled c.layout b h n run e stood in
+        w.turned b n (λ unmarked. passed_unmarked c.layout b x.sure.on.first key n run (p.0, ends_trans b h p.0 e p.1, p.2, p.3) (same_stays (value h) (value b) c.layout key n same x.sure.stays) unmarked) (settled_toward (value h) (value b) n key same ∙ x.turn);
   }
     where
-      p : Passed h x.passed.first key n
-      p = in_tree c.layout h x.passed.first key n reading.reads.run.0 x.passed.passed
+      p : Passed h x.sure.on.first key n
+      p = x.sure.on.passed
 
       stood : WasInTree h n
-      stood = was_passed h x.passed.first key n p
+      stood = was_passed h x.sure.on.first key n p
 
   -- so it may after the leaf that its walk has found
   pub walk_found : (key : ℕ) (side : Side) (turns : LastTurns) (f : Found) → WalksTo means r key side → AreLastTurns c h key turns → HasFoundGoal (ToKey key) c h f → Looks means r snaps c h (first_children side (turn_to side turns).0) 0 (turn_to side turns).0

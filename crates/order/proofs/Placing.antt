@@ -1,8 +1,9 @@
 -- From place to place of a leaf.
 use Rattle.std.proofs.Common.{◌≡◌, ℕ, List, [], ◌∷◌, refl, sym, ◌∙◌, ap, subst, Option, Some, None}
 use Rattle.histories.specs.Common.{Settled, Key as KeyWord, Slot, History, value, Extends, Call}
-use Rattle.template.specs.Common.{Snap, Pair, held_behind, held_from, slot_behind, pair, WasInTree, IsTreeRun}
-use Rattle.ordered_map.proofs.Lemmas.{held_next, same_pair, stood_settled}
+use Rattle.template.specs.Common.{Snap, Pair, held_behind, held_from, slot_behind, pair, WasInTree, IsMapRun}
+use Rattle.ordered_map.proofs.Lemmas.{held_next, same_pair}
+use Rattle.ordered_map.proofs.MapLemmas.{stood_settled}
 use Rattle.order.specs.Found.{StandsIn, TakesPair, more_at, pairs_behind, place_key, place_pair, place_value}
 use Rattle.order.specs.Loads.{place_behind, place_in}
 use Rattle.order.specs.Meaning.{ReadMeaning}
@@ -17,7 +18,7 @@ pub takes_here : {R A : Type 0} (means : ReadMeaning R A) (r : R) (snaps : List 
 takes_here means r snaps c h p key x is takes = record { stands = x; key_is = λ b run e hold. stood_settled c.layout b h p.node.0 run e x.stood.stood (Settled (KeyWord p.slot)) tt ∙ is; takes = takes }
 
 -- and once its key and value are known, it is this pair
-pub pair_then : (c : Call) (h : History) (p : LeafPlace) (found : Pair) → WasInTree h p.node.0 → place_value h p ≡ found.value → (b : History) → IsTreeRun c.layout b → Extends b h → place_key b p ≡ found.key → place_pair b p ≡ found
+pub pair_then : (c : Call) (h : History) (p : LeafPlace) (found : Pair) → WasInTree h p.node.0 → place_value h p ≡ found.value → (b : History) → IsMapRun c.layout b → Extends b h → place_key b p ≡ found.key → place_pair b p ≡ found
 pair_then c h p found stood is b run e key_is = λ i. pair (key_is i) ((ap (λ (q : Pair). q.value) (same_pair (value h) (value b) p.node.0 p.slot (stood_settled c.layout b h p.node.0 run e stood)) ∙ is) i)
 
 -- the place after one is in the same leaf

@@ -6,8 +6,9 @@ use Rattle.std.proofs.lemmas.Bool.Decides.{leb_tells}
 use Rattle.std.proofs.lemmas.List.{reverse-append}
 use Rattle.arena.specs.declared.head.Head.{Head as HeadParts}
 use Rattle.histories.specs.Common.{NodeNo, Settled, More as MoreWord, Key as KeyWord, History, value, Extends, Call}
-use Rattle.template.specs.Common.{Snap, Pair, between, range, ManyPairs, IsTreeRun, Spells, class, is_leaf, level, rank, IsOwnMoment}
-use Rattle.ordered_map.proofs.Lemmas.{run_spells, stood_settled, SameSettled, settled_class, settled_leaf, settled_rank}
+use Rattle.template.specs.Common.{Snap, Pair, between, range, ManyPairs, IsMapRun, Spells, class, is_leaf, level, rank, IsOwnMoment}
+use Rattle.ordered_map.proofs.Lemmas.{SameSettled, settled_class, settled_leaf, settled_rank}
+use Rattle.ordered_map.proofs.MapLemmas.{run_spells, stood_settled}
 use Rattle.order.specs.Found.{AreThere, BeginsAtRoot, GoesTo, IsAtLowFork, IsReading, IsThere, Looks, Stands, StandsBefore, StandsIn, TakesPair, head_at, key_at, place_key, more_at, place_pair, place_value}
 use Rattle.order.specs.Loads.{place_behind}
 use Rattle.order.specs.Next.{MayValidate}
@@ -113,7 +114,7 @@ pub lt_of : (a b : ℕ) → ltb a b ≡ true → a < b
 lt_of a b p = ⊎_elim (λ i. i) (λ i. absurd (let f : true ≡ false = sym p ∙ le-ltb a b i in cc)) (split a b)
 
 module _ (r : Range) (snaps : List Snap) (c : Call) (h : History) (n : ℕ) (reading : IsReading range_means r snaps c h) (x : Stands range_means r snaps c h n) where
-  same_then : (b : History) → IsTreeRun c.layout b → Extends b h → SameSettled (value h) (value b) n
+  same_then : (b : History) → IsMapRun c.layout b → Extends b h → SameSettled (value h) (value b) n
   same_then b run e = stood_settled c.layout b h n run e x.stood.stood
 
   -- above all keys
@@ -126,7 +127,7 @@ module _ (r : Range) (snaps : List Snap) (c : Call) (h : History) (n : ℕ) (rea
     visited = λ b run e hold. let v : Visits r b n = x.here b run e hold in (v.0, passes_above b (bounds_of r) n r.taken.items (waiting_of r) r.leaves v.1 (settled_leaf (value h) (value b) n (same_then b run e) ∙ leaf) (λ z. high (sym (settled_class (value h) (value b) n (same_then b run e)) ∙ z)) (above b run e));
   }
     where
-      above : (b : History) → IsTreeRun c.layout b → Extends b h → r.high < rank (value b) n
+      above : (b : History) → IsMapRun c.layout b → Extends b h → r.high < rank (value b) n
       above b run e =
           let k : rank (value b) n ≡ rank (value h) n = settled_rank (value h) (value b) n (same_then b run e) in
           let s = reading.suits.0 in

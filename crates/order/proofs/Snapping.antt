@@ -5,8 +5,8 @@ use Rattle.histories.specs.Common.{Side, child, info, marked, History, value, Ex
 use Rattle.arena.proofs.Lemmas.{ends_self}
 use Rattle.prims.specs.Laws.InTheWay.{been_now}
 use Rattle.prims.specs.Laws.Linked.{IsLinked, linked_since}
-use Rattle.template.specs.Common.{IsSnapshot, child_of, snap_at, Snap, IsTreeRun, is_leaf, level}
-use Rattle.ordered_map.proofs.Lemmas.{child_not_final, child_stood, levels_rise}
+use Rattle.template.specs.Common.{IsSnapshot, child_of, snap_at, Snap, IsMapRun, is_leaf, level}
+use Rattle.ordered_map.proofs.MapLemmas.{child_not_final, child_stood, levels_rise}
 use Rattle.order.specs.Reads.{AreSnapped, HasSnapped, Reads, AllHold, HasStood}
 
 -- a place in the longer list is one of the shorter, or the last
@@ -69,7 +69,7 @@ module _ (c : Call) (h : History) (snaps : List Snap) (snap : Snap) (reads : Rea
     child_rises s = subst (λ n. level (value h) snap.node.0 < level (value h) n) (is.linked.fields s is.info) (levels_rise c.layout h snap.node.0 s reads.run stood.stood fork)
 
     -- at a moment at which all infos still hold
-    module _ (b : History) (run : IsTreeRun c.layout b) (e : Extends b h) (hold : AllHold b (snaps ++ snap ∷ [])) where
+    module _ (b : History) (run : IsMapRun c.layout b) (e : Extends b h) (hold : AllHold b (snaps ++ snap ∷ [])) where
       linked : IsLinked c.layout b snap
       linked = linked_since c.layout b h snap run.1.lawful e is.linked
 

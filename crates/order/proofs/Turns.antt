@@ -1,9 +1,9 @@
 -- What an ordered read waits for after each of its turns.
-use Rattle.std.proofs.Common.{◌≡◌, ℕ, ◌+◌, ◌-◌, ◌*◌, ◌<◌, List, [], length, inl, inr, refl, sym, ◌∙◌, ap, subst, arith, Option, Some, None, Result, Ok, Err, IfOk, unwrap_or}
-use Rattle.histories.specs.Common.{Turn, Ask, Done, NodeNo, ScxNo, Step, LoadMarked, LoadSettled, Settled, Head as HeadWord, Side, marked, node, History, value, Extends, Call, IsRun, MatchTurn, begun_at}
+use Rattle.std.proofs.Common.{◌≡◌, ℕ, ◌+◌, ◌-◌, ◌*◌, ◌<◌, Bool, true, false, List, [], length, inl, inr, refl, sym, ◌∙◌, ap, subst, arith, Option, Some, None, Result, Ok, Err, IfOk, unwrap_or, Vec, Global}
+use Rattle.histories.specs.Common.{Layout, Turn, Ask, Done, NodeNo, ScxNo, Step, LoadMarked, LoadSettled, Settled, Head as HeadWord, Side, marked, node, History, value, Extends, Call, IsRun, MatchTurn, begun_at}
 use Rattle.arena.specs.declared.word.Side.TheVariants as sides
 use Rattle.template.specs.Common.{load, IsSnapshot, LlxIsReady, LlxWaits, LlxAnswers, VlxIsReady, VlxWaits, VlxAnswers, vlx_left, Llx, Snapshot, Finalized, Fail, LlxAt, LlxRun, Snap}
-use Rattle.template.specs.Common.{Vlx, Same, Changed, TreeAllows, IsContended, path_key, HasFoundGoal, FoundBy, IsOwnMoment, WalkKnows, WalkIsReady, WalkWaits, IsPastRoot, Key as ToKey}
+use Rattle.template.specs.Common.{Vlx, Same, Changed, TreeAllows, IsContended, Goal, MayGo, WalkFits, walk_left, HasFoundGoal, FoundBy, IsOwnMoment, WalkIsReady, WalkWaits, IsPastRoot, Key as ToKey}
 use Rattle.prims.specs.Vlx.Laws.{first_looked, looks_next}
 use Rattle.prims.specs.declared.llx.LlxAt.TheVariants.{Start as LlxStart, Marked}
 use Rattle.prims.proofs.Lemmas.{turn_first}
@@ -12,13 +12,14 @@ use Rattle.template.specs.declared.walk.Found.{Found}
 use Rattle.template.specs.declared.walk.WalkAt.{WalkAt}
 use Rattle.template.specs.declared.walk.WalkAt.TheVariants.{Start as WalkStart, Root as WalkRoot, Head as AtHead, Key as AtKey, Child, More as AtMore, Pair as AtPair, Value as AtValue, High as AtHigh}
 use Rattle.template.specs.declared.walk.WalkRun.{WalkRun}
-use Rattle.template.specs.declared.walk.Way.TheVariants.{InTree, Within}
-use Rattle.ordered_map.proofs.MapLemmas.{tree_run}
+use Rattle.template.specs.Balance.{leaf_way, map_mode, nodes_by}
+use Rattle.template.specs.Walk.Steps.{WalkFitsAt, room, steps_left}
+use Rattle.template.specs.declared.walk.Way.TheVariants.{Within}
 use Rattle.order.specs.Found.{BeginsAtRoot, BeginsSo, IsReading, Looks, WalksTo}
-use Rattle.order.specs.Known.{AreLastTurns, LastTurned, IsLastTurn, IsSameRead, ReadAnswers, ReadGoes, ReadIsReady, ReadIsToldAt, ReadTurn, ReadWaits, RunStands, Validates, Walks, WalksInTry}
+use Rattle.order.specs.Known.{AreLastTurns, IsSameRead, ReadAnswers, ReadGoes, ReadIsReady, ReadIsToldAt, ReadTurn, ReadWaits, RunStands, Validates, Walks, WalksInTry}
 use Rattle.order.specs.Laws.Kept.{root_there}
-use Rattle.order.specs.Laws.Run.{no_turn}
-use Rattle.order.specs.LastTurns.{first_children, last_turns, no_turns, turn_to, with_last_turn}
+use Rattle.order.specs.Laws.Run.{no_turn, not_within, room_by}
+use Rattle.order.specs.LastTurns.{first_children, no_turns, turn_to}
 use Rattle.order.specs.declared.last_turns.LastTurns.{LastTurns}
 use Rattle.order.specs.Loads.{load_value}
 use Rattle.order.specs.Meaning.{ReadMeaning}
@@ -39,66 +40,63 @@ use Rattle.order.specs.declared.run.ReadRun.{ReadRun}
 use Rattle.order.proofs.Blaming.{first_look, look_failed, look_finalized, look_changed, reply_wider, tried_before, tried_here}
 use Rattle.order.proofs.Looking.{look_ready, replies, validates, walk_found}
 
+-- a walk to a key may go to a leaf
+may_walk : (lay : Layout) (trie : Bool) (k : ℕ) → lay.mode ≡ map_mode trie → MayGo lay (leaf_way trie) (ToKey k)
+may_walk lay false k mode = mode
+may_walk lay true k mode = mode
+
+-- it gets nearer there as it does by its way
+pub walk_less : (trie : Bool) (nodes : ℕ) (walk after : WalkRun) (got : Option ℕ) → walk.way ≡ leaf_way trie → after.way ≡ walk.way → (WalkFits walk got nodes → steps_left after nodes < steps_left walk nodes) → WalkFitsAt walk.at (unwrap_or got 0) (nodes_by trie nodes) → walk_left after.at (nodes_by trie nodes) < walk_left walk.at (nodes_by trie nodes)
+walk_less trie nodes walk after got way same near fits =
+    let e : room walk.way nodes ≡ nodes_by trie nodes = ap (λ w. room w nodes) way ∙ room_by trie nodes in
+    let f : room after.way nodes ≡ nodes_by trie nodes = ap (λ w. room w nodes) same ∙ e in
+    let less : walk_left after.at (room after.way nodes) < walk_left walk.at (room walk.way nodes) = near (subst (WalkFitsAt walk.at (unwrap_or got 0)) (sym e) fits) in
+    subst (λ r. walk_left after.at r < walk_left walk.at (nodes_by trie nodes)) f (subst (λ r. walk_left after.at (room after.way nodes) < walk_left walk.at r) e less)
+
+-- and finds that
+found_leaf : (trie : Bool) (goal : Goal) (c : Call) (h : History) (f : Found) → FoundBy (leaf_way trie) goal c h f → HasFoundGoal goal c h f
+found_leaf false goal c h f x = x
+found_leaf true goal c h f x = x
+
 module _ {R A : Type 0} (means : ReadMeaning R A) (m : ReadRun R) where
+  -- what the read knows, apart from its mode
+  pub reading : (c : Call) (h : History) → ReadGoes means m c h → IsReading means m.read m.snaps.items c h
+  reading c h x = record { reads = x.reads; suits = x.suits }
+
+  -- further on it is in the same mode
+  pub goes_on_reading : (c : Call) (h : History) → ReadGoes means m c h → (read : R) (snaps : Vec Snap Global) → IsReading means read snaps.items c h → ReadGoes means (record m { read = read; snaps = snaps }) c h
+  goes_on_reading c h goes read snaps x = record { reads = x.reads; suits = x.suits; mode = goes.mode }
+
   -- Its walk
 
-  module _ (walk after : WalkRun) (side : Side) (turns : LastTurns) (c : Call) (begin h : History) (try : IsInTry c h begin m.limit m.tries) (goes : ReadGoes means m (begun_at c begin) h) (key : ℕ) (goal : walk.goal ≡ ToKey key) (to : WalksTo means m.read key side) (way : after.way ≡ InTree) (last : AreLastTurns (begun_at c begin) h key turns) (same : after.goal ≡ walk.goal) where
-    abbrev Knows : WalkAt → Type 0
-    Knows = WalkKnows (begun_at c begin) h after
-
-    turned_here : (low : ℕ) (turn : Side) → Knows (Child low turn) → LastTurned (begun_at c begin) h key turn after.trail.node.0
-    turned_here low turn k = record { passed = rw is at k.0.node; fork = k.2; turn = rw is at k.3 }
-      where
-        is : path_key after.goal ≡ key
-        is = ap path_key (same ∙ goal)
-
-    turned_child : (low : ℕ) (turn s : Side) → Knows (Child low turn) → IsLastTurn (begun_at c begin) h key s (turn_to s (with_last_turn turn after.trail.node turns)).0
-    turned_child low sides.Left sides.Left k = inr (turned_here low sides.Left k)
-    turned_child low sides.Right sides.Right k = inr (turned_here low sides.Right k)
-    turned_child low sides.Left sides.Right k = last sides.Right
-    turned_child low sides.Right sides.Left k = last sides.Left
-
-    turned : (at : WalkAt) → Knows at → AreLastTurns (begun_at c begin) h key (last_turns at after.trail.node turns)
-    turned (Child low turn) k = λ s. turned_child low turn s k
-    turned WalkStart k = last
-    turned WalkRoot k = last
-    turned (AtHead above) k = last
-    turned (AtKey head) k = last
-    turned (AtMore head) k = last
-    turned (AtPair head more slot) k = last
-    turned (AtValue head more slot found) k = last
-    turned (AtHigh head more slot found low) k = last
-
-    past : (next : LastTurns) (at : WalkAt) → IsPastRoot at → WalksInTry means m c h begin next at
-    past next WalkStart p = absurd p
-    past next WalkRoot p = absurd p
-    past next _ p = try
+  module _ (walk after : WalkRun) (side : Side) (c : Call) (begin h : History) (try : IsInTry c h begin m.limit m.tries) (goes : ReadGoes means m (begun_at c begin) h) (key : ℕ) (goal : walk.goal ≡ ToKey key) (to : WalksTo means m.read key side) (way : after.way ≡ leaf_way m.trie) (same : after.goal ≡ walk.goal) (next : LastTurns) (last : AreLastTurns (begun_at c begin) h key next) where
+    past : (at : WalkAt) → IsPastRoot at → WalksInTry means m c h begin next at
+    past WalkStart p = absurd p
+    past WalkRoot p = absurd p
+    past _ p = try
 
     -- a step behind the root takes it on, with the last forks where it has turned
-    pub walk_waits : (step : Step) → IsPastRoot after.at → WalkWaits after (begun_at c begin) h step → ReadWaits means (record m { at = Walk after side (last_turns after.at after.trail.node turns) }) c h step
+    pub walk_waits : (step : Step) → IsPastRoot after.at → WalkWaits after (begun_at c begin) h step → ReadWaits means (record m { at = Walk after side next }) c h step
     walk_waits step p waits = (
       begin,
-      past (last_turns after.at after.trail.node turns) after.at p,
+      past after.at p,
       goes,
-      (record { key = key; goal = same ∙ goal; way = way; goes_to = to; last = turned after.at waits.known }, waits),
+      (record { key = key; goal = same ∙ goal; way = way; goes_to = to; last = last }, waits),
     )
 
   -- after the leaf that it has found it looks at that fork
-  pub found_looks : (walk after : WalkRun) (side : Side) (turns : LastTurns) (c : Call) (h : History) (t : Turn Found) (f : Found) → ReadGoes means m c h → (key : ℕ) → walk.goal ≡ ToKey key → after.way ≡ InTree → WalksTo means m.read key side → AreLastTurns c h key turns → after.goal ≡ walk.goal → t ≡ Done f → MatchTurn t (WalkWaits after c h) (WalkAnswers after c h) → Looks means m.read m.snaps.items c h (first_children side (turn_to side turns).0) 0 (turn_to side turns).0
-  found_looks walk after side turns c h t f goes key goal way to last same done w = walk_found means m.read m.snaps.items c h goes key side turns f to last (subst (λ g. HasFoundGoal g c h f) (same ∙ goal) found)
-    where
-      found : HasFoundGoal after.goal c h f
-      found = subst (λ by. FoundBy by after.goal c h f) way (rw done at w)
+  pub found_looks : (walk after : WalkRun) (side : Side) (turns : LastTurns) (c : Call) (h : History) (t : Turn Found) (f : Found) → ReadGoes means m c h → (key : ℕ) → walk.goal ≡ ToKey key → after.way ≡ leaf_way m.trie → WalksTo means m.read key side → AreLastTurns c h key turns → after.goal ≡ walk.goal → t ≡ Done f → MatchTurn t (WalkWaits after c h) (WalkAnswers after c h) → Looks means m.read m.snaps.items c h (first_children side (turn_to side turns).0) 0 (turn_to side turns).0
+  found_looks walk after side turns c h t f goes key goal way to last same done w = walk_found means m.read m.snaps.items c h (reading c h goes) key side turns f to last (subst (λ g. HasFoundGoal g c h f) (same ∙ goal) (found_leaf m.trie after.goal c h f (subst (λ by. FoundBy by after.goal c h f) way (rw done at w))))
 
   -- it begins with the load of the root's head, as it walks
-  pub walks_first : (walk : WalkRun) (c : Call) (begin h : History) → BeginsTry c h m.limit m.tries → m.snaps.items ≡ [] → ReadGoes means m (begun_at c begin) h → (key : ℕ) (side : Side) → walk.goal ≡ ToKey key → walk.way ≡ InTree → walk.trail.node.0 ≡ 0 → WalksTo means m.read key side → ReadWaits means (record m { at = Walk (record walk { at = WalkRoot }) side no_turns }) c h (load LoadSettled (node 0 (Settled HeadWord)))
+  pub walks_first : (walk : WalkRun) (c : Call) (begin h : History) → BeginsTry c h m.limit m.tries → m.snaps.items ≡ [] → ReadGoes means m (begun_at c begin) h → (key : ℕ) (side : Side) → walk.goal ≡ ToKey key → walk.way ≡ leaf_way m.trie → walk.trail.node.0 ≡ 0 → WalksTo means m.read key side → ReadWaits means (record m { at = Walk (record walk { at = WalkRoot }) side no_turns }) c h (load LoadSettled (node 0 (Settled HeadWord)))
   walks_first walk c begin h try none goes key side goal way root to = (
     begin,
     ((try, none, to.waits), refl),
     goes,
     (
       record { key = key; goal = goal; way = way; goes_to = to; last = no_turn (begun_at c begin) h key },
-      record { run = tree_run c.layout h goes.reads.run; may = rw way goes.reads.run.0; small = rw goal (to.small goes.suits); since = goes.reads.since; known = root; sure = λ within. absurd (let d : InTree ≡ Within = sym way ∙ within in cc); asked = ap (λ n. load LoadSettled (node n (Settled HeadWord))) (sym root) },
+      record { run = goes.reads.run; may = rw (way, goal) (may_walk c.layout m.trie key goes.mode); small = rw goal (to.small goes.suits); since = goes.reads.since; known = root; sure = λ within. absurd (not_within m.trie (sym way ∙ within)); asked = ap (λ n. load LoadSettled (node n (Settled HeadWord))) (sym root) },
     ),
   )
 
@@ -116,6 +114,7 @@ module _ {R A : Type 0} (means : ReadMeaning R A) (m : ReadRun R) where
   goes_again old c h same none x = record {
     reads = rw none record { run = x.reads.run; since = x.reads.since; over = x.reads.over; quiet = x.reads.quiet; snapped = λ i p. absurd (omega (arith, p)) };
     suits = rw same.0 x.suits;
+    mode = x.mode ∙ ap map_mode (sym same.4);
   }
 
   -- so it begins a try, or ends at once
@@ -123,7 +122,7 @@ module _ {R A : Type 0} (means : ReadMeaning R A) (m : ReadRun R) where
     try_now : BeginsTry c h m.limit m.tries
     try_now = rw (same.1, tries) try
 
-    pub begins_walk : (walk : WalkRun) (key : ℕ) (side : Side) → walk.goal ≡ ToKey key → walk.way ≡ InTree → walk.trail.node.0 ≡ 0 → WalksTo means m.read key side → now ≡ record m { at = Walk (record walk { at = WalkRoot }) side no_turns } → turn ≡ Ask (load LoadSettled (node 0 (Settled HeadWord))) → ReadTurn means c h now turn
+    pub begins_walk : (walk : WalkRun) (key : ℕ) (side : Side) → walk.goal ≡ ToKey key → walk.way ≡ leaf_way m.trie → walk.trail.node.0 ≡ 0 → WalksTo means m.read key side → now ≡ record m { at = Walk (record walk { at = WalkRoot }) side no_turns } → turn ≡ Ask (load LoadSettled (node 0 (Settled HeadWord))) → ReadTurn means c h now turn
     begins_walk walk key side goal way root to is asked = rw (asked, is) (walks_first walk c begin h try_now none (goes_again old (begun_at c begin) h same none goes) key side goal way root to)
 
     pub begins_root : BeginsAtRoot means m.read → now ≡ record m { at = Root } → turn ≡ Ask (load LoadSettled (node 0 (Settled HeadWord))) → ReadTurn means c h now turn
@@ -140,8 +139,8 @@ module _ {R A : Type 0} (means : ReadMeaning R A) (m : ReadRun R) where
     all_same : tries_left means m nodes ≡ tries_left means old nodes
     all_same = λ i. tries i * means.try_left (same.0 i) nodes
 
-    pub walk_nearer : (walk : WalkRun) (side : Side) (turns : LastTurns) (key : ℕ) → walk.way ≡ InTree → now ≡ record m { at = Walk (record walk { at = WalkRoot }) side turns } → BeginsNear means m.read nodes (begins.Walk key side) → ReadIsNearer means now nodes turn (tries_left means old nodes + run_try_left means old nodes)
-    walk_nearer walk side turns key way is near = let e = ap length none in let each = each_same in let all = all_same in rw (asked, is, way) (omega (arith, e, near, each, all))
+    pub walk_nearer : (walk : WalkRun) (side : Side) (turns : LastTurns) (key : ℕ) → now ≡ record m { at = Walk (record walk { at = WalkRoot }) side turns } → BeginsNear means m.read nodes (begins.Walk key side) → ReadIsNearer means now nodes turn (tries_left means old nodes + run_try_left means old nodes)
+    walk_nearer walk side turns key is near = let e = ap length none in let each = each_same in let all = all_same in rw (asked, is) (omega (arith, e, near, each, all))
 
     pub root_nearer : now ≡ record m { at = Root } → BeginsNear means m.read nodes begins.Root → ReadIsNearer means now nodes turn (tries_left means old nodes + run_try_left means old nodes)
     root_nearer is near = let e = ap length none in let each = each_same in let all = all_same in rw (asked, is) (omega (arith, e, near, each, all))
@@ -204,7 +203,7 @@ module _ {R A : Type 0} (means : ReadMeaning R A) (m : ReadRun R) where
     where
       llx : LlxAt → LlxRun
       llx at = record { node = n; at = at }
-  next_waits c h next.Validate (begin, try, on) = validates_on c begin h h on.0 (validates means m.read m.snaps.items (begun_at c begin) h on.0 on.1) 1 (Ask _) _ (looks_next (begun_at c h) h m.snaps.items 0 (first_looked (begun_at c h) h m.snaps.items 0 (first_look (begun_at c begin) h m.snaps.items on.0.reads on.1.some)) on.1.some) refl try
+  next_waits c h next.Validate (begin, try, on) = validates_on c begin h h on.0 (validates means m.read m.snaps.items (begun_at c begin) h (reading (begun_at c begin) h on.0) on.1) 1 (Ask _) _ (looks_next (begun_at c h) h m.snaps.items 0 (first_looked (begun_at c h) h m.snaps.items 0 (first_look (begun_at c begin) h m.snaps.items on.0.reads on.1.some)) on.1.some) refl try
 
   pub stands_there : (now : ReadRun R) (c : Call) (h : History) (turn : Turn (Result A Refused)) (next : ReadNext) → now ≡ placed m next → turn ≡ Ask (next_step m next) → MayGoOn means c h m next → ReadTurn means c h now turn
   stands_there now c h turn next is asked x = rw (asked, is) (next_waits c h next x)
@@ -246,7 +245,7 @@ module _ {R A : Type 0} (means : ReadMeaning R A) (m : ReadRun R) where
     told_at : (v : ℕ) (at : ReadAt) → m.at ≡ at → ReadIsReady means m c h (Some v) → ToldInTry (λ d. ReadIsToldAt means m d h v at)
     told_at v at is r = (r.0, r.1, r.2, r.3, subst (λ p. ReadIsToldAt means m (begun_at c r.0) h v p) is r.4)
 
-    pub at_walk : (got : Option ℕ) (walk : WalkRun) (side : Side) (turns : LastTurns) → m.at ≡ Walk walk side turns → ReadIsReady means m c h got → (v : ℕ) × (got ≡ Some v) × ToldInTry (λ d. Walks means m.read d h walk side turns × WalkIsReady walk d h (Some v))
+    pub at_walk : (got : Option ℕ) (walk : WalkRun) (side : Side) (turns : LastTurns) → m.at ≡ Walk walk side turns → ReadIsReady means m c h got → (v : ℕ) × (got ≡ Some v) × ToldInTry (λ d. Walks means m.read m.trie d h walk side turns × WalkIsReady walk d h (Some v))
     at_walk None walk side turns is r = absurd (let d : Walk walk side turns ≡ Start = sym is ∙ r.1 in cc)
     at_walk (Some v) walk side turns is r = (v, refl, told_at v (Walk walk side turns) is r)
 
@@ -278,8 +277,8 @@ module _ {R A : Type 0} (means : ReadMeaning R A) (m : ReadRun R) where
 
   -- What is said of the read is said of the run
 
-  pub goes_read : (now : R) (c : Call) (h : History) → means.call now ≡ means.call m.read → ReadGoes means m c h → IsReading means now m.snaps.items c h
-  goes_read now c h same x = record { reads = x.reads; suits = rw same x.suits }
+  pub goes_read : (now : R) (c : Call) (h : History) → means.call now ≡ means.call m.read → ReadGoes means m c h → ReadGoes means (record m { read = now }) c h
+  goes_read now c h same x = record { reads = x.reads; suits = rw same x.suits; mode = x.mode }
 
 -- with the snapshots that it has
 module _ {R A : Type 0} (means : ReadMeaning R A) (now : R) (m : ReadRun R) (nodes : ℕ) where

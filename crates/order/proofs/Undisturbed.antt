@@ -7,8 +7,9 @@ use Rattle.arena.proofs.Lemmas.{ends_self, ends_trans}
 use Rattle.histories.proofs.Lemmas.{Facts, IsOwned, Logs, facts, lawful_since, logs, same, wins}
 use Rattle.prims.specs.Laws.Idle.{IsQuietSince, out_by_others}
 use Rattle.prims.proofs.Lemmas.{wins_in_progress}
-use Rattle.template.specs.Common.{Pair, MapCall, MapReply, OnePair, ManyPairs, pair_or_none, neighbour, range, reply, IsTreeRun, Spells, IsContended}
-use Rattle.ordered_map.proofs.Lemmas.{one_spelling, quiet_spells, run_since}
+use Rattle.template.specs.Common.{Pair, MapCall, MapReply, OnePair, ManyPairs, pair_or_none, neighbour, range, reply, IsMapRun, Spells, IsContended}
+use Rattle.ordered_map.proofs.Lemmas.{one_spelling}
+use Rattle.ordered_map.proofs.MapLemmas.{quiet_spells, run_since}
 use Rattle.template.proofs.Lemmas.{own_since}
 use Rattle.order.specs.Known.{HasReplied, IsSameRead, ReadAnswers, ReadIsReady, ReadTurn}
 use Rattle.order.specs.Meaning.{ReadMeaning}
@@ -53,7 +54,7 @@ less a b t x y e i = drop (a * t) (rw e at i)
     drop : (p : ℕ) → p + x < p + y → x < y
     drop p j = omega (arith, j)
 
-module _ (c : Call) (h : History) (run : IsTreeRun c.layout h) (alone : IsUndisturbed c h) where
+module _ (c : Call) (h : History) (run : IsMapRun c.layout h) (alone : IsUndisturbed c h) where
   -- no other's SCX-record is in progress at any moment of the call
   others_rest : (k : History) → Extends h k → Extends k c.start → (t : ℕ) → IsOthersScx c.layout c.pass t → ¬ IsInProgress k t
   others_rest (Start mode) e f t o x = alone.rest t (subst (λ m. IsInProgress m t) (sym f) x)
@@ -128,7 +129,7 @@ Tells told gives (Err (Contended n s)) = ⊥
 Tells told gives (Err NoMemory) = Unit {0}
 
 module _ {R A : Type 0} (means : ReadMeaning R A) (c : Call) (h : History) (alone : IsUndisturbed c h) (map : List Pair) (spells : Spells c.layout (value c.start) map) where
-  module _ (old now : ReadRun R) (is : IsSameRead means old now) (run : IsTreeRun c.layout h) (quiet : IsQuietSince c.layout c.pass c.start h) where
+  module _ (old now : ReadRun R) (is : IsSameRead means old now) (run : IsMapRun c.layout h) (quiet : IsQuietSince c.layout c.pass c.start h) where
     replied : (answer : A) → HasReplied means now c h answer → means.told answer ≡ reply (means.call now.read) map
     replied answer (inl x) = alone_replies c h run alone quiet (means.call now.read) (means.told answer) map x spells
     replied answer (inr x) = sym (x.1 map)

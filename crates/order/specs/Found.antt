@@ -3,7 +3,7 @@ use Rattle.std.specs.Prelude.{◌≡◌, ◌⊎◌, ℕ, ◌^◌, ◌<◌, ◌�
 use Rattle.arena.specs.declared.head.Head.{Head as HeadParts}
 use Rattle.histories.specs.Common.{Layout, NodeNo, Settled, Head as HeadWord, More as MoreWord, Key as KeyWord, Value as ValueWord, Side, head_of, child, marked, node, first_key, History, value, Call}
 use Rattle.arena.specs.declared.word.Side.TheVariants as sides
-use Rattle.template.specs.Common.{Snap, Pair, held_behind, pair_in, slot_behind, reply, IsOnPath, IsTreeRun, Spells, class, is_leaf, level, toward}
+use Rattle.template.specs.Common.{Snap, Pair, held_behind, pair_in, slot_behind, reply, IsOnPath, IsMapRun, Spells, class, is_leaf, level, toward}
 use Rattle.order.specs.Meaning.{ReadMeaning}
 use Rattle.order.specs.Reads.{Reads, Whenever, HasStood}
 use Rattle.order.specs.LastTurns.{first_children, turned_at}
@@ -74,7 +74,7 @@ module _ {R A : Type 0} (means : ReadMeaning R A) (r : R) where
   pub record BeginsAtRoot : Type 0 where
     pub asks : means.asks (means.call r)
     pub waits : means.waiting r ≡ []
-    pub root : (lay : Layout) (b : History) → means.suits (means.call r) → IsTreeRun lay b → means.IsAt r b 0
+    pub root : (lay : Layout) (b : History) → means.suits (means.call r) → IsMapRun lay b → means.IsAt r b 0
 
   -- so a try begins; or all maps give the answer
   abbrev pub BeginsSo : ReadBegin A → Type 0
@@ -134,7 +134,7 @@ module _ {R A : Type 0} (means : ReadMeaning R A) (r : R) where
 pub record GoesTo {R A : Type 0} (means : ReadMeaning R A) (old now : R) (children : Children) (left right n : NodeNo) : Type 0 where
   pub one : (n ≡ left) ⊎ (n ≡ right)
   pub waits : (c : Call) (h : History) → AreThere c h (means.waiting old) → IsThere c h left → IsThere c h right → AreThere c h (means.waiting now)
-  pub below : (lay : Layout) (b : History) (fork : ℕ) → IsTreeRun lay b → is_leaf (value b) fork ≡ false → value b (marked fork) ≡ 0 → value b (child fork sides.Left) ≡ left.0 → value b (child fork sides.Right) ≡ right.0 → means.IsAtFork old b fork children → means.IsAt now b n.0
+  pub below : (lay : Layout) (b : History) (fork : ℕ) → IsMapRun lay b → is_leaf (value b) fork ≡ false → value b (marked fork) ≡ 0 → value b (child fork sides.Left) ≡ left.0 → value b (child fork sides.Right) ≡ right.0 → means.IsAtFork old b fork children → means.IsAt now b n.0
 
 -- it continues so, or has no memory
 abbrev pub GoesBelow : {R A : Type 0} → ReadMeaning R A → R → R → Children → NodeNo → NodeNo → Result NodeNo Refused → Type 0

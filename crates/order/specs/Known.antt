@@ -1,13 +1,14 @@
 -- When an ordered read may continue, what it waits for, and what its answer says.
-use Rattle.std.specs.Prelude.{◌≡◌, ◌⊎◌, ℕ, ◌+◌, ◌≤◌, false, List, [], Option, Some, None, Result, Ok, Err}
+use Rattle.std.specs.Prelude.{◌≡◌, ◌⊎◌, ℕ, ◌+◌, ◌≤◌, Bool, false, List, [], Option, Some, None, Result, Ok, Err}
 use Rattle.histories.specs.Common.{Turn, Step, LoadSettled, Settled, Head as HeadWord, Side, node, History, value, Extends, Call, MatchTurn, begun_at}
 use Rattle.template.specs.Common.{load, LlxIsReady, LlxWaits, AreFinished, VlxIsReady, VlxWaits, Snap, Pair, reply, TreeAllows, is_leaf, toward}
-use Rattle.template.specs.Common.{IsContended, HasLostTriesTo, IsOwnMoment, WasPassed, HasTriedAtMost, WalkIsReady, WalkWaits, Key as ToKey}
+use Rattle.template.specs.Balance.{leaf_way, map_mode}
+use Rattle.template.specs.Common.{IsContended, HasLostTriesTo, IsOwnMoment, HasTriedAtMost, WalkIsReady, WalkWaits, Key as ToKey}
+use Rattle.template.specs.Trails.{IsSurelyOn}
 use Rattle.template.specs.declared.walk.WalkAt.{WalkAt}
 use Rattle.template.specs.declared.walk.WalkAt.TheVariants as walks
 use Rattle.template.specs.declared.walk.WalkRun.{WalkRun}
-use Rattle.template.specs.declared.walk.Way.TheVariants.{InTree}
-use Rattle.order.specs.Found.{IsReading, IsRightAt, Looks, Stands, WalksTo}
+use Rattle.order.specs.Found.{IsRightAt, Looks, Stands, WalksTo}
 use Rattle.order.specs.Loads.{load_value, load_word}
 use Rattle.order.specs.Meaning.{ReadMeaning}
 use Rattle.order.specs.Next.{MayLoad}
@@ -24,13 +25,13 @@ use Rattle.order.specs.declared.last_turns.LastTurns.{LastTurns}
 
 -- Its walk
 
--- the call has passed this fork on its way to k, which is on this side of it
+-- this fork was on the path of k when the call had passed it, and stays there; k is on this side of it
 pub record LastTurned (c : Call) (h : History) (k : ℕ) (side : Side) (n : ℕ) : Type 0 where
-  pub passed : WasPassed c h k n
+  pub sure : IsSurelyOn c h k n
   pub fork : is_leaf (value h) n ≡ false
   pub turn : toward (value h) n k ≡ side
 
--- so it is with the last fork where the walk has turned to this side, or that is the root
+-- so it is with the last fork that counts where the walk has turned to this side, or that is the root
 abbrev pub IsLastTurn : Call → History → ℕ → Side → ℕ → Type 0
 IsLastTurn c h k side n = (n ≡ 0) ⊎ LastTurned c h k side n
 
@@ -39,11 +40,17 @@ abbrev pub AreLastTurns : Call → History → ℕ → LastTurns → Type 0
 AreLastTurns c h k turns = (side : Side) → IsLastTurn c h k side (turn_to side turns).0
 
 module _ {R A : Type 0} (means : ReadMeaning R A) where
+  -- what a read with these snapshots knows all the way, in a trie or in a tree
+  pub record ReadsIn (trie : Bool) (r : R) (snaps : List Snap) (c : Call) (h : History) : Type 0 where
+    pub reads : Reads c h snaps
+    pub suits : means.suits (means.call r)
+    pub mode : c.layout.mode ≡ map_mode trie
+
   -- it walks to a key, from the last fork where that turns to this side it goes down
-  pub record Walks (r : R) (c : Call) (h : History) (walk : WalkRun) (side : Side) (turns : LastTurns) : Type 0 where
+  pub record Walks (r : R) (trie : Bool) (c : Call) (h : History) (walk : WalkRun) (side : Side) (turns : LastTurns) : Type 0 where
     pub key : ℕ
     pub goal : walk.goal ≡ ToKey key
-    pub way : walk.way ≡ InTree
+    pub way : walk.way ≡ leaf_way trie
     pub goes_to : WalksTo means r key side
     pub last : AreLastTurns c h key turns
 
@@ -58,13 +65,13 @@ module _ {R A : Type 0} (means : ReadMeaning R A) where
 
   -- the second is the first, further on: it has given up one try at most
   abbrev pub IsSameRead : ReadRun R → ReadRun R → Type 0
-  IsSameRead old now = (means.call now.read ≡ means.call old.read) × (now.limit ≡ old.limit) × (now.tries ≤ old.tries) × (old.tries ≤ now.tries + 1)
+  IsSameRead old now = (means.call now.read ≡ means.call old.read) × (now.limit ≡ old.limit) × (now.tries ≤ old.tries) × (old.tries ≤ now.tries + 1) × (now.trie ≡ old.trie)
 
   module _ (m : ReadRun R) (c : Call) (h : History) where
     -- What it waits for
 
     abbrev pub ReadGoes : Type 0
-    ReadGoes = IsReading means m.read m.snaps.items c h
+    ReadGoes = ReadsIn m.trie m.read m.snaps.items c h
 
     abbrev pub RunStands : ℕ → Type 0
     RunStands n = Stands means m.read m.snaps.items c h n
@@ -72,7 +79,7 @@ module _ {R A : Type 0} (means : ReadMeaning R A) where
     -- what holds while it waits for this step at this place
     abbrev pub ReadWaitsAt : Step → ReadAt → Type 0
     ReadWaitsAt s Start = ⊥
-    ReadWaitsAt s (Walk walk side turns) = Walks m.read c h walk side turns × WalkWaits walk c h s
+    ReadWaitsAt s (Walk walk side turns) = Walks m.read m.trie c h walk side turns × WalkWaits walk c h s
     ReadWaitsAt s Root = RunStands 0 × (s ≡ load LoadSettled (node 0 (Settled HeadWord)))
     ReadWaitsAt s (Load of) = MayLoad means m.read m.snaps.items c h of × (s ≡ load LoadSettled (load_word of))
     ReadWaitsAt s (Look children low llx) = Looks means m.read m.snaps.items c h children low llx.node.0 × ((begin : History) × Extends begin c.start × LlxWaits TreeAllows llx (begun_at c begin) h s)
@@ -81,7 +88,7 @@ module _ {R A : Type 0} (means : ReadMeaning R A) where
     -- what holds once the step of this place has found v
     abbrev pub ReadIsToldAt : ℕ → ReadAt → Type 0
     ReadIsToldAt v Start = ⊥
-    ReadIsToldAt v (Walk walk side turns) = Walks m.read c h walk side turns × WalkIsReady walk c h (Some v)
+    ReadIsToldAt v (Walk walk side turns) = Walks m.read m.trie c h walk side turns × WalkIsReady walk c h (Some v)
     ReadIsToldAt v Root = RunStands 0 × (value h (node 0 (Settled HeadWord)) ≡ v)
     ReadIsToldAt v (Load of) = MayLoad means m.read m.snaps.items c h of × (load_value h of ≡ v)
     ReadIsToldAt v (Look children low llx) = Looks means m.read m.snaps.items c h children low llx.node.0 × ((begin : History) × Extends begin c.start × LlxIsReady TreeAllows llx (begun_at c begin) h (Some v))

@@ -1,9 +1,12 @@
 -- The forks at which a walk has turned.
-use Rattle.std.specs.Prelude.{ℕ, if◌then◌else◌, ◌==◌}
+use Rattle.std.specs.Prelude.{◌≡◌, ◌⊎◌, ℕ, ◌<◌, Bool, true, if◌then◌else◌, ◌==◌}
 use Rattle.histories.specs.Common.{NodeNo, Side}
 use Rattle.arena.specs.declared.word.Side.TheVariants as sides
 use Rattle.template.specs.declared.walk.WalkAt.{WalkAt}
-use Rattle.template.specs.declared.walk.WalkAt.TheVariants.{Child}
+use Rattle.template.specs.declared.walk.WalkAt.TheVariants.{Child, Key}
+use Rattle.template.specs.declared.walk.WalkRun.{WalkRun}
+use Rattle.ordered_map.specs.Bits.{IsForkKey, IsInSpan}
+use Rattle.ordered_map.specs.declared.rule.Goal.TheVariants.{Key as ToKey}
 use Rattle.order.specs.declared.read.Children.{Children}
 use Rattle.order.specs.declared.read.Children.TheVariants.{Left, Both}
 use Rattle.order.specs.declared.last_turns.LastTurns.{LastTurns}
@@ -22,10 +25,24 @@ abbrev pub turn_to : Side → LastTurns → NodeNo
 turn_to sides.Left turns = turns.left
 turn_to sides.Right turns = turns.right
 
--- of a walk that stands here at the node, where it had these before
+-- of a walk that stands here at the node, where it had these before, and where it turns now counts
 abbrev pub last_turns : WalkAt → NodeNo → LastTurns → LastTurns
 last_turns (Child level side) node turns = with_last_turn side node turns
 last_turns _ node turns = turns
+
+-- the place is that of the load of a fork's key
+abbrev pub LoadsKey : WalkAt → Type 0
+LoadsKey (Key head) = Unit {0}
+LoadsKey _ = ⊥
+
+-- In a trie the fork n of this level counts, where a walk turns that was here before it has found this: it is
+-- above all keys, or the walk has found the fork's key, and its own shares that.
+abbrev pub Counts : WalkRun → ℕ → ℕ → NodeNo → Type 0
+Counts before found low n = (low < 2) ⊎ ((before.trail.node.0 ≡ n.0) × LoadsKey before.at × ((k level : ℕ) → before.goal ≡ ToKey k → IsForkKey found level → IsInSpan found level k))
+
+-- so a walk that was here, has found this, and is there now, keeps the last turns of its map
+abbrev pub TurnsSo : Bool → WalkRun → ℕ → WalkRun → LastTurns → LastTurns → Type 0
+TurnsSo trie before found after turns now = (now ≡ turns) ⊎ ((now ≡ last_turns after.at after.trail.node turns) × (trie ≡ true → (low : ℕ) (side : Side) → after.at ≡ Child low side → Counts before found low after.trail.node))
 
 -- to which side a walk has turned at its last turn to this side, or at the root if it had none: there
 -- it turns to the left

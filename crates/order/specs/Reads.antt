@@ -4,7 +4,7 @@ use Rattle.std.specs.Prelude.{◌≡◌, ℕ, ◌<◌, false, List, length}
 use Rattle.histories.specs.Common.{Layout, info, History, value, Extends, log, is_final, Call}
 use Rattle.prims.specs.Laws.Idle.{IsQuietSince}
 use Rattle.prims.specs.Laws.InTheWay.{HasBeen}
-use Rattle.template.specs.Common.{IsSnapshot, AreFinished, snap_at, Snap, WasInTree, IsTreeRun}
+use Rattle.template.specs.Common.{IsSnapshot, AreFinished, snap_at, Snap, WasInTree, IsMapRun}
 
 -- the snapshot was right at a moment of the call
 pub record HasSnapped (c : Call) (h : History) (snap : Snap) : Type 0 where
@@ -20,7 +20,7 @@ AreSnapped c h snaps = (i : ℕ) → i < length snaps → HasSnapped c h (snap_a
 -- What a read with these snapshots knows at any place: each SCX-record that its pass has taken is
 -- finished, and none of them was in progress since the call began.
 pub record Reads (c : Call) (h : History) (snaps : List Snap) : Type 0 where
-  pub run : IsTreeRun c.layout h
+  pub run : IsMapRun c.layout h
   pub since : Extends h c.start
   pub over : AreFinished c.layout c.pass 0 h
   pub quiet : IsQuietSince c.layout c.pass c.start h
@@ -32,7 +32,7 @@ AllHold b snaps = (i : ℕ) → i < length snaps → value b (info (snap_at snap
 
 -- P is true at each moment from now on at which they do
 abbrev pub Whenever : Layout → History → List Snap → (History → Type 0) → Type 0
-Whenever lay h snaps P = (b : History) → IsTreeRun lay b → Extends b h → AllHold b snaps → P b
+Whenever lay h snaps P = (b : History) → IsMapRun lay b → Extends b h → AllHold b snaps → P b
 
 -- the node has been in the tree, and was not final at a moment of the call
 pub record HasStood (c : Call) (h : History) (n : ℕ) : Type 0 where

@@ -6,7 +6,7 @@ ghost use Rattle.arena.specs.Machines.{Call, MatchTurn};
 ghost use Rattle.arena.specs.Undisturbed.{IsUndisturbed};
 ghost use Rattle.arena.specs.declared.machine.Turn.{Turn};
 ghost use Rattle.ordered_map.specs.declared.pair.Pair.{Pair};
-ghost use Rattle.ordered_map.specs.Runs.{IsTreeRun};
+ghost use Rattle.ordered_map.specs.Runs.{IsMapRun};
 ghost use Rattle.ordered_map.specs.Spelled.{Spells};
 ghost use Rattle.order.specs.Known.{IsSameRead, ReadIsReady, ReadTurn};
 ghost use Rattle.order.specs.Range.{range_means};
@@ -35,18 +35,18 @@ pub fn alone_holds()
         → ReadIsReady range_means old c h got → IsSameRead range_means old now → ReadTurn range_means c h now turn
         → HasLeftAll c h map × MatchTurn turn (λ _. Unit {0}) (TellsRange map old.read.low old.read.high old.read.most) }
     ensures neighbour_try { (old now : ReadRun Neighbour) (turn : Turn (Result (Option Pair) Refused)) (c : Call) (h : History)
-        (nodes : ℕ) → IsTreeRun c.layout h → IsUndisturbed c h → IsSameRead neighbour_means old now
+        (nodes : ℕ) → IsMapRun c.layout h → IsUndisturbed c h → IsSameRead neighbour_means old now
         → KeepsTries c h old.tries now.tries turn
         → ReadIsNearer neighbour_means now nodes turn (read_left neighbour_means old nodes)
         → (now.tries ≡ old.tries)
         × HasLessOfTry turn (phase_left neighbour_means now nodes now.at) (phase_left neighbour_means old nodes old.at) }
     ensures range_try { (old now : ReadRun Range) (turn : Turn (Result (Vec Pair Global) Refused)) (c : Call) (h : History)
-        (nodes : ℕ) → IsTreeRun c.layout h → IsUndisturbed c h → IsSameRead range_means old now
+        (nodes : ℕ) → IsMapRun c.layout h → IsUndisturbed c h → IsSameRead range_means old now
         → KeepsTries c h old.tries now.tries turn
         → ReadIsNearer range_means now nodes turn (read_left range_means old nodes)
         → (now.tries ≡ old.tries)
         × HasLessOfTry turn (phase_left range_means now nodes now.at) (phase_left range_means old nodes old.at) }
-    ensures undisturbed { (c : Call) (h : History) (n s : ℕ) → IsTreeRun c.layout h →
+    ensures undisturbed { (c : Call) (h : History) (n s : ℕ) → IsMapRun c.layout h →
         IsUndisturbed c h → ¬ IsContended c h n s }
     ensures one_pass { (c : Call) (h : History) (n s : ℕ) → c.layout.passes ≡ 1 →
         ¬ IsContended c h n s }

@@ -4,8 +4,7 @@ ghost use Rattle.std.specs.Prelude.{◌≡◌, ℕ, ◌+◌, ◌-◌, length, If
 ghost use Rattle.arena.specs.History.{History};
 ghost use Rattle.arena.specs.Machines.{Call};
 ghost use Rattle.template.specs.Trails.{IsOwnMoment};
-ghost use Rattle.order.specs.Found.{IsReading};
-ghost use Rattle.order.specs.Known.{IsSameRead};
+ghost use Rattle.order.specs.Known.{IsSameRead, ReadGoes};
 ghost use Rattle.order.specs.Loads.{load_value, load_word};
 ghost use Rattle.order.specs.Next.{MayLoad};
 ghost use Rattle.order.specs.Paths.{LoadFits, load_left};
@@ -35,7 +34,7 @@ pub trait KnownLoad<R: Read + Drop> {
     ///
     /// `NoMemory` where there is none to keep what is found.
     fn found(&self, run: &mut ReadRun<R>, value: u64) -> Result<ReadNext, Refused>
-        ensures goes_on { (c : Call) (h : History) → IsReading R.means run.old.read run.old.snaps.items c h → IsOwnMoment c h
+        ensures goes_on { (c : Call) (h : History) → ReadGoes R.means run.old c h → IsOwnMoment c h
             → MayLoad R.means run.old.read run.old.snaps.items c h (load self.now) → load_value h (load self.now) ≡ value → GoesOn R.means c h run.new result }
         ensures same { IsSameRead R.means run.old run.new }
         ensures nearer { (nodes : ℕ) → LoadFits value nodes (load self.now)

@@ -20,5 +20,5 @@ pub use neighbour::{Neighbour, NeighbourRun, Route};
 pub use range::{Range, RangeRun};
 pub use read::{Children, Read, ReadBegin, ReadNext};
 pub use refused::Refused;
-pub use run::{ReadAt, ReadRun};
+pub use run::{ReadAt, ReadRun, leaf_way};
 pub use template::Tree;

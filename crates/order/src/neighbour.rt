@@ -116,9 +116,10 @@ impl Neighbour {
     /// with this allocator. In each try it asks for at most 137 steps for each node that has been taken
     /// when it ends, and for 274 more.
     #[inline(always)]
-    pub fn run(alloc: Global, key: u64, side: Side, tries: u32) -> NeighbourRun
+    pub fn run(alloc: Global, key: u64, side: Side, tries: u32, trie: bool) -> NeighbourRun
         ensures key { result.read.key ≡ key }
         ensures side { result.read.side ≡ side }
+        ensures trie { result.trie ≡ trie }
         ensures start { result.at ≡ ReadAt.Start }
         ensures snaps { result.snaps.items ≡ [] }
         ensures limit { result.limit ≡ tries }
@@ -133,7 +134,7 @@ impl Neighbour {
             route,
             found,
         };
-        ReadRun::new(alloc, read, tries)
+        ReadRun::new(alloc, read, tries, trie)
     }
 
     /// Whether it loads the key of a fork with this head: beside the path of its key it goes to one

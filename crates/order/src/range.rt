@@ -46,10 +46,11 @@ impl Range {
     /// at most 67 steps for each node that has been taken when it ends, and for 134 more; and that
     /// for each of the pairs it is to answer at most, and twice more.
     #[inline(always)]
-    pub fn run(alloc: Global, low: u64, high: u64, most: usize, tries: u32) -> RangeRun
+    pub fn run(alloc: Global, low: u64, high: u64, most: usize, tries: u32, trie: bool) -> RangeRun
         ensures low { result.read.low ≡ low }
         ensures high { result.read.high ≡ high }
         ensures most { result.read.most ≡ most }
+        ensures trie { result.trie ≡ trie }
         ensures start { result.at ≡ ReadAt.Start }
         ensures snaps { result.snaps.items ≡ [] }
         ensures limit { result.limit ≡ tries }
@@ -67,7 +68,7 @@ impl Range {
             taken,
             leaves: 0,
         };
-        ReadRun::new(alloc, read, tries)
+        ReadRun::new(alloc, read, tries, trie)
     }
 
     /// Which children of a fork of class 0 with this key are to be visited.

@@ -1,6 +1,7 @@
 //! The machine of an ordered read of the tree.
-ghost use Rattle.std.specs.Prelude.{◌≡◌};
-ghost use Rattle.order.specs.LastTurns.{last_turns};
+ghost use Rattle.std.specs.Prelude.{◌≡◌, true};
+ghost use Rattle.template.specs.Balance.{leaf_way};
+ghost use Rattle.order.specs.LastTurns.{Counts, TurnsSo};
 
 use crate::known_load::{HeadLoad, HighLoad, KeyLoad, KnownLoad, MoreLoad, PairLoad, ValueLoad};
 use crate::last_turns::LastTurns;
@@ -10,6 +11,7 @@ use crate::refused::Refused;
 use arena::{
     Access, Head, Kind, Machine, NodeNo, NodeWord, ScxNo, SettledPart, Side, Slot, Step, Turn, Word,
 };
+use ordered_map::shares;
 use prims::{Llx, LlxAt, LlxRun, Snap, Vlx, VlxRun};
 use std::alloc::Global;
 use template::{Goal, Tree, WalkAt, WalkRun, Way};
@@ -49,6 +51,8 @@ pub enum ReadAt {
 pub struct ReadRun<R> {
     /// What is read, and how far that is.
     pub read: R,
+    /// Whether that is in a trie.
+    pub trie: bool,
     /// How many tries it has in all.
     pub limit: u32,
     /// How many of them are left after this one.
@@ -60,7 +64,7 @@ pub struct ReadRun<R> {
 }
 
 impl<R: Read + Drop> ReadRun<R> {
-    ghost use Rattle.std.specs.Prelude.{◌≡◌, ℕ, ◌+◌, ◌-◌, ◌*◌, ◌<◌, ◌≤◌, length, [], IfOk, None, Some, Ok};
+    ghost use Rattle.std.specs.Prelude.{◌≡◌, ℕ, ◌+◌, ◌-◌, ◌*◌, ◌<◌, ◌≤◌, length, [], IfOk, None, Some, Ok, unwrap_or};
     ghost use Rattle.arena.specs.History.{History, Extends};
     ghost use Rattle.arena.specs.Machines.{MatchTurn, Call, begun_at};
     ghost use Rattle.prims.specs.Llx.Known.{IsSnapshot, LlxIsReady};
@@ -70,10 +74,11 @@ impl<R: Read + Drop> ReadRun<R> {
     ghost use Rattle.ordered_map.specs.TreeShape.{TreeAllows};
     ghost use Rattle.template.specs.Blame.{IsContended};
     ghost use Rattle.template.specs.Walk.Known.{WalkIsReady};
-    ghost use Rattle.template.specs.Walk.Steps.{steps_left, WalkFits};
+    ghost use Rattle.template.specs.Balance.{nodes_by};
+    ghost use Rattle.template.specs.Walk.Steps.{walk_left, WalkFitsAt};
     ghost use Rattle.template.specs.Trails.{IsOwnMoment};
-    ghost use Rattle.order.specs.Found.{BeginsSo, WalksTo, IsReading, Looks};
-    ghost use Rattle.order.specs.Known.{AreLastTurns, IsSameRead, ReadIsReady, ReadTurn, Validates};
+    ghost use Rattle.order.specs.Found.{BeginsSo, WalksTo, Looks};
+    ghost use Rattle.order.specs.Known.{AreLastTurns, IsSameRead, ReadGoes, ReadIsReady, ReadTurn, Validates};
     ghost use Rattle.order.specs.Loads.{load_value};
     ghost use Rattle.order.specs.Next.{MayLoad};
     ghost use Rattle.order.specs.Paths.{BeginsNear, ComesNearer, LoadFits, load_left, path_left};
@@ -85,8 +90,9 @@ impl<R: Read + Drop> ReadRun<R> {
     /// A run that has not begun. What it keeps grows with this allocator. What is said of its turns
     /// holds for at least one try.
     #[inline(always)]
-    pub fn new(alloc: Global, read: R, tries: u32) -> ReadRun<R>
+    pub fn new(alloc: Global, read: R, tries: u32, trie: bool) -> ReadRun<R>
         ensures read { result.read ≡ read }
+        ensures trie { result.trie ≡ trie }
         ensures start { result.at ≡ ReadAt.Start }
         ensures snaps { result.snaps.items ≡ [] }
         ensures limit { result.limit ≡ tries }
@@ -96,6 +102,7 @@ impl<R: Read + Drop> ReadRun<R> {
     {
         ReadRun {
             read,
+            trie,
             limit: tries,
             tries: tries.saturating_sub(1),
             snaps: Vec::new(alloc),
@@ -129,7 +136,7 @@ impl<R: Read + Drop> ReadRun<R> {
     /// Begins a try; where there is nothing to be found, it ends.
     fn begin(&mut self) -> Turn<Result<R::Answer, Refused>>
         ensures turn { (c : Call) (begin h : History) → BeginsTry c h self.old.limit self.old.tries
-            → IsReading R.means self.old.read self.old.snaps.items (begun_at c begin) h → ReadTurn R.means c h self.new result }
+            → ReadGoes R.means self.old (begun_at c begin) h → ReadTurn R.means c h self.new result }
         ensures begins { R.means.asks (R.means.call self.old.read) →
             MatchTurn result (λ _. Unit {0}) (λ _. ⊥) }
         ensures same { IsSameRead R.means self.old self.new }
@@ -141,7 +148,7 @@ impl<R: Read + Drop> ReadRun<R> {
         let head = Word::Node(root, NodeWord::Settled(SettledPart::Head));
         match self.start() {
             ReadBegin::Walk { key, side } => {
-                let mut walk = WalkRun::new(Goal::Key(key));
+                let mut walk = WalkRun::by(leaf_way(self.trie), Goal::Key(key));
                 walk.at = WalkAt::Root;
                 let turns = LastTurns::none();
                 self.load(ReadAt::Walk { walk, side, turns }, kind, head)
@@ -156,7 +163,7 @@ impl<R: Read + Drop> ReadRun<R> {
     #[cold]
     fn lost(&mut self, node: NodeNo, scx: ScxNo) -> Turn<Result<R::Answer, Refused>>
         ensures turn { (c : Call) (begin h : History) → IsInTry c h begin self.old.limit self.old.tries
-            → IsReading R.means self.old.read self.old.snaps.items (begun_at c begin) h
+            → ReadGoes R.means self.old (begun_at c begin) h
             → IsContended (begun_at c begin) h node.0 scx.0 → ReadTurn R.means c h self.new result }
         ensures same { IsSameRead R.means self.old self.new }
         ensures nearer { (nodes : ℕ) →
@@ -180,19 +187,20 @@ impl<R: Read + Drop> ReadRun<R> {
         got: Option<u64>,
     ) -> Turn<Result<R::Answer, Refused>>
         ensures turn { (c : Call) (begin h : History) (key v : ℕ) → got ≡ Some v → IsInTry c h begin self.old.limit self.old.tries
-            → IsReading R.means self.old.read self.old.snaps.items (begun_at c begin) h → walk.goal ≡ Goal.Key key
-            → walk.way ≡ Way.InTree → WalksTo R.means self.old.read key side → AreLastTurns (begun_at c begin) h key turns
+            → ReadGoes R.means self.old (begun_at c begin) h → walk.goal ≡ Goal.Key key
+            → walk.way ≡ leaf_way self.old.trie → WalksTo R.means self.old.read key side → AreLastTurns (begun_at c begin) h key turns
             → WalkIsReady walk (begun_at c begin) h (Some v) → ReadTurn R.means c h self.new result }
         ensures same { IsSameRead R.means self.old self.new }
-        ensures nearer { (nodes : ℕ) → WalkFits walk got nodes
-            → ReadIsNearer R.means self.new nodes result
-            (tries_left R.means self.old nodes
-            + (steps_left walk nodes + length self.old.snaps.items + path_left nodes + R.means.behind self.old.read nodes)) }
+        ensures nearer { (nodes : ℕ) → let room : ℕ = nodes_by self.old.trie nodes in walk.way ≡ leaf_way self.old.trie → WalkFitsAt walk.at (unwrap_or got 0) room
+            → ReadIsNearer R.means self.new room result
+            (tries_left R.means self.old room
+            + (walk_left walk.at room + length self.old.snaps.items + path_left room + R.means.behind self.old.read room)) }
         ensures tries { self.new.tries ≡ self.old.tries }
     {
+        let before = walk;
         match Machine::<Tree>::next(&mut walk, got) {
             Turn::Ask(step) => {
-                let turns = last_turns(&walk, turns);
+                let turns = last_turns(self.trie, &before, &walk, turns, got.unwrap_or(0));
                 self.at = ReadAt::Walk { walk, side, turns };
                 Turn::Ask(step)
             }
@@ -235,7 +243,7 @@ impl<R: Read + Drop> ReadRun<R> {
         got: Option<u64>,
     ) -> Turn<Result<R::Answer, Refused>>
         ensures turn { (c : Call) (begin look h : History) → IsInTry c h begin self.old.limit self.old.tries
-            → IsReading R.means self.old.read self.old.snaps.items (begun_at c begin) h
+            → ReadGoes R.means self.old (begun_at c begin) h
             → Looks R.means self.old.read self.old.snaps.items (begun_at c begin) h children level llx.node.0 → Extends look begin
             → LlxIsReady TreeAllows llx (begun_at c look) h got → ReadTurn R.means c h self.new result }
         ensures same { IsSameRead R.means self.old self.new }
@@ -243,7 +251,7 @@ impl<R: Read + Drop> ReadRun<R> {
             → ReadIsNearer R.means self.new nodes result
             (tries_left R.means self.old nodes +
             (llx_left llx.at + length self.old.snaps.items + 1 + 67 * (1 + nodes - level) + R.means.behind self.old.read nodes)) }
-        ensures tries { (c : Call) (begin h : History) → IsReading R.means self.old.read self.old.snaps.items c h
+        ensures tries { (c : Call) (begin h : History) → ReadGoes R.means self.old c h
             → Looks R.means self.old.read self.old.snaps.items c h children level llx.node.0 → Extends begin c.start
             → LlxIsReady TreeAllows llx (begun_at c begin) h got → KeepsTries c h self.old.tries self.new.tries result }
     {
@@ -277,7 +285,7 @@ impl<R: Read + Drop> ReadRun<R> {
         level: u64,
         snap: Snap,
     ) -> Result<ReadNext, Refused>
-        ensures goes_on { (c : Call) (h : History) → IsReading R.means self.old.read self.old.snaps.items c h
+        ensures goes_on { (c : Call) (h : History) → ReadGoes R.means self.old c h
             → Looks R.means self.old.read self.old.snaps.items c h children level snap.node.0
             → IsSnapshot c.layout h snap.node.0 snap → GoesOn R.means c h self.new result }
         ensures same { IsSameRead R.means self.old self.new }
@@ -299,13 +307,13 @@ impl<R: Read + Drop> ReadRun<R> {
     /// Continues with what the last step of the VLX found.
     fn validate_on(&mut self, asked: usize, got: Option<u64>) -> Turn<Result<R::Answer, Refused>>
         ensures turn { (c : Call) (begin look h : History) → IsInTry c h begin self.old.limit self.old.tries
-            → IsReading R.means self.old.read self.old.snaps.items (begun_at c begin) h
+            → ReadGoes R.means self.old (begun_at c begin) h
             → Validates R.means self.old.read self.old.snaps.items (begun_at c begin) h look → VlxIsReady self.old.snaps.items asked (begun_at c look) h got
             → ReadTurn R.means c h self.new result }
         ensures same { IsSameRead R.means self.old self.new }
         ensures nearer { (nodes : ℕ) →
             ReadIsNearer R.means self.new nodes result (tries_left R.means self.old nodes + vlx_left self.old.snaps.items asked) }
-        ensures tries { (c : Call) (begin h : History) → IsReading R.means self.old.read self.old.snaps.items c h
+        ensures tries { (c : Call) (begin h : History) → ReadGoes R.means self.old c h
             → Validates R.means self.old.read self.old.snaps.items c h begin → VlxIsReady self.old.snaps.items asked (begun_at c begin) h got
             → KeepsTries c h self.old.tries self.new.tries result }
     {
@@ -370,7 +378,7 @@ impl<R: Read + Drop> ReadRun<R> {
     /// `NoMemory` where there is none to keep what is found.
     #[inline(always)]
     pub fn loaded(&mut self, load: ReadLoad, value: u64) -> Result<ReadNext, Refused>
-        ensures goes_on { (c : Call) (h : History) → IsReading R.means self.old.read self.old.snaps.items c h → IsOwnMoment c h
+        ensures goes_on { (c : Call) (h : History) → ReadGoes R.means self.old c h → IsOwnMoment c h
             → MayLoad R.means self.old.read self.old.snaps.items c h load → load_value h load ≡ value → GoesOn R.means c h self.new result }
         ensures same { IsSameRead R.means self.old self.new }
         ensures nearer { (nodes : ℕ) → LoadFits value nodes load
@@ -397,8 +405,8 @@ impl<R: Read + Drop> ReadRun<R> {
         ensures begins { got ≡ None → R.means.asks (R.means.call self.old.read) → (c : Call) (h : History)
             → ReadIsReady R.means self.old c h None → MatchTurn result (λ _. Unit {0}) (λ _. ⊥) }
         ensures same { IsSameRead R.means self.old self.new }
-        ensures nearer { (nodes : ℕ) → ReadFits R.means self.old got nodes
-            → ReadIsNearer R.means self.new nodes result (read_left R.means self.old nodes) }
+        ensures nearer { (nodes : ℕ) → let room : ℕ = nodes_by self.old.trie nodes in ReadFits R.means self.old got room
+            → ReadIsNearer R.means self.new room result (read_left R.means self.old room) }
         ensures tries { (c : Call) (h : History) → ReadIsReady R.means self.old c h got →
             KeepsTries c h self.old.tries self.new.tries result }
     {
@@ -430,6 +438,7 @@ impl<R: Read + Drop> Machine<Tree> for ReadRun<R> {
     ghost use Rattle.order.specs.Known.{IsSameRead, ReadIsReady, ReadWaits, ReadAnswers};
     ghost use Rattle.order.specs.Laws.Run.{read_keeps, read_lawful, read_made, read_told};
     ghost use Rattle.order.specs.Steps.{ReadFits, read_left};
+    ghost use Rattle.template.specs.Balance.{nodes_by};
 
     ghost ready = { ReadIsReady R.means };
 
@@ -439,9 +448,9 @@ impl<R: Read + Drop> Machine<Tree> for ReadRun<R> {
 
     ghost same = { IsSameRead R.means };
 
-    ghost left = { read_left R.means };
+    ghost left = { λ m nodes. read_left R.means m (nodes_by m.trie nodes) };
 
-    ghost fits = { ReadFits R.means };
+    ghost fits = { λ m got nodes. ReadFits R.means m got (nodes_by m.trie nodes) };
 
     ghost asks_first = { λ m. R.means.asks (R.means.call m.read) };
 
@@ -458,12 +467,45 @@ impl<R: Read + Drop> Machine<Tree> for ReadRun<R> {
     ghost told = { read_told R.means };
 }
 
-/// The last forks where a walk has turned, where they were these before its last step.
-fn last_turns(walk: &WalkRun, turns: LastTurns) -> LastTurns
-    ensures { result ≡ last_turns walk.now.at walk.now.trail.node turns }
+/// The way of a walk to a leaf, in a trie or in a tree.
+#[inline(always)]
+pub fn leaf_way(trie: bool) -> Way
+    ensures { result ≡ leaf_way trie }
+{
+    if trie { Way::InTrie } else { Way::InTree }
+}
+
+/// The last forks that count where a walk has turned, where they were these before the step that has
+/// taken it here and found this. In a tree each fork counts.
+fn last_turns(
+    trie: bool,
+    before: &WalkRun,
+    walk: &WalkRun,
+    turns: LastTurns,
+    found: u64,
+) -> LastTurns
+    ensures { TurnsSo trie before.now found walk.now turns result }
 {
     match walk.at {
-        WalkAt::Child { level: _, side } => turns.with(side, walk.trail.node),
+        WalkAt::Child { level, side } if !trie || counts(before, walk, level, found) => {
+            turns.with(side, walk.trail.node)
+        }
         _ => turns,
+    }
+}
+
+/// Whether the fork of this level counts where a walk of a trie turns: it is above all keys, or the
+/// walk has just found its key, which its own shares.
+fn counts(before: &WalkRun, walk: &WalkRun, level: u64, found: u64) -> bool
+    ensures { result ≡ true → Counts before.now found level walk.now.trail.node }
+{
+    if level < 2 {
+        return true;
+    }
+    match (before.at, before.goal) {
+        (WalkAt::Key { head: _ }, Goal::Key(key)) => {
+            before.trail.node.0 == walk.trail.node.0 && shares(found, key)
+        }
+        _ => false,
     }
 }

@@ -15,7 +15,8 @@ use Rattle.ordered_map.specs.Edits.{IsLastLeaf, IsSwapBy, IsSplitBy, IsCopyOf, I
 use Rattle.ordered_map.proofs.Holding.{SameSettled}
 use Rattle.ordered_map.proofs.Moved.{settled_class, settled_leaf}
 use Rattle.ordered_map.proofs.Pending.{Mine, Pending}
-use Rattle.ordered_map.proofs.Edited.{past, leaf_plan_says, join_plan_says, end_join_plan_says, result}
+use Rattle.ordered_map.proofs.EditPlans.{leaf_plan_says, join_plan_says, end_join_plan_says}
+use Rattle.ordered_map.proofs.Edited.{past, result}
 use Rattle.ordered_map.proofs.Grown.{IsGrown, start_same}
 use Rattle.ordered_map.proofs.Stood.{facts_then, tree_then, PutThere, of_all_stood}
 

@@ -1,6 +1,5 @@
 -- An update that wins makes the edit of its SCX-record.
-use Rattle.std.proofs.Common.{◌≡◌, ◌≢◌, ℕ, ◌<◌, ◌≤◌, ◌+◌, ◌*◌, ◌/◌, ◌%◌, ◌^◌, true, false, eqb, eq-eqb, ne_eqb, ltb, ◌⊎◌, inl, inr, ⊎_elim, List, ◌++◌, refl, sym, ◌∙◌, ap, arith, zero, suc, subst, lt-ltb, cond, Bool}
-use Rattle.std.specs.Prelude.{None}
+use Rattle.std.proofs.Common.{◌≡◌, ◌≢◌, ℕ, ◌<◌, ◌≤◌, ◌+◌, ◌*◌, ◌/◌, ◌%◌, ◌^◌, true, false, eqb, ltb, ◌⊎◌, inl, inr, ⊎_elim, List, ◌++◌, refl, sym, ◌∙◌, ap, arith, zero, suc, subst, lt-ltb, cond}
 use native.Mathlib.Decide.{ℕ_discrete}
 use Rattle.histories.specs.Common.{Tree as TreeMode, Side, Left, Right, Settled, Child, Head, Key, First, New, Word, Layout, Row, node, scx, info, marked, child, state, same_word}
 use Rattle.histories.specs.Common.{History, ◌⊳◌, value, HasHeld, Extends, count_of, plan_finalizes, field_index_of, count, field_index, member, seen, new, old, field, side_of}
@@ -10,79 +9,60 @@ use Rattle.arena.specs.Layout.{IsMap}
 use Rattle.arena.proofs.Lemmas.{value_at, held_at, node_word_apart, node_apart, ends_self, ends_trans}
 use Rattle.histories.proofs.Lemmas.{Facts, IsFlagged, IsMarker, UpdateWins, child_node, lawful_since, lawful_tail, log_wins, named_since, node_since, node_stays, some_is_real, update_differs, update_finds, update_flagged, update_held, update_holds, update_in_progress, update_is_first, update_keeps_mark, update_keeps_other, update_keeps_scx, update_won, won_more}
 use Rattle.ordered_map.specs.declared.pair.Pair.{Pair}
-use Rattle.ordered_map.specs.OrderedMap.{MapEdit, edit_key, edited, get, AllAbove}
+use Rattle.ordered_map.specs.OrderedMap.{MapEdit, edit_key, edited, AllAbove}
 use Rattle.ordered_map.proofs.Pending.{Mine, IsMadeBy, Pending, Holds, pending_update}
 use Rattle.ordered_map.proofs.Trees.{items, ends, EndsLow, Replaced, replace, IsLocal, edited_local, passes_has, path_level}
 use Rattle.ordered_map.specs.Paths.{IsOnPath, WasOnPath}
 use Rattle.ordered_map.specs.Runs.{map_of_log}
 use Rattle.ordered_map.specs.Spelled.{IsTree}
 use Rattle.ordered_map.specs.EditPlans.{leaf_plan, join_plan, end_leaf_plan, end_join_plan, above_plan, leaf_place, sibling_place}
-use Rattle.ordered_map.specs.TreeShape.{EditsLeaf, TakesLeafOut, IsEdit, leaf_out, edit_leaf}
+use Rattle.ordered_map.specs.TreeShape.{EditsLeaf, TakesLeafOut, IsEdit}
 use Rattle.ordered_map.specs.TrieShape.{Stays, SplitsLeaf, EditsEndLeaf, TakesEndLeafOut, IsAboveBy, PutsAbove}
 use Rattle.ordered_map.specs.Bits.{Shares, Keeps, IsTrieFork}
-use Rattle.ordered_map.specs.TreeWords.{Tree, root, Shows, Has, Passes, class, is_leaf, level, rank, toward, opposite, said}
+use Rattle.ordered_map.specs.TreeWords.{Tree, root, Shows, Has, Passes, class, is_leaf, level, rank, toward, opposite}
 use Rattle.ordered_map.specs.Edits.{IsSwapBy, IsSplitBy, HasTreeLevels, IsLeafEdit, IsCopyOf, IsJoinBy, AreBelow, HasFieldsOf}
-use Rattle.ordered_map.proofs.Local.{Apart, apart_settled, swap, split, join, above, absent}
-use Rattle.ordered_map.proofs.Spanned.{PathPart, path_part, same_fork, same_keeps, same_stays}
-use Rattle.ordered_map.proofs.Searches.{told, told_said, path_child, get_left, get_leaf}
-use Rattle.ordered_map.proofs.Holding.{SameSettled, high_pairs}
+use Rattle.ordered_map.proofs.Local.{Apart, apart_settled, swap, split, join, above}
+use Rattle.ordered_map.proofs.Spanned.{same_fork, same_keeps, same_stays}
+use Rattle.ordered_map.proofs.Searches.{path_child}
+use Rattle.ordered_map.proofs.Holding.{SameSettled}
 use Rattle.ordered_map.proofs.Moved.{settled_toward, settled_leaf, settled_level, move_swap_by, move_split_by, move_levels, move_join_by, move_above}
-use Rattle.ordered_map.proofs.TreeFacts.{TreeFacts, all_named, opening_head, path_now}
-
-pub leaf_plan_says : (p : ℕ) (side : Side) → p ≡ leaf_plan side → (field_index_of p ≡ 0) × (side_of p ≡ side) × (plan_finalizes p 0 ≡ false) × (count_of p ≡ 2) × (plan_finalizes p 1 ≡ true)
-leaf_plan_says p Left e = rw e (refl, refl, refl, refl, refl)
-leaf_plan_says p Right e = rw e (refl, refl, refl, refl, refl)
-
-pub join_plan_says : (p : ℕ) (side : Side) → p ≡ join_plan side → (field_index_of p ≡ 0) × (side_of p ≡ side) × (plan_finalizes p 0 ≡ false) × (count_of p ≡ 4) × (plan_finalizes p 1 ≡ true) × (plan_finalizes p 2 ≡ true) × (plan_finalizes p 3 ≡ true)
-join_plan_says p Left e = rw e (refl, refl, refl, refl, refl, refl, refl)
-join_plan_says p Right e = rw e (refl, refl, refl, refl, refl, refl, refl)
-
-pub end_leaf_plan_says : (p : ℕ) (side : Side) → p ≡ end_leaf_plan side → (field_index_of p ≡ 0) × (side_of p ≡ side) × (plan_finalizes p 0 ≡ false) × (count_of p ≡ 3) × (plan_finalizes p 1 ≡ true) × (plan_finalizes p 2 ≡ false)
-end_leaf_plan_says p Left e = rw e (refl, refl, refl, refl, refl, refl)
-end_leaf_plan_says p Right e = rw e (refl, refl, refl, refl, refl, refl)
-
-pub end_join_plan_says : (p : ℕ) (side : Side) → p ≡ end_join_plan side → (field_index_of p ≡ 0) × (side_of p ≡ side) × (plan_finalizes p 0 ≡ false) × (count_of p ≡ 4) × (plan_finalizes p 1 ≡ true) × (plan_finalizes p 2 ≡ true) × (plan_finalizes p 3 ≡ false)
-end_join_plan_says p Left e = rw e (refl, refl, refl, refl, refl, refl, refl)
-end_join_plan_says p Right e = rw e (refl, refl, refl, refl, refl, refl, refl)
-
-pub above_plan_says : (p : ℕ) (side : Side) → p ≡ above_plan side → (field_index_of p ≡ 0) × (side_of p ≡ side) × (plan_finalizes p 0 ≡ false) × (count_of p ≡ 2) × (plan_finalizes p 1 ≡ false)
-above_plan_says p Left e = rw e (refl, refl, refl, refl, refl)
-above_plan_says p Right e = rw e (refl, refl, refl, refl, refl)
+use Rattle.ordered_map.proofs.TreeFacts.{TreeFacts, all_named, path_now}
+use Rattle.ordered_map.proofs.EditPlans.{leaf_plan_says, join_plan_says, end_leaf_plan_says, end_join_plan_says, above_plan_says}
 
 weaken : {f g : Word → ℕ} {change : List Pair → List Pair} {Stays : ℕ → ℕ → Type 0} {Gone Lost Made Born : ℕ → Type 0} {new lo hi : ℕ} {a : Tree} → ((j n : ℕ) → Stays j n → Gone n → Lost n) → ((n : ℕ) → Lost n → Gone n) → ((n : ℕ) → Made n → Born n) → Replaced f g change Stays Gone Made new lo hi a → Replaced f g change Stays Lost Born new lo hi a
 weaken to back born x = record { tree = x.tree; shows = x.shows; is = x.is; items = x.items; ends = x.ends; low = x.low; paths = λ j n s p. ⊎_elim inl (λ q. inr (to j n s q)) (x.paths j n s p); made = λ n p. ⊎_elim inl (λ q. inr (born n q)) (x.made n p); out = λ n p. x.out n (back n p) }
 
 module _ (calls : ℕ → MapEdit) (lay : Layout) (h : History) (r : Row) (u : ℕ) (f : Facts lay h) (z : UpdateWins h r u)
     (o : IsMap lay.mode) (l : Lawful lay (r ⊳ h)) (t : TreeFacts calls lay h) where
-  all_frozen : IsFlagged (descriptor h u) h u
+  pub all_frozen : IsFlagged (descriptor h u) h u
   all_frozen = update_flagged f z
 
-  real : u ≢ 0
+  pub real : u ≢ 0
   real = some_is_real f all_frozen.some
 
-  held_u : HasHeld h (info (member h u 0)) u
+  pub held_u : HasHeld h (info (member h u 0)) u
   held_u = all_frozen.frozen 0 all_frozen.some
 
   not_won : ¬ HasWon h u
   not_won = update_is_first f z
 
-  running : value h (state u) ≡ 0
+  pub running : value h (state u) ≡ 0
   running = update_in_progress f z
 
   pub past : Pending calls lay h u
   past = t.pending u _ real held_u not_won
 
   -- its words are those at its start
-  abbrev spot_of : ℕ
+  abbrev pub spot_of : ℕ
   spot_of = member past.before u 0
 
-  abbrev made_of : ℕ
+  abbrev pub made_of : ℕ
   made_of = new past.before u
 
   made_is : made_of ≡ new h u
   made_is = λ i. (past.same i).new
 
-  card : (n : ℕ) → Mine past.before u n → SameSettled (value past.before) (value h) n
+  pub card : (n : ℕ) → Mine past.before u n → SameSettled (value past.before) (value h) n
   card n m c i = past.settled n m c i
 
   holds : (j : ℕ) → j < count past.before u → Holds (descriptor past.before u) h u j
@@ -97,7 +77,7 @@ module _ (calls : ℕ → MapEdit) (lay : Layout) (h : History) (r : Row) (u : �
       t.unborn u _ real held_u not_won e2 (rw made_is at i)
 
   -- where the field is
-  record IsSpot (x : ℕ) : Type 0 where
+  pub record IsSpot (x : ℕ) : Type 0 where
     zero_place : field_index_in (descriptor past.before u) ≡ 0
     at_side : side_of (plan past.before u) ≡ toward (value h) spot_of x
     kept_node : scx_finalizes past.before u 0 ≡ false
@@ -157,7 +137,7 @@ module _ (calls : ℕ → MapEdit) (lay : Layout) (h : History) (r : Row) (u : �
   IsForkNow n = lay.mode ≡ TrieMode → IsTrieFork (value h) n
 
   -- the node of the field was on the path of x, and stays there
-  abbrev Comes : ℕ → Type 0
+  abbrev pub Comes : ℕ → Type 0
   Comes x = WasOnPath past.before x spot_of × Stays lay (value past.before) x spot_of
 
   on_path : (x : ℕ) → IsSpot x → Comes x → Passes (value h) x t.tree spot_of
@@ -178,7 +158,7 @@ module _ (calls : ℕ → MapEdit) (lay : Layout) (h : History) (r : Row) (u : �
   abbrev EditsHere : ℕ → (List Pair → List Pair) → Type 0
   EditsHere x change' = (lo hi : ℕ) (a : Tree) → lo ≤ x → x < hi → Shows (value h) lo hi a → EndsLow (value h) a → ((n : ℕ) → Has a n → IsForkNow n) → root a ≡ old past.before u → ¬ Has a spot_of → Replaced (value h) (value (r ⊳ h)) change' StaysNow IsCut Born made_of lo hi a
 
-  abbrev Result : (List Pair → List Pair) → Type 0
+  abbrev pub Result : (List Pair → List Pair) → Type 0
   Result change' = Replaced (value h) (value (r ⊳ h)) change' StaysNow IsCut Born (root t.tree) 0 (3 * 2 ^ 64) t.tree
 
   field_now : (x : ℕ) → IsSpot x → value (r ⊳ h) (child spot_of (toward (value h) spot_of x)) ≡ made_of
@@ -196,10 +176,10 @@ module _ (calls : ℕ → MapEdit) (lay : Layout) (h : History) (r : Row) (u : �
   marked_of : (j : ℕ) → j < count past.before u → scx_finalizes past.before u j ≡ true → IsMarked (member past.before u j)
   marked_of j i q e = let x : value h (marked (member past.before u j)) ≡ 1 = removed j i q in omega arith
 
-  member_card : (j : ℕ) → SameSettled (value past.before) (value h) (member past.before u j)
+  pub member_card : (j : ℕ) → SameSettled (value past.before) (value h) (member past.before u j)
   member_card j = card (member past.before u j) (inr (inr (j, refl)))
 
-  made_card : SameSettled (value past.before) (value h) made_of
+  pub made_card : SameSettled (value past.before) (value h) made_of
   made_card = card made_of (inl refl)
 
   toward_now : (x : ℕ) → toward (value h) spot_of x ≡ toward (value past.before) spot_of x
@@ -220,7 +200,7 @@ module _ (calls : ℕ → MapEdit) (lay : Layout) (h : History) (r : Row) (u : �
   -- Leaves
 
   -- an edit of a leaf finalizes that alone
-  abbrev CutsLeaf : Type 0
+  abbrev pub CutsLeaf : Type 0
   CutsLeaf = IsCut (member past.before u 1) × ((n : ℕ) → IsCut n → member past.before u 1 ≡ n)
 
   cuts_of : (many : ℕ) → count past.before u ≡ many → 1 < many → scx_finalizes past.before u 0 ≡ false → scx_finalizes past.before u 1 ≡ true → ((j : ℕ) → 1 < j → j < many → scx_finalizes past.before u j ≡ false) → CutsLeaf
@@ -287,7 +267,7 @@ module _ (calls : ℕ → MapEdit) (lay : Layout) (h : History) (r : Row) (u : �
           (not_fresh (edit_key c) s p two before.fork e Left x before.left before.first.leaf) (not_fresh (edit_key c) s p two before.fork e Right y before.right before.last.leaf)
           lx ly w lo hi a i j g ends (q ∙ e) d)
 
-  leaf_plans : (c : MapEdit) → plan past.before u ≡ leaf_plan (toward (value past.before) spot_of (edit_key c)) → IsSpot (edit_key c) × CutsLeaf × (count past.before u ≡ 2)
+  pub leaf_plans : (c : MapEdit) → plan past.before u ≡ leaf_plan (toward (value past.before) spot_of (edit_key c)) → IsSpot (edit_key c) × CutsLeaf × (count past.before u ≡ 2)
   leaf_plans c e =
       let q = leaf_plan_says (plan past.before u) (toward (value past.before) spot_of (edit_key c)) e in
       (record { zero_place = q.0; at_side = q.1 ∙ sym (toward_now (edit_key c)); kept_node = q.2 }, cuts_of 2 q.3 (omega arith) q.2 q.4 (λ j a b. absurd (omega arith)), q.3)
@@ -335,7 +315,7 @@ module _ (calls : ℕ → MapEdit) (lay : Layout) (h : History) (r : Row) (u : �
       let plans = leaf_plans c e.plan in
       splits c e.first e.last small p fork plans.0 plans.1 plans.2 e.old e.edit (made_deeper m) (made_rises m e.edit.fork Left e.first e.edit.left) (made_rises m e.edit.fork Right e.last e.edit.right)
 
-  end_leaf_plans : (c : MapEdit) → plan past.before u ≡ end_leaf_plan (toward (value past.before) spot_of (edit_key c)) → IsSpot (edit_key c) × CutsLeaf × (count past.before u ≡ 3)
+  pub end_leaf_plans : (c : MapEdit) → plan past.before u ≡ end_leaf_plan (toward (value past.before) spot_of (edit_key c)) → IsSpot (edit_key c) × CutsLeaf × (count past.before u ≡ 3)
   end_leaf_plans c e =
       let q = end_leaf_plan_says (plan past.before u) (toward (value past.before) spot_of (edit_key c)) e in
       (record { zero_place = q.0; at_side = q.1 ∙ sym (toward_now (edit_key c)); kept_node = q.2 }, cuts_of 3 q.3 (omega arith) q.2 q.4 (λ j a b. let k : j ≡ 2 = omega (arith, a, b) in rw k q.5), q.3)
@@ -392,12 +372,12 @@ module _ (calls : ℕ → MapEdit) (lay : Layout) (h : History) (r : Row) (u : �
       let same : value h (child y side) ≡ value past.before (child y side) = subst (λ n. value h (child n side) ≡ value past.before (child n side)) is (shown_at zero_place four j i d side) in
       past.fields cb side ∙ fields (subst (λ n. value past.before (info n) ≡ seen past.before u j) is (saw_at four j i)) zb side ∙ sym same
 
-  join_plans : (x : ℕ) → plan past.before u ≡ join_plan (toward (value past.before) spot_of x) → IsSpot x × (count past.before u ≡ 4)
+  pub join_plans : (x : ℕ) → plan past.before u ≡ join_plan (toward (value past.before) spot_of x) → IsSpot x × (count past.before u ≡ 4)
   join_plans x e =
       let q = join_plan_says (plan past.before u) (toward (value past.before) spot_of x) e in
       (record { zero_place = q.0; at_side = q.1 ∙ sym (toward_now x); kept_node = q.2 }, q.3)
 
-  below_old : (c : MapEdit) (side : Side) → TakesLeafOut past.before u c side → (value h (child (member past.before u 1) Left) ≡ member past.before u 2) × (value h (child (member past.before u 1) Right) ≡ member past.before u 3)
+  pub below_old : (c : MapEdit) (side : Side) → TakesLeafOut past.before u c side → (value h (child (member past.before u 1) Left) ≡ member past.before u 2) × (value h (child (member past.before u 1) Right) ≡ member past.before u 3)
   below_old c side e =
       let plans = join_plans (edit_key c) e.plan in
       let q : (value past.before (child (member past.before u 1) Left) ≡ member past.before u 2) × (value past.before (child (member past.before u 1) Right) ≡ member past.before u 3) = e.fields (saw_at plans.1 1 (omega arith)) in
@@ -476,7 +456,7 @@ module _ (calls : ℕ → MapEdit) (lay : Layout) (h : History) (r : Row) (u : �
       apart_sibling Left w = not_made (member past.before u 1) Right (member past.before u 3) w.1
       apart_sibling Right w = not_made (member past.before u 1) Left (member past.before u 2) w.0
 
-  end_join_plans : (x : ℕ) → plan past.before u ≡ end_join_plan (toward (value past.before) spot_of x) → IsSpot x × (count past.before u ≡ 4)
+  pub end_join_plans : (x : ℕ) → plan past.before u ≡ end_join_plan (toward (value past.before) spot_of x) → IsSpot x × (count past.before u ≡ 4)
   end_join_plans x e =
       let q = end_join_plan_says (plan past.before u) (toward (value past.before) spot_of x) e in
       (record { zero_place = q.0; at_side = q.1 ∙ sym (toward_now x); kept_node = q.2 }, q.3)
@@ -487,14 +467,14 @@ module _ (calls : ℕ → MapEdit) (lay : Layout) (h : History) (r : Row) (u : �
   no_leaf_stays m j n leaf (inl (inr y)) = let q : true ≡ false = sym leaf ∙ y.0 in cc
   no_leaf_stays m j n leaf (inr y) = let q : true ≡ false = sym leaf ∙ y.0 in cc
 
-  below_end : (c : MapEdit) (side : Side) (e : TakesEndLeafOut past.before u c side) → (value h (child (member past.before u 1) side) ≡ e.leaf) × (value h (child (member past.before u 1) (opposite side)) ≡ member past.before u 2)
+  pub below_end : (c : MapEdit) (side : Side) (e : TakesEndLeafOut past.before u c side) → (value h (child (member past.before u 1) side) ≡ e.leaf) × (value h (child (member past.before u 1) (opposite side)) ≡ member past.before u 2)
   below_end c side e =
       let plans = end_join_plans (edit_key c) e.plan in
       let q : (value past.before (child (member past.before u 1) side) ≡ e.leaf) × (value past.before (child (member past.before u 1) (opposite side)) ≡ member past.before u 2) = e.fields (saw_at plans.1 1 (omega arith)) in
       (shown_at plans.0.zero_place plans.1 1 (omega arith) (λ i. omega arith) side ∙ q.0, shown_at plans.0.zero_place plans.1 1 (omega arith) (λ i. omega arith) (opposite side) ∙ q.1)
 
   -- the words of a leaf that is not covered stay too: it was named
-  end_leaf_card : (c : MapEdit) (side : Side) → Comes (edit_key c) → (e : TakesEndLeafOut past.before u c side) → SameSettled (value past.before) (value h) e.leaf
+  pub end_leaf_card : (c : MapEdit) (side : Side) → Comes (edit_key c) → (e : TakesEndLeafOut past.before u c side) → SameSettled (value past.before) (value h) e.leaf
   end_leaf_card c side p e part i =
       let plans = end_join_plans (edit_key c) e.plan in
       let shown = e.fields (saw_at plans.1 1 (omega arith)) in
@@ -540,7 +520,7 @@ module _ (calls : ℕ → MapEdit) (lay : Layout) (h : History) (r : Row) (u : �
 
   -- A fork is put above a fork
 
-  above_plans : (x : ℕ) → plan past.before u ≡ above_plan (toward (value past.before) spot_of x) → IsSpot x × (count past.before u ≡ 2) × ((n : ℕ) → ¬ IsCut n)
+  pub above_plans : (x : ℕ) → plan past.before u ≡ above_plan (toward (value past.before) spot_of x) → IsSpot x × (count past.before u ≡ 2) × ((n : ℕ) → ¬ IsCut n)
   above_plans x e = (record { zero_place = q.0; at_side = q.1 ∙ sym (toward_now x); kept_node = q.2 }, q.3, λ n w. none w.0 (rw q.3 at w.1) w.2)
     where
       q : (field_index_of (plan past.before u) ≡ 0) × (side_of (plan past.before u) ≡ toward (value past.before) spot_of x) × (plan_finalizes (plan past.before u) 0 ≡ false) × (count_of (plan past.before u) ≡ 2) × (plan_finalizes (plan past.before u) 1 ≡ false)
@@ -552,12 +532,12 @@ module _ (calls : ℕ → MapEdit) (lay : Layout) (h : History) (r : Row) (u : �
       none (suc (suc j)) i e = omega arith
 
   -- what it puts above keeps what is below it on its side
-  keeps_now : lay.mode ≡ TrieMode → is_leaf (value past.before) made_of ≡ false → (side : Side) (x : ℕ) → value past.before (child made_of side) ≡ x → Keeps (value h) made_of side x
+  pub keeps_now : lay.mode ≡ TrieMode → is_leaf (value past.before) made_of ≡ false → (side : Side) (x : ℕ) → value past.before (child made_of side) ≡ x → Keeps (value h) made_of side x
   keeps_now m fork side x e =
       same_keeps (value past.before) (value h) made_of side x made_card (child_card side x e)
       (subst (Keeps (value past.before) made_of side) e (((past.allowed.fits m).fork fork).1 side))
 
-  above_now : (c : MapEdit) (e : PutsAbove past.before u c) → IsAboveBy (value h) c (old past.before u) made_of e.leaf e.side
+  pub above_now : (c : MapEdit) (e : PutsAbove past.before u c) → IsAboveBy (value h) c (old past.before u) made_of e.leaf e.side
   above_now c e = move_above (value past.before) (value h) c (old past.before u) made_of e.leaf e.side (child_card (opposite e.side) (old past.before u) e.edit.other) made_card (child_card e.side e.leaf e.edit.leaf) (past.fields e.edit.fork) e.edit
 
   aboves : (c : MapEdit) → lay.mode ≡ TrieMode → edit_key c < 2 ^ 64 → Comes (edit_key c) → is_leaf (value past.before) spot_of ≡ false → PutsAbove past.before u c → Result (edited c)
@@ -603,7 +583,7 @@ module _ (calls : ℕ → MapEdit) (lay : Layout) (h : History) (r : Row) (u : �
   abbrev pub called : MapEdit
   called = calls u
 
-  comes : Comes (edit_key called)
+  pub comes : Comes (edit_key called)
   comes = (past.allowed.path, past.allowed.stays)
 
   pub result : Result (edited called)
@@ -615,7 +595,7 @@ module _ (calls : ℕ → MapEdit) (lay : Layout) (h : History) (r : Row) (u : �
   pub content_now : map_of_log calls (log lay (r ⊳ h)) ≡ edited called (map_of_log calls (log lay h))
   content_now = ap (map_of_log calls) (log_wins f z)
 
-  above_ends : AllAbove (edit_key called) ends
+  pub above_ends : AllAbove (edit_key called) ends
   above_ends = let s = past.allowed.small in (omega (arith, s), (omega (arith, s), tt))
 
   items_now : items (value (r ⊳ h)) result.tree ≡ map_of_log calls (log lay (r ⊳ h)) ++ ends
@@ -726,32 +706,6 @@ module _ (calls : ℕ → MapEdit) (lay : Layout) (h : History) (r : Row) (u : �
   pub tree_updated : TreeFacts calls lay (r ⊳ h)
   tree_updated = record { tree = result.tree; is_tree = tree_now; items = items_now; ends_low = result.low; pending = pending_then; one_new = one_new_then; unborn = unborn_then; path = path_then; forks = forks_then }
 
-  member_now : (j : ℕ) → member h u j ≡ member past.before u j
-  member_now j = λ i. (sym past.same i).member j
-
-  -- Paths of any key
-
-  -- where the second node is finalized no fork leaves a path but those that are finalized
-  pub fork_paths : (x n : ℕ) → is_leaf (value h) n ≡ false → scx_finalizes h u 1 ≡ true → Passes (value h) x t.tree n → Passes (value (r ⊳ h)) x result.tree n ⊎ IsCut n
-  fork_paths x n fork second p = result.paths x n (inr (fork, ap (λ d. plan_finalizes d.plan 1) past.same ∙ second)) p
-
-  second_of : (c : MapEdit) → IsEdit lay past.before u c → (scx_finalizes past.before u 1 ≡ true) ⊎ ((member past.before u 1 ≡ 2) × (1 < count past.before u))
-  second_of c (inl e) = inl (leaf_plan_says (plan past.before u) (toward (value past.before) spot_of (edit_key c)) e.plan).4
-  second_of c (inr (inl e)) = inl (join_plan_says (plan past.before u) (toward (value past.before) spot_of (edit_key c)) e.plan).4
-  second_of c (inr (inr (m, inl e))) = inl (leaf_plan_says (plan past.before u) (toward (value past.before) spot_of (edit_key c)) e.plan).4
-  second_of c (inr (inr (m, inr (inl e)))) = inl (end_leaf_plan_says (plan past.before u) (toward (value past.before) spot_of (edit_key c)) e.plan).4
-  second_of c (inr (inr (m, inr (inr (inl e))))) = inl (end_join_plan_says (plan past.before u) (toward (value past.before) spot_of (edit_key c)) e.plan).4
-  second_of c (inr (inr (m, inr (inr (inr e))))) = inr (e.guard, rw (above_plans (edit_key c) e.plan).1 (omega arith))
-
-  -- else it holds node 2 as it wins
-  pub second_or_two : (scx_finalizes h u 1 ≡ true) ⊎ (value h (info 2) ≡ u)
-  second_or_two = ⊎_elim (λ e. inl (ap (λ d. plan_finalizes d.plan 1) (sym past.same) ∙ e)) (λ x. inr (two x.0 x.1)) (second_of called past.allowed.edit)
-    where
-      two : member past.before u 1 ≡ 2 → 1 < count past.before u → value h (info 2) ≡ u
-      two is many =
-          let within : 1 < count h u = subst (λ d. 1 < count_in d) past.same many in
-          subst (λ n. value h (info n) ≡ u) (member_now 1 ∙ is) ((f.about u _ real held_u).holds 1 within (all_frozen.frozen 1 within) running)
-
   -- the node of the field that it changes is in the tree
   pub spot_unmarked : value h (marked (member h u (field_index h u))) ≢ 0 → ⊥
   spot_unmarked d = not_marked (edit_key called) is_spot (rw (same_place (edit_key called) is_spot) at d)
@@ -769,130 +723,10 @@ module _ (calls : ℕ → MapEdit) (lay : Layout) (h : History) (r : Row) (u : �
       let i = past.allowed.small in
       spot_side ∙ ap (λ n. toward (value h) n (edit_key called)) e ∙ ap (λ c. cond c Left Right) (lt-ltb (edit_key called) (rank (value h) 0) (omega (arith, i, big)))
 
-  old_on_path : (x : ℕ) → IsSpot x → Comes x → is_leaf (value past.before) spot_of ≡ false → Passes (value h) x t.tree (old past.before u)
+  pub old_on_path : (x : ℕ) → IsSpot x → Comes x → is_leaf (value past.before) spot_of ≡ false → Passes (value h) x t.tree (old past.before u)
   old_on_path x s p fork =
       subst (λ n. Passes (value h) x t.tree n) (field_was x s)
       (path_child (value h) x t.tree _ _ spot_of t.is_tree.shows (on_path x s p) (spot_fork fork))
-
-  few_covered : (c : MapEdit) → count past.before u < 4 → edit_leaf h u c ≡ member past.before u 1
-  few_covered c few =
-      let many : count h u ≡ count past.before u = ap count_in (sym past.same) in
-      rw (ne_eqb (count h u) 4 (λ q. omega (arith, q, few, many))) (member_now 1)
-
-  many_covered : (c : MapEdit) → count past.before u ≡ 4 → edit_leaf h u c ≡ leaf_out h u (toward (value h) (member past.before u 1) (edit_key c))
-  many_covered c four =
-      let many : count h u ≡ 4 = ap count_in (sym past.same) ∙ four in
-      rw (eq-eqb (count h u) 4 many) (ap (λ n. leaf_out h u (toward (value h) n (edit_key c))) (member_now 1))
-
-  last_finalized : (b : Bool) → scx_finalizes past.before u 3 ≡ b → scx_finalizes h u 3 ≡ b
-  last_finalized b e = ap (λ d. plan_finalizes d.plan 3) (sym past.same) ∙ e
-
-  -- a leaf that was on the path just before says what the map had
-  says_leaf : (x n : ℕ) → Passes (value h) x t.tree n → is_leaf (value h) n ≡ true → get x (items (value h) t.tree) ≡ told (value h) x n
-  says_leaf x n q d = get_leaf (value h) x t.tree _ _ n t.is_tree.shows q d
-
-  says_old : (c : MapEdit) → IsSpot (edit_key c) → Comes (edit_key c) → is_leaf (value past.before) spot_of ≡ false → old past.before u ≡ member past.before u 1 → is_leaf (value past.before) (member past.before u 1) ≡ true → count past.before u < 4 → get (edit_key c) (items (value h) t.tree) ≡ told (value h) (edit_key c) (edit_leaf h u c)
-  says_old c s p fork e leaf few =
-      says_leaf (edit_key c) (member past.before u 1) (subst (λ n. Passes (value h) (edit_key c) t.tree n) e (old_on_path (edit_key c) s p fork)) (settled_leaf (value past.before) (value h) (member past.before u 1) (member_card 1) ∙ leaf)
-      ∙ ap (told (value h) (edit_key c)) (sym (few_covered c few))
-
-  says_below : (c : MapEdit) (n : ℕ) → IsSpot (edit_key c) → Comes (edit_key c) → is_leaf (value past.before) spot_of ≡ false → old past.before u ≡ member past.before u 1 → is_leaf (value h) (member past.before u 1) ≡ false → value h (child (member past.before u 1) (toward (value h) (member past.before u 1) (edit_key c))) ≡ n → is_leaf (value h) n ≡ true → get (edit_key c) (items (value h) t.tree) ≡ told (value h) (edit_key c) n
-  says_below c n s p fork e below is leaf =
-      let q : Passes (value h) (edit_key c) t.tree (member past.before u 1) = subst (λ n. Passes (value h) (edit_key c) t.tree n) e (old_on_path (edit_key c) s p fork) in
-      says_leaf (edit_key c) n (subst (λ n. Passes (value h) (edit_key c) t.tree n) is (path_child (value h) (edit_key c) t.tree _ _ (member past.before u 1) t.is_tree.shows q below)) leaf
-
-  says_join : (c : MapEdit) → Comes (edit_key c) → is_leaf (value past.before) spot_of ≡ false → TakesLeafOut past.before u c (toward (value past.before) (member past.before u 1) (edit_key c)) → get (edit_key c) (items (value h) t.tree) ≡ told (value h) (edit_key c) (edit_leaf h u c)
-  says_join c p fork e =
-      says_below c (member past.before u (leaf_place side)) plans.0 p fork e.old
-      (settled_leaf (value past.before) (value h) (member past.before u 1) (member_card 1) ∙ e.edit.fork)
-      (ap (λ x. value h (child (member past.before u 1) x)) here ∙ by_side side (below_old c side e))
-      (settled_leaf (value past.before) (value h) (member past.before u (leaf_place side)) (member_card _) ∙ e.edit.leaf)
-      ∙ ap (told (value h) (edit_key c)) (sym covered)
-    where
-      side : Side
-      side = toward (value past.before) (member past.before u 1) (edit_key c)
-
-      here : toward (value h) (member past.before u 1) (edit_key c) ≡ side
-      here = settled_toward (value past.before) (value h) (member past.before u 1) (edit_key c) (member_card 1)
-
-      plans : IsSpot (edit_key c) × (count past.before u ≡ 4)
-      plans = join_plans (edit_key c) e.plan
-
-      last : scx_finalizes past.before u 3 ≡ true
-      last = (join_plan_says (plan past.before u) (toward (value past.before) spot_of (edit_key c)) e.plan).6
-
-      covered : edit_leaf h u c ≡ member past.before u (leaf_place side)
-      covered = many_covered c plans.1 ∙ rw (last_finalized true last) (ap (λ x. member h u (leaf_place x)) here ∙ member_now (leaf_place side))
-
-      by_side : (side : Side) → (value h (child (member past.before u 1) Left) ≡ member past.before u 2) × (value h (child (member past.before u 1) Right) ≡ member past.before u 3) → value h (child (member past.before u 1) side) ≡ member past.before u (leaf_place side)
-      by_side Left q = q.0
-      by_side Right q = q.1
-
-  says_end : (c : MapEdit) → Comes (edit_key c) → is_leaf (value past.before) spot_of ≡ false → TakesEndLeafOut past.before u c (toward (value past.before) (member past.before u 1) (edit_key c)) → get (edit_key c) (items (value h) t.tree) ≡ told (value h) (edit_key c) (edit_leaf h u c)
-  says_end c p fork e =
-      says_below c (value h (child (member past.before u 1) (toward (value h) (member past.before u 1) (edit_key c)))) plans.0 p fork e.old
-      (settled_leaf (value past.before) (value h) (member past.before u 1) (member_card 1) ∙ e.edit.fork)
-      refl leaf_there
-      ∙ ap (told (value h) (edit_key c)) (sym covered)
-    where
-      side : Side
-      side = toward (value past.before) (member past.before u 1) (edit_key c)
-
-      here : toward (value h) (member past.before u 1) (edit_key c) ≡ side
-      here = settled_toward (value past.before) (value h) (member past.before u 1) (edit_key c) (member_card 1)
-
-      plans : IsSpot (edit_key c) × (count past.before u ≡ 4)
-      plans = end_join_plans (edit_key c) e.plan
-
-      last : scx_finalizes past.before u 3 ≡ false
-      last = (end_join_plan_says (plan past.before u) (toward (value past.before) spot_of (edit_key c)) e.plan).6
-
-      is : value h (child (member past.before u 1) (toward (value h) (member past.before u 1) (edit_key c))) ≡ e.leaf
-      is = ap (λ x. value h (child (member past.before u 1) x)) here ∙ (below_end c side e).0
-
-      leaf_there : is_leaf (value h) (value h (child (member past.before u 1) (toward (value h) (member past.before u 1) (edit_key c)))) ≡ true
-      leaf_there = rw is (ap (λ v. eqb (v / 4 % 2) 1) (end_leaf_card c side p e (Settled Head) tt) ∙ e.edit.leaf)
-
-      covered : edit_leaf h u c ≡ value h (child (member past.before u 1) (toward (value h) (member past.before u 1) (edit_key c)))
-      covered = many_covered c plans.1 ∙ rw (last_finalized false last) (ap (λ n. value h (child n (toward (value h) (member past.before u 1) (edit_key c)))) (member_now 1))
-
-  -- node 2 says nothing of a key
-  two_says : (x : ℕ) → x < 2 ^ 64 → None ≡ told (value h) x 2
-  two_says x small =
-      let head : value h (node 2 (Settled Head)) ≡ 14 = opening_head lay h (lawful_tail lay h r l) o in
-      let high : class (value h) 2 ≢ 0 = λ q. omega (arith, head, q) in
-      sym (told_said (value h) x 2 small ∙ ap (get x) (high_pairs (value h) 2 high))
-
-  -- what is below where a fork is put above has not the key
-  says_above : (c : MapEdit) → lay.mode ≡ TrieMode → edit_key c < 2 ^ 64 → Comes (edit_key c) → is_leaf (value past.before) spot_of ≡ false → PutsAbove past.before u c → get (edit_key c) (items (value h) t.tree) ≡ told (value h) (edit_key c) (edit_leaf h u c)
-  says_above c m small p fork e =
-      part.gives ∙ go e.side w (keeps_now m e.edit.fork (opposite e.side) (old past.before u) e.edit.other) ∙ two_says (edit_key c) small
-      ∙ ap (told (value h) (edit_key c)) (sym (few_covered c (rw plans.1 (omega arith)) ∙ e.guard))
-    where
-      plans : IsSpot (edit_key c) × (count past.before u ≡ 2) × ((n : ℕ) → ¬ IsCut n)
-      plans = above_plans (edit_key c) e.plan
-
-      w : IsAboveBy (value h) c (old past.before u) made_of e.leaf e.side
-      w = above_now c e
-
-      part : PathPart (value h) (edit_key c) t.tree (old past.before u)
-      part = path_part (value h) (edit_key c) t.tree _ _ (old past.before u) t.is_tree.shows t.ends_low (old_on_path (edit_key c) plans.0 p fork)
-
-      go : (side : Side) → IsAboveBy (value h) c (old past.before u) made_of e.leaf side → Keeps (value h) made_of (opposite side) (old past.before u) → get (edit_key c) (items (value h) part.part) ≡ None
-      go side x k = absent (value h) c (old past.before u) made_of e.leaf side part.part part.low part.high part.shows part.ends (λ n i. t.forks m n (part.inside n i)) part.is x k
-
-  says : (c : MapEdit) → edit_key c < 2 ^ 64 → Comes (edit_key c) → is_leaf (value past.before) spot_of ≡ false → IsEdit lay past.before u c → get (edit_key c) (items (value h) t.tree) ≡ told (value h) (edit_key c) (edit_leaf h u c)
-  says c small p fork (inl e) = let q = leaf_plans c e.plan in says_old c q.0 p fork e.old (⊎_elim (λ w. w.leaf) (λ w. w.2.leaf) e.edit) (rw q.2 (omega arith))
-  says c small p fork (inr (inl e)) = says_join c p fork e
-  says c small p fork (inr (inr (m, inl e))) = let q = leaf_plans c e.plan in says_old c q.0 p fork e.old e.edit.leaf (rw q.2 (omega arith))
-  says c small p fork (inr (inr (m, inr (inl e)))) = let q = end_leaf_plans c e.plan in says_old c q.0 p fork e.old e.edit.leaf (rw q.2 (omega arith))
-  says c small p fork (inr (inr (m, inr (inr (inl e))))) = says_end c p fork e
-  says c small p fork (inr (inr (m, inr (inr (inr e))))) = says_above c m small p fork e
-
-  -- the leaf of its edit says what the key had just before
-  pub replies : get (edit_key called) (map_of_log calls (log lay h)) ≡ said (value h) (edit_key called) (edit_leaf h u called)
-  replies = sym (get_left (edit_key called) (map_of_log calls (log lay h)) ends above_ends) ∙ ap (get (edit_key called)) (sym t.items) ∙ says called past.allowed.small comes past.allowed.fork past.allowed.edit
-      ∙ told_said (value h) (edit_key called) (edit_leaf h u called) past.allowed.small
 
   -- what it removes, and what it puts into the tree, as its words say now
   pub removed_cut : (n : ℕ) → IsRemoved h u n → IsCut n
@@ -914,71 +748,6 @@ module _ (calls : ℕ → MapEdit) (lay : Layout) (h : History) (r : Row) (u : �
 
   pub spot_in : Has t.tree (member h u (field_index h u))
   spot_in = subst (Has t.tree) (sym (same_place (edit_key called) is_spot)) (passes_has (value h) (edit_key called) t.tree spot_of (on_path (edit_key called) is_spot comes))
-
-  -- how deep the nodes are that it puts into the tree: at most one deeper than one that it removes
-  IsAsDeep : ℕ → Type 0
-  IsAsDeep n = (k : ℕ) × IsCut k × (level (value h) n ≤ suc (level (value h) k))
-
-  leaf_levels : (c : MapEdit) → EditsLeaf past.before u c → (n : ℕ) → Born n → IsAsDeep n
-  unfolding IsAsDeep
-  leaf_levels c e n b = (member past.before u 1, (leaf_plans c e.plan).1.0, deep e.edit b)
-    where
-      lv : (k : ℕ) → Mine past.before u k → level (value h) k ≡ level (value past.before) k
-      lv k m = settled_level (value past.before) (value h) k (card k m)
-
-      lm : level (value h) made_of ≡ level (value past.before) made_of
-      lm = lv made_of (inl refl)
-
-      ll : level (value h) (member past.before u 1) ≡ level (value past.before) (member past.before u 1)
-      ll = lv (member past.before u 1) (inr (inr (1, refl)))
-
-      top : level (value past.before) made_of ≡ level (value past.before) (member past.before u 1) → n ≡ made_of → level (value h) n ≤ suc (level (value h) (member past.before u 1))
-      top d m = let a : level (value h) n ≡ level (value h) made_of = ap (level (value h)) m in omega (arith, a, lm, ll, d)
-
-      deep : IsLeafEdit (value past.before) c (member past.before u 1) made_of → Born n → level (value h) n ≤ suc (level (value h) (member past.before u 1))
-      deep (inl w) (inl m) = top w.deep m
-      deep (inr w) (inl m) = top w.3.deep m
-      deep (inl w) (inr m) = absurd (let q : true ≡ false = sym w.new.leaf ∙ sym (settled_leaf (value past.before) (value h) made_of made_card) ∙ m.0 in cc)
-      deep (inr w) (inr m) = below m.2.0 (sym (past.fields w.2.fork m.2.0) ∙ m.2.1)
-        where
-          is_child : (x : ℕ) (side : Side) → level (value past.before) x ≡ level (value past.before) made_of + 1 → value past.before (child made_of side) ≡ x → value past.before (child made_of side) ≡ n → level (value h) n ≤ suc (level (value h) (member past.before u 1))
-          is_child x side l i j =
-              let a : level (value h) n ≡ level (value past.before) n = lv n (inr (inl (side, j))) in
-              let b : level (value past.before) n ≡ level (value past.before) x = ap (level (value past.before)) (sym j ∙ i) in
-              let d = w.3.deep in omega (arith, a, b, d, l, ll)
-
-          below : (side : Side) → value past.before (child made_of side) ≡ n → level (value h) n ≤ suc (level (value h) (member past.before u 1))
-          below Left j = is_child w.0 Left w.3.low w.2.left j
-          below Right j = is_child w.1 Right w.3.high w.2.right j
-
-  join_levels : (c : MapEdit) (side : Side) → TakesLeafOut past.before u c side → (n : ℕ) → Born n → IsAsDeep n
-  unfolding IsAsDeep
-  join_levels c side e n b = (member past.before u (sibling_place side), sibling_cut side, deep b)
-    where
-      plans : (field_index_of (plan past.before u) ≡ 0) × (side_of (plan past.before u) ≡ toward (value past.before) spot_of (edit_key c)) × (plan_finalizes (plan past.before u) 0 ≡ false) × (count_of (plan past.before u) ≡ 4) × (plan_finalizes (plan past.before u) 1 ≡ true) × (plan_finalizes (plan past.before u) 2 ≡ true) × (plan_finalizes (plan past.before u) 3 ≡ true)
-      plans = join_plan_says (plan past.before u) (toward (value past.before) spot_of (edit_key c)) e.plan
-
-      sibling_cut : (z : Side) → IsCut (member past.before u (sibling_place z))
-      sibling_cut Left = (3, rw plans.3 (omega arith), plans.6, refl)
-      sibling_cut Right = (2, rw plans.3 (omega arith), plans.5, refl)
-
-      deep : Born n → level (value h) n ≤ suc (level (value h) (member past.before u (sibling_place side)))
-      deep (inr m) = absurd (let a : count past.before u ≡ 2 = m.1 in let four : count past.before u ≡ 4 = plans.3 in omega (arith, a, four))
-      deep (inl m) =
-          let a : level (value h) n ≡ level (value h) made_of = ap (level (value h)) m in
-          let e1 : level (value h) made_of ≡ level (value past.before) made_of = settled_level (value past.before) (value h) made_of made_card in
-          let d : level (value h) (member past.before u (sibling_place side)) ≡ level (value past.before) (member past.before u (sibling_place side)) = settled_level (value past.before) (value h) _ (member_card (sibling_place side)) in
-          let q : level (value past.before) made_of ≡ level (value past.before) (member past.before u (sibling_place side)) = ap (λ v. v / 8) e.edit.copy.same_head in
-          omega (arith, a, e1, d, q)
-
-  levels_of : lay.mode ≡ TreeMode → (c : MapEdit) → IsEdit lay past.before u c → (n : ℕ) → Born n → IsAsDeep n
-  levels_of tree c (inl e) = leaf_levels c e
-  levels_of tree c (inr (inl e)) = join_levels c (toward (value past.before) (member past.before u 1) (edit_key c)) e
-  levels_of tree c (inr (inr e)) = absurd (let q : TreeMode ≡ TrieMode = sym tree ∙ e.0 in cc)
-
-  pub born_level : lay.mode ≡ TreeMode → (n : ℕ) → Born n → (k : ℕ) × IsCut k × (level (value h) n ≤ suc (level (value h) k))
-  unfolding IsAsDeep
-  born_level tree n b = levels_of tree called past.allowed.edit n b
 
   -- its new node is in the tree now
   pub new_in : Has result.tree (new h u)

@@ -10,7 +10,8 @@ use Rattle.ordered_map.specs.OrderedMap.{MapEdit}
 use Rattle.ordered_map.specs.Paths.{IsOnPath, Passed}
 use Rattle.ordered_map.specs.Runs.{IsMapRun}
 use Rattle.ordered_map.specs.TreeWords.{is_leaf, toward, Passes}
-use Rattle.ordered_map.proofs.Edited.{IsCut, result, tree_now, fork_paths, second_or_two}
+use Rattle.ordered_map.proofs.Edited.{IsCut, result, tree_now}
+use Rattle.ordered_map.proofs.EditedPaths.{fork_paths, second_or_two}
 use Rattle.ordered_map.proofs.Grown.{IsGrown, grown_tail}
 use Rattle.ordered_map.proofs.Meanings.{edits_of, grown, run_since, wins_of}
 use Rattle.ordered_map.proofs.Past.{path_named, Latest, latest_now, latest_more, latest_goes_on}

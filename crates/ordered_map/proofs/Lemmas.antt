@@ -8,7 +8,7 @@ pub use Rattle.ordered_map.proofs.TreeRuns.{opening_run, opening_spells, run_sin
 pub use Rattle.ordered_map.proofs.Blamed.{blame_finalizer}
 pub use Rattle.ordered_map.proofs.ChangedFields.{blame_field}
 pub use Rattle.ordered_map.proofs.Runs.{makes_at, begun_named, shaped_change}
-pub use Rattle.ordered_map.proofs.Edited.{leaf_plan_says, join_plan_says, end_leaf_plan_says, end_join_plan_says}
+pub use Rattle.ordered_map.proofs.EditPlans.{leaf_plan_says, join_plan_says, end_leaf_plan_says, end_join_plan_says}
 pub use Rattle.ordered_map.proofs.Trees.{items, same_tree, split_at, open_between, edited_local}
 pub use Rattle.ordered_map.proofs.Holding.{SameSettled, same_pair, same_from, held_same, few_counted, counted_few, held_slots, held_next, held_count, from_rises, held_first, held_end, held_alone, low_items, high_items, low_pairs, high_pairs, same_pairs, same_leaf, high_leaf, low_leaf, rank_from, rank_below}
 pub use Rattle.ordered_map.proofs.SlotReads.{get_here, get_behind, get_nowhere}

@@ -7,7 +7,8 @@ use Rattle.histories.proofs.Lemmas.{Logs, UpdateWins, log_wins, logs, node_stays
 use Rattle.ordered_map.specs.OrderedMap.{MapEdit}
 use Rattle.ordered_map.specs.Paths.{WasInTree}
 use Rattle.ordered_map.specs.TreeWords.{Has, level}
-use Rattle.ordered_map.proofs.Edited.{result, born_level}
+use Rattle.ordered_map.proofs.Edited.{result}
+use Rattle.ordered_map.proofs.EditedPaths.{born_level}
 use Rattle.ordered_map.proofs.Grown.{IsGrown, start_same}
 use Rattle.ordered_map.proofs.Stood.{facts_then, tree_then, PutThere, of_all_stood}
 

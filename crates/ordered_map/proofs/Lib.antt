@@ -11,7 +11,9 @@ mod Next
 mod Pending
 mod Moved
 mod TreeFacts
+mod EditPlans
 mod Edited
+mod EditedPaths
 mod Grown
 mod Past
 mod Inside

@@ -155,6 +155,10 @@ two_stood lay h g =
     let head = opening_head lay h g.1.lawful g.0 in
     (was_now h (run_spells lay h g).1.tree 2 (run_spells lay h g).1.is_tree (two_there lay h g), ap (λ v. eqb (v / 4 % 2) 1) head, ap (λ v. v % 4) head)
 
+-- on level 1
+pub two_level : (lay : Layout) (h : History) → IsMapRun lay h → level (value h) 2 ≡ 1
+two_level lay h g = ap (λ v. v / 8) (opening_head lay h g.1.lawful g.0)
+
 -- never final
 pub two_not_final : (lay : Layout) (h : History) → IsMapRun lay h → is_final (log lay h) 2 ≡ false
 two_not_final lay h g = tree_not_final lay h (run_spells lay h g).1.tree 2 g (run_spells lay h g).1.is_tree (two_there lay h g)

@@ -21,7 +21,9 @@ use Rattle.ordered_map.specs.EditPlans.{join_plan, end_join_plan}
 use Rattle.ordered_map.specs.TreeShape.{IsEdit, TakesLeafOut, leaf_place, edit_leaf, TreeAllows}
 use Rattle.ordered_map.specs.TreeWords.{class, is_leaf, level, toward, pairs, said}
 use Rattle.ordered_map.proofs.TreeFacts.{TreeFacts}
-use Rattle.ordered_map.proofs.Edited.{leaf_plan_says, join_plan_says, end_leaf_plan_says, end_join_plan_says, above_plan_says, content_now, replies}
+use Rattle.ordered_map.proofs.EditPlans.{leaf_plan_says, join_plan_says, end_leaf_plan_says, end_join_plan_says, above_plan_says}
+use Rattle.ordered_map.proofs.Edited.{content_now}
+use Rattle.ordered_map.proofs.EditedPaths.{replies}
 use Rattle.ordered_map.proofs.Grown.{IsGrown, tree_map, tree_facts, first_begins, grown_tail, grown_since}
 use Rattle.ordered_map.proofs.Past.{path_named, Answered, walk_begins, walk_goes_on, walk_ends, grown_rises}
 use Rattle.ordered_map.proofs.Stood.{was_passed}

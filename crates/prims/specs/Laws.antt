@@ -8,6 +8,7 @@ pub mod InTheWay
 pub mod Linked
 pub mod Unfilled
 pub mod Wins
+pub mod Kept
 pub mod Slots
 pub mod Looked
 pub mod Scx

@@ -10,6 +10,7 @@ use Rattle.csv.specs.declared.parser.Config.{Config}
 use Rattle.csv.specs.declared.parser.State.{State}
 use Rattle.csv.specs.declared.parser.State.TheVariants as state
 use Rattle.arena.specs.Limits.{IsAccepted}
+use Rattle.arena.specs.Opening.{is_map}
 use Rattle.arena.specs.declared.limits.Limits.{Limits}
 use Rattle.arena.specs.declared.limits.Mode.{Mode}
 use Rattle.arena.specs.declared.limits.Mode.TheVariants.{Tree, Trie, Records}
@@ -231,7 +232,7 @@ module _ (version : Version) (mode : Mode) (limits : Limits) (calls : List Call)
       let told = ap (λ (rows : List (List (List ℕ))). get_or (get_or rows 1 []) 1 []) (rows_in_parts r) in
       let same = same_title version r.version mode r.mode title in
       let passes = decimal_injective limits.passes r.limits.passes (omega (arith, admitted.accepted.passes)) (omega (arith, r.admitted.accepted.passes)) told in
-      none found.call (omega (arith, found.reported.0, passes), found.reported.1 ∙ sym same.1, found.reported.2, subst (λ v. HasCommand v found.call.command) (sym same.0) found.reported.3) (found.is ∙ ap (λ (earlier : List Call). seven (reported_call_row earlier found.call)) (append-nil (reverse calls)))
+      none found.call (omega (arith, found.reported.0, passes), found.reported.1 ∙ ap (λ (m : Mode). is_map m) (sym same.1), found.reported.2, subst (λ v. HasCommand v found.call.command) (sym same.0) found.reported.3) (found.is ∙ ap (λ (earlier : List Call). seven (reported_call_row earlier found.call)) (append-nil (reverse calls)))
 
   pub no_more_calls : length calls ≡ 65536 → ¬ (BeginReport (rows_of_calls version mode limits calls ++ row ∷ []))
   no_more_calls full (more, r) = let many = (call_in more r).1 in omega (arith, many, full, r.admitted.few)

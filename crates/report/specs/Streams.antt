@@ -42,7 +42,7 @@ pub record IsCutAt (old new : Option (List ℕ)) (p : PlayerView) (i : ℕ) : Ty
 -- what a turn of client i leaves, of a stream that continued after these turns: its lines are
 -- written; or, after a fault before the turn, all is as it was; or, after a fault later, the stream
 -- has ended
-pub record HasTurned {T : Type 0} (stream : Stream) (old new : Option (List ℕ)) (p : PlayerView) (i : ℕ) (unwritten : Type 0) (result : Result T StreamFault) : Type 0 where
+pub record HasWrittenTurn {T : Type 0} (stream : Stream) (old new : Option (List ℕ)) (p : PlayerView) (i : ℕ) (unwritten : Type 0) (result : Result T StreamFault) : Type 0 where
   pub written : OnOk result (HasWritten stream old new (with_lines p stream.lines.items))
   pub refused : OnErr result (stream.ended ≡ false → HasWritten stream old new p × unwritten)
   pub cut : OnErr result (IsTrue stream.ended → IsCutAt old new p i)

@@ -83,7 +83,7 @@ pub struct Stream {
 }
 
 impl Stream {
-    ghost use Rattle.report.specs.Streams.{EndsByFaults, HasTurned, HasWritten, text_so_far};
+    ghost use Rattle.report.specs.Streams.{EndsByFaults, HasWrittenTurn, HasWritten, text_so_far};
 
     /// Writes the rows before the first turn: those of the format, the limits and the calls. After
     /// a fault what was written is a beginning of them. The faults are `NoMemory` and `Write`.
@@ -126,7 +126,7 @@ impl Stream {
         ensures turn { OnOk result ((p : PlayerView) → StandsAt self.old.core p →
             IsNextTurn p client.0 self.new.lines.items) }
         ensures says { (start : Option (List ℕ)) (p : PlayerView) → HasWritten self.old start (W.contents to.old.inner) p →
-            HasTurned self.new start (W.contents to.new.inner) p client.0 (to.new ≡ to.old) result }
+            HasWrittenTurn self.new start (W.contents to.new.inner) p client.0 (to.new ≡ to.old) result }
         ensures ends { EndsByFaults self.old self.new (to.new ≡ to.old) result }
         ensures passes { passes_of self.new.core ≡ passes_of self.old.core }
         ensures counted { OnOk result (turns_made self.new.core ≡ suc (turns_made self.old.core)) }

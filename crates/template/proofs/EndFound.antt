@@ -6,7 +6,7 @@ use native.Mathlib.Decide.{ℕ_discrete}
 use Rattle.histories.specs.Common.{Tree as TreeMode, Settled, More, Key, Side, Left, Right, Slot, Word, node, child, History, value, Extends, Call}
 use Rattle.template.specs.Common.{IsWellCounted, end_slot, held_pairs, pair_in, AllBelow, IsRising, pair, get, end_pair, Passed, IsMapRun, class, is_leaf}
 use Rattle.arena.specs.declared.limits.Mode.TheVariants.{Trie as TrieMode}
-use Rattle.arena.proofs.Lemmas.{ends_self, ends_trans}
+use Rattle.arena.proofs.Lemmas.{ends_trans}
 use Rattle.template.specs.Common.{IsOwnMoment, level, rank, toward, said, path_key, asked_in, HasFoundGoal, HasFoundLeaf, end_told, WasPassed, HasTurned, Goal, Key as ToKey, End}
 use Rattle.ordered_map.specs.MapLaws.{IsEndmost}
 use Rattle.ordered_map.specs.Paths.{HasHadChild, IsEndAt, end_key, end_turn}

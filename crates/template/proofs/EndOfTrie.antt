@@ -1,9 +1,9 @@
 -- A walk to an end of a trie, and the keys of the leaf that it has found: it has come to that on their way too.
-use Rattle.std.proofs.Common.{◌≡◌, ◌≢◌, ℕ, ◌^◌, ◌<◌, inl, ne_eqb, refl, sym, ◌∙◌, subst}
+use Rattle.std.proofs.Common.{◌≡◌, ◌≢◌, ℕ, ◌^◌, ◌<◌, inl, ne_eqb, refl, sym, ◌∙◌}
 use Rattle.arena.specs.declared.limits.Mode.TheVariants.{Trie as TrieMode}
 use Rattle.histories.specs.Common.{Side, Left, History, value, Extends, Call}
 use Rattle.arena.proofs.Lemmas.{ends_self}
-use Rattle.template.specs.Common.{IsMapRun, class, is_leaf, WasPassed, HasTurned}
+use Rattle.template.specs.Common.{IsMapRun, class, WasPassed, HasTurned}
 use Rattle.ordered_map.specs.Paths.{HasHadChild, end_key}
 use Rattle.ordered_map.specs.Strays.{IsApart}
 use Rattle.ordered_map.specs.TrieShape.{Stays}

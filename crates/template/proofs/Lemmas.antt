@@ -6,6 +6,7 @@ pub use Rattle.template.proofs.Promised.{promised_allowed, promised_more}
 pub use Rattle.template.proofs.Tracking.{tracks_by_others, tracks_by_scx, tracked_makes}
 pub use Rattle.template.proofs.Inserting.{either_mode, leaf_edit_words, edit_promised, put_above_promised, swap_fits_there, split_fits_there, join_fits_there, surely_on, child_on, parent_surely, grand_surely}
 pub use Rattle.template.proofs.Deleting.{join_promised}
+pub use Rattle.template.proofs.EndPromised.{end_edit_promised, end_join_promised}
 pub use Rattle.template.proofs.Stood.{stood_inside, opened_if_stood}
 pub use Rattle.template.proofs.EndFound.{found_small, found_own, found_told, found_end}
 pub use Rattle.template.proofs.Contending.{changed_contended, contended_later, contended_wider, failed_contended, finalized_contended, way_contended}

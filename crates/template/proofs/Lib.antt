@@ -7,6 +7,7 @@ mod Inserting
 mod EndOfTrie
 mod EndFound
 mod Deleting
+mod EndPromised
 mod Tracking
 mod Contending
 mod Tries

@@ -1,5 +1,5 @@
 -- In which order an edit fills its nodes: as what it does at its key.
-use Rattle.std.proofs.Common.{◌≡◌, ℕ, Bool, true, false, ◌<◌, Option, Some, None, ◌∙◌, subst, arith}
+use Rattle.std.proofs.Common.{ℕ, Bool, true, false, ◌<◌, Option, Some, None, ◌∙◌, subst, arith}
 use Rattle.histories.specs.Common.{Step, NodeWord, History, Call, row_of}
 use Rattle.template.specs.Common.{IsFillInOrder, leaves, Goal, Rule}
 use Rattle.template.specs.declared.walk.Found.{Found}

@@ -58,7 +58,8 @@ joined : (b : Bool) (level k : ℕ) (read : Reading) (q : Piece) (side : Side) �
 joined true level k read q side p = absurd (let z : false ≡ true = p in cc)
 joined false level k read q side p = refl
 
--- What holds a leaf without a pair or a copy of this snapshot's node, which was right since the walk
+-- What holds a leaf without a pair or a copy of this snapshot's node, which was right since the
+-- walk
 module _ {E : Type 0} {way : Way} {goal : Goal} (means : EditMeaning E) (m : UpdateRun E UpdateAt) (c : Call) (h : History) (f : Found) (nth : Nth) (part : NodeWord) (x : FillsPiece means m c h f nth part) (key : ℕ) (sibling : Snap)
     (few : m.work.need ≤ 1) (says : (i : Nth) → means.pieces m.edit f m.snaps.items m.nodes m.read i ≡ cond (has_more f) (Leaf f.head.level 0 (delete key m.read.pairs)) (sibling_copy sibling m.read))
     (right : has_more f ≡ false → MayRead c.layout h sibling.node.0 m.read) (whole : next_read m.read ≡ None) (used : has_more f ≡ false → HasSnappedAfterWalk c h way goal f sibling) where
@@ -119,7 +120,8 @@ take_fill_in_order m c h f nth part x =
         let four : HasFour f m.snaps.items = has_four m.edit f m.snaps.items (rw t at x.works.enough) looked.seen in
         usable_at m.edit c h f m.snaps.items (sibling_place f.trail.side) (few_places f.trail.side) four looked
 
--- and with what takes the pair at an end of a trie out: once it has looked at enough, the sibling's snapshot is there
+-- and with what takes the pair at an end of a trie out: once it has looked at enough, the sibling's
+-- snapshot is there
 end_long : (f : Found) (snaps : List Snap) → end_looks f snaps ≡ Enough → 2 < length snaps
 end_long f [] e = absurd (let d : At f.trail.grand ≡ Enough = e in cc)
 end_long f (g ∷ []) e = absurd (not_enough ((child_of g f.trail.grand_side).0 == f.trail.parent.0) f.trail.parent g e)

@@ -32,8 +32,8 @@ impl<G: EditGoal, R: EditRule> KeyEdit<G, R> {
     /// An edit with `tries` tries, in the caller's call of this number; it takes fresh nodes and
     /// SCX-records out of the share, at most one SCX-record in a try, and one node, or three where
     /// its rule puts in what was absent. Where `nodes` are taken when it ends, it makes at most
-    /// `tries * (3 * (2 + nodes) + n)` steps, n being 207 if it leaves a value, and else 328; in a trie
-    /// 67 stands for `2 + nodes`.
+    /// `tries * (3 * (2 + nodes) + n)` steps, n being 207 if it leaves a value, and else 328; in a
+    /// trie 67 stands for `2 + nodes`.
     #[inline(always)]
     pub fn run(self, share: Share, tries: u32, call: u64) -> KeyEditRun<G, R>
         ensures start { result.at ≡ UpdateAt.Start }
@@ -132,8 +132,8 @@ impl<G: EditGoal, R: EditRule> Edit for KeyEdit<G, R> {
         self.goal.goal()
     }
 
-    /// In a trie what puts in what was absent ends at a fork that its key does not share; nothing is
-    /// put in at an end of one.
+    /// In a trie what puts in what was absent ends at a fork that its key does not share; nothing
+    /// is put in at an end of one.
     #[inline(always)]
     fn way(&self) -> Way {
         if !self.goal.in_trie() {

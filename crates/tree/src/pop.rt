@@ -10,8 +10,8 @@ use prims::Snap;
 use template::{Found, Goal, Way};
 
 /// Takes the pair at an end of a trie out, whose key was found there. It looks at node 2 before it
-/// walks on from the root, and covers it last, as do inserts that put a fork above a fork: so none has
-/// come between.
+/// walks on from the root, and covers it last, as do inserts that put a fork above a fork: so none
+/// has come between.
 #[derive(Clone, Copy, Debug, PartialEq, Eq)]
 pub(crate) struct PopPair {
     pub key: u64,

@@ -63,8 +63,8 @@ impl PutPair {
         }
     }
 
-    /// One of two fresh nodes: a leaf with the pair alone, or the fork over it and the fork that was
-    /// found.
+    /// One of two fresh nodes: a leaf with the pair alone, or the fork over it and the fork that
+    /// was found.
     fn above(&self, found: &Found, nodes: &Nodes, nth: Nth) -> Piece
         ensures { result ≡ above_pieces self.now.key self.now.value found.now nodes.now nth }
     {

@@ -4,7 +4,7 @@ use Rattle.std.proofs.Common.{◌≢◌, ℕ, ◌<◌, ◌≤◌, length, Option
 use Rattle.histories.specs.Common.{Fill, Row, Step, History, ◌⊳◌, value, Call, IsRun, IsTold, begun_at, row_of, Remaining, taken_nodes}
 use Rattle.arena.proofs.Lemmas.{ends_trans}
 use Rattle.order.specs.Laws.Run.{read_fills_not}
-use Rattle.template.specs.Common.{Edit, TreeAllows, Goal, Rule}
+use Rattle.template.specs.Common.{Edit, TreeAllows, Rule}
 use Rattle.tree.specs.declared.key_edit.KeyEdit.{KeyEdit}
 use Rattle.template.specs.declared.walk.Found.{Found}
 use Rattle.template.proofs.Lemmas.{walk_fills_not}
@@ -20,7 +20,7 @@ use Rattle.dict.specs.Laws.EachCall.{reply_typed, edit_typed}
 use Rattle.dict.specs.Laws.TypedMaps.{typed_run, typed_since, typed_map}
 use Rattle.dict.specs.Laws.TypedSteps.{HasWalkedTo, typed_quiet, typed_update_lawful}
 use Rattle.dict.specs.declared.dict.DictRun.{DictRun}
-use Rattle.dict.specs.Inner.{InnerRun, Update, Get, Read, edit_means, inner}
+use Rattle.dict.specs.Inner.{GoalBy, InnerRun, Update, Get, Read, edit_means, inner}
 use Rattle.dict.specs.Laws.Kinds.{IsOfKind, edit_changes, is_of_kind}
 
 module _ (keys values : ℕ → Type 0) where
@@ -29,13 +29,13 @@ module _ (keys values : ℕ → Type 0) where
   read_lawful c h s share fills_not run tree x = typed_quiet keys values c.layout h (row_of c s h) run tree (on c h (row_of c s h) share tree fills_not x).now.over
 
   -- what an edit makes at a leaf to which it has walked is of such words
-  edit_found_typed : (e : KeyEdit Goal Rule) (c : Call) (h : History) (f : Found) → IsRun (TypedAllows keys values) c.layout h → IsTypedCall keys values (Edit e.goal e.rule) → HasWalkedTo edit_means e c h f → 0 < (edit_means.work e f).need → IsTypedEdit keys values (edit_means.edit e f)
+  edit_found_typed : (e : KeyEdit GoalBy Rule) (c : Call) (h : History) (f : Found) → IsRun (TypedAllows keys values) c.layout h → IsTypedCall keys values (Edit e.goal.goal e.rule) → HasWalkedTo edit_means e c h f → 0 < (edit_means.work e f).need → IsTypedEdit keys values (edit_means.edit e f)
   edit_found_typed e c h f run typed x needed =
-      let y = found_tells e.goal (begun_at c x.begin) x.moment f x.small x.run x.found in
+      let y = (found_tells (edit_means.way e) e.goal.goal (begun_at c x.begin) x.moment f x.small x.run x.found).told in
       let there : IsRun (TypedAllows keys values) c.layout y.moment = typed_since keys values c.layout h y.moment run (ends_trans h x.moment y.moment x.within y.within) in
-      let map : AreTyped keys values y.map = typed_map keys values c.layout y.moment x.may there y.map y.spelled in
-      let told : IsTypedReply keys values (leaf_told e.goal f) = subst (IsTypedReply keys values) y.gives (reply_typed keys values (Edit e.goal e.rule) y.map map) in
-      edit_typed keys values (Edit e.goal e.rule) (leaf_told e.goal f) (edit_means.edit e f) (edit_changes e f needed) typed told
+      let map : AreTyped keys values y.map = typed_map keys values c.layout y.moment x.run.0 there y.map y.spelled in
+      let told : IsTypedReply keys values (leaf_told e.goal.goal f) = subst (IsTypedReply keys values) y.gives (reply_typed keys values (Edit e.goal.goal e.rule) y.map map) in
+      edit_typed keys values (Edit e.goal.goal e.rule) (leaf_told e.goal.goal f) (edit_means.edit e f) (edit_changes e f needed) typed told
 
   -- the step of the machine inside continues a run of the dictionary
   lawful_inside : (m : InnerRun) (c : Call) (h : History) (s : Step) → IsOfKind m → IsRun (TypedAllows keys values) c.layout h → IsRun TreeAllows c.layout (row_of c s h ⊳ h) → IsTypedCall keys values (inner_call m) → WaitsInside m c h s → IsRun (TypedAllows keys values) c.layout (row_of c s h ⊳ h)

@@ -11,20 +11,23 @@ use Rattle.ordered_map.specs.OrderedMap.{edit_there, spot}
 use Rattle.ordered_map.specs.declared.rule.Rule.TheVariants.{Take}
 use Rattle.template.specs.declared.walk.Found.{Found}
 use Rattle.tree.specs.declared.key_edit.KeyEdit.{KeyEdit}
-use Rattle.template.specs.Walk.Steps.{room}
 use Rattle.tree.specs.KeyEdit.Means.{doing, key_means, wants, way_of}
 use Rattle.tree.specs.Laws.KeyEdit.{at_goal}
 use Rattle.tree.specs.KeyEdit.Laws.{one_needed, three_needed}
 use Rattle.tree.specs.Put.Laws.{some_needed as put_needs}
 use Rattle.tree.specs.Take.Means.{take_plan, work_by}
 use Rattle.edits.specs.Pieces.{no_work}
-use Rattle.edits.specs.Steps.{try_left}
+use Rattle.edits.specs.Steps.{most_works, try_left}
 use Rattle.edits.specs.declared.update.Updated.{Updated}
 use Rattle.edits.specs.declared.update.Updated.TheVariants.{Done, Contended, Full}
-use Rattle.dict.specs.Calls.{AsksForPairs, IsSmallCall, most_tries}
+use Rattle.template.specs.Balance.{nodes_by}
+use Rattle.template.specs.Walk.Steps.{room}
+use Rattle.template.specs.declared.walk.Way.{Way}
+use Rattle.template.specs.declared.walk.Way.TheVariants.{InTree, InTrie, Within}
+use Rattle.dict.specs.Calls.{AsksForPairs, IsServed, IsSmallCall, IsWayTo, most_tries}
 use Rattle.dict.specs.Goals.{leaf_told}
 use Rattle.dict.specs.WordReplies.{edit_reply, range_reply, read_reply, neighbour_reply, told_in, word_form}
-use Rattle.dict.specs.Inner.{ReadKind, InnerRun, Read, edit_means, inner, range_kind, neighbour_kind}
+use Rattle.dict.specs.Inner.{GoalBy, ReadKind, InnerRun, Read, edit_means, inner, range_kind, neighbour_kind}
 use Rattle.dict.specs.Says.{IsRefusal, KeepsLists}
 use Rattle.dict.specs.declared.run.MapRun.{MapRun}
 use Rattle.dict.specs.declared.run.MapRun.TheVariants as runs
@@ -44,9 +47,21 @@ told_by (ToKey k) key value = OneValue value
 told_by (End side) key value = pair_or_none (option_map (pair key) value)
 
 -- how many steps it makes after its walk, at most
-steps_by : (left : Option ℕ) (nodes : ℕ) → 3 * (2 + nodes) + 5 + (64 * (doing false left).most_looks 0 + ((doing false left).most_reads 0 + (doing false left).most_fills 0) + 39) ≡ 3 * (2 + nodes) + steps_behind left
-steps_by None nodes = omega arith
-steps_by (Some v) nodes = omega arith
+steps_by : (trie : Bool) (left : Option ℕ) (nodes : ℕ) → 3 * (2 + nodes) + 5 + (64 * (doing trie left).most_looks 0 + ((doing trie left).most_reads 0 + (doing trie left).most_fills 0) + 39) ≡ 3 * (2 + nodes) + steps_behind left
+steps_by in_trie None nodes = omega arith
+steps_by in_trie (Some v) nodes = omega arith
+
+-- its way there has the bounds of its map
+pub room_on : (trie : Bool) (goal : Goal) (way : Way) (nodes : ℕ) → IsWayTo trie goal way → room way nodes ≡ nodes_by trie nodes
+room_on false goal way nodes is = rw is refl
+room_on true (ToKey k) InTree nodes is = absurd (is refl)
+room_on true (ToKey k) InTrie nodes is = refl
+room_on true (ToKey k) Within nodes is = refl
+room_on true (End side) way nodes is = absurd is
+
+-- so it makes no more steps than its call may
+pub few_steps : (tries r most behind steps : ℕ) → steps ≡ tries * (3 * (2 + r) + behind) → r ≡ most → steps ≤ tries * (3 * (2 + most) + behind)
+few_steps tries r most behind steps e f = rw (e, f) (omega arith)
 
 -- a rule that leaves no value changes something only where there is one
 takes_there : (rule : Rule) → leaves rule ≡ None → applies rule None ≡ true → ⊥
@@ -115,32 +130,30 @@ same_told (ToKey k) f = refl
 same_told (End side) f = refl
 
 -- its edit is of the key at which the leaf says what the call replies
-pub edit_at_found : (e : KeyEdit Goal Rule) (f : Found) → edit_key (edit_means.edit e f) ≡ asked_key e.goal f.key
-edit_at_found e f = at_goal (leaves e.rule) (asked_key e.goal f.key)
+pub edit_at_found : (e : KeyEdit GoalBy Rule) (f : Found) → edit_key (edit_means.edit e f) ≡ asked_key e.goal.goal f.key
+edit_at_found e f = at_goal (leaves e.rule) (asked_key e.goal.goal f.key)
 
--- in a tree it makes as many steps as its call may
-pub edit_steps : {G R : Type 0} (goal : G → Goal) (trie : G → Bool) (rule : R → Rule) (e : KeyEdit G R) → trie e.goal ≡ false → (tries nodes : ℕ) → tries * try_left (key_means goal trie rule) e nodes ≡ most_steps (Edit (goal e.goal) (rule e.rule)) tries nodes
-edit_steps goal trie rule e in_tree tries nodes = in_mode (trie e.goal) in_tree
-  where
-    in_mode : (b : Bool) → b ≡ false → tries * (3 * (2 + room (way_of b (rule e.rule)) nodes) + 5 + (64 * (doing b (leaves (rule e.rule))).most_looks 0 + ((doing b (leaves (rule e.rule))).most_reads 0 + (doing b (leaves (rule e.rule))).most_fills 0) + 39)) ≡ most_steps (Edit (goal e.goal) (rule e.rule)) tries nodes
-    in_mode false is = ap (λ (k : ℕ). tries * k) (steps_by (leaves (rule e.rule)) nodes)
-    in_mode true is = absurd (let z : true ≡ false = is in cc)
+-- it makes as many steps as its call may
+pub edit_steps : {G R : Type 0} (goal : G → Goal) (trie : G → Bool) (rule : R → Rule) (e : KeyEdit G R) (tries nodes : ℕ) → IsServed (trie e.goal) (Edit (goal e.goal) (rule e.rule)) → tries * try_left (key_means goal trie rule) e nodes ≡ most_steps (Edit (goal e.goal) (rule e.rule)) tries (nodes_by (trie e.goal) nodes)
+edit_steps goal trie rule e tries nodes served =
+    let same : room (way_of (trie e.goal) (rule e.rule)) nodes ≡ nodes_by (trie e.goal) nodes = room_on (trie e.goal) (goal e.goal) (way_of (trie e.goal) (rule e.rule)) nodes served in
+    ap (λ (r : ℕ). tries * (3 * (2 + r) + 5 + (64 * (key_means goal trie rule).most_looks e + most_works (key_means goal trie rule) e + 39))) same ∙ ap (λ (k : ℕ). tries * k) (steps_by (trie e.goal) (leaves (rule e.rule)) (nodes_by (trie e.goal) nodes))
 
-module _ (e : KeyEdit Goal Rule) (f : Found) where
+module _ (e : KeyEdit GoalBy Rule) (f : Found) where
   -- it needs no more nodes than its call may on a map that replies what its leaf says
-  pub edit_needs : (map : List Pair) → reply (Edit e.goal e.rule) map ≡ leaf_told e.goal f → (edit_means.work e f).need ≤ need (Edit e.goal e.rule) map
-  edit_needs map is = subst (λ (told : MapReply). (edit_means.work e f).need ≤ nodes_there e.rule (spot e.goal told)) (sym (is ∙ same_told e.goal f)) (key_many false f e.rule e.goal f.value refl)
+  pub edit_needs : (map : List Pair) → reply (Edit e.goal.goal e.rule) map ≡ leaf_told e.goal.goal f → (edit_means.work e f).need ≤ need (Edit e.goal.goal e.rule) map
+  edit_needs map is = subst (λ (told : MapReply). (edit_means.work e f).need ≤ nodes_there e.rule (spot e.goal.goal told)) (sym (is ∙ same_told e.goal.goal f)) (key_many e.goal.balance f e.rule e.goal.goal f.value refl)
 
-  made_by : edit_of (Edit e.goal e.rule) (leaf_told e.goal f) ≡ edit_there e.rule (spot e.goal (told_by e.goal f.key f.value))
-  made_by = ap (λ (told : MapReply). edit_there e.rule (spot e.goal told)) (same_told e.goal f)
+  made_by : edit_of (Edit e.goal.goal e.rule) (leaf_told e.goal.goal f) ≡ edit_there e.rule (spot e.goal.goal (told_by e.goal.goal f.key f.value))
+  made_by = ap (λ (told : MapReply). edit_there e.rule (spot e.goal.goal told)) (same_told e.goal.goal f)
 
   -- where it needs none it is a reading
-  pub edit_reads : (edit_means.work e f).need ≡ 0 → edit_of (Edit e.goal e.rule) (leaf_told e.goal f) ≡ None
-  edit_reads nothing = made_by ∙ key_reads false f e.rule e.goal f.value refl nothing
+  pub edit_reads : (edit_means.work e f).need ≡ 0 → edit_of (Edit e.goal.goal e.rule) (leaf_told e.goal.goal f) ≡ None
+  edit_reads nothing = made_by ∙ key_reads e.goal.balance f e.rule e.goal.goal f.value refl nothing
 
   -- and else it makes its edit
-  pub edit_changes : 0 < (edit_means.work e f).need → edit_of (Edit e.goal e.rule) (leaf_told e.goal f) ≡ Some (edit_means.edit e f)
-  edit_changes needed = made_by ∙ key_changes false f e.rule e.goal f.value refl needed
+  pub edit_changes : 0 < (edit_means.work e f).need → edit_of (Edit e.goal.goal e.rule) (leaf_told e.goal.goal f) ≡ Some (edit_means.edit e f)
+  edit_changes needed = made_by ∙ key_changes e.goal.balance f e.rule e.goal.goal f.value refl needed
 
 -- A kind of ordered read is one that a call of the map makes, which only reads.
 pub record IsReadKind (k : ReadKind) : Type 0 where

@@ -1,16 +1,18 @@
--- Every run in which edits of typed words alone begin is one of the tree, and its words spell a map
+-- Every run in which edits of typed words alone begin is one of a map, and its words spell a map
 -- of such words.
 use Rattle.std.proofs.Common.{◌≡◌, ℕ, List, [], inl, inr, refl, sym, subst}
-use Rattle.histories.specs.Common.{Layout, Mode, Tree as TreeMode, Row, History, Start, ◌⊳◌, value, Extends, Lawful, IsEntered, IsRun}
+use Rattle.histories.specs.Common.{Layout, Mode, Row, History, Start, ◌⊳◌, value, Extends, Lawful, IsEntered, IsRun}
+use Rattle.arena.specs.Layout.{IsMap}
 use Rattle.arena.proofs.Lemmas.{ends_self, run_as}
 use Rattle.histories.proofs.Lemmas.{Logs, lawful_since, logs, same, shaped_since, wins}
-use Rattle.template.specs.Common.{MapEdit, edited, IsTreeRun, Makes, Spells, TreeAllows, Pair}
-use Rattle.ordered_map.proofs.Lemmas.{entered_begun, one_spelling, opening_spells, quiet_spells, update_makes}
+use Rattle.template.specs.Common.{MapEdit, edited, IsMapRun, Makes, Spells, TreeAllows, Pair}
+use Rattle.ordered_map.proofs.Lemmas.{entered_begun, one_spelling}
+use Rattle.ordered_map.proofs.MapLemmas.{opening_spells, quiet_spells, update_makes}
 use Rattle.dict.specs.Laws.EachCall.{edited_typed}
 use Rattle.dict.specs.Typed.{AreTyped, TypedAllows, IsTypedThere}
 
 module _ (keys values : ℕ → Type 0) where
-  -- a run of a typed dictionary is one of the tree
+  -- a run of a typed dictionary is one of a map
   pub typed_run : (lay : Layout) (h : History) → IsRun (TypedAllows keys values) lay h → IsRun TreeAllows lay h
   typed_run lay h run = run_as (TypedAllows keys values) TreeAllows lay (λ k s a. (a.0, a.1)) h run
 
@@ -21,10 +23,10 @@ module _ (keys values : ℕ → Type 0) where
   -- The map of a run: of each SCX-record that wins some edit may be said that is of such words, and
   -- whichever is said, the map after it is the same.
 
-  typed_row : (lay : Layout) (h : History) (r : Row) → lay.mode ≡ TreeMode → IsRun (TypedAllows keys values) lay (r ⊳ h) → IsTypedThere keys values lay h → (m : List Pair) × Spells lay (value (r ⊳ h)) m × AreTyped keys values m
+  typed_row : (lay : Layout) (h : History) (r : Row) → IsMap lay.mode → IsRun (TypedAllows keys values) lay (r ⊳ h) → IsTypedThere keys values lay h → (m : List Pair) × Spells lay (value (r ⊳ h)) m × AreTyped keys values m
   typed_row lay h r mode run there = go (logs lay h r run.lawful)
     where
-      tree : IsTreeRun lay (r ⊳ h)
+      tree : IsMapRun lay (r ⊳ h)
       tree = (mode, typed_run lay (r ⊳ h) run)
 
       then : (m : List Pair) × Spells lay (value h) m × AreTyped keys values m
@@ -53,7 +55,7 @@ module _ (keys values : ℕ → Type 0) where
   typed_there lay (r ⊳ h) run = typed_stays lay h r run (typed_there lay h (typed_since lay (r ⊳ h) h run (inr (ends_self h))))
 
   -- so each map that they spell is of such words
-  pub typed_map : (lay : Layout) (h : History) → lay.mode ≡ TreeMode → IsRun (TypedAllows keys values) lay h → (m : List Pair) → Spells lay (value h) m → AreTyped keys values m
+  pub typed_map : (lay : Layout) (h : History) → IsMap lay.mode → IsRun (TypedAllows keys values) lay h → (m : List Pair) → Spells lay (value h) m → AreTyped keys values m
   typed_map lay h mode run m x =
       let y = typed_there lay h run mode in
       subst (AreTyped keys values) (one_spelling lay (value h) y.0 m y.1 x) y.2

@@ -30,7 +30,7 @@ use order::{
     ReadBegin, ReadLoad, ReadNext, ReadRun, Refused, ValueLoad,
 };
 use prims::{LlxAt, LlxRun, Snap, SnapList};
-use template::{Goal, Tree};
+use template::{Goal, Tree, Way};
 
 /// Loads a settled word.
 #[inline(always)]
@@ -466,7 +466,7 @@ pub(crate) fn call<S: Shape, M: Machine<S>, R: Read + Drop>(
 {
     match run.start() {
         ReadBegin::Walk { key, side } => {
-            let (_, turns) = walk::call::<S, M>(hand, seat, Goal::Key(key));
+            let (_, turns) = walk::call::<S, M>(hand, seat, Way::InTree, Goal::Key(key));
             let children = turns.children(side);
             let node = turns.to(side);
             let level = 0;

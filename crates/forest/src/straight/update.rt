@@ -8,7 +8,6 @@ ghost use Rattle.edits.specs.Next.{standing};
 ghost use Rattle.edits.specs.Steps.{update_left};
 ghost use Rattle.edits.specs.declared.update.Next.{Next};
 ghost use Rattle.edits.specs.declared.update.UpdateAt.{UpdateAt};
-ghost use Rattle.template.specs.declared.walk.Way.{Way};
 
 use crate::straight::fresh_nodes::fill_node;
 use crate::straight::hand::Hand;
@@ -40,7 +39,6 @@ pub(crate) fn make<S: Shape, M: Machine<S>, E: Edit + Copy>(
     requires table { IsAt hand seat.old }
     requires begins { (u : Updater (hand_calls S.Shape M.Machine hand) E.means)
         × UpdaterBegins u seat.old.me.0.passes (new_update edit share tries hand.number) }
-    requires way { E.means.way edit ≡ Way.InTree }
     ensures { let new = new_update edit share tries hand.entry.number in
         Leads seat.old seat.new (update_left E.means (standing new UpdateAt.Start)
         (shared_nodes hand.entry.layout.now))
@@ -74,15 +72,15 @@ fn call<S: Shape, M: Machine<S>, E: Edit + Copy>(
     requires table { IsAt hand seat.old }
     requires begins { (u : Updater (hand_calls S.Shape M.Machine hand) E.means)
         × UpdaterBegins u seat.old.me.0.passes run.old }
-    requires way { E.means.way run.old.edit ≡ Way.InTree }
     ensures { Leads seat.old seat.new (update_left E.means (standing run.old UpdateAt.Start)
         (shared_nodes hand.entry.layout.now))
         (λ (u : Updater (hand_calls S.Shape M.Machine hand.entry) E.means) ps.
         UpdaterBegins u ps run.old)
         (λ u ps. UpdaterEnds u ps run.new result) }
 {
+    let way = run.edit.way();
     let goal = run.edit.goal();
-    let found = copied(&walk::call::<S, M>(hand, seat, goal).0);
+    let found = copied(&walk::call::<S, M>(hand, seat, way, goal).0);
     let next = run.test_share(&found);
     try_on::<S, M, E>(hand, seat, run, &found, next)
 }

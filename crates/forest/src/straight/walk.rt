@@ -1,5 +1,5 @@
 //! Walks down the tree, of whatever machine walks.
-ghost use Rattle.std.specs.Prelude.{◌≡◌, ◌<◌, ◌≤◌, ◌+◌, ◌*◌, ℕ, suc, true, false, if◌then◌else◌, nat_lt, IfOk, IfErr, MatchResult};
+ghost use Rattle.std.specs.Prelude.{◌≡◌, ◌≢◌, ◌<◌, ◌≤◌, ◌+◌, ◌*◌, ℕ, suc, true, false, if◌then◌else◌, nat_lt, IfOk, IfErr, MatchResult};
 ghost use Rattle.arena.specs.Heads.{head_of};
 ghost use Rattle.arena.specs.Layout.{node_start};
 ghost use Rattle.arena.specs.declared.number.NodeNo.{NodeNo};
@@ -12,9 +12,10 @@ ghost use Rattle.order.specs.declared.last_turns.LastTurns.{LastTurns};
 ghost use Rattle.prims.specs.Llx.Known.{load};
 ghost use Rattle.template.specs.FoundLeaf.{asked_key, path_key};
 ghost use Rattle.template.specs.declared.walk.WalkRun.{WalkRun};
-ghost use Rattle.template.specs.Walk.Known.{asks_key, goal_slot, open_side};
-ghost use Rattle.template.specs.Walk.Places.{walk_at, trail_below, LoadsHead};
-ghost use Rattle.template.specs.Walk.Steps.{walk_left};
+ghost use Rattle.template.specs.declared.walk.Way.{Way};
+ghost use Rattle.template.specs.Walk.Known.{EndsAt, asks_key, goal_slot, open_side};
+ghost use Rattle.template.specs.Walk.Places.{way_at, way_from, trail_below, LoadsHead};
+ghost use Rattle.template.specs.Walk.Steps.{room, walk_left};
 
 use crate::straight::hand::Hand;
 use crate::straight::step::step_from;
@@ -24,8 +25,8 @@ use arena::{
 };
 use atomic_table::Seat;
 use order::LastTurns;
-use ordered_map::{end_slot, slot_behind, wide_value};
-use template::{Found, Goal, Trail, WalkAt};
+use ordered_map::{end_slot, shares, slot_behind, wide_value};
+use template::{Found, Goal, Trail, WalkAt, Way};
 
 /// Loads a word of a node that begins there.
 #[inline(always)]
@@ -165,6 +166,7 @@ fn asked_key(goal: Goal, key: u64) -> u64
 fn end_with<S: Shape, M: Machine<S>>(
     hand: Hand<S>,
     seat: &mut Seat<u8, SeatView>,
+    way: Way,
     goal: Goal,
     trail: Trail,
     start: usize,
@@ -177,14 +179,14 @@ fn end_with<S: Shape, M: Machine<S>>(
     requires start { start ≡ node_start trail.node }
     requires asked { asked_key goal key ≡ key }
     requires told { (w : Walker (hand_calls S.Shape M.Machine hand)) × (turn : LastTurns)
-        × WalkerIsTold w seat.old.me.0.passes (walk_at goal trail (WalkAt.Pair head more slot)) turn
+        × WalkerIsTold w seat.old.me.0.passes (way_at way goal trail (WalkAt.Pair head more slot)) turn
         key }
     ensures table { StaysAtTable seat.old seat.new }
     ensures steps { steps_made seat.new ≡ steps_made seat.old + 2 }
     ensures finds { (w : Walker (hand_calls S.Shape M.Machine hand.entry)) (turn : LastTurns)
-        → WalkerIsTold w seat.old.me.0.passes (walk_at goal trail (WalkAt.Pair head more slot)) turn
+        → WalkerIsTold w seat.old.me.0.passes (way_at way goal trail (WalkAt.Pair head more slot)) turn
         key
-        → WalkerFinds w seat.new.me.0.passes goal turn result }
+        → WalkerFinds w seat.new.me.0.passes way goal turn result }
 {
     let kind = Kind::LoadSettled;
     let part = NodeWord::Settled(SettledPart::Value(slot));
@@ -205,6 +207,7 @@ fn end_with<S: Shape, M: Machine<S>>(
 fn end_from<S: Shape, M: Machine<S>>(
     hand: Hand<S>,
     seat: &mut Seat<u8, SeatView>,
+    way: Way,
     goal: Goal,
     trail: Trail,
     start: usize,
@@ -216,12 +219,12 @@ fn end_from<S: Shape, M: Machine<S>>(
     requires start { start ≡ node_start trail.node }
     requires first { first ≡ goal_slot goal more }
     requires told { (w : Walker (hand_calls S.Shape M.Machine hand)) × (turn : LastTurns)
-        × WalkerIsTold w seat.old.me.0.passes (walk_at goal trail (WalkAt.More head)) turn more }
+        × WalkerIsTold w seat.old.me.0.passes (way_at way goal trail (WalkAt.More head)) turn more }
     ensures table { StaysAtTable seat.old seat.new }
     ensures steps { steps_made seat.new ≤ steps_made seat.old + 6 }
     ensures finds { (w : Walker (hand_calls S.Shape M.Machine hand.entry)) (turn : LastTurns)
-        → WalkerIsTold w seat.old.me.0.passes (walk_at goal trail (WalkAt.More head)) turn more
-        → WalkerFinds w seat.new.me.0.passes goal turn result }
+        → WalkerIsTold w seat.old.me.0.passes (way_at way goal trail (WalkAt.More head)) turn more
+        → WalkerFinds w seat.new.me.0.passes way goal turn result }
 {
     let mut slot = first;
     loop {
@@ -229,7 +232,7 @@ fn end_from<S: Shape, M: Machine<S>>(
         let key = read::<S, M>(hand, seat, kind, trail.node, start, part);
         let asked = asked_key(goal, key);
         if asked == key {
-            return end_with::<S, M>(hand, seat, goal, trail, start, head, more, slot, key);
+            return end_with::<S, M>(hand, seat, way, goal, trail, start, head, more, slot, key);
         }
         match slot_behind(more, slot) {
             Some(next) if key < asked => slot = next,
@@ -252,6 +255,7 @@ fn end_from<S: Shape, M: Machine<S>>(
 fn end_among<S: Shape, M: Machine<S>>(
     hand: Hand<S>,
     seat: &mut Seat<u8, SeatView>,
+    way: Way,
     goal: Goal,
     trail: Trail,
     start: usize,
@@ -261,18 +265,58 @@ fn end_among<S: Shape, M: Machine<S>>(
     requires table { IsAt hand seat.old }
     requires start { start ≡ node_start trail.node }
     requires told { (w : Walker (hand_calls S.Shape M.Machine hand)) × (turn : LastTurns)
-        × WalkerIsTold w seat.old.me.0.passes (walk_at goal trail (WalkAt.More head)) turn more }
+        × WalkerIsTold w seat.old.me.0.passes (way_at way goal trail (WalkAt.More head)) turn more }
     ensures table { StaysAtTable seat.old seat.new }
     ensures steps { steps_made seat.new ≤ steps_made seat.old + 6 }
     ensures finds { (w : Walker (hand_calls S.Shape M.Machine hand.entry)) (turn : LastTurns)
-        → WalkerIsTold w seat.old.me.0.passes (walk_at goal trail (WalkAt.More head)) turn more
-        → WalkerFinds w seat.new.me.0.passes goal turn result }
+        → WalkerIsTold w seat.old.me.0.passes (way_at way goal trail (WalkAt.More head)) turn more
+        → WalkerFinds w seat.new.me.0.passes way goal turn result }
 {
     match first_slot(goal, more) {
-        Slot::First => end_from::<S, M>(hand, seat, goal, trail, start, head, more, Slot::First),
-        Slot::Second => end_from::<S, M>(hand, seat, goal, trail, start, head, more, Slot::Second),
-        Slot::Third => end_from::<S, M>(hand, seat, goal, trail, start, head, more, Slot::Third),
-        Slot::Fourth => end_from::<S, M>(hand, seat, goal, trail, start, head, more, Slot::Fourth),
+        Slot::First => end_from::<S, M>(
+            hand,
+            seat,
+            way,
+            goal,
+            trail,
+            start,
+            head,
+            more,
+            Slot::First,
+        ),
+        Slot::Second => end_from::<S, M>(
+            hand,
+            seat,
+            way,
+            goal,
+            trail,
+            start,
+            head,
+            more,
+            Slot::Second,
+        ),
+        Slot::Third => end_from::<S, M>(
+            hand,
+            seat,
+            way,
+            goal,
+            trail,
+            start,
+            head,
+            more,
+            Slot::Third,
+        ),
+        Slot::Fourth => end_from::<S, M>(
+            hand,
+            seat,
+            way,
+            goal,
+            trail,
+            start,
+            head,
+            more,
+            Slot::Fourth,
+        ),
     }
 }
 
@@ -281,6 +325,7 @@ fn end_among<S: Shape, M: Machine<S>>(
 fn end<S: Shape, M: Machine<S>>(
     hand: Hand<S>,
     seat: &mut Seat<u8, SeatView>,
+    way: Way,
     goal: Goal,
     trail: Trail,
     start: usize,
@@ -292,18 +337,18 @@ fn end<S: Shape, M: Machine<S>>(
     requires start { start ≡ node_start trail.node }
     requires leaf { (head_of word).leaf ≡ true }
     requires told { (w : Walker (hand_calls S.Shape M.Machine hand)) × (turn : LastTurns)
-        × WalkerIsTold w seat.old.me.0.passes (walk_at goal trail at) turn word }
+        × WalkerIsTold w seat.old.me.0.passes (way_at way goal trail at) turn word }
     ensures table { StaysAtTable seat.old seat.new }
     ensures steps { steps_made seat.new ≤ steps_made seat.old + 7 }
     ensures finds { (w : Walker (hand_calls S.Shape M.Machine hand.entry)) (turn : LastTurns)
-        → WalkerIsTold w seat.old.me.0.passes (walk_at goal trail at) turn word
-        → WalkerFinds w seat.new.me.0.passes goal turn result }
+        → WalkerIsTold w seat.old.me.0.passes (way_at way goal trail at) turn word
+        → WalkerFinds w seat.new.me.0.passes way goal turn result }
 {
     let head = Head::of(word);
     if head.class == 0 {
         let (kind, part) = (Kind::LoadSettled, NodeWord::Settled(SettledPart::More));
         let more = read::<S, M>(hand, seat, kind, trail.node, start, part);
-        return end_among::<S, M>(hand, seat, goal, trail, start, head, more);
+        return end_among::<S, M>(hand, seat, way, goal, trail, start, head, more);
     }
     Found {
         trail,
@@ -314,12 +359,85 @@ fn end<S: Shape, M: Machine<S>>(
     }
 }
 
+/// Whether the walk is one within.
+#[inline(always)]
+fn is_within(way: Way) -> bool
+    ensures yes { result ≡ true → way ≡ Way.Within }
+    ensures no { result ≡ false → way ≢ Way.Within }
+{
+    match way {
+        Way::Within => true,
+        Way::InTree | Way::InTrie => false,
+    }
+}
+
+/// Whether the walk ends at a fork of class 0 with this key.
+#[inline(always)]
+fn ends_at(way: Way, goal: Goal, key: u64) -> bool
+    ensures { EndsAt (way_from way goal) key result }
+{
+    match goal {
+        Goal::Key(wanted) => is_within(way) && !shares(key, wanted),
+        Goal::End(_) => false,
+    }
+}
+
+/// Continues after the head of a fork that begins there by its key: on a side, or to the end, where
+/// the walk goes no further.
+#[inline(always)]
+fn pass_by_key<S: Shape, M: Machine<S>>(
+    hand: Hand<S>,
+    seat: &mut Seat<u8, SeatView>,
+    way: Way,
+    goal: Goal,
+    trail: Trail,
+    start: usize,
+    at: WalkAt,
+    word: u64,
+) -> Result<Side, Found>
+    requires place { LoadsHead at }
+    requires table { IsAt hand seat.old }
+    requires start { start ≡ node_start trail.node }
+    requires fork { (head_of word).leaf ≡ false }
+    requires asks { asks_key goal (head_of word) ≡ true }
+    requires told { (w : Walker (hand_calls S.Shape M.Machine hand)) × (turn : LastTurns)
+        × WalkerIsTold w seat.old.me.0.passes (way_at way goal trail at) turn word }
+    ensures table { StaysAtTable seat.old seat.new }
+    ensures one { steps_made seat.new ≡ suc (steps_made seat.old) }
+    ensures down { IfOk result (λ side.
+        (w : Walker (hand_calls S.Shape M.Machine hand.entry)) (turn : LastTurns)
+        → WalkerIsTold w seat.old.me.0.passes (way_at way goal trail at) turn word
+        → WalkerGoesDown w seat.new.me.0.passes way goal trail (head_of word).level side turn) }
+    ensures finds { IfErr result (λ found.
+        (w : Walker (hand_calls S.Shape M.Machine hand.entry)) (turn : LastTurns)
+        → WalkerIsTold w seat.old.me.0.passes (way_at way goal trail at) turn word
+        → WalkerFinds w seat.new.me.0.passes way goal turn found) }
+{
+    let (kind, part) = (
+        Kind::LoadSettled,
+        NodeWord::Settled(SettledPart::Key(Slot::First)),
+    );
+    let key = read::<S, M>(hand, seat, kind, trail.node, start, part);
+    if ends_at(way, goal, key) {
+        let head = Head::of(word);
+        return Err(Found {
+            trail,
+            head,
+            more: 0,
+            key,
+            value: None,
+        });
+    }
+    Ok(side_of(goal, key))
+}
+
 /// Continues after the head of a node that begins there: on a side of a fork, or to the end at a
 /// leaf.
 #[inline(always)]
 fn pass<S: Shape, M: Machine<S>>(
     hand: Hand<S>,
     seat: &mut Seat<u8, SeatView>,
+    way: Way,
     goal: Goal,
     trail: Trail,
     start: usize,
@@ -330,29 +448,24 @@ fn pass<S: Shape, M: Machine<S>>(
     requires table { IsAt hand seat.old }
     requires start { start ≡ node_start trail.node }
     requires told { (w : Walker (hand_calls S.Shape M.Machine hand)) × (turn : LastTurns)
-        × WalkerIsTold w seat.old.me.0.passes (walk_at goal trail at) turn word }
+        × WalkerIsTold w seat.old.me.0.passes (way_at way goal trail at) turn word }
     ensures table { StaysAtTable seat.old seat.new }
     ensures steps { MatchResult result (λ _. steps_made seat.new ≤ steps_made seat.old + 1)
         (λ _. steps_made seat.new ≤ steps_made seat.old + 7) }
     ensures down { IfOk result (λ side.
         (w : Walker (hand_calls S.Shape M.Machine hand.entry)) (turn : LastTurns)
-        → WalkerIsTold w seat.old.me.0.passes (walk_at goal trail at) turn word
-        → WalkerGoesDown w seat.new.me.0.passes goal trail (head_of word).level side turn) }
+        → WalkerIsTold w seat.old.me.0.passes (way_at way goal trail at) turn word
+        → WalkerGoesDown w seat.new.me.0.passes way goal trail (head_of word).level side turn) }
     ensures finds { IfErr result (λ found.
         (w : Walker (hand_calls S.Shape M.Machine hand.entry)) (turn : LastTurns)
-        → WalkerIsTold w seat.old.me.0.passes (walk_at goal trail at) turn word
-        → WalkerFinds w seat.new.me.0.passes goal turn found) }
+        → WalkerIsTold w seat.old.me.0.passes (way_at way goal trail at) turn word
+        → WalkerFinds w seat.new.me.0.passes way goal turn found) }
 {
     if is_leaf(word) {
-        return Err(end::<S, M>(hand, seat, goal, trail, start, at, word));
+        return Err(end::<S, M>(hand, seat, way, goal, trail, start, at, word));
     }
     if asks_key(goal, word) {
-        let (kind, part) = (
-            Kind::LoadSettled,
-            NodeWord::Settled(SettledPart::Key(Slot::First)),
-        );
-        let key = read::<S, M>(hand, seat, kind, trail.node, start, part);
-        return Ok(side_of(goal, key));
+        return pass_by_key::<S, M>(hand, seat, way, goal, trail, start, at, word);
     }
     Ok(open_side(goal, word))
 }
@@ -387,6 +500,7 @@ struct Place {
 fn descend<S: Shape, M: Machine<S>>(
     hand: Hand<S>,
     seat: &mut Seat<u8, SeatView>,
+    way: Way,
     goal: Goal,
     place: Place,
     word: u64,
@@ -395,17 +509,17 @@ fn descend<S: Shape, M: Machine<S>>(
     requires table { IsAt hand seat.old }
     requires start { place.start ≡ node_start place.trail.node }
     requires waits { (w : Walker (hand_calls S.Shape M.Machine hand))
-        × WalkerGoesDown w seat.old.me.0.passes goal place.trail (head_of word).level side
+        × WalkerGoesDown w seat.old.me.0.passes way goal place.trail (head_of word).level side
         place.turns }
     ensures table { StaysAtTable seat.old seat.new }
     ensures one { steps_made seat.new ≡ suc (steps_made seat.old) }
     ensures at { result.at ≡ WalkAt.Head (head_of word).level }
     ensures start { result.start ≡ node_start result.trail.node }
-    ensures deep { (head_of word).level + 1 < 2 + shared_nodes hand.entry.layout.now }
+    ensures deep { (head_of word).level + 1 < 2 + room way (shared_nodes hand.entry.layout.now) }
     ensures down { (w : Walker (hand_calls S.Shape M.Machine hand.entry))
-        → WalkerGoesDown w seat.old.me.0.passes goal place.trail (head_of word).level side
+        → WalkerGoesDown w seat.old.me.0.passes way goal place.trail (head_of word).level side
         place.turns
-        → WalkerWaits w seat.new.me.0.passes (walk_at goal result.trail result.at) result.turns
+        → WalkerWaits w seat.new.me.0.passes (way_at way goal result.trail result.at) result.turns
         (load Kind.LoadSettled (Word.Node result.trail.node (NodeWord.Settled SettledPart.Head))) }
 {
     let node = place.trail.node;
@@ -435,6 +549,7 @@ fn descend<S: Shape, M: Machine<S>>(
 fn descend_right<S: Shape, M: Machine<S>>(
     hand: Hand<S>,
     seat: &mut Seat<u8, SeatView>,
+    way: Way,
     goal: Goal,
     first: Place,
     head: u64,
@@ -443,23 +558,21 @@ fn descend_right<S: Shape, M: Machine<S>>(
     requires table { IsAt hand seat.old }
     requires start { first.start ≡ node_start first.trail.node }
     requires told { (w : Walker (hand_calls S.Shape M.Machine hand))
-        × WalkerIsTold w seat.old.me.0.passes (walk_at goal first.trail first.at) first.turns head }
+        × WalkerIsTold w seat.old.me.0.passes (way_at way goal first.trail first.at) first.turns head }
     ensures place { LoadsHead result.0.at }
     ensures table { StaysAtTable seat.old seat.new }
     ensures start { result.0.start ≡ node_start result.0.trail.node }
-    ensures nearer { walk_left result.0.at (shared_nodes hand.entry.layout.now)
-        ≤ walk_left first.at (shared_nodes hand.entry.layout.now) }
-    ensures steps { steps_made seat.new + walk_left result.0.at (shared_nodes
-        hand.entry.layout.now) ≤ steps_made seat.old + walk_left first.at (shared_nodes
-        hand.entry.layout.now) }
+    ensures nearer { walk_left result.0.at (room way (shared_nodes hand.entry.layout.now))
+        ≤ walk_left first.at (room way (shared_nodes hand.entry.layout.now)) }
+    ensures steps { steps_made seat.new + walk_left result.0.at (room way (shared_nodes hand.entry.layout.now)) ≤ steps_made seat.old + walk_left first.at (room way (shared_nodes hand.entry.layout.now)) }
     ensures told { (w : Walker (hand_calls S.Shape M.Machine hand.entry))
-        → WalkerIsTold w seat.old.me.0.passes (walk_at goal first.trail first.at) first.turns head
-        → WalkerIsTold w seat.new.me.0.passes (walk_at goal result.0.trail result.0.at)
+        → WalkerIsTold w seat.old.me.0.passes (way_at way goal first.trail first.at) first.turns head
+        → WalkerIsTold w seat.new.me.0.passes (way_at way goal result.0.trail result.0.at)
         result.0.turns result.1 }
 {
     let (mut place, mut word) = (first, head);
     while goes_right(goal, word) {
-        place = descend::<S, M>(hand, seat, goal, place, word, Side::Right);
+        place = descend::<S, M>(hand, seat, way, goal, place, word, Side::Right);
         let (kind, part) = (Kind::LoadSettled, NodeWord::Settled(SettledPart::Head));
         word = read::<S, M>(hand, seat, kind, place.trail.node, place.start, part);
     }
@@ -471,17 +584,17 @@ fn descend_right<S: Shape, M: Machine<S>>(
 fn to_goal<S: Shape, M: Machine<S>>(
     hand: Hand<S>,
     seat: &mut Seat<u8, SeatView>,
+    way: Way,
     goal: Goal,
 ) -> (Found, LastTurns)
     requires table { IsAt hand seat.old }
     requires waits { (w : Walker (hand_calls S.Shape M.Machine hand))
-        × WalksFromRoot w seat.old.me.0.passes goal }
+        × WalksFromRoot w seat.old.me.0.passes way goal }
     ensures table { StaysAtTable seat.old seat.new }
-    ensures steps { steps_made seat.new ≤ steps_made seat.old + (3 * (2 + shared_nodes
-        hand.entry.layout.now) + 5) }
+    ensures steps { steps_made seat.new ≤ steps_made seat.old + (3 * (2 + room way (shared_nodes hand.entry.layout.now)) + 5) }
     ensures finds { (w : Walker (hand_calls S.Shape M.Machine hand.entry))
-        → WalksFromRoot w seat.old.me.0.passes goal
-        → WalkerFinds w seat.new.me.0.passes goal result.1 result.0 }
+        → WalksFromRoot w seat.old.me.0.passes way goal
+        → WalkerFinds w seat.new.me.0.passes way goal result.1 result.0 }
 {
     let layout = *hand.layout;
     let hand = Hand {
@@ -504,7 +617,7 @@ fn to_goal<S: Shape, M: Machine<S>>(
         let (kind, part) = (Kind::LoadSettled, NodeWord::Settled(SettledPart::Head));
         let word = read::<S, M>(hand, seat, kind, node, start, part);
         let head = Head::of(word);
-        let side = match pass::<S, M>(hand, seat, goal, trail, start, at, word) {
+        let side = match pass::<S, M>(hand, seat, way, goal, trail, start, at, word) {
             Ok(side) => side,
             Err(found) => return (found, turns),
         };
@@ -527,17 +640,17 @@ fn to_goal<S: Shape, M: Machine<S>>(
 fn to_last<S: Shape, M: Machine<S>>(
     hand: Hand<S>,
     seat: &mut Seat<u8, SeatView>,
+    way: Way,
     goal: Goal,
 ) -> (Found, LastTurns)
     requires table { IsAt hand seat.old }
     requires waits { (w : Walker (hand_calls S.Shape M.Machine hand))
-        × WalksFromRoot w seat.old.me.0.passes goal }
+        × WalksFromRoot w seat.old.me.0.passes way goal }
     ensures table { StaysAtTable seat.old seat.new }
-    ensures steps { steps_made seat.new ≤ steps_made seat.old + (3 * (2 + shared_nodes
-        hand.entry.layout.now) + 5) }
+    ensures steps { steps_made seat.new ≤ steps_made seat.old + (3 * (2 + room way (shared_nodes hand.entry.layout.now)) + 5) }
     ensures finds { (w : Walker (hand_calls S.Shape M.Machine hand.entry))
-        → WalksFromRoot w seat.old.me.0.passes goal
-        → WalkerFinds w seat.new.me.0.passes goal result.1 result.0 }
+        → WalksFromRoot w seat.old.me.0.passes way goal
+        → WalkerFinds w seat.new.me.0.passes way goal result.1 result.0 }
 {
     let layout = *hand.layout;
     let hand = Hand {
@@ -561,35 +674,37 @@ fn to_last<S: Shape, M: Machine<S>>(
     loop {
         let (kind, part) = (Kind::LoadSettled, NodeWord::Settled(SettledPart::Head));
         let head = read::<S, M>(hand, seat, kind, place.trail.node, place.start, part);
-        let (last, word) = descend_right::<S, M>(hand, seat, goal, place, head);
-        let side = match pass::<S, M>(hand, seat, goal, last.trail, last.start, last.at, word) {
+        let (last, word) = descend_right::<S, M>(hand, seat, way, goal, place, head);
+        let side = match pass::<S, M>(
+            hand, seat, way, goal, last.trail, last.start, last.at, word,
+        ) {
             Ok(side) => side,
             Err(found) => return (found, last.turns),
         };
-        place = descend::<S, M>(hand, seat, goal, last, word, side);
+        place = descend::<S, M>(hand, seat, way, goal, last, word, side);
     }
 }
 
-/// The walk from the root to the leaf where a key is, or would be, or to the first or the last leaf,
-/// and the last forks where it turned.
+/// The walk by this way from the root to the leaf where a key is, or would be, or to the first or the
+/// last leaf, and the last forks where it turned.
 #[inline(always)]
 pub(crate) fn call<S: Shape, M: Machine<S>>(
     hand: Hand<S>,
     seat: &mut Seat<u8, SeatView>,
+    way: Way,
     goal: Goal,
 ) -> (Found, LastTurns)
     requires table { IsAt hand seat.old }
     requires waits { (w : Walker (hand_calls S.Shape M.Machine hand))
-        × WalksFromRoot w seat.old.me.0.passes goal }
+        × WalksFromRoot w seat.old.me.0.passes way goal }
     ensures table { StaysAtTable seat.old seat.new }
-    ensures steps { steps_made seat.new ≤ steps_made seat.old + (3 * (2 + shared_nodes
-        hand.entry.layout.now) + 5) }
+    ensures steps { steps_made seat.new ≤ steps_made seat.old + (3 * (2 + room way (shared_nodes hand.entry.layout.now)) + 5) }
     ensures finds { (w : Walker (hand_calls S.Shape M.Machine hand.entry))
-        → WalksFromRoot w seat.old.me.0.passes goal
-        → WalkerFinds w seat.new.me.0.passes goal result.1 result.0 }
+        → WalksFromRoot w seat.old.me.0.passes way goal
+        → WalkerFinds w seat.new.me.0.passes way goal result.1 result.0 }
 {
     match goal {
-        Goal::End(Side::Right) => to_last::<S, M>(hand, seat, goal),
-        _ => to_goal::<S, M>(hand, seat, goal),
+        Goal::End(Side::Right) => to_last::<S, M>(hand, seat, way, goal),
+        _ => to_goal::<S, M>(hand, seat, way, goal),
     }
 }

@@ -7,9 +7,10 @@ use Rattle.arena.proofs.Lemmas.{ends_self, ends_trans, taken_more}
 use Rattle.prims.specs.Laws.Begun.{TakesOnly}
 use Rattle.prims.specs.Laws.Idle.{IsIdle, quiet_at_start, quiet_more, idle_if_finished}
 use Rattle.prims.specs.Laws.InTheWay.{been_more}
-use Rattle.template.specs.Common.{load, AreFinished, Snap, Passed, IsTreeRun, TreeAllows, level, begins_try}
+use Rattle.template.specs.Common.{load, AreFinished, Snap, Passed, IsMapRun, TreeAllows, level, begins_try}
 use Rattle.prims.proofs.Lemmas.{over_more}
-use Rattle.ordered_map.proofs.Lemmas.{path_not_final, root_head, run_since, stood_settled, walk_first, was_passed, SameSettled}
+use Rattle.ordered_map.proofs.Lemmas.{was_passed, SameSettled}
+use Rattle.ordered_map.proofs.MapLemmas.{path_not_final, root_head, run_since, stood_settled, walk_first}
 use Rattle.template.proofs.Lemmas.{BeginsNoTry, newest_more, newest_now, next_more, other_node_begins_none}
 use Rattle.order.specs.Loads.{load_word}
 use Rattle.order.specs.Meaning.{ReadMeaning}
@@ -20,7 +21,7 @@ use Rattle.order.specs.declared.load.ReadLoad.{ReadLoad}
 use Rattle.order.specs.declared.load.ReadLoad.TheVariants as loads
 
 -- the root has been in the tree
-pub root_there : (c : Call) (h : History) → IsTreeRun c.layout h → Extends h c.start → HasStood c h 0
+pub root_there : (c : Call) (h : History) → IsMapRun c.layout h → Extends h c.start → HasStood c h 0
 root_there c h run since = record {
   stood = was_passed h h 0 0 p;
   not_final = record { moment = p.0; within = p.1; since = ends_trans p.0 h c.start p.2 since; was = path_not_final c.layout p.0 0 0 (run_since c.layout h p.0 run p.1) p.3 };
@@ -30,7 +31,7 @@ root_there c h run since = record {
     p = walk_first c.layout h 0 run
 
 -- with no snapshot it knows all that it knows of the call as if that began now
-pub reads_anew : (c : Call) (h : History) (snaps : List Snap) → snaps ≡ [] → IsTreeRun c.layout h → AreFinished c.layout c.pass 0 h → Reads (begun_at c h) h snaps
+pub reads_anew : (c : Call) (h : History) (snaps : List Snap) → snaps ≡ [] → IsMapRun c.layout h → AreFinished c.layout c.pass 0 h → Reads (begun_at c h) h snaps
 reads_anew c h snaps none run over = rw none record {
   run = run;
   since = ends_self h;
@@ -75,7 +76,7 @@ module _ (c : Call) (h : History) (r : Row) where
         over = over_more c.layout c.pass 0 h r run.lawful takes x.over
 
     -- the settled words of a node that has been in the tree stay
-    pub settled_more : (n : ℕ) → IsTreeRun c.layout h → HasStood c h n → SameSettled (value h) (value (r ⊳ h)) n
+    pub settled_more : (n : ℕ) → IsMapRun c.layout h → HasStood c h n → SameSettled (value h) (value (r ⊳ h)) n
     settled_more n g x = stood_settled c.layout (r ⊳ h) h n (g.0, run) (inr (ends_self h)) x.stood
 
 -- Its tries
@@ -93,7 +94,7 @@ module _ (c : Call) (h : History) (r : Row) (limit left : ℕ) (idle : IsIdle c.
   in_try_now begins x = record { begins = x; quiet = quiet_more c.layout c.pass c.start h r idle x.quiet; newest = newest_now c.pass r h begins }
 
 -- a load of the head of a node below some fork begins none
-head_begins_none : (c : Call) (h : History) (s : Step) (above n : ℕ) → IsTreeRun c.layout h → above < level (value h) n → s ≡ load LoadSettled (node n (Settled Head)) → BeginsNoTry s
+head_begins_none : (c : Call) (h : History) (s : Step) (above n : ℕ) → IsMapRun c.layout h → above < level (value h) n → s ≡ load LoadSettled (node n (Settled Head)) → BeginsNoTry s
 head_begins_none c h s above n run deep e = other_node_begins_none s n (Settled Head) (ap (λ (t : Step). t.word) e) below
   where
     below : n ≢ 0
@@ -104,7 +105,7 @@ word_begins_none : (s : Step) (n : ℕ) (part : NodeWord) → s ≡ load LoadSet
 word_begins_none s n part e other = rw (e, other) (and-false (n == 0))
 
 -- so no load of an ordered read but that of the root's head does
-pub load_begins_none : {R A : Type 0} (means : ReadMeaning R A) (r : R) (snaps : List Snap) (c : Call) (h : History) (s : Step) (of : ReadLoad) → IsTreeRun c.layout h → MayLoad means r snaps c h of → s ≡ load LoadSettled (load_word of) → BeginsNoTry s
+pub load_begins_none : {R A : Type 0} (means : ReadMeaning R A) (r : R) (snaps : List Snap) (c : Call) (h : History) (s : Step) (of : ReadLoad) → IsMapRun c.layout h → MayLoad means r snaps c h of → s ≡ load LoadSettled (load_word of) → BeginsNoTry s
 load_begins_none means r snaps c h s (loads.Head above n) run x e = head_begins_none c h s above n.0 run x.1 e
 load_begins_none means r snaps c h s (loads.Key low n) run x e = word_begins_none s n.0 (Settled (KeyWord First)) e refl
 load_begins_none means r snaps c h s (loads.More n) run x e = word_begins_none s n.0 (Settled MoreWord) e refl

@@ -1,27 +1,31 @@
 -- The laws of ordered reads: rows of others leave them waiting, their steps are lawful, and what
 -- they get is so.
-use Rattle.std.proofs.Common.{◌≡◌, ◌≢◌, ℕ, ◌+◌, ◌<◌, ◌≤◌, false, length, List, [], ◌∷◌, inl, inr, refl, sym, ◌∙◌, ap, subst, arith, Option, Some, None}
+use Rattle.std.proofs.Common.{◌≡◌, ◌≢◌, ℕ, ◌+◌, ◌<◌, ◌≤◌, Bool, true, false, length, List, [], ◌∷◌, inl, inr, refl, sym, ◌∙◌, ap, subst, arith, Option, Some, None}
 use Rattle.histories.specs.Common.{NodeNo, Row, Step, Fill, LoadSettled, Settled, SettledPart, Side, Head as HeadWord, More as MoreWord}
 use Rattle.histories.specs.Common.{Value as ValueWord, Word, head_of, node, History, ◌⊳◌, value, IsRun, Call, row_of, IsTold, begun_at, taken_nodes}
 use Rattle.arena.specs.declared.word.Side.TheVariants as sides
 use Rattle.arena.proofs.Lemmas.{ends_self}
 use Rattle.prims.specs.Laws.Idle.{IsIdle, idle_if_finished}
 use Rattle.prims.specs.Laws.Begun.{TakesOnly, takes_by_others, takes_by_step}
-use Rattle.template.specs.Common.{load, IsTreeRun, TreeAllows, level, begins_try, IsOwnMoment, Passed, WalkKnows, WalkWaits, IsPastRoot}
+use Rattle.template.specs.Common.{load, IsMapRun, TreeAllows, level, begins_try, IsOwnMoment, WalkKnows, WalkWaits, IsPastRoot}
 use Rattle.prims.specs.Llx.Laws.{llx_keeps, llx_lawful, llx_made, load_lawful, load_told}
 use Rattle.prims.specs.Vlx.Laws.{vlx_keeps, vlx_lawful, vlx_made}
 use Rattle.prims.proofs.Lemmas.{llx_fills_not, vlx_fills_not}
-use Rattle.ordered_map.proofs.Lemmas.{stood_settled, was_passed, walk_stays, SameSettled, settled_class, settled_leaf, settled_level, settled_toward}
+use Rattle.ordered_map.proofs.Lemmas.{was_passed, walk_stays, same_stays, SameSettled, settled_class, settled_leaf, settled_level, settled_toward}
+use Rattle.ordered_map.proofs.MapLemmas.{stood_settled}
 use Rattle.template.specs.Walk.Laws.{walk_keeps, walk_lawful, walk_made, walk_told}
 use Rattle.template.specs.declared.walk.WalkAt.{WalkAt}
 use Rattle.template.specs.declared.walk.WalkAt.TheVariants as places
 use Rattle.template.specs.declared.walk.WalkRun.{WalkRun}
-use Rattle.ordered_map.proofs.MapLemmas.{tree_run}
-use Rattle.template.specs.declared.walk.Way.TheVariants.{InTree, Within}
-use Rattle.template.proofs.Lemmas.{BeginsNoTry, in_tree, llx_begins_none, others_begin_none, own_begins, own_begins_none, vlx_begins_none, walk_begins_none, walk_fills_not, stood_inside}
+use Rattle.ordered_map.specs.Paths.{depth}
+use Rattle.template.specs.Balance.{leaf_way, map_mode, nodes_by}
+use Rattle.template.specs.Walk.Steps.{WalkFitsAt, room}
+use Rattle.template.specs.Trails.{WasOn}
+use Rattle.template.specs.declared.walk.Way.TheVariants.{InTree, InTrie, Within}
+use Rattle.template.proofs.Lemmas.{BeginsNoTry, llx_begins_none, others_begin_none, own_begins, own_begins_none, vlx_begins_none, walk_begins_none, walk_fills_not, stood_inside}
 use Rattle.order.specs.Found.{AreThere, IsAtLowFork, Looks, StandsIn, TakesPair, more_at}
 use Rattle.order.specs.Known.{AreLastTurns, BeginsHere, IsLastTurn, ReadGoes, ReadIsReady, ReadIsToldAt, ReadWaits, ReadWaitsAt, RunStands, StandsInTry, Validates, Walks, WalksInTry}
-use Rattle.order.specs.Laws.Depth.{fork_depth, head_fits}
+use Rattle.order.specs.Laws.Depth.{depth_by, fork_depth, head_fits}
 use Rattle.order.specs.Laws.Kept.{begins_more, in_try_more, in_try_now, load_begins_none, reads_anew, root_there, stood_more, whenever_more, reads_more, settled_more}
 use Rattle.order.specs.Loads.{load_node, load_part, load_value, load_word}
 use Rattle.order.specs.Meaning.{ReadMeaning}
@@ -40,6 +44,16 @@ use Rattle.order.specs.declared.run.ReadAt.TheVariants.{Start, Walk, Root, Load,
 use Rattle.order.specs.declared.run.ReadRun.{ReadRun}
 use Rattle.order.specs.declared.last_turns.LastTurns.{LastTurns}
 
+-- a walk to a leaf does not end at a fork
+pub not_within : (trie : Bool) → leaf_way trie ≡ Within → ⊥
+not_within false e = let d : InTree ≡ Within = e in cc
+not_within true e = let d : InTrie ≡ Within = e in cc
+
+-- its bounds are those of its map
+pub room_by : (trie : Bool) (nodes : ℕ) → room (leaf_way trie) nodes ≡ nodes_by trie nodes
+room_by false nodes = refl
+room_by true nodes = refl
+
 -- a walk that has not turned has the root alone
 pub no_turn : (c : Call) (h : History) (k : ℕ) → AreLastTurns c h k no_turns
 no_turn c h k sides.Left = inl refl
@@ -48,7 +62,7 @@ no_turn c h k sides.Right = inl refl
 module _ {R A : Type 0} (means : ReadMeaning R A) (m : ReadRun R) where
   -- One row more
 
-  module _ (c : Call) (h : History) (r : Row) (g : IsTreeRun c.layout h) (run : IsRun TreeAllows c.layout (r ⊳ h)) where
+  module _ (c : Call) (h : History) (r : Row) (g : IsMapRun c.layout h) (run : IsRun TreeAllows c.layout (r ⊳ h)) where
     deeper_more : (above n : ℕ) → HasStood c h n → above < level (value h) n → above < level (value (r ⊳ h)) n
     deeper_more above n x i = let e : level (value (r ⊳ h)) n ≡ level (value h) n = settled_level (value h) (value (r ⊳ h)) n (settled_more c h r run n g x) in omega (arith, e, i)
 
@@ -59,18 +73,21 @@ module _ {R A : Type 0} (means : ReadMeaning R A) (m : ReadRun R) where
     last_more : (k : ℕ) (side : Side) (n : ℕ) → IsLastTurn c h k side n → IsLastTurn c (r ⊳ h) k side n
     last_more k side n (inl e) = inl e
     last_more k side n (inr x) = inr record {
-      passed = record { first = x.passed.first; own = x.passed.own; passed = inl (walk_stays r h x.passed.first k n there) };
+      sure = record {
+        on = record { first = on.first; own = on.own; passed = walk_stays r h on.first k n on.passed };
+        stays = same_stays (value h) (value (r ⊳ h)) c.layout k n same x.sure.stays;
+      };
       fork = settled_leaf (value h) (value (r ⊳ h)) n same ∙ x.fork;
       turn = settled_toward (value h) (value (r ⊳ h)) n k same ∙ x.turn;
     }
       where
-        there : Passed h x.passed.first k n
-        there = in_tree c.layout h x.passed.first k n g.0 x.passed.passed
+        on : WasOn c h k n
+        on = x.sure.on
 
         same : SameSettled (value h) (value (r ⊳ h)) n
-        same = stood_settled c.layout (r ⊳ h) h n (g.0, run) (inr (ends_self h)) (was_passed h x.passed.first k n there)
+        same = stood_settled c.layout (r ⊳ h) h n (g.0, run) (inr (ends_self h)) (was_passed h on.first k n on.passed)
 
-    walks_more : (walk : WalkRun) (side : Side) (turns : LastTurns) → Walks means m.read c h walk side turns → Walks means m.read c (r ⊳ h) walk side turns
+    walks_more : (walk : WalkRun) (side : Side) (turns : LastTurns) → Walks means m.read m.trie c h walk side turns → Walks means m.read m.trie c (r ⊳ h) walk side turns
     walks_more walk side turns x = record { key = x.key; goal = x.goal; way = x.way; goes_to = x.goes_to; last = λ s. last_more x.key s (turn_to s turns).0 (x.last s) }
 
     stands_more : (n : ℕ) → RunStands means m c h n → RunStands means m c (r ⊳ h) n
@@ -130,7 +147,7 @@ module _ {R A : Type 0} (means : ReadMeaning R A) (m : ReadRun R) where
     validates_more begin x = record { asks = x.asks; own = x.own; within = inr x.within; reads = x.reads; right = x.right }
 
     goes_more : TakesOnly c.layout c.pass 0 h r → ReadGoes means m c h → ReadGoes means m c (r ⊳ h)
-    goes_more takes x = record { reads = reads_more c h r run m.snaps.items takes x.reads; suits = x.suits }
+    goes_more takes x = record { reads = reads_more c h r run m.snaps.items takes x.reads; suits = x.suits; mode = x.mode }
 
     -- Rows of other passes
 
@@ -170,8 +187,8 @@ module _ {R A : Type 0} (means : ReadMeaning R A) (m : ReadRun R) where
   -- The step that it waits for
 
   -- a load of a settled word of a node that has been in the tree continues the run
-  load_on : (c : Call) (h : History) (s : Step) (n : ℕ) (part : SettledPart) → IsTreeRun c.layout h → HasStood c h n → s ≡ load LoadSettled (node n (Settled part)) → IsRun TreeAllows c.layout (row_of c s h ⊳ h)
-  load_on c h s n part g x asked = load_lawful TreeAllows c h LoadSettled (node n (Settled part)) s g.1 asked record { word = tt; same = refl } (λ q. cc) (stood_inside c.layout h n (tree_run c.layout h g) x.stood)
+  load_on : (c : Call) (h : History) (s : Step) (n : ℕ) (part : SettledPart) → IsMapRun c.layout h → HasStood c h n → s ≡ load LoadSettled (node n (Settled part)) → IsRun TreeAllows c.layout (row_of c s h ⊳ h)
+  load_on c h s n part g x asked = load_lawful TreeAllows c h LoadSettled (node n (Settled part)) s g.1 asked record { word = tt; same = refl } (λ q. cc) (stood_inside c.layout h n g x.stood)
 
   load_stood : (c : Call) (h : History) (of : ReadLoad) → MayLoad means m.read m.snaps.items c h of → HasStood c h (load_node of).0
   load_stood c h (loads.Head above n) x = x.0.stood
@@ -181,7 +198,7 @@ module _ {R A : Type 0} (means : ReadMeaning R A) (m : ReadRun R) where
   load_stood c h (loads.Value p key) x = x.stands.stood
   load_stood c h (loads.High p key low) x = x.0.stands.stood
 
-  lawful_at : (c : Call) (h : History) (s : Step) (at : ReadAt) → IsTreeRun c.layout h → ReadWaitsAt means m c h s at → IsRun TreeAllows c.layout (row_of c s h ⊳ h)
+  lawful_at : (c : Call) (h : History) (s : Step) (at : ReadAt) → IsMapRun c.layout h → ReadWaitsAt means m c h s at → IsRun TreeAllows c.layout (row_of c s h ⊳ h)
   lawful_at c h s Start g w = absurd w
   lawful_at c h s (Walk walk side turns) g w = walk_lawful walk c h s g.1 w.1
   lawful_at c h s Root g w = load_on c h s 0 HeadWord g w.0.stood w.1
@@ -234,7 +251,7 @@ module _ {R A : Type 0} (means : ReadMeaning R A) (m : ReadRun R) where
 
   -- Its own row
 
-  module _ (c : Call) (h : History) (s : Step) (v : ℕ) (g : IsTreeRun c.layout h) (run : IsRun TreeAllows c.layout (row_of c s h ⊳ h)) (t : IsTold s.access (value h s.word) v) where
+  module _ (c : Call) (h : History) (s : Step) (v : ℕ) (g : IsMapRun c.layout h) (run : IsRun TreeAllows c.layout (row_of c s h ⊳ h)) (t : IsTold s.access (value h s.word) v) where
     abbrev r : Row
     r = row_of c s h
 
@@ -277,7 +294,7 @@ module _ {R A : Type 0} (means : ReadMeaning R A) (m : ReadRun R) where
     -- the load of the root's head begins one, about which it knows what it has known so far
     module _ (begin : History) (goes : ReadGoes means m (begun_at c begin) h) (try : BeginsHere means m c h) (loads : s ≡ load LoadSettled (node 0 (Settled HeadWord))) where
       begins_now : (at : ReadAt) → ReadWaitsAt means m (begun_at c begin) h s at → ReadWaitsAt means m (begun_at c h) h s at → ReadyAt c made v at
-      begins_now at w again = told_in_try h record { reads = reads_anew c h m.snaps.items try.1 goes.reads.run goes.reads.over; suits = goes.suits } at (in_try_now c h (row_of c s h) m.limit m.tries (idle_made begin goes at w) (own_begins c s h loads) try.0) again
+      begins_now at w again = told_in_try h record { reads = reads_anew c h m.snaps.items try.1 goes.reads.run goes.reads.over; suits = goes.suits; mode = goes.mode } at (in_try_now c h (row_of c s h) m.limit m.tries (idle_made begin goes at w) (own_begins c s h loads) try.0) again
 
       root_begins : ReadWaitsAt means m (begun_at c begin) h s Root → ReadyAt c made v Root
       root_begins w = begins_now Root w (record { stood = root_there (begun_at c h) h goes.reads.run (ends_self h); asks = w.0.asks; some = w.0.some; waits = rw try.2 tt; here = w.0.here }, w.1)
@@ -292,7 +309,7 @@ module _ {R A : Type 0} (means : ReadMeaning R A) (m : ReadRun R) where
         loads = rw (e, at_root) at w.1.asked
 
         again : WalkWaits walk (begun_at c h) h s
-        again = record { run = w.1.run; may = w.1.may; small = w.1.small; since = ends_self h; known = subst (WalkKnows (begun_at c h) h walk) (sym e) at_root; sure = λ within. absurd (let d : InTree ≡ Within = sym w.0.way ∙ within in cc); asked = w.1.asked }
+        again = record { run = w.1.run; may = w.1.may; small = w.1.small; since = ends_self h; known = subst (WalkKnows (begun_at c h) h walk) (sym e) at_root; sure = λ within. absurd (not_within m.trie (sym w.0.way ∙ within)); asked = w.1.asked }
 
     walk_told_in : (begin : History) (walk : WalkRun) (side : Side) (turns : LastTurns) (p : WalkAt) → walk.at ≡ p → WalksInTry means m c h begin turns p → ReadGoes means m (begun_at c begin) h → ReadWaitsAt means m (begun_at c begin) h s (Walk walk side turns) → ReadyAt c made v (Walk walk side turns)
     walk_told_in begin walk side turns places.Start e try goes w = absurd (subst (WalkKnows (begun_at c begin) h walk) e w.1.known)
@@ -313,28 +330,29 @@ module _ {R A : Type 0} (means : ReadMeaning R A) (m : ReadRun R) where
 
   -- What it gets
 
-  load_fits : (c : Call) (h : History) (v nodes : ℕ) (of : ReadLoad) → IsTreeRun c.layout h → MayLoad means m.read m.snaps.items c h of → load_value h of ≡ v → length (taken_nodes h) ≤ nodes → LoadFits v nodes of
+  load_fits : (c : Call) (h : History) (v nodes : ℕ) (of : ReadLoad) → IsMapRun c.layout h → MayLoad means m.read m.snaps.items c h of → load_value h of ≡ v → depth c.layout.mode (length (taken_nodes h)) ≤ 2 + nodes → LoadFits v nodes of
   load_fits c h v nodes (loads.Head above n) g x t few =
       let fits : HeadFits (head_of v) nodes = head_fits c.layout h n.0 nodes (head_of v) g x.0.stood.stood (ap head_of t) few in
       ((let l : level (value h) n.0 ≡ (head_of v).level = ap (λ w. (head_of w).level) t in let i = x.1 in omega (arith, i, l)), fits)
-  load_fits c h v nodes (loads.Key low n) g x t few = let d : level (value h) n.0 + 1 < 2 + length (taken_nodes h) = fork_depth c.layout h n.0 g x.stands.stood.stood x.fork in let l = x.deep in omega (arith, d, l, few)
+  load_fits c h v nodes (loads.Key low n) g x t few = let d = fork_depth c.layout h n.0 g x.stands.stood.stood x.fork in let l = x.deep in omega (arith, d, l, few)
   load_fits c h v nodes (loads.More n) g x t few = tt
   load_fits c h v nodes (loads.Pair p) g x t few = tt
   load_fits c h v nodes (loads.Value p key) g x t few = tt
   load_fits c h v nodes (loads.High p key low) g x t few = tt
 
-  fits_at : (c : Call) (h : History) (v nodes : ℕ) (at : ReadAt) → IsTreeRun c.layout h → ReadIsToldAt means m c h v at → length (taken_nodes h) ≤ nodes → ReadFitsAt means m (Some v) nodes at
-  fits_at c h v nodes Start g x few = absurd x
-  fits_at c h v nodes (Walk walk side turns) g x few = walk_told walk c h (Some v) nodes g.1 x.1 few
-  fits_at c h v nodes Root g x few = head_fits c.layout h 0 nodes (head_of v) g x.0.stood.stood (ap head_of x.1) few
-  fits_at c h v nodes (Load of) g x few = load_fits c h v nodes of g x.0 x.1 few
-  fits_at c h v nodes (Look children low llx) g x few =
-      let d : level (value h) llx.node.0 + 1 < 2 + length (taken_nodes h) = fork_depth c.layout h llx.node.0 g x.0.stood.stood x.0.fork in
+  fits_at : (c : Call) (h : History) (v nodes : ℕ) (at : ReadAt) → IsMapRun c.layout h → c.layout.mode ≡ map_mode m.trie → ReadIsToldAt means m c h v at → length (taken_nodes h) ≤ nodes → ReadFitsAt means m (Some v) (nodes_by m.trie nodes) at
+  fits_at c h v nodes Start g mode x few = absurd x
+  fits_at c h v nodes (Walk walk side turns) g mode x few = (x.0.way, subst (WalkFitsAt walk.at v) (ap (λ way. room way nodes) x.0.way ∙ room_by m.trie nodes) (walk_told walk c h (Some v) nodes g.1 x.1 few))
+  fits_at c h v nodes Root g mode x few = head_fits c.layout h 0 _ (head_of v) g x.0.stood.stood (ap head_of x.1) (depth_by c.layout m.trie _ nodes mode few)
+  fits_at c h v nodes (Load of) g mode x few = load_fits c h v _ of g x.0 x.1 (depth_by c.layout m.trie _ nodes mode few)
+  fits_at c h v nodes (Look children low llx) g mode x few =
+      let d = fork_depth c.layout h llx.node.0 g x.0.stood.stood x.0.fork in
+      let most = depth_by c.layout m.trie _ nodes mode few in
       let deep = x.0.deep in
-      omega (arith, d, deep, few)
-  fits_at c h v nodes (Validate asked) g x few = tt
+      omega (arith, d, deep, most)
+  fits_at c h v nodes (Validate asked) g mode x few = tt
 
-  -- what a read may get fits the nodes that are taken by then
-  pub read_told : (c : Call) (h : History) (got : Option ℕ) (nodes : ℕ) → IsRun TreeAllows c.layout h → ReadIsReady means m c h got → length (taken_nodes h) ≤ nodes → ReadFits means m got nodes
-  read_told c h None nodes run x few = subst (λ at. ReadFitsAt means m None nodes at) (sym x.1) tt
-  read_told c h (Some v) nodes run x few = fits_at (begun_at c x.0) h v nodes m.at x.2.reads.run x.4 few
+  -- what a read may get fits the nodes that are taken by then, or a trie
+  pub read_told : (c : Call) (h : History) (got : Option ℕ) (nodes : ℕ) → IsRun TreeAllows c.layout h → ReadIsReady means m c h got → length (taken_nodes h) ≤ nodes → ReadFits means m got (nodes_by m.trie nodes)
+  read_told c h None nodes run x few = subst (λ at. ReadFitsAt means m None (nodes_by m.trie nodes) at) (sym x.1) tt
+  read_told c h (Some v) nodes run x few = fits_at (begun_at c x.0) h v nodes m.at x.2.reads.run x.2.mode x.4 few

@@ -31,8 +31,8 @@ taking trie key = record { key = key; trie = trie }
 abbrev pub popping : ℕ → PopPair
 popping key = record { key = key }
 
--- what leaves this value to a key does what puts it there; what leaves none, what takes the key out:
--- `end` says whether that is at an end of a trie
+-- what leaves this value to a key does what puts it there; what leaves none, what takes the key
+-- out: `end` says whether that is at an end of a trie
 abbrev pub doing : Bool → Bool → Option ℕ → EditMeaning ℕ
 doing end in_trie (Some value) = through put_means (λ key. putting in_trie key value)
 doing false in_trie None = through take_means (taking in_trie)

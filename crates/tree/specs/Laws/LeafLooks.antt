@@ -35,8 +35,9 @@ no_trie tree trie = absurd (let x : TreeMode ≡ TrieMode = sym tree ∙ trie in
 
 -- What it looks at
 
--- What is known of what was found at a key, and of this leaf, which is covered besides the fork above
--- that: that fork is surely on the path of the key, and the leaf was in the tree, and not final.
+-- What is known of what was found at a key, and of this leaf, which is covered besides the fork
+-- above that: that fork is surely on the path of the key, and the leaf was in the tree, and not
+-- final.
 pub record IsCovering (k : ℕ) (c : Call) (h : History) (f : Found) (next : NodeNo) : Type 0 where
   pub trail : OnTrail c h k f.trail
   pub below : f.trail.node.0 ≢ 0
@@ -152,7 +153,7 @@ leaf_covered e f next snaps ns w k s both covers =
     rw (ne_eqb (count k s) 4 (λ four. omega (arith, two, four))) (covers.members 1 (let few = both.two in omega (arith, few)) ∙ both.leaf)
 
 -- the parent is a fork, and so is not the leaf
-leaf_distinct : (k : ℕ) (c : Call) (h : History) (f : Found) (next : NodeNo) (snaps : List Snap) → IsCovering k c h f next → HasBoth f next snaps → AreDistinct snaps
+pub leaf_distinct : (k : ℕ) (c : Call) (h : History) (f : Found) (next : NodeNo) (snaps : List Snap) → IsCovering k c h f next → HasBoth f next snaps → AreDistinct snaps
 leaf_distinct k c h f next snaps x both i j p q d e = go (two_places i j (rw both.two at p) (rw both.two at q) d)
   where
     apart : f.trail.parent.0 ≢ next.0

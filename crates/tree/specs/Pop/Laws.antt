@@ -44,8 +44,8 @@ piece_fills k f snaps read = go (has_more f)
     go true = omega arith
     go false = copy_fills (snap_at snaps 2) (unwrap_or read.head (head_of 0)) read
 
--- it looks at three nodes and its guard, takes at most one, reads at most fourteen words and makes at
--- most fourteen fills
+-- it looks at three nodes and its guard, takes at most one, reads at most fourteen words and makes
+-- at most fourteen fills
 pub pop_bounds : EditBounds pop_means
 pop_bounds = record {
   few_looks = λ e f snaps n d. few_looks f snaps n d;

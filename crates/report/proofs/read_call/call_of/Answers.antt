@@ -1,5 +1,6 @@
 use Rattle.std.proofs.Common.{◌≡◌, ◌∙◌, [], ◌∷◌, Ok, None, ap, codes, decimal, get_or, arith, rules, sym}
 use Rattle.std.specs.Result.{result_ok}
+use Rattle.arena.specs.Opening.{is_map}
 use Rattle.script.specs.Commands.{command_row}
 use Rattle.texts.proofs.Lemmas.{same_number}
 use Rattle.report.proofs.Fields.{blank}

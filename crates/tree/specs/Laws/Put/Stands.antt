@@ -1,5 +1,5 @@
--- Where an insert stands once its walk has ended: at a leaf, or in a trie at a fork that its key does
--- not share. The fork above is surely on the path of its key.
+-- Where an insert stands once its walk has ended: at a leaf, or in a trie at a fork that its key
+-- does not share. The fork above is surely on the path of its key.
 use Rattle.std.proofs.Common.{◌≡◌, ℕ, ◌⊎◌, inl, inr, Bool, true, false, Option, Some, None, refl, sym, ◌∙◌, ap, subst}
 use Rattle.histories.specs.Common.{History, Call}
 use Rattle.template.specs.Common.{IsMapRun, HasFoundFork, HasFoundLeaf, FoundBy, MayGo, Key as ToKey}

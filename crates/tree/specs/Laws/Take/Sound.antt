@@ -1,11 +1,10 @@
 -- What a delete looks at, reads and fills, and that it makes the edit.
-use Rattle.std.proofs.Common.{◌≡◌, ◌≢◌, ℕ, zero, suc, ◌+◌, ◌^◌, ◌<◌, ◌≤◌, ◌⊎◌, inl, inr, ⊎_elim, Bool, true, false, ◌==◌, eqb-true, eq-eqb, ne_eqb, lt-ltb, cond, if◌then◌else◌, List, [], ◌∷◌, length, take, Option, Some, None, refl, sym, ◌∙◌, ap, subst, arith}
+use Rattle.std.proofs.Common.{◌≡◌, ◌≢◌, ℕ, zero, suc, ◌^◌, ◌<◌, ◌⊎◌, inl, inr, ⊎_elim, Bool, true, false, ◌==◌, eqb-true, eq-eqb, lt-ltb, cond, if◌then◌else◌, List, [], ◌∷◌, length, take, Option, Some, None, refl, sym, ◌∙◌, ap, subst, arith}
 use Rattle.std.proofs.Common.{IsTrue, unwrap_or, ltb-true}
 use Rattle.std.proofs.Math.Decide.{dec_lt}
-use native.Mathlib.Decide.{ℕ_discrete}
 use Rattle.arena.specs.declared.head.Head.{Head as HeadParts}
-use Rattle.histories.specs.Common.{NodeNo, ScxNo, Settled, Child, Head, Key, Side, Left, Right, Slot, First as FirstSlot, IsInField, head_of, History, ◌⊳◌}
-use Rattle.histories.specs.Common.{value, Extends, Call, IsPlan, count, count_of, member, taken_nodes, node, child, first_key, first_value, Descriptor}
+use Rattle.histories.specs.Common.{NodeNo, ScxNo, Child, Side, Left, Right, IsInField, head_of, History, ◌⊳◌}
+use Rattle.histories.specs.Common.{value, Extends, Call, IsPlan, count, count_of, member, node, child, Descriptor}
 use Rattle.arena.proofs.Lemmas.{ends_self}
 use Rattle.prims.specs.Laws.Idle.{IsQuietSince}
 use Rattle.prims.specs.Laws.Linked.{IsLinked, in_field_named, linked_since}
@@ -65,7 +64,7 @@ pub take_found : (trie : Bool) (k : ℕ) (c : Call) (h : History) (f : Found) �
 take_found true k c h f a = a
 take_found false k c h f a = a
 
-take_usable : (trie : Bool) (k : ℕ) (c : Call) (h : History) (f : Found) (snaps : List Snap) → AreUsable c h (take_way trie) (ToKey k) f snaps → AreUsable c h InTree (ToKey k) f snaps
+pub take_usable : (trie : Bool) (k : ℕ) (c : Call) (h : History) (f : Found) (snaps : List Snap) → AreUsable c h (take_way trie) (ToKey k) f snaps → AreUsable c h InTree (ToKey k) f snaps
 take_usable trie k c h f snaps x i p = let u = x i p in record { moment = u.moment; within = u.within; since = u.since; found = take_found trie k c u.moment f u.found; stood = u.stood; is = u.is; met = u.met }
 
 -- where a delete has something to do, the key has a value
@@ -95,32 +94,32 @@ module _ (ed : TakePair) (c : Call) (h : History) (f : Found) (run : IsMapRun c.
   deep_enough : (m : History) → IsMapRun c.layout m → HasFoundLeaf c m ed.key f → f.trail.parent.0 ≢ 0
   deep_enough m r a z = a.trail.high (found_below (ToKey ed.key) c m f r a) z a.leaf (said_low (value m) ed.key f.trail.node.0 there.0 (sym there.1 ∙ a.says))
 
-  grand_turned : (m : History) → IsMapRun c.layout m → HasFoundLeaf c m ed.key f → HasTurned c m ed.key f.trail.grand.0 f.trail.grand_side f.trail.parent.0
+  pub grand_turned : (m : History) → IsMapRun c.layout m → HasFoundLeaf c m ed.key f → HasTurned c m ed.key f.trail.grand.0 f.trail.grand_side f.trail.parent.0
   grand_turned m r a = a.trail.grand (found_below (ToKey ed.key) c m f r a) (deep_enough m r a)
 
-  parent_turned : (m : History) → IsMapRun c.layout m → HasFoundLeaf c m ed.key f → HasTurned c m ed.key f.trail.parent.0 f.trail.side f.trail.node.0
+  pub parent_turned : (m : History) → IsMapRun c.layout m → HasFoundLeaf c m ed.key f → HasTurned c m ed.key f.trail.parent.0 f.trail.side f.trail.node.0
   parent_turned m r a = a.trail.parent (found_below (ToKey ed.key) c m f r a)
 
   -- both are surely on the path of the key
-  grand_on : ed.key < 2 ^ 64 → HasFoundLeaf c h ed.key f → IsSurelyOn c h ed.key f.trail.grand.0
+  pub grand_on : ed.key < 2 ^ 64 → HasFoundLeaf c h ed.key f → IsSurelyOn c h ed.key f.trail.grand.0
   grand_on small a = grand_surely c h ed.key f small run a not_none (deep_enough h run a)
 
-  parent_on : ed.key < 2 ^ 64 → HasFoundLeaf c h ed.key f → IsSurelyOn c h ed.key f.trail.parent.0
+  pub parent_on : ed.key < 2 ^ 64 → HasFoundLeaf c h ed.key f → IsSurelyOn c h ed.key f.trail.parent.0
   parent_on small a = parent_surely c h ed.key f small run a not_none
 
   -- the call had turned at both as it took their snapshots
-  grand_snap : (s : Snap) (u : HasSnappedAfterWalk c h InTree (ToKey ed.key) f s) → s.node.0 ≡ f.trail.grand.0 → HasTurned c u.moment ed.key s.node.0 f.trail.grand_side f.trail.parent.0
+  pub grand_snap : (s : Snap) (u : HasSnappedAfterWalk c h InTree (ToKey ed.key) f s) → s.node.0 ≡ f.trail.grand.0 → HasTurned c u.moment ed.key s.node.0 f.trail.grand_side f.trail.parent.0
   grand_snap s u e = subst (λ n. HasTurned c u.moment ed.key n f.trail.grand_side f.trail.parent.0) (sym e) (grand_turned u.moment (run_since c.layout h u.moment run u.within) u.found)
 
-  parent_snap : (s : Snap) (u : HasSnappedAfterWalk c h InTree (ToKey ed.key) f s) → s.node.0 ≡ f.trail.parent.0 → HasTurned c u.moment ed.key s.node.0 f.trail.side f.trail.node.0
+  pub parent_snap : (s : Snap) (u : HasSnappedAfterWalk c h InTree (ToKey ed.key) f s) → s.node.0 ≡ f.trail.parent.0 → HasTurned c u.moment ed.key s.node.0 f.trail.side f.trail.node.0
   parent_snap s u e = subst (λ n. HasTurned c u.moment ed.key n f.trail.side f.trail.node.0) (sym e) (parent_turned u.moment (run_since c.layout h u.moment run u.within) u.found)
 
   -- the children of the parent were in the tree
-  below_parent : (s : Snap) → HasSnappedAfterWalk c h InTree (ToKey ed.key) f s → s.node.0 ≡ f.trail.parent.0 → (side : Side) → WasInTree h (child_of s side).0
+  pub below_parent : (s : Snap) → HasSnappedAfterWalk c h InTree (ToKey ed.key) f s → s.node.0 ≡ f.trail.parent.0 → (side : Side) → WasInTree h (child_of s side).0
   below_parent s u e side = shown_stood c h ed.key f s f.trail.side f.trail.node.0 run u (parent_snap s u e) side
 
   -- and were not final
-  not_final_below : (s : Snap) → HasSnappedAfterWalk c h InTree (ToKey ed.key) f s → s.node.0 ≡ f.trail.parent.0 → (side : Side) → WasNotFinal c h (child_of s side).0
+  pub not_final_below : (s : Snap) → HasSnappedAfterWalk c h InTree (ToKey ed.key) f s → s.node.0 ≡ f.trail.parent.0 → (side : Side) → WasNotFinal c h (child_of s side).0
   not_final_below s u e side = shown_not_final c h ed.key f s f.trail.side side f.trail.node.0 run u (parent_snap s u e)
 
   same_no : (a b : NodeNo) → a ≡ b → b.0 ≡ a.0
@@ -336,7 +335,7 @@ pub looked_join : (ed : TakePair) (c : Call) (h : History) (f : Found) (snaps : 
 looked_join ed c h f snaps t x = record { small = x.small; found = take_found ed.trie ed.key c h f x.found; usable = take_usable ed.trie ed.key c h f snaps x.usable; seen = λ i p. rw t at (x.seen i p) }
 
 -- the leaf of a key that is there is of class 0
-low_there : (k : ℕ) (c : Call) (h : History) (f : Found) → 0 < (take_work f).need → HasFoundLeaf c h k f → f.head.class ≡ 0
+pub low_there : (k : ℕ) (c : Call) (h : History) (f : Found) → 0 < (take_work f).need → HasFoundLeaf c h k f → f.head.class ≡ 0
 low_there k c h f d a =
     let there : (old : ℕ) × (f.value ≡ Some old) = key_there f.value (take_plan f) d in
     sym (ap (λ w. w.class) a.head) ∙ said_low (value h) k f.trail.node.0 there.0 (sym there.1 ∙ a.says)

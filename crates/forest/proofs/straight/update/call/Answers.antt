@@ -14,15 +14,15 @@ use Rattle.forest.proofs.straight.update.call.Goals as goal
 
 -- whichever call began, after its walk it continues as its try does
 goes_on : (g : Over) (c : After-test_share-next g) (u : Updater (calls g.S.Shape g.M.Machine c.args.hand.layout.now c.args.hand.number) g.E.Edit.means) → UpdaterBegins u c.args.seat.now.me.0.passes c.args.run.now → UpdaterGoesOn u c.call.new.seat.me.0.passes c.test_share-next.new.self c.copied-found.result c.test_share-next.result
-goes_on g c u x = finds u _ c.args.run.now c.test_share-next.new.self c.goal-goal.result c.call.result.1 c.copied-found.result c.test_share-next.result c.goal-goal.ensures (sym c.requires.way) c.test_share-next.ensures.same c.test_share-next.ensures.tries c.test_share-next.ensures.spends
+goes_on g c u x = finds u _ c.args.run.now c.test_share-next.new.self c.way-way.result c.goal-goal.result c.call.result.1 c.copied-found.result c.test_share-next.result c.way-way.ensures c.goal-goal.ensures c.test_share-next.ensures.same c.test_share-next.ensures.tries c.test_share-next.ensures.spends
     (λ b h. c.test_share-next.ensures.turn u.call b h)
-    (subst (λ (f : Found). WalkerFinds (walker u c.args.run.now) c.call.new.seat.me.0.passes c.goal-goal.result c.call.result.1 f) (sym c.copied-found.ensures)
-    (c.call.ensures.finds (walker u c.args.run.now) (walks u _ c.args.run.now c.goal-goal.result c.goal-goal.ensures (sym c.requires.way) x)))
+    (subst (λ (f : Found). WalkerFinds (walker u c.args.run.now) c.call.new.seat.me.0.passes c.way-way.result c.goal-goal.result c.call.result.1 f) (sym c.copied-found.ensures)
+    (c.call.ensures.finds (walker u c.args.run.now) (walks u _ c.args.run.now c.way-way.result c.goal-goal.result c.way-way.ensures c.goal-goal.ensures x)))
 
 pub call-requires-clause-waits : goal.call-requires-clause-waits
 call-requires-clause-waits g c = let r = c.requires.begins in (
   walker r.0 c.args.run.now,
-  walks r.0 _ c.args.run.now c.goal-goal.result c.goal-goal.ensures (sym c.requires.way) r.1,
+  walks r.0 _ c.args.run.now c.way-way.result c.goal-goal.result c.way-way.ensures c.goal-goal.ensures r.1,
 )
 
 pub try_on-requires-clause-goes_on : goal.try_on-requires-clause-goes_on
@@ -32,5 +32,5 @@ pub returns : goal.returns
 returns g c = record {
   table = search rules;
   to = λ u x. c.try_on.ensures.to u (goes_on g (goal.at.returns g c).After-test_share-next u x);
-  steps = both_steps _ _ _ c.try_on.ensures.steps (walk_steps _ _ _ _ _ _ (subst (λ way. steps_made c.call.new.seat ≤ steps_made c.args.seat.now + (3 * (2 + room way (shared_nodes c.args.hand.layout.now)) + 5)) (sym c.requires.way) c.call.ensures.steps) (weighs_next g.E.Edit.means c.test_share-next.new.self c.copied-found.result c.test_share-next.result _ _ (c.test_share-next.ensures.nearer (shared_nodes c.args.hand.layout.now))));
+  steps = both_steps _ _ _ c.try_on.ensures.steps (walk_steps _ _ _ _ _ _ (subst (λ way. steps_made c.call.new.seat ≤ steps_made c.args.seat.now + (3 * (2 + room way (shared_nodes c.args.hand.layout.now)) + 5)) c.way-way.ensures c.call.ensures.steps) (weighs_next g.E.Edit.means c.test_share-next.new.self c.copied-found.result c.test_share-next.result _ _ (c.test_share-next.ensures.nearer (shared_nodes c.args.hand.layout.now))));
 }

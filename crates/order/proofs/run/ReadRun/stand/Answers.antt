@@ -6,7 +6,7 @@ use Rattle.order.specs.declared.read.ReadNext.TheVariants.{Load, Look}
 use Rattle.order.proofs.Blaming.{first_look}
 use Rattle.order.proofs.Looking.{validates}
 use Rattle.order.proofs.Nearer.{below, from_validate}
-use Rattle.order.proofs.Turns.{some_left, stands_there, stands_nearer}
+use Rattle.order.proofs.Turns.{reading, some_left, stands_there, stands_nearer}
 use Rattle.order.proofs.run.ReadRun.stand.Goals as goal
 
 pub returns-in-Load-clause-turn : goal.returns-in-Load-clause-turn
@@ -35,7 +35,7 @@ pub returns-in-Validate-clause-turn : goal.returns-in-Validate-clause-turn
 returns-in-Validate-clause-turn g c d h x =
     let y = rw c.in-Validate.is at x in
     let goes = y.2.0 in
-    c.validate_on.ensures.turn d y.0 h h y.1 goes (validates g.R.Read.means c.args.self.now.read c.args.self.now.snaps.items (begun_at d y.0) h goes y.2.1) (first_look (begun_at d y.0) h c.args.self.now.snaps.items goes.reads y.2.1.some)
+    c.validate_on.ensures.turn d y.0 h h y.1 goes (validates g.R.Read.means c.args.self.now.read c.args.self.now.snaps.items (begun_at d y.0) h (reading g.R.Read.means c.args.self.now (begun_at d y.0) h goes) y.2.1) (first_look (begun_at d y.0) h c.args.self.now.snaps.items goes.reads y.2.1.some)
 
 pub returns-in-Validate-clause-nearer : goal.returns-in-Validate-clause-nearer
 returns-in-Validate-clause-nearer g c nodes n near = let i = (rw c.in-Validate.is at near).1 in below c.validate_on.result _ _ _ (c.validate_on.ensures.nearer nodes) (from_validate _ _ _ i)
@@ -43,4 +43,4 @@ returns-in-Validate-clause-nearer g c nodes n near = let i = (rw c.in-Validate.i
 pub returns-in-Validate-clause-tries : goal.returns-in-Validate-clause-tries
 returns-in-Validate-clause-tries g c d h x =
     let y = rw c.in-Validate.is at x in
-    c.validate_on.ensures.tries d h h y.0 (validates g.R.Read.means c.args.self.now.read c.args.self.now.snaps.items d h y.0 y.1) (first_look d h c.args.self.now.snaps.items y.0.reads y.1.some)
+    c.validate_on.ensures.tries d h h y.0 (validates g.R.Read.means c.args.self.now.read c.args.self.now.snaps.items d h (reading g.R.Read.means c.args.self.now d h y.0) y.1) (first_look d h c.args.self.now.snaps.items y.0.reads y.1.some)
