@@ -6,7 +6,7 @@ use Rattle.arena.specs.Opening.{IsMap, is_map}
 use Rattle.arena.specs.declared.limits.Mode.{Mode}
 use Rattle.arena.specs.declared.limits.Mode.TheVariants.{Tree, Trie, Records}
 use Rattle.histories.specs.Common.{Left, Right, Word, node, first_key}
-use Rattle.ordered_map.specs.Bits.{room, room_at, side_from, side_to}
+use Rattle.ordered_map.specs.Bits.{side_room, room_at, side_from, side_to}
 use Rattle.ordered_map.specs.TreeWords.{class}
 
 -- a map's mode is a tree or a trie
@@ -23,10 +23,10 @@ of_cells Trie e = absurd cc
 
 -- the keys on the sides of a fork n of class 0, in the order of rising keys
 pub record AreLowSides (f : Word → ℕ) (n : ℕ) : Type 0 where
-  pub from : side_from f n Left ≡ f (node n first_key) - room f n
+  pub from : side_from f n Left ≡ f (node n first_key) - side_room f n
   pub to_middle : side_to f n Left ≡ f (node n first_key)
   pub from_middle : side_from f n Right ≡ f (node n first_key)
-  pub to : side_to f n Right ≡ f (node n first_key) + room f n
+  pub to : side_to f n Right ≡ f (node n first_key) + side_room f n
 
 pub low_sides : (f : Word → ℕ) (n : ℕ) → class f n ≡ 0 → AreLowSides f n
 low_sides f n low = let e = ap (λ (c : ℕ). eqb c 0) low in record { from = rw e refl; to_middle = rw e refl; from_middle = rw e refl; to = rw e refl }

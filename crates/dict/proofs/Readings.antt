@@ -16,7 +16,7 @@ use Rattle.edits.specs.Tries.{HasEnteredNone, HasOnlyLooked}
 use Rattle.dict.specs.Calls.{AsksForPairs}
 use Rattle.dict.specs.Goals.{leaf_told}
 use Rattle.dict.specs.Known.{HasRested}
-use Rattle.dict.specs.Laws.Found.{IsSure, HasGiven, found_tells}
+use Rattle.dict.specs.Laws.Found.{IsToldSurely, HasGiven, found_tells}
 use Rattle.dict.specs.Says.{HasMadeRow, HasNeeded, HasReadMap, HasTooLittle, HasRunOut}
 
 -- since the moment `begin` the call has needed something, and as many nodes as this or more
@@ -57,7 +57,7 @@ module _ (c : Call) (h : History) where
       record { read = record { moment = h; within = ends_self h; since = since; own = λ asks. absurd (asks_not asks); map = map.0; spelled = map.1; gives = gives map.0; only_looked = λ some. absurd (omega (arith, some, reads)) }; none = none }
 
   -- what was found says what the map replied at a moment of the call
-  pub leaf_read : (call : MapCall) (way : Way) (goal : Goal) (f : Found) → ((map : List Pair) → reply call map ≡ goal_told goal map) → path_key goal < 2 ^ 64 → IsMapRun c.layout h → IsSure c goal f → FoundBy way goal c h f → HasEnteredNone c.layout c.pass h c.start → (0 < most_nodes call → HasOnlyLooked c.pass h c.start) → HasReadMap c h call (leaf_told goal f)
+  pub leaf_read : (call : MapCall) (way : Way) (goal : Goal) (f : Found) → ((map : List Pair) → reply call map ≡ goal_told goal map) → path_key goal < 2 ^ 64 → IsMapRun c.layout h → IsToldSurely c goal f → FoundBy way goal c h f → HasEnteredNone c.layout c.pass h c.start → (0 < most_nodes call → HasOnlyLooked c.pass h c.start) → HasReadMap c h call (leaf_told goal f)
   leaf_read call way goal f walks small run sure found none only_looked =
       let y = found_tells way goal c h f small run sure found in
       let first = y.first in

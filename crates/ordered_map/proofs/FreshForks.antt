@@ -9,7 +9,7 @@ use Rattle.ordered_map.specs.Holding.{held_pairs}
 use Rattle.ordered_map.specs.TreeWords.{class, is_leaf, level, rank, opposite, leaf_items}
 use Rattle.ordered_map.specs.Edits.{IsSwapBy, IsSplitBy, IsCopyOf}
 use Rattle.ordered_map.specs.TrieShape.{FitsTrie, IsAboveBy}
-use Rattle.ordered_map.specs.Bits.{room, side_from, side_to, Shares, IsParted, Keeps, IsTrieFork, IsForkKey, PartsKeys}
+use Rattle.ordered_map.specs.Bits.{side_room, side_from, side_to, Shares, IsParted, Keeps, IsTrieFork, IsForkKey, PartsKeys}
 use Rattle.ordered_map.proofs.Holding.{low_items}
 use Rattle.ordered_map.proofs.Lists.{from_left, from_less, below_right, below_more, edited_from, edited_below}
 use Rattle.ordered_map.proofs.Maps.{below_end, edited_rises}
@@ -104,10 +104,10 @@ module _ (f : Word → ℕ) where
       behind : AllFrom (key_of f c) (held_pairs f y)
       behind = from_less (key_of f c) (rank f c) (held_pairs f y) (omega (arith, is_rank)) (subst (AllFrom (rank f c)) (low_items f y last_low) s.behind)
 
-      from : (side_from f c Left ≡ key_of f c - room f c) × (side_from f c Right ≡ key_of f c)
+      from : (side_from f c Left ≡ key_of f c - side_room f c) × (side_from f c Right ≡ key_of f c)
       from = low_from f c low
 
-      to : (side_to f c Left ≡ key_of f c) × (side_to f c Right ≡ key_of f c + room f c)
+      to : (side_to f c Left ≡ key_of f c) × (side_to f c Right ≡ key_of f c + side_room f c)
       to = low_to f c low
 
       left : Keeps f c Left x

@@ -6,7 +6,7 @@ use Rattle.std.proofs.Math.Pow.{pow_mono}
 use native.Mathlib.Decide.{ℕ_discrete}
 use Rattle.histories.specs.Common.{Side, Left, Right, Word, node, first_key}
 use Rattle.ordered_map.specs.TreeWords.{class, is_leaf, level, rank, toward, opposite}
-use Rattle.ordered_map.specs.Bits.{room, side_from, side_to, Shares, IsParted, Keeps, IsForkKey, IsInSpan, PartsKeys}
+use Rattle.ordered_map.specs.Bits.{side_room, side_from, side_to, Shares, IsParted, Keeps, IsForkKey, IsInSpan, PartsKeys}
 use Rattle.ordered_map.proofs.Bits.{key_is}
 use Rattle.ordered_map.proofs.Spanned.{low_from, low_to}
 use Rattle.ordered_map.proofs.Spans.{IsSpanIn, span_small, parts_left, parts_right, above_left, above_right}
@@ -76,7 +76,7 @@ module _ (f : Word → ℕ) where
       span : IsSpanIn (side_from f n side) (side_to f n side) (key_of f c) (level f c)
       span = keeps_span n side c fork low keeps
 
-      wide : class f n ≡ 0 → (side : Side) → side_to f n side ≤ side_from f n side + room f n
+      wide : class f n ≡ 0 → (side : Side) → side_to f n side ≤ side_from f n side + side_room f n
       wide z Left = let from = low_from f n z in let to = low_to f n z in omega (arith, from, to)
       wide z Right = let from = low_from f n z in let to = low_to f n z in omega (arith, from, to)
 

@@ -5,7 +5,7 @@ use Rattle.histories.specs.Common.{Layout, Side, Left, Right, Settled, Head, Wor
 use Rattle.ordered_map.specs.declared.pair.Pair.{Pair}
 use Rattle.ordered_map.specs.OrderedMap.{AllBelow, AllFrom, get}
 use Rattle.ordered_map.specs.Holding.{held_pairs}
-use Rattle.ordered_map.specs.Bits.{room, side_from, side_to, Shares, IsParted, Keeps, IsTrieFork}
+use Rattle.ordered_map.specs.Bits.{side_room, side_from, side_to, Shares, IsParted, Keeps, IsTrieFork}
 use Rattle.ordered_map.specs.TrieShape.{Stays}
 use Rattle.ordered_map.specs.TreeWords.{class, is_leaf, level, rank, toward, Tree, Leaf, Fork, root, Shows, Has, Passes}
 use Rattle.ordered_map.proofs.Lists.{below_join, from_left, below_right, from_less, below_more}
@@ -73,10 +73,10 @@ narrow_to f (Fork n a b) lo hi high s x = (s.0, s.1, narrow_to f b (rank f n) hi
 -- Spans
 
 -- the bounds of the sides of a fork of class 0
-pub low_from : (f : Word → ℕ) (n : ℕ) → class f n ≡ 0 → (side_from f n Left ≡ f (node n first_key) - room f n) × (side_from f n Right ≡ f (node n first_key))
+pub low_from : (f : Word → ℕ) (n : ℕ) → class f n ≡ 0 → (side_from f n Left ≡ f (node n first_key) - side_room f n) × (side_from f n Right ≡ f (node n first_key))
 low_from f n low = (rw (eq-eqb (class f n) 0 low) refl, rw (eq-eqb (class f n) 0 low) refl)
 
-pub low_to : (f : Word → ℕ) (n : ℕ) → class f n ≡ 0 → (side_to f n Left ≡ f (node n first_key)) × (side_to f n Right ≡ f (node n first_key) + room f n)
+pub low_to : (f : Word → ℕ) (n : ℕ) → class f n ≡ 0 → (side_to f n Left ≡ f (node n first_key)) × (side_to f n Right ≡ f (node n first_key) + side_room f n)
 low_to f n low = (rw (eq-eqb (class f n) 0 low) refl, rw (eq-eqb (class f n) 0 low) refl)
 
 -- a side is in the span
@@ -89,7 +89,7 @@ pub own_share : (f : Word → ℕ) (n : ℕ) → class f n ≡ 0 → Shares f n 
 own_share f n low =
     let a = low_from f n low in
     let b = low_to f n low in
-    let room_is : 0 < room f n = pow_pos (65 - level f n) in
+    let room_is : 0 < side_room f n = pow_pos (65 - level f n) in
     (omega (arith, a, low), omega (arith, b, low, room_is))
 
 -- on which side of a fork of class 0 a key of a side is

@@ -46,18 +46,18 @@ place_between j k = record { key = max j k / 2 ^ bit_between j k * 2 ^ bit_betwe
 -- The forks that words show; `f` says what each word holds
 
 -- how many keys each side of the fork n of class 0 has room for
-abbrev pub room : (Word → ℕ) → ℕ → ℕ
-room f n = room_at (level f n)
+abbrev pub side_room : (Word → ℕ) → ℕ → ℕ
+side_room f n = room_at (level f n)
 
 -- The keys that may stand on a side of the fork n: from here to below there. Above all keys they are
 -- all on the left.
 abbrev pub side_from : (Word → ℕ) → ℕ → Side → ℕ
-side_from f n Left = if class f n == 0 then f (node n first_key) - room f n else 0
+side_from f n Left = if class f n == 0 then f (node n first_key) - side_room f n else 0
 side_from f n Right = if class f n == 0 then f (node n first_key) else 2 ^ 64
 
 abbrev pub side_to : (Word → ℕ) → ℕ → Side → ℕ
 side_to f n Left = if class f n == 0 then f (node n first_key) else 2 ^ 64
-side_to f n Right = if class f n == 0 then f (node n first_key) + room f n else 2 ^ 64
+side_to f n Right = if class f n == 0 then f (node n first_key) + side_room f n else 2 ^ 64
 
 -- k shares the fork n: it may stand below it
 abbrev pub Shares : (Word → ℕ) → ℕ → ℕ → Type 0

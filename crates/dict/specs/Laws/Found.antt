@@ -65,20 +65,20 @@ pub record HasToldGoal (c : Call) (h : History) (goal : Goal) (f : Found) : Type
   pub told : IsGoalToldAt c.layout h first goal (leaf_told goal f)
 
 -- that is sure of a key, and of an end in a tree, or where there is nothing
-abbrev pub IsSure : Call → Goal → Found → Type 0
-IsSure c (ToKey k) f = Unit {0}
-IsSure c (End side) f = (c.layout.mode ≡ TreeMode) ⊎ (f.value ≡ None)
+abbrev pub IsToldSurely : Call → Goal → Found → Type 0
+IsToldSurely c (ToKey k) f = Unit {0}
+IsToldSurely c (End side) f = (c.layout.mode ≡ TreeMode) ⊎ (f.value ≡ None)
 
 -- so it is where nothing was changed: what goes to an end takes what is there
-pub reading_sure : (c : Call) (goal : Goal) (rule : Rule) (f : Found) → IsSmallCall (Edit goal rule) → edit_of (Edit goal rule) (leaf_told goal f) ≡ None → IsSure c goal f
+pub reading_sure : (c : Call) (goal : Goal) (rule : Rule) (f : Found) → IsSmallCall (Edit goal rule) → edit_of (Edit goal rule) (leaf_told goal f) ≡ None → IsToldSurely c goal f
 reading_sure c (ToKey k) rule f small none = tt
 reading_sure c (End side) rule f small none = go f.value refl
   where
-    go : (value : Option ℕ) → f.value ≡ value → IsSure c (End side) f
+    go : (value : Option ℕ) → f.value ≡ value → IsToldSurely c (End side) f
     go None is = inr is
     go (Some v) is = absurd (let x : Some (edit_to f.key None) ≡ None = rw (small, is) at none in cc)
 
-end_tells : (side : Side) (c : Call) (h : History) (f : Found) → IsMapRun c.layout h → IsSure c (End side) f → HasFoundGoal (End side) c h f ⊎ HasFoundFork (End side) c h f → HasToldGoal c h (End side) f
+end_tells : (side : Side) (c : Call) (h : History) (f : Found) → IsMapRun c.layout h → IsToldSurely c (End side) f → HasFoundGoal (End side) c h f ⊎ HasFoundFork (End side) c h f → HasToldGoal c h (End side) f
 end_tells side c h f run sure (inr x) = absurd x.to_key
 end_tells side c h f run sure (inl x) =
     let z = found_end side c h f run x sure in
@@ -86,7 +86,7 @@ end_tells side c h f run sure (inl x) =
     record { first = z.0; own = z.1; told = record { moment = y.moment; within = y.within; since = y.since; map = y.map; spelled = y.spelled; gives = ap pair_or_none y.is } }
 
 -- whichever it has found
-pub found_tells : (way : Way) (goal : Goal) (c : Call) (h : History) (f : Found) → path_key goal < 2 ^ 64 → IsMapRun c.layout h → IsSure c goal f → FoundBy way goal c h f → HasToldGoal c h goal f
+pub found_tells : (way : Way) (goal : Goal) (c : Call) (h : History) (f : Found) → path_key goal < 2 ^ 64 → IsMapRun c.layout h → IsToldSurely c goal f → FoundBy way goal c h f → HasToldGoal c h goal f
 found_tells way (End side) c h f small run sure x = end_tells side c h f run sure (found_either way (End side) c h f x)
 found_tells way (ToKey k) c h f small run sure x =
     let z = found_held way (ToKey k) c h f small run (λ side e. absurd (let y : ToKey k ≡ End side = e in cc)) x in
