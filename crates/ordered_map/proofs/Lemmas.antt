@@ -1,10 +1,9 @@
--- What the layers above know of maps, and of histories of the tree, exported from one place: outside
+-- What the layers above know of maps, and of the words that hold them, exported from one place: outside
 -- this module and `MapLemmas` alone can be named. Declares nothing.
 pub use Rattle.ordered_map.proofs.Meanings.{one_spelling, entered_begun, wins_of, makes_since, leaf_covered, leaf_taken_out, leaf_taken_at_end}
 pub use Rattle.ordered_map.proofs.Stood.{was_now, was_passed}
 pub use Rattle.ordered_map.proofs.Past.{walk_stays, path_next}
 pub use Rattle.ordered_map.proofs.Inside.{tree_inside, walk_inside}
-pub use Rattle.ordered_map.proofs.TreeRuns.{opening_run, opening_spells, start_spells, run_since, log_edits, spells_log, run_spells, update_makes, win_makes, quiet_spells, below_root, walk_first, walk_next, walk_rises, walk_named, walk_answers, rising_levels, held_stood, stood_counted, walk_holds, walk_turns, walk_beside, walk_own, walk_end, win_end, tree_not_final, path_not_final, path_remains, tree_remains, new_stood, levels_rise, stood_blank, passed_blank, root_head, passed_unmarked, log_short, passed_depth, child_stood, child_not_final, stood_depth, stood_settled, stood_in_field, children_apart}
 pub use Rattle.ordered_map.proofs.Pending.{begun_edit}
 pub use Rattle.ordered_map.proofs.Grown.{none_edited}
 pub use Rattle.ordered_map.proofs.Blamed.{blame_finalizer}
