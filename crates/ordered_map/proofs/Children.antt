@@ -78,10 +78,6 @@ run_low lay h t g is =
 pub parent_stood : (h : History) (n : ℕ) (side : Side) (m : ℕ) → HasHadChild h n side m → WasInTree h n
 parent_stood h n side m x = let s = x.stood in record { moment = s.moment; within = ends_trans h x.moment s.moment x.within s.within; tree = s.tree; is_tree = s.is_tree; has = s.has }
 
--- what it has had it has had
-pub had_child_since : (h m : History) (n : ℕ) (side : Side) (c : ℕ) → Extends h m → HasHadChild m n side c → HasHadChild h n side c
-had_child_since h m n side c e x = record { moment = x.moment; within = ends_trans h m x.moment e x.within; stood = x.stood; held = x.held }
-
 -- what a fork has now that was ever in the tree
 pub has_child : (h : History) (n : ℕ) (side : Side) → WasInTree h n → HasHadChild h n side (value h (child n side))
 has_child h n side x = record { moment = h; within = ends_self h; stood = x; held = refl }

@@ -223,10 +223,6 @@ stood_holds lay h n g x leaf low = ((y.keys low).0, (y.keys low).1, subst IsRisi
     y : HasItems (value h) n shown.0 shown.1
     y = (same_leaf (value x.moment) (value h) n shown.0 shown.1 same shown.2).items
 
--- so it is with one that was passed
-pub walk_holds : (lay : Layout) (h start : History) (k n : ℕ) → IsMapRun lay h → Passed h start k n → is_leaf (value h) n ≡ true → class (value h) n ≡ 0 → IsWellCounted (value h) n × AllBelow (2 ^ 64) (held_pairs (value h) n) × IsRising (held_pairs (value h) n)
-walk_holds lay h start k n g p = stood_holds lay h n g (was_passed h start k n p)
-
 pub stood_counted : (lay : Layout) (h : History) (n : ℕ) → IsMapRun lay h → WasInTree h n → is_leaf (value h) n ≡ true → class (value h) n ≡ 0 → IsWellCounted (value h) n
 stood_counted lay h n g x leaf low = (stood_holds lay h n g x leaf low).0
 

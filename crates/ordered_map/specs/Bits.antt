@@ -3,11 +3,10 @@
 use Rattle.std.specs.Prelude.{min, max, bit_xor, ◌≡◌, ◌≢◌, ℕ, ◌+◌, ◌-◌, ◌*◌, ◌/◌, ◌%◌, ◌^◌, ◌<◌, ◌≤◌, true, false, if◌then◌else◌, ◌==◌}
 use Rattle.std.specs.Int.Count.{count_leading_zeros}
 use Rattle.ordered_map.specs.declared.fork_place.ForkPlace.{ForkPlace}
-use Rattle.histories.specs.Common.{Side, Left, Right, Word, node, child, first_key, History, value}
+use Rattle.histories.specs.Common.{Side, Left, Right, Word, node, child, first_key}
 use Rattle.ordered_map.specs.OrderedMap.{AllBelow, AllFrom}
 use Rattle.ordered_map.specs.Holding.{held_pairs}
 use Rattle.ordered_map.specs.TreeWords.{class, is_leaf, level}
-use Rattle.ordered_map.specs.FillOrder.{HasStoodInField}
 
 -- Keys and levels, as numbers
 
@@ -80,7 +79,3 @@ pub record Keeps (f : Word → ℕ) (n : ℕ) (side : Side) (m : ℕ) : Type 0 w
 -- the fork n parts keys at a bit, and its children keep to its sides
 abbrev pub IsTrieFork : (Word → ℕ) → ℕ → Type 0
 IsTrieFork f n = is_leaf f n ≡ false → IsParted f n × ((side : Side) → Keeps f n side (f (child n side)))
-
--- so does each that a field has ever named, in the tree or removed
-abbrev pub AreTrieForks : History → Type 0
-AreTrieForks h = (n : ℕ) → HasStoodInField h n → IsTrieFork (value h) n
