@@ -63,9 +63,6 @@ module _ (lay : Layout) (calls : List Call) (lines : List Line) (all : Steps) wh
     memories = λ c m get. go c m get (ℕ_discrete pass.0 c);
   }
     where
-      began_at : ℕ → History → Memory → Type 0
-      began_at c at m = IsBegunWith lay (history lay.mode lines) at (linked calls lay.mode lines c) (next_command calls lines c) c m
-
       go : (c : ℕ) (m : Memory) → slice_get all.memories.items c ≡ Some m → Dec (pass.0 ≡ c) → IsMemoryOf lay calls (Step (Idle number pass) ∷ lines) c m
       go c m get (yes e) =
           let y = x.remembered.memories c m get in
