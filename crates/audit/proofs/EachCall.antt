@@ -160,8 +160,8 @@ module _ (lay : Layout) (tries : ℕ) (calls : List Call) (lines : List Line) (c
   contended_by (Neighbour side key) node scx is fits lost needed = lost
   contended_by (Range low high most) node scx is fits lost needed = lost
 
-  -- one that fits is right where all tries were lost, and the call needed something, if that is found
-  -- first
+  -- one that fits is right where all tries were lost, and the call needed something, if that is
+  -- found first
   pub contended_right : (node : NodeNo) (scx : ScxNo) → r.answer ≡ MapAnswer (Contended node scx) → HasLostAllTries lay tries r.client.0 now begun node.0 scx.0 → (FindsFirst lay (map_request request) → NeededSomething calls lines (map_request request) r) → RightBy (map_request request) (MapAnswer (Contended node scx))
   contended_right node scx answers lost needed = contended_by (map_request request) node scx refl (either_fits lines (Map request) (MapAnswer (Contended node scx)) (subst (IsFitting lines (Map request)) answers x.fits)) lost needed
 

@@ -1,5 +1,5 @@
--- What the forks of a tree have for children, now or when they were there: where each is, seen from its
--- fork, and that in a trie it keeps to its side.
+-- What the forks of a tree have for children, now or when they were there: where each is, seen from
+-- its fork, and that in a trie it keeps to its side.
 use Rattle.std.proofs.Common.{◌≡◌, ◌≢◌, ℕ, ◌/◌, ◌%◌, ◌^◌, ◌<◌, ◌≤◌, Bool, true, false, eqb, inl, inr, refl, sym, ◌∙◌, ap, arith, subst}
 use Rattle.histories.specs.Common.{Layout, Side, Left, Right, Child, Settled, Head, Word, child, History, value, Extends}
 use Rattle.arena.specs.declared.limits.Mode.TheVariants.{Trie as TrieMode}
@@ -104,7 +104,8 @@ stood_next lay h start n side g (x, since) fork = (
     below : Has l.on_path.tree (value l.moment (child n side))
     below = (path_level (value l.moment) l.on_path.tree _ _ n side l.on_path.is_tree.shows has fork_then).1
 
--- a moment at which the fork n was in the tree, with the child m on this side; both are as they were
+-- a moment at which the fork n was in the tree, with the child m on this side; both are as they
+-- were
 record IsShownBelow (h : History) (n : ℕ) (side : Side) (m : ℕ) : Type 0 where
   moment : History
   within : Extends h moment

@@ -1,5 +1,5 @@
--- What the layers above know of maps, and of the words that hold them, exported from one place: outside
--- this module and `MapLemmas` alone can be named. Declares nothing.
+-- What the layers above know of maps, and of the words that hold them, exported from one place:
+-- outside this module and `MapLemmas` alone can be named. Declares nothing.
 pub use Rattle.ordered_map.proofs.Meanings.{one_spelling, entered_begun, wins_of, makes_since, leaf_covered, leaf_taken_out, leaf_taken_at_end}
 pub use Rattle.ordered_map.proofs.Stood.{was_now, was_passed}
 pub use Rattle.ordered_map.proofs.Past.{walk_stays, path_next}

@@ -1,5 +1,6 @@
--- What the layers above know of histories in both modes of a map, a tree and a trie, exported from one
--- place. Where a trie needs it, a node has to be one that stays on the path, or a fork. Declares nothing.
+-- What the layers above know of histories in both modes of a map, a tree and a trie, exported from
+-- one place. Where a trie needs it, a node has to be one that stays on the path, or a fork.
+-- Declares nothing.
 pub use Rattle.ordered_map.proofs.Meanings.{tree_run, trie_run, opening_run, opening_spells, start_spells, run_since, log_edits, spells_log, run_spells, update_makes, win_makes, quiet_spells, below_root, walk_first, walk_next, walk_answers}
 pub use Rattle.ordered_map.proofs.MapRuns.{tree_not_final, path_not_final, path_remains, tree_remains, new_stood, levels_rise, stood_blank, root_head, passed_unmarked, passed_depth, child_stood, child_not_final, stood_depth, stood_settled, stood_in_field, children_apart, two_stood, two_level, two_not_final, two_says_none}
 pub use Rattle.ordered_map.proofs.Rising.{rising_levels}

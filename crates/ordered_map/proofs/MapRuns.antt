@@ -1,5 +1,5 @@
--- What a history of a map keeps, in a tree or a trie, whatever edits it makes: levels, how deep it is,
--- what is blank, and which nodes are final.
+-- What a history of a map keeps, in a tree or a trie, whatever edits it makes: levels, how deep it
+-- is, what is blank, and which nodes are final.
 use Rattle.std.proofs.Common.{◌≡◌, ◌≢◌, ◌⊎◌, inl, inr, ◌/◌, ◌%◌, ◌<◌, Bool, true, false, eqb, ℕ, List, [], ◌∷◌, ◌++◌, None, length, refl, ◌∙◌, ap, arith, subst}
 use Rattle.std.specs.Prelude.{All}
 use Rattle.std.proofs.lemmas.List.Elements.{All-head, All-tail}

@@ -1,5 +1,5 @@
--- What a run under the shape of a map says, in a tree or a trie, whatever edits it makes: the map that
--- the words spell, what a winning update makes of it, and what walks find.
+-- What a run under the shape of a map says, in a tree or a trie, whatever edits it makes: the map
+-- that the words spell, what a winning update makes of it, and what walks find.
 use Rattle.std.proofs.Common.{◌≡◌, ◌≢◌, ℕ, ◌^◌, ◌<◌, true, false, cond, eq-eqb, ne_eqb, ◌⊎◌, inl, inr, ⊎_elim, List, [], refl, sym, ◌∙◌, ap, arith, subst}
 use native.Mathlib.Decide.{ℕ_discrete}
 use Rattle.histories.specs.Common.{Side, Left, Right, Plan, Word, Layout, Row, info, scx, child, History, Opening, Start, Opened, ◌⊳◌, value, Extends, IsMember, Tree as TreeMode, count}

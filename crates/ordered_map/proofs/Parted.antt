@@ -1,5 +1,5 @@
--- Forks that part keys at a bit, as words show them: the keys of their sides, and where a fresh fork
--- between two keys stands.
+-- Forks that part keys at a bit, as words show them: the keys of their sides, and where a fresh
+-- fork between two keys stands.
 use Rattle.std.proofs.Common.{◌≡◌, ◌≢◌, ℕ, ◌-◌, ◌^◌, ◌<◌, ◌≤◌, true, false, ◌⊎◌, ◌↔◌, inl, inr, refl, sym, ◌∙◌, arith, ne_eqb, lt-ltb, le-ltb, pow_pos}
 use Rattle.std.proofs.lemmas.Bool.{cases_order}
 use native.Mathlib.Decide.{ℕ_discrete}
@@ -128,7 +128,8 @@ module _ (f : Word → ℕ) where
           let to = low_to f c zero in
           rw (le-ltb k (rank f c) (omega (arith, zero, parts.above))) (span_keeps c Left u fork low (omega (arith, from, x), omega (arith, to, x)), x.0, (omega (arith, from, parts.above), omega (arith, to, parts.last)))
 
-  -- where the fork keeps to a side of another, on which the key may stand, so does that between them
+  -- where the fork keeps to a side of another, on which the key may stand, so does that between
+  -- them
   pub above_in : (n : ℕ) (side : Side) (u c k : ℕ) → IsParted f n → is_leaf f u ≡ false → class f u ≡ 0 → Keeps f n side u → IsOnSide f n side k → is_leaf f c ≡ false → class f c ≡ 0 → PartsFrom u c k → Keeps f n side c × (level f n < level f c)
   above_in n side u c k parted fork low keeps on new zero = go
     where

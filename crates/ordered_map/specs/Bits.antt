@@ -48,8 +48,8 @@ place_between j k = record { key = max j k / 2 ^ bit_between j k * 2 ^ bit_betwe
 abbrev pub side_room : (Word → ℕ) → ℕ → ℕ
 side_room f n = room_at (level f n)
 
--- The keys that may stand on a side of the fork n: from here to below there. Above all keys they are
--- all on the left.
+-- The keys that may stand on a side of the fork n: from here to below there. Above all keys they
+-- are all on the left.
 abbrev pub side_from : (Word → ℕ) → ℕ → Side → ℕ
 side_from f n Left = if class f n == 0 then f (node n first_key) - side_room f n else 0
 side_from f n Right = if class f n == 0 then f (node n first_key) else 2 ^ 64
@@ -69,8 +69,8 @@ pub record IsParted (f : Word → ℕ) (n : ℕ) : Type 0 where
   pub key : class f n ≡ 0 → IsForkKey (f (node n first_key)) (level f n)
 
 -- what stands below the fork n on this side keeps to the keys there: a fork of class 0 by all keys
--- that it shares, a leaf by those of its pairs. All leaves of class 0 are on level 66, the two others
--- on 1 or 2.
+-- that it shares, a leaf by those of its pairs. All leaves of class 0 are on level 66, the two
+-- others on 1 or 2.
 pub record Keeps (f : Word → ℕ) (n : ℕ) (side : Side) (m : ℕ) : Type 0 where
   pub fork : is_leaf f m ≡ false → class f m ≡ 0 → (side_from f n side ≤ side_from f m Left) × (side_to f m Right ≤ side_to f n side)
   pub leaf : is_leaf f m ≡ true → class f m ≡ 0 → (level f m ≡ 66) × AllFrom (side_from f n side) (held_pairs f m) × AllBelow (side_to f n side) (held_pairs f m)
