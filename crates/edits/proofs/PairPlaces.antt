@@ -61,28 +61,28 @@ abbrev PutAt : Pair → List Pair → ℕ → Type 0
 PutAt p ps at = record { first = moved_on at 0 (pair_at ps 0) p (pair 0 0); second = moved_on at 1 (pair_at ps 1) p (pair_at ps 0); third = moved_on at 2 (pair_at ps 2) p (pair_at ps 1); fourth = moved_on at 3 (pair_at ps 3) p (pair_at ps 2); fifth = moved_on at 4 (pair_at ps 4) p (pair_at ps 3); count = min (length ps + 1) 5 } ≡ placed_pairs (take 5 (take at ps ++ p ∷ drop at ps))
 
 pub put_at : (ps : List Pair) → length ps ≤ 5 → (at : ℕ) → at ≤ length ps → (p : Pair) → PutAt p ps at
-put_at ps few at i p = at_any (PutAt p) (refl, λ a. ((refl, refl), λ b. ((refl, refl, refl), λ c. ((refl, refl, refl, refl), λ d. ((refl, refl, refl, refl, refl), λ e. (refl, refl, refl, refl, refl, refl)))))) ps few at i
+put_at ps few at i p = at_any (PutAt p) (refl, λ a. ((refl, refl), λ b. ((refl, (refl, refl)), λ c. ((refl, (refl, (refl, refl))), λ d. ((refl, (refl, (refl, (refl, refl)))), λ e. (refl, (refl, (refl, (refl, (refl, refl)))))))))) ps few at i
 
 -- or taken out
 abbrev OutAt : List Pair → ℕ → Type 0
 OutAt ps at = record { first = moved_back at 0 (pair_at ps 0) (pair_at ps 1); second = moved_back at 1 (pair_at ps 1) (pair_at ps 2); third = moved_back at 2 (pair_at ps 2) (pair_at ps 3); fourth = moved_back at 3 (pair_at ps 3) (pair_at ps 4); fifth = moved_back at 4 (pair_at ps 4) (pair 0 0); count = (if nat_lt at (length ps) then length ps - 1 else length ps) } ≡ placed_pairs (remove ps at)
 
 pub out_at : (ps : List Pair) → length ps ≤ 5 → (at : ℕ) → at ≤ length ps → OutAt ps at
-out_at = at_any OutAt (refl, λ a. ((refl, refl), λ b. ((refl, refl, refl), λ c. ((refl, refl, refl, refl), λ d. ((refl, refl, refl, refl, refl), λ e. (refl, refl, refl, refl, refl, refl))))))
+out_at = at_any OutAt (refl, λ a. ((refl, refl), λ b. ((refl, (refl, refl)), λ c. ((refl, (refl, (refl, refl))), λ d. ((refl, (refl, (refl, (refl, refl)))), λ e. (refl, (refl, (refl, (refl, (refl, refl))))))))))
 
 -- those before a place are kept
 abbrev KeptAt : List Pair → ℕ → Type 0
 KeptAt ps at = record { first = moved_back at 0 (pair_at ps 0) (pair 0 0); second = moved_back at 1 (pair_at ps 1) (pair 0 0); third = moved_back at 2 (pair_at ps 2) (pair 0 0); fourth = moved_back at 3 (pair_at ps 3) (pair 0 0); fifth = moved_back at 4 (pair_at ps 4) (pair 0 0); count = at } ≡ placed_pairs (take at ps)
 
 pub kept_at : (ps : List Pair) → length ps ≤ 5 → (at : ℕ) → at ≤ length ps → KeptAt ps at
-kept_at = at_any KeptAt (refl, λ a. ((refl, refl), λ b. ((refl, refl, refl), λ c. ((refl, refl, refl, refl), λ d. ((refl, refl, refl, refl, refl), λ e. (refl, refl, refl, refl, refl, refl))))))
+kept_at = at_any KeptAt (refl, λ a. ((refl, refl), λ b. ((refl, (refl, refl)), λ c. ((refl, (refl, (refl, refl))), λ d. ((refl, (refl, (refl, (refl, refl)))), λ e. (refl, (refl, (refl, (refl, (refl, refl))))))))))
 
 -- or those from there on
 abbrev LeftAt : List Pair → ℕ → Type 0
 LeftAt ps at = record { first = pair_at ps at; second = pair_at ps (at + 1); third = pair_at ps (at + 2); fourth = pair_at ps (at + 3); fifth = pair_at ps (at + 4); count = length ps - at } ≡ placed_pairs (drop at ps)
 
 pub left_at : (ps : List Pair) → length ps ≤ 5 → (at : ℕ) → at ≤ length ps → LeftAt ps at
-left_at = at_any LeftAt (refl, λ a. ((refl, refl), λ b. ((refl, refl, refl), λ c. ((refl, refl, refl, refl), λ d. ((refl, refl, refl, refl, refl), λ e. (refl, refl, refl, refl, refl, refl))))))
+left_at = at_any LeftAt (refl, λ a. ((refl, refl), λ b. ((refl, (refl, refl)), λ c. ((refl, (refl, (refl, refl))), λ d. ((refl, (refl, (refl, (refl, refl)))), λ e. (refl, (refl, (refl, (refl, (refl, refl))))))))))
 
 -- the last is in the place before their number
 pub last_at : (ps : List Pair) → pair_at ps (length ps - 1) ≡ unwrap_or (last_pair ps) (pair 0 0)
@@ -109,12 +109,12 @@ leads [] = 0
 leads (b ∷ bs) = if b then suc (leads bs) else 0
 
 leads_of : (t0 t1 t2 t3 t4 : Bool) → UpTo 5 (λ n. min (run t0 t1 t2 t3 t4) n ≡ leads (take n (t0 ∷ t1 ∷ t2 ∷ t3 ∷ t4 ∷ [])))
-leads_of false t1 t2 t3 t4 = (refl, refl, refl, refl, refl, refl)
-leads_of true false t2 t3 t4 = (refl, refl, refl, refl, refl, refl)
-leads_of true true false t3 t4 = (refl, refl, refl, refl, refl, refl)
-leads_of true true true false t4 = (refl, refl, refl, refl, refl, refl)
-leads_of true true true true false = (refl, refl, refl, refl, refl, refl)
-leads_of true true true true true = (refl, refl, refl, refl, refl, refl)
+leads_of false t1 t2 t3 t4 = (refl, (refl, (refl, (refl, (refl, refl)))))
+leads_of true false t2 t3 t4 = (refl, (refl, (refl, (refl, (refl, refl)))))
+leads_of true true false t3 t4 = (refl, (refl, (refl, (refl, (refl, refl)))))
+leads_of true true true false t4 = (refl, (refl, (refl, (refl, (refl, refl)))))
+leads_of true true true true false = (refl, (refl, (refl, (refl, (refl, refl)))))
+leads_of true true true true true = (refl, (refl, (refl, (refl, (refl, refl)))))
 
 leading_is : (test : Pair → Bool) (ps : List Pair) → length ps ≤ 5 → min (run (test (pair_at ps 0)) (test (pair_at ps 1)) (test (pair_at ps 2)) (test (pair_at ps 3)) (test (pair_at ps 4))) (length ps) ≡ leading test ps
 leading_is test ps few =
