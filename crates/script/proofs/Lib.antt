@@ -1,5 +1,4 @@
 mod Differ
-mod Few
 mod Parts
 mod Fields
 mod OfMode

@@ -3,7 +3,8 @@ use Rattle.dict.specs.Laws.Begins.{dict_mode}
 use Rattle.std.proofs.Common.{◌≡◌, ℕ, List, Result, Ok, Err, sym, subst, ◌∙◌, IfOk}
 use Rattle.histories.specs.Common.{Layout, Tree, History, value, all_nodes, Contents, word_at, node}
 use Rattle.template.specs.Common.{Pair, Spells}
-use Rattle.ordered_map.proofs.Lemmas.{one_spelling, run_spells}
+use Rattle.ordered_map.proofs.Lemmas.{one_spelling}
+use Rattle.ordered_map.proofs.MapLemmas.{run_spells, tree_run}
 use Rattle.dict.specs.Typed.{AreTyped, TypedAllows}
 use Rattle.dict.specs.Laws.TypedMaps.{typed_map, typed_run}
 use Rattle.dict.specs.Words.{IsWordOf}
@@ -31,7 +32,7 @@ module _ (keys values : ℕ → Type 0) (words copy : Contents) (tree : words.la
 
   -- the map of the run
   map_of : (m : List Pair) × Spells lay (value run) m
-  map_of = run_spells lay run (tree_there, typed_run keys values lay run c.sound)
+  map_of = run_spells lay run (tree_run lay run (tree_there, typed_run keys values lay run c.sound))
 
   typed : AreTyped keys values map_of.0
   typed = typed_map keys values lay run (dict_mode lay.mode false tree_there) c.sound map_of.0 map_of.1
