@@ -3,6 +3,7 @@
 -- of this crate speak of any call.
 use Rattle.std.proofs.Common.{◌≡◌, ℕ, ◌-◌, ◌<◌, ◌≤◌, ◌⊎◌, inr, Bool, true, false, cond, List, Option, Some, None, option_map, refl, sym, ◌∙◌, ap, subst, arith}
 use native.Mathlib.Decide.{ℕ_discrete}
+use Rattle.arena.specs.declared.limits.Mode.TheVariants.{Tree, Trie}
 use Rattle.histories.specs.Common.{Layout, Resource, NodeNo, ScxNo, Row as StepRow, History, ◌⊳◌, value, IsWin, Entry as Entered, Side}
 use Rattle.arena.proofs.Lemmas.{ends_self, same_moment}
 use Rattle.record.specs.Common.{need, MapCall, Edit, MapReply, OneValue, MapEdit, IsRising, changes_map, edit_key, edit_of, edit_to, edited, get, leaves, pair, pair_or_none, reply}
@@ -56,6 +57,13 @@ need_at call goal rule key m found is at had does = ap (λ (k : MapCall). need k
 pub needed_any : (calls : List Call) (lines : List Line) (r : Finished) (call : MapCall) (nodes : ℕ) → 0 < nodes → NeededWithin calls lines call nodes r → NeededSomething calls lines call r
 needed_any calls lines r (Edit goal rule) nodes some x = (nodes, some, x)
 needed_any calls lines r call nodes some x = tt
+
+-- an edit that goes to an end of a trie may lose its tries before it finds something
+pub looks_first : (lay : Layout) (call : MapCall) (side : Side) (rule : Rule) → edit_in call ≡ Some (End side, rule) → lay.mode ≡ Trie → FindsFirst lay call → ⊥
+looks_first lay call side rule is trie finds =
+    let tree : lay.mode ≡ Tree = subst (FindsFirst lay) (edit_is call (End side) rule is) finds in
+    let same : Trie ≡ Tree = sym trie ∙ tree in
+    cc
 
 -- Entries
 
@@ -160,8 +168,8 @@ module _ (lay : Layout) (tries : ℕ) (calls : List Call) (lines : List Line) (c
   contended_by (Neighbour side key) node scx is fits lost needed = lost
   contended_by (Range low high most) node scx is fits lost needed = lost
 
-  -- one that fits is right where all tries were lost, and the call needed something, if that is
-  -- found first
+  -- one that fits is right where all tries were lost, and the call needed something, if that is found
+  -- first
   pub contended_right : (node : NodeNo) (scx : ScxNo) → r.answer ≡ MapAnswer (Contended node scx) → HasLostAllTries lay tries r.client.0 now begun node.0 scx.0 → (FindsFirst lay (map_request request) → NeededSomething calls lines (map_request request) r) → RightBy (map_request request) (MapAnswer (Contended node scx))
   contended_right node scx answers lost needed = contended_by (map_request request) node scx refl (either_fits lines (Map request) (MapAnswer (Contended node scx)) (subst (IsFitting lines (Map request)) answers x.fits)) lost needed
 

@@ -1,4 +1,5 @@
 mod Differ
+mod Few
 mod Parts
 mod Fields
 mod OfMode
