@@ -1,6 +1,7 @@
-use Rattle.std.proofs.Common.{◌∙◌, refl, sym}
+use Rattle.std.proofs.Common.{◌∙◌, refl, sym, subst}
 use Rattle.histories.specs.Common.{head_of}
 use Rattle.template.specs.Common.{End}
+use Rattle.forest.specs.StraightWalk.{WalkerGoesDown}
 use Rattle.forest.proofs.StraightWalk.{to_open}
 use Rattle.forest.proofs.straight.walk.pass_last.Goals as goal
 
@@ -14,4 +15,7 @@ pub returns-then-is_leaf-clause-finds : goal.returns-then-is_leaf-clause-finds
 returns-then-is_leaf-clause-finds g c = λ w turn x. c.end_last.ensures.finds w turn x
 
 pub returns-clause-down : goal.returns-clause-down
-returns-clause-down g c = λ w turn x. rw c.open_side.ensures (to_open w _ c.args.way (End c.args.side) c.args.trail turn c.args.at c.args.word (head_of c.args.word) c.requires.place refl (sym c.is_leaf.ensures ∙ c.if-is_leaf.false) refl x)
+returns-clause-down g c = λ w turn x.
+    let fork = sym c.is_leaf.ensures ∙ c.if-is_leaf.false in
+    subst (λ to. WalkerGoesDown w c.args.seat.now.me.0.passes c.args.way (End c.args.side) c.args.trail (head_of c.args.word).level to turn) (c.requires.left fork)
+    (to_open w _ c.args.way (End c.args.side) c.args.trail turn c.args.at c.args.word (head_of c.args.word) c.requires.place refl fork refl x)
