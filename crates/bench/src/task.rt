@@ -43,7 +43,7 @@ impl Task {
         self.pairs().div_ceil(PAIRS_OF_A_PASS)
     }
 
-    /// How many pairs a pass puts in, where so many are left.
+    /// How many pairs a pass puts in, where that many are left.
     pub fn pairs_of_filler(self, left: u32) -> u32
         ensures { result ≤ left }
     {

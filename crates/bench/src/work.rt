@@ -65,11 +65,11 @@ pub enum MapWork {
     Predecessor,
     /// It looks for the first `most` pairs from the key on.
     Range { most: usize },
-    /// It puts a key in behind all others, in a map whose keys came in order.
+    /// It puts a key in after all others, in a map whose keys came in order.
     RiseInsert,
     /// It looks a key up in such a map.
     RiseGet,
-    /// It takes the first pair of such a map out, and puts one in behind all others.
+    /// It takes the first pair of such a map out, and puts one in after all others.
     Schedule,
 }
 
@@ -162,7 +162,7 @@ impl Work {
         }
     }
 
-    /// What stands before the name of what it does in its own.
+    /// What precedes the name of what it does in its own.
     fn prefix(self) -> &'static str {
         match self {
             Work::Peers(_) => "peer_",
@@ -218,7 +218,7 @@ impl Work {
         self.puts_behind() || matches!(self.on_map(), Some(MapWork::RiseGet))
     }
 
-    /// Whether its rounds put keys in behind all others.
+    /// Whether its rounds put keys in after all others.
     pub fn puts_behind(self) -> bool {
         matches!(self.on_map(), Some(MapWork::RiseInsert | MapWork::Schedule))
     }

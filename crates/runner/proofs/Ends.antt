@@ -5,7 +5,8 @@ use Rattle.arena.specs.Limits.{IsLayoutOf}
 use Rattle.ordered_map.specs.Laws.{AreEdits}
 use Rattle.record.specs.Common.{MapEdit, IsTreeRun, Pair, Spells, word_pair, Reply, Script, commands}
 use Rattle.ordered_map.specs.Runs.{map_of_log, first_pairs}
-use Rattle.ordered_map.proofs.Lemmas.{log_edits, one_spelling, spells_log}
+use Rattle.ordered_map.proofs.Lemmas.{one_spelling}
+use Rattle.ordered_map.proofs.MapLemmas.{log_edits, spells_log, tree_run}
 use Rattle.arena.proofs.Lemmas.{ends_self}
 use Rattle.dict.specs.Laws.TypedMaps.{typed_run}
 use Rattle.forest.specs.TableRule.{history_of}
@@ -39,7 +40,7 @@ module _ (script : Script) (f : Ground) (layout : IsLayoutOf script.limits Tree 
   tree = (layout.mode_is, typed_run IsNumber IsWideNumber f.layout whole closed.sound)
 
   edits : (e : ℕ → MapEdit) × AreEdits e f.layout whole
-  edits = log_edits f.layout whole tree
+  edits = log_edits f.layout whole (tree_run f.layout whole tree)
 
   -- the map at each moment
   abbrev versions : History → List Pair
@@ -48,7 +49,7 @@ module _ (script : Script) (f : Ground) (layout : IsLayoutOf script.limits Tree 
   are : AreVersions f.layout whole versions
   unfolding log
   are = record {
-    spelled = spells_log f.layout whole edits.0 tree edits.1;
+    spelled = spells_log f.layout whole edits.0 (tree_run f.layout whole tree) edits.1;
     opens = refl;
     stays = λ row before within same. ap (map_of_log edits.0 (first_pairs before)) same;
   }
