@@ -1,8 +1,7 @@
-use Rattle.std.proofs.Common.{◌∙◌, refl, sym, subst}
-use Rattle.histories.specs.Common.{head_of}
+use Rattle.std.proofs.Common.{◌∙◌, refl, sym}
+use Rattle.histories.specs.Common.{head_of, Left}
 use Rattle.template.specs.Common.{End}
-use Rattle.forest.specs.StraightWalk.{WalkerGoesDown}
-use Rattle.forest.proofs.StraightWalk.{to_open}
+use Rattle.forest.proofs.StraightWalk.{to_known}
 use Rattle.forest.proofs.straight.walk.pass_last.Goals as goal
 
 pub end_last-requires-clause-leaf : goal.end_last-requires-clause-leaf
@@ -17,5 +16,4 @@ returns-then-is_leaf-clause-finds g c = λ w turn x. c.end_last.ensures.finds w 
 pub returns-clause-down : goal.returns-clause-down
 returns-clause-down g c = λ w turn x.
     let fork = sym c.is_leaf.ensures ∙ c.if-is_leaf.false in
-    subst (λ to. WalkerGoesDown w c.args.seat.now.me.0.passes c.args.way (End c.args.side) c.args.trail (head_of c.args.word).level to turn) (c.requires.left fork)
-    (to_open w _ c.args.way (End c.args.side) c.args.trail turn c.args.at c.args.word (head_of c.args.word) c.requires.place refl fork refl x)
+    to_known w _ c.args.way (End c.args.side) c.args.trail turn c.args.at c.args.word (head_of c.args.word) c.requires.place refl Left fork refl (c.requires.left fork) x
