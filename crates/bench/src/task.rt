@@ -78,7 +78,7 @@ impl fmt::Display for Task {
         let (work, threads, calls, times) = (self.work, self.threads, self.calls, self.times);
         let keys = match self.work {
             Work::Cells(_) => 0,
-            Work::Tree(_) | Work::Peers(_) | Work::Locked(_) => self.keys,
+            Work::Tree(_) | Work::Trie(_) | Work::Peers(_) | Work::Locked(_) => self.keys,
         };
         write!(f, "{work},{keys},{threads},{calls},{times}")
     }
