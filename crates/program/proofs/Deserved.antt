@@ -1,23 +1,31 @@
 -- Faults of the texts are the program's faults.
-use Rattle.std.proofs.Common.{◌≡◌, ◌≢◌, ◌+◌, ◌-◌, ◌^◌, ◌↔◌, ◌⊎◌, ◌∙◌, inr, ⊎_elim, arith, min, refl, List, ℕ, Result, Ok, Err, IfErr, IsErrAnd, OnOk}
+use Rattle.std.proofs.Common.{◌≡◌, ◌≢◌, ◌+◌, ◌-◌, ◌^◌, ◌↔◌, ◌⊎◌, ◌∙◌, inr, ⊎_elim, arith, min, refl, subst, List, ℕ, Result, Ok, Err, IfErr, IsErrAnd, OnOk}
 use Rattle.histories.specs.Common.{Layout, Mode}
 use Rattle.arena.specs.declared.limits.Limits.{Limits}
-use Rattle.script.specs.Grammars.{IsScheduleFault, SayScript}
+use Rattle.script.specs.Grammars.{IsScheduleFault, IsScriptFault, SayScript}
 use Rattle.texts.specs.Texts.{IfBad}
 use Rattle.script.specs.declared.call.Call.{Call}
 use Rattle.script.specs.declared.fault.ScheduleCause.{ScheduleCause}
+use Rattle.script.specs.declared.fault.ScriptCause.{ScriptCause}
 use Rattle.texts.specs.declared.fault.TextFault.{TextFault}
 use Rattle.texts.specs.declared.fault.TextFault.TheVariants.{NoMemory, Read, Bad}
 use Rattle.program.specs.Printed.{IsDeserved}
+use Rattle.program.specs.Threaded.{IsDeservedWithThreads}
 use Rattle.report.specs.declared.stream.StreamFault.{StreamFault}
 use Rattle.report.specs.declared.stream.StreamFault.TheVariants as stream
-use Rattle.program.specs.Status.{CanRise, fault_of_schedule, fault_of_stream, status_of}
+use Rattle.program.specs.Status.{CanRise, fault_of_schedule, fault_of_script, fault_of_stream, status_of}
 use Rattle.program.specs.declared.fault.Fault.{Fault}
 
 pub schedule_deserves : (mode : Mode) (said ordered : List ℕ) (limits : Limits) (layout : Layout) (calls : List Call) (fault : TextFault ScheduleCause) → SayScript mode said limits layout calls → IfBad (IsScheduleFault layout.passes ordered) fault → IsDeserved mode said ordered (fault_of_schedule fault)
 schedule_deserves mode said ordered limits layout calls NoMemory says bad = tt
 schedule_deserves mode said ordered limits layout calls Read says bad = tt
 schedule_deserves mode said ordered limits layout calls (Bad row cause) says bad = (limits, layout, calls, says, bad)
+
+-- so does a fault of the text of a script, which was read as one of this mode
+pub script_deserves : (read mode : Mode) (gate said : List ℕ) (fault : TextFault ScriptCause) → read ≡ mode → IfBad (IsScriptFault read said) fault → IsDeservedWithThreads mode gate said (fault_of_script fault)
+script_deserves read mode gate said NoMemory is bad = tt
+script_deserves read mode gate said Read is bad = tt
+script_deserves read mode gate said (Bad row cause) is bad = subst (λ m. IsScriptFault m said row cause) is bad
 
 -- what is so of a fault is so if that fault is returned
 pub told : {T : Type 0} (r : Result T Fault) (fault : Fault) (P : Fault → Type 0) → IsErrAnd r (λ e. e ≡ fault) → P fault → IfErr r P
