@@ -1,9 +1,9 @@
 -- The modes of maps.
-use Rattle.std.proofs.Common.{Bool, true, false}
+use Rattle.std.proofs.Common.{Bool, true, false, refl}
 use Rattle.arena.specs.Layout.{IsMap}
 use Rattle.template.specs.Balance.{map_mode}
 
 -- a tree and a trie are maps
 pub of_map : (trie : Bool) → IsMap (map_mode trie)
-of_map true = tt
-of_map false = tt
+of_map true = refl
+of_map false = refl
