@@ -114,7 +114,9 @@ fn crowd<R: Threads + Sync, B: FixedBalance + Send>(
     map_vec(
         rt,
         passes,
-        &|(number, pass): (u32, Pass<Numbers<B>>)| {
+        &|(number, pass): (u32, Pass<Numbers<B>>)|
+            requires { IsOf forest.now pass }
+        {
             rounds(alloc, forest, task, work, pass, task.keys_of_thread(number))
         },
     )

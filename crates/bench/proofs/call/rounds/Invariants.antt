@@ -4,4 +4,4 @@ use Rattle.bench.specs.Tally.{total}
 use Rattle.bench.proofs.call.rounds.Given as goal
 
 abbrev pub invariant-loop-call : goal.invariant-loop-call
-invariant-loop-call l = IsOf l.forest l.pass × (total l.tally ≡ l.call)
+invariant-loop-call g l = IsOf l.forest l.pass × (total l.tally ≡ l.call)

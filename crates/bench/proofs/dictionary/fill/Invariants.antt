@@ -2,4 +2,4 @@ use Rattle.forest.specs.Passes.{IsOf}
 use Rattle.bench.proofs.dictionary.fill.Given as goal
 
 abbrev pub invariant-loop-draw : goal.invariant-loop-draw
-invariant-loop-draw l = IsOf l.forest l.pass
+invariant-loop-draw g l = IsOf l.forest l.pass

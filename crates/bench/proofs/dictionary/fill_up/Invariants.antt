@@ -3,4 +3,4 @@ use Rattle.forest.specs.Passes.{IsOf}
 use Rattle.bench.proofs.dictionary.fill_up.Given as goal
 
 abbrev pub invariant-loop-filler : goal.invariant-loop-filler
-invariant-loop-filler l = All (IsOf l.forest) l.passes.items
+invariant-loop-filler g l = All (IsOf l.forest) l.passes.items
