@@ -7,11 +7,13 @@ mod client;
 mod end;
 mod exports;
 mod handle;
+mod held;
 mod loose;
 mod open;
 #[cfg(test)]
 mod tests;
 
 pub use answer::{Count, KeyValue, Left, PassLimits, Value, ValueAnswer};
-pub use client::{Closing, Numbers, OwnedPass};
+pub use client::{Closing, OwnedPass};
 pub use handle::{Handle, HandleSlot};
+pub use held::{Held, Numbers};

@@ -12,7 +12,7 @@ use Rattle.forest.specs.Passes.{Ground, PassView, IsOf, IsClosed, done_of, run_o
 use Rattle.forest.specs.Shares.{entries_of}
 use Rattle.forest.specs.TableRule.{history_of}
 use Rattle.capi.specs.Left.{AreLeft}
-use Rattle.capi.proofs.client.OwnedPass.close.Goals as goal
+use Rattle.capi.proofs.held.Held.close.Goals as goal
 
 module _ (f : Ground) (p : PassView) (of : IsOf f p) (words : Contents) (closed : IsClosed (TypedAllows IsNumber IsWideNumber) f.layout (p ∷ []) words) where
   -- the run at the end
