@@ -14,7 +14,7 @@ use Rattle.forest.specs.declared.fault.OrderFault.{OrderFault}
 use Rattle.forest.specs.declared.fault.OrderFault.TheVariants as reads
 use Rattle.forest.specs.declared.fault.UpdateFault.{UpdateFault}
 use Rattle.forest.specs.declared.fault.UpdateFault.TheVariants as updates
-use Rattle.forest.specs.Dictionary.{HasCalled, order_reply, update_reply}
+use Rattle.forest.specs.Dictionary.{HasCalledIn, order_reply, update_reply}
 use Rattle.capi.specs.Left.{AreLeft}
 use Rattle.capi.specs.Made.{AreMade}
 use Rattle.capi.specs.declared.answer.ValueAnswer.{ValueAnswer}
@@ -23,7 +23,7 @@ use Rattle.capi.specs.declared.answer.Left.{Left}
 use Rattle.capi.specs.declared.answer.KeyValue.{KeyValue}
 use Rattle.capi.specs.declared.answer.PassLimits.{PassLimits}
 use Rattle.capi.specs.declared.answer.Value.{Value}
-use Rattle.capi.specs.Owned.{owner_of, pass_of}
+use Rattle.capi.specs.Owned.{in_trie, owner_of, pass_of}
 use Rattle.capi.specs.declared.client.OwnedPass.{OwnedPass}
 use Rattle.capi.specs.declared.handle.HandleSlot.{HandleSlot}
 
@@ -93,7 +93,7 @@ IsCountOfRange (Err fault) room a = a ≡ no_count (order_status fault)
 
 -- the pass has made this call, of numbers, and has this reply
 abbrev pub HasClientCalled : OwnedPass → OwnedPass → MapCall → Reply ℕ ℕ → Type 0
-HasClientCalled old new = HasCalled (λ k. k < 2 ^ 64) (λ k. k) (λ v. v < 2 ^ 128) (λ v. v) (arc_value (owner_of old)) (pass_of old) (pass_of new)
+HasClientCalled old new = HasCalledIn (in_trie old) (λ k. k < 2 ^ 64) (λ k. k) (λ v. v < 2 ^ 128) (λ v. v) (arc_value (owner_of old)) (pass_of old) (pass_of new)
 
 -- what a handle held before and after a call, and what the call answered: with no pass nothing is
 -- done, and it answers this; else the pass, which stays in its forest, has made this call
