@@ -36,7 +36,7 @@ const WINDOW: u64 = 20;
 const RIVALS: u64 = 8;
 
 /// How many jobs a scheduler's thread puts in in a round.
-const JOBS: u64 = 10;
+const JOBS: u64 = 8;
 
 /// In so many of its first rounds it takes none out.
 const FILLING: u64 = 50;
@@ -45,7 +45,7 @@ const FILLING: u64 = 50;
 const WAITING: usize = 2 * (JOBS * FILLING) as usize;
 
 /// So many races of two schedulers' threads make a million calls.
-const SCHEDULES: usize = 26;
+const SCHEDULES: usize = 33;
 
 /// What a thread does in each of its rounds.
 #[derive(Clone, Copy)]
