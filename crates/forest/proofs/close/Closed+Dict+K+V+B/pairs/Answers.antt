@@ -1,7 +1,7 @@
-use Rattle.std.specs.Prelude.{false}
+use Rattle.arena.specs.Layout.{IsMap}
 use Rattle.dict.specs.Laws.Begins.{dict_mode}
 use Rattle.std.proofs.Common.{◌≡◌, ℕ, List, Result, Ok, Err, sym, subst, ◌∙◌, IfOk}
-use Rattle.histories.specs.Common.{Layout, Tree, History, value, all_nodes, Contents, word_at, node}
+use Rattle.histories.specs.Common.{Layout, History, value, all_nodes, Contents, word_at, node}
 use Rattle.template.specs.Common.{Pair, Spells}
 use Rattle.ordered_map.proofs.Lemmas.{one_spelling, run_spells}
 use Rattle.dict.specs.Typed.{AreTyped, TypedAllows}
@@ -11,7 +11,7 @@ use Rattle.forest.specs.Copies.{AreCopied}
 use Rattle.forest.specs.Passes.{PassView, IsClosed}
 use Rattle.forest.specs.TableRule.{history_of}
 use Rattle.forest.proofs.Copies.{copy_spells}
-use Rattle.forest.proofs.close.Closed+Dict+K+V.pairs.Goals as goal
+use Rattle.forest.proofs.close.Closed+Dict+K+V+B.pairs.Goals as goal
 
 -- the copy spells what the words spell
 copy_too : (from to : Contents) → to.layout ≡ from.layout → AreCopied from to (all_nodes from.layout) → (m : List Pair) → Spells from.layout (word_at from) m → Spells to.layout (word_at to) m
@@ -22,19 +22,19 @@ if_ok : {A B : Type 0} (r : Result A B) (P Q : A → Type 0) → ((a : A) → P 
 if_ok (Ok a) P Q f x = f a x
 if_ok (Err b) P Q f x = x
 
-module _ (keys values : ℕ → Type 0) (words copy : Contents) (tree : words.layout.mode ≡ Tree) (layout : copy.layout ≡ words.layout) (copied : AreCopied words copy (all_nodes words.layout)) (lay : Layout) (passes : List PassView) (c : IsClosed (TypedAllows keys values) lay passes words) where
+module _ (keys values : ℕ → Type 0) (words copy : Contents) (map : IsMap words.layout.mode) (layout : copy.layout ≡ words.layout) (copied : AreCopied words copy (all_nodes words.layout)) (lay : Layout) (passes : List PassView) (c : IsClosed (TypedAllows keys values) lay passes words) where
   abbrev run : History
   run = history_of lay.mode c.rows
 
-  tree_there : lay.mode ≡ Tree
-  tree_there = subst (λ (l : Layout). l.mode ≡ Tree) c.layout tree
+  map_there : IsMap lay.mode
+  map_there = subst (λ (l : Layout). IsMap l.mode) c.layout map
 
   -- the map of the run
   map_of : (m : List Pair) × Spells lay (value run) m
-  map_of = run_spells lay run (tree_there, typed_run keys values lay run c.sound)
+  map_of = run_spells lay run (map_there, typed_run keys values lay run c.sound)
 
   typed : AreTyped keys values map_of.0
-  typed = typed_map keys values lay run (dict_mode lay.mode false tree_there) c.sound map_of.0 map_of.1
+  typed = typed_map keys values lay run map_there c.sound map_of.0 map_of.1
 
   -- which the copy spells too
   copy_is : Spells copy.layout (word_at copy) map_of.0
