@@ -4,7 +4,7 @@ use Rattle.std.proofs.Common.{◌≡◌, ◌≢◌, ℕ, inl, inr, List, [], ◌
 use Rattle.std.specs.List.{All}
 use Rattle.std.proofs.lemmas.List.Elements.{All-nil, All-cons, All-weaker}
 use Rattle.std.proofs.lemmas.List.Kept.{AllPairs-cons}
-use Rattle.histories.specs.Common.{Layout, state, Remaining, HasScx, History, ◌⊳◌, value, Extends, WasInTheWay, HasFailed, Records, Tree, IsNamedScx, IsOthersScx, Lawful}
+use Rattle.histories.specs.Common.{Layout, state, Remaining, HasScx, History, ◌⊳◌, value, Extends, WasInTheWay, HasFailed, Records, IsNamedScx, IsOthersScx, Lawful}
 use Rattle.histories.proofs.Lemmas.{lawful_since, named_scx_more, named_scx_taken, since, state_since}
 use Rattle.prims.specs.Laws.Begun.{taken_since}
 use Rattle.prims.specs.Shares.{IsShare}
@@ -75,7 +75,7 @@ blamed_on_map old new n s map lay number more l e other w y x = record {
 }
   where
     not_both : new.layout.mode ≡ Records → ⊥
-    not_both cells = subst IsMap cells map
+    not_both cells = let both : IsMap Records = subst IsMap cells map in cc
 
 -- one more that `Fail` names
 pub blamed_more : (old new : PassView) (n s : ℕ) → new.layout ≡ old.layout → new.number ≡ old.number → new.blamed ≡ s ∷ old.blamed → Lawful new.layout (run_of new) → Extends (run_of new) (run_of old) → HasFailed new.layout new.number (run_of new) (run_of old) n s → HasBlamed old → HasBlamed new

@@ -1,13 +1,12 @@
 -- What a call of a dictionary leaves of its pass.
 use Rattle.std.specs.Prelude.{Bool}
 use Rattle.dict.specs.Laws.Begins.{dict_mode}
-use Rattle.std.specs.Prelude.{false}
 use Rattle.template.specs.Balance.{map_mode}
 use Rattle.dict.specs.Calls.{trie_in}
 use Rattle.std.proofs.Common.{◌≡◌, ◌∙◌, arith, ℕ, suc, ◌+◌, ◌*◌, ◌<◌, ◌≤◌, ◌∷◌, List, Option, Some, None, refl, ap, sym, subst}
 use Rattle.std.proofs.Math.Nat.{lt_of_not-le}
 use Rattle.atomic_table.specs.declared.shared.Seat.{Seat}
-use Rattle.histories.specs.Common.{Layout, Tree, History, Extends, Remaining}
+use Rattle.histories.specs.Common.{Layout, History, Extends, Remaining}
 use Rattle.template.specs.Common.{MapCall, Edit, Get, Range, Neighbour, MapReply, IsMapRun, IsShare, most_nodes, most_scx, tries_since, told_of, Reply}
 use Rattle.prims.specs.Laws.Begun.{taken_since}
 use Rattle.prims.proofs.Lemmas.{all_over, taken_node_since}

@@ -4,7 +4,7 @@ use Rattle.template.specs.Balance.{map_mode}
 use Rattle.std.proofs.Common.{◌≡◌, ◌∙◌, ℕ, List, refl, sym, ap, subst}
 use Rattle.atomic_table.specs.Seated.{TableId}
 use Rattle.atomic_table.specs.declared.shared.Seat.{Seat}
-use Rattle.histories.specs.Common.{Layout, Tree, Row, Step, History, ◌⊳◌, Extends, Call, Remaining}
+use Rattle.histories.specs.Common.{Layout, Row, Step, History, ◌⊳◌, Extends, Call, Remaining}
 use Rattle.arena.proofs.Lemmas.{ends_trans}
 use Rattle.prims.proofs.Lemmas.{all_over}
 use Rattle.template.specs.Common.{call_rules, MapCall, Reply}

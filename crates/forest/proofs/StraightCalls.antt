@@ -1,5 +1,5 @@
 -- Whole calls of a dictionary whose updates are straight.
-use Rattle.std.specs.Prelude.{Bool, false}
+use Rattle.std.specs.Prelude.{Bool}
 use Rattle.template.specs.Balance.{map_mode}
 use Rattle.dict.specs.Calls.{inner_trie}
 use Rattle.dict.specs.Inner.{GoalBy}

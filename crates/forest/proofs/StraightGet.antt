@@ -8,7 +8,7 @@ use Rattle.dict.specs.Calls.{is_in_trie}
 use Rattle.dict.specs.Laws.Begins.{dict_mode}
 use Rattle.std.proofs.Common.{◌≡◌, ℕ, List, ◌^◌, ◌<◌, Option, None, Some, IfSome, inl, Bool, true, false, ◌+◌, ◌*◌, ◌≤◌, refl, sym, subst, ◌∙◌, ap, arith}
 use Rattle.std.specs.Option.{option_map}
-use Rattle.histories.specs.Common.{Layout, Tree, LoadSettled, Step, Settled, Head, History, Call, IsRun, Remaining, node}
+use Rattle.histories.specs.Common.{Layout, LoadSettled, Step, Settled, Head, History, Call, IsRun, Remaining, node}
 use Rattle.atomic_table.specs.declared.shared.Seat.{Seat}
 use Rattle.template.specs.Common.{load, OneValue, WalkIsTold, Key as ToKey}
 use Rattle.template.specs.Walk.Places.{root_trail}

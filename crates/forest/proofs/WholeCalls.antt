@@ -3,7 +3,7 @@ use Rattle.std.specs.Prelude.{Bool}
 use Rattle.template.specs.Balance.{map_mode, nodes_by}
 use Rattle.std.proofs.Common.{◌≡◌, ◌∙◌, ◌+◌, ◌≤◌, ℕ, List, subst, arith}
 use Rattle.atomic_table.specs.declared.shared.Seat.{Seat}
-use Rattle.histories.specs.Common.{Layout, Tree, History, Call, Remaining}
+use Rattle.histories.specs.Common.{Layout, History, Call, Remaining}
 use Rattle.template.specs.Common.{MayReply, form_of, most_steps, MapCall, told_of, Reply}
 use Rattle.dict.specs.declared.dict.DictRun.{DictRun}
 use Rattle.dict.specs.Calls.{AsksForPairs, call_in, share_of}

@@ -123,8 +123,8 @@ blamed_by_reply _ blamed = blamed
 -- What a whole call says
 
 -- The pass, which knew `old` as the call began and knows `new` at its end, has made this call of a
--- dictionary, a trie or a tree, and has this reply. `valid` says of a key or a value whether it is one of its type,
--- and the other two give their words.
+-- dictionary, a trie or a tree, and has this reply. `valid` says of a key or a value whether it is
+-- one of its type, and the other two give their words.
 pub record HasCalledIn {K V : Type 0} (trie : Bool) (valid_key : K → Type 0) (key : K → ℕ) (valid_value : V → Type 0) (value_word : V → ℕ) (forest : Ground) (old new : PassView) (call : MapCall) (reply : Reply K V) : Type 0 where
   -- it is of this forest still, whose words spell a map
   pub pass : IsOf forest new

@@ -3,7 +3,8 @@ use Rattle.dict.specs.Laws.Begins.{dict_mode}
 use Rattle.std.proofs.Common.{◌≡◌, ℕ, List, Result, Ok, Err, sym, subst, ◌∙◌, IfOk}
 use Rattle.histories.specs.Common.{Layout, History, value, all_nodes, Contents, word_at, node}
 use Rattle.template.specs.Common.{Pair, Spells}
-use Rattle.ordered_map.proofs.Lemmas.{one_spelling, run_spells}
+use Rattle.ordered_map.proofs.Lemmas.{one_spelling}
+use Rattle.ordered_map.proofs.MapLemmas.{run_spells}
 use Rattle.dict.specs.Typed.{AreTyped, TypedAllows}
 use Rattle.dict.specs.Laws.TypedMaps.{typed_map, typed_run}
 use Rattle.dict.specs.Words.{IsWordOf}
@@ -45,15 +46,17 @@ returns-in-Some-clause-pairs g c = λ lay passes x.
     let keys = IsWordOf g.K.WordKey.is_valid g.K.WordKey.word_of in
     let values = IsWordOf g.V.WordValue.is_valid g.V.WordValue.word_of in
     let copy = c.in_ok-plain.field-0 in
-    let m = map_of keys values c.args.self.now copy c.in_ok-plain.ensures.mode c.in_ok-plain.ensures.layout c.in_ok-plain.ensures.copied lay passes x in
-    let spelled = one_spelling copy.layout (word_at copy) c.in-Some.pairs.items m.0 (rw c.in-Some.is at c.in_ok-pairs.ensures.spells) (copy_is keys values c.args.self.now copy c.in_ok-plain.ensures.mode c.in_ok-plain.ensures.layout c.in_ok-plain.ensures.copied lay passes x) in
+    let map = dict_mode c.args.self.now.layout.mode (g.B.Balance.trie g.B.FixedBalance.the) c.in_ok-plain.ensures.mode in
+    let m = map_of keys values c.args.self.now copy map c.in_ok-plain.ensures.layout c.in_ok-plain.ensures.copied lay passes x in
+    let spelled = one_spelling copy.layout (word_at copy) c.in-Some.pairs.items m.0 (rw c.in-Some.is at c.in_ok-pairs.ensures.spells) (copy_is keys values c.args.self.now copy map c.in_ok-plain.ensures.layout c.in_ok-plain.ensures.copied lay passes x) in
     let items : c.deref.result.now ≡ m.0 = let d = c.deref.ensures in cc in
-    if_ok c.pairs_of.result _ _ (λ ps z. subst (Spells lay (value (history_of lay.mode x.rows))) (sym items ∙ sym (z.words_are (subst (AreTyped keys values) (sym items) (typed keys values c.args.self.now copy c.in_ok-plain.ensures.mode c.in_ok-plain.ensures.layout c.in_ok-plain.ensures.copied lay passes x)))) m.1) c.pairs_of.ensures
+    if_ok c.pairs_of.result _ _ (λ ps z. subst (Spells lay (value (history_of lay.mode x.rows))) (sym items ∙ sym (z.words_are (subst (AreTyped keys values) (sym items) (typed keys values c.args.self.now copy map c.in_ok-plain.ensures.layout c.in_ok-plain.ensures.copied lay passes x)))) m.1) c.pairs_of.ensures
 
 pub returns-clause-pairs : goal.returns-clause-pairs
 returns-clause-pairs g c = λ lay passes x.
     let keys = IsWordOf g.K.WordKey.is_valid g.K.WordKey.word_of in
     let values = IsWordOf g.V.WordValue.is_valid g.V.WordValue.word_of in
     let copy = c.in_ok-plain.field-0 in
-    absurd ((rw c.in-None.is at c.in_ok-pairs.ensures.none) (map_of keys values c.args.self.now copy c.in_ok-plain.ensures.mode c.in_ok-plain.ensures.layout c.in_ok-plain.ensures.copied lay passes x).0
-    (copy_is keys values c.args.self.now copy c.in_ok-plain.ensures.mode c.in_ok-plain.ensures.layout c.in_ok-plain.ensures.copied lay passes x))
+    let map = dict_mode c.args.self.now.layout.mode (g.B.Balance.trie g.B.FixedBalance.the) c.in_ok-plain.ensures.mode in
+    absurd ((rw c.in-None.is at c.in_ok-pairs.ensures.none) (map_of keys values c.args.self.now copy map c.in_ok-plain.ensures.layout c.in_ok-plain.ensures.copied lay passes x).0
+    (copy_is keys values c.args.self.now copy map c.in_ok-plain.ensures.layout c.in_ok-plain.ensures.copied lay passes x))

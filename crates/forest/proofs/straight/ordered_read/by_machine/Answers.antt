@@ -6,7 +6,6 @@ use Rattle.forest.specs.Hosts.{HostedStands}
 use Rattle.forest.specs.StraightReads.{Reader, ReaderBegins}
 use Rattle.forest.specs.Traces.{shared_nodes}
 use Rattle.forest.specs.CallKinds.{calls}
-use Rattle.forest.proofs.Advances.{weighs}
 use Rattle.forest.proofs.Hosts.{either_turn, told_on}
 use Rattle.forest.proofs.StraightReads.{begun_fits}
 use Rattle.forest.proofs.straight.ordered_read.by_machine.Given.{Over}
