@@ -13,7 +13,7 @@
 ghost use Rattle.std.specs.Prelude.{◌≡◌, None, length, min};
 ghost use Rattle.ordered_map.specs.OrderedMap.{call_insert, call_insert_new, call_delete, call_delete_if, call_pop_first, call_pop_last, call_replace_if, call_successor, call_predecessor};
 ghost use Rattle.arena.specs.declared.limits.Mode.TheVariants.{Tree, Trie};
-ghost use Rattle.template.specs.Balance.{map_mode};
+ghost use Rattle.regnubas.specs.Balance.{map_mode};
 ghost use Rattle.capi.specs.Ends.{AreOfOne, EndSays, held_in};
 ghost use Rattle.capi.specs.Answers.{number, no_value, no_count, CallSays, GetSays, EditSays, TakenSays, FoundSays, BetweenSays, LeftSays, CloseSays, MakeSays};
 

@@ -7,7 +7,7 @@ ghost use Rattle.arena.specs.Limits.{IsAccepted};
 ghost use Rattle.forest.specs.Passes.{IsOf};
 ghost use Rattle.capi.specs.Made.{IsHeldOf, AreMade, pass_at};
 ghost use Rattle.capi.specs.Owned.{pass_of};
-ghost use Rattle.template.specs.Balance.{map_mode};
+ghost use Rattle.regnubas.specs.Balance.{map_mode};
 
 use crate::handle::{Handle, HandleSlot};
 use crate::held::{Held, Kind, Numbers};
