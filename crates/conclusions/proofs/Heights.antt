@@ -1,6 +1,6 @@
 -- A tree with low nodes is low itself: its levels rise.
-use Rattle.std.proofs.Common.{◌≡◌, ◌≤◌, ◌<◌, ℕ, ◌+◌, max, suc, inl, inr, refl, arith}
-use Rattle.histories.specs.Common.{Word}
+use Rattle.std.proofs.Common.{◌≤◌, ℕ, ◌+◌, inl, inr, refl, arith}
+use Rattle.regnubas.specs.Types.{Word}
 use Rattle.regnubas.specs.TreeWords.{Tree, Leaf, Fork, Has, Shows, level, rank, root}
 use Rattle.conclusions.specs.Tries.{height}
 

@@ -8,11 +8,11 @@ ghost use Rattle.regnubas.specs.Types.{Trie as TrieMode};
 ghost use Rattle.conclusions.specs.Together.{HasReadValue, HasSet};
 ghost use Rattle.conclusions.specs.Tries.{IsLow};
 
-use std::alloc::Global;
 use regnubas::{
     Dict, FixedBalance, Forest, Limits, NewFault, Pass, Trie, UpdateFault, map_laws_hold,
     trie_laws_hold, version_laws_hold,
 };
+use std::alloc::Global;
 
 /// From numbers to numbers, in a tree or a trie.
 pub type Numbers<B> = Dict<u64, u64, B>;
@@ -74,7 +74,7 @@ pub fn new_trie(
     ensures layout { IfOk result (λ made. IsLayoutOf limits TrieMode made.0.layout) }
     ensures passes { IfOk result (λ made. AreNew made.0 made.1.items) }
 {
-    Forest::new(alloc, limits)
+    Forest::<Trie<u64, u64>>::new(alloc, limits)
 }
 
 /// After an edit of a trie no leaf of it is more than 66 fields below the root.

@@ -8,8 +8,8 @@ use Rattle.forest.specs.Traces.{goes_on}
 use Rattle.forest.proofs.Advances.{called_so, word_of}
 
 -- an edge of the inner machine takes the call from place to place
-pub goes_to : {M N : Type 0} {o : Calls M} {i : Inner N} (k : Inside o i) (ps : List SeatedPass) (old now : N) (v : ℕ) (s : Step) → i.goes old now → ((d : i.Context) (h : History) → i.told d old h v → i.waits d now h s) → InnerIsTold k ps old v → InnerWaits k ps now s
-goes_to k ps old now v s goes edge x = record { known = x.known; is = x.is; sound = x.sound; so = (k.turns old now _ v s goes (λ d. edge d _) x.sound x.so.0, goes_on (k.with_run old) (k.stays old now goes) x.so.1) }
+pub goes_to : {M N : Type 0} {o : Calls M} {i : Inner N} (k : Inside o i) (ps : List SeatedPass) (old now : N) (v : ℕ) (s : Step) → i.goes old v now → ((d : i.Context) (h : History) → i.told d old h v → i.waits d now h s) → InnerIsTold k ps old v → InnerWaits k ps now s
+goes_to k ps old now v s goes edge x = record { known = x.known; is = x.is; sound = x.sound; so = (k.turns old now _ v s goes (λ d. edge d _) x.sound x.so.0, goes_on (k.with_run old) (k.stays old now v goes) x.so.1) }
 
 -- the word of the step for which it waits is one of the table
 pub waits_within : {M N : Type 0} {o : Calls M} {i : Inner N} (k : Inside o i) (ps : List SeatedPass) → ((m : M) (c : Call) (h : History) (s : Step) → IsRun o.allows c.layout h → o.waits m c h s → IsRun o.allows c.layout (row_of c s h ⊳ h)) → (m : N) (s : Step) → InnerWaits k ps m s → IsWord o.layout s.word
@@ -20,8 +20,8 @@ module _ {N P : Type 0} (i : Inner N) (j : Inner P) where
   pub record Nested : Type 0 where
     pub with_run : P → N
     pub tells : (m : P) (h : History) (v : ℕ) (d : i.Context) → i.told d (with_run m) h v → (e : j.Context) × j.told e m h v
-    pub turns : (old now : P) (h : History) (v : ℕ) (s : Step) → j.goes old now → ((e : j.Context) → j.told e old h v → j.waits e now h s) → (d : i.Context) → i.told d (with_run old) h v → i.waits d (with_run now) h s
-    pub stays : (old now : P) → j.goes old now → i.goes (with_run old) (with_run now)
+    pub turns : (old now : P) (h : History) (v : ℕ) (s : Step) → j.goes old v now → ((e : j.Context) → j.told e old h v → j.waits e now h s) → (d : i.Context) → i.told d (with_run old) h v → i.waits d (with_run now) h s
+    pub stays : (old now : P) (v : ℕ) → j.goes old v now → i.goes (with_run old) v (with_run now)
 
 -- the innermost machine is inside the call's
 abbrev pub compose : {M N P : Type 0} {o : Calls M} {i : Inner N} {j : Inner P} → Inside o i → Nested i j → Inside o j
@@ -32,6 +32,6 @@ compose k n = record {
   first = k.first;
   with_run = λ m. k.with_run (n.with_run m);
   tells = λ m h v run x. let d = k.tells (n.with_run m) h v run x in n.tells m h v d.0 d.1;
-  turns = λ old now h v s goes turn run x. k.turns (n.with_run old) (n.with_run now) h v s (n.stays old now goes) (n.turns old now h v s goes turn) run x;
-  stays = λ old now goes. k.stays (n.with_run old) (n.with_run now) (n.stays old now goes);
+  turns = λ old now h v s goes turn run x. k.turns (n.with_run old) (n.with_run now) h v s (n.stays old now v goes) (n.turns old now h v s goes turn) run x;
+  stays = λ old now v goes. k.stays (n.with_run old) (n.with_run now) v (n.stays old now v goes);
 }

@@ -1,12 +1,11 @@
 -- A get of a dictionary whose walk is straight.
 use Rattle.arena.specs.Layout.{IsMap}
-use Rattle.template.specs.Balance.{leaf_way, map_mode, nodes_by}
-use Rattle.template.specs.Walk.Steps.{room}
+use Rattle.template.specs.Balance.{leaf_way, map_mode}
 use Rattle.template.specs.Walk.Places.{way_at, way_from}
 use Rattle.template.specs.Common.{FoundBy}
 use Rattle.dict.specs.Calls.{is_in_trie}
 use Rattle.dict.specs.Laws.Begins.{dict_mode}
-use Rattle.std.proofs.Common.{◌≡◌, ℕ, List, ◌^◌, ◌<◌, Option, None, Some, IfSome, inl, Bool, true, false, ◌+◌, ◌*◌, ◌≤◌, refl, sym, subst, ◌∙◌, ap, arith}
+use Rattle.std.proofs.Common.{◌≡◌, ℕ, List, ◌^◌, ◌<◌, Option, None, Some, IfSome, inl, Bool, true, false, refl, sym, subst, ◌∙◌, ap, arith}
 use Rattle.std.specs.Option.{option_map}
 use Rattle.histories.specs.Common.{Layout, LoadSettled, Step, Settled, Head, History, Call, IsRun, Remaining, node}
 use Rattle.atomic_table.specs.declared.shared.Seat.{Seat}
@@ -62,14 +61,6 @@ module _ {K V : Type 0} (valid_key : K → Type 0) (key : K → ℕ) (valid_valu
   leaf_is false = refl
   leaf_is true = refl
 
-  -- and its bounds are those of its map
-  room_is : (trie : Bool) (nodes : ℕ) → room (leaf_way trie) nodes ≡ nodes_by trie nodes
-  room_is false nodes = refl
-  room_is true nodes = refl
-
-  pub get_steps : (trie : Bool) (way : Way) (old now nodes : ℕ) → way ≡ leaf_way trie → now ≤ old + (3 * (2 + room way nodes) + 5) → now ≤ old + (3 * (2 + nodes_by trie nodes) + 5)
-  get_steps trie way old now nodes is few = subst (λ r. now ≤ old + (3 * (2 + r) + 5)) (ap (λ w. room w nodes) is ∙ room_is trie nodes) few
-
   module _ (share : Remaining) (tries wanted : ℕ) (way : Way) where
     abbrev at : WalkRun → DictRun K V
     at = getting share tries wanted
@@ -84,7 +75,7 @@ module _ {K V : Type 0} (valid_key : K → Type 0) (key : K → ℕ) (valid_valu
       with_run = λ w. at w.0;
       tells = λ w h v run x. (c, x.1.1.0.0);
       turns = λ old now h v s goes next run x. (x.0, (record { mode = x.1.0.mode ∙ ap (λ w. map_mode (is_in_trie w)) (sym goes.1.1); small = x.1.0.small; number = x.1.0.number; limit = tt; spent = x.1.0.spent }, ((next c x.1.1.0.0, (goes.1.0 ∙ x.1.1.0.1.0, subst (λ w. w ≡ leaf_way (is_in_trie w)) (sym goes.1.1) x.1.1.0.1.1), once_past now.0.at _ _ goes.0 x.1.1.0.2), x.1.1.1)));
-      stays = λ old now goes. (refl, refl, (omega arith, omega arith), ap is_in_trie goes.1.1);
+      stays = λ old now v goes. (refl, refl, (omega arith, omega arith), ap is_in_trie goes.1.1);
     }
 
   -- its machine waits for the head of the root

@@ -85,7 +85,7 @@ module _ (allows : Layout → History → ℕ → Type 0) (layout : Layout) (num
     with_run = λ m. m;
     tells = λ m h v run x. (c, (run, x));
     turns = λ old now h v s is turn run x. turn c (run, x);
-    stays = λ old now is. is;
+    stays = λ old now v is. is;
   }
 
   module _ (ps : List SeatedPass) where

@@ -56,7 +56,7 @@ module _ (allows : Layout → History → ℕ → Type 0) (layout : Layout) (num
       subst (λ (t : ScxNo). HasValue c h t.0 now.update.fresh.0 first.value) (sym goes.0) (subst (λ (u : Update). HasValue c h old.scx.0 u.fresh.0 first.value) (sym goes.1) x.0),
       turn c (run, x.1),
     );
-    stays = λ old now goes. (goes.0, goes.1, goes.2, refl);
+    stays = λ old now v goes. (goes.0, goes.1, goes.2, refl);
   }
 
   module _ (ps : List SeatedPass) (m : ScxRun) where

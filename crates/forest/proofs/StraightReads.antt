@@ -1,9 +1,15 @@
 -- From place to place of an ordered read, of whatever machine makes one.
-use Rattle.template.specs.Balance.{leaf_way, map_mode, nodes_by}
+use Rattle.histories.specs.Common.{value}
+use Rattle.ordered_map.specs.TrieShape.{Stays}
+use Rattle.template.specs.Common.{FoundBy, Goal, WalkIsTold, WalkKnows}
+use Rattle.template.specs.Walk.Places.{way_from}
+use Rattle.template.specs.declared.walk.Way.{Way}
+use Rattle.forest.specs.StraightWalk.{KeepsTurns}
+use Rattle.template.specs.Balance.{leaf_way, nodes_by}
 use Rattle.order.specs.Known.{AreLastTurns}
 use Rattle.order.proofs.Lemmas.{turned}
 use Rattle.template.specs.Common.{path_key}
-use Rattle.std.proofs.Common.{◌≡◌, ◌∙◌, ℕ, suc, ◌+◌, ◌-◌, ◌*◌, ◌<◌, ◌≤◌, Bool, false, List, None, Some, Result, Ok, length, [], inl, refl, sym, ap, subst, arith, Err}
+use Rattle.std.proofs.Common.{◌≡◌, ◌∙◌, ℕ, suc, ◌+◌, ◌-◌, ◌*◌, ◌<◌, ◌≤◌, Bool, true, false, List, None, Some, Result, Ok, length, [], inl, inr, refl, sym, ap, subst, arith, Err}
 use Rattle.histories.specs.Common.{Turn, Ask, Done, Side, NodeNo, ScxNo, LoadInfo, LoadMarked, LoadSettled, LoadState, Settled}
 use Rattle.histories.specs.Common.{Head as HeadWord, head_of, History, Call, IsRun, MatchTurn, begun_at, info, marked, node, state}
 use Rattle.order.specs.Found.{BeginsAtRoot, BeginsSo, IsReading, Looks, Stands, WalksTo, head_at}
@@ -25,13 +31,12 @@ use Rattle.order.specs.declared.refused.Refused.{Refused}
 use Rattle.order.specs.declared.run.ReadAt.TheVariants.{Start, Look, Walk, Validate}
 use Rattle.order.specs.declared.run.ReadRun.{ReadRun}
 use Rattle.order.proofs.Lemmas.{answers_all, answers_right, begins_root, begins_walk, ends_refused, next_waits, placed_nearer, walk_found, walk_waits}
-use Rattle.template.specs.Common.{load, IsSnapshot, snap_at, VlxAnswers, VlxWaits, LlxRun, Snap, Same, TreeAllows, IsOwnMoment, HasFoundGoal, walk_from, Key as ToKey}
+use Rattle.template.specs.Common.{load, IsSnapshot, snap_at, VlxAnswers, VlxWaits, LlxRun, Snap, Same, TreeAllows, IsOwnMoment, HasFoundGoal, Key as ToKey}
 use Rattle.prims.specs.Vlx.Known.{HasFoundUnchanged, VlxIsTold}
 use Rattle.prims.specs.Vlx.Laws.{all_same, looked_on}
 use Rattle.prims.specs.declared.llx.LlxAt.TheVariants.{Marked, StateAgain}
 use Rattle.template.specs.declared.walk.Found.{Found}
 use Rattle.template.specs.declared.walk.WalkRun.{WalkRun}
-use Rattle.template.specs.declared.walk.Way.TheVariants.{InTree}
 use Rattle.order.specs.declared.last_turns.LastTurns.{LastTurns}
 use Rattle.order.specs.LastTurns.{first_children, no_turns, turn_to}
 use Rattle.forest.specs.declared.view.SeatedPass.{SeatedPass}
@@ -175,7 +180,7 @@ module _ {M R A : Type 0} {o : Calls M} {means : ReadMeaning R A} (r : Reader o 
               (y.4.1.0, y.4.1.1, turn (begun_at (begun_at r.call y.0) y.4.1.0) (r.runs h run, y.4.1.2)),
             ),
           );
-      stays = λ llx now node. r.stays (at llx) (at now) (itself means (at llx));
+      stays = λ llx now v node. r.stays (at llx) (at now) (itself means (at llx));
     }
 
     -- it begins to look
@@ -240,7 +245,7 @@ module _ {M R A : Type 0} {o : Calls M} {means : ReadMeaning R A} (r : Reader o 
             y.2,
             (b, y.4.1, subst (λ (l : List Snap). VlxWaits l now d h s) e (turn d (y.2.reads.run.1.lawful, subst (λ (l : List Snap). VlxIsTold l old d h v) (sym e) y.4.2))),
           );
-      stays = λ old now is. r.stays (asking old) (asking now) (itself means (asking old));
+      stays = λ old now v is. r.stays (asking old) (asking now) (itself means (asking old));
     }
 
     pub begins_vlx : (ps : List SeatedPass) → ReaderWaits r ps m ValidateNext → InnerWaits validator ps 1 (load LoadInfo (info (snap_at snaps 0).node.0))
@@ -266,14 +271,13 @@ module _ {M R A : Type 0} {o : Calls M} {means : ReadMeaning R A} (r : Reader o 
     pub some_snap : (ps : List SeatedPass) → ReaderWaits r ps m ValidateNext → 0 < length snaps
     some_snap ps x = let w = r.opens (placed m ValidateNext) _ _ x.so.0 in let i = w.3.2.looks.within in rw e (omega (arith, i))
 
-  -- It walks to a key in a tree, where each fork counts
-  module _ (m : ReadRun R) (key : ℕ) (side : Side) (to : WalksTo means m.read key side) (tree : m.trie ≡ false) where
+  -- It walks to a key, by the way of its map
+  module _ (m : ReadRun R) (key : ℕ) (side : Side) (to : WalksTo means m.read key side) where
     abbrev walking : WalkRun → LastTurns → ReadRun R
     walking walk turns = record m { at = Walk walk side turns }
 
-    -- by the way of its map
-    by_way : InTree ≡ leaf_way m.trie
-    by_way = ap leaf_way (sym tree)
+    abbrev pub way : Way
+    way = leaf_way m.trie
 
     pub walker : Walker o
     walker = record {
@@ -290,22 +294,31 @@ module _ {M R A : Type 0} {o : Calls M} {means : ReadMeaning R A} (r : Reader o 
           let waits = next c y.4.1 in
           r.turns (walking old.0 old.1) (walking now.0 now.1) h (Some v) s (itself means m) x
           (walk_waits means m old.0 now.0 side r.call y.0 h y.1 y.2 w.key w.goal w.goes_to (goes.1.1 ∙ w.way) goes.1.0 now.1
-          (subst (AreLastTurns c h w.key) (sym goes.2) (turned c h w.key now.0 old.1 (ap path_key (goes.1.0 ∙ w.goal)) w.last now.0.at waits.known (λ leaves. inl (y.2.mode ∙ ap map_mode tree))))
+          (keeps c h w.key old now v (ap path_key w.goal) (ap path_key (goes.1.0 ∙ w.goal)) w.last waits.known y.4.1 goes.2)
           s goes.0 waits);
-      stays = λ old now goes. r.stays (walking old.0 old.1) (walking now.0 now.1) (itself means m);
+      stays = λ old now v goes. r.stays (walking old.0 old.1) (walking now.0 now.1) (itself means m);
     }
+      where
+        keeps : (c : Call) (h : History) (k : ℕ) (was then : WalkRun × LastTurns) (v : ℕ) → path_key was.0.goal ≡ k → path_key then.0.goal ≡ k → AreLastTurns c h k was.1 → WalkKnows c h then.0 then.0.at → WalkIsTold was.0 c h v → KeepsTurns was v then → AreLastTurns c h k then.1
+        keeps c h k was then v from goal last known told (inl e) = subst (AreLastTurns c h k) (sym e) last
+        keeps c h k was then v from goal last known told (inr x) = subst (AreLastTurns c h k) (sym x.0) (turned c h k then.0 was.1 goal last then.0.at known (λ leaves. subst (λ (l : ℕ). Stays c.layout (value h) l then.0.trail.node.0) from (x.1 c h told)))
 
     -- it begins its walk, with no snapshot
-    pub walks : (ps : List SeatedPass) (old : ReadRun R) → IsSameRead means old m → m.tries ≡ old.tries → m.snaps.items ≡ [] → ReaderBegins r ps old → WalkerWaits walker ps (walk_from (ToKey key)) no_turns (load LoadSettled (node 0 (Settled HeadWord)))
+    pub walks : (ps : List SeatedPass) (old : ReadRun R) → IsSameRead means old m → m.tries ≡ old.tries → m.snaps.items ≡ [] → ReaderBegins r ps old → WalkerWaits walker ps (way_from way (ToKey key)) no_turns (load LoadSettled (node 0 (Settled HeadWord)))
     unfolding walker
-    walks ps old is tries none x = told_on r ps old (walking (walk_from (ToKey key)) no_turns) None (Ask (load LoadSettled (node 0 (Settled HeadWord)))) is
-        (λ h run y. begins_walk means m old (walking (walk_from (ToKey key)) no_turns) r.call r.call.start h (Ask (load LoadSettled (node 0 (Settled HeadWord)))) is tries none y.2 y.0 (walk_from (ToKey key)) key side refl by_way refl to refl refl) x
+    walks ps old is tries none x = told_on r ps old (walking (way_from way (ToKey key)) no_turns) None (Ask (load LoadSettled (node 0 (Settled HeadWord)))) is
+        (λ h run y. begins_walk means m old (walking (way_from way (ToKey key)) no_turns) r.call r.call.start h (Ask (load LoadSettled (node 0 (Settled HeadWord)))) is tries none y.2 y.0 (way_from way (ToKey key)) key side refl refl refl to refl refl) x
 
-    -- behind the leaf that it finds it looks at the last fork where it has turned to its side
-    pub walk_looks : (ps : List SeatedPass) (f : Found) (turns : LastTurns) → WalkerFinds walker ps InTree (ToKey key) turns f → ReaderWaits r ps m (LookNext (first_children side (turn_to side turns).0) 0 (turn_to side turns))
+    -- what it finds there
+    found_leaf : (trie : Bool) (goal : Goal) (c : Call) (h : History) (f : Found) → FoundBy (leaf_way trie) goal c h f → HasFoundGoal goal c h f
+    found_leaf false goal c h f x = x
+    found_leaf true goal c h f x = x
+
+    -- behind the leaf that it finds it looks at the last fork that counts where it has turned to its side
+    pub walk_looks : (ps : List SeatedPass) (f : Found) (turns : LastTurns) → WalkerFinds walker ps way (ToKey key) turns f → ReaderWaits r ps m (LookNext (first_children side (turn_to side turns).0) 0 (turn_to side turns))
     unfolding walker
     walk_looks ps f turns x = on_to ps (walking x.last turns) m (LookNext (first_children side (turn_to side turns).0) 0 (turn_to side turns)) x.told (itself means m)
-        (λ h run y. let c = begun_at r.call y.0 in let w = y.4.0 in (y.0, y.1, (y.2, walk_found means m.read m.snaps.items c h (reading m c h y.2) w.key side turns f w.goes_to w.last (subst (λ g. HasFoundGoal g c h f) (sym x.is_goal ∙ w.goal) (x.finds c h y.4.1))))) x.so
+        (λ h run y. let c = begun_at r.call y.0 in let w = y.4.0 in (y.0, y.1, (y.2, walk_found means m.read m.snaps.items c h (reading m c h y.2) w.key side turns f w.goes_to w.last (subst (λ g. HasFoundGoal g c h f) (sym x.is_goal ∙ w.goal) (found_leaf m.trie (ToKey key) c h f (x.finds c h y.4.1)))))) x.so
 
   -- A try that has begun otherwise
   module _ (ps : List SeatedPass) (old m : ReadRun R) (is : IsSameRead means old m) where

@@ -22,7 +22,7 @@ helps inner snaps change = record {
   with_run = λ help. changing_at snaps change (Help help);
   tells = λ m h v d t. ((d.layout, d.pass), (t.0.lawful, t.1.0));
   turns = λ old now h v s is turn d t. (turn (d.layout, d.pass) (t.0.lawful, t.1.0), is ∙ t.1.1, t.1.2);
-  stays = λ old now is. (refl, refl, refl);
+  stays = λ old now v is. (refl, refl, refl);
 }
 
 module _ {M : Type 0} {inner : Layout → History → ℕ → Type 0} {o : Calls M} (k : Changer inner o) (snaps : List Snap) (change : ScxTask) where

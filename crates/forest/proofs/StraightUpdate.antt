@@ -106,7 +106,7 @@ module _ {M E : Type 0} {o : Calls M} {e : EditMeaning E} (u : Updater o e) wher
         let w = y.3.0 in
         u.turns (walking m old.0) (walking m now.0) h (Some v) s (moves m (Walk old.0) (Walk now.0) refl refl) x
         (y.0, try_past u.call y.0 h m.limit m.tries now.0.at goes.0 y.1, y.2, (record { small = w.small; rests = w.rests; quiet = w.quiet; none_filled = w.none_filled; may = w.may; same = goes.1.0 ∙ w.same; same_way = goes.1.1 ∙ w.same_way }, next (begun_at u.call y.0) y.3.1, λ past is. unguarded plain is));
-    stays = λ old now goes. u.stays (walking m old.0) (walking m now.0) (moves m (Walk old.0) (Walk now.0) refl refl);
+    stays = λ old now v goes. u.stays (walking m old.0) (walking m now.0) (moves m (Walk old.0) (Walk now.0) refl refl);
   }
 
   -- it may go where it goes
@@ -223,7 +223,7 @@ module _ {M E : Type 0} {o : Calls M} {e : EditMeaning E} (u : Updater o e) wher
             turn (begun_at (begun_at u.call y.0) y.3.0) (u.runs h run, y.3.2),
           ),
         );
-    stays = λ llx now node. u.stays (looking m f llx) (looking m f now) (moves m (Look f llx) (Look f now) refl refl);
+    stays = λ llx now v node. u.stays (looking m f llx) (looking m f now) (moves m (Look f llx) (Look f now) refl refl);
   }
 
   -- an update whose try looks at a node has begun to look at it
@@ -419,7 +419,7 @@ module _ {M E : Type 0} {o : Calls M} {e : EditMeaning E} (u : Updater o e) wher
         let y = u.tells (scxing m f old) h (Some v) x in
         u.turns (scxing m f old) (scxing m f now) h (Some v) s (moves m (Scx f old) (Scx f now) refl refl) x
         (y.0, y.1, tt, scx_asks e (scxing m f old) old now f y.3.0 (begun_at u.call y.0) h (Ask s) s y.3.1 goes.0 goes.1 goes.2 refl (turn (begun_at (begun_at u.call y.0) y.3.0) (u.runs h run, y.3.2)));
-    stays = λ old now goes. u.stays (scxing m f old) (scxing m f now) (moves m (Scx f old) (Scx f now) refl refl);
+    stays = λ old now v goes. u.stays (scxing m f old) (scxing m f now) (moves m (Scx f old) (Scx f now) refl refl);
   }
 
   -- an update whose try makes its SCX waits for the fill of its plan

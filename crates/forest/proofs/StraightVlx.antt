@@ -32,7 +32,7 @@ module _ {L : Type 0} (list : L → List Snap) (allows : Layout → History → 
     with_run = vlx_at snaps;
     tells = λ n h v run x. (c, (run.lawful, x));
     turns = λ old now h v s is turn run x. turn c (run.lawful, x);
-    stays = λ old now is. refl;
+    stays = λ old now v is. refl;
   }
 
   module _ (ps : List SeatedPass) where

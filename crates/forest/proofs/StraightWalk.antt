@@ -1,10 +1,10 @@
 -- From place to place of a walk, of whatever machine walks.
-use Rattle.std.proofs.Common.{if◌then◌else◌, ◌≡◌, ◌≢◌, ℕ, suc, ◌+◌, ◌^◌, ◌<◌, ◌≤◌, ◌⊎◌, Bool, true, false, cond, ltb, List, None, Some, unwrap_or, refl, ap, subst, arith}
+use Rattle.std.proofs.Common.{if◌then◌else◌, ◌≡◌, ◌≢◌, ℕ, suc, ◌+◌, ◌*◌, ◌^◌, ◌<◌, ◌≤◌, ◌⊎◌, Bool, true, false, cond, ltb, List, None, Some, unwrap_or, inl, inr, refl, sym, ◌∙◌, ap, subst, arith}
 use Rattle.arena.specs.declared.head.Head.{Head as HeadParts}
 use Rattle.histories.specs.Common.{LoadSettled, LoadChild, Step, Side, Left, Right, Settled, Child as ChildWord, Head as HeadWord, More as MoreWord, Key as KeyWord}
-use Rattle.histories.specs.Common.{Value as ValueWord, High as HighWord, Slot, First, Second, Third, Fourth, head_of, History, Call, node, first_key, slot_no}
+use Rattle.histories.specs.Common.{Value as ValueWord, High as HighWord, Slot, First, Second, Third, Fourth, head_of, History, value, Call, node, first_key, slot_no}
 use Rattle.template.specs.Common.{slot_behind, wide_value, load, asked_key, path_key, WalkIsTold, WalkWaits, IsPastRoot, walk_left, Goal}
-use Rattle.order.specs.LastTurns.{last_turns}
+use Rattle.template.specs.Balance.{leaf_way, nodes_by}
 use Rattle.template.specs.Walk.Known.{EndsAt, asks_key, goal_slot, open_side}
 use Rattle.template.specs.Walk.Laws.{walk_told}
 use Rattle.template.specs.Walk.Places.{way_at, way_from, trail_below, LoadsHead}
@@ -14,6 +14,12 @@ use Rattle.template.specs.declared.walk.WalkAt.{WalkAt}
 use Rattle.template.specs.declared.walk.WalkAt.TheVariants.{Start, Root, Head, Key, Child, More, Pair, Value, High}
 use Rattle.template.specs.declared.walk.WalkRun.{WalkRun}
 use Rattle.template.specs.declared.walk.Way.{Way}
+use Rattle.template.specs.declared.walk.Way.TheVariants.{InTree, InTrie, Within}
+use Rattle.template.specs.Common.{MayGo}
+use Rattle.ordered_map.specs.Bits.{IsInSpan}
+use Rattle.ordered_map.specs.TrieShape.{Stays}
+use Rattle.order.proofs.Lemmas.{stays_high, stays_shared}
+use Rattle.forest.specs.StraightWalk.{KeepsTurns, SharesKey, counted}
 use Rattle.template.proofs.Lemmas.{head_to_key, head_to_more, head_ends, head_to_child, key_ends, key_to_child, more_to_pair, pair_to_value, pair_to_pair, pair_ends, value_to_high, high_ends, child_to_head}
 use Rattle.order.specs.declared.last_turns.LastTurns.{LastTurns}
 use Rattle.forest.specs.declared.view.SeatedPass.{SeatedPass}
@@ -25,23 +31,45 @@ use Rattle.forest.proofs.Advances.{few_taken}
 
 module _ {M : Type 0} {o : Calls M} (w : Walker o) (ps : List SeatedPass) where
   -- an edge takes it from place to place
-  goes : (m now : WalkRun) (turn : LastTurns) (v : ℕ) (s : Step) → IsPastRoot now.at → GoesAs m now → ((d : Call) (h : History) → WalkIsTold m d h v → WalkWaits now d h s) → WalkerIsTold w ps m turn v → WalkerWaits w ps now (last_turns now.at now.trail.node turn) s
-  goes m now turn v s past goal edge = goes_to w ps (m, turn) (now, last_turns now.at now.trail.node turn) v s (past, goal, refl) edge
+  turns_to : (m now : WalkRun) (turn next : LastTurns) (v : ℕ) (s : Step) → IsPastRoot now.at → GoesAs m now → KeepsTurns (m, turn) v (now, next) → ((d : Call) (h : History) → WalkIsTold m d h v → WalkWaits now d h s) → WalkerIsTold w ps m turn v → WalkerWaits w ps now next s
+  turns_to m now turn next v s past goal keeps edge = goes_to w ps (m, turn) (now, next) v s (past, goal, keeps) edge
+
+  -- where it does not turn it keeps its turns
+  goes : (m now : WalkRun) (turn : LastTurns) (v : ℕ) (s : Step) → IsPastRoot now.at → GoesAs m now → ((d : Call) (h : History) → WalkIsTold m d h v → WalkWaits now d h s) → WalkerIsTold w ps m turn v → WalkerWaits w ps now turn s
+  goes m now turn v s past goal edge = turns_to m now turn turn v s past goal (inl refl) edge
 
   module _ (way : Way) (goal : Goal) (t : Trail) (turn : LastTurns) where
     -- where it ends does not depend on its place
     ends_there : (head : HeadParts) (low : ℕ) (ends : Bool) → EndsAt (way_from way goal) low ends → EndsAt (way_at way goal t (Key head)) low ends
     ends_there head low ends x = record { within = x.within; outside = x.outside; inside = x.inside }
 
+    -- at the child of a fork that is above all keys, or whose key it shares, that stays on its path
+    module _ (d : Call) (h : History) (level : ℕ) (side : Side) (s : Step) (y : WalkWaits (way_at way goal t (Child level side)) d h s) where
+      in_tree : (by : Way) → way ≡ by → (way ≢ InTree → Stays d.layout (value h) (path_key goal) t.node.0) → Stays d.layout (value h) (path_key goal) t.node.0
+      in_tree InTree e other = inl (subst (λ b. MayGo d.layout b goal) e y.may)
+      in_tree InTrie e other = other (λ i. let z : InTrie ≡ InTree = sym e ∙ i in cc)
+      in_tree Within e other = other (λ i. let z : Within ≡ InTree = sym e ∙ i in cc)
+
+      stays_above : (way ≢ InTree → level < 2) → Stays d.layout (value h) (path_key goal) t.node.0
+      stays_above high = in_tree way refl (λ other. stays_high d h (path_key goal) t.node.0 y.run y.known.0.node y.known.2 (let e = y.known.1 in let i = high other in omega (arith, e, i)))
+
+      stays_where : (low : ℕ) → value h (node t.node.0 first_key) ≡ low → (way ≢ InTree → SharesKey goal low) → Stays d.layout (value h) (path_key goal) t.node.0
+      stays_where low is shares = in_tree way refl (λ other. let z = shares other in stays_shared d h (path_key goal) t.node.0 y.run y.known.0.node y.known.2 low is (λ l fork. subst (IsInSpan low l) (sym (ap path_key z.1)) (z.2 l fork)))
+
     module _ (p : WalkAt) (v : ℕ) (head : HeadParts) (at : LoadsHead p) (is : head_of v ≡ head) where
       pub to_key : head.leaf ≡ false → asks_key goal head ≡ true → WalkerIsTold w ps (way_at way goal t p) turn v → WalkerWaits w ps (way_at way goal t (Key head)) turn (load LoadSettled (node t.node.0 first_key))
       to_key fork asks = goes (way_at way goal t p) (way_at way goal t (Key head)) turn v _ tt (refl, refl) (λ d h x. head_to_key way goal t d h p v head at is x fork asks)
 
-      pub to_open : head.leaf ≡ false → asks_key goal head ≡ false → WalkerIsTold w ps (way_at way goal t p) turn v → WalkerWaits w ps (way_at way goal t (Child head.level (open_side goal head))) (last_turns (Child head.level (open_side goal head)) t.node turn) (load LoadChild (node t.node.0 (ChildWord (open_side goal head))))
-      to_open fork asks = goes (way_at way goal t p) (way_at way goal t (Child head.level (open_side goal head))) turn v _ tt (refl, refl) (λ d h x. head_to_child way goal t d h p v head at is x fork asks)
+      keeps_open : (counts : Bool) → (counts ≡ true → way ≢ InTree → head.level < 2) → head.leaf ≡ false → asks_key goal head ≡ false → KeepsTurns (way_at way goal t p, turn) v (way_at way goal t (Child head.level (open_side goal head)), counted counts (open_side goal head) t.node turn)
+      keeps_open false high fork asks = inl refl
+      keeps_open true high fork asks = inr (refl, λ d h x. stays_above d h head.level (open_side goal head) _ (head_to_child way goal t d h p v head at is x fork asks) (high refl))
 
+      pub to_open : head.leaf ≡ false → asks_key goal head ≡ false → (counts : Bool) → (counts ≡ true → way ≢ InTree → head.level < 2) → WalkerIsTold w ps (way_at way goal t p) turn v → WalkerWaits w ps (way_at way goal t (Child head.level (open_side goal head))) (counted counts (open_side goal head) t.node turn) (load LoadChild (node t.node.0 (ChildWord (open_side goal head))))
+      to_open fork asks counts high = turns_to (way_at way goal t p) (way_at way goal t (Child head.level (open_side goal head))) turn (counted counts (open_side goal head) t.node turn) v _ tt (refl, refl) (keeps_open counts high fork asks) (λ d h x. head_to_child way goal t d h p v head at is x fork asks)
+
+      -- to an end no turn counts
       pub to_known : (side : Side) → head.leaf ≡ false → asks_key goal head ≡ false → open_side goal head ≡ side → WalkerIsTold w ps (way_at way goal t p) turn v → WalkerGoesDown w ps way goal t head.level side turn
-      to_known side fork asks is x = subst (λ s. WalkerGoesDown w ps way goal t head.level s turn) is (to_open fork asks x)
+      to_known side fork asks is x = subst (λ s. WalkerGoesDown w ps way goal t head.level s turn) is (to_open fork asks false (λ e. absurd cc) x)
 
       pub to_more : head.leaf ≡ true → head.class ≡ 0 → WalkerIsTold w ps (way_at way goal t p) turn v → WalkerWaits w ps (way_at way goal t (More head)) turn (load LoadSettled (node t.node.0 (Settled MoreWord)))
       to_more leaf low = goes (way_at way goal t p) (way_at way goal t (More head)) turn v _ tt (refl, refl) (λ d h x. head_to_more way goal t d h p v head at is x leaf low)
@@ -49,8 +77,16 @@ module _ {M : Type 0} {o : Calls M} (w : Walker o) (ps : List SeatedPass) where
       pub finds_none : head.leaf ≡ true → head.class ≢ 0 → WalkerIsTold w ps (way_at way goal t p) turn v → WalkerFinds w ps way goal turn record { trail = t; head = head; more = 0; key = asked_key goal 0; value = None }
       finds_none leaf high x = record { last = way_at way goal t p; is_goal = refl; is_way = refl; told = v; finds = λ d h y. head_ends way goal t d h p v head at is y leaf high; so = x }
 
-    pub to_side : (head : HeadParts) (low : ℕ) (side : Side) → EndsAt (way_from way goal) low false → side ≡ cond (ltb (path_key goal) low) Left Right → WalkerIsTold w ps (way_at way goal t (Key head)) turn low → WalkerWaits w ps (way_at way goal t (Child head.level side)) (last_turns (Child head.level side) t.node turn) (load LoadChild (node t.node.0 (ChildWord side)))
-    to_side head low side goes_on is = goes (way_at way goal t (Key head)) (way_at way goal t (Child head.level side)) turn low _ tt (refl, refl) (λ d h x. key_to_child way goal t d h head low side x (ends_there head low false goes_on) is)
+    module _ (head : HeadParts) (low : ℕ) (side : Side) (goes_on : EndsAt (way_from way goal) low false) (is : side ≡ cond (ltb (path_key goal) low) Left Right) where
+      waits_side : (d : Call) (h : History) → WalkIsTold (way_at way goal t (Key head)) d h low → WalkWaits (way_at way goal t (Child head.level side)) d h (load LoadChild (node t.node.0 (ChildWord side)))
+      waits_side d h x = key_to_child way goal t d h head low side x (ends_there head low false goes_on) is
+
+      keeps_side : (counts : Bool) → (counts ≡ true → way ≢ InTree → SharesKey goal low) → KeepsTurns (way_at way goal t (Key head), turn) low (way_at way goal t (Child head.level side), counted counts side t.node turn)
+      keeps_side false shares = inl refl
+      keeps_side true shares = inr (refl, λ d h x. stays_where d h head.level side _ (waits_side d h x) low x.told (shares refl))
+
+      pub to_side : (counts : Bool) → (counts ≡ true → way ≢ InTree → SharesKey goal low) → WalkerIsTold w ps (way_at way goal t (Key head)) turn low → WalkerWaits w ps (way_at way goal t (Child head.level side)) (counted counts side t.node turn) (load LoadChild (node t.node.0 (ChildWord side)))
+      to_side counts shares = turns_to (way_at way goal t (Key head)) (way_at way goal t (Child head.level side)) turn (counted counts side t.node turn) low _ tt (refl, refl) (keeps_side counts shares) waits_side
 
     pub finds_fork : (head : HeadParts) (low : ℕ) → low < 2 ^ 64 → EndsAt (way_from way goal) low true → WalkerIsTold w ps (way_at way goal t (Key head)) turn low → WalkerFinds w ps way goal turn record { trail = t; head = head; more = 0; key = low; value = None }
     finds_fork head low small ends x = record { last = way_at way goal t (Key head); is_goal = refl; is_way = refl; told = low; finds = λ d h y. key_ends way goal t d h head low y small (ends_there head low true ends); so = x }
@@ -123,3 +159,11 @@ few_slots First = omega arith
 few_slots Second = omega arith
 few_slots Third = omega arith
 few_slots Fourth = omega arith
+
+-- the bounds of a walk to a leaf are those of its map
+room_is : (trie : Bool) (nodes : ℕ) → room (leaf_way trie) nodes ≡ nodes_by trie nodes
+room_is false nodes = refl
+room_is true nodes = refl
+
+pub leaf_steps : (trie : Bool) (way : Way) (old now nodes : ℕ) → way ≡ leaf_way trie → now ≤ old + (3 * (2 + room way nodes) + 5) → now ≤ old + (3 * (2 + nodes_by trie nodes) + 5)
+leaf_steps trie way old now nodes is few = subst (λ r. now ≤ old + (3 * (2 + r) + 5)) (ap (λ w. room w nodes) is ∙ room_is trie nodes) few

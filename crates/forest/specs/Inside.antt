@@ -12,7 +12,7 @@ pub record Inner (N : Type 0) : Type 1 where
   pub Context : Type 0
   pub told : Context → N → History → ℕ → Type 0
   pub waits : Context → N → History → Step → Type 0
-  pub goes : N → N → Type 0
+  pub goes : N → ℕ → N → Type 0
 
 module _ {M N : Type 0} (o : Calls M) (i : Inner N) where
   -- A call of a machine, of this layout and number, with such a machine inside it.
@@ -26,8 +26,8 @@ module _ {M N : Type 0} (o : Calls M) (i : Inner N) where
     -- what the machine gets, its inner machine gets
     pub tells : (m : N) (h : History) (v : ℕ) → IsRun o.allows call.layout h → o.ready (with_run m) call h (Some v) → (d : i.Context) × i.told d m h v
     -- what its inner machine waits for once it gets something, the machine does
-    pub turns : (old now : N) (h : History) (v : ℕ) (s : Step) → i.goes old now → ((d : i.Context) → i.told d old h v → i.waits d now h s) → IsRun o.allows call.layout h → o.ready (with_run old) call h (Some v) → o.waits (with_run now) call h s
-    pub stays : (old now : N) → i.goes old now → o.same (with_run old) (with_run now)
+    pub turns : (old now : N) (h : History) (v : ℕ) (s : Step) → i.goes old v now → ((d : i.Context) → i.told d old h v → i.waits d now h s) → IsRun o.allows call.layout h → o.ready (with_run old) call h (Some v) → o.waits (with_run now) call h s
+    pub stays : (old now : N) (v : ℕ) → i.goes old v now → o.same (with_run old) (with_run now)
 
 module _ {M N : Type 0} {o : Calls M} {i : Inner N} (k : Inside o i) (ps : List SeatedPass) where
   -- its inner machine waits for this step

@@ -14,7 +14,7 @@ inner_help inner = record {
   Context = Layout × ℕ;
   told = λ d m h v. Lawful d.0 h × HelpIsReady inner d.0 d.1 m h (Some v);
   waits = λ d m h s. HelpWaits inner d.0 d.1 m h s;
-  goes = λ old now. now.scx ≡ old.scx;
+  goes = λ old v now. now.scx ≡ old.scx;
 }
 
 -- a call of a machine that helps

@@ -36,7 +36,7 @@ inner_llx inner = record {
   Context = Call;
   told = λ d m h v. IsRun inner d.layout h × LlxIsReady inner m d h (Some v);
   waits = λ d m h s. LlxWaits inner m d h s;
-  goes = λ old now. now.node ≡ old.node;
+  goes = λ old v now. now.node ≡ old.node;
 }
 
 -- a call of a machine that looks at nodes

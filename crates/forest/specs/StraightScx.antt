@@ -28,7 +28,7 @@ inner_scx inner = record {
   Context = Call;
   told = λ d m h v. IsRun inner d.layout h × ScxIsReady inner m d h (Some v);
   waits = λ d m h s. ScxWaits inner m d h s;
-  goes = λ old now. (now.scx ≡ old.scx) × (now.update ≡ old.update) × (now.call ≡ old.call);
+  goes = λ old v now. (now.scx ≡ old.scx) × (now.update ≡ old.update) × (now.call ≡ old.call);
 }
 
 -- a call of a machine that makes an SCX

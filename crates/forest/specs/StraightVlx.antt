@@ -44,7 +44,7 @@ inner_vlx snaps = record {
   Context = Call;
   told = λ d n h v. Lawful d.layout h × VlxIsTold snaps n d h v;
   waits = λ d n h s. VlxWaits snaps n d h s;
-  goes = λ old now. now ≡ suc old;
+  goes = λ old v now. now ≡ suc old;
 }
 
 -- a call of a machine that validates these snapshots

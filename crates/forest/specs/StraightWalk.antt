@@ -1,9 +1,12 @@
 -- Calls that are at a place of a walk, of whatever machine that walks.
-use Rattle.std.specs.Prelude.{◌≡◌, ℕ, List}
-use Rattle.histories.specs.Common.{Step, History, Call, LoadChild, LoadSettled, Settled, Head as HeadWord, Side, child, node}
-use Rattle.template.specs.Common.{load, FoundBy, WalkIsTold, WalkWaits, IsPastRoot, Goal}
+use Rattle.std.specs.Prelude.{◌≡◌, ◌⊎◌, ℕ, Bool, true, false, List}
+use Rattle.histories.specs.Common.{NodeNo, Step, History, value, Call, LoadChild, LoadSettled, Settled, Head as HeadWord, Side, child, node}
+use Rattle.template.specs.Common.{load, path_key, FoundBy, WalkIsTold, WalkWaits, IsPastRoot, Goal}
 use Rattle.template.specs.Walk.Places.{way_at, way_from}
-use Rattle.order.specs.LastTurns.{last_turns, no_turns}
+use Rattle.ordered_map.specs.Bits.{IsForkKey, IsInSpan}
+use Rattle.ordered_map.specs.TrieShape.{Stays}
+use Rattle.ordered_map.specs.declared.rule.Goal.TheVariants.{Key as ToKey}
+use Rattle.order.specs.LastTurns.{last_turns, no_turns, with_last_turn}
 use Rattle.template.specs.declared.walk.Found.{Found}
 use Rattle.template.specs.declared.walk.Trail.{Trail}
 use Rattle.template.specs.declared.walk.WalkAt.TheVariants.{Child}
@@ -18,15 +21,33 @@ use Rattle.forest.specs.Inside.{Inner, Inside, InnerIsTold, InnerWaits}
 abbrev pub GoesAs : WalkRun → WalkRun → Type 0
 GoesAs old now = (now.goal ≡ old.goal) × (now.way ≡ old.way)
 
+-- where the second walk turns, which the first is once it has found this, is a fork that stays on the
+-- path of its key
+abbrev pub StaysThere : WalkRun → ℕ → WalkRun → Type 0
+StaysThere old v now = (d : Call) (h : History) → WalkIsTold old d h v → Stays d.layout (value h) (path_key old.goal) now.trail.node.0
+
+-- it keeps a fork where it turns if that is so
+abbrev pub KeepsTurns : WalkRun × LastTurns → ℕ → WalkRun × LastTurns → Type 0
+KeepsTurns old v now = (now.1 ≡ old.1) ⊎ ((now.1 ≡ last_turns now.0.at now.0.trail.node old.1) × StaysThere old.0 v now.0)
+
 -- a walk in a call of its own, with the last forks where it has turned; it goes on past the root, to
--- the same goal, and keeps a fork where it turns
+-- the same goal
 abbrev pub inner_walk : Inner (WalkRun × LastTurns)
 inner_walk = record {
   Context = Call;
   told = λ d m h v. WalkIsTold m.0 d h v;
   waits = λ d m h s. WalkWaits m.0 d h s;
-  goes = λ old now. IsPastRoot now.0.at × GoesAs old.0 now.0 × (now.1 ≡ last_turns now.0.at now.0.trail.node old.1);
+  goes = λ old v now. IsPastRoot now.0.at × GoesAs old.0 now.0 × KeepsTurns old v now;
 }
+
+-- its key shares that of a fork
+abbrev pub SharesKey : Goal → ℕ → Type 0
+SharesKey goal key = (k : ℕ) × (goal ≡ ToKey k) × ((level : ℕ) → IsForkKey key level → IsInSpan key level k)
+
+-- with a turn to this side at a node, if it counts
+abbrev pub counted : Bool → Side → NodeNo → LastTurns → LastTurns
+counted true side n turns = with_last_turn side n turns
+counted false side n turns = turns
 
 -- a call of a machine that walks
 abbrev pub Walker : {M : Type 0} → Calls M → Type 0
@@ -41,10 +62,10 @@ module _ {M : Type 0} {o : Calls M} (w : Walker o) (ps : List SeatedPass) where
   abbrev pub WalkerIsTold : WalkRun → LastTurns → ℕ → Type 0
   WalkerIsTold m turn v = InnerIsTold w ps (m, turn) v
 
-  -- its walk by this way to this goal waits for the child on this side of the node that its trail has reached,
-  -- whose head is of this level; it had turned last at these forks before that
+  -- its walk by this way to this goal waits for the child on this side of the node that its trail has
+  -- reached, whose head is of this level; it has turned last at these forks
   abbrev pub WalkerGoesDown : Way → Goal → Trail → ℕ → Side → LastTurns → Type 0
-  WalkerGoesDown way goal trail level side turn = WalkerWaits (way_at way goal trail (Child level side)) (last_turns (Child level side) trail.node turn) (load LoadChild (child trail.node.0 side))
+  WalkerGoesDown way goal trail level side turn = WalkerWaits (way_at way goal trail (Child level side)) turn (load LoadChild (child trail.node.0 side))
 
   -- its walk by this way to this goal waits for the head of the root, with which it begins
   abbrev pub WalksFromRoot : Way → Goal → Type 0

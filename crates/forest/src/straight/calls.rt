@@ -116,7 +116,9 @@ fn neighbour<K: WordKey, V: WordValue, B: FixedBalance>(
 {
     key.valid();
     let mut run = Neighbour::run(alloc, key.word(), side, tries, in_trie::<B>());
-    let told = ordered_read::call::<Dict<K, V, B>, DictRun<K, V>, Neighbour>(hand, seat, &mut run);
+    let told = ordered_read::call::<Dict<K, V, B>, DictRun<K, V>, Neighbour, B>(
+        hand, seat, &mut run,
+    );
     of_neighbour(told)
 }
 
@@ -160,7 +162,7 @@ pub(crate) fn read<K: WordKey, V: WordValue, B: FixedBalance>(
                 tries,
                 in_trie::<B>(),
             );
-            let told = ordered_read::call::<Dict<K, V, B>, DictRun<K, V>, Range>(
+            let told = ordered_read::call::<Dict<K, V, B>, DictRun<K, V>, Range, B>(
                 hand, seat, &mut run,
             );
             of_range(alloc, told)

@@ -14,6 +14,7 @@ ghost use Rattle.order.specs.declared.load.ReadLoad.{ReadLoad};
 ghost use Rattle.order.specs.declared.read.ReadNext.{ReadNext};
 ghost use Rattle.prims.specs.Llx.Known.{load};
 
+use crate::balance::in_trie;
 use crate::steps::complete;
 use crate::straight::hand::Hand;
 use crate::straight::llx::{load, look};
@@ -28,10 +29,10 @@ use arena::{
 use atomic_table::Seat;
 use order::{
     Children, HeadLoad, HighLoad, KeyLoad, KnownLoad, LeafPlace, MoreLoad, PairLoad, Read, ReadAt,
-    ReadBegin, ReadLoad, ReadNext, ReadRun, Refused, ValueLoad,
+    ReadBegin, ReadLoad, ReadNext, ReadRun, Refused, ValueLoad, leaf_way,
 };
 use prims::{LlxAt, LlxRun, Snap, SnapList};
-use template::{Goal, Tree, Way};
+use template::{FixedBalance, Goal, Tree};
 
 /// Loads a settled word.
 #[inline(always)]
@@ -448,9 +449,9 @@ fn from_root<S: Shape, M: Machine<S>, R: Read + Drop>(
     go_on::<S, M, R>(hand, seat, run, first)
 }
 
-/// Makes a whole read, as its machine does.
+/// Makes an ordered read: its first try inline. A function of its own, as that of an update.
 #[inline(never)]
-fn by_machine<S: Shape, M: Machine<S>, R: Read + Drop>(
+pub(crate) fn call<S: Shape, M: Machine<S>, R: Read + Drop, B: FixedBalance>(
     hand: Hand<S>,
     seat: &mut Seat<u8, SeatView>,
     run: &mut ReadRun<R>,
@@ -458,6 +459,7 @@ fn by_machine<S: Shape, M: Machine<S>, R: Read + Drop>(
     requires table { IsAt hand seat.old }
     requires begins { (r : Reader (hand_calls S.Shape M.Machine hand) R.means)
         × ReaderBegins r seat.old.me.0.passes run.old }
+    requires trie { run.old.trie ≡ B.trie B.the }
     ensures leads { Leads seat.old seat.new (read_left R.means run.old
         (nodes_by run.old.trie (shared_nodes hand.entry.layout.now)))
         (λ (r : Reader (hand_calls S.Shape M.Machine hand.entry) R.means) ps.
@@ -465,46 +467,10 @@ fn by_machine<S: Shape, M: Machine<S>, R: Read + Drop>(
         (λ r ps. ReaderEnds r ps run.new result) }
     ensures nothing { ¬ R.means.asks (R.means.call run.old.read) → seat.new ≡ seat.old }
 {
-    match run.step(None) {
-        Turn::Done(answer) => answer,
-        Turn::Ask(asked) => {
-            let turn = Turn::Ask(asked);
-            complete::<S, M, Tree, ReadRun<R>>(
-                hand.words,
-                hand.layout,
-                seat,
-                hand.number,
-                run,
-                turn,
-            )
-        }
-    }
-}
-
-/// Makes an ordered read: its first try inline. A function of its own, as that of an update. In a
-/// trie, where not each fork counts at which it turns, its machine makes it.
-#[inline(never)]
-pub(crate) fn call<S: Shape, M: Machine<S>, R: Read + Drop>(
-    hand: Hand<S>,
-    seat: &mut Seat<u8, SeatView>,
-    run: &mut ReadRun<R>,
-) -> Result<R::Answer, Refused>
-    requires table { IsAt hand seat.old }
-    requires begins { (r : Reader (hand_calls S.Shape M.Machine hand) R.means)
-        × ReaderBegins r seat.old.me.0.passes run.old }
-    ensures leads { Leads seat.old seat.new (read_left R.means run.old
-        (nodes_by run.old.trie (shared_nodes hand.entry.layout.now)))
-        (λ (r : Reader (hand_calls S.Shape M.Machine hand.entry) R.means) ps.
-        ReaderBegins r ps run.old)
-        (λ r ps. ReaderEnds r ps run.new result) }
-    ensures nothing { ¬ R.means.asks (R.means.call run.old.read) → seat.new ≡ seat.old }
-{
-    if run.trie {
-        return by_machine::<S, M, R>(hand, seat, run);
-    }
     match run.start() {
         ReadBegin::Walk { key, side } => {
-            let (_, turns) = walk::to_goal::<S, M>(hand, seat, Way::InTree, Goal::Key(key));
+            let way = leaf_way(in_trie::<B>());
+            let (_, turns) = walk::to_goal::<S, M>(hand, seat, way, Goal::Key(key));
             let children = turns.children(side);
             let node = turns.to(side);
             let level = 0;

@@ -7,7 +7,7 @@ ghost use Rattle.forest.specs.Leads.{steps_made};
 ghost use Rattle.forest.specs.Hands.{IsAt, hand_calls};
 ghost use Rattle.forest.specs.Seats.{StaysAtTable};
 ghost use Rattle.forest.specs.Traces.{shared_nodes};
-ghost use Rattle.forest.specs.StraightWalk.{Walker, WalkerFinds, WalkerGoesDown, WalkerIsTold, WalkerWaits, WalksFromRoot};
+ghost use Rattle.forest.specs.StraightWalk.{SharesKey, Walker, WalkerFinds, WalkerGoesDown, WalkerIsTold, WalkerWaits, WalksFromRoot, counted};
 ghost use Rattle.ordered_map.specs.Holding.{end_slot};
 ghost use Rattle.ordered_map.specs.declared.rule.Goal.{Goal};
 ghost use Rattle.order.specs.declared.last_turns.LastTurns.{LastTurns};
@@ -337,6 +337,57 @@ fn ends_at(way: Way, goal: Goal, key: u64) -> bool
     }
 }
 
+/// Whether the walk is one in a tree.
+#[inline(always)]
+fn is_in_tree(way: Way) -> bool
+    ensures { result ≡ true → way ≡ Way.InTree }
+{
+    match way {
+        Way::InTree => true,
+        Way::InTrie | Way::Within => false,
+    }
+}
+
+/// Whether a turn counts at a fork with the head in this word whose key is not loaded: in a trie it is
+/// to be above all keys.
+#[inline(always)]
+fn counts_above(way: Way, word: u64) -> bool
+    ensures { result ≡ true → way ≢ Way.InTree → (head_of word).level < 2 }
+{
+    is_in_tree(way) || Head::of(word).level < 2
+}
+
+/// Whether the walk goes to a key that shares that of a fork.
+#[inline(always)]
+fn shares_key(goal: Goal, key: u64) -> bool
+    ensures { result ≡ true → SharesKey goal key }
+{
+    match goal {
+        Goal::Key(wanted) => shares(key, wanted),
+        Goal::End(_) => false,
+    }
+}
+
+/// Whether a turn counts at a fork with this key: in a trie the walk's is to share it.
+#[inline(always)]
+fn counts_below(way: Way, goal: Goal, key: u64) -> bool
+    ensures { result ≡ true → way ≢ Way.InTree → SharesKey goal key }
+{
+    is_in_tree(way) || shares_key(goal, key)
+}
+
+/// The last forks where it has turned with one more, if that counts.
+#[inline(always)]
+fn with_turn(turns: LastTurns, counts: bool, side: Side, node: NodeNo) -> LastTurns
+    ensures { result ≡ counted counts side node turns }
+{
+    if counts {
+        turns.with(side, node)
+    } else {
+        turns
+    }
+}
+
 /// Continues after the head of a fork that begins there by its key: on a side, or to the end, where
 /// the walk goes no further.
 #[inline(always)]
@@ -349,7 +400,7 @@ fn pass_by_key<S: Shape, M: Machine<S>>(
     start: usize,
     at: WalkAt,
     word: u64,
-) -> Result<Side, Found>
+) -> Result<(Side, bool), Found>
     requires place { LoadsHead at }
     requires table { IsAt hand seat.old }
     requires start { start ≡ node_start trail.node }
@@ -359,10 +410,11 @@ fn pass_by_key<S: Shape, M: Machine<S>>(
         × WalkerIsTold w seat.old.me.0.passes (way_at way goal trail at) turn word }
     ensures table { StaysAtTable seat.old seat.new }
     ensures one { steps_made seat.new ≡ suc (steps_made seat.old) }
-    ensures down { IfOk result (λ side.
+    ensures down { IfOk result (λ to.
         (w : Walker (hand_calls S.Shape M.Machine hand.entry)) (turn : LastTurns)
         → WalkerIsTold w seat.old.me.0.passes (way_at way goal trail at) turn word
-        → WalkerGoesDown w seat.new.me.0.passes way goal trail (head_of word).level side turn) }
+        → WalkerGoesDown w seat.new.me.0.passes way goal trail (head_of word).level to.0
+        (counted to.1 to.0 trail.node turn)) }
     ensures finds { IfErr result (λ found.
         (w : Walker (hand_calls S.Shape M.Machine hand.entry)) (turn : LastTurns)
         → WalkerIsTold w seat.old.me.0.passes (way_at way goal trail at) turn word
@@ -383,7 +435,7 @@ fn pass_by_key<S: Shape, M: Machine<S>>(
             value: None,
         });
     }
-    Ok(side_of(goal, key))
+    Ok((side_of(goal, key), counts_below(way, goal, key)))
 }
 
 /// Continues after the head of a node that begins there: on a side of a fork, or to the end at a
@@ -398,7 +450,7 @@ fn pass<S: Shape, M: Machine<S>>(
     start: usize,
     at: WalkAt,
     word: u64,
-) -> Result<Side, Found>
+) -> Result<(Side, bool), Found>
     requires first { (more : ℕ) → goal_slot goal more ≡ Slot.First }
     requires place { LoadsHead at }
     requires table { IsAt hand seat.old }
@@ -408,10 +460,11 @@ fn pass<S: Shape, M: Machine<S>>(
     ensures table { StaysAtTable seat.old seat.new }
     ensures steps { MatchResult result (λ _. steps_made seat.new ≤ steps_made seat.old + 1)
         (λ _. steps_made seat.new ≤ steps_made seat.old + 7) }
-    ensures down { IfOk result (λ side.
+    ensures down { IfOk result (λ to.
         (w : Walker (hand_calls S.Shape M.Machine hand.entry)) (turn : LastTurns)
         → WalkerIsTold w seat.old.me.0.passes (way_at way goal trail at) turn word
-        → WalkerGoesDown w seat.new.me.0.passes way goal trail (head_of word).level side turn) }
+        → WalkerGoesDown w seat.new.me.0.passes way goal trail (head_of word).level to.0
+        (counted to.1 to.0 trail.node turn)) }
     ensures finds { IfErr result (λ found.
         (w : Walker (hand_calls S.Shape M.Machine hand.entry)) (turn : LastTurns)
         → WalkerIsTold w seat.old.me.0.passes (way_at way goal trail at) turn word
@@ -423,7 +476,7 @@ fn pass<S: Shape, M: Machine<S>>(
     if asks_key(goal, word) {
         return pass_by_key::<S, M>(hand, seat, way, goal, trail, start, at, word);
     }
-    Ok(open_side(goal, word))
+    Ok((open_side(goal, word), counts_above(way, word)))
 }
 
 /// Ends at a leaf that begins there, of a walk to this end: at the pair there, or at once where it is
@@ -519,7 +572,7 @@ fn goes_right(goal: Goal, word: u64) -> bool
 /// A node that a walk has reached: where it asks for its head, where its words begin, and the last
 /// forks at which it turned above.
 #[derive(Clone, Copy)]
-struct Place {
+struct Reached {
     trail: Trail,
     at: WalkAt,
     turns: LastTurns,
@@ -534,10 +587,10 @@ fn descend<S: Shape, M: Machine<S>>(
     seat: &mut Seat<u8, SeatView>,
     way: Way,
     goal: Goal,
-    place: Place,
+    place: Reached,
     word: u64,
     side: Side,
-) -> Place
+) -> Reached
     requires table { IsAt hand seat.old }
     requires start { place.start ≡ node_start place.trail.node }
     requires waits { (w : Walker (hand_calls S.Shape M.Machine hand))
@@ -564,14 +617,13 @@ fn descend<S: Shape, M: Machine<S>>(
         side,
         node: NodeNo(child),
     };
-    let turns = place.turns.with(side, node);
     let start = hand.layout.node_start(trail.node);
     let head = Head::of(word);
     let at = WalkAt::Head { above: head.level };
-    Place {
+    Reached {
         trail,
         at,
-        turns,
+        turns: place.turns,
         start,
     }
 }
@@ -584,9 +636,9 @@ fn descend_right<S: Shape, M: Machine<S>>(
     seat: &mut Seat<u8, SeatView>,
     way: Way,
     goal: Goal,
-    first: Place,
+    first: Reached,
     head: u64,
-) -> (Place, u64)
+) -> (Reached, u64)
     requires place { LoadsHead first.at }
     requires table { IsAt hand seat.old }
     requires start { first.start ≡ node_start first.trail.node }
@@ -652,13 +704,13 @@ pub(crate) fn to_goal<S: Shape, M: Machine<S>>(
         let (kind, part) = (Kind::LoadSettled, NodeWord::Settled(SettledPart::Head));
         let word = read::<S, M>(hand, seat, kind, node, start, part);
         let head = Head::of(word);
-        let side = match pass::<S, M>(hand, seat, way, goal, trail, start, at, word) {
-            Ok(side) => side,
+        let (side, counts) = match pass::<S, M>(hand, seat, way, goal, trail, start, at, word) {
+            Ok(to) => to,
             Err(found) => return (found, turns),
         };
         let part = NodeWord::Child(side);
         let child = read::<S, M>(hand, seat, Kind::LoadChild, node, start, part);
-        turns = turns.with(side, node);
+        turns = with_turn(turns, counts, side, node);
         trail = Trail {
             grand: trail.parent,
             grand_side: trail.side,
@@ -695,7 +747,7 @@ pub(crate) fn to_last<S: Shape, M: Machine<S>>(
         number: hand.number,
     };
     let root = NodeNo(0);
-    let mut place = Place {
+    let mut place = Reached {
         trail: Trail {
             grand: root,
             grand_side: Side::Left,

@@ -10,7 +10,8 @@ use Rattle.forest.specs.Passes.{taken_of}
 use Rattle.forest.specs.PassInvariant.{pass_view}
 use Rattle.forest.specs.StraightGet.{getting}
 use Rattle.forest.proofs.Passes.{layout_of, call_of}
-use Rattle.forest.proofs.StraightGet.{get_over, get_steps, get_walks, walker}
+use Rattle.forest.proofs.StraightGet.{get_over, get_walks, walker}
+use Rattle.forest.proofs.StraightWalk.{leaf_steps}
 use Rattle.forest.proofs.WholeCalls.{IsOver, whole_call, whole_pass}
 use Rattle.forest.proofs.dictionary.Forest+Dict+K+V+B.get.Given.{Over}
 use Rattle.forest.proofs.dictionary.Forest+Dict+K+V+B.get.Goals.{After-value_of}
@@ -45,7 +46,7 @@ returns g c =
     let e = over g c in
     rw (← c.pass.view_is, ← c.self.view_is)
     (whole_call g.K.WordKey.is_valid g.K.WordKey.word_of g.V.WordValue.is_valid g.V.WordValue.word_of (g.B.Balance.trie g.B.FixedBalance.the) c.pass.inside c.pass.invariant c.to_goal.new.seat _ (at g c e.0) (Value c.value_of.result) e.1 c.pass.inside.share c.pass.inside.blamed refl refl
-    _ (rw (← c.pass.view_is, ← c.self.view_is) at c.requires.pass) (Get (g.K.WordKey.word_of c.args.key.now)) (ap Get c.word.ensures) refl c.to_goal.ensures.table.0 (get_steps g.K.WordKey.is_valid g.K.WordKey.word_of g.V.WordValue.is_valid g.V.WordValue.word_of (g.B.Balance.trie g.B.FixedBalance.the) c.leaf_way-way.result _ _ _ (c.leaf_way-way.ensures ∙ ap leaf_way c.in_trie.ensures) c.to_goal.ensures.steps) (λ none. absurd (none tt)))
+    _ (rw (← c.pass.view_is, ← c.self.view_is) at c.requires.pass) (Get (g.K.WordKey.word_of c.args.key.now)) (ap Get c.word.ensures) refl c.to_goal.ensures.table.0 (leaf_steps (g.B.Balance.trie g.B.FixedBalance.the) c.leaf_way-way.result _ _ _ (c.leaf_way-way.ensures ∙ ap leaf_way c.in_trie.ensures) c.to_goal.ensures.steps) (λ none. absurd (none tt)))
 
 pub to_goal-requires-clause-first : goal.to_goal-requires-clause-first
 to_goal-requires-clause-first g c = λ more. refl

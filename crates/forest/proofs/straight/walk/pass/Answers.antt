@@ -22,7 +22,7 @@ pub pass_by_key-requires-clause-told : goal.pass_by_key-requires-clause-told
 pass_by_key-requires-clause-told g c = c.requires.told
 
 pub returns-clause-down : goal.returns-clause-down
-returns-clause-down g c = λ w turn x. rw c.open_side.ensures (to_open w _ c.args.way c.args.goal c.args.trail turn c.args.at c.args.word (head_of c.args.word) c.requires.place refl (sym c.is_leaf.ensures ∙ c.if-is_leaf.false) (sym c.asks_key.ensures ∙ c.if-asks_key.false) x)
+returns-clause-down g c = λ w turn x. rw c.open_side.ensures (to_open w _ c.args.way c.args.goal c.args.trail turn c.args.at c.args.word (head_of c.args.word) c.requires.place refl (sym c.is_leaf.ensures ∙ c.if-is_leaf.false) (sym c.asks_key.ensures ∙ c.if-asks_key.false) c.counts_above.result c.counts_above.ensures x)
 
 pub end-requires-clause-first : goal.end-requires-clause-first
 end-requires-clause-first g c = c.requires.first

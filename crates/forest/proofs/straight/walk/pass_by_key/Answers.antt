@@ -29,4 +29,5 @@ returns-then-ends_at-clause-finds g c = λ w turn x. rw c.of-head.ensures (finds
 pub returns-clause-down : goal.returns-clause-down
 returns-clause-down g c = λ w turn x. to_side w _ c.args.way c.args.goal c.args.trail turn (head_of c.args.word) c.read-key.result c.side_of.result
     (subst (EndsAt (way_from c.args.way c.args.goal) c.read-key.result) c.if-ends_at.false c.ends_at.ensures.ends) c.side_of.ensures
+    c.counts_below.result c.counts_below.ensures
     (told g (goal.at.returns-clause-down g c).After-read-key w turn x)

@@ -9,8 +9,8 @@ use Rattle.template.specs.Walk.Places.{way_at, LoadsHead}
 use Rattle.template.specs.Walk.Steps.{room}
 use Rattle.forest.proofs.straight.walk.to_goal.Given as goal
 
-abbrev pub invariant-loop-side : goal.invariant-loop-side
-invariant-loop-side g l = record {
+abbrev pub invariant-loop-to : goal.invariant-loop-to
+invariant-loop-to g l = record {
   here : (l.seat.table_id ≡ l.fn.seat.table_id) × (l.seat.me.1 ≡ l.fn.seat.me.1);
   place : LoadsHead l.at;
   start : l.start ≡ node_start l.trail.node;
@@ -20,5 +20,5 @@ invariant-loop-side g l = record {
       → WalkerWaits w l.seat.me.0.passes (way_at l.way l.goal l.trail l.at) l.turns (load LoadSettled (node l.trail.node.0 (Settled Head)));
 }
 
-abbrev pub decreases-loop-side : goal.decreases-loop-side
-decreases-loop-side g l = walk_left l.at (room l.way (shared_nodes l.fn.hand.layout.now))
+abbrev pub decreases-loop-to : goal.decreases-loop-to
+decreases-loop-to g l = walk_left l.at (room l.way (shared_nodes l.fn.hand.layout.now))

@@ -1,0 +1,4 @@
+use Rattle.forest.proofs.straight.walk.shares_key.Goals as goal
+
+pub returns-in-Key : goal.returns-in-Key
+returns-in-Key g c = (g.in-Key.wanted, g.in-Key.is, λ level is. (g.shares.ensures level is).0 c)
