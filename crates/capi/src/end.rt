@@ -7,9 +7,10 @@ ghost use Rattle.capi.specs.Left.{AreLeftByAll};
 ghost use Rattle.capi.specs.Made.{IsHeldOf};
 ghost use Rattle.capi.specs.Ends.{AreHeld, AreOfOne, HaveEndedWith, IsEmpty, IsIn, held_in, pass_in};
 
+use crate::client::OwnedPass;
 use crate::handle::{Handle, HandleSlot};
-use crate::held::{Held, Kind, Numbers};
-use regnubas::{ByBits, ByOrder, Forest, NoMemory, Pass};
+use crate::held::{Held, Numbers};
+use regnubas::{ByBits, ByOrder, FixedBalance, Forest, NoMemory, Pass};
 use std::alloc::Global;
 use std::sync::Arc;
 
@@ -39,9 +40,9 @@ pub(crate) fn end(alloc: Global, passes: &mut [HandleSlot]) -> Option<Vec<(u64, 
     ensures left { IfSome result (λ pairs. HaveEndedWith (held_in passes.old) pairs.items) }
 {
     if are_of_trie(alloc, passes) {
-        end_of::<ByBits>(alloc, passes)
+        end_trie(alloc, passes)
     } else {
-        end_of::<ByOrder>(alloc, passes)
+        end_tree(alloc, passes)
     }
 }
 
@@ -56,14 +57,25 @@ fn are_of_trie(alloc: Global, passes: &mut [HandleSlot]) -> bool
     trie
 }
 
-/// The same of a dictionary of this kind.
-fn end_of<B: Kind>(alloc: Global, passes: &mut [HandleSlot]) -> Option<Vec<(u64, u128)>>
+/// The same of a tree.
+fn end_tree(alloc: Global, passes: &mut [HandleSlot]) -> Option<Vec<(u64, u128)>>
     requires { AreOfOne (held_in passes.old) }
     ensures empty { All IsEmpty (held_in passes.new) }
     ensures left { IfSome result (λ pairs. HaveEndedWith (held_in passes.old) pairs.items) }
 {
     let places = take_out(alloc, passes)?;
-    let (forest, passes) = gather::<B>(alloc, places)?;
+    let (forest, passes) = gather_tree(alloc, places)?;
+    end_by_all(alloc, forest, passes)
+}
+
+/// The same of a trie.
+fn end_trie(alloc: Global, passes: &mut [HandleSlot]) -> Option<Vec<(u64, u128)>>
+    requires { AreOfOne (held_in passes.old) }
+    ensures empty { All IsEmpty (held_in passes.new) }
+    ensures left { IfSome result (λ pairs. HaveEndedWith (held_in passes.old) pairs.items) }
+{
+    let places = take_out(alloc, passes)?;
+    let (forest, passes) = gather_trie(alloc, places)?;
     end_by_all(alloc, forest, passes)
 }
 
@@ -105,24 +117,27 @@ fn leave_all(alloc: Global, passes: &mut [HandleSlot])
     }
 }
 
-/// The passes that these handles hold, and their forest, which nobody else shares.
-fn gather<B: Kind>(alloc: Global, places: Vec<HandleSlot>) -> Option<(Forest<Numbers<B>>, Vec<Pass<Numbers<B>>>)>
+/// The passes of a tree that these handles hold, and their forest, which nobody else shares.
+fn gather_tree(
+    alloc: Global,
+    places: Vec<HandleSlot>,
+) -> Option<(Forest<Numbers<ByOrder>>, Vec<Pass<Numbers<ByOrder>>>)>
     requires { AreOfOne (held_in places.items) }
     ensures of { IfSome result (λ r. All (IsOf r.0) r.1.items) }
     ensures are { IfSome result (λ r. map pass_in (held_in places.items) ≡ map Some r.1.items) }
 {
-    let (owner, passes) = take_apart(alloc, places)?;
+    let (owner, passes) = take_tree(alloc, places)?;
     match Arc::try_unwrap(owner?) {
         Ok(forest) => Some((forest, passes)),
         Err(_) => None,
     }
 }
 
-/// The passes that these handles hold, and the last one's owner of the forest.
-fn take_apart<B: Kind>(
+/// The passes of a tree that these handles hold, and the last one's owner of the forest.
+fn take_tree(
     alloc: Global,
     places: Vec<HandleSlot>,
-) -> Option<(Option<Arc<Forest<Numbers<B>>>>, Vec<Pass<Numbers<B>>>)>
+) -> Option<(Option<Arc<Forest<Numbers<ByOrder>>>>, Vec<Pass<Numbers<ByOrder>>>)>
     ensures are { IfSome result (λ r. map pass_in (held_in places.items) ≡ map Some r.1.items) }
     ensures owner { IfSome result (λ r. (f : Ground) → All (IsIn f) (held_in places.items) → IfSome r.0 (λ a. arc_value a ≡ f)) }
 {
@@ -133,7 +148,54 @@ fn take_apart<B: Kind>(
         let Some(client) = handle.into_box() else {
             return None;
         };
-        let Some(held) = B::held_by(Box::into_inner(client)) else {
+        let OwnedPass::Tree(held) = Box::into_inner(client) else {
+            return None;
+        };
+        let Held {
+            forest,
+            pass,
+            all: _,
+        } = held;
+        let Ok(()) = passes.push(pass) else {
+            return None;
+        };
+        owner = Some(forest);
+    }
+    Some((owner, passes))
+}
+
+/// The passes of a trie that these handles hold, and their forest, which nobody else shares.
+fn gather_trie(
+    alloc: Global,
+    places: Vec<HandleSlot>,
+) -> Option<(Forest<Numbers<ByBits>>, Vec<Pass<Numbers<ByBits>>>)>
+    requires { AreOfOne (held_in places.items) }
+    ensures of { IfSome result (λ r. All (IsOf r.0) r.1.items) }
+    ensures are { IfSome result (λ r. map pass_in (held_in places.items) ≡ map Some r.1.items) }
+{
+    let (owner, passes) = take_trie(alloc, places)?;
+    match Arc::try_unwrap(owner?) {
+        Ok(forest) => Some((forest, passes)),
+        Err(_) => None,
+    }
+}
+
+/// The passes of a trie that these handles hold, and the last one's owner of the forest.
+fn take_trie(
+    alloc: Global,
+    places: Vec<HandleSlot>,
+) -> Option<(Option<Arc<Forest<Numbers<ByBits>>>>, Vec<Pass<Numbers<ByBits>>>)>
+    ensures are { IfSome result (λ r. map pass_in (held_in places.items) ≡ map Some r.1.items) }
+    ensures owner { IfSome result (λ r. (f : Ground) → All (IsIn f) (held_in places.items) → IfSome r.0 (λ a. arc_value a ≡ f)) }
+{
+    let mut passes = Vec::new(alloc);
+    let mut owner = None;
+    for place in places {
+        let HandleSlot { handle, unused: _ } = place;
+        let Some(client) = handle.into_box() else {
+            return None;
+        };
+        let OwnedPass::Trie(held) = Box::into_inner(client) else {
             return None;
         };
         let Held {
@@ -150,7 +212,7 @@ fn take_apart<B: Kind>(
 }
 
 /// Ends a forest by its passes, if all are there, and answers its pairs.
-fn end_by_all<B: Kind>(
+fn end_by_all<B: FixedBalance>(
     alloc: Global,
     forest: Forest<Numbers<B>>,
     passes: Vec<Pass<Numbers<B>>>,

@@ -24,9 +24,8 @@ use crate::answer::{
 use crate::client::Closing;
 use crate::end::{all_of, end};
 use crate::handle::HandleSlot;
-use crate::held::Kind;
 use crate::open::open;
-use regnubas::{ByBits, ByOrder, Limits, NewFault};
+use regnubas::{Limits, NewFault};
 use std::alloc::Global;
 
 /// Makes a dictionary with as many passes as there are handles, one for each.
@@ -34,7 +33,7 @@ use std::alloc::Global;
 pub extern "C" fn regnubas_make(alloc: Global, each: PassLimits, passes: &mut [HandleSlot]) -> u32
     ensures { MakeSays Tree each passes.old passes.new result }
 {
-    make::<ByOrder>(alloc, each, passes)
+    make(alloc, each, passes, false)
 }
 
 /// The same of a trie.
@@ -46,12 +45,12 @@ pub extern "C" fn regnubas_make_trie(
 ) -> u32
     ensures { MakeSays Trie each passes.old passes.new result }
 {
-    make::<ByBits>(alloc, each, passes)
+    make(alloc, each, passes, true)
 }
 
-/// Makes a dictionary of this kind.
-fn make<B: Kind>(alloc: Global, each: PassLimits, passes: &mut [HandleSlot]) -> u32
-    ensures { MakeSays (map_mode (B.trie B.the)) each passes.old passes.new result }
+/// Makes a dictionary, a trie or a tree.
+fn make(alloc: Global, each: PassLimits, passes: &mut [HandleSlot], trie: bool) -> u32
+    ensures { MakeSays (map_mode trie) each passes.old passes.new result }
 {
     if passes.len() > 32 {
         return LIMITS;
@@ -62,7 +61,7 @@ fn make<B: Kind>(alloc: Global, each: PassLimits, passes: &mut [HandleSlot]) -> 
         scx: each.scx,
         tries: each.tries,
     };
-    match open::<B>(alloc, limits) {
+    match open(alloc, limits, trie) {
         Ok(mut places) => {
             passes.swap_with_slice(&mut places);
             NONE

@@ -1,11 +1,9 @@
 //! A pass of a tree or of a trie, as its type says.
-ghost use Rattle.std.specs.Prelude.{◌≡◌, IfSome};
+ghost use Rattle.std.specs.Prelude.{◌≡◌};
 ghost use Rattle.std.specs.Arc.{arc_value};
 ghost use Rattle.forest.specs.Passes.{IsOf};
-ghost use Rattle.capi.specs.Owned.{owner_of, pass_of};
 
-use crate::client::OwnedPass;
-use regnubas::{ByBits, ByOrder, Dict, FixedBalance, Forest, NoMemory, Pass};
+use regnubas::{Dict, FixedBalance, Forest, NoMemory, Pass};
 use std::alloc::Global;
 use std::sync::Arc;
 
@@ -21,45 +19,6 @@ pub struct Held<B: FixedBalance> {
     pub(crate) all: u32,
     ghost of: { IsOf (arc_value forest) pass },
     ghost counted: { all ≡ (arc_value forest).layout.passes },
-}
-
-/// A tree or a trie: how a client holds its passes.
-pub(crate) trait Kind: FixedBalance {
-    /// The client that holds this.
-    fn client(held: Held<Self>) -> OwnedPass
-        ensures owner { owner_of result ≡ held.forest }
-        ensures pass { pass_of result ≡ held.pass };
-
-    /// What a client holds, if it is of this kind.
-    fn held_by(client: OwnedPass) -> Option<Held<Self>>
-        ensures owner { IfSome result (λ held. held.forest ≡ owner_of client) }
-        ensures pass { IfSome result (λ held. held.pass ≡ pass_of client) };
-}
-
-impl Kind for ByOrder {
-    fn client(held: Held<ByOrder>) -> OwnedPass {
-        OwnedPass::Tree(held)
-    }
-
-    fn held_by(client: OwnedPass) -> Option<Held<ByOrder>> {
-        match client {
-            OwnedPass::Tree(held) => Some(held),
-            OwnedPass::Trie(_) => None,
-        }
-    }
-}
-
-impl Kind for ByBits {
-    fn client(held: Held<ByBits>) -> OwnedPass {
-        OwnedPass::Trie(held)
-    }
-
-    fn held_by(client: OwnedPass) -> Option<Held<ByBits>> {
-        match client {
-            OwnedPass::Trie(held) => Some(held),
-            OwnedPass::Tree(_) => None,
-        }
-    }
 }
 
 impl<B: FixedBalance> Held<B> {

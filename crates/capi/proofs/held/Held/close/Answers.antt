@@ -29,7 +29,7 @@ module _ (f : Ground) (p : PassView) (of : IsOf f p) (words : Contents) (closed 
   }
 
 pub returns-in-Ok-pairs : goal.returns-in-Ok-pairs
-returns-in-Ok-pairs c =
+returns-in-Ok-pairs g c =
     let f = c.in-Ok.forest in
     let p = c.args.self.pass in
     left f p (subst (λ (g : Ground). IsOf g p) (sym c.in-Ok.ensures.ok) c.args.self.of) c.end.result c.end.ensures.closed c.in-Ok-pairs.pairs.items (c.in-Ok-pairs.ensures.pairs f.layout (p ∷ []) c.end.ensures.closed)
