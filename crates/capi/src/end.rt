@@ -137,7 +137,12 @@ fn gather_tree(
 fn take_tree(
     alloc: Global,
     places: Vec<HandleSlot>,
-) -> Option<(Option<Arc<Forest<Numbers<ByOrder>>>>, Vec<Pass<Numbers<ByOrder>>>)>
+) -> Option<
+    (
+        Option<Arc<Forest<Numbers<ByOrder>>>>,
+        Vec<Pass<Numbers<ByOrder>>>,
+    ),
+>
     ensures are { IfSome result (λ r. map pass_in (held_in places.items) ≡ map Some r.1.items) }
     ensures owner { IfSome result (λ r. (f : Ground) → All (IsIn f) (held_in places.items) → IfSome r.0 (λ a. arc_value a ≡ f)) }
 {
@@ -184,7 +189,12 @@ fn gather_trie(
 fn take_trie(
     alloc: Global,
     places: Vec<HandleSlot>,
-) -> Option<(Option<Arc<Forest<Numbers<ByBits>>>>, Vec<Pass<Numbers<ByBits>>>)>
+) -> Option<
+    (
+        Option<Arc<Forest<Numbers<ByBits>>>>,
+        Vec<Pass<Numbers<ByBits>>>,
+    ),
+>
     ensures are { IfSome result (λ r. map pass_in (held_in places.items) ≡ map Some r.1.items) }
     ensures owner { IfSome result (λ r. (f : Ground) → All (IsIn f) (held_in places.items) → IfSome r.0 (λ a. arc_value a ≡ f)) }
 {

@@ -3,8 +3,7 @@ ghost use Rattle.std.specs.Prelude.{◌≡◌};
 ghost use Rattle.std.specs.Arc.{arc_value};
 ghost use Rattle.forest.specs.Passes.{IsOf};
 
-use regnubas::{Dict, FixedBalance, Forest, NoMemory, Pass};
-use std::alloc::Global;
+use regnubas::{Dict, FixedBalance, Forest, Pass};
 use std::sync::Arc;
 
 /// A dictionary from numbers of 64 bits to numbers of 128, a tree or by `B` a trie.
@@ -19,22 +18,4 @@ pub struct Held<B: FixedBalance> {
     pub(crate) all: u32,
     ghost of: { IsOf (arc_value forest) pass },
     ghost counted: { all ≡ (arc_value forest).layout.passes },
-}
-
-impl<B: FixedBalance> Held<B> {
-    ghost use Rattle.capi.specs.Left.{IsClosingOf};
-
-    /// Ends the forest, if this is its last client.
-    pub(crate) fn close(self, alloc: Global) -> Result<Option<Vec<(u64, u128)>>, Held<B>>
-        ensures { IsClosingOf self result }
-    {
-        let Held { forest, pass, all } = self;
-        match Arc::try_unwrap(forest) {
-            Ok(forest) => match forest.end(pass).pairs(alloc) {
-                Ok(pairs) => Ok(Some(pairs)),
-                Err(NoMemory) => Ok(None),
-            },
-            Err(forest) => Err(Held { forest, pass, all }),
-        }
-    }
 }

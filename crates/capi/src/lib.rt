@@ -4,6 +4,7 @@
 
 mod answer;
 mod client;
+mod close;
 mod end;
 mod exports;
 mod handle;

@@ -127,7 +127,11 @@ fn ask<B: FixedBalance>(
 
 /// Adds one to the value of the key 0, and answers what it was. If another thread has changed it
 /// meanwhile, or was in the way, it is read again.
-fn count_up<B: FixedBalance>(alloc: Global, forest: &Forest<Numbers<B>>, pass: &mut Pass<Numbers<B>>) -> Out
+fn count_up<B: FixedBalance>(
+    alloc: Global,
+    forest: &Forest<Numbers<B>>,
+    pass: &mut Pass<Numbers<B>>,
+) -> Out
     requires { IsOf forest.now pass.old }
     ensures { IsOf forest.now pass.new }
 {
@@ -142,7 +146,12 @@ fn count_up<B: FixedBalance>(alloc: Global, forest: &Forest<Numbers<B>>, pass: &
 }
 
 /// Puts in the key after the window's last, and takes out its first once there are enough.
-fn move_window<B: FixedBalance>(alloc: Global, forest: &Forest<Numbers<B>>, pass: &mut Pass<Numbers<B>>, round: u64) -> Out
+fn move_window<B: FixedBalance>(
+    alloc: Global,
+    forest: &Forest<Numbers<B>>,
+    pass: &mut Pass<Numbers<B>>,
+    round: u64,
+) -> Out
     requires { IsOf forest.now pass.old }
     ensures { IsOf forest.now pass.new }
 {
@@ -170,7 +179,11 @@ fn is_window(pairs: &[(u64, u64)]) -> bool {
 }
 
 /// Looks at the window, and answers how many keys it has seen. A look that is refused sees nothing.
-fn see_window<B: FixedBalance>(alloc: Global, forest: &Forest<Numbers<B>>, pass: &mut Pass<Numbers<B>>) -> Out
+fn see_window<B: FixedBalance>(
+    alloc: Global,
+    forest: &Forest<Numbers<B>>,
+    pass: &mut Pass<Numbers<B>>,
+) -> Out
     requires { IsOf forest.now pass.old }
     ensures { IsOf forest.now pass.new }
 {
@@ -193,7 +206,12 @@ fn mixed(value: u64) -> Call<u64, u64> {
 
 /// Puts in a key where it is absent, with this thread's value of it, which is answered if it was.
 /// If it was not, the key had the value of another thread.
-fn put_new<B: FixedBalance>(alloc: Global, forest: &Forest<Numbers<B>>, pass: &mut Pass<Numbers<B>>, key: u64) -> Out
+fn put_new<B: FixedBalance>(
+    alloc: Global,
+    forest: &Forest<Numbers<B>>,
+    pass: &mut Pass<Numbers<B>>,
+    key: u64,
+) -> Out
     requires { IsOf forest.now pass.old }
     ensures { IsOf forest.now pass.new }
 {
@@ -598,12 +616,7 @@ const RACES: [Race; 7] = [
 ];
 
 /// Two schedulers' threads.
-const SCHEDULE: Race = (
-    2,
-    [NOTHING, Work::Schedule],
-    Left::Many(WAITING),
-    Come::Sum,
-);
+const SCHEDULE: Race = (2, [NOTHING, Work::Schedule], Left::Many(WAITING), Come::Sum);
 
 /// Each of these races on a dictionary of this kind is as it is to be.
 fn races_are_right<R: Threads + Sync + Abort, B: FixedBalance + Send + Sync>(
