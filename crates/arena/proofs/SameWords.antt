@@ -20,7 +20,7 @@ side_same Left Left e = refl
 side_same Right Right e = refl
 side_same _ _ e = cc
 
-slot_same : (a b : Slot) → eqb (slot_no a) (slot_no b) ≡ true → a ≡ b
+pub slot_same : (a b : Slot) → eqb (slot_no a) (slot_no b) ≡ true → a ≡ b
 slot_same First First e = refl
 slot_same Second Second e = refl
 slot_same Third Third e = refl

@@ -13,7 +13,7 @@ is_map Records = false
 abbrev pub IsMap : Mode → Type 0
 IsMap mode = is_map mode ≡ true
 
--- how many nodes are there from the start: the three of an empty map and those that are planted with
--- its first pairs, or node 0 and the cells 1 to 8
+-- how many nodes are there from the start: the three of an empty map and those that are planted
+-- with its first pairs, or node 0 and the cells 1 to 8
 abbrev pub nodes_at_start : Mode → ℕ → ℕ
 nodes_at_start mode planted = if is_map mode then 3 + planted else 9

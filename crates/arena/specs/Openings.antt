@@ -13,8 +13,8 @@ use Rattle.arena.specs.declared.word.Word.TheVariants.{Node, Scx}
 use Rattle.arena.specs.Opening.{is_map, nodes_at_start}
 use Rattle.arena.specs.Words.{node, scx, info, marked, child}
 
--- what a word holds at the start in an empty map: node 0 is a root of class 2, over a leaf of class 1
--- on its left and a leaf of class 2 on its right; the dummy is aborted; all else is 0
+-- what a word holds at the start in an empty map: node 0 is a root of class 2, over a leaf of class
+-- 1 on its left and a leaf of class 2 on its right; the dummy is aborted; all else is 0
 abbrev pub tree_opening : Word → ℕ
 tree_opening (Node n (Settled Head)) =
     if n.0 == 0 then 2
@@ -40,7 +40,8 @@ pub record Opening : Type 0 where
   pub mode : Mode
   pub pairs : List (ℕ × ℕ)
   pub planted : ℕ
-  -- how many of the planted nodes count as taken: as many as the tree has levels more than an empty one
+  -- how many of the planted nodes count as taken: as many as the tree has levels more than an empty
+  -- one
   pub deep : ℕ
   pub words : Word → ℕ
   pub few : nodes_at_start mode 0 + deep ≤ nodes_at_start mode planted

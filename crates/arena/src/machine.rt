@@ -87,9 +87,11 @@ pub trait Machine<S: Shape> {
     fn next(&mut self, got: Option<u64>) -> Turn<Self::Answer>
         ensures turn { (c : Call) (h : History) → IsRun S.allows c.layout h → ready self.old c h got
             → MatchTurn result (waits self.new c h) (answers self.new c h) }
-        ensures begins { got ≡ None → asks_first self.old → (c : Call) (h : History) → ready self.old c h None → MatchTurn result (λ _. Unit {0}) (λ _. ⊥) }
+        ensures begins { got ≡ None → asks_first self.old → (c : Call) (h : History) →
+            ready self.old c h None → MatchTurn result (λ _. Unit {0}) (λ _. ⊥) }
         ensures same { same self.old self.new }
-        ensures nearer { (nodes : ℕ) → fits self.old got nodes → MatchTurn result (λ _. left self.new nodes < left self.old nodes) (λ _. Unit {0}) };
+        ensures nearer { (nodes : ℕ) → fits self.old got nodes →
+            MatchTurn result (λ _. left self.new nodes < left self.old nodes) (λ _. Unit {0}) };
 
     /// Rows of others leave it waiting.
     ghost keeps: { (m : Self) (c : Call) (h : History) (s : Step) (r : Row) → IsRun S.allows c.layout (r ⊳ h) → r.pass.0 ≢ c.pass

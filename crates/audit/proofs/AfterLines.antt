@@ -1,5 +1,5 @@
 -- What is remembered of each client stays what the lines say.
-use Rattle.std.proofs.Common.{◌≡◌, ◌≢◌, ℕ, zero, suc, ◌+◌, ◌<◌, eq-eqb, List, [], ◌∷◌, ◌++◌, ◌⊎◌, inl, inr, ⊎_elim, length, set, drop, slice_get, unwrap_or, Option, Some, None, refl, sym, ◌∙◌, ap, subst, add-one, arith}
+use Rattle.std.proofs.Common.{◌≡◌, ◌≢◌, ℕ, zero, suc, ◌+◌, eq-eqb, List, [], ◌∷◌, ◌++◌, ◌⊎◌, inl, inr, ⊎_elim, length, set, drop, slice_get, unwrap_or, Option, Some, None, refl, sym, ◌∙◌, ap, subst, add-one}
 use Rattle.std.proofs.lemmas.List.{length_push}
 use native.Mathlib.Decide.{ℕ_discrete}
 use Rattle.std.proofs.lemmas.Bool.{ne_eqb}
@@ -10,28 +10,11 @@ use Rattle.record.specs.declared.record.Line.TheVariants.{Step, Log, Reply as Re
 use Rattle.record.specs.declared.record.TurnRow.TheVariants.{Step as Made, Idle}
 use Rattle.record.specs.declared.record.Entry.{Entry}
 use Rattle.record.specs.declared.record.Finished.{Finished}
+use Rattle.record.proofs.Lemmas.{get_other, get_own}
 use Rattle.audit.specs.Calls.{StandsNext}
 use Rattle.audit.specs.After.{IsClientAfter, AreClientsAfter}
 use Rattle.audit.specs.declared.client.ClientState.{ClientState}
 use Rattle.audit.proofs.NextCalls.{next_place}
-
-get_other : {X : Type 0} (xs : List X) (i j : ℕ) (new : X) → j ≢ i → slice_get (set xs i new) j ≡ slice_get xs j
-get_other [] i j new d = refl
-get_other (x ∷ xs) zero zero new d = absurd (d refl)
-get_other (x ∷ xs) zero (suc j) new d = refl
-get_other (x ∷ xs) (suc i) zero new d = refl
-get_other (x ∷ xs) (suc i) (suc j) new d = get_other xs i j new (λ e. d (ap suc e))
-
-pub get_own : {X : Type 0} (xs : List X) (i : ℕ) (old new : X) → slice_get xs i ≡ Some old → slice_get (set xs i new) i ≡ Some new
-get_own [] i old new e = absurd cc
-get_own (x ∷ xs) zero old new e = refl
-get_own (x ∷ xs) (suc i) old new e = get_own xs i old new e
-
--- there is one at each place
-pub get_there : {X : Type 0} (xs : List X) (i : ℕ) → i < length xs → (x : X) × (slice_get xs i ≡ Some x)
-get_there [] i p = absurd (omega arith)
-get_there (x ∷ xs) zero p = (x, refl)
-get_there (x ∷ xs) (suc i) p = get_there xs i (omega arith)
 
 some_client : (a b : ClientState) → Some a ≡ Some b → a ≡ b
 some_client a b e = cc

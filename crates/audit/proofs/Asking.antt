@@ -12,8 +12,8 @@ use Rattle.audit.specs.Asked.{IsAsked}
 use Rattle.audit.specs.Edits.{ShowsTree}
 use Rattle.audit.specs.declared.client.ClientState.{ClientState}
 use Rattle.audit.specs.declared.run.Replay.{Replay}
-use Rattle.audit.proofs.MapLines.{AreOf, map_calls}
 use Rattle.ordered_map.proofs.MapLemmas.{run_spells}
+use Rattle.record.proofs.Lemmas.{AreOf, map_calls}
 
 -- the words that the judge knows show a tree
 pub shows_tree : (run : Replay) → Remembers run (lines_of run) → IsMap (layout_of run).mode → ShowsTree (seen_history run.steps.judge)

@@ -3,12 +3,12 @@ use Rattle.std.proofs.Common.{◌≡◌, ℕ, ◌<◌, List, length, slice_get, 
 use Rattle.histories.specs.Common.{Layout, Row, NodeWord, Child, Side, Left, Word, Node, Scx, IsOwnNode, History, value, IsWin, entry, member, plan, new, field_index, side_of, node, child, first_value}
 use Rattle.record.specs.Common.{Call, Vlx, CellList, cells_of, next_command, linked, history, begin, start, IsEntryOver}
 use Rattle.record.specs.declared.record.Line.{Line}
+use Rattle.record.proofs.Lemmas.{get_there}
 use Rattle.judge.specs.Histories.{seen_history}
 use Rattle.audit.specs.CellCalls.{IsOverCells, IsFreshWith, IsCallSeen, AreSameAt}
 use Rattle.audit.specs.Remembered.{AreStepsOf, AreSnapshotsOf, AreRemembered}
 use Rattle.audit.specs.declared.memory.Memory.{Memory}
 use Rattle.audit.specs.declared.steps.Steps.{Steps}
-use Rattle.audit.proofs.AfterLines.{get_there}
 
 abbrev node_in : Word → ℕ
 node_in (Node n part) = n.0

@@ -22,8 +22,9 @@ use Rattle.record.specs.Entries.{IsLog}
 use Rattle.record.specs.LawfulRun.{IsWhole}
 use Rattle.record.specs.Replies.{IsReply}
 use Rattle.record.specs.Steps.{IsStep, IsIdleTurn, SaysItsCall}
+use Rattle.record.proofs.Lemmas.{get_there}
 use Rattle.audit.specs.Calls.{StandsNext}
-use Rattle.audit.proofs.AfterLines.{idle_clients, log_clients, ended_clients, AreStepped, stepped_clients, unwon_clients, won_clients, get_there}
+use Rattle.audit.proofs.AfterLines.{idle_clients, log_clients, ended_clients, AreStepped, stepped_clients, unwon_clients, won_clients}
 use Rattle.judge.specs.Histories.{Judged, seen_history}
 use Rattle.audit.specs.After.{IsAfter, IsSoFar, IsClientAfter, AreClientsAfter, lines_of, layout_of, tries_of, calls_of, is_idle, pass_number, IsMapAfter, AreRememberedAfter, Remembers}
 use Rattle.audit.specs.declared.client.ClientState.{ClientState}

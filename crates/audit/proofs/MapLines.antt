@@ -1,10 +1,9 @@
 -- What is remembered of the map stays what the lines say.
-use Rattle.std.proofs.Common.{◌≡◌, ℕ, zero, suc, Bool, true, false, cond, eqb, List, [], ◌∷◌, Some, None, Option, IfSome, IsSome, slice_get, set, replicate, All, refl, sym, ◌∙◌, ap, subst, arith, inl}
-use Rattle.std.proofs.lemmas.List.Elements.{All-tail}
+use Rattle.std.proofs.Common.{◌≡◌, ℕ, zero, suc, true, List, [], ◌∷◌, Some, None, Option, IfSome, IsSome, slice_get, set, replicate, refl, sym, ◌∙◌, ap, subst, arith, inl}
 use Rattle.arena.specs.Opening.{IsMap, is_map}
 use Rattle.arena.specs.declared.limits.Mode.TheVariants.{Trie}
 use Rattle.histories.specs.Common.{Mode, Tree, Records, Layout, PassNo, Row as StepRow, History, ◌⊳◌, value, Lawful, IsLawful, IsWin, Entry as Entered, IsRun, Shaped, IsBegin}
-use Rattle.record.specs.Common.{HasRisingLevels, TreeAllows, Pair, MapCall, Spells, map_request, Call, Command, Llx as LlxOf, Scx as ScxOf, Vlx as VlxOf, Set as SetOf, Map, IsOfMode, asks_map}
+use Rattle.record.specs.Common.{HasRisingLevels, TreeAllows, Pair, Spells, map_request, Call, Command, Map, IsOfMode, asks_map}
 use Rattle.record.specs.Common.{IsEntryFor, commands, next_command, IsWinOf, AreLines, map_call, map_call_of, map_of, written_log, AreSpelled, IsSpelledAfter, history, answered, entry_owed}
 use Rattle.record.specs.declared.record.Line.{Line}
 use Rattle.record.specs.declared.record.Line.TheVariants.{Step, Log, Reply as ReplyLine}
@@ -13,7 +12,7 @@ use Rattle.record.specs.declared.record.Entry.{Entry}
 use Rattle.record.specs.declared.record.Finished.{Finished}
 use Rattle.record.specs.LawfulRun.{IsWhole}
 use Rattle.record.specs.Legal.{IsLegal}
-use Rattle.record.proofs.Lemmas.{AreMapCalls, lawful_is_legal}
+use Rattle.record.proofs.Lemmas.{lawful_is_legal, AreOf, map_calls, of_commands}
 use Rattle.linearization.specs.declared.places.Change.{Change}
 use Rattle.linearization.specs.Entries.{IsChangeBy}
 use Rattle.linearization.proofs.Lemmas.{are_spelled, change_of_newest}
@@ -24,37 +23,6 @@ use Rattle.audit.specs.declared.edits.BegunEdit.{BegunEdit}
 use Rattle.audit.specs.Trees.{IsMapSoFar, IsTreeSoFar, HasChangedBy}
 use Rattle.ordered_map.specs.Runs.{IsMapRun}
 use Rattle.audit.proofs.TreeLines.{tree_idle, tree_reply, tree_log, tree_step, edits_kept, edits_set, edit_allowed, edit_entry, change_made, begun_before_win}
-
--- what holds of the command of each call holds of each command of a client
-pub of_commands : (P : Command → Type 0) (calls : List Call) (c n : ℕ) (command : Command) → All (λ (call : Call). P call.command) calls → slice_get (commands calls c) n ≡ Some command → P command
-of_commands P [] c n command all e = absurd (let z : None ≡ Some command = e in cc)
-of_commands P (call ∷ calls) c n command all e = go (λ i d. of_commands P calls c i command rest d) (eqb call.client.0 c) n e
-  where
-    first : P call.command
-    first = all 0 call (omega arith)
-
-    rest : All (λ (k : Call). P k.command) calls
-    rest = All-tail (λ (k : Call). P k.command) call calls all
-
-    go : ((i : ℕ) → slice_get (commands calls c) i ≡ Some command → P command) → (b : Bool) (n : ℕ) → slice_get (cond b (call.command ∷ commands calls c) (commands calls c)) n ≡ Some command → P command
-    go more false n d = more n d
-    go more true zero d = let same : call.command ≡ command = cc in subst P same first
-    go more true (suc n) d = more n d
-
--- each call has a command of this mode
-abbrev pub AreOf : Mode → List Call → Type 0
-AreOf mode calls = All (λ (call : Call). IsOfMode mode call.command) calls
-
--- all calls of a map's mode are of the map
-pub map_calls : (mode : Mode) (calls : List Call) → IsMap mode → AreOf mode calls → AreMapCalls calls
-map_calls mode calls e all c j command is = go command (of_commands (IsOfMode mode) calls c j command all is ∙ e)
-  where
-    go : (command : Command) → asks_map command ≡ true → (call : MapCall) × (map_call (Some command) ≡ Some call)
-    go (Map request) e = (map_request request, refl)
-    go (LlxOf cell) e = cc
-    go (ScxOf update) e = cc
-    go (VlxOf cells) e = cc
-    go (SetOf field value) e = cc
 
 -- the next command of a client has the mode of all
 pub next_of_mode : (mode : Mode) (calls : List Call) (lines : List Line) (c : ℕ) (command : Command) → AreOf mode calls → next_command calls lines c ≡ Some command → IsOfMode mode command

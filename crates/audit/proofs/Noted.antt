@@ -19,13 +19,6 @@ use Rattle.audit.proofs.RowMoments.{rows_within}
 
 -- Lists with one place changed
 
-pub set_other : {X : Type 0} (xs : List X) (i j : ℕ) (new : X) → j ≢ i → slice_get (set xs i new) j ≡ slice_get xs j
-set_other [] i j new d = refl
-set_other (x ∷ xs) zero zero new d = absurd (d refl)
-set_other (x ∷ xs) zero (suc j) new d = refl
-set_other (x ∷ xs) (suc i) zero new d = refl
-set_other (x ∷ xs) (suc i) (suc j) new d = set_other xs i j new (λ e. d (ap suc e))
-
 same_some : {X : Type 0} (a b : X) → Some a ≡ Some b → a ≡ b
 same_some a b e = cc
 

@@ -13,7 +13,7 @@ use Rattle.record.specs.declared.record.Line.TheVariants.{Step, Log, Reply as Re
 use Rattle.record.specs.declared.record.TurnRow.TheVariants.{Step as Made, Idle}
 use Rattle.record.specs.CommandRules.{linked_then}
 use Rattle.judge.specs.Histories.{seen_history}
-use Rattle.record.proofs.Lemmas.{start_unbegun, start_kept}
+use Rattle.record.proofs.Lemmas.{start_unbegun, start_kept, get_other, get_there}
 use Rattle.audit.specs.declared.client.ClientState.{ClientState}
 use Rattle.audit.specs.declared.memory.Memory.{Memory}
 use Rattle.audit.specs.declared.steps.Steps.{Steps}
@@ -22,10 +22,9 @@ use Rattle.audit.specs.Calls.{command_at}
 use Rattle.audit.specs.CellCalls.{AreSameAt}
 use Rattle.audit.specs.Remembered.{row_count, AreSnapshotsOf, IsBegunWith, IsKept, AreStepsOf, IsMemoryOf, AreRemembered, AreRememberedInCall}
 use Rattle.audit.specs.Remembering.{IsNoted, IsRememberedFinal}
-use Rattle.audit.proofs.AfterLines.{get_there}
 use Rattle.audit.proofs.CountedTries.{no_tries}
 use Rattle.audit.proofs.NextCalls.{command_next}
-use Rattle.audit.proofs.Noted.{set_other, set_own, IsNewFinal, AreMore, steps_more, kept_more, kept_own, same_log_finals, same_log_stays, won_stays, won_finals}
+use Rattle.audit.proofs.Noted.{set_own, IsNewFinal, AreMore, steps_more, kept_more, kept_own, same_log_finals, same_log_stays, won_stays, won_finals}
 
 -- a call that had begun, or begins now
 abbrev IsBegunOf : Layout → List Call → List Line → ℕ → Memory → Type 0
@@ -63,9 +62,6 @@ module _ (lay : Layout) (calls : List Call) (lines : List Line) (all : Steps) wh
     memories = λ c m get. go c m get (ℕ_discrete pass.0 c);
   }
     where
-      began_at : ℕ → History → Memory → Type 0
-      began_at c at m = IsBegunWith lay (history lay.mode lines) at (linked calls lay.mode lines c) (next_command calls lines c) c m
-
       go : (c : ℕ) (m : Memory) → slice_get all.memories.items c ≡ Some m → Dec (pass.0 ≡ c) → IsMemoryOf lay calls (Step (Idle number pass) ∷ lines) c m
       go c m get (yes e) =
           let y = x.remembered.memories c m get in
@@ -166,7 +162,7 @@ module _ (old new : Steps) (pass : ℕ) (memory : Memory) (same : new ≡ record
   }
 
   put_other : (c : ℕ) → c ≢ pass → slice_get new.memories.items c ≡ slice_get old.memories.items c
-  put_other c d = ap (λ (ms : List Memory). slice_get ms c) put ∙ set_other old.memories.items pass c memory d
+  put_other c d = ap (λ (ms : List Memory). slice_get ms c) put ∙ get_other old.memories.items pass c memory d
 
   -- it is put where one was
   put_own : (m : Memory) → slice_get new.memories.items pass ≡ Some m → (m ≡ memory) × ((before : Memory) × (slice_get old.memories.items pass ≡ Some before))

@@ -7,23 +7,23 @@ use crate::keys::Keys;
 use crate::tally::{End, Tally, with_reply};
 use crate::task::Task;
 use crate::work::MapWork;
-use dict::Dict;
+use dict::{Dict, FixedBalance};
 use forest::{Forest, OrderFault, Pass, UpdateFault};
 use std::alloc::Global;
 
 /// A dictionary of numbers of one word.
-pub type Numbers = Dict<u64, u64>;
+pub type Numbers<B> = Dict<u64, u64, B>;
 
 /// The most pairs that a range may be asked for here.
 const MOST_PAIRS: usize = 64;
 
 /// All rounds of a thread.
-pub fn rounds(
+pub fn rounds<B: FixedBalance>(
     alloc: Global,
-    forest: &Forest<Numbers>,
+    forest: &Forest<Numbers<B>>,
     task: Task,
     work: MapWork,
-    mut pass: Pass<Numbers>,
+    mut pass: Pass<Numbers<B>>,
     mut keys: Keys,
 ) -> Tally
     requires { IsOf forest.now pass }
@@ -40,11 +40,11 @@ pub fn rounds(
 }
 
 /// A round, in which this pair may be put in.
-fn round(
+fn round<B: FixedBalance>(
     alloc: Global,
-    forest: &Forest<Numbers>,
+    forest: &Forest<Numbers<B>>,
     work: MapWork,
-    pass: &mut Pass<Numbers>,
+    pass: &mut Pass<Numbers<B>>,
     chance: u64,
     pair: (u64, u64),
     tally: &mut Tally,
@@ -76,9 +76,9 @@ fn round(
 }
 
 /// Looks a key up in `looks` of a hundred rounds; else puts it in or takes it out.
-fn mix(
-    forest: &Forest<Numbers>,
-    pass: &mut Pass<Numbers>,
+fn mix<B: FixedBalance>(
+    forest: &Forest<Numbers<B>>,
+    pass: &mut Pass<Numbers<B>>,
     chance: u64,
     pair: (u64, u64),
     looks: u64,
@@ -97,10 +97,10 @@ fn mix(
 }
 
 /// Takes the first pair out; a scheduler puts this one in.
-fn pop(
-    forest: &Forest<Numbers>,
+fn pop<B: FixedBalance>(
+    forest: &Forest<Numbers<B>>,
     work: MapWork,
-    pass: &mut Pass<Numbers>,
+    pass: &mut Pass<Numbers<B>>,
     pair: (u64, u64),
 ) -> Result<Option<u64>, UpdateFault>
     requires { IsOf forest.now pass.old }

@@ -11,18 +11,22 @@ use crate::tally::Tally;
 use crate::task::Task;
 use crate::work::MapWork;
 use arena::Limits;
+use dict::FixedBalance;
 use forest::{Forest, NewFault, Pass};
 use std::alloc::{AllocError, Global};
 use std::rt::Clock;
 use std::thread::{Threads, map_vec};
 
+/// A forest and its passes.
+type Opened<B> = (Forest<Numbers<B>>, Vec<Pass<Numbers<B>>>);
+
 /// Makes a dictionary and fills it, and lets the threads work in it.
-pub fn run<R: Threads + Sync + Clock + AllocGlobal>(
+pub fn run<R: Threads + Sync + Clock + AllocGlobal, B: FixedBalance + Send>(
     rt: &R,
     task: Task,
     work: MapWork,
 ) -> Result<Repetition, Fault> {
-    let (forest, passes) = open(rt.alloc(), task)?;
+    let (forest, passes) = open::<B>(rt.alloc(), task)?;
     let passes = fill_up(&forest, task, passes);
     let passes = numbered(rt.alloc(), &forest, passes)?;
     let start = now(rt)?;
@@ -36,7 +40,7 @@ pub fn run<R: Threads + Sync + Clock + AllocGlobal>(
 
 /// A dictionary with a pass for each thread, and after these the passes that fill it. Shares are
 /// whole ones.
-fn open(alloc: Global, task: Task) -> Result<(Forest<Numbers>, Vec<Pass<Numbers>>), Fault>
+fn open<B: FixedBalance>(alloc: Global, task: Task) -> Result<Opened<B>, Fault>
     ensures { IfOk result (λ r. All (IsOf r.0) r.1.items) }
 {
     let limits = Limits {
@@ -45,7 +49,7 @@ fn open(alloc: Global, task: Task) -> Result<(Forest<Numbers>, Vec<Pass<Numbers>
         scx: Limits::MOST_RECORDS,
         tries: Limits::MOST_TRIES,
     };
-    match Forest::<Numbers>::new(alloc, limits) {
+    match Forest::<Numbers<B>>::new(alloc, limits) {
         Ok(opened) => Ok(opened),
         Err(NewFault::NoMemory) => Err(Fault::NoMemory),
         Err(NewFault::Limits) => Err(Fault::Usage),
@@ -53,11 +57,11 @@ fn open(alloc: Global, task: Task) -> Result<(Forest<Numbers>, Vec<Pass<Numbers>
 }
 
 /// Puts the pairs of the start into the map, by the last passes, and answers the others.
-fn fill_up(
-    forest: &Forest<Numbers>,
+fn fill_up<B: FixedBalance>(
+    forest: &Forest<Numbers<B>>,
     task: Task,
-    mut passes: Vec<Pass<Numbers>>,
-) -> Vec<Pass<Numbers>>
+    mut passes: Vec<Pass<Numbers<B>>>,
+) -> Vec<Pass<Numbers<B>>>
     requires passes { All (IsOf forest.now) passes.items }
     ensures { All (IsOf forest.now) result.items }
 {
@@ -73,9 +77,9 @@ fn fill_up(
 }
 
 /// Puts this many fresh keys of the source into the map.
-fn fill(
-    forest: &Forest<Numbers>,
-    mut pass: Pass<Numbers>,
+fn fill<B: FixedBalance>(
+    forest: &Forest<Numbers<B>>,
+    mut pass: Pass<Numbers<B>>,
     mut source: Keys,
     keys: u32,
     mut pairs: u32,
@@ -97,20 +101,20 @@ fn fill(
 }
 
 /// Each pass works in a thread of its own.
-fn crowd<R: Threads + Sync>(
+fn crowd<R: Threads + Sync, B: FixedBalance + Send>(
     rt: &R,
     alloc: Global,
-    forest: &Forest<Numbers>,
+    forest: &Forest<Numbers<B>>,
     task: Task,
     work: MapWork,
-    passes: Vec<(u32, Pass<Numbers>)>,
+    passes: Vec<(u32, Pass<Numbers<B>>)>,
 ) -> Result<Vec<Tally>, AllocError>
     requires { All (λ p. IsOf forest.now p.1) passes.items }
 {
     map_vec(
         rt,
         passes,
-        &|(number, pass): (u32, Pass<Numbers>)| {
+        &|(number, pass): (u32, Pass<Numbers<B>>)| {
             rounds(alloc, forest, task, work, pass, task.keys_of_thread(number))
         },
     )

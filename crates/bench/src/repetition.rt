@@ -9,6 +9,7 @@ use crate::task::Task;
 use crate::work::Work;
 use crate::{cells, dictionary, locked};
 use arena::Shape;
+use dict::{ByBits, ByOrder};
 use forest::{Forest, Pass};
 use std::alloc::{AllocError, Global};
 use std::rt::Clock;
@@ -32,7 +33,8 @@ pub fn run<R: Threads + Wait + Sync + Clock + AllocGlobal>(
 ) -> Result<Repetition, Fault> {
     match task.work {
         Work::Cells(work) => cells::run(rt, task, work),
-        Work::Tree(work) | Work::Peers(work) => dictionary::run(rt, task, work),
+        Work::Tree(work) | Work::Peers(work) => dictionary::run::<R, ByOrder>(rt, task, work),
+        Work::Trie(work) => dictionary::run::<R, ByBits>(rt, task, work),
         Work::Locked(work) => locked::run(rt, task, work),
     }
 }

@@ -43,7 +43,7 @@ impl Task {
         self.pairs().div_ceil(PAIRS_OF_A_PASS)
     }
 
-    /// How many pairs a pass puts in, where so many are left.
+    /// How many pairs a pass puts in, where that many are left.
     pub fn pairs_of_filler(self, left: u32) -> u32
         ensures { result ≤ left }
     {
@@ -78,7 +78,7 @@ impl fmt::Display for Task {
         let (work, threads, calls, times) = (self.work, self.threads, self.calls, self.times);
         let keys = match self.work {
             Work::Cells(_) => 0,
-            Work::Tree(_) | Work::Peers(_) | Work::Locked(_) => self.keys,
+            Work::Tree(_) | Work::Trie(_) | Work::Peers(_) | Work::Locked(_) => self.keys,
         };
         write!(f, "{work},{keys},{threads},{calls},{times}")
     }

@@ -18,6 +18,8 @@ pub enum Work {
     Cells(CellWork),
     /// A call of a dictionary.
     Tree(MapWork),
+    /// The same call of one that is a trie.
+    Trie(MapWork),
     /// The same by the draws with which the maps of others were measured.
     Peers(MapWork),
     /// The same call of a map behind a lock, as a measure for the dictionary.
@@ -65,11 +67,11 @@ pub enum MapWork {
     Predecessor,
     /// It looks for the first `most` pairs from the key on.
     Range { most: usize },
-    /// It puts a key in behind all others, in a map whose keys came in order.
+    /// It puts a key in after all others, in a map whose keys came in order.
     RiseInsert,
     /// It looks a key up in such a map.
     RiseGet,
-    /// It takes the first pair of such a map out, and puts one in behind all others.
+    /// It takes the first pair of such a map out, and puts one in after all others.
     Schedule,
 }
 
@@ -94,7 +96,7 @@ pub struct Bounds {
 
 impl Work {
     /// Each work once.
-    pub const ALL: [Work; 47] = [
+    pub const ALL: [Work; 56] = [
         Work::Cells(CellWork::Llx),
         Work::Cells(CellWork::Own),
         Work::Cells(CellWork::Two),
@@ -119,6 +121,15 @@ impl Work {
         Work::Tree(MapWork::RiseInsert),
         Work::Tree(MapWork::RiseGet),
         Work::Tree(MapWork::Schedule),
+        Work::Trie(MapWork::Get),
+        Work::Trie(MapWork::Insert),
+        Work::Trie(MapWork::Delete),
+        Work::Trie(MapWork::Pop),
+        Work::Trie(MapWork::Successor),
+        Work::Trie(MapWork::Range { most: 64 }),
+        Work::Trie(MapWork::RiseInsert),
+        Work::Trie(MapWork::RiseGet),
+        Work::Trie(MapWork::Schedule),
         Work::Peers(MapWork::Get),
         Work::Peers(MapWork::Mix { looks: 90 }),
         Work::Peers(MapWork::Mix { looks: 50 }),
@@ -149,6 +160,7 @@ impl Work {
         match self {
             Work::Cells(_) => "cells",
             Work::Tree(_) => "tree",
+            Work::Trie(_) => "trie",
             Work::Peers(_) => "peers",
             Work::Locked(_) => "mutex",
         }
@@ -157,14 +169,15 @@ impl Work {
     /// What the work is done on.
     pub fn structure(self) -> &'static str {
         match self {
-            Work::Cells(_) | Work::Tree(_) | Work::Peers(_) => "regnubas",
+            Work::Cells(_) | Work::Tree(_) | Work::Trie(_) | Work::Peers(_) => "regnubas",
             Work::Locked(_) => "mutex",
         }
     }
 
-    /// What stands before the name of what it does in its own.
+    /// What precedes the name of what it does in its own.
     fn prefix(self) -> &'static str {
         match self {
+            Work::Trie(_) => "trie_",
             Work::Peers(_) => "peer_",
             Work::Cells(_) | Work::Tree(_) | Work::Locked(_) => "",
         }
@@ -174,7 +187,9 @@ impl Work {
     fn deed(self) -> &'static str {
         match self {
             Work::Cells(work) => work.name(),
-            Work::Tree(work) | Work::Peers(work) | Work::Locked(work) => work.name(),
+            Work::Tree(work) | Work::Trie(work) | Work::Peers(work) | Work::Locked(work) => {
+                work.name()
+            }
         }
     }
 
@@ -192,7 +207,7 @@ impl Work {
     pub fn bounds(self) -> Bounds {
         match self {
             Work::Cells(work) => work.bounds(),
-            Work::Tree(work) | Work::Locked(work) => work.bounds(USUAL_KEYS),
+            Work::Tree(work) | Work::Trie(work) | Work::Locked(work) => work.bounds(USUAL_KEYS),
             Work::Peers(work) => work.bounds(KEYS_OF_PEERS),
         }
     }
@@ -209,7 +224,9 @@ impl Work {
     fn on_map(self) -> Option<MapWork> {
         match self {
             Work::Cells(_) => None,
-            Work::Tree(work) | Work::Peers(work) | Work::Locked(work) => Some(work),
+            Work::Tree(work) | Work::Trie(work) | Work::Peers(work) | Work::Locked(work) => {
+                Some(work)
+            }
         }
     }
 
@@ -218,7 +235,7 @@ impl Work {
         self.puts_behind() || matches!(self.on_map(), Some(MapWork::RiseGet))
     }
 
-    /// Whether its rounds put keys in behind all others.
+    /// Whether its rounds put keys in after all others.
     pub fn puts_behind(self) -> bool {
         matches!(self.on_map(), Some(MapWork::RiseInsert | MapWork::Schedule))
     }

@@ -82,7 +82,8 @@ module _ (c : Call) (h : History) where
   short_of want many left Nodes k few some x = (let i = x.0 in omega (arith, i, few), x.1)
   short_of want many left ScxRecords k few some x = (let i = x.0 in omega (arith, i, some), x.1, x.2)
 
-  -- what the map had at the key says what an edit needed at a moment of the call, if it needed nodes
+  -- what the map had at the key says what an edit needed at a moment of the call, if it needed
+  -- nodes
   pub given_needed : (call : MapCall) (want k : ℕ) (told : Option ℕ) → HasGiven c h k told → ((map : List Pair) → get k map ≡ told → want ≤ need call map) → 0 < want → NeededAs c.layout c.pass h c.start call want
   given_needed call want k told y needs some =
       let x = y.given in

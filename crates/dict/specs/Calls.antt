@@ -65,7 +65,8 @@ tries_behind m = inner_tries (inner m)
 abbrev pub KeepsTriesButOne : MapRun → MapRun → Type 0
 KeepsTriesButOne old now = (tries_behind now ≤ tries_behind old) × (tries_behind old ≤ tries_behind now + 1)
 
--- the key of a call that may edit it, if it names one, is one of a word; at an end it takes what is there
+-- the key of a call that may edit it, if it names one, is one of a word; at an end it takes what is
+-- there
 abbrev pub IsSmallCall : MapCall → Type 0
 IsSmallCall (Edit (Key k) rule) = k < 2 ^ 64
 IsSmallCall (Edit (End side) rule) = rule ≡ Take

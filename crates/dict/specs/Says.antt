@@ -64,7 +64,8 @@ pub record HasNeeded (lay : Layout) (pass : ℕ) (now begin : History) (call : M
   pub spelled : Spells lay (value moment) map
   pub some : 0 < need call map
 
--- a call walks before it looks at a node: all do, but in a trie those that go to an end, which look at node 2
+-- a call walks before it looks at a node: all do, but in a trie those that go to an end, which look
+-- at node 2
 abbrev pub WalksFirst : Layout → MapCall → Type 0
 WalksFirst lay (Edit (End side) rule) = lay.mode ≡ TreeMode
 WalksFirst lay _ = Unit {0}

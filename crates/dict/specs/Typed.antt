@@ -44,8 +44,8 @@ IsTypedReply keys values (ManyPairs ps) = AreTyped keys values ps
 abbrev pub MakesTyped : (ℕ → Type 0) → (ℕ → Type 0) → Layout → History → ℕ → Type 0
 MakesTyped keys values lay h s = (e : MapEdit) × MayEdit lay h s e × IsTypedEdit keys values e
 
--- the shape of a typed dictionary: so does each that begins, and what a table begins with is planted,
--- with such pairs
+-- the shape of a typed dictionary: so does each that begins, and what a table begins with is
+-- planted, with such pairs
 abbrev pub TypedAllows : (ℕ → Type 0) → (ℕ → Type 0) → Layout → History → ℕ → Type 0
 TypedAllows keys values lay h s = MakesTyped keys values lay h s ⊎ (IsPlanted lay h s × AreTyped keys values (first_pairs h))
 

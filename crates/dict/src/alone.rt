@@ -21,15 +21,19 @@ ghost use Rattle.dict.specs.Says.{HasTold, HasLost, HasRunOut, HasTooLittle};
 /// call if there is one pass alone, so that there too a full call had taken nothing. It does
 /// nothing; a caller learns the laws from its contract.
 pub fn alone_holds()
-    ensures told { (c : Call) (h : History) (call : MapCall) (told : MapReply) (map : List Pair) → IsMapRun c.layout h → IsUndisturbed c h
-        → Spells c.layout (value c.start) map → HasTold c h call told → (told ≡ reply call map) × Spells c.layout (value h) (after call map) }
+    ensures told { (c : Call) (h : History) (call : MapCall) (told : MapReply) (map : List Pair) →
+        IsMapRun c.layout h → IsUndisturbed c h
+        → Spells c.layout (value c.start) map → HasTold c h call told
+        → (told ≡ reply call map) × Spells c.layout (value h) (after call map) }
     ensures refused { (c : Call) (h : History) (map : List Pair) → IsMapRun c.layout h → IsUndisturbed c h
         → Spells c.layout (value c.start) map → HasEnteredNone c.layout c.pass h c.start → Spells c.layout (value h) map }
     ensures full { (c : Call) (h : History) (call : MapCall) (share : Remaining) (full : Full) (map : List Pair) → IsMapRun c.layout h
         → IsUndisturbed c h → Spells c.layout (value c.start) map → HasRunOut c h call share full
         → RestsWith c c.start share × (0 < need call map) × HasTooLittle (need call map) share full.what full.left }
-    ensures undisturbed { (c : Call) (h : History) (call : MapCall) (tries n s : ℕ) → IsMapRun c.layout h → IsUndisturbed c h → ¬ HasLost c h call tries n s }
-    ensures one_pass { (c : Call) (h : History) (call : MapCall) (tries n s : ℕ) → c.layout.passes ≡ 1 → ¬ HasLost c h call tries n s }
+    ensures undisturbed { (c : Call) (h : History) (call : MapCall) (tries n s : ℕ) →
+        IsMapRun c.layout h → IsUndisturbed c h → ¬ HasLost c h call tries n s }
+    ensures one_pass { (c : Call) (h : History) (call : MapCall) (tries n s : ℕ) →
+        c.layout.passes ≡ 1 → ¬ HasLost c h call tries n s }
     ensures one_pass_full { (c : Call) (h : History) (call : MapCall) (share : Remaining) (full : Full) → c.layout.passes ≡ 1
         → HasRunOut c h call share full → RestsWith c c.start share }
 {

@@ -53,7 +53,8 @@ impl<K: WordKey, V: WordValue> DictRun<K, V> {
         ensures tries { result.tries ≡ tries }
         ensures trie { trie_in result.run ≡ trie }
         ensures fresh { 0 < tries → IsUnbegun result.run tries call }
-        ensures steps { (nodes : ℕ) → 0 < tries → map_left result.run nodes ≤ most_steps (call_in result.run) tries (nodes_by trie nodes) }
+        ensures steps { (nodes : ℕ) → 0 < tries →
+            map_left result.run nodes ≤ most_steps (call_in result.run) tries (nodes_by trie nodes) }
     {
         DictRun {
             run: MapRun::new(alloc, in_words(request), share, tries, call, trie),

@@ -61,7 +61,8 @@ impl MapRun {
         ensures share { share_of result ≡ share }
         ensures trie { trie_in result ≡ trie }
         ensures fresh { 0 < tries → IsUnbegun result tries call }
-        ensures steps { (nodes : ℕ) → 0 < tries → map_left result nodes ≤ most_steps (call_in result) tries (nodes_by trie nodes) }
+        ensures steps { (nodes : ℕ) → 0 < tries →
+            map_left result nodes ≤ most_steps (call_in result) tries (nodes_by trie nodes) }
     {
         match (request.edit(), request, alloc) {
             (Some((goal, rule)), _, _) => {
@@ -97,7 +98,8 @@ impl MapRun {
         ensures turn { (tries : ℕ) (c : Call) (h : History) → IsRun TreeAllows c.layout h → MapIsReady tries self.old c h got
             → MatchTurn result (MapWaits tries self.new c h)
             (MapReplies K.is_valid K.word_of V.is_valid V.word_of tries self.new c h) }
-        ensures begins { got ≡ None → AsksFirst self.old → (tries : ℕ) (c : Call) (h : History) → MapIsReady tries self.old c h None
+        ensures begins { got ≡ None → AsksFirst self.old → (tries : ℕ) (c : Call) (h : History) →
+            MapIsReady tries self.old c h None
             → MatchTurn result (λ _. Unit {0}) (λ _. ⊥) }
         ensures same { call_in self.new ≡ call_in self.old }
         ensures trie { trie_in self.new ≡ trie_in self.old }

@@ -10,9 +10,9 @@ use Rattle.ordered_map.specs.Paths.{end_key}
 use Rattle.ordered_map.specs.Runs.{IsEditAt}
 use Rattle.ordered_map.specs.TreeWords.{end_said}
 use Rattle.ordered_map.specs.Strays.{IsUnguarded}
-use Rattle.ordered_map.proofs.Lemmas.{SameSettled, settled_said, settled_end, settled_leaf, settled_toward, win_end, wins_of}
+use Rattle.ordered_map.proofs.Lemmas.{SameSettled, settled_said, settled_end, settled_leaf, settled_toward, wins_of}
 use Rattle.prims.specs.Laws.Wins.{ends_either}
-use Rattle.ordered_map.proofs.MapLemmas.{HasComeBy, came, changed, guarded_end, run_since, stood_settled, two_says_none, walked_guarded, walked_since, walked_stood, win_makes}
+use Rattle.ordered_map.proofs.MapLemmas.{HasComeBy, came, changed, guarded_end, run_since, stood_settled, two_says_none, walked_guarded, walked_since, walked_stood, win_end, win_makes}
 use Rattle.template.proofs.Lemmas.{found_below, found_either, found_stood, found_told, in_tree, tracked_makes}
 use Rattle.template.specs.declared.walk.Found.{Found}
 use Rattle.template.specs.declared.walk.Way.{Way}
@@ -114,7 +114,7 @@ module _ {E : Type 0} (e : EditMeaning E) (ed : E) (c : Call) (f : Found) (begin
   module _ (side : Side) (mode : c.layout.mode ≡ TreeMode) (x : HasFoundGoal (End side) c begin f) where
     end_in_tree : ToldEnd (End side) c.layout before f
     end_in_tree map spells =
-        win_end side c.layout before row s (e.edit ed f) (mode, now.1) won makes was is_leaf_then map spells
+        win_end side c.layout before row s (e.edit ed f) mode now won makes was is_leaf_then map spells
         ∙ ap (end_said side (value before)) (covers_it (End side) x) ∙ settled_end side (value begin) (value before) f.trail.node.0 (settled (End side) x) ∙ found_told side c begin f begun x
       where
         was : WasOnPath before (end_key side) (edit_leaf before s (e.edit ed f))

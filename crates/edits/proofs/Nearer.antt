@@ -159,11 +159,6 @@ walked b at t left looks works = let few = (looks_ahead b at looks).0 in omega (
 pub walk_from : (b : Bool) (at : WalkAt) (t left looks works : ℕ) → t + (left + (64 * looks_on b at looks + works + 39)) ≤ t + (left + (64 * looks_from b at looks + works + 39))
 walk_from b at t left looks works = let few = (looks_ahead b at looks).1 in omega (arith, few)
 
--- at the root's head all is left
-pub looks_first : (b : Bool) (n : ℕ) → looks_from b Root n ≡ all_looks b n
-looks_first true n = refl
-looks_first false n = refl
-
 -- what is read first, or the first fill
 pub from_reads : (t reads most_reads fills : ℕ) → reads ≤ most_reads → t + (reads + fills + 39) ≤ t + (most_reads + fills + 39)
 from_reads t reads most_reads fills i = omega (arith, i)

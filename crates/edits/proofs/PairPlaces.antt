@@ -23,139 +23,66 @@ at_most_five s i = few s.count
     few (suc (suc (suc (suc (suc zero))))) = omega arith
     few (suc (suc (suc (suc (suc (suc n)))))) = omega arith
 
+-- What is shown of each number up to n is so of any
+abbrev UpTo : ℕ → (ℕ → Type 0) → Type 0
+UpTo zero Q = Q 0
+UpTo (suc n) Q = Q 0 × UpTo n (λ i. Q (suc i))
+
+any_up_to : (n : ℕ) (Q : ℕ → Type 0) → UpTo n Q → (at : ℕ) → at ≤ n → Q at
+any_up_to zero Q x zero i = x
+any_up_to zero Q x (suc at) i = absurd (omega (arith, i))
+any_up_to (suc n) Q x zero i = x.0
+any_up_to (suc n) Q x (suc at) i = any_up_to n (λ j. Q (suc j)) x.1 at (omega (arith, i))
+
+-- and what is shown of a list of each length up to n, of any that is no longer
+abbrev OfEach : ℕ → (List Pair → Type 0) → Type 0
+OfEach zero R = R []
+OfEach (suc n) R = R [] × ((a : Pair) → OfEach n (λ ps. R (a ∷ ps)))
+
+of_any : (n : ℕ) (R : List Pair → Type 0) → OfEach n R → (ps : List Pair) → length ps ≤ n → R ps
+of_any zero R x [] few = x
+of_any zero R x (a ∷ ps) few = absurd (omega (arith, few))
+of_any (suc n) R x [] few = x.0
+of_any (suc n) R x (a ∷ ps) few = of_any n (λ qs. R (a ∷ qs)) (x.1 a) ps (omega (arith, few))
+
+-- so what is shown of each place of such lists, and of that after the last
+abbrev AtEach : (List Pair → ℕ → Type 0) → Type 0
+AtEach P = OfEach 5 (λ ps. UpTo (length ps) (P ps))
+
+at_any : (P : List Pair → ℕ → Type 0) → AtEach P → (ps : List Pair) → length ps ≤ 5 → (at : ℕ) → at ≤ length ps → P ps at
+at_any P x ps few at i = any_up_to (length ps) (P ps) (of_any 5 (λ qs. UpTo (length qs) (P qs)) x ps few) at i
+
 -- the places of a list of at most five are those of the list
 pub listed_again : (ps : List Pair) → length ps ≤ 5 → listed (placed_pairs ps) ≡ ps
-listed_again [] few = refl
-listed_again (a ∷ []) few = refl
-listed_again (a ∷ b ∷ []) few = refl
-listed_again (a ∷ b ∷ c ∷ []) few = refl
-listed_again (a ∷ b ∷ c ∷ d ∷ []) few = refl
-listed_again (a ∷ b ∷ c ∷ d ∷ e ∷ []) few = refl
-listed_again (a ∷ b ∷ c ∷ d ∷ e ∷ f ∷ ps) few = absurd (omega (arith, few))
+listed_again ps few = of_any 5 (λ ps. listed (placed_pairs ps) ≡ ps) (refl, λ a. (refl, λ b. (refl, λ c. (refl, λ d. (refl, λ e. refl))))) ps few
 
 -- a pair is put at a place
-pub put_at : (ps : List Pair) → length ps ≤ 5 → (at : ℕ) → at ≤ length ps → (p : Pair) → record { first = moved_on at 0 (pair_at ps 0) p (pair 0 0); second = moved_on at 1 (pair_at ps 1) p (pair_at ps 0); third = moved_on at 2 (pair_at ps 2) p (pair_at ps 1); fourth = moved_on at 3 (pair_at ps 3) p (pair_at ps 2); fifth = moved_on at 4 (pair_at ps 4) p (pair_at ps 3); count = min (length ps + 1) 5 } ≡ placed_pairs (take 5 (take at ps ++ p ∷ drop at ps))
-put_at [] few zero i p = refl
-put_at [] few (suc at) i p = absurd (omega (arith, i))
-put_at (a ∷ []) few zero i p = refl
-put_at (a ∷ []) few (suc zero) i p = refl
-put_at (a ∷ []) few (suc (suc at)) i p = absurd (omega (arith, i))
-put_at (a ∷ b ∷ []) few zero i p = refl
-put_at (a ∷ b ∷ []) few (suc zero) i p = refl
-put_at (a ∷ b ∷ []) few (suc (suc zero)) i p = refl
-put_at (a ∷ b ∷ []) few (suc (suc (suc at))) i p = absurd (omega (arith, i))
-put_at (a ∷ b ∷ c ∷ []) few zero i p = refl
-put_at (a ∷ b ∷ c ∷ []) few (suc zero) i p = refl
-put_at (a ∷ b ∷ c ∷ []) few (suc (suc zero)) i p = refl
-put_at (a ∷ b ∷ c ∷ []) few (suc (suc (suc zero))) i p = refl
-put_at (a ∷ b ∷ c ∷ []) few (suc (suc (suc (suc at)))) i p = absurd (omega (arith, i))
-put_at (a ∷ b ∷ c ∷ d ∷ []) few zero i p = refl
-put_at (a ∷ b ∷ c ∷ d ∷ []) few (suc zero) i p = refl
-put_at (a ∷ b ∷ c ∷ d ∷ []) few (suc (suc zero)) i p = refl
-put_at (a ∷ b ∷ c ∷ d ∷ []) few (suc (suc (suc zero))) i p = refl
-put_at (a ∷ b ∷ c ∷ d ∷ []) few (suc (suc (suc (suc zero)))) i p = refl
-put_at (a ∷ b ∷ c ∷ d ∷ []) few (suc (suc (suc (suc (suc at))))) i p = absurd (omega (arith, i))
-put_at (a ∷ b ∷ c ∷ d ∷ e ∷ []) few zero i p = refl
-put_at (a ∷ b ∷ c ∷ d ∷ e ∷ []) few (suc zero) i p = refl
-put_at (a ∷ b ∷ c ∷ d ∷ e ∷ []) few (suc (suc zero)) i p = refl
-put_at (a ∷ b ∷ c ∷ d ∷ e ∷ []) few (suc (suc (suc zero))) i p = refl
-put_at (a ∷ b ∷ c ∷ d ∷ e ∷ []) few (suc (suc (suc (suc zero)))) i p = refl
-put_at (a ∷ b ∷ c ∷ d ∷ e ∷ []) few (suc (suc (suc (suc (suc zero))))) i p = refl
-put_at (a ∷ b ∷ c ∷ d ∷ e ∷ []) few (suc (suc (suc (suc (suc (suc at)))))) i p = absurd (omega (arith, i))
-put_at (a ∷ b ∷ c ∷ d ∷ e ∷ f ∷ ps) few at i p = absurd (omega (arith, few))
+abbrev PutAt : Pair → List Pair → ℕ → Type 0
+PutAt p ps at = record { first = moved_on at 0 (pair_at ps 0) p (pair 0 0); second = moved_on at 1 (pair_at ps 1) p (pair_at ps 0); third = moved_on at 2 (pair_at ps 2) p (pair_at ps 1); fourth = moved_on at 3 (pair_at ps 3) p (pair_at ps 2); fifth = moved_on at 4 (pair_at ps 4) p (pair_at ps 3); count = min (length ps + 1) 5 } ≡ placed_pairs (take 5 (take at ps ++ p ∷ drop at ps))
+
+pub put_at : (ps : List Pair) → length ps ≤ 5 → (at : ℕ) → at ≤ length ps → (p : Pair) → PutAt p ps at
+put_at ps few at i p = at_any (PutAt p) (refl, λ a. ((refl, refl), λ b. ((refl, (refl, refl)), λ c. ((refl, (refl, (refl, refl))), λ d. ((refl, (refl, (refl, (refl, refl)))), λ e. (refl, (refl, (refl, (refl, (refl, refl)))))))))) ps few at i
 
 -- or taken out
-pub out_at : (ps : List Pair) → length ps ≤ 5 → (at : ℕ) → at ≤ length ps → record { first = moved_back at 0 (pair_at ps 0) (pair_at ps 1); second = moved_back at 1 (pair_at ps 1) (pair_at ps 2); third = moved_back at 2 (pair_at ps 2) (pair_at ps 3); fourth = moved_back at 3 (pair_at ps 3) (pair_at ps 4); fifth = moved_back at 4 (pair_at ps 4) (pair 0 0); count = (if nat_lt at (length ps) then length ps - 1 else length ps) } ≡ placed_pairs (remove ps at)
-out_at [] few zero i = refl
-out_at [] few (suc at) i = absurd (omega (arith, i))
-out_at (a ∷ []) few zero i = refl
-out_at (a ∷ []) few (suc zero) i = refl
-out_at (a ∷ []) few (suc (suc at)) i = absurd (omega (arith, i))
-out_at (a ∷ b ∷ []) few zero i = refl
-out_at (a ∷ b ∷ []) few (suc zero) i = refl
-out_at (a ∷ b ∷ []) few (suc (suc zero)) i = refl
-out_at (a ∷ b ∷ []) few (suc (suc (suc at))) i = absurd (omega (arith, i))
-out_at (a ∷ b ∷ c ∷ []) few zero i = refl
-out_at (a ∷ b ∷ c ∷ []) few (suc zero) i = refl
-out_at (a ∷ b ∷ c ∷ []) few (suc (suc zero)) i = refl
-out_at (a ∷ b ∷ c ∷ []) few (suc (suc (suc zero))) i = refl
-out_at (a ∷ b ∷ c ∷ []) few (suc (suc (suc (suc at)))) i = absurd (omega (arith, i))
-out_at (a ∷ b ∷ c ∷ d ∷ []) few zero i = refl
-out_at (a ∷ b ∷ c ∷ d ∷ []) few (suc zero) i = refl
-out_at (a ∷ b ∷ c ∷ d ∷ []) few (suc (suc zero)) i = refl
-out_at (a ∷ b ∷ c ∷ d ∷ []) few (suc (suc (suc zero))) i = refl
-out_at (a ∷ b ∷ c ∷ d ∷ []) few (suc (suc (suc (suc zero)))) i = refl
-out_at (a ∷ b ∷ c ∷ d ∷ []) few (suc (suc (suc (suc (suc at))))) i = absurd (omega (arith, i))
-out_at (a ∷ b ∷ c ∷ d ∷ e ∷ []) few zero i = refl
-out_at (a ∷ b ∷ c ∷ d ∷ e ∷ []) few (suc zero) i = refl
-out_at (a ∷ b ∷ c ∷ d ∷ e ∷ []) few (suc (suc zero)) i = refl
-out_at (a ∷ b ∷ c ∷ d ∷ e ∷ []) few (suc (suc (suc zero))) i = refl
-out_at (a ∷ b ∷ c ∷ d ∷ e ∷ []) few (suc (suc (suc (suc zero)))) i = refl
-out_at (a ∷ b ∷ c ∷ d ∷ e ∷ []) few (suc (suc (suc (suc (suc zero))))) i = refl
-out_at (a ∷ b ∷ c ∷ d ∷ e ∷ []) few (suc (suc (suc (suc (suc (suc at)))))) i = absurd (omega (arith, i))
-out_at (a ∷ b ∷ c ∷ d ∷ e ∷ f ∷ ps) few at i = absurd (omega (arith, few))
+abbrev OutAt : List Pair → ℕ → Type 0
+OutAt ps at = record { first = moved_back at 0 (pair_at ps 0) (pair_at ps 1); second = moved_back at 1 (pair_at ps 1) (pair_at ps 2); third = moved_back at 2 (pair_at ps 2) (pair_at ps 3); fourth = moved_back at 3 (pair_at ps 3) (pair_at ps 4); fifth = moved_back at 4 (pair_at ps 4) (pair 0 0); count = (if nat_lt at (length ps) then length ps - 1 else length ps) } ≡ placed_pairs (remove ps at)
+
+pub out_at : (ps : List Pair) → length ps ≤ 5 → (at : ℕ) → at ≤ length ps → OutAt ps at
+out_at = at_any OutAt (refl, λ a. ((refl, refl), λ b. ((refl, (refl, refl)), λ c. ((refl, (refl, (refl, refl))), λ d. ((refl, (refl, (refl, (refl, refl)))), λ e. (refl, (refl, (refl, (refl, (refl, refl))))))))))
 
 -- those before a place are kept
-pub kept_at : (ps : List Pair) → length ps ≤ 5 → (at : ℕ) → at ≤ length ps → record { first = moved_back at 0 (pair_at ps 0) (pair 0 0); second = moved_back at 1 (pair_at ps 1) (pair 0 0); third = moved_back at 2 (pair_at ps 2) (pair 0 0); fourth = moved_back at 3 (pair_at ps 3) (pair 0 0); fifth = moved_back at 4 (pair_at ps 4) (pair 0 0); count = at } ≡ placed_pairs (take at ps)
-kept_at [] few zero i = refl
-kept_at [] few (suc at) i = absurd (omega (arith, i))
-kept_at (a ∷ []) few zero i = refl
-kept_at (a ∷ []) few (suc zero) i = refl
-kept_at (a ∷ []) few (suc (suc at)) i = absurd (omega (arith, i))
-kept_at (a ∷ b ∷ []) few zero i = refl
-kept_at (a ∷ b ∷ []) few (suc zero) i = refl
-kept_at (a ∷ b ∷ []) few (suc (suc zero)) i = refl
-kept_at (a ∷ b ∷ []) few (suc (suc (suc at))) i = absurd (omega (arith, i))
-kept_at (a ∷ b ∷ c ∷ []) few zero i = refl
-kept_at (a ∷ b ∷ c ∷ []) few (suc zero) i = refl
-kept_at (a ∷ b ∷ c ∷ []) few (suc (suc zero)) i = refl
-kept_at (a ∷ b ∷ c ∷ []) few (suc (suc (suc zero))) i = refl
-kept_at (a ∷ b ∷ c ∷ []) few (suc (suc (suc (suc at)))) i = absurd (omega (arith, i))
-kept_at (a ∷ b ∷ c ∷ d ∷ []) few zero i = refl
-kept_at (a ∷ b ∷ c ∷ d ∷ []) few (suc zero) i = refl
-kept_at (a ∷ b ∷ c ∷ d ∷ []) few (suc (suc zero)) i = refl
-kept_at (a ∷ b ∷ c ∷ d ∷ []) few (suc (suc (suc zero))) i = refl
-kept_at (a ∷ b ∷ c ∷ d ∷ []) few (suc (suc (suc (suc zero)))) i = refl
-kept_at (a ∷ b ∷ c ∷ d ∷ []) few (suc (suc (suc (suc (suc at))))) i = absurd (omega (arith, i))
-kept_at (a ∷ b ∷ c ∷ d ∷ e ∷ []) few zero i = refl
-kept_at (a ∷ b ∷ c ∷ d ∷ e ∷ []) few (suc zero) i = refl
-kept_at (a ∷ b ∷ c ∷ d ∷ e ∷ []) few (suc (suc zero)) i = refl
-kept_at (a ∷ b ∷ c ∷ d ∷ e ∷ []) few (suc (suc (suc zero))) i = refl
-kept_at (a ∷ b ∷ c ∷ d ∷ e ∷ []) few (suc (suc (suc (suc zero)))) i = refl
-kept_at (a ∷ b ∷ c ∷ d ∷ e ∷ []) few (suc (suc (suc (suc (suc zero))))) i = refl
-kept_at (a ∷ b ∷ c ∷ d ∷ e ∷ []) few (suc (suc (suc (suc (suc (suc at)))))) i = absurd (omega (arith, i))
-kept_at (a ∷ b ∷ c ∷ d ∷ e ∷ f ∷ ps) few at i = absurd (omega (arith, few))
+abbrev KeptAt : List Pair → ℕ → Type 0
+KeptAt ps at = record { first = moved_back at 0 (pair_at ps 0) (pair 0 0); second = moved_back at 1 (pair_at ps 1) (pair 0 0); third = moved_back at 2 (pair_at ps 2) (pair 0 0); fourth = moved_back at 3 (pair_at ps 3) (pair 0 0); fifth = moved_back at 4 (pair_at ps 4) (pair 0 0); count = at } ≡ placed_pairs (take at ps)
+
+pub kept_at : (ps : List Pair) → length ps ≤ 5 → (at : ℕ) → at ≤ length ps → KeptAt ps at
+kept_at = at_any KeptAt (refl, λ a. ((refl, refl), λ b. ((refl, (refl, refl)), λ c. ((refl, (refl, (refl, refl))), λ d. ((refl, (refl, (refl, (refl, refl)))), λ e. (refl, (refl, (refl, (refl, (refl, refl))))))))))
 
 -- or those from there on
-pub left_at : (ps : List Pair) → length ps ≤ 5 → (at : ℕ) → at ≤ length ps → record { first = pair_at ps at; second = pair_at ps (at + 1); third = pair_at ps (at + 2); fourth = pair_at ps (at + 3); fifth = pair_at ps (at + 4); count = length ps - at } ≡ placed_pairs (drop at ps)
-left_at [] few zero i = refl
-left_at [] few (suc at) i = absurd (omega (arith, i))
-left_at (a ∷ []) few zero i = refl
-left_at (a ∷ []) few (suc zero) i = refl
-left_at (a ∷ []) few (suc (suc at)) i = absurd (omega (arith, i))
-left_at (a ∷ b ∷ []) few zero i = refl
-left_at (a ∷ b ∷ []) few (suc zero) i = refl
-left_at (a ∷ b ∷ []) few (suc (suc zero)) i = refl
-left_at (a ∷ b ∷ []) few (suc (suc (suc at))) i = absurd (omega (arith, i))
-left_at (a ∷ b ∷ c ∷ []) few zero i = refl
-left_at (a ∷ b ∷ c ∷ []) few (suc zero) i = refl
-left_at (a ∷ b ∷ c ∷ []) few (suc (suc zero)) i = refl
-left_at (a ∷ b ∷ c ∷ []) few (suc (suc (suc zero))) i = refl
-left_at (a ∷ b ∷ c ∷ []) few (suc (suc (suc (suc at)))) i = absurd (omega (arith, i))
-left_at (a ∷ b ∷ c ∷ d ∷ []) few zero i = refl
-left_at (a ∷ b ∷ c ∷ d ∷ []) few (suc zero) i = refl
-left_at (a ∷ b ∷ c ∷ d ∷ []) few (suc (suc zero)) i = refl
-left_at (a ∷ b ∷ c ∷ d ∷ []) few (suc (suc (suc zero))) i = refl
-left_at (a ∷ b ∷ c ∷ d ∷ []) few (suc (suc (suc (suc zero)))) i = refl
-left_at (a ∷ b ∷ c ∷ d ∷ []) few (suc (suc (suc (suc (suc at))))) i = absurd (omega (arith, i))
-left_at (a ∷ b ∷ c ∷ d ∷ e ∷ []) few zero i = refl
-left_at (a ∷ b ∷ c ∷ d ∷ e ∷ []) few (suc zero) i = refl
-left_at (a ∷ b ∷ c ∷ d ∷ e ∷ []) few (suc (suc zero)) i = refl
-left_at (a ∷ b ∷ c ∷ d ∷ e ∷ []) few (suc (suc (suc zero))) i = refl
-left_at (a ∷ b ∷ c ∷ d ∷ e ∷ []) few (suc (suc (suc (suc zero)))) i = refl
-left_at (a ∷ b ∷ c ∷ d ∷ e ∷ []) few (suc (suc (suc (suc (suc zero))))) i = refl
-left_at (a ∷ b ∷ c ∷ d ∷ e ∷ []) few (suc (suc (suc (suc (suc (suc at)))))) i = absurd (omega (arith, i))
-left_at (a ∷ b ∷ c ∷ d ∷ e ∷ f ∷ ps) few at i = absurd (omega (arith, few))
+abbrev LeftAt : List Pair → ℕ → Type 0
+LeftAt ps at = record { first = pair_at ps at; second = pair_at ps (at + 1); third = pair_at ps (at + 2); fourth = pair_at ps (at + 3); fifth = pair_at ps (at + 4); count = length ps - at } ≡ placed_pairs (drop at ps)
+
+pub left_at : (ps : List Pair) → length ps ≤ 5 → (at : ℕ) → at ≤ length ps → LeftAt ps at
+left_at = at_any LeftAt (refl, λ a. ((refl, refl), λ b. ((refl, (refl, refl)), λ c. ((refl, (refl, (refl, refl))), λ d. ((refl, (refl, (refl, (refl, refl)))), λ e. (refl, (refl, (refl, (refl, (refl, refl))))))))))
 
 -- the last is in the place before their number
 pub last_at : (ps : List Pair) → pair_at ps (length ps - 1) ≡ unwrap_or (last_pair ps) (pair 0 0)
@@ -176,62 +103,27 @@ abbrev leading : (Pair → Bool) → List Pair → ℕ
 leading test [] = 0
 leading test (p ∷ ps) = if test p then suc (leading test ps) else 0
 
+-- how many booleans are true before the first that is not
+abbrev leads : List Bool → ℕ
+leads [] = 0
+leads (b ∷ bs) = if b then suc (leads bs) else 0
+
+leads_of : (t0 t1 t2 t3 t4 : Bool) → UpTo 5 (λ n. min (run t0 t1 t2 t3 t4) n ≡ leads (take n (t0 ∷ t1 ∷ t2 ∷ t3 ∷ t4 ∷ [])))
+leads_of false t1 t2 t3 t4 = (refl, (refl, (refl, (refl, (refl, refl)))))
+leads_of true false t2 t3 t4 = (refl, (refl, (refl, (refl, (refl, refl)))))
+leads_of true true false t3 t4 = (refl, (refl, (refl, (refl, (refl, refl)))))
+leads_of true true true false t4 = (refl, (refl, (refl, (refl, (refl, refl)))))
+leads_of true true true true false = (refl, (refl, (refl, (refl, (refl, refl)))))
+leads_of true true true true true = (refl, (refl, (refl, (refl, (refl, refl)))))
+
 leading_is : (test : Pair → Bool) (ps : List Pair) → length ps ≤ 5 → min (run (test (pair_at ps 0)) (test (pair_at ps 1)) (test (pair_at ps 2)) (test (pair_at ps 3)) (test (pair_at ps 4))) (length ps) ≡ leading test ps
-leading_is test [] few = go (test (pair 0 0)) (test (pair 0 0)) (test (pair 0 0)) (test (pair 0 0)) (test (pair 0 0))
+leading_is test ps few =
+    any_up_to 5 (λ n. min (run (test (pair_at ps 0)) (test (pair_at ps 1)) (test (pair_at ps 2)) (test (pair_at ps 3)) (test (pair_at ps 4))) n ≡ leads (take n (tests ps)))
+    (leads_of (test (pair_at ps 0)) (test (pair_at ps 1)) (test (pair_at ps 2)) (test (pair_at ps 3)) (test (pair_at ps 4))) (length ps) few
+    ∙ of_any 5 (λ ps. leads (take (length ps) (tests ps)) ≡ leading test ps) (refl, λ a. (refl, λ b. (refl, λ c. (refl, λ d. (refl, λ e. refl))))) ps few
   where
-    go : (t0 t1 t2 t3 t4 : Bool) → min (run t0 t1 t2 t3 t4) 0 ≡ 0
-    go false t1 t2 t3 t4 = refl
-    go true false t2 t3 t4 = refl
-    go true true false t3 t4 = refl
-    go true true true false t4 = refl
-    go true true true true false = refl
-    go true true true true true = refl
-leading_is test (a ∷ []) few = go (test a) (test (pair 0 0)) (test (pair 0 0)) (test (pair 0 0)) (test (pair 0 0))
-  where
-    go : (t0 t1 t2 t3 t4 : Bool) → min (run t0 t1 t2 t3 t4) 1 ≡ (if t0 then suc 0 else 0)
-    go false t1 t2 t3 t4 = refl
-    go true false t2 t3 t4 = refl
-    go true true false t3 t4 = refl
-    go true true true false t4 = refl
-    go true true true true false = refl
-    go true true true true true = refl
-leading_is test (a ∷ b ∷ []) few = go (test a) (test b) (test (pair 0 0)) (test (pair 0 0)) (test (pair 0 0))
-  where
-    go : (t0 t1 t2 t3 t4 : Bool) → min (run t0 t1 t2 t3 t4) 2 ≡ (if t0 then suc (if t1 then suc 0 else 0) else 0)
-    go false t1 t2 t3 t4 = refl
-    go true false t2 t3 t4 = refl
-    go true true false t3 t4 = refl
-    go true true true false t4 = refl
-    go true true true true false = refl
-    go true true true true true = refl
-leading_is test (a ∷ b ∷ c ∷ []) few = go (test a) (test b) (test c) (test (pair 0 0)) (test (pair 0 0))
-  where
-    go : (t0 t1 t2 t3 t4 : Bool) → min (run t0 t1 t2 t3 t4) 3 ≡ (if t0 then suc (if t1 then suc (if t2 then suc 0 else 0) else 0) else 0)
-    go false t1 t2 t3 t4 = refl
-    go true false t2 t3 t4 = refl
-    go true true false t3 t4 = refl
-    go true true true false t4 = refl
-    go true true true true false = refl
-    go true true true true true = refl
-leading_is test (a ∷ b ∷ c ∷ d ∷ []) few = go (test a) (test b) (test c) (test d) (test (pair 0 0))
-  where
-    go : (t0 t1 t2 t3 t4 : Bool) → min (run t0 t1 t2 t3 t4) 4 ≡ (if t0 then suc (if t1 then suc (if t2 then suc (if t3 then suc 0 else 0) else 0) else 0) else 0)
-    go false t1 t2 t3 t4 = refl
-    go true false t2 t3 t4 = refl
-    go true true false t3 t4 = refl
-    go true true true false t4 = refl
-    go true true true true false = refl
-    go true true true true true = refl
-leading_is test (a ∷ b ∷ c ∷ d ∷ e ∷ []) few = go (test a) (test b) (test c) (test d) (test e)
-  where
-    go : (t0 t1 t2 t3 t4 : Bool) → min (run t0 t1 t2 t3 t4) 5 ≡ (if t0 then suc (if t1 then suc (if t2 then suc (if t3 then suc (if t4 then suc 0 else 0) else 0) else 0) else 0) else 0)
-    go false t1 t2 t3 t4 = refl
-    go true false t2 t3 t4 = refl
-    go true true false t3 t4 = refl
-    go true true true false t4 = refl
-    go true true true true false = refl
-    go true true true true true = refl
-leading_is test (a ∷ b ∷ c ∷ d ∷ e ∷ f ∷ ps) few = absurd (omega (arith, few))
+    tests : List Pair → List Bool
+    tests ps = test (pair_at ps 0) ∷ test (pair_at ps 1) ∷ test (pair_at ps 2) ∷ test (pair_at ps 3) ∷ test (pair_at ps 4) ∷ []
 
 pub below_is : (k : ℕ) (ps : List Pair) → length ps ≤ 5 → min (run (nat_lt (pair_at ps 0).key k) (nat_lt (pair_at ps 1).key k) (nat_lt (pair_at ps 2).key k) (nat_lt (pair_at ps 3).key k) (nat_lt (pair_at ps 4).key k)) (length ps) ≡ below k ps
 below_is k ps few = leading_is (λ (p : Pair). nat_lt p.key k) ps few ∙ same ps

@@ -36,7 +36,8 @@ pub fn alone_holds()
         (map : List Pair) → IsMapRun c.layout h → IsUndisturbed c h → (made : HasMade edit c h number old)
         → ToldEnd (End side) c.layout made.before f → Spells c.layout (value c.start) map → end_pair side map ≡ end_told f }
     ensures found_end { (side : Side) (c : Call) (h : History) (f : Found) (map : List Pair) → IsMapRun c.layout h
-        → IsUndisturbed c h → HasFoundGoal (End side) c h f → (c.layout.mode ≡ TreeMode) ⊎ (f.value ≡ None) → HasEnteredNone c.layout c.pass h c.start
+        → IsUndisturbed c h → HasFoundGoal (End side) c h f
+        → (c.layout.mode ≡ TreeMode) ⊎ (f.value ≡ None) → HasEnteredNone c.layout c.pass h c.start
         → Spells c.layout (value c.start) map → end_pair side map ≡ end_told f }
     ensures read { (c : Call) (h : History) (k : ℕ) (told : Option ℕ) (map : List Pair) → IsMapRun c.layout h
         → IsUndisturbed c h → IsAnswerAt c.layout h c.start k told → HasEnteredNone c.layout c.pass h c.start

@@ -200,7 +200,8 @@ impl<E: Edit + Drop> UpdateRun<E, UpdateAt> {
     /// Begins a try, with the load of the root's head.
     fn begin_walk(&mut self) -> Turn<Updated>
         ensures turn { (c : Call) (h : History) → IsRun TreeAllows c.layout h → MayBeginTry E.means self.old c h
-            → MayTry c h h self.old.limit self.old.tries → IsUntouched c h self.old.share → UpdateTurn E.means c h self.new result }
+            → MayTry c h h self.old.limit self.old.tries → IsUntouched c h self.old.share
+            → UpdateTurn E.means c h self.new result }
         ensures begins { MatchTurn result (λ _. Unit {0}) (λ _. ⊥) }
         ensures same { IsSameUpdate self.old self.new }
         ensures nearer { (nodes : ℕ) → IsNearer E.means self.new nodes result
@@ -223,10 +224,12 @@ impl<E: Edit + Drop> UpdateRun<E, UpdateAt> {
     #[cold]
     fn lost(&mut self, node: NodeNo, scx: ScxNo) -> Turn<Updated>
         ensures turn { (c : Call) (h : History) → IsRun TreeAllows c.layout h → MayBeginTry E.means self.old c h
-            → HasLostTry E.means self.old.edit c h self.old.limit self.old.tries node.0 scx.0 → UpdateTurn E.means c h self.new result }
+            → HasLostTry E.means self.old.edit c h self.old.limit self.old.tries node.0 scx.0
+            → UpdateTurn E.means c h self.new result }
         ensures same { IsSameUpdate self.old self.new }
         ensures gives_up { MatchTurn result (λ _. Unit {0}) (λ _. self.old.tries ≡ 0) }
-        ensures nearer { (nodes : ℕ) → IsNearer E.means self.new nodes result (self.old.tries * try_left E.means self.old.edit nodes) }
+        ensures nearer { (nodes : ℕ) →
+            IsNearer E.means self.new nodes result (self.old.tries * try_left E.means self.old.edit nodes) }
         ensures spends { IsSpending E.means result self.old.share self.new self.old.tries self.old.tries }
         ensures tries { (self.old.tries ≤ self.new.tries + 1) × (self.new.tries ≤ self.old.tries) }
     {
@@ -296,9 +299,11 @@ impl<E: Edit + Drop> UpdateRun<E, UpdateAt> {
     ) -> Turn<Updated>
         ensures turn { (c : Call) (b begin h : History) → IsRun TreeAllows c.layout h → IsTry c b h self.old.limit self.old.tries
             → IsUntouched c b self.old.share → Guards E.means self.old (begun_at c b) h walk head llx begin
-            → LlxIsReady TreeAllows llx (begun_at (begun_at c b) begin) h got → IsOwnMoment (begun_at c b) h → UpdateTurn E.means c h self.new result }
+            → LlxIsReady TreeAllows llx (begun_at (begun_at c b) begin) h got
+            → IsOwnMoment (begun_at c b) h → UpdateTurn E.means c h self.new result }
         ensures same { IsSameUpdate self.old self.new }
-        ensures nearer { (nodes : ℕ) → walk.at ≡ WalkAt.Root → WalkFits walk (Some head) nodes → IsNearer E.means self.new nodes result
+        ensures nearer { (nodes : ℕ) → walk.at ≡ WalkAt.Root → WalkFits walk (Some head) nodes →
+            IsNearer E.means self.new nodes result
             (self.old.tries * try_left E.means self.old.edit nodes +
             (llx_left llx.at + steps_left walk nodes + (64 * E.means.most_looks self.old.edit + most_works E.means self.old.edit + 39))) }
         ensures spends { IsSpending E.means result self.old.share self.new (self.old.tries + 1) (self.old.tries + 1) }
@@ -395,7 +400,8 @@ impl<E: Edit + Drop> UpdateRun<E, UpdateAt> {
         ensures same { IsSameUpdate self.old self.new }
         ensures nearer { (nodes : ℕ) → IsNearer E.means self.new nodes result
             (self.old.tries * try_left E.means self.old.edit nodes + (fills_left E.means self.old found nth part + 39)) }
-        ensures spends { 0 < self.old.share.scx → IsSpending E.means result self.old.share self.new self.old.tries (self.old.tries + 1) }
+        ensures spends { 0 < self.old.share.scx →
+            IsSpending E.means result self.old.share self.new self.old.tries (self.old.tries + 1) }
         ensures tries { (self.old.tries ≤ self.new.tries + 1) × (self.new.tries ≤ self.old.tries) }
     {
         let piece = self.piece(&found, nth);
@@ -498,7 +504,8 @@ impl<E: Edit + Drop> UpdateRun<E, UpdateAt> {
             at = ScxAt.Help help;
           };
         } }
-        ensures asks { result ≡ Turn.Ask record { kind = Kind.LoadAllFrozen; word = Word.Scx scx ScxWord.AllFrozen; access = Access.Load } }
+        ensures asks { result ≡
+            Turn.Ask record { kind = Kind.LoadAllFrozen; word = Word.Scx scx ScxWord.AllFrozen; access = Access.Load } }
     {
         let run = self.scx_run(scx, ScxAt::Help { help });
         self.at = UpdateAt::Scx { found, scx: run };
@@ -514,7 +521,8 @@ impl<E: Edit + Drop> UpdateRun<E, UpdateAt> {
         ensures turn { (c : Call) (h : History) → IsRun TreeAllows c.layout h → UpdateGoesOn E.means c h self.old found next
             → UpdateTurn E.means c h self.new result }
         ensures same { IsSameUpdate self.old self.new }
-        ensures nearer { (nodes n : ℕ) → ComesNearer E.means self.old found next nodes n → IsNearer E.means self.new nodes result n }
+        ensures nearer { (nodes n : ℕ) → ComesNearer E.means self.old found next nodes n →
+            IsNearer E.means self.new nodes result n }
         ensures spends { (share : Remaining) (nodes scx : ℕ) → HasSpentForNext E.means share self.old found next nodes scx
             → IsSpending E.means result share self.new nodes scx }
         ensures tries { (self.old.tries ≤ self.new.tries + 1) × (self.new.tries ≤ self.old.tries) }
@@ -530,7 +538,8 @@ impl<E: Edit + Drop> UpdateRun<E, UpdateAt> {
         ensures turn { (c : Call) (h : History) → IsRun TreeAllows c.layout h → MayStop E.means c h self.old found.now stop
             → UpdateTurn E.means c h self.new result }
         ensures same { IsSameUpdate self.old self.new }
-        ensures nearer { (nodes : ℕ) → IsNearer E.means self.new nodes result (self.old.tries * try_left E.means self.old.edit nodes) }
+        ensures nearer { (nodes : ℕ) →
+            IsNearer E.means self.new nodes result (self.old.tries * try_left E.means self.old.edit nodes) }
         ensures spends { IsSpending E.means result self.old.share self.new self.old.tries self.old.tries }
         ensures tries { (self.old.tries ≤ self.new.tries + 1) × (self.new.tries ≤ self.old.tries) }
     {
@@ -547,7 +556,8 @@ impl<E: Edit + Drop> UpdateRun<E, UpdateAt> {
             → Scxs E.means self.old (begun_at c b) h found scx begin
             → ScxIsReady TreeAllows scx (begun_at (begun_at c b) begin) h got → UpdateTurn E.means c h self.new result }
         ensures same { IsSameUpdate self.old self.new }
-        ensures nearer { (nodes : ℕ) → IsNearer E.means self.new nodes result (self.old.tries * try_left E.means self.old.edit nodes + scx_left scx.at) }
+        ensures nearer { (nodes : ℕ) →
+            IsNearer E.means self.new nodes result (self.old.tries * try_left E.means self.old.edit nodes + scx_left scx.at) }
         ensures spends { IsSpending E.means result self.old.share self.new self.old.tries self.old.tries }
         ensures tries { (self.old.tries ≤ self.new.tries + 1) × (self.new.tries ≤ self.old.tries) }
     {
@@ -566,9 +576,11 @@ impl<E: Edit + Drop> UpdateRun<E, UpdateAt> {
     pub fn step(&mut self, got: Option<u64>) -> Turn<Updated>
         ensures turn { (c : Call) (h : History) → IsRun TreeAllows c.layout h → UpdateIsReady E.means self.old c h got
             → UpdateTurn E.means c h self.new result }
-        ensures begins { got ≡ None → (c : Call) (h : History) → UpdateIsReady E.means self.old c h None → MatchTurn result (λ _. Unit {0}) (λ _. ⊥) }
+        ensures begins { got ≡ None → (c : Call) (h : History) →
+            UpdateIsReady E.means self.old c h None → MatchTurn result (λ _. Unit {0}) (λ _. ⊥) }
         ensures same { IsSameUpdate self.old self.new }
-        ensures nearer { (nodes : ℕ) → UpdateFits E.means self.old got nodes → IsNearer E.means self.new nodes result (update_left E.means self.old nodes) }
+        ensures nearer { (nodes : ℕ) → UpdateFits E.means self.old got nodes →
+            IsNearer E.means self.new nodes result (update_left E.means self.old nodes) }
         ensures spends { MaySpend E.means self.old self.old.at
             → IsSpending E.means result self.old.share self.new (node_tries self.old self.old.at) (scx_tries self.old self.old.at) }
         ensures tries { (self.old.tries ≤ self.new.tries + 1) × (self.new.tries ≤ self.old.tries) }

@@ -115,7 +115,8 @@ impl<E: Edit + Drop, A: Drop> UpdateRun<E, A> {
     pub fn test_share(&mut self, found: &Found) -> Result<Next, Stop>
         ensures turn { (c : Call) (b h : History) → IsRun TreeAllows c.layout h → IsTry c b h self.old.limit self.old.tries
             → IsUntouched c b self.old.share → MayBeginTry E.means self.old (begun_at c b) h → IsQuietSince c.layout c.pass b h
-            → HasFilledNone c.pass h b → FoundBy (E.means.way self.old.edit) (E.means.goal self.old.edit) (begun_at c b) h found.now
+            → HasFilledNone c.pass h b
+            → FoundBy (E.means.way self.old.edit) (E.means.goal self.old.edit) (begun_at c b) h found.now
             → Guarded E.means self.old.edit (begun_at c b) h self.old.guard (λ (k : Call). FoundBy (E.means.way self.old.edit) (E.means.goal self.old.edit) k h found.now)
             → UpdateGoesOn E.means c h self.new found.now result }
         ensures same { IsSameUpdate self.old self.new }
@@ -183,7 +184,8 @@ impl<E: Edit + Drop, A: Drop> UpdateRun<E, A> {
             → E.means.looks self.old.edit found.now self.old.snaps.items ≡ Look.Enough
             → UpdateGoesOn E.means c h self.new found.now (Ok result) }
         ensures same { IsSameUpdate self.old self.new }
-        ensures nearer { HasAsked E.means self.old found.now → (nodes : ℕ) → ComesNearer E.means self.new found.now (Ok result) nodes
+        ensures nearer { HasAsked E.means self.old found.now → (nodes : ℕ) →
+            ComesNearer E.means self.new found.now (Ok result) nodes
             (self.old.tries * try_left E.means self.old.edit nodes + (most_works E.means self.old.edit + 39)) }
         ensures spends { HasAsked E.means self.old found.now
             → HasSpentForNext E.means self.old.share self.new found.now (Ok result) (self.old.tries + 1) (self.old.tries + 1) }
@@ -217,7 +219,8 @@ impl<E: Edit + Drop, A: Drop> UpdateRun<E, A> {
     #[inline(always)]
     fn take(&mut self) -> NodeNo
         ensures spent { (self.old.share.nodes ≤ self.new.share.nodes + 1) × (self.new.share.scx ≡ self.old.share.scx) }
-        ensures taken { 0 < self.old.share.nodes → (result.0 ≡ self.old.share.next_node) × (self.new.share ≡ less_a_node self.old.share) }
+        ensures taken { 0 < self.old.share.nodes →
+            (result.0 ≡ self.old.share.next_node) × (self.new.share ≡ less_a_node self.old.share) }
         ensures same { self.new ≡ record self.old { share = self.new.share } }
         ensures tries { self.new.tries ≡ self.old.tries }
         ensures limit { self.new.limit ≡ self.old.limit }
@@ -234,7 +237,8 @@ impl<E: Edit + Drop, A: Drop> UpdateRun<E, A> {
         ensures turn { (c : Call) (b h : History) → IsRun TreeAllows c.layout h → IsTry c b h self.old.limit self.old.tries
             → CanWork E.means self.old (begun_at c b) h found.now → UpdateGoesOn E.means c h self.new found.now (Ok result) }
         ensures same { IsSameUpdate self.old self.new }
-        ensures nearer { HasAsked E.means self.old found.now → (nodes : ℕ) → ComesNearer E.means self.new found.now (Ok result) nodes
+        ensures nearer { HasAsked E.means self.old found.now → (nodes : ℕ) →
+            ComesNearer E.means self.new found.now (Ok result) nodes
             (self.old.tries * try_left E.means self.old.edit nodes + (most_works E.means self.old.edit + 39)) }
         ensures spends { HasSpentForNext E.means self.old.share self.new found.now (Ok result) self.old.tries (self.old.tries + 1) }
         ensures tries { self.new.tries ≡ self.old.tries }
@@ -253,7 +257,8 @@ impl<E: Edit + Drop, A: Drop> UpdateRun<E, A> {
     fn read_next(&self, found: &Found, node: NodeNo) -> Next
         ensures turn { (c : Call) (b h : History) → IsRun TreeAllows c.layout h → IsTry c b h self.now.limit self.now.tries
             → CanRead E.means self.now (begun_at c b) h found.now node → UpdateGoesOn E.means c h self.now found.now (Ok result) }
-        ensures nearer { HasAsked E.means self.now found.now → (nodes : ℕ) → ComesNearer E.means self.now found.now (Ok result) nodes
+        ensures nearer { HasAsked E.means self.now found.now → (nodes : ℕ) →
+            ComesNearer E.means self.now found.now (Ok result) nodes
             (self.now.tries * try_left E.means self.now.edit nodes + (reads_left self.now.read + E.means.most_fills self.now.edit + 39)) }
         ensures spends { HasSpentForNext E.means self.now.share self.now found.now (Ok result) self.now.tries (self.now.tries + 1) }
     {
@@ -295,9 +300,11 @@ impl<E: Edit + Drop, A: Drop> UpdateRun<E, A> {
         requires pair { is_at_pair self.old.read ≡ true }
         ensures turn { (c : Call) (b h : History) → IsRun TreeAllows c.layout h → IsTry c b h self.old.limit self.old.tries
             → Reads E.means (half_told self.old slot key low) (begun_at c b) h found.now node (SettledPart.High slot)
-            → value h (Word.Node node (NodeWord.Settled (SettledPart.High slot))) ≡ high → UpdateGoesOn E.means c h self.new found.now (Ok result) }
+            → value h (Word.Node node (NodeWord.Settled (SettledPart.High slot))) ≡ high
+            → UpdateGoesOn E.means c h self.new found.now (Ok result) }
         ensures same { IsSameUpdate self.old self.new }
-        ensures nearer { HasAsked E.means self.old found.now → (nodes : ℕ) → next_read (half_told self.old slot key low).read ≡ Some (SettledPart.High slot)
+        ensures nearer { HasAsked E.means self.old found.now → (nodes : ℕ) →
+            next_read (half_told self.old slot key low).read ≡ Some (SettledPart.High slot)
             → ComesNearer E.means self.new found.now (Ok result) nodes
             (self.old.tries * try_left E.means self.old.edit nodes +
             (reads_left (half_told self.old slot key low).read - 1 + E.means.most_fills self.old.edit + 39)) }
@@ -319,12 +326,14 @@ impl<E: Edit + Drop, A: Drop> UpdateRun<E, A> {
     pub fn filled(&mut self, found: &Found, nth: Nth) -> Result<Next, Stop>
         ensures turn { (c : Call) (b h : History) (part : NodeWord) → IsRun TreeAllows c.layout h
             → IsTry c b h self.old.limit self.old.tries → IsFilledUpTo E.means self.old (begun_at c b) h found.now nth part
-            → part_behind (pieces_now E.means self.old found.now nth) part ≡ None → UpdateGoesOn E.means c h self.new found.now result }
+            → part_behind (pieces_now E.means self.old found.now nth) part ≡ None
+            → UpdateGoesOn E.means c h self.new found.now result }
         ensures same { IsSameUpdate self.old self.new }
         ensures nearer { (nodes : ℕ) → ComesNearer E.means self.new found.now result nodes
             (self.old.tries * try_left E.means self.old.edit nodes +
             (fills_after self.old.work.need (pieces_now E.means self.old found.now) nth + 39)) }
-        ensures spends { 0 < self.old.share.scx → HasSpentForNext E.means self.old.share self.new found.now result self.old.tries (self.old.tries + 1) }
+        ensures spends { 0 < self.old.share.scx →
+            HasSpentForNext E.means self.old.share self.new found.now result self.old.tries (self.old.tries + 1) }
         ensures tries { self.new.tries ≡ self.old.tries }
     {
         match nth.behind(self.work.need) {
@@ -351,8 +360,10 @@ impl<E: Edit + Drop, A: Drop> UpdateRun<E, A> {
         ensures turn { (c : Call) (b h : History) → IsRun TreeAllows c.layout h → IsTry c b h self.old.limit self.old.tries
             → CanScx E.means self.old (begun_at c b) h found.now → UpdateGoesOn E.means c h self.new found.now result }
         ensures same { IsSameUpdate self.old self.new }
-        ensures nearer { (nodes : ℕ) → ComesNearer E.means self.new found.now result nodes (self.old.tries * try_left E.means self.old.edit nodes + 39) }
-        ensures spends { 0 < self.old.share.scx → HasSpentForNext E.means self.old.share self.new found.now result self.old.tries (self.old.tries + 1) }
+        ensures nearer { (nodes : ℕ) →
+            ComesNearer E.means self.new found.now result nodes (self.old.tries * try_left E.means self.old.edit nodes + 39) }
+        ensures spends { 0 < self.old.share.scx →
+            HasSpentForNext E.means self.old.share self.new found.now result self.old.tries (self.old.tries + 1) }
         ensures tries { self.new.tries ≡ self.old.tries }
     {
         match self.share.scx() {

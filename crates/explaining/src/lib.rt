@@ -32,3 +32,4 @@ mod words;
 
 pub use breach::Breach;
 pub use explanation::explain;
+pub use map_before::edit_pairs;

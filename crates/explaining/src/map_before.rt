@@ -1,7 +1,6 @@
 //! The map after a turn.
 use crate::lines_before::LinesBefore;
 use arena::{PassNo, Side};
-use linearization::edited;
 use ordered_map::{Goal, Reply, Request};
 use script::Command;
 use std::alloc::{AllocError, Global};
@@ -16,7 +15,7 @@ pub(crate) fn pairs_at(before: &LinesBefore<'_>, turn: u64) -> Result<MapPairs, 
         if entry.step <= turn
             && let Some(command) = command_of(before, entry.client, entry.call)
         {
-            edit(&mut pairs, command)?;
+            edit_pairs(&mut pairs, command)?;
         }
     }
     Ok(pairs)
@@ -29,20 +28,30 @@ fn command_of(before: &LinesBefore<'_>, client: PassNo, number: u64) -> Option<C
     Some(own.nth(number as usize)?.command)
 }
 
-/// Edits the pairs as a command does that has an entry.
-fn edit(pairs: &mut MapPairs, command: Command) -> Result<(), AllocError> {
-    let least = pairs.first().map(|pair| pair.0);
-    let greatest = pairs.last().map(|pair| pair.0);
-    let takes_last = matches!(command, Command::Map(Request::PopLast));
-    let at_end = if takes_last { greatest } else { least };
-    let Some((key, value)) = edited(command, at_end) else {
+/// Edits the pairs of a map, by rising key, as a command does that has an entry.
+pub fn edit_pairs(pairs: &mut Vec<(u64, u128)>, command: Command) -> Result<(), AllocError> {
+    let Command::Map(request) = command else {
+        return Ok(());
+    };
+    let Some((goal, rule)) = request.edit() else {
+        return Ok(());
+    };
+    let Some(key) = key_of(goal, pairs) else {
         return Ok(());
     };
     pairs.retain(|pair| pair.0 != key);
-    if let Some(value) = value {
+    if let Some(value) = rule.leaves() {
         pairs.push((key, value))?;
     }
     pairs.sort()
+}
+
+/// The key to which an edit of these pairs goes, if it finds one.
+fn key_of(goal: Goal, pairs: &MapPairs) -> Option<u64> {
+    match goal {
+        Goal::Key(key) => Some(key),
+        Goal::End(side) => end_pair(pairs, side).map(|pair| pair.0),
+    }
 }
 
 /// What a key has.

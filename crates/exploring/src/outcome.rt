@@ -1,7 +1,6 @@
 //! What a schedule leaves.
 use arena::PassNo;
-use linearization::edited;
-use ordered_map::Request;
+use explaining::edit_pairs;
 use record::{Entry, Line, Record};
 use report::answer_text;
 use script::{Call, Command};
@@ -46,7 +45,7 @@ fn pairs_of(alloc: Global, record: &Record) -> Result<Vec<(u64, u128)>, AllocErr
         if let Line::Log(entry) = line
             && let Some(command) = command_of(record.script.calls.as_slice(), entry)
         {
-            edit(&mut pairs, command)?;
+            edit_pairs(&mut pairs, command)?;
         }
     }
     Ok(pairs)
@@ -56,20 +55,4 @@ fn pairs_of(alloc: Global, record: &Record) -> Result<Vec<(u64, u128)>, AllocErr
 fn command_of(calls: &[Call], entry: &Entry) -> Option<Command> {
     let mut own = calls.iter().filter(|call| call.client == entry.client);
     Some(own.nth(entry.call as usize)?.command)
-}
-
-/// Edits the pairs as a command does that has an entry.
-fn edit(pairs: &mut Vec<(u64, u128)>, command: Command) -> Result<(), AllocError> {
-    let least = pairs.first().map(|pair| pair.0);
-    let greatest = pairs.last().map(|pair| pair.0);
-    let takes_last = matches!(command, Command::Map(Request::PopLast));
-    let at_end = if takes_last { greatest } else { least };
-    let Some((key, value)) = edited(command, at_end) else {
-        return Ok(());
-    };
-    pairs.retain(|pair| pair.0 != key);
-    if let Some(value) = value {
-        pairs.push((key, value))?;
-    }
-    pairs.sort()
 }

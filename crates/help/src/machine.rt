@@ -86,7 +86,8 @@ impl HelpRun {
     fn mark_from(&mut self, from: Option<MemberIndex>) -> Turn<bool>
         ensures scx { self.new.scx ≡ self.old.scx }
         ensures nearer { MatchOption from (help_left self.new.at < 4) (λ j. help_left self.new.at < 8 - member_index j) }
-        ensures turn { MarksNext self.old self.new result (first_place from) ⊎ MarksNone self.old self.new result (first_place from) }
+        ensures turn { MarksNext self.old self.new result (first_place from) ⊎
+            MarksNone self.old self.new result (first_place from) }
     {
         match from.and_then(|j| self.plan.first_finalized_from(j)) {
             Some(j) => {

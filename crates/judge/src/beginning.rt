@@ -61,7 +61,8 @@ fn is_alone(judge: &Judge, scx: u64, place: u8, count: u8) -> bool
 
 fn are_distinct(judge: &Judge, scx: u64, count: u8) -> bool
     ensures { IsTrue result ↔
-        ((j k : ℕ) → j < count → k < count → j ≢ k → member (seen_history judge.now) scx j ≢ member (seen_history judge.now) scx k) }
+        ((j k : ℕ) → j < count → k < count → j ≢ k →
+        member (seen_history judge.now) scx j ≢ member (seen_history judge.now) scx k) }
 {
     for place in 0..count {
         if !is_alone(judge, scx, place, count) {
@@ -88,7 +89,8 @@ fn are_at_rest(judge: &Judge, scx: u64, count: u8) -> bool
 /// Whether the info word of the node at a place is as the SCX-record has seen it.
 pub fn is_as_seen(judge: &Judge, scx: u64, place: u8) -> bool
     ensures { IsTrue result ↔
-        (value (seen_history judge.now) (info (member (seen_history judge.now) scx place)) ≡ seen (seen_history judge.now) scx place) }
+        (value (seen_history judge.now) (info (member (seen_history judge.now) scx place)) ≡
+        seen (seen_history judge.now) scx place) }
 {
     let node = member(judge, scx, place);
     let seen = of_scx(judge, scx, ScxWord::Seen(place));

@@ -92,8 +92,10 @@ impl Entering {
         requires { MayEnter words.now self.old scx.0 }
         ensures entries { self.new.entries ≡ self.old.entries + 1 }
         ensures won { self.new.won.items ≡ slice_set self.old.won.items scx.0 true }
-        ensures last { self.new.last.items ≡ last_after words.now scx.0 (count_of (plan_in words.now scx.0)) (self.old.entries + 1) self.old.last.items }
-        ensures finals { self.new.finals.items ≡ finals_after words.now scx.0 (count_of (plan_in words.now scx.0)) self.old.finals.items }
+        ensures last { self.new.last.items ≡
+            last_after words.now scx.0 (count_of (plan_in words.now scx.0)) (self.old.entries + 1) self.old.last.items }
+        ensures finals { self.new.finals.items ≡
+            finals_after words.now scx.0 (count_of (plan_in words.now scx.0)) self.old.finals.items }
     {
         self.entries += 1;
         self.won[scx.0 as usize] = true;

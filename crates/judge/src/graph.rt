@@ -139,7 +139,8 @@ impl Graph {
             (if has_flag self.old.reached.items at
             then self.old.fresh.items
             else self.old.fresh.items ++ at ∷ []) }
-        ensures count { vec_len self.new.fresh + count_unset self.new.reached.items ≡ vec_len self.old.fresh + count_unset self.old.reached.items }
+        ensures count { vec_len self.new.fresh + count_unset self.new.reached.items ≡
+            vec_len self.old.fresh + count_unset self.old.reached.items }
         ensures room { HasRoomLeft self.new }
         ensures keeps { KeepsLinks self.old self.new }
     {
@@ -170,7 +171,8 @@ impl Graph {
         requires room { HasRoomLeft self.old }
         ensures spreads { Spreads self.new 0 None }
         ensures room { HasRoomLeft self.new }
-        ensures count { vec_len self.new.fresh + count_unset self.new.reached.items ≡ vec_len self.old.fresh + count_unset self.old.reached.items }
+        ensures count { vec_len self.new.fresh + count_unset self.new.reached.items ≡
+            vec_len self.old.fresh + count_unset self.old.reached.items }
         ensures size { length self.new.reached.items ≡ length self.old.reached.items }
         ensures keeps { KeepsLinks self.old self.new }
     {

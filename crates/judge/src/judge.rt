@@ -188,7 +188,8 @@ impl Judge {
             (log self.now.layout (row.now ⊳ seen_history self.now) ≡
             entry self.now.layout (seen_history self.now) s.0 n side row.now.after ∷ log self.now.layout (seen_history self.now))) }
         ensures none { IfNone result ((s : ℕ) → IsWin (seen_history self.now) row.now s → ⊥) }
-        ensures unlogged { IfNone result (log self.now.layout (row.now ⊳ seen_history self.now) ≡ log self.now.layout (seen_history self.now)) }
+        ensures unlogged { IfNone result (log self.now.layout (row.now ⊳ seen_history self.now) ≡
+            log self.now.layout (seen_history self.now)) }
     {
         let _words = &self.words;
         match row.word {

@@ -79,7 +79,8 @@ impl Naming {
         ensures naming { IsNaming self.new }
         ensures nodes { self.new.nodes ≡ self.old.nodes }
         ensures scxs { self.new.scxs ≡ self.old.scxs }
-        ensures links { links_of self.new.graph ≡ word_links self.old.nodes self.old.scxs row.now.word row.now.after ++ links_of self.old.graph }
+        ensures links { links_of self.new.graph ≡
+            word_links self.old.nodes self.old.scxs row.now.word row.now.after ++ links_of self.old.graph }
     {
         match row.word {
             Word::Node(node, NodeWord::Child(_)) => self.note_field(node.0, row.after),

@@ -6,6 +6,5 @@ mod changed;
 mod ordered;
 mod places;
 
-pub use changed::edited;
 pub use ordered::pairs_told;
 pub use places::{Change, Places};

@@ -25,13 +25,15 @@ use Rattle.order.specs.declared.last_turns.LastTurns.{LastTurns}
 
 -- Its walk
 
--- this fork was on the path of k when the call had passed it, and stays there; k is on this side of it
+-- this fork was on the path of k when the call had passed it, and stays there; k is on this side of
+-- it
 pub record LastTurned (c : Call) (h : History) (k : ℕ) (side : Side) (n : ℕ) : Type 0 where
   pub sure : IsSurelyOn c h k n
   pub fork : is_leaf (value h) n ≡ false
   pub turn : toward (value h) n k ≡ side
 
--- so it is with the last fork that counts where the walk has turned to this side, or that is the root
+-- so it is with the last fork that counts where the walk has turned to this side, or that is the
+-- root
 abbrev pub IsLastTurn : Call → History → ℕ → Side → ℕ → Type 0
 IsLastTurn c h k side n = (n ≡ 0) ⊎ LastTurned c h k side n
 

@@ -42,12 +42,13 @@ SharesKey walk found = (k level : ℕ) → walk.goal ≡ ToKey k → IsForkKey f
 abbrev pub SharesNoKey : WalkRun → ℕ → Type 0
 SharesNoKey walk found = (k level : ℕ) → walk.goal ≡ ToKey k → IsForkKey found level → ¬ IsInSpan found level k
 
--- In a trie the fork n of this level counts, where a walk turns that was here before it has found this: it is
--- above all keys, or the walk has found the fork's key, and its own shares that.
+-- In a trie the fork n of this level counts, where a walk turns that was here before it has found
+-- this: it is above all keys, or the walk has found the fork's key, and its own shares that.
 abbrev pub Counts : WalkRun → ℕ → ℕ → NodeNo → Type 0
 Counts before found low n = (low < 2) ⊎ ((before.trail.node.0 ≡ n.0) × LoadsKey before.at × SharesKey before found)
 
--- it does not count: it is below those, and if the walk has found its key, its own does not share that
+-- it does not count: it is below those, and if the walk has found its key, its own does not share
+-- that
 abbrev pub CountsNot : WalkRun → ℕ → ℕ → NodeNo → Type 0
 CountsNot before found low n = (2 ≤ low) × (before.trail.node.0 ≡ n.0 → LoadsKey before.at → SharesNoKey before found)
 
@@ -56,16 +57,16 @@ abbrev pub IfTurns : WalkAt → (ℕ → Type 0) → Type 0
 IfTurns (Child low side) P = P low
 IfTurns _ P = Unit {0}
 
--- The last turns of a walk that was here, has found this, and is there now: in a tree each fork counts where it
--- turns, and in a trie those that do.
+-- The last turns of a walk that was here, has found this, and is there now: in a tree each fork
+-- counts where it turns, and in a trie those that do.
 abbrev pub TurnsSo : Bool → WalkRun → ℕ → WalkRun → LastTurns → LastTurns → Type 0
 TurnsSo false before found after turns now = now ≡ last_turns after.at after.trail.node turns
 TurnsSo true before found after turns now =
     ((now ≡ last_turns after.at after.trail.node turns) × IfTurns after.at (λ low. Counts before found low after.trail.node))
     ⊎ ((now ≡ turns) × IfTurns after.at (λ low. CountsNot before found low after.trail.node))
 
--- to which side a walk has turned at its last turn to this side, or at the root if it had none: there
--- it turns to the left
+-- to which side a walk has turned at its last turn to this side, or at the root if it had none:
+-- there it turns to the left
 abbrev pub turned_at : Side → ℕ → Side
 turned_at sides.Left n = sides.Left
 turned_at sides.Right n = if n == 0 then sides.Left else sides.Right

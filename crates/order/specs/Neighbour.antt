@@ -25,8 +25,8 @@ abbrev pub asks_on_route : Route → HeadParts → Bool
 asks_on_route Beyond head = false
 asks_on_route _ head = head.class == 0
 
--- what it loads first of a leaf of class 0: how many pairs that has, but for the first pair alone of
--- the leaf on the right of the path
+-- what it loads first of a leaf of class 0: how many pairs that has, but for the first pair alone
+-- of the leaf on the right of the path
 abbrev pub leaf_load : Side → Route → NodeNo → ReadLoad
 leaf_load sides.Right Beyond n = Pair (first_in_leaf n 0)
 leaf_load _ _ n = More n
@@ -56,8 +56,8 @@ abbrev pub alone : Side → Children
 alone sides.Left = Left
 alone sides.Right = Right
 
--- which children of a fork are to be visited where the path of the key turns to this side: with a turn
--- away from the side on which it searches both
+-- which children of a fork are to be visited where the path of the key turns to this side: with a
+-- turn away from the side on which it searches both
 abbrev pub children_toward : Side → Side → Children
 children_toward sides.Left sides.Left = Left
 children_toward sides.Right sides.Right = Right
@@ -112,22 +112,23 @@ abbrev pub beside_path : Route → List NodeNo
 beside_path (Along (Some beside)) = beside ∷ []
 beside_path _ = []
 
--- where the search stands on this part of its way: at the first fork it looks before it stands there
+-- where the search stands on this part of its way: at the first fork it looks before it stands
+-- there
 abbrev pub IsOnRoute : Side → Route → History → ℕ → ℕ → Type 0
 IsOnRoute side (Along beside) b k n = (rest : Option MapPair) × IsBeside b side beside rest × IsSearched b side k n rest
 IsOnRoute side Beyond b k n = IsEndBelow b side k n
 IsOnRoute side _ b k n = ⊥
 
--- And so it stands at a fork, to go on to these children. The first fork is the root, or the path has
--- turned away from the side there.
+-- And so it stands at a fork, to go on to these children. The first fork is the root, or the path
+-- has turned away from the side there.
 abbrev pub LooksOnRoute : Side → Route → History → ℕ → ℕ → Children → Type 0
 LooksOnRoute side Above b k n children = (children ≡ children_toward side (toward (value b) n k)) × ((n ≡ 0) ⊎ (toward (value b) n k ≡ opposite side)) × (value b (marked n) ≡ 0 → IsOnPath b k n)
 LooksOnRoute side (Along beside) b k n children = (children ≡ children_toward side (toward (value b) n k)) × IsOnRoute side (Along beside) b k n
 LooksOnRoute side (Within slot key) b k n children = ⊥
 LooksOnRoute side Beyond b k n children = (children ≡ alone (opposite side)) × IsEndBelow b side k n
 
--- what is left in a leaf for the search on this part of its way, but for the keys that follow: what is
--- beside the path, or the pair in this slot, which has this key
+-- what is left in a leaf for the search on this part of its way, but for the keys that follow: what
+-- is beside the path, or the pair in this slot, which has this key
 abbrev pub IsRest : Side → Route → History → NodeNo → Option MapPair → Type 0
 IsRest side (Along beside) b n rest = IsBeside b side beside rest
 IsRest side (Within slot key) b n rest = (rest ≡ Some (place_pair b (slot_place n slot))) × (place_key b (slot_place n slot) ≡ key) × (key < 2 ^ 64)

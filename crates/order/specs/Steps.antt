@@ -1,6 +1,6 @@
 -- How many steps an ordered read may still ask for: three a node of its walk and five more at its
--- leaf, and 67 a node of each path that it goes down with LLXs. What stands for the taken nodes in a trie is
--- `nodes_by` of template.
+-- leaf, and 67 a node of each path that it goes down with LLXs. What stands for the taken nodes in
+-- a trie is `nodes_by` of template.
 use Rattle.std.specs.Prelude.{◌≡◌, ℕ, ◌+◌, ◌*◌, ◌-◌, ◌<◌, length, Option, unwrap_or}
 use Rattle.histories.specs.Common.{head_of, MatchTurn, Turn}
 use Rattle.template.specs.Balance.{leaf_way}

@@ -35,7 +35,8 @@ pub trait KnownLoad<R: Read + Drop> {
     /// `NoMemory` where there is none to keep what is found.
     fn found(&self, run: &mut ReadRun<R>, value: u64) -> Result<ReadNext, Refused>
         ensures goes_on { (c : Call) (h : History) → ReadGoes R.means run.old c h → IsOwnMoment c h
-            → MayLoad R.means run.old.read run.old.snaps.items c h (load self.now) → load_value h (load self.now) ≡ value → GoesOn R.means c h run.new result }
+            → MayLoad R.means run.old.read run.old.snaps.items c h (load self.now)
+            → load_value h (load self.now) ≡ value → GoesOn R.means c h run.new result }
         ensures same { IsSameRead R.means run.old run.new }
         ensures nearer { (nodes : ℕ) → LoadFits value nodes (load self.now)
             → IfOk result (λ next. RunComesNearer R.means run.new nodes next

@@ -111,7 +111,8 @@ pub trait Read {
     /// `NoMemory` where there is none to keep it.
     fn value_on(&mut self, place: LeafPlace, pair: Pair) -> Result<ReadNext, Refused>
         ensures goes_on { (snaps : List Snap) (c : Call) (h : History) → IsReading means self.old snaps c h → IsOwnMoment c h
-            → TakesPair means self.old snaps c h place pair.key → place_value h place ≡ pair.value → GoesOnSo means self.new snaps c h result }
+            → TakesPair means self.old snaps c h place pair.key
+            → place_value h place ≡ pair.value → GoesOnSo means self.new snaps c h result }
         ensures same { means.call self.new ≡ means.call self.old }
         ensures nearer { (nodes : ℕ) → IfOk result (λ next. ComesNearer means self.new nodes next
             (slots_left place - 3 + means.behind self.old nodes)) };

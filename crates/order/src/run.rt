@@ -188,10 +188,12 @@ impl<R: Read + Drop> ReadRun<R> {
     ) -> Turn<Result<R::Answer, Refused>>
         ensures turn { (c : Call) (begin h : History) (key v : ℕ) → got ≡ Some v → IsInTry c h begin self.old.limit self.old.tries
             → ReadGoes R.means self.old (begun_at c begin) h → walk.goal ≡ Goal.Key key
-            → walk.way ≡ leaf_way self.old.trie → WalksTo R.means self.old.read key side → AreLastTurns (begun_at c begin) h key turns
+            → walk.way ≡ leaf_way self.old.trie → WalksTo R.means self.old.read key side
+            → AreLastTurns (begun_at c begin) h key turns
             → WalkIsReady walk (begun_at c begin) h (Some v) → ReadTurn R.means c h self.new result }
         ensures same { IsSameRead R.means self.old self.new }
-        ensures nearer { (nodes : ℕ) → let room : ℕ = nodes_by self.old.trie nodes in walk.way ≡ leaf_way self.old.trie → WalkFitsAt walk.at (unwrap_or got 0) room
+        ensures nearer { (nodes : ℕ) →
+            let room : ℕ = nodes_by self.old.trie nodes in walk.way ≡ leaf_way self.old.trie → WalkFitsAt walk.at (unwrap_or got 0) room
             → ReadIsNearer R.means self.new room result
             (tries_left R.means self.old room
             + (walk_left walk.at room + length self.old.snaps.items + path_left room + R.means.behind self.old.read room)) }
@@ -221,7 +223,8 @@ impl<R: Read + Drop> ReadRun<R> {
             at = LlxAt.Marked;
           };
         } }
-        ensures asked { result ≡ Turn.Ask record { kind = Kind.LoadMarked; word = Word.Node node NodeWord.Marked; access = Access.Load } }
+        ensures asked { result ≡
+            Turn.Ask record { kind = Kind.LoadMarked; word = Word.Node node NodeWord.Marked; access = Access.Load } }
     {
         let at = LlxAt::Marked;
         let llx = LlxRun { node, at };
@@ -308,13 +311,15 @@ impl<R: Read + Drop> ReadRun<R> {
     fn validate_on(&mut self, asked: usize, got: Option<u64>) -> Turn<Result<R::Answer, Refused>>
         ensures turn { (c : Call) (begin look h : History) → IsInTry c h begin self.old.limit self.old.tries
             → ReadGoes R.means self.old (begun_at c begin) h
-            → Validates R.means self.old.read self.old.snaps.items (begun_at c begin) h look → VlxIsReady self.old.snaps.items asked (begun_at c look) h got
+            → Validates R.means self.old.read self.old.snaps.items (begun_at c begin) h look
+            → VlxIsReady self.old.snaps.items asked (begun_at c look) h got
             → ReadTurn R.means c h self.new result }
         ensures same { IsSameRead R.means self.old self.new }
         ensures nearer { (nodes : ℕ) →
             ReadIsNearer R.means self.new nodes result (tries_left R.means self.old nodes + vlx_left self.old.snaps.items asked) }
         ensures tries { (c : Call) (begin h : History) → ReadGoes R.means self.old c h
-            → Validates R.means self.old.read self.old.snaps.items c h begin → VlxIsReady self.old.snaps.items asked (begun_at c begin) h got
+            → Validates R.means self.old.read self.old.snaps.items c h begin
+            → VlxIsReady self.old.snaps.items asked (begun_at c begin) h got
             → KeepsTries c h self.old.tries self.new.tries result }
     {
         let mut vlx = VlxRun {
@@ -379,7 +384,8 @@ impl<R: Read + Drop> ReadRun<R> {
     #[inline(always)]
     pub fn loaded(&mut self, load: ReadLoad, value: u64) -> Result<ReadNext, Refused>
         ensures goes_on { (c : Call) (h : History) → ReadGoes R.means self.old c h → IsOwnMoment c h
-            → MayLoad R.means self.old.read self.old.snaps.items c h load → load_value h load ≡ value → GoesOn R.means c h self.new result }
+            → MayLoad R.means self.old.read self.old.snaps.items c h load
+            → load_value h load ≡ value → GoesOn R.means c h self.new result }
         ensures same { IsSameRead R.means self.old self.new }
         ensures nearer { (nodes : ℕ) → LoadFits value nodes load
             → IfOk result (λ next. RunComesNearer R.means self.new nodes next

@@ -132,7 +132,8 @@ place_falling j k l small =
 blocks : (k p q r s a b : ℕ) → r < 2 ^ k → s < 2 ^ k → a ≡ p * 2 ^ k + r → b ≡ q * 2 ^ k + s → bit_xor a b ≡ bit_xor p q * 2 ^ k + bit_xor r s
 blocks k p q r s a b l m d e = rw d (rw e (xor_block k p q r s l m))
 
--- a number that has the bit b and none below it, and the one before it, differ in this bit and below
+-- a number that has the bit b and none below it, and the one before it, differ in this bit and
+-- below
 last_bit : (x q b : ℕ) → x ≡ q * 2 ^ suc b + 2 ^ b → bit_xor x (x - 1) + 1 ≡ 2 ^ suc b
 last_bit x q b e = omega (arith, all, none, one, p, two)
   where

@@ -1,5 +1,5 @@
--- What the forks of a tree have for children, now or when they were there: where each is, seen from its
--- fork, and that in a trie it keeps to its side.
+-- What the forks of a tree have for children, now or when they were there: where each is, seen from
+-- its fork, and that in a trie it keeps to its side.
 use Rattle.std.proofs.Common.{◌≡◌, ◌≢◌, ℕ, ◌/◌, ◌%◌, ◌^◌, ◌<◌, ◌≤◌, Bool, true, false, eqb, inl, inr, refl, sym, ◌∙◌, ap, arith, subst}
 use Rattle.histories.specs.Common.{Layout, Side, Left, Right, Child, Settled, Head, Word, child, History, value, Extends}
 use Rattle.arena.specs.declared.limits.Mode.TheVariants.{Trie as TrieMode}
@@ -78,10 +78,6 @@ run_low lay h t g is =
 pub parent_stood : (h : History) (n : ℕ) (side : Side) (m : ℕ) → HasHadChild h n side m → WasInTree h n
 parent_stood h n side m x = let s = x.stood in record { moment = s.moment; within = ends_trans h x.moment s.moment x.within s.within; tree = s.tree; is_tree = s.is_tree; has = s.has }
 
--- what it has had it has had
-pub had_child_since : (h m : History) (n : ℕ) (side : Side) (c : ℕ) → Extends h m → HasHadChild m n side c → HasHadChild h n side c
-had_child_since h m n side c e x = record { moment = x.moment; within = ends_trans h m x.moment e x.within; stood = x.stood; held = x.held }
-
 -- what a fork has now that was ever in the tree
 pub has_child : (h : History) (n : ℕ) (side : Side) → WasInTree h n → HasHadChild h n side (value h (child n side))
 has_child h n side x = record { moment = h; within = ends_self h; stood = x; held = refl }
@@ -108,7 +104,8 @@ stood_next lay h start n side g (x, since) fork = (
     below : Has l.on_path.tree (value l.moment (child n side))
     below = (path_level (value l.moment) l.on_path.tree _ _ n side l.on_path.is_tree.shows has fork_then).1
 
--- a moment at which the fork n was in the tree, with the child m on this side; both are as they were
+-- a moment at which the fork n was in the tree, with the child m on this side; both are as they
+-- were
 record IsShownBelow (h : History) (n : ℕ) (side : Side) (m : ℕ) : Type 0 where
   moment : History
   within : Extends h moment

@@ -209,8 +209,8 @@ same_since lay h start k n g p part i = node_since lay h p.0 n part g.1.lawful p
 pub walk_beside : (lay : Layout) (h start : History) (k n : ℕ) (side : Side) → IsMapRun lay h → Passed h start k n → is_leaf (value h) n ≡ false → IsBeside (value h) side n (value h (child n side))
 walk_beside lay h start k n side g p fork = had_beside lay h n side (value h (child n side)) g (has_child h n side (was_passed h start k n p)) fork
 
--- the keys of all pairs of a leaf of class 0 that was ever in the tree are keys of the map, and rise; and
--- they are as many as a leaf may hold
+-- the keys of all pairs of a leaf of class 0 that was ever in the tree are keys of the map, and
+-- rise; and they are as many as a leaf may hold
 pub stood_holds : (lay : Layout) (h : History) (n : ℕ) → IsMapRun lay h → WasInTree h n → is_leaf (value h) n ≡ true → class (value h) n ≡ 0 → IsWellCounted (value h) n × AllBelow (2 ^ 64) (held_pairs (value h) n) × IsRising (held_pairs (value h) n)
 stood_holds lay h n g x leaf low = ((y.keys low).0, (y.keys low).1, subst IsRising (low_items (value h) n low) y.rising)
   where
@@ -222,10 +222,6 @@ stood_holds lay h n g x leaf low = ((y.keys low).0, (y.keys low).1, subst IsRisi
 
     y : HasItems (value h) n shown.0 shown.1
     y = (same_leaf (value x.moment) (value h) n shown.0 shown.1 same shown.2).items
-
--- so it is with one that was passed
-pub walk_holds : (lay : Layout) (h start : History) (k n : ℕ) → IsMapRun lay h → Passed h start k n → is_leaf (value h) n ≡ true → class (value h) n ≡ 0 → IsWellCounted (value h) n × AllBelow (2 ^ 64) (held_pairs (value h) n) × IsRising (held_pairs (value h) n)
-walk_holds lay h start k n g p = stood_holds lay h n g (was_passed h start k n p)
 
 pub stood_counted : (lay : Layout) (h : History) (n : ℕ) → IsMapRun lay h → WasInTree h n → is_leaf (value h) n ≡ true → class (value h) n ≡ 0 → IsWellCounted (value h) n
 stood_counted lay h n g x leaf low = (stood_holds lay h n g x leaf low).0

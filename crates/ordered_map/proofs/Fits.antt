@@ -1,5 +1,5 @@
--- What an edit of a trie puts in below a fork at which its key stays, in the place of what that has named
--- on the key's side, fits there.
+-- What an edit of a trie puts in below a fork at which its key stays, in the place of what that has
+-- named on the key's side, fits there.
 use Rattle.std.proofs.Common.{◌≡◌, ◌≢◌, ℕ, ◌^◌, ◌<◌, false, refl, ap, arith, lt-ltb, subst}
 use native.Mathlib.Decide.{ℕ_discrete}
 use Rattle.histories.specs.Common.{Layout, Side, Left, Word, child, History, value}

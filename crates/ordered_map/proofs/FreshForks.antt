@@ -58,7 +58,8 @@ module _ (f : Word → ℕ) where
 
   -- A fork over two leaves
 
-  -- in the place of a leaf of class 0, between the first and the last of the pairs that the edit leaves
+  -- in the place of a leaf of class 0, between the first and the last of the pairs that the edit
+  -- leaves
   pub fits_split : (p : ℕ) (side : Side) (e : MapEdit) (l c x y : ℕ) (first last : Pair) → IsParted f p → Keeps f p side l → IsOnSide f p side (edit_key e) → IsSplitBy f e l c x y → class f l ≡ 0 → IsRising (held_pairs f l) → level f x ≡ 66 → level f y ≡ 66 → first_pair (edited e (held_pairs f l)) ≡ Some first → last_pair (edited e (held_pairs f l)) ≡ Some last → PartsKeys first.key last.key (key_of f c) (level f c) → FitsTrie f p side c
   fits_split p side e l c x y first last parted keeps on s zero rising deep_x deep_y is_first is_last parts = record { keeps = place.0; fork = λ _. (record { top = λ d. absurd (d low); key = λ _. parts.fork }, below); deeper = place.1; rises = λ _. deeper }
     where
@@ -165,8 +166,8 @@ module _ (f : Word → ℕ) where
   same_sides_keep : (c z : ℕ) (at : Side) (m : ℕ) → side_from f c at ≡ side_from f z at → side_to f c at ≡ side_to f z at → Keeps f z at m → Keeps f c at m
   same_sides_keep c z at m from to k = record { fork = λ d l. rw (from, to) (k.fork d l); leaf = λ d l. rw (from, to) (k.leaf d l); last = k.last }
 
-  -- a copy of what stands below the fork q, in the place of q below the fork g: its fields name what may
-  -- stand below the fork that it is a copy of
+  -- a copy of what stands below the fork q, in the place of q below the fork g: its fields name
+  -- what may stand below the fork that it is a copy of
   pub fits_join : (g : ℕ) (side : Side) (q : ℕ) (at : Side) (z c : ℕ) → is_leaf f q ≡ false → Keeps f g side q → (class f q ≢ 0 → class f z ≢ 0) → Keeps f q at z → IsCopyOf f c z → (is_leaf f z ≡ false → IsParted f z × ((to : Side) → Keeps f z to (f (child c to)) × (level f z < level f (f (child c to))))) → level f g < level f q → level f q < level f z → FitsTrie f g side c
   fits_join g side q at z c fork outer order inner copy below lower deeper = record {
     keeps = record { fork = keeps_fork; leaf = keeps_leaf; last = keeps_last };
@@ -226,7 +227,8 @@ module _ (f : Word → ℕ) where
 
   -- A fork above a fork
 
-  -- a fresh fork over the fork u, which the key of the edit does not share, and over a leaf with its pair
+  -- a fresh fork over the fork u, which the key of the edit does not share, and over a leaf with
+  -- its pair
   pub fits_above : (p : ℕ) (side : Side) (e : MapEdit) (u c x : ℕ) (at : Side) → IsParted f p → Keeps f p side u → IsTrieFork f u → ¬ Shares f u (edit_key e) → IsOnSide f p side (edit_key e) → IsAboveBy f e u c x at → PartsFrom f u c (edit_key e) → level f x ≡ 66 → FitsTrie f p side c
   fits_above p side e u c x at parted keeps trie outside on s parts deep = record {
     keeps = place.0;

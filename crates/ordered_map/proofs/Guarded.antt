@@ -1,6 +1,7 @@
--- A fork stays on the path of each key for as long as it is not final and no fork is put above another:
--- what puts one there covers node 2. So what covers node 2 with the SCX-record that a walk to an end found
--- there knows, when it wins, that the forks which it has passed since are on that path still.
+-- A fork stays on the path of each key for as long as it is not final and no fork is put above
+-- another: what puts one there covers node 2. So what covers node 2 with the SCX-record that a walk
+-- to an end found there knows, when it wins, that the forks which it has passed since are on that
+-- path still.
 use Rattle.std.proofs.Common.{◌≡◌, ◌≢◌, ℕ, ◌/◌, ◌%◌, ◌<◌, Bool, true, false, ◌⊎◌, inl, inr, ⊎_elim, eqb, refl, sym, ◌∙◌, ap, arith, subst}
 use native.Mathlib.Decide.{ℕ_discrete}
 use Rattle.histories.specs.Common.{Layout, Row, Settled, Child, Head, ScxWord, Plan, Member, Seen, scx, child, info, marked, state, History, Opened, ◌⊳◌, value, Extends, HasHeld, HasWon, IsNamed, IsNamedScx, IsWin, opening_node, Lawful, log, is_final, count, count_of, member, seen}
@@ -31,8 +32,8 @@ holds_still lay h n s f real going held =
     let c = f.cell s n real held in
     subst (λ v. value h (info v) ≡ s) c.is ((f.about s n real held).holds c.index c.within (subst (λ v. HasHeld h (info v) s) (sym c.is) held) going)
 
--- Up to the moment `top` the SCX-record s, if there is one, is in progress and has not won, and of node
--- 2 it has seen the guard.
+-- Up to the moment `top` the SCX-record s, if there is one, is in progress and has not won, and of
+-- node 2 it has seen the guard.
 record IsGuard (lay : Layout) (top : History) (guard s : ℕ) : Type 0 where
   lawful : Lawful lay top
   going : s ≢ 0 → value top (state s) ≡ 0
@@ -118,8 +119,8 @@ module _ (calls : ℕ → MapEdit) (lay : Layout) (k n guard s : ℕ) (top : His
       guarded_step (inr d) = inr (still_passed d)
       guarded_step (inl p) = on_path_then (path_now h (tree_then calls lay h r g).tree k n (tree_then calls lay h r g).is_tree p)
 
-  -- A fork that was on a path once the guard was finished is on it still, if it is not final; or the info of
-  -- node 2 is no longer the guard, and s can freeze it no more.
+  -- A fork that was on a path once the guard was finished is on it still, if it is not final; or
+  -- the info of node 2 is no longer the guard, and s can freeze it no more.
   grown_guarded : (h m : History) → Extends top h → IsGrown calls lay h → Extends h m → value m (state guard) ≢ 0 → IsOnPath m k n → is_leaf (value h) n ≡ false → is_final (log lay h) n ≡ false → IsGuarded h
   grown_guarded (Opened o) m w g e done p fork kept = inl (subst (λ x. IsOnPath x k n) e p)
   grown_guarded (r ⊳ h) m w g (inl e) done p fork kept = inl (subst (λ x. IsOnPath x k n) e p)
@@ -165,8 +166,8 @@ module _ (calls : ℕ → MapEdit) (lay : Layout) (k n guard s : ℕ) (top : His
       go false kept earlier = ⊎_elim (λ q. inl (latest_now (r ⊳ h) m k n (inr e) q)) inr (grown_guarded (r ⊳ h) m w g (inr e) done p fork kept)
       go true gone earlier = ⊎_elim (λ x. inl (latest_more calls lay h m r k n g named (final_marked h r g gone) x)) (λ d. inr (still_passed h r w g (finished_since lay h m guard before.lawful e done) d)) earlier
 
--- A walk to a key, which began once the SCX-record that node 2 then named was finished, goes on: what it
--- finds was on the path, or node 2 names another by now.
+-- A walk to a key, which began once the SCX-record that node 2 then named was finished, goes on:
+-- what it finds was on the path, or node 2 names another by now.
 pub guarded_next : (lay : Layout) (h start : History) (k n guard : ℕ) → IsMapRun lay h → value start (state guard) ≢ 0 → Passed h start k n → is_leaf (value h) n ≡ false → Passed h start k (value h (child n (toward (value h) n k))) ⊎ (value h (info 2) ≢ guard)
 guarded_next lay h start k n guard g done p fork = ⊎_elim (λ x. inl (latest_goes_on h p.0 start k n x p.2 fork)) (λ d. inr d.0) (grown_latest (edits_of lay h g).edits lay k n guard 0 h none h p.0 (ends_self h) (grown lay h g) p.1 finished p.3 fork)
   where
@@ -176,14 +177,14 @@ guarded_next lay h start k n guard g done p fork = ⊎_elim (λ x. inl (latest_g
     finished : value p.0 (state guard) ≢ 0
     finished = finished_since lay p.0 start guard (lawful_since lay h p.0 g.1.lawful p.1) p.2 done
 
--- A walk to k, which began at the moment `start`, has come to n by the moment m: n was on the path, or node 2
--- named another SCX-record than the guard, and s had not begun.
+-- A walk to k, which began at the moment `start`, has come to n by the moment m: n was on the path,
+-- or node 2 named another SCX-record than the guard, and s had not begun.
 pub data HasComeBy (h start : History) (k n guard s : ℕ) : Type 0 where
   came : Passed h start k n → HasComeBy h start k n guard s
   changed : (m : History) → Extends h m → Extends m start → value m (info 2) ≢ guard → ¬ IsNamedScx m s → HasComeBy h start k n guard s
 
--- Just before an SCX-record wins that covers node 2, a fork to which a walk has come that began once what the
--- SCX-record has seen of node 2 was finished is on its path, if it is not final.
+-- Just before an SCX-record wins that covers node 2, a fork to which a walk has come that began
+-- once what the SCX-record has seen of node 2 was finished is on its path, if it is not final.
 pub guarded_win : (lay : Layout) (h start : History) (row : Row) (s j k n : ℕ) → IsMapRun lay (row ⊳ h) → IsWin h row s → j < count h s → member h s j ≡ 2 → value start (state (seen h s j)) ≢ 0 → HasComeBy h start k n (seen h s j) s → is_leaf (value h) n ≡ false → is_final (log lay h) n ≡ false → IsOnPath h k n
 guarded_win lay h start row s j k n g won few two done x fork kept = go x
   where

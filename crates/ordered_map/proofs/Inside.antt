@@ -3,9 +3,7 @@ use Rattle.std.proofs.Common.{◌≡◌, ◌≢◌, ℕ, ◌<◌, Bool, true, fa
 use native.Mathlib.Decide.{dec_lt}
 use Rattle.histories.specs.Common.{Settled, Head, Word, Layout, nodes_at_start, all_nodes, IsWord, node, same_word, History, Opened, ◌⊳◌, value, Lawful}
 use Rattle.arena.proofs.Lemmas.{word_same, value_other}
-use Rattle.histories.proofs.Lemmas.{lawful_row, lawful_since, lawful_tail, some_open, start_nodes, value_start}
-use Rattle.ordered_map.proofs.Trees.{passes_has}
-use Rattle.ordered_map.specs.Paths.{Passed}
+use Rattle.histories.proofs.Lemmas.{lawful_row, lawful_tail, some_open, start_nodes, value_start}
 use Rattle.ordered_map.specs.Spelled.{IsTree}
 use Rattle.ordered_map.specs.TreeWords.{Tree, Leaf, Fork, root, Shows, Has, level}
 
@@ -38,6 +36,3 @@ tree_inside lay h t l i n p =
     (λ e. let x = some_nodes lay in let q : n ≡ 0 = e ∙ i.is in omega (arith, x, q))
     (λ d. head_inside lay h n l d)
     (has_head (value h) t _ _ n i.shows p)
-
-pub walk_inside : (lay : Layout) (h start : History) (k n : ℕ) → Lawful lay h → Passed h start k n → n < all_nodes lay
-walk_inside lay h start k n l p = tree_inside lay p.0 p.3.tree (lawful_since lay h p.0 l p.1) p.3.is_tree n (passes_has (value p.0) k p.3.tree n p.3.passes)

@@ -47,5 +47,4 @@ mod PartedPairs
 mod FreshForks
 mod SlotReads
 pub mod MapLemmas
-mod TreeRuns
 pub mod Lemmas

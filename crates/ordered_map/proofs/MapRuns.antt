@@ -1,6 +1,6 @@
--- What a history of a map keeps, in a tree or a trie, whatever edits it makes: levels, how deep it is,
--- what is blank, and which nodes are final.
-use Rattle.std.proofs.Common.{◌≡◌, ◌≢◌, ◌⊎◌, inl, inr, ◌/◌, ◌%◌, ◌<◌, ◌≤◌, Bool, true, false, eqb, ℕ, List, [], ◌∷◌, ◌++◌, None, length, refl, ◌∙◌, ap, arith, subst}
+-- What a history of a map keeps, in a tree or a trie, whatever edits it makes: levels, how deep it
+-- is, what is blank, and which nodes are final.
+use Rattle.std.proofs.Common.{◌≡◌, ◌≢◌, ◌⊎◌, inl, inr, ◌/◌, ◌%◌, ◌<◌, Bool, true, false, eqb, ℕ, List, [], ◌∷◌, ◌++◌, None, length, refl, ◌∙◌, ap, arith, subst}
 use Rattle.std.specs.Prelude.{All}
 use Rattle.std.proofs.lemmas.List.Elements.{All-head, All-tail}
 use Rattle.histories.specs.Common.{Layout, Tree as TreeMode, Side, Left, Right, Settled, Head, node, child, marked, Row, new, History, ◌⊳◌, value, Extends, log, is_final, IsInField, taken_nodes}
@@ -25,7 +25,6 @@ use Rattle.ordered_map.proofs.Grown.{tree_facts, grown_tail}
 use Rattle.ordered_map.proofs.Trees.{passes_has, IsBelowFork, has_above, fields_apart, path_level}
 use Rattle.ordered_map.proofs.Holding.{SameSettled, high_pairs}
 use Rattle.ordered_map.proofs.LeafLists.{leaves_in}
-use Rattle.ordered_map.proofs.Taken.{grown_log}
 use Rattle.ordered_map.proofs.TrieForks.{map_depth}
 use Rattle.ordered_map.proofs.Meanings.{edits_of, grown, run_since, run_spells}
 
@@ -69,10 +68,6 @@ levels_rise lay h n side g x fork = grown_rises (edits_of lay h g).edits lay h n
 pub stood_blank : (lay : Layout) (h : History) (n : ℕ) → IsMapRun lay h → WasInTree h n → IsBlankAboveKeys (value h) n
 stood_blank lay h n g x = grown_blank (edits_of lay h g).edits lay h (grown lay h g) n x
 
--- so is a node that was passed
-pub passed_blank : (lay : Layout) (h start : History) (k n : ℕ) → IsMapRun lay h → Passed h start k n → IsBlankAboveKeys (value h) n
-passed_blank lay h start k n g p = stood_blank lay h n g (was_passed h start k n p)
-
 -- the root's head is as at the start: a fork of class 2, whose level is 0
 pub root_head : (lay : Layout) (h : History) → IsMapRun lay h → value h (node 0 (Settled Head)) ≡ 2
 root_head lay h g = grown_root (edits_of lay h g).edits lay h (grown lay h g)
@@ -84,10 +79,6 @@ path_remains lay h k n g p stay e = grown_on_path (edits_of lay h g).edits lay h
 -- so is one that was passed and is not marked
 pub passed_unmarked : (lay : Layout) (h start : History) (k n : ℕ) → IsMapRun lay h → Passed h start k n → Stays lay (value h) k n → value h (marked n) ≡ 0 → IsOnPath h k n
 passed_unmarked lay h start k n g p stay e = path_remains lay h k n g (p.0, p.1, p.3) stay (not_final lay h n g.1.lawful e)
-
--- the log is no longer than the taken nodes are many
-pub log_short : (lay : Layout) (h : History) → IsMapRun lay h → length (log lay h) ≤ length (taken_nodes h)
-log_short lay h g = grown_log (edits_of lay h g).edits lay h (grown lay h g)
 
 -- a node that was in the tree is not as deep as its mode lets it be
 pub stood_depth : (lay : Layout) (h : History) (n : ℕ) → IsMapRun lay h → WasInTree h n → level (value h) n < depth lay.mode (length (taken_nodes h))

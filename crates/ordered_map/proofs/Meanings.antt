@@ -1,13 +1,13 @@
--- What a run under the shape of a map says, in a tree or a trie, whatever edits it makes: the map that
--- the words spell, what a winning update makes of it, and what walks find.
+-- What a run under the shape of a map says, in a tree or a trie, whatever edits it makes: the map
+-- that the words spell, what a winning update makes of it, and what walks find.
 use Rattle.std.proofs.Common.{◌≡◌, ◌≢◌, ℕ, ◌^◌, ◌<◌, true, false, cond, eq-eqb, ne_eqb, ◌⊎◌, inl, inr, ⊎_elim, List, [], refl, sym, ◌∙◌, ap, arith, subst}
 use native.Mathlib.Decide.{ℕ_discrete}
 use Rattle.histories.specs.Common.{Side, Left, Right, Plan, Word, Layout, Row, info, scx, child, History, Opening, Start, Opened, ◌⊳◌, value, Extends, IsMember, Tree as TreeMode, count}
-use Rattle.histories.specs.Common.{count_of, member, plan, plan_finalizes, scx_finalizes, IsNamed, IsNamedScx, Lawful, IsWin, HasWon, log, IsEntered, IsBegin, Shaped}
+use Rattle.histories.specs.Common.{count_of, member, plan, plan_finalizes, scx_finalizes, IsNamedScx, Lawful, IsWin, HasWon, log, IsEntered, IsBegin, Shaped}
 use Rattle.arena.specs.Layout.{IsMap}
 use Rattle.arena.specs.declared.limits.Mode.TheVariants.{Trie as TrieMode}
 use Rattle.arena.proofs.Lemmas.{held_back, held_start, opening_info, ends_self, ends_trans, value_apart}
-use Rattle.histories.proofs.Lemmas.{Effect, Facts, IsFirst, Logs, begins_once, scx_since, logs, same, wins, UpdateWins, effect, entered_won, facts, facts_before, freeze, freeze_held, lawful_row, lawful_since, lawful_tail, named_since, quiet, shaped_begin, shaped_since, shaped_tail, some_is_real, update, update_flagged, update_held, won_named, won_real}
+use Rattle.histories.proofs.Lemmas.{Effect, Facts, IsFirst, Logs, begins_once, scx_since, logs, same, wins, UpdateWins, effect, entered_won, facts, facts_before, freeze, freeze_held, lawful_row, lawful_since, lawful_tail, quiet, shaped_begin, shaped_since, shaped_tail, some_is_real, update, update_flagged, update_held, won_named, won_real}
 use Rattle.ordered_map.specs.declared.pair.Pair.{Pair}
 use Rattle.ordered_map.specs.OrderedMap.{MapEdit, edit_key, edited, get}
 use Rattle.ordered_map.proofs.Pending.{AllowsGiven, GivenAllows, begun_edit}
@@ -19,14 +19,13 @@ use Rattle.ordered_map.specs.Spelled.{Spells}
 use Rattle.ordered_map.specs.TrieShape.{Stays}
 use Rattle.ordered_map.specs.EditPlans.{join_plan, end_join_plan}
 use Rattle.ordered_map.specs.TreeShape.{IsEdit, TakesLeafOut, leaf_place, edit_leaf, TreeAllows}
-use Rattle.ordered_map.specs.TreeWords.{class, is_leaf, level, toward, pairs, said}
+use Rattle.ordered_map.specs.TreeWords.{class, is_leaf, toward, pairs, said}
 use Rattle.ordered_map.proofs.TreeFacts.{TreeFacts}
 use Rattle.ordered_map.proofs.EditPlans.{leaf_plan_says, join_plan_says, end_leaf_plan_says, end_join_plan_says, above_plan_says}
 use Rattle.ordered_map.proofs.Edited.{content_now}
 use Rattle.ordered_map.proofs.EditedPaths.{replies}
 use Rattle.ordered_map.proofs.Grown.{IsGrown, tree_map, tree_facts, first_begins, grown_tail, grown_since}
-use Rattle.ordered_map.proofs.Past.{path_named, Answered, walk_begins, walk_goes_on, walk_ends, grown_rises}
-use Rattle.ordered_map.proofs.Stood.{was_passed}
+use Rattle.ordered_map.proofs.Past.{Answered, walk_begins, walk_goes_on, walk_ends}
 use Rattle.ordered_map.proofs.Growing.{spells, root_leaf, root_left}
 use Rattle.ordered_map.proofs.Runs.{HasEdits, begin_names, edit_told, has_edits, with_edit}
 
@@ -200,12 +199,6 @@ walk_first lay h k g = walk_begins (edits_of lay h g).edits lay h k (grown lay h
 
 pub walk_next : (lay : Layout) (h start : History) (k n : ℕ) → IsMapRun lay h → Passed h start k n → Stays lay (value h) k n → is_leaf (value h) n ≡ false → Passed h start k (value h (child n (toward (value h) n k)))
 walk_next lay h start k n g p stay d = walk_goes_on (edits_of lay h g).edits lay h start k n (grown lay h g) p stay d
-
-pub walk_rises : (lay : Layout) (h start : History) (k n : ℕ) (side : Side) → IsMapRun lay h → Passed h start k n → is_leaf (value h) n ≡ false → level (value h) n < level (value h) (value h (child n side))
-walk_rises lay h start k n side g p d = grown_rises (edits_of lay h g).edits lay h n side (grown lay h g) (was_passed h start k n p) d
-
-pub walk_named : (lay : Layout) (h start : History) (k n : ℕ) → IsMapRun lay h → Passed h start k n → IsNamed lay h n
-walk_named lay h start k n g p = named_since lay h p.0 n g.1.lawful p.1 (path_named lay p.0 k n g.0 p.3)
 
 pub walk_answers : (lay : Layout) (h start : History) (k n : ℕ) → k < 2 ^ 64 → IsMapRun lay h → Passed h start k n → is_leaf (value h) n ≡ true → IsAnswerAt lay h start k (said (value h) k n)
 walk_answers lay h start k n small g p d =

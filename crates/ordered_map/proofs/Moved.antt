@@ -1,11 +1,11 @@
 -- The facts of an edit go over to words that agree on its nodes.
-use Rattle.std.proofs.Common.{◌≡◌, ℕ, ◌+◌, ◌*◌, ◌/◌, ◌%◌, ◌^◌, false, eqb, inl, inr, ◌++◌, sym, ◌∙◌, ap, ltb, cond, subst}
+use Rattle.std.proofs.Common.{◌≡◌, ℕ, ◌+◌, ◌*◌, ◌/◌, ◌%◌, ◌^◌, eqb, ◌++◌, sym, ◌∙◌, ap, ltb, cond, subst}
 use Rattle.histories.specs.Common.{Side, Left, Right, Settled, Head, Word, child, first_key}
 use Rattle.ordered_map.specs.OrderedMap.{AllBelow, AllFrom, MapEdit, edit_key, edited, end_pair, get}
 use Rattle.ordered_map.specs.TreeWords.{class, is_leaf, level, rank, toward, opposite, said, end_said, leaf_items}
 use Rattle.ordered_map.proofs.Holding.{SameSettled, held_same, counted_same, same_items, same_pairs}
 use Rattle.ordered_map.specs.TrieShape.{IsAboveBy}
-use Rattle.ordered_map.specs.Edits.{IsLowLeaf, IsLastLeaf, IsSwapBy, IsSplitBy, HasTreeLevels, IsCopyOf, IsJoinBy, IsLeafEdit}
+use Rattle.ordered_map.specs.Edits.{IsLowLeaf, IsLastLeaf, IsSwapBy, IsSplitBy, HasTreeLevels, IsCopyOf, IsJoinBy}
 
 pub settled_rank : (b f : Word → ℕ) (n : ℕ) → SameSettled b f n → rank f n ≡ rank b n
 settled_rank b f n e = λ i. e (Settled Head) tt i % 4 * 2 ^ 64 + e first_key tt i
@@ -71,13 +71,6 @@ module _ (b f : Word → ℕ) where
     low = settled_level b f x ex ∙ s.low ∙ ap (λ v. v + 1) (sym (settled_level b f c ec));
     high = settled_level b f y ey ∙ s.high ∙ ap (λ v. v + 1) (sym (settled_level b f c ec));
   }
-
-  pub move_leaf_edit : (e : MapEdit) (l c : ℕ) → SameSettled b f l → SameSettled b f c → (is_leaf b c ≡ false → (side : Side) → SameSettled b f (b (child c side))) → (is_leaf b c ≡ false → (side : Side) → f (child c side) ≡ b (child c side)) → IsLeafEdit b e l c → IsLeafEdit f e l c
-  move_leaf_edit e l c el ec below fields (inl s) = inl (move_swap_by e l c el ec s)
-  move_leaf_edit e l c el ec below fields (inr s) =
-      let ex : SameSettled b f s.0 = subst (SameSettled b f) s.2.left (below s.2.fork Left) in
-      let ey : SameSettled b f s.1 = subst (SameSettled b f) s.2.right (below s.2.fork Right) in
-      inr (s.0, s.1, move_split_by e l c s.0 s.1 el ec ex ey (fields s.2.fork) s.2, move_levels l c s.0 s.1 el ec ex ey s.3)
 
   move_copy : (z c : ℕ) → SameSettled b f z → SameSettled b f c → IsCopyOf b c z → IsCopyOf f c z
   move_copy z c ez ec s = record {

@@ -1,5 +1,5 @@
--- A key that something below a fork of a trie is not apart from stays at the fork, and its search turns to
--- where that is.
+-- A key that something below a fork of a trie is not apart from stays at the fork, and its search
+-- turns to where that is.
 use Rattle.std.proofs.Common.{◌≡◌, ◌≢◌, ℕ, ◌^◌, ◌<◌, ◌≤◌, true, false, ◌⊎◌, inl, inr, refl, sym, ◌∙◌, arith, lt-ltb, le-ltb}
 use native.Mathlib.Decide.{ℕ_discrete}
 use Rattle.histories.specs.Common.{Layout, Side, Left, Right, Word, History, value}

@@ -89,8 +89,8 @@ pub end_below : (side : Side) (f : Word → ℕ) (n : ℕ) (a b : Tree) → end_
 end_below Left f n a b = let x = tree_end Left f a in first_join (items f a) (items f b) x.0 x.1 ∙ sym x.1
 end_below Right f n a b = let x = tree_end Right f b in last_join (items f a) (items f b) x.0 x.1 ∙ sym x.1
 
--- what is left for the search on this side below a fork at which the path turns so: with a turn away
--- from the side the near end of the other part
+-- what is left for the search on this side below a fork at which the path turns so: with a turn
+-- away from the side the near end of the other part
 abbrev pub rest_below : Side → Side → (Word → ℕ) → Tree → Tree → Option Pair → Option Pair
 rest_below Right Left f a b rest = end_pair Left (items f b)
 rest_below Left Right f a b rest = end_pair Right (items f a)

@@ -1,13 +1,11 @@
--- Forks that part keys at a bit, as words show them: the keys of their sides, and where a fresh fork
--- between two keys stands.
-use Rattle.std.proofs.Common.{◌≡◌, ◌≢◌, ℕ, ◌+◌, ◌-◌, ◌^◌, ◌<◌, ◌≤◌, true, false, ◌⊎◌, ◌↔◌, inl, inr, refl, sym, ◌∙◌, arith, ne_eqb, lt-ltb, le-ltb, pow_pos}
-use Rattle.std.proofs.lemmas.Bool.{cases_lt, cases_order}
-use Rattle.std.proofs.Math.Pow.{pow_mono}
+-- Forks that part keys at a bit, as words show them: the keys of their sides, and where a fresh
+-- fork between two keys stands.
+use Rattle.std.proofs.Common.{◌≡◌, ◌≢◌, ℕ, ◌-◌, ◌^◌, ◌<◌, ◌≤◌, true, false, ◌⊎◌, ◌↔◌, inl, inr, refl, sym, ◌∙◌, arith, ne_eqb, lt-ltb, le-ltb, pow_pos}
+use Rattle.std.proofs.lemmas.Bool.{cases_order}
 use native.Mathlib.Decide.{ℕ_discrete}
 use Rattle.histories.specs.Common.{Side, Left, Right, Word, node, first_key}
 use Rattle.ordered_map.specs.TreeWords.{class, is_leaf, level, rank, toward, opposite}
-use Rattle.ordered_map.specs.Bits.{side_room, side_from, side_to, Shares, IsParted, Keeps, IsForkKey, IsInSpan, PartsKeys}
-use Rattle.ordered_map.proofs.Bits.{key_is}
+use Rattle.ordered_map.specs.Bits.{side_from, side_to, Shares, IsParted, Keeps, IsInSpan, PartsKeys}
 use Rattle.ordered_map.proofs.Spanned.{low_from, low_to}
 use Rattle.ordered_map.proofs.Spans.{IsSpanIn, span_small, parts_left, parts_right, above_left, above_right}
 use Rattle.ordered_map.proofs.Trees.{split_at}
@@ -65,28 +63,6 @@ module _ (f : Word → ℕ) where
       let to = low_to f c low in
       let s = k.fork fork low in
       (omega (arith, from, s), omega (arith, to, s))
-
-  -- then it is on a greater level
-  pub keeps_deeper : (n : ℕ) (side : Side) (c : ℕ) → IsParted f n → is_leaf f c ≡ false → class f c ≡ 0 → IsParted f c → Keeps f n side c → level f n < level f c
-  keeps_deeper n side c parted fork low own keeps = go (ℕ_discrete (class f n) 0)
-    where
-      key : IsForkKey (key_of f c) (level f c)
-      key = own.key low
-
-      span : IsSpanIn (side_from f n side) (side_to f n side) (key_of f c) (level f c)
-      span = keeps_span n side c fork low keeps
-
-      wide : class f n ≡ 0 → (side : Side) → side_to f n side ≤ side_from f n side + side_room f n
-      wide z Left = let from = low_from f n z in let to = low_to f n z in omega (arith, from, to)
-      wide z Right = let from = low_from f n z in let to = low_to f n z in omega (arith, from, to)
-
-      go : Dec (class f n ≡ 0) → level f n < level f c
-      go (yes z) = deeper (cases_lt (level f n) (level f c))
-        where
-          deeper : (level f n < level f c) ⊎ (level f c ≤ level f n) → level f n < level f c
-          deeper (inl l) = l
-          deeper (inr l) = absurd (let m = pow_mono {i = 65 - level f n} {j = 65 - level f c} (omega (arith, l)) in let r = pow_pos (65 - level f c) in let is = key_is (key_of f c) (level f c) key in let w = wide z side in omega (arith, m, r, is, w, span))
-      go (no h) = let t = parted.top h in omega (arith, t, h, key.high)
 
   -- The fork between two keys
 
@@ -152,7 +128,8 @@ module _ (f : Word → ℕ) where
           let to = low_to f c zero in
           rw (le-ltb k (rank f c) (omega (arith, zero, parts.above))) (span_keeps c Left u fork low (omega (arith, from, x), omega (arith, to, x)), x.0, (omega (arith, from, parts.above), omega (arith, to, parts.last)))
 
-  -- where the fork keeps to a side of another, on which the key may stand, so does that between them
+  -- where the fork keeps to a side of another, on which the key may stand, so does that between
+  -- them
   pub above_in : (n : ℕ) (side : Side) (u c k : ℕ) → IsParted f n → is_leaf f u ≡ false → class f u ≡ 0 → Keeps f n side u → IsOnSide f n side k → is_leaf f c ≡ false → class f c ≡ 0 → PartsFrom u c k → Keeps f n side c × (level f n < level f c)
   above_in n side u c k parted fork low keeps on new zero = go
     where

@@ -103,8 +103,8 @@ walk_stays r h start k n p = (p.0, inr p.1, p.2, p.3)
 pub path_next : (h : History) (k n : ℕ) → IsOnPath h k n → is_leaf (value h) n ≡ false → IsOnPath h k (value h (child n (toward (value h) n k)))
 path_next h k n p fork = record { tree = p.tree; is_tree = p.is_tree; passes = path_child (value h) k p.tree _ _ n p.is_tree.shows p.passes fork }
 
--- One more child load, of a node whose fields are as at a moment when it was on the path: so is what is
--- found there.
+-- One more child load, of a node whose fields are as at a moment when it was on the path: so is
+-- what is found there.
 pub latest_goes_on : (h m start : History) (k n : ℕ) → Latest h m k n → Extends m start → is_leaf (value h) n ≡ false → Passed h start k (value h (child n (toward (value h) n k)))
 latest_goes_on h m start k n x since fork =
     let then : History = x.moment in
@@ -168,8 +168,8 @@ own_path f (Fork m a b) lo hi n s (inl e) = inl e
 own_path f (Fork m a b) lo hi n s (inr (inl q)) = inr (inl (node_below f a lo (rank f m) n s.1 q, own_path f a lo (rank f m) n s.1 q))
 own_path f (Fork m a b) lo hi n s (inr (inr q)) = inr (inr (node_from f b (rank f m) hi n s.2 q, own_path f b (rank f m) hi n s.2 q))
 
--- so each that was in the tree was on the path of a key with which it stays, but for the leaves of a
--- trie
+-- so each that was in the tree was on the path of a key with which it stays, but for the leaves of
+-- a trie
 pub record Reached (lay : Layout) (h m : History) (n : ℕ) : Type 0 where
   pub key : ℕ
   pub path : IsOnPath m key n

@@ -2,8 +2,8 @@
 -- a node has been in the tree, or is a leaf.
 use Rattle.std.proofs.Common.{◌≡◌, ℕ, ◌<◌, ◌/◌, ◌%◌, ◌⊎◌, inl, inr, ⊎_elim, Bool, true, false, eqb, refl, sym, ◌∙◌, ap, subst, arith}
 use native.Mathlib.Decide.{ℕ_discrete}
-use Rattle.histories.specs.Common.{Layout, nodes_at_start, Fill, Row, Side, Left, Right, NodeWord, Settled, Child, Info, Marked, Head, AllFrozen, node, scx, info}
-use Rattle.histories.specs.Common.{marked, child, state, same_word, History, Opening, Opened, ◌⊳◌, value, Extends, HasHeld, log, is_final, Lawful, member, new, field, plan, side_of}
+use Rattle.histories.specs.Common.{Layout, nodes_at_start, Fill, Row, Side, NodeWord, Settled, Child, Info, Marked, Head, AllFrozen, node, scx, info}
+use Rattle.histories.specs.Common.{marked, child, state, same_word, History, Opening, Opened, ◌⊳◌, value, HasHeld, Lawful, member, new, field, plan, side_of}
 use Rattle.arena.proofs.Lemmas.{held_at, held_split, held_start, node_apart, node_word_apart, value_apart, value_at, value_other, value_quiet, word_same}
 use Rattle.histories.proofs.Lemmas.{Change, UpdateWins, aborts, change, commits, fills_node, fills_scx, freezes, lawful_row, lawful_tail, marks, nothing, sets_frozen, shaped_tail, start_mode, updates, value_start}
 use Rattle.ordered_map.specs.TreeShape.{TreeAllows}
@@ -12,10 +12,10 @@ use Rattle.ordered_map.specs.Paths.{WasInTree}
 use Rattle.ordered_map.specs.Runs.{IsMapRun}
 use Rattle.ordered_map.specs.Planted.{IsPlanted}
 use Rattle.ordered_map.specs.FillOrder.{HasStoodInField, HasRisingLevels, AreFilledInOrder}
-use Rattle.ordered_map.proofs.Meanings.{edits_of, grown, run_since}
+use Rattle.ordered_map.proofs.Meanings.{edits_of, grown}
 use Rattle.ordered_map.proofs.Grown.{planted}
 use Rattle.ordered_map.proofs.Stood.{was_more, was_now}
-use Rattle.ordered_map.proofs.MapRuns.{child_stood, levels_rise, new_stood}
+use Rattle.ordered_map.proofs.MapRuns.{levels_rise, new_stood}
 
 -- Heads
 
@@ -121,13 +121,3 @@ stood lay (r ⊳ h) n g order x = row_stood lay h r n g order (stood lay h n (g.
 -- fork that a field has ever named.
 pub rising_levels : (lay : Layout) (h : History) → IsMapRun lay h → AreFilledInOrder h → HasRisingLevels h
 rising_levels lay h g order n side named fork = ⊎_elim (λ x. levels_rise lay h n side g x fork) (λ e. let y : true ≡ false = sym e ∙ fork in absurd (cc)) (stood lay h n g order named)
-
--- nodes were filled in order up to each moment before
-filled_since : (h m : History) → Extends h m → AreFilledInOrder h → AreFilledInOrder m
-filled_since (Opened o) m e x = subst AreFilledInOrder (sym e) x
-filled_since (r ⊳ h) m (inl e) x = subst AreFilledInOrder (sym e) x
-filled_since (r ⊳ h) m (inr e) x = filled_since h m e x.0
-
--- What such a fork has held in a field while it was not final has been in the tree.
-pub held_stood : (lay : Layout) (h m : History) (n : ℕ) (side : Side) → IsMapRun lay h → AreFilledInOrder h → Extends h m → HasStoodInField m n → is_final (log lay m) n ≡ false → is_leaf (value m) n ≡ false → WasInTree h (value m (child n side))
-held_stood lay h m n side g order e named not_final fork = ⊎_elim (λ x. child_stood lay h m n side g e x not_final fork) (λ leaf. let y : true ≡ false = sym leaf ∙ fork in absurd (cc)) (stood lay m n (run_since lay h m g e) (filled_since h m e order) named)

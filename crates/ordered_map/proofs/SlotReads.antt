@@ -1,4 +1,5 @@
--- What a leaf says of a key that is read slot by slot. Each slot has its pair, or leaves it to those behind it.
+-- What a leaf says of a key that is read slot by slot. Each slot has its pair, or leaves it to
+-- those behind it.
 use Rattle.std.proofs.Common.{◌≡◌, ◌≢◌, ℕ, ◌<◌, List, ◌∷◌, refl, ◌∙◌, ap, arith, subst, eq-eqb, ne_eqb, Some, None}
 use Rattle.histories.specs.Common.{Settled, More, Key, Slot, Word, node}
 use Rattle.ordered_map.specs.declared.pair.Pair.{Pair}

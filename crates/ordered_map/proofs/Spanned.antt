@@ -1,13 +1,13 @@
 -- Where the nodes of a tree are; and the spans of the forks of a trie: below a fork of class 0 all
 -- items are in its span, and each key that a fork there shares.
-use Rattle.std.proofs.Common.{◌≡◌, ℕ, ◌+◌, ◌-◌, ◌/◌, ◌%◌, ◌^◌, ◌<◌, ◌≤◌, true, false, inl, inr, List, [], ◌∷◌, ◌++◌, refl, sym, ◌∙◌, ap, arith, eqb, eq-eqb, le-ltb, lt-ltb, subst, pow_pos}
+use Rattle.std.proofs.Common.{◌≡◌, ℕ, ◌+◌, ◌-◌, ◌/◌, ◌%◌, ◌^◌, ◌<◌, ◌≤◌, true, false, inl, inr, List, [], ◌∷◌, ◌++◌, refl, sym, ◌∙◌, ap, arith, eqb, eq-eqb, subst, pow_pos}
 use Rattle.histories.specs.Common.{Layout, Side, Left, Right, Settled, Head, Word, node, child, first_key}
 use Rattle.ordered_map.specs.declared.pair.Pair.{Pair}
 use Rattle.ordered_map.specs.OrderedMap.{AllBelow, AllFrom, get}
 use Rattle.ordered_map.specs.Holding.{held_pairs}
 use Rattle.ordered_map.specs.Bits.{side_room, side_from, side_to, Shares, IsParted, Keeps, IsTrieFork}
 use Rattle.ordered_map.specs.TrieShape.{Stays}
-use Rattle.ordered_map.specs.TreeWords.{class, is_leaf, level, rank, toward, Tree, Leaf, Fork, root, Shows, Has, Passes}
+use Rattle.ordered_map.specs.TreeWords.{class, is_leaf, level, rank, Tree, Leaf, Fork, root, Shows, Has, Passes}
 use Rattle.ordered_map.proofs.Lists.{below_join, from_left, below_right, from_less, below_more}
 use Rattle.ordered_map.proofs.Holding.{SameSettled, held_same, low_items, rank_from}
 use Rattle.ordered_map.proofs.Searches.{get_left, get_right}
@@ -45,13 +45,6 @@ node_low f t lo hi n s low h =
     omega (arith, x, y, low)
 
 -- Narrower bounds
-
-from_right : (k : ℕ) (xs ys : List Pair) → AllFrom k (xs ++ ys) → AllFrom k ys
-from_right k xs ys a = go xs a
-  where
-    go : (xs : List Pair) → AllFrom k (xs ++ ys) → AllFrom k ys
-    go [] a = a
-    go (x ∷ xs) a = go xs a.1
 
 pub from_join : (k : ℕ) (xs ys : List Pair) → AllFrom k xs → AllFrom k ys → AllFrom k (xs ++ ys)
 from_join k [] ys a b = b
@@ -91,11 +84,6 @@ own_share f n low =
     let b = low_to f n low in
     let room_is : 0 < side_room f n = pow_pos (65 - level f n) in
     (omega (arith, a, low), omega (arith, b, low, room_is))
-
--- on which side of a fork of class 0 a key of a side is
-pub side_turn : (f : Word → ℕ) (n k : ℕ) (side : Side) → class f n ≡ 0 → side_from f n side ≤ k → k < side_to f n side → toward f n k ≡ side
-side_turn f n k Left low a b = let t = low_to f n low in rw (lt-ltb k (rank f n) (omega (arith, low, t, b))) refl
-side_turn f n k Right low a b = let t = low_from f n low in rw (le-ltb k (rank f n) (omega (arith, low, t, a))) refl
 
 -- Below a fork of a trie whose last leaf is of class 0
 

@@ -107,8 +107,8 @@ span_small x l a small = go (steps w (x / w) (2 ^ (l - 2)))
 
 -- A fork between two keys
 
--- two keys that are on one side of a fork: the fork between them is on a greater level, and its span
--- in that side
+-- two keys that are on one side of a fork: the fork between them is on a greater level, and its
+-- span in that side
 pub parts_left : (x l j k y m : ℕ) → IsForkKey x l → PartsKeys j k y m → x - room_at l ≤ j → k < x → (l < m) × IsSpanIn (x - room_at l) x y m
 parts_left x l j k y m a parts from to = go (cases_order l m)
   where

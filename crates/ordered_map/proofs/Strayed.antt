@@ -1,5 +1,5 @@
--- Walks of a trie: where one comes to a fork that its key does not share, the map has no such key, and
--- what is below is apart from the key.
+-- Walks of a trie: where one comes to a fork that its key does not share, the map has no such key,
+-- and what is below is apart from the key.
 use Rattle.std.proofs.Common.{◌≡◌, ◌≢◌, ℕ, ◌^◌, ◌<◌, ◌≤◌, true, false, ◌⊎◌, inl, inr, ⊎_elim, List, ◌++◌, None, refl, sym, ◌∙◌, ap, arith, subst}
 use native.Mathlib.Decide.{ℕ_discrete}
 use Rattle.histories.specs.Common.{Mode, Tree as TreeMode, Records, Layout, Side, Left, Right, Word, Row, info, child, History, ◌⊳◌, value, Extends, log}
@@ -215,7 +215,8 @@ pub walked_stood : (lay : Layout) (h start : History) (k n : ℕ) → HasWalked 
 walked_stood lay h start k n (inl p) = was_passed h start k n p
 walked_stood lay h start k n (inr s) = s.stood.0
 
--- what it has come to was in the tree since the walk began, and on the path, or node 2 has changed since
+-- what it has come to was in the tree since the walk began, and on the path, or node 2 has changed
+-- since
 pub walked_since : (lay : Layout) (h start : History) (k n : ℕ) → HasWalked lay h start k n → StoodSince h start n
 walked_since lay h start k n (inl p) = passed_since h start k n p
 walked_since lay h start k n (inr s) = s.stood

@@ -231,11 +231,8 @@ grown_since_start calls lay h g =
     let b : length (news (first_taken h) (log lay h)) ≡ deep h + length (log lay h) = news_length (first_taken h) (log lay h) in
     omega (arith, a, b)
 
-pub grown_log : (calls : ℕ → MapEdit) (lay : Layout) (h : History) → IsGrown calls lay h → length (log lay h) ≤ length (taken_nodes h)
-grown_log calls lay h g = let x = grown_since_start calls lay h g in omega (arith, x)
-
--- a node that was in a tree has fewer above it than there are nodes: two that are not taken, and those
--- that are
+-- a node that was in a tree has fewer above it than there are nodes: two that are not taken, and
+-- those that are
 pub grown_depth : (calls : ℕ → MapEdit) (lay : Layout) (h : History) (n : ℕ) → lay.mode ≡ TreeMode → IsGrown calls lay h → WasInTree h n → level (value h) n < 2 + length (taken_nodes h)
 grown_depth calls lay h n tree g x =
     let a : level (value h) n ≤ suc (deep h + length (log lay h)) = grown_level calls lay tree h g n x in

@@ -285,8 +285,8 @@ edited_local (Delete k) = record { left = delete_left k; right = delete_right k 
 
 -- A subtree is replaced
 
--- what the words `g` show in the place of the tree `a` of the words `f`; a node stays on the path of
--- each key that stays with it
+-- what the words `g` show in the place of the tree `a` of the words `f`; a node stays on the path
+-- of each key that stays with it
 pub record Replaced (f g : Word → ℕ) (change : List Pair → List Pair) (Stays : ℕ → ℕ → Type 0) (Gone Made : ℕ → Type 0) (new lo hi : ℕ) (a : Tree) : Type 0 where
   pub tree : Tree
   pub shows : Shows g lo hi tree

@@ -1,5 +1,5 @@
--- The leaf at an end of a trie, when what covers node 2 wins; and that a fork of a trie is on the path of each
--- key that it shares.
+-- The leaf at an end of a trie, when what covers node 2 wins; and that a fork of a trie is on the
+-- path of each key that it shares.
 use Rattle.std.proofs.Common.{◌≡◌, ◌≢◌, ℕ, ◌^◌, ◌<◌, ◌≤◌, true, false, inl, inr, List, refl, sym, arith, subst}
 use native.Mathlib.Decide.{ℕ_discrete}
 use Rattle.histories.specs.Common.{Layout, Side, Left, Right, Word, Row, child, state, History, ◌⊳◌, value, IsMember, IsWin, count, member, seen}
@@ -82,8 +82,8 @@ stays_passed lay h start k n small trie g (x, since) stay = (m, x.within, since,
 
 -- Ends
 
--- Just before an SCX-record wins that covers node 2 and a fork to which a walk to an end has come, below which
--- there is a leaf on the way, that leaf says which pair is at that end of the map.
+-- Just before an SCX-record wins that covers node 2 and a fork to which a walk to an end has come,
+-- below which there is a leaf on the way, that leaf says which pair is at that end of the map.
 pub guarded_end : (side : Side) (lay : Layout) (h start : History) (row : Row) (s j p : ℕ) (ps : List Pair) → IsMapRun lay (row ⊳ h) → IsWin h row s → j < count h s → member h s j ≡ 2 → IsMember h s p → value start (state (seen h s j)) ≢ 0 → HasComeBy h start (end_key side) p (seen h s j) s → is_leaf (value h) p ≡ false
     → is_leaf (value h) (value h (child p (toward (value h) p (end_key side)))) ≡ true → Spells lay (value h) ps → end_pair side ps ≡ end_said side (value h) (value h (child p (toward (value h) p (end_key side))))
 guarded_end side lay h start row s j p ps g won few two covers done come fork leaf spelled = spelled_end side lay h (value h (child p (toward (value h) p (end_key side)))) ps run spelled (path_next h (end_key side) p on fork) leaf

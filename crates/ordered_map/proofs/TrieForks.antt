@@ -1,5 +1,5 @@
--- The forks of a trie: each that was ever in it parts keys at a bit, and its children keep to its sides.
--- So no node is deeper than level 66.
+-- The forks of a trie: each that was ever in it parts keys at a bit, and its children keep to its
+-- sides. So no node is deeper than level 66.
 use Rattle.std.proofs.Common.{◌≡◌, ℕ, ◌/◌, ◌%◌, ◌<◌, ◌≤◌, Bool, true, false, ◌⊎◌, inl, inr, length, refl, sym, ◌∙◌, ap, arith, eqb, subst}
 use native.Mathlib.Decide.{ℕ_discrete}
 use Rattle.histories.specs.Common.{Mode, Tree as TreeMode, Records, Layout, Row, Side, Settled, Child, Head, child, History}

@@ -3,11 +3,10 @@
 use Rattle.std.specs.Prelude.{min, max, bit_xor, ◌≡◌, ◌≢◌, ℕ, ◌+◌, ◌-◌, ◌*◌, ◌/◌, ◌%◌, ◌^◌, ◌<◌, ◌≤◌, true, false, if◌then◌else◌, ◌==◌}
 use Rattle.std.specs.Int.Count.{count_leading_zeros}
 use Rattle.ordered_map.specs.declared.fork_place.ForkPlace.{ForkPlace}
-use Rattle.histories.specs.Common.{Side, Left, Right, Word, node, child, first_key, History, value}
+use Rattle.histories.specs.Common.{Side, Left, Right, Word, node, child, first_key}
 use Rattle.ordered_map.specs.OrderedMap.{AllBelow, AllFrom}
 use Rattle.ordered_map.specs.Holding.{held_pairs}
 use Rattle.ordered_map.specs.TreeWords.{class, is_leaf, level}
-use Rattle.ordered_map.specs.FillOrder.{HasStoodInField}
 
 -- Keys and levels, as numbers
 
@@ -49,8 +48,8 @@ place_between j k = record { key = max j k / 2 ^ bit_between j k * 2 ^ bit_betwe
 abbrev pub side_room : (Word → ℕ) → ℕ → ℕ
 side_room f n = room_at (level f n)
 
--- The keys that may stand on a side of the fork n: from here to below there. Above all keys they are
--- all on the left.
+-- The keys that may stand on a side of the fork n: from here to below there. Above all keys they
+-- are all on the left.
 abbrev pub side_from : (Word → ℕ) → ℕ → Side → ℕ
 side_from f n Left = if class f n == 0 then f (node n first_key) - side_room f n else 0
 side_from f n Right = if class f n == 0 then f (node n first_key) else 2 ^ 64
@@ -70,8 +69,8 @@ pub record IsParted (f : Word → ℕ) (n : ℕ) : Type 0 where
   pub key : class f n ≡ 0 → IsForkKey (f (node n first_key)) (level f n)
 
 -- what stands below the fork n on this side keeps to the keys there: a fork of class 0 by all keys
--- that it shares, a leaf by those of its pairs. All leaves of class 0 are on level 66, the two others
--- on 1 or 2.
+-- that it shares, a leaf by those of its pairs. All leaves of class 0 are on level 66, the two
+-- others on 1 or 2.
 pub record Keeps (f : Word → ℕ) (n : ℕ) (side : Side) (m : ℕ) : Type 0 where
   pub fork : is_leaf f m ≡ false → class f m ≡ 0 → (side_from f n side ≤ side_from f m Left) × (side_to f m Right ≤ side_to f n side)
   pub leaf : is_leaf f m ≡ true → class f m ≡ 0 → (level f m ≡ 66) × AllFrom (side_from f n side) (held_pairs f m) × AllBelow (side_to f n side) (held_pairs f m)
@@ -80,7 +79,3 @@ pub record Keeps (f : Word → ℕ) (n : ℕ) (side : Side) (m : ℕ) : Type 0 w
 -- the fork n parts keys at a bit, and its children keep to its sides
 abbrev pub IsTrieFork : (Word → ℕ) → ℕ → Type 0
 IsTrieFork f n = is_leaf f n ≡ false → IsParted f n × ((side : Side) → Keeps f n side (f (child n side)))
-
--- so does each that a field has ever named, in the tree or removed
-abbrev pub AreTrieForks : History → Type 0
-AreTrieForks h = (n : ℕ) → HasStoodInField h n → IsTrieFork (value h) n

@@ -1,5 +1,5 @@
--- The plan words of edits, by the side of the field that they change, and where they cover a leaf that
--- is taken out and its sibling.
+-- The plan words of edits, by the side of the field that they change, and where they cover a leaf
+-- that is taken out and its sibling.
 use Rattle.std.specs.Prelude.{ℕ}
 use Rattle.histories.specs.Common.{Side, Left, Right}
 

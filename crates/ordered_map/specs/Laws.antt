@@ -54,8 +54,8 @@ pub record TrieLaws : Type 0 where
   -- an update leaves the map that its edit leaves, and its leaf has the old value
   pub updates : (lay : Layout) (h before : History) (row : Row) (s : ℕ) (e : MapEdit) → IsTrieRun lay h → Extends h (row ⊳ before) → IsWin before row s
       → Makes lay h s e → IsEditAt lay before row s e
-  -- a walk by the tree's steps says at its leaf what the map gave at a moment of the walk: it keeps to
-  -- the path of its key up to a fork that the key does not share, and goes on from there
+  -- a walk by the tree's steps says at its leaf what the map gave at a moment of the walk: it keeps
+  -- to the path of its key up to a fork that the key does not share, and goes on from there
   pub begins : (lay : Layout) (h : History) (k : ℕ) → IsTrieRun lay h → HasWalked lay h h k 0
   pub goes_on : (lay : Layout) (h start : History) (k n : ℕ) → k < 2 ^ 64 → IsTrieRun lay h → HasWalked lay h start k n → is_leaf (value h) n ≡ false
       → HasWalked lay h start k (value h (child n (toward (value h) n k)))
@@ -68,7 +68,8 @@ pub record TrieLaws : Type 0 where
   pub forks : (lay : Layout) (h : History) (n : ℕ) → IsTrieRun lay h → WasInTree h n → IsTrieFork (value h) n
   -- no node is deeper than level 66
   pub depth : (lay : Layout) (h : History) (n : ℕ) → IsTrieRun lay h → WasInTree h n → level (value h) n ≤ 66
-  -- no node of the trie is final, and of the forks that ever were in it just those not final are there
+  -- no node of the trie is final, and of the forks that ever were in it just those not final are
+  -- there
   pub not_final : (lay : Layout) (h : History) (t : Tree) (n : ℕ) → IsTrieRun lay h → IsTree (value h) t → Has t n → is_final (log lay h) n ≡ false
   pub remains : (lay : Layout) (h : History) (t : Tree) (n : ℕ) → IsTrieRun lay h → WasInTree h n → is_leaf (value h) n ≡ false → is_final (log lay h) n ≡ false → IsTree (value h) t → Has t n
   -- one that is above all keys has the key 0

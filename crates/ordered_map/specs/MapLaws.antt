@@ -11,8 +11,8 @@ abbrev pub IsBeyond : Side → ℕ → ℕ → Type 0
 IsBeyond Left k j = j < k
 IsBeyond Right k j = k < j
 
--- a pair of the map with a key beyond k on this side, where no key between the two has a value; or no
--- key beyond k has one
+-- a pair of the map with a key beyond k on this side, where no key between the two has a value; or
+-- no key beyond k has one
 abbrev pub IsNeighbour : Side → ℕ → List Pair → Option Pair → Type 0
 IsNeighbour side k m (Some p) = IsBeyond side k p.key × (get p.key m ≡ Some p.value) × ((j : ℕ) → IsBeyond side k j → IsBeyond side j p.key → get j m ≡ None)
 IsNeighbour side k m None = (j : ℕ) → IsBeyond side k j → get j m ≡ None
@@ -42,8 +42,8 @@ without_last (p ∷ q ∷ ps) = p ∷ without_last (q ∷ ps)
 abbrev pub by_rule : Rule → ℕ → List Pair → List Pair
 by_rule rule k m = if applies rule (get k m) then edited (edit_to k (leaves rule)) m else m
 
--- an edit changes the value of its key alone, and keeps the keys rising; maps of the same values are
--- the same list
+-- an edit changes the value of its key alone, and keeps the keys rising; maps of the same values
+-- are the same list
 pub record ChangeLaws : Type 0 where
   pub inserted : (k v : ℕ) (m : List Pair) → get k (insert k v m) ≡ Some v
   pub insert_keeps : (j k v : ℕ) (m : List Pair) → j ≢ k → get j (insert k v m) ≡ get j m
@@ -52,9 +52,9 @@ pub record ChangeLaws : Type 0 where
   pub rising : (e : MapEdit) (m : List Pair) → IsRising m → IsRising (edited e m)
   pub same : (m n : List Pair) → IsRising m → IsRising n → ((k : ℕ) → get k m ≡ get k n) → m ≡ n
 
--- an insert leaves the map with its key at its value, a delete the map without its key, a pop the map
--- without its first pair, or its last; an edit of a key by any rule, the one or the other, or the map
--- as it was
+-- an insert leaves the map with its key at its value, a delete the map without its key, a pop the
+-- map without its first pair, or its last; an edit of a key by any rule, the one or the other, or
+-- the map as it was
 pub record RuleLaws : Type 0 where
   pub after_insert : (k v : ℕ) (m : List Pair) → after (call_insert k v) m ≡ insert k v m
   pub after_delete : (k : ℕ) (m : List Pair) → after (call_delete k) m ≡ delete k m
@@ -62,8 +62,8 @@ pub record RuleLaws : Type 0 where
   pub after_pop_last : (m : List Pair) → IsRising m → after call_pop_last m ≡ without_last m
   pub after_rule : (k : ℕ) (rule : Rule) (m : List Pair) → after (Edit (Key k) rule) m ≡ by_rule rule k m
 
--- the first pair has the least key, the last the greatest, the successor of a key the least above it,
--- and the predecessor the greatest below; between two keys are the pairs of just those keys
+-- the first pair has the least key, the last the greatest, the successor of a key the least above
+-- it, and the predecessor the greatest below; between two keys are the pairs of just those keys
 pub record ReadLaws : Type 0 where
   pub ends : (side : Side) (m : List Pair) → IsRising m → IsEndmost side m (end_pair side m)
   pub neighbours : (side : Side) (k : ℕ) (m : List Pair) → IsRising m → IsNeighbour side k m (neighbour side k m)

@@ -154,8 +154,8 @@ edit_by rule k found = if applies rule found then Some (edit_to k (leaves rule))
 
 -- Calls
 
--- All calls of a map. `Edit`: the rule at the goal; `Neighbour`: beyond this key on this side; `Range`:
--- from this key, to this key, at most so many pairs.
+-- All calls of a map. `Edit`: the rule at the goal; `Neighbour`: beyond this key on this side;
+-- `Range`: from this key, to this key, at most so many pairs.
 pub data MapCall : Type 0 where
   Edit : Goal → Rule → MapCall
   Get : ℕ → MapCall

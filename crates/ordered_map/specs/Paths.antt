@@ -8,8 +8,8 @@ use Rattle.ordered_map.specs.OrderedMap.{get, end_pair}
 use Rattle.ordered_map.specs.TreeWords.{Tree, Has, Passes}
 use Rattle.ordered_map.specs.Spelled.{IsTree, Spells}
 
--- how many levels there are at most where this many nodes are taken: in a tree two more, in a trie one
--- for each bit of a key and three more
+-- how many levels there are at most where this many nodes are taken: in a tree two more, in a trie
+-- one for each bit of a key and three more
 abbrev pub depth : Mode → ℕ → ℕ
 depth Trie nodes = 67
 depth _ nodes = 2 + nodes

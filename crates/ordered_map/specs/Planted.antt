@@ -37,10 +37,10 @@ abbrev pub first_pairs : History → List Pair
 first_pairs h = pairs_of (opening_of h).pairs
 
 -- The history is an opening whose words show a tree of its pairs: its leaves hold them from left to
--- right, and end with the two that are above all keys. All nodes that are there are in it. Its root,
--- and node 2 below it, are those of an empty map. In a tree no node is more than one level deeper than
--- there are nodes that count as taken; in a trie each fork parts keys at a bit. It is said of the
--- dummy, which is there as the table begins.
+-- right, and end with the two that are above all keys. All nodes that are there are in it. Its
+-- root, and node 2 below it, are those of an empty map. In a tree no node is more than one level
+-- deeper than there are nodes that count as taken; in a trie each fork parts keys at a bit. It is
+-- said of the dummy, which is there as the table begins.
 pub record IsPlanted (lay : Layout) (h : History) (s : ℕ) : Type 0 where
   pub dummy : s ≡ 0
   pub tree : Tree

@@ -29,8 +29,8 @@ pub record TakesLeafOut (h : History) (s : ℕ) (e : MapEdit) (side : Side) : Ty
   pub fields : value h (info (member h s 1)) ≡ seen h s 1 → (value h (child (member h s 1) Left) ≡ member h s 2) × (value h (child (member h s 1) Right) ≡ member h s 3)
   pub copied : value h (info (member h s (sibling_place side))) ≡ seen h s (sibling_place side) → HasFieldsOf (value h) (new h s) (member h s (sibling_place side))
 
--- the SCX-record is about to make the edit: it edits a leaf, or takes one out, or does what begins in
--- a trie alone
+-- the SCX-record is about to make the edit: it edits a leaf, or takes one out, or does what begins
+-- in a trie alone
 abbrev pub IsEdit : Layout → History → ℕ → MapEdit → Type 0
 IsEdit lay h s e = EditsLeaf h s e ⊎ (TakesLeafOut h s e (toward (value h) (member h s 1) (edit_key e)) ⊎ ((lay.mode ≡ TrieMode) × IsTrieEdit h s e))
 
@@ -50,16 +50,17 @@ pub record MayEdit (lay : Layout) (h : History) (s : ℕ) (e : MapEdit) : Type 0
 abbrev pub MakesEdit : Layout → History → ℕ → Type 0
 MakesEdit lay h s = (e : MapEdit) × MayEdit lay h s e
 
--- the shape of a map: each SCX-record that begins makes an edit, and what a table begins with is planted
+-- the shape of a map: each SCX-record that begins makes an edit, and what a table begins with is
+-- planted
 abbrev pub TreeAllows : Layout → History → ℕ → Type 0
 TreeAllows lay h s = MakesEdit lay h s ⊎ IsPlanted lay h s
 
--- the leaf that is taken out, on this side of the second of four nodes: it is one of the last two, or,
--- where node 2 is the last, which is not finalized, what the second names there
+-- the leaf that is taken out, on this side of the second of four nodes: it is one of the last two,
+-- or, where node 2 is the last, which is not finalized, what the second names there
 abbrev pub leaf_out : History → ℕ → Side → ℕ
 leaf_out h s side = if scx_finalizes h s 3 then member h s (leaf_place side) else value h (child (member h s 1) side)
 
--- the leaf where the key of an edit is, or would be: the second of two or three nodes, or that which
--- is taken out; node 2, which holds no pair, where a fork is put above a fork
+-- the leaf where the key of an edit is, or would be: the second of two or three nodes, or that
+-- which is taken out; node 2, which holds no pair, where a fork is put above a fork
 abbrev pub edit_leaf : History → ℕ → MapEdit → ℕ
 edit_leaf h s e = if count h s == 4 then leaf_out h s (toward (value h) (member h s 1) (edit_key e)) else member h s 1

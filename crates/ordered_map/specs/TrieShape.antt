@@ -1,5 +1,5 @@
--- Which SCX-records may begin in a trie besides those that may in a tree, what each of them may put in
--- there, and what stays where it is.
+-- Which SCX-records may begin in a trie besides those that may in a tree, what each of them may put
+-- in there, and what stays where it is.
 use Rattle.std.specs.Prelude.{◌≡◌, ◌≢◌, ℕ, ◌<◌, false, ◌⊎◌, List, [], Some, None}
 use Rattle.histories.specs.Common.{Layout, Tree as TreeMode, Side, Word, info, node, child, first_key, History, value, plan, member, seen, new, old}
 use Rattle.ordered_map.specs.declared.pair.Pair.{Pair}
@@ -10,8 +10,8 @@ use Rattle.ordered_map.specs.Edits.{IsLowLeaf, IsSwapBy, IsSplitBy, IsJoinBy, Ha
 use Rattle.ordered_map.specs.Bits.{Shares, Keeps, IsTrieFork, PartsKeys}
 use Rattle.ordered_map.specs.EditPlans.{leaf_plan, end_leaf_plan, end_join_plan, above_plan}
 
--- The node n stays on the search path of k until it is finalized: in a tree each node does; in a trie
--- a fork, if k shares it or it is above all keys.
+-- The node n stays on the search path of k until it is finalized: in a tree each node does; in a
+-- trie a fork, if k shares it or it is above all keys.
 abbrev pub Stays : Layout → (Word → ℕ) → ℕ → ℕ → Type 0
 Stays lay f k n = (lay.mode ≡ TreeMode) ⊎ ((is_leaf f n ≡ false) × (class f n ≡ 0 → Shares f n k))
 
@@ -31,9 +31,9 @@ pub record PartsPairs (m : List Pair) (key level : ℕ) : Type 0 where
   pub is_last : last_pair m ≡ Some last
   pub parts : PartsKeys first.key last.key key level
 
--- Where the leaf l is replaced by the fork c over the leaves x and y, x is on level 66. If l is of class
--- 0, y is there too, and the fork is that between the first and the last of the pairs that the edit
--- leaves; above all keys the fork is on level 1, and y on 2.
+-- Where the leaf l is replaced by the fork c over the leaves x and y, x is on level 66. If l is of
+-- class 0, y is there too, and the fork is that between the first and the last of the pairs that
+-- the edit leaves; above all keys the fork is on level 1, and y on 2.
 pub record HasTrieLevels (f : Word → ℕ) (e : MapEdit) (l c x y : ℕ) : Type 0 where
   pub first : level f x ≡ 66
   pub last : class f l ≡ 0 → level f y ≡ 66
@@ -80,8 +80,8 @@ pub record IsAboveBy (f : Word → ℕ) (e : MapEdit) (u c x : ℕ) (side : Side
   pub leaf : f (child c side) ≡ x
   pub other : f (child c (opposite side)) ≡ u
 
--- An insert of a key that does not share the fork where its walk has come puts a fork above that one.
--- Its parent and node 2 are covered.
+-- An insert of a key that does not share the fork where its walk has come puts a fork above that
+-- one. Its parent and node 2 are covered.
 pub record PutsAbove (h : History) (s : ℕ) (e : MapEdit) : Type 0 where
   pub plan : plan h s ≡ above_plan (toward (value h) (member h s 0) (edit_key e))
   pub guard : member h s 1 ≡ 2

@@ -1,8 +1,9 @@
 -- Where the commands of a client are among the calls.
-use Rattle.std.proofs.Common.{◌≡◌, ℕ, zero, suc, ◌<◌, ◌≤◌, List, [], ◌∷◌, length, drop, Option, Some, None, slice_get, get_or, drop-cons, refl, sym, ◌∙◌, ap, subst, eqb, cond, Bool, true, false, arith}
+use Rattle.std.proofs.Common.{◌≡◌, ℕ, suc, ◌<◌, ◌≤◌, List, [], ◌∷◌, length, drop, Option, Some, None, slice_get, get_or, drop-cons, refl, sym, ◌∙◌, ap, subst, eqb, cond, Bool, true, false, arith}
 use Rattle.std.proofs.lemmas.Bool.{eq-eqb}
 use Rattle.std.proofs.lemmas.Option.{slice_get_read}
 use Rattle.record.specs.Common.{Call, Command, commands}
+use Rattle.record.proofs.Lemmas.{first_left, none_there}
 use Rattle.player.specs.Place.{IsNextCallAt}
 
 -- a client has no more commands than there are calls
@@ -11,19 +12,6 @@ commands_few [] c = omega arith
 commands_few (call ∷ calls) c =
     let h = commands_few calls c in
     elim (eqb call.client.0 c) as (λ b. length (cond b (call.command ∷ commands calls c) (commands calls c)) ≤ suc (length calls)) [ true ↦ omega arith | false ↦ omega arith ]
-
--- the first of what is left is there, and the rest is left after it
-first_left : {X : Type 0} (xs : List X) (n : ℕ) (x : X) (ys : List X) → drop n xs ≡ x ∷ ys → (slice_get xs n ≡ Some x) × (drop (suc n) xs ≡ ys) × (n < length xs)
-first_left [] zero x ys e = cc
-first_left [] (suc n) x ys e = cc
-first_left (z ∷ xs) zero x ys e = (cc, cc, omega arith)
-first_left (z ∷ xs) (suc n) x ys e = let h = first_left xs n x ys e in (h.0, h.1, omega (arith, h.2))
-
--- where nothing is left, there is nothing
-none_there : {X : Type 0} (xs : List X) (n : ℕ) → drop n xs ≡ [] → slice_get xs n ≡ None
-none_there [] n e = refl
-none_there (z ∷ xs) zero e = cc
-none_there (z ∷ xs) (suc n) e = none_there xs n e
 
 -- the next of a client's commands is that of the call where it is
 pub next_at : (calls : List Call) (c number at : ℕ) → IsNextCallAt calls c (drop number (commands calls c)) (Some at) → (call : Call) × (slice_get calls at ≡ Some call) × (call.client.0 ≡ c) × (slice_get (commands calls c) number ≡ Some call.command)

@@ -18,10 +18,10 @@ use Rattle.player.specs.Allowed.{PlayedAllows}
 use Rattle.linearization.specs.declared.places.Change.{Change}
 use Rattle.player.specs.Moments.{IsMomentBy}
 use Rattle.player.specs.ClientView.{client_view, AnswersRight, IsToldChange}
-use Rattle.record.proofs.Lemmas.{entries_none}
+use Rattle.record.proofs.Lemmas.{entries_none, AreOf, map_calls}
 use Rattle.linearization.specs.Entries.{AreEntries}
 use Rattle.linearization.proofs.Lemmas.{spelled}
-use Rattle.player.proofs.MapCalls.{AreOf, map_calls, map_run, run_before}
+use Rattle.player.proofs.MapCalls.{map_run, run_before}
 use Rattle.player.proofs.Winners.{win_enters}
 
 -- a history without its newest row, and that row

@@ -1,13 +1,12 @@
 -- A call of the map that runs: what its SCX-record in progress says, and the word `call` that it
 -- fills.
-use Rattle.std.proofs.Common.{◌≡◌, ℕ, ◌<◌, inr, ⊎_elim, List, Option, Some, None, refl, sym, ◌∙◌, ap, subst, arith}
-use Rattle.histories.specs.Common.{Layout, Row, Step, Fill as FillKind, LoadSettled, ScxWord, Word, scx as scx_word, word_after, History, ◌⊳◌}
-use Rattle.histories.specs.Common.{value, Extends, IsInProgress, count_of, IsOwnScx, IsNamedScx, Lawful, IsWin, Call as MachineCall, begun_at}
+use Rattle.std.proofs.Common.{◌≡◌, ℕ, ◌<◌, inr, List, Option, Some, None, refl, sym, ◌∙◌, ap, subst, arith}
+use Rattle.histories.specs.Common.{Layout, Row, Step, Fill as FillKind, LoadSettled, ScxWord, scx as scx_word, word_after, History, ◌⊳◌}
+use Rattle.histories.specs.Common.{value, IsInProgress, count_of, IsOwnScx, IsNamedScx, Lawful, IsWin, Call as MachineCall, begun_at}
 use Rattle.arena.specs.declared.word.ScxWord.TheVariants.{Call as CallWord}
 use Rattle.arena.proofs.Lemmas.{ends_self}
 use Rattle.help.specs.Laws.Help.Lawful.{help_fills_not}
-use Rattle.histories.proofs.Lemmas.{node_since}
-use Rattle.template.specs.Common.{AllowsAll, Job, job_of, ScxWaitsAt, PutRun, ScxAt, ScxRun as ScxMachine, Snap, goal_told, asked_in, asked_key, Rule, Tracks}
+use Rattle.template.specs.Common.{AllowsAll, Job, job_of, ScxWaitsAt, PutRun, ScxAt, ScxRun as ScxMachine, goal_told, asked_key, Rule, Tracks}
 use Rattle.prims.specs.Put.Known.{PutWaitsAt}
 use Rattle.prims.specs.Scx.Known.{HasFilled, part_at, fill_step}
 use Rattle.prims.specs.declared.put.PutAt.{PutAt}
@@ -22,13 +21,12 @@ use Rattle.dict.specs.Inner.{GoalBy, InnerRun, Update, Get, Read, edit_means, in
 use Rattle.dict.specs.Laws.Kinds.{edit_at_found, edit_changes}
 use Rattle.order.specs.Laws.Run.{read_fills_not}
 use Rattle.record.specs.Common.{Pair, Edit, MapEdit, OneValue, edit_key, edit_of, get, pair_or_none, reply, IsMapRun, Makes}
-use Rattle.record.specs.Common.{Spells, TreeAllows, said, Goal, Key as ToKey, End, Command, Scx as ScxOf, Set as SetOf}
-use Rattle.ordered_map.specs.Runs.{IsEditAt}
+use Rattle.record.specs.Common.{Spells, TreeAllows, Goal, Key as ToKey, End, Command, Scx as ScxOf, Set as SetOf}
 use Rattle.ordered_map.proofs.MapLemmas.{win_makes}
 use Rattle.template.proofs.Lemmas.{walk_fills_not}
 use Rattle.template.specs.declared.walk.Found.{Found}
 use Rattle.edits.specs.Edits.{EditMeaning}
-use Rattle.edits.specs.Known.{covered, CoversLeaf, Scxs, ToldEnd, Tries, UpdateWaitsAt}
+use Rattle.edits.specs.Known.{Scxs, ToldEnd, Tries, UpdateWaitsAt}
 use Rattle.edits.specs.Laws.Entered.{only_joined}
 use Rattle.edits.specs.Laws.Kept.{idle_rests}
 use Rattle.edits.specs.Sound.{HasGuardAtEnd, IsAtFound}
@@ -76,11 +74,6 @@ pub record IsEditHand (m : InnerRun) (call : MachineCall) (h : History) (t : ℕ
   pub is : edit_inside m ≡ Some edit
   pub hand : IsHandOf call.number edit call h t
   pub gives : (row : Row) → IsMapRun call.layout (row ⊳ h) → IsWin h row t → (map : List Pair) → Spells call.layout (value h) map → edit_of (inner_call m) (reply (inner_call m) map) ≡ Some edit
-
--- what is asked of the key that a walk answers is what it was to ask
-asked_still : (goal : Goal) (f : Word → ℕ) (n key : ℕ) → asked_in goal f n ≡ key → asked_key goal key ≡ asked_in goal f n
-asked_still (ToKey k) f n key e = refl
-asked_still (End side) f n key e = sym e
 
 module _ {E : Type 0} (means : EditMeaning E) (m : UpdateRun E UpdateAt) where
   -- if a row makes the update win, the leaf that was found says what the map has just before

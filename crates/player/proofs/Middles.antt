@@ -1,5 +1,5 @@
 -- What each line leaves of what is true in the middle of a turn.
-use Rattle.std.proofs.Common.{◌≡◌, ◌≢◌, ℕ, zero, suc, ◌+◌, ◌<◌, ◌≤◌, Bool, true, false, cond, eqb, eqb-true, is_some, inl, inr, List, [], ◌∷◌, set, length, Option, Some, None, MatchOption, slice_get, refl, sym, ◌∙◌, ap, subst, ne_eqb, eq-eqb, arith}
+use Rattle.std.proofs.Common.{◌≡◌, ◌≢◌, ℕ, suc, ◌+◌, ◌<◌, ◌≤◌, Bool, true, false, cond, eqb, eqb-true, is_some, inl, inr, List, [], ◌∷◌, set, length, Option, Some, None, MatchOption, slice_get, refl, sym, ◌∙◌, ap, subst, ne_eqb, eq-eqb, arith}
 use Rattle.std.proofs.lemmas.Option.{slice_get_within}
 use native.Mathlib.Decide.{ℕ_discrete}
 use Rattle.player.proofs.Readings.{placed}
@@ -10,7 +10,7 @@ use Rattle.histories.proofs.Lemmas.{lawful_row}
 use Rattle.player.proofs.Winners.{tells_won, winner_holds, owner_is, info_kept, call_kept}
 use Rattle.player.specs.declared.interleaving.Interleaving.{Interleaving}
 use Rattle.arena.proofs.Lemmas.{word_same, word_apart, value_at, value_other}
-use Rattle.record.specs.Common.{Command, asks_map, AreFilledInOrder, Call, Pairs, NoMemory, number_pairs, Llx as LlxOf, Scx as ScxOf, Vlx as VlxOf, Set as SetOf, Map, Successor as SuccessorOf}
+use Rattle.record.specs.Common.{IsOfMode, Command, asks_map, AreFilledInOrder, Call, Pairs, NoMemory, number_pairs, Llx as LlxOf, Scx as ScxOf, Vlx as VlxOf, Set as SetOf, Map, Successor as SuccessorOf}
 use Rattle.record.specs.Common.{Predecessor as PredecessorOf, Range as RangeOf, history, turns, entries, answered, begin, start, steps, won, last_client, entry_of, entry_owed, entry_at}
 use Rattle.record.specs.Common.{commands, next_command, linked, HasItsEntry, MayAnswerAtOnce, HasTakenFew, enters, IsRight, IsFitting, OwesNothing, AreLines, ManyPairs}
 use Rattle.arena.specs.Opening.{IsMap}
@@ -28,14 +28,13 @@ use Rattle.player.specs.declared.client.Client.{Client}
 use Rattle.player.specs.Moments.{IsMomentBy}
 use Rattle.linearization.specs.declared.places.Change.{Change}
 use Rattle.linearization.specs.Entries.{AreEntries}
-use Rattle.player.proofs.MapCalls.{command_mode}
 use Rattle.player.proofs.Placing.{moment_same, moment_within}
 use Rattle.record.specs.Replies.{IsReply}
 use Rattle.record.specs.LawfulRun.{IsNext}
 use Rattle.player.specs.ClientView.{ClientView, client_view, no_hand, held, AnswersRight, linked_by, Rests, IsClient, IsAtNextCall, Refuses}
 use Rattle.player.specs.BetweenTurns.{IsLawfulSoFar, AreOthers, IsTurnOf, AreBetweenTurns, IsMade, IsEnd, AreWins}
 use Rattle.player.proofs.Views.{TellsWon, client_by_others, stands_from, holds_from}
-use Rattle.record.proofs.Lemmas.{some_turn, start_kept, begin_within, won_within}
+use Rattle.record.proofs.Lemmas.{some_turn, start_kept, begin_within, won_within, get_other, get_own, get_there, of_commands}
 use Rattle.player.proofs.MapEnds.{entered_none}
 use Rattle.linearization.specs.Ordered.{FallFrom}
 use Rattle.linearization.proofs.Lemmas.{falls, nothing_taken}
@@ -70,25 +69,6 @@ others_reply lay tries calls clients lines i reply is x j c d get =
     let other : reply.client.0 ≢ j = λ e. d (sym e ∙ is) in
     let same : linked calls lay.mode lines j ≡ linked calls lay.mode (ReplyLine reply ∷ lines) j = λ k n. sym (linked_other calls lay.mode lines reply j n other) k in
     (y.0, rw (ne_eqb reply.client.0 j other) (subst (λ (l : ℕ → Option History). IsClient (record { layout = lay; tries = tries; calls = calls; past = history lay.mode lines; answered = answered lines j; start = start lay.mode lines j; steps = steps lines j; won = won lay lines j; linked = l }) (begin lines j) c) same y.1))
-
--- one element is changed
-pub get_other : {X : Type 0} (xs : List X) (i j : ℕ) (new : X) → j ≢ i → slice_get (set xs i new) j ≡ slice_get xs j
-get_other [] i j new d = refl
-get_other (x ∷ xs) zero zero new d = absurd (d refl)
-get_other (x ∷ xs) zero (suc j) new d = refl
-get_other (x ∷ xs) (suc i) zero new d = refl
-get_other (x ∷ xs) (suc i) (suc j) new d = get_other xs i j new (λ e. d (ap suc e))
-
-pub get_own : {X : Type 0} (xs : List X) (i : ℕ) (old new : X) → slice_get xs i ≡ Some old → slice_get (set xs i new) i ≡ Some new
-get_own [] i old new e = absurd cc
-get_own (x ∷ xs) zero old new e = refl
-get_own (x ∷ xs) (suc i) old new e = get_own xs i old new e
-
--- there is one at each place
-pub get_there : {X : Type 0} (xs : List X) (i : ℕ) → i < length xs → (x : X) × (slice_get xs i ≡ Some x)
-get_there [] i p = absurd (omega arith)
-get_there (x ∷ xs) zero p = (x, refl)
-get_there (x ∷ xs) (suc i) p = get_there xs i (omega arith)
 
 -- its turn continues with the client changed
 pub turn_changed : (lay : Layout) (tries : ℕ) (calls : List Call) (words : Contents) (clients : List Client) (lines : List Line) (old new : Client) → new.pass ≡ old.pass → IsTurnOf lay tries calls words clients lines old → IsTurnOf lay tries calls words (set clients old.pass.0 new) lines new
@@ -283,7 +263,7 @@ replied lay tries calls words clients lines changes old new answer said reply co
             (subst (λ (k : Command). IsMomentBy calls lines changes k answer old.begin number said reply.moment) same (e.moment there.0 at q there.1))
 
     of_map : asks_map command ≡ true → IsMap lay.mode
-    of_map map = sym (command_mode lay.mode calls old.pass.0 _ command x.so_far.of_mode o.is) ∙ map
+    of_map map = sym (of_commands (IsOfMode lay.mode) calls old.pass.0 _ command x.so_far.of_mode o.is) ∙ map
 
     within : (m : ℕ) → reply.moment ≡ Some m → (reply.begin ≤ m) × (m ≤ reply.end)
     within m q = moment_within calls lines changes reply.begin reply.end m (won lay lines old.pass.0) reply.moment (rw (e.begin, e.end, n) begins) (λ turn w. (rw e.begin (o.late turn w), rw (e.end, n) (won_within lay tries calls lines old.pass.0 turn x.so_far.in_order w))) q lay tries old.pass.0 (history lay.mode lines) (start lay.mode lines old.pass.0) (linked calls lay.mode lines old.pass.0) command reply.answer (rw e.answers o.right) (λ map. entries (of_map map)) (λ map. subst (λ (k : ℕ). FallFrom (suc k) changes) (sym (e.end ∙ n)) (falls lay tries calls lines changes x.so_far.in_order (entries (of_map map)))) moment

@@ -5,7 +5,7 @@ use Rattle.std.proofs.Common.{◌≡◌, ℕ, suc, ◌≤◌, ⊎_elim, Bool, tr
 use Rattle.arena.specs.Opening.{is_map, IsMap}
 use Rattle.arena.specs.declared.limits.Mode.TheVariants.{Trie}
 use Rattle.histories.specs.Common.{Mode, Records, Tree, Layout, Contents}
-use Rattle.record.specs.Common.{Pair, MapCall, MapReply, OneValue, changes_map, get, reply as answer_on, map_request, Call, Command, Map, Request, Reply, number_reply, history, turns, answered}
+use Rattle.record.specs.Common.{IsOfMode, Pair, MapCall, MapReply, OneValue, changes_map, get, reply as answer_on, map_request, Call, Command, Map, Request, Reply, number_reply, history, turns, answered}
 use Rattle.record.specs.Common.{begin, start, won, entry_owed, next_command, linked, HasItsEntry, IsRight, IsPlaced, enters, map_at, reply_told, IsGreatestTurn, IsPlacedOnMap, AreSpelled}
 use Rattle.record.specs.declared.record.Line.{Line}
 use Rattle.record.specs.declared.record.Finished.{Finished}
@@ -20,11 +20,11 @@ use Rattle.player.specs.ClientView.{ClientView, client_view, IsToldBy, IsToldOfM
 use Rattle.record.specs.Placed.{IsPlacedChangeOrReading, IsPlacedReading}
 use Rattle.record.specs.LawfulRun.{IsWhole}
 use Rattle.record.specs.Legal.{IsLegal}
-use Rattle.record.proofs.Lemmas.{begin_within, lawful_is_legal}
+use Rattle.record.proofs.Lemmas.{begin_within, lawful_is_legal, map_calls, of_commands}
 use Rattle.player.specs.BetweenTurns.{IsLawfulSoFar}
 use Rattle.linearization.proofs.Lemmas.{IsRepliedIn, are_spelled, falls, ordered_placed, replied_turn}
 use Rattle.player.proofs.EachCall.{TookPlace, ByEntry, ByValue, ByReply, Nowhere, HasTakenPlace, IsMomentSo, TellsSo, is_by_entry, took_place}
-use Rattle.player.proofs.MapCalls.{command_mode, map_calls, map_run}
+use Rattle.player.proofs.MapCalls.{map_run}
 use Rattle.player.proofs.EditPlaces.{IsMapReply, changed, refused, unwon_none}
 
 -- a call of cells replies nothing of the map, and its moment is that of its answer
@@ -108,7 +108,7 @@ module _ (lay : Layout) (tries : ℕ) (calls : List Call) (words : Contents) (li
 pub placed : (lay : Layout) (tries : ℕ) (calls : List Call) (words : Contents) (lines : List Line) (changes : List Change) (reply : Finished) (c : ℕ) (command : Command) → IsLawfulSoFar lay tries calls words lines → (IsMap lay.mode → AreEntries calls lines changes) → entry_owed lay lines ≡ None → reply.client.0 ≡ c → reply.call ≡ answered lines c → IsRight lay tries c (history lay.mode lines) (start lay.mode lines c) (linked calls lay.mode lines c) command reply.answer → AnswersRight (client_view lay tries calls lines c) c command reply.answer → HasItsEntry (enters command reply.answer) (won lay lines c) → next_command calls lines c ≡ Some command → begin lines c ≡ Some reply.begin → reply.end ≡ turns lines
     → IsMomentBy calls lines changes command reply.answer reply.begin reply.end (won lay lines c) reply.moment → IsPlaced lay calls lines reply command
 placed lay tries calls words lines changes reply c (Map request) x entries owed own called right tells entry is begin end moment =
-    let mode = sym (command_mode lay.mode calls c _ (Map request) x.of_mode is) in
+    let mode = sym (of_commands (IsOfMode lay.mode) calls c _ (Map request) x.of_mode is) in
     let y : IsMapReply lay tries calls lines changes reply reply.client.0 (Map request) = record {
       mode = mode;
       all = x.of_mode;

@@ -35,12 +35,12 @@ use Rattle.player.specs.RunKnown.{edit_in_hand}
 use Rattle.player.specs.ClientView.{ClientView, client_edit, client_view, running_edit, AnswersRight, IsSound, Hears, IsClient, GoesOn, EndsCall, WaitsForStep, machine_call}
 use Rattle.player.specs.BetweenTurns.{IsLawfulSoFar, IsTurnOf, AreBetweenTurns, KnowsCounts, IsBetweenTurns, IsStepAsked, IsEnd, AreWins, ArePlaces, IsAtEdit, IsOwned, owners_edit}
 use Rattle.player.proofs.Views.{own_row, step_sound, hears}
-use Rattle.player.proofs.Middles.{IsOver, get_there, others_step, others_log, so_far_same, step_made, turn_changed, turn_ends, replied}
+use Rattle.player.proofs.Middles.{IsOver, others_step, others_log, so_far_same, step_made, turn_changed, turn_ends, replied}
 use Rattle.player.proofs.MayMakes.{may_make}
-use Rattle.record.proofs.Lemmas.{begin_within, log_step}
+use Rattle.record.proofs.Lemmas.{begin_within, log_step, get_there, map_calls}
 use Rattle.player.proofs.EachCall.{edit_of_key}
 use Rattle.player.proofs.Keys.{command_key, some_edit}
-use Rattle.player.proofs.MapCalls.{map_calls, map_run}
+use Rattle.player.proofs.MapCalls.{map_run}
 use Rattle.player.proofs.Winners.{IsEntryOfWin, entry_wins, tells_won, win_enters}
 use Rattle.player.proofs.Entered.{IsEditOfCall, IsEntryFrom, edit_entered, entry_by_others, entry_by_own, in_hand_map, rest_wins_not}
 

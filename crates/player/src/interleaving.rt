@@ -158,7 +158,8 @@ impl Interleaving {
         ensures same { self.new ≡ record self.old { places = self.new.places } }
         ensures keys { (key : ℕ) → Knows self.old.places key → Knows self.new.places key }
         ensures change { (e : MapEdit) → owners_edit self.old.clients.items entry.now.client.0 ≡ Some e →
-            changes self.new.places ≡ record { turn = entry.now.step; key = edit_key e; value = value_left e } ∷ changes self.old.places }
+            changes self.new.places ≡
+            record { turn = entry.now.step; key = edit_key e; value = value_left e } ∷ changes self.old.places }
     {
         if let Some((key, value)) = self.clients[entry.client.0 as usize].change() {
             let turn = entry.step;

@@ -104,7 +104,8 @@ fn wanted_by(order: Order) -> u32
 /// Whether an order with this much left asks for a turn.
 fn asks(order: Order, left: u32, has_call: bool) -> bool
     ensures some { IsTrue result → 0 < left }
-    ensures asks { (calls : List Call) (lines : List Line) → has_call ≡ is_some (next_command calls lines (ordered_client order)) →
+    ensures asks { (calls : List Call) (lines : List Line) →
+        has_call ≡ is_some (next_command calls lines (ordered_client order)) →
         IsTrue result ↔ ((0 < left) × MayTurn calls order lines) }
 {
     left > 0 && (has_call || matches!(order, Order::Step { .. }))

@@ -36,7 +36,8 @@ pub trait Plays<To> {
     fn turn(&mut self, client: PassNo, to: &mut To) -> Result<Turned, Self::Fault>
         requires { client.0 < passes self.old }
         ensures turned { (start : To) (p : PlayerView) → behind start self.old to.old p →
-            IfOk result (λ turned. (later : PlayerView) × (row : TurnRow) × TellsTurn p later client.0 row turned × behind start self.new to.new later) }
+            IfOk result (λ turned. (later : PlayerView) × (row : TurnRow) ×
+            TellsTurn p later client.0 row turned × behind start self.new to.new later) }
         ensures broken { (start : To) (p : PlayerView) → behind start self.old to.old p →
             IfErr result (λ fault. broken start self.new to.new fault p) }
         ensures passes { passes self.new ≡ passes self.old }

@@ -168,7 +168,8 @@ impl LlxRun {
 
     /// Reads the fields if the SCX-record that the info names left the node in place.
     fn read_fields(&mut self, marked: bool, scx: ScxNo, state: u64, marked_again: bool) -> Turn<Llx>
-        ensures turn { ReadsLeft self.old self.new result marked scx state marked_again ⊎ Declines self.old self.new result marked scx state marked_again }
+        ensures turn { ReadsLeft self.old self.new result marked scx state marked_again ⊎
+            Declines self.old self.new result marked scx state marked_again }
     {
         if state == ABORTED || state == COMMITTED && !marked_again {
             self.load_child(LlxAt::Left { marked, scx }, Side::Left)
@@ -219,7 +220,8 @@ impl LlxRun {
     /// Helps the SCX-record that was met, or continues at once if it is finished.
     fn meet<S: Shape>(&mut self, marked: bool, scx: ScxNo, state: u64) -> Turn<Llx>
         ensures node { self.new.node ≡ self.old.node }
-        ensures turn { (c : Call) (h : History) → Meets S.allows c h self.old.node.0 marked scx.0 state → LlxTurn S.allows c h self.new result }
+        ensures turn { (c : Call) (h : History) →
+            Meets S.allows c h self.old.node.0 marked scx.0 state → LlxTurn S.allows c h self.new result }
         ensures nearer { MatchTurn result (λ _. llx_left self.new.at < 46) (λ _. Unit {0}) }
     {
         if state == IN_PROGRESS {

@@ -80,7 +80,8 @@ impl ScxRun {
     /// Fills a word of the SCX-record.
     fn fill(&mut self, at: ScxAt, part: ScxWord, value: u64) -> Turn<Scx>
         ensures stands { self.new ≡ record self.old { at = at } }
-        ensures asked { result ≡ Turn.Ask (record { kind = Kind.Fill; word = Word.Scx self.old.scx part; access = Access.Store value }) }
+        ensures asked { result ≡
+            Turn.Ask (record { kind = Kind.Fill; word = Word.Scx self.old.scx part; access = Access.Store value }) }
     {
         self.at = at;
         Turn::Ask(Step {
@@ -107,7 +108,8 @@ impl ScxRun {
     }
 
     fn after_member(&mut self, j: MemberIndex) -> Turn<Scx>
-        ensures turn { FillsNext self.old self.new result j (λ k. ScxAt.Member k) ⊎ FillsLast self.old self.new result j (ScxAt.Seen MemberIndex.First) }
+        ensures turn { FillsNext self.old self.new result j (λ k. ScxAt.Member k) ⊎
+            FillsLast self.old self.new result j (ScxAt.Seen MemberIndex.First) }
         ensures same { (self.new.scx ≡ self.old.scx) × (self.new.update ≡ self.old.update) × (self.new.call ≡ self.old.call) }
         ensures nearer { scx_left self.new.at < scx_left (ScxAt.Member j) }
     {
@@ -118,7 +120,8 @@ impl ScxRun {
     }
 
     fn after_seen(&mut self, j: MemberIndex) -> Turn<Scx>
-        ensures turn { FillsNext self.old self.new result j (λ k. ScxAt.Seen k) ⊎ FillsLast self.old self.new result j ScxAt.Call }
+        ensures turn { FillsNext self.old self.new result j (λ k. ScxAt.Seen k) ⊎
+            FillsLast self.old self.new result j ScxAt.Call }
         ensures same { (self.new.scx ≡ self.old.scx) × (self.new.update ≡ self.old.update) × (self.new.call ≡ self.old.call) }
         ensures nearer { scx_left self.new.at < scx_left (ScxAt.Seen j) }
     {

@@ -35,7 +35,8 @@ impl Update {
         requires among { IsAmong snaps.now field.0.0 }
         ensures over { IsUpdateOver result }
         ensures field { ChangesField result snaps.now field }
-        ensures removed { (j : ℕ) → j < length snaps.now → (plan_finalizes result.plan.0 j ≡ true) ↔ ListsNode finalize.now (snap_at snaps.now j).node.0 }
+        ensures removed { (j : ℕ) → j < length snaps.now →
+            (plan_finalizes result.plan.0 j ≡ true) ↔ ListsNode finalize.now (snap_at snaps.now j).node.0 }
         ensures snaps { result.snaps ≡ snaps.now }
         ensures fresh { result.fresh.0 ≡ fresh }
     {

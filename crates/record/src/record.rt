@@ -116,13 +116,12 @@ pub enum Answer {
     Unlinked { node: NodeNo },
     /// A call of the map, by what it replies. One with an entry answers what the map had just
     /// before its moment, all others what it has at it. `get` and the edits of a key: `Value`,
-    /// the value of its key, if the key has one; an `insert_new` that answers a value has changed
-    /// nothing, nor has a `delete` that answers none, nor a `replace_if` or `delete_if` that
-    /// answers another value than it expects, or none. `pop_first`, `pop_last`: `Pair`, the pair
-    /// at that end. `successor`, `predecessor`: `Pair`, the pair with the next key above its own, or
-    /// below. Each of these may answer none. `range`: `Pairs`, the first pairs between its keys, by
-    /// rising key. All but `get`: `Contended`, all its tries were lost, and in the last of them `scx`
-    /// was in progress over the node `node` of the tree; an edit was not made and never will be.
+    /// the value of its key, if the key has one; an edit has changed nothing if its rule does not
+    /// apply to what it answers. `pop_first`, `pop_last`: `Pair`, the pair at that end. `successor`,
+    /// `predecessor`: `Pair`, the pair with the next key above its own, or below. Each of these may
+    /// answer none. `range`: `Pairs`, the first pairs between its keys, by rising key. All but
+    /// `get`: `Contended`, all its tries were lost, and in the last of them `scx` was in progress
+    /// over the node `node` of the tree; an edit was not made and never will be.
     /// Edits: `Full`, this much of the resource is left in the client's share, too little for the call.
     /// `successor`, `predecessor`, `range`: `NoMemory`, an allocation was refused.
     Map(Reply<u64, u128>),

@@ -1,26 +1,10 @@
 -- The commands of clients, gathered one after another.
-use Rattle.std.proofs.Common.{◌≡◌, ◌∙◌, ℕ, zero, suc, ◌+◌, ◌<◌, Bool, true, false, cond, eqb, List, [], ◌∷◌, ◌++◌, take, length, get_or, Some, slice_get, refl, sym, ap, append-nil, arith}
+use Rattle.std.proofs.Common.{◌≡◌, ◌∙◌, ℕ, zero, suc, ◌+◌, ◌<◌, true, false, eqb, List, [], ◌∷◌, ◌++◌, take, length, get_or, Some, slice_get, refl, sym, ap, append-nil, arith}
 use Rattle.std.proofs.lemmas.Bool.{eq-eqb, ne_eqb}
-use Rattle.std.proofs.lemmas.List.{take_more}
 use Rattle.std.specs.Option.{option_map}
 use borrow.Author.Count.{below_more}
 use Rattle.record.specs.Common.{Call, Command, commands}
-
-commands_or : (b : Bool) (x : Command) (xs ys : List Command) → cond b (x ∷ (xs ++ ys)) (xs ++ ys) ≡ cond b (x ∷ xs) xs ++ ys
-commands_or true x xs ys = refl
-commands_or false x xs ys = refl
-
-commands_append : (xs ys : List Call) (c : ℕ) → commands (xs ++ ys) c ≡ commands xs c ++ commands ys c
-commands_append [] ys c = refl
-commands_append (x ∷ xs) ys c = ap (λ zs. cond (eqb x.client.0 c) (x.command ∷ zs) zs) (commands_append xs ys c) ∙ commands_or (eqb x.client.0 c) x.command (commands xs c) (commands ys c)
-
--- with the next call
-commands_next : (calls : List Call) (i : ℕ) (call : Call) (c : ℕ) (b : Bool) → i < length calls → call ≡ get_or calls i call → eqb call.client.0 c ≡ b → commands (take (i + 1) calls) c ≡ commands (take i calls) c ++ cond b (call.command ∷ []) []
-commands_next calls i call c b less is same =
-    ap (λ xs. commands xs c) (take_more calls i call less)
-    ∙ commands_append (take i calls) (get_or calls i call ∷ []) c
-    ∙ ap (λ (y : Call). commands (take i calls) c ++ commands (y ∷ []) c) (sym is)
-    ∙ ap (λ x. commands (take i calls) c ++ cond x (call.command ∷ []) []) same
+use Rattle.record.proofs.Lemmas.{commands_next}
 
 module _ (calls : List Call) (i : ℕ) (call : Call) (c : ℕ) (less : i < length calls) (is : call ≡ get_or calls i call) (own : List Command) (so_far : own ≡ commands (take i calls) c) where
   -- after a call of the client

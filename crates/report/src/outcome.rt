@@ -44,7 +44,8 @@ pub fn write_outcome<W: Write>(
 
 /// Puts the first two rows.
 fn put_opening(sheet: &mut Sheet, missed: bool) -> Result<(), AllocError>
-    ensures { OnOk result (sheet_text sheet.new ≡ sheet_text sheet.old ++ rows_text 4 (outcome_title_row ∷ gate_row missed ∷ [])) }
+    ensures { OnOk result (sheet_text sheet.new ≡
+        sheet_text sheet.old ++ rows_text 4 (outcome_title_row ∷ gate_row missed ∷ [])) }
 {
     sheet.push("outcome,1,,\n")?;
     if missed {

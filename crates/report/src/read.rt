@@ -119,7 +119,8 @@ fn end_of<R: Read + Drop>(rows: &mut Rows<R>, lines: &[Line]) -> Result<(), RowF
         OnOk result (AreRows bytes (before ++ seven (report_end_row lines.now) ∷ [])) }
     ensures fault { (bytes : List ℕ) (version : VersionOf) (mode : Mode) (limits : Limits) (calls : List Call) →
         AreAdmitted version mode limits calls → All (IsSpelledLine version) lines.now →
-        IsAtRow R.remaining bytes (rows_of_lines version mode limits calls lines.now) 7 rows.old → BeginsBehindCalls lines.now (last_row rows.old) →
+        IsAtRow R.remaining bytes (rows_of_lines version mode limits calls lines.now) 7 rows.old →
+        BeginsBehindCalls lines.now (last_row rows.old) →
         name_of (last_row rows.old) ≡ codes "end" → rows.old.number ≡ 3 + length calls + length lines.now →
         length calls + length lines.now < 2 ^ 64 - 5 → IfErr result (IfBad (λ row _. IsFirstBadRow bytes row)) }
 {

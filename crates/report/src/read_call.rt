@@ -71,8 +71,10 @@ fn next_call<R: Read + Drop>(
         IfOk result (λ call. last_row rows.now ≡ seven (reported_call_row earlier call)) }
     ensures counted { (earlier : List Call) → HasCounted counts.old earlier → length earlier < 2 ^ 64 - 1 →
         IfOk result (λ call. HasCounted counts.new (call ∷ earlier)) }
-    ensures none { (earlier : List Call) → HasCounted counts.old earlier → length earlier < 2 ^ 64 → length (last_row rows.now) ≡ 7 →
-        IfErr result (IfBad (λ row _. (row ≡ rows.now.number) × ((call : Call) → IsReported version layout.mode layout.passes call →
+    ensures none { (earlier : List Call) → HasCounted counts.old earlier →
+        length earlier < 2 ^ 64 → length (last_row rows.now) ≡ 7 →
+        IfErr result (IfBad (λ row _. (row ≡ rows.now.number) ×
+        ((call : Call) → IsReported version layout.mode layout.passes call →
         last_row rows.now ≢ seven (reported_call_row earlier call)))) }
 {
     let Some((call, number)) = call_of(row_fields(rows), layout, version) else {
@@ -91,8 +93,10 @@ fn next_call<R: Read + Drop>(
 fn call_of(fields: [&str; 7], layout: Layout, version: Version) -> Option<(Call, u64)>
     ensures accepted { IfSome result (λ told. IsReported version layout.mode layout.passes told.0) }
     ensures fits { IfSome result (λ told. told.1 < 2 ^ 64) }
-    ensures row { IfSome result (λ told. texts fields.entry ≡ codes "call" ∷ decimal told.0.client.0 ∷ decimal told.1 ∷ command_row told.0.command) }
-    ensures none { IfNone result ((call : Call) (number : ℕ) → IsReported version layout.mode layout.passes call → number < 2 ^ 64 →
+    ensures row { IfSome result (λ told. texts fields.entry ≡
+        codes "call" ∷ decimal told.0.client.0 ∷ decimal told.1 ∷ command_row told.0.command) }
+    ensures none { IfNone result ((call : Call) (number : ℕ) →
+        IsReported version layout.mode layout.passes call → number < 2 ^ 64 →
         texts fields.entry ≢ codes "call" ∷ decimal call.client.0 ∷ decimal number ∷ command_row call.command) }
 {
     let ["call", client, number, name, a, b, c] = fields else {

@@ -50,7 +50,8 @@ pub fn lines_of<R: Read + Drop>(
     ensures spelled { IfOk result (λ lines. All (IsSpelledLine version) lines.items) }
     ensures number { rows.old.number ≡ 3 + length calls.now → length calls.now ≤ 65536 →
         IfOk result (λ lines. rows.new.number ≡ 3 + length calls.now + vec_len lines) }
-    ensures behind { (bytes : List ℕ) (before : List (List (List ℕ))) → IsAtRow R.remaining bytes before 7 rows.old → ¬ (IsCallRow (last_row rows.old)) →
+    ensures behind { (bytes : List ℕ) (before : List (List (List ℕ))) →
+        IsAtRow R.remaining bytes before 7 rows.old → ¬ (IsCallRow (last_row rows.old)) →
         IfOk result (λ lines. BeginsBehindCalls lines.items (last_row rows.new)) }
     ensures ends { (bytes : List ℕ) (before : List (List (List ℕ))) → IsAtRow R.remaining bytes before 7 rows.old →
         OnOk result (name_of (last_row rows.new) ≡ codes "end") }

@@ -44,7 +44,8 @@ pub(crate) fn put_blame(sheet: &mut Sheet, name: &str, node: NodeNo, scx: ScxNo)
     requires room { 64 ≤ sheet_room sheet.old }
     requires short { length name.now ≤ 22 }
     requires plain { IsPlain name.now }
-    ensures text { sheet_text sheet.new ≡ sheet_text sheet.old ++ (name.now ++ (decimal node.0 ++ (codes " s" ++ decimal scx.0))) }
+    ensures text { sheet_text sheet.new ≡
+        sheet_text sheet.old ++ (name.now ++ (decimal node.0 ++ (codes " s" ++ decimal scx.0))) }
     ensures plain { IsPlain (name.now ++ (decimal node.0 ++ (codes " s" ++ decimal scx.0))) }
 {
     sheet.put(name);
@@ -81,7 +82,8 @@ fn put_pairs(sheet: &mut Sheet, pairs: &[(u64, u128)]) -> Result<(), AllocError>
 
 /// Puts a key and its value, each after a space.
 fn put_pair(sheet: &mut Sheet, key: u64, value: u128) -> Result<(), AllocError>
-    ensures text { OnOk result (sheet_text sheet.new ≡ sheet_text sheet.old ++ (codes " " ++ (decimal key ++ (codes " " ++ decimal value)))) }
+    ensures text { OnOk result (sheet_text sheet.new ≡
+        sheet_text sheet.old ++ (codes " " ++ (decimal key ++ (codes " " ++ decimal value)))) }
     ensures key { OnOk result (IsPlain (decimal key)) }
     ensures value { OnOk result (IsPlain (decimal value)) }
 {

@@ -64,7 +64,8 @@ pub fn word_text(alloc: Global, word: Word) -> Result<String, AllocError>
 
 /// The name of a word within its SCX-record, except for the number of a member that ends it.
 fn scx_part(part: ScxWord) -> (&'static str, Option<u8>)
-    ensures name { MatchOption result.1 (scx_part part ≡ result.0.now) (λ member. scx_part part ≡ result.0.now ++ decimal member) }
+    ensures name { MatchOption result.1 (scx_part part ≡ result.0.now) (λ member. scx_part part ≡
+        result.0.now ++ decimal member) }
     ensures plain { IsPlain result.0.now }
     ensures short { MatchOption result.1 (length result.0.now ≤ 9) (λ _. length result.0.now ≤ 1) }
 {

@@ -1,8 +1,8 @@
 -- The calls of a client, one after the other.
-use Rattle.std.proofs.Common.{◌≡◌, ◌∙◌, ℕ, ◌+◌, ◌<◌, Bool, true, false, cond, eqb, List, [], ◌∷◌, ◌++◌, take, length, get_or, Some, refl, sym, ap, subst, append-nil}
-use Rattle.std.proofs.lemmas.List.{take_more}
+use Rattle.std.proofs.Common.{◌≡◌, ◌∙◌, ℕ, ◌+◌, ◌<◌, true, false, eqb, List, [], ◌∷◌, ◌++◌, take, length, get_or, Some, refl, sym, subst, append-nil}
 use Rattle.arena.proofs.Lemmas.{ends_self, ends_trans}
 use Rattle.record.specs.Common.{MapCall, Reply, Call, Command, commands, map_call}
+use Rattle.record.proofs.Lemmas.{commands_next}
 use Rattle.forest.specs.Passes.{Ground, PassView, IsLaterView, run_of}
 use Rattle.runner.specs.Calls.{HasCalledNumbers, HaveReplies}
 
@@ -25,26 +25,7 @@ pub replies_later : (f : Ground) (old new : PassView) (cs : List Command) (rs : 
 replies_later f old new [] [] h = subst (IsLaterView old) (sym h) (later_self old)
 replies_later f old new [] (r ∷ rs) h = absurd h
 replies_later f old new (c ∷ cs) [] h = absurd h
-replies_later f old new (c ∷ cs) (r ∷ rs) h = later_again old h.1 new h.3.goes_on.later (replies_later f h.1 new cs rs h.4)
-
--- The commands of a client among more calls
-
-commands_or : (b : Bool) (x : Command) (xs ys : List Command) → cond b (x ∷ (xs ++ ys)) (xs ++ ys) ≡ cond b (x ∷ xs) xs ++ ys
-commands_or true x xs ys = refl
-commands_or false x xs ys = refl
-
-pub commands_append : (xs ys : List Call) (c : ℕ) → commands (xs ++ ys) c ≡ commands xs c ++ commands ys c
-commands_append [] ys c = refl
-commands_append (x ∷ xs) ys c = ap (λ zs. cond (eqb x.client.0 c) (x.command ∷ zs) zs) (commands_append xs ys c) ∙ commands_or (eqb x.client.0 c) x.command (commands xs c) (commands ys c)
-
--- with the next call
-pub commands_more : (calls : List Call) (i : ℕ) (call : Call) (c : ℕ) → i < length calls → commands (take (i + 1) calls) c ≡ commands (take i calls) c ++ commands (get_or calls i call ∷ []) c
-commands_more calls i call c less = ap (λ xs. commands xs c) (take_more calls i call less) ∙ commands_append (take i calls) (get_or calls i call ∷ []) c
-
-commands_next : (calls : List Call) (i : ℕ) (call : Call) (c : ℕ) (b : Bool) → i < length calls → call ≡ get_or calls i call → eqb call.client.0 c ≡ b → commands (take (i + 1) calls) c ≡ commands (take i calls) c ++ cond b (call.command ∷ []) []
-commands_next calls i call c b less is same = commands_more calls i call c less
-    ∙ ap (λ (y : Call). commands (take i calls) c ++ commands (y ∷ []) c) (sym is)
-    ∙ ap (λ x. commands (take i calls) c ++ cond x (call.command ∷ []) []) same
+replies_later f old new (c ∷ cs) (r ∷ rs) h = later_again old h.1 new h.3.1.goes_on.later (replies_later f h.1 new cs rs h.4)
 
 module _ (P : PassView → PassView → MapCall → Reply ℕ ℕ → Type 0) (calls : List Call) (i : ℕ) (call : Call) (c : ℕ) (less : i < length calls) (is : call ≡ get_or calls i call) (a b : PassView) (rs : List (Reply ℕ ℕ)) (h : HaveReplies P a (commands (take i calls) c) rs b) where
   -- after a call of the client

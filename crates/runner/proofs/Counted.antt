@@ -3,8 +3,8 @@ use Rattle.std.proofs.Common.{◌≡◌, ◌∙◌, ℕ, suc, ◌+◌, ◌<◌, 
 use Rattle.std.proofs.lemmas.Bool.{eqb-true, eqb-false}
 use Rattle.std.proofs.lemmas.Grind.{get_or-set_at}
 use Rattle.record.specs.Common.{Call, Command, commands}
+use Rattle.record.proofs.Lemmas.{commands_more}
 use Rattle.runner.specs.Turns.{call_count}
-use Rattle.runner.proofs.Chains.{commands_more}
 
 cond_few : (b : Bool) (x : Command) (xs : List Command) (n : ℕ) → length xs ≤ n → length (cond b (x ∷ xs) xs) ≤ suc n
 cond_few true x xs n less = omega (arith, less)

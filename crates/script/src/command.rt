@@ -45,7 +45,8 @@ impl CellUpdate {
         field: (Cell, Side),
         value: u64,
     ) -> Option<CellUpdate>
-        ensures valid { IsSome result ↔ (IsTrue (is_subsequence (maybe_cells_of finalize) (cells_of cells)) × Contains (cells_of cells) field.0) }
+        ensures valid { IsSome result ↔
+            (IsTrue (is_subsequence (maybe_cells_of finalize) (cells_of cells)) × Contains (cells_of cells) field.0) }
         ensures cells { IfSome result (λ u. update_cells u ≡ cells_of cells) }
         ensures finalize { IfSome result (λ u. update_finalize u ≡ maybe_cells_of finalize) }
         ensures field { IfSome result (λ u. update_field u ≡ field) }

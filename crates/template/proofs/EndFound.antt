@@ -287,8 +287,8 @@ module _ (end : Side) (c : Call) (h : History) (f : Found) (run : IsMapRun c.lay
     none_at_end : IsEndAt end c.layout h moment (end_told f)
     none_at_end = subst (IsEndAt end c.layout h moment) found_told (walk_end end c.layout h moment leaf run at_leaf a.leaf)
 
-  -- So it answers the pair at that end of the map, at a moment of the call; in a trie, where a fork that was put
-  -- above another may have led it astray, if it answers that there is none.
+  -- So it answers the pair at that end of the map, at a moment of the call; in a trie, where a fork
+  -- that was put above another may have led it astray, if it answers that there is none.
   pub found_end : (c.layout.mode ≡ TreeMode) ⊎ (f.value ≡ None) → (first : History) × IsOwnMoment c first × IsEndAt end c.layout h first (end_told f)
   found_end sure = go sure (either_mode c.layout.mode run.0)
     where

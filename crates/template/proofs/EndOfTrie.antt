@@ -1,4 +1,5 @@
--- A walk to an end of a trie, and the keys of the leaf that it has found: it has come to that on their way too.
+-- A walk to an end of a trie, and the keys of the leaf that it has found: it has come to that on
+-- their way too.
 use Rattle.std.proofs.Common.{◌≡◌, ◌≢◌, ℕ, ◌^◌, ◌<◌, inl, ne_eqb, refl, sym, ◌∙◌}
 use Rattle.arena.specs.declared.limits.Mode.TheVariants.{Trie as TrieMode}
 use Rattle.histories.specs.Common.{Side, Left, History, value, Extends, Call}

@@ -126,7 +126,8 @@ edit_promised c h s e f d n run small a surely i w fits there = leaf_edit_promis
     turn : toward (value h) (d.member 0) (edit_key e) ≡ f.trail.side
     turn = subst (λ m. toward (value h) m (edit_key e) ≡ f.trail.side) (sym i.parent) parent.side_is
 
--- What fits in a trie below the fork above the leaf or the fork that was found, which stays on the path of k
+-- What fits in a trie below the fork above the leaf or the fork that was found, which stays on the
+-- path of k
 
 -- that fork has named what was found
 had_child : (c : Call) (h : History) (k n : ℕ) (side : Side) (next : ℕ) → HasTurned c h k n side next → HasHadChild h n (toward (value h) n k) next

@@ -124,8 +124,8 @@ move_fits b f p side n ep en below fields s = record {
 
 -- The promises
 
--- What each of them says of the first node that is covered, and of the new one, whose children are fresh
--- or named.
+-- What each of them says of the first node that is covered, and of the new one, whose children are
+-- fresh or named.
 module _ (lay : Layout) (c s : ℕ) (h : History) (d : Descriptor) (e : MapEdit) (is_pass : c < lay.passes) (k : History) (later : IsLater c s h k) (l : Lawful lay k) (same : descriptor k s ≡ d) (free : ¬ IsNamedScx k s)
     (named : IsNamed lay h (d.member 0)) (fresh : IsFresh lay c h d.new) where
   abbrev ends : Extends k h

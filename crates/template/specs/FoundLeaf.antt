@@ -56,8 +56,8 @@ pub record HasFoundBelow (goal : Goal) (c : Call) (h : History) (f : Found) : Ty
   pub found : HasFoundGoal goal c h f
   pub stays : f.trail.node.0 ≢ 0 → Stays c.layout (value h) (path_key goal) f.trail.parent.0
 
--- The call has found a fork of a trie that its key does not share: its head and key. Below it, as on its way, is
--- no such key. The fork above stays on the key's path.
+-- The call has found a fork of a trie that its key does not share: its head and key. Below it, as
+-- on its way, is no such key. The fork above stays on the key's path.
 pub record HasFoundFork (goal : Goal) (c : Call) (h : History) (f : Found) : Type 0 where
   pub trie : c.layout.mode ≡ TrieMode
   pub to_key : IsToKey goal

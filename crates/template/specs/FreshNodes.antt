@@ -26,8 +26,8 @@ pub record IsLeafEditAt (f : Found) (d : Descriptor) (n : ℕ) : Type 0 where
   pub old : d.old ≡ f.trail.node.0
   pub new : d.new ≡ n
 
--- the words of an SCX-record that puts the fresh fork n above the fork that was found: it covers the parent of
--- that, and node 2, and finalizes none
+-- the words of an SCX-record that puts the fresh fork n above the fork that was found: it covers
+-- the parent of that, and node 2, and finalizes none
 pub record IsAboveAt (f : Found) (d : Descriptor) (n : ℕ) : Type 0 where
   pub plan : d.plan ≡ above_plan f.trail.side
   pub parent : d.member 0 ≡ f.trail.parent.0
@@ -56,8 +56,8 @@ pub record IsEndLeafEditAt (f : Found) (d : Descriptor) (n : ℕ) : Type 0 where
   pub old : d.old ≡ f.trail.node.0
   pub new : d.new ≡ n
 
--- or where no other pair is left: it covers the fork above the parent, the parent and the leaf's sibling,
--- finalizes the latter two, and covers node 2 behind all
+-- or where no other pair is left: it covers the fork above the parent, the parent and the leaf's
+-- sibling, finalizes the latter two, and covers node 2 behind all
 pub record IsEndJoinAt (f : Found) (d : Descriptor) (n : ℕ) : Type 0 where
   pub plan : d.plan ≡ end_join_plan f.trail.grand_side
   pub grand : d.member 0 ≡ f.trail.grand.0

@@ -26,8 +26,8 @@ pub record IsFresh (lay : Layout) (c : ℕ) (h : History) (n : ℕ) : Type 0 whe
   pub own : IsOwnNode lay c n
   pub unnamed : ¬ IsNamed lay h n
 
--- the leaf l is replaced by a leaf, or by a fork over two, that hold what the edit makes of its pairs; in
--- a tree the three are on the levels that they should be on there
+-- the leaf l is replaced by a leaf, or by a fork over two, that hold what the edit makes of its
+-- pairs; in a tree the three are on the levels that they should be on there
 abbrev pub IsReplacedBy : Layout → (Word → ℕ) → MapEdit → ℕ → ℕ → Type 0
 IsReplacedBy lay f e l n = IsSwapBy f e l n ⊎ ((x y : ℕ) × IsSplitBy f e l n x y × (HasTreeLevels f l n x y ⊎ (lay.mode ≡ TrieMode)))
 
@@ -42,8 +42,8 @@ pub record HasFreshEdit (lay : Layout) (c : ℕ) (h : History) (e : MapEdit) (l 
 abbrev pub WillFit : Layout → History → Descriptor → MapEdit → Type 0
 WillFit lay h d e = lay.mode ≡ TrieMode → FitsTrie (value h) (d.member 0) (toward (value h) (d.member 0) (edit_key e)) d.new
 
--- What an edit of a leaf has in hand: a fork that was on the key's path, and stays there, its leaf on the
--- side of the key, in which a delete finds it, and the fresh node that is to replace that.
+-- What an edit of a leaf has in hand: a fork that was on the key's path, and stays there, its leaf
+-- on the side of the key, in which a delete finds it, and the fresh node that is to replace that.
 pub record WillEditLeaf (lay : Layout) (c : ℕ) (h : History) (d : Descriptor) (e : MapEdit) : Type 0 where
   pub small : edit_key e < 2 ^ 64
   pub path : WasOnPath h (edit_key e) (d.member 0)
@@ -87,8 +87,8 @@ pub record WillTakeOut (lay : Layout) (c : ℕ) (h : History) (d : Descriptor) (
   pub copied : is_leaf (value h) (d.member (sibling_place side)) ≡ false → (s : Side) → value h (child d.new s) ≡ (child_of sibling s).0
   pub fits : WillFit lay h d e
 
--- What has in hand what is to take a pair at an end of a trie out of its leaf, which has others: as an
--- edit of a leaf, with node 2 behind all else.
+-- What has in hand what is to take a pair at an end of a trie out of its leaf, which has others: as
+-- an edit of a leaf, with node 2 behind all else.
 pub record WillEditEndLeaf (lay : Layout) (c : ℕ) (h : History) (d : Descriptor) (e : MapEdit) : Type 0 where
   pub trie : lay.mode ≡ TrieMode
   pub small : edit_key e < 2 ^ 64
@@ -105,9 +105,9 @@ pub record WillEditEndLeaf (lay : Layout) (c : ℕ) (h : History) (d : Descripto
   pub there : value_left e ≡ None → said (value h) (edit_key e) (d.member 1) ≢ None
   pub fits : WillFit lay h d e
 
--- What has in hand what is to take that leaf out, which has no other pair and is on this side of its
--- parent: two forks that were on the key's path, the leaf and its sibling as the snapshot of the lower
--- one found them, a fresh copy of the sibling, and node 2.
+-- What has in hand what is to take that leaf out, which has no other pair and is on this side of
+-- its parent: two forks that were on the key's path, the leaf and its sibling as the snapshot of
+-- the lower one found them, a fresh copy of the sibling, and node 2.
 pub record WillTakeEndOut (lay : Layout) (c : ℕ) (h : History) (d : Descriptor) (e : MapEdit) (side : Side) (leaf : ℕ) : Type 0 where
   pub trie : lay.mode ≡ TrieMode
   pub small : edit_key e < 2 ^ 64
@@ -131,9 +131,9 @@ pub record WillTakeEndOut (lay : Layout) (c : ℕ) (h : History) (d : Descriptor
   pub copied : is_leaf (value h) (d.member 2) ≡ false → (s : Side) → value h (child d.new s) ≡ (child_of sibling s).0
   pub fits : WillFit lay h d e
 
--- What has in hand what is to put a fork of a trie above the fork u, which the key does not share: the fork
--- over u, which was on the key's path, and stays there, and the fresh fork over u and over a fresh leaf,
--- which is on this side.
+-- What has in hand what is to put a fork of a trie above the fork u, which the key does not share:
+-- the fork over u, which was on the key's path, and stays there, and the fresh fork over u and over
+-- a fresh leaf, which is on this side.
 pub record WillPutAbove (lay : Layout) (c : ℕ) (h : History) (d : Descriptor) (e : MapEdit) (u leaf : ℕ) (side : Side) : Type 0 where
   pub trie : lay.mode ≡ TrieMode
   pub small : edit_key e < 2 ^ 64

@@ -15,8 +15,8 @@ pub record IsOwnMoment (c : Call) (h : History) : Type 0 where
   pub since : Extends before c.start
   pub own : row.pass.0 ≡ c.pass
 
--- the call has walked to the node n on its way to k, since a moment that is not before its first own
--- row
+-- the call has walked to the node n on its way to k, since a moment that is not before its first
+-- own row
 pub record WasPassed (c : Call) (h : History) (k n : ℕ) : Type 0 where
   pub first : History
   pub own : IsOwnMoment c first

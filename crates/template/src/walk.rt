@@ -285,7 +285,8 @@ impl WalkRun {
 
     /// Continues with the head of the node.
     fn read_head(&mut self, head: Head) -> Turn<Found>
-        ensures turn { (c : Call) (h : History) → WalkStands self.old c h → head_of (here h self.old (Settled HeadWord)) ≡ head → WalkTurn c h self.new result }
+        ensures turn { (c : Call) (h : History) → WalkStands self.old c h →
+            head_of (here h self.old (Settled HeadWord)) ≡ head → WalkTurn c h self.new result }
         ensures same { (self.new.goal ≡ self.old.goal) × (self.new.way ≡ self.old.way) }
         ensures nearer { (nodes : ℕ) → head.level < 2 + nodes
             → MatchTurn result (λ _. walk_left self.new.at nodes < 3 * (2 + nodes - head.level) + 4) (λ _. Unit {0}) }
@@ -301,7 +302,8 @@ impl WalkRun {
 
     /// Continues with the key of a fork of class 0.
     fn read_key(&mut self, head: Head, key: u64) -> Turn<Found>
-        ensures turn { (c : Call) (h : History) → WalkStands self.old c h → head_of (here h self.old (Settled HeadWord)) ≡ head → head.class ≡ 0
+        ensures turn { (c : Call) (h : History) → WalkStands self.old c h →
+            head_of (here h self.old (Settled HeadWord)) ≡ head → head.class ≡ 0
             → head.leaf ≡ false → here h self.old first_key ≡ key → WalkTurn c h self.new result }
         ensures same { (self.new.goal ≡ self.old.goal) × (self.new.way ≡ self.old.way) }
         ensures nearer { (nodes : ℕ) → head.level < 2 + nodes
@@ -317,7 +319,8 @@ impl WalkRun {
     /// Continues with the head of a leaf: one above all keys has no pair.
     fn read_leaf(&mut self, head: Head) -> Turn<Found>
         requires { head.leaf ≡ true }
-        ensures turn { (c : Call) (h : History) → WalkStands self.old c h → head_of (here h self.old (Settled HeadWord)) ≡ head → WalkTurn c h self.new result }
+        ensures turn { (c : Call) (h : History) → WalkStands self.old c h →
+            head_of (here h self.old (Settled HeadWord)) ≡ head → WalkTurn c h self.new result }
         ensures same { (self.new.goal ≡ self.old.goal) × (self.new.way ≡ self.old.way) }
         ensures nearer { (nodes : ℕ) → head.level < 2 + nodes
             → MatchTurn result (λ _. walk_left self.new.at nodes < 3 * (2 + nodes - head.level) + 4) (λ _. Unit {0}) }

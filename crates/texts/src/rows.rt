@@ -32,7 +32,8 @@ pub trait Format {
         ensures accepted { IfOk result (grammar self.now).Accepts }
         ensures row { IfOk result (λ entry. length (fields_of row.now) ≡ WIDTH →
             fields_of row.now ≡ (grammar self.now).row_of entry) }
-        ensures cause { IfErr result (λ cause. length (fields_of row.now) ≡ WIDTH → (grammar self.now).IsNoEntry (fields_of row.now) cause) };
+        ensures cause { IfErr result (λ cause. length (fields_of row.now) ≡ WIDTH →
+            (grammar self.now).IsNoEntry (fields_of row.now) cause) };
 
     ghost width: { (format : Self) → ((grammar format).width ≡ WIDTH) × (2 ≤ WIDTH) };
 
@@ -142,7 +143,8 @@ impl<R: Read + Drop> Rows<R> {
         ensures entries { (bytes : List ℕ) (head : List (List (List ℕ))) → HasRead R.remaining bytes head self.old
             → IfOk result (λ entries. SayEntries (F.grammar format.now) bytes head entries.items) }
         ensures fault { (bytes : List ℕ) (head : List (List (List ℕ))) → HasRead R.remaining bytes head self.old
-            → self.old.number ≡ length head → length head < 2 ^ 32 → IfErr result (IfBad (IsFirstFault (F.grammar format.now) bytes head)) }
+            → self.old.number ≡ length head → length head < 2 ^ 32
+            → IfErr result (IfBad (IsFirstFault (F.grammar format.now) bytes head)) }
     {
         let mut entries = Vec::new(alloc);
         while self.advance(F::WIDTH)? {
@@ -164,7 +166,8 @@ impl<R: Read + Drop> Rows<R> {
         ensures row { IfOk result (λ entry. length (last_row self.now) ≡ F.WIDTH →
             last_row self.now ≡ (F.grammar format.now).row_of entry) }
         ensures fault { length (last_row self.now) ≡ F.WIDTH
-            → IfErr result (IfBad (λ row cause. (row ≡ self.now.number) × (F.grammar format.now).IsNoEntry (last_row self.now) cause)) }
+            → IfErr result (IfBad (λ row cause. (row ≡ self.now.number) ×
+            (F.grammar format.now).IsNoEntry (last_row self.now) cause)) }
     {
         match format.entry(&self.row) {
             Ok(entry) => Ok(entry),

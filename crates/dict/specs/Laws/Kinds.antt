@@ -9,8 +9,6 @@ use Rattle.template.specs.Common.{call_rules, most_nodes, most_steps, need, MayR
 use Rattle.template.specs.Common.{applies, edit_key, edit_of, edit_to, leaves, pair, pair_or_none, end_pair, reply, Rule, Pair, asked_key, path_key, Goal, Key as ToKey, End}
 use Rattle.ordered_map.specs.CallRules.{TakesNothing, nodes_at, nodes_there, steps_behind}
 use Rattle.ordered_map.specs.OrderedMap.{edit_there, spot}
-use Rattle.ordered_map.specs.Requests.{edit_in, map_request}
-use Rattle.ordered_map.specs.declared.request.Request.{Request}
 use Rattle.ordered_map.specs.declared.request.Request.TheVariants as requests
 use Rattle.ordered_map.specs.declared.rule.Rule.TheVariants.{Take}
 use Rattle.template.specs.declared.walk.Found.{Found}
@@ -153,36 +151,6 @@ pub edit_small : (goal : Goal) (rule : Rule) → IsSmallCall (Edit goal rule) �
 edit_small (ToKey k) rule small = small
 edit_small (End Left) rule small = omega arith
 edit_small (End Right) rule small = omega arith
-
--- the parts of an edit, if it is one
-abbrev goal_in : Option (Goal × Rule) → Goal
-goal_in (Some x) = x.0
-goal_in None = End Left
-
-abbrev rule_in : Option (Goal × Rule) → Rule
-rule_in (Some x) = x.1
-rule_in None = Take
-
-no_end : (k : ℕ) (rule other : Rule) (side : Side) → ◌≡◌ {A = Option (Goal × Rule)} (Some (ToKey k, rule)) (Some (End side, other)) → other ≡ Take
-no_end k rule other side e = absurd (let y : ToKey k ≡ End side = ap goal_in e in cc)
-
--- a request that goes to an end takes what is there
-takes_at_end : (r : Request ℕ ℕ) (side : Side) (rule : Rule) → edit_in (map_request r) ≡ Some (End side, rule) → rule ≡ Take
-takes_at_end requests.PopFirst side rule e = sym (ap rule_in e)
-takes_at_end requests.PopLast side rule e = sym (ap rule_in e)
-takes_at_end (requests.Insert k v) side rule e = no_end k _ rule side e
-takes_at_end (requests.Delete k) side rule e = no_end k _ rule side e
-takes_at_end (requests.ReplaceIf k f v) side rule e = no_end k _ rule side e
-takes_at_end (requests.InsertNew k v) side rule e = no_end k _ rule side e
-takes_at_end (requests.DeleteIf k f) side rule e = no_end k _ rule side e
-takes_at_end (requests.Get k) side rule e = absurd (let y : None ≡ Some (End side, rule) = e in cc)
-takes_at_end (requests.Successor k) side rule e = absurd (let y : None ≡ Some (End side, rule) = e in cc)
-takes_at_end (requests.Predecessor k) side rule e = absurd (let y : None ≡ Some (End side, rule) = e in cc)
-takes_at_end (requests.Range low high most) side rule e = absurd (let y : None ≡ Some (End side, rule) = e in cc)
-
-pub request_small : (r : Request ℕ ℕ) (goal : Goal) (rule : Rule) → edit_in (map_request r) ≡ Some (goal, rule) → ((k : ℕ) → goal ≡ ToKey k → k < 2 ^ 64) → IsSmallCall (Edit goal rule)
-request_small r (ToKey k) rule e small = small k refl
-request_small r (End side) rule e small = takes_at_end r side rule e
 
 -- what the map replies to an edit, if the leaf says that
 same_told : (goal : Goal) (f : Found) → leaf_told goal f ≡ told_by goal f.key f.value

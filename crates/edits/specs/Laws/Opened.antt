@@ -5,7 +5,7 @@ use Rattle.histories.specs.Common.{IsNamed, History, Call}
 use Rattle.template.specs.Common.{IsOpened, IsMapRun, HasFoundGoal, path_key, WasPassed, Goal}
 use Rattle.ordered_map.proofs.MapLemmas.{walked_stood}
 use Rattle.template.specs.declared.walk.Found.{Found}
-use Rattle.template.proofs.Lemmas.{found_below, opened_if_stood, passed_named}
+use Rattle.template.proofs.Lemmas.{opened_if_stood, passed_named}
 
 module _ (goal : Goal) (c : Call) (h : History) (run : IsMapRun c.layout h) where
   passed_opened : (n : ℕ) → WasPassed c h (path_key goal) n → IsOpened c.layout h n
@@ -19,7 +19,3 @@ module _ (goal : Goal) (c : Call) (h : History) (run : IsMapRun c.layout h) wher
     -- an LLX may look at the leaf
     pub found_opened : IsOpened c.layout h f.trail.node.0
     found_opened = passed_opened f.trail.node.0 a.trail.node
-
-    -- and at its parent
-    pub above_opened : IsOpened c.layout h f.trail.parent.0
-    above_opened = passed_opened f.trail.parent.0 (a.trail.parent (found_below goal c h f run a)).passed

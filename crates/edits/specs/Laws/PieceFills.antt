@@ -1,10 +1,10 @@
 -- The fills of a fresh node, one after the other: what its words hold, and which comes next.
-use Rattle.std.proofs.Common.{◌≡◌, ◌≢◌, ℕ, zero, suc, ◌+◌, ◌-◌, ◌*◌, ◌/◌, ◌%◌, ◌^◌, ◌<◌, ◌≤◌, ◌⊎◌, inl, inr, Bool, true, false, Some, None, Option, List, [], ◌∷◌, length, refl, sym, ◌∙◌, ap, subst, arith, lt-ltb, le-ltb}
+use Rattle.std.proofs.Common.{eq-eqb, ◌≡◌, ◌≢◌, ℕ, zero, suc, ◌+◌, ◌-◌, ◌*◌, ◌/◌, ◌%◌, ◌^◌, ◌<◌, ◌≤◌, ◌⊎◌, inl, inr, Bool, true, false, Some, None, Option, List, [], ◌∷◌, length, refl, sym, ◌∙◌, ap, subst, arith, lt-ltb, le-ltb}
 use Rattle.std.specs.Prelude.{if◌then◌else◌, min, nat_lt, slice_index_or, unwrap_or}
 use Rattle.std.proofs.Math.Decide.{dec_lt}
 use Rattle.histories.specs.Common.{NodeNo, NodeWord, Settled, Child, Info, Marked, Head, More, Key, Value, High, Left, Right, Slot, First}
 use Rattle.histories.specs.Common.{Second, Third, Fourth, Word, Node, Scx as ScxOf, History, value, node, same_node_word, slot_no, first_key}
-use Rattle.arena.proofs.Lemmas.{word_refl, word_same}
+use Rattle.arena.proofs.Lemmas.{slot_same as slot_is, word_refl, word_same}
 use Rattle.histories.proofs.Lemmas.{IsNodeFill}
 use Rattle.template.specs.Common.{Pair, slot_behind, pair}
 use Rattle.edits.specs.declared.piece.Piece.{Piece}
@@ -46,22 +46,7 @@ pub the_same : {A : Type 0} (a b : A) → Some a ≡ Some b → a ≡ b
 the_same a b e = ap (λ o. unwrap_or o a) e
 
 slot_same : (a b : Slot) → slot_no a ≡ slot_no b → a ≡ b
-slot_same First First e = refl
-slot_same Second Second e = refl
-slot_same Third Third e = refl
-slot_same Fourth Fourth e = refl
-slot_same First Second e = absurd (omega (arith, e))
-slot_same First Third e = absurd (omega (arith, e))
-slot_same First Fourth e = absurd (omega (arith, e))
-slot_same Second First e = absurd (omega (arith, e))
-slot_same Second Third e = absurd (omega (arith, e))
-slot_same Second Fourth e = absurd (omega (arith, e))
-slot_same Third First e = absurd (omega (arith, e))
-slot_same Third Second e = absurd (omega (arith, e))
-slot_same Third Fourth e = absurd (omega (arith, e))
-slot_same Fourth First e = absurd (omega (arith, e))
-slot_same Fourth Second e = absurd (omega (arith, e))
-slot_same Fourth Third e = absurd (omega (arith, e))
+slot_same a b e = slot_is a b (eq-eqb (slot_no a) (slot_no b) e)
 
 slot_few : (a : Slot) → slot_no a < 4
 slot_few First = omega arith

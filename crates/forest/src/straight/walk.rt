@@ -1,7 +1,7 @@
 //! Walks down the tree, of whatever machine walks.
 ghost use Rattle.std.specs.Prelude.{◌≡◌, ◌≢◌, ◌<◌, ◌≤◌, ◌+◌, ◌*◌, ◌^◌, ℕ, suc, true, false, if◌then◌else◌, nat_lt, IfOk, IfErr, MatchResult};
 ghost use Rattle.arena.specs.Heads.{head_of};
-ghost use Rattle.arena.specs.Layout.{node_start};
+ghost use Rattle.arena.specs.Layout.{all_nodes, node_start};
 ghost use Rattle.arena.specs.declared.number.NodeNo.{NodeNo};
 ghost use Rattle.forest.specs.Leads.{steps_made};
 ghost use Rattle.forest.specs.Hands.{IsAt, hand_calls};
@@ -23,7 +23,8 @@ use crate::straight::hand::Hand;
 use crate::straight::step::step_from;
 use crate::view::SeatView;
 use arena::{
-    Access, Head, Kind, Machine, NodeNo, NodeWord, SettledPart, Shape, Side, Slot, Step, Word,
+    Access, Head, Kind, Layout, Machine, NodeNo, NodeWord, SettledPart, Shape, Side, Slot, Step,
+    Word,
 };
 use atomic_table::Seat;
 use edits::Edit;
@@ -58,6 +59,21 @@ fn read<S: Shape, M: Machine<S>>(
     step_from::<S, M>(hand, seat, Step { kind, word, access }, start)
 }
 
+/// Where the words of a node begin that a walk to this goal has reached. It goes through 32 bits,
+/// which the places of all words fit: else the compiler computes beside it where the node's bytes
+/// begin, at each node. A walk to the first pair needs those alone.
+#[inline(always)]
+fn start_for(layout: &Layout, goal: Goal, node: NodeNo) -> usize
+    requires { node.0 < all_nodes layout.now }
+    ensures { result ≡ node_start node }
+{
+    let start = layout.node_start(node);
+    match goal {
+        Goal::End(Side::Left) => start,
+        Goal::Key(_) | Goal::End(Side::Right) => start as u32 as usize,
+    }
+}
+
 /// On which side of a fork with this key the walk continues.
 #[inline(always)]
 fn side_of(goal: Goal, key: u64) -> Side
@@ -84,13 +100,15 @@ fn is_leaf(word: u64) -> bool
     word / 4 % 2 == 1
 }
 
-/// Whether the walk loads the key of a fork with the head in this word.
+/// Whether the head in this word is that of a fork whose key the walk loads: of class 0. It is one test,
+/// since most nodes on the way are such forks.
 #[inline(always)]
 fn asks_key(goal: Goal, word: u64) -> bool
-    ensures { result ≡ asks_key goal (head_of word) }
+    ensures fork { result ≡ true → (head_of word).leaf ≡ false }
+    ensures asks { (head_of word).leaf ≡ false → result ≡ asks_key goal (head_of word) }
 {
     match goal {
-        Goal::Key(_) => word % 4 == 0,
+        Goal::Key(_) => word % 8 == 0,
         Goal::End(_) => false,
     }
 }
@@ -470,11 +488,11 @@ fn pass<S: Shape, M: Machine<S>>(
         → WalkerIsTold w seat.old.me.0.passes (way_at way goal trail at) turn word
         → WalkerFinds w seat.new.me.0.passes way goal turn found) }
 {
-    if is_leaf(word) {
-        return Err(end::<S, M>(hand, seat, way, goal, trail, start, at, word));
-    }
     if asks_key(goal, word) {
         return pass_by_key::<S, M>(hand, seat, way, goal, trail, start, at, word);
+    }
+    if is_leaf(word) {
+        return Err(end::<S, M>(hand, seat, way, goal, trail, start, at, word));
     }
     Ok((open_side(goal, word), counts_above(way, word)))
 }
@@ -519,8 +537,8 @@ fn end_last<S: Shape, M: Machine<S>>(
     }
 }
 
-/// Continues after the head of a node that begins there: on a side of a fork, or to the end at a
-/// leaf, of a walk to this end.
+/// Continues after the head of a node that begins there: on the left of a fork where a walk to this
+/// end goes there, or to the end at a leaf.
 #[inline(always)]
 fn pass_last<S: Shape, M: Machine<S>>(
     hand: Hand<S>,
@@ -535,6 +553,8 @@ fn pass_last<S: Shape, M: Machine<S>>(
     requires place { LoadsHead at }
     requires table { IsAt hand seat.old }
     requires start { start ≡ node_start trail.node }
+    requires left { (head_of word).leaf ≡ false
+        → open_side (Goal.End side) (head_of word) ≡ Side.Left }
     requires told { (w : Walker (hand_calls S.Shape M.Machine hand)) × (turn : LastTurns)
         × WalkerIsTold w seat.old.me.0.passes (way_at way (Goal.End side) trail at) turn word }
     ensures table { StaysAtTable seat.old seat.new }
@@ -552,21 +572,19 @@ fn pass_last<S: Shape, M: Machine<S>>(
     if is_leaf(word) {
         return Err(end_last::<S, M>(hand, seat, way, side, trail, start, at, word));
     }
-    Ok(open_side(Goal::End(side), word))
+    Ok(Side::Left)
 }
 
-/// Whether the walk goes right at a fork with the head in this word, which it knows without a key:
-/// one to the last pair does so at forks of class 0, and mostly from each to the next.
+/// Whether a walk to the last pair goes right at a node with the head in this word: it does at forks of
+/// class 0, and left at the others, without a key.
 #[inline(always)]
-fn goes_right(goal: Goal, word: u64) -> bool
+fn goes_right(word: u64) -> bool
     ensures fork { result ≡ true → (head_of word).leaf ≡ false }
-    ensures asks { result ≡ true → asks_key goal (head_of word) ≡ false }
-    ensures side { result ≡ true → open_side goal (head_of word) ≡ Side.Right }
+    ensures right { result ≡ true → open_side (Goal.End Side.Right) (head_of word) ≡ Side.Right }
+    ensures left { result ≡ false → (head_of word).leaf ≡ false
+        → open_side (Goal.End Side.Right) (head_of word) ≡ Side.Left }
 {
-    match goal {
-        Goal::End(Side::Right) => !is_leaf(word) && word % 4 == 0,
-        _ => false,
-    }
+    !is_leaf(word) && word % 4 == 0
 }
 
 /// A node that a walk has reached: where it asks for its head, where its words begin, and the last
@@ -617,7 +635,7 @@ fn descend<S: Shape, M: Machine<S>>(
         side,
         node: NodeNo(child),
     };
-    let start = hand.layout.node_start(trail.node);
+    let start = start_for(hand.layout, goal, trail.node);
     let head = Head::of(word);
     let at = WalkAt::Head { above: head.level };
     Reached {
@@ -628,14 +646,13 @@ fn descend<S: Shape, M: Machine<S>>(
     }
 }
 
-/// Goes right as long as the walk does so without a key, in a loop of its own: there the compiler
-/// knows the side. Answers where it is then, and the head there.
+/// Goes right as long as a walk to the last pair does so, in a loop of its own: there the compiler knows
+/// the side, as it does behind the loop. Answers where it is then, and the head there.
 #[inline(always)]
 fn descend_right<S: Shape, M: Machine<S>>(
     hand: Hand<S>,
     seat: &mut Seat<u8, SeatView>,
     way: Way,
-    goal: Goal,
     first: Reached,
     head: u64,
 ) -> (Reached, u64)
@@ -643,21 +660,26 @@ fn descend_right<S: Shape, M: Machine<S>>(
     requires table { IsAt hand seat.old }
     requires start { first.start ≡ node_start first.trail.node }
     requires told { (w : Walker (hand_calls S.Shape M.Machine hand))
-        × WalkerIsTold w seat.old.me.0.passes (way_at way goal first.trail first.at) first.turns head }
+        × WalkerIsTold w seat.old.me.0.passes (way_at way (Goal.End Side.Right) first.trail first.at)
+        first.turns head }
     ensures place { LoadsHead result.0.at }
+    ensures left { (head_of result.1).leaf ≡ false
+        → open_side (Goal.End Side.Right) (head_of result.1) ≡ Side.Left }
     ensures table { StaysAtTable seat.old seat.new }
     ensures start { result.0.start ≡ node_start result.0.trail.node }
     ensures nearer { walk_left result.0.at (room way (shared_nodes hand.entry.layout.now))
         ≤ walk_left first.at (room way (shared_nodes hand.entry.layout.now)) }
     ensures steps { steps_made seat.new + walk_left result.0.at (room way (shared_nodes hand.entry.layout.now)) ≤ steps_made seat.old + walk_left first.at (room way (shared_nodes hand.entry.layout.now)) }
     ensures told { (w : Walker (hand_calls S.Shape M.Machine hand.entry))
-        → WalkerIsTold w seat.old.me.0.passes (way_at way goal first.trail first.at) first.turns head
-        → WalkerIsTold w seat.new.me.0.passes (way_at way goal result.0.trail result.0.at)
+        → WalkerIsTold w seat.old.me.0.passes (way_at way (Goal.End Side.Right) first.trail first.at)
+        first.turns head
+        → WalkerIsTold w seat.new.me.0.passes (way_at way (Goal.End Side.Right) result.0.trail result.0.at)
         result.0.turns result.1 }
 {
     let (mut place, mut word) = (first, head);
-    while goes_right(goal, word) {
-        place = descend::<S, M>(hand, seat, way, goal, place, word, Side::Right);
+    while goes_right(word) {
+        let (goal, side) = (Goal::End(Side::Right), Side::Right);
+        place = descend::<S, M>(hand, seat, way, goal, place, word, side);
         let (kind, part) = (Kind::LoadSettled, NodeWord::Settled(SettledPart::Head));
         word = read::<S, M>(hand, seat, kind, place.trail.node, place.start, part);
     }
@@ -718,7 +740,7 @@ pub(crate) fn to_goal<S: Shape, M: Machine<S>>(
             side,
             node: NodeNo(child),
         };
-        start = hand.layout.node_start(trail.node);
+        start = start_for(hand.layout, goal, trail.node);
         at = WalkAt::Head { above: head.level };
     }
 }
@@ -762,14 +784,7 @@ pub(crate) fn to_last<S: Shape, M: Machine<S>>(
     loop {
         let (kind, part) = (Kind::LoadSettled, NodeWord::Settled(SettledPart::Head));
         let head = read::<S, M>(hand, seat, kind, place.trail.node, place.start, part);
-        let (last, word) = descend_right::<S, M>(
-            hand,
-            seat,
-            way,
-            Goal::End(Side::Right),
-            place,
-            head,
-        );
+        let (last, word) = descend_right::<S, M>(hand, seat, way, place, head);
         let side = match pass_last::<S, M>(
             hand,
             seat,

@@ -25,7 +25,8 @@ pub record IsSearched (h : History) (side : Side) (k n : ℕ) (rest : Option Pai
   pub part : IsPartAt h n
   pub finds : Finds h side k (or_else (neighbour side k (items (value h) part.tree)) rest)
 
--- this is the near end of what is beside the path, below the node n; where no node is, there is none
+-- this is the near end of what is beside the path, below the node n; where no node is, there is
+-- none
 abbrev pub IsBeside : History → Side → Option NodeNo → Option Pair → Type 0
 IsBeside h side None rest = rest ≡ None
 IsBeside h side (Some n) rest = (part : IsPartAt h n.0) × (rest ≡ end_pair (opposite side) (items (value h) part.tree))

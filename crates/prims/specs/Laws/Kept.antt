@@ -1,4 +1,5 @@
--- What a snapshot has shown stays in its node's fields until the SCX-record wins that covers the node.
+-- What a snapshot has shown stays in its node's fields until the SCX-record wins that covers the
+-- node.
 use Rattle.std.proofs.Common.{◌≡◌, ◌≢◌, ℕ, ◌<◌, inl, inr, refl, sym, ◌∙◌, ap, subst}
 use native.Mathlib.Decide.{ℕ_discrete}
 use Rattle.histories.specs.Common.{Layout, Row, Side, Child, ScxWord, Plan, Member, Seen, scx, info, child, History, Opened, ◌⊳◌, value, Extends}
@@ -9,7 +10,8 @@ use Rattle.prims.specs.Snap.{child_of}
 use Rattle.prims.specs.declared.snap.Snap.{Snap}
 use Rattle.prims.specs.Laws.Linked.{IsLinked, linked_since}
 
--- s, which has not won, holds its i-th node, which is that of the snapshot, and has seen there what that found
+-- s, which has not won, holds its i-th node, which is that of the snapshot, and has seen there what
+-- that found
 pub record HoldsSnap (h : History) (s i : ℕ) (snap : Snap) : Type 0 where
   pub within : i < count h s
   pub node : member h s i ≡ snap.node.0
@@ -99,8 +101,8 @@ held_shows lay (r ⊳ h) m s i snap side l real x (inr e) linked here =
     shows_next lay h r s i snap side l real x (linked_since lay h m snap (lawful_tail lay h r l) e linked) (ℕ_discrete (value h (info snap.node.0)) s)
     (λ y. held_shows lay h m s i snap side (lawful_tail lay h r l) real y e linked here)
 
--- just before a row at which s wins, the fields of each of its nodes are as the snapshot found them whose
--- SCX-record s has seen there
+-- just before a row at which s wins, the fields of each of its nodes are as the snapshot found them
+-- whose SCX-record s has seen there
 pub won_shows : (lay : Layout) (h : History) (r : Row) (s i : ℕ) (m : History) (snap : Snap) (side : Side) → Lawful lay (r ⊳ h) → IsWin h r s → i < count h s → member h s i ≡ snap.node.0 → seen h s i ≡ snap.scx.0 → Extends h m → IsLinked lay m snap → value m (info snap.node.0) ≡ snap.scx.0 → value h (child snap.node.0 side) ≡ (child_of snap side).0
 won_shows lay h r s i m snap side l win within is saw e linked here =
     held_shows lay h m s i snap side (lawful_tail lay h r l) (some_is_real f (update_flagged f wins).some) record {

@@ -3,7 +3,7 @@ use Rattle.std.proofs.Common.{◌≡◌, ◌≢◌, ℕ, suc, ◌<◌, ◌≤◌
 use native.Mathlib.Decide.{ℕ_discrete}
 use Rattle.histories.specs.Common.{Layout, Row, Step, Fill, LoadInfo, Turn, info, History, ◌⊳◌, value, Lawful, IsRun, Call, row_of, IsTold, MatchTurn}
 use Rattle.arena.proofs.Lemmas.{ends_self}
-use Rattle.histories.proofs.Lemmas.{lawful_since, still_since}
+use Rattle.histories.proofs.Lemmas.{still_since}
 use Rattle.prims.specs.Laws.Linked.{in_field_named}
 use Rattle.prims.specs.Llx.Laws.{load_lawful, load_told, load_found}
 use Rattle.prims.specs.FoundThere.{HasFoundThere}
@@ -47,9 +47,6 @@ VlxTurn snaps asked c h turn = MatchTurn turn (VlxWaits snaps asked c h) (VlxAns
 pub all_same : (c : Call) (h : History) (snaps : List Snap) → Lawful c.layout h → HasFoundUnchanged c h snaps (length snaps) → IsSame c h snaps
 all_same c h snaps l x = record { since = x.begun.since; linked = x.linked; info = x.same; found = λ i w. found i w; asked = x.asked }
   where
-    ls : Lawful c.layout c.start
-    ls = lawful_since c.layout h c.start l x.begun.since
-
     found : (i : ℕ) → i < length snaps → IsAsFound c.layout h c.start (snap_at snaps i)
     found i w = found_at c h (snap_at snaps i) l x.begun.since (x.linked i w) (x.same i w)
 

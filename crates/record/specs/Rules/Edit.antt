@@ -34,8 +34,8 @@ abbrev pub EditTells : MapCall → Layout → History → History → Option Map
 EditTells call lay now start (Some told) = HasChangedOrReplied (changes_map call told) lay now start call told
 EditTells call lay now start None = ⊥
 
--- A try of the call is lost only where it has found something to change; but one that goes to an end
--- of a trie looks at node 2 first, and may be lost there.
+-- A try of the call is lost only where it has found something to change; but one that goes to an
+-- end of a trie looks at node 2 first, and may be lost there.
 abbrev pub FindsFirst : Layout → MapCall → Type 0
 FindsFirst lay (Edit (End side) rule) = lay.mode ≡ Tree
 FindsFirst lay _ = Unit {0}

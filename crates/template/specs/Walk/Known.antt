@@ -176,7 +176,8 @@ pub record WalkStands (m : WalkRun) (c : Call) (h : History) : Type 0 where
   pub trail : OnTrail c h (path_key m.goal) m.trail
   pub sure : m.way ≡ Within → StaysAbove m c h
 
--- it ends at a fork of class 0 with this key just where it goes within, and its own key does not share that
+-- it ends at a fork of class 0 with this key just where it goes within, and its own key does not
+-- share that
 pub record EndsAt (m : WalkRun) (key : ℕ) (ends : Bool) : Type 0 where
   pub within : ends ≡ true → m.way ≡ Within
   pub outside : ends ≡ true → (level : ℕ) → IsForkKey key level → ¬ IsInSpan key level (path_key m.goal)

@@ -31,8 +31,8 @@ WalkFitsAt (Pair head more slot) v nodes = head.level < 2 + nodes
 WalkFitsAt (Value head more slot key) v nodes = head.level < 2 + nodes
 WalkFitsAt _ v nodes = Unit {0}
 
--- what stands for this number of taken nodes in the bounds of a walk: in a tree it is that, in a trie, which has
--- 67 levels at most, 65
+-- what stands for this number of taken nodes in the bounds of a walk: in a tree it is that, in a
+-- trie, which has 67 levels at most, 65
 abbrev pub room : Way → ℕ → ℕ
 room InTree nodes = nodes
 room InTrie nodes = 65

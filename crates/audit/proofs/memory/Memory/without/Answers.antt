@@ -3,9 +3,10 @@ use Rattle.std.proofs.lemmas.List.{take_more}
 use native.Mathlib.Decide.{ℕ_discrete}
 use Rattle.arena.specs.Log.{has}
 use Rattle.arena.proofs.Lemmas.{or_split}
+use Rattle.record.proofs.Lemmas.{get_other}
 use Rattle.audit.specs.declared.memory.Memory.{Memory}
 use Rattle.audit.specs.declared.memory.Snapshot.{Snapshot}
-use Rattle.audit.proofs.Noted.{set_other, set_own, has_push}
+use Rattle.audit.proofs.Noted.{set_own, has_push}
 use Rattle.audit.proofs.memory.Memory.without.Goals as goal
 
 -- one cell more is forgotten
@@ -17,7 +18,7 @@ dropped_more old kept new cells more cell is put before n k get there_is = go (�
 
     go : Dec (n ≡ cell) → k ≡ None
     go (yes e) = set_own kept cell None k (ap (λ (i : ℕ). slice_get (set kept cell None) i) (sym e) ∙ there)
-    go (no d) = before n k (sym (set_other kept cell n None d) ∙ there) (⊎_elim (λ q. q) (λ q. absurd (d (sym (eqb-true cell n q)))) (or_split _ _ (sym (has_push cells cell n) ∙ ap (λ (xs : List ℕ). has xs n) (sym is) ∙ there_is)))
+    go (no d) = before n k (sym (get_other kept cell n None d) ∙ there) (⊎_elim (λ q. q) (λ q. absurd (d (sym (eqb-true cell n q)))) (or_split _ _ (sym (has_push cells cell n) ∙ ap (λ (xs : List ℕ). has xs n) (sym is) ∙ there_is)))
 
 left_of : (a b : Bool) → a || b ≡ false → a ≡ false
 left_of false b e = refl
@@ -32,7 +33,7 @@ others_more old kept new cells more cell is put before n not =
     let none : has cells n || eqb cell n ≡ false = sym (has_push cells cell n) ∙ ap (λ (xs : List ℕ). has xs n) (sym is) ∙ not in
     let apart : eqb cell n ≡ false = right_of (has cells n) (eqb cell n) none in
     let other : n ≡ cell → ⊥ = λ e. let z : true ≡ false = sym (eq-eqb cell n (sym e)) ∙ apart in cc in
-    ap (λ (xs : List (Option Snapshot)). slice_get xs n) put ∙ set_other kept cell n None other ∙ before n (left_of _ _ none)
+    ap (λ (xs : List (Option Snapshot)). slice_get xs n) put ∙ get_other kept cell n None other ∙ before n (left_of _ _ none)
 
 pub loop-cell-preserved : goal.loop-cell-preserved
 loop-cell-preserved c =

@@ -1,10 +1,10 @@
 use Rattle.std.proofs.Common.{◌≡◌, ◌<◌, ℕ, Option, IfSome, refl, sym, ◌∙◌, subst}
 use Rattle.histories.specs.Common.{Layout, History}
 use Rattle.record.specs.Common.{linked, history}
+use Rattle.record.proofs.Lemmas.{get_there}
 use Rattle.judge.specs.Histories.{seen_history}
 use Rattle.audit.specs.declared.memory.Memory.{Memory}
 use Rattle.audit.specs.Remembered.{AreSnapshotsOf}
-use Rattle.audit.proofs.AfterLines.{get_there}
 use Rattle.audit.proofs.Remembering.{begun_with, next_is}
 use Rattle.audit.proofs.steps.Steps.memory_begun.Goals as goal
 

@@ -25,8 +25,8 @@ waits_below g c w x = to_head w _ c.args.way c.args.goal c.args.place.trail c.ar
 pub read-child-requires-clause-waits : goal.read-child-requires-clause-waits
 read-child-requires-clause-waits g c = let r = c.requires.waits in (r.0, way_at c.args.way c.args.goal c.args.place.trail (Child (head_of c.args.word).level c.args.side), c.args.place.turns, r.1)
 
-pub node_start-start-requires : goal.node_start-start-requires
-node_start-start-requires g c = let r = c.requires.waits in waits_within r.0 _ g.met.M.Machine.lawful _ _ (waits_below g (goal.at.node_start-start-requires g c).After-read-child r.0 r.1)
+pub start_for-start-requires : goal.start_for-start-requires
+start_for-start-requires g c = let r = c.requires.waits in waits_within r.0 _ g.met.M.Machine.lawful _ _ (waits_below g (goal.at.start_for-start-requires g c).After-read-child r.0 r.1)
 
 pub returns-clause-deep : goal.returns-clause-deep
 returns-clause-deep g c = let r = c.requires.waits in fits r.0 _ (way_at c.args.way c.args.goal c.args.place.trail (Child (head_of c.args.word).level c.args.side)) c.args.place.turns c.read-child.result (told g (goal.at.returns-clause-deep g c).After-read-child r.0 r.1)

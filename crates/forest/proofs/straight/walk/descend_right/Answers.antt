@@ -3,6 +3,7 @@ use Rattle.histories.specs.Common.{Right, head_of}
 use Rattle.forest.specs.StraightWalk.{Walker, WalkerGoesDown, WalkerIsTold}
 use Rattle.forest.specs.Traces.{shared_nodes}
 use Rattle.forest.specs.CallKinds.{calls}
+use Rattle.template.specs.Common.{End}
 use Rattle.template.specs.Walk.Places.{way_at, LoadsHead}
 use Rattle.template.specs.Walk.Steps.{room, walk_left}
 use Rattle.forest.proofs.StraightWalk.{to_known, fits, fewer}
@@ -12,16 +13,16 @@ use Rattle.forest.proofs.straight.walk.descend_right.Goals as goal
 
 -- whichever call it is, it goes right
 down : (g : Over) (c : After-goes_right g) → c.goes_right.result ≡ true → (w : Walker (calls g.S.Shape g.M.Machine c.args.hand.layout.now c.args.hand.number))
-    → WalkerIsTold w c.args.seat.now.me.0.passes (way_at c.args.way c.args.goal c.args.first.trail c.args.first.at) c.args.first.turns c.args.head
-    → WalkerGoesDown w c.loop-way.seat.me.0.passes c.args.way c.args.goal c.loop-way.place.trail (head_of c.loop-way.word).level Right c.loop-way.place.turns
-down g c known w x = to_known w _ c.args.way c.args.goal c.loop-way.place.trail c.loop-way.place.turns c.loop-way.place.at c.loop-way.word (head_of c.loop-way.word) c.loop-way.invariant.loads refl Right (c.goes_right.ensures.fork known) (c.goes_right.ensures.asks known) (c.goes_right.ensures.side known) (c.loop-way.invariant.told w x)
+    → WalkerIsTold w c.args.seat.now.me.0.passes (way_at c.args.way (End Right) c.args.first.trail c.args.first.at) c.args.first.turns c.args.head
+    → WalkerGoesDown w c.loop-way.seat.me.0.passes c.args.way (End Right) c.loop-way.place.trail (head_of c.loop-way.word).level Right c.loop-way.place.turns
+down g c known w x = to_known w _ c.args.way (End Right) c.loop-way.place.trail c.loop-way.place.turns c.loop-way.place.at c.loop-way.word (head_of c.loop-way.word) c.loop-way.invariant.loads refl Right (c.goes_right.ensures.fork known) refl (c.goes_right.ensures.right known) (c.loop-way.invariant.told w x)
 
 -- a node's head, and the child that is loaded after it, take at most three steps
 less : (g : Over) (c : After-descend-place g) → 3 + walk_left c.descend-place.result.at (room c.args.way (shared_nodes c.args.hand.layout.now)) ≤ walk_left c.loop-way.place.at (room c.args.way (shared_nodes c.args.hand.layout.now))
 less g c =
     let r = c.requires.told in
     subst (λ p. 3 + walk_left p (room c.args.way (shared_nodes c.args.hand.layout.now)) ≤ walk_left c.loop-way.place.at (room c.args.way (shared_nodes c.args.hand.layout.now))) (sym c.descend-place.ensures.at)
-    (fewer c.loop-way.place.at c.loop-way.word (room c.args.way (shared_nodes c.args.hand.layout.now)) (head_of c.loop-way.word) c.loop-way.invariant.loads refl (fits r.0 _ (way_at c.args.way c.args.goal c.loop-way.place.trail c.loop-way.place.at) c.loop-way.place.turns c.loop-way.word (c.loop-way.invariant.told r.0 r.1)) c.descend-place.ensures.deep)
+    (fewer c.loop-way.place.at c.loop-way.word (room c.args.way (shared_nodes c.args.hand.layout.now)) (head_of c.loop-way.word) c.loop-way.invariant.loads refl (fits r.0 _ (way_at c.args.way (End Right) c.loop-way.place.trail c.loop-way.place.at) c.loop-way.place.turns c.loop-way.word (c.loop-way.invariant.told r.0 r.1)) c.descend-place.ensures.deep)
 
 pub loop-way-init : goal.loop-way-init
 loop-way-init g c = record { here = (refl, refl); loads = c.requires.place; start = c.requires.start; nearer = omega arith; steps = omega arith; told = λ w x. x }
@@ -30,7 +31,7 @@ pub descend-place-requires-clause-waits : goal.descend-place-requires-clause-wai
 descend-place-requires-clause-waits g c = let r = c.requires.told in (r.0, down g (goal.at.descend-place-requires-clause-waits g c).After-goes_right c.loop-way-test.true r.0 r.1)
 
 pub read-word-requires-clause-waits : goal.read-word-requires-clause-waits
-read-word-requires-clause-waits g c = let r = c.requires.told in (r.0, way_at c.args.way c.args.goal c.descend-place.result.trail c.descend-place.result.at, c.descend-place.result.turns, c.descend-place.ensures.down r.0 (down g (goal.at.read-word-requires-clause-waits g c).After-goes_right c.loop-way-test.true r.0 r.1))
+read-word-requires-clause-waits g c = let r = c.requires.told in (r.0, way_at c.args.way (End Right) c.descend-place.result.trail c.descend-place.result.at, c.descend-place.result.turns, c.descend-place.ensures.down r.0 (down g (goal.at.read-word-requires-clause-waits g c).After-goes_right c.loop-way-test.true r.0 r.1))
 
 pub loop-way-preserved : goal.loop-way-preserved
 loop-way-preserved g c =
@@ -42,7 +43,7 @@ loop-way-preserved g c =
       start = c.descend-place.ensures.start;
       nearer = omega (arith, few, near);
       steps = omega (arith, few, one, two, old);
-      told = λ w x. c.read-word.ensures.told w (way_at c.args.way c.args.goal c.descend-place.result.trail c.descend-place.result.at) c.descend-place.result.turns (c.descend-place.ensures.down w (down g (goal.at.loop-way-preserved g c).After-goes_right c.loop-way-test.true w x));
+      told = λ w x. c.read-word.ensures.told w (way_at c.args.way (End Right) c.descend-place.result.trail c.descend-place.result.at) c.descend-place.result.turns (c.descend-place.ensures.down w (down g (goal.at.loop-way-preserved g c).After-goes_right c.loop-way-test.true w x));
     }
 
 pub loop-way-smaller : goal.loop-way-smaller

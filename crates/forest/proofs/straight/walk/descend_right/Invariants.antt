@@ -3,7 +3,8 @@ use Rattle.arena.specs.Layout.{node_start}
 use Rattle.forest.specs.StraightWalk.{Walker, WalkerIsTold}
 use Rattle.forest.specs.Traces.{seat_steps, shared_nodes}
 use Rattle.forest.specs.CallKinds.{calls}
-use Rattle.template.specs.Common.{walk_left}
+use Rattle.histories.specs.Common.{Right}
+use Rattle.template.specs.Common.{walk_left, End}
 use Rattle.template.specs.Walk.Places.{way_at, LoadsHead}
 use Rattle.template.specs.Walk.Steps.{room}
 use Rattle.forest.proofs.straight.walk.descend_right.Given as goal
@@ -16,8 +17,8 @@ invariant-loop-way g l = record {
   nearer : walk_left l.place.at (room l.way (shared_nodes l.fn.hand.layout.now)) ≤ walk_left l.fn.first.at (room l.way (shared_nodes l.fn.hand.layout.now));
   steps : seat_steps l.seat.me.0.passes + walk_left l.place.at (room l.way (shared_nodes l.fn.hand.layout.now)) ≤ seat_steps l.fn.seat.me.0.passes + walk_left l.fn.first.at (room l.way (shared_nodes l.fn.hand.layout.now));
   told : (w : Walker (calls g.S.Shape g.M.Machine l.fn.hand.layout.now l.fn.hand.number))
-      → WalkerIsTold w l.fn.seat.me.0.passes (way_at l.way l.goal l.fn.first.trail l.fn.first.at) l.fn.first.turns l.fn.head
-      → WalkerIsTold w l.seat.me.0.passes (way_at l.way l.goal l.place.trail l.place.at) l.place.turns l.word;
+      → WalkerIsTold w l.fn.seat.me.0.passes (way_at l.way (End Right) l.fn.first.trail l.fn.first.at) l.fn.first.turns l.fn.head
+      → WalkerIsTold w l.seat.me.0.passes (way_at l.way (End Right) l.place.trail l.place.at) l.place.turns l.word;
 }
 
 abbrev pub decreases-loop-way : goal.decreases-loop-way

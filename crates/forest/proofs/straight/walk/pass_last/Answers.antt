@@ -1,5 +1,5 @@
 use Rattle.std.proofs.Common.{◌∙◌, refl, sym}
-use Rattle.histories.specs.Common.{head_of}
+use Rattle.histories.specs.Common.{head_of, Left}
 use Rattle.template.specs.Common.{End}
 use Rattle.forest.proofs.StraightWalk.{to_known}
 use Rattle.forest.proofs.straight.walk.pass_last.Goals as goal
@@ -14,4 +14,6 @@ pub returns-then-is_leaf-clause-finds : goal.returns-then-is_leaf-clause-finds
 returns-then-is_leaf-clause-finds g c = λ w turn x. c.end_last.ensures.finds w turn x
 
 pub returns-clause-down : goal.returns-clause-down
-returns-clause-down g c = λ w turn x. to_known w _ c.args.way (End c.args.side) c.args.trail turn c.args.at c.args.word (head_of c.args.word) c.requires.place refl c.open_side.result (sym c.is_leaf.ensures ∙ c.if-is_leaf.false) refl (sym c.open_side.ensures) x
+returns-clause-down g c = λ w turn x.
+    let fork = sym c.is_leaf.ensures ∙ c.if-is_leaf.false in
+    to_known w _ c.args.way (End c.args.side) c.args.trail turn c.args.at c.args.word (head_of c.args.word) c.requires.place refl Left fork refl (c.requires.left fork) x

@@ -63,8 +63,8 @@ waits_below : (g : Over) (c : After-read-child g) (w : Walker (calls g.S.Shape g
     → WalkerWaits w c.read-child.new.seat.me.0.passes (way_at c.args.way c.args.goal (trail_below c.loop-to.trail c.in-Ok.to.0 c.read-child.result) (Head (head_of c.read-word.result).level)) (counted c.in-Ok.to.1 c.in-Ok.to.0 c.loop-to.trail.node c.loop-to.turns) (load LoadSettled (node c.read-child.result (Settled HeadWord)))
 waits_below g c w x = to_head w _ c.args.way c.args.goal c.loop-to.trail (counted c.in-Ok.to.1 c.in-Ok.to.0 c.loop-to.trail.node c.loop-to.turns) (head_of c.read-word.result).level c.in-Ok.to.0 c.read-child.result (told_child g c w x)
 
-pub node_start-start-requires : goal.node_start-start-requires
-node_start-start-requires g c = let r = c.requires.waits in waits_within r.0 _ g.met.M.Machine.lawful _ _ (waits_below g (goal.at.node_start-start-requires g c).After-read-child r.0 r.1)
+pub start_for-start-requires : goal.start_for-start-requires
+start_for-start-requires g c = let r = c.requires.waits in waits_within r.0 _ g.met.M.Machine.lawful _ _ (waits_below g (goal.at.start_for-start-requires g c).After-read-child r.0 r.1)
 
 pub loop-to-smaller : goal.loop-to-smaller
 loop-to-smaller g c =
@@ -75,7 +75,7 @@ pub loop-to-preserved : goal.loop-to-preserved
 loop-to-preserved g c = record {
   here = (c.read-child.ensures.table.0 ∙ c.in-Ok.ensures.table.0 ∙ c.read-word.ensures.table.0 ∙ c.loop-to.invariant.here.0, c.read-child.ensures.table.1 ∙ c.in-Ok.ensures.table.1 ∙ c.read-word.ensures.table.1 ∙ c.loop-to.invariant.here.1);
   place = tt;
-  start = c.node_start-start.ensures;
+  start = c.start_for-start.ensures;
   steps = (
       let less = fewer c.loop-to.at c.read-word.result (room c.args.way (shared_nodes c.args.hand.layout.now)) c.of-head.result c.loop-to.invariant.place (sym c.of-head.ensures) (head_fits g (goal.at.loop-to-preserved g c).After-read-word) (rw c.of-head.ensures (child_fits g (goal.at.loop-to-preserved g c).After-read-child)) in
       let one = c.read-word.ensures.one in let more = c.in-Ok.ensures.steps in let last = c.read-child.ensures.one in let old = c.loop-to.invariant.steps in

@@ -70,3 +70,6 @@ loop-side-preserved g c = record {
       );
   waits = λ w x. c.descend-place.ensures.down w (c.in-Ok.ensures.down w c.descend_right-word.result.0.turns (told_last g (goal.at.loop-side-preserved g c).After-descend_right-word w x));
 }
+
+pub pass_last-requires-clause-left : goal.pass_last-requires-clause-left
+pass_last-requires-clause-left g c = c.descend_right-word.ensures.left

@@ -6,6 +6,7 @@ use Rattle.record.specs.declared.record.Entry.{Entry}
 use Rattle.record.specs.declared.record.Line.TheVariants.{Step, Log, Reply}
 use Rattle.record.specs.declared.record.TurnRow.TheVariants.{Step as Made}
 use Rattle.record.specs.Turns.{entry_owed}
+use Rattle.record.proofs.Lemmas.{get_own}
 use Rattle.linearization.specs.Places.{changes}
 use Rattle.player.specs.Lines.{with_entry}
 use Rattle.player.specs.Player.{ScriptView, script_view}
@@ -13,7 +14,7 @@ use Rattle.player.specs.ClientView.{client_view}
 use Rattle.player.specs.BetweenTurns.{IsEnd, AreWins, ArePlaces, KnowsCounts, IsStepAsked, IsEntryDue, HasLogged}
 use Rattle.player.specs.declared.client.Client.{Client}
 use Rattle.player.specs.declared.interleaving.Interleaving.{Interleaving}
-use Rattle.player.proofs.Middles.{some_client, get_own, wins_step, wins_reply}
+use Rattle.player.proofs.Middles.{some_client, wins_step, wins_reply}
 use Rattle.player.proofs.Played.{reply_last}
 use Rattle.player.proofs.Steps.{IsHeard, asked_word, asked_there, asked_row, asked_changed, asked_so_far, asked_hears, heard_on, heard_end, told_goes, told_ends, between_at, asked_owner, begun_before, remembered, turns_logged, logged_as_owed, few_calls}
 use Rattle.player.proofs.interleaving.Interleaving.make.Goals.{After-get, After-tell}

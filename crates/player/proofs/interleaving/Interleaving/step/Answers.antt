@@ -5,10 +5,11 @@ use Rattle.record.specs.declared.record.Line.TheVariants.{Step, Reply}
 use Rattle.record.specs.declared.record.TurnRow.TheVariants.{Idle}
 use Rattle.player.specs.Player.{script_view}
 use Rattle.record.specs.Turns.{turns, begin}
+use Rattle.record.proofs.Lemmas.{get_own}
 use Rattle.player.specs.ClientView.{IsNextAction, client_view}
 use Rattle.linearization.specs.Places.{changes}
 use Rattle.player.specs.BetweenTurns.{ArePlaces, IsBetweenTurns}
-use Rattle.player.proofs.Middles.{some_client, get_own, wins_idle, wins_reply}
+use Rattle.player.proofs.Middles.{some_client, wins_idle, wins_reply}
 use Rattle.player.proofs.Steps.{between_at, places_roomy}
 use Rattle.player.proofs.Stands.{client_there, is_client, stood_asked, stood_finished, stood_refused}
 use Rattle.player.proofs.interleaving.Interleaving.step.Goals.{After-next_action}
