@@ -13,13 +13,21 @@ pub(crate) fn close_tree(
 ) -> Result<Option<Vec<(u64, u128)>>, Held<ByOrder>>
     ensures { IsClosingOf held result }
 {
-    let Held { forest, pass, all } = held;
+    if Arc::strong_count(&held.forest) != 1 {
+        return Err(held);
+    }
+    let Held {
+        forest,
+        pass,
+        all: _,
+    } = held;
     match Arc::try_unwrap(forest) {
         Ok(forest) => match forest.end(pass).pairs(alloc) {
             Ok(pairs) => Ok(Some(pairs)),
             Err(NoMemory) => Ok(None),
         },
-        Err(forest) => Err(Held { forest, pass, all }),
+        // Never: this was the only owner.
+        Err(_) => Ok(None),
     }
 }
 
@@ -30,12 +38,20 @@ pub(crate) fn close_trie(
 ) -> Result<Option<Vec<(u64, u128)>>, Held<ByBits>>
     ensures { IsClosingOf held result }
 {
-    let Held { forest, pass, all } = held;
+    if Arc::strong_count(&held.forest) != 1 {
+        return Err(held);
+    }
+    let Held {
+        forest,
+        pass,
+        all: _,
+    } = held;
     match Arc::try_unwrap(forest) {
         Ok(forest) => match forest.end(pass).pairs(alloc) {
             Ok(pairs) => Ok(Some(pairs)),
             Err(NoMemory) => Ok(None),
         },
-        Err(forest) => Err(Held { forest, pass, all }),
+        // Never: this was the only owner.
+        Err(_) => Ok(None),
     }
 }
