@@ -85,6 +85,10 @@ enum {
  * LIMITS or NO_MEMORY: then the passes are as they were. A pass that was held there before leaves. */
 uint32_t regnubas_make(regnubas_limits each, regnubas_pass *passes, size_t count);
 
+/* The same, but a trie: it stays low also where keys come in order. Each function takes passes of
+ * either; USING.md says which to take. */
+uint32_t regnubas_make_trie(regnubas_limits each, regnubas_pass *passes, size_t count);
+
 /* SOME with the value of the key, or NONE. It is never refused, and takes no memory. */
 regnubas_answer regnubas_get(regnubas_pass *pass, uint64_t key);
 

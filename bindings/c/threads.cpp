@@ -141,9 +141,9 @@ std::vector<regnubas_pair> end_all(regnubas_pass *passes) {
     return pairs;
 }
 
-template <typename End> void keys_and_counter(End end) {
+template <typename Make, typename End> void keys_and_counter(Make make, End end) {
     regnubas_pass passes[THREADS] = {};
-    CHECK(regnubas_make({32768, 32768, 1}, passes, THREADS) == REGNUBAS_NONE);
+    CHECK(make(regnubas_limits{32768, 32768, 1}, passes, THREADS) == REGNUBAS_NONE);
     CHECK(is(regnubas_insert(&passes[0], COUNTER, START), REGNUBAS_NONE, ZERO));
     in_threads(passes, [](regnubas_pass *pass, uint64_t number) {
         set_keys(pass, number);
@@ -158,10 +158,10 @@ template <typename End> void keys_and_counter(End end) {
     CHECK(pairs.size() == n + 1 && has(pairs[n], COUNTER, plus(START, THREADS * COUNTS)));
 }
 
-void queue() {
+template <typename Make> void queue(Make make) {
     regnubas_pass passes[THREADS] = {};
     std::vector<uint64_t> taken[THREADS], all;
-    CHECK(regnubas_make({32768, 32768, 1}, passes, THREADS) == REGNUBAS_NONE);
+    CHECK(make(regnubas_limits{32768, 32768, 1}, passes, THREADS) == REGNUBAS_NONE);
     for (uint64_t i = 0; i < KEYS; i++) // in an order that makes a tree and not a list
         CHECK(is(regnubas_insert(&passes[i % THREADS], i * 1009 % KEYS, value_of(i * 1009 % KEYS)), REGNUBAS_NONE, ZERO));
     in_threads(passes, [&taken](regnubas_pass *pass, uint64_t number) { pop_all(pass, number % 2, taken[number]); });
@@ -249,7 +249,7 @@ void two_dictionaries() {
     regnubas_pass passes[2] = {}, other[2] = {};
     for (int time = 0; time < 2; time++) { // the second time over passes that are held
         CHECK(regnubas_make({9, 9, 1}, passes, 2) == REGNUBAS_NONE);
-        CHECK(regnubas_make({9, 9, 1}, other, 2) == REGNUBAS_NONE);
+        CHECK(regnubas_make_trie({9, 9, 1}, other, 2) == REGNUBAS_NONE);
         CHECK(is(regnubas_insert(&passes[0], 1, {10, 1}), REGNUBAS_NONE, ZERO));
         CHECK(is(regnubas_insert(&other[0], 1, {20, 2}), REGNUBAS_NONE, ZERO));
         CHECK(is(regnubas_get(&passes[1], 1), REGNUBAS_SOME, {10, 1}) && is(regnubas_get(&other[1], 1), REGNUBAS_SOME, {20, 2}));
@@ -287,10 +287,11 @@ int main(int argc, char **argv) {
     both_words();
     two_dictionaries();
     for (int rounds = argc > 1 ? std::atoi(argv[1]) : 1; rounds > 0; rounds--) {
-        keys_and_counter(close_all);
-        keys_and_counter(end_all);
+        keys_and_counter(regnubas_make, close_all);
+        keys_and_counter(regnubas_make_trie, end_all);
         one_setter_a_key();
-        queue();
+        queue(regnubas_make);
+        queue(regnubas_make_trie);
     }
     std::puts("ok");
     return 0;

@@ -93,6 +93,9 @@ inline regnubas_limits limits_for(std::uint32_t changes, std::uint32_t new_keys)
     return {with_lost_tries(changes + 2 * std::uint64_t{new_keys}), with_lost_tries(changes), 100};
 }
 
+// What a dictionary is: a trie stays low also where keys come in order.
+enum class shape { tree, trie };
+
 // What a call tells, or why it was refused.
 template <typename T> class result {
 public:
@@ -140,11 +143,12 @@ public:
     ~pass() { leave(); }
 
     // A dictionary with so many passes, 1 to 32, each of which may take what `each` says.
-    static result<std::vector<pass>> try_make(std::size_t count, regnubas_limits each) {
+    static result<std::vector<pass>> try_make(std::size_t count, regnubas_limits each, shape is = shape::tree) {
         if (count == 0 || count > 32) return status::limits;
         std::vector<pass> passes(count);
         std::array<regnubas_pass, 32> raw = {};
-        const std::uint32_t told = regnubas_make(each, raw.data(), count);
+        const auto made = is == shape::trie ? regnubas_make_trie : regnubas_make;
+        const std::uint32_t told = made(each, raw.data(), count);
         if (told != REGNUBAS_NONE) return static_cast<status>(told);
         for (std::size_t i = 0; i < count; i++) {
             passes[i].raw_ = raw[i];
@@ -152,7 +156,9 @@ public:
         }
         return result<std::vector<pass>>(std::move(passes));
     }
-    static std::vector<pass> make(std::size_t count, regnubas_limits each) { return try_make(count, each).get(); }
+    static std::vector<pass> make(std::size_t count, regnubas_limits each, shape is = shape::tree) {
+        return try_make(count, each, is).get();
+    }
 
     // The value of a key.
     std::optional<value> get(key k) {

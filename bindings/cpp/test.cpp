@@ -30,8 +30,8 @@ template <typename Call> status why(Call call) {
     std::abort();
 }
 
-void each_call_answers() {
-    auto passes = pass::make(2, LIMITS);
+void each_call_answers(regnubas::shape is) {
+    auto passes = pass::make(2, LIMITS, is);
     pass &one = passes[0], &other = passes[1];
     CHECK(!one.insert(5, 50) && one.insert(5, {51, 7}) == value(50));
     CHECK(other.get(5) == value(51, 7) && other.contains(5) && !other.contains(6) && !other.get(6));
@@ -98,9 +98,9 @@ void limits_are_reckoned() {
     CHECK(pass::try_make(1, regnubas::limits_for(32769, 0)).why() == status::limits);
 }
 
-void threads_share_it() {
+void threads_share_it(regnubas::shape is) {
     constexpr std::uint64_t THREADS = 4, KEYS = 700;
-    auto passes = pass::make(THREADS, LIMITS);
+    auto passes = pass::make(THREADS, LIMITS, is);
     std::vector<std::thread> threads;
     for (std::uint64_t t = 0; t < THREADS; t++)
         threads.emplace_back([&own = passes[t], t] {
@@ -117,11 +117,13 @@ void threads_share_it() {
 } // namespace
 
 int main() {
-    each_call_answers();
+    each_call_answers(regnubas::shape::tree);
+    each_call_answers(regnubas::shape::trie);
     refusals_are_told();
     pairs_are_gone_through();
     a_full_chunk_up_to_the_last_key();
     limits_are_reckoned();
-    threads_share_it();
+    threads_share_it(regnubas::shape::tree);
+    threads_share_it(regnubas::shape::trie);
     std::puts("each call, each refusal, ranges, limits, four threads");
 }

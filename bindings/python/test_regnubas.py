@@ -52,7 +52,11 @@ def work(number, one, failures):
 
 
 def test_four_threads_and_a_close():
-    passes = regnubas.make(THREADS, nodes=32768, scx=32768, tries=100)
+    for trie in False, True:
+        four_threads_and_a_close(regnubas.make(THREADS, nodes=32768, scx=32768, tries=100, trie=trie))
+
+
+def four_threads_and_a_close(passes):
     failures = []
     threads = [threading.Thread(target=work, args=(t, passes[t], failures)) for t in range(THREADS)]
     for thread in threads:
@@ -153,7 +157,7 @@ def test_going_through_pairs():
     for count in 0, 1, 63, 64, 65, 128, 129, 500:
         keys = random.sample(range(1000), count)
         keys = [key if key % 2 else MOST - key for key in keys]
-        [one] = regnubas.make(threads=1, changes=count)
+        [one] = regnubas.make(threads=1, changes=count, trie=count % 2 == 1)
         for key in keys:
             one[key] = value_of(key)
         keys.sort()

@@ -46,6 +46,7 @@ def _load() -> ctypes.CDLL:
     one, room, word = POINTER(RawPass), POINTER(Pair), c_uint64
     for name, result, arguments in [
         ("make", c_uint32, [RawLimits, one, c_size_t]),
+        ("make_trie", c_uint32, [RawLimits, one, c_size_t]),
         ("get", Answer, [one, word]),
         ("insert", Answer, [one, word, Value]),
         ("insert_new", Answer, [one, word, Value]),

@@ -346,6 +346,7 @@ def make(
     *,
     changes: int | None = None,
     new_keys: int | None = None,
+    trie: bool = False,
 ) -> list[Pass]:
     """A dictionary with a pass for each thread, 1 to 32.
 
@@ -359,7 +360,15 @@ def make(
     (240, 200)
 
     Or give the `nodes` and SCX-records (`scx`) of each pass yourself. A call tries `tries` times, 1
-    to 1,000, before it is `Contended`."""
+    to 1,000, before it is `Contended`.
+
+    A `trie` stays low also where keys come in order.
+
+    >>> [m] = make(threads=1, changes=1000, trie=True)
+    >>> m.update((key, 50) for key in range(1000))
+    >>> m.pop_first()
+    (0, 50)
+    """
     if changes is not None:
         if nodes is not None or scx is not None:
             raise TypeError("make: either changes, or nodes and scx")
@@ -368,7 +377,7 @@ def make(
         raise TypeError("make: either changes, or nodes and scx")
     each = RawLimits(word(nodes, 32), word(scx, 32), word(tries, 32))
     raw = (RawPass * word(threads, 16))()
-    is_some(library.regnubas_make(each, raw, threads))
+    is_some((library.regnubas_make_trie if trie else library.regnubas_make)(each, raw, threads))
     made = [Pass(threads * nodes) for _ in range(threads)]
     for own, old in zip(made, raw):
         own._raw.at, old.at = old.at, None

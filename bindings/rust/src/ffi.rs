@@ -58,6 +58,7 @@ pub struct Count {
 
 extern "C" {
     pub fn regnubas_make(each: Limits, passes: *mut RawPass, count: usize) -> u32;
+    pub fn regnubas_make_trie(each: Limits, passes: *mut RawPass, count: usize) -> u32;
     pub fn regnubas_get(pass: *mut RawPass, key: u64) -> Answer;
     pub fn regnubas_insert(pass: *mut RawPass, key: u64, value: Value) -> Answer;
     pub fn regnubas_insert_new(pass: *mut RawPass, key: u64, value: Value) -> Answer;

@@ -26,7 +26,7 @@ mod range;
 
 pub use fault::{CloseFault, Fault};
 pub use limits::{Limits, Share};
-pub use pass::{make, Pass};
+pub use pass::{make, make_trie, Pass};
 pub use range::Range;
 
 /// Calls until other passes do not interfere.

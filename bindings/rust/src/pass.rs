@@ -45,12 +45,34 @@ impl fmt::Debug for Pass {
 /// # Ok::<(), Fault>(())
 /// ```
 pub fn make(passes: usize, each: Limits) -> Result<Vec<Pass>, Fault> {
+    made(regnubas_make, passes, each)
+}
+
+/// The same, but a trie: it stays low also where keys come in order.
+///
+/// ```
+/// use regnubas::{make_trie, Limits};
+///
+/// let mut pass = make_trie(1, Limits::for_changes(1000, 1000))?.remove(0);
+/// for key in 0..1000 {
+///     pass.insert(key, 50)?;
+/// }
+/// assert_eq!(pass.pop_first()?, Some((0, 50)));
+/// # Ok::<(), regnubas::Fault>(())
+/// ```
+pub fn make_trie(passes: usize, each: Limits) -> Result<Vec<Pass>, Fault> {
+    made(regnubas_make_trie, passes, each)
+}
+
+type Make = unsafe extern "C" fn(Limits, *mut RawPass, usize) -> u32;
+
+fn made(make: Make, passes: usize, each: Limits) -> Result<Vec<Pass>, Fault> {
     if passes > 32 {
         return Err(Fault::Limits);
     }
     let mut raw: Vec<RawPass> = (0..passes).map(|_| RawPass::EMPTY).collect();
     // SAFETY: these are `passes` zeroed passes, and no one else has them.
-    is_some(unsafe { regnubas_make(each, raw.as_mut_ptr(), raw.len()) })?;
+    is_some(unsafe { make(each, raw.as_mut_ptr(), raw.len()) })?;
     Ok(raw.into_iter().map(|raw| Pass { raw, most: passes * each.nodes as usize }).collect())
 }
 

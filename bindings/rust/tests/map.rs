@@ -1,7 +1,7 @@
 //! Drawn calls of one pass, each beside the same of a `BTreeMap`.
 // what pops from a `BTreeMap` came after the version of Rust that the crate asks for
 #![allow(clippy::incompatible_msrv)]
-use regnubas::{make, Limits, Pass};
+use regnubas::{make, make_trie, Limits, Pass};
 use std::collections::BTreeMap;
 use std::ops::{Bound, RangeBounds};
 
@@ -82,7 +82,8 @@ fn has_same(pass: &mut Pass, map: &BTreeMap<u64, u128>, keys: impl RangeBounds<u
 #[test]
 fn drawn_calls() {
     let mut draws = Draws(88172645463325252);
-    for _ in 0..10 {
+    for round in 0..10 {
+        let make = if round % 2 == 0 { make } else { make_trie };
         let mut pass = make(1, Limits::for_changes(2000, 2000)).unwrap().remove(0);
         let mut map = BTreeMap::new();
         for _ in 0..2000 {

@@ -1,5 +1,5 @@
 //! Four threads on one dictionary.
-use regnubas::{again, make, CloseFault, Fault, Limits, Pass};
+use regnubas::{again, make, make_trie, CloseFault, Fault, Limits, Pass};
 
 const THREADS: u64 = 4;
 const KEYS: u64 = 3000;
@@ -42,9 +42,15 @@ fn work(number: u64, mut pass: Pass) -> Pass {
     pass
 }
 
+const MOST: Limits = Limits { nodes: 32768, scx: 32768, tries: 100 };
+
 #[test]
 fn four_threads_and_a_close() {
-    let passes = make(4, Limits { nodes: 32768, scx: 32768, tries: 100 }).unwrap();
+    work_and_close(make(4, MOST).unwrap());
+    work_and_close(make_trie(4, MOST).unwrap());
+}
+
+fn work_and_close(passes: Vec<Pass>) {
     let threads: Vec<_> = (0..THREADS)
         .zip(passes)
         .map(|(t, pass)| std::thread::spawn(move || work(t, pass)))

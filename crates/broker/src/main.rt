@@ -6,12 +6,12 @@ ghost use Rattle.std.specs.List.{All};
 ghost use Rattle.regnubas.specs.Passes.{IsOf};
 
 use anyhow::{Result, bail};
-use regnubas::{Dict, Forest, Limits, Name8, Pass, UpdateFault};
+use regnubas::{Forest, Limits, Name8, Pass, Trie, UpdateFault};
 use std::alloc::{AllocError, Global};
 use std::thread::{Threads, map_vec};
 
 /// From topics to how many messages there were.
-type Table = Dict<Name8, u32>;
+type Table = Trie<Name8, u32>;
 
 /// A pass for each thread. Each message takes a node and an SCX-record, which are never given back,
 /// and so does a try that is lost.

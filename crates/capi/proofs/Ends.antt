@@ -9,6 +9,8 @@ use Rattle.std.proofs.lemmas.Option.{none-some}
 use Rattle.std.proofs.lemmas.Bool.{false≢true}
 use Rattle.forest.specs.Passes.{Ground, IsOf, PassView}
 use Rattle.capi.specs.declared.client.OwnedPass.{OwnedPass}
+use Rattle.capi.specs.declared.client.OwnedPass.TheVariants.{Tree, Trie}
+use Rattle.capi.specs.Owned.{owner_of, pass_of}
 use Rattle.capi.specs.declared.handle.HandleSlot.{HandleSlot}
 use Rattle.capi.specs.Ends.{IsIn, held_in, pass_in}
 use Rattle.capi.specs.Handles.{pass_count}
@@ -58,13 +60,13 @@ told_of f None n told in_f = absurd (none-some n (sym told))
 
 module _ (ys : List HandleSlot) (place : HandleSlot) (client : OwnedPass) (is : Some client ≡ place.handle.value) where
   -- one handle more, whose pass is listed
-  pub listed : (passes : List PassView) → map pass_in (held_in ys) ≡ map Some passes → map pass_in (held_in (ys ++ place ∷ [])) ≡ map Some (passes ++ client.pass ∷ [])
+  pub listed : (passes : List PassView) → map pass_in (held_in ys) ≡ map Some passes → map pass_in (held_in (ys ++ place ∷ [])) ≡ map Some (passes ++ pass_of client ∷ [])
   listed passes are =
       ap (map pass_in) (map-append value_of ys (place ∷ [])) ∙ map-append pass_in (held_in ys) (place.handle.value ∷ [])
-      ∙ ap₂ (λ (l r : List (Option PassView)). l ++ r) are (ap (λ (v : Option OwnedPass). pass_in v ∷ []) (sym is)) ∙ sym (map-append Some passes (client.pass ∷ []))
+      ∙ ap₂ (λ (l r : List (Option PassView)). l ++ r) are (ap (λ (v : Option OwnedPass). pass_in v ∷ []) (sym is)) ∙ sym (map-append Some passes (pass_of client ∷ []))
 
   -- all of these and that one are of a forest
-  pub of_both : (f : Ground) → All (IsIn f) (held_in (ys ++ place ∷ [])) → All (IsIn f) (held_in ys) × (arc_value client.forest ≡ f)
+  pub of_both : (f : Ground) → All (IsIn f) (held_in (ys ++ place ∷ [])) → All (IsIn f) (held_in ys) × (arc_value (owner_of client) ≡ f)
   of_both f all =
       let both = All-pop (IsIn f) (held_in (ys ++ place ∷ [])) (held_in ys) (Some place.handle.value) (map-append value_of ys (place ∷ [])) all in
       (both.0, subst (IsIn f) (sym is) both.1)
@@ -74,11 +76,16 @@ pub held_is_in : (f : Ground) (v : Option OwnedPass) → IsHeldOf f v → IsIn f
 held_is_in f (Some c) held = held
 held_is_in f None held = absurd held
 
+-- the pass of a client is of its forest
+of_own : (c : OwnedPass) → IsOf (arc_value (owner_of c)) (pass_of c)
+of_own (Tree held) = held.of
+of_own (Trie held) = held.of
+
 -- the pass that a handle of a forest holds is of that forest
 one_is_of : (f : Ground) (v : Option OwnedPass) (p : PassView) → pass_in v ≡ Some p → IsIn f v → IsOf f p
-one_is_of f (Some c) p is in_f = subst (IsOf f) (value_is is) (subst (λ (g : Ground). IsOf g c.pass) in_f c.of)
+one_is_of f (Some c) p is in_f = subst (IsOf f) (value_is is) (subst (λ (g : Ground). IsOf g (pass_of c)) in_f (of_own c))
   where
-    value_is : Some c.pass ≡ Some p → c.pass ≡ p
+    value_is : Some (pass_of c) ≡ Some p → pass_of c ≡ p
     value_is e = cc
 one_is_of f None p is in_f = absurd (none-some p is)
 

@@ -5,6 +5,7 @@ use Rattle.std.specs.Global.{Vec}
 use Rattle.std.specs.Option.{option_map}
 use Rattle.arena.specs.Limits.{IsAccepted}
 use Rattle.arena.specs.declared.limits.Limits.{Limits}
+use Rattle.arena.specs.declared.limits.Mode.{Mode}
 use Rattle.ordered_map.specs.Holding.{wide_value}
 use Rattle.ordered_map.specs.OrderedMap.{MapCall, Get, Range}
 use Rattle.ordered_map.specs.declared.reply.Reply.{Reply}
@@ -13,7 +14,7 @@ use Rattle.forest.specs.declared.fault.OrderFault.{OrderFault}
 use Rattle.forest.specs.declared.fault.OrderFault.TheVariants as reads
 use Rattle.forest.specs.declared.fault.UpdateFault.{UpdateFault}
 use Rattle.forest.specs.declared.fault.UpdateFault.TheVariants as updates
-use Rattle.forest.specs.Dictionary.{HasCalled, order_reply, update_reply}
+use Rattle.forest.specs.Dictionary.{HasCalledIn, order_reply, update_reply}
 use Rattle.capi.specs.Left.{AreLeft}
 use Rattle.capi.specs.Made.{AreMade}
 use Rattle.capi.specs.declared.answer.ValueAnswer.{ValueAnswer}
@@ -22,6 +23,7 @@ use Rattle.capi.specs.declared.answer.Left.{Left}
 use Rattle.capi.specs.declared.answer.KeyValue.{KeyValue}
 use Rattle.capi.specs.declared.answer.PassLimits.{PassLimits}
 use Rattle.capi.specs.declared.answer.Value.{Value}
+use Rattle.capi.specs.Owned.{in_trie, owner_of, pass_of}
 use Rattle.capi.specs.declared.client.OwnedPass.{OwnedPass}
 use Rattle.capi.specs.declared.handle.HandleSlot.{HandleSlot}
 
@@ -91,14 +93,14 @@ IsCountOfRange (Err fault) room a = a ≡ no_count (order_status fault)
 
 -- the pass has made this call, of numbers, and has this reply
 abbrev pub HasClientCalled : OwnedPass → OwnedPass → MapCall → Reply ℕ ℕ → Type 0
-HasClientCalled old new = HasCalled (λ k. k < 2 ^ 64) (λ k. k) (λ v. v < 2 ^ 128) (λ v. v) (arc_value old.forest) old.pass new.pass
+HasClientCalled old new = HasCalledIn (in_trie old) (λ k. k < 2 ^ 64) (λ k. k) (λ v. v < 2 ^ 128) (λ v. v) (arc_value (owner_of old)) (pass_of old) (pass_of new)
 
 -- what a handle held before and after a call, and what the call answered: with no pass nothing is
 -- done, and it answers this; else the pass, which stays in its forest, has made this call
 abbrev pub CallSays : {A : Type 0} → A → (OwnedPass → OwnedPass → A → Type 0) → Option OwnedPass → Option OwnedPass → A → Type 0
 CallSays no_pass made None after a = (after ≡ None) × (a ≡ no_pass)
 CallSays no_pass made (Some old) None a = ⊥
-CallSays no_pass made (Some old) (Some new) a = (new.forest ≡ old.forest) × made old new a
+CallSays no_pass made (Some old) (Some new) a = (owner_of new ≡ owner_of old) × made old new a
 
 -- what `get` says
 abbrev pub GetSays : ℕ → OwnedPass → OwnedPass → ValueAnswer → Type 0
@@ -123,14 +125,14 @@ BetweenSays low high most room old new a = (told : Result (Vec (ℕ × ℕ)) Ord
 -- what `left` answers
 abbrev pub LeftSays : Option OwnedPass → Left → Type 0
 LeftSays None a = a ≡ record { nodes = 0; scx = 0 }
-LeftSays (Some c) a = a ≡ record { nodes = c.pass.share.nodes; scx = c.pass.share.scx }
+LeftSays (Some c) a = a ≡ record { nodes = (pass_of c).share.nodes; scx = (pass_of c).share.scx }
 
 -- What `close` and `make` say
 
 -- the pairs that are left are in the room, as far as they go in
 pub record HasClosed (c : OwnedPass) (room : List KeyValue) (a : Count) : Type 0 where
   pub pairs : List (ℕ × ℕ)
-  pub left : AreLeft c.pass pairs
+  pub left : AreLeft (pass_of c) pairs
   pub count : a ≡ counted (length pairs)
   pub put : StandIn (take (length room) pairs) room
 
@@ -151,5 +153,5 @@ pub record IsNotMade (each : PassLimits) (before after : List HandleSlot) (statu
   pub why : ((status ≡ 5) × (¬ IsAccepted (limits_of each (length before)))) ⊎ (status ≡ 4)
 
 -- what `make` answers, and what handles hold: those of a new dictionary, or what they held
-abbrev pub MakeSays : PassLimits → List HandleSlot → List HandleSlot → ℕ → Type 0
-MakeSays each before after status = ((status ≡ 0) × AreMade (limits_of each (length before)) after) ⊎ IsNotMade each before after status
+abbrev pub MakeSays : Mode → PassLimits → List HandleSlot → List HandleSlot → ℕ → Type 0
+MakeSays mode each before after status = ((status ≡ 0) × AreMade mode (limits_of each (length before)) after) ⊎ IsNotMade each before after status

@@ -11,6 +11,7 @@ use Rattle.capi.specs.Left.{AreLeftByAll}
 use Rattle.capi.specs.Made.{IsHeldOf}
 use Rattle.capi.specs.declared.answer.Count.{Count}
 use Rattle.capi.specs.declared.answer.KeyValue.{KeyValue}
+use Rattle.capi.specs.Owned.{owner_of, pass_of}
 use Rattle.capi.specs.declared.client.OwnedPass.{OwnedPass}
 use Rattle.capi.specs.declared.handle.HandleSlot.{HandleSlot}
 
@@ -24,12 +25,12 @@ IsEmpty held = held ≡ None
 
 -- the pass that a handle holds, if there is one
 abbrev pub pass_in : Option OwnedPass → Option PassView
-pass_in = option_map (λ (c : OwnedPass). c.pass)
+pass_in = option_map pass_of
 
 -- there is no pass, or its forest is this one
 abbrev pub IsIn : Ground → Option OwnedPass → Type 0
 IsIn f None = Unit {0}
-IsIn f (Some c) = arc_value c.forest ≡ f
+IsIn f (Some c) = arc_value (owner_of c) ≡ f
 
 -- these passes are of one dictionary
 pub record AreOfOne (held : List (Option OwnedPass)) : Type 0 where

@@ -1,5 +1,6 @@
 -- What is left in a dictionary when it is closed.
-use Rattle.std.specs.Prelude.{◌≡◌, ℕ, List, map}
+use Rattle.std.specs.Prelude.{◌≡◌, ℕ, List, map, Option, Some, None, Result, Ok, Err}
+use Rattle.std.specs.Global.{Vec}
 use Rattle.std.specs.List.{All}
 use Rattle.arena.specs.declared.layout.Layout.{Layout}
 use Rattle.arena.specs.History.{History, value, Extends}
@@ -13,6 +14,8 @@ use Rattle.ordered_map.specs.Spelled.{Spells}
 use Rattle.forest.specs.Passes.{PassView, AreAllBack, IsClosed, done_of, run_of}
 use Rattle.forest.specs.Shares.{entries_of}
 use Rattle.forest.specs.TableRule.{history_of}
+use Rattle.capi.specs.Owned.{pass_of}
+use Rattle.capi.specs.declared.held.Held.{Held}
 use Rattle.capi.specs.declared.client.OwnedPass.{OwnedPass}
 use Rattle.capi.specs.declared.client.Closing.{Closing}
 use Rattle.capi.specs.declared.client.Closing.TheVariants.{Pairs, NoMemory, Shared}
@@ -36,8 +39,19 @@ pub record AreLeftByAll (lay : Layout) (passes : List PassView) (pairs : List (�
   pub closed : IsClosed (TypedAllows IsNumber IsWideNumber) lay passes words
   pub spelled : Spells lay (value (history_of lay.mode closed.rows)) (map (word_pair (λ k. k) (λ v. v)) pairs)
 
+-- how a holder may close: the pairs are left, or an allocation was refused; or it is as it was
+abbrev pub IsClosingOf : {B : Type 0} → Held B → Result (Option (Vec (ℕ × ℕ))) (Held B) → Type 0
+IsClosingOf c (Ok (Some pairs)) = AreLeft c.pass pairs.items
+IsClosingOf c (Ok None) = Unit {0}
+IsClosingOf c (Err d) = d ≡ c
+
+-- the closing of the last client, by what is left
+abbrev pub closing_of : Option (Vec (ℕ × ℕ)) → Closing
+closing_of (Some pairs) = Pairs pairs
+closing_of None = NoMemory
+
 -- how a client may close: the pairs are left; or it is as it was
 abbrev pub IsClosing : OwnedPass → Closing → Type 0
-IsClosing c (Pairs pairs) = AreLeft c.pass pairs.items
+IsClosing c (Pairs pairs) = AreLeft (pass_of c) pairs.items
 IsClosing c NoMemory = Unit {0}
 IsClosing c (Shared d) = d ≡ c

@@ -5,26 +5,27 @@ use Rattle.std.specs.Arc.{arc_value}
 use Rattle.std.specs.Option.{option_map}
 use Rattle.arena.specs.Limits.{IsAccepted, IsLayoutOf}
 use Rattle.arena.specs.declared.limits.Limits.{Limits}
-use Rattle.arena.specs.declared.limits.Mode.TheVariants.{Tree}
+use Rattle.arena.specs.declared.limits.Mode.{Mode}
 use Rattle.forest.specs.Passes.{Ground, PassView, AreNew}
+use Rattle.capi.specs.Owned.{owner_of, pass_of}
 use Rattle.capi.specs.declared.client.OwnedPass.{OwnedPass}
 use Rattle.capi.specs.declared.handle.HandleSlot.{HandleSlot}
 
 -- there is a pass, and its forest is this one
 abbrev pub IsHeldOf : Ground → Option OwnedPass → Type 0
 IsHeldOf f None = ⊥
-IsHeldOf f (Some c) = arc_value c.forest ≡ f
+IsHeldOf f (Some c) = arc_value (owner_of c) ≡ f
 
 -- the pass that a handle holds, if there is one
 abbrev pub pass_at : HandleSlot → Option PassView
-pass_at place = option_map (λ (c : OwnedPass). c.pass) place.handle.value
+pass_at place = option_map pass_of place.handle.value
 
--- The limits are accepted, and there is one forest of them. The handles hold all its passes, in
+-- The limits are accepted, and there is one forest of them, of this mode. The handles hold all its passes, in
 -- order, before their first steps.
-pub record AreMade (limits : Limits) (places : List HandleSlot) : Type 0 where
+pub record AreMade (mode : Mode) (limits : Limits) (places : List HandleSlot) : Type 0 where
   pub accepted : IsAccepted limits
   pub forest : Ground
-  pub layout : IsLayoutOf limits Tree forest.layout
+  pub layout : IsLayoutOf limits mode forest.layout
   pub tries : forest.tries ≡ limits.tries
   pub of_forest : All (λ p. IsHeldOf forest p.handle.value) places
   pub passes : List PassView

@@ -1,93 +1,109 @@
-//! What a handle leads to: a pass of a dictionary, and a part in its forest.
+//! What a handle leads to: a pass of a dictionary, a tree or a trie, and a part in its forest.
 ghost use Rattle.std.specs.Prelude.{◌≡◌, ◌≤◌, IfOk, length, min, vec_len};
 ghost use Rattle.std.specs.Arc.{arc_value};
 ghost use Rattle.ordered_map.specs.OrderedMap.{call_insert, call_insert_new, call_delete, call_delete_if, call_pop_first, call_pop_last, call_replace_if, call_successor, call_predecessor, Get, Range};
 ghost use Rattle.ordered_map.specs.declared.reply.Reply.TheVariants as replies;
-ghost use Rattle.forest.specs.Passes.{IsOf};
 ghost use Rattle.forest.specs.Dictionary.{order_reply, update_reply};
 
 use crate::answer::{Count, KeyValue};
-use regnubas::{Dict, Forest, NoMemory, OrderFault, Pass, UpdateFault};
+use crate::close::{close_tree, close_trie};
+use crate::held::Held;
+use regnubas::{ByBits, ByOrder, OrderFault, UpdateFault};
 use std::alloc::Global;
 use std::sync::Arc;
 
-/// A dictionary from numbers of 64 bits to numbers of 128.
-pub type Numbers = Dict<u64, u128>;
-
-/// A pass, and one owner of its forest.
+/// A pass of a tree or of a trie, and one owner of its forest.
 #[derive(Drop)]
-pub struct OwnedPass {
-    pub(crate) forest: Arc<Forest<Numbers>>,
-    pub(crate) pass: Pass<Numbers>,
-    /// How many passes the forest has.
-    pub(crate) all: u32,
-    ghost of: { IsOf (arc_value forest) pass },
-    ghost counted: { all ≡ (arc_value forest).layout.passes },
+pub enum OwnedPass {
+    Tree(Held<ByOrder>),
+    Trie(Held<ByBits>),
 }
 
 impl OwnedPass {
     ghost use Rattle.capi.specs.Answers.{HasClientCalled, BetweenSays};
+    ghost use Rattle.capi.specs.Owned.{owner_of, pass_of};
 
     /// The value of a key.
     pub fn get(&mut self, key: u64) -> Option<u128>
-        ensures same { self.new.forest ≡ self.old.forest }
+        ensures same { owner_of self.new ≡ owner_of self.old }
         ensures called { HasClientCalled self.old self.new (Get key) (replies.Value result) }
     {
-        self.forest.get(&mut self.pass, &key)
+        match self {
+            OwnedPass::Tree(held) => held.forest.get(&mut held.pass, &key),
+            OwnedPass::Trie(held) => held.forest.get(&mut held.pass, &key),
+        }
     }
 
     /// Sets a key to a value.
     pub fn insert(&mut self, key: u64, value: u128) -> Result<Option<u128>, UpdateFault>
-        ensures same { self.new.forest ≡ self.old.forest }
+        ensures same { owner_of self.new ≡ owner_of self.old }
         ensures called { HasClientCalled self.old self.new (call_insert key value)
             (update_reply replies.Value result) }
     {
-        self.forest.insert(&mut self.pass, key, value)
+        match self {
+            OwnedPass::Tree(held) => held.forest.insert(&mut held.pass, key, value),
+            OwnedPass::Trie(held) => held.forest.insert(&mut held.pass, key, value),
+        }
     }
 
     /// Sets a key to a value if it has none.
     pub fn insert_new(&mut self, key: u64, value: u128) -> Result<Option<u128>, UpdateFault>
-        ensures same { self.new.forest ≡ self.old.forest }
+        ensures same { owner_of self.new ≡ owner_of self.old }
         ensures called { HasClientCalled self.old self.new (call_insert_new key value)
             (update_reply replies.Value result) }
     {
-        self.forest.insert_new(&mut self.pass, key, value)
+        match self {
+            OwnedPass::Tree(held) => held.forest.insert_new(&mut held.pass, key, value),
+            OwnedPass::Trie(held) => held.forest.insert_new(&mut held.pass, key, value),
+        }
     }
 
     /// Takes a key away.
     pub fn delete(&mut self, key: u64) -> Result<Option<u128>, UpdateFault>
-        ensures same { self.new.forest ≡ self.old.forest }
+        ensures same { owner_of self.new ≡ owner_of self.old }
         ensures called { HasClientCalled self.old self.new (call_delete key)
             (update_reply replies.Value result) }
     {
-        self.forest.delete(&mut self.pass, &key)
+        match self {
+            OwnedPass::Tree(held) => held.forest.delete(&mut held.pass, &key),
+            OwnedPass::Trie(held) => held.forest.delete(&mut held.pass, &key),
+        }
     }
 
     /// Takes a key away where it has the expected value.
     pub fn delete_if(&mut self, key: u64, expected: u128) -> Result<Option<u128>, UpdateFault>
-        ensures same { self.new.forest ≡ self.old.forest }
+        ensures same { owner_of self.new ≡ owner_of self.old }
         ensures called { HasClientCalled self.old self.new (call_delete_if key expected)
             (update_reply replies.Value result) }
     {
-        self.forest.delete_if(&mut self.pass, &key, &expected)
+        match self {
+            OwnedPass::Tree(held) => held.forest.delete_if(&mut held.pass, &key, &expected),
+            OwnedPass::Trie(held) => held.forest.delete_if(&mut held.pass, &key, &expected),
+        }
     }
 
     /// Takes the pair with the least key away.
     pub fn pop_first(&mut self) -> Result<Option<(u64, u128)>, UpdateFault>
-        ensures same { self.new.forest ≡ self.old.forest }
+        ensures same { owner_of self.new ≡ owner_of self.old }
         ensures called { HasClientCalled self.old self.new call_pop_first
             (update_reply replies.Pair result) }
     {
-        self.forest.pop_first(&mut self.pass)
+        match self {
+            OwnedPass::Tree(held) => held.forest.pop_first(&mut held.pass),
+            OwnedPass::Trie(held) => held.forest.pop_first(&mut held.pass),
+        }
     }
 
     /// Takes the pair with the greatest key away.
     pub fn pop_last(&mut self) -> Result<Option<(u64, u128)>, UpdateFault>
-        ensures same { self.new.forest ≡ self.old.forest }
+        ensures same { owner_of self.new ≡ owner_of self.old }
         ensures called { HasClientCalled self.old self.new call_pop_last
             (update_reply replies.Pair result) }
     {
-        self.forest.pop_last(&mut self.pass)
+        match self {
+            OwnedPass::Tree(held) => held.forest.pop_last(&mut held.pass),
+            OwnedPass::Trie(held) => held.forest.pop_last(&mut held.pass),
+        }
     }
 
     /// Sets a key to a value where it has the expected one.
@@ -97,21 +113,32 @@ impl OwnedPass {
         expected: u128,
         value: u128,
     ) -> Result<Option<u128>, UpdateFault>
-        ensures same { self.new.forest ≡ self.old.forest }
+        ensures same { owner_of self.new ≡ owner_of self.old }
         ensures called { HasClientCalled self.old self.new (call_replace_if key expected value)
             (update_reply replies.Value result) }
     {
-        self.forest
-            .replace_if(&mut self.pass, key, &expected, value)
+        match self {
+            OwnedPass::Tree(held) => {
+                let (forest, pass) = (&held.forest, &mut held.pass);
+                forest.replace_if(pass, key, &expected, value)
+            }
+            OwnedPass::Trie(held) => {
+                let (forest, pass) = (&held.forest, &mut held.pass);
+                forest.replace_if(pass, key, &expected, value)
+            }
+        }
     }
 
     /// The pair with the least key above this one.
     pub fn successor(&mut self, alloc: Global, key: u64) -> Result<Option<(u64, u128)>, OrderFault>
-        ensures same { self.new.forest ≡ self.old.forest }
+        ensures same { owner_of self.new ≡ owner_of self.old }
         ensures called { HasClientCalled self.old self.new (call_successor key)
             (order_reply replies.Pair result) }
     {
-        self.forest.successor(alloc, &mut self.pass, &key)
+        match self {
+            OwnedPass::Tree(held) => held.forest.successor(alloc, &mut held.pass, &key),
+            OwnedPass::Trie(held) => held.forest.successor(alloc, &mut held.pass, &key),
+        }
     }
 
     /// The pair with the greatest key below this one.
@@ -120,11 +147,14 @@ impl OwnedPass {
         alloc: Global,
         key: u64,
     ) -> Result<Option<(u64, u128)>, OrderFault>
-        ensures same { self.new.forest ≡ self.old.forest }
+        ensures same { owner_of self.new ≡ owner_of self.old }
         ensures called { HasClientCalled self.old self.new (call_predecessor key)
             (order_reply replies.Pair result) }
     {
-        self.forest.predecessor(alloc, &mut self.pass, &key)
+        match self {
+            OwnedPass::Tree(held) => held.forest.predecessor(alloc, &mut held.pass, &key),
+            OwnedPass::Trie(held) => held.forest.predecessor(alloc, &mut held.pass, &key),
+        }
     }
 
     /// The first pairs from `low` to `high`, at most `most`.
@@ -138,16 +168,19 @@ impl OwnedPass {
     ) -> Result<Vec<(u64, u128)>, OrderFault>
         requires few { most ≤ 64 }
         ensures few { IfOk result (λ pairs. vec_len pairs ≤ most) }
-        ensures same { self.new.forest ≡ self.old.forest }
+        ensures same { owner_of self.new ≡ owner_of self.old }
         ensures called { HasClientCalled self.old self.new (Range low high most)
             (order_reply replies.Pairs result) }
     {
-        self.forest.range(alloc, &mut self.pass, &low, &high, most)
+        match self {
+            OwnedPass::Tree(held) => held.forest.range(alloc, &mut held.pass, &low, &high, most),
+            OwnedPass::Trie(held) => held.forest.range(alloc, &mut held.pass, &low, &high, most),
+        }
     }
 
     /// The first pairs from `low` to `high`, as many as there is room for, 64 at the most.
     pub fn fill(&mut self, alloc: Global, low: u64, high: u64, room: &mut [KeyValue]) -> Count
-        ensures same { self.new.forest ≡ self.old.forest }
+        ensures same { owner_of self.new ≡ owner_of self.old }
         ensures says { BetweenSays low high (min 64 (length room.old)) room.new self.old self.new result }
     {
         let told = self.range(alloc, low, high, room.len().min(64));
@@ -156,9 +189,27 @@ impl OwnedPass {
 
     /// How many nodes and SCX-records are left of the pass's share.
     pub fn left(&self) -> (u32, u32)
-        ensures { result ≡ (self.now.pass.share.nodes, self.now.pass.share.scx) }
+        ensures { result ≡ ((pass_of self.now).share.nodes, (pass_of self.now).share.scx) }
     {
-        self.pass.left()
+        match self {
+            OwnedPass::Tree(held) => held.pass.left(),
+            OwnedPass::Trie(held) => held.pass.left(),
+        }
+    }
+
+    /// Whether it is of a trie.
+    pub fn is_trie(&self) -> bool {
+        matches!(self, OwnedPass::Trie(_))
+    }
+
+    /// How many passes the dictionary has.
+    pub fn all(&self) -> u32
+        ensures { result ≡ (arc_value (owner_of self.now)).layout.passes }
+    {
+        match self {
+            OwnedPass::Tree(held) => held.all,
+            OwnedPass::Trie(held) => held.all,
+        }
     }
 }
 
@@ -172,6 +223,20 @@ pub enum Closing {
     Shared(OwnedPass),
 }
 
+impl Closing {
+    ghost use Rattle.capi.specs.Left.{closing_of};
+
+    /// Of the last client, by what is left, if an allocation was not refused.
+    fn of(left: Option<Vec<(u64, u128)>>) -> Closing
+        ensures { result ≡ closing_of left }
+    {
+        match left {
+            Some(pairs) => Closing::Pairs(pairs),
+            None => Closing::NoMemory,
+        }
+    }
+}
+
 impl OwnedPass {
     ghost use Rattle.capi.specs.Left.{IsClosing};
 
@@ -179,18 +244,23 @@ impl OwnedPass {
     pub fn close(self, alloc: Global) -> Closing
         ensures { IsClosing self result }
     {
-        let OwnedPass { forest, pass, all } = self;
-        match Arc::try_unwrap(forest) {
-            Ok(forest) => match forest.end(pass).pairs(alloc) {
-                Ok(pairs) => Closing::Pairs(pairs),
-                Err(NoMemory) => Closing::NoMemory,
+        match self {
+            OwnedPass::Tree(held) => match close_tree(held, alloc) {
+                Ok(left) => Closing::of(left),
+                Err(held) => Closing::Shared(OwnedPass::Tree(held)),
             },
-            Err(forest) => Closing::Shared(OwnedPass { forest, pass, all }),
+            OwnedPass::Trie(held) => match close_trie(held, alloc) {
+                Ok(left) => Closing::of(left),
+                Err(held) => Closing::Shared(OwnedPass::Trie(held)),
+            },
         }
     }
 
     /// Whether no other client shares the forest.
     pub fn is_last(&self) -> bool {
-        Arc::strong_count(&self.forest) == 1
+        match self {
+            OwnedPass::Tree(held) => Arc::strong_count(&held.forest) == 1,
+            OwnedPass::Trie(held) => Arc::strong_count(&held.forest) == 1,
+        }
     }
 }

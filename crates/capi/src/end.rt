@@ -7,9 +7,10 @@ ghost use Rattle.capi.specs.Left.{AreLeftByAll};
 ghost use Rattle.capi.specs.Made.{IsHeldOf};
 ghost use Rattle.capi.specs.Ends.{AreHeld, AreOfOne, HaveEndedWith, IsEmpty, IsIn, held_in, pass_in};
 
-use crate::client::{Numbers, OwnedPass};
+use crate::client::OwnedPass;
 use crate::handle::{Handle, HandleSlot};
-use regnubas::{Forest, NoMemory, Pass};
+use crate::held::{Held, Numbers};
+use regnubas::{ByBits, ByOrder, FixedBalance, Forest, NoMemory, Pass};
 use std::alloc::Global;
 use std::sync::Arc;
 
@@ -38,8 +39,43 @@ pub(crate) fn end(alloc: Global, passes: &mut [HandleSlot]) -> Option<Vec<(u64, 
     ensures empty { All IsEmpty (held_in passes.new) }
     ensures left { IfSome result (λ pairs. HaveEndedWith (held_in passes.old) pairs.items) }
 {
+    if are_of_trie(alloc, passes) {
+        end_trie(alloc, passes)
+    } else {
+        end_tree(alloc, passes)
+    }
+}
+
+/// Whether the dictionary of these handles is a trie: the last of them says so of all.
+fn are_of_trie(alloc: Global, passes: &mut [HandleSlot]) -> bool
+    ensures { held_in passes.new ≡ held_in passes.old }
+{
+    let mut trie = false;
+    for place in passes.iter_mut() {
+        trie = place.handle.is_trie(alloc);
+    }
+    trie
+}
+
+/// The same of a tree.
+fn end_tree(alloc: Global, passes: &mut [HandleSlot]) -> Option<Vec<(u64, u128)>>
+    requires { AreOfOne (held_in passes.old) }
+    ensures empty { All IsEmpty (held_in passes.new) }
+    ensures left { IfSome result (λ pairs. HaveEndedWith (held_in passes.old) pairs.items) }
+{
     let places = take_out(alloc, passes)?;
-    let (forest, passes) = gather(alloc, places)?;
+    let (forest, passes) = gather_tree(alloc, places)?;
+    end_by_all(alloc, forest, passes)
+}
+
+/// The same of a trie.
+fn end_trie(alloc: Global, passes: &mut [HandleSlot]) -> Option<Vec<(u64, u128)>>
+    requires { AreOfOne (held_in passes.old) }
+    ensures empty { All IsEmpty (held_in passes.new) }
+    ensures left { IfSome result (λ pairs. HaveEndedWith (held_in passes.old) pairs.items) }
+{
+    let places = take_out(alloc, passes)?;
+    let (forest, passes) = gather_trie(alloc, places)?;
     end_by_all(alloc, forest, passes)
 }
 
@@ -81,24 +117,32 @@ fn leave_all(alloc: Global, passes: &mut [HandleSlot])
     }
 }
 
-/// The passes that these handles hold, and their forest, which nobody else shares.
-fn gather(alloc: Global, places: Vec<HandleSlot>) -> Option<(Forest<Numbers>, Vec<Pass<Numbers>>)>
+/// The passes of a tree that these handles hold, and their forest, which nobody else shares.
+fn gather_tree(
+    alloc: Global,
+    places: Vec<HandleSlot>,
+) -> Option<(Forest<Numbers<ByOrder>>, Vec<Pass<Numbers<ByOrder>>>)>
     requires { AreOfOne (held_in places.items) }
     ensures of { IfSome result (λ r. All (IsOf r.0) r.1.items) }
     ensures are { IfSome result (λ r. map pass_in (held_in places.items) ≡ map Some r.1.items) }
 {
-    let (owner, passes) = take_apart(alloc, places)?;
+    let (owner, passes) = take_tree(alloc, places)?;
     match Arc::try_unwrap(owner?) {
         Ok(forest) => Some((forest, passes)),
         Err(_) => None,
     }
 }
 
-/// The passes that these handles hold, and the last one's owner of the forest.
-fn take_apart(
+/// The passes of a tree that these handles hold, and the last one's owner of the forest.
+fn take_tree(
     alloc: Global,
     places: Vec<HandleSlot>,
-) -> Option<(Option<Arc<Forest<Numbers>>>, Vec<Pass<Numbers>>)>
+) -> Option<
+    (
+        Option<Arc<Forest<Numbers<ByOrder>>>>,
+        Vec<Pass<Numbers<ByOrder>>>,
+    ),
+>
     ensures are { IfSome result (λ r. map pass_in (held_in places.items) ≡ map Some r.1.items) }
     ensures owner { IfSome result (λ r. (f : Ground) → All (IsIn f) (held_in places.items) → IfSome r.0 (λ a. arc_value a ≡ f)) }
 {
@@ -109,11 +153,66 @@ fn take_apart(
         let Some(client) = handle.into_box() else {
             return None;
         };
-        let OwnedPass {
+        let OwnedPass::Tree(held) = Box::into_inner(client) else {
+            return None;
+        };
+        let Held {
             forest,
             pass,
             all: _,
-        } = Box::into_inner(client);
+        } = held;
+        let Ok(()) = passes.push(pass) else {
+            return None;
+        };
+        owner = Some(forest);
+    }
+    Some((owner, passes))
+}
+
+/// The passes of a trie that these handles hold, and their forest, which nobody else shares.
+fn gather_trie(
+    alloc: Global,
+    places: Vec<HandleSlot>,
+) -> Option<(Forest<Numbers<ByBits>>, Vec<Pass<Numbers<ByBits>>>)>
+    requires { AreOfOne (held_in places.items) }
+    ensures of { IfSome result (λ r. All (IsOf r.0) r.1.items) }
+    ensures are { IfSome result (λ r. map pass_in (held_in places.items) ≡ map Some r.1.items) }
+{
+    let (owner, passes) = take_trie(alloc, places)?;
+    match Arc::try_unwrap(owner?) {
+        Ok(forest) => Some((forest, passes)),
+        Err(_) => None,
+    }
+}
+
+/// The passes of a trie that these handles hold, and the last one's owner of the forest.
+fn take_trie(
+    alloc: Global,
+    places: Vec<HandleSlot>,
+) -> Option<
+    (
+        Option<Arc<Forest<Numbers<ByBits>>>>,
+        Vec<Pass<Numbers<ByBits>>>,
+    ),
+>
+    ensures are { IfSome result (λ r. map pass_in (held_in places.items) ≡ map Some r.1.items) }
+    ensures owner { IfSome result (λ r. (f : Ground) → All (IsIn f) (held_in places.items) → IfSome r.0 (λ a. arc_value a ≡ f)) }
+{
+    let mut passes = Vec::new(alloc);
+    let mut owner = None;
+    for place in places {
+        let HandleSlot { handle, unused: _ } = place;
+        let Some(client) = handle.into_box() else {
+            return None;
+        };
+        let OwnedPass::Trie(held) = Box::into_inner(client) else {
+            return None;
+        };
+        let Held {
+            forest,
+            pass,
+            all: _,
+        } = held;
         let Ok(()) = passes.push(pass) else {
             return None;
         };
@@ -123,10 +222,10 @@ fn take_apart(
 }
 
 /// Ends a forest by its passes, if all are there, and answers its pairs.
-fn end_by_all(
+fn end_by_all<B: FixedBalance>(
     alloc: Global,
-    forest: Forest<Numbers>,
-    passes: Vec<Pass<Numbers>>,
+    forest: Forest<Numbers<B>>,
+    passes: Vec<Pass<Numbers<B>>>,
 ) -> Option<Vec<(u64, u128)>>
     requires { All (IsOf forest) passes.items }
     ensures { IfSome result (λ pairs. AreLeftByAll forest.layout passes.items pairs.items) }

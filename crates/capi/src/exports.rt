@@ -12,6 +12,8 @@
 //! 5. The passes that `regnubas_end` is given are of one dictionary (`AreOfOne`).
 ghost use Rattle.std.specs.Prelude.{◌≡◌, None, length, min};
 ghost use Rattle.ordered_map.specs.OrderedMap.{call_insert, call_insert_new, call_delete, call_delete_if, call_pop_first, call_pop_last, call_replace_if, call_successor, call_predecessor};
+ghost use Rattle.arena.specs.declared.limits.Mode.TheVariants.{Tree, Trie};
+ghost use Rattle.regnubas.specs.Balance.{map_mode};
 ghost use Rattle.capi.specs.Ends.{AreOfOne, EndSays, held_in};
 ghost use Rattle.capi.specs.Answers.{number, no_value, no_count, CallSays, GetSays, EditSays, TakenSays, FoundSays, BetweenSays, LeftSays, CloseSays, MakeSays};
 
@@ -29,7 +31,26 @@ use std::alloc::Global;
 /// Makes a dictionary with as many passes as there are handles, one for each.
 #[unsafe(no_mangle)]
 pub extern "C" fn regnubas_make(alloc: Global, each: PassLimits, passes: &mut [HandleSlot]) -> u32
-    ensures { MakeSays each passes.old passes.new result }
+    ensures { MakeSays Tree each passes.old passes.new result }
+{
+    make(alloc, each, passes, false)
+}
+
+/// The same of a trie.
+#[unsafe(no_mangle)]
+pub extern "C" fn regnubas_make_trie(
+    alloc: Global,
+    each: PassLimits,
+    passes: &mut [HandleSlot],
+) -> u32
+    ensures { MakeSays Trie each passes.old passes.new result }
+{
+    make(alloc, each, passes, true)
+}
+
+/// Makes a dictionary, a trie or a tree.
+fn make(alloc: Global, each: PassLimits, passes: &mut [HandleSlot], trie: bool) -> u32
+    ensures { MakeSays (map_mode trie) each passes.old passes.new result }
 {
     if passes.len() > 32 {
         return LIMITS;
@@ -40,7 +61,7 @@ pub extern "C" fn regnubas_make(alloc: Global, each: PassLimits, passes: &mut [H
         scx: each.scx,
         tries: each.tries,
     };
-    match open(alloc, limits) {
+    match open(alloc, limits, trie) {
         Ok(mut places) => {
             passes.swap_with_slice(&mut places);
             NONE

@@ -4,14 +4,17 @@
 
 mod answer;
 mod client;
+mod close;
 mod end;
 mod exports;
 mod handle;
+mod held;
 mod loose;
 mod open;
 #[cfg(test)]
 mod tests;
 
 pub use answer::{Count, KeyValue, Left, PassLimits, Value, ValueAnswer};
-pub use client::{Closing, Numbers, OwnedPass};
+pub use client::{Closing, OwnedPass};
 pub use handle::{Handle, HandleSlot};
+pub use held::{Held, Numbers};

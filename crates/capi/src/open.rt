@@ -4,36 +4,53 @@ ghost use Rattle.std.specs.List.{All};
 ghost use Rattle.std.specs.Option.{option_map};
 ghost use Rattle.std.specs.Arc.{arc_value};
 ghost use Rattle.arena.specs.Limits.{IsAccepted};
+ghost use Rattle.arena.specs.declared.limits.Mode.TheVariants.{Tree, Trie};
 ghost use Rattle.forest.specs.Passes.{IsOf};
 ghost use Rattle.capi.specs.Made.{IsHeldOf, AreMade, pass_at};
+ghost use Rattle.capi.specs.Owned.{pass_of};
+ghost use Rattle.regnubas.specs.Balance.{map_mode};
 
-use crate::client::{Numbers, OwnedPass};
+use crate::client::OwnedPass;
 use crate::handle::{Handle, HandleSlot};
-use regnubas::{Forest, Limits, NewFault, NoMemory, Pass};
+use crate::held::{Held, Numbers};
+use regnubas::{ByBits, ByOrder, Forest, Limits, NewFault, NoMemory, Pass};
 use std::alloc::Global;
 use std::sync::Arc;
 
-/// A place for each pass of a new dictionary, with a handle that holds it.
-pub(crate) fn open(alloc: Global, limits: Limits) -> Result<Vec<HandleSlot>, NewFault>
+/// A place for each pass of a new dictionary, a trie or a tree, with a handle that holds it.
+pub(crate) fn open(alloc: Global, limits: Limits, trie: bool) -> Result<Vec<HandleSlot>, NewFault>
     ensures refused { (result ≡ Err NewFault.Limits) ↔ (¬ IsAccepted limits) }
-    ensures made { IfOk result (λ places. AreMade limits places.items) }
+    ensures made { IfOk result (λ places. AreMade (map_mode trie) limits places.items) }
     ensures count { IfOk result (λ places. vec_len places ≡ limits.passes) }
 {
-    let (forest, passes) = match Forest::<Numbers>::new(alloc, limits) {
+    if trie {
+        open_trie(alloc, limits)
+    } else {
+        open_tree(alloc, limits)
+    }
+}
+
+/// The same of a tree.
+fn open_tree(alloc: Global, limits: Limits) -> Result<Vec<HandleSlot>, NewFault>
+    ensures refused { (result ≡ Err NewFault.Limits) ↔ (¬ IsAccepted limits) }
+    ensures made { IfOk result (λ places. AreMade Tree limits places.items) }
+    ensures count { IfOk result (λ places. vec_len places ≡ limits.passes) }
+{
+    let (forest, passes) = match Forest::<Numbers<ByOrder>>::new(alloc, limits) {
         Ok(opened) => opened,
         Err(fault) => return Err(fault),
     };
-    match hand_out(alloc, forest, passes, limits.passes) {
+    match hand_out_tree(alloc, forest, passes, limits.passes) {
         Ok(places) => Ok(places),
         Err(NoMemory) => Err(NewFault::NoMemory),
     }
 }
 
-/// A place for each of these passes of a forest.
-fn hand_out(
+/// A place for each of these passes of a tree.
+fn hand_out_tree(
     alloc: Global,
-    forest: Forest<Numbers>,
-    passes: Vec<Pass<Numbers>>,
+    forest: Forest<Numbers<ByOrder>>,
+    passes: Vec<Pass<Numbers<ByOrder>>>,
     all: u32,
 ) -> Result<Vec<HandleSlot>, NoMemory>
     requires passes { All (IsOf forest) passes.items }
@@ -45,27 +62,84 @@ fn hand_out(
     let forest = Arc::new(alloc, forest)?;
     let mut places = Vec::new(alloc);
     for pass in passes {
-        places.push(HandleSlot::of(hand(alloc, &forest, pass, all)?))?;
+        places.push(HandleSlot::of(hand_tree(alloc, &forest, pass, all)?))?;
     }
     Ok(places)
 }
 
 /// A handle of this pass.
-fn hand(
+fn hand_tree(
     alloc: Global,
-    forest: &Arc<Forest<Numbers>>,
-    pass: Pass<Numbers>,
+    forest: &Arc<Forest<Numbers<ByOrder>>>,
+    pass: Pass<Numbers<ByOrder>>,
     all: u32,
 ) -> Result<Handle, NoMemory>
     requires pass { IsOf (arc_value forest.now) pass }
     requires all { all ≡ (arc_value forest.now).layout.passes }
     ensures of_forest { IfOk result (λ h. IsHeldOf (arc_value forest.now) h.value) }
-    ensures held { IfOk result (λ h. option_map (λ c. c.pass) h.value ≡ Some pass) }
+    ensures held { IfOk result (λ h. option_map pass_of h.value ≡ Some pass) }
 {
-    let client = OwnedPass {
+    let held = Held {
         forest: Arc::try_clone(forest)?,
         pass,
         all,
     };
-    Ok(Handle::holding(Box::new(alloc, client)?))
+    Ok(Handle::holding(Box::new(alloc, OwnedPass::Tree(held))?))
+}
+
+/// The same of a trie.
+fn open_trie(alloc: Global, limits: Limits) -> Result<Vec<HandleSlot>, NewFault>
+    ensures refused { (result ≡ Err NewFault.Limits) ↔ (¬ IsAccepted limits) }
+    ensures made { IfOk result (λ places. AreMade Trie limits places.items) }
+    ensures count { IfOk result (λ places. vec_len places ≡ limits.passes) }
+{
+    let (forest, passes) = match Forest::<Numbers<ByBits>>::new(alloc, limits) {
+        Ok(opened) => opened,
+        Err(fault) => return Err(fault),
+    };
+    match hand_out_trie(alloc, forest, passes, limits.passes) {
+        Ok(places) => Ok(places),
+        Err(NoMemory) => Err(NewFault::NoMemory),
+    }
+}
+
+/// A place for each of these passes of a trie.
+fn hand_out_trie(
+    alloc: Global,
+    forest: Forest<Numbers<ByBits>>,
+    passes: Vec<Pass<Numbers<ByBits>>>,
+    all: u32,
+) -> Result<Vec<HandleSlot>, NoMemory>
+    requires passes { All (IsOf forest) passes.items }
+    requires all { all ≡ forest.layout.passes }
+    ensures count { IfOk result (λ places. vec_len places ≡ vec_len passes) }
+    ensures of_forest { IfOk result (λ places. All (λ p. IsHeldOf forest p.handle.value) places.items) }
+    ensures held { IfOk result (λ places. map pass_at places.items ≡ map Some passes.items) }
+{
+    let forest = Arc::new(alloc, forest)?;
+    let mut places = Vec::new(alloc);
+    for pass in passes {
+        places.push(HandleSlot::of(hand_trie(alloc, &forest, pass, all)?))?;
+    }
+    Ok(places)
+}
+
+/// A handle of this pass.
+fn hand_trie(
+    alloc: Global,
+    forest: &Arc<Forest<Numbers<ByBits>>>,
+    pass: Pass<Numbers<ByBits>>,
+    all: u32,
+) -> Result<Handle, NoMemory>
+    requires pass { IsOf (arc_value forest.now) pass }
+    requires all { all ≡ (arc_value forest.now).layout.passes }
+    ensures of_forest { IfOk result (λ h. IsHeldOf (arc_value forest.now) h.value) }
+    ensures held { IfOk result (λ h. option_map pass_of h.value ≡ Some pass) }
+{
+    let held = Held {
+        forest: Arc::try_clone(forest)?,
+        pass,
+        all,
+    };
+    Ok(Handle::holding(Box::new(alloc, OwnedPass::Trie(held))?))
 }

@@ -3,9 +3,12 @@ ghost use Rattle.std.specs.Prelude.{IsTrue};
 ghost use Rattle.capi.specs.Ends.{AreOfOne, held_in};
 
 use crate::answer::{Count, KeyValue, NO_PASS, NONE, PassLimits, SOME, Value, ValueAnswer};
-use crate::exports::{regnubas_end, regnubas_get, regnubas_insert, regnubas_make};
+use crate::exports::{
+    regnubas_end, regnubas_get, regnubas_insert, regnubas_make, regnubas_make_trie,
+};
 use crate::handle::{Handle, HandleSlot};
 use std::alloc::Global;
+use std::process::Abort;
 use std::test::Fail;
 
 const EACH: PassLimits = PassLimits {
@@ -34,11 +37,15 @@ fn nowhere(alloc: Global) -> HandleSlot {
     HandleSlot::of(Handle::empty(alloc))
 }
 
-/// Makes a dictionary of these passes.
-fn made(alloc: Global, passes: &mut [HandleSlot]) -> bool
+/// Makes a dictionary of these passes, a trie or a tree.
+fn made(alloc: Global, trie: bool, passes: &mut [HandleSlot]) -> bool
     ensures { IsTrue result → AreOfOne (held_in passes.new) }
 {
-    regnubas_make(alloc, EACH, passes) == NONE
+    if trie {
+        regnubas_make_trie(alloc, EACH, passes) == NONE
+    } else {
+        regnubas_make(alloc, EACH, passes) == NONE
+    }
 }
 
 /// One of the passes puts a new key in.
@@ -52,15 +59,14 @@ fn put_by(alloc: Global, passes: &mut [HandleSlot], at: usize, key: u64, value: 
     regnubas_insert(alloc, &mut passes[at], key, value).status == NONE
 }
 
-#[test]
-fn all_passes_end_it(rt: HostRuntime) -> Result<(), Fail> {
-    let alloc = rt.alloc();
+/// All passes of a dictionary end it, a trie or a tree.
+fn all_end_it(rt: &impl Abort, alloc: Global, trie: bool) -> Result<(), Fail> {
     let mut passes = [nowhere(alloc), nowhere(alloc)];
     let mut room = [KeyValue {
         key: 0,
         value: OTHER,
     }; 4];
-    assert!(rt; made(alloc, &mut passes));
+    assert!(rt; made(alloc, trie, &mut passes));
     assert!(rt; put_by(alloc, &mut passes, 1, 7, WIDE));
     assert!(rt; put_by(alloc, &mut passes, 0, 9, OTHER));
     let ended = regnubas_end(alloc, &mut passes, &mut room);
@@ -70,4 +76,10 @@ fn all_passes_end_it(rt: HostRuntime) -> Result<(), Fail> {
     let [mut first, _second] = passes;
     assert_eq!(rt; told(regnubas_get(alloc, &mut first, 7)), (NO_PASS, 0, 0));
     Ok(())
+}
+
+#[test]
+fn all_passes_end_it(rt: HostRuntime) -> Result<(), Fail> {
+    all_end_it(&rt, rt.alloc(), false)?;
+    all_end_it(&rt, rt.alloc(), true)
 }

@@ -12,7 +12,7 @@ mod stopped;
 mod threads;
 
 use arena::Limits;
-use dict::{Dict, WordKey, WordValue};
+use dict::{Dict, FixedBalance, WordKey, WordValue};
 use forest::{Closed, Forest, Pass};
 use std::alloc::{AllocError, Global};
 use std::test::Fail;
@@ -30,10 +30,10 @@ fn limits(passes: u32, nodes: u32, scx: u32) -> Limits {
 }
 
 /// Ends the forest, if all its passes are there.
-fn closed<K: WordKey, V: WordValue>(
-    forest: Forest<Dict<K, V>>,
-    passes: Vec<Pass<Dict<K, V>>>,
-) -> Option<Closed<Dict<K, V>>>
+fn closed<K: WordKey, V: WordValue, B: FixedBalance>(
+    forest: Forest<Dict<K, V, B>>,
+    passes: Vec<Pass<Dict<K, V, B>>>,
+) -> Option<Closed<Dict<K, V, B>>>
     requires { All (IsOf forest) passes.items }
 {
     if forest.all_back(&passes) {
@@ -44,10 +44,10 @@ fn closed<K: WordKey, V: WordValue>(
 }
 
 /// Ends the forest, and answers its pairs, if all its passes are there.
-fn end<K: WordKey, V: WordValue>(
+fn end<K: WordKey, V: WordValue, B: FixedBalance>(
     alloc: Global,
-    forest: Forest<Dict<K, V>>,
-    passes: Vec<Pass<Dict<K, V>>>,
+    forest: Forest<Dict<K, V, B>>,
+    passes: Vec<Pass<Dict<K, V, B>>>,
 ) -> Option<Vec<(K, V)>>
     requires { All (IsOf forest) passes.items }
 {

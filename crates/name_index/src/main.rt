@@ -6,13 +6,13 @@ ghost use Rattle.std.specs.List.{All};
 ghost use Rattle.regnubas.specs.Passes.{IsOf};
 
 use anyhow::{Result, bail};
-use regnubas::{Dict, Forest, Limits, Name8, Pass, PassNo, UpdateFault};
+use regnubas::{Forest, Limits, Name8, Pass, PassNo, Trie, UpdateFault};
 use std::alloc::{AllocError, Global};
 use std::sync::atomic::{AtomicU64, Ordering};
 use std::thread::{Threads, map_vec};
 
 /// From names of up to 8 characters to the pages on which they are.
-type Index = Dict<Name8, u32>;
+type Index = Trie<Name8, u32>;
 
 /// A pass for each thread. A new name takes three nodes at most and an SCX-record, which are never
 /// given back.

@@ -9,13 +9,13 @@ ghost use Rattle.regnubas.specs.Passes.{IsOf};
 
 use anyhow::Result;
 use due::Due;
-use regnubas::{Dict, Forest, Limits, Pass, UpdateFault};
+use regnubas::{Forest, Limits, Pass, Trie, UpdateFault};
 use std::alloc::{AllocError, Global};
 use std::sync::atomic::{AtomicU64, Ordering};
 use std::thread::{Threads, map_vec};
 
 /// From when a job is due to how often it is still to run.
-type Queue = Dict<Due, u32>;
+type Queue = Trie<Due, u32>;
 
 /// A pass for each thread. A job that is put in takes three nodes at most, one that is taken out
 /// another.

@@ -3,7 +3,7 @@
 ghost use Rattle.ordered_map.specs.Requests.{AsksForFew};
 ghost use Rattle.forest.specs.Passes.{IsOf};
 
-use dict::{Dict, Reply, Request, WordKey, WordValue};
+use dict::{Dict, FixedBalance, Reply, Request, WordKey, WordValue};
 use forest::{Forest, OrderFault, Pass, UpdateFault};
 use std::alloc::Global;
 
@@ -59,11 +59,11 @@ impl<K: WordKey, V: WordValue> Call<K, V> {
     }
 
     /// Makes it, all at once.
-    pub(super) fn make(
+    pub(super) fn make<B: FixedBalance>(
         self,
         alloc: Global,
-        forest: &Forest<Dict<K, V>>,
-        pass: &mut Pass<Dict<K, V>>,
+        forest: &Forest<Dict<K, V, B>>,
+        pass: &mut Pass<Dict<K, V, B>>,
     ) -> Reply<K, V>
         requires { IsOf forest.now pass.old }
         ensures { IsOf forest.now pass.new }
@@ -121,10 +121,10 @@ fn found_told<K: WordKey, V: WordValue>(told: Result<Option<(K, V)>, OrderFault>
     }
 }
 
-fn range<K: WordKey, V: WordValue>(
+fn range<K: WordKey, V: WordValue, B: FixedBalance>(
     alloc: Global,
-    forest: &Forest<Dict<K, V>>,
-    pass: &mut Pass<Dict<K, V>>,
+    forest: &Forest<Dict<K, V, B>>,
+    pass: &mut Pass<Dict<K, V, B>>,
     low: K,
     high: K,
     most: u32,

@@ -16,14 +16,14 @@ use arena::Kind::{
     Abort as GiveUp, Commit, Fill, Freeze, LoadAllFrozen, LoadChild, LoadInfo, LoadMarked,
     LoadSettled, LoadState, Mark, SetFrozen, Update,
 };
-use dict::{Dict, Reply};
+use dict::{ByOrder, Dict, Reply};
 use forest::{Forest, OpenCall, Pass, Stepped};
 use std::alloc::{AllocError, Global};
 use std::process::Abort;
 use std::test::Fail;
 
-/// A dictionary of numbers.
-pub(super) type Numbers = Dict<u64, u64>;
+/// A dictionary of numbers, a tree or by `B` a trie.
+pub(super) type Numbers<B = ByOrder> = Dict<u64, u64, B>;
 
 /// A call of it that is held open.
 pub(super) type Held = OpenCall<u64, u64>;

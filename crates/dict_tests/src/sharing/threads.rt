@@ -10,7 +10,7 @@ use super::call::Call::{
 use super::call::pairs_told;
 use super::held::Numbers;
 use super::{end, limits};
-use dict::Reply;
+use dict::{ByBits, ByOrder, FixedBalance, Reply};
 use forest::{Forest, Pass};
 use std::alloc::{AllocError, Global};
 use std::process::Abort;
@@ -35,6 +35,18 @@ const WINDOW: u64 = 20;
 /// How many threads put in the same keys.
 const RIVALS: u64 = 8;
 
+/// How many jobs a scheduler's thread puts in in a round.
+const JOBS: u64 = 8;
+
+/// In so many of its first rounds it takes none out.
+const FILLING: u64 = 50;
+
+/// How many jobs wait once two threads have done so.
+const WAITING: usize = 2 * (JOBS * FILLING) as usize;
+
+/// So many races of two schedulers' threads make a million calls.
+const SCHEDULES: usize = 33;
+
 /// What a thread does in each of its rounds.
 #[derive(Clone, Copy)]
 enum Work {
@@ -53,6 +65,9 @@ enum Work {
     Pop,
     /// It makes one of the eleven calls. What this adds to the sum of the pairs comes out.
     Any,
+    /// It puts in keys that rise, and takes the first pair out after each, as two schedulers' threads
+    /// do. What this adds to the sum of the pairs comes out.
+    Schedule,
     /// It adds one to the value of the key 0, until it has done so as many times as it is to.
     Count,
 }
@@ -79,10 +94,10 @@ fn is_told(out: Out, want: Option<u64>) -> Out {
 }
 
 /// Makes a call, again where it was contended.
-fn reply_of(
+fn reply_of<B: FixedBalance>(
     alloc: Global,
-    forest: &Forest<Numbers>,
-    pass: &mut Pass<Numbers>,
+    forest: &Forest<Numbers<B>>,
+    pass: &mut Pass<Numbers<B>>,
     call: Call<u64, u64>,
 ) -> Option<Reply<u64, u64>>
     requires { IsOf forest.now pass.old }
@@ -98,10 +113,10 @@ fn reply_of(
 }
 
 /// Makes an edit.
-fn ask(
+fn ask<B: FixedBalance>(
     alloc: Global,
-    forest: &Forest<Numbers>,
-    pass: &mut Pass<Numbers>,
+    forest: &Forest<Numbers<B>>,
+    pass: &mut Pass<Numbers<B>>,
     edit: Call<u64, u64>,
 ) -> Out
     requires { IsOf forest.now pass.old }
@@ -112,7 +127,11 @@ fn ask(
 
 /// Adds one to the value of the key 0, and answers what it was. If another thread has changed it
 /// meanwhile, or was in the way, it is read again.
-fn count_up(alloc: Global, forest: &Forest<Numbers>, pass: &mut Pass<Numbers>) -> Out
+fn count_up<B: FixedBalance>(
+    alloc: Global,
+    forest: &Forest<Numbers<B>>,
+    pass: &mut Pass<Numbers<B>>,
+) -> Out
     requires { IsOf forest.now pass.old }
     ensures { IsOf forest.now pass.new }
 {
@@ -127,7 +146,12 @@ fn count_up(alloc: Global, forest: &Forest<Numbers>, pass: &mut Pass<Numbers>) -
 }
 
 /// Puts in the key after the window's last, and takes out its first once there are enough.
-fn move_window(alloc: Global, forest: &Forest<Numbers>, pass: &mut Pass<Numbers>, round: u64) -> Out
+fn move_window<B: FixedBalance>(
+    alloc: Global,
+    forest: &Forest<Numbers<B>>,
+    pass: &mut Pass<Numbers<B>>,
+    round: u64,
+) -> Out
     requires { IsOf forest.now pass.old }
     ensures { IsOf forest.now pass.new }
 {
@@ -155,7 +179,11 @@ fn is_window(pairs: &[(u64, u64)]) -> bool {
 }
 
 /// Looks at the window, and answers how many keys it has seen. A look that is refused sees nothing.
-fn see_window(alloc: Global, forest: &Forest<Numbers>, pass: &mut Pass<Numbers>) -> Out
+fn see_window<B: FixedBalance>(
+    alloc: Global,
+    forest: &Forest<Numbers<B>>,
+    pass: &mut Pass<Numbers<B>>,
+) -> Out
     requires { IsOf forest.now pass.old }
     ensures { IsOf forest.now pass.new }
 {
@@ -178,7 +206,12 @@ fn mixed(value: u64) -> Call<u64, u64> {
 
 /// Puts in a key where it is absent, with this thread's value of it, which is answered if it was.
 /// If it was not, the key had the value of another thread.
-fn put_new(alloc: Global, forest: &Forest<Numbers>, pass: &mut Pass<Numbers>, key: u64) -> Out
+fn put_new<B: FixedBalance>(
+    alloc: Global,
+    forest: &Forest<Numbers<B>>,
+    pass: &mut Pass<Numbers<B>>,
+    key: u64,
+) -> Out
     requires { IsOf forest.now pass.old }
     ensures { IsOf forest.now pass.new }
 {
@@ -239,10 +272,10 @@ fn changed(
 }
 
 /// Makes a call, and answers what it adds to the sum of the pairs.
-fn add_up(
+fn add_up<B: FixedBalance>(
     alloc: Global,
-    forest: &Forest<Numbers>,
-    pass: &mut Pass<Numbers>,
+    forest: &Forest<Numbers<B>>,
+    pass: &mut Pass<Numbers<B>>,
     call: Call<u64, u64>,
 ) -> Out
     requires { IsOf forest.now pass.old }
@@ -257,17 +290,55 @@ fn add_up(
     }
 }
 
+/// Puts a job in, and, once enough wait, takes the first one out: there is one, since no thread has
+/// taken out more than it has put in.
+fn schedule<B: FixedBalance>(
+    alloc: Global,
+    forest: &Forest<Numbers<B>>,
+    pass: &mut Pass<Numbers<B>>,
+    job: u64,
+) -> Out
+    requires { IsOf forest.now pass.old }
+    ensures { IsOf forest.now pass.new }
+{
+    let key = job.wrapping_mul(2).wrapping_add(u64::from(pass.number().0));
+    let put = add_up(alloc, forest, pass, Insert(key, job))??;
+    if job < FILLING * JOBS {
+        return Some(Some(put));
+    }
+    let taken = add_up(alloc, forest, pass, PopFirst)??;
+    Some(Some(put.wrapping_add(taken)))
+}
+
+/// Does so with the jobs of a round.
+fn schedule_all<B: FixedBalance>(
+    alloc: Global,
+    forest: &Forest<Numbers<B>>,
+    pass: &mut Pass<Numbers<B>>,
+    round: u64,
+) -> Out
+    requires { IsOf forest.now pass.old }
+    ensures { IsOf forest.now pass.new }
+{
+    let mut sum = 0u64;
+    for number in 0..JOBS {
+        let job = round.wrapping_mul(JOBS).wrapping_add(number);
+        sum = sum.wrapping_add(schedule(alloc, forest, pass, job)??);
+    }
+    Some(Some(sum))
+}
+
 /// A number that depends on all of this one.
 fn stirred(number: u64) -> u64 {
     number.wrapping_mul(11_400_714_819_323_198_485) / 65_536
 }
 
 /// A round of a thread.
-fn make_round(
+fn make_round<B: FixedBalance>(
     alloc: Global,
-    forest: &Forest<Numbers>,
+    forest: &Forest<Numbers<B>>,
     work: Work,
-    pass: &mut Pass<Numbers>,
+    pass: &mut Pass<Numbers<B>>,
     round: u64,
 ) -> Out
     requires { IsOf forest.now pass.old }
@@ -294,18 +365,19 @@ fn make_round(
         Work::Pop => ask(alloc, forest, pass, PopLast),
         Work::Any if round < CALLS => add_up(alloc, forest, pass, any(stirred(value))),
         Work::Any => Some(None),
+        Work::Schedule => schedule_all(alloc, forest, pass, round),
         Work::Count if round < COUNTS => count_up(alloc, forest, pass),
         Work::Count => Some(None),
     }
 }
 
 /// The rounds of a thread.
-fn make_rounds(
+fn make_rounds<B: FixedBalance>(
     alloc: Global,
-    forest: &Forest<Numbers>,
+    forest: &Forest<Numbers<B>>,
     work: Work,
-    mut pass: Pass<Numbers>,
-) -> (Pass<Numbers>, Outs)
+    mut pass: Pass<Numbers<B>>,
+) -> (Pass<Numbers<B>>, Outs)
     requires { IsOf forest.now pass }
     ensures { IsOf forest.now result.0 }
 {
@@ -317,11 +389,11 @@ fn make_rounds(
 }
 
 /// The passes, and what came out.
-fn part(
+fn part<B: FixedBalance>(
     alloc: Global,
-    forest: &Forest<Numbers>,
-    workers: Vec<(Pass<Numbers>, Outs)>,
-) -> Result<(Vec<Pass<Numbers>>, Vec<Outs>), AllocError>
+    forest: &Forest<Numbers<B>>,
+    workers: Vec<(Pass<Numbers<B>>, Outs)>,
+) -> Result<(Vec<Pass<Numbers<B>>>, Vec<Outs>), AllocError>
     requires { All (λ w. IsOf forest.now w.0) workers.items }
     ensures { IfOk result (λ r. All (IsOf forest.now) r.0.items) }
 {
@@ -419,6 +491,7 @@ impl Ended {
                 self.has_keys(0, many) && pairs.all(|(key, value)| *key == value / RIVALS)
             }
             Left::Count(value) => self.pairs.as_slice() == [(0, value)].as_slice(),
+            Left::Many(many) => self.pairs.len() == many,
             Left::Some => true,
         }
     }
@@ -441,6 +514,8 @@ enum Left {
     News(usize),
     /// The key 0, with this value.
     Count(u64),
+    /// This many.
+    Many(usize),
     /// Any.
     Some,
 }
@@ -465,13 +540,13 @@ fn are_steps(values: &[u64], (many, step): (usize, u64)) -> bool {
 }
 
 /// The passes work, each in a thread of its own.
-fn worked<R: Threads + Sync>(
+fn worked<R: Threads + Sync, B: FixedBalance + Send + Sync>(
     rt: &R,
     alloc: Global,
-    forest: &Forest<Numbers>,
+    forest: &Forest<Numbers<B>>,
     work: Work,
-    passes: Vec<Pass<Numbers>>,
-) -> Result<(Vec<Pass<Numbers>>, Vec<Outs>), AllocError>
+    passes: Vec<Pass<Numbers<B>>>,
+) -> Result<(Vec<Pass<Numbers<B>>>, Vec<Outs>), AllocError>
     requires { All (IsOf forest.now) passes.items }
     ensures { IfOk result (λ r. All (IsOf forest.now) r.0.items) }
 {
@@ -481,13 +556,17 @@ fn worked<R: Threads + Sync>(
 
 /// This many threads do these works, one after the other, and then the forest is closed. The result
 /// is that of the second.
-fn raced<R: Threads + Sync>(
+fn raced<R: Threads + Sync, B: FixedBalance + Send + Sync>(
     rt: &R,
     alloc: Global,
     threads: u32,
     works: [Work; 2],
 ) -> Result<Ended, Fail> {
-    let share = if threads <= 8 { 20_000 } else { 2_000 };
+    let share = match threads {
+        0..=2 => 32_768,
+        3..=8 => 20_000,
+        _ => 2_000,
+    };
     let Ok((forest, passes)) = Forest::<Numbers>::new(alloc, limits(threads, share, share)) else {
         return Err("no forest".into());
     };
@@ -536,11 +615,33 @@ const RACES: [Race; 7] = [
     ),
 ];
 
-#[test]
-fn threads_share_a_dictionary(rt: HostRuntime) -> Result<(), Fail> {
-    for (threads, works, left, come) in RACES {
-        let ended = raced(&rt, rt.alloc(), threads, works)?;
-        ended.is_as(&rt, rt.alloc(), left, come)?;
+/// Two schedulers' threads.
+const SCHEDULE: Race = (2, [NOTHING, Work::Schedule], Left::Many(WAITING), Come::Sum);
+
+/// Each of these races on a dictionary of this kind is as it is to be.
+fn races_are_right<R: Threads + Sync + Abort, B: FixedBalance + Send + Sync>(
+    rt: &R,
+    alloc: Global,
+    races: &[Race],
+) -> Result<(), Fail> {
+    for (threads, works, left, come) in races {
+        let ended = raced::<R, B>(rt, alloc, *threads, *works)?;
+        ended.is_as(rt, alloc, *left, *come)?;
     }
     Ok(())
+}
+
+#[test]
+fn threads_share_a_tree(rt: HostRuntime) -> Result<(), Fail> {
+    races_are_right::<HostRuntime, ByOrder>(&rt, rt.alloc(), &RACES)
+}
+
+#[test]
+fn threads_share_a_trie(rt: HostRuntime) -> Result<(), Fail> {
+    races_are_right::<HostRuntime, ByBits>(&rt, rt.alloc(), &RACES)
+}
+
+#[test]
+fn two_schedulers_share_a_trie(rt: HostRuntime) -> Result<(), Fail> {
+    races_are_right::<HostRuntime, ByBits>(&rt, rt.alloc(), &[SCHEDULE; SCHEDULES])
 }

@@ -3,10 +3,10 @@ use Rattle.forest.specs.Passes.{PassView, AreAllBack}
 use Rattle.capi.proofs.end.end_by_all.Goals as goal
 
 pub close-requires-clause-all : goal.close-requires-clause-all
-close-requires-clause-all c = subst (λ (ps : List PassView). AreAllBack c.args.forest.layout ps) c.deref.ensures.value (c.all_back.ensures.0 c.if-not-all_back.false)
+close-requires-clause-all g c = subst (λ (ps : List PassView). AreAllBack c.args.forest.layout ps) c.deref.ensures.value (c.all_back.ensures.0 c.if-not-all_back.false)
 
 pub returns-in-Ok : goal.returns-in-Ok
-returns-in-Ok c = record {
+returns-in-Ok g c = record {
   layouts = λ k d inside. (c.requires k d inside).1;
   all = subst (λ (ps : List PassView). AreAllBack c.args.forest.layout ps) c.deref.ensures.value (c.all_back.ensures.0 c.if-not-all_back.false);
   words = c.close.result;

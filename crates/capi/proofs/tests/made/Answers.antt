@@ -1,6 +1,7 @@
 use Rattle.std.proofs.Common.{◌≡◌, ◌==◌, ◌⊎◌, ℕ, true, List, inl, inr, subst}
 use Rattle.std.proofs.lemmas.Bool.{false≢true}
 use Rattle.std.proofs.lemmas.List.Elements.{All-map, All-weaker}
+use Rattle.arena.specs.declared.limits.Mode.{Mode}
 use Rattle.capi.specs.declared.answer.PassLimits.{PassLimits}
 use Rattle.capi.specs.declared.handle.HandleSlot.{HandleSlot}
 use Rattle.capi.specs.Answers.{MakeSays}
@@ -13,12 +14,15 @@ refused : (X : Type 0) (status : ℕ) → ((status ≡ 5) × X) ⊎ (status ≡ 
 refused X status (inl limits) done = false≢true (subst (λ (n : ℕ). (n == 0) ≡ true) limits.0 done)
 refused X status (inr memory) done = false≢true (subst (λ (n : ℕ). (n == 0) ≡ true) memory done)
 
-are_of_one : (each : PassLimits) (before after : List HandleSlot) (status : ℕ) → MakeSays each before after status → (status == 0) ≡ true → AreOfOne (held_in after)
-are_of_one each before after status (inl made) done = record {
+are_of_one : (mode : Mode) (each : PassLimits) (before after : List HandleSlot) (status : ℕ) → MakeSays mode each before after status → (status == 0) ≡ true → AreOfOne (held_in after)
+are_of_one mode each before after status (inl made) done = record {
   forest = made.1.forest;
   of_forest = All-map (IsIn made.1.forest) value_of after (All-weaker (λ (p : HandleSlot). IsHeldOf made.1.forest p.handle.value) (λ (p : HandleSlot). IsIn made.1.forest p.handle.value) (λ p. held_is_in made.1.forest p.handle.value) after made.1.of_forest);
 }
-are_of_one each before after status (inr not_made) done = absurd (refused _ status not_made.why done)
+are_of_one mode each before after status (inr not_made) done = absurd (refused _ status not_made.why done)
 
-pub returns : goal.returns
-returns c = are_of_one _ c.args.passes.now c.regnubas_make.new.passes c.regnubas_make.result c.regnubas_make.ensures
+pub returns-1 : goal.returns-1
+returns-1 c = are_of_one _ _ c.args.passes.now c.regnubas_make_trie.new.passes c.regnubas_make_trie.result c.regnubas_make_trie.ensures
+
+pub returns-2 : goal.returns-2
+returns-2 c = are_of_one _ _ c.args.passes.now c.regnubas_make.new.passes c.regnubas_make.result c.regnubas_make.ensures

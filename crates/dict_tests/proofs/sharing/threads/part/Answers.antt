@@ -4,7 +4,7 @@ use Rattle.forest.specs.Passes.{PassView, IsOf}
 use Rattle.dict_tests.proofs.sharing.threads.part.Goals as goal
 
 pub loop-pass-preserved : goal.loop-pass-preserved
-loop-pass-preserved c =
+loop-pass-preserved g c =
     let P : PassView → Type 0 = IsOf c.args.forest.now in
     let inv = c.loop-pass.invariant in (
       tt,

@@ -2,7 +2,7 @@ use Rattle.std.proofs.Common.{◌≡◌, All, IfSome, Some, map}
 use Rattle.std.specs.Arc.{arc_value}
 use Rattle.forest.specs.Passes.{Ground}
 use Rattle.capi.specs.Ends.{IsIn, held_in, pass_in}
-use Rattle.capi.proofs.end.take_apart.Given as goal
+use Rattle.capi.proofs.end.take_tree.Given as goal
 
 abbrev pub invariant-loop-place : goal.invariant-loop-place
 invariant-loop-place l = record {

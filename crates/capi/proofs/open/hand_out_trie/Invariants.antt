@@ -1,7 +1,7 @@
 use Rattle.std.proofs.Common.{◌≡◌, Some, vec_len, length, map}
 use Rattle.std.specs.List.{All}
 use Rattle.capi.specs.Made.{IsHeldOf, pass_at}
-use Rattle.capi.proofs.open.hand_out.Given as goal
+use Rattle.capi.proofs.open.hand_out_trie.Given as goal
 
 abbrev pub invariant-loop-pass : goal.invariant-loop-pass
 invariant-loop-pass l = record {

@@ -2,7 +2,7 @@ use Rattle.std.proofs.Common.{List, map, sym, ◌∙◌, ap}
 use Rattle.capi.specs.declared.handle.HandleSlot.{HandleSlot}
 use Rattle.capi.specs.Ends.{held_in, pass_in}
 use Rattle.capi.proofs.Ends.{some_so}
-use Rattle.capi.proofs.end.end.Goals as goal
+use Rattle.capi.proofs.end.end_tree.Goals as goal
 
 pub returns-clause-left : goal.returns-clause-left
 returns-clause-left c = some_so c.end_by_all.result _ _ _ (λ pairs left. record {

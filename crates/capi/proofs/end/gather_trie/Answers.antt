@@ -2,7 +2,7 @@ use Rattle.std.proofs.Common.{All, sym, ◌∙◌, subst}
 use Rattle.forest.specs.Passes.{Ground, IsOf}
 use Rattle.capi.specs.Ends.{held_in}
 use Rattle.capi.proofs.Ends.{all_are_of, in_some}
-use Rattle.capi.proofs.end.gather.Goals as goal
+use Rattle.capi.proofs.end.gather_trie.Goals as goal
 
 pub returns-in-Ok-clause-of : goal.returns-in-Ok-clause-of
 returns-in-Ok-clause-of c =

@@ -12,7 +12,7 @@ use Rattle.forest.specs.Passes.{Ground, PassView, IsOf, IsClosed, done_of, run_o
 use Rattle.forest.specs.Shares.{entries_of}
 use Rattle.forest.specs.TableRule.{history_of}
 use Rattle.capi.specs.Left.{AreLeft}
-use Rattle.capi.proofs.client.OwnedPass.close.Goals as goal
+use Rattle.capi.proofs.close.close_tree.Goals as goal
 
 module _ (f : Ground) (p : PassView) (of : IsOf f p) (words : Contents) (closed : IsClosed (TypedAllows IsNumber IsWideNumber) f.layout (p ∷ []) words) where
   -- the run at the end
@@ -31,5 +31,5 @@ module _ (f : Ground) (p : PassView) (of : IsOf f p) (words : Contents) (closed 
 pub returns-in-Ok-pairs : goal.returns-in-Ok-pairs
 returns-in-Ok-pairs c =
     let f = c.in-Ok.forest in
-    let p = c.args.self.pass in
-    left f p (subst (λ (g : Ground). IsOf g p) (sym c.in-Ok.ensures.ok) c.args.self.of) c.end.result c.end.ensures.closed c.in-Ok-pairs.pairs.items (c.in-Ok-pairs.ensures.pairs f.layout (p ∷ []) c.end.ensures.closed)
+    let p = c.args.held.pass in
+    left f p (subst (λ (g : Ground). IsOf g p) (sym c.in-Ok.ensures.ok) c.args.held.of) c.end.result c.end.ensures.closed c.in-Ok-pairs.pairs.items (c.in-Ok-pairs.ensures.pairs f.layout (p ∷ []) c.end.ensures.closed)

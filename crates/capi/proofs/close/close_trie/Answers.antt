@@ -1,0 +1,35 @@
+use Rattle.std.proofs.Common.{◌≡◌, ℕ, List, [], ◌∷◌, map, sym, subst}
+use Rattle.arena.specs.declared.layout.Layout.{Layout}
+use Rattle.arena.specs.History.{History, value, Extends}
+use Rattle.arena.specs.Log.{log}
+use Rattle.arena.specs.Machines.{IsRun}
+use Rattle.arena.specs.PlainWords.{Contents}
+use Rattle.dict.specs.Typed.{TypedAllows}
+use Rattle.dict.specs.Words.{IsNumber, IsWideNumber}
+use Rattle.ordered_map.specs.Replies.{word_pair}
+use Rattle.ordered_map.specs.Spelled.{Spells}
+use Rattle.forest.specs.Passes.{Ground, PassView, IsOf, IsClosed, done_of, run_of}
+use Rattle.forest.specs.Shares.{entries_of}
+use Rattle.forest.specs.TableRule.{history_of}
+use Rattle.capi.specs.Left.{AreLeft}
+use Rattle.capi.proofs.close.close_trie.Goals as goal
+
+module _ (f : Ground) (p : PassView) (of : IsOf f p) (words : Contents) (closed : IsClosed (TypedAllows IsNumber IsWideNumber) f.layout (p ∷ []) words) where
+  -- the run at the end
+  abbrev run : History
+  run = history_of f.layout.mode closed.rows
+
+  left : (pairs : List (ℕ × ℕ)) → Spells f.layout (value run) (map (word_pair (λ k. k) (λ v. v)) pairs) → AreLeft p pairs
+  left pairs spelled = record {
+    run = run;
+    sound = subst (λ (l : Layout). IsRun (TypedAllows IsNumber IsWideNumber) l run) (sym of.1) closed.sound;
+    goes_on = subst (λ (l : Layout). Extends (history_of l.mode closed.rows) (run_of p)) of.1 closed.begun.0;
+    done = subst (λ (l : Layout). entries_of p.number (log p.layout (history_of l.mode closed.rows)) ≡ done_of p) of.1 closed.begun.1;
+    spelled = subst (λ (l : Layout). Spells l (value run) (map (word_pair (λ k. k) (λ v. v)) pairs)) (sym of.1) spelled;
+  }
+
+pub returns-in-Ok-pairs : goal.returns-in-Ok-pairs
+returns-in-Ok-pairs c =
+    let f = c.in-Ok.forest in
+    let p = c.args.held.pass in
+    left f p (subst (λ (g : Ground). IsOf g p) (sym c.in-Ok.ensures.ok) c.args.held.of) c.end.result c.end.ensures.closed c.in-Ok-pairs.pairs.items (c.in-Ok-pairs.ensures.pairs f.layout (p ∷ []) c.end.ensures.closed)
