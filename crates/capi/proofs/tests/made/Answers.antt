@@ -21,8 +21,8 @@ are_of_one mode each before after status (inl made) done = record {
 }
 are_of_one mode each before after status (inr not_made) done = absurd (refused _ status not_made.why done)
 
-pub returns-1 : goal.returns-1
-returns-1 c = are_of_one _ _ c.args.passes.now c.regnubas_make_trie.new.passes c.regnubas_make_trie.result c.regnubas_make_trie.ensures
+pub returns-then-trie : goal.returns-then-trie
+returns-then-trie c = are_of_one _ _ c.args.passes.now c.regnubas_make_trie.new.passes c.regnubas_make_trie.result c.regnubas_make_trie.ensures
 
-pub returns-2 : goal.returns-2
-returns-2 c = are_of_one _ _ c.args.passes.now c.regnubas_make.new.passes c.regnubas_make.result c.regnubas_make.ensures
+pub returns-else-trie : goal.returns-else-trie
+returns-else-trie c = are_of_one _ _ c.args.passes.now c.regnubas_make.new.passes c.regnubas_make.result c.regnubas_make.ensures
