@@ -116,8 +116,6 @@ fn crowd<R: Threads + Sync, B: FixedBalance + Send>(
         passes,
         &|(number, pass): (u32, Pass<Numbers<B>>)|
             requires { IsOf forest.now pass }
-        {
-            rounds(alloc, forest, task, work, pass, task.keys_of_thread(number))
-        },
+        { rounds(alloc, forest, task, work, pass, task.keys_of_thread(number)) },
     )
 }
