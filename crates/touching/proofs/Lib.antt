@@ -1,0 +1,10 @@
+mod Moments
+mod Present
+mod Walks
+mod Helping
+mod Looking
+mod Changing
+mod Seen
+mod Updating
+mod Reading
+mod Calling

@@ -1,0 +1,6 @@
+//! Which words a call touches, and that it comes to no other.
+#![tactic(auto)]
+
+mod laws;
+
+pub use laws::{calls_touch, machines_touch, parts_touch, walks_touch};
