@@ -1,8 +1,7 @@
 -- VLX comes to the infos of the nodes of its snapshots, and SCX to its own SCX-record besides.
 use Rattle.std.proofs.Common.{◌≡◌, ◌<◌, ℕ, List, length, sym, ◌∙◌, ap, subst}
-use Rattle.histories.specs.Common.{Layout, Step, ScxNo, History, Extends, member, count, count_of, IsTakenScx, IsRun, Call, begun_at}
+use Rattle.histories.specs.Common.{Layout, Step, ScxNo, History, Extends, count, count_of, IsTakenScx, IsRun, Call, begun_at}
 use Rattle.arena.proofs.Lemmas.{ends_self}
-use Rattle.prims.specs.Snap.{snap_at}
 use Rattle.prims.specs.Scx.Known.{Job, job_of, FillWaits, HasFilled, ScxWaitsAt, ScxWaits}
 use Rattle.prims.specs.Vlx.Known.{VlxWaits}
 use Rattle.prims.specs.declared.snap.Snap.{Snap}

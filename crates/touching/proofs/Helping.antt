@@ -1,6 +1,6 @@
 -- HELP comes to words of its SCX-record, and of the nodes that this covers.
 use Rattle.std.proofs.Common.{◌≡◌, ◌≢◌, ◌<◌, ℕ, refl, sym, ap, subst, arith}
-use Rattle.histories.specs.Common.{Layout, Step, Plan, Member, member_index, History, value, state, plan, member, count, count_of, field_index, Lawful, Call}
+use Rattle.histories.specs.Common.{Layout, Step, Plan, Member, member_index, History, value, state, member, count, count_of, field_index, Lawful, Call}
 use Rattle.histories.proofs.Lemmas.{facts, lawful_since, scx_since}
 use Rattle.help.specs.Help.Known.{Reading, reading, Marks, HelpKnows, HelpWaits, help_step}
 use Rattle.help.specs.declared.state.HelpRun.{HelpRun}

@@ -8,3 +8,5 @@ mod Seen
 mod Updating
 mod Reading
 mod Calling
+mod Fresh
+mod Dead

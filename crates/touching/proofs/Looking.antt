@@ -1,5 +1,5 @@
 -- LLX comes to its node, to what the info of that has named in the call, and to what it helps.
-use Rattle.std.proofs.Common.{◌≡◌, ℕ, Bool, sym, subst}
+use Rattle.std.proofs.Common.{ℕ, Bool, sym, subst}
 use Rattle.histories.specs.Common.{Layout, Step, ScxNo, History, Extends, IsRun, Call, begun_at}
 use Rattle.arena.proofs.Lemmas.{ends_self}
 use Rattle.prims.specs.Llx.Known.{HasMet, IsToBlame, LlxKnows, LlxHasAsked, LlxWaits}

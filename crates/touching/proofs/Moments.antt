@@ -1,16 +1,12 @@
 -- Moments of calls: what was so in a part of a call was so in the call.
-use Rattle.std.proofs.Common.{◌≡◌, ℕ, inl, inr, subst}
-use Rattle.histories.specs.Common.{Layout, Row, Word, Node, Scx, History, Opened, ◌⊳◌, Extends, IsTakenScx, IsTakenNode, Call, WasInTheWay, begun_at}
+use Rattle.std.proofs.Common.{ℕ, inl, inr, subst}
+use Rattle.histories.specs.Common.{Layout, Word, Node, Scx, History, Opened, ◌⊳◌, Extends, IsTakenScx, Call, WasInTheWay}
 use Rattle.arena.proofs.Lemmas.{ends_trans, taken_scx_more}
-use Rattle.prims.proofs.Lemmas.{taken_node_since}
 use Rattle.prims.specs.Laws.InTheWay.{HasBeen}
-use Rattle.touching.specs.Touches.{WasInProgress, WasSo, TouchesNode, was_so, covered, own_node, TouchesScx, named, in_progress, own_scx, Touches}
+use Rattle.touching.specs.Touches.{WasInProgress, TouchesNode, was_so, covered, own_node, TouchesScx, named, in_progress, own_scx, Touches}
 
 pub been_wider : (h begin start : History) (Q : History → Type 0) → Extends begin start → HasBeen h begin Q → HasBeen h start Q
 been_wider h begin start Q e x = record { moment = x.moment; within = x.within; since = ends_trans x.moment begin start x.since e; was = x.was }
-
-pub been_later : (h k start : History) (Q : History → Type 0) → Extends h k → HasBeen k start Q → HasBeen h start Q
-been_later h k start Q e x = record { moment = x.moment; within = ends_trans h k x.moment e x.within; since = x.since; was = x.was }
 
 -- what holds at each moment of a history hands on what was
 pub been_so : (h start : History) (Q R : History → Type 0) → ((m : History) → Extends h m → Q m → R m) → HasBeen h start Q → HasBeen h start R
@@ -25,22 +21,6 @@ pub taken_scx_since : (h m : History) (s : ℕ) → Extends h m → IsTakenScx m
 taken_scx_since (Opened o) m s e t = subst (λ k. IsTakenScx k s) e t
 taken_scx_since (r ⊳ h) m s (inl e) t = subst (λ k. IsTakenScx k s) e t
 taken_scx_since (r ⊳ h) m s (inr e) t = taken_scx_more r h s (taken_scx_since h m s e t)
-
-module _ (P : Layout → History → ℕ → Type 0) (c : Call) (begin h : History) (e : Extends begin c.start) where
-  node_wider : (n : ℕ) → TouchesNode P (begun_at c begin) h n → TouchesNode P c h n
-  node_wider n (was_so x) = was_so (been_wider h begin c.start _ e x)
-  node_wider n (covered s x) = covered s (been_wider h begin c.start _ e x)
-  node_wider n (own_node o f) = own_node o (λ t. f (taken_node_since begin c.start n e t))
-
-  scx_wider : (s : ℕ) → TouchesScx P (begun_at c begin) h s → TouchesScx P c h s
-  scx_wider s (named n x y) = named n (been_wider h begin c.start _ e x) (been_wider h begin c.start _ e y)
-  scx_wider s (in_progress x) = in_progress (been_wider h begin c.start _ e x)
-  scx_wider s (own_scx o f) = own_scx o (λ t. f (taken_scx_since begin c.start s e t))
-
-  -- what a part of a call touches the call touches
-  pub touches_wider : (w : Word) → Touches P (begun_at c begin) h w → Touches P c h w
-  touches_wider (Node n part) x = node_wider n.0 x
-  touches_wider (Scx s part) x = scx_wider s.0 x
 
 module _ (P Q : Layout → History → ℕ → Type 0) (c : Call) (h : History) (finer : (m : History) (n : ℕ) → Extends h m → P c.layout m n → Q c.layout m n) where
   node_so : (n : ℕ) → TouchesNode P c h n → TouchesNode Q c h n

@@ -1,17 +1,16 @@
 -- What calls of a map know of the nodes to which they come.
-use Rattle.std.proofs.Common.{◌≡◌, ◌⊎◌, ℕ, Bool, true, false, inl, inr, refl, sym, ◌∙◌, subst}
-use Rattle.histories.specs.Common.{Layout, Mode, Tree as TreeMode, Row, History, Opened, ◌⊳◌, value, Extends, log, is_final, Call}
+use Rattle.std.proofs.Common.{◌≡◌, ◌⊎◌, ℕ, Bool, true, false, inl, inr, refl, sym, subst}
+use Rattle.histories.specs.Common.{Layout, Mode, Tree as TreeMode, History, Opened, ◌⊳◌, value, Extends, Call}
 use Rattle.arena.specs.declared.limits.Mode.TheVariants.{Trie as TrieMode}
 use Rattle.arena.specs.Layout.{IsMap}
 use Rattle.arena.proofs.Lemmas.{ends_self, ends_trans}
-use Rattle.prims.specs.Laws.InTheWay.{HasBeen}
 use Rattle.ordered_map.specs.Paths.{StoodSince, WasInTree}
 use Rattle.ordered_map.specs.Runs.{IsMapRun}
 use Rattle.ordered_map.specs.Spelled.{Spells}
 use Rattle.ordered_map.specs.TreeWords.{is_leaf}
 use Rattle.ordered_map.proofs.MapLemmas.{run_since, run_spells, tree_not_final, tree_remains, two_not_final, two_stood}
 use Rattle.template.specs.Common.{WasNotFinal}
-use Rattle.touching.specs.Kinds.{IsInTree, IsNotFinal, MayBePopped, IsPresent}
+use Rattle.touching.specs.Kinds.{IsInTree, IsNotFinal, IsPresent}
 use Rattle.touching.specs.Touches.{WasSo}
 
 -- what is so of each node of the tree

@@ -1,13 +1,11 @@
 -- What an ordered read touches.
-use Rattle.std.proofs.Common.{◌≡◌, ℕ}
-use Rattle.histories.specs.Common.{Layout, Step, NodeNo, History, Extends, Call, begun_at}
+use Rattle.std.proofs.Common.{ℕ}
+use Rattle.histories.specs.Common.{Layout, Step, History, Extends, Call, begun_at}
 use Rattle.arena.proofs.Lemmas.{ends_trans}
+use Rattle.ordered_map.specs.Runs.{IsMapRun}
 use Rattle.ordered_map.specs.TreeShape.{TreeAllows}
 use Rattle.prims.specs.Snap.{snap_at}
-use Rattle.prims.specs.declared.snap.Snap.{Snap}
-use Rattle.template.specs.Common.{WalkWaits}
 use Rattle.template.specs.Walk.Places.{IsPastRoot}
-use Rattle.template.specs.declared.walk.WalkRun.{WalkRun}
 use Rattle.template.specs.declared.walk.WalkAt.{WalkAt}
 use Rattle.template.specs.declared.walk.WalkAt.TheVariants as walks
 use Rattle.order.specs.Known.{ReadGoes, ReadWaitsAt, ReadWaits, StandsInTry, WalksInTry}
@@ -22,15 +20,14 @@ use Rattle.order.specs.declared.run.ReadAt.{ReadAt}
 use Rattle.order.specs.declared.run.ReadAt.TheVariants.{Start, Walk, Root, Load, Look, Validate}
 use Rattle.order.specs.declared.run.ReadRun.{ReadRun}
 use Rattle.touching.specs.InTime.{ReadsInTime}
-use Rattle.touching.specs.Kinds.{IsNotFinal}
 use Rattle.touching.specs.Touches.{WasSo, was_so, Touches, WereSo}
-use Rattle.touching.proofs.Moments.{been_wider, been_later}
-use Rattle.touching.proofs.Present.{not_final_kind}
+use Rattle.touching.proofs.Moments.{been_wider}
+use Rattle.touching.proofs.Present.{IsKind}
 use Rattle.touching.proofs.Walks.{root_so, walk_in_call}
 use Rattle.touching.proofs.Looking.{llx_in_call}
 use Rattle.touching.proofs.Changing.{vlx_in_call}
 
-module _ {R A : Type 0} (means : ReadMeaning R A) (m : ReadRun R) (c : Call) (h begin : History) where
+module _ (P : Layout → History → ℕ → Type 0) (kind : IsKind P) {R A : Type 0} (means : ReadMeaning R A) (m : ReadRun R) (c : Call) (h begin : History) where
   abbrev try : Call
   try = begun_at c begin
 
@@ -67,18 +64,22 @@ module _ {R A : Type 0} (means : ReadMeaning R A) (m : ReadRun R) (c : Call) (h 
   loaded (loads.Value p key) x = x.stands.stood
   loaded (loads.High p key low) x = x.0.stands.stood
 
-  read_at : (at : ReadAt) (s : Step) → ReadGoes means m try h → StandsInTry means m c h begin at → ReadWaitsAt means m try h s at → ReadsInTime c h at → Touches IsNotFinal c h s.word
+  -- and so was so in the call
+  stood_node : Extends begin c.start → IsMapRun c.layout h → (n : ℕ) → HasStood try h n → WasSo P c h n
+  stood_node e run n x = kind.stood c h n run x.stood (been_wider h begin c.start _ e x.not_final)
+
+  read_at : (at : ReadAt) (s : Step) → ReadGoes means m try h → StandsInTry means m c h begin at → ReadWaitsAt means m try h s at → ReadsInTime c h m.snaps.items at → Touches P c h s.word
   read_at Start s g i k t = absurd k
-  read_at (Walk walk side turns) s g i k t = walk_in_call IsNotFinal not_final_kind.in_tree c begin h k.1.run walk (walk_now turns walk.at k.1.since i) s (λ past. walk_since turns walk.at past i) k.1
-  read_at Root s g i k t = rw k.1 (was_so (root_so IsNotFinal not_final_kind.in_tree c h g.reads.run i.0.since))
-  read_at (Load of) s g i k t = rw k.1 (was_so (been_wider h begin c.start _ i.begins.since (loaded of k.0).not_final))
+  read_at (Walk walk side turns) s g i k t = walk_in_call P kind.in_tree c begin h k.1.run walk (walk_now turns walk.at k.1.since i) s (λ past. walk_since turns walk.at past i) k.1
+  read_at Root s g i k t = rw k.1 (was_so (root_so P kind.in_tree c h g.reads.run i.0.since))
+  read_at (Load of) s g i k t = rw k.1 (was_so (stood_node i.begins.since g.reads.run (load_node of).0 (loaded of k.0)))
   read_at (Look children low llx) s g i k t =
       let x = k.1 in
-      llx_in_call IsNotFinal TreeAllows c x.0 h llx s g.reads.run.1 (ends_trans x.0 begin c.start x.1 i.begins.since) x.2 (been_wider h begin c.start _ i.begins.since k.0.stood.not_final) t
-  read_at (Validate asked) s g i k t = vlx_in_call IsNotFinal m.snaps.items asked c k.0 h s k.2 so
+      llx_in_call P TreeAllows c x.0 h llx s g.reads.run.1 (ends_trans x.0 begin c.start x.1 i.begins.since) x.2 (stood_node i.begins.since g.reads.run llx.node.0 k.0.stood) t
+  read_at (Validate asked) s g i k t = vlx_in_call P m.snaps.items asked c k.0 h s k.2 so
     where
-      so : WereSo IsNotFinal c h m.snaps.items
-      so j p = let u = k.1.reads.snapped j p in record { moment = u.moment; within = ends_trans h k.0 u.moment k.1.within u.within; since = ends_trans u.moment begin c.start u.since i.begins.since; was = u.is.not_final }
+      so : WereSo P c h m.snaps.items
+      so j p = let u = k.1.reads.snapped j p in kind.stood c h (snap_at m.snaps.items j).node.0 g.reads.run (t j p) record { moment = u.moment; within = ends_trans h k.0 u.moment k.1.within u.within; since = ends_trans u.moment begin c.start u.since i.begins.since; was = u.is.not_final }
 
-pub read_touches : {R A : Type 0} (means : ReadMeaning R A) (m : ReadRun R) (c : Call) (h : History) (s : Step) → ReadWaits means m c h s → ReadsInTime c h m.at → Touches IsNotFinal c h s.word
-read_touches means m c h s w t = read_at means m c h w.0 m.at s w.2 w.1 w.3 t
+pub read_touches : (P : Layout → History → ℕ → Type 0) → IsKind P → {R A : Type 0} (means : ReadMeaning R A) (m : ReadRun R) (c : Call) (h : History) (s : Step) → ReadWaits means m c h s → ReadsInTime c h m.snaps.items m.at → Touches P c h s.word
+read_touches P kind means m c h s w t = read_at P kind means m c h w.0 m.at s w.2 w.1 w.3 t

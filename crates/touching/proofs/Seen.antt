@@ -1,15 +1,13 @@
 -- The edits of a map read the node that was found, or one of which they have a snapshot.
-use Rattle.std.proofs.Common.{◌≡◌, ◌<◌, ◌⊎◌, ℕ, Bool, true, false, if◌then◌else◌, ◌==◌, inl, inr, List, [], ◌∷◌, length, Option, Some, None, refl, sym, ◌∙◌, ap, subst, arith}
+use Rattle.std.proofs.Common.{◌≡◌, ◌<◌, ℕ, Bool, true, false, if◌then◌else◌, ◌==◌, inl, inr, List, [], ◌∷◌, length, Option, Some, None, sym, ap, arith}
 use Rattle.std.specs.Prelude.{unwrap_or}
 use Rattle.histories.specs.Common.{NodeNo, Side, Left, Right}
 use Rattle.prims.specs.Snap.{child_of, snap_at}
 use Rattle.prims.specs.declared.snap.Snap.{Snap}
 use Rattle.template.specs.Common.{sibling_place, leaves, Goal, Rule}
 use Rattle.template.specs.declared.walk.Found.{Found}
-use Rattle.edits.specs.declared.edit.Look.{Look}
-use Rattle.edits.specs.declared.edit.Look.TheVariants.{At, Differs, Enough}
+use Rattle.edits.specs.declared.edit.Look.TheVariants.{At, Enough}
 use Rattle.edits.specs.declared.reading.Reading.{Reading}
-use Rattle.edits.specs.Edits.{EditMeaning}
 use Rattle.edits.specs.Readings.{nothing_read}
 use Rattle.tree.specs.LeafEdit.{leaf_looks, leaf_reads}
 use Rattle.tree.specs.Laws.Looks.{not_enough}

@@ -1,6 +1,6 @@
 -- What an update touches.
-use Rattle.std.proofs.Common.{◌≡◌, ◌<◌, ◌⊎◌, ℕ, inl, inr, length, sym, subst}
-use Rattle.histories.specs.Common.{Layout, Step, NodeNo, SettledPart, NodeWord, History, Extends, Call, begun_at}
+use Rattle.std.proofs.Common.{◌<◌, ℕ, inl, inr, length, sym, subst}
+use Rattle.histories.specs.Common.{Layout, Step, NodeNo, SettledPart, History, Extends, Call, begun_at}
 use Rattle.arena.proofs.Lemmas.{ends_self, ends_trans}
 use Rattle.prims.specs.Snap.{snap_at}
 use Rattle.prims.specs.declared.llx.LlxRun.{LlxRun}
@@ -9,16 +9,13 @@ use Rattle.prims.specs.declared.snap.Snap.{Snap}
 use Rattle.ordered_map.specs.Runs.{IsMapRun}
 use Rattle.ordered_map.specs.Paths.{WasInTree}
 use Rattle.ordered_map.specs.TreeShape.{TreeAllows}
-use Rattle.ordered_map.proofs.MapLemmas.{run_since}
-use Rattle.template.specs.Common.{IsSnapshot, LlxWaits, ScxWaits}
+use Rattle.template.specs.Common.{IsSnapshot}
 use Rattle.template.specs.FoundLeaf.{path_key}
 use Rattle.template.specs.declared.walk.Found.{Found}
 use Rattle.template.specs.declared.walk.WalkAt.{WalkAt}
 use Rattle.template.specs.declared.walk.WalkAt.TheVariants.{Start as WalkStart, Root, Head, Key, Child, More, Pair, Value, High}
 use Rattle.template.proofs.Lemmas.{found_trail}
-use Rattle.edits.specs.declared.edit.Nth.{Nth}
 use Rattle.edits.specs.declared.edit.Work.{Work}
-use Rattle.edits.specs.declared.reading.Reading.{Reading}
 use Rattle.edits.specs.declared.update.UpdateAt.{UpdateAt}
 use Rattle.edits.specs.declared.update.UpdateAt.TheVariants.{Start, Walk, Guard, Look, Read, Fill, Scx}
 use Rattle.edits.specs.declared.update.UpdateRun.{UpdateRun}
@@ -27,11 +24,11 @@ use Rattle.edits.specs.Known.{HasSnappedAfterWalk, HasSnappedInCall, Looks, Read
 use Rattle.edits.specs.Pieces.{nth_node}
 use Rattle.edits.specs.Sound.{LooksWell}
 use Rattle.edits.specs.Tries.{IsTryAt}
-use Rattle.touching.specs.InTime.{HelpsInTime, UpdatesInTime}
+use Rattle.touching.specs.InTime.{UpdatesInTime}
 use Rattle.touching.specs.Reads.{IsSeen, ReadsSeen}
 use Rattle.touching.specs.Unmarked.{CoversUnmarked, WasUnmarked}
 use Rattle.touching.specs.Touches.{WasSo, was_so, own_node, Touches, WereSo}
-use Rattle.touching.proofs.Moments.{touches_wider, been_wider, been_later}
+use Rattle.touching.proofs.Moments.{been_wider}
 use Rattle.touching.proofs.Present.{IsKind, two_so}
 use Rattle.touching.proofs.Walks.{passed_so, walk_in_call}
 use Rattle.touching.proofs.Looking.{llx_in_call}

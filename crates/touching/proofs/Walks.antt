@@ -1,5 +1,5 @@
 -- A walk comes to nodes alone that were in the tree at a moment of its call.
-use Rattle.std.proofs.Common.{◌≡◌, ℕ, inl}
+use Rattle.std.proofs.Common.{ℕ, inl}
 use Rattle.histories.specs.Common.{Layout, Step, History, Extends, Call, begun_at}
 use Rattle.arena.proofs.Lemmas.{ends_self, ends_trans}
 use Rattle.ordered_map.specs.Runs.{IsMapRun}

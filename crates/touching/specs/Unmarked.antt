@@ -1,9 +1,8 @@
 -- What an SCX covers was unmarked at a moment of its call.
-use Rattle.std.specs.Prelude.{◌≡◌, ◌<◌, ℕ, List, length}
+use Rattle.std.specs.Prelude.{◌≡◌, ◌<◌, ℕ, length}
 use Rattle.histories.specs.Common.{History, value, marked, Call}
 use Rattle.prims.specs.Laws.InTheWay.{HasBeen}
 use Rattle.prims.specs.Snap.{snap_at}
-use Rattle.prims.specs.declared.snap.Snap.{Snap}
 use Rattle.edits.specs.declared.update.UpdateAt.{UpdateAt}
 use Rattle.edits.specs.declared.update.UpdateAt.TheVariants.{Scx}
 

@@ -3,4 +3,7 @@
 
 mod laws;
 
-pub use laws::{calls_touch, machines_touch, parts_touch, walks_touch};
+pub use laws::{
+    calls_touch, dead_is_untouched, dictionaries_touch, freshness_holds, machines_touch,
+    parts_touch, walks_touch,
+};

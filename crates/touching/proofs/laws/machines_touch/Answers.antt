@@ -15,7 +15,7 @@ pub returns-clause-unmarked : goal.returns-clause-unmarked
 returns-clause-unmarked c = update_unmarked edit_means
 
 pub returns-clause-neighbours : goal.returns-clause-neighbours
-returns-clause-neighbours c = read_touches neighbour_means
+returns-clause-neighbours c = read_touches IsPresent present_kind neighbour_means
 
 pub returns-clause-ranges : goal.returns-clause-ranges
-returns-clause-ranges c = read_touches range_means
+returns-clause-ranges c = read_touches IsPresent present_kind range_means
