@@ -6,7 +6,6 @@ use Rattle.prims.specs.Llx.Known.{HasMet, IsToBlame, LlxKnows, LlxHasAsked, LlxW
 use Rattle.prims.specs.declared.llx.LlxRun.{LlxRun}
 use Rattle.prims.specs.declared.llx.LlxAt.{LlxAt}
 use Rattle.prims.specs.declared.llx.LlxAt.TheVariants.{Start, Marked, Info, State, MarkedAgain, Left as AtLeft, Right as AtRight, InfoAgain, StateAgain, Help, LastInfo, LastState, LastHelp}
-use Rattle.touching.specs.InTime.{HelpsInTime}
 use Rattle.touching.specs.Touches.{WasInProgress, WasSo, TouchesScx, was_so, named, in_progress, Touches, running}
 use Rattle.touching.proofs.Moments.{been_wider, way_running}
 use Rattle.touching.proofs.Helping.{help_touches}
@@ -19,23 +18,23 @@ module _ (P : Layout → History → ℕ → Type 0) (allows : Layout → Histor
   blamed_running : (s : ℕ) → IsToBlame (begun_at c begin) h n s → WasInProgress c h s
   blamed_running s x = way_running c h begin n s since x.in_the_way
 
-  llx_at : (at : LlxAt) (s : Step) → LlxKnows (begun_at c begin) h n at → LlxHasAsked allows (begun_at c begin) h n at s → HelpsInTime c h at → Touches P c h s.word
-  llx_at Start s k a t = absurd a
-  llx_at Marked s k a t = rw a (was_so so)
-  llx_at (Info b) s k a t = rw a (was_so so)
-  llx_at (State b u) s k a t = rw a (met_touched b u.0 k)
-  llx_at (MarkedAgain b u v) s k a t = rw a (was_so so)
-  llx_at (AtLeft b u) s k a t = rw a (was_so so)
-  llx_at (AtRight b u x) s k a t = rw a (was_so so)
-  llx_at (InfoAgain b u x y) s k a t = rw a (was_so so)
-  llx_at (StateAgain b u) s k a t = rw a (met_touched b u.0 k.met)
-  llx_at (Help b m) s k a t = help_touches P allows m c h s run.lawful a (running t)
-  llx_at LastInfo s k a t = rw a (was_so so)
-  llx_at (LastState u) s k a t = rw a (in_progress (blamed_running u.0 k))
-  llx_at (LastHelp u m) s k a t = help_touches P allows m c h s run.lawful a (running (subst (λ (v : ScxNo). WasInProgress c h v.0) (sym k.1) (blamed_running u.0 k.0)))
+  llx_at : (at : LlxAt) (s : Step) → LlxKnows (begun_at c begin) h n at → LlxHasAsked allows (begun_at c begin) h n at s → Touches P c h s.word
+  llx_at Start s k a = absurd a
+  llx_at Marked s k a = rw a (was_so so)
+  llx_at (Info b) s k a = rw a (was_so so)
+  llx_at (State b u) s k a = rw a (met_touched b u.0 k)
+  llx_at (MarkedAgain b u v) s k a = rw a (was_so so)
+  llx_at (AtLeft b u) s k a = rw a (was_so so)
+  llx_at (AtRight b u x) s k a = rw a (was_so so)
+  llx_at (InfoAgain b u x y) s k a = rw a (was_so so)
+  llx_at (StateAgain b u) s k a = rw a (met_touched b u.0 k.met)
+  llx_at (Help b m) s k a = help_touches P allows m c h s run.lawful a (running (been_wider h begin c.start _ since k.running))
+  llx_at LastInfo s k a = rw a (was_so so)
+  llx_at (LastState u) s k a = rw a (in_progress (blamed_running u.0 k))
+  llx_at (LastHelp u m) s k a = help_touches P allows m c h s run.lawful a (running (subst (λ (v : ScxNo). WasInProgress c h v.0) (sym k.1) (blamed_running u.0 k.0)))
 
-pub llx_in_call : (P : Layout → History → ℕ → Type 0) (allows : Layout → History → ℕ → Type 0) (c : Call) (begin h : History) (m : LlxRun) (s : Step) → IsRun allows c.layout h → Extends begin c.start → LlxWaits allows m (begun_at c begin) h s → WasSo P c h m.node.0 → HelpsInTime c h m.at → Touches P c h s.word
-llx_in_call P allows c begin h m s run since w so t = llx_at P allows c begin h run since m.node.0 so m.at s w.known w.asked t
+pub llx_in_call : (P : Layout → History → ℕ → Type 0) (allows : Layout → History → ℕ → Type 0) (c : Call) (begin h : History) (m : LlxRun) (s : Step) → IsRun allows c.layout h → Extends begin c.start → LlxWaits allows m (begun_at c begin) h s → WasSo P c h m.node.0 → Touches P c h s.word
+llx_in_call P allows c begin h m s run since w so = llx_at P allows c begin h run since m.node.0 so m.at s w.known w.asked
 
-pub llx_touches : (P : Layout → History → ℕ → Type 0) (allows : Layout → History → ℕ → Type 0) (m : LlxRun) (c : Call) (h : History) (s : Step) → IsRun allows c.layout h → LlxWaits allows m c h s → WasSo P c h m.node.0 → HelpsInTime c h m.at → Touches P c h s.word
-llx_touches P allows m c h s run w so t = llx_in_call P allows c c.start h m s run (ends_self c.start) w so t
+pub llx_touches : (P : Layout → History → ℕ → Type 0) (allows : Layout → History → ℕ → Type 0) (m : LlxRun) (c : Call) (h : History) (s : Step) → IsRun allows c.layout h → LlxWaits allows m c h s → WasSo P c h m.node.0 → Touches P c h s.word
+llx_touches P allows m c h s run w so = llx_in_call P allows c c.start h m s run (ends_self c.start) w so

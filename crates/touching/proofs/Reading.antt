@@ -19,7 +19,6 @@ use Rattle.order.specs.declared.load.ReadLoad.TheVariants as loads
 use Rattle.order.specs.declared.run.ReadAt.{ReadAt}
 use Rattle.order.specs.declared.run.ReadAt.TheVariants.{Start, Walk, Root, Load, Look, Validate}
 use Rattle.order.specs.declared.run.ReadRun.{ReadRun}
-use Rattle.touching.specs.InTime.{ReadsInTime}
 use Rattle.touching.specs.Touches.{WasSo, was_so, Touches, WereSo}
 use Rattle.touching.proofs.Moments.{been_wider}
 use Rattle.touching.proofs.Present.{IsKind}
@@ -68,18 +67,18 @@ module _ (P : Layout → History → ℕ → Type 0) (kind : IsKind P) {R A : Ty
   stood_node : Extends begin c.start → IsMapRun c.layout h → (n : ℕ) → HasStood try h n → WasSo P c h n
   stood_node e run n x = kind.stood c h n run x.stood (been_wider h begin c.start _ e x.not_final)
 
-  read_at : (at : ReadAt) (s : Step) → ReadGoes means m try h → StandsInTry means m c h begin at → ReadWaitsAt means m try h s at → ReadsInTime c h m.snaps.items at → Touches P c h s.word
-  read_at Start s g i k t = absurd k
-  read_at (Walk walk side turns) s g i k t = walk_in_call P kind.in_tree c begin h k.1.run walk (walk_now turns walk.at k.1.since i) s (λ past. walk_since turns walk.at past i) k.1
-  read_at Root s g i k t = rw k.1 (was_so (root_so P kind.in_tree c h g.reads.run i.0.since))
-  read_at (Load of) s g i k t = rw k.1 (was_so (stood_node i.begins.since g.reads.run (load_node of).0 (loaded of k.0)))
-  read_at (Look children low llx) s g i k t =
+  read_at : (at : ReadAt) (s : Step) → ReadGoes means m try h → StandsInTry means m c h begin at → ReadWaitsAt means m try h s at → Touches P c h s.word
+  read_at Start s g i k = absurd k
+  read_at (Walk walk side turns) s g i k = walk_in_call P kind.in_tree c begin h k.1.run walk (walk_now turns walk.at k.1.since i) s (λ past. walk_since turns walk.at past i) k.1
+  read_at Root s g i k = rw k.1 (was_so (root_so P kind.in_tree c h g.reads.run i.0.since))
+  read_at (Load of) s g i k = rw k.1 (was_so (stood_node i.begins.since g.reads.run (load_node of).0 (loaded of k.0)))
+  read_at (Look children low llx) s g i k =
       let x = k.1 in
-      llx_in_call P TreeAllows c x.0 h llx s g.reads.run.1 (ends_trans x.0 begin c.start x.1 i.begins.since) x.2 (stood_node i.begins.since g.reads.run llx.node.0 k.0.stood) t
-  read_at (Validate asked) s g i k t = vlx_in_call P m.snaps.items asked c k.0 h s k.2 so
+      llx_in_call P TreeAllows c x.0 h llx s g.reads.run.1 (ends_trans x.0 begin c.start x.1 i.begins.since) x.2 (stood_node i.begins.since g.reads.run llx.node.0 k.0.stood)
+  read_at (Validate asked) s g i k = vlx_in_call P m.snaps.items asked c k.0 h s k.2 so
     where
       so : WereSo P c h m.snaps.items
-      so j p = let u = k.1.reads.snapped j p in kind.stood c h (snap_at m.snaps.items j).node.0 g.reads.run (t j p) record { moment = u.moment; within = ends_trans h k.0 u.moment k.1.within u.within; since = ends_trans u.moment begin c.start u.since i.begins.since; was = u.is.not_final }
+      so j p = let u = k.1.reads.snapped j p in kind.stood c h (snap_at m.snaps.items j).node.0 g.reads.run (let w = u.stood in record { moment = w.moment; within = ends_trans h u.moment w.moment (ends_trans h k.0 u.moment k.1.within u.within) w.within; tree = w.tree; is_tree = w.is_tree; has = w.has }) record { moment = u.moment; within = ends_trans h k.0 u.moment k.1.within u.within; since = ends_trans u.moment begin c.start u.since i.begins.since; was = u.is.not_final }
 
-pub read_touches : (P : Layout → History → ℕ → Type 0) → IsKind P → {R A : Type 0} (means : ReadMeaning R A) (m : ReadRun R) (c : Call) (h : History) (s : Step) → ReadWaits means m c h s → ReadsInTime c h m.snaps.items m.at → Touches P c h s.word
-read_touches P kind means m c h s w t = read_at P kind means m c h w.0 m.at s w.2 w.1 w.3 t
+pub read_touches : (P : Layout → History → ℕ → Type 0) → IsKind P → {R A : Type 0} (means : ReadMeaning R A) (m : ReadRun R) (c : Call) (h : History) (s : Step) → ReadWaits means m c h s → Touches P c h s.word
+read_touches P kind means m c h s w = read_at P kind means m c h w.0 m.at s w.2 w.1 w.3

@@ -2,6 +2,7 @@
 use Rattle.std.proofs.Common.{◌<◌, ℕ, inl, inr, length, sym, subst}
 use Rattle.histories.specs.Common.{Layout, Step, NodeNo, SettledPart, History, Extends, Call, begun_at}
 use Rattle.arena.proofs.Lemmas.{ends_self, ends_trans}
+use Rattle.prims.proofs.Lemmas.{taken_node_since}
 use Rattle.prims.specs.Snap.{snap_at}
 use Rattle.prims.specs.declared.llx.LlxRun.{LlxRun}
 use Rattle.prims.specs.declared.scx.ScxRun.{ScxRun}
@@ -24,7 +25,6 @@ use Rattle.edits.specs.Known.{HasSnappedAfterWalk, HasSnappedInCall, Looks, Read
 use Rattle.edits.specs.Pieces.{nth_node}
 use Rattle.edits.specs.Sound.{LooksWell}
 use Rattle.edits.specs.Tries.{IsTryAt}
-use Rattle.touching.specs.InTime.{UpdatesInTime}
 use Rattle.touching.specs.Reads.{IsSeen, ReadsSeen}
 use Rattle.touching.specs.Unmarked.{CoversUnmarked, WasUnmarked}
 use Rattle.touching.specs.Touches.{WasSo, was_so, own_node, Touches, WereSo}
@@ -94,22 +94,22 @@ module _ (P : Layout → History → ℕ → Type 0) (kind : IsKind P) {E : Type
   so_in_call : (n : ℕ) → WasSo P try h n → WasSo P c h n
   so_in_call n x = been_wider h begin c.start _ since x
 
-  update_at : (at : UpdateAt) (s : Step) → UpdateWaitsAt e m try h s at → UpdatesInTime m c h at → Touches P c h s.word
-  update_at Start s k t = absurd k
-  update_at (Walk walk) s k t = walk_in_call P kind.in_tree c begin h k.1.run walk (ends_trans h begin c.start k.1.since since) s (λ past. since) k.1
-  update_at (Guard walk head llx) s k t =
+  update_at : (at : UpdateAt) (s : Step) → UpdateWaitsAt e m try h s at → Touches P c h s.word
+  update_at Start s k = absurd k
+  update_at (Walk walk) s k = walk_in_call P kind.in_tree c begin h k.1.run walk (ends_trans h begin c.start k.1.since since) s (λ past. since) k.1
+  update_at (Guard walk head llx) s k =
       let x = k.1 in
       let two : WasSo P c h llx.node.0 = subst (λ n. WasSo P c h n) (sym x.is_two) (two_so P kind c h x.run (ends_trans h begin c.start x.now since)) in
-      llx_in_call P TreeAllows c k.0 h llx s x.run.1 (ends_trans k.0 begin c.start x.since since) k.2 two t
-  update_at (Look f llx) s k t = llx_in_call P TreeAllows c k.0 h llx s k.1.run.1 (ends_trans k.0 begin c.start k.1.since since) k.2 (so_in_call llx.node.0 (looked_so P kind e looks seen m try h f llx k.0 k.1)) t
-  update_at (Read f n part) s k t = rw k.1 (was_so (so_in_call n.0 (read_so P kind e looks seen m try h f n part k.0)))
-  update_at (Fill f nth part) s k t = rw k.3 (own_node (k.0.full.hand.own (nth_node m.nodes nth).0 k.0.hand.lowest k.0.hand.highest) t)
-  update_at (Scx f scx) s k t =
+      llx_in_call P TreeAllows c k.0 h llx s x.run.1 (ends_trans k.0 begin c.start x.since since) k.2 two
+  update_at (Look f llx) s k = llx_in_call P TreeAllows c k.0 h llx s k.1.run.1 (ends_trans k.0 begin c.start k.1.since since) k.2 (so_in_call llx.node.0 (looked_so P kind e looks seen m try h f llx k.0 k.1))
+  update_at (Read f n part) s k = rw k.1 (was_so (so_in_call n.0 (read_so P kind e looks seen m try h f n part k.0)))
+  update_at (Fill f nth part) s k = rw k.3 (own_node (k.0.full.hand.own (nth_node m.nodes nth).0 k.0.hand.lowest k.0.hand.highest) (λ t. k.0.works.untaken nth k.0.works.need (taken_node_since begin c.start (nth_node m.nodes nth).0 since t)))
+  update_at (Scx f scx) s k =
       let b : Extends k.0 c.start = ends_trans k.0 begin c.start k.1.since since in
       scx_in_call P TreeAllows c k.0 h scx s k.1.run.1 b k.2 (λ i p. so_in_call (snap_at scx.update.snaps i).node.0 (covered_so P kind e looks seen m try h f scx k.0 k.1 (scx_begun TreeAllows c k.0 h scx s k.2) i p))
 
-pub update_touches : (P : Layout → History → ℕ → Type 0) → IsKind P → {E : Type 0} (e : EditMeaning E) → LooksWell e → ReadsSeen e → (m : UpdateRun E UpdateAt) (c : Call) (h : History) (s : Step) → UpdateWaits e m c h s → UpdatesInTime m c h m.at → Touches P c h s.word
-update_touches P kind e looks seen m c h s w t = update_at P kind e looks seen m c w.0 h (try_since e m c w.0 h m.at w.1) m.at s w.3 t
+pub update_touches : (P : Layout → History → ℕ → Type 0) → IsKind P → {E : Type 0} (e : EditMeaning E) → LooksWell e → ReadsSeen e → (m : UpdateRun E UpdateAt) (c : Call) (h : History) (s : Step) → UpdateWaits e m c h s → Touches P c h s.word
+update_touches P kind e looks seen m c h s w = update_at P kind e looks seen m c w.0 h (try_since e m c w.0 h m.at w.1) m.at s w.3
 
 -- what its SCX is to cover had no mark at a moment of the call
 module _ {E : Type 0} (e : EditMeaning E) (m : UpdateRun E UpdateAt) (c : Call) (begin h : History) (since : Extends begin c.start) (s : Step) where

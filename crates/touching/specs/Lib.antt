@@ -1,6 +1,5 @@
 pub mod Kinds
 pub mod Touches
-pub mod InTime
 pub mod Reads
 pub mod Unmarked
 pub mod Fresh

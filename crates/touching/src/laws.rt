@@ -31,13 +31,12 @@ ghost use Rattle.order.specs.declared.range.Range.{Range};
 ghost use Rattle.order.specs.declared.run.ReadRun.{ReadRun};
 ghost use Rattle.template.specs.Common.{Rule};
 ghost use Rattle.tree.specs.declared.key_edit.KeyEdit.{KeyEdit};
-ghost use Rattle.dict.specs.Inner.{GoalBy, edit_means, inner};
+ghost use Rattle.dict.specs.Inner.{GoalBy, edit_means};
 ghost use Rattle.dict.specs.DictKnown.{DictWaits};
 ghost use Rattle.dict.specs.Known.{MapWaits};
 ghost use Rattle.dict.specs.Words.{IsWordOf};
 ghost use Rattle.dict.specs.declared.run.MapRun.{MapRun};
 ghost use Rattle.touching.specs.Fresh.{WasNamedInCall};
-ghost use Rattle.touching.specs.InTime.{HelpsInTime, ReadsInTime, RunsInTime, UpdatesInTime};
 ghost use Rattle.touching.specs.Kinds.{IsInTree, IsNotFinal, IsPresent};
 ghost use Rattle.touching.specs.Unmarked.{CoversUnmarked};
 ghost use Rattle.touching.specs.Rests.{AllHaveRested, AreLeft, IsNamedByFinal};
@@ -58,7 +57,7 @@ pub fn parts_touch<S: Shape>()
     ensures help { (m : HelpRun) (c : Call) (h : History) (s : Step) → Lawful c.layout h
         → HelpWaits S.allows c.layout c.pass m h s → MayBeHelped IsNotFinal c h m.scx.0 → Touches IsNotFinal c h s.word }
     ensures llx { (m : LlxRun) (c : Call) (h : History) (s : Step) → IsRun S.allows c.layout h
-        → LlxWaits S.allows m c h s → WasSo IsNotFinal c h m.node.0 → HelpsInTime c h m.at → Touches IsNotFinal c h s.word }
+        → LlxWaits S.allows m c h s → WasSo IsNotFinal c h m.node.0 → Touches IsNotFinal c h s.word }
     ensures vlx { (snaps : List Snap) (n : ℕ) (c : Call) (h : History) (s : Step) → VlxWaits snaps n c h s
         → WereSo IsNotFinal c h snaps → Touches IsNotFinal c h s.word }
     ensures scx { (m : ScxRun) (c : Call) (h : History) (s : Step) → IsRun S.allows c.layout h
@@ -69,18 +68,18 @@ pub fn parts_touch<S: Shape>()
 /// learns this from its contract.
 pub fn machines_touch()
     ensures edits { (m : UpdateRun (KeyEdit GoalBy Rule) UpdateAt) (c : Call) (h : History) (s : Step) → UpdateWaits edit_means m c h s
-        → UpdatesInTime m c h m.at → Touches IsPresent c h s.word }
+        → Touches IsPresent c h s.word }
     ensures unmarked { (m : UpdateRun (KeyEdit GoalBy Rule) UpdateAt) (c : Call) (h : History) (s : Step) → UpdateWaits edit_means m c h s
         → CoversUnmarked c h m.at }
     ensures neighbours { (m : ReadRun Neighbour) (c : Call) (h : History) (s : Step) → ReadWaits neighbour_means m c h s
-        → ReadsInTime c h m.snaps.items m.at → Touches IsPresent c h s.word }
+        → Touches IsPresent c h s.word }
     ensures ranges { (m : ReadRun Range) (c : Call) (h : History) (s : Step) → ReadWaits range_means m c h s
-        → ReadsInTime c h m.snaps.items m.at → Touches IsPresent c h s.word }
+        → Touches IsPresent c h s.word }
 {}
 
 /// What a whole call of a map touches. It does nothing; a caller learns this from its contract.
 pub fn calls_touch()
-    ensures touches { (tries : ℕ) (m : MapRun) (c : Call) (h : History) (s : Step) → MapWaits tries m c h s → RunsInTime (inner m) c h
+    ensures touches { (tries : ℕ) (m : MapRun) (c : Call) (h : History) (s : Step) → MapWaits tries m c h s
         → Touches IsPresent c h s.word }
     ensures present { (c : Call) (h : History) (w : Word) → IsMapRun c.layout h → Touches IsPresent c h w → Touches IsNotFinal c h w }
 {}
@@ -89,7 +88,7 @@ pub fn calls_touch()
 /// contract.
 pub fn dictionaries_touch<K: WordKey, V: WordValue>()
     ensures { (m : DictRun K V) (c : Call) (h : History) (s : Step) → DictWaits (IsWordOf K.is_valid K.word_of) (IsWordOf V.is_valid V.word_of) m c h s
-        → RunsInTime (inner m.run) c h → Touches IsPresent c h s.word }
+        → Touches IsPresent c h s.word }
 {}
 
 /// What a call touches no more of what was out as it began: a final node only where an SCX-record
