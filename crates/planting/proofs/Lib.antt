@@ -1,0 +1,4 @@
+mod Groves
+mod Crowns
+mod Parts
+mod Rows
