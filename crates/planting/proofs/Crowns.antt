@@ -33,7 +33,7 @@ module _ (trie : Bool) (f : Word → ℕ) (ps : List Pair) (tall many x : ℕ) (
   abbrev t : ℕ
   t = 3 + many
 
-  abbrev whole_tree : Tree
+  abbrev pub whole_tree : Tree
   whole_tree = Fork 0 (Fork t g.tree (Leaf 1)) (Leaf 2)
 
   high : (n kind : ℕ) → class f n ≡ kind → 0 < kind → class f n ≢ 0

@@ -2,3 +2,4 @@ mod Groves
 mod Crowns
 mod Parts
 mod Rows
+mod Planted

@@ -1,23 +1,32 @@
 -- What is added for a list of pairs, piece by piece.
 use Rattle.std.proofs.Common.{◌≡◌, ℕ, suc, zero, ◌+◌, ◌-◌, ◌*◌, ◌^◌, ◌<◌, ◌≤◌, min, Bool, true, false, if◌then◌else◌, List, [], ◌∷◌, ◌++◌, length, take, drop, refl, sym, ◌∙◌, ap, subst, arith}
 use Rattle.std.proofs.lemmas.List.{length-take-le, length-append, append_assoc, take-append-drop}
-use Rattle.histories.specs.Common.{NodeNo, History, value}
+use Rattle.histories.specs.Common.{NodeNo, Left, Right, Child, History, value}
 use Rattle.ordered_map.specs.declared.pair.Pair.{Pair}
 use Rattle.ordered_map.specs.OrderedMap.{AllBelow, AllFrom, IsRising}
 use Rattle.edits.specs.declared.piece.Piece.{Piece}
 use Rattle.edits.specs.declared.piece.Piece.TheVariants.{Leaf, Fork}
 use Rattle.edits.specs.Laws.PieceFills.{HoldsWords}
+use Rattle.edits.specs.Pieces.{word_of}
 use Rattle.edits.proofs.Lemmas.{leaf_with, fork_with}
-use Rattle.planting.specs.Groves.{IsGrove, IsPartedAt, HoldsRow, HasGrown}
+use Rattle.planting.specs.Groves.{IsGrove, IsPartedAt, HoldsRow, NamesBelow, HasGrown}
 use Rattle.planting.proofs.Groves.{leaf_grove, fork_grove, any_tall}
 
-row_front : (h : History) (at : ℕ) (xs ys : List Piece) → HoldsRow h at (xs ++ ys) → HoldsRow h at xs
+pub row_front : (h : History) (at : ℕ) (xs ys : List Piece) → HoldsRow h at (xs ++ ys) → HoldsRow h at xs
 row_front h at [] ys w = tt
 row_front h at (x ∷ xs) ys w = (w.0, row_front h (suc at) xs ys w.1)
 
-row_back : (h : History) (at : ℕ) (xs ys : List Piece) → HoldsRow h at (xs ++ ys) → HoldsRow h (at + length xs) ys
+pub row_back : (h : History) (at : ℕ) (xs ys : List Piece) → HoldsRow h at (xs ++ ys) → HoldsRow h (at + length xs) ys
 row_back h at [] ys w = subst (λ n. HoldsRow h n ys) (omega arith) w
 row_back h at (x ∷ xs) ys w = subst (λ n. HoldsRow h n ys) (omega arith) (row_back h (suc at) xs ys w.1)
+
+pub names_more : (m n : ℕ) (ps : List Piece) → m ≤ n → NamesBelow m ps → NamesBelow n ps
+names_more m n [] l w = tt
+names_more m n (p ∷ ps) l w = let a = w.0 in let b = w.1 in (omega (arith, l, a), omega (arith, l, b), names_more m n ps l w.2)
+
+pub names_both : (m : ℕ) (xs ys : List Piece) → NamesBelow m xs → NamesBelow m ys → NamesBelow m (xs ++ ys)
+names_both m [] ys v w = w
+names_both m (x ∷ xs) ys v w = (v.0, v.1, names_both m xs ys v.2 w)
 
 abbrev pub leaf_level : Bool → ℕ → ℕ
 leaf_level trie deep = if trie then 66 else deep
@@ -28,6 +37,9 @@ leaf_grown trie (p ∷ ps) deep old some four rises small fits = record {
   more = Leaf (leaf_level trie deep) 0 (p ∷ ps) ∷ [];
   is = refl;
   few = omega arith;
+  enough = omega (arith, four);
+  last = let e = length-append old (Leaf (leaf_level trie deep) 0 (p ∷ ps) ∷ []) in omega (arith, e);
+  names = (omega arith, omega arith, tt);
   grove = λ h tall w _. leaf_grove trie (value h) (3 + length old) deep (leaf_level trie deep) tall p ps (leaf_with h (3 + length old) (leaf_level trie deep) (leaf_level trie deep) 0 (p ∷ ps) refl (fits_leaf trie) (omega arith) w.0 some four) rises small (λ is. ap (λ t. leaf_level t deep) is) (λ is. ap (λ t. leaf_level t deep) is);
 }
   where
@@ -97,11 +109,20 @@ module _ (trie : Bool) (ps : List Pair) (deep middle key here : ℕ) (old row ro
     more = left.more ++ (right.more ++ top_piece ∷ []);
     is = ap (λ r. r ++ top_piece ∷ []) (right.is ∙ ap (λ r. r ++ right.more) left.is) ∙ append_assoc (old ++ left.more) right.more (top_piece ∷ []) ∙ append_assoc old left.more (right.more ++ top_piece ∷ []);
     few = let e = more_is in let l = left.few in let r = right.few in let lo = low_is in let hi = high_is in let less = p.less in omega (arith, e, l, r, lo, hi, less);
+    enough = let e = more_is in let l = left.enough in let r = right.enough in let lo = low_is in let hi = high_is in let less = p.less in omega (arith, e, l, r, lo, hi, less);
+    last = let e = all_is in omega (arith, e);
+    names = let e = all_is in let r = row_is in let r' = row'_is in let lx = left.last in let ly = right.last in
+        names_both (3 + length (row' ++ top_piece ∷ [])) left.more (right.more ++ top_piece ∷ [])
+        (names_more _ _ left.more (omega (arith, e, r, r')) left.names)
+        (names_both _ right.more (top_piece ∷ []) (names_more _ _ right.more (omega (arith, e)) right.names) (omega (arith, e, r, r', lx), omega (arith, e, ly), tt));
     grove = λ h tall w small.
         let g : IsGrove trie (value h) ps deep tall at (a + b + 1) (at + a + b) = grove h w tall small in
         subst (λ n. IsGrove trie (value h) ps deep tall at (length (left.more ++ (right.more ++ top_piece ∷ []))) n) (let e = row'_is in omega (arith, e)) (subst (λ n. IsGrove trie (value h) ps deep tall at n (at + a + b)) (sym more_is) g);
   }
     where
+      all_is : length (row' ++ top_piece ∷ []) ≡ length row' + 1
+      all_is = length-append row' (top_piece ∷ [])
+
       more_is : length (left.more ++ (right.more ++ top_piece ∷ [])) ≡ a + b + 1
       more_is = length-append left.more (right.more ++ top_piece ∷ []) ∙ (let e : length (right.more ++ top_piece ∷ []) ≡ b + 1 = length-append right.more (top_piece ∷ []) in omega (arith, e))
 
@@ -111,6 +132,9 @@ grown_as trie ps deep old new new' top top' g e f = record {
   more = g.more;
   is = e ∙ g.is;
   few = g.few;
+  enough = g.enough;
+  last = ap suc f ∙ g.last ∙ ap (λ r. 3 + length r) (sym e);
+  names = subst (λ r. NamesBelow (3 + length r) g.more) (sym e) g.names;
   grove = λ h tall w s. subst (λ n. IsGrove trie (value h) ps deep tall (3 + length old) (length g.more) n) (sym f) (g.grove h tall w s);
 }
 

@@ -1,8 +1,9 @@
 -- Part of a tree that is planted: nodes in a row that show the pairs of a list.
 use Rattle.std.specs.Prelude.{◌≡◌, ℕ, suc, ◌+◌, ◌*◌, ◌^◌, ◌<◌, ◌≤◌, Bool, true, false, List, [], ◌∷◌, ◌++◌, length, take, drop}
-use Rattle.histories.specs.Common.{Side, Word, History, value}
+use Rattle.histories.specs.Common.{Side, Left, Right, Word, Child, History, value}
 use Rattle.edits.specs.declared.piece.Piece.{Piece}
 use Rattle.edits.specs.Laws.PieceFills.{HoldsWords}
+use Rattle.edits.specs.Pieces.{word_of}
 use Rattle.ordered_map.specs.declared.pair.Pair.{Pair}
 use Rattle.ordered_map.specs.OrderedMap.{AllBelow, AllFrom}
 use Rattle.ordered_map.specs.TreeWords.{Tree, root, Shows, Has, class, level}
@@ -51,10 +52,19 @@ abbrev pub HoldsRow : History → ℕ → List Piece → Type 0
 HoldsRow h at [] = Unit {0}
 HoldsRow h at (p ∷ ps) = HoldsWords h at p × HoldsRow h (suc at) ps
 
--- Nodes for these pairs were added to the row, which begins at node 3: whatever holds them shows the
--- pairs. In a tree of n pairs no leaf is more than k levels below the top if n is at most 4 times 2 ^ k.
+-- each field of these pieces names a node below this one
+abbrev pub NamesBelow : ℕ → List Piece → Type 0
+NamesBelow most [] = Unit {0}
+NamesBelow most (p ∷ ps) = (word_of p (Child Left) < most) × (word_of p (Child Right) < most) × NamesBelow most ps
+
+-- Nodes for these pairs were added to the row, which begins at node 3, the top as the last: whatever
+-- holds them shows the pairs. In a tree of n pairs no leaf is more than k levels below the top if n is
+-- at most 4 times 2 ^ k.
 pub record HasGrown (trie : Bool) (ps : List Pair) (deep : ℕ) (old new : List Piece) (top : ℕ) : Type 0 where
   pub more : List Piece
   pub is : new ≡ old ++ more
   pub few : length more < 2 * length ps
+  pub enough : length ps ≤ 4 * length more
+  pub last : suc top ≡ 3 + length new
+  pub names : NamesBelow (3 + length new) more
   pub grove : (h : History) (tall : ℕ) → HoldsRow h (3 + length old) more → (trie ≡ false → length ps ≤ 4 * 2 ^ tall) → IsGrove trie (value h) ps deep tall (3 + length old) (length more) top

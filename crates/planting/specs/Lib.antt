@@ -1,1 +1,2 @@
 pub mod Groves
+pub mod Plantings

@@ -1,8 +1,9 @@
-//! Trees that are planted with the first pairs of a map.
+//! Tables that are planted with the first pairs of a map.
 #![tactic(auto)]
 
 mod leaf;
 mod parting;
+mod planting;
 mod trees;
 
-pub use trees::grow;
+pub use planting::Planting;

@@ -1,0 +1,100 @@
+//! What a map's table begins with.
+ghost use Rattle.std.specs.Prelude.{◌≡◌, ◌*◌, ◌^◌, ◌≤◌, ◌<◌, length, vec_len, IfOk};
+ghost use Rattle.ordered_map.specs.OrderedMap.{AllBelow, IsRising};
+ghost use Rattle.template.specs.Balance.{map_mode};
+ghost use Rattle.planting.specs.Plantings.{bare, IsGrownOver, IsPlantingOf};
+
+use crate::trees::grow;
+use arena::{Mode, NoMemory, NodeNo};
+use edits::Piece;
+use ordered_map::Pair;
+use std::alloc::Global;
+use std::fmt;
+use std::marker::Model;
+
+/// The first pairs of a map, and the nodes that show them from the start.
+#[derive(Drop)]
+pub struct Planting {
+    mode: Mode,
+    pairs: Vec<Pair>,
+    nodes: Vec<Piece>,
+}
+
+impl Model for Planting {
+    ghost use Rattle.planting.specs.Plantings.{PlantingView};
+
+    ghost Value = { PlantingView };
+
+    ghost view = { λ p. record { mode = p.mode; pairs = p.pairs.items; nodes = p.nodes.items } };
+}
+
+impl Planting {
+    /// Nothing is planted: a map of this mode is empty at the start, and cells are 0.
+    pub fn none(alloc: Global, mode: Mode) -> Planting
+        ensures { result ≡ bare mode }
+    {
+        Planting {
+            mode,
+            pairs: Vec::new(alloc),
+            nodes: Vec::new(alloc),
+        }
+    }
+
+    /// These pairs are planted, as a trie or a tree. The only error is want of memory.
+    pub fn of_pairs(alloc: Global, trie: bool, pairs: Vec<Pair>) -> Result<Planting, NoMemory>
+        requires rising { IsRising pairs.items }
+        requires keys { AllBelow (2 ^ 64) pairs.items }
+        requires few { vec_len pairs ≤ 33554432 }
+        ensures { IfOk result (IsPlantingOf (map_mode trie) pairs.items) }
+    {
+        let mode = map_mode(trie);
+        if pairs.is_empty() {
+            return Ok(Planting::none(alloc, mode));
+        }
+        let nodes = nodes_over(alloc, &pairs, trie)?;
+        Ok(Planting { mode, pairs, nodes })
+    }
+
+    /// How many nodes are planted.
+    pub fn planted(&self) -> usize
+        ensures { result ≡ length self.now.nodes }
+    {
+        self.nodes.len()
+    }
+}
+
+/// The mode of a map.
+fn map_mode(trie: bool) -> Mode
+    ensures { result ≡ map_mode trie }
+{
+    if trie { Mode::Trie } else { Mode::Tree }
+}
+
+/// The nodes over these pairs, and the fork above all keys.
+fn nodes_over(alloc: Global, pairs: &[Pair], trie: bool) -> Result<Vec<Piece>, NoMemory>
+    requires some { 0 < length pairs.now }
+    requires rising { IsRising pairs.now }
+    requires keys { AllBelow (2 ^ 64) pairs.now }
+    requires few { length pairs.now ≤ 33554432 }
+    ensures { IfOk result (λ nodes. IsGrownOver trie pairs.now nodes.items) }
+{
+    let mut nodes = Vec::new(alloc);
+    let top = grow(&mut nodes, pairs, trie, 2)?;
+    nodes.push(Piece::Fork {
+        level: 1,
+        class: 1,
+        key: 0,
+        left: NodeNo(top),
+        right: NodeNo(1),
+    })?;
+    Ok(nodes)
+}
+
+impl fmt::Debug for Planting {
+    fn fmt<W: fmt::Write>(&self, f: &mut fmt::Formatter<W>) -> fmt::Result {
+        f.debug_struct("Planting")
+            .field("pairs", &self.pairs.len())
+            .field("nodes", &self.nodes.len())
+            .finish_non_exhaustive()
+    }
+}
