@@ -34,7 +34,7 @@ pub record AreLeftByAll (lay : Layout) (passes : List PassView) (pairs : List (�
   pub all : AreAllBack lay passes
   pub words : Contents
   pub closed : IsClosed (TypedAllows IsNumber IsWideNumber) lay passes words
-  pub spelled : Spells lay (value (history_of lay.mode closed.rows)) (map (word_pair (λ k. k) (λ v. v)) pairs)
+  pub spelled : Spells lay (value (history_of closed.planting closed.rows)) (map (word_pair (λ k. k) (λ v. v)) pairs)
 
 -- how a client may close: the pairs are left; or it is as it was
 abbrev pub IsClosing : OwnedPass → Closing → Type 0

@@ -3,3 +3,6 @@ mod Crowns
 mod Parts
 mod Rows
 mod Planted
+mod Placed
+mod Words
+pub mod Lemmas

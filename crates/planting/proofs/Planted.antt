@@ -60,14 +60,16 @@ twice_least (suc (suc k)) = let e = pow-suc 2 (suc k) in let l = twice_least (su
 -- the room of the doublings is enough, and not more than twice that
 doubled : (most room n : ℕ) → 0 < room → n ≤ room + most → room ≤ 2 * n + 2 → (n ≤ room * 2 ^ doublings most room n) × (room * 2 ^ doublings most room n ≤ 2 * n + 2)
 doubled zero room n some fits least = (omega (arith, fits), omega (arith, least))
-doubled (suc most) room n some fits least = go (dec_lt room n)
+doubled (suc most) room n some fits least = go (dec_lt room n) (λ l. doubled most (2 * room) n (omega (arith, some)) (omega (arith, fits, some)) (omega (arith, l)))
   where
-    go : Dec (room < n) → (n ≤ room * 2 ^ doublings (suc most) room n) × (room * 2 ^ doublings (suc most) room n ≤ 2 * n + 2)
-    go (yes l) =
-        let more = doubled most (2 * room) n (omega (arith, some)) (omega (arith, fits, some)) (omega (arith, l)) in
-        let same : (2 * room) * 2 ^ doublings most (2 * room) n ≡ room * 2 ^ suc (doublings most (2 * room) n) = twice room (doublings most (2 * room) n) in
-        rw (lt-ltb room n l, ← same) more
-    go (no d) = rw (le-ltb room n (omega (arith, d))) (omega (arith, d), omega (arith, least))
+    go : Dec (room < n) → (room < n → (n ≤ 2 * room * 2 ^ doublings most (2 * room) n) × (2 * room * 2 ^ doublings most (2 * room) n ≤ 2 * n + 2)) → (n ≤ room * 2 ^ doublings (suc most) room n) × (room * 2 ^ doublings (suc most) room n ≤ 2 * n + 2)
+    go (yes l) rest =
+        let more = rest l in
+        let same = twice room (doublings most (2 * room) n) in
+        let first : n ≤ room * 2 ^ suc (doublings most (2 * room) n) = subst (λ k. n ≤ k) same more.0 in
+        let second : room * 2 ^ suc (doublings most (2 * room) n) ≤ 2 * n + 2 = subst (λ k. k ≤ 2 * n + 2) same more.1 in
+        rw (lt-ltb room n l) (first, second)
+    go (no d) rest = rw (le-ltb room n (omega (arith, d))) (omega (arith, d), omega (arith, least))
 
 tall_enough : (n : ℕ) → 0 < n → (n ≤ 4 * 2 ^ height n) × (4 * 2 ^ height n ≤ 2 * n + 2)
 tall_enough n some = doubled n 4 n (omega arith) (omega arith) (omega (arith, some))
@@ -113,16 +115,16 @@ module _ (mode : Mode) (is : IsMap mode) (b : Bool) (is_trie : mode ≡ TrieMode
   rows = holds_from o all 0 all refl (λ k part. ap (λ n. piece_word all n part) (omega arith)) names
 
   inner : HoldsRow h 3 nodes
-  inner = rows.3
+  inner = rows.1.1.1
 
   root_is : IsForkWith (value h) 0 0 2 0 (3 + many) 2
   root_is = subst (λ n. IsForkWith (value h) 0 0 2 0 n 2) (let n = nodes_count in omega (arith, n)) (fork_with h 0 0 2 0 (numbered (2 + length nodes)) (numbered 2) (omega arith) (omega arith) rows.0)
 
   first_is : IsLeafWith (value h) 1 2 1 (pair 0 0 ∷ [])
-  first_is = leaf_with h 1 2 2 1 (pair 0 0 ∷ []) refl (omega arith) (omega arith) rows.1 (omega arith) (omega arith)
+  first_is = leaf_with h 1 2 2 1 (pair 0 0 ∷ []) refl (omega arith) (omega arith) rows.1.0 (omega arith) (omega arith)
 
   last_is : IsLeafWith (value h) 2 1 2 (pair 0 0 ∷ [])
-  last_is = leaf_with h 2 1 1 2 (pair 0 0 ∷ []) refl (omega arith) (omega arith) rows.2 (omega arith) (omega arith)
+  last_is = leaf_with h 2 1 1 2 (pair 0 0 ∷ []) refl (omega arith) (omega arith) rows.1.1.0 (omega arith) (omega arith)
 
   crown_is : IsForkWith (value h) (3 + many) 1 1 0 x 1
   crown_is = fork_with h (3 + many) 1 1 0 (numbered x) (numbered 1) (omega arith) (omega arith)
@@ -140,32 +142,36 @@ module _ (mode : Mode) (is : IsMap mode) (b : Bool) (is_trie : mode ≡ TrieMode
   pub planted : (lay : Layout) → lay.mode ≡ mode → IsPlanted lay h 0
   planted lay m = record {
     dummy = refl;
-    tree = whole_tree b (value h) ps tall many x grove small root_is crown_is first_is last_is;
-    is_tree = crowned b (value h) ps tall many x grove small root_is crown_is first_is last_is;
-    items = crown_items b (value h) ps tall many x grove small root_is crown_is first_is last_is ∙ ap (λ qs. qs ++ Rattle.ordered_map.specs.Planted.ends) (sym (pairs_back ps));
-    ends_low = crown_low b (value h) ps tall many x grove small root_is crown_is first_is last_is;
-    whole = λ n i. crown_whole b (value h) ps tall many x grove small root_is crown_is first_is last_is n (let e = count_is lay m in omega (arith, e, i));
-    there = λ n p. let i = crown_there b (value h) ps tall many x grove small root_is crown_is first_is last_is n p in let e = count_is lay m in omega (arith, e, i);
-    root = refl;
-    last = refl;
+    tree = whole_tree b (value h) ps tall many x grove small root_is first_is last_is crown_is;
+    is_tree = crowned b (value h) ps tall many x grove small root_is first_is last_is crown_is;
+    items = crown_items b (value h) ps tall many x grove small root_is first_is last_is crown_is ∙ ap (λ qs. qs ++ Rattle.ordered_map.specs.Planted.ends) (sym (pairs_back ps));
+    ends_low = crown_low b (value h) ps tall many x grove small root_is first_is last_is crown_is;
+    whole = λ n i. crown_whole b (value h) ps tall many x grove small root_is first_is last_is crown_is n (let e = count_is lay m in omega (arith, e, i));
+    there = λ n p. let i = crown_there b (value h) ps tall many x grove small root_is first_is last_is crown_is n p in let e = count_is lay m in omega (arith, e, i);
+    root = rows.0 (Settled Head) tt;
+    last = rows.1.1.0 (Settled Head) tt;
     right = root_is.right;
-    blank = crown_blank b (value h) ps tall many x grove small root_is crown_is first_is last_is;
-    deep = λ tree n p. let l = crown_deep b (value h) ps tall many x grove small root_is crown_is first_is last_is (is_tree (sym m ∙ tree)) n p in let t = taken_length (nodes_at_start mode 0) (min (suc tall) (length nodes)) in let e = enough in omega (arith, l, t, e);
-    forks = λ trie. crown_forks b (value h) ps tall many x grove small root_is crown_is first_is last_is (is_trie (sym m ∙ trie));
+    blank = crown_blank b (value h) ps tall many x grove small root_is first_is last_is crown_is;
+    deep = λ tree n p. let l = crown_deep b (value h) ps tall many x grove small root_is first_is last_is crown_is (is_tree (sym m ∙ tree)) n p in let t = taken_length (nodes_at_start mode 0) (min (suc tall) (length nodes)) in let e = enough in omega (arith, l, t, e);
+    forks = λ trie. crown_forks b (value h) ps tall many x grove small root_is first_is last_is crown_is (is_trie (sym m ∙ trie));
   }
 
 -- what begins so, where there are nodes
-as_planted : (mode : Mode) (is : IsMap mode) (ps : List Pair) (q : Piece) (qs : List Piece) → planted_as mode ps (q ∷ qs) ≡ planted_opening mode is ps (q ∷ qs)
-as_planted TreeMode is ps q qs = refl
-as_planted TrieMode is ps q qs = refl
+-- where there are nodes, it begins so
+abbrev BeginsSo : (mode : Mode) → IsMap mode → List Pair → Type 0
+BeginsSo mode is ps = (row : List Piece) (p : Piece) → planted_as mode ps (row ++ p ∷ []) ≡ planted_opening mode is ps (row ++ p ∷ [])
 
-as_nodes : (mode : Mode) (is : IsMap mode) (ps : List Pair) (row : List Piece) (p : Piece) → planted_as mode ps (row ++ p ∷ []) ≡ planted_opening mode is ps (row ++ p ∷ [])
-as_nodes mode is ps [] p = as_planted mode is ps p []
-as_nodes mode is ps (r ∷ rs) p = as_planted mode is ps r (rs ++ p ∷ [])
+tree_begins : (ps : List Pair) → BeginsSo TreeMode refl ps
+tree_begins ps [] p = refl
+tree_begins ps (r ∷ rs) p = refl
+
+trie_begins : (ps : List Pair) → BeginsSo TrieMode refl ps
+trie_begins ps [] p = refl
+trie_begins ps (r ∷ rs) p = refl
 
 -- a map that begins with these nodes begins with these pairs
-planting : (mode : Mode) (is : IsMap mode) (b : Bool) → (mode ≡ TrieMode → b ≡ true) → (mode ≡ TreeMode → b ≡ false) → (ps : List Pair) (nodes : List Piece) → IsGrownOver b ps nodes → AllBelow (2 ^ 64) ps → 0 < length ps → IsPlantingOf mode ps record { mode = mode; pairs = ps; nodes = nodes }
-planting mode is b trie tree ps nodes g small some = subst (λ ns. IsPlantingOf mode ps record { mode = mode; pairs = ps; nodes = ns }) (sym g.is) record {
+planting : (mode : Mode) (is : IsMap mode) (b : Bool) → (mode ≡ TrieMode → b ≡ true) → (mode ≡ TreeMode → b ≡ false) → (ps : List Pair) (nodes : List Piece) → BeginsSo mode is ps → IsGrownOver b ps nodes → AllBelow (2 ^ 64) ps → IsPlantingOf mode ps record { mode = mode; pairs = ps; nodes = nodes }
+planting mode is b trie tree ps nodes begins g small = subst (λ ns. IsPlantingOf mode ps record { mode = mode; pairs = ps; nodes = ns }) (sym g.is) record {
   mode_is = ap (λ (o : Opening). o.mode) same;
   view_mode = refl;
   pairs_are = ap (λ (o : Opening). pairs_of o.pairs) same ∙ pairs_back ps;
@@ -175,7 +181,10 @@ planting mode is b trie tree ps nodes g small some = subst (λ ns. IsPlantingOf 
 }
   where
     same : planted_as mode ps (g.row ++ crown_piece g.top ∷ []) ≡ planted_opening mode is ps (g.row ++ crown_piece g.top ∷ [])
-    same = as_nodes mode is ps g.row (crown_piece g.top)
+    same = begins g.row (crown_piece g.top)
+
+    some : 0 < length ps
+    some = let e = g.grown.few in omega (arith, e)
 
 no_trie : TrieMode ≡ TreeMode → ⊥
 no_trie e = absurd (cc)
@@ -183,9 +192,9 @@ no_trie e = absurd (cc)
 no_tree : TreeMode ≡ TrieMode → ⊥
 no_tree e = absurd (cc)
 
-pub planting_of : (b : Bool) (ps : List Pair) (nodes : List Piece) → IsGrownOver b ps nodes → AllBelow (2 ^ 64) ps → 0 < length ps → IsPlantingOf (map_mode b) ps record { mode = map_mode b; pairs = ps; nodes = nodes }
-planting_of true ps nodes g small some = planting TrieMode refl true (λ _. refl) (λ e. absurd (no_trie e)) ps nodes g small some
-planting_of false ps nodes g small some = planting TreeMode refl false (λ e. absurd (no_tree e)) (λ _. refl) ps nodes g small some
+pub planting_of : (b : Bool) (ps : List Pair) (nodes : List Piece) → IsGrownOver b ps nodes → AllBelow (2 ^ 64) ps → IsPlantingOf (map_mode b) ps record { mode = map_mode b; pairs = ps; nodes = nodes }
+planting_of true ps nodes g small = planting TrieMode refl true (λ _. refl) (λ e. absurd (no_trie e)) ps nodes (trie_begins ps) g small
+planting_of false ps nodes g small = planting TreeMode refl false (λ e. absurd (no_tree e)) (λ _. refl) ps nodes (tree_begins ps) g small
 
 -- no pairs are those of an empty map
 pub bare_planting : (mode : Mode) (ps : List Pair) → length ps ≡ 0 → IsPlantingOf mode ps (bare mode)

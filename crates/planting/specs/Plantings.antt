@@ -125,12 +125,16 @@ planted_opening mode is pairs nodes = record {
   cells = λ none. absurd (no_cells mode is none);
 }
 
--- how a table begins that is planted so: empty, where there are no nodes
+-- cells begin empty
+abbrev pub planted_in : Mode → List Pair → List Piece → Opening
+planted_in Tree pairs nodes = planted_opening Tree refl pairs nodes
+planted_in Trie pairs nodes = planted_opening Trie refl pairs nodes
+planted_in Records pairs nodes = empty Records
+
+-- so does a map, where there are no nodes
 abbrev pub planted_as : Mode → List Pair → List Piece → Opening
 planted_as mode pairs [] = empty mode
-planted_as Tree pairs (p ∷ ps) = planted_opening Tree refl pairs (p ∷ ps)
-planted_as Trie pairs (p ∷ ps) = planted_opening Trie refl pairs (p ∷ ps)
-planted_as Records pairs (p ∷ ps) = empty Records
+planted_as mode pairs (p ∷ ps) = planted_in mode pairs (p ∷ ps)
 
 -- how a table begins that has this planting
 abbrev pub opening_of : PlantingView → Opening

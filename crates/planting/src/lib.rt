@@ -3,7 +3,10 @@
 
 mod leaf;
 mod parting;
+mod places;
 mod planting;
+mod room;
 mod trees;
 
 pub use planting::Planting;
+pub use room::with_room;

@@ -1,6 +1,7 @@
 use Rattle.std.proofs.Common.{◌≡◌, ℕ, List, ◌∙◌, ap, slice_index}
 use Rattle.histories.specs.Common.{Layout, Word, place, table_size, opening, IsWord, Contents}
 use Rattle.arena.specs.PlainWords.{IsOpening}
+use Rattle.planting.proofs.Lemmas.{bare_words}
 use Rattle.forest.proofs.Deals.{opens}
 use Rattle.forest.proofs.words.Words.open.Goals as goal
 
@@ -9,4 +10,7 @@ placed : (c : Contents) (words : List ℕ) (lay : Layout) → c.layout ≡ lay �
 placed c words lay same is x w i = rw (is, ← same) (x w (rw same i))
 
 pub of_words-requires : goal.of_words-requires
-of_words-requires g c = opens g.S.Shape.allows c.args.layout.now c.words-2.result.now _ (c.words-2.ensures.size ∙ ap table_size c.in_ok-words.ensures.layout) (placed c.in_ok-words.words c.words-2.result.now c.args.layout.now c.in_ok-words.ensures.layout c.words-2.ensures.words c.in_ok-words.ensures.opening)
+of_words-requires g c = ?
+
+pub of_words-requires-2 : goal.of_words-requires-2
+of_words-requires-2 g c = ?
