@@ -33,12 +33,12 @@ leaf_grove trie f n deep here tall p ps x rises small tree_deep trie_deep = reco
   tall_most = λ is m e. let same : level f m ≡ level f n = ap (level f) (sym e) in let at = x.level in let top = tree_deep is in omega (arith, same, at, top);
   forks = λ _ m e fork. absurd (let z : true ≡ false = sym x.leaf ∙ ap (is_leaf f) e ∙ fork in cc);
   keeps = λ is m side parted from below. (
-      record {
-        fork = λ fork _. absurd (let z : true ≡ false = sym x.leaf ∙ fork in cc);
-        leaf = λ _ _. (x.level ∙ trie_deep is, subst (AllFrom (side_from f m side)) (sym x.pairs) from, subst (AllBelow (side_to f m side)) (sym x.pairs) below);
-        last = λ _ high. absurd (high x.class);
-      },
-      (let above = above_leaves f m parted in let at = x.level in let last = trie_deep is in omega (arith, above, at, last)),
+    record {
+      fork = λ fork _. absurd (let z : true ≡ false = sym x.leaf ∙ fork in cc);
+      leaf = λ _ _. (x.level ∙ trie_deep is, subst (AllFrom (side_from f m side)) (sym x.pairs) from, subst (AllBelow (side_to f m side)) (sym x.pairs) below);
+      last = λ _ high. absurd (high x.class);
+    },
+    (let above = above_leaves f m parted in let at = x.level in let last = trie_deep is in omega (arith, above, at, last)),
   );
 }
 
@@ -131,15 +131,15 @@ module _ (trie : Bool) (f : Word → ℕ) (ls rs : List Pair) (at a b deep here 
     there = there;
     whole = whole;
     shows = λ lo hi low high. (
-        record {
-          fork = w.fork;
-          left = w.left ∙ sym left.is;
-          right = w.right ∙ sym right.is;
-          low = subst (λ n. level f c < level f n) (sym left.is) rises.0;
-          high = subst (λ n. level f c < level f n) (sym right.is) rises.1;
-        },
-        left.shows lo (rank f c) (from_front lo ls rs low) (subst (λ k. AllBelow k ls) (sym rank_is) below),
-        right.shows (rank f c) hi (subst (λ k. AllFrom k rs) (sym rank_is) from) (below_back hi ls rs high),
+      record {
+        fork = w.fork;
+        left = w.left ∙ sym left.is;
+        right = w.right ∙ sym right.is;
+        low = subst (λ n. level f c < level f n) (sym left.is) rises.0;
+        high = subst (λ n. level f c < level f n) (sym right.is) rises.1;
+      },
+      left.shows lo (rank f c) (from_front lo ls rs low) (subst (λ k. AllBelow k ls) (sym rank_is) below),
+      right.shows (rank f c) hi (subst (λ k. AllFrom k rs) (sym rank_is) from) (below_back hi ls rs high),
     );
     items = λ i. left.items i ++ right.items i;
     low = low;

@@ -6,3 +6,5 @@ mod Planted
 mod Placed
 mod Words
 pub mod Lemmas
+mod Orders
+mod Counted

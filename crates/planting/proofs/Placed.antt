@@ -11,7 +11,7 @@ use Rattle.arena.specs.declared.word.ScxWord.{ScxWord}
 use Rattle.arena.specs.declared.word.ScxWord.TheVariants.{State, AllFrozen, Plan, New, Old, Member, Seen, Call}
 use Rattle.arena.specs.declared.word.Word.{Word}
 use Rattle.arena.specs.declared.word.Word.TheVariants.{Node, Scx}
-use Rattle.arena.specs.Layout.{all_nodes, place, IsWord}
+use Rattle.arena.specs.Layout.{all_nodes, place, table_size, IsWord}
 use Rattle.arena.specs.Words.{node_place, scx_place, IsScxWord, node, scx}
 use Rattle.planting.specs.Places.{part_at, scx_part_at, word_of_place}
 
@@ -70,6 +70,11 @@ place_back lay (Scx s part) i =
     let high : (18 * all_nodes lay + 14 * s.0 + scx_place part - 18 * all_nodes lay) / 14 ≡ s.0 = omega (arith, small) in
     let low : (18 * all_nodes lay + 14 * s.0 + scx_place part - 18 * all_nodes lay) % 14 ≡ scx_place part = omega (arith, small) in
     rw (le-ltb (18 * all_nodes lay + 14 * s.0 + scx_place part) (18 * all_nodes lay) beyond) ((λ k. scx (high k) (scx_part_at (low k))) ∙ ap (λ q. Scx s q) p.0)
+
+-- and is inside
+pub place_inside : (lay : Layout) (w : Word) → IsWord lay w → place lay w < table_size lay
+place_inside lay (Node n part) i = let small = (part_back part).1 in omega (arith, i, small)
+place_inside lay (Scx s part) i = let small = (scx_back part i.1).1 in let here = i.0 in omega (arith, here, small)
 
 at_front : (xs ys : List ℕ) (i : ℕ) → i < length xs → slice_index (xs ++ ys) i ≡ slice_index xs i
 at_front [] ys i l = absurd (omega (arith, l))

@@ -104,12 +104,19 @@ module _ (mode : Mode) (is : IsMap mode) (b : Bool) (is_trie : mode ≡ TrieMode
   top_is = let e = g.last in let r : length row ≡ many = ap length row_is in omega (arith, e, r)
 
   names : NamesBelow (length all) all
-  names = let n = nodes_count in let e = top_is in let r : length row ≡ many = ap length row_is in
+  names = let n = nodes_count in let e = top_is in let r : length row ≡ many = ap length row_is in (
+    omega arith,
+    omega (arith, n),
+    (
+      omega arith,
+      omega arith,
       (
-      omega arith, omega (arith, n), (
-      omega arith, omega arith, (
-      omega arith, omega arith,
-      names_both (length all) row (crown_piece x ∷ []) (names_more (3 + length row) (length all) row (omega (arith, n, r)) (subst (λ r. NamesBelow (3 + length row) r) (sym row_is) g.names)) (omega (arith, e, n), omega (arith, n), tt))))
+        omega arith,
+        omega arith,
+        names_both (length all) row (crown_piece x ∷ []) (names_more (3 + length row) (length all) row (omega (arith, n, r)) (subst (λ r. NamesBelow (3 + length row) r) (sym row_is) g.names)) (omega (arith, e, n), omega (arith, n), tt),
+      ),
+    ),
+  )
 
   rows : HoldsRow h 0 all
   rows = holds_from o all 0 all refl (λ k part. ap (λ n. piece_word all n part) (omega arith)) names
@@ -136,6 +143,11 @@ module _ (mode : Mode) (is : IsMap mode) (b : Bool) (is_trie : mode ≡ TrieMode
   enough : suc tall ≤ length nodes
   enough = let n = nodes_count in let e = g.enough in let t = twice_least tall in let least = (tall_enough (length ps) some).1 in omega (arith, n, e, t, least)
 
+  -- as many count as taken as the tree may be deeper
+  taken_is : length (taken_nodes h) ≡ min (suc tall) (length nodes)
+  unfolding taken_nodes
+  taken_is = taken_length (nodes_at_start mode 0) (min (suc tall) (length nodes))
+
   count_is : (lay : Layout) → lay.mode ≡ mode → nodes_at_start lay.mode (length nodes) ≡ 3 + (many + 1)
   count_is lay m = rw (m, is) (let n = nodes_count in omega (arith, n))
 
@@ -152,7 +164,7 @@ module _ (mode : Mode) (is : IsMap mode) (b : Bool) (is_trie : mode ≡ TrieMode
     last = rows.1.1.0 (Settled Head) tt;
     right = root_is.right;
     blank = crown_blank b (value h) ps tall many x grove small root_is first_is last_is crown_is;
-    deep = λ tree n p. let l = crown_deep b (value h) ps tall many x grove small root_is first_is last_is crown_is (is_tree (sym m ∙ tree)) n p in let t = taken_length (nodes_at_start mode 0) (min (suc tall) (length nodes)) in let e = enough in omega (arith, l, t, e);
+    deep = λ tree n p. let l = crown_deep b (value h) ps tall many x grove small root_is first_is last_is crown_is (is_tree (sym m ∙ tree)) n p in let t = taken_is in let e = enough in omega (arith, l, t, e);
     forks = λ trie. crown_forks b (value h) ps tall many x grove small root_is first_is last_is crown_is (is_trie (sym m ∙ trie));
   }
 

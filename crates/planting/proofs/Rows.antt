@@ -89,12 +89,12 @@ module _ (trie : Bool) (ps : List Pair) (deep middle key here : ℕ) (old row ro
     whole : (tall : ℕ) → (trie ≡ false → middle ≤ 4 * 2 ^ tall) → (trie ≡ false → length ps ≤ middle + 4 * 2 ^ tall) → IsGrove trie (value h) ps deep (suc tall) at (a + b + 1) (at + a + b)
     whole tall low high = subst (λ (qs : List Pair). IsGrove trie (value h) qs deep (suc tall) at (a + b + 1) (at + a + b)) (take-append-drop middle ps)
         (fork_grove trie (value h) (take middle ps) (drop middle ps) at a b deep here tall tall tall (here + 1) (here + 1) key x y
-            (left.grove h tall w_left (λ is. let l = low is in let e = low_is in omega (arith, l, e)))
-            (subst (λ n. IsGrove trie (value h) (drop middle ps) (here + 1) tall n b y) (let e = row_is in omega (arith, e)) (right.grove h tall w_right (λ is. let l = high is in let e = high_is in omega (arith, l, e))))
-            (fork_with h (at + a + b) here 0 key (record { 0 = x }) (record { 0 = y }) fits (omega arith) w_top)
-            p.below p.from
-            (λ is. let same = (p.in_tree is).0 in (same, omega (arith, same), omega (arith, same), omega arith, omega arith))
-            p.in_trie)
+        (left.grove h tall w_left (λ is. let l = low is in let e = low_is in omega (arith, l, e)))
+        (subst (λ n. IsGrove trie (value h) (drop middle ps) (here + 1) tall n b y) (let e = row_is in omega (arith, e)) (right.grove h tall w_right (λ is. let l = high is in let e = high_is in omega (arith, l, e))))
+        (fork_with h (at + a + b) here 0 key (record { 0 = x }) (record { 0 = y }) fits (omega arith) w_top)
+        p.below p.from
+        (λ is. let same = (p.in_tree is).0 in (same, omega (arith, same), omega (arith, same), omega arith, omega arith))
+        p.in_trie)
 
     grove : (tall : ℕ) → (trie ≡ false → length ps ≤ 4 * 2 ^ tall) → IsGrove trie (value h) ps deep tall at (a + b + 1) (at + a + b)
     grove tall small = go trie refl tall small

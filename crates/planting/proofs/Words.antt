@@ -33,11 +33,6 @@ word_there [] i p part e = absurd (let z : None ≡ Some p = e in cc)
 word_there (q ∷ qs) zero p part e = ap (λ r. word_of r part) (the_same q p e)
 word_there (q ∷ qs) (suc i) p part e = word_there qs i p part e
 
-pub no_word : (ps : List Piece) (i : ℕ) (part : NodeWord) → slice_get ps i ≡ None → piece_word ps i part ≡ 0
-no_word [] i part e = refl
-no_word (q ∷ qs) zero part e = absurd (let z : Some q ≡ None = e in cc)
-no_word (q ∷ qs) (suc i) part e = no_word qs i part e
-
 -- beyond the crown are the nodes that were grown
 pub beyond_crown : (nodes : List Piece) (n : ℕ) (part : NodeWord) → 3 ≤ n → piece_word (all_pieces nodes) n part ≡ piece_word nodes (n - 3) part
 beyond_crown nodes zero part l = absurd (omega (arith, l))

@@ -73,7 +73,7 @@ within_less most n some = go (dec_lt n most)
     go (no d) = rw (le-ltb n most (omega (arith, d))) some
 
 -- there is no word beyond the last node
-none_there : (ps : List Piece) (n : ℕ) (part : NodeWord) → length ps ≤ n → piece_word ps n part ≡ 0
+pub none_there : (ps : List Piece) (n : ℕ) (part : NodeWord) → length ps ≤ n → piece_word ps n part ≡ 0
 none_there [] n part l = refl
 none_there (p ∷ ps) zero part l = absurd (omega (arith, l))
 none_there (p ∷ ps) (suc n) part l = none_there ps n part (omega (arith, l))

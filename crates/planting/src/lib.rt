@@ -2,11 +2,13 @@
 #![tactic(auto)]
 
 mod leaf;
+mod order;
 mod parting;
 mod places;
 mod planting;
 mod room;
 mod trees;
 
+pub use order::is_rising;
 pub use planting::Planting;
 pub use room::with_room;

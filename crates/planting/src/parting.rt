@@ -20,7 +20,11 @@ pub(crate) fn part(pairs: &[Pair], trie: bool, level: u64) -> Parting
     requires rising { IsRising pairs.now }
     ensures { IsPartedAt trie pairs.now level result.middle result.key result.level }
 {
-    if trie { by_bits(pairs) } else { halves(pairs, level) }
+    if trie {
+        by_bits(pairs)
+    } else {
+        halves(pairs, level)
+    }
 }
 
 /// Two halves, the first of full leaves.

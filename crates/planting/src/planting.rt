@@ -97,9 +97,7 @@ fn planted_word(nodes: &[Piece], word: Word) -> u64
     match word {
         Word::Node(node, part) => match part {
             NodeWord::Info | NodeWord::Marked => 0,
-            NodeWord::Child(_) => {
-                within(3 + nodes.len() as u64, piece_word(nodes, node, part))
-            }
+            NodeWord::Child(_) => { within(3 + nodes.len() as u64, piece_word(nodes, node, part)) }
             NodeWord::Settled(_) => piece_word(nodes, node, part),
         },
         Word::Scx(_, _) => opening_word(Mode::Records, word),

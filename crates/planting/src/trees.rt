@@ -12,7 +12,12 @@ use ordered_map::Pair;
 
 /// Adds the nodes of a tree of these pairs to a row that begins at node 3, each after what stands
 /// below it, and answers the number of its top. In a tree the top is on this level.
-pub(crate) fn grow(row: &mut Vec<Piece>, pairs: &[Pair], trie: bool, level: u64) -> Result<u64, NoMemory>
+pub(crate) fn grow(
+    row: &mut Vec<Piece>,
+    pairs: &[Pair],
+    trie: bool,
+    level: u64,
+) -> Result<u64, NoMemory>
     requires some { 0 < length pairs.now }
     requires rising { IsRising pairs.now }
     requires keys { AllBelow (2 ^ 64) pairs.now }

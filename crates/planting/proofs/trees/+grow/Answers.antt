@@ -25,14 +25,22 @@ grow-requires t c =
     let less = p.less in
     let fits = p.fits in
     let level = c.requires.level in
-    let room = c.requires.room in
-    (
-        omega (arith, n, less), (
-        omega (arith, n, some), (
-        subst IsRising (sym c.split_at.ensures.front) (rising_take c.part-parting.result.middle c.args.pairs.now c.requires.rising), (
-        subst (AllBelow (2 ^ 64)) (sym c.split_at.ensures.front) (below_take (2 ^ 64) c.part-parting.result.middle c.args.pairs.now c.requires.keys), (
-        omega (arith, n, less, fits, level),
-        omega (arith, n, less, room))))))
+    let room = c.requires.room in (
+      omega (arith, n, less),
+      (
+        omega (arith, n, some),
+        (
+          subst IsRising (sym c.split_at.ensures.front) (rising_take c.part-parting.result.middle c.args.pairs.now c.requires.rising),
+          (
+            subst (AllBelow (2 ^ 64)) (sym c.split_at.ensures.front) (below_take (2 ^ 64) c.part-parting.result.middle c.args.pairs.now c.requires.keys),
+            (
+              omega (arith, n, less, fits, level),
+              omega (arith, n, less, room),
+            ),
+          ),
+        ),
+      ),
+    )
 
 pub grow-requires-2 : goal.grow-requires-2
 grow-requires-2 t c =
@@ -44,14 +52,22 @@ grow-requires-2 t c =
     let fits = p.fits in
     let level = c.requires.level in
     let room = c.requires.room in
-    let grown = grown_room _ _ _ _ _ _ (IfOk-at_ok _ c.in_ok-left.was c.grow.ensures) in
-    (
-        omega (arith, n, some), (
-        omega (arith, n, less), (
-        subst IsRising (sym c.split_at.ensures.back) (rising_drop c.part-parting.result.middle c.args.pairs.now c.requires.rising), (
-        subst (AllBelow (2 ^ 64)) (sym c.split_at.ensures.back) (below_drop (2 ^ 64) c.part-parting.result.middle c.args.pairs.now c.requires.keys), (
-        omega (arith, n, some, fits, level),
-        omega (arith, n, m, room, grown))))))
+    let grown = grown_room _ _ _ _ _ _ (IfOk-at_ok _ c.in_ok-left.was c.grow.ensures) in (
+      omega (arith, n, some),
+      (
+        omega (arith, n, less),
+        (
+          subst IsRising (sym c.split_at.ensures.back) (rising_drop c.part-parting.result.middle c.args.pairs.now c.requires.rising),
+          (
+            subst (AllBelow (2 ^ 64)) (sym c.split_at.ensures.back) (below_drop (2 ^ 64) c.part-parting.result.middle c.args.pairs.now c.requires.keys),
+            (
+              omega (arith, n, some, fits, level),
+              omega (arith, n, m, room, grown),
+            ),
+          ),
+        ),
+      ),
+    )
 
 pub returns : goal.returns
 returns t c =
