@@ -30,11 +30,11 @@ second_is a b p q e = cc
 
 module _ (allows : Layout → History → ℕ → Type 0) (p q : SeatedPass) where
   -- the first of two, which is q, looks
-  pub looks_first : (ps qs : List SeatedPass) → ps ≡ q ∷ p ∷ [] → Looked allows ps qs → (early : List Row) × Behind early p × HasLookedBehind allows q early × (q.number.0 ≢ p.number.0) × (p.layout ≡ q.layout) × (qs ≡ p ∷ after_look q early ∷ [])
+  pub looks_first : (ps qs : List SeatedPass) → ps ≡ q ∷ p ∷ [] → Looked allows ps qs → (early : List Row) × Behind early p × HasLookedBehind allows q early × (q.number.0 ≢ p.number.0) × (plot_of p ≡ plot_of q) × (qs ≡ p ∷ after_look q early ∷ [])
   looks_first ps qs e x = from (first_is x.first q _ _ (sym x.were ∙ e)) (second_is x.second p x.first q (sym x.were ∙ e))
     where
-      from : x.first ≡ q → x.second ≡ p → (early : List Row) × Behind early p × HasLookedBehind allows q early × (q.number.0 ≢ p.number.0) × (p.layout ≡ q.layout) × (qs ≡ p ∷ after_look q early ∷ [])
-      from a b = subst (λ (z : SeatedPass). (early : List Row) × Behind early p × HasLookedBehind allows z early × (z.number.0 ≢ p.number.0) × (p.layout ≡ z.layout) × (qs ≡ p ∷ after_look z early ∷ [])) a
+      from : x.first ≡ q → x.second ≡ p → (early : List Row) × Behind early p × HasLookedBehind allows q early × (q.number.0 ≢ p.number.0) × (plot_of p ≡ plot_of q) × (qs ≡ p ∷ after_look q early ∷ [])
+      from a b = subst (λ (z : SeatedPass). (early : List Row) × Behind early p × HasLookedBehind allows z early × (z.number.0 ≢ p.number.0) × (plot_of p ≡ plot_of z) × (qs ≡ p ∷ after_look z early ∷ [])) a
           (subst (λ (z : SeatedPass). (early : List Row) × Behind early z × HasLookedBehind allows x.first early × (x.first.number.0 ≢ z.number.0) × (plot_of z ≡ plot_of x.first) × (qs ≡ z ∷ after_look x.first early ∷ [])) b
           (x.run, x.behind_second, record { behind = x.behind_first; before = x.before; after = x.after }, x.apart, x.same, x.are))
 
