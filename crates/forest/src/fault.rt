@@ -35,6 +35,33 @@ impl From<NoMemory> for NewFault {
     }
 }
 
+/// Why no forest begins with some pairs.
+#[derive(Clone, Copy, Debug, PartialEq, Eq, Error)]
+pub enum PairsFault {
+    /// The limits are out of their ranges.
+    #[error("bad limits")]
+    Limits,
+    /// The keys do not rise.
+    #[error("pairs out of order")]
+    Order,
+    /// There were more than a million nodes in all.
+    #[error("too many pairs")]
+    Full,
+    /// An allocation was refused.
+    #[error("no memory")]
+    NoMemory,
+}
+
+impl From<NoMemory> for PairsFault {
+    ghost use Rattle.forest.specs.declared.fault.PairsFault.{PairsFault};
+
+    ghost from_gives = { λ _ fault. fault ≡ PairsFault.NoMemory };
+
+    fn from(_none: NoMemory) -> PairsFault {
+        PairsFault::NoMemory
+    }
+}
+
 /// Why an edit was refused. It has not changed the map, and never will.
 #[derive(Clone, Copy, Debug, PartialEq, Eq, Error)]
 pub enum UpdateFault {
