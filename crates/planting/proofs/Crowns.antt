@@ -1,13 +1,11 @@
 -- Above such a part stand a fork above all keys, and the three nodes of an empty map: so is a table
 -- planted.
-use Rattle.std.proofs.Common.{◌≡◌, ◌≢◌, ℕ, suc, ◌+◌, ◌*◌, ◌^◌, ◌<◌, ◌≤◌, Bool, true, false, inl, inr, List, [], ◌∷◌, ◌++◌, refl, sym, ◌∙◌, ap, subst, arith, append_assoc, length}
+use Rattle.std.proofs.Common.{◌≡◌, ◌≢◌, ℕ, ◌+◌, ◌*◌, ◌^◌, ◌<◌, ◌≤◌, Bool, true, false, inl, inr, List, [], ◌∷◌, ◌++◌, refl, sym, ◌∙◌, ap, subst, arith, append_assoc}
 use native.Mathlib.Decide.{ℕ_discrete, dec_lt}
-use Rattle.arena.specs.declared.limits.Mode.TheVariants.{Trie as TrieMode}
-use Rattle.arena.specs.Layout.{IsMap}
-use Rattle.histories.specs.Common.{Tree as TreeMode, Mode, Side, Left, Right, Word, node, child, first_key}
+use Rattle.histories.specs.Common.{Side, Left, Right, Word, node, child, first_key}
 use Rattle.ordered_map.specs.declared.pair.Pair.{Pair}
 use Rattle.ordered_map.specs.OrderedMap.{pair, AllBelow, AllFrom}
-use Rattle.ordered_map.specs.TreeWords.{Tree, Leaf, Fork, root, Has, class, is_leaf, level, rank, IsBlankAboveKeys}
+use Rattle.ordered_map.specs.TreeWords.{Tree, Leaf, Fork, Has, class, is_leaf, level, rank, IsBlankAboveKeys}
 use Rattle.ordered_map.specs.Spelled.{IsTree}
 use Rattle.ordered_map.specs.Planted.{items, ends, last_leaf, EndsLow}
 use Rattle.ordered_map.specs.Bits.{IsParted, IsTrieFork, Keeps, side_from, side_to}

@@ -1,11 +1,10 @@
 -- A leaf is such a part, and so is a fork over two.
-use Rattle.std.proofs.Common.{◌≡◌, ◌≢◌, ℕ, suc, ◌+◌, ◌*◌, ◌-◌, ◌^◌, ◌<◌, ◌≤◌, Bool, true, false, ◌⊎◌, inl, inr, ⊎_elim, List, [], ◌∷◌, ◌++◌, refl, sym, ◌∙◌, ap, subst, arith}
+use Rattle.std.proofs.Common.{◌≡◌, ℕ, suc, ◌+◌, ◌-◌, ◌^◌, ◌<◌, ◌≤◌, Bool, true, false, inl, inr, List, [], ◌∷◌, ◌++◌, refl, sym, ◌∙◌, ap, subst, arith}
 use native.Mathlib.Decide.{ℕ_discrete, dec_lt}
-use Rattle.histories.specs.Common.{Side, Left, Right, Word, node, child, first_key}
+use Rattle.histories.specs.Common.{Side, Left, Right, Word, child}
 use Rattle.ordered_map.specs.declared.pair.Pair.{Pair}
 use Rattle.ordered_map.specs.OrderedMap.{AllBelow, AllFrom, IsRising}
-use Rattle.ordered_map.specs.TreeWords.{Tree, Leaf, Fork, root, Shows, Has, class, is_leaf, level, rank}
-use Rattle.ordered_map.specs.Planted.{items}
+use Rattle.ordered_map.specs.TreeWords.{Leaf, Fork, Has, class, is_leaf, level, rank}
 use Rattle.ordered_map.specs.Bits.{IsParted, IsTrieFork, Keeps, side_from, side_to, room_at}
 use Rattle.ordered_map.proofs.Lemmas.{between_keeps, low_items, low_leaf}
 use Rattle.edits.proofs.Lemmas.{IsLeafWith, IsForkWith}

@@ -1,5 +1,5 @@
 -- Pairs that rise, before a place and from it on.
-use Rattle.std.proofs.Common.{◌≡◌, ℕ, suc, zero, ◌+◌, ◌-◌, ◌*◌, ◌^◌, ◌/◌, ◌<◌, ◌≤◌, Bool, true, false, nat_lt, slice_index_or, List, [], ◌∷◌, ◌++◌, length, take, drop, refl, sym, ◌∙◌, ap, subst, arith}
+use Rattle.std.proofs.Common.{◌≡◌, ℕ, suc, zero, ◌-◌, ◌<◌, ◌≤◌, true, false, nat_lt, slice_index_or, List, [], ◌∷◌, ◌++◌, length, take, drop, sym, ◌∙◌, ap, subst, arith}
 use native.Mathlib.Decide.{dec_lt}
 use Rattle.ordered_map.specs.declared.pair.Pair.{Pair}
 use Rattle.ordered_map.specs.OrderedMap.{AllAbove, AllBelow, AllFrom, IsRising}
@@ -7,7 +7,7 @@ use Rattle.std.specs.List.Sorted.{IsPartitionedBy, IsPartitionPoint}
 use Rattle.std.proofs.lemmas.Bool.Decides.{nat_tests}
 use Rattle.std.proofs.lemmas.List.{take-append-drop}
 use Rattle.ordered_map.specs.Bits.{PartsKeys}
-use Rattle.planting.specs.Groves.{IsPartedAt, IsParting}
+use Rattle.planting.specs.Groves.{IsPartedAt}
 use Rattle.planting.proofs.Groves.{from_front, below_back}
 
 pub below_at : (k : ℕ) (ps : List Pair) (i : ℕ) (d : Pair) → AllBelow k ps → i < length ps → (slice_index_or ps i d).key < k

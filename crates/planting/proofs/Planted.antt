@@ -1,24 +1,21 @@
 -- Nodes that were grown, with the crown above them, are a map's to begin with.
-use Rattle.std.proofs.Common.{◌≡◌, ◌≢◌, ℕ, zero, suc, ◌+◌, ◌*◌, ◌^◌, ◌<◌, ◌≤◌, ◌⊎◌, inl, inr, min, nat_lt, Bool, true, false, List, [], ◌∷◌, ◌++◌, length, refl, sym, ◌∙◌, ap, subst, arith, lt-ltb, le-ltb, pow-suc, mul_comm, mul_assoc}
+use Rattle.std.proofs.Common.{◌≡◌, ℕ, zero, suc, ◌+◌, ◌*◌, ◌^◌, ◌<◌, ◌≤◌, inl, inr, min, Bool, true, false, List, [], ◌∷◌, ◌++◌, length, refl, sym, ◌∙◌, ap, subst, arith, lt-ltb, le-ltb, pow-suc, mul_comm, mul_assoc}
 use native.Mathlib.Decide.{dec_lt}
-use Rattle.std.proofs.lemmas.List.{length-append, append_assoc}
+use Rattle.std.proofs.lemmas.List.{length-append}
 use Rattle.arena.specs.declared.limits.Mode.TheVariants.{Trie as TrieMode}
-use Rattle.arena.specs.Layout.{is_map, IsMap}
+use Rattle.arena.specs.Layout.{IsMap}
 use Rattle.arena.specs.Openings.{Opening, first_planted}
-use Rattle.histories.specs.Common.{Tree as TreeMode, Mode, Layout, Left, Right, Settled, Child, Head, More, Key, Value, High, Info, Marked, First, Side, Word, NodeWord, node, child, History, Opened, value, taken_nodes, nodes_at_start, opening_of as begun_as}
-use Rattle.histories.proofs.Lemmas.{IsNodeFill}
+use Rattle.histories.specs.Common.{Tree as TreeMode, Mode, Layout, Left, Right, Settled, Child, Head, Info, Marked, NodeWord, node, child, History, Opened, value, taken_nodes, nodes_at_start}
 use Rattle.template.specs.Balance.{map_mode}
 use Rattle.ordered_map.specs.declared.pair.Pair.{Pair}
 use Rattle.ordered_map.specs.OrderedMap.{pair, AllBelow}
-use Rattle.ordered_map.specs.TreeWords.{level}
 use Rattle.ordered_map.specs.Planted.{IsPlanted, first_pairs, pairs_of}
 use Rattle.edits.specs.declared.piece.Piece.{Piece}
-use Rattle.edits.specs.declared.piece.Piece.TheVariants.{Leaf, Fork}
 use Rattle.edits.specs.Laws.PieceFills.{HoldsWords}
 use Rattle.edits.specs.Pieces.{word_of}
 use Rattle.edits.proofs.Lemmas.{IsLeafWith, IsForkWith, leaf_with, fork_with}
 use Rattle.planting.specs.Groves.{IsGrove, HoldsRow, NamesBelow, HasGrown}
-use Rattle.planting.specs.Plantings.{PlantingView, numbered, root_piece, end_piece, all_pieces, piece_word, within, planted_words, couples, planted_opening, planted_as, opening_of, bare, doublings, height, crown_piece, IsGrownOver, IsPlantingOf}
+use Rattle.planting.specs.Plantings.{numbered, all_pieces, piece_word, within, planted_words, couples, planted_opening, planted_as, bare, doublings, height, crown_piece, IsGrownOver, IsPlantingOf}
 use Rattle.planting.proofs.Rows.{row_front, row_back, names_more, names_both}
 use Rattle.planting.proofs.Crowns.{crowned, crown_items, crown_low, crown_whole, crown_there, crown_blank, crown_deep, crown_forks, whole_tree}
 

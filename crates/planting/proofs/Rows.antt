@@ -1,13 +1,12 @@
 -- What is added for a list of pairs, piece by piece.
-use Rattle.std.proofs.Common.{◌≡◌, ℕ, suc, zero, ◌+◌, ◌-◌, ◌*◌, ◌^◌, ◌<◌, ◌≤◌, min, Bool, true, false, if◌then◌else◌, List, [], ◌∷◌, ◌++◌, length, take, drop, refl, sym, ◌∙◌, ap, subst, arith}
+use Rattle.std.proofs.Common.{◌≡◌, ℕ, suc, zero, ◌+◌, ◌-◌, ◌*◌, ◌^◌, ◌<◌, ◌≤◌, Bool, true, false, if◌then◌else◌, List, [], ◌∷◌, ◌++◌, length, take, drop, refl, sym, ◌∙◌, ap, subst, arith}
 use Rattle.std.proofs.lemmas.List.{length-take-le, length-append, append_assoc, take-append-drop}
-use Rattle.histories.specs.Common.{NodeNo, Left, Right, Child, History, value}
+use Rattle.histories.specs.Common.{History, value}
 use Rattle.ordered_map.specs.declared.pair.Pair.{Pair}
-use Rattle.ordered_map.specs.OrderedMap.{AllBelow, AllFrom, IsRising}
+use Rattle.ordered_map.specs.OrderedMap.{AllBelow, IsRising}
 use Rattle.edits.specs.declared.piece.Piece.{Piece}
 use Rattle.edits.specs.declared.piece.Piece.TheVariants.{Leaf, Fork}
 use Rattle.edits.specs.Laws.PieceFills.{HoldsWords}
-use Rattle.edits.specs.Pieces.{word_of}
 use Rattle.edits.proofs.Lemmas.{leaf_with, fork_with}
 use Rattle.planting.specs.Groves.{IsGrove, IsPartedAt, HoldsRow, NamesBelow, HasGrown}
 use Rattle.planting.proofs.Groves.{leaf_grove, fork_grove, any_tall}

@@ -4,16 +4,14 @@ use Rattle.std.proofs.Math.Decide.{dec_lt}
 use Rattle.arena.specs.declared.limits.Mode.{Mode}
 use Rattle.arena.specs.declared.limits.Mode.TheVariants.{Tree, Trie, Records}
 use Rattle.arena.specs.declared.number.NodeNo.{NodeNo}
-use Rattle.arena.specs.declared.word.Side.{Side}
-use Rattle.arena.specs.declared.word.Side.TheVariants.{Left, Right}
 use Rattle.arena.specs.declared.word.NodeWord.{NodeWord}
 use Rattle.arena.specs.declared.word.NodeWord.TheVariants.{Settled, Child, Info, Marked}
 use Rattle.arena.specs.declared.word.Word.{Word}
 use Rattle.arena.specs.declared.word.Word.TheVariants.{Node, Scx}
 use Rattle.arena.specs.History.{Opened}
-use Rattle.arena.specs.Layout.{is_map, IsMap, nodes_at_start}
+use Rattle.arena.specs.Layout.{is_map, IsMap}
 use Rattle.arena.specs.Openings.{Opening, empty, records_opening}
-use Rattle.arena.specs.Words.{child, node}
+use Rattle.arena.specs.Words.{node}
 use Rattle.arena.specs.declared.layout.Layout.{Layout}
 use Rattle.ordered_map.specs.declared.pair.Pair.{Pair}
 use Rattle.ordered_map.specs.OrderedMap.{pair}

@@ -1,4 +1,4 @@
-use Rattle.std.proofs.Common.{rules, of_calls, nat_lt, ℕ}
+use Rattle.std.proofs.Common.{rules, of_calls, nat_lt}
 use Rattle.std.proofs.lemmas.Fn.{always_returns_same}
 use Rattle.ordered_map.specs.declared.pair.Pair.{Pair}
 use Rattle.ordered_map.specs.OrderedMap.{pair}

@@ -1,4 +1,4 @@
-use Rattle.std.proofs.Common.{◌≡◌, ◌<◌, ◌≤◌, length, true, false, ℕ, suc, ◌+◌, ◌*◌, ◌/◌, ◌^◌, arith, refl, pow-suc}
+use Rattle.std.proofs.Common.{◌≡◌, ◌<◌, length, true, false, ◌+◌, ◌*◌, ◌/◌, arith, refl, pow-suc}
 use Rattle.ordered_map.specs.OrderedMap.{pair}
 use Rattle.planting.proofs.Parts.{take_below, drop_from}
 use Rattle.planting.proofs.parting.halves.Goals as goal

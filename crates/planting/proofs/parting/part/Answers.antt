@@ -1,4 +1,4 @@
-use Rattle.std.proofs.Common.{◌≡◌, sym, subst, Bool}
+use Rattle.std.proofs.Common.{sym, subst, Bool}
 use Rattle.planting.specs.Groves.{IsPartedAt}
 use Rattle.planting.proofs.parting.part.Goals as goal
 

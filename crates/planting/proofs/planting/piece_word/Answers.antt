@@ -1,4 +1,4 @@
-use Rattle.std.proofs.Common.{◌≡◌, ◌-◌, ◌≤◌, ℕ, length, refl, sym, ◌∙◌, arith}
+use Rattle.std.proofs.Common.{◌-◌, length, refl, sym, ◌∙◌, arith}
 use Rattle.std.proofs.lemmas.Option.{slice_get_read}
 use Rattle.planting.specs.Plantings.{none_there}
 use Rattle.planting.proofs.Words.{beyond_crown, word_there}

@@ -1,5 +1,4 @@
-use Rattle.std.proofs.Common.{◌≡◌, ◌+◌, ◌*◌, ◌≤◌, sym, subst, arith}
-use Rattle.arena.specs.declared.limits.Mode.{Mode}
+use Rattle.std.proofs.Common.{◌≡◌, ◌+◌, ◌*◌, sym, subst, arith}
 use Rattle.arena.specs.Layout.{IsMap, nodes_at_start}
 use Rattle.planting.proofs.Counted.{room_counted}
 use Rattle.planting.proofs.room.with_room.Goals as goal

@@ -1,11 +1,11 @@
-use Rattle.std.proofs.Common.{rules, ◌≡◌, ◌+◌, ◌*◌, ◌^◌, ◌<◌, ◌≤◌, ◌++◌, [], ◌∷◌, length, take, drop, ℕ, List, sym, ◌∙◌, ap, subst, arith}
+use Rattle.std.proofs.Common.{◌+◌, ◌^◌, ◌++◌, [], ◌∷◌, take, drop, List, sym, ◌∙◌, ap, subst, arith}
 use Rattle.std.proofs.lemmas.Result.{IfOk-at_ok, IfOk-weaker}
 use Rattle.ordered_map.specs.declared.pair.Pair.{Pair}
 use Rattle.ordered_map.specs.OrderedMap.{AllBelow, IsRising}
 use Rattle.edits.specs.declared.piece.Piece.{Piece}
-use Rattle.planting.specs.Groves.{IsPartedAt, HasGrown}
+use Rattle.planting.specs.Groves.{HasGrown}
 use Rattle.planting.proofs.Parts.{below_take, below_drop, rising_take, rising_drop}
-use Rattle.planting.proofs.Rows.{leaf_grown, fork_grown, top_piece, grown_as, grown_room}
+use Rattle.planting.proofs.Rows.{leaf_grown, fork_grown, grown_as, grown_room}
 use Rattle.planting.proofs.trees.+grow.Goals as goal
 
 pub returns-then-pairs-le4 : goal.returns-then-pairs-le4

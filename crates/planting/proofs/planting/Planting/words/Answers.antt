@@ -1,4 +1,4 @@
-use Rattle.std.proofs.Common.{rules, ◌≡◌, ◌+◌, ◌<◌, ℕ, slice_index, sym, ◌∙◌, ap, subst, arith}
+use Rattle.std.proofs.Common.{rules, ◌≡◌, ◌<◌, slice_index, sym, ◌∙◌, ap, subst, arith}
 use Rattle.arena.specs.Layout.{table_size, place}
 use Rattle.planting.specs.Places.{word_of_place}
 use Rattle.planting.specs.Plantings.{opening_of}
