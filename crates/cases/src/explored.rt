@@ -1,6 +1,6 @@
 //! Scripts whose outcomes are listed.
 use arena::Mode;
-use command_line::explore_over;
+use people::explore_over;
 use program::Fault;
 use std::alloc::Global;
 use std::io::{Read, Write};

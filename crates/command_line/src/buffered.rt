@@ -35,7 +35,7 @@ impl<W: Write, T: Watch> Write for Unflushed<W, T> {
 
 /// Plays a script by a schedule, as `play_over` does, with a buffer before `out`. It goes out in
 /// the end, also after a fault: then too `out` has a beginning of the report.
-pub(crate) fn play_buffered<S: Read + Drop, T: Read + Drop, W: Watch + Drop, O: Write, E: Write>(
+pub fn play_buffered<S: Read + Drop, T: Read + Drop, W: Watch + Drop, O: Write, E: Write>(
     alloc: Global,
     mode: Mode,
     script: S,

@@ -4,25 +4,8 @@
 mod args;
 mod ask;
 mod buffered;
-mod cell_fields;
-mod command_help;
-mod complaint;
-mod excerpt;
-mod field;
-mod forms;
-mod outcomes;
-mod people;
-mod picture;
-mod progress;
-mod refusal;
-mod report_forms;
-mod row_fault;
-mod sheet_rows;
-mod source;
 mod words;
 
 pub use ask::run_words;
-pub use outcomes::explore_over;
-pub use people::people_words;
-pub use picture::draw_over;
-pub use words::{exit_status, words_of};
+pub use buffered::play_buffered;
+pub use words::{exit_status, file, matches_of, option, words_of};

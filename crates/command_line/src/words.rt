@@ -35,7 +35,7 @@ pub(crate) fn given_to<'a, S: AsStr>(
 }
 
 /// The same, with what the command itself says of words that do not fit.
-pub(crate) fn matches_of<'a, S: AsStr>(
+pub fn matches_of<'a, S: AsStr>(
     command: Result<Command<'a>, Error>,
     words: &'a [S],
 ) -> Result<ArgMatches<'a>, Error> {
@@ -43,12 +43,12 @@ pub(crate) fn matches_of<'a, S: AsStr>(
 }
 
 /// The name of a file, which a command needs.
-pub(crate) fn file<'a>(alloc: Global, name: &'a str) -> Arg<'a> {
+pub fn file<'a>(alloc: Global, name: &'a str) -> Arg<'a> {
     Arg::new(alloc, name).required(true).action(ArgAction::Set)
 }
 
 /// What may be given after `--name`.
-pub(crate) fn option<'a>(alloc: Global, name: &'a str) -> Arg<'a> {
+pub fn option<'a>(alloc: Global, name: &'a str) -> Arg<'a> {
     Arg::new(alloc, name).long(name).action(ArgAction::Set)
 }
 

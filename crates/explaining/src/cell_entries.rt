@@ -1,10 +1,7 @@
 //! Entries of calls of cells.
-use crate::breach::{Objection, demand, object};
-use crate::lines_before::LinesBefore;
-use crate::stores::finalizes;
-use crate::words::call_words;
 use arena::{NodeWord, ScxWord, SettledPart, Side, Slot};
 use judge::is_own_node;
+use lines_before::{LinesBefore, Objection, call_words, demand, object};
 use record::Entry;
 use script::{Cell, Command};
 
@@ -48,7 +45,7 @@ fn check_cells(
     let mut keeps = true;
     for (place, cell) in (0u8..4).zip(cells.iter()) {
         covers = covers && before.member(scx, place) == cell.node().0;
-        keeps = keeps && finalizes(before, scx, place) == finalized.contains(cell);
+        keeps = keeps && before.finalizes(scx, place) == finalized.contains(cell);
     }
     demand(
         covers,

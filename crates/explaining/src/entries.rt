@@ -1,9 +1,7 @@
 //! Entries of the log.
-use crate::breach::{Objection, demand, object};
 use crate::cell_entries::check_cell_entry;
-use crate::lines_before::LinesBefore;
-use crate::words::call_words;
 use arena::Mode;
+use lines_before::{LinesBefore, Objection, call_words, demand, object};
 use record::Entry;
 
 const PLACE: usize = 1;

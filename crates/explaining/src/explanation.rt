@@ -1,14 +1,12 @@
 //! The condition that a line of a record breaks.
-use crate::breach::{Breach, Objection, object};
 use crate::entries::check_entry;
 use crate::idle::check_idle;
-use crate::lines_before::LinesBefore;
-use crate::replies::check_reply;
-use crate::steps::check_step;
-use crate::words::entry_words;
 use arena::NoMemory;
+use lines_before::{Breach, LinesBefore, Objection, entry_words, object};
 use record::{Line, Record, TurnRow};
+use reply_conditions::check_reply;
 use std::alloc::Global;
+use step_conditions::check_step;
 
 /// Why the line of this index is not lawful after those before it, which are; with the index behind
 /// the last line, why the record may not end there. The only error is want of memory.

@@ -1,11 +1,7 @@
 //! Turns without a step.
-use crate::breach::{Objection, demand, object};
-use crate::lines_before::LinesBefore;
-use crate::steps::{check_number, check_pass};
-use crate::words::call_words;
 use arena::PassNo;
-
-const KIND: usize = 3;
+use lines_before::{KIND, LinesBefore, Objection, call_words, demand, object};
+use step_conditions::{check_number, check_pass};
 
 /// A turn without a step is of a client with no call left, or all of a call.
 pub(crate) fn check_idle(

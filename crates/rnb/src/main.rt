@@ -2,7 +2,8 @@
 //! what. The program `cli` does the same for other programs, in words that stay as they are.
 #![tactic(auto)]
 
-use command_line::{people_words, words_of};
+use command_line::words_of;
+use people::people_words;
 use std::process::ExitCode;
 
 fn main(rt: HostRuntime) -> ExitCode {

@@ -1,0 +1,213 @@
+//! An SCX-record that begins for an edit of the map.
+use arena::{Head, Mode, NodeWord, ScxWord, SettledPart, Side, Slot};
+use lines_before::{AFTER, LinesBefore, MapPairs, Objection, demand};
+use ordered_map::{Goal, Rule, wide_value};
+use std::alloc::AllocError;
+
+const SLOTS: [Slot; 4] = [Slot::First, Slot::Second, Slot::Third, Slot::Fourth];
+
+/// The SCX-record, the call for which it begins, in words, and the edit of that: where it goes, by
+/// which rule, and at which key.
+#[derive(Drop)]
+pub(crate) struct ClaimedEdit<'a> {
+    pub(crate) before: &'a LinesBefore<'a>,
+    pub(crate) scx: u64,
+    pub(crate) call: String,
+    pub(crate) goal: Goal,
+    pub(crate) rule: Rule,
+    pub(crate) key: u64,
+}
+
+impl ClaimedEdit<'_> {
+    /// Objects to it in these words, unless this holds.
+    pub(crate) fn demand(
+        &self,
+        fits: bool,
+        text: Result<String, AllocError>,
+    ) -> Result<(), Objection> {
+        let (alloc, scx, text) = (self.before.alloc, self.scx, text?);
+        let call = self.call.as_str();
+        demand(
+            fits,
+            AFTER,
+            format!(in alloc; "s{scx} begins for {call}: {text}"),
+        )
+    }
+
+    /// Its plan and its first node are as `check_field` says, and `old` is its second node.
+    pub(crate) fn check_place(&self, left: u64, right: u64, does: &str) -> Result<(), Objection> {
+        self.check_field(left, right, does)?;
+        let (alloc, second) = (self.before.alloc, self.member(1));
+        let old = self.before.scx_word(self.scx, ScxWord::Old);
+        self.demand(
+            old == second,
+            format!(in alloc; "its old is n{old} in place of n{second}, its second node"),
+        )
+    }
+
+    /// Its plan is this one for an edit on the left of the first node, and that on the right, and
+    /// the search for the key passes the first, which is a fork.
+    pub(crate) fn check_field(&self, left: u64, right: u64, does: &str) -> Result<(), Objection> {
+        let (alloc, key, fork) = (self.before.alloc, self.key, self.member(0));
+        self.demand(
+            self.is_on_path(key, fork),
+            format!(in alloc; "the search for {key} does not pass n{fork}, its first node"),
+        )?;
+        self.demand(
+            !self.head(fork).leaf,
+            format!(in alloc; "n{fork}, its first node, is no fork"),
+        )?;
+        let plan = self.before.plan(self.scx).0;
+        let wanted = match self.toward(fork, key) {
+            Side::Left => left,
+            Side::Right => right,
+        };
+        self.demand(
+            plan == wanted,
+            format!(in alloc;
+                "its plan is {plan} in place of {wanted}, which {does} and changes the field of n{fork} towards {key}"
+            ),
+        )
+    }
+
+    /// A node is a leaf, with at most four pairs if these are below all that is above all keys.
+    pub(crate) fn check_leaf(&self, node: u64) -> Result<(), Objection> {
+        let (alloc, head) = (self.before.alloc, self.head(node));
+        let many = self.settled(node, SettledPart::More).saturating_add(1);
+        self.demand(head.leaf, format!(in alloc; "n{node} is no leaf"))?;
+        self.demand(
+            head.class > 0 || many <= 4,
+            format!(in alloc; "n{node} has {many} pairs, and a leaf has 4 at most"),
+        )
+    }
+
+    /// A node is such a leaf, and is not above all keys.
+    pub(crate) fn check_low_leaf(&self, node: u64) -> Result<(), Objection> {
+        let alloc = self.before.alloc;
+        self.check_leaf(node)?;
+        self.demand(
+            self.head(node).class == 0,
+            format!(in alloc; "n{node} is above all keys, so it has no pairs"),
+        )
+    }
+
+    /// The leaf that the edit is of gives its call something to do; of the pair at an end it is the
+    /// tree's leaf there, where it is as it was seen.
+    pub(crate) fn check_asks(&self, leaf: u64) -> Result<(), Objection> {
+        let (alloc, held) = (self.before.alloc, self.pairs_of(leaf)?);
+        let found = held.iter().find(|pair| pair.0 == self.key);
+        let shown = self.words(&held)?;
+        self.demand(
+            self.rule.applies(found.map(|pair| pair.1)),
+            format!(in alloc; "it has nothing to do at n{leaf}, which holds {shown}"),
+        )?;
+        let (end, bound) = match self.goal {
+            Goal::Key(_) => return Ok(()),
+            Goal::End(Side::Left) => ("first", 0),
+            Goal::End(Side::Right) => ("last", u64::MAX),
+        };
+        self.demand(
+            self.is_late() || self.is_on_path(bound, leaf),
+            format!(in alloc; "n{leaf} is not the {end} leaf of the tree"),
+        )
+    }
+
+    pub(crate) fn is_in_trie(&self) -> bool {
+        self.before.record.script.layout.mode == Mode::Trie
+    }
+
+    /// Whether it can win no more: its second node, or, in a trie, its last, has changed since it was
+    /// seen.
+    fn is_late(&self) -> bool {
+        let last = self.before.plan(self.scx).count().saturating_sub(1);
+        !self.before.is_as_seen(self.scx, 1)
+            || (self.is_in_trie() && !self.before.is_as_seen(self.scx, last))
+    }
+
+    /// The pairs that the edit makes of those of a leaf.
+    pub(crate) fn pairs_left(&self, leaf: u64) -> Result<MapPairs, AllocError> {
+        let mut pairs = self.pairs_of(leaf)?;
+        pairs.retain(|pair| pair.0 != self.key);
+        if let Some(value) = self.rule.leaves() {
+            pairs.push((self.key, value))?;
+        }
+        pairs.sort()?;
+        Ok(pairs)
+    }
+
+    /// The pairs of a leaf.
+    pub(crate) fn pairs_of(&self, leaf: u64) -> Result<MapPairs, AllocError> {
+        let mut pairs = Vec::new(self.before.alloc);
+        if !self.head(leaf).leaf || self.head(leaf).class > 0 {
+            return Ok(pairs);
+        }
+        let more = self.settled(leaf, SettledPart::More);
+        for (place, slot) in SLOTS.iter().enumerate() {
+            if place as u64 <= more {
+                let low = self.settled(leaf, SettledPart::Value(*slot));
+                let high = self.settled(leaf, SettledPart::High(*slot));
+                let key = self.settled(leaf, SettledPart::Key(*slot));
+                pairs.push((key, wide_value(low, high)))?;
+            }
+        }
+        Ok(pairs)
+    }
+
+    /// Pairs in words.
+    pub(crate) fn words(&self, pairs: &MapPairs) -> Result<String, AllocError> {
+        let alloc = self.before.alloc;
+        if pairs.is_empty() {
+            return String::from_str(alloc, "no pair");
+        }
+        let mut text = String::from_str(alloc, "pairs")?;
+        for (key, value) in pairs.iter() {
+            write!(text, " {key} {value}")?;
+        }
+        Ok(text)
+    }
+
+    /// On which side of a fork a key is: all that is above all keys is on the left of a fork there.
+    pub(crate) fn toward(&self, fork: u64, key: u64) -> Side {
+        if self.head(fork).class > 0 || key < self.key_of(fork) {
+            Side::Left
+        } else {
+            Side::Right
+        }
+    }
+
+    /// Whether the search for a key passes a node.
+    fn is_on_path(&self, key: u64, sought: u64) -> bool {
+        let mut node = 0;
+        for _ in 0..self.before.judge.layout().all_nodes() {
+            if node == sought || self.head(node).leaf {
+                break;
+            }
+            node = self.child(node, self.toward(node, key));
+        }
+        node == sought
+    }
+
+    pub(crate) fn head(&self, node: u64) -> Head {
+        Head::of(self.settled(node, SettledPart::Head))
+    }
+
+    pub(crate) fn key_of(&self, node: u64) -> u64 {
+        self.settled(node, SettledPart::Key(Slot::First))
+    }
+
+    pub(crate) fn child(&self, node: u64, side: Side) -> u64 {
+        self.before.node_word(node, NodeWord::Child(side))
+    }
+
+    pub(crate) fn member(&self, place: u8) -> u64 {
+        self.before.member(self.scx, place)
+    }
+
+    pub(crate) fn new_node(&self) -> u64 {
+        self.before.scx_word(self.scx, ScxWord::New)
+    }
+
+    pub(crate) fn settled(&self, node: u64, part: SettledPart) -> u64 {
+        self.before.node_word(node, NodeWord::Settled(part))
+    }
+}

@@ -1,0 +1,130 @@
+//! Whether an SCX-record that begins makes the edit of its client's call.
+use crate::claimed_edit::ClaimedEdit;
+use crate::leaf_edit::check_leaf_edit;
+use crate::leaf_out::check_leaf_out;
+use crate::trie_edit::{check_above, check_end_leaf_edit, check_end_leaf_out, end_leaf_out};
+use crate::trie_keys::check_keys;
+use arena::{Row, ScxWord, Side};
+use lines_before::{AFTER, LinesBefore, Objection, call_words, object};
+use ordered_map::Goal;
+use script::Command;
+
+/// Of a map an SCX-record that begins makes the edit of its client's call: it puts something in the
+/// place of a leaf, or takes one out.
+pub fn check_edit(before: &LinesBefore<'_>, row: &Row) -> Result<(), Objection> {
+    if !before.judge.is_begin(row) {
+        return Ok(());
+    }
+    let edit = claimed_edit(before, row)?;
+    if edit.is_in_trie() {
+        check_in_trie(&edit)?;
+        check_keys(&edit)
+    } else {
+        check_in_tree(&edit)
+    }
+}
+
+/// The edit of the client's call for which an SCX-record begins.
+fn claimed_edit<'a>(before: &'a LinesBefore<'a>, row: &Row) -> Result<ClaimedEdit<'a>, Objection> {
+    let (alloc, scx, call) = (before.alloc, row.after, call_words(before, row.pass)?);
+    let asked = match before.next(row.pass) {
+        Some(Command::Map(request)) => request.edit(),
+        _ => None,
+    };
+    let Some((goal, rule)) = asked else {
+        return Err(object(
+            AFTER,
+            format!(in alloc; "s{scx} begins for {call}, which makes no edit"),
+        ));
+    };
+    let mut edit = ClaimedEdit {
+        before,
+        scx,
+        call,
+        goal,
+        rule,
+        key: 0,
+    };
+    edit.key = key_of(&edit)?;
+    Ok(edit)
+}
+
+/// In a tree it changes a leaf, or takes one out.
+fn check_in_tree(edit: &ClaimedEdit<'_>) -> Result<(), Objection> {
+    match edit.before.plan(edit.scx).count() {
+        2 => check_leaf_edit(edit),
+        4 => check_leaf_out(edit),
+        many => refuse_count(edit, many, "two"),
+    }
+}
+
+/// In a trie it does so too, or puts a fork above a fork; at an end of the map it covers node 2
+/// besides.
+fn check_in_trie(edit: &ClaimedEdit<'_>) -> Result<(), Objection> {
+    let (many, old) = (
+        edit.before.plan(edit.scx).count(),
+        edit.before.scx_word(edit.scx, ScxWord::Old),
+    );
+    match (edit.goal, many) {
+        (Goal::End(_), 3) => check_end_leaf_edit(edit),
+        (Goal::End(_), 4) => check_end_leaf_out(edit),
+        (Goal::End(_), _) => refuse_count(edit, many, "three"),
+        (Goal::Key(_), 2) if edit.head(old).leaf => check_leaf_edit(edit),
+        (Goal::Key(_), 2) => check_above(edit),
+        (Goal::Key(_), 4) => check_leaf_out(edit),
+        (Goal::Key(_), _) => refuse_count(edit, many, "two"),
+    }
+}
+
+/// It covers neither so many nodes nor four.
+fn refuse_count(edit: &ClaimedEdit<'_>, many: u8, few: &str) -> Result<(), Objection> {
+    let alloc = edit.before.alloc;
+    edit.demand(
+        false,
+        format!(in alloc;
+            "it covers {many} nodes, in place of {few}, or of four to take a leaf out"
+        ),
+    )
+}
+
+/// The key of the edit; at an end of the map it is that of the leaf there.
+fn key_of(edit: &ClaimedEdit<'_>) -> Result<u64, Objection> {
+    let alloc = edit.before.alloc;
+    let (leaf, end) = match edit.goal {
+        Goal::Key(key) => return Ok(key),
+        Goal::End(side) => (end_leaf(edit, side), side),
+    };
+    let held = edit.pairs_of(leaf)?;
+    let pair = match end {
+        Side::Left => held.first(),
+        Side::Right => held.last(),
+    };
+    edit.demand(
+        pair.is_some(),
+        format!(in alloc; "n{leaf} holds no pair to take out"),
+    )?;
+    Ok(pair.map(|pair| pair.0).unwrap_or(0))
+}
+
+/// The leaf at an end from which it takes a pair: of two nodes, or three in a trie, the second, of
+/// four the child on that side, unless this is above all keys.
+fn end_leaf(edit: &ClaimedEdit<'_>, side: Side) -> u64 {
+    let (many, second, right) = (
+        edit.before.plan(edit.scx).count(),
+        edit.member(1),
+        edit.member(3),
+    );
+    let end = match side {
+        Side::Left => 0,
+        Side::Right => u64::MAX,
+    };
+    if many == 2 || (many == 3 && edit.is_in_trie()) {
+        second
+    } else if edit.is_in_trie() {
+        end_leaf_out(edit, edit.toward(second, end))
+    } else if side == Side::Right && edit.head(right).class == 0 {
+        right
+    } else {
+        edit.member(2)
+    }
+}

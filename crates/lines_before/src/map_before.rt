@@ -1,0 +1,117 @@
+//! The map after a turn.
+use crate::lines_before::LinesBefore;
+use arena::{PassNo, Side};
+use linearization::edited;
+use ordered_map::{Goal, Reply, Request};
+use script::Command;
+use std::alloc::{AllocError, Global};
+
+/// The pairs of a map, by rising key.
+pub type MapPairs = Vec<(u64, u128)>;
+
+/// The map after a turn, as the entries up to it leave it.
+pub fn pairs_at(before: &LinesBefore<'_>, turn: u64) -> Result<MapPairs, AllocError> {
+    let mut pairs = Vec::new(before.alloc);
+    for entry in before.entries.iter() {
+        if entry.step <= turn
+            && let Some(command) = command_of(before, entry.client, entry.call)
+        {
+            edit(&mut pairs, command)?;
+        }
+    }
+    Ok(pairs)
+}
+
+/// The command of a client's call of this number.
+fn command_of(before: &LinesBefore<'_>, client: PassNo, number: u64) -> Option<Command> {
+    let calls = before.record.script.calls.as_slice();
+    let mut own = calls.iter().filter(|call| call.client == client);
+    Some(own.nth(number as usize)?.command)
+}
+
+/// Edits the pairs as a command does that has an entry.
+fn edit(pairs: &mut MapPairs, command: Command) -> Result<(), AllocError> {
+    let least = pairs.first().map(|pair| pair.0);
+    let greatest = pairs.last().map(|pair| pair.0);
+    let takes_last = matches!(command, Command::Map(Request::PopLast));
+    let at_end = if takes_last { greatest } else { least };
+    let Some((key, value)) = edited(command, at_end) else {
+        return Ok(());
+    };
+    pairs.retain(|pair| pair.0 != key);
+    if let Some(value) = value {
+        pairs.push((key, value))?;
+    }
+    pairs.sort()
+}
+
+/// What a key has.
+fn value_of(pairs: &MapPairs, key: u64) -> Option<u128> {
+    pairs.iter().find(|pair| pair.0 == key).map(|pair| pair.1)
+}
+
+/// The pair at an end.
+fn end_pair(pairs: &MapPairs, side: Side) -> Option<(u64, u128)> {
+    match side {
+        Side::Left => pairs.first().copied(),
+        Side::Right => pairs.last().copied(),
+    }
+}
+
+/// What a map of these pairs replies to a call.
+pub fn reply_of(
+    alloc: Global,
+    request: &Request<u64, u128>,
+    pairs: &MapPairs,
+) -> Result<Reply<u64, u128>, AllocError> {
+    Ok(match *request {
+        Request::Successor { key } => {
+            Reply::Pair(pairs.iter().find(|pair| key < pair.0).copied())
+        }
+        Request::Predecessor { key } => {
+            Reply::Pair(pairs.iter().rev().find(|pair| pair.0 < key).copied())
+        }
+        Request::Range { low, high, most } => Reply::Pairs(range_of(
+            alloc, pairs, low, high, most,
+        )?),
+        Request::Get { key } => Reply::Value(value_of(pairs, key)),
+        _ => match request.edit() {
+            Some((Goal::End(side), _)) => Reply::Pair(end_pair(pairs, side)),
+            Some((Goal::Key(key), _)) => Reply::Value(value_of(pairs, key)),
+            None => Reply::Value(None),
+        },
+    })
+}
+
+/// The first pairs with keys in these bounds.
+fn range_of(
+    alloc: Global,
+    pairs: &MapPairs,
+    low: u64,
+    high: u64,
+    most: u32,
+) -> Result<MapPairs, AllocError> {
+    let mut found = Vec::new(alloc);
+    for pair in pairs.iter() {
+        if low <= pair.0 && pair.0 <= high && found.len() < most as usize {
+            found.push(*pair)?;
+        }
+    }
+    Ok(found)
+}
+
+/// How many nodes an edit needs on a map of these pairs; none if it has nothing to do.
+pub fn needed_by(request: &Request<u64, u128>, pairs: &MapPairs) -> u32 {
+    match request.edit() {
+        Some((Goal::End(side), _)) => u32::from(end_pair(pairs, side).is_some()),
+        Some((Goal::Key(key), rule)) => {
+            let found = value_of(pairs, key);
+            match (rule.applies(found), found) {
+                (true, None) => 3,
+                (true, Some(_)) => 1,
+                (false, _) => 0,
+            }
+        }
+        None => 0,
+    }
+}

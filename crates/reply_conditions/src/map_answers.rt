@@ -1,0 +1,299 @@
+//! Answers of calls of the map.
+use crate::blame::{check_blame, check_since};
+use crate::replies::{ANSWER, MOMENT};
+use arena::{Full, Kind, Mode, NodeNo, NodeWord, PassNo, Resource, ScxNo, SettledPart, Word};
+use lines_before::{LinesBefore, Objection, demand, needed_by, object, pairs_at, reply_of};
+use ordered_map::{Goal, Reply, Request};
+use record::{Answer, Finished};
+use report::answer_text;
+
+/// A call of the map answers what the map replied at its moment, or is refused as it deserves.
+pub(crate) fn check_map_answer(
+    before: &LinesBefore<'_>,
+    request: &Request<u64, u128>,
+    reply: &Finished,
+) -> Result<(), Objection> {
+    let Answer::Map(told) = &reply.answer else {
+        return Ok(());
+    };
+    match told {
+        Reply::Value(_) | Reply::Pair(_) | Reply::Pairs(_) => {
+            match before.client(reply.client).won {
+                Some(turn) => check_change(before, request, reply, turn),
+                None => check_reading(before, request, reply),
+            }
+        }
+        Reply::Contended { node, scx } => check_contended(before, request, reply, (*node, *scx)),
+        Reply::Full(full) => {
+            check_no_moment(before, reply)?;
+            check_full(before, request, reply, full)
+        }
+        Reply::NoMemory => check_no_moment(before, reply),
+    }
+}
+
+/// All tries were begun, there was something to do, if that is found first, and the SCX-record was in
+/// the way of the last.
+fn check_contended(
+    before: &LinesBefore<'_>,
+    request: &Request<u64, u128>,
+    reply: &Finished,
+    (node, scx): (NodeNo, ScxNo),
+) -> Result<(), Objection> {
+    check_no_moment(before, reply)?;
+    check_tries(before, reply.client)?;
+    if !looks_first(before, request) {
+        check_needed(before, request, reply)?;
+    }
+    check_blame(before, reply, node, scx)?;
+    let newest = newest_try(before, reply.client);
+    check_since(before, scx, newest, "the last try of the call began")
+}
+
+/// Whether an edit goes to an end of a trie, where it looks at node 2 first.
+fn looks_first(before: &LinesBefore<'_>, request: &Request<u64, u128>) -> bool {
+    before.record.script.layout.mode == Mode::Trie
+        && matches!(request.edit(), Some((Goal::End(_), _)))
+}
+
+/// What the map replies after a turn, as text.
+fn reply_at(
+    before: &LinesBefore<'_>,
+    request: &Request<u64, u128>,
+    turn: u64,
+) -> Result<String, Objection> {
+    let pairs = pairs_at(before, turn)?;
+    let reply = reply_of(before.alloc, request, &pairs)?;
+    Ok(answer_text(before.alloc, &Answer::Map(reply))?)
+}
+
+/// A call with an entry answers what the map replied just before it.
+fn check_change(
+    before: &LinesBefore<'_>,
+    request: &Request<u64, u128>,
+    reply: &Finished,
+    turn: u64,
+) -> Result<(), Objection> {
+    let alloc = before.alloc;
+    check_moment_is(before, reply, turn, "the turn of the call's update")?;
+    let answer = answer_text(alloc, &reply.answer)?;
+    let wanted = reply_at(before, request, turn.saturating_sub(1))?;
+    demand(
+        answer.as_str() == wanted.as_str(),
+        ANSWER,
+        format!(in alloc;
+            "{answer} in place of {wanted}, which the map replies just before turn {turn}, when the update wins"
+        ),
+    )
+}
+
+/// A call that reads answers what the map replied after a turn of the call, and names the latest
+/// such.
+fn check_reading(
+    before: &LinesBefore<'_>,
+    request: &Request<u64, u128>,
+    reply: &Finished,
+) -> Result<(), Objection> {
+    let alloc = before.alloc;
+    let answer = answer_text(alloc, &reply.answer)?;
+    let (begin, end) = (reply.begin, reply.end);
+    let what = "the latest turn of the call after which the map replies so";
+    if let Some(latest) = latest_such(before, request, reply, answer.as_str())? {
+        return check_moment_is(before, reply, latest, what);
+    }
+    let last = reply_at(before, request, end)?;
+    Err(object(
+        ANSWER,
+        format!(in alloc;
+            "{answer} in place of {last}, which the map replies after turn {end}, the call's last, and from turn \
+             {begin} on it never replies {answer}"
+        ),
+    ))
+}
+
+/// The latest turn of a call after which the map replies this, if there is one.
+fn latest_such(
+    before: &LinesBefore<'_>,
+    request: &Request<u64, u128>,
+    reply: &Finished,
+    answer: &str,
+) -> Result<Option<u64>, Objection> {
+    if reply_at(before, request, reply.end)?.as_str() == answer {
+        return Ok(Some(reply.end));
+    }
+    let mut latest = None;
+    let turns = before.entries.iter().map(|entry| entry.step);
+    for turn in turns.filter(|turn| *turn <= reply.end) {
+        let until = turn.saturating_sub(1);
+        if reply.begin < turn && reply_at(before, request, until)?.as_str() == answer {
+            latest = Some(until);
+        }
+    }
+    Ok(latest)
+}
+
+/// The moment is this turn.
+pub(crate) fn check_moment_is(
+    before: &LinesBefore<'_>,
+    reply: &Finished,
+    turn: u64,
+    what: &str,
+) -> Result<(), Objection> {
+    let alloc = before.alloc;
+    match reply.moment {
+        Some(moment) => demand(
+            moment == turn,
+            MOMENT,
+            format!(in alloc; "{moment} in place of {turn}, {what}"),
+        ),
+        None => Err(object(
+            MOMENT,
+            format!(in alloc; "nothing in place of {turn}, {what}"),
+        )),
+    }
+}
+
+/// An answer that says nothing of the map has no moment.
+pub(crate) fn check_no_moment(before: &LinesBefore<'_>, reply: &Finished) -> Result<(), Objection> {
+    let (alloc, moment) = (before.alloc, reply.moment.unwrap_or(0));
+    let answer = answer_text(alloc, &reply.answer)?;
+    demand(
+        reply.moment.is_none(),
+        MOMENT,
+        format!(in alloc; "{moment} where nothing is wanted: {answer} has no moment"),
+    )
+}
+
+/// The call has begun as many tries as it may.
+fn check_tries(before: &LinesBefore<'_>, pass: PassNo) -> Result<(), Objection> {
+    let (alloc, limit) = (before.alloc, before.record.script.limits.tries);
+    let begun = before.rows.iter().skip(before.client(pass).first);
+    let tries = begun
+        .filter(|row| row.pass == pass && begins_try(row))
+        .count();
+    demand(
+        tries == limit as usize,
+        ANSWER,
+        format!(in alloc; "the call has begun {tries} tries, and gives up after {limit}"),
+    )
+}
+
+/// How many steps there were before the newest try of a client.
+fn newest_try(before: &LinesBefore<'_>, pass: PassNo) -> usize {
+    let begins = |row: &arena::Row| row.pass == pass && begins_try(row);
+    before.rows.iter().rposition(begins).unwrap_or(0)
+}
+
+/// Whether a step begins a try: it loads the root's head.
+fn begins_try(row: &arena::Row) -> bool {
+    match row.word {
+        Word::Node(node, NodeWord::Settled(SettledPart::Head)) => {
+            row.kind == Kind::LoadSettled && node.0 == 0
+        }
+        _ => false,
+    }
+}
+
+/// The most nodes that an edit needed after some turn of its call.
+fn most_needed(
+    before: &LinesBefore<'_>,
+    request: &Request<u64, u128>,
+    reply: &Finished,
+) -> Result<u32, Objection> {
+    let mut most = needed_by(request, &pairs_at(before, reply.end)?);
+    for entry in before.entries.iter() {
+        if reply.begin < entry.step && entry.step <= reply.end {
+            let pairs = pairs_at(before, entry.step.saturating_sub(1))?;
+            most = most.max(needed_by(request, &pairs));
+        }
+    }
+    Ok(most)
+}
+
+/// An edit that was refused had something to do after some turn of its call.
+fn check_needed(
+    before: &LinesBefore<'_>,
+    request: &Request<u64, u128>,
+    reply: &Finished,
+) -> Result<(), Objection> {
+    let alloc = before.alloc;
+    let needed = most_needed(before, request, reply)?;
+    demand(
+        needed > 0 || request.edit().is_none(),
+        ANSWER,
+        format!(in alloc;
+            "the map gave the call nothing to do after any turn from {} to {}",
+            reply.begin, reply.end
+        ),
+    )
+}
+
+/// The share has just so much left, too little for what the edit needed.
+fn check_full(
+    before: &LinesBefore<'_>,
+    request: &Request<u64, u128>,
+    reply: &Finished,
+    full: &Full,
+) -> Result<(), Objection> {
+    check_left(before, reply.client, full)?;
+    check_needed(before, request, reply)?;
+    if full.what == Resource::Nodes {
+        check_too_few(before, request, reply, full.left)?;
+    }
+    let (alloc, layout) = (before.alloc, before.judge.layout());
+    let client = before.client(reply.client);
+    let (what, left) = match full.what {
+        Resource::Nodes => ("nodes", layout.nodes.saturating_sub(client.nodes)),
+        Resource::Scx => ("SCX-records", layout.scx.saturating_sub(client.scx)),
+    };
+    Err(object(
+        ANSWER,
+        format!(in alloc;
+            "{left} {what} were left as the call began, and since then no SCX-record of another client was in \
+             progress, to which it could have lost a try"
+        ),
+    ))
+}
+
+/// So many nodes are too few for the edit.
+fn check_too_few(
+    before: &LinesBefore<'_>,
+    request: &Request<u64, u128>,
+    reply: &Finished,
+    told: u32,
+) -> Result<(), Objection> {
+    let (alloc, needed) = (before.alloc, most_needed(before, request, reply)?);
+    demand(
+        told < needed,
+        ANSWER,
+        format!(in alloc; "{told} nodes are enough for the call, which needed {needed} at most"),
+    )
+}
+
+/// What is left of the share: so many nodes, or no SCX-record, and some node.
+pub(crate) fn check_left(
+    before: &LinesBefore<'_>,
+    pass: PassNo,
+    full: &Full,
+) -> Result<(), Objection> {
+    let (alloc, layout, taken) = (before.alloc, before.judge.layout(), before.taken(pass));
+    let nodes = layout.nodes.saturating_sub(taken.0);
+    let scx = layout.scx.saturating_sub(taken.1);
+    let (left, what) = match full.what {
+        Resource::Nodes => (nodes, "nodes"),
+        Resource::Scx => (scx, "SCX-records"),
+    };
+    demand(
+        full.left == left,
+        ANSWER,
+        format!(in alloc;
+            "{} in place of {left}, the {what} that are left of the share",
+            full.left
+        ),
+    )?;
+    demand(
+        full.what == Resource::Nodes || (scx == 0 && nodes > 0),
+        ANSWER,
+        format!(in alloc; "{scx} SCX-records and {nodes} nodes are left: none and some are wanted"),
+    )
+}

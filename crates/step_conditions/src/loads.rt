@@ -1,0 +1,53 @@
+//! Loads.
+use arena::{Kind, NodeWord, Row, ScxWord, Word};
+use lines_before::{AFTER, LinesBefore, Objection, WORD, demand, name_of};
+use report::word_text;
+
+/// A load is of a word of its kind, and changes nothing.
+pub(crate) fn check_load(before: &LinesBefore<'_>, row: &Row) -> Result<(), Objection> {
+    let (alloc, kind) = (before.alloc, name_of(row.kind));
+    let (word, wanted) = (word_text(alloc, row.word)?, loaded_by(row.kind));
+    demand(
+        is_loaded_by(row.kind, row.word),
+        WORD,
+        format!(in alloc; "{word} in place of {wanted}, which {kind} loads"),
+    )?;
+    demand(
+        row.after == row.before,
+        AFTER,
+        format!(in alloc;
+            "{} in place of {}, since a load changes nothing",
+            row.after, row.before
+        ),
+    )
+}
+
+fn is_loaded_by(kind: Kind, word: Word) -> bool {
+    match kind {
+        Kind::LoadInfo => matches!(word, Word::Node(_, NodeWord::Info)),
+        Kind::LoadState => matches!(word, Word::Scx(_, ScxWord::State)),
+        Kind::LoadMarked => matches!(word, Word::Node(_, NodeWord::Marked)),
+        Kind::LoadAllFrozen => matches!(word, Word::Scx(_, ScxWord::AllFrozen)),
+        Kind::LoadChild => matches!(word, Word::Node(_, NodeWord::Child(_))),
+        _ => is_settled(word),
+    }
+}
+
+fn is_settled(word: Word) -> bool {
+    match word {
+        Word::Node(_, NodeWord::Settled(_)) => true,
+        Word::Node(_, _) | Word::Scx(_, ScxWord::State | ScxWord::AllFrozen) => false,
+        Word::Scx(_, _) => true,
+    }
+}
+
+fn loaded_by(kind: Kind) -> &'static str {
+    match kind {
+        Kind::LoadInfo => "the info of a node",
+        Kind::LoadState => "the state of an SCX-record",
+        Kind::LoadMarked => "the mark of a node",
+        Kind::LoadAllFrozen => "allfrozen of an SCX-record",
+        Kind::LoadChild => "a field of a node",
+        _ => "a settled word of a node, or plan to call of an SCX-record",
+    }
+}

@@ -1,0 +1,161 @@
+//! What is asked of each step.
+use crate::fills::check_fill;
+use crate::freezes::check_freeze;
+use crate::loads::check_load;
+use crate::stores::{check_abort, check_commit, check_frozen, check_mark};
+use crate::updates::check_update;
+use arena::{Kind, PassNo, Row, ScxWord, Word};
+use claimed_edits::{check_edit, check_levels};
+use lines_before::{
+    AFTER, BEFORE, CLIENT, KIND, LinesBefore, NUMBER, Objection, WORD, call_words, demand, name_of,
+    object,
+};
+use ordered_map::Request;
+use report::word_text;
+use script::Command;
+
+/// A turn that makes this step.
+pub fn check_step(before: &LinesBefore<'_>, number: u64, row: &Row) -> Result<(), Objection> {
+    check_pass(before, row.pass)?;
+    check_number(before, number)?;
+    check_call(before, row)?;
+    check_word(before, row)?;
+    check_kind(before, row)?;
+    if before.record.script.layout.mode.is_map() {
+        check_levels(before, row)?;
+        check_edit(before, row)?;
+    }
+    check_bound(before, row)
+}
+
+/// There is a client of this number.
+pub fn check_pass(before: &LinesBefore<'_>, pass: PassNo) -> Result<(), Objection> {
+    let (alloc, last) = (before.alloc, before.clients.len().saturating_sub(1));
+    demand(
+        (pass.0 as usize) < before.clients.len(),
+        CLIENT,
+        format!(in alloc; "{} is above {last}, the last client", pass.0),
+    )
+}
+
+/// Turns are numbered from 1.
+pub fn check_number(before: &LinesBefore<'_>, number: u64) -> Result<(), Objection> {
+    let (alloc, next) = (before.alloc, before.turn.saturating_add(1));
+    demand(
+        number == next,
+        NUMBER,
+        format!(in alloc; "{number} in place of {next}, the next turn"),
+    )
+}
+
+/// The client has a call left, which may make a step of this kind.
+fn check_call(before: &LinesBefore<'_>, row: &Row) -> Result<(), Objection> {
+    let (alloc, pass) = (before.alloc, row.pass);
+    let Some(command) = before.next(pass) else {
+        return Err(object(
+            CLIENT,
+            format!(in alloc;
+                "client {} has no call left, so each further turn is idle",
+                pass.0
+            ),
+        ));
+    };
+    let (kind, call) = (name_of(row.kind), call_words(before, pass)?);
+    let kinds = kinds_of(&command);
+    demand(
+        may_make(&command, row.kind),
+        KIND,
+        format!(in alloc; "{kind} by {call}, which makes {kinds}"),
+    )?;
+    check_call_word(before, row)
+}
+
+/// A fill of `call` stores the number of the client's call.
+fn check_call_word(before: &LinesBefore<'_>, row: &Row) -> Result<(), Objection> {
+    let (alloc, number) = (before.alloc, before.client(row.pass).answered);
+    let is_call = row.kind == Kind::Fill && matches!(row.word, Word::Scx(_, ScxWord::Call));
+    demand(
+        !is_call || row.after == number,
+        AFTER,
+        format!(in alloc;
+            "{} in place of {number}, the number of the client's call",
+            row.after
+        ),
+    )
+}
+
+/// Whether a call with this command may make a step of a kind.
+fn may_make(command: &Command, kind: Kind) -> bool {
+    match command {
+        Command::Llx { cell: _ } => kind != Kind::Fill,
+        Command::Vlx { cells: _ } => kind == Kind::LoadInfo,
+        Command::Map(Request::Get { key: _ }) => {
+            kind == Kind::LoadSettled || kind == Kind::LoadChild
+        }
+        Command::Map(Request::Successor { key: _ } | Request::Predecessor { key: _ }) => {
+            kind != Kind::Fill
+        }
+        Command::Map(Request::Range { low, high, most }) => {
+            kind != Kind::Fill && *most > 0 && low <= high
+        }
+        _ => true,
+    }
+}
+
+/// Which kinds of step such a call makes.
+fn kinds_of(command: &Command) -> &'static str {
+    match command {
+        Command::Vlx { cells: _ } => "no steps but info",
+        Command::Map(Request::Get { key: _ }) => "no steps but settled and child",
+        Command::Map(Request::Range { low, high, most }) if *most == 0 || high < low => "no step",
+        _ => "no fill",
+    }
+}
+
+/// The word exists, and held what the step has found there.
+fn check_word(before: &LinesBefore<'_>, row: &Row) -> Result<(), Objection> {
+    let (alloc, layout) = (before.alloc, before.judge.layout());
+    let word = word_text(alloc, row.word)?;
+    let (nodes, scx) = (
+        layout.all_nodes().saturating_sub(1),
+        layout.all_scx().saturating_sub(1),
+    );
+    demand(
+        layout.has(row.word),
+        WORD,
+        format!(in alloc;
+            "{word} does not exist: there are the nodes n0 to n{nodes} and the SCX-records s0 to s{scx}"
+        ),
+    )?;
+    let held = before.judge.get(row.word);
+    demand(
+        row.before == held,
+        BEFORE,
+        format!(in alloc; "{} in place of {held}, which {word} holds", row.before),
+    )
+}
+
+/// What is asked of its kind. A step that is lawful does what its kind allows.
+fn check_kind(before: &LinesBefore<'_>, row: &Row) -> Result<(), Objection> {
+    match row.kind {
+        _ if before.judge.is_lawful(row) => Ok(()),
+        Kind::Fill => check_fill(before, row),
+        Kind::Freeze => check_freeze(before, row),
+        Kind::SetFrozen => check_frozen(before, row),
+        Kind::Mark => check_mark(before, row),
+        Kind::Update => check_update(before, row),
+        Kind::Commit => check_commit(before, row),
+        Kind::Abort => check_abort(before, row),
+        _ => check_load(before, row),
+    }
+}
+
+/// A call makes no more steps than it may. This is asked last, so it is what is broken.
+fn check_bound(before: &LinesBefore<'_>, row: &Row) -> Result<(), Objection> {
+    let (alloc, steps) = (before.alloc, before.client(row.pass).steps);
+    let call = call_words(before, row.pass)?;
+    Err(object(
+        NUMBER,
+        format!(in alloc; "{call}, has made {steps} steps, and may make no more"),
+    ))
+}
