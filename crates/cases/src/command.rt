@@ -19,8 +19,8 @@ use texts::Metered;
 pub(crate) enum Action<'a> {
     /// To play a script by a schedule.
     Play(Mode),
-    /// To run a script with threads, at the gate of this name.
-    Run { gate: &'a str },
+    /// To run a script with threads on a trie, or on a tree, at the gate of this name.
+    Run { trie: bool, gate: &'a str },
     /// To audit a report.
     Audit,
     /// To read a report, and write it again.
@@ -41,7 +41,13 @@ impl<'a> Action<'a> {
             ("audit", _) => Ok(Action::Audit),
             ("copy", _) => Ok(Action::Copy),
             ("picture", _) => Ok(Action::Picture),
-            (_, Some(("run", gate))) => Ok(Action::Run { gate }),
+            (_, Some(("run", rest))) => match rest.strip_prefix("trie ") {
+                Some(gate) => Ok(Action::Run { trie: true, gate }),
+                None => Ok(Action::Run {
+                    trie: false,
+                    gate: rest,
+                }),
+            },
             (_, Some(("outcomes", numbers))) => Action::outcomes(numbers),
             _ => bail!("no command: {words}"),
         }
@@ -71,9 +77,9 @@ impl<'a> Action<'a> {
                 let (mut script, mut schedule) = (Metered::new(first), Metered::new(second));
                 play_over(alloc, mode, &mut script, &mut schedule, &mut out, &mut err)
             }
-            Action::Run { gate } => {
+            Action::Run { trie, gate } => {
                 let mut script = Metered::new(first);
-                run_over(rt, alloc, gate, &mut script, &mut out, &mut err)
+                run_over(rt, alloc, trie, gate, &mut script, &mut out, &mut err)
             }
             Action::Audit => audit_over(alloc, &mut Metered::new(first), &mut out, &mut err),
             Action::Copy => exit_status(copy_over(alloc, first, &mut out), &mut err),

@@ -36,7 +36,7 @@ impl Expected {
             }
             Action::Outcomes { .. } => Expected::Rows(text_of(rt, folder, "rows.csv")?),
             Action::Play(_) | Action::Copy => Expected::Output(file_of(rt, folder, "report.csv")?),
-            Action::Run { gate: _ } => Expected::Output(file_of(rt, folder, "outcome.csv")?),
+            Action::Run { .. } => Expected::Output(file_of(rt, folder, "outcome.csv")?),
             Action::Picture => Expected::Output(file_of(rt, folder, "picture.svg")?),
             Action::Audit => Expected::Output(b"lawful\n".to_vec(rt.alloc())?),
         })

@@ -15,8 +15,10 @@ pub(crate) enum Invocation<'a> {
         script: &'a str,
         schedule: &'a str,
     },
-    /// To run the calls of a script on the tree, with a thread for each client and a gate.
+    /// To run the calls of a script on the tree or on a trie, with a thread for each client and a
+    /// gate.
     Run {
+        trie: bool,
         gate: &'a str,
         script: &'a str,
     },
@@ -56,7 +58,13 @@ fn play_of<'a>(given: &ArgMatches<'a>, mode: Mode) -> Option<Invocation<'a>> {
 }
 
 fn run_of<'a>(given: &ArgMatches<'a>) -> Option<Invocation<'a>> {
+    let trie = match given.get_str("map") {
+        None | Some("tree") => false,
+        Some("trie") => true,
+        Some(_) => return None,
+    };
     Some(Invocation::Run {
+        trie,
         gate: given.get_str("gate").unwrap_or("open"),
         script: given.get_str("SCRIPT")?,
     })
@@ -86,7 +94,8 @@ fn running<'a>(alloc: Global, name: &'a str) -> Result<Command<'a>, Error> {
     Ok(
         Command::new(alloc, name)
             .arg(file(alloc, "SCRIPT"))?
-            .arg(option(alloc, "gate"))?,
+            .arg(option(alloc, "gate"))?
+            .arg(option(alloc, "map"))?,
     )
 }
 

@@ -31,7 +31,7 @@ pub fn run_words<R: Files + AllocGlobal + Threads + Wait + Sync, O: Write, E: Wr
                 schedule,
             },
         ) => play_files(rt, mode, script, schedule, out, err),
-        Ok(Invocation::Run { gate, script }) => run_file(rt, gate, script, out, err),
+        Ok(Invocation::Run { trie, gate, script }) => run_file(rt, trie, gate, script, out, err),
         Ok(Invocation::Audit { report }) => audit_file(rt, report, out, err),
         Err(fault) => fault.print(err),
     }
@@ -64,6 +64,7 @@ fn open_both<R: Files>(rt: &R, first: &str, second: &str) -> Result<(R::File, R:
 /// Runs the script in a file with threads, at the gate of this name.
 fn run_file<R: Files + AllocGlobal + Threads + Wait + Sync, O: Write, E: Write>(
     rt: &R,
+    trie: bool,
     gate: &str,
     script: &str,
     out: &mut O,
@@ -76,6 +77,7 @@ fn run_file<R: Files + AllocGlobal + Threads + Wait + Sync, O: Write, E: Write>(
             run_over(
                 rt,
                 rt.alloc(),
+                trie,
                 gate,
                 &mut Metered::new(script),
                 &mut Metered::new(out),

@@ -45,7 +45,7 @@ const HELPS: [CommandHelp; 8] = [
     },
     CommandHelp {
         name: "run",
-        about: "Run a script on the tree with a thread for each client, and print the outcome",
+        about: "Run a script of a map with a thread for each client, and print the outcome",
         first: "SCRIPT",
         second: None,
         example: "Example: rnb run runs/two_inserts/script.csv --gate hold",
@@ -113,7 +113,7 @@ fn command_of<'a>(alloc: Global, help: &CommandHelp) -> Result<Command<'a>, Erro
 fn with_options<'a>(alloc: Global, name: &str, command: Command<'a>) -> Result<Command<'a>, Error> {
     Ok(match name {
         "play" | "trie" | "records" | "audit" => command.arg(progress(alloc))?,
-        "run" => command.arg(gate(alloc))?,
+        "run" => command.arg(gate(alloc))?.arg(map_kind(alloc))?,
         "picture" => {
             let from = turn(alloc, "from", "The first turn that is drawn");
             let to = turn(alloc, "to", "The last turn that is drawn");

@@ -154,13 +154,21 @@ fn run<R: Files + Input + Clock + AllocGlobal + Threads + Wait + Sync, O: Write>
     given: &ArgMatches<'_>,
     out: &mut O,
 ) -> Result<(), Complaint> {
-    let alloc = rt.alloc();
+    let (alloc, mode) = (rt.alloc(), map_of(given));
     let script = source_of(rt, given, "SCRIPT")?;
-    script_of(alloc, Mode::Tree, &script)?;
+    script_of(alloc, mode, &script)?;
     let gate = given.get_str("gate").unwrap_or("open");
     let mut script = Metered::new(script.bytes.as_slice());
     let (mut out, mut err) = (Metered::new(out), Vec::new(alloc));
-    ended(run_over(rt, alloc, gate, &mut script, &mut out, &mut err))
+    ended(run_over(
+        rt,
+        alloc,
+        mode == Mode::Trie,
+        gate,
+        &mut script,
+        &mut out,
+        &mut err,
+    ))
 }
 
 fn list_outcomes<R: Files + Input + Clock + AllocGlobal, O: Write, E: Write>(

@@ -1,3 +1,4 @@
 pub mod Deserved
 mod Audits
 mod Beginnings
+mod MapModes

@@ -2,7 +2,7 @@
 use Rattle.std.specs.Prelude.{ℕ, Bool, List, Option, Vec, ⊤}
 use Rattle.std.specs.Global.{Global}
 use Rattle.std.specs.Io.KnownBytes.{Appends}
-use Rattle.arena.specs.declared.limits.Mode.TheVariants.{Tree}
+use Rattle.histories.specs.Common.{Mode}
 use Rattle.script.specs.Grammars.{IsScriptFault, SayScript}
 use Rattle.record.specs.Common.{Script, Reply}
 use Rattle.runner.specs.Gates.{IsGate}
@@ -20,20 +20,20 @@ pub record HasRun (script : Script) (old new : Option (List ℕ)) : Type 0 where
   pub outcome : IsOutcome script replies pairs
   pub text : Appends old new (outcome_text missed replies pairs)
 
--- the text says a script of the tree, and of that one there was such a run
-pub record HasPrintedRun (text : List ℕ) (old new : Option (List ℕ)) : Type 0 where
+-- the text says a script of this mode, and of that one there was such a run
+pub record HasPrintedRun (mode : Mode) (text : List ℕ) (old new : Option (List ℕ)) : Type 0 where
   pub script : Script
-  pub says : SayScript Tree text script.limits script.layout script.calls.items
+  pub says : SayScript mode text script.limits script.layout script.calls.items
   pub run : HasRun script old new
 
 -- the text of a script and the name of a gate deserve the fault: there is no such gate; or it is
 -- the first of the text. Memory, a read or a write may fail whatever they are.
-abbrev pub IsDeservedWithThreads : List ℕ → List ℕ → Fault → Type 0
-IsDeservedWithThreads gate text BadGate = ¬ (IsGate gate)
-IsDeservedWithThreads gate text (BadScript row cause) = IsScriptFault Tree text row cause
-IsDeservedWithThreads gate text (BadSchedule row cause) = ⊥
-IsDeservedWithThreads gate text (NotLawful row) = ⊥
-IsDeservedWithThreads gate text Usage = ⊥
-IsDeservedWithThreads gate text NoMemory = ⊤
-IsDeservedWithThreads gate text Read = ⊤
-IsDeservedWithThreads gate text Write = ⊤
+abbrev pub IsDeservedWithThreads : Mode → List ℕ → List ℕ → Fault → Type 0
+IsDeservedWithThreads mode gate text BadGate = ¬ (IsGate gate)
+IsDeservedWithThreads mode gate text (BadScript row cause) = IsScriptFault mode text row cause
+IsDeservedWithThreads mode gate text (BadSchedule row cause) = ⊥
+IsDeservedWithThreads mode gate text (NotLawful row) = ⊥
+IsDeservedWithThreads mode gate text Usage = ⊥
+IsDeservedWithThreads mode gate text NoMemory = ⊤
+IsDeservedWithThreads mode gate text Read = ⊤
+IsDeservedWithThreads mode gate text Write = ⊤

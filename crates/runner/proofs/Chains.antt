@@ -25,7 +25,7 @@ pub replies_later : (f : Ground) (old new : PassView) (cs : List Command) (rs : 
 replies_later f old new [] [] h = subst (IsLaterView old) (sym h) (later_self old)
 replies_later f old new [] (r ∷ rs) h = absurd h
 replies_later f old new (c ∷ cs) [] h = absurd h
-replies_later f old new (c ∷ cs) (r ∷ rs) h = later_again old h.1 new h.3.goes_on.later (replies_later f h.1 new cs rs h.4)
+replies_later f old new (c ∷ cs) (r ∷ rs) h = later_again old h.1 new h.3.1.goes_on.later (replies_later f h.1 new cs rs h.4)
 
 -- The commands of a client among more calls
 

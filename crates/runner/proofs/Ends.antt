@@ -1,13 +1,16 @@
 -- What a run whose passes are all back leaves.
-use Rattle.std.proofs.Common.{◌≡◌, ◌∙◌, ℕ, zero, suc, List, [], ◌∷◌, map, slice_get, Some, refl, ap, subst, Vec, Global}
-use Rattle.histories.specs.Common.{Tree, Layout, Row, History, value, Extends, log, Contents}
+use Rattle.std.proofs.Common.{◌≡◌, ◌∙◌, ℕ, zero, suc, Bool, true, false, rules, List, [], ◌∷◌, map, slice_get, Some, refl, sym, ap, subst, Vec, Global}
+use Rattle.histories.specs.Common.{Mode, Layout, Row, History, value, Extends, log, Contents}
+use Rattle.arena.specs.Layout.{IsMap}
 use Rattle.arena.specs.Limits.{IsLayoutOf}
 use Rattle.ordered_map.specs.Laws.{AreEdits}
-use Rattle.record.specs.Common.{MapEdit, IsTreeRun, Pair, Spells, word_pair, Reply, Script, commands}
-use Rattle.ordered_map.specs.Runs.{map_of_log, first_pairs}
-use Rattle.ordered_map.proofs.Lemmas.{log_edits, one_spelling, spells_log}
+use Rattle.record.specs.Common.{MapEdit, Pair, Spells, word_pair, Reply, Script, commands}
+use Rattle.ordered_map.specs.Runs.{IsMapRun, map_of_log, first_pairs}
+use Rattle.ordered_map.proofs.Lemmas.{one_spelling}
+use Rattle.ordered_map.proofs.MapLemmas.{log_edits, spells_log}
 use Rattle.arena.proofs.Lemmas.{ends_self}
 use Rattle.dict.specs.Laws.TypedMaps.{typed_run}
+use Rattle.template.specs.Balance.{map_mode}
 use Rattle.forest.specs.TableRule.{history_of}
 use Rattle.forest.specs.Passes.{Ground, PassView, AreNew, AreBegun, HoldsOfOwn, IsClosed, IsLook, new_pass, run_of, done_of}
 use Rattle.forest.specs.Shares.{entries_of}
@@ -17,6 +20,11 @@ use Rattle.runner.specs.Histories.{AreVersions}
 use Rattle.runner.specs.Outcomes.{IsClientOfRun, IsOutcome}
 use Rattle.runner.proofs.Gathered.{WorkedAt, worked_at, worked_count, none_some, some_same}
 use Rattle.runner.proofs.Placed.{all_answered}
+
+-- a mode of a tree or of a trie is that of a map
+pub of_map : (trie : Bool) (mode : Mode) → mode ≡ map_mode trie → IsMap mode
+of_map true mode is = rw is (search rules)
+of_map false mode is = rw is (search rules)
 
 -- what is said of a pass that is back, of a run of these rows
 record IsBackIn (rows : List Row) (p : PassView) : Type 0 where
@@ -30,16 +38,16 @@ back_at rows [] c p e x = absurd (none_some p e)
 back_at rows (q ∷ ps) zero p e x = subst (IsBackIn rows) (some_same q p e) (record { within = x.0; entries = x.1; looks = x.3 })
 back_at rows (q ∷ ps) (suc c) p e x = back_at rows ps c p e x.4
 
-module _ (script : Script) (f : Ground) (layout : IsLayoutOf script.limits Tree f.layout) (tries : f.tries ≡ script.limits.tries) (olds news : List PassView) (owns : List (Vec (Reply ℕ ℕ) Global)) (are_new : AreNew f olds) (worked : HaveWorked f script.calls.items olds news owns) (words : Contents) (closed : IsClosed NumbersAllow f.layout news words) where
+module _ (script : Script) (f : Ground) (maps : IsMap script.layout.mode) (layout : IsLayoutOf script.limits script.layout.mode f.layout) (tries : f.tries ≡ script.limits.tries) (olds news : List PassView) (owns : List (Vec (Reply ℕ ℕ) Global)) (are_new : AreNew f olds) (worked : HaveWorked f script.calls.items olds news owns) (words : Contents) (closed : IsClosed NumbersAllow f.layout news words) where
   -- the run that the words are of
   abbrev pub whole : History
   whole = history_of f.layout.mode closed.rows
 
-  tree : IsTreeRun f.layout whole
-  tree = (layout.mode_is, typed_run IsNumber IsWideNumber f.layout whole closed.sound)
+  map_run : IsMapRun f.layout whole
+  map_run = (subst IsMap (sym layout.mode_is) maps, typed_run IsNumber IsWideNumber f.layout whole closed.sound)
 
   edits : (e : ℕ → MapEdit) × AreEdits e f.layout whole
-  edits = log_edits f.layout whole tree
+  edits = log_edits f.layout whole map_run
 
   -- the map at each moment
   abbrev versions : History → List Pair
@@ -48,7 +56,7 @@ module _ (script : Script) (f : Ground) (layout : IsLayoutOf script.limits Tree 
   are : AreVersions f.layout whole versions
   unfolding log
   are = record {
-    spelled = spells_log f.layout whole edits.0 tree edits.1;
+    spelled = spells_log f.layout whole edits.0 map_run edits.1;
     opens = refl;
     stays = λ row before within same. ap (map_of_log edits.0 (first_pairs before)) same;
   }

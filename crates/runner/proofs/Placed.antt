@@ -81,6 +81,6 @@ module _ (forest : Ground) (run : History) (versions : History → List Pair) (a
         h.0,
         h.1,
         h.2,
-        record { within = there; told = placed old h.1 h.3.pass.1 h.3.goes_on.later.number there h.0 r h.3.told h.3.refused; called = h.3 },
+        record { within = there; told = placed old h.1 h.3.1.pass.1 h.3.1.goes_on.later.number there h.0 r h.3.1.told h.3.1.refused; called = h.3 },
         all_answered h.1 new cs rs within h.4,
       )

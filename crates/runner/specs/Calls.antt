@@ -1,20 +1,21 @@
 -- The calls of a client, as its pass makes them one after the other.
-use Rattle.std.specs.Prelude.{◌≡◌, ℕ, ◌<◌, ◌^◌, List, [], ◌∷◌, Some, Vec}
+use Rattle.std.specs.Prelude.{◌≡◌, ℕ, Bool, ◌<◌, ◌^◌, List, [], ◌∷◌, Some, Vec}
 use Rattle.std.specs.Global.{Global}
 use Rattle.histories.specs.Common.{Layout, History}
 use Rattle.record.specs.Common.{MapCall, Reply, Call, Command, commands, map_call}
 use Rattle.dict.specs.Typed.{TypedAllows}
 use Rattle.dict.specs.Words.{IsNumber, IsWideNumber}
-use Rattle.forest.specs.Dictionary.{HasCalled}
+use Rattle.forest.specs.Dictionary.{HasCalledIn}
 use Rattle.forest.specs.Passes.{Ground, PassView, IsOf}
 
 -- the shape of a dictionary of numbers: each SCX-record that begins makes an edit of numbers
 abbrev pub NumbersAllow : Layout → History → ℕ → Type 0
 NumbersAllow = TypedAllows IsNumber IsWideNumber
 
--- a pass of this forest, whose keys and values are numbers, has made a call and has this reply
+-- a pass of this forest, whose keys and values are numbers, has made a call and has this reply; it
+-- is a tree or a trie, as its mode says
 abbrev pub HasCalledNumbers : Ground → PassView → PassView → MapCall → Reply ℕ ℕ → Type 0
-HasCalledNumbers = HasCalled (λ k. k < 2 ^ 64) (λ k. k) (λ v. v < 2 ^ 128) (λ v. v)
+HasCalledNumbers forest old new call reply = (trie : Bool) × HasCalledIn trie (λ k. k < 2 ^ 64) (λ k. k) (λ v. v < 2 ^ 128) (λ v. v) forest old new call reply
 
 -- The pass has made the calls of these commands, one after the other, and they have these replies;
 -- each call with its reply is as P says. The pass knew `old` as the first began, and `new` at the

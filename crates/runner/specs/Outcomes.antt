@@ -1,7 +1,7 @@
 -- What the outcome of a run says.
 use Rattle.std.specs.Prelude.{◌≡◌, ℕ, List, Some, Vec, length, map, slice_get}
 use Rattle.std.specs.Global.{Global}
-use Rattle.histories.specs.Common.{Tree, History, Extends, log, IsRun}
+use Rattle.histories.specs.Common.{History, Extends, log, IsRun}
 use Rattle.arena.specs.Limits.{IsLayoutOf}
 use Rattle.record.specs.Common.{IsRising, Pair, word_pair, Reply, Command, Script, commands}
 use Rattle.forest.specs.Passes.{Ground, PassView, HaveLeftShares, HoldsOfOwn, IsLook, new_pass, run_of, done_of}
@@ -26,7 +26,7 @@ pub record IsClientOfRun (forest : Ground) (run : History) (versions : History �
 -- script's order, with one reply for each call; the pairs are those of the last version.
 pub record IsOutcome (script : Script) (replies : List (Vec (Reply ℕ ℕ) Global)) (pairs : List (ℕ × ℕ)) : Type 0 where
   pub forest : Ground
-  pub layout : IsLayoutOf script.limits Tree forest.layout
+  pub layout : IsLayoutOf script.limits script.layout.mode forest.layout
   pub tries : forest.tries ≡ script.limits.tries
   pub run : History
   pub lawful : IsRun NumbersAllow forest.layout run

@@ -14,22 +14,23 @@ use dict::{Dict, Reply, Request};
 use forest::{Forest, OpenCall, Pass, Stepped};
 use script::Call;
 use std::alloc::Global;
+use template::FixedBalance;
 
-/// A dictionary of numbers.
-pub(crate) type Numbers = Dict<u64, u128>;
+/// A dictionary of numbers, a tree or a trie.
+pub(crate) type Numbers<B> = Dict<u64, u128, B>;
 
 /// What a client's thread gives back: its pass, and the replies to its calls.
-pub(crate) type Worked = Result<(Pass<Numbers>, Vec<Reply<u64, u128>>), NoMemory>;
+pub(crate) type Worked<B> = Result<(Pass<Numbers<B>>, Vec<Reply<u64, u128>>), NoMemory>;
 
 /// Makes the calls of the pass's client among these, one after the other, and notifies the gate of
 /// them. The only error is want of memory.
-pub(crate) fn make_calls<G: Gate>(
+pub(crate) fn make_calls<G: Gate, B: FixedBalance>(
     alloc: Global,
-    forest: &Forest<Numbers>,
+    forest: &Forest<Numbers<B>>,
     gate: &G,
     calls: &[Call],
-    pass: Pass<Numbers>,
-) -> Worked
+    pass: Pass<Numbers<B>>,
+) -> Worked<B>
     requires pass { IsOf forest.now pass }
     requires tree { All (λ call. asks_map call.command ≡ true) calls.now }
     ensures { IfOk result (λ w. HasWorked forest.now calls.now pass w.0 w.1.items) }
@@ -50,14 +51,14 @@ pub(crate) fn make_calls<G: Gate>(
 }
 
 /// Makes a whole call, one atomic step at a time.
-fn make_call<G: Gate>(
+fn make_call<G: Gate, B: FixedBalance>(
     alloc: Global,
-    forest: &Forest<Numbers>,
+    forest: &Forest<Numbers<B>>,
     gate: &G,
     number: u64,
-    pass: Pass<Numbers>,
+    pass: Pass<Numbers<B>>,
     request: Request<u64, u128>,
-) -> (Pass<Numbers>, Reply<u64, u128>)
+) -> (Pass<Numbers<B>>, Reply<u64, u128>)
     requires pass { IsOf forest.now pass }
     requires few { AsksForFew request }
     ensures { HasCalledNumbers forest.now pass result.0 (map_request request) result.1 }
@@ -72,12 +73,12 @@ fn make_call<G: Gate>(
 }
 
 /// Makes the steps of a call.
-fn make_steps<G: Gate>(
-    forest: &Forest<Numbers>,
+fn make_steps<G: Gate, B: FixedBalance>(
+    forest: &Forest<Numbers<B>>,
     gate: &G,
     client: PassNo,
     number: u64,
-    call: &mut OpenCall<u64, u128>,
+    call: &mut OpenCall<u64, u128, B>,
 )
     requires forest { IsOf forest.now call.old.began }
     requires goes { call.old.over ≡ false }

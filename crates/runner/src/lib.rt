@@ -1,4 +1,4 @@
-//! Runs a script of the tree: a thread for each client makes the client's calls of one dictionary.
+//! Runs a script of a map: a thread for each client makes the client's calls of one dictionary.
 #![tactic(auto)]
 
 mod answers;

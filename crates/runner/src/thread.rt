@@ -15,23 +15,24 @@ use script::Call;
 use std::alloc::Global;
 use std::snapshot::Snapshot;
 use std::thread::{Promise, PromisedHandle, Scope, Threads};
+use template::FixedBalance;
 
 /// What the threads give back: the passes, and the replies of their clients.
-pub(crate) type Works = Result<(Vec<Pass<Numbers>>, Vec<Vec<Reply<u64, u128>>>), NoMemory>;
+pub(crate) type Works<B> = Result<(Vec<Pass<Numbers<B>>>, Vec<Vec<Reply<u64, u128>>>), NoMemory>;
 
 /// A thread that makes the calls of a client.
-pub(crate) type Thread<'a> = PromisedHandle<Worked, Duty<'a>>;
+pub(crate) type Thread<'a, B> = PromisedHandle<Worked<B>, Duty<'a, B>>;
 
 /// What the thread of a client is to do: to make the client's calls among these in a forest, by the
 /// client's pass.
 #[derive(Drop)]
-pub(crate) struct Duty<'a> {
-    forest: &'a Forest<Numbers>,
+pub(crate) struct Duty<'a, B: FixedBalance> {
+    forest: &'a Forest<Numbers<B>>,
     calls: &'a [Call],
-    pass: Snapshot<Pass<Numbers>>,
+    pass: Snapshot<Pass<Numbers<B>>>,
 }
 
-impl<'a> Promise<Worked> for Duty<'a> {
+impl<'a, B: FixedBalance> Promise<Worked<B>> for Duty<'a, B> {
     ghost use Rattle.std.specs.Prelude.{IfOk};
     ghost use Rattle.runner.specs.Calls.{HasWorked};
 
@@ -40,14 +41,14 @@ impl<'a> Promise<Worked> for Duty<'a> {
 
 /// Starts a thread for each pass, and returns whether all were started. The only error is want of
 /// memory before the first.
-pub(crate) fn start_all<'s, E, G: Gate>(
+pub(crate) fn start_all<'s, E, G: Gate, B: FixedBalance>(
     alloc: Global,
     scope: &Scope<'s, E>,
-    forest: &'s Forest<Numbers>,
+    forest: &'s Forest<Numbers<B>>,
     calls: &'s [Call],
     gate: &'s G,
-    passes: Vec<Pass<Numbers>>,
-) -> Result<(Vec<Thread<'s>>, bool), NoMemory>
+    passes: Vec<Pass<Numbers<B>>>,
+) -> Result<(Vec<Thread<'s, B>>, bool), NoMemory>
     requires passes { All (IsOf forest.now) passes.items }
     requires tree { All (λ call. asks_map call.command ≡ true) calls.now }
     ensures duties { IfOk result (λ r. All (λ t. (t.promise.forest.now ≡ forest.now) × (t.promise.calls.now ≡ calls.now)) r.0.items) }
@@ -61,7 +62,7 @@ pub(crate) fn start_all<'s, E, G: Gate>(
             calls,
             pass: pass_then,
         };
-        let work = move || -> Worked
+        let work = move || -> Worked<B>
             requires pass { IsOf forest.now pass }
             requires tree { All (λ call. asks_map call.command ≡ true) calls.now }
             ensures { IfOk result (λ w. HasWorked forest.entry.now calls.entry.now pass w.0 w.1.items) }
@@ -77,7 +78,11 @@ pub(crate) fn start_all<'s, E, G: Gate>(
 }
 
 /// Waits for all threads, and gathers what they give back.
-pub(crate) fn join_all<'s, R: Threads>(rt: &R, alloc: Global, threads: Vec<Thread<'s>>) -> Works
+pub(crate) fn join_all<'s, R: Threads, B: FixedBalance>(
+    rt: &R,
+    alloc: Global,
+    threads: Vec<Thread<'s, B>>,
+) -> Works<B>
     ensures { (f : Ground) (calls : List Call)
         → All (λ t. (t.promise.forest.now ≡ f) × (t.promise.calls.now ≡ calls)) threads.entry.items
         → IfOk result (λ r. HaveWorked f calls (map (λ t. t.promise.pass.value) threads.entry.items) r.0.items r.1.items) }
@@ -90,7 +95,7 @@ pub(crate) fn join_all<'s, R: Threads>(rt: &R, alloc: Global, threads: Vec<Threa
 }
 
 /// What the threads have given back, and one more.
-fn with_work(works: Works, worked: Worked) -> Works
+fn with_work<B: FixedBalance>(works: Works<B>, worked: Worked<B>) -> Works<B>
     ensures { (f : Ground) (calls : List Call) (olds : List PassView) (old : PassView)
         → IfOk works (λ r. HaveWorked f calls olds r.0.items r.1.items)
         → IfOk worked (λ w. HasWorked f calls old w.0 w.1.items)

@@ -12,4 +12,4 @@ returns g c =
     let began = same.began ∙ opened.began in
     subst (λ (p : PassView). HasCalledNumbers f p c.finish-ended.result.0 (map_request c.args.request) c.finish-ended.result.1) began
     (subst (λ (k : MapCall). HasCalledNumbers f c.make_steps.new.call.began c.finish-ended.result.0 k c.finish-ended.result.1) (same.call ∙ opened.call)
-    (c.finish-ended.ensures.called f (subst (IsOf f) (sym began) c.requires.pass) (same.tries ∙ opened.tries)))
+    (_, c.finish-ended.ensures.called f (subst (IsOf f) (sym began) c.requires.pass) (same.tries ∙ opened.tries)))

@@ -11,12 +11,12 @@ loop-call-preserved g c =
     let inv = c.loop-call.invariant in
     elim c.if-eq.branch [
       | then-eq+in_ok-push w ↦
-          let call = w.make_call-back.ensures in
+          let call = w.make_call-back.ensures.1 in
           let same : eqb client c.args.pass.number ≡ true = sym number ∙ w.if-eq.true in
           rw (w.pass-is, w.replies-is, w.in_ok-push.ensures.items) record {
             of_forest = call.pass;
             number = call.goes_on.later.number ∙ inv.number;
-            replies = replies_next (HasCalledNumbers c.args.forest.now) c.args.calls.now c.loop-call.call-index c.call-item.result c.args.pass.number c.loop-call-test.true c.call-item.is c.args.pass c.loop-call.pass c.loop-call.replies.items inv.replies same w.make_call-back.result.0 _ w.make_call-back.result.1 w.request_of-request.ensures.call call;
+            replies = replies_next (HasCalledNumbers c.args.forest.now) c.args.calls.now c.loop-call.call-index c.call-item.result c.args.pass.number c.loop-call-test.true c.call-item.is c.args.pass c.loop-call.pass c.loop-call.replies.items inv.replies same w.make_call-back.result.0 _ w.make_call-back.result.1 w.request_of-request.ensures.call w.make_call-back.ensures;
           }
       | else-eq w ↦
           let other : eqb client c.args.pass.number ≡ false = sym number ∙ w.if-eq.false in
