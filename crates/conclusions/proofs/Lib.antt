@@ -1,1 +1,2 @@
+mod Heights
 mod Together

@@ -1,5 +1,5 @@
 -- What was set is found, where nobody else has set it.
-use Rattle.std.proofs.Common.{◌≡◌, ◌≢◌, ◌<◌, ℕ, inl, inr, List, Option, Some, None, refl, sym, ◌∙◌, ap, subst, arith}
+use Rattle.std.proofs.Common.{◌≡◌, ◌≢◌, ◌<◌, ℕ, Bool, true, false, inl, inr, List, Option, Some, None, refl, sym, ◌∙◌, ap, subst, arith}
 use native.Mathlib.Decide.{ℕ_discrete}
 use Rattle.std.specs.Option.{option_map}
 use Rattle.regnubas.specs.History.{History, Opened, ◌⊳◌, value, Extends}
@@ -8,12 +8,13 @@ use Rattle.regnubas.specs.Log.{log}
 use Rattle.regnubas.specs.Machines.{IsRun}
 use Rattle.regnubas.specs.OrderedMap.{Get, Insert, MapReply, OneValue, call_insert, get, insert, reply}
 use Rattle.regnubas.specs.Layout.{IsMap}
-use Rattle.regnubas.specs.Runs.{IsMapRun, IsTreeRun}
+use Rattle.regnubas.specs.Runs.{IsMapRun}
 use Rattle.regnubas.specs.Spelled.{Spells}
 use Rattle.regnubas.specs.Dictionary.{IsChange, IsReading}
 use Rattle.regnubas.specs.Passes.{PassView, IsLaterView, run_of, done_of}
 use Rattle.regnubas.specs.Shares.{entries_of}
-use Rattle.regnubas.specs.Types.{Layout, Tree, Pair}
+use Rattle.regnubas.specs.Balance.{map_mode}
+use Rattle.regnubas.specs.Types.{Layout, Pair}
 use Rattle.regnubas.specs.Versions.{EntersNothing, VersionLaws}
 
 -- a moment of a moment is one
@@ -22,7 +23,7 @@ back (Opened o) m g e f = subst (λ x. Extends x g) e f
 back (r ⊳ h) m g (inl e) f = subst (λ x. Extends x g) e f
 back (r ⊳ h) m g (inr e) f = inr (back h m g e f)
 
-self : (h : History) → Extends h h
+pub self : (h : History) → Extends h h
 self (Opened o) = refl
 self (r ⊳ h) = inl refl
 
@@ -56,12 +57,10 @@ module _ (lay : Layout) where
   quiet_since : (old new : PassView) (c : ℕ) → old.layout ≡ lay → new.layout ≡ lay → old.number ≡ c → new.number ≡ c → done_of new ≡ done_of old → EntersNothing lay c (run_of new) (run_of old)
   quiet_since old new c e f n m same = sym (done_is new c f m) ∙ same ∙ done_is old c e n
 
-  -- what a pass knows is a run of the tree
-  tree_run : {allows : Layout → History → ℕ → Type 0} → VersionLaws allows → lay.mode ≡ Tree → (p : PassView) → p.layout ≡ lay → IsRun allows p.layout (run_of p) → IsTreeRun lay (run_of p)
-  tree_run {allows} laws tree p e run = laws.runs lay (run_of p) tree (subst (λ (x : Layout). IsRun allows x (run_of p)) e run)
-
-  map_run : {h : History} → IsTreeRun lay h → IsMapRun lay h
-  map_run run = (subst IsMap (sym run.0) refl, run.1)
+  -- what a pass knows is a run of the map, be it a tree or a trie
+  map_run : {allows : Layout → History → ℕ → Type 0} → VersionLaws allows → (trie : Bool) → lay.mode ≡ map_mode trie → (p : PassView) → p.layout ≡ lay → IsRun allows p.layout (run_of p) → IsMapRun lay (run_of p)
+  map_run {allows} laws false tree p e run = let r = laws.runs lay (run_of p) tree (subst (λ (x : Layout). IsRun allows x (run_of p)) e run) in (subst IsMap (sym r.0) refl, r.1)
+  map_run {allows} laws true trie p e run = let r = laws.trie_runs lay (run_of p) trie (subst (λ (x : Layout). IsRun allows x (run_of p)) e run) in (subst IsMap (sym r.0) refl, r.1)
 
   -- A change by which k has the value v. At a later moment, up to which no pass has made another
   -- entry, k still has it.
@@ -70,10 +69,10 @@ module _ (lay : Layout) where
     abbrev set_at : History
     set_at = c.row ⊳ c.before
 
-    pub found_there : (h moment : History) → IsTreeRun lay h → Extends h moment → Extends moment set_at → ((d : ℕ) → d < lay.passes → EntersNothing lay d moment set_at) → (m : List Pair) → Spells lay (value moment) m → get k m ≡ Some v
+    pub found_there : (h moment : History) → IsMapRun lay h → Extends h moment → Extends moment set_at → ((d : ℕ) → d < lay.passes → EntersNothing lay d moment set_at) → (m : List Pair) → Spells lay (value moment) m → get k m ≡ Some v
     found_there h moment run e f quiet m s =
         let was : Spells lay (value set_at) (insert k v c.map) = subst (λ (x : Layout). Spells x (value set_at) (insert k v c.map)) at c.is in
-        ap (get k) (laws.stays lay h moment set_at (map_run run) e f quiet (insert k v c.map) m was s) ∙ inserted k v c.map
+        ap (get k) (laws.stays lay h moment set_at run e f quiet (insert k v c.map) m was s) ∙ inserted k v c.map
 
     -- the pass itself has made no other entry in the call
     pub quiet_call : Lawful lay (run_of new) → IsLaterView old new → EntersNothing lay new.number (run_of new) set_at
@@ -85,12 +84,12 @@ module _ (lay : Layout) where
   unfolding told_value
   read_told k m found e = sym (ap (λ r. told_value r found) e)
 
-  pub one_pass : {allows : Layout → History → ℕ → Type 0} → VersionLaws allows → ((k v : ℕ) (m : List Pair) → get k (insert k v m) ≡ Some v) → lay.passes ≡ 1 → lay.mode ≡ Tree → (old mid new : PassView) → mid.layout ≡ lay → new.layout ≡ lay → mid.number < lay.passes
+  pub one_pass : {allows : Layout → History → ℕ → Type 0} → VersionLaws allows → ((k v : ℕ) (m : List Pair) → get k (insert k v m) ≡ Some v) → lay.passes ≡ 1 → (trie : Bool) → lay.mode ≡ map_mode trie → (old mid new : PassView) → mid.layout ≡ lay → new.layout ≡ lay → mid.number < lay.passes
       → IsLaterView old mid → IsLaterView mid new → IsRun allows mid.layout (run_of mid) → IsRun allows new.layout (run_of new) → (k v : ℕ) (told : MapReply) (found : Option ℕ)
       → IsChange old mid (call_insert k v) told (Insert k v) → IsReading mid new (Get k) (OneValue found) → found ≡ Some v
-  one_pass laws inserted one tree old mid new em en few view next rm rn k v told found c r =
+  one_pass laws inserted one trie mode old mid new em en few view next rm rn k v told found c r =
       let lm : Lawful lay (run_of mid) = subst (λ (x : Layout). Lawful x (run_of mid)) em rm.lawful in
-      let run : IsTreeRun lay (run_of new) = tree_run laws tree new en rn in
+      let run : IsMapRun lay (run_of new) = map_run laws trie mode new en rn in
       let read = r.read in
       let n = c.row ⊳ c.before in
       let here : Extends read.moment n = back read.moment (run_of mid) n read.since c.within in
@@ -100,17 +99,17 @@ module _ (lay : Layout) where
       read_told k read.map found read.gives
       ∙ found_there laws inserted old mid k v told c em (run_of new) read.moment run read.within here all read.map (subst (λ (x : Layout). Spells x (value read.moment) read.map) en read.spelled)
 
-  pub two_passes : {allows : Layout → History → ℕ → Type 0} → VersionLaws allows → ((k v : ℕ) (m : List Pair) → get k (insert k v m) ≡ Some v) → lay.passes ≡ 2 → lay.mode ≡ Tree → (a1 a2 a4 b1 b2 b3 b4 : PassView)
+  pub two_passes : {allows : Layout → History → ℕ → Type 0} → VersionLaws allows → ((k v : ℕ) (m : List Pair) → get k (insert k v m) ≡ Some v) → lay.passes ≡ 2 → (trie : Bool) → lay.mode ≡ map_mode trie → (a1 a2 a4 b1 b2 b3 b4 : PassView)
       → a2.layout ≡ lay → a4.layout ≡ lay → b1.layout ≡ lay → b3.layout ≡ lay → b4.layout ≡ lay
       → a2.number < lay.passes → b1.number < lay.passes → a2.number ≢ b1.number → a4.number ≡ a2.number → b4.number ≡ b1.number
       → IsLaterView a1 a2 → IsRun allows a2.layout (run_of a2) → IsRun allows a4.layout (run_of a4) → IsRun allows b4.layout (run_of b4)
       → Extends (run_of a1) (run_of b1) → Extends (run_of b2) (run_of a2) → Extends (run_of b4) (run_of b3) → Extends (run_of a4) (run_of b4)
       → done_of a4 ≡ done_of a2 → done_of b4 ≡ done_of b1 → (k v : ℕ) (told : MapReply) (found : Option ℕ)
       → IsChange a1 a2 (call_insert k v) told (Insert k v) → IsReading b2 b3 (Get k) (OneValue found) → found ≡ Some v
-  two_passes laws inserted two tree a1 a2 a4 b1 b2 b3 b4 ea2 ea4 eb1 eb3 eb4 na nb apart sa sb view ra2 ra4 rb4 met between end last da db k v told found c r =
+  two_passes laws inserted two trie mode a1 a2 a4 b1 b2 b3 b4 ea2 ea4 eb1 eb3 eb4 na nb apart sa sb view ra2 ra4 rb4 met between end last da db k v told found c r =
       let la : Lawful lay (run_of a2) = subst (λ (x : Layout). Lawful x (run_of a2)) ea2 ra2.lawful in
       let la4 : Lawful lay (run_of a4) = subst (λ (x : Layout). Lawful x (run_of a4)) ea4 ra4.lawful in
-      let run : IsTreeRun lay (run_of b4) = tree_run laws tree b4 eb4 rb4 in
+      let run : IsMapRun lay (run_of b4) = map_run laws trie mode b4 eb4 rb4 in
       let read = r.read in
       let n = c.row ⊳ c.before in
       let m = read.moment in

@@ -2,18 +2,25 @@
 #![tactic(auto)]
 
 ghost use Rattle.std.specs.Prelude.{◌≡◌, Some, IfOk, OnOk};
-ghost use Rattle.regnubas.specs.Passes.{IsOf};
+ghost use Rattle.regnubas.specs.Limits.{IsLayoutOf};
+ghost use Rattle.regnubas.specs.Passes.{AreNew, IsOf};
+ghost use Rattle.regnubas.specs.Types.{Trie as TrieMode};
 ghost use Rattle.conclusions.specs.Together.{HasReadValue, HasSet};
+ghost use Rattle.conclusions.specs.Tries.{IsLow};
 
-use regnubas::{Dict, Forest, Pass, UpdateFault, map_laws_hold, version_laws_hold};
+use std::alloc::Global;
+use regnubas::{
+    Dict, FixedBalance, Forest, Limits, NewFault, Pass, Trie, UpdateFault, map_laws_hold,
+    trie_laws_hold, version_laws_hold,
+};
 
-/// From numbers to numbers.
-pub type Numbers = Dict<u64, u64>;
+/// From numbers to numbers, in a tree or a trie.
+pub type Numbers<B> = Dict<u64, u64, B>;
 
 /// The only pass of a dictionary sets a key, and finds what it has set.
-pub fn set_then_get(
-    map: &Forest<Numbers>,
-    pass: &mut Pass<Numbers>,
+pub fn set_then_get<B: FixedBalance>(
+    map: &Forest<Numbers<B>>,
+    pass: &mut Pass<Numbers<B>>,
     key: u64,
     value: u64,
 ) -> Result<Option<u64>, UpdateFault>
@@ -33,10 +40,10 @@ pub fn set_then_get(
 /// Of two passes, the only ones, one sets a key, and the other finds the value. They meet before,
 /// so that what the other had done is known to be older; between the two calls, so that the get is
 /// later; and at the end, so that nothing else is known to have happened between.
-pub fn set_for_another(
-    map: &Forest<Numbers>,
-    one: &mut Pass<Numbers>,
-    other: &mut Pass<Numbers>,
+pub fn set_for_another<B: FixedBalance>(
+    map: &Forest<Numbers<B>>,
+    one: &mut Pass<Numbers<B>>,
+    other: &mut Pass<Numbers<B>>,
     key: u64,
     value: u64,
 ) -> Result<Option<u64>, UpdateFault>
@@ -57,4 +64,30 @@ pub fn set_for_another(
     let found = map.get(other, &key);
     map.meet(one, other);
     Ok(found)
+}
+
+/// A trie is laid out as one.
+pub fn new_trie(
+    alloc: Global,
+    limits: Limits,
+) -> Result<(Forest<Trie<u64, u64>>, Vec<Pass<Trie<u64, u64>>>), NewFault>
+    ensures layout { IfOk result (λ made. IsLayoutOf limits TrieMode made.0.layout) }
+    ensures passes { IfOk result (λ made. AreNew made.0 made.1.items) }
+{
+    Forest::new(alloc, limits)
+}
+
+/// After an edit of a trie no leaf of it is more than 66 fields below the root.
+pub fn insert_low(
+    map: &Forest<Trie<u64, u64>>,
+    pass: &mut Pass<Trie<u64, u64>>,
+    key: u64,
+    value: u64,
+) -> Result<Option<u64>, UpdateFault>
+    requires of { IsOf map.now pass.old }
+    ensures low { IsLow pass.new }
+{
+    version_laws_hold::<u64, u64>();
+    trie_laws_hold();
+    map.insert(pass, key, value)
 }

@@ -1,9 +1,10 @@
 -- What the passes have blamed.
-use Rattle.std.proofs.Common.{◌≡◌, ◌≢◌, ℕ, inl, inr, List, [], ◌∷◌, sym, ◌∙◌, ap, arith}
+use Rattle.arena.specs.Layout.{IsMap}
+use Rattle.std.proofs.Common.{◌≡◌, ◌≢◌, ℕ, inl, inr, List, [], ◌∷◌, sym, ◌∙◌, ap, subst, arith}
 use Rattle.std.specs.List.{All}
 use Rattle.std.proofs.lemmas.List.Elements.{All-nil, All-cons, All-weaker}
 use Rattle.std.proofs.lemmas.List.Kept.{AllPairs-cons}
-use Rattle.histories.specs.Common.{Layout, state, Remaining, HasScx, History, ◌⊳◌, value, Extends, WasInTheWay, HasFailed, Records, Tree, IsNamedScx, IsOthersScx, Lawful}
+use Rattle.histories.specs.Common.{Layout, state, Remaining, HasScx, History, ◌⊳◌, value, Extends, WasInTheWay, HasFailed, Records, IsNamedScx, IsOthersScx, Lawful}
 use Rattle.histories.proofs.Lemmas.{lawful_since, named_scx_more, named_scx_taken, since, state_since}
 use Rattle.prims.specs.Laws.Begun.{taken_since}
 use Rattle.prims.specs.Shares.{IsShare}
@@ -61,10 +62,10 @@ begun_more old new start n s more l e w x = rw more (All-cons (IsNamedScx (run_o
 others_more : (old new : PassView) (s : ℕ) → new.layout ≡ old.layout → new.number ≡ old.number → new.blamed ≡ s ∷ old.blamed → IsOthersScx new.layout new.number s → HasBlamed old → All (IsOthersScx new.layout new.number) new.blamed
 others_more old new s lay number more other x = let before : All (IsOthersScx new.layout new.number) old.blamed = rw (lay, number) x.others in rw more (All-cons (IsOthersScx new.layout new.number) s old.blamed other before)
 
--- one more that a call on the tree has named, which was in its way, and is finished now or has
+-- one more that a call on the map has named, which was in its way, and is finished now or has
 -- reached the node in the call
-pub blamed_on_tree : (old new : PassView) (n s : ℕ) → new.layout.mode ≡ Tree → new.layout ≡ old.layout → new.number ≡ old.number → new.blamed ≡ s ∷ old.blamed → Lawful new.layout (run_of new) → Extends (run_of new) (run_of old) → IsOthersScx new.layout new.number s → WasInTheWay (run_of new) (run_of old) n s → IsOverOrNew (run_of new) (run_of old) n s → HasBlamed old → HasBlamed new
-blamed_on_tree old new n s tree lay number more l e other w y x = record {
+pub blamed_on_map : (old new : PassView) (n s : ℕ) → IsMap new.layout.mode → new.layout ≡ old.layout → new.number ≡ old.number → new.blamed ≡ s ∷ old.blamed → Lawful new.layout (run_of new) → Extends (run_of new) (run_of old) → IsOthersScx new.layout new.number s → WasInTheWay (run_of new) (run_of old) n s → IsOverOrNew (run_of new) (run_of old) n s → HasBlamed old → HasBlamed new
+blamed_on_map old new n s map lay number more l e other w y x = record {
   others = others_more old new s lay number more other x;
   begun = begun_more old new (run_of old) n s more l e w x;
   few = rw more (few_more new.layout (run_of new) (run_of old) old.blamed n s l e w y x.each x.few);
@@ -74,7 +75,7 @@ blamed_on_tree old new n s tree lay number more l e other w y x = record {
 }
   where
     not_both : new.layout.mode ≡ Records → ⊥
-    not_both cells = let both : Tree ≡ Records = sym tree ∙ cells in cc
+    not_both cells = let both : IsMap Records = subst IsMap cells map in cc
 
 -- one more that `Fail` names
 pub blamed_more : (old new : PassView) (n s : ℕ) → new.layout ≡ old.layout → new.number ≡ old.number → new.blamed ≡ s ∷ old.blamed → Lawful new.layout (run_of new) → Extends (run_of new) (run_of old) → HasFailed new.layout new.number (run_of new) (run_of old) n s → HasBlamed old → HasBlamed new

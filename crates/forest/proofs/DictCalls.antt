@@ -1,12 +1,13 @@
 -- What a call of a dictionary leaves of its pass.
-use Rattle.std.specs.Prelude.{false}
+use Rattle.std.specs.Prelude.{Bool}
+use Rattle.dict.specs.Laws.Begins.{dict_mode}
 use Rattle.template.specs.Balance.{map_mode}
 use Rattle.dict.specs.Calls.{trie_in}
 use Rattle.std.proofs.Common.{◌≡◌, ◌∙◌, arith, ℕ, suc, ◌+◌, ◌*◌, ◌<◌, ◌≤◌, ◌∷◌, List, Option, Some, None, refl, ap, sym, subst}
 use Rattle.std.proofs.Math.Nat.{lt_of_not-le}
 use Rattle.atomic_table.specs.declared.shared.Seat.{Seat}
-use Rattle.histories.specs.Common.{Layout, Tree, History, Extends, Remaining}
-use Rattle.template.specs.Common.{MapCall, Edit, Get, Range, Neighbour, MapReply, IsTreeRun, IsShare, most_nodes, most_scx, tries_since, told_of, Reply}
+use Rattle.histories.specs.Common.{Layout, History, Extends, Remaining}
+use Rattle.template.specs.Common.{MapCall, Edit, Get, Range, Neighbour, MapReply, IsMapRun, IsShare, most_nodes, most_scx, tries_since, told_of, Reply}
 use Rattle.prims.specs.Laws.Begun.{taken_since}
 use Rattle.prims.proofs.Lemmas.{all_over, taken_node_since}
 use Rattle.edits.specs.Known.{RestsWith}
@@ -33,7 +34,7 @@ use Rattle.forest.specs.Passes.{PassView, HasBlamed, HasGoneOn, run_of, taken_of
 use Rattle.forest.specs.PassInvariant.{pass_view, IsPass}
 use Rattle.forest.specs.Shares.{IsBetweenCalls}
 use Rattle.forest.specs.Traces.{CallBegins, HoldsForCall, Trace, known_of, seat_steps}
-use Rattle.forest.proofs.Blames.{blamed_later, blamed_on_tree}
+use Rattle.forest.proofs.Blames.{blamed_later, blamed_on_map}
 use Rattle.forest.proofs.Versions.{told_says, lost_says, full_says, nothing_says}
 use Rattle.forest.proofs.Calls.{course_keeps}
 use Rattle.forest.proofs.Entered.{HasEnded, ended, left_with, ended_pass, ended_goes_on, rests_between}
@@ -85,7 +86,7 @@ module _ {K V : Type 0} (valid_key : K → Type 0) (key : K → ℕ) (valid_valu
   IsSameCall old now = (call_in now.run ≡ call_in old.run) × (now.tries ≡ old.tries)
 
   -- a call that has not begun may begin, with the pass's share
-  pub dict_starts : {T : Type 0} (p : Inside T) (x : IsPass allows Tree p) (m : DictRun K V) → trie_in m.run ≡ false → IsTypedCall keys values (call_in m.run) → IsUnbegun m.run m.tries (taken_of (pass_view p)) → IsFewCall (call_in m.run) → share_of m.run ≡ p.share → CallBegins allows (DictIsReady keys values) (call_of p x (taken_of (pass_view p))) p.seat.me.0.passes m
+  pub dict_starts : {trie : Bool} {T : Type 0} (p : Inside T) (x : IsPass allows (map_mode trie) p) (m : DictRun K V) → trie_in m.run ≡ trie → IsTypedCall keys values (call_in m.run) → IsUnbegun m.run m.tries (taken_of (pass_view p)) → IsFewCall (call_in m.run) → share_of m.run ≡ p.share → CallBegins allows (DictIsReady keys values) (call_of p x (taken_of (pass_view p))) p.seat.me.0.passes m
   dict_starts p x m tree typed unbegun few share = record {
     known = known_of p.seat.me.0.passes;
     is = x.seat;
@@ -104,18 +105,18 @@ module _ {K V : Type 0} (valid_key : K → Type 0) (key : K → ℕ) (valid_valu
   typed_read (Get key) x = absurd x
 
   -- so may the machine of a request
-  pub request_starts : {T : Type 0} (p : Inside T) (x : IsPass allows Tree p) (m : DictRun K V) (request : Request K V) (tries number : ℕ) → taken_of (pass_view p) ≡ number → call_in m.run ≡ as_map_call key value_word request → trie_in m.run ≡ false → IsTypedCall keys values (call_in m.run) → m.tries ≡ tries → IsUnbegun m.run tries number → AsksForFew request → share_of m.run ≡ p.share → CallBegins allows (DictIsReady keys values) (call_of p x (taken_of (pass_view p))) p.seat.me.0.passes m
+  pub request_starts : {trie : Bool} {T : Type 0} (p : Inside T) (x : IsPass allows (map_mode trie) p) (m : DictRun K V) (request : Request K V) (tries number : ℕ) → taken_of (pass_view p) ≡ number → call_in m.run ≡ as_map_call key value_word request → trie_in m.run ≡ trie → IsTypedCall keys values (call_in m.run) → m.tries ≡ tries → IsUnbegun m.run tries number → AsksForFew request → share_of m.run ≡ p.share → CallBegins allows (DictIsReady keys values) (call_of p x (taken_of (pass_view p))) p.seat.me.0.passes m
   request_starts p x m request tries number named call tree typed same fresh few share = dict_starts p x m tree typed (rw (same, named) fresh) (few_of key value_word request (call_in m.run) call few) share
 
   -- and so may a machine of a call of its own
-  pub call_starts : {T : Type 0} (p : Inside T) (x : IsPass allows Tree p) (m : DictRun K V) (call : MapCall) (tries number : ℕ) → taken_of (pass_view p) ≡ number → IsTypedCall keys values call → IsFewCall call → IsFreshCall call p.share tries number m → CallBegins allows (DictIsReady keys values) (call_of p x (taken_of (pass_view p))) p.seat.me.0.passes m
-  call_starts p x m call tries number named typed few fresh = dict_starts p x m fresh.in_tree (rw fresh.is_call typed) (rw (fresh.has_tries, named) fresh.unbegun) (rw fresh.is_call few) fresh.has_share
+  pub call_starts : {trie : Bool} {T : Type 0} (p : Inside T) (x : IsPass allows (map_mode trie) p) (m : DictRun K V) (call : MapCall) (tries number : ℕ) → taken_of (pass_view p) ≡ number → IsTypedCall keys values call → IsFewCall call → IsFreshCall trie call p.share tries number m → CallBegins allows (DictIsReady keys values) (call_of p x (taken_of (pass_view p))) p.seat.me.0.passes m
+  call_starts p x m call tries number named typed few fresh = dict_starts p x m fresh.in_trie (rw fresh.is_call typed) (rw (fresh.has_tries, named) fresh.unbegun) (rw fresh.is_call few) fresh.has_share
 
   -- so may any machine of an ordered read that has not begun
-  pub read_starts : {T : Type 0} (p : Inside T) (x : IsPass allows Tree p) (request : Request K V) (tries number : ℕ) → taken_of (pass_view p) ≡ number → KeepsLists (as_map_call key value_word request) → AsksForFew request → SeatCallBegins valid_key key valid_value value_word (call_of p x (taken_of (pass_view p))) p.seat.me.0.passes (as_map_call key value_word request) p.share tries number
+  pub read_starts : {trie : Bool} {T : Type 0} (p : Inside T) (x : IsPass allows (map_mode trie) p) (request : Request K V) (tries number : ℕ) → taken_of (pass_view p) ≡ number → KeepsLists (as_map_call key value_word request) → AsksForFew request → SeatCallBegins valid_key key valid_value value_word trie (call_of p x (taken_of (pass_view p))) p.seat.me.0.passes (as_map_call key value_word request) p.share tries number
   read_starts p x request tries number named ordered few = λ first fresh. call_starts p x first (as_map_call key value_word request) tries number named (typed_read (as_map_call key value_word request) ordered) (few_of key value_word request (as_map_call key value_word request) refl few) fresh
 
-  module _ {T : Type 0} (p : Inside T) (x : IsPass allows Tree p) (s : Seat ℕ SeatView) (m : DictRun K V) (reply : Reply K V) where
+  module _ (trie : Bool) {T : Type 0} (p : Inside T) (x : IsPass allows (map_mode trie) p) (s : Seat ℕ SeatView) (m : DictRun K V) (reply : Reply K V) where
     -- the number of the call
     abbrev pub called : ℕ
     called = taken_of (pass_view p)
@@ -143,8 +144,8 @@ module _ {K V : Type 0} (valid_key : K → Type 0) (key : K → ℕ) (valid_valu
     so_behind Q share blamed is_share is_blamed y = subst (λ b. Q (left_with p x s called Answered share b)) (sym is_blamed) (subst (λ r. Q (left_with p x s called Answered r (blamed_by_reply reply p.blamed))) is_share y)
 
     module _ (y : HasEnded allows p s called Answered) where
-      tree : IsTreeRun p.layout (run_of now)
-      tree = (x.is_mode, typed_run (IsWordOf valid_key key) (IsWordOf valid_value value_word) p.layout (run_of now) y.sound)
+      map_run : IsMapRun p.layout (run_of now)
+      map_run = (dict_mode p.layout.mode trie x.is_mode, typed_run (IsWordOf valid_key key) (IsWordOf valid_value value_word) p.layout (run_of now) y.sound)
 
       rest : IsBetweenCalls p.layout p.number.0 (run_of now) (share_of m.run)
       rest = rests_between (call_of p x called) (run_of now) (share_of m.run) y.answers.rests
@@ -164,10 +165,10 @@ module _ {K V : Type 0} (valid_key : K → Type 0) (key : K → ℕ) (valid_valu
           go replies.NoMemory z = none
           go (replies.Contended n u) z =
               let way = was_contended (call_of p x called) (run_of now) (call_in m.run) m.tries n.0 u.0 z in
-              blamed_on_tree (pass_view p) (pass_view (left_with p x s called Answered (share_of m.run) (u.0 ∷ p.blamed))) n.0 u.0 x.is_mode refl refl refl y.sound.lawful y.since way.others way.in_the_way way.over_or_new x.blamed
+              blamed_on_map (pass_view p) (pass_view (left_with p x s called Answered (share_of m.run) (u.0 ∷ p.blamed))) n.0 u.0 (dict_mode p.layout.mode trie x.is_mode) refl refl refl y.sound.lawful y.since way.others way.in_the_way way.over_or_new x.blamed
 
       -- it is a pass again
-      pub dict_pass : s.me.1 ≡ p.seat.me.1 → IsPass allows Tree behind
+      pub dict_pass : s.me.1 ≡ p.seat.me.1 → IsPass allows (map_mode trie) behind
       dict_pass bare = ended_pass p x s called Answered (share_of m.run) (blamed_by_reply reply p.blamed) bare y rest dict_blames
 
       -- and its run is extended
@@ -201,7 +202,7 @@ module _ {K V : Type 0} (valid_key : K → Type 0) (key : K → ℕ) (valid_valu
         where
           go : (told : Option MapReply) → TellsOfMap (call_of p x called) (run_of now) (call_in m.run) told → IsToldOf (pass_view p) now (call_in m.run) told
           go None z = tt
-          go (Some told) z = told_says (pass_view p) x.is_pass called refl s.table_id (share_of m.run) (known_of s.me.0.passes) (blamed_by_reply reply p.blamed) tree y.since (call_in m.run) told rests y.answers.rests z
+          go (Some told) z = told_says (pass_view p) x.is_pass called refl s.table_id (share_of m.run) (known_of s.me.0.passes) (blamed_by_reply reply p.blamed) map_run y.since (call_in m.run) told rests y.answers.rests z
 
       -- why it answers nothing
       pub dict_refuses : IsRefusalOf m.tries (pass_view p) now (call_in m.run) reply
@@ -211,6 +212,6 @@ module _ {K V : Type 0} (valid_key : K → Type 0) (key : K → ℕ) (valid_valu
           go (replies.Value v) z = tt
           go (replies.Pair v) z = tt
           go (replies.Pairs v) z = tt
-          go (replies.Full f) z = full_says (pass_view p) x.is_pass called refl s.table_id (share_of m.run) (known_of s.me.0.passes) (blamed_by_reply reply p.blamed) tree y.since (call_in m.run) f rests z
-          go replies.NoMemory z = (z.0, nothing_says (pass_view p) x.is_pass called refl s.table_id (share_of m.run) (known_of s.me.0.passes) (blamed_by_reply reply p.blamed) tree y.since z.1)
-          go (replies.Contended n u) z = lost_says (pass_view p) x.is_pass called refl s.table_id (share_of m.run) (known_of s.me.0.passes) (blamed_by_reply reply p.blamed) tree y.since m.tries (call_in m.run) n.0 u.0 z
+          go (replies.Full f) z = full_says (pass_view p) x.is_pass called refl s.table_id (share_of m.run) (known_of s.me.0.passes) (blamed_by_reply reply p.blamed) map_run y.since (call_in m.run) f rests z
+          go replies.NoMemory z = (z.0, nothing_says (pass_view p) x.is_pass called refl s.table_id (share_of m.run) (known_of s.me.0.passes) (blamed_by_reply reply p.blamed) map_run y.since z.1)
+          go (replies.Contended n u) z = lost_says (pass_view p) x.is_pass called refl s.table_id (share_of m.run) (known_of s.me.0.passes) (blamed_by_reply reply p.blamed) map_run y.since m.tries (call_in m.run) n.0 u.0 z

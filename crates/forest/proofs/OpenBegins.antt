@@ -1,8 +1,8 @@
 -- A call that is held open begins.
-use Rattle.template.specs.declared.balance.ByOrder.{ByOrder}
-use Rattle.std.proofs.Common.{◌≡◌, ◌≤◌, ℕ, false, refl, sym, subst, arith}
+use Rattle.template.specs.Balance.{map_mode, nodes_by}
+use Rattle.std.proofs.Common.{◌≡◌, ◌≤◌, ℕ, Bool, false, refl, sym, subst, arith}
 use Rattle.std.specs.declared.snapshot.Snapshot.{Snapshot}
-use Rattle.histories.specs.Common.{Tree, Turn, Ask, Done, MatchTurn}
+use Rattle.histories.specs.Common.{Turn, Ask, Done, MatchTurn}
 use Rattle.dict.specs.Calls.{call_in, AsksForPairs}
 use Rattle.template.specs.Common.{most_steps, Reply}
 use Rattle.dict.specs.Steps.{map_left}
@@ -19,17 +19,17 @@ use Rattle.forest.specs.Traces.{seat_steps, shared_nodes, weight}
 use Rattle.forest.proofs.OpenSteps.{DictStands, differ}
 use Rattle.forest.proofs.Passes.{call_of, steps_are}
 
-module _ {K V : Type 0} (valid_key : K → Type 0) (key : K → ℕ) (valid_value : V → Type 0) (value : V → ℕ) (p : pass.Inside (Dict K V ByOrder)) (x : IsPass (TypedAllows (IsWordOf valid_key key) (IsWordOf valid_value value)) Tree p) where
+module _ {K V B : Type 0} (valid_key : K → Type 0) (key : K → ℕ) (valid_value : V → Type 0) (value : V → ℕ) (trie : Bool) (p : pass.Inside (Dict K V B)) (x : IsPass (TypedAllows (IsWordOf valid_key key) (IsWordOf valid_value value)) (map_mode trie) p) where
   -- a call of this pass, of this number, which began as it was seen then
-  abbrev pub opened : DictRun K V → Turn (Reply K V) → ℕ → Snapshot PassView → Inside K V
+  abbrev pub opened : DictRun K V → Turn (Reply K V) → ℕ → Snapshot PassView → Inside K V B
   opened m turn number seen = record { number = p.number; layout = p.layout; seat = p.seat; blamed = p.blamed; call = number; run = m; turn = turn; over = false; began = seen }
 
   -- no step is made yet
   none_made : seat_steps p.seat.me.0.passes ≡ steps_of (pass_view p)
   none_made = steps_are p.number.0 p.layout p.seat.me.0.passes x.seat
 
-  module _ (first m : DictRun K V) (turn : Turn (Reply K V)) (number : ℕ) (named : number ≡ taken_of (pass_view p)) (y : DictStands valid_key key valid_value value (call_of p x (taken_of (pass_view p))) p.seat.me.0.passes first m turn) (few : weight turn (map_left m.run (shared_nodes p.layout)) ≤ most_steps (call_in m.run) m.tries (shared_nodes p.layout)) (asks : AsksForPairs (call_in m.run) → MatchTurn turn (λ _. Unit {0}) (λ _. ⊥)) where
-    as_seen : (seen : Snapshot PassView) → IsOpen valid_key key valid_value value (opened m turn number (record seen { value = pass_view p }))
+  module _ (first m : DictRun K V) (turn : Turn (Reply K V)) (number : ℕ) (named : number ≡ taken_of (pass_view p)) (y : DictStands valid_key key valid_value value (call_of p x (taken_of (pass_view p))) p.seat.me.0.passes first m turn) (few : weight turn (map_left m.run (shared_nodes p.layout)) ≤ most_steps (call_in m.run) m.tries (nodes_by trie (shared_nodes p.layout))) (asks : AsksForPairs (call_in m.run) → MatchTurn turn (λ _. Unit {0}) (λ _. ⊥)) where
+    as_seen : (seen : Snapshot PassView) → IsOpen valid_key key valid_value value trie (opened m turn number (record seen { value = pass_view p }))
     as_seen seen = record {
       pass = record { seat = refl; bare = refl; is_mode = x.is_mode; is_pass = x.is_pass; sound = x.sound; rest = x.rest; blamed = x.blamed };
       table = refl;
@@ -52,5 +52,5 @@ module _ {K V : Type 0} (valid_key : K → Type 0) (key : K → ℕ) (valid_valu
         on (Done a) z = (none_made, z)
 
     -- it is held open
-    pub begins_open : (seen : Snapshot PassView) → seen.value ≡ pass_view p → IsOpen valid_key key valid_value value (opened m turn number seen)
-    begins_open seen e = subst (λ v. IsOpen valid_key key valid_value value (opened m turn number (record seen { value = v }))) (sym e) (as_seen seen)
+    pub begins_open : (seen : Snapshot PassView) → seen.value ≡ pass_view p → IsOpen valid_key key valid_value value trie (opened m turn number seen)
+    begins_open seen e = subst (λ v. IsOpen valid_key key valid_value value trie (opened m turn number (record seen { value = v }))) (sym e) (as_seen seen)

@@ -1,4 +1,5 @@
 -- A call that is held open stays one, step by step.
+use Rattle.template.specs.Balance.{nodes_by}
 use Rattle.std.proofs.Common.{◌≡◌, ◌∙◌, ◌+◌, ◌<◌, ◌≤◌, ℕ, suc, Bool, true, false, List, refl, sym, subst, arith}
 use Rattle.atomic_table.specs.declared.shared.Seat.{Seat}
 use Rattle.histories.specs.Common.{Step, Turn, Ask, Done, Call, IsRun, MatchTurn}
@@ -39,10 +40,10 @@ module _ {K V : Type 0} (valid_key : K → Type 0) (key : K → ℕ) (valid_valu
   same_so_far c ps first m (Done a) y = course_keeps (λ (k : DictRun K V). IsSameCall valid_key key valid_value value first k) (refl, refl) (λ old now e q. (e.0 ∙ q.0, e.1 ∙ q.1)) m _ y.so.1
 
   -- one that has answered is over
-  pub is_answered : (o : Inside K V) → IsOpen valid_key key valid_value value o → (reply : Reply K V) → o.turn ≡ Done reply → IsOpen valid_key key valid_value value (record o { over = true })
+  pub is_answered : {B : Type 0} {trie : Bool} (o : Inside K V B) → IsOpen valid_key key valid_value value trie o → (reply : Reply K V) → o.turn ≡ Done reply → IsOpen valid_key key valid_value value trie (record o { over = true })
   is_answered o x reply is = record { pass = x.pass; table = x.table; bare = x.bare; number = x.number; layout = x.layout; call = x.call; blamed = x.blamed; first = x.first; stands = x.stands; since = x.since; steps = x.steps; over = λ e. rw is tt; none = λ e. absurd (differ e); nothing = x.nothing }
 
-  module _ (o : Inside K V) (x : IsOpen valid_key key valid_value value o) (step : Step) (is : o.turn ≡ Ask step) where
+  module _ {B : Type 0} {trie : Bool} (o : Inside K V B) (x : IsOpen valid_key key valid_value value trie o) (step : Step) (is : o.turn ≡ Ask step) where
     -- the machine waits for this step
     pub open_waits : DictStands (next_call o.began.value x.pass.is_pass) o.seat.me.0.passes x.first o.run (Ask step)
     open_waits = subst (λ turn. DictStands (next_call o.began.value x.pass.is_pass) o.seat.me.0.passes x.first o.run turn) is x.stands
@@ -73,14 +74,14 @@ module _ {K V : Type 0} (valid_key : K → Type 0) (key : K → ℕ) (valid_valu
           on (Done a) z = rw z.is z.sound
 
       module _ (nearer : MatchTurn turn (λ _. map_left m.run (shared_nodes o.layout) < map_left o.run.run (shared_nodes o.layout)) (λ _. Unit {0})) where
-        few : seat_steps s.me.0.passes + weight turn (map_left m.run (shared_nodes o.layout)) ≤ steps_of o.began.value + most_steps (call_in o.run.run) o.run.tries (shared_nodes o.layout)
+        few : seat_steps s.me.0.passes + weight turn (map_left m.run (shared_nodes o.layout)) ≤ steps_of o.began.value + most_steps (call_in o.run.run) o.run.tries (nodes_by trie (shared_nodes o.layout))
         few =
             let w = weighs turn (map_left m.run (shared_nodes o.layout)) (map_left o.run.run (shared_nodes o.layout)) nearer in
             let z = rw is at x.steps in
             omega (arith, one, w, z)
 
         -- it stays a call that is held open
-        pub stays_open : (over : Bool) → (over ≡ true → MatchTurn turn (λ _. ⊥) (λ _. Unit {0})) → (over ≡ false → MatchTurn turn (λ _. Unit {0}) (λ _. ⊥)) → IsOpen valid_key key valid_value value (record o { seat = s; run = m; turn = turn; over = over })
+        pub stays_open : (over : Bool) → (over ≡ true → MatchTurn turn (λ _. ⊥) (λ _. Unit {0})) → (over ≡ false → MatchTurn turn (λ _. Unit {0}) (λ _. ⊥)) → IsOpen valid_key key valid_value value trie (record o { seat = s; run = m; turn = turn; over = over })
         stays_open over ends goes = record {
           pass = record { seat = refl; bare = refl; is_mode = x.pass.is_mode; is_pass = x.pass.is_pass; sound = x.pass.sound; rest = x.pass.rest; blamed = x.pass.blamed };
           table = table ∙ x.table;

@@ -1,8 +1,10 @@
 -- Which kinds of step a call of a dictionary makes; a range that asks for no pairs makes none.
+use Rattle.std.specs.Prelude.{Bool}
+use Rattle.template.specs.Balance.{map_mode}
 use Rattle.std.proofs.Common.{◌≡◌, ◌∙◌, ℕ, List, refl, sym, ap, subst}
 use Rattle.atomic_table.specs.Seated.{TableId}
 use Rattle.atomic_table.specs.declared.shared.Seat.{Seat}
-use Rattle.histories.specs.Common.{Layout, Tree, Row, Step, History, ◌⊳◌, Extends, Call, Remaining}
+use Rattle.histories.specs.Common.{Layout, Row, Step, History, ◌⊳◌, Extends, Call, Remaining}
 use Rattle.arena.proofs.Lemmas.{ends_trans}
 use Rattle.prims.proofs.Lemmas.{all_over}
 use Rattle.template.specs.Common.{call_rules, MapCall, Reply}
@@ -63,17 +65,17 @@ module _ {K V : Type 0} (valid_key : K → Type 0) (key : K → ℕ) (valid_valu
   pub waits_asks : (m : DictRun K V) (c : Call) (h : History) (s : Step) → waits m c h s → AsksForPairs (call_in m.run)
   waits_asks m c h s w = asks_inside (inner m.run) (is_of_kind m.run) c h s w.1.1
 
-  module _ {T : Type 0} (p : Inside T) (x : IsPass allows Tree p) (s : Seat ℕ SeatView) (m : DictRun K V) (reply : Reply K V) where
+  module _ (trie : Bool) {T : Type 0} (p : Inside T) (x : IsPass allows (map_mode trie) p) (s : Seat ℕ SeatView) (m : DictRun K V) (reply : Reply K V) where
     abbrev call : Call
     call = call_of p x (taken_of (pass_view p))
 
     -- how it has ended
     abbrev Ended : History → Type 0
-    Ended = Answered valid_key key valid_value value_word p x s m reply
+    Ended = Answered valid_key key valid_value value_word trie p x s m reply
 
     -- the pass as contracts see it then
     abbrev now : PassView
-    now = pass_view (behind valid_key key valid_value value_word p x s m reply)
+    now = pass_view (behind valid_key key valid_value value_word trie p x s m reply)
 
     -- it has made steps of its kinds alone
     pub dict_kinds : (first : DictRun K V) → HoldsForCall allows s.me.0.passes call (λ h. Ended h × Trace allows waits same call first m h) → HasKeptToKinds (pass_view p) now (call_in m.run)
@@ -93,7 +95,7 @@ module _ {K V : Type 0} (valid_key : K → Type 0) (key : K → ℕ) (valid_valu
         let run : run_of now ≡ run_of (pass_view p) = ap (history_of p.layout.mode) known in
         let rests : RestsWith call (run_of (pass_view p)) p.share = record { share = x.rest.share; over = all_over p.layout _ p.number.0 p.share p.share.next_node p.share.next_scx x.rest.share x.rest.over } in
         let share : share_of m.run ≡ p.share = one_share call (run_of now) (share_of m.run) p.share y.answers.rests (subst (λ h. RestsWith call h p.share) (sym run) rests) in
-        let blamed : blamed_by_reply reply p.blamed ≡ p.blamed = blames_none (pass_view p) now m.tries (call_in m.run) reply p.blamed run (dict_refuses valid_key key valid_value value_word p x s m reply y) in
+        let blamed : blamed_by_reply reply p.blamed ≡ p.blamed = blames_none (pass_view p) now m.tries (call_in m.run) reply p.blamed run (dict_refuses valid_key key valid_value value_word trie p x s m reply y) in
         ap (λ t. seen t (share_of m.run) (known_of s.me.0.passes) (blamed_by_reply reply p.blamed)) table
         ∙ ap (λ r. seen p.seat.table_id r (known_of s.me.0.passes) (blamed_by_reply reply p.blamed)) share
         ∙ ap (λ k. seen p.seat.table_id p.share k (blamed_by_reply reply p.blamed)) known

@@ -1,5 +1,5 @@
 -- Whole calls of a dictionary whose updates are straight.
-use Rattle.std.specs.Prelude.{Bool, false}
+use Rattle.std.specs.Prelude.{Bool}
 use Rattle.template.specs.Balance.{map_mode}
 use Rattle.dict.specs.Calls.{inner_trie}
 use Rattle.dict.specs.Inner.{GoalBy}
@@ -222,13 +222,13 @@ module _ {K V A G R : Type 0} (goal : G → Goal) (trie : G → Bool) (rule : R 
   abbrev pub edit_machine : ℕ → UpdateRun (KeyEdit G R) A → DictRun K V
   edit_machine tries m = record { run = Edit (by_values goal trie rule (standing m Start)); tries = tries; types = record {} }
 
-  pub edit_fresh : (share : Remaining) (tries number : ℕ) → 0 < tries → (m : UpdateRun (KeyEdit G R) A) (ed : KeyEdit G R) → m.edit ≡ ed → m.share ≡ share → m.call ≡ number → m.tries ≡ tries - 1 → m.limit ≡ tries → IsSmallCall (edit_call goal rule ed) → trie ed.goal ≡ false → IsFreshCall (edit_call goal rule ed) share tries number (edit_machine tries m)
-  edit_fresh share tries number some m ed is_edit is_share is_call is_tries is_limit small tree = record {
+  pub edit_fresh : (share : Remaining) (tries number : ℕ) → 0 < tries → (m : UpdateRun (KeyEdit G R) A) (ed : KeyEdit G R) → m.edit ≡ ed → m.share ≡ share → m.call ≡ number → m.tries ≡ tries - 1 → m.limit ≡ tries → IsSmallCall (edit_call goal rule ed) → (by : Bool) → trie ed.goal ≡ by → IsFreshCall by (edit_call goal rule ed) share tries number (edit_machine tries m)
+  edit_fresh share tries number some m ed is_edit is_share is_call is_tries is_limit small by same = record {
     is_call = ap (edit_call goal rule) is_edit;
     has_tries = refl;
     unbegun = (refl, all_tries m.tries tries some is_tries, is_call, subst (λ (e : KeyEdit G R). IsSmallCall (edit_call goal rule e)) (sym is_edit) small, is_limit);
     has_share = is_share;
-    in_tree = ap (λ (e : KeyEdit G R). trie e.goal) is_edit ∙ tree;
+    in_trie = ap (λ (e : KeyEdit G R). trie e.goal) is_edit ∙ same;
   }
 
 module _ {K V : Type 0} (d : DictRead) where
@@ -236,24 +236,24 @@ module _ {K V : Type 0} (d : DictRead) where
   abbrev pub read_machine : ℕ → Remaining → ReadRun d.kind.R → DictRun K V
   read_machine tries share m = record { run = d.around m share; tries = tries; types = record {} }
 
-  pub read_fresh : (share : Remaining) (tries number : ℕ) (call : MapCall) → 0 < tries → (m : ReadRun d.kind.R) → d.kind.means.call m.read ≡ call → m.at ≡ ReadStart → m.snaps.items ≡ [] → m.tries ≡ tries - 1 → m.limit ≡ tries → (IsFewCall call → d.kind.means.suits call) → m.trie ≡ false → IsFreshCall call share tries number (read_machine tries share m)
-  read_fresh share tries number call some m is_call at none is_tries is_limit suits tree = record {
+  pub read_fresh : (share : Remaining) (tries number : ℕ) (call : MapCall) → 0 < tries → (m : ReadRun d.kind.R) → d.kind.means.call m.read ≡ call → m.at ≡ ReadStart → m.snaps.items ≡ [] → m.tries ≡ tries - 1 → m.limit ≡ tries → (IsFewCall call → d.kind.means.suits call) → (by : Bool) → m.trie ≡ by → IsFreshCall by call share tries number (read_machine tries share m)
+  read_fresh share tries number call some m is_call at none is_tries is_limit suits by same = record {
     is_call = ap inner_call (d.inside m share) ∙ is_call;
     has_tries = refl;
     has_share = ap inner_share (d.inside m share);
     unbegun = subst (λ (i : InnerRun). StandsAtStart i tries number) (sym (d.inside m share)) (at, all_tries m.tries tries some is_tries, none, rw is_call suits, is_limit);
-    in_tree = ap inner_trie (d.inside m share) ∙ tree;
+    in_trie = ap inner_trie (d.inside m share) ∙ same;
   }
 
 -- A whole ordered read: it begins with that machine, and as that has answered it has ended.
-module _ {K V : Type 0} (valid_key : K → Type 0) (key : K → ℕ) (valid_value : V → Type 0) (value_word : V → ℕ) (d : DictRead) (c : Call) (layout : Layout) (number : ℕ) (is : (c.layout ≡ layout) × (c.number ≡ number)) (tries : ℕ) (call : MapCall) (share : Remaining) (m : ReadRun d.kind.R) (fresh : IsFreshCall {K = K} {V = V} call share tries number (read_machine d tries share m)) where
+module _ {K V : Type 0} (valid_key : K → Type 0) (key : K → ℕ) (valid_value : V → Type 0) (value_word : V → ℕ) (d : DictRead) (c : Call) (layout : Layout) (number : ℕ) (is : (c.layout ≡ layout) × (c.number ≡ number)) (tries : ℕ) (call : MapCall) (share : Remaining) (m : ReadRun d.kind.R) (trie : Bool) (fresh : IsFreshCall {K = K} {V = V} trie call share tries number (read_machine d tries share m)) where
   abbrev pub made_by : Reader (dict_calls valid_key key valid_value value_word layout number) d.kind.means
   made_by = reader valid_key key valid_value value_word (read_machine d tries share m) c layout number is.0 is.1 d share
 
-  pub made_begins : (ps : List SeatedPass) → SeatCallBegins valid_key key valid_value value_word c ps call share tries number → ReaderBegins made_by ps m
+  pub made_begins : (ps : List SeatedPass) → SeatCallBegins valid_key key valid_value value_word trie c ps call share tries number → ReaderBegins made_by ps m
   made_begins ps x = read_begins valid_key key valid_value value_word (read_machine d tries share m) c layout number is.0 is.1 d share ps m refl (x (read_machine d tries share m) fresh)
 
-  pub made_ended : (ps : List SeatedPass) (last : ReadRun d.kind.R) (a : Result d.kind.A Refused) (r : Reply K V) → IsReplyOf valid_key key valid_value value_word (read_reply d.kind.tells a) r → ReaderEnds made_by ps last a → CallHasEnded valid_key key valid_value value_word c ps call share tries number share r
+  pub made_ended : (ps : List SeatedPass) (last : ReadRun d.kind.R) (a : Result d.kind.A Refused) (r : Reply K V) → IsReplyOf valid_key key valid_value value_word (read_reply d.kind.tells a) r → ReaderEnds made_by ps last a → CallHasEnded valid_key key valid_value value_word trie c ps call share tries number share r
   made_ended ps last a r of x = record {
     first = read_machine d tries share m;
     last = read_machine d tries share last;

@@ -1,19 +1,21 @@
 -- A get of a dictionary whose walk is straight.
 use Rattle.arena.specs.Layout.{IsMap}
-use Rattle.template.specs.Balance.{leaf_way, map_mode}
+use Rattle.template.specs.Balance.{leaf_way, map_mode, nodes_by}
+use Rattle.template.specs.Walk.Steps.{room}
+use Rattle.template.specs.Walk.Places.{way_at, way_from}
 use Rattle.template.specs.Common.{FoundBy}
 use Rattle.dict.specs.Calls.{is_in_trie}
 use Rattle.dict.specs.Laws.Begins.{dict_mode}
-use Rattle.std.proofs.Common.{◌≡◌, ℕ, List, ◌^◌, ◌<◌, Option, None, Some, IfSome, inl, false, refl, sym, subst, ◌∙◌, ap, arith}
+use Rattle.std.proofs.Common.{◌≡◌, ℕ, List, ◌^◌, ◌<◌, Option, None, Some, IfSome, inl, Bool, true, false, ◌+◌, ◌*◌, ◌≤◌, refl, sym, subst, ◌∙◌, ap, arith}
 use Rattle.std.specs.Option.{option_map}
-use Rattle.histories.specs.Common.{Layout, Tree, LoadSettled, Step, Settled, Head, History, Call, IsRun, Remaining, node}
+use Rattle.histories.specs.Common.{Layout, LoadSettled, Step, Settled, Head, History, Call, IsRun, Remaining, node}
 use Rattle.atomic_table.specs.declared.shared.Seat.{Seat}
-use Rattle.template.specs.Common.{load, OneValue, WalkIsTold, walk_at, walk_from, Key as ToKey}
+use Rattle.template.specs.Common.{load, OneValue, WalkIsTold, Key as ToKey}
 use Rattle.template.specs.Walk.Places.{root_trail}
 use Rattle.template.specs.declared.walk.Found.{Found}
 use Rattle.template.specs.declared.walk.WalkAt.TheVariants.{Root, Start}
 use Rattle.template.specs.declared.walk.WalkRun.{WalkRun}
-use Rattle.template.specs.declared.walk.Way.TheVariants.{InTree}
+use Rattle.template.specs.declared.walk.Way.{Way}
 use Rattle.template.proofs.Lemmas.{walk_begins}
 use Rattle.dict.specs.DictKnown.{DictIsReady, DictWaits, DictAnswers}
 use Rattle.dict.specs.Typed.{IsTypedValue, TypedAllows}
@@ -51,7 +53,24 @@ module _ {K V : Type 0} (valid_key : K → Type 0) (key : K → ℕ) (valid_valu
   abbrev pub same : DictRun K V → DictRun K V → Type 0
   same = IsSameDictCall valid_key key valid_value value_word
 
-  module _ (share : Remaining) (tries wanted : ℕ) where
+  -- a walk to a leaf tells by its way whether that is in a trie
+  by_leaf : (trie : Bool) → is_in_trie (leaf_way trie) ≡ trie
+  by_leaf false = refl
+  by_leaf true = refl
+
+  leaf_is : (trie : Bool) → leaf_way trie ≡ leaf_way (is_in_trie (leaf_way trie))
+  leaf_is false = refl
+  leaf_is true = refl
+
+  -- and its bounds are those of its map
+  room_is : (trie : Bool) (nodes : ℕ) → room (leaf_way trie) nodes ≡ nodes_by trie nodes
+  room_is false nodes = refl
+  room_is true nodes = refl
+
+  pub get_steps : (trie : Bool) (way : Way) (old now nodes : ℕ) → way ≡ leaf_way trie → now ≤ old + (3 * (2 + room way nodes) + 5) → now ≤ old + (3 * (2 + nodes_by trie nodes) + 5)
+  get_steps trie way old now nodes is few = subst (λ r. now ≤ old + (3 * (2 + r) + 5)) (ap (λ w. room w nodes) is ∙ room_is trie nodes) few
+
+  module _ (share : Remaining) (tries wanted : ℕ) (way : Way) where
     abbrev at : WalkRun → DictRun K V
     at = getting share tries wanted
 
@@ -61,7 +80,7 @@ module _ {K V : Type 0} (valid_key : K → Type 0) (key : K → ℕ) (valid_valu
       call = c;
       is_layout = is_layout;
       is_number = is_number;
-      first = at (walk_at (ToKey wanted) root_trail Start);
+      first = at (way_at way (ToKey wanted) root_trail Start);
       with_run = λ w. at w.0;
       tells = λ w h v run x. (c, x.1.1.0.0);
       turns = λ old now h v s goes next run x. (x.0, (record { mode = x.1.0.mode ∙ ap (λ w. map_mode (is_in_trie w)) (sym goes.1.1); small = x.1.0.small; number = x.1.0.number; limit = tt; spent = x.1.0.spent }, ((next c x.1.1.0.0, (goes.1.0 ∙ x.1.1.0.1.0, subst (λ w. w ≡ leaf_way (is_in_trie w)) (sym goes.1.1) x.1.1.0.1.1), once_past now.0.at _ _ goes.0 x.1.1.0.2), x.1.1.1)));
@@ -69,15 +88,18 @@ module _ {K V : Type 0} (valid_key : K → Type 0) (key : K → ℕ) (valid_valu
     }
 
   -- its machine waits for the head of the root
-  pub get_walks : {T : Type 0} (p : Inside T) (x : IsPass allows Tree p) (tries wanted number : ℕ) (layout : Layout) (is_layout : p.layout ≡ layout) (is_number : taken_of (pass_view p) ≡ number) → wanted < 2 ^ 64
-      → WalkerWaits (walker p.share tries wanted (call_of p x (taken_of (pass_view p))) layout number is_layout is_number) p.seat.me.0.passes (walk_from (ToKey wanted)) no_turns (load LoadSettled (node 0 (Settled Head)))
+  pub get_walks : (trie : Bool) {T : Type 0} (p : Inside T) (x : IsPass allows (map_mode trie) p) (tries wanted number : ℕ) (way : Way) (layout : Layout) (is_layout : p.layout ≡ layout) (is_number : taken_of (pass_view p) ≡ number) → way ≡ leaf_way trie → wanted < 2 ^ 64
+      → WalkerWaits (walker p.share tries wanted way (call_of p x (taken_of (pass_view p))) layout number is_layout is_number) p.seat.me.0.passes (way_from way (ToKey wanted)) no_turns (load LoadSettled (node 0 (Settled Head)))
   unfolding walker
-  get_walks p x tries wanted number layout is_layout is_number small =
-      let first : DictRun K V = getting p.share tries wanted (walk_at (ToKey wanted) root_trail Start) in
+  get_walks trie p x tries wanted number way layout is_layout is_number is_way small =
+      let first : DictRun K V = getting p.share tries wanted (way_at way (ToKey wanted) root_trail Start) in
       let c : Call = call_of p x (taken_of (pass_view p)) in
-      starts allows ready waits same c p.seat.me.0.passes first (getting p.share tries wanted (walk_from (ToKey wanted))) _ (refl, refl, (omega arith, omega arith), refl)
-      (λ h run r. (r.0, (record { mode = r.1.0.mode; small = r.1.0.small; number = r.1.0.number; limit = tt; spent = r.1.0.spent }, ((walk_begins InTree (ToKey wanted) c h r.1.1.0.0.run r.1.1.0.0.may r.1.1.0.0.small r.1.1.0.0.since, (refl, refl), none_tried Root _ _ r.1.1.0.2), r.1.1.1))))
-      (dict_starts valid_key key valid_value value_word p x first refl tt (refl, refl, (refl, refl), small) tt refl)
+      starts allows ready waits same c p.seat.me.0.passes first (getting p.share tries wanted (way_from way (ToKey wanted))) _ (refl, refl, (omega arith, omega arith), refl)
+      (λ h run r. (r.0, (record { mode = r.1.0.mode; small = r.1.0.small; number = r.1.0.number; limit = tt; spent = r.1.0.spent }, ((walk_begins way (ToKey wanted) c h r.1.1.0.0.run r.1.1.0.0.may r.1.1.0.0.small r.1.1.0.0.since, (refl, to_leaf), none_tried Root _ _ r.1.1.0.2), r.1.1.1))))
+      (dict_starts valid_key key valid_value value_word p x first (ap is_in_trie is_way ∙ by_leaf trie) tt (refl, refl, (refl, to_leaf), small) tt refl)
+    where
+      to_leaf : way ≡ leaf_way (is_in_trie way)
+      to_leaf = subst (λ w. w ≡ leaf_way (is_in_trie w)) (sym is_way) (leaf_is trie)
 
   -- the value of its word
   same_told : (told : Option ℕ) (v : Option V) → (IfSome told (IsWordOf valid_value value_word) → option_map value_word v ≡ told) → IsTypedValue (IsWordOf valid_value value_word) told → Some (OneValue (option_map value_word v)) ≡ Some (OneValue told)
@@ -85,25 +107,25 @@ module _ {K V : Type 0} (valid_key : K → Type 0) (key : K → ℕ) (valid_valu
   same_told (Some w) v e t = ap (λ (o : Option ℕ). Some (OneValue o)) (e t)
 
   -- what its walk finds, it answers
-  pub get_ended : (share : Remaining) (tries wanted number : ℕ) (layout : Layout) (c : Call) (is_layout : c.layout ≡ layout) (is_number : c.number ≡ number) (ps : List SeatedPass) (turn : LastTurns) (f : Found) (v : Option V) → IsMap c.layout.mode → IfSome v valid_value → (IfSome f.value (IsWordOf valid_value value_word) → option_map value_word v ≡ f.value)
-      → (x : WalkerFinds (walker share tries wanted c layout number is_layout is_number) ps InTree (ToKey wanted) turn f)
-      → HoldsForCall allows ps c (λ h. DictAnswers valid_key key valid_value value_word (getting share tries wanted x.last) c h (replies.Value v) × Trace allows waits same c (getting share tries wanted (walk_at (ToKey wanted) root_trail Start)) (getting share tries wanted x.last) h)
+  pub get_ended : (share : Remaining) (tries wanted number : ℕ) (way : Way) (layout : Layout) (c : Call) (is_layout : c.layout ≡ layout) (is_number : c.number ≡ number) (ps : List SeatedPass) (turn : LastTurns) (f : Found) (v : Option V) → IsMap c.layout.mode → IfSome v valid_value → (IfSome f.value (IsWordOf valid_value value_word) → option_map value_word v ≡ f.value)
+      → (x : WalkerFinds (walker share tries wanted way c layout number is_layout is_number) ps way (ToKey wanted) turn f)
+      → HoldsForCall allows ps c (λ h. DictAnswers valid_key key valid_value value_word (getting share tries wanted x.last) c h (replies.Value v) × Trace allows waits same c (getting share tries wanted (way_at way (ToKey wanted) root_trail Start)) (getting share tries wanted x.last) h)
   unfolding walker
-  get_ended share tries wanted number layout c is_layout is_number ps turn f v mode valid same_word x =
+  get_ended share tries wanted number way layout c is_layout is_number ps turn f v mode valid same_word x =
       record { known = x.so.known; is = x.so.is; sound = x.so.sound; so = (answers _ x.so.sound x.so.so.0, x.so.so.1) }
     where
       answers : (h : History) → IsRun allows c.layout h → ready (getting share tries wanted x.last) c h (Some x.told) → DictAnswers valid_key key valid_value value_word (getting share tries wanted x.last) c h (replies.Value v)
       answers h run r =
           let t : WalkIsTold x.last c h x.told = r.1.1.0.0 in
-          let found : FoundBy x.last.way (ToKey wanted) c h f = subst (λ way. FoundBy way (ToKey wanted) c h f) (sym x.is_way) (x.finds c h t) in
+          let found : FoundBy x.last.way (ToKey wanted) c h f = subst (λ by. FoundBy by (ToKey wanted) c h f) (sym x.is_way) (x.finds c h t) in
           dict_ends valid_key key valid_value value_word (getting share tries wanted x.last) c h (WordReply.Value f.value) (replies.Value v) mode run
           (get_ends tries c h wanted x.last share f (rw x.is_goal at t.small) r.1.1.1 r.1.0.spent found r.1.1.0.2) record { valid = valid; says = λ typed. same_told f.value v same_word typed; form = inl refl }
 
   -- and so it has ended, where a walk that waits for the head of the root finds that
-  pub get_over : {T : Type 0} (p : Inside T) (x : IsPass allows Tree p) (s : Seat ℕ SeatView) (tries wanted number : ℕ) (layout : Layout) → p.layout ≡ layout → taken_of (pass_view p) ≡ number → wanted < 2 ^ 64 → (turn : LastTurns) (f : Found) (v : Option V) → IfSome v valid_value → (IfSome f.value (IsWordOf valid_value value_word) → option_map value_word v ≡ f.value)
-      → ((w : Walker (dict_calls valid_key key valid_value value_word layout number)) → WalksFromRoot w p.seat.me.0.passes InTree (ToKey wanted) → WalkerFinds w s.me.0.passes InTree (ToKey wanted) turn f)
-      → (last : WalkRun) × HoldsForCall allows s.me.0.passes (call_of p x (taken_of (pass_view p))) (λ h. Answered valid_key key valid_value value_word p x s (getting p.share tries wanted last) (replies.Value v) h × Trace allows waits same (call_of p x (taken_of (pass_view p))) (getting p.share tries wanted (walk_at (ToKey wanted) root_trail Start)) (getting p.share tries wanted last) h)
-  get_over p x s tries wanted number layout is_layout is_number small turn f v valid same_word finds =
+  pub get_over : (trie : Bool) {T : Type 0} (p : Inside T) (x : IsPass allows (map_mode trie) p) (s : Seat ℕ SeatView) (tries wanted number : ℕ) (way : Way) (layout : Layout) → p.layout ≡ layout → taken_of (pass_view p) ≡ number → way ≡ leaf_way trie → wanted < 2 ^ 64 → (turn : LastTurns) (f : Found) (v : Option V) → IfSome v valid_value → (IfSome f.value (IsWordOf valid_value value_word) → option_map value_word v ≡ f.value)
+      → ((w : Walker (dict_calls valid_key key valid_value value_word layout number)) → WalksFromRoot w p.seat.me.0.passes way (ToKey wanted) → WalkerFinds w s.me.0.passes way (ToKey wanted) turn f)
+      → (last : WalkRun) × HoldsForCall allows s.me.0.passes (call_of p x (taken_of (pass_view p))) (λ h. Answered valid_key key valid_value value_word trie p x s (getting p.share tries wanted last) (replies.Value v) h × Trace allows waits same (call_of p x (taken_of (pass_view p))) (getting p.share tries wanted (way_at way (ToKey wanted) root_trail Start)) (getting p.share tries wanted last) h)
+  get_over trie p x s tries wanted number way layout is_layout is_number is_way small turn f v valid same_word finds =
       let c : Call = call_of p x (taken_of (pass_view p)) in
-      let found = finds (walker p.share tries wanted c layout number is_layout is_number) (get_walks p x tries wanted number layout is_layout is_number small) in
-      (found.last, get_ended p.share tries wanted number layout c is_layout is_number s.me.0.passes turn f v (dict_mode p.layout.mode false x.is_mode) valid same_word found)
+      let found = finds (walker p.share tries wanted way c layout number is_layout is_number) (get_walks trie p x tries wanted number way layout is_layout is_number is_way small) in
+      (found.last, get_ended p.share tries wanted number way layout c is_layout is_number s.me.0.passes turn f v (dict_mode p.layout.mode trie x.is_mode) valid same_word found)

@@ -76,6 +76,10 @@ module _ {M R A : Type 0} {o : Calls M} {means : ReadMeaning R A} (r : Reader o 
   pub told_fits : (ps : List SeatedPass) (m : ReadRun R) (v : ℕ) → IsTold ps m v → ReadFits means m (Some v) (nodes_by m.trie (shared_nodes o.layout))
   told_fits ps m v x = read_told means m r.call _ (Some v) (shared_nodes o.layout) (r.runs _ x.sound) (r.tells m _ (Some v) x.so.0) (few_taken o.allows o.layout r.call _ r.is_layout x.sound)
 
+  -- so does nothing at its start
+  pub begun_fits : (ps : List SeatedPass) (m : ReadRun R) → ReaderBegins r ps m → ReadFits means m None (nodes_by m.trie (shared_nodes o.layout))
+  begun_fits ps m x = read_told means m r.call _ None (shared_nodes o.layout) (r.runs _ x.sound) (r.tells m _ None x.so.0) (few_taken o.allows o.layout r.call _ r.is_layout x.sound)
+
   -- After its loads: the read has continued
   module _ (m : ReadRun R) (read : R) (same : means.call read ≡ means.call m.read) where
     abbrev now : ReadRun R

@@ -3,7 +3,7 @@ use Rattle.std.proofs.Common.{◌≡◌, ◌∙◌, ℕ, ◌<◌, ◌⊎◌, inl
 use Rattle.atomic_table.specs.Seated.{TableId}
 use Rattle.histories.specs.Common.{Full as FullOf, Row, WasInTheWay, IsOthersScx, History, ◌⊳◌, Extends, Call, Remaining}
 use Rattle.arena.proofs.Lemmas.{ends_self, ends_trans}
-use Rattle.template.specs.Common.{MapCall, MapReply, MapEdit, edit_of, IsTreeRun, Makes}
+use Rattle.template.specs.Common.{MapCall, MapReply, MapEdit, edit_of, IsMapRun, Makes}
 use Rattle.ordered_map.proofs.Lemmas.{makes_since}
 use Rattle.edits.specs.Known.{RestsWith, IsUntouched}
 use Rattle.edits.specs.Tries.{HasEnteredNone}
@@ -22,7 +22,7 @@ module _ (was : PassView) (is_pass : was.number < was.layout.passes) (number : �
   abbrev pub then : PassView
   then = record { table = table; layout = was.layout; number = was.number; share = left; known = known; blamed = blamed }
 
-  module _ (run : IsTreeRun was.layout (run_of then)) (since : Extends (run_of then) (run_of was)) where
+  module _ (run : IsMapRun was.layout (run_of then)) (since : Extends (run_of then) (run_of was)) where
     none_more : HasEnteredNone was.layout was.number (run_of then) (run_of was) → done_of then ≡ done_of was
     none_more none = none_entered was.layout was.number (run_of then) (run_of was) run.1.lawful since none
 

@@ -1,6 +1,7 @@
 -- What the calls of a dictionary say of the pass that makes them.
-use Rattle.std.specs.Prelude.{◌≡◌, ℕ, ◌+◌, ◌*◌, ◌<◌, ◌≤◌, ◌⊎◌, List, ◌∷◌, Option, Some, None, Result, Ok, Err}
-use Rattle.histories.specs.Common.{Full as FullOf, Tree, Row, WasInTheWay, IsOthersScx, History, ◌⊳◌, value, Extends, Entry, log}
+use Rattle.template.specs.Balance.{map_mode, nodes_by}
+use Rattle.std.specs.Prelude.{◌≡◌, ℕ, ◌+◌, ◌*◌, ◌<◌, ◌≤◌, ◌⊎◌, Bool, false, List, ◌∷◌, Option, Some, None, Result, Ok, Err}
+use Rattle.histories.specs.Common.{Full as FullOf, Row, WasInTheWay, IsOthersScx, History, ◌⊳◌, value, Extends, Entry, log}
 use Rattle.template.specs.Common.{Pair as PairOf, MapCall, MapReply, MapEdit, edited, reply, edit_of, Makes, Spells, tries_since}
 use Rattle.template.specs.Common.{HasTriedAtMost, MayReply, form_of, most_nodes, most_scx, most_steps, told_of, Reply}
 use Rattle.ordered_map.specs.declared.reply.Reply.TheVariants.{Contended, Full, NoMemory}
@@ -122,15 +123,15 @@ blamed_by_reply _ blamed = blamed
 -- What a whole call says
 
 -- The pass, which knew `old` as the call began and knows `new` at its end, has made this call of a
--- dictionary, and has this reply. `valid` says of a key or a value whether it is one of its type,
--- and the other two give their words.
-pub record HasCalled {K V : Type 0} (valid_key : K → Type 0) (key : K → ℕ) (valid_value : V → Type 0) (value_word : V → ℕ) (forest : Ground) (old new : PassView) (call : MapCall) (reply : Reply K V) : Type 0 where
+-- dictionary, a trie or a tree, and has this reply. `valid` says of a key or a value whether it is
+-- one of its type, and the other two give their words.
+pub record HasCalledIn {K V : Type 0} (trie : Bool) (valid_key : K → Type 0) (key : K → ℕ) (valid_value : V → Type 0) (value_word : V → ℕ) (forest : Ground) (old new : PassView) (call : MapCall) (reply : Reply K V) : Type 0 where
   -- it is of this forest still, whose words spell a map
   pub pass : IsOf forest new
-  pub tree : new.layout.mode ≡ Tree
+  pub mode : new.layout.mode ≡ map_mode trie
   -- the run that it knows is lawful, and extends what it knew by no more steps of its own than
   -- such a call makes; it blames whom the reply names
-  pub goes_on : HasGoneOn (TypedAllows (IsWordOf valid_key key) (IsWordOf valid_value value_word)) old new (taken_of old) (most_steps call forest.tries (shared_nodes forest.layout)) (blamed_by_reply reply old.blamed)
+  pub goes_on : HasGoneOn (TypedAllows (IsWordOf valid_key key) (IsWordOf valid_value value_word)) old new (taken_of old) (most_steps call forest.tries (nodes_by trie (shared_nodes forest.layout))) (blamed_by_reply reply old.blamed)
   -- it has begun tries only as needed, and spent no more of its share than these may
   pub spends : HasSpentAtMost old new call forest.tries
   -- its steps are of the kinds that such a call makes
@@ -143,6 +144,10 @@ pub record HasCalled {K V : Type 0} (valid_key : K → Type 0) (key : K → ℕ)
   pub valid : IsValidReply valid_key valid_value reply
   -- a range that asks for no pairs has left the pass as it was
   pub nothing : ¬ AsksForPairs call → new ≡ old
+
+-- so it has in a tree
+abbrev pub HasCalled : {K V : Type 0} → (K → Type 0) → (K → ℕ) → (V → Type 0) → (V → ℕ) → Ground → PassView → PassView → MapCall → Reply K V → Type 0
+HasCalled valid_key key valid_value value_word forest old new call reply = HasCalledIn false valid_key key valid_value value_word forest old new call reply
 
 -- the answer of an edit as a reply, if this is the reply that says what it says
 abbrev pub update_reply : {A K V : Type 0} → (A → Reply K V) → Result A UpdateFault → Reply K V

@@ -1,8 +1,8 @@
 -- What is true of the fields of every call that is held open.
-use Rattle.template.specs.declared.balance.ByOrder.{ByOrder}
-use Rattle.std.specs.Prelude.{◌≡◌, ◌+◌, ◌-◌, ◌<◌, ◌≤◌, ℕ, true, false, [], ◌∷◌}
+use Rattle.template.specs.Balance.{map_mode, nodes_by}
+use Rattle.std.specs.Prelude.{◌≡◌, ◌+◌, ◌-◌, ◌<◌, ◌≤◌, ℕ, Bool, true, false, [], ◌∷◌}
 use Rattle.atomic_table.specs.declared.shared.Seat.{Seat}
-use Rattle.histories.specs.Common.{Tree, Call, MatchTurn}
+use Rattle.histories.specs.Common.{Call, MatchTurn}
 use Rattle.dict.specs.Calls.{call_in, AsksForPairs}
 use Rattle.dict.specs.DictKnown.{DictWaits, DictAnswers}
 use Rattle.ordered_map.specs.CallRules.{most_steps}
@@ -22,7 +22,7 @@ use Rattle.forest.specs.TableRule.{seated_pass}
 use Rattle.forest.specs.Traces.{Stands, known_of, seat_steps, shared_nodes, weight}
 
 -- what contracts see of a call that is held open
-abbrev pub open_view : {K V : Type 0} → Inside K V → OpenView
+abbrev pub open_view : {K V B : Type 0} → Inside K V B → OpenView
 open_view o = record {
   began = o.began.value;
   known = known_of o.seat.me.0.passes;
@@ -49,9 +49,9 @@ abbrev pub next_call : (p : PassView) → p.number < p.layout.passes → Call
 next_call p is_pass = record { layout = p.layout; pass = p.number; is_pass = is_pass; number = taken_of p; start = run_of p }
 
 -- what holds of every call that is held open
-pub record IsOpen {K V : Type 0} (valid_key : K → Type 0) (key : K → ℕ) (valid_value : V → Type 0) (value : V → ℕ) (o : Inside K V) : Type 0 where
+pub record IsOpen {K V B : Type 0} (valid_key : K → Type 0) (key : K → ℕ) (valid_value : V → Type 0) (value : V → ℕ) (trie : Bool) (o : Inside K V B) : Type 0 where
   -- as it began its pass was one between two calls
-  pub pass : IsPass (TypedAllows (IsWordOf valid_key key) (IsWordOf valid_value value)) Tree (pass_as {T = Dict K V ByOrder} o.began.value o.seat)
+  pub pass : IsPass (TypedAllows (IsWordOf valid_key key) (IsWordOf valid_value value)) (map_mode trie) (pass_as {T = Dict K V B} o.began.value o.seat)
   -- only the seat and the share of it have changed
   pub table : o.seat.table_id ≡ o.began.value.table
   pub bare : o.seat.me.1 ≡ []
@@ -64,7 +64,7 @@ pub record IsOpen {K V : Type 0} (valid_key : K → Type 0) (key : K → ℕ) (v
   pub stands : Stands (TypedAllows (IsWordOf valid_key key) (IsWordOf valid_value value)) (DictWaits (IsWordOf valid_key key) (IsWordOf valid_value value)) (IsSameDictCall valid_key key valid_value value) (next_call o.began.value pass.is_pass) o.seat.me.0.passes first (DictAnswers valid_key key valid_value value) o.run o.turn
   -- it has made no more steps than such a call may
   pub since : steps_of o.began.value ≤ seat_steps o.seat.me.0.passes
-  pub steps : seat_steps o.seat.me.0.passes + weight o.turn (map_left o.run.run (shared_nodes o.layout)) ≤ steps_of o.began.value + most_steps (call_in o.run.run) o.run.tries (shared_nodes o.layout)
+  pub steps : seat_steps o.seat.me.0.passes + weight o.turn (map_left o.run.run (shared_nodes o.layout)) ≤ steps_of o.began.value + most_steps (call_in o.run.run) o.run.tries (nodes_by trie (shared_nodes o.layout))
   -- It is over only where it has answered. A range that asks for no pairs has answered before its
   -- first step.
   pub over : o.over ≡ true → MatchTurn o.turn (λ _. ⊥) (λ _. Unit {0})

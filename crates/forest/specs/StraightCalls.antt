@@ -1,7 +1,6 @@
 -- Whole calls of a dictionary.
 use Rattle.arena.specs.Layout.{IsMap}
-use Rattle.std.specs.Prelude.{false}
-use Rattle.std.specs.Prelude.{◌≡◌, ℕ, List, Option}
+use Rattle.std.specs.Prelude.{◌≡◌, ℕ, List, Option, Bool}
 use Rattle.histories.specs.Common.{Layout, Step, History, Call, Remaining}
 use Rattle.dict.specs.Calls.{KeepsTriesButOne, call_in, share_of, trie_in}
 use Rattle.dict.specs.DictKnown.{DictIsReady, DictWaits, DictAnswers}
@@ -16,13 +15,13 @@ use Rattle.forest.specs.Traces.{CallBegins, Ends, HoldsForCall, Trace}
 
 -- a machine that makes this call with this many tries and this share, in the call of this number,
 -- has not begun
-pub record IsFreshCall {K V : Type 0} (call : MapCall) (share : Remaining) (tries number : ℕ) (m : DictRun K V) : Type 0 where
+pub record IsFreshCall {K V : Type 0} (trie : Bool) (call : MapCall) (share : Remaining) (tries number : ℕ) (m : DictRun K V) : Type 0 where
   pub is_call : call_in m.run ≡ call
   pub has_tries : m.tries ≡ tries
   pub has_share : share_of m.run ≡ share
   pub unbegun : IsUnbegun m.run tries number
-  -- and is in a tree
-  pub in_tree : trie_in m.run ≡ false
+  -- and is in a trie, or in a tree
+  pub in_trie : trie_in m.run ≡ trie
 
 -- `valid` says of a key or a value whether it is one of its type, `word` which its word is.
 module _ {K V : Type 0} (valid_key : K → Type 0) (key : K → ℕ) (valid_value : V → Type 0) (value : V → ℕ) where
@@ -56,14 +55,14 @@ module _ {K V : Type 0} (valid_key : K → Type 0) (key : K → ℕ) (valid_valu
     SeatDictEnds = Ends DictAllows DictCallWaits IsSameDictCall c ps first (DictAnswers valid_key key valid_value value)
 
   -- a call begins, with whichever machine of it that has not begun
-  abbrev pub SeatCallBegins : Call → List SeatedPass → MapCall → Remaining → ℕ → ℕ → Type 0
-  SeatCallBegins c ps call share tries number = (first : DictRun K V) → IsFreshCall call share tries number first → SeatDictBegins c ps first
+  abbrev pub SeatCallBegins : Bool → Call → List SeatedPass → MapCall → Remaining → ℕ → ℕ → Type 0
+  SeatCallBegins trie c ps call share tries number = (first : DictRun K V) → IsFreshCall trie call share tries number first → SeatDictBegins c ps first
 
   -- A call has ended with this reply: a machine of it has begun it, and one that has so much of the
   -- share left has ended it.
-  pub record CallHasEnded (c : Call) (ps : List SeatedPass) (call : MapCall) (share : Remaining) (tries number : ℕ) (left : Remaining) (told : Reply K V) : Type 0 where
+  pub record CallHasEnded (trie : Bool) (c : Call) (ps : List SeatedPass) (call : MapCall) (share : Remaining) (tries number : ℕ) (left : Remaining) (told : Reply K V) : Type 0 where
     pub first : DictRun K V
     pub last : DictRun K V
-    pub fresh : IsFreshCall call share tries number first
+    pub fresh : IsFreshCall trie call share tries number first
     pub is_left : share_of last.run ≡ left
     pub ends : SeatDictEnds c ps first last told

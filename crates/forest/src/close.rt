@@ -33,6 +33,7 @@ use prims::Cells;
 use std::alloc::Global;
 use std::fmt;
 use std::marker::{Brand, Model, PhantomData};
+use template::FixedBalance;
 
 /// The words of a forest that no thread shares any more.
 pub struct Closed<S: Shape> {
@@ -66,7 +67,7 @@ impl Closed<Cells> {
     }
 }
 
-impl<K: WordKey, V: WordValue> Closed<Dict<K, V>> {
+impl<K: WordKey, V: WordValue, B: FixedBalance> Closed<Dict<K, V, B>> {
     /// The pairs of the map, by rising key, as its run has left them. The only error is want of
     /// memory: it copies the words of all nodes first.
     pub fn pairs(&self, alloc: Global) -> Result<Vec<(K, V)>, NoMemory>

@@ -1,7 +1,7 @@
 //! A dictionary that threads share.
-ghost use Rattle.std.specs.Prelude.{◌≡◌, ◌≤◌, ◌↔◌, false, Err, IfOk, OnOk};
+ghost use Rattle.std.specs.Prelude.{◌≡◌, ◌≤◌, ◌↔◌, Err, IfOk, OnOk};
 ghost use Rattle.arena.specs.Limits.{IsAccepted, IsLayoutOf};
-ghost use Rattle.arena.specs.declared.limits.Mode.TheVariants.{Tree};
+ghost use Rattle.template.specs.Balance.{map_mode};
 ghost use Rattle.ordered_map.specs.declared.rule.Goal.TheVariants.{Key};
 ghost use Rattle.ordered_map.specs.OrderedMap.{Edit, Get, Range, call_successor, call_predecessor, call_insert, call_insert_new, call_delete, call_delete_if, call_pop_first, call_pop_last, call_replace_if};
 ghost use Rattle.dict.specs.Calls.{IsSmallCall, edit_call};
@@ -10,21 +10,23 @@ ghost use Rattle.ordered_map.specs.Requests.{AsksForFew, as_map_call};
 ghost use Rattle.dict.specs.Says.{KeepsLists};
 ghost use Rattle.dict.specs.Typed.{IsTypedCall};
 ghost use Rattle.dict.specs.Words.{IsWordOf};
-ghost use Rattle.forest.specs.Dictionary.{HasCalled, order_reply, update_reply};
+ghost use Rattle.forest.specs.Dictionary.{HasCalledIn, order_reply, update_reply};
 ghost use Rattle.forest.specs.Passes.{IsOf, AreNew};
 
+use crate::balance::{in_trie, mode};
 use crate::fault::{NewFault, OrderFault, UpdateFault};
 use crate::forest::Forest;
 use crate::pass::Pass;
 use crate::straight::hand::Hand;
 use crate::straight::{calls, walk};
-use arena::{Limits, Mode, NoMemory, Share};
+use arena::{Limits, NoMemory, Share};
 use dict::{Dict, DictRun, Reply, Request, WordKey, WordValue, number_of, value_of};
+use order::leaf_way;
 use std::alloc::Global;
 use std::mem::replace;
-use template::{Goal, Way};
+use template::{FixedBalance, Goal};
 use tree::{
-    AtGreatest, AtKey, AtLeast, EditGoal, EditRule, KeyEdit, PutNewRule, PutRule, SwapRule,
+    AtGreatest, AtKey, AtLeast, EditGoal, EditRule, GoalIn, KeyEdit, PutNewRule, PutRule, SwapRule,
     TakeIfRule, TakeRule,
 };
 
@@ -84,20 +86,20 @@ fn told_neighbour<K: WordKey, V: WordValue>(
     }
 }
 
-impl<K: WordKey, V: WordValue> Forest<Dict<K, V>> {
+impl<K: WordKey, V: WordValue, B: FixedBalance> Forest<Dict<K, V, B>> {
     /// An empty dictionary within these limits, and a pass for each client. Refused are limits out
     /// of range and want of memory.
     pub fn new(
         alloc: Global,
         limits: Limits,
-    ) -> Result<(Forest<Dict<K, V>>, Vec<Pass<Dict<K, V>>>), NewFault>
+    ) -> Result<(Forest<Dict<K, V, B>>, Vec<Pass<Dict<K, V, B>>>), NewFault>
         ensures accepted { OnOk result (IsAccepted limits) }
         ensures refused { (result ≡ Err NewFault.Limits) ↔ (¬ IsAccepted limits) }
-        ensures layout { IfOk result (λ r. IsLayoutOf limits Tree r.0.layout) }
+        ensures layout { IfOk result (λ r. IsLayoutOf limits (map_mode (B.trie B.the)) r.0.layout) }
         ensures tries { IfOk result (λ r. r.0.tries ≡ limits.tries) }
         ensures passes { IfOk result (λ r. AreNew r.0 r.1.items) }
     {
-        let Ok(layout) = limits.check(Mode::Tree) else {
+        let Ok(layout) = limits.check(mode::<B>()) else {
             return Err(NewFault::Limits);
         };
         match Forest::with_layout(alloc, layout, limits.tries) {
@@ -112,12 +114,12 @@ impl<K: WordKey, V: WordValue> Forest<Dict<K, V>> {
     /// the other edits.
     pub fn insert(
         &self,
-        pass: &mut Pass<Dict<K, V>>,
+        pass: &mut Pass<Dict<K, V, B>>,
         key: K,
         value: V,
     ) -> Result<Option<V>, UpdateFault>
         requires pass { IsOf self.now pass.old }
-        ensures { HasCalled K.is_valid K.word_of V.is_valid V.word_of self.now
+        ensures { HasCalledIn (B.trie B.the) K.is_valid K.word_of V.is_valid V.word_of self.now
             pass.old pass.new (call_insert (K.word_of key) (V.word_of value))
             (update_reply Reply.Value result) }
     {
@@ -131,12 +133,12 @@ impl<K: WordKey, V: WordValue> Forest<Dict<K, V>> {
     /// try, and no memory.
     pub fn insert_new(
         &self,
-        pass: &mut Pass<Dict<K, V>>,
+        pass: &mut Pass<Dict<K, V, B>>,
         key: K,
         value: V,
     ) -> Result<Option<V>, UpdateFault>
         requires pass { IsOf self.now pass.old }
-        ensures { HasCalled K.is_valid K.word_of V.is_valid V.word_of self.now
+        ensures { HasCalledIn (B.trie B.the) K.is_valid K.word_of V.is_valid V.word_of self.now
             pass.old pass.new (call_insert_new (K.word_of key) (V.word_of value))
             (update_reply Reply.Value result) }
     {
@@ -147,9 +149,9 @@ impl<K: WordKey, V: WordValue> Forest<Dict<K, V>> {
 
     /// Removes a key, and returns the value that it had just before. It takes at most a node and
     /// an SCX-record of the pass's share in a try, and no memory.
-    pub fn delete(&self, pass: &mut Pass<Dict<K, V>>, key: &K) -> Result<Option<V>, UpdateFault>
+    pub fn delete(&self, pass: &mut Pass<Dict<K, V, B>>, key: &K) -> Result<Option<V>, UpdateFault>
         requires pass { IsOf self.now pass.old }
-        ensures { HasCalled K.is_valid K.word_of V.is_valid V.word_of self.now
+        ensures { HasCalledIn (B.trie B.the) K.is_valid K.word_of V.is_valid V.word_of self.now
             pass.old pass.new (call_delete (K.word_of key.now)) (update_reply Reply.Value result) }
     {
         key.valid();
@@ -161,12 +163,12 @@ impl<K: WordKey, V: WordValue> Forest<Dict<K, V>> {
     /// SCX-record of the pass's share in a try, and no memory.
     pub fn delete_if(
         &self,
-        pass: &mut Pass<Dict<K, V>>,
+        pass: &mut Pass<Dict<K, V, B>>,
         key: &K,
         expected: &V,
     ) -> Result<Option<V>, UpdateFault>
         requires pass { IsOf self.now pass.old }
-        ensures { HasCalled K.is_valid K.word_of V.is_valid V.word_of self.now
+        ensures { HasCalledIn (B.trie B.the) K.is_valid K.word_of V.is_valid V.word_of self.now
             pass.old pass.new (call_delete_if (K.word_of key.now) (V.word_of expected.now))
             (update_reply Reply.Value result) }
     {
@@ -176,9 +178,9 @@ impl<K: WordKey, V: WordValue> Forest<Dict<K, V>> {
 
     /// Removes the pair with the least key, if there is one, and returns it. It takes at most a
     /// node and an SCX-record of the pass's share in a try, and no memory.
-    pub fn pop_first(&self, pass: &mut Pass<Dict<K, V>>) -> Result<Option<(K, V)>, UpdateFault>
+    pub fn pop_first(&self, pass: &mut Pass<Dict<K, V, B>>) -> Result<Option<(K, V)>, UpdateFault>
         requires pass { IsOf self.now pass.old }
-        ensures { HasCalled K.is_valid K.word_of V.is_valid V.word_of self.now
+        ensures { HasCalledIn (B.trie B.the) K.is_valid K.word_of V.is_valid V.word_of self.now
             pass.old pass.new call_pop_first (update_reply Reply.Pair result) }
     {
         let (goal, rule) = (AtLeast, TakeRule);
@@ -187,9 +189,9 @@ impl<K: WordKey, V: WordValue> Forest<Dict<K, V>> {
 
     /// Removes the pair with the greatest key, if there is one, and returns it. It takes at most a
     /// node and an SCX-record of the pass's share in a try, and no memory.
-    pub fn pop_last(&self, pass: &mut Pass<Dict<K, V>>) -> Result<Option<(K, V)>, UpdateFault>
+    pub fn pop_last(&self, pass: &mut Pass<Dict<K, V, B>>) -> Result<Option<(K, V)>, UpdateFault>
         requires pass { IsOf self.now pass.old }
-        ensures { HasCalled K.is_valid K.word_of V.is_valid V.word_of self.now
+        ensures { HasCalledIn (B.trie B.the) K.is_valid K.word_of V.is_valid V.word_of self.now
             pass.old pass.new call_pop_last (update_reply Reply.Pair result) }
     {
         let (goal, rule) = (AtGreatest, TakeRule);
@@ -201,13 +203,13 @@ impl<K: WordKey, V: WordValue> Forest<Dict<K, V>> {
     /// SCX-record of the pass's share in a try, and no memory.
     pub fn replace_if(
         &self,
-        pass: &mut Pass<Dict<K, V>>,
+        pass: &mut Pass<Dict<K, V, B>>,
         key: K,
         expected: &V,
         value: V,
     ) -> Result<Option<V>, UpdateFault>
         requires pass { IsOf self.now pass.old }
-        ensures { HasCalled K.is_valid K.word_of V.is_valid V.word_of self.now
+        ensures { HasCalledIn (B.trie B.the) K.is_valid K.word_of V.is_valid V.word_of self.now
             pass.old pass.new
             (call_replace_if (K.word_of key) (V.word_of expected.now) (V.word_of value))
             (update_reply Reply.Value result) }
@@ -219,9 +221,9 @@ impl<K: WordKey, V: WordValue> Forest<Dict<K, V>> {
     }
 
     /// The value of a key, if it has one. It takes nothing, and is never refused.
-    pub fn get(&self, pass: &mut Pass<Dict<K, V>>, key: &K) -> Option<V>
+    pub fn get(&self, pass: &mut Pass<Dict<K, V, B>>, key: &K) -> Option<V>
         requires pass { IsOf self.now pass.old }
-        ensures { HasCalled K.is_valid K.word_of V.is_valid V.word_of self.now
+        ensures { HasCalledIn (B.trie B.the) K.is_valid K.word_of V.is_valid V.word_of self.now
             pass.old pass.new (Get (K.word_of key.now)) (Reply.Value result) }
     {
         key.valid();
@@ -232,8 +234,9 @@ impl<K: WordKey, V: WordValue> Forest<Dict<K, V>> {
             number,
         };
         let seat = &mut pass.seat;
+        let way = leaf_way(in_trie::<B>());
         let goal = Goal::Key(key.word());
-        let found = walk::to_goal::<Dict<K, V>, DictRun<K, V>>(hand, seat, Way::InTree, goal).0;
+        let found = walk::to_goal::<Dict<K, V, B>, DictRun<K, V>>(hand, seat, way, goal).0;
         value_of(found.value)
     }
 
@@ -242,11 +245,11 @@ impl<K: WordKey, V: WordValue> Forest<Dict<K, V>> {
     pub fn successor(
         &self,
         alloc: Global,
-        pass: &mut Pass<Dict<K, V>>,
+        pass: &mut Pass<Dict<K, V, B>>,
         key: &K,
     ) -> Result<Option<(K, V)>, OrderFault>
         requires pass { IsOf self.now pass.old }
-        ensures { HasCalled K.is_valid K.word_of V.is_valid V.word_of self.now
+        ensures { HasCalledIn (B.trie B.the) K.is_valid K.word_of V.is_valid V.word_of self.now
             pass.old pass.new (call_successor (K.word_of key.now)) (order_reply Reply.Pair result) }
     {
         told_neighbour(self.read(alloc, pass, Request::Successor { key: *key }))
@@ -257,11 +260,11 @@ impl<K: WordKey, V: WordValue> Forest<Dict<K, V>> {
     pub fn predecessor(
         &self,
         alloc: Global,
-        pass: &mut Pass<Dict<K, V>>,
+        pass: &mut Pass<Dict<K, V, B>>,
         key: &K,
     ) -> Result<Option<(K, V)>, OrderFault>
         requires pass { IsOf self.now pass.old }
-        ensures { HasCalled K.is_valid K.word_of V.is_valid V.word_of self.now
+        ensures { HasCalledIn (B.trie B.the) K.is_valid K.word_of V.is_valid V.word_of self.now
             pass.old pass.new (call_predecessor (K.word_of key.now)) (order_reply Reply.Pair result) }
     {
         told_neighbour(self.read(alloc, pass, Request::Predecessor { key: *key }))
@@ -273,14 +276,14 @@ impl<K: WordKey, V: WordValue> Forest<Dict<K, V>> {
     pub fn range(
         &self,
         alloc: Global,
-        pass: &mut Pass<Dict<K, V>>,
+        pass: &mut Pass<Dict<K, V, B>>,
         low: &K,
         high: &K,
         most: usize,
     ) -> Result<Vec<(K, V)>, OrderFault>
         requires pass { IsOf self.now pass.old }
         requires few { most ≤ 64 }
-        ensures { HasCalled K.is_valid K.word_of V.is_valid V.word_of self.now
+        ensures { HasCalledIn (B.trie B.the) K.is_valid K.word_of V.is_valid V.word_of self.now
             pass.old pass.new (Range (K.word_of low.now) (K.word_of high.now) most)
             (order_reply Reply.Pairs result) }
     {
@@ -297,14 +300,14 @@ impl<K: WordKey, V: WordValue> Forest<Dict<K, V>> {
     #[inline(always)]
     fn edit_at_key<R: EditRule>(
         &self,
-        pass: &mut Pass<Dict<K, V>>,
+        pass: &mut Pass<Dict<K, V, B>>,
         key: u64,
         rule: R,
     ) -> Result<Option<V>, UpdateFault>
         requires pass { IsOf self.now pass.old }
         requires typed { IsTypedCall (IsWordOf K.is_valid K.word_of) (IsWordOf V.is_valid V.word_of)
             (Edit (Key key) (R.rule rule)) }
-        ensures { HasCalled K.is_valid K.word_of V.is_valid V.word_of self.now
+        ensures { HasCalledIn (B.trie B.the) K.is_valid K.word_of V.is_valid V.word_of self.now
             pass.old pass.new (Edit (Key key) (R.rule rule)) (update_reply Reply.Value result) }
     {
         let goal = AtKey(key);
@@ -315,17 +318,23 @@ impl<K: WordKey, V: WordValue> Forest<Dict<K, V>> {
     #[inline(always)]
     fn edit<G: EditGoal, R: EditRule>(
         &self,
-        pass: &mut Pass<Dict<K, V>>,
+        pass: &mut Pass<Dict<K, V, B>>,
         edit: KeyEdit<G, R>,
     ) -> Reply<K, V>
         requires pass { IsOf self.now pass.old }
         requires typed { IsTypedCall (IsWordOf K.is_valid K.word_of) (IsWordOf V.is_valid V.word_of)
             (edit_call G.goal R.rule edit) }
         requires small { IsSmallCall (edit_call G.goal R.rule edit) }
-        requires tree { G.trie edit.goal ≡ false }
-        ensures { HasCalled K.is_valid K.word_of V.is_valid V.word_of self.now
+        ensures { HasCalledIn (B.trie B.the) K.is_valid K.word_of V.is_valid V.word_of self.now
             pass.old pass.new (edit_call G.goal R.rule edit) result }
     {
+        let edit = KeyEdit {
+            goal: GoalIn {
+                goal: edit.goal,
+                balance: B::the(),
+            },
+            rule: edit.rule,
+        };
         let number = pass.taken();
         let share = replace(&mut pass.share, Share::of(&self.layout, pass.number));
         let hand = Hand {
@@ -345,13 +354,13 @@ impl<K: WordKey, V: WordValue> Forest<Dict<K, V>> {
     fn read(
         &self,
         alloc: Global,
-        pass: &mut Pass<Dict<K, V>>,
+        pass: &mut Pass<Dict<K, V, B>>,
         request: Request<K, V>,
     ) -> Reply<K, V>
         requires pass { IsOf self.now pass.old }
         requires few { AsksForFew request }
         requires ordered { KeepsLists (as_map_call K.word_of V.word_of request) }
-        ensures { HasCalled K.is_valid K.word_of V.is_valid V.word_of self.now
+        ensures { HasCalledIn (B.trie B.the) K.is_valid K.word_of V.is_valid V.word_of self.now
             pass.old pass.new (as_map_call K.word_of V.word_of request) result }
     {
         let number = pass.taken();

@@ -1,6 +1,7 @@
 //! Threads that share one table of atomic words: cells, or an ordered dictionary.
 #![tactic(auto)]
 
+mod balance;
 mod blamed;
 mod close;
 mod dictionary;

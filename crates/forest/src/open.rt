@@ -3,14 +3,16 @@ ghost use Rattle.std.specs.Prelude.{◌≡◌, ◌≤◌, ◌+◌, true, false, 
 ghost use Rattle.arena.specs.Machines.{IsRun};
 ghost use Rattle.dict.specs.Calls.{AsksForPairs};
 ghost use Rattle.ordered_map.specs.CallRules.{most_steps};
+ghost use Rattle.template.specs.Balance.{nodes_by};
 ghost use Rattle.dict.specs.Typed.{TypedAllows};
 ghost use Rattle.dict.specs.Words.{IsWordOf};
 ghost use Rattle.ordered_map.specs.Requests.{AsksForFew, as_map_call};
-ghost use Rattle.forest.specs.Dictionary.{HasCalled};
+ghost use Rattle.forest.specs.Dictionary.{HasCalledIn};
 ghost use Rattle.forest.specs.Opened.{HasStepped, IsSameOpen, pass_now};
 ghost use Rattle.forest.specs.Passes.{Ground, IsOf, run_of, steps_of};
 ghost use Rattle.forest.specs.Traces.{shared_nodes};
 
+use crate::balance::in_trie;
 use crate::blamed::Blamed;
 use crate::forest::Forest;
 use crate::pass::Pass;
@@ -24,6 +26,7 @@ use std::alloc::Global;
 use std::fmt;
 use std::marker::{Model, PhantomData};
 use std::snapshot::Snapshot;
+use template::{ByOrder, FixedBalance};
 
 /// What a step of a call leaves.
 #[derive(Clone, Copy, Debug, PartialEq, Eq)]
@@ -37,7 +40,7 @@ pub enum Stepped {
 /// A call that has begun, with its pass: `step` makes one atomic step, and `finish`, once a step
 /// has returned `Done`, gives pass and reply.
 #[derive(Drop)]
-pub struct OpenCall<K: WordKey, V: WordValue> {
+pub struct OpenCall<K: WordKey, V: WordValue, B: FixedBalance = ByOrder> {
     number: PassNo,
     layout: Layout,
     seat: Seat<u8, SeatView>,
@@ -48,10 +51,10 @@ pub struct OpenCall<K: WordKey, V: WordValue> {
     turn: Turn<Reply<K, V>>,
     over: bool,
     /// The pass as the call began. Only proofs read it: no bytes are kept.
-    began: Snapshot<Pass<Dict<K, V>>>,
+    began: Snapshot<Pass<Dict<K, V, B>>>,
 }
 
-impl<K: WordKey, V: WordValue> Model for OpenCall<K, V> {
+impl<K: WordKey, V: WordValue, B: FixedBalance> Model for OpenCall<K, V, B> {
     ghost use Rattle.forest.specs.Opened.{OpenView};
 
     ghost Value = { OpenView };
@@ -60,17 +63,17 @@ impl<K: WordKey, V: WordValue> Model for OpenCall<K, V> {
 
     ghost view = { open_view };
 
-    ghost invariant = { IsOpen K.is_valid K.word_of V.is_valid V.word_of };
+    ghost invariant = { IsOpen K.is_valid K.word_of V.is_valid V.word_of (B.trie B.the) };
 }
 
-impl<K: WordKey, V: WordValue> Forest<Dict<K, V>> {
+impl<K: WordKey, V: WordValue, B: FixedBalance> Forest<Dict<K, V, B>> {
     /// Begins a call with this pass, which it keeps until it is finished. It has made no step yet.
     pub fn open(
         &self,
         alloc: Global,
-        pass: Pass<Dict<K, V>>,
+        pass: Pass<Dict<K, V, B>>,
         request: Request<K, V>,
-    ) -> OpenCall<K, V>
+    ) -> OpenCall<K, V, B>
         requires pass { IsOf self.now pass }
         requires few { AsksForFew request }
         ensures began { result.began ≡ pass }
@@ -79,7 +82,7 @@ impl<K: WordKey, V: WordValue> Forest<Dict<K, V>> {
         ensures tries { result.tries ≡ self.now.tries }
         ensures none { (result.made ≡ 0) × (result.over ≡ false) }
         ensures left { result.left ≤ most_steps result.call result.tries
-            (shared_nodes self.now.layout) }
+            (nodes_by (B.trie B.the) (shared_nodes self.now.layout)) }
     {
         let began = Snapshot::of(&pass);
         let call = pass.taken();
@@ -91,8 +94,15 @@ impl<K: WordKey, V: WordValue> Forest<Dict<K, V>> {
             blamed,
             shape: _,
         } = pass;
-        let mut run = DictRun::new(Some(alloc), request, share, self.tries, call, false);
-        let turn = Machine::<Dict<K, V>>::next(&mut run, None);
+        let mut run = DictRun::new(
+            Some(alloc),
+            request,
+            share,
+            self.tries,
+            call,
+            in_trie::<B>(),
+        );
+        let turn = Machine::<Dict<K, V, B>>::next(&mut run, None);
         OpenCall {
             number,
             layout,
@@ -107,9 +117,9 @@ impl<K: WordKey, V: WordValue> Forest<Dict<K, V>> {
     }
 }
 
-impl<K: WordKey, V: WordValue> OpenCall<K, V> {
+impl<K: WordKey, V: WordValue, B: FixedBalance> OpenCall<K, V, B> {
     /// Makes the next atomic step of the call, which is of this forest.
-    pub fn step(&mut self, forest: &Forest<Dict<K, V>>) -> Stepped
+    pub fn step(&mut self, forest: &Forest<Dict<K, V, B>>) -> Stepped
         requires forest { IsOf forest.now self.old.began }
         requires goes { self.old.over ≡ false }
         ensures same { IsSameOpen self.old self.new }
@@ -128,7 +138,7 @@ impl<K: WordKey, V: WordValue> OpenCall<K, V> {
             layout: &layout,
             number: self.call,
         };
-        self.turn = advance::<Dict<K, V>, DictRun<K, V>, Dict<K, V>, DictRun<K, V>>(
+        self.turn = advance::<Dict<K, V, B>, DictRun<K, V>, Dict<K, V, B>, DictRun<K, V>>(
             hand,
             &mut self.seat,
             &mut self.run,
@@ -144,13 +154,13 @@ impl<K: WordKey, V: WordValue> OpenCall<K, V> {
     }
 
     /// Gives the pass back, and what the call replies.
-    pub fn finish(self) -> (Pass<Dict<K, V>>, Reply<K, V>)
+    pub fn finish(self) -> (Pass<Dict<K, V, B>>, Reply<K, V>)
         requires over { self.over ≡ true }
         ensures pass { (f : Ground) → IsOf f self.began → IsOf f result.0 }
         ensures known { result.0.known ≡ self.known }
         ensures made { steps_of result.0 ≡ steps_of self.began + self.made }
         ensures called { (f : Ground) → IsOf f self.began → self.tries ≡ f.tries →
-            HasCalled K.is_valid K.word_of V.is_valid V.word_of f
+            HasCalledIn (B.trie B.the) K.is_valid K.word_of V.is_valid V.word_of f
             self.began result.0 self.call result.1 }
     {
         let OpenCall {
@@ -181,7 +191,7 @@ impl<K: WordKey, V: WordValue> OpenCall<K, V> {
     }
 }
 
-impl<K: WordKey, V: WordValue> fmt::Debug for OpenCall<K, V> {
+impl<K: WordKey, V: WordValue, B: FixedBalance> fmt::Debug for OpenCall<K, V, B> {
     fn fmt<W: fmt::Write>(&self, f: &mut fmt::Formatter<W>) -> fmt::Result {
         f.debug_struct("OpenCall")
             .field("pass", &self.number.0)

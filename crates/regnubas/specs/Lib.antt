@@ -26,6 +26,7 @@ pub use Rattle.ordered_map.specs.Runs
 pub use Rattle.ordered_map.specs.Spelled
 pub use Rattle.ordered_map.specs.Strays
 pub use Rattle.ordered_map.specs.TreeWords
+pub use Rattle.template.specs.Balance
 pub use Rattle.dict.specs.Calls
 pub use Rattle.dict.specs.Names
 pub use Rattle.dict.specs.Says

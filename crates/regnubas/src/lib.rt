@@ -20,6 +20,11 @@
 //!     map.close(passes).pairs(alloc)?           // []
 //!     map.end(pass).pairs(alloc)?               // or so, by one pass: the others may be gone
 //!
+//! A dictionary of the other shape, a trie, no leaf of which is deeper than 66 below its root. It has
+//! the same calls, which say the same:
+//!
+//!     let (map, passes) = Forest::<Trie<u64, u64>>::new(alloc, limits)?;
+//!
 //! A call one atomic step at a time; here of the empty map, whose root has one leaf on its left:
 //!
 //!     let mut call = map.open(alloc, pass, Request::Get { key: 5 });
@@ -42,7 +47,9 @@ mod laws;
 pub use arena::{
     BadLimits, Full, Kind, Limits, NoMemory, NodeNo, PassNo, Resource, ScxNo, Shape, Side,
 };
-pub use dict::{Dict, Name8, Reply, Request, WordKey, WordValue};
+pub use dict::{
+    ByBits, ByOrder, Dict, FixedBalance, Name8, Reply, Request, Trie, WordKey, WordValue,
+};
 pub use forest::{Closed, Forest, NewFault, OpenCall, OrderFault, Pass, Stepped, UpdateFault};
 pub use laws::version_laws_hold;
 pub use ordered_map::{laws_hold, map_laws_hold, trie_laws_hold};

@@ -1,10 +1,11 @@
 //! Edits and ordered reads of a dictionary.
-ghost use Rattle.std.specs.Prelude.{◌≡◌, ◌≤◌, ◌<◌, ◌+◌, ◌-◌, ◌*◌, ℕ, false, []};
+ghost use Rattle.std.specs.Prelude.{◌≡◌, ◌≤◌, ◌<◌, ◌+◌, ◌-◌, ◌*◌, ℕ, []};
 ghost use Rattle.arena.specs.Machines.{Call};
 ghost use Rattle.arena.specs.Share.{Remaining};
 ghost use Rattle.dict.specs.Calls.{AsksForPairs, IsSmallCall, edit_call};
 ghost use Rattle.dict.specs.Says.{KeepsLists};
 ghost use Rattle.ordered_map.specs.CallRules.{most_steps};
+ghost use Rattle.template.specs.Balance.{nodes_by};
 ghost use Rattle.ordered_map.specs.OrderedMap.{Neighbour as NeighbourOf};
 ghost use Rattle.ordered_map.specs.Requests.{as_map_call};
 ghost use Rattle.order.specs.Range.{range_means, range_try_left};
@@ -16,6 +17,7 @@ ghost use Rattle.forest.specs.Seats.{StaysAtTable};
 ghost use Rattle.forest.specs.Traces.{shared_nodes};
 ghost use Rattle.forest.specs.StraightCalls.{CallHasEnded, SeatCallBegins};
 
+use crate::balance::in_trie;
 use crate::straight::hand::Hand;
 use crate::straight::{ordered_read, update};
 use crate::view::SeatView;
@@ -24,6 +26,7 @@ use atomic_table::Seat;
 use dict::{Dict, DictRun, Reply, Request, WordKey, WordValue, of_neighbour, of_range, of_update};
 use order::{Neighbour, Range, RangeRun};
 use std::alloc::Global;
+use template::FixedBalance;
 use tree::{EditGoal, EditRule, KeyEdit};
 
 /// The most forks that there are as a rule from the root to a leaf.
@@ -31,8 +34,8 @@ const DEEP: usize = 32;
 
 /// Makes an edit with `tries` tries and this share, and returns what is left of that.
 #[inline(always)]
-pub(crate) fn make<K: WordKey, V: WordValue, G: EditGoal, R: EditRule>(
-    hand: Hand<Dict<K, V>>,
+pub(crate) fn make<K: WordKey, V: WordValue, B: FixedBalance, G: EditGoal, R: EditRule>(
+    hand: Hand<Dict<K, V, B>>,
     seat: &mut Seat<u8, SeatView>,
     share: Share,
     tries: u32,
@@ -41,21 +44,21 @@ pub(crate) fn make<K: WordKey, V: WordValue, G: EditGoal, R: EditRule>(
     requires table { IsAt hand seat.old }
     requires tries { 0 < tries }
     requires small { IsSmallCall (edit_call G.goal R.rule edit) }
-    requires tree { G.trie edit.goal ≡ false }
+    requires in_trie { G.trie edit.goal ≡ B.trie B.the }
     requires begins { (c : Call) × IsCallOf hand c
-        × SeatCallBegins K.is_valid K.word_of V.is_valid V.word_of c
+        × SeatCallBegins K.is_valid K.word_of V.is_valid V.word_of (B.trie B.the) c
         seat.old.me.0.passes (edit_call G.goal R.rule edit) share tries hand.number }
     ensures table { StaysAtTable seat.old seat.new }
     ensures ends { (c : Call) → IsCallOf hand.entry c
-        → SeatCallBegins K.is_valid K.word_of V.is_valid V.word_of c
+        → SeatCallBegins K.is_valid K.word_of V.is_valid V.word_of (B.trie B.the) c
         seat.old.me.0.passes (edit_call G.goal R.rule edit) share tries hand.entry.number
-        → CallHasEnded K.is_valid K.word_of V.is_valid V.word_of c seat.new.me.0.passes
+        → CallHasEnded K.is_valid K.word_of V.is_valid V.word_of (B.trie B.the) c seat.new.me.0.passes
         (edit_call G.goal R.rule edit) share tries hand.entry.number result.1 result.0 }
     ensures steps { steps_made seat.new ≤ steps_made seat.old + most_steps (edit_call G.goal R.rule edit) tries
-        (shared_nodes hand.entry.layout.now) }
+        (nodes_by (B.trie B.the) (shared_nodes hand.entry.layout.now)) }
 {
     let goal = edit.goal.goal();
-    let (updated, share) = update::make::<Dict<K, V>, DictRun<K, V>, KeyEdit<G, R>>(
+    let (updated, share) = update::make::<Dict<K, V, B>, DictRun<K, V>, KeyEdit<G, R>>(
         hand, seat, edit, share, tries,
     );
     (of_update(goal, updated), share)
@@ -65,7 +68,7 @@ pub(crate) fn make<K: WordKey, V: WordValue, G: EditGoal, R: EditRule>(
 /// forks above them and on the way to them. Where that is refused, its lists grow as they are
 /// filled.
 #[inline(always)]
-fn range_run(alloc: Global, low: u64, high: u64, most: usize, tries: u32) -> RangeRun
+fn range_run(alloc: Global, low: u64, high: u64, most: usize, tries: u32, trie: bool) -> RangeRun
     ensures low { result.read.low ≡ low }
     ensures high { result.read.high ≡ high }
     ensures most { result.read.most ≡ most }
@@ -73,11 +76,11 @@ fn range_run(alloc: Global, low: u64, high: u64, most: usize, tries: u32) -> Ran
     ensures snaps { result.snaps.items ≡ [] }
     ensures limit { result.limit ≡ tries }
     ensures tries { result.tries ≡ tries - 1 }
-    ensures tree { result.trie ≡ false }
+    ensures trie { result.trie ≡ trie }
     ensures bound { (nodes : ℕ) → 0 < tries → read_left range_means result nodes
         ≤ tries * range_try_left most nodes }
 {
-    let mut run = Range::run(alloc, low, high, most, tries, false);
+    let mut run = Range::run(alloc, low, high, most, tries, trie);
     let pairs = most.min(64);
     let _ = run.read.taken.reserve(pairs);
     let _ = run.snaps.reserve(pairs + DEEP);
@@ -88,8 +91,8 @@ fn range_run(alloc: Global, low: u64, high: u64, most: usize, tries: u32) -> Ran
 /// Looks with so many tries for the pair beside a key on this side, and takes nothing of a share. What
 /// it keeps grows with this allocator.
 #[inline(always)]
-fn neighbour<K: WordKey, V: WordValue>(
-    hand: Hand<Dict<K, V>>,
+fn neighbour<K: WordKey, V: WordValue, B: FixedBalance>(
+    hand: Hand<Dict<K, V, B>>,
     seat: &mut Seat<u8, SeatView>,
     alloc: Global,
     tries: u32,
@@ -99,29 +102,29 @@ fn neighbour<K: WordKey, V: WordValue>(
     requires table { IsAt hand seat.old }
     requires tries { 0 < tries }
     requires begins { (c : Call) × (share : Remaining) × IsCallOf hand c
-        × SeatCallBegins K.is_valid K.word_of V.is_valid V.word_of c
+        × SeatCallBegins K.is_valid K.word_of V.is_valid V.word_of (B.trie B.the) c
         seat.old.me.0.passes (NeighbourOf side (K.word_of key)) share tries hand.number }
     ensures table { StaysAtTable seat.old seat.new }
     ensures ends { (c : Call) (share : Remaining) → IsCallOf hand.entry c
-        → SeatCallBegins K.is_valid K.word_of V.is_valid V.word_of c
+        → SeatCallBegins K.is_valid K.word_of V.is_valid V.word_of (B.trie B.the) c
         seat.old.me.0.passes (NeighbourOf side (K.word_of key)) share tries hand.entry.number
-        → CallHasEnded K.is_valid K.word_of V.is_valid V.word_of c seat.new.me.0.passes
+        → CallHasEnded K.is_valid K.word_of V.is_valid V.word_of (B.trie B.the) c seat.new.me.0.passes
         (NeighbourOf side (K.word_of key)) share tries hand.entry.number share result }
     ensures steps { steps_made seat.new
         ≤ steps_made seat.old + most_steps (NeighbourOf side (K.word_of key)) tries
-        (shared_nodes hand.entry.layout.now) }
+        (nodes_by (B.trie B.the) (shared_nodes hand.entry.layout.now)) }
 {
     key.valid();
-    let mut run = Neighbour::run(alloc, key.word(), side, tries, false);
-    let told = ordered_read::call::<Dict<K, V>, DictRun<K, V>, Neighbour>(hand, seat, &mut run);
+    let mut run = Neighbour::run(alloc, key.word(), side, tries, in_trie::<B>());
+    let told = ordered_read::call::<Dict<K, V, B>, DictRun<K, V>, Neighbour>(hand, seat, &mut run);
     of_neighbour(told)
 }
 
 /// Makes an ordered read with `tries` tries, which takes nothing of a share. What it keeps grows
 /// with this allocator.
 #[inline(always)]
-pub(crate) fn read<K: WordKey, V: WordValue>(
-    hand: Hand<Dict<K, V>>,
+pub(crate) fn read<K: WordKey, V: WordValue, B: FixedBalance>(
+    hand: Hand<Dict<K, V, B>>,
     seat: &mut Seat<u8, SeatView>,
     alloc: Global,
     tries: u32,
@@ -131,17 +134,17 @@ pub(crate) fn read<K: WordKey, V: WordValue>(
     requires tries { 0 < tries }
     requires ordered { KeepsLists (as_map_call K.word_of V.word_of request) }
     requires begins { (c : Call) × (share : Remaining) × IsCallOf hand c
-        × SeatCallBegins K.is_valid K.word_of V.is_valid V.word_of c
+        × SeatCallBegins K.is_valid K.word_of V.is_valid V.word_of (B.trie B.the) c
         seat.old.me.0.passes (as_map_call K.word_of V.word_of request) share tries hand.number }
     ensures table { StaysAtTable seat.old seat.new }
     ensures ends { (c : Call) (share : Remaining) → IsCallOf hand.entry c
-        → SeatCallBegins K.is_valid K.word_of V.is_valid V.word_of c
+        → SeatCallBegins K.is_valid K.word_of V.is_valid V.word_of (B.trie B.the) c
         seat.old.me.0.passes (as_map_call K.word_of V.word_of request) share tries hand.entry.number
-        → CallHasEnded K.is_valid K.word_of V.is_valid V.word_of c seat.new.me.0.passes
+        → CallHasEnded K.is_valid K.word_of V.is_valid V.word_of (B.trie B.the) c seat.new.me.0.passes
         (as_map_call K.word_of V.word_of request) share tries hand.entry.number share result }
     ensures steps { steps_made seat.new
         ≤ steps_made seat.old + most_steps (as_map_call K.word_of V.word_of request) tries
-        (shared_nodes hand.entry.layout.now) }
+        (nodes_by (B.trie B.the) (shared_nodes hand.entry.layout.now)) }
     ensures nothing { ¬ AsksForPairs (as_map_call K.word_of V.word_of request) → seat.new ≡ seat.old }
 {
     match request {
@@ -149,8 +152,17 @@ pub(crate) fn read<K: WordKey, V: WordValue>(
         Request::Predecessor { key } => neighbour(hand, seat, alloc, tries, key, Side::Left),
         Request::Range { low, high, most } => {
             high.valid();
-            let mut run = range_run(alloc, low.word(), high.word(), most as usize, tries);
-            let told = ordered_read::call::<Dict<K, V>, DictRun<K, V>, Range>(hand, seat, &mut run);
+            let mut run = range_run(
+                alloc,
+                low.word(),
+                high.word(),
+                most as usize,
+                tries,
+                in_trie::<B>(),
+            );
+            let told = ordered_read::call::<Dict<K, V, B>, DictRun<K, V>, Range>(
+                hand, seat, &mut run,
+            );
             of_range(alloc, told)
         }
         // Never: its callers make ordered reads alone, by the clause `ordered`.

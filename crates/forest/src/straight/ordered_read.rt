@@ -1,7 +1,7 @@
 //! Ordered reads, of whatever machine makes one: the first try inline, as long as nothing is in its
 //! way. If something is, or has happened between, the machine of the read continues from there;
 //! until then its place is left as it was.
-ghost use Rattle.std.specs.Prelude.{◌≡◌, suc, false, Ok};
+ghost use Rattle.std.specs.Prelude.{◌≡◌, suc, Ok};
 ghost use Rattle.forest.specs.StraightReads.{ReadEnds, ReadGoesOn, Reader, ReaderBegins, ReaderEnds, ReaderLooksAgain, ReaderRoots, StandsToRead, again_left, root_left};
 ghost use Rattle.forest.specs.Hands.{IsAt, hand_calls};
 ghost use Rattle.forest.specs.Hosts.{Host, HostedEnds, HostedIsTold, HostedWaits, inner_machine};
@@ -448,7 +448,41 @@ fn from_root<S: Shape, M: Machine<S>, R: Read + Drop>(
     go_on::<S, M, R>(hand, seat, run, first)
 }
 
-/// Makes an ordered read: its first try inline. A function of its own, as that of an update.
+/// Makes a whole read, as its machine does.
+#[inline(never)]
+fn by_machine<S: Shape, M: Machine<S>, R: Read + Drop>(
+    hand: Hand<S>,
+    seat: &mut Seat<u8, SeatView>,
+    run: &mut ReadRun<R>,
+) -> Result<R::Answer, Refused>
+    requires table { IsAt hand seat.old }
+    requires begins { (r : Reader (hand_calls S.Shape M.Machine hand) R.means)
+        × ReaderBegins r seat.old.me.0.passes run.old }
+    ensures leads { Leads seat.old seat.new (read_left R.means run.old
+        (nodes_by run.old.trie (shared_nodes hand.entry.layout.now)))
+        (λ (r : Reader (hand_calls S.Shape M.Machine hand.entry) R.means) ps.
+        ReaderBegins r ps run.old)
+        (λ r ps. ReaderEnds r ps run.new result) }
+    ensures nothing { ¬ R.means.asks (R.means.call run.old.read) → seat.new ≡ seat.old }
+{
+    match run.step(None) {
+        Turn::Done(answer) => answer,
+        Turn::Ask(asked) => {
+            let turn = Turn::Ask(asked);
+            complete::<S, M, Tree, ReadRun<R>>(
+                hand.words,
+                hand.layout,
+                seat,
+                hand.number,
+                run,
+                turn,
+            )
+        }
+    }
+}
+
+/// Makes an ordered read: its first try inline. A function of its own, as that of an update. In a
+/// trie, where not each fork counts at which it turns, its machine makes it.
 #[inline(never)]
 pub(crate) fn call<S: Shape, M: Machine<S>, R: Read + Drop>(
     hand: Hand<S>,
@@ -458,7 +492,6 @@ pub(crate) fn call<S: Shape, M: Machine<S>, R: Read + Drop>(
     requires table { IsAt hand seat.old }
     requires begins { (r : Reader (hand_calls S.Shape M.Machine hand) R.means)
         × ReaderBegins r seat.old.me.0.passes run.old }
-    requires tree { run.old.trie ≡ false }
     ensures leads { Leads seat.old seat.new (read_left R.means run.old
         (nodes_by run.old.trie (shared_nodes hand.entry.layout.now)))
         (λ (r : Reader (hand_calls S.Shape M.Machine hand.entry) R.means) ps.
@@ -466,6 +499,9 @@ pub(crate) fn call<S: Shape, M: Machine<S>, R: Read + Drop>(
         (λ r ps. ReaderEnds r ps run.new result) }
     ensures nothing { ¬ R.means.asks (R.means.call run.old.read) → seat.new ≡ seat.old }
 {
+    if run.trie {
+        return by_machine::<S, M, R>(hand, seat, run);
+    }
     match run.start() {
         ReadBegin::Walk { key, side } => {
             let (_, turns) = walk::to_goal::<S, M>(hand, seat, Way::InTree, Goal::Key(key));

@@ -9,18 +9,24 @@ use Rattle.forest.specs.Traces.{shared_nodes}
 use Rattle.forest.proofs.StraightReads.{ends_at_once, root_in_try, roots, walk_in_try, walk_looks, walker, walks}
 use Rattle.forest.proofs.straight.ordered_read.call.Goals as goal
 
+pub returns-then-run-clause-leads : goal.returns-then-run-clause-leads
+returns-then-run-clause-leads g c = c.by_machine.ensures.leads
+
+pub returns-then-run-clause-nothing : goal.returns-then-run-clause-nothing
+returns-then-run-clause-nothing g c = c.by_machine.ensures.nothing
+
 pub to_goal-requires-clause-waits : goal.to_goal-requires-clause-waits
-to_goal-requires-clause-waits g c = let b = c.requires.begins in (walker b.0 c.start.new.self c.in-Walk.key c.in-Walk.side c.in-Walk.ensures.begins (c.start.ensures.same.4 ∙ c.requires.tree), walks b.0 c.start.new.self c.in-Walk.key c.in-Walk.side c.in-Walk.ensures.begins (c.start.ensures.same.4 ∙ c.requires.tree) _ c.args.run.now c.start.ensures.same c.start.ensures.tries c.start.ensures.empty b.1)
+to_goal-requires-clause-waits g c = let b = c.requires.begins in (walker b.0 c.start.new.self c.in-Walk.key c.in-Walk.side c.in-Walk.ensures.begins (c.start.ensures.same.4 ∙ c.if-run.false), walks b.0 c.start.new.self c.in-Walk.key c.in-Walk.side c.in-Walk.ensures.begins (c.start.ensures.same.4 ∙ c.if-run.false) _ c.args.run.now c.start.ensures.same c.start.ensures.tries c.start.ensures.empty b.1)
 
 pub go_on-requires-clause-waits : goal.go_on-requires-clause-waits
-go_on-requires-clause-waits g c = let b = c.requires.begins in (b.0, rw (c.children-children.ensures, c.to-node.ensures) (walk_looks b.0 c.start.new.self c.in-Walk.key c.in-Walk.side c.in-Walk.ensures.begins (c.start.ensures.same.4 ∙ c.requires.tree) _ c.to_goal.result.0 c.to_goal.result.1 (c.to_goal.ensures.finds (walker b.0 c.start.new.self c.in-Walk.key c.in-Walk.side c.in-Walk.ensures.begins (c.start.ensures.same.4 ∙ c.requires.tree)) (walks b.0 c.start.new.self c.in-Walk.key c.in-Walk.side c.in-Walk.ensures.begins (c.start.ensures.same.4 ∙ c.requires.tree) _ c.args.run.now c.start.ensures.same c.start.ensures.tries c.start.ensures.empty b.1))))
+go_on-requires-clause-waits g c = let b = c.requires.begins in (b.0, rw (c.children-children.ensures, c.to-node.ensures) (walk_looks b.0 c.start.new.self c.in-Walk.key c.in-Walk.side c.in-Walk.ensures.begins (c.start.ensures.same.4 ∙ c.if-run.false) _ c.to_goal.result.0 c.to_goal.result.1 (c.to_goal.ensures.finds (walker b.0 c.start.new.self c.in-Walk.key c.in-Walk.side c.in-Walk.ensures.begins (c.start.ensures.same.4 ∙ c.if-run.false)) (walks b.0 c.start.new.self c.in-Walk.key c.in-Walk.side c.in-Walk.ensures.begins (c.start.ensures.same.4 ∙ c.if-run.false) _ c.args.run.now c.start.ensures.same c.start.ensures.tries c.start.ensures.empty b.1))))
 
 pub returns-in-Walk-clause-leads : goal.returns-in-Walk-clause-leads
 returns-in-Walk-clause-leads g c = record {
   table = (c.go_on.ensures.table.0 ∙ c.to_goal.ensures.table.0, c.go_on.ensures.table.1 ∙ c.to_goal.ensures.table.1);
-  to = λ r x. c.go_on.ensures.to r (rw (c.children-children.ensures, c.to-node.ensures) (walk_looks r c.start.new.self c.in-Walk.key c.in-Walk.side c.in-Walk.ensures.begins (c.start.ensures.same.4 ∙ c.requires.tree) _ c.to_goal.result.0 c.to_goal.result.1 (c.to_goal.ensures.finds (walker r c.start.new.self c.in-Walk.key c.in-Walk.side c.in-Walk.ensures.begins (c.start.ensures.same.4 ∙ c.requires.tree)) (walks r c.start.new.self c.in-Walk.key c.in-Walk.side c.in-Walk.ensures.begins (c.start.ensures.same.4 ∙ c.requires.tree) _ c.args.run.now c.start.ensures.same c.start.ensures.tries c.start.ensures.empty x))));
+  to = λ r x. c.go_on.ensures.to r (rw (c.children-children.ensures, c.to-node.ensures) (walk_looks r c.start.new.self c.in-Walk.key c.in-Walk.side c.in-Walk.ensures.begins (c.start.ensures.same.4 ∙ c.if-run.false) _ c.to_goal.result.0 c.to_goal.result.1 (c.to_goal.ensures.finds (walker r c.start.new.self c.in-Walk.key c.in-Walk.side c.in-Walk.ensures.begins (c.start.ensures.same.4 ∙ c.if-run.false)) (walks r c.start.new.self c.in-Walk.key c.in-Walk.side c.in-Walk.ensures.begins (c.start.ensures.same.4 ∙ c.if-run.false) _ c.args.run.now c.start.ensures.same c.start.ensures.tries c.start.ensures.empty x))));
   steps = (let b = c.requires.begins in walk_in_try g.R.Read.means c.args.run.now c.start.new.self c.start.ensures.same c.start.ensures.tries c.start.ensures.empty (b.0.tells c.args.run.now _ _ b.1.so.0).1 _ _ _ c.children-children.result c.to-node.result c.in-Walk.key _ c.in-Walk.side (c.in-Walk.ensures.nearer _)
-      (subst (λ t. steps_made c.to_goal.new.seat ≤ steps_made c.args.seat.now + (3 * (2 + nodes_by t (shared_nodes c.args.hand.layout.now)) + 5)) (sym c.requires.tree) c.to_goal.ensures.steps)
+      (subst (λ t. steps_made c.to_goal.new.seat ≤ steps_made c.args.seat.now + (3 * (2 + nodes_by t (shared_nodes c.args.hand.layout.now)) + 5)) (sym c.if-run.false) c.to_goal.ensures.steps)
       (subst (λ t. steps_made c.go_on.new.seat ≤ steps_made c.to_goal.new.seat + suc (read_left g.R.Read.means (placed c.start.new.self (LookNext c.children-children.result 0 c.to-node.result)) (nodes_by t (shared_nodes c.args.hand.layout.now)))) c.start.ensures.same.4 c.go_on.ensures.steps));
 }
 

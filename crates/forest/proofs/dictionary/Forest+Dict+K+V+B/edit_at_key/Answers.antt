@@ -1,4 +1,4 @@
-use Rattle.forest.proofs.dictionary.Forest+Dict+K+V.edit_at_key.Goals as goal
+use Rattle.forest.proofs.dictionary.Forest+Dict+K+V+B.edit_at_key.Goals as goal
 
 pub told_value-requires : goal.told_value-requires
 told_value-requires g c = record { form = c.edit.ensures.form }
