@@ -38,7 +38,7 @@ pub fn run<R: Threads + Wait + Sync, G: Gate>(
 }
 
 /// The same, of a tree or of a trie, as the type says.
-fn run_by<R: Threads + Wait + Sync, G: Gate, B: FixedBalance>(
+fn run_by<R: Threads + Wait + Sync, G: Gate, B: FixedBalance + Send>(
     rt: &R,
     alloc: Global,
     script: &Script,
@@ -56,7 +56,7 @@ fn run_by<R: Threads + Wait + Sync, G: Gate, B: FixedBalance>(
 }
 
 /// Each client makes its calls in a thread of its own.
-fn crowd<R: Threads + Wait + Sync, G: Gate, B: FixedBalance>(
+fn crowd<R: Threads + Wait + Sync, G: Gate, B: FixedBalance + Send>(
     rt: &R,
     alloc: Global,
     forest: &Forest<Numbers<B>>,

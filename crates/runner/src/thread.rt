@@ -41,7 +41,7 @@ impl<'a, B: FixedBalance> Promise<Worked<B>> for Duty<'a, B> {
 
 /// Starts a thread for each pass, and returns whether all were started. The only error is want of
 /// memory before the first.
-pub(crate) fn start_all<'s, E, G: Gate, B: FixedBalance>(
+pub(crate) fn start_all<'s, E, G: Gate, B: FixedBalance + Send>(
     alloc: Global,
     scope: &Scope<'s, E>,
     forest: &'s Forest<Numbers<B>>,
