@@ -18,8 +18,8 @@ loop-pass-preserved g c =
       tt,
       rest_too c.loop-pass.pass-iterator.rest.items c.next.new.self.rest.items c.in-Some.pass step (IsOf c.args.forest.now) inv.2,
       All-same (λ t. (t.promise.forest.now ≡ c.args.forest.now) × (t.promise.calls.now ≡ c.args.calls.now)) grown _ items
-          (All-push (λ t. (t.promise.forest.now ≡ c.args.forest.now) × (t.promise.calls.now ≡ c.args.calls.now)) threads t inv.3 (ap (λ (d : Duty). d.forest.now) duty, ap (λ (d : Duty). d.calls.now) duty)),
-      started threads grown t (λ t. t.promise.pass.value) c.in-Some.pass c.loop-pass.pass-iterator.rest.items c.next.new.self.rest.items _ items (ap (λ (d : Duty). d.pass.value) duty ∙ c.of-pass_then.ensures) step inv.4,
+          (All-push (λ t. (t.promise.forest.now ≡ c.args.forest.now) × (t.promise.calls.now ≡ c.args.calls.now)) threads t inv.3 (ap (λ (d : Duty _). d.forest.now) duty, ap (λ (d : Duty _). d.calls.now) duty)),
+      started threads grown t (λ t. t.promise.pass.value) c.in-Some.pass c.loop-pass.pass-iterator.rest.items c.next.new.self.rest.items _ items (ap (λ (d : Duty _). d.pass.value) duty ∙ c.of-pass_then.ensures) step inv.4,
       (let room = inv.5 in
           let capacity = c.in-Ok-push.ensures.capacity in
           let long : length grown ≡ length threads + 1 = ap length items ∙ length-append threads (t ∷ []) in
