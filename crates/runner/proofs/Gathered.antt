@@ -40,6 +40,15 @@ worked_of f calls [] [] (r ∷ owns) h = absurd h
 worked_of f calls (o ∷ olds) [] owns h = absurd h
 worked_of f calls (o ∷ olds) (n ∷ news) [] h = absurd h
 
+-- what is of the forest at each place is so at all
+all_of : (f : Ground) (ps : List PassView) → ((j : ℕ) (d : PassView) → slice_get ps j ≡ Some d → IsOf f d) → All (IsOf f) ps
+all_of f [] each = All-nil (IsOf f)
+all_of f (p ∷ ps) each = All-cons (IsOf f) p ps (each 0 p refl) (all_of f ps (λ j d is. each (suc j) d is))
+
+-- new passes are of the forest
+pub are_of : (f : Ground) (ps : List PassView) → AreNew f ps → All (IsOf f) ps
+are_of f ps new = all_of f ps (λ j d is. subst (IsOf f) (sym (new.each j d is)) (refl, refl))
+
 -- what is at a place
 pub record WorkedAt (f : Ground) (calls : List Call) (olds news : List PassView) (c : ℕ) (own : List (Reply ℕ ℕ)) : Type 0 where
   pub old : PassView
