@@ -100,8 +100,8 @@ fn is_leaf(word: u64) -> bool
     word / 4 % 2 == 1
 }
 
-/// Whether the head in this word is that of a fork whose key the walk loads: of class 0. It is one test,
-/// since most nodes on the way are such forks.
+/// Whether the head in this word is that of a fork whose key the walk loads: of class 0. It is one
+/// test, since most nodes on the way are such forks.
 #[inline(always)]
 fn asks_key(goal: Goal, word: u64) -> bool
     ensures fork { result ≡ true → (head_of word).leaf ≡ false }
@@ -522,8 +522,8 @@ fn pass_last<S: Shape, M: Machine<S>>(
     Ok(Side::Left)
 }
 
-/// Whether a walk to the last pair goes right at a node with the head in this word: it does at forks of
-/// class 0, and left at the others, without a key.
+/// Whether a walk to the last pair goes right at a node with the head in this word: it does at forks
+/// of class 0, and left at the others, without a key.
 #[inline(always)]
 fn goes_right(word: u64) -> bool
     ensures fork { result ≡ true → (head_of word).leaf ≡ false }
@@ -594,8 +594,8 @@ fn descend<S: Shape, M: Machine<S>>(
     }
 }
 
-/// Goes right as long as a walk to the last pair does so, in a loop of its own: there the compiler knows
-/// the side, as it does behind the loop. Answers where it is then, and the head there.
+/// Goes right as long as a walk to the last pair does so, in a loop of its own: there the compiler
+/// knows the side, as it does behind the loop. Answers where it is then, and the head there.
 #[inline(always)]
 fn descend_right<S: Shape, M: Machine<S>>(
     hand: Hand<S>,
