@@ -39,7 +39,7 @@ typedef struct regnubas_pass {
 /* What each pass may take in the life of the dictionary. */
 typedef struct regnubas_limits {
     uint32_t nodes; /* 0 to 32768: a change takes 1 in a try; the first key, or a new one in a
-                     * full leaf, 3 */
+                     * full leaf, 3; in a trie a new one far from all others, 2 */
     uint32_t scx;   /* 0 to 32768: a change takes 1 in a try */
     uint32_t tries; /* 1 to 1000: of a call */
 } regnubas_limits;
@@ -81,7 +81,7 @@ enum {
     REGNUBAS_SHARED = 7     /* not closed: other passes have not left; not ended: some are missing */
 };
 
-/* Makes a dictionary with `count` passes, 1 to 32: as many threads may work at a time. NONE; or
+/* Makes a dictionary, a tree, with `count` passes, 1 to 32: as many threads may work at a time. NONE; or
  * LIMITS or NO_MEMORY: then the passes are as they were. A pass that was held there before leaves. */
 uint32_t regnubas_make(regnubas_limits each, regnubas_pass *passes, size_t count);
 

@@ -279,6 +279,17 @@ void both_words() {
     CHECK(is(regnubas_close(&pass, &pair, 1), REGNUBAS_SOME, 0));
 }
 
+// A key far from all others takes two nodes in a trie, and one in a tree.
+void a_far_key(uint32_t (*make)(regnubas_limits, regnubas_pass *, size_t), uint32_t nodes) {
+    regnubas_pass pass = {};
+    CHECK(make({20, 20, 1}, &pass, 1) == REGNUBAS_NONE);
+    for (uint64_t key = 1; key <= 5; key++) CHECK(is(regnubas_insert(&pass, key, {key, 0}), REGNUBAS_NONE, ZERO));
+    CHECK(regnubas_left(&pass).nodes == 11);
+    CHECK(is(regnubas_insert(&pass, uint64_t{1} << 63, {6, 0}), REGNUBAS_NONE, ZERO));
+    CHECK(regnubas_left(&pass).nodes == 11 - nodes);
+    regnubas_leave(&pass);
+}
+
 } // namespace
 
 int main(int argc, char **argv) {
@@ -286,6 +297,8 @@ int main(int argc, char **argv) {
     shares();
     both_words();
     two_dictionaries();
+    a_far_key(regnubas_make, 1);
+    a_far_key(regnubas_make_trie, 2);
     for (int rounds = argc > 1 ? std::atoi(argv[1]) : 1; rounds > 0; rounds--) {
         keys_and_counter(regnubas_make, close_all);
         keys_and_counter(regnubas_make_trie, end_all);

@@ -98,6 +98,15 @@ void limits_are_reckoned() {
     CHECK(pass::try_make(1, regnubas::limits_for(32769, 0)).why() == status::limits);
 }
 
+// A key far from all others takes two nodes in a trie, and one in a tree.
+void a_far_key(regnubas::shape is, std::uint32_t nodes) {
+    auto passes = pass::make(1, {20, 20, 1}, is);
+    for (regnubas::key k = 1; k <= 5; k++) passes[0].insert(k, k);
+    const std::uint32_t before = passes[0].left().nodes;
+    passes[0].insert(1ull << 63, 6);
+    CHECK(before - passes[0].left().nodes == nodes);
+}
+
 void threads_share_it(regnubas::shape is) {
     constexpr std::uint64_t THREADS = 4, KEYS = 700;
     auto passes = pass::make(THREADS, LIMITS, is);
@@ -123,6 +132,8 @@ int main() {
     pairs_are_gone_through();
     a_full_chunk_up_to_the_last_key();
     limits_are_reckoned();
+    a_far_key(regnubas::shape::tree, 1);
+    a_far_key(regnubas::shape::trie, 2);
     threads_share_it(regnubas::shape::tree);
     threads_share_it(regnubas::shape::trie);
     std::puts("each call, each refusal, ranges, limits, four threads");

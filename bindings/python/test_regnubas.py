@@ -74,6 +74,16 @@ def four_threads_and_a_close(passes):
     assert passes[0].close() == left[1:-1]
 
 
+def test_a_far_key_takes_two_nodes_in_a_trie():
+    for trie, nodes in (False, 1), (True, 2):
+        [one] = regnubas.make(1, nodes=20, scx=20, tries=1, trie=trie)
+        for key in range(1, 6):
+            one[key] = key
+        before, _ = one.left()
+        one[2**63] = 6
+        assert before - one.left()[0] == nodes
+
+
 def test_what_is_refused():
     refused(regnubas.BadLimits, regnubas.make, 33, nodes=1, scx=1, tries=1)
     refused(OverflowError, regnubas.make, 1, nodes=2**32, scx=1, tries=1)

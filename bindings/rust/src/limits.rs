@@ -13,7 +13,7 @@
 #[derive(Clone, Copy, Debug, PartialEq, Eq)]
 pub struct Limits {
     /// 0 to 32,768. A change takes a node in a try; the first key, or a new one in a full leaf,
-    /// three.
+    /// three; in a trie a new one far from all others, two.
     pub nodes: u32,
     /// 0 to 32,768 SCX-records. A change takes one in a try.
     pub scx: u32,

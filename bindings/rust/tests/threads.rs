@@ -76,6 +76,22 @@ fn work_and_close(passes: Vec<Pass>) {
     );
 }
 
+/// How many nodes a key takes that is far from all others.
+fn far_key(mut pass: Pass) -> u32 {
+    for key in 1..=5 {
+        assert_eq!(pass.insert(key, key.into()), Ok(None));
+    }
+    let before = pass.left().nodes;
+    assert_eq!(pass.insert(1 << 63, 6), Ok(None));
+    before - pass.left().nodes
+}
+
+#[test]
+fn a_far_key_takes_two_nodes_in_a_trie() {
+    assert_eq!(far_key(make(1, MOST).unwrap().remove(0)), 1);
+    assert_eq!(far_key(make_trie(1, MOST).unwrap().remove(0)), 2);
+}
+
 #[test]
 fn what_is_refused() {
     assert_eq!(make(0, Limits { nodes: 1, scx: 1, tries: 1 }).err(), Some(Fault::Limits));
