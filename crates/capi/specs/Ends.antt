@@ -1,6 +1,6 @@
 -- What `end` says, which ends a dictionary by all its passes at once. The handles are given by what
 -- they hold.
-use Rattle.std.specs.Prelude.{◌≡◌, ◌<◌, ◌≤◌, ◌⊎◌, ℕ, Option, Some, None, IsSome, List, length, map, take}
+use Rattle.std.specs.Prelude.{◌≡◌, ◌<◌, ◌≤◌, ◌⊎◌, ℕ, true, Option, Some, None, IsSome, List, length, map, take}
 use Rattle.std.specs.Arc.{arc_value}
 use Rattle.std.specs.List.{All}
 use Rattle.std.specs.Option.{option_map}
@@ -8,6 +8,7 @@ use Rattle.arena.specs.declared.layout.Layout.{Layout}
 use Rattle.forest.specs.Passes.{Ground, PassView}
 use Rattle.capi.specs.Answers.{StandIn, counted, no_count}
 use Rattle.capi.specs.Left.{AreLeftByAll}
+use Rattle.capi.specs.Handles.{holds_trie}
 use Rattle.capi.specs.Made.{IsHeldOf}
 use Rattle.capi.specs.declared.answer.Count.{Count}
 use Rattle.capi.specs.declared.answer.KeyValue.{KeyValue}
@@ -40,6 +41,10 @@ pub record AreOfOne (held : List (Option OwnedPass)) : Type 0 where
 -- there are handles, and none is empty
 abbrev pub AreHeld : List (Option OwnedPass) → Type 0
 AreHeld held = (0 < length held) × All IsSome held
+
+-- a handle holds a pass of a trie
+abbrev pub IsOfTrie : Option OwnedPass → Type 0
+IsOfTrie held = holds_trie held ≡ true
 
 -- each handle has a pass of one dictionary, which has more passes than these
 pub record AreTooFew (held : List (Option OwnedPass)) : Type 0 where

@@ -20,8 +20,8 @@ IsHeldOf f (Some c) = arc_value (owner_of c) ≡ f
 abbrev pub pass_at : HandleSlot → Option PassView
 pass_at place = option_map pass_of place.handle.value
 
--- The limits are accepted, and there is one forest of them, of this mode. The handles hold all its passes, in
--- order, before their first steps.
+-- The limits are accepted, and there is one forest of them, of this mode. The handles hold all its
+-- passes, in order, before their first steps.
 pub record AreMade (mode : Mode) (limits : Limits) (places : List HandleSlot) : Type 0 where
   pub accepted : IsAccepted limits
   pub forest : Ground

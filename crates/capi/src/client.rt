@@ -21,7 +21,7 @@ pub enum OwnedPass {
 
 impl OwnedPass {
     ghost use Rattle.capi.specs.Answers.{HasClientCalled, BetweenSays};
-    ghost use Rattle.capi.specs.Owned.{owner_of, pass_of};
+    ghost use Rattle.capi.specs.Owned.{in_trie, owner_of, pass_of};
 
     /// The value of a key.
     pub fn get(&mut self, key: u64) -> Option<u128>
@@ -198,7 +198,9 @@ impl OwnedPass {
     }
 
     /// Whether it is of a trie.
-    pub fn is_trie(&self) -> bool {
+    pub fn is_trie(&self) -> bool
+        ensures { result ≡ in_trie self.now }
+    {
         matches!(self, OwnedPass::Trie(_))
     }
 

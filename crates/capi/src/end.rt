@@ -1,11 +1,11 @@
 //! A dictionary is ended by all its passes at once.
-ghost use Rattle.std.specs.Prelude.{◌≡◌, Some, IfSome, IfNone, IfOk, map, vec_len};
+ghost use Rattle.std.specs.Prelude.{◌≡◌, ◌↔◌, Some, IfSome, IfNone, IfOk, IsTrue, map, vec_len};
 ghost use Rattle.std.specs.Arc.{arc_value};
 ghost use Rattle.std.specs.List.{All};
 ghost use Rattle.forest.specs.Passes.{Ground, IsOf};
 ghost use Rattle.capi.specs.Left.{AreLeftByAll};
 ghost use Rattle.capi.specs.Made.{IsHeldOf};
-ghost use Rattle.capi.specs.Ends.{AreHeld, AreOfOne, HaveEndedWith, IsEmpty, IsIn, held_in, pass_in};
+ghost use Rattle.capi.specs.Ends.{AreHeld, AreOfOne, HaveEndedWith, IsEmpty, IsIn, IsOfTrie, held_in, pass_in};
 
 use crate::client::OwnedPass;
 use crate::handle::{Handle, HandleSlot};
@@ -46,20 +46,24 @@ pub(crate) fn end(alloc: Global, passes: &mut [HandleSlot]) -> Option<Vec<(u64, 
     }
 }
 
-/// Whether the dictionary of these handles is a trie: the last of them says so of all.
+/// Whether the dictionary of these handles is a trie: each of them holds a pass of one.
 fn are_of_trie(alloc: Global, passes: &mut [HandleSlot]) -> bool
-    ensures { held_in passes.new ≡ held_in passes.old }
+    ensures same { held_in passes.new ≡ held_in passes.old }
+    ensures told { IsTrue result ↔ All IsOfTrie (held_in passes.old) }
 {
-    let mut trie = false;
     for place in passes.iter_mut() {
-        trie = place.handle.is_trie(alloc);
+        let trie = place.handle.is_trie(alloc);
+        if !trie {
+            return false;
+        }
     }
-    trie
+    true
 }
 
 /// The same of a tree.
 fn end_tree(alloc: Global, passes: &mut [HandleSlot]) -> Option<Vec<(u64, u128)>>
-    requires { AreOfOne (held_in passes.old) }
+    requires one { AreOfOne (held_in passes.old) }
+    requires tree { ¬ All IsOfTrie (held_in passes.old) }
     ensures empty { All IsEmpty (held_in passes.new) }
     ensures left { IfSome result (λ pairs. HaveEndedWith (held_in passes.old) pairs.items) }
 {
@@ -70,7 +74,8 @@ fn end_tree(alloc: Global, passes: &mut [HandleSlot]) -> Option<Vec<(u64, u128)>
 
 /// The same of a trie.
 fn end_trie(alloc: Global, passes: &mut [HandleSlot]) -> Option<Vec<(u64, u128)>>
-    requires { AreOfOne (held_in passes.old) }
+    requires one { AreOfOne (held_in passes.old) }
+    requires trie { All IsOfTrie (held_in passes.old) }
     ensures empty { All IsEmpty (held_in passes.new) }
     ensures left { IfSome result (λ pairs. HaveEndedWith (held_in passes.old) pairs.items) }
 {
