@@ -1,2 +1,3 @@
 mod Heights
+mod Inserts
 mod Together

@@ -1,11 +1,12 @@
 //! What callers of a dictionary can conclude of several calls from their clauses alone.
 #![tactic(auto)]
 
-ghost use Rattle.std.specs.Prelude.{◌≡◌, Some, IfOk, OnOk};
-ghost use Rattle.regnubas.specs.Limits.{IsLayoutOf};
+ghost use Rattle.std.specs.Prelude.{◌≡◌, ◌↔◌, Err, Some, IfErr, IfOk, OnOk};
+ghost use Rattle.regnubas.specs.Limits.{IsAccepted, IsLayoutOf};
+ghost use Rattle.regnubas.specs.OrderedMap.{call_insert};
 ghost use Rattle.regnubas.specs.Passes.{AreNew, IsOf};
 ghost use Rattle.regnubas.specs.Types.{Trie as TrieMode};
-ghost use Rattle.conclusions.specs.Together.{HasReadValue, HasSet};
+ghost use Rattle.conclusions.specs.Together.{HasReadValue, HasSet, HasSetAt, IsRefused};
 ghost use Rattle.conclusions.specs.Tries.{IsLow};
 
 use regnubas::{
@@ -66,18 +67,22 @@ pub fn set_for_another<B: FixedBalance>(
     Ok(found)
 }
 
-/// A trie is laid out as one.
+/// A trie is laid out as one. Refused are limits out of range, these always, and want of memory.
 pub fn new_trie(
     alloc: Global,
     limits: Limits,
 ) -> Result<(Forest<Trie<u64, u64>>, Vec<Pass<Trie<u64, u64>>>), NewFault>
+    ensures accepted { OnOk result (IsAccepted limits) }
+    ensures refused { (result ≡ Err NewFault.Limits) ↔ (¬ IsAccepted limits) }
     ensures layout { IfOk result (λ made. IsLayoutOf limits TrieMode made.0.layout) }
+    ensures tries { IfOk result (λ made. made.0.tries ≡ limits.tries) }
     ensures passes { IfOk result (λ made. AreNew made.0 made.1.items) }
 {
     Forest::<Trie<u64, u64>>::new(alloc, limits)
 }
 
-/// After an edit of a trie no leaf of it is more than 66 fields below the root.
+/// Sets a key of a trie, and returns the value that it had just before; or says why it was refused.
+/// After it no leaf of the trie is more than 66 fields below the root.
 pub fn insert_low(
     map: &Forest<Trie<u64, u64>>,
     pass: &mut Pass<Trie<u64, u64>>,
@@ -86,8 +91,12 @@ pub fn insert_low(
 ) -> Result<Option<u64>, UpdateFault>
     requires of { IsOf map.now pass.old }
     ensures low { IsLow pass.new }
+    ensures set { IfOk result (HasSetAt pass.old pass.new key value) }
+    ensures refused { IfErr result
+        (IsRefused map.now.tries pass.old pass.new (call_insert key value)) }
 {
     version_laws_hold::<u64, u64>();
+    map_laws_hold();
     trie_laws_hold();
     map.insert(pass, key, value)
 }
