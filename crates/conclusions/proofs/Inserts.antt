@@ -9,7 +9,7 @@ use Rattle.regnubas.specs.Replies.{told_of}
 use Rattle.regnubas.specs.Types.{Pair, UpdateFault}
 use Rattle.regnubas.specs.declared.Reply.TheVariants.{Value}
 use Rattle.regnubas.specs.declared.UpdateFault.TheVariants.{Contended, Full}
-use Rattle.conclusions.specs.Together.{HasSetAt, IsRefused}
+use Rattle.conclusions.specs.Together.{HasSetAt, IsUpdateRefused}
 
 -- the value that a reply has
 told_value : MapReply → Option ℕ → Option ℕ
@@ -31,7 +31,7 @@ module _ (old new : PassView) (k v : ℕ) where
   has_set inserted (Ok told) c = subst (HasSetAt old new k v) (same_words told) (record { set = c; had = insert_told k v c.map (option_map (λ (n : ℕ). n) told) c.gives; has = inserted k v c.map })
   has_set inserted (Err fault) c = tt
 
-  pub is_refused : (tries : ℕ) (r : Result (Option ℕ) UpdateFault) → IsRefusalOf {K = ℕ} {V = ℕ} tries old new (call_insert k v) (update_reply Value r) → IfErr r (IsRefused tries old new (call_insert k v))
+  pub is_refused : (tries : ℕ) (r : Result (Option ℕ) UpdateFault) → IsRefusalOf {K = ℕ} {V = ℕ} tries old new (call_insert k v) (update_reply Value r) → IfErr r (IsUpdateRefused tries old new (call_insert k v))
   is_refused tries (Ok told) x = tt
   is_refused tries (Err (Contended node scx)) x = x
   is_refused tries (Err (Full full)) x = x

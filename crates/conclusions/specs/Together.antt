@@ -31,6 +31,6 @@ pub record HasSetAt (old new : PassView) (k v : ℕ) (told : Option ℕ) : Type 
   pub has : get k (edited (Insert k v) set.map) ≡ Some v
 
 -- why the call of a forest that allows so many tries has set nothing
-abbrev pub IsRefused : ℕ → PassView → PassView → MapCall → UpdateFault → Type 0
-IsRefused tries old new call (Contended node scx) = IsContendedCall tries old new call node.0 scx.0
-IsRefused tries old new call (Full full) = IsFullCall old new call full
+abbrev pub IsUpdateRefused : ℕ → PassView → PassView → MapCall → UpdateFault → Type 0
+IsUpdateRefused tries old new call (Contended node scx) = IsContendedCall tries old new call node.0 scx.0
+IsUpdateRefused tries old new call (Full full) = IsFullCall old new call full

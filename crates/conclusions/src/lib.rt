@@ -6,7 +6,7 @@ ghost use Rattle.regnubas.specs.Limits.{IsAccepted, IsLayoutOf};
 ghost use Rattle.regnubas.specs.OrderedMap.{call_insert};
 ghost use Rattle.regnubas.specs.Passes.{AreNew, IsOf};
 ghost use Rattle.regnubas.specs.Types.{Trie as TrieMode};
-ghost use Rattle.conclusions.specs.Together.{HasReadValue, HasSet, HasSetAt, IsRefused};
+ghost use Rattle.conclusions.specs.Together.{HasReadValue, HasSet, HasSetAt, IsUpdateRefused};
 ghost use Rattle.conclusions.specs.Tries.{IsLow};
 
 use regnubas::{
@@ -93,7 +93,7 @@ pub fn insert_low(
     ensures low { IsLow pass.new }
     ensures set { IfOk result (HasSetAt pass.old pass.new key value) }
     ensures refused { IfErr result
-        (IsRefused map.now.tries pass.old pass.new (call_insert key value)) }
+        (IsUpdateRefused map.now.tries pass.old pass.new (call_insert key value)) }
 {
     version_laws_hold::<u64, u64>();
     map_laws_hold();
