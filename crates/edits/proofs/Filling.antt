@@ -76,7 +76,7 @@ module _ {E : Type 0} (e : EditMeaning E) {A : Type 0} (m : UpdateRun E A) (c : 
   -- it may continue with the next node
   pub node_next : (after : Nth) → part_behind said part ≡ None → nth_behind m.work.need nth ≡ Some after → CanFillNode e m c h f after
   node_next after none is = record {
-    works = record { run = x.0.works.run; since = x.0.works.since; quiet = x.0.works.quiet; looked = x.0.works.looked; enough = x.0.works.enough; asked = x.0.works.asked; need = behind.needed; in_order = x.0.works.in_order; some = x.0.works.some; guarded = x.0.works.guarded };
+    works = record { run = x.0.works.run; since = x.0.works.since; quiet = x.0.works.quiet; looked = x.0.works.looked; enough = x.0.works.enough; asked = x.0.works.asked; need = behind.needed; in_order = x.0.works.in_order; some = x.0.works.some; guarded = x.0.works.guarded; untaken = x.0.works.untaken };
     full = subst (λ n. HasFilledTo c.layout h c.pass m.share m.nodes.first.0 (top m) n (piece e m f)) behind.number (filled_here none);
     hand = record { lowest = behind.within.0; highest = behind.within.1 };
     blank = x.0.full.blank (nth_node m.nodes after).0 behind.within.0 (let n = behind.number in omega (arith, n)) behind.within.1;

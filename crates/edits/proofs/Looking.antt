@@ -8,17 +8,18 @@ use Rattle.template.specs.Common.{HasFoundThere, IsSnapshot, LlxWaits, LlxAnswer
 use Rattle.prims.specs.Laws.FoundThere.{there_wider}
 use Rattle.prims.specs.Laws.Idle.{IsQuietSince}
 use Rattle.edits.specs.declared.update.UpdateAt.TheVariants.{Look}
-use Rattle.prims.proofs.Lemmas.{left_own_node, left_zero}
+use Rattle.prims.proofs.Lemmas.{left_own_node, left_zero, taken_node_since}
 use Rattle.template.specs.declared.walk.Found.{Found}
 use Rattle.template.specs.declared.walk.Way.{Way}
 use Rattle.edits.specs.declared.edit.Look.TheVariants.{At, Enough}
+use Rattle.edits.specs.declared.edit.Nth.{Nth}
 use Rattle.edits.specs.declared.edit.Work.{Work}
 use Rattle.edits.specs.declared.piece.Piece.{Piece}
 use Rattle.edits.specs.declared.update.UpdateRun.{UpdateRun}
 use Rattle.edits.specs.Next.{standing}
 use Rattle.edits.specs.Edits.{EditBounds, EditMeaning, all_looks}
-use Rattle.edits.specs.Known.{RestsWith, MayBeginTry, HasNodesFor, HasTakenNodes, without, HasSnappedAfterWalk, AreUsable, AreSeen, Guarded, CanLook, CanWork, Looks, TryWaits, piece}
-use Rattle.edits.specs.Pieces.{top_of}
+use Rattle.edits.specs.Known.{IsNeeded, RestsWith, MayBeginTry, HasNodesFor, HasTakenNodes, without, HasSnappedAfterWalk, AreUsable, AreSeen, Guarded, CanLook, CanWork, Looks, TryWaits, piece}
+use Rattle.edits.specs.Pieces.{nth_node, top_of}
 use Rattle.edits.specs.Steps.{HasAsked}
 use Rattle.edits.specs.Laws.Hand.{HasFilledTo}
 use Rattle.edits.specs.Laws.SnapLists.{at_end}
@@ -168,6 +169,7 @@ module _ {E : Type 0} (e : EditMeaning E) {A : Type 0} (m now : UpdateRun E A) (
       in_order = t.in_order;
       some = subst (λ (s : Remaining). 0 < s.scx) (sym t.share) x.room.scx;
       guarded = x.guarded;
+      untaken = λ i n taken. x.begins.rests.share.untaken_nodes (nth_node now.nodes i).0 (left_here i n) (taken_node_since h c.start (nth_node now.nodes i).0 x.begins.since taken);
     };
     full = in_hand c h m.share now.share now.nodes.first.0 (top_of m.work.need now.nodes) (min m.work.need 3 - 1) _ x.begins.run.1.lawful (let n = x.room.some in let k = x.room.nodes in omega (arith, n, k)) x.begins.rests
         (t.share ∙ ap (without m.share) (let n = x.room.some in omega (arith, n))) t.first (let a = t.first in let b = last in omega (arith, a, b));
@@ -175,6 +177,13 @@ module _ {E : Type 0} (e : EditMeaning E) {A : Type 0} (m now : UpdateRun E A) (
     blank = λ q fill. rw t.first (left_zero c.layout h c.pass m.share m.share.next_node m.share.next_scx m.share.next_node q x.begins.run.1.lawful x.begins.rests.share record { from = omega arith; below = let n = x.room.some in let k = x.room.nodes in omega (arith, n, k) } fill);
   }
     where
+      left_here : (i : Nth) → IsNeeded m.work.need i → HasNode m.share (nth_node now.nodes i).0
+      left_here i n =
+          let a = t.in_order i n in
+          let b = t.first in
+          let k = x.room.nodes in
+          record { from = omega (arith, a, b); below = omega (arith, a, b, k, n) }
+
       last : top_of m.work.need now.nodes ≡ now.nodes.first.0 + (min m.work.need 3 - 1)
       last = top_is m.work.need now.nodes t.in_order
 

@@ -339,7 +339,7 @@ module _ {E : Type 0} (e : EditMeaning E) where
   -- what is read does not matter yet for the fresh nodes, since none is full
   pub with_read : {A : Type 0} (m : UpdateRun E A) (c : Call) (h : History) (f : Found) (read : Reading) → CanWork e m c h f → CanWork e (record m { read = read }) c h f
   with_read m c h f read x = record {
-    works = record { run = x.works.run; since = x.works.since; quiet = x.works.quiet; looked = x.works.looked; enough = x.works.enough; asked = x.works.asked; need = x.works.need; in_order = x.works.in_order; some = x.works.some; guarded = x.works.guarded };
+    works = record { run = x.works.run; since = x.works.since; quiet = x.works.quiet; looked = x.works.looked; enough = x.works.enough; asked = x.works.asked; need = x.works.need; in_order = x.works.in_order; some = x.works.some; guarded = x.works.guarded; untaken = x.works.untaken };
     full = filled_same c.layout h c.pass m.share m.nodes.first.0 (top m) m.nodes.first.0 (piece e m f) (piece e (record m { read = read }) f) (λ k i j. absurd (omega (arith, i, j))) x.full;
     hand = record { lowest = x.hand.lowest; highest = x.hand.highest };
     blank = x.blank;

@@ -274,6 +274,8 @@ module _ (e : EditMeaning (Unit {0})) where
       pub in_order : StandInRow m.work.need m.nodes
       pub some : 0 < m.share.scx
       pub guarded : Guarded e tt c h m.guard (λ k. FoundBy (e.way tt) (e.goal tt) k h f)
+      -- none of its fresh nodes was taken as the call began
+      pub untaken : (i : Nth) → IsNeeded m.work.need i → ¬ IsTakenNode c.start (nth_node m.nodes i).0
 
     -- a step of the LLX of its guard, which has begun at a moment of the call; the walk is still at
     -- the root, whose head is this

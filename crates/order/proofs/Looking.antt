@@ -141,7 +141,7 @@ module _ {R A : Type 0} (means : ReadMeaning R A) (r : R) (snaps : List Snap) (c
 
     -- and reads on with the longer list
     pub reads_on : (now : R) → means.call now ≡ means.call r → IsReading means now (snaps ++ snap ∷ []) c h
-    reads_on now same = record { reads = reads_one_more c h snaps snap reading.reads is; suits = rw same reading.suits }
+    reads_on now same = record { reads = reads_one_more c h snaps snap reading.reads is x.stood.stood; suits = rw same reading.suits }
 
   -- a leaf is not the root: a snapshot was taken
   pub some_taken : (n : ℕ) → Stands means r snaps c h n → is_leaf (value h) n ≡ true → 0 < length snaps

@@ -5,7 +5,7 @@ use Rattle.histories.specs.Common.{Side, child, info, marked, History, value, Ex
 use Rattle.arena.proofs.Lemmas.{ends_self}
 use Rattle.prims.specs.Laws.InTheWay.{been_now}
 use Rattle.prims.specs.Laws.Linked.{IsLinked, linked_since}
-use Rattle.template.specs.Common.{IsSnapshot, child_of, snap_at, Snap, IsMapRun, is_leaf, level}
+use Rattle.template.specs.Common.{IsSnapshot, child_of, snap_at, Snap, IsMapRun, WasInTree, is_leaf, level}
 use Rattle.ordered_map.proofs.MapLemmas.{child_not_final, child_stood, levels_rise}
 use Rattle.order.specs.Reads.{AreSnapped, HasSnapped, Reads, AllHold, HasStood}
 
@@ -46,15 +46,15 @@ hold_last b snaps s x =
     subst (λ (t : Snap). value b (info t.node.0) ≡ t.scx.0) y.1 (x (length snaps) y.0)
 
 module _ (c : Call) (h : History) (snaps : List Snap) (snap : Snap) (reads : Reads c h snaps) (is : IsSnapshot c.layout h snap.node.0 snap) where
-  snapped_one_more : AreSnapped c h (snaps ++ snap ∷ [])
-  snapped_one_more i p = ⊎_elim (λ q. subst (HasSnapped c h) (sym q.1) (reads.snapped i q.0)) (λ q. subst (HasSnapped c h) (sym q.1) now) (at_end snaps snap i p)
+  snapped_one_more : WasInTree h snap.node.0 → AreSnapped c h (snaps ++ snap ∷ [])
+  snapped_one_more stood i p = ⊎_elim (λ q. subst (HasSnapped c h) (sym q.1) (reads.snapped i q.0)) (λ q. subst (HasSnapped c h) (sym q.1) now) (at_end snaps snap i p)
     where
       now : HasSnapped c h snap
-      now = record { moment = h; within = ends_self h; since = reads.since; is = is }
+      now = record { moment = h; within = ends_self h; since = reads.since; stood = stood; is = is }
 
   -- the read continues with the longer list
-  pub reads_one_more : Reads c h (snaps ++ snap ∷ [])
-  reads_one_more = record { run = reads.run; since = reads.since; over = reads.over; quiet = reads.quiet; snapped = snapped_one_more }
+  pub reads_one_more : WasInTree h snap.node.0 → Reads c h (snaps ++ snap ∷ [])
+  reads_one_more stood = record { run = reads.run; since = reads.since; over = reads.over; quiet = reads.quiet; snapped = snapped_one_more stood }
 
   module _ (stood : HasStood c h snap.node.0) (fork : is_leaf (value h) snap.node.0 ≡ false) where
     -- a child of the node has been in the tree, too

@@ -6,11 +6,12 @@ use Rattle.prims.specs.Laws.Idle.{IsQuietSince}
 use Rattle.prims.specs.Laws.InTheWay.{HasBeen}
 use Rattle.template.specs.Common.{IsSnapshot, AreFinished, snap_at, Snap, WasInTree, IsMapRun}
 
--- the snapshot was right at a moment of the call
+-- the snapshot was right at a moment of the call, by which its node had been in the tree
 pub record HasSnapped (c : Call) (h : History) (snap : Snap) : Type 0 where
   pub moment : History
   pub within : Extends h moment
   pub since : Extends moment c.start
+  pub stood : WasInTree moment snap.node.0
   pub is : IsSnapshot c.layout moment snap.node.0 snap
 
 -- each of these snapshots was

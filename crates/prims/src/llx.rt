@@ -1,6 +1,6 @@
 //! LLX of a node.
 ghost use Rattle.std.specs.Prelude.{◌≡◌, ℕ, ◌+◌, ◌<◌, ◌≤◌, ◌⊎◌};
-ghost use Rattle.prims.specs.Llx.Known.{HasStopped, IsToBlame, LlxHelps, Meets, LlxAsks, ReadsLeft, Declines, Differs, Snaps, Finalizes, LooksLast, LlxTurn, LlxIsReady, LlxWaits, LlxAnswers};
+ghost use Rattle.prims.specs.Llx.Known.{Helps, IsToBlame, LlxHelps, Meets, LlxAsks, ReadsLeft, Declines, Differs, Snaps, Finalizes, LooksLast, LlxTurn, LlxIsReady, LlxWaits, LlxAnswers};
 ghost use Rattle.prims.specs.Llx.Steps.{llx_left};
 
 use crate::snap::Snap;
@@ -234,7 +234,7 @@ impl LlxRun {
     fn help_on<S: Shape>(&mut self, marked: bool, mut help: HelpRun, got: Option<u64>) -> Turn<Llx>
         ensures node { self.new.node ≡ self.old.node }
         ensures turn { (c : Call) (h : History) → LlxHelps S.allows c h self.old.node.0 help got
-            → HasStopped c h self.old.node.0 marked help.scx.0 → LlxTurn S.allows c h self.new result }
+            → Helps c h self.old.node.0 marked help.scx.0 → LlxTurn S.allows c h self.new result }
         ensures nearer { MatchTurn result (λ _. llx_left self.new.at < 24 + help_left help.at) (λ _. Unit {0}) }
     {
         let scx = help.scx;

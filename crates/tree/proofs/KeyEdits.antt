@@ -38,6 +38,7 @@ fills_through means of m c h f nth word x = record {
     in_order = x.works.in_order;
     some = x.works.some;
     guarded = x.works.guarded;
+    untaken = x.works.untaken;
   };
   full = x.full;
   hand = record { lowest = x.hand.lowest; highest = x.hand.highest };
@@ -67,6 +68,7 @@ module _ {G R : Type 0} (goal : G → Goal) (trie : G → Bool) (rule : R → Ru
       in_order = x.works.in_order;
       some = x.works.some;
       guarded = own_guarded goal trie rule m.edit f needed c h m.guard x.works.run x.works.looked x.works.guarded;
+      untaken = x.works.untaken;
     };
     full = x.full;
     hand = record { lowest = x.hand.lowest; highest = x.hand.highest };

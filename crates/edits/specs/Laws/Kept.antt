@@ -134,4 +134,5 @@ module _ {E : Type 0} (e : EditMeaning E) where
     in_order = x.in_order;
     some = x.some;
     guarded = found_guarded_more e m.edit c h r m.guard f x.run run x.guarded;
+    untaken = x.untaken;
   }

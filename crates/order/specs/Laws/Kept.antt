@@ -57,7 +57,7 @@ module _ (c : Call) (h : History) (r : Row) where
   }
 
   snapped_more : (snaps : List Snap) → AreSnapped c h snaps → AreSnapped c (r ⊳ h) snaps
-  snapped_more snaps x i p = let u = x i p in record { moment = u.moment; within = inr u.within; since = u.since; is = u.is }
+  snapped_more snaps x i p = let u = x i p in record { moment = u.moment; within = inr u.within; since = u.since; stood = u.stood; is = u.is }
 
   pub whenever_more : (snaps : List Snap) (P : History → Type 0) → Whenever c.layout h snaps P → Whenever c.layout (r ⊳ h) snaps P
   whenever_more snaps P x b run e = x b run (ends_trans b (r ⊳ h) h e (inr (ends_self h)))

@@ -1,7 +1,7 @@
 -- When a run of LLX may continue, what it waits for, and what its answer says.
 use Rattle.std.specs.Prelude.{◌≡◌, ◌≢◌, ℕ, ◌<◌, Bool, true, false, ◌⊎◌, Option, Some, None}
 use Rattle.histories.specs.Common.{Layout, Left, Right, Word, Row, Step, Load, Kind, LoadInfo, LoadState, LoadMarked, LoadChild, all_nodes, info, marked, child, state, History}
-use Rattle.histories.specs.Common.{◌⊳◌, value, HasHeld, Extends, WasInTheWay, HasFailed, HasFound, IsInField, log, fields, is_final, Call, IsRun, MatchTurn, Turn, Ask, Done, ScxNo}
+use Rattle.histories.specs.Common.{◌⊳◌, value, HasHeld, Extends, IsInProgress, WasInTheWay, HasFailed, HasFound, IsInField, log, fields, is_final, Call, IsRun, MatchTurn, Turn, Ask, Done, ScxNo}
 use Rattle.help.specs.declared.state.HelpRun.{HelpRun}
 use Rattle.histories.specs.Finalizing.{IsFinalizing}
 use Rattle.help.specs.Help.Known.{HelpIsReady, HelpWaits}
@@ -31,6 +31,11 @@ pub record HasStopped (c : Call) (h : History) (n : ℕ) (was_marked : Bool) (s 
   pub met : HasMet c h n was_marked s
   pub disturbed : IsDisturbed h c.start n s
 
+-- the run helps s, which was in progress in the call
+pub record Helps (c : Call) (h : History) (n : ℕ) (was_marked : Bool) (s : ℕ) : Type 0 where
+  pub stopped : HasStopped c h n was_marked s
+  pub running : HasBeen h c.start (λ m. IsInProgress m s)
+
 -- s, which the call's last look at the node's info has found, was in the way of
 -- the call, at whose begin the node was not final
 pub record IsToBlame (c : Call) (h : History) (n s : ℕ) : Type 0 where
@@ -53,7 +58,7 @@ LlxKnows c h n (AtLeft b s) = HasMet c h n b s.0 × IsFinishedUnmarked h n s.0
 LlxKnows c h n (AtRight b s l) = HasMet c h n b s.0 × IsFinishedUnmarked h n s.0 × (value h (info n) ≡ s.0 → value h (child n Left) ≡ l)
 LlxKnows c h n (InfoAgain b s l r) = HasMet c h n b s.0 × IsFinishedUnmarked h n s.0 × (value h (info n) ≡ s.0 → value h (child n Left) ≡ l) × (value h (info n) ≡ s.0 → value h (child n Right) ≡ r)
 LlxKnows c h n (StateAgain b s) = HasStopped c h n b s.0
-LlxKnows c h n (Help b m) = HasStopped c h n b m.scx.0
+LlxKnows c h n (Help b m) = Helps c h n b m.scx.0
 LlxKnows c h n LastInfo = (s : ℕ) × HasStopped c h n false s
 LlxKnows c h n (LastState s) = IsToBlame c h n s.0
 LlxKnows c h n (LastHelp s m) = IsToBlame c h n s.0 × (m.scx ≡ s)

@@ -65,7 +65,7 @@ module _ (c : Call) (h : History) (r : Row) (n : ℕ) (l : Lawful c.layout (r �
   known_more (AtRight b s x) d p k = (met_more b s.0 k.0, rest_more s.0 p k.1, side_more c.layout h r n s.0 x Left l p k.1.rest k.2)
   known_more (InfoAgain b s x y) d p k = (met_more b s.0 k.0, rest_more s.0 p k.1, side_more c.layout h r n s.0 x Left l p k.1.rest k.2, side_more c.layout h r n s.0 y Right l p k.1.rest k.3)
   known_more (StateAgain b s) d p k = stopped_more b s.0 p k
-  known_more (Help b m) d p k = stopped_more b m.scx.0 p k
+  known_more (Help b m) d p k = record { stopped = stopped_more b m.scx.0 p k.stopped; running = been_more r h c.start _ k.running }
   known_more LastInfo d p k = (k.0, stopped_more false k.0 p k.1)
   known_more (LastState s) d p k = to_blame_more (d tt) s.0 k
   known_more (LastHelp s m) d p k = (to_blame_more (d tt) s.0 k.0, k.1)
@@ -169,7 +169,7 @@ idle_at allows c h n (AtLeft b u) s l k a idle = load_idle c h LoadChild (child 
 idle_at allows c h n (AtRight b u x) s l k a idle = load_idle c h LoadChild (child n Right) s l a (λ e. cc) idle
 idle_at allows c h n (InfoAgain b u x y) s l k a idle = load_idle c h LoadInfo (info n) s l a (λ e. cc) idle
 idle_at allows c h n (StateAgain b u) s l k a idle = load_idle c h LoadState (state u.0) s l a (λ e. cc) idle
-idle_at allows c h n (Help b m) s l k a idle = idle_by_help allows c h m s l a (n, k.met.held) idle
+idle_at allows c h n (Help b m) s l k a idle = idle_by_help allows c h m s l a (n, k.stopped.met.held) idle
 idle_at allows c h n LastInfo s l k a idle = load_idle c h LoadInfo (info n) s l a (λ e. cc) idle
 idle_at allows c h n (LastState u) s l k a idle = load_idle c h LoadState (state u.0) s l a (λ e. cc) idle
 idle_at allows c h n (LastHelp u m) s l k a idle = idle_by_help allows c h m s l a (n, rw k.1 k.0.held) idle

@@ -1,5 +1,6 @@
 use Rattle.std.proofs.Common.{◌≡◌, true, false, eqb, eqb-true, eq-eqb, sym, ◌∙◌}
 use Rattle.histories.specs.Common.{state, value}
+use Rattle.prims.specs.Laws.InTheWay.{been_now}
 use Rattle.prims.proofs.LlxTurns.{turn_helped, not_marked, new_help}
 use Rattle.prims.proofs.llx.LlxRun.meet.Goals.{then-marked, else-marked}
 use Rattle.prims.proofs.llx.LlxRun.meet.Goals as goal
@@ -7,7 +8,7 @@ use Rattle.prims.proofs.llx.LlxRun.meet.Goals as goal
 pub returns-then-state-eq-IN_PROGRESS-clause-turn : goal.returns-then-state-eq-IN_PROGRESS-clause-turn
 returns-then-state-eq-IN_PROGRESS-clause-turn g c d h x =
     c.help_on.ensures.turn d h (new_help g.S.Shape.allows d h x.run c.args.self.now.node.0 c.args.scx c.new.result x.opened x.since x.quiet x.stopped.met.held (x.state ∙ c.if-state-eq-IN_PROGRESS.true) c.new.ensures.scx c.new.ensures.start)
-    (rw c.new.ensures.scx x.stopped)
+    (rw c.new.ensures.scx record { stopped = x.stopped; running = been_now h d.start _ x.since record { unfinished = x.state ∙ c.if-state-eq-IN_PROGRESS.true; named = (c.args.self.now.node.0, x.stopped.met.held) } })
 
 pub returns-after-marked-clause-turn : goal.returns-after-marked-clause-turn
 returns-after-marked-clause-turn g c d h x =

@@ -1,0 +1,12 @@
+mod Moments
+mod Present
+mod Walks
+mod Helping
+mod Looking
+mod Changing
+mod Seen
+mod Updating
+mod Reading
+mod Calling
+mod Fresh
+mod Dead

@@ -1,0 +1,6 @@
+pub mod Kinds
+pub mod Touches
+pub mod Reads
+pub mod Unmarked
+pub mod Fresh
+pub mod Rests
