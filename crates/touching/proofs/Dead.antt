@@ -65,7 +65,8 @@ module _ (c : Call) (h t : History) (n : ℕ) (l : Lawful c.layout h) (began : E
     pub final_now : is_final (log c.layout c.start) n ≡ true
     final_now = final_since c.layout c.start q.rest n (lawful_since c.layout h c.start l began) q.within final_then
 
-    -- and no SCX-record in progress covers it: its owner would have seen it unmarked behind its mark
+    -- and no SCX-record in progress covers it: its owner would have seen it unmarked behind its
+    -- mark
     pub not_covered : (s : ℕ) → ¬ WasCovered c h s n
     not_covered s x = go (ℕ_discrete (value r.rest (state s)) 0)
       where

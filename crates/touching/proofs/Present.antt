@@ -17,7 +17,8 @@ use Rattle.touching.specs.Touches.{WasSo}
 abbrev pub HasTree : (Layout → History → ℕ → Type 0) → Type 0
 HasTree P = (lay : Layout) (h : History) (n : ℕ) → IsMapRun lay h → IsInTree h n → P lay h n
 
--- and was so in a call of each node that has been in the tree and was not final at a moment of the call
+-- and was so in a call of each node that has been in the tree and was not final at a moment of the
+-- call
 pub record IsKind (P : Layout → History → ℕ → Type 0) : Type 0 where
   pub in_tree : HasTree P
   pub stood : (c : Call) (h : History) (n : ℕ) → IsMapRun c.layout h → WasInTree h n → WasNotFinal c h n → WasSo P c h n

@@ -16,8 +16,9 @@ pub record IsInTree (h : History) (n : ℕ) : Type 0 where
 abbrev pub IsNotFinal : Layout → History → ℕ → Type 0
 IsNotFinal lay h n = is_final (log lay h) n ≡ false
 
--- It is a leaf of a trie that has been in it and is not final. It may be out: what takes the last pair
--- of a leaf out at an end of a trie covers node 2 in place of the leaf, and so does not finalize that.
+-- It is a leaf of a trie that has been in it and is not final. It may be out: what takes the last
+-- pair of a leaf out at an end of a trie covers node 2 in place of the leaf, and so does not
+-- finalize that.
 pub record MayBePopped (lay : Layout) (h : History) (n : ℕ) : Type 0 where
   pub trie : lay.mode ≡ TrieMode
   pub leaf : is_leaf (value h) n ≡ true

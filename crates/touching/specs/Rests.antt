@@ -4,9 +4,10 @@ use Rattle.histories.specs.Common.{Layout, History, Extends, value, state, info,
 use Rattle.prims.specs.Moments.{AreFinished}
 use Rattle.prims.specs.Laws.InTheWay.{HasBeen}
 
--- Between the moment `marked_at` and the moment `start` the pass o has rested, between two of its calls:
--- then all SCX-records that it had taken were finished. Of those that it has taken since none was in
--- progress over the node up to h but one that was taken in a call in which the node had no mark.
+-- Between the moment `marked_at` and the moment `start` the pass o has rested, between two of its
+-- calls: then all SCX-records that it had taken were finished. Of those that it has taken since
+-- none was in progress over the node up to h but one that was taken in a call in which the node had
+-- no mark.
 pub record HasRested (lay : Layout) (h start marked_at : History) (n o : ℕ) : Type 0 where
   pub rest : History
   pub within : Extends start rest
@@ -22,7 +23,7 @@ AllHaveRested lay h start marked_at n = (o : ℕ) → o < lay.passes → HasRest
 abbrev pub IsNamedByFinal : Layout → History → ℕ → Type 0
 IsNamedByFinal lay h s = (n : ℕ) → value h (info n) ≡ s → is_final (log lay h) n ≡ true
 
--- what a look at the nodes of a finished SCX-record finds: it finalizes the node and is committed, or the
--- info of the node names another
+-- what a look at the nodes of a finished SCX-record finds: it finalizes the node and is committed,
+-- or the info of the node names another
 abbrev pub AreLeft : History → ℕ → Type 0
 AreLeft h s = (j : ℕ) → j < count h s → ((value h (state s) ≡ 1) × (scx_finalizes h s j ≡ true)) ⊎ (value h (info (member h s j)) ≢ s)

@@ -48,8 +48,8 @@ module _ (P : Layout → History → ℕ → Type 0) where
   abbrev pub WereSo : Call → History → List Snap → Type 0
   WereSo c h snaps = (i : ℕ) → i < length snaps → WasSo c h (snap_at snaps i).node.0
 
-  -- an SCX-record that may be helped: it was in progress in the call; or it is the pass's own, was not
-  -- taken as the call began, and covers nodes that were so
+  -- an SCX-record that may be helped: it was in progress in the call; or it is the pass's own, was
+  -- not taken as the call began, and covers nodes that were so
   pub data MayBeHelped (c : Call) (h : History) (s : ℕ) : Type 0 where
     running : WasInProgress c h s → MayBeHelped c h s
     own : IsOwnScx c.layout c.pass s → ¬ IsTakenScx c.start s → ((j : ℕ) → j < count h s → WasSo c h (member h s j)) → MayBeHelped c h s

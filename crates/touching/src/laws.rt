@@ -45,69 +45,81 @@ ghost use Rattle.touching.specs.Touches.{MayBeHelped, Touches, TouchesNode, Touc
 use arena::Shape;
 use dict::{DictRun, WordKey, WordValue};
 
-/// A walk, and so a get, loads words of nodes alone that were in the tree at a moment of its call. It
-/// does nothing; a caller learns this from its contract.
+/// A walk, and so a get, loads words of nodes alone that were in the tree at a moment of its call.
+/// It does nothing; a caller learns this from its contract.
 pub fn walks_touch()
-    ensures { (m : WalkRun) (c : Call) (h : History) (s : Step) → WalkWaits m c h s → Touches (λ lay. IsInTree) c h s.word }
+    ensures { (m : WalkRun) (c : Call) (h : History) (s : Step) → WalkWaits m c h s
+        → Touches (λ lay. IsInTree) c h s.word }
 {}
 
-/// What HELP, LLX, VLX and SCX touch, of a call whose nodes were not final at a moment of it. It does
-/// nothing; a caller learns this from its contract.
+/// What HELP, LLX, VLX and SCX touch, of a call whose nodes were not final at a moment of it. It
+/// does nothing; a caller learns this from its contract.
 pub fn parts_touch<S: Shape>()
     ensures help { (m : HelpRun) (c : Call) (h : History) (s : Step) → Lawful c.layout h
-        → HelpWaits S.allows c.layout c.pass m h s → MayBeHelped IsNotFinal c h m.scx.0 → Touches IsNotFinal c h s.word }
+        → HelpWaits S.allows c.layout c.pass m h s → MayBeHelped IsNotFinal c h m.scx.0
+        → Touches IsNotFinal c h s.word }
     ensures llx { (m : LlxRun) (c : Call) (h : History) (s : Step) → IsRun S.allows c.layout h
-        → LlxWaits S.allows m c h s → WasSo IsNotFinal c h m.node.0 → Touches IsNotFinal c h s.word }
-    ensures vlx { (snaps : List Snap) (n : ℕ) (c : Call) (h : History) (s : Step) → VlxWaits snaps n c h s
-        → WereSo IsNotFinal c h snaps → Touches IsNotFinal c h s.word }
+        → LlxWaits S.allows m c h s → WasSo IsNotFinal c h m.node.0
+        → Touches IsNotFinal c h s.word }
+    ensures vlx { (snaps : List Snap) (n : ℕ) (c : Call) (h : History) (s : Step)
+        → VlxWaits snaps n c h s → WereSo IsNotFinal c h snaps → Touches IsNotFinal c h s.word }
     ensures scx { (m : ScxRun) (c : Call) (h : History) (s : Step) → IsRun S.allows c.layout h
-        → ScxWaits S.allows m c h s → WereSo IsNotFinal c h m.update.snaps → Touches IsNotFinal c h s.word }
+        → ScxWaits S.allows m c h s → WereSo IsNotFinal c h m.update.snaps
+        → Touches IsNotFinal c h s.word }
 {}
 
 /// What edits of a map and ordered reads touch, in a tree and in a trie. It does nothing; a caller
 /// learns this from its contract.
 pub fn machines_touch()
-    ensures edits { (m : UpdateRun (KeyEdit GoalBy Rule) UpdateAt) (c : Call) (h : History) (s : Step) → UpdateWaits edit_means m c h s
-        → Touches IsPresent c h s.word }
-    ensures unmarked { (m : UpdateRun (KeyEdit GoalBy Rule) UpdateAt) (c : Call) (h : History) (s : Step) → UpdateWaits edit_means m c h s
-        → CoversUnmarked c h m.at }
-    ensures neighbours { (m : ReadRun Neighbour) (c : Call) (h : History) (s : Step) → ReadWaits neighbour_means m c h s
-        → Touches IsPresent c h s.word }
-    ensures ranges { (m : ReadRun Range) (c : Call) (h : History) (s : Step) → ReadWaits range_means m c h s
-        → Touches IsPresent c h s.word }
+    ensures edits { (m : UpdateRun (KeyEdit GoalBy Rule) UpdateAt) (c : Call) (h : History)
+        (s : Step) → UpdateWaits edit_means m c h s → Touches IsPresent c h s.word }
+    ensures unmarked { (m : UpdateRun (KeyEdit GoalBy Rule) UpdateAt) (c : Call) (h : History)
+        (s : Step) → UpdateWaits edit_means m c h s → CoversUnmarked c h m.at }
+    ensures neighbours { (m : ReadRun Neighbour) (c : Call) (h : History) (s : Step)
+        → ReadWaits neighbour_means m c h s → Touches IsPresent c h s.word }
+    ensures ranges { (m : ReadRun Range) (c : Call) (h : History) (s : Step)
+        → ReadWaits range_means m c h s → Touches IsPresent c h s.word }
 {}
 
 /// What a whole call of a map touches. It does nothing; a caller learns this from its contract.
 pub fn calls_touch()
-    ensures touches { (tries : ℕ) (m : MapRun) (c : Call) (h : History) (s : Step) → MapWaits tries m c h s
-        → Touches IsPresent c h s.word }
-    ensures present { (c : Call) (h : History) (w : Word) → IsMapRun c.layout h → Touches IsPresent c h w → Touches IsNotFinal c h w }
+    ensures touches { (tries : ℕ) (m : MapRun) (c : Call) (h : History) (s : Step)
+        → MapWaits tries m c h s → Touches IsPresent c h s.word }
+    ensures present { (c : Call) (h : History) (w : Word) → IsMapRun c.layout h
+        → Touches IsPresent c h w → Touches IsNotFinal c h w }
 {}
 
-/// What the machine of a call of a dictionary touches. It does nothing; a caller learns this from its
-/// contract.
+/// What the machine of a call of a dictionary touches. It does nothing; a caller learns this from
+/// its contract.
 pub fn dictionaries_touch<K: WordKey, V: WordValue>()
-    ensures { (m : DictRun K V) (c : Call) (h : History) (s : Step) → DictWaits (IsWordOf K.is_valid K.word_of) (IsWordOf V.is_valid V.word_of) m c h s
+    ensures { (m : DictRun K V) (c : Call) (h : History) (s : Step)
+        → DictWaits (IsWordOf K.is_valid K.word_of) (IsWordOf V.is_valid V.word_of) m c h s
         → Touches IsPresent c h s.word }
 {}
 
 /// What a call touches no more of what was out as it began: a final node only where an SCX-record
-/// covers it that is in progress in the call, and a finished SCX-record only where a node names it in
-/// the call that was not final. It does nothing; a caller learns this from its contract.
+/// covers it that is in progress in the call, and a finished SCX-record only where a node names it
+/// in the call that was not final. It does nothing; a caller learns this from its contract.
 pub fn freshness_holds()
-    ensures nodes { (c : Call) (h : History) (n : ℕ) → Lawful c.layout h → Extends h c.start → is_final (log c.layout c.start) n ≡ true
-        → IsTakenNode c.start n → TouchesNode IsNotFinal c h n → (s : ℕ) × WasCovered c h s n }
-    ensures scx { (c : Call) (h : History) (s : ℕ) → Lawful c.layout h → Extends h c.start → s ≢ 0 → value c.start (state s) ≢ 0
-        → TouchesScx IsNotFinal c h s → WasNamedInCall c h s }
+    ensures nodes { (c : Call) (h : History) (n : ℕ) → Lawful c.layout h → Extends h c.start
+        → is_final (log c.layout c.start) n ≡ true → IsTakenNode c.start n
+        → TouchesNode IsNotFinal c h n → (s : ℕ) × WasCovered c h s n }
+    ensures scx { (c : Call) (h : History) (s : ℕ) → Lawful c.layout h → Extends h c.start
+        → s ≢ 0 → value c.start (state s) ≢ 0 → TouchesScx IsNotFinal c h s
+        → WasNamedInCall c h s }
 {}
 
-/// What is dead. A marked node, to each call that began when all passes had rested since it was marked; a
-/// finished SCX-record that no node names but final ones, to each call that began later; and a look at the
-/// nodes that it covers tells that. It does nothing; a caller learns this from its contract.
+/// What is dead. A marked node, to each call that began when all passes had rested since it was
+/// marked; a finished SCX-record that no node names but final ones, to each call that began later;
+/// and a look at the nodes that it covers tells that. It does nothing; a caller learns this from
+/// its contract.
 pub fn dead_is_untouched()
-    ensures nodes { (c : Call) (h t : History) (n : ℕ) → Lawful c.layout h → Extends h c.start → Extends c.start t → value t (marked n) ≢ 0
-        → AllHaveRested c.layout h c.start t n → IsTakenNode c.start n → ¬ TouchesNode IsNotFinal c h n }
-    ensures scx { (c : Call) (h t : History) (s : ℕ) → Lawful c.layout h → Extends h c.start → Extends c.start t → s ≢ 0 → value t (state s) ≢ 0
-        → IsNamedByFinal c.layout t s → ¬ TouchesScx IsNotFinal c h s }
-    ensures look { (lay : Layout) (h : History) (s : ℕ) → Lawful lay h → s ≢ 0 → AreLeft h s → IsNamedByFinal lay h s }
+    ensures nodes { (c : Call) (h t : History) (n : ℕ) → Lawful c.layout h → Extends h c.start
+        → Extends c.start t → value t (marked n) ≢ 0 → AllHaveRested c.layout h c.start t n
+        → IsTakenNode c.start n → ¬ TouchesNode IsNotFinal c h n }
+    ensures scx { (c : Call) (h t : History) (s : ℕ) → Lawful c.layout h → Extends h c.start
+        → Extends c.start t → s ≢ 0 → value t (state s) ≢ 0 → IsNamedByFinal c.layout t s
+        → ¬ TouchesScx IsNotFinal c h s }
+    ensures look { (lay : Layout) (h : History) (s : ℕ) → Lawful lay h → s ≢ 0 → AreLeft h s
+        → IsNamedByFinal lay h s }
 {}
