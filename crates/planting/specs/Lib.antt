@@ -1,0 +1,3 @@
+pub mod Groves
+pub mod Plantings
+pub mod Places
