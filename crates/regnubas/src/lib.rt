@@ -50,7 +50,9 @@ pub use arena::{
 pub use dict::{
     ByBits, ByOrder, Dict, FixedBalance, Name8, Reply, Request, Trie, WordKey, WordValue,
 };
-pub use forest::{Closed, Forest, NewFault, OpenCall, OrderFault, Pass, Stepped, UpdateFault};
+pub use forest::{
+    Closed, Forest, NewFault, OpenCall, OrderFault, PairsFault, Pass, Stepped, UpdateFault,
+};
 pub use laws::version_laws_hold;
 pub use ordered_map::{laws_hold, map_laws_hold, trie_laws_hold};
 pub use prims::{Cells, Llx, Scx, Snap, Vlx};

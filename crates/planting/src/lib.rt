@@ -1,0 +1,14 @@
+//! Tables that are planted with the first pairs of a map.
+#![tactic(auto)]
+
+mod leaf;
+mod order;
+mod parting;
+mod places;
+mod planting;
+mod room;
+mod trees;
+
+pub use order::first_fall;
+pub use planting::Planting;
+pub use room::with_room;
