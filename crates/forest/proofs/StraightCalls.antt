@@ -7,7 +7,7 @@ use Rattle.dict.specs.Laws.Begins.{dict_mode}
 use Rattle.std.proofs.Common.{Global, Result, Vec, ◌≡◌, ℕ, zero, suc, ◌+◌, ◌*◌, ◌-◌, ◌<◌, ◌≤◌, List, [], Option, None, refl, sym, subst, ap, arith, ◌∙◌}
 use Rattle.histories.specs.Common.{Layout, Step, History, Call, Remaining, NodeNo}
 use Rattle.template.specs.Common.{Snap, Pair, MapCall, Goal, Rule, Reply}
-use Rattle.order.specs.Known.{IsSameRead, ReadIsReady, ReadWaits}
+use Rattle.order.specs.Known.{HasNotBegun, IsSameRead, ReadIsReady, ReadWaits}
 use Rattle.order.specs.Range.{range_means}
 use Rattle.order.specs.Steps.{phase_left, read_left, tries_left}
 use Rattle.order.specs.declared.range.Range.{Range as RangeRead}
@@ -236,13 +236,14 @@ module _ {K V : Type 0} (d : DictRead) where
   abbrev pub read_machine : ℕ → Remaining → ReadRun d.kind.R → DictRun K V
   read_machine tries share m = record { run = d.around m share; tries = tries; types = record {} }
 
-  pub read_fresh : (share : Remaining) (tries number : ℕ) (call : MapCall) → 0 < tries → (m : ReadRun d.kind.R) → d.kind.means.call m.read ≡ call → m.at ≡ ReadStart → m.snaps.items ≡ [] → m.tries ≡ tries - 1 → m.limit ≡ tries → (IsFewCall call → d.kind.means.suits call) → (by : Bool) → m.trie ≡ by → IsFreshCall by call share tries number (read_machine tries share m)
-  read_fresh share tries number call some m is_call at none is_tries is_limit suits by same = record {
+  -- the machine around a read that has not begun has not begun
+  pub read_fresh : (share : Remaining) (tries number : ℕ) (call : MapCall) → 0 < tries → (m : ReadRun d.kind.R) → d.kind.means.call m.read ≡ call → (by : Bool) → HasNotBegun m by tries → (IsFewCall call → d.kind.means.suits call) → IsFreshCall by call share tries number (read_machine tries share m)
+  read_fresh share tries number call some m is_call by fresh suits = record {
     is_call = ap inner_call (d.inside m share) ∙ is_call;
     has_tries = refl;
     has_share = ap inner_share (d.inside m share);
-    unbegun = subst (λ (i : InnerRun). StandsAtStart i tries number) (sym (d.inside m share)) (at, all_tries m.tries tries some is_tries, none, rw is_call suits, is_limit);
-    in_trie = ap inner_trie (d.inside m share) ∙ same;
+    unbegun = subst (λ (i : InnerRun). StandsAtStart i tries number) (sym (d.inside m share)) (fresh.start, all_tries m.tries tries some fresh.left, fresh.empty, rw is_call suits, fresh.limit);
+    in_trie = ap inner_trie (d.inside m share) ∙ fresh.balance;
   }
 
 -- A whole ordered read: it begins with that machine, and as that has answered it has ended.

@@ -90,7 +90,7 @@ module _ (c : Call) (h : History) (k : ℕ) (after : WalkRun) (turns : LastTurns
 
     stays_if : (low : ℕ) (turn : Side) → WalkKnows c h after (Child low turn) → Counts before v low after.trail.node → Stays c.layout (value h) k after.trail.node.0
     stays_if low turn x (inl high) = stays_high c h k after.trail.node.0 g (rw goal at x.0.node) x.2 (rw x.1 high)
-    stays_if low turn x (inr y) = stays_shared c h k after.trail.node.0 g (rw goal at x.0.node) x.2 v (subst (λ n. value h (node n first_key) ≡ v) y.0 (key_told before.at refl y.1)) (λ l is. y.2 k l before_goal is)
+    stays_if low turn x (inr y) = stays_shared c h k after.trail.node.0 g (rw goal at x.0.node) x.2 v (subst (λ n. value h (node n first_key) ≡ v) y.0 (key_told before.at refl y.1)) (λ l is. subst (IsInSpan v l) (ap path_key (sym y.2.1 ∙ before_goal)) (y.2.2 l is))
 
     -- in a tree each fork stays, in a trie one that counts
     stays_so : (at : WalkAt) → WalkKnows c h after at → IfTurns at (λ low. Counts before v low after.trail.node) → LoadsChild at → Stays c.layout (value h) k after.trail.node.0

@@ -1,5 +1,5 @@
 -- When an ordered read may continue, what it waits for, and what its answer says.
-use Rattle.std.specs.Prelude.{◌≡◌, ◌⊎◌, ℕ, ◌+◌, ◌≤◌, Bool, false, List, [], Option, Some, None, Result, Ok, Err}
+use Rattle.std.specs.Prelude.{◌≡◌, ◌⊎◌, ℕ, ◌+◌, ◌-◌, ◌≤◌, Bool, false, List, [], Option, Some, None, Result, Ok, Err}
 use Rattle.histories.specs.Common.{Turn, Step, LoadSettled, Settled, Head as HeadWord, Side, node, History, value, Extends, Call, MatchTurn, begun_at}
 use Rattle.template.specs.Common.{load, LlxIsReady, LlxWaits, AreFinished, VlxIsReady, VlxWaits, Snap, Pair, reply, TreeAllows, is_leaf, toward}
 use Rattle.template.specs.Balance.{leaf_way, map_mode}
@@ -40,6 +40,14 @@ IsLastTurn c h k side n = (n ≡ 0) ⊎ LastTurned c h k side n
 -- and with both
 abbrev pub AreLastTurns : Call → History → ℕ → LastTurns → Type 0
 AreLastTurns c h k turns = (side : Side) → IsLastTurn c h k side (turn_to side turns).0
+
+-- a run that has not begun, in a trie or in a tree, with so many tries in all
+pub record HasNotBegun {R : Type 0} (m : ReadRun R) (trie : Bool) (tries : ℕ) : Type 0 where
+  pub balance : m.trie ≡ trie
+  pub start : m.at ≡ Start
+  pub empty : m.snaps.items ≡ []
+  pub limit : m.limit ≡ tries
+  pub left : m.tries ≡ tries - 1
 
 module _ {R A : Type 0} (means : ReadMeaning R A) where
   -- what a read with these snapshots knows all the way, in a trie or in a tree

@@ -6,6 +6,7 @@ use Rattle.template.specs.declared.walk.WalkAt.{WalkAt}
 use Rattle.template.specs.declared.walk.WalkAt.TheVariants.{Child, Key}
 use Rattle.template.specs.declared.walk.WalkRun.{WalkRun}
 use Rattle.ordered_map.specs.Bits.{IsForkKey, IsInSpan}
+use Rattle.ordered_map.specs.declared.rule.Goal.{Goal}
 use Rattle.ordered_map.specs.declared.rule.Goal.TheVariants.{Key as ToKey}
 use Rattle.order.specs.declared.read.Children.{Children}
 use Rattle.order.specs.declared.read.Children.TheVariants.{Left, Both}
@@ -35,22 +36,23 @@ abbrev pub LoadsKey : WalkAt → Type 0
 LoadsKey (Key head) = Unit {0}
 LoadsKey _ = ⊥
 
--- the walk's key shares this key of a fork, whichever level that is on; or it does not
-abbrev pub SharesKey : WalkRun → ℕ → Type 0
-SharesKey walk found = (k level : ℕ) → walk.goal ≡ ToKey k → IsForkKey found level → IsInSpan found level k
+-- the goal of a walk is a key that shares this key of a fork, whichever level that is on
+abbrev pub SharesKey : Goal → ℕ → Type 0
+SharesKey goal found = (k : ℕ) × (goal ≡ ToKey k) × ((level : ℕ) → IsForkKey found level → IsInSpan found level k)
 
-abbrev pub SharesNoKey : WalkRun → ℕ → Type 0
-SharesNoKey walk found = (k level : ℕ) → walk.goal ≡ ToKey k → IsForkKey found level → ¬ IsInSpan found level k
+-- a key that is the goal shares it on no level
+abbrev pub SharesNoKey : Goal → ℕ → Type 0
+SharesNoKey goal found = (k level : ℕ) → goal ≡ ToKey k → IsForkKey found level → ¬ IsInSpan found level k
 
 -- In a trie the fork n of this level counts, where a walk turns that was here before it has found
 -- this: it is above all keys, or the walk has found the fork's key, and its own shares that.
 abbrev pub Counts : WalkRun → ℕ → ℕ → NodeNo → Type 0
-Counts before found low n = (low < 2) ⊎ ((before.trail.node.0 ≡ n.0) × LoadsKey before.at × SharesKey before found)
+Counts before found low n = (low < 2) ⊎ ((before.trail.node.0 ≡ n.0) × LoadsKey before.at × SharesKey before.goal found)
 
 -- it does not count: it is below those, and if the walk has found its key, its own does not share
 -- that
 abbrev pub CountsNot : WalkRun → ℕ → ℕ → NodeNo → Type 0
-CountsNot before found low n = (2 ≤ low) × (before.trail.node.0 ≡ n.0 → LoadsKey before.at → SharesNoKey before found)
+CountsNot before found low n = (2 ≤ low) × (before.trail.node.0 ≡ n.0 → LoadsKey before.at → SharesNoKey before.goal found)
 
 -- so it is with the fork where the walk turns, if it does
 abbrev pub IfTurns : WalkAt → (ℕ → Type 0) → Type 0

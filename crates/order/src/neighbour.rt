@@ -109,8 +109,8 @@ impl Neighbour {
     ghost use Rattle.std.specs.Prelude.{◌≡◌, ℕ, ◌-◌, ◌*◌, ◌<◌, ◌≤◌, None, []};
     ghost use Rattle.order.specs.Neighbour.{asks_on_route, children_on, is_answer, is_past, leaf_load, after_leaf, neighbour_means, neighbour_try_left, turn_by, ways};
     ghost use Rattle.order.specs.declared.neighbour.Route.{Route};
+    ghost use Rattle.order.specs.Known.{HasNotBegun};
     ghost use Rattle.order.specs.Steps.{read_left};
-    ghost use Rattle.order.specs.declared.run.ReadAt.{ReadAt};
 
     /// A search on this side of a key that has not begun, with that many tries. What it keeps grows
     /// with this allocator. In each try it asks for at most 137 steps for each node that has been taken
@@ -119,11 +119,7 @@ impl Neighbour {
     pub fn run(alloc: Global, key: u64, side: Side, tries: u32, trie: bool) -> NeighbourRun
         ensures key { result.read.key ≡ key }
         ensures side { result.read.side ≡ side }
-        ensures trie { result.trie ≡ trie }
-        ensures start { result.at ≡ ReadAt.Start }
-        ensures snaps { result.snaps.items ≡ [] }
-        ensures limit { result.limit ≡ tries }
-        ensures tries { result.tries ≡ tries - 1 }
+        ensures fresh { HasNotBegun result trie tries }
         ensures bound { (nodes : ℕ) → 0 < tries →
             read_left neighbour_means result nodes ≤ tries * neighbour_try_left nodes }
     {

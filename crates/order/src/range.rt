@@ -38,8 +38,8 @@ impl Range {
     ghost use Rattle.order.specs.Next.{MayDo};
     ghost use Rattle.order.specs.Paths.{ComesNearer, slots_left};
     ghost use Rattle.order.specs.Range.{AreWithin, GoesBehind, GoesOnBehind, range_means, range_try_left};
+    ghost use Rattle.order.specs.Known.{HasNotBegun};
     ghost use Rattle.order.specs.Steps.{read_left};
-    ghost use Rattle.order.specs.declared.run.ReadAt.{ReadAt};
 
     /// A range of keys that has not begun, with `tries` tries. What it keeps grows with this
     /// allocator. What is said of its turns holds for a `most` of up to 64. In each try it asks for
@@ -50,11 +50,7 @@ impl Range {
         ensures low { result.read.low ≡ low }
         ensures high { result.read.high ≡ high }
         ensures most { result.read.most ≡ most }
-        ensures trie { result.trie ≡ trie }
-        ensures start { result.at ≡ ReadAt.Start }
-        ensures snaps { result.snaps.items ≡ [] }
-        ensures limit { result.limit ≡ tries }
-        ensures tries { result.tries ≡ tries - 1 }
+        ensures fresh { HasNotBegun result trie tries }
         ensures bound { (nodes : ℕ) → 0 < tries →
             read_left range_means result nodes ≤ tries * range_try_left most nodes }
     {

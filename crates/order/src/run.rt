@@ -78,7 +78,7 @@ impl<R: Read + Drop> ReadRun<R> {
     ghost use Rattle.template.specs.Walk.Steps.{walk_left, WalkFitsAt};
     ghost use Rattle.template.specs.Trails.{IsOwnMoment};
     ghost use Rattle.order.specs.Found.{BeginsSo, WalksTo, Looks};
-    ghost use Rattle.order.specs.Known.{AreLastTurns, IsSameRead, ReadGoes, ReadIsReady, ReadTurn, Validates};
+    ghost use Rattle.order.specs.Known.{AreLastTurns, HasNotBegun, IsSameRead, ReadGoes, ReadIsReady, ReadTurn, Validates};
     ghost use Rattle.order.specs.Loads.{load_value};
     ghost use Rattle.order.specs.Next.{MayLoad};
     ghost use Rattle.order.specs.Paths.{BeginsNear, ComesNearer, LoadFits, load_left, path_left};
@@ -92,11 +92,7 @@ impl<R: Read + Drop> ReadRun<R> {
     #[inline(always)]
     pub fn new(alloc: Global, read: R, tries: u32, trie: bool) -> ReadRun<R>
         ensures read { result.read ≡ read }
-        ensures trie { result.trie ≡ trie }
-        ensures start { result.at ≡ ReadAt.Start }
-        ensures snaps { result.snaps.items ≡ [] }
-        ensures limit { result.limit ≡ tries }
-        ensures tries { result.tries ≡ tries - 1 }
+        ensures fresh { HasNotBegun result trie tries }
         ensures bound { (nodes : ℕ) → 0 < tries →
             read_left R.means result nodes ≤ tries * run_try_left R.means result nodes }
     {

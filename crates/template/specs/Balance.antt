@@ -15,8 +15,8 @@ abbrev pub leaf_way : Bool → Way
 leaf_way false = InTree
 leaf_way true = InTrie
 
--- what stands for this number of taken nodes in the bounds of its calls: a trie has 67 levels at
--- most
+-- what stands for this number of taken nodes in the bounds of its calls, where a map has at most
+-- two levels more: a trie has 67 at most
 abbrev pub nodes_by : Bool → ℕ → ℕ
 nodes_by false nodes = nodes
 nodes_by true nodes = 65

@@ -1,5 +1,5 @@
 //! Edits and ordered reads of a dictionary.
-ghost use Rattle.std.specs.Prelude.{◌≡◌, ◌≤◌, ◌<◌, ◌+◌, ◌-◌, ◌*◌, ℕ, []};
+ghost use Rattle.std.specs.Prelude.{◌≡◌, ◌≤◌, ◌<◌, ◌+◌, ◌*◌, ℕ};
 ghost use Rattle.arena.specs.Machines.{Call};
 ghost use Rattle.arena.specs.Share.{Remaining};
 ghost use Rattle.dict.specs.Calls.{AsksForPairs, IsSmallCall, edit_call};
@@ -8,9 +8,9 @@ ghost use Rattle.ordered_map.specs.CallRules.{most_steps};
 ghost use Rattle.template.specs.Balance.{nodes_by};
 ghost use Rattle.ordered_map.specs.OrderedMap.{Neighbour as NeighbourOf};
 ghost use Rattle.ordered_map.specs.Requests.{as_map_call};
+ghost use Rattle.order.specs.Known.{HasNotBegun};
 ghost use Rattle.order.specs.Range.{range_means, range_try_left};
 ghost use Rattle.order.specs.Steps.{read_left};
-ghost use Rattle.order.specs.declared.run.ReadAt.{ReadAt};
 ghost use Rattle.forest.specs.Leads.{steps_made};
 ghost use Rattle.forest.specs.Hands.{IsAt, IsCallOf};
 ghost use Rattle.forest.specs.Seats.{StaysAtTable};
@@ -72,11 +72,7 @@ fn range_run(alloc: Global, low: u64, high: u64, most: usize, tries: u32, trie: 
     ensures low { result.read.low ≡ low }
     ensures high { result.read.high ≡ high }
     ensures most { result.read.most ≡ most }
-    ensures start { result.at ≡ ReadAt.Start }
-    ensures snaps { result.snaps.items ≡ [] }
-    ensures limit { result.limit ≡ tries }
-    ensures tries { result.tries ≡ tries - 1 }
-    ensures trie { result.trie ≡ trie }
+    ensures fresh { HasNotBegun result trie tries }
     ensures bound { (nodes : ℕ) → 0 < tries → read_left range_means result nodes
         ≤ tries * range_try_left most nodes }
 {

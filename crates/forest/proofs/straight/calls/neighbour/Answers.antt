@@ -1,4 +1,4 @@
-use Rattle.std.proofs.Common.{◌∙◌}
+use Rattle.std.proofs.Common.{◌∙◌, sym}
 use Rattle.arena.specs.Share.{Remaining}
 use Rattle.ordered_map.specs.OrderedMap.{Neighbour}
 use Rattle.forest.specs.StraightCalls.{IsFreshCall}
@@ -9,7 +9,7 @@ use Rattle.forest.proofs.straight.calls.neighbour.Goals as goal
 
 -- its machine has not begun
 searches : (g : Over) (c : After-run-run g) (share : Remaining) → IsFreshCall {K = g.row.K.Denot} {V = g.row.V.Denot} (g.B.Balance.trie g.B.FixedBalance.the) (Neighbour c.args.side (g.K.WordKey.word_of c.args.key)) share c.args.tries c.args.hand.number (read_machine neighbours c.args.tries share c.run-run.result)
-searches g c share = read_fresh neighbours share c.args.tries c.args.hand.number (Neighbour c.args.side (g.K.WordKey.word_of c.args.key)) c.requires.tries c.run-run.result (λ i. Neighbour (c.run-run.ensures.side i) ((c.run-run.ensures.key ∙ c.word.ensures) i)) c.run-run.ensures.start c.run-run.ensures.snaps c.run-run.ensures.tries c.run-run.ensures.limit (λ few. g.met.K.WordKey.fits c.args.key c.valid.ensures) (g.B.Balance.trie g.B.FixedBalance.the) (c.run-run.ensures.trie ∙ c.in_trie.ensures)
+searches g c share = read_fresh neighbours share c.args.tries c.args.hand.number (Neighbour c.args.side (g.K.WordKey.word_of c.args.key)) c.requires.tries c.run-run.result (λ i. Neighbour (c.run-run.ensures.side i) ((c.run-run.ensures.key ∙ c.word.ensures) i)) (g.B.Balance.trie g.B.FixedBalance.the) (rw (sym c.in_trie.ensures) c.run-run.ensures.fresh) (λ few. g.met.K.WordKey.fits c.args.key c.valid.ensures)
 
 pub call-told-requires-clause-begins : goal.call-told-requires-clause-begins
 call-told-requires-clause-begins g c =
