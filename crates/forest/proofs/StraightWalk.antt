@@ -19,7 +19,8 @@ use Rattle.template.specs.Common.{MayGo}
 use Rattle.ordered_map.specs.Bits.{IsInSpan}
 use Rattle.ordered_map.specs.TrieShape.{Stays}
 use Rattle.order.proofs.Lemmas.{stays_high, stays_shared}
-use Rattle.forest.specs.StraightWalk.{KeepsTurns, SharesKey, counted}
+use Rattle.forest.specs.StraightWalk.{KeepsTurns, with_turn_if}
+use Rattle.order.specs.LastTurns.{SharesKey}
 use Rattle.template.proofs.Lemmas.{head_to_key, head_to_more, head_ends, head_to_child, key_ends, key_to_child, more_to_pair, pair_to_value, pair_to_pair, pair_ends, value_to_high, high_ends, child_to_head}
 use Rattle.order.specs.declared.last_turns.LastTurns.{LastTurns}
 use Rattle.forest.specs.declared.view.SeatedPass.{SeatedPass}
@@ -60,12 +61,12 @@ module _ {M : Type 0} {o : Calls M} (w : Walker o) (ps : List SeatedPass) where
       pub to_key : head.leaf ≡ false → asks_key goal head ≡ true → WalkerIsTold w ps (way_at way goal t p) turn v → WalkerWaits w ps (way_at way goal t (Key head)) turn (load LoadSettled (node t.node.0 first_key))
       to_key fork asks = goes (way_at way goal t p) (way_at way goal t (Key head)) turn v _ tt (refl, refl) (λ d h x. head_to_key way goal t d h p v head at is x fork asks)
 
-      keeps_open : (counts : Bool) → (counts ≡ true → way ≢ InTree → head.level < 2) → head.leaf ≡ false → asks_key goal head ≡ false → KeepsTurns (way_at way goal t p, turn) v (way_at way goal t (Child head.level (open_side goal head)), counted counts (open_side goal head) t.node turn)
+      keeps_open : (counts : Bool) → (counts ≡ true → way ≢ InTree → head.level < 2) → head.leaf ≡ false → asks_key goal head ≡ false → KeepsTurns (way_at way goal t p, turn) v (way_at way goal t (Child head.level (open_side goal head)), with_turn_if counts (open_side goal head) t.node turn)
       keeps_open false high fork asks = inl refl
       keeps_open true high fork asks = inr (refl, λ d h x. stays_above d h head.level (open_side goal head) _ (head_to_child way goal t d h p v head at is x fork asks) (high refl))
 
-      pub to_open : head.leaf ≡ false → asks_key goal head ≡ false → (counts : Bool) → (counts ≡ true → way ≢ InTree → head.level < 2) → WalkerIsTold w ps (way_at way goal t p) turn v → WalkerWaits w ps (way_at way goal t (Child head.level (open_side goal head))) (counted counts (open_side goal head) t.node turn) (load LoadChild (node t.node.0 (ChildWord (open_side goal head))))
-      to_open fork asks counts high = turns_to (way_at way goal t p) (way_at way goal t (Child head.level (open_side goal head))) turn (counted counts (open_side goal head) t.node turn) v _ tt (refl, refl) (keeps_open counts high fork asks) (λ d h x. head_to_child way goal t d h p v head at is x fork asks)
+      pub to_open : head.leaf ≡ false → asks_key goal head ≡ false → (counts : Bool) → (counts ≡ true → way ≢ InTree → head.level < 2) → WalkerIsTold w ps (way_at way goal t p) turn v → WalkerWaits w ps (way_at way goal t (Child head.level (open_side goal head))) (with_turn_if counts (open_side goal head) t.node turn) (load LoadChild (node t.node.0 (ChildWord (open_side goal head))))
+      to_open fork asks counts high = turns_to (way_at way goal t p) (way_at way goal t (Child head.level (open_side goal head))) turn (with_turn_if counts (open_side goal head) t.node turn) v _ tt (refl, refl) (keeps_open counts high fork asks) (λ d h x. head_to_child way goal t d h p v head at is x fork asks)
 
       -- to an end no turn counts
       pub to_known : (side : Side) → head.leaf ≡ false → asks_key goal head ≡ false → open_side goal head ≡ side → WalkerIsTold w ps (way_at way goal t p) turn v → WalkerGoesDown w ps way goal t head.level side turn
@@ -81,12 +82,12 @@ module _ {M : Type 0} {o : Calls M} (w : Walker o) (ps : List SeatedPass) where
       waits_side : (d : Call) (h : History) → WalkIsTold (way_at way goal t (Key head)) d h low → WalkWaits (way_at way goal t (Child head.level side)) d h (load LoadChild (node t.node.0 (ChildWord side)))
       waits_side d h x = key_to_child way goal t d h head low side x (ends_there head low false goes_on) is
 
-      keeps_side : (counts : Bool) → (counts ≡ true → way ≢ InTree → SharesKey goal low) → KeepsTurns (way_at way goal t (Key head), turn) low (way_at way goal t (Child head.level side), counted counts side t.node turn)
+      keeps_side : (counts : Bool) → (counts ≡ true → way ≢ InTree → SharesKey goal low) → KeepsTurns (way_at way goal t (Key head), turn) low (way_at way goal t (Child head.level side), with_turn_if counts side t.node turn)
       keeps_side false shares = inl refl
       keeps_side true shares = inr (refl, λ d h x. stays_where d h head.level side _ (waits_side d h x) low x.told (shares refl))
 
-      pub to_side : (counts : Bool) → (counts ≡ true → way ≢ InTree → SharesKey goal low) → WalkerIsTold w ps (way_at way goal t (Key head)) turn low → WalkerWaits w ps (way_at way goal t (Child head.level side)) (counted counts side t.node turn) (load LoadChild (node t.node.0 (ChildWord side)))
-      to_side counts shares = turns_to (way_at way goal t (Key head)) (way_at way goal t (Child head.level side)) turn (counted counts side t.node turn) low _ tt (refl, refl) (keeps_side counts shares) waits_side
+      pub to_side : (counts : Bool) → (counts ≡ true → way ≢ InTree → SharesKey goal low) → WalkerIsTold w ps (way_at way goal t (Key head)) turn low → WalkerWaits w ps (way_at way goal t (Child head.level side)) (with_turn_if counts side t.node turn) (load LoadChild (node t.node.0 (ChildWord side)))
+      to_side counts shares = turns_to (way_at way goal t (Key head)) (way_at way goal t (Child head.level side)) turn (with_turn_if counts side t.node turn) low _ tt (refl, refl) (keeps_side counts shares) waits_side
 
     pub finds_fork : (head : HeadParts) (low : ℕ) → low < 2 ^ 64 → EndsAt (way_from way goal) low true → WalkerIsTold w ps (way_at way goal t (Key head)) turn low → WalkerFinds w ps way goal turn record { trail = t; head = head; more = 0; key = low; value = None }
     finds_fork head low small ends x = record { last = way_at way goal t (Key head); is_goal = refl; is_way = refl; told = low; finds = λ d h y. key_ends way goal t d h head low y small (ends_there head low true ends); so = x }

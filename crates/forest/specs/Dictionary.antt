@@ -1,6 +1,6 @@
 -- What the calls of a dictionary say of the pass that makes them.
 use Rattle.template.specs.Balance.{map_mode, nodes_by}
-use Rattle.std.specs.Prelude.{◌≡◌, ℕ, ◌+◌, ◌*◌, ◌<◌, ◌≤◌, ◌⊎◌, Bool, false, List, ◌∷◌, Option, Some, None, Result, Ok, Err}
+use Rattle.std.specs.Prelude.{◌≡◌, ℕ, ◌+◌, ◌*◌, ◌<◌, ◌≤◌, ◌⊎◌, Bool, List, ◌∷◌, Option, Some, None, Result, Ok, Err}
 use Rattle.histories.specs.Common.{Full as FullOf, Row, WasInTheWay, IsOthersScx, History, ◌⊳◌, value, Extends, Entry, log}
 use Rattle.template.specs.Common.{Pair as PairOf, MapCall, MapReply, MapEdit, edited, reply, edit_of, Makes, Spells, tries_since}
 use Rattle.template.specs.Common.{HasTriedAtMost, MayReply, form_of, most_nodes, most_scx, most_steps, told_of, Reply}
@@ -18,9 +18,9 @@ use Rattle.forest.specs.StepKinds.{HasKeptToKinds}
 use Rattle.forest.specs.Traces.{shared_nodes}
 
 -- The one history of a dictionary is the log of its run: each entry makes an edit of the map. A
--- version is the map that the words spell at a moment of the run. By the laws of the tree there is
--- one at each, and it is what the entries up to then make of the empty map, whatever edits they are
--- said to make.
+-- version is the map that the words spell at a moment of the run. By the laws of trees and tries
+-- there is one at each, and it is what the entries up to then make of the empty map, whatever edits
+-- they are said to make.
 
 -- at this moment of the run that the pass knows the map is m: the words spell it
 abbrev pub IsVersion : PassView → History → List PairOf → Type 0
@@ -144,10 +144,6 @@ pub record HasCalledIn {K V : Type 0} (trie : Bool) (valid_key : K → Type 0) (
   pub valid : IsValidReply valid_key valid_value reply
   -- a range that asks for no pairs has left the pass as it was
   pub nothing : ¬ AsksForPairs call → new ≡ old
-
--- so it has in a tree
-abbrev pub HasCalled : {K V : Type 0} → (K → Type 0) → (K → ℕ) → (V → Type 0) → (V → ℕ) → Ground → PassView → PassView → MapCall → Reply K V → Type 0
-HasCalled valid_key key valid_value value_word forest old new call reply = HasCalledIn false valid_key key valid_value value_word forest old new call reply
 
 -- the answer of an edit as a reply, if this is the reply that says what it says
 abbrev pub update_reply : {A K V : Type 0} → (A → Reply K V) → Result A UpdateFault → Reply K V

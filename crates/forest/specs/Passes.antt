@@ -123,7 +123,7 @@ pub record IsBlamedFor (h : History) (blamed : List ℕ) (s : ℕ) : Type 0 wher
 -- The blame list has SCX-records of other passes' shares, each of which an info word has named in
 -- the run that the pass knows. None is there more than five times: once for each of the nodes
 -- that it covers, at most four, and once when it is finished. In cells each is
--- finished in the run, and none of them is blamed twice; a call on the tree may name one that is in
+-- finished in the run, and none of them is blamed twice; a call on a map may name one that is in
 -- progress, and name it again.
 pub record HasBlamed (p : PassView) : Type 0 where
   pub others : All (λ s. IsOthersScx p.layout p.number s) p.blamed

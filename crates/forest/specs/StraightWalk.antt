@@ -1,20 +1,30 @@
 -- Calls that are at a place of a walk, of whatever machine that walks.
-use Rattle.std.specs.Prelude.{◌≡◌, ◌⊎◌, ℕ, Bool, true, false, List}
-use Rattle.histories.specs.Common.{NodeNo, Step, History, value, Call, LoadChild, LoadSettled, Settled, Head as HeadWord, Side, child, node}
+use Rattle.std.specs.Prelude.{◌≡◌, ◌⊎◌, ℕ, ◌+◌, ◌<◌, ◌≤◌, Bool, true, false, List}
+use Rattle.atomic_table.specs.declared.shared.Seat.{Seat}
+use Rattle.histories.specs.Common.{NodeNo, Step, History, value, Call, LoadChild, LoadSettled, Settled, Head as HeadWord, Side, child, node, head_of, Ghosts as Machine}
+use Rattle.arena.specs.Layout.{node_start}
+use Rattle.arena.specs.declared.head.Head.{Head}
+use Rattle.arena.specs.declared.machine.Shape.{Ghosts as Shape}
 use Rattle.template.specs.Common.{load, path_key, FoundBy, WalkIsTold, WalkWaits, IsPastRoot, Goal}
-use Rattle.template.specs.Walk.Places.{way_at, way_from}
-use Rattle.ordered_map.specs.Bits.{IsForkKey, IsInSpan}
+use Rattle.template.specs.Walk.Known.{asks_key}
+use Rattle.template.specs.Walk.Places.{LoadsHead, way_at, way_from}
+use Rattle.template.specs.Walk.Steps.{room}
 use Rattle.ordered_map.specs.TrieShape.{Stays}
-use Rattle.ordered_map.specs.declared.rule.Goal.TheVariants.{Key as ToKey}
 use Rattle.order.specs.LastTurns.{last_turns, no_turns, with_last_turn}
 use Rattle.template.specs.declared.walk.Found.{Found}
 use Rattle.template.specs.declared.walk.Trail.{Trail}
-use Rattle.template.specs.declared.walk.WalkAt.TheVariants.{Child}
+use Rattle.template.specs.declared.walk.WalkAt.{WalkAt}
+use Rattle.template.specs.declared.walk.WalkAt.TheVariants.{Child, Head as AtHead}
 use Rattle.template.specs.declared.walk.WalkRun.{WalkRun}
 use Rattle.template.specs.declared.walk.Way.{Way}
 use Rattle.order.specs.declared.last_turns.LastTurns.{LastTurns}
+use Rattle.forest.specs.declared.straight.hand.Hand.{Hand}
+use Rattle.forest.specs.declared.straight.node.Reached.{Reached}
+use Rattle.forest.specs.declared.view.SeatView.{SeatView}
 use Rattle.forest.specs.declared.view.SeatedPass.{SeatedPass}
 use Rattle.forest.specs.CallKinds.{Calls}
+use Rattle.forest.specs.Hands.{hand_calls}
+use Rattle.forest.specs.Leads.{steps_made}
 use Rattle.forest.specs.Inside.{Inner, Inside, InnerIsTold, InnerWaits}
 
 -- the second walk goes to the same goal, by the same way
@@ -26,7 +36,8 @@ GoesAs old now = (now.goal ≡ old.goal) × (now.way ≡ old.way)
 abbrev pub StaysThere : WalkRun → ℕ → WalkRun → Type 0
 StaysThere old v now = (d : Call) (h : History) → WalkIsTold old d h v → Stays d.layout (value h) (path_key old.goal) now.trail.node.0
 
--- it keeps a fork where it turns if that is so
+-- It keeps a fork where it turns only if that is so. Nothing is owed for a fork that it does not keep:
+-- an earlier one is as good, since the path of the key has passed that too.
 abbrev pub KeepsTurns : WalkRun × LastTurns → ℕ → WalkRun × LastTurns → Type 0
 KeepsTurns old v now = (now.1 ≡ old.1) ⊎ ((now.1 ≡ last_turns now.0.at now.0.trail.node old.1) × StaysThere old.0 v now.0)
 
@@ -40,14 +51,34 @@ inner_walk = record {
   goes = λ old v now. IsPastRoot now.0.at × GoesAs old.0 now.0 × KeepsTurns old v now;
 }
 
--- its key shares that of a fork
-abbrev pub SharesKey : Goal → ℕ → Type 0
-SharesKey goal key = (k : ℕ) × (goal ≡ ToKey k) × ((level : ℕ) → IsForkKey key level → IsInSpan key level k)
+-- with a turn to this side at the node n, if it counts
+abbrev pub with_turn_if : Bool → Side → NodeNo → LastTurns → LastTurns
+with_turn_if true side n turns = with_last_turn side n turns
+with_turn_if false side n turns = turns
 
--- with a turn to this side at a node, if it counts
-abbrev pub counted : Bool → Side → NodeNo → LastTurns → LastTurns
-counted true side n turns = with_last_turn side n turns
-counted false side n turns = turns
+-- at this place a walk asks for the head of the node that its trail has reached, whose words begin
+-- there
+pub record AsksHead (trail : Trail) (at : WalkAt) (start : ℕ) : Type 0 where
+  pub place : LoadsHead at
+  pub begins : start ≡ node_start trail.node
+
+-- a walk by this way has gone down from a fork of this level to a node, whose head it asks for: it is
+-- no deeper than there is room where so many nodes are taken
+pub record AsksBelow (way : Way) (level taken : ℕ) (place : Reached) : Type 0 where
+  pub at : place.at ≡ AtHead level
+  pub deep : level + 1 < 2 + room way taken
+  pub begins : place.start ≡ node_start place.trail.node
+
+-- the head is that of a fork whose key a walk to this goal loads
+pub record IsAskedFork (goal : Goal) (head : Head) : Type 0 where
+  pub fork : head.leaf ≡ false
+  pub asks : asks_key goal head ≡ true
+
+-- a walk has come nearer to its end, by at least as many steps as it has made: at most so many were
+-- left to it, and so many are now
+pub record WalksNearer (old new : Seat ℕ SeatView) (before now : ℕ) : Type 0 where
+  pub nearer : now ≤ before
+  pub steps : steps_made new + now ≤ steps_made old + before
 
 -- a call of a machine that walks
 abbrev pub Walker : {M : Type 0} → Calls M → Type 0
@@ -80,3 +111,27 @@ module _ {M : Type 0} {o : Calls M} (w : Walker o) (ps : List SeatedPass) where
     pub told : ℕ
     pub finds : (d : Call) (h : History) → WalkIsTold last d h told → FoundBy way goal d h f
     pub so : WalkerIsTold last turn told
+
+module _ {S T M A : Type 0} (s : Shape T) (m : Machine M T A) (hand : Hand S) where
+  -- the walk of a call of the hand is here, and its last step has found v
+  abbrev pub HasWalked : Seat ℕ SeatView → WalkRun → ℕ → Type 0
+  HasWalked seat walk v = (w : Walker (hand_calls s m hand)) × (turn : LastTurns) × WalkerIsTold w seat.me.0.passes walk turn v
+
+  -- whichever call it is whose walk was here at the old seat, and had found v: at the new seat that
+  -- has found f in the end
+  abbrev pub WalkFinds : Seat ℕ SeatView → WalkRun → ℕ → Seat ℕ SeatView → Found → Type 0
+  WalkFinds old walk v new f = (w : Walker (hand_calls s m hand)) (turn : LastTurns) → WalkerIsTold w old.me.0.passes walk turn v → WalkerFinds w new.me.0.passes walk.way walk.goal turn f
+
+  -- or it goes down to this side of the fork, with the head in this word: there it has turned last if
+  -- that counts
+  abbrev pub WalkGoesDown : Seat ℕ SeatView → WalkRun → ℕ → Seat ℕ SeatView → Side → Bool → Type 0
+  WalkGoesDown old walk word new side counts = (w : Walker (hand_calls s m hand)) (turn : LastTurns) → WalkerIsTold w old.me.0.passes walk turn word → WalkerGoesDown w new.me.0.passes walk.way walk.goal walk.trail (head_of word).level side (with_turn_if counts side walk.trail.node turn)
+
+  -- a call of the hand is to walk by this way to this goal, from the root on
+  abbrev pub MayWalk : Seat ℕ SeatView → Way → Goal → Type 0
+  MayWalk seat way goal = (w : Walker (hand_calls s m hand)) × WalksFromRoot w seat.me.0.passes way goal
+
+  -- whichever call was to do so at the old seat: at the new one its walk has found f in the end, and
+  -- these forks are the last where it has turned
+  abbrev pub WalkEnds : Seat ℕ SeatView → Way → Goal → Seat ℕ SeatView → LastTurns → Found → Type 0
+  WalkEnds old way goal new turns f = (w : Walker (hand_calls s m hand)) → WalksFromRoot w old.me.0.passes way goal → WalkerFinds w new.me.0.passes way goal turns f

@@ -22,9 +22,9 @@ pub record IsClientOfRun (forest : Ground) (run : History) (versions : History �
   -- after the last it has only looked at the table: it has made no further call
   pub looks : HoldsOfOwn IsLook c (run_of last) run
 
--- There is one lawful run of a dictionary within the script's limits, whose calls make at most the
--- tries that the script says. All calls of all clients are in its history, each client's in the
--- script's order, with one reply for each call; the pairs are those of the last version.
+-- There is one lawful run of a dictionary of the script's mode within its limits, whose calls make
+-- at most the tries that the script says. All calls of all clients are in its history, each client's
+-- in the script's order, with one reply for each call; the pairs are those of the last version.
 pub record IsOutcome (script : Script) (replies : List (Vec (Reply ℕ ℕ) Global)) (pairs : List (ℕ × ℕ)) : Type 0 where
   pub forest : Ground
   pub layout : IsLayoutOf script.limits script.layout.mode forest.layout

@@ -32,7 +32,7 @@ pub(crate) fn make_calls<G: Gate, B: FixedBalance>(
     pass: Pass<Numbers<B>>,
 ) -> Worked<B>
     requires pass { IsOf forest.now pass }
-    requires tree { All (λ call. asks_map call.command ≡ true) calls.now }
+    requires asks { All (λ call. asks_map call.command ≡ true) calls.now }
     ensures { IfOk result (λ w. HasWorked forest.now calls.now pass w.0 w.1.items) }
 {
     let client = pass.number();

@@ -7,7 +7,7 @@ ghost use Rattle.script.specs.Commands.{asks_map};
 use dict::Request;
 use script::{Call, Command};
 
-/// The call of a dictionary that a call on the tree is.
+/// The call of a dictionary that a call on a map is.
 pub(crate) fn request_of(call: &Call) -> Request<u64, u128>
     requires { asks_map call.now.command ≡ true }
     ensures call { map_call (Some call.now.command) ≡ Some (map_request result) }

@@ -65,7 +65,7 @@ fn crowd<R: Threads + Wait + Sync, G: Gate, B: FixedBalance + Send>(
     passes: Vec<Pass<Numbers<B>>>,
 ) -> Works<B>
     requires passes { All (IsOf forest.now) passes.items }
-    requires tree { All (λ call. asks_map call.command ≡ true) calls.now }
+    requires asks { All (λ call. asks_map call.command ≡ true) calls.now }
     ensures { IfOk result (λ r. HaveWorked forest.now calls.now passes.items r.0.items r.1.items) }
 {
     scope(
@@ -73,7 +73,7 @@ fn crowd<R: Threads + Wait + Sync, G: Gate, B: FixedBalance + Send>(
         rt,
         move |scope| -> Works<B>
             requires passes { All (IsOf forest.now) passes.items }
-            requires tree { All (λ call. asks_map call.command ≡ true) calls.now }
+            requires asks { All (λ call. asks_map call.command ≡ true) calls.now }
             ensures { IfOk result (λ r. HaveWorked forest.entry.now calls.entry.now passes.items r.0.items r.1.items) }
         {
             let (threads, all) = start_all(alloc, scope, forest, calls, gate, passes)?;

@@ -50,7 +50,7 @@ pub(crate) fn start_all<'s, E, G: Gate, B: FixedBalance + Send>(
     passes: Vec<Pass<Numbers<B>>>,
 ) -> Result<(Vec<Thread<'s, B>>, bool), NoMemory>
     requires passes { All (IsOf forest.now) passes.items }
-    requires tree { All (λ call. asks_map call.command ≡ true) calls.now }
+    requires asks { All (λ call. asks_map call.command ≡ true) calls.now }
     ensures duties { IfOk result (λ r. All (λ t. (t.promise.forest.now ≡ forest.now) × (t.promise.calls.now ≡ calls.now)) r.0.items) }
     ensures passes { IfOk result (λ r. IsTrue r.1 → map (λ t. t.promise.pass.value) r.0.items ≡ passes.items) }
 {
@@ -64,7 +64,7 @@ pub(crate) fn start_all<'s, E, G: Gate, B: FixedBalance + Send>(
         };
         let work = move || -> Worked<B>
             requires pass { IsOf forest.now pass }
-            requires tree { All (λ call. asks_map call.command ≡ true) calls.now }
+            requires asks { All (λ call. asks_map call.command ≡ true) calls.now }
             ensures { IfOk result (λ w. HasWorked forest.entry.now calls.entry.now pass w.0 w.1.items) }
         { make_calls(alloc, forest, gate, calls, pass) };
         let Ok(thread) = scope.spawn_with(duty, work) else {

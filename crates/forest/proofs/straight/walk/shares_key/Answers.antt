@@ -1,4 +1,5 @@
+use Rattle.std.proofs.Common.{subst, sym, ap, ◌∙◌}
 use Rattle.forest.proofs.straight.walk.shares_key.Goals as goal
 
-pub returns-in-Key : goal.returns-in-Key
-returns-in-Key g c = (g.in-Key.wanted, g.in-Key.is, λ level is. (g.shares.ensures level is).0 c)
+pub returns-in-Key-clause-yes : goal.returns-in-Key-clause-yes
+returns-in-Key-clause-yes g c = (g.in-Key.wanted, g.in-Key.is, λ level is. (g.shares.ensures level is).0 c)

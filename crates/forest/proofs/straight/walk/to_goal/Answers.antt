@@ -1,6 +1,6 @@
 use Rattle.std.proofs.Common.{◌+◌, ◌<◌, ◌∙◌, sym, arith}
 use Rattle.histories.specs.Common.{LoadSettled, Settled, Head as HeadWord, head_of, node}
-use Rattle.forest.specs.StraightWalk.{Walker, WalkerIsTold, WalkerWaits, WalksFromRoot, counted}
+use Rattle.forest.specs.StraightWalk.{Walker, WalkerIsTold, WalkerWaits, WalksFromRoot, with_turn_if}
 use Rattle.forest.specs.Traces.{shared_nodes}
 use Rattle.forest.specs.CallKinds.{calls}
 use Rattle.prims.specs.Llx.Known.{load}
@@ -22,8 +22,8 @@ told g c w x = c.read-word.ensures.told w (way_at c.args.way c.args.goal c.loop-
 -- and the child on the side to which it goes
 told_child : (g : Over) (c : After-read-child g) (w : Walker (calls g.S.Shape g.M.Machine c.args.hand.layout.now c.args.hand.number))
     → WalksFromRoot w c.args.seat.now.me.0.passes c.args.way c.args.goal
-    → WalkerIsTold w c.read-child.new.seat.me.0.passes (way_at c.args.way c.args.goal c.loop-to.trail (Child (head_of c.read-word.result).level c.in-Ok.to.0)) (counted c.in-Ok.to.1 c.in-Ok.to.0 c.loop-to.trail.node c.loop-to.turns) c.read-child.result
-told_child g c w x = c.read-child.ensures.told w (way_at c.args.way c.args.goal c.loop-to.trail (Child (head_of c.read-word.result).level c.in-Ok.to.0)) (counted c.in-Ok.to.1 c.in-Ok.to.0 c.loop-to.trail.node c.loop-to.turns)
+    → WalkerIsTold w c.read-child.new.seat.me.0.passes (way_at c.args.way c.args.goal c.loop-to.trail (Child (head_of c.read-word.result).level c.in-Ok.to.0)) (with_turn_if c.in-Ok.to.1 c.in-Ok.to.0 c.loop-to.trail.node c.loop-to.turns) c.read-child.result
+told_child g c w x = c.read-child.ensures.told w (way_at c.args.way c.args.goal c.loop-to.trail (Child (head_of c.read-word.result).level c.in-Ok.to.0)) (with_turn_if c.in-Ok.to.1 c.in-Ok.to.0 c.loop-to.trail.node c.loop-to.turns)
     (c.in-Ok.ensures.down w c.loop-to.turns (told g (goal.at.read-child-requires-clause-waits g c.before).After-read-word w x))
 
 head_fits : (g : Over) (c : After-read-word g) → WalkFitsAt c.loop-to.at c.read-word.result (room c.args.way (shared_nodes c.args.hand.layout.now))
@@ -32,7 +32,7 @@ head_fits g c = let r = c.requires.waits in
 
 child_fits : (g : Over) (c : After-read-child g) → (head_of c.read-word.result).level + 1 < 2 + room c.args.way (shared_nodes c.args.hand.layout.now)
 child_fits g c = let r = c.requires.waits in
-    fits r.0 _ (way_at c.args.way c.args.goal c.loop-to.trail (Child (head_of c.read-word.result).level c.in-Ok.to.0)) (counted c.in-Ok.to.1 c.in-Ok.to.0 c.loop-to.trail.node c.loop-to.turns) c.read-child.result (told_child g c r.0 r.1)
+    fits r.0 _ (way_at c.args.way c.args.goal c.loop-to.trail (Child (head_of c.read-word.result).level c.in-Ok.to.0)) (with_turn_if c.in-Ok.to.1 c.in-Ok.to.0 c.loop-to.trail.node c.loop-to.turns) c.read-child.result (told_child g c r.0 r.1)
 
 pub read-word-requires-clause-waits : goal.read-word-requires-clause-waits
 read-word-requires-clause-waits g c = let r = c.requires.waits in (r.0, way_at c.args.way c.args.goal c.loop-to.trail c.loop-to.at, c.loop-to.turns, c.loop-to.invariant.waits r.0 r.1)
@@ -53,15 +53,15 @@ pub read-child-requires-clause-waits : goal.read-child-requires-clause-waits
 read-child-requires-clause-waits g c = let r = c.requires.waits in (
   r.0,
   way_at c.args.way c.args.goal c.loop-to.trail (Child (head_of c.read-word.result).level c.in-Ok.to.0),
-  counted c.in-Ok.to.1 c.in-Ok.to.0 c.loop-to.trail.node c.loop-to.turns,
+  with_turn_if c.in-Ok.to.1 c.in-Ok.to.0 c.loop-to.trail.node c.loop-to.turns,
   c.in-Ok.ensures.down r.0 c.loop-to.turns (told g (goal.at.read-child-requires-clause-waits g c).After-read-word r.0 r.1),
 )
 
 -- so that the head of the child is what the walk waits for, wherever its words begin
 waits_below : (g : Over) (c : After-read-child g) (w : Walker (calls g.S.Shape g.M.Machine c.args.hand.layout.now c.args.hand.number))
     → WalksFromRoot w c.args.seat.now.me.0.passes c.args.way c.args.goal
-    → WalkerWaits w c.read-child.new.seat.me.0.passes (way_at c.args.way c.args.goal (trail_below c.loop-to.trail c.in-Ok.to.0 c.read-child.result) (Head (head_of c.read-word.result).level)) (counted c.in-Ok.to.1 c.in-Ok.to.0 c.loop-to.trail.node c.loop-to.turns) (load LoadSettled (node c.read-child.result (Settled HeadWord)))
-waits_below g c w x = to_head w _ c.args.way c.args.goal c.loop-to.trail (counted c.in-Ok.to.1 c.in-Ok.to.0 c.loop-to.trail.node c.loop-to.turns) (head_of c.read-word.result).level c.in-Ok.to.0 c.read-child.result (told_child g c w x)
+    → WalkerWaits w c.read-child.new.seat.me.0.passes (way_at c.args.way c.args.goal (trail_below c.loop-to.trail c.in-Ok.to.0 c.read-child.result) (Head (head_of c.read-word.result).level)) (with_turn_if c.in-Ok.to.1 c.in-Ok.to.0 c.loop-to.trail.node c.loop-to.turns) (load LoadSettled (node c.read-child.result (Settled HeadWord)))
+waits_below g c w x = to_head w _ c.args.way c.args.goal c.loop-to.trail (with_turn_if c.in-Ok.to.1 c.in-Ok.to.0 c.loop-to.trail.node c.loop-to.turns) (head_of c.read-word.result).level c.in-Ok.to.0 c.read-child.result (told_child g c w x)
 
 pub start_for-start-requires : goal.start_for-start-requires
 start_for-start-requires g c = let r = c.requires.waits in waits_within r.0 _ g.met.M.Machine.lawful _ _ (waits_below g (goal.at.start_for-start-requires g c).After-read-child r.0 r.1)
@@ -86,3 +86,6 @@ loop-to-preserved g c = record {
 
 pub pass-requires-clause-first : goal.pass-requires-clause-first
 pass-requires-clause-first g c = c.requires.first
+
+pub pass-requires-clause-stands : goal.pass-requires-clause-stands
+pass-requires-clause-stands g c = record { place = c.loop-to.invariant.place; begins = c.loop-to.invariant.start }

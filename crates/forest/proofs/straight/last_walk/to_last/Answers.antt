@@ -8,9 +8,9 @@ use Rattle.forest.specs.CallKinds.{calls}
 use Rattle.template.specs.Walk.Places.{way_at, LoadsHead}
 use Rattle.template.specs.Walk.Steps.{room, WalkFitsAt, walk_left}
 use Rattle.forest.proofs.StraightWalk.{fits, fewer, some_left}
-use Rattle.forest.proofs.straight.walk.to_last.Given.{Over}
-use Rattle.forest.proofs.straight.walk.to_last.Goals.{After-read-head, After-descend_right-word, After-descend-place}
-use Rattle.forest.proofs.straight.walk.to_last.Goals as goal
+use Rattle.forest.proofs.straight.last_walk.to_last.Given.{Over}
+use Rattle.forest.proofs.straight.last_walk.to_last.Goals.{After-read-head, After-descend_right-word, After-descend-place}
+use Rattle.forest.proofs.straight.last_walk.to_last.Goals as goal
 
 -- whichever call it is, it has got the head of this node
 told : (g : Over) (c : After-read-head g) (w : Walker (calls g.S.Shape g.M.Machine c.args.hand.layout.now c.args.hand.number))
@@ -30,9 +30,9 @@ head_fits g c = let r = c.requires.waits in fits r.0 _ (way_at c.args.way (End R
 -- a node's head, and what is loaded after it, take at most three steps
 less : (g : Over) (c : After-descend-place g) → 3 + walk_left c.descend-place.result.at (room c.args.way (shared_nodes c.args.hand.layout.now)) ≤ walk_left c.loop-side.place.at (room c.args.way (shared_nodes c.args.hand.layout.now))
 less g c =
-    let few = fewer c.descend_right-word.result.0.at c.descend_right-word.result.1 (room c.args.way (shared_nodes c.args.hand.layout.now)) (head_of c.descend_right-word.result.1) c.descend_right-word.ensures.place refl (head_fits g (goal.at.descend-place-requires-clause-waits g c.before).After-descend_right-word) c.descend-place.ensures.deep in
-    let near = c.descend_right-word.ensures.nearer in
-    subst (λ p. 3 + walk_left p (room c.args.way (shared_nodes c.args.hand.layout.now)) ≤ walk_left c.loop-side.place.at (room c.args.way (shared_nodes c.args.hand.layout.now))) (sym c.descend-place.ensures.at) (omega (arith, few, near))
+    let few = fewer c.descend_right-word.result.0.at c.descend_right-word.result.1 (room c.args.way (shared_nodes c.args.hand.layout.now)) (head_of c.descend_right-word.result.1) c.descend_right-word.ensures.stands.place refl (head_fits g (goal.at.descend-place-requires-clause-waits g c.before).After-descend_right-word) c.descend-place.ensures.below.deep in
+    let near = c.descend_right-word.ensures.nearer.nearer in
+    subst (λ p. 3 + walk_left p (room c.args.way (shared_nodes c.args.hand.layout.now)) ≤ walk_left c.loop-side.place.at (room c.args.way (shared_nodes c.args.hand.layout.now))) (sym c.descend-place.ensures.below.at) (omega (arith, few, near))
 
 pub read-head-requires-clause-waits : goal.read-head-requires-clause-waits
 read-head-requires-clause-waits g c = let r = c.requires.waits in (r.0, way_at c.args.way (End Right) c.loop-side.place.trail c.loop-side.place.at, c.loop-side.place.turns, c.loop-side.invariant.waits r.0 r.1)
@@ -45,8 +45,8 @@ pass_last-requires-clause-told g c = let r = c.requires.waits in (r.0, c.descend
 
 pub returns-in-Err-clause-steps : goal.returns-in-Err-clause-steps
 returns-in-Err-clause-steps g c =
-    let few = some_left c.descend_right-word.result.0.at c.descend_right-word.result.1 (room c.args.way (shared_nodes c.args.hand.layout.now)) c.descend_right-word.ensures.place (head_fits g (goal.at.returns-in-Err-clause-steps g c).After-descend_right-word) in
-    let one = c.read-head.ensures.one in let more = c.descend_right-word.ensures.steps in let last = c.in-Err.ensures.steps in let old = c.loop-side.invariant.steps in
+    let few = some_left c.descend_right-word.result.0.at c.descend_right-word.result.1 (room c.args.way (shared_nodes c.args.hand.layout.now)) c.descend_right-word.ensures.stands.place (head_fits g (goal.at.returns-in-Err-clause-steps g c).After-descend_right-word) in
+    let one = c.read-head.ensures.one in let more = c.descend_right-word.ensures.nearer.steps in let last = c.in-Err.ensures.steps in let old = c.loop-side.invariant.steps in
     omega (arith, few, one, more, last, old)
 
 pub returns-in-Err-clause-finds : goal.returns-in-Err-clause-finds
@@ -61,15 +61,18 @@ loop-side-smaller g c = let few = less g (goal.at.loop-side-smaller g c).After-d
 pub loop-side-preserved : goal.loop-side-preserved
 loop-side-preserved g c = record {
   here = (c.descend-place.ensures.table.0 ∙ c.in-Ok.ensures.table.0 ∙ c.descend_right-word.ensures.table.0 ∙ c.read-head.ensures.table.0 ∙ c.loop-side.invariant.here.0, c.descend-place.ensures.table.1 ∙ c.in-Ok.ensures.table.1 ∙ c.descend_right-word.ensures.table.1 ∙ c.read-head.ensures.table.1 ∙ c.loop-side.invariant.here.1);
-  loads = subst LoadsHead (sym c.descend-place.ensures.at) tt;
-  start = c.descend-place.ensures.start;
+  loads = subst LoadsHead (sym c.descend-place.ensures.below.at) tt;
+  start = c.descend-place.ensures.below.begins;
   steps = (
-      let few = fewer c.descend_right-word.result.0.at c.descend_right-word.result.1 (room c.args.way (shared_nodes c.args.hand.layout.now)) (head_of c.descend_right-word.result.1) c.descend_right-word.ensures.place refl (head_fits g (goal.at.loop-side-preserved g c).After-descend_right-word) c.descend-place.ensures.deep in
-      let one = c.read-head.ensures.one in let more = c.descend_right-word.ensures.steps in let side = c.in-Ok.ensures.steps in let last = c.descend-place.ensures.one in let old = c.loop-side.invariant.steps in
-      rw c.descend-place.ensures.at (omega (arith, few, one, more, side, last, old))
+      let few = fewer c.descend_right-word.result.0.at c.descend_right-word.result.1 (room c.args.way (shared_nodes c.args.hand.layout.now)) (head_of c.descend_right-word.result.1) c.descend_right-word.ensures.stands.place refl (head_fits g (goal.at.loop-side-preserved g c).After-descend_right-word) c.descend-place.ensures.below.deep in
+      let one = c.read-head.ensures.one in let more = c.descend_right-word.ensures.nearer.steps in let side = c.in-Ok.ensures.steps in let last = c.descend-place.ensures.one in let old = c.loop-side.invariant.steps in
+      rw c.descend-place.ensures.below.at (omega (arith, few, one, more, side, last, old))
       );
   waits = λ w x. c.descend-place.ensures.down w (c.in-Ok.ensures.down w c.descend_right-word.result.0.turns (told_last g (goal.at.loop-side-preserved g c).After-descend_right-word w x));
 }
 
 pub pass_last-requires-clause-left : goal.pass_last-requires-clause-left
 pass_last-requires-clause-left g c = c.descend_right-word.ensures.left
+
+pub descend_right-word-requires-clause-stands : goal.descend_right-word-requires-clause-stands
+descend_right-word-requires-clause-stands g c = record { place = c.loop-side.invariant.loads; begins = c.loop-side.invariant.start }

@@ -1,5 +1,5 @@
 use Rattle.std.proofs.Common.{◌∙◌, sym}
-use Rattle.forest.proofs.straight.walk.end_at_side.Goals as goal
+use Rattle.forest.proofs.straight.last_walk.end_at_side.Goals as goal
 
 pub end_at-requires-clause-slot : goal.end_at-requires-clause-slot
 end_at-requires-clause-slot g c = sym c.in-First.is ∙ c.end_slot.ensures

@@ -7,9 +7,9 @@ use Rattle.template.specs.declared.walk.WalkAt.TheVariants.{More, Pair}
 use Rattle.forest.specs.CallKinds.{calls}
 use Rattle.forest.specs.StraightWalk.{Walker, WalkerIsTold, WalkerWaits}
 use Rattle.forest.proofs.StraightWalk.{to_first}
-use Rattle.forest.proofs.straight.walk.end_at.Given.{Over}
-use Rattle.forest.proofs.straight.walk.end_at.Goals.{After-read-key}
-use Rattle.forest.proofs.straight.walk.end_at.Goals as goal
+use Rattle.forest.proofs.straight.last_walk.end_at.Given.{Over}
+use Rattle.forest.proofs.straight.last_walk.end_at.Goals.{After-read-key}
+use Rattle.forest.proofs.straight.last_walk.end_at.Goals as goal
 
 pub read-key-requires-clause-waits : goal.read-key-requires-clause-waits
 read-key-requires-clause-waits g c = let r = c.requires.told in (

@@ -6,9 +6,9 @@ use Rattle.order.specs.declared.last_turns.LastTurns.{LastTurns}
 use Rattle.forest.specs.CallKinds.{calls}
 use Rattle.forest.specs.StraightWalk.{Walker, WalkerIsTold}
 use Rattle.forest.proofs.StraightWalk.{to_more, finds_none}
-use Rattle.forest.proofs.straight.walk.end_last.Given.{Over}
-use Rattle.forest.proofs.straight.walk.end_last.Goals.{After-of-head, After-read-more}
-use Rattle.forest.proofs.straight.walk.end_last.Goals as goal
+use Rattle.forest.proofs.straight.last_walk.end_last.Given.{Over}
+use Rattle.forest.proofs.straight.last_walk.end_last.Goals.{After-of-head, After-read-more}
+use Rattle.forest.proofs.straight.last_walk.end_last.Goals as goal
 
 leaf : (g : Over) (c : After-of-head g) → c.of-head.result.leaf ≡ true
 leaf g c = rw c.of-head.ensures c.requires.leaf
@@ -17,11 +17,11 @@ leaf g c = rw c.of-head.ensures c.requires.leaf
 told : (g : Over) (c : After-read-more g) (w : Walker (calls g.S.Shape g.M.Machine c.args.hand.layout.now c.args.hand.number)) (turn : LastTurns)
     → WalkerIsTold w c.args.seat.now.me.0.passes (way_at c.args.way (End c.args.side) c.args.trail c.args.at) turn c.args.word
     → WalkerIsTold w c.read-more.new.seat.me.0.passes (way_at c.args.way (End c.args.side) c.args.trail (More c.of-head.result)) turn c.read-more.result
-told g c w turn x = c.read-more.ensures.told w (way_at c.args.way (End c.args.side) c.args.trail (More c.of-head.result)) turn (to_more w _ c.args.way (End c.args.side) c.args.trail turn c.args.at c.args.word c.of-head.result c.requires.place (sym c.of-head.ensures) (leaf g (goal.at.read-more-requires-clause-waits g c.before).After-of-head) c.if-head-eq0.true x)
+told g c w turn x = c.read-more.ensures.told w (way_at c.args.way (End c.args.side) c.args.trail (More c.of-head.result)) turn (to_more w _ c.args.way (End c.args.side) c.args.trail turn c.args.at c.args.word c.of-head.result c.requires.stands.place (sym c.of-head.ensures) (leaf g (goal.at.read-more-requires-clause-waits g c.before).After-of-head) c.if-head-eq0.true x)
 
 pub read-more-requires-clause-waits : goal.read-more-requires-clause-waits
 read-more-requires-clause-waits g c = let r = c.requires.told in
-    (r.0, way_at c.args.way (End c.args.side) c.args.trail (More c.of-head.result), r.1, to_more r.0 _ c.args.way (End c.args.side) c.args.trail r.1 c.args.at c.args.word c.of-head.result c.requires.place (sym c.of-head.ensures) (leaf g (goal.at.read-more-requires-clause-waits g c).After-of-head) c.if-head-eq0.true r.2)
+    (r.0, way_at c.args.way (End c.args.side) c.args.trail (More c.of-head.result), r.1, to_more r.0 _ c.args.way (End c.args.side) c.args.trail r.1 c.args.at c.args.word c.of-head.result c.requires.stands.place (sym c.of-head.ensures) (leaf g (goal.at.read-more-requires-clause-waits g c).After-of-head) c.if-head-eq0.true r.2)
 
 pub end_at_side-requires-clause-told : goal.end_at_side-requires-clause-told
 end_at_side-requires-clause-told g c = let r = c.requires.told in (r.0, r.1, told g (goal.at.end_at_side-requires-clause-told g c).After-read-more r.0 r.1 r.2)
@@ -33,4 +33,4 @@ pub returns-then-head-eq0-clause-steps : goal.returns-then-head-eq0-clause-steps
 returns-then-head-eq0-clause-steps g c = let one = c.read-more.ensures.one in let more = c.end_at_side.ensures.steps in omega (arith, one, more)
 
 pub returns-clause-finds : goal.returns-clause-finds
-returns-clause-finds g c = λ w turn x. (finds_none w _ c.args.way (End c.args.side) c.args.trail turn c.args.at c.args.word c.of-head.result c.requires.place (sym c.of-head.ensures) (leaf g (goal.at.returns-clause-finds g c).After-of-head) c.if-head-eq0.false x)
+returns-clause-finds g c = λ w turn x. (finds_none w _ c.args.way (End c.args.side) c.args.trail turn c.args.at c.args.word c.of-head.result c.requires.stands.place (sym c.of-head.ensures) (leaf g (goal.at.returns-clause-finds g c).After-of-head) c.if-head-eq0.false x)

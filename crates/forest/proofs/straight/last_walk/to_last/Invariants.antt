@@ -9,7 +9,7 @@ use Rattle.forest.specs.CallKinds.{calls}
 use Rattle.template.specs.Common.{load, walk_left}
 use Rattle.template.specs.Walk.Places.{way_at, LoadsHead}
 use Rattle.template.specs.Walk.Steps.{room}
-use Rattle.forest.proofs.straight.walk.to_last.Given as goal
+use Rattle.forest.proofs.straight.last_walk.to_last.Given as goal
 
 abbrev pub invariant-loop-side : goal.invariant-loop-side
 invariant-loop-side g l = record {

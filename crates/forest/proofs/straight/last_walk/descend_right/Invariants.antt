@@ -7,7 +7,7 @@ use Rattle.histories.specs.Common.{Right}
 use Rattle.template.specs.Common.{walk_left, End}
 use Rattle.template.specs.Walk.Places.{way_at, LoadsHead}
 use Rattle.template.specs.Walk.Steps.{room}
-use Rattle.forest.proofs.straight.walk.descend_right.Given as goal
+use Rattle.forest.proofs.straight.last_walk.descend_right.Given as goal
 
 abbrev pub invariant-loop-way : goal.invariant-loop-way
 invariant-loop-way g l = record {

@@ -4,9 +4,9 @@ use Rattle.order.specs.declared.last_turns.LastTurns.{LastTurns}
 use Rattle.forest.specs.StraightWalk.{Walker, WalkerIsTold}
 use Rattle.forest.specs.CallKinds.{calls}
 use Rattle.forest.proofs.StraightWalk.{to_value, to_high, finds_value}
-use Rattle.forest.proofs.straight.walk.end_with.Given.{Over}
-use Rattle.forest.proofs.straight.walk.end_with.Goals.{After-read-low}
-use Rattle.forest.proofs.straight.walk.end_with.Goals as goal
+use Rattle.forest.proofs.straight.node.end_with.Given.{Over}
+use Rattle.forest.proofs.straight.node.end_with.Goals.{After-read-low}
+use Rattle.forest.proofs.straight.node.end_with.Goals as goal
 
 -- whichever call it is, it has got the value
 told_low : (g : Over) (c : After-read-low g) (w : Walker (calls g.S.Shape g.M.Machine c.args.hand.layout.now c.args.hand.number)) (turn : LastTurns)

@@ -7,9 +7,9 @@ use Rattle.template.specs.Common.{End}
 use Rattle.template.specs.Walk.Places.{way_at, LoadsHead}
 use Rattle.template.specs.Walk.Steps.{room, walk_left}
 use Rattle.forest.proofs.StraightWalk.{to_known, fits, fewer}
-use Rattle.forest.proofs.straight.walk.descend_right.Given.{Over}
-use Rattle.forest.proofs.straight.walk.descend_right.Goals.{After-goes_right, After-descend-place}
-use Rattle.forest.proofs.straight.walk.descend_right.Goals as goal
+use Rattle.forest.proofs.straight.last_walk.descend_right.Given.{Over}
+use Rattle.forest.proofs.straight.last_walk.descend_right.Goals.{After-goes_right, After-descend-place}
+use Rattle.forest.proofs.straight.last_walk.descend_right.Goals as goal
 
 -- whichever call it is, it goes right
 down : (g : Over) (c : After-goes_right g) → c.goes_right.result ≡ true → (w : Walker (calls g.S.Shape g.M.Machine c.args.hand.layout.now c.args.hand.number))
@@ -21,11 +21,11 @@ down g c known w x = to_known w _ c.args.way (End Right) c.loop-way.place.trail 
 less : (g : Over) (c : After-descend-place g) → 3 + walk_left c.descend-place.result.at (room c.args.way (shared_nodes c.args.hand.layout.now)) ≤ walk_left c.loop-way.place.at (room c.args.way (shared_nodes c.args.hand.layout.now))
 less g c =
     let r = c.requires.told in
-    subst (λ p. 3 + walk_left p (room c.args.way (shared_nodes c.args.hand.layout.now)) ≤ walk_left c.loop-way.place.at (room c.args.way (shared_nodes c.args.hand.layout.now))) (sym c.descend-place.ensures.at)
-    (fewer c.loop-way.place.at c.loop-way.word (room c.args.way (shared_nodes c.args.hand.layout.now)) (head_of c.loop-way.word) c.loop-way.invariant.loads refl (fits r.0 _ (way_at c.args.way (End Right) c.loop-way.place.trail c.loop-way.place.at) c.loop-way.place.turns c.loop-way.word (c.loop-way.invariant.told r.0 r.1)) c.descend-place.ensures.deep)
+    subst (λ p. 3 + walk_left p (room c.args.way (shared_nodes c.args.hand.layout.now)) ≤ walk_left c.loop-way.place.at (room c.args.way (shared_nodes c.args.hand.layout.now))) (sym c.descend-place.ensures.below.at)
+    (fewer c.loop-way.place.at c.loop-way.word (room c.args.way (shared_nodes c.args.hand.layout.now)) (head_of c.loop-way.word) c.loop-way.invariant.loads refl (fits r.0 _ (way_at c.args.way (End Right) c.loop-way.place.trail c.loop-way.place.at) c.loop-way.place.turns c.loop-way.word (c.loop-way.invariant.told r.0 r.1)) c.descend-place.ensures.below.deep)
 
 pub loop-way-init : goal.loop-way-init
-loop-way-init g c = record { here = (refl, refl); loads = c.requires.place; start = c.requires.start; nearer = omega arith; steps = omega arith; told = λ w x. x }
+loop-way-init g c = record { here = (refl, refl); loads = c.requires.stands.place; start = c.requires.stands.begins; nearer = omega arith; steps = omega arith; told = λ w x. x }
 
 pub descend-place-requires-clause-waits : goal.descend-place-requires-clause-waits
 descend-place-requires-clause-waits g c = let r = c.requires.told in (r.0, down g (goal.at.descend-place-requires-clause-waits g c).After-goes_right c.loop-way-test.true r.0 r.1)
@@ -39,8 +39,8 @@ loop-way-preserved g c =
     let one = c.descend-place.ensures.one in let two = c.read-word.ensures.one in let near = c.loop-way.invariant.nearer in let old = c.loop-way.invariant.steps in
     record {
       here = (c.read-word.ensures.table.0 ∙ c.descend-place.ensures.table.0 ∙ c.loop-way.invariant.here.0, c.read-word.ensures.table.1 ∙ c.descend-place.ensures.table.1 ∙ c.loop-way.invariant.here.1);
-      loads = subst LoadsHead (sym c.descend-place.ensures.at) tt;
-      start = c.descend-place.ensures.start;
+      loads = subst LoadsHead (sym c.descend-place.ensures.below.at) tt;
+      start = c.descend-place.ensures.below.begins;
       nearer = omega (arith, few, near);
       steps = omega (arith, few, one, two, old);
       told = λ w x. c.read-word.ensures.told w (way_at c.args.way (End Right) c.descend-place.result.trail c.descend-place.result.at) c.descend-place.result.turns (c.descend-place.ensures.down w (down g (goal.at.loop-way-preserved g c).After-goes_right c.loop-way-test.true w x));
@@ -48,3 +48,9 @@ loop-way-preserved g c =
 
 pub loop-way-smaller : goal.loop-way-smaller
 loop-way-smaller g c = let few = less g (goal.at.loop-way-smaller g c).After-descend-place in omega (arith, few)
+
+pub returns-clause-stands : goal.returns-clause-stands
+returns-clause-stands g c = record { place = c.loop-way.invariant.loads; begins = c.loop-way.invariant.start }
+
+pub returns-clause-nearer : goal.returns-clause-nearer
+returns-clause-nearer g c = record { nearer = c.loop-way.invariant.nearer; steps = c.loop-way.invariant.steps }

@@ -1,3 +1,4 @@
+use Rattle.std.proofs.Common.{refl}
 use Rattle.histories.specs.Common.{LoadSettled, Settled, Head as HeadWord, head_of, node}
 use Rattle.forest.specs.StraightWalk.{Walker, WalkerGoesDown, WalkerIsTold, WalkerWaits}
 use Rattle.forest.specs.CallKinds.{calls}
@@ -6,9 +7,9 @@ use Rattle.template.specs.Walk.Places.{way_at, trail_below}
 use Rattle.template.specs.declared.walk.WalkAt.TheVariants.{Child, Head}
 use Rattle.forest.proofs.Inside.{waits_within}
 use Rattle.forest.proofs.StraightWalk.{to_head, fits}
-use Rattle.forest.proofs.straight.walk.descend.Given.{Over}
-use Rattle.forest.proofs.straight.walk.descend.Goals.{After-read-child}
-use Rattle.forest.proofs.straight.walk.descend.Goals as goal
+use Rattle.forest.proofs.straight.node.descend.Given.{Over}
+use Rattle.forest.proofs.straight.node.descend.Goals.{After-read-child}
+use Rattle.forest.proofs.straight.node.descend.Goals as goal
 
 -- whichever call it is, it has got the child
 told : (g : Over) (c : After-read-child g) (w : Walker (calls g.S.Shape g.M.Machine c.args.hand.layout.now c.args.hand.number))
@@ -28,8 +29,12 @@ read-child-requires-clause-waits g c = let r = c.requires.waits in (r.0, way_at 
 pub start_for-start-requires : goal.start_for-start-requires
 start_for-start-requires g c = let r = c.requires.waits in waits_within r.0 _ g.met.M.Machine.lawful _ _ (waits_below g (goal.at.start_for-start-requires g c).After-read-child r.0 r.1)
 
-pub returns-clause-deep : goal.returns-clause-deep
-returns-clause-deep g c = let r = c.requires.waits in fits r.0 _ (way_at c.args.way c.args.goal c.args.place.trail (Child (head_of c.args.word).level c.args.side)) c.args.place.turns c.read-child.result (told g (goal.at.returns-clause-deep g c).After-read-child r.0 r.1)
+pub returns-clause-below : goal.returns-clause-below
+returns-clause-below g c = record {
+  at = rw c.of-head.ensures refl;
+  deep = let r = c.requires.waits in fits r.0 _ (way_at c.args.way c.args.goal c.args.place.trail (Child (head_of c.args.word).level c.args.side)) c.args.place.turns c.read-child.result (told g (goal.at.returns-clause-below g c).After-read-child r.0 r.1);
+  begins = c.start_for-start.ensures;
+}
 
 pub returns-clause-down : goal.returns-clause-down
 returns-clause-down g c = λ w x. rw c.of-head.ensures (waits_below g (goal.at.returns-clause-down g c).After-read-child w x)

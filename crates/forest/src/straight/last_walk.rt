@@ -1,0 +1,260 @@
+//! The walk to the last pair, of whatever machine walks: it goes right wherever it may.
+ghost use Rattle.std.specs.Prelude.{◌≡◌, ◌≤◌, ◌+◌, ◌*◌, true, false, IfOk, IfErr, MatchResult};
+ghost use Rattle.arena.specs.Heads.{head_of};
+ghost use Rattle.arena.specs.Layout.{node_start};
+ghost use Rattle.forest.specs.Leads.{steps_made};
+ghost use Rattle.forest.specs.Hands.{IsAt, hand_calls};
+ghost use Rattle.forest.specs.Seats.{StaysAtTable};
+ghost use Rattle.forest.specs.Traces.{shared_nodes};
+ghost use Rattle.forest.specs.StraightWalk.{AsksHead, HasWalked, MayWalk, WalkEnds, WalkFinds, WalkGoesDown, Walker, WalkerIsTold, WalksNearer};
+ghost use Rattle.ordered_map.specs.Holding.{end_slot};
+ghost use Rattle.ordered_map.specs.declared.rule.Goal.{Goal};
+ghost use Rattle.order.specs.declared.last_turns.LastTurns.{LastTurns};
+ghost use Rattle.template.specs.Walk.Known.{open_side};
+ghost use Rattle.template.specs.Walk.Places.{way_at};
+ghost use Rattle.template.specs.Walk.Steps.{room, walk_left};
+
+use crate::straight::hand::Hand;
+use crate::straight::node::{Reached, descend, end_with, is_leaf, read};
+use crate::view::SeatView;
+use arena::{Head, Kind, Machine, NodeNo, NodeWord, SettledPart, Shape, Side, Slot};
+use atomic_table::Seat;
+use order::LastTurns;
+use ordered_map::end_slot;
+use template::{Found, Goal, Trail, WalkAt, Way};
+
+/// Ends at the pair at this end of a leaf that begins there, which is in this slot.
+#[inline(always)]
+fn end_at<S: Shape, M: Machine<S>>(
+    hand: Hand<S>,
+    seat: &mut Seat<u8, SeatView>,
+    way: Way,
+    side: Side,
+    trail: Trail,
+    start: usize,
+    head: Head,
+    more: u64,
+    slot: Slot,
+) -> Found
+    requires table { IsAt hand seat.old }
+    requires start { start ≡ node_start trail.node }
+    requires slot { slot ≡ end_slot side more }
+    requires told { HasWalked S.Shape M.Machine hand seat.old
+        (way_at way (Goal.End side) trail (WalkAt.More head)) more }
+    ensures table { StaysAtTable seat.old seat.new }
+    ensures steps { steps_made seat.new ≡ steps_made seat.old + 3 }
+    ensures finds { WalkFinds S.Shape M.Machine hand.entry seat.old
+        (way_at way (Goal.End side) trail (WalkAt.More head)) more seat.new result }
+{
+    let (kind, part) = (Kind::LoadSettled, NodeWord::Settled(SettledPart::Key(slot)));
+    let key = read::<S, M>(hand, seat, kind, trail.node, start, part);
+    let goal = Goal::End(side);
+    end_with::<S, M>(hand, seat, way, goal, trail, start, head, more, slot, key)
+}
+
+/// Ends at the pair at this end of a leaf that begins there. The first slot has places apart from
+/// those of the others.
+#[inline(always)]
+fn end_at_side<S: Shape, M: Machine<S>>(
+    hand: Hand<S>,
+    seat: &mut Seat<u8, SeatView>,
+    way: Way,
+    side: Side,
+    trail: Trail,
+    start: usize,
+    head: Head,
+    more: u64,
+) -> Found
+    requires table { IsAt hand seat.old }
+    requires start { start ≡ node_start trail.node }
+    requires told { HasWalked S.Shape M.Machine hand seat.old
+        (way_at way (Goal.End side) trail (WalkAt.More head)) more }
+    ensures table { StaysAtTable seat.old seat.new }
+    ensures steps { steps_made seat.new ≡ steps_made seat.old + 3 }
+    ensures finds { WalkFinds S.Shape M.Machine hand.entry seat.old
+        (way_at way (Goal.End side) trail (WalkAt.More head)) more seat.new result }
+{
+    match end_slot(side, more) {
+        Slot::First => {
+            end_at::<S, M>(hand, seat, way, side, trail, start, head, more, Slot::First)
+        }
+        slot => end_at::<S, M>(hand, seat, way, side, trail, start, head, more, slot),
+    }
+}
+
+/// Ends at a leaf that begins there, of a walk to this end: at the pair there, or at once where it
+/// is above all keys.
+#[inline(always)]
+fn end_last<S: Shape, M: Machine<S>>(
+    hand: Hand<S>,
+    seat: &mut Seat<u8, SeatView>,
+    way: Way,
+    side: Side,
+    trail: Trail,
+    start: usize,
+    at: WalkAt,
+    word: u64,
+) -> Found
+    requires table { IsAt hand seat.old }
+    requires stands { AsksHead trail at start }
+    requires leaf { (head_of word).leaf ≡ true }
+    requires told { HasWalked S.Shape M.Machine hand seat.old (way_at way (Goal.End side) trail at)
+        word }
+    ensures table { StaysAtTable seat.old seat.new }
+    ensures steps { steps_made seat.new ≤ steps_made seat.old + 7 }
+    ensures finds { WalkFinds S.Shape M.Machine hand.entry seat.old
+        (way_at way (Goal.End side) trail at) word seat.new result }
+{
+    let head = Head::of(word);
+    if head.class == 0 {
+        let (kind, part) = (Kind::LoadSettled, NodeWord::Settled(SettledPart::More));
+        let more = read::<S, M>(hand, seat, kind, trail.node, start, part);
+        return end_at_side::<S, M>(hand, seat, way, side, trail, start, head, more);
+    }
+    Found {
+        trail,
+        head,
+        more: 0,
+        key: 0,
+        value: None,
+    }
+}
+
+/// Continues after the head of a node that begins there: on the left of a fork where a walk to this
+/// end goes there, or to the end at a leaf.
+#[inline(always)]
+fn pass_last<S: Shape, M: Machine<S>>(
+    hand: Hand<S>,
+    seat: &mut Seat<u8, SeatView>,
+    way: Way,
+    side: Side,
+    trail: Trail,
+    start: usize,
+    at: WalkAt,
+    word: u64,
+) -> Result<Side, Found>
+    requires table { IsAt hand seat.old }
+    requires stands { AsksHead trail at start }
+    requires left { (head_of word).leaf ≡ false
+        → open_side (Goal.End side) (head_of word) ≡ Side.Left }
+    requires told { HasWalked S.Shape M.Machine hand seat.old (way_at way (Goal.End side) trail at)
+        word }
+    ensures table { StaysAtTable seat.old seat.new }
+    ensures steps { MatchResult result (λ _. steps_made seat.new ≡ steps_made seat.old)
+        (λ _. steps_made seat.new ≤ steps_made seat.old + 7) }
+    ensures down { IfOk result (λ to. WalkGoesDown S.Shape M.Machine hand.entry seat.old
+        (way_at way (Goal.End side) trail at) word seat.new to false) }
+    ensures finds { IfErr result (WalkFinds S.Shape M.Machine hand.entry seat.old
+        (way_at way (Goal.End side) trail at) word seat.new) }
+{
+    if is_leaf(word) {
+        return Err(end_last::<S, M>(hand, seat, way, side, trail, start, at, word));
+    }
+    Ok(Side::Left)
+}
+
+/// Whether a walk to the last pair goes right at a node with the head in this word: it does at
+/// forks of class 0, and left at the others, without a key.
+#[inline(always)]
+fn goes_right(word: u64) -> bool
+    ensures fork { result ≡ true → (head_of word).leaf ≡ false }
+    ensures right { result ≡ true → open_side (Goal.End Side.Right) (head_of word) ≡ Side.Right }
+    ensures left { result ≡ false → (head_of word).leaf ≡ false
+        → open_side (Goal.End Side.Right) (head_of word) ≡ Side.Left }
+{
+    !is_leaf(word) && word % 4 == 0
+}
+
+/// Goes right as long as a walk to the last pair does so, in a loop of its own: there the compiler
+/// knows the side, as it does behind the loop. Answers where it is then, and the head there.
+#[inline(always)]
+fn descend_right<S: Shape, M: Machine<S>>(
+    hand: Hand<S>,
+    seat: &mut Seat<u8, SeatView>,
+    way: Way,
+    first: Reached,
+    head: u64,
+) -> (Reached, u64)
+    requires table { IsAt hand seat.old }
+    requires stands { AsksHead first.trail first.at first.start }
+    requires told { (w : Walker (hand_calls S.Shape M.Machine hand))
+        × WalkerIsTold w seat.old.me.0.passes
+        (way_at way (Goal.End Side.Right) first.trail first.at) first.turns head }
+    ensures stands { AsksHead result.0.trail result.0.at result.0.start }
+    ensures left { (head_of result.1).leaf ≡ false
+        → open_side (Goal.End Side.Right) (head_of result.1) ≡ Side.Left }
+    ensures table { StaysAtTable seat.old seat.new }
+    ensures nearer { WalksNearer seat.old seat.new
+        (walk_left first.at (room way (shared_nodes hand.entry.layout.now)))
+        (walk_left result.0.at (room way (shared_nodes hand.entry.layout.now))) }
+    ensures told { (w : Walker (hand_calls S.Shape M.Machine hand.entry))
+        → WalkerIsTold w seat.old.me.0.passes
+        (way_at way (Goal.End Side.Right) first.trail first.at) first.turns head
+        → WalkerIsTold w seat.new.me.0.passes
+        (way_at way (Goal.End Side.Right) result.0.trail result.0.at) result.0.turns result.1 }
+{
+    let (mut place, mut word) = (first, head);
+    while goes_right(word) {
+        let (goal, side) = (Goal::End(Side::Right), Side::Right);
+        place = descend::<S, M>(hand, seat, way, goal, place, word, side);
+        let (kind, part) = (Kind::LoadSettled, NodeWord::Settled(SettledPart::Head));
+        word = read::<S, M>(hand, seat, kind, place.trail.node, place.start, part);
+    }
+    (place, word)
+}
+
+/// The walk by this way from the root to the last leaf: forks at which it goes right have a loop of
+/// their own.
+#[inline(always)]
+pub(crate) fn to_last<S: Shape, M: Machine<S>>(
+    hand: Hand<S>,
+    seat: &mut Seat<u8, SeatView>,
+    way: Way,
+) -> (Found, LastTurns)
+    requires table { IsAt hand seat.old }
+    requires waits { MayWalk S.Shape M.Machine hand seat.old way (Goal.End Side.Right) }
+    ensures table { StaysAtTable seat.old seat.new }
+    ensures steps { steps_made seat.new ≤ steps_made seat.old
+        + (3 * (2 + room way (shared_nodes hand.entry.layout.now)) + 5) }
+    ensures finds { WalkEnds S.Shape M.Machine hand.entry seat.old way (Goal.End Side.Right)
+        seat.new result.1 result.0 }
+{
+    let layout = *hand.layout;
+    let hand = Hand {
+        words: hand.words,
+        layout: &layout,
+        number: hand.number,
+    };
+    let root = NodeNo(0);
+    let mut place = Reached {
+        trail: Trail {
+            grand: root,
+            grand_side: Side::Left,
+            parent: root,
+            side: Side::Left,
+            node: root,
+        },
+        at: WalkAt::Root,
+        turns: LastTurns::none(),
+        start: 0,
+    };
+    loop {
+        let (kind, part) = (Kind::LoadSettled, NodeWord::Settled(SettledPart::Head));
+        let head = read::<S, M>(hand, seat, kind, place.trail.node, place.start, part);
+        let (last, word) = descend_right::<S, M>(hand, seat, way, place, head);
+        let side = match pass_last::<S, M>(
+            hand,
+            seat,
+            way,
+            Side::Right,
+            last.trail,
+            last.start,
+            last.at,
+            word,
+        ) {
+            Ok(side) => side,
+            Err(found) => return (found, last.turns),
+        };
+        place = descend::<S, M>(hand, seat, way, Goal::End(Side::Right), last, word, side);
+    }
+}

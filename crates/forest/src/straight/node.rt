@@ -1,0 +1,173 @@
+//! The nodes that a walk reaches, of whatever machine walks: their words, and the way down.
+ghost use Rattle.std.specs.Prelude.{◌≡◌, ◌<◌, ◌+◌, suc};
+ghost use Rattle.arena.specs.Heads.{head_of};
+ghost use Rattle.arena.specs.Layout.{all_nodes, node_start};
+ghost use Rattle.forest.specs.Leads.{steps_made};
+ghost use Rattle.forest.specs.Hands.{IsAt, hand_calls};
+ghost use Rattle.forest.specs.Seats.{StaysAtTable};
+ghost use Rattle.forest.specs.Traces.{shared_nodes};
+ghost use Rattle.forest.specs.StraightWalk.{AsksBelow, HasWalked, WalkFinds, Walker, WalkerGoesDown, WalkerIsTold, WalkerWaits};
+ghost use Rattle.order.specs.declared.last_turns.LastTurns.{LastTurns};
+ghost use Rattle.prims.specs.Llx.Known.{load};
+ghost use Rattle.template.specs.FoundLeaf.{asked_key};
+ghost use Rattle.template.specs.declared.walk.WalkRun.{WalkRun};
+ghost use Rattle.template.specs.Walk.Places.{way_at};
+
+use crate::straight::hand::Hand;
+use crate::straight::step::step_from;
+use crate::view::SeatView;
+use arena::{
+    Access, Head, Kind, Layout, Machine, NodeNo, NodeWord, SettledPart, Shape, Side, Slot, Step,
+    Word,
+};
+use atomic_table::Seat;
+use order::LastTurns;
+use ordered_map::wide_value;
+use template::{Found, Goal, Trail, WalkAt, Way};
+
+/// A node that a walk has reached: where it asks for its head, where its words begin, and the last
+/// forks at which it turned above.
+#[derive(Clone, Copy)]
+pub(crate) struct Reached {
+    pub(crate) trail: Trail,
+    pub(crate) at: WalkAt,
+    pub(crate) turns: LastTurns,
+    pub(crate) start: usize,
+}
+
+/// Loads a word of a node that begins there.
+#[inline(always)]
+pub(crate) fn read<S: Shape, M: Machine<S>>(
+    hand: Hand<S>,
+    seat: &mut Seat<u8, SeatView>,
+    kind: Kind,
+    node: NodeNo,
+    start: usize,
+    part: NodeWord,
+) -> u64
+    requires table { IsAt hand seat.old }
+    requires start { start ≡ node_start node }
+    requires waits { (w : Walker (hand_calls S.Shape M.Machine hand)) × (m : WalkRun)
+        × (turn : LastTurns)
+        × WalkerWaits w seat.old.me.0.passes m turn (load kind (Word.Node node part)) }
+    ensures table { StaysAtTable seat.old seat.new }
+    ensures one { steps_made seat.new ≡ suc (steps_made seat.old) }
+    ensures told { (w : Walker (hand_calls S.Shape M.Machine hand.entry)) (m : WalkRun)
+        (turn : LastTurns)
+        → WalkerWaits w seat.old.me.0.passes m turn (load kind (Word.Node node part))
+        → WalkerIsTold w seat.new.me.0.passes m turn result }
+{
+    let word = Word::Node(node, part);
+    let access = Access::Load;
+    step_from::<S, M>(hand, seat, Step { kind, word, access }, start)
+}
+
+/// Where the words of a node begin that a walk to this goal has reached. It goes through 32 bits,
+/// which the places of all words fit: else the compiler computes beside it where the node's bytes
+/// begin, at each node. A walk to the first pair needs those alone.
+#[inline(always)]
+pub(crate) fn start_for(layout: &Layout, goal: Goal, node: NodeNo) -> usize
+    requires { node.0 < all_nodes layout.now }
+    ensures { result ≡ node_start node }
+{
+    let start = layout.node_start(node);
+    match goal {
+        Goal::End(Side::Left) => start,
+        Goal::Key(_) | Goal::End(Side::Right) => start as u32 as usize,
+    }
+}
+
+/// Whether the head in this word is a leaf's. A walk asks the word at each node, so that of the
+/// heads that it makes of them the compiler keeps the last alone.
+#[inline(always)]
+pub(crate) fn is_leaf(word: u64) -> bool
+    ensures { result ≡ (head_of word).leaf }
+{
+    word / 4 % 2 == 1
+}
+
+/// Ends at the pair in this slot of a leaf that begins there, which it answers: with the two words
+/// of its value.
+#[inline(always)]
+pub(crate) fn end_with<S: Shape, M: Machine<S>>(
+    hand: Hand<S>,
+    seat: &mut Seat<u8, SeatView>,
+    way: Way,
+    goal: Goal,
+    trail: Trail,
+    start: usize,
+    head: Head,
+    more: u64,
+    slot: Slot,
+    key: u64,
+) -> Found
+    requires table { IsAt hand seat.old }
+    requires start { start ≡ node_start trail.node }
+    requires asked { asked_key goal key ≡ key }
+    requires told { HasWalked S.Shape M.Machine hand seat.old
+        (way_at way goal trail (WalkAt.Pair head more slot)) key }
+    ensures table { StaysAtTable seat.old seat.new }
+    ensures steps { steps_made seat.new ≡ steps_made seat.old + 2 }
+    ensures finds { WalkFinds S.Shape M.Machine hand.entry seat.old
+        (way_at way goal trail (WalkAt.Pair head more slot)) key seat.new result }
+{
+    let kind = Kind::LoadSettled;
+    let part = NodeWord::Settled(SettledPart::Value(slot));
+    let low = read::<S, M>(hand, seat, kind, trail.node, start, part);
+    let part = NodeWord::Settled(SettledPart::High(slot));
+    let high = read::<S, M>(hand, seat, kind, trail.node, start, part);
+    Found {
+        trail,
+        head,
+        more,
+        key,
+        value: Some(wide_value(low, high)),
+    }
+}
+
+/// Goes down from a fork with the head in this word to its child on this side. Where the words of
+/// the child begin is computed once, as soon as it is known.
+#[inline(always)]
+pub(crate) fn descend<S: Shape, M: Machine<S>>(
+    hand: Hand<S>,
+    seat: &mut Seat<u8, SeatView>,
+    way: Way,
+    goal: Goal,
+    place: Reached,
+    word: u64,
+    side: Side,
+) -> Reached
+    requires table { IsAt hand seat.old }
+    requires start { place.start ≡ node_start place.trail.node }
+    requires waits { (w : Walker (hand_calls S.Shape M.Machine hand))
+        × WalkerGoesDown w seat.old.me.0.passes way goal place.trail (head_of word).level side
+        place.turns }
+    ensures table { StaysAtTable seat.old seat.new }
+    ensures one { steps_made seat.new ≡ suc (steps_made seat.old) }
+    ensures below { AsksBelow way (head_of word).level (shared_nodes hand.entry.layout.now) result }
+    ensures down { (w : Walker (hand_calls S.Shape M.Machine hand.entry))
+        → WalkerGoesDown w seat.old.me.0.passes way goal place.trail (head_of word).level side
+        place.turns
+        → WalkerWaits w seat.new.me.0.passes (way_at way goal result.trail result.at) result.turns
+        (load Kind.LoadSettled (Word.Node result.trail.node (NodeWord.Settled SettledPart.Head))) }
+{
+    let node = place.trail.node;
+    let part = NodeWord::Child(side);
+    let child = read::<S, M>(hand, seat, Kind::LoadChild, node, place.start, part);
+    let trail = Trail {
+        grand: place.trail.parent,
+        grand_side: place.trail.side,
+        parent: node,
+        side,
+        node: NodeNo(child),
+    };
+    let start = start_for(hand.layout, goal, trail.node);
+    let head = Head::of(word);
+    let at = WalkAt::Head { above: head.level };
+    Reached {
+        trail,
+        at,
+        turns: place.turns,
+        start,
+    }
+}
