@@ -9,4 +9,4 @@ pub use Rattle.edits.proofs.FilledNodes.{IsLeafWith, IsForkWith, head_is, leaf_w
 pub use Rattle.edits.proofs.NodePlaces.{piece_is}
 pub use Rattle.edits.proofs.PairPlaces.{take_whole}
 pub use Rattle.edits.proofs.Making.{leaf_told, told_end}
-pub use Rattle.edits.proofs.Turns.{fills_word, scx_asks, scx_done}
+pub use Rattle.edits.proofs.Turns.{fills_word, guard_asks, guard_begins, guard_kept, guard_told, guard_walks, scx_asks, scx_done, walks_on}
