@@ -13,6 +13,7 @@ use Rattle.template.specs.declared.walk.WalkAt.TheVariants.{Child}
 use Rattle.template.specs.declared.walk.WalkRun.{WalkRun}
 use Rattle.template.specs.declared.walk.Way.{Way}
 use Rattle.order.specs.declared.last_turns.LastTurns.{LastTurns}
+use Rattle.forest.specs.declared.straight.walk.Reached.{Reached}
 use Rattle.forest.specs.declared.view.SeatedPass.{SeatedPass}
 use Rattle.forest.specs.CallKinds.{Calls}
 use Rattle.forest.specs.Inside.{Inner, Inside, InnerIsTold, InnerWaits}
@@ -66,6 +67,10 @@ module _ {M : Type 0} {o : Calls M} (w : Walker o) (ps : List SeatedPass) where
   -- reached, whose head is of this level; it has turned last at these forks
   abbrev pub WalkerGoesDown : Way → Goal → Trail → ℕ → Side → LastTurns → Type 0
   WalkerGoesDown way goal trail level side turn = WalkerWaits (way_at way goal trail (Child level side)) turn (load LoadChild (child trail.node.0 side))
+
+  -- its walk by this way to this goal waits for the head of the node that it has reached
+  abbrev pub WalkerIsAt : Way → Goal → Reached → Type 0
+  WalkerIsAt way goal place = WalkerWaits (way_at way goal place.trail place.at) place.turns (load LoadSettled (node place.trail.node.0 (Settled HeadWord)))
 
   -- its walk by this way to this goal waits for the head of the root, with which it begins
   abbrev pub WalksFromRoot : Way → Goal → Type 0

@@ -7,7 +7,7 @@ ghost use Rattle.forest.specs.Leads.{steps_made};
 ghost use Rattle.forest.specs.Hands.{IsAt, hand_calls};
 ghost use Rattle.forest.specs.Seats.{StaysAtTable};
 ghost use Rattle.forest.specs.Traces.{shared_nodes};
-ghost use Rattle.forest.specs.StraightWalk.{SharesKey, Walker, WalkerFinds, WalkerGoesDown, WalkerIsTold, WalkerWaits, WalksFromRoot, counted};
+ghost use Rattle.forest.specs.StraightWalk.{SharesKey, Walker, WalkerFinds, WalkerGoesDown, WalkerIsAt, WalkerIsTold, WalkerWaits, WalksFromRoot, counted};
 ghost use Rattle.ordered_map.specs.Holding.{end_slot};
 ghost use Rattle.ordered_map.specs.declared.rule.Goal.{Goal};
 ghost use Rattle.order.specs.declared.last_turns.LastTurns.{LastTurns};
@@ -590,17 +590,44 @@ fn goes_right(word: u64) -> bool
 /// A node that a walk has reached: where it asks for its head, where its words begin, and the last
 /// forks at which it turned above.
 #[derive(Clone, Copy)]
-struct Reached {
-    trail: Trail,
-    at: WalkAt,
-    turns: LastTurns,
-    start: usize,
+pub(crate) struct Reached {
+    pub(crate) trail: Trail,
+    pub(crate) at: WalkAt,
+    pub(crate) turns: LastTurns,
+    pub(crate) start: usize,
+}
+
+impl Reached {
+    ghost use Rattle.std.specs.Prelude.{◌≡◌};
+    ghost use Rattle.order.specs.LastTurns.{no_turns};
+    ghost use Rattle.template.specs.Walk.Places.{root_trail};
+
+    /// The root, with which a walk begins.
+    #[inline(always)]
+    pub(crate) fn root() -> Reached
+        ensures { result ≡ record { trail = root_trail; at = WalkAt.Root; turns = no_turns; start = 0 } }
+    {
+        let root = NodeNo(0);
+        let side = Side::Left;
+        Reached {
+            trail: Trail {
+                grand: root,
+                grand_side: side,
+                parent: root,
+                side,
+                node: root,
+            },
+            at: WalkAt::Root,
+            turns: LastTurns::none(),
+            start: 0,
+        }
+    }
 }
 
 /// Goes down from a fork with the head in this word to its child on this side. Where the words of
 /// the child begin is computed once, as soon as it is known.
 #[inline(always)]
-fn descend<S: Shape, M: Machine<S>>(
+pub(crate) fn descend<S: Shape, M: Machine<S>>(
     hand: Hand<S>,
     seat: &mut Seat<u8, SeatView>,
     way: Way,
@@ -686,23 +713,26 @@ fn descend_right<S: Shape, M: Machine<S>>(
     (place, word)
 }
 
-/// The walk by this way from the root to the leaf where a key is, or would be, or to the first leaf,
-/// and the last forks where it turned.
+/// The walk by this way from a place on to the leaf where a key is, or would be, or to the first
+/// leaf, and the last forks where it turned.
 #[inline(always)]
-pub(crate) fn to_goal<S: Shape, M: Machine<S>>(
+fn to_goal_from<S: Shape, M: Machine<S>>(
     hand: Hand<S>,
     seat: &mut Seat<u8, SeatView>,
     way: Way,
     goal: Goal,
+    first: Reached,
 ) -> (Found, LastTurns)
-    requires first { (more : ℕ) → goal_slot goal more ≡ Slot.First }
+    requires slot { (more : ℕ) → goal_slot goal more ≡ Slot.First }
+    requires place { LoadsHead first.at }
     requires table { IsAt hand seat.old }
+    requires start { first.start ≡ node_start first.trail.node }
     requires waits { (w : Walker (hand_calls S.Shape M.Machine hand))
-        × WalksFromRoot w seat.old.me.0.passes way goal }
+        × WalkerIsAt w seat.old.me.0.passes way goal first }
     ensures table { StaysAtTable seat.old seat.new }
-    ensures steps { steps_made seat.new ≤ steps_made seat.old + (3 * (2 + room way (shared_nodes hand.entry.layout.now)) + 5) }
+    ensures steps { steps_made seat.new ≤ steps_made seat.old + suc (walk_left first.at (room way (shared_nodes hand.entry.layout.now))) }
     ensures finds { (w : Walker (hand_calls S.Shape M.Machine hand.entry))
-        → WalksFromRoot w seat.old.me.0.passes way goal
+        → WalkerIsAt w seat.old.me.0.passes way goal first
         → WalkerFinds w seat.new.me.0.passes way goal result.1 result.0 }
 {
     let layout = *hand.layout;
@@ -711,16 +741,8 @@ pub(crate) fn to_goal<S: Shape, M: Machine<S>>(
         layout: &layout,
         number: hand.number,
     };
-    let root = NodeNo(0);
-    let mut trail = Trail {
-        grand: root,
-        grand_side: Side::Left,
-        parent: root,
-        side: Side::Left,
-        node: root,
-    };
-    let (mut at, mut turns) = (WalkAt::Root, LastTurns::none());
-    let mut start = 0;
+    let (mut trail, mut start) = (first.trail, first.start);
+    let (mut at, mut turns) = (first.at, first.turns);
     loop {
         let node = trail.node;
         let (kind, part) = (Kind::LoadSettled, NodeWord::Settled(SettledPart::Head));
@@ -745,21 +767,46 @@ pub(crate) fn to_goal<S: Shape, M: Machine<S>>(
     }
 }
 
-/// The walk by this way from the root to the last leaf: forks at which it goes right have a loop of
-/// their own.
+/// The walk by this way from the root to the leaf where a key is, or would be, or to the first leaf,
+/// and the last forks where it turned.
 #[inline(always)]
-pub(crate) fn to_last<S: Shape, M: Machine<S>>(
+pub(crate) fn to_goal<S: Shape, M: Machine<S>>(
     hand: Hand<S>,
     seat: &mut Seat<u8, SeatView>,
     way: Way,
+    goal: Goal,
 ) -> (Found, LastTurns)
+    requires first { (more : ℕ) → goal_slot goal more ≡ Slot.First }
     requires table { IsAt hand seat.old }
     requires waits { (w : Walker (hand_calls S.Shape M.Machine hand))
-        × WalksFromRoot w seat.old.me.0.passes way (Goal.End Side.Right) }
+        × WalksFromRoot w seat.old.me.0.passes way goal }
     ensures table { StaysAtTable seat.old seat.new }
     ensures steps { steps_made seat.new ≤ steps_made seat.old + (3 * (2 + room way (shared_nodes hand.entry.layout.now)) + 5) }
     ensures finds { (w : Walker (hand_calls S.Shape M.Machine hand.entry))
-        → WalksFromRoot w seat.old.me.0.passes way (Goal.End Side.Right)
+        → WalksFromRoot w seat.old.me.0.passes way goal
+        → WalkerFinds w seat.new.me.0.passes way goal result.1 result.0 }
+{
+    to_goal_from::<S, M>(hand, seat, way, goal, Reached::root())
+}
+
+/// The walk by this way from a place on to the last leaf: forks at which it goes right have a loop of
+/// their own.
+#[inline(always)]
+fn to_last_from<S: Shape, M: Machine<S>>(
+    hand: Hand<S>,
+    seat: &mut Seat<u8, SeatView>,
+    way: Way,
+    first: Reached,
+) -> (Found, LastTurns)
+    requires place { LoadsHead first.at }
+    requires table { IsAt hand seat.old }
+    requires start { first.start ≡ node_start first.trail.node }
+    requires waits { (w : Walker (hand_calls S.Shape M.Machine hand))
+        × WalkerIsAt w seat.old.me.0.passes way (Goal.End Side.Right) first }
+    ensures table { StaysAtTable seat.old seat.new }
+    ensures steps { steps_made seat.new ≤ steps_made seat.old + suc (walk_left first.at (room way (shared_nodes hand.entry.layout.now))) }
+    ensures finds { (w : Walker (hand_calls S.Shape M.Machine hand.entry))
+        → WalkerIsAt w seat.old.me.0.passes way (Goal.End Side.Right) first
         → WalkerFinds w seat.new.me.0.passes way (Goal.End Side.Right) result.1 result.0 }
 {
     let layout = *hand.layout;
@@ -768,19 +815,7 @@ pub(crate) fn to_last<S: Shape, M: Machine<S>>(
         layout: &layout,
         number: hand.number,
     };
-    let root = NodeNo(0);
-    let mut place = Reached {
-        trail: Trail {
-            grand: root,
-            grand_side: Side::Left,
-            parent: root,
-            side: Side::Left,
-            node: root,
-        },
-        at: WalkAt::Root,
-        turns: LastTurns::none(),
-        start: 0,
-    };
+    let mut place = first;
     loop {
         let (kind, part) = (Kind::LoadSettled, NodeWord::Settled(SettledPart::Head));
         let head = read::<S, M>(hand, seat, kind, place.trail.node, place.start, part);
@@ -802,30 +837,33 @@ pub(crate) fn to_last<S: Shape, M: Machine<S>>(
     }
 }
 
-/// The walk of an edit, to its goal: one of the two above. It is a function for each type of edit, so
-/// that the compiler has it once, and puts it in its place: what is called from several places it
-/// would not, as both walks are too much for `inline(always)`.
+/// The walk of an edit from a place on, to its goal: one of the two above. It is a function for each
+/// type of edit, so that the compiler has it once, and puts it in its place: what is called from
+/// several places it would not, as both walks are too much for `inline(always)`.
 #[inline(always)]
-pub(crate) fn call<S: Shape, M: Machine<S>, E: Edit>(
+pub(crate) fn call_from<S: Shape, M: Machine<S>, E: Edit>(
     hand: Hand<S>,
     seat: &mut Seat<u8, SeatView>,
     way: Way,
     goal: Goal,
+    first: Reached,
 ) -> (Found, LastTurns)
+    requires place { LoadsHead first.at }
     requires table { IsAt hand seat.old }
+    requires start { first.start ≡ node_start first.trail.node }
     requires waits { (w : Walker (hand_calls S.Shape M.Machine hand))
-        × WalksFromRoot w seat.old.me.0.passes way goal }
+        × WalkerIsAt w seat.old.me.0.passes way goal first }
     ensures table { StaysAtTable seat.old seat.new }
-    ensures steps { steps_made seat.new ≤ steps_made seat.old + (3 * (2 + room way (shared_nodes hand.entry.layout.now)) + 5) }
+    ensures steps { steps_made seat.new ≤ steps_made seat.old + suc (walk_left first.at (room way (shared_nodes hand.entry.layout.now))) }
     ensures finds { (w : Walker (hand_calls S.Shape M.Machine hand.entry))
-        → WalksFromRoot w seat.old.me.0.passes way goal
+        → WalkerIsAt w seat.old.me.0.passes way goal first
         → WalkerFinds w seat.new.me.0.passes way goal result.1 result.0 }
 {
     match goal {
-        Goal::Key(_) => to_goal::<S, M>(hand, seat, way, goal),
+        Goal::Key(_) => to_goal_from::<S, M>(hand, seat, way, goal, first),
         Goal::End(side) => match side {
-            Side::Left => to_goal::<S, M>(hand, seat, way, goal),
-            Side::Right => to_last::<S, M>(hand, seat, way),
+            Side::Left => to_goal_from::<S, M>(hand, seat, way, goal, first),
+            Side::Right => to_last_from::<S, M>(hand, seat, way, first),
         },
     }
 }
