@@ -29,6 +29,7 @@ mod StraightWalk
 mod StraightReads
 mod StraightReading
 mod StraightUpdate
+mod StraightGuard
 mod StraightTries
 mod Took
 mod Versions

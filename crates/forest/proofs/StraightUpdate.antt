@@ -65,12 +65,6 @@ use Rattle.forest.proofs.Advances.{few_taken}
 pub update_is : (u : Update) (snaps : List Snap) (plan : PlanOf) (old fresh : NodeNo) → snaps ≡ u.snaps → plan ≡ u.plan → old ≡ u.old → fresh ≡ u.fresh → u ≡ record { snaps = snaps; plan = plan; old = old; fresh = fresh }
 update_is u snaps plan old fresh is_snaps is_plan is_old is_fresh i = record { snaps = sym is_snaps i; plan = sym is_plan i; old = sym is_old i; fresh = sym is_fresh i }
 
--- a walk that is past the root is in its try
-try_past : (c : Call) (begin now : History) (limit left : ℕ) (at : WalkAt) → IsPastRoot at → IsTry c begin now limit left → IsTryAt c begin now limit left at
-try_past c begin now limit left WalkStart past x = absurd past
-try_past c begin now limit left WalkRoot past x = absurd past
-try_past c begin now limit left _ past x = x
-
 module _ {M E : Type 0} {o : Calls M} {e : EditMeaning E} (u : Updater o e) where
   -- a call is made by one of the passes
   pub has_passes : 0 < o.layout.passes
@@ -81,63 +75,8 @@ module _ {M E : Type 0} {o : Calls M} {e : EditMeaning E} (u : Updater o e) wher
   gone_anywhere old m at left x = record { edit = x.edit; called = x.called; limit = x.limit; tries = x.tries; spends = x.spends }
 
   -- an update goes from a place to another where its tries may still take as much
-  moves : {A : Type 0} (m : UpdateRun E A) (at next : UpdateAt) → node_tries (standing m next) next ≡ node_tries (standing m at) at → scx_tries (standing m next) next ≡ scx_tries (standing m at) at → HasUpdateGoneOn e (standing m at) (standing m next) (node_tries (standing m next) next) (scx_tries (standing m next) next)
+  pub moves : {A : Type 0} (m : UpdateRun E A) (at next : UpdateAt) → node_tries (standing m next) next ≡ node_tries (standing m at) at → scx_tries (standing m next) next ≡ scx_tries (standing m at) at → HasUpdateGoneOn e (standing m at) (standing m next) (node_tries (standing m next) next) (scx_tries (standing m next) next)
   moves m at next nodes scx = rw (nodes, scx) record { edit = refl; called = refl; limit = refl; tries = (omega arith, omega arith); spends = (omega arith, omega arith, omega arith) }
-
-  -- the update with its walk at a place
-  abbrev pub walking : {A : Type 0} → UpdateRun E A → WalkRun → UpdateRun E UpdateAt
-  walking m walk = standing m (Walk walk)
-
-  -- an edit without a guard has none
-  unguarded : {P : Type 0} {b : Bool} → b ≡ false → b ≡ true → P
-  unguarded plain is = absurd (let x : false ≡ true = sym plain ∙ is in cc)
-
-  -- a machine that updates walks, and keeps no fork
-  pub walker : {A : Type 0} (m : UpdateRun E A) → e.guard m.edit ≡ false → Walker o
-  walker m plain = record {
-    call = u.call;
-    is_layout = u.is_layout;
-    is_number = u.is_number;
-    first = u.first;
-    with_run = λ w. u.with_run (walking m w.0);
-    tells = λ w h v run x. let y = u.tells (walking m w.0) h (Some v) x in (begun_at u.call y.0, y.3.1);
-    turns = λ old now h v s goes next run x.
-        let y = u.tells (walking m old.0) h (Some v) x in
-        let w = y.3.0 in
-        u.turns (walking m old.0) (walking m now.0) h (Some v) s (moves m (Walk old.0) (Walk now.0) refl refl) x
-        (y.0, try_past u.call y.0 h m.limit m.tries now.0.at goes.0 y.1, y.2, (record { small = w.small; rests = w.rests; quiet = w.quiet; none_filled = w.none_filled; may = w.may; same = goes.1.0 ∙ w.same; same_way = goes.1.1 ∙ w.same_way }, next (begun_at u.call y.0) y.3.1, λ past is. unguarded plain is));
-    stays = λ old now v goes. u.stays (walking m old.0) (walking m now.0) (moves m (Walk old.0) (Walk now.0) refl refl);
-  }
-
-  -- it may go where it goes
-  may_walk : (lay : Layout) (way by : Way) (goal end : Goal) → way ≡ by → goal ≡ end → MayGo lay by end → MayGo lay way goal
-  may_walk lay way by goal end is_way is_goal x = subst (λ w. MayGo lay w goal) (sym is_way) (subst (MayGo lay by) (sym is_goal) x)
-
-  -- an update that may begin begins its walk
-  pub walks : (ps : List SeatedPass) {A : Type 0} (m : UpdateRun E A) (plain : e.guard m.edit ≡ false) (way : Way) (goal : Goal) → way ≡ e.way m.edit → goal ≡ e.goal m.edit → UpdaterBegins u ps m → WalkerWaits (walker m plain) ps (way_from way goal) no_turns (load LoadSettled (node 0 (Settled Head)))
-  unfolding walker
-  walks ps m plain way goal is_way is_goal x = record {
-    planting = x.planting; known = x.known;
-    is = x.is;
-    sound = x.sound;
-    so = (
-      u.turns (standing m Start) (walking m (way_from way goal)) _ None _ (moves m Start (Walk (way_from way goal)) refl refl) x.so.0 (waiting _ (u.tells (standing m Start) _ None x.so.0)),
-      goes_on (u.with_run (standing m Start)) (u.stays (standing m Start) (walking m (way_from way goal)) (moves m Start (Walk (way_from way goal)) refl refl)) x.so.1,
-    );
-  }
-    where
-      waiting : (h : History) → UpdateIsReady e (standing m Start) u.call h None → UpdateWaits e (walking m (way_from way goal)) u.call h (load LoadSettled (node 0 (Settled Head)))
-      waiting h r =
-          let b = r.0 in (
-            h,
-            r.1,
-            inl r.2,
-            (
-              record { small = b.small; rests = record { share = b.rests.share; over = b.rests.over }; quiet = quiet_at_start u.call.layout u.call.pass h (idle_if_finished u.call h b.run.1.lawful b.rests.over); none_filled = none_filled_yet u.call.pass h; may = b.may; same = is_goal; same_way = is_way },
-              walk_begins way goal (begun_at u.call h) h b.run (may_walk u.call.layout way (e.way m.edit) goal (e.goal m.edit) is_way is_goal b.may) (rw is_goal b.small) (ends_self h),
-              λ past is. unguarded plain is,
-            ),
-          )
 
   -- what comes next changes its place alone
   placed_tries : {A : Type 0} (m : UpdateRun E A) (f : Found) (next : Next) → (placed e m f next).tries ≡ m.tries
@@ -178,20 +117,6 @@ module _ {M E : Type 0} {o : Calls M} {e : EditMeaning E} (u : Updater o e) wher
         let gone = gone_behind x.so.old now (node_tries now now.at) (scx_tries now now.at) is fewer spent x.so.tries x.so.goes in
         record { planting = x.planting; known = x.known; is = x.is; sound = x.sound; so = (u.turns x.so.old now _ x.so.got s gone x.so.was (next _ (u.runs _ x.sound) x.so.may), goes_on (u.with_run x.so.old) (u.stays x.so.old now gone) x.so.course) }
     stops now stop (Done a) is fewer spent next x = record { planting = x.planting; known = x.known; is = x.is; sound = x.sound; so = record { old = x.so.old; got = x.so.got; was = x.so.was; goes = gone_behind x.so.old now now.tries now.tries is fewer spent x.so.tries x.so.goes; answers = next _ (u.runs _ x.sound) x.so.may; course = x.so.course } }
-
-  -- after its walk it continues as its try does
-  pub finds : (ps : List SeatedPass) {A : Type 0} (m now : UpdateRun E A) (plain : e.guard m.edit ≡ false) (way : Way) (goal : Goal) (turn : LastTurns) (f : Found) (next : Result Next Stop) → way ≡ e.way m.edit → goal ≡ e.goal m.edit → IsSameUpdate m now → now.tries ≡ m.tries → HasSpentForNext e m.share now f next (m.tries + 1) (m.tries + 1)
-      → ((b h : History) → IsRun TreeAllows u.call.layout h → IsTry u.call b h m.limit m.tries → IsUntouched u.call b m.share → MayBeginTry e m (begun_at u.call b) h → IsQuietSince u.call.layout u.call.pass b h → HasFilledNone u.call.pass h b → FoundBy (e.way m.edit) (e.goal m.edit) (begun_at u.call b) h f → Guarded e m.edit (begun_at u.call b) h m.guard (λ k. FoundBy (e.way m.edit) (e.goal m.edit) k h f) → UpdateGoesOn e u.call h now f next)
-      → WalkerFinds (walker m plain) ps way goal turn f → UpdaterGoesOn u ps now f next
-  unfolding walker
-  finds ps m now plain way goal turn f next is_way is_goal is tries spent goes x =
-      goes_behind ps now f (walking m x.last) x.told next is tries spent x.so (goes y.0 _ (u.runs _ x.so.sound) y.1 y.2 record { run = w.1.run; small = w.0.small; may = w.0.may; since = own_since (begun_at u.call y.0) _ w.1.own; rests = record { share = w.0.rests.share; over = w.0.rests.over } } w.0.quiet w.0.none_filled (rw (← is_goal, ← is_way) (x.finds (begun_at u.call y.0) _ w.1)) (λ is. unguarded plain is))
-    where
-      y : UpdateIsReady e (walking m x.last) u.call (history_of x.so.planting x.so.known) (Some x.told)
-      y = u.tells (walking m x.last) _ (Some x.told) x.so.so.0
-
-      w : Walks e (walking m x.last) (begun_at u.call y.0) (history_of x.so.planting x.so.known) x.last.way x.last.goal × WalkIsTold x.last (begun_at u.call y.0) (history_of x.so.planting x.so.known) x.told
-      w = (y.3.0, y.3.1)
 
   -- what it continues with is what its equal is
   pub goes_as : (ps : List SeatedPass) {A : Type 0} (m : UpdateRun E A) (f : Found) (next equal : Result Next Stop) → next ≡ equal → UpdaterGoesOn u ps m f next → UpdaterGoesOn u ps m f equal
@@ -308,11 +233,6 @@ module _ {M E : Type 0} {o : Calls M} {e : EditMeaning E} (u : Updater o e) wher
   pub goes_told : (ps : List SeatedPass) (m now : UpdateRun E UpdateAt) (v : ℕ) (turn : Turn Updated) → IsSameUpdate m now → (m.tries ≤ now.tries + 1) × (now.tries ≤ m.tries) → (MaySpend e m m.at → IsSpending e turn m.share now (node_tries m m.at) (scx_tries m m.at)) → HostedIsTold u ps m v → MatchTurn turn (λ _. (inner_update e).goes m now) (λ _. (inner_update e).ends m now)
   goes_told ps m now v (Ask s) is fewer spent x = record { edit = is.0; called = is.1; limit = is.2; tries = fewer; spends = spent (may_spend ps m v x) }
   goes_told ps m now v (Done a) is fewer spent x = record { edit = is.0; called = is.1; limit = is.2; tries = fewer; spends = spent (may_spend ps m v x) }
-
-  -- and so it is with its first turn
-  pub goes_begun : (ps : List SeatedPass) (m now : UpdateRun E UpdateAt) (turn : Turn Updated) → IsSameUpdate m now → (m.tries ≤ now.tries + 1) × (now.tries ≤ m.tries) → (MaySpend e m m.at → IsSpending e turn m.share now (node_tries m m.at) (scx_tries m m.at)) → HostedBegins u ps m → MatchTurn turn (λ _. (inner_update e).goes m now) (λ _. (inner_update e).ends m now)
-  goes_begun ps m now (Ask s) is fewer spent x = record { edit = is.0; called = is.1; limit = is.2; tries = fewer; spends = spent (update_spends e m u.call _ None (u.tells m _ None x.so.0)) }
-  goes_begun ps m now (Done a) is fewer spent x = record { edit = is.0; called = is.1; limit = is.2; tries = fewer; spends = spent (update_spends e m u.call _ None (u.tells m _ None x.so.0)) }
 
   -- what it gets fits the taken nodes
   pub told_fits : (ps : List SeatedPass) (m : UpdateRun E UpdateAt) (v : ℕ) → HostedIsTold u ps m v → UpdateFits e m (Some v) (shared_nodes o.layout)
@@ -462,20 +382,9 @@ module _ {M E : Type 0} {o : Calls M} {e : EditMeaning E} (u : Updater o e) wher
   unfolding changer
   is_blocked ps m f scx help run is x = subst (λ (r : ScxRun). HostedWaits u ps (scxing m f r) (all_frozen_load scx)) is x
 
--- its steps are those of its walk, and those that are left after it
-pub walk_steps : (now old walk left tries rest : ℕ) → now ≤ old + walk → left ≤ tries + rest → now + left ≤ old + (tries + (walk + rest))
-walk_steps now old walk left tries rest a b = omega (arith, a, b)
-
--- of an edit without a guard a try is its walk and what is left after it
-pub plain_left : {E : Type 0} (e : EditMeaning E) {A : Type 0} (m : UpdateRun E A) (nodes : ℕ) → e.guard m.edit ≡ false → m.tries * try_left e m.edit nodes + (3 * (2 + room (e.way m.edit) nodes) + 5 + (64 * e.most_looks m.edit + most_works e m.edit + 39)) ≡ update_left e (standing m Start) nodes
-plain_left e m nodes plain = ap (λ b. m.tries * try_left e m.edit nodes + (3 * (2 + room (e.way m.edit) nodes) + 5 + (64 * all_looks b (e.most_looks m.edit) + most_works e m.edit + 39))) (sym plain)
-
 -- an LLX takes at most seven steps
 pub look_steps : (now old left tries looks works : ℕ) → now ≤ old + 7 → left ≤ tries + (looks + works + 39) → now + left ≤ old + suc (tries + (53 + looks + works + 39))
 look_steps now old left tries looks works a b = omega (arith, a, b)
-
-pub both_steps : (now then bound : ℕ) → now ≤ then → then ≤ bound → now ≤ bound
-both_steps now then bound a b = omega (arith, a, b)
 
 -- fewer words are left after a fill
 pub fewer_fills_then : (p : Piece) (part : NodeWord) (next : Option NodeWord) → part_behind p part ≡ next → fills_then p next < fills_then p (Some part)

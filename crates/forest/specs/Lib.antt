@@ -11,6 +11,7 @@ pub mod StraightVlx
 pub mod StraightWalk
 pub mod StraightGet
 pub mod StraightUpdate
+pub mod StraightGuard
 pub mod StraightCalls
 pub mod StraightReads
 pub mod Traces

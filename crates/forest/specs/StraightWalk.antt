@@ -98,6 +98,10 @@ module _ {M : Type 0} {o : Calls M} (w : Walker o) (ps : List SeatedPass) where
   abbrev pub WalkerGoesDown : Way → Goal → Trail → ℕ → Side → LastTurns → Type 0
   WalkerGoesDown way goal trail level side turn = WalkerWaits (way_at way goal trail (Child level side)) turn (load LoadChild (child trail.node.0 side))
 
+  -- its walk by this way to this goal waits for the head of the node that it has reached
+  abbrev pub WalkerIsAt : Way → Goal → Reached → Type 0
+  WalkerIsAt way goal place = WalkerWaits (way_at way goal place.trail place.at) place.turns (load LoadSettled (node place.trail.node.0 (Settled HeadWord)))
+
   -- its walk by this way to this goal waits for the head of the root, with which it begins
   abbrev pub WalksFromRoot : Way → Goal → Type 0
   WalksFromRoot way goal = WalkerWaits (way_from way goal) no_turns (load LoadSettled (node 0 (Settled HeadWord)))
@@ -135,3 +139,12 @@ module _ {S T M A : Type 0} (s : Shape T) (m : Machine M T A) (hand : Hand S) wh
   -- these forks are the last where it has turned
   abbrev pub WalkEnds : Seat ℕ SeatView → Way → Goal → Seat ℕ SeatView → LastTurns → Found → Type 0
   WalkEnds old way goal new turns f = (w : Walker (hand_calls s m hand)) → WalksFromRoot w old.me.0.passes way goal → WalkerFinds w new.me.0.passes way goal turns f
+
+  -- a call of the hand is to walk by this way to this goal, from this place on
+  abbrev pub MayWalkFrom : Seat ℕ SeatView → Way → Goal → Reached → Type 0
+  MayWalkFrom seat way goal first = (w : Walker (hand_calls s m hand)) × WalkerIsAt w seat.me.0.passes way goal first
+
+  -- whichever call was to do so at the old seat: at the new one its walk has found f in the end, and
+  -- these forks are the last where it has turned
+  abbrev pub WalkEndsFrom : Seat ℕ SeatView → Way → Goal → Reached → Seat ℕ SeatView → LastTurns → Found → Type 0
+  WalkEndsFrom old way goal first new turns f = (w : Walker (hand_calls s m hand)) → WalkerIsAt w old.me.0.passes way goal first → WalkerFinds w new.me.0.passes way goal turns f

@@ -5,6 +5,7 @@
 
 pub(crate) mod calls;
 pub(crate) mod fresh_nodes;
+pub(crate) mod guard;
 pub(crate) mod hand;
 pub(crate) mod helps;
 pub(crate) mod last_walk;

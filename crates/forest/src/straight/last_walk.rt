@@ -1,12 +1,12 @@
 //! The walk to the last pair, of whatever machine walks: it goes right wherever it may.
-ghost use Rattle.std.specs.Prelude.{◌≡◌, ◌≤◌, ◌+◌, ◌*◌, true, false, IfOk, IfErr, MatchResult};
+ghost use Rattle.std.specs.Prelude.{◌≡◌, ◌≤◌, ◌+◌, suc, true, false, IfOk, IfErr, MatchResult};
 ghost use Rattle.arena.specs.Heads.{head_of};
 ghost use Rattle.arena.specs.Layout.{node_start};
 ghost use Rattle.forest.specs.Leads.{steps_made};
 ghost use Rattle.forest.specs.Hands.{IsAt, hand_calls};
 ghost use Rattle.forest.specs.Seats.{StaysAtTable};
 ghost use Rattle.forest.specs.Traces.{shared_nodes};
-ghost use Rattle.forest.specs.StraightWalk.{AsksHead, HasWalked, MayWalk, WalkEnds, WalkFinds, WalkGoesDown, Walker, WalkerIsTold, WalksNearer};
+ghost use Rattle.forest.specs.StraightWalk.{AsksHead, HasWalked, MayWalkFrom, WalkEndsFrom, WalkFinds, WalkGoesDown, Walker, WalkerIsTold, WalksNearer};
 ghost use Rattle.ordered_map.specs.Holding.{end_slot};
 ghost use Rattle.ordered_map.specs.declared.rule.Goal.{Goal};
 ghost use Rattle.order.specs.declared.last_turns.LastTurns.{LastTurns};
@@ -17,7 +17,7 @@ ghost use Rattle.template.specs.Walk.Steps.{room, walk_left};
 use crate::straight::hand::Hand;
 use crate::straight::node::{Reached, descend, end_with, is_leaf, read};
 use crate::view::SeatView;
-use arena::{Head, Kind, Machine, NodeNo, NodeWord, SettledPart, Shape, Side, Slot};
+use arena::{Head, Kind, Machine, NodeWord, SettledPart, Shape, Side, Slot};
 use atomic_table::Seat;
 use order::LastTurns;
 use ordered_map::end_slot;
@@ -203,21 +203,23 @@ fn descend_right<S: Shape, M: Machine<S>>(
     (place, word)
 }
 
-/// The walk by this way from the root to the last leaf: forks at which it goes right have a loop of
-/// their own.
+/// The walk by this way from a place on to the last leaf: forks at which it goes right have a loop
+/// of their own.
 #[inline(always)]
-pub(crate) fn to_last<S: Shape, M: Machine<S>>(
+pub(crate) fn to_last_from<S: Shape, M: Machine<S>>(
     hand: Hand<S>,
     seat: &mut Seat<u8, SeatView>,
     way: Way,
+    first: Reached,
 ) -> (Found, LastTurns)
     requires table { IsAt hand seat.old }
-    requires waits { MayWalk S.Shape M.Machine hand seat.old way (Goal.End Side.Right) }
+    requires stands { AsksHead first.trail first.at first.start }
+    requires waits { MayWalkFrom S.Shape M.Machine hand seat.old way (Goal.End Side.Right) first }
     ensures table { StaysAtTable seat.old seat.new }
     ensures steps { steps_made seat.new ≤ steps_made seat.old
-        + (3 * (2 + room way (shared_nodes hand.entry.layout.now)) + 5) }
-    ensures finds { WalkEnds S.Shape M.Machine hand.entry seat.old way (Goal.End Side.Right)
-        seat.new result.1 result.0 }
+        + suc (walk_left first.at (room way (shared_nodes hand.entry.layout.now))) }
+    ensures finds { WalkEndsFrom S.Shape M.Machine hand.entry seat.old way (Goal.End Side.Right)
+        first seat.new result.1 result.0 }
 {
     let layout = *hand.layout;
     let hand = Hand {
@@ -225,19 +227,7 @@ pub(crate) fn to_last<S: Shape, M: Machine<S>>(
         layout: &layout,
         number: hand.number,
     };
-    let root = NodeNo(0);
-    let mut place = Reached {
-        trail: Trail {
-            grand: root,
-            grand_side: Side::Left,
-            parent: root,
-            side: Side::Left,
-            node: root,
-        },
-        at: WalkAt::Root,
-        turns: LastTurns::none(),
-        start: 0,
-    };
+    let mut place = first;
     loop {
         let (kind, part) = (Kind::LoadSettled, NodeWord::Settled(SettledPart::Head));
         let head = read::<S, M>(hand, seat, kind, place.trail.node, place.start, part);

@@ -35,6 +35,33 @@ pub(crate) struct Reached {
     pub(crate) start: usize,
 }
 
+impl Reached {
+    ghost use Rattle.std.specs.Prelude.{◌≡◌};
+    ghost use Rattle.order.specs.LastTurns.{no_turns};
+    ghost use Rattle.template.specs.Walk.Places.{root_trail};
+
+    /// The root, with which a walk begins.
+    #[inline(always)]
+    pub(crate) fn root() -> Reached
+        ensures { result ≡ record { trail = root_trail; at = WalkAt.Root; turns = no_turns; start = 0 } }
+    {
+        let root = NodeNo(0);
+        let side = Side::Left;
+        Reached {
+            trail: Trail {
+                grand: root,
+                grand_side: side,
+                parent: root,
+                side,
+                node: root,
+            },
+            at: WalkAt::Root,
+            turns: LastTurns::none(),
+            start: 0,
+        }
+    }
+}
+
 /// Loads a word of a node that begins there.
 #[inline(always)]
 pub(crate) fn read<S: Shape, M: Machine<S>>(

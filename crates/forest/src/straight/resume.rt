@@ -1,23 +1,29 @@
 //! Updates that meet something in their way: their machine continues from there.
-ghost use Rattle.std.specs.Prelude.{◌≡◌, ◌<◌};
-ghost use Rattle.forest.specs.Hosts.{HostedStands};
+ghost use Rattle.std.specs.Prelude.{◌≡◌, ◌<◌, suc};
+ghost use Rattle.forest.specs.Hosts.{HostedStands, HostedWaits};
 ghost use Rattle.forest.specs.Hands.{IsAt, hand_calls};
 ghost use Rattle.forest.specs.Leads.{Leads};
 ghost use Rattle.forest.specs.Traces.{shared_nodes, weight};
-ghost use Rattle.forest.specs.StraightUpdate.{StandsToTry, TryEnds, Updater, UpdaterBegins, UpdaterEnds, UpdaterIsBlocked, left_at_block};
+ghost use Rattle.forest.specs.StraightGuard.{UpdaterGuardsAgain, left_at_guard};
+ghost use Rattle.forest.specs.StraightUpdate.{StandsToTry, TryEnds, Updater, UpdaterEnds, UpdaterIsBlocked, left_at_block};
 ghost use Rattle.edits.specs.Next.{standing};
 ghost use Rattle.edits.specs.Steps.{update_left};
 ghost use Rattle.edits.specs.declared.update.UpdateAt.{UpdateAt as Places};
 
 use crate::straight::hand::Hand;
+use crate::straight::llx::load;
 use crate::straight::step::step;
+use crate::straight::walk::Reached;
 use crate::view::SeatView;
-use arena::{Layout, Machine, PassNo, ScxNo, Shape, Share, Turn};
+use arena::{
+    Kind, Layout, Machine, NodeNo, PassNo, ScxNo, ScxWord, Shape, Share, Step, Turn, Word,
+};
 use atomic_table::Seat;
 use edits::{Edit, Next, Stop, UpdateAt, UpdateRun, Updated, copied};
 use help::HelpRun;
+use prims::{LlxAt, LlxRun};
 use std::mem::replace;
-use template::Found;
+use template::{Found, Goal, WalkAt, WalkRun, Way};
 
 /// Takes an update out, to be put at a place. Until it is put back, another replaces it, whose
 /// share nobody takes from: that of some pass, since a share is always one's.
@@ -60,24 +66,69 @@ fn finish<S: Shape, M: Machine<S>, E: Edit + Copy>(
     }
 }
 
-/// Makes a whole update, as its machine does.
-pub(crate) fn from_start<S: Shape, M: Machine<S>, E: Edit + Copy>(
+/// Makes the rest of an update from its look at its guard on, where something is in the way of that.
+#[cold]
+#[inline(never)]
+fn rest_from_guard<S: Shape, M: Machine<S>, E: Edit + Copy>(
+    hand: Hand<S>,
+    seat: &mut Seat<u8, SeatView>,
+    machine: UpdateRun<E, UpdateAt>,
+    walk: WalkRun,
+    head: u64,
+    llx: LlxRun,
+    asked: Step,
+) -> (Updated, UpdateRun<E, ()>)
+    requires table { IsAt hand seat.old }
+    requires waits { (u : Updater (hand_calls S.Shape M.Machine hand) E.means)
+        × HostedWaits u seat.old.me.0.passes (standing machine (Places.Guard walk head llx)) asked }
+    ensures { Leads seat.old seat.new (suc (update_left E.means
+        (standing machine (Places.Guard walk head llx)) (shared_nodes hand.entry.layout.now)))
+        (λ (u : Updater (hand_calls S.Shape M.Machine hand.entry) E.means) ps.
+        HostedWaits u ps (standing machine (Places.Guard walk head llx)) asked)
+        (λ u ps. UpdaterEnds u ps result.1 result.0) }
+{
+    let machine = machine.placed_at(UpdateAt::Guard { walk, head, llx });
+    finish::<S, M, E>(hand, seat, machine, Turn::Ask(asked))
+}
+
+/// Makes the rest of an update whose walk, by this way to this goal, has found this as the head of the
+/// root, where something is in the way of the look at its guard: with this SCX-record the guard was
+/// marked or not, whose state is asked for again.
+#[inline(always)]
+pub(crate) fn from_guard<S: Shape, M: Machine<S>, E: Edit + Copy>(
     hand: Hand<S>,
     seat: &mut Seat<u8, SeatView>,
     run: &mut UpdateRun<E, ()>,
+    way: Way,
+    goal: Goal,
+    head: u64,
+    marked: bool,
+    scx: ScxNo,
 ) -> Updated
     requires table { IsAt hand seat.old }
-    requires begins { (u : Updater (hand_calls S.Shape M.Machine hand) E.means)
-        × UpdaterBegins u seat.old.me.0.passes run.old }
-    ensures { Leads seat.old seat.new (update_left E.means (standing run.old Places.Start)
+    requires waits { (u : Updater (hand_calls S.Shape M.Machine hand) E.means)
+        × UpdaterGuardsAgain u seat.old.me.0.passes run.old way goal head marked scx }
+    ensures { Leads seat.old seat.new (left_at_guard E.means run.old way goal head marked scx
         (shared_nodes hand.entry.layout.now))
         (λ (u : Updater (hand_calls S.Shape M.Machine hand.entry) E.means) ps.
-        UpdaterBegins u ps run.old)
+        UpdaterGuardsAgain u ps run.old way goal head marked scx)
         (λ u ps. UpdaterEnds u ps run.new result) }
 {
-    let mut machine = take_run(run, hand.layout);
-    let turn = machine.step(None);
-    let (updated, rest) = finish::<S, M, E>(hand, seat, machine, turn);
+    let machine = take_run(run, hand.layout);
+    let trail = Reached::root().trail;
+    let at = WalkAt::Root;
+    let walk = WalkRun {
+        goal,
+        way,
+        trail,
+        at,
+    };
+    let (node, at) = (NodeNo(2), LlxAt::StateAgain { marked, scx });
+    let llx = LlxRun { node, at };
+    let asked = load(Kind::LoadState, Word::Scx(scx, ScxWord::State));
+    let (updated, rest) = rest_from_guard::<S, M, E>(
+        hand, seat, machine, walk, head, llx, asked,
+    );
     *run = rest;
     updated
 }

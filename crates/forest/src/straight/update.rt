@@ -14,7 +14,7 @@ use crate::straight::hand::Hand;
 use crate::straight::llx::look;
 use crate::straight::reads::read;
 use crate::straight::scx::{self, ScxTask};
-use crate::straight::{helps, resume, walk};
+use crate::straight::{guard, helps, resume, walk};
 use crate::view::SeatView;
 use arena::{Machine, NodeNo, ScxNo, Shape, Share};
 use arrayvec::ArrayVec;
@@ -63,8 +63,7 @@ pub(crate) fn make<S: Shape, M: Machine<S>, E: Edit + Copy>(
 }
 
 /// Makes an update: its first try inline, as long as nothing is in its way. If something is,
-/// its machine continues from there; until then the update has no place. One with a guard its machine
-/// makes from its start on.
+/// its machine continues from there; until then the update has no place.
 #[inline(always)]
 fn call<S: Shape, M: Machine<S>, E: Edit + Copy>(
     hand: Hand<S>,
@@ -80,12 +79,13 @@ fn call<S: Shape, M: Machine<S>, E: Edit + Copy>(
         UpdaterBegins u ps run.old)
         (λ u ps. UpdaterEnds u ps run.new result) }
 {
-    if run.edit.guard() {
-        return resume::from_start::<S, M, E>(hand, seat, run);
-    }
     let way = run.edit.way();
     let goal = run.edit.goal();
-    let found = copied(&walk::call::<S, M, E>(hand, seat, way, goal).0);
+    let first = match guard::begin::<S, M, E>(hand, seat, run, way, goal) {
+        Ok(first) => first,
+        Err(updated) => return updated,
+    };
+    let found = copied(&walk::call_from::<S, M, E>(hand, seat, way, goal, first).0);
     let next = run.test_share(&found);
     try_on::<S, M, E>(hand, seat, run, &found, next)
 }

@@ -6,18 +6,18 @@ ghost use Rattle.forest.specs.Leads.{steps_made};
 ghost use Rattle.forest.specs.Hands.{IsAt};
 ghost use Rattle.forest.specs.Seats.{StaysAtTable};
 ghost use Rattle.forest.specs.Traces.{shared_nodes};
-ghost use Rattle.forest.specs.StraightWalk.{AsksHead, HasWalked, IsAskedFork, MayWalk, WalkEnds, WalkFinds, WalkGoesDown, with_turn_if};
+ghost use Rattle.forest.specs.StraightWalk.{AsksHead, HasWalked, IsAskedFork, MayWalk, MayWalkFrom, WalkEnds, WalkEndsFrom, WalkFinds, WalkGoesDown, with_turn_if};
 ghost use Rattle.order.specs.LastTurns.{SharesKey, SharesNoKey};
 ghost use Rattle.order.specs.declared.last_turns.LastTurns.{LastTurns};
 ghost use Rattle.template.specs.FoundLeaf.{asked_key, path_key};
 ghost use Rattle.template.specs.declared.walk.Way.{Way};
 ghost use Rattle.template.specs.Walk.Known.{EndsAt, asks_key, goal_slot, open_side};
 ghost use Rattle.template.specs.Walk.Places.{way_at, way_from};
-ghost use Rattle.template.specs.Walk.Steps.{room};
+ghost use Rattle.template.specs.Walk.Steps.{room, walk_left};
 
 use crate::straight::hand::Hand;
 use crate::straight::last_walk;
-use crate::straight::node::{end_with, is_leaf, read, start_for};
+use crate::straight::node::{Reached, end_with, is_leaf, read, start_for};
 use crate::view::SeatView;
 use arena::{Head, Kind, Machine, NodeNo, NodeWord, SettledPart, Shape, Side, Slot};
 use atomic_table::Seat;
@@ -319,23 +319,25 @@ fn pass<S: Shape, M: Machine<S>>(
     Ok((open_side(goal, word), counts_above(way, word)))
 }
 
-/// The walk by this way from the root to the leaf where a key is, or would be, or to the first
+/// The walk by this way from a place on to the leaf where a key is, or would be, or to the first
 /// leaf, and the last forks where it turned.
 #[inline(always)]
-pub(crate) fn to_goal<S: Shape, M: Machine<S>>(
+fn to_goal_from<S: Shape, M: Machine<S>>(
     hand: Hand<S>,
     seat: &mut Seat<u8, SeatView>,
     way: Way,
     goal: Goal,
+    first: Reached,
 ) -> (Found, LastTurns)
-    requires first { (more : ℕ) → goal_slot goal more ≡ Slot.First }
+    requires slot { (more : ℕ) → goal_slot goal more ≡ Slot.First }
     requires table { IsAt hand seat.old }
-    requires waits { MayWalk S.Shape M.Machine hand seat.old way goal }
+    requires stands { AsksHead first.trail first.at first.start }
+    requires waits { MayWalkFrom S.Shape M.Machine hand seat.old way goal first }
     ensures table { StaysAtTable seat.old seat.new }
     ensures steps { steps_made seat.new ≤ steps_made seat.old
-        + (3 * (2 + room way (shared_nodes hand.entry.layout.now)) + 5) }
-    ensures finds { WalkEnds S.Shape M.Machine hand.entry seat.old way goal seat.new result.1
-        result.0 }
+        + suc (walk_left first.at (room way (shared_nodes hand.entry.layout.now))) }
+    ensures finds { WalkEndsFrom S.Shape M.Machine hand.entry seat.old way goal first seat.new
+        result.1 result.0 }
 {
     let layout = *hand.layout;
     let hand = Hand {
@@ -343,16 +345,8 @@ pub(crate) fn to_goal<S: Shape, M: Machine<S>>(
         layout: &layout,
         number: hand.number,
     };
-    let root = NodeNo(0);
-    let mut trail = Trail {
-        grand: root,
-        grand_side: Side::Left,
-        parent: root,
-        side: Side::Left,
-        node: root,
-    };
-    let (mut at, mut turns) = (WalkAt::Root, LastTurns::none());
-    let mut start = 0;
+    let (mut trail, mut start) = (first.trail, first.start);
+    let (mut at, mut turns) = (first.at, first.turns);
     loop {
         let node = trail.node;
         let (kind, part) = (Kind::LoadSettled, NodeWord::Settled(SettledPart::Head));
@@ -377,16 +371,16 @@ pub(crate) fn to_goal<S: Shape, M: Machine<S>>(
     }
 }
 
-/// The walk of an edit, to its goal: the one above, or that to the last pair. It is a function for
-/// each type of edit, so that the compiler has it once, and puts it in its place: what is called
-/// from several places it would not, as both walks are too much for `inline(always)`.
+/// The walk by this way from the root to the leaf where a key is, or would be, or to the first
+/// leaf, and the last forks where it turned.
 #[inline(always)]
-pub(crate) fn call<S: Shape, M: Machine<S>, E: Edit>(
+pub(crate) fn to_goal<S: Shape, M: Machine<S>>(
     hand: Hand<S>,
     seat: &mut Seat<u8, SeatView>,
     way: Way,
     goal: Goal,
 ) -> (Found, LastTurns)
+    requires first { (more : ℕ) → goal_slot goal more ≡ Slot.First }
     requires table { IsAt hand seat.old }
     requires waits { MayWalk S.Shape M.Machine hand seat.old way goal }
     ensures table { StaysAtTable seat.old seat.new }
@@ -395,11 +389,34 @@ pub(crate) fn call<S: Shape, M: Machine<S>, E: Edit>(
     ensures finds { WalkEnds S.Shape M.Machine hand.entry seat.old way goal seat.new result.1
         result.0 }
 {
+    to_goal_from::<S, M>(hand, seat, way, goal, Reached::root())
+}
+
+/// The walk of an edit from a place on, to its goal: the one above, or that to the last pair. It is a
+/// function for each type of edit, so that the compiler has it once, and puts it in its place: what
+/// is called from several places it would not, as both walks are too much for `inline(always)`.
+#[inline(always)]
+pub(crate) fn call_from<S: Shape, M: Machine<S>, E: Edit>(
+    hand: Hand<S>,
+    seat: &mut Seat<u8, SeatView>,
+    way: Way,
+    goal: Goal,
+    first: Reached,
+) -> (Found, LastTurns)
+    requires table { IsAt hand seat.old }
+    requires stands { AsksHead first.trail first.at first.start }
+    requires waits { MayWalkFrom S.Shape M.Machine hand seat.old way goal first }
+    ensures table { StaysAtTable seat.old seat.new }
+    ensures steps { steps_made seat.new ≤ steps_made seat.old
+        + suc (walk_left first.at (room way (shared_nodes hand.entry.layout.now))) }
+    ensures finds { WalkEndsFrom S.Shape M.Machine hand.entry seat.old way goal first seat.new
+        result.1 result.0 }
+{
     match goal {
-        Goal::Key(_) => to_goal::<S, M>(hand, seat, way, goal),
+        Goal::Key(_) => to_goal_from::<S, M>(hand, seat, way, goal, first),
         Goal::End(side) => match side {
-            Side::Left => to_goal::<S, M>(hand, seat, way, goal),
-            Side::Right => last_walk::to_last::<S, M>(hand, seat, way),
+            Side::Left => to_goal_from::<S, M>(hand, seat, way, goal, first),
+            Side::Right => last_walk::to_last_from::<S, M>(hand, seat, way, first),
         },
     }
 }

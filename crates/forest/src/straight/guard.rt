@@ -1,0 +1,86 @@
+//! The places from which updates walk: the root; or, of an edit with a guard, the child of the root,
+//! once it has looked at that.
+ghost use Rattle.std.specs.Prelude.{◌≡◌, true, IfErr, IfOk};
+ghost use Rattle.forest.specs.Hands.{IsAt, hand_calls};
+ghost use Rattle.forest.specs.Leads.{Leads};
+ghost use Rattle.forest.specs.Traces.{shared_nodes};
+ghost use Rattle.forest.specs.StraightGuard.{BeginsToWalk};
+ghost use Rattle.forest.specs.StraightUpdate.{Updater, UpdaterBegins, UpdaterEnds};
+ghost use Rattle.edits.specs.Next.{standing};
+ghost use Rattle.edits.specs.Steps.{update_left};
+ghost use Rattle.edits.specs.declared.update.UpdateAt.{UpdateAt};
+
+use crate::straight::hand::Hand;
+use crate::straight::llx::{load, look};
+use crate::straight::resume;
+use crate::straight::step::step;
+use crate::straight::node::{Reached, descend};
+use crate::view::SeatView;
+use arena::{Kind, Machine, NodeNo, NodeWord, SettledPart, Shape, Side, Word};
+use atomic_table::Seat;
+use edits::{Edit, UpdateRun, Updated};
+use template::{Goal, Tree, Way};
+
+/// Looks at the guard of an edit, between the loads of the root's head and of its child, and keeps
+/// its snapshot. If something is in the way, its machine continues from there.
+#[inline(always)]
+fn pass<S: Shape, M: Machine<S>, E: Edit + Copy>(
+    hand: Hand<S>,
+    seat: &mut Seat<u8, SeatView>,
+    run: &mut UpdateRun<E, ()>,
+    way: Way,
+    goal: Goal,
+) -> Result<Reached, Updated>
+    requires table { IsAt hand seat.old }
+    requires guard { E.means.guard run.old.edit ≡ true }
+    requires goes { (way ≡ E.means.way run.old.edit) × (goal ≡ E.means.goal run.old.edit) }
+    requires begins { (u : Updater (hand_calls S.Shape M.Machine hand) E.means)
+        × UpdaterBegins u seat.old.me.0.passes run.old }
+    ensures walks { IfOk result (λ place.
+        BeginsToWalk S.Shape M.Machine E.means hand.entry way goal seat.old run.old seat.new run.new place) }
+    ensures ends { IfErr result (λ updated. Leads seat.old seat.new
+        (update_left E.means (standing run.old UpdateAt.Start) (shared_nodes hand.entry.layout.now))
+        (λ (u : Updater (hand_calls S.Shape M.Machine hand.entry) E.means) ps. UpdaterBegins u ps run.old)
+        (λ u ps. UpdaterEnds u ps run.new updated)) }
+{
+    let part = NodeWord::Settled(SettledPart::Head);
+    let asked = load(Kind::LoadSettled, Word::Node(NodeNo(0), part));
+    let head = step::<S, M>(hand, seat, asked);
+    match look::<S, M, Tree>(hand, seat, NodeNo(2)) {
+        Ok(snap) => {
+            run.guarded(snap);
+            let root = Reached::root();
+            Ok(descend::<S, M>(hand, seat, way, goal, root, head, Side::Left))
+        }
+        Err((marked, scx)) => {
+            Err(resume::from_guard::<S, M, E>(hand, seat, run, way, goal, head, marked, scx))
+        }
+    }
+}
+
+/// The place from which an update walks, behind its guard if it has one. If something is in the way
+/// there, its machine continues, and it has answered.
+#[inline(always)]
+pub(crate) fn begin<S: Shape, M: Machine<S>, E: Edit + Copy>(
+    hand: Hand<S>,
+    seat: &mut Seat<u8, SeatView>,
+    run: &mut UpdateRun<E, ()>,
+    way: Way,
+    goal: Goal,
+) -> Result<Reached, Updated>
+    requires table { IsAt hand seat.old }
+    requires goes { (way ≡ E.means.way run.old.edit) × (goal ≡ E.means.goal run.old.edit) }
+    requires begins { (u : Updater (hand_calls S.Shape M.Machine hand) E.means)
+        × UpdaterBegins u seat.old.me.0.passes run.old }
+    ensures walks { IfOk result (λ place.
+        BeginsToWalk S.Shape M.Machine E.means hand.entry way goal seat.old run.old seat.new run.new place) }
+    ensures ends { IfErr result (λ updated. Leads seat.old seat.new
+        (update_left E.means (standing run.old UpdateAt.Start) (shared_nodes hand.entry.layout.now))
+        (λ (u : Updater (hand_calls S.Shape M.Machine hand.entry) E.means) ps. UpdaterBegins u ps run.old)
+        (λ u ps. UpdaterEnds u ps run.new updated)) }
+{
+    if run.edit.guard() {
+        return pass::<S, M, E>(hand, seat, run, way, goal);
+    }
+    Ok(Reached::root())
+}
