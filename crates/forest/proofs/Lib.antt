@@ -43,3 +43,4 @@ mod OpenBegins
 mod StraightGet
 mod StraightCalls
 mod Begun
+mod InWords
