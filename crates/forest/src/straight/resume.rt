@@ -126,9 +126,7 @@ pub(crate) fn from_guard<S: Shape, M: Machine<S>, E: Edit + Copy>(
     let (node, at) = (NodeNo(2), LlxAt::StateAgain { marked, scx });
     let llx = LlxRun { node, at };
     let asked = load(Kind::LoadState, Word::Scx(scx, ScxWord::State));
-    let (updated, rest) = rest_from_guard::<S, M, E>(
-        hand, seat, machine, walk, head, llx, asked,
-    );
+    let (updated, rest) = rest_from_guard::<S, M, E>(hand, seat, machine, walk, head, llx, asked);
     *run = rest;
     updated
 }
