@@ -13,7 +13,7 @@ ghost use Rattle.edits.specs.declared.update.UpdateAt.{UpdateAt as Places};
 use crate::straight::hand::Hand;
 use crate::straight::llx::load;
 use crate::straight::step::step;
-use crate::straight::walk::Reached;
+use crate::straight::node::Reached;
 use crate::view::SeatView;
 use arena::{
     Kind, Layout, Machine, NodeNo, PassNo, ScxNo, ScxWord, Shape, Share, Step, Turn, Word,
