@@ -37,7 +37,7 @@ pub record AreLeftByAll (lay : Layout) (passes : List PassView) (pairs : List (�
   pub all : AreAllBack lay passes
   pub words : Contents
   pub closed : IsClosed (TypedAllows IsNumber IsWideNumber) lay passes words
-  pub spelled : Spells lay (value (history_of lay.mode closed.rows)) (map (word_pair (λ k. k) (λ v. v)) pairs)
+  pub spelled : Spells lay (value (history_of closed.planting closed.rows)) (map (word_pair (λ k. k) (λ v. v)) pairs)
 
 -- how a holder may close: the pairs are left, or an allocation was refused; or it is as it was
 abbrev pub IsClosingOf : {B : Type 0} → Held B → Result (Option (Vec (ℕ × ℕ))) (Held B) → Type 0

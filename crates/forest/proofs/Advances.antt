@@ -3,10 +3,11 @@ use Rattle.std.proofs.Common.{◌≡◌, ◌≢◌, ◌<◌, ◌≤◌, ℕ, suc
 use Rattle.histories.specs.Common.{Layout, Row, Step, Turn, Ask, Done, IsWord, History, ◌⊳◌, value, Lawful, Call, IsRun, IsTold, MatchTurn, row_of, Shaped, taken_nodes}
 use Rattle.arena.proofs.Lemmas.{taken_few}
 use Rattle.histories.proofs.Lemmas.{lawful_row}
+use Rattle.planting.specs.Plantings.{PlantingView}
 use Rattle.forest.specs.declared.rule.CallStep.{CallStep}
 use Rattle.forest.specs.declared.view.SeatedPass.{SeatedPass}
 use Rattle.forest.specs.TableRule.{history_of, past_of, seated_pass, ByOthers, MayStep, Made, row}
-use Rattle.forest.specs.Traces.{HoldsForCall, rows_of, seat_steps, shared_nodes, weight}
+use Rattle.forest.specs.Traces.{HoldsForCall, known_of, planting_of, rows_of, seat_steps, shared_nodes, weight}
 
 -- a run without its last row is a run
 pub run_before : (allows : Layout → History → ℕ → Type 0) (lay : Layout) (h : History) (r : Row) → IsRun allows lay (r ⊳ h) → IsRun allows lay h
@@ -14,9 +15,13 @@ unfolding Lawful Shaped
 run_before allows lay h r run = record { lawful = run.lawful.0; shaped = run.shaped.0 }
 
 -- what rows of others keep holds after all of them
-pub keeps_all : (allows : Layout → History → ℕ → Type 0) (lay : Layout) (c : ℕ) (P : History → Type 0) → ((h : History) (r : Row) → IsRun allows lay (r ⊳ h) → r.pass.0 ≢ c → P h → P (r ⊳ h)) → (rows known : List Row) → ByOthers c rows → IsRun allows lay (history_of lay.mode (rows ++ known)) → P (history_of lay.mode known) → P (history_of lay.mode (rows ++ known))
-keeps_all allows lay c P keeps [] known by run x = x
-keeps_all allows lay c P keeps (r ∷ rs) known by run x = keeps (history_of lay.mode (rs ++ known)) r run by.0 (keeps_all allows lay c P keeps rs known by.1 (run_before allows lay (history_of lay.mode (rs ++ known)) r run) x)
+pub keeps_all : (allows : Layout → History → ℕ → Type 0) (lay : Layout) (c : ℕ) (P : History → Type 0) (planting : PlantingView) → ((h : History) (r : Row) → IsRun allows lay (r ⊳ h) → r.pass.0 ≢ c → P h → P (r ⊳ h)) → (rows known : List Row) → ByOthers c rows → IsRun allows lay (history_of planting (rows ++ known)) → P (history_of planting known) → P (history_of planting (rows ++ known))
+keeps_all allows lay c P planting keeps [] known by run x = x
+keeps_all allows lay c P planting keeps (r ∷ rs) known by run x = keeps (history_of planting (rs ++ known)) r run by.0 (keeps_all allows lay c P planting keeps rs known by.1 (run_before allows lay (history_of planting (rs ++ known)) r run) x)
+
+-- the one pass of a seat, by what it knows
+pub seat_back : (ps : List SeatedPass) (n : ℕ) (lay : Layout) (planting : PlantingView) (known : List Row) → ps ≡ seated_pass n lay planting known ∷ [] → ps ≡ seated_pass n lay (planting_of ps) (known_of ps) ∷ []
+seat_back ps n lay planting known e = subst (λ (qs : List SeatedPass). ps ≡ seated_pass n lay (planting_of qs) (known_of qs) ∷ []) (sym e) e
 
 first_or : SeatedPass → List SeatedPass → SeatedPass
 first_or p [] = p
@@ -28,7 +33,7 @@ same_knower ps p q a b = ap (first_or p) (sym a ∙ b)
 
 -- what is so together with something else is so
 pub called_so : {allows : Layout → History → ℕ → Type 0} {ps : List SeatedPass} {c : Call} {P Q : History → Type 0} → HoldsForCall allows ps c (λ h. P h × Q h) → HoldsForCall allows ps c P
-called_so x = record { known = x.known; is = x.is; sound = x.sound; so = x.so.0 }
+called_so x = record { planting = x.planting; known = x.known; is = x.is; sound = x.sound; so = x.so.0 }
 
 module _ (allows : Layout → History → ℕ → Type 0) (c : Call) (said : CallStep) (called : c.number ≡ said.call) where
   -- the row of the step is that of the call
@@ -37,29 +42,29 @@ module _ (allows : Layout → History → ℕ → Type 0) (c : Call) (said : Cal
 
   pub may : (ps : List SeatedPass) (waits : History → Type 0) → ((h : History) (r : Row) → IsRun allows c.layout (r ⊳ h) → r.pass.0 ≢ c.pass → waits h → waits (r ⊳ h)) → ((h : History) → IsRun allows c.layout h → waits h → IsRun allows c.layout (row_of c said.step h ⊳ h)) → HoldsForCall allows ps c waits → (p : SeatedPass) × (ps ≡ p ∷ []) × MayStep allows said p
   may ps waits keeps lawful x = (
-    seated_pass c.pass c.layout x.known,
+    seated_pass c.pass c.layout x.planting x.known,
     x.is,
-    λ rows by run. subst (λ r. IsRun allows c.layout (r ⊳ history_of c.layout.mode (rows ++ x.known))) (row_is (history_of c.layout.mode (rows ++ x.known))) (lawful (history_of c.layout.mode (rows ++ x.known)) run (keeps_all allows c.layout c.pass waits keeps rows x.known by run x.so)),
+    λ rows by run. subst (λ r. IsRun allows c.layout (r ⊳ history_of x.planting (rows ++ x.known))) (row_is (history_of x.planting (rows ++ x.known))) (lawful (history_of x.planting (rows ++ x.known)) run (keeps_all allows c.layout c.pass waits x.planting keeps rows x.known by run x.so)),
   )
 
   -- its word is one of the table
   pub word_of : (ps : List SeatedPass) (waits : History → Type 0) → ((h : History) → IsRun allows c.layout h → waits h → IsRun allows c.layout (row_of c said.step h ⊳ h)) → HoldsForCall allows ps c waits → IsWord c.layout said.step.word
-  word_of ps waits lawful x = (lawful_row c.layout (history_of c.layout.mode x.known) (row_of c said.step (history_of c.layout.mode x.known)) (lawful (history_of c.layout.mode x.known) x.sound x.so).lawful).word
+  word_of ps waits lawful x = (lawful_row c.layout (history_of x.planting x.known) (row_of c said.step (history_of x.planting x.known)) (lawful (history_of x.planting x.known) x.sound x.so).lawful).word
 
   -- what it has made of what was so
   pub told : (ps qs : List SeatedPass) (n : ℕ) (P Q : History → Type 0) → ((h : History) (r : Row) → IsRun allows c.layout (r ⊳ h) → r.pass.0 ≢ c.pass → P h → P (r ⊳ h)) → ((h : History) → IsRun allows c.layout (row_of c said.step h ⊳ h) → IsTold said.step.access (value h said.step.word) n → P h → Q (row_of c said.step h ⊳ h)) → Made allows said ps n qs → HoldsForCall allows ps c P → HoldsForCall allows qs c Q
-  told ps qs n P Q keeps goes m x = from (sym (same_knower ps (seated_pass c.pass c.layout x.known) m.pass x.is m.was)) m.others m.by_others m.before m.after m.told m.is
+  told ps qs n P Q keeps goes m x = from (sym (same_knower ps (seated_pass c.pass c.layout x.planting x.known) m.pass x.is m.was)) m.others m.by_others m.before m.after m.told m.is
     where
-      from : {p : SeatedPass} → p ≡ seated_pass c.pass c.layout x.known → (rows : List Row) → ByOthers p.number.0 rows → IsRun allows p.layout (past_of p rows) → IsRun allows p.layout (row p.number.0 said (past_of p rows) ⊳ past_of p rows) → IsTold said.step.access (value (past_of p rows) said.step.word) n → qs ≡ seated_pass p.number.0 p.layout (row p.number.0 said (past_of p rows) ∷ (rows ++ p.known)) ∷ [] → HoldsForCall allows qs c Q
+      from : {p : SeatedPass} → p ≡ seated_pass c.pass c.layout x.planting x.known → (rows : List Row) → ByOthers p.number.0 rows → IsRun allows p.layout (past_of p rows) → IsRun allows p.layout (row p.number.0 said (past_of p rows) ⊳ past_of p rows) → IsTold said.step.access (value (past_of p rows) said.step.word) n → qs ≡ seated_pass p.number.0 p.layout p.planting (row p.number.0 said (past_of p rows) ∷ (rows ++ p.known)) ∷ [] → HoldsForCall allows qs c Q
       from {p} e rows by before after tells is =
-          let h : History = history_of c.layout.mode (rows ++ x.known) in
+          let h : History = history_of x.planting (rows ++ x.known) in
           let by' : ByOthers c.pass rows = rw e at by in
           let before' : IsRun allows c.layout h = rw e at before in
           let after' : IsRun allows c.layout (row_of c said.step h ⊳ h) = rw (row_is h) (rw e at after) in
           let tells' : IsTold said.step.access (value h said.step.word) n = rw e at tells in
-          let is' : qs ≡ seated_pass c.pass c.layout (row c.pass said h ∷ (rows ++ x.known)) ∷ [] = rw e at is in
-          let done : Q (row_of c said.step h ⊳ h) = goes h after' tells' (keeps_all allows c.layout c.pass P keeps rows x.known by' before' x.so) in
-          record { known = row c.pass said h ∷ (rows ++ x.known); is = is'; sound = rw (row_is h) at after'; so = rw (row_is h) at done }
+          let is' : qs ≡ seated_pass c.pass c.layout x.planting (row c.pass said h ∷ (rows ++ x.known)) ∷ [] = rw e at is in
+          let done : Q (row_of c said.step h ⊳ h) = goes h after' tells' (keeps_all allows c.layout c.pass P x.planting keeps rows x.known by' before' x.so) in
+          record { planting = x.planting; known = row c.pass said h ∷ (rows ++ x.known); is = is'; sound = rw (row_is h) at after'; so = rw (row_is h) at done }
 
 pub turn_map : {A : Type 0} (t : Turn A) (F F' : Step → Type 0) (H H' : A → Type 0) → ((s : Step) → F s → F' s) → ((a : A) → H a → H' a) → MatchTurn t F H → MatchTurn t F' H'
 turn_map (Ask s) F F' H H' f h x = f s x

@@ -5,6 +5,7 @@ use Rattle.arena.proofs.Lemmas.{ends_trans}
 use Rattle.forest.specs.TableRule.{history_of, ByOthers}
 use Rattle.forest.specs.Traces.{Trace, begins, others, makes, goes_on}
 use Rattle.forest.specs.Passes.{AreOfCall, HoldsOfOwn}
+use Rattle.planting.specs.Plantings.{PlantingView}
 
 -- no history ends with a longer one
 rows_in : History → ℕ
@@ -30,9 +31,9 @@ module _ (P : Row → Type 0) (c : ℕ) (start : History) where
   own_more h r is x q before (inl e) since own = let same : q ≡ r = cc in rw same (is (rw same at own))
   own_more h r is x q before (inr e) since own = x q before e since own
 
-  pub own_others : (mode : Mode) (rows known : List Row) → ByOthers c rows → HoldsOfOwn P c start (history_of mode known) → HoldsOfOwn P c start (history_of mode (rows ++ known))
-  own_others mode [] known by x = x
-  own_others mode (r ∷ rs) known by x = own_more (history_of mode (rs ++ known)) r (λ e. absurd (by.0 e)) (own_others mode rs known by.1 x)
+  pub own_others : (planting : PlantingView) (rows known : List Row) → ByOthers c rows → HoldsOfOwn P c start (history_of planting known) → HoldsOfOwn P c start (history_of planting (rows ++ known))
+  own_others planting [] known by x = x
+  own_others planting (r ∷ rs) known by x = own_more (history_of planting (rs ++ known)) r (λ e. absurd (by.0 e)) (own_others planting rs known by.1 x)
 
 -- the rows that were added in a call
 pub course_calls : {M : Type 0} {allows : Layout → History → ℕ → Type 0} {waits : M → Call → History → Step → Type 0} {same : M → M → Type 0} (c : Call) {first : M} (m : M) (h : History) → Trace allows waits same c first m h → AreOfCall c.pass c.number c.start h

@@ -1,5 +1,5 @@
 -- What all passes together know of the words at the end.
-use Rattle.std.proofs.Common.{◌≡◌, ℕ, zero, suc, inl, inr, List, [], ◌∷◌, ◌++◌, slice_index, refl, sym, ◌∙◌, subst}
+use Rattle.std.proofs.Common.{◌≡◌, ℕ, zero, suc, inl, inr, List, [], ◌∷◌, ◌++◌, slice_index, refl, sym, ◌∙◌, ap, subst}
 use mathlib.Core.Option.{some, some-injective, some-ne-none}
 use lib.ListN.{get_elem?}
 use Rattle.std.specs.List.{All}
@@ -9,13 +9,14 @@ use Rattle.atomic_table.specs.Table.{Final, Seen}
 use Rattle.histories.specs.Common.{Layout, Row, Word, place, IsWord, child, History, value, Extends, log, HasScx, Lawful, IsRun, Mode}
 use Rattle.arena.proofs.Lemmas.{ends_trans}
 use Rattle.histories.proofs.Lemmas.{fields_are, lawful_since}
+use Rattle.forest.specs.declared.rule.Plot.{Plot}
 use Rattle.forest.specs.declared.view.SeatedPass.{SeatedPass}
 use Rattle.forest.specs.declared.view.SeatView.{SeatView}
 use Rattle.forest.specs.declared.pass.Pass.TheInside.{Inside}
-use Rattle.forest.specs.TableRule.{history_of, seated_pass, look, after_look, Made, TableIsLawful, Owns, Behind, HasLookedBehind}
-use Rattle.forest.specs.Traces.{known_of, rows_of}
+use Rattle.forest.specs.TableRule.{history_of, seated_pass, look, after_look, Made, TableIsLawful, Owns, Behind, plot_of, HasLookedBehind}
+use Rattle.forest.specs.Traces.{known_of, planting_of, run_at, rows_of}
 use Rattle.prims.specs.Shares.{IsShare}
-use Rattle.forest.specs.Shares.{entries_of}
+use Rattle.forest.specs.Shares.{IsBetweenCalls, entries_of}
 use Rattle.forest.specs.Passes.{PassView, IsOn, HoldsOfOwn, IsLook, AreBegun, HasBlamed, HaveLeftShares, IsClosed, run_of, done_of, steps_of}
 use Rattle.forest.specs.JoinedSeats.{IsFrom, IsOneOf, AreIn}
 use Rattle.forest.specs.PassInvariant.{pass_view, IsPass}
@@ -38,23 +39,30 @@ index_is (x ∷ xs) (suc i) a e = index_is xs i a e
 -- a pass that has looked at the table once more
 pub looked_from : {allows : Layout → History → ℕ → Type 0} {mode : Mode} {T : Type 0} (p : Inside T) (x : IsPass allows mode p) (s : Seat ℕ SeatView) (n : ℕ) → s.me.1 ≡ p.seat.me.1 → Made allows look p.seat.me.0.passes n s.me.0.passes → (k : SeatedPass) × (s.me.0.passes ≡ k ∷ []) × IsFrom allows (pass_view p) k
 looked_from {allows} {mode} p x s n bare m = (
-  seated_pass p.number.0 p.layout (known_of s.me.0.passes),
-  y.seat,
+  seated_pass p.number.0 p.layout (planting_of p.seat.me.0.passes) (known_of s.me.0.passes),
+  subst (λ b. s.me.0.passes ≡ seated_pass p.number.0 p.layout b (known_of s.me.0.passes) ∷ []) planted y.seat,
   record {
     is = refl;
     is_pass = x.is_pass;
-    sound = z.sound;
-    rest = z.rest;
-    ends = y.goes.since;
-    done = (called_nothing p s 0 _ y).done;
+    sound = subst (IsRun allows p.layout) now z.sound;
+    rest = subst (λ h. IsBetweenCalls p.layout p.number.0 h p.share) now z.rest;
+    ends = subst (λ h. Extends h (run_of (pass_view p))) now y.goes.since;
+    done = subst (λ h. entries_of p.number.0 (log p.layout h) ≡ done_of (pass_view p)) now (called_nothing p s 0 _ y).done;
     steps = look_steps p s (m.others ++ known_of p.seat.me.0.passes) has_looked.behind are;
-    looks = look_looks p s (m.others ++ known_of p.seat.me.0.passes) has_looked.behind are;
+    looks = subst (λ h. HoldsOfOwn IsLook p.number.0 (run_of (pass_view p)) h) now (look_looks p s (m.others ++ known_of p.seat.me.0.passes) has_looked.behind are);
     blamed = x.blamed;
   },
 )
   where
+    -- its table is planted as before
+    planted : planting_of s.me.0.passes ≡ planting_of p.seat.me.0.passes
+    planted = ap planting_of are
+
+    now : run_at s.me.0.passes ≡ history_of (planting_of p.seat.me.0.passes) (known_of s.me.0.passes)
+    now = ap (λ b. history_of b (known_of s.me.0.passes)) planted
+
     me : SeatedPass
-    me = seated_pass p.number.0 p.layout (known_of p.seat.me.0.passes)
+    me = seated_pass p.number.0 p.layout (planting_of p.seat.me.0.passes) (known_of p.seat.me.0.passes)
 
     same : m.pass ≡ me
     same = same_knower p.seat.me.0.passes m.pass me m.was x.seat
@@ -65,7 +73,7 @@ looked_from {allows} {mode} p x s n bare m = (
     are : s.me.0.passes ≡ after_look me (m.others ++ known_of p.seat.me.0.passes) ∷ []
     are = subst (λ (k : SeatedPass). s.me.0.passes ≡ after_look k (m.others ++ k.known) ∷ []) same m.is
 
-    y : HasOnlyLoaded allows p s 0 (λ h. Extends h (history_of p.layout.mode (m.others ++ known_of p.seat.me.0.passes)))
+    y : HasOnlyLoaded allows p s 0 (λ h. Extends h (history_of (planting_of p.seat.me.0.passes) (m.others ++ known_of p.seat.me.0.passes)))
     y = look_called p x s (m.others ++ known_of p.seat.me.0.passes) has_looked are
 
     z : IsPass allows mode (seated p s)
@@ -92,73 +100,78 @@ in_more {allows} d ds all own joined k e j f a = rw (j, e) ((k, one_right k all 
 
 -- The end
 
-owned_behind : (lay : Layout) (run : List Row) (owner : ℕ → ℕ) (id : ℕ) (k : SeatedPass) (ps : List SeatedPass) → Owns lay run owner id ps → IsOneOf k ps → (k.layout ≡ lay) × Behind run k
-owned_behind lay run owner id k [] o i = absurd i
-owned_behind lay run owner id k (p ∷ ps) o (inl e) = subst (λ (q : SeatedPass). (q.layout ≡ lay) × Behind run q) (sym e) (o.1, o.2)
-owned_behind lay run owner id k (p ∷ ps) o (inr i) = owned_behind lay run owner id k ps o.4 i
+-- the layout and the planting of the table that is seen of a pass
+abbrev plot_seen : PassView → Plot
+plot_seen p = record { layout = p.layout; planting = p.planting }
+
+owned_behind : (plot : Plot) (run : List Row) (owner : ℕ → ℕ) (id : ℕ) (k : SeatedPass) (ps : List SeatedPass) → Owns plot run owner id ps → IsOneOf k ps → (plot_of k ≡ plot) × Behind run k
+owned_behind plot run owner id k [] o i = absurd i
+owned_behind plot run owner id k (p ∷ ps) o (inl e) = subst (λ (q : SeatedPass). (plot_of q ≡ plot) × Behind run q) (sym e) (o.1, o.2)
+owned_behind plot run owner id k (p ∷ ps) o (inr i) = owned_behind plot run owner id k ps o.4 i
 
 -- what is so of a pass at the end, whose run extends what the pass knew
-record IsAtEnd (lay : Layout) (rows : List Row) (d : PassView) : Type 0 where
-  ends : Extends (history_of d.layout.mode rows) (run_of d)
-  done : entries_of d.number (log d.layout (history_of d.layout.mode rows)) ≡ done_of d
+record IsAtEnd (plot : Plot) (rows : List Row) (d : PassView) : Type 0 where
+  ends : Extends (history_of plot.planting rows) (run_of d)
+  done : entries_of d.number (log d.layout (history_of plot.planting rows)) ≡ done_of d
   steps : rows_of d.number rows ≡ suc (steps_of d)
-  looks : HoldsOfOwn IsLook d.number (run_of d) (history_of d.layout.mode rows)
-  same : d.layout ≡ lay
-  share : IsShare lay (history_of lay.mode rows) d.number d.share d.share.next_node d.share.next_scx
+  looks : HoldsOfOwn IsLook d.number (run_of d) (history_of plot.planting rows)
+  same : plot_seen d ≡ plot
+  share : IsShare plot.layout (history_of plot.planting rows) d.number d.share d.share.next_node d.share.next_scx
   blamed : HasBlamed d
 
 -- after what it knows are rows of others alone
-one_ended : {allows : Layout → History → ℕ → Type 0} (d : PassView) (k : SeatedPass) (lay : Layout) (run : List Row) → d.layout ≡ lay → IsFrom allows d k → IsRun allows lay (history_of lay.mode run) → Behind run k → IsAtEnd lay run d
-one_ended {allows} d k lay run same f sound b =
-    let h0 : History = history_of d.layout.mode k.known in
-    let sound' : IsRun allows d.layout (history_of d.layout.mode (b.0 ++ k.known)) = subst (λ l. IsRun allows d.layout (history_of d.layout.mode l)) b.1 (subst (λ (l : Layout). IsRun allows l (history_of l.mode run)) (sym same) sound) in
+one_ended : {allows : Layout → History → ℕ → Type 0} (d : PassView) (k : SeatedPass) (plot : Plot) (run : List Row) → plot_seen d ≡ plot → IsFrom allows d k → IsRun allows plot.layout (history_of plot.planting run) → Behind run k → IsAtEnd plot run d
+one_ended {allows} d k plot run same f sound b =
+    let h0 : History = history_of k.planting k.known in
+    let sound' : IsRun allows d.layout (history_of d.planting (b.0 ++ k.known)) = subst (λ l. IsRun allows d.layout (history_of d.planting l)) b.1 (subst (λ (g : Plot). IsRun allows g.layout (history_of g.planting run)) (sym same) sound) in
     let mine = subst (λ (q : SeatedPass). q.number.0 ≡ d.number) (sym f.is) refl in
-    let goes = keeps_all allows d.layout d.number (IsQuiet allows d.layout d.number h0 d.share) (λ h r run other z. quiet_other allows d.layout d.number h0 d.share f.is_pass h r run other z) b.0 k.known (rw mine at b.2) sound' (quiet_start allows d.layout d.number h0 d.share f.sound f.rest) in
+    let goes = keeps_all allows d.layout d.number (IsQuiet allows d.layout d.number h0 d.share) d.planting (λ h r run other z. quiet_other allows d.layout d.number h0 d.share f.is_pass h r run other z) b.0 k.known (rw mine at b.2) sound' (quiet_start allows d.layout d.number h0 d.share f.sound f.rest) in
     let none = goes.unwon (λ w. next_unwon d.layout _ d.number d.share _ _ goes.sound.lawful goes.share w.0 w.1) in
-    subst (λ (l : Layout). IsAtEnd l run d) same (subst (λ l. IsAtEnd d.layout l d) (sym b.1) record {
+    subst (λ (g : Plot). IsAtEnd g run d) same (subst (λ l. IsAtEnd (plot_seen d) l d) (sym b.1) record {
       ends = ends_trans _ _ _ goes.since f.ends;
       done = none ∙ f.done;
       steps = rows_by_others d.number b.0 k.known (rw mine at b.2) ∙ f.steps;
-      looks = own_others IsLook d.number (run_of d) d.layout.mode b.0 k.known (rw mine at b.2) f.looks;
+      looks = own_others IsLook d.number (run_of d) d.planting b.0 k.known (rw mine at b.2) f.looks;
       same = refl;
       share = goes.share;
       blamed = f.blamed;
     })
 
-all_ended : {allows : Layout → History → ℕ → Type 0} (id : _) (lay : Layout) (run : List Row) (owner : ℕ → ℕ) (seat : ℕ) (ks : List SeatedPass) → IsRun allows lay (history_of lay.mode run) → Owns lay run owner seat ks → (ds : List PassView) → All (IsOn id lay) ds → AreIn allows ds ks → All (IsAtEnd lay run) ds
-all_ended id lay run owner seat ks sound o [] of a = All-nil (IsAtEnd lay run)
-all_ended id lay run owner seat ks sound o (d ∷ ds) of a =
+all_ended : {allows : Layout → History → ℕ → Type 0} (id : _) (plot : Plot) (run : List Row) (owner : ℕ → ℕ) (seat : ℕ) (ks : List SeatedPass) → IsRun allows plot.layout (history_of plot.planting run) → Owns plot run owner seat ks → (ds : List PassView) → All (IsOn id plot.layout) ds → AreIn allows ds ks → All (IsAtEnd plot run) ds
+all_ended id plot run owner seat ks sound o [] of a = All-nil (IsAtEnd plot run)
+all_ended id plot run owner seat ks sound o (d ∷ ds) of a =
     let k = a.0.0 in
-    let b = owned_behind lay run owner seat k ks o a.0.1 in
-    All-cons (IsAtEnd lay run) d ds (one_ended d k lay run (All-head (IsOn id lay) d ds of).1 a.0.2 sound b.1) (all_ended id lay run owner seat ks sound o ds (All-tail (IsOn id lay) d ds of) a.1)
+    let b = owned_behind plot run owner seat k ks o a.0.1 in
+    All-cons (IsAtEnd plot run) d ds (one_ended d k plot run (ap plot_of (sym a.0.2.is) ∙ b.0) a.0.2 sound b.1) (all_ended id plot run owner seat ks sound o ds (All-tail (IsOn id plot.layout) d ds of) a.1)
 
-all_begun : (lay : Layout) (run : List Row) (ds : List PassView) → All (IsAtEnd lay run) ds → AreBegun ds run
-all_begun lay run [] a = tt
-all_begun lay run (d ∷ ds) a = let b = All-head (IsAtEnd lay run) d ds a in (b.ends, b.done, b.steps, b.looks, all_begun lay run ds (All-tail (IsAtEnd lay run) d ds a))
+all_begun : (plot : Plot) (run : List Row) (ds : List PassView) → All (IsAtEnd plot run) ds → AreBegun ds plot.planting run
+all_begun plot run [] a = tt
+all_begun plot run (d ∷ ds) a = let b = All-head (IsAtEnd plot run) d ds a in (b.ends, b.done, b.steps, b.looks, all_begun plot run ds (All-tail (IsAtEnd plot run) d ds a))
 
 -- what they have blamed is taken, and their shares are not
-all_left : (lay : Layout) (rows : List Row) (ds : List PassView) → Lawful lay (history_of lay.mode rows) → All (IsAtEnd lay rows) ds → HaveLeftShares ds
-all_left lay rows ds l all = All-weaker (IsAtEnd lay rows) (λ p. All (λ q. All (λ s. ¬ HasScx q.share s) p.blamed) ds)
-    (λ p a. All-weaker (IsAtEnd lay rows) (λ q. All (λ s. ¬ HasScx q.share s) p.blamed)
-    (λ q b. blames_left lay run p q q.number _ _ (lawful_since lay run (run_of p) l (ends_at p a)) (ends_at p a) b.share a.blamed) ds all) ds all
+all_left : (plot : Plot) (rows : List Row) (ds : List PassView) → Lawful plot.layout (history_of plot.planting rows) → All (IsAtEnd plot rows) ds → HaveLeftShares ds
+all_left plot rows ds l all = All-weaker (IsAtEnd plot rows) (λ p. All (λ q. All (λ s. ¬ HasScx q.share s) p.blamed) ds)
+    (λ p a. All-weaker (IsAtEnd plot rows) (λ q. All (λ s. ¬ HasScx q.share s) p.blamed)
+    (λ q b. blames_left plot.layout run p q q.number _ _ (lawful_since plot.layout run (run_of p) l (ends_at p a)) (ends_at p a) b.share a.blamed) ds all) ds all
   where
     run : History
-    run = history_of lay.mode rows
+    run = history_of plot.planting rows
 
-    ends_at : (p : PassView) → IsAtEnd lay rows p → Extends (history_of lay.mode rows) (run_of p)
-    ends_at p a = subst (λ (l : Layout). Extends (history_of l.mode rows) (run_of p)) a.same a.ends
+    ends_at : (p : PassView) → IsAtEnd plot rows p → Extends (history_of plot.planting rows) (run_of p)
+    ends_at p a = a.ends
 
-pub closes : {allows : Layout → History → ℕ → Type 0} (id : _) (lay : Layout) (ds : List PassView) (seat : ℕ) (v : SeatView) (words : List ℕ) (slots : List ℕ) → All (IsOn id lay) ds → AreIn allows ds v.passes → Final (Seen (TableIsLawful allows lay) seat v) words slots → IsClosed allows lay ds (record { layout = lay; words = words })
-closes {allows} id lay ds seat v words slots of a f =
-    let kept : TableIsLawful allows lay f.0 = f.1.0 in
-    let holds : (w : Word) → IsWord lay w → slice_index words (place lay w) ≡ value (history_of lay.mode kept.run) w = λ w i. rw (← f.2) (kept.holds w i) in
-    let all : All (IsAtEnd lay kept.run) ds = all_ended id lay kept.run kept.owner seat v.passes kept.sound (kept.passes seat v f.1.1) ds of a in
+pub closes : {allows : Layout → History → ℕ → Type 0} (id : _) (plot : Plot) (ds : List PassView) (seat : ℕ) (v : SeatView) (words : List ℕ) (slots : List ℕ) → All (IsOn id plot.layout) ds → AreIn allows ds v.passes → Final (Seen (TableIsLawful allows plot) seat v) words slots → IsClosed allows plot.layout ds (record { layout = plot.layout; words = words })
+closes {allows} id plot ds seat v words slots of a f =
+    let kept : TableIsLawful allows plot f.0 = f.1.0 in
+    let holds : (w : Word) → IsWord plot.layout w → slice_index words (place plot.layout w) ≡ value (history_of plot.planting kept.run) w = λ w i. rw (← f.2) (kept.holds w i) in
+    let all : All (IsAtEnd plot kept.run) ds = all_ended id plot kept.run kept.owner seat v.passes kept.sound (kept.passes seat v f.1.1) ds of a in
     record {
       layout = refl;
+      planting = plot.planting;
       rows = kept.run;
       sound = kept.sound;
       holds = holds;
-      fields = λ n side i. holds (child n side) i ∙ fields_are lay (history_of lay.mode kept.run) n side kept.sound.lawful;
-      begun = all_begun lay kept.run ds all;
-      blamed = all_left lay kept.run ds kept.sound.lawful all;
+      fields = λ n side i. holds (child n side) i ∙ fields_are plot.layout (history_of plot.planting kept.run) n side kept.sound.lawful;
+      begun = all_begun plot kept.run ds all;
+      blamed = all_left plot kept.run ds kept.sound.lawful all;
     }

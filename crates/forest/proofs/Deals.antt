@@ -4,7 +4,9 @@ use mathlib.Core.Option.{some, some-injective, some-ne-none}
 use lib.ListN.{get_elem?}
 use Rattle.atomic_table.specs.Table.{State, Splits, Joins, opening}
 use Rattle.atomic_table.proofs.Lists.{at_set}
-use Rattle.histories.specs.Common.{Layout, Row, Word, opening as opening_word, place, table_size, IsWord, History, value, Lawful, Shaped}
+use Rattle.histories.specs.Common.{Layout, Row, Word, place, table_size, IsWord, History, Opened, value, IsRun}
+use Rattle.planting.specs.Plantings.{opening_of}
+use Rattle.forest.specs.declared.rule.Plot.{Plot}
 use Rattle.forest.specs.declared.view.SeatedPass.{SeatedPass}
 use Rattle.forest.specs.declared.view.SeatView.{SeatView}
 use Rattle.forest.specs.TableRule.{TableIsLawful, Owns, Absent, seat_view, new_passes, rest_of_seat, first_of_seat, joined_seat, rest_of, first_of}
@@ -39,17 +41,17 @@ merged_else : (owner : ℕ → ℕ) (id other x : ℕ) → owner x ≢ other →
 unfolding merged
 merged_else owner id other x ne = rw (ne_eqb (owner x) other ne) refl
 
-module _ (lay : Layout) (run : List Row) (owner : ℕ → ℕ) where
-  absent_of : (n j : ℕ) → owner n ≢ j → (ps : List SeatedPass) → Owns lay run owner j ps → Absent n ps
+module _ (plot : Plot) (run : List Row) (owner : ℕ → ℕ) where
+  absent_of : (n j : ℕ) → owner n ≢ j → (ps : List SeatedPass) → Owns plot run owner j ps → Absent n ps
   absent_of n j ne [] h = tt
   absent_of n j ne (p ∷ ps) h = ((λ e. ne (ap owner (sym e) ∙ h.0)), absent_of n j ne ps h.4)
 
   -- another owner function that agrees on these passes
-  owned_by : (other : ℕ → ℕ) (j k : ℕ) → ((x : ℕ) → owner x ≡ j → other x ≡ k) → (ps : List SeatedPass) → Owns lay run owner j ps → Owns lay run other k ps
+  owned_by : (other : ℕ → ℕ) (j k : ℕ) → ((x : ℕ) → owner x ≡ j → other x ≡ k) → (ps : List SeatedPass) → Owns plot run owner j ps → Owns plot run other k ps
   owned_by other j k same [] h = tt
   owned_by other j k same (p ∷ ps) h = (same p.number.0 h.0, h.1, h.2, h.3, owned_by other j k same ps h.4)
 
-  owned_apart : (n to j : ℕ) (ps : List SeatedPass) → Absent n ps → Owns lay run owner j ps → Owns lay run (moved owner n to) j ps
+  owned_apart : (n to j : ℕ) (ps : List SeatedPass) → Absent n ps → Owns plot run owner j ps → Owns plot run (moved owner n to) j ps
   owned_apart n to j [] a h = tt
   owned_apart n to j (p ∷ ps) a h = (moved_else owner n to p.number.0 a.0 ∙ h.0, h.1, h.2, h.3, owned_apart n to j ps a.1 h.4)
 
@@ -57,7 +59,7 @@ module _ (lay : Layout) (run : List Row) (owner : ℕ → ℕ) where
   absent_both n [] qs a b = b
   absent_both n (p ∷ ps) qs a b = (a.0, absent_both n ps qs a.1 b)
 
-  owned_both : (id other : ℕ) → id ≢ other → (ps qs : List SeatedPass) → Owns lay run owner id ps → Owns lay run owner other qs → Owns lay run (merged owner id other) id (ps ++ qs)
+  owned_both : (id other : ℕ) → id ≢ other → (ps qs : List SeatedPass) → Owns plot run owner id ps → Owns plot run owner other qs → Owns plot run (merged owner id other) id (ps ++ qs)
   owned_both id other ne [] qs h k = owned_by (merged owner id other) other id (λ x e. merged_here owner id other x e) qs k
   owned_both id other ne (p ∷ ps) qs h k = (
     merged_else owner id other p.number.0 (λ e. ne (sym h.0 ∙ e)) ∙ h.0,
@@ -67,78 +69,78 @@ module _ (lay : Layout) (run : List Row) (owner : ℕ → ℕ) where
     owned_both id other ne ps qs h.4 k,
   )
 
-module _ (allows : Layout → History → ℕ → Type 0) (lay : Layout) where
+module _ (allows : Layout → History → ℕ → Type 0) (plot : Plot) where
   -- the rule holds of other views where it holds of all of them
-  reseated : (s : State ℕ SeatView) (views : List SeatView) (kept : TableIsLawful allows lay s) (owner : ℕ → ℕ) → ((id : ℕ) (v : SeatView) → get_elem? views id ≡ some v → Owns lay kept.run owner id v.passes) → TableIsLawful allows lay (record { words = s.words; homes = s.homes; views = views })
+  reseated : (s : State ℕ SeatView) (views : List SeatView) (kept : TableIsLawful allows plot s) (owner : ℕ → ℕ) → ((id : ℕ) (v : SeatView) → get_elem? views id ≡ some v → Owns plot kept.run owner id v.passes) → TableIsLawful allows plot (record { words = s.words; homes = s.homes; views = views })
   reseated s views kept owner passes = record { run = kept.run; size = kept.size; holds = kept.holds; sound = kept.sound; owner = owner; passes = passes }
 
-  pub joins : (id other : ℕ) (v w : SeatView) → Joins (TableIsLawful allows lay) id v other w (joined_seat v w) (seat_view [])
+  pub joins : (id other : ℕ) (v w : SeatView) → Joins (TableIsLawful allows plot) id v other w (joined_seat v w) (seat_view [])
   joins id other v w s kept at ne at_other =
       let run = kept.run in
       let owner = kept.owner in
       let fine : id ≢ other = λ e. ne (sym e) in
       let mine = kept.passes id v at in
-      let theirs : Owns lay run owner other w.passes = ⊎_elim
+      let theirs : Owns plot run owner other w.passes = ⊎_elim
       (λ (t : (other ≡ id) × (joined_seat v w ≡ w)). absurd (ne t.0))
       (λ (t : (other ≢ id) × (get_elem? s.views other ≡ some w)). kept.passes other w t.1)
       (at_set s.views id other (joined_seat v w) w at_other) in
       reseated s _ kept (merged owner id other) (λ j u e. ⊎_elim
-      (λ (t : (j ≡ other) × (seat_view [] ≡ u)). subst (λ x. Owns lay run (merged owner id other) j x.passes) t.1 tt)
+      (λ (t : (j ≡ other) × (seat_view [] ≡ u)). subst (λ x. Owns plot run (merged owner id other) j x.passes) t.1 tt)
       (λ (t : (j ≢ other) × (get_elem? (set s.views id (joined_seat v w)) j ≡ some u)). ⊎_elim
-      (λ (here : (j ≡ id) × (joined_seat v w ≡ u)). subst (λ x. Owns lay run (merged owner id other) j x.passes) here.1
-      (subst (λ i. Owns lay run (merged owner id other) i (v.passes ++ w.passes)) (sym here.0) (owned_both lay run owner id other fine v.passes w.passes mine theirs)))
-      (λ (away : (j ≢ id) × (get_elem? s.views j ≡ some u)). owned_by lay run owner (merged owner id other) j j
+      (λ (here : (j ≡ id) × (joined_seat v w ≡ u)). subst (λ x. Owns plot run (merged owner id other) j x.passes) here.1
+      (subst (λ i. Owns plot run (merged owner id other) i (v.passes ++ w.passes)) (sym here.0) (owned_both plot run owner id other fine v.passes w.passes mine theirs)))
+      (λ (away : (j ≢ id) × (get_elem? s.views j ≡ some u)). owned_by plot run owner (merged owner id other) j j
       (λ x is. merged_else owner id other x (λ e2. t.0 (sym is ∙ e2)) ∙ is) u.passes (kept.passes j u away.1))
       (at_set s.views id j (joined_seat v w) u t.1))
       (at_set (set s.views id (joined_seat v w)) other j (seat_view []) u e))
 
-  splits_list : (id : ℕ) (v : SeatView) (ps : List SeatedPass) → v.passes ≡ ps → Splits (TableIsLawful allows lay) id v (seat_view (rest_of ps)) (seat_view (first_of ps))
+  splits_list : (id : ℕ) (v : SeatView) (ps : List SeatedPass) → v.passes ≡ ps → Splits (TableIsLawful allows plot) id v (seat_view (rest_of ps)) (seat_view (first_of ps))
   splits_list id v [] is s kept at = reseated s _ kept kept.owner (λ j u e. ⊎_elim
       (λ (t : get_elem? (set s.views id (seat_view [])) j ≡ some u). ⊎_elim
-      (λ (here : (j ≡ id) × (seat_view [] ≡ u)). subst (λ x. Owns lay kept.run kept.owner j x.passes) here.1 tt)
+      (λ (here : (j ≡ id) × (seat_view [] ≡ u)). subst (λ x. Owns plot kept.run kept.owner j x.passes) here.1 tt)
       (λ (away : (j ≢ id) × (get_elem? s.views j ≡ some u)). kept.passes j u away.1)
       (at_set s.views id j (seat_view []) u t))
-      (λ (t : (j ≡ length (set s.views id (seat_view []))) × (seat_view [] ≡ u)). subst (λ x. Owns lay kept.run kept.owner j x.passes) t.1 tt)
+      (λ (t : (j ≡ length (set s.views id (seat_view []))) × (seat_view [] ≡ u)). subst (λ x. Owns plot kept.run kept.owner j x.passes) t.1 tt)
       (snoc_at (set s.views id (seat_view [])) (seat_view []) u j e))
   splits_list id v (p ∷ ps) is s kept at =
       let run = kept.run in
       let owner = kept.owner in
-      let own : Owns lay run owner id (p ∷ ps) = subst (λ l. Owns lay run owner id l) is (kept.passes id v at) in
+      let own : Owns plot run owner id (p ∷ ps) = subst (λ l. Owns plot run owner id l) is (kept.passes id v at) in
       let old : List SeatView = set s.views id (seat_view ps) in
       let new : ℕ → ℕ = moved owner p.number.0 (length old) in
       reseated s _ kept new (λ j u e. ⊎_elim
       (λ (t : get_elem? old j ≡ some u). ⊎_elim
-      (λ (here : (j ≡ id) × (seat_view ps ≡ u)). subst (λ x. Owns lay run new j x.passes) here.1
-      (subst (λ i. Owns lay run new i ps) (sym here.0) (owned_apart lay run owner p.number.0 (length old) id ps own.3 own.4)))
-      (λ (away : (j ≢ id) × (get_elem? s.views j ≡ some u)). owned_apart lay run owner p.number.0 (length old) j u.passes
-      (absent_of lay run owner p.number.0 j (λ x. away.0 (sym x ∙ own.0)) u.passes (kept.passes j u away.1)) (kept.passes j u away.1))
+      (λ (here : (j ≡ id) × (seat_view ps ≡ u)). subst (λ x. Owns plot run new j x.passes) here.1
+      (subst (λ i. Owns plot run new i ps) (sym here.0) (owned_apart plot run owner p.number.0 (length old) id ps own.3 own.4)))
+      (λ (away : (j ≢ id) × (get_elem? s.views j ≡ some u)). owned_apart plot run owner p.number.0 (length old) j u.passes
+      (absent_of plot run owner p.number.0 j (λ x. away.0 (sym x ∙ own.0)) u.passes (kept.passes j u away.1)) (kept.passes j u away.1))
       (at_set s.views id j (seat_view ps) u t))
-      (λ (t : (j ≡ length old) × (seat_view (p ∷ []) ≡ u)). subst (λ x. Owns lay run new j x.passes) t.1
-      (subst (λ i. Owns lay run new i (p ∷ [])) (sym t.0) (moved_here owner p.number.0 (length old), own.1, own.2, tt, tt)))
+      (λ (t : (j ≡ length old) × (seat_view (p ∷ []) ≡ u)). subst (λ x. Owns plot run new j x.passes) t.1
+      (subst (λ i. Owns plot run new i (p ∷ [])) (sym t.0) (moved_here owner p.number.0 (length old), own.1, own.2, tt, tt)))
       (snoc_at old (seat_view (p ∷ [])) u j e))
 
-  pub splits : (id : ℕ) (v : SeatView) → Splits (TableIsLawful allows lay) id v (rest_of_seat v) (first_of_seat v)
+  pub splits : (id : ℕ) (v : SeatView) → Splits (TableIsLawful allows plot) id v (rest_of_seat v) (first_of_seat v)
   splits id v = splits_list id v v.passes refl
 
-  apart_below : (k from n : ℕ) → k < from → Absent k (new_passes lay from n)
+  apart_below : (k from n : ℕ) → k < from → Absent k (new_passes plot from n)
   apart_below k from zero h = tt
   apart_below k from (suc n) h = ((λ e. omega arith), apart_below k (suc from) n (omega arith))
 
-  opened : (from n : ℕ) → Owns lay [] (λ _. 0) 0 (new_passes lay from n)
+  opened : (from n : ℕ) → Owns plot [] (λ _. 0) 0 (new_passes plot from n)
   opened from zero = tt
   opened from (suc n) = (refl, refl, ([], refl, tt), apart_below from (suc from) n (omega arith), opened (suc from) n)
 
   -- the rule holds of words as they are at the start
-  pub opens : (words : List ℕ) (n : ℕ) → length words ≡ table_size lay → ((w : Word) → IsWord lay w → slice_index words (place lay w) ≡ opening_word lay.mode w) → TableIsLawful allows lay (opening words [] (seat_view (new_passes lay 0 n)))
-  unfolding value Lawful Shaped
-  opens words n size holds = record {
+  pub opens : (words : List ℕ) (n : ℕ) → length words ≡ table_size plot.layout → ((w : Word) → IsWord plot.layout w → slice_index words (place plot.layout w) ≡ (opening_of plot.planting).words w) → IsRun allows plot.layout (Opened (opening_of plot.planting)) → TableIsLawful allows plot (opening words [] (seat_view (new_passes plot 0 n)))
+  unfolding value
+  opens words n size holds sound = record {
     run = [];
     size = size;
     holds = holds;
-    sound = record { lawful = (refl, omega arith); shaped = inl refl };
+    sound = sound;
     owner = λ _. 0;
     passes = λ j u e. ⊎_elim
         (λ (t : get_elem? {A = SeatView} [] j ≡ some u). absurd (some-ne-none u (sym t)))
-        (λ (t : (j ≡ 0) × (seat_view (new_passes lay 0 n) ≡ u)). subst (λ x. Owns lay [] (λ _. 0) j x.passes) t.1 (subst (λ i. Owns lay [] (λ _. 0) i (new_passes lay 0 n)) (sym t.0) (opened 0 n)))
-        (snoc_at [] (seat_view (new_passes lay 0 n)) u j e);
+        (λ (t : (j ≡ 0) × (seat_view (new_passes plot 0 n) ≡ u)). subst (λ x. Owns plot [] (λ _. 0) j x.passes) t.1 (subst (λ i. Owns plot [] (λ _. 0) i (new_passes plot 0 n)) (sym t.0) (opened 0 n)))
+        (snoc_at [] (seat_view (new_passes plot 0 n)) u j e);
   }

@@ -33,7 +33,7 @@ use Rattle.forest.specs.StraightCalls.{IsFreshCall, IsSameDictCall, SeatCallBegi
 use Rattle.forest.specs.Passes.{PassView, HasBlamed, HasGoneOn, run_of, taken_of}
 use Rattle.forest.specs.PassInvariant.{pass_view, IsPass}
 use Rattle.forest.specs.Shares.{IsBetweenCalls}
-use Rattle.forest.specs.Traces.{CallBegins, HoldsForCall, Trace, known_of, seat_steps}
+use Rattle.forest.specs.Traces.{CallBegins, HoldsForCall, Trace, known_of, seat_steps, planting_of}
 use Rattle.forest.proofs.Blames.{blamed_later, blamed_on_map}
 use Rattle.forest.proofs.Versions.{told_says, lost_says, full_says, nothing_says}
 use Rattle.forest.proofs.Calls.{course_keeps}
@@ -88,6 +88,7 @@ module _ {K V : Type 0} (valid_key : K → Type 0) (key : K → ℕ) (valid_valu
   -- a call that has not begun may begin, with the pass's share
   pub dict_starts : {trie : Bool} {T : Type 0} (p : Inside T) (x : IsPass allows (map_mode trie) p) (m : DictRun K V) → trie_in m.run ≡ trie → IsTypedCall keys values (call_in m.run) → IsUnbegun m.run m.tries (taken_of (pass_view p)) → IsFewCall (call_in m.run) → share_of m.run ≡ p.share → CallBegins allows (DictIsReady keys values) (call_of p x (taken_of (pass_view p))) p.seat.me.0.passes m
   dict_starts p x m tree typed unbegun few share = record {
+    planting = planting_of p.seat.me.0.passes;
     known = known_of p.seat.me.0.passes;
     is = x.seat;
     sound = x.sound;
@@ -202,7 +203,7 @@ module _ {K V : Type 0} (valid_key : K → Type 0) (key : K → ℕ) (valid_valu
         where
           go : (told : Option MapReply) → TellsOfMap (call_of p x called) (run_of now) (call_in m.run) told → IsToldOf (pass_view p) now (call_in m.run) told
           go None z = tt
-          go (Some told) z = told_says (pass_view p) x.is_pass called refl s.table_id (share_of m.run) (known_of s.me.0.passes) (blamed_by_reply reply p.blamed) map_run y.since (call_in m.run) told rests y.answers.rests z
+          go (Some told) z = told_says (pass_view p) x.is_pass called refl s.table_id (share_of m.run) (planting_of s.me.0.passes) (known_of s.me.0.passes) (blamed_by_reply reply p.blamed) map_run y.since (call_in m.run) told rests y.answers.rests z
 
       -- why it answers nothing
       pub dict_refuses : IsRefusalOf m.tries (pass_view p) now (call_in m.run) reply
@@ -212,6 +213,6 @@ module _ {K V : Type 0} (valid_key : K → Type 0) (key : K → ℕ) (valid_valu
           go (replies.Value v) z = tt
           go (replies.Pair v) z = tt
           go (replies.Pairs v) z = tt
-          go (replies.Full f) z = full_says (pass_view p) x.is_pass called refl s.table_id (share_of m.run) (known_of s.me.0.passes) (blamed_by_reply reply p.blamed) map_run y.since (call_in m.run) f rests z
-          go replies.NoMemory z = (z.0, nothing_says (pass_view p) x.is_pass called refl s.table_id (share_of m.run) (known_of s.me.0.passes) (blamed_by_reply reply p.blamed) map_run y.since z.1)
-          go (replies.Contended n u) z = lost_says (pass_view p) x.is_pass called refl s.table_id (share_of m.run) (known_of s.me.0.passes) (blamed_by_reply reply p.blamed) map_run y.since m.tries (call_in m.run) n.0 u.0 z
+          go (replies.Full f) z = full_says (pass_view p) x.is_pass called refl s.table_id (share_of m.run) (planting_of s.me.0.passes) (known_of s.me.0.passes) (blamed_by_reply reply p.blamed) map_run y.since (call_in m.run) f rests z
+          go replies.NoMemory z = (z.0, nothing_says (pass_view p) x.is_pass called refl s.table_id (share_of m.run) (planting_of s.me.0.passes) (known_of s.me.0.passes) (blamed_by_reply reply p.blamed) map_run y.since z.1)
+          go (replies.Contended n u) z = lost_says (pass_view p) x.is_pass called refl s.table_id (share_of m.run) (planting_of s.me.0.passes) (known_of s.me.0.passes) (blamed_by_reply reply p.blamed) map_run y.since m.tries (call_in m.run) n.0 u.0 z

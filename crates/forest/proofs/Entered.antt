@@ -12,13 +12,14 @@ use Rattle.edits.specs.Tries.{HasEnteredNone}
 use Rattle.forest.specs.declared.view.SeatView.{SeatView}
 use Rattle.forest.specs.declared.pass.Pass.TheInside.{Inside}
 use Rattle.forest.specs.TableRule.{history_of, seated_pass}
-use Rattle.forest.specs.Traces.{Trace, HoldsForCall, begins, others, makes, goes_on, known_of, seat_steps}
+use Rattle.forest.specs.Traces.{Trace, HoldsForCall, begins, others, makes, goes_on, known_of, seat_steps, planting_of, run_at}
 use Rattle.forest.specs.Shares.{IsBetweenCalls, entries_of}
 use Rattle.forest.specs.Passes.{AreOfCall, HasBlamed, HasGoneOn, IsLaterView, run_of}
 use Rattle.forest.specs.PassInvariant.{pass_view, IsPass}
 use Rattle.forest.proofs.Frames.{entry_mine, entry_others}
 use Rattle.forest.proofs.Called.{course_calls}
 use Rattle.forest.proofs.Passes.{call_of, can_use_later, steps_are}
+use Rattle.forest.proofs.Advances.{seat_back}
 
 -- Entries
 
@@ -88,21 +89,21 @@ course_since c m h (goes_on old is x) = course_since c old h x
 
 -- a call of any machine has ended, and A holds of the run that its pass knows now
 pub record HasEnded (allows : Layout → History → ℕ → Type 0) {T : Type 0} (p : Inside T) (s : Seat ℕ SeatView) (number : ℕ) (A : History → Type 0) : Type 0 where
-  pub seat : s.me.0.passes ≡ seated_pass p.number.0 p.layout (known_of s.me.0.passes) ∷ []
-  pub sound : IsRun allows p.layout (history_of p.layout.mode (known_of s.me.0.passes))
-  pub since : Extends (history_of p.layout.mode (known_of s.me.0.passes)) (history_of p.layout.mode (known_of p.seat.me.0.passes))
-  pub answers : A (history_of p.layout.mode (known_of s.me.0.passes))
-  pub calls : AreOfCall p.number.0 number (history_of p.layout.mode (known_of p.seat.me.0.passes)) (history_of p.layout.mode (known_of s.me.0.passes))
+  pub seat : s.me.0.passes ≡ seated_pass p.number.0 p.layout (planting_of s.me.0.passes) (known_of s.me.0.passes) ∷ []
+  pub sound : IsRun allows p.layout (run_at s.me.0.passes)
+  pub since : Extends (run_at s.me.0.passes) (run_at p.seat.me.0.passes)
+  pub answers : A (run_at s.me.0.passes)
+  pub calls : AreOfCall p.number.0 number (run_at p.seat.me.0.passes) (run_at s.me.0.passes)
 
 pub ended : {allows : Layout → History → ℕ → Type 0} {mode : Mode} {T : Type 0} (p : Inside T) (x : IsPass allows mode p) (s : Seat ℕ SeatView) (number : ℕ) {M : Type 0} (waits : M → Call → History → Step → Type 0) (same : M → M → Type 0) (first m : M) (A : History → Type 0) → HoldsForCall allows s.me.0.passes (call_of p x number) (λ h. A h × Trace allows waits same (call_of p x number) first m h) → HasEnded allows p s number A
 ended {allows} p x s number waits same first m A y =
-    let known : y.known ≡ known_of s.me.0.passes = sym (ap known_of y.is) in
+    let run : history_of y.planting y.known ≡ run_at s.me.0.passes = sym (ap run_at y.is) in
     record {
-      seat = rw known at y.is;
-      sound = subst (λ rows. IsRun allows p.layout (history_of p.layout.mode rows)) known y.sound;
-      since = subst (λ rows. Extends (history_of p.layout.mode rows) (history_of p.layout.mode (known_of p.seat.me.0.passes))) known (course_since (call_of p x number) m _ y.so.1);
-      answers = subst (λ rows. A (history_of p.layout.mode rows)) known y.so.0;
-      calls = subst (λ rows. AreOfCall p.number.0 number (history_of p.layout.mode (known_of p.seat.me.0.passes)) (history_of p.layout.mode rows)) known (course_calls (call_of p x number) m _ y.so.1);
+      seat = seat_back s.me.0.passes p.number.0 p.layout y.planting y.known y.is;
+      sound = subst (IsRun allows p.layout) run y.sound;
+      since = subst (λ h. Extends h (run_at p.seat.me.0.passes)) run (course_since (call_of p x number) m _ y.so.1);
+      answers = subst A run y.so.0;
+      calls = subst (λ h. AreOfCall p.number.0 number (run_at p.seat.me.0.passes) h) run (course_calls (call_of p x number) m _ y.so.1);
     }
 
 module _ {allows : Layout → History → ℕ → Type 0} {mode : Mode} {T : Type 0} (p : Inside T) (x : IsPass allows mode p) (s : Seat ℕ SeatView) (number : ℕ) (A : History → Type 0) (left : Remaining) (blamed : List ℕ) where

@@ -9,7 +9,7 @@ use Rattle.forest.proofs.Advances.{called_so, word_of}
 
 -- an edge of the inner machine takes the call from place to place
 pub goes_to : {M N : Type 0} {o : Calls M} {i : Inner N} (k : Inside o i) (ps : List SeatedPass) (old now : N) (v : ℕ) (s : Step) → i.goes old v now → ((d : i.Context) (h : History) → i.told d old h v → i.waits d now h s) → InnerIsTold k ps old v → InnerWaits k ps now s
-goes_to k ps old now v s goes edge x = record { known = x.known; is = x.is; sound = x.sound; so = (k.turns old now _ v s goes (λ d. edge d _) x.sound x.so.0, goes_on (k.with_run old) (k.stays old now v goes) x.so.1) }
+goes_to k ps old now v s goes edge x = record { planting = x.planting; known = x.known; is = x.is; sound = x.sound; so = (k.turns old now _ v s goes (λ d. edge d _) x.sound x.so.0, goes_on (k.with_run old) (k.stays old now v goes) x.so.1) }
 
 -- the word of the step for which it waits is one of the table
 pub waits_within : {M N : Type 0} {o : Calls M} {i : Inner N} (k : Inside o i) (ps : List SeatedPass) → ((m : M) (c : Call) (h : History) (s : Step) → IsRun o.allows c.layout h → o.waits m c h s → IsRun o.allows c.layout (row_of c s h ⊳ h)) → (m : N) (s : Step) → InnerWaits k ps m s → IsWord o.layout s.word

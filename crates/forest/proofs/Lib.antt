@@ -41,3 +41,4 @@ mod OpenSteps
 mod OpenBegins
 mod StraightGet
 mod StraightCalls
+mod Begun

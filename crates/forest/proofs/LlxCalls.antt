@@ -7,7 +7,7 @@ use Rattle.prims.proofs.Lemmas.{llx_fills_not, ready_at_start, cell_opened, fina
 use Rattle.prims.specs.declared.llx.LlxAt.TheVariants.{Start}
 use Rattle.forest.specs.declared.view.SeatView.{SeatView}
 use Rattle.forest.specs.declared.pass.Pass.TheInside.{Inside}
-use Rattle.forest.specs.Traces.{Trace, HoldsForCall, known_of, seat_steps}
+use Rattle.forest.specs.Traces.{Trace, HoldsForCall, known_of, seat_steps, planting_of, run_at}
 use Rattle.forest.specs.Passes.{HasGoneOn, HasTakenNothing, HoldsOfOwn, LlxSays, IsFinalizedAnswer, blamed_by, run_of, seen_of}
 use Rattle.forest.specs.PassInvariant.{pass_view, IsPass}
 use Rattle.forest.specs.StepKinds.{HasFilledNothing}
@@ -21,6 +21,7 @@ use Rattle.forest.proofs.Passes.{HasOnlyLoaded, called_pass, called_goes_on, cal
 -- a run of a cell that has not begun may begin
 pub llx_begins : {allows : Layout → History → ℕ → Type 0} {T : Type 0} (p : Inside T) (x : IsPass allows Records p) (number : ℕ) (m : LlxRun) → m.at ≡ Start → m.node.0 ≤ 8 → HoldsForCall allows p.seat.me.0.passes (call_of p x number) (λ h. ((call_of p x number).start ≡ h) × LlxIsReady allows m (call_of p x number) h None)
 llx_begins {allows} p x number m start small = record {
+  planting = planting_of p.seat.me.0.passes;
   known = known_of p.seat.me.0.passes;
   is = x.seat;
   sound = x.sound;
@@ -86,6 +87,6 @@ module _ {allows : Layout → History → ℕ → Type 0} {mode : Mode} {T : Typ
   -- it has filled no word
   pub llx_kinds : (blamed : List ℕ) (a : Llx) → SeatLlxEnds allows (call_of p x number) s.me.0.passes node a → HasFilledNothing (pass_view p) (pass_view (heard blamed))
   llx_kinds blamed a y =
-      let known : y.1.known ≡ known_of s.me.0.passes = sym (ap known_of y.1.is) in
-      subst (λ (rows : List Row). HoldsOfOwn (λ r. r.kind ≢ Fill) p.number.0 (run_of (pass_view p)) (history_of p.layout.mode rows)) known
+      let run : history_of y.1.planting y.1.known ≡ run_at s.me.0.passes = sym (ap run_at y.1.is) in
+      subst (λ (h : History). HoldsOfOwn (λ r. r.kind ≢ Fill) p.number.0 (run_of (pass_view p)) h) run
       (course_holds (LlxWaits allows) (λ old now. now.node ≡ old.node) (call_of p x number) (llx_at node Start) (λ r. r.kind ≢ Fill) (λ m. Unit {0}) tt (λ old now is q. tt) (λ k h t q w. llx_fills_not allows k (call_of p x number) h t w) y.0 _ y.1.so.1).1

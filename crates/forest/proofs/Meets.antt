@@ -8,15 +8,17 @@ use Rattle.arena.proofs.Lemmas.{ends_self, ends_trans}
 use Rattle.forest.specs.declared.view.SeatedPass.{SeatedPass}
 use Rattle.forest.specs.declared.view.SeatView.{SeatView}
 use Rattle.forest.specs.declared.pass.Pass.TheInside.{Inside}
-use Rattle.forest.specs.TableRule.{history_of, seated_pass, row, look, Looked, HasLookedBehind, Met, after_look, Behind}
-use Rattle.forest.specs.Traces.{known_of, rows_of}
+use Rattle.forest.specs.TableRule.{history_of, seated_pass, row, look, Looked, HasLookedBehind, Met, after_look, Behind, plot_of}
+use Rattle.forest.specs.Traces.{known_of, rows_of, planting_of, run_at}
 use Rattle.forest.specs.Passes.{PassView, HoldsOfOwn, IsLook, HasLookedOnce, HaveLeftShares, IsLaterView, run_of, steps_of}
 use Rattle.forest.specs.PassInvariant.{pass_view, IsPass}
-use Rattle.forest.proofs.Advances.{keeps_all, rows_by_others, same_knower}
+use Rattle.forest.proofs.Advances.{keeps_all, rows_by_others, same_knower, seat_back}
 use Rattle.forest.proofs.Calls.{IsQuiet, quiet_start, quiet_other, quiet_step}
 use Rattle.forest.proofs.Blames.{blames_left}
 use Rattle.forest.proofs.Called.{own_start, own_more, own_others}
 use Rattle.forest.proofs.Passes.{HasOnlyLoaded, seated, called_pass, called_nothing, can_use_later}
+use Rattle.planting.specs.Plantings.{PlantingView}
+use Rattle.forest.specs.declared.rule.Plot.{Plot}
 
 -- Two looks
 
@@ -28,33 +30,33 @@ second_is a b p q e = cc
 
 module _ (allows : Layout → History → ℕ → Type 0) (p q : SeatedPass) where
   -- the first of two, which is q, looks
-  pub looks_first : (ps qs : List SeatedPass) → ps ≡ q ∷ p ∷ [] → Looked allows ps qs → (early : List Row) × Behind early p × HasLookedBehind allows q early × (q.number.0 ≢ p.number.0) × (p.layout ≡ q.layout) × (qs ≡ p ∷ after_look q early ∷ [])
+  pub looks_first : (ps qs : List SeatedPass) → ps ≡ q ∷ p ∷ [] → Looked allows ps qs → (early : List Row) × Behind early p × HasLookedBehind allows q early × (q.number.0 ≢ p.number.0) × (plot_of p ≡ plot_of q) × (qs ≡ p ∷ after_look q early ∷ [])
   looks_first ps qs e x = from (first_is x.first q _ _ (sym x.were ∙ e)) (second_is x.second p x.first q (sym x.were ∙ e))
     where
-      from : x.first ≡ q → x.second ≡ p → (early : List Row) × Behind early p × HasLookedBehind allows q early × (q.number.0 ≢ p.number.0) × (p.layout ≡ q.layout) × (qs ≡ p ∷ after_look q early ∷ [])
-      from a b = subst (λ (z : SeatedPass). (early : List Row) × Behind early p × HasLookedBehind allows z early × (z.number.0 ≢ p.number.0) × (p.layout ≡ z.layout) × (qs ≡ p ∷ after_look z early ∷ [])) a
-          (subst (λ (z : SeatedPass). (early : List Row) × Behind early z × HasLookedBehind allows x.first early × (x.first.number.0 ≢ z.number.0) × (z.layout ≡ x.first.layout) × (qs ≡ z ∷ after_look x.first early ∷ [])) b
+      from : x.first ≡ q → x.second ≡ p → (early : List Row) × Behind early p × HasLookedBehind allows q early × (q.number.0 ≢ p.number.0) × (plot_of p ≡ plot_of q) × (qs ≡ p ∷ after_look q early ∷ [])
+      from a b = subst (λ (z : SeatedPass). (early : List Row) × Behind early p × HasLookedBehind allows z early × (z.number.0 ≢ p.number.0) × (plot_of p ≡ plot_of z) × (qs ≡ p ∷ after_look z early ∷ [])) a
+          (subst (λ (z : SeatedPass). (early : List Row) × Behind early z × HasLookedBehind allows x.first early × (x.first.number.0 ≢ z.number.0) × (plot_of z ≡ plot_of x.first) × (qs ≡ z ∷ after_look x.first early ∷ [])) b
           (x.run, x.behind_second, record { behind = x.behind_first; before = x.before; after = x.after }, x.apart, x.same, x.are))
 
 -- What a look leaves
 
-ends_more : (mode : Mode) (rows known : List Row) → Extends (history_of mode (rows ++ known)) (history_of mode known)
-ends_more mode [] known = ends_self (history_of mode known)
-ends_more mode (r ∷ rs) known = inr (ends_more mode rs known)
+ends_more : (planting : PlantingView) (rows known : List Row) → Extends (history_of planting (rows ++ known)) (history_of planting known)
+ends_more planting [] known = ends_self (history_of planting known)
+ends_more planting (r ∷ rs) known = inr (ends_more planting rs known)
 
-pub behind_ends : (run : List Row) (p : SeatedPass) → Behind run p → Extends (history_of p.layout.mode run) (history_of p.layout.mode p.known)
-behind_ends run p b = subst (λ rows. Extends (history_of p.layout.mode rows) (history_of p.layout.mode p.known)) (sym b.1) (ends_more p.layout.mode b.0 p.known)
+pub behind_ends : (run : List Row) (p : SeatedPass) → Behind run p → Extends (history_of p.planting run) (history_of p.planting p.known)
+behind_ends run p b = subst (λ rows. Extends (history_of p.planting rows) (history_of p.planting p.known)) (sym b.1) (ends_more p.planting b.0 p.known)
 
 -- a pass that has looked at the table after this run
-module _ {T : Type 0} (p : Inside T) (s : Seat ℕ SeatView) (run : List Row) (behind : Behind run (seated_pass p.number.0 p.layout (known_of p.seat.me.0.passes))) (are : s.me.0.passes ≡ after_look (seated_pass p.number.0 p.layout (known_of p.seat.me.0.passes)) run ∷ []) where
+module _ {T : Type 0} (p : Inside T) (s : Seat ℕ SeatView) (run : List Row) (behind : Behind run (seated_pass p.number.0 p.layout (planting_of p.seat.me.0.passes) (known_of p.seat.me.0.passes))) (are : s.me.0.passes ≡ after_look (seated_pass p.number.0 p.layout (planting_of p.seat.me.0.passes) (known_of p.seat.me.0.passes)) run ∷ []) where
   -- what holds of the look holds of each row of the pass after what it knew
-  look_own : (P : Row → Type 0) → P (row p.number.0 look (history_of p.layout.mode run)) → HoldsOfOwn P p.number.0 (run_of (pass_view p)) (run_of (pass_view (seated p s)))
+  look_own : (P : Row → Type 0) → P (row p.number.0 look (history_of (planting_of p.seat.me.0.passes) run)) → HoldsOfOwn P p.number.0 (run_of (pass_view p)) (run_of (pass_view (seated p s)))
   look_own P holds =
-      let mode = p.layout.mode in
+      let planting = planting_of p.seat.me.0.passes in
       let start = run_of (pass_view p) in
-      let quiet = own_others P p.number.0 start mode behind.0 (known_of p.seat.me.0.passes) behind.2 (own_start P p.number.0 start) in
-      subst (λ l. HoldsOfOwn P p.number.0 start (history_of mode (known_of l))) (sym are)
-      (own_more P p.number.0 start (history_of mode run) (row p.number.0 look (history_of mode run)) (λ own. holds) (subst (λ l. HoldsOfOwn P p.number.0 start (history_of mode l)) (sym behind.1) quiet))
+      let quiet = own_others P p.number.0 start planting behind.0 (known_of p.seat.me.0.passes) behind.2 (own_start P p.number.0 start) in
+      subst (λ l. HoldsOfOwn P p.number.0 start (run_at l)) (sym are)
+      (own_more P p.number.0 start (history_of planting run) (row p.number.0 look (history_of planting run)) (λ own. holds) (subst (λ l. HoldsOfOwn P p.number.0 start (history_of planting l)) (sym behind.1) quiet))
 
   pub look_looks : HoldsOfOwn IsLook p.number.0 (run_of (pass_view p)) (run_of (pass_view (seated p s)))
   look_looks = look_own IsLook (refl, refl, refl)
@@ -64,19 +66,19 @@ module _ {T : Type 0} (p : Inside T) (s : Seat ℕ SeatView) (run : List Row) (b
   look_steps = ap (λ l. rows_of p.number.0 (known_of l)) are ∙ rw (eq-eqb p.number.0 p.number.0 refl) (ap suc (ap (rows_of p.number.0) behind.1 ∙ rows_by_others p.number.0 behind.0 _ behind.2))
 
 -- a pass that has looked knows what it knew, and its look
-pub look_called : {allows : Layout → History → ℕ → Type 0} {mode : Mode} {T : Type 0} (p : Inside T) (x : IsPass allows mode p) (s : Seat ℕ SeatView) (run : List Row) → HasLookedBehind allows (seated_pass p.number.0 p.layout (known_of p.seat.me.0.passes)) run → s.me.0.passes ≡ after_look (seated_pass p.number.0 p.layout (known_of p.seat.me.0.passes)) run ∷ [] → HasOnlyLoaded allows p s 0 (λ h. Extends h (history_of p.layout.mode run))
+pub look_called : {allows : Layout → History → ℕ → Type 0} {mode : Mode} {T : Type 0} (p : Inside T) (x : IsPass allows mode p) (s : Seat ℕ SeatView) (run : List Row) → HasLookedBehind allows (seated_pass p.number.0 p.layout (planting_of p.seat.me.0.passes) (known_of p.seat.me.0.passes)) run → s.me.0.passes ≡ after_look (seated_pass p.number.0 p.layout (planting_of p.seat.me.0.passes) (known_of p.seat.me.0.passes)) run ∷ [] → HasOnlyLoaded allows p s 0 (λ h. Extends h (history_of (planting_of p.seat.me.0.passes) run))
 look_called {allows} p x s run y e =
-    let mode = p.layout.mode in
-    let start = history_of mode (known_of p.seat.me.0.passes) in
-    let r : Row = row p.number.0 look (history_of mode run) in
-    let known : r ∷ run ≡ known_of s.me.0.passes = sym (ap known_of e) in
+    let planting = planting_of p.seat.me.0.passes in
+    let start = history_of planting (known_of p.seat.me.0.passes) in
+    let r : Row = row p.number.0 look (history_of planting run) in
+    let now : r ⊳ history_of planting run ≡ run_at s.me.0.passes = sym (ap run_at e) in
     let rows = y.behind.0 in
-    let before : IsRun allows p.layout (history_of mode (rows ++ known_of p.seat.me.0.passes)) = subst (λ l. IsRun allows p.layout (history_of mode l)) y.behind.1 y.before in
-    let quiet = keeps_all allows p.layout p.number.0 (IsQuiet allows p.layout p.number.0 start p.share) (λ h r run other z. quiet_other allows p.layout p.number.0 start p.share x.is_pass h r run other z) rows (known_of p.seat.me.0.passes) y.behind.2 before (quiet_start allows p.layout p.number.0 start p.share x.sound x.rest) in
+    let before : IsRun allows p.layout (history_of planting (rows ++ known_of p.seat.me.0.passes)) = subst (λ l. IsRun allows p.layout (history_of planting l)) y.behind.1 y.before in
+    let quiet = keeps_all allows p.layout p.number.0 (IsQuiet allows p.layout p.number.0 start p.share) planting (λ h r run other z. quiet_other allows p.layout p.number.0 start p.share x.is_pass h r run other z) rows (known_of p.seat.me.0.passes) y.behind.2 before (quiet_start allows p.layout p.number.0 start p.share x.sound x.rest) in
     record {
-      seat = rw known at e;
-      answers = subst (λ l. Extends (history_of mode l) (history_of mode run)) known (inr (ends_self (history_of mode run)));
-      goes = subst (λ l. IsQuiet allows p.layout p.number.0 start p.share (history_of mode l)) known (quiet_step allows p.layout p.number.0 start p.share (history_of mode run) r y.after (λ k. cc) (subst (λ l. IsQuiet allows p.layout p.number.0 start p.share (history_of mode l)) (sym y.behind.1) quiet));
+      seat = seat_back s.me.0.passes p.number.0 p.layout planting (r ∷ run) e;
+      answers = subst (λ h. Extends h (history_of planting run)) now (inr (ends_self (history_of planting run)));
+      goes = subst (IsQuiet allows p.layout p.number.0 start p.share) now (quiet_step allows p.layout p.number.0 start p.share (history_of planting run) r y.after (λ k. cc) (subst (λ l. IsQuiet allows p.layout p.number.0 start p.share (history_of planting l)) (sym y.behind.1) quiet));
       calls = look_own p s run y.behind e (λ r. r.call ≡ 0) refl;
     }
 
@@ -107,10 +109,10 @@ pub record HaveMet (allows : Layout → History → ℕ → Type 0) {T : Type 0}
   pub early : List Row
   pub late : List Row
   pub apart : p.number.0 ≢ q.number.0
-  pub one : HasOnlyLoaded allows p s 0 (λ h. Extends h (history_of p.layout.mode late))
-  pub other : HasOnlyLoaded allows q t 0 (λ h. Extends h (history_of q.layout.mode early))
-  pub goes_on : Extends (history_of p.layout.mode late) (run_of (pass_view (seated q t)))
-  pub knew : Extends (history_of q.layout.mode early) (run_of (pass_view p))
+  pub one : HasOnlyLoaded allows p s 0 (λ h. Extends h (history_of (planting_of p.seat.me.0.passes) late))
+  pub other : HasOnlyLoaded allows q t 0 (λ h. Extends h (history_of (planting_of q.seat.me.0.passes) early))
+  pub goes_on : Extends (history_of (planting_of p.seat.me.0.passes) late) (run_of (pass_view (seated q t)))
+  pub knew : Extends (history_of (planting_of q.seat.me.0.passes) early) (run_of (pass_view p))
   pub one_step : steps_of (pass_view (seated p s)) ≡ suc (steps_of (pass_view p))
   pub other_step : steps_of (pass_view (seated q t)) ≡ suc (steps_of (pass_view q))
   pub one_looks : HoldsOfOwn IsLook p.number.0 (run_of (pass_view p)) (run_of (pass_view (seated p s)))
@@ -123,8 +125,8 @@ have_met {allows} p q x y s t m = record {
   apart = λ e. m.apart (ap (λ (k : SeatedPass). k.number.0) one ∙ e ∙ sym (ap (λ (k : SeatedPass). k.number.0) other));
   one = look_called p x s m.late one_looked one_is;
   other = look_called q y t m.early other_looked other_is;
-  goes_on = subst (λ (l : Layout). Extends (history_of l.mode m.late) (run_of (pass_view (seated q t)))) (sym same) (subst (λ l. Extends (history_of q.layout.mode m.late) (history_of q.layout.mode l)) (sym (ap known_of other_is)) (behind_ends m.late (after_look the_other m.early) goes_on));
-  knew = subst (λ (l : Layout). Extends (history_of l.mode m.early) (run_of (pass_view p))) same (behind_ends m.early the_one (subst (λ (k : SeatedPass). Behind m.early k) one m.knew_one));
+  goes_on = subst (λ (g : Plot). Extends (history_of g.planting m.late) (run_of (pass_view (seated q t)))) (sym same) (subst (λ (l : List SeatedPass). Extends (history_of (planting_of q.seat.me.0.passes) m.late) (run_at l)) (sym other_is) (behind_ends m.late (after_look the_other m.early) goes_on));
+  knew = subst (λ (g : Plot). Extends (history_of g.planting m.early) (run_of (pass_view p))) same (behind_ends m.early the_one (subst (λ (k : SeatedPass). Behind m.early k) one m.knew_one));
   one_step = look_steps p s m.late one_looked.behind one_is;
   other_step = look_steps q t m.early other_looked.behind other_is;
   one_looks = look_looks p s m.late one_looked.behind one_is;
@@ -132,10 +134,10 @@ have_met {allows} p q x y s t m = record {
 }
   where
     the_one : SeatedPass
-    the_one = seated_pass p.number.0 p.layout (known_of p.seat.me.0.passes)
+    the_one = seated_pass p.number.0 p.layout (planting_of p.seat.me.0.passes) (known_of p.seat.me.0.passes)
 
     the_other : SeatedPass
-    the_other = seated_pass q.number.0 q.layout (known_of q.seat.me.0.passes)
+    the_other = seated_pass q.number.0 q.layout (planting_of q.seat.me.0.passes) (known_of q.seat.me.0.passes)
 
     one : m.one ≡ the_one
     one = same_knower p.seat.me.0.passes m.one the_one m.was_one x.seat
@@ -143,8 +145,8 @@ have_met {allows} p q x y s t m = record {
     other : m.other ≡ the_other
     other = same_knower q.seat.me.0.passes m.other the_other m.was_other y.seat
 
-    same : p.layout ≡ q.layout
-    same = sym (ap (λ (k : SeatedPass). k.layout) one) ∙ m.same ∙ ap (λ (k : SeatedPass). k.layout) other
+    same : plot_of the_one ≡ plot_of the_other
+    same = sym (ap plot_of one) ∙ m.same ∙ ap plot_of other
 
     one_looked : HasLookedBehind allows the_one m.late
     one_looked = subst (λ (k : SeatedPass). HasLookedBehind allows k m.late) one m.one_looked

@@ -44,7 +44,7 @@ module _ {K V B : Type 0} (valid_key : K → Type 0) (key : K → ℕ) (valid_va
       steps = let e = none_made in omega (arith, e, few);
       over = λ e. absurd (differ (sym e));
       none = λ e. on turn asks;
-      nothing = λ none. refl;
+      nothing = λ none. (refl, refl);
     }
       where
         on : (t : Turn (Reply K V)) → (AsksForPairs (call_in m.run) → MatchTurn t (λ _. Unit {0}) (λ _. ⊥)) → MatchTurn t (λ _. Unit {0}) (λ _. (seat_steps p.seat.me.0.passes ≡ steps_of (pass_view p)) × ¬ AsksForPairs (call_in m.run))

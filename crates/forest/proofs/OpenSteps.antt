@@ -18,7 +18,7 @@ use Rattle.forest.specs.OpenInvariant.{IsOpen, next_call}
 use Rattle.forest.specs.Passes.{steps_of}
 use Rattle.forest.specs.StraightCalls.{IsSameDictCall}
 use Rattle.forest.specs.TableRule.{history_of}
-use Rattle.forest.specs.Traces.{Stands, known_of, seat_steps, shared_nodes, weight}
+use Rattle.forest.specs.Traces.{Stands, seat_steps, shared_nodes, weight, run_at}
 use Rattle.forest.proofs.Advances.{weighs}
 use Rattle.forest.proofs.Calls.{course_keeps}
 use Rattle.forest.proofs.DictCalls.{IsSameCall}
@@ -50,7 +50,7 @@ module _ {K V : Type 0} (valid_key : K → Type 0) (key : K → ℕ) (valid_valu
 
     -- so it asks for pairs, if it is a range
     pub open_asks : AsksForPairs (call_in o.run.run)
-    open_asks = waits_asks valid_key key valid_value value o.run (next_call o.began.value x.pass.is_pass) (history_of o.began.value.layout.mode open_waits.known) step open_waits.so.0
+    open_asks = waits_asks valid_key key valid_value value o.run (next_call o.began.value x.pass.is_pass) (history_of open_waits.planting open_waits.known) step open_waits.so.0
 
     -- the call, of its own machine
     abbrev pub open_host : Host (dict_calls valid_key key valid_value value o.layout o.call) (own_call (dict_calls valid_key key valid_value value o.layout o.call) (DictAnswers valid_key key valid_value value))
@@ -66,10 +66,10 @@ module _ {K V : Type 0} (valid_key : K → Type 0) (key : K → ℕ) (valid_valu
       same_call = let a = same_so_far _ _ x.first o.run o.turn x.stands in let b = same_so_far _ _ x.first m turn stood in (b.0 ∙ sym a.0, b.1 ∙ sym a.1)
 
       -- what its pass knows by now is a run
-      pub stays_lawful : IsRun (TypedAllows (IsWordOf valid_key key) (IsWordOf valid_value value)) o.began.value.layout (history_of o.began.value.layout.mode (known_of s.me.0.passes))
+      pub stays_lawful : IsRun (TypedAllows (IsWordOf valid_key key) (IsWordOf valid_value value)) o.began.value.layout (run_at s.me.0.passes)
       stays_lawful = on turn stood
         where
-          on : (t : Turn (Reply K V)) → DictStands (next_call o.began.value x.pass.is_pass) s.me.0.passes x.first m t → IsRun (TypedAllows (IsWordOf valid_key key) (IsWordOf valid_value value)) o.began.value.layout (history_of o.began.value.layout.mode (known_of s.me.0.passes))
+          on : (t : Turn (Reply K V)) → DictStands (next_call o.began.value x.pass.is_pass) s.me.0.passes x.first m t → IsRun (TypedAllows (IsWordOf valid_key key) (IsWordOf valid_value value)) o.began.value.layout (run_at s.me.0.passes)
           on (Ask u) z = rw z.is z.sound
           on (Done a) z = rw z.is z.sound
 

@@ -1,7 +1,7 @@
 -- What a call leaves of a pass.
 use Rattle.std.proofs.Common.{◌≡◌, ◌≢◌, ℕ, ◌+◌, ◌≤◌, List, [], ◌∷◌, inl, refl, sym, ◌∙◌, ap, subst, arith}
 use Rattle.atomic_table.specs.declared.shared.Seat.{Seat}
-use Rattle.histories.specs.Common.{Layout, Step, Fill, History, Start, empty, Lawful, Call, IsRun, Shaped, Mode}
+use Rattle.histories.specs.Common.{Layout, Step, Fill, History, Opening, Opened, Start, Lawful, Call, IsRun, Shaped, Mode}
 use Rattle.arena.specs.Share.{whole_share}
 use Rattle.arena.proofs.Lemmas.{ends_self}
 use Rattle.prims.specs.declared.snap.Snap.{Snap}
@@ -9,13 +9,14 @@ use Rattle.forest.specs.declared.view.SeatedPass.{SeatedPass}
 use Rattle.forest.specs.declared.view.SeatView.{SeatView}
 use Rattle.forest.specs.declared.pass.Pass.TheInside.{Inside}
 use Rattle.forest.specs.TableRule.{history_of, seated_pass}
-use Rattle.forest.specs.Traces.{Trace, HoldsForCall, known_of, rows_of, seat_steps}
+use Rattle.forest.specs.Traces.{Trace, HoldsForCall, known_of, planting_of, run_at, rows_of, seat_steps}
 use Rattle.forest.specs.Shares.{IsBetweenCalls}
 use Rattle.forest.specs.Passes.{PassView, Ground, IsOf, AreOfCall, CanUse, HasGoneOn, HasTakenNothing, IsLaterView, run_of}
 use Rattle.forest.specs.PassInvariant.{pass_view, IsPass}
 use Rattle.prims.proofs.Lemmas.{whole_untouched, none_taken, next_unwon, usable_since}
 use Rattle.forest.proofs.Frames.{CarriesOn}
 use Rattle.forest.proofs.Calls.{quiet_goes}
+use Rattle.forest.proofs.Advances.{seat_back}
 use Rattle.forest.proofs.Called.{own_start, course_calls}
 use Rattle.forest.proofs.Blames.{blamed_later}
 
@@ -24,8 +25,8 @@ unfolding Lawful
 begins_lawful lay = (refl, omega arith)
 
 -- a pass with its whole share is at rest at the start
-pub begins_at_rest : (lay : Layout) (c : ℕ) → IsBetweenCalls lay c (Start lay.mode) (whole_share lay c)
-begins_at_rest lay c = record { share = whole_untouched lay (empty lay.mode) c (begins_lawful lay); over = λ s own d t. absurd (none_taken (empty lay.mode) s t) }
+pub begins_at_rest : (lay : Layout) (o : Opening) (c : ℕ) → Lawful lay (Opened o) → IsBetweenCalls lay c (Opened o) (whole_share lay c)
+begins_at_rest lay o c lawful = record { share = whole_untouched lay o c lawful; over = λ s own d t. absurd (none_taken o s t) }
 
 pub begins_sound : (allows : Layout → History → ℕ → Type 0) (lay : Layout) → IsRun allows lay (Start lay.mode)
 unfolding Shaped
@@ -37,7 +38,7 @@ layout_of e q of = ap (λ (s : PassView). s.layout) e ∙ of.1 ∙ sym (ap (λ (
 
 -- the call of a pass
 abbrev pub call_of : {allows : Layout → History → ℕ → Type 0} {mode : Mode} {T : Type 0} (p : Inside T) → IsPass allows mode p → ℕ → Call
-call_of p x number = record { layout = p.layout; pass = p.number.0; is_pass = x.is_pass; number = number; start = history_of p.layout.mode (known_of p.seat.me.0.passes) }
+call_of p x number = record { layout = p.layout; pass = p.number.0; is_pass = x.is_pass; number = number; start = run_at p.seat.me.0.passes }
 
 -- the pass with its seat as it is now
 abbrev pub seated : {T : Type 0} → Inside T → Seat ℕ SeatView → Inside T
@@ -45,19 +46,19 @@ seated p s = record p { seat = s }
 
 -- what the pass has after a call that takes nothing
 pub record HasOnlyLoaded (allows : Layout → History → ℕ → Type 0) {T : Type 0} (p : Inside T) (s : Seat ℕ SeatView) (number : ℕ) (A : History → Type 0) : Type 0 where
-  pub seat : s.me.0.passes ≡ seated_pass p.number.0 p.layout (known_of s.me.0.passes) ∷ []
-  pub answers : A (history_of p.layout.mode (known_of s.me.0.passes))
-  pub goes : CarriesOn allows p.layout p.number.0 (history_of p.layout.mode (known_of p.seat.me.0.passes)) (history_of p.layout.mode (known_of s.me.0.passes)) p.share p.share.next_node p.share.next_scx []
-  pub calls : AreOfCall p.number.0 number (history_of p.layout.mode (known_of p.seat.me.0.passes)) (history_of p.layout.mode (known_of s.me.0.passes))
+  pub seat : s.me.0.passes ≡ seated_pass p.number.0 p.layout (planting_of s.me.0.passes) (known_of s.me.0.passes) ∷ []
+  pub answers : A (run_at s.me.0.passes)
+  pub goes : CarriesOn allows p.layout p.number.0 (run_at p.seat.me.0.passes) (run_at s.me.0.passes) p.share p.share.next_node p.share.next_scx []
+  pub calls : AreOfCall p.number.0 number (run_at p.seat.me.0.passes) (run_at s.me.0.passes)
 
 pub called : {allows : Layout → History → ℕ → Type 0} {mode : Mode} {T : Type 0} (p : Inside T) (x : IsPass allows mode p) (s : Seat ℕ SeatView) (number : ℕ) {M : Type 0} (waits : M → Call → History → Step → Type 0) (same : M → M → Type 0) (first m : M) (A : History → Type 0) → ((m : M) (h : History) (t : Step) → waits m (call_of p x number) h t → t.kind ≢ Fill) → HoldsForCall allows s.me.0.passes (call_of p x number) (λ h. A h × Trace allows waits same (call_of p x number) first m h) → HasOnlyLoaded allows p s number A
 called {allows} p x s number waits same first m A fills_not y =
-    let known : y.known ≡ known_of s.me.0.passes = sym (ap known_of y.is) in
+    let run : history_of y.planting y.known ≡ run_at s.me.0.passes = sym (ap run_at y.is) in
     record {
-      seat = rw known at y.is;
-      answers = subst (λ rows. A (history_of p.layout.mode rows)) known y.so.0;
-      goes = subst (λ rows. CarriesOn allows p.layout p.number.0 (history_of p.layout.mode (known_of p.seat.me.0.passes)) (history_of p.layout.mode rows) p.share p.share.next_node p.share.next_scx []) known (quiet_goes waits same (call_of p x number) first p.share fills_not x.sound x.rest m _ y.so.1);
-      calls = subst (λ rows. AreOfCall p.number.0 number (history_of p.layout.mode (known_of p.seat.me.0.passes)) (history_of p.layout.mode rows)) known (course_calls (call_of p x number) m _ y.so.1);
+      seat = seat_back s.me.0.passes p.number.0 p.layout y.planting y.known y.is;
+      answers = subst A run y.so.0;
+      goes = subst (λ h. CarriesOn allows p.layout p.number.0 (run_at p.seat.me.0.passes) h p.share p.share.next_node p.share.next_scx []) run (quiet_goes waits same (call_of p x number) first p.share fills_not x.sound x.rest m _ y.so.1);
+      calls = subst (λ h. AreOfCall p.number.0 number (run_at p.seat.me.0.passes) h) run (course_calls (call_of p x number) m _ y.so.1);
     }
 
 -- it is a pass again
@@ -92,7 +93,7 @@ goes_nowhere p x number most = record {
 }
 
 -- its steps are those of its seat
-pub steps_are : (c : ℕ) (lay : Layout) (ps : List SeatedPass) → ps ≡ seated_pass c lay (known_of ps) ∷ [] → seat_steps ps ≡ rows_of c (known_of ps)
+pub steps_are : (c : ℕ) (lay : Layout) (ps : List SeatedPass) → ps ≡ seated_pass c lay (planting_of ps) (known_of ps) ∷ [] → seat_steps ps ≡ rows_of c (known_of ps)
 steps_are c lay ps e = ap seat_steps e
 
 -- and its run is extended

@@ -14,7 +14,7 @@ use Rattle.arena.specs.Share.{after_taking}
 use Rattle.forest.specs.declared.view.SeatView.{SeatView}
 use Rattle.forest.specs.declared.pass.Pass.TheInside.{Inside}
 use Rattle.forest.specs.TableRule.{history_of, seated_pass}
-use Rattle.forest.specs.Traces.{Trace, HoldsForCall, known_of, seat_steps}
+use Rattle.forest.specs.Traces.{Trace, HoldsForCall, known_of, seat_steps, planting_of, run_at}
 use Rattle.forest.specs.Shares.{entries_of}
 use Rattle.forest.specs.Puts.{IsPutOver}
 use Rattle.forest.specs.Passes.{AreOfCall, HasGoneOn, IsLaterView, CanUse, HasLeftAlone, Each, ScxSays, done_of, taken_of}
@@ -25,6 +25,7 @@ use Rattle.forest.proofs.Called.{course_calls}
 use Rattle.forest.proofs.Passes.{call_of, can_use_later, steps_are}
 use Rattle.forest.proofs.Blames.{blamed_later}
 use Rattle.forest.proofs.VlxCalls.{each_at}
+use Rattle.forest.proofs.Advances.{seat_back}
 
 -- Entries
 
@@ -98,7 +99,7 @@ module _ {T : Type 0} (p : Inside T) (x : IsPass AllowsAll Records p) (some_node
   Is m = IsPutOver m snaps finalize field v p.share.next_node p.share.next_scx number
 
   abbrev start : History
-  start = history_of p.layout.mode (known_of p.seat.me.0.passes)
+  start = run_at p.seat.me.0.passes
 
   own_node : IsOwnNode p.layout p.number.0 p.share.next_node
   own_node = left_own_node p.layout start p.number.0 p.share _ _ p.share.next_node x.rest.share record { from = omega arith; below = omega arith }
@@ -111,6 +112,7 @@ module _ {T : Type 0} (p : Inside T) (x : IsPass AllowsAll Records p) (some_node
 
   pub put_begins : (m : PutRun) → Is m → m.at ≡ PutStart → m.scx.at ≡ ScxStart → Each (CanUse (pass_view p)) snaps → HoldsForCall AllowsAll p.seat.me.0.passes (call_of p x number) (λ h. ((call_of p x number).start ≡ h) × PutIsReady AllowsAll m (call_of p x number) h None)
   put_begins m of at scx_at usable = record {
+    planting = planting_of p.seat.me.0.passes;
     known = known_of p.seat.me.0.passes;
     is = x.seat;
     sound = x.sound;
@@ -126,30 +128,30 @@ module _ {T : Type 0} (p : Inside T) (x : IsPass AllowsAll Records p) (some_node
 
   -- what the pass has after the call
   pub record HasPut (s : Seat ℕ SeatView) (a : Scx) : Type 0 where
-    pub seat : s.me.0.passes ≡ seated_pass p.number.0 p.layout (known_of s.me.0.passes) ∷ []
+    pub seat : s.me.0.passes ≡ seated_pass p.number.0 p.layout (planting_of s.me.0.passes) (known_of s.me.0.passes) ∷ []
     pub run : PutRun
     pub is_of : Is run
-    pub answers : PutAnswers run (call_of p x number) (history_of p.layout.mode (known_of s.me.0.passes)) a
-    pub goes : CarriesOn AllowsAll p.layout p.number.0 start (history_of p.layout.mode (known_of s.me.0.passes)) (after_taking p.share) p.share.next_node p.share.next_scx snaps
-    pub calls : AreOfCall p.number.0 number start (history_of p.layout.mode (known_of s.me.0.passes))
+    pub answers : PutAnswers run (call_of p x number) (run_at s.me.0.passes) a
+    pub goes : CarriesOn AllowsAll p.layout p.number.0 start (run_at s.me.0.passes) (after_taking p.share) p.share.next_node p.share.next_scx snaps
+    pub calls : AreOfCall p.number.0 number start (run_at s.me.0.passes)
 
   abbrev pub Same : PutRun → PutRun → Type 0
   Same old now = (now.scx.scx ≡ old.scx.scx) × (now.scx.update ≡ old.scx.update) × (now.scx.call ≡ old.scx.call) × (now.value ≡ old.value)
 
   pub put_called : (s : Seat ℕ SeatView) (first m : PutRun) (a : Scx) → Is first → HoldsForCall AllowsAll s.me.0.passes (call_of p x number) (λ h. PutAnswers m (call_of p x number) h a × Trace AllowsAll (PutWaits AllowsAll) Same (call_of p x number) first m h) → HasPut s a
   put_called s first m a of y =
-      let known : y.known ≡ known_of s.me.0.passes = sym (ap known_of y.is) in
+      let now : history_of y.planting y.known ≡ run_at s.me.0.passes = sym (ap run_at y.is) in
       record {
-        seat = rw known at y.is;
+        seat = seat_back s.me.0.passes p.number.0 p.layout y.planting y.known y.is;
         run = m;
         is_of = course_keeps Is of (λ old now e q. put_same old now snaps finalize field v p.share.next_node p.share.next_scx number e q) m _ y.so.1;
-        answers = subst (λ rows. PutAnswers m (call_of p x number) (history_of p.layout.mode rows) a) known y.so.0;
-        goes = subst (λ rows. CarriesOn AllowsAll p.layout p.number.0 start (history_of p.layout.mode rows) (after_taking p.share) p.share.next_node p.share.next_scx snaps) known
+        answers = subst (λ h. PutAnswers m (call_of p x number) h a) now y.so.0;
+        goes = subst (λ h. CarriesOn AllowsAll p.layout p.number.0 start h (after_taking p.share) p.share.next_node p.share.next_scx snaps) now
             (put_goes Same (call_of p x number) first (after_taking p.share) p.share.next_node p.share.next_scx snaps (put_hand first snaps finalize field v p.share.next_node p.share.next_scx number of)
             (λ old now e q. record { fresh = rw e.1 q.fresh; record_is = rw e.0 q.record_is; snaps_are = rw e.1 q.snaps_are })
             (omega arith) (omega arith) x.sound (taken_share p.layout start p.number.0 p.share some_node some_scx x.rest.share) x.rest.over
             (λ w. next_unwon p.layout start p.number.0 p.share _ _ x.sound.lawful x.rest.share own_scx w.1) m _ y.so.1).1;
-        calls = subst (λ rows. AreOfCall p.number.0 number start (history_of p.layout.mode rows)) known (course_calls (call_of p x number) m _ y.so.1);
+        calls = subst (λ h. AreOfCall p.number.0 number start h) now (course_calls (call_of p x number) m _ y.so.1);
       }
 
   -- the pass with what is left of its share, and its seat as it is now
@@ -196,7 +198,7 @@ module _ {T : Type 0} (p : Inside T) (x : IsPass AllowsAll Records p) (some_node
       m = y.run
 
       h : History
-      h = history_of p.layout.mode (known_of s.me.0.passes)
+      h = run_at s.me.0.passes
 
       e : Entry
       e = update_entry p.number.0 m.scx
@@ -220,7 +222,7 @@ module _ {T : Type 0} (p : Inside T) (x : IsPass AllowsAll Records p) (some_node
   )
     where
       h : History
-      h = history_of p.layout.mode (known_of s.me.0.passes)
+      h = run_at s.me.0.passes
 
   -- snapshots of other nodes are still left alone
   pub put_alone : (s : Seat ℕ SeatView) (a : Scx) → HasPut s a → (snap : Snap) → ¬ IsAmong snaps snap.node.0 → HasLeftAlone (pass_view p) snap → HasLeftAlone (pass_view (spent s)) snap

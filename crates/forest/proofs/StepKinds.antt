@@ -27,12 +27,13 @@ use Rattle.forest.specs.PassInvariant.{IsPass, pass_view}
 use Rattle.forest.specs.StepKinds.{HasKeptToKinds}
 use Rattle.forest.specs.StraightCalls.{IsSameDictCall}
 use Rattle.forest.specs.TableRule.{history_of}
-use Rattle.forest.specs.Traces.{HoldsForCall, Trace, known_of}
+use Rattle.forest.specs.Traces.{HoldsForCall, Trace, known_of, planting_of, run_at, KnowsAs}
 use Rattle.forest.proofs.Called.{course_holds, own_start}
 use Rattle.forest.proofs.Calls.{course_keeps}
 use Rattle.forest.proofs.DictCalls.{Answered, IsSameCall, behind, dict_refuses}
 use Rattle.forest.proofs.Entered.{HasEnded}
 use Rattle.forest.proofs.Passes.{call_of}
+use Rattle.planting.specs.Plantings.{PlantingView}
 
 -- no row of a history is after it
 no_row : (h : History) (r : Row) (before : History) → Extends h (r ⊳ before) → Extends before h → ⊥
@@ -80,23 +81,24 @@ module _ {K V : Type 0} (valid_key : K → Type 0) (key : K → ℕ) (valid_valu
     -- it has made steps of its kinds alone
     pub dict_kinds : (first : DictRun K V) → HoldsForCall allows s.me.0.passes call (λ h. Ended h × Trace allows waits same call first m h) → HasKeptToKinds (pass_view p) now (call_in m.run)
     dict_kinds first y =
-        let known : y.known ≡ known_of s.me.0.passes = sym (ap known_of y.is) in
+        let run : history_of y.planting y.known ≡ run_at s.me.0.passes = sym (ap run_at y.is) in
         let is : call_in m.run ≡ call_in first.run = (course_keeps (λ (k : DictRun K V). IsSameCall valid_key key valid_value value_word first k) (refl, refl) (λ old now e q. (e.0 ∙ q.0, e.1 ∙ q.1)) m _ y.so.1).0 in
-        subst (λ (rows : List Row). HoldsOfOwn (λ r. (call_rules (call_in m.run)).MayMake r.kind) p.number.0 (run_of (pass_view p)) (history_of p.layout.mode rows)) known
+        subst (λ (h : History). HoldsOfOwn (λ r. (call_rules (call_in m.run)).MayMake r.kind) p.number.0 (run_of (pass_view p)) h) run
         (course_holds waits same call first (λ r. (call_rules (call_in m.run)).MayMake r.kind) (λ (k : DictRun K V). call_in k.run ≡ call_in m.run) (sym is) (λ old now e q. e.0 ∙ q) (λ k h t q w. subst (λ (asked : MapCall). (call_rules asked).MayMake t.kind) q (kind_inside (inner k.run) (is_of_kind k.run) call h t w.1.1)) m _ y.so.1).1
 
     -- a pass of this layout and number
-    abbrev seen : TableId → Remaining → List Row → List ℕ → PassView
-    seen table share known blamed = record { table = table; layout = p.layout; number = p.number.0; share = share; known = known; blamed = blamed }
+    abbrev seen : TableId → Remaining → PlantingView → List Row → List ℕ → PassView
+    seen table share planting known blamed = record { table = table; layout = p.layout; planting = planting; number = p.number.0; share = share; known = known; blamed = blamed }
 
     -- a call after which its pass knows what it knew before has left the pass as it was
-    pub dict_nothing : HasEnded allows p s (taken_of (pass_view p)) Ended → s.table_id ≡ p.seat.table_id → known_of s.me.0.passes ≡ known_of p.seat.me.0.passes → now ≡ pass_view p
+    pub dict_nothing : HasEnded allows p s (taken_of (pass_view p)) Ended → s.table_id ≡ p.seat.table_id → KnowsAs s.me.0.passes (planting_of p.seat.me.0.passes) (known_of p.seat.me.0.passes) → now ≡ pass_view p
     dict_nothing y table known =
-        let run : run_of now ≡ run_of (pass_view p) = ap (history_of p.layout.mode) known in
+        let run : run_of now ≡ run_of (pass_view p) = ap (λ (b : PlantingView). history_of b (known_of s.me.0.passes)) known.0 ∙ ap (history_of (planting_of p.seat.me.0.passes)) known.1 in
         let rests : RestsWith call (run_of (pass_view p)) p.share = record { share = x.rest.share; over = all_over p.layout _ p.number.0 p.share p.share.next_node p.share.next_scx x.rest.share x.rest.over } in
         let share : share_of m.run ≡ p.share = one_share call (run_of now) (share_of m.run) p.share y.answers.rests (subst (λ h. RestsWith call h p.share) (sym run) rests) in
         let blamed : blamed_by_reply reply p.blamed ≡ p.blamed = blames_none (pass_view p) now m.tries (call_in m.run) reply p.blamed run (dict_refuses valid_key key valid_value value_word trie p x s m reply y) in
-        ap (λ t. seen t (share_of m.run) (known_of s.me.0.passes) (blamed_by_reply reply p.blamed)) table
-        ∙ ap (λ r. seen p.seat.table_id r (known_of s.me.0.passes) (blamed_by_reply reply p.blamed)) share
-        ∙ ap (λ k. seen p.seat.table_id p.share k (blamed_by_reply reply p.blamed)) known
-        ∙ ap (λ b. seen p.seat.table_id p.share (known_of p.seat.me.0.passes) b) blamed
+        ap (λ t. seen t (share_of m.run) (planting_of s.me.0.passes) (known_of s.me.0.passes) (blamed_by_reply reply p.blamed)) table
+        ∙ ap (λ r. seen p.seat.table_id r (planting_of s.me.0.passes) (known_of s.me.0.passes) (blamed_by_reply reply p.blamed)) share
+        ∙ ap (λ b. seen p.seat.table_id p.share b (known_of s.me.0.passes) (blamed_by_reply reply p.blamed)) known.0
+        ∙ ap (λ k. seen p.seat.table_id p.share (planting_of p.seat.me.0.passes) k (blamed_by_reply reply p.blamed)) known.1
+        ∙ ap (λ b. seen p.seat.table_id p.share (planting_of p.seat.me.0.passes) (known_of p.seat.me.0.passes) b) blamed

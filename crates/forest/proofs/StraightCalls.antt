@@ -124,7 +124,7 @@ module _ {K V : Type 0} (valid_key : K → Type 0) (key : K → ℕ) (valid_valu
 
       pub edit_begins : (ps : List SeatedPass) {A : Type 0} (m : UpdateRun (KeyEdit G R) A) → machine.run ≡ Edit (valued (standing m Start)) → SeatDictBegins valid_key key valid_value value_word c ps machine → UpdaterBegins editor ps m
       unfolding editor
-      edit_begins ps m same x = record { known = x.known; is = x.is; sound = x.sound; so = (subst (λ r. ready (record machine { run = r }) c (history_of c.layout.mode x.known) None) same x.so.1, begins (λ i. record machine { run = sym same i }) (sym x.so.0)) }
+      edit_begins ps m same x = record { planting = x.planting; known = x.known; is = x.is; sound = x.sound; so = (subst (λ r. ready (record machine { run = r }) c (history_of x.planting x.known) None) same x.so.1, begins (λ i. record machine { run = sym same i }) (sym x.so.0)) }
 
       same_goal : (a b : KeyEdit G R) → edit_call goal rule a ≡ edit_call goal rule b → goal a.goal ≡ goal b.goal
       same_goal a b e = cc
@@ -140,11 +140,11 @@ module _ {K V : Type 0} (valid_key : K → Type 0) (key : K → ℕ) (valid_valu
           let went : Goes (Update (valued y.old)) machine.tries c = y.was.1.0 in
           let walk : goal m.edit.goal ≡ to = ap (λ (e : KeyEdit G R). goal e.goal) y.goes.edit ∙ same_walk _ y.old ed of y.course ∙ sym is in
           record {
-            known = x.known;
+            planting = x.planting; known = x.known;
             is = x.is;
             sound = x.sound;
             so = (
-              (dict_mode c.layout.mode (trie y.old.edit.goal) went.mode, subst (λ (w : Goal). InnerAnswers machine.tries (Update (valued (standing m Start))) c (history_of c.layout.mode x.known) (edit_reply w a)) walk (edit_ends machine.tries c _ (valued y.old) (valued (standing m Start)) a (typed_run keys values c.layout _ x.sound) went (same_edit y.old (standing m Start) y.goes.edit) y.goes.called y.goes.limit y.goes.spends y.answers)),
+              (dict_mode c.layout.mode (trie y.old.edit.goal) went.mode, subst (λ (w : Goal). InnerAnswers machine.tries (Update (valued (standing m Start))) c (history_of x.planting x.known) (edit_reply w a)) walk (edit_ends machine.tries c _ (valued y.old) (valued (standing m Start)) a (typed_run keys values c.layout _ x.sound) went (same_edit y.old (standing m Start) y.goes.edit) y.goes.called y.goes.limit y.goes.spends y.answers)),
               goes_on (editing y.old) (same_call y.old (standing m Start) y.goes.edit, refl, (y.goes.tries.1, y.goes.tries.0), same_mode y.old (standing m Start) y.goes.edit) y.course,
             );
           }
@@ -185,16 +185,16 @@ module _ {K V : Type 0} (valid_key : K → Type 0) (key : K → ℕ) (valid_valu
 
       pub read_begins : (ps : List SeatedPass) (m : ReadRun d.kind.R) → machine.run ≡ d.around m share → SeatDictBegins valid_key key valid_value value_word c ps machine → ReaderBegins reader ps m
       unfolding reader
-      read_begins ps m is x = record { known = x.known; is = x.is; sound = x.sound; so = (subst (λ r. ready (record machine { run = r }) c (history_of c.layout.mode x.known) None) is x.so.1, begins (λ i. record machine { run = sym is i }) (sym x.so.0)) }
+      read_begins ps m is x = record { planting = x.planting; known = x.known; is = x.is; sound = x.sound; so = (subst (λ r. ready (record machine { run = r }) c (history_of x.planting x.known) None) is x.so.1, begins (λ i. record machine { run = sym is i }) (sym x.so.0)) }
 
       pub read_ended : (ps : List SeatedPass) (m : ReadRun d.kind.R) (a : Result d.kind.A Refused) → ReaderEnds reader ps m a → ends c ps machine (reading m) (read_reply d.kind.tells a)
       unfolding reader
       read_ended ps m a x =
           let y = x.so in
-          let h = history_of c.layout.mode x.known in
+          let h = history_of x.planting x.known in
           let was = told_inside y.old h y.got y.was in
           record {
-            known = x.known;
+            planting = x.planting; known = x.known;
             is = x.is;
             sound = x.sound;
             so = (
@@ -206,7 +206,7 @@ module _ {K V : Type 0} (valid_key : K → Type 0) (key : K → ℕ) (valid_valu
   -- the answer of a machine as a reply of keys and values
   pub replies : (c : Call) (ps : List SeatedPass) (first m : DictRun K V) (w : WordReply) (r : Reply K V) → IsReplyOf valid_key key valid_value value_word w r → ends c ps first m w → SeatDictEnds valid_key key valid_value value_word c ps first m r
   replies c ps first m w r of x = record {
-    known = x.known;
+    planting = x.planting; known = x.known;
     is = x.is;
     sound = x.sound;
     so = (dict_ends valid_key key valid_value value_word m c _ w r x.so.0.0 x.sound x.so.0.1 of, x.so.1);

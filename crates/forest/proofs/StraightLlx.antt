@@ -102,10 +102,10 @@ module _ (allows : Layout → History → ℕ → Type 0) (layout : Layout) (num
     -- the snapshot is its answer
     pub answers : (snap : Snap) → LookerSnaps looker ps node snap → SeatLlxEnds allows c ps node (Snapshot snap)
     unfolding looker
-    answers snap x = (x.last, record { known = x.so.known; is = x.so.is; sound = x.so.sound; so = (right, x.so.so.1) })
+    answers snap x = (x.last, record { planting = x.so.planting; known = x.so.known; is = x.so.is; sound = x.so.sound; so = (right, x.so.so.1) })
       where
         h : History
-        h = history_of c.layout.mode x.so.known
+        h = history_of x.so.planting x.so.known
 
         right : IsSnapshot c.layout h x.last.node.0 snap × HasJustLooked c.pass h c.start x.last.node.0 × HasFoundThere c.pass h c.start x.last.node.0 snap.scx.0
         right = subst (λ (n : NodeNo). IsSnapshot c.layout h n.0 snap × HasJustLooked c.pass h c.start n.0 × HasFoundThere c.pass h c.start n.0 snap.scx.0) (sym x.is_node)

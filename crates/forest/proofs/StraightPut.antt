@@ -17,11 +17,11 @@ use Rattle.forest.specs.Inside.{InnerIsTold, InnerWaits}
 module _ (allows : Layout → History → ℕ → Type 0) (c : Call) (ps : List SeatedPass) (first : PutRun) where
   -- it fills the value, and then the plan
   pub to_value : SeatPutBegins allows c ps first → SeatPutWaits allows c ps first (record first { at = AtFill }) (put_step first)
-  to_value x = record { known = x.known; is = x.is; sound = x.sound; so = (put_turn_start allows first c _ x.so.1, goes_on first (refl, refl, refl, refl) (begins refl (sym x.so.0))) }
+  to_value x = record { planting = x.planting; known = x.known; is = x.is; sound = x.sound; so = (put_turn_start allows first c _ x.so.1, goes_on first (refl, refl, refl, refl) (begins refl (sym x.so.0))) }
 
   pub to_plan : (v : ℕ) → SeatPutTold allows c ps first (record first { at = AtFill }) v → SeatPutWaits allows c ps first (scx_at first AtPlan) (scx_fill first.scx.scx Plan first.scx.update.plan.0)
   to_plan v x = let t = x.so.0 in record {
-    known = x.known;
+    planting = x.planting; known = x.known;
     is = x.is;
     sound = x.sound;
     so = (
@@ -75,4 +75,4 @@ module _ (allows : Layout → History → ℕ → Type 0) (layout : Layout) (num
     put_done help v x =
         let run : ScxRun = record m { at = Help (record help { at = HelpCommit }) } in
         let t = x.so.0.1 in
-        record { known = x.known; is = x.is; sound = x.sound; so = (turn_scx allows c _ x.sound.lawful (with_scx first run) (with_scx first run) (End Done) refl refl refl refl x.so.0.0 (done_at c _ run (record help { at = HelpCommit }) x.sound.lawful t.2 t.1 true (record help { at = HelpCommit }) t.0 refl refl), x.so.1) }
+        record { planting = x.planting; known = x.known; is = x.is; sound = x.sound; so = (turn_scx allows c _ x.sound.lawful (with_scx first run) (with_scx first run) (End Done) refl refl refl refl x.so.0.0 (done_at c _ run (record help { at = HelpCommit }) x.sound.lawful t.2 t.1 true (record help { at = HelpCommit }) t.0 refl refl), x.so.1) }

@@ -147,7 +147,7 @@ module _ {M R A : Type 0} {o : Calls M} {means : ReadMeaning R A} (r : Reader o 
         nodes : ℕ
         nodes = nodes_by m.trie (shared_nodes o.layout)
 
-        y : ReadIsReady means (placed m (LoadNext of)) r.call (history_of r.call.layout.mode x.known) (Some v)
+        y : ReadIsReady means (placed m (LoadNext of)) r.call (history_of x.planting x.known) (Some v)
         y = r.tells (placed m (LoadNext of)) _ (Some v) x.so.0
 
         nearer : RunComesNearer means now nodes next (length m.snaps.items + load_left means m.read nodes of - 1)

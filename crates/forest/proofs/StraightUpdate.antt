@@ -117,7 +117,7 @@ module _ {M E : Type 0} {o : Calls M} {e : EditMeaning E} (u : Updater o e) wher
   pub walks : (ps : List SeatedPass) {A : Type 0} (m : UpdateRun E A) (plain : e.guard m.edit ≡ false) (way : Way) (goal : Goal) → way ≡ e.way m.edit → goal ≡ e.goal m.edit → UpdaterBegins u ps m → WalkerWaits (walker m plain) ps (way_from way goal) no_turns (load LoadSettled (node 0 (Settled Head)))
   unfolding walker
   walks ps m plain way goal is_way is_goal x = record {
-    known = x.known;
+    planting = x.planting; known = x.known;
     is = x.is;
     sound = x.sound;
     so = (
@@ -160,11 +160,11 @@ module _ {M E : Type 0} {o : Calls M} {e : EditMeaning E} (u : Updater o e) wher
         p = placed_same e m f next
 
     -- after the step whose result it got it continues so
-    pub goes_behind : (old : UpdateRun E UpdateAt) (v : ℕ) (next : Result Next Stop) → IsSameUpdate old m → m.tries ≡ old.tries → HasSpentForNext e old.share m f next (node_tries old old.at) (scx_tries old old.at) → (x : HostedIsTold u ps old v) → UpdateGoesOn e u.call (history_of u.call.layout.mode x.known) m f next → UpdaterGoesOn u ps m f next
+    pub goes_behind : (old : UpdateRun E UpdateAt) (v : ℕ) (next : Result Next Stop) → IsSameUpdate old m → m.tries ≡ old.tries → HasSpentForNext e old.share m f next (node_tries old old.at) (scx_tries old old.at) → (x : HostedIsTold u ps old v) → UpdateGoesOn e u.call (history_of x.planting x.known) m f next → UpdaterGoesOn u ps m f next
     goes_behind old v (Ok next) is tries spent x z =
         let gone = gone_to old next is tries spent in
-        record { known = x.known; is = x.is; sound = x.sound; so = (u.turns old (placed e m f next) _ (Some v) (next_step e m f next) gone x.so.0 z, goes_on (u.with_run old) (u.stays old (placed e m f next) gone) x.so.1) }
-    goes_behind old v (Err stop) is tries spent x z = record { known = x.known; is = x.is; sound = x.sound; so = record { old = old; got = Some v; was = x.so.0; goes = record { edit = is.0; called = is.1; limit = is.2; tries = keeps_tries old.tries m.tries tries; spends = spent }; tries = tries; may = z; course = x.so.1 } }
+        record { planting = x.planting; known = x.known; is = x.is; sound = x.sound; so = (u.turns old (placed e m f next) _ (Some v) (next_step e m f next) gone x.so.0 z, goes_on (u.with_run old) (u.stays old (placed e m f next) gone) x.so.1) }
+    goes_behind old v (Err stop) is tries spent x z = record { planting = x.planting; known = x.known; is = x.is; sound = x.sound; so = record { old = old; got = Some v; was = x.so.0; goes = record { edit = is.0; called = is.1; limit = is.2; tries = keeps_tries old.tries m.tries tries; spends = spent }; tries = tries; may = z; course = x.so.1 } }
 
     fewer_then : {old mid now : ℕ} → mid ≡ old → (mid ≤ now + 1) × (now ≤ mid) → (old ≤ now + 1) × (now ≤ old)
     fewer_then {old} {mid} {now} e x = subst (λ (k : ℕ). (k ≤ now + 1) × (now ≤ k)) e x
@@ -176,8 +176,8 @@ module _ {M E : Type 0} {o : Calls M} {e : EditMeaning E} (u : Updater o e) wher
     pub stops : (now : UpdateRun E UpdateAt) (stop : Stop) (turn : Turn Updated) → IsSameUpdate m now → (m.tries ≤ now.tries + 1) × (now.tries ≤ m.tries) → IsSpending e turn m.share now m.tries m.tries → ((h : History) → IsRun TreeAllows u.call.layout h → MayStop e u.call h m f stop → UpdateTurn e u.call h now turn) → UpdaterStops u ps m f stop → HostedStands u ps now turn
     stops now stop (Ask s) is fewer spent next x =
         let gone = gone_behind x.so.old now (node_tries now now.at) (scx_tries now now.at) is fewer spent x.so.tries x.so.goes in
-        record { known = x.known; is = x.is; sound = x.sound; so = (u.turns x.so.old now _ x.so.got s gone x.so.was (next _ (u.runs _ x.sound) x.so.may), goes_on (u.with_run x.so.old) (u.stays x.so.old now gone) x.so.course) }
-    stops now stop (Done a) is fewer spent next x = record { known = x.known; is = x.is; sound = x.sound; so = record { old = x.so.old; got = x.so.got; was = x.so.was; goes = gone_behind x.so.old now now.tries now.tries is fewer spent x.so.tries x.so.goes; answers = next _ (u.runs _ x.sound) x.so.may; course = x.so.course } }
+        record { planting = x.planting; known = x.known; is = x.is; sound = x.sound; so = (u.turns x.so.old now _ x.so.got s gone x.so.was (next _ (u.runs _ x.sound) x.so.may), goes_on (u.with_run x.so.old) (u.stays x.so.old now gone) x.so.course) }
+    stops now stop (Done a) is fewer spent next x = record { planting = x.planting; known = x.known; is = x.is; sound = x.sound; so = record { old = x.so.old; got = x.so.got; was = x.so.was; goes = gone_behind x.so.old now now.tries now.tries is fewer spent x.so.tries x.so.goes; answers = next _ (u.runs _ x.sound) x.so.may; course = x.so.course } }
 
   -- after its walk it continues as its try does
   pub finds : (ps : List SeatedPass) {A : Type 0} (m now : UpdateRun E A) (plain : e.guard m.edit ≡ false) (way : Way) (goal : Goal) (turn : LastTurns) (f : Found) (next : Result Next Stop) → way ≡ e.way m.edit → goal ≡ e.goal m.edit → IsSameUpdate m now → now.tries ≡ m.tries → HasSpentForNext e m.share now f next (m.tries + 1) (m.tries + 1)
@@ -187,10 +187,10 @@ module _ {M E : Type 0} {o : Calls M} {e : EditMeaning E} (u : Updater o e) wher
   finds ps m now plain way goal turn f next is_way is_goal is tries spent goes x =
       goes_behind ps now f (walking m x.last) x.told next is tries spent x.so (goes y.0 _ (u.runs _ x.so.sound) y.1 y.2 record { run = w.1.run; small = w.0.small; may = w.0.may; since = own_since (begun_at u.call y.0) _ w.1.own; rests = record { share = w.0.rests.share; over = w.0.rests.over } } w.0.quiet w.0.none_filled (rw (← is_goal, ← is_way) (x.finds (begun_at u.call y.0) _ w.1)) (λ is. unguarded plain is))
     where
-      y : UpdateIsReady e (walking m x.last) u.call (history_of u.call.layout.mode x.so.known) (Some x.told)
+      y : UpdateIsReady e (walking m x.last) u.call (history_of x.so.planting x.so.known) (Some x.told)
       y = u.tells (walking m x.last) _ (Some x.told) x.so.so.0
 
-      w : Walks e (walking m x.last) (begun_at u.call y.0) (history_of u.call.layout.mode x.so.known) x.last.way x.last.goal × WalkIsTold x.last (begun_at u.call y.0) (history_of u.call.layout.mode x.so.known) x.told
+      w : Walks e (walking m x.last) (begun_at u.call y.0) (history_of x.so.planting x.so.known) x.last.way x.last.goal × WalkIsTold x.last (begun_at u.call y.0) (history_of x.so.planting x.so.known) x.told
       w = (y.3.0, y.3.1)
 
   -- what it continues with is what its equal is
@@ -233,7 +233,7 @@ module _ {M E : Type 0} {o : Calls M} {e : EditMeaning E} (u : Updater o e) wher
 
   -- and it keeps what its edit has been asked
   pub looks_asked : (ps : List SeatedPass) {A : Type 0} (m : UpdateRun E A) (f : Found) (node : NodeNo) → UpdaterTries u ps m f (LookNext node) → HasAsked e m f
-  looks_asked ps m f node x = (u.opens (placed e m f (LookNext node)) (history_of u.call.layout.mode x.known) (next_step e m f (LookNext node)) x.so.0).3.1.asked
+  looks_asked ps m f node x = (u.opens (placed e m f (LookNext node)) (history_of x.planting x.known) (next_step e m f (LookNext node)) x.so.0).3.1.asked
 
   -- with the snapshot it continues as its turn says
   pub looks_on : (ps : List SeatedPass) {A : Type 0} (m now : UpdateRun E A) (f : Found) (node : NodeNo) (snap : Snap) (next : Result Next Stop) → IsSameUpdate m now → now.tries ≡ m.tries → (HasAsked e m f → HasSpentForNext e m.share now f next (m.tries + 1) (m.tries + 1))
@@ -243,7 +243,7 @@ module _ {M E : Type 0} {o : Calls M} {e : EditMeaning E} (u : Updater o e) wher
   looks_on ps m now f node snap next is tries spent goes x = goes_behind ps now f (looking m f x.last) x.told next is tries (spent l.asked) x.so (goes y.0 h (u.runs h x.so.sound) y.1 can named snapped met)
     where
       h : History
-      h = history_of u.call.layout.mode x.so.known
+      h = history_of x.so.planting x.so.known
 
       y : UpdateIsReady e (looking m f x.last) u.call h (Some x.told)
       y = u.tells (looking m f x.last) h (Some x.told) x.so.so.0
@@ -270,10 +270,10 @@ module _ {M E : Type 0} {o : Calls M} {e : EditMeaning E} (u : Updater o e) wher
 
   -- where the try ends with nothing to make, or with too little left, it has answered so
   pub ends_needless : (ps : List SeatedPass) {A : Type 0} (m : UpdateRun E A) (f : Found) → UpdaterStops u ps m f NothingStop → UpdaterEnds u ps m (done_with f)
-  ends_needless ps m f x = record { known = x.known; is = x.is; sound = x.sound; so = let y = x.so in record { old = y.old; got = y.got; was = y.was; goes = gone_anywhere y.old m Start m.tries y.goes; answers = y.may; course = y.course } }
+  ends_needless ps m f x = record { planting = x.planting; known = x.known; is = x.is; sound = x.sound; so = let y = x.so in record { old = y.old; got = y.got; was = y.was; goes = gone_anywhere y.old m Start m.tries y.goes; answers = y.may; course = y.course } }
 
   pub ends_full : (ps : List SeatedPass) {A : Type 0} (m : UpdateRun E A) (f : Found) (full : Full) → UpdaterStops u ps m f (FullStop full) → UpdaterEnds u ps m (FullAnswer full)
-  ends_full ps m f full x = record { known = x.known; is = x.is; sound = x.sound; so = let y = x.so in record { old = y.old; got = y.got; was = y.was; goes = gone_anywhere y.old m Start m.tries y.goes; answers = y.may; course = y.course } }
+  ends_full ps m f full x = record { planting = x.planting; known = x.known; is = x.is; sound = x.sound; so = let y = x.so in record { old = y.old; got = y.got; was = y.was; goes = gone_anywhere y.old m Start m.tries y.goes; answers = y.may; course = y.course } }
 
   -- Its machine continues
 
@@ -287,7 +287,7 @@ module _ {M E : Type 0} {o : Calls M} {e : EditMeaning E} (u : Updater o e) wher
       there (Ok (ReadNext n part)) y = y
       there (Ok (FillNext nth)) y = y
       there (Ok (ChangeNext scx)) y = y
-      there (Err stop) y = record { known = y.known; is = y.is; sound = y.sound; so = let z = y.so in record { old = z.old; got = z.got; was = z.was; goes = gone_anywhere z.old m Start m.tries z.goes; tries = z.tries; may = z.may; course = z.course } }
+      there (Err stop) y = record { planting = y.planting; known = y.known; is = y.is; sound = y.sound; so = let z = y.so in record { old = z.old; got = z.got; was = z.was; goes = gone_anywhere z.old m Start m.tries z.goes; tries = z.tries; may = z.may; course = z.course } }
 
   pub blocked_there : (ps : List SeatedPass) {A : Type 0} (m : UpdateRun E A) (start : UpdateRun E UpdateAt) (f : Found) (scx : ScxNo) (help : HelpRun) → start ≡ standing m Start → UpdaterIsBlocked u ps m f scx help → UpdaterIsBlocked u ps start f scx help
   blocked_there ps m start f scx help is x = subst (λ (r : UpdateRun E UpdateAt). UpdaterIsBlocked u ps r f scx help) (sym is) x
@@ -320,7 +320,7 @@ module _ {M E : Type 0} {o : Calls M} {e : EditMeaning E} (u : Updater o e) wher
 
   -- its answer is that of the update that has no place again
   pub ends_nowhere : (ps : List SeatedPass) {B : Type 0} (m : UpdateRun E UpdateAt) (at : B) (now : UpdateRun E B) (a : Updated) → now ≡ standing m at → HostedEnds u ps m a → UpdaterEnds u ps now a
-  ends_nowhere ps m at now a is x = rw is record { known = x.known; is = x.is; sound = x.sound; so = let y = x.so in record { old = y.old; got = y.got; was = y.was; goes = gone_anywhere y.old m Start m.tries y.goes; answers = y.answers; course = y.course } }
+  ends_nowhere ps m at now a is x = rw is record { planting = x.planting; known = x.known; is = x.is; sound = x.sound; so = let y = x.so in record { old = y.old; got = y.got; was = y.was; goes = gone_anywhere y.old m Start m.tries y.goes; answers = y.answers; course = y.course } }
 
   -- Loads and fills
 
@@ -328,8 +328,8 @@ module _ {M E : Type 0} {o : Calls M} {e : EditMeaning E} (u : Updater o e) wher
   pub reads_next : (ps : List SeatedPass) {A : Type 0} (m : UpdateRun E A) (f : Found) (n : NodeNo) (part : SettledPart) → UpdaterTries u ps m f (ReadNext n part) → HasAsked e m f × (next_read m.read ≡ Some part)
   reads_next ps m f n part x = (reads.works.asked, reads.next)
     where
-      reads : Reads e (placed e m f (ReadNext n part)) (begun_at u.call (u.opens (placed e m f (ReadNext n part)) (history_of u.call.layout.mode x.known) (next_step e m f (ReadNext n part)) x.so.0).0) (history_of u.call.layout.mode x.known) f n part
-      reads = (u.opens (placed e m f (ReadNext n part)) (history_of u.call.layout.mode x.known) (next_step e m f (ReadNext n part)) x.so.0).3.0
+      reads : Reads e (placed e m f (ReadNext n part)) (begun_at u.call (u.opens (placed e m f (ReadNext n part)) (history_of x.planting x.known) (next_step e m f (ReadNext n part)) x.so.0).0) (history_of x.planting x.known) f n part
+      reads = (u.opens (placed e m f (ReadNext n part)) (history_of x.planting x.known) (next_step e m f (ReadNext n part)) x.so.0).3.0
 
   -- with what the load has found it continues as its turn says
   pub reads_on : (ps : List SeatedPass) {A : Type 0} (m now : UpdateRun E A) (f : Found) (n : NodeNo) (part : SettledPart) (v : ℕ) (next : Result Next Stop) → IsSameUpdate m now → now.tries ≡ m.tries → HasSpentForNext e m.share now f next m.tries (m.tries + 1)
@@ -338,7 +338,7 @@ module _ {M E : Type 0} {o : Calls M} {e : EditMeaning E} (u : Updater o e) wher
   reads_on ps m now f n part v next is tries spent goes x = goes_behind ps now f (placed e m f (ReadNext n part)) v next is tries spent x (goes y.0 h (u.runs h x.sound) y.1 y.3.0 y.3.1)
     where
       h : History
-      h = history_of u.call.layout.mode x.known
+      h = history_of x.planting x.known
 
       y : UpdateIsReady e (placed e m f (ReadNext n part)) u.call h (Some v)
       y = u.tells (placed e m f (ReadNext n part)) h (Some v) x.so.0
@@ -361,7 +361,7 @@ module _ {M E : Type 0} {o : Calls M} {e : EditMeaning E} (u : Updater o e) wher
   -- after a fill that is not a node's last it waits for the next
   fills_next_word : (ps : List SeatedPass) {A : Type 0} (m : UpdateRun E A) (f : Found) (nth : Nth) (part next : NodeWord) (told : ℕ) → FillsWell e → part_behind (pieces_now e m f nth) part ≡ Some next → HostedIsTold u ps (filling m f nth part) told → HostedWaits u ps (filling m f nth next) (fills e m f nth next)
   fills_next_word ps m f nth part next told sound behind x = record {
-    known = x.known;
+    planting = x.planting; known = x.known;
     is = x.is;
     sound = x.sound;
     so = (
@@ -371,7 +371,7 @@ module _ {M E : Type 0} {o : Calls M} {e : EditMeaning E} (u : Updater o e) wher
   }
     where
       h : History
-      h = history_of u.call.layout.mode x.known
+      h = history_of x.planting x.known
 
       y : UpdateIsReady e (filling m f nth part) u.call h (Some told)
       y = u.tells (filling m f nth part) h (Some told) x.so.0
@@ -395,7 +395,7 @@ module _ {M E : Type 0} {o : Calls M} {e : EditMeaning E} (u : Updater o e) wher
   fills_end ps m now f nth part v next is tries spent goes x = goes_behind ps now f (filling m f nth part) v next is tries (spent y.3.0.works.some) x (goes y.0 h (u.runs h x.sound) y.1 y.3)
     where
       h : History
-      h = history_of u.call.layout.mode x.known
+      h = history_of x.planting x.known
 
       y : UpdateIsReady e (filling m f nth part) u.call h (Some v)
       y = u.tells (filling m f nth part) h (Some v) x.so.0
@@ -435,7 +435,7 @@ module _ {M E : Type 0} {o : Calls M} {e : EditMeaning E} (u : Updater o e) wher
   pub changed : (ps : List SeatedPass) {A : Type 0} (m : UpdateRun E A) (f : Found) (snaps : List Snap) (change : ScxTask) (help : HelpRun) (v : ℕ) → IsAtFound e → HasGuardAtEnd e → InnerIsTold (changer m f) ps (changing_at snaps change (Help (record help { at = HelpCommit }))) v → UpdaterEnds u ps m (done_with f)
   unfolding changer
   changed ps m f snaps change help v sound at_end x = record {
-    known = x.known;
+    planting = x.planting; known = x.known;
     is = x.is;
     sound = x.sound;
     so = record { old = here; got = Some v; was = x.so.0; goes = record { edit = refl; called = refl; limit = refl; tries = (omega arith, omega arith); spends = (omega arith, omega arith, omega arith) }; answers = answers; course = x.so.1 };
@@ -448,7 +448,7 @@ module _ {M E : Type 0} {o : Calls M} {e : EditMeaning E} (u : Updater o e) wher
       here = scxing m f scx
 
       h : History
-      h = history_of u.call.layout.mode x.known
+      h = history_of x.planting x.known
 
       y : UpdateIsReady e here u.call h (Some v)
       y = u.tells here h (Some v) x.so.0

@@ -44,12 +44,12 @@ module _ {L : Type 0} (list : L → List Snap) (allows : Layout → History → 
     -- where the last info was not what its snapshot found, that is the answer
     pub answers_changed : (n asked v : ℕ) → suc n ≡ asked → (snap_at (list snaps) n).scx.0 ≢ v → InnerIsTold validator ps asked v → SeatVlxEnds list allows c ps snaps (Changed (snap_at (list snaps) n).node record { 0 = v })
     unfolding validator
-    answers_changed n asked v e other x = (vlx_at snaps asked, record { known = x.known; is = x.is; sound = x.sound; so = (turn_changed c _ (list snaps) asked n v (snap_at (list snaps) n) x.sound.lawful x.so.0 e refl other, x.so.1) })
+    answers_changed n asked v e other x = (vlx_at snaps asked, record { planting = x.planting; known = x.known; is = x.is; sound = x.sound; so = (turn_changed c _ (list snaps) asked n v (snap_at (list snaps) n) x.sound.lawful x.so.0 e refl other, x.so.1) })
 
     -- where all were, they are the same
     pub answers_same : (n asked v : ℕ) → suc n ≡ asked → (snap_at (list snaps) n).scx.0 ≡ v → asked ≡ length (list snaps) → InnerIsTold validator ps asked v → SeatVlxEnds list allows c ps snaps Same
     unfolding validator
-    answers_same n asked v e found all x = (vlx_at snaps asked, record { known = x.known; is = x.is; sound = x.sound; so = (all_same c _ (list snaps) x.sound.lawful looked, x.so.1) })
+    answers_same n asked v e found all x = (vlx_at snaps asked, record { planting = x.planting; known = x.known; is = x.is; sound = x.sound; so = (all_same c _ (list snaps) x.sound.lawful looked, x.so.1) })
       where
-        looked : HasFoundUnchanged c (history_of c.layout.mode x.known) (list snaps) (length (list snaps))
-        looked = subst (λ (k : ℕ). HasFoundUnchanged c (history_of c.layout.mode x.known) (list snaps) k) all (looked_on c _ (list snaps) asked n v x.sound.lawful x.so.0 e found)
+        looked : HasFoundUnchanged c (history_of x.planting x.known) (list snaps) (length (list snaps))
+        looked = subst (λ (k : ℕ). HasFoundUnchanged c (history_of x.planting x.known) (list snaps) k) all (looked_on c _ (list snaps) asked n v x.sound.lawful x.so.0 e found)

@@ -13,14 +13,15 @@ use Rattle.forest.specs.Dictionary.{IsChange, IsChangeOrReading, IsContendedCall
 use Rattle.forest.specs.Passes.{PassView, run_of, done_of, taken_of}
 use Rattle.forest.proofs.Entered.{none_entered, one_entered}
 use Rattle.forest.proofs.Took.{made_row, took_from, took_below, took_some}
+use Rattle.planting.specs.Plantings.{PlantingView}
 
 -- a call of the pass `was`, which leaves it at this table with this share, run and blame list
-module _ (was : PassView) (is_pass : was.number < was.layout.passes) (number : ℕ) (same : number ≡ taken_of was) (table : TableId) (left : Remaining) (known : List Row) (blamed : List ℕ) where
+module _ (was : PassView) (is_pass : was.number < was.layout.passes) (number : ℕ) (same : number ≡ taken_of was) (table : TableId) (left : Remaining) (planting : PlantingView) (known : List Row) (blamed : List ℕ) where
   abbrev pub call_by : Call
   call_by = record { layout = was.layout; pass = was.number; is_pass = is_pass; number = number; start = run_of was }
 
   abbrev pub then : PassView
-  then = record { table = table; layout = was.layout; number = was.number; share = left; known = known; blamed = blamed }
+  then = record { table = table; layout = was.layout; planting = planting; number = was.number; share = left; known = known; blamed = blamed }
 
   module _ (run : IsMapRun was.layout (run_of then)) (since : Extends (run_of then) (run_of was)) where
     none_more : HasEnteredNone was.layout was.number (run_of then) (run_of was) → done_of then ≡ done_of was

@@ -6,7 +6,7 @@ use Rattle.template.specs.Common.{AreDistinct, IsAmong, snap_at, VlxAnswers, Sna
 use Rattle.prims.proofs.Lemmas.{vlx_fills_not, all_over, vlx_ready_first}
 use Rattle.forest.specs.declared.view.SeatView.{SeatView}
 use Rattle.forest.specs.declared.pass.Pass.TheInside.{Inside}
-use Rattle.forest.specs.Traces.{known_of}
+use Rattle.forest.specs.Traces.{known_of, planting_of, run_at}
 use Rattle.forest.specs.StraightVlx.{vlx_at, AreSameSnaps, waits_over, SeatVlxBegins, SeatVlxEnds}
 use Rattle.forest.specs.Passes.{CanUse, Each, AreApart, HasNodeOf, HoldsOfOwn, VlxSays, run_of}
 use Rattle.forest.specs.PassInvariant.{pass_view, IsPass}
@@ -40,6 +40,7 @@ among_at (snap ∷ snaps) n (inr x) = let y = among_at snaps n x in record { at 
 module _ {L : Type 0} (list : L → List Snap) {allows : Layout → History → ℕ → Type 0} {mode : Mode} {T : Type 0} (p : Inside T) (x : IsPass allows mode p) (number : ℕ) where
   pub vlx_begins : (snaps : L) → 0 < length (list snaps) → Each (CanUse (pass_view p)) (list snaps) → SeatVlxBegins list allows (call_of p x number) p.seat.me.0.passes snaps
   vlx_begins snaps some usable = record {
+    planting = planting_of p.seat.me.0.passes;
     known = known_of p.seat.me.0.passes;
     is = x.seat;
     sound = x.sound;
@@ -61,8 +62,8 @@ module _ {L : Type 0} (list : L → List Snap) {allows : Layout → History → 
   -- it has loaded info words alone
   pub vlx_kinds : (s : Seat ℕ SeatView) (snaps : L) (a : Vlx) → SeatVlxEnds list allows (call_of p x number) s.me.0.passes snaps a → HasLoadedInfosAlone (pass_view p) (pass_view (seated p s))
   vlx_kinds s snaps a y =
-      let known : y.1.known ≡ known_of s.me.0.passes = sym (ap known_of y.1.is) in
-      subst (λ (rows : List Row). HoldsOfOwn (λ r. r.kind ≡ LoadInfo) p.number.0 (run_of (pass_view p)) (history_of p.layout.mode rows)) known
+      let run : history_of y.1.planting y.1.known ≡ run_at s.me.0.passes = sym (ap run_at y.1.is) in
+      subst (λ (h : History). HoldsOfOwn (λ r. r.kind ≡ LoadInfo) p.number.0 (run_of (pass_view p)) h) run
       (course_holds (waits_over list) AreSameSnaps (call_of p x number) (vlx_at snaps 0) (λ r. r.kind ≡ LoadInfo) (λ m. Unit {0}) tt (λ old now is q. tt) (λ k h t q w. ap (λ (step : Step). step.kind) w.asked) y.0 _ y.1.so.1).1
 
   pub vlx_says : (s : Seat ℕ SeatView) (snaps : L) (a : Vlx) → HasOnlyLoaded allows p s number (Looked snaps a) → VlxSays (pass_view p) (pass_view (seated p s)) (list snaps) a

@@ -17,7 +17,7 @@ use Rattle.forest.specs.Passes.{Ground, IsOf, PassView, taken_of}
 use Rattle.forest.specs.PassInvariant.{IsPass, pass_view}
 use Rattle.forest.specs.StepKinds.{HasKeptToKinds}
 use Rattle.forest.specs.StraightCalls.{IsSameDictCall}
-use Rattle.forest.specs.Traces.{HoldsForCall, Trace, known_of, seat_steps, shared_nodes}
+use Rattle.forest.specs.Traces.{HoldsForCall, Trace, known_of, seat_steps, shared_nodes, planting_of, KnowsAs}
 use Rattle.forest.proofs.DictCalls.{Answered, behind, dict_ended, dict_goes_on, dict_pass, dict_refuses, dict_spends, dict_tells, so_behind}
 use Rattle.forest.proofs.Entered.{HasEnded, left_with}
 use Rattle.forest.proofs.Passes.{call_of}
@@ -54,7 +54,7 @@ module _ {K V : Type 0} (valid_key : K → Type 0) (key : K → ℕ) (valid_valu
       now = pass_view (behind valid_key key valid_value value_word trie p x s m reply)
 
       -- what it says where the machine has these tries, and is of this call
-      pub says : (f : Ground) → IsOf f (pass_view p) → (call : MapCall) → call_in m.run ≡ call → m.tries ≡ f.tries → s.table_id ≡ p.seat.table_id → seat_steps s.me.0.passes ≤ seat_steps p.seat.me.0.passes + most_steps call f.tries (nodes_by trie (shared_nodes f.layout)) → (¬ AsksForPairs call → known_of s.me.0.passes ≡ known_of p.seat.me.0.passes) → HasCalledIn trie valid_key key valid_value value_word f (pass_view p) now call reply
+      pub says : (f : Ground) → IsOf f (pass_view p) → (call : MapCall) → call_in m.run ≡ call → m.tries ≡ f.tries → s.table_id ≡ p.seat.table_id → seat_steps s.me.0.passes ≤ seat_steps p.seat.me.0.passes + most_steps call f.tries (nodes_by trie (shared_nodes f.layout)) → (¬ AsksForPairs call → KnowsAs s.me.0.passes (planting_of p.seat.me.0.passes) (known_of p.seat.me.0.passes)) → HasCalledIn trie valid_key key valid_value value_word f (pass_view p) now call reply
       says f of call is tries table steps nothing =
           let most : ℕ = most_steps call f.tries (nodes_by trie (shared_nodes f.layout)) in
           record {
@@ -78,5 +78,5 @@ module _ {K V : Type 0} (valid_key : K → Type 0) (key : K → ℕ) (valid_valu
         pub whole_pass : s.me.1 ≡ p.seat.me.1 → IsPass allows (map_mode trie) left
         whole_pass bare = so_behind valid_key key valid_value value_word trie p x s m reply (λ q. IsPass allows (map_mode trie) q) share blamed is_share is_blamed (dict_pass valid_key key valid_value value_word trie p x s m reply ended bare)
 
-        pub whole_call : (f : Ground) → IsOf f (pass_view p) → (call : MapCall) → call_in m.run ≡ call → m.tries ≡ f.tries → s.table_id ≡ p.seat.table_id → seat_steps s.me.0.passes ≤ seat_steps p.seat.me.0.passes + most_steps call f.tries (nodes_by trie (shared_nodes f.layout)) → (¬ AsksForPairs call → known_of s.me.0.passes ≡ known_of p.seat.me.0.passes) → HasCalledIn trie valid_key key valid_value value_word f (pass_view p) (pass_view left) call reply
+        pub whole_call : (f : Ground) → IsOf f (pass_view p) → (call : MapCall) → call_in m.run ≡ call → m.tries ≡ f.tries → s.table_id ≡ p.seat.table_id → seat_steps s.me.0.passes ≤ seat_steps p.seat.me.0.passes + most_steps call f.tries (nodes_by trie (shared_nodes f.layout)) → (¬ AsksForPairs call → KnowsAs s.me.0.passes (planting_of p.seat.me.0.passes) (known_of p.seat.me.0.passes)) → HasCalledIn trie valid_key key valid_value value_word f (pass_view p) (pass_view left) call reply
         whole_call f of call is tries table steps nothing = so_behind valid_key key valid_value value_word trie p x s m reply (λ q. HasCalledIn trie valid_key key valid_value value_word f (pass_view p) (pass_view q) call reply) share blamed is_share is_blamed (says f of call is tries table steps nothing)

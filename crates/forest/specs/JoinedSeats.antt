@@ -9,14 +9,14 @@ use Rattle.forest.specs.Passes.{PassView, HoldsOfOwn, IsLook, HasBlamed, run_of,
 
 -- the pass p, one look at the table later: it has no entry more, and is between two calls
 pub record IsFrom (allows : Layout → History → ℕ → Type 0) (p : PassView) (k : SeatedPass) : Type 0 where
-  pub is : k ≡ seated_pass p.number p.layout k.known
+  pub is : k ≡ seated_pass p.number p.layout p.planting k.known
   pub is_pass : p.number < p.layout.passes
-  pub sound : IsRun allows p.layout (history_of p.layout.mode k.known)
-  pub rest : IsBetweenCalls p.layout p.number (history_of p.layout.mode k.known) p.share
-  pub ends : Extends (history_of p.layout.mode k.known) (run_of p)
-  pub done : entries_of p.number (log p.layout (history_of p.layout.mode k.known)) ≡ done_of p
+  pub sound : IsRun allows p.layout (history_of p.planting k.known)
+  pub rest : IsBetweenCalls p.layout p.number (history_of p.planting k.known) p.share
+  pub ends : Extends (history_of p.planting k.known) (run_of p)
+  pub done : entries_of p.number (log p.layout (history_of p.planting k.known)) ≡ done_of p
   pub steps : rows_of p.number k.known ≡ suc (steps_of p)
-  pub looks : HoldsOfOwn IsLook p.number (run_of p) (history_of p.layout.mode k.known)
+  pub looks : HoldsOfOwn IsLook p.number (run_of p) (history_of p.planting k.known)
   pub blamed : HasBlamed p
 
 -- this pass is one of the list

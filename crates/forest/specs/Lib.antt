@@ -28,3 +28,4 @@ pub mod Dictionary
 pub mod StepKinds
 pub mod Opened
 pub mod OpenInvariant
+pub mod Beginnings

@@ -19,12 +19,13 @@ use Rattle.forest.specs.Passes.{PassView, run_of, steps_of, taken_of}
 use Rattle.forest.specs.PassInvariant.{IsPass}
 use Rattle.forest.specs.StraightCalls.{IsSameDictCall}
 use Rattle.forest.specs.TableRule.{seated_pass}
-use Rattle.forest.specs.Traces.{Stands, known_of, seat_steps, shared_nodes, weight}
+use Rattle.forest.specs.Traces.{Stands, known_of, planting_of, seat_steps, shared_nodes, weight, KnowsAs}
 
 -- what contracts see of a call that is held open
 abbrev pub open_view : {K V B : Type 0} → Inside K V B → OpenView
 open_view o = record {
   began = o.began.value;
+  planting = planting_of o.seat.me.0.passes;
   known = known_of o.seat.me.0.passes;
   call = call_in o.run.run;
   tries = o.run.tries;
@@ -39,7 +40,7 @@ pass_as p s = record {
   number = record { 0 = p.number };
   layout = p.layout;
   share = p.share;
-  seat = record s { table_id = p.table; me = (record { passes = seated_pass p.number p.layout p.known ∷ [] }, []) };
+  seat = record s { table_id = p.table; me = (record { passes = seated_pass p.number p.layout p.planting p.known ∷ [] }, []) };
   blamed = p.blamed;
   shape = record {};
 }
@@ -70,4 +71,4 @@ pub record IsOpen {K V B : Type 0} (valid_key : K → Type 0) (key : K → ℕ) 
   pub over : o.over ≡ true → MatchTurn o.turn (λ _. ⊥) (λ _. Unit {0})
   pub none : o.over ≡ false → MatchTurn o.turn (λ _. Unit {0}) (λ _. (seat_steps o.seat.me.0.passes ≡ steps_of o.began.value) × ¬ AsksForPairs (call_in o.run.run))
   -- and so its pass knows what it knew before
-  pub nothing : ¬ AsksForPairs (call_in o.run.run) → known_of o.seat.me.0.passes ≡ o.began.value.known
+  pub nothing : ¬ AsksForPairs (call_in o.run.run) → KnowsAs o.seat.me.0.passes o.began.value.planting o.began.value.known

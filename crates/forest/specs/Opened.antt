@@ -5,6 +5,7 @@ use Rattle.ordered_map.specs.OrderedMap.{MapCall}
 use Rattle.dict.specs.Calls.{AsksForPairs}
 use Rattle.forest.specs.declared.open.Stepped.{Stepped}
 use Rattle.forest.specs.declared.open.Stepped.TheVariants.{More, Done}
+use Rattle.planting.specs.Plantings.{PlantingView}
 use Rattle.forest.specs.Passes.{PassView, taken_of}
 use Rattle.forest.specs.TableRule.{ByOthers}
 
@@ -12,7 +13,8 @@ use Rattle.forest.specs.TableRule.{ByOthers}
 pub record OpenView : Type 0 where
   -- its pass, as the call began
   pub began : PassView
-  -- the run that its pass knows by now, newest row first
+  -- the run that its pass knows by now, newest row first, and what it began with
+  pub planting : PlantingView
   pub known : List Row
   -- what it is a call of, and how often it may try
   pub call : MapCall
@@ -25,7 +27,7 @@ pub record OpenView : Type 0 where
 
 -- the pass as the call began, with the run that it knows by now
 abbrev pub pass_now : OpenView → PassView
-pass_now o = record o.began { known = o.known }
+pass_now o = record o.began { planting = o.planting; known = o.known }
 
 -- A pass has made a step of this kind, in its call of this number: the newest row that it knows is
 -- that of the step, and between that and what it knew before are rows of others alone.

@@ -12,6 +12,7 @@ use Rattle.prims.specs.Llx.Known.{IsFinalBy}
 use Rattle.prims.specs.Moments.{IsAsFound}
 use Rattle.prims.specs.Vlx.Known.{HasFoundFirst}
 use Rattle.arena.specs.declared.fault.Resource.TheVariants.{Scx as ScxRecords}
+use Rattle.planting.specs.Plantings.{PlantingView}
 use Rattle.forest.specs.TableRule.{history_of}
 use Rattle.forest.specs.Traces.{rows_of}
 use Rattle.forest.specs.Shares.{IsBetweenCalls, entries_of}
@@ -20,6 +21,8 @@ use Rattle.forest.specs.Shares.{IsBetweenCalls, entries_of}
 pub record PassView : Type 0 where
   pub table : TableId
   pub layout : Layout
+  -- what was planted in the table
+  pub planting : PlantingView
   pub number : ℕ
   pub share : Remaining
   -- the run up to its own last step, newest row first
@@ -30,7 +33,7 @@ pub record PassView : Type 0 where
 
 -- the run that the pass knows
 abbrev pub run_of : PassView → History
-run_of p = history_of p.layout.mode p.known
+run_of p = history_of p.planting p.known
 
 -- the pass's seen list: the log of the run that it knows, the newest entry first
 abbrev pub seen_of : PassView → List Entry
@@ -48,11 +51,12 @@ steps_of p = rows_of p.number p.known
 pub record Ground : Type 0 where
   pub table : TableId
   pub layout : Layout
+  pub planting : PlantingView
   pub tries : ℕ
 
--- the forest of this table and layout, whose calls make at most this many tries
-abbrev pub ground : TableId → Layout → ℕ → Ground
-ground table lay tries = record { table = table; layout = lay; tries = tries }
+-- the forest of this table and layout, planted so, whose calls make at most this many tries
+abbrev pub ground : TableId → Layout → PlantingView → ℕ → Ground
+ground table lay planting tries = record { table = table; layout = lay; planting = planting; tries = tries }
 
 -- the pass is of this table and layout
 abbrev pub IsOn : TableId → Layout → PassView → Type 0
@@ -284,7 +288,7 @@ HaveLeftShares passes = All (λ p. All (λ q. All (λ s. ¬ HasScx q.share s) p.
 
 -- pass c of the forest before its first step: it has its whole share and knows nothing
 abbrev pub new_pass : Ground → ℕ → PassView
-new_pass f c = record { table = f.table; layout = f.layout; number = c; share = whole_share f.layout c; known = []; blamed = [] }
+new_pass f c = record { table = f.table; layout = f.layout; planting = f.planting; number = c; share = whole_share f.layout c; known = []; blamed = [] }
 
 -- these are all passes of the forest, in order, before their first steps
 pub record AreNew (f : Ground) (passes : List PassView) : Type 0 where
@@ -301,21 +305,22 @@ HasPass passes n = Contains (map (λ (p : PassView). p.number) passes) n
 abbrev pub AreAllBack : Layout → List PassView → Type 0
 AreAllBack lay passes = (n : ℕ) → n < lay.passes → HasPass passes n
 
--- these rows extend what each pass knew, by one row of its own, which is a look at the table;
+-- these rows, in a table that is planted so, extend what each pass knew, by one row of its own, which is a look at the table;
 -- its entries in them are those of its done list
-abbrev pub AreBegun : List PassView → List Row → Type 0
-AreBegun [] rows = Unit {0}
-AreBegun (p ∷ ps) rows = Extends (history_of p.layout.mode rows) (run_of p) × (entries_of p.number (log p.layout (history_of p.layout.mode rows)) ≡ done_of p) × (rows_of p.number rows ≡ suc (steps_of p)) × HoldsOfOwn IsLook p.number (run_of p) (history_of p.layout.mode rows) × AreBegun ps rows
+abbrev pub AreBegun : List PassView → PlantingView → List Row → Type 0
+AreBegun [] planting rows = Unit {0}
+AreBegun (p ∷ ps) planting rows = Extends (history_of planting rows) (run_of p) × (entries_of p.number (log p.layout (history_of planting rows)) ≡ done_of p) × (rows_of p.number rows ≡ suc (steps_of p)) × HoldsOfOwn IsLook p.number (run_of p) (history_of planting rows) × AreBegun ps planting rows
 
 -- The forest of this layout has ended: its words are those of one run, which extends what
 -- these passes knew.
 pub record IsClosed (allows : Layout → History → ℕ → Type 0) (lay : Layout) (passes : List PassView) (words : Contents) : Type 0 where
   pub layout : words.layout ≡ lay
+  pub planting : PlantingView
   pub rows : List Row
-  pub sound : IsRun allows lay (history_of lay.mode rows)
-  pub holds : (w : Word) → IsWord lay w → word_at words w ≡ value (history_of lay.mode rows) w
+  pub sound : IsRun allows lay (history_of planting rows)
+  pub holds : (w : Word) → IsWord lay w → word_at words w ≡ value (history_of planting rows) w
   -- the fields are what the log of the run says
-  pub fields : (n : ℕ) (side : Side) → n < all_nodes lay → word_at words (child n side) ≡ fields lay (history_of lay.mode rows) n side
-  pub begun : AreBegun passes rows
+  pub fields : (n : ℕ) (side : Side) → n < all_nodes lay → word_at words (child n side) ≡ fields lay (history_of planting rows) n side
+  pub begun : AreBegun passes planting rows
   -- no share still holds an SCX-record that a pass has blamed
   pub blamed : HaveLeftShares passes

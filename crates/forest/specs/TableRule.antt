@@ -4,19 +4,21 @@ use mathlib.Core.Option.{some}
 use lib.ListN.{get_elem?}
 use Rattle.atomic_table.specs.Seated.{TableId}
 use Rattle.atomic_table.specs.Table.{State}
-use Rattle.histories.specs.Common.{Mode, Layout, Settled, Head, Word, LoadSettled, Load, Row, place, table_size, IsWord, node, word_after, History, Start, ◌⊳◌, value, IsRun, IsTold}
+use Rattle.histories.specs.Common.{Layout, Settled, Head, Word, LoadSettled, Load, Row, place, table_size, IsWord, node, word_after, History, Opened, ◌⊳◌, value, IsRun, IsTold}
+use Rattle.planting.specs.Plantings.{PlantingView, opening_of}
 use Rattle.forest.specs.declared.rule.CallStep.{CallStep}
+use Rattle.forest.specs.declared.rule.Plot.{Plot}
 use Rattle.forest.specs.declared.view.SeatedPass.{SeatedPass}
 use Rattle.forest.specs.declared.view.SeatView.{SeatView}
 
--- the history that these rows make, the newest first
-abbrev pub history_of : Mode → List Row → History
-history_of mode [] = Start mode
-history_of mode (r ∷ rs) = r ⊳ history_of mode rs
+-- the history that these rows make, the newest first, where this is planted
+abbrev pub history_of : PlantingView → List Row → History
+history_of planting [] = Opened (opening_of planting)
+history_of planting (r ∷ rs) = r ⊳ history_of planting rs
 
--- the pass of this number, which knows these rows
-abbrev pub seated_pass : ℕ → Layout → List Row → SeatedPass
-seated_pass n lay rows = record { number = record { 0 = n }; layout = lay; known = rows }
+-- the pass of this number in a table that is planted so, which knows these rows
+abbrev pub seated_pass : ℕ → Layout → PlantingView → List Row → SeatedPass
+seated_pass n lay planting rows = record { number = record { 0 = n }; layout = lay; planting = planting; known = rows }
 
 -- what a seat knows that has these passes
 abbrev pub seat_view : List SeatedPass → SeatView
@@ -36,27 +38,31 @@ abbrev pub Absent : ℕ → List SeatedPass → Type 0
 Absent n [] = Unit {0}
 Absent n (p ∷ ps) = (p.number.0 ≢ n) × Absent n ps
 
+-- the layout and the planting of a pass's table
+abbrev pub plot_of : SeatedPass → Plot
+plot_of p = record { layout = p.layout; planting = p.planting }
+
 -- each of these passes is of this seat alone, and knows a beginning of the run
-abbrev pub Owns : Layout → List Row → (ℕ → ℕ) → ℕ → List SeatedPass → Type 0
-Owns lay run owner id [] = Unit {0}
-Owns lay run owner id (p ∷ ps) = (owner p.number.0 ≡ id) × (p.layout ≡ lay) × Behind run p × Absent p.number.0 ps × Owns lay run owner id ps
+abbrev pub Owns : Plot → List Row → (ℕ → ℕ) → ℕ → List SeatedPass → Type 0
+Owns plot run owner id [] = Unit {0}
+Owns plot run owner id (p ∷ ps) = (owner p.number.0 ≡ id) × (plot_of p ≡ plot) × Behind run p × Absent p.number.0 ps × Owns plot run owner id ps
 
 -- the rule of the table: some lawful run has left the words as they are
-pub record TableIsLawful (allows : Layout → History → ℕ → Type 0) (lay : Layout) (s : State ℕ SeatView) : Type 0 where
+pub record TableIsLawful (allows : Layout → History → ℕ → Type 0) (plot : Plot) (s : State ℕ SeatView) : Type 0 where
   pub run : List Row
-  pub size : length s.words ≡ table_size lay
-  pub holds : (w : Word) → IsWord lay w → slice_index s.words (place lay w) ≡ value (history_of lay.mode run) w
-  pub sound : IsRun allows lay (history_of lay.mode run)
+  pub size : length s.words ≡ table_size plot.layout
+  pub holds : (w : Word) → IsWord plot.layout w → slice_index s.words (place plot.layout w) ≡ value (history_of plot.planting run) w
+  pub sound : IsRun allows plot.layout (history_of plot.planting run)
   -- each pass is of one seat, and knows a beginning of
   -- the run, after which are rows of others alone
   pub owner : ℕ → ℕ
-  pub passes : (id : ℕ) (v : SeatView) → get_elem? s.views id ≡ some v → Owns lay run owner id v.passes
+  pub passes : (id : ℕ) (v : SeatView) → get_elem? s.views id ≡ some v → Owns plot run owner id v.passes
 
 -- Steps
 
 -- the run that a pass knows, and after it these rows of others
 abbrev pub past_of : SeatedPass → List Row → History
-past_of p others = history_of p.layout.mode (others ++ p.known)
+past_of p others = history_of p.planting (others ++ p.known)
 
 -- the row that a step of pass c leaves when it is made after the history
 abbrev pub row : ℕ → CallStep → History → Row
@@ -76,7 +82,7 @@ pub record Made (allows : Layout → History → ℕ → Type 0) (said : CallSte
   pub before : IsRun allows pass.layout (past_of pass others)
   pub after : IsRun allows pass.layout (row pass.number.0 said (past_of pass others) ⊳ past_of pass others)
   pub told : IsTold said.step.access (value (past_of pass others) said.step.word) n
-  pub is : qs ≡ seated_pass pass.number.0 pass.layout (row pass.number.0 said (past_of pass others) ∷ (others ++ pass.known)) ∷ []
+  pub is : qs ≡ seated_pass pass.number.0 pass.layout pass.planting (row pass.number.0 said (past_of pass others) ∷ (others ++ pass.known)) ∷ []
 
 -- a look at the table: a load of the head of node 0, which is of no call
 abbrev pub look : CallStep
@@ -92,17 +98,17 @@ pub record Looked (allows : Layout → History → ℕ → Type 0) (ps qs : List
   pub behind_first : Behind run first
   pub behind_second : Behind run second
   pub apart : first.number.0 ≢ second.number.0
-  pub same : second.layout ≡ first.layout
-  pub before : IsRun allows first.layout (history_of first.layout.mode run)
-  pub after : IsRun allows first.layout (row first.number.0 look (history_of first.layout.mode run) ⊳ history_of first.layout.mode run)
-  pub are : qs ≡ second ∷ seated_pass first.number.0 first.layout (row first.number.0 look (history_of first.layout.mode run) ∷ run) ∷ []
+  pub same : plot_of second ≡ plot_of first
+  pub before : IsRun allows first.layout (history_of first.planting run)
+  pub after : IsRun allows first.layout (row first.number.0 look (history_of first.planting run) ⊳ history_of first.planting run)
+  pub are : qs ≡ second ∷ seated_pass first.number.0 first.layout first.planting (row first.number.0 look (history_of first.planting run) ∷ run) ∷ []
 
 -- Dealing and joining
 
 -- n passes, numbered from `from` on, that know nothing yet
-abbrev pub new_passes : Layout → ℕ → ℕ → List SeatedPass
-new_passes lay from zero = []
-new_passes lay from (suc n) = seated_pass from lay [] ∷ new_passes lay (suc from) n
+abbrev pub new_passes : Plot → ℕ → ℕ → List SeatedPass
+new_passes plot from zero = []
+new_passes plot from (suc n) = seated_pass from plot.layout plot.planting [] ∷ new_passes plot (suc from) n
 
 -- the passes after the first
 abbrev pub rest_of : List SeatedPass → List SeatedPass
@@ -127,8 +133,8 @@ abbrev pub joined_seat : SeatView → SeatView → SeatView
 joined_seat v w = seat_view (v.passes ++ w.passes)
 
 -- the table has as many words as this layout
-abbrev pub IsTableOf : TableId → Layout → Layout → Type 0
-IsTableOf id key lay = (id.words ≡ table_size lay) × (key ≡ lay)
+abbrev pub IsTableOf : TableId → Plot → Layout → Type 0
+IsTableOf id key lay = (id.words ≡ table_size lay) × (key.layout ≡ lay)
 
 -- a word of this layout is at this place, and no other
 pub record IsPlaceOf (lay : Layout) (word : Word) (at : ℕ) : Type 0 where
@@ -146,13 +152,13 @@ pub record IsAlone (lay : Layout) (ps : List SeatedPass) : Type 0 where
 
 -- a pass that has looked at the table after this run
 abbrev pub after_look : SeatedPass → List Row → SeatedPass
-after_look p run = seated_pass p.number.0 p.layout (row p.number.0 look (history_of p.layout.mode run) ∷ run)
+after_look p run = seated_pass p.number.0 p.layout p.planting (row p.number.0 look (history_of p.planting run) ∷ run)
 
 -- the pass knew a beginning of the run, and its look is lawful after the run
 pub record HasLookedBehind (allows : Layout → History → ℕ → Type 0) (p : SeatedPass) (run : List Row) : Type 0 where
   pub behind : Behind run p
-  pub before : IsRun allows p.layout (history_of p.layout.mode run)
-  pub after : IsRun allows p.layout (row p.number.0 look (history_of p.layout.mode run) ⊳ history_of p.layout.mode run)
+  pub before : IsRun allows p.layout (history_of p.planting run)
+  pub after : IsRun allows p.layout (row p.number.0 look (history_of p.planting run) ⊳ history_of p.planting run)
 
 -- two passes have met: the second has looked after a run of which both knew a beginning
 pub record Met (allows : Layout → History → ℕ → Type 0) (ps qs new_ps new_qs : List SeatedPass) : Type 0 where
@@ -163,7 +169,7 @@ pub record Met (allows : Layout → History → ℕ → Type 0) (ps qs new_ps ne
   pub was_one : ps ≡ one ∷ []
   pub was_other : qs ≡ other ∷ []
   pub apart : one.number.0 ≢ other.number.0
-  pub same : one.layout ≡ other.layout
+  pub same : plot_of one ≡ plot_of other
   pub knew_one : Behind early one
   pub other_looked : HasLookedBehind allows other early
   -- the first has looked after a run that extends that of the second's look

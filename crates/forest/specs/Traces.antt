@@ -2,6 +2,8 @@
 use Rattle.std.specs.Prelude.{◌≡◌, ◌≢◌, ◌==◌, if◌then◌else◌, ℕ, suc, List, [], ◌∷◌, Option, Some, None}
 use Rattle.histories.specs.Common.{Layout, Row, Step, History, ◌⊳◌, Call, IsRun, MatchTurn, row_of, Turn, Ask, Done, most_taken}
 use Rattle.forest.specs.declared.view.SeatedPass.{SeatedPass}
+use Rattle.arena.specs.declared.limits.Mode.TheVariants.{Records}
+use Rattle.planting.specs.Plantings.{PlantingView, bare}
 use Rattle.forest.specs.TableRule.{history_of, seated_pass}
 
 -- how a call, begun with the machine `first`, has reached the machine m and the history h
@@ -17,10 +19,11 @@ pub data Trace {M : Type 0} (allows : Layout → History → ℕ → Type 0) (wa
 
 -- the seat has the pass of the call alone, and P holds of the run that the pass knows
 pub record HoldsForCall (allows : Layout → History → ℕ → Type 0) (ps : List SeatedPass) (c : Call) (P : History → Type 0) : Type 0 where
+  pub planting : PlantingView
   pub known : List Row
-  pub is : ps ≡ seated_pass c.pass c.layout known ∷ []
-  pub sound : IsRun allows c.layout (history_of c.layout.mode known)
-  pub so : P (history_of c.layout.mode known)
+  pub is : ps ≡ seated_pass c.pass c.layout planting known ∷ []
+  pub sound : IsRun allows c.layout (history_of planting known)
+  pub so : P (history_of planting known)
 
 -- Where a call of a machine is that began with the
 -- machine `first`, as the one pass of a seat knows it
@@ -64,7 +67,20 @@ abbrev pub weight : {A : Type 0} → Turn A → ℕ → ℕ
 weight (Ask s) n = suc n
 weight (Done a) n = 0
 
+-- what is planted in the table of the one pass of a seat
+abbrev pub planting_of : List SeatedPass → PlantingView
+planting_of [] = bare Records
+planting_of (p ∷ ps) = p.planting
+
 -- the run that the one pass of a seat knows
 abbrev pub known_of : List SeatedPass → List Row
 known_of [] = []
 known_of (p ∷ ps) = p.known
+
+-- the history of that run
+abbrev pub run_at : List SeatedPass → History
+run_at ps = history_of (planting_of ps) (known_of ps)
+
+-- a seat's one pass knows these rows, in a table that is planted so
+abbrev pub KnowsAs : List SeatedPass → PlantingView → List Row → Type 0
+KnowsAs ps planting known = (planting_of ps ≡ planting) × (known_of ps ≡ known)

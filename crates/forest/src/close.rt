@@ -74,7 +74,7 @@ impl<K: WordKey, V: WordValue, B: FixedBalance> Closed<Dict<K, V, B>> {
         ensures valid { IfOk result (λ pairs. All (IsValidPair K.is_valid V.is_valid) pairs.items) }
         ensures pairs { (lay : Layout) (passes : List PassView)
             (c : IsClosed (TypedAllows (IsWordOf K.is_valid K.word_of) (IsWordOf V.is_valid V.word_of)) lay passes self.now)
-            → IfOk result (λ pairs. Spells lay (value (history_of lay.mode c.rows)) (map (word_pair K.word_of V.word_of) pairs.items)) }
+            → IfOk result (λ pairs. Spells lay (value (history_of c.planting c.rows)) (map (word_pair K.word_of V.word_of) pairs.items)) }
     {
         match spelled(alloc, &self.plain(alloc)?)? {
             Some(pairs) => pairs_of(alloc, &pairs),

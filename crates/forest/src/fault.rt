@@ -35,6 +35,35 @@ impl From<NoMemory> for NewFault {
     }
 }
 
+/// Why no forest begins with some pairs.
+#[derive(Clone, Copy, Debug, PartialEq, Eq, Error)]
+pub enum PairsFault {
+    /// The limits are out of their ranges.
+    #[error("bad limits")]
+    Limits,
+    /// The key at this place of the pairs, counted from 0, is not above the one before it. It is
+    /// the first such place.
+    #[error("pairs out of order at {place}")]
+    Order { place: usize },
+    /// The pairs take more nodes than this: so many are there beside the shares of the passes, of
+    /// 1,048,576 in all. A tree takes two for each four pairs, a trie at most two for each pair.
+    #[error("too many pairs: room for {room} nodes")]
+    TooMany { room: u32 },
+    /// An allocation was refused.
+    #[error("no memory")]
+    NoMemory,
+}
+
+impl From<NoMemory> for PairsFault {
+    ghost use Rattle.forest.specs.declared.fault.PairsFault.{PairsFault};
+
+    ghost from_gives = { λ _ fault. fault ≡ PairsFault.NoMemory };
+
+    fn from(_none: NoMemory) -> PairsFault {
+        PairsFault::NoMemory
+    }
+}
+
 /// Why an edit was refused. It has not changed the map, and never will.
 #[derive(Clone, Copy, Debug, PartialEq, Eq, Error)]
 pub enum UpdateFault {

@@ -2,6 +2,7 @@
 #![tactic(auto)]
 
 mod balance;
+mod beginning;
 mod blamed;
 mod close;
 mod dictionary;
@@ -18,7 +19,7 @@ mod words;
 
 pub use arena::{Full, Resource};
 pub use close::Closed;
-pub use fault::{NewFault, OrderFault, UpdateFault};
+pub use fault::{NewFault, OrderFault, PairsFault, UpdateFault};
 pub use forest::Forest;
 pub use open::{OpenCall, Stepped};
 pub use pass::Pass;

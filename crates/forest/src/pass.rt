@@ -1,7 +1,11 @@
 //! What a thread needs to make calls.
 ghost use Rattle.std.specs.Prelude.{◌≡◌, ◌<◌, [], ◌∷◌};
 ghost use Rattle.arena.specs.Share.{whole_share};
+ghost use Rattle.arena.specs.History.{Opened};
+ghost use Rattle.arena.specs.Machines.{IsRun};
+ghost use Rattle.planting.specs.Plantings.{opening_of};
 ghost use Rattle.forest.specs.TableRule.{seated_pass};
+ghost use Rattle.forest.specs.Traces.{planting_of};
 ghost use Rattle.forest.specs.Passes.{PassView, taken_of};
 
 use crate::blamed::Blamed;
@@ -38,11 +42,13 @@ impl<S: Shape> Model for Pass<S> {
 impl<S: Shape> Pass<S> {
     /// A pass that has made no step, at a seat of its own.
     pub(crate) fn new(layout: &Layout, number: PassNo, seat: Seat<u8, SeatView>) -> Pass<S>
-        requires seat { (seat.me.0.passes ≡ seated_pass number.0 layout.now [] ∷ []) × (seat.me.1 ≡ []) }
+        requires seat { (seat.me.0.passes ≡ seated_pass number.0 layout.now (planting_of seat.me.0.passes) [] ∷ [])
+            × (seat.me.1 ≡ []) }
+        requires run { IsRun S.allows layout.now (Opened (opening_of (planting_of seat.me.0.passes))) }
         requires pass { number.0 < layout.now.passes }
         requires mode { layout.now.mode ≡ S.mode }
         ensures { result
-            ≡ record { table = seat.table_id; layout = layout.now; number = number.0; share = whole_share layout.now number.0; known = []; blamed = [] } }
+            ≡ record { table = seat.table_id; layout = layout.now; planting = planting_of seat.me.0.passes; number = number.0; share = whole_share layout.now number.0; known = []; blamed = [] } }
     {
         Pass {
             number,

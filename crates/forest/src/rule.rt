@@ -5,16 +5,26 @@ ghost use Rattle.forest.specs.TableRule.{TableIsLawful, Made, Looked, seat_view,
 use crate::view::SeatView;
 use arena::{Layout, Shape, Step};
 use atomic_table::{Join, Play, Split, TableRule};
+use planting::Planting;
 use std::marker::{Brand, PhantomData};
 
 /// Some lawful run leads to the words, and each pass knows a beginning of it, after which are rows
 /// of others alone.
 pub struct Lawful<S>(PhantomData<S>);
 
-impl<S: Shape> TableRule<u8, SeatView, Layout> for Lawful<S> {
-    ghost holds = { λ lay. TableIsLawful S.allows lay };
+impl<S: Shape> TableRule<u8, SeatView, Plot> for Lawful<S> {
+    ghost holds = { λ plot. TableIsLawful S.allows plot };
 
-    ghost first = { λ lay. seat_view (new_passes lay 0 lay.passes) };
+    ghost first = { λ plot. seat_view (new_passes plot 0 plot.layout.passes) };
+}
+
+/// The layout of a table, and what is planted in it.
+#[derive(Drop)]
+pub struct Plot {
+    /// The layout.
+    pub layout: Layout,
+    /// What is planted.
+    pub planting: Planting,
 }
 
 /// A step, and the number of the call that makes it.

@@ -1,13 +1,16 @@
 //! What a seat knows. No value of these types is made.
 use arena::{Layout, PassNo, Row};
+use planting::Planting;
 use std::collections::LinkedList;
 
-/// A pass, the table's layout, and the run up to the pass's own last step, newest row first.
+/// A pass, the table's layout, what was planted in it, and the run up to the pass's own last step, newest row first.
 pub struct SeatedPass {
     /// The number of the pass.
     pub number: PassNo,
     /// The layout of its table.
     pub layout: Layout,
+    /// What was planted in its table.
+    pub planting: Planting,
     /// The run up to its own last step, the newest row first.
     pub known: LinkedList<Row>,
 }

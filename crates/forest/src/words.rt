@@ -4,12 +4,15 @@
 ghost use Rattle.std.specs.Prelude.{◌≡◌, ◌<◌, ◌++◌, [], ◌∷◌, IfOk};
 ghost use Rattle.std.specs.Slots.{IsFull, slots_len, slots_items};
 ghost use Rattle.atomic_table.specs.Table.{Final, Seen};
+ghost use Rattle.arena.specs.History.{Opened};
 ghost use Rattle.arena.specs.Layout.{table_size};
+ghost use Rattle.arena.specs.Machines.{IsRun};
+ghost use Rattle.planting.specs.Plantings.{opening_of};
 ghost use Rattle.forest.specs.declared.view.SeatedPass.{SeatedPass};
 ghost use Rattle.forest.specs.Seats.{IsSeatAt, StaysAtTable};
 ghost use Rattle.forest.specs.TableRule.{IsPlaceOf, IsTableOf, TableIsLawful, MayStep, Made, Looked, new_passes, rest_of, first_of};
 
-use crate::rule::{Both, CallStep, Deal, Lawful, Looks, Makes, Says};
+use crate::rule::{Both, CallStep, Deal, Lawful, Looks, Makes, Plot, Says};
 use crate::view::SeatView;
 use arena::{Access, Layout, NoMemory, NodeNo, NodeWord, PlainWords, SettledPart, Shape, Word};
 use atomic_table::{Closed, Seat, Table};
@@ -18,24 +21,33 @@ use std::alloc::Global;
 /// A table of words under the rule that some lawful run has left them.
 #[derive(Drop)]
 pub(crate) struct Words<S: Shape> {
-    table: Table<u8, SeatView, Layout, Lawful<S>, Global>,
+    table: Table<u8, SeatView, Plot, Lawful<S>, Global>,
 }
 
 impl<S: Shape> Words<S> {
-    /// The words of a layout as they are at the start, with a seat that has all passes.
+    /// The words of a table as they are at the start, with a seat that has all passes.
     pub(crate) fn open(
         alloc: Global,
-        layout: &Layout,
+        plot: &Plot,
     ) -> Result<(Words<S>, Seat<u8, SeatView>), NoMemory>
+        requires mode { plot.now.planting.mode ≡ plot.now.layout.mode }
+        requires run { IsRun S.allows plot.now.layout (Opened (opening_of plot.now.planting)) }
+        ensures key { IfOk result (λ w. w.0.table.shared.key ≡ plot.now) }
         ensures table { IfOk result
-            (λ w. IsTableOf w.0.table.shared.table_id w.0.table.shared.key layout.now
+            (λ w. IsTableOf w.0.table.shared.table_id w.0.table.shared.key plot.now.layout
             × (w.0.table.shared.table_id.slots ≡ 0)
             × (w.1.table_id ≡ w.0.table.shared.table_id)) }
         ensures seat { IfOk result
-            (λ w. (w.1.me.0.passes ≡ new_passes layout.now 0 layout.now.passes) × (w.1.me.1 ≡ [])) }
+            (λ w. (w.1.me.0.passes ≡ new_passes plot.now 0 plot.now.layout.passes)
+            × (w.1.me.1 ≡ [])) }
     {
-        let words = PlainWords::new(alloc, layout)?;
-        let (table, seat) = Table::of_words(alloc, words.words(), layout)?;
+        if plot.planting.planted() == 0 {
+            let words = PlainWords::new(alloc, &plot.layout)?;
+            let (table, seat) = Table::of_words(alloc, words.words(), plot)?;
+            return Ok((Words { table }, seat));
+        }
+        let words = plot.planting.words(alloc, &plot.layout)?;
+        let (table, seat) = Table::of_words(alloc, &words, plot)?;
         Ok((Words { table }, seat))
     }
 
@@ -49,8 +61,8 @@ impl<S: Shape> Words<S> {
     ) -> u64
         requires said { said.now ≡ J.said }
         requires table { (seat.old.table_id ≡ self.now.table.shared.table_id)
-            × (self.now.table.shared.table_id.words ≡ table_size self.now.table.shared.key) }
-        requires place { IsPlaceOf self.now.table.shared.key said.now.step.word at }
+            × (self.now.table.shared.table_id.words ≡ table_size self.now.table.shared.key.layout) }
+        requires place { IsPlaceOf self.now.table.shared.key.layout said.now.step.word at }
         requires may { (p : SeatedPass) × (seat.old.me.0.passes ≡ p ∷ [])
             × MayStep S.allows said.now p }
         ensures table { StaysAtTable seat.old seat.new }

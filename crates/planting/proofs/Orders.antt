@@ -1,16 +1,10 @@
 -- Pairs rise where each key is above the one before.
-use Rattle.std.proofs.Common.{◌≡◌, ℕ, suc, ◌+◌, ◌-◌, ◌<◌, ◌≤◌, List, [], ◌∷◌, length, slice_index_or, ap, arith}
+use Rattle.std.proofs.Common.{◌≡◌, ℕ, suc, ◌+◌, ◌-◌, ◌<◌, ◌≤◌, List, [], ◌∷◌, length, ap, arith}
 use native.Mathlib.Decide.{dec_lt}
 use Rattle.ordered_map.specs.declared.pair.Pair.{Pair}
 use Rattle.ordered_map.specs.OrderedMap.{pair, AllAbove, IsRising}
+use Rattle.planting.specs.Orders.{key_at, AreStepsUp}
 use Rattle.planting.proofs.Parts.{rising_at}
-
-abbrev pub key_at : List Pair → ℕ → ℕ
-key_at ps i = (slice_index_or ps i (pair 0 0)).key
-
--- each of the first `at` keys is above the one before
-abbrev pub AreStepsUp : List Pair → ℕ → Type 0
-AreStepsUp ps at = (i : ℕ) → suc i < at → suc i < length ps → key_at ps i < key_at ps (suc i)
 
 -- one more
 pub steps_more : (ps : List Pair) (at : ℕ) → AreStepsUp ps at → 1 ≤ at → key_at ps (at - 1) < key_at ps at → AreStepsUp ps (at + 1)

@@ -134,6 +134,7 @@ module _ (ps : List Pair) (i key here : ℕ) (d : Pair) (many : 4 < length ps) (
     below = before;
     from = behind;
     fits = (let most = are_parted.fork.deep in omega (arith, most));
+    full = λ is. absurd (let z : true ≡ false = is in cc);
     in_tree = λ is. absurd (let z : true ≡ false = is in cc);
     in_trie = λ _. record {
       first = first;

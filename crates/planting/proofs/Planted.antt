@@ -165,7 +165,9 @@ module _ (mode : Mode) (is : IsMap mode) (b : Bool) (is_trie : mode ≡ TrieMode
     forks = λ trie. crown_forks b (value h) ps tall many x grove small root_is first_is last_is crown_is (is_trie (sym m ∙ trie));
   }
 
--- what begins so, where there are nodes
+min_first : (a b : ℕ) → min a b ≤ a
+min_first a b = omega arith
+
 -- where there are nodes, it begins so
 abbrev BeginsSo : (mode : Mode) → IsMap mode → List Pair → Type 0
 BeginsSo mode is ps = (row : List Piece) (p : Piece) → planted_as mode ps (row ++ p ∷ []) ≡ planted_opening mode is ps (row ++ p ∷ [])
@@ -185,6 +187,9 @@ planting mode is b trie tree ps nodes begins g small = subst (λ ns. IsPlantingO
   view_mode = refl;
   pairs_are = ap (λ (o : Opening). pairs_of o.pairs) same ∙ pairs_back ps;
   few = let n = nodes_count mode is b trie tree ps g.row g.top g.grown small some in let e = g.grown.few in omega (arith, n, e);
+  enough = let n = nodes_count mode is b trie tree ps g.row g.top g.grown small some in let e = g.grown.enough in omega (arith, n, e);
+  full = λ m. let n = nodes_count mode is b trie tree ps g.row g.top g.grown small some in n ∙ g.grown.full (tree m);
+  balanced = λ _. subst (λ (o : Opening). o.deep ≤ suc (height (length ps))) (sym same) (min_first (suc (height (length ps))) (length (g.row ++ crown_piece g.top ∷ [])));
   planted = ap (λ (o : Opening). o.planted) same;
   opens = inr (λ lay m. subst (λ (o : Opening). IsPlanted lay (Opened o) 0) (sym same) (planted mode is b trie tree ps g.row g.top g.grown small some lay m));
 }
@@ -207,5 +212,5 @@ planting_of false ps nodes g small = planting TreeMode refl false (λ e. absurd 
 
 -- no pairs are those of an empty map
 pub bare_planting : (mode : Mode) (ps : List Pair) → length ps ≡ 0 → IsPlantingOf mode ps (bare mode)
-bare_planting mode [] e = record { mode_is = refl; view_mode = refl; pairs_are = refl; few = omega arith; planted = refl; opens = inl refl }
+bare_planting mode [] e = record { mode_is = refl; view_mode = refl; pairs_are = refl; few = omega arith; enough = omega (arith, e); full = λ _. refl; balanced = λ _. omega arith; planted = refl; opens = inl refl }
 bare_planting mode (p ∷ ps) e = absurd (omega (arith, e))

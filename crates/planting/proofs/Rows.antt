@@ -37,6 +37,7 @@ leaf_grown trie (p ∷ ps) deep old some four rises small fits = record {
   is = refl;
   few = omega arith;
   enough = omega (arith, four);
+  full = λ _. omega (arith, four);
   last = let e = length-append old (Leaf (leaf_level trie deep) 0 (p ∷ ps) ∷ []) in omega (arith, e);
   names = (omega arith, omega arith, tt);
   grove = λ h tall w _. leaf_grove trie (value h) (3 + length old) deep (leaf_level trie deep) tall p ps (leaf_with h (3 + length old) (leaf_level trie deep) (leaf_level trie deep) 0 (p ∷ ps) refl (fits_leaf trie) (omega arith) w.0 some four) rises small (λ is. ap (λ t. leaf_level t deep) is) (λ is. ap (λ t. leaf_level t deep) is);
@@ -109,6 +110,7 @@ module _ (trie : Bool) (ps : List Pair) (deep middle key here : ℕ) (old row ro
     is = ap (λ r. r ++ top_piece ∷ []) (right.is ∙ ap (λ r. r ++ right.more) left.is) ∙ append_assoc (old ++ left.more) right.more (top_piece ∷ []) ∙ append_assoc old left.more (right.more ++ top_piece ∷ []);
     few = let e = more_is in let l = left.few in let r = right.few in let lo = low_is in let hi = high_is in let less = p.less in omega (arith, e, l, r, lo, hi, less);
     enough = let e = more_is in let l = left.enough in let r = right.enough in let lo = low_is in let hi = high_is in let less = p.less in omega (arith, e, l, r, lo, hi, less);
+    full = λ is. let e = more_is in let l = left.full is in let r = right.full is in let lo = low_is in let hi = high_is in let less = p.less in let q = p.full is in omega (arith, e, l, r, lo, hi, less, q);
     last = let e = all_is in omega (arith, e);
     names = let e = all_is in let r = row_is in let r' = row'_is in let lx = left.last in let ly = right.last in
         names_both (3 + length (row' ++ top_piece ∷ [])) left.more (right.more ++ top_piece ∷ [])
@@ -132,6 +134,7 @@ grown_as trie ps deep old new new' top top' g e f = record {
   is = e ∙ g.is;
   few = g.few;
   enough = g.enough;
+  full = g.full;
   last = ap suc f ∙ g.last ∙ ap (λ r. 3 + length r) (sym e);
   names = subst (λ r. NamesBelow (3 + length r) g.more) (sym e) g.names;
   grove = λ h tall w s. subst (λ n. IsGrove trie (value h) ps deep tall (3 + length old) (length g.more) n) (sym f) (g.grove h tall w s);

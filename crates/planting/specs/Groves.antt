@@ -1,5 +1,5 @@
 -- Part of a tree that is planted: nodes in a row that show the pairs of a list.
-use Rattle.std.specs.Prelude.{◌≡◌, ℕ, suc, ◌+◌, ◌*◌, ◌^◌, ◌<◌, ◌≤◌, Bool, true, false, List, [], ◌∷◌, ◌++◌, length, take, drop}
+use Rattle.std.specs.Prelude.{◌≡◌, ℕ, suc, ◌+◌, ◌*◌, ◌/◌, ◌^◌, ◌<◌, ◌≤◌, Bool, true, false, List, [], ◌∷◌, ◌++◌, length, take, drop}
 use Rattle.histories.specs.Common.{Side, Left, Right, Word, Child, History, value}
 use Rattle.edits.specs.declared.piece.Piece.{Piece}
 use Rattle.edits.specs.Laws.PieceFills.{HoldsWords}
@@ -36,14 +36,15 @@ pub record IsParting (ls rs : List Pair) (key deep : ℕ) : Type 0 where
   pub between : (lo hi : ℕ) → AllFrom lo (ls ++ rs) → AllBelow hi (ls ++ rs) → (lo ≤ first) × (first < hi) × (lo ≤ last) × (last < hi)
 
 -- Where pairs are parted by a fork with this key, on this level: those before the place `middle` are
--- below it. In a tree they are halved, on the level that is asked for; in a trie the fork is the one
--- between the first and the last of them.
+-- below it. In a tree they are halved, those below it into full leaves, on the level that is asked
+-- for; in a trie the fork is the one between the first and the last of them.
 pub record IsPartedAt (trie : Bool) (ps : List Pair) (deep middle key here : ℕ) : Type 0 where
   pub some : 0 < middle
   pub less : middle < length ps
   pub below : AllBelow key (take middle ps)
   pub from : AllFrom key (drop middle ps)
   pub fits : here ≤ deep + 65
+  pub full : trie ≡ false → middle ≡ 4 * (middle / 4)
   pub in_tree : trie ≡ false → (here ≡ deep) × ((t : ℕ) → length ps ≤ 4 * 2 ^ suc t → (middle ≤ 4 * 2 ^ t) × (length ps ≤ middle + 4 * 2 ^ t))
   pub in_trie : trie ≡ true → IsParting (take middle ps) (drop middle ps) key here
 
@@ -59,12 +60,14 @@ NamesBelow most (p ∷ ps) = (word_of p (Child Left) < most) × (word_of p (Chil
 
 -- Nodes for these pairs were added to the row, which begins at node 3, the top as the last: whatever
 -- holds them shows the pairs. In a tree of n pairs no leaf is more than k levels below the top if n is
--- at most 4 times 2 ^ k.
+-- at most 4 times 2 ^ k, and all leaves but the last are full: there are as few as can be, and a fork
+-- less.
 pub record HasGrown (trie : Bool) (ps : List Pair) (deep : ℕ) (old new : List Piece) (top : ℕ) : Type 0 where
   pub more : List Piece
   pub is : new ≡ old ++ more
   pub few : length more < 2 * length ps
   pub enough : length ps ≤ 4 * length more
+  pub full : trie ≡ false → length more + 1 ≡ 2 * ((length ps + 3) / 4)
   pub last : suc top ≡ 3 + length new
   pub names : NamesBelow (3 + length new) more
   pub grove : (h : History) (tall : ℕ) → HoldsRow h (3 + length old) more → (trie ≡ false → length ps ≤ 4 * 2 ^ tall) → IsGrove trie (value h) ps deep tall (3 + length old) (length more) top

@@ -1,3 +1,4 @@
 pub mod Groves
 pub mod Plantings
 pub mod Places
+pub mod Orders

@@ -1,5 +1,5 @@
 -- How a map's table begins that is planted with its first pairs.
-use Rattle.std.proofs.Common.{◌≡◌, ℕ, zero, suc, ◌+◌, ◌*◌, ◌<◌, ◌≤◌, ◌⊎◌, min, nat_lt, Bool, true, false, if◌then◌else◌, List, [], ◌∷◌, ◌++◌, length, refl, sym, ◌∙◌, ap, arith, lt-ltb, le-ltb}
+use Rattle.std.proofs.Common.{◌≡◌, ℕ, zero, suc, ◌+◌, ◌*◌, ◌/◌, ◌<◌, ◌≤◌, ◌⊎◌, min, nat_lt, Bool, true, false, if◌then◌else◌, List, [], ◌∷◌, ◌++◌, length, refl, sym, ◌∙◌, ap, arith, lt-ltb, le-ltb}
 use Rattle.std.proofs.Math.Decide.{dec_lt}
 use Rattle.arena.specs.declared.limits.Mode.{Mode}
 use Rattle.arena.specs.declared.limits.Mode.TheVariants.{Tree, Trie, Records}
@@ -154,11 +154,15 @@ pub record IsGrownOver (trie : Bool) (pairs : List Pair) (nodes : List Piece) : 
   pub is : nodes ≡ row ++ crown_piece top ∷ []
 
 -- These pairs are planted in a table of this mode. It begins empty or as a map may begin, and its
--- pairs are these.
+-- pairs are these. A tree has a node for each leaf and for each fork, one of which is above all keys:
+-- so all leaves but the last are full; and none is deeper than where each fork parts them evenly.
 pub record IsPlantingOf (mode : Mode) (pairs : List Pair) (p : PlantingView) : Type 0 where
   pub mode_is : (opening_of p).mode ≡ mode
   pub view_mode : p.mode ≡ mode
   pub pairs_are : first_pairs (Opened (opening_of p)) ≡ pairs
   pub few : length p.nodes ≤ 2 * length pairs
+  pub enough : length pairs ≤ 4 * length p.nodes
+  pub full : mode ≡ Tree → length p.nodes ≡ 2 * ((length pairs + 3) / 4)
+  pub balanced : mode ≡ Tree → (opening_of p).deep ≤ suc (height (length pairs))
   pub planted : (opening_of p).planted ≡ length p.nodes
   pub opens : (opening_of p ≡ empty mode) ⊎ ((lay : Layout) → lay.mode ≡ mode → IsPlanted lay (Opened (opening_of p)) 0)

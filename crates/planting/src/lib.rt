@@ -9,6 +9,6 @@ mod planting;
 mod room;
 mod trees;
 
-pub use order::is_rising;
+pub use order::first_fall;
 pub use planting::Planting;
 pub use room::with_room;

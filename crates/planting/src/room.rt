@@ -1,11 +1,11 @@
 //! Room for what is planted.
-ghost use Rattle.std.specs.Prelude.{◌≡◌, ◌≤◌, IfSome};
+ghost use Rattle.std.specs.Prelude.{◌≡◌, ◌+◌, ◌*◌, ◌<◌, ◌≤◌, IfSome, IsNone};
 ghost use Rattle.arena.specs.Layout.{IsMap};
 
 use arena::{Layout, Limits};
 
 /// This layout with room for so many planted nodes, or for up to 31 more: none, if there were more
-/// than a million nodes in all.
+/// than 1,048,576 nodes beside the three of an empty map.
 pub fn with_room(layout: &Layout, planted: u32) -> Option<Layout>
     requires map { IsMap layout.now.mode }
     requires none { layout.now.planted ≡ 0 }
@@ -13,7 +13,8 @@ pub fn with_room(layout: &Layout, planted: u32) -> Option<Layout>
     ensures mode { IfSome result (λ l. l.mode ≡ layout.now.mode) }
     ensures shares { IfSome result (λ l. (l.passes ≡ layout.now.passes)
         × (l.nodes ≡ layout.now.nodes) × (l.scx ≡ layout.now.scx)) }
-    ensures room { IfSome result (λ l. planted ≤ l.planted) }
+    ensures room { IfSome result (λ l. (planted ≤ l.planted) × (l.planted < planted + 32)) }
+    ensures full { IsNone result → 1048576 < planted + layout.now.passes * layout.now.nodes }
 {
     let shares = layout.passes * layout.nodes;
     let wide = Limits {

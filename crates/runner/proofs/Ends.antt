@@ -11,6 +11,7 @@ use Rattle.ordered_map.proofs.MapLemmas.{log_edits, spells_log}
 use Rattle.arena.proofs.Lemmas.{ends_self}
 use Rattle.dict.specs.Laws.TypedMaps.{typed_run}
 use Rattle.template.specs.Balance.{map_mode}
+use Rattle.planting.specs.Plantings.{PlantingView}
 use Rattle.forest.specs.TableRule.{history_of}
 use Rattle.forest.specs.Passes.{Ground, PassView, AreNew, AreBegun, HoldsOfOwn, IsClosed, IsLook, new_pass, run_of, done_of}
 use Rattle.forest.specs.Shares.{entries_of}
@@ -27,21 +28,21 @@ of_map true mode is = rw is (search rules)
 of_map false mode is = rw is (search rules)
 
 -- what is said of a pass that is back, of a run of these rows
-record IsBackIn (rows : List Row) (p : PassView) : Type 0 where
-  within : Extends (history_of p.layout.mode rows) (run_of p)
-  entries : entries_of p.number (log p.layout (history_of p.layout.mode rows)) ≡ done_of p
-  looks : HoldsOfOwn IsLook p.number (run_of p) (history_of p.layout.mode rows)
+record IsBackIn (run : History) (p : PassView) : Type 0 where
+  within : Extends run (run_of p)
+  entries : entries_of p.number (log p.layout run) ≡ done_of p
+  looks : HoldsOfOwn IsLook p.number (run_of p) run
 
 -- so it is of each, at its place
-back_at : (rows : List Row) (ps : List PassView) (c : ℕ) (p : PassView) → slice_get ps c ≡ Some p → AreBegun ps rows → IsBackIn rows p
-back_at rows [] c p e x = absurd (none_some p e)
-back_at rows (q ∷ ps) zero p e x = subst (IsBackIn rows) (some_same q p e) (record { within = x.0; entries = x.1; looks = x.3 })
-back_at rows (q ∷ ps) (suc c) p e x = back_at rows ps c p e x.4
+back_at : (planting : PlantingView) (rows : List Row) (ps : List PassView) (c : ℕ) (p : PassView) → slice_get ps c ≡ Some p → AreBegun ps planting rows → IsBackIn (history_of planting rows) p
+back_at planting rows [] c p e x = absurd (none_some p e)
+back_at planting rows (q ∷ ps) zero p e x = subst (IsBackIn (history_of planting rows)) (some_same q p e) (record { within = x.0; entries = x.1; looks = x.3 })
+back_at planting rows (q ∷ ps) (suc c) p e x = back_at planting rows ps c p e x.4
 
 module _ (script : Script) (f : Ground) (maps : IsMap script.layout.mode) (layout : IsLayoutOf script.limits script.layout.mode f.layout) (tries : f.tries ≡ script.limits.tries) (olds news : List PassView) (owns : List (Vec (Reply ℕ ℕ) Global)) (are_new : AreNew f olds) (worked : HaveWorked f script.calls.items olds news owns) (words : Contents) (closed : IsClosed NumbersAllow f.layout news words) where
   -- the run that the words are of
   abbrev pub whole : History
-  whole = history_of f.layout.mode closed.rows
+  whole = history_of closed.planting closed.rows
 
   map_run : IsMapRun f.layout whole
   map_run = (subst IsMap (sym layout.mode_is) maps, typed_run IsNumber IsWideNumber f.layout whole closed.sound)
@@ -67,16 +68,16 @@ module _ (script : Script) (f : Ground) (maps : IsMap script.layout.mode) (layou
       let old : w.old ≡ new_pass f c = are_new.each c w.old w.was in
       let lay : w.new.layout ≡ f.layout = w.worked.of_forest.1 in
       let number : w.new.number ≡ c = w.worked.number ∙ ap (λ (p : PassView). p.number) old in
-      let end : IsBackIn closed.rows w.new = back_at closed.rows news c w.new w.is closed.begun in
-      let within : Extends whole (run_of w.new) = subst (λ (l : Layout). Extends (history_of l.mode closed.rows) (run_of w.new)) lay end.within in
+      let end : IsBackIn whole w.new = back_at closed.planting closed.rows news c w.new w.is closed.begun in
+      let within : Extends whole (run_of w.new) = end.within in
       let replies = subst (λ (p : PassView). HaveReplies (HasCalledNumbers f) p (commands script.calls.items p.number) own.items w.new) old w.worked.made in
       record {
         last = w.new;
         is_last = w.is;
         stand = all_answered f whole versions are (new_pass f c) w.new (commands script.calls.items c) own.items within replies;
         within = within;
-        entries = subst (λ (l : Layout). entries_of c (log l (history_of l.mode closed.rows)) ≡ done_of w.new) lay (subst (λ n. entries_of n (log w.new.layout (history_of w.new.layout.mode closed.rows)) ≡ done_of w.new) number end.entries);
-        looks = subst (λ (l : Layout). HoldsOfOwn IsLook c (run_of w.new) (history_of l.mode closed.rows)) lay (subst (λ n. HoldsOfOwn IsLook n (run_of w.new) (history_of w.new.layout.mode closed.rows)) number end.looks);
+        entries = subst (λ (l : Layout). entries_of c (log l whole) ≡ done_of w.new) lay (subst (λ n. entries_of n (log w.new.layout whole) ≡ done_of w.new) number end.entries);
+        looks = subst (λ n. HoldsOfOwn IsLook n (run_of w.new) whole) number end.looks;
       }
 
   pub outcome : (pairs : List (ℕ × ℕ)) → Spells f.layout (value whole) (map (word_pair (λ n. n) (λ n. n)) pairs) → IsOutcome script owns pairs

@@ -17,14 +17,14 @@ use Rattle.capi.proofs.close.close_trie.Goals as goal
 module _ (f : Ground) (p : PassView) (of : IsOf f p) (words : Contents) (closed : IsClosed (TypedAllows IsNumber IsWideNumber) f.layout (p ∷ []) words) where
   -- the run at the end
   abbrev run : History
-  run = history_of f.layout.mode closed.rows
+  run = history_of closed.planting closed.rows
 
   left : (pairs : List (ℕ × ℕ)) → Spells f.layout (value run) (map (word_pair (λ k. k) (λ v. v)) pairs) → AreLeft p pairs
   left pairs spelled = record {
     run = run;
     sound = subst (λ (l : Layout). IsRun (TypedAllows IsNumber IsWideNumber) l run) (sym of.1) closed.sound;
-    goes_on = subst (λ (l : Layout). Extends (history_of l.mode closed.rows) (run_of p)) of.1 closed.begun.0;
-    done = subst (λ (l : Layout). entries_of p.number (log p.layout (history_of l.mode closed.rows)) ≡ done_of p) of.1 closed.begun.1;
+    goes_on = closed.begun.0;
+    done = closed.begun.1;
     spelled = subst (λ (l : Layout). Spells l (value run) (map (word_pair (λ k. k) (λ v. v)) pairs)) (sym of.1) spelled;
   }
 

@@ -15,6 +15,7 @@ returns c =
       below = take_below ps m (pair 0 0) c.requires.rising inside;
       from = drop_from ps m (pair 0 0) c.requires.rising inside;
       fits = omega arith;
+      full = λ _. omega arith;
       in_tree = λ _. (refl, λ t few. let twice = pow-suc 2 t in (omega (arith, few, twice), omega (arith, few, twice)));
       in_trie = λ is. absurd (let z : false ≡ true = is in cc);
     }

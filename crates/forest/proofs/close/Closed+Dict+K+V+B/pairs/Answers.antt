@@ -25,7 +25,7 @@ if_ok (Err b) P Q f x = x
 
 module _ (keys values : ℕ → Type 0) (words copy : Contents) (map : IsMap words.layout.mode) (layout : copy.layout ≡ words.layout) (copied : AreCopied words copy (all_nodes words.layout)) (lay : Layout) (passes : List PassView) (c : IsClosed (TypedAllows keys values) lay passes words) where
   abbrev run : History
-  run = history_of lay.mode c.rows
+  run = history_of c.planting c.rows
 
   map_there : IsMap lay.mode
   map_there = subst (λ (l : Layout). IsMap l.mode) c.layout map
@@ -50,7 +50,7 @@ returns-in-Some-clause-pairs g c = λ lay passes x.
     let m = map_of keys values c.args.self.now copy map c.in_ok-plain.ensures.layout c.in_ok-plain.ensures.copied lay passes x in
     let spelled = one_spelling copy.layout (word_at copy) c.in-Some.pairs.items m.0 (rw c.in-Some.is at c.in_ok-pairs.ensures.spells) (copy_is keys values c.args.self.now copy map c.in_ok-plain.ensures.layout c.in_ok-plain.ensures.copied lay passes x) in
     let items : c.deref.result.now ≡ m.0 = let d = c.deref.ensures in cc in
-    if_ok c.pairs_of.result _ _ (λ ps z. subst (Spells lay (value (history_of lay.mode x.rows))) (sym items ∙ sym (z.words_are (subst (AreTyped keys values) (sym items) (typed keys values c.args.self.now copy map c.in_ok-plain.ensures.layout c.in_ok-plain.ensures.copied lay passes x)))) m.1) c.pairs_of.ensures
+    if_ok c.pairs_of.result _ _ (λ ps z. subst (Spells lay (value (history_of x.planting x.rows))) (sym items ∙ sym (z.words_are (subst (AreTyped keys values) (sym items) (typed keys values c.args.self.now copy map c.in_ok-plain.ensures.layout c.in_ok-plain.ensures.copied lay passes x)))) m.1) c.pairs_of.ensures
 
 pub returns-clause-pairs : goal.returns-clause-pairs
 returns-clause-pairs g c = λ lay passes x.

@@ -4,7 +4,7 @@ use Rattle.ordered_map.specs.Requests.{as_map_call}
 use Rattle.forest.specs.Passes.{taken_of}
 use Rattle.forest.specs.PassInvariant.{pass_view}
 use Rattle.forest.specs.StraightCalls.{CallHasEnded}
-use Rattle.forest.specs.Traces.{known_of}
+use Rattle.forest.specs.Traces.{known_of, planting_of}
 use Rattle.forest.specs.declared.view.SeatView.{SeatView}
 use Rattle.forest.proofs.DictCalls.{read_starts}
 use Rattle.forest.proofs.Passes.{layout_of, call_of}
@@ -37,4 +37,4 @@ returns g c =
     rw (← c.pass.view_is, ← c.self.view_is)
     (whole_call g.K.WordKey.is_valid g.K.WordKey.word_of g.V.WordValue.is_valid g.V.WordValue.word_of (g.B.Balance.trie g.B.FixedBalance.the) c.pass.inside c.pass.invariant c.read-reply.new.seat e.first e.last c.read-reply.result e.ends c.pass.inside.share c.note_reply.new.self e.is_left c.note_reply.ensures
     _ (rw (← c.pass.view_is, ← c.self.view_is) at c.requires.pass) _ (same.0 ∙ e.fresh.is_call) (same.1 ∙ e.fresh.has_tries) c.read-reply.ensures.table.0 c.read-reply.ensures.steps
-    (λ none. ap (λ (k : Seat ℕ SeatView). known_of k.me.0.passes) (c.read-reply.ensures.nothing none)))
+    (λ none. let same = c.read-reply.ensures.nothing none in (ap (λ (k : Seat ℕ SeatView). planting_of k.me.0.passes) same, ap (λ (k : Seat ℕ SeatView). known_of k.me.0.passes) same)))

@@ -1,15 +1,25 @@
-use Rattle.std.proofs.Common.{refl}
+use Rattle.std.proofs.Common.{◌≡◌, [], sym, ap, subst}
+use Rattle.arena.specs.Share.{whole_share}
+use Rattle.histories.specs.Common.{Opened, IsRun}
+use Rattle.planting.specs.Plantings.{opening_of}
+use Rattle.forest.specs.Shares.{IsBetweenCalls}
+use Rattle.forest.specs.TableRule.{history_of}
+use Rattle.forest.specs.Traces.{known_of, planting_of, run_at}
+use Rattle.forest.proofs.Advances.{seat_back}
 use Rattle.forest.proofs.Blames.{blamed_nobody}
-use Rattle.forest.proofs.Passes.{begins_at_rest, begins_sound}
+use Rattle.forest.proofs.Passes.{begins_at_rest}
 use Rattle.forest.proofs.pass.Pass.new.Goals as goal
 
 pub invariant_of-result : goal.invariant_of-result
 invariant_of-result g c = record {
-  seat = rw c.requires.seat.0 refl;
+  seat = seat_back c.args.seat.me.0.passes c.args.number.0 c.args.layout.now (planting_of c.args.seat.me.0.passes) [] c.requires.seat.0;
   bare = c.requires.seat.1;
   is_mode = c.requires.mode;
   is_pass = c.requires.pass;
-  sound = rw c.requires.seat.0 (begins_sound g.S.Shape.allows c.args.layout.now);
-  rest = rw (c.requires.seat.0, c.of.ensures.whole) (begins_at_rest c.args.layout.now c.args.number.0);
+  sound = subst (IsRun g.S.Shape.allows c.args.layout.now) (sym begins) c.requires.run;
+  rest = rw c.of.ensures.whole (subst (λ h. IsBetweenCalls c.args.layout.now c.args.number.0 h (whole_share c.args.layout.now c.args.number.0)) (sym begins) (begins_at_rest c.args.layout.now (opening_of (planting_of c.args.seat.me.0.passes)) c.args.number.0 c.requires.run.lawful));
   blamed = blamed_nobody _ c.new.ensures;
 }
+  where
+    begins : run_at c.args.seat.me.0.passes ≡ Opened (opening_of (planting_of c.args.seat.me.0.passes))
+    begins = ap (λ rows. history_of (planting_of c.args.seat.me.0.passes) rows) (ap known_of c.requires.seat.0)

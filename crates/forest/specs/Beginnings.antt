@@ -1,0 +1,56 @@
+-- What is said of forests that begin with pairs.
+use Rattle.std.specs.Prelude.{◌≡◌, ◌+◌, ◌*◌, ◌/◌, ◌<◌, ◌≤◌, ℕ, suc, Bool, false, List, length}
+use Rattle.arena.specs.declared.limits.Limits.{Limits}
+use Rattle.histories.specs.Common.{Mode, Tree, Layout, History, Opened, value}
+use Rattle.ordered_map.specs.declared.pair.Pair.{Pair}
+use Rattle.ordered_map.specs.Planted.{IsPlanted, first_pairs}
+use Rattle.ordered_map.specs.Spelled.{Spells}
+use Rattle.planting.specs.Orders.{FallsFirstAt}
+use Rattle.planting.specs.Plantings.{IsPlantingOf, height, opening_of}
+use Rattle.forest.specs.declared.fault.PairsFault.{PairsFault}
+use Rattle.forest.specs.declared.fault.PairsFault.TheVariants.{Limits as LimitsFault, Order, TooMany, NoMemory}
+use Rattle.forest.specs.declared.rule.Plot.{Plot}
+use Rattle.forest.specs.Passes.{Ground}
+
+-- the layout has these limits and is for this mode; nodes may be planted
+pub record HasLimits (limits : Limits) (mode : Mode) (lay : Layout) : Type 0 where
+  pub mode_is : lay.mode ≡ mode
+  pub passes : lay.passes ≡ limits.passes
+  pub nodes : lay.nodes ≡ limits.nodes
+  pub scx : lay.scx ≡ limits.scx
+
+-- the history of a forest as it begins, which each new pass knows
+abbrev pub start_of : Ground → History
+start_of f = Opened (opening_of f.planting)
+
+-- The forest begins with these pairs: they are its first, and its words spell them. Their nodes are
+-- beside the shares of the passes. All leaves of a tree but the last are full: it has a node for
+-- each four pairs, and as many forks. It counts as no deeper than where each fork parts its pairs
+-- evenly.
+pub record BeginsWith (f : Ground) (ps : List Pair) : Type 0 where
+  pub first : first_pairs (start_of f) ≡ ps
+  pub spelled : Spells f.layout (value (start_of f)) ps
+  pub planted : 0 < length ps → IsPlanted f.layout (start_of f) 0
+  pub few : length f.planting.nodes ≤ 2 * length ps
+  pub full : f.layout.mode ≡ Tree → length f.planting.nodes ≡ 2 * ((length ps + 3) / 4)
+  pub balanced : f.layout.mode ≡ Tree → (opening_of f.planting).deep ≤ suc (height (length ps))
+  pub room : (length f.planting.nodes ≤ f.layout.planted) × (f.layout.planted < length f.planting.nodes + 32)
+
+-- Why no forest begins with these pairs, where so many nodes are the passes' own: the keys do not
+-- rise; or the room beside those nodes is too small, in a tree for a node for each four pairs and
+-- as many forks; or an allocation was refused. The limits are a matter of their own.
+abbrev pub IsRefusedFor : Bool → ℕ → List Pair → PairsFault → Type 0
+IsRefusedFor trie shares ps LimitsFault = Unit {0}
+IsRefusedFor trie shares ps (Order place) = FallsFirstAt ps place
+IsRefusedFor trie shares ps (TooMany room) = (room + shares ≡ 1048576) × (room < 2 * length ps) × (trie ≡ false → room < 2 * ((length ps + 3) / 4))
+IsRefusedFor trie shares ps NoMemory = Unit {0}
+
+-- a table with these shares begins with these pairs
+pub record IsPlotWith (lay : Layout) (ps : List Pair) (plot : Plot) : Type 0 where
+  pub mode_is : plot.layout.mode ≡ lay.mode
+  pub passes : plot.layout.passes ≡ lay.passes
+  pub nodes : plot.layout.nodes ≡ lay.nodes
+  pub scx : plot.layout.scx ≡ lay.scx
+  pub same_mode : plot.planting.mode ≡ plot.layout.mode
+  pub planting : IsPlantingOf lay.mode ps plot.planting
+  pub room : (length plot.planting.nodes ≤ plot.layout.planted) × (plot.layout.planted < length plot.planting.nodes + 32)
