@@ -1,17 +1,17 @@
 -- What begins with pairs: a new dictionary that C has given them, or one that another was left
 -- with, which has ended by all its passes at once.
-use Rattle.std.specs.Prelude.{◌≡◌, ◌⊎◌, ◌↔◌, ℕ, Bool, IsTrue, Option, Some, None, List, length, map, take}
+use Rattle.std.specs.Prelude.{◌≡◌, ◌⊎◌, ◌↔◌, ◌*◌, ℕ, Bool, IsTrue, Option, Some, None, List, length, map, take}
 use Rattle.std.specs.List.{All}
 use Rattle.arena.specs.Limits.{IsAccepted}
 use Rattle.arena.specs.declared.limits.Limits.{Limits}
 use Rattle.arena.specs.declared.limits.Mode.{Mode}
 use Rattle.ordered_map.specs.declared.pair.Pair.{Pair}
 use Rattle.ordered_map.specs.Replies.{word_pair}
-use Rattle.template.specs.Balance.{map_mode}
-use Rattle.forest.specs.Beginnings.{BeginsWith, HasLimits, IsPairsFaultOf}
+use Rattle.regnubas.specs.Balance.{map_mode}
+use Rattle.forest.specs.Beginnings.{BeginsWith, HasLimits, IsRefusedFor}
 use Rattle.forest.specs.Passes.{Ground, PassView, AreNew}
 use Rattle.forest.specs.declared.fault.PairsFault.{PairsFault}
-use Rattle.forest.specs.declared.fault.PairsFault.TheVariants as pairs_faults
+use Rattle.forest.specs.declared.fault.PairsFault.TheVariants as faults
 use Rattle.capi.specs.Answers.{StandIn, limits_of, no_count, pair_of}
 use Rattle.capi.specs.Ends.{AreEnough, AreHeld, AreTooFew, HaveEndedWith, IsEmpty, IsOfTrie, held_in}
 use Rattle.capi.specs.Made.{IsHeldOf, pass_at}
@@ -37,32 +37,33 @@ pub record HaveBegun (mode : Mode) (limits : Limits) (pairs : List (ℕ × ℕ))
   pub new : AreNew forest passes
   pub held : map pass_at places ≡ map Some passes
 
--- why none begins with these pairs, as C is told: 5 limits, 8 order, 9 too many, 4 no memory
+-- why none begins with some pairs, as C is told: 5 limits, 8 order, 9 too many, 4 no memory
 abbrev pub pairs_status : PairsFault → ℕ
-pairs_status pairs_faults.Limits = 5
-pairs_status (pairs_faults.Order place) = 8
-pairs_status (pairs_faults.TooMany room) = 9
-pairs_status pairs_faults.NoMemory = 4
+pairs_status faults.Limits = 5
+pairs_status (faults.Order place) = 8
+pairs_status (faults.TooMany room) = 9
+pairs_status faults.NoMemory = 4
 
--- none begins with these pairs, for what the status tells
-pub record IsRefusedFor (limits : Limits) (pairs : List (ℕ × ℕ)) (status : ℕ) : Type 0 where
+-- none begins with these pairs, a trie or a tree, for what the status tells
+pub record IsNotBegun (trie : Bool) (limits : Limits) (pairs : List (ℕ × ℕ)) (status : ℕ) : Type 0 where
   pub fault : PairsFault
-  pub why : IsPairsFaultOf limits (map_pairs pairs) fault
+  pub limits : (fault ≡ faults.Limits) ↔ (¬ IsAccepted limits)
+  pub why : IsRefusedFor trie (limits.passes * limits.nodes) (map_pairs pairs) fault
   pub told : status ≡ pairs_status fault
 
 -- what `make_of_pairs` answers, and what handles hold: those of a new dictionary that begins with
 -- these pairs, or what they held
-abbrev pub BeginSays : Mode → PassLimits → List KeyValue → List HandleSlot → List HandleSlot → ℕ → Type 0
-BeginSays mode each pairs before after status =
-    ((status ≡ 0) × HaveBegun mode (limits_of each (length before)) (map pair_of pairs) after)
-    ⊎ ((after ≡ before) × IsRefusedFor (limits_of each (length before)) (map pair_of pairs) status)
+abbrev pub BeginSays : Bool → PassLimits → List KeyValue → List HandleSlot → List HandleSlot → ℕ → Type 0
+BeginSays trie each pairs before after status =
+    ((status ≡ 0) × HaveBegun (map_mode trie) (limits_of each (length before)) (map pair_of pairs) after)
+    ⊎ ((after ≡ before) × IsNotBegun trie (limits_of each (length before)) (map pair_of pairs) status)
 
 -- the next dictionary has begun with the pairs of the one that has ended, and the handles hold its
 -- passes; or it was refused, and they are empty
-abbrev pub IsNext : Limits → Bool → List (ℕ × ℕ) → List HandleSlot → ℕ → Type 0
-IsNext limits trie pairs after status =
+abbrev pub IsNext : Bool → Limits → List (ℕ × ℕ) → List HandleSlot → ℕ → Type 0
+IsNext trie limits pairs after status =
     ((status ≡ 1) × HaveBegun (map_mode trie) limits pairs after)
-    ⊎ (All IsEmpty (held_in after) × IsRefusedFor limits pairs status)
+    ⊎ (All IsEmpty (held_in after) × IsNotBegun trie limits pairs status)
 
 -- The handles had all passes of a dictionary, which has ended. Its pairs, which are told, are in the
 -- room, as far as they go in, also where the next, of the same shape, was refused.
@@ -73,7 +74,7 @@ pub record HasGoneOver (each : PassLimits) (before after : List HandleSlot) (roo
   pub put : StandIn (take (length room) pairs) room
   pub trie : Bool
   pub shape : IsTrue trie ↔ All IsOfTrie (held_in before)
-  pub next : IsNext (limits_of each (length before)) trie pairs after a.status
+  pub next : IsNext trie (limits_of each (length before)) pairs after a.status
 
 -- the handles hold what they held: the limits are out of range, one was empty, or they are too few
 pub record IsNotRenewed (each : PassLimits) (before after : List HandleSlot) (a : Count) : Type 0 where

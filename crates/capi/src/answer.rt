@@ -136,10 +136,7 @@ pub(crate) fn status_of_pairs(fault: PairsFault) -> u32
 }
 
 /// Pairs that C has given, as numbers.
-pub(crate) fn numbers_of(
-    alloc: Global,
-    pairs: &[KeyValue],
-) -> Result<Vec<(u64, u128)>, NoMemory>
+pub(crate) fn numbers_of(alloc: Global, pairs: &[KeyValue]) -> Result<Vec<(u64, u128)>, NoMemory>
     ensures { IfOk result (λ numbers. numbers.items ≡ map pair_of pairs.now) }
 {
     let mut numbers = Vec::with_capacity(alloc, pairs.len())?;

@@ -1,9 +1,10 @@
 //! A dictionary begins with pairs.
-ghost use Rattle.std.specs.Prelude.{◌≡◌, IfErr, IfOk, length, map, take, vec_len};
+ghost use Rattle.std.specs.Prelude.{◌≡◌, ◌↔◌, ◌*◌, true, false, Err, IfErr, IfOk, length, take, vec_len};
 ghost use Rattle.std.specs.List.{All};
+ghost use Rattle.arena.specs.Limits.{IsAccepted};
 ghost use Rattle.arena.specs.declared.limits.Mode.TheVariants.{Tree, Trie};
-ghost use Rattle.template.specs.Balance.{map_mode};
-ghost use Rattle.forest.specs.Beginnings.{IsPairsFaultOf};
+ghost use Rattle.regnubas.specs.Balance.{map_mode};
+ghost use Rattle.forest.specs.Beginnings.{IsRefusedFor};
 ghost use Rattle.capi.specs.Answers.{StandIn};
 ghost use Rattle.capi.specs.Begins.{HaveBegun, IsNext, map_pairs};
 ghost use Rattle.capi.specs.Ends.{IsEmpty, held_in};
@@ -23,7 +24,9 @@ pub(crate) fn begin(
     trie: bool,
     pairs: &[(u64, u128)],
 ) -> Result<Vec<HandleSlot>, PairsFault>
-    ensures refused { IfErr result (IsPairsFaultOf limits (map_pairs pairs.now)) }
+    ensures limits { (result ≡ Err PairsFault.Limits) ↔ (¬ IsAccepted limits) }
+    ensures refused { IfErr result
+        (IsRefusedFor trie (limits.passes * limits.nodes) (map_pairs pairs.now)) }
     ensures begun { IfOk result
         (λ places. HaveBegun (map_mode trie) limits pairs.now places.items) }
     ensures count { IfOk result (λ places. vec_len places ≡ limits.passes) }
@@ -41,7 +44,9 @@ fn begin_tree(
     limits: Limits,
     pairs: &[(u64, u128)],
 ) -> Result<Vec<HandleSlot>, PairsFault>
-    ensures refused { IfErr result (IsPairsFaultOf limits (map_pairs pairs.now)) }
+    ensures limits { (result ≡ Err PairsFault.Limits) ↔ (¬ IsAccepted limits) }
+    ensures refused { IfErr result
+        (IsRefusedFor false (limits.passes * limits.nodes) (map_pairs pairs.now)) }
     ensures begun { IfOk result (λ places. HaveBegun Tree limits pairs.now places.items) }
     ensures count { IfOk result (λ places. vec_len places ≡ limits.passes) }
 {
@@ -61,7 +66,9 @@ fn begin_trie(
     limits: Limits,
     pairs: &[(u64, u128)],
 ) -> Result<Vec<HandleSlot>, PairsFault>
-    ensures refused { IfErr result (IsPairsFaultOf limits (map_pairs pairs.now)) }
+    ensures limits { (result ≡ Err PairsFault.Limits) ↔ (¬ IsAccepted limits) }
+    ensures refused { IfErr result
+        (IsRefusedFor true (limits.passes * limits.nodes) (map_pairs pairs.now)) }
     ensures begun { IfOk result (λ places. HaveBegun Trie limits pairs.now places.items) }
     ensures count { IfOk result (λ places. vec_len places ≡ limits.passes) }
 {
@@ -89,7 +96,7 @@ pub(crate) fn begin_next(
     requires empty { All IsEmpty (held_in passes.old) }
     ensures count { result.pairs ≡ vec_len pairs }
     ensures put { StandIn (take (length room.new) pairs.items) room.new }
-    ensures next { IsNext limits trie pairs.items passes.new result.status }
+    ensures next { IsNext trie limits pairs.items passes.new result.status }
 {
     let begun = begin(alloc, limits, trie, &pairs);
     let told = Count::of_pairs(pairs, room);

@@ -11,7 +11,7 @@
 //!    from a signal handler, or in the child of a fork of a process with threads.
 //! 5. The passes that `regnubas_end` or `regnubas_renew` is given are of one dictionary
 //!    (`AreOfOne`).
-ghost use Rattle.std.specs.Prelude.{◌≡◌, None, IfNone, IfSome, length, min};
+ghost use Rattle.std.specs.Prelude.{◌≡◌, true, false, None, IfNone, IfSome, length, min};
 ghost use Rattle.ordered_map.specs.OrderedMap.{call_insert, call_insert_new, call_delete, call_delete_if, call_pop_first, call_pop_last, call_replace_if, call_successor, call_predecessor};
 ghost use Rattle.arena.specs.Limits.{IsAccepted};
 ghost use Rattle.arena.specs.declared.limits.Mode.TheVariants.{Tree, Trie};
@@ -85,7 +85,7 @@ pub extern "C" fn regnubas_make_of_pairs(
     pairs: &[KeyValue],
     passes: &mut [HandleSlot],
 ) -> u32
-    ensures { BeginSays Tree each pairs.now passes.old passes.new result }
+    ensures { BeginSays false each pairs.now passes.old passes.new result }
 {
     make_of_pairs(alloc, each, pairs, passes, false)
 }
@@ -98,7 +98,7 @@ pub extern "C" fn regnubas_make_trie_of_pairs(
     pairs: &[KeyValue],
     passes: &mut [HandleSlot],
 ) -> u32
-    ensures { BeginSays Trie each pairs.now passes.old passes.new result }
+    ensures { BeginSays true each pairs.now passes.old passes.new result }
 {
     make_of_pairs(alloc, each, pairs, passes, true)
 }
@@ -111,7 +111,7 @@ fn make_of_pairs(
     passes: &mut [HandleSlot],
     trie: bool,
 ) -> u32
-    ensures { BeginSays (map_mode trie) each pairs.now passes.old passes.new result }
+    ensures { BeginSays trie each pairs.now passes.old passes.new result }
 {
     let Some(limits) = accepted(each, passes.len()) else {
         return LIMITS;

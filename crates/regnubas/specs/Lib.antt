@@ -32,6 +32,9 @@ pub use Rattle.dict.specs.Names
 pub use Rattle.dict.specs.Says
 pub use Rattle.dict.specs.Typed
 pub use Rattle.dict.specs.Words
+pub use Rattle.planting.specs.Orders
+pub use Rattle.planting.specs.Plantings
+pub use Rattle.forest.specs.Beginnings
 pub use Rattle.forest.specs.Dictionary
 pub use Rattle.forest.specs.Opened
 pub use Rattle.forest.specs.Passes

@@ -14,4 +14,5 @@ pub use Rattle.ordered_map.specs.declared.rule.Rule.{Rule}
 pub use Rattle.ordered_map.specs.declared.rule.Rule.TheVariants as rules
 pub use Rattle.forest.specs.declared.fault.NewFault.{NewFault}
 pub use Rattle.forest.specs.declared.fault.OrderFault.{OrderFault}
+pub use Rattle.forest.specs.declared.fault.PairsFault.{PairsFault}
 pub use Rattle.forest.specs.declared.fault.UpdateFault.{UpdateFault}
