@@ -47,6 +47,8 @@ def _load() -> ctypes.CDLL:
     for name, result, arguments in [
         ("make", c_uint32, [RawLimits, one, c_size_t]),
         ("make_trie", c_uint32, [RawLimits, one, c_size_t]),
+        ("make_of_pairs", c_uint32, [RawLimits, room, c_size_t, one, c_size_t]),
+        ("make_trie_of_pairs", c_uint32, [RawLimits, room, c_size_t, one, c_size_t]),
         ("get", Answer, [one, word]),
         ("insert", Answer, [one, word, Value]),
         ("insert_new", Answer, [one, word, Value]),
