@@ -369,13 +369,13 @@ def _share(changes: int, new_keys: int | None) -> tuple[int, int]:
 def _limits(
     nodes: int | None, scx: int | None, tries: int, changes: int | None, new_keys: int | None
 ) -> RawLimits:
-    """Those that a caller of `make` asks for."""
+    """The limits that a caller asks for."""
     if changes is not None:
         if nodes is not None or scx is not None:
-            raise TypeError("make: either changes, or nodes and scx")
+            raise TypeError("either changes, or nodes and scx")
         nodes, scx = _share(word(changes, 32), None if new_keys is None else word(new_keys, 32))
     elif nodes is None or scx is None or new_keys is not None:
-        raise TypeError("make: either changes, or nodes and scx")
+        raise TypeError("either changes, or nodes and scx")
     return RawLimits(word(nodes, 32), word(scx, 32), word(tries, 32))
 
 
