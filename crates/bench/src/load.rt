@@ -45,7 +45,21 @@ pub fn run<R: Clock + AllocGlobal, B: FixedBalance>(
 pub fn looks_of(task: Task) -> (Task, Keys) {
     let calls = task.calls.min(LOOKS);
     let apart = task.calls / calls;
-    (Task { calls, ..task }, Keys::Rising { next: 0, apart })
+    let Task {
+        work,
+        threads,
+        calls: _,
+        times,
+        keys,
+    } = task;
+    let looks = Task {
+        work,
+        threads,
+        calls,
+        times,
+        keys,
+    };
+    (looks, Keys::Rising { next: 0, apart })
 }
 
 /// A load that took so long, and where these were looked up.
