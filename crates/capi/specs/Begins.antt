@@ -8,7 +8,7 @@ use Rattle.arena.specs.declared.limits.Mode.{Mode}
 use Rattle.ordered_map.specs.declared.pair.Pair.{Pair}
 use Rattle.ordered_map.specs.Replies.{word_pair}
 use Rattle.regnubas.specs.Balance.{map_mode}
-use Rattle.forest.specs.Beginnings.{BeginsWith, HasLimits, IsRefusedFor}
+use Rattle.forest.specs.Beginnings.{BeginsWithPairs, HasLimits, IsRefusalOfPairs}
 use Rattle.forest.specs.Passes.{Ground, PassView, AreNew}
 use Rattle.forest.specs.declared.fault.PairsFault.{PairsFault}
 use Rattle.forest.specs.declared.fault.PairsFault.TheVariants as faults
@@ -31,7 +31,7 @@ pub record HaveBegun (mode : Mode) (limits : Limits) (pairs : List (ℕ × ℕ))
   pub forest : Ground
   pub layout : HasLimits limits mode forest.layout
   pub tries : forest.tries ≡ limits.tries
-  pub begins : BeginsWith forest (map_pairs pairs)
+  pub begins : BeginsWithPairs forest (map_pairs pairs)
   pub of_forest : All (λ p. IsHeldOf forest p.handle.value) places
   pub passes : List PassView
   pub new : AreNew forest passes
@@ -48,7 +48,7 @@ pairs_status faults.NoMemory = 4
 pub record IsNotBegun (trie : Bool) (limits : Limits) (pairs : List (ℕ × ℕ)) (status : ℕ) : Type 0 where
   pub fault : PairsFault
   pub limits : (fault ≡ faults.Limits) ↔ (¬ IsAccepted limits)
-  pub why : IsRefusedFor trie (limits.passes * limits.nodes) (map_pairs pairs) fault
+  pub why : IsRefusalOfPairs trie (limits.passes * limits.nodes) (map_pairs pairs) fault
   pub told : status ≡ pairs_status fault
 
 -- what `make_of_pairs` answers, and what handles hold: those of a new dictionary that begins with

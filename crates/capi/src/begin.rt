@@ -4,7 +4,7 @@ ghost use Rattle.std.specs.List.{All};
 ghost use Rattle.arena.specs.Limits.{IsAccepted};
 ghost use Rattle.arena.specs.declared.limits.Mode.TheVariants.{Tree, Trie};
 ghost use Rattle.regnubas.specs.Balance.{map_mode};
-ghost use Rattle.forest.specs.Beginnings.{IsRefusedFor};
+ghost use Rattle.forest.specs.Beginnings.{IsRefusalOfPairs};
 ghost use Rattle.capi.specs.Answers.{StandIn};
 ghost use Rattle.capi.specs.Begins.{HaveBegun, IsNext, map_pairs};
 ghost use Rattle.capi.specs.Ends.{IsEmpty, held_in};
@@ -26,7 +26,7 @@ pub(crate) fn begin(
 ) -> Result<Vec<HandleSlot>, PairsFault>
     ensures limits { (result ≡ Err PairsFault.Limits) ↔ (¬ IsAccepted limits) }
     ensures refused { IfErr result
-        (IsRefusedFor trie (limits.passes * limits.nodes) (map_pairs pairs.now)) }
+        (IsRefusalOfPairs trie (limits.passes * limits.nodes) (map_pairs pairs.now)) }
     ensures begun { IfOk result
         (λ places. HaveBegun (map_mode trie) limits pairs.now places.items) }
     ensures count { IfOk result (λ places. vec_len places ≡ limits.passes) }
@@ -46,7 +46,7 @@ fn begin_tree(
 ) -> Result<Vec<HandleSlot>, PairsFault>
     ensures limits { (result ≡ Err PairsFault.Limits) ↔ (¬ IsAccepted limits) }
     ensures refused { IfErr result
-        (IsRefusedFor false (limits.passes * limits.nodes) (map_pairs pairs.now)) }
+        (IsRefusalOfPairs false (limits.passes * limits.nodes) (map_pairs pairs.now)) }
     ensures begun { IfOk result (λ places. HaveBegun Tree limits pairs.now places.items) }
     ensures count { IfOk result (λ places. vec_len places ≡ limits.passes) }
 {
@@ -68,7 +68,7 @@ fn begin_trie(
 ) -> Result<Vec<HandleSlot>, PairsFault>
     ensures limits { (result ≡ Err PairsFault.Limits) ↔ (¬ IsAccepted limits) }
     ensures refused { IfErr result
-        (IsRefusedFor true (limits.passes * limits.nodes) (map_pairs pairs.now)) }
+        (IsRefusalOfPairs true (limits.passes * limits.nodes) (map_pairs pairs.now)) }
     ensures begun { IfOk result (λ places. HaveBegun Trie limits pairs.now places.items) }
     ensures count { IfOk result (λ places. vec_len places ≡ limits.passes) }
 {

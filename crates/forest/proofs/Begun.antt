@@ -12,7 +12,7 @@ use Rattle.dict.specs.Laws.TypedMaps.{typed_run}
 use Rattle.dict.specs.Typed.{AreTyped, TypedAllows}
 use Rattle.planting.specs.Plantings.{PlantingView, IsPlantingOf, opening_of}
 use Rattle.forest.specs.declared.rule.Plot.{Plot}
-use Rattle.forest.specs.Beginnings.{BeginsWith, IsPlotWith}
+use Rattle.forest.specs.Beginnings.{BeginsWithPairs, IsPlotWith}
 use Rattle.forest.specs.Passes.{Ground, ground}
 
 pub begins_run : (keys values : ℕ → Type 0) (lay : Layout) (mode : Mode) (ps : List Pair) (p : PlantingView) → IsPlantingOf mode ps p → lay.mode ≡ mode → length p.nodes ≤ lay.planted → AreTyped keys values ps → IsRun (TypedAllows keys values) lay (Opened (opening_of p))
@@ -35,7 +35,7 @@ planted_so mode ps p x lay same some = go x.opens
     go (inr planted) = planted lay same
 
 module _ (keys values : ℕ → Type 0) (lay : Layout) (ps : List Pair) (plot : Plot) (x : IsPlotWith lay ps plot) (is_map : IsMap plot.layout.mode) (run : IsRun (TypedAllows keys values) plot.layout (Opened (opening_of plot.planting))) where
-  of_plot : (table : TableId) (tries : ℕ) → BeginsWith (ground table plot.layout plot.planting tries) ps
+  of_plot : (table : TableId) (tries : ℕ) → BeginsWithPairs (ground table plot.layout plot.planting tries) ps
   of_plot table tries = record {
     first = x.planting.pairs_are;
     spelled = subst (Spells plot.layout (value (Opened (opening_of plot.planting)))) x.planting.pairs_are (start_spells plot.layout (opening_of plot.planting) (is_map, typed_run keys values plot.layout (Opened (opening_of plot.planting)) run));
@@ -47,5 +47,5 @@ module _ (keys values : ℕ → Type 0) (lay : Layout) (ps : List Pair) (plot : 
   }
 
   -- the forest of this plot
-  pub begins_with : (f : Ground) → f.layout ≡ plot.layout → f.planting ≡ plot.planting → BeginsWith f ps
-  begins_with f same planted = subst (λ (l : Layout). BeginsWith (ground f.table l f.planting f.tries) ps) (sym same) (subst (λ (b : PlantingView). BeginsWith (ground f.table plot.layout b f.tries) ps) (sym planted) (of_plot f.table f.tries))
+  pub begins_with : (f : Ground) → f.layout ≡ plot.layout → f.planting ≡ plot.planting → BeginsWithPairs f ps
+  begins_with f same planted = subst (λ (l : Layout). BeginsWithPairs (ground f.table l f.planting f.tries) ps) (sym same) (subst (λ (b : PlantingView). BeginsWithPairs (ground f.table plot.layout b f.tries) ps) (sym planted) (of_plot f.table f.tries))

@@ -54,13 +54,6 @@ looked_from {allows} {mode} p x s n bare m = (
   },
 )
   where
-    -- its table is planted as before
-    planted : planting_of s.me.0.passes ≡ planting_of p.seat.me.0.passes
-    planted = ap planting_of are
-
-    now : run_at s.me.0.passes ≡ history_of (planting_of p.seat.me.0.passes) (known_of s.me.0.passes)
-    now = ap (λ b. history_of b (known_of s.me.0.passes)) planted
-
     me : SeatedPass
     me = seated_pass p.number.0 p.layout (planting_of p.seat.me.0.passes) (known_of p.seat.me.0.passes)
 
@@ -72,6 +65,13 @@ looked_from {allows} {mode} p x s n bare m = (
 
     are : s.me.0.passes ≡ after_look me (m.others ++ known_of p.seat.me.0.passes) ∷ []
     are = subst (λ (k : SeatedPass). s.me.0.passes ≡ after_look k (m.others ++ k.known) ∷ []) same m.is
+
+    -- its table is planted as before
+    planted : planting_of s.me.0.passes ≡ planting_of p.seat.me.0.passes
+    planted = ap planting_of are
+
+    now : run_at s.me.0.passes ≡ history_of (planting_of p.seat.me.0.passes) (known_of s.me.0.passes)
+    now = ap (λ b. history_of b (known_of s.me.0.passes)) planted
 
     y : HasOnlyLoaded allows p s 0 (λ h. Extends h (history_of (planting_of p.seat.me.0.passes) (m.others ++ known_of p.seat.me.0.passes)))
     y = look_called p x s (m.others ++ known_of p.seat.me.0.passes) has_looked are
@@ -122,7 +122,7 @@ record IsAtEnd (plot : Plot) (rows : List Row) (d : PassView) : Type 0 where
 -- after what it knows are rows of others alone
 one_ended : {allows : Layout → History → ℕ → Type 0} (d : PassView) (k : SeatedPass) (plot : Plot) (run : List Row) → plot_seen d ≡ plot → IsFrom allows d k → IsRun allows plot.layout (history_of plot.planting run) → Behind run k → IsAtEnd plot run d
 one_ended {allows} d k plot run same f sound b =
-    let h0 : History = history_of k.planting k.known in
+    let h0 : History = history_of d.planting k.known in
     let sound' : IsRun allows d.layout (history_of d.planting (b.0 ++ k.known)) = subst (λ l. IsRun allows d.layout (history_of d.planting l)) b.1 (subst (λ (g : Plot). IsRun allows g.layout (history_of g.planting run)) (sym same) sound) in
     let mine = subst (λ (q : SeatedPass). q.number.0 ≡ d.number) (sym f.is) refl in
     let goes = keeps_all allows d.layout d.number (IsQuiet allows d.layout d.number h0 d.share) d.planting (λ h r run other z. quiet_other allows d.layout d.number h0 d.share f.is_pass h r run other z) b.0 k.known (rw mine at b.2) sound' (quiet_start allows d.layout d.number h0 d.share f.sound f.rest) in

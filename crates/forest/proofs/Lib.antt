@@ -42,3 +42,4 @@ mod OpenBegins
 mod StraightGet
 mod StraightCalls
 mod Begun
+mod InWords

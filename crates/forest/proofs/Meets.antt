@@ -3,7 +3,7 @@ use Rattle.std.specs.List.{All}
 use Rattle.std.proofs.lemmas.List.Elements.{All-nil, All-cons}
 use Rattle.std.proofs.Common.{◌≡◌, ◌≢◌, ℕ, suc, List, [], ◌∷◌, ◌++◌, refl, sym, ◌∙◌, ap, subst, eq-eqb, inr, arith}
 use Rattle.atomic_table.specs.declared.shared.Seat.{Seat}
-use Rattle.histories.specs.Common.{HasScx, Layout, Mode, Row, History, Extends, Lawful, IsRun}
+use Rattle.histories.specs.Common.{HasScx, Layout, Mode, Row, History, ◌⊳◌, Extends, Lawful, IsRun}
 use Rattle.arena.proofs.Lemmas.{ends_self, ends_trans}
 use Rattle.forest.specs.declared.view.SeatedPass.{SeatedPass}
 use Rattle.forest.specs.declared.view.SeatView.{SeatView}

@@ -20,17 +20,17 @@ pub record HasLimits (limits : Limits) (mode : Mode) (lay : Layout) : Type 0 whe
   pub scx : lay.scx ≡ limits.scx
 
 -- the history of a forest as it begins, which each new pass knows
-abbrev pub start_of : Ground → History
-start_of f = Opened (opening_of f.planting)
+abbrev pub beginning_of : Ground → History
+beginning_of f = Opened (opening_of f.planting)
 
 -- The forest begins with these pairs: they are its first, and its words spell them. Their nodes are
 -- beside the shares of the passes. All leaves of a tree but the last are full: it has a node for
 -- each four pairs, and as many forks. It counts as no deeper than where each fork parts its pairs
 -- evenly.
-pub record BeginsWith (f : Ground) (ps : List Pair) : Type 0 where
-  pub first : first_pairs (start_of f) ≡ ps
-  pub spelled : Spells f.layout (value (start_of f)) ps
-  pub planted : 0 < length ps → IsPlanted f.layout (start_of f) 0
+pub record BeginsWithPairs (f : Ground) (ps : List Pair) : Type 0 where
+  pub first : first_pairs (beginning_of f) ≡ ps
+  pub spelled : Spells f.layout (value (beginning_of f)) ps
+  pub planted : 0 < length ps → IsPlanted f.layout (beginning_of f) 0
   pub few : length f.planting.nodes ≤ 2 * length ps
   pub full : f.layout.mode ≡ Tree → length f.planting.nodes ≡ 2 * ((length ps + 3) / 4)
   pub balanced : f.layout.mode ≡ Tree → (opening_of f.planting).deep ≤ suc (height (length ps))
@@ -39,11 +39,11 @@ pub record BeginsWith (f : Ground) (ps : List Pair) : Type 0 where
 -- Why no forest begins with these pairs, where so many nodes are the passes' own: the keys do not
 -- rise; or the room beside those nodes is too small, in a tree for a node for each four pairs and
 -- as many forks; or an allocation was refused. The limits are a matter of their own.
-abbrev pub IsRefusedFor : Bool → ℕ → List Pair → PairsFault → Type 0
-IsRefusedFor trie shares ps LimitsFault = Unit {0}
-IsRefusedFor trie shares ps (Order place) = FallsFirstAt ps place
-IsRefusedFor trie shares ps (TooMany room) = (room + shares ≡ 1048576) × (room < 2 * length ps) × (trie ≡ false → room < 2 * ((length ps + 3) / 4))
-IsRefusedFor trie shares ps NoMemory = Unit {0}
+abbrev pub IsRefusalOfPairs : Bool → ℕ → List Pair → PairsFault → Type 0
+IsRefusalOfPairs _ shares ps LimitsFault = Unit {0}
+IsRefusalOfPairs _ shares ps (Order place) = FallsFirstAt ps place
+IsRefusalOfPairs in_trie shares ps (TooMany room) = (room + shares ≡ 1048576) × (room < 2 * length ps) × (in_trie ≡ false → room < 2 * ((length ps + 3) / 4))
+IsRefusalOfPairs _ shares ps NoMemory = Unit {0}
 
 -- a table with these shares begins with these pairs
 pub record IsPlotWith (lay : Layout) (ps : List Pair) (plot : Plot) : Type 0 where

@@ -305,8 +305,8 @@ HasPass passes n = Contains (map (λ (p : PassView). p.number) passes) n
 abbrev pub AreAllBack : Layout → List PassView → Type 0
 AreAllBack lay passes = (n : ℕ) → n < lay.passes → HasPass passes n
 
--- these rows, in a table that is planted so, extend what each pass knew, by one row of its own, which is a look at the table;
--- its entries in them are those of its done list
+-- these rows, in a table that is planted so, extend what each pass knew, by one row of its own,
+-- which is a look at the table; its entries in them are those of its done list
 abbrev pub AreBegun : List PassView → PlantingView → List Row → Type 0
 AreBegun [] planting rows = Unit {0}
 AreBegun (p ∷ ps) planting rows = Extends (history_of planting rows) (run_of p) × (entries_of p.number (log p.layout (history_of planting rows)) ≡ done_of p) × (rows_of p.number rows ≡ suc (steps_of p)) × HoldsOfOwn IsLook p.number (run_of p) (history_of planting rows) × AreBegun ps planting rows

@@ -11,7 +11,7 @@ ghost use Rattle.ordered_map.specs.Spelled.{Spells};
 ghost use Rattle.dict.specs.Typed.{AreTyped, TypedAllows};
 ghost use Rattle.dict.specs.Words.{IsWordOf};
 ghost use Rattle.planting.specs.Plantings.{opening_of};
-ghost use Rattle.forest.specs.Beginnings.{BeginsWith, HasLimits, IsPlotWith, IsRefusedFor};
+ghost use Rattle.forest.specs.Beginnings.{BeginsWithPairs, HasLimits, IsPlotWith, IsRefusalOfPairs};
 ghost use Rattle.forest.specs.Passes.{AreNew, PassView, IsClosed};
 ghost use Rattle.forest.specs.TableRule.{history_of};
 
@@ -46,11 +46,11 @@ impl<K: WordKey, V: WordValue, B: FixedBalance> Forest<Dict<K, V, B>> {
         ensures accepted { OnOk result (IsAccepted limits) }
         ensures limits { (result ≡ Err PairsFault.Limits) ↔ (¬ IsAccepted limits) }
         ensures rising { OnOk result (IsRising (map (word_pair K.word_of V.word_of) pairs.now)) }
-        ensures refused { IfErr result (IsRefusedFor
+        ensures refused { IfErr result (IsRefusalOfPairs
             (B.trie B.the) (limits.passes * limits.nodes) (map (word_pair K.word_of V.word_of) pairs.now)) }
         ensures layout { IfOk result (λ r. HasLimits limits (map_mode (B.trie B.the)) r.0.layout) }
         ensures tries { IfOk result (λ r. r.0.tries ≡ limits.tries) }
-        ensures begins { IfOk result (λ r. BeginsWith r.0 (map (word_pair K.word_of V.word_of) pairs.now)) }
+        ensures begins { IfOk result (λ r. BeginsWithPairs r.0 (map (word_pair K.word_of V.word_of) pairs.now)) }
         ensures passes { IfOk result (λ r. AreNew r.0 r.1.items) }
     {
         let Ok(layout) = limits.check(mode::<B>()) else {
@@ -78,12 +78,12 @@ impl<K: WordKey, V: WordValue, B: FixedBalance> Closed<Dict<K, V, B>> {
         ensures refused { (lay : Layout) (passes : List PassView)
             (c : IsClosed (TypedAllows (IsWordOf K.is_valid K.word_of) (IsWordOf V.is_valid V.word_of)) lay passes self.now)
             (m : List PairOf) → Spells lay (value (history_of c.planting c.rows)) m
-            → IfErr result (IsRefusedFor (B.trie B.the) (limits.passes * limits.nodes) m) }
+            → IfErr result (IsRefusalOfPairs (B.trie B.the) (limits.passes * limits.nodes) m) }
         ensures layout { IfOk result (λ r. HasLimits limits (map_mode (B.trie B.the)) r.0.layout) }
         ensures tries { IfOk result (λ r. r.0.tries ≡ limits.tries) }
         ensures begins { (lay : Layout) (passes : List PassView)
             (c : IsClosed (TypedAllows (IsWordOf K.is_valid K.word_of) (IsWordOf V.is_valid V.word_of)) lay passes self.now)
-            → IfOk result (λ r. (m : List PairOf) × Spells lay (value (history_of c.planting c.rows)) m × BeginsWith r.0 m) }
+            → IfOk result (λ r. (m : List PairOf) × Spells lay (value (history_of c.planting c.rows)) m × BeginsWithPairs r.0 m) }
         ensures passes { IfOk result (λ r. AreNew r.0 r.1.items) }
     {
         let Ok(_layout) = limits.check(mode::<B>()) else {
@@ -107,7 +107,7 @@ fn plot_with<K: WordKey, V: WordValue>(
     ensures run { IfOk result (λ plot. IsRun (TypedAllows (IsWordOf K.is_valid K.word_of) (IsWordOf V.is_valid V.word_of))
         plot.layout (Opened (opening_of plot.planting))) }
     ensures rising { OnOk result (IsRising (map (word_pair K.word_of V.word_of) pairs.now)) }
-    ensures refused { IfErr result (IsRefusedFor
+    ensures refused { IfErr result (IsRefusalOfPairs
         trie (layout.now.passes * layout.now.nodes) (map (word_pair K.word_of V.word_of) pairs.now)) }
     ensures limits { result ≢ Err PairsFault.Limits }
 {

@@ -3,7 +3,8 @@ use arena::{Layout, PassNo, Row};
 use planting::Planting;
 use std::collections::LinkedList;
 
-/// A pass, the table's layout, what was planted in it, and the run up to the pass's own last step, newest row first.
+/// A pass, the table's layout, what was planted in it, and the run up to the pass's own last step,
+/// newest row first.
 pub struct SeatedPass {
     /// The number of the pass.
     pub number: PassNo,

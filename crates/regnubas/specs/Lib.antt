@@ -27,13 +27,13 @@ pub use Rattle.ordered_map.specs.Spelled
 pub use Rattle.ordered_map.specs.Strays
 pub use Rattle.ordered_map.specs.TreeWords
 pub use Rattle.template.specs.Balance
+pub use Rattle.planting.specs.Orders
+pub use Rattle.planting.specs.Plantings
 pub use Rattle.dict.specs.Calls
 pub use Rattle.dict.specs.Names
 pub use Rattle.dict.specs.Says
 pub use Rattle.dict.specs.Typed
 pub use Rattle.dict.specs.Words
-pub use Rattle.planting.specs.Orders
-pub use Rattle.planting.specs.Plantings
 pub use Rattle.forest.specs.Beginnings
 pub use Rattle.forest.specs.Dictionary
 pub use Rattle.forest.specs.Opened

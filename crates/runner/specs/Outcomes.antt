@@ -4,6 +4,7 @@ use Rattle.std.specs.Global.{Global}
 use Rattle.histories.specs.Common.{History, Extends, log, IsRun}
 use Rattle.arena.specs.Limits.{IsLayoutOf}
 use Rattle.record.specs.Common.{IsRising, Pair, word_pair, Reply, Command, Script, commands}
+use Rattle.planting.specs.Plantings.{bare}
 use Rattle.forest.specs.Passes.{Ground, PassView, HaveLeftShares, HoldsOfOwn, IsLook, new_pass, run_of, done_of}
 use Rattle.forest.specs.Shares.{entries_of}
 use Rattle.runner.specs.Calls.{NumbersAllow, HaveReplies}
@@ -28,6 +29,8 @@ pub record IsOutcome (script : Script) (replies : List (Vec (Reply ℕ ℕ) Glob
   pub forest : Ground
   pub layout : IsLayoutOf script.limits script.layout.mode forest.layout
   pub tries : forest.tries ≡ script.limits.tries
+  -- it begins with an empty map
+  pub empty : forest.planting ≡ bare script.layout.mode
   pub run : History
   pub lawful : IsRun NumbersAllow forest.layout run
   pub versions : History → List Pair

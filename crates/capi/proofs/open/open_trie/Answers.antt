@@ -7,6 +7,7 @@ returns-in-Ok-hand_out_trie-clause-made c = let new = c.in-Ok.ensures in let out
   forest = c.in-Ok.opened.0;
   layout = new.layout;
   tries = new.tries;
+  empty = new.empty;
   of_forest = out.of_forest;
   passes = c.in-Ok.opened.1.items;
   new = new.passes;
