@@ -6,6 +6,7 @@
 
 #include <cstdio>
 #include <cstdlib>
+#include <initializer_list>
 
 #define CHECK(what) \
     do { if (!(what)) { std::fprintf(stderr, "%s:%d: %s (refusing %ld)\n", __FILE__, __LINE__, #what, refuse); std::abort(); } } while (0)
@@ -64,19 +65,53 @@ static bool story(bool by_all) {
     return all;
 }
 
-static void refuse_each(bool by_all) {
+static bool are_nine(const regnubas_pair *pairs) {
+    for (uint64_t k = 0; k < 9; k++)
+        if (pairs[k].key != 2 * k || pairs[k].value.low != k || pairs[k].value.high != ~k) return false;
+    return true;
+}
+
+// The same of one that begins with pairs, and is renewed: where that is refused once they are read,
+// they are in the room.
+static bool renewed(bool trie) {
+    asked = 0;
+    regnubas_pass passes[2] = {};
+    regnubas_pair pairs[9] = {}, room[9] = {};
+    for (uint64_t k = 0; k < 9; k++) pairs[k] = {2 * k, {k, ~k}};
+    uint32_t made = (trie ? regnubas_make_trie_of_pairs : regnubas_make_of_pairs)({30, 10, 2}, pairs, 9, passes, 2);
+    if (made != REGNUBAS_NONE) {
+        CHECK(made == REGNUBAS_NO_MEMORY && blocks == 0 && !passes[0].at && !passes[1].at);
+        return false;
+    }
+    regnubas_count told = regnubas_renew({10, 5, 2}, passes, 2, room, 9);
+    if (told.status == REGNUBAS_NO_MEMORY) {
+        CHECK(!passes[0].at && !passes[1].at && blocks == 0);
+        CHECK(told.pairs == 0 || (told.pairs == 9 && are_nine(room)));
+        return false;
+    }
+    CHECK(told.status == REGNUBAS_SOME && told.pairs == 9 && are_nine(room));
+    for (uint64_t k = 0; k < 9; k++) CHECK(regnubas_get(&passes[k % 2], 2 * k).value.high == ~k);
+    regnubas_leave(&passes[0]);
+    regnubas_leave(&passes[1]);
+    CHECK(blocks == 0);
+    return true;
+}
+
+template <typename Story> static void refuse_each(Story story) {
     refuse = 0;
     onwards = false;
-    CHECK(story(by_all));
+    CHECK(story());
     long count = asked, without = 0;
-    for (refuse = 1; refuse <= count; refuse++) without += story(by_all);
+    for (refuse = 1; refuse <= count; refuse++) without += story();
     onwards = true;
-    for (refuse = 1; refuse <= count; refuse++) CHECK(!story(by_all));
+    for (refuse = 1; refuse <= count; refuse++) CHECK(!story());
     std::printf("ok: %ld allocations, each refused in turn; %ld of them could be done without\n", count, without);
 }
 
 int main() {
-    refuse_each(false);
-    refuse_each(true);
+    for (bool once : {false, true}) {
+        refuse_each([once] { return story(once); });
+        refuse_each([once] { return renewed(once); });
+    }
     return 0;
 }

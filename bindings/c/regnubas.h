@@ -14,7 +14,7 @@
  *     nothing else reads or writes during the call; none is null, even where its count is 0.
  *  4. malloc, realloc and free are one allocator, which aligns to 16 bytes; no call comes from a
  *     signal handler, or in the child of a fork of a process with threads.
- *  5. The passes that regnubas_end is given are of one dictionary.
+ *  5. The passes that regnubas_end or regnubas_renew is given are of one dictionary.
  *
  * Calls on different passes may overlap as they like: each takes effect at one moment between its
  * begin and its end. A call on a pass that is empty, was left or was closed answers
@@ -78,7 +78,9 @@ enum {
     REGNUBAS_NO_MEMORY = 4, /* not done: an allocation was refused */
     REGNUBAS_LIMITS = 5,    /* not made: a number is out of its range */
     REGNUBAS_NO_PASS = 6,   /* not done: there is no pass here */
-    REGNUBAS_SHARED = 7     /* not closed: other passes have not left; not ended: some are missing */
+    REGNUBAS_SHARED = 7,    /* not closed: other passes have not left; not ended: some are missing */
+    REGNUBAS_ORDER = 8,     /* not made: the keys of the pairs do not rise */
+    REGNUBAS_TOO_MANY = 9   /* not made: there are more pairs than there is room for */
 };
 
 /* Makes a dictionary, a tree, with `count` passes, 1 to 32: as many threads may work at a time. NONE; or
@@ -88,6 +90,15 @@ uint32_t regnubas_make(regnubas_limits each, regnubas_pass *passes, size_t count
 /* The same, but a trie: it stays low also where keys come in order. Each function takes passes of
  * either; USING.md says which to take. */
 uint32_t regnubas_make_trie(regnubas_limits each, regnubas_pass *passes, size_t count);
+
+/* The same, but the dictionary begins with these pairs, each key above the one before: its tree is
+ * balanced, its leaves are full, and nothing of a pass's share is taken for it. There is room for
+ * 2^20 nodes in all: passes * nodes, and two for each four pairs (in a trie up to two for each). NONE;
+ * or LIMITS, ORDER, TOO_MANY or NO_MEMORY: then the passes are as they were. */
+uint32_t regnubas_make_of_pairs(regnubas_limits each, const regnubas_pair *pairs, size_t pairs_count,
+                                regnubas_pass *passes, size_t count);
+uint32_t regnubas_make_trie_of_pairs(regnubas_limits each, const regnubas_pair *pairs,
+                                     size_t pairs_count, regnubas_pass *passes, size_t count);
 
 /* SOME with the value of the key, or NONE. It is never refused, and takes no memory. */
 regnubas_answer regnubas_get(regnubas_pass *pass, uint64_t key);
@@ -137,9 +148,9 @@ regnubas_share regnubas_left(regnubas_pass *pass);
 void regnubas_leave(regnubas_pass *pass);
 
 /* Ends the dictionary, once all other passes have left, and writes its first pairs, `count` at the
- * most; room for passes * nodes is room for all. What other passes had put in before they left is
- * among them, where no later call has changed it. SOME with the number of all its pairs; SHARED:
- * the pass is as it was; NO_MEMORY: the dictionary is gone. */
+ * most; room for passes * nodes and the pairs that it began with is room for all. What other passes
+ * had put in before they left is among them, where no later call has changed it. SOME with the number
+ * of all its pairs; SHARED: the pass is as it was; NO_MEMORY: the dictionary is gone. */
 regnubas_count regnubas_close(regnubas_pass *pass, regnubas_pair *pairs, size_t count);
 
 /* Ends a dictionary by all its passes at once, in any order, and writes its first pairs, `count` at
@@ -151,6 +162,14 @@ regnubas_count regnubas_close(regnubas_pass *pass, regnubas_pair *pairs, size_t 
  * are empty. */
 regnubas_count regnubas_end(regnubas_pass *passes, size_t passes_count, regnubas_pair *pairs,
                             size_t count);
+
+/* The same, and all its pairs begin the next dictionary, of the same shape, with as many passes,
+ * which are put in the place of these. SOME with the number of all its pairs. LIMITS, NO_PASS or
+ * SHARED: the passes are as they were. TOO_MANY or NO_MEMORY: the passes are empty, and the pairs
+ * have been written, `count` at the most, for regnubas_make_of_pairs with other limits, or later; but
+ * NO_MEMORY with no pairs may also mean that the dictionary is gone, as in regnubas_end. */
+regnubas_count regnubas_renew(regnubas_limits each, regnubas_pass *passes, size_t passes_count,
+                              regnubas_pair *pairs, size_t count);
 
 #ifdef __cplusplus
 }

@@ -1,7 +1,7 @@
 // Four threads on one dictionary, through the header: each sets keys of its own, reads another's and
 // takes a third of its own away, and all count in one key; each key that all four set if it is new
 // has one of them as its setter; two empty a queue from its front and two from its back. Before that
-// each status is met. `threads N` does so N times. Values have bits in both their words.
+// each status is met, and dictionaries begin with pairs and are renewed. `threads N` does so N times. Values have bits in both their words.
 #include "regnubas.h"
 
 #include <algorithm>
@@ -290,6 +290,83 @@ void a_far_key(uint32_t (*make)(regnubas_limits, regnubas_pass *, size_t), uint3
     regnubas_leave(&pass);
 }
 
+// Rising pairs, a leap between each two.
+std::vector<regnubas_pair> rising(uint64_t count) {
+    std::vector<regnubas_pair> pairs(count + 1); // one more, so that there is a place to point to
+    for (uint64_t i = 0; i < count; i++) pairs[i] = {3 * i, value_of(3 * i)};
+    return pairs;
+}
+
+template <typename Begin> void pairs_to_begin_with(Begin begin) {
+    regnubas_pass passes[32] = {};
+    for (uint64_t count : {0, 1, 4, 5, 100, 100000}) {
+        std::vector<regnubas_pair> pairs = rising(count), left(count + 1);
+        CHECK(begin(regnubas_limits{30, 10, 1}, pairs.data(), count, passes, 2) == REGNUBAS_NONE); // over those that are held
+        for (uint64_t i = 0; i < count; i++) CHECK(is(regnubas_get(&passes[i % 2], 3 * i), REGNUBAS_SOME, value_of(3 * i)));
+        CHECK(is(regnubas_get(&passes[0], 1), REGNUBAS_NONE, ZERO));
+        regnubas_share share = regnubas_left(&passes[1]);
+        CHECK(share.nodes == 30 && share.scx == 10);
+        CHECK(is(regnubas_insert(&passes[1], 1, ZERO), REGNUBAS_NONE, ZERO));
+        CHECK(is(regnubas_end(passes, 2, left.data(), count + 1), REGNUBAS_SOME, count + 1));
+        CHECK(count == 0 || (has(left[0], 0, value_of(0)) && has(left[1], 1, ZERO) && has(left[count], 3 * count - 3 + (count == 1), count == 1 ? ZERO : value_of(3 * count - 3))));
+    }
+    std::vector<regnubas_pair> pairs = rising(9);
+    CHECK(begin(regnubas_limits{1, 1, 1}, pairs.data(), 9, passes, 33) == REGNUBAS_LIMITS);
+    CHECK(begin(regnubas_limits{1, 1, 1}, pairs.data(), 9, passes, 0) == REGNUBAS_LIMITS);
+    CHECK(begin(regnubas_limits{32769, 1, 1}, pairs.data(), 9, passes, 2) == REGNUBAS_LIMITS);
+    CHECK(begin(regnubas_limits{32768, 1, 1}, pairs.data(), 9, passes, 32) == REGNUBAS_TOO_MANY);
+    pairs[5].key = pairs[4].key;
+    CHECK(begin(regnubas_limits{1, 1, 1}, pairs.data(), 9, passes, 2) == REGNUBAS_ORDER);
+    CHECK(begin(regnubas_limits{1, 1, 1}, pairs.data(), 5, passes, 2) == REGNUBAS_NONE);
+    CHECK(is(regnubas_get(&passes[1], 12), REGNUBAS_SOME, value_of(12)));
+    for (regnubas_pass &pass : passes) regnubas_leave(&pass);
+}
+
+// Four threads work, and it is renewed, ten times. What is left is what went in and did not come out.
+template <typename Make> void renewals(Make make, uint32_t far_nodes) {
+    constexpr uint64_t TIMES = 10, EACH = 300;
+    constexpr regnubas_limits LIMITS = {8000, 4000, 1};
+    regnubas_pass passes[THREADS] = {};
+    std::vector<regnubas_pair> pairs(THREADS * EACH * TIMES + 1);
+    CHECK(make(LIMITS, passes, THREADS) == REGNUBAS_NONE);
+    uint64_t sum = 0, count = 0;
+    for (uint64_t time = 0; time < TIMES; time++) {
+        uint64_t sums[THREADS] = {};
+        in_threads(passes, [time, &sums](regnubas_pass *pass, uint64_t number) {
+            for (uint64_t i = 0; i < EACH; i++) {
+                uint64_t key = key_of(number, time * EACH + i);
+                CHECK(is(again([&] { return regnubas_insert(pass, key, value_of(key)); }), REGNUBAS_NONE, ZERO));
+                if (i % 3 != 0) sums[number] += key;
+                else CHECK(is(again([&] { return regnubas_delete(pass, key); }), REGNUBAS_SOME, value_of(key)));
+            }
+        });
+        for (uint64_t added : sums) sum += added;
+        count += THREADS * EACH * 2 / 3;
+        CHECK(is(regnubas_renew({32769, 1, 1}, passes, THREADS, pairs.data(), pairs.size()), REGNUBAS_LIMITS, 0));
+        CHECK(is(regnubas_renew(LIMITS, passes, THREADS - 1, pairs.data(), pairs.size()), REGNUBAS_SHARED, 0));
+        CHECK(is(regnubas_renew(LIMITS, passes, THREADS, pairs.data(), pairs.size()), REGNUBAS_SOME, count));
+        uint64_t found = 0;
+        for (uint64_t i = 0; i < count; i++) {
+            found += pairs[i].key;
+            CHECK(is(regnubas_get(&passes[i % THREADS], pairs[i].key), REGNUBAS_SOME, value_of(pairs[i].key)));
+        }
+        CHECK(found == sum);
+    }
+    CHECK(regnubas_left(&passes[1]).nodes == LIMITS.nodes);
+    CHECK(is(regnubas_insert(&passes[1], uint64_t{1} << 63, ZERO), REGNUBAS_NONE, ZERO));
+    CHECK(regnubas_left(&passes[1]).nodes == LIMITS.nodes - far_nodes); // of the shape that it was
+    regnubas_pair one = {};
+    CHECK(is(regnubas_renew({1, 1, 1}, passes, THREADS, &one, 1), REGNUBAS_SOME, count + 1) && one.key == pairs[0].key);
+    CHECK(is(regnubas_get(&passes[3], uint64_t{1} << 63), REGNUBAS_SOME, ZERO));
+    regnubas_pass many[32] = {};
+    CHECK(make(regnubas_limits{9, 9, 1}, many, 32) == REGNUBAS_NONE);
+    CHECK(is(regnubas_insert(&many[7], 5, {50, 1}), REGNUBAS_NONE, ZERO));
+    CHECK(is(regnubas_renew({32768, 9, 1}, many, 32, &one, 1), REGNUBAS_TOO_MANY, 1) && has(one, 5, {50, 1}));
+    for (regnubas_pass &pass : many) CHECK(pass.at == nullptr);
+    CHECK(is(regnubas_renew({1, 1, 1}, many, 32, &one, 1), REGNUBAS_NO_PASS, 0));
+    for (regnubas_pass &pass : passes) regnubas_leave(&pass);
+}
+
 } // namespace
 
 int main(int argc, char **argv) {
@@ -299,6 +376,10 @@ int main(int argc, char **argv) {
     two_dictionaries();
     a_far_key(regnubas_make, 1);
     a_far_key(regnubas_make_trie, 2);
+    pairs_to_begin_with(regnubas_make_of_pairs);
+    pairs_to_begin_with(regnubas_make_trie_of_pairs);
+    renewals(regnubas_make, 3);
+    renewals(regnubas_make_trie, 2);
     for (int rounds = argc > 1 ? std::atoi(argv[1]) : 1; rounds > 0; rounds--) {
         keys_and_counter(regnubas_make, close_all);
         keys_and_counter(regnubas_make_trie, end_all);

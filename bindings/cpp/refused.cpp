@@ -85,11 +85,35 @@ static bool story() {
     return all;
 }
 
-int main() {
+// The same of one that begins with pairs, and is renewed.
+static bool renewed() {
+    asked = 0;
+    bool all = true;
+    {
+        const std::vector<regnubas::pair> pairs = {{1, 10}, {2, 20}, {3, {30, 1}}, {5, 50}, {9, 90}};
+        std::vector<regnubas::pair> left;
+        std::vector<regnubas::pass> passes;
+        all = is_done([&] { passes = regnubas::pass::of_pairs(pairs.begin(), pairs.end(), 1, {30, 10, 2}); })
+            && is_done([&] { passes = passes[0].renew(2, {10, 5, 2}, left); });
+        if (all) CHECK(left == pairs && passes[1].get(3) == regnubas::value(30, 1));
+        else CHECK(left.empty() || left == pairs);
+    }
+    CHECK(blocks == 0);
+    return all;
+}
+
+template <typename Story> static void refuse_each(Story story) {
+    refuse = 0;
+    onwards = false;
     CHECK(story());
     long count = asked, without = 0;
     for (refuse = 1; refuse <= count; refuse++) without += story();
     onwards = true;
     for (refuse = 1; refuse <= count; refuse++) CHECK(!story());
     std::printf("ok: %ld allocations, each refused in turn; %ld of them could be done without\n", count, without);
+}
+
+int main() {
+    refuse_each(story);
+    refuse_each(renewed);
 }

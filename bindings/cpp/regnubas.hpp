@@ -1,7 +1,8 @@
 // The dictionary of regnubas.h in C++17: passes that leave by themselves, optionals, and a
 // range-for over the pairs between two keys. Header only; calls mean what regnubas.h says of them.
 //
-// A call that is refused has changed nothing, but a `close` for want of memory ends the dictionary.
+// A call that is refused has changed nothing, but a `close` for want of memory ends the dictionary,
+// and of a `renew` the pairs are left.
 // It throws `regnubas::refused`, which says why; the call with `try_` before its name answers a
 // `regnubas::result` in place of that. Where C++ itself has no memory, any call that answers a
 // vector throws `std::bad_alloc`. Compiled without exceptions, the program is aborted in place of
@@ -49,7 +50,9 @@ enum class status : std::uint32_t {
     no_memory = REGNUBAS_NO_MEMORY, // an allocation was refused
     limits = REGNUBAS_LIMITS,       // a number is out of its range
     no_pass = REGNUBAS_NO_PASS,     // the pass is empty, was moved from, has left or was closed
-    shared = REGNUBAS_SHARED        // other passes have not left
+    shared = REGNUBAS_SHARED,       // other passes have not left
+    order = REGNUBAS_ORDER,         // the keys of the pairs do not rise
+    too_many = REGNUBAS_TOO_MANY    // there are more pairs than there is room for
 };
 
 inline const char *text_of(status why) {
@@ -60,6 +63,8 @@ inline const char *text_of(status why) {
     case status::limits: return "limits out of range";
     case status::no_pass: return "no pass";
     case status::shared: return "shared";
+    case status::order: return "pairs out of order";
+    case status::too_many: return "too many pairs";
     }
     return "unknown";
 }
@@ -131,12 +136,14 @@ class between;
 class alignas(64) pass {
 public:
     pass() = default;
-    pass(pass &&other) noexcept : raw_(std::exchange(other.raw_, {})), room_(other.room_) {}
+    pass(pass &&other) noexcept
+        : raw_(std::exchange(other.raw_, {})), room_(other.room_), shape_(other.shape_) {}
     pass &operator=(pass &&other) noexcept {
         if (this != &other) {
             leave();
             raw_ = std::exchange(other.raw_, {});
             room_ = other.room_;
+            shape_ = other.shape_;
         }
         return *this;
     }
@@ -144,20 +151,32 @@ public:
 
     // A dictionary with so many passes, 1 to 32, each of which may take what `each` says.
     static result<std::vector<pass>> try_make(std::size_t count, regnubas_limits each, shape is = shape::tree) {
-        if (count == 0 || count > 32) return status::limits;
-        std::vector<pass> passes(count);
-        std::array<regnubas_pass, 32> raw = {};
-        const auto made = is == shape::trie ? regnubas_make_trie : regnubas_make;
-        const std::uint32_t told = made(each, raw.data(), count);
-        if (told != REGNUBAS_NONE) return static_cast<status>(told);
-        for (std::size_t i = 0; i < count; i++) {
-            passes[i].raw_ = raw[i];
-            passes[i].room_ = count * each.nodes;
-        }
-        return result<std::vector<pass>>(std::move(passes));
+        return made(count, count * each.nodes, is, [=](regnubas_pass *raw) {
+            return (is == shape::trie ? regnubas_make_trie : regnubas_make)(each, raw, count);
+        });
     }
     static std::vector<pass> make(std::size_t count, regnubas_limits each, shape is = shape::tree) {
         return try_make(count, each, is).get();
+    }
+
+    // One that begins with the pairs from `first` on, each key above the one before: `pass::of_pairs(
+    // map.begin(), map.end(), 4, limits)` of a `std::map<key, value>`. It is balanced, and takes
+    // nothing of a pass's share.
+    template <typename Iterator>
+    static result<std::vector<pass>> try_of_pairs(Iterator first, Iterator last, std::size_t count,
+                                                  regnubas_limits each, shape is = shape::tree) {
+        std::vector<regnubas_pair> pairs;
+        for (; first != last; ++first) pairs.push_back({first->first, raw_of(first->second)});
+        return made(count, count * each.nodes + pairs.size(), is, [&](regnubas_pass *raw) {
+            const regnubas_pair none = {};
+            const auto make = is == shape::trie ? regnubas_make_trie_of_pairs : regnubas_make_of_pairs;
+            return make(each, pairs.empty() ? &none : pairs.data(), pairs.size(), raw, count);
+        });
+    }
+    template <typename Iterator>
+    static std::vector<pass> of_pairs(Iterator first, Iterator last, std::size_t count, regnubas_limits each,
+                                      shape is = shape::tree) {
+        return try_of_pairs(first, last, count, each, is).get();
     }
 
     // The value of a key.
@@ -252,9 +271,38 @@ public:
     }
     std::vector<pair> close() { return try_close().get(); }
 
+    // Ends the dictionary, once all other passes have left, and begins the next of this shape with its
+    // pairs. They are left in `pairs`, also where the next is refused.
+    result<std::vector<pass>> try_renew(std::size_t count, regnubas_limits each, std::vector<pair> &pairs) {
+        auto closed = try_close();
+        if (!closed) return closed.why();
+        pairs = std::move(closed).get();
+        return try_of_pairs(pairs.begin(), pairs.end(), count, each, shape_);
+    }
+    std::vector<pass> renew(std::size_t count, regnubas_limits each, std::vector<pair> &pairs) {
+        return try_renew(count, each, pairs).get();
+    }
+
 private:
     regnubas_pass raw_ = {};
     std::size_t room_ = 0; // for all pairs that the dictionary can have
+    shape shape_ = shape::tree;
+
+    // So many passes of a dictionary of this shape, with room for so many pairs, that `make` has made.
+    template <typename Make>
+    static result<std::vector<pass>> made(std::size_t count, std::size_t room, shape is, Make make) {
+        if (count == 0 || count > 32) return status::limits;
+        std::vector<pass> passes(count);
+        std::array<regnubas_pass, 32> raw = {};
+        const std::uint32_t told = make(raw.data());
+        if (told != REGNUBAS_NONE) return static_cast<status>(told);
+        for (std::size_t i = 0; i < count; i++) {
+            passes[i].raw_ = raw[i];
+            passes[i].room_ = room;
+            passes[i].shape_ = is;
+        }
+        return result<std::vector<pass>>(std::move(passes));
+    }
 
     static regnubas_value raw_of(value v) { return {v.low, v.high}; }
 

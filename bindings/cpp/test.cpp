@@ -123,6 +123,68 @@ void threads_share_it(regnubas::shape is) {
     CHECK(passes[0].close().size() == THREADS * KEYS);
 }
 
+// Rising pairs, with both words of their values.
+std::vector<regnubas::pair> rising(std::uint64_t count) {
+    std::vector<regnubas::pair> pairs;
+    for (regnubas::key k = 0; k < count; k++) pairs.push_back({3 * k, {k, ~k}});
+    return pairs;
+}
+
+void it_begins_with_pairs(regnubas::shape is) {
+    for (std::uint64_t count : {0, 1, 4, 5, 64, 1000}) {
+        const auto pairs = rising(count);
+        auto passes = pass::of_pairs(pairs.begin(), pairs.end(), 2, LIMITS, is);
+        CHECK(passes[0].left().nodes == LIMITS.nodes && passes[1].left().scx == LIMITS.scx);
+        for (const auto &[key, wanted] : pairs) CHECK(passes[1].get(key) == wanted && !passes[0].contains(key + 1));
+        CHECK(!passes[0].insert(1, 1));
+        passes[1].leave();
+        const auto closed = passes[0].close(); // there is room for more pairs than the passes have nodes
+        CHECK(closed.size() == count + 1 && closed[count == 0 ? 0 : 1] == regnubas::pair(1, 1));
+    }
+    const std::map<regnubas::key, value> map = {{5, 50}, {7, {70, 1}}};
+    auto pass = std::move(pass::of_pairs(map.begin(), map.end(), 1, LIMITS, is)[0]);
+    CHECK((pass.close() == std::vector<regnubas::pair>{{5, 50}, {7, {70, 1}}}));
+}
+
+void pairs_are_refused() {
+    const std::vector<regnubas::pair> twice = {{1, 1}, {2, 2}, {2, 3}}, falls = {{2, 2}, {1, 1}}, few = {{1, 1}};
+    CHECK(pass::try_of_pairs(twice.begin(), twice.end(), 1, LIMITS).why() == status::order);
+    CHECK(why([&] { pass::of_pairs(falls.begin(), falls.end(), 1, LIMITS, regnubas::shape::trie); }) == status::order);
+    CHECK(pass::try_of_pairs(few.begin(), few.end(), 33, LIMITS).why() == status::limits);
+    CHECK(pass::try_of_pairs(few.begin(), few.end(), 2, {32769, 1, 1}).why() == status::limits);
+    CHECK(pass::try_of_pairs(few.begin(), few.end(), 32, {32768, 1, 1}).why() == status::too_many);
+}
+
+void it_is_renewed(regnubas::shape is) {
+    constexpr std::uint64_t THREADS = 4, KEYS = 60, TIMES = 10;
+    std::vector<regnubas::pair> left;
+    auto passes = pass::make(THREADS, LIMITS, is);
+    for (std::uint64_t time = 0; time < TIMES; time++) {
+        std::vector<std::thread> threads;
+        for (std::uint64_t t = 0; t < THREADS; t++)
+            threads.emplace_back([&own = passes[t], t, time] {
+                for (std::uint64_t i = 0; i < KEYS; i++) {
+                    const regnubas::key key = (time * KEYS + i) * THREADS + t;
+                    CHECK(!*again([&] { return own.try_insert(key, {key, time}); }));
+                    if (i % 2 == 1) CHECK(*again([&] { return own.try_erase(key); }) == value(key, time));
+                }
+            });
+        for (auto &thread : threads) thread.join();
+        CHECK(passes[0].try_renew(THREADS, LIMITS, left).why() == status::shared);
+        for (std::uint64_t t = 1; t < THREADS; t++) passes[t].leave();
+        passes = passes[0].renew(THREADS, LIMITS, left);
+        CHECK(left.size() == (time + 1) * KEYS / 2 * THREADS);
+        for (const auto &[key, wanted] : left) CHECK(key / THREADS % 2 == 0 && passes[0].get(key) == wanted && wanted == value(key, key / THREADS / KEYS));
+    }
+    // of the shape that it was: a key far from all others takes two nodes in a trie, beside a full leaf three in a tree
+    const std::uint32_t before = passes[0].left().nodes;
+    passes[0].insert(1ull << 63, 6);
+    CHECK(before - passes[0].left().nodes == (is == regnubas::shape::trie ? 2 : 3));
+    for (std::uint64_t t = 1; t < THREADS; t++) passes[t].leave();
+    CHECK(why([&] { passes[0].renew(33, LIMITS, left); }) == status::limits && left.size() == TIMES * KEYS / 2 * THREADS + 1);
+    CHECK(passes[0].try_renew(1, LIMITS, left).why() == status::no_pass);
+}
+
 } // namespace
 
 int main() {
@@ -136,5 +198,10 @@ int main() {
     a_far_key(regnubas::shape::trie, 2);
     threads_share_it(regnubas::shape::tree);
     threads_share_it(regnubas::shape::trie);
-    std::puts("each call, each refusal, ranges, limits, four threads");
+    pairs_are_refused();
+    for (regnubas::shape is : {regnubas::shape::tree, regnubas::shape::trie}) {
+        it_begins_with_pairs(is);
+        it_is_renewed(is);
+    }
+    std::puts("each call, each refusal, ranges, limits, four threads, pairs to begin with, ten renewals");
 }

@@ -2,6 +2,7 @@
 nothing leaks, and the dictionary is as it was. REGNUBAS_LIBRARY names what was made of
 refusing.cpp."""
 import ctypes
+import gc
 import os
 
 import regnubas
@@ -37,17 +38,32 @@ def story():
     return refused == 0
 
 
-def is_done(which):
+def renewed():
+    """The same of one that begins with pairs, and is renewed."""
+    pairs = [(2 * key, key << 70) for key in range(9)]
+    [one] = regnubas.of_pairs(pairs, threads=1, changes=10)
+    try:
+        one, other = one.renew(threads=2, changes=5)
+    except regnubas.NotRenewed as fault:
+        assert fault.pairs == pairs and isinstance(fault.__cause__, regnubas.NoMemory)
+        return False
+    assert list(other.items()) == pairs
+    return True
+
+
+def is_done(tale, which):
     heap.refusing_refuse(which)
     try:
-        return story()
-    except regnubas.NoMemory:  # by `make`
+        return tale()
+    except regnubas.NoMemory:  # by `make`, or in an end
         return False
     finally:
+        gc.collect()
         assert heap.refusing_blocks() == 0
 
 
-assert is_done(0)
-asked = heap.refusing_asked()
-without = sum(is_done(which) for which in range(1, asked + 1))
-print(f"ok: {asked} allocations, each refused in turn; {without} of them could be done without")
+for tale in story, renewed:
+    assert is_done(tale, 0)
+    asked = heap.refusing_asked()
+    without = sum(is_done(tale, which) for which in range(1, asked + 1))
+    print(f"ok: {asked} allocations, each refused in turn; {without} of them could be done without")

@@ -74,6 +74,80 @@ def four_threads_and_a_close(passes):
     assert passes[0].close() == left[1:-1]
 
 
+def turn_over(time, number, one, sums, failures):
+    """Puts fresh keys in, and takes each third out."""
+    try:
+        for i in range(200):
+            key = (time * 200 + i) * THREADS + number
+            assert again(one.insert, key, value_of(key)) is None
+            if i % 3 == 0:
+                assert again(one.delete, key) == value_of(key)
+            else:
+                sums[number] += key
+    except BaseException as failure:
+        failures.append(failure)
+
+
+def test_ten_renewals():
+    """Ten times four threads work, and it is renewed: what is left went in and did not come out."""
+    limits = {"nodes": 8000, "scx": 4000, "tries": 100}
+    for trie in False, True:
+        passes = regnubas.make(THREADS, trie=trie, **limits)
+        failures, sums = [], [0] * THREADS
+        for time in range(10):
+            threads = [
+                threading.Thread(target=turn_over, args=(time, t, passes[t], sums, failures))
+                for t in range(THREADS)
+            ]
+            for thread in threads:
+                thread.start()
+            for thread in threads:
+                thread.join()
+            assert not failures, failures
+            refused(regnubas.Shared, passes[0].renew, THREADS, **limits)
+            for one in passes[1:]:
+                one.leave()
+            passes = passes[0].renew(THREADS, **limits)
+            pairs = list(passes[1].items())
+            assert sum(key for key, _ in pairs) == sum(sums)
+            assert all(value == value_of(key) for key, value in pairs)
+        # of the shape that it was: beside a full leaf a key takes three nodes, in a trie a far one two
+        passes[0][2**63] = 6
+        assert passes[0].left()[0] == 8000 - (2 if trie else 3)
+        for one in passes[1:]:
+            one.leave()
+        pairs = list(passes[0].items())
+        try:
+            passes[0].renew(33, **limits)
+        except regnubas.NotRenewed as fault:
+            assert fault.pairs == pairs and isinstance(fault.__cause__, regnubas.BadLimits)
+        else:
+            raise AssertionError("renewed")
+        refused(regnubas.NoPass, passes[0].renew, 1, **limits)
+
+
+def test_pairs_to_begin_with():
+    for count in 0, 1, 4, 5, 100, 10000:
+        for trie in False, True:
+            pairs = [(3 * i, value_of(3 * i)) for i in range(count)]
+            one, other = regnubas.of_pairs(pairs, 2, nodes=30, scx=10, tries=1, trie=trie)
+            assert one.left() == (30, 10) and list(other.items()) == pairs and 1 not in one
+            one[1] = 1
+            other.leave()
+            assert one.close() == sorted(pairs + [(1, 1)])
+    [one] = regnubas.of_pairs({5: 50, 9: 2**127}, threads=1, changes=1)
+    assert one == {5: 50, 9: 2**127}
+    for trie in False, True:
+        named = {"scx": 1, "tries": 1, "trie": trie}
+        refused(regnubas.OutOfOrder, regnubas.of_pairs, [(1, 1), (1, 2)], 1, nodes=1, **named)
+        refused(regnubas.TooMany, regnubas.of_pairs, [(1, 1)], 32, nodes=32768, **named)
+        refused(regnubas.BadLimits, regnubas.of_pairs, [(1, 1)], 33, nodes=1, **named)
+        refused(regnubas.BadLimits, regnubas.of_pairs, [(1, 1)], 0, nodes=1, **named)
+        refused(OverflowError, regnubas.of_pairs, [(2**64, 1)], 1, nodes=1, **named)
+        refused(OverflowError, regnubas.of_pairs, [(1, 2**128)], 1, nodes=1, **named)
+        refused(TypeError, regnubas.of_pairs, [(1, 1)], 1, changes=1, nodes=1, **named)
+
+
 def test_a_far_key_takes_two_nodes_in_a_trie():
     for trie, nodes in (False, 1), (True, 2):
         [one] = regnubas.make(1, nodes=20, scx=20, tries=1, trie=trie)

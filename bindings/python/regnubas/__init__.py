@@ -17,8 +17,9 @@ pairs call the library again by themselves; for other calls there is `again(m.in
 
 The library is the file that REGNUBAS_LIBRARY names, or the one that came with the wheel, or
 libregnubas.so.0 as the loader finds it."""
-from ._faults import BadLimits, Contended, Fault, Full, NoMemory, NoPass, Shared
-from ._pass import MOST_KEY, MOST_VALUE, Pass, again, make
+from ._faults import BadLimits, Contended, Fault, Full, NoMemory, NoPass, NotRenewed, OutOfOrder
+from ._faults import Shared, TooMany
+from ._pass import MOST_KEY, MOST_VALUE, Pass, again, make, of_pairs
 
 __all__ = [
     "MOST_KEY",
@@ -29,8 +30,12 @@ __all__ = [
     "Full",
     "NoMemory",
     "NoPass",
+    "NotRenewed",
+    "OutOfOrder",
     "Pass",
     "Shared",
+    "TooMany",
     "again",
     "make",
+    "of_pairs",
 ]

@@ -1,4 +1,5 @@
 """Why a call is not done."""
+from __future__ import annotations
 
 
 class Fault(Exception):
@@ -29,8 +30,33 @@ class Shared(Fault):
     """Other passes have not left: the dictionary is not closed."""
 
 
+class OutOfOrder(Fault, ValueError):
+    """The keys of the pairs do not rise."""
+
+
+class TooMany(Fault, ValueError):
+    """There are more pairs than there is room for."""
+
+
+class NotRenewed(Fault):
+    """The dictionary was closed, and the next refused, for the cause (`__cause__`) of this."""
+
+    def __init__(self, pairs: list[tuple[int, int]]) -> None:
+        super().__init__(NotRenewed.__doc__)
+        self.pairs = pairs  # all that it had, by rising key
+
+
 _SOME = 1
-_FAULTS = {2: Contended, 3: Full, 4: NoMemory, 5: BadLimits, 6: NoPass, 7: Shared}
+_FAULTS = {
+    2: Contended,
+    3: Full,
+    4: NoMemory,
+    5: BadLimits,
+    6: NoPass,
+    7: Shared,
+    8: OutOfOrder,
+    9: TooMany,
+}
 
 
 def is_some(status: int) -> bool:

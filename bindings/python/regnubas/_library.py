@@ -45,8 +45,8 @@ def _load() -> ctypes.CDLL:
     library = ctypes.CDLL(_path())  # whose calls let go of the interpreter's lock
     one, room, word = POINTER(RawPass), POINTER(Pair), c_uint64
     for name, result, arguments in [
-        ("make", c_uint32, [RawLimits, one, c_size_t]),
-        ("make_trie", c_uint32, [RawLimits, one, c_size_t]),
+        ("make_of_pairs", c_uint32, [RawLimits, room, c_size_t, one, c_size_t]),
+        ("make_trie_of_pairs", c_uint32, [RawLimits, room, c_size_t, one, c_size_t]),
         ("get", Answer, [one, word]),
         ("insert", Answer, [one, word, Value]),
         ("insert_new", Answer, [one, word, Value]),

@@ -2,11 +2,12 @@
 from __future__ import annotations
 
 import threading
-from collections.abc import Callable, ItemsView, Iterator, MutableMapping, ValuesView
+from collections.abc import Callable, ItemsView, Iterable, Iterator, Mapping, MutableMapping
+from collections.abc import ValuesView
 from ctypes import byref
 from typing import Any, NoReturn, TypeVar, overload
 
-from ._faults import Contended, is_some
+from ._faults import Contended, Fault, NotRenewed, is_some
 from ._library import Answer, Pair, RawLimits, RawPass, library, number, two_words, word
 from ._views import Items, Values
 
@@ -40,9 +41,9 @@ class Pass(MutableMapping[int, int]):
     """What a thread needs to make calls; `make` makes it. One that is forgotten leaves, and so does
     one at the end of its `with`."""
 
-    def __init__(self, most: int) -> None:
+    def __init__(self, most: int, trie: bool) -> None:
         # `most`: the pairs that the dictionary may have, since a new key takes a node at least
-        self._raw, self._most, self._lock = RawPass(), most, threading.Lock()
+        self._raw, self._most, self._trie, self._lock = RawPass(), most, trie, threading.Lock()
 
     def _call(self, call: Callable[..., Any], *arguments: Any) -> Any:
         with self._lock:
@@ -182,6 +183,33 @@ class Pass(MutableMapping[int, int]):
         [(5, 50)]
         """
         return self._listed(library.regnubas_close, self._most)
+
+    def renew(
+        self,
+        threads: int,
+        nodes: int | None = None,
+        scx: int | None = None,
+        tries: int = 100,
+        *,
+        changes: int | None = None,
+        new_keys: int | None = None,
+    ) -> list[Pass]:
+        """Ends the dictionary by its last pass, and begins the next, of the same shape, with its
+        pairs. A pass for each thread; limits as of `make`. Where the next is refused, `NotRenewed`
+        has the pairs.
+
+        >>> [m] = make(threads=1, changes=1)
+        >>> m[5] = 50
+        >>> one, other = m.renew(threads=2, changes=10)
+        >>> other[5], one.left()
+        (50, (60, 20))
+        """
+        each = _limits(nodes, scx, tries, changes, new_keys)
+        threads, pairs = word(threads, 16), self.close()
+        try:
+            return _begun(threads, each, pairs, self._trie)
+        except (Fault, MemoryError) as fault:
+            raise NotRenewed(pairs) from fault
 
     # What a mapping has. Each of these is one call of the library, but those that say otherwise,
     # and calls again while others interfere.
@@ -338,6 +366,32 @@ def _share(changes: int, new_keys: int | None) -> tuple[int, int]:
     return max(nodes, min(2 * nodes, _MOST_NODES)), max(scx, min(2 * scx, _MOST_NODES))
 
 
+def _limits(
+    nodes: int | None, scx: int | None, tries: int, changes: int | None, new_keys: int | None
+) -> RawLimits:
+    """The limits that a caller asks for."""
+    if changes is not None:
+        if nodes is not None or scx is not None:
+            raise TypeError("either changes, or nodes and scx")
+        nodes, scx = _share(word(changes, 32), None if new_keys is None else word(new_keys, 32))
+    elif nodes is None or scx is None or new_keys is not None:
+        raise TypeError("either changes, or nodes and scx")
+    return RawLimits(word(nodes, 32), word(scx, 32), word(tries, 32))
+
+
+def _begun(threads: int, each: RawLimits, pairs: list[tuple[int, int]], trie: bool) -> list[Pass]:
+    """The passes of a dictionary that begins with these pairs."""
+    begin = library.regnubas_make_trie_of_pairs if trie else library.regnubas_make_of_pairs
+    raw, room = (RawPass * threads)(), (Pair * len(pairs))()
+    for place, (key, value) in zip(room, pairs):
+        place.key, place.value = word(key), two_words(value)
+    is_some(begin(each, room, len(pairs), raw, threads))
+    made = [Pass(threads * each.nodes + len(pairs), trie) for _ in range(threads)]
+    for own, old in zip(made, raw):
+        own._raw.at, old.at = old.at, None
+    return made
+
+
 def make(
     threads: int,
     nodes: int | None = None,
@@ -369,16 +423,28 @@ def make(
     >>> m.pop_first()
     (0, 50)
     """
-    if changes is not None:
-        if nodes is not None or scx is not None:
-            raise TypeError("make: either changes, or nodes and scx")
-        nodes, scx = _share(word(changes, 32), None if new_keys is None else word(new_keys, 32))
-    elif nodes is None or scx is None or new_keys is not None:
-        raise TypeError("make: either changes, or nodes and scx")
-    each = RawLimits(word(nodes, 32), word(scx, 32), word(tries, 32))
-    raw = (RawPass * word(threads, 16))()
-    is_some((library.regnubas_make_trie if trie else library.regnubas_make)(each, raw, threads))
-    made = [Pass(threads * nodes) for _ in range(threads)]
-    for own, old in zip(made, raw):
-        own._raw.at, old.at = old.at, None
-    return made
+    return _begun(word(threads, 16), _limits(nodes, scx, tries, changes, new_keys), [], trie)
+
+
+def of_pairs(
+    pairs: Mapping[int, int] | Iterable[tuple[int, int]],
+    threads: int,
+    nodes: int | None = None,
+    scx: int | None = None,
+    tries: int = 100,
+    *,
+    changes: int | None = None,
+    new_keys: int | None = None,
+    trie: bool = False,
+) -> list[Pass]:
+    """A dictionary that begins with these pairs, each key above the one before; else as `make`. Its
+    tree is balanced, and nothing of a pass's share is taken for it. There is room for 2**20 nodes in
+    all: those of the passes, and two for each four pairs, in a trie up to two for each.
+
+    >>> [m] = of_pairs([(5, 50), (9, 90)], threads=1, changes=10)
+    >>> m.successor(5), m.left()
+    ((9, 90), (60, 20))
+    """
+    each = _limits(nodes, scx, tries, changes, new_keys)
+    items = pairs.items() if isinstance(pairs, Mapping) else pairs
+    return _begun(word(threads, 16), each, list(items), trie)

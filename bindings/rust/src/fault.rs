@@ -26,6 +26,10 @@ pub enum Fault {
     NoMemory,
     /// A number is out of its range.
     Limits,
+    /// The keys of the pairs do not rise.
+    Order,
+    /// There are more pairs than there is room for.
+    TooMany,
 }
 
 impl fmt::Display for Fault {
@@ -35,6 +39,8 @@ impl fmt::Display for Fault {
             Fault::Full => "full: too little is left of the pass's share",
             Fault::NoMemory => "no memory",
             Fault::Limits => "bad limits",
+            Fault::Order => "pairs out of order",
+            Fault::TooMany => "too many pairs",
         })
     }
 }
@@ -75,6 +81,51 @@ impl fmt::Display for CloseFault {
 
 impl Error for CloseFault {}
 
+/// Why a dictionary was not renewed.
+///
+/// ```
+/// use regnubas::{make, of_pairs, Fault, Limits, RenewFault};
+///
+/// let mut pass = make(1, Limits::for_changes(10, 10))?.remove(0);
+/// pass.insert(5, 50)?;
+/// let pairs = match pass.renew(33, Limits::for_changes(10, 10)) {
+///     Err(RenewFault::Refused { fault: Fault::Limits, pairs }) => pairs,
+///     _ => panic!("renewed"),
+/// };
+/// let mut passes = of_pairs(32, Limits::for_changes(10, 10), pairs)?;
+/// assert_eq!(passes[31].get(5), Some(50));
+/// # Ok::<(), Fault>(())
+/// ```
+#[derive(Debug)]
+pub enum RenewFault {
+    /// It was not closed.
+    Close(CloseFault),
+    /// It was closed, and the next was refused. Here are the pairs.
+    Refused {
+        /// Why the next was refused.
+        fault: Fault,
+        /// All pairs by rising key.
+        pairs: Vec<(u64, u128)>,
+    },
+}
+
+impl fmt::Display for RenewFault {
+    fn fmt(&self, f: &mut fmt::Formatter<'_>) -> fmt::Result {
+        match self {
+            RenewFault::Close(fault) => fault.fmt(f),
+            RenewFault::Refused { fault, .. } => fault.fmt(f),
+        }
+    }
+}
+
+impl Error for RenewFault {}
+
+impl From<CloseFault> for RenewFault {
+    fn from(fault: CloseFault) -> RenewFault {
+        RenewFault::Close(fault)
+    }
+}
+
 /// The status of a dictionary that others share.
 pub(crate) const SHARED: u32 = 7;
 
@@ -87,6 +138,8 @@ pub(crate) fn is_some(status: u32) -> Result<bool, Fault> {
         3 => Err(Fault::Full),
         4 => Err(Fault::NoMemory),
         5 => Err(Fault::Limits),
+        8 => Err(Fault::Order),
+        9 => Err(Fault::TooMany),
         // A `Pass` always holds one, and `close` has looked for `SHARED`.
         status => unreachable!("status {status}"),
     }

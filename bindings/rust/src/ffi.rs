@@ -39,6 +39,10 @@ pub struct Pair {
 }
 
 impl Pair {
+    pub fn of(key: u64, value: u128) -> Pair {
+        Pair { key, value: Value::of(value) }
+    }
+
     pub fn numbers(&self) -> (u64, u128) {
         (self.key, self.value.number())
     }
@@ -57,8 +61,20 @@ pub struct Count {
 }
 
 extern "C" {
-    pub fn regnubas_make(each: Limits, passes: *mut RawPass, count: usize) -> u32;
-    pub fn regnubas_make_trie(each: Limits, passes: *mut RawPass, count: usize) -> u32;
+    pub fn regnubas_make_of_pairs(
+        each: Limits,
+        pairs: *const Pair,
+        pairs_count: usize,
+        passes: *mut RawPass,
+        count: usize,
+    ) -> u32;
+    pub fn regnubas_make_trie_of_pairs(
+        each: Limits,
+        pairs: *const Pair,
+        pairs_count: usize,
+        passes: *mut RawPass,
+        count: usize,
+    ) -> u32;
     pub fn regnubas_get(pass: *mut RawPass, key: u64) -> Answer;
     pub fn regnubas_insert(pass: *mut RawPass, key: u64, value: Value) -> Answer;
     pub fn regnubas_insert_new(pass: *mut RawPass, key: u64, value: Value) -> Answer;

@@ -24,9 +24,9 @@ mod limits;
 mod pass;
 mod range;
 
-pub use fault::{CloseFault, Fault};
+pub use fault::{CloseFault, Fault, RenewFault};
 pub use limits::{Limits, Share};
-pub use pass::{make, make_trie, Pass};
+pub use pass::{make, make_trie, of_pairs, trie_of_pairs, Pass};
 pub use range::Range;
 
 /// Calls until other passes do not interfere.

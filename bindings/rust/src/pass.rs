@@ -1,6 +1,6 @@
 //! A pass: what a thread needs to make calls.
 
-use crate::fault::{is_some, CloseFault, Fault, SHARED};
+use crate::fault::{is_some, CloseFault, Fault, RenewFault, SHARED};
 use crate::ffi::*;
 use crate::range::{ends, Range};
 use crate::{Limits, Share};
@@ -23,6 +23,7 @@ pub struct Pass {
     raw: RawPass,
     /// The most pairs that the dictionary may have: a new key takes a node at least.
     most: usize,
+    trie: bool,
 }
 
 // SAFETY: what a pass leads to may cross threads, as the library proves of its handle; and `&mut`
@@ -45,7 +46,7 @@ impl fmt::Debug for Pass {
 /// # Ok::<(), Fault>(())
 /// ```
 pub fn make(passes: usize, each: Limits) -> Result<Vec<Pass>, Fault> {
-    made(regnubas_make, passes, each)
+    begun(passes, each, &[], false)
 }
 
 /// The same, but a trie: it stays low also where keys come in order.
@@ -61,19 +62,65 @@ pub fn make(passes: usize, each: Limits) -> Result<Vec<Pass>, Fault> {
 /// # Ok::<(), regnubas::Fault>(())
 /// ```
 pub fn make_trie(passes: usize, each: Limits) -> Result<Vec<Pass>, Fault> {
-    made(regnubas_make_trie, passes, each)
+    begun(passes, each, &[], true)
 }
 
-type Make = unsafe extern "C" fn(Limits, *mut RawPass, usize) -> u32;
+/// A dictionary that begins with these pairs, each key above the one before. Its tree is balanced,
+/// and nothing of a pass's share is taken for it. There is room for 2^20 nodes in all: those of the
+/// passes, and two for each four pairs.
+///
+/// ```
+/// use regnubas::{of_pairs, Fault, Limits};
+/// use std::collections::BTreeMap;
+///
+/// let map = BTreeMap::from([(5, 50), (9, 90)]);
+/// let mut passes = of_pairs(2, Limits::for_changes(10, 10), map)?;
+/// assert_eq!(passes[1].successor(5)?, Some((9, 90)));
+/// let fault = of_pairs(2, Limits::for_changes(10, 10), [(9, 90), (5, 50)]).unwrap_err();
+/// assert_eq!(fault, Fault::Order);
+/// # Ok::<(), Fault>(())
+/// ```
+pub fn of_pairs(
+    passes: usize,
+    each: Limits,
+    pairs: impl IntoIterator<Item = (u64, u128)>,
+) -> Result<Vec<Pass>, Fault> {
+    begun(passes, each, &raw_of(pairs), false)
+}
 
-fn made(make: Make, passes: usize, each: Limits) -> Result<Vec<Pass>, Fault> {
+/// The same, but a trie, which may take up to two nodes for each pair.
+///
+/// ```
+/// use regnubas::{trie_of_pairs, Limits};
+///
+/// let pairs = (0..1000).map(|key| (key, 50));
+/// let mut pass = trie_of_pairs(1, Limits::for_changes(10, 10), pairs)?.remove(0);
+/// assert_eq!(pass.pop_last()?, Some((999, 50)));
+/// # Ok::<(), regnubas::Fault>(())
+/// ```
+pub fn trie_of_pairs(
+    passes: usize,
+    each: Limits,
+    pairs: impl IntoIterator<Item = (u64, u128)>,
+) -> Result<Vec<Pass>, Fault> {
+    begun(passes, each, &raw_of(pairs), true)
+}
+
+fn raw_of(pairs: impl IntoIterator<Item = (u64, u128)>) -> Vec<Pair> {
+    pairs.into_iter().map(|(key, value)| Pair::of(key, value)).collect()
+}
+
+fn begun(passes: usize, each: Limits, pairs: &[Pair], trie: bool) -> Result<Vec<Pass>, Fault> {
     if passes > 32 {
         return Err(Fault::Limits);
     }
+    let make = if trie { regnubas_make_trie_of_pairs } else { regnubas_make_of_pairs };
     let mut raw: Vec<RawPass> = (0..passes).map(|_| RawPass::EMPTY).collect();
-    // SAFETY: these are `passes` zeroed passes, and no one else has them.
-    is_some(unsafe { make(each, raw.as_mut_ptr(), raw.len()) })?;
-    Ok(raw.into_iter().map(|raw| Pass { raw, most: passes * each.nodes as usize }).collect())
+    // SAFETY: these are `passes` zeroed passes, and no one else has them; nothing writes the pairs.
+    let status = unsafe { make(each, pairs.as_ptr(), pairs.len(), raw.as_mut_ptr(), raw.len()) };
+    is_some(status)?;
+    let most = passes * each.nodes as usize + pairs.len();
+    Ok(raw.into_iter().map(|raw| Pass { raw, most, trie }).collect())
 }
 
 fn value_of(answer: Answer) -> Result<Option<u128>, Fault> {
@@ -326,6 +373,25 @@ impl Pass {
         }
         is_some(count.status).map_err(|_| CloseFault::NoMemory)?;
         Ok(room[..count.pairs as usize].iter().map(Pair::numbers).collect())
+    }
+
+    /// Ends the dictionary by its last pass, and begins the next, of the same shape and with so many
+    /// passes, with its pairs.
+    ///
+    /// ```
+    /// # use regnubas::{make, Limits, Share};
+    /// let mut pass = make(1, Limits { nodes: 3, scx: 1, tries: 1 })?.remove(0);
+    /// pass.insert(5, 50)?;
+    /// let mut passes = pass.renew(2, Limits { nodes: 300, scx: 100, tries: 100 })?;
+    /// assert_eq!(passes[1].get(5), Some(50));
+    /// assert_eq!(passes[0].left(), Share { nodes: 300, scx: 100 });
+    /// # Ok::<(), Box<dyn std::error::Error>>(())
+    /// ```
+    pub fn renew(self, passes: usize, each: Limits) -> Result<Vec<Pass>, RenewFault> {
+        let trie = self.trie;
+        let pairs = self.close()?;
+        begun(passes, each, &raw_of(pairs.iter().copied()), trie)
+            .map_err(|fault| RenewFault::Refused { fault, pairs })
     }
 }
 

@@ -1,7 +1,7 @@
 //! Each allocation of the library is refused in turn: the call answers `NoMemory`, or does without;
 //! nothing leaks, and the dictionary is as it was. What follows takes the place of what the library
 //! asks of `malloc`.
-use regnubas::{make, CloseFault, Fault, Limits};
+use regnubas::{make, of_pairs, CloseFault, Fault, Limits, RenewFault};
 use std::alloc::{alloc, dealloc, realloc, Layout};
 use std::ptr::null_mut;
 use std::sync::atomic::{AtomicUsize, Ordering::SeqCst};
@@ -102,8 +102,24 @@ fn story() -> Result<(), Fault> {
     refused
 }
 
-#[test]
-fn each_allocation_is_refused() {
+/// The same of one that begins with pairs, and is renewed.
+fn renewed() -> Result<(), Fault> {
+    ASKED.store(0, SeqCst);
+    let all: Vec<(u64, u128)> = (0..9).map(|key| (2 * key, u128::from(key) << 70)).collect();
+    let pass = of_pairs(1, Limits::for_changes(9, 9), all.clone())?.remove(0);
+    match pass.renew(2, Limits::for_changes(5, 5)) {
+        Err(RenewFault::Close(CloseFault::NoMemory)) => return Err(Fault::NoMemory),
+        Err(RenewFault::Refused { fault, pairs }) => {
+            assert_eq!(pairs, all);
+            return Err(fault);
+        }
+        passes => assert_eq!(passes.unwrap()[1].get(16), Some(8 << 70)),
+    }
+    Ok(())
+}
+
+fn refuse_each(story: fn() -> Result<(), Fault>) {
+    REFUSE.store(0, SeqCst);
     assert_eq!((story(), BLOCKS.load(SeqCst)), (Ok(()), 0));
     let asked = ASKED.load(SeqCst);
     let mut refused = 0;
@@ -115,4 +131,10 @@ fn each_allocation_is_refused() {
         assert_eq!(BLOCKS.load(SeqCst), 0);
     }
     assert!(refused > asked / 2, "{refused} of {asked}");
+}
+
+#[test]
+fn each_allocation_is_refused() {
+    refuse_each(story);
+    refuse_each(renewed);
 }

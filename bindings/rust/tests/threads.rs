@@ -1,5 +1,6 @@
 //! Four threads on one dictionary.
-use regnubas::{again, make, make_trie, CloseFault, Fault, Limits, Pass};
+use regnubas::{again, make, make_trie, of_pairs, trie_of_pairs};
+use regnubas::{CloseFault, Fault, Limits, Pass, RenewFault};
 
 const THREADS: u64 = 4;
 const KEYS: u64 = 3000;
@@ -100,4 +101,86 @@ fn what_is_refused() {
     assert_eq!((passes[0].pop_first(), passes[0].pop_last()), (Ok(None), Ok(None)));
     assert_eq!(passes[0].insert(5, 50), Ok(None));
     assert_eq!(passes[0].remove(5), Err(Fault::Full));
+}
+
+/// Puts fresh keys in, and takes each third out.
+fn turn_over(time: u64, number: u64, mut pass: Pass) -> (Pass, u64) {
+    let mut sum = 0;
+    for i in 0..300 {
+        let key = key_of(number, time * 300 + i);
+        assert_eq!(again(|| pass.insert(key, value_of(key))), Ok(None));
+        if i % 3 == 0 {
+            assert_eq!(again(|| pass.remove(key)), Ok(Some(value_of(key))));
+        } else {
+            sum += key;
+        }
+    }
+    (pass, sum)
+}
+
+/// Ten times four threads work, and it is renewed: what is left is what went in and did not come
+/// out.
+fn renew_ten_times(mut passes: Vec<Pass>) -> Pass {
+    const EACH: Limits = Limits { nodes: 8000, scx: 4000, tries: 1 };
+    let mut sum = 0;
+    for time in 0..10 {
+        let threads: Vec<_> = (0..THREADS)
+            .zip(passes)
+            .map(|(t, pass)| std::thread::spawn(move || turn_over(time, t, pass)))
+            .collect();
+        let mut ended: Vec<_> = threads.into_iter().map(|t| t.join().unwrap()).collect();
+        sum += ended.iter().map(|(_, sum)| sum).sum::<u64>();
+        let (last, _) = ended.pop().unwrap();
+        let last = match last.renew(4, EACH) {
+            Err(RenewFault::Close(CloseFault::Shared(last))) => last,
+            _ => panic!("renewed while shared"),
+        };
+        drop(ended);
+        passes = last.renew(4, EACH).unwrap();
+        let pairs: Vec<_> = passes[1].range(..).map(Result::unwrap).collect();
+        assert_eq!(pairs.len() as u64, (time + 1) * THREADS * 200);
+        assert_eq!(pairs.iter().map(|pair| pair.0).sum::<u64>(), sum);
+        assert!(pairs.iter().all(|&(key, value)| value == value_of(key)));
+    }
+    passes.pop().unwrap()
+}
+
+#[test]
+fn ten_renewals() {
+    let tree = renew_ten_times(make(4, MOST).unwrap());
+    let trie = renew_ten_times(make_trie(4, MOST).unwrap());
+    // of the shape that it was: beside a full leaf a key takes three nodes, in a trie a far one two
+    for (mut pass, nodes) in [(tree, 3), (trie, 2)] {
+        let before = pass.left().nodes;
+        assert_eq!(pass.insert(1 << 63, 6), Ok(None));
+        assert_eq!(before - pass.left().nodes, nodes);
+    }
+}
+
+type Begin = fn(usize, Limits, Vec<(u64, u128)>) -> Result<Vec<Pass>, Fault>;
+
+#[test]
+fn pairs_to_begin_with() {
+    let begins: [Begin; 2] = [of_pairs, trie_of_pairs];
+    let each = Limits { nodes: 30, scx: 10, tries: 1 };
+    for count in [0, 1, 4, 5, 100, 10_000] {
+        let pairs: Vec<_> = (0..count).map(|i| (3 * i, value_of(3 * i))).collect();
+        for begin in begins {
+            let mut passes = begin(2, each, pairs.clone()).unwrap();
+            assert!(pairs.iter().all(|&(key, value)| passes[1].get(key) == Some(value)));
+            assert_eq!((passes[0].get(1), passes[0].left().nodes), (None, 30));
+            let mut pass = passes.remove(0);
+            assert_eq!(pass.insert(1, 1), Ok(None));
+            drop(passes);
+            let left = pass.close().unwrap(); // more than the passes have nodes
+            assert_eq!(left.len(), pairs.len() + 1);
+            assert!(left.into_iter().filter(|pair| pair.0 != 1).eq(pairs.iter().copied()));
+        }
+    }
+    for begin in begins {
+        assert_eq!(begin(1, each, vec![(1, 1), (1, 2)]).err(), Some(Fault::Order));
+        assert_eq!(begin(33, each, vec![(1, 1)]).err(), Some(Fault::Limits));
+        assert_eq!(begin(0, each, vec![(1, 1)]).err(), Some(Fault::Limits));
+        assert_eq!(begin(32, MOST, vec![(1, 1)]).err(), Some(Fault::TooMany));
+    }
 }

@@ -158,6 +158,23 @@ void check_calls(const char* name, Word calls, Draws& draws) {
     std::printf("%s: %ju calls of one thread reply as those of std::map\n", name, calls);
 }
 
+// Maps that begin with pairs.
+template <class Map>
+void check_planted(const char* name, Word rounds, Draws& draws) {
+    for (Word round = 0; round < rounds; round++) {
+        Model model;
+        const Word kind = draws.below(5), most = draws.below(round % 10 ? 40 : 5000);
+        for (Word put = 0; put < most; put++)
+            model[draws.key(kind)] = Value(draws.next()) << draws.below(2) * 64 | draws.next();
+        std::vector<Pair> pairs;
+        for (const auto& [key, value] : model) pairs.push_back({key, value});
+        const Map map(pairs);
+        for (const auto& [key, value] : model) demand(map.get(key) == value, "get of a key at the start");
+        for (Word call = 0; call < 200; call++) look(map, model, draws.key(kind), draws);
+    }
+    std::printf("%s: %ju maps that begin with pairs reply as those of std::map\n", name, rounds);
+}
+
 // Keys that went in and did not come out: how many, and their sum.
 struct Balance {
     Word count = 0, sum = 0;
@@ -335,6 +352,7 @@ template <class Map>
 void check(const char* name, Word seed) {
     Draws draws(seed);
     check_calls<Map>(name, 1000000, draws);
+    check_planted<Map>(name, 1000, draws);
     check_sums<Map>(name, 20, seed);
     check_scheduler<Map>(name, 60);
     check_falling<Map>(name, 60);

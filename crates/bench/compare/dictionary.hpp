@@ -1,7 +1,9 @@
 // A dictionary on a tree or a trie: get, insert, insert_new, remove, remove_if, pop_first, pop_last,
 // replace_if, successor, predecessor, range.
 #pragma once
+#include <algorithm>
 #include <optional>
+#include <vector>
 
 #include "bits.hpp"
 #include "forest.hpp"
@@ -70,6 +72,77 @@ struct Reply {
 // What parts the keys below forks: in a tree the order in which they came, in a trie their bits.
 enum class Parting { order, bits };
 
+// The nodes from node 3 on of a map that begins with pairs: each behind what stands below it, and as the last
+// a fork above all keys.
+template <Parting PARTING>
+struct Planting {
+    static constexpr bool BY_BITS = PARTING == Parting::bits;
+
+    const Pair* first;
+    const Pair* last;
+
+    Planting(const Pair* first, const Pair* last) : first(first), last(last) {}
+
+    Word nodes() const { return first == last ? 0 : 1 + nodes_over(first, last); }
+
+    // Fills them, and answers the number of the last.
+    Word fill(Table table) const {
+        Word next = 3;
+        const Word top = grow(table, next, first, last, 2);
+        return fork(table, next, 1, 1, 0, top, 1);
+    }
+
+private:
+    // Where the pairs are parted: in halves, the first of full leaves, or at a bit.
+    static const Pair* middle(const Pair* first, const Pair* last) {
+        if (!BY_BITS) return first + 4 * ((Word(last - first + 3) / 4 + 1) / 2);
+        const ForkBetween between(first->key, last[-1].key);
+        return std::partition_point(first, last, [&](const Pair& pair) { return pair.key < between.key; });
+    }
+
+    static Word nodes_over(const Pair* first, const Pair* last) {
+        if (Word(last - first) <= Pairs::MOST) return 1;
+        if (!BY_BITS) return 2 * (Word(last - first + 3) / 4) - 1;
+        const Pair* const half = middle(first, last);
+        return 1 + nodes_over(first, half) + nodes_over(half, last);
+    }
+
+    static Word grow(Table table, Word& next, const Pair* first, const Pair* last, Word level) {
+        if (Word(last - first) <= Pairs::MOST) return leaf(table, next, first, last, BY_BITS ? LEVEL_OF_LEAVES : level);
+        const Pair* const half = middle(first, last);
+        Word key = half->key;
+        if (BY_BITS) {
+            const ForkBetween between(first->key, last[-1].key);
+            level = between.level;
+            key = between.key;
+        }
+        const Word left = grow(table, next, first, half, level + 1);
+        const Word right = grow(table, next, half, last, level + 1);
+        return fork(table, next, level, 0, key, left, right);
+    }
+
+    static Word leaf(Table table, Word& next, const Pair* first, const Pair* last, Word level) {
+        const Node node = table.node(next++);
+        node.plant(HEAD, Head(level, true, 0).word);
+        node.plant(MORE, last - first - 1);
+        for (Word index = 0; first + index < last; index++) {
+            node.plant(index == 0 ? KEY : KEY1 - 2 + 2 * index, first[index].key);
+            node.plant(index == 0 ? VALUE : VALUE1 - 2 + 2 * index, Word(first[index].value));
+            node.plant(HIGH + index, Word(first[index].value >> 64));
+        }
+        return node.number;
+    }
+
+    static Word fork(Table table, Word& next, Word level, Word class_, Word key, Word left, Word right) {
+        const Node node = table.node(next++);
+        node.plant(HEAD, Head(level, false, class_).word);
+        node.plant(KEY, key);
+        node.plant(LEFT, left);
+        node.plant(RIGHT, right);
+        return node.number;
+    }
+};
+
 template <Parting PARTING>
 class Dictionary {
 public:
@@ -78,14 +151,11 @@ public:
     // As many pairs as a range has room for from the start.
     using RangeRoom = Room<Pair, 64>;
 
-    Dictionary(Word passes, Word tries) : forest_(OPENING, passes), tries_(tries) {
-        const Table& table = forest_.table();
-        table.node(0).store(HEAD, Head(0, false, 2).word);
-        table.node(0).store(LEFT, 1);
-        table.node(0).store(RIGHT, 2);
-        table.node(1).store(HEAD, Head(1, true, 1).word);
-        table.node(2).store(HEAD, Head(1, true, 2).word);
-    }
+    Dictionary(Word passes, Word tries) : forest_(OPENING, passes), tries_(tries) { open(1, 1); }
+
+    // One that begins with these pairs, in rising order of keys, and whose passes have no share.
+    explicit Dictionary(const std::vector<Pair>& pairs)
+        : Dictionary(Planting<PARTING>(pairs.data(), pairs.data() + pairs.size())) {}
 
     Pass pass(Word number) const { return forest_.pass(number); }
 
@@ -146,6 +216,25 @@ public:
 
 private:
     static constexpr bool BY_BITS = PARTING == Parting::bits;
+
+    explicit Dictionary(const Planting<PARTING>& planting)
+        : forest_(OPENING + rounded(planting.nodes()), 1, 0), tries_(1) {
+        if (planting.first == planting.last) open(1, 1);
+        else open(planting.fill(forest_.table()), 2);
+    }
+
+    // A table has room for up to 31 nodes more than are planted.
+    static Word rounded(Word nodes) { return (nodes + 31) / 32 * 32; }
+
+    // The root over this node and node 2, and node 1 on this level.
+    void open(Word left, Word level) {
+        const Table& table = forest_.table();
+        table.node(0).store(HEAD, Head(0, false, 2).word);
+        table.node(0).store(LEFT, left);
+        table.node(0).store(RIGHT, 2);
+        table.node(1).store(HEAD, Head(level, true, 1).word);
+        table.node(2).store(HEAD, Head(1, true, 2).word);
+    }
 
     // The node that a pop of a trie covers, and each edit that puts a fork above another: what is first or
     // last in the trie stays so while no such edit is made.

@@ -45,6 +45,9 @@ struct Node {
 
     Word load(Word word) const { return words[word].load(); }
     void store(Word word, Word value) const { words[word].store(value); }
+
+    // Before any thread shares the word.
+    void plant(Word word, Word value) const { words[word].store(value, std::memory_order_relaxed); }
 };
 
 struct Snap {
@@ -199,10 +202,10 @@ private:
 
 class Forest {
 public:
-    // Nodes 0 to `opening` - 1 are there from the start.
-    Forest(Word opening, Word passes) : first_node_(opening) {
-        const Word nodes = NODE_WORDS * (opening + passes * SHARE);
-        const Word size = nodes + SCX_WORDS * (FIRST_SCX + passes * SHARE);
+    // Nodes 0 to `opening` - 1 are there from the start, beside the shares of the passes.
+    Forest(Word opening, Word passes, Word share = SHARE) : first_node_(opening) {
+        const Word nodes = NODE_WORDS * (opening + passes * share);
+        const Word size = nodes + SCX_WORDS * (FIRST_SCX + passes * share);
         words_.reset(new Shared[size]);
         for (Word at = 0; at < size; at++) words_[at].store(0, std::memory_order_relaxed);
         table_ = {&words_[0], &words_[nodes]};

@@ -1,6 +1,6 @@
 // Rounds on a tree or a trie: `get`, `mix90`, `mix50`, `mix0`, `insert`, `insert_new`, `delete`, `delete_if`,
 // `pop`, `pop_last`, `replace`, `succ`, `pred`, `range1`, `range4`, `range16`, `range64`, `rise_insert`,
-// `rise_get`, `schedule`.
+// `rise_get`, `schedule`; and `load`, which has none: a map is made that begins with pairs.
 #pragma once
 #include "dictionary.hpp"
 #include "tally.hpp"
@@ -9,7 +9,7 @@ namespace maps {
 
 enum class Work {
     get, mix90, mix50, mix0, insert, insert_new, remove, remove_if, pop, pop_last, replace, succ, pred,
-    range1, range4, range16, range64, rise_insert, rise_get, schedule
+    range1, range4, range16, range64, rise_insert, rise_get, schedule, load
 };
 
 // Whether rounds put keys in behind all others.
@@ -81,6 +81,13 @@ struct Task {
         return puts_behind(work) ? Keys::rising(keys + thread, threads) : Keys{Draws::of_thread(thread, deal)};
     }
 };
+
+// So many keys in order, each with itself.
+inline std::vector<Pair> rising(Word count) {
+    std::vector<Pair> pairs(count);
+    for (Word key = 0; key < count; key++) pairs[key] = {key, key};
+    return pairs;
+}
 
 // Puts so many pairs of new keys into the map.
 template <class Map>
@@ -182,6 +189,7 @@ Tally rounds(const Map& map, const Task& task, Word thread) {
             case Work::range16: list(map, key, 16, tally); break;
             case Work::range64: list(map, key, 64, tally); break;
             case Work::schedule: reschedule(map, pass, key, call, tally); break;
+            case Work::load: break;
         }
     }
     return tally;

@@ -65,6 +65,7 @@ const WorkRow WORKS[] = {
     tree_row(maps::Work::rise_insert, "rise_insert", 10000, 1000),
     tree_row(maps::Work::rise_get, "rise_get", UINT32_MAX, 10000),
     tree_row(maps::Work::schedule, "schedule", 8000, 2000),
+    {"tree", "load", static_cast<Word>(maps::Work::load), 1, 400000, 100000},
     peer_row(maps::Work::get, "peer_get", UINT32_MAX, 100000),
     peer_row(maps::Work::mix90, "peer_mix90", 200000, 100000),
     peer_row(maps::Work::mix50, "peer_mix50", 40000, 20000),
@@ -123,8 +124,23 @@ Repetition timed(Word threads, const F& rounds) {
     return {static_cast<Word>(took.count()), all};
 }
 
+// Makes a map of as many pairs as there are rounds, which is timed, and looks some up, as far apart as they can be.
+template <class Map>
+Repetition load(const maps::Task& task) {
+    const std::vector<Pair> pairs = maps::rising(task.calls);
+    const auto start = std::chrono::steady_clock::now();
+    const Map map(pairs);
+    const std::chrono::nanoseconds took = std::chrono::steady_clock::now() - start;
+    Tally tally;
+    const Word looks = std::min<Word>(task.calls, 100);
+    for (Word look = 0; look < looks; look++) maps::look_up(map, look * (task.calls / looks), tally);
+    tally.done = task.calls;
+    return {static_cast<Word>(took.count()), tally};
+}
+
 template <class Map>
 Repetition run_on_map(const maps::Task& task) {
+    if (task.work == maps::Work::load) return load<Map>(task);
     const Map map(task.threads + task.fillers(), maps::TRIES);
     maps::fill_up(map, task);
     return timed(task.threads, [&](Word thread) { return maps::rounds(map, task, thread); });
@@ -170,13 +186,19 @@ std::optional<Word> number_at(int count, char** words, int place, Word least, Wo
     return number;
 }
 
+// How many keys a row tells: none of cells, as many as pairs of a load.
+Word keys_told(const WorkRow& row, Word calls, Word keys) {
+    if (row.kind == "cells") return 0;
+    return static_cast<maps::Work>(row.work) == maps::Work::load ? calls : keys;
+}
+
 std::optional<Task> task_of(const WorkRow& row, int count, char** words) {
     const auto threads = number_at(count, words, 2, 1, row.most_threads, 1);
     const auto calls = number_at(count, words, 3, 1, row.most_calls, row.usual_calls);
     const auto times = number_at(count, words, 4, 0, UINT32_MAX, 15);
     const auto keys = number_at(count, words, 5, 1, MOST_KEYS, row.kind == "peers" ? KEYS_OF_PEERS : USUAL_KEYS);
     if (!threads || !calls || !times || !keys || count > 6) return std::nullopt;
-    return Task{row, *threads, *calls, *times, row.kind == "cells" ? 0 : *keys};
+    return Task{row, *threads, *calls, *times, keys_told(row, *calls, *keys)};
 }
 
 int refuse() {

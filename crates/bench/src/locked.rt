@@ -5,6 +5,7 @@ ghost use Rattle.bench.specs.Tally.{total};
 use crate::call::{told, told_pair, told_pairs};
 use crate::fault::Fault;
 use crate::keys::Keys;
+use crate::load::{loaded, looks_of};
 use crate::repetition::{Repetition, nanos_since, now, sum};
 use crate::tally::{End, Tally};
 use crate::task::Task;
@@ -19,6 +20,9 @@ use std::thread::{Threads, map_vec};
 
 /// A map that one thread at a time has.
 type Locked = Mutex<BTreeMap<u64, u64>>;
+
+/// The keys of a load.
+const FROM_ZERO: Keys = Keys::Rising { next: 0, apart: 1 };
 
 /// Makes a map and fills it, and lets the threads work in it, by the same draws as in a dictionary.
 pub fn run<R: Threads + Wait + Sync + Clock + AllocGlobal>(
@@ -35,6 +39,19 @@ pub fn run<R: Threads + Wait + Sync + Clock + AllocGlobal>(
         nanos,
         tally: sum(&tallies),
     })
+}
+
+/// Makes a map of as many pairs as the task has rounds, which is timed, and looks some up.
+pub fn load<R: Wait + Clock + AllocGlobal>(rt: &R, task: Task) -> Result<Repetition, Fault> {
+    let alloc = rt.alloc();
+    let start = now(rt)?;
+    let mut map = BTreeMap::new(alloc);
+    fill(&mut map, FROM_ZERO, task.keys, task.calls)?;
+    let nanos = nanos_since(rt, start)?;
+    let map = Mutex::new(map);
+    let (looks, keys) = looks_of(task);
+    let looked = rounds(rt, alloc, &map, looks, MapWork::Get, keys);
+    Ok(loaded(task, nanos, looked))
 }
 
 /// A map with the pairs that a dictionary has at the start.

@@ -8,6 +8,7 @@ mod dictionary;
 mod draws;
 mod fault;
 mod keys;
+mod load;
 mod locked;
 mod measure;
 mod pair;

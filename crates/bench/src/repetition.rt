@@ -6,8 +6,8 @@ ghost use Rattle.forest.specs.Passes.{IsOf};
 use crate::fault::Fault;
 use crate::tally::Tally;
 use crate::task::Task;
-use crate::work::Work;
-use crate::{cells, dictionary, locked};
+use crate::work::{Loaded, Work};
+use crate::{cells, dictionary, load, locked};
 use arena::Shape;
 use dict::{ByBits, ByOrder};
 use forest::{Forest, Pass};
@@ -20,13 +20,14 @@ use std::time::Instant;
 /// What a repetition took in nanoseconds, and how its rounds ended.
 #[derive(Clone, Copy)]
 pub struct Repetition {
-    /// The time from the threads' start to their end.
+    /// The time from the threads' start to their end, or of the making.
     pub nanos: u128,
     /// How the rounds of all threads ended.
     pub tally: Tally,
 }
 
-/// Makes a forest or a map, and lets the threads work in it. The making is not timed.
+/// Makes a forest or a map, and lets the threads work in it. The making is timed where it is the
+/// work.
 pub fn run<R: Threads + Wait + Sync + Clock + AllocGlobal>(
     rt: &R,
     task: Task,
@@ -36,6 +37,9 @@ pub fn run<R: Threads + Wait + Sync + Clock + AllocGlobal>(
         Work::Tree(work) | Work::Peers(work) => dictionary::run::<R, ByOrder>(rt, task, work),
         Work::Trie(work) => dictionary::run::<R, ByBits>(rt, task, work),
         Work::Locked(work) => locked::run(rt, task, work),
+        Work::Load(Loaded::Tree) => load::run::<R, ByOrder>(rt, task),
+        Work::Load(Loaded::Trie) => load::run::<R, ByBits>(rt, task),
+        Work::Load(Loaded::Locked) => locked::load(rt, task),
     }
 }
 

@@ -72,12 +72,14 @@ impl Task {
     }
 }
 
-/// The fields of a row that say what is measured. For cells 0 keys are reported.
+/// The fields of a row that say what is measured. For cells 0 keys are reported, for a load as many
+/// as it has pairs.
 impl fmt::Display for Task {
     fn fmt<W: fmt::Write>(&self, f: &mut fmt::Formatter<W>) -> fmt::Result {
         let (work, threads, calls, times) = (self.work, self.threads, self.calls, self.times);
         let keys = match self.work {
             Work::Cells(_) => 0,
+            Work::Load(_) => self.calls,
             Work::Tree(_) | Work::Trie(_) | Work::Peers(_) | Work::Locked(_) => self.keys,
         };
         write!(f, "{work},{keys},{threads},{calls},{times}")

@@ -24,6 +24,17 @@ pub enum Work {
     Peers(MapWork),
     /// The same call of a map behind a lock, as a measure for the dictionary.
     Locked(MapWork),
+    /// A map is made that begins with pairs, in rising order of keys; a round is a pair.
+    Load(Loaded),
+}
+
+/// What is made of pairs.
+#[derive(Clone, Copy)]
+pub enum Loaded {
+    Tree,
+    Trie,
+    /// A map behind a lock, into which they are put one after another.
+    Locked,
 }
 
 /// What a thread does with cells.
@@ -94,9 +105,17 @@ pub struct Bounds {
     ghost few_keys: { usual_keys ≤ 100000 },
 }
 
+/// One thread makes it. A trie takes two nodes for a pair at most.
+const LOAD_BOUNDS: Bounds = Bounds {
+    threads: 1,
+    calls: 400_000,
+    usual_calls: 100_000,
+    usual_keys: USUAL_KEYS,
+};
+
 impl Work {
     /// Each work once.
-    pub const ALL: [Work; 56] = [
+    pub const ALL: [Work; 59] = [
         Work::Cells(CellWork::Llx),
         Work::Cells(CellWork::Own),
         Work::Cells(CellWork::Two),
@@ -121,6 +140,7 @@ impl Work {
         Work::Tree(MapWork::RiseInsert),
         Work::Tree(MapWork::RiseGet),
         Work::Tree(MapWork::Schedule),
+        Work::Load(Loaded::Tree),
         Work::Trie(MapWork::Get),
         Work::Trie(MapWork::Insert),
         Work::Trie(MapWork::Delete),
@@ -130,6 +150,7 @@ impl Work {
         Work::Trie(MapWork::RiseInsert),
         Work::Trie(MapWork::RiseGet),
         Work::Trie(MapWork::Schedule),
+        Work::Load(Loaded::Trie),
         Work::Peers(MapWork::Get),
         Work::Peers(MapWork::Mix { looks: 90 }),
         Work::Peers(MapWork::Mix { looks: 50 }),
@@ -153,33 +174,36 @@ impl Work {
         Work::Locked(MapWork::RiseInsert),
         Work::Locked(MapWork::RiseGet),
         Work::Locked(MapWork::Schedule),
+        Work::Load(Loaded::Locked),
     ];
 
     /// The word of the command line that asks for all works of its kind.
     pub fn kind(self) -> &'static str {
         match self {
             Work::Cells(_) => "cells",
-            Work::Tree(_) => "tree",
-            Work::Trie(_) => "trie",
+            Work::Tree(_) | Work::Load(Loaded::Tree) => "tree",
+            Work::Trie(_) | Work::Load(Loaded::Trie) => "trie",
             Work::Peers(_) => "peers",
-            Work::Locked(_) => "mutex",
+            Work::Locked(_) | Work::Load(Loaded::Locked) => "mutex",
         }
     }
 
     /// What the work is done on.
     pub fn structure(self) -> &'static str {
-        match self {
-            Work::Cells(_) | Work::Tree(_) | Work::Trie(_) | Work::Peers(_) => "regnubas",
-            Work::Locked(_) => "mutex",
-        }
+        if self.is_locked() { "mutex" } else { "regnubas" }
+    }
+
+    /// Whether it is of a map behind a lock.
+    fn is_locked(self) -> bool {
+        matches!(self, Work::Locked(_) | Work::Load(Loaded::Locked))
     }
 
     /// What precedes the name of what it does in its own.
     fn prefix(self) -> &'static str {
         match self {
-            Work::Trie(_) => "trie_",
+            Work::Trie(_) | Work::Load(Loaded::Trie) => "trie_",
             Work::Peers(_) => "peer_",
-            Work::Cells(_) | Work::Tree(_) | Work::Locked(_) => "",
+            Work::Cells(_) | Work::Tree(_) | Work::Locked(_) | Work::Load(_) => "",
         }
     }
 
@@ -190,18 +214,16 @@ impl Work {
             Work::Tree(work) | Work::Trie(work) | Work::Peers(work) | Work::Locked(work) => {
                 work.name()
             }
+            Work::Load(_) => "load",
         }
     }
 
     /// Whether a word of the command line asks for it: by its name, but if it is of a map behind a
     /// lock, by its kind, or for all.
     pub fn is_asked_by(self, word: &str) -> bool {
-        match self {
-            Work::Locked(_) => word == "all" || word == self.kind(),
-            _ => word == "all"
-                || word == self.kind()
-                || word.strip_prefix(self.prefix()) == Some(self.deed()),
-        }
+        word == "all"
+            || word == self.kind()
+            || !self.is_locked() && word.strip_prefix(self.prefix()) == Some(self.deed())
     }
 
     pub fn bounds(self) -> Bounds {
@@ -209,6 +231,7 @@ impl Work {
             Work::Cells(work) => work.bounds(),
             Work::Tree(work) | Work::Trie(work) | Work::Locked(work) => work.bounds(USUAL_KEYS),
             Work::Peers(work) => work.bounds(KEYS_OF_PEERS),
+            Work::Load(_) => LOAD_BOUNDS,
         }
     }
 
@@ -223,7 +246,7 @@ impl Work {
     /// What is done, if it is done on a map.
     fn on_map(self) -> Option<MapWork> {
         match self {
-            Work::Cells(_) => None,
+            Work::Cells(_) | Work::Load(_) => None,
             Work::Tree(work) | Work::Trie(work) | Work::Peers(work) | Work::Locked(work) => {
                 Some(work)
             }

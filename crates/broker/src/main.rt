@@ -1,4 +1,5 @@
-//! A broker's table of counters: four threads count messages by topic, each message once.
+//! A broker's table of counters: four threads count messages by topic, each message once. Every
+//! evening the table is closed and renewed, so that its passes have whole shares the next day.
 #![tactic(auto)]
 
 ghost use Rattle.std.specs.Prelude.{IfOk};
@@ -6,15 +7,15 @@ ghost use Rattle.std.specs.List.{All};
 ghost use Rattle.regnubas.specs.Passes.{IsOf};
 
 use anyhow::{Result, bail};
-use regnubas::{Forest, Limits, Name8, Pass, Trie, UpdateFault};
+use regnubas::{Closed, Forest, Limits, Name8, Pass, Trie, UpdateFault};
 use std::alloc::{AllocError, Global};
 use std::thread::{Threads, map_vec};
 
 /// From topics to how many messages there were.
 type Table = Trie<Name8, u32>;
 
-/// A pass for each thread. Each message takes a node and an SCX-record, which are never given back,
-/// and so does a try that is lost.
+/// A pass for each thread. Each message of a day takes a node and an SCX-record, which are never
+/// given back, and so does a try that is lost.
 const LIMITS: Limits = Limits {
     passes: 4,
     nodes: 30_000,
@@ -25,8 +26,14 @@ const LIMITS: Limits = Limits {
 /// The topics.
 const TOPICS: [&str; 3] = ["news", "sports", "weather"];
 
-/// How many messages each thread counts.
+/// How many messages each thread counts in a day.
 const MESSAGES: usize = 200;
+
+/// After so many days the counters are told.
+const DAYS: usize = 3;
+
+/// A table and its passes.
+type Opened = (Forest<Table>, Vec<Pass<Table>>);
 
 /// Opens a topic, with no message, while no other thread works.
 fn open(table: &Forest<Table>, pass: &mut Pass<Table>, topic: &str) -> Result<()>
@@ -106,16 +113,36 @@ fn work_all<R: Threads + Sync>(
     map_vec(rt, passes, &|pass| work(table, pass))
 }
 
-/// The counters in the end, by topic.
-fn counters<R: Threads + Sync>(rt: &R, alloc: Global) -> Result<Vec<(Name8, u32)>> {
-    let (table, passes) = Forest::<Table>::new(alloc, LIMITS)?;
-    let passes = filled(&table, passes)?;
+/// A day's work, at the end of which the table is closed.
+fn day<R: Threads + Sync>(rt: &R, opened: Opened) -> Result<Closed<Table>>
+    requires { All (IsOf opened.0) opened.1.items }
+{
+    let (table, passes) = opened;
     let passes = work_all(rt, &table, passes)?;
     if table.all_back(&passes) {
-        Ok(table.close(passes).pairs(alloc)?)
+        Ok(table.close(passes))
     } else {
         bail!("a pass is missing")
     }
+}
+
+/// A table in which all topics are open.
+fn first(alloc: Global) -> Result<Opened>
+    ensures { IfOk result (λ r. All (IsOf r.0) r.1.items) }
+{
+    let (table, passes) = Forest::<Table>::new(alloc, LIMITS)?;
+    let passes = filled(&table, passes)?;
+    Ok((table, passes))
+}
+
+/// The counters in the end, by topic. Each day but the first begins with what the one before has
+/// left.
+fn counters<R: Threads + Sync>(rt: &R, alloc: Global) -> Result<Vec<(Name8, u32)>> {
+    let mut table = day(rt, first(alloc)?)?;
+    for _day in 1..DAYS {
+        table = day(rt, table.renewed(alloc, LIMITS)?)?;
+    }
+    Ok(table.pairs(alloc)?)
 }
 
 fn main(rt: HostRuntime) -> Result<()> {

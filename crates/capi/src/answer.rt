@@ -1,9 +1,11 @@
 //! What calls take from C and answer to it.
-ghost use Rattle.std.specs.Prelude.{◌≡◌, ◌≤◌, length, vec_len, IfOk, take};
-ghost use Rattle.capi.specs.Answers.{number, no_value, no_count, counted, update_status, order_status, IsValueAnswer, IsUpdateAnswer, IsPairAnswer, IsCountOfRange, StandIn};
+ghost use Rattle.std.specs.Prelude.{◌≡◌, ◌≤◌, length, map, vec_len, IfOk, take};
+ghost use Rattle.capi.specs.Answers.{number, no_value, no_count, counted, update_status, order_status, IsValueAnswer, IsUpdateAnswer, IsPairAnswer, IsCountOfRange, StandIn, pair_of};
+ghost use Rattle.capi.specs.Begins.{pairs_status};
 
 use ordered_map::{halves, wide_value};
-use regnubas::{OrderFault, UpdateFault};
+use regnubas::{NoMemory, OrderFault, PairsFault, UpdateFault};
+use std::alloc::Global;
 
 /// Done: the key has no value, or had none.
 pub const NONE: u32 = 0;
@@ -28,6 +30,12 @@ pub const NO_PASS: u32 = 6;
 
 /// Not closed: other passes are still held.
 pub const SHARED: u32 = 7;
+
+/// Not made: the keys of the pairs do not rise.
+pub const ORDER: u32 = 8;
+
+/// Not made: there are more pairs than there is room for.
+pub const TOO_MANY: u32 = 9;
 
 /// A value: a number of 128 bits as its two words.
 #[repr(C)]
@@ -113,6 +121,29 @@ pub(crate) fn status_of_read(fault: OrderFault) -> u32
         OrderFault::Contended { .. } => CONTENDED,
         OrderFault::NoMemory => NO_MEMORY,
     }
+}
+
+/// Why no dictionary begins with some pairs.
+pub(crate) fn status_of_pairs(fault: PairsFault) -> u32
+    ensures { result ≡ pairs_status fault }
+{
+    match fault {
+        PairsFault::Limits => LIMITS,
+        PairsFault::Order { .. } => ORDER,
+        PairsFault::TooMany { .. } => TOO_MANY,
+        PairsFault::NoMemory => NO_MEMORY,
+    }
+}
+
+/// Pairs that C has given, as numbers.
+pub(crate) fn numbers_of(alloc: Global, pairs: &[KeyValue]) -> Result<Vec<(u64, u128)>, NoMemory>
+    ensures { IfOk result (λ numbers. numbers.items ≡ map pair_of pairs.now) }
+{
+    let mut numbers = Vec::with_capacity(alloc, pairs.len())?;
+    for pair in pairs {
+        numbers.push((pair.key, pair.value.number()))?;
+    }
+    Ok(numbers)
 }
 
 /// What a call answers that has found a pair, and leaves at `room`.

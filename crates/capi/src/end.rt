@@ -47,7 +47,7 @@ pub(crate) fn end(alloc: Global, passes: &mut [HandleSlot]) -> Option<Vec<(u64, 
 }
 
 /// Whether the dictionary of these handles is a trie: each of them holds a pass of one.
-fn are_of_trie(alloc: Global, passes: &mut [HandleSlot]) -> bool
+pub(crate) fn are_of_trie(alloc: Global, passes: &mut [HandleSlot]) -> bool
     ensures same { held_in passes.new ≡ held_in passes.old }
     ensures told { IsTrue result ↔ All IsOfTrie (held_in passes.old) }
 {

@@ -9,22 +9,27 @@
 //!    nothing else reads or writes during the call; none is null, even where its count is 0.
 //! 4. `malloc`, `realloc` and `free` are one allocator, which aligns to 16 bytes; no call comes
 //!    from a signal handler, or in the child of a fork of a process with threads.
-//! 5. The passes that `regnubas_end` is given are of one dictionary (`AreOfOne`).
-ghost use Rattle.std.specs.Prelude.{◌≡◌, None, length, min};
+//! 5. The passes that `regnubas_end` or `regnubas_renew` is given are of one dictionary
+//!    (`AreOfOne`).
+ghost use Rattle.std.specs.Prelude.{◌≡◌, true, false, None, IfNone, IfSome, length, min};
 ghost use Rattle.ordered_map.specs.OrderedMap.{call_insert, call_insert_new, call_delete, call_delete_if, call_pop_first, call_pop_last, call_replace_if, call_successor, call_predecessor};
+ghost use Rattle.arena.specs.Limits.{IsAccepted};
 ghost use Rattle.arena.specs.declared.limits.Mode.TheVariants.{Tree, Trie};
 ghost use Rattle.regnubas.specs.Balance.{map_mode};
+ghost use Rattle.capi.specs.Begins.{BeginSays, RenewSays};
 ghost use Rattle.capi.specs.Ends.{AreOfOne, EndSays, held_in};
-ghost use Rattle.capi.specs.Answers.{number, no_value, no_count, CallSays, GetSays, EditSays, TakenSays, FoundSays, BetweenSays, LeftSays, CloseSays, MakeSays};
+ghost use Rattle.capi.specs.Answers.{number, no_value, no_count, CallSays, GetSays, EditSays, TakenSays, FoundSays, BetweenSays, LeftSays, CloseSays, MakeSays, limits_of};
 
 use crate::answer::{
     Count, KeyValue, LIMITS, Left, NO_MEMORY, NO_PASS, NONE, PassLimits, SHARED, Value,
-    ValueAnswer, status_of_edit, status_of_read, tell_pair,
+    ValueAnswer, numbers_of, status_of_edit, status_of_pairs, status_of_read, tell_pair,
 };
+use crate::begin::{begin, begin_next};
 use crate::client::Closing;
-use crate::end::{all_of, end};
+use crate::end::{all_of, are_of_trie, end};
 use crate::handle::HandleSlot;
 use crate::open::open;
+use arena::Mode;
 use regnubas::{Limits, NewFault};
 use std::alloc::Global;
 
@@ -68,6 +73,78 @@ fn make(alloc: Global, each: PassLimits, passes: &mut [HandleSlot], trie: bool) 
         }
         Err(NewFault::Limits) => LIMITS,
         Err(NewFault::NoMemory) => NO_MEMORY,
+    }
+}
+
+/// Makes a dictionary that begins with these pairs, in rising order of keys, with as many passes as
+/// there are handles, one for each.
+#[unsafe(no_mangle)]
+pub extern "C" fn regnubas_make_of_pairs(
+    alloc: Global,
+    each: PassLimits,
+    pairs: &[KeyValue],
+    passes: &mut [HandleSlot],
+) -> u32
+    ensures { BeginSays false each pairs.now passes.old passes.new result }
+{
+    make_of_pairs(alloc, each, pairs, passes, false)
+}
+
+/// The same of a trie.
+#[unsafe(no_mangle)]
+pub extern "C" fn regnubas_make_trie_of_pairs(
+    alloc: Global,
+    each: PassLimits,
+    pairs: &[KeyValue],
+    passes: &mut [HandleSlot],
+) -> u32
+    ensures { BeginSays true each pairs.now passes.old passes.new result }
+{
+    make_of_pairs(alloc, each, pairs, passes, true)
+}
+
+/// Makes a dictionary that begins with pairs, a trie or a tree.
+fn make_of_pairs(
+    alloc: Global,
+    each: PassLimits,
+    pairs: &[KeyValue],
+    passes: &mut [HandleSlot],
+    trie: bool,
+) -> u32
+    ensures { BeginSays trie each pairs.now passes.old passes.new result }
+{
+    let Some(limits) = accepted(each, passes.len()) else {
+        return LIMITS;
+    };
+    let Ok(numbers) = numbers_of(alloc, pairs) else {
+        return NO_MEMORY;
+    };
+    match begin(alloc, limits, trie, &numbers) {
+        Ok(mut places) => {
+            passes.swap_with_slice(&mut places);
+            NONE
+        }
+        Err(fault) => status_of_pairs(fault),
+    }
+}
+
+/// The limits of so many passes, if they are within their ranges.
+fn accepted(each: PassLimits, passes: usize) -> Option<Limits>
+    ensures some { IfSome result (λ limits. (limits ≡ limits_of each passes) × IsAccepted limits) }
+    ensures none { IfNone result (¬ IsAccepted (limits_of each passes)) }
+{
+    if passes > 32 {
+        return None;
+    }
+    let limits = Limits {
+        passes: passes as u32,
+        nodes: each.nodes,
+        scx: each.scx,
+        tries: each.tries,
+    };
+    match limits.check(Mode::Tree) {
+        Ok(_layout) => Some(limits),
+        Err(_) => None,
     }
 }
 
@@ -343,6 +420,35 @@ pub extern "C" fn regnubas_end(
     }
     match end(alloc, passes) {
         Some(pairs) => Count::of_pairs(pairs, room),
+        None => Count::none(NO_MEMORY),
+    }
+}
+
+/// Ends the dictionary by all its passes at once, leaves its first pairs in `room`, and begins the
+/// next, of the same shape, with all of them, whose passes the handles hold then. It answers how
+/// many pairs there are.
+#[unsafe(no_mangle)]
+pub extern "C" fn regnubas_renew(
+    alloc: Global,
+    each: PassLimits,
+    passes: &mut [HandleSlot],
+    room: &mut [KeyValue],
+) -> Count
+    requires { AreOfOne (held_in passes.old) }
+    ensures { RenewSays each passes.old passes.new room.new result }
+{
+    let Some(limits) = accepted(each, passes.len()) else {
+        return Count::none(LIMITS);
+    };
+    let Some(all) = all_of(alloc, passes) else {
+        return Count::none(NO_PASS);
+    };
+    if passes.len() < all as usize {
+        return Count::none(SHARED);
+    }
+    let trie = are_of_trie(alloc, passes);
+    match end(alloc, passes) {
+        Some(pairs) => begin_next(alloc, limits, trie, pairs, passes, room),
         None => Count::none(NO_MEMORY),
     }
 }

@@ -3,6 +3,7 @@
 #![tactic(auto)]
 
 mod answer;
+mod begin;
 mod client;
 mod close;
 mod end;

@@ -47,7 +47,7 @@ fn open_tree(alloc: Global, limits: Limits) -> Result<Vec<HandleSlot>, NewFault>
 }
 
 /// A place for each of these passes of a tree.
-fn hand_out_tree(
+pub(crate) fn hand_out_tree(
     alloc: Global,
     forest: Forest<Numbers<ByOrder>>,
     passes: Vec<Pass<Numbers<ByOrder>>>,
@@ -104,7 +104,7 @@ fn open_trie(alloc: Global, limits: Limits) -> Result<Vec<HandleSlot>, NewFault>
 }
 
 /// A place for each of these passes of a trie.
-fn hand_out_trie(
+pub(crate) fn hand_out_trie(
     alloc: Global,
     forest: Forest<Numbers<ByBits>>,
     passes: Vec<Pass<Numbers<ByBits>>>,

@@ -1,10 +1,12 @@
-//! Some functions that C calls, called from here: a caller can keep the rule of `regnubas_end`.
+//! Some functions that C calls, called from here: a caller can keep the rule of `regnubas_end`, and
+//! of `regnubas_renew`.
 ghost use Rattle.std.specs.Prelude.{IsTrue};
 ghost use Rattle.capi.specs.Ends.{AreOfOne, held_in};
 
 use crate::answer::{Count, KeyValue, NO_PASS, NONE, PassLimits, SOME, Value, ValueAnswer};
 use crate::exports::{
-    regnubas_end, regnubas_get, regnubas_insert, regnubas_make, regnubas_make_trie,
+    regnubas_end, regnubas_get, regnubas_insert, regnubas_make, regnubas_make_of_pairs,
+    regnubas_make_trie, regnubas_make_trie_of_pairs, regnubas_renew,
 };
 use crate::handle::{Handle, HandleSlot};
 use std::alloc::Global;
@@ -82,4 +84,48 @@ fn all_end_it(rt: &impl Abort, alloc: Global, trie: bool) -> Result<(), Fail> {
 fn all_passes_end_it(rt: HostRuntime) -> Result<(), Fail> {
     all_end_it(&rt, rt.alloc(), false)?;
     all_end_it(&rt, rt.alloc(), true)
+}
+
+/// Makes a dictionary that begins with two pairs, a trie or a tree.
+fn begun(alloc: Global, trie: bool, passes: &mut [HandleSlot]) -> bool
+    ensures { IsTrue result → AreOfOne (held_in passes.new) }
+{
+    let pairs = [
+        KeyValue {
+            key: 7,
+            value: WIDE,
+        },
+        KeyValue {
+            key: 9,
+            value: OTHER,
+        },
+    ];
+    if trie {
+        regnubas_make_trie_of_pairs(alloc, EACH, &pairs, passes) == NONE
+    } else {
+        regnubas_make_of_pairs(alloc, EACH, &pairs, passes) == NONE
+    }
+}
+
+/// A dictionary begins with pairs, a trie or a tree, and the next with those that it is left with.
+fn begins_and_is_renewed(rt: &impl Abort, alloc: Global, trie: bool) -> Result<(), Fail> {
+    let mut passes = [nowhere(alloc), nowhere(alloc)];
+    let mut room = [KeyValue {
+        key: 0,
+        value: OTHER,
+    }; 2];
+    assert!(rt; begun(alloc, trie, &mut passes));
+    assert!(rt; put_by(alloc, &mut passes, 1, 5, OTHER));
+    let renewed = regnubas_renew(alloc, EACH, &mut passes, &mut room);
+    assert_eq!(rt; counted(renewed), (SOME, 3));
+    assert_eq!(rt; words(room[1]), (7, 8, 3));
+    let [mut first, _second] = passes;
+    assert_eq!(rt; told(regnubas_get(alloc, &mut first, 9)), (SOME, 8, 4));
+    Ok(())
+}
+
+#[test]
+fn pairs_begin_it(rt: HostRuntime) -> Result<(), Fail> {
+    begins_and_is_renewed(&rt, rt.alloc(), false)?;
+    begins_and_is_renewed(&rt, rt.alloc(), true)
 }

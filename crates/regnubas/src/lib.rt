@@ -25,6 +25,16 @@
 //!
 //!     let (map, passes) = Forest::<Trie<u64, u64>>::new(alloc, limits)?;
 //!
+//! A dictionary of either shape that begins with pairs, and the next, which begins with those that
+//! it is left with:
+//!
+//!     let (map, passes) = Forest::<Dict<u64, u64>>::of_pairs(alloc, limits, &[(5, 50), (9, 90)])?;
+//!     map.delete(&mut pass, &5)?                // Some(50)
+//!     let closed = map.close(passes);
+//!     let (map, passes) = closed.renewed(alloc, limits)?;
+//!     map.get(&mut pass, &9)                    // Some(90)
+//!     pass.left()                               // (300, 100): the pairs take nothing of a share
+//!
 //! A call one atomic step at a time; here of the empty map, whose root has one leaf on its left:
 //!
 //!     let mut call = map.open(alloc, pass, Request::Get { key: 5 });
