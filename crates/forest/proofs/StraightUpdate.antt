@@ -281,7 +281,8 @@ module _ {M E : Type 0} {o : Calls M} {e : EditMeaning E} (u : Updater o e) wher
   -- after a fill that is not a node's last it waits for the next
   fills_next_word : (ps : List SeatedPass) {A : Type 0} (m : UpdateRun E A) (f : Found) (nth : Nth) (part next : NodeWord) (told : ℕ) → FillsWell e → part_behind (pieces_now e m f nth) part ≡ Some next → HostedIsTold u ps (filling m f nth part) told → HostedWaits u ps (filling m f nth next) (fills e m f nth next)
   fills_next_word ps m f nth part next told sound behind x = record {
-    planting = x.planting; known = x.known;
+    planting = x.planting;
+    known = x.known;
     is = x.is;
     sound = x.sound;
     so = (
@@ -355,7 +356,8 @@ module _ {M E : Type 0} {o : Calls M} {e : EditMeaning E} (u : Updater o e) wher
   pub changed : (ps : List SeatedPass) {A : Type 0} (m : UpdateRun E A) (f : Found) (snaps : List Snap) (change : ScxTask) (help : HelpRun) (v : ℕ) → IsAtFound e → HasGuardAtEnd e → InnerIsTold (changer m f) ps (changing_at snaps change (Help (record help { at = HelpCommit }))) v → UpdaterEnds u ps m (done_with f)
   unfolding changer
   changed ps m f snaps change help v sound at_end x = record {
-    planting = x.planting; known = x.known;
+    planting = x.planting;
+    known = x.known;
     is = x.is;
     sound = x.sound;
     so = record { old = here; got = Some v; was = x.so.0; goes = record { edit = refl; called = refl; limit = refl; tries = (omega arith, omega arith); spends = (omega arith, omega arith, omega arith) }; answers = answers; course = x.so.1 };
