@@ -4,7 +4,7 @@ use Rattle.template.specs.Balance.{map_mode}
 use Rattle.dict.specs.Calls.{inner_trie}
 use Rattle.dict.specs.Inner.{GoalBy}
 use Rattle.dict.specs.Laws.Begins.{dict_mode}
-use Rattle.std.proofs.Common.{Global, Result, Vec, ◌≡◌, ℕ, zero, suc, ◌+◌, ◌*◌, ◌-◌, ◌<◌, ◌≤◌, List, [], Option, None, refl, sym, subst, ap, arith, ◌∙◌}
+use Rattle.std.proofs.Common.{Global, Result, Vec, ◌≡◌, ℕ, zero, suc, ◌+◌, ◌*◌, ◌-◌, ◌<◌, ◌≤◌, List, Option, None, refl, sym, subst, ap, arith, ◌∙◌}
 use Rattle.histories.specs.Common.{Layout, Step, History, Call, Remaining, NodeNo}
 use Rattle.template.specs.Common.{Snap, Pair, MapCall, Goal, Rule, Reply}
 use Rattle.order.specs.Known.{HasNotBegun, IsSameRead, ReadIsReady, ReadWaits}
