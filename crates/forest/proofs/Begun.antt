@@ -1,5 +1,5 @@
 -- A table that is planted begins a run of a typed dictionary, with its pairs.
-use Rattle.std.proofs.Common.{◌≡◌, ◌<◌, ◌≤◌, ◌⊎◌, inl, inr, ℕ, List, [], ◌∷◌, ◌++◌, length, sym, ◌∙◌, ap, subst, arith}
+use Rattle.std.proofs.Common.{◌≡◌, ◌<◌, ◌≤◌, ◌⊎◌, inl, inr, ℕ, List, length, sym, ◌∙◌, ap, subst, arith}
 use Rattle.atomic_table.specs.Seated.{TableId}
 use Rattle.arena.specs.Layout.{IsMap}
 use Rattle.arena.specs.Openings.{Opening, empty}

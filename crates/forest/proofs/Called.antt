@@ -1,6 +1,6 @@
 -- What holds of each own row of a call, as that it carries the number of the call.
 use Rattle.std.proofs.Common.{◌≡◌, ℕ, zero, suc, ◌≤◌, inl, inr, List, [], ◌∷◌, ◌++◌, refl, sym, subst, arith}
-use Rattle.histories.specs.Common.{Layout, Row, Step, Mode, History, Opened, ◌⊳◌, Extends, Call, row_of}
+use Rattle.histories.specs.Common.{Layout, Row, Step, History, Opened, ◌⊳◌, Extends, Call, row_of}
 use Rattle.arena.proofs.Lemmas.{ends_trans}
 use Rattle.forest.specs.TableRule.{history_of, ByOthers}
 use Rattle.forest.specs.Traces.{Trace, begins, others, makes, goes_on}

@@ -1,7 +1,7 @@
 -- What a call of `llx` says.
 use Rattle.std.proofs.Common.{◌≡◌, ◌≢◌, ◌≤◌, ◌+◌, ℕ, true, List, ◌∷◌, None, refl, sym, ◌∙◌, ap, subst}
 use Rattle.atomic_table.specs.declared.shared.Seat.{Seat}
-use Rattle.histories.specs.Common.{NodeNo, Layout, Fill, Row, History, is_final, Mode, Records}
+use Rattle.histories.specs.Common.{NodeNo, Layout, Fill, History, is_final, Mode, Records}
 use Rattle.template.specs.Common.{IsSnapshot, HasJustLooked, LlxIsReady, LlxWaits, LlxAnswers, Llx, Snapshot, Finalized, Fail, LlxRun}
 use Rattle.prims.proofs.Lemmas.{llx_fills_not, ready_at_start, cell_opened, finalized_at_start, all_idle, alone_now, usable_now}
 use Rattle.prims.specs.declared.llx.LlxAt.TheVariants.{Start}

@@ -4,7 +4,7 @@ use Rattle.template.specs.Balance.{map_mode}
 use Rattle.dict.specs.Calls.{inner_trie}
 use Rattle.dict.specs.Inner.{GoalBy}
 use Rattle.dict.specs.Laws.Begins.{dict_mode}
-use Rattle.std.proofs.Common.{Global, Result, Vec, ◌≡◌, ℕ, zero, suc, ◌+◌, ◌*◌, ◌-◌, ◌<◌, ◌≤◌, List, [], Option, None, refl, sym, subst, ap, arith, ◌∙◌}
+use Rattle.std.proofs.Common.{Global, Result, Vec, ◌≡◌, ℕ, zero, suc, ◌+◌, ◌*◌, ◌-◌, ◌<◌, ◌≤◌, List, Option, None, refl, sym, subst, ap, arith, ◌∙◌}
 use Rattle.histories.specs.Common.{Layout, Step, History, Call, Remaining, NodeNo}
 use Rattle.template.specs.Common.{Snap, Pair, MapCall, Goal, Rule, Reply}
 use Rattle.order.specs.Known.{HasNotBegun, IsSameRead, ReadIsReady, ReadWaits}
@@ -140,7 +140,8 @@ module _ {K V : Type 0} (valid_key : K → Type 0) (key : K → ℕ) (valid_valu
           let went : Goes (Update (valued y.old)) machine.tries c = y.was.1.0 in
           let walk : goal m.edit.goal ≡ to = ap (λ (e : KeyEdit G R). goal e.goal) y.goes.edit ∙ same_walk _ y.old ed of y.course ∙ sym is in
           record {
-            planting = x.planting; known = x.known;
+            planting = x.planting;
+            known = x.known;
             is = x.is;
             sound = x.sound;
             so = (
@@ -194,7 +195,8 @@ module _ {K V : Type 0} (valid_key : K → Type 0) (key : K → ℕ) (valid_valu
           let h = history_of x.planting x.known in
           let was = told_inside y.old h y.got y.was in
           record {
-            planting = x.planting; known = x.known;
+            planting = x.planting;
+            known = x.known;
             is = x.is;
             sound = x.sound;
             so = (
@@ -206,7 +208,8 @@ module _ {K V : Type 0} (valid_key : K → Type 0) (key : K → ℕ) (valid_valu
   -- the answer of a machine as a reply of keys and values
   pub replies : (c : Call) (ps : List SeatedPass) (first m : DictRun K V) (w : WordReply) (r : Reply K V) → IsReplyOf valid_key key valid_value value_word w r → ends c ps first m w → SeatDictEnds valid_key key valid_value value_word c ps first m r
   replies c ps first m w r of x = record {
-    planting = x.planting; known = x.known;
+    planting = x.planting;
+    known = x.known;
     is = x.is;
     sound = x.sound;
     so = (dict_ends valid_key key valid_value value_word m c _ w r x.so.0.0 x.sound x.so.0.1 of, x.so.1);

@@ -1,6 +1,6 @@
 -- How updates begin to walk, of whatever machine updates, and what their walks find.
-use Rattle.std.proofs.Common.{◌≡◌, ℕ, suc, Bool, true, false, ◌+◌, ◌-◌, ◌*◌, ◌≤◌, List, None, Some, inl, refl, sym, subst, arith, ap, ◌∙◌, Result}
-use Rattle.histories.specs.Common.{Ask, Done, Layout, NodeNo, ScxNo, LoadMarked, LoadSettled, LoadState, LoadChild, Settled, Head, Child as ChildWord, Left, Right, History, value, Call, IsRun, begun_at, head_of, marked, node, state, Step}
+use Rattle.std.proofs.Common.{◌≡◌, ℕ, suc, Bool, true, false, ◌+◌, ◌-◌, ◌*◌, ◌≤◌, List, None, Some, inl, refl, sym, subst, arith, ◌∙◌, Result}
+use Rattle.histories.specs.Common.{Ask, Done, Layout, NodeNo, ScxNo, LoadSettled, LoadChild, Settled, Head, Child as ChildWord, Left, Right, History, Call, IsRun, begun_at, head_of, marked, node, Step}
 use Rattle.template.specs.Common.{load, End, FoundBy, Goal, HasFoundThere, HasJustLooked, IsPastRoot, IsSnapshot, LlxAnswers, LlxRun, MayGo, Snap, Snapshot, TreeAllows, WalkIsTold, WalkWaits}
 use Rattle.ordered_map.specs.declared.rule.Goal.TheVariants.{Key as ToKey}
 use Rattle.ordered_map.proofs.MapLemmas.{root_head}
@@ -18,7 +18,7 @@ use Rattle.template.specs.declared.walk.WalkRun.{WalkRun}
 use Rattle.template.specs.declared.walk.Way.{Way}
 use Rattle.template.proofs.Lemmas.{head_to_child, own_since, walk_begins}
 use Rattle.edits.specs.Edits.{EditMeaning, all_looks}
-use Rattle.edits.specs.Known.{Guarded, Guards, IsUntouched, MayBeginTry, UpdateIsReady, UpdateWaits, Walks}
+use Rattle.edits.specs.Known.{Guarded, IsUntouched, MayBeginTry, UpdateIsReady, UpdateWaits, Walks}
 use Rattle.edits.specs.Laws.Entered.{none_filled_yet}
 use Rattle.edits.specs.Next.{HasSpentForNext, IsSameUpdate, UpdateGoesOn, guard_begun, guard_step, standing}
 use Rattle.edits.specs.Steps.{most_works, node_tries, scx_tries, try_left, update_left}
@@ -33,7 +33,7 @@ use Rattle.order.specs.declared.last_turns.LastTurns.{LastTurns}
 use Rattle.forest.specs.CallKinds.{Calls}
 use Rattle.forest.specs.Hosts.{HostedIsTold, HostedWaits}
 use Rattle.forest.specs.StraightGuard.{UpdaterGuardsAgain, UpdaterWalks, left_at_guard}
-use Rattle.forest.specs.StraightLlx.{Looker, LookerSnaps, LoadsMark, LoadsStateAgain, llx_at}
+use Rattle.forest.specs.StraightLlx.{Looker, LookerSnaps, LoadsMark, LoadsStateAgain}
 use Rattle.forest.specs.StraightUpdate.{HasUpdateGoneOn, Updater, UpdaterBegins, UpdaterGoesOn}
 use Rattle.forest.specs.StraightWalk.{GoesAs, Walker, WalkerFinds, WalkerGoesDown, WalkerIsAt}
 use Rattle.forest.specs.Traces.{goes_on}

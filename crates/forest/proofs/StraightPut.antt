@@ -21,7 +21,8 @@ module _ (allows : Layout → History → ℕ → Type 0) (c : Call) (ps : List 
 
   pub to_plan : (v : ℕ) → SeatPutTold allows c ps first (record first { at = AtFill }) v → SeatPutWaits allows c ps first (scx_at first AtPlan) (scx_fill first.scx.scx Plan first.scx.update.plan.0)
   to_plan v x = let t = x.so.0 in record {
-    planting = x.planting; known = x.known;
+    planting = x.planting;
+    known = x.known;
     is = x.is;
     sound = x.sound;
     so = (

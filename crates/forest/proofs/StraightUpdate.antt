@@ -1,12 +1,11 @@
 -- From place to place of an update, of whatever machine updates.
-use Rattle.std.proofs.Common.{◌≡◌, ℕ, suc, Bool, true, false, ap, subst, ◌+◌, ◌-◌, ◌*◌, ◌<◌, ◌≤◌, List, Option, None, Some, inl, refl, sym, arith, ◌∙◌, Result, Ok, Err, IfSome}
+use Rattle.std.proofs.Common.{◌≡◌, ℕ, suc, Bool, true, ap, subst, ◌+◌, ◌-◌, ◌*◌, ◌<◌, ◌≤◌, List, Option, None, Some, refl, sym, arith, ◌∙◌, Result, Ok, Err, IfSome}
 use Rattle.std.specs.Result.{IsErrAnd}
 use Rattle.std.proofs.lemmas.Result.{err_from_is_err_and}
-use Rattle.histories.specs.Common.{Full, Layout, Turn, Ask, Done, NodeNo, LoadMarked, LoadSettled, LoadState, Settled, SettledPart, Head, High, Key, Value, Slot, Store}
-use Rattle.histories.specs.Common.{Fill as FillKind, NodeWord, Plan, Node as NodeOf, History, value, Call, IsRun, MatchTurn, begun_at, marked, node, state, ScxNo}
+use Rattle.histories.specs.Common.{Full, Layout, Turn, Ask, Done, NodeNo, LoadMarked, LoadState, Settled, SettledPart, High, Key, Value, Slot, Store}
+use Rattle.histories.specs.Common.{Fill as FillKind, NodeWord, Plan, Node as NodeOf, History, value, IsRun, MatchTurn, begun_at, marked, node, state, ScxNo}
 use Rattle.help.specs.declared.state.HelpAt.TheVariants.{Commit as HelpCommit}
-use Rattle.template.specs.Common.{HelpRun, Done as ScxDone, ScxRun, HasFoundThere, load, IsSnapshot, LlxRun, Snap, TreeAllows, FoundBy, MayGo, WalkIsTold, IsPastRoot, Goal, Update}
-use Rattle.template.specs.Walk.Places.{way_from}
+use Rattle.template.specs.Common.{HelpRun, Done as ScxDone, ScxRun, HasFoundThere, load, IsSnapshot, LlxRun, Snap, TreeAllows, Update}
 use Rattle.prims.specs.Scx.Steps.{scx_left}
 use Rattle.prims.specs.declared.scx.ScxAt.TheVariants.{Plan as AtPlan, Help}
 use Rattle.prims.proofs.Lemmas.{done_at}
@@ -16,45 +15,32 @@ use Rattle.edits.specs.Pieces.{is_filled, nth_node, part_behind, word_of}
 use Rattle.edits.specs.Readings.{is_at_pair, next_read, read_with}
 use Rattle.edits.specs.Sound.{FillsWell, HasGuardAtEnd, IsAtFound}
 use Rattle.edits.proofs.Lemmas.{behind_filled, fewer_fills, fills_next, fills_word, joined_spends, key_then_value, placed_same, scx_asks, scx_done, told_spends, told_turn, value_then_high}
-use Rattle.order.specs.LastTurns.{no_turns}
-use Rattle.order.specs.declared.last_turns.LastTurns.{LastTurns}
 use Rattle.forest.specs.declared.straight.scx.ScxTask.{ScxTask}
 use Rattle.forest.specs.StraightScx.{Changer, all_frozen_load, changing_at, scx_fill}
-use Rattle.arena.proofs.Lemmas.{ends_self}
 use Rattle.prims.specs.Laws.FoundThere.{there_wider}
-use Rattle.prims.specs.Laws.Idle.{quiet_at_start, idle_if_finished}
 use Rattle.prims.specs.declared.llx.LlxAt.TheVariants.{Marked, StateAgain}
 use Rattle.template.specs.declared.walk.Found.{Found}
-use Rattle.template.specs.declared.walk.WalkAt.{WalkAt}
-use Rattle.template.specs.declared.walk.WalkAt.TheVariants.{Start as WalkStart, Root as WalkRoot}
-use Rattle.template.specs.declared.walk.WalkRun.{WalkRun}
-use Rattle.template.specs.declared.walk.Way.{Way}
-use Rattle.template.proofs.Lemmas.{own_since, walk_begins}
-use Rattle.edits.specs.Edits.{EditMeaning, all_looks}
-use Rattle.template.specs.Walk.Steps.{room}
-use Rattle.edits.specs.Known.{Guarded, MayBeginTry, CanFill, CanLook, IsFilledUpTo, IsUntouched, Looks, Reads, UpdateAnswers, UpdateIsReady, UpdateWaits, UpdateTurn, Walks, done_at as done_with}
-use Rattle.edits.specs.Steps.{HasAsked, IsSpending, MaySpend, Spends, UpdateFits, node_tries, pieces_now, scx_tries, most_works, try_left, update_left}
-use Rattle.edits.specs.Tries.{IsTry, IsTryAt, HasFilledNone}
+use Rattle.edits.specs.Edits.{EditMeaning}
+use Rattle.edits.specs.Known.{CanFill, CanLook, IsFilledUpTo, Looks, Reads, UpdateAnswers, UpdateIsReady, UpdateTurn, done_at as done_with}
+use Rattle.edits.specs.Steps.{HasAsked, IsSpending, MaySpend, Spends, UpdateFits, node_tries, pieces_now, scx_tries, try_left, update_left}
+use Rattle.edits.specs.Tries.{IsTry}
 use Rattle.edits.specs.Next.{IsSameUpdate, told, placed, standing, next_step, fills, update_of, MayStop, UpdateGoesOn, HasSpentForNext, left_then}
 use Rattle.edits.specs.declared.update.Stop.{Stop}
 use Rattle.edits.specs.declared.update.Stop.TheVariants.{Nothing as NothingStop, Full as FullStop}
 use Rattle.edits.specs.declared.update.Updated.TheVariants.{Full as FullAnswer}
-use Rattle.edits.specs.Laws.Entered.{none_filled_yet}
 use Rattle.edits.specs.Laws.Update.{update_spends, update_told}
 use Rattle.edits.specs.declared.update.Next.{Next}
 use Rattle.edits.specs.declared.update.Next.TheVariants.{Look as LookNext, Wait as WaitNext, Read as ReadNext, Fill as FillNext, Change as ChangeNext}
 use Rattle.edits.specs.declared.update.UpdateAt.{UpdateAt}
-use Rattle.edits.specs.declared.update.UpdateAt.TheVariants.{Start, Walk, Look, Fill, Scx}
+use Rattle.edits.specs.declared.update.UpdateAt.TheVariants.{Start, Look, Fill, Scx}
 use Rattle.edits.specs.declared.edit.Look.TheVariants.{At}
 use Rattle.arena.specs.declared.plan.Plan.{Plan as PlanOf}
 use Rattle.edits.specs.declared.update.UpdateRun.{UpdateRun}
 use Rattle.edits.specs.declared.update.Updated.{Updated}
-use Rattle.prims.specs.Laws.Idle.{IsQuietSince}
 use Rattle.forest.specs.declared.view.SeatedPass.{SeatedPass}
 use Rattle.forest.specs.StraightLlx.{llx_at, Looker, LookerSnaps}
-use Rattle.forest.specs.Hosts.{HostedBegins, HostedEnds, HostedIsTold, HostedStands, HostedWaits}
-use Rattle.forest.specs.StraightUpdate.{Updater, HasUpdateGoneOn, inner_update, UpdaterBegins, UpdaterEnds, UpdaterFills, UpdaterGoesOn, UpdaterIsBlocked, UpdaterStops, UpdaterTries, fills_then}
-use Rattle.forest.specs.StraightWalk.{Walker, WalkerWaits, WalkerFinds}
+use Rattle.forest.specs.Hosts.{HostedEnds, HostedIsTold, HostedStands, HostedWaits}
+use Rattle.forest.specs.StraightUpdate.{Updater, HasUpdateGoneOn, inner_update, UpdaterEnds, UpdaterFills, UpdaterGoesOn, UpdaterIsBlocked, UpdaterStops, UpdaterTries, fills_then}
 use Rattle.forest.specs.TableRule.{history_of}
 use Rattle.forest.specs.Traces.{goes_on, shared_nodes, weight}
 use Rattle.forest.specs.CallKinds.{Calls}
@@ -281,7 +267,8 @@ module _ {M E : Type 0} {o : Calls M} {e : EditMeaning E} (u : Updater o e) wher
   -- after a fill that is not a node's last it waits for the next
   fills_next_word : (ps : List SeatedPass) {A : Type 0} (m : UpdateRun E A) (f : Found) (nth : Nth) (part next : NodeWord) (told : ℕ) → FillsWell e → part_behind (pieces_now e m f nth) part ≡ Some next → HostedIsTold u ps (filling m f nth part) told → HostedWaits u ps (filling m f nth next) (fills e m f nth next)
   fills_next_word ps m f nth part next told sound behind x = record {
-    planting = x.planting; known = x.known;
+    planting = x.planting;
+    known = x.known;
     is = x.is;
     sound = x.sound;
     so = (
@@ -355,7 +342,8 @@ module _ {M E : Type 0} {o : Calls M} {e : EditMeaning E} (u : Updater o e) wher
   pub changed : (ps : List SeatedPass) {A : Type 0} (m : UpdateRun E A) (f : Found) (snaps : List Snap) (change : ScxTask) (help : HelpRun) (v : ℕ) → IsAtFound e → HasGuardAtEnd e → InnerIsTold (changer m f) ps (changing_at snaps change (Help (record help { at = HelpCommit }))) v → UpdaterEnds u ps m (done_with f)
   unfolding changer
   changed ps m f snaps change help v sound at_end x = record {
-    planting = x.planting; known = x.known;
+    planting = x.planting;
+    known = x.known;
     is = x.is;
     sound = x.sound;
     so = record { old = here; got = Some v; was = x.so.0; goes = record { edit = refl; called = refl; limit = refl; tries = (omega arith, omega arith); spends = (omega arith, omega arith, omega arith) }; answers = answers; course = x.so.1 };

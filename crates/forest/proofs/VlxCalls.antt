@@ -1,7 +1,7 @@
 -- What a call of `vlx` says.
 use Rattle.std.proofs.Common.{◌≡◌, ◌≢◌, ◌<◌, ℕ, zero, suc, inl, inr, List, [], ◌∷◌, length, refl, sym, ◌∙◌, ap, subst, arith}
 use Rattle.atomic_table.specs.declared.shared.Seat.{Seat}
-use Rattle.histories.specs.Common.{Layout, LoadInfo, Row, Step, History, Mode}
+use Rattle.histories.specs.Common.{Layout, LoadInfo, Step, History, Mode}
 use Rattle.template.specs.Common.{AreDistinct, IsAmong, snap_at, VlxAnswers, Snap, Vlx, Same, Changed, VlxRun}
 use Rattle.prims.proofs.Lemmas.{vlx_fills_not, all_over, vlx_ready_first}
 use Rattle.forest.specs.declared.view.SeatView.{SeatView}

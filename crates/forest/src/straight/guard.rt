@@ -12,9 +12,9 @@ ghost use Rattle.edits.specs.declared.update.UpdateAt.{UpdateAt};
 
 use crate::straight::hand::Hand;
 use crate::straight::llx::{load, look};
+use crate::straight::node::{Reached, descend};
 use crate::straight::resume;
 use crate::straight::step::step;
-use crate::straight::node::{Reached, descend};
 use crate::view::SeatView;
 use arena::{Kind, Machine, NodeNo, NodeWord, SettledPart, Shape, Side, Word};
 use atomic_table::Seat;

@@ -12,8 +12,8 @@ ghost use Rattle.edits.specs.declared.update.UpdateAt.{UpdateAt as Places};
 
 use crate::straight::hand::Hand;
 use crate::straight::llx::load;
-use crate::straight::step::step;
 use crate::straight::node::Reached;
+use crate::straight::step::step;
 use crate::view::SeatView;
 use arena::{
     Kind, Layout, Machine, NodeNo, PassNo, ScxNo, ScxWord, Shape, Share, Step, Turn, Word,

@@ -120,7 +120,28 @@ fn try_on<S: Shape, M: Machine<S>, E: Edit + Copy>(
     }
 }
 
-/// Makes the looks that come next.
+/// Makes the look that comes next, if one does.
+#[inline(always)]
+fn look_next<S: Shape, M: Machine<S>, E: Edit + Copy>(
+    hand: Hand<S>,
+    seat: &mut Seat<u8, SeatView>,
+    run: &mut UpdateRun<E, ()>,
+    found: &Found,
+    next: Result<Next, Stop>,
+) -> Result<Next, Stop>
+    requires table { IsAt hand seat.old }
+    requires goes_on { StandsToTry S.Shape M.Machine E.means hand found.now seat.old run.old next }
+    ensures { TryGoesOn S.Shape M.Machine E.means hand.entry found.now
+        seat.old run.old next seat.new run.new result }
+{
+    match next? {
+        Next::Look(node) => look_at::<S, M, E>(hand, seat, run, found, node),
+        now => Ok(now),
+    }
+}
+
+/// Makes the looks that come next, four at most. There is no loop: so the compiler knows at each of them
+/// which snapshots there are.
 #[inline(always)]
 fn look_on<S: Shape, M: Machine<S>, E: Edit + Copy>(
     hand: Hand<S>,
@@ -134,14 +155,33 @@ fn look_on<S: Shape, M: Machine<S>, E: Edit + Copy>(
     ensures { TryGoesOn S.Shape M.Machine E.means hand.entry found.now
         seat.old run.old next seat.new run.new result }
 {
-    let mut now = next?;
-    while let Next::Look(node) = now {
-        now = look_at::<S, M, E>(hand, seat, run, found, node)?;
-    }
-    Ok(now)
+    let first = look_next::<S, M, E>(hand, seat, run, found, next);
+    let second = look_next::<S, M, E>(hand, seat, run, found, first);
+    let third = look_next::<S, M, E>(hand, seat, run, found, second);
+    look_next::<S, M, E>(hand, seat, run, found, third)
 }
 
-/// Makes the loads that come next.
+/// Makes the load that comes next, if one does.
+#[inline(always)]
+fn read_next<S: Shape, M: Machine<S>, E: Edit + Copy>(
+    hand: Hand<S>,
+    seat: &mut Seat<u8, SeatView>,
+    run: &mut UpdateRun<E, ()>,
+    found: &Found,
+    next: Result<Next, Stop>,
+) -> Result<Next, Stop>
+    requires table { IsAt hand seat.old }
+    requires goes_on { StandsToTry S.Shape M.Machine E.means hand found.now seat.old run.old next }
+    ensures { TryGoesOn S.Shape M.Machine E.means hand.entry found.now
+        seat.old run.old next seat.new run.new result }
+{
+    match next? {
+        Next::Read { node, part } => Ok(read::<S, M, E>(hand, seat, run, found, node, part)),
+        now => Ok(now),
+    }
+}
+
+/// Makes the loads that come next: of the head, of a key or how many pairs there are, of the pairs.
 #[inline(always)]
 fn read_on<S: Shape, M: Machine<S>, E: Edit + Copy>(
     hand: Hand<S>,
@@ -155,14 +195,32 @@ fn read_on<S: Shape, M: Machine<S>, E: Edit + Copy>(
     ensures { TryGoesOn S.Shape M.Machine E.means hand.entry found.now
         seat.old run.old next seat.new run.new result }
 {
-    let mut now = next?;
-    while let Next::Read { node, part } = now {
-        now = read::<S, M, E>(hand, seat, run, found, node, part);
-    }
-    Ok(now)
+    let first = read_next::<S, M, E>(hand, seat, run, found, next);
+    let second = read_next::<S, M, E>(hand, seat, run, found, first);
+    read_next::<S, M, E>(hand, seat, run, found, second)
 }
 
-/// Makes the fills that come next.
+/// Makes the fill that comes next, if one does.
+#[inline(always)]
+fn fill_next<S: Shape, M: Machine<S>, E: Edit + Copy>(
+    hand: Hand<S>,
+    seat: &mut Seat<u8, SeatView>,
+    run: &mut UpdateRun<E, ()>,
+    found: &Found,
+    next: Result<Next, Stop>,
+) -> Result<Next, Stop>
+    requires table { IsAt hand seat.old }
+    requires goes_on { StandsToTry S.Shape M.Machine E.means hand found.now seat.old run.old next }
+    ensures { TryGoesOn S.Shape M.Machine E.means hand.entry found.now
+        seat.old run.old next seat.new run.new result }
+{
+    match next? {
+        Next::Fill(nth) => fill_node::<S, M, E>(hand, seat, run, found, nth),
+        now => Ok(now),
+    }
+}
+
+/// Makes the fills that come next, three at most.
 #[inline(always)]
 fn fill_on<S: Shape, M: Machine<S>, E: Edit + Copy>(
     hand: Hand<S>,
@@ -176,11 +234,9 @@ fn fill_on<S: Shape, M: Machine<S>, E: Edit + Copy>(
     ensures { TryGoesOn S.Shape M.Machine E.means hand.entry found.now
         seat.old run.old next seat.new run.new result }
 {
-    let mut now = next?;
-    while let Next::Fill(nth) = now {
-        now = fill_node::<S, M, E>(hand, seat, run, found, nth)?;
-    }
-    Ok(now)
+    let first = fill_next::<S, M, E>(hand, seat, run, found, next);
+    let second = fill_next::<S, M, E>(hand, seat, run, found, first);
+    fill_next::<S, M, E>(hand, seat, run, found, second)
 }
 
 /// Looks at a node.

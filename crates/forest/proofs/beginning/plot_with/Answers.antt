@@ -1,8 +1,6 @@
-use Rattle.std.proofs.Common.{◌≡◌, ◌+◌, ◌*◌, ◌≤◌, ◌<◌, ◌/◌, ℕ, false, IsNone, List, length, map, refl, sym, ◌∙◌, ap, subst, arith}
-use Rattle.std.proofs.Math.Nat.{mul-le-mul_left, mul-le-mul_right}
-use Rattle.histories.specs.Common.{Layout}
+use Rattle.std.proofs.Common.{◌≡◌, ◌*◌, ◌≤◌, ℕ, IsNone, length, map, refl, sym, ◌∙◌, ap, subst, arith}
+use Rattle.std.proofs.Math.Nat.{mul-le-mul_left}
 use Rattle.template.specs.Balance.{map_mode}
-use Rattle.ordered_map.specs.declared.pair.Pair.{Pair}
 use Rattle.ordered_map.specs.Replies.{word_pair}
 use Rattle.dict.specs.Words.{IsWordOf}
 use Rattle.forest.proofs.Begun.{begins_run}
@@ -24,8 +22,7 @@ returns-in-None-clause-refused g c =
     let shares = shares_fit lay.passes lay.nodes lay.passes_fit lay.nodes_fit in
     let full = c.with_room.ensures.full (subst IsNone (sym c.in-None.is) refl) in
     let count = c.planted.ensures in
-    let same : length c.in_ok-words.words.items ≡ length (map (word_pair g.K.WordKey.word_of g.V.WordValue.word_of) c.args.pairs.now) = ap length c.in_ok-words.ensures.words in
-    (
+    let same : length c.in_ok-words.words.items ≡ length (map (word_pair g.K.WordKey.word_of g.V.WordValue.word_of) c.args.pairs.now) = ap length c.in_ok-words.ensures.words in (
       omega (arith, shares),
       (let few = c.in_ok-planting.ensures.few in omega (arith, shares, full, count, same, few)),
       (λ tree. let exact = c.in_ok-planting.ensures.full (ap map_mode tree) in omega (arith, shares, full, count, same, exact)),

@@ -1,9 +1,8 @@
-use Rattle.std.proofs.Common.{◌*◌, List, IfErr, IfOk, map, ◌∙◌, ap, subst}
+use Rattle.std.proofs.Common.{◌*◌, List, IfErr, map, ◌∙◌, ap, subst}
 use Rattle.std.proofs.lemmas.Result.{IfOk-weaker}
 use Rattle.histories.specs.Common.{value}
 use Rattle.ordered_map.specs.declared.pair.Pair.{Pair}
 use Rattle.ordered_map.specs.Replies.{word_pair}
-use Rattle.ordered_map.specs.Spelled.{Spells}
 use Rattle.ordered_map.proofs.Lemmas.{one_spelling}
 use Rattle.forest.specs.Beginnings.{BeginsWithPairs, IsRefusalOfPairs}
 use Rattle.forest.specs.TableRule.{history_of}

@@ -6,7 +6,6 @@ use Rattle.template.specs.Walk.Steps.{room}
 use Rattle.histories.specs.Common.{Left, head_of}
 use Rattle.edits.specs.declared.update.UpdateRun.{UpdateRun}
 use Rattle.forest.specs.CallKinds.{calls}
-use Rattle.forest.specs.Hosts.{HostedIsTold}
 use Rattle.forest.specs.StraightGuard.{UpdaterWalks}
 use Rattle.forest.specs.StraightLlx.{LoadsMark}
 use Rattle.forest.specs.StraightUpdate.{Updater, UpdaterBegins}

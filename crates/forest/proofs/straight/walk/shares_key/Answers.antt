@@ -1,4 +1,3 @@
-use Rattle.std.proofs.Common.{subst, sym, ap, ◌∙◌}
 use Rattle.forest.proofs.straight.walk.shares_key.Goals as goal
 
 pub returns-in-Key-clause-yes : goal.returns-in-Key-clause-yes
