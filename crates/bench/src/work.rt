@@ -190,7 +190,11 @@ impl Work {
 
     /// What the work is done on.
     pub fn structure(self) -> &'static str {
-        if self.is_locked() { "mutex" } else { "regnubas" }
+        if self.is_locked() {
+            "mutex"
+        } else {
+            "regnubas"
+        }
     }
 
     /// Whether it is of a map behind a lock.
