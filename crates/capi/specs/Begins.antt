@@ -65,8 +65,8 @@ IsNext trie limits pairs after status =
     ((status ≡ 1) × HaveBegun (map_mode trie) limits pairs after)
     ⊎ (All IsEmpty (held_in after) × IsNotBegun trie limits pairs status)
 
--- The handles had all passes of a dictionary, which has ended. Its pairs, which are told, are in the
--- room, as far as they go in, also where the next, of the same shape, was refused.
+-- The handles had all passes of a dictionary, which has ended. Its pairs, which are told, are in
+-- the room, as far as they go in, also where the next, of the same shape, was refused.
 pub record HasGoneOver (each : PassLimits) (before after : List HandleSlot) (room : List KeyValue) (a : Count) : Type 0 where
   pub pairs : List (ℕ × ℕ)
   pub left : HaveEndedWith (held_in before) pairs

@@ -6,7 +6,7 @@ use Rattle.std.specs.Option.{option_map}
 use Rattle.arena.specs.Limits.{IsAccepted, IsLayoutOf}
 use Rattle.arena.specs.declared.limits.Limits.{Limits}
 use Rattle.arena.specs.declared.limits.Mode.{Mode}
-use Rattle.planting.specs.Plantings.{bare}
+use Rattle.planting.specs.Plantings.{nothing_planted}
 use Rattle.forest.specs.Passes.{Ground, PassView, AreNew}
 use Rattle.capi.specs.Owned.{owner_of, pass_of}
 use Rattle.capi.specs.declared.client.OwnedPass.{OwnedPass}
@@ -21,14 +21,14 @@ IsHeldOf f (Some c) = arc_value (owner_of c) ≡ f
 abbrev pub pass_at : HandleSlot → Option PassView
 pass_at place = option_map pass_of place.handle.value
 
--- The limits are accepted, and there is one forest of them, of this mode, which begins empty. The handles hold all its
--- passes, in order, before their first steps.
+-- The limits are accepted, and there is one forest of them, of this mode, which begins empty. The
+-- handles hold all its passes, in order, before their first steps.
 pub record AreMade (mode : Mode) (limits : Limits) (places : List HandleSlot) : Type 0 where
   pub accepted : IsAccepted limits
   pub forest : Ground
   pub layout : IsLayoutOf limits mode forest.layout
   pub tries : forest.tries ≡ limits.tries
-  pub empty : forest.planting ≡ bare mode
+  pub empty : forest.planting ≡ nothing_planted mode
   pub of_forest : All (λ p. IsHeldOf forest p.handle.value) places
   pub passes : List PassView
   pub new : AreNew forest passes

@@ -10,7 +10,7 @@ abbrev pub height : Tree → ℕ
 height (Leaf n) = 0
 height (Fork n a b) = suc (max (height a) (height b))
 
--- no leaf of the trie that the words spell is more than 66 fields below the root, as far as the pass
--- knows the run
+-- no leaf of the trie that the words spell is more than 66 fields below the root, as far as the
+-- pass knows the run
 abbrev pub IsLow : PassView → Type 0
 IsLow p = (t : Tree) → IsTree (value (run_of p)) t → height t ≤ 66

@@ -5,7 +5,7 @@ ghost use Rattle.std.specs.Prelude.{◌≡◌, ◌↔◌, Err, Some, IfErr, IfOk
 ghost use Rattle.regnubas.specs.Limits.{IsAccepted, IsLayoutOf};
 ghost use Rattle.regnubas.specs.OrderedMap.{call_insert, get};
 ghost use Rattle.regnubas.specs.Passes.{AreNew, IsOf};
-ghost use Rattle.regnubas.specs.Plantings.{bare};
+ghost use Rattle.regnubas.specs.Plantings.{nothing_planted};
 ghost use Rattle.regnubas.specs.Replies.{word_pair};
 ghost use Rattle.regnubas.specs.Types.{Trie as TrieMode};
 ghost use Rattle.conclusions.specs.Together.{HasReadValue, HasSet, HasSetAt, IsUpdateRefused};
@@ -96,7 +96,7 @@ pub fn new_trie(
     ensures refused { (result ≡ Err NewFault.Limits) ↔ (¬ IsAccepted limits) }
     ensures layout { IfOk result (λ made. IsLayoutOf limits TrieMode made.0.layout) }
     ensures tries { IfOk result (λ made. made.0.tries ≡ limits.tries) }
-    ensures empty { IfOk result (λ made. made.0.planting ≡ bare TrieMode) }
+    ensures empty { IfOk result (λ made. made.0.planting ≡ nothing_planted TrieMode) }
     ensures passes { IfOk result (λ made. AreNew made.0 made.1.items) }
 {
     Forest::<Trie<u64, u64>>::new(alloc, limits)

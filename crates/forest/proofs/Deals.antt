@@ -5,7 +5,7 @@ use lib.ListN.{get_elem?}
 use Rattle.atomic_table.specs.Table.{State, Splits, Joins, opening}
 use Rattle.atomic_table.proofs.Lists.{at_set}
 use Rattle.histories.specs.Common.{Layout, Row, Word, place, table_size, IsWord, History, Opened, value, IsRun}
-use Rattle.planting.specs.Plantings.{opening_of}
+use Rattle.planting.specs.Plantings.{opening_for}
 use Rattle.forest.specs.declared.rule.Plot.{Plot}
 use Rattle.forest.specs.declared.view.SeatedPass.{SeatedPass}
 use Rattle.forest.specs.declared.view.SeatView.{SeatView}
@@ -131,7 +131,7 @@ module _ (allows : Layout → History → ℕ → Type 0) (plot : Plot) where
   opened from (suc n) = (refl, refl, ([], refl, tt), apart_below from (suc from) n (omega arith), opened (suc from) n)
 
   -- the rule holds of words as they are at the start
-  pub opens : (words : List ℕ) (n : ℕ) → length words ≡ table_size plot.layout → ((w : Word) → IsWord plot.layout w → slice_index words (place plot.layout w) ≡ (opening_of plot.planting).words w) → IsRun allows plot.layout (Opened (opening_of plot.planting)) → TableIsLawful allows plot (opening words [] (seat_view (new_passes plot 0 n)))
+  pub opens : (words : List ℕ) (n : ℕ) → length words ≡ table_size plot.layout → ((w : Word) → IsWord plot.layout w → slice_index words (place plot.layout w) ≡ (opening_for plot.planting).words w) → IsRun allows plot.layout (Opened (opening_for plot.planting)) → TableIsLawful allows plot (opening words [] (seat_view (new_passes plot 0 n)))
   unfolding value
   opens words n size holds sound = record {
     run = [];

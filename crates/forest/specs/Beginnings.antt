@@ -6,7 +6,7 @@ use Rattle.ordered_map.specs.declared.pair.Pair.{Pair}
 use Rattle.ordered_map.specs.Planted.{IsPlanted, first_pairs}
 use Rattle.ordered_map.specs.Spelled.{Spells}
 use Rattle.planting.specs.Orders.{FallsFirstAt}
-use Rattle.planting.specs.Plantings.{IsPlantingOf, height, opening_of}
+use Rattle.planting.specs.Plantings.{IsPlantingOf, fork_levels, opening_for}
 use Rattle.forest.specs.declared.fault.PairsFault.{PairsFault}
 use Rattle.forest.specs.declared.fault.PairsFault.TheVariants.{Limits as LimitsFault, Order, TooMany, NoMemory}
 use Rattle.forest.specs.declared.rule.Plot.{Plot}
@@ -21,7 +21,7 @@ pub record HasLimits (limits : Limits) (mode : Mode) (lay : Layout) : Type 0 whe
 
 -- the history of a forest as it begins, which each new pass knows
 abbrev pub beginning_of : Ground → History
-beginning_of f = Opened (opening_of f.planting)
+beginning_of f = Opened (opening_for f.planting)
 
 -- The forest begins with these pairs: they are its first, and its words spell them. Their nodes are
 -- beside the shares of the passes. All leaves of a tree but the last are full: it has a node for
@@ -33,7 +33,7 @@ pub record BeginsWithPairs (f : Ground) (ps : List Pair) : Type 0 where
   pub planted : 0 < length ps → IsPlanted f.layout (beginning_of f) 0
   pub few : length f.planting.nodes ≤ 2 * length ps
   pub full : f.layout.mode ≡ Tree → length f.planting.nodes ≡ 2 * ((length ps + 3) / 4)
-  pub balanced : f.layout.mode ≡ Tree → (opening_of f.planting).deep ≤ suc (height (length ps))
+  pub balanced : f.layout.mode ≡ Tree → (opening_for f.planting).deep ≤ suc (fork_levels (length ps))
   pub room : (length f.planting.nodes ≤ f.layout.planted) × (f.layout.planted < length f.planting.nodes + 32)
 
 -- Why no forest begins with these pairs, where so many nodes are the passes' own: the keys do not

@@ -48,9 +48,9 @@ abbrev pub left_at_guard : {E A : Type 0} → EditMeaning E → UpdateRun E A �
 left_at_guard e m way goal head marked scx nodes = suc (update_left e (guarding_again m way goal head marked scx) nodes)
 
 -- From the old seat, where an update has not begun, one gets to the new one, where it waits at this
--- place of its walk: at the same table, in any call of the hand. It has kept the snapshot of its guard,
--- if it has one, and is else as it was. The steps left to its walk and for its guard drop by at least
--- those made.
+-- place of its walk: at the same table, in any call of the hand. It has kept the snapshot of its
+-- guard, if it has one, and is else as it was. The steps left to its walk and for its guard drop by
+-- at least those made.
 pub record BeginsToWalk {S T M A E B : Type 0} (s : Shape T) (m : Machine M T A) (e : EditMeaning E) (hand : Hand S) (way : Way) (goal : Goal) (old : Seat ℕ SeatView) (run : UpdateRun E B) (new : Seat ℕ SeatView) (now : UpdateRun E B) (place : Reached) : Type 0 where
   pub table : StaysAtTable old new
   pub to : (u : Updater (hand_calls s m hand) e) → UpdaterBegins u old.me.0.passes run → UpdaterWalks u new.me.0.passes now way goal place

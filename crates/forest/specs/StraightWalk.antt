@@ -31,18 +31,18 @@ use Rattle.forest.specs.Inside.{Inner, Inside, InnerIsTold, InnerWaits}
 abbrev pub GoesAs : WalkRun → WalkRun → Type 0
 GoesAs old now = (now.goal ≡ old.goal) × (now.way ≡ old.way)
 
--- where the second walk turns, which the first is once it has found this, is a fork that stays on the
--- path of its key
+-- where the second walk turns, which the first is once it has found this, is a fork that stays on
+-- the path of its key
 abbrev pub StaysThere : WalkRun → ℕ → WalkRun → Type 0
 StaysThere old v now = (d : Call) (h : History) → WalkIsTold old d h v → Stays d.layout (value h) (path_key old.goal) now.trail.node.0
 
--- It keeps a fork where it turns only if that is so. Nothing is owed for a fork that it does not keep:
--- an earlier one is as good, since the path of the key has passed that too.
+-- It keeps a fork where it turns only if that is so. Nothing is owed for a fork that it does not
+-- keep: an earlier one is as good, since the path of the key has passed that too.
 abbrev pub KeepsTurns : WalkRun × LastTurns → ℕ → WalkRun × LastTurns → Type 0
 KeepsTurns old v now = (now.1 ≡ old.1) ⊎ ((now.1 ≡ last_turns now.0.at now.0.trail.node old.1) × StaysThere old.0 v now.0)
 
--- a walk in a call of its own, with the last forks where it has turned; it goes on past the root, to
--- the same goal
+-- a walk in a call of its own, with the last forks where it has turned; it goes on past the root,
+-- to the same goal
 abbrev pub inner_walk : Inner (WalkRun × LastTurns)
 inner_walk = record {
   Context = Call;
@@ -62,8 +62,8 @@ pub record AsksHead (trail : Trail) (at : WalkAt) (start : ℕ) : Type 0 where
   pub place : LoadsHead at
   pub begins : start ≡ node_start trail.node
 
--- a walk by this way has gone down from a fork of this level to a node, whose head it asks for: it is
--- no deeper than there is room where so many nodes are taken
+-- a walk by this way has gone down from a fork of this level to a node, whose head it asks for: it
+-- is no deeper than there is room where so many nodes are taken
 pub record AsksBelow (way : Way) (level taken : ℕ) (place : Reached) : Type 0 where
   pub at : place.at ≡ AtHead level
   pub deep : level + 1 < 2 + room way taken
@@ -93,8 +93,8 @@ module _ {M : Type 0} {o : Calls M} (w : Walker o) (ps : List SeatedPass) where
   abbrev pub WalkerIsTold : WalkRun → LastTurns → ℕ → Type 0
   WalkerIsTold m turn v = InnerIsTold w ps (m, turn) v
 
-  -- its walk by this way to this goal waits for the child on this side of the node that its trail has
-  -- reached, whose head is of this level; it has turned last at these forks
+  -- its walk by this way to this goal waits for the child on this side of the node that its trail
+  -- has reached, whose head is of this level; it has turned last at these forks
   abbrev pub WalkerGoesDown : Way → Goal → Trail → ℕ → Side → LastTurns → Type 0
   WalkerGoesDown way goal trail level side turn = WalkerWaits (way_at way goal trail (Child level side)) turn (load LoadChild (child trail.node.0 side))
 
@@ -106,8 +106,8 @@ module _ {M : Type 0} {o : Calls M} (w : Walker o) (ps : List SeatedPass) where
   abbrev pub WalksFromRoot : Way → Goal → Type 0
   WalksFromRoot way goal = WalkerWaits (way_from way goal) no_turns (load LoadSettled (node 0 (Settled HeadWord)))
 
-  -- the last step of its walk by a way to a goal has found what makes this the one that it has found,
-  -- and these forks are the last where it has turned
+  -- the last step of its walk by a way to a goal has found what makes this the one that it has
+  -- found, and these forks are the last where it has turned
   pub record WalkerFinds (way : Way) (goal : Goal) (turn : LastTurns) (f : Found) : Type 0 where
     pub last : WalkRun
     pub is_goal : last.goal ≡ goal
@@ -126,8 +126,8 @@ module _ {S T M A : Type 0} (s : Shape T) (m : Machine M T A) (hand : Hand S) wh
   abbrev pub WalkFinds : Seat ℕ SeatView → WalkRun → ℕ → Seat ℕ SeatView → Found → Type 0
   WalkFinds old walk v new f = (w : Walker (hand_calls s m hand)) (turn : LastTurns) → WalkerIsTold w old.me.0.passes walk turn v → WalkerFinds w new.me.0.passes walk.way walk.goal turn f
 
-  -- or it goes down to this side of the fork, with the head in this word: there it has turned last if
-  -- that counts
+  -- or it goes down to this side of the fork, with the head in this word: there it has turned last
+  -- if that counts
   abbrev pub WalkGoesDown : Seat ℕ SeatView → WalkRun → ℕ → Seat ℕ SeatView → Side → Bool → Type 0
   WalkGoesDown old walk word new side counts = (w : Walker (hand_calls s m hand)) (turn : LastTurns) → WalkerIsTold w old.me.0.passes walk turn word → WalkerGoesDown w new.me.0.passes walk.way walk.goal walk.trail (head_of word).level side (with_turn_if counts side walk.trail.node turn)
 
@@ -135,8 +135,8 @@ module _ {S T M A : Type 0} (s : Shape T) (m : Machine M T A) (hand : Hand S) wh
   abbrev pub MayWalk : Seat ℕ SeatView → Way → Goal → Type 0
   MayWalk seat way goal = (w : Walker (hand_calls s m hand)) × WalksFromRoot w seat.me.0.passes way goal
 
-  -- whichever call was to do so at the old seat: at the new one its walk has found f in the end, and
-  -- these forks are the last where it has turned
+  -- whichever call was to do so at the old seat: at the new one its walk has found f in the end,
+  -- and these forks are the last where it has turned
   abbrev pub WalkEnds : Seat ℕ SeatView → Way → Goal → Seat ℕ SeatView → LastTurns → Found → Type 0
   WalkEnds old way goal new turns f = (w : Walker (hand_calls s m hand)) → WalksFromRoot w old.me.0.passes way goal → WalkerFinds w new.me.0.passes way goal turns f
 
@@ -144,7 +144,7 @@ module _ {S T M A : Type 0} (s : Shape T) (m : Machine M T A) (hand : Hand S) wh
   abbrev pub MayWalkFrom : Seat ℕ SeatView → Way → Goal → Reached → Type 0
   MayWalkFrom seat way goal first = (w : Walker (hand_calls s m hand)) × WalkerIsAt w seat.me.0.passes way goal first
 
-  -- whichever call was to do so at the old seat: at the new one its walk has found f in the end, and
-  -- these forks are the last where it has turned
+  -- whichever call was to do so at the old seat: at the new one its walk has found f in the end,
+  -- and these forks are the last where it has turned
   abbrev pub WalkEndsFrom : Seat ℕ SeatView → Way → Goal → Reached → Seat ℕ SeatView → LastTurns → Found → Type 0
   WalkEndsFrom old way goal first new turns f = (w : Walker (hand_calls s m hand)) → WalkerIsAt w old.me.0.passes way goal first → WalkerFinds w new.me.0.passes way goal turns f

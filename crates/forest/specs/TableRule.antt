@@ -5,7 +5,7 @@ use lib.ListN.{get_elem?}
 use Rattle.atomic_table.specs.Seated.{TableId}
 use Rattle.atomic_table.specs.Table.{State}
 use Rattle.histories.specs.Common.{Layout, Settled, Head, Word, LoadSettled, Load, Row, place, table_size, IsWord, node, word_after, History, Opened, ◌⊳◌, value, IsRun, IsTold}
-use Rattle.planting.specs.Plantings.{PlantingView, opening_of}
+use Rattle.planting.specs.Plantings.{PlantingView, opening_for}
 use Rattle.forest.specs.declared.rule.CallStep.{CallStep}
 use Rattle.forest.specs.declared.rule.Plot.{Plot}
 use Rattle.forest.specs.declared.view.SeatedPass.{SeatedPass}
@@ -13,7 +13,7 @@ use Rattle.forest.specs.declared.view.SeatView.{SeatView}
 
 -- the history that these rows make, the newest first, where this is planted
 abbrev pub history_of : PlantingView → List Row → History
-history_of planting [] = Opened (opening_of planting)
+history_of planting [] = Opened (opening_for planting)
 history_of planting (r ∷ rs) = r ⊳ history_of planting rs
 
 -- the pass of this number in a table that is planted so, which knows these rows

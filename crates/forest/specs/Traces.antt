@@ -3,7 +3,7 @@ use Rattle.std.specs.Prelude.{◌≡◌, ◌≢◌, ◌==◌, if◌then◌else�
 use Rattle.histories.specs.Common.{Layout, Row, Step, History, ◌⊳◌, Call, IsRun, MatchTurn, row_of, Turn, Ask, Done, most_taken}
 use Rattle.forest.specs.declared.view.SeatedPass.{SeatedPass}
 use Rattle.arena.specs.declared.limits.Mode.TheVariants.{Records}
-use Rattle.planting.specs.Plantings.{PlantingView, bare}
+use Rattle.planting.specs.Plantings.{PlantingView, nothing_planted}
 use Rattle.forest.specs.TableRule.{history_of, seated_pass}
 
 -- how a call, begun with the machine `first`, has reached the machine m and the history h
@@ -69,7 +69,7 @@ weight (Done a) n = 0
 
 -- what is planted in the table of the one pass of a seat
 abbrev pub planting_of : List SeatedPass → PlantingView
-planting_of [] = bare Records
+planting_of [] = nothing_planted Records
 planting_of (p ∷ ps) = p.planting
 
 -- the run that the one pass of a seat knows

@@ -10,7 +10,7 @@ ghost use Rattle.ordered_map.specs.Replies.{word_pair};
 ghost use Rattle.ordered_map.specs.Spelled.{Spells};
 ghost use Rattle.dict.specs.Typed.{AreTyped, TypedAllows};
 ghost use Rattle.dict.specs.Words.{IsWordOf};
-ghost use Rattle.planting.specs.Plantings.{opening_of};
+ghost use Rattle.planting.specs.Plantings.{opening_for};
 ghost use Rattle.forest.specs.Beginnings.{BeginsWithPairs, HasLimits, IsPlotWith, IsRefusalOfPairs};
 ghost use Rattle.forest.specs.Passes.{AreNew, PassView, IsClosed};
 ghost use Rattle.forest.specs.TableRule.{history_of};
@@ -105,7 +105,7 @@ fn plot_with<K: WordKey, V: WordValue>(
     requires none { layout.now.planted ≡ 0 }
     ensures plot { IfOk result (IsPlotWith layout.now (map (word_pair K.word_of V.word_of) pairs.now)) }
     ensures run { IfOk result (λ plot. IsRun (TypedAllows (IsWordOf K.is_valid K.word_of) (IsWordOf V.is_valid V.word_of))
-        plot.layout (Opened (opening_of plot.planting))) }
+        plot.layout (Opened (opening_for plot.planting))) }
     ensures rising { OnOk result (IsRising (map (word_pair K.word_of V.word_of) pairs.now)) }
     ensures refused { IfErr result (IsRefusalOfPairs
         trie (layout.now.passes * layout.now.nodes) (map (word_pair K.word_of V.word_of) pairs.now)) }

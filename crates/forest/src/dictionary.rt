@@ -2,7 +2,7 @@
 ghost use Rattle.std.specs.Prelude.{◌≡◌, ◌≤◌, ◌↔◌, Err, IfOk, OnOk};
 ghost use Rattle.arena.specs.Limits.{IsAccepted, IsLayoutOf};
 ghost use Rattle.template.specs.Balance.{map_mode};
-ghost use Rattle.planting.specs.Plantings.{bare};
+ghost use Rattle.planting.specs.Plantings.{nothing_planted};
 ghost use Rattle.ordered_map.specs.declared.rule.Goal.TheVariants.{Key};
 ghost use Rattle.ordered_map.specs.OrderedMap.{Edit, Get, Range, call_successor, call_predecessor, call_insert, call_insert_new, call_delete, call_delete_if, call_pop_first, call_pop_last, call_replace_if};
 ghost use Rattle.dict.specs.Calls.{IsSmallCall, edit_call};
@@ -98,7 +98,7 @@ impl<K: WordKey, V: WordValue, B: FixedBalance> Forest<Dict<K, V, B>> {
         ensures refused { (result ≡ Err NewFault.Limits) ↔ (¬ IsAccepted limits) }
         ensures layout { IfOk result (λ r. IsLayoutOf limits (map_mode (B.trie B.the)) r.0.layout) }
         ensures tries { IfOk result (λ r. r.0.tries ≡ limits.tries) }
-        ensures empty { IfOk result (λ r. r.0.planting ≡ bare (map_mode (B.trie B.the))) }
+        ensures empty { IfOk result (λ r. r.0.planting ≡ nothing_planted (map_mode (B.trie B.the))) }
         ensures passes { IfOk result (λ r. AreNew r.0 r.1.items) }
     {
         let Ok(layout) = limits.check(mode::<B>()) else {

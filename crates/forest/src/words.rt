@@ -7,7 +7,7 @@ ghost use Rattle.atomic_table.specs.Table.{Final, Seen};
 ghost use Rattle.arena.specs.History.{Opened};
 ghost use Rattle.arena.specs.Layout.{table_size};
 ghost use Rattle.arena.specs.Machines.{IsRun};
-ghost use Rattle.planting.specs.Plantings.{opening_of};
+ghost use Rattle.planting.specs.Plantings.{opening_for};
 ghost use Rattle.forest.specs.declared.view.SeatedPass.{SeatedPass};
 ghost use Rattle.forest.specs.Seats.{IsSeatAt, StaysAtTable};
 ghost use Rattle.forest.specs.TableRule.{IsPlaceOf, IsTableOf, TableIsLawful, MayStep, Made, Looked, new_passes, rest_of, first_of};
@@ -31,7 +31,7 @@ impl<S: Shape> Words<S> {
         plot: &Plot,
     ) -> Result<(Words<S>, Seat<u8, SeatView>), NoMemory>
         requires mode { plot.now.planting.mode ≡ plot.now.layout.mode }
-        requires run { IsRun S.allows plot.now.layout (Opened (opening_of plot.now.planting)) }
+        requires run { IsRun S.allows plot.now.layout (Opened (opening_for plot.now.planting)) }
         ensures key { IfOk result (λ w. w.0.table.shared.key ≡ plot.now) }
         ensures table { IfOk result
             (λ w. IsTableOf w.0.table.shared.table_id w.0.table.shared.key plot.now.layout

@@ -13,9 +13,9 @@ use Rattle.arena.specs.declared.word.Word.{Word}
 use Rattle.arena.specs.declared.word.Word.TheVariants.{Node, Scx}
 use Rattle.arena.specs.Layout.{all_nodes, place, table_size, IsWord}
 use Rattle.arena.specs.Words.{node_place, scx_place, IsScxWord, node, scx}
-use Rattle.planting.specs.Places.{part_at, scx_part_at, word_of_place}
+use Rattle.planting.specs.Places.{part_of_place, scx_part_at, word_of_place}
 
-part_back : (part : NodeWord) → (part_at (node_place part) ≡ part) × (node_place part < 18)
+part_back : (part : NodeWord) → (part_of_place (node_place part) ≡ part) × (node_place part < 18)
 part_back (Settled Head) = (refl, omega arith)
 part_back (Settled More) = (refl, omega arith)
 part_back (Settled (Key First)) = (refl, omega arith)
@@ -61,7 +61,7 @@ place_back lay (Node n part) i =
     let inside : 18 * n.0 + node_place part < 18 * all_nodes lay = omega (arith, i, small) in
     let high : (18 * n.0 + node_place part) / 18 ≡ n.0 = omega (arith, small) in
     let low : (18 * n.0 + node_place part) % 18 ≡ node_place part = omega (arith, small) in
-    rw (lt-ltb (18 * n.0 + node_place part) (18 * all_nodes lay) inside) ((λ k. node (high k) (part_at (low k))) ∙ ap (λ q. Node n q) p.0)
+    rw (lt-ltb (18 * n.0 + node_place part) (18 * all_nodes lay) inside) ((λ k. node (high k) (part_of_place (low k))) ∙ ap (λ q. Node n q) p.0)
 place_back lay (Scx s part) i =
     let p = scx_back part i.1 in
     let small = p.1 in

@@ -15,7 +15,7 @@ use Rattle.edits.specs.Laws.PieceFills.{HoldsWords}
 use Rattle.edits.specs.Pieces.{word_of}
 use Rattle.edits.proofs.Lemmas.{IsLeafWith, IsForkWith, leaf_with, fork_with}
 use Rattle.planting.specs.Groves.{IsGrove, HoldsRow, NamesBelow, HasGrown}
-use Rattle.planting.specs.Plantings.{numbered, all_pieces, piece_word, within, planted_words, couples, planted_opening, planted_as, bare, doublings, height, crown_piece, IsGrownOver, IsPlantingOf}
+use Rattle.planting.specs.Plantings.{numbered, all_pieces, piece_word, capped, planted_words, couples, planted_opening, planted_as, nothing_planted, doublings, fork_levels, crown_piece, IsGrownOver, IsPlantingOf}
 use Rattle.planting.proofs.Rows.{row_front, row_back, names_more, names_both}
 use Rattle.planting.proofs.Crowns.{crowned, crown_items, crown_low, crown_whole, crown_there, crown_blank, crown_deep, crown_forks, whole_tree}
 
@@ -27,7 +27,7 @@ taken_length : (first k : ℕ) → length (first_planted first k) ≡ k
 taken_length first zero = refl
 taken_length first (suc k) = ap suc (taken_length first k)
 
-within_same : (most n : ℕ) → n < most → within most n ≡ n
+within_same : (most n : ℕ) → n < most → capped most n ≡ n
 within_same most n l = rw (lt-ltb n most l) refl
 
 -- the words that are planted hold the pieces
@@ -41,8 +41,8 @@ holds_from o all at (p ∷ ps) e same names = (words, holds_from o all (suc at) 
 
     words : HoldsWords (Opened o) at p
     words (Settled part) i = ap (λ f. f (node at (Settled part))) e ∙ here (Settled part)
-    words (Child Left) i = ap (λ f. f (child at Left)) e ∙ ap (within (length all)) (here (Child Left)) ∙ within_same (length all) _ names.0
-    words (Child Right) i = ap (λ f. f (child at Right)) e ∙ ap (within (length all)) (here (Child Right)) ∙ within_same (length all) _ names.1
+    words (Child Left) i = ap (λ f. f (child at Left)) e ∙ ap (capped (length all)) (here (Child Left)) ∙ within_same (length all) _ names.0
+    words (Child Right) i = ap (λ f. f (child at Right)) e ∙ ap (capped (length all)) (here (Child Right)) ∙ within_same (length all) _ names.1
     words Info i = absurd i
     words Marked i = absurd i
 
@@ -68,13 +68,13 @@ doubled (suc most) room n some fits least = go (dec_lt room n) (λ l. doubled mo
         rw (lt-ltb room n l) (first, second)
     go (no d) rest = rw (le-ltb room n (omega (arith, d))) (omega (arith, d), omega (arith, least))
 
-tall_enough : (n : ℕ) → 0 < n → (n ≤ 4 * 2 ^ height n) × (4 * 2 ^ height n ≤ 2 * n + 2)
+tall_enough : (n : ℕ) → 0 < n → (n ≤ 4 * 2 ^ fork_levels n) × (4 * 2 ^ fork_levels n ≤ 2 * n + 2)
 tall_enough n some = doubled n 4 n (omega arith) (omega arith) (omega (arith, some))
 
 module _ (mode : Mode) (is : IsMap mode) (b : Bool) (is_trie : mode ≡ TrieMode → b ≡ true) (is_tree : mode ≡ TreeMode → b ≡ false) (ps : List Pair) (row : List Piece) (x : ℕ)
     (g : HasGrown b ps 2 [] row x) (small : AllBelow (2 ^ 64) ps) (some : 0 < length ps) where
   abbrev tall : ℕ
-  tall = height (length ps)
+  tall = fork_levels (length ps)
 
   abbrev many : ℕ
   many = length g.more
@@ -189,7 +189,7 @@ planting mode is b trie tree ps nodes begins g small = subst (λ ns. IsPlantingO
   few = let n = nodes_count mode is b trie tree ps g.row g.top g.grown small some in let e = g.grown.few in omega (arith, n, e);
   enough = let n = nodes_count mode is b trie tree ps g.row g.top g.grown small some in let e = g.grown.enough in omega (arith, n, e);
   full = λ m. let n = nodes_count mode is b trie tree ps g.row g.top g.grown small some in n ∙ g.grown.full (tree m);
-  balanced = λ _. subst (λ (o : Opening). o.deep ≤ suc (height (length ps))) (sym same) (min_first (suc (height (length ps))) (length (g.row ++ crown_piece g.top ∷ [])));
+  balanced = λ _. subst (λ (o : Opening). o.deep ≤ suc (fork_levels (length ps))) (sym same) (min_first (suc (fork_levels (length ps))) (length (g.row ++ crown_piece g.top ∷ [])));
   planted = ap (λ (o : Opening). o.planted) same;
   opens = inr (λ lay m. subst (λ (o : Opening). IsPlanted lay (Opened o) 0) (sym same) (planted mode is b trie tree ps g.row g.top g.grown small some lay m));
 }
@@ -211,6 +211,6 @@ planting_of true ps nodes g small = planting TrieMode refl true (λ _. refl) (λ
 planting_of false ps nodes g small = planting TreeMode refl false (λ e. absurd (no_tree e)) (λ _. refl) ps nodes (tree_begins ps) g small
 
 -- no pairs are those of an empty map
-pub bare_planting : (mode : Mode) (ps : List Pair) → length ps ≡ 0 → IsPlantingOf mode ps (bare mode)
+pub bare_planting : (mode : Mode) (ps : List Pair) → length ps ≡ 0 → IsPlantingOf mode ps (nothing_planted mode)
 bare_planting mode [] e = record { mode_is = refl; view_mode = refl; pairs_are = refl; few = omega arith; enough = omega (arith, e); full = λ _. refl; balanced = λ _. omega arith; planted = refl; opens = inl refl }
 bare_planting mode (p ∷ ps) e = absurd (omega (arith, e))

@@ -10,9 +10,10 @@ use Rattle.ordered_map.specs.TreeWords.{Tree, root, Shows, Has, class, level}
 use Rattle.ordered_map.specs.Planted.{items}
 use Rattle.ordered_map.specs.Bits.{IsParted, IsTrieFork, Keeps, PartsKeys, side_from, side_to}
 
--- The `many` nodes from `at` on are those of a tree with this root, whose leaves hold these pairs; all
--- are of class 0. In a tree the root is on the level `deep`, and none is more than `tall` levels below
--- it; in a trie each fork parts keys at a bit, and the root keeps to each side to which the pairs do.
+-- The `many` nodes from `at` on are those of a tree with this root, whose leaves hold these pairs;
+-- all are of class 0. In a tree the root is on the level `deep`, and none is more than `tall`
+-- levels below it; in a trie each fork parts keys at a bit, and the root keeps to each side to
+-- which the pairs do.
 pub record IsGrove (trie : Bool) (f : Word → ℕ) (ps : List Pair) (deep tall at many top : ℕ) : Type 0 where
   pub tree : Tree
   pub is : root tree ≡ top
@@ -35,9 +36,9 @@ pub record IsParting (ls rs : List Pair) (key deep : ℕ) : Type 0 where
   pub below : AllBelow (suc last) rs
   pub between : (lo hi : ℕ) → AllFrom lo (ls ++ rs) → AllBelow hi (ls ++ rs) → (lo ≤ first) × (first < hi) × (lo ≤ last) × (last < hi)
 
--- Where pairs are parted by a fork with this key, on this level: those before the place `middle` are
--- below it. In a tree they are halved, those below it into full leaves, on the level that is asked
--- for; in a trie the fork is the one between the first and the last of them.
+-- Where pairs are parted by a fork with this key, on this level: those before the place `middle`
+-- are below it. In a tree they are halved, those below it into full leaves, on the level that is
+-- asked for; in a trie the fork is the one between the first and the last of them.
 pub record IsPartedAt (trie : Bool) (ps : List Pair) (deep middle key here : ℕ) : Type 0 where
   pub some : 0 < middle
   pub less : middle < length ps
@@ -58,10 +59,10 @@ abbrev pub NamesBelow : ℕ → List Piece → Type 0
 NamesBelow most [] = Unit {0}
 NamesBelow most (p ∷ ps) = (word_of p (Child Left) < most) × (word_of p (Child Right) < most) × NamesBelow most ps
 
--- Nodes for these pairs were added to the row, which begins at node 3, the top as the last: whatever
--- holds them shows the pairs. In a tree of n pairs no leaf is more than k levels below the top if n is
--- at most 4 times 2 ^ k, and all leaves but the last are full: there are as few as can be, and a fork
--- less.
+-- Nodes for these pairs were added to the row, which begins at node 3, the top as the last:
+-- whatever holds them shows the pairs. In a tree of n pairs no leaf is more than k levels below the
+-- top if n is at most 4 times 2 ^ k, and all leaves but the last are full: there are as few as can
+-- be, and a fork less.
 pub record HasGrown (trie : Bool) (ps : List Pair) (deep : ℕ) (old new : List Piece) (top : ℕ) : Type 0 where
   pub more : List Piece
   pub is : new ≡ old ++ more

@@ -13,8 +13,8 @@ use Rattle.arena.specs.Layout.{all_nodes}
 use Rattle.arena.specs.Words.{node, scx}
 
 -- the word at this place of a node
-abbrev pub part_at : ℕ → NodeWord
-part_at n =
+abbrev pub part_of_place : ℕ → NodeWord
+part_of_place n =
     if n == 0 then Settled Head else (
     if n == 1 then Settled (Key First) else (
     if n == 2 then Settled (Value First) else (
@@ -49,5 +49,5 @@ scx_part_at n =
 -- the word at this place of a table
 abbrev pub word_of_place : Layout → ℕ → Word
 word_of_place lay i =
-    if nat_lt i (18 * all_nodes lay) then node (i / 18) (part_at (i % 18))
+    if nat_lt i (18 * all_nodes lay) then node (i / 18) (part_of_place (i % 18))
     else scx ((i - 18 * all_nodes lay) / 14) (scx_part_at ((i - 18 * all_nodes lay) % 14))

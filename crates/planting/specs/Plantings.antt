@@ -51,22 +51,22 @@ piece_word (p ∷ ps) zero part = word_of p part
 piece_word (p ∷ ps) (suc n) part = piece_word ps n part
 
 -- a number below `most`: another one is taken for 0
-abbrev pub within : ℕ → ℕ → ℕ
-within most n = if nat_lt n most then n else 0
+abbrev pub capped : ℕ → ℕ → ℕ
+capped most n = if nat_lt n most then n else 0
 
 -- what a word holds where these are the nodes
 abbrev pub planted_words : List Piece → Word → ℕ
 planted_words ps (Node n (Settled part)) = piece_word ps n.0 (Settled part)
-planted_words ps (Node n (Child side)) = within (length ps) (piece_word ps n.0 (Child side))
+planted_words ps (Node n (Child side)) = capped (length ps) (piece_word ps n.0 (Child side))
 planted_words ps (Node n Info) = 0
 planted_words ps (Node n Marked) = 0
 planted_words ps (Scx s part) = records_opening (Scx s part)
 
 -- such a number is below `most`
-pub within_less : (most n : ℕ) → 0 < most → within most n < most
+pub within_less : (most n : ℕ) → 0 < most → capped most n < most
 within_less most n some = go (dec_lt n most)
   where
-    go : Dec (n < most) → within most n < most
+    go : Dec (n < most) → capped most n < most
     go (yes l) = rw (lt-ltb n most l) l
     go (no d) = rw (le-ltb n most (omega (arith, d))) some
 
@@ -76,15 +76,15 @@ none_there [] n part l = refl
 none_there (p ∷ ps) zero part l = absurd (omega (arith, l))
 none_there (p ∷ ps) (suc n) part l = none_there ps n part (omega (arith, l))
 
-within_none : (most : ℕ) → within most 0 ≡ 0
+within_none : (most : ℕ) → capped most 0 ≡ 0
 within_none zero = refl
 within_none (suc most) = rw (lt-ltb 0 (suc most) (omega arith)) refl
 
-pub none_beyond : (ps : List Piece) (n : ℕ) (part : NodeWord) → length ps ≤ n → planted_words ps (node n part) ≡ 0
-none_beyond ps n (Settled part) l = none_there ps n (Settled part) l
-none_beyond ps n (Child side) l = ap (within (length ps)) (none_there ps n (Child side) l) ∙ within_none (length ps)
-none_beyond ps n Info l = refl
-none_beyond ps n Marked l = refl
+pub zero_beyond : (ps : List Piece) (n : ℕ) (part : NodeWord) → length ps ≤ n → planted_words ps (node n part) ≡ 0
+zero_beyond ps n (Settled part) l = none_there ps n (Settled part) l
+zero_beyond ps n (Child side) l = ap (capped (length ps)) (none_there ps n (Child side) l) ∙ within_none (length ps)
+zero_beyond ps n Info l = refl
+zero_beyond ps n Marked l = refl
 
 -- how often `room` is to be doubled until it is n or more; `most` times at most
 abbrev pub doublings : ℕ → ℕ → ℕ → ℕ
@@ -93,8 +93,8 @@ doublings (suc most) room n = if nat_lt room n then suc (doublings most (2 * roo
 
 -- on how many levels a tree of n pairs has forks, where each leaf has four and each fork parts them
 -- evenly
-abbrev pub height : ℕ → ℕ
-height n = doublings n 4 n
+abbrev pub fork_levels : ℕ → ℕ
+fork_levels n = doublings n 4 n
 
 -- a map's mode is not that of cells
 pub no_cells : (mode : Mode) → IsMap mode → is_map mode ≡ false → ⊥
@@ -112,14 +112,14 @@ planted_opening mode is pairs nodes = record {
   mode = mode;
   pairs = couples pairs;
   planted = length nodes;
-  deep = min (suc (height (length pairs))) (length nodes);
+  deep = min (suc (fork_levels (length pairs))) (length nodes);
   words = planted_words (all_pieces nodes);
   few = rw is (omega arith);
   at_rest = λ n. refl;
   unmarked = λ n. refl;
   records = λ s part. refl;
   fields = λ n side. rw is (let i = within_less (length (all_pieces nodes)) (piece_word (all_pieces nodes) n (Child side)) (omega arith) in omega (arith, i));
-  beyond = λ n part l. none_beyond (all_pieces nodes) n part (let i : 3 + length nodes ≤ n = rw is at l in omega (arith, i));
+  beyond = λ n part l. zero_beyond (all_pieces nodes) n part (let i : 3 + length nodes ≤ n = rw is at l in omega (arith, i));
   cells = λ none. absurd (no_cells mode is none);
 }
 
@@ -135,12 +135,12 @@ planted_as mode pairs [] = empty mode
 planted_as mode pairs (p ∷ ps) = planted_in mode pairs (p ∷ ps)
 
 -- how a table begins that has this planting
-abbrev pub opening_of : PlantingView → Opening
-opening_of p = planted_as p.mode p.pairs p.nodes
+abbrev pub opening_for : PlantingView → Opening
+opening_for p = planted_as p.mode p.pairs p.nodes
 
 -- nothing is planted
-abbrev pub bare : Mode → PlantingView
-bare mode = record { mode = mode; pairs = []; nodes = [] }
+abbrev pub nothing_planted : Mode → PlantingView
+nothing_planted mode = record { mode = mode; pairs = []; nodes = [] }
 
 -- the fork above all keys, over the top of the nodes
 abbrev pub crown_piece : ℕ → Piece
@@ -154,15 +154,16 @@ pub record IsGrownOver (trie : Bool) (pairs : List Pair) (nodes : List Piece) : 
   pub is : nodes ≡ row ++ crown_piece top ∷ []
 
 -- These pairs are planted in a table of this mode. It begins empty or as a map may begin, and its
--- pairs are these. A tree has a node for each leaf and for each fork, one of which is above all keys:
--- so all leaves but the last are full; and none is deeper than where each fork parts them evenly.
+-- pairs are these. A tree has a node for each leaf and for each fork, one of which is above all
+-- keys: so all leaves but the last are full; and none is deeper than where each fork parts them
+-- evenly.
 pub record IsPlantingOf (mode : Mode) (pairs : List Pair) (p : PlantingView) : Type 0 where
-  pub mode_is : (opening_of p).mode ≡ mode
+  pub mode_is : (opening_for p).mode ≡ mode
   pub view_mode : p.mode ≡ mode
-  pub pairs_are : first_pairs (Opened (opening_of p)) ≡ pairs
+  pub pairs_are : first_pairs (Opened (opening_for p)) ≡ pairs
   pub few : length p.nodes ≤ 2 * length pairs
   pub enough : length pairs ≤ 4 * length p.nodes
   pub full : mode ≡ Tree → length p.nodes ≡ 2 * ((length pairs + 3) / 4)
-  pub balanced : mode ≡ Tree → (opening_of p).deep ≤ suc (height (length pairs))
-  pub planted : (opening_of p).planted ≡ length p.nodes
-  pub opens : (opening_of p ≡ empty mode) ⊎ ((lay : Layout) → lay.mode ≡ mode → IsPlanted lay (Opened (opening_of p)) 0)
+  pub balanced : mode ≡ Tree → (opening_for p).deep ≤ suc (fork_levels (length pairs))
+  pub planted : (opening_for p).planted ≡ length p.nodes
+  pub opens : (opening_for p ≡ empty mode) ⊎ ((lay : Layout) → lay.mode ≡ mode → IsPlanted lay (Opened (opening_for p)) 0)

@@ -1,6 +1,6 @@
 //! Which word is at a place of a table.
 ghost use Rattle.std.specs.Prelude.{◌≡◌, ◌<◌};
-ghost use Rattle.planting.specs.Places.{part_at, scx_part_at, word_of_place};
+ghost use Rattle.planting.specs.Places.{part_of_place, scx_part_at, word_of_place};
 
 use arena::{Layout, NodeNo, NodeWord, ScxNo, ScxWord, SettledPart, Side, Slot, Word};
 
@@ -10,15 +10,15 @@ pub(crate) fn word_of_place(layout: &Layout, place: usize) -> Word
 {
     let nodes = 18 * layout.all_nodes() as usize;
     if place < nodes {
-        return Word::Node(NodeNo((place / 18) as u64), part_at(place % 18));
+        return Word::Node(NodeNo((place / 18) as u64), part_of_place(place % 18));
     }
     let beyond = place - nodes;
     Word::Scx(ScxNo((beyond / 14) as u64), scx_part_at(beyond % 14))
 }
 
 /// The word at this place of a node.
-fn part_at(place: usize) -> NodeWord
-    ensures { result ≡ part_at place }
+fn part_of_place(place: usize) -> NodeWord
+    ensures { result ≡ part_of_place place }
 {
     match place {
         0 => NodeWord::Settled(SettledPart::Head),

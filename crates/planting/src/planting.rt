@@ -4,7 +4,7 @@ ghost use Rattle.ordered_map.specs.OrderedMap.{AllBelow, IsRising};
 ghost use Rattle.template.specs.Balance.{map_mode};
 ghost use Rattle.arena.specs.Layout.{table_size, IsWord, place};
 ghost use Rattle.arena.specs.declared.word.Word.{Word as WordOf};
-ghost use Rattle.planting.specs.Plantings.{bare, opening_of, planted_words, all_pieces, piece_word, within, root_piece, end_piece, IsGrownOver, IsPlantingOf};
+ghost use Rattle.planting.specs.Plantings.{nothing_planted, opening_for, planted_words, all_pieces, piece_word, capped, root_piece, end_piece, IsGrownOver, IsPlantingOf};
 
 use crate::places::word_of_place;
 use crate::trees::grow;
@@ -34,7 +34,7 @@ impl Model for Planting {
 impl Planting {
     /// Nothing is planted: a map of this mode is empty at the start, and cells are 0.
     pub fn none(alloc: Global, mode: Mode) -> Planting
-        ensures { result ≡ bare mode }
+        ensures { result ≡ nothing_planted mode }
     {
         Planting {
             mode,
@@ -60,7 +60,7 @@ impl Planting {
 
     /// What a word holds at the start.
     pub fn word(&self, word: Word) -> u64
-        ensures { result ≡ (opening_of self.now).words word }
+        ensures { result ≡ (opening_for self.now).words word }
     {
         if self.nodes.is_empty() || !self.mode.is_map() {
             return opening_word(self.mode, word);
@@ -73,7 +73,7 @@ impl Planting {
     pub fn words(&self, alloc: Global, layout: &Layout) -> Result<Vec<u64>, NoMemory>
         ensures size { IfOk result (λ words. vec_len words ≡ table_size layout.now) }
         ensures words { IfOk result (λ words. (w : WordOf) → IsWord layout.now w →
-            slice_index words.items (place layout.now w) ≡ (opening_of self.now).words w) }
+            slice_index words.items (place layout.now w) ≡ (opening_for self.now).words w) }
     {
         let mut words = Vec::new(alloc);
         for place in 0..layout.size() {
@@ -97,7 +97,7 @@ fn planted_word(nodes: &[Piece], word: Word) -> u64
     match word {
         Word::Node(node, part) => match part {
             NodeWord::Info | NodeWord::Marked => 0,
-            NodeWord::Child(_) => { within(3 + nodes.len() as u64, piece_word(nodes, node, part)) }
+            NodeWord::Child(_) => { capped(3 + nodes.len() as u64, piece_word(nodes, node, part)) }
             NodeWord::Settled(_) => piece_word(nodes, node, part),
         },
         Word::Scx(_, _) => opening_word(Mode::Records, word),
@@ -105,8 +105,8 @@ fn planted_word(nodes: &[Piece], word: Word) -> u64
 }
 
 /// A number below `most`: another one is taken for 0.
-fn within(most: u64, number: u64) -> u64
-    ensures { result ≡ within most number }
+fn capped(most: u64, number: u64) -> u64
+    ensures { result ≡ capped most number }
 {
     if number < most { number } else { 0 }
 }

@@ -10,7 +10,7 @@ use Rattle.ordered_map.specs.Runs.{IsMapRun, map_of_log, first_pairs}
 use Rattle.ordered_map.specs.Spelled.{Spells}
 use Rattle.ordered_map.proofs.Lemmas.{one_spelling}
 use Rattle.ordered_map.proofs.MapLemmas.{log_edits, spells_log}
-use Rattle.planting.specs.Plantings.{PlantingView, bare, opening_of as planted_as}
+use Rattle.planting.specs.Plantings.{PlantingView, nothing_planted, opening_for}
 use Rattle.forest.specs.Dictionary.{IsChange}
 use Rattle.forest.specs.Passes.{PassView, IsLaterView, run_of}
 use Rattle.forest.specs.Shares.{entries_of}
@@ -149,9 +149,9 @@ version_stays lay h moment before run e f quiet m n sm sn =
     ∙ sym (one_spelling lay (value before) m (map_of_log found.0 (first_pairs before) (log lay before)) sm (spells_log lay h found.0 run found.1 before (ends_trans h moment before e f)))
 
 -- every run of a forest begins with what was planted
-pub begun_planted : (planting : PlantingView) (rows : List Row) → first_pairs (history_of planting rows) ≡ first_pairs (Opened (planted_as planting))
+pub begun_planted : (planting : PlantingView) (rows : List Row) → first_pairs (history_of planting rows) ≡ first_pairs (Opened (opening_for planting))
 begun_planted planting [] = refl
 begun_planted planting (r ∷ rs) = begun_planted planting rs
 
-pub begun_empty : (mode : Mode) → first_pairs (Opened (planted_as (bare mode))) ≡ []
+pub begun_empty : (mode : Mode) → first_pairs (Opened (opening_for (nothing_planted mode))) ≡ []
 begun_empty mode = refl

@@ -7,7 +7,7 @@ use Rattle.ordered_map.specs.declared.pair.Pair.{Pair}
 use Rattle.ordered_map.specs.OrderedMap.{MapCall, MapEdit, MapReply}
 use Rattle.ordered_map.specs.Runs.{IsMapRun, IsTreeRun, IsTrieRun, first_pairs}
 use Rattle.ordered_map.specs.Spelled.{Spells}
-use Rattle.planting.specs.Plantings.{PlantingView, bare, opening_of}
+use Rattle.planting.specs.Plantings.{PlantingView, nothing_planted, opening_for}
 use Rattle.forest.specs.Dictionary.{IsChange}
 use Rattle.forest.specs.Passes.{PassView, IsLaterView, run_of}
 use Rattle.forest.specs.Shares.{entries_of}
@@ -24,8 +24,8 @@ pub record VersionLaws (allows : Layout → History → ℕ → Type 0) : Type 0
   pub trie_runs : (lay : Layout) (h : History) → lay.mode ≡ Trie → IsRun allows lay h → IsTrieRun lay h
   -- what a pass knows, and what a closed forest is left with, began with what was planted; where
   -- nothing was, with the empty map
-  pub first : (planting : PlantingView) (rows : List Row) → first_pairs (history_of planting rows) ≡ first_pairs (Opened (opening_of planting))
-  pub first_empty : (mode : Mode) → first_pairs (Opened (opening_of (bare mode))) ≡ []
+  pub first : (planting : PlantingView) (rows : List Row) → first_pairs (history_of planting rows) ≡ first_pairs (Opened (opening_for planting))
+  pub first_empty : (mode : Mode) → first_pairs (Opened (opening_for (nothing_planted mode))) ≡ []
   -- a call that has changed the map has made no entry after its own
   pub newest : (old new : PassView) (call : MapCall) (told : MapReply) (edit : MapEdit) → Lawful new.layout (run_of new) → IsLaterView old new
       → (c : IsChange old new call told edit) → EntersNothing new.layout new.number (run_of new) (c.row ⊳ c.before)

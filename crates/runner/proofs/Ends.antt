@@ -11,7 +11,7 @@ use Rattle.ordered_map.proofs.MapLemmas.{log_edits, spells_log}
 use Rattle.arena.proofs.Lemmas.{ends_self}
 use Rattle.dict.specs.Laws.TypedMaps.{typed_run}
 use Rattle.template.specs.Balance.{map_mode}
-use Rattle.planting.specs.Plantings.{PlantingView, bare}
+use Rattle.planting.specs.Plantings.{PlantingView, nothing_planted}
 use Rattle.forest.specs.TableRule.{history_of}
 use Rattle.forest.specs.Passes.{Ground, PassView, AreNew, AreBegun, HoldsOfOwn, IsClosed, IsLook, new_pass, run_of, done_of}
 use Rattle.forest.specs.Shares.{entries_of}
@@ -39,7 +39,7 @@ back_at planting rows [] c p e x = absurd (none_some p e)
 back_at planting rows (q ∷ ps) zero p e x = subst (IsBackIn (history_of planting rows)) (some_same q p e) (record { within = x.0; entries = x.1; looks = x.3 })
 back_at planting rows (q ∷ ps) (suc c) p e x = back_at planting rows ps c p e x.4
 
-module _ (script : Script) (f : Ground) (maps : IsMap script.layout.mode) (layout : IsLayoutOf script.limits script.layout.mode f.layout) (tries : f.tries ≡ script.limits.tries) (empty : f.planting ≡ bare script.layout.mode) (olds news : List PassView) (owns : List (Vec (Reply ℕ ℕ) Global)) (are_new : AreNew f olds) (worked : HaveWorked f script.calls.items olds news owns) (words : Contents) (closed : IsClosed NumbersAllow f.layout news words) where
+module _ (script : Script) (f : Ground) (maps : IsMap script.layout.mode) (layout : IsLayoutOf script.limits script.layout.mode f.layout) (tries : f.tries ≡ script.limits.tries) (empty : f.planting ≡ nothing_planted script.layout.mode) (olds news : List PassView) (owns : List (Vec (Reply ℕ ℕ) Global)) (are_new : AreNew f olds) (worked : HaveWorked f script.calls.items olds news owns) (words : Contents) (closed : IsClosed NumbersAllow f.layout news words) where
   -- the run that the words are of
   abbrev pub whole : History
   whole = history_of closed.planting closed.rows

@@ -4,7 +4,7 @@ use Rattle.std.specs.Global.{Global}
 use Rattle.histories.specs.Common.{History, Extends, log, IsRun}
 use Rattle.arena.specs.Limits.{IsLayoutOf}
 use Rattle.record.specs.Common.{IsRising, Pair, word_pair, Reply, Command, Script, commands}
-use Rattle.planting.specs.Plantings.{bare}
+use Rattle.planting.specs.Plantings.{nothing_planted}
 use Rattle.forest.specs.Passes.{Ground, PassView, HaveLeftShares, HoldsOfOwn, IsLook, new_pass, run_of, done_of}
 use Rattle.forest.specs.Shares.{entries_of}
 use Rattle.runner.specs.Calls.{NumbersAllow, HaveReplies}
@@ -23,14 +23,15 @@ pub record IsClientOfRun (forest : Ground) (run : History) (versions : History �
   pub looks : HoldsOfOwn IsLook c (run_of last) run
 
 -- There is one lawful run of a dictionary of the script's mode within its limits, whose calls make
--- at most the tries that the script says. All calls of all clients are in its history, each client's
--- in the script's order, with one reply for each call; the pairs are those of the last version.
+-- at most the tries that the script says. All calls of all clients are in its history, each
+-- client's in the script's order, with one reply for each call; the pairs are those of the last
+-- version.
 pub record IsOutcome (script : Script) (replies : List (Vec (Reply ℕ ℕ) Global)) (pairs : List (ℕ × ℕ)) : Type 0 where
   pub forest : Ground
   pub layout : IsLayoutOf script.limits script.layout.mode forest.layout
   pub tries : forest.tries ≡ script.limits.tries
   -- it begins with an empty map
-  pub empty : forest.planting ≡ bare script.layout.mode
+  pub empty : forest.planting ≡ nothing_planted script.layout.mode
   pub run : History
   pub lawful : IsRun NumbersAllow forest.layout run
   pub versions : History → List Pair

@@ -10,7 +10,7 @@ use Rattle.prims.specs.Laws.InTheWay.{HasBeen, final_since, flagged_commits}
 use Rattle.prims.specs.Laws.Linked.{finalizing_more, marker_named}
 use Rattle.touching.specs.Kinds.{IsNotFinal}
 use Rattle.touching.specs.Fresh.{WasNamedInCall}
-use Rattle.touching.specs.Rests.{HasRested, AllHaveRested, IsNamedByFinal, AreLeft}
+use Rattle.touching.specs.Rests.{HasRestedSince, AllHaveRested, IsNamedByFinal, AreLetGo}
 use Rattle.touching.specs.Touches.{WasCovered, TouchesNode, TouchesScx}
 use Rattle.touching.proofs.Fresh.{final_covered, finished_named}
 use Rattle.touching.proofs.Moments.{taken_scx_since}
@@ -47,7 +47,7 @@ module _ (c : Call) (h t : History) (n : ℕ) (l : Lawful c.layout h) (began : E
     owner : IsOwned c.layout (descriptor t marker.0) marker.0
     owner = (f.about marker.0 n real (held_at t (info n) marker.0 marker.1.holds)).owned
 
-    q : HasRested c.layout h c.start t n owner.pass
+    q : HasRestedSince c.layout h c.start t n owner.pass
     q = rested owner.pass owner.is_pass
 
     lq : Lawful c.layout q.rest
@@ -79,7 +79,7 @@ module _ (c : Call) (h t : History) (n : ℕ) (l : Lawful c.layout h) (began : E
         own_real : s ≢ 0
         own_real e = let a = o.scx.from in omega (arith, a, e)
 
-        r : HasRested c.layout h c.start t n o.pass
+        r : HasRestedSince c.layout h c.start t n o.pass
         r = rested o.pass o.is_pass
 
         later : Extends x.moment r.rest
@@ -130,7 +130,7 @@ dead_scx c h t s l began after real d left x = go (ℕ_discrete (value t (info y
         d (sym (state_since c.layout (w.row ⊳ w.before) t s (lawful_since c.layout k (w.row ⊳ w.before) lk w.within) (inr w.since) d) ∙ z)
 
 -- a look at its nodes tells that
-pub left_named : (lay : Layout) (h : History) (s : ℕ) → Lawful lay h → s ≢ 0 → AreLeft h s → IsNamedByFinal lay h s
+pub left_named : (lay : Layout) (h : History) (s : ℕ) → Lawful lay h → s ≢ 0 → AreLetGo h s → IsNamedByFinal lay h s
 left_named lay h s l real left n e = go (left cell.index cell.within)
   where
     cell : IsMember h s n

@@ -15,7 +15,7 @@ use Rattle.tree.specs.Put.Means.{put_means, strays}
 use Rattle.tree.specs.Take.Means.{take_means, has_more, join_looks, sibling_of}
 use Rattle.tree.specs.Pop.Means.{pop_means, end_looks}
 use Rattle.tree.specs.KeyEdit.Means.{leaving, key_means, is_trie_end, key_at}
-use Rattle.touching.specs.Reads.{IsSeen, ReadsSeen}
+use Rattle.touching.specs.Reads.{IsLookedAt, ReadsSeen}
 
 same_some : (y x : NodeNo × Reading) → Some y ≡ Some x → x.0 ≡ y.0
 same_some y x e = sym (ap (λ o. (unwrap_or o y).0) e)
@@ -23,7 +23,7 @@ same_some y x e = sym (ap (λ o. (unwrap_or o y).0) e)
 put_seen : ReadsSeen put_means
 put_seen ed f snaps x enough is = go (strays ed.trie f) (f.head.class == 0) is
   where
-    go : (a b : Bool) → (if a then None else (if b then Some (leaf_reads f) else None)) ≡ Some x → IsSeen f snaps x.0
+    go : (a b : Bool) → (if a then None else (if b then Some (leaf_reads f) else None)) ≡ Some x → IsLookedAt f snaps x.0
     go true b e = absurd (let d : None ≡ Some x = e in cc)
     go false false e = absurd (let d : None ≡ Some x = e in cc)
     go false true e = inl (same_some (leaf_reads f) x e)
@@ -43,7 +43,7 @@ sibling_few Right = omega arith
 take_seen : ReadsSeen take_means
 take_seen ed f snaps x enough is = go (has_more f) enough (same_some _ x is)
   where
-    go : (b : Bool) → (if b then leaf_looks f f.trail.node snaps else join_looks f snaps) ≡ Enough → x.0 ≡ (if b then leaf_reads f else ((sibling_of f snaps).node, nothing_read)).0 → IsSeen f snaps x.0
+    go : (b : Bool) → (if b then leaf_looks f f.trail.node snaps else join_looks f snaps) ≡ Enough → x.0 ≡ (if b then leaf_reads f else ((sibling_of f snaps).node, nothing_read)).0 → IsLookedAt f snaps x.0
     go true e q = inl q
     go false e q = inr (sibling_place f.trail.side, (let a = sibling_few f.trail.side in let b = join_many f snaps e in omega (arith, a, b)), q)
 
@@ -57,7 +57,7 @@ end_many f (g ∷ p ∷ z ∷ snaps) e = omega arith
 pop_seen : ReadsSeen pop_means
 pop_seen ed f snaps x enough is = go (has_more f) enough (same_some _ x is)
   where
-    go : (b : Bool) → (if b then leaf_looks f f.trail.node snaps else end_looks f snaps) ≡ Enough → x.0 ≡ (if b then leaf_reads f else ((snap_at snaps 2).node, nothing_read)).0 → IsSeen f snaps x.0
+    go : (b : Bool) → (if b then leaf_looks f f.trail.node snaps else end_looks f snaps) ≡ Enough → x.0 ≡ (if b then leaf_reads f else ((snap_at snaps 2).node, nothing_read)).0 → IsLookedAt f snaps x.0
     go true e q = inl q
     go false e q = inr (2, end_many f snaps e, q)
 

@@ -25,7 +25,7 @@ use Rattle.edits.specs.Known.{HasSnappedAfterWalk, HasSnappedInCall, Looks, Read
 use Rattle.edits.specs.Pieces.{nth_node}
 use Rattle.edits.specs.Sound.{LooksWell}
 use Rattle.edits.specs.Tries.{IsTryAt}
-use Rattle.touching.specs.Reads.{IsSeen, ReadsSeen}
+use Rattle.touching.specs.Reads.{IsLookedAt, ReadsSeen}
 use Rattle.touching.specs.Unmarked.{CoversUnmarked, WasUnmarked}
 use Rattle.touching.specs.Touches.{WasSo, was_so, own_node, Touches, WereSo}
 use Rattle.touching.proofs.Moments.{been_wider}
@@ -75,7 +75,7 @@ module _ (P : Layout → History → ℕ → Type 0) (kind : IsKind P) {E : Type
   read_so : (f : Found) (n : NodeNo) (part : SettledPart) → Reads e m c h f n part → WasSo P c h n.0
   read_so f n part x = go (seen m.edit f m.snaps.items (n, x.from) x.works.enough x.is)
     where
-      go : IsSeen f m.snaps.items n → WasSo P c h n.0
+      go : IsLookedAt f m.snaps.items n → WasSo P c h n.0
       go (inl q) = subst (λ (k : NodeNo). WasSo P c h k.0) (sym q) (passed_so P kind.in_tree c c.start h x.works.run (path_key (e.goal m.edit)) f.trail.node.0 (ends_self c.start) (found_trail (e.way m.edit) (e.goal m.edit) c h f x.works.looked.found).node)
       go (inr q) =
           let u : HasSnappedAfterWalk c h (e.way m.edit) (e.goal m.edit) f (snap_at m.snaps.items q.0) = x.works.looked.usable q.0 q.1 in

@@ -9,9 +9,9 @@ use Rattle.edits.specs.declared.reading.Reading.{Reading}
 use Rattle.edits.specs.Edits.{EditMeaning}
 
 -- the node is the one that was found, or that of one of these snapshots
-abbrev pub IsSeen : Found → List Snap → NodeNo → Type 0
-IsSeen f snaps n = (n ≡ f.trail.node) ⊎ ((i : ℕ) × (i < length snaps) × (n ≡ (snap_at snaps i).node))
+abbrev pub IsLookedAt : Found → List Snap → NodeNo → Type 0
+IsLookedAt f snaps n = (n ≡ f.trail.node) ⊎ ((i : ℕ) × (i < length snaps) × (n ≡ (snap_at snaps i).node))
 
 -- the edit reads no other, once it has looked at enough
 abbrev pub ReadsSeen : {E : Type 0} → EditMeaning E → Type 0
-ReadsSeen {E} e = (ed : E) (f : Found) (snaps : List Snap) (x : NodeNo × Reading) → e.looks ed f snaps ≡ Enough → e.reads ed f snaps ≡ Some x → IsSeen f snaps x.0
+ReadsSeen {E} e = (ed : E) (f : Found) (snaps : List Snap) (x : NodeNo × Reading) → e.looks ed f snaps ≡ Enough → e.reads ed f snaps ≡ Some x → IsLookedAt f snaps x.0

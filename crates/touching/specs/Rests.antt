@@ -8,7 +8,7 @@ use Rattle.prims.specs.Laws.InTheWay.{HasBeen}
 -- calls: then all SCX-records that it had taken were finished. Of those that it has taken since
 -- none was in progress over the node up to h but one that was taken in a call in which the node had
 -- no mark.
-pub record HasRested (lay : Layout) (h start marked_at : History) (n o : ℕ) : Type 0 where
+pub record HasRestedSince (lay : Layout) (h start marked_at : History) (n o : ℕ) : Type 0 where
   pub rest : History
   pub within : Extends start rest
   pub since : Extends rest marked_at
@@ -17,7 +17,7 @@ pub record HasRested (lay : Layout) (h start marked_at : History) (n o : ℕ) : 
 
 -- so has each pass
 abbrev pub AllHaveRested : Layout → History → History → History → ℕ → Type 0
-AllHaveRested lay h start marked_at n = (o : ℕ) → o < lay.passes → HasRested lay h start marked_at n o
+AllHaveRested lay h start marked_at n = (o : ℕ) → o < lay.passes → HasRestedSince lay h start marked_at n o
 
 -- no node that is not final names the SCX-record
 abbrev pub IsNamedByFinal : Layout → History → ℕ → Type 0
@@ -25,5 +25,5 @@ IsNamedByFinal lay h s = (n : ℕ) → value h (info n) ≡ s → is_final (log 
 
 -- what a look at the nodes of a finished SCX-record finds: it finalizes the node and is committed,
 -- or the info of the node names another
-abbrev pub AreLeft : History → ℕ → Type 0
-AreLeft h s = (j : ℕ) → j < count h s → ((value h (state s) ≡ 1) × (scx_finalizes h s j ≡ true)) ⊎ (value h (info (member h s j)) ≢ s)
+abbrev pub AreLetGo : History → ℕ → Type 0
+AreLetGo h s = (j : ℕ) → j < count h s → ((value h (state s) ≡ 1) × (scx_finalizes h s j ≡ true)) ⊎ (value h (info (member h s j)) ≢ s)

@@ -39,7 +39,7 @@ ghost use Rattle.dict.specs.declared.run.MapRun.{MapRun};
 ghost use Rattle.touching.specs.Fresh.{WasNamedInCall};
 ghost use Rattle.touching.specs.Kinds.{IsInTree, IsNotFinal, IsPresent};
 ghost use Rattle.touching.specs.Unmarked.{CoversUnmarked};
-ghost use Rattle.touching.specs.Rests.{AllHaveRested, AreLeft, IsNamedByFinal};
+ghost use Rattle.touching.specs.Rests.{AllHaveRested, AreLetGo, IsNamedByFinal};
 ghost use Rattle.touching.specs.Touches.{MayBeHelped, Touches, TouchesNode, TouchesScx, WasCovered, WasSo, WereSo};
 
 use arena::Shape;
@@ -120,6 +120,6 @@ pub fn dead_is_untouched()
     ensures scx { (c : Call) (h t : History) (s : ℕ) → Lawful c.layout h → Extends h c.start
         → Extends c.start t → s ≢ 0 → value t (state s) ≢ 0 → IsNamedByFinal c.layout t s
         → ¬ TouchesScx IsNotFinal c h s }
-    ensures look { (lay : Layout) (h : History) (s : ℕ) → Lawful lay h → s ≢ 0 → AreLeft h s
+    ensures look { (lay : Layout) (h : History) (s : ℕ) → Lawful lay h → s ≢ 0 → AreLetGo h s
         → IsNamedByFinal lay h s }
 {}

@@ -1,6 +1,6 @@
 use Rattle.std.proofs.Common.{rules, ◌≡◌, ◌<◌, ◌-◌, ◌∙◌, ℕ, [], ◌∷◌, List, slice_get, sym, ap, subst}
 use Rattle.histories.specs.Common.{Layout, Opened, IsRun}
-use Rattle.planting.specs.Plantings.{PlantingView, opening_of}
+use Rattle.planting.specs.Plantings.{PlantingView, opening_for}
 use Rattle.forest.specs.declared.rule.Plot.{Plot}
 use Rattle.forest.specs.declared.view.SeatedPass.{SeatedPass}
 use Rattle.forest.specs.TableRule.{new_passes, rest_of, first_of, seated_pass}
@@ -22,7 +22,7 @@ new-requires-clause-seat g c =
 pub new-requires-clause-run : goal.new-requires-clause-run
 new-requires-clause-run g c =
     let own = dealt c.args.words.now.table.shared.key c.args.layout.now c.loop-number.number c.deal-own.result.me.0.passes c.requires.table.0.1 (c.deal-own.ensures.passes.1 ∙ ap first_of c.loop-number.invariant.left) (search rules) in
-    subst (λ (b : PlantingView). IsRun g.S.Shape.allows c.args.layout.now (Opened (opening_of b))) (sym (ap planting_of own)) c.requires.run
+    subst (λ (b : PlantingView). IsRun g.S.Shape.allows c.args.layout.now (Opened (opening_for b))) (sym (ap planting_of own)) c.requires.run
 
 pub loop-number-preserved : goal.loop-number-preserved
 loop-number-preserved g c =

@@ -1,7 +1,7 @@
 use Rattle.std.proofs.Common.{◌≡◌, [], sym, ap, subst}
 use Rattle.arena.specs.Share.{whole_share}
 use Rattle.histories.specs.Common.{Opened, IsRun}
-use Rattle.planting.specs.Plantings.{opening_of}
+use Rattle.planting.specs.Plantings.{opening_for}
 use Rattle.forest.specs.Shares.{IsBetweenCalls}
 use Rattle.forest.specs.TableRule.{history_of}
 use Rattle.forest.specs.Traces.{known_of, planting_of, run_at}
@@ -17,9 +17,9 @@ invariant_of-result g c = record {
   is_mode = c.requires.mode;
   is_pass = c.requires.pass;
   sound = subst (IsRun g.S.Shape.allows c.args.layout.now) (sym begins) c.requires.run;
-  rest = rw c.of.ensures.whole (subst (λ h. IsBetweenCalls c.args.layout.now c.args.number.0 h (whole_share c.args.layout.now c.args.number.0)) (sym begins) (begins_at_rest c.args.layout.now (opening_of (planting_of c.args.seat.me.0.passes)) c.args.number.0 c.requires.run.lawful));
+  rest = rw c.of.ensures.whole (subst (λ h. IsBetweenCalls c.args.layout.now c.args.number.0 h (whole_share c.args.layout.now c.args.number.0)) (sym begins) (begins_at_rest c.args.layout.now (opening_for (planting_of c.args.seat.me.0.passes)) c.args.number.0 c.requires.run.lawful));
   blamed = blamed_nobody _ c.new.ensures;
 }
   where
-    begins : run_at c.args.seat.me.0.passes ≡ Opened (opening_of (planting_of c.args.seat.me.0.passes))
+    begins : run_at c.args.seat.me.0.passes ≡ Opened (opening_for (planting_of c.args.seat.me.0.passes))
     begins = ap (λ rows. history_of (planting_of c.args.seat.me.0.passes) rows) (ap known_of c.requires.seat.0)
