@@ -47,7 +47,7 @@ pairs_status faults.NoMemory = 4
 -- none begins with these pairs, a trie or a tree, for what the status tells
 pub record IsNotBegun (trie : Bool) (limits : Limits) (pairs : List (ℕ × ℕ)) (status : ℕ) : Type 0 where
   pub fault : PairsFault
-  pub limits : (fault ≡ faults.Limits) ↔ (¬ IsAccepted limits)
+  pub of_limits : (fault ≡ faults.Limits) ↔ (¬ IsAccepted limits)
   pub why : IsRefusalOfPairs trie (limits.passes * limits.nodes) (map_pairs pairs) fault
   pub told : status ≡ pairs_status fault
 
