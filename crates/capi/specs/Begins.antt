@@ -60,8 +60,8 @@ BeginSays trie each pairs before after status =
 
 -- the next dictionary has begun with the pairs of the one that has ended, and the handles hold its
 -- passes; or it was refused, and they are empty
-abbrev pub IsNext : Bool → Limits → List (ℕ × ℕ) → List HandleSlot → ℕ → Type 0
-IsNext trie limits pairs after status =
+abbrev pub NextSays : Bool → Limits → List (ℕ × ℕ) → List HandleSlot → ℕ → Type 0
+NextSays trie limits pairs after status =
     ((status ≡ 1) × HaveBegun (map_mode trie) limits pairs after)
     ⊎ (All IsEmpty (held_in after) × IsNotBegun trie limits pairs status)
 
@@ -74,7 +74,7 @@ pub record HasGoneOver (each : PassLimits) (before after : List HandleSlot) (roo
   pub put : StandIn (take (length room) pairs) room
   pub trie : Bool
   pub shape : IsTrue trie ↔ All IsOfTrie (held_in before)
-  pub next : IsNext trie (limits_of each (length before)) pairs after a.status
+  pub next : NextSays trie (limits_of each (length before)) pairs after a.status
 
 -- the handles hold what they held: the limits are out of range, one was empty, or they are too few
 pub record IsNotRenewed (each : PassLimits) (before after : List HandleSlot) (a : Count) : Type 0 where

@@ -6,7 +6,7 @@ ghost use Rattle.arena.specs.declared.limits.Mode.TheVariants.{Tree, Trie};
 ghost use Rattle.regnubas.specs.Balance.{map_mode};
 ghost use Rattle.forest.specs.Beginnings.{IsRefusalOfPairs};
 ghost use Rattle.capi.specs.Answers.{StandIn};
-ghost use Rattle.capi.specs.Begins.{HaveBegun, IsNext, map_pairs};
+ghost use Rattle.capi.specs.Begins.{HaveBegun, NextSays, map_pairs};
 ghost use Rattle.capi.specs.Ends.{IsEmpty, held_in};
 
 use crate::answer::{Count, KeyValue, status_of_pairs};
@@ -96,7 +96,7 @@ pub(crate) fn begin_next(
     requires empty { All IsEmpty (held_in passes.old) }
     ensures count { result.pairs ≡ vec_len pairs }
     ensures put { StandIn (take (length room.new) pairs.items) room.new }
-    ensures next { IsNext trie limits pairs.items passes.new result.status }
+    ensures next { NextSays trie limits pairs.items passes.new result.status }
 {
     let begun = begin(alloc, limits, trie, &pairs);
     let told = Count::of_pairs(pairs, room);

@@ -4,7 +4,7 @@ use Rattle.std.proofs.lemmas.List.Elements.{All-weaker}
 use Rattle.arena.specs.Limits.{IsAccepted}
 use Rattle.arena.specs.declared.limits.Limits.{Limits}
 use Rattle.capi.specs.declared.client.OwnedPass.{OwnedPass}
-use Rattle.capi.specs.Begins.{IsNext}
+use Rattle.capi.specs.Begins.{NextSays}
 use Rattle.capi.specs.Ends.{AreEnough, HaveEndedWith, IsIn, IsOfTrie, held_in}
 use Rattle.capi.specs.Made.{IsHeldOf}
 use Rattle.capi.proofs.Ends.{held_is_in, value_of}
@@ -50,7 +50,7 @@ returns-in-Some-end c =
         put = c.begin_next.ensures.put;
         trie = trie;
         shape = subst (λ (held : List (Option OwnedPass)). IsTrue trie ↔ All IsOfTrie held) c.all_of.ensures.same c.are_of_trie-trie.ensures.told;
-        next = subst (λ (l : Limits). IsNext trie l pairs c.begin_next.new.passes c.begin_next.result.status) limits.0 c.begin_next.ensures.next;
+        next = subst (λ (l : Limits). NextSays trie l pairs c.begin_next.new.passes c.begin_next.result.status) limits.0 c.begin_next.ensures.next;
       });
     })
 
