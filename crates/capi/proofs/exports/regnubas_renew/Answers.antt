@@ -60,5 +60,5 @@ returns-in-None c =
     inr (record {
       accepted = subst IsAccepted limits.0 limits.1;
       all = are_enough (goal.at.returns-in-None c).After-end;
-      told = inl (record { empty = c.end.ensures.empty; told = c.none-in-None.ensures; });
+      told = inl (record { empty = c.end.ensures.empty; told = c.none-in-None.ensures });
     })
