@@ -18,7 +18,7 @@ use std::rt::Clock;
 use std::thread::{Threads, map_vec};
 
 /// A forest and its passes.
-type Opened<B> = (Forest<Numbers<B>>, Vec<Pass<Numbers<B>>>);
+pub type Opened<B> = (Forest<Numbers<B>>, Vec<Pass<Numbers<B>>>);
 
 /// Makes a dictionary and fills it, and lets the threads work in it.
 pub fn run<R: Threads + Sync + Clock + AllocGlobal, B: FixedBalance + Send>(

@@ -1,8 +1,10 @@
 //! One repetition of a load: a dictionary is made that begins with pairs.
 ghost use Rattle.std.specs.Prelude.{IfOk};
+ghost use Rattle.std.specs.List.{All};
 ghost use Rattle.forest.specs.Passes.{IsOf};
 
 use crate::call::{Numbers, rounds};
+use crate::dictionary::Opened;
 use crate::fault::Fault;
 use crate::keys::Keys;
 use crate::repetition::{Repetition, nanos_since, now};
@@ -82,19 +84,27 @@ fn rising(alloc: Global, pairs: u32) -> Result<Vec<(u64, u64)>, AllocError> {
     Ok(all)
 }
 
-/// A dictionary that begins with these pairs, and its pass.
+/// A dictionary that begins with these pairs, and its passes.
+fn of_pairs<B: FixedBalance>(alloc: Global, pairs: &[(u64, u64)]) -> Result<Opened<B>, Fault>
+    ensures { IfOk result (λ r. All (IsOf r.0) r.1.items) }
+{
+    match Forest::<Numbers<B>>::of_pairs(alloc, LIMITS, pairs) {
+        Ok(opened) => Ok(opened),
+        Err(PairsFault::NoMemory) => Err(Fault::NoMemory),
+        Err(_) => Err(Fault::Usage),
+    }
+}
+
+/// Such a dictionary, and its one pass.
 fn begun<B: FixedBalance>(
     alloc: Global,
     pairs: &[(u64, u64)],
 ) -> Result<(Forest<Numbers<B>>, Pass<Numbers<B>>), Fault>
     ensures { IfOk result (λ r. IsOf r.0 r.1) }
 {
-    match Forest::<Numbers<B>>::of_pairs(alloc, LIMITS, pairs) {
-        Ok((forest, mut passes)) => match passes.pop() {
-            Some(pass) => Ok((forest, pass)),
-            None => Err(Fault::Usage),
-        },
-        Err(PairsFault::NoMemory) => Err(Fault::NoMemory),
-        Err(_) => Err(Fault::Usage),
+    let (forest, mut passes) = of_pairs::<B>(alloc, pairs)?;
+    match passes.pop() {
+        Some(pass) => Ok((forest, pass)),
+        None => Err(Fault::Usage),
     }
 }
