@@ -135,12 +135,20 @@ fn first(alloc: Global) -> Result<Opened>
     Ok((table, passes))
 }
 
+/// A table that begins with what the one before has left.
+fn next(alloc: Global, before: &Closed<Table>) -> Result<Opened>
+    ensures { IfOk result (λ r. All (IsOf r.0) r.1.items) }
+{
+    let (table, passes) = before.renewed(alloc, LIMITS)?;
+    Ok((table, passes))
+}
+
 /// The counters in the end, by topic. Each day but the first begins with what the one before has
 /// left.
 fn counters<R: Threads + Sync>(rt: &R, alloc: Global) -> Result<Vec<(Name8, u32)>> {
     let mut table = day(rt, first(alloc)?)?;
     for _day in 1..DAYS {
-        table = day(rt, table.renewed(alloc, LIMITS)?)?;
+        table = day(rt, next(alloc, &table)?)?;
     }
     Ok(table.pairs(alloc)?)
 }
