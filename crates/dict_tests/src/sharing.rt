@@ -7,7 +7,6 @@ mod call;
 mod calls;
 mod held;
 mod memory;
-mod renewed;
 mod rows;
 mod stopped;
 mod threads;

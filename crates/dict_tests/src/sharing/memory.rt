@@ -1,6 +1,5 @@
-//! A growth that is refused. In the gate none is:
-//! `crates/cases/data/stories/refused_growths/check_tests` refuses each of these tests in turn.
-ghost use Rattle.std.specs.Prelude.{IfSome};
+//! A growth that is refused. In the gate none is: `crates/cases/data/stories/refused_growths/check`
+//! refuses each of this test in turn.
 ghost use Rattle.std.specs.List.{All};
 ghost use Rattle.forest.specs.Passes.{IsOf};
 
@@ -9,7 +8,7 @@ use super::call::pairs_told;
 use super::held::Numbers;
 use super::{TRIES, closed, limits, two};
 use dict::Reply;
-use forest::{Closed, Forest, NewFault, PairsFault, Pass};
+use forest::{Forest, NewFault, Pass};
 use std::alloc::Global;
 use std::test::Fail;
 
@@ -104,50 +103,6 @@ fn a_refused_growth_leaves_all_as_it_was(rt: HostRuntime) -> Result<(), Fail> {
     assert!(rt; all_look(alloc, &forest, &mut first));
     passes.push(first)?;
     passes.push(second)?;
-    assert!(rt; are_left(alloc, forest, passes));
-    Ok(())
-}
-
-/// The pairs that were put in above.
-const PAIRS: [(u64, u64); LAST as usize] = [(1, 1), (2, 2), (3, 3), (4, 4), (5, 5), (6, 6)];
-
-/// A dictionary, and its pass.
-type Opened = (Forest<Numbers>, Vec<Pass<Numbers>>);
-
-/// A dictionary that begins with them, made once more where there was no memory.
-fn begun(alloc: Global) -> Option<Opened>
-    ensures { IfSome result (λ r. All (IsOf r.0) r.1.items) }
-{
-    match Forest::of_pairs(alloc, limits(1, 9, 9), &PAIRS) {
-        Ok(opened) => Some(opened),
-        Err(PairsFault::NoMemory) => Forest::of_pairs(alloc, limits(1, 9, 9), &PAIRS).ok(),
-        Err(_) => None,
-    }
-}
-
-/// The next, in the same way.
-fn next(alloc: Global, closed: &Closed<Numbers>) -> Option<Opened>
-    ensures { IfSome result (λ r. All (IsOf r.0) r.1.items) }
-{
-    match closed.renewed(alloc, limits(1, 9, 9)) {
-        Ok(opened) => Some(opened),
-        Err(PairsFault::NoMemory) => closed.renewed(alloc, limits(1, 9, 9)).ok(),
-        Err(_) => None,
-    }
-}
-
-#[test]
-fn a_refused_beginning_loses_nothing(rt: HostRuntime) -> Result<(), Fail> {
-    let alloc = rt.alloc();
-    let Some((forest, passes)) = begun(alloc) else {
-        return Err("it has not begun".into());
-    };
-    let Some(closed) = closed(forest, passes) else {
-        return Err("a pass is missing".into());
-    };
-    let Some((forest, passes)) = next(alloc, &closed) else {
-        return Err("it was not renewed".into());
-    };
     assert!(rt; are_left(alloc, forest, passes));
     Ok(())
 }

@@ -49,7 +49,7 @@ const SCHEDULES: usize = 33;
 
 /// What a thread does in each of its rounds.
 #[derive(Clone, Copy)]
-pub(super) enum Work {
+enum Work {
     /// It puts in a key that no other of this many threads has.
     Own { threads: u64 },
     /// It puts in a key where it is absent, which the others do too, with a value of its own. That
@@ -73,10 +73,10 @@ pub(super) enum Work {
 }
 
 /// What came out in a round, where it was right.
-pub(super) type Out = Option<Option<u64>>;
+type Out = Option<Option<u64>>;
 
 /// What came out in each round.
-pub(super) type Outs = [Out; ROUNDS as usize];
+type Outs = [Out; ROUNDS as usize];
 
 /// What a key had, as a reply says; of a pop, whose values are their keys, the value.
 fn told(reply: Reply<u64, u64>) -> Out {
@@ -408,21 +408,21 @@ fn part<B: FixedBalance>(
 
 /// How a race ended: what came out in each thread's rounds, and the pairs that are left.
 #[derive(Drop)]
-pub(super) struct Ended {
-    pub(super) outs: Vec<Outs>,
-    pub(super) pairs: Vec<(u64, u64)>,
+struct Ended {
+    outs: Vec<Outs>,
+    pairs: Vec<(u64, u64)>,
 }
 
 impl Ended {
     /// Each round of each thread was right.
-    pub(super) fn are_right(&self) -> bool {
+    fn are_right(&self) -> bool {
         self.outs
             .iter()
             .all(|outs| outs.iter().all(|out| out.is_some()))
     }
 
     /// The values that came out, in their order.
-    pub(super) fn come(&self, alloc: Global) -> Result<Vec<u64>, AllocError> {
+    fn come(&self, alloc: Global) -> Result<Vec<u64>, AllocError> {
         let mut values = Vec::new(alloc);
         for outs in &self.outs {
             for out in outs {
@@ -451,7 +451,7 @@ impl Ended {
     }
 
     /// These add up to the sum of the pairs that are left.
-    pub(super) fn are_sum(&self, values: &[u64]) -> bool {
+    fn are_sum(&self, values: &[u64]) -> bool {
         let mut sum = 0u64;
         for value in values {
             sum = sum.wrapping_add(*value);
@@ -540,7 +540,7 @@ fn are_steps(values: &[u64], (many, step): (usize, u64)) -> bool {
 }
 
 /// The passes work, each in a thread of its own.
-pub(super) fn worked<R: Threads + Sync, B: FixedBalance + Send + Sync>(
+fn worked<R: Threads + Sync, B: FixedBalance + Send + Sync>(
     rt: &R,
     alloc: Global,
     forest: &Forest<Numbers<B>>,
