@@ -120,28 +120,7 @@ fn try_on<S: Shape, M: Machine<S>, E: Edit + Copy>(
     }
 }
 
-/// Makes the look that comes next, if one does.
-#[inline(always)]
-fn look_next<S: Shape, M: Machine<S>, E: Edit + Copy>(
-    hand: Hand<S>,
-    seat: &mut Seat<u8, SeatView>,
-    run: &mut UpdateRun<E, ()>,
-    found: &Found,
-    next: Result<Next, Stop>,
-) -> Result<Next, Stop>
-    requires table { IsAt hand seat.old }
-    requires goes_on { StandsToTry S.Shape M.Machine E.means hand found.now seat.old run.old next }
-    ensures { TryGoesOn S.Shape M.Machine E.means hand.entry found.now
-        seat.old run.old next seat.new run.new result }
-{
-    match next? {
-        Next::Look(node) => look_at::<S, M, E>(hand, seat, run, found, node),
-        now => Ok(now),
-    }
-}
-
-/// Makes the looks that come next, four at most. There is no loop: so the compiler knows at each of them
-/// which snapshots there are.
+/// Makes the looks that come next.
 #[inline(always)]
 fn look_on<S: Shape, M: Machine<S>, E: Edit + Copy>(
     hand: Hand<S>,
@@ -155,33 +134,14 @@ fn look_on<S: Shape, M: Machine<S>, E: Edit + Copy>(
     ensures { TryGoesOn S.Shape M.Machine E.means hand.entry found.now
         seat.old run.old next seat.new run.new result }
 {
-    let first = look_next::<S, M, E>(hand, seat, run, found, next);
-    let second = look_next::<S, M, E>(hand, seat, run, found, first);
-    let third = look_next::<S, M, E>(hand, seat, run, found, second);
-    look_next::<S, M, E>(hand, seat, run, found, third)
-}
-
-/// Makes the load that comes next, if one does.
-#[inline(always)]
-fn read_next<S: Shape, M: Machine<S>, E: Edit + Copy>(
-    hand: Hand<S>,
-    seat: &mut Seat<u8, SeatView>,
-    run: &mut UpdateRun<E, ()>,
-    found: &Found,
-    next: Result<Next, Stop>,
-) -> Result<Next, Stop>
-    requires table { IsAt hand seat.old }
-    requires goes_on { StandsToTry S.Shape M.Machine E.means hand found.now seat.old run.old next }
-    ensures { TryGoesOn S.Shape M.Machine E.means hand.entry found.now
-        seat.old run.old next seat.new run.new result }
-{
-    match next? {
-        Next::Read { node, part } => Ok(read::<S, M, E>(hand, seat, run, found, node, part)),
-        now => Ok(now),
+    let mut now = next?;
+    while let Next::Look(node) = now {
+        now = look_at::<S, M, E>(hand, seat, run, found, node)?;
     }
+    Ok(now)
 }
 
-/// Makes the loads that come next: of the head, of a key or how many pairs there are, of the pairs.
+/// Makes the loads that come next.
 #[inline(always)]
 fn read_on<S: Shape, M: Machine<S>, E: Edit + Copy>(
     hand: Hand<S>,
@@ -195,32 +155,14 @@ fn read_on<S: Shape, M: Machine<S>, E: Edit + Copy>(
     ensures { TryGoesOn S.Shape M.Machine E.means hand.entry found.now
         seat.old run.old next seat.new run.new result }
 {
-    let first = read_next::<S, M, E>(hand, seat, run, found, next);
-    let second = read_next::<S, M, E>(hand, seat, run, found, first);
-    read_next::<S, M, E>(hand, seat, run, found, second)
-}
-
-/// Makes the fill that comes next, if one does.
-#[inline(always)]
-fn fill_next<S: Shape, M: Machine<S>, E: Edit + Copy>(
-    hand: Hand<S>,
-    seat: &mut Seat<u8, SeatView>,
-    run: &mut UpdateRun<E, ()>,
-    found: &Found,
-    next: Result<Next, Stop>,
-) -> Result<Next, Stop>
-    requires table { IsAt hand seat.old }
-    requires goes_on { StandsToTry S.Shape M.Machine E.means hand found.now seat.old run.old next }
-    ensures { TryGoesOn S.Shape M.Machine E.means hand.entry found.now
-        seat.old run.old next seat.new run.new result }
-{
-    match next? {
-        Next::Fill(nth) => fill_node::<S, M, E>(hand, seat, run, found, nth),
-        now => Ok(now),
+    let mut now = next?;
+    while let Next::Read { node, part } = now {
+        now = read::<S, M, E>(hand, seat, run, found, node, part);
     }
+    Ok(now)
 }
 
-/// Makes the fills that come next, three at most.
+/// Makes the fills that come next.
 #[inline(always)]
 fn fill_on<S: Shape, M: Machine<S>, E: Edit + Copy>(
     hand: Hand<S>,
@@ -234,9 +176,11 @@ fn fill_on<S: Shape, M: Machine<S>, E: Edit + Copy>(
     ensures { TryGoesOn S.Shape M.Machine E.means hand.entry found.now
         seat.old run.old next seat.new run.new result }
 {
-    let first = fill_next::<S, M, E>(hand, seat, run, found, next);
-    let second = fill_next::<S, M, E>(hand, seat, run, found, first);
-    fill_next::<S, M, E>(hand, seat, run, found, second)
+    let mut now = next?;
+    while let Next::Fill(nth) = now {
+        now = fill_node::<S, M, E>(hand, seat, run, found, nth)?;
+    }
+    Ok(now)
 }
 
 /// Looks at a node.

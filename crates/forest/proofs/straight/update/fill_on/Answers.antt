@@ -1,11 +1,19 @@
-use Rattle.forest.proofs.StraightTries.{tries_on}
+use Rattle.std.proofs.Common.{ap, Ok}
+use Rattle.forest.proofs.StraightTries.{tries_as, tries_nearer, tries_on}
+use Rattle.forest.proofs.StraightUpdate.{handed_on}
 use Rattle.forest.proofs.straight.update.fill_on.Goals as goal
 
-pub fill_next-second-requires-clause-goes_on : goal.fill_next-second-requires-clause-goes_on
-fill_next-second-requires-clause-goes_on g c = let r = c.requires.goes_on in (r.0, c.fill_next-first.ensures.to r.0 r.1)
+pub loop-now-init : goal.loop-now-init
+loop-now-init g c = record { goes_on = tries_as c.in_ok-now.was }
 
-pub fill_next-requires-clause-goes_on : goal.fill_next-requires-clause-goes_on
-fill_next-requires-clause-goes_on g c = let r = c.requires.goes_on in (r.0, (tries_on c.fill_next-first.ensures c.fill_next-second.ensures).to r.0 r.1)
+pub fill_node-requires-clause-tries : goal.fill_node-requires-clause-tries
+fill_node-requires-clause-tries g c = let r = c.requires.goes_on in (r.0, (tries_on c.loop-now.invariant.goes_on (tries_as (ap (λ n. Ok n) c.in-Fill.is))).to r.0 r.1)
 
-pub returns : goal.returns
-returns g c = tries_on c.fill_next-first.ensures (tries_on c.fill_next-second.ensures c.fill_next.ensures)
+pub returns-in_err-now-2 : goal.returns-in_err-now-2
+returns-in_err-now-2 g c = rw (handed_on _ _ c.from_residual-in_err-now-2.ensures.1) (tries_on c.loop-now.invariant.goes_on (tries_on (tries_as (ap (λ n. Ok n) c.in-Fill.is)) c.in_err-now-2.ensures.goes_on))
+
+pub loop-now-smaller : goal.loop-now-smaller
+loop-now-smaller g c = tries_nearer (tries_on (tries_as (ap (λ n. Ok n) c.in-Fill.is)) c.in_ok-now-2.ensures.goes_on) c.in_ok-now-2.ensures.moves
+
+pub loop-now-preserved : goal.loop-now-preserved
+loop-now-preserved g c = record { goes_on = tries_on c.loop-now.invariant.goes_on (tries_on (tries_as (ap (λ n. Ok n) c.in-Fill.is)) c.in_ok-now-2.ensures.goes_on) }

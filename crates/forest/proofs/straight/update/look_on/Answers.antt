@@ -1,14 +1,19 @@
-use Rattle.forest.proofs.StraightTries.{tries_on}
+use Rattle.std.proofs.Common.{ap, Ok}
+use Rattle.forest.proofs.StraightTries.{tries_as, tries_nearer, tries_on}
+use Rattle.forest.proofs.StraightUpdate.{handed_on}
 use Rattle.forest.proofs.straight.update.look_on.Goals as goal
 
-pub look_next-second-requires-clause-goes_on : goal.look_next-second-requires-clause-goes_on
-look_next-second-requires-clause-goes_on g c = let r = c.requires.goes_on in (r.0, c.look_next-first.ensures.to r.0 r.1)
+pub loop-now-init : goal.loop-now-init
+loop-now-init g c = record { goes_on = tries_as c.in_ok-now.was }
 
-pub look_next-third-requires-clause-goes_on : goal.look_next-third-requires-clause-goes_on
-look_next-third-requires-clause-goes_on g c = let r = c.requires.goes_on in (r.0, (tries_on c.look_next-first.ensures c.look_next-second.ensures).to r.0 r.1)
+pub look_at-requires-clause-tries : goal.look_at-requires-clause-tries
+look_at-requires-clause-tries g c = let r = c.requires.goes_on in (r.0, (tries_on c.loop-now.invariant.goes_on (tries_as (ap (λ n. Ok n) c.in-Look.is))).to r.0 r.1)
 
-pub look_next-requires-clause-goes_on : goal.look_next-requires-clause-goes_on
-look_next-requires-clause-goes_on g c = let r = c.requires.goes_on in (r.0, (tries_on c.look_next-first.ensures (tries_on c.look_next-second.ensures c.look_next-third.ensures)).to r.0 r.1)
+pub returns-in_err-now-2 : goal.returns-in_err-now-2
+returns-in_err-now-2 g c = rw (handed_on _ _ c.from_residual-in_err-now-2.ensures.1) (tries_on c.loop-now.invariant.goes_on (tries_on (tries_as (ap (λ n. Ok n) c.in-Look.is)) c.in_err-now-2.ensures.goes_on))
 
-pub returns : goal.returns
-returns g c = tries_on c.look_next-first.ensures (tries_on c.look_next-second.ensures (tries_on c.look_next-third.ensures c.look_next.ensures))
+pub loop-now-smaller : goal.loop-now-smaller
+loop-now-smaller g c = tries_nearer (tries_on (tries_as (ap (λ n. Ok n) c.in-Look.is)) c.in_ok-now-2.ensures.goes_on) c.in_ok-now-2.ensures.moves
+
+pub loop-now-preserved : goal.loop-now-preserved
+loop-now-preserved g c = record { goes_on = tries_on c.loop-now.invariant.goes_on (tries_on (tries_as (ap (λ n. Ok n) c.in-Look.is)) c.in_ok-now-2.ensures.goes_on) }

@@ -1,11 +1,15 @@
-use Rattle.forest.proofs.StraightTries.{tries_on}
+use Rattle.std.proofs.Common.{ap, Ok}
+use Rattle.forest.proofs.StraightTries.{tries_as, tries_nearer, tries_on}
 use Rattle.forest.proofs.straight.update.read_on.Goals as goal
 
-pub read_next-second-requires-clause-goes_on : goal.read_next-second-requires-clause-goes_on
-read_next-second-requires-clause-goes_on g c = let r = c.requires.goes_on in (r.0, c.read_next-first.ensures.to r.0 r.1)
+pub loop-now-init : goal.loop-now-init
+loop-now-init g c = record { goes_on = tries_as c.in_ok-now.was }
 
-pub read_next-requires-clause-goes_on : goal.read_next-requires-clause-goes_on
-read_next-requires-clause-goes_on g c = let r = c.requires.goes_on in (r.0, (tries_on c.read_next-first.ensures c.read_next-second.ensures).to r.0 r.1)
+pub read-now-requires-clause-tries : goal.read-now-requires-clause-tries
+read-now-requires-clause-tries g c = let r = c.requires.goes_on in (r.0, (tries_on c.loop-now.invariant.goes_on (tries_as (ap (λ n. Ok n) c.in-Read.is))).to r.0 r.1)
 
-pub returns : goal.returns
-returns g c = tries_on c.read_next-first.ensures (tries_on c.read_next-second.ensures c.read_next.ensures)
+pub loop-now-smaller : goal.loop-now-smaller
+loop-now-smaller g c = tries_nearer (tries_on (tries_as (ap (λ n. Ok n) c.in-Read.is)) c.read-now.ensures.goes_on) c.read-now.ensures.moves
+
+pub loop-now-preserved : goal.loop-now-preserved
+loop-now-preserved g c = record { goes_on = tries_on c.loop-now.invariant.goes_on (tries_on (tries_as (ap (λ n. Ok n) c.in-Read.is)) c.read-now.ensures.goes_on) }
