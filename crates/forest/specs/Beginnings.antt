@@ -24,9 +24,8 @@ abbrev pub beginning_of : Ground → History
 beginning_of f = Opened (opening_for f.planting)
 
 -- The forest begins with these pairs: they are its first, and its words spell them. Their nodes are
--- beside the shares of the passes. All leaves of a tree but the last are full: it has a node for
--- each four pairs, and as many forks. It counts as no deeper than where each fork parts its pairs
--- evenly.
+-- beside the shares of the passes. A tree has as few leaves as hold them: a node for each four
+-- pairs, and as many forks. It counts as no deeper than where each fork parts its pairs evenly.
 pub record BeginsWithPairs (f : Ground) (ps : List Pair) : Type 0 where
   pub first : first_pairs (beginning_of f) ≡ ps
   pub spelled : Spells f.layout (value (beginning_of f)) ps

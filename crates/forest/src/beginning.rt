@@ -34,10 +34,10 @@ const MOST_NODES: u32 = 1048576;
 impl<K: WordKey, V: WordValue, B: FixedBalance> Forest<Dict<K, V, B>> {
     /// A dictionary that begins with these pairs, in rising order of keys, and a pass for each
     /// client. Each pass has its whole share: the nodes of the pairs are beside the shares, so that
-    /// a pass may do as much as in an empty dictionary. Its tree is balanced and its leaves are
-    /// full, as a trie's are as far as its keys let them; no SCX is made for it. Refused are limits
-    /// out of range, keys that do not rise, more nodes than there is room for, and want of memory:
-    /// then nothing is made.
+    /// a pass may do as much as in an empty dictionary. A tree is balanced, with as few leaves as
+    /// hold the pairs; a trie has at most two nodes a pair. No SCX is made for it. Refused are
+    /// limits out of range, keys that do not rise, more nodes than there is room for, and want of
+    /// memory: then nothing is made.
     pub fn of_pairs(
         alloc: Global,
         limits: Limits,
@@ -57,7 +57,7 @@ impl<K: WordKey, V: WordValue, B: FixedBalance> Forest<Dict<K, V, B>> {
             return Err(PairsFault::Limits);
         };
         let plot = plot_with(alloc, in_trie::<B>(), &layout, pairs)?;
-        match Forest::planted(alloc, plot, limits.tries) {
+        match Forest::with_plot(alloc, plot, limits.tries) {
             Ok(begun) => Ok(begun),
             Err(NoMemory) => Err(PairsFault::NoMemory),
         }
@@ -86,6 +86,7 @@ impl<K: WordKey, V: WordValue, B: FixedBalance> Closed<Dict<K, V, B>> {
             → IfOk result (λ r. (m : List PairOf) × Spells lay (value (history_of c.planting c.rows)) m × BeginsWithPairs r.0 m) }
         ensures passes { IfOk result (λ r. AreNew r.0 r.1.items) }
     {
+        // First, so that the table is not read in vain.
         let Ok(_layout) = limits.check(mode::<B>()) else {
             return Err(PairsFault::Limits);
         };
@@ -121,7 +122,7 @@ fn plot_with<K: WordKey, V: WordValue>(
         return Err(PairsFault::TooMany { room });
     }
     let planting = Planting::of_pairs(alloc, trie, words)?;
-    match with_room(layout, planting.planted() as u32) {
+    match with_room(layout, planting.count() as u32) {
         Some(layout) => Ok(Plot { layout, planting }),
         None => Err(PairsFault::TooMany { room }),
     }

@@ -14,7 +14,7 @@ ghost use Rattle.forest.specs.TableRule.{IsPlaceOf, IsTableOf, TableIsLawful, Ma
 
 use crate::rule::{Both, CallStep, Deal, Lawful, Looks, Makes, Plot, Says};
 use crate::view::SeatView;
-use arena::{Access, Layout, NoMemory, NodeNo, NodeWord, PlainWords, SettledPart, Shape, Word};
+use arena::{Access, Layout, NoMemory, NodeNo, NodeWord, SettledPart, Shape, Word};
 use atomic_table::{Closed, Seat, Table};
 use std::alloc::Global;
 
@@ -41,13 +41,8 @@ impl<S: Shape> Words<S> {
             (λ w. (w.1.me.0.passes ≡ new_passes plot.now 0 plot.now.layout.passes)
             × (w.1.me.1 ≡ [])) }
     {
-        if plot.planting.planted() == 0 {
-            let words = PlainWords::new(alloc, &plot.layout)?;
-            let (table, seat) = Table::of_words(alloc, words.words(), plot)?;
-            return Ok((Words { table }, seat));
-        }
         let words = plot.planting.words(alloc, &plot.layout)?;
-        let (table, seat) = Table::of_words(alloc, &words, plot)?;
+        let (table, seat) = Table::of_words(alloc, words.words(), plot)?;
         Ok((Words { table }, seat))
     }
 

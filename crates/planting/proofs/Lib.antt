@@ -3,8 +3,6 @@ mod Crowns
 mod Parts
 mod Rows
 mod Planted
-mod Placed
-mod Words
-pub mod Lemmas
+mod Laid
 mod Orders
 mod Counted

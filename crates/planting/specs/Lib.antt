@@ -1,4 +1,4 @@
 pub mod Groves
 pub mod Plantings
-pub mod Places
+pub mod Laid
 pub mod Orders

@@ -76,7 +76,7 @@ none_there [] n part l = refl
 none_there (p ∷ ps) zero part l = absurd (omega (arith, l))
 none_there (p ∷ ps) (suc n) part l = none_there ps n part (omega (arith, l))
 
-within_none : (most : ℕ) → capped most 0 ≡ 0
+pub within_none : (most : ℕ) → capped most 0 ≡ 0
 within_none zero = refl
 within_none (suc most) = rw (lt-ltb 0 (suc most) (omega arith)) refl
 
@@ -155,7 +155,7 @@ pub record IsGrownOver (trie : Bool) (pairs : List Pair) (nodes : List Piece) : 
 
 -- These pairs are planted in a table of this mode. It begins empty or as a map may begin, and its
 -- pairs are these. A tree has a node for each leaf and for each fork, one of which is above all
--- keys: so all leaves but the last are full; and none is deeper than where each fork parts them
+-- keys: it has as few leaves as hold its pairs, and none is deeper than where each fork parts them
 -- evenly.
 pub record IsPlantingOf (mode : Mode) (pairs : List Pair) (p : PlantingView) : Type 0 where
   pub mode_is : (opening_for p).mode ≡ mode

@@ -4,9 +4,9 @@
 mod leaf;
 mod order;
 mod parting;
-mod places;
 mod planting;
 mod room;
+mod table;
 mod trees;
 
 pub use order::first_fall;

@@ -1,15 +1,16 @@
 //! What a map's table begins with.
-ghost use Rattle.std.specs.Prelude.{◌≡◌, ◌*◌, ◌^◌, ◌≤◌, ◌<◌, length, vec_len, slice_index, IfOk};
+ghost use Rattle.std.specs.Prelude.{◌≡◌, ◌^◌, ◌≤◌, ◌<◌, length, vec_len, IfOk};
 ghost use Rattle.ordered_map.specs.OrderedMap.{AllBelow, IsRising};
 ghost use Rattle.template.specs.Balance.{map_mode};
-ghost use Rattle.arena.specs.Layout.{table_size, IsWord, place};
-ghost use Rattle.arena.specs.declared.word.Word.{Word as WordOf};
-ghost use Rattle.planting.specs.Plantings.{nothing_planted, opening_for, planted_words, all_pieces, piece_word, capped, root_piece, end_piece, IsGrownOver, IsPlantingOf};
+ghost use Rattle.arena.specs.Layout.{IsWord};
+ghost use Rattle.arena.specs.PlainWords.{word_at};
+ghost use Rattle.arena.specs.declared.word.Word.{Word};
+ghost use Rattle.planting.specs.Plantings.{nothing_planted, opening_for, IsGrownOver, IsPlantingOf};
 
-use crate::places::word_of_place;
+use crate::table::plant;
 use crate::trees::grow;
-use arena::{Layout, Mode, NoMemory, NodeNo, NodeWord, Word, opening_word};
-use edits::{Pairs, Piece};
+use arena::{Layout, Mode, NoMemory, NodeNo, PlainWords};
+use edits::Piece;
 use ordered_map::Pair;
 use std::alloc::Global;
 use std::fmt;
@@ -58,95 +59,26 @@ impl Planting {
         Ok(Planting { mode, pairs, nodes })
     }
 
-    /// What a word holds at the start.
-    pub fn word(&self, word: Word) -> u64
-        ensures { result ≡ (opening_for self.now).words word }
+    /// The words of a table as they are at the start. The only error is want of memory.
+    pub fn words(&self, alloc: Global, layout: &Layout) -> Result<PlainWords, NoMemory>
+        requires mode { layout.now.mode ≡ self.now.mode }
+        requires room { (opening_for self.now).planted ≤ layout.now.planted }
+        ensures layout { IfOk result (λ words. words.layout ≡ layout.now) }
+        ensures words { IfOk result (λ words. (w : Word) → IsWord layout.now w →
+            word_at words w ≡ (opening_for self.now).words w) }
     {
-        if self.nodes.is_empty() || !self.mode.is_map() {
-            return opening_word(self.mode, word);
-        }
-        planted_word(&self.nodes, word)
-    }
-
-    /// The words of a table by their places, as they are at the start. The only error is want of
-    /// memory.
-    pub fn words(&self, alloc: Global, layout: &Layout) -> Result<Vec<u64>, NoMemory>
-        ensures size { IfOk result (λ words. vec_len words ≡ table_size layout.now) }
-        ensures words { IfOk result (λ words. (w : WordOf) → IsWord layout.now w →
-            slice_index words.items (place layout.now w) ≡ (opening_for self.now).words w) }
-    {
-        let mut words = Vec::new(alloc);
-        for place in 0..layout.size() {
-            words.push(self.word(word_of_place(layout, place)))?;
+        let mut words = PlainWords::new(alloc, layout)?;
+        if !self.nodes.is_empty() && self.mode.is_map() {
+            plant(&mut words, &self.nodes);
         }
         Ok(words)
     }
 
     /// How many nodes are planted.
-    pub fn planted(&self) -> usize
+    pub fn count(&self) -> usize
         ensures { result ≡ length self.now.nodes }
     {
         self.nodes.len()
-    }
-}
-
-/// What a word holds where these nodes are planted.
-fn planted_word(nodes: &[Piece], word: Word) -> u64
-    ensures { result ≡ planted_words (all_pieces nodes.now) word }
-{
-    match word {
-        Word::Node(node, part) => match part {
-            NodeWord::Info | NodeWord::Marked => 0,
-            NodeWord::Child(_) => { capped(3 + nodes.len() as u64, piece_word(nodes, node, part)) }
-            NodeWord::Settled(_) => piece_word(nodes, node, part),
-        },
-        Word::Scx(_, _) => opening_word(Mode::Records, word),
-    }
-}
-
-/// A number below `most`: another one is taken for 0.
-fn capped(most: u64, number: u64) -> u64
-    ensures { result ≡ capped most number }
-{
-    if number < most { number } else { 0 }
-}
-
-/// What a word of one of the nodes is to hold.
-fn piece_word(nodes: &[Piece], node: NodeNo, part: NodeWord) -> u64
-    ensures { result ≡ piece_word (all_pieces nodes.now) node.0 part }
-{
-    match node.0 {
-        0 => root_piece(nodes).word(part),
-        1 => end_piece(2, 1).word(part),
-        2 => end_piece(1, 2).word(part),
-        number => match nodes.get(number as usize - 3) {
-            Some(piece) => piece.word(part),
-            None => 0,
-        },
-    }
-}
-
-/// The root, over the last of the nodes and node 2.
-fn root_piece(nodes: &[Piece]) -> Piece
-    ensures { result ≡ root_piece nodes.now }
-{
-    Piece::Fork {
-        level: 0,
-        class: 2,
-        key: 0,
-        left: NodeNo(2 + nodes.len() as u64),
-        right: NodeNo(2),
-    }
-}
-
-/// A leaf above all keys.
-fn end_piece(level: u64, class: u8) -> Piece
-    ensures { result ≡ end_piece level class }
-{
-    Piece::Leaf {
-        level,
-        class,
-        pairs: Pairs::one(Pair { key: 0, value: 0 }),
     }
 }
 
@@ -165,7 +97,8 @@ fn nodes_over(alloc: Global, pairs: &[Pair], trie: bool) -> Result<Vec<Piece>, N
     requires few { length pairs.now ≤ 33554432 }
     ensures { IfOk result (λ nodes. IsGrownOver trie pairs.now nodes.items) }
 {
-    let mut nodes = Vec::new(alloc);
+    // As many as a tree has; a trie may have more.
+    let mut nodes = Vec::with_capacity(alloc, 2 * ((pairs.len() + 3) / 4))?;
     let top = grow(&mut nodes, pairs, trie, 2)?;
     nodes.push(Piece::Fork {
         level: 1,

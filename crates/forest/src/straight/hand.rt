@@ -6,7 +6,8 @@ use crate::words::Words;
 use arena::{Layout, Shape};
 use std::alloc::AllocError;
 
-/// Words with their layout, and the number of the call that makes steps on them.
+/// Words with their layout, and the number of the call that makes steps on them. Loops copy the
+/// layout first: only of its own copy does the compiler know that no step changes it.
 pub(crate) struct Hand<'a, S: Shape> {
     pub(crate) words: &'a Words<S>,
     pub(crate) layout: &'a Layout,

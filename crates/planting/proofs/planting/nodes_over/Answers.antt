@@ -7,6 +7,6 @@ pub returns : goal.returns
 returns c = record {
   row = c.grow.new.row.items;
   top = c.in_ok-top.top;
-  grown = subst (λ (old : List Piece). HasGrown c.args.trie c.args.pairs.now 2 old c.grow.new.row.items c.in_ok-top.top) c.new-nodes.ensures.items c.in_ok-top.ensures;
+  grown = subst (λ (old : List Piece). HasGrown c.args.trie c.args.pairs.now 2 old c.grow.new.row.items c.in_ok-top.top) c.in_ok-nodes.ensures.items c.in_ok-top.ensures;
   is = c.in_ok-push.ensures.items;
 }

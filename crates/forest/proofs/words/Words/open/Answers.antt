@@ -1,24 +1,24 @@
 use Rattle.std.proofs.Common.{◌≡◌, ℕ, List, sym, ◌∙◌, ap, slice_index}
-use Rattle.histories.specs.Common.{Layout, Mode, Word, place, table_size, opening, IsWord, Contents}
-use Rattle.arena.specs.PlainWords.{IsOpening}
-use Rattle.planting.proofs.Lemmas.{bare_words}
+use Rattle.histories.specs.Common.{Layout, Word, place, table_size, IsWord, Contents}
+use Rattle.arena.specs.Lawful.{Lawful}
+use Rattle.arena.specs.PlainWords.{word_at}
+use Rattle.planting.specs.Plantings.{opening_for}
 use Rattle.forest.proofs.Deals.{opens}
 use Rattle.forest.proofs.words.Words.open.Goals as goal
 
--- words as they are at the start, by their places
-placed : (c : Contents) (words : List ℕ) (lay : Layout) → c.layout ≡ lay → words ≡ c.words → IsOpening c → (w : Word) → IsWord lay w → slice_index words (place lay w) ≡ opening lay.mode w
-placed c words lay same is x w i = rw (is, ← same) (x w (rw same i))
+pub words-requires-clause-room : goal.words-requires-clause-room
+unfolding Lawful
+words-requires-clause-room g c = c.requires.run.lawful.1
+
+-- what words hold, by their places
+placed : (c : Contents) (words : List ℕ) (lay : Layout) (f : Word → ℕ) → c.layout ≡ lay → words ≡ c.words → ((w : Word) → IsWord lay w → word_at c w ≡ f w) → (w : Word) → IsWord lay w → slice_index words (place lay w) ≡ f w
+placed c words lay f same is holds w i = (λ k. slice_index (is k) (place (sym same k) w)) ∙ holds w i
 
 pub of_words-requires : goal.of_words-requires
 of_words-requires g c =
     let plot = c.args.plot.now in
-    opens g.S.Shape.allows plot c.words-then-planted-eq0.result.now _ (c.words-then-planted-eq0.ensures.size ∙ ap table_size c.in_ok-words.ensures.layout)
-    (λ w i. placed c.in_ok-words.words c.words-then-planted-eq0.result.now plot.layout c.in_ok-words.ensures.layout c.words-then-planted-eq0.ensures.words c.in_ok-words.ensures.opening w i
-    ∙ ap (λ (m : Mode). opening m w) (sym c.requires.mode) ∙ sym (bare_words plot.planting.mode plot.planting.pairs plot.planting.nodes w (sym c.planted.ensures ∙ c.if-planted-eq0.true)))
+    let laid = c.in_ok-words.ensures in
+    let words = c.words-3 in
+    opens g.S.Shape.allows plot words.result.now _ (words.ensures.size ∙ ap table_size laid.layout)
+    (placed c.in_ok-words.words words.result.now plot.layout (opening_for plot.planting).words laid.layout words.ensures.words laid.words)
     c.requires.run
-
-pub of_words-requires-2 : goal.of_words-requires-2
-of_words-requires-2 g c =
-    let lay = c.args.plot.now.layout in
-    opens g.S.Shape.allows c.args.plot.now c.deref.result.now _ (c.deref.ensures.len ∙ c.in_ok-words-2.ensures.size)
-    (λ w i. ap (λ (xs : List ℕ). slice_index xs (place lay w)) c.deref.ensures.value ∙ c.in_ok-words-2.ensures.words w i) c.requires.run
