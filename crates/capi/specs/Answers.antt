@@ -28,7 +28,7 @@ use Rattle.capi.specs.declared.client.OwnedPass.{OwnedPass}
 use Rattle.capi.specs.declared.handle.HandleSlot.{HandleSlot}
 
 -- Statuses are numbers here, as C has them: 0 none, 1 some, 2 contended, 3 full, 4 no memory,
--- 5 limits, 6 no pass, 7 shared.
+-- 5 limits, 6 no pass, 7 shared, 8 order, 9 too many.
 
 -- the number of a value's words
 abbrev pub number : Value → ℕ

@@ -21,7 +21,7 @@ use Rattle.edits.specs.declared.piece.Piece.{Piece}
 use Rattle.edits.specs.declared.piece.Piece.TheVariants.{Leaf, Fork}
 use Rattle.edits.specs.Laws.PieceFills.{part_same, the_same}
 use Rattle.edits.specs.Pieces.{is_leaf_piece, word_of}
-use Rattle.planting.specs.Laid.{HoldsNode, LeavesOthers, filled, is_laid, is_of_node, laid_word, stored, with_pair}
+use Rattle.planting.specs.Laid.{HoldsNode, LeavesOthers, as_piece, is_laid, is_of_node, laid_word, stored, with_pair}
 use Rattle.planting.specs.Plantings.{all_pieces, capped, end_piece, piece_word, planted_words, root_piece, within_none, zero_beyond}
 
 -- a word that is changed is one more that the node holds
@@ -50,7 +50,7 @@ leaves_both a b c n one two = record {
 }
 
 -- a leaf's words, once its head, its count and its pairs are there
-pub leaf_laid : (p : Piece) (f : NodeWord → ℕ) → is_leaf_piece p ≡ true → ((q : NodeWord) → is_laid p q ≡ false → f q ≡ 0) → (q : NodeWord) → with_pair (with_pair (with_pair (with_pair (filled (filled f p (Settled Head)) p (Settled More)) p First) p Second) p Third) p Fourth q ≡ word_of p q
+pub leaf_laid : (p : Piece) (f : NodeWord → ℕ) → is_leaf_piece p ≡ true → ((q : NodeWord) → is_laid p q ≡ false → f q ≡ 0) → (q : NodeWord) → with_pair (with_pair (with_pair (with_pair (as_piece (as_piece f p (Settled Head)) p (Settled More)) p First) p Second) p Third) p Fourth q ≡ word_of p q
 leaf_laid (Leaf level class pairs) f is blank (Settled Head) = refl
 leaf_laid (Leaf level class pairs) f is blank (Settled More) = refl
 leaf_laid (Leaf level class pairs) f is blank (Settled (Key First)) = refl
@@ -79,7 +79,7 @@ leaf_words most (Leaf level class pairs) is Marked = refl
 leaf_words most (Fork level class key l r) is q = absurd (let z : false ≡ true = is in cc)
 
 -- a fork's, once its head, its key and its fields are there
-pub fork_laid : (most : ℕ) (p : Piece) (f : NodeWord → ℕ) → is_leaf_piece p ≡ false → ((q : NodeWord) → is_laid p q ≡ false → f q ≡ 0) → (q : NodeWord) → stored (stored (filled (filled f p (Settled Head)) p (Settled (Key First))) (Child Left) (capped most (word_of p (Child Left)))) (Child Right) (capped most (word_of p (Child Right))) q ≡ laid_word most p q
+pub fork_laid : (most : ℕ) (p : Piece) (f : NodeWord → ℕ) → is_leaf_piece p ≡ false → ((q : NodeWord) → is_laid p q ≡ false → f q ≡ 0) → (q : NodeWord) → stored (stored (as_piece (as_piece f p (Settled Head)) p (Settled (Key First))) (Child Left) (capped most (word_of p (Child Left)))) (Child Right) (capped most (word_of p (Child Right))) q ≡ laid_word most p q
 fork_laid most (Fork level class key l r) f is blank (Settled Head) = refl
 fork_laid most (Fork level class key l r) f is blank (Settled More) = blank (Settled More) refl
 fork_laid most (Fork level class key l r) f is blank (Settled (Key First)) = refl

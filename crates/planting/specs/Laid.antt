@@ -25,12 +25,12 @@ abbrev pub stored : (NodeWord → ℕ) → NodeWord → ℕ → NodeWord → ℕ
 stored f part v q = if same_node_word part q then v else f q
 
 -- and once it is given what the piece says
-abbrev pub filled : (NodeWord → ℕ) → Piece → NodeWord → NodeWord → ℕ
-filled f p part = stored f part (word_of p part)
+abbrev pub as_piece : (NodeWord → ℕ) → Piece → NodeWord → NodeWord → ℕ
+as_piece f p part = stored f part (word_of p part)
 
 -- and once those of the pair in this slot are
 abbrev pub with_pair : (NodeWord → ℕ) → Piece → Slot → NodeWord → ℕ
-with_pair f p slot = filled (filled (filled f p (Settled (Key slot))) p (Settled (Value slot))) p (Settled (High slot))
+with_pair f p slot = as_piece (as_piece (as_piece f p (Settled (Key slot))) p (Settled (Value slot))) p (Settled (High slot))
 
 -- what a word of the node is to hold, where only the nodes below `most` are there
 abbrev pub laid_word : ℕ → Piece → NodeWord → ℕ
@@ -47,8 +47,8 @@ is_laid (Fork level class key l r) (Child side) = true
 is_laid _ _ = false
 
 -- all others of the node are 0
-abbrev pub IsBlank : Contents → NodeNo → Piece → Type 0
-IsBlank c n p = (q : NodeWord) → is_laid p q ≡ false → word_at c (Node n q) ≡ 0
+abbrev pub HoldsNoOther : Contents → NodeNo → Piece → Type 0
+HoldsNoOther c n p = (q : NodeWord) → is_laid p q ≡ false → word_at c (Node n q) ≡ 0
 
 -- whether it is a word of this node
 abbrev pub is_of_node : NodeNo → Word → Bool

@@ -5,7 +5,7 @@ ghost use Rattle.arena.specs.PlainWords.{word_at};
 ghost use Rattle.arena.specs.declared.word.NodeWord.{NodeWord};
 ghost use Rattle.arena.specs.declared.word.Word.{Word};
 ghost use Rattle.edits.specs.Pieces.{is_leaf_piece, word_of};
-ghost use Rattle.planting.specs.Laid.{HoldsNode, LeavesOthers, IsBlank, laid_word, stored, with_pair};
+ghost use Rattle.planting.specs.Laid.{HoldsNode, LeavesOthers, HoldsNoOther, laid_word, stored, with_pair};
 ghost use Rattle.planting.specs.Plantings.{all_pieces, capped, end_piece, planted_words, root_piece};
 
 use arena::{Access, Kind, NodeNo, NodeWord, PlainWords, SettledPart, Side, Slot, Step, Word};
@@ -43,7 +43,7 @@ pub(crate) fn plant(words: &mut PlainWords, nodes: &[Piece])
 /// Lays a node with this number, whose words are 0 where the piece has none.
 fn lay(words: &mut PlainWords, node: NodeNo, piece: &Piece, most: u64)
     requires there { node.0 < all_nodes words.old.layout }
-    requires blank { IsBlank words.old node piece.now }
+    requires blank { HoldsNoOther words.old node piece.now }
     ensures laid { HoldsNode words.new node (laid_word most piece.now) }
     ensures others { LeavesOthers words.old words.new node }
 {
@@ -57,7 +57,7 @@ fn lay(words: &mut PlainWords, node: NodeNo, piece: &Piece, most: u64)
 fn lay_leaf(words: &mut PlainWords, node: NodeNo, piece: &Piece)
     requires leaf { is_leaf_piece piece.now ≡ true }
     requires there { node.0 < all_nodes words.old.layout }
-    requires blank { IsBlank words.old node piece.now }
+    requires blank { HoldsNoOther words.old node piece.now }
     ensures laid { HoldsNode words.new node (word_of piece.now) }
     ensures others { LeavesOthers words.old words.new node }
 {
@@ -88,7 +88,7 @@ fn lay_pair(words: &mut PlainWords, node: NodeNo, piece: &Piece, slot: Slot)
 fn lay_fork(words: &mut PlainWords, node: NodeNo, piece: &Piece, most: u64)
     requires fork { is_leaf_piece piece.now ≡ false }
     requires there { node.0 < all_nodes words.old.layout }
-    requires blank { IsBlank words.old node piece.now }
+    requires blank { HoldsNoOther words.old node piece.now }
     ensures laid { HoldsNode words.new node (laid_word most piece.now) }
     ensures others { LeavesOthers words.old words.new node }
 {
