@@ -2,9 +2,9 @@
 ghost use Rattle.std.specs.Prelude.{IfOk};
 ghost use Rattle.forest.specs.Passes.{AreNew, IsOf};
 
+use super::TRIES;
 use super::call::Call::{Get, Insert};
 use super::held::Numbers;
-use super::limits;
 use crate::same::same;
 use arena::Limits;
 use dict::{ByBits, ByOrder, FixedBalance, Reply};
@@ -21,7 +21,7 @@ const ALONE: Limits = Limits {
     passes: 1,
     nodes: 9,
     scx: 9,
-    tries: 3,
+    tries: TRIES,
 };
 
 /// So many pairs, whose keys rise by this step from 0 on, each with a value of its own.

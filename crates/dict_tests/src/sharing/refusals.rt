@@ -1,7 +1,7 @@
 //! Pairs that no dictionary begins with.
 use super::beginnings::rising;
 use super::held::Numbers;
-use super::limits;
+use super::{TRIES, limits};
 use crate::same::same;
 use arena::Limits;
 use dict::{ByBits, ByOrder, FixedBalance};
@@ -33,7 +33,7 @@ const GOOD: Limits = Limits {
     passes: 2,
     nodes: 9,
     scx: 9,
-    tries: 3,
+    tries: TRIES,
 };
 
 const BAD: [Limits; 6] = [

@@ -4,9 +4,7 @@ ghost use Rattle.std.specs.List.{All};
 ghost use Rattle.forest.specs.Passes.{IsOf};
 
 use super::beginnings::Opened;
-use super::call::Call::{
-    self, Delete, DeleteIf, Insert, InsertNew, PopFirst, PopLast, ReplaceIf, Successor,
-};
+use super::call::Call::{self, Delete, Insert, InsertNew, PopFirst, PopLast, Successor};
 use super::held::Numbers;
 use super::threads::{changed, part, reply_of, stirred};
 use super::{closed, limits};
@@ -91,19 +89,16 @@ impl Tally {
     }
 }
 
-/// An edit of a drawn key, with this number as its value; of a call that expects a value it is
-/// mostly another one.
+/// An edit of a drawn key, or of an end. No two put in the same value.
 fn drawn(number: u64) -> Call<u64, u64> {
     let draw = stirred(number);
     let key = 1 + draw / 16 % KEYS;
     match draw % 16 {
         0..=7 => Insert(key, number),
         8 | 9 => InsertNew(key, number),
-        10..=12 => Delete(key),
-        13 => PopFirst,
-        14 => PopLast,
-        _ if number % 2 == 0 => ReplaceIf(key, number, 0),
-        _ => DeleteIf(key, number),
+        10..=13 => Delete(key),
+        14 => PopFirst,
+        _ => PopLast,
     }
 }
 
