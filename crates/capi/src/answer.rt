@@ -226,7 +226,7 @@ impl Count {
         }
     }
 
-    /// What `close` answers, and leaves in `room`.
+    /// What `close`, `end` and `renew` answer, and leave in `room`.
     pub(crate) fn of_pairs(mut pairs: Vec<(u64, u128)>, room: &mut [KeyValue]) -> Count
         ensures count { result ≡ counted (vec_len pairs) }
         ensures put { StandIn (take (length room.new) pairs.items) room.new }

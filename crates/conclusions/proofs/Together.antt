@@ -44,6 +44,10 @@ pub same_value : (word_of : ℕ → ℕ) → ((v : ℕ) → word_of v ≡ v) →
 same_value word_of is None v e = e
 same_value word_of is (Some x) v e = ap Some (sym (is x)) ∙ e
 
+pub same_option : (found : Option ℕ) → option_map (λ v. v) found ≡ found
+same_option None = refl
+same_option (Some x) = refl
+
 module _ (lay : Layout) where
   -- a pass is one of the forest's
   pub is_pass : (old new : PassView) (n : ℕ) → new.number ≡ old.number → old.layout ≡ lay → n ≡ old.number → n < old.layout.passes → new.number < lay.passes
@@ -83,6 +87,18 @@ module _ (lay : Layout) where
   read_told : (k : ℕ) (m : List Pair) (found : Option ℕ) → reply (Get k) m ≡ OneValue found → found ≡ get k m
   unfolding told_value
   read_told k m found e = sym (ap (λ r. told_value r found) e)
+
+  -- a get of the only pass, which has made no entry before, finds what the map has there at first
+  pub first_found : {allows : Layout → History → ℕ → Type 0} → VersionLaws allows → lay.passes ≡ 1 → (trie : Bool) → lay.mode ≡ map_mode trie → (p new : PassView) → p.layout ≡ lay → new.layout ≡ lay → p.number < lay.passes
+      → IsLaterView p new → IsRun allows new.layout (run_of new) → (first : List Pair) → Spells lay (value (run_of p)) first → (k : ℕ) (found : Option ℕ) → IsReading p new (Get k) (OneValue found) → found ≡ get k first
+  first_found laws one trie mode p new ep en few next rn first spelled k found r =
+      let run : IsMapRun lay (run_of new) = map_run laws trie mode new en rn in
+      let read = r.read in
+      let quiet : EntersNothing lay p.number (run_of new) (run_of p) = quiet_since p new p.number ep en refl next.number r.done in
+      let so : EntersNothing lay p.number read.moment (run_of p) = laws.earlier lay p.number (run_of new) read.moment (run_of p) run.1.lawful read.within read.since quiet in
+      let all : (d : ℕ) → d < lay.passes → EntersNothing lay d read.moment (run_of p) = λ d i. let same : p.number ≡ d = omega (arith, one, few, i) in subst (λ x. EntersNothing lay x read.moment (run_of p)) same so in
+      read_told k read.map found read.gives
+      ∙ ap (get k) (laws.stays lay (run_of new) read.moment (run_of p) run read.within read.since all first read.map spelled (subst (λ (x : Layout). Spells x (value read.moment) read.map) en read.spelled))
 
   pub one_pass : {allows : Layout → History → ℕ → Type 0} → VersionLaws allows → ((k v : ℕ) (m : List Pair) → get k (insert k v m) ≡ Some v) → lay.passes ≡ 1 → (trie : Bool) → lay.mode ≡ map_mode trie → (old mid new : PassView) → mid.layout ≡ lay → new.layout ≡ lay → mid.number < lay.passes
       → IsLaterView old mid → IsLaterView mid new → IsRun allows mid.layout (run_of mid) → IsRun allows new.layout (run_of new) → (k v : ℕ) (told : MapReply) (found : Option ℕ)

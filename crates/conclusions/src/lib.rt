@@ -1,18 +1,19 @@
 //! What callers of a dictionary can conclude of several calls from their clauses alone.
 #![tactic(auto)]
 
-ghost use Rattle.std.specs.Prelude.{◌≡◌, ◌↔◌, Err, Some, IfErr, IfOk, OnOk};
+ghost use Rattle.std.specs.Prelude.{◌≡◌, ◌↔◌, Err, Some, IfErr, IfOk, OnOk, map};
 ghost use Rattle.regnubas.specs.Limits.{IsAccepted, IsLayoutOf};
-ghost use Rattle.regnubas.specs.OrderedMap.{call_insert};
+ghost use Rattle.regnubas.specs.OrderedMap.{call_insert, get};
 ghost use Rattle.regnubas.specs.Passes.{AreNew, IsOf};
 ghost use Rattle.regnubas.specs.Plantings.{nothing_planted};
+ghost use Rattle.regnubas.specs.Replies.{word_pair};
 ghost use Rattle.regnubas.specs.Types.{Trie as TrieMode};
 ghost use Rattle.conclusions.specs.Together.{HasReadValue, HasSet, HasSetAt, IsUpdateRefused};
 ghost use Rattle.conclusions.specs.Tries.{IsLow};
 
 use regnubas::{
-    Dict, FixedBalance, Forest, Limits, NewFault, Pass, Trie, UpdateFault, map_laws_hold,
-    trie_laws_hold, version_laws_hold,
+    Dict, FixedBalance, Forest, Limits, NewFault, PairsFault, Pass, Trie, UpdateFault,
+    map_laws_hold, trie_laws_hold, version_laws_hold,
 };
 use std::alloc::Global;
 
@@ -37,6 +38,24 @@ pub fn set_then_get<B: FixedBalance>(
     pass.number();
     map.insert(pass, key, value)?;
     Ok(map.get(pass, &key))
+}
+
+/// The only pass of a dictionary that begins with pairs finds the value that a key has among them.
+pub fn begin_then_get<B: FixedBalance>(
+    alloc: Global,
+    limits: Limits,
+    pairs: &[(u64, u64)],
+    key: u64,
+) -> Result<Option<u64>, PairsFault>
+    requires { limits.passes ≡ 1 }
+    ensures { IfOk result (λ found. found ≡ get key (map (word_pair (λ k. k) (λ v. v)) pairs.now)) }
+{
+    version_laws_hold::<u64, u64>();
+    let (forest, mut passes) = Forest::<Numbers<B>>::of_pairs(alloc, limits, pairs)?;
+    match passes.pop() {
+        Some(mut pass) => Ok(forest.get(&mut pass, &key)),
+        None => unreachable!(),
+    }
 }
 
 /// Of two passes, the only ones, one sets a key, and the other finds the value. They meet before,
