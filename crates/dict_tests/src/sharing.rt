@@ -3,10 +3,13 @@ ghost use Rattle.std.specs.Prelude.{IfOk, IfSome};
 ghost use Rattle.std.specs.List.{All};
 ghost use Rattle.forest.specs.Passes.{IsOf};
 
+mod beginnings;
 mod call;
 mod calls;
 mod held;
 mod memory;
+mod refusals;
+mod renewals;
 mod rows;
 mod stopped;
 mod threads;

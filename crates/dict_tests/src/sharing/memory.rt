@@ -1,14 +1,16 @@
-//! A growth that is refused. In the gate none is: `crates/cases/data/stories/refused_growths/check`
-//! refuses each of this test in turn.
+//! A growth that is refused. In the gate none is: of each of these tests
+//! `crates/cases/data/stories/refused_growths/check_tests` refuses each in turn.
+ghost use Rattle.std.specs.Prelude.{IfOk};
 ghost use Rattle.std.specs.List.{All};
-ghost use Rattle.forest.specs.Passes.{IsOf};
+ghost use Rattle.forest.specs.Passes.{AreNew, IsOf};
 
+use super::beginnings::{Opened, alone};
 use super::call::Call::{self, Insert, Predecessor, Range, Successor};
 use super::call::pairs_told;
 use super::held::Numbers;
 use super::{TRIES, closed, limits, two};
 use dict::Reply;
-use forest::{Forest, NewFault, Pass};
+use forest::{Closed, Forest, NewFault, PairsFault, Pass};
 use std::alloc::Global;
 use std::test::Fail;
 
@@ -68,12 +70,7 @@ fn all_look(alloc: Global, forest: &Forest<Numbers>, pass: &mut Pass<Numbers>) -
 }
 
 /// The same of the pairs that are left.
-fn are_left(alloc: Global, forest: Forest<Numbers>, passes: Vec<Pass<Numbers>>) -> bool
-    requires { All (IsOf forest) passes.items }
-{
-    let Some(closed) = closed(forest, passes) else {
-        return false;
-    };
+fn are_left(alloc: Global, closed: &Closed<Numbers>) -> bool {
     let pairs = match closed.pairs(alloc) {
         Ok(pairs) => Ok(pairs),
         Err(_) => closed.pairs(alloc),
@@ -103,6 +100,41 @@ fn a_refused_growth_leaves_all_as_it_was(rt: HostRuntime) -> Result<(), Fail> {
     assert!(rt; all_look(alloc, &forest, &mut first));
     passes.push(first)?;
     passes.push(second)?;
-    assert!(rt; are_left(alloc, forest, passes));
+    let closed = closed(forest, passes).ok_or("a pass is missing")?;
+    assert!(rt; are_left(alloc, &closed));
+    Ok(())
+}
+
+/// The pairs that were put in above.
+const PAIRS: [(u64, u64); LAST as usize] = [(1, 1), (2, 2), (3, 3), (4, 4), (5, 5), (6, 6)];
+
+/// A dictionary that begins with them, made once more where there was no memory.
+fn begun(alloc: Global) -> Result<Opened, PairsFault>
+    ensures { IfOk result (λ r. AreNew r.0 r.1.items) }
+{
+    match Forest::of_pairs(alloc, limits(1, 9, 9), &PAIRS) {
+        Err(PairsFault::NoMemory) => Forest::of_pairs(alloc, limits(1, 9, 9), &PAIRS),
+        opened => opened,
+    }
+}
+
+/// The next one, in the same way.
+fn next(alloc: Global, closed: &Closed<Numbers>) -> Result<Opened, PairsFault>
+    ensures { IfOk result (λ r. AreNew r.0 r.1.items) }
+{
+    match closed.renewed(alloc, limits(1, 9, 9)) {
+        Err(PairsFault::NoMemory) => closed.renewed(alloc, limits(1, 9, 9)),
+        opened => opened,
+    }
+}
+
+#[test]
+fn a_refused_beginning_loses_nothing(rt: HostRuntime) -> Result<(), Fail> {
+    let alloc = rt.alloc();
+    let (forest, pass) = alone(begun(alloc))?;
+    let first = forest.end(pass);
+    let (forest, pass) = alone(next(alloc, &first))?;
+    assert!(rt; are_left(alloc, &first));
+    assert!(rt; are_left(alloc, &forest.end(pass)));
     Ok(())
 }

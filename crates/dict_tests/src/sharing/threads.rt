@@ -94,7 +94,7 @@ fn is_told(out: Out, want: Option<u64>) -> Out {
 }
 
 /// Makes a call, again where it was contended.
-fn reply_of<B: FixedBalance>(
+pub(super) fn reply_of<B: FixedBalance>(
     alloc: Global,
     forest: &Forest<Numbers<B>>,
     pass: &mut Pass<Numbers<B>>,
@@ -252,7 +252,7 @@ fn weight(key: u64, value: Option<u64>) -> u64 {
 
 /// The key that a call has changed, if it replies this, with the value that the key had, and the
 /// one that it has now.
-fn changed(
+pub(super) fn changed(
     call: Call<u64, u64>,
     reply: &Reply<u64, u64>,
 ) -> Option<(u64, Option<u64>, Option<u64>)> {
@@ -329,7 +329,7 @@ fn schedule_all<B: FixedBalance>(
 }
 
 /// A number that depends on all of this one.
-fn stirred(number: u64) -> u64 {
+pub(super) fn stirred(number: u64) -> u64 {
     number.wrapping_mul(11_400_714_819_323_198_485) / 65_536
 }
 
@@ -389,11 +389,11 @@ fn make_rounds<B: FixedBalance>(
 }
 
 /// The passes, and what came out.
-fn part<B: FixedBalance>(
+pub(super) fn part<B: FixedBalance, T: Drop>(
     alloc: Global,
     forest: &Forest<Numbers<B>>,
-    workers: Vec<(Pass<Numbers<B>>, Outs)>,
-) -> Result<(Vec<Pass<Numbers<B>>>, Vec<Outs>), AllocError>
+    workers: Vec<(Pass<Numbers<B>>, T)>,
+) -> Result<(Vec<Pass<Numbers<B>>>, Vec<T>), AllocError>
     requires { All (λ w. IsOf forest.now w.0) workers.items }
     ensures { IfOk result (λ r. All (IsOf forest.now) r.0.items) }
 {

@@ -1,4 +1,4 @@
-use Rattle.std.proofs.Common.{List, Option, ℕ, [], ◌∷◌, ◌++◌, sym}
+use Rattle.std.proofs.Common.{[], ◌∷◌, ◌++◌, sym}
 use Rattle.std.proofs.lemmas.List.Elements.{All-head, All-rest, All-same, All-push}
 use Rattle.forest.specs.Passes.{PassView, IsOf}
 use Rattle.dict_tests.proofs.sharing.threads.part.Goals as goal
@@ -9,7 +9,7 @@ loop-pass-preserved g c =
     let inv = c.loop-pass.invariant in (
       tt,
       tt,
-      All-rest (λ (w : PassView × List (Option (Option ℕ))). P w.0) (c.in-Some.pass, c.in-Some.outs) c.next.new.self.rest.items c.loop-pass.pass-iterator.rest.items c.in-Some.ensures.steps.0 inv.2,
+      All-rest (λ (w : PassView × g.row.T.Denot). P w.0) (c.in-Some.pass, c.in-Some.outs) c.next.new.self.rest.items c.loop-pass.pass-iterator.rest.items c.in-Some.ensures.steps.0 inv.2,
       All-same P c.push.new.self.items (c.loop-pass.passes.items ++ c.in-Some.pass ∷ []) c.in_ok-push.ensures.items (All-push P c.loop-pass.passes.items c.in-Some.pass inv.3
-          (All-head (λ (w : PassView × List (Option (Option ℕ))). P w.0) (c.in-Some.pass, c.in-Some.outs) c.next.new.self.rest.items (All-same (λ (w : PassView × List (Option (Option ℕ))). P w.0) _ _ (sym c.in-Some.ensures.steps.0) inv.2))),
+          (All-head (λ (w : PassView × g.row.T.Denot). P w.0) (c.in-Some.pass, c.in-Some.outs) c.next.new.self.rest.items (All-same (λ (w : PassView × g.row.T.Denot). P w.0) _ _ (sym c.in-Some.ensures.steps.0) inv.2))),
     )
