@@ -20,7 +20,7 @@ module _ (P : Layout → History → ℕ → Type 0) (c : Call) (h : History) (l
   helped_scx (running x) = in_progress x
   helped_scx (own o f m) = own_scx o f
 
-  helped_member : (j : ℕ) → j < count h s → MayBeHelped P c h s → TouchesNode P c h (member h s j)
+  pub helped_member : (j : ℕ) → j < count h s → MayBeHelped P c h s → TouchesNode P c h (member h s j)
   helped_member j i (own o f m) = was_so (m j i)
   helped_member j i (running x) = covered s record {
     moment = x.moment;
@@ -36,7 +36,7 @@ module _ (P : Layout → History → ℕ → Type 0) (c : Call) (h : History) (l
       here = scx_since c.layout h x.moment s l x.within (real c h s l x) x.was.named (Member j) tt
 
   -- the node of the field is one of them
-  field_within : (m : Reading) → m.scx ≡ s → Marks h m (count h m.scx) → field_index h s < count h s
+  pub field_within : (m : Reading) → m.scx ≡ s → Marks h m (count h m.scx) → field_index h s < count h s
   field_within m e k = rw (sym e) ((facts c.layout h l).about m.scx k.started.named.0 k.started.real k.started.named.1).planned.field
 
 module _ (P : Layout → History → ℕ → Type 0) (allows : Layout → History → ℕ → Type 0) (c : Call) (h : History) (l : Lawful c.layout h) (m : Reading) (may : MayBeHelped P c h m.scx) where

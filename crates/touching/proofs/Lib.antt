@@ -10,3 +10,9 @@ mod Reading
 mod Calling
 mod Fresh
 mod Dead
+mod Storing
+mod Stepping
+mod Standing
+mod EditLooks
+mod OwnScx
+mod Editing

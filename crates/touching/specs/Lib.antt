@@ -4,3 +4,4 @@ pub mod Reads
 pub mod Unmarked
 pub mod Fresh
 pub mod Rests
+pub mod Steps

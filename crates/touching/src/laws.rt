@@ -1,12 +1,13 @@
 //! What the machines of calls touch.
 ghost use Rattle.std.specs.Prelude.{◌≡◌, ◌≢◌, ℕ, List, true};
+ghost use Rattle.arena.specs.declared.step.Row.{Row};
 ghost use Rattle.arena.specs.declared.step.Step.{Step};
 ghost use Rattle.arena.specs.declared.word.Word.{Word};
 ghost use Rattle.arena.specs.Fills.{IsTakenNode};
 ghost use Rattle.arena.specs.History.{History, Extends, value};
 ghost use Rattle.arena.specs.Lawful.{Lawful};
 ghost use Rattle.arena.specs.Log.{log, is_final};
-ghost use Rattle.arena.specs.Machines.{Call, IsRun};
+ghost use Rattle.arena.specs.Machines.{Call, IsRun, row_of};
 ghost use Rattle.arena.specs.Words.{marked, state};
 ghost use Rattle.arena.specs.declared.layout.Layout.{Layout};
 ghost use Rattle.help.specs.Help.Known.{HelpWaits};
@@ -31,15 +32,16 @@ ghost use Rattle.order.specs.declared.range.Range.{Range};
 ghost use Rattle.order.specs.declared.run.ReadRun.{ReadRun};
 ghost use Rattle.template.specs.Common.{Rule};
 ghost use Rattle.tree.specs.declared.key_edit.KeyEdit.{KeyEdit};
-ghost use Rattle.dict.specs.Inner.{GoalBy, edit_means};
+ghost use Rattle.dict.specs.Inner.{GoalBy, edit_means, inner};
 ghost use Rattle.dict.specs.DictKnown.{DictWaits};
 ghost use Rattle.dict.specs.Known.{MapWaits};
 ghost use Rattle.dict.specs.Words.{IsWordOf};
 ghost use Rattle.dict.specs.declared.run.MapRun.{MapRun};
 ghost use Rattle.touching.specs.Fresh.{WasNamedInCall};
-ghost use Rattle.touching.specs.Kinds.{IsInTree, IsNotFinal, IsPresent};
+ghost use Rattle.touching.specs.Kinds.{IsEditOrGet, IsInTree, IsNotFinal, IsPresent};
 ghost use Rattle.touching.specs.Unmarked.{CoversUnmarked};
-ghost use Rattle.touching.specs.Rests.{AllHaveRested, AreLetGo, IsNamedByFinal};
+ghost use Rattle.touching.specs.Rests.{AllHaveRested, AreLetGo, HasRestedSince, IsNamedByFinal};
+ghost use Rattle.touching.specs.Steps.{AllHavePaused, HasPaused, IsMapCall, IsMapStep, IsNotAtNode, IsNotAtScx, MayComeThere, OfEachStep, StoresUnmarked};
 ghost use Rattle.touching.specs.Touches.{MayBeHelped, Touches, TouchesNode, TouchesScx, WasCovered, WasSo, WereSo};
 
 use arena::Shape;
@@ -72,7 +74,7 @@ pub fn parts_touch<S: Shape>()
 /// learns this from its contract.
 pub fn machines_touch()
     ensures edits { (m : UpdateRun (KeyEdit GoalBy Rule) UpdateAt) (c : Call) (h : History)
-        (s : Step) → UpdateWaits edit_means m c h s → Touches IsPresent c h s.word }
+        (s : Step) → UpdateWaits edit_means m c h s → Touches (λ lay. IsInTree) c h s.word }
     ensures unmarked { (m : UpdateRun (KeyEdit GoalBy Rule) UpdateAt) (c : Call) (h : History)
         (s : Step) → UpdateWaits edit_means m c h s → CoversUnmarked c h m.at }
     ensures neighbours { (m : ReadRun Neighbour) (c : Call) (h : History) (s : Step)
@@ -85,6 +87,8 @@ pub fn machines_touch()
 pub fn calls_touch()
     ensures touches { (tries : ℕ) (m : MapRun) (c : Call) (h : History) (s : Step)
         → MapWaits tries m c h s → Touches IsPresent c h s.word }
+    ensures in_tree { (tries : ℕ) (m : MapRun) (c : Call) (h : History) (s : Step)
+        → IsEditOrGet (inner m) → MapWaits tries m c h s → Touches (λ lay. IsInTree) c h s.word }
     ensures present { (c : Call) (h : History) (w : Word) → IsMapRun c.layout h
         → Touches IsPresent c h w → Touches IsNotFinal c h w }
 {}
@@ -95,6 +99,23 @@ pub fn dictionaries_touch<K: WordKey, V: WordValue>()
     ensures { (m : DictRun K V) (c : Call) (h : History) (s : Step)
         → DictWaits (IsWordOf K.is_valid K.word_of) (IsWordOf V.is_valid V.word_of) m c h s
         → Touches IsPresent c h s.word }
+{}
+
+/// What a whole call of a map comes to, step by step: each word is one that it may come to then, and
+/// what it stores in a `v` word had no mark at a moment of it. It does nothing; a caller learns this
+/// from its contract.
+pub fn steps_touch()
+    ensures touches { (c : Call) (h : History) → IsMapCall c h
+        → OfEachStep (MayComeThere IsPresent) c h }
+    ensures stores { (c : Call) (h : History) (r : Row) → IsMapStep c h r → StoresUnmarked c h r }
+{}
+
+/// Each step of a call of a dictionary is one of a call of a map. It does nothing; a caller learns
+/// this from its contract.
+pub fn dictionaries_step<K: WordKey, V: WordValue>()
+    ensures { (m : DictRun K V) (c : Call) (h : History) (s : Step)
+        → DictWaits (IsWordOf K.is_valid K.word_of) (IsWordOf V.is_valid V.word_of) m c h s
+        → IsMapStep c h (row_of c s h) }
 {}
 
 /// What a call touches no more of what was out as it began: a final node only where an SCX-record
@@ -122,4 +143,18 @@ pub fn dead_is_untouched()
         → ¬ TouchesScx IsNotFinal c h s }
     ensures look { (lay : Layout) (h : History) (s : ℕ) → Lawful lay h → s ≢ 0 → AreLetGo h s
         → IsNamedByFinal lay h s }
+{}
+
+/// What no step of a call of a map comes to. A marked node, if all passes have rested between two
+/// calls since it was marked, and have filled since what their calls fill; a finished SCX-record
+/// that no node names but final ones. It does nothing; a caller learns this from its contract.
+pub fn dead_is_out_of_reach()
+    ensures rested { (lay : Layout) (h start t : History) (n o : ℕ) → Lawful lay h
+        → Extends h start → n ≢ 0 → HasPaused lay h start t o → HasRestedSince lay h start t n o }
+    ensures nodes { (c : Call) (h t : History) (n : ℕ) → IsMapRun c.layout h → Extends c.start t
+        → n ≢ 0 → value t (marked n) ≢ 0 → IsTakenNode c.start n
+        → AllHavePaused c.layout h c.start t → IsMapCall c h → OfEachStep (IsNotAtNode n) c h }
+    ensures scx { (c : Call) (h t : History) (s : ℕ) → IsMapRun c.layout h → Extends c.start t
+        → s ≢ 0 → value t (state s) ≢ 0 → IsNamedByFinal c.layout t s → IsMapCall c h
+        → OfEachStep (IsNotAtScx s) c h }
 {}
