@@ -18,7 +18,6 @@ use Rattle.edits.specs.declared.update.UpdateRun.{UpdateRun}
 use Rattle.edits.specs.Edits.{EditMeaning}
 use Rattle.edits.specs.Known.{Looks, Reads, Scxs, UpdateWaitsAt, UpdateWaits}
 use Rattle.edits.specs.Pieces.{nth_node}
-use Rattle.order.specs.Reads.{AreSnapped}
 use Rattle.touching.specs.Kinds.{IsInTree}
 use Rattle.touching.specs.Reads.{IsLookedAt, ReadsSeen}
 use Rattle.touching.specs.Touches.{Touches, own_node, was_so}
@@ -26,7 +25,7 @@ use Rattle.touching.proofs.Changing.{scx_begun}
 use Rattle.touching.proofs.EditLooks.{LooksThere, snapped_there}
 use Rattle.touching.proofs.Looking.{llx_in_call}
 use Rattle.touching.proofs.Moments.{been_wider}
-use Rattle.touching.proofs.OwnScx.{InTree, scx_there}
+use Rattle.touching.proofs.OwnScx.{InTree, WereSnapped, scx_there}
 use Rattle.touching.proofs.Present.{in_tree_kind}
 use Rattle.touching.proofs.Standing.{WasThere, passed_there, two_there}
 use Rattle.touching.proofs.Updating.{try_since}
@@ -52,7 +51,7 @@ module _ {E : Type 0} (e : EditMeaning E) (there : LooksThere e) (seen : ReadsSe
   in_call : (n : ℕ) → WasThere try h n → WasThere c h n
   in_call n x = been_wider h begin c.start _ since x
 
-  snapped : (f : Found) (scx : ScxRun) (b : History) → Scxs e m try h f scx b → AreSnapped c b scx.update.snaps
+  snapped : (f : Found) (scx : ScxRun) (b : History) → Scxs e m try h f scx b → WereSnapped c b scx.update.snaps
   snapped f scx b x i p = let u = x.usable i p in record { moment = u.moment; within = u.within; since = ends_trans u.moment begin c.start u.since since; stood = u.stood; is = u.is }
 
   there_at : (at : UpdateAt) (s : Step) → UpdateWaitsAt e m try h s at → Touches InTree c h s.word

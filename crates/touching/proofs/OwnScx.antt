@@ -1,6 +1,6 @@
 -- An SCX of an edit of a map comes to its own SCX-record, and to nodes that were in the tree, or in
 -- the trie, at a moment of the call, or that an SCX-record covers that was in progress at one.
-use Rattle.std.proofs.Common.{◌≡◌, ◌≢◌, ◌<◌, ℕ, false, ◌⊎◌, inl, inr, ⊎_elim, length, refl, sym, ◌∙◌, ap, subst, arith}
+use Rattle.std.proofs.Common.{◌≡◌, ◌≢◌, ◌<◌, ℕ, false, List, ◌⊎◌, inl, inr, ⊎_elim, length, refl, sym, ◌∙◌, ap, subst, arith}
 use native.Mathlib.Decide.{ℕ_discrete}
 use Rattle.histories.specs.Common.{Layout, Row, Step, ScxNo, State, MemberIndex, member_index, History, Opened, ◌⊳◌, Extends, value, info, state, count, count_of, field_index, member, seen, IsNamedScx, IsTakenScx, IsInProgress, WasInTheWay, Lawful, Call, begun_at}
 use Rattle.arena.proofs.Lemmas.{ends_self, ends_trans, held_back}
@@ -14,13 +14,14 @@ use Rattle.ordered_map.specs.Runs.{IsMapRun}
 use Rattle.ordered_map.specs.TreeShape.{TreeAllows}
 use Rattle.ordered_map.specs.TreeWords.{is_leaf}
 use Rattle.ordered_map.proofs.MapLemmas.{run_since}
+use Rattle.ordered_map.specs.Paths.{WasInTree}
 use Rattle.prims.specs.Laws.InTheWay.{HasBeen, been_more}
+use Rattle.template.specs.Common.{IsSnapshot}
 use Rattle.prims.specs.Scx.Known.{Job, HasFilled, ScxWaitsAt}
 use Rattle.prims.specs.Snap.{snap_at}
 use Rattle.prims.specs.declared.snap.Snap.{Snap}
 use Rattle.prims.specs.declared.scx.ScxAt.{ScxAt}
 use Rattle.prims.specs.declared.scx.ScxAt.TheVariants as at_scx
-use Rattle.order.specs.Reads.{AreSnapped, HasSnapped}
 use Rattle.touching.specs.Kinds.{IsInTree}
 use Rattle.touching.specs.Touches.{Touches, TouchesNode, TouchesScx, WasInProgress, covered, own_scx, running, was_so}
 use Rattle.touching.proofs.Changing.{fill_at, untaken}
@@ -51,11 +52,22 @@ begun_since lay (r ⊳ h) b s l (inr e) free p = go (effect lay h r l) (λ q. be
     go (update u w) before = before (p.0, update_held f w p.0 s p.1)
     go (freeze u j w) before = ⊎_elim (λ q. now u j w q.0) (λ q. before (p.0, q)) (freeze_held f w p.0 s p.1)
 
+-- the snapshot was right at a moment of the call, by which its node had been in the tree
+pub record WasSnapped (c : Call) (h : History) (snap : Snap) : Type 0 where
+  pub moment : History
+  pub within : Extends h moment
+  pub since : Extends moment c.start
+  pub stood : WasInTree moment snap.node.0
+  pub is : IsSnapshot c.layout moment snap.node.0 snap
+
+abbrev pub WereSnapped : Call → History → List Snap → Type 0
+WereSnapped c h snaps = (i : ℕ) → i < length snaps → WasSnapped c h (snap_at snaps i)
+
 abbrev pub InTree : Layout → History → ℕ → Type 0
 InTree lay h n = IsInTree h n
 
 -- the SCX began at the moment `b` of the call, and its snapshots were taken in the call before
-module _ (c : Call) (b h : History) (run : IsMapRun c.layout h) (since : Extends b c.start) (later : Extends h b) (m : Job) (snapped : AreSnapped c b m.update.snaps) where
+module _ (c : Call) (b h : History) (run : IsMapRun c.layout h) (since : Extends b c.start) (later : Extends h b) (m : Job) (snapped : WereSnapped c b m.update.snaps) where
   module _ (s : ℕ) (filled : HasFilled (begun_at c b) h s m.call m.update) where
     free : ¬ IsTakenScx c.start s
     free = untaken InTree TreeAllows c b h run.1 since m s filled.way.free
@@ -84,7 +96,7 @@ module _ (c : Call) (b h : History) (run : IsMapRun c.layout h) (since : Extends
       in_list : 0 < length m.update.snaps
       in_list = subst (λ k. 0 < k) few some
 
-      u : HasSnapped c b first_snap
+      u : WasSnapped c b first_snap
       u = snapped 0 in_list
 
       here : Extends h u.moment
