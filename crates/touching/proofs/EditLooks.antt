@@ -1,8 +1,7 @@
 -- Each node at which an edit of a map looks, or which it reads, was in the tree, or in the trie, at
 -- a moment of its call.
-use Rattle.std.proofs.Common.{◌≡◌, ◌≢◌, ◌<◌, ℕ, zero, suc, Bool, true, false, ◌==◌, if◌then◌else◌, inl, inr, List, [], ◌∷◌, length, take, Option, Some, None, refl, sym, ◌∙◌, subst, ap, arith}
-use Rattle.histories.specs.Common.{NodeNo, Side, Left, Right, History, Extends, value, Call}
-use Rattle.arena.proofs.Lemmas.{ends_self}
+use Rattle.std.proofs.Common.{◌≡◌, ◌≢◌, ◌<◌, ℕ, zero, suc, Bool, true, false, ◌==◌, if◌then◌else◌, List, [], ◌∷◌, length, take, Option, Some, None, refl, sym, subst, ap, arith}
+use Rattle.histories.specs.Common.{NodeNo, Side, Left, Right, History, value, Call}
 use Rattle.ordered_map.specs.Runs.{IsMapRun}
 use Rattle.prims.specs.Snap.{child_of, snap_at}
 use Rattle.prims.specs.declared.snap.Snap.{Snap}
@@ -26,7 +25,7 @@ use Rattle.tree.specs.Laws.Take.Sound.{grand_turned, parent_snap, parent_turned,
 use Rattle.tree.specs.KeyEdit.Means.{is_trie_end, key_at, key_means, leaving, putting, popping, taking}
 use Rattle.tree.specs.Pop.Means.{end_looks, pop_means, pop_plan}
 use Rattle.tree.specs.Put.Means.{next_node, put_means, put_way, strays}
-use Rattle.tree.specs.Take.Means.{has_more, join_looks, take_means, take_plan, take_way, take_work}
+use Rattle.tree.specs.Take.Means.{has_more, join_looks, take_means, take_plan, take_work}
 use Rattle.touching.specs.Kinds.{IsInTree}
 use Rattle.touching.proofs.Standing.{WasThere, child_now, passed_since, passed_there, two_there}
 use Rattle.ordered_map.proofs.MapLemmas.{run_since}

@@ -1,10 +1,9 @@
 -- What an update touches, if what its edit looks at was there.
-use Rattle.std.proofs.Common.{◌≡◌, ◌<◌, ℕ, inl, inr, sym, subst}
+use Rattle.std.proofs.Common.{◌<◌, ℕ, inl, inr, sym, subst}
 use Rattle.histories.specs.Common.{Step, NodeNo, SettledPart, History, Extends, Call, begun_at}
 use Rattle.arena.proofs.Lemmas.{ends_trans}
 use Rattle.prims.proofs.Lemmas.{taken_node_since}
 use Rattle.prims.specs.Scx.Known.{job_of}
-use Rattle.prims.specs.Snap.{snap_at}
 use Rattle.prims.specs.declared.llx.LlxRun.{LlxRun}
 use Rattle.prims.specs.declared.scx.ScxRun.{ScxRun}
 use Rattle.ordered_map.specs.TreeShape.{TreeAllows}
@@ -18,7 +17,6 @@ use Rattle.edits.specs.declared.update.UpdateRun.{UpdateRun}
 use Rattle.edits.specs.Edits.{EditMeaning}
 use Rattle.edits.specs.Known.{Looks, Reads, Scxs, UpdateWaitsAt, UpdateWaits}
 use Rattle.edits.specs.Pieces.{nth_node}
-use Rattle.touching.specs.Kinds.{IsInTree}
 use Rattle.touching.specs.Reads.{IsLookedAt, ReadsSeen}
 use Rattle.touching.specs.Touches.{Touches, own_node, was_so}
 use Rattle.touching.proofs.Changing.{scx_begun}

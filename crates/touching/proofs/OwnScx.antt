@@ -1,8 +1,8 @@
 -- An SCX of an edit of a map comes to its own SCX-record, and to nodes that were in the tree, or in
 -- the trie, at a moment of the call, or that an SCX-record covers that was in progress at one.
-use Rattle.std.proofs.Common.{◌≡◌, ◌≢◌, ◌<◌, ℕ, false, List, ◌⊎◌, inl, inr, ⊎_elim, length, refl, sym, ◌∙◌, ap, subst, arith}
+use Rattle.std.proofs.Common.{◌≡◌, ◌≢◌, ◌<◌, ℕ, false, List, inl, inr, ⊎_elim, length, refl, sym, ◌∙◌, ap, subst, arith}
 use native.Mathlib.Decide.{ℕ_discrete}
-use Rattle.histories.specs.Common.{Layout, Row, Step, ScxNo, State, MemberIndex, member_index, History, Opened, ◌⊳◌, Extends, value, info, state, count, count_of, field_index, member, seen, IsNamedScx, IsTakenScx, IsInProgress, WasInTheWay, Lawful, Call, begun_at}
+use Rattle.histories.specs.Common.{Layout, Step, ScxNo, State, member_index, History, Opened, ◌⊳◌, Extends, value, info, state, count, count_of, field_index, member, seen, IsNamedScx, IsTakenScx, IsInProgress, WasInTheWay, Lawful, Call, begun_at}
 use Rattle.arena.proofs.Lemmas.{ends_self, ends_trans, held_back}
 use Rattle.histories.proofs.Lemmas.{Effect, Facts, FreezeWins, blame_info, effect, facts_before, freeze, freeze_held, freeze_in_progress, freeze_keeps_scx, lawful_since, lawful_tail, named_scx_taken, quiet, update, update_held}
 use Rattle.help.specs.Allowed.{IsPrepared}
@@ -26,7 +26,6 @@ use Rattle.touching.specs.Kinds.{IsInTree}
 use Rattle.touching.specs.Touches.{Touches, TouchesNode, TouchesScx, WasInProgress, covered, own_scx, running, was_so}
 use Rattle.touching.proofs.Changing.{fill_at, untaken}
 use Rattle.touching.proofs.Helping.{field_within, helped_member}
-use Rattle.touching.proofs.Moments.{been_wider}
 use Rattle.touching.proofs.Standing.{fork_now, fork_then}
 
 -- between a moment at which no info word had named it and one at which one had, an SCX-record was

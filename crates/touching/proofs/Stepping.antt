@@ -1,13 +1,12 @@
 -- What a call of a map comes to at its steps, and to what it comes at none of them.
-use Rattle.std.proofs.Common.{◌≡◌, ◌≢◌, ◌<◌, ℕ, true, inr, sym, subst}
-use Rattle.histories.specs.Common.{Layout, Row, Step, Word, History, ◌⊳◌, Extends, value, marked, state, node, scx, IsTakenNode, Lawful, Call, row_of}
+use Rattle.std.proofs.Common.{◌≡◌, ◌≢◌, ℕ, inr, sym, subst}
+use Rattle.histories.specs.Common.{Row, Word, History, ◌⊳◌, Extends, value, marked, state, IsTakenNode, Call}
 use Rattle.arena.proofs.Lemmas.{ends_self, ends_trans}
-use Rattle.histories.proofs.Lemmas.{lawful_since}
 use Rattle.ordered_map.specs.Runs.{IsMapRun}
 use Rattle.ordered_map.proofs.MapLemmas.{run_since}
 use Rattle.touching.specs.Kinds.{IsNotFinal, IsPresent}
 use Rattle.touching.specs.Rests.{AllHaveRested, IsNamedByFinal}
-use Rattle.touching.specs.Steps.{AllHavePaused, HasPaused, IsMapCall, IsMapStep, IsNotAtNode, IsNotAtScx, MayComeThere, OfEachStep}
+use Rattle.touching.specs.Steps.{AllHavePaused, IsMapCall, IsMapStep, IsNotAtNode, IsNotAtScx, MayComeThere, OfEachStep}
 use Rattle.touching.specs.Touches.{Touches}
 use Rattle.touching.proofs.Calling.{map_touches}
 use Rattle.touching.proofs.Dead.{dead_node, dead_scx}

@@ -10,7 +10,7 @@ use Rattle.help.specs.Laws.Help.Lawful.{help_fills_not}
 use Rattle.ordered_map.specs.TreeShape.{TreeAllows}
 use Rattle.prims.proofs.Lemmas.{llx_fills_not}
 use Rattle.prims.specs.Laws.InTheWay.{HasBeen}
-use Rattle.prims.specs.Scx.Known.{fill_step, job_of, part_at, ScxWaitsAt}
+use Rattle.prims.specs.Scx.Known.{fill_step, job_of, ScxWaitsAt}
 use Rattle.prims.specs.declared.scx.ScxAt.{ScxAt}
 use Rattle.prims.specs.declared.scx.ScxAt.TheVariants as at_scx
 use Rattle.prims.specs.declared.scx.ScxRun.{ScxRun}
@@ -18,7 +18,7 @@ use Rattle.template.specs.Common.{Rule}
 use Rattle.template.specs.declared.walk.Found.{Found}
 use Rattle.template.proofs.Lemmas.{walk_fills_not}
 use Rattle.tree.specs.declared.key_edit.KeyEdit.{KeyEdit}
-use Rattle.edits.specs.Known.{piece_fill_step, Tries, UpdateWaitsAt, UpdateWaits}
+use Rattle.edits.specs.Known.{piece_fill_step, UpdateWaitsAt, UpdateWaits}
 use Rattle.edits.specs.declared.update.UpdateAt.{UpdateAt}
 use Rattle.edits.specs.declared.update.UpdateAt.TheVariants.{Start, Walk, Guard, Look, Read, Fill, Scx as AtScx}
 use Rattle.edits.specs.declared.update.UpdateRun.{UpdateRun}

@@ -1,38 +1,21 @@
 -- A try of an update begins in its call, and what its SCX is to cover had no mark in it.
-use Rattle.std.proofs.Common.{◌<◌, ℕ, inl, inr, length, sym, subst}
-use Rattle.histories.specs.Common.{Layout, Step, NodeNo, SettledPart, History, Extends, Call, begun_at}
-use Rattle.arena.proofs.Lemmas.{ends_self, ends_trans}
-use Rattle.prims.proofs.Lemmas.{taken_node_since}
+use Rattle.std.proofs.Common.{◌<◌, ℕ, length}
+use Rattle.histories.specs.Common.{Step, History, Extends, Call, begun_at}
+use Rattle.arena.proofs.Lemmas.{ends_trans}
 use Rattle.prims.specs.Snap.{snap_at}
-use Rattle.prims.specs.declared.llx.LlxRun.{LlxRun}
 use Rattle.prims.specs.declared.scx.ScxRun.{ScxRun}
-use Rattle.prims.specs.declared.snap.Snap.{Snap}
-use Rattle.ordered_map.specs.Runs.{IsMapRun}
-use Rattle.ordered_map.specs.Paths.{WasInTree}
 use Rattle.ordered_map.specs.TreeShape.{TreeAllows}
-use Rattle.template.specs.Common.{IsSnapshot}
-use Rattle.template.specs.FoundLeaf.{path_key}
 use Rattle.template.specs.declared.walk.Found.{Found}
 use Rattle.template.specs.declared.walk.WalkAt.{WalkAt}
 use Rattle.template.specs.declared.walk.WalkAt.TheVariants.{Start as WalkStart, Root, Head, Key, Child, More, Pair, Value, High}
-use Rattle.template.proofs.Lemmas.{found_trail}
-use Rattle.edits.specs.declared.edit.Work.{Work}
 use Rattle.edits.specs.declared.update.UpdateAt.{UpdateAt}
 use Rattle.edits.specs.declared.update.UpdateAt.TheVariants.{Start, Walk, Guard, Look, Read, Fill, Scx}
 use Rattle.edits.specs.declared.update.UpdateRun.{UpdateRun}
 use Rattle.edits.specs.Edits.{EditMeaning}
-use Rattle.edits.specs.Known.{HasSnappedAfterWalk, HasSnappedInCall, Looks, Reads, Scxs, UpdateWaitsAt, UpdateWaits, Tries}
-use Rattle.edits.specs.Pieces.{nth_node}
-use Rattle.edits.specs.Sound.{LooksWell}
+use Rattle.edits.specs.Known.{HasSnappedInCall, UpdateWaitsAt, UpdateWaits, Tries}
 use Rattle.edits.specs.Tries.{IsTryAt}
-use Rattle.touching.specs.Reads.{IsLookedAt, ReadsSeen}
 use Rattle.touching.specs.Unmarked.{CoversUnmarked, WasUnmarked}
-use Rattle.touching.specs.Touches.{WasSo, was_so, own_node, Touches, WereSo}
-use Rattle.touching.proofs.Moments.{been_wider}
-use Rattle.touching.proofs.Present.{IsKind, two_so}
-use Rattle.touching.proofs.Walks.{passed_so, walk_in_call}
-use Rattle.touching.proofs.Looking.{llx_in_call}
-use Rattle.touching.proofs.Changing.{scx_in_call, scx_begun}
+use Rattle.touching.proofs.Changing.{scx_begun}
 
 -- a try begins at a moment of its call
 tried_since : (c : Call) (begin h : History) (limit left : ℕ) (at : WalkAt) → IsTryAt c begin h limit left at → Extends begin c.start

@@ -1,7 +1,7 @@
 -- Which rows are steps of calls of maps: what a call has come to by them all the way, and what a
 -- pass has filled by them.
 use Rattle.std.specs.Prelude.{◌≡◌, ◌<◌, ℕ}
-use Rattle.histories.specs.Common.{Layout, NodeWord, ScxWord, Member, Word, Fill, Row, Step, History, ◌⊳◌, Extends, node, scx, Call, row_of}
+use Rattle.histories.specs.Common.{Layout, NodeWord, ScxWord, Member, Fill, Row, Step, History, ◌⊳◌, Extends, node, scx, Call, row_of}
 use Rattle.prims.specs.Moments.{AreFinished}
 use Rattle.dict.specs.Known.{MapWaits}
 use Rattle.dict.specs.declared.run.MapRun.{MapRun}
