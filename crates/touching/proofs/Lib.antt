@@ -16,3 +16,5 @@ mod Standing
 mod EditLooks
 mod OwnScx
 mod Editing
+mod Begun
+mod Leaving

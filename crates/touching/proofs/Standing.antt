@@ -45,11 +45,11 @@ two_there c h run since = record { moment = h; within = ends_self h; since = sin
 
 -- The children of a fork
 
-has_root : (t : Tree) → Has t (root t)
+pub has_root : (t : Tree) → Has t (root t)
 has_root (Leaf n) = refl
 has_root (Fork n a b) = inl refl
 
-has_below : (f : Word → ℕ) (t : Tree) (lo hi n : ℕ) (side : Side) → Shows f lo hi t → Has t n → is_leaf f n ≡ false → Has t (f (child n side))
+pub has_below : (f : Word → ℕ) (t : Tree) (lo hi n : ℕ) (side : Side) → Shows f lo hi t → Has t n → is_leaf f n ≡ false → Has t (f (child n side))
 has_below f (Leaf m) lo hi n side s e d = absurd (let x : true ≡ false = sym s.leaf ∙ rw (← e) at d in cc)
 has_below f (Fork m a b) lo hi n Left s (inl e) d = let q : f (child n Left) ≡ root a = rw (← e) s.0.left in inr (inl (subst (Has a) (sym q) (has_root a)))
 has_below f (Fork m a b) lo hi n Right s (inl e) d = let q : f (child n Right) ≡ root b = rw (← e) s.0.right in inr (inr (subst (Has b) (sym q) (has_root b)))
