@@ -88,7 +88,7 @@ module _ (c : Call) (h t : History) (n : ℕ) (l : Lawful c.layout h) (began : E
         go : Dec (value r.rest (state s) ≡ 0) → ⊥
         go (no d) = d (sym (state_since c.layout x.moment r.rest s lm later d) ∙ x.was.0.unfinished)
         go (yes z) =
-            let u : HasBeen x.moment r.rest (λ k. value k (marked n) ≡ 0) = r.unmarked s x.moment o.scx (λ taken. r.over s o.scx own_real taken z) x.within x.was.0 x.was.1 in
+            let u : HasBeen x.moment r.rest (λ k. value k (marked n) ≡ 0) = r.unmarked s x.moment o.scx (λ taken. r.over s o.scx own_real taken z) x.within x.was.0 (let k = x.was.1 in record { index = k.index; within = k.within; is = k.is }) in
             let m : value u.moment (marked n) ≡ 1 = marked_since c.layout u.moment t n (lawful_since c.layout x.moment u.moment lm u.within) (ends_trans u.moment r.rest t u.since r.since) (f.mark n mark) in
             let v = u.was in
             omega arith

@@ -18,3 +18,4 @@ mod OwnScx
 mod Editing
 mod Begun
 mod Leaving
+mod Reached

@@ -2,7 +2,7 @@
 -- the trie, at a moment of the call, or that an SCX-record covers that was in progress at one.
 use Rattle.std.proofs.Common.{◌≡◌, ◌≢◌, ◌<◌, ℕ, false, List, inl, inr, ⊎_elim, length, refl, sym, ◌∙◌, ap, subst, arith}
 use native.Mathlib.Decide.{ℕ_discrete}
-use Rattle.histories.specs.Common.{Layout, Step, ScxNo, State, member_index, History, Opened, ◌⊳◌, Extends, value, info, state, count, count_of, field_index, member, seen, IsNamedScx, IsTakenScx, IsInProgress, WasInTheWay, Lawful, Call, begun_at}
+use Rattle.histories.specs.Common.{Layout, Step, ScxNo, AllFrozen, State, member_index, History, Opened, ◌⊳◌, Extends, value, info, state, count, count_of, field_index, member, scx, seen, AreFrozen, IsNamedScx, IsTakenScx, IsInProgress, WasInTheWay, Lawful, Call, begun_at}
 use Rattle.arena.proofs.Lemmas.{ends_self, ends_trans, held_back}
 use Rattle.histories.proofs.Lemmas.{Effect, Facts, FreezeWins, blame_info, effect, facts_before, freeze, freeze_held, freeze_in_progress, freeze_keeps_scx, lawful_since, lawful_tail, named_scx_taken, quiet, update, update_held}
 use Rattle.help.specs.Allowed.{IsPrepared}
@@ -25,7 +25,9 @@ use Rattle.prims.specs.declared.scx.ScxAt.TheVariants as at_scx
 use Rattle.touching.specs.Kinds.{IsInTree}
 use Rattle.touching.specs.Touches.{Touches, TouchesNode, TouchesScx, WasInProgress, covered, own_scx, running, was_so}
 use Rattle.touching.proofs.Changing.{fill_at, untaken}
-use Rattle.touching.proofs.Helping.{field_within, helped_member}
+use Rattle.touching.proofs.Helping.{all_frozen, field_within, helped_member}
+use Rattle.touching.proofs.Moments.{been_wider}
+use Rattle.touching.proofs.Reached.{info_reached}
 use Rattle.touching.proofs.Standing.{fork_now, fork_then}
 
 -- between a moment at which no info word had named it and one at which one had, an SCX-record was
@@ -78,8 +80,8 @@ module _ (c : Call) (b h : History) (run : IsMapRun c.layout h) (since : Extends
     few = ap count_of filled.planned ∙ filled.over.count
 
     -- once it is named, it was in progress in the call
-    member_touched : IsNamedScx h s → (j : ℕ) → j < count h s → TouchesNode InTree c h (member h s j)
-    member_touched named j i = helped_member InTree c h run.1.lawful s j i (running in_call)
+    member_touched : IsNamedScx h s → (j : ℕ) → j < count h s → AreFrozen h s j → TouchesNode InTree c h (member h s j)
+    member_touched named j i frozen = helped_member InTree c h run.1.lawful s j i frozen (running in_call)
       where
         start : Extends h c.start
         start = ends_trans h b c.start later since
@@ -122,8 +124,7 @@ module _ (c : Call) (b h : History) (run : IsMapRun c.layout h) (since : Extends
 
       by_change : value h (info first_snap.node.0) ≢ value u.moment (info first_snap.node.0) → TouchesNode InTree c h first_snap.node.0
       by_change d =
-          let way : WasInTheWay h u.moment first_snap.node.0 (value h (info first_snap.node.0)) = blame_info c.layout h u.moment first_snap.node.0 run.1.lawful here d in
-          covered (value h (info first_snap.node.0)) record { moment = way.row ⊳ way.before; within = way.within; since = inr (ends_trans way.before u.moment c.start way.since u.since); was = (way.running, way.covers) }
+          covered (value h (info first_snap.node.0)) (been_wider h u.moment c.start _ u.since (info_reached c.layout h u.moment first_snap.node.0 run.1.lawful here d))
 
       first_touched : TouchesNode InTree c h (member h s 0)
       first_touched = subst (TouchesNode InTree c h) (sym node_is) (go (ℕ_discrete (value h (info (member h s 0))) (seen h s 0)))
@@ -137,8 +138,11 @@ module _ (c : Call) (b h : History) (run : IsMapRun c.layout h) (since : Extends
       own_word : TouchesScx InTree c h r.scx
       own_word = subst (TouchesScx InTree c h) (sym is) (own_scx filled.own free)
 
-      by_name : IsNamedScx h r.scx → (j : ℕ) → j < count h r.scx → TouchesNode InTree c h (member h r.scx j)
-      by_name = subst (λ v. IsNamedScx h v → (j : ℕ) → j < count h v → TouchesNode InTree c h (member h v j)) (sym is) member_touched
+      by_name : IsNamedScx h r.scx → (j : ℕ) → j < count h r.scx → AreFrozen h r.scx j → TouchesNode InTree c h (member h r.scx j)
+      by_name = subst (λ v. IsNamedScx h v → (j : ℕ) → j < count h v → AreFrozen h v j → TouchesNode InTree c h (member h v j)) (sym is) member_touched
+
+      by_flag : IsNamedScx h r.scx → value h (scx r.scx AllFrozen) ≡ 1 → (j : ℕ) → j < count h r.scx → TouchesNode InTree c h (member h r.scx j)
+      by_flag named flag j i = by_name named j i (all_frozen InTree c h run.1.lawful r.scx flag j i)
 
       by_ready : 0 < count h r.scx → IsPrepared TreeAllows c.layout c.pass h r.scx → TouchesNode InTree c h (member h r.scx 0)
       by_ready = subst (λ v. 0 < count h v → IsPrepared TreeAllows c.layout c.pass h v → TouchesNode InTree c h (member h v 0)) (sym is) first_touched
@@ -147,9 +151,9 @@ module _ (c : Call) (b h : History) (run : IsMapRun c.layout h) (since : Extends
       frozen_at j k x = go x.served (ℕ_discrete j 0)
         where
           go : IsServed TreeAllows c.layout c.pass h r.scx → Dec (j ≡ 0) → TouchesNode InTree c h (member h r.scx j)
-          go (inl started) _ = by_name started.named j x.within
+          go (inl started) _ = by_name started.named j x.within x.frozen
           go (inr ready) (yes e) = let i = x.within in subst (λ i. TouchesNode InTree c h (member h r.scx i)) (sym e) (by_ready (omega (arith, i)) ready)
-          go (inr ready) (no d) = by_name (member h r.scx 0, x.frozen 0 (omega (arith, d))) j x.within
+          go (inr ready) (no d) = by_name (member h r.scx 0, x.frozen 0 (omega (arith, d))) j x.within x.frozen
 
       help_there : (at : HelpAt) → HelpKnows TreeAllows c.layout c.pass h r at → Touches InTree c h (help_step h r.scx at).word
       help_there Start k = absurd k
@@ -160,10 +164,10 @@ module _ (c : Call) (b h : History) (run : IsMapRun c.layout h) (since : Extends
       help_there (AtAllFrozen j v) k = own_word
       help_there (AtAbort j v) k = own_word
       help_there AtSetFrozen k = own_word
-      help_there (AtMark j) k = by_name k.0.started.named (member_index j) k.1
+      help_there (AtMark j) k = by_flag k.0.started.named k.0.flag (member_index j) k.1
       help_there AtNew k = own_word
       help_there (AtOld v) k = own_word
-      help_there AtUpdate k = by_name k.started.named (field_index h r.scx) (field_within InTree c h run.1.lawful r.scx r refl k)
+      help_there AtUpdate k = by_flag k.started.named k.flag (field_index h r.scx) (field_within InTree c h run.1.lawful r.scx r refl k)
       help_there AtCommit k = own_word
 
   pub scx_there : (at : ScxAt) (s : Step) → ScxWaitsAt TreeAllows (begun_at c b) h m at s → Touches InTree c h s.word
