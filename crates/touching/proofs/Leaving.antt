@@ -452,7 +452,7 @@ above_index : (p : ℕ) (s : Side) → p ≡ above_plan s → field_index_of p �
 above_index p Left q = rw q refl
 above_index p Right q = rw q refl
 
-edit_index : (lay : Layout) (b : History) (u : ℕ) (e : MapEdit) → IsEdit lay b u e → field_index b u ≡ 0
+pub edit_index : (lay : Layout) (b : History) (u : ℕ) (e : MapEdit) → IsEdit lay b u e → field_index b u ≡ 0
 edit_index lay b u e (inl x) = (leaf_plan_says (plan b u) _ x.plan).0
 edit_index lay b u e (inr (inl x)) = (join_plan_says (plan b u) _ x.plan).0
 edit_index lay b u e (inr (inr x)) = go x.1

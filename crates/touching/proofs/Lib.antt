@@ -19,3 +19,4 @@ mod Editing
 mod Begun
 mod Leaving
 mod Reached
+mod Reaching
