@@ -1,15 +1,13 @@
 -- An SCX-record that an info word names has begun as an edit of a map. What its words said then
 -- they say since; and until its update wins, what it has frozen keeps its fields.
-use Rattle.std.proofs.Common.{◌≡◌, ◌≢◌, ◌<◌, ℕ, false, ◌⊎◌, inl, inr, ⊎_elim, refl, sym, ◌∙◌, ap, subst, arith, eqb, ◌/◌, ◌%◌}
+use Rattle.std.proofs.Common.{◌≡◌, ◌≢◌, ◌<◌, ℕ, false, inl, inr, ⊎_elim, refl, sym, ◌∙◌, ap, subst, arith, eqb, ◌/◌, ◌%◌}
 use native.Mathlib.Decide.{ℕ_discrete}
-use Rattle.histories.specs.Common.{Layout, Row, Side, SettledPart, Settled, Head, Child, Info, ScxWord, New, Plan, Member, Seen, Word, same_word, node, scx, info, child, state, History, Opened, ◌⊳◌, value, HasHeld, Extends, count, count_of, member, new, seen, plan, field_index, side_of, IsNamed, by_scx, by_field, IsNamedScx, IsBegin, IsRun, Shaped, Lawful, MayBegin, HasWon}
-use Rattle.arena.proofs.Lemmas.{ends_self, ends_trans, held_at, held_back, held_more, held_start, node_apart, node_word_apart, opening_info, value_apart, value_at}
-use Rattle.histories.proofs.Lemmas.{Effect, Facts, FreezeWins, IsFirst, IsScxFill, Still, UpdateWins, begins_once, effect, facts, facts_before, freeze, freeze_distinct, freeze_finds, freeze_held, freeze_in_progress, freeze_keeps_field, freeze_rest, lawful_since, lawful_tail, named_since, node_since, quiet, scx_since, shaped_begin, shaped_tail, state_since, still_since, update, update_held, update_holds, update_keeps_other, update_won, won_since}
+use Rattle.histories.specs.Common.{Layout, Row, Side, SettledPart, Settled, Head, Child, Info, ScxWord, New, Plan, Member, Seen, Word, same_word, node, scx, info, child, state, History, Opened, ◌⊳◌, value, HasHeld, Extends, count, count_of, member, new, seen, plan, field_index, side_of, IsNamed, by_scx, by_field, IsNamedScx, IsBegin, Shaped, Lawful, MayBegin, HasWon}
+use Rattle.arena.proofs.Lemmas.{ends_self, ends_trans, held_at, held_back, held_start, node_apart, node_word_apart, opening_info, value_apart, value_at}
+use Rattle.histories.proofs.Lemmas.{Effect, Facts, FreezeWins, IsScxFill, Still, UpdateWins, begins_once, effect, facts_before, freeze, freeze_distinct, freeze_finds, freeze_held, freeze_in_progress, freeze_keeps_field, freeze_rest, lawful_since, lawful_tail, named_since, node_since, quiet, scx_since, shaped_begin, shaped_tail, state_since, still_since, update, update_held, update_holds, update_keeps_other, update_won, won_since}
 use Rattle.ordered_map.specs.OrderedMap.{MapEdit}
-use Rattle.ordered_map.specs.Runs.{IsMapRun}
 use Rattle.ordered_map.specs.TreeShape.{MayEdit, TreeAllows}
 use Rattle.ordered_map.specs.TreeWords.{is_leaf}
-use Rattle.touching.proofs.Present.{one_first}
 
 pub record HasBegunEdit (lay : Layout) (h : History) (s : ℕ) : Type 0 where
   pub row : Row

@@ -16,7 +16,7 @@ use Rattle.touching.proofs.Fresh.{final_covered, finished_named}
 use Rattle.touching.proofs.Moments.{taken_scx_since}
 
 -- a mark stays
-marked_since : (lay : Layout) (h m : History) (n : ℕ) → Lawful lay h → Extends h m → value m (marked n) ≡ 1 → value h (marked n) ≡ 1
+pub marked_since : (lay : Layout) (h m : History) (n : ℕ) → Lawful lay h → Extends h m → value m (marked n) ≡ 1 → value h (marked n) ≡ 1
 marked_since lay h m n = since (λ k. value k (marked n) ≡ 1) lay (λ h r l e. marked_stays lay h r n l e) h m
 
 -- what an SCX-record in progress is owned by

@@ -1,8 +1,8 @@
 -- What has left the tree, or the trie, never comes back: what an update puts in was never there.
 use Rattle.std.proofs.Common.{◌≡◌, ◌≢◌, ◌<◌, ◌≤◌, ℕ, Bool, true, false, ◌⊎◌, inl, inr, ⊎_elim, refl, sym, ◌∙◌, ap, subst, arith, eqb, ◌/◌, ◌%◌}
-use Rattle.histories.specs.Common.{Layout, Row, Kind, Side, Left, Right, Settled, Head, Child, Info, ScxWord, New, Old, Plan, Member, Seen, Freeze, Update, Word, same_word, node, scx, info, child, field, History, Opened, ◌⊳◌, value, HasHeld, Extends, count, count_of, member, new, old, seen, plan, field_index, field_index_of, side_of, IsNamed, by_scx, by_field, opening_node, IsNamedScx, IsInField, Lawful, HasWon, log, is_final}
+use Rattle.histories.specs.Common.{Layout, Row, Side, Left, Right, Settled, Head, Child, Info, ScxWord, New, Old, Plan, Member, Freeze, Update, Word, same_word, scx, info, child, field, History, Opened, ◌⊳◌, value, HasHeld, Extends, count, count_of, member, new, old, seen, plan, field_index, field_index_of, side_of, IsNamed, by_field, IsNamedScx, IsInField, Lawful, HasWon, log, is_final}
 use Rattle.arena.proofs.Lemmas.{ends_self, ends_trans, held_at, held_since, held_start, opening_info, node_apart, node_word_apart, value_at, word_same}
-use Rattle.histories.proofs.Lemmas.{Effect, Facts, IsScxFill, UpdateWins, child_node, effect, facts_before, freeze, freeze_keeps_field, lawful_row, lawful_since, lawful_tail, map_nodes, named_since, node_stays, quiet, some_is_real, update, update_finds, update_flagged, update_in_progress, update_is_first, update_keeps_other, update_won, win_not_final, won_more}
+use Rattle.histories.proofs.Lemmas.{Effect, Facts, IsScxFill, UpdateWins, effect, facts_before, freeze, freeze_keeps_field, lawful_row, lawful_since, named_since, node_stays, quiet, some_is_real, update, update_finds, update_flagged, update_in_progress, update_is_first, update_keeps_other, update_won, win_not_final, won_more}
 use Rattle.prims.specs.Laws.Linked.{in_field_named}
 use Rattle.ordered_map.specs.EditPlans.{above_plan, sibling_place}
 use Rattle.ordered_map.specs.Edits.{HasFieldsOf, IsCopyOf, IsLeafEdit, IsSplitBy}
@@ -10,13 +10,13 @@ use Rattle.ordered_map.specs.OrderedMap.{MapEdit}
 use Rattle.ordered_map.specs.Paths.{WasInTree}
 use Rattle.ordered_map.specs.Runs.{IsMapRun}
 use Rattle.ordered_map.specs.Spelled.{IsTree, Spells}
-use Rattle.ordered_map.specs.TreeShape.{EditsLeaf, IsEdit, MayEdit, TakesLeafOut}
+use Rattle.ordered_map.specs.TreeShape.{EditsLeaf, IsEdit, TakesLeafOut}
 use Rattle.ordered_map.specs.TreeWords.{Tree, Leaf, Fork, root, rank, level, opposite, Has, Shows, is_leaf}
-use Rattle.ordered_map.specs.TrieShape.{EditsEndLeaf, IsTrieEdit, PutsAbove, SplitsLeaf, TakesEndLeafOut}
+use Rattle.ordered_map.specs.TrieShape.{IsTrieEdit, PutsAbove, TakesEndLeafOut}
 use Rattle.ordered_map.proofs.Lemmas.{end_join_plan_says, end_leaf_plan_says, join_plan_says, leaf_plan_says, was_passed}
 use Rattle.ordered_map.proofs.MapLemmas.{run_since, run_spells, stood_in_field, tree_remains}
 use Rattle.touching.specs.Kinds.{IsInTree}
-use Rattle.touching.proofs.Begun.{HasBegunEdit, KeepsFields, below_named, begun_edit, first_keeps, kept, leaf_then, member_named, named_begun, new_named, word_then}
+use Rattle.touching.proofs.Begun.{HasBegunEdit, below_named, begun_edit, first_keeps, kept, leaf_then, member_named, named_begun, new_named, word_then}
 use Rattle.touching.proofs.Present.{one_first}
 use Rattle.touching.proofs.Standing.{has_below, has_root}
 

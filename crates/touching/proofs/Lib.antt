@@ -20,3 +20,4 @@ mod Begun
 mod Leaving
 mod Reached
 mod Reaching
+mod Left

@@ -2,9 +2,9 @@
 -- the trie, at a moment of the call, or that an SCX-record covers that was in progress at one.
 use Rattle.std.proofs.Common.{◌≡◌, ◌≢◌, ◌<◌, ℕ, false, List, inl, inr, ⊎_elim, length, refl, sym, ◌∙◌, ap, subst, arith}
 use native.Mathlib.Decide.{ℕ_discrete}
-use Rattle.histories.specs.Common.{Layout, Step, ScxNo, AllFrozen, State, member_index, History, Opened, ◌⊳◌, Extends, value, info, state, count, count_of, field_index, member, scx, seen, AreFrozen, IsNamedScx, IsTakenScx, IsInProgress, WasInTheWay, Lawful, Call, begun_at}
+use Rattle.histories.specs.Common.{Layout, Step, ScxNo, AllFrozen, State, member_index, History, Opened, ◌⊳◌, Extends, value, info, state, count, count_of, field_index, member, scx, seen, AreFrozen, IsNamedScx, IsTakenScx, IsInProgress, Lawful, Call, begun_at}
 use Rattle.arena.proofs.Lemmas.{ends_self, ends_trans, held_back}
-use Rattle.histories.proofs.Lemmas.{Effect, Facts, FreezeWins, blame_info, effect, facts_before, freeze, freeze_held, freeze_in_progress, freeze_keeps_scx, lawful_since, lawful_tail, named_scx_taken, quiet, update, update_held}
+use Rattle.histories.proofs.Lemmas.{Effect, Facts, FreezeWins, effect, facts_before, freeze, freeze_held, freeze_in_progress, freeze_keeps_scx, lawful_since, lawful_tail, named_scx_taken, quiet, update, update_held}
 use Rattle.help.specs.Allowed.{IsPrepared}
 use Rattle.help.specs.Help.Known.{Freezes, HelpKnows, IsServed, Reading, reading, help_step}
 use Rattle.help.specs.Laws.Help.Allowing.{later_self}

@@ -1,8 +1,8 @@
 -- Which nodes an SCX-record had reached while it was in progress.
-use Rattle.std.proofs.Common.{◌≡◌, ◌≢◌, ◌<◌, ℕ, inl, inr, ⊎_elim, refl, sym, ◌∙◌, ap, subst, arith}
+use Rattle.std.proofs.Common.{◌≡◌, ◌≢◌, ◌<◌, ℕ, inl, inr, ⊎_elim, sym, ◌∙◌, ap, subst}
 use native.Mathlib.Decide.{ℕ_discrete}
-use Rattle.histories.specs.Common.{Layout, Row, State, Plan, Member, Info, History, Opened, ◌⊳◌, Extends, value, info, state, count_of, member, AreFrozen, IsNamedScx, IsInProgress, HasHeld, Lawful}
-use Rattle.arena.proofs.Lemmas.{ends_self, ends_trans, held_at, held_back, held_more, held_since, node_apart, value_at}
+use Rattle.histories.specs.Common.{Layout, Row, State, Plan, Member, History, Opened, ◌⊳◌, Extends, value, info, state, count_of, member, AreFrozen, IsNamedScx, IsInProgress, HasHeld, Lawful}
+use Rattle.arena.proofs.Lemmas.{ends_self, ends_trans, held_at, held_back, held_more, held_since}
 use Rattle.histories.proofs.Lemmas.{Effect, Facts, FreezeWins, effect, facts_before, freeze, freeze_held, freeze_in_progress, freeze_keeps_info, freeze_keeps_scx, freeze_stores, lawful_tail, quiet, scx_stays, update, update_held, update_keeps_info}
 use Rattle.prims.specs.Laws.InTheWay.{HasBeen, been_more}
 use Rattle.touching.specs.Touches.{HasReached}

@@ -1,19 +1,19 @@
 -- What an SCX-record in progress has reached is in the tree, or in the trie, until its update wins;
 -- so it reaches nothing that has left that unmarked.
-use Rattle.std.proofs.Common.{◌≡◌, ◌≢◌, ◌<◌, ℕ, Bool, true, false, ◌⊎◌, zero, suc, inl, inr, ⊎_elim, refl, sym, ◌∙◌, ap, subst, arith}
+use Rattle.std.proofs.Common.{◌≡◌, ◌≢◌, ◌<◌, ℕ, Bool, true, false, inl, inr, ⊎_elim, refl, sym, ◌∙◌, ap, subst, arith}
 use native.Mathlib.Decide.{ℕ_discrete}
-use Rattle.histories.specs.Common.{Layout, Row, Side, Left, Right, Old, Plan, Member, AllFrozen, ScxWord, node, scx, info, child, marked, state, field, History, Opened, ◌⊳◌, value, HasHeld, Extends, count, count_of, plan_finalizes, scx_finalizes, member, new, old, seen, plan, field_index, field_index_of, side_of, IsFrozen, AreFrozen, IsNamed, by_field, IsInProgress, IsWin, HasWon, log, is_final}
+use Rattle.histories.specs.Common.{Layout, Side, Left, Right, Old, Plan, Member, ScxWord, scx, info, child, state, field, History, ◌⊳◌, value, HasHeld, Extends, count, count_of, member, old, seen, plan, field_index, field_index_of, side_of, IsFrozen, AreFrozen, IsNamed, by_field, IsInProgress, HasWon, log, is_final}
 use Rattle.arena.proofs.Lemmas.{ends_self, ends_trans, held_at}
-use Rattle.histories.proofs.Lemmas.{Facts, IsFinalizedBy, IsScxFill, UpdateWins, facts, final_by, finalized_since, first_frozen, lawful_row, lawful_since, marked_stays, since, update_flagged, update_in_progress, update_is_first}
+use Rattle.histories.proofs.Lemmas.{Facts, IsFinalizedBy, IsScxFill, facts, final_by, first_frozen, lawful_row, lawful_since}
 use Rattle.prims.specs.Laws.Linked.{in_field_named}
-use Rattle.ordered_map.specs.EditPlans.{above_plan, sibling_place}
-use Rattle.ordered_map.specs.OrderedMap.{MapEdit, edit_key}
+use Rattle.ordered_map.specs.EditPlans.{above_plan}
+use Rattle.ordered_map.specs.OrderedMap.{edit_key}
 use Rattle.ordered_map.specs.Paths.{WasInTree}
 use Rattle.ordered_map.specs.Runs.{IsMapRun}
-use Rattle.ordered_map.specs.TreeShape.{EditsLeaf, IsEdit, TakesLeafOut}
+use Rattle.ordered_map.specs.TreeShape.{IsEdit}
 use Rattle.ordered_map.specs.TreeWords.{is_leaf, opposite, toward}
-use Rattle.ordered_map.specs.TrieShape.{EditsEndLeaf, IsTrieEdit, PutsAbove, SplitsLeaf, TakesEndLeafOut}
-use Rattle.ordered_map.proofs.Lemmas.{end_join_plan_says, end_leaf_plan_says, join_plan_says, leaf_plan_says, was_passed, wins_of}
+use Rattle.ordered_map.specs.TrieShape.{IsTrieEdit}
+use Rattle.ordered_map.proofs.Lemmas.{end_join_plan_says, end_leaf_plan_says, join_plan_says, leaf_plan_says, was_passed}
 use Rattle.ordered_map.proofs.MapLemmas.{run_since, stood_in_field, tree_not_final}
 use Rattle.touching.specs.Kinds.{IsInTree}
 use Rattle.touching.specs.Touches.{HasReached}
@@ -43,7 +43,11 @@ module _ (lay : Layout) (m : History) (run : IsMapRun lay m) (s : ℕ) (going : 
   frozen_first : IsFrozen m s 0
   frozen_first = let p = going.named in first_frozen m s p.0 p.1 (f.cell s p.0 real p.1)
 
-  -- its first node is a fork
+  -- the field is one of its first node
+  pub index_now : field_index m s ≡ 0
+  index_now = ap field_index_of (word Plan tt) ∙ edit_index lay then s b.edit b.may.edit
+
+  -- which is a fork
   abbrev spot : ℕ
   spot = member then s 0
 

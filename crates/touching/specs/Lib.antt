@@ -5,3 +5,4 @@ pub mod Unmarked
 pub mod Fresh
 pub mod Rests
 pub mod Steps
+pub mod Left
