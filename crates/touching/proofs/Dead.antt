@@ -1,8 +1,8 @@
 -- A marked node is dead to each call that begins when all passes have rested since, and a finished
 -- SCX-record that no node names which is not final is dead to each that begins later.
-use Rattle.std.proofs.Common.{◌≡◌, ◌≢◌, ◌<◌, ◌⊎◌, ℕ, true, false, inl, inr, sym, ◌∙◌, subst, arith}
+use Rattle.std.proofs.Common.{◌≡◌, ◌≢◌, ◌<◌, ℕ, true, false, inl, inr, sym, ◌∙◌, subst, arith}
 use native.Mathlib.Decide.{ℕ_discrete}
-use Rattle.histories.specs.Common.{Layout, History, ◌⊳◌, Extends, value, state, info, marked, member, count, scx_finalizes, log, is_final, descriptor, IsTakenNode, IsMember, IsInProgress, WasInTheWay, Lawful, Call}
+use Rattle.histories.specs.Common.{Layout, History, ◌⊳◌, Extends, value, state, info, marked, count, log, is_final, descriptor, IsTakenNode, IsMember, IsInProgress, WasInTheWay, Lawful, Call}
 use Rattle.histories.specs.Finalizing.{IsFinalizing}
 use Rattle.arena.proofs.Lemmas.{ends_trans, held_at}
 use Rattle.histories.proofs.Lemmas.{Facts, IsMarker, IsOwned, blame_info, by_final, committed_won, facts, lawful_since, marked_stays, member_of, named_scx_taken, since, some_is_real, state_since}
@@ -10,7 +10,7 @@ use Rattle.prims.specs.Laws.InTheWay.{HasBeen, final_since, flagged_commits}
 use Rattle.prims.specs.Laws.Linked.{finalizing_more, marker_named}
 use Rattle.touching.specs.Kinds.{IsNotFinal}
 use Rattle.touching.specs.Fresh.{WasNamedInCall}
-use Rattle.touching.specs.Rests.{HasRestedSince, AllHaveRested, IsNamedByFinal, AreLetGo}
+use Rattle.touching.specs.Rests.{HasRestedSince, AllHaveRested, IsNamedByFinal, IsLetGo, AreLetGo}
 use Rattle.touching.specs.Touches.{WasCovered, TouchesNode, TouchesScx}
 use Rattle.touching.proofs.Fresh.{final_covered, finished_named}
 use Rattle.touching.proofs.Moments.{taken_scx_since}
@@ -130,12 +130,12 @@ dead_scx c h t s l began after real d left x = go (ℕ_discrete (value t (info y
         d (sym (state_since c.layout (w.row ⊳ w.before) t s (lawful_since c.layout k (w.row ⊳ w.before) lk w.within) (inr w.since) d) ∙ z)
 
 -- a look at its nodes tells that
-pub left_named : (lay : Layout) (h : History) (s : ℕ) → Lawful lay h → s ≢ 0 → AreLetGo h s → IsNamedByFinal lay h s
-left_named lay h s l real left n e = go (left cell.index cell.within)
-  where
-    cell : IsMember h s n
-    cell = member_of h s n ((facts lay h l).cell s n real (held_at h (info n) s e))
+pub let_go : (lay : Layout) (h : History) (s n : ℕ) → Lawful lay h → (cell : IsMember h s n) → IsLetGo h s cell.index → value h (info n) ≡ s → is_final (log lay h) n ≡ true
+let_go lay h s n l cell (inl y) e = by_final lay h n s l record { won = committed_won lay h s l y.0; removed = record { index = cell.index; within = cell.within; is = cell.is; removed = y.1 } }
+let_go lay h s n l cell (inr d) e = absurd (d (subst (λ k. value h (info k) ≡ s) (sym cell.is) e))
 
-    go : ((value h (state s) ≡ 1) × (scx_finalizes h s cell.index ≡ true)) ⊎ (value h (info (member h s cell.index)) ≢ s) → is_final (log lay h) n ≡ true
-    go (inl y) = by_final lay h n s l record { won = committed_won lay h s l y.0; removed = record { index = cell.index; within = cell.within; is = cell.is; removed = y.1 } }
-    go (inr d) = absurd (d (subst (λ k. value h (info k) ≡ s) (sym cell.is) e))
+pub named_cell : (lay : Layout) (h : History) (s n : ℕ) → Lawful lay h → s ≢ 0 → value h (info n) ≡ s → IsMember h s n
+named_cell lay h s n l real e = member_of h s n ((facts lay h l).cell s n real (held_at h (info n) s e))
+
+pub left_named : (lay : Layout) (h : History) (s : ℕ) → Lawful lay h → s ≢ 0 → AreLetGo h s → IsNamedByFinal lay h s
+left_named lay h s l real left n e = let cell : IsMember h s n = named_cell lay h s n l real e in let_go lay h s n l cell (left cell.index cell.within) e

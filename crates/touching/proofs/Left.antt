@@ -1,8 +1,8 @@
 -- What has left the tree, or the trie, unmarked is touched by no call that begins later, nor is a
 -- finished SCX-record that only such nodes and final ones name.
-use Rattle.std.proofs.Common.{◌≡◌, ◌≢◌, ◌<◌, ◌≤◌, ℕ, Bool, true, false, ◌⊎◌, inl, inr, refl, sym, ◌∙◌, ap, subst, arith}
+use Rattle.std.proofs.Common.{◌≡◌, ◌≢◌, ◌<◌, ◌≤◌, ℕ, Bool, true, false, ◌⊎◌, inl, inr, ⊎_elim, refl, sym, ◌∙◌, ap, subst, arith}
 use native.Mathlib.Decide.{ℕ_discrete}
-use Rattle.histories.specs.Common.{Layout, Row, Side, Left, Right, Plan, Member, History, Opened, ◌⊳◌, value, HasHeld, Extends, info, marked, state, field, old, log, is_final, descriptor, count, count_of, plan_finalizes, scx_finalizes, member, plan, field_index, IsNamedScx, IsInProgress, WasInTheWay, IsWin, HasWon, IsTakenNode, Call}
+use Rattle.histories.specs.Common.{Layout, Row, Side, Left, Right, Plan, Member, History, Opened, ◌⊳◌, value, HasHeld, Extends, info, marked, state, field, old, log, is_final, descriptor, count, count_of, plan_finalizes, scx_finalizes, member, plan, field_index, IsNamedScx, IsInProgress, IsMember, WasInTheWay, IsWin, HasWon, IsTakenNode, Lawful, Call}
 use Rattle.arena.proofs.Lemmas.{ends_self, ends_trans}
 use Rattle.histories.proofs.Lemmas.{About, Facts, UpdateWins, blame_info, facts, finished_taken, first_frozen, lawful_since, not_final, scx_since, state_since, update_flagged, update_in_progress, update_is_first}
 use Rattle.ordered_map.specs.EditPlans.{above_plan}
@@ -15,10 +15,10 @@ use Rattle.ordered_map.proofs.Lemmas.{end_join_plan_says, end_leaf_plan_says, jo
 use Rattle.ordered_map.proofs.MapLemmas.{run_since, stood_settled, tree_not_final}
 use Rattle.prims.specs.Laws.InTheWay.{open_before}
 use Rattle.touching.specs.Kinds.{IsInTree}
-use Rattle.touching.specs.Left.{HasLeft, IsNamedByLeft}
+use Rattle.touching.specs.Left.{AreLetGoOrLeft, HasLeft, IsNamedByLeft}
 use Rattle.touching.specs.Touches.{HasReached, WasCovered, TouchesNode, TouchesScx, was_so, covered, own_node, named, in_progress, own_scx}
 use Rattle.touching.proofs.Begun.{HasBegunEdit, begun_edit, leaf_then, member_named, word_then}
-use Rattle.touching.proofs.Dead.{marked_since}
+use Rattle.touching.proofs.Dead.{let_go, marked_since, named_cell}
 use Rattle.touching.proofs.Leaving.{there_before, was_since}
 use Rattle.touching.proofs.OwnScx.{InTree}
 use Rattle.touching.proofs.Present.{one_first}
@@ -235,3 +235,9 @@ left_scx c h t s run began after real d left = go
         at (no e) =
             let w : WasInTheWay y.moment t n (value y.moment (info n)) = blame_info c.layout y.moment t n (lawful_since c.layout h y.moment run.1.lawful y.within) (ends_trans y.moment c.start t y.since after) (λ q. e (sym q ∙ y.was)) in
             finished (w.row ⊳ w.before) (ends_trans h y.moment (w.row ⊳ w.before) y.within w.within) (inr w.since) (subst (λ u. value (w.row ⊳ w.before) (state u) ≡ 0) y.was w.running.unfinished)
+
+-- a look at its nodes tells that
+pub left_or_final : (lay : Layout) (h : History) (s : ℕ) → Lawful lay h → s ≢ 0 → AreLetGoOrLeft h s → IsNamedByLeft lay h s
+left_or_final lay h s l real left n e =
+    let cell : IsMember h s n = named_cell lay h s n l real e in
+    ⊎_elim (λ y. inl (let_go lay h s n l cell y e)) (λ y. inr (subst (HasLeft h) cell.is y)) (left cell.index cell.within)

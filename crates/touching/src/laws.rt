@@ -40,7 +40,7 @@ ghost use Rattle.dict.specs.Words.{IsWordOf};
 ghost use Rattle.dict.specs.declared.run.MapRun.{MapRun};
 ghost use Rattle.touching.specs.Fresh.{WasNamedInCall};
 ghost use Rattle.touching.specs.Kinds.{IsEditOrGet, IsInTree, IsNotFinal, IsPresent};
-ghost use Rattle.touching.specs.Left.{HasLeft, IsNamedByLeft};
+ghost use Rattle.touching.specs.Left.{AreLetGoOrLeft, HasLeft, IsNamedByLeft};
 ghost use Rattle.touching.specs.Unmarked.{CoversUnmarked};
 ghost use Rattle.touching.specs.Rests.{AllHaveRested, AreLetGo, HasRestedSince, IsNamedByFinal};
 ghost use Rattle.touching.specs.Steps.{AllHavePaused, HasPaused, IsMapCall, IsMapStep, IsNotAtNode, IsNotAtScx, MayComeThere, OfEachStep, StoresUnmarked};
@@ -165,6 +165,8 @@ pub fn dead_is_untouched()
         → IsNamedByLeft c.layout t s → ¬ TouchesScx (λ lay. IsInTree) c h s }
     ensures look { (lay : Layout) (h : History) (s : ℕ) → Lawful lay h → s ≢ 0 → AreLetGo h s
         → IsNamedByFinal lay h s }
+    ensures look_left { (lay : Layout) (h : History) (s : ℕ) → Lawful lay h → s ≢ 0
+        → AreLetGoOrLeft h s → IsNamedByLeft lay h s }
 {}
 
 /// What no step of a call of a map comes to. A marked node, if all passes have rested between two

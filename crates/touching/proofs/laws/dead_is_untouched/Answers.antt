@@ -1,5 +1,5 @@
 use Rattle.touching.proofs.Dead.{dead_node, dead_scx, left_named}
-use Rattle.touching.proofs.Left.{left_scx, left_untouched}
+use Rattle.touching.proofs.Left.{left_or_final, left_scx, left_untouched}
 use Rattle.touching.proofs.laws.dead_is_untouched.Goals as goal
 
 pub returns-clause-nodes : goal.returns-clause-nodes
@@ -16,3 +16,6 @@ returns-clause-unnamed g = left_scx
 
 pub returns-clause-look : goal.returns-clause-look
 returns-clause-look g = left_named
+
+pub returns-clause-look_left : goal.returns-clause-look_left
+returns-clause-look_left g = left_or_final
