@@ -18,10 +18,10 @@ vlx_in_call P snaps n c begin h s w so = rw w.asked (was_so (so w.index w.looks.
 -- the SCX may be a part of a call, and have begun at `begin`
 module _ (P : Layout → History → ℕ → Type 0) (allows : Layout → History → ℕ → Type 0) (c : Call) (begin h : History) (run : IsRun allows c.layout h) (since : Extends begin c.start) (m : Job) where
   -- its SCX-record was not taken as the call began
-  untaken : (s : ℕ) → ¬ IsTakenScx begin s → ¬ IsTakenScx c.start s
+  pub untaken : (s : ℕ) → ¬ IsTakenScx begin s → ¬ IsTakenScx c.start s
   untaken s free t = free (taken_scx_since begin c.start s since t)
 
-  fill_at : (at : ScxAt) (s : Step) → FillWaits allows (begun_at c begin) h m at s → Touches P c h s.word
+  pub fill_at : (at : ScxAt) (s : Step) → FillWaits allows (begun_at c begin) h m at s → Touches P c h s.word
   fill_at at s k = rw k.asked (own_scx k.fills.hand.is_open.own (untaken m.scx.0 k.fills.way.free))
 
   -- and covers the nodes of its snapshots

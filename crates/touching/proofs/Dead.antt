@@ -1,8 +1,8 @@
 -- A marked node is dead to each call that begins when all passes have rested since, and a finished
 -- SCX-record that no node names which is not final is dead to each that begins later.
-use Rattle.std.proofs.Common.{◌≡◌, ◌≢◌, ◌<◌, ◌⊎◌, ℕ, true, false, inl, inr, sym, ◌∙◌, subst, arith}
+use Rattle.std.proofs.Common.{◌≡◌, ◌≢◌, ◌<◌, ℕ, true, false, inl, inr, sym, ◌∙◌, subst, arith}
 use native.Mathlib.Decide.{ℕ_discrete}
-use Rattle.histories.specs.Common.{Layout, History, ◌⊳◌, Extends, value, state, info, marked, member, count, scx_finalizes, log, is_final, descriptor, IsTakenNode, IsMember, IsInProgress, WasInTheWay, Lawful, Call}
+use Rattle.histories.specs.Common.{Layout, History, ◌⊳◌, Extends, value, state, info, marked, count, log, is_final, descriptor, IsTakenNode, IsMember, IsInProgress, WasInTheWay, Lawful, Call}
 use Rattle.histories.specs.Finalizing.{IsFinalizing}
 use Rattle.arena.proofs.Lemmas.{ends_trans, held_at}
 use Rattle.histories.proofs.Lemmas.{Facts, IsMarker, IsOwned, blame_info, by_final, committed_won, facts, lawful_since, marked_stays, member_of, named_scx_taken, since, some_is_real, state_since}
@@ -10,13 +10,13 @@ use Rattle.prims.specs.Laws.InTheWay.{HasBeen, final_since, flagged_commits}
 use Rattle.prims.specs.Laws.Linked.{finalizing_more, marker_named}
 use Rattle.touching.specs.Kinds.{IsNotFinal}
 use Rattle.touching.specs.Fresh.{WasNamedInCall}
-use Rattle.touching.specs.Rests.{HasRestedSince, AllHaveRested, IsNamedByFinal, AreLetGo}
+use Rattle.touching.specs.Rests.{HasRestedSince, AllHaveRested, IsNamedByFinal, IsLetGo, AreLetGo}
 use Rattle.touching.specs.Touches.{WasCovered, TouchesNode, TouchesScx}
 use Rattle.touching.proofs.Fresh.{final_covered, finished_named}
 use Rattle.touching.proofs.Moments.{taken_scx_since}
 
 -- a mark stays
-marked_since : (lay : Layout) (h m : History) (n : ℕ) → Lawful lay h → Extends h m → value m (marked n) ≡ 1 → value h (marked n) ≡ 1
+pub marked_since : (lay : Layout) (h m : History) (n : ℕ) → Lawful lay h → Extends h m → value m (marked n) ≡ 1 → value h (marked n) ≡ 1
 marked_since lay h m n = since (λ k. value k (marked n) ≡ 1) lay (λ h r l e. marked_stays lay h r n l e) h m
 
 -- what an SCX-record in progress is owned by
@@ -88,7 +88,7 @@ module _ (c : Call) (h t : History) (n : ℕ) (l : Lawful c.layout h) (began : E
         go : Dec (value r.rest (state s) ≡ 0) → ⊥
         go (no d) = d (sym (state_since c.layout x.moment r.rest s lm later d) ∙ x.was.0.unfinished)
         go (yes z) =
-            let u : HasBeen x.moment r.rest (λ k. value k (marked n) ≡ 0) = r.unmarked s x.moment o.scx (λ taken. r.over s o.scx own_real taken z) x.within x.was.0 x.was.1 in
+            let u : HasBeen x.moment r.rest (λ k. value k (marked n) ≡ 0) = r.unmarked s x.moment o.scx (λ taken. r.over s o.scx own_real taken z) x.within x.was.0 (let k = x.was.1 in record { index = k.index; within = k.within; is = k.is }) in
             let m : value u.moment (marked n) ≡ 1 = marked_since c.layout u.moment t n (lawful_since c.layout x.moment u.moment lm u.within) (ends_trans u.moment r.rest t u.since r.since) (f.mark n mark) in
             let v = u.was in
             omega arith
@@ -130,12 +130,12 @@ dead_scx c h t s l began after real d left x = go (ℕ_discrete (value t (info y
         d (sym (state_since c.layout (w.row ⊳ w.before) t s (lawful_since c.layout k (w.row ⊳ w.before) lk w.within) (inr w.since) d) ∙ z)
 
 -- a look at its nodes tells that
-pub left_named : (lay : Layout) (h : History) (s : ℕ) → Lawful lay h → s ≢ 0 → AreLetGo h s → IsNamedByFinal lay h s
-left_named lay h s l real left n e = go (left cell.index cell.within)
-  where
-    cell : IsMember h s n
-    cell = member_of h s n ((facts lay h l).cell s n real (held_at h (info n) s e))
+pub let_go : (lay : Layout) (h : History) (s n : ℕ) → Lawful lay h → (cell : IsMember h s n) → IsLetGo h s cell.index → value h (info n) ≡ s → is_final (log lay h) n ≡ true
+let_go lay h s n l cell (inl y) e = by_final lay h n s l record { won = committed_won lay h s l y.0; removed = record { index = cell.index; within = cell.within; is = cell.is; removed = y.1 } }
+let_go lay h s n l cell (inr d) e = absurd (d (subst (λ k. value h (info k) ≡ s) (sym cell.is) e))
 
-    go : ((value h (state s) ≡ 1) × (scx_finalizes h s cell.index ≡ true)) ⊎ (value h (info (member h s cell.index)) ≢ s) → is_final (log lay h) n ≡ true
-    go (inl y) = by_final lay h n s l record { won = committed_won lay h s l y.0; removed = record { index = cell.index; within = cell.within; is = cell.is; removed = y.1 } }
-    go (inr d) = absurd (d (subst (λ k. value h (info k) ≡ s) (sym cell.is) e))
+pub named_cell : (lay : Layout) (h : History) (s n : ℕ) → Lawful lay h → s ≢ 0 → value h (info n) ≡ s → IsMember h s n
+named_cell lay h s n l real e = member_of h s n ((facts lay h l).cell s n real (held_at h (info n) s e))
+
+pub left_named : (lay : Layout) (h : History) (s : ℕ) → Lawful lay h → s ≢ 0 → AreLetGo h s → IsNamedByFinal lay h s
+left_named lay h s l real left n e = let cell : IsMember h s n = named_cell lay h s n l real e in let_go lay h s n l cell (left cell.index cell.within) e

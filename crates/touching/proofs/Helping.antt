@@ -1,6 +1,8 @@
 -- HELP comes to words of its SCX-record, and of the nodes that this covers.
 use Rattle.std.proofs.Common.{◌≡◌, ◌≢◌, ◌<◌, ℕ, refl, sym, ap, subst, arith}
-use Rattle.histories.specs.Common.{Layout, Step, Plan, Member, member_index, History, value, state, member, count, count_of, field_index, Lawful, Call}
+use Rattle.histories.specs.Common.{Layout, Step, AllFrozen, Plan, Member, member_index, History, value, scx, state, member, count, count_of, field_index, AreFrozen, Lawful, Call}
+use Rattle.prims.specs.Laws.InTheWay.{HasBeen}
+use Rattle.touching.proofs.Reached.{HasFrozen, frozen_running}
 use Rattle.histories.proofs.Lemmas.{facts, lawful_since, scx_since}
 use Rattle.help.specs.Help.Known.{Reading, reading, Marks, HelpKnows, HelpWaits, help_step}
 use Rattle.help.specs.declared.state.HelpRun.{HelpRun}
@@ -20,23 +22,30 @@ module _ (P : Layout → History → ℕ → Type 0) (c : Call) (h : History) (l
   helped_scx (running x) = in_progress x
   helped_scx (own o f m) = own_scx o f
 
-  helped_member : (j : ℕ) → j < count h s → MayBeHelped P c h s → TouchesNode P c h (member h s j)
-  helped_member j i (own o f m) = was_so (m j i)
-  helped_member j i (running x) = covered s record {
-    moment = x.moment;
-    within = x.within;
-    since = x.since;
-    was = (x.was, record { index = j; within = subst (λ k. j < k) few i; is = sym here });
+  pub helped_member : (j : ℕ) → j < count h s → AreFrozen h s j → MayBeHelped P c h s → TouchesNode P c h (member h s j)
+  helped_member j i frozen (own o f m) = was_so (m j i)
+  helped_member j i frozen (running x) = covered s record {
+    moment = y.moment;
+    within = y.within;
+    since = y.since;
+    was = (y.was.0, record { index = j; within = subst (λ k. j < k) few i; is = sym here; earlier = y.was.1 });
   }
     where
-      few : count h s ≡ count x.moment s
-      few = ap count_of (scx_since c.layout h x.moment s l x.within (real c h s l x) x.was.named Plan tt)
+      y : HasBeen h c.start (HasFrozen s j)
+      y = frozen_running c.layout c.start s j (real c h s l x) h x.moment l x.within x.since x.was frozen
 
-      here : member h s j ≡ member x.moment s j
-      here = scx_since c.layout h x.moment s l x.within (real c h s l x) x.was.named (Member j) tt
+      few : count h s ≡ count y.moment s
+      few = ap count_of (scx_since c.layout h y.moment s l y.within (real c h s l x) y.was.0.named Plan tt)
+
+      here : member h s j ≡ member y.moment s j
+      here = scx_since c.layout h y.moment s l y.within (real c h s l x) y.was.0.named (Member j) tt
+
+  -- once `allfrozen` is set all its nodes are frozen
+  pub all_frozen : value h (scx s AllFrozen) ≡ 1 → (j : ℕ) → j < count h s → AreFrozen h s j
+  all_frozen e j i k few = ((facts c.layout h l).flagged s (λ z. omega (arith, e, z))).frozen k (omega (arith, few, i))
 
   -- the node of the field is one of them
-  field_within : (m : Reading) → m.scx ≡ s → Marks h m (count h m.scx) → field_index h s < count h s
+  pub field_within : (m : Reading) → m.scx ≡ s → Marks h m (count h m.scx) → field_index h s < count h s
   field_within m e k = rw (sym e) ((facts c.layout h l).about m.scx k.started.named.0 k.started.real k.started.named.1).planned.field
 
 module _ (P : Layout → History → ℕ → Type 0) (allows : Layout → History → ℕ → Type 0) (c : Call) (h : History) (l : Lawful c.layout h) (m : Reading) (may : MayBeHelped P c h m.scx) where
@@ -45,14 +54,14 @@ module _ (P : Layout → History → ℕ → Type 0) (allows : Layout → Histor
   help_at AtPlan k = helped_scx P c h l m.scx may
   help_at (AtMember j) k = helped_scx P c h l m.scx may
   help_at (AtSeen j) k = helped_scx P c h l m.scx may
-  help_at (AtFreeze j v) k = helped_member P c h l m.scx (member_index j) k.0.within may
+  help_at (AtFreeze j v) k = helped_member P c h l m.scx (member_index j) k.0.within k.0.frozen may
   help_at (AtAllFrozen j v) k = helped_scx P c h l m.scx may
   help_at (AtAbort j v) k = helped_scx P c h l m.scx may
   help_at AtSetFrozen k = helped_scx P c h l m.scx may
-  help_at (AtMark j) k = helped_member P c h l m.scx (member_index j) k.1 may
+  help_at (AtMark j) k = helped_member P c h l m.scx (member_index j) k.1 (all_frozen P c h l m.scx k.0.flag (member_index j) k.1) may
   help_at AtNew k = helped_scx P c h l m.scx may
   help_at (AtOld v) k = helped_scx P c h l m.scx may
-  help_at AtUpdate k = helped_member P c h l m.scx (field_index h m.scx) (field_within P c h l m.scx m refl k) may
+  help_at AtUpdate k = let i = field_within P c h l m.scx m refl k in helped_member P c h l m.scx (field_index h m.scx) i (all_frozen P c h l m.scx k.flag (field_index h m.scx) i) may
   help_at AtCommit k = helped_scx P c h l m.scx may
 
 pub help_touches : (P : Layout → History → ℕ → Type 0) (allows : Layout → History → ℕ → Type 0) (m : HelpRun) (c : Call) (h : History) (s : Step) → Lawful c.layout h → HelpWaits allows c.layout c.pass m h s → MayBeHelped P c h m.scx.0 → Touches P c h s.word

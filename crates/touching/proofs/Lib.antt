@@ -10,3 +10,14 @@ mod Reading
 mod Calling
 mod Fresh
 mod Dead
+mod Storing
+mod Stepping
+mod Standing
+mod EditLooks
+mod OwnScx
+mod Editing
+mod Begun
+mod Leaving
+mod Reached
+mod Reaching
+mod Left

@@ -50,7 +50,7 @@ not_final_kind = record {
 }
 
 -- Of two moments of a history one is not before the other
-one_first : (h a b : History) → Extends h a → Extends h b → Extends a b ⊎ Extends b a
+pub one_first : (h a b : History) → Extends h a → Extends h b → Extends a b ⊎ Extends b a
 one_first (Opened o) a b x y = inl (subst (λ k. Extends k b) (sym x) y)
 one_first (r ⊳ h) a b (inl x) y = inl (subst (λ k. Extends k b) (sym x) y)
 one_first (r ⊳ h) a b (inr x) (inl y) = inr (subst (λ k. Extends k a) (sym y) (inr x))

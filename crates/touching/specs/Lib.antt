@@ -4,3 +4,5 @@ pub mod Reads
 pub mod Unmarked
 pub mod Fresh
 pub mod Rests
+pub mod Steps
+pub mod Left

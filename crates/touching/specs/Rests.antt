@@ -23,7 +23,11 @@ AllHaveRested lay h start marked_at n = (o : ℕ) → o < lay.passes → HasRest
 abbrev pub IsNamedByFinal : Layout → History → ℕ → Type 0
 IsNamedByFinal lay h s = (n : ℕ) → value h (info n) ≡ s → is_final (log lay h) n ≡ true
 
--- what a look at the nodes of a finished SCX-record finds: it finalizes the node and is committed,
--- or the info of the node names another
+-- what a look at a node of a finished SCX-record finds: it finalizes the node and is committed, or
+-- the info of the node names another
+abbrev pub IsLetGo : History → ℕ → ℕ → Type 0
+IsLetGo h s j = ((value h (state s) ≡ 1) × (scx_finalizes h s j ≡ true)) ⊎ (value h (info (member h s j)) ≢ s)
+
+-- so it is with each node that it covers
 abbrev pub AreLetGo : History → ℕ → Type 0
-AreLetGo h s = (j : ℕ) → j < count h s → ((value h (state s) ≡ 1) × (scx_finalizes h s j ≡ true)) ⊎ (value h (info (member h s j)) ≢ s)
+AreLetGo h s = (j : ℕ) → j < count h s → IsLetGo h s j

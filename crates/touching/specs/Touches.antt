@@ -1,6 +1,6 @@
 -- Which words a call touches: words of nodes and of SCX-records to which it may come.
 use Rattle.std.specs.Prelude.{◌≡◌, ◌<◌, ℕ, List, length}
-use Rattle.histories.specs.Common.{Layout, Word, Node, Scx, info, History, value, count, member, IsOwnNode, IsOwnScx, IsTakenNode, IsTakenScx, IsMember, IsInProgress, Call}
+use Rattle.histories.specs.Common.{Layout, Word, Node, Scx, info, History, value, count, member, IsOwnNode, IsOwnScx, IsTakenNode, IsTakenScx, AreFrozen, IsInProgress, Call}
 use Rattle.prims.specs.Laws.InTheWay.{HasBeen}
 use Rattle.prims.specs.Snap.{snap_at}
 use Rattle.prims.specs.declared.snap.Snap.{Snap}
@@ -9,9 +9,16 @@ use Rattle.prims.specs.declared.snap.Snap.{Snap}
 abbrev pub WasInProgress : Call → History → ℕ → Type 0
 WasInProgress c h s = HasBeen h c.start (λ m. IsInProgress m s)
 
--- so it was, and covered this node
+-- the SCX-record covers the node, and all that it covers before that one it has frozen
+pub record HasReached (h : History) (s n : ℕ) : Type 0 where
+  pub index : ℕ
+  pub within : index < count h s
+  pub is : member h s index ≡ n
+  pub earlier : AreFrozen h s index
+
+-- so it was, and had reached this node
 abbrev pub WasCovered : Call → History → ℕ → ℕ → Type 0
-WasCovered c h s n = HasBeen h c.start (λ m. IsInProgress m s × IsMember m s n)
+WasCovered c h s n = HasBeen h c.start (λ m. IsInProgress m s × HasReached m s n)
 
 -- P says which nodes are so after a history: not final, or in the tree
 module _ (P : Layout → History → ℕ → Type 0) where
@@ -23,7 +30,7 @@ module _ (P : Layout → History → ℕ → Type 0) where
   pub data TouchesNode (c : Call) (h : History) (n : ℕ) : Type 0 where
     -- it was so at a moment of the call
     was_so : WasSo c h n → TouchesNode c h n
-    -- an SCX-record covers it that was in progress at one
+    -- an SCX-record covers it that was in progress at one, and had frozen all before it
     covered : (s : ℕ) → WasCovered c h s n → TouchesNode c h n
     -- it is the pass's own, and was not taken as the call began
     own_node : IsOwnNode c.layout c.pass n → ¬ IsTakenNode c.start n → TouchesNode c h n

@@ -4,6 +4,6 @@
 mod laws;
 
 pub use laws::{
-    calls_touch, dead_is_untouched, dictionaries_touch, freshness_holds, machines_touch,
-    parts_touch, walks_touch,
+    calls_touch, dead_is_out_of_reach, dead_is_untouched, dictionaries_step, dictionaries_touch,
+    freshness_holds, left_stays_out, machines_touch, parts_touch, steps_touch, walks_touch,
 };

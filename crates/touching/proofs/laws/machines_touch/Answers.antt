@@ -9,7 +9,7 @@ use Rattle.touching.proofs.Updating.{update_unmarked}
 use Rattle.touching.proofs.laws.machines_touch.Goals as goal
 
 pub returns-clause-edits : goal.returns-clause-edits
-returns-clause-edits c = edit_touches IsPresent present_kind
+returns-clause-edits c = edit_touches
 
 pub returns-clause-unmarked : goal.returns-clause-unmarked
 returns-clause-unmarked c = update_unmarked edit_means

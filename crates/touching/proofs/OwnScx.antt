@@ -1,0 +1,181 @@
+-- An SCX of an edit of a map comes to its own SCX-record, and to nodes that were in the tree, or in
+-- the trie, at a moment of the call, or that an SCX-record covers that was in progress at one.
+use Rattle.std.proofs.Common.{◌≡◌, ◌≢◌, ◌<◌, ℕ, false, List, inl, inr, ⊎_elim, length, refl, sym, ◌∙◌, ap, subst, arith}
+use native.Mathlib.Decide.{ℕ_discrete}
+use Rattle.histories.specs.Common.{Layout, Step, ScxNo, AllFrozen, State, member_index, History, Opened, ◌⊳◌, Extends, value, info, state, count, count_of, field_index, member, scx, seen, AreFrozen, IsNamedScx, IsTakenScx, IsInProgress, Lawful, Call, begun_at}
+use Rattle.arena.proofs.Lemmas.{ends_self, ends_trans, held_back}
+use Rattle.histories.proofs.Lemmas.{Effect, Facts, FreezeWins, effect, facts_before, freeze, freeze_held, freeze_in_progress, freeze_keeps_scx, lawful_since, lawful_tail, named_scx_taken, quiet, update, update_held}
+use Rattle.help.specs.Allowed.{IsPrepared}
+use Rattle.help.specs.Help.Known.{Freezes, HelpKnows, IsServed, Reading, reading, help_step}
+use Rattle.help.specs.Laws.Help.Allowing.{later_self}
+use Rattle.help.specs.declared.state.HelpAt.{HelpAt}
+use Rattle.help.specs.declared.state.HelpAt.TheVariants.{Start, Plan as AtPlan, Member as AtMember, Seen as AtSeen, Freeze as AtFreeze, AllFrozen as AtAllFrozen, Abort as AtAbort, SetFrozen as AtSetFrozen, Mark as AtMark, New as AtNew, Old as AtOld, Update as AtUpdate, Commit as AtCommit}
+use Rattle.ordered_map.specs.Runs.{IsMapRun}
+use Rattle.ordered_map.specs.TreeShape.{TreeAllows}
+use Rattle.ordered_map.specs.TreeWords.{is_leaf}
+use Rattle.ordered_map.proofs.MapLemmas.{run_since}
+use Rattle.ordered_map.specs.Paths.{WasInTree}
+use Rattle.prims.specs.Laws.InTheWay.{HasBeen, been_more}
+use Rattle.template.specs.Common.{IsSnapshot}
+use Rattle.prims.specs.Scx.Known.{Job, HasFilled, ScxWaitsAt}
+use Rattle.prims.specs.Snap.{snap_at}
+use Rattle.prims.specs.declared.snap.Snap.{Snap}
+use Rattle.prims.specs.declared.scx.ScxAt.{ScxAt}
+use Rattle.prims.specs.declared.scx.ScxAt.TheVariants as at_scx
+use Rattle.touching.specs.Kinds.{IsInTree}
+use Rattle.touching.specs.Touches.{Touches, TouchesNode, TouchesScx, WasInProgress, covered, own_scx, running, was_so}
+use Rattle.touching.proofs.Changing.{fill_at, untaken}
+use Rattle.touching.proofs.Helping.{all_frozen, field_within, helped_member}
+use Rattle.touching.proofs.Moments.{been_wider}
+use Rattle.touching.proofs.Reached.{info_reached}
+use Rattle.touching.proofs.Standing.{fork_now, fork_then}
+
+-- between a moment at which no info word had named it and one at which one had, an SCX-record was
+-- in progress
+begun_since : (lay : Layout) (h b : History) (s : ℕ) → Lawful lay h → Extends h b → ¬ IsNamedScx b s → IsNamedScx h s → HasBeen h b (λ m. IsInProgress m s)
+begun_since lay (Opened o) b s l e free p = absurd (free (subst (λ k. IsNamedScx k s) (sym e) p))
+begun_since lay (r ⊳ h) b s l (inl e) free p = absurd (free (subst (λ k. IsNamedScx k s) (sym e) p))
+begun_since lay (r ⊳ h) b s l (inr e) free p = go (effect lay h r l) (λ q. been_more r h b (λ m. IsInProgress m s) (begun_since lay h b s (lawful_tail lay h r l) e free q))
+  where
+    f : Facts lay h
+    f = facts_before lay h r l
+
+    now : (u j : ℕ) → FreezeWins lay h r u j → s ≡ u → HasBeen (r ⊳ h) b (λ m. IsInProgress m s)
+    now u j w q = record {
+      moment = r ⊳ h;
+      within = ends_self (r ⊳ h);
+      since = inr e;
+      was = record { unfinished = subst (λ v. value (r ⊳ h) (state v) ≡ 0) (sym q) (freeze_keeps_scx f w u State ∙ freeze_in_progress f w); named = p };
+    }
+
+    go : Effect lay h r → (IsNamedScx h s → HasBeen (r ⊳ h) b (λ m. IsInProgress m s)) → HasBeen (r ⊳ h) b (λ m. IsInProgress m s)
+    go (quiet k) before = before (p.0, held_back r h (info p.0) s (k.info p.0) p.1)
+    go (update u w) before = before (p.0, update_held f w p.0 s p.1)
+    go (freeze u j w) before = ⊎_elim (λ q. now u j w q.0) (λ q. before (p.0, q)) (freeze_held f w p.0 s p.1)
+
+-- the snapshot was right at a moment of the call, by which its node had been in the tree
+pub record WasSnapped (c : Call) (h : History) (snap : Snap) : Type 0 where
+  pub moment : History
+  pub within : Extends h moment
+  pub since : Extends moment c.start
+  pub stood : WasInTree moment snap.node.0
+  pub is : IsSnapshot c.layout moment snap.node.0 snap
+
+abbrev pub WereSnapped : Call → History → List Snap → Type 0
+WereSnapped c h snaps = (i : ℕ) → i < length snaps → WasSnapped c h (snap_at snaps i)
+
+abbrev pub InTree : Layout → History → ℕ → Type 0
+InTree lay h n = IsInTree h n
+
+-- the SCX began at the moment `b` of the call, and its snapshots were taken in the call before
+module _ (c : Call) (b h : History) (run : IsMapRun c.layout h) (since : Extends b c.start) (later : Extends h b) (m : Job) (snapped : WereSnapped c b m.update.snaps) where
+  module _ (s : ℕ) (filled : HasFilled (begun_at c b) h s m.call m.update) where
+    free : ¬ IsTakenScx c.start s
+    free = untaken InTree TreeAllows c b h run.1 since m s filled.way.free
+
+    real : s ≢ 0
+    real e = let a = filled.own.from in omega (arith, a, e)
+
+    few : count h s ≡ length m.update.snaps
+    few = ap count_of filled.planned ∙ filled.over.count
+
+    -- once it is named, it was in progress in the call
+    member_touched : IsNamedScx h s → (j : ℕ) → j < count h s → AreFrozen h s j → TouchesNode InTree c h (member h s j)
+    member_touched named j i frozen = helped_member InTree c h run.1.lawful s j i frozen (running in_call)
+      where
+        start : Extends h c.start
+        start = ends_trans h b c.start later since
+
+        in_call : WasInProgress c h s
+        in_call = begun_since c.layout h c.start s run.1.lawful start (λ q. free (named_scx_taken c.layout c.start s (lawful_since c.layout h c.start run.1.lawful start) real q)) named
+
+    -- its first node was a fork of the tree when its snapshot was taken, or has been covered since
+    module _ (some : 0 < count h s) (ready : IsPrepared TreeAllows c.layout c.pass h s) where
+      abbrev first_snap : Snap
+      first_snap = snap_at m.update.snaps 0
+
+      in_list : 0 < length m.update.snaps
+      in_list = subst (λ k. 0 < k) few some
+
+      u : WasSnapped c b first_snap
+      u = snapped 0 in_list
+
+      here : Extends h u.moment
+      here = ends_trans h b u.moment later u.within
+
+      node_is : member h s 0 ≡ first_snap.node.0
+      node_is = filled.members 0 in_list
+
+      seen_is : seen h s 0 ≡ first_snap.scx.0
+      seen_is = filled.found 0 in_list
+
+      by_fork : is_leaf (value h) (member h s 0) ≡ false → TouchesNode InTree c h first_snap.node.0
+      by_fork fork = was_so record {
+        moment = u.moment;
+        within = here;
+        since = u.since;
+        was = fork_now c.layout u.moment first_snap.node.0 (run_since c.layout h u.moment run here) u.stood u.is.not_final
+            (fork_then c.layout h u.moment first_snap.node.0 run here u.stood (subst (λ n. is_leaf (value h) n ≡ false) node_is fork));
+      }
+
+      by_allowed : TreeAllows c.layout h s → TouchesNode InTree c h first_snap.node.0
+      by_allowed (inl e) = by_fork e.1.fork
+      by_allowed (inr p) = absurd (real p.dummy)
+
+      by_change : value h (info first_snap.node.0) ≢ value u.moment (info first_snap.node.0) → TouchesNode InTree c h first_snap.node.0
+      by_change d =
+          covered (value h (info first_snap.node.0)) (been_wider h u.moment c.start _ u.since (info_reached c.layout h u.moment first_snap.node.0 run.1.lawful here d))
+
+      first_touched : TouchesNode InTree c h (member h s 0)
+      first_touched = subst (TouchesNode InTree c h) (sym node_is) (go (ℕ_discrete (value h (info (member h s 0))) (seen h s 0)))
+        where
+          go : Dec (value h (info (member h s 0)) ≡ seen h s 0) → TouchesNode InTree c h first_snap.node.0
+          go (yes q) = by_allowed (ready.allowed h (later_self c.pass s h) run.1 refl ready.begins q)
+          go (no d) = by_change (λ q. d (ap (λ n. value h (info n)) node_is ∙ q ∙ u.is.info ∙ sym seen_is))
+
+    -- HELP of it
+    module _ (r : Reading) (is : r.scx ≡ s) where
+      own_word : TouchesScx InTree c h r.scx
+      own_word = subst (TouchesScx InTree c h) (sym is) (own_scx filled.own free)
+
+      by_name : IsNamedScx h r.scx → (j : ℕ) → j < count h r.scx → AreFrozen h r.scx j → TouchesNode InTree c h (member h r.scx j)
+      by_name = subst (λ v. IsNamedScx h v → (j : ℕ) → j < count h v → AreFrozen h v j → TouchesNode InTree c h (member h v j)) (sym is) member_touched
+
+      by_flag : IsNamedScx h r.scx → value h (scx r.scx AllFrozen) ≡ 1 → (j : ℕ) → j < count h r.scx → TouchesNode InTree c h (member h r.scx j)
+      by_flag named flag j i = by_name named j i (all_frozen InTree c h run.1.lawful r.scx flag j i)
+
+      by_ready : 0 < count h r.scx → IsPrepared TreeAllows c.layout c.pass h r.scx → TouchesNode InTree c h (member h r.scx 0)
+      by_ready = subst (λ v. 0 < count h v → IsPrepared TreeAllows c.layout c.pass h v → TouchesNode InTree c h (member h v 0)) (sym is) first_touched
+
+      frozen_at : (j k : ℕ) → Freezes TreeAllows c.layout c.pass h r j k → TouchesNode InTree c h (member h r.scx j)
+      frozen_at j k x = go x.served (ℕ_discrete j 0)
+        where
+          go : IsServed TreeAllows c.layout c.pass h r.scx → Dec (j ≡ 0) → TouchesNode InTree c h (member h r.scx j)
+          go (inl started) _ = by_name started.named j x.within x.frozen
+          go (inr ready) (yes e) = let i = x.within in subst (λ i. TouchesNode InTree c h (member h r.scx i)) (sym e) (by_ready (omega (arith, i)) ready)
+          go (inr ready) (no d) = by_name (member h r.scx 0, x.frozen 0 (omega (arith, d))) j x.within x.frozen
+
+      help_there : (at : HelpAt) → HelpKnows TreeAllows c.layout c.pass h r at → Touches InTree c h (help_step h r.scx at).word
+      help_there Start k = absurd k
+      help_there AtPlan k = own_word
+      help_there (AtMember j) k = own_word
+      help_there (AtSeen j) k = own_word
+      help_there (AtFreeze j v) k = frozen_at (member_index j) _ k.0
+      help_there (AtAllFrozen j v) k = own_word
+      help_there (AtAbort j v) k = own_word
+      help_there AtSetFrozen k = own_word
+      help_there (AtMark j) k = by_flag k.0.started.named k.0.flag (member_index j) k.1
+      help_there AtNew k = own_word
+      help_there (AtOld v) k = own_word
+      help_there AtUpdate k = by_flag k.started.named k.flag (field_index h r.scx) (field_within InTree c h run.1.lawful r.scx r refl k)
+      help_there AtCommit k = own_word
+
+  pub scx_there : (at : ScxAt) (s : Step) → ScxWaitsAt TreeAllows (begun_at c b) h m at s → Touches InTree c h s.word
+  scx_there at_scx.Start s k = absurd k
+  scx_there at_scx.Plan s k = fill_at InTree TreeAllows c b h run.1 since m at_scx.Plan s k
+  scx_there at_scx.New s k = fill_at InTree TreeAllows c b h run.1 since m at_scx.New s k
+  scx_there at_scx.Old s k = fill_at InTree TreeAllows c b h run.1 since m at_scx.Old s k
+  scx_there (at_scx.Member j) s k = fill_at InTree TreeAllows c b h run.1 since m (at_scx.Member j) s k
+  scx_there (at_scx.Seen j) s k = fill_at InTree TreeAllows c b h run.1 since m (at_scx.Seen j) s k
+  scx_there at_scx.Call s k = fill_at InTree TreeAllows c b h run.1 since m at_scx.Call s k
+  scx_there (at_scx.Help help) s k = rw k.0.asked (help_there m.scx.0 k.2 (reading help) (ap (λ (n : ScxNo). n.0) k.1) help.at k.0.known)

@@ -1,0 +1,9 @@
+use Rattle.touching.proofs.Stepping.{call_touches}
+use Rattle.touching.proofs.Storing.{row_stores}
+use Rattle.touching.proofs.laws.steps_touch.Goals as goal
+
+pub returns-clause-touches : goal.returns-clause-touches
+returns-clause-touches g = call_touches
+
+pub returns-clause-stores : goal.returns-clause-stores
+returns-clause-stores g = row_stores
