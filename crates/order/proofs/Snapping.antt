@@ -11,7 +11,7 @@ use Rattle.ordered_map.proofs.MapLemmas.{child_not_final, levels_rise, run_spell
 use Rattle.order.specs.Reads.{AreSnapped, HasSnapped, Reads, AllHold, HasStood}
 
 -- the children of a fork of a tree are in it
-has_root : (t : Tree) → Has t (root t)
+pub has_root : (t : Tree) → Has t (root t)
 has_root (Leaf n) = refl
 has_root (Fork n a b) = inl refl
 

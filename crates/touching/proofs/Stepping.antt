@@ -4,20 +4,21 @@ use Rattle.histories.specs.Common.{Row, Word, History, ◌⊳◌, Extends, value
 use Rattle.arena.proofs.Lemmas.{ends_self, ends_trans}
 use Rattle.ordered_map.specs.Runs.{IsMapRun}
 use Rattle.ordered_map.proofs.MapLemmas.{run_since}
-use Rattle.touching.specs.Kinds.{IsNotFinal, IsPresent}
+use Rattle.touching.specs.Kinds.{IsNotFinal}
 use Rattle.touching.specs.Rests.{AllHaveRested, IsNamedByFinal}
 use Rattle.touching.specs.Steps.{AllHavePaused, IsMapCall, IsMapStep, IsNotAtNode, IsNotAtScx, MayComeThere, OfEachStep}
 use Rattle.touching.specs.Touches.{Touches}
 use Rattle.touching.proofs.Calling.{map_touches}
 use Rattle.touching.proofs.Dead.{dead_node, dead_scx}
 use Rattle.touching.proofs.Moments.{touches_so}
-use Rattle.touching.proofs.Present.{present_not_final}
+use Rattle.touching.proofs.OwnScx.{InTree}
+use Rattle.touching.proofs.Present.{there_not_final}
 use Rattle.touching.proofs.Storing.{paused_rested}
 
-pub step_touches : (c : Call) (h : History) (r : Row) → IsMapStep c h r → Touches IsPresent c h r.word
-step_touches c h r x = subst (λ (q : Row). Touches IsPresent c h q.word) (sym x.is) (map_touches x.tries x.machine c h x.step x.waits)
+pub step_touches : (c : Call) (h : History) (r : Row) → IsMapStep c h r → Touches InTree c h r.word
+step_touches c h r x = subst (λ (q : Row). Touches InTree c h q.word) (sym x.is) (map_touches x.tries x.machine c h x.step x.waits)
 
-pub call_touches : (c : Call) (h : History) → IsMapCall c h → OfEachStep (MayComeThere IsPresent) c h
+pub call_touches : (c : Call) (h : History) → IsMapCall c h → OfEachStep (MayComeThere InTree) c h
 call_touches c h steps r g within since own = step_touches c g r (steps r g within since own)
 
 -- so it comes to nodes alone that were not final
@@ -29,7 +30,7 @@ module _ (c : Call) (h : History) (run : IsMapRun c.layout h) (steps : IsMapCall
   here = run_since c.layout h g run earlier
 
   open_touched : Touches IsNotFinal c g r.word
-  open_touched = touches_so IsPresent IsNotFinal c g (λ m n e. present_not_final c.layout m n (run_since c.layout g m here e)) r.word (step_touches c g r (steps r g within since own))
+  open_touched = touches_so InTree IsNotFinal c g (λ m n e. there_not_final c.layout m n (run_since c.layout g m here e)) r.word (step_touches c g r (steps r g within since own))
 
   -- all have paused so by then
   paused_then : (t : History) → AllHavePaused c.layout h c.start t → AllHavePaused c.layout g c.start t
