@@ -3,7 +3,6 @@ use Rattle.std.proofs.Common.{ℕ}
 use Rattle.histories.specs.Common.{Step, History, Extends, Call, begun_at}
 use Rattle.arena.proofs.Lemmas.{ends_trans}
 use Rattle.ordered_map.specs.TreeShape.{TreeAllows}
-use Rattle.prims.specs.Snap.{snap_at}
 use Rattle.template.specs.Walk.Places.{IsPastRoot}
 use Rattle.template.specs.declared.walk.WalkAt.{WalkAt}
 use Rattle.template.specs.declared.walk.WalkAt.TheVariants as walks

@@ -1,14 +1,14 @@
 -- Nodes of the tree, or of the trie, at a moment of a call: node 2, the children of a fork, what
 -- the call has passed.
-use Rattle.std.proofs.Common.{◌≡◌, ℕ, true, false, inl, inr, List, [], ◌∷◌, ◌++◌, refl, sym, ◌∙◌, subst}
+use Rattle.std.proofs.Common.{◌≡◌, ℕ, false, inl, inr, List, [], ◌∷◌, ◌++◌, refl, sym, ◌∙◌, subst}
 use Rattle.std.specs.Prelude.{All}
 use Rattle.std.proofs.lemmas.List.Elements.{All-append, All-cons, All-head, All-nil, All-tail, All-weaker}
-use Rattle.histories.specs.Common.{Layout, Side, Left, Right, Word, History, Extends, value, child, log, is_final, Call}
+use Rattle.histories.specs.Common.{Layout, Side, History, Extends, value, child, log, is_final, Call}
 use Rattle.arena.proofs.Lemmas.{ends_self, ends_trans}
 use Rattle.ordered_map.specs.Paths.{StoodSince, WasInTree}
 use Rattle.ordered_map.specs.Runs.{IsMapRun}
 use Rattle.ordered_map.specs.Spelled.{Spells}
-use Rattle.ordered_map.specs.TreeWords.{Tree, Leaf, Fork, root, rank, leaf_nodes, Has, Shows, is_leaf}
+use Rattle.ordered_map.specs.TreeWords.{Tree, Leaf, Fork, leaf_nodes, Has, is_leaf}
 use Rattle.ordered_map.proofs.Lemmas.{settled_leaf}
 use Rattle.ordered_map.proofs.MapLemmas.{run_spells, stood_settled, tree_remains, walked_since}
 use Rattle.order.proofs.Lemmas.{has_below}

@@ -168,15 +168,19 @@ pub fn dead_is_untouched()
 {}
 
 /// What no step of a call of a map comes to. A marked node, if all passes have rested between two
-/// calls since it was marked, and have filled since what their calls fill; a finished SCX-record
-/// that no node names but final ones. It does nothing; a caller learns this from its contract.
+/// calls since it was marked, and have filled since what their calls fill; a node that has left a
+/// trie unmarked before; a finished SCX-record that no nodes name but final ones and such. It does
+/// nothing; a caller learns this from its contract.
 pub fn dead_is_out_of_reach()
     ensures rested { (lay : Layout) (h start t : History) (n o : ℕ) → Lawful lay h
         → Extends h start → n ≢ 0 → HasPaused lay h start t o → HasRestedSince lay h start t n o }
     ensures nodes { (c : Call) (h t : History) (n : ℕ) → IsMapRun c.layout h → Extends c.start t
         → n ≢ 0 → value t (marked n) ≢ 0 → IsTakenNode c.start n
         → AllHavePaused c.layout h c.start t → IsMapCall c h → OfEachStep (IsNotAtNode n) c h }
+    ensures leaves { (c : Call) (h t : History) (n : ℕ) → IsMapRun c.layout h → Extends c.start t
+        → HasLeft t n → value t (marked n) ≡ 0 → IsTakenNode c.start n → IsMapCall c h
+        → OfEachStep (IsNotAtNode n) c h }
     ensures scx { (c : Call) (h t : History) (s : ℕ) → IsMapRun c.layout h → Extends c.start t
-        → s ≢ 0 → value t (state s) ≢ 0 → IsNamedByFinal c.layout t s → IsMapCall c h
+        → s ≢ 0 → value t (state s) ≢ 0 → IsNamedByLeft c.layout t s → IsMapCall c h
         → OfEachStep (IsNotAtScx s) c h }
 {}
