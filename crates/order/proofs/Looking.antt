@@ -4,7 +4,7 @@ use native.Mathlib.Decide.{ℕ_discrete}
 use Rattle.histories.specs.Common.{NodeNo, Settled, Head as HeadWord, Side, Left, Right, node, History, value, Extends, Call, begun_at}
 use Rattle.arena.proofs.Lemmas.{ends_self, ends_trans}
 use Rattle.prims.specs.Laws.Idle.{quiet_at_start, idle_if_finished}
-use Rattle.template.specs.Common.{IsSnapshot, LlxIsReady, child_of, LlxRun, Snap, Pair, MapReply, Passed, WasInTree, IsMapRun}
+use Rattle.template.specs.Common.{IsSnapshot, LlxIsReady, child_of, LlxRun, Snap, Pair, MapReply, Passed, IsMapRun}
 use Rattle.template.specs.Common.{Spells, TreeAllows, class, is_leaf, level, rank, HasWalked, HasFoundGoal, HasFoundLeaf, Key as ToKey}
 use Rattle.prims.specs.Llx.Known.{LlxKnows}
 use Rattle.prims.specs.Vlx.Known.{IsSame}
