@@ -93,6 +93,7 @@ impl PutPair {
     /// One of three fresh nodes that hold five pairs in a trie: those below the key of the fork
     /// between the first and the last of them, the others, and that fork; or, where the map is
     /// empty, the one pair, and a copy of the leaf above all keys.
+    #[inline(always)]
     fn part(found: &Found, pairs: Pairs, nodes: &Nodes, nth: Nth) -> Piece
         ensures { result ≡ parted_pieces pairs found.now nodes.now nth }
     {
@@ -104,6 +105,7 @@ impl PutPair {
     }
 
     /// Those of five pairs.
+    #[inline(always)]
     fn part_low(pairs: Pairs, nodes: &Nodes, nth: Nth) -> Piece
         ensures { result ≡ low_parts pairs nodes.now nth }
     {
@@ -130,6 +132,7 @@ impl PutPair {
     }
 
     /// Those of the first pair of all.
+    #[inline(always)]
     fn part_high(found: &Found, pairs: Pairs, nodes: &Nodes, nth: Nth) -> Piece
         ensures { result ≡ high_parts pairs found.now.head.class nodes.now nth }
     {
