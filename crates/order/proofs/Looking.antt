@@ -4,13 +4,14 @@ use native.Mathlib.Decide.{ℕ_discrete}
 use Rattle.histories.specs.Common.{NodeNo, Settled, Head as HeadWord, Side, Left, Right, node, History, value, Extends, Call, begun_at}
 use Rattle.arena.proofs.Lemmas.{ends_self, ends_trans}
 use Rattle.prims.specs.Laws.Idle.{quiet_at_start, idle_if_finished}
-use Rattle.template.specs.Common.{IsSnapshot, LlxIsReady, child_of, LlxRun, Snap, Pair, MapReply, Passed, WasInTree, IsMapRun}
+use Rattle.template.specs.Common.{IsSnapshot, LlxIsReady, child_of, LlxRun, Snap, Pair, MapReply, Passed, IsMapRun}
 use Rattle.template.specs.Common.{Spells, TreeAllows, class, is_leaf, level, rank, HasWalked, HasFoundGoal, HasFoundLeaf, Key as ToKey}
 use Rattle.prims.specs.Llx.Known.{LlxKnows}
 use Rattle.prims.specs.Vlx.Known.{IsSame}
 use Rattle.prims.specs.declared.llx.LlxAt.TheVariants.{Start as LlxStart}
-use Rattle.ordered_map.proofs.Lemmas.{was_passed, same_stays, settled_leaf, settled_toward}
-use Rattle.ordered_map.proofs.MapLemmas.{passed_unmarked, path_not_final, root_head, run_since, run_spells, stood_settled, walk_first}
+use Rattle.ordered_map.specs.Paths.{StoodSince}
+use Rattle.ordered_map.proofs.Lemmas.{same_stays, settled_leaf, settled_toward}
+use Rattle.ordered_map.proofs.MapLemmas.{passed_unmarked, path_not_final, root_head, run_since, run_spells, stood_settled, walk_first, walked_since}
 use Rattle.template.specs.declared.walk.Found.{Found}
 use Rattle.template.proofs.Lemmas.{own_since, opened_if_stood}
 use Rattle.order.specs.Found.{GoesTo, IsReading, IsThere, Looks, Stands, WalksTo}
@@ -84,7 +85,8 @@ module _ {R A : Type 0} (means : ReadMeaning R A) (r : R) (snaps : List Snap) (c
   looks_first : (key : ℕ) (side : Side) (n : ℕ) → WalksTo means r key side → LastTurned c h key (turned_at side n) n → Looks means r snaps c h (first_children side n) 0 n
   looks_first key side n w x = record {
     stood = record {
-      stood = stood;
+      stood = there.0;
+      in_call = ends_trans there.0.moment x.sure.on.first c.start there.1 (own_since c x.sure.on.first x.sure.on.own);
       not_final = record { moment = p.0; within = p.1; since = ends_trans p.0 x.sure.on.first c.start p.2 (own_since c x.sure.on.first x.sure.on.own); was = path_not_final c.layout p.0 key n (run_since c.layout h p.0 reading.reads.run p.1) p.3 };
     };
     asks = w.asks;
@@ -92,15 +94,15 @@ module _ {R A : Type 0} (means : ReadMeaning R A) (r : R) (snaps : List Snap) (c
     deep = omega arith;
     waits = rw w.waits tt;
     here = λ b run e hold.
-        let same = stood_settled c.layout b h n run e stood in
+        let same = stood_settled c.layout b h n run e there.0 in
         w.turned b n (λ unmarked. passed_unmarked c.layout b x.sure.on.first key n run (p.0, ends_trans b h p.0 e p.1, p.2, p.3) (same_stays (value h) (value b) c.layout key n same x.sure.stays) unmarked) (settled_toward (value h) (value b) n key same ∙ x.turn);
   }
     where
       p : Passed h x.sure.on.first key n
       p = x.sure.on.passed
 
-      stood : WasInTree h n
-      stood = was_passed h x.sure.on.first key n p
+      there : StoodSince h x.sure.on.first n
+      there = walked_since c.layout h x.sure.on.first key n (inl p)
 
   -- so it may after the leaf that its walk has found
   pub walk_found : (key : ℕ) (side : Side) (turns : LastTurns) (f : Found) → WalksTo means r key side → AreLastTurns c h key turns → HasFoundGoal (ToKey key) c h f → Looks means r snaps c h (first_children side (turn_to side turns).0) 0 (turn_to side turns).0
@@ -141,7 +143,7 @@ module _ {R A : Type 0} (means : ReadMeaning R A) (r : R) (snaps : List Snap) (c
 
     -- and reads on with the longer list
     pub reads_on : (now : R) → means.call now ≡ means.call r → IsReading means now (snaps ++ snap ∷ []) c h
-    reads_on now same = record { reads = reads_one_more c h snaps snap reading.reads is x.stood.stood; suits = rw same reading.suits }
+    reads_on now same = record { reads = reads_one_more c h snaps snap reading.reads is x.stood; suits = rw same reading.suits }
 
   -- a leaf is not the root: a snapshot was taken
   pub some_taken : (n : ℕ) → Stands means r snaps c h n → is_leaf (value h) n ≡ true → 0 < length snaps

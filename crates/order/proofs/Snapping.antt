@@ -1,13 +1,32 @@
 -- One snapshot more: what it says of the children of its node, and what holds as long as the infos
 -- are what was found.
-use Rattle.std.proofs.Common.{◌≡◌, ℕ, zero, suc, ◌<◌, ◌⊎◌, false, List, [], ◌∷◌, ◌++◌, length, inl, inr, ⊎_elim, refl, sym, subst, arith}
-use Rattle.histories.specs.Common.{Side, child, info, marked, History, value, Extends, Call}
+use Rattle.std.proofs.Common.{◌≡◌, ℕ, zero, suc, ◌<◌, ◌⊎◌, ◌∙◌, true, false, List, [], ◌∷◌, ◌++◌, length, inl, inr, ⊎_elim, refl, sym, subst, arith}
+use Rattle.histories.specs.Common.{Side, Left, Right, Word, child, info, marked, History, value, Extends, Call}
 use Rattle.arena.proofs.Lemmas.{ends_self}
 use Rattle.prims.specs.Laws.InTheWay.{been_now}
 use Rattle.prims.specs.Laws.Linked.{IsLinked, linked_since}
-use Rattle.template.specs.Common.{IsSnapshot, child_of, snap_at, Snap, IsMapRun, WasInTree, is_leaf, level}
-use Rattle.ordered_map.proofs.MapLemmas.{child_not_final, child_stood, levels_rise}
+use Rattle.template.specs.Common.{IsSnapshot, child_of, snap_at, Snap, IsMapRun, IsTree, Spells, Tree, root, Shows, is_leaf, level}
+use Rattle.ordered_map.specs.TreeWords.{Fork, Has, Leaf, rank}
+use Rattle.ordered_map.proofs.MapLemmas.{child_not_final, levels_rise, run_spells, tree_remains}
 use Rattle.order.specs.Reads.{AreSnapped, HasSnapped, Reads, AllHold, HasStood}
+
+-- the children of a fork of a tree are in it
+pub has_root : (t : Tree) → Has t (root t)
+has_root (Leaf n) = refl
+has_root (Fork n a b) = inl refl
+
+pub has_below : (f : Word → ℕ) (t : Tree) (lo hi n : ℕ) (side : Side) → Shows f lo hi t → Has t n → is_leaf f n ≡ false → Has t (f (child n side))
+has_below f (Leaf m) lo hi n side s e d = absurd (let x : true ≡ false = sym s.leaf ∙ rw (← e) at d in cc)
+has_below f (Fork m a b) lo hi n Left s (inl e) d = let q : f (child n Left) ≡ root a = rw (← e) s.0.left in inr (inl (subst (Has a) (sym q) (has_root a)))
+has_below f (Fork m a b) lo hi n Right s (inl e) d = let q : f (child n Right) ≡ root b = rw (← e) s.0.right in inr (inr (subst (Has b) (sym q) (has_root b)))
+has_below f (Fork m a b) lo hi n side s (inr (inl h)) d = inr (inl (has_below f a lo (rank f m) n side s.1 h d))
+has_below f (Fork m a b) lo hi n side s (inr (inr h)) d = inr (inr (has_below f b (rank f m) hi n side s.2 h d))
+
+-- the node is in the tree
+record WasNow (h : History) (n : ℕ) : Type 0 where
+  tree : Tree
+  is_tree : IsTree (value h) tree
+  has : Has tree n
 
 -- a place in the longer list is one of the shorter, or the last
 at_end : (snaps : List Snap) (s : Snap) (i : ℕ) → i < length (snaps ++ s ∷ []) → ((i < length snaps) × (snap_at (snaps ++ s ∷ []) i ≡ snap_at snaps i)) ⊎ ((i ≡ length snaps) × (snap_at (snaps ++ s ∷ []) i ≡ s))
@@ -46,21 +65,27 @@ hold_last b snaps s x =
     subst (λ (t : Snap). value b (info t.node.0) ≡ t.scx.0) y.1 (x (length snaps) y.0)
 
 module _ (c : Call) (h : History) (snaps : List Snap) (snap : Snap) (reads : Reads c h snaps) (is : IsSnapshot c.layout h snap.node.0 snap) where
-  snapped_one_more : WasInTree h snap.node.0 → AreSnapped c h (snaps ++ snap ∷ [])
+  snapped_one_more : HasStood c h snap.node.0 → AreSnapped c h (snaps ++ snap ∷ [])
   snapped_one_more stood i p = ⊎_elim (λ q. subst (HasSnapped c h) (sym q.1) (reads.snapped i q.0)) (λ q. subst (HasSnapped c h) (sym q.1) now) (at_end snaps snap i p)
     where
       now : HasSnapped c h snap
-      now = record { moment = h; within = ends_self h; since = reads.since; stood = stood; is = is }
+      now = record { moment = h; within = ends_self h; since = reads.since; stood = stood.stood; in_call = stood.in_call; is = is }
 
   -- the read continues with the longer list
-  pub reads_one_more : WasInTree h snap.node.0 → Reads c h (snaps ++ snap ∷ [])
+  pub reads_one_more : HasStood c h snap.node.0 → Reads c h (snaps ++ snap ∷ [])
   reads_one_more stood = record { run = reads.run; since = reads.since; over = reads.over; quiet = reads.quiet; snapped = snapped_one_more stood }
 
   module _ (stood : HasStood c h snap.node.0) (fork : is_leaf (value h) snap.node.0 ≡ false) where
-    -- a child of the node has been in the tree, too
+    -- a child of the node is in the tree, as that is
+    child_now : (s : Side) → WasNow h (value h (child snap.node.0 s))
+    child_now s =
+        let spelled : Spells c.layout (value h) (run_spells c.layout h reads.run).0 = (run_spells c.layout h reads.run).1 in
+        record { tree = spelled.tree; is_tree = spelled.is_tree; has = has_below (value h) spelled.tree _ _ snap.node.0 s spelled.is_tree.shows (tree_remains c.layout h spelled.tree snap.node.0 reads.run stood.stood (inr fork) is.not_final spelled.is_tree) fork }
+
     pub child_there : (s : Side) → HasStood c h (child_of snap s).0
-    child_there s = subst (HasStood c h) (is.linked.fields s is.info) record {
-      stood = child_stood c.layout h h snap.node.0 s reads.run (ends_self h) stood.stood is.not_final fork;
+    child_there s = let x = child_now s in subst (HasStood c h) (is.linked.fields s is.info) record {
+      stood = record { moment = h; within = ends_self h; tree = x.tree; is_tree = x.is_tree; has = x.has };
+      in_call = reads.since;
       not_final = been_now h c.start _ reads.since (child_not_final c.layout h snap.node.0 s reads.run stood.stood is.not_final fork);
     }
 

@@ -6,12 +6,13 @@ use Rattle.prims.specs.Laws.Idle.{IsQuietSince}
 use Rattle.prims.specs.Laws.InTheWay.{HasBeen}
 use Rattle.template.specs.Common.{IsSnapshot, AreFinished, snap_at, Snap, WasInTree, IsMapRun}
 
--- the snapshot was right at a moment of the call, by which its node had been in the tree
+-- the snapshot was right at a moment of the call, by which its node had been in the tree in it
 pub record HasSnapped (c : Call) (h : History) (snap : Snap) : Type 0 where
   pub moment : History
   pub within : Extends h moment
   pub since : Extends moment c.start
   pub stood : WasInTree moment snap.node.0
+  pub in_call : Extends stood.moment c.start
   pub is : IsSnapshot c.layout moment snap.node.0 snap
 
 -- each of these snapshots was
@@ -35,7 +36,8 @@ AllHold b snaps = (i : ℕ) → i < length snaps → value b (info (snap_at snap
 abbrev pub Whenever : Layout → History → List Snap → (History → Type 0) → Type 0
 Whenever lay h snaps P = (b : History) → IsMapRun lay b → Extends b h → AllHold b snaps → P b
 
--- the node has been in the tree, and was not final at a moment of the call
+-- the node was in the tree at a moment of the call, and was not final at one
 pub record HasStood (c : Call) (h : History) (n : ℕ) : Type 0 where
   pub stood : WasInTree h n
+  pub in_call : Extends stood.moment c.start
   pub not_final : HasBeen h c.start (λ m. is_final (log c.layout m) n ≡ false)

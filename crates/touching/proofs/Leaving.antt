@@ -18,7 +18,7 @@ use Rattle.ordered_map.proofs.MapLemmas.{run_since, run_spells, stood_in_field, 
 use Rattle.touching.specs.Kinds.{IsInTree}
 use Rattle.touching.proofs.Begun.{HasBegunEdit, below_named, begun_edit, first_keeps, kept, leaf_then, member_named, named_begun, new_named, word_then}
 use Rattle.touching.proofs.Present.{one_first}
-use Rattle.touching.proofs.Standing.{has_below, has_root}
+use Rattle.order.proofs.Lemmas.{has_below, has_root}
 
 -- Trees
 

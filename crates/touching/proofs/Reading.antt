@@ -1,10 +1,8 @@
 -- What an ordered read touches.
 use Rattle.std.proofs.Common.{ℕ}
-use Rattle.histories.specs.Common.{Layout, Step, History, Extends, Call, begun_at}
+use Rattle.histories.specs.Common.{Step, History, Extends, Call, begun_at}
 use Rattle.arena.proofs.Lemmas.{ends_trans}
-use Rattle.ordered_map.specs.Runs.{IsMapRun}
 use Rattle.ordered_map.specs.TreeShape.{TreeAllows}
-use Rattle.prims.specs.Snap.{snap_at}
 use Rattle.template.specs.Walk.Places.{IsPastRoot}
 use Rattle.template.specs.declared.walk.WalkAt.{WalkAt}
 use Rattle.template.specs.declared.walk.WalkAt.TheVariants as walks
@@ -19,14 +17,20 @@ use Rattle.order.specs.declared.load.ReadLoad.TheVariants as loads
 use Rattle.order.specs.declared.run.ReadAt.{ReadAt}
 use Rattle.order.specs.declared.run.ReadAt.TheVariants.{Start, Walk, Root, Load, Look, Validate}
 use Rattle.order.specs.declared.run.ReadRun.{ReadRun}
-use Rattle.touching.specs.Touches.{WasSo, was_so, Touches, WereSo}
+use Rattle.touching.specs.Touches.{was_so, Touches, WereSo}
 use Rattle.touching.proofs.Moments.{been_wider}
-use Rattle.touching.proofs.Present.{IsKind}
+use Rattle.touching.proofs.OwnScx.{InTree}
+use Rattle.touching.proofs.Present.{in_tree_kind}
+use Rattle.touching.proofs.Standing.{WasThere}
 use Rattle.touching.proofs.Walks.{root_so, walk_in_call}
 use Rattle.touching.proofs.Looking.{llx_in_call}
 use Rattle.touching.proofs.Changing.{vlx_in_call}
 
-module _ (P : Layout → History → ℕ → Type 0) (kind : IsKind P) {R A : Type 0} (means : ReadMeaning R A) (m : ReadRun R) (c : Call) (h begin : History) where
+-- what a read comes to was there
+stood_there : (c : Call) (h : History) (n : ℕ) → HasStood c h n → WasThere c h n
+stood_there c h n x = let s = x.stood in record { moment = s.moment; within = s.within; since = x.in_call; was = record { tree = s.tree; is_tree = s.is_tree; has = s.has } }
+
+module _ {R A : Type 0} (means : ReadMeaning R A) (m : ReadRun R) (c : Call) (h begin : History) where
   abbrev try : Call
   try = begun_at c begin
 
@@ -54,7 +58,7 @@ module _ (P : Layout → History → ℕ → Type 0) (kind : IsKind P) {R A : Ty
   walk_now turns (walks.Value head more slot key) e x = ends_trans h begin c.start e x.begins.since
   walk_now turns (walks.High head more slot key low) e x = ends_trans h begin c.start e x.begins.since
 
-  -- what it loads a word of was not final
+  -- what it loads a word of has stood
   loaded : (of : ReadLoad) → MayLoad means m.read m.snaps.items try h of → HasStood try h (load_node of).0
   loaded (loads.Head above n) x = x.0.stood
   loaded (loads.Key low n) x = x.stands.stood
@@ -63,22 +67,30 @@ module _ (P : Layout → History → ℕ → Type 0) (kind : IsKind P) {R A : Ty
   loaded (loads.Value p key) x = x.stands.stood
   loaded (loads.High p key low) x = x.0.stands.stood
 
-  -- and so was so in the call
-  stood_node : Extends begin c.start → IsMapRun c.layout h → (n : ℕ) → HasStood try h n → WasSo P c h n
-  stood_node e run n x = kind.stood c h n run x.stood (been_wider h begin c.start _ e x.not_final)
+  -- and so was there in the call
+  stood_node : Extends begin c.start → (n : ℕ) → HasStood try h n → WasThere c h n
+  stood_node e n x = been_wider h begin c.start _ e (stood_there try h n x)
 
-  read_at : (at : ReadAt) (s : Step) → ReadGoes means m try h → StandsInTry means m c h begin at → ReadWaitsAt means m try h s at → Touches P c h s.word
+  read_at : (at : ReadAt) (s : Step) → ReadGoes means m try h → StandsInTry means m c h begin at → ReadWaitsAt means m try h s at → Touches InTree c h s.word
   read_at Start s g i k = absurd k
-  read_at (Walk walk side turns) s g i k = walk_in_call P kind.in_tree c begin h k.1.run walk (walk_now turns walk.at k.1.since i) s (λ past. walk_since turns walk.at past i) k.1
-  read_at Root s g i k = rw k.1 (was_so (root_so P kind.in_tree c h g.reads.run i.0.since))
-  read_at (Load of) s g i k = rw k.1 (was_so (stood_node i.begins.since g.reads.run (load_node of).0 (loaded of k.0)))
+  read_at (Walk walk side turns) s g i k = walk_in_call InTree in_tree_kind c begin h k.1.run walk (walk_now turns walk.at k.1.since i) s (λ past. walk_since turns walk.at past i) k.1
+  read_at Root s g i k = rw k.1 (was_so (root_so InTree in_tree_kind c h g.reads.run i.0.since))
+  read_at (Load of) s g i k = rw k.1 (was_so (stood_node i.begins.since (load_node of).0 (loaded of k.0)))
   read_at (Look children low llx) s g i k =
       let x = k.1 in
-      llx_in_call P TreeAllows c x.0 h llx s g.reads.run.1 (ends_trans x.0 begin c.start x.1 i.begins.since) x.2 (stood_node i.begins.since g.reads.run llx.node.0 k.0.stood)
-  read_at (Validate asked) s g i k = vlx_in_call P m.snaps.items asked c k.0 h s k.2 so
+      llx_in_call InTree TreeAllows c x.0 h llx s g.reads.run.1 (ends_trans x.0 begin c.start x.1 i.begins.since) x.2 (stood_node i.begins.since llx.node.0 k.0.stood)
+  read_at (Validate asked) s g i k = vlx_in_call InTree m.snaps.items asked c k.0 h s k.2 so
     where
-      so : WereSo P c h m.snaps.items
-      so j p = let u = k.1.reads.snapped j p in kind.stood c h (snap_at m.snaps.items j).node.0 g.reads.run (let w = u.stood in record { moment = w.moment; within = ends_trans h u.moment w.moment (ends_trans h k.0 u.moment k.1.within u.within) w.within; tree = w.tree; is_tree = w.is_tree; has = w.has }) record { moment = u.moment; within = ends_trans h k.0 u.moment k.1.within u.within; since = ends_trans u.moment begin c.start u.since i.begins.since; was = u.is.not_final }
+      so : WereSo InTree c h m.snaps.items
+      so j p =
+          let u = k.1.reads.snapped j p in
+          let w = u.stood in
+          record {
+            moment = w.moment;
+            within = ends_trans h u.moment w.moment (ends_trans h k.0 u.moment k.1.within u.within) w.within;
+            since = ends_trans w.moment begin c.start u.in_call i.begins.since;
+            was = record { tree = w.tree; is_tree = w.is_tree; has = w.has };
+          }
 
-pub read_touches : (P : Layout → History → ℕ → Type 0) → IsKind P → {R A : Type 0} (means : ReadMeaning R A) (m : ReadRun R) (c : Call) (h : History) (s : Step) → ReadWaits means m c h s → Touches P c h s.word
-read_touches P kind means m c h s w = read_at P kind means m c h w.0 m.at s w.2 w.1 w.3
+pub read_touches : {R A : Type 0} (means : ReadMeaning R A) (m : ReadRun R) (c : Call) (h : History) (s : Step) → ReadWaits means m c h s → Touches InTree c h s.word
+read_touches means m c h s w = read_at means m c h w.0 m.at s w.2 w.1 w.3

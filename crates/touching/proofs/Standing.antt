@@ -1,16 +1,17 @@
 -- Nodes of the tree, or of the trie, at a moment of a call: node 2, the children of a fork, what
 -- the call has passed.
-use Rattle.std.proofs.Common.{◌≡◌, ℕ, true, false, inl, inr, List, [], ◌∷◌, ◌++◌, refl, sym, ◌∙◌, subst}
+use Rattle.std.proofs.Common.{◌≡◌, ℕ, false, inl, inr, List, [], ◌∷◌, ◌++◌, refl, sym, ◌∙◌, subst}
 use Rattle.std.specs.Prelude.{All}
 use Rattle.std.proofs.lemmas.List.Elements.{All-append, All-cons, All-head, All-nil, All-tail, All-weaker}
-use Rattle.histories.specs.Common.{Layout, Side, Left, Right, Word, History, Extends, value, child, log, is_final, Call}
+use Rattle.histories.specs.Common.{Layout, Side, History, Extends, value, child, log, is_final, Call}
 use Rattle.arena.proofs.Lemmas.{ends_self, ends_trans}
 use Rattle.ordered_map.specs.Paths.{StoodSince, WasInTree}
 use Rattle.ordered_map.specs.Runs.{IsMapRun}
 use Rattle.ordered_map.specs.Spelled.{Spells}
-use Rattle.ordered_map.specs.TreeWords.{Tree, Leaf, Fork, root, rank, leaf_nodes, Has, Shows, is_leaf}
+use Rattle.ordered_map.specs.TreeWords.{Tree, Leaf, Fork, leaf_nodes, Has, is_leaf}
 use Rattle.ordered_map.proofs.Lemmas.{settled_leaf}
 use Rattle.ordered_map.proofs.MapLemmas.{run_spells, stood_settled, tree_remains, walked_since}
+use Rattle.order.proofs.Lemmas.{has_below}
 use Rattle.template.specs.Trails.{WasPassed}
 use Rattle.template.proofs.Lemmas.{own_since}
 use Rattle.touching.specs.Kinds.{IsInTree}
@@ -44,17 +45,6 @@ pub two_there : (c : Call) (h : History) → IsMapRun c.layout h → Extends h c
 two_there c h run since = record { moment = h; within = ends_self h; since = since; was = two_now c.layout h run }
 
 -- The children of a fork
-
-pub has_root : (t : Tree) → Has t (root t)
-has_root (Leaf n) = refl
-has_root (Fork n a b) = inl refl
-
-pub has_below : (f : Word → ℕ) (t : Tree) (lo hi n : ℕ) (side : Side) → Shows f lo hi t → Has t n → is_leaf f n ≡ false → Has t (f (child n side))
-has_below f (Leaf m) lo hi n side s e d = absurd (let x : true ≡ false = sym s.leaf ∙ rw (← e) at d in cc)
-has_below f (Fork m a b) lo hi n Left s (inl e) d = let q : f (child n Left) ≡ root a = rw (← e) s.0.left in inr (inl (subst (Has a) (sym q) (has_root a)))
-has_below f (Fork m a b) lo hi n Right s (inl e) d = let q : f (child n Right) ≡ root b = rw (← e) s.0.right in inr (inr (subst (Has b) (sym q) (has_root b)))
-has_below f (Fork m a b) lo hi n side s (inr (inl h)) d = inr (inl (has_below f a lo (rank f m) n side s.1 h d))
-has_below f (Fork m a b) lo hi n side s (inr (inr h)) d = inr (inr (has_below f b (rank f m) hi n side s.2 h d))
 
 module _ (lay : Layout) (h : History) (n : ℕ) (run : IsMapRun lay h) (stood : WasInTree h n) (not_final : is_final (log lay h) n ≡ false) (fork : is_leaf (value h) n ≡ false) where
   -- a fork that has been in the tree and is not final is there

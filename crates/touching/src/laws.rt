@@ -33,13 +33,13 @@ ghost use Rattle.order.specs.declared.range.Range.{Range};
 ghost use Rattle.order.specs.declared.run.ReadRun.{ReadRun};
 ghost use Rattle.template.specs.Common.{Rule};
 ghost use Rattle.tree.specs.declared.key_edit.KeyEdit.{KeyEdit};
-ghost use Rattle.dict.specs.Inner.{GoalBy, edit_means, inner};
+ghost use Rattle.dict.specs.Inner.{GoalBy, edit_means};
 ghost use Rattle.dict.specs.DictKnown.{DictWaits};
 ghost use Rattle.dict.specs.Known.{MapWaits};
 ghost use Rattle.dict.specs.Words.{IsWordOf};
 ghost use Rattle.dict.specs.declared.run.MapRun.{MapRun};
 ghost use Rattle.touching.specs.Fresh.{WasNamedInCall};
-ghost use Rattle.touching.specs.Kinds.{IsEditOrGet, IsInTree, IsNotFinal, IsPresent};
+ghost use Rattle.touching.specs.Kinds.{IsInTree, IsNotFinal};
 ghost use Rattle.touching.specs.Left.{AreLetGoOrLeft, HasLeft, IsNamedByLeft};
 ghost use Rattle.touching.specs.Unmarked.{CoversUnmarked};
 ghost use Rattle.touching.specs.Rests.{AllHaveRested, AreLetGo, HasRestedSince, IsNamedByFinal};
@@ -80,19 +80,17 @@ pub fn machines_touch()
     ensures unmarked { (m : UpdateRun (KeyEdit GoalBy Rule) UpdateAt) (c : Call) (h : History)
         (s : Step) → UpdateWaits edit_means m c h s → CoversUnmarked c h m.at }
     ensures neighbours { (m : ReadRun Neighbour) (c : Call) (h : History) (s : Step)
-        → ReadWaits neighbour_means m c h s → Touches IsPresent c h s.word }
+        → ReadWaits neighbour_means m c h s → Touches (λ lay. IsInTree) c h s.word }
     ensures ranges { (m : ReadRun Range) (c : Call) (h : History) (s : Step)
-        → ReadWaits range_means m c h s → Touches IsPresent c h s.word }
+        → ReadWaits range_means m c h s → Touches (λ lay. IsInTree) c h s.word }
 {}
 
 /// What a whole call of a map touches. It does nothing; a caller learns this from its contract.
 pub fn calls_touch()
     ensures touches { (tries : ℕ) (m : MapRun) (c : Call) (h : History) (s : Step)
-        → MapWaits tries m c h s → Touches IsPresent c h s.word }
-    ensures in_tree { (tries : ℕ) (m : MapRun) (c : Call) (h : History) (s : Step)
-        → IsEditOrGet (inner m) → MapWaits tries m c h s → Touches (λ lay. IsInTree) c h s.word }
-    ensures present { (c : Call) (h : History) (w : Word) → IsMapRun c.layout h
-        → Touches IsPresent c h w → Touches IsNotFinal c h w }
+        → MapWaits tries m c h s → Touches (λ lay. IsInTree) c h s.word }
+    ensures not_final { (c : Call) (h : History) (w : Word) → IsMapRun c.layout h
+        → Touches (λ lay. IsInTree) c h w → Touches IsNotFinal c h w }
 {}
 
 /// What the machine of a call of a dictionary touches. It does nothing; a caller learns this from
@@ -100,7 +98,7 @@ pub fn calls_touch()
 pub fn dictionaries_touch<K: WordKey, V: WordValue>()
     ensures { (m : DictRun K V) (c : Call) (h : History) (s : Step)
         → DictWaits (IsWordOf K.is_valid K.word_of) (IsWordOf V.is_valid V.word_of) m c h s
-        → Touches IsPresent c h s.word }
+        → Touches (λ lay. IsInTree) c h s.word }
 {}
 
 /// What a whole call of a map comes to, step by step: each word is one that it may come to then, and
@@ -108,7 +106,7 @@ pub fn dictionaries_touch<K: WordKey, V: WordValue>()
 /// from its contract.
 pub fn steps_touch()
     ensures touches { (c : Call) (h : History) → IsMapCall c h
-        → OfEachStep (MayComeThere IsPresent) c h }
+        → OfEachStep (MayComeThere (λ lay. IsInTree)) c h }
     ensures stores { (c : Call) (h : History) (r : Row) → IsMapStep c h r → StoresUnmarked c h r }
 {}
 
@@ -170,15 +168,19 @@ pub fn dead_is_untouched()
 {}
 
 /// What no step of a call of a map comes to. A marked node, if all passes have rested between two
-/// calls since it was marked, and have filled since what their calls fill; a finished SCX-record
-/// that no node names but final ones. It does nothing; a caller learns this from its contract.
+/// calls since it was marked, and have filled since what their calls fill; a node that has left a
+/// trie unmarked before; a finished SCX-record that no nodes name but final ones and such. It does
+/// nothing; a caller learns this from its contract.
 pub fn dead_is_out_of_reach()
     ensures rested { (lay : Layout) (h start t : History) (n o : ℕ) → Lawful lay h
         → Extends h start → n ≢ 0 → HasPaused lay h start t o → HasRestedSince lay h start t n o }
     ensures nodes { (c : Call) (h t : History) (n : ℕ) → IsMapRun c.layout h → Extends c.start t
         → n ≢ 0 → value t (marked n) ≢ 0 → IsTakenNode c.start n
         → AllHavePaused c.layout h c.start t → IsMapCall c h → OfEachStep (IsNotAtNode n) c h }
+    ensures leaves { (c : Call) (h t : History) (n : ℕ) → IsMapRun c.layout h → Extends c.start t
+        → HasLeft t n → value t (marked n) ≡ 0 → IsTakenNode c.start n → IsMapCall c h
+        → OfEachStep (IsNotAtNode n) c h }
     ensures scx { (c : Call) (h t : History) (s : ℕ) → IsMapRun c.layout h → Extends c.start t
-        → s ≢ 0 → value t (state s) ≢ 0 → IsNamedByFinal c.layout t s → IsMapCall c h
+        → s ≢ 0 → value t (state s) ≢ 0 → IsNamedByLeft c.layout t s → IsMapCall c h
         → OfEachStep (IsNotAtScx s) c h }
 {}

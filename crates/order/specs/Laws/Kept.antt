@@ -9,8 +9,9 @@ use Rattle.prims.specs.Laws.Idle.{IsIdle, quiet_at_start, quiet_more, idle_if_fi
 use Rattle.prims.specs.Laws.InTheWay.{been_more}
 use Rattle.template.specs.Common.{load, AreFinished, Snap, Passed, IsMapRun, TreeAllows, level, begins_try}
 use Rattle.prims.proofs.Lemmas.{over_more}
-use Rattle.ordered_map.proofs.Lemmas.{was_passed, SameSettled}
-use Rattle.ordered_map.proofs.MapLemmas.{path_not_final, root_head, run_since, stood_settled, walk_first}
+use Rattle.ordered_map.proofs.Lemmas.{SameSettled}
+use Rattle.ordered_map.specs.Paths.{StoodSince}
+use Rattle.ordered_map.proofs.MapLemmas.{path_not_final, root_head, run_since, stood_settled, walk_first, walked_since}
 use Rattle.template.proofs.Lemmas.{BeginsNoTry, newest_more, newest_now, next_more, other_node_begins_none}
 use Rattle.order.specs.Loads.{load_word}
 use Rattle.order.specs.Meaning.{ReadMeaning}
@@ -20,15 +21,19 @@ use Rattle.order.specs.Tries.{BeginsTry, IsInTry}
 use Rattle.order.specs.declared.load.ReadLoad.{ReadLoad}
 use Rattle.order.specs.declared.load.ReadLoad.TheVariants as loads
 
--- the root has been in the tree
+-- the root is in the tree
 pub root_there : (c : Call) (h : History) → IsMapRun c.layout h → Extends h c.start → HasStood c h 0
 root_there c h run since = record {
-  stood = was_passed h h 0 0 p;
+  stood = x.0;
+  in_call = ends_trans x.0.moment h c.start x.1 since;
   not_final = record { moment = p.0; within = p.1; since = ends_trans p.0 h c.start p.2 since; was = path_not_final c.layout p.0 0 0 (run_since c.layout h p.0 run p.1) p.3 };
 }
   where
     p : Passed h h 0 0
     p = walk_first c.layout h 0 run
+
+    x : StoodSince h h 0
+    x = walked_since c.layout h h 0 0 (inl p)
 
 -- with no snapshot it knows all that it knows of the call as if that began now
 pub reads_anew : (c : Call) (h : History) (snaps : List Snap) → snaps ≡ [] → IsMapRun c.layout h → AreFinished c.layout c.pass 0 h → Reads (begun_at c h) h snaps
@@ -53,11 +58,12 @@ module _ (c : Call) (h : History) (r : Row) where
   pub stood_more : (n : ℕ) → HasStood c h n → HasStood c (r ⊳ h) n
   stood_more n x = record {
     stood = let s = x.stood in record { moment = s.moment; within = inr s.within; tree = s.tree; is_tree = s.is_tree; has = s.has };
+    in_call = x.in_call;
     not_final = been_more r h c.start _ x.not_final;
   }
 
   snapped_more : (snaps : List Snap) → AreSnapped c h snaps → AreSnapped c (r ⊳ h) snaps
-  snapped_more snaps x i p = let u = x i p in record { moment = u.moment; within = inr u.within; since = u.since; stood = u.stood; is = u.is }
+  snapped_more snaps x i p = let u = x i p in record { moment = u.moment; within = inr u.within; since = u.since; stood = u.stood; in_call = u.in_call; is = u.is }
 
   pub whenever_more : (snaps : List Snap) (P : History → Type 0) → Whenever c.layout h snaps P → Whenever c.layout (r ⊳ h) snaps P
   whenever_more snaps P x b run e = x b run (ends_trans b (r ⊳ h) h e (inr (ends_self h)))

@@ -1,4 +1,4 @@
-use Rattle.touching.proofs.Stepping.{no_dead_node, no_dead_scx}
+use Rattle.touching.proofs.Stepping.{no_dead_node, no_dead_scx, no_left_node}
 use Rattle.touching.proofs.Storing.{paused_rested}
 use Rattle.touching.proofs.laws.dead_is_out_of_reach.Goals as goal
 
@@ -7,6 +7,9 @@ returns-clause-rested g = paused_rested
 
 pub returns-clause-nodes : goal.returns-clause-nodes
 returns-clause-nodes g = no_dead_node
+
+pub returns-clause-leaves : goal.returns-clause-leaves
+returns-clause-leaves g = no_left_node
 
 pub returns-clause-scx : goal.returns-clause-scx
 returns-clause-scx g = no_dead_scx
