@@ -83,6 +83,14 @@ removed_out lay h last t since n dead = node_out lay h last t since n dead.taken
         let final : is_final (log lay x.moment) n ≡ true = final_since lay x.moment t n run_x.1.lawful later (removed_final lay t n (lawful_since lay x.moment t run_x.1.lawful later) dead) in
         let d : true ≡ false = sym final ∙ there_not_final lay x.moment n run_x x.was in cc
 
+-- a marked node is removed as soon as that is finished which its info named
+pub removed_seen : (lay : Layout) (h t : History) (n : ℕ) → Lawful lay h → Extends h t → IsMarkedNode t n → value h (state (value t (info n))) ≢ 0 → IsRemovedNode h n
+removed_seen lay h t n l e x d = record {
+  taken = taken_node_since h t n e x.taken;
+  mark = λ z. (let y : value h (marked n) ≡ 1 = marked_since lay h t n l e ((facts lay t (lawful_since lay h t l e)).mark n x.mark) in omega (arith, y, z));
+  finished = subst (λ v. value h (state v) ≢ 0) (sym (remover_stays lay h t n l e x.mark)) d;
+}
+
 -- After a period the remover of a marked node is finished: its owner has rested since the mark.
 module _ (lay : Layout) (t snapshot end : History) (n : ℕ) (l : Lawful lay end) (x : IsMarkedNode t n) (after : Extends snapshot t) (period : IsPeriod lay snapshot end) where
   later : Extends end t
@@ -107,8 +115,4 @@ module _ (lay : Layout) (t snapshot end : History) (n : ℕ) (l : Lawful lay end
   over = rest.over remover owner.scx its_real (taken_scx_since rest.rest t remover (ends_trans rest.rest snapshot t rest.since after) (named_scx_taken lay t remover (lawful_since lay end t l later) its_real (n, held_at t (info n) remover refl)))
 
   pub removed_after : IsRemovedNode end n
-  removed_after = record {
-    taken = taken_node_since end t n later x.taken;
-    mark = λ z. (let y : value end (marked n) ≡ 1 = marked_since lay end t n l later (then.mark n x.mark) in omega (arith, y, z));
-    finished = λ z. over (sym (state_since lay end rest.rest remover l rest.by over) ∙ subst (λ v. value end (state v) ≡ 0) (remover_stays lay end t n l later x.mark) z);
-  }
+  removed_after = removed_seen lay end t n l later x (λ z. over (sym (state_since lay end rest.rest remover l rest.by over) ∙ z))

@@ -2,10 +2,11 @@
 ghost use Rattle.std.specs.Prelude.{◌≡◌, ◌≢◌, ◌<◌, ℕ, true};
 ghost use Rattle.arena.specs.declared.layout.Layout.{Layout};
 ghost use Rattle.arena.specs.declared.step.Row.{Row};
-ghost use Rattle.arena.specs.History.{History, ◌⊳◌, Extends};
+ghost use Rattle.arena.specs.History.{History, ◌⊳◌, Extends, value};
 ghost use Rattle.arena.specs.Lawful.{Lawful};
 ghost use Rattle.arena.specs.Log.{log, is_final};
 ghost use Rattle.arena.specs.ScxRecords.{count};
+ghost use Rattle.arena.specs.Words.{info, state};
 ghost use Rattle.prims.specs.Moments.{AreFinished};
 ghost use Rattle.ordered_map.specs.Runs.{IsMapRun};
 ghost use Rattle.touching.specs.Left.{IsNamedByLeft};
@@ -35,15 +36,17 @@ pub fn rests_hold()
         → HasRested lay k o q }
 {}
 
-/// What comes back. A marked node is dead when a period is over since: its remover is finished then,
-/// and it is final. What is dead is out of reach when all passes have rested since; what an aborted
-/// SCX-record was to put in, when its own pass has. And a look at the nodes of an SCX-record, at each
-/// at a moment of its own, tells that it is let go. It does nothing; a caller learns this from its
-/// contract.
+/// What comes back. A marked node is dead as soon as its remover, which its info names, is seen
+/// finished, and at the latest when a period is over since the mark; then it is final. What is
+/// dead is out of reach when all passes have rested since; what an aborted SCX-record was to put
+/// in, when its own pass has. And a look at the nodes of an SCX-record, at each at a moment of its
+/// own, tells that it is let go. It does nothing; a caller learns this from its contract.
 pub fn dead_comes_back()
     ensures marked { (lay : Layout) (t snapshot end : History) (n : ℕ) → Lawful lay end
         → IsMarkedNode t n → Extends snapshot t → IsPeriod lay snapshot end
         → IsRemovedNode end n }
+    ensures seen { (lay : Layout) (h t : History) (n : ℕ) → Lawful lay h → Extends h t
+        → IsMarkedNode t n → value h (state (value t (info n))) ≢ 0 → IsRemovedNode h n }
     ensures finalized { (lay : Layout) (t : History) (n : ℕ) → Lawful lay t → IsRemovedNode t n
         → is_final (log lay t) n ≡ true }
     ensures dead { (lay : Layout) (h : History) (last : ℕ → History) (p : ℕ) (t : History)
