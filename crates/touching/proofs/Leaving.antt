@@ -142,7 +142,7 @@ pub record IsPutIn (lay : Layout) (g : History) (r : Row) (n : ℕ) : Type 0 whe
   pub made : IsMadeAt lay begun.before scx n
 
 -- the fields of the new fork of what wins are as when that began
-abbrev KeepsNew : Layout → History → Type 0
+abbrev pub KeepsNew : Layout → History → Type 0
 KeepsNew lay g = (s : ℕ) → IsPending g s → (x : HasBegunEdit lay g s) → (side : Side) → value g (child (new x.before s) side) ≡ value x.before (child (new x.before s) side)
 
 module _ (lay : Layout) (g : History) (r : Row) (run : IsMapRun lay (r ⊳ g)) where
@@ -477,9 +477,9 @@ field_stood lay g u run real y = subst (WasInTree g) (sym spot_is) (was_since g 
     spot_is = ap (λ p. value g (scx u (Member (field_index_of p)))) (word Plan tt) ∙ ap (λ i. value g (scx u (Member i))) (edit_index lay y.before u y.edit y.may.edit) ∙ word (Member 0) tt
 
 -- what an SCX-record in progress is to put in was never in the tree
-record NewFacts (lay : Layout) (h : History) : Type 0 where
-  unborn : (s n : ℕ) → IsPending h s → (x : HasBegunEdit lay h s) → IsMadeAt lay x.before s n → ¬ WasInTree h n
-  keeps : KeepsNew lay h
+pub record NewFacts (lay : Layout) (h : History) : Type 0 where
+  pub unborn : (s n : ℕ) → IsPending h s → (x : HasBegunEdit lay h s) → IsMadeAt lay x.before s n → ¬ WasInTree h n
+  pub keeps : KeepsNew lay h
 
 module _ (lay : Layout) (g : History) (r : Row) (run : IsMapRun lay (r ⊳ g)) (facts : NewFacts lay g) where
   abbrev g_facts : Facts lay g
@@ -556,7 +556,7 @@ module _ (lay : Layout) (g : History) (r : Row) (run : IsMapRun lay (r ⊳ g)) (
       go (inl e) = subst (λ k. value k (child (new x.before s) side) ≡ value x.before (child (new x.before s) side)) e (first_keeps lay (r ⊳ g) s run.1.lawful p.real x (child (new x.before s) side) (node_word_apart (member x.before s 0) (new x.before s) Info (Child side) refl))
       go (inr e) = row_keeps e (effect lay g r run.1.lawful) ∙ facts.keeps s (pending_then s x e p) (begun_then s x e) side
 
-new_facts : (lay : Layout) (h : History) → IsMapRun lay h → NewFacts lay h
+pub new_facts : (lay : Layout) (h : History) → IsMapRun lay h → NewFacts lay h
 new_facts lay (Opened o) run = record {
   unborn = λ s n p x made was. none s p;
   keeps = λ s p x side. absurd (none s p);

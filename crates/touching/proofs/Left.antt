@@ -30,13 +30,13 @@ pub left_since : (lay : Layout) (h m : History) (n : ℕ) → IsMapRun lay h →
 left_since lay h m n run e x = record { stood = was_since h m n e x.stood; out = λ y. x.out (there_before lay h m n run e x.stood y) }
 
 -- the row by which an SCX-record has won
-record HasWonAt (h : History) (s : ℕ) : Type 0 where
-  row : Row
-  before : History
-  within : Extends h (row ⊳ before)
-  wins : IsWin before row s
+pub record HasWonAt (h : History) (s : ℕ) : Type 0 where
+  pub row : Row
+  pub before : History
+  pub within : Extends h (row ⊳ before)
+  pub wins : IsWin before row s
 
-won_at : (h : History) (s : ℕ) → HasWon h s → HasWonAt h s
+pub won_at : (h : History) (s : ℕ) → HasWon h s → HasWonAt h s
 unfolding HasWon
 won_at (Opened o) s w = absurd w
 won_at (r ⊳ h) s (inl w) = record { row = r; before = h; within = inl refl; wins = w }

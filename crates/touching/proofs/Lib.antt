@@ -21,3 +21,4 @@ mod Leaving
 mod Reached
 mod Reaching
 mod Left
+pub mod Lemmas

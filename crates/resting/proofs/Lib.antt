@@ -1,0 +1,7 @@
+mod Rows
+mod Resting
+mod Touched
+mod Removed
+mod Looks
+mod Unborn
+mod Periods

@@ -1,0 +1,152 @@
+-- What an aborted SCX-record was to put in was never in the tree or the trie, nor is it ever; so no
+-- other pass comes to it.
+use Rattle.std.proofs.Common.{◌≡◌, ◌≢◌, ◌<◌, ◌⊎◌, ℕ, true, false, inl, inr, sym, ◌∙◌, ap, subst, arith}
+use Rattle.histories.specs.Common.{Layout, Member, New, Plan, ScxWord, Kind, Settled, Head, node, scx, History, ◌⊳◌, Extends, HasHeld, value, state, info, child, count, count_of, member, new, field, field_index, old, descriptor, IsNamed, IsNamedScx, IsInProgress, IsOwnNode, MayFill, Obeys, Lawful, HasWon}
+use Rattle.arena.proofs.Lemmas.{ends_self, ends_trans, held_since}
+use Rattle.histories.proofs.Lemmas.{About, Facts, IsScxFill, UpdateWins, aborted_never_won, facts, first_frozen, lawful_row, lawful_since, one_node_owner, scx_since, state_since, update_flagged, update_in_progress, update_is_first}
+use Rattle.ordered_map.specs.Paths.{WasInTree}
+use Rattle.ordered_map.specs.Runs.{IsMapRun}
+use Rattle.ordered_map.specs.TreeWords.{is_leaf}
+use Rattle.ordered_map.proofs.Lemmas.{wins_of}
+use Rattle.ordered_map.proofs.MapLemmas.{run_since}
+use Rattle.touching.specs.Kinds.{IsInTree}
+use Rattle.touching.specs.Touches.{HasReached, TouchesNode, was_so, covered, own_node}
+use Rattle.touching.proofs.Lemmas.{HasBegunEdit, HasWonAt, IsMadeAt, IsPending, begun_edit, below_named, index_now, leaf_then, new_facts, new_named, reached_there, was_since, won_at, word_then}
+use Rattle.resting.specs.Dead.{IsOfAborted, IsToBePutIn}
+use Rattle.resting.specs.Reach.{IsOutOfReach}
+use Rattle.resting.specs.Records.{record_of, the_node, the_scx}
+use Rattle.resting.specs.Rests.{past_node, past_scx}
+use Rattle.resting.proofs.Rows.{taken_node_since}
+use Rattle.resting.proofs.Touched.{InTree, IsMissed, IsNotPassed, missed_out, node_not_passed, node_touched, number_of}
+
+is_was : (h : History) (n : ℕ) → IsInTree h n → WasInTree h n
+is_was h n x = record { moment = h; within = ends_self h; tree = x.tree; is_tree = x.is_tree; has = x.has }
+
+-- what an SCX-record in progress has reached has been in the tree
+module _ (lay : Layout) (m : History) (s n : ℕ) (run : IsMapRun lay m) (going : IsInProgress m s) (reached : HasReached m s n) where
+  abbrev f : Facts lay m
+  f = facts lay m run.1.lawful
+
+  real : s ≢ 0
+  real e = let d = f.dummy in let w : value m (state 0) ≡ 0 = rw e at going.unfinished in omega arith
+
+  -- if it has won, just before that
+  by_win : HasWonAt m s → WasInTree m n
+  by_win y = was_since m g n within (is_was g n (reached_there lay g run_g s record { unfinished = update_in_progress fg w; named = named } (update_is_first fg w) n then))
+    where
+      g : History
+      g = y.before
+
+      within : Extends m g
+      within = ends_trans m (y.row ⊳ g) g y.within (inr (ends_self g))
+
+      run_g : IsMapRun lay g
+      run_g = run_since lay m g run within
+
+      fg : Facts lay g
+      fg = facts lay g run_g.1.lawful
+
+      w : UpdateWins g y.row s
+      w = wins_of lay g y.row s (lawful_since lay m (y.row ⊳ g) run.1.lawful y.within) y.wins
+
+      named : IsNamedScx g s
+      named = (member g s 0, (update_flagged fg w).frozen 0 (update_flagged fg w).some)
+
+      place : reached.index < count g s
+      place = subst (λ p. reached.index < count_of p) (scx_since lay m g s run.1.lawful within real named Plan tt) reached.within
+
+      then : HasReached g s n
+      then = record { index = reached.index; within = place; is = sym (scx_since lay m g s run.1.lawful within real named (Member reached.index) tt) ∙ reached.is; earlier = λ i few. (update_flagged fg w).frozen i (omega (arith, few, place)) }
+
+  pub reached_stood : WasInTree m n
+  reached_stood = go (about.steady (inr (held, going.unfinished)))
+    where
+      first : HasHeld m (info (member m s 0)) s
+      first = first_frozen m s going.named.0 going.named.1 (f.cell s going.named.0 real going.named.1)
+
+      about : About lay (descriptor m s) m s
+      about = f.about s (member m s 0) real first
+
+      held : HasHeld m (info (member m s (field_index m s))) s
+      held = subst (λ i. HasHeld m (info (member m s i)) s) (sym (index_now lay m run s going)) first
+
+      go : (value m (field m s) ≡ old m s) ⊎ HasWon m s → WasInTree m n
+      go (inl e) = is_was m n (reached_there lay m run s going (λ x. about.moved x e) n reached)
+      go (inr x) = by_win (won_at m s x)
+
+-- The SCX-record s, which had begun, is aborted at t.
+module _ (lay : Layout) (t : History) (s n : ℕ) (run : IsMapRun lay t) (its_real : s ≢ 0) (named : IsNamedScx t s) (aborted : value t (state s) ≡ 2) (put_in : IsToBePutIn t s n) where
+  abbrev l : Lawful lay t
+  l = run.1.lawful
+
+  abbrev b : HasBegunEdit lay t s
+  b = begun_edit lay t s l run.1.shaped its_real named
+
+  pending : (k : History) → Lawful lay k → Extends k t → IsPending k s
+  pending k lk e = record {
+    real = its_real;
+    named = (named.0, held_since k t (info named.0) s e named.1);
+    unwon = aborted_never_won lay k s lk (state_since lay k t s lk e (λ z. omega (arith, aborted, z)) ∙ aborted);
+  }
+
+  word : (a : ScxWord) → IsScxFill a → value t (scx s a) ≡ value b.before (scx s a)
+  word a i = word_then lay t s l its_real b t (ends_self t) b.within a i
+
+  -- what it was to put in was so as it began
+  made : IsMadeAt lay b.before s n
+  made = go put_in
+    where
+      go : IsToBePutIn t s n → IsMadeAt lay b.before s n
+      go (inl e) = inl (e ∙ word New tt)
+      go (inr (two, fork, side, e, leaf)) = inr (side, there, fresh)
+        where
+          new_fork : is_leaf (value b.before) (new b.before s) ≡ false
+          new_fork = sym (leaf_then lay t s l its_real b t (ends_self t) b.within (new b.before s) (new_named lay t s l its_real b)) ∙ subst (λ v. is_leaf (value t) v ≡ false) (word New tt) fork
+
+          there : value b.before (child (new b.before s) side) ≡ n
+          there = sym ((new_facts lay t run).keeps s (pending t l (ends_self t)) b side) ∙ ap (λ v. value t (child v side)) (sym (word New tt)) ∙ e
+
+          leaf_before : is_leaf (value b.before) (value b.before (child (new b.before s) side)) ≡ true
+          leaf_before = sym (leaf_then lay t s l its_real b t (ends_self t) b.within (value b.before (child (new b.before s) side)) (below_named lay t s l its_real b side)) ∙ ap (is_leaf (value t)) there ∙ leaf
+
+          fresh : ¬ IsNamed lay b.before n
+          fresh = subst (λ v. ¬ IsNamed lay b.before v) there (b.may.fresh (ap count_of (sym (word Plan tt)) ∙ two) new_fork side leaf_before)
+
+  -- it is never in the tree
+  pub never_there : (k : History) → IsMapRun lay k → Extends k t → ¬ WasInTree k n
+  never_there k run_k e = (new_facts lay k run_k).unborn s n (pending k run_k.1.lawful e)
+      record { row = b.row; before = b.before; within = ends_trans k t (b.row ⊳ b.before) e b.within; begins = b.begins; may_begin = b.may_begin; edit = b.edit; may = b.may } made
+
+-- So no pass comes to it but its own, nor that in a later call.
+pub aborted_out : (lay : Layout) (h : History) (last : ℕ → History) (t : History) (p n : ℕ) → IsMapRun lay h → Extends h t → IsOfAborted lay p t n → Extends (last p) t → IsOutOfReach lay h last (the_node n)
+aborted_out lay h last t p n run_h within_h dead rested = missed_out lay h last (the_node n) (λ k g o e run within i. (missed k g o e run within i, not_passed k g o e run))
+  where
+    never : (k : History) → IsMapRun lay k → Extends k h → ¬ WasInTree k n
+    never k run e = never_there lay t dead.scx n (run_since lay h t run_h within_h) dead.real dead.begun dead.aborted dead.put_in k run (ends_trans k h t e within_h)
+
+    missed : (k g : History) (o : ℕ) → Extends k h → IsMapRun lay k → Extends k g → o < lay.passes → IsMissed lay o g (last o) (the_node n)
+    missed k g o e run within i c r lay_is pass_is begun touches is = go (node_touched InTree c g r.word n is touches)
+      where
+        stood : (m : History) → Extends g m → ¬ WasInTree m n
+        stood m a x = never k run e (was_since k m n (ends_trans k g m within a) x)
+
+        go : TouchesNode InTree c g n → ⊥
+        go (was_so x) = stood x.moment x.within (is_was x.moment n x.was)
+        go (covered s x) = stood x.moment x.within (reached_stood lay x.moment s n (run_since lay k x.moment run (ends_trans k g x.moment within x.within)) x.was.0 x.was.1)
+        go (own_node own free) =
+            let mine : IsOwnNode lay o n = subst (λ q. IsOwnNode lay q n) pass_is (subst (λ v. IsOwnNode v c.pass n) lay_is own) in
+            let same : o ≡ p = one_node_owner lay o p n mine dead.own in
+            free (taken_node_since c.start t n (ends_trans c.start (last o) t begun (subst (λ q. Extends (last q) t) (sym same) rested)) dead.taken)
+
+    not_passed : (k g : History) (o : ℕ) → Extends k h → IsMapRun lay k → IsNotPassed lay o g (last o) (the_node n)
+    not_passed k g o e run r l own (past_node m free kind at) is = node_not_passed lay o g (last o) n (taken_node_since (last o) t n (subst (λ q. Extends (last q) t) (sym same) rested) dead.taken) r l own (past_node m free kind at) is
+      where
+        any : MayFill lay g r.pass.0 r.word r.after
+        any = subst (λ (a : Kind). Obeys lay g r a) kind (lawful_row lay g r l).obeys
+
+        may : MayFill lay g r.pass.0 (node m (Settled Head)) r.after
+        may = subst (λ w. MayFill lay g r.pass.0 w r.after) at any
+
+        same : o ≡ p
+        same = one_node_owner lay o p n (subst (λ v. IsOwnNode lay v n) own (subst (λ v. IsOwnNode lay r.pass.0 v) (ap number_of (sym (ap record_of at) ∙ is)) may.own)) dead.own
+    not_passed k g o e run r l own (past_scx s part free at) is = absurd (let d : the_scx s ≡ the_node n = sym (ap record_of at) ∙ is in cc)

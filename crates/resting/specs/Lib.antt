@@ -1,0 +1,5 @@
+pub mod Records
+pub mod Rests
+pub mod Reach
+pub mod Dead
+pub mod Periods
