@@ -9,7 +9,6 @@ use Rattle.arena.specs.declared.word.NodeWord.TheVariants.{Settled, Child, Info,
 use Rattle.arena.specs.declared.word.SettledPart.TheVariants.{Head, More, Key, Value, High}
 use Rattle.arena.specs.declared.word.Slot.TheVariants.{First, Second, Third, Fourth}
 use Rattle.arena.specs.declared.word.ScxWord.{ScxWord}
-use Rattle.arena.specs.declared.word.ScxWord.TheVariants.{State, AllFrozen, Plan, New, Old, Member, Seen, Call}
 use Rattle.arena.specs.declared.word.Word.{Word}
 use Rattle.arena.specs.declared.word.Word.TheVariants.{Node, Scx}
 use Rattle.arena.specs.Layout.{all_nodes, IsWord}

@@ -1,6 +1,5 @@
 -- What the nodes stand for that are planted.
-use Rattle.std.specs.Prelude.{ℕ, List, drop, map, min, take}
-use Rattle.arena.specs.declared.number.NodeNo.{NodeNo}
+use Rattle.std.specs.Prelude.{List, drop, map, min, take}
 use Rattle.ordered_map.specs.declared.pair.Pair.{Pair}
 use Rattle.edits.specs.declared.piece.Piece.{Piece}
 use Rattle.edits.specs.declared.piece.Piece.TheVariants.{Leaf as LeafPiece, Fork as ForkPiece}

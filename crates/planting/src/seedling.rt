@@ -7,8 +7,8 @@ use arena::NodeNo;
 use edits::Piece;
 use ordered_map::Pair;
 
-/// A node that is planted. A leaf names its pairs by their places among all pairs, which are kept
-/// once: with their own each node would take eight times the memory, which the system has to give.
+/// A node that is planted. A leaf names its pairs by their places among all pairs: with pairs of its
+/// own each node would take five times the memory, and memory that is fresh is most of a load.
 #[derive(Clone, Copy, Debug)]
 pub(crate) enum Seedling {
     Leaf {

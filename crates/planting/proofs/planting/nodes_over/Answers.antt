@@ -1,6 +1,5 @@
 use Rattle.std.proofs.Common.{List, length, ◌∙◌, ap, subst, arith}
 use Rattle.std.proofs.lemmas.List.{take_all}
-use Rattle.std.proofs.lemmas.Result.{IfOk-at_ok}
 use Rattle.planting.specs.declared.seedling.Seedling.{Seedling}
 use Rattle.planting.specs.Groves.{HasGrown}
 use Rattle.planting.specs.Seedlings.{pieces_of}
