@@ -27,6 +27,7 @@ pub(crate) enum Seedling {
 
 impl Seedling {
     /// What it stands for among these pairs.
+    #[inline(always)]
     pub(crate) fn piece(self, pairs: &[Pair]) -> Piece
         ensures { result ≡ piece_of pairs.now self }
     {

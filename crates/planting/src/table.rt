@@ -44,6 +44,7 @@ pub(crate) fn plant(words: &mut PlainWords, nodes: &[Seedling], pairs: &[Pair])
 }
 
 /// Lays a node with this number, whose words are 0 where the piece has none.
+#[inline(always)]
 fn lay(words: &mut PlainWords, node: NodeNo, piece: &Piece, most: u64)
     requires there { node.0 < all_nodes words.old.layout }
     requires blank { HoldsNoOther words.old node piece.now }
@@ -57,6 +58,7 @@ fn lay(words: &mut PlainWords, node: NodeNo, piece: &Piece, most: u64)
 }
 
 /// Lays a leaf.
+#[inline(always)]
 fn lay_leaf(words: &mut PlainWords, node: NodeNo, piece: &Piece)
     requires leaf { is_leaf_piece piece.now ≡ true }
     requires there { node.0 < all_nodes words.old.layout }
@@ -88,6 +90,7 @@ fn lay_pair(words: &mut PlainWords, node: NodeNo, piece: &Piece, slot: Slot)
 }
 
 /// Lays a fork over nodes whose numbers are below `most`.
+#[inline(always)]
 fn lay_fork(words: &mut PlainWords, node: NodeNo, piece: &Piece, most: u64)
     requires fork { is_leaf_piece piece.now ≡ false }
     requires there { node.0 < all_nodes words.old.layout }
