@@ -9,7 +9,6 @@ use Rattle.arena.specs.declared.word.NodeWord.TheVariants.{Settled, Child, Info,
 use Rattle.arena.specs.declared.word.SettledPart.TheVariants.{Head, More, Key, Value, High}
 use Rattle.arena.specs.declared.word.Slot.TheVariants.{First, Second, Third, Fourth}
 use Rattle.arena.specs.declared.word.ScxWord.{ScxWord}
-use Rattle.arena.specs.declared.word.ScxWord.TheVariants.{State, AllFrozen, Plan, New, Old, Member, Seen, Call}
 use Rattle.arena.specs.declared.word.Word.{Word}
 use Rattle.arena.specs.declared.word.Word.TheVariants.{Node, Scx}
 use Rattle.arena.specs.Layout.{all_nodes, IsWord}
@@ -102,15 +101,15 @@ laid_planted ps n p is Info = refl
 laid_planted ps n p is Marked = refl
 
 -- the nodes of an empty map have nothing but what the root and the two leaves have
-pub root_blank : (nodes : List Piece) (n : NodeNo) → n.0 ≡ 0 → (q : NodeWord) → is_laid (root_piece nodes) q ≡ false → tree_opening (Node n q) ≡ 0
-root_blank nodes n e (Settled Head) none = absurd (let z : true ≡ false = none in cc)
-root_blank nodes n e (Settled More) none = refl
-root_blank nodes n e (Settled (Key slot)) none = refl
-root_blank nodes n e (Settled (Value slot)) none = refl
-root_blank nodes n e (Settled (High slot)) none = refl
-root_blank nodes n e (Child side) none = absurd (let z : true ≡ false = none in cc)
-root_blank nodes n e Info none = refl
-root_blank nodes n e Marked none = refl
+pub root_blank : (top : ℕ) (n : NodeNo) → n.0 ≡ 0 → (q : NodeWord) → is_laid (root_piece top) q ≡ false → tree_opening (Node n q) ≡ 0
+root_blank top n e (Settled Head) none = absurd (let z : true ≡ false = none in cc)
+root_blank top n e (Settled More) none = refl
+root_blank top n e (Settled (Key slot)) none = refl
+root_blank top n e (Settled (Value slot)) none = refl
+root_blank top n e (Settled (High slot)) none = refl
+root_blank top n e (Child side) none = absurd (let z : true ≡ false = none in cc)
+root_blank top n e Info none = refl
+root_blank top n e Marked none = refl
 
 pub end_blank : (level class : ℕ) (n : NodeNo) → 0 < n.0 → (q : NodeWord) → is_laid (end_piece level class) q ≡ false → tree_opening (Node n q) ≡ 0
 end_blank level class n l (Settled part) none = absurd (let z : true ≡ false = none in cc)
@@ -156,28 +155,6 @@ up_to n P below here k l = go (dec_lt k n)
     go : Dec (k < n) → P k
     go (yes less) = below k less
     go (no d) = subst P (let e : n ≡ k = omega (arith, d, l) in e) here
-
--- an empty map has nothing beyond its three nodes, and the records of cells
-pub none_opened : (n : NodeNo) (part : NodeWord) → 3 ≤ n.0 → tree_opening (Node n part) ≡ 0
-none_opened n (Settled Head) l = rw (ne_eqb n.0 0 (λ e. omega (arith, l, e)), ne_eqb n.0 1 (λ e. omega (arith, l, e)), ne_eqb n.0 2 (λ e. omega (arith, l, e))) refl
-none_opened n (Settled More) l = refl
-none_opened n (Settled (Key slot)) l = refl
-none_opened n (Settled (Value slot)) l = refl
-none_opened n (Settled (High slot)) l = refl
-none_opened n (Child Left) l = rw (ne_eqb n.0 0 (λ e. omega (arith, l, e))) refl
-none_opened n (Child Right) l = rw (ne_eqb n.0 0 (λ e. omega (arith, l, e))) refl
-none_opened n Info l = refl
-none_opened n Marked l = refl
-
-pub records_opened : (s : ScxNo) (part : ScxWord) → tree_opening (Scx s part) ≡ records_opening (Scx s part)
-records_opened s State = refl
-records_opened s AllFrozen = refl
-records_opened s Plan = refl
-records_opened s New = refl
-records_opened s Old = refl
-records_opened s (Member j) = refl
-records_opened s (Seen j) = refl
-records_opened s Call = refl
 
 -- all words, once all nodes are laid
 pub planted_all : (c : Contents) (nodes : List Piece) (at : ℕ) → length nodes ≤ at

@@ -2,9 +2,10 @@
 use Rattle.std.proofs.Common.{◌≡◌, ℕ, zero, suc, ◌+◌, ◌*◌, ◌^◌, ◌<◌, ◌≤◌, inl, inr, min, Bool, true, false, List, [], ◌∷◌, ◌++◌, length, refl, sym, ◌∙◌, ap, subst, arith, lt-ltb, le-ltb, pow-suc, mul_comm, mul_assoc}
 use native.Mathlib.Decide.{dec_lt}
 use Rattle.std.proofs.lemmas.List.{length-append}
-use Rattle.arena.specs.declared.limits.Mode.TheVariants.{Trie as TrieMode}
-use Rattle.arena.specs.Layout.{IsMap}
-use Rattle.arena.specs.Openings.{Opening, first_planted}
+use Rattle.arena.specs.declared.limits.Mode.TheVariants.{Trie as TrieMode, Records as RecordsMode}
+use Rattle.arena.specs.declared.word.Word.{Word}
+use Rattle.arena.specs.Layout.{IsMap, is_map}
+use Rattle.arena.specs.Openings.{Opening, first_planted, opening}
 use Rattle.histories.specs.Common.{Tree as TreeMode, Mode, Layout, Left, Right, Settled, Child, Head, Info, Marked, NodeWord, node, child, History, Opened, value, taken_nodes, nodes_at_start}
 use Rattle.template.specs.Balance.{map_mode}
 use Rattle.ordered_map.specs.declared.pair.Pair.{Pair}
@@ -209,6 +210,23 @@ no_tree e = absurd (cc)
 pub planting_of : (b : Bool) (ps : List Pair) (nodes : List Piece) → IsGrownOver b ps nodes → AllBelow (2 ^ 64) ps → IsPlantingOf (map_mode b) ps record { mode = map_mode b; pairs = ps; nodes = nodes }
 planting_of true ps nodes g small = planting TrieMode refl true (λ _. refl) (λ e. absurd (no_trie e)) ps nodes (trie_begins ps) g small
 planting_of false ps nodes g small = planting TreeMode refl false (λ e. absurd (no_tree e)) (λ _. refl) ps nodes (tree_begins ps) g small
+
+-- what the words hold that a planting begins with: those of its nodes in a map, if there are any
+pub words_of_some : (mode : Mode) → IsMap mode → (ps : List Pair) (nodes : List Piece) → 0 < length nodes → (w : Word) → (planted_as mode ps nodes).words w ≡ planted_words (all_pieces nodes) w
+words_of_some mode is ps [] some w = absurd (omega (arith, some))
+words_of_some TreeMode is ps (p ∷ rest) some w = refl
+words_of_some TrieMode is ps (p ∷ rest) some w = refl
+words_of_some RecordsMode is ps (p ∷ rest) some w = absurd (let z : false ≡ true = is in cc)
+
+pub words_of_none : (mode : Mode) (ps : List Pair) (nodes : List Piece) → length nodes ≡ 0 → (w : Word) → (planted_as mode ps nodes).words w ≡ opening mode w
+words_of_none mode ps [] none w = refl
+words_of_none mode ps (p ∷ rest) none w = absurd (omega (arith, none))
+
+pub words_of_cells : (mode : Mode) → is_map mode ≡ false → (ps : List Pair) (nodes : List Piece) (w : Word) → (planted_as mode ps nodes).words w ≡ opening mode w
+words_of_cells mode none ps [] w = refl
+words_of_cells TreeMode none ps (p ∷ rest) w = absurd (let z : true ≡ false = none in cc)
+words_of_cells TrieMode none ps (p ∷ rest) w = absurd (let z : true ≡ false = none in cc)
+words_of_cells RecordsMode none ps (p ∷ rest) w = refl
 
 -- no pairs are those of an empty map
 pub bare_planting : (mode : Mode) (ps : List Pair) → length ps ≡ 0 → IsPlantingOf mode ps (nothing_planted mode)

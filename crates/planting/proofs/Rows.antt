@@ -139,7 +139,3 @@ grown_as trie ps deep old new new' top top' g e f = record {
   names = subst (λ r. NamesBelow (3 + length r) g.more) (sym e) g.names;
   grove = λ h tall w s. subst (λ n. IsGrove trie (value h) ps deep tall (3 + length old) (length g.more) n) (sym f) (g.grove h tall w s);
 }
-
--- what was added for pairs is shorter than twice their number
-pub grown_room : (trie : Bool) (ps : List Pair) (deep : ℕ) (old new : List Piece) (top : ℕ) → HasGrown trie ps deep old new top → length new < length old + 2 * length ps
-grown_room trie ps deep old new top g = let e = ap length g.is ∙ length-append old g.more in let few = g.few in omega (arith, e, few)

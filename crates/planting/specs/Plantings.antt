@@ -32,9 +32,9 @@ pub record PlantingView : Type 0 where
 abbrev pub numbered : ℕ → NodeNo
 numbered n = record { 0 = n }
 
--- the root, over the last of the nodes and node 2
-abbrev pub root_piece : List Piece → Piece
-root_piece nodes = Fork 0 2 0 (numbered (2 + length nodes)) (numbered 2)
+-- the root, over this node and node 2
+abbrev pub root_piece : ℕ → Piece
+root_piece top = Fork 0 2 0 (numbered top) (numbered 2)
 
 -- a leaf above all keys
 abbrev pub end_piece : ℕ → ℕ → Piece
@@ -42,7 +42,7 @@ end_piece level class = Leaf level class (pair 0 0 ∷ [])
 
 -- all nodes, from node 0 on
 abbrev pub all_pieces : List Piece → List Piece
-all_pieces nodes = root_piece nodes ∷ end_piece 2 1 ∷ end_piece 1 2 ∷ nodes
+all_pieces nodes = root_piece (2 + length nodes) ∷ end_piece 2 1 ∷ end_piece 1 2 ∷ nodes
 
 -- what a word of the node n among these is to hold
 abbrev pub piece_word : List Piece → ℕ → NodeWord → ℕ

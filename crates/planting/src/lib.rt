@@ -6,6 +6,7 @@ mod order;
 mod parting;
 mod planting;
 mod room;
+mod seedling;
 mod table;
 mod trees;
 

@@ -6,11 +6,12 @@ ghost use Rattle.arena.specs.Layout.{IsWord};
 ghost use Rattle.arena.specs.PlainWords.{word_at};
 ghost use Rattle.arena.specs.declared.word.Word.{Word};
 ghost use Rattle.planting.specs.Plantings.{nothing_planted, opening_for, IsGrownOver, IsPlantingOf};
+ghost use Rattle.planting.specs.Seedlings.{pieces_of};
 
+use crate::seedling::Seedling;
 use crate::table::plant;
 use crate::trees::grow;
-use arena::{Layout, Mode, NoMemory, NodeNo, PlainWords};
-use edits::Piece;
+use arena::{Layout, Mode, NoMemory, PlainWords};
 use ordered_map::Pair;
 use std::alloc::Global;
 use std::fmt;
@@ -21,15 +22,20 @@ use std::marker::Model;
 pub struct Planting {
     mode: Mode,
     pairs: Vec<Pair>,
-    nodes: Vec<Piece>,
+    nodes: Vec<Seedling>,
 }
 
 impl Model for Planting {
     ghost use Rattle.planting.specs.Plantings.{PlantingView};
+    ghost use Rattle.planting.specs.Seedlings.{pieces_of};
 
     ghost Value = { PlantingView };
 
-    ghost view = { λ p. record { mode = p.mode; pairs = p.pairs.items; nodes = p.nodes.items } };
+    ghost view = { λ p. record {
+      mode = p.mode;
+      pairs = p.pairs.items;
+      nodes = pieces_of p.pairs.items p.nodes.items;
+    } };
 }
 
 impl Planting {
@@ -69,7 +75,7 @@ impl Planting {
     {
         let mut words = PlainWords::new(alloc, layout)?;
         if !self.nodes.is_empty() && self.mode.is_map() {
-            plant(&mut words, &self.nodes);
+            plant(&mut words, &self.nodes, &self.pairs);
         }
         Ok(words)
     }
@@ -90,22 +96,22 @@ fn map_mode(trie: bool) -> Mode
 }
 
 /// The nodes over these pairs, and the fork above all keys.
-fn nodes_over(alloc: Global, pairs: &[Pair], trie: bool) -> Result<Vec<Piece>, NoMemory>
+fn nodes_over(alloc: Global, pairs: &[Pair], trie: bool) -> Result<Vec<Seedling>, NoMemory>
     requires some { 0 < length pairs.now }
     requires rising { IsRising pairs.now }
     requires keys { AllBelow (2 ^ 64) pairs.now }
     requires few { length pairs.now ≤ 33554432 }
-    ensures { IfOk result (λ nodes. IsGrownOver trie pairs.now nodes.items) }
+    ensures { IfOk result (λ nodes. IsGrownOver trie pairs.now (pieces_of pairs.now nodes.items)) }
 {
     // As many as a tree has; a trie may have more.
     let mut nodes = Vec::with_capacity(alloc, 2 * ((pairs.len() + 3) / 4))?;
-    let top = grow(&mut nodes, pairs, trie, 2)?;
-    nodes.push(Piece::Fork {
+    let top = grow(&mut nodes, pairs, 0, trie, 2)?;
+    nodes.push(Seedling::Fork {
         level: 1,
         class: 1,
         key: 0,
-        left: NodeNo(top),
-        right: NodeNo(1),
+        left: top,
+        right: 1,
     })?;
     Ok(nodes)
 }

@@ -7,7 +7,9 @@ ghost use Rattle.arena.specs.declared.word.Word.{Word};
 ghost use Rattle.edits.specs.Pieces.{is_leaf_piece, word_of};
 ghost use Rattle.planting.specs.Laid.{HoldsNode, LeavesOthers, HoldsNoOther, laid_word, stored, with_pair};
 ghost use Rattle.planting.specs.Plantings.{all_pieces, capped, end_piece, planted_words, root_piece};
+ghost use Rattle.planting.specs.Seedlings.{pieces_of};
 
+use crate::seedling::Seedling;
 use arena::{Access, Kind, NodeNo, NodeWord, PlainWords, SettledPart, Side, Slot, Step, Word};
 use edits::{Pairs, Piece};
 use ordered_map::Pair;
@@ -22,25 +24,27 @@ const LEFT: NodeWord = NodeWord::Child(Side::Left);
 
 const RIGHT: NodeWord = NodeWord::Child(Side::Right);
 
-/// Lays these nodes into a table that is as an empty map's, from node 3 on, below a root and two
-/// leaves above all keys.
-pub(crate) fn plant(words: &mut PlainWords, nodes: &[Piece])
+/// Lays these nodes of these pairs into a table that is as an empty map's, from node 3 on, below a
+/// root and two leaves above all keys.
+pub(crate) fn plant(words: &mut PlainWords, nodes: &[Seedling], pairs: &[Pair])
     requires room { 3 + length nodes.now ≤ all_nodes words.old.layout }
     requires empty { (w : Word) → IsWord words.old.layout w → word_at words.old w ≡ tree_opening w }
     ensures layout { words.new.layout ≡ words.old.layout }
     ensures words { (w : Word) → IsWord words.old.layout w
-        → word_at words.new w ≡ planted_words (all_pieces nodes.now) w }
+        → word_at words.new w ≡ planted_words (all_pieces (pieces_of pairs.now nodes.now)) w }
 {
     let most = 3 + nodes.len() as u64;
-    lay(words, NodeNo(0), &root_piece(nodes), most);
+    lay(words, NodeNo(0), &root_piece(most - 1), most);
     lay(words, NodeNo(1), &end_piece(2, 1), most);
     lay(words, NodeNo(2), &end_piece(1, 2), most);
     for at in 0..nodes.len() {
-        lay(words, NodeNo(3 + at as u64), &nodes[at], most);
+        let piece = nodes[at].piece(pairs);
+        lay(words, NodeNo(3 + at as u64), &piece, most);
     }
 }
 
 /// Lays a node with this number, whose words are 0 where the piece has none.
+#[inline(always)]
 fn lay(words: &mut PlainWords, node: NodeNo, piece: &Piece, most: u64)
     requires there { node.0 < all_nodes words.old.layout }
     requires blank { HoldsNoOther words.old node piece.now }
@@ -54,6 +58,7 @@ fn lay(words: &mut PlainWords, node: NodeNo, piece: &Piece, most: u64)
 }
 
 /// Lays a leaf.
+#[inline(always)]
 fn lay_leaf(words: &mut PlainWords, node: NodeNo, piece: &Piece)
     requires leaf { is_leaf_piece piece.now ≡ true }
     requires there { node.0 < all_nodes words.old.layout }
@@ -85,6 +90,7 @@ fn lay_pair(words: &mut PlainWords, node: NodeNo, piece: &Piece, slot: Slot)
 }
 
 /// Lays a fork over nodes whose numbers are below `most`.
+#[inline(always)]
 fn lay_fork(words: &mut PlainWords, node: NodeNo, piece: &Piece, most: u64)
     requires fork { is_leaf_piece piece.now ≡ false }
     requires there { node.0 < all_nodes words.old.layout }
@@ -116,15 +122,15 @@ fn capped(most: u64, number: u64) -> u64
     if number < most { number } else { 0 }
 }
 
-/// The root, over the last of the nodes and node 2.
-fn root_piece(nodes: &[Piece]) -> Piece
-    ensures { result ≡ root_piece nodes.now }
+/// The root, over this node and node 2.
+fn root_piece(top: u64) -> Piece
+    ensures { result ≡ root_piece top }
 {
     Piece::Fork {
         level: 0,
         class: 2,
         key: 0,
-        left: NodeNo(2 + nodes.len() as u64),
+        left: NodeNo(top),
         right: NodeNo(2),
     }
 }
