@@ -86,7 +86,7 @@ fn range_run(alloc: Global, low: u64, high: u64, most: usize, tries: u32, trie: 
 
 /// Looks with so many tries for the pair beside a key on this side, and takes nothing of a share. What
 /// it keeps grows with this allocator.
-#[inline(never)]
+#[inline(always)]
 fn neighbour<K: WordKey, V: WordValue, B: FixedBalance>(
     hand: Hand<Dict<K, V, B>>,
     seat: &mut Seat<u8, SeatView>,
@@ -120,7 +120,7 @@ fn neighbour<K: WordKey, V: WordValue, B: FixedBalance>(
 
 /// Makes an ordered read with `tries` tries, which takes nothing of a share. What it keeps grows
 /// with this allocator.
-#[inline(never)]
+#[inline(always)]
 pub(crate) fn read<K: WordKey, V: WordValue, B: FixedBalance>(
     hand: Hand<Dict<K, V, B>>,
     seat: &mut Seat<u8, SeatView>,

@@ -449,8 +449,8 @@ fn from_root<S: Shape, M: Machine<S>, R: Read + Drop>(
     go_on::<S, M, R>(hand, seat, run, first)
 }
 
-/// Makes an ordered read: its first try inline.
-#[inline(always)]
+/// Makes an ordered read: its first try inline. A function of its own, as that of an update.
+#[inline(never)]
 pub(crate) fn call<S: Shape, M: Machine<S>, R: Read + Drop, B: FixedBalance>(
     hand: Hand<S>,
     seat: &mut Seat<u8, SeatView>,
