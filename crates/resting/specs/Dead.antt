@@ -1,4 +1,4 @@
--- Which records are dead, and which nodes are marked only.
+-- Which nodes are marked, and which records are dead.
 use Rattle.std.specs.Prelude.{◌≡◌, ◌≢◌, ◌⊎◌, ℕ, true, false}
 use Rattle.histories.specs.Common.{Layout, Side, History, Extends, value, state, info, marked, child, count, member, new, log, is_final, IsOwnNode, IsTakenNode, IsTakenScx, IsNamedScx}
 use Rattle.ordered_map.specs.TreeWords.{is_leaf}
@@ -55,9 +55,8 @@ abbrev pub IsMarkedRecord : Record → History → Type 0
 IsMarkedRecord (the_node n) t = IsMarkedNode t n
 IsMarkedRecord (the_scx s) t = ⊥
 
--- The record is dead. Of a node that an aborted SCX-record was to put in, p is the owner, and it is
--- p's rest that the node waits for; of each other record, whosever it is, it waits until each pass
--- has rested since.
+-- The record is dead. A node that an aborted SCX-record was to put in is the pass p's own, and
+-- waits until p has rested since; each other record, whosever it is, waits until each pass has.
 abbrev pub IsDead : Layout → ℕ → Record → History → Type 0
 IsDead lay p (the_node n) t = IsRemovedNode t n ⊎ (HasLeftUnmarked t n ⊎ IsOfAborted lay p t n)
 IsDead lay p (the_scx s) t = IsLetGoScx lay t s

@@ -10,11 +10,11 @@ ghost use Rattle.arena.specs.Words.{info, state};
 ghost use Rattle.prims.specs.Moments.{AreFinished};
 ghost use Rattle.ordered_map.specs.Runs.{IsMapRun};
 ghost use Rattle.touching.specs.Left.{IsNamedByLeft};
-ghost use Rattle.resting.specs.Dead.{IsDead, WasDoneWith, IsMarkedNode, IsOfAborted, IsRemovedNode};
+ghost use Rattle.resting.specs.Dead.{IsDead, IsMarkedNode, IsOfAborted, IsRemovedNode, WasDoneWith};
 ghost use Rattle.resting.specs.Periods.{IsPeriod, IsRightNote, Note, dead_by, marked_or_dead, out_of_reach};
 ghost use Rattle.resting.specs.Reach.{IsOutOfReach};
 ghost use Rattle.resting.specs.Records.{Record, record_of, the_node};
-ghost use Rattle.resting.specs.Rests.{AreSince, HasRestedAt, HaveRestedAt, HaveMovedOn, IsAway, IsRowSince};
+ghost use Rattle.resting.specs.Rests.{AreSince, HasRestedAt, HaveMovedOn, HaveRestedAt, IsAway, IsRowSince};
 
 /// What a rest is. Between two calls a pass rests, or goes away; a pass that is away rests at each
 /// moment until it makes a row; what a pass may do keeps each pass's rest; and a rest is good as
@@ -78,7 +78,8 @@ pub fn reach_holds()
 /// A period is over when each pass has rested at its snapshot or behind it. A note of a record
 /// stays right, whatever rows are made, and when the moments of the rests move on. By each period
 /// that began at the moment of which a note tells, or behind it, the note goes on: from marked or
-/// dead to dead, from dead to out of reach. It does nothing; a caller learns this from its contract.
+/// dead to dead, from dead to out of reach. It does nothing; a caller learns this from its
+/// contract.
 pub fn notes_hold()
     ensures period { (lay : Layout) (h : History) (last : ℕ → History) (snapshot : History)
         → Extends h snapshot → HaveRestedAt lay h last → AreSince lay last snapshot
@@ -94,6 +95,6 @@ pub fn notes_hold()
         → IsRightNote lay p x h last (marked_or_dead t) → IsRightNote lay p x h last (dead_by h) }
     ensures second { (lay : Layout) (p : ℕ) (x : Record) (h : History) (last : ℕ → History)
         (end snapshot : History) → IsMapRun lay h → p < lay.passes → HaveRestedAt lay h last
-        → AreSince lay last snapshot → Extends snapshot end → IsRightNote lay p x h last (dead_by end)
-        → IsRightNote lay p x h last out_of_reach }
+        → AreSince lay last snapshot → Extends snapshot end
+        → IsRightNote lay p x h last (dead_by end) → IsRightNote lay p x h last out_of_reach }
 {}
