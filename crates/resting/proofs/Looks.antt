@@ -9,7 +9,7 @@ use Rattle.prims.specs.Laws.InTheWay.{final_since}
 use Rattle.touching.specs.Left.{HasLeft, IsNamedByLeft}
 use Rattle.touching.specs.Rests.{IsLetGo}
 use Rattle.touching.proofs.Lemmas.{left_since, let_go, named_cell}
-use Rattle.resting.specs.Dead.{IsLookedAt}
+use Rattle.resting.specs.Dead.{WasDoneWith}
 
 module _ (lay : Layout) (h : History) (s n : ℕ) (run : IsMapRun lay h) (e : value h (info n) ≡ s) (cell : IsMember h s n) (m : History) (within : Extends h m) (over : value m (state s) ≢ 0) (real : s ≢ 0) where
   abbrev l : Lawful lay h
@@ -40,8 +40,8 @@ module _ (lay : Layout) (h : History) (s n : ℕ) (run : IsMapRun lay h) (e : va
   told (inr (inl x)) = inl (final_since lay h m n l within (subst (λ v. is_final (log lay m) v ≡ true) here x))
   told (inr (inr x)) = inr (left_since lay h m n run within (subst (HasLeft m) here x))
 
-pub looked : (lay : Layout) (h : History) (s : ℕ) → IsMapRun lay h → s ≢ 0 → ((j : ℕ) → j < count h s → IsLookedAt lay h s j) → IsNamedByLeft lay h s
+pub looked : (lay : Layout) (h : History) (s : ℕ) → IsMapRun lay h → s ≢ 0 → ((j : ℕ) → j < count h s → WasDoneWith lay h s j) → IsNamedByLeft lay h s
 looked lay h s run real look n e =
     let cell : IsMember h s n = named_cell lay h s n run.1.lawful real e in
-    let x : IsLookedAt lay h s cell.index = look cell.index cell.within in
+    let x : WasDoneWith lay h s cell.index = look cell.index cell.within in
     told lay h s n run e cell x.0 x.1 x.2 real x.3

@@ -6,21 +6,21 @@ use Rattle.arena.proofs.Lemmas.{ends_self, ends_trans}
 use Rattle.histories.proofs.Lemmas.{lawful_since, state_since, untaken_by_others}
 use Rattle.prims.specs.Moments.{AreFinished}
 use Rattle.touching.proofs.Lemmas.{one_first, taken_scx_since}
-use Rattle.resting.specs.Rests.{past_node, past_scx, IsRowSince, HasRested, IsAway, HaveRested}
+use Rattle.resting.specs.Rests.{past_node, past_scx, IsRowSince, HasRestedAt, IsAway, HaveRestedAt}
 use Rattle.resting.proofs.Rows.{no_row_behind, taken_node_since}
 
 -- between two calls a pass may rest
-pub rested_now : (lay : Layout) (h : History) (o : ℕ) → AreFinished lay o 0 h → HasRested lay h o h
+pub rested_now : (lay : Layout) (h : History) (o : ℕ) → AreFinished lay o 0 h → HasRestedAt lay h o h
 rested_now lay h o over = record { within = ends_self h; over = over; rows = λ r g within since own. absurd (no_row_behind h g r within since) }
 
 -- what was done since a rest was done since each earlier
 wider : (lay : Layout) (o : ℕ) (l q h : History) (r : Row) → Extends l q → IsRowSince lay o l h r → IsRowSince lay o q h r
 wider lay o l q h r e (inl x) = inl record { call = x.call; layout = x.layout; pass = x.pass; since = ends_trans x.call.start l q x.since e; step = x.step }
 wider lay o l q h r e (inr (past_node n free kind word)) = inr (past_node n (λ t. free (taken_node_since l q n e t)) kind word)
-wider lay o l q h r e (inr (past_scx s part free word)) = inr (past_scx s part (λ t. free (taken_scx_since l q s e t)) word)
+wider lay o l q h r e (inr (past_scx s part own free word)) = inr (past_scx s part own (λ t. free (taken_scx_since l q s e t)) word)
 
 -- a rest is good as long as a later one is
-pub rested_before : (lay : Layout) (h k : History) (o : ℕ) (q l : History) → Extends k h → HasRested lay h o q → HasRested lay k o l → Extends h l → Extends l q → HasRested lay k o q
+pub rested_before : (lay : Layout) (h k : History) (o : ℕ) (q l : History) → Extends k h → HasRestedAt lay h o q → HasRestedAt lay k o l → Extends h l → Extends l q → HasRestedAt lay k o q
 rested_before lay h k o q l e x y here later = record { within = ends_trans k h q e x.within; over = x.over; rows = rows }
   where
     rows : (r : Row) (g : History) → Extends k (r ⊳ g) → Extends g q → r.pass.0 ≡ o → IsRowSince lay o q g r
@@ -37,7 +37,7 @@ KeepsRow lay o rest (Opened p) = Unit {0}
 KeepsRow lay o rest (r ⊳ h) = r.pass.0 ≡ o → IsRowSince lay o rest h r
 
 -- a row that its pass may make keeps each pass's rest
-pub row_keeps : (lay : Layout) (h : History) (r : Row) (last : ℕ → History) → HaveRested lay h last → IsRowSince lay r.pass.0 (last r.pass.0) h r → HaveRested lay (r ⊳ h) last
+pub row_keeps : (lay : Layout) (h : History) (r : Row) (last : ℕ → History) → HaveRestedAt lay h last → IsRowSince lay r.pass.0 (last r.pass.0) h r → HaveRestedAt lay (r ⊳ h) last
 row_keeps lay h r last rested new o i = record { within = inr (rested o i).within; over = (rested o i).over; rows = rows }
   where
     now : KeepsRow lay o (last o) (r ⊳ h)
@@ -74,5 +74,5 @@ module _ (lay : Layout) (h : History) (o : ℕ) (since : History) (l : Lawful la
   over_then m within e s own real taken z = untaken m s within e own (λ t. x.over s own real t (sym (state_since lay m since s (lawful_since lay h m l within) e (x.over s own real t)) ∙ z)) taken
 
 -- so it rests at each moment
-pub rested_away : (lay : Layout) (h : History) (o : ℕ) (since m : History) → Lawful lay h → IsAway lay h o since → Extends h m → Extends m since → HasRested lay h o m
+pub rested_away : (lay : Layout) (h : History) (o : ℕ) (since m : History) → Lawful lay h → IsAway lay h o since → Extends h m → Extends m since → HasRestedAt lay h o m
 rested_away lay h o since m l x within e = record { within = within; over = over_then lay h o since l x m within e; rows = λ r g a b own. absurd (x.still r g a (ends_trans g m since b e) own) }

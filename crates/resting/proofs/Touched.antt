@@ -52,7 +52,7 @@ IsMissed lay o g rest x = (c : Call) (r : Row) → c.layout ≡ lay → c.pass �
 
 -- nor does a row of it that passes over a name
 abbrev pub IsNotPassed : Layout → ℕ → History → History → Record → Type 0
-IsNotPassed lay o g rest x = (r : Row) → Lawful lay (r ⊳ g) → r.pass.0 ≡ o → PassesOver rest r → ¬ (record_of r.word ≡ x)
+IsNotPassed lay o g rest x = (r : Row) → Lawful lay (r ⊳ g) → r.pass.0 ≡ o → PassesOver lay rest r → ¬ (record_of r.word ≡ x)
 
 -- of layouts that are one
 in_layout : (lay : Layout) (P : Layout → Type 0) (c : Call) → c.layout ≡ lay → P lay → P c.layout
@@ -84,10 +84,10 @@ missed_out lay h last x missed k g r e run rested within since = go ((rested o i
 module _ (lay : Layout) (o : ℕ) (g rest : History) where
   pub node_not_passed : (n : ℕ) → IsTakenNode rest n → IsNotPassed lay o g rest (the_node n)
   node_not_passed n taken r l own (past_node m free kind word) e = free (subst (IsTakenNode rest) (ap number_of (sym e ∙ ap record_of word)) taken)
-  node_not_passed n taken r l own (past_scx s part free word) e = absurd (let d : the_scx s ≡ the_node n = sym (ap record_of word) ∙ e in cc)
+  node_not_passed n taken r l own (past_scx s part its free word) e = absurd (let d : the_scx s ≡ the_node n = sym (ap record_of word) ∙ e in cc)
 
   scx_not_passed : (s : ℕ) → IsTakenScx rest s → IsNotPassed lay o g rest (the_scx s)
-  scx_not_passed s taken r l own (past_scx u part free word) e = free (subst (IsTakenScx rest) (ap number_of (sym e ∙ ap record_of word)) taken)
+  scx_not_passed s taken r l own (past_scx u part its free word) e = free (subst (IsTakenScx rest) (ap number_of (sym e ∙ ap record_of word)) taken)
   scx_not_passed s taken r l own (past_node m free kind word) e = absurd (let d : the_node m ≡ the_scx s = sym (ap record_of word) ∙ e in cc)
 
 -- So it is with what was taken by a moment t, behind which all have rested, if no call that began

@@ -149,4 +149,4 @@ aborted_out lay h last t p n run_h within_h dead rested = missed_out lay h last 
 
         same : o ≡ p
         same = one_node_owner lay o p n (subst (λ v. IsOwnNode lay v n) own (subst (λ v. IsOwnNode lay r.pass.0 v) (ap number_of (sym (ap record_of at) ∙ is)) may.own)) dead.own
-    not_passed k g o e run r l own (past_scx s part free at) is = absurd (let d : the_scx s ≡ the_node n = sym (ap record_of at) ∙ is in cc)
+    not_passed k g o e run r l own (past_scx s part its free at) is = absurd (let d : the_scx s ≡ the_node n = sym (ap record_of at) ∙ is in cc)

@@ -1,4 +1,4 @@
--- Which records are dead, by what their owner sees.
+-- Which nodes are marked, and which records are dead.
 use Rattle.std.specs.Prelude.{◌≡◌, ◌≢◌, ◌⊎◌, ℕ, true, false}
 use Rattle.histories.specs.Common.{Layout, Side, History, Extends, value, state, info, marked, child, count, member, new, log, is_final, IsOwnNode, IsTakenNode, IsTakenScx, IsNamedScx}
 use Rattle.ordered_map.specs.TreeWords.{is_leaf}
@@ -30,10 +30,10 @@ pub record IsLetGoScx (lay : Layout) (t : History) (s : ℕ) : Type 0 where
   pub finished : value t (state s) ≢ 0
   pub named : IsNamedByLeft lay t s
 
--- what was found at a look at a node of it, at some moment: it was finished, and the node let go,
--- final or left
-abbrev pub IsLookedAt : Layout → History → ℕ → ℕ → Type 0
-IsLookedAt lay h s j = (m : History) × Extends h m × (value m (state s) ≢ 0) × (IsLetGo m s j ⊎ ((is_final (log lay m) (member m s j) ≡ true) ⊎ HasLeft m (member m s j)))
+-- at some moment the SCX-record s was finished, and done with its j-th node: it had let it go, or
+-- the node was final, or had left
+abbrev pub WasDoneWith : Layout → History → ℕ → ℕ → Type 0
+WasDoneWith lay h s j = (m : History) × Extends h m × (value m (state s) ≢ 0) × (IsLetGo m s j ⊎ ((is_final (log lay m) (member m s j) ≡ true) ⊎ HasLeft m (member m s j)))
 
 -- The node is what the SCX-record was to put in: its new node; or a leaf below that, where it
 -- covers two nodes.
@@ -51,11 +51,12 @@ pub record IsOfAborted (lay : Layout) (o : ℕ) (t : History) (n : ℕ) : Type 0
   pub put_in : IsToBePutIn t scx n
 
 -- the record is a marked node
-abbrev pub IsMarked : Record → History → Type 0
-IsMarked (the_node n) t = IsMarkedNode t n
-IsMarked (the_scx s) t = ⊥
+abbrev pub IsMarkedRecord : Record → History → Type 0
+IsMarkedRecord (the_node n) t = IsMarkedNode t n
+IsMarkedRecord (the_scx s) t = ⊥
 
--- the record, which is of the pass p, is dead: it waits for one period
+-- The record is dead. A node that an aborted SCX-record was to put in is the pass p's own, and
+-- waits until p has rested since; each other record, whosever it is, waits until each pass has.
 abbrev pub IsDead : Layout → ℕ → Record → History → Type 0
 IsDead lay p (the_node n) t = IsRemovedNode t n ⊎ (HasLeftUnmarked t n ⊎ IsOfAborted lay p t n)
 IsDead lay p (the_scx s) t = IsLetGoScx lay t s

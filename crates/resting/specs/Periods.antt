@@ -2,7 +2,7 @@
 use Rattle.std.specs.Prelude.{◌<◌, ◌⊎◌, ℕ}
 use Rattle.histories.specs.Common.{Layout, History, Extends}
 use Rattle.prims.specs.Moments.{AreFinished}
-use Rattle.resting.specs.Dead.{IsDead, IsMarked}
+use Rattle.resting.specs.Dead.{IsDead, IsMarkedRecord}
 use Rattle.resting.specs.Records.{Record}
 use Rattle.resting.specs.Reach.{IsOutOfReach}
 
@@ -19,14 +19,14 @@ pub record IsPeriod (lay : Layout) (snapshot end : History) : Type 0 where
   pub ordered : Extends end snapshot
   pub rested : (o : ℕ) → o < lay.passes → RestedBetween lay snapshot end o
 
--- what a pass notes of a record of its own
+-- what a pass notes of a record
 pub data Note : Type 0 where
-  -- it was found marked or dead at this moment, and waits for a period that begins later
-  found : History → Note
-  -- such a period has ended at this moment
-  once : History → Note
-  -- another has ended that began since: it may be taken again
-  free : Note
+  -- at this moment it was marked or dead
+  marked_or_dead : History → Note
+  -- it was dead at this moment, or before
+  dead_by : History → Note
+  -- it is out of reach
+  out_of_reach : Note
 
 -- the record was dead at the moment m of the history, or before
 pub record WasDead (lay : Layout) (p : ℕ) (x : Record) (m : History) : Type 0 where
@@ -34,8 +34,9 @@ pub record WasDead (lay : Layout) (p : ℕ) (x : Record) (m : History) : Type 0 
   pub within : Extends m moment
   pub dead : IsDead lay p x moment
 
--- the note of the pass p is right
-abbrev pub IsRight : Layout → ℕ → Record → History → (ℕ → History) → Note → Type 0
-IsRight lay p x h last (found t) = Extends h t × (IsMarked x t ⊎ IsDead lay p x t)
-IsRight lay p x h last (once end) = Extends h end × WasDead lay p x end
-IsRight lay p x h last free = IsOutOfReach lay h last x
+-- The note of the pass p is right after h: the record was marked or dead at the moment t of h; it
+-- was dead at the moment `end` of h, or before; it is out of reach, by the rests of `last`.
+abbrev pub IsRightNote : Layout → ℕ → Record → History → (ℕ → History) → Note → Type 0
+IsRightNote lay p x h last (marked_or_dead t) = Extends h t × (IsMarkedRecord x t ⊎ IsDead lay p x t)
+IsRightNote lay p x h last (dead_by end) = Extends h end × WasDead lay p x end
+IsRightNote lay p x h last out_of_reach = IsOutOfReach lay h last x
