@@ -33,8 +33,9 @@ impl<W: Write, T: Watch> Write for Unflushed<W, T> {
     }
 }
 
-/// Plays a script by a schedule, which are the texts, as `play_over` does, with a buffer before `out`. It goes out in
-/// the end, also after a fault: then too `out` has a beginning of the report.
+/// Plays the first of these texts, a script, by the second, a schedule, as `play_over` does, with a
+/// buffer before `out`. It goes out in the end, also after a fault: then too `out` has a beginning of
+/// the report.
 pub(crate) fn play_buffered<S: Read + Drop, T: Read + Drop, W: Watch + Drop, O: Write, E: Write>(
     alloc: Global,
     mode: Mode,
