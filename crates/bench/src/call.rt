@@ -3,7 +3,7 @@ ghost use Rattle.std.specs.Prelude.{◌≡◌};
 ghost use Rattle.forest.specs.Passes.{IsOf};
 ghost use Rattle.bench.specs.Tally.{total};
 
-use crate::keys::Keys;
+use crate::keys::{Draw, Keys};
 use crate::tally::{End, Tally, with_reply};
 use crate::task::Task;
 use crate::work::MapWork;
@@ -31,9 +31,8 @@ pub fn rounds<B: FixedBalance>(
 {
     let mut tally = Tally::default();
     for call in 0..task.calls {
-        let (key, chance) = keys.round(task.keys, work.goes_by_chance());
-        let pair = (key, u64::from(call));
-        let end = round(alloc, forest, work, &mut pass, chance, pair, &mut tally);
+        let draw = keys.draw(task, work, call);
+        let end = round(alloc, forest, work, &mut pass, draw, &mut tally);
         tally.count(end);
     }
     tally
@@ -45,18 +44,17 @@ fn round<B: FixedBalance>(
     forest: &Forest<Numbers<B>>,
     work: MapWork,
     pass: &mut Pass<Numbers<B>>,
-    chance: u64,
-    pair: (u64, u64),
+    draw: Draw,
     tally: &mut Tally,
 ) -> End
     requires { IsOf forest.now pass.old }
     ensures pass { IsOf forest.now pass.new }
     ensures total { total tally.new ≡ total tally.old }
 {
-    let key = &pair.0;
+    let (pair, key) = (draw.pair, &draw.pair.0);
     match work {
         MapWork::Get | MapWork::RiseGet => told(Ok(forest.get(pass, key)), tally),
-        MapWork::Mix { looks } => told(mix(forest, pass, chance, pair, looks), tally),
+        MapWork::Mix { looks } => told(mix(forest, pass, draw, looks), tally),
         MapWork::Insert | MapWork::RiseInsert => {
             told(forest.insert(pass, pair.0, pair.1), tally)
         }
@@ -79,13 +77,13 @@ fn round<B: FixedBalance>(
 fn mix<B: FixedBalance>(
     forest: &Forest<Numbers<B>>,
     pass: &mut Pass<Numbers<B>>,
-    chance: u64,
-    pair: (u64, u64),
+    draw: Draw,
     looks: u64,
 ) -> Result<Option<u64>, UpdateFault>
     requires { IsOf forest.now pass.old }
     ensures { IsOf forest.now pass.new }
 {
+    let Draw { chance, pair } = draw;
     let half = 100_u64.saturating_sub(looks) / 2;
     if chance < looks {
         Ok(forest.get(pass, &pair.0))

@@ -2,6 +2,8 @@
 ghost use Rattle.std.specs.Prelude.{◌<◌};
 
 use crate::draws::Draws;
+use crate::task::Task;
+use crate::work::MapWork;
 
 #[derive(Clone, Copy)]
 pub enum Keys {
@@ -9,6 +11,14 @@ pub enum Keys {
     Drawn(Draws),
     /// In order: the next, and how far each is above the one before.
     Rising { next: u64, apart: u32 },
+}
+
+/// What a round is made with: for a call that depends on chance a number below 100, and the pair that
+/// may be put in.
+#[derive(Clone, Copy)]
+pub struct Draw {
+    pub chance: u64,
+    pub pair: (u64, u64),
 }
 
 impl Keys {
@@ -23,6 +33,15 @@ impl Keys {
                 *next = key.wrapping_add(u64::from(*apart));
                 key
             }
+        }
+    }
+
+    /// What comes for this round of a work.
+    pub fn draw(&mut self, task: Task, work: MapWork, call: u32) -> Draw {
+        let (key, chance) = self.round(task.keys, work.goes_by_chance());
+        Draw {
+            chance,
+            pair: (key, u64::from(call)),
         }
     }
 

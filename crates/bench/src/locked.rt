@@ -4,7 +4,7 @@ ghost use Rattle.bench.specs.Tally.{total};
 
 use crate::call::{told, told_pair, told_pairs};
 use crate::fault::Fault;
-use crate::keys::Keys;
+use crate::keys::{Draw, Keys};
 use crate::load::{loaded, looks_of};
 use crate::repetition::{Repetition, nanos_since, now, sum};
 use crate::tally::{End, Tally};
@@ -128,9 +128,8 @@ fn rounds<R: Wait>(
 {
     let mut tally = Tally::default();
     for call in 0..task.calls {
-        let (key, chance) = keys.round(task.keys, work.goes_by_chance());
-        let pair = (key, u64::from(call));
-        let end = round(rt, alloc, map, work, chance, pair, &mut tally);
+        let draw = keys.draw(task, work, call);
+        let end = round(rt, alloc, map, work, draw, &mut tally);
         tally.count(end);
     }
     tally
@@ -142,27 +141,23 @@ fn round<R: Wait>(
     alloc: Global,
     map: &Locked,
     work: MapWork,
-    chance: u64,
-    pair: (u64, u64),
+    draw: Draw,
     tally: &mut Tally,
 ) -> End
     ensures { total tally.new ≡ total tally.old }
 {
+    let key = draw.pair.0;
     match work {
-        MapWork::Successor => {
-            let found = behind(&map.lock(rt), pair.0);
-            told_pair(Ok(found), tally)
-        }
-        MapWork::Predecessor => {
-            let found = before(&map.lock(rt), pair.0);
+        MapWork::Successor | MapWork::Predecessor => {
+            let found = beside(&map.lock(rt), work, key);
             told_pair(Ok(found), tally)
         }
         MapWork::Range { most } => {
-            let found = pairs_from(alloc, &map.lock(rt), pair.0, most);
+            let found = pairs_from(alloc, &map.lock(rt), key, most);
             told_pairs(found.map_err(|_| OrderFault::NoMemory), tally)
         }
         _ => {
-            let reply = call(&mut map.lock(rt), work, chance, pair);
+            let reply = call(&mut map.lock(rt), work, draw);
             match reply {
                 Ok(value) => told(Ok(value), tally),
                 Err(_) => End::Fail,
@@ -175,18 +170,17 @@ fn round<R: Wait>(
 fn call(
     map: &mut BTreeMap<u64, u64>,
     work: MapWork,
-    chance: u64,
-    pair: (u64, u64),
+    draw: Draw,
 ) -> Result<Option<u64>, AllocError> {
-    let (key, value) = pair;
+    let (key, value) = draw.pair;
     match work {
-        MapWork::Mix { looks } => mix(map, chance, pair, looks),
+        MapWork::Mix { looks } => mix(map, draw, looks),
         MapWork::Insert | MapWork::RiseInsert => Ok(map.insert(key, value)?),
         MapWork::InsertNew => insert_new(map, key, value),
         MapWork::Delete => Ok(map.remove(&key)),
         MapWork::DeleteIf => Ok(delete_if(map, key)),
         MapWork::Pop => Ok(map.pop_first().map(|(key, value)| key.wrapping_add(value))),
-        MapWork::Schedule => reschedule(map, pair),
+        MapWork::Schedule => reschedule(map, draw.pair),
         MapWork::PopLast => Ok(map.pop_last().map(|(key, value)| key.wrapping_add(value))),
         MapWork::Replace => Ok(replace(map, key)),
         _ => Ok(map.get(&key).copied()),
@@ -201,12 +195,8 @@ fn reschedule(map: &mut BTreeMap<u64, u64>, pair: (u64, u64)) -> Result<Option<u
 }
 
 /// Looks a key up in `looks` of a hundred rounds; else puts it in or takes it out.
-fn mix(
-    map: &mut BTreeMap<u64, u64>,
-    chance: u64,
-    pair: (u64, u64),
-    looks: u64,
-) -> Result<Option<u64>, AllocError> {
+fn mix(map: &mut BTreeMap<u64, u64>, draw: Draw, looks: u64) -> Result<Option<u64>, AllocError> {
+    let Draw { chance, pair } = draw;
     let half = 100_u64.saturating_sub(looks) / 2;
     if chance < looks {
         Ok(map.get(&pair.0).copied())
@@ -246,6 +236,14 @@ fn replace(map: &mut BTreeMap<u64, u64>, key: u64) -> Option<u64> {
         *value = key;
     }
     Some(old)
+}
+
+/// The pair before a key or after it, as a search asks for it.
+fn beside(map: &BTreeMap<u64, u64>, search: MapWork, key: u64) -> Option<(u64, u64)> {
+    match search {
+        MapWork::Predecessor => before(map, key),
+        _ => behind(map, key),
+    }
 }
 
 /// The pair after a key.

@@ -308,9 +308,7 @@ impl MapWork {
     fn name(self) -> &'static str {
         match self {
             MapWork::Get => "get",
-            MapWork::Mix { looks: 90 } => "mix90",
-            MapWork::Mix { looks: 50 } => "mix50",
-            MapWork::Mix { .. } => "mix0",
+            MapWork::Mix { looks } => mix_name(looks),
             MapWork::Insert => "insert",
             MapWork::InsertNew => "insert_new",
             MapWork::Delete => "delete",
@@ -320,10 +318,7 @@ impl MapWork {
             MapWork::Replace => "replace",
             MapWork::Successor => "succ",
             MapWork::Predecessor => "pred",
-            MapWork::Range { most: 1 } => "range1",
-            MapWork::Range { most: 4 } => "range4",
-            MapWork::Range { most: 16 } => "range16",
-            MapWork::Range { .. } => "range64",
+            MapWork::Range { most } => range_name(most),
             MapWork::RiseInsert => "rise_insert",
             MapWork::RiseGet => "rise_get",
             MapWork::Schedule => "schedule",
@@ -364,5 +359,24 @@ impl MapWork {
             usual_calls,
             usual_keys,
         }
+    }
+}
+
+/// The name of a mix with so many looks in a hundred rounds.
+fn mix_name(looks: u64) -> &'static str {
+    match looks {
+        90 => "mix90",
+        50 => "mix50",
+        _ => "mix0",
+    }
+}
+
+/// The name of a range of at most so many pairs.
+fn range_name(most: usize) -> &'static str {
+    match most {
+        1 => "range1",
+        4 => "range4",
+        16 => "range16",
+        _ => "range64",
     }
 }

@@ -8,6 +8,7 @@ use arena::Mode;
 use command_line::{draw_over, exit_status};
 use drawing::Window;
 use program::{audit_over, play_over, run_over};
+use std::alloc::Global;
 use std::io::{Read, Write};
 use std::sync::Wait;
 use std::thread::Threads;
@@ -80,20 +81,29 @@ impl<'a> Action<'a> {
                 let mut script = Metered::new(first);
                 run_over(rt, alloc, trie, gate, &mut script, &mut out, &mut err)
             }
-            Action::Audit => audit_over(alloc, &mut Metered::new(first), &mut out, &mut err),
-            Action::Copy => exit_status(copy_over(alloc, first, &mut out), &mut err),
-            Action::Picture => {
-                exit_status(draw_over(alloc, first, Window::ALL, &mut out), &mut err)
-            }
-            Action::Outcomes {
-                interruptions,
-                most,
-            } => {
-                let done = outcomes_over(alloc, first, interruptions, most, &mut out);
-                exit_status(done, &mut err)
-            }
+            alone => alone.over_one(alloc, first, &mut out, &mut err),
         };
         let out = out.inner;
         ProgramEnd { status, out, err }
+    }
+
+    /// The exit status of a command over one text that starts no threads. Those that are not named are
+    /// pictures: plays and runs do not come here.
+    fn over_one<S: Read, O: Write>(
+        self,
+        alloc: Global,
+        text: &mut S,
+        out: &mut Metered<O>,
+        err: &mut Vec<u8>,
+    ) -> u8 {
+        match self {
+            Action::Audit => audit_over(alloc, &mut Metered::new(text), out, err),
+            Action::Copy => exit_status(copy_over(alloc, text, out), err),
+            Action::Outcomes {
+                interruptions,
+                most,
+            } => exit_status(outcomes_over(alloc, text, interruptions, most, out), err),
+            _ => exit_status(draw_over(alloc, text, Window::ALL, out), err),
+        }
     }
 }

@@ -49,10 +49,7 @@ fn play_files<R: Files + AllocGlobal, O: Write, E: Write>(
     ensures { result ≤ 4 }
 {
     match open_both(rt, script, schedule) {
-        Ok((script, schedule)) => {
-            let alloc = rt.alloc();
-            play_buffered(alloc, mode, script, schedule, Unwatched, out, err)
-        }
+        Ok(texts) => play_buffered(rt.alloc(), mode, texts, Unwatched, out, err),
         Err(fault) => fault.print(err),
     }
 }

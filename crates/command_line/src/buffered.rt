@@ -33,13 +33,13 @@ impl<W: Write, T: Watch> Write for Unflushed<W, T> {
     }
 }
 
-/// Plays a script by a schedule, as `play_over` does, with a buffer before `out`. It goes out in
-/// the end, also after a fault: then too `out` has a beginning of the report.
+/// Plays the first of these texts, a script, by the second, a schedule, as `play_over` does, with a
+/// buffer before `out`. It goes out in the end, also after a fault: then too `out` has a beginning of
+/// the report.
 pub(crate) fn play_buffered<S: Read + Drop, T: Read + Drop, W: Watch + Drop, O: Write, E: Write>(
     alloc: Global,
     mode: Mode,
-    script: S,
-    schedule: T,
+    texts: (S, T),
     watch: W,
     out: &mut O,
     err: &mut E,
@@ -57,7 +57,7 @@ pub(crate) fn play_buffered<S: Read + Drop, T: Read + Drop, W: Watch + Drop, O: 
         }
         Err(error) => return Fault::from(error).print(err),
     };
-    let (mut script, mut schedule) = (Metered::new(script), Metered::new(schedule));
+    let (mut script, mut schedule) = (Metered::new(texts.0), Metered::new(texts.1));
     let status = play_over(alloc, mode, &mut script, &mut schedule, &mut to, err);
     if to.inner.inner.flush().is_err() && status == 0 {
         return Fault::Write.print(err);

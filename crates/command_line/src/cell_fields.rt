@@ -1,5 +1,5 @@
 //! What is wrong with the cells of an `scx`.
-use crate::field::are_cells;
+use crate::field::{are_cells, or_nothing};
 use csv::StringRecord;
 use std::alloc::{AllocError, Global};
 use texts::number_of;
@@ -18,21 +18,25 @@ pub(crate) fn scx_fault(
         return Ok(None);
     }
     if !is_part(finalized, cells) {
-        return Ok(Some((
-            1,
-            format!(in alloc; "{finalized} in place of some of the cells {cells}, in their order")?,
-        )));
+        return Ok(Some((1, part_fault(alloc, finalized, cells)?)));
     }
-    if is_change(change, cells) {
-        return Ok(None);
+    if !is_change(change, cells) {
+        return Ok(Some((2, change_fault(alloc, change, cells)?)));
     }
-    let shown = if change.is_empty() { "nothing" } else { change };
-    Ok(Some((
-        2,
-        format!(in alloc;
-            "{shown} in place of one of the cells {cells}, left or right, and a number, with spaces between"
-        )?,
-    )))
+    Ok(None)
+}
+
+/// The cells to be finalized are no part of the cells.
+fn part_fault(alloc: Global, finalized: &str, cells: &str) -> Result<String, AllocError> {
+    format!(in alloc; "{finalized} in place of some of the cells {cells}, in their order")
+}
+
+/// The change is none of a field of one of the cells.
+fn change_fault(alloc: Global, change: &str, cells: &str) -> Result<String, AllocError> {
+    let shown = or_nothing(change);
+    format!(in alloc;
+        "{shown} in place of one of the cells {cells}, left or right, and a number, with spaces between"
+    )
 }
 
 fn field_at(row: &StringRecord, place: usize) -> &str {

@@ -46,31 +46,50 @@ impl Field {
 
     /// What is wrong with what was found there, if anything is.
     pub(crate) fn fault(&self, alloc: Global, found: &str) -> Result<Option<String>, AllocError> {
-        let shown = if found.is_empty() { "nothing" } else { found };
-        let text = match self.wanted {
-            Wanted::Number { least, most } => return number_fault(alloc, found, least, most),
+        match self.wanted {
+            Wanted::Number { least, most } => number_fault(alloc, found, least, most),
             Wanted::NumberOrNothing { most } if !found.is_empty() => {
-                return number_fault(alloc, found, 0, most);
+                number_fault(alloc, found, 0, most)
             }
-            Wanted::OneOf(words) if !has_word(words, found) => words_fault(alloc, shown, words)?,
-            Wanted::Cells if !are_cells(found) => format!(in alloc;
-                "{shown} in place of 1 to 4 different cells, from 1 to 8, with a space between two"
-            )?,
-            Wanted::Scx if !is_scx(found) => {
-                format!(in alloc; "{shown} in place of an SCX-record, as s1")?
-            }
-            Wanted::TableWord { has_high } if !is_table_word(found, has_high) => {
-                format!(in alloc;
-                    "{shown} in place of a word of the table, as n5.left or s2.state"
-                )?
-            }
-            Wanted::Nothing if !found.is_empty() => {
-                format!(in alloc; "{found} where nothing is wanted")?
-            }
-            _ => return Ok(None),
-        };
-        Ok(Some(text))
+            wanted if wanted.takes(found) => Ok(None),
+            wanted => Ok(Some(wanted.fault(alloc, found)?)),
+        }
     }
+}
+
+impl Wanted {
+    /// Whether this may stand there, where it is not asked for its bounds as a number.
+    fn takes(self, found: &str) -> bool {
+        match self {
+            Wanted::OneOf(words) => has_word(words, found),
+            Wanted::Cells => are_cells(found),
+            Wanted::Scx => is_scx(found),
+            Wanted::TableWord { has_high } => is_table_word(found, has_high),
+            Wanted::Nothing => found.is_empty(),
+            Wanted::Text | Wanted::Number { .. } | Wanted::NumberOrNothing { .. } => true,
+        }
+    }
+
+    /// What is wrong with something else that was found there.
+    fn fault(self, alloc: Global, found: &str) -> Result<String, AllocError> {
+        let shown = or_nothing(found);
+        match self {
+            Wanted::OneOf(words) => words_fault(alloc, shown, words),
+            Wanted::Cells => format!(in alloc;
+                "{shown} in place of 1 to 4 different cells, from 1 to 8, with a space between two"
+            ),
+            Wanted::Scx => format!(in alloc; "{shown} in place of an SCX-record, as s1"),
+            Wanted::TableWord { .. } => format!(in alloc;
+                "{shown} in place of a word of the table, as n5.left or s2.state"
+            ),
+            _ => format!(in alloc; "{found} where nothing is wanted"),
+        }
+    }
+}
+
+/// What was found, in words where it is nothing.
+pub(crate) fn or_nothing(found: &str) -> &str {
+    if found.is_empty() { "nothing" } else { found }
 }
 
 fn has_word(words: &str, found: &str) -> bool {
@@ -124,7 +143,7 @@ fn number_fault(
     least: u128,
     most: u128,
 ) -> Result<Option<String>, AllocError> {
-    let shown = if found.is_empty() { "nothing" } else { found };
+    let shown = or_nothing(found);
     let text = match number_of::<u128>(found) {
         Some(number) if least <= number && number <= most => return Ok(None),
         _ if least == most => format!(in alloc; "{shown} in place of {most}")?,

@@ -4,7 +4,7 @@ ghost use Rattle.std.specs.Prelude.{◌≤◌};
 use crate::buffered::play_buffered;
 use crate::command_help::whole_command;
 use crate::complaint::Complaint;
-use crate::outcomes::explore_to;
+use crate::outcomes::{ScheduleBounds, explore_to};
 use crate::progress::Progress;
 use crate::refusal::{record_of, require_lawful, schedule_of, script_of};
 use crate::source::{LateFile, Source};
@@ -109,17 +109,10 @@ fn play<R: Files + Input + Clock + AllocGlobal, O: Write, E: Write>(
     let script = script_of(alloc, mode, &text)?;
     let schedule = Source::of(rt, given, "SCHEDULE")?;
     schedule_of(alloc, &script, &schedule)?;
-    let (text, schedule) = (text.bytes.as_slice(), schedule.bytes.as_slice());
+    let texts = (text.bytes.as_slice(), schedule.bytes.as_slice());
     let watch = Progress::new(rt, err, given.get_flag("progress"), "turns", None);
-    ended(play_buffered(
-        alloc,
-        mode,
-        text,
-        schedule,
-        watch,
-        out,
-        &mut Vec::new(alloc),
-    ))
+    let mut unsaid = Vec::new(alloc);
+    ended(play_buffered(alloc, mode, texts, watch, out, &mut unsaid))
 }
 
 /// Standard input can be read once.
@@ -172,22 +165,21 @@ fn list_outcomes<R: Files + Input + Clock + AllocGlobal, O: Write, E: Write>(
     let (alloc, mode) = (rt.alloc(), map_of(given));
     let script = Source::of(rt, given, "SCRIPT")?;
     script_of(alloc, mode, &script)?;
-    let interruptions = given.get_one::<u32>("interruptions").unwrap_or(2);
-    let most = given.get_one::<u64>("most").unwrap_or(1_000_000);
+    let bounds = bounds_of(given);
     let (mut script, mut out) = (script.bytes.as_slice(), Metered::new(out));
     let asked = given.get_flag("progress");
-    let mut watch = Progress::new(rt, err, asked, "schedules at most", Some(most));
-    let left = explore_to(
-        alloc,
-        mode,
-        &mut script,
-        interruptions,
-        most,
-        &mut watch,
-        &mut out,
-    )?;
+    let mut watch = Progress::new(rt, err, asked, "schedules at most", Some(bounds.most));
+    let left = explore_to(alloc, mode, &mut script, bounds, &mut watch, &mut out)?;
     let _ = err.write_all(left.as_bytes());
     Ok(())
+}
+
+/// The bounds of the schedules that are asked for.
+fn bounds_of(given: &ArgMatches<'_>) -> ScheduleBounds {
+    ScheduleBounds {
+        interruptions: given.get_one::<u32>("interruptions").unwrap_or(2),
+        most: given.get_one::<u64>("most").unwrap_or(1_000_000),
+    }
 }
 
 /// The mode of the map that is asked for.

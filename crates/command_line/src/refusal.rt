@@ -4,7 +4,7 @@ use crate::excerpt::excerpt;
 use crate::field::Field;
 use crate::forms::{schedule_fields, script_fields};
 use crate::report_forms::ReportSoFar;
-use crate::row_fault::{RowFault, absent_fault, entry_fault, field_fault, form_fault};
+use crate::row_fault::{Form, RowFault, absent_fault, fault_of, field_fault, form_fault, name_at};
 use crate::sheet_rows::{FoundRow, row_of};
 use crate::source::Source;
 use arena::{Mode, NoMemory};
@@ -17,36 +17,62 @@ use script::{Schedule, Script, TextFault, read_schedule, read_script};
 use std::alloc::{AllocError, Global};
 use texts::{Metered, number_of};
 
+/// The first row of a script.
+const SCRIPT_HEAD: &str = "limits,passes,nodes,scx,tries";
+
+/// The first row of a schedule.
+const SCHEDULE_ROW: &str = "one of a schedule, or end,0,,";
+
+/// The first row of a report, and its last.
+const REPORT_HEAD: &str = "report,2,MODE,,,,";
+
+const REPORT_END: &str = "end,STEPS,REPLIES,LOGS,,,";
+
 /// The script that a text says.
 pub(crate) fn script_of(
     alloc: Global,
     mode: Mode,
     source: &Source<'_>,
 ) -> Result<Script, Complaint> {
-    let row = match read_script(alloc, mode, &mut Metered::new(source.bytes.as_slice())) {
-        Ok(script) => return Ok(script),
-        Err(TextFault::Bad { row, cause: _ }) => row,
-        Err(_) => return Err(Complaint::NoMemory),
-    };
+    match read_script(alloc, mode, &mut Metered::new(source.bytes.as_slice())) {
+        Ok(script) => Ok(script),
+        Err(TextFault::Bad { row, cause: _ }) => {
+            let fault = script_fault(alloc, mode, source, row)?;
+            Err(refused(alloc, source, row, &fault)?)
+        }
+        Err(_) => Err(Complaint::NoMemory),
+    }
+}
+
+/// What is wrong with a row of a script.
+fn script_fault(
+    alloc: Global,
+    mode: Mode,
+    source: &Source<'_>,
+    row: u64,
+) -> Result<RowFault, AllocError> {
     let before = row.saturating_sub(2);
     let end = format!(in alloc; "end,{before},,,")?;
     let found = match row_of(alloc, source, row) {
         FoundRow::Row(found) => found,
-        absent => {
-            let first = "limits,passes,nodes,scx,tries";
-            let fault = absent_fault(alloc, &absent, row, first, end.as_str())?;
-            return Err(refused(alloc, source, row, "", &fault)?);
-        }
+        absent => return absent_fault(alloc, &absent, row, SCRIPT_HEAD, end.as_str()),
     };
     let command = found.get(1).unwrap_or("");
     let fields = script_fields(row, command, mode, passes_of(alloc, source));
-    let scx_at = if command == "scx" { Some(2) } else { None };
-    let entry = if row > 1 {
-        Some((before, end.as_str()))
-    } else {
-        None
+    let mut form = Form {
+        fields: fields.as_slice(),
+        entry: None,
+        scx_at: scx_at(command, 2),
     };
-    refuse(alloc, source, row, &found, fields.as_slice(), entry, scx_at)
+    if row > 1 {
+        form.entry = Some((before, end.as_str()));
+    }
+    fault_of(alloc, source, row, &found, &form)
+}
+
+/// Where the arguments of a command begin, if it is an `scx`.
+fn scx_at(command: &str, place: usize) -> Option<usize> {
+    if command == "scx" { Some(place) } else { None }
 }
 
 /// The number of passes that the first row of a script says.
@@ -63,66 +89,46 @@ pub(crate) fn schedule_of(
     script: &Script,
     source: &Source<'_>,
 ) -> Result<Schedule, Complaint> {
-    let row = match read_schedule(alloc, script, &mut Metered::new(source.bytes.as_slice())) {
-        Ok(schedule) => return Ok(schedule),
-        Err(TextFault::Bad { row, cause: _ }) => row,
-        Err(_) => return Err(Complaint::NoMemory),
-    };
+    match read_schedule(alloc, script, &mut Metered::new(source.bytes.as_slice())) {
+        Ok(schedule) => Ok(schedule),
+        Err(TextFault::Bad { row, cause: _ }) => {
+            let fault = schedule_fault(alloc, script, source, row)?;
+            Err(refused(alloc, source, row, &fault)?)
+        }
+        Err(_) => Err(Complaint::NoMemory),
+    }
+}
+
+/// What is wrong with a row of a schedule.
+fn schedule_fault(
+    alloc: Global,
+    script: &Script,
+    source: &Source<'_>,
+    row: u64,
+) -> Result<RowFault, AllocError> {
     let before = row.saturating_sub(1);
     let end = format!(in alloc; "end,{before},,")?;
     let found = match row_of(alloc, source, row) {
         FoundRow::Row(found) => found,
-        absent => {
-            let first = "one of a schedule, or end,0,,";
-            let fault = absent_fault(alloc, &absent, row, first, end.as_str())?;
-            return Err(refused(alloc, source, row, "", &fault)?);
-        }
+        absent => return absent_fault(alloc, &absent, row, SCHEDULE_ROW, end.as_str()),
     };
     let fields = schedule_fields(found.get(0).unwrap_or(""), u128::from(script.limits.passes));
-    let entry = Some((before, end.as_str()));
-    refuse(alloc, source, row, &found, fields.as_slice(), entry, None)
+    let form = Form {
+        fields: fields.as_slice(),
+        entry: Some((before, end.as_str())),
+        scx_at: None,
+    };
+    fault_of(alloc, source, row, &found, &form)
 }
 
-/// Refuses a row of a script or a schedule: one behind the head, so many entries and before what is
-/// to be the end row, is an entry.
-fn refuse<T>(
-    alloc: Global,
-    source: &Source<'_>,
-    row: u64,
-    found: &StringRecord,
-    fields: &[Field],
-    entry: Option<(u64, &str)>,
-    scx_at: Option<usize>,
-) -> Result<T, Complaint> {
-    if let Some(fault) = form_fault(alloc, source, row, found, fields.len())? {
-        return Err(refused(alloc, source, row, "", &fault)?);
-    }
-    if let Some((before, end)) = entry
-        && let Some(fault) = entry_fault(alloc, found, before, end)?
-    {
-        return Err(refused(alloc, source, row, "", &fault)?);
-    }
-    let fault = field_fault(alloc, found, fields, scx_at)?;
-    Err(refused(alloc, source, row, name_of(fields, &fault), &fault)?)
-}
-
-/// The name of the field that is at fault.
-fn name_of(fields: &[Field], fault: &RowFault) -> &'static str {
-    match fault.field.and_then(|place| fields.get(place)) {
-        Some(field) => field.name,
-        None => "",
-    }
-}
-
-/// What is said of a row, whose field of this name is at fault, if it has a name.
+/// What is said of a row, and of its field that is at fault, if one is.
 fn refused(
     alloc: Global,
     source: &Source<'_>,
     row: u64,
-    name: &str,
     fault: &RowFault,
 ) -> Result<Complaint, AllocError> {
-    let text = fault.text.as_str();
+    let (text, name) = (fault.text.as_str(), fault.name);
     Ok(Complaint::Refused(if name.is_empty() {
         format!(in alloc; "{}, row {row}: {text}", source.name)?
     } else {
@@ -132,32 +138,34 @@ fn refused(
 
 /// The record that a report says.
 pub(crate) fn record_of(alloc: Global, source: &Source<'_>) -> Result<Record, Complaint> {
-    let row = match read_record(alloc, &mut Metered::new(source.bytes.as_slice())) {
-        Ok(record) => return Ok(record),
-        Err(ReportFault::NotLawful { row }) => row,
-        Err(_) => return Err(Complaint::NoMemory),
-    };
+    match read_record(alloc, &mut Metered::new(source.bytes.as_slice())) {
+        Ok(record) => Ok(record),
+        Err(ReportFault::NotLawful { row }) => {
+            let fault = report_fault(alloc, source, row)?;
+            Err(refused_report(alloc, source, row, &fault)?)
+        }
+        Err(_) => Err(Complaint::NoMemory),
+    }
+}
+
+/// What is wrong with a row of a report.
+fn report_fault(alloc: Global, source: &Source<'_>, row: u64) -> Result<RowFault, AllocError> {
     let found = match row_of(alloc, source, row) {
         FoundRow::Row(found) => found,
-        absent => {
-            let (first, last) = ("report,2,MODE,,,,", "end,STEPS,REPLIES,LOGS,,,");
-            let fault = absent_fault(alloc, &absent, row, first, last)?;
-            return Err(refused_report(alloc, source, row, "", &fault)?);
-        }
+        absent => return absent_fault(alloc, &absent, row, REPORT_HEAD, REPORT_END),
     };
     if let Some(fault) = form_fault(alloc, source, row, &found, 7)? {
-        return Err(refused_report(alloc, source, row, "", &fault)?);
+        return Ok(fault);
     }
-    let so_far = ReportSoFar::of(alloc, source, row, &found);
-    let fields = so_far.fields(found.get(0).unwrap_or(""), found.get(3).unwrap_or(""));
-    let scx_at = if found.get(3) == Some("scx") {
-        Some(4)
-    } else {
-        None
-    };
-    let fault = field_fault(alloc, &found, fields.as_slice(), scx_at)?;
-    let name = name_of(fields.as_slice(), &fault);
-    Err(refused_report(alloc, source, row, name, &fault)?)
+    let fields = report_fields(alloc, source, row, &found);
+    let scx_at = scx_at(found.get(3).unwrap_or(""), 4);
+    field_fault(alloc, &found, fields.as_slice(), scx_at)
+}
+
+/// What the fields of a row of a report are to be.
+fn report_fields(alloc: Global, source: &Source<'_>, row: u64, found: &StringRecord) -> [Field; 7] {
+    let so_far = ReportSoFar::of(alloc, source, row, found);
+    so_far.fields(found.get(0).unwrap_or(""), found.get(3).unwrap_or(""))
 }
 
 /// The same of a row of a report, which is shown with its neighbours.
@@ -165,11 +173,14 @@ fn refused_report(
     alloc: Global,
     source: &Source<'_>,
     row: u64,
-    name: &str,
     fault: &RowFault,
 ) -> Result<Complaint, AllocError> {
     let shown = excerpt(alloc, source, row, fault.field)?;
-    let RowFault { field: _, text } = fault;
+    let RowFault {
+        field: _,
+        name,
+        text,
+    } = fault;
     let comma = if name.is_empty() { "" } else { ", " };
     Ok(Complaint::Refused(format!(in alloc;
         "{}, row {row}{comma}{name}: {text}{shown}",
@@ -205,12 +216,8 @@ fn unlawful(
     let breach = explain(alloc, record, row.saturating_sub(head) as usize)?;
     let name = match row_of(alloc, source, row) {
         FoundRow::Row(found) => {
-            let so_far = ReportSoFar::of(alloc, source, row, &found);
-            let fields = so_far.fields(found.get(0).unwrap_or(""), found.get(3).unwrap_or(""));
-            fields
-                .get(breach.field)
-                .map(|field| field.name)
-                .unwrap_or("")
+            let fields = report_fields(alloc, source, row, &found);
+            name_at(fields.as_slice(), breach.field)
         }
         _ => "",
     };

@@ -3,9 +3,10 @@ use crate::field::{Field, Wanted};
 use crate::forms::{
     CALLS, CELL_CALLS, WORD, arguments, client, nothing, one_of, script_fields, text, word,
 };
+use crate::sheet_rows::rows_of;
 use crate::source::Source;
 use arena::Mode;
-use csv::{ReaderBuilder, StringRecord};
+use csv::StringRecord;
 use std::alloc::Global;
 use texts::number_of;
 
@@ -38,22 +39,9 @@ impl ReportSoFar {
         row: u64,
         found: &StringRecord,
     ) -> ReportSoFar {
-        let mut so_far = ReportSoFar {
-            row,
-            is_old: false,
-            mode: Mode::Tree,
-            passes: 0,
-            calls: 0,
-            own: 0,
-            steps: 0,
-            replies: 0,
-            logs: 0,
-        };
+        let mut so_far = ReportSoFar::before_all(row);
         let own = found.get(1).unwrap_or("");
-        let mut rows = ReaderBuilder::new()
-            .has_headers(false)
-            .flexible(true)
-            .from_reader(alloc, source.bytes.as_slice());
+        let mut rows = rows_of(alloc, source);
         let mut before = StringRecord::new(alloc);
         for _ in 1..row {
             if !matches!(rows.read_record(&mut before), Ok(true)) {
@@ -64,24 +52,38 @@ impl ReportSoFar {
         so_far
     }
 
+    /// Before the rows before this one are gone through.
+    fn before_all(row: u64) -> ReportSoFar {
+        ReportSoFar {
+            row,
+            is_old: false,
+            mode: Mode::Tree,
+            passes: 0,
+            calls: 0,
+            own: 0,
+            steps: 0,
+            replies: 0,
+            logs: 0,
+        }
+    }
+
     fn add(&mut self, row: &StringRecord, own: &str) {
         let second = row.get(1).unwrap_or("");
-        let count = match row.get(0) {
+        match row.get(0) {
             Some("report") => {
                 self.is_old = second == "1";
-                self.mode = match row.get(2) {
-                    Some("records") => Mode::Records,
-                    Some("trie") => Mode::Trie,
-                    _ => Mode::Tree,
-                };
-                return;
+                self.mode = mode_of(row.get(2).unwrap_or(""));
             }
-            Some("limits") => {
-                self.passes = number_of::<u128>(second).unwrap_or(0);
-                return;
-            }
+            Some("limits") => self.passes = number_of::<u128>(second).unwrap_or(0),
+            kind => self.count(kind, second == own),
+        }
+    }
+
+    /// One more row of a kind, which a call of this row's client may be.
+    fn count(&mut self, kind: Option<&str>, is_own: bool) {
+        let count = match kind {
             Some("call") => {
-                self.own = self.own.saturating_add(u64::from(second == own));
+                self.own = self.own.saturating_add(u64::from(is_own));
                 &mut self.calls
             }
             Some("step") => &mut self.steps,
@@ -135,14 +137,18 @@ impl ReportSoFar {
         ]
     }
 
-    fn line_fields(&self, first: &str, kind: &str) -> [Field; 7] {
-        let rest = nothing("what follows");
-        let words = if self.has_lines() {
+    /// How the row may begin, if it is no call.
+    fn line_names(&self) -> &'static str {
+        if self.has_lines() {
             "step log reply end"
         } else {
             "call step log reply end"
-        };
-        let head = one_of("first field", words);
+        }
+    }
+
+    fn line_fields(&self, first: &str, kind: &str) -> [Field; 7] {
+        let rest = nothing("what follows");
+        let head = one_of("first field", self.line_names());
         let client = Field::number("client", 0, u128::from(u32::MAX));
         let (number, call) = (word("number"), word("call"));
         match first {
@@ -173,6 +179,15 @@ impl ReportSoFar {
             rest,
             rest,
         ]
+    }
+}
+
+/// The mode of this name.
+fn mode_of(name: &str) -> Mode {
+    match name {
+        "records" => Mode::Records,
+        "trie" => Mode::Trie,
+        _ => Mode::Tree,
     }
 }
 

@@ -13,14 +13,67 @@ const MOST_ENTRIES: u64 = 65_536;
 #[derive(Drop)]
 pub(crate) struct RowFault {
     pub(crate) field: Option<usize>,
+    /// The name of the field, if it has one.
+    pub(crate) name: &'static str,
     pub(crate) text: String,
+}
+
+/// What a row of a script or a schedule is to be.
+#[derive(Clone, Copy)]
+pub(crate) struct Form<'a> {
+    pub(crate) fields: &'a [Field],
+    /// Of a row behind the head, how many entries are before it, and the end row that is to be behind
+    /// these.
+    pub(crate) entry: Option<(u64, &'a str)>,
+    /// Where the arguments of an `scx` begin.
+    pub(crate) scx_at: Option<usize>,
 }
 
 impl RowFault {
     /// One of the whole row.
     fn of_row(text: String) -> RowFault {
-        RowFault { field: None, text }
+        RowFault {
+            field: None,
+            name: "",
+            text,
+        }
     }
+
+    /// One of the field at this place.
+    fn of_field(fields: &[Field], place: usize, text: String) -> RowFault {
+        RowFault {
+            field: Some(place),
+            name: name_at(fields, place),
+            text,
+        }
+    }
+}
+
+/// The name of the field at a place.
+pub(crate) fn name_at(fields: &[Field], place: usize) -> &'static str {
+    match fields.get(place) {
+        Some(field) => field.name,
+        None => "",
+    }
+}
+
+/// What is wrong with a row of a script or a schedule.
+pub(crate) fn fault_of(
+    alloc: Global,
+    source: &Source<'_>,
+    row: u64,
+    found: &StringRecord,
+    form: &Form<'_>,
+) -> Result<RowFault, AllocError> {
+    if let Some(fault) = form_fault(alloc, source, row, found, form.fields.len())? {
+        return Ok(fault);
+    }
+    if let Some((before, end)) = form.entry
+        && let Some(fault) = entry_fault(alloc, found, before, end)?
+    {
+        return Ok(fault);
+    }
+    field_fault(alloc, found, form.fields, form.scx_at)
 }
 
 /// What is wrong with a row that is not there, or no text, of a text whose first row and whose last
@@ -64,7 +117,7 @@ pub(crate) fn form_fault(
 }
 
 /// What is wrong with an entry of a text behind so many others, or with its end row.
-pub(crate) fn entry_fault(
+fn entry_fault(
     alloc: Global,
     found: &StringRecord,
     before: u64,
@@ -92,20 +145,16 @@ pub(crate) fn field_fault(
 ) -> Result<RowFault, AllocError> {
     for (place, field) in fields.iter().enumerate() {
         if let Some(text) = field.fault(alloc, found.get(place).unwrap_or(""))? {
-            let field = Some(place);
-            return Ok(RowFault { field, text });
+            return Ok(RowFault::of_field(fields, place, text));
         }
     }
     if let Some(first) = scx_at
         && let Some((place, text)) = scx_fault(alloc, found, first)?
     {
-        let field = Some(first.saturating_add(place));
-        return Ok(RowFault { field, text });
+        return Ok(RowFault::of_field(fields, first.saturating_add(place), text));
     }
     let last = fields.len().saturating_sub(1);
     let shown = found.get(last).unwrap_or("");
-    Ok(RowFault {
-        field: Some(last),
-        text: format!(in alloc; "{shown} is not of one of the forms in docs/FORMATS.md")?,
-    })
+    let text = format!(in alloc; "{shown} is not of one of the forms in docs/FORMATS.md")?;
+    Ok(RowFault::of_field(fields, last, text))
 }

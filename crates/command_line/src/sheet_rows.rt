@@ -1,6 +1,6 @@
 //! The rows of a text that has been read.
 use crate::source::Source;
-use csv::{ReaderBuilder, StringRecord};
+use csv::{Reader, ReaderBuilder, StringRecord};
 use std::alloc::{AllocError, Global};
 
 /// What is found where a row is looked for.
@@ -14,12 +14,17 @@ pub(crate) enum FoundRow {
     Missing,
 }
 
-/// A row of a text, counted from 1.
-pub(crate) fn row_of(alloc: Global, source: &Source<'_>, row: u64) -> FoundRow {
-    let mut rows = ReaderBuilder::new()
+/// The rows of a text, from the first on.
+pub(crate) fn rows_of<'a>(alloc: Global, source: &'a Source<'_>) -> Reader<&'a [u8]> {
+    ReaderBuilder::new()
         .has_headers(false)
         .flexible(true)
-        .from_reader(alloc, source.bytes.as_slice());
+        .from_reader(alloc, source.bytes.as_slice())
+}
+
+/// A row of a text, counted from 1.
+pub(crate) fn row_of(alloc: Global, source: &Source<'_>, row: u64) -> FoundRow {
+    let mut rows = rows_of(alloc, source);
     let mut found = StringRecord::new(alloc);
     for _ in 0..row {
         match rows.read_record(&mut found) {

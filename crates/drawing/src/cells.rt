@@ -6,7 +6,8 @@ use crate::parts::TextPart::{Number, Short, Text};
 use crate::parts::joined;
 use arena::{NodeNo, NodeWord, Side, Word};
 use script::{Call, Command};
-use std::alloc::{AllocError, Global};
+use std::alloc::AllocError;
+use std::num::nearest_usize_to_f64;
 
 /// How many nodes a script may name, counted from node 0.
 const NODES: usize = 9;
@@ -16,6 +17,9 @@ const WIDE: f64 = 62.0;
 
 const HIGH: f64 = 18.0;
 
+/// From where a cell begins to where the next one does.
+const STEP: f64 = 2.0 * WIDE + 12.0;
+
 /// Which nodes the calls of a script name.
 #[derive(Clone, Copy)]
 pub(crate) struct CellRow {
@@ -24,9 +28,7 @@ pub(crate) struct CellRow {
 
 /// The cells that some calls name.
 pub(crate) fn cells_of(calls: &[Call]) -> CellRow {
-    let mut row = CellRow {
-        named: [false; NODES],
-    };
+    let mut row = CellRow::EMPTY;
     for call in calls {
         match &call.command {
             Command::Llx { cell } => row.name(cell.node()),
@@ -40,6 +42,11 @@ pub(crate) fn cells_of(calls: &[Call]) -> CellRow {
 }
 
 impl CellRow {
+    /// No node is named.
+    const EMPTY: CellRow = CellRow {
+        named: [false; NODES],
+    };
+
     fn name(&mut self, node: NodeNo) {
         if let Some(named) = self.named.get_mut(node.0 as usize) {
             *named = true;
@@ -55,7 +62,6 @@ impl CellRow {
     /// Draws the cells under a caption, with the word that has changed tinted.
     pub(crate) fn draw(
         &self,
-        alloc: Global,
         canvas: &mut Canvas,
         flow: &mut Flow,
         table: &NodeTable,
@@ -63,21 +69,14 @@ impl CellRow {
         caption: &str,
     ) -> Result<(), AllocError> {
         let count = self.named.iter().filter(|named| **named).count();
-        let wide = (2.0 * WIDE + 12.0) * std::num::nearest_usize_to_f64(count) + 20.0;
-        let corner = flow.place(Spot {
-            x: wide.max(width_of(caption) + 30.0),
-            y: 70.0,
-        });
+        let wide = STEP * nearest_usize_to_f64(count) + 20.0;
+        let corner = flow.place(Spot::at(wide.max(width_of(caption) + 30.0), 70.0));
         canvas.words(corner, "quiet", caption);
-        let mut x = corner.x;
+        let mut at = corner.moved(0.0, 20.0);
         for (number, named) in self.named.iter().enumerate() {
             if *named {
-                let at = Spot {
-                    x,
-                    y: corner.y + 20.0,
-                };
-                draw_cell(alloc, canvas, table, number as u64, changed, at)?;
-                x += 2.0 * WIDE + 12.0;
+                draw_cell(canvas, table, number as u64, changed, at)?;
+                at = at.moved(STEP, 0.0);
             }
         }
         Ok(())
@@ -86,7 +85,6 @@ impl CellRow {
 
 /// Draws a cell: its name, and its two fields side by side.
 fn draw_cell(
-    alloc: Global,
     canvas: &mut Canvas,
     table: &NodeTable,
     node: u64,
@@ -94,41 +92,38 @@ fn draw_cell(
     corner: Spot,
 ) -> Result<(), AllocError> {
     let shown = table.get(node);
-    name_cell(alloc, canvas, node, shown.is_marked, corner)?;
-    let beside = Spot {
-        x: corner.x + WIDE,
-        y: corner.y,
-    };
+    name_cell(canvas, node, shown.is_marked, corner)?;
+    let beside = corner.moved(WIDE, 0.0);
     for (side, held, at) in [
         (Side::Left, shown.left, corner),
         (Side::Right, shown.right, beside),
     ] {
         let word = Word::Node(NodeNo(node), NodeWord::Child(side));
-        let class = match shown.is_marked {
-            _ if changed == Some(word) => "new",
-            true => "final",
-            false => "node",
-        };
+        let class = class_of(changed == Some(word), shown.is_marked);
         draw_field(canvas, table, held, class, at);
     }
     Ok(())
 }
 
+/// The class of a field, which has just changed or not, of a cell that is finalized or not.
+fn class_of(is_changed: bool, is_finalized: bool) -> &'static str {
+    match (is_changed, is_finalized) {
+        (true, _) => "new",
+        (false, true) => "final",
+        (false, false) => "node",
+    }
+}
+
 /// Writes the name of a cell above it, and whether it is finalized.
 fn name_cell(
-    alloc: Global,
     canvas: &mut Canvas,
     node: u64,
     is_finalized: bool,
     corner: Spot,
 ) -> Result<(), AllocError> {
-    let above = Spot {
-        x: corner.x,
-        y: corner.y - 3.0,
-    };
     let finalized = if is_finalized { " final" } else { "" };
-    let name = joined(alloc, &[Text("n"), Number(node), Text(finalized)])?;
-    canvas.words(above, "small quiet", name.as_str());
+    let name = joined(canvas.alloc, &[Text("n"), Number(node), Text(finalized)])?;
+    canvas.words(corner.moved(0.0, -3.0), "small quiet", name.as_str());
     Ok(())
 }
 
@@ -137,10 +132,7 @@ fn draw_field(canvas: &mut Canvas, table: &NodeTable, held: u64, class: &str, co
     let value = table.get(held).first().low;
     let told = [Text("node "), Number(held), Text(", value "), Number(value)];
     canvas.rectangle(corner, Spot { x: WIDE, y: HIGH }, &[Text(class)], &told);
-    let middle = Spot {
-        x: corner.x + WIDE / 2.0,
-        y: corner.y + 12.0,
-    };
+    let middle = corner.moved(WIDE / 2.0, 12.0);
     if held == 0 {
         canvas.middle_words(middle, &[Text("small")], &[Number(0)]);
         return;

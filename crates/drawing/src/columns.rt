@@ -39,6 +39,18 @@ pub(crate) struct Columns {
 }
 
 impl Group {
+    /// One turn, which has no place yet.
+    fn of(number: u64, turn: &ShownTurn) -> Group {
+        Group {
+            first: number,
+            count: 1,
+            turn: *turn,
+            left: 0.0,
+            right: 0.0,
+            is_last: turn.is_last,
+        }
+    }
+
     pub(crate) fn middle(&self) -> f64 {
         (self.left + self.right) / 2.0
     }
@@ -93,14 +105,7 @@ impl Columns {
             self.of_turns.push(count.saturating_sub(1))?;
             return Ok(());
         }
-        self.groups.push(Group {
-            first: number,
-            count: 1,
-            turn: *turn,
-            left: 0.0,
-            right: 0.0,
-            is_last: turn.is_last,
-        })?;
+        self.groups.push(Group::of(number, turn))?;
         self.of_turns.push(count)?;
         Ok(())
     }

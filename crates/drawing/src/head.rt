@@ -29,12 +29,11 @@ const REMARKS: [&str; 3] = [
 
 /// Draws the head.
 pub(crate) fn draw_head(
-    alloc: Global,
     canvas: &mut Canvas,
     run: &ShownRun,
     window: Window,
 ) -> Result<(), AllocError> {
-    let title = title_of(alloc, run, window)?;
+    let title = title_of(canvas.alloc, run, window)?;
     canvas.words(Spot { x: 6.0, y: 20.0 }, "head", title.as_str());
     canvas.reach(1.5 * width_of(title.as_str()), 0.0);
     draw_signs(canvas);
@@ -52,14 +51,7 @@ fn draw_signs(canvas: &mut Canvas) {
             _ => "c0",
         };
         canvas.mark(sign, Spot { x, y: 38.0 }, class);
-        canvas.words(
-            Spot {
-                x: x + 10.0,
-                y: 41.0,
-            },
-            "quiet",
-            meaning,
-        );
+        canvas.words(Spot::at(x + 10.0, 41.0), "quiet", meaning);
         x += width_of(meaning) + 36.0;
     }
 }
@@ -74,33 +66,30 @@ fn draw_remarks(canvas: &mut Canvas) {
 
 /// What was run, in numbers.
 fn title_of(alloc: Global, run: &ShownRun, window: Window) -> Result<String, AllocError> {
-    let (clients, calls) = callers_of(run);
-    let answered = run.calls.iter().filter(|call| call.is_answered).count();
-    let (steps, updates) = (run.turns.len() as u64, run.entries.len() as u64);
-    let mut title = joined(
-        alloc,
-        &[
-            Text(mode_of(run)),
-            Text(" · clients: "),
-            Number(clients as u64),
-            Text(" · calls answered: "),
-            Number(answered as u64),
-            Text(" of "),
-            Number(calls as u64),
-            Text(" · turns: "),
-            Number(steps),
-            Text(" · updates: "),
-            Number(updates),
-        ],
-    )?;
+    let mut title = joined(alloc, &[Text(mode_of(run))])?;
+    for (name, number) in counts_of(run) {
+        add(&mut title, &[Text(name), Number(number)])?;
+    }
+    let steps = run.turns.len() as u64;
     if window.from > 1 || window.to < steps {
         let (from, to) = (Number(window.from), Number(window.to.min(steps)));
-        add(
-            &mut title,
-            &[Text(" · here: turns "), from, Text(" to "), to],
-        )?;
+        let here = [Text(" · here: turns "), from, Text(" to "), to];
+        add(&mut title, &here)?;
     }
     Ok(title)
+}
+
+/// What there is of a run, each number after its name.
+fn counts_of(run: &ShownRun) -> [(&'static str, u64); 5] {
+    let (clients, calls) = callers_of(run);
+    let answered = run.calls.iter().filter(|call| call.is_answered).count();
+    [
+        (" · clients: ", clients as u64),
+        (" · calls answered: ", answered as u64),
+        (" of ", calls as u64),
+        (" · turns: ", run.turns.len() as u64),
+        (" · updates: ", run.entries.len() as u64),
+    ]
 }
 
 fn mode_of(run: &ShownRun) -> &'static str {

@@ -1,9 +1,9 @@
 //! A lane for each client: its calls as boxes, and its steps in them.
-use crate::canvas::{Canvas, Spot, width_of};
+use crate::canvas::{Canvas, Spot, hollow_class, width_of};
 use crate::columns::{Columns, Group, LEFT, colour_of};
 use crate::labels::{LabelRows, shortened};
 use crate::parts::TextPart::{Number, Text};
-use crate::parts::joined;
+use crate::parts::{TextPart, joined};
 use crate::shown_call::ShownCall;
 use crate::shown_run::{ShownRun, ShownTurn, has_sign};
 use arena::{Kind, PassNo, Word};
@@ -43,24 +43,23 @@ pub(crate) struct Lanes {
 impl Lanes {
     /// Draws the lanes from there on downwards.
     pub(crate) fn draw(
-        alloc: Global,
         canvas: &mut Canvas,
         run: &ShownRun,
         columns: &Columns,
     ) -> Result<Lanes, AllocError> {
         let mut lanes = Lanes {
-            lanes: Vec::new(alloc),
+            lanes: Vec::new(canvas.alloc),
         };
         for (number, client) in run.clients.iter().enumerate() {
             let client_number = PassNo(u32::try_from(number).unwrap_or(u32::MAX));
             let is_there = |turn: &ShownTurn| turn.client == client_number;
             if !client.calls.is_empty() || run.turns.iter().any(is_there) {
-                lanes.add(alloc, canvas, run, columns, client_number)?;
+                lanes.add(canvas, run, columns, client_number)?;
             }
         }
         for group in columns.groups.iter() {
             if let Some(lane) = lanes.of(group.turn.client) {
-                draw_group(alloc, canvas, group, lane)?;
+                draw_group(canvas, group, lane)?;
             }
         }
         Ok(lanes)
@@ -77,13 +76,12 @@ impl Lanes {
     /// Draws a client's lane below the others, with its calls.
     fn add(
         &mut self,
-        alloc: Global,
         canvas: &mut Canvas,
         run: &ShownRun,
         columns: &Columns,
         client: PassNo,
     ) -> Result<(), AllocError> {
-        let (labels, rows) = labels_of(alloc, run, columns, client)?;
+        let (labels, rows) = labels_of(canvas.alloc, run, columns, client)?;
         let above = canvas.bottom;
         let top = above + 8.0 + ROW * nearest_usize_to_f64(rows);
         let bottom = top + BOX;
@@ -93,10 +91,10 @@ impl Lanes {
             bottom,
         };
         canvas.band(above + 2.0, bottom + BELOW - above - 2.0);
-        name_lane(alloc, canvas, lane)?;
+        name_lane(canvas, lane)?;
         for label in labels.iter() {
             if let Some(call) = run.calls.get(label.call) {
-                draw_call(alloc, canvas, columns, lane, call, label.row)?;
+                draw_call(canvas, columns, lane, call, label.row)?;
             }
         }
         self.lanes.push(lane)?;
@@ -135,27 +133,17 @@ fn row_of(
 }
 
 /// Writes whose lane it is.
-fn name_lane(alloc: Global, canvas: &mut Canvas, lane: Lane) -> Result<(), AllocError> {
+fn name_lane(canvas: &mut Canvas, lane: Lane) -> Result<(), AllocError> {
     let name = [Text("client "), Number(u64::from(lane.client.0))];
-    let (corner, size) = (
-        Spot {
-            x: 6.0,
-            y: lane.top,
-        },
-        Spot { x: 8.0, y: BOX },
-    );
+    let (corner, size) = (Spot::at(6.0, lane.top), Spot::at(8.0, BOX));
     canvas.rectangle(corner, size, &[Text(colour_of(lane.client))], &name);
-    let at = Spot {
-        x: 18.0,
-        y: lane.top + 15.0,
-    };
-    canvas.words(at, "", joined(alloc, &name)?.as_str());
+    let shown = joined(canvas.alloc, &name)?;
+    canvas.words(Spot::at(18.0, lane.top + 15.0), "", shown.as_str());
     Ok(())
 }
 
 /// Draws the box of a call, with its label in this row above it.
 fn draw_call(
-    alloc: Global,
     canvas: &mut Canvas,
     columns: &Columns,
     lane: Lane,
@@ -165,20 +153,15 @@ fn draw_call(
     let Some((left, right)) = columns.reach(call.begin, call.end) else {
         return Ok(());
     };
-    let colour = Text(colour_of(call.client));
+    let colour = colour_of(call.client);
     draw_box(canvas, lane, call, left, right);
-    let y = lane.top - 4.0 - ROW * nearest_usize_to_f64(row);
+    let label = Spot::at(left, lane.top - 4.0 - ROW * nearest_usize_to_f64(row));
     if row > 0 {
-        let x = left + 1.0;
-        let (high, low) = (Spot { x, y: y - 8.0 }, Spot { x, y: lane.top });
-        canvas.line(high, low, &[colour, Text(" thin")]);
+        let (high, low) = (label.moved(1.0, -8.0), Spot::at(left + 1.0, lane.top));
+        canvas.line(high, low, &[Text(colour), Text(" thin")]);
     }
-    let text = shortened(alloc, call.text.as_str())?;
-    canvas.words(
-        Spot { x: left + 3.0, y },
-        colour_of(call.client),
-        text.as_str(),
-    );
+    let text = shortened(canvas.alloc, call.text.as_str())?;
+    canvas.words(label.moved(3.0, 0.0), colour, text.as_str());
     Ok(())
 }
 
@@ -186,35 +169,18 @@ fn draw_box(canvas: &mut Canvas, lane: Lane, call: &ShownCall, left: f64, right:
     let colour = Text(colour_of(call.client));
     let open = Text(if call.is_answered { "" } else { " open" });
     let (begin, end) = (Number(call.begin), Number(call.end));
-    let told = [
-        Text(call.text.as_str()),
-        Text(", turns "),
-        begin,
-        Text(" to "),
-        end,
-    ];
-    let (x, y) = (left, lane.top);
-    let size = Spot {
-        x: right - left,
-        y: BOX,
-    };
-    canvas.rectangle(Spot { x, y }, size, &[colour, Text(" call"), open], &told);
+    let text = Text(call.text.as_str());
+    let told = [text, Text(", turns "), begin, Text(" to "), end];
+    let (corner, size) = (Spot::at(left, lane.top), Spot::at(right - left, BOX));
+    canvas.rectangle(corner, size, &[colour, Text(" call"), open], &told);
 }
 
 /// Draws the turns of a group.
-fn draw_group(
-    alloc: Global,
-    canvas: &mut Canvas,
-    group: &Group,
-    lane: Lane,
-) -> Result<(), AllocError> {
-    let at = Spot {
-        x: group.middle(),
-        y: lane.top + BOX / 2.0,
-    };
+fn draw_group(canvas: &mut Canvas, group: &Group, lane: Lane) -> Result<(), AllocError> {
+    let at = Spot::at(group.middle(), lane.top + BOX / 2.0);
     match group.turn.step {
         None => canvas.sign("idle", at, &[Text("quiet")], &[Text("idle")]),
-        Some(row) if has_sign(row.kind) => draw_sign(alloc, canvas, group, &row, at)?,
+        Some(row) if has_sign(row.kind) => draw_sign(canvas, group, &row, at)?,
         Some(row) if group.count > 1 => draw_bar(canvas, group, &row, at),
         Some(row) if row.kind == Kind::Fill => canvas.mark("fill", at, "fill"),
         Some(_) => canvas.mark("load", at, "tick"),
@@ -231,25 +197,14 @@ fn draw_bar(canvas: &mut Canvas, group: &Group, row: &arena::Row, at: Spot) {
         (" loads", 4.0)
     };
     let told = [count, Text(name), Text(" from turn "), first, Text(" on")];
-    let wide = group.right - group.left - 2.0;
-    let (corner, size) = (
-        Spot {
-            x: group.left + 1.0,
-            y: at.y - high / 2.0,
-        },
-        Spot { x: wide, y: high },
-    );
+    let corner = Spot::at(group.left + 1.0, at.y - high / 2.0);
+    let size = Spot::at(group.right - group.left - 2.0, high);
     canvas.rectangle(corner, size, &[Text("bar")], &told);
-    let below = Spot {
-        x: at.x,
-        y: at.y + 20.0,
-    };
-    canvas.middle_words(below, &[Text("small quiet")], &[count]);
+    draw_below(canvas, at, &[count]);
 }
 
 /// Draws a step of an SCX in the colour of the client whose SCX-record it is.
 fn draw_sign(
-    alloc: Global,
     canvas: &mut Canvas,
     group: &Group,
     row: &arena::Row,
@@ -259,19 +214,20 @@ fn draw_sign(
     if owner != row.pass {
         draw_help(canvas, group, owner, at);
     }
-    let word = word_text(alloc, row.word)?;
+    let word = word_text(canvas.alloc, row.word)?;
     let name = kind_name(row.kind);
     draw_step(canvas, group, row, name, word.as_str(), at);
     if let Word::Node(node, _) = row.word
         && (row.kind == Kind::Freeze || row.kind == Kind::Mark)
     {
-        let below = Spot {
-            x: at.x,
-            y: at.y + 20.0,
-        };
-        canvas.middle_words(below, &[Text("small quiet")], &[Text("n"), Number(node.0)]);
+        draw_below(canvas, at, &[Text("n"), Number(node.0)]);
     }
     Ok(())
+}
+
+/// Writes what is to be known of a sign or a bar below it.
+fn draw_below(canvas: &mut Canvas, at: Spot, words: &[TextPart]) {
+    canvas.middle_words(at.moved(0.0, 20.0), &[Text("small quiet")], words);
 }
 
 /// Draws the sign of a step of this kind and word.
@@ -284,11 +240,7 @@ fn draw_step<'a>(
     at: Spot,
 ) {
     let owner = group.turn.owner.unwrap_or(row.pass);
-    let hollow = Text(if row.before == row.after {
-        " hollow"
-    } else {
-        ""
-    });
+    let hollow = Text(hollow_class(row.before == row.after));
     let told = [
         Text("turn "),
         Number(group.first),
@@ -309,27 +261,14 @@ fn draw_help(canvas: &mut Canvas, group: &Group, owner: PassNo, at: Spot) {
     let colour = colour_of(owner);
     let number = u64::from(owner.0);
     tint(canvas, group, colour, number, at.y - BOX / 2.0);
-    let below = Spot {
-        x: at.x,
-        y: at.y + 29.0,
-    };
-    canvas.middle_words(
-        below,
-        &[Text("small "), Text(colour)],
-        &[Text("c"), Number(number)],
-    );
+    let (class, words) = ([Text("small "), Text(colour)], [Text("c"), Number(number)]);
+    canvas.middle_words(at.moved(0.0, 29.0), &class, &words);
 }
 
 /// Tints the place of a step that helps the client of this number, from there downwards.
 fn tint(canvas: &mut Canvas, group: &Group, colour: &str, number: u64, top: f64) {
-    let corner = Spot {
-        x: group.left,
-        y: top,
-    };
-    let size = Spot {
-        x: group.right - group.left,
-        y: BOX,
-    };
+    let corner = Spot::at(group.left, top);
+    let size = Spot::at(group.right - group.left, BOX);
     let told = [Text("helps client "), Number(number)];
     canvas.rectangle(corner, size, &[Text(colour), Text(" help")], &told);
 }
@@ -339,19 +278,14 @@ pub(crate) fn draw_numbers(canvas: &mut Canvas, columns: &Columns) {
     let (y, mut free) = (canvas.bottom + 10.0, LEFT);
     canvas.words(Spot { x: 18.0, y }, "small quiet", "turn");
     for group in columns.groups.iter() {
-        let x = group.middle();
+        let at = Spot::at(group.middle(), y);
         if group.first != 1 && group.first % 10 != 0 {
             continue;
         }
-        let (high, low) = (Spot { x, y: y + 2.0 }, Spot { x, y: y + 5.0 });
-        canvas.line(high, low, &[Text("tick")]);
-        if x >= free {
-            canvas.middle_words(
-                Spot { x, y },
-                &[Text("small quiet")],
-                &[Number(group.first)],
-            );
-            free = x + 36.0;
+        canvas.line(at.moved(0.0, 2.0), at.moved(0.0, 5.0), &[Text("tick")]);
+        if at.x >= free {
+            canvas.middle_words(at, &[Text("small quiet")], &[Number(group.first)]);
+            free = at.x + 36.0;
         }
     }
     canvas.reach(0.0, y + 4.0);

@@ -1,5 +1,5 @@
 //! The entries and the readings of a run in their order, below the lanes.
-use crate::canvas::{Canvas, Spot, width_of};
+use crate::canvas::{Canvas, Spot, hollow_class, width_of};
 use crate::columns::{Columns, colour_of};
 use crate::labels::{LabelRows, shortened};
 use crate::lanes::{Lane, Lanes};
@@ -15,21 +15,20 @@ const ROW: f64 = 14.0;
 
 /// Draws the legal order, with a dotted line to each place in it from the turn where it was taken.
 pub(crate) fn draw_legal_order(
-    alloc: Global,
     canvas: &mut Canvas,
     run: &ShownRun,
     columns: &Columns,
     lanes: &Lanes,
 ) -> Result<(), AllocError> {
     let top = canvas.bottom + 18.0;
-    let mut rows = LabelRows::new(alloc);
+    let mut rows = LabelRows::new(canvas.alloc);
     canvas.words(Spot { x: 6.0, y: top }, "", "legal order");
     for (place, moment) in run.moments.iter().enumerate().rev() {
         let group = columns.group(moment.turn);
         let (Some(call), Some(group)) = (run.calls.get(moment.call), group) else {
             continue;
         };
-        let text = text_of(alloc, place, call)?;
+        let text = text_of(canvas.alloc, place, call)?;
         let x = group.middle();
         let row = rows.place(x - 4.0, x + 6.0 + width_of(text.as_str()))?;
         let y = top + ROW * nearest_usize_to_f64(row);
@@ -69,11 +68,7 @@ fn draw_lead(canvas: &mut Canvas, lane: Lane, colour: &str, at: Spot) {
 }
 
 fn draw_dot(canvas: &mut Canvas, moment: &ShownMoment, colour: &str, at: Spot) {
-    let hollow = if moment.reads { " hollow" } else { "" };
-    let dot = Spot {
-        x: at.x,
-        y: at.y - 3.0,
-    };
+    let class = [Text(colour), Text(hollow_class(moment.reads))];
     let told = [Text("at turn "), Number(moment.turn)];
-    canvas.sign("moment", dot, &[Text(colour), Text(hollow)], &told);
+    canvas.sign("moment", at.moved(0.0, -3.0), &class, &told);
 }

@@ -125,12 +125,13 @@ impl NodeTable {
 
     /// Notes what a word holds now, if it is one of the table.
     pub(crate) fn note(&mut self, word: Word, held: u64) -> Result<(), AllocError> {
-        let Word::Node(node, part) = word else {
-            return Ok(());
-        };
-        if !self.layout.has(word) {
-            return Ok(());
+        match word {
+            Word::Node(node, part) if self.layout.has(word) => self.store(node, part, held),
+            _ => Ok(()),
         }
+    }
+
+    fn store(&mut self, node: NodeNo, part: NodeWord, held: u64) -> Result<(), AllocError> {
         let place = node.0 as usize;
         if self.nodes.len() <= place {
             self.nodes

@@ -22,10 +22,10 @@ pub fn picture_of(alloc: Global, record: &Record, window: Window) -> Result<Stri
     let run = ShownRun::of(alloc, record)?;
     let columns = Columns::of(alloc, run.turns.as_slice(), window)?;
     let mut canvas = Canvas::new(alloc);
-    draw_head(alloc, &mut canvas, &run, window)?;
+    draw_head(&mut canvas, &run, window)?;
     draw_numbers(&mut canvas, &columns);
-    let lanes = Lanes::draw(alloc, &mut canvas, &run, &columns)?;
-    draw_legal_order(alloc, &mut canvas, &run, &columns, &lanes)?;
-    draw_updates(alloc, &mut canvas, &run, record, window)?;
-    canvas.into_svg(alloc)
+    let lanes = Lanes::draw(&mut canvas, &run, &columns)?;
+    draw_legal_order(&mut canvas, &run, &columns, &lanes)?;
+    draw_updates(&mut canvas, &run, record, window)?;
+    canvas.into_svg()
 }

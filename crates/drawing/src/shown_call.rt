@@ -1,5 +1,9 @@
 //! Calls as a picture shows them.
+use crate::parts::TextPart::Text;
+use crate::parts::joined;
 use arena::PassNo;
+use record::Finished;
+use report::answer_text;
 use script::{Command, CommandText};
 use std::alloc::{AllocError, Global};
 
@@ -18,6 +22,44 @@ pub(crate) struct ShownCall {
     pub(crate) has_entry: bool,
     /// What it does, and what it has answered.
     pub(crate) text: String,
+}
+
+impl ShownCall {
+    /// One with this text that a reply has answered.
+    pub(crate) fn answered(
+        alloc: Global,
+        reply: &Finished,
+        call: &str,
+    ) -> Result<ShownCall, AllocError> {
+        let answer = answer_text(alloc, &reply.answer)?;
+        Ok(ShownCall {
+            client: reply.client,
+            begin: reply.begin,
+            end: reply.end,
+            moment: reply.moment,
+            is_answered: true,
+            has_entry: false,
+            text: joined(alloc, &[Text(call), Text(" → "), Text(answer.as_str())])?,
+        })
+    }
+
+    /// One with this text that is not answered, with its first and its newest turn.
+    pub(crate) fn open(
+        alloc: Global,
+        client: PassNo,
+        (begin, end): (u64, u64),
+        call: &str,
+    ) -> Result<ShownCall, AllocError> {
+        Ok(ShownCall {
+            client,
+            begin,
+            end,
+            moment: None,
+            is_answered: false,
+            has_entry: false,
+            text: joined(alloc, &[Text(call), Text(" …")])?,
+        })
+    }
 }
 
 /// The text of a call.

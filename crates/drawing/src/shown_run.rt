@@ -1,10 +1,7 @@
 //! A run as a picture shows it.
-use crate::parts::TextPart::Text;
-use crate::parts::joined;
 use crate::shown_call::{ShownCall, call_text};
 use arena::{Kind, Layout, PassNo, ScxNo, Word};
 use record::{Entry, Finished, Line, Record, TurnRow};
-use report::answer_text;
 use script::Call;
 use std::alloc::{AllocError, Global};
 
@@ -130,41 +127,24 @@ impl ShownRun {
         if let Some(turn) = self.turns.last_mut() {
             turn.is_last = true;
         }
-        let answer = answer_text(alloc, &reply.answer)?;
         let place = self.calls.len();
-        let Some(client) = self.clients.get_mut(reply.client.0 as usize) else {
-            return Ok(());
-        };
-        client.open = None;
-        let call = client.begun(place)?;
-        self.calls.push(ShownCall {
-            client: reply.client,
-            begin: reply.begin,
-            end: reply.end,
-            moment: reply.moment,
-            is_answered: true,
-            has_entry: false,
-            text: joined(alloc, &[Text(call), Text(" → "), Text(answer.as_str())])?,
-        })?;
+        if let Some(client) = self.clients.get_mut(reply.client.0 as usize) {
+            client.open = None;
+            let call = client.begun(place)?;
+            self.calls.push(ShownCall::answered(alloc, reply, call)?)?;
+        }
         Ok(())
     }
 
     /// Adds the calls that are not answered.
     fn add_open_calls(&mut self, alloc: Global) -> Result<(), AllocError> {
         for (number, client) in self.clients.iter_mut().enumerate() {
-            let Some((begin, end)) = client.open else {
-                continue;
-            };
-            let call = client.begun(self.calls.len())?;
-            self.calls.push(ShownCall {
-                client: PassNo(u32::try_from(number).unwrap_or(u32::MAX)),
-                begin,
-                end,
-                moment: None,
-                is_answered: false,
-                has_entry: false,
-                text: joined(alloc, &[Text(call), Text(" …")])?,
-            })?;
+            if let Some(turns) = client.open {
+                let caller = PassNo(u32::try_from(number).unwrap_or(u32::MAX));
+                let call = client.begun(self.calls.len())?;
+                self.calls
+                    .push(ShownCall::open(alloc, caller, turns, call)?)?;
+            }
         }
         Ok(())
     }
@@ -220,6 +200,16 @@ impl ShownRun {
 }
 
 impl ShownClient {
+    /// It has no call.
+    fn new(alloc: Global) -> ShownClient {
+        ShownClient {
+            calls: Vec::new(alloc),
+            places: Vec::new(alloc),
+            open: None,
+            scx: ScxNo(0),
+        }
+    }
+
     /// Notes which SCX-record a step works for: the owner fills it, and a helper loads its words.
     fn note(&mut self, row: &arena::Row) {
         if let Word::Scx(scx, _) = row.word
@@ -252,12 +242,7 @@ pub(crate) fn has_sign(kind: Kind) -> bool {
 fn clients_of(alloc: Global, calls: &[Call], passes: u32) -> Result<Vec<ShownClient>, AllocError> {
     let mut clients = Vec::new(alloc);
     for _ in 0..passes {
-        clients.push(ShownClient {
-            calls: Vec::new(alloc),
-            places: Vec::new(alloc),
-            open: None,
-            scx: ScxNo(0),
-        })?;
+        clients.push(ShownClient::new(alloc))?;
     }
     for call in calls {
         if let Some(client) = clients.get_mut(call.client.0 as usize) {

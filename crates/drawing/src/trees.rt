@@ -98,37 +98,40 @@ impl TreeDrawing {
             y: corner.y + 34.0 + down,
         }
     }
+
+    /// How much room it takes under this caption.
+    fn size(&self, caption: &str) -> Spot {
+        let wide = STEP * nearest_usize_to_f64(self.branches.len()) + 40.0;
+        Spot::at(wide.max(width_of(caption) + 30.0), self.deepest + 74.0)
+    }
+
+    /// Draws what leads from each fork to what hangs below it.
+    fn draw_edges(&self, canvas: &mut Canvas, corner: Spot) {
+        for (above, below) in self.edges.iter() {
+            let (from, to) = (self.spot(*above, corner), self.spot(*below, corner));
+            canvas.line(from, to, &[Text("edge")]);
+        }
+    }
 }
 
 /// Draws the tree under a caption, and answers its nodes. Those that an earlier one does not have
 /// are tinted, if there is one.
 pub(crate) fn draw_tree(
-    alloc: Global,
     canvas: &mut Canvas,
     flow: &mut Flow,
     table: &NodeTable,
     earlier: &[u64],
     caption: &str,
 ) -> Result<Vec<u64>, AllocError> {
-    let tree = TreeDrawing::of(alloc, table)?;
-    let wide = STEP * nearest_usize_to_f64(tree.branches.len()) + 40.0;
-    let corner = flow.place(Spot {
-        x: wide.max(width_of(caption) + 30.0),
-        y: tree.deepest + 74.0,
-    });
+    let tree = TreeDrawing::of(canvas.alloc, table)?;
+    let corner = flow.place(tree.size(caption));
     canvas.words(corner, "quiet", caption);
-    for (above, below) in tree.edges.iter() {
-        canvas.line(
-            tree.spot(*above, corner),
-            tree.spot(*below, corner),
-            &[Text("edge")],
-        );
-    }
-    let mut nodes = Vec::new(alloc);
+    tree.draw_edges(canvas, corner);
+    let mut nodes = Vec::new(canvas.alloc);
     for (place, Branch { node, y: _ }) in tree.branches.iter().enumerate() {
         let is_new = !earlier.is_empty() && !earlier.contains(node);
         let (shown, spot) = (table.get(*node), tree.spot(place, corner));
-        draw_node(alloc, canvas, &shown, *node, is_new, spot)?;
+        draw_node(canvas, &shown, *node, is_new, spot)?;
         nodes.push(*node)?;
     }
     Ok(nodes)
@@ -141,7 +144,6 @@ fn high_behind(shown: &ShownNode) -> f64 {
 
 /// Draws a node around a spot; its pairs after the first hang below that.
 fn draw_node(
-    alloc: Global,
     canvas: &mut Canvas,
     shown: &ShownNode,
     node: u64,
@@ -150,23 +152,12 @@ fn draw_node(
 ) -> Result<(), AllocError> {
     let class = if is_new { "new" } else { "node" };
     let high = if shown.head().leaf { 24.0 } else { 16.0 };
-    let (corner, size) = (
-        Spot {
-            x: at.x - 18.0,
-            y: at.y - high / 2.0,
-        },
-        Spot {
-            x: 36.0,
-            y: high + high_behind(shown),
-        },
-    );
-    let told = told_of(alloc, shown, node)?;
+    let corner = at.moved(-18.0, -high / 2.0);
+    let size = Spot::at(36.0, high + high_behind(shown));
+    let told = told_of(canvas.alloc, shown, node)?;
     canvas.rectangle(corner, size, &[Text(class)], told.as_slice());
     draw_texts(canvas, shown, at);
-    let above = Spot {
-        x: at.x,
-        y: corner.y - 2.0,
-    };
+    let above = Spot::at(at.x, corner.y - 2.0);
     canvas.middle_words(above, &[Text("small quiet")], &[Text("n"), Number(node)]);
     Ok(())
 }
@@ -190,39 +181,28 @@ fn told_of(
 
 /// Writes what a node holds around a spot: a fork's key, or the pairs of a leaf, or its class.
 fn draw_texts(canvas: &mut Canvas, shown: &ShownNode, at: Spot) {
-    let head = shown.head();
-    let middle = Spot {
-        x: at.x,
-        y: at.y + 3.0,
-    };
-    if head.class != 0 {
-        let class = Number(u64::from(head.class));
-        canvas.middle_words(middle, &[Text("small")], &[Text("∞"), class]);
-        return;
+    let (head, small) = (shown.head(), [Text("small")]);
+    let middle = at.moved(0.0, 3.0);
+    match (head.class, head.leaf) {
+        (0, true) => draw_pairs(canvas, shown, at),
+        (0, false) => canvas.middle_words(middle, &small, &[Short(shown.first().key.into())]),
+        (class, _) => canvas.middle_words(middle, &small, &[Text("∞"), Number(u64::from(class))]),
     }
-    if !head.leaf {
-        let key = Short(shown.first().key.into());
-        canvas.middle_words(middle, &[Text("small")], &[key]);
-        return;
-    }
-    let mut y = at.y;
+}
+
+/// Writes the pairs of a leaf, the first around a spot and the others below it.
+fn draw_pairs(canvas: &mut Canvas, shown: &ShownNode, at: Spot) {
+    let mut spot = at;
     let many = shown.pairs_behind().saturating_add(1);
     for pair in shown.pairs.iter().take(many) {
-        draw_pair(canvas, *pair, Spot { x: at.x, y });
-        y = y + PAIR;
+        draw_pair(canvas, *pair, spot);
+        spot = spot.moved(0.0, PAIR);
     }
 }
 
 /// Writes a pair of a leaf around a spot, the value below the key.
 fn draw_pair(canvas: &mut Canvas, pair: ShownPair, at: Spot) {
-    let key = Spot {
-        x: at.x,
-        y: at.y - 2.0,
-    };
+    let (key, value) = (at.moved(0.0, -2.0), at.moved(0.0, 8.0));
     canvas.middle_words(key, &[Text("small")], &[Short(pair.key.into())]);
-    let value = Spot {
-        x: at.x,
-        y: at.y + 8.0,
-    };
     canvas.middle_words(value, &[Text("small quiet")], &[Short(pair.value())]);
 }

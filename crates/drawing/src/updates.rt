@@ -10,7 +10,7 @@ use crate::shown_run::{ShownRun, ShownTurn};
 use crate::trees::draw_tree;
 use crate::window::Window;
 use arena::{Mode, Word};
-use record::Record;
+use record::{Entry, Record};
 use std::alloc::{AllocError, Global};
 
 /// How many updates are drawn at most.
@@ -33,38 +33,38 @@ struct Updates {
 /// Draws the tree, or the cells that the script names, at the window's begin and after each of its
 /// first updates.
 pub(crate) fn draw_updates(
-    alloc: Global,
     canvas: &mut Canvas,
     run: &ShownRun,
     record: &Record,
     window: Window,
 ) -> Result<(), AllocError> {
-    let corner = Spot {
-        x: LEFT,
-        y: canvas.bottom + 30.0,
-    };
-    let mut updates = Updates {
-        flow: Flow::new(corner, canvas.right.max(WIDTH)),
-        table: NodeTable::new(alloc, run.layout)?,
-        cells: cells_of(record.script.calls.as_slice()),
-        earlier: Vec::new(alloc),
-        count: 0,
-    };
+    let mut updates = Updates::new(canvas, run, record)?;
     if window.from <= 1 {
-        updates.draw(alloc, canvas, None, "at the start")?;
+        updates.draw(canvas, None, "at the start")?;
     }
     for (place, turn) in run.turns.iter().enumerate() {
         let number = (place as u64).saturating_add(1);
-        updates.turn(alloc, canvas, turn, number, window)?;
+        updates.turn(canvas, turn, number, window)?;
     }
     Ok(())
 }
 
 impl Updates {
+    /// Nothing is drawn, and nothing is stored yet.
+    fn new(canvas: &Canvas, run: &ShownRun, record: &Record) -> Result<Updates, AllocError> {
+        let corner = Spot::at(LEFT, canvas.bottom + 30.0);
+        Ok(Updates {
+            flow: Flow::new(corner, canvas.right.max(WIDTH)),
+            table: NodeTable::new(canvas.alloc, run.layout)?,
+            cells: cells_of(record.script.calls.as_slice()),
+            earlier: Vec::new(canvas.alloc),
+            count: 0,
+        })
+    }
+
     /// Continues with a turn.
     fn turn(
         &mut self,
-        alloc: Global,
         canvas: &mut Canvas,
         turn: &ShownTurn,
         number: u64,
@@ -74,18 +74,16 @@ impl Updates {
             self.table.note(row.word, row.after)?;
         }
         if number.saturating_add(1) == window.from {
-            self.draw(alloc, canvas, None, "before these turns")?;
+            self.draw(canvas, None, "before these turns")?;
         }
         if let Some(entry) = turn.entry
             && window.has(number)
             && self.count < MOST
         {
             self.count = self.count.saturating_add(1);
-            let (place, turn_number) = (Number(entry.place), Number(number));
-            let told = [Text("after update "), place, Text(", turn "), turn_number];
-            let caption = joined(alloc, &told)?;
+            let caption = caption_of(canvas.alloc, &entry, number)?;
             let changed = turn.step.map(|row| row.word);
-            self.draw(alloc, canvas, changed, caption.as_str())?;
+            self.draw(canvas, changed, caption.as_str())?;
         }
         Ok(())
     }
@@ -93,7 +91,6 @@ impl Updates {
     /// Draws what there is now, after an update of this word.
     fn draw(
         &mut self,
-        alloc: Global,
         canvas: &mut Canvas,
         changed: Option<Word>,
         caption: &str,
@@ -102,12 +99,22 @@ impl Updates {
             Mode::Tree | Mode::Trie => {
                 let earlier = self.earlier.as_slice();
                 let flow = &mut self.flow;
-                self.earlier = draw_tree(alloc, canvas, flow, &self.table, earlier, caption)?;
+                self.earlier = draw_tree(canvas, flow, &self.table, earlier, caption)?;
                 Ok(())
             }
             Mode::Records => {
-                self.cells.draw(alloc, canvas, &mut self.flow, &self.table, changed, caption)
+                self.cells
+                    .draw(canvas, &mut self.flow, &self.table, changed, caption)
             }
         }
     }
+}
+
+/// What is said of the drawing after an update, in the turn of this number.
+fn caption_of(alloc: Global, entry: &Entry, number: u64) -> Result<String, AllocError> {
+    let (place, turn) = (Number(entry.place), Number(number));
+    joined(
+        alloc,
+        &[Text("after update "), place, Text(", turn "), turn],
+    )
 }

@@ -16,20 +16,22 @@ pub(crate) fn check_cell_answer(
 ) -> Result<(), Objection> {
     match &reply.answer {
         Answer::Snapshot { left, right } => {
-            check_moment_is(before, reply, reply.end, "the last turn of the call")?;
+            check_at_end(before, reply)?;
             check_snapshot(before, command, *left, *right)
         }
         Answer::Finalized => {
-            check_moment_is(before, reply, reply.end, "the last turn of the call")?;
+            check_at_end(before, reply)?;
             check_final(before, command)
         }
         Answer::Same => check_same(before, reply),
         Answer::Done => check_done(before, reply),
-        _ => {
-            check_no_moment(before, reply)?;
-            check_refused(before, command, reply)
-        }
+        _ => check_refused(before, command, reply),
     }
+}
+
+/// The answer is that of the last turn of the call.
+fn check_at_end(before: &LinesBefore<'_>, reply: &Finished) -> Result<(), Objection> {
+    check_moment_is(before, reply, reply.end, "the last turn of the call")
 }
 
 /// An objection to the answer, in words that name nothing.
@@ -69,52 +71,41 @@ fn check_snapshot(
     right: NodeNo,
 ) -> Result<(), Objection> {
     let (alloc, cell) = (before.alloc, cell_of(command));
-    demand(
-        !before.judge.is_final(cell),
-        ANSWER,
-        format!(in alloc; "n{} is final, so there is no snapshot of it", cell.0),
-    )?;
+    let fault = format!(in alloc; "n{} is final, so there is no snapshot of it", cell.0);
+    demand(!before.judge.is_final(cell), ANSWER, fault)?;
     let held = (
         before.node_word(cell.0, NodeWord::Child(Side::Left)),
         before.node_word(cell.0, NodeWord::Child(Side::Right)),
     );
-    demand(
-        held == (left.0, right.0),
-        ANSWER,
-        format!(in alloc;
-            "snap {} {} in place of snap {} {}, the fields of n{}",
-            left.0, right.0, held.0, held.1, cell.0
-        ),
-    )
+    let fault = format!(in alloc;
+        "snap {} {} in place of snap {} {}, the fields of n{}",
+        left.0, right.0, held.0, held.1, cell.0
+    );
+    demand(held == (left.0, right.0), ANSWER, fault)
 }
 
 fn check_final(before: &LinesBefore<'_>, command: &Command) -> Result<(), Objection> {
     let (alloc, cell) = (before.alloc, cell_of(command));
-    demand(
-        before.judge.is_final(cell),
-        ANSWER,
-        format!(in alloc; "n{} is not final: no entry finalizes it", cell.0),
-    )
+    let fault = format!(in alloc; "n{} is not final: no entry finalizes it", cell.0);
+    demand(before.judge.is_final(cell), ANSWER, fault)
 }
 
-/// A call that says nothing of its cells says why.
+/// A call that says nothing of its cells has no moment, and says why.
 fn check_refused(
     before: &LinesBefore<'_>,
     command: &Command,
     reply: &Finished,
 ) -> Result<(), Objection> {
-    match &reply.answer {
+    check_no_moment(before, reply)?;
+    match reply.answer {
         Answer::Fail { node, scx } | Answer::Lost { node, scx } | Answer::Changed { node, scx } => {
-            check_among(before, command, *node)?;
-            check_disturbed(before, reply, (*node, *scx))
+            check_among(before, command, node)?;
+            check_disturbed(before, reply, (node, scx))
         }
-        Answer::Full { what, left } => {
-            let (what, left) = (*what, *left);
-            check_full(before, reply.client, &Full { what, left })
-        }
+        Answer::Full { what, left } => check_full(before, reply.client, &Full { what, left }),
         Answer::Unlinked { node } => {
-            check_among(before, command, *node)?;
-            check_unlinked(before, *node)
+            check_among(before, command, node)?;
+            check_unlinked(before, node)
         }
         _ => Ok(()),
     }
@@ -146,13 +137,11 @@ fn check_full(before: &LinesBefore<'_>, pass: PassNo, full: &Full) -> Result<(),
 /// A cell without a snapshot. That it is the first is asked last, so it is what is broken.
 fn check_unlinked(before: &LinesBefore<'_>, node: NodeNo) -> Result<(), Objection> {
     let alloc = before.alloc;
-    Err(object(
-        ANSWER,
-        format!(in alloc;
-            "n{} is not the first cell of the call without a kept snapshot",
-            node.0
-        ),
-    ))
+    let fault = format!(in alloc;
+        "n{} is not the first cell of the call without a kept snapshot",
+        node.0
+    );
+    Err(object(ANSWER, fault))
 }
 
 /// The node is a cell of the call.
@@ -163,11 +152,8 @@ fn check_among(before: &LinesBefore<'_>, command: &Command, node: NodeNo) -> Res
         Command::Vlx { cells } => has_cell(cells.as_slice(), node),
         _ => cell_of(command) == node,
     };
-    demand(
-        is_among,
-        ANSWER,
-        format!(in alloc; "n{} is no cell of the call", node.0),
-    )
+    let fault = format!(in alloc; "n{} is no cell of the call", node.0);
+    demand(is_among, ANSWER, fault)
 }
 
 fn has_cell(cells: &[Cell], node: NodeNo) -> bool {

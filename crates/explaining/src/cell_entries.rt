@@ -1,10 +1,10 @@
 //! Entries of calls of cells.
+use crate::begins::field_of;
 use crate::breach::{Objection, demand, object};
 use crate::lines_before::LinesBefore;
 use crate::stores::finalizes;
 use crate::words::call_words;
-use arena::{NodeWord, ScxWord, SettledPart, Side, Slot};
-use judge::is_own_node;
+use arena::{NodeWord, ScxWord, SettledPart, Side, Slot, Word};
 use record::Entry;
 use script::{Cell, Command};
 
@@ -26,12 +26,10 @@ pub(crate) fn check_cell_entry(before: &LinesBefore<'_>, entry: &Entry) -> Resul
         }
         _ => return Err(object(SCX, format!(in alloc; "{call}, makes no entry"))),
     }
-    Err(object(
-        SCX,
-        format!(in alloc;
-            "s{scx} wins for {call}, though a cell has changed since its snapshot, or is final"
-        ),
-    ))
+    let fault = format!(in alloc;
+        "s{scx} wins for {call}, though a cell has changed since its snapshot, or is final"
+    );
+    Err(object(SCX, fault))
 }
 
 /// It covers these cells, and finalizes those.
@@ -50,16 +48,10 @@ fn check_cells(
         covers = covers && before.member(scx, place) == cell.node().0;
         keeps = keeps && finalizes(before, scx, place) == finalized.contains(cell);
     }
-    demand(
-        covers,
-        SCX,
-        format!(in alloc; "s{scx} covers other cells than {call}"),
-    )?;
-    demand(
-        keeps,
-        SCX,
-        format!(in alloc; "s{scx} finalizes other cells than {call}"),
-    )
+    let fault = format!(in alloc; "s{scx} covers other cells than {call}");
+    demand(covers, SCX, fault)?;
+    let fault = format!(in alloc; "s{scx} finalizes other cells than {call}");
+    demand(keeps, SCX, fault)
 }
 
 /// It puts a fresh cell of this value into this field.
@@ -71,37 +63,27 @@ fn check_put(
 ) -> Result<(), Objection> {
     let (alloc, scx) = (before.alloc, entry.scx.0);
     let call = call_words(before, entry.client)?;
-    let plan = before.plan(scx);
-    let node = before.member(scx, plan.at().number());
-    demand(
-        node == field.0.node().0 && plan.side() == field.1,
-        SCX,
-        format!(in alloc; "s{scx} changes another field than {call}"),
-    )?;
+    let fault = format!(in alloc; "s{scx} changes another field than {call}");
+    let (cell, side) = field;
+    let wanted = Word::Node(cell.node(), NodeWord::Child(side));
+    demand(field_of(before, scx) == wanted, SCX, fault)?;
     let new = before.scx_word(scx, ScxWord::New);
     let stored = before.node_word(new, NodeWord::Settled(SettledPart::Value(Slot::First)));
-    demand(
-        stored == value,
-        SCX,
-        format!(in alloc;
-            "n{new}, which s{scx} puts there, has the value {stored} in place of {value}"
-        ),
-    )?;
+    let fault = format!(in alloc;
+        "n{new}, which s{scx} puts there, has the value {stored} in place of {value}"
+    );
+    demand(stored == value, SCX, fault)?;
     check_fresh(before, entry, new)
 }
 
 /// A fresh cell is of the client's share, and its fields are 0.
 fn check_fresh(before: &LinesBefore<'_>, entry: &Entry, new: u64) -> Result<(), Objection> {
-    let (alloc, layout) = (before.alloc, before.judge.layout());
-    let is_own = entry.client.0 < layout.passes && is_own_node(layout, entry.client, new);
+    let (alloc, is_own) = (before.alloc, before.owns_node(entry.client, new));
     let left = before.node_word(new, NodeWord::Child(Side::Left));
     let right = before.node_word(new, NodeWord::Child(Side::Right));
-    demand(
-        is_own && left == 0 && right == 0,
-        SCX,
-        format!(in alloc;
-            "n{new}, which s{} puts there, is no cell of the client's share with two empty fields",
-            entry.scx.0
-        ),
-    )
+    let fault = format!(in alloc;
+        "n{new}, which s{} puts there, is no cell of the client's share with two empty fields",
+        entry.scx.0
+    );
+    demand(is_own && left == 0 && right == 0, SCX, fault)
 }

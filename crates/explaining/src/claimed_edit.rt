@@ -30,11 +30,8 @@ impl ClaimedEdit<'_> {
     ) -> Result<(), Objection> {
         let (alloc, scx, text) = (self.before.alloc, self.scx, text?);
         let call = self.call.as_str();
-        demand(
-            fits,
-            AFTER,
-            format!(in alloc; "s{scx} begins for {call}: {text}"),
-        )
+        let fault = format!(in alloc; "s{scx} begins for {call}: {text}");
+        demand(fits, AFTER, fault)
     }
 
     /// Its plan and its first node are as `check_field` says, and `old` is its second node.
@@ -42,35 +39,27 @@ impl ClaimedEdit<'_> {
         self.check_field(left, right, does)?;
         let (alloc, second) = (self.before.alloc, self.member(1));
         let old = self.before.scx_word(self.scx, ScxWord::Old);
-        self.demand(
-            old == second,
-            format!(in alloc; "its old is n{old} in place of n{second}, its second node"),
-        )
+        let fault = format!(in alloc; "its old is n{old} in place of n{second}, its second node");
+        self.demand(old == second, fault)
     }
 
     /// Its plan is this one for an edit on the left of the first node, and that on the right, and
     /// the search for the key passes the first, which is a fork.
     pub(crate) fn check_field(&self, left: u64, right: u64, does: &str) -> Result<(), Objection> {
         let (alloc, key, fork) = (self.before.alloc, self.key, self.member(0));
-        self.demand(
-            self.is_on_path(key, fork),
-            format!(in alloc; "the search for {key} does not pass n{fork}, its first node"),
-        )?;
-        self.demand(
-            !self.head(fork).leaf,
-            format!(in alloc; "n{fork}, its first node, is no fork"),
-        )?;
+        let fault = format!(in alloc; "the search for {key} does not pass n{fork}, its first node");
+        self.demand(self.is_on_path(key, fork), fault)?;
+        let fault = format!(in alloc; "n{fork}, its first node, is no fork");
+        self.demand(!self.head(fork).leaf, fault)?;
         let plan = self.before.plan(self.scx).0;
         let wanted = match self.toward(fork, key) {
             Side::Left => left,
             Side::Right => right,
         };
-        self.demand(
-            plan == wanted,
-            format!(in alloc;
-                "its plan is {plan} in place of {wanted}, which {does} and changes the field of n{fork} towards {key}"
-            ),
-        )
+        let fault = format!(in alloc;
+            "its plan is {plan} in place of {wanted}, which {does} and changes the field of n{fork} towards {key}"
+        );
+        self.demand(plan == wanted, fault)
     }
 
     /// A node is a leaf, with at most four pairs if these are below all that is above all keys.
@@ -78,20 +67,16 @@ impl ClaimedEdit<'_> {
         let (alloc, head) = (self.before.alloc, self.head(node));
         let many = self.settled(node, SettledPart::More).saturating_add(1);
         self.demand(head.leaf, format!(in alloc; "n{node} is no leaf"))?;
-        self.demand(
-            head.class > 0 || many <= 4,
-            format!(in alloc; "n{node} has {many} pairs, and a leaf has 4 at most"),
-        )
+        let fault = format!(in alloc; "n{node} has {many} pairs, and a leaf has 4 at most");
+        self.demand(head.class > 0 || many <= 4, fault)
     }
 
     /// A node is such a leaf, and is not above all keys.
     pub(crate) fn check_low_leaf(&self, node: u64) -> Result<(), Objection> {
         let alloc = self.before.alloc;
         self.check_leaf(node)?;
-        self.demand(
-            self.head(node).class == 0,
-            format!(in alloc; "n{node} is above all keys, so it has no pairs"),
-        )
+        let fault = format!(in alloc; "n{node} is above all keys, so it has no pairs");
+        self.demand(self.head(node).class == 0, fault)
     }
 
     /// The leaf that the edit is of gives its call something to do; of the pair at an end it is the
@@ -100,19 +85,15 @@ impl ClaimedEdit<'_> {
         let (alloc, held) = (self.before.alloc, self.pairs_of(leaf)?);
         let found = held.iter().find(|pair| pair.0 == self.key);
         let shown = self.words(&held)?;
-        self.demand(
-            self.rule.applies(found.map(|pair| pair.1)),
-            format!(in alloc; "it has nothing to do at n{leaf}, which holds {shown}"),
-        )?;
+        let fault = format!(in alloc; "it has nothing to do at n{leaf}, which holds {shown}");
+        self.demand(self.rule.applies(found.map(|pair| pair.1)), fault)?;
         let (end, bound) = match self.goal {
             Goal::Key(_) => return Ok(()),
             Goal::End(Side::Left) => ("first", 0),
             Goal::End(Side::Right) => ("last", u64::MAX),
         };
-        self.demand(
-            self.is_late() || self.is_on_path(bound, leaf),
-            format!(in alloc; "n{leaf} is not the {end} leaf of the tree"),
-        )
+        let fault = format!(in alloc; "n{leaf} is not the {end} leaf of the tree");
+        self.demand(self.is_late() || self.is_on_path(bound, leaf), fault)
     }
 
     pub(crate) fn is_in_trie(&self) -> bool {
@@ -147,13 +128,18 @@ impl ClaimedEdit<'_> {
         let more = self.settled(leaf, SettledPart::More);
         for (place, slot) in SLOTS.iter().enumerate() {
             if place as u64 <= more {
-                let low = self.settled(leaf, SettledPart::Value(*slot));
-                let high = self.settled(leaf, SettledPart::High(*slot));
-                let key = self.settled(leaf, SettledPart::Key(*slot));
-                pairs.push((key, wide_value(low, high)))?;
+                pairs.push(self.pair_of(leaf, *slot))?;
             }
         }
         Ok(pairs)
+    }
+
+    /// The pair in a slot of a leaf.
+    fn pair_of(&self, leaf: u64, slot: Slot) -> (u64, u128) {
+        let low = self.settled(leaf, SettledPart::Value(slot));
+        let high = self.settled(leaf, SettledPart::High(slot));
+        let key = self.settled(leaf, SettledPart::Key(slot));
+        (key, wide_value(low, high))
     }
 
     /// Pairs in words.

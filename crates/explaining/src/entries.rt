@@ -56,30 +56,21 @@ fn check_same(
     what: &str,
 ) -> Result<(), Objection> {
     let alloc = before.alloc;
-    demand(
-        found == wanted,
-        field,
-        format!(in alloc; "{found} in place of {wanted}, {what}"),
-    )
+    let fault = format!(in alloc; "{found} in place of {wanted}, {what}");
+    demand(found == wanted, field, fault)
 }
 
 /// It is of the call that the owner is making, and the first of it.
 fn check_owner(before: &LinesBefore<'_>, entry: &Entry) -> Result<(), Objection> {
     let (alloc, owner, client) = (before.alloc, entry.client, before.client(entry.client));
     let has_begun = client.begun.is_some() && before.next(owner).is_some();
-    demand(
-        has_begun,
-        CLIENT,
-        format!(in alloc; "client {} is making no call, so it has no entry", owner.0),
-    )?;
-    demand(
-        entry.call == client.answered,
-        CALL,
-        format!(in alloc;
-            "{} in place of {}, the call that client {} is making",
-            entry.call, client.answered, owner.0
-        ),
-    )?;
+    let fault = format!(in alloc; "client {} is making no call, so it has no entry", owner.0);
+    demand(has_begun, CLIENT, fault)?;
+    let fault = format!(in alloc;
+        "{} in place of {}, the call that client {} is making",
+        entry.call, client.answered, owner.0
+    );
+    demand(entry.call == client.answered, CALL, fault)?;
     check_first(before, entry)
 }
 
@@ -90,11 +81,8 @@ fn check_first(before: &LinesBefore<'_>, entry: &Entry) -> Result<(), Objection>
         .iter()
         .filter(|past| past.client == entry.client);
     let is_first = own.last().is_none_or(|past| past.call != entry.call);
-    demand(
-        is_first,
-        CALL,
-        format!(in alloc; "{call}, has an entry already"),
-    )
+    let fault = format!(in alloc; "{call}, has an entry already");
+    demand(is_first, CALL, fault)
 }
 
 /// It is one that the call makes. This is asked last, so it is what is broken.
@@ -103,8 +91,6 @@ fn check_made(before: &LinesBefore<'_>, entry: &Entry) -> Result<(), Objection> 
     if before.record.script.layout.mode == Mode::Records {
         check_cell_entry(before, entry)?;
     }
-    Err(object(
-        SCX,
-        format!(in alloc; "s{} does not make the edit of {call}", entry.scx.0),
-    ))
+    let fault = format!(in alloc; "s{} does not make the edit of {call}", entry.scx.0);
+    Err(object(SCX, fault))
 }

@@ -26,21 +26,16 @@ pub fn explain(alloc: Global, record: &Record, line: usize) -> Result<Breach, No
 /// Objects to the line, if a condition can be told that it breaks.
 fn check(alloc: Global, record: &Record, line: usize) -> Result<(), Objection> {
     let before = LinesBefore::of(alloc, record, line)?;
-    match record.lines.get(line) {
-        Some(Line::Step(TurnRow::Step { number, row })) => {
-            check_owed(&before)?;
-            check_step(&before, *number, row)
-        }
-        Some(Line::Step(TurnRow::Idle { number, client })) => {
-            check_owed(&before)?;
-            check_idle(&before, *number, *client)
-        }
+    let found = record.lines.get(line);
+    if !matches!(found, Some(Line::Log(_))) {
+        check_owed(&before)?;
+    }
+    match found {
+        Some(Line::Step(TurnRow::Step { number, row })) => check_step(&before, *number, row),
+        Some(Line::Step(TurnRow::Idle { number, client })) => check_idle(&before, *number, *client),
         Some(Line::Log(entry)) => check_entry(&before, entry),
-        Some(Line::Reply(reply)) => {
-            check_owed(&before)?;
-            check_reply(&before, reply)
-        }
-        None => check_owed(&before),
+        Some(Line::Reply(reply)) => check_reply(&before, reply),
+        None => Ok(()),
     }
 }
 
@@ -51,8 +46,8 @@ fn check_owed(before: &LinesBefore<'_>) -> Result<(), Objection> {
         return Ok(());
     };
     let wanted = entry_words(alloc, entry)?;
-    Err(object(
-        0,
-        format!(in alloc; "the update of turn {turn} has won, so its entry comes next: {wanted}"),
-    ))
+    let fault = format!(in alloc;
+        "the update of turn {turn} has won, so its entry comes next: {wanted}"
+    );
+    Err(object(0, fault))
 }

@@ -26,14 +26,11 @@ fn check_filled_word(before: &LinesBefore<'_>, row: &Row) -> Result<(), Objectio
         Word::Scx(_, ScxWord::State | ScxWord::AllFrozen) => false,
         _ => true,
     };
-    demand(
-        is_filled,
-        WORD,
-        format!(in alloc;
-            "{word} in place of a settled word or a field of a node, or one of plan to call of an SCX-record, which a \
-         fill stores into"
-        ),
-    )
+    let fault = format!(in alloc;
+        "{word} in place of a settled word or a field of a node, or one of plan to call of an SCX-record, which a \
+     fill stores into"
+    );
+    demand(is_filled, WORD, fault)
 }
 
 fn check_own_node(before: &LinesBefore<'_>, pass: PassNo, node: NodeNo) -> Result<(), Objection> {
@@ -43,27 +40,20 @@ fn check_own_node(before: &LinesBefore<'_>, pass: PassNo, node: NodeNo) -> Resul
     }
     let (first, client) = (layout.first_node(pass), pass.0);
     let share = share_words(alloc, "n", first, layout.nodes)?;
-    demand(
-        is_own_node(layout, pass, node),
-        WORD,
-        format!(in alloc; "n{node} is not of client {client}'s share, which is {share}"),
-    )?;
+    let fault = format!(in alloc; "n{node} is not of client {client}'s share, which is {share}");
+    demand(is_own_node(layout, pass, node), WORD, fault)?;
     let next = u64::from(first.saturating_add(before.judge.nodes_taken(pass)));
-    demand(
-        node <= next,
-        WORD,
-        format!(in alloc; "n{node} in place of n{next}, the next node of the share"),
-    )?;
+    let fault = format!(in alloc; "n{node} in place of n{next}, the next node of the share");
+    demand(node <= next, WORD, fault)?;
     check_unnamed_node(before, node)
 }
 
 fn check_unnamed_node(before: &LinesBefore<'_>, node: u64) -> Result<(), Objection> {
     let alloc = before.alloc;
-    demand(
-        !before.judge.is_named_node(NodeNo(node)),
-        WORD,
-        format!(in alloc; "n{node} is named already, and what is shared is not filled again"),
-    )
+    let fault = format!(in alloc;
+        "n{node} is named already, and what is shared is not filled again"
+    );
+    demand(!before.judge.is_named_node(NodeNo(node)), WORD, fault)
 }
 
 fn check_own_scx(before: &LinesBefore<'_>, pass: PassNo, scx: ScxNo) -> Result<(), Objection> {
@@ -73,70 +63,45 @@ fn check_own_scx(before: &LinesBefore<'_>, pass: PassNo, scx: ScxNo) -> Result<(
     }
     let (first, client) = (layout.first_scx(pass), pass.0);
     let share = share_words(alloc, "s", first, layout.scx)?;
-    demand(
-        is_own_scx(layout, pass, scx),
-        WORD,
-        format!(in alloc; "s{scx} is not of client {client}'s share, which is {share}"),
-    )?;
+    let fault = format!(in alloc; "s{scx} is not of client {client}'s share, which is {share}");
+    demand(is_own_scx(layout, pass, scx), WORD, fault)?;
     let next = u64::from(first.saturating_add(before.judge.scx_taken(pass)));
-    demand(
-        scx <= next,
-        WORD,
-        format!(in alloc; "s{scx} in place of s{next}, the next SCX-record of the share"),
-    )?;
+    let fault = format!(in alloc; "s{scx} in place of s{next}, the next SCX-record of the share");
+    demand(scx <= next, WORD, fault)?;
     check_unnamed_scx(before, scx)
 }
 
 fn check_unnamed_scx(before: &LinesBefore<'_>, scx: u64) -> Result<(), Objection> {
     let alloc = before.alloc;
-    demand(
-        !before.judge.is_named(ScxNo(scx)),
-        WORD,
-        format!(in alloc; "s{scx} is named already, and what is shared is not filled again"),
-    )
+    let fault = format!(in alloc;
+        "s{scx} is named already, and what is shared is not filled again"
+    );
+    demand(!before.judge.is_named(ScxNo(scx)), WORD, fault)
 }
 
-/// What the number may be.
+/// What the number may be: a node of another share only if a field of a named node has held it, and
+/// as `new` none. This is asked last, so it is what is broken.
 fn check_value(before: &LinesBefore<'_>, row: &Row) -> Result<(), Objection> {
     match row.word {
         Word::Node(_, NodeWord::Child(_)) | Word::Scx(_, ScxWord::Old | ScxWord::Member(_)) => {
-            check_known_node(before, row)
+            check_not_others(before, row, "and no field of a named node has held it")
         }
-        Word::Scx(_, ScxWord::New) => check_no_others_node(before, row),
+        Word::Scx(_, ScxWord::New) => {
+            check_not_others(before, row, "in place of a node of the client's own")
+        }
         Word::Scx(_, ScxWord::Seen(_)) => check_known_scx(before, row),
         _ => Ok(()),
     }
 }
 
-/// A node of another share only if a field of a named node has held it. This is asked last, so it
-/// is what is broken.
-fn check_known_node(before: &LinesBefore<'_>, row: &Row) -> Result<(), Objection> {
+/// The node is not of another share, or is at fault for this reason.
+fn check_not_others(before: &LinesBefore<'_>, row: &Row, why: &str) -> Result<(), Objection> {
     let (alloc, node) = (before.alloc, row.after);
-    match other_owner(before.judge.layout(), row.pass, node) {
-        Some(owner) => Err(object(
-            AFTER,
-            format!(in alloc;
-                "n{node} is of client {}'s share, and no field of a named node has held it",
-                owner.0
-            ),
-        )),
-        None => Ok(()),
-    }
-}
-
-/// No node of another share.
-fn check_no_others_node(before: &LinesBefore<'_>, row: &Row) -> Result<(), Objection> {
-    let (alloc, node) = (before.alloc, row.after);
-    match other_owner(before.judge.layout(), row.pass, node) {
-        Some(owner) => Err(object(
-            AFTER,
-            format!(in alloc;
-                "n{node} is of client {}'s share, in place of a node of the client's own",
-                owner.0
-            ),
-        )),
-        None => Ok(()),
-    }
+    let Some(owner) = other_owner(before.judge.layout(), row.pass, node) else {
+        return Ok(());
+    };
+    let fault = format!(in alloc; "n{node} is of client {}'s share, {why}", owner.0);
+    Err(object(AFTER, fault))
 }
 
 /// An SCX-record of another share only if an info word has named it.
@@ -144,14 +109,11 @@ fn check_known_scx(before: &LinesBefore<'_>, row: &Row) -> Result<(), Objection>
     let (alloc, scx) = (before.alloc, ScxNo(row.after));
     match before.judge.layout().owner(scx) {
         Some(owner) if owner != row.pass => {
-            demand(
-                before.judge.is_named(scx),
-                AFTER,
-                format!(in alloc;
-                    "s{} is of client {}'s share, and no info word has named it",
-                    scx.0, owner.0
-                ),
-            )
+            let fault = format!(in alloc;
+                "s{} is of client {}'s share, and no info word has named it",
+                scx.0, owner.0
+            );
+            demand(before.judge.is_named(scx), AFTER, fault)
         }
         _ => Ok(()),
     }

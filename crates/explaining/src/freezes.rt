@@ -12,10 +12,10 @@ pub(crate) fn check_freeze(before: &LinesBefore<'_>, row: &Row) -> Result<(), Ob
     let alloc = before.alloc;
     let Word::Node(node, NodeWord::Info) = row.word else {
         let word = word_text(alloc, row.word)?;
-        return Err(object(
-            WORD,
-            format!(in alloc; "{word} in place of the info of a node, which a freeze exchanges"),
-        ));
+        let fault = format!(in alloc;
+            "{word} in place of the info of a node, which a freeze exchanges"
+        );
+        return Err(object(WORD, fault));
     };
     if row.before == row.after {
         return check_lost(before, row, node);
@@ -27,10 +27,8 @@ pub(crate) fn check_freeze(before: &LinesBefore<'_>, row: &Row) -> Result<(), Ob
 fn check_won(before: &LinesBefore<'_>, row: &Row, node: NodeNo) -> Result<(), Objection> {
     let (alloc, scx, node) = (before.alloc, row.after, node.0);
     let Some(place) = before.place_of(scx, node) else {
-        return Err(object(
-            AFTER,
-            format!(in alloc; "s{scx} does not cover n{node}, so it does not freeze it"),
-        ));
+        let fault = format!(in alloc; "s{scx} does not cover n{node}, so it does not freeze it");
+        return Err(object(AFTER, fault));
     };
     check_wins(before, row, scx, place)?;
     check_earlier(before, scx, place)?;
@@ -44,23 +42,19 @@ fn check_won(before: &LinesBefore<'_>, row: &Row, node: NodeNo) -> Result<(), Ob
 /// It has found what the node's info was.
 fn check_wins(before: &LinesBefore<'_>, row: &Row, scx: u64, place: u8) -> Result<(), Objection> {
     let (alloc, seen) = (before.alloc, before.scx_word(scx, ScxWord::Seen(place)));
-    demand(
-        row.before == seen,
-        AFTER,
-        format!(in alloc;
-            "{scx} in place of {}, since the exchange is lost: i{place} of s{scx} is {seen}",
-            row.before
-        ),
-    )
+    let fault = format!(in alloc;
+        "{scx} in place of {}, since the exchange is lost: i{place} of s{scx} is {seen}",
+        row.before
+    );
+    demand(row.before == seen, AFTER, fault)
 }
 
 fn check_unfinished(before: &LinesBefore<'_>, scx: u64) -> Result<(), Objection> {
     let (alloc, state) = (before.alloc, before.scx_word(scx, ScxWord::State));
-    demand(
-        state == 0,
-        AFTER,
-        format!(in alloc; "s{scx} is finished, since its state is {state}, so it freezes no more"),
-    )
+    let fault = format!(in alloc;
+        "s{scx} is finished, since its state is {state}, so it freezes no more"
+    );
+    demand(state == 0, AFTER, fault)
 }
 
 /// All earlier nodes have been frozen.
@@ -69,34 +63,28 @@ fn check_earlier(before: &LinesBefore<'_>, scx: u64, place: u8) -> Result<(), Ob
     let Some(earlier) = before.first_unfrozen(scx, place) else {
         return Ok(());
     };
-    Err(object(
-        WORD,
-        format!(in alloc;
-            "n{}, which s{scx} covers before n{}, was never frozen for s{scx}",
-            before.member(scx, earlier),
-            before.member(scx, place)
-        ),
-    ))
+    let fault = format!(in alloc;
+        "n{}, which s{scx} covers before n{}, was never frozen for s{scx}",
+        before.member(scx, earlier),
+        before.member(scx, place)
+    );
+    Err(object(WORD, fault))
 }
 
 /// One that changes nothing is lost for some SCX-record, which covers the node.
 fn check_lost(before: &LinesBefore<'_>, row: &Row, node: NodeNo) -> Result<(), Objection> {
     let (alloc, node) = (before.alloc, node.0);
     let Some(scx) = before.probable_scx(row.pass, row.word) else {
-        return Err(object(
-            WORD,
-            format!(in alloc; "no SCX-record covers n{node}, so none freezes it"),
-        ));
+        let fault = format!(in alloc; "no SCX-record covers n{node}, so none freezes it");
+        return Err(object(WORD, fault));
     };
     let Some(place) = before.place_of(scx, node) else {
         return Ok(());
     };
     check_earlier(before, scx, place)?;
-    Err(object(
-        AFTER,
-        format!(in alloc;
-            "{} in place of {scx}, since the exchange wins: i{place} of s{scx} is {} too",
-            row.after, row.before
-        ),
-    ))
+    let fault = format!(in alloc;
+        "{} in place of {scx}, since the exchange wins: i{place} of s{scx} is {} too",
+        row.after, row.before
+    );
+    Err(object(AFTER, fault))
 }

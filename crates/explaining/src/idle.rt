@@ -13,23 +13,23 @@ pub(crate) fn check_idle(
     number: u64,
     pass: PassNo,
 ) -> Result<(), Objection> {
-    let alloc = before.alloc;
     check_pass(before, pass)?;
     check_number(before, number)?;
     if before.next(pass).is_none() {
         return Ok(());
     }
-    let call = call_words(before, pass)?;
-    demand(
-        before.client(pass).begun.is_none(),
-        KIND,
-        format!(in alloc; "{call}, has begun, and makes a step in each of its turns"),
-    )?;
-    Err(object(
-        KIND,
-        format!(in alloc;
-            "{call}, is not answered, so a turn without a step is all of it, and in the next row is its reply, \
-         with an answer that needs no step"
-        ),
-    ))
+    check_not_begun(before, pass)
+}
+
+/// A call that has not begun may be answered without a step, but its reply is to follow. This is
+/// asked last, so it is what is broken.
+fn check_not_begun(before: &LinesBefore<'_>, pass: PassNo) -> Result<(), Objection> {
+    let (alloc, call) = (before.alloc, call_words(before, pass)?);
+    let fault = format!(in alloc; "{call}, has begun, and makes a step in each of its turns");
+    demand(before.client(pass).begun.is_none(), KIND, fault)?;
+    let fault = format!(in alloc;
+        "{call}, is not answered, so a turn without a step is all of it, and in the next row is its reply, \
+     with an answer that needs no step"
+    );
+    Err(object(KIND, fault))
 }

@@ -22,22 +22,18 @@ pub(crate) fn check_leaf_edit(edit: &ClaimedEdit<'_>) -> Result<(), Objection> {
 fn check_level(edit: &ClaimedEdit<'_>, leaf: u64, new: u64) -> Result<(), Objection> {
     let alloc = edit.before.alloc;
     let (level, wanted) = (edit.head(new).level, edit.head(leaf).level);
-    edit.demand(
-        level == wanted,
-        format!(in alloc; "n{new} has level {level} in place of {wanted}, that of n{leaf}"),
-    )
+    let fault = format!(in alloc; "n{new} has level {level} in place of {wanted}, that of n{leaf}");
+    edit.demand(level == wanted, fault)
 }
 
 /// Another leaf comes in the place of a leaf that has pairs.
 pub(crate) fn check_swap(edit: &ClaimedEdit<'_>, leaf: u64, new: u64) -> Result<(), Objection> {
     let alloc = edit.before.alloc;
     check_level(edit, leaf, new)?;
-    edit.demand(
-        edit.head(leaf).class == 0,
-        format!(in alloc;
-            "it puts the leaf n{new} in place of n{leaf}, which is above all keys and needs a fork"
-        ),
-    )?;
+    let fault = format!(in alloc;
+        "it puts the leaf n{new} in place of n{leaf}, which is above all keys and needs a fork"
+    );
+    edit.demand(edit.head(leaf).class == 0, fault)?;
     edit.check_low_leaf(new)?;
     check_pairs(edit, leaf, &edit.pairs_of(new)?)
 }
@@ -47,10 +43,10 @@ fn check_pairs(edit: &ClaimedEdit<'_>, leaf: u64, put: &MapPairs) -> Result<(), 
     let (alloc, put) = (edit.before.alloc, edit.words(put)?);
     let shown = edit.words(&edit.pairs_of(leaf)?)?;
     let wanted = edit.words(&edit.pairs_left(leaf)?)?;
-    edit.demand(
-        put.as_str() == wanted.as_str(),
-        format!(in alloc; "it puts {put} in place of {wanted}, which the call makes of {shown}"),
-    )
+    let fault = format!(in alloc;
+        "it puts {put} in place of {wanted}, which the call makes of {shown}"
+    );
+    edit.demand(put.as_str() == wanted.as_str(), fault)
 }
 
 /// A fork comes in the place of a leaf, over two fresh ones: between them they have what the call
@@ -87,19 +83,17 @@ fn check_fresh(edit: &ClaimedEdit<'_>, fork: u64, node: u64) -> Result<(), Objec
     check_unnamed(edit, fork, node)?;
     let (level, above) = (edit.head(node).level, edit.head(fork).level);
     let wanted = above.saturating_add(1);
-    edit.demand(
-        level == wanted || edit.is_in_trie(),
-        format!(in alloc; "n{node} has level {level} in place of {wanted}, just below n{fork}"),
-    )
+    let fault = format!(in alloc;
+        "n{node} has level {level} in place of {wanted}, just below n{fork}"
+    );
+    edit.demand(level == wanted || edit.is_in_trie(), fault)
 }
 
 /// A node below the fork is named by no word yet.
 pub(crate) fn check_unnamed(edit: &ClaimedEdit<'_>, fork: u64, node: u64) -> Result<(), Objection> {
     let alloc = edit.before.alloc;
-    edit.demand(
-        !edit.before.judge.is_named_node(NodeNo(node)),
-        format!(in alloc; "n{node}, below n{fork}, is named already"),
-    )
+    let fault = format!(in alloc; "n{node}, below n{fork}, is named already");
+    edit.demand(!edit.before.judge.is_named_node(NodeNo(node)), fault)
 }
 
 /// Two nodes are of one class, and have one key if that is asked.
@@ -111,15 +105,13 @@ fn check_alike(
 ) -> Result<(), Objection> {
     let alloc = edit.before.alloc;
     let (class, wanted) = (edit.head(node).class, edit.head(other).class);
-    edit.demand(
-        class == wanted,
-        format!(in alloc; "n{node} has class {class} in place of {wanted}, that of n{other}"),
-    )?;
+    let fault = format!(in alloc;
+        "n{node} has class {class} in place of {wanted}, that of n{other}"
+    );
+    edit.demand(class == wanted, fault)?;
     let (key, wanted) = (edit.key_of(node), edit.key_of(other));
-    edit.demand(
-        key == wanted || !has_its_key,
-        format!(in alloc; "n{node} has key {key} in place of {wanted}, that of n{other}"),
-    )
+    let fault = format!(in alloc; "n{node} has key {key} in place of {wanted}, that of n{other}");
+    edit.demand(key == wanted || !has_its_key, fault)
 }
 
 /// The keys of a leaf are on its side of the fork.
@@ -132,12 +124,10 @@ fn check_side(
 ) -> Result<(), Objection> {
     let (alloc, parting) = (edit.before.alloc, edit.key_of(fork));
     for (key, _) in pairs.iter() {
-        edit.demand(
-            edit.toward(fork, *key) == side,
-            format!(in alloc;
-                "n{leaf} has key {key} on the wrong side of n{fork}, of key {parting}"
-            ),
-        )?;
+        let fault = format!(in alloc;
+            "n{leaf} has key {key} on the wrong side of n{fork}, of key {parting}"
+        );
+        edit.demand(edit.toward(fork, *key) == side, fault)?;
     }
     Ok(())
 }

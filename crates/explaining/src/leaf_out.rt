@@ -8,10 +8,8 @@ use arena::Side;
 pub(crate) fn check_leaf_out(edit: &ClaimedEdit<'_>) -> Result<(), Objection> {
     let (alloc, fork) = (edit.before.alloc, edit.member(1));
     edit.check_place(116, 628, "retires all nodes but the first")?;
-    edit.demand(
-        !edit.head(fork).leaf,
-        format!(in alloc; "n{fork}, its second node, is no fork"),
-    )?;
+    let fault = format!(in alloc; "n{fork}, its second node, is no fork");
+    edit.demand(!edit.head(fork).leaf, fault)?;
     check_children(edit, fork)?;
     let (leaf, place) = match edit.toward(fork, edit.key) {
         Side::Left => (edit.member(2), 3),
@@ -27,10 +25,8 @@ pub(crate) fn check_taken(edit: &ClaimedEdit<'_>, leaf: u64, place: u8) -> Resul
     edit.check_asks(leaf)?;
     let left = edit.pairs_left(leaf)?;
     let shown = edit.words(&left)?;
-    edit.demand(
-        left.is_empty(),
-        format!(in alloc; "it takes n{leaf} out, of which the call leaves {shown}"),
-    )?;
+    let fault = format!(in alloc; "it takes n{leaf} out, of which the call leaves {shown}");
+    edit.demand(left.is_empty(), fault)?;
     check_copy(edit, place)
 }
 
@@ -39,10 +35,8 @@ fn check_children(edit: &ClaimedEdit<'_>, fork: u64) -> Result<(), Objection> {
     let alloc = edit.before.alloc;
     for (side, place) in [(Side::Left, 2), (Side::Right, 3)] {
         let (child, node) = (edit.child(fork, side), edit.member(place));
-        edit.demand(
-            child == node || !edit.before.is_as_seen(edit.scx, 1),
-            format!(in alloc; "it covers n{node} in place of n{child}, a child of n{fork}"),
-        )?;
+        let fault = format!(in alloc; "it covers n{node} in place of n{child}, a child of n{fork}");
+        edit.demand(child == node || !edit.before.is_as_seen(edit.scx, 1), fault)?;
     }
     Ok(())
 }
@@ -83,8 +77,8 @@ fn check_part(
 ) -> Result<(), Objection> {
     let (alloc, node) = (edit.before.alloc, edit.member(place));
     let new = edit.new_node();
-    edit.demand(
-        is_same,
-        format!(in alloc; "its new, n{new}, is no copy of n{node}, which has another {part}"),
-    )
+    let fault = format!(in alloc;
+        "its new, n{new}, is no copy of n{node}, which has another {part}"
+    );
+    edit.demand(is_same, fault)
 }

@@ -3,7 +3,7 @@ use crate::begins::field_of;
 use crate::breach::Objection;
 use crate::client_so_far::ClientSoFar;
 use arena::{Kind, NodeNo, NodeWord, PassNo, Plan, Row, ScxNo, ScxWord, Word};
-use judge::Judge;
+use judge::{Judge, is_own_node, is_own_scx};
 use record::{Entry, Line, Record, TurnRow};
 use script::Command;
 use std::alloc::{AllocError, Global};
@@ -127,6 +127,18 @@ impl<'a> LinesBefore<'a> {
         })
     }
 
+    /// Whether a node is of a client's share.
+    pub(crate) fn owns_node(&self, pass: PassNo, node: u64) -> bool {
+        let layout = self.judge.layout();
+        pass.0 < layout.passes && is_own_node(layout, pass, node)
+    }
+
+    /// Whether an SCX-record is of a client's share.
+    pub(crate) fn owns_scx(&self, pass: PassNo, scx: u64) -> bool {
+        let layout = self.judge.layout();
+        pass.0 < layout.passes && is_own_scx(layout, pass, scx)
+    }
+
     /// How many nodes and SCX-records of its share a client has taken.
     pub(crate) fn taken(&self, pass: PassNo) -> (u32, u32) {
         if pass.0 < self.judge.layout().passes {
@@ -186,6 +198,14 @@ impl<'a> LinesBefore<'a> {
     pub(crate) fn was_frozen(&self, node: u64, scx: u64) -> bool {
         let info = Word::Node(NodeNo(node), NodeWord::Info);
         self.rows.iter().any(|row| row.kind == Kind::Freeze && row.word == info && row.after == scx)
+    }
+
+    /// The last step of this kind that the call of a client has made.
+    pub(crate) fn last_of(&self, pass: PassNo, kind: Kind) -> Option<Row> {
+        let own = self.rows.iter().skip(self.client(pass).first);
+        own.filter(|row| row.pass == pass && row.kind == kind)
+            .last()
+            .copied()
     }
 
     /// The first place at which an SCX-record covers a node that was never frozen for it, up to

@@ -10,19 +10,13 @@ use report::word_text;
 pub(crate) fn check_load(before: &LinesBefore<'_>, row: &Row) -> Result<(), Objection> {
     let (alloc, kind) = (before.alloc, name_of(row.kind));
     let (word, wanted) = (word_text(alloc, row.word)?, loaded_by(row.kind));
-    demand(
-        is_loaded_by(row.kind, row.word),
-        WORD,
-        format!(in alloc; "{word} in place of {wanted}, which {kind} loads"),
-    )?;
-    demand(
-        row.after == row.before,
-        AFTER,
-        format!(in alloc;
-            "{} in place of {}, since a load changes nothing",
-            row.after, row.before
-        ),
-    )
+    let fault = format!(in alloc; "{word} in place of {wanted}, which {kind} loads");
+    demand(is_loaded_by(row.kind, row.word), WORD, fault)?;
+    let fault = format!(in alloc;
+        "{} in place of {}, since a load changes nothing",
+        row.after, row.before
+    );
+    demand(row.after == row.before, AFTER, fault)
 }
 
 fn is_loaded_by(kind: Kind, word: Word) -> bool {

@@ -4,12 +4,13 @@ use crate::claimed_edit::ClaimedEdit;
 use crate::leaf_edit::check_leaf_edit;
 use crate::leaf_out::check_leaf_out;
 use crate::lines_before::LinesBefore;
+use crate::map_before::end_pair;
 use crate::steps::AFTER;
 use crate::trie_edit::{check_above, check_end_leaf_edit, check_end_leaf_out, end_leaf_out};
 use crate::trie_keys::check_keys;
 use crate::words::call_words;
-use arena::{Row, ScxWord, Side};
-use ordered_map::Goal;
+use arena::{PassNo, Row, ScxWord, Side};
+use ordered_map::{Goal, Rule};
 use script::Command;
 
 /// Of a map an SCX-record that begins makes the edit of its client's call: it puts something in the
@@ -27,18 +28,20 @@ pub(crate) fn check_edit(before: &LinesBefore<'_>, row: &Row) -> Result<(), Obje
     }
 }
 
+/// The edit that a client's call asks for, if it asks for one.
+fn asked_edit(before: &LinesBefore<'_>, pass: PassNo) -> Option<(Goal, Rule)> {
+    match before.next(pass) {
+        Some(Command::Map(request)) => request.edit(),
+        _ => None,
+    }
+}
+
 /// The edit of the client's call for which an SCX-record begins.
 fn claimed_edit<'a>(before: &'a LinesBefore<'a>, row: &Row) -> Result<ClaimedEdit<'a>, Objection> {
     let (alloc, scx, call) = (before.alloc, row.after, call_words(before, row.pass)?);
-    let asked = match before.next(row.pass) {
-        Some(Command::Map(request)) => request.edit(),
-        _ => None,
-    };
-    let Some((goal, rule)) = asked else {
-        return Err(object(
-            AFTER,
-            format!(in alloc; "s{scx} begins for {call}, which makes no edit"),
-        ));
+    let Some((goal, rule)) = asked_edit(before, row.pass) else {
+        let fault = format!(in alloc; "s{scx} begins for {call}, which makes no edit");
+        return Err(object(AFTER, fault));
     };
     let mut edit = ClaimedEdit {
         before,
@@ -64,10 +67,8 @@ fn check_in_tree(edit: &ClaimedEdit<'_>) -> Result<(), Objection> {
 /// In a trie it does so too, or puts a fork above a fork; at an end of the map it covers node 2
 /// besides.
 fn check_in_trie(edit: &ClaimedEdit<'_>) -> Result<(), Objection> {
-    let (many, old) = (
-        edit.before.plan(edit.scx).count(),
-        edit.before.scx_word(edit.scx, ScxWord::Old),
-    );
+    let many = edit.before.plan(edit.scx).count();
+    let old = edit.before.scx_word(edit.scx, ScxWord::Old);
     match (edit.goal, many) {
         (Goal::End(_), 3) => check_end_leaf_edit(edit),
         (Goal::End(_), 4) => check_end_leaf_out(edit),
@@ -82,12 +83,10 @@ fn check_in_trie(edit: &ClaimedEdit<'_>) -> Result<(), Objection> {
 /// It covers neither so many nodes nor four.
 fn refuse_count(edit: &ClaimedEdit<'_>, many: u8, few: &str) -> Result<(), Objection> {
     let alloc = edit.before.alloc;
-    edit.demand(
-        false,
-        format!(in alloc;
-            "it covers {many} nodes, in place of {few}, or of four to take a leaf out"
-        ),
-    )
+    let fault = format!(in alloc;
+        "it covers {many} nodes, in place of {few}, or of four to take a leaf out"
+    );
+    edit.demand(false, fault)
 }
 
 /// The key of the edit; at an end of the map it is that of the leaf there.
@@ -97,37 +96,31 @@ fn key_of(edit: &ClaimedEdit<'_>) -> Result<u64, Objection> {
         Goal::Key(key) => return Ok(key),
         Goal::End(side) => (end_leaf(edit, side), side),
     };
-    let held = edit.pairs_of(leaf)?;
-    let pair = match end {
-        Side::Left => held.first(),
-        Side::Right => held.last(),
-    };
-    edit.demand(
-        pair.is_some(),
-        format!(in alloc; "n{leaf} holds no pair to take out"),
-    )?;
+    let pair = end_pair(&edit.pairs_of(leaf)?, end);
+    let fault = format!(in alloc; "n{leaf} holds no pair to take out");
+    edit.demand(pair.is_some(), fault)?;
     Ok(pair.map(|pair| pair.0).unwrap_or(0))
 }
 
 /// The leaf at an end from which it takes a pair: of two nodes, or three in a trie, the second, of
 /// four the child on that side, unless this is above all keys.
 fn end_leaf(edit: &ClaimedEdit<'_>, side: Side) -> u64 {
-    let (many, second, right) = (
-        edit.before.plan(edit.scx).count(),
-        edit.member(1),
-        edit.member(3),
-    );
-    let end = match side {
-        Side::Left => 0,
-        Side::Right => u64::MAX,
-    };
+    let (many, second) = (edit.before.plan(edit.scx).count(), edit.member(1));
     if many == 2 || (many == 3 && edit.is_in_trie()) {
         second
     } else if edit.is_in_trie() {
-        end_leaf_out(edit, edit.toward(second, end))
-    } else if side == Side::Right && edit.head(right).class == 0 {
-        right
+        end_leaf_out(edit, edit.toward(second, end_key(side)))
+    } else if side == Side::Right && edit.head(edit.member(3)).class == 0 {
+        edit.member(3)
     } else {
         edit.member(2)
+    }
+}
+
+/// The outermost key on a side.
+fn end_key(side: Side) -> u64 {
+    match side {
+        Side::Left => 0,
+        Side::Right => u64::MAX,
     }
 }

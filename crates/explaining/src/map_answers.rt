@@ -26,10 +26,7 @@ pub(crate) fn check_map_answer(
             }
         }
         Reply::Contended { node, scx } => check_contended(before, request, reply, (*node, *scx)),
-        Reply::Full(full) => {
-            check_no_moment(before, reply)?;
-            check_full(before, request, reply, full)
-        }
+        Reply::Full(full) => check_full(before, request, reply, full),
         Reply::NoMemory => check_no_moment(before, reply),
     }
 }
@@ -80,13 +77,10 @@ fn check_change(
     check_moment_is(before, reply, turn, "the turn of the call's update")?;
     let answer = answer_text(alloc, &reply.answer)?;
     let wanted = reply_at(before, request, turn.saturating_sub(1))?;
-    demand(
-        answer.as_str() == wanted.as_str(),
-        ANSWER,
-        format!(in alloc;
-            "{answer} in place of {wanted}, which the map replies just before turn {turn}, when the update wins"
-        ),
-    )
+    let fault = format!(in alloc;
+        "{answer} in place of {wanted}, which the map replies just before turn {turn}, when the update wins"
+    );
+    demand(answer.as_str() == wanted.as_str(), ANSWER, fault)
 }
 
 /// A call that reads answers what the map replied after a turn of the call, and names the latest
@@ -104,13 +98,11 @@ fn check_reading(
         return check_moment_is(before, reply, latest, what);
     }
     let last = reply_at(before, request, end)?;
-    Err(object(
-        ANSWER,
-        format!(in alloc;
-            "{answer} in place of {last}, which the map replies after turn {end}, the call's last, and from turn \
-             {begin} on it never replies {answer}"
-        ),
-    ))
+    let fault = format!(in alloc;
+        "{answer} in place of {last}, which the map replies after turn {end}, the call's last, and from turn \
+         {begin} on it never replies {answer}"
+    );
+    Err(object(ANSWER, fault))
 }
 
 /// The latest turn of a call after which the map replies this, if there is one.
@@ -159,11 +151,8 @@ pub(crate) fn check_moment_is(
 pub(crate) fn check_no_moment(before: &LinesBefore<'_>, reply: &Finished) -> Result<(), Objection> {
     let (alloc, moment) = (before.alloc, reply.moment.unwrap_or(0));
     let answer = answer_text(alloc, &reply.answer)?;
-    demand(
-        reply.moment.is_none(),
-        MOMENT,
-        format!(in alloc; "{moment} where nothing is wanted: {answer} has no moment"),
-    )
+    let fault = format!(in alloc; "{moment} where nothing is wanted: {answer} has no moment");
+    demand(reply.moment.is_none(), MOMENT, fault)
 }
 
 /// The call has begun as many tries as it may.
@@ -173,11 +162,8 @@ fn check_tries(before: &LinesBefore<'_>, pass: PassNo) -> Result<(), Objection> 
     let tries = begun
         .filter(|row| row.pass == pass && begins_try(row))
         .count();
-    demand(
-        tries == limit as usize,
-        ANSWER,
-        format!(in alloc; "the call has begun {tries} tries, and gives up after {limit}"),
-    )
+    let fault = format!(in alloc; "the call has begun {tries} tries, and gives up after {limit}");
+    demand(tries == limit as usize, ANSWER, fault)
 }
 
 /// How many steps there were before the newest try of a client.
@@ -220,14 +206,11 @@ fn check_needed(
 ) -> Result<(), Objection> {
     let alloc = before.alloc;
     let needed = most_needed(before, request, reply)?;
-    demand(
-        needed > 0 || request.edit().is_none(),
-        ANSWER,
-        format!(in alloc;
-            "the map gave the call nothing to do after any turn from {} to {}",
-            reply.begin, reply.end
-        ),
-    )
+    let fault = format!(in alloc;
+        "the map gave the call nothing to do after any turn from {} to {}",
+        reply.begin, reply.end
+    );
+    demand(needed > 0 || request.edit().is_none(), ANSWER, fault)
 }
 
 /// The share has just so much left, too little for what the edit needed.
@@ -237,24 +220,27 @@ fn check_full(
     reply: &Finished,
     full: &Full,
 ) -> Result<(), Objection> {
+    check_no_moment(before, reply)?;
     check_left(before, reply.client, full)?;
     check_needed(before, request, reply)?;
     if full.what == Resource::Nodes {
         check_too_few(before, request, reply, full.left)?;
     }
-    let (alloc, layout) = (before.alloc, before.judge.layout());
-    let client = before.client(reply.client);
-    let (what, left) = match full.what {
+    Err(object_to_full(before, reply.client, full.what))
+}
+
+/// The share had enough as the call began, and no try can have been lost.
+fn object_to_full(before: &LinesBefore<'_>, pass: PassNo, resource: Resource) -> Objection {
+    let (alloc, layout, client) = (before.alloc, before.judge.layout(), before.client(pass));
+    let (what, left) = match resource {
         Resource::Nodes => ("nodes", layout.nodes.saturating_sub(client.nodes)),
         Resource::Scx => ("SCX-records", layout.scx.saturating_sub(client.scx)),
     };
-    Err(object(
-        ANSWER,
-        format!(in alloc;
-            "{left} {what} were left as the call began, and since then no SCX-record of another client was in \
-             progress, to which it could have lost a try"
-        ),
-    ))
+    let fault = format!(in alloc;
+        "{left} {what} were left as the call began, and since then no SCX-record of another client was in \
+         progress, to which it could have lost a try"
+    );
+    object(ANSWER, fault)
 }
 
 /// So many nodes are too few for the edit.
@@ -265,11 +251,10 @@ fn check_too_few(
     told: u32,
 ) -> Result<(), Objection> {
     let (alloc, needed) = (before.alloc, most_needed(before, request, reply)?);
-    demand(
-        told < needed,
-        ANSWER,
-        format!(in alloc; "{told} nodes are enough for the call, which needed {needed} at most"),
-    )
+    let fault = format!(in alloc;
+        "{told} nodes are enough for the call, which needed {needed} at most"
+    );
+    demand(told < needed, ANSWER, fault)
 }
 
 /// What is left of the share: so many nodes, or no SCX-record, and some node.
@@ -285,17 +270,16 @@ pub(crate) fn check_left(
         Resource::Nodes => (nodes, "nodes"),
         Resource::Scx => (scx, "SCX-records"),
     };
-    demand(
-        full.left == left,
-        ANSWER,
-        format!(in alloc;
-            "{} in place of {left}, the {what} that are left of the share",
-            full.left
-        ),
-    )?;
-    demand(
+    let (told, fits) = (
+        full.left,
         full.what == Resource::Nodes || (scx == 0 && nodes > 0),
-        ANSWER,
-        format!(in alloc; "{scx} SCX-records and {nodes} nodes are left: none and some are wanted"),
-    )
+    );
+    let fault = format!(in alloc;
+        "{told} in place of {left}, the {what} that are left of the share"
+    );
+    demand(told == left, ANSWER, fault)?;
+    let fault = format!(in alloc;
+        "{scx} SCX-records and {nodes} nodes are left: none and some are wanted"
+    );
+    demand(fits, ANSWER, fault)
 }

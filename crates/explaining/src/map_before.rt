@@ -30,20 +30,17 @@ fn command_of(before: &LinesBefore<'_>, client: PassNo, number: u64) -> Option<C
 
 /// Edits the pairs of a map, by rising key, as a command does that has an entry.
 pub fn edit_pairs(pairs: &mut Vec<(u64, u128)>, command: Command) -> Result<(), AllocError> {
-    let Command::Map(request) = command else {
-        return Ok(());
-    };
-    let Some((goal, rule)) = request.edit() else {
-        return Ok(());
-    };
-    let Some(key) = key_of(goal, pairs) else {
-        return Ok(());
-    };
-    pairs.retain(|pair| pair.0 != key);
-    if let Some(value) = rule.leaves() {
-        pairs.push((key, value))?;
+    if let Command::Map(request) = command
+        && let Some((goal, rule)) = request.edit()
+        && let Some(key) = key_of(goal, pairs)
+    {
+        pairs.retain(|pair| pair.0 != key);
+        if let Some(value) = rule.leaves() {
+            pairs.push((key, value))?;
+        }
+        pairs.sort()?;
     }
-    pairs.sort()
+    Ok(())
 }
 
 /// The key to which an edit of these pairs goes, if it finds one.
@@ -60,7 +57,7 @@ fn value_of(pairs: &MapPairs, key: u64) -> Option<u128> {
 }
 
 /// The pair at an end.
-fn end_pair(pairs: &MapPairs, side: Side) -> Option<(u64, u128)> {
+pub(crate) fn end_pair(pairs: &MapPairs, side: Side) -> Option<(u64, u128)> {
     match side {
         Side::Left => pairs.first().copied(),
         Side::Right => pairs.last().copied(),

@@ -27,10 +27,8 @@ pub(crate) fn check_reply(before: &LinesBefore<'_>, reply: &Finished) -> Result<
     let alloc = before.alloc;
     check_newest(before, reply.client)?;
     let Some(command) = before.next(reply.client) else {
-        return Err(object(
-            CLIENT,
-            format!(in alloc; "client {} has no call left", reply.client.0),
-        ));
+        let fault = format!(in alloc; "client {} has no call left", reply.client.0);
+        return Err(object(CLIENT, fault));
     };
     check_turns(before, reply)?;
     check_form(before, &command, reply)?;
@@ -48,14 +46,11 @@ fn check_newest(before: &LinesBefore<'_>, client: PassNo) -> Result<(), Objectio
     let Some(last) = before.last else {
         return Err(object(CLIENT, String::from_str(alloc, "no turn has been made")));
     };
-    demand(
-        last == client,
-        CLIENT,
-        format!(in alloc;
-            "{} in place of {}, the client that made the newest turn",
-            client.0, last.0
-        ),
-    )
+    let fault = format!(in alloc;
+        "{} in place of {}, the client that made the newest turn",
+        client.0, last.0
+    );
+    demand(last == client, CLIENT, fault)
 }
 
 /// The number of the call, and its first and last turn.
@@ -63,38 +58,27 @@ fn check_turns(before: &LinesBefore<'_>, reply: &Finished) -> Result<(), Objecti
     check_number(before, reply)?;
     check_begin(before, reply)?;
     let (alloc, newest) = (before.alloc, before.turn);
-    demand(
-        reply.end == newest,
-        END,
-        format!(in alloc; "{} in place of {newest}, the newest turn", reply.end),
-    )
+    let fault = format!(in alloc; "{} in place of {newest}, the newest turn", reply.end);
+    demand(reply.end == newest, END, fault)
 }
 
 fn check_number(before: &LinesBefore<'_>, reply: &Finished) -> Result<(), Objection> {
     let (alloc, next) = (before.alloc, before.client(reply.client).answered);
-    demand(
-        reply.call == next,
-        NUMBER,
-        format!(in alloc; "{} in place of {next}, the client's next call", reply.call),
-    )
+    let fault = format!(in alloc; "{} in place of {next}, the client's next call", reply.call);
+    demand(reply.call == next, NUMBER, fault)
 }
 
 fn check_begin(before: &LinesBefore<'_>, reply: &Finished) -> Result<(), Objection> {
     let (alloc, client) = (before.alloc, reply.client);
     let Some(begun) = before.client(client).begun else {
-        return Err(object(
-            CLIENT,
-            format!(in alloc; "client {} has made no turn since its last reply", client.0),
-        ));
+        let fault = format!(in alloc; "client {} has made no turn since its last reply", client.0);
+        return Err(object(CLIENT, fault));
     };
-    demand(
-        reply.begin == begun,
-        BEGIN,
-        format!(in alloc;
-            "{} in place of {begun}, the first turn of the call",
-            reply.begin
-        ),
-    )
+    let fault = format!(in alloc;
+        "{} in place of {begun}, the first turn of the call",
+        reply.begin
+    );
+    demand(reply.begin == begun, BEGIN, fault)
 }
 
 /// The call may give an answer of this form.
@@ -112,29 +96,28 @@ fn check_form(
             format!(in alloc; "{answer} is no answer to {call}, without a step"),
         );
     }
-    demand(
-        may_answer(command, &reply.answer),
-        ANSWER,
-        format!(in alloc; "{answer} is no answer to {call}, after a step"),
-    )
+    let fault = format!(in alloc; "{answer} is no answer to {call}, after a step");
+    demand(may_answer(command, &reply.answer), ANSWER, fault)
 }
 
 fn may_answer_at_once(command: &Command, answer: &Answer) -> bool {
     match (command, answer) {
         (Command::Scx(_), Answer::Unlinked { .. } | Answer::Full { .. }) => true,
         (Command::Vlx { .. }, Answer::Unlinked { .. }) => true,
-        (Command::Map(Request::Range { low, high, most }), Answer::Map(reply)) => {
-            let is_empty = *most == 0 || high < low;
-            match reply {
-                Reply::Pairs(pairs) => is_empty && pairs.is_empty(),
-                Reply::NoMemory => !is_empty,
-                _ => false,
-            }
-        }
-        (
-            Command::Map(Request::Successor { .. } | Request::Predecessor { .. }),
-            Answer::Map(Reply::NoMemory),
-        ) => true,
+        (Command::Map(request), Answer::Map(reply)) => may_reply_at_once(request, reply),
+        _ => false,
+    }
+}
+
+/// Whether a call of the map may be answered so without a step: a range with nothing to look for, or
+/// a search that is refused its memory.
+fn may_reply_at_once(request: &Request<u64, u128>, reply: &Reply<u64, u128>) -> bool {
+    let is_empty =
+        matches!(request, Request::Range { low, high, most } if *most == 0 || high < low);
+    match (request, reply) {
+        (Request::Range { .. }, Reply::Pairs(pairs)) => is_empty && pairs.is_empty(),
+        (Request::Range { .. }, Reply::NoMemory) => !is_empty,
+        (Request::Successor { .. } | Request::Predecessor { .. }, Reply::NoMemory) => true,
         _ => false,
     }
 }
@@ -174,22 +157,16 @@ fn check_changed(
 ) -> Result<(), Objection> {
     let (alloc, answer) = (before.alloc, answer_text(before.alloc, &reply.answer)?);
     let says = says_change(command, &reply.answer);
-    match before.client(reply.client).won {
-        Some(turn) => demand(
-            says,
-            ANSWER,
-            format!(in alloc;
-                "{answer} says that the call has changed nothing, but its update has won in turn {turn}"
-            ),
+    let won = before.client(reply.client).won;
+    let fault = match won {
+        Some(turn) => format!(in alloc;
+            "{answer} says that the call has changed nothing, but its update has won in turn {turn}"
         ),
-        None => demand(
-            !says,
-            ANSWER,
-            format!(in alloc;
-                "{answer} says that the call has made a change, but it has no entry in the log"
-            ),
+        None => format!(in alloc;
+            "{answer} says that the call has made a change, but it has no entry in the log"
         ),
-    }
+    };
+    demand(says == won.is_some(), ANSWER, fault)
 }
 
 fn says_change(command: &Command, answer: &Answer) -> bool {
@@ -205,11 +182,10 @@ fn check_moment(before: &LinesBefore<'_>, reply: &Finished) -> Result<(), Object
     let Some(moment) = reply.moment else {
         return Ok(());
     };
-    demand(
-        begin <= moment && moment <= end,
-        MOMENT,
-        format!(in alloc; "{moment} is not within the call, which is from turn {begin} to {end}"),
-    )
+    let fault = format!(in alloc;
+        "{moment} is not within the call, which is from turn {begin} to {end}"
+    );
+    demand(begin <= moment && moment <= end, MOMENT, fault)
 }
 
 /// The call has not taken more of its share than it may.
@@ -225,19 +201,15 @@ fn check_share(
         taken.1.saturating_sub(client.scx),
     );
     let (each, most) = most_taken(command, before.record.script.limits.tries);
-    demand(
-        scx <= most,
-        ANSWER,
-        format!(in alloc; "the call has taken {scx} SCX-records of its share, and may take {most}"),
-    )?;
+    let fault = format!(in alloc;
+        "the call has taken {scx} SCX-records of its share, and may take {most}"
+    );
+    demand(scx <= most, ANSWER, fault)?;
     let most = each.saturating_mul(scx);
-    demand(
-        nodes <= most,
-        ANSWER,
-        format!(in alloc;
-            "the call has taken {nodes} nodes of its share, and may take {most} with {scx} SCX-records"
-        ),
-    )
+    let fault = format!(in alloc;
+        "the call has taken {nodes} nodes of its share, and may take {most} with {scx} SCX-records"
+    );
+    demand(nodes <= most, ANSWER, fault)
 }
 
 /// How many nodes a call may take with each SCX-record, and how many of these.

@@ -47,42 +47,34 @@ pub(crate) fn check_step(
 /// There is a client of this number.
 pub(crate) fn check_pass(before: &LinesBefore<'_>, pass: PassNo) -> Result<(), Objection> {
     let (alloc, last) = (before.alloc, before.clients.len().saturating_sub(1));
-    demand(
-        (pass.0 as usize) < before.clients.len(),
-        CLIENT,
-        format!(in alloc; "{} is above {last}, the last client", pass.0),
-    )
+    let fault = format!(in alloc; "{} is above {last}, the last client", pass.0);
+    demand((pass.0 as usize) < before.clients.len(), CLIENT, fault)
 }
 
 /// Turns are numbered from 1.
 pub(crate) fn check_number(before: &LinesBefore<'_>, number: u64) -> Result<(), Objection> {
     let (alloc, next) = (before.alloc, before.turn.saturating_add(1));
-    demand(
-        number == next,
-        NUMBER,
-        format!(in alloc; "{number} in place of {next}, the next turn"),
-    )
+    let fault = format!(in alloc; "{number} in place of {next}, the next turn");
+    demand(number == next, NUMBER, fault)
 }
 
 /// The client has a call left, which may make a step of this kind.
 fn check_call(before: &LinesBefore<'_>, row: &Row) -> Result<(), Objection> {
     let (alloc, pass) = (before.alloc, row.pass);
     let Some(command) = before.next(pass) else {
-        return Err(object(
-            CLIENT,
-            format!(in alloc;
-                "client {} has no call left, so each further turn is idle",
-                pass.0
-            ),
-        ));
+        let client = pass.0;
+        let fault = format!(in alloc;
+            "client {client} has no call left, so each further turn is idle"
+        );
+        return Err(object(CLIENT, fault));
     };
-    let (kind, call) = (name_of(row.kind), call_words(before, pass)?);
-    let kinds = kinds_of(&command);
-    demand(
-        may_make(&command, row.kind),
-        KIND,
-        format!(in alloc; "{kind} by {call}, which makes {kinds}"),
-    )?;
+    let (kind, kinds, call) = (
+        name_of(row.kind),
+        kinds_of(&command),
+        call_words(before, pass)?,
+    );
+    let fault = format!(in alloc; "{kind} by {call}, which makes {kinds}");
+    demand(may_make(&command, row.kind), KIND, fault)?;
     check_call_word(before, row)
 }
 
@@ -90,14 +82,11 @@ fn check_call(before: &LinesBefore<'_>, row: &Row) -> Result<(), Objection> {
 fn check_call_word(before: &LinesBefore<'_>, row: &Row) -> Result<(), Objection> {
     let (alloc, number) = (before.alloc, before.client(row.pass).answered);
     let is_call = row.kind == Kind::Fill && matches!(row.word, Word::Scx(_, ScxWord::Call));
-    demand(
-        !is_call || row.after == number,
-        AFTER,
-        format!(in alloc;
-            "{} in place of {number}, the number of the client's call",
-            row.after
-        ),
-    )
+    let fault = format!(in alloc;
+        "{} in place of {number}, the number of the client's call",
+        row.after
+    );
+    demand(!is_call || row.after == number, AFTER, fault)
 }
 
 /// Whether a call with this command may make a step of a kind.
@@ -132,23 +121,15 @@ fn kinds_of(command: &Command) -> &'static str {
 fn check_word(before: &LinesBefore<'_>, row: &Row) -> Result<(), Objection> {
     let (alloc, layout) = (before.alloc, before.judge.layout());
     let word = word_text(alloc, row.word)?;
-    let (nodes, scx) = (
-        layout.all_nodes().saturating_sub(1),
-        layout.all_scx().saturating_sub(1),
+    let nodes = layout.all_nodes().saturating_sub(1);
+    let scx = layout.all_scx().saturating_sub(1);
+    let fault = format!(in alloc;
+        "{word} does not exist: there are the nodes n0 to n{nodes} and the SCX-records s0 to s{scx}"
     );
-    demand(
-        layout.has(row.word),
-        WORD,
-        format!(in alloc;
-            "{word} does not exist: there are the nodes n0 to n{nodes} and the SCX-records s0 to s{scx}"
-        ),
-    )?;
+    demand(layout.has(row.word), WORD, fault)?;
     let held = before.judge.get(row.word);
-    demand(
-        row.before == held,
-        BEFORE,
-        format!(in alloc; "{} in place of {held}, which {word} holds", row.before),
-    )
+    let fault = format!(in alloc; "{} in place of {held}, which {word} holds", row.before);
+    demand(row.before == held, BEFORE, fault)
 }
 
 /// What is asked of its kind. A step that is lawful does what its kind allows.
@@ -170,8 +151,6 @@ fn check_kind(before: &LinesBefore<'_>, row: &Row) -> Result<(), Objection> {
 fn check_bound(before: &LinesBefore<'_>, row: &Row) -> Result<(), Objection> {
     let (alloc, steps) = (before.alloc, before.client(row.pass).steps);
     let call = call_words(before, row.pass)?;
-    Err(object(
-        NUMBER,
-        format!(in alloc; "{call}, has made {steps} steps, and may make no more"),
-    ))
+    let fault = format!(in alloc; "{call}, has made {steps} steps, and may make no more");
+    Err(object(NUMBER, fault))
 }

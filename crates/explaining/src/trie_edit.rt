@@ -22,16 +22,13 @@ pub(crate) fn check_end_leaf_out(edit: &ClaimedEdit<'_>) -> Result<(), Objection
     let (alloc, fork) = (edit.before.alloc, edit.member(1));
     edit.check_place(52, 564, "retires its second and its third node")?;
     check_guard(edit, 3)?;
-    edit.demand(
-        !edit.head(fork).leaf,
-        format!(in alloc; "n{fork}, its second node, is no fork"),
-    )?;
+    let fault = format!(in alloc; "n{fork}, its second node, is no fork");
+    edit.demand(!edit.head(fork).leaf, fault)?;
     let side = edit.toward(fork, edit.key);
     let (sibling, third) = (edit.child(fork, opposite(side)), edit.member(2));
-    edit.demand(
-        sibling == third || !edit.before.is_as_seen(edit.scx, 1),
-        format!(in alloc; "it covers n{third} in place of n{sibling}, a child of n{fork}"),
-    )?;
+    let fault = format!(in alloc; "it covers n{third} in place of n{sibling}, a child of n{fork}");
+    let fits = sibling == third || !edit.before.is_as_seen(edit.scx, 1);
+    edit.demand(fits, fault)?;
     check_taken(edit, end_leaf_out(edit, side), 2)
 }
 
@@ -80,10 +77,10 @@ pub(crate) fn check_above(edit: &ClaimedEdit<'_>) -> Result<(), Objection> {
     check_low_fork(edit, fork)?;
     let side = edit.toward(fork, edit.key);
     let below = edit.child(fork, opposite(side));
-    edit.demand(
-        below == old,
-        format!(in alloc; "n{fork} has n{below} beside the new leaf in place of n{old}, its old"),
-    )?;
+    let fault = format!(in alloc;
+        "n{fork} has n{below} beside the new leaf in place of n{old}, its old"
+    );
+    edit.demand(below == old, fault)?;
     check_lone_leaf(edit, fork, edit.child(fork, side))
 }
 
@@ -95,28 +92,22 @@ fn check_lone_leaf(edit: &ClaimedEdit<'_>, fork: u64, leaf: u64) -> Result<(), O
     edit.check_asks(edit.member(1))?;
     let put = edit.words(&edit.pairs_of(leaf)?)?;
     let wanted = edit.words(&edit.pairs_left(edit.member(1))?)?;
-    edit.demand(
-        put.as_str() == wanted.as_str(),
-        format!(in alloc; "it puts {put} above a fork in place of {wanted}"),
-    )
+    let fault = format!(in alloc; "it puts {put} above a fork in place of {wanted}");
+    edit.demand(put.as_str() == wanted.as_str(), fault)
 }
 
 /// A node is a fork that is not above all keys.
 fn check_low_fork(edit: &ClaimedEdit<'_>, node: u64) -> Result<(), Objection> {
     let (alloc, head) = (edit.before.alloc, edit.head(node));
-    edit.demand(
-        !head.leaf && head.class == 0,
-        format!(in alloc; "n{node} is no fork of class 0"),
-    )
+    let fault = format!(in alloc; "n{node} is no fork of class 0");
+    edit.demand(!head.leaf && head.class == 0, fault)
 }
 
 /// Its node at this place, the last, is node 2.
 fn check_guard(edit: &ClaimedEdit<'_>, place: u8) -> Result<(), Objection> {
     let (alloc, last) = (edit.before.alloc, edit.member(place));
-    edit.demand(
-        last == 2,
-        format!(in alloc; "its last node is n{last} in place of n2"),
-    )
+    let fault = format!(in alloc; "its last node is n{last} in place of n2");
+    edit.demand(last == 2, fault)
 }
 
 fn opposite(side: Side) -> Side {

@@ -15,21 +15,33 @@ struct KeySpan {
     high: u128,
 }
 
+impl KeySpan {
+    /// Those of a fork above all keys.
+    const ALL: KeySpan = KeySpan {
+        low: 0,
+        middle: ALL_KEYS,
+        high: ALL_KEYS,
+    };
+
+    /// The first key of a side, and the first behind it.
+    fn on(&self, side: Side) -> (u128, u128) {
+        match side {
+            Side::Left => (self.low, self.middle),
+            Side::Right => (self.middle, self.high),
+        }
+    }
+}
+
 fn span_of(edit: &ClaimedEdit<'_>, fork: u64) -> KeySpan {
-    let (head, key) = (edit.head(fork), u128::from(edit.key_of(fork)));
+    let (head, middle) = (edit.head(fork), u128::from(edit.key_of(fork)));
+    if head.class > 0 {
+        return KeySpan::ALL;
+    }
     let room = room_at(head.level);
-    if head.class == 0 {
-        KeySpan {
-            low: key.saturating_sub(room),
-            middle: key,
-            high: key.saturating_add(room),
-        }
-    } else {
-        KeySpan {
-            low: 0,
-            middle: ALL_KEYS,
-            high: ALL_KEYS,
-        }
+    KeySpan {
+        low: middle.saturating_sub(room),
+        middle,
+        high: middle.saturating_add(room),
     }
 }
 
@@ -48,24 +60,25 @@ pub(crate) fn shares(edit: &ClaimedEdit<'_>, fork: u64, key: u64) -> bool {
 pub(crate) fn check_keys(edit: &ClaimedEdit<'_>) -> Result<(), Objection> {
     let (alloc, key, fork) = (edit.before.alloc, edit.key, edit.member(0));
     let (new, span) = (edit.new_node(), span_of(edit, fork));
-    edit.demand(
-        shares(edit, fork, key),
-        format!(in alloc;
-            "key {key} may not stand below n{fork}, which parts those from {} to below {}",
-            span.low, span.high
-        ),
-    )?;
-    check_keeps(edit, fork, edit.toward(fork, key), new)?;
-    check_deeper(edit, fork, new)?;
-    if edit.head(new).leaf {
-        return Ok(());
-    }
-    check_parted(edit, new)?;
-    for side in [Side::Left, Side::Right] {
-        check_keeps(edit, new, side, edit.child(new, side))?;
-        check_deeper(edit, new, edit.child(new, side))?;
+    let fault = format!(in alloc;
+        "key {key} may not stand below n{fork}, which parts those from {} to below {}",
+        span.low, span.high
+    );
+    edit.demand(shares(edit, fork, key), fault)?;
+    check_below(edit, fork, edit.toward(fork, key), new)?;
+    if !edit.head(new).leaf {
+        check_parted(edit, new)?;
+        for side in [Side::Left, Side::Right] {
+            check_below(edit, new, side, edit.child(new, side))?;
+        }
     }
     Ok(())
+}
+
+/// A node may stand on this side below a fork.
+fn check_below(edit: &ClaimedEdit<'_>, fork: u64, side: Side, node: u64) -> Result<(), Objection> {
+    check_keeps(edit, fork, side, node)?;
+    check_deeper(edit, fork, node)
 }
 
 /// A node is deeper than the fork above it.
@@ -75,31 +88,24 @@ fn check_deeper(edit: &ClaimedEdit<'_>, fork: u64, node: u64) -> Result<(), Obje
         edit.head(fork).level,
         edit.head(node).level,
     );
-    edit.demand(
-        above < level,
-        format!(in alloc; "n{node} of level {level} comes below n{fork} of level {above}"),
-    )
+    let fault = format!(in alloc; "n{node} of level {level} comes below n{fork} of level {above}");
+    edit.demand(above < level, fault)
 }
 
 /// A node keeps to the keys of a fork's side: a fork with all that may stand below it, a leaf with
 /// those of its pairs.
 fn check_keeps(edit: &ClaimedEdit<'_>, fork: u64, side: Side, node: u64) -> Result<(), Objection> {
-    let (head, span) = (edit.head(node), span_of(edit, fork));
-    let (from, to) = match side {
-        Side::Left => (span.low, span.middle),
-        Side::Right => (span.middle, span.high),
-    };
+    let (head, (from, to)) = (edit.head(node), span_of(edit, fork).on(side));
     if head.leaf {
         return check_leaf_keeps(edit, fork, node, from, to);
     }
     let (alloc, below) = (edit.before.alloc, span_of(edit, node));
-    edit.demand(
-        head.class > 0 || (from <= below.low && below.high <= to),
-        format!(in alloc;
-            "n{node} parts the keys from {} to below {}, and on its side of n{fork} are those from {from} to below {to}",
-            below.low, below.high
-        ),
-    )
+    let fault = format!(in alloc;
+        "n{node} parts the keys from {} to below {}, and on its side of n{fork} are those from {from} to below {to}",
+        below.low, below.high
+    );
+    let keeps = head.class > 0 || (from <= below.low && below.high <= to);
+    edit.demand(keeps, fault)
 }
 
 /// A leaf has its level, and no key but those from one to below another.
@@ -110,44 +116,50 @@ fn check_leaf_keeps(
     from: u128,
     to: u128,
 ) -> Result<(), Objection> {
-    let (alloc, head) = (edit.before.alloc, edit.head(leaf));
-    let level = head.level;
-    edit.demand(
-        head.class == 0 || level.saturating_add(u64::from(head.class)) <= 3,
-        format!(in alloc; "n{leaf} has level {level}, and leaves above all keys have 1 or 2"),
-    )?;
-    edit.demand(
-        head.class > 0 || level == 66,
-        format!(in alloc; "n{leaf} has level {level} in place of 66, that of leaves"),
-    )?;
+    let alloc = edit.before.alloc;
+    check_leaf_level(edit, leaf)?;
     for (key, _) in edit.pairs_of(leaf)?.iter() {
-        edit.demand(
-            from <= u128::from(*key) && u128::from(*key) < to,
-            format!(in alloc;
-                "n{leaf} has key {key}, and on its side of n{fork} are those from {from} to below {to}"
-            ),
-        )?;
+        let fault = format!(in alloc;
+            "n{leaf} has key {key}, and on its side of n{fork} are those from {from} to below {to}"
+        );
+        edit.demand(from <= u128::from(*key) && u128::from(*key) < to, fault)?;
     }
     Ok(())
+}
+
+/// A leaf is on the last level; above all keys, on one of the first.
+fn check_leaf_level(edit: &ClaimedEdit<'_>, leaf: u64) -> Result<(), Objection> {
+    let (alloc, head) = (edit.before.alloc, edit.head(leaf));
+    let (level, class) = (head.level, u64::from(head.class));
+    let fault = format!(in alloc;
+        "n{leaf} has level {level}, and leaves above all keys have 1 or 2"
+    );
+    edit.demand(class == 0 || level.saturating_add(class) <= 3, fault)?;
+    let fault = format!(in alloc; "n{leaf} has level {level} in place of 66, that of leaves");
+    edit.demand(class > 0 || level == 66, fault)
 }
 
 /// A fork is on the level of the lowest bit of its key; above all keys, on that of its class.
 fn check_parted(edit: &ClaimedEdit<'_>, fork: u64) -> Result<(), Objection> {
     let (alloc, head) = (edit.before.alloc, edit.head(fork));
-    let (level, key, class) = (head.level, edit.key_of(fork), head.class);
-    let room = room_at(level);
-    edit.demand(
-        class == 0 || level.saturating_add(u64::from(class)) == 2,
-        format!(in alloc; "n{fork} has level {level}, and a fork of class {class} has another"),
-    )?;
-    edit.demand(
-        class > 0 || (2 <= level && level <= 65),
-        format!(in alloc; "n{fork} has level {level}, and forks of class 0 have 2 to 65"),
-    )?;
-    edit.demand(
-        class > 0 || u128::from(key).checked_rem(room.saturating_mul(2)) == Some(room),
-        format!(in alloc;
-            "n{fork} has level {level}, so the lowest bit of its key is {room}, and {key} has another"
-        ),
-    )
+    let (level, class) = (head.level, u64::from(head.class));
+    let fault = format!(in alloc;
+        "n{fork} has level {level}, and a fork of class {class} has another"
+    );
+    if class > 0 {
+        return edit.demand(level.saturating_add(class) == 2, fault);
+    }
+    let fault = format!(in alloc; "n{fork} has level {level}, and forks of class 0 have 2 to 65");
+    edit.demand(2 <= level && level <= 65, fault)?;
+    check_lowest_bit(edit, fork, level)
+}
+
+/// The lowest bit of a fork's key is that of its level.
+fn check_lowest_bit(edit: &ClaimedEdit<'_>, fork: u64, level: u64) -> Result<(), Objection> {
+    let (alloc, key, room) = (edit.before.alloc, edit.key_of(fork), room_at(level));
+    let has_it = u128::from(key).checked_rem(room.saturating_mul(2)) == Some(room);
+    let fault = format!(in alloc;
+        "n{fork} has level {level}, so the lowest bit of its key is {room}, and {key} has another"
+    );
+    edit.demand(has_it, fault)
 }

@@ -70,19 +70,18 @@ impl Branches {
     /// Adds the schedules in which another client makes this turn.
     fn branch(&mut self, alloc: Global, client: PassNo) -> Result<(), AllocError> {
         let has_call = self.newest.is_some_and(|newest| self.has_call(newest));
+        let interruptions = self.interruptions.saturating_add(u32::from(has_call));
         let stretches = self.stretches.as_slice();
         for (number, calls) in self.calls.iter().enumerate() {
             let other = PassNo(u32::try_from(number).unwrap_or(u32::MAX));
             if *calls == 0 || other == client {
                 continue;
             }
+            let branch = branch_off(alloc, stretches, other, interruptions)?;
             if has_call {
-                let interruptions = self.interruptions.saturating_add(1);
-                self.above
-                    .push(branch_off(alloc, stretches, other, interruptions)?)?;
+                self.above.push(branch)?;
             } else {
-                self.beside
-                    .push(branch_off(alloc, stretches, other, self.interruptions)?)?;
+                self.beside.push(branch)?;
             }
         }
         Ok(())

@@ -50,13 +50,7 @@ pub fn explore_watched<W: Watch>(
     most: u64,
     watch: &mut W,
 ) -> Result<Exploration, AuditFault> {
-    let mut exploration = Exploration {
-        played: 0,
-        left: 0,
-        outcomes: Vec::new(alloc),
-        now: first_of(alloc, script).map_err(no_memory)?,
-        later: Vec::new(alloc),
-    };
+    let mut exploration = Exploration::of(alloc, script).map_err(no_memory)?;
     for _ in 0..most {
         let Some(next) = exploration.next() else {
             return Ok(exploration);
@@ -76,6 +70,17 @@ fn no_memory(_refused: NoMemory) -> AuditFault {
 }
 
 impl Exploration {
+    /// No schedule of a script is played.
+    fn of(alloc: Global, script: &Script) -> Result<Exploration, NoMemory> {
+        Ok(Exploration {
+            played: 0,
+            left: 0,
+            outcomes: Vec::new(alloc),
+            now: first_of(alloc, script)?,
+            later: Vec::new(alloc),
+        })
+    }
+
     /// The next schedule to be played.
     fn next(&mut self) -> Option<Begun> {
         if self.now.is_empty() {

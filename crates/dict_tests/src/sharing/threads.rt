@@ -333,6 +333,34 @@ pub(super) fn stirred(number: u64) -> u64 {
     number.wrapping_mul(11_400_714_819_323_198_485) / 65_536
 }
 
+/// Puts a key in that is not there, with itself as its value.
+fn put_same<B: FixedBalance>(
+    alloc: Global,
+    forest: &Forest<Numbers<B>>,
+    pass: &mut Pass<Numbers<B>>,
+    key: u64,
+) -> Out
+    requires { IsOf forest.now pass.old }
+    ensures { IsOf forest.now pass.new }
+{
+    is_told(ask(alloc, forest, pass, Insert(key, key)), None)
+}
+
+/// Whether a thread has nothing to do in this round any more.
+fn is_over(work: Work, number: u64, round: u64) -> bool {
+    match work {
+        Work::First { keys } => number != 0 || keys <= round,
+        Work::Any => CALLS <= round,
+        Work::Count => COUNTS <= round,
+        _ => false,
+    }
+}
+
+/// The pop of a thread of this number: half of them take pairs out at one end, half at the other.
+fn pop_of(number: u64) -> Call<u64, u64> {
+    if number % 2 == 0 { PopFirst } else { PopLast }
+}
+
 /// A round of a thread.
 fn make_round<B: FixedBalance>(
     alloc: Global,
@@ -345,29 +373,26 @@ fn make_round<B: FixedBalance>(
     ensures { IsOf forest.now pass.new }
 {
     let number = u64::from(pass.number().0);
+    if is_over(work, number, round) {
+        return Some(None);
+    }
     // In no order, so that the tree does not grow to one side.
     let place = round.wrapping_mul(377) % ROUNDS;
     let value = number.wrapping_mul(ROUNDS).wrapping_add(round);
     match work {
         Work::Own { threads } => {
             let key = threads.wrapping_mul(place).wrapping_add(number);
-            is_told(ask(alloc, forest, pass, Insert(key, key)), None)
+            put_same(alloc, forest, pass, key)
         }
         Work::New => put_new(alloc, forest, pass, place),
         Work::Mixed => ask(alloc, forest, pass, mixed(value)),
         Work::Window if number == 0 => move_window(alloc, forest, pass, round),
         Work::Window => see_window(alloc, forest, pass),
-        Work::First { keys } if number == 0 && round < keys => {
-            is_told(ask(alloc, forest, pass, Insert(round, round)), None)
-        }
-        Work::First { .. } => Some(None),
-        Work::Pop if number % 2 == 0 => ask(alloc, forest, pass, PopFirst),
-        Work::Pop => ask(alloc, forest, pass, PopLast),
-        Work::Any if round < CALLS => add_up(alloc, forest, pass, any(stirred(value))),
-        Work::Any => Some(None),
+        Work::First { .. } => put_same(alloc, forest, pass, round),
+        Work::Pop => ask(alloc, forest, pass, pop_of(number)),
+        Work::Any => add_up(alloc, forest, pass, any(stirred(value))),
         Work::Schedule => schedule_all(alloc, forest, pass, round),
-        Work::Count if round < COUNTS => count_up(alloc, forest, pass),
-        Work::Count => Some(None),
+        Work::Count => count_up(alloc, forest, pass),
     }
 }
 
