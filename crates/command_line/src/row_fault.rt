@@ -20,11 +20,11 @@ pub(crate) struct RowFault {
 
 /// What a row of a script or a schedule is to be.
 #[derive(Clone, Copy)]
-pub(crate) struct Form<'a> {
+pub(crate) struct Form<'a, 'b> {
     pub(crate) fields: &'a [Field],
     /// Of a row behind the head, how many entries are before it, and the end row that is to be behind
     /// these.
-    pub(crate) entry: Option<(u64, &'a str)>,
+    pub(crate) entry: Option<(u64, &'b str)>,
     /// Where the arguments of an `scx` begin.
     pub(crate) scx_at: Option<usize>,
 }
@@ -63,7 +63,7 @@ pub(crate) fn fault_of(
     source: &Source<'_>,
     row: u64,
     found: &StringRecord,
-    form: &Form<'_>,
+    form: &Form<'_, '_>,
 ) -> Result<RowFault, AllocError> {
     if let Some(fault) = form_fault(alloc, source, row, found, form.fields.len())? {
         return Ok(fault);
